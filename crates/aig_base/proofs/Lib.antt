@@ -1,0 +1,4 @@
+pub mod Joined
+pub mod Tables
+pub mod SymbolKeys
+pub mod WriteLemmas

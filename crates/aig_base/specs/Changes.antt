@@ -1,0 +1,29 @@
+-- The two changes of a circuit: other right sides of a gate, another reset of a latch (profile).
+use Rattle.std.specs.Prelude.{ℕ, map, nat_eq, if◌then◌else◌}
+use Rattle.aig_base.specs.declared.gate.Gate.{Gate}
+use Rattle.aig_base.specs.declared.latch.Latch.{Latch}
+use Rattle.aig_base.specs.declared.raw.Raw.{Raw}
+use Rattle.aig_base.specs.declared.ternary.Tern.{Tern}
+use Rattle.aig_base.specs.declared.ternary.Tern.TheVariants.{Zero, One, X}
+
+-- the gate, with these right sides if it is the one of this left side
+abbrev pub rewired : ℕ → ℕ → ℕ → Gate → Gate
+rewired lhs r0 r1 g = record { lhs = g.lhs; rhs0 = if nat_eq g.lhs lhs then r0 else g.rhs0; rhs1 = if nat_eq g.lhs lhs then r1 else g.rhs1 }
+
+-- the parts, with other right sides at one gate
+abbrev pub with_gate : Raw → ℕ → ℕ → ℕ → Raw
+with_gate raw lhs r0 r1 = record raw { gates = map (rewired lhs r0 r1) raw.gates }
+
+-- the reset of a latch that starts at a value; x is the latch's own literal (AIGER 1.9, resets)
+abbrev pub reset_literal : ℕ → Tern → ℕ
+reset_literal lit Zero = 0
+reset_literal lit One = 1
+reset_literal lit X = lit
+
+-- the latch, with this start if it is the one of this literal
+abbrev pub restarted : ℕ → Tern → Latch → Latch
+restarted lit w x = record { lit = x.lit; next = x.next; reset = if nat_eq x.lit lit then reset_literal lit w else x.reset }
+
+-- the parts, with another reset at one latch
+abbrev pub with_reset : Raw → ℕ → Tern → Raw
+with_reset raw lit w = record raw { latches = map (restarted lit w) raw.latches }

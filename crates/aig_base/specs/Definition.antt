@@ -1,0 +1,27 @@
+-- What defines a variable: an input, a latch or a gate, by its position in its section.
+use Rattle.std.specs.Prelude.{◌≡◌, ℕ, ◌+◌, List, length, map, Option, Some, None, Contains, slice_get}
+use Rattle.aig_base.specs.declared.gate.Gate.{Gate}
+use Rattle.aig_base.specs.declared.latch.Latch.{Latch}
+use Rattle.aig_base.specs.declared.raw.Raw.{Raw}
+use Rattle.aig_base.specs.declared.definition.Definition.{Definition}
+use Rattle.aig_base.specs.declared.definition.Definition.TheVariants as definition
+use Rattle.aig_base.specs.Literal.{variable}
+use Rattle.aig_base.specs.Sections.{definitions}
+
+abbrev pub Defines : Raw → ℕ → Definition → Type 0
+Defines raw v (definition.Input p) = (l : ℕ) × (slice_get raw.inputs p ≡ Some l) × (variable l ≡ v)
+Defines raw v (definition.Latch p) = (x : Latch) × (slice_get raw.latches p ≡ Some x) × (variable x.lit ≡ v)
+Defines raw v (definition.Gate q) = (g : Gate) × (slice_get raw.gates q ≡ Some g) × (variable g.lhs ≡ v)
+
+-- nothing defines the variable
+abbrev pub IsFree : Raw → ℕ → Type 0
+IsFree raw v = Contains (map variable (definitions raw)) v → ⊥
+
+-- an entry for each variable: what defines it, or nothing
+abbrev pub IsEntry : Raw → ℕ → Option Definition → Type 0
+IsEntry raw v None = IsFree raw v
+IsEntry raw v (Some d) = Defines raw v d
+
+pub record IsTable (raw : Raw) (table : List (Option Definition)) : Type 0 where
+  pub size : length table ≡ raw.max_var + 1
+  pub entries : (v : ℕ) (entry : Option Definition) → slice_get table v ≡ Some entry → IsEntry raw v entry

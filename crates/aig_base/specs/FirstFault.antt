@@ -1,0 +1,55 @@
+-- The fault of parts that are no circuit: the first that applies, in the order of its number (profile).
+use Rattle.std.specs.Prelude.{◌≡◌, ℕ, ◌+◌, ◌*◌, ◌<◌, ◌++◌, Any, Some, slice_get}
+use Rattle.aig_base.specs.declared.latch.Latch.{Latch}
+use Rattle.aig_base.specs.declared.raw.Raw.{Raw}
+use Rattle.aig_base.specs.declared.fault.Fault.{Fault}
+use Rattle.aig_base.specs.declared.fault.Fault.TheVariants as fault
+use Rattle.aig_base.specs.Literal.{variable}
+use Rattle.aig_base.specs.Sections.{definitions, uses, IsGate}
+use Rattle.aig_base.specs.Grounded.{Grounded}
+use Rattle.aig_base.specs.Sound.{IsDefinition, IsRedefined, IsUndefined, IsReset}
+
+-- v is the least of which P holds
+abbrev pub IsLeast : (ℕ → Type 0) → ℕ → Type 0
+IsLeast P v = P v × ((u : ℕ) → u < v → P u → ⊥)
+
+-- v is a latch with a reset that is not 0, 1 or its own literal
+abbrev pub HasBadReset : Raw → ℕ → Type 0
+HasBadReset raw v = (p : ℕ) × (x : Latch) × (slice_get raw.latches p ≡ Some x) × (variable x.lit ≡ v) × (IsReset x → ⊥)
+
+-- v is a gate that is not grounded: it is on a cycle, or reads one
+abbrev pub IsUngrounded : Raw → ℕ → Type 0
+IsUngrounded raw v = IsGate raw v × (Grounded raw v → ⊥)
+
+-- the fault is one of these parts; faults of a file's text are none of its parts
+abbrev pub Applies : Raw → Fault → Type 0
+Applies raw fault.Range = Any (λ l. 2 * raw.max_var + 1 < l) (definitions raw ++ uses raw)
+Applies raw fault.Definition = Any (λ l. IsDefinition l → ⊥) (definitions raw)
+Applies raw (fault.Redefined v) = IsLeast (IsRedefined raw) v
+Applies raw (fault.Undefined v) = IsLeast (IsUndefined raw) v
+Applies raw (fault.Reset v) = IsLeast (HasBadReset raw) v
+Applies raw (fault.Cycle v) = IsLeast (IsUngrounded raw) v
+Applies raw (fault.Text at) = ⊥
+Applies raw fault.Limit = ⊥
+Applies raw fault.Counts = ⊥
+Applies raw fault.Memory = ⊥
+Applies raw fault.Io = ⊥
+
+-- the numbers of the faults, in the order in which they are tried
+abbrev pub number_of : Fault → ℕ
+number_of (fault.Text at) = 1
+number_of fault.Limit = 2
+number_of fault.Counts = 3
+number_of fault.Range = 4
+number_of fault.Definition = 5
+number_of (fault.Redefined v) = 6
+number_of (fault.Undefined v) = 7
+number_of (fault.Reset v) = 8
+number_of (fault.Cycle v) = 9
+number_of fault.Memory = 10
+number_of fault.Io = 11
+
+-- the fault is the first that applies
+pub record IsFirstFault (raw : Raw) (f : Fault) : Type 0 where
+  pub applies : Applies raw f
+  pub first : (g : Fault) → number_of g < number_of f → Applies raw g → ⊥

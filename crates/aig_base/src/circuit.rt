@@ -1,0 +1,128 @@
+//! Circuits.
+ghost use Rattle.std.specs.Prelude.{◌≡◌, ◌<◌, ◌≤◌, Contains, IfSome, IfNone, option_copied};
+ghost use Rattle.aig_base.specs.Circuit.{IsCircuit};
+ghost use Rattle.aig_base.specs.Definition.{Defines, IsFree};
+
+use crate::definition::Definition;
+use crate::gate::Gate;
+use crate::latch::Latch;
+use crate::list::List;
+use crate::literal::Lit;
+use crate::raw::Raw;
+use crate::symbols::Symbols;
+use std::marker::Model;
+
+/// A circuit: parts that are formed, sound and acyclic. `Circuit::check` makes one.
+#[derive(Drop, Debug)]
+pub struct Circuit {
+    raw: Raw,
+    // What defines each variable, 0 to M.
+    table: Vec<Option<Definition>>,
+}
+
+impl Model for Circuit {
+    ghost use Rattle.aig_base.specs.declared.raw.Raw.{Raw};
+
+    ghost Value = { Raw };
+
+    ghost use Rattle.aig_base.specs.Circuit.{IsCircuit};
+    ghost use Rattle.aig_base.specs.Definition.{IsTable};
+
+    ghost view = { λ a. a.raw };
+
+    ghost invariant = { λ a. IsCircuit a.raw × IsTable a.raw a.table.items };
+}
+
+impl Circuit {
+    /// The greatest variable M. That the parts are formed, sound and acyclic is said here for all callers.
+    pub fn max_var(&self) -> u32
+        ensures value { result ≡ self.now.max_var }
+        ensures circuit { IsCircuit self.now }
+    {
+        self.raw.max_var
+    }
+
+    /// The input literals in order.
+    pub fn inputs(&self) -> &[Lit]
+        ensures { result.now ≡ self.now.inputs }
+    {
+        self.raw.inputs.as_slice()
+    }
+
+    /// The latches in order.
+    pub fn latches(&self) -> &[Latch]
+        ensures { result.now ≡ self.now.latches }
+    {
+        self.raw.latches.as_slice()
+    }
+
+    /// The output literals in order.
+    pub fn outputs(&self) -> &[Lit]
+        ensures { result.now ≡ self.now.outputs }
+    {
+        self.raw.outputs.as_slice()
+    }
+
+    /// The literals of the bad state properties in order (AIGER 1.9).
+    pub fn bad(&self) -> &[Lit]
+        ensures { result.now ≡ self.now.bad }
+    {
+        self.raw.bad.as_slice()
+    }
+
+    /// The literals of the invariant constraints in order (AIGER 1.9).
+    pub fn constraints(&self) -> &[Lit]
+        ensures { result.now ≡ self.now.constraints }
+    {
+        self.raw.constraints.as_slice()
+    }
+
+    /// The justice properties in order, each with its literals (AIGER 1.9).
+    pub fn justice(&self) -> &[List<Lit>]
+        ensures { result.now ≡ self.now.justice }
+    {
+        self.raw.justice.as_slice()
+    }
+
+    /// The literals of the fairness constraints in order (AIGER 1.9).
+    pub fn fairness(&self) -> &[Lit]
+        ensures { result.now ≡ self.now.fairness }
+    {
+        self.raw.fairness.as_slice()
+    }
+
+    /// The gates, in the order in which the circuit holds them.
+    pub fn gates(&self) -> &[Gate]
+        ensures { result.now ≡ self.now.gates }
+    {
+        self.raw.gates.as_slice()
+    }
+
+    /// The symbols, in the order of the file.
+    pub fn symbols(&self) -> &Symbols
+        ensures { result.now ≡ self.now.symbols }
+    {
+        &self.raw.symbols
+    }
+
+    /// The bytes of the comment, if there is one.
+    pub fn comment(&self) -> Option<&[u8]>
+        ensures { option_copied result ≡ self.now.comment }
+    {
+        match &self.raw.comment {
+            Some(bytes) => Some(bytes.as_slice()),
+            None => None,
+        }
+    }
+
+    /// What defines a variable. Variable 0 and a variable over M have no definition.
+    pub fn definition(&self, variable: u32) -> Option<Definition>
+        ensures found { IfSome result (Defines self.now variable) }
+        ensures none { IfNone result (IsFree self.now variable) }
+    {
+        match self.table.get(variable as usize) {
+            Some(entry) => *entry,
+            None => None,
+        }
+    }
+}
