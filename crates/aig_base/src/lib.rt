@@ -4,9 +4,9 @@
 mod bytes;
 mod check;
 mod circuit;
+mod count;
 mod cycle;
 mod definition;
-mod failures;
 mod fault;
 mod gate;
 mod latch;
@@ -24,9 +24,9 @@ mod write;
 
 pub use bytes::{Failed, Read, Write};
 pub use circuit::Circuit;
+pub use count::Count;
 pub use cycle::would_cycle;
 pub use definition::Definition;
-pub use failures::Failures;
 pub use fault::{Fault, Io, Memory, WouldCycle};
 pub use gate::Gate;
 pub use latch::Latch;

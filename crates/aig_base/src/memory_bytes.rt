@@ -3,7 +3,7 @@ ghost use Rattle.std.specs.Prelude.{◌≡◌, ℕ, ◌+◌, ◌-◌, ◌<◌, �
 ghost use Rattle.aig_base.specs.Bytes.{after, before, failed, moved, IsAtEnd};
 
 use crate::bytes::{Failed, Read, Write};
-use crate::failures::Failures;
+use crate::count::Count;
 use crate::fault::Memory;
 use std::alloc::Global;
 use std::marker::Model;
@@ -63,7 +63,7 @@ impl<'a> Read for MemReader<'a> {
 pub struct MemWriter {
     bytes: Vec<u8>,
     room: usize,
-    failures: Failures,
+    failures: Count,
 }
 
 impl Model for MemWriter {
@@ -72,7 +72,7 @@ impl Model for MemWriter {
 
     ghost Value = { Filled };
 
-    ghost view = { λ w. record { bytes = w.bytes.items; room = w.room; failures = w.failures.count } };
+    ghost view = { λ w. record { bytes = w.bytes.items; room = w.room; failures = w.failures.number } };
 
     ghost invariant = { λ w. (vec_len w.bytes ≤ w.room) × (w.room ≤ vec_capacity w.bytes) };
 }
@@ -88,7 +88,7 @@ impl MemWriter {
         Ok(MemWriter {
             bytes,
             room,
-            failures: Failures::none(),
+            failures: Count::zero(),
         })
     }
 
@@ -120,7 +120,7 @@ impl Write for MemWriter {
         let free = self.room - self.bytes.len();
         let count = bytes.len().min(free);
         if count == 0 && !bytes.is_empty() {
-            self.failures = Failures::one_more(&self.failures);
+            self.failures = Count::one_more(&self.failures);
             return Err(Failed);
         }
         let _ = self.bytes.extend_from_slice(&bytes[..count]);

@@ -2,7 +2,7 @@
 ghost use Rattle.std.specs.Prelude.{◌≡◌, ℕ, ◌+◌, None};
 
 use crate::bytes::{Failed, Read, Write};
-use crate::failures::Failures;
+use crate::count::Count;
 use std::io;
 
 /// A reader or a writer of `std::io`. It tells none of its bytes, tries no failure again, and fails where a write takes
@@ -12,7 +12,7 @@ pub struct Std<T> {
     inner: T,
     // How many reads may still give bytes.
     reads_left: u64,
-    failures: Failures,
+    failures: Count,
 }
 
 impl<T> Std<T> {
@@ -21,7 +21,7 @@ impl<T> Std<T> {
         Std {
             inner,
             reads_left: u64::MAX,
-            failures: Failures::none(),
+            failures: Count::zero(),
         }
     }
 
@@ -39,7 +39,7 @@ impl<T> Std<T> {
 impl<T: io::Read> Read for Std<T> {
     ghost left = { λ _. None };
 
-    ghost failures = { λ s. s.failures.count };
+    ghost failures = { λ s. s.failures.number };
 
     ghost reads_left = { λ s. s.reads_left };
 
@@ -52,7 +52,7 @@ impl<T: io::Read> Read for Std<T> {
             }
             return Ok(count);
         }
-        self.failures = Failures::one_more(&self.failures);
+        self.failures = Count::one_more(&self.failures);
         Err(Failed)
     }
 }
@@ -60,7 +60,7 @@ impl<T: io::Read> Read for Std<T> {
 impl<T: io::Write> Write for Std<T> {
     ghost written = { λ _. None };
 
-    ghost failures = { λ s. s.failures.count };
+    ghost failures = { λ s. s.failures.number };
 
     fn write(&mut self, bytes: &[u8]) -> Result<usize, Failed> {
         if let Ok(count) = self.inner.write(bytes)
@@ -68,7 +68,7 @@ impl<T: io::Write> Write for Std<T> {
         {
             return Ok(count);
         }
-        self.failures = Failures::one_more(&self.failures);
+        self.failures = Count::one_more(&self.failures);
         Err(Failed)
     }
 }

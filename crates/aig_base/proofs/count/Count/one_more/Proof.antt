@@ -27,14 +27,14 @@ use denote.Triple.Spec.{Meets, triple_of}
 use denote.Triple.Table.{entered}
 use denote.Triple.Walked.{says, stay_none_ref, Stays, walk_of, Walks, ends_at, walked, Goes-none_ref, walk_Meets}
 use Rattle.std.specs.Prelude.{◌+◌}
-use Rattle.aig_base.specs.contracts.failures.Failures.one_more.Key.{name as key}
-use Rattle.aig_base.specs.contracts.failures.Failures.one_more as terms
-use Rattle.aig_base.proofs.failures.Failures.one_more.Statement as stated
-use Rattle.aig_base.proofs.failures.Failures.one_more.Code as code
-use Rattle.aig_base.specs.contracts.failures.Failures as failures
+use Rattle.aig_base.specs.contracts.count.Count.one_more.Key.{name as key}
+use Rattle.aig_base.specs.contracts.count.Count.one_more as terms
+use Rattle.aig_base.proofs.count.Count.one_more.Statement as stated
+use Rattle.aig_base.proofs.count.Count.one_more.Code as code
+use Rattle.aig_base.specs.contracts.count.Count as counts
 
 abbrev stayed : Stays (terms.ended).signature.params (terms.ended).kept
-stayed = (stay_none_ref (0 ∷ []) tt (plain (λ _. failures.the_row)) yes, tt)
+stayed = (stay_none_ref (0 ∷ []) tt (plain (λ _. counts.the_row)) yes, tt)
 
 module _ {M : Type 1} {𝓤 : Ura M} (𝓛 : Logic 𝓤) (mem : Memory → SProp 𝓤) (run : Routine → Fun 𝓤) (C : Calls 𝓤 𝓛.H) (Λ : Loops 𝓤 𝓛.H) where
   open 𝓛 use {H}
@@ -55,20 +55,20 @@ module _ {M : Type 1} {𝓤 : Ura M} (𝓛 : Logic 𝓤) (mem : Memory → SProp
         qed 𝓛 (raw (alive 𝓛 terms.signature κs qs) ∷ ‵ passed ∷ []) ∵ enter ! C Λ code.function (before ∷ []) _ $
         alloc_all ! (λ l. pass_all ! refl ((tt, tt), tt) $ sets ! (agg ! (no_more !)) refl (tt, tt) $
         returns ! (look_at ! 0 refl) $ free_all ! refl $
-        suffices ! _ (ends_at 𝓛 terms.ended stayed (terms.clauses 𝓛 mem run) given (vstruct vnil) (record { count = a.0.now.count + 1 }) (tt, tt) (tt, tt)) $
-        says ! refl $ pure_i ! (failures.the_row.own_val (record { count = a.0.now.count + 1 }) (vstruct vnil ∷ [])) ((λ vss. (tt, tt)), tt) ((tt, (refl, tt)), tt) $
+        suffices ! _ (ends_at 𝓛 terms.ended stayed (terms.clauses 𝓛 mem run) given (vstruct vnil) (record { number = a.0.now.number + 1 }) (tt, tt) (tt, tt)) $
+        says ! refl $ pure_i ! (counts.the_row.own_val (record { number = a.0.now.number + 1 }) (vstruct vnil ∷ [])) ((λ vss. (tt, tt)), tt) ((tt, (refl, tt)), tt) $
         move ! (1 ∷ 2 ∷ 0 ∷ []) $ done !)
 
   walks : Walks 𝓛 terms.ended stayed (WpFn 𝓤 H C Λ code.function) (terms.clauses 𝓛 mem run)
   walks =
       walked 𝓛 terms.ended stayed (terms.clauses 𝓛 mem run) (WpFn 𝓤 H C Λ code.function) (λ κs. (shr_vals, tt))
-      (λ κs. (shr_Tells (named 0) κs.0 failures.the_row, tt))
+      (λ κs. (shr_Tells (named 0) κs.0 counts.the_row, tt))
       (λ κs qs bounds a g are. via 𝓤 _ (fst∗ 𝓤 _ (emp 𝓤)) (walk κs qs a))
 
 meets : {M : Type 1} {𝓤 : Ura M} (𝓛 : Logic 𝓤) (mem : Memory → SProp 𝓤) (run : Routine → Fun 𝓤) (𝓣 : Tables 𝓤 𝓛.H)
     → Meets 𝓛 terms.signature (WpFn 𝓤 𝓛.H 𝓣.C 𝓣.Λ code.function) (terms.spec 𝓛 mem run)
 meets {𝓤 = 𝓤} 𝓛 mem run 𝓣 =
-    walk_Meets 𝓛 terms.ended stayed (Goes-none_ref 𝓛 1 (0 ∷ []) tt (plain (λ _. failures.the_row)) yes, tt) (terms.clauses 𝓛 mem run) (WpFn 𝓤 𝓛.H 𝓣.C 𝓣.Λ code.function)
+    walk_Meets 𝓛 terms.ended stayed (Goes-none_ref 𝓛 1 (0 ∷ []) tt (plain (λ _. counts.the_row)) yes, tt) (terms.clauses 𝓛 mem run) (WpFn 𝓤 𝓛.H 𝓣.C 𝓣.Λ code.function)
     (WpFn-mono 𝓤 𝓛.H 𝓛.laws 𝓣 code.function) (walks 𝓛 mem run 𝓣.C 𝓣.Λ)
 
 pub one_more_spec : {M : Type 1} → stated.statement M

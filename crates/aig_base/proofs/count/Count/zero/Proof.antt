@@ -20,11 +20,11 @@ use denote.Triple.Entry.{on_entry, alive}
 use denote.Triple.Spec.{Meets, triple_of}
 use denote.Triple.Table.{entered}
 use denote.Triple.Walked.{says, Stays, walk_of, Walks, ends_at, walked, walk_Meets}
-use Rattle.aig_base.specs.contracts.failures.Failures.none.Key.{name as key}
-use Rattle.aig_base.specs.contracts.failures.Failures.none as terms
-use Rattle.aig_base.proofs.failures.Failures.none.Statement as stated
-use Rattle.aig_base.proofs.failures.Failures.none.Code as code
-use Rattle.aig_base.specs.contracts.failures.Failures as failures
+use Rattle.aig_base.specs.contracts.count.Count.zero.Key.{name as key}
+use Rattle.aig_base.specs.contracts.count.Count.zero as terms
+use Rattle.aig_base.proofs.count.Count.zero.Statement as stated
+use Rattle.aig_base.proofs.count.Count.zero.Code as code
+use Rattle.aig_base.specs.contracts.count.Count as counts
 
 abbrev stayed : Stays (terms.ended).signature.params (terms.ended).kept
 stayed = tt
@@ -40,8 +40,8 @@ module _ {M : Type 1} {𝓤 : Ura M} (𝓛 : Logic 𝓤) (mem : Memory → SProp
       qed 𝓛 (raw (alive 𝓛 terms.signature tt tt) ∷ ‵ (owns [] tt tt) ∷ []) ∵ enter ! C Λ code.function [] _ $
       alloc_all ! (λ l. pass_all ! refl tt $ sets ! (agg ! (no_more !)) refl (tt, tt) $
       returns ! (look_at ! 0 refl) $ free_all ! refl $
-      suffices ! _ (ends_at 𝓛 terms.ended stayed (terms.clauses 𝓛 mem run) no_args (vstruct vnil) (record { count = 0 }) tt tt) $
-      says ! refl $ pure_i ! (failures.the_row.own_val (record { count = 0 }) (vstruct vnil ∷ [])) ((λ vss. (tt, tt)), tt) ((tt, (refl, tt)), tt) $
+      suffices ! _ (ends_at 𝓛 terms.ended stayed (terms.clauses 𝓛 mem run) no_args (vstruct vnil) (record { number = 0 }) tt tt) $
+      says ! refl $ pure_i ! (counts.the_row.own_val (record { number = 0 }) (vstruct vnil ∷ [])) ((λ vss. (tt, tt)), tt) ((tt, (refl, tt)), tt) $
       move ! (1 ∷ 2 ∷ 0 ∷ []) $ done !)
 
   walks : Walks 𝓛 terms.ended stayed (WpFn 𝓤 H C Λ code.function) (terms.clauses 𝓛 mem run)
@@ -55,9 +55,9 @@ meets {𝓤 = 𝓤} 𝓛 mem run 𝓣 =
     walk_Meets 𝓛 terms.ended stayed tt (terms.clauses 𝓛 mem run) (WpFn 𝓤 𝓛.H 𝓣.C 𝓣.Λ code.function)
     (WpFn-mono 𝓤 𝓛.H 𝓛.laws 𝓣 code.function) (walks 𝓛 mem run 𝓣.C 𝓣.Λ)
 
-pub none_spec : {M : Type 1} → stated.statement M
+pub zero_spec : {M : Type 1} → stated.statement M
 unfolding tables_of
-none_spec 𝓤 𝓛 𝓜 𝓡 wired =
+zero_spec 𝓤 𝓛 𝓜 𝓡 wired =
     entered 𝓤 𝓛.H (triple_of 𝓛 terms.signature (terms.spec 𝓛 𝓜.mem 𝓡.returns))
     (tables 𝓤 𝓛.H 𝓜 𝓡 𝓡.env).C (tables 𝓤 𝓛.H 𝓜 𝓡 𝓡.env).Λ key code.function (code.unfolded 𝓤 𝓛.H 𝓜 𝓡 wired)
     (meets 𝓛 𝓜.mem 𝓡.returns (tables_of 𝓤 𝓛.H 𝓜 (tables 𝓤 𝓛.H 𝓜 𝓡 𝓡.env)))

@@ -1,0 +1,20 @@
+-- The cells of a grid: a row a frame, a value a variable.
+use Rattle.std.specs.Prelude.{ℕ, ◌-◌, ◌%◌, List, ◌∷◌, replicate, slice_index_or, nat_eq, if◌then◌else◌}
+use Rattle.aig_base.specs.declared.ternary.Tern.{Tern}
+use Rattle.aig_base.specs.declared.ternary.Tern.TheVariants.{Zero, X}
+use Rattle.aig_base.specs.declared.gate.Gate.{Gate}
+use Rattle.aig_base.specs.Literal.{variable}
+use Rattle.aig_base.specs.Ternary.{kleene_and, kleene_not}
+
+-- the value of a literal by the cell of its variable
+abbrev pub literal_value : List Tern → ℕ → Tern
+literal_value row l =
+    if nat_eq (l % 2) 0 then slice_index_or row (variable l) X else kleene_not (slice_index_or row (variable l) X)
+
+-- the AND of a gate's right sides by their cells
+abbrev pub gate_value : List Tern → Gate → Tern
+gate_value row g = kleene_and (literal_value row g.rhs0) (literal_value row g.rhs1)
+
+-- a new row of n cells: 0 at variable 0, x everywhere else
+abbrev pub fresh_row : ℕ → List Tern
+fresh_row n = Zero ∷ replicate (n - 1) X

@@ -1,0 +1,15 @@
+-- What a stimulus is seen as: rows of one width, a row a frame (profile).
+use Rattle.std.specs.Prelude.{ℕ, List, [], slice_set, slice_index_or}
+use Rattle.aig_base.specs.declared.ternary.Tern.{Tern}
+
+pub record InputRows : Type 0 where
+  pub width : ℕ
+  pub rows : List (List Tern)
+
+-- the rows with another value at one place of one frame
+abbrev pub with_cell : List (List Tern) → ℕ → ℕ → Tern → List (List Tern)
+with_cell rows t p w = slice_set rows t (slice_set (slice_index_or rows t []) p w)
+
+-- the row of a frame
+abbrev pub row_at : List (List Tern) → ℕ → List Tern
+row_at rows t = slice_index_or rows t []

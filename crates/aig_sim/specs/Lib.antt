@@ -1,0 +1,5 @@
+pub mod Cells
+pub mod InputRows
+pub mod Simulated
+pub mod StimulusText
+pub mod Trace

@@ -1,0 +1,62 @@
+-- The text of a stimulus: a line a frame, a character an input, each line ended by LF (profile).
+use Rattle.std.specs.Prelude.{◌≡◌, ◌≢◌, ◌⊎◌, ℕ, ◌+◌, ◌-◌, ◌^◌, min, List, [], ◌∷◌, ◌++◌, length, map, All}
+use Rattle.std.specs.List.{flat_map}
+use Rattle.aig_base.specs.declared.ternary.Tern.{Tern}
+use Rattle.aig_base.specs.declared.ternary.Tern.TheVariants.{Zero, One, X}
+use Rattle.aig_sim.specs.declared.stimulus_fault.StimFault.{StimFault}
+use Rattle.aig_sim.specs.declared.stimulus_fault.StimFault.TheVariants as fault
+
+-- `0`, `1` or `x`
+abbrev pub character : Tern → ℕ
+character Zero = 48
+character One = 49
+character X = 120
+
+abbrev pub row_line : List Tern → List ℕ
+row_line row = map character row ++ 10 ∷ []
+
+abbrev pub HaveWidth : ℕ → List (List Tern) → Type 0
+HaveWidth width rows = All (λ row. length row ≡ width) rows
+
+-- the text is these rows, a line each
+pub record SpellsRows (width : ℕ) (text : List ℕ) (rows : List (List Tern)) : Type 0 where
+  pub widths : HaveWidth width rows
+  pub text_is : text ≡ flat_map row_line rows
+
+abbrev pub IsCharacter : ℕ → Type 0
+IsCharacter b = (b ≡ 48) ⊎ ((b ≡ 49) ⊎ (b ≡ 120))
+
+-- a line as messages number it, from 1; the greatest number of 64 bits stands for any greater
+abbrev pub line_number : ℕ → ℕ
+line_number before = min (before + 1) (2 ^ 64 - 1)
+
+abbrev pub EndsLine : List ℕ → Type 0
+EndsLine rest = (more : List ℕ) × (rest ≡ 10 ∷ more)
+
+-- a line with this fault, behind so many good ones: no LF ends it; else a byte other than `0 1 x`; else a wrong length;
+-- else it is the 65,537th
+abbrev pub HasFault : ℕ → ℕ → List ℕ → List ℕ → StimFault → Type 0
+HasFault width before line rest fault.Unfinished = (rest ≡ []) × (line ≢ [])
+HasFault width before line rest (fault.Char n) = (n ≡ line_number before) × EndsLine rest × (All IsCharacter line → ⊥)
+HasFault width before line rest (fault.Length n) =
+    (n ≡ line_number before) × EndsLine rest × All IsCharacter line × (length line ≢ width)
+HasFault width before line rest fault.Limit =
+    (before ≡ 65536) × EndsLine rest × All IsCharacter line × (length line ≡ width)
+HasFault width before line rest fault.Memory = ⊥
+HasFault width before line rest fault.Io = ⊥
+
+-- the text is these rows and then its first faulty line
+pub record HasFaultyLine (width : ℕ) (text : List ℕ) (rows : List (List Tern)) (fault : StimFault) : Type 0 where
+  pub widths : HaveWidth width rows
+  pub line : List ℕ
+  pub rest : List ℕ
+  pub no_end : All (λ b. b ≢ 10) line
+  pub text_is : text ≡ flat_map row_line rows ++ (line ++ rest)
+  pub fault_is : HasFault width (length rows) line rest fault
+
+-- what was read of a text so far: these rows, and a piece of the next line
+pub record HoldsRows (width : ℕ) (text : List ℕ) (rows : List (List Tern)) : Type 0 where
+  pub widths : HaveWidth width rows
+  pub rest : List ℕ
+  pub no_end : All (λ b. b ≢ 10) rest
+  pub text_is : text ≡ flat_map row_line rows ++ rest
