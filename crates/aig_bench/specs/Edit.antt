@@ -1,0 +1,67 @@
+-- Edits of a circuit and its rows (profile).
+use Rattle.std.specs.Prelude.{◌≡◌, ◌≢◌, ℕ, ◌+◌, ◌-◌, ◌*◌, ◌<◌, ◌≤◌, List, [], ◌∷◌, ◌++◌, length, take, Result, Ok, Err}
+use Rattle.aig_base.specs.declared.ternary.Tern.{Tern}
+use Rattle.aig_base.specs.Literal.{variable}
+use Rattle.aig_base.specs.Sections.{IsDefined, IsLeftSide, IsLatchLiteral}
+use Rattle.aig_base.specs.Grounded.{IsAcyclic}
+use Rattle.aig_base.specs.Sound.{IsInRange}
+use Rattle.aig_base.specs.Changes.{with_gate, with_reset}
+use Rattle.aig_sim.specs.InputRows.{with_cell}
+use Rattle.aig_bench.specs.declared.edit.EditFault.{EditFault}
+use Rattle.aig_bench.specs.declared.edit.EditFault.TheVariants as fault
+use Rattle.aig_bench.specs.Pair.{Pair}
+
+pub data Edit : Type 0 where
+  rewire : (lhs r0 r1 : ℕ) → Edit
+  set_reset : (latch : ℕ) (value : Tern) → Edit
+  set_bit : (frame position : ℕ) (value : Tern) → Edit
+  add_frame : (row : List Tern) → Edit
+  drop_frame : Edit
+
+-- what the edit makes of the pair, where it is accepted
+abbrev pub edited : Pair → Edit → Pair
+edited p (rewire lhs r0 r1) = record p { circuit = with_gate p.circuit lhs r0 r1 }
+edited p (set_reset latch w) = record p { circuit = with_reset p.circuit latch w }
+edited p (set_bit t i w) = record p { rows = with_cell p.rows t i w }
+edited p (add_frame row) = record p { rows = p.rows ++ row ∷ [] }
+edited p drop_frame = record p { rows = take (length p.rows - 1) p.rows }
+
+-- the fault applies to the edit; want of memory is none of an edit's own
+abbrev pub Forbids : Pair → Edit → EditFault → Type 0
+Forbids p (rewire lhs r0 r1) fault.NotAGate = IsLeftSide p.circuit lhs → ⊥
+Forbids p (rewire lhs r0 r1) fault.Range = IsInRange p.circuit r0 × IsInRange p.circuit r1 → ⊥
+Forbids p (rewire lhs r0 r1) fault.Undefined = IsDefined p.circuit (variable r0) × IsDefined p.circuit (variable r1) → ⊥
+Forbids p (rewire lhs r0 r1) fault.Cycle = IsAcyclic (with_gate p.circuit lhs r0 r1) → ⊥
+Forbids p (set_reset latch w) fault.NotALatch = IsLatchLiteral p.circuit latch → ⊥
+Forbids p (set_bit t i w) fault.NoFrame = length p.rows ≤ t
+Forbids p (set_bit t i w) fault.NoInput = length p.circuit.inputs ≤ i
+Forbids p (add_frame row) fault.Length = length row ≢ length p.circuit.inputs
+Forbids p (add_frame row) fault.Limit = ((p.circuit.max_var + 1) * (length p.rows + 1) ≤ 67108864) × (length p.rows < 65536) → ⊥
+Forbids p drop_frame fault.Empty = p.rows ≡ []
+Forbids p _ _ = ⊥
+
+abbrev pub number_of : EditFault → ℕ
+number_of fault.NotAGate = 1
+number_of fault.NotALatch = 2
+number_of fault.Range = 3
+number_of fault.Undefined = 4
+number_of fault.Cycle = 5
+number_of fault.NoFrame = 6
+number_of fault.NoInput = 7
+number_of fault.Length = 8
+number_of fault.Empty = 9
+number_of fault.Limit = 10
+number_of fault.Memory = 11
+
+-- no fault applies
+abbrev pub NoneApplies : (EditFault → Type 0) → Type 0
+NoneApplies P = (f : EditFault) → P f → ⊥
+
+-- the fault is the one of least number that applies
+abbrev pub IsLeastFault : (EditFault → Type 0) → EditFault → Type 0
+IsLeastFault P f = P f × ((g : EditFault) → number_of g < number_of f → P g → ⊥)
+
+-- the edit takes the pair to the other with this answer; a refused one leaves it
+abbrev pub Edits : {A : Type 0} → Pair → Edit → Result A EditFault → Pair → Type 0
+Edits p e (Ok _) new = NoneApplies (Forbids p e) × (new ≡ edited p e)
+Edits p e (Err f) new = IsLeastFault (Forbids p e) f × (new ≡ p)
