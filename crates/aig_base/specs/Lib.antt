@@ -14,5 +14,6 @@ pub mod Definition
 pub mod Levels
 pub mod Role
 pub mod Renumbered
+pub mod Buffered
 pub mod Bytes
 pub mod Filled

@@ -1,6 +1,8 @@
 //! Literals, circuits and bytes: the ground of the toolkit.
 #![tactic(auto)]
 
+mod block;
+mod buffered;
 mod bytes;
 mod check;
 mod circuit;
@@ -22,6 +24,8 @@ mod symbols;
 mod ternary;
 mod write;
 
+pub use block::Block;
+pub use buffered::Buffered;
 pub use bytes::{Failed, Read, Write};
 pub use circuit::Circuit;
 pub use count::Count;
