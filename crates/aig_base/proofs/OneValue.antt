@@ -23,7 +23,8 @@ use Rattle.aig_base.proofs.UniqueValue.{unique}
 signs : (l : ℕ) → (l ≡ 1) ⊎ ((2 * variable l ≡ l) ⊎ ((1 < l) × IsNegated l × (2 * variable l ≡ l - 1)))
 signs l = grind arith
 
-module _ (raw : Raw) (start : List Tern) (rows : List (List Tern)) (sound : IsSound raw) (acyclic : IsAcyclic raw) (fits : Fits raw start rows) where
+module _ (raw : Raw) (start : List Tern) (rows : List (List Tern))
+    (sound : IsSound raw) (acyclic : IsAcyclic raw) (fits : Fits raw start rows) where
   Has : ℕ → ℕ → Type 0
   Has t l = (w : Tern) × Value raw start rows t l w
 
@@ -52,15 +53,18 @@ module _ (raw : Raw) (start : List Tern) (rows : List (List Tern)) (sound : IsSo
       even_place t (gate q) g.lhs tt (g, at, refl) (kleene_and a b, value.gate t q g a b at va vb)
 
   of_defined : (t : ℕ) → ((v : ℕ) → IsSource raw v → Has t (2 * v)) → (l : ℕ) → IsDefined raw (variable l) → Has t l
-  of_defined t sources l h = of_even t l (of_grounded t sources (variable l) (Grounded-of_defined raw acyclic (variable l) h))
+  of_defined t sources l h =
+      of_even t l (of_grounded t sources (variable l) (Grounded-of_defined raw acyclic (variable l) h))
 
   of_input : (t : ℕ) → t < length rows → (p l : ℕ) → slice_get raw.inputs p ≡ Some l → Has t l
   unfolding Has
   of_input t lt p l at =
       let row = get_or rows t [] in
       let wide : length row ≡ length raw.inputs = fits.inputs t [] lt in
-      let below : p < length row = let w = slice_get_within raw.inputs p l at in omega arith in
-      (get_or row p X, value.input t p l (get_or row p X) row at (slice_get-get_or rows t [] lt) (slice_get-get_or row p X below))
+      let below : p < length row = let w = slice_get_within raw.inputs p l at in omega arith in (
+        get_or row p X,
+        value.input t p l (get_or row p X) row at (slice_get-get_or rows t [] lt) (slice_get-get_or row p X below),
+      )
 
   of_latch_first : (p : ℕ) (x : Latch) → slice_get raw.latches p ≡ Some x → Has 0 x.lit
   unfolding Has
@@ -71,7 +75,8 @@ module _ (raw : Raw) (start : List Tern) (rows : List (List Tern)) (sound : IsSo
   next_defined : (p : ℕ) (x : Latch) → slice_get raw.latches p ≡ Some x → IsDefined raw (variable x.next)
   next_defined p x at =
       let inside : Contains (map (λ x. x.next) raw.latches) x.next =
-      Contains-from_slice_get _ p x.next (slice_get-map (λ x. x.next) raw.latches p ∙ ap (option_map (λ x. x.next)) at) in
+      Contains-from_slice_get _ p x.next
+      (slice_get-map (λ x. x.next) raw.latches p ∙ ap (option_map (λ x. x.next)) at) in
       All-contains (λ l. IsDefined raw (variable l)) (uses raw) x.next sound.defined
       (left _ _ _ (left _ _ _ (left _ _ _ (left _ _ _ (left _ _ _ (left _ _ _ inside))))))
 
@@ -84,11 +89,13 @@ module _ (raw : Raw) (start : List Tern) (rows : List (List Tern)) (sound : IsSo
       let (w, v) = of_defined t (sources t (omega arith)) x.next (next_defined p x at) in
       even_place (suc t) (latch p) x.lit tt (x, at, refl) (w, value.latch_next t p x w at v)
 
-  pub exists_value : (t : ℕ) → t < length rows → (l : ℕ) → IsDefined raw (variable l) → (w : Tern) × Value raw start rows t l w
+  pub exists_value : (t : ℕ) → t < length rows → (l : ℕ) → IsDefined raw (variable l)
+      → (w : Tern) × Value raw start rows t l w
   unfolding Has
   exists_value t lt l h = of_defined t (sources t lt) l h
 
-pub have_one_value : (raw : Raw) (start : List Tern) (rows : List (List Tern)) → IsSound raw → IsAcyclic raw → Fits raw start rows → HaveOneValue raw start rows
+pub have_one_value : (raw : Raw) (start : List Tern) (rows : List (List Tern)) → IsSound raw → IsAcyclic raw
+    → Fits raw start rows → HaveOneValue raw start rows
 have_one_value raw start rows sound acyclic fits t l lt h =
     let (w, v) = exists_value raw start rows sound acyclic fits t lt l h in
     (w, v, λ u e. unique raw start rows sound e v)

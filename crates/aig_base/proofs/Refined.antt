@@ -10,7 +10,8 @@ use Rattle.aig_base.specs.Value.{Value}
 use Rattle.aig_base.specs.Completion.{Completes, IsCompletion}
 
 -- the elements at one place
-pub AllZip-slice_get : {A B : Type 0} → (R : A → B → Type 0) (xs : List A) (ys : List B) (i : ℕ) (x : A) → AllZip R xs ys
+pub AllZip-slice_get : {A B : Type 0} → (R : A → B → Type 0) (xs : List A) (ys : List B) (i : ℕ) (x : A)
+    → AllZip R xs ys
     → slice_get xs i ≡ Some x → (y : B) × (slice_get ys i ≡ Some y) × R x y
 AllZip-slice_get R [] [] i x all at = cc
 AllZip-slice_get R [] (y ∷ ys) i x all at = absurd all
@@ -41,8 +42,10 @@ not_refines Zero a' p known = ap kleene_not (p (λ h. cc))
 not_refines One a' p known = ap kleene_not (p (λ h. cc))
 not_refines X a' p known = absurd (known refl)
 
-module _ (raw : Raw) (start start' : List Tern) (rows rows' : List (List Tern)) (completes : IsCompletion start rows start' rows') where
-  refined : {t l : ℕ} {w : Tern} → Value raw start rows t l w → (w' : Tern) × Value raw start' rows' t l w' × Refines w w'
+module _ (raw : Raw) (start start' : List Tern) (rows rows' : List (List Tern))
+    (completes : IsCompletion start rows start' rows') where
+  refined : {t l : ℕ} {w : Tern} → Value raw start rows t l w
+      → (w' : Tern) × Value raw start' rows' t l w' × Refines w w'
   unfolding Refines
   refined (value.constant_false t) = (Zero, value.constant_false t, λ _. refl)
   refined (value.constant_true t) = (One, value.constant_true t, λ _. refl)

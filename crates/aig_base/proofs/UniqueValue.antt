@@ -21,7 +21,8 @@ abbrev pub Rests : (raw : Raw) (start : List Tern) (rows : List (List Tern)) →
 Rests raw start rows constant t l w = w ≡ constant_value l
 Rests raw start rows (input p) t l w = (row : List Tern) × (slice_get rows t ≡ Some row) × (slice_get row p ≡ Some w)
 Rests raw start rows (latch p) zero l w = slice_get start p ≡ Some w
-Rests raw start rows (latch p) (suc t) l w = (x : Latch) × (slice_get raw.latches p ≡ Some x) × Value raw start rows t x.next w
+Rests raw start rows (latch p) (suc t) l w =
+    (x : Latch) × (slice_get raw.latches p ≡ Some x) × Value raw start rows t x.next w
 Rests raw start rows (gate q) t l w =
     (g : Gate) × (a : Tern) × (b : Tern) × (slice_get raw.gates q ≡ Some g)
     × Value raw start rows t g.rhs0 a × Value raw start rows t g.rhs1 b × (w ≡ kleene_and a b)
@@ -38,7 +39,8 @@ module _ (raw : Raw) (start : List Tern) (rows : List (List Tern)) where
   rests (value.negated t l w over neg v) = (odd, (over, neg), (w, v, refl))
 
   -- what a value at a known place rests on
-  pub rests_at : {t l : ℕ} {w : Tern} → IsSound raw → (d : Place) → At raw d l → Value raw start rows t l w → Rests raw start rows d t l w
+  pub rests_at : {t l : ℕ} {w : Tern} → IsSound raw → (d : Place) → At raw d l → Value raw start rows t l w
+      → Rests raw start rows d t l w
   rests_at {t} {l} {w} s d at v =
       let r : (e : Place) × At raw e l × Rests raw start rows e t l w = rests v in
       subst (λ e. Rests raw start rows e t l w) (same_place raw s r.0 d l r.1 at) r.2

@@ -26,10 +26,12 @@ module _ (raw : Raw) (start : List Tern) (rows : List (List Tern)) where
   by_latch_next t l p u x w e at is v = rw (e, ← is) (value.latch_next u p x w at v)
 
   pub by_gate : (t l q : ℕ) (g : Gate) (a b w : Tern) → slice_get raw.gates q ≡ Some g → g.lhs ≡ l
-      → Value raw start rows t g.rhs0 a → Value raw start rows t g.rhs1 b → w ≡ kleene_and a b → Value raw start rows t l w
+      → Value raw start rows t g.rhs0 a → Value raw start rows t g.rhs1 b → w ≡ kleene_and a b
+      → Value raw start rows t l w
   by_gate t l q g a b w at is va vb e = rw (e, ← is) (value.gate t q g a b at va vb)
 
-  pub by_negation : (t l : ℕ) (v w : Tern) → 1 < l → IsNegated l → Value raw start rows t (l - 1) v → w ≡ kleene_not v → Value raw start rows t l w
+  pub by_negation : (t l : ℕ) (v w : Tern) → 1 < l → IsNegated l → Value raw start rows t (l - 1) v
+      → w ≡ kleene_not v → Value raw start rows t l w
   by_negation t l v w over odd is e = rw e (value.negated t l v over odd is)
 
 pub ruleset by_rule = (by_zero, by_one, value.input, by_latch_first, by_latch_next, by_gate, by_negation)
