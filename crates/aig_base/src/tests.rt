@@ -79,20 +79,20 @@ fn name(alloc: Global, bytes: &[u8]) -> Result<Bytes, AllocError> {
 #[test]
 fn symbols_in_order(rt: HostRuntime) -> Result<(), Fail> {
     let mut symbols = Symbols::new(rt.alloc());
-    assert!(rt; symbols.insert(Kind::Output, 1, name(rt.alloc(), b"out")?)?);
-    assert!(rt; symbols.insert(Kind::Input, 1, name(rt.alloc(), b"in")?)?);
-    assert!(rt; !symbols.insert(Kind::Output, 1, name(rt.alloc(), b"again")?)?);
-    assert!(rt; symbols.insert(Kind::Input, 0, name(rt.alloc(), b"first")?)?);
-    assert_eq!(rt; symbols.len(), 3);
-    assert!(rt; symbols.contains(Kind::Input, 1));
-    assert!(rt; !symbols.contains(Kind::Output, 0));
-    let wanted: [((Kind, u32), &[u8]); 3] = [
-        ((Kind::Output, 1), b"out"),
-        ((Kind::Input, 1), b"in"),
-        ((Kind::Input, 0), b"first"),
+    let names: [(Kind, u32, &[u8], bool); 4] = [
+        (Kind::Output, 1, b"out", true),
+        (Kind::Input, 1, b"in", true),
+        (Kind::Output, 1, b"again", false),
+        (Kind::Input, 0, b"first", true),
     ];
-    for ((key, bytes), (wanted_key, wanted_bytes)) in symbols.iter().zip(wanted) {
-        assert_eq!(rt; *key, wanted_key);
+    for (kind, position, bytes, fresh) in names {
+        let bytes = name(rt.alloc(), bytes)?;
+        assert_eq!(rt; symbols.insert(kind, position, bytes)?, fresh);
+    }
+    assert_eq!(rt; symbols.len(), 3);
+    assert!(rt; symbols.contains(Kind::Input, 1) && !symbols.contains(Kind::Output, 0));
+    let wanted: [&[u8]; 3] = [b"out", b"in", b"first"];
+    for ((_, bytes), wanted_bytes) in symbols.iter().zip(wanted) {
         assert_eq!(rt; bytes.as_slice(), wanted_bytes);
     }
     Ok(())
