@@ -12,6 +12,7 @@ mod definition;
 mod fault;
 mod gate;
 mod latch;
+mod laws;
 mod level;
 mod list;
 mod literal;
@@ -34,6 +35,7 @@ pub use definition::Definition;
 pub use fault::{Fault, Io, Memory, WouldCycle};
 pub use gate::Gate;
 pub use latch::Latch;
+pub use laws::{law_of_completion, law_of_faults, law_of_levels, law_of_one_value};
 pub use level::Levels;
 pub use list::{Bytes, List};
 pub use literal::Lit;
@@ -45,3 +47,6 @@ pub use std_bytes::Std;
 pub use symbols::{Kind, Symbols};
 pub use ternary::Tern;
 pub use write::{write_all, write_number};
+
+#[cfg(test)]
+mod tests;
