@@ -2,3 +2,9 @@ pub mod Joined
 pub mod Tables
 pub mod SymbolKeys
 pub mod WriteLemmas
+pub mod Gets
+pub mod LeastAmong
+pub mod Entering
+pub mod Chains
+pub mod Marking
+pub mod Faults

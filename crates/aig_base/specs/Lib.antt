@@ -16,3 +16,8 @@ pub mod Role
 pub mod Renumbered
 pub mod Bytes
 pub mod Filled
+pub mod Entries
+pub mod Least
+pub mod Links
+pub mod Marks
+pub mod Ranged
