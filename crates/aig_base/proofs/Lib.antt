@@ -13,3 +13,9 @@ pub mod Tables
 pub mod UniqueValue
 pub mod ValueRules
 pub mod WriteLemmas
+pub mod Gets
+pub mod LeastAmong
+pub mod Entering
+pub mod Chains
+pub mod Marking
+pub mod Faults

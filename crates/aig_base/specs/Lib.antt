@@ -18,3 +18,8 @@ pub mod Renumbered
 pub mod Buffered
 pub mod Bytes
 pub mod Filled
+pub mod Entries
+pub mod Least
+pub mod Links
+pub mod Marks
+pub mod Ranged

@@ -1,21 +1,141 @@
 //! The test of parts.
-ghost use Rattle.std.specs.Prelude.{◌≡◌, ◌≢◌, IfOk, IfErr};
-ghost use Rattle.aig_base.specs.Formed.{IsFormed};
+ghost use Rattle.std.specs.Prelude.{◌≡◌, ◌≢◌, ◌≤◌, ◌↔◌, All, IsTrue, IfOk, IfErr, OnOk};
+ghost use Rattle.aig_base.specs.Circuit.{IsCircuit};
+ghost use Rattle.aig_base.specs.Definition.{IsTable};
 ghost use Rattle.aig_base.specs.FirstFault.{IsFirstFault};
+ghost use Rattle.aig_base.specs.Formed.{IsFormed, CountsFit};
+ghost use Rattle.aig_base.specs.Least.{IsLeastAmong, IsGroundedGate, gate_variable};
+ghost use Rattle.aig_base.specs.Ranged.{AreInRange, AreDefinitions};
+ghost use Rattle.aig_base.specs.Sound.{IsDefinition};
 
 use crate::circuit::Circuit;
-use crate::fault::Fault;
+use crate::definition::Definition;
+use crate::entries::Entries;
+use crate::fault::{Fault, Memory};
+use crate::gate::Gate;
+use crate::grounded::grounded_marks;
+use crate::latch::Latch;
+use crate::least::{least_bad_reset, least_undefined, least_unmarked};
+use crate::list::List;
+use crate::literal::Lit;
 use crate::raw::Raw;
 use std::alloc::Global;
 
+fn within(literals: &[Lit], greatest: u32) -> bool
+    ensures { IsTrue result ↔ All (λ l. l ≤ greatest) literals.now }
+{
+    literals.iter().all(|literal| literal.value() <= greatest)
+}
+
+fn latches_within(latches: &[Latch], greatest: u32) -> bool
+    ensures { IsTrue result ↔ All (λ x. (x.lit ≤ greatest) × (x.next ≤ greatest)) latches.now }
+{
+    latches.iter().all(|latch| latch.lit.value() <= greatest && latch.next.value() <= greatest)
+}
+
+fn lists_within(lists: &[List<Lit>], greatest: u32) -> bool
+    ensures { IsTrue result ↔ All (λ p. All (λ l. l ≤ greatest) p) lists.now }
+{
+    lists.iter().all(|list| within(list.as_slice(), greatest))
+}
+
+fn gates_within(gates: &[Gate], greatest: u32) -> bool
+    ensures { IsTrue result
+        ↔ All (λ g. (g.lhs ≤ greatest) × (g.rhs0 ≤ greatest) × (g.rhs1 ≤ greatest)) gates.now }
+{
+    gates.iter().all(|gate| {
+        gate.lhs.value() <= greatest
+            && gate.rhs0.value() <= greatest
+            && gate.rhs1.value() <= greatest
+    })
+}
+
+// Whether each literal but a reset is at most 2M + 1.
+fn are_in_range(raw: &Raw) -> bool
+    requires { CountsFit raw.now }
+    ensures { IsTrue result ↔ AreInRange raw.now }
+{
+    let greatest = 2 * raw.max_var + 1;
+    within(raw.inputs.as_slice(), greatest)
+        && latches_within(raw.latches.as_slice(), greatest)
+        && within(raw.outputs.as_slice(), greatest)
+        && within(raw.bad.as_slice(), greatest)
+        && within(raw.constraints.as_slice(), greatest)
+        && lists_within(raw.justice.as_slice(), greatest)
+        && within(raw.fairness.as_slice(), greatest)
+        && gates_within(raw.gates.as_slice(), greatest)
+}
+
+fn is_definition(literal: Lit) -> bool
+    ensures { IsTrue result ↔ IsDefinition literal }
+{
+    !literal.is_neg() && literal.value() > 0
+}
+
+// Whether each input, latch and left side is even and not 0.
+fn are_definitions(raw: &Raw) -> bool
+    ensures { IsTrue result ↔ AreDefinitions raw.now }
+{
+    raw.inputs.iter().all(|literal| is_definition(*literal))
+        && raw.latches.iter().all(|latch| is_definition(latch.lit))
+        && raw.gates.iter().all(|gate| is_definition(gate.lhs))
+}
+
+// The least gate variable that is not grounded.
+fn least_ungrounded(alloc: Global, raw: &Raw) -> Result<Option<u32>, Memory>
+    requires counts { CountsFit raw.now }
+    requires range { AreInRange raw.now }
+    ensures { IfOk result (IsLeastAmong (IsGroundedGate raw.now) gate_variable raw.now.gates) }
+{
+    let gates = raw.gates.as_slice();
+    let marks = grounded_marks(
+        alloc,
+        raw.max_var,
+        raw.inputs.as_slice(),
+        raw.latches.as_slice(),
+        gates,
+    )?;
+    Ok(least_unmarked(marks.as_slice(), gates))
+}
+
+// The table of definitions of these parts, or their first fault.
+fn tested_table(alloc: Global, raw: &Raw) -> Result<Vec<Option<Definition>>, Fault>
+    requires { IsFormed raw.now }
+    ensures circuit { OnOk result (IsCircuit raw.now) }
+    ensures table { IfOk result (λ table. IsTable raw.now table.items) }
+    ensures fault { IfErr result (λ fault. fault ≢ Fault.Memory → IsFirstFault raw.now fault) }
+{
+    if !are_in_range(raw) {
+        return Err(Fault::Range);
+    }
+    if !are_definitions(raw) {
+        return Err(Fault::Definition);
+    }
+    let Entries { table, again } = Entries::of(alloc, raw)?;
+    if let Some(variable) = again {
+        return Err(Fault::Redefined(variable));
+    }
+    if let Some(variable) = least_undefined(&table, raw) {
+        return Err(Fault::Undefined(variable));
+    }
+    if let Some(variable) = least_bad_reset(raw.latches.as_slice()) {
+        return Err(Fault::Reset(variable));
+    }
+    if let Some(variable) = least_ungrounded(alloc, raw)? {
+        return Err(Fault::Cycle(variable));
+    }
+    Ok(table)
+}
+
 impl Circuit {
     /// The circuit of these parts, or their first fault in the order of `Fault`, each with its least variable. A reset
-    /// is outside the range test. Linear in the parts.
-    pub fn check(_alloc: Global, _raw: Raw) -> Result<Circuit, Fault>
-        requires formed { IsFormed _raw }
-        ensures parts { IfOk result (λ circuit. circuit ≡ _raw) }
-        ensures fault { IfErr result (λ fault. fault ≢ Fault.Memory → IsFirstFault _raw fault) }
+    /// is outside the range test. Linear in the parts and the greatest variable.
+    pub fn check(alloc: Global, raw: Raw) -> Result<Circuit, Fault>
+        requires formed { IsFormed raw }
+        ensures parts { IfOk result (λ circuit. circuit ≡ raw) }
+        ensures fault { IfErr result (λ fault. fault ≢ Fault.Memory → IsFirstFault raw fault) }
     {
-        Err(Fault::Memory)
+        let table = tested_table(alloc, &raw)?;
+        Ok(Circuit { raw, table })
     }
 }

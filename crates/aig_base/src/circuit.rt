@@ -15,9 +15,9 @@ use std::marker::Model;
 /// A circuit: parts that are formed, sound and acyclic. `Circuit::check` makes one.
 #[derive(Drop, Debug)]
 pub struct Circuit {
-    raw: Raw,
+    pub(crate) raw: Raw,
     // What defines each variable, 0 to M.
-    table: Vec<Option<Definition>>,
+    pub(crate) table: Vec<Option<Definition>>,
 }
 
 impl Model for Circuit {

@@ -1,0 +1,17 @@
+use Rattle.std.proofs.Common.{◌≡◌, ◌<◌, ℕ, length, All}
+use Rattle.aig_base.specs.declared.raw.Raw.{Raw}
+use Rattle.aig_base.specs.Marks.{IsMarked, IsMarking, steps_left}
+use Rattle.aig_base.proofs.grounded.Marking.close.Given as goal
+
+abbrev pub invariant-loop-variable : goal.invariant-loop-variable
+invariant-loop-variable l = record {
+  size : length l.self.marks.items ≡ length l.initial.self.marks.items;
+  below : All (λ v. v < length l.self.marks.items) l.self.pending.items;
+  kept : (v : ℕ) → IsMarked l.initial.self.marks.items v → IsMarked l.self.marks.items v;
+  marking : (raw : Raw) → raw.gates ≡ l.gates
+      → IsMarking raw l.readers.next.items 0 l.initial.self.marks.items l.initial.self.pending.items
+      → IsMarking raw l.readers.next.items 0 l.self.marks.items l.self.pending.items;
+}
+
+abbrev pub decreases-loop-variable : goal.decreases-loop-variable
+decreases-loop-variable l = steps_left l.self.marks.items l.self.pending.items

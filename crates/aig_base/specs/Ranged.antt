@@ -1,0 +1,21 @@
+-- The first two tests of parts, section by section.
+use Rattle.std.specs.Prelude.{All}
+use Rattle.aig_base.specs.declared.raw.Raw.{Raw}
+use Rattle.aig_base.specs.Sound.{IsInRange, IsDefinition}
+
+-- each literal but a reset is in range
+pub record AreInRange (raw : Raw) : Type 0 where
+  pub inputs : All (λ l. IsInRange raw l) raw.inputs
+  pub latches : All (λ x. IsInRange raw x.lit × IsInRange raw x.next) raw.latches
+  pub outputs : All (λ l. IsInRange raw l) raw.outputs
+  pub bad : All (λ l. IsInRange raw l) raw.bad
+  pub constraints : All (λ l. IsInRange raw l) raw.constraints
+  pub justice : All (λ p. All (λ l. IsInRange raw l) p) raw.justice
+  pub fairness : All (λ l. IsInRange raw l) raw.fairness
+  pub gates : All (λ g. IsInRange raw g.lhs × IsInRange raw g.rhs0 × IsInRange raw g.rhs1) raw.gates
+
+-- each literal that an input, a latch or a gate defines is even and not 0
+pub record AreDefinitions (raw : Raw) : Type 0 where
+  pub inputs : All (λ l. IsDefinition l) raw.inputs
+  pub latches : All (λ x. IsDefinition x.lit) raw.latches
+  pub gates : All (λ g. IsDefinition g.lhs) raw.gates
