@@ -1,4 +1,10 @@
+pub mod Defined
+pub mod Evens
 pub mod Joined
-pub mod Tables
+pub mod NoFault
+pub mod OneLevel
+pub mod Places
+pub mod Positions
 pub mod SymbolKeys
+pub mod Tables
 pub mod WriteLemmas

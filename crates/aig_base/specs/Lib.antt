@@ -13,6 +13,7 @@ pub mod Changes
 pub mod Definition
 pub mod Levels
 pub mod Role
+pub mod Ready
 pub mod Renumbered
 pub mod Bytes
 pub mod Filled

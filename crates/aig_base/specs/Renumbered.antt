@@ -16,9 +16,13 @@ role_variable raw (roles.input p) = p + 1
 role_variable raw (roles.latch p) = length raw.inputs + p + 1
 role_variable raw (roles.gate q) = length raw.inputs + length raw.latches + q + 1
 
+-- the variable that stands for v
+unfoldable pub renumbered_variable : Raw → List ℕ → ℕ → ℕ
+renumbered_variable raw order v = role_variable raw (role raw order v)
+
 -- the literal that stands for l; negations are kept
 unfoldable pub renumbered_literal : Raw → List ℕ → ℕ → ℕ
-renumbered_literal raw order l = with_sign l (2 * role_variable raw (role raw order (variable l)))
+renumbered_literal raw order l = with_sign l (2 * renumbered_variable raw order (variable l))
 
 abbrev pub renumbered_latch : Raw → List ℕ → Latch → Latch
 renumbered_latch raw order x = record {
@@ -54,9 +58,13 @@ renumbered raw order = record {
   comment = raw.comment;
 }
 
+-- the even literals of n variables from a variable on, in order
+abbrev pub evens_from : ℕ → ℕ → List ℕ
+evens_from v n = map (λ u. 2 * u) (range_with_len v n)
+
 -- 2, 4, .., 2n: the literals of the variables 1, 2, .., n
 abbrev pub evens : ℕ → List ℕ
-evens n = map (λ v. 2 * v) (range_with_len 1 n)
+evens n = evens_from 1 n
 
 -- what a binary file can hold (AIGER 1.0, binary format): inputs, latches and left sides are in order the variables
 -- 1, 2, .., M, and in each gate the left side is the greatest and the right sides do not rise
