@@ -1,3 +1,4 @@
+pub mod Counting
 pub mod Defined
 pub mod Evens
 pub mod Joined
@@ -5,6 +6,9 @@ pub mod NoFault
 pub mod OneLevel
 pub mod Places
 pub mod Positions
+pub mod Renumberings
+pub mod Roles
+pub mod SymbolCopies
 pub mod SymbolKeys
 pub mod Tables
 pub mod WriteLemmas

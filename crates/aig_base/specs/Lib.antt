@@ -15,5 +15,6 @@ pub mod Levels
 pub mod Role
 pub mod Ready
 pub mod Renumbered
+pub mod RenumberingTable
 pub mod Bytes
 pub mod Filled

@@ -1,5 +1,5 @@
 -- The renumbered circuit (profile; its form is what AIGER 1.0 asks of a binary file).
-use Rattle.std.specs.Prelude.{◌≡◌, ℕ, ◌+◌, ◌*◌, ◌<◌, ◌≤◌, List, length, map, find, All, nat_lt, ◌==◌, if◌then◌else◌}
+use Rattle.std.specs.Prelude.{◌≡◌, ℕ, ◌+◌, ◌*◌, ◌<◌, ◌≤◌, List, length, map, Option, find, All, nat_lt, ◌==◌, if◌then◌else◌}
 use Rattle.std.specs.List.{filter_map, range_with_len}
 use Rattle.aig_base.specs.declared.gate.Gate.{Gate}
 use Rattle.aig_base.specs.declared.latch.Latch.{Latch}
@@ -39,9 +39,13 @@ abbrev pub renumbered_gate : Raw → List ℕ → Gate → Gate
 renumbered_gate raw order g =
     ready_gate (renumbered_literal raw order g.lhs) (renumbered_literal raw order g.rhs0) (renumbered_literal raw order g.rhs1)
 
+-- the gate of a variable, if it is one of a gate
+abbrev pub gate_of : Raw → ℕ → Option Gate
+gate_of raw v = find (λ g. variable g.lhs == v) raw.gates
+
 -- the gates in the canonical order
 abbrev pub ordered_gates : Raw → List ℕ → List Gate
-ordered_gates raw order = filter_map (λ v. find (λ g. variable g.lhs == v) raw.gates) order
+ordered_gates raw order = filter_map (gate_of raw) order
 
 abbrev pub renumbered : Raw → List ℕ → Raw
 renumbered raw order = record {

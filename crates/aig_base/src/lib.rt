@@ -18,6 +18,8 @@ mod order;
 mod raw;
 mod ready;
 mod renumbering;
+mod renumbering_parts;
+mod renumbering_table;
 mod std_bytes;
 mod symbols;
 mod ternary;
