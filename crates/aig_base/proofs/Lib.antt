@@ -1,11 +1,14 @@
 pub mod Counting
 pub mod Defined
+pub mod EachUse
 pub mod Evens
 pub mod Joined
 pub mod NoFault
 pub mod OneLevel
 pub mod Places
 pub mod Positions
+pub mod RenumberedParts
+pub mod RenumberedReady
 pub mod Renumberings
 pub mod Roles
 pub mod SymbolCopies
