@@ -7,13 +7,13 @@ use Rattle.std.proofs.lemmas.Option.{slice_get-map, slice_get-get_or, slice_get_
 use Rattle.aig_base.specs.declared.gate.Gate.{Gate}
 use Rattle.aig_base.specs.declared.latch.Latch.{Latch}
 use Rattle.aig_base.specs.declared.raw.Raw.{Raw}
-use Rattle.aig_base.specs.Circuit.{IsCircuit}
 use Rattle.aig_base.specs.Grounded as grounded
 use Rattle.aig_base.specs.Grounded.{Grounded, IsSource, IsAcyclic, Level}
 use Rattle.aig_base.specs.Literal.{variable, with_sign, IsEven}
 use Rattle.aig_base.specs.Order.{IsCanonicalOrder}
 use Rattle.aig_base.specs.Ready.{SectionsInOrder}
 use Rattle.aig_base.specs.Renumbered.{ordered_gates, renumbered, renumbered_gate, renumbered_latch, renumbered_literal, renumbered_variable, ready_gate, evens_from, IsBinaryReady}
+use Rattle.aig_base.specs.Sound.{IsSound}
 use Rattle.aig_base.specs.Sections.{IsDefined, IsGate}
 use Rattle.aig_base.proofs.Counting.{length-order}
 use Rattle.aig_base.proofs.Defined.{defined_cases, Grounded-of_defined}
@@ -74,31 +74,31 @@ lhs_stays lhs a b = go (nat_lt a b) refl
     go true e = rw e refl
     go false e = rw e refl
 
-module _ (raw : Raw) (circuit : IsCircuit raw) (order : List ℕ) (canonical : IsCanonicalOrder raw order) where
+module _ (raw : Raw) (sound : IsSound raw) (order : List ℕ) (canonical : IsCanonicalOrder raw order) where
   gates_only : (v : ℕ) → Contains order v → IsGate raw v
   gates_only v = (canonical.gates v).0
 
   even_of : (d : Place) (l : ℕ) → IsSection d → At raw d l → IsEven l
-  even_of d l h at = (IsDefinition-of_place raw circuit.sound d l h at).0
+  even_of d l h at = (IsDefinition-of_place raw sound d l h at).0
 
   -- the literals that stand for definitions
   pub input_literal : (p l : ℕ) → slice_get raw.inputs p ≡ Some l → renumbered_literal raw order l ≡ 2 * (p + 1)
   input_literal p l at =
       literal_even raw order l (even_of (input p) l tt at)
-      ∙ ap (λ v. 2 * v) (input_variable raw circuit.sound order gates_only (variable l) p (l, at, refl))
+      ∙ ap (λ v. 2 * v) (input_variable raw sound order gates_only (variable l) p (l, at, refl))
 
   pub latch_literal : (p : ℕ) (x : Latch) → slice_get raw.latches p ≡ Some x → renumbered_literal raw order x.lit ≡ 2 * (length raw.inputs + p + 1)
   latch_literal p x at =
       literal_even raw order x.lit (even_of (latch p) x.lit tt (x, at, refl))
-      ∙ ap (λ v. 2 * v) (latch_variable raw circuit.sound order gates_only (variable x.lit) p (x, at, refl))
+      ∙ ap (λ v. 2 * v) (latch_variable raw sound order gates_only (variable x.lit) p (x, at, refl))
 
   -- the variable at a place of the order
   pub place_variable : (i : ℕ) → i < length order → renumbered_variable raw order (get_or order i 0) ≡ length raw.inputs + length raw.latches + i + 1
   place_variable i lt =
-      let (g, q, at, is) = gate_at raw circuit.sound order canonical i lt in
+      let (g, q, at, is) = gate_at raw sound order canonical i lt in
       let here = slice_get-get_or order i 0 lt in
-      gate_variable raw circuit.sound order gates_only (get_or order i 0) q i (g, at, is)
-      (only_place order i (get_or order i 0) here (λ j stands. place_in raw circuit.sound order canonical i j (get_or order i 0) here stands))
+      gate_variable raw sound order gates_only (get_or order i 0) q i (g, at, is)
+      (only_place order i (get_or order i 0) here (λ j stands. place_in raw sound order canonical i j (get_or order i 0) here stands))
 
   pub gate_literal : (q i : ℕ) (g : Gate) → slice_get raw.gates q ≡ Some g → i < length order → variable g.lhs ≡ get_or order i 0
       → renumbered_literal raw order g.lhs ≡ 2 * (length raw.inputs + length raw.latches + i + 1)
@@ -108,16 +108,16 @@ module _ (raw : Raw) (circuit : IsCircuit raw) (order : List ℕ) (canonical : I
 
   pub constant_variable : renumbered_variable raw order 0 ≡ 0
   unfolding renumbered_variable
-  constant_variable = let e = role_constant raw circuit.sound order gates_only in rw e refl
+  constant_variable = let e = role_constant raw sound order gates_only in rw e refl
 
   source_bound : (v : ℕ) → IsSource raw v → renumbered_variable raw order v ≤ length raw.inputs + length raw.latches
   source_bound v grounded.IsSource.constant = omega (arith, constant_variable)
   source_bound v (grounded.IsSource.input p l at) =
       let k = slice_get_within raw.inputs p l at in
-      omega (arith, input_variable raw circuit.sound order gates_only (variable l) p (l, at, refl))
+      omega (arith, input_variable raw sound order gates_only (variable l) p (l, at, refl))
   source_bound v (grounded.IsSource.latch p x at) =
       let k = slice_get_within raw.latches p x at in
-      omega (arith, latch_variable raw circuit.sound order gates_only (variable x.lit) p (x, at, refl))
+      omega (arith, latch_variable raw sound order gates_only (variable x.lit) p (x, at, refl))
 
   -- what has a lower level than a gate stands before it
   lower_place : (i j m n : ℕ) → i < length order → j < length order → Level raw (get_or order j 0) m → Level raw (get_or order i 0) n → m < n → j < i
@@ -126,10 +126,10 @@ module _ (raw : Raw) (circuit : IsCircuit raw) (order : List ℕ) (canonical : I
     | inr o ↦ elim o [
       | inl same ↦
           let li' : Level raw (get_or order j 0) n = subst (λ k. Level raw (get_or order k 0) n) (sym same) li in
-          absurd (omega (arith, same_level circuit.sound lj li'))
+          absurd (omega (arith, same_level sound lj li'))
       | inr after ↦
           let (a, b, la, lb, which) = canonical.ordered i j 0 after below in
-          absurd (omega (arith, same_level circuit.sound la li, same_level circuit.sound lb lj))
+          absurd (omega (arith, same_level sound la li, same_level sound lb lj))
     ]
   ]
     where
@@ -148,14 +148,14 @@ module _ (raw : Raw) (circuit : IsCircuit raw) (order : List ℕ) (canonical : I
   ]
 
   -- the sides of the gate at a place
-  side_below : (q i : ℕ) (g : Gate) → slice_get raw.gates q ≡ Some g → i < length order → variable g.lhs ≡ get_or order i 0
+  side_below : IsAcyclic raw → (q i : ℕ) (g : Gate) → slice_get raw.gates q ≡ Some g → i < length order → variable g.lhs ≡ get_or order i 0
       → (renumbered_literal raw order g.rhs0 < renumbered_literal raw order g.lhs) × (renumbered_literal raw order g.rhs1 < renumbered_literal raw order g.lhs)
-  side_below q i g at lt is =
-      let sides = each_use (λ l. IsDefined raw (variable l)) raw circuit.sound.defined in
+  side_below acyclic q i g at lt is =
+      let sides = each_use (λ l. IsDefined raw (variable l)) raw sound.defined in
       let here = get_or_from_slice_get raw.gates q g g at in
       let (d0, d1) = subst (λ (h : Gate). IsDefined raw (variable h.rhs0) × IsDefined raw (variable h.rhs1)) here (sides.sides q g (slice_get_within raw.gates q g at)) in
-      let (a, la) = level_of (Grounded-of_defined raw circuit.acyclic (variable g.rhs0) d0) in
-      let (b, lb) = level_of (Grounded-of_defined raw circuit.acyclic (variable g.rhs1) d1) in
+      let (a, la) = level_of (Grounded-of_defined raw acyclic (variable g.rhs0) d0) in
+      let (b, lb) = level_of (Grounded-of_defined raw acyclic (variable g.rhs1) d1) in
       let own : Level raw (get_or order i 0) (max a b + 1) = subst (λ u. Level raw u (max a b + 1)) is (grounded.Level.gate q g a b at la lb) in
       let v0 = lower_variable i (variable g.rhs0) a (max a b + 1) lt d0 la own (omega arith) in
       let v1 = lower_variable i (variable g.rhs1) b (max a b + 1) lt d1 lb own (omega arith) in
@@ -169,16 +169,16 @@ module _ (raw : Raw) (circuit : IsCircuit raw) (order : List ℕ) (canonical : I
       → (q : ℕ) × (i < length order) × (slice_get raw.gates q ≡ Some g) × (variable g.lhs ≡ get_or order i 0)
   ordered_gate i g here =
       let k = slice_get_within (ordered_gates raw order) i g here in
-      let lt : i < length order = omega (arith, length-ordered raw circuit.sound order canonical, length-order raw circuit.sound order canonical) in
-      let (h, q, at, is, stands) = ordered_at raw circuit.sound order canonical i lt in
+      let lt : i < length order = omega (arith, length-ordered raw sound order canonical, length-order raw sound order canonical) in
+      let (h, q, at, is, stands) = ordered_at raw sound order canonical i lt in
       let same : h ≡ g = cc in
       (q, lt, at ∙ ap Some same, subst (λ (h : Gate). variable h.lhs ≡ get_or order i 0) same is)
 
-  sections : SectionsInOrder (renumbered raw order).inputs (renumbered raw order).latches (renumbered raw order).gates (renumbered raw order).max_var
+  pub sections : SectionsInOrder (renumbered raw order).inputs (renumbered raw order).latches (renumbered raw order).gates (renumbered raw order).max_var
   sections =
       let li = length-map raw.inputs (renumbered_literal raw order) in
       let ll = length-map raw.latches (renumbered_latch raw order) in
-      let lg = length-map (ordered_gates raw order) (renumbered_gate raw order) ∙ length-ordered raw circuit.sound order canonical in
+      let lg = length-map (ordered_gates raw order) (renumbered_gate raw order) ∙ length-ordered raw sound order canonical in
       record {
         size = omega arith;
         inputs_are = evens_map (renumbered_literal raw order) raw.inputs 1 _ (sym li) (λ p l at. let e = input_literal p l at in omega arith);
@@ -197,13 +197,13 @@ module _ (raw : Raw) (circuit : IsCircuit raw) (order : List ℕ) (canonical : I
             omega arith);
       }
 
-  pub renumbered_ready : IsBinaryReady (renumbered raw order)
-  renumbered_ready = record {
+  pub renumbered_ready : IsAcyclic raw → IsBinaryReady (renumbered raw order)
+  renumbered_ready acyclic = record {
     in_order = joined (renumbered raw order) sections;
     gates = All-map (λ g. (g.rhs0 < g.lhs) × (g.rhs1 ≤ g.rhs0)) (renumbered_gate raw order) (ordered_gates raw order) (λ i d lt.
         let (g, here) = stands_at (ordered_gates raw order) i lt in
         let (q, below, stands, place) = ordered_gate i g here in
-        let (b0, b1) = side_below q i g stands below place in
+        let (b0, b1) = side_below acyclic q i g stands below place in
         let same : g ≡ get_or (ordered_gates raw order) i d = sym (get_or_from_slice_get (ordered_gates raw order) i g d here) in
         subst (λ (h : Gate). ((renumbered_gate raw order h).rhs0 < (renumbered_gate raw order h).lhs) × ((renumbered_gate raw order h).rhs1 ≤ (renumbered_gate raw order h).rhs0)) same
         (goes_down (renumbered_literal raw order g.lhs) (renumbered_literal raw order g.rhs0) (renumbered_literal raw order g.rhs1) b0 b1));

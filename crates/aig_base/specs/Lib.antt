@@ -15,6 +15,7 @@ pub mod Levels
 pub mod Role
 pub mod Ready
 pub mod Renumbered
+pub mod RenumberedValues
 pub mod RenumberingTable
 pub mod Bytes
 pub mod Filled
