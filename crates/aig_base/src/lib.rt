@@ -24,6 +24,8 @@ mod renumbering_table;
 mod std_bytes;
 mod symbols;
 mod ternary;
+#[cfg(test)]
+mod tests;
 mod write;
 
 pub use bytes::{Failed, Read, Write};

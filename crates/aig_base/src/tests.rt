@@ -1,0 +1,2 @@
+// What proofs do not see: values from outside, texts, and that calls can succeed.
+mod renumbering;
