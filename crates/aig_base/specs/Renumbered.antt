@@ -1,5 +1,5 @@
 -- The renumbered circuit (profile; its form is what AIGER 1.0 asks of a binary file).
-use Rattle.std.specs.Prelude.{◌≡◌, ℕ, ◌+◌, ◌*◌, ◌<◌, ◌≤◌, List, length, map, find, All, nat_lt, ◌==◌, if◌then◌else◌}
+use Rattle.std.specs.Prelude.{◌≡◌, ℕ, ◌+◌, ◌*◌, ◌<◌, ◌≤◌, List, length, map, Option, find, All, nat_lt, ◌==◌, if◌then◌else◌}
 use Rattle.std.specs.List.{filter_map, range_with_len}
 use Rattle.aig_base.specs.declared.gate.Gate.{Gate}
 use Rattle.aig_base.specs.declared.latch.Latch.{Latch}
@@ -16,9 +16,13 @@ role_variable raw (roles.input p) = p + 1
 role_variable raw (roles.latch p) = length raw.inputs + p + 1
 role_variable raw (roles.gate q) = length raw.inputs + length raw.latches + q + 1
 
+-- the variable that stands for v
+unfoldable pub renumbered_variable : Raw → List ℕ → ℕ → ℕ
+renumbered_variable raw order v = role_variable raw (role raw order v)
+
 -- the literal that stands for l; negations are kept
 unfoldable pub renumbered_literal : Raw → List ℕ → ℕ → ℕ
-renumbered_literal raw order l = with_sign l (2 * role_variable raw (role raw order (variable l)))
+renumbered_literal raw order l = with_sign l (2 * renumbered_variable raw order (variable l))
 
 abbrev pub renumbered_latch : Raw → List ℕ → Latch → Latch
 renumbered_latch raw order x = record {
@@ -35,9 +39,13 @@ abbrev pub renumbered_gate : Raw → List ℕ → Gate → Gate
 renumbered_gate raw order g =
     ready_gate (renumbered_literal raw order g.lhs) (renumbered_literal raw order g.rhs0) (renumbered_literal raw order g.rhs1)
 
+-- the gate of a variable, if it is one of a gate
+abbrev pub gate_of : Raw → ℕ → Option Gate
+gate_of raw v = find (λ g. variable g.lhs == v) raw.gates
+
 -- the gates in the canonical order
 abbrev pub ordered_gates : Raw → List ℕ → List Gate
-ordered_gates raw order = filter_map (λ v. find (λ g. variable g.lhs == v) raw.gates) order
+ordered_gates raw order = filter_map (gate_of raw) order
 
 abbrev pub renumbered : Raw → List ℕ → Raw
 renumbered raw order = record {
@@ -54,9 +62,13 @@ renumbered raw order = record {
   comment = raw.comment;
 }
 
+-- the even literals of n variables from a variable on, in order
+abbrev pub evens_from : ℕ → ℕ → List ℕ
+evens_from v n = map (λ u. 2 * u) (range_with_len v n)
+
 -- 2, 4, .., 2n: the literals of the variables 1, 2, .., n
 abbrev pub evens : ℕ → List ℕ
-evens n = map (λ v. 2 * v) (range_with_len 1 n)
+evens n = evens_from 1 n
 
 -- what a binary file can hold (AIGER 1.0, binary format): inputs, latches and left sides are in order the variables
 -- 1, 2, .., M, and in each gate the left side is the greatest and the right sides do not rise

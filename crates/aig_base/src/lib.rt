@@ -24,10 +24,16 @@ mod literal;
 mod memory_bytes;
 mod order;
 mod raw;
+mod ready;
 mod renumbering;
+mod renumbering_laws;
+mod renumbering_parts;
+mod renumbering_table;
 mod std_bytes;
 mod symbols;
 mod ternary;
+#[cfg(test)]
+mod tests;
 mod write;
 
 pub use block::Block;
@@ -47,7 +53,9 @@ pub use literal::Lit;
 pub use memory_bytes::{MemReader, MemWriter};
 pub use order::canonical_order;
 pub use raw::{LIMIT, Raw};
+pub use ready::is_binary_ready;
 pub use renumbering::renumber;
+pub use renumbering_laws::law_of_renumbering;
 pub use std_bytes::Std;
 pub use symbols::{Kind, Symbols};
 pub use ternary::Tern;

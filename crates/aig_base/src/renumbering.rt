@@ -1,19 +1,73 @@
 //! Renumbering.
 ghost use Rattle.std.specs.Prelude.{◌≡◌, ℕ, List, IfOk};
+ghost use Rattle.aig_base.specs.Circuit.{IsCircuit};
 ghost use Rattle.aig_base.specs.Order.{IsCanonicalOrder};
 ghost use Rattle.aig_base.specs.Renumbered.{renumbered, IsBinaryReady};
+ghost use Rattle.aig_base.specs.RenumberingTable.{renumbered_by, AreListed};
 
 use crate::circuit::Circuit;
-use crate::fault::Memory;
+use crate::fault::{Fault, Memory};
+use crate::level::Levels;
+use crate::order::canonical_order;
+use crate::raw::Raw;
+use crate::renumbering_parts::{
+    copied_comment, copied_symbols, new_gates, new_justice, new_latches, new_literals,
+};
+use crate::renumbering_table::renumbering_table;
 use std::alloc::Global;
+
+fn renumbered_parts(
+    alloc: Global,
+    circuit: &Circuit,
+    order: &[u32],
+    table: &[u32],
+) -> Result<Raw, Memory>
+    requires { AreListed circuit.now table.now }
+    ensures { IfOk result (λ new. new ≡ renumbered_by circuit.now order.now table.now) }
+{
+    let _max_var = circuit.max_var();
+    let defined = circuit.inputs().len() + circuit.latches().len() + circuit.gates().len();
+    Ok(Raw {
+        max_var: defined as u32,
+        inputs: new_literals(alloc, table, circuit.inputs())?,
+        latches: new_latches(alloc, table, circuit.latches())?,
+        outputs: new_literals(alloc, table, circuit.outputs())?,
+        bad: new_literals(alloc, table, circuit.bad())?,
+        constraints: new_literals(alloc, table, circuit.constraints())?,
+        justice: new_justice(alloc, table, circuit.justice())?,
+        fairness: new_literals(alloc, table, circuit.fairness())?,
+        gates: new_gates(alloc, table, circuit, order)?,
+        symbols: copied_symbols(alloc, circuit.symbols())?,
+        comment: copied_comment(alloc, circuit)?,
+    })
+}
+
+// The circuit of parts that are known to be one: no other fault than a want of memory is left.
+fn check_circuit(alloc: Global, parts: Raw) -> Result<Circuit, Memory>
+    requires { IsCircuit parts }
+    ensures { IfOk result (λ circuit. circuit ≡ parts) }
+{
+    match Circuit::check(alloc, parts) {
+        Ok(circuit) => Ok(circuit),
+        Err(fault) => {
+            prove!(matches!(fault, Fault::Memory));
+            Err(Memory)
+        }
+    }
+}
 
 /// The circuit with the variables 1, 2, .. in order: inputs, latches, gates in the canonical order, each gate with its
 /// greater right side first. Negations, resets, symbols and comment stay; unused variables go. A binary file can hold
 /// it. Linear in the circuit.
-pub fn renumber(_alloc: Global, _circuit: &Circuit) -> Result<Circuit, Memory>
+pub fn renumber(alloc: Global, circuit: &Circuit) -> Result<Circuit, Memory>
     ensures parts { IfOk result (λ new.
-        (order : List ℕ) × IsCanonicalOrder _circuit.now order × (new ≡ renumbered _circuit.now order)) }
+        (order : List ℕ) × IsCanonicalOrder circuit.now order × (new ≡ renumbered circuit.now order)) }
     ensures ready { IfOk result IsBinaryReady }
 {
-    Err(Memory)
+    let _max_var = circuit.max_var();
+    let levels = Levels::of(alloc, circuit)?;
+    let order = canonical_order(alloc, circuit, &levels)?;
+    let table = renumbering_table(alloc, circuit, &order)?;
+    let parts = renumbered_parts(alloc, circuit, &order, &table)?;
+    check_circuit(alloc, parts)
 }

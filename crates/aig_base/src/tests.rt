@@ -1,5 +1,6 @@
 // What proofs do not see: values from outside, texts, and that calls can succeed.
 mod fakes;
+mod renumbering;
 
 use crate::{
     Bytes, Failed, Fault, Io, Kind, LIMIT, List, Lit, MemReader, MemWriter, Memory, Raw, Read, Std,

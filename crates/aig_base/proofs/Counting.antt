@@ -1,0 +1,97 @@
+-- How many entries lists without repetition have.
+use Rattle.std.proofs.Common.{◌≡◌, ℕ, ◌+◌, ◌-◌, ◌<◌, ◌≤◌, List, ◌++◌, length, map, get_or, eqb, false, Some, slice_get, Contains, refl, sym, ap, ◌∙◌, arith, subst, length-append}
+use Rattle.std.specs.List.{IsDistinct, range_with_len}
+use Rattle.std.proofs.lemmas.Bool.Decides.{Decides-eqb, nat_tests}
+use Rattle.std.proofs.lemmas.Map.Made.{is_member-Decides, length-le_from_is_member}
+use Rattle.std.proofs.lemmas.Map.Keys.{IsDistinct-from_apart}
+use Rattle.std.proofs.lemmas.List.{length-map}
+use Rattle.std.proofs.lemmas.List.Elements.{All-contains}
+use Rattle.std.proofs.lemmas.List.FromFn.{length-range_with_len, get_or-range_with_len}
+use Rattle.std.proofs.lemmas.Option.{slice_get-get_or, slice_get-map, slice_get_within, get_or_from_slice_get}
+use Rattle.aig_base.specs.declared.gate.Gate.{Gate}
+use Rattle.aig_base.specs.declared.raw.Raw.{Raw}
+use Rattle.aig_base.specs.Literal.{variable}
+use Rattle.aig_base.specs.Grounded.{Level}
+use Rattle.aig_base.specs.Order.{IsCanonicalOrder}
+use Rattle.aig_base.specs.Sections.{definitions, uses}
+use Rattle.aig_base.specs.Sound.{IsSound, IsInRange, IsDefinition, StandsTwice}
+use Rattle.aig_base.proofs.Joined.{All-left}
+use Rattle.aig_base.proofs.OneLevel.{same_level}
+use Rattle.aig_base.proofs.Places.{gate}
+use Rattle.aig_base.proofs.Positions.{unmap, Contains-from_slice_get}
+use Rattle.aig_base.proofs.Roles.{unmap_some, one_place}
+use Rattle.aig_base.proofs.SymbolKeys.{equivalence_from_same}
+
+eqb-false : (a b : ℕ) → (a ≡ b → ⊥) → eqb a b ≡ false
+eqb-false a b h = grind (arith, nat_tests)
+
+distinct : (xs : List ℕ) → ((x : ℕ) → StandsTwice xs x → ⊥) → IsDistinct eqb xs
+distinct xs never = IsDistinct-from_apart eqb xs (λ i j d lt below.
+    eqb-false (get_or xs i d) (get_or xs j d) (λ e.
+    never (get_or xs j d) (i, j, lt, slice_get-get_or xs i d (omega arith) ∙ ap Some e, slice_get-get_or xs j d below)))
+
+-- a list without repetition is no longer than one that has its elements
+pub length_le : (xs ys : List ℕ) → ((x : ℕ) → StandsTwice xs x → ⊥) → ((x : ℕ) → Contains xs x → Contains ys x) → length xs ≤ length ys
+length_le xs ys never inside =
+    length-le_from_is_member (equivalence_from_same Decides-eqb) xs ys (distinct xs never)
+    (λ q m. (is_member-Decides Decides-eqb ys q).1 (inside q ((is_member-Decides Decides-eqb xs q).0 m)))
+
+-- no variable stands twice in a canonical order
+pub order_once : (raw : Raw) → IsSound raw → (order : List ℕ) → IsCanonicalOrder raw order → (v : ℕ) → StandsTwice order v → ⊥
+order_once raw sound order canonical v (i, j, lt, at, here) =
+    let (m, n, lu, lv, before) = canonical.ordered i j v lt (slice_get_within order j v here) in
+    let e : get_or order i v ≡ v = get_or_from_slice_get order i v v at in
+    let f : get_or order j v ≡ v = get_or_from_slice_get order j v v here in
+    let same : m ≡ n = same_level sound (subst (λ u. Level raw u m) e lu) (subst (λ u. Level raw u n) f lv) in
+    omega arith
+
+-- two gates have two variables
+pub gates_once : (raw : Raw) → IsSound raw → (v : ℕ) → StandsTwice (map (λ g. variable g.lhs) raw.gates) v → ⊥
+gates_once raw sound v (i, j, lt, at, here) =
+    let lhs : Gate → ℕ = λ g. variable g.lhs in
+    let (g, is, e) = unmap_some lhs (slice_get raw.gates i) v (sym (slice_get-map lhs raw.gates i) ∙ at) in
+    let (h, stands, f) = unmap_some lhs (slice_get raw.gates j) v (sym (slice_get-map lhs raw.gates j) ∙ here) in
+    let same : gate i ≡ gate j = one_place raw sound (gate i) (gate j) g.lhs h.lhs tt tt (g, is, refl) (h, stands, refl) (e ∙ sym f) in
+    let k : i ≡ j = cc in
+    omega arith
+
+-- a canonical order has an entry for each gate
+pub length-order : (raw : Raw) → IsSound raw → (order : List ℕ) → IsCanonicalOrder raw order → length order ≡ length raw.gates
+length-order raw sound order canonical =
+    let vs : List ℕ = map (λ g. variable g.lhs) raw.gates in
+    let a = length_le order vs (order_once raw sound order canonical) (λ v. (canonical.gates v).0) in
+    let b = length_le vs order (gates_once raw sound) (λ v. (canonical.gates v).1) in
+    let e = length-map raw.gates (λ g. variable g.lhs) in
+    omega arith
+
+-- a circuit defines no more variables than there are
+pub sections_fit : (raw : Raw) → IsSound raw → length raw.inputs + length raw.latches + length raw.gates ≤ raw.max_var
+sections_fit raw sound =
+    let a = length_le (map variable (definitions raw)) (range_with_len 1 raw.max_var) sound.once inside in
+    let xs = raw.inputs in
+    let ys : List ℕ = map (λ x. x.lit) raw.latches in
+    omega (
+      arith,
+      length-range_with_len 1 raw.max_var,
+      length-map (definitions raw) variable,
+      length-append (xs ++ ys) (map (λ g. g.lhs) raw.gates),
+      length-append xs ys,
+      length-map raw.latches (λ x. x.lit),
+      length-map raw.gates (λ g. g.lhs),
+    )
+  where
+    bounds : (l : ℕ) → IsDefinition l → IsInRange raw l → (0 < variable l) × (variable l ≤ raw.max_var)
+    bounds l d r = (omega arith, omega arith)
+
+    within : (v : ℕ) → (0 < v) × (v ≤ raw.max_var) → Contains (range_with_len 1 raw.max_var) v
+    within v (over, le) =
+        let lt : v - 1 < raw.max_var = omega arith in
+        (v - 1, omega (arith, length-range_with_len 1 raw.max_var), get_or-range_with_len 1 raw.max_var (v - 1) v lt ∙ omega arith)
+
+    inside : (v : ℕ) → Contains (map variable (definitions raw)) v → Contains (range_with_len 1 raw.max_var) v
+    inside v h =
+        let (l, i, at, is) = unmap variable (definitions raw) v h in
+        let c = Contains-from_slice_get (definitions raw) i l at in
+        let d = All-contains IsDefinition (definitions raw) l sound.definitions c in
+        let r = All-contains (IsInRange raw) (definitions raw) l (All-left (IsInRange raw) (definitions raw) (uses raw) sound.in_range) c in
+        within v (subst (λ u. (0 < u) × (u ≤ raw.max_var)) is (bounds l d r))

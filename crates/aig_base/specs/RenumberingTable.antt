@@ -1,0 +1,62 @@
+-- The table by which a circuit is renumbered: for each variable the one that stands for it.
+use Rattle.std.specs.Prelude.{◌≡◌, ℕ, ◌+◌, ◌*◌, ◌<◌, ◌≤◌, List, length, map, slice_index, All}
+use Rattle.aig_base.specs.declared.gate.Gate.{Gate}
+use Rattle.aig_base.specs.declared.latch.Latch.{Latch}
+use Rattle.aig_base.specs.declared.raw.Raw.{Raw}
+use Rattle.aig_base.specs.Formed.{limit}
+use Rattle.aig_base.specs.Literal.{variable, with_sign}
+use Rattle.aig_base.specs.Renumbered.{ready_gate, renumbered_variable, ordered_gates}
+
+-- the table has the variable that stands for each
+pub record IsRenumbering (raw : Raw) (order : List ℕ) (table : List ℕ) : Type 0 where
+  pub size : length table ≡ raw.max_var + 1
+  pub each : (v : ℕ) → v < length table → slice_index table v ≡ renumbered_variable raw order v
+
+-- the table has an entry for the literal
+abbrev pub IsListed : List ℕ → ℕ → Type 0
+IsListed table l = variable l < length table
+
+-- the literal that stands for l; negations are kept
+unfoldable pub literal_by : List ℕ → ℕ → ℕ
+literal_by table l = with_sign l (2 * slice_index table (variable l))
+
+abbrev pub IsLatchListed : List ℕ → Latch → Type 0
+IsLatchListed table x = IsListed table x.lit × IsListed table x.next × IsListed table x.reset
+
+abbrev pub latch_by : List ℕ → Latch → Latch
+latch_by table x = record { lit = literal_by table x.lit; next = literal_by table x.next; reset = literal_by table x.reset }
+
+abbrev pub IsGateListed : List ℕ → Gate → Type 0
+IsGateListed table g = IsListed table g.lhs × IsListed table g.rhs0 × IsListed table g.rhs1
+
+-- with the greater right side first
+abbrev pub gate_by : List ℕ → Gate → Gate
+gate_by table g = ready_gate (literal_by table g.lhs) (literal_by table g.rhs0) (literal_by table g.rhs1)
+
+-- the table has an entry for each literal of the circuit, and each entry is within the limit
+pub record AreListed (raw : Raw) (table : List ℕ) : Type 0 where
+  pub entries : All (λ v. v ≤ limit) table
+  pub inputs : All (IsListed table) raw.inputs
+  pub latches : All (IsLatchListed table) raw.latches
+  pub outputs : All (IsListed table) raw.outputs
+  pub bad : All (IsListed table) raw.bad
+  pub constraints : All (IsListed table) raw.constraints
+  pub justice : All (All (IsListed table)) raw.justice
+  pub fairness : All (IsListed table) raw.fairness
+  pub gates : All (IsGateListed table) raw.gates
+
+-- the renumbered circuit, by the table
+abbrev pub renumbered_by : Raw → List ℕ → List ℕ → Raw
+renumbered_by raw order table = record {
+  max_var = length raw.inputs + length raw.latches + length raw.gates;
+  inputs = map (literal_by table) raw.inputs;
+  latches = map (latch_by table) raw.latches;
+  outputs = map (literal_by table) raw.outputs;
+  bad = map (literal_by table) raw.bad;
+  constraints = map (literal_by table) raw.constraints;
+  justice = map (map (literal_by table)) raw.justice;
+  fairness = map (literal_by table) raw.fairness;
+  gates = map (gate_by table) (ordered_gates raw order);
+  symbols = raw.symbols;
+  comment = raw.comment;
+}

@@ -1,0 +1,165 @@
+//! The parts of a circuit by a table of variables.
+ghost use Rattle.std.specs.Prelude.{◌≡◌, ◌≤◌, length, map, All, IfOk};
+ghost use Rattle.aig_base.specs.Formed.{limit};
+ghost use Rattle.aig_base.specs.Renumbered.{gate_of, ordered_gates};
+ghost use Rattle.aig_base.specs.RenumberingTable.{literal_by, latch_by, gate_by, IsListed, IsLatchListed, IsGateListed};
+
+use crate::circuit::Circuit;
+use crate::definition::Definition;
+use crate::fault::Memory;
+use crate::gate::Gate;
+use crate::latch::Latch;
+use crate::list::{Bytes, List};
+use crate::literal::Lit;
+use crate::symbols::Symbols;
+use std::alloc::Global;
+
+fn new_literal(table: &[u32], literal: Lit) -> Lit
+    requires entries { All (λ v. v ≤ limit) table.now }
+    requires listed { IsListed table.now literal }
+    ensures { result ≡ literal_by table.now literal }
+{
+    let positive = Lit::new(2 * table[literal.var() as usize]);
+    if literal.is_neg() {
+        positive.not()
+    } else {
+        positive
+    }
+}
+
+/// The literals that stand for these.
+pub(crate) fn new_literals(
+    alloc: Global,
+    table: &[u32],
+    literals: &[Lit],
+) -> Result<List<Lit>, Memory>
+    requires entries { All (λ v. v ≤ limit) table.now }
+    requires listed { All (IsListed table.now) literals.now }
+    ensures { IfOk result (λ new. new ≡ map (literal_by table.now) literals.now) }
+{
+    let mut new = List::new(alloc);
+    for literal in literals {
+        new.push(new_literal(table, *literal))?;
+    }
+    Ok(new)
+}
+
+/// The lists of the literals that stand for these.
+pub(crate) fn new_justice(
+    alloc: Global,
+    table: &[u32],
+    justice: &[List<Lit>],
+) -> Result<List<List<Lit>>, Memory>
+    requires entries { All (λ v. v ≤ limit) table.now }
+    requires listed { All (All (IsListed table.now)) justice.now }
+    ensures { IfOk result (λ new. new ≡ map (map (literal_by table.now)) justice.now) }
+{
+    let mut new = List::new(alloc);
+    for literals in justice {
+        new.push(new_literals(alloc, table, literals.as_slice())?)?;
+    }
+    Ok(new)
+}
+
+/// The latches with the literals that stand for theirs.
+pub(crate) fn new_latches(
+    alloc: Global,
+    table: &[u32],
+    latches: &[Latch],
+) -> Result<List<Latch>, Memory>
+    requires entries { All (λ v. v ≤ limit) table.now }
+    requires listed { All (IsLatchListed table.now) latches.now }
+    ensures { IfOk result (λ new. new ≡ map (latch_by table.now) latches.now) }
+{
+    let mut new = List::new(alloc);
+    for latch in latches {
+        new.push(Latch {
+            lit: new_literal(table, latch.lit),
+            next: new_literal(table, latch.next),
+            reset: new_literal(table, latch.reset),
+        })?;
+    }
+    Ok(new)
+}
+
+fn new_gate(table: &[u32], gate: Gate) -> Gate
+    requires entries { All (λ v. v ≤ limit) table.now }
+    requires listed { IsGateListed table.now gate }
+    ensures { result ≡ gate_by table.now gate }
+{
+    let lhs = new_literal(table, gate.lhs);
+    let left = new_literal(table, gate.rhs0);
+    let right = new_literal(table, gate.rhs1);
+    if left.value() < right.value() {
+        Gate {
+            lhs,
+            rhs0: right,
+            rhs1: left,
+        }
+    } else {
+        Gate {
+            lhs,
+            rhs0: left,
+            rhs1: right,
+        }
+    }
+}
+
+fn gate_of(circuit: &Circuit, variable: u32) -> Option<Gate>
+    ensures { result ≡ gate_of circuit.now variable }
+{
+    let _max_var = circuit.max_var();
+    match circuit.definition(variable) {
+        Some(Definition::Input(_)) => None,
+        Some(Definition::Latch(_)) => None,
+        Some(Definition::Gate(position)) => Some(circuit.gates()[position as usize]),
+        None => None,
+    }
+}
+
+/// The gates in the order, with the literals that stand for theirs, and the greater right side first.
+pub(crate) fn new_gates(
+    alloc: Global,
+    table: &[u32],
+    circuit: &Circuit,
+    order: &[u32],
+) -> Result<List<Gate>, Memory>
+    requires entries { All (λ v. v ≤ limit) table.now }
+    requires listed { All (IsGateListed table.now) circuit.now.gates }
+    ensures { IfOk result (λ new. new ≡ map (gate_by table.now) (ordered_gates circuit.now order.now)) }
+{
+    let mut new = List::new(alloc);
+    for variable in order {
+        if let Some(gate) = gate_of(circuit, *variable) {
+            new.push(new_gate(table, gate))?;
+        }
+    }
+    Ok(new)
+}
+
+fn copied_name(name: &Bytes) -> Result<Bytes, Memory>
+    ensures { IfOk result (λ new. new ≡ name.now) }
+{
+    Ok(name.clone()?)
+}
+
+/// The symbols once more.
+pub(crate) fn copied_symbols(alloc: Global, symbols: &Symbols) -> Result<Symbols, Memory>
+    ensures { IfOk result (λ new. new ≡ symbols.now) }
+{
+    let mut new = Symbols::new(alloc);
+    for (key, name) in symbols.iter() {
+        new.insert(key.0, key.1, copied_name(name)?)?;
+    }
+    Ok(new)
+}
+
+/// The comment of the circuit once more.
+pub(crate) fn copied_comment(alloc: Global, circuit: &Circuit) -> Result<Option<Bytes>, Memory>
+    ensures { IfOk result (λ new. new ≡ circuit.now.comment) }
+{
+    match circuit.comment() {
+        Some(bytes) => Ok(Some(List::from_vec(Vec::from_slice(alloc, bytes)?))),
+        None => Ok(None),
+    }
+}
