@@ -10,7 +10,6 @@ mod count;
 mod cycle;
 mod definition;
 mod entries;
-mod failures;
 mod fault;
 mod gate;
 mod grounded;
