@@ -1,4 +1,11 @@
+pub mod Chains
+pub mod Defined
+pub mod Gates
+pub mod Heights
 pub mod Joined
-pub mod Tables
+pub mod OneLevel
+pub mod Places
+pub mod Positions
 pub mod SymbolKeys
+pub mod Tables
 pub mod WriteLemmas

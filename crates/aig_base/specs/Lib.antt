@@ -1,4 +1,5 @@
 pub mod Literal
+pub mod Chains
 pub mod Ternary
 pub mod Formed
 pub mod Sections

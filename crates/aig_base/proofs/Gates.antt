@@ -1,0 +1,105 @@
+-- Gates against what else is defined, and against each other.
+use Rattle.std.proofs.Common.{◌≡◌, ℕ, ◌+◌, ◌++◌, ◌*◌, ◌≤◌, ◌<◌, List, length, map, Option, Some, slice_get, Contains, refl, sym, ◌∙◌, ap, subst, arith, option_map}
+use Rattle.std.proofs.lemmas.Option.{slice_get-map, same_Some}
+use Rattle.std.proofs.lemmas.List.Elements.{All-contains, Contains-append_right}
+use Rattle.aig_base.specs.declared.gate.Gate.{Gate}
+use Rattle.aig_base.specs.declared.latch.Latch.{Latch}
+use Rattle.aig_base.specs.declared.raw.Raw.{Raw}
+use Rattle.aig_base.specs.declared.definition.Definition.{Definition}
+use Rattle.aig_base.specs.declared.definition.Definition.TheVariants as definition
+use Rattle.aig_base.specs.Definition.{Defines, IsFree}
+use Rattle.aig_base.specs.Literal.{variable}
+use Rattle.aig_base.specs.Sections.{definitions, uses, IsGate}
+use Rattle.aig_base.specs.Grounded.{IsSource, Grounded, IsAcyclic, Level}
+use Rattle.aig_base.specs.Grounded as by
+use Rattle.aig_base.specs.Levels.{AreLevels}
+use Rattle.aig_base.specs.Sound.{IsSound, IsDefinition, IsInRange}
+use Rattle.aig_base.proofs.Joined.{All-left}
+use Rattle.aig_base.proofs.OneLevel.{level_of}
+use Rattle.aig_base.proofs.Places.{Place, IsSection, input, latch, gate, At, same_place, IsDefinition-of_place}
+use Rattle.aig_base.proofs.Positions.{Contains-from_slice_get, position_of, unmap}
+
+-- literals with one variable that are both definitions are one
+same_literal : (l k : ℕ) → IsDefinition l → IsDefinition k → variable l ≡ variable k → l ≡ k
+same_literal l k p q e = omega arith
+
+-- a left side is even and positive
+pub IsDefinition-of_gate : (raw : Raw) → IsSound raw → (q : ℕ) (g : Gate) → slice_get raw.gates q ≡ Some g → IsDefinition g.lhs
+IsDefinition-of_gate raw s q g at = IsDefinition-of_place raw s (gate q) g.lhs tt (g, at, refl)
+
+-- no source is a gate
+pub source-gate : (raw : Raw) → IsSound raw → (v q : ℕ) (g : Gate) → slice_get raw.gates q ≡ Some g → IsSource raw v → v ≡ variable g.lhs → ⊥
+source-gate raw s v q g at by.IsSource.constant e = let d = IsDefinition-of_gate raw s q g at in omega arith
+source-gate raw s v q g at (by.IsSource.input p l here) e =
+    let d = IsDefinition-of_gate raw s q g at in
+    let f = IsDefinition-of_place raw s (input p) l tt here in
+    let same : g.lhs ≡ l = same_literal g.lhs l d f (sym e) in
+    let h = same_place raw s (input p) (gate q) l here (g, at, same) in cc
+source-gate raw s v q g at (by.IsSource.latch p x here) e =
+    let d = IsDefinition-of_gate raw s q g at in
+    let f = IsDefinition-of_place raw s (latch p) x.lit tt (x, here, refl) in
+    let same : g.lhs ≡ x.lit = same_literal g.lhs x.lit d f (sym e) in
+    let h = same_place raw s (latch p) (gate q) x.lit (x, here, refl) (g, at, same) in cc
+
+-- one gate has the variable
+pub same_gate : (raw : Raw) → IsSound raw → (q r : ℕ) (g h : Gate) → slice_get raw.gates q ≡ Some g → slice_get raw.gates r ≡ Some h
+    → variable g.lhs ≡ variable h.lhs → g ≡ h
+same_gate raw s q r g h at here e =
+    let same : h.lhs ≡ g.lhs = same_literal h.lhs g.lhs (IsDefinition-of_gate raw s r h here) (IsDefinition-of_gate raw s q g at) (sym e) in
+    let k = same_place raw s (gate q) (gate r) g.lhs (g, at, refl) (h, here, same) in
+    cc
+
+-- the gate of a gate variable
+pub gate_of : (raw : Raw) (v : ℕ) → IsGate raw v → (g : Gate) × (q : ℕ) × (slice_get raw.gates q ≡ Some g) × (variable g.lhs ≡ v)
+gate_of raw v h = unmap (λ (g : Gate). variable g.lhs) raw.gates v h
+
+-- the variable of a gate is a gate variable
+pub IsGate-of_gate : (raw : Raw) (q : ℕ) (g : Gate) → slice_get raw.gates q ≡ Some g → IsGate raw (variable g.lhs)
+IsGate-of_gate raw q g at =
+    Contains-from_slice_get (map (λ g. variable g.lhs) raw.gates) q (variable g.lhs)
+    (slice_get-map (λ (g : Gate). variable g.lhs) raw.gates q ∙ ap (option_map (λ (g : Gate). variable g.lhs)) at)
+
+pub gate_from_definition : (raw : Raw) (v q : ℕ) → Defines raw v (definition.Gate q) → IsGate raw v
+gate_from_definition raw v q (g, at, is) = subst (IsGate raw) is (IsGate-of_gate raw q g at)
+
+pub input_no_gate : (raw : Raw) → IsSound raw → (v p : ℕ) → Defines raw v (definition.Input p) → IsGate raw v → ⊥
+input_no_gate raw s v p (l, at, is) h =
+    let (g, q, here, same) = gate_of raw v h in source-gate raw s (variable l) q g here (by.IsSource.input p l at) (is ∙ sym same)
+
+pub latch_no_gate : (raw : Raw) → IsSound raw → (v p : ℕ) → Defines raw v (definition.Latch p) → IsGate raw v → ⊥
+latch_no_gate raw s v p (x, at, is) h =
+    let (g, q, here, same) = gate_of raw v h in source-gate raw s (variable x.lit) q g here (by.IsSource.latch p x at) (is ∙ sym same)
+
+-- a left side is among the definitions
+gate_among : (raw : Raw) (q : ℕ) (g : Gate) → slice_get raw.gates q ≡ Some g → Contains (definitions raw) g.lhs
+gate_among raw q g at =
+    Contains-append_right (raw.inputs ++ map (λ x. x.lit) raw.latches) (map (λ g. g.lhs) raw.gates) g.lhs
+    (Contains-from_slice_get (map (λ g. g.lhs) raw.gates) q g.lhs
+    (slice_get-map (λ (g : Gate). g.lhs) raw.gates q ∙ ap (option_map (λ (g : Gate). g.lhs)) at))
+
+-- a gate variable is not over the greatest
+pub gate_in_range : (raw : Raw) → IsSound raw → (v : ℕ) → IsGate raw v → v ≤ raw.max_var
+gate_in_range raw s v h =
+    let (g, q, at, is) = gate_of raw v h in
+    let r : IsInRange raw g.lhs = All-contains (IsInRange raw) (definitions raw) g.lhs (All-left (IsInRange raw) (definitions raw) (uses raw) s.in_range) (gate_among raw q g at) in
+    omega arith
+
+Contains-map : {A B : Type 0} (f : A → B) (xs : List A) (x : A) → Contains xs x → Contains (map f xs) (f x)
+Contains-map f xs x h =
+    let (i, at) = position_of xs x h in
+    Contains-from_slice_get (map f xs) i (f x) (slice_get-map f xs i ∙ ap (option_map f) at)
+
+pub free_no_gate : (raw : Raw) (v : ℕ) → IsFree raw v → IsGate raw v → ⊥
+free_no_gate raw v free h =
+    let (g, q, at, is) = gate_of raw v h in
+    free (subst (Contains (map variable (definitions raw))) is (Contains-map variable (definitions raw) g.lhs (gate_among raw q g at)))
+
+-- the level of a gate variable is what the list of levels has for it
+pub level_of_gate : (raw : Raw) (levels : List ℕ) (v n : ℕ) → AreLevels raw levels → IsAcyclic raw → IsGate raw v → slice_get levels v ≡ Some n → Level raw v n
+level_of_gate raw levels v n are acyclic h at =
+    let (m, level) = level_of (acyclic v h) in
+    let e : m ≡ n = same_Some m n (sym (are.each v m level) ∙ at) in
+    rw e at level
+
+pub level_at : (raw : Raw) (levels : List ℕ) (v m n : ℕ) → AreLevels raw levels → Level raw v m → slice_get levels v ≡ Some n → m ≡ n
+level_at raw levels v m n are level at = same_Some m n (sym (are.each v m level) ∙ at)
