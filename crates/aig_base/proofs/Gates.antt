@@ -1,6 +1,6 @@
 -- Gates against what else is defined, and against each other.
-use Rattle.std.proofs.Common.{◌≡◌, ℕ, ◌+◌, ◌++◌, ◌*◌, ◌≤◌, ◌<◌, List, length, map, Option, Some, slice_get, Contains, refl, sym, ◌∙◌, ap, subst, arith, option_map}
-use Rattle.std.proofs.lemmas.Option.{slice_get-map, same_Some}
+use Rattle.std.proofs.Common.{◌≡◌, inl, inr, ℕ, zero, suc, [], ◌∷◌, flat_map, All, ◌+◌, ◌++◌, ◌*◌, ◌≤◌, ◌<◌, List, length, map, Option, Some, slice_get, Contains, refl, sym, ◌∙◌, ap, subst, arith, option_map}
+use Rattle.std.proofs.lemmas.Option.{slice_get-map, same_Some, none-some}
 use Rattle.std.proofs.lemmas.List.Elements.{All-contains, Contains-append_right}
 use Rattle.aig_base.specs.declared.gate.Gate.{Gate}
 use Rattle.aig_base.specs.declared.latch.Latch.{Latch}
@@ -9,18 +9,18 @@ use Rattle.aig_base.specs.declared.definition.Definition.{Definition}
 use Rattle.aig_base.specs.declared.definition.Definition.TheVariants as definition
 use Rattle.aig_base.specs.Definition.{Defines, IsFree}
 use Rattle.aig_base.specs.Literal.{variable}
-use Rattle.aig_base.specs.Sections.{definitions, uses, IsGate}
+use Rattle.aig_base.specs.Sections.{definitions, uses, IsDefined, IsGate}
 use Rattle.aig_base.specs.Grounded.{IsSource, Grounded, IsAcyclic, Level}
 use Rattle.aig_base.specs.Grounded as by
 use Rattle.aig_base.specs.Levels.{AreLevels}
 use Rattle.aig_base.specs.Sound.{IsSound, IsDefinition, IsInRange}
-use Rattle.aig_base.proofs.Joined.{All-left}
+use Rattle.aig_base.proofs.Joined.{All-left, All-right}
 use Rattle.aig_base.proofs.OneLevel.{level_of}
 use Rattle.aig_base.proofs.Places.{Place, IsSection, input, latch, gate, At, same_place, IsDefinition-of_place}
-use Rattle.aig_base.proofs.Positions.{Contains-from_slice_get, position_of, unmap}
+use Rattle.aig_base.proofs.Positions.{Contains-cons, Contains-from_slice_get, position_of, unmap}
 
 -- literals with one variable that are both definitions are one
-same_literal : (l k : ℕ) → IsDefinition l → IsDefinition k → variable l ≡ variable k → l ≡ k
+pub same_literal : (l k : ℕ) → IsDefinition l → IsDefinition k → variable l ≡ variable k → l ≡ k
 same_literal l k p q e = omega arith
 
 -- a left side is even and positive
@@ -83,6 +83,36 @@ gate_in_range raw s v h =
     let (g, q, at, is) = gate_of raw v h in
     let r : IsInRange raw g.lhs = All-contains (IsInRange raw) (definitions raw) g.lhs (All-left (IsInRange raw) (definitions raw) (uses raw) s.in_range) (gate_among raw q g at) in
     omega arith
+
+-- a defined variable is not over the greatest
+pub defined_in_range : (raw : Raw) → IsSound raw → (v : ℕ) → IsDefined raw v → v ≤ raw.max_var
+defined_in_range raw s v h = elim (Contains-cons 0 (map variable (definitions raw)) v h) [
+  | inl e ↦ omega arith
+  | inr k ↦
+      (let (l, i, at, is) = unmap variable (definitions raw) v k in
+      let r : IsInRange raw l = All-contains (IsInRange raw) (definitions raw) l
+      (All-left (IsInRange raw) (definitions raw) (uses raw) s.in_range) (Contains-from_slice_get (definitions raw) i l at) in
+      omega arith)
+]
+
+All-flat_map : {A B : Type 0} (P : B → Type 0) (f : A → List B) (xs : List A) (i : ℕ) (x : A) → All P (flat_map f xs) → slice_get xs i ≡ Some x → All P (f x)
+All-flat_map P f [] i x h at = absurd (none-some x at)
+All-flat_map P f (y ∷ ys) zero x h at = subst (λ z. All P (f z)) (same_Some y x at) (All-left P (f y) (flat_map f ys) h)
+All-flat_map P f (y ∷ ys) (suc i) x h at = All-flat_map P f ys i x (All-right P (f y) (flat_map f ys) h) at
+
+-- nor are the variables of a gate's right sides
+pub sides_in_range : (raw : Raw) → IsSound raw → (q : ℕ) (g : Gate) → slice_get raw.gates q ≡ Some g
+    → (variable g.rhs0 ≤ raw.max_var) × (variable g.rhs1 ≤ raw.max_var)
+sides_in_range raw s q g at =
+    let used = All-right (IsInRange raw) (definitions raw) (uses raw) s.in_range in
+    let sides : All (IsInRange raw) (flat_map (λ (h : Gate). h.rhs0 ∷ h.rhs1 ∷ []) raw.gates) =
+    All-right (IsInRange raw)
+    (map (λ x. x.next) raw.latches ++ raw.outputs ++ raw.bad ++ raw.constraints ++ flat_map (λ p. p) raw.justice ++ raw.fairness)
+    (flat_map (λ (h : Gate). h.rhs0 ∷ h.rhs1 ∷ []) raw.gates) used in
+    let both : All (IsInRange raw) (g.rhs0 ∷ g.rhs1 ∷ []) = All-flat_map (IsInRange raw) (λ (h : Gate). h.rhs0 ∷ h.rhs1 ∷ []) raw.gates q g sides at in
+    let one : IsInRange raw g.rhs0 = both 0 0 (omega arith) in
+    let two : IsInRange raw g.rhs1 = both 1 0 (omega arith) in
+    (omega arith, omega arith)
 
 Contains-map : {A B : Type 0} (f : A → B) (xs : List A) (x : A) → Contains xs x → Contains (map f xs) (f x)
 Contains-map f xs x h =

@@ -8,4 +8,5 @@ pub mod Places
 pub mod Positions
 pub mod SymbolKeys
 pub mod Tables
+pub mod Walks
 pub mod WriteLemmas

@@ -17,3 +17,4 @@ pub mod Role
 pub mod Renumbered
 pub mod Bytes
 pub mod Filled
+pub mod Walk

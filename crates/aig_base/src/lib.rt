@@ -9,6 +9,7 @@ mod definition;
 mod failures;
 mod fault;
 mod gate;
+mod gate_of;
 mod latch;
 mod level;
 mod list;
