@@ -1,11 +1,11 @@
 -- Gates against what else is defined, and against each other.
-use Rattle.std.proofs.Common.{◌≡◌, inl, inr, ℕ, zero, suc, [], ◌∷◌, flat_map, All, ◌+◌, ◌++◌, ◌*◌, ◌≤◌, ◌<◌, List, length, map, Option, Some, slice_get, Contains, refl, sym, ◌∙◌, ap, subst, arith, option_map}
+use Rattle.std.proofs.Common.{◌≡◌, ◌↔◌, None, IfSome, IfNone, IsTrue, is_some, inl, inr, ℕ, zero, suc, [], ◌∷◌, flat_map, All, ◌++◌, ◌≤◌, List, map, Option, Some, slice_get, Contains, refl, sym, ◌∙◌, ap, subst, arith, option_map}
+use Rattle.std.proofs.lemmas.Bool.{false≢true}
 use Rattle.std.proofs.lemmas.Option.{slice_get-map, same_Some, none-some}
-use Rattle.std.proofs.lemmas.List.Elements.{All-contains, Contains-append_right}
+use Rattle.std.proofs.lemmas.List.Elements.{All-contains, Contains-append_left, Contains-append_right}
 use Rattle.aig_base.specs.declared.gate.Gate.{Gate}
 use Rattle.aig_base.specs.declared.latch.Latch.{Latch}
 use Rattle.aig_base.specs.declared.raw.Raw.{Raw}
-use Rattle.aig_base.specs.declared.definition.Definition.{Definition}
 use Rattle.aig_base.specs.declared.definition.Definition.TheVariants as definition
 use Rattle.aig_base.specs.Definition.{Defines, IsFree}
 use Rattle.aig_base.specs.Literal.{variable}
@@ -16,7 +16,7 @@ use Rattle.aig_base.specs.Levels.{AreLevels}
 use Rattle.aig_base.specs.Sound.{IsSound, IsDefinition, IsInRange}
 use Rattle.aig_base.proofs.Joined.{All-left, All-right}
 use Rattle.aig_base.proofs.OneLevel.{level_of}
-use Rattle.aig_base.proofs.Places.{Place, IsSection, input, latch, gate, At, same_place, IsDefinition-of_place}
+use Rattle.aig_base.proofs.Places.{input, latch, gate, same_place, IsDefinition-of_place}
 use Rattle.aig_base.proofs.Positions.{Contains-cons, Contains-from_slice_get, position_of, unmap}
 
 -- literals with one variable that are both definitions are one
@@ -77,6 +77,13 @@ gate_among raw q g at =
     (Contains-from_slice_get (map (λ g. g.lhs) raw.gates) q g.lhs
     (slice_get-map (λ (g : Gate). g.lhs) raw.gates q ∙ ap (option_map (λ (g : Gate). g.lhs)) at))
 
+-- a definition's variable is not over the greatest
+among_in_range : (raw : Raw) → IsSound raw → (l : ℕ) → Contains (definitions raw) l → variable l ≤ raw.max_var
+among_in_range raw s l h =
+    let r : IsInRange raw l =
+    All-contains (IsInRange raw) (definitions raw) l (All-left (IsInRange raw) (definitions raw) (uses raw) s.in_range) h in
+    omega arith
+
 -- a gate variable is not over the greatest
 pub gate_in_range : (raw : Raw) → IsSound raw → (v : ℕ) → IsGate raw v → v ≤ raw.max_var
 gate_in_range raw s v h =
@@ -133,3 +140,24 @@ level_of_gate raw levels v n are acyclic h at =
 
 pub level_at : (raw : Raw) (levels : List ℕ) (v m n : ℕ) → AreLevels raw levels → Level raw v m → slice_get levels v ≡ Some n → m ≡ n
 level_at raw levels v m n are level at = same_Some m n (sym (are.each v m level) ∙ at)
+
+-- a variable with a level is not over the greatest
+source_in_range : (raw : Raw) → IsSound raw → {v : ℕ} → IsSource raw v → v ≤ raw.max_var
+source_in_range raw s by.IsSource.constant = omega arith
+source_in_range raw s (by.IsSource.input p l at) = among_in_range raw s l
+    (Contains-append_left (raw.inputs ++ map (λ x. x.lit) raw.latches) (map (λ g. g.lhs) raw.gates) l
+    (Contains-append_left raw.inputs (map (λ x. x.lit) raw.latches) l (Contains-from_slice_get raw.inputs p l at)))
+source_in_range raw s (by.IsSource.latch p x at) = among_in_range raw s x.lit
+    (Contains-append_left (raw.inputs ++ map (λ x. x.lit) raw.latches) (map (λ g. g.lhs) raw.gates) x.lit
+    (Contains-append_right raw.inputs (map (λ x. x.lit) raw.latches) x.lit
+    (Contains-map (λ (y : Latch). y.lit) raw.latches x (Contains-from_slice_get raw.latches p x at))))
+
+pub level_in_range : (raw : Raw) → IsSound raw → {v n : ℕ} → Level raw v n → v ≤ raw.max_var
+level_in_range raw s (by.Level.source v h) = source_in_range raw s h
+level_in_range raw s (by.Level.gate q g a b at l0 l1) = gate_in_range raw s (variable g.lhs) (IsGate-of_gate raw q g at)
+
+-- a gate was found, or none
+pub found_decides : (raw : Raw) (v : ℕ) (o : Option Gate) → IfSome o (λ g. (q : ℕ) × (slice_get raw.gates q ≡ Some g) × (variable g.lhs ≡ v))
+    → IfNone o (IsGate raw v → ⊥) → IsTrue (is_some o) ↔ IsGate raw v
+found_decides raw v None some none = (λ h. absurd (false≢true h), λ h. absurd (none h))
+found_decides raw v (Some g) (q, at, e) none = (λ h. subst (IsGate raw) e (IsGate-of_gate raw q g at), λ h. refl)

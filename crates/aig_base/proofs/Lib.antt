@@ -1,5 +1,6 @@
 pub mod Chains
 pub mod Defined
+pub mod Descents
 pub mod Gates
 pub mod Heights
 pub mod Joined

@@ -1,12 +1,11 @@
 -- The walk back over right sides, and what it says of a change of a gate.
-use Rattle.std.proofs.Common.{◌≡◌, ◌≢◌, ◌⊎◌, inl, inr, ℕ, zero, suc, ◌+◌, ◌<◌, ◌≤◌, List, [], ◌∷◌, ◌++◌, length, map, get_or, set, Bool, true, false, not, cond, if◌then◌else◌, nat_eq, slice_get, Option, Some, None, option_map, Contains, count_by, refl, sym, ◌∙◌, ap, subst, arith, get_or-set_other, get_or-set_same, length-set, replicate}
+use Rattle.std.proofs.Common.{◌≡◌, ◌≢◌, ◌⊎◌, inl, inr, ℕ, zero, suc, ◌+◌, ◌<◌, List, [], ◌∷◌, ◌++◌, length, map, get_or, set, Bool, true, false, not, cond, slice_get, Option, Some, None, option_map, Contains, count_by, refl, sym, ◌∙◌, ap, subst, arith, get_or-set_other, get_or-set_same, length-set, replicate}
 use Rattle.std.proofs.lemmas.Bool.{cases_eq, cases_Bool, eq-eqb, ne_eqb, false≢true}
 use Rattle.std.proofs.lemmas.List.{set-get_or, length_push, length-replicate, get_or-replicate}
 use Rattle.std.proofs.lemmas.List.Elements.{Contains-append_left, Contains-push, Contains-push_cases}
 use Rattle.std.proofs.lemmas.List.Sums.{sum_by-set}
 use Rattle.std.proofs.lemmas.Option.{slice_get-map}
 use Rattle.aig_base.specs.declared.gate.Gate.{Gate}
-use Rattle.aig_base.specs.declared.latch.Latch.{Latch}
 use Rattle.aig_base.specs.declared.raw.Raw.{Raw}
 use Rattle.aig_base.specs.Changes.{rewired, with_gate}
 use Rattle.aig_base.specs.Circuit.{IsCircuit}
@@ -152,7 +151,7 @@ pub record IsWalk (raw : Raw) (t a b : ℕ) (pending owed : List ℕ) (met : Lis
   pub owed_met : (v : ℕ) → Contains owed v → get_or met v false ≡ true
   pub each : (v : ℕ) → get_or met v false ≡ true → Contains pending v ⊎ (Contains owed v ⊎ IsClosed raw t met v)
 
-no_element : (v : ℕ) → Contains {X = ℕ} [] v → ⊥
+pub no_element : (v : ℕ) → Contains {X = ℕ} [] v → ⊥
 no_element v (k, lt, is) = absurd (omega arith)
 
 only_element : (u v : ℕ) → Contains (u ∷ []) v → u ≡ v
@@ -160,19 +159,19 @@ only_element u v (zero, lt, is) = is
 only_element u v (suc k, lt, is) = absurd (omega arith)
 
 -- a mark more
-stays_met : (met : List Bool) (x v : ℕ) → x < length met → get_or met v false ≡ true → get_or (set met x true) v false ≡ true
+pub stays_met : (met : List Bool) (x v : ℕ) → x < length met → get_or met v false ≡ true → get_or (set met x true) v false ≡ true
 stays_met met x v lt h = elim (cases_eq v x) [
   | inl e ↦ rw e (get_or-set_same met x true false lt)
   | inr ne ↦ get_or-set_other met x v true false ne ∙ h
 ]
 
-was_met : (met : List Bool) (x v : ℕ) → get_or (set met x true) v false ≡ true → (v ≡ x) ⊎ (get_or met v false ≡ true)
+pub was_met : (met : List Bool) (x v : ℕ) → get_or (set met x true) v false ≡ true → (v ≡ x) ⊎ (get_or met v false ≡ true)
 was_met met x v h = elim (cases_eq v x) [
   | inl e ↦ inl e
   | inr ne ↦ inr (sym (get_or-set_other met x v true false ne) ∙ h)
 ]
 
-met_within : (met : List Bool) (x : ℕ) → get_or met x false ≡ true → x < length met
+pub met_within : (met : List Bool) (x : ℕ) → get_or met x false ≡ true → x < length met
 met_within [] x h = absurd (false≢true h)
 met_within (b ∷ met) zero h = omega arith
 met_within (b ∷ met) (suc x) h = let w = met_within met x h in omega arith
@@ -326,10 +325,10 @@ pub record IsSearch (raw : Raw) (lhs r0 r1 : ℕ) (pending : List ℕ) (met : Li
   pub second : get_or met (variable r1) false ≡ true
 
 -- a meeting marks the variable
-meets_mark : (x : ℕ) (pending pending' : List ℕ) (met met' : List Bool) → x < length met → Meets x met met' pending pending' → get_or met' x false ≡ true
+pub meets_mark : (x : ℕ) (pending pending' : List ℕ) (met met' : List Bool) → x < length met → Meets x met met' pending pending' → get_or met' x false ≡ true
 meets_mark x pending pending' met met' lt m = ap (λ bs. get_or bs x false) m.marked ∙ get_or-set_same met x true false lt
 
-meets_keep : (x v : ℕ) (pending pending' : List ℕ) (met met' : List Bool) → x < length met → Meets x met met' pending pending'
+pub meets_keep : (x v : ℕ) (pending pending' : List ℕ) (met met' : List Bool) → x < length met → Meets x met met' pending pending'
     → get_or met v false ≡ true → get_or met' v false ≡ true
 meets_keep x v pending pending' met met' lt m h = ap (λ bs. get_or bs v false) m.marked ∙ stays_met met x v lt h
 

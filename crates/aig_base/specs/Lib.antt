@@ -18,3 +18,4 @@ pub mod Renumbered
 pub mod Bytes
 pub mod Filled
 pub mod Walk
+pub mod Descent

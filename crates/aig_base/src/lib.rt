@@ -21,6 +21,7 @@ mod renumbering;
 mod std_bytes;
 mod symbols;
 mod ternary;
+mod walk;
 mod write;
 
 pub use bytes::{Failed, Read, Write};
