@@ -1,5 +1,5 @@
 -- What is defined is a source or a gate.
-use Rattle.std.proofs.Common.{◌≡◌, ◌⊎◌, inl, inr, ℕ, ◌*◌, ◌++◌, map, Some, slice_get, Contains, ◌∙◌, ap, subst, arith, option_map}
+use Rattle.std.proofs.Common.{◌≡◌, ◌⊎◌, inl, inr, ℕ, List, ◌*◌, ◌++◌, map, Some, slice_get, Contains, ◌∙◌, ap, subst, arith, option_map}
 use Rattle.std.proofs.lemmas.Option.{slice_get-map}
 use Rattle.std.proofs.lemmas.List.Elements.{Contains-append_cases}
 use Rattle.aig_base.specs.declared.gate.Gate.{Gate}
@@ -21,7 +21,9 @@ defined_cases raw v h =
     ]
   where
     from_latch : (l : ℕ) → Contains (map (λ x. x.lit) raw.latches) l → IsSource raw (variable l)
-    from_latch l k = let (x, p, at, is) = unmap (λ (x : Latch). x.lit) raw.latches l k in subst (λ u. IsSource raw (variable u)) is (grounded.latch p x at)
+    from_latch l k =
+        let (x, p, at, is) = unmap (λ (x : Latch). x.lit) raw.latches l k in
+        subst (λ u. IsSource raw (variable u)) is (grounded.latch p x at)
 
     from_input : (l : ℕ) → Contains raw.inputs l → IsSource raw (variable l)
     from_input l k = let (p, at) = position_of raw.inputs l k in grounded.input p l at
@@ -30,16 +32,23 @@ defined_cases raw v h =
     from_gate l k =
         let (g, q, at, is) = unmap (λ (g : Gate). g.lhs) raw.gates l k in
         Contains-from_slice_get (map (λ g. variable g.lhs) raw.gates) q (variable l)
-        (slice_get-map (λ g. variable g.lhs) raw.gates q ∙ ap (option_map (λ g. variable g.lhs)) at ∙ ap (λ u. Some (variable u)) is)
+        (slice_get-map (λ g. variable g.lhs) raw.gates q ∙ ap (option_map (λ g. variable g.lhs)) at
+        ∙ ap (λ u. Some (variable u)) is)
+
+    latches : List ℕ
+    latches = map (λ x. x.lit) raw.latches
 
     in_sections : (l : ℕ) → Contains (definitions raw) l → IsSource raw (variable l) ⊎ IsGate raw (variable l)
-    in_sections l k = elim (Contains-append_cases (raw.inputs ++ map (λ x. x.lit) raw.latches) (map (λ g. g.lhs) raw.gates) l k) [
-      | inl k ↦ inl (elim (Contains-append_cases raw.inputs (map (λ x. x.lit) raw.latches) l k) [ inl k ↦ from_input l k | inr k ↦ from_latch l k ])
+    in_sections l k = elim (Contains-append_cases (raw.inputs ++ latches) (map (λ g. g.lhs) raw.gates) l k) [
+      | inl k ↦
+          inl (elim (Contains-append_cases raw.inputs latches l k) [ inl k ↦ from_input l k | inr k ↦ from_latch l k ])
       | inr k ↦ inr (from_gate l k)
     ]
 
-    from_definition : (l : ℕ) × (i : ℕ) × (slice_get (definitions raw) i ≡ Some l) × (variable l ≡ v) → IsSource raw v ⊎ IsGate raw v
-    from_definition (l, i, at, is) = subst (λ u. IsSource raw u ⊎ IsGate raw u) is (in_sections l (Contains-from_slice_get (definitions raw) i l at))
+    from_definition : (l : ℕ) × (i : ℕ) × (slice_get (definitions raw) i ≡ Some l) × (variable l ≡ v)
+        → IsSource raw v ⊎ IsGate raw v
+    from_definition (l, i, at, is) =
+        subst (λ u. IsSource raw u ⊎ IsGate raw u) is (in_sections l (Contains-from_slice_get (definitions raw) i l at))
 
 -- in acyclic parts what is defined is grounded
 pub Grounded-of_defined : (raw : Raw) → IsAcyclic raw → (v : ℕ) → IsDefined raw v → Grounded raw v

@@ -29,7 +29,8 @@ last_split xs x at =
     sym (take_all (length xs - 1 + 1) xs one) ∙ take_more xs (length xs - 1) x lt
     ∙ ap (λ y. take (length xs - 1) xs ++ y ∷ []) (get_or_from_slice_get xs (length xs - 1) x x at)
 
-pub split_at_last : (xs ys : List ℕ) (x : ℕ) → ys ≡ xs → slice_get ys (length ys - 1) ≡ Some x → xs ≡ take (length xs - 1) xs ++ x ∷ []
+pub split_at_last : (xs ys : List ℕ) (x : ℕ) → ys ≡ xs → slice_get ys (length ys - 1) ≡ Some x
+    → xs ≡ take (length xs - 1) xs ++ x ∷ []
 split_at_last xs ys x e at = last_split xs x (rw e at at)
 
 pub split_popped : (xs ys rest : List ℕ) (n x : ℕ) → ys ≡ xs → slice_get ys (length ys - 1) ≡ Some x → n ≡ length xs
@@ -48,7 +49,8 @@ AllPairs-front R xs y all i j d lt below =
 AllPairs-last : (R : ℕ → ℕ → Type 0) (xs : List ℕ) (y : ℕ) → AllPairs R (xs ++ y ∷ []) → (x : ℕ) → Contains xs x → R x y
 AllPairs-last R xs y all x (k, lt, is) =
     let size = length_push xs y in
-    let r : R (get_or (xs ++ y ∷ []) k x) (get_or (xs ++ y ∷ []) (length xs) x) = all k (length xs) x lt (omega arith) in
+    let r : R (get_or (xs ++ y ∷ []) k x) (get_or (xs ++ y ∷ []) (length xs) x) =
+    all k (length xs) x lt (omega arith) in
     let e : get_or (xs ++ y ∷ []) k x ≡ x = get_or_append_left xs (y ∷ []) x k lt ∙ is in
     let f : get_or (xs ++ y ∷ []) (length xs) x ≡ y = get_or_push xs y x (length xs) refl in
     subst (R x) f (subst (λ z. R z (get_or (xs ++ y ∷ []) (length xs) x)) e r)
@@ -56,7 +58,8 @@ AllPairs-last R xs y all x (k, lt, is) =
 -- a meeting of what was not met
 pub meets_fresh : (x : ℕ) (pending pending' : List ℕ) (met met' : List Bool) → x < length met → (IsMet met x → ⊥)
     → Meets x met met' pending pending'
-    → (met' ≡ set met x true) × (pending' ≡ pending ++ x ∷ []) × (count_by not met' + 1 ≡ count_by not met) × (length pending' ≡ length pending + 1)
+    → (met' ≡ set met x true) × (pending' ≡ pending ++ x ∷ []) × (count_by not met' + 1 ≡ count_by not met)
+    × (length pending' ≡ length pending + 1)
 meets_fresh x pending pending' met met' lt fresh m = elim (cases_Bool (get_or met x false)) [
   | inl e ↦ absurd (fresh e)
   | inr e ↦
@@ -71,18 +74,26 @@ meets_fresh x pending pending' met met' lt fresh m = elim (cases_Bool (get_or me
 
 module _ (raw : Raw) where
   -- what the level of a gate comes from
-  level_sides : IsSound raw → (q : ℕ) (g : Gate) {v k : ℕ} → slice_get raw.gates q ≡ Some g → variable g.lhs ≡ v → Level raw v k
+  level_sides : IsSound raw → (q : ℕ) (g : Gate) {v k : ℕ} → slice_get raw.gates q ≡ Some g → variable g.lhs ≡ v
+      → Level raw v k
       → (a : ℕ) × (b : ℕ) × Level raw (variable g.rhs0) a × Level raw (variable g.rhs1) b × (k ≡ max a b + 1)
   level_sides sound q g at e (by.Level.source v s) = absurd (source-gate raw sound v q g at s (sym e))
   level_sides sound q g at e (by.Level.gate r h a b here l0 l1) =
-      let one : h ≡ g = same_gate raw sound r q h g here at (sym e) in
-      (a, b, subst (λ (w : Gate). Level raw (variable w.rhs0) a) one l0, subst (λ (w : Gate). Level raw (variable w.rhs1) b) one l1, refl)
+      let one : h ≡ g = same_gate raw sound r q h g here at (sym e) in (
+        a,
+        b,
+        subst (λ (w : Gate). Level raw (variable w.rhs0) a) one l0,
+        subst
+            (λ (w : Gate). Level raw (variable w.rhs1) b) one l1,
+        refl,
+      )
 
   level_of_other : {v k : ℕ} → (IsGate raw v → ⊥) → Level raw v k → k ≡ 0
   level_of_other other (by.Level.source v s) = refl
   level_of_other other (by.Level.gate q g a b at l0 l1) = absurd (other (IsGate-of_gate raw q g at))
 
-  pub descent_none : (met : List Bool) (pending levels : List ℕ) → met ≡ replicate (raw.max_var + 1) false → pending ≡ []
+  pub descent_none : (met : List Bool) (pending levels : List ℕ) → met ≡ replicate (raw.max_var + 1) false
+      → pending ≡ []
       → levels ≡ replicate (raw.max_var + 1) 0 → IsDescent raw met pending levels
   descent_none met pending levels is e zeros = record {
     marks = marks;
@@ -100,11 +111,13 @@ module _ (raw : Raw) where
       unmet : (v : ℕ) → IsMet met v → ⊥
       unmet v h =
           let lt = met_within met v h in
-          false≢true (sym (get_or-replicate (raw.max_var + 1) v false false (omega (arith, marks))) ∙ sym (ap (λ xs. get_or xs v false) is) ∙ h)
+          false≢true (sym (get_or-replicate (raw.max_var + 1) v false false (omega (arith, marks)))
+          ∙ sym (ap (λ xs. get_or xs v false) is) ∙ h)
 
   -- a variable more, under all that are pending
   descent_push : (x : ℕ) (met met' : List Bool) (pending pending' levels : List ℕ) → x < length met → (IsMet met x → ⊥)
-      → ((u : ℕ) → Contains pending u → IsOver raw u x) → Meets x met met' pending pending' → IsDescent raw met pending levels
+      → ((u : ℕ) → Contains pending u → IsOver raw u x) → Meets x met met' pending pending'
+      → IsDescent raw met pending levels
       → IsDescent raw met' pending' levels
   descent_push x met met' pending pending' levels lt fresh under m d =
       let (marked, added, count, size) = meets_fresh x pending pending' met met' lt fresh m in
@@ -115,7 +128,8 @@ module _ (raw : Raw) where
           | inl k ↦ meets_keep x v pending pending' met met' lt m (d.opened v k)
           | inr e ↦ rw (← e) (meets_mark x pending pending' met met' lt m)
         ];
-        down = rw added (all_pairs_push (IsOver raw) pending x d.down (λ k e below. under (get_or pending k e) (Contains-get_or pending k e below)));
+        down = rw added (all_pairs_push (IsOver raw) pending x d.down
+            (λ k e below. under (get_or pending k e) (Contains-get_or pending k e below)));
         each = λ v h. elim (was_met met x v (rw marked at h)) [
           | inl e ↦ inl (rw (added, e) (Contains-push pending x))
           | inr k ↦ elim (d.each v k) [
@@ -127,7 +141,8 @@ module _ (raw : Raw) where
             (λ n. n + length pending' + count_by not met' ≤ raw.max_var + 1) (λ n h. omega arith) levels d.low;
       }
 
-  same_descent : (x : ℕ) (met met' : List Bool) (pending pending' levels : List ℕ) → IsMet met x → Meets x met met' pending pending'
+  same_descent : (x : ℕ) (met met' : List Bool) (pending pending' levels : List ℕ) → IsMet met x
+      → Meets x met met' pending pending'
       → IsDescent raw met pending levels → IsDescent raw met' pending' levels
   same_descent x met met' pending pending' levels e m d =
       let same : pending' ≡ pending = rw e at m.added in
@@ -143,13 +158,16 @@ module _ (raw : Raw) where
         (λ u h. absurd (no_element u (rw none at h))) m d
   ]
 
-  pub side_within : (is : IsCircuit raw) (met : List Bool) (pending levels : List ℕ) (top x : ℕ) (g : Gate) → IsDescent raw met pending levels
-      → (q : ℕ) × (slice_get raw.gates q ≡ Some g) × (variable g.lhs ≡ top) → (x ≡ variable g.rhs0) ⊎ (x ≡ variable g.rhs1) → x < length met
+  pub side_within : (is : IsCircuit raw) (met : List Bool) (pending levels : List ℕ) (top x : ℕ) (g : Gate)
+      → IsDescent raw met pending levels
+      → (q : ℕ) × (slice_get raw.gates q ≡ Some g) × (variable g.lhs ≡ top) → (x ≡ variable g.rhs0)
+      ⊎ (x ≡ variable g.rhs1) → x < length met
   side_within is met pending levels top x g d (q, at, e) side =
       let (r0, r1) = sides_in_range raw is.sound q g at in
       elim side [ inl k ↦ omega (arith, d.marks) | inr k ↦ omega (arith, d.marks) ]
 
-  module _ (is : IsCircuit raw) (met : List Bool) (pending rest levels : List ℕ) (top : ℕ) (split : pending ≡ rest ++ top ∷ [])
+  module _ (is : IsCircuit raw) (met : List Bool) (pending rest levels : List ℕ) (top : ℕ)
+      (split : pending ≡ rest ++ top ∷ [])
       (d : IsDescent raw met pending levels) where
     pub top_in_range : top < raw.max_var + 1
     top_in_range =
@@ -159,12 +177,16 @@ module _ (raw : Raw) where
     down_split = rw split at d.down
 
     -- a right side of the last pending variable
-    pub descent_side : (met' : List Bool) (pending' : List ℕ) (g : Gate) (x : ℕ) → (q : ℕ) × (slice_get raw.gates q ≡ Some g) × (variable g.lhs ≡ top)
-        → (x ≡ variable g.rhs0) ⊎ (x ≡ variable g.rhs1) → (IsMet met x → ⊥) → Meets x met met' pending pending' → IsDescent raw met' pending' levels
-    descent_side met' pending' g x (q, at, e) side fresh m = descent_push x met met' pending pending' levels in_range fresh over m d
+    pub descent_side : (met' : List Bool) (pending' : List ℕ) (g : Gate) (x : ℕ) → (q : ℕ)
+        × (slice_get raw.gates q ≡ Some g) × (variable g.lhs ≡ top)
+        → (x ≡ variable g.rhs0) ⊎ (x ≡ variable g.rhs1) → (IsMet met x → ⊥) → Meets x met met' pending pending'
+        → IsDescent raw met' pending' levels
+    descent_side met' pending' g x (q, at, e) side fresh m =
+        descent_push x met met' pending pending' levels in_range fresh over m d
       where
         in_range : x < length met
-        in_range = let (r0, r1) = sides_in_range raw is.sound q g at in elim side [ inl e ↦ omega (arith, d.marks) | inr e ↦ omega (arith, d.marks) ]
+        in_range = let (r0, r1) = sides_in_range raw is.sound q g at in
+            elim side [ inl e ↦ omega (arith, d.marks) | inr e ↦ omega (arith, d.marks) ]
 
         over_top : (m n : ℕ) → Level raw top m → Level raw x n → n < m
         over_top m n known below =
@@ -185,7 +207,8 @@ module _ (raw : Raw) where
         ]
 
     -- the last pending variable gets its level
-    pub descent_settle : (n : ℕ) → ((k : ℕ) → Level raw top k → k ≡ n) → n + length rest + count_by not met ≤ raw.max_var + 1
+    pub descent_settle : (n : ℕ) → ((k : ℕ) → Level raw top k → k ≡ n)
+        → n + length rest + count_by not met ≤ raw.max_var + 1
         → IsDescent raw met rest (set levels top n)
     descent_settle n right fits = record {
       marks = d.marks;
@@ -221,13 +244,15 @@ module _ (raw : Raw) where
     descent_other other =
         descent_settle 0 (λ k known. level_of_other other known)
         (let low : get_or levels top 0 + length pending + count_by not met ≤ raw.max_var + 1 =
-        All-get_or (λ n. n + length pending + count_by not met ≤ raw.max_var + 1) levels top 0 (omega (arith, top_in_range, d.size)) d.low in
+        All-get_or (λ n. n + length pending + count_by not met ≤ raw.max_var + 1) levels top 0
+        (omega (arith, top_in_range, d.size)) d.low in
         omega (arith, shorter))
 
     module _ (g : Gate) (a b : ℕ) (found : (q : ℕ) × (slice_get raw.gates q ≡ Some g) × (variable g.lhs ≡ top))
         (is0 : a ≡ get_or levels (variable g.rhs0) 0) (is1 : b ≡ get_or levels (variable g.rhs1) 0) where
       low_side : (x : ℕ) → x ≤ raw.max_var → get_or levels x 0 + length pending + count_by not met ≤ raw.max_var + 1
-      low_side x le = All-get_or (λ n. n + length pending + count_by not met ≤ raw.max_var + 1) levels x 0 (omega (arith, d.size)) d.low
+      low_side x le = All-get_or (λ n. n + length pending + count_by not met ≤ raw.max_var + 1) levels x 0
+          (omega (arith, d.size)) d.low
 
       pub low_level : max a b + 1 + length rest + count_by not met ≤ raw.max_var + 1
       low_level =
@@ -249,7 +274,8 @@ module _ (raw : Raw) where
         | inr s ↦ s m below
       ]
 
-      pub descent_gate : IsMet met (variable g.rhs0) × IsMet met (variable g.rhs1) → IsDescent raw met rest (set levels top (max a b + 1))
+      pub descent_gate : IsMet met (variable g.rhs0) × IsMet met (variable g.rhs1)
+          → IsDescent raw met rest (set levels top (max a b + 1))
       descent_gate (met0, met1) = descent_settle (max a b + 1) right low_level
         where
           right : (k : ℕ) → Level raw top k → k ≡ max a b + 1
@@ -260,7 +286,8 @@ module _ (raw : Raw) where
               e ∙ ap (λ i. max i n + 1) (sym e0 ∙ sym is0) ∙ ap (λ i. max a i + 1) (sym e1 ∙ sym is1)
 
   -- all variables were met, and none is pending
-  pub descent_all : (met : List Bool) (pending levels : List ℕ) → IsSound raw → pending ≡ [] → ((v : ℕ) → v < raw.max_var + 1 → IsMet met v)
+  pub descent_all : (met : List Bool) (pending levels : List ℕ) → IsSound raw → pending ≡ []
+      → ((v : ℕ) → v < raw.max_var + 1 → IsMet met v)
       → IsDescent raw met pending levels → AreLevels raw levels
   descent_all met pending levels sound none all d = record {
     size = d.size;
@@ -279,7 +306,8 @@ pub record IsUnderWay (raw : Raw) (first met : List Bool) (pending levels : List
   pub keeps : (v : ℕ) → IsMet first v → IsMet met v
 
 -- one variable met more
-pub under_way_side : (raw : Raw) (first met met' : List Bool) (pending pending' levels : List ℕ) (x : ℕ) → x < length met
+pub under_way_side : (raw : Raw) (first met met' : List Bool) (pending pending' levels : List ℕ) (x : ℕ)
+    → x < length met
     → Meets x met met' pending pending' → IsDescent raw met' pending' levels → IsUnderWay raw first met pending levels
     → IsUnderWay raw first met' pending' levels
 under_way_side raw first met met' pending pending' levels x lt m d u = record {
@@ -293,7 +321,8 @@ pub record IsSwept (raw : Raw) (n : ℕ) (met : List Bool) (pending levels : Lis
   pub none : pending ≡ []
   pub below : (v : ℕ) → v < n → IsMet met v
 
-pub swept_none : (raw : Raw) (met : List Bool) (pending levels : List ℕ) → met ≡ replicate (raw.max_var + 1) false → pending ≡ []
+pub swept_none : (raw : Raw) (met : List Bool) (pending levels : List ℕ) → met ≡ replicate (raw.max_var + 1) false
+    → pending ≡ []
     → levels ≡ replicate (raw.max_var + 1) 0 → IsSwept raw 0 met pending levels
 swept_none raw met pending levels is e zeros = record {
   descent = descent_none raw met pending levels is e zeros;
@@ -301,7 +330,8 @@ swept_none raw met pending levels is e zeros = record {
   below = λ v lt. absurd (omega arith);
 }
 
-pub swept_more : (raw : Raw) (n : ℕ) (m0 m1 m2 : List Bool) (p0 p1 p2 l0 l2 : List ℕ) → n < length m0 → Meets n m0 m1 p0 p1
+pub swept_more : (raw : Raw) (n : ℕ) (m0 m1 m2 : List Bool) (p0 p1 p2 l0 l2 : List ℕ) → n < length m0
+    → Meets n m0 m1 p0 p1
     → Settles raw m1 m2 p2 l2 → IsSwept raw n m0 p0 l0 → IsSwept raw (n + 1) m2 p2 l2
 swept_more raw n m0 m1 m2 p0 p1 p2 l0 l2 lt m s w = record {
   descent = s.descent;

@@ -1,9 +1,9 @@
-pub mod Chains
 pub mod Defined
 pub mod Descents
 pub mod Gates
 pub mod Heights
 pub mod Joined
+pub mod LevelChains
 pub mod OneLevel
 pub mod Places
 pub mod Positions

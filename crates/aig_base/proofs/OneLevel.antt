@@ -15,14 +15,15 @@ level_of (by.Grounded.gate q g at g0 g1) =
 
 pub Grounded-of_level : {raw : Raw} {v n : ℕ} → Level raw v n → Grounded raw v
 Grounded-of_level (by.Level.source v h) = by.Grounded.source v h
-Grounded-of_level (by.Level.gate q g a b at l0 l1) = by.Grounded.gate q g at (Grounded-of_level l0) (Grounded-of_level l1)
+Grounded-of_level (by.Level.gate q g a b at l0 l1) =
+    by.Grounded.gate q g at (Grounded-of_level l0) (Grounded-of_level l1)
 
 -- what a level rests on
 Rests : Raw → ℕ → ℕ → Type 0
 Rests raw v n =
     (IsSource raw v × (n ≡ 0))
-    ⊎ ((q : ℕ) × (g : Gate) × (a : ℕ) × (b : ℕ) × (slice_get raw.gates q ≡ Some g) × Level raw (variable g.rhs0) a × Level raw (variable g.rhs1) b
-    × (variable g.lhs ≡ v) × (n ≡ max a b + 1))
+    ⊎ ((q : ℕ) × (g : Gate) × (a : ℕ) × (b : ℕ) × (slice_get raw.gates q ≡ Some g)
+    × Level raw (variable g.rhs0) a × Level raw (variable g.rhs1) b × (variable g.lhs ≡ v) × (n ≡ max a b + 1))
 
 rests : {raw : Raw} {v n : ℕ} → Level raw v n → Rests raw v n
 unfolding Rests
@@ -34,8 +35,10 @@ same_literal : (l k : ℕ) → IsDefinition l → IsDefinition k → variable l 
 same_literal l k p q e = omega arith
 
 -- no gate is a source
-source-gate : (raw : Raw) → IsSound raw → (v q : ℕ) (g : Gate) → slice_get raw.gates q ≡ Some g → IsSource raw v → v ≡ variable g.lhs → ⊥
-source-gate raw s v q g at by.IsSource.constant e = let d = IsDefinition-of_place raw s (gate q) g.lhs tt (g, at, refl) in omega arith
+source-gate : (raw : Raw) → IsSound raw → (v q : ℕ) (g : Gate) → slice_get raw.gates q ≡ Some g
+    → IsSource raw v → v ≡ variable g.lhs → ⊥
+source-gate raw s v q g at by.IsSource.constant e =
+    let d = IsDefinition-of_place raw s (gate q) g.lhs tt (g, at, refl) in omega arith
 source-gate raw s v q g at (by.IsSource.input p l here) e =
     let d = IsDefinition-of_place raw s (gate q) g.lhs tt (g, at, refl) in
     let f = IsDefinition-of_place raw s (input p) l tt here in
@@ -48,7 +51,8 @@ source-gate raw s v q g at (by.IsSource.latch p x here) e =
     let h = same_place raw s (latch p) (gate q) x.lit (x, here, refl) (g, at, same) in cc
 
 -- one gate has the variable
-same_gate : (raw : Raw) → IsSound raw → (q r : ℕ) (g h : Gate) → slice_get raw.gates q ≡ Some g → slice_get raw.gates r ≡ Some h → variable g.lhs ≡ variable h.lhs → g ≡ h
+same_gate : (raw : Raw) → IsSound raw → (q r : ℕ) (g h : Gate) → slice_get raw.gates q ≡ Some g
+    → slice_get raw.gates r ≡ Some h → variable g.lhs ≡ variable h.lhs → g ≡ h
 same_gate raw s q r g h at here e =
     let d = IsDefinition-of_place raw s (gate q) g.lhs tt (g, at, refl) in
     let f = IsDefinition-of_place raw s (gate r) h.lhs tt (h, here, refl) in

@@ -42,31 +42,41 @@ IsSection (gate p) = Unit {0}
 IsSection odd = ⊥
 
 -- a definition stands in the list of definitions
-stands : (raw : Raw) (d : Place) (l : ℕ) → IsSection d → At raw d l → slice_get (definitions raw) (place_index raw d) ≡ Some l
+stands : (raw : Raw) (d : Place) (l : ℕ) → IsSection d → At raw d l
+    → slice_get (definitions raw) (place_index raw d) ≡ Some l
 unfolding place_index
 stands raw constant l h at = absurd h
 stands raw (input p) l h at = slice_get_left _ _ p l (slice_get_left raw.inputs _ p l at)
 stands raw (latch p) l h (x, at, is) =
-    slice_get_left _ _ (length raw.inputs + p) l (slice_get_right raw.inputs _ p l (slice_get-map (λ x. x.lit) raw.latches p ∙ ap (option_map (λ x. x.lit)) at ∙ ap Some is))
+    slice_get_left _ _ (length raw.inputs + p) l
+    (slice_get_right raw.inputs _ p l
+    (slice_get-map (λ x. x.lit) raw.latches p ∙ ap (option_map (λ x. x.lit)) at ∙ ap Some is))
 stands raw (gate q) l h (g, at, is) =
-    slice_get_right (raw.inputs ++ map (λ x. x.lit) raw.latches) _ q l (slice_get-map (λ g. g.lhs) raw.gates q ∙ ap (option_map (λ g. g.lhs)) at ∙ ap Some is)
+    slice_get_right (raw.inputs ++ map (λ x. x.lit) raw.latches) _ q l
+    (slice_get-map (λ g. g.lhs) raw.gates q ∙ ap (option_map (λ g. g.lhs)) at ∙ ap Some is)
 stands raw odd l h at = absurd h
 
 -- a definition is even and positive
-pub IsDefinition-of_definitions : (raw : Raw) → All IsDefinition (definitions raw) → (d : Place) (l : ℕ) → IsSection d → At raw d l → IsDefinition l
+pub IsDefinition-of_definitions : (raw : Raw) → All IsDefinition (definitions raw) → (d : Place) (l : ℕ)
+    → IsSection d → At raw d l → IsDefinition l
 IsDefinition-of_definitions raw defs d l h at =
-    All-contains IsDefinition (definitions raw) l defs (Contains-from_slice_get (definitions raw) (place_index raw d) l (stands raw d l h at))
+    All-contains IsDefinition (definitions raw) l defs
+    (Contains-from_slice_get (definitions raw) (place_index raw d) l (stands raw d l h at))
 
-pub IsDefinition-of_place : (raw : Raw) → IsSound raw → (d : Place) (l : ℕ) → IsSection d → At raw d l → IsDefinition l
+pub IsDefinition-of_place : (raw : Raw) → IsSound raw → (d : Place) (l : ℕ) → IsSection d → At raw d l
+    → IsDefinition l
 IsDefinition-of_place raw s = IsDefinition-of_definitions raw s.definitions
 
 trichotomy : (i j : ℕ) → (i < j) ⊎ ((i ≡ j) ⊎ (j < i))
 trichotomy i j = grind arith
 
-same_index : (raw : Raw) → IsSound raw → (d e : Place) (l : ℕ) → IsSection d → IsSection e → At raw d l → At raw e l → place_index raw d ≡ place_index raw e
+same_index : (raw : Raw) → IsSound raw → (d e : Place) (l : ℕ) → IsSection d → IsSection e → At raw d l
+    → At raw e l → place_index raw d ≡ place_index raw e
 same_index raw s d e l hd he p q =
-    let at : (k : Place) → IsSection k → At raw k l → slice_get (map variable (definitions raw)) (place_index raw k) ≡ Some (variable l)
-    = λ k h a. slice_get-map variable (definitions raw) (place_index raw k) ∙ ap (option_map variable) (stands raw k l h a) in
+    let at : (k : Place) → IsSection k → At raw k l
+    → slice_get (map variable (definitions raw)) (place_index raw k) ≡ Some (variable l)
+    = λ k h a. slice_get-map variable (definitions raw) (place_index raw k)
+    ∙ ap (option_map variable) (stands raw k l h a) in
     elim (trichotomy (place_index raw d) (place_index raw e)) [
       | inl lt ↦ absurd (s.once (variable l) (place_index raw d, place_index raw e, lt, at d hd p, at e he q))
       | inr o ↦ elim o [
@@ -75,8 +85,11 @@ same_index raw s d e l hd he p q =
       ]
     ]
 
-section_apart : (raw : Raw) → IsSound raw → (d : Place) (l : ℕ) → IsSection d → At raw d l → ¬ (l < 2) × ¬ ((1 < l) × IsNegated l)
-section_apart raw s d l h at = let e : IsDefinition l = IsDefinition-of_place raw s d l h at in (λ k. omega arith, λ k. omega arith)
+section_apart : (raw : Raw) → IsSound raw → (d : Place) (l : ℕ) → IsSection d → At raw d l
+    → ¬ (l < 2) × ¬ ((1 < l) × IsNegated l)
+section_apart raw s d l h at =
+    let e : IsDefinition l = IsDefinition-of_place raw s d l h at in
+    (λ k. omega arith, λ k. omega arith)
 
 input-latch : (raw : Raw) → IsSound raw → (i j l : ℕ) → At raw (input i) l → At raw (latch j) l → ⊥
 unfolding place_index

@@ -19,7 +19,8 @@ use Rattle.aig_base.proofs.Defined.{Grounded-of_defined}
 use Rattle.aig_base.proofs.Gates.{defined_in_range, sides_in_range, IsGate-of_gate, gate_of, same_gate, source-gate}
 use Rattle.aig_base.proofs.Positions.{unmap}
 
-unmap_option : {A B : Type 0} → (f : A → B) (o : Option A) (y : B) → option_map f o ≡ Some y → (x : A) × (o ≡ Some x) × (f x ≡ y)
+unmap_option : {A B : Type 0} → (f : A → B) (o : Option A) (y : B) → option_map f o ≡ Some y → (x : A) × (o ≡ Some x)
+    × (f x ≡ y)
 unmap_option f None y h = cc
 unmap_option f (Some x) y h = (x, refl, cc)
 
@@ -63,7 +64,8 @@ begins (Path.right q g at ne p) = inr (q, g, at, ne, refl, inr p)
 rewired_other : (lhs r0 r1 : ℕ) (g : Gate) → g.lhs ≢ lhs → rewired lhs r0 r1 g ≡ g
 rewired_other lhs r0 r1 g ne = rw (ne_eqb g.lhs lhs ne) refl
 
-rewired_same : (lhs r0 r1 : ℕ) (g : Gate) → g.lhs ≡ lhs → rewired lhs r0 r1 g ≡ record { lhs = g.lhs; rhs0 = r0; rhs1 = r1 }
+rewired_same : (lhs r0 r1 : ℕ) (g : Gate) → g.lhs ≡ lhs
+    → rewired lhs r0 r1 g ≡ record { lhs = g.lhs; rhs0 = r0; rhs1 = r1 }
 rewired_same lhs r0 r1 g e = rw (eq-eqb g.lhs lhs e) refl
 
 module _ (raw : Raw) (sound : IsSound raw) (lhs r0 r1 : ℕ) (is_gate : IsLeftSide raw lhs) where
@@ -82,12 +84,14 @@ module _ (raw : Raw) (sound : IsSound raw) (lhs r0 r1 : ℕ) (is_gate : IsLeftSi
   source_old v (by.IsSource.latch p x at) = by.IsSource.latch p x at
 
   -- the gate at a position, after the change
-  gate_new : (q : ℕ) (g : Gate) → slice_get raw.gates q ≡ Some g → slice_get (map (rewired lhs r0 r1) raw.gates) q ≡ Some (rewired lhs r0 r1 g)
+  gate_new : (q : ℕ) (g : Gate) → slice_get raw.gates q ≡ Some g
+      → slice_get (map (rewired lhs r0 r1) raw.gates) q ≡ Some (rewired lhs r0 r1 g)
   gate_new q g at = slice_get-map (rewired lhs r0 r1) raw.gates q ∙ ap (option_map (rewired lhs r0 r1)) at
 
   gate_old : (q : ℕ) (g : Gate) → slice_get (map (rewired lhs r0 r1) raw.gates) q ≡ Some g
       → (h : Gate) × (slice_get raw.gates q ≡ Some h) × (rewired lhs r0 r1 h ≡ g)
-  gate_old q g at = unmap_option (rewired lhs r0 r1) (slice_get raw.gates q) g (sym (slice_get-map (rewired lhs r0 r1) raw.gates q) ∙ at)
+  gate_old q g at = unmap_option (rewired lhs r0 r1) (slice_get raw.gates q) g
+      (sym (slice_get-map (rewired lhs r0 r1) raw.gates q) ∙ at)
 
   kept : (q : ℕ) (g : Gate) → slice_get raw.gates q ≡ Some g → variable g.lhs ≢ variable lhs
       → slice_get (map (rewired lhs r0 r1) raw.gates) q ≡ Some g
@@ -105,7 +109,8 @@ module _ (raw : Raw) (sound : IsSound raw) (lhs r0 r1 : ℕ) (is_gate : IsLeftSi
       → Grounded (with_gate raw lhs r0 r1) v → Path raw (variable lhs) v → ⊥
   unfolding Begins
   no_path {v} ends (by.Grounded.source u s) p = elim (begins p) [
-    | inl e ↦ (let (g, q, at, is) = the_gate in source-gate raw sound v q g at (source_old v s) (e ∙ ap variable (sym is)))
+    | inl e ↦ (let (g, q, at, is) = the_gate in
+        source-gate raw sound v q g at (source_old v s) (e ∙ ap variable (sym is)))
     | inr w ↦ source-gate raw sound v w.0 w.1 w.2 (source_old v s) (sym w.4)
   ]
   no_path {v} ends (by.Grounded.gate q g at g0 g1) p =
@@ -119,7 +124,8 @@ module _ (raw : Raw) (sound : IsSound raw) (lhs r0 r1 : ℕ) (is_gate : IsLeftSi
               | inr k ↦ no_path (inr k) g1 (subst (λ (k : Gate). Path raw (variable lhs) (variable k.rhs1)) new k)
             ])
         | inr w ↦
-            (let one : w.1 ≡ h = same_gate raw sound w.0 q w.1 h w.2 found (w.4 ∙ ap (λ (k : Gate). variable k.lhs) (sym is)) in
+            (let one : w.1 ≡ h =
+            same_gate raw sound w.0 q w.1 h w.2 found (w.4 ∙ ap (λ (k : Gate). variable k.lhs) (sym is)) in
             let other : h.lhs ≢ lhs = (λ e. w.3 (ap (λ (k : Gate). variable k.lhs) one ∙ ap variable e)) in
             let same : w.1 ≡ g = one ∙ sym (rewired_other lhs r0 r1 h other) ∙ is in
             elim w.5 [
@@ -129,12 +135,14 @@ module _ (raw : Raw) (sound : IsSound raw) (lhs r0 r1 : ℕ) (is_gate : IsLeftSi
       ]
 
   -- the gate read back from its own new right sides
-  pub cycle_from_reached : Reached raw (variable lhs) (variable r0) (variable r1) (variable lhs) → IsAcyclic (with_gate raw lhs r0 r1) → ⊥
+  pub cycle_from_reached : Reached raw (variable lhs) (variable r0) (variable r1) (variable lhs)
+      → IsAcyclic (with_gate raw lhs r0 r1) → ⊥
   cycle_from_reached r acyclic =
       let (g, q, at, is) = the_gate in
       let left : (rewired lhs r0 r1 g).lhs ≡ lhs = is in
       let gate : IsGate (with_gate raw lhs r0 r1) (variable lhs) =
-      subst (λ l. IsGate (with_gate raw lhs r0 r1) (variable l)) left (IsGate-of_gate (with_gate raw lhs r0 r1) q (rewired lhs r0 r1 g) (gate_new q g at)) in
+      subst (λ l. IsGate (with_gate raw lhs r0 r1) (variable l)) left
+      (IsGate-of_gate (with_gate raw lhs r0 r1) q (rewired lhs r0 r1 g) (gate_new q g at)) in
       no_path (path_back r Path.stop) (acyclic (variable lhs) gate) Path.stop
 
 -- a variable that was met is not t, and both right sides of its gate were met
@@ -159,13 +167,15 @@ only_element u v (zero, lt, is) = is
 only_element u v (suc k, lt, is) = absurd (omega arith)
 
 -- a mark more
-pub stays_met : (met : List Bool) (x v : ℕ) → x < length met → get_or met v false ≡ true → get_or (set met x true) v false ≡ true
+pub stays_met : (met : List Bool) (x v : ℕ) → x < length met → get_or met v false ≡ true
+    → get_or (set met x true) v false ≡ true
 stays_met met x v lt h = elim (cases_eq v x) [
   | inl e ↦ rw e (get_or-set_same met x true false lt)
   | inr ne ↦ get_or-set_other met x v true false ne ∙ h
 ]
 
-pub was_met : (met : List Bool) (x v : ℕ) → get_or (set met x true) v false ≡ true → (v ≡ x) ⊎ (get_or met v false ≡ true)
+pub was_met : (met : List Bool) (x v : ℕ) → get_or (set met x true) v false ≡ true → (v ≡ x)
+    ⊎ (get_or met v false ≡ true)
 was_met met x v h = elim (cases_eq v x) [
   | inl e ↦ inl e
   | inr ne ↦ inr (sym (get_or-set_other met x v true false ne) ∙ h)
@@ -180,10 +190,12 @@ module _ (raw : Raw) (t a b : ℕ) where
   stays_closed : (met : List Bool) (x v : ℕ) → x < length met → IsClosed raw t met v → IsClosed raw t (set met x true) v
   stays_closed met x v lt c = record {
     other = c.other;
-    sides = λ q g at e. let (m0, m1) = c.sides q g at e in (stays_met met x (variable g.rhs0) lt m0, stays_met met x (variable g.rhs1) lt m1);
+    sides = λ q g at e. let (m0, m1) = c.sides q g at e in
+        (stays_met met x (variable g.rhs0) lt m0, stays_met met x (variable g.rhs1) lt m1);
   }
 
-  pub walk_none : (met : List Bool) (pending : List ℕ) → met ≡ replicate (raw.max_var + 1) false → pending ≡ [] → IsWalk raw t a b pending [] met
+  pub walk_none : (met : List Bool) (pending : List ℕ) → met ≡ replicate (raw.max_var + 1) false → pending ≡ []
+      → IsWalk raw t a b pending [] met
   walk_none met pending is e = record {
     size = ap length is ∙ length-replicate (raw.max_var + 1) false;
     reached = λ v h. absurd (unmet v h);
@@ -196,15 +208,18 @@ module _ (raw : Raw) (t a b : ℕ) where
       unmet v h =
           let lt = met_within met v h in
           let size : length met ≡ raw.max_var + 1 = ap length is ∙ length-replicate (raw.max_var + 1) false in
-          false≢true (sym (get_or-replicate (raw.max_var + 1) v false false (omega arith)) ∙ sym (ap (λ xs. get_or xs v false) is) ∙ h)
+          false≢true (sym (get_or-replicate (raw.max_var + 1) v false false (omega arith))
+          ∙ sym (ap (λ xs. get_or xs v false) is) ∙ h)
 
-  walk_again : (x : ℕ) (pending owed : List ℕ) (met : List Bool) → get_or met x false ≡ true → IsWalk raw t a b pending owed met
+  walk_again : (x : ℕ) (pending owed : List ℕ) (met : List Bool) → get_or met x false ≡ true
+      → IsWalk raw t a b pending owed met
       → IsWalk raw t a b pending owed (set met x true)
   walk_again x pending owed met h w =
       let e : set met x true ≡ met = ap (set met x) (sym h) ∙ set-get_or met x false in
       rw e w
 
-  walk_new : (x : ℕ) (pending owed : List ℕ) (met : List Bool) → x < length met → Reached raw t a b x → IsWalk raw t a b pending owed met
+  walk_new : (x : ℕ) (pending owed : List ℕ) (met : List Bool) → x < length met → Reached raw t a b x
+      → IsWalk raw t a b pending owed met
       → IsWalk raw t a b (pending ++ x ∷ []) owed (set met x true)
   walk_new x pending owed met lt r w = record {
     size = length-set met x true ∙ w.size;
@@ -239,7 +254,8 @@ module _ (raw : Raw) (t a b : ℕ) where
   ]
 
   -- the last pending variable is taken
-  pub walk_pop : (u : ℕ) (pending rest : List ℕ) (met : List Bool) → pending ≡ rest ++ u ∷ [] → IsWalk raw t a b pending [] met
+  pub walk_pop : (u : ℕ) (pending rest : List ℕ) (met : List Bool) → pending ≡ rest ++ u ∷ []
+      → IsWalk raw t a b pending [] met
       → IsWalk raw t a b rest (u ∷ []) met
   walk_pop u pending rest met e w = record {
     size = w.size;
@@ -259,7 +275,8 @@ module _ (raw : Raw) (t a b : ℕ) where
   }
 
   -- it is closed
-  walk_close : (u : ℕ) (pending : List ℕ) (met : List Bool) → IsClosed raw t met u → IsWalk raw t a b pending (u ∷ []) met
+  walk_close : (u : ℕ) (pending : List ℕ) (met : List Bool) → IsClosed raw t met u
+      → IsWalk raw t a b pending (u ∷ []) met
       → IsWalk raw t a b pending [] met
   walk_close u pending met c w = record {
     size = w.size;
@@ -275,7 +292,8 @@ module _ (raw : Raw) (t a b : ℕ) where
     ];
   }
 
-  pub walk_pass : (u : ℕ) (pending : List ℕ) (met : List Bool) → u ≢ t → (IsGate raw u → ⊥) → IsWalk raw t a b pending (u ∷ []) met
+  pub walk_pass : (u : ℕ) (pending : List ℕ) (met : List Bool) → u ≢ t → (IsGate raw u → ⊥)
+      → IsWalk raw t a b pending (u ∷ []) met
       → IsWalk raw t a b pending [] met
   walk_pass u pending met ne other w = walk_close u pending met (record {
     other = ne;
@@ -283,7 +301,8 @@ module _ (raw : Raw) (t a b : ℕ) where
   }) w
 
 module _ (raw : Raw) (sound : IsSound raw) (acyclic : IsAcyclic raw) (lhs r0 r1 : ℕ) (is_gate : IsLeftSide raw lhs)
-    (d0 : IsDefined raw (variable r0)) (d1 : IsDefined raw (variable r1)) (met : List Bool) (first : get_or met (variable r0) false ≡ true)
+    (d0 : IsDefined raw (variable r0)) (d1 : IsDefined raw (variable r1)) (met : List Bool)
+    (first : get_or met (variable r0) false ≡ true)
     (second : get_or met (variable r1) false ≡ true)
     (closed : (v : ℕ) → get_or met v false ≡ true → IsClosed raw (variable lhs) met v) where
   -- what was met stays grounded
@@ -292,7 +311,8 @@ module _ (raw : Raw) (sound : IsSound raw) (acyclic : IsAcyclic raw) (lhs r0 r1 
   met_grounded (by.Grounded.gate q g at g0 g1) m =
       let here = closed (variable g.lhs) m in
       let (m0, m1) = here.sides q g at refl in
-      by.Grounded.gate q g (kept raw sound lhs r0 r1 is_gate q g at here.other) (met_grounded g0 m0) (met_grounded g1 m1)
+      by.Grounded.gate q g (kept raw sound lhs r0 r1 is_gate q g at here.other) (met_grounded g0 m0)
+      (met_grounded g1 m1)
 
   changed_grounded : Grounded (with_gate raw lhs r0 r1) (variable lhs)
   changed_grounded =
@@ -325,18 +345,23 @@ pub record IsSearch (raw : Raw) (lhs r0 r1 : ℕ) (pending : List ℕ) (met : Li
   pub second : get_or met (variable r1) false ≡ true
 
 -- a meeting marks the variable
-pub meets_mark : (x : ℕ) (pending pending' : List ℕ) (met met' : List Bool) → x < length met → Meets x met met' pending pending' → get_or met' x false ≡ true
-meets_mark x pending pending' met met' lt m = ap (λ bs. get_or bs x false) m.marked ∙ get_or-set_same met x true false lt
+pub meets_mark : (x : ℕ) (pending pending' : List ℕ) (met met' : List Bool) → x < length met
+    → Meets x met met' pending pending' → get_or met' x false ≡ true
+meets_mark x pending pending' met met' lt m =
+    ap (λ bs. get_or bs x false) m.marked ∙ get_or-set_same met x true false lt
 
-pub meets_keep : (x v : ℕ) (pending pending' : List ℕ) (met met' : List Bool) → x < length met → Meets x met met' pending pending'
+pub meets_keep : (x v : ℕ) (pending pending' : List ℕ) (met met' : List Bool) → x < length met
+    → Meets x met met' pending pending'
     → get_or met v false ≡ true → get_or met' v false ≡ true
 meets_keep x v pending pending' met met' lt m h = ap (λ bs. get_or bs v false) m.marked ∙ stays_met met x v lt h
 
-pub meets_size : (x : ℕ) (pending pending' : List ℕ) (met met' : List Bool) → Meets x met met' pending pending' → length met' ≡ length met
+pub meets_size : (x : ℕ) (pending pending' : List ℕ) (met met' : List Bool) → Meets x met met' pending pending'
+    → length met' ≡ length met
 meets_size x pending pending' met met' m = ap length m.marked ∙ length-set met x true
 
 -- what is left to do stays as much
-pub meets_left : (x : ℕ) (pending pending' : List ℕ) (met met' : List Bool) → x < length met → Meets x met met' pending pending'
+pub meets_left : (x : ℕ) (pending pending' : List ℕ) (met met' : List Bool) → x < length met
+    → Meets x met met' pending pending'
     → count_by not met' + length pending' ≡ count_by not met + length pending
 meets_left x pending pending' met met' lt m = elim (cases_Bool (get_or met x false)) [
   | inl e ↦
@@ -354,22 +379,30 @@ meets_left x pending pending' met met' lt m = elim (cases_Bool (get_or met x fal
 ]
 
 module _ (raw : Raw) (lhs r0 r1 : ℕ) where
-  pub search_begin : (p0 p1 p2 : List ℕ) (m0 m1 m2 : List Bool) → IsSound raw → IsDefined raw (variable r0) → IsDefined raw (variable r1)
-      → m0 ≡ replicate (raw.max_var + 1) false → p0 ≡ [] → Meets (variable r0) m0 m1 p0 p1 → Meets (variable r1) m1 m2 p1 p2
+  pub search_begin : (p0 p1 p2 : List ℕ) (m0 m1 m2 : List Bool) → IsSound raw → IsDefined raw (variable r0)
+      → IsDefined raw (variable r1)
+      → m0 ≡ replicate (raw.max_var + 1) false → p0 ≡ [] → Meets (variable r0) m0 m1 p0 p1
+      → Meets (variable r1) m1 m2 p1 p2
       → IsSearch raw lhs r0 r1 p2 m2
   search_begin p0 p1 p2 m0 m1 m2 sound d0 d1 is e meet0 meet1 =
       let start = walk_none raw (variable lhs) (variable r0) (variable r1) m0 p0 is e in
       let size = meets_size (variable r0) p0 p1 m0 m1 meet0 in
-      let lt0 : variable r0 < length m0 = let w = defined_in_range raw sound (variable r0) d0 in omega (arith, start.size) in
-      let lt1 : variable r1 < length m1 = let w = defined_in_range raw sound (variable r1) d1 in omega (arith, start.size) in
-      let w1 = walk_meet raw (variable lhs) (variable r0) (variable r1) (variable r0) p0 p1 [] m0 m1 lt0 Reached.first meet0 start in
+      let lt0 : variable r0 < length m0 = let w = defined_in_range raw sound (variable r0) d0 in
+      omega (arith, start.size) in
+      let lt1 : variable r1 < length m1 = let w = defined_in_range raw sound (variable r1) d1 in
+      omega (arith, start.size) in
+      let w1 = walk_meet raw (variable lhs) (variable r0) (variable r1) (variable r0) p0 p1 [] m0 m1 lt0 Reached.first
+      meet0 start in
       record {
-        walk = walk_meet raw (variable lhs) (variable r0) (variable r1) (variable r1) p1 p2 [] m1 m2 lt1 Reached.second meet1 w1;
-        first = meets_keep (variable r1) (variable r0) p1 p2 m1 m2 lt1 meet1 (meets_mark (variable r0) p0 p1 m0 m1 lt0 meet0);
+        walk = walk_meet raw (variable lhs) (variable r0) (variable r1) (variable r1) p1 p2 [] m1 m2 lt1 Reached.second
+            meet1 w1;
+        first = meets_keep (variable r1) (variable r0) p1 p2 m1 m2 lt1 meet1
+            (meets_mark (variable r0) p0 p1 m0 m1 lt0 meet0);
         second = meets_mark (variable r1) p1 p2 m1 m2 lt1 meet1;
       }
 
-  pub search_gate : (u : ℕ) (g : Gate) (pending p0 p1 p2 : List ℕ) (m0 m1 m2 : List Bool) → IsSound raw → pending ≡ p0 ++ u ∷ []
+  pub search_gate : (u : ℕ) (g : Gate) (pending p0 p1 p2 : List ℕ) (m0 m1 m2 : List Bool) → IsSound raw
+      → pending ≡ p0 ++ u ∷ []
       → u ≢ variable lhs → (q : ℕ) × (slice_get raw.gates q ≡ Some g) × (variable g.lhs ≡ u)
       → Meets (variable g.rhs0) m0 m1 p0 p1 → Meets (variable g.rhs1) m1 m2 p1 p2
       → IsSearch raw lhs r0 r1 pending m0 → IsSearch raw lhs r0 r1 p2 m2
@@ -383,29 +416,39 @@ module _ (raw : Raw) (lhs r0 r1 : ℕ) where
       let at_u : Reached raw t (variable r0) (variable r1) (variable g.lhs) =
       rw is (s.walk.reached u (s.walk.pending_met u (rw e (Contains-push p0 u)))) in
       let away : variable g.lhs ≢ t = λ k. ne (sym is ∙ k) in
-      let w1 = walk_meet raw t (variable r0) (variable r1) (variable g.rhs0) p0 p1 (u ∷ []) m0 m1 lt0 (Reached.left q g at away at_u) meet0 popped in
-      let w2 = walk_meet raw t (variable r0) (variable r1) (variable g.rhs1) p1 p2 (u ∷ []) m1 m2 lt1 (Reached.right q g at away at_u) meet1 w1 in
+      let w1 = walk_meet raw t (variable r0) (variable r1) (variable g.rhs0) p0 p1 (u ∷ []) m0 m1 lt0
+      (Reached.left q g at away at_u) meet0 popped in
+      let w2 = walk_meet raw t (variable r0) (variable r1) (variable g.rhs1) p1 p2 (u ∷ []) m1 m2 lt1
+      (Reached.right q g at away at_u) meet1 w1 in
       let side0 : get_or m2 (variable g.rhs0) false ≡ true =
-      meets_keep (variable g.rhs1) (variable g.rhs0) p1 p2 m1 m2 lt1 meet1 (meets_mark (variable g.rhs0) p0 p1 m0 m1 lt0 meet0) in
+      meets_keep (variable g.rhs1) (variable g.rhs0) p1 p2 m1 m2 lt1 meet1
+      (meets_mark (variable g.rhs0) p0 p1 m0 m1 lt0 meet0) in
       let side1 : get_or m2 (variable g.rhs1) false ≡ true = meets_mark (variable g.rhs1) p1 p2 m1 m2 lt1 meet1 in
       let keep : (v : ℕ) → get_or m0 v false ≡ true → get_or m2 v false ≡ true =
-      λ v h. meets_keep (variable g.rhs1) v p1 p2 m1 m2 lt1 meet1 (meets_keep (variable g.rhs0) v p0 p1 m0 m1 lt0 meet0 h) in
+      λ v h. meets_keep (variable g.rhs1) v p1 p2 m1 m2 lt1 meet1
+      (meets_keep (variable g.rhs0) v p0 p1 m0 m1 lt0 meet0 h) in
       record {
         walk = walk_close raw t (variable r0) (variable r1) u p2 m2 (closes u g m2 q sound at is ne side0 side1) w2;
         first = keep (variable r0) s.first;
         second = keep (variable r1) s.second;
       }
     where
-      closes : (u : ℕ) (g : Gate) (m2 : List Bool) (q : ℕ) → IsSound raw → slice_get raw.gates q ≡ Some g → variable g.lhs ≡ u → u ≢ variable lhs
-          → get_or m2 (variable g.rhs0) false ≡ true → get_or m2 (variable g.rhs1) false ≡ true → IsClosed raw (variable lhs) m2 u
+      closes : (u : ℕ) (g : Gate) (m2 : List Bool) (q : ℕ) → IsSound raw → slice_get raw.gates q ≡ Some g
+          → variable g.lhs ≡ u → u ≢ variable lhs
+          → get_or m2 (variable g.rhs0) false ≡ true → get_or m2 (variable g.rhs1) false ≡ true
+          → IsClosed raw (variable lhs) m2 u
       closes u g m2 q sound at is ne side0 side1 = record {
         other = ne;
         sides = λ r h found k.
-            let one : g ≡ h = same_gate raw sound q r g h at found (is ∙ sym k) in
-            (ap (λ (w : Gate). get_or m2 (variable w.rhs0) false) (sym one) ∙ side0, ap (λ (w : Gate). get_or m2 (variable w.rhs1) false) (sym one) ∙ side1);
+            let one : g ≡ h = same_gate raw sound q r g h at found (is ∙ sym k) in (
+              ap (λ (w : Gate). get_or m2 (variable w.rhs0) false) (sym one)
+                  ∙ side0,
+              ap (λ (w : Gate). get_or m2 (variable w.rhs1) false) (sym one) ∙ side1,
+            );
       }
 
-  pub search_pass : (u : ℕ) (pending rest : List ℕ) (met : List Bool) → pending ≡ rest ++ u ∷ [] → u ≢ variable lhs → (IsGate raw u → ⊥)
+  pub search_pass : (u : ℕ) (pending rest : List ℕ) (met : List Bool) → pending ≡ rest ++ u ∷ [] → u ≢ variable lhs
+      → (IsGate raw u → ⊥)
       → IsSearch raw lhs r0 r1 pending met → IsSearch raw lhs r0 r1 rest met
   search_pass u pending rest met e ne other s = record {
     walk = walk_pass raw (variable lhs) (variable r0) (variable r1) u rest met ne other
@@ -414,17 +457,21 @@ module _ (raw : Raw) (lhs r0 r1 : ℕ) where
     second = s.second;
   }
 
-  pub search_found : (u : ℕ) (pending rest : List ℕ) (met : List Bool) → IsSound raw → IsLeftSide raw lhs → pending ≡ rest ++ u ∷ []
+  pub search_found : (u : ℕ) (pending rest : List ℕ) (met : List Bool) → IsSound raw → IsLeftSide raw lhs
+      → pending ≡ rest ++ u ∷ []
       → u ≡ variable lhs → IsSearch raw lhs r0 r1 pending met → IsAcyclic (with_gate raw lhs r0 r1) → ⊥
   search_found u pending rest met sound is_gate e same s =
       cycle_from_reached raw sound lhs r0 r1 is_gate
       (subst (Reached raw (variable lhs) (variable r0) (variable r1)) same
       (s.walk.reached u (s.walk.pending_met u (rw e (Contains-push rest u)))))
 
-  pub search_done : (pending : List ℕ) (met : List Bool) → IsCircuit raw → IsLeftSide raw lhs → IsDefined raw (variable r0)
-      → IsDefined raw (variable r1) → pending ≡ [] → IsSearch raw lhs r0 r1 pending met → IsAcyclic (with_gate raw lhs r0 r1)
+  pub search_done : (pending : List ℕ) (met : List Bool) → IsCircuit raw → IsLeftSide raw lhs
+      → IsDefined raw (variable r0)
+      → IsDefined raw (variable r1) → pending ≡ [] → IsSearch raw lhs r0 r1 pending met
+      → IsAcyclic (with_gate raw lhs r0 r1)
   search_done pending met is is_gate d0 d1 none s =
-      still_acyclic raw is.sound is.acyclic lhs r0 r1 is_gate d0 d1 met s.first s.second (λ v h. elim (s.walk.each v h) [
+      still_acyclic raw is.sound is.acyclic lhs r0 r1 is_gate d0 d1 met s.first s.second
+      (λ v h. elim (s.walk.each v h) [
         | inl p ↦ absurd (no_element v (rw none at p))
         | inr o ↦ elim o [
           | inl p ↦ absurd (no_element v p)

@@ -1,11 +1,17 @@
 -- The state of a walk that goes down right sides and settles the level of each variable on its way back.
-use Rattle.std.specs.Prelude.{◌≡◌, ◌⊎◌, ℕ, ◌+◌, ◌<◌, ◌≤◌, List, [], Bool, true, false, not, length, count_by, All, AllPairs, Contains, slice_index, slice_index_or}
+use Rattle.std.specs.Prelude.{◌≡◌, ◌⊎◌, ℕ, ◌+◌, ◌<◌, ◌≤◌, List, [], Bool, true, false, not, length, max, count_by, All, AllPairs, Contains, slice_index, slice_index_or}
+use Rattle.aig_base.specs.declared.gate.Gate.{Gate}
 use Rattle.aig_base.specs.declared.raw.Raw.{Raw}
+use Rattle.aig_base.specs.Literal.{variable}
 use Rattle.aig_base.specs.Grounded.{Level}
 
 -- the variable is marked
 abbrev pub IsMet : List Bool → ℕ → Type 0
 IsMet met v = slice_index_or met v false ≡ true
+
+-- one more than the greater level of the right sides
+abbrev pub level_above : List ℕ → Gate → ℕ
+level_above levels g = max (slice_index levels (variable g.rhs0)) (slice_index levels (variable g.rhs1)) + 1
 
 -- the levels of u are over those of v
 abbrev pub IsOver : Raw → ℕ → ℕ → Type 0

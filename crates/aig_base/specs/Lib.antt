@@ -1,5 +1,5 @@
 pub mod Literal
-pub mod Chains
+pub mod LevelChains
 pub mod Ternary
 pub mod Formed
 pub mod Sections

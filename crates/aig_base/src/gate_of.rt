@@ -9,7 +9,8 @@ use crate::gate::Gate;
 
 /// The gate with this variable on its left side, if there is one. It takes constant time.
 pub(crate) fn gate_of(circuit: &Circuit, number: u32) -> Option<Gate>
-    ensures found { IfSome result (λ g. (q : ℕ) × (slice_get circuit.now.gates q ≡ Some g) × (variable g.lhs ≡ number)) }
+    ensures found { IfSome result
+        (λ g. (q : ℕ) × (slice_get circuit.now.gates q ≡ Some g) × (variable g.lhs ≡ number)) }
     ensures none { IfNone result (IsGate circuit.now number → ⊥) }
 {
     let _ = circuit.max_var();

@@ -1,6 +1,6 @@
 //! Levels of variables.
-ghost use Rattle.std.specs.Prelude.{◌≡◌, ◌⊎◌, ◌+◌, ◌<◌, ◌^◌, length, max, slice_index, Some, slice_get, IfNone, IfOk, IfSome, OnOk};
-ghost use Rattle.aig_base.specs.Descent.{IsDescent, IsMet, Settles};
+ghost use Rattle.std.specs.Prelude.{◌≡◌, ◌⊎◌, ◌<◌, ◌^◌, length, Some, slice_get, IfNone, IfOk, IfSome, OnOk};
+ghost use Rattle.aig_base.specs.Descent.{level_above, IsDescent, IsMet, Settles};
 ghost use Rattle.aig_base.specs.Levels.{AreLevels};
 ghost use Rattle.aig_base.specs.Literal.{variable};
 
@@ -50,8 +50,8 @@ fn unmet_side(met: &[bool], gate: &Gate) -> Option<u32>
 fn level_over(levels: &[u32], gate: &Gate) -> u32
     requires first { variable gate.now.rhs0 < length levels.now }
     requires second { variable gate.now.rhs1 < length levels.now }
-    requires fits { max (slice_index levels.now (variable gate.now.rhs0)) (slice_index levels.now (variable gate.now.rhs1)) + 1 < 2 ^ 32 }
-    ensures { result ≡ max (slice_index levels.now (variable gate.now.rhs0)) (slice_index levels.now (variable gate.now.rhs1)) + 1 }
+    requires fits { level_above levels.now gate.now < 2 ^ 32 }
+    ensures { result ≡ level_above levels.now gate.now }
 {
     let first = gate.rhs0.var() as usize;
     let second = gate.rhs1.var() as usize;
@@ -61,7 +61,8 @@ fn level_over(levels: &[u32], gate: &Gate) -> u32
 // Goes down right sides from the pending variables until all that was met has its level.
 fn settle(circuit: &Circuit, walk: &mut Walk, levels: &mut [u32]) -> Result<(), Memory>
     requires { IsDescent circuit.now walk.old.met.items walk.old.pending.items levels.old }
-    ensures { OnOk result (Settles circuit.now walk.old.met.items walk.new.met.items walk.new.pending.items levels.new) }
+    ensures { OnOk result
+        (Settles circuit.now walk.old.met.items walk.new.met.items walk.new.pending.items levels.new) }
 {
     let _ = circuit.max_var();
     while let Some(top) = walk.pending.last().copied() {

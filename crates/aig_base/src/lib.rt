@@ -43,3 +43,6 @@ pub use std_bytes::Std;
 pub use symbols::{Kind, Symbols};
 pub use ternary::Tern;
 pub use write::{write_all, write_number};
+
+#[cfg(test)]
+mod tests;

@@ -21,5 +21,6 @@ loop-variable-preserved c =
 pub returns : goal.returns
 returns c =
     let past = c.loop-variable-test.false in
-    swept_all c.args.circuit.now _ _ _ _ c.max_var-max_var.ensures.circuit.sound (omega (arith, c.max_var-max_var.ensures.value))
+    swept_all c.args.circuit.now _ _ _ _ c.max_var-max_var.ensures.circuit.sound
+    (omega (arith, c.max_var-max_var.ensures.value))
     c.loop-variable.invariant

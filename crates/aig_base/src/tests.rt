@@ -1,0 +1,2 @@
+// What proofs do not see: values from outside, and that calls can succeed.
+mod order;
