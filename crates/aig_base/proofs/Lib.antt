@@ -2,13 +2,17 @@ pub mod BlockLemmas
 pub mod Chains
 pub mod Counting
 pub mod Defined
+pub mod Descents
 pub mod EachUse
 pub mod Entering
 pub mod Evens
 pub mod Faults
+pub mod Gates
 pub mod Gets
+pub mod Heights
 pub mod Joined
 pub mod LeastAmong
+pub mod LevelChains
 pub mod Marking
 pub mod NegatedValues
 pub mod NoFault
@@ -31,4 +35,5 @@ pub mod SymbolKeys
 pub mod Tables
 pub mod UniqueValue
 pub mod ValueRules
+pub mod Walks
 pub mod WriteLemmas

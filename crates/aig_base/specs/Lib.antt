@@ -4,6 +4,7 @@ pub mod Changes
 pub mod Circuit
 pub mod Completion
 pub mod Definition
+pub mod Descent
 pub mod Entries
 pub mod Filled
 pub mod FirstFault
@@ -11,6 +12,7 @@ pub mod Formed
 pub mod Grounded
 pub mod Laws
 pub mod Least
+pub mod LevelChains
 pub mod Levels
 pub mod Links
 pub mod Literal
@@ -26,3 +28,4 @@ pub mod Sections
 pub mod Sound
 pub mod Ternary
 pub mod Value
+pub mod Walk

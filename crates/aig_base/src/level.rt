@@ -1,9 +1,14 @@
 //! Levels of variables.
-ghost use Rattle.std.specs.Prelude.{◌≡◌, ◌<◌, length, Some, slice_get, IfOk};
+ghost use Rattle.std.specs.Prelude.{◌≡◌, ◌⊎◌, ◌<◌, ◌^◌, length, Some, slice_get, IfNone, IfOk, IfSome, OnOk};
+ghost use Rattle.aig_base.specs.Descent.{level_above, IsDescent, IsMet, Settles};
 ghost use Rattle.aig_base.specs.Levels.{AreLevels};
+ghost use Rattle.aig_base.specs.Literal.{variable};
 
 use crate::circuit::Circuit;
 use crate::fault::Memory;
+use crate::gate::Gate;
+use crate::gate_of::gate_of;
+use crate::walk::Walk;
 use std::alloc::Global;
 use std::marker::Model;
 
@@ -22,12 +27,72 @@ impl Model for Levels {
     ghost view = { λ a. a.levels.items };
 }
 
+// The variable of a right side that was not met.
+fn unmet_side(met: &[bool], gate: &Gate) -> Option<u32>
+    requires first { variable gate.now.rhs0 < length met.now }
+    requires second { variable gate.now.rhs1 < length met.now }
+    ensures side { IfSome result (λ v. (v ≡ variable gate.now.rhs0) ⊎ (v ≡ variable gate.now.rhs1)) }
+    ensures unmet { IfSome result (λ v. IsMet met.now v → ⊥) }
+    ensures met { IfNone result (IsMet met.now (variable gate.now.rhs0) × IsMet met.now (variable gate.now.rhs1)) }
+{
+    let first = gate.rhs0.var();
+    if !met[first as usize] {
+        return Some(first);
+    }
+    let second = gate.rhs1.var();
+    if !met[second as usize] {
+        return Some(second);
+    }
+    None
+}
+
+// One more than the greater level of the right sides.
+fn level_over(levels: &[u32], gate: &Gate) -> u32
+    requires first { variable gate.now.rhs0 < length levels.now }
+    requires second { variable gate.now.rhs1 < length levels.now }
+    requires fits { level_above levels.now gate.now < 2 ^ 32 }
+    ensures { result ≡ level_above levels.now gate.now }
+{
+    let first = gate.rhs0.var() as usize;
+    let second = gate.rhs1.var() as usize;
+    levels[first].max(levels[second]) + 1
+}
+
+// Goes down right sides from the pending variables until all that was met has its level.
+fn settle(circuit: &Circuit, walk: &mut Walk, levels: &mut [u32]) -> Result<(), Memory>
+    requires { IsDescent circuit.now walk.old.met.items walk.old.pending.items levels.old }
+    ensures { OnOk result
+        (Settles circuit.now walk.old.met.items walk.new.met.items walk.new.pending.items levels.new) }
+{
+    let _ = circuit.max_var();
+    while let Some(top) = walk.pending.last().copied() {
+        let mut level = 0;
+        if let Some(gate) = gate_of(circuit, top) {
+            if let Some(side) = unmet_side(&walk.met, &gate) {
+                walk.meet(side)?;
+                continue;
+            }
+            level = level_over(levels, &gate);
+        }
+        levels[top as usize] = level;
+        let _ = walk.pending.pop();
+    }
+    Ok(())
+}
+
 impl Levels {
     /// The levels of a circuit, in time and memory linear in it.
-    pub fn of(_alloc: Global, _circuit: &Circuit) -> Result<Levels, Memory>
-        ensures { IfOk result (AreLevels _circuit.now) }
+    pub fn of(alloc: Global, circuit: &Circuit) -> Result<Levels, Memory>
+        ensures { IfOk result (AreLevels circuit.now) }
     {
-        Err(Memory)
+        let max_var = circuit.max_var();
+        let mut walk = Walk::new(alloc, max_var)?;
+        let mut levels = vec![in alloc; 0; max_var as usize + 1]?;
+        for variable in 0..max_var + 1 {
+            walk.meet(variable)?;
+            settle(circuit, &mut walk, &mut levels)?;
+        }
+        Ok(Levels { levels })
     }
 
     /// The level of a variable of the circuit; 0 for one that nothing defines.

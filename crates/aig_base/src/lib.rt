@@ -13,6 +13,7 @@ mod entries;
 mod fault;
 mod gate;
 mod grounded;
+mod gate_of;
 mod latch;
 mod laws;
 mod least;
@@ -33,6 +34,7 @@ mod symbols;
 mod ternary;
 #[cfg(test)]
 mod tests;
+mod walk;
 mod write;
 
 pub use block::Block;
@@ -61,4 +63,3 @@ pub use ternary::Tern;
 pub use write::{write_all, write_number};
 
 #[cfg(test)]
-mod tests;

@@ -1,5 +1,6 @@
 // What proofs do not see: values from outside, texts, and that calls can succeed.
 mod fakes;
+mod order;
 mod renumbering;
 
 use crate::{
