@@ -1,12 +1,14 @@
 //! Rows of a simulation: stimulus, grids and traces.
 #![tactic(auto)]
 
+mod byte_grid;
 mod grid;
 mod simulation;
 mod stimulus;
 mod stimulus_fault;
 mod stimulus_text;
 
+pub use byte_grid::{ByteGrid, value_in};
 pub use grid::Grid;
 pub use simulation::simulate;
 pub use stimulus::{FRAMES, Stimulus};
