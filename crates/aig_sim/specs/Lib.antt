@@ -1,5 +1,6 @@
 pub mod Cells
 pub mod InputRows
+pub mod LineInHand
 pub mod Simulated
 pub mod StimulusText
 pub mod Trace

@@ -3,6 +3,7 @@
 
 mod byte_grid;
 mod grid;
+mod line_in_hand;
 mod simulation;
 mod stimulus;
 mod stimulus_fault;
