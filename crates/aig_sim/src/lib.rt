@@ -3,6 +3,7 @@
 
 mod byte_grid;
 mod grid;
+mod laws;
 mod line_in_hand;
 mod simulation;
 mod stimulus;
@@ -11,6 +12,7 @@ mod stimulus_text;
 
 pub use byte_grid::{ByteGrid, value_in};
 pub use grid::Grid;
+pub use laws::law_of_stimulus_text;
 pub use simulation::simulate;
 pub use stimulus::{FRAMES, Stimulus};
 pub use stimulus_fault::StimFault;
