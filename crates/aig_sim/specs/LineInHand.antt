@@ -2,6 +2,8 @@
 use Rattle.std.specs.Prelude.{◌≡◌, ◌≢◌, ℕ, ◌<◌, ◌≤◌, List, ◌++◌, length, map, All}
 use Rattle.std.specs.List.{flat_map}
 use Rattle.aig_base.specs.declared.ternary.Tern.{Tern}
+use Rattle.aig_sim.specs.declared.stimulus_fault.StimFault.{StimFault}
+use Rattle.aig_sim.specs.declared.stimulus_fault.StimFault.TheVariants as fault
 use Rattle.aig_sim.specs.declared.line_in_hand.Shape.{Shape}
 use Rattle.aig_sim.specs.declared.line_in_hand.Shape.TheVariants.{Row, Long, Wrong}
 use Rattle.aig_sim.specs.StimulusText.{character, row_line, HaveWidth, IsCharacter}
@@ -30,3 +32,12 @@ pub record HasRead (width : ℕ) (text : List ℕ) (rows : List (List Tern)) (sh
   pub no_end : All (λ b. b ≢ 10) line
   pub text_is : text ≡ flat_map row_line rows ++ line
   pub keeps : Keeps width line shape values
+
+-- a fault that a line has by itself
+abbrev pub IsOfLine : StimFault → Type 0
+IsOfLine (fault.Char n) = Unit {0}
+IsOfLine (fault.Length n) = Unit {0}
+IsOfLine fault.Unfinished = ⊥
+IsOfLine fault.Limit = ⊥
+IsOfLine fault.Memory = ⊥
+IsOfLine fault.Io = ⊥

@@ -1,7 +1,7 @@
 //! The line of a stimulus that is being read.
 ghost use Rattle.std.specs.Prelude.{◌≡◌, ℕ, ◌≤◌, ◌<◌, ◌↔◌, List, [], ◌∷◌, ◌++◌, length, map, IsTrue, IfOk, IfErr, OnOk, OnErr, IfSome, IfNone};
 ghost use Rattle.aig_sim.specs.StimulusText.{character, line_number, IsCharacter, EndsLine, HasFault};
-ghost use Rattle.aig_sim.specs.LineInHand.{Keeps};
+ghost use Rattle.aig_sim.specs.LineInHand.{Keeps, IsOfLine};
 
 use crate::stimulus_fault::StimFault;
 use aig_base::{Memory, Tern};
@@ -127,6 +127,7 @@ impl LineInHand {
     pub fn row(&self, number: u64) -> Result<&[Tern], StimFault>
         ensures row { IfOk result (λ row. (self.now.shape ≡ Shape.Row) × (self.now.values ≡ row.now)
             × (length row.now ≡ self.now.width)) }
+        ensures of_line { IfErr result IsOfLine }
         ensures fault { IfErr result (λ fault. (before : ℕ) (line rest : List ℕ) → number ≡ line_number before →
             Keeps self.now.width line self.now.shape self.now.values → EndsLine rest →
             HasFault self.now.width before line rest fault) }

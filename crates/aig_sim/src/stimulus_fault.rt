@@ -1,7 +1,7 @@
 //! Why a stimulus is refused.
 ghost use Rattle.std.specs.Prelude.{◌≡◌};
 
-use aig_base::Memory;
+use aig_base::{Io, Memory};
 use thiserror::Error;
 
 /// Why the text of a stimulus is refused. Lines count from 1, and `u64::MAX` stands for any greater number; the first
@@ -35,5 +35,15 @@ impl From<Memory> for StimFault {
 
     fn from(_error: Memory) -> StimFault {
         StimFault::Memory
+    }
+}
+
+impl From<Io> for StimFault {
+    ghost use Rattle.aig_sim.specs.declared.stimulus_fault.StimFault.TheVariants as faults;
+
+    ghost from_gives = { λ _ fault. fault ≡ faults.Io };
+
+    fn from(_error: Io) -> StimFault {
+        StimFault::Io
     }
 }
