@@ -1,11 +1,11 @@
 -- What is known of a circuit's variables.
-use Rattle.std.proofs.Common.{◌≡◌, ℕ, zero, suc, ◌<◌, ◌≤◌, List, [], ◌∷◌, ◌++◌, map, flat_map, All, Some, slice_get, Contains, refl, sym, ap, ◌∙◌, subst, arith, option_map}
+use Rattle.std.proofs.Common.{◌≡◌, ℕ, zero, suc, ◌≤◌, List, [], ◌∷◌, ◌++◌, map, flat_map, Some, slice_get, Contains, refl, sym, ap, ◌∙◌, subst, arith, option_map}
 use Rattle.std.proofs.lemmas.Option.{slice_get-map}
 use Rattle.std.proofs.lemmas.List.Elements.{All-contains, Contains-append_left as left, Contains-append_right as right}
 use Rattle.aig_base.specs.declared.gate.Gate.{Gate}
 use Rattle.aig_base.specs.declared.latch.Latch.{Latch}
 use Rattle.aig_base.specs.declared.raw.Raw.{Raw}
-use Rattle.aig_base.specs.Literal.{variable, IsEven}
+use Rattle.aig_base.specs.Literal.{variable}
 use Rattle.aig_base.specs.Sections.{definitions, uses, IsDefined, IsGate}
 use Rattle.aig_base.specs.Sound.{IsSound, IsDefinition, IsInRange}
 use Rattle.aig_base.specs.Grounded.{IsSource}

@@ -1,12 +1,12 @@
 -- A simulation, byte by byte and chunk by chunk.
-use Rattle.std.proofs.Common.{◌≡◌, ◌≢◌, ℕ, zero, suc, ◌+◌, ◌-◌, ◌^◌, ◌<◌, ◌≤◌, min, List, [], ◌∷◌, ◌++◌, length, map, inl, inr, refl, sym, ap, ◌∙◌, subst, arith, append_assoc, add-one, Ok, Err}
+use Rattle.std.proofs.Common.{◌≡◌, ◌≢◌, ℕ, zero, suc, ◌+◌, ◌-◌, ◌^◌, min, List, [], ◌∷◌, ◌++◌, length, map, inl, inr, refl, sym, ap, ◌∙◌, subst, arith, append_assoc, add-one, Ok, Err}
 use Rattle.std.specs.Prelude.{Option, Some, None, Result, IfOk, IfErr, OnOk, OnErr}
-use Rattle.std.specs.List.{AllZip, flat_map}
+use Rattle.std.specs.List.{flat_map}
 use Rattle.std.proofs.lemmas.List.{append-nil, length_push}
 use Rattle.aig_base.specs.declared.ternary.Tern.{Tern}
 use Rattle.aig_base.specs.declared.raw.Raw.{Raw}
 use Rattle.aig_base.specs.Bytes.{after, before, IsAtEnd, IsBeginning}
-use Rattle.aig_base.specs.Value.{Value, start_of}
+use Rattle.aig_base.specs.Value.{start_of}
 use Rattle.aig_base.proofs.WriteLemmas.{after-append, after-nil}
 use Rattle.aig_sim.specs.declared.simulation.Simulation.{Simulation}
 use Rattle.aig_sim.specs.declared.line_in_hand.Shape.{Shape}
@@ -18,7 +18,7 @@ use Rattle.aig_sim.specs.LineInHand.{Keeps, HasRead, IsOfLine}
 use Rattle.aig_sim.specs.Machine.{Machine, Steps}
 use Rattle.aig_sim.specs.Running.{Running, StopsBy, Stopped, GoesOn, Stops, ReadSoFar}
 use Rattle.aig_sim.specs.Simulated.{Simulates}
-use Rattle.aig_sim.specs.StimulusText.{character, row_line, line_number, EndsLine, HasFault, HasFaultyLine, SpellsRows, HoldsRows}
+use Rattle.aig_sim.specs.StimulusText.{row_line, line_number, EndsLine, HasFault, HasFaultyLine}
 use Rattle.aig_sim.specs.Trace.{AreValues, IsLine, AreLines, IsTrace}
 use Rattle.aig_sim.proofs.LineLemmas.{read_none, read_byte, read_line, read_fault, read_unfinished, read_end, step_same}
 use Rattle.aig_sim.proofs.TraceLemmas.{value_stays}

@@ -1,8 +1,6 @@
 -- A trace, line by line.
-use Rattle.std.proofs.Common.{◌≡◌, ℕ, zero, suc, ◌+◌, ◌<◌, List, [], ◌∷◌, ◌++◌, length, map, Some, slice_get, Contains, refl, sym, ap, ◌∙◌, subst, arith, append_assoc, add-one}
+use Rattle.std.proofs.Common.{◌≡◌, ℕ, zero, suc, List, [], ◌∷◌, ◌++◌, length, map, Some, slice_get, refl, sym, ap, ◌∙◌, subst, arith, append_assoc, add-one}
 use Rattle.std.specs.List.{AllZip}
-use Rattle.std.proofs.lemmas.List.{append-nil, length-append, length_push}
-use Rattle.std.proofs.lemmas.Option.{slice_get_within}
 use Rattle.aig_base.specs.declared.ternary.Tern.{Tern}
 use Rattle.aig_base.specs.declared.latch.Latch.{Latch}
 use Rattle.aig_base.specs.declared.raw.Raw.{Raw}
@@ -14,7 +12,7 @@ use Rattle.aig_sim.specs.Cells.{literal_value}
 use Rattle.aig_sim.specs.Frame.{HasValue, HoldsAll, AreStates}
 use Rattle.aig_sim.specs.Machine.{Steps}
 use Rattle.aig_sim.specs.StimulusText.{character}
-use Rattle.aig_sim.specs.Trace.{AreValues, IsLine, AreLines, IsTrace}
+use Rattle.aig_sim.specs.Trace.{AreValues}
 use Rattle.aig_sim.proofs.Circuits.{next_defined, output_defined}
 use Rattle.aig_sim.proofs.Evaluation.{literal_has_value}
 

@@ -1,4 +1,4 @@
-use Rattle.std.proofs.Common.{◌≡◌, arith}
+use Rattle.std.proofs.Common.{arith}
 use Rattle.aig_sim.proofs.Circuits.{gate_in_range, rhs0_in_range, rhs1_in_range}
 use Rattle.aig_sim.proofs.frame.evaluate_row.Goals as goal
 

@@ -1,5 +1,4 @@
-use Rattle.std.proofs.Common.{◌≡◌, ◌<◌, ◌++◌, ◌∷◌, [], ℕ, List, length, map, Some, slice_get, ap, ap₂, ◌∙◌, subst, arith}
-use Rattle.aig_base.specs.Literal.{variable}
+use Rattle.std.proofs.Common.{◌≡◌, ◌++◌, ◌∷◌, [], ℕ, List, length, map, Some, slice_get, ap, ap₂, ◌∙◌, subst, arith}
 use Rattle.aig_sim.specs.Cells.{literal_value}
 use Rattle.aig_sim.specs.Machine.{TraceLine}
 use Rattle.aig_sim.specs.StimulusText.{character}

@@ -1,7 +1,6 @@
-use Rattle.std.proofs.Common.{◌≡◌, ℕ, ◌+◌, List, ◌∷◌, ◌++◌, [], take, drop, get_or, refl, sym, ap, ◌∙◌, subst}
+use Rattle.std.proofs.Common.{◌≡◌, ℕ, ◌+◌, List, ◌∷◌, ◌++◌, [], take, drop, get_or, sym, ap, ◌∙◌, subst}
 use Rattle.std.proofs.lemmas.List.{take_more, drop_more, take-append-drop}
 use Rattle.aig_sim.specs.declared.simulation.Simulation.{Simulation}
-use Rattle.aig_sim.specs.declared.stimulus_fault.StimFault.{StimFault}
 use Rattle.aig_sim.specs.Running.{HasRoom, Stops, GoesOn}
 use Rattle.aig_sim.proofs.LineLemmas.{fault_same}
 use Rattle.aig_sim.proofs.SimulationLemmas.{byte_goes_on, goes_on_then, stops_then}
