@@ -1,5 +1,5 @@
 -- The cells of a grid: a row a frame, a value a variable.
-use Rattle.std.specs.Prelude.{ℕ, ◌-◌, ◌%◌, List, ◌∷◌, replicate, slice_index_or, nat_eq, if◌then◌else◌}
+use Rattle.std.specs.Prelude.{ℕ, ◌-◌, ◌%◌, Bool, List, ◌∷◌, replicate, slice_index_or, nat_eq, if◌then◌else◌}
 use Rattle.aig_base.specs.declared.ternary.Tern.{Tern}
 use Rattle.aig_base.specs.declared.ternary.Tern.TheVariants.{Zero, X}
 use Rattle.aig_base.specs.declared.gate.Gate.{Gate}
@@ -18,3 +18,9 @@ gate_value row g = kleene_and (literal_value row g.rhs0) (literal_value row g.rh
 -- a new row of n cells: 0 at variable 0, x everywhere else
 abbrev pub fresh_row : ℕ → List Tern
 fresh_row n = Zero ∷ replicate (n - 1) X
+
+-- what a grid is seen as: the values row by row, which variables are gates, and how many evaluations there were
+pub record Cells : Type 0 where
+  pub cells : List (List Tern)
+  pub gate_flags : List Bool
+  pub evaluations : ℕ

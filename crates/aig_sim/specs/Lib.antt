@@ -1,5 +1,10 @@
 pub mod Cells
+pub mod Frame
+pub mod GateOrder
 pub mod InputRows
+pub mod LineInHand
+pub mod Machine
+pub mod Running
 pub mod Simulated
 pub mod StimulusText
 pub mod Trace

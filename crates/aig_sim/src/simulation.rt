@@ -1,23 +1,132 @@
 //! Simulation of a stimulus that is read row by row.
+ghost use Rattle.std.specs.Prelude.{◌≡◌, ◌≢◌, ℕ, List, [], ◌∷◌, ◌++◌, IfOk, IfErr, OnOk, OnErr};
+ghost use Rattle.aig_base.specs.Value.{start_of};
+ghost use Rattle.aig_sim.specs.declared.line_in_hand.Shape.TheVariants as shapes;
+ghost use Rattle.aig_sim.specs.LineInHand.{Keeps};
+ghost use Rattle.aig_sim.specs.Running.{HasRoom, GoesOn, Stops};
 ghost use Rattle.aig_sim.specs.Simulated.{Simulates};
 
+use crate::line_in_hand::LineInHand;
+use crate::machine::Machine;
 use crate::stimulus_fault::StimFault;
-use aig_base::{Circuit, Read, Write};
+use aig_base::{Circuit, Memory, Read, Write, write_all};
 use std::alloc::Global;
+
+/// A simulation between two bytes: the circuit, the line in hand, and how many frames there were (`u64::MAX` for more).
+#[derive(Drop)]
+pub struct Simulation<'a> {
+    pub machine: Machine<'a>,
+    pub line: LineInHand,
+    pub frames: u64,
+}
+
+impl<'a> Simulation<'a> {
+    // The simulation before the first byte. All memory that it takes is reserved here.
+    fn new(alloc: Global, circuit: &'a Circuit) -> Result<Simulation<'a>, Memory>
+        ensures room { IfOk result HasRoom }
+        ensures circuit { IfOk result (λ s. s.machine.circuit ≡ circuit.now) }
+        ensures states { IfOk result (λ s. s.machine.states ≡ start_of circuit.now) }
+        ensures line { IfOk result (λ s. (s.line.shape ≡ shapes.Row) × (s.line.values ≡ [])) }
+        ensures frames { IfOk result (λ s. s.frames ≡ 0) }
+    {
+        let width = circuit.inputs().len();
+        Ok(Simulation {
+            machine: Machine::new(alloc, circuit)?,
+            line: LineInHand::new(alloc, width, width)?,
+            frames: 0,
+        })
+    }
+
+    // Simulates the row that the line in hand is, and writes its trace line.
+    fn end_line<W: Write>(&mut self, out: &mut W) -> Result<(), StimFault>
+        requires room { HasRoom self.old }
+        ensures room { HasRoom self.new }
+        ensures ok { OnOk result (GoesOn (10 ∷ []) self.old self.new
+            (W.written out.old) (W.written out.new) (W.failures out.old) (W.failures out.new)) }
+        ensures err { IfErr result (λ fault. (more : List ℕ) → Stops (10 ∷ more) self.old
+            (W.written out.old) (W.written out.new) (W.failures out.old) (W.failures out.new) fault) }
+    {
+        let number = self.frames.saturating_add(1);
+        let row = self.line.row(number)?;
+        self.machine.step(row);
+        write_all(out, self.machine.line())?;
+        self.frames = number;
+        self.line.clear();
+        Ok(())
+    }
+
+    // Takes a byte of a line. There is room for the width, so that it takes no memory.
+    fn push(&mut self, byte: u8)
+        requires room { HasRoom self.old }
+        ensures room { HasRoom self.new }
+        ensures frames { self.new.frames ≡ self.old.frames }
+        ensures machine { self.new.machine ≡ self.old.machine }
+        ensures keeps { (line : List ℕ) →
+            Keeps self.old.line.width line self.old.line.shape self.old.line.values →
+            Keeps self.old.line.width (line ++ byte ∷ []) self.new.line.shape self.new.line.values }
+    {
+        self.line.push(byte).unwrap();
+    }
+
+    // Takes the bytes of a chunk, and simulates each row that ends in it.
+    fn feed<W: Write>(&mut self, chunk: &[u8], out: &mut W) -> Result<(), StimFault>
+        requires room { HasRoom self.old }
+        ensures room { HasRoom self.new }
+        ensures ok { OnOk result (GoesOn chunk.now self.old self.new
+            (W.written out.old) (W.written out.new) (W.failures out.old) (W.failures out.new)) }
+        ensures err { IfErr result (Stops chunk.now self.old
+            (W.written out.old) (W.written out.new) (W.failures out.old) (W.failures out.new)) }
+    {
+        for byte in chunk {
+            if *byte == b'\n' {
+                self.end_line(out)?;
+            } else {
+                self.push(*byte);
+            }
+        }
+        Ok(())
+    }
+
+    // The number of frames, where the text ends behind an LF.
+    fn finish(&self) -> Result<u64, StimFault>
+        ensures frames { IfOk result (λ frames. frames ≡ self.now.frames) }
+        ensures ended { OnOk result ((line : List ℕ) →
+            Keeps self.now.line.width line self.now.line.shape self.now.line.values → line ≡ []) }
+        ensures fault { IfErr result (λ fault. fault ≡ StimFault.Unfinished) }
+        ensures unfinished { OnErr result ((line : List ℕ) →
+            Keeps self.now.line.width line self.now.line.shape self.now.line.values → line ≢ []) }
+    {
+        if self.line.is_empty() {
+            Ok(self.frames)
+        } else {
+            Err(StimFault::Unfinished)
+        }
+    }
+}
 
 /// Reads rows to the end, writes the trace line of each before it reads on, and answers how many there were (`u64::MAX`
 /// for more). It keeps one row, one line and the latches' values, all reserved before the first read; there is no limit
 /// on frames.
 pub fn simulate<R: Read, W: Write>(
-    _alloc: Global,
-    _circuit: &Circuit,
-    _reader: &mut R,
-    _out: &mut W,
+    alloc: Global,
+    circuit: &Circuit,
+    reader: &mut R,
+    out: &mut W,
 ) -> Result<u64, StimFault>
-    ensures { Simulates _circuit.now
-        (record { left = R.left _reader.old; reads = R.failures _reader.old; writes = W.failures _out.old })
-        (record { left = R.left _reader.new; reads = R.failures _reader.new; writes = W.failures _out.new })
-        (W.written _out.old) (W.written _out.new) result }
+    ensures { Simulates circuit.now
+        (record { left = R.left reader.old; reads = R.failures reader.old; writes = W.failures out.old })
+        (record { left = R.left reader.new; reads = R.failures reader.new; writes = W.failures out.new })
+        (W.written out.old) (W.written out.new) result }
 {
-    Err(StimFault::Memory)
+    let mut simulation = Simulation::new(alloc, circuit)?;
+    let mut chunk = [0u8; 4096];
+    'chunks: loop {
+        let Ok(size) = reader.read(&mut chunk) else {
+            return Err(StimFault::Io);
+        };
+        if size == 0 {
+            return simulation.finish();
+        }
+        simulation.feed(&chunk[..size], out)?;
+    }
 }

@@ -1,4 +1,7 @@
 //! Why a stimulus is refused.
+ghost use Rattle.std.specs.Prelude.{◌≡◌};
+
+use aig_base::{Io, Memory};
 use thiserror::Error;
 
 /// Why the text of a stimulus is refused. Lines count from 1, and `u64::MAX` stands for any greater number; the first
@@ -23,4 +26,24 @@ pub enum StimFault {
     /// A read or a write failed.
     #[error("input or output")]
     Io,
+}
+
+impl From<Memory> for StimFault {
+    ghost use Rattle.aig_sim.specs.declared.stimulus_fault.StimFault.TheVariants as faults;
+
+    ghost from_gives = { λ _ fault. fault ≡ faults.Memory };
+
+    fn from(_error: Memory) -> StimFault {
+        StimFault::Memory
+    }
+}
+
+impl From<Io> for StimFault {
+    ghost use Rattle.aig_sim.specs.declared.stimulus_fault.StimFault.TheVariants as faults;
+
+    ghost from_gives = { λ _ fault. fault ≡ faults.Io };
+
+    fn from(_error: Io) -> StimFault {
+        StimFault::Io
+    }
 }

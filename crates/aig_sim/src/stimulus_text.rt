@@ -1,19 +1,55 @@
 //! The text of a stimulus.
-ghost use Rattle.std.specs.Prelude.{◌≡◌, ◌≢◌, List, ◌≤◌, length, IfOk, IfErr};
+ghost use Rattle.std.specs.Prelude.{◌≡◌, ◌≢◌, ℕ, ◌≤◌, List, [], ◌∷◌, ◌++◌, length, IfOk, IfErr, OnOk};
 ghost use Rattle.aig_base.specs.declared.ternary.Tern.{Tern};
-ghost use Rattle.aig_sim.specs.StimulusText.{SpellsRows, HasFaultyLine};
+ghost use Rattle.aig_sim.specs.LineInHand.{Keeps};
+ghost use Rattle.aig_sim.specs.declared.line_in_hand.Shape.TheVariants as shapes;
+ghost use Rattle.aig_sim.specs.StimulusText.{EndsLine, SpellsRows, HasFault, HasFaultyLine};
 
-use crate::stimulus::Stimulus;
+use crate::line_in_hand::LineInHand;
+use crate::stimulus::{FRAMES, Stimulus};
 use crate::stimulus_fault::StimFault;
 use std::alloc::Global;
 
+// Adds the row that the line in hand is.
+fn end_line(stimulus: &mut Stimulus, line: &LineInHand) -> Result<(), StimFault>
+    requires { line.now.width ≡ stimulus.old.width }
+    ensures width { stimulus.new.width ≡ stimulus.old.width }
+    ensures limit { length stimulus.new.rows ≤ 65536 }
+    ensures row { OnOk result ((line.now.shape ≡ shapes.Row) × (length line.now.values ≡ line.now.width)
+        × (stimulus.new.rows ≡ stimulus.old.rows ++ line.now.values ∷ [])) }
+    ensures fault { IfErr result (λ fault. fault ≢ StimFault.Memory → (bytes rest : List ℕ) →
+        Keeps line.now.width bytes line.now.shape line.now.values → EndsLine rest →
+        HasFault line.now.width (length stimulus.old.rows) bytes rest fault) }
+{
+    let row = line.row(stimulus.frames() as u64 + 1)?;
+    if stimulus.frames() == FRAMES {
+        return Err(StimFault::Limit);
+    }
+    stimulus.push(row)?;
+    Ok(())
+}
+
 /// The rows of a text: a line of `width` characters a frame, each `0`, `1` or `x`, each line ended by LF. Otherwise the
 /// fault of the first line that is none of these.
-pub fn read_stimulus(_alloc: Global, _bytes: &[u8], _width: u32) -> Result<Stimulus, StimFault>
-    ensures width { IfOk result (λ stimulus. stimulus.width ≡ _width) }
-    ensures rows { IfOk result (λ stimulus. SpellsRows _width _bytes.now stimulus.rows) }
+pub fn read_stimulus(alloc: Global, bytes: &[u8], width: u32) -> Result<Stimulus, StimFault>
+    ensures width { IfOk result (λ stimulus. stimulus.width ≡ width) }
+    ensures rows { IfOk result (λ stimulus. SpellsRows width bytes.now stimulus.rows) }
     ensures fault { IfErr result (λ fault. fault ≢ StimFault.Memory →
-        (rows : List (List Tern)) × (length rows ≤ 65536) × HasFaultyLine _width _bytes.now rows fault) }
+        (rows : List (List Tern)) × (length rows ≤ 65536) × HasFaultyLine width bytes.now rows fault) }
 {
-    Err(StimFault::Memory)
+    let mut stimulus = Stimulus::new(alloc, width);
+    let mut line = LineInHand::new(alloc, width as usize, 0)?;
+    for byte in bytes {
+        if *byte == b'\n' {
+            end_line(&mut stimulus, &line)?;
+            line.clear();
+        } else {
+            line.push(*byte)?;
+        }
+    }
+    if line.is_empty() {
+        Ok(stimulus)
+    } else {
+        Err(StimFault::Unfinished)
+    }
 }

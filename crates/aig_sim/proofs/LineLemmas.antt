@@ -1,0 +1,180 @@
+-- A stimulus text, byte by byte.
+use Rattle.std.proofs.Common.{◌≡◌, ◌≢◌, ℕ, ◌≤◌, List, [], ◌∷◌, ◌++◌, length, map, All, inl, inr, refl, sym, ap, ◌∙◌, subst, arith, append_assoc}
+use Rattle.std.specs.List.{flat_map}
+use Rattle.std.specs.Prelude.{Result, Ok, Err, IfErr}
+use Rattle.std.specs.Result.{IsErrAnd}
+use Rattle.std.proofs.lemmas.List.{append-nil, length-map, length_push, get_or_append_left}
+use Rattle.std.proofs.lemmas.List.Concat.{flat_map-append}
+use Rattle.std.proofs.lemmas.List.Elements.{All-nil, All-push, All-map}
+use Rattle.aig_base.specs.declared.ternary.Tern.{Tern}
+use Rattle.aig_base.specs.declared.ternary.Tern.TheVariants.{Zero, One, X}
+use Rattle.aig_sim.specs.declared.stimulus_fault.StimFault.{StimFault}
+use Rattle.aig_sim.specs.declared.stimulus_fault.StimFault.TheVariants as fault
+use Rattle.aig_sim.specs.declared.line_in_hand.Shape.{Shape}
+use Rattle.aig_sim.specs.declared.line_in_hand.Shape.TheVariants.{Row, Long, Wrong}
+use Rattle.aig_sim.specs.StimulusText.{character, row_line, line_number, IsCharacter, EndsLine, HasFault, HasFaultyLine, SpellsRows}
+use Rattle.aig_sim.specs.LineInHand.{Keeps, HasRead}
+
+pub IsCharacter-of_value : (w : Tern) → IsCharacter (character w)
+IsCharacter-of_value Zero = inl refl
+IsCharacter-of_value One = inr (inl refl)
+IsCharacter-of_value X = inr (inr refl)
+
+pub no_end_in_character : (w : Tern) → character w ≢ 10
+no_end_in_character Zero = λ h. omega arith
+no_end_in_character One = λ h. omega arith
+no_end_in_character X = λ h. omega arith
+
+-- a row is spelled by characters
+pub characters : (values : List Tern) → All IsCharacter (map character values)
+characters values = All-map IsCharacter character values (λ i d h. IsCharacter-of_value _)
+
+-- a character past the width
+pub keeps_long : (width : ℕ) (line : List ℕ) (values : List Tern) (w : Tern) (values' : List Tern) → width ≤ length values
+    → Keeps width line Row values → Keeps width (line ++ character w ∷ []) Long values'
+keeps_long width line values w values' h k =
+    let e = k.kept.0 in
+    record {
+      kept = (
+        All-push IsCharacter line (character w) (subst (All IsCharacter) (sym e) (characters values)) (IsCharacter-of_value w),
+        omega (arith, length_push line (character w), ap length e, length-map values character),
+      );
+    }
+
+-- a character of a line that can be no row any more
+pub keeps_more : (width : ℕ) (line : List ℕ) (shape : Shape) (values : List Tern) (w : Tern) → (shape ≡ Row → ⊥)
+    → Keeps width line shape values → Keeps width (line ++ character w ∷ []) shape values
+keeps_more width line Row values w other k = absurd (other refl)
+keeps_more width line Long values w other k = record {
+  kept = (
+    All-push IsCharacter line (character w) k.kept.0 (IsCharacter-of_value w),
+    omega (arith, length_push line (character w), k.kept.1),
+  );
+}
+keeps_more width line Wrong values w other k =
+    record { kept = λ h. k.kept (λ i d lt. subst IsCharacter (get_or_append_left line _ d i lt) (h i d (omega (arith, length_push line (character w))))) }
+
+-- a line that has no wrong byte and is no row has a wrong length
+pub length_is_wrong : (width number before : ℕ) (line rest : List ℕ) (shape : Shape) (values : List Tern)
+    → (shape ≡ Wrong → ⊥) → (shape ≡ Row → length values ≢ width) → number ≡ line_number before
+    → Keeps width line shape values → EndsLine rest → HasFault width before line rest (fault.Length number)
+length_is_wrong width number before line rest Row values other ne e k ends = (
+  e,
+  ends,
+  subst (All IsCharacter) (sym k.kept.0) (characters values),
+  λ h. ne refl (sym (length-map values character) ∙ ap length (sym k.kept.0) ∙ h),
+)
+length_is_wrong width number before line rest Long values other ne e k ends = (e, ends, k.kept.0, λ h. omega (arith, h, k.kept.1))
+length_is_wrong width number before line rest Wrong values other ne e k ends = absurd (other refl)
+
+-- nothing was read
+pub read_none : (width : ℕ) → HasRead width [] [] Row []
+read_none width = record {
+  widths = All-nil (λ row. length row ≡ width);
+  line = [];
+  no_end = All-nil (λ b. b ≢ 10);
+  text_is = refl;
+  keeps = record { kept = (refl, omega arith) };
+}
+
+-- one byte more of a line
+pub read_byte : {width : ℕ} {text : List ℕ} {rows : List (List Tern)} {shape : Shape} {values : List Tern} (shape' : Shape) (values' : List Tern) (b : ℕ)
+    → HasRead width text rows shape values → b ≢ 10
+    → ((line : List ℕ) → Keeps width line shape values → Keeps width (line ++ b ∷ []) shape' values')
+    → HasRead width (text ++ b ∷ []) rows shape' values'
+read_byte {rows} shape' values' b h ne step = record {
+  widths = h.widths;
+  line = h.line ++ b ∷ [];
+  no_end = All-push (λ b. b ≢ 10) h.line b h.no_end ne;
+  text_is = ap (λ (t : List ℕ). t ++ b ∷ []) h.text_is ∙ append_assoc (flat_map row_line rows) h.line (b ∷ []);
+  keeps = step h.line h.keeps;
+}
+
+flat_map_push : (rows : List (List Tern)) (values : List Tern)
+    → flat_map row_line (rows ++ values ∷ []) ≡ flat_map row_line rows ++ (map character values ++ 10 ∷ [])
+flat_map_push rows values =
+    flat_map-append row_line rows (values ∷ []) ∙ ap (λ (t : List ℕ). flat_map row_line rows ++ t) (append-nil (row_line values))
+
+-- the end of a row
+pub read_line : {width : ℕ} {text : List ℕ} {rows : List (List Tern)} {values : List Tern}
+    → HasRead width text rows Row values → length values ≡ width → HasRead width (text ++ 10 ∷ []) (rows ++ values ∷ []) Row []
+read_line {width} {rows} {values} h len = record {
+  widths = All-push (λ row. length row ≡ width) rows values h.widths len;
+  line = [];
+  no_end = All-nil (λ b. b ≢ 10);
+  text_is =
+      ap (λ (t : List ℕ). t ++ 10 ∷ []) (h.text_is ∙ ap (λ (t : List ℕ). flat_map row_line rows ++ t) h.keeps.kept.0)
+      ∙ append_assoc (flat_map row_line rows) (map character values) (10 ∷ [])
+      ∙ sym (flat_map_push rows values) ∙ sym (append-nil _);
+  keeps = record { kept = (refl, omega arith) };
+}
+
+-- the end of a line that is no row
+pub read_fault : {width : ℕ} {text : List ℕ} {rows : List (List Tern)} {shape : Shape} {values : List Tern} {f : StimFault} (more : List ℕ)
+    → HasRead width text rows shape values
+    → ((line rest : List ℕ) → Keeps width line shape values → EndsLine rest → HasFault width (length rows) line rest f)
+    → HasFaultyLine width (text ++ (10 ∷ more)) rows f
+read_fault {rows} more h is = record {
+  widths = h.widths;
+  line = h.line;
+  rest = 10 ∷ more;
+  no_end = h.no_end;
+  text_is = ap (λ (t : List ℕ). t ++ (10 ∷ more)) h.text_is ∙ append_assoc (flat_map row_line rows) h.line (10 ∷ more);
+  fault_is = is h.line (10 ∷ more) h.keeps (more, refl);
+}
+
+-- the end of a text that no LF ends
+pub read_unfinished : {width : ℕ} {text : List ℕ} {rows : List (List Tern)} {shape : Shape} {values : List Tern}
+    → HasRead width text rows shape values → ((line : List ℕ) → Keeps width line shape values → line ≢ [])
+    → HasFaultyLine width text rows fault.Unfinished
+read_unfinished {rows} h some = record {
+  widths = h.widths;
+  line = h.line;
+  rest = [];
+  no_end = h.no_end;
+  text_is = h.text_is ∙ ap (λ (t : List ℕ). flat_map row_line rows ++ t) (sym (append-nil h.line));
+  fault_is = (refl, some h.line h.keeps);
+}
+
+-- the end of a text behind an LF
+pub read_end : {width : ℕ} {text : List ℕ} {rows : List (List Tern)} {shape : Shape} {values : List Tern}
+    → HasRead width text rows shape values → ((line : List ℕ) → Keeps width line shape values → line ≡ [])
+    → SpellsRows width text rows
+read_end {rows} h none = record {
+  widths = h.widths;
+  text_is = h.text_is ∙ ap (λ (t : List ℕ). flat_map row_line rows ++ t) (none h.line h.keeps) ∙ append-nil (flat_map row_line rows);
+}
+
+-- a row behind the last one that is allowed
+pub limit_is_passed : (width before : ℕ) (line rest : List ℕ) (shape : Shape) (values : List Tern)
+    → shape ≡ Row → length values ≡ width → before ≡ 65536
+    → Keeps width line shape values → EndsLine rest → HasFault width before line rest fault.Limit
+limit_is_passed width before line rest Row values is len e k ends = (
+  e,
+  ends,
+  subst (All IsCharacter) (sym k.kept.0) (characters values),
+  ap length k.kept.0 ∙ length-map values character ∙ len,
+)
+limit_is_passed width before line rest Long values is len e k ends = let different : ⊥ = cc in absurd different
+limit_is_passed width before line rest Wrong values is len e k ends = let different : ⊥ = cc in absurd different
+
+pub read_same : {width : ℕ} {text text' : List ℕ} {rows rows' : List (List Tern)} {shape shape' : Shape} {values values' : List Tern}
+    → HasRead width text rows shape values → text ≡ text' → rows ≡ rows' → shape ≡ shape' → values ≡ values'
+    → HasRead width text' rows' shape' values'
+read_same {width} {text'} {rows} {rows'} {shape} {shape'} {values} {values'} h t r s v =
+    subst (λ (x : List Tern). HasRead width text' rows' shape' x) v
+    (subst (λ (x : Shape). HasRead width text' rows' x values) s
+    (subst (λ (x : List (List Tern)). HasRead width text' x shape values) r
+    (subst (λ (x : List ℕ). HasRead width x rows shape values) t h)))
+
+-- a fault that is handed on
+pub fault_same : {T E : Type 0} (r : Result T E) (e : E) (P : E → Type 0) → IsErrAnd r (λ y. y ≡ e) → P e → IfErr r P
+fault_same (Ok x) e P h p = tt
+fault_same (Err y) e P h p = subst P (sym h) p
+
+-- the same width, by another name
+pub step_same : {n m : ℕ} (s s' : Shape) (v v' : List Tern) (b : ℕ) → n ≡ m
+    → ((line : List ℕ) → Keeps n line s v → Keeps n (line ++ b ∷ []) s' v')
+    → (line : List ℕ) → Keeps m line s v → Keeps m (line ++ b ∷ []) s' v'
+step_same s s' v v' b e =
+    subst (λ (w : ℕ). (line : List ℕ) → Keeps w line s v → Keeps w (line ++ b ∷ []) s' v') e

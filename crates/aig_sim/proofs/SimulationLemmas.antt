@@ -1,0 +1,349 @@
+-- A simulation, byte by byte and chunk by chunk.
+use Rattle.std.proofs.Common.{◌≡◌, ◌≢◌, ℕ, zero, suc, ◌+◌, ◌-◌, ◌^◌, min, List, [], ◌∷◌, ◌++◌, length, map, inl, inr, refl, sym, ap, ◌∙◌, subst, arith, append_assoc, add-one, Ok, Err}
+use Rattle.std.specs.Prelude.{Option, Some, None, Result, IfOk, IfErr, OnOk, OnErr}
+use Rattle.std.specs.List.{flat_map}
+use Rattle.std.proofs.lemmas.List.{append-nil, length_push}
+use Rattle.aig_base.specs.declared.ternary.Tern.{Tern}
+use Rattle.aig_base.specs.declared.raw.Raw.{Raw}
+use Rattle.aig_base.specs.Bytes.{after, before, IsAtEnd, IsBeginning}
+use Rattle.aig_base.specs.Value.{start_of}
+use Rattle.aig_base.proofs.WriteLemmas.{after-append, after-nil}
+use Rattle.aig_sim.specs.declared.simulation.Simulation.{Simulation}
+use Rattle.aig_sim.specs.declared.line_in_hand.Shape.{Shape}
+use Rattle.aig_sim.specs.declared.line_in_hand.Shape.TheVariants.{Row}
+use Rattle.aig_sim.specs.declared.stimulus_fault.StimFault.{StimFault}
+use Rattle.aig_sim.specs.declared.stimulus_fault.StimFault.TheVariants as fault
+use Rattle.aig_sim.specs.Frame.{AreStates}
+use Rattle.aig_sim.specs.LineInHand.{Keeps, HasRead, IsOfLine}
+use Rattle.aig_sim.specs.Machine.{Machine, Steps}
+use Rattle.aig_sim.specs.Running.{Running, StopsBy, Stopped, GoesOn, Stops, ReadSoFar}
+use Rattle.aig_sim.specs.Simulated.{Simulates}
+use Rattle.aig_sim.specs.StimulusText.{row_line, line_number, EndsLine, HasFault, HasFaultyLine}
+use Rattle.aig_sim.specs.Trace.{AreValues, IsLine, AreLines, IsTrace}
+use Rattle.aig_sim.proofs.LineLemmas.{read_none, read_byte, read_line, read_fault, read_unfinished, read_end, step_same}
+use Rattle.aig_sim.proofs.TraceLemmas.{value_stays}
+
+-- ---- the trace so far
+module _ (raw : Raw) (start : List Tern) (rows more : List (List Tern)) where
+  values_stay : (t : ℕ) (ls bs : List ℕ) → AreValues raw start rows t ls bs → AreValues raw start (rows ++ more) t ls bs
+  values_stay t [] [] h = tt
+  values_stay t [] (b ∷ bs) h = absurd h
+  values_stay t (l ∷ ls) [] h = absurd h
+  values_stay t (l ∷ ls) (b ∷ bs) h = ((h.0.0, value_stays more h.0.1, h.0.2), values_stay t ls bs h.1)
+
+  line_stays : (t : ℕ) (line : List ℕ) → IsLine raw start rows t line → IsLine raw start (rows ++ more) t line
+  line_stays t line h = record {
+    state = h.state;
+    inputs = h.inputs;
+    outputs = h.outputs;
+    next = h.next;
+    state_is = values_stay t (map (λ x. x.lit) raw.latches) h.state h.state_is;
+    inputs_are = values_stay t raw.inputs h.inputs h.inputs_are;
+    outputs_are = values_stay t raw.outputs h.outputs h.outputs_are;
+    next_is = values_stay t (map (λ x. x.next) raw.latches) h.next h.next_is;
+    line_is = h.line_is;
+  }
+
+  lines_stay : (t : ℕ) (text : List ℕ) → AreLines raw start rows t text → AreLines raw start (rows ++ more) t text
+  lines_stay zero text h = h
+  lines_stay (suc t) text h = (h.0, h.1, lines_stay t h.0 h.2, line_stays t h.1 h.3, h.4)
+
+-- one line more
+trace_more : (raw : Raw) (start : List Tern) (rows : List (List Tern)) (row : List Tern) (trace line : List ℕ)
+    → IsTrace raw start rows trace → IsLine raw start (rows ++ row ∷ []) (length rows) line
+    → IsTrace raw start (rows ++ row ∷ []) (trace ++ line)
+trace_more raw start rows row trace line h k =
+    subst (λ (n : ℕ). AreLines raw start (rows ++ row ∷ []) n (trace ++ line)) (sym (add-one (length rows)) ∙ sym (length_push rows row))
+    (trace, line, lines_stay raw start rows (row ∷ []) (length rows) trace h, k, refl)
+
+-- ---- steps
+pub running_none : (raw : Raw) (start : Option (List ℕ)) (count : ℕ) (s : Simulation) → s.machine.circuit ≡ raw
+    → AreStates raw [] 0 s.machine.states → s.line.shape ≡ Row → s.line.values ≡ [] → s.frames ≡ 0
+    → Running raw start count [] s start count
+running_none raw start count s circuit states shape values frames = record {
+  rows = [];
+  trace = [];
+  circuit_is = circuit;
+  has_read = subst (λ (v : List Tern). HasRead (length raw.inputs) [] [] s.line.shape v) (sym values)
+      (subst (λ (k : Shape). HasRead (length raw.inputs) [] [] k []) (sym shape) (read_none (length raw.inputs)));
+  states_are = states;
+  frames_are = omega (arith, frames);
+  trace_is = refl;
+  wrote = sym (after-nil start);
+  no_failure = refl;
+}
+
+pub byte_goes_on : (s s' : Simulation) (b : ℕ) (written : Option (List ℕ)) (failures : ℕ)
+    → s.line.width ≡ length s.machine.circuit.inputs → s'.frames ≡ s.frames → s'.machine ≡ s.machine → b ≢ 10
+    → ((line : List ℕ) → Keeps s.line.width line s.line.shape s.line.values → Keeps s.line.width (line ++ b ∷ []) s'.line.shape s'.line.values)
+    → GoesOn (b ∷ []) s s' written written failures failures
+byte_goes_on s s' b written failures width frames machine ne step raw start count text r = record {
+  rows = r.rows;
+  trace = r.trace;
+  circuit_is = ap (λ (m : Machine). m.circuit) machine ∙ r.circuit_is;
+  has_read = read_byte s'.line.shape s'.line.values b r.has_read ne
+      (step_same s.line.shape s'.line.shape s.line.values s'.line.values b (width ∙ ap (λ (c : Raw). length c.inputs) r.circuit_is) step);
+  states_are = subst (λ (m : Machine). AreStates raw r.rows (length r.rows) m.states) (sym machine) r.states_are;
+  frames_are = frames ∙ r.frames_are;
+  trace_is = r.trace_is;
+  wrote = r.wrote;
+  no_failure = r.no_failure;
+}
+
+pub nothing_goes_on : (s : Simulation) (written : Option (List ℕ)) (failures : ℕ) → GoesOn [] s s written written failures failures
+nothing_goes_on s written failures raw start count text r =
+    subst (λ (t : List ℕ). Running raw start count t s written failures) (sym (append-nil text)) r
+
+pub goes_on_then : (a b : List ℕ) (s mid s' : Simulation) (w x y : Option (List ℕ)) (f g h : ℕ)
+    → GoesOn a s mid w x f g → GoesOn b mid s' x y g h → GoesOn (a ++ b) s s' w y f h
+goes_on_then a b s mid s' w x y f g h p q raw start count text r =
+    subst (λ (t : List ℕ). Running raw start count t s' y h) (append_assoc text a b) (q raw start count (text ++ a) (p raw start count text r))
+
+pub stops_then : (a b : List ℕ) (s mid : Simulation) (w x y : Option (List ℕ)) (f g h : ℕ) (e : StimFault)
+    → GoesOn a s mid w x f g → Stops b mid x y g h e → Stops (a ++ b) s w y f h e
+stops_then a b s mid w x y f g h e p q raw start count text r =
+    subst (λ (t : List ℕ). Stopped raw start count t y h e) (append_assoc text a b) (q raw start count (text ++ a) (p raw start count text r))
+
+module _ (s : Simulation) (machine' : Machine) (row : List Tern) (width : s.line.width ≡ length s.machine.circuit.inputs)
+    (shape : s.line.shape ≡ Row) (values : s.line.values ≡ row) (len : length row ≡ s.line.width)
+    (circuit : machine'.circuit ≡ s.machine.circuit)
+    (step : (rows : List (List Tern)) → AreStates s.machine.circuit rows (length rows) s.machine.states
+    → Steps s.machine.circuit rows row machine'.states machine'.line) where
+  stepped : (raw : Raw) (rows : List (List Tern)) → s.machine.circuit ≡ raw → AreStates raw rows (length rows) s.machine.states
+      → Steps raw rows row machine'.states machine'.line
+  stepped raw rows is are =
+      subst (λ (c : Raw). Steps c rows row machine'.states machine'.line) is
+      (step rows (subst (λ (c : Raw). AreStates c rows (length rows) s.machine.states) (sym is) are))
+
+  row_read : (raw : Raw) (text : List ℕ) (rows : List (List Tern)) → s.machine.circuit ≡ raw
+      → HasRead (length raw.inputs) text rows s.line.shape s.line.values
+      → HasRead (length raw.inputs) (text ++ 10 ∷ []) (rows ++ row ∷ []) Row []
+  row_read raw text rows is h =
+      read_line (subst (λ (v : List Tern). HasRead (length raw.inputs) text rows Row v) values
+      (subst (λ (k : Shape). HasRead (length raw.inputs) text rows k s.line.values) shape h))
+      (len ∙ width ∙ ap (λ (c : Raw). length c.inputs) is)
+
+  -- a row was simulated and its line written
+  pub row_goes_on : (s' : Simulation) (written written' : Option (List ℕ)) (failures failures' : ℕ) → s'.machine ≡ machine'
+      → s'.line.shape ≡ Row → s'.line.values ≡ [] → s'.frames ≡ min (s.frames + 1) (2 ^ 64 - 1)
+      → written' ≡ after written machine'.line → failures' ≡ failures + 0
+      → GoesOn (10 ∷ []) s s' written written' failures failures'
+  row_goes_on s' written written' failures failures' machine-is shape' values' frames wrote count-is raw start count text r =
+      let done = stepped raw r.rows r.circuit_is r.states_are in
+      record {
+        rows = r.rows ++ row ∷ [];
+        trace = r.trace ++ machine'.line;
+        circuit_is = ap (λ (m : Machine). m.circuit) machine-is ∙ circuit ∙ r.circuit_is;
+        has_read = subst (λ (v : List Tern). HasRead (length raw.inputs) (text ++ 10 ∷ []) (r.rows ++ row ∷ []) s'.line.shape v) (sym values')
+            (subst (λ (k : Shape). HasRead (length raw.inputs) (text ++ 10 ∷ []) (r.rows ++ row ∷ []) k []) (sym shape')
+            (row_read raw text r.rows r.circuit_is r.has_read));
+        states_are = subst (λ (n : ℕ). AreStates raw (r.rows ++ row ∷ []) n s'.machine.states) (sym (length_push r.rows row))
+            (subst (λ (m : Machine). AreStates raw (r.rows ++ row ∷ []) (length r.rows + 1) m.states) (sym machine-is) done.states_are);
+        frames_are = omega (arith, frames, r.frames_are, length_push r.rows row);
+        trace_is = trace_more raw (start_of raw) r.rows row r.trace machine'.line r.trace_is done.line_is;
+        wrote = wrote ∙ ap (λ (w : Option (List ℕ)). after w machine'.line) r.wrote ∙ after-append start r.trace machine'.line;
+        no_failure = omega (arith, count-is, r.no_failure);
+      }
+
+  -- a row was simulated, and the write of its line failed
+  pub row_stops : (more : List ℕ) (written written' : Option (List ℕ)) (failures failures' : ℕ)
+      → (done : List ℕ) × IsBeginning done machine'.line × (written' ≡ after written done) → failures' ≡ failures + 1
+      → Stops (10 ∷ more) s written written' failures failures' fault.Io
+  row_stops more written written' failures failures' (done, begins, wrote) count-is raw start count text r =
+      let done' = stepped raw r.rows r.circuit_is r.states_are in
+      let read = row_read raw text r.rows r.circuit_is r.has_read in
+      record {
+        rows = r.rows ++ row ∷ [];
+        trace = r.trace ++ machine'.line;
+        done = r.trace ++ done;
+        trace_is = trace_more raw (start_of raw) r.rows row r.trace machine'.line r.trace_is done'.line_is;
+        wrote = wrote ∙ ap (λ (w : Option (List ℕ)). after w done) r.wrote ∙ after-append start r.trace done;
+        why = (
+          record {
+            widths = read.widths;
+            rest = read.line ++ more;
+            text_is = sym (append_assoc text (10 ∷ []) more) ∙ ap (λ (t : List ℕ). t ++ more) read.text_is
+                ∙ append_assoc (flat_map row_line (r.rows ++ row ∷ [])) read.line more;
+          },
+          (begins.0, ap (λ (t : List ℕ). r.trace ++ t) begins.1 ∙ sym (append_assoc r.trace done begins.0)),
+          omega (arith, count-is, r.no_failure),
+        );
+      }
+
+stops_by_line : (raw : Raw) (count : ℕ) (text : List ℕ) (rows : List (List Tern)) (trace : List ℕ) (failures : ℕ) (f : StimFault)
+    → IsOfLine f → HasFaultyLine (length raw.inputs) text rows f → failures ≡ count → StopsBy raw count text rows trace trace failures f
+stops_by_line raw count text rows trace failures (fault.Char n) k h e = (h, refl, e)
+stops_by_line raw count text rows trace failures (fault.Length n) k h e = (h, refl, e)
+stops_by_line raw count text rows trace failures fault.Unfinished k h e = absurd k
+stops_by_line raw count text rows trace failures fault.Limit k h e = absurd k
+stops_by_line raw count text rows trace failures fault.Memory k h e = absurd k
+stops_by_line raw count text rows trace failures fault.Io k h e = absurd k
+
+-- a faulty line
+pub line_stops : (s : Simulation) (number : ℕ) (f : StimFault) (more : List ℕ) (written : Option (List ℕ)) (failures : ℕ)
+    → s.line.width ≡ length s.machine.circuit.inputs → number ≡ min (s.frames + 1) (2 ^ 64 - 1) → IsOfLine f
+    → ((before : ℕ) (line rest : List ℕ) → number ≡ line_number before → Keeps s.line.width line s.line.shape s.line.values
+    → EndsLine rest → HasFault s.line.width before line rest f)
+    → Stops (10 ∷ more) s written written failures failures f
+line_stops s number f more written failures width number-is kind is raw start count text r =
+    let wide : s.line.width ≡ length raw.inputs = width ∙ ap (λ (c : Raw). length c.inputs) r.circuit_is in
+    let e : number ≡ line_number (length r.rows) = omega (arith, number-is, r.frames_are) in
+    let faulty = subst (λ (n : ℕ). HasFaultyLine n (text ++ (10 ∷ more)) r.rows f) wide
+    (read_fault more (subst (λ (n : ℕ). HasRead n text r.rows s.line.shape s.line.values) (sym wide) r.has_read)
+    (λ line rest. is (length r.rows) line rest e)) in
+    record {
+      rows = r.rows;
+      trace = r.trace;
+      done = r.trace;
+      trace_is = r.trace_is;
+      wrote = r.wrote;
+      why = stops_by_line raw count (text ++ (10 ∷ more)) r.rows r.trace failures f kind faulty r.no_failure;
+    }
+
+-- ---- reads
+before_nil : (w : Option (List ℕ)) → before [] w ≡ w
+before_nil None = refl
+before_nil (Some xs) = refl
+
+before-before : (a b : List ℕ) (w : Option (List ℕ)) → before a (before b w) ≡ before (a ++ b) w
+before-before a b None = refl
+before-before a b (Some xs) = ap Some (sym (append_assoc a b xs))
+
+nothing_read : (text : List ℕ) (left mid to : Option (List ℕ)) → left ≡ before text mid → mid ≡ before [] to → left ≡ before text to
+nothing_read text left mid to h e = h ∙ ap (before text) (e ∙ before_nil to)
+
+pub read_nothing : (raw : Raw) (left : Option (List ℕ)) (reads : ℕ) (start : Option (List ℕ)) (count : ℕ) (s : Simulation)
+    → Running raw start count [] s start count → ReadSoFar raw left left reads reads start count s start count
+read_nothing raw left reads start count s r = record { text = []; read = sym (before_nil left); no_failure = refl; running = r }
+
+module _ {raw : Raw} {left mid to : Option (List ℕ)} {reads reads' reads'' : ℕ} {start : Option (List ℕ)} {count : ℕ} {s : Simulation}
+    {written : Option (List ℕ)} {failures : ℕ} (h : ReadSoFar raw left mid reads reads' start count s written failures) where
+  pub read_more : (chunk : List ℕ) (s' : Simulation) (written' : Option (List ℕ)) (failures' : ℕ) → mid ≡ before chunk to → reads'' ≡ reads' + 0
+      → GoesOn chunk s s' written written' failures failures' → ReadSoFar raw left to reads reads'' start count s' written' failures'
+  read_more chunk s' written' failures' e n g = record {
+    text = h.text ++ chunk;
+    read = h.read ∙ ap (before h.text) e ∙ before-before h.text chunk to;
+    no_failure = omega (arith, h.no_failure, n);
+    running = g raw start count h.text h.running;
+  }
+
+  stopped : (chunk : List ℕ) (written' : Option (List ℕ)) (failures' : ℕ) (f : StimFault) → mid ≡ before chunk to → reads'' ≡ reads' + 0
+      → Stopped raw start count (h.text ++ chunk) written' failures' f
+      → Simulates raw (record { left = left; reads = reads; writes = count }) (record { left = to; reads = reads''; writes = failures' }) start written' (Err f)
+  stopped chunk written' failures' fault.Io e n k = record {
+    text = h.text ++ chunk;
+    rows = k.rows;
+    trace = k.trace;
+    done = k.done;
+    read = h.read ∙ ap (before h.text) e ∙ before-before h.text chunk to;
+    trace_is = k.trace_is;
+    wrote = k.wrote;
+    ended = inr (k.why.0, k.why.1, (omega (arith, h.no_failure, n), k.why.2));
+  }
+  stopped chunk written' failures' (fault.Char m) e n k = record {
+    text = h.text ++ chunk;
+    rows = k.rows;
+    trace = k.trace;
+    done = k.done;
+    read = h.read ∙ ap (before h.text) e ∙ before-before h.text chunk to;
+    trace_is = k.trace_is;
+    wrote = k.wrote;
+    ended = (k.why.0, k.why.1, (omega (arith, h.no_failure, n), k.why.2));
+  }
+  stopped chunk written' failures' (fault.Length m) e n k = record {
+    text = h.text ++ chunk;
+    rows = k.rows;
+    trace = k.trace;
+    done = k.done;
+    read = h.read ∙ ap (before h.text) e ∙ before-before h.text chunk to;
+    trace_is = k.trace_is;
+    wrote = k.wrote;
+    ended = (k.why.0, k.why.1, (omega (arith, h.no_failure, n), k.why.2));
+  }
+  stopped chunk written' failures' fault.Unfinished e n k = absurd k.why
+  stopped chunk written' failures' fault.Limit e n k = absurd k.why
+  stopped chunk written' failures' fault.Memory e n k = absurd k.why
+
+  pub simulates_stopped : (chunk : List ℕ) (written' : Option (List ℕ)) (failures' : ℕ) (f : StimFault) → mid ≡ before chunk to → reads'' ≡ reads' + 0
+      → Stops chunk s written written' failures failures' f
+      → Simulates raw (record { left = left; reads = reads; writes = count }) (record { left = to; reads = reads''; writes = failures' }) start written' (Err f)
+  simulates_stopped chunk written' failures' f e n k = stopped chunk written' failures' f e n (k raw start count h.text h.running)
+
+  -- a read failed
+  pub simulates_read_failed : mid ≡ before [] to → reads'' ≡ reads' + 1
+      → Simulates raw (record { left = left; reads = reads; writes = count }) (record { left = to; reads = reads''; writes = failures }) start written (Err fault.Io)
+  simulates_read_failed e n =
+      let r = h.running in
+      record {
+        text = h.text;
+        rows = r.rows;
+        trace = r.trace;
+        done = r.trace;
+        read = nothing_read h.text left mid to h.read e;
+        trace_is = r.trace_is;
+        wrote = r.wrote;
+        ended = inl (
+          record { widths = r.has_read.widths; rest = r.has_read.line; no_end = r.has_read.no_end; text_is = r.has_read.text_is },
+          refl,
+          (omega (arith, h.no_failure, n), r.no_failure),
+        );
+      }
+
+  -- the reader is at its end
+  pub simulates_end : (result : Result ℕ StimFault) → s.line.width ≡ length s.machine.circuit.inputs
+      → mid ≡ before [] to → reads'' ≡ reads' + 0 → IsAtEnd to → IfOk result (λ n. n ≡ s.frames)
+      → OnOk result ((line : List ℕ) → Keeps s.line.width line s.line.shape s.line.values → line ≡ [])
+      → IfErr result (λ f. f ≡ fault.Unfinished)
+      → OnErr result ((line : List ℕ) → Keeps s.line.width line s.line.shape s.line.values → line ≢ [])
+      → Simulates raw (record { left = left; reads = reads; writes = count }) (record { left = to; reads = reads''; writes = failures }) start written result
+  simulates_end (Ok n) width e m at_end frames none u v =
+      let r = h.running in
+      let wide : length raw.inputs ≡ s.line.width = sym (width ∙ ap (λ (c : Raw). length c.inputs) r.circuit_is) in
+      record {
+        text = h.text;
+        rows = r.rows;
+        trace = r.trace;
+        done = r.trace;
+        read = nothing_read h.text left mid to h.read e;
+        trace_is = r.trace_is;
+        wrote = r.wrote;
+        ended = (
+          read_end r.has_read (λ line k. none line (subst (λ (w : ℕ). Keeps w line s.line.shape s.line.values) wide k)),
+          at_end,
+          refl,
+          frames ∙ r.frames_are,
+          (omega (arith, h.no_failure, m), r.no_failure),
+        );
+      }
+  simulates_end (Err f) width e m at_end u v is some =
+      let r = h.running in
+      let wide : length raw.inputs ≡ s.line.width = sym (width ∙ ap (λ (c : Raw). length c.inputs) r.circuit_is) in
+      subst (λ (g : StimFault). Simulates raw (record { left = left; reads = reads; writes = count }) (record { left = to; reads = reads''; writes = failures }) start written (Err g)) (sym is)
+      (record {
+        text = h.text;
+        rows = r.rows;
+        trace = r.trace;
+        done = r.trace;
+        read = nothing_read h.text left mid to h.read e;
+        trace_is = r.trace_is;
+        wrote = r.wrote;
+        ended = (
+          (read_unfinished r.has_read (λ line k. some line (subst (λ (w : ℕ). Keeps w line s.line.shape s.line.values) wide k)), at_end),
+          refl,
+          (omega (arith, h.no_failure, m), r.no_failure),
+        );
+      })
+
+-- no memory was found
+pub simulates_nothing : (raw : Raw) (left : Option (List ℕ)) (reads : ℕ) (start : Option (List ℕ)) (count : ℕ)
+    → Simulates raw (record { left = left; reads = reads; writes = count }) (record { left = left; reads = reads; writes = count }) start start (Err fault.Memory)
+simulates_nothing raw left reads start count = record {
+  text = [];
+  rows = [];
+  trace = [];
+  done = [];
+  read = sym (before_nil left);
+  trace_is = refl;
+  wrote = sym (after-nil start);
+  ended = ((refl, refl), refl, (refl, refl));
+}

@@ -1,0 +1,36 @@
+use Rattle.std.proofs.Common.{◌≡◌, ◌<◌, ℕ, List, Some, slice_get, slice_set, get_or, length, ap, arith}
+use Rattle.std.proofs.lemmas.Option.{slice_get-get_or}
+use Rattle.aig_base.specs.declared.ternary.Tern.{Tern}
+use Rattle.aig_base.specs.declared.ternary.Tern.TheVariants.{Zero}
+use Rattle.aig_base.specs.Literal.{variable}
+use Rattle.aig_sim.specs.Frame.{Holds}
+use Rattle.aig_sim.proofs.Circuits.{input_in_range}
+use Rattle.aig_sim.proofs.Evaluation.{item_at, items_more, items_all, input_value, put_value}
+use Rattle.aig_sim.proofs.frame.put_inputs.Goals as goal
+
+pub loop-position-preserved : goal.loop-position-preserved
+loop-position-preserved c =
+    let raw = c.args.circuit.now in
+    let row = c.args.row.now in
+    let i = c.loop-position.position in
+    let l = c.input-item.result in
+    let cells = c.loop-position.cells in
+    let w = get_or row i Zero in
+    let at : slice_get raw.inputs i ≡ Some l = item_at _ _ i l c.inputs-input-items.ensures c.loop-position-test.true c.input-item.is in
+    let lt : i < length row = omega (arith, c.requires.row, ap length c.inputs-input-items.ensures) in
+    let fits = input_in_range raw c.requires.circuit.sound i l at in
+    let wide : c.var.result < length cells = omega (arith, c.var.ensures, c.requires.cells) in
+    let put = λ (rows : List (List Tern)) (t : ℕ) (h : slice_get rows t ≡ Some row).
+    put_value raw rows t c.args.cells.now cells c.var.result (variable l) w c.var.ensures wide
+    (input_value raw rows t row i l w c.requires.circuit.sound h at (slice_get-get_or row i Zero lt))
+    (c.loop-position.invariant.renews rows t h) in
+    record {
+      renews = λ rows t h. (put rows t h).0;
+      inputs = λ rows t h. items_more (λ k. Holds raw rows t (slice_set cells c.var.result w) (variable k)) raw.inputs i l at
+          (λ j k below is. (put rows t h).1.keeps (variable k) (c.loop-position.invariant.inputs rows t h j k below is)) (put rows t h).2;
+    }
+
+pub returns-clause-inputs : goal.returns-clause-inputs
+returns-clause-inputs c =
+    λ rows t h. items_all (λ k. Holds c.args.circuit.now rows t c.loop-position.cells (variable k)) c.args.circuit.now.inputs c.loop-position.position
+    (rw (← c.inputs-input-items.ensures) (omega (arith, c.loop-position-test.false))) (c.loop-position.invariant.inputs rows t h)

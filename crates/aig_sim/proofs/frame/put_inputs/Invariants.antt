@@ -1,0 +1,12 @@
+use Rattle.std.proofs.Common.{◌≡◌, ℕ, ◌<◌, List, Some, slice_get}
+use Rattle.aig_base.specs.declared.ternary.Tern.{Tern}
+use Rattle.aig_base.specs.Literal.{variable}
+use Rattle.aig_sim.specs.Frame.{Holds, Renews}
+use Rattle.aig_sim.proofs.frame.put_inputs.Given as goal
+
+abbrev pub invariant-loop-position : goal.invariant-loop-position
+invariant-loop-position l = record {
+  renews : (rows : List (List Tern)) (t : ℕ) → slice_get rows t ≡ Some l.row → Renews l.circuit rows t l.initial.cells l.cells;
+  inputs : (rows : List (List Tern)) (t : ℕ) → slice_get rows t ≡ Some l.row
+      → (i k : ℕ) → i < l.position → slice_get l.circuit.inputs i ≡ Some k → Holds l.circuit rows t l.cells (variable k);
+}

@@ -1,0 +1,22 @@
+use Rattle.std.proofs.Common.{ℕ, List, All, sym, subst}
+use Rattle.std.proofs.lemmas.List.Elements.{Contains-get_or}
+use Rattle.std.proofs.lemmas.Result.{IfOk-weaker}
+use Rattle.aig_base.specs.Sections.{IsGate}
+use Rattle.aig_sim.specs.GateOrder.{AreGatesOf, IsGateOrder}
+use Rattle.aig_sim.proofs.GateOrders.{gate_order}
+use Rattle.aig_sim.proofs.gate_order.gates_in_order.Goals as goal
+
+pub gates_of-requires-clause-gates : goal.gates_of-requires-clause-gates
+gates_of-requires-clause-gates c =
+    let order = c.in_ok-order.order.items in
+    subst (All (IsGate c.args.circuit.now)) (sym c.deref.ensures.value)
+    (λ k d lt. (c.in_ok-order.ensures.gates _).0 (Contains-get_or order k d lt))
+
+pub returns : goal.returns
+returns c =
+    let raw = c.args.circuit.now in
+    let order = c.in_ok-order.order.items in
+    IfOk-weaker c.gates_of.result (λ gates. AreGatesOf raw c.deref.result.now gates.items) (λ gates. IsGateOrder raw gates.items)
+    (λ gates are. gate_order raw c.max_var-max_var.ensures.circuit order gates.items c.in_ok-order.ensures
+    (subst (λ (vs : List ℕ). AreGatesOf raw vs gates.items) c.deref.ensures.value are))
+    c.gates_of.ensures

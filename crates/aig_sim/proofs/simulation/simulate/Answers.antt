@@ -1,0 +1,73 @@
+use Rattle.std.proofs.Common.{◌≡◌, ◌<◌, ℕ, List, [], length, take, Err, refl, sym, ap, ◌∙◌, subst, arith}
+use Rattle.std.specs.Prelude.{Result}
+use Rattle.std.specs.Result.{IsErrAnd}
+use Rattle.std.proofs.lemmas.Result.{err_from_is_err_and}
+use Rattle.aig_base.specs.declared.ternary.Tern.{Tern}
+use Rattle.aig_base.specs.Bytes.{before}
+use Rattle.aig_sim.specs.declared.stimulus_fault.StimFault.{StimFault}
+use Rattle.aig_sim.specs.declared.stimulus_fault.StimFault.TheVariants.{Memory}
+use Rattle.aig_sim.specs.Frame.{AreStates}
+use Rattle.aig_sim.specs.Simulated.{Simulates}
+use Rattle.aig_sim.proofs.SimulationLemmas.{running_none, read_nothing, read_more, simulates_stopped, simulates_end, simulates_nothing}
+use Rattle.aig_sim.proofs.TraceLemmas.{first_states}
+use Rattle.aig_sim.proofs.simulation.simulate.Goals as goal
+
+-- a fault that is handed on
+handed_on : (P : Result ℕ StimFault → Type 0) (r : Result ℕ StimFault) (e : StimFault) → IsErrAnd r (λ f. f ≡ e) → P (Err e) → P r
+handed_on P r e h p = let (y, is, same) = err_from_is_err_and r h in subst P (ap Err (sym same) ∙ sym is) p
+
+pub returns-in_err-simulation : goal.returns-in_err-simulation
+returns-in_err-simulation g c =
+    let left = g.R.Read.left c.args.reader.now in
+    let reads = g.R.Read.failures c.args.reader.now in
+    let written = g.W.Write.written c.args.out.now in
+    let writes = g.W.Write.failures c.args.out.now in
+    handed_on (λ r. Simulates c.args.circuit.now (record { left = left; reads = reads; writes = writes }) (record { left = left; reads = reads; writes = writes }) written written r)
+    c.from_residual.result Memory c.from_residual.ensures.1 (simulates_nothing c.args.circuit.now left reads written writes)
+
+pub chunks-init : goal.chunks-init
+chunks-init g c =
+    let raw = c.args.circuit.now in
+    let s = c.in_ok-simulation.simulation in
+    let e = c.in_ok-simulation.ensures in
+    let states : AreStates raw [] 0 s.machine.states = subst (λ (v : List Tern). AreStates raw [] 0 v) (sym e.states) (first_states raw) in
+    record {
+      size = refl;
+      room = e.room;
+      so_far = read_nothing raw (g.R.Read.left c.args.reader.now) (g.R.Read.failures c.args.reader.now) (g.W.Write.written c.args.out.now) (g.W.Write.failures c.args.out.now) s
+          (running_none raw (g.W.Write.written c.args.out.now) (g.W.Write.failures c.args.out.now) s e.circuit states e.line.0 e.line.1 e.frames);
+    }
+
+pub chunks-preserved : goal.chunks-preserved
+chunks-preserved g c =
+    let h = c.in-Ok.ensures in
+    let e = c.in_ok-feed.ensures in
+    record {
+      size = omega arith;
+      room = e.room;
+      so_far = read_more c.chunks.invariant.so_far (take c.in-Ok.size c.read.new.buffer) c.feed.new.self (g.W.Write.written c.feed.new.out) (g.W.Write.failures c.feed.new.out)
+          h.given h.count e.ok;
+    }
+
+pub returns-then-size-eq0 : goal.returns-then-size-eq0
+returns-then-size-eq0 g c =
+    let h = c.in-Ok.ensures in
+    let e = c.finish.ensures in
+    let some : 0 < length c.read.new.buffer = omega arith in
+    let zero : c.in-Ok.size ≡ 0 = c.if-size-eq0.true in
+    simulates_end c.chunks.invariant.so_far c.finish.result c.chunks.invariant.room.0
+    (subst (λ (n : ℕ). g.R.Read.left c.chunks.reader ≡ before (take n c.read.new.buffer) (g.R.Read.left c.read.new.self)) zero h.given)
+    h.count (h.end zero some) e.frames e.ended e.fault e.unfinished
+
+pub returns-in_err-feed : goal.returns-in_err-feed
+returns-in_err-feed g c =
+    let h = c.in-Ok.ensures in
+    let e = c.in_err-feed.ensures in
+    let f = c.in_err-feed.field-0.0 in
+    handed_on (λ r. Simulates c.args.circuit.now
+    (record { left = g.R.Read.left c.args.reader.now; reads = g.R.Read.failures c.args.reader.now; writes = g.W.Write.failures c.args.out.now })
+    (record { left = g.R.Read.left c.read.new.self; reads = g.R.Read.failures c.read.new.self; writes = g.W.Write.failures c.feed.new.out })
+    (g.W.Write.written c.args.out.now) (g.W.Write.written c.feed.new.out) r)
+    c.from_residual-in_err-feed.result f c.from_residual-in_err-feed.ensures.1
+    (simulates_stopped c.chunks.invariant.so_far (take c.in-Ok.size c.read.new.buffer) (g.W.Write.written c.feed.new.out) (g.W.Write.failures c.feed.new.out) f
+    h.given h.count e.err)

@@ -1,0 +1,105 @@
+//! The values of one frame: a cell a variable.
+ghost use Rattle.std.specs.Prelude.{◌≡◌, ℕ, ◌+◌, ◌<◌, List, length, map, Some, slice_get};
+ghost use Rattle.aig_base.specs.declared.ternary.Tern.{Tern};
+ghost use Rattle.aig_base.specs.declared.gate.Gate.{Gate};
+ghost use Rattle.aig_base.specs.declared.raw.Raw.{Raw};
+ghost use Rattle.aig_base.specs.Circuit.{IsCircuit};
+ghost use Rattle.aig_base.specs.Literal.{variable};
+ghost use Rattle.aig_base.specs.Sound.{IsSound};
+ghost use Rattle.aig_sim.specs.Cells.{literal_value};
+ghost use Rattle.aig_sim.specs.Frame.{AreStates, Renews, HoldsInputs, HoldsLatches, HoldsSources, HoldsAll};
+ghost use Rattle.aig_sim.specs.GateOrder.{IsGateOrder};
+
+use crate::byte_grid::value_in;
+use aig_base::{Circuit, Gate, Tern};
+
+// Writes the inputs' values.
+fn put_inputs(cells: &mut [Tern], circuit: &Circuit, row: &[Tern])
+    requires circuit { IsCircuit circuit.now }
+    requires cells { length cells.old ≡ circuit.now.max_var + 1 }
+    requires row { length row.now ≡ length circuit.now.inputs }
+    ensures renews { (rows : List (List Tern)) (t : ℕ) → slice_get rows t ≡ Some row.now →
+        Renews circuit.now rows t cells.old cells.new }
+    ensures inputs { (rows : List (List Tern)) (t : ℕ) → slice_get rows t ≡ Some row.now →
+        HoldsInputs circuit.now rows t cells.new }
+{
+    for (position, input) in circuit.inputs().iter().enumerate() {
+        cells[input.var() as usize] = row[position];
+    }
+}
+
+// Writes the latches' values.
+fn put_latches(cells: &mut [Tern], circuit: &Circuit, states: &[Tern])
+    requires circuit { IsCircuit circuit.now }
+    requires cells { length cells.old ≡ circuit.now.max_var + 1 }
+    requires states { length states.now ≡ length circuit.now.latches }
+    ensures renews { (rows : List (List Tern)) (t : ℕ) → AreStates circuit.now rows t states.now →
+        Renews circuit.now rows t cells.old cells.new }
+    ensures latches { (rows : List (List Tern)) (t : ℕ) → AreStates circuit.now rows t states.now →
+        HoldsLatches circuit.now rows t cells.new }
+{
+    for (position, latch) in circuit.latches().iter().enumerate() {
+        cells[latch.lit.var() as usize] = states[position];
+    }
+}
+
+// Writes the values of variable 0, the inputs and the latches.
+fn put_sources(cells: &mut [Tern], circuit: &Circuit, row: &[Tern], states: &[Tern])
+    requires circuit { IsCircuit circuit.now }
+    requires cells { length cells.old ≡ circuit.now.max_var + 1 }
+    requires row { length row.now ≡ length circuit.now.inputs }
+    requires states { length states.now ≡ length circuit.now.latches }
+    ensures { (rows : List (List Tern)) (t : ℕ) → slice_get rows t ≡ Some row.now →
+        AreStates circuit.now rows t states.now → HoldsSources circuit.now rows t cells.new }
+{
+    cells[0] = Tern::Zero;
+    put_inputs(cells, circuit, row);
+    put_latches(cells, circuit, states);
+}
+
+// Evaluates the gates in turn: the cell of each becomes the AND of its right sides. Where the cells of the sources are
+// values and the gates are those of a circuit, each behind the ones that it reads, all cells become values.
+fn evaluate_frame(cells: &mut [Tern], gates: &[Gate])
+    requires lhs { (q : ℕ) (g : Gate) → slice_get gates.now q ≡ Some g → variable g.lhs < length cells.old }
+    requires rhs0 { (q : ℕ) (g : Gate) → slice_get gates.now q ≡ Some g → variable g.rhs0 < length cells.old }
+    requires rhs1 { (q : ℕ) (g : Gate) → slice_get gates.now q ≡ Some g → variable g.rhs1 < length cells.old }
+    ensures { (raw : Raw) (rows : List (List Tern)) (t : ℕ) → IsSound raw → IsGateOrder raw gates.now →
+        HoldsSources raw rows t cells.old → HoldsAll raw rows t cells.new }
+{
+    for gate in gates {
+        let value = value_in(cells, gate.rhs0).and(value_in(cells, gate.rhs1));
+        cells[gate.lhs.var() as usize] = value;
+    }
+}
+
+/// Gives the cells of a frame their values, by its row of input values and the latches' values.
+pub fn evaluate_row(
+    cells: &mut [Tern],
+    circuit: &Circuit,
+    gates: &[Gate],
+    row: &[Tern],
+    states: &[Tern],
+)
+    requires circuit { IsCircuit circuit.now }
+    requires gates { IsGateOrder circuit.now gates.now }
+    requires cells { length cells.old ≡ circuit.now.max_var + 1 }
+    requires row { length row.now ≡ length circuit.now.inputs }
+    requires states { length states.now ≡ length circuit.now.latches }
+    ensures { (rows : List (List Tern)) (t : ℕ) → slice_get rows t ≡ Some row.now →
+        AreStates circuit.now rows t states.now → HoldsAll circuit.now rows t cells.new }
+{
+    put_sources(cells, circuit, row, states);
+    evaluate_frame(cells, gates);
+}
+
+/// Replaces the latches' values by those of the next frame.
+pub fn renew_states(states: &mut [Tern], circuit: &Circuit, cells: &[Tern])
+    requires circuit { IsCircuit circuit.now }
+    requires cells { length cells.now ≡ circuit.now.max_var + 1 }
+    requires states { length states.old ≡ length circuit.now.latches }
+    ensures { states.new ≡ map (λ x. literal_value cells.now x.next) circuit.now.latches }
+{
+    for (position, latch) in circuit.latches().iter().enumerate() {
+        states[position] = value_in(cells, latch.next);
+    }
+}
