@@ -1,4 +1,14 @@
+pub mod Defined
 pub mod Joined
-pub mod Tables
+pub mod NoFault
+pub mod OneLevel
+pub mod OneOrder
+pub mod OneValue
+pub mod Places
+pub mod Positions
+pub mod Refined
 pub mod SymbolKeys
+pub mod Tables
+pub mod UniqueValue
+pub mod ValueRules
 pub mod WriteLemmas

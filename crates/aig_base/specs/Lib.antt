@@ -11,6 +11,7 @@ pub mod Order
 pub mod Circuit
 pub mod Changes
 pub mod Definition
+pub mod Laws
 pub mod Levels
 pub mod Role
 pub mod Renumbered

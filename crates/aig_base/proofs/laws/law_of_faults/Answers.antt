@@ -1,0 +1,8 @@
+use Rattle.aig_base.proofs.NoFault.{no_fault, sound}
+use Rattle.aig_base.proofs.laws.law_of_faults.Goals as goal
+
+pub returns-clause-circuit : goal.returns-clause-circuit
+returns-clause-circuit c = no_fault
+
+pub returns-clause-sound : goal.returns-clause-sound
+returns-clause-sound c = sound
