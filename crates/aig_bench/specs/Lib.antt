@@ -1,3 +1,5 @@
+pub mod Current
 pub mod Edit
 pub mod Pair
+pub mod Plan
 pub mod Question

@@ -3,6 +3,8 @@
 
 mod bench_fault;
 mod edit;
+mod plan;
+mod renew;
 
 pub use bench_fault::BenchFault;
 pub use edit::{EditFault, EditReport};

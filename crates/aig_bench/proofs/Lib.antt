@@ -1,0 +1,5 @@
+pub mod Cells
+pub mod Circuits
+pub mod Renewals
+pub mod Steps
+pub mod Values
