@@ -1,17 +1,42 @@
 -- What is known of a circuit's variables.
-use Rattle.std.proofs.Common.{◌≡◌, ℕ, zero, suc, ◌<◌, ◌≤◌, List, [], ◌∷◌, ◌++◌, map, flat_map, All, Some, slice_get, Contains, refl, sym, ap, ◌∙◌, subst, arith, option_map}
+use Rattle.std.proofs.Common.{◌≡◌, ℕ, zero, suc, ◌≤◌, List, [], ◌∷◌, ◌++◌, map, flat_map, Some, slice_get, Contains, refl, sym, ap, ◌∙◌, subst, arith, option_map}
 use Rattle.std.proofs.lemmas.Option.{slice_get-map}
 use Rattle.std.proofs.lemmas.List.Elements.{All-contains, Contains-append_left as left, Contains-append_right as right}
 use Rattle.aig_base.specs.declared.gate.Gate.{Gate}
 use Rattle.aig_base.specs.declared.latch.Latch.{Latch}
 use Rattle.aig_base.specs.declared.raw.Raw.{Raw}
-use Rattle.aig_base.specs.Literal.{variable, IsEven}
+use Rattle.aig_base.specs.Literal.{variable}
 use Rattle.aig_base.specs.Sections.{definitions, uses, IsDefined, IsGate}
 use Rattle.aig_base.specs.Sound.{IsSound, IsDefinition, IsInRange}
 use Rattle.aig_base.specs.Grounded.{IsSource}
 use Rattle.aig_base.specs.Grounded as grounded
 use Rattle.aig_base.proofs.Places.{input, latch, gate, IsDefinition-of_place, same_place}
-use Rattle.aig_base.proofs.Positions.{Contains-from_slice_get, unmap}
+use Rattle.aig_base.proofs.Positions.{Contains-from_slice_get, position_of, unmap}
+
+module _ (raw : Raw) where
+  lits : List ℕ
+  lits = map (λ x. x.lit) raw.latches
+
+  pub input_stands : (i l : ℕ) → slice_get raw.inputs i ≡ Some l → Contains (definitions raw) l
+  input_stands i l at = left _ _ _ (left _ _ _ (Contains-from_slice_get raw.inputs i l at))
+
+  pub latch_stands : (i : ℕ) (x : Latch) → slice_get raw.latches i ≡ Some x → Contains (definitions raw) x.lit
+  unfolding lits
+  latch_stands i x at =
+      left (raw.inputs ++ lits) _ _ (right raw.inputs lits _
+      (Contains-from_slice_get lits i x.lit (slice_get-map (λ x. x.lit) raw.latches i ∙ ap (option_map (λ x. x.lit)) at)))
+
+  pub gate_stands : (i : ℕ) (g : Gate) → slice_get raw.gates i ≡ Some g → Contains (definitions raw) g.lhs
+  unfolding lits
+  gate_stands i g at =
+      right (raw.inputs ++ lits) _ _
+      (Contains-from_slice_get _ i g.lhs (slice_get-map (λ g. g.lhs) raw.gates i ∙ ap (option_map (λ g. g.lhs)) at))
+
+  -- the variable of a gate is one of a gate
+  pub gate_is : (i : ℕ) (g : Gate) → slice_get raw.gates i ≡ Some g → IsGate raw (variable g.lhs)
+  gate_is i g at =
+      Contains-from_slice_get _ i (variable g.lhs)
+      (slice_get-map (λ g. variable g.lhs) raw.gates i ∙ ap (option_map (λ g. variable g.lhs)) at)
 
 module _ (raw : Raw) (sound : IsSound raw) where
   pub input_definition : (i l : ℕ) → slice_get raw.inputs i ≡ Some l → IsDefinition l
@@ -39,36 +64,18 @@ module _ (raw : Raw) (sound : IsSound raw) where
           let same : g.lhs ≡ x.lit = same_literal g.lhs x.lit (gate_definition q g at) (latch_definition p x here) e in
           let h = same_place raw sound (latch p) (gate q) x.lit (x, here, refl) (g, at, same) in cc
 
-  lits : List ℕ
-  lits = map (λ x. x.lit) raw.latches
-
-  input_stands : (i l : ℕ) → slice_get raw.inputs i ≡ Some l → Contains (definitions raw) l
-  input_stands i l at = left _ _ _ (left _ _ _ (Contains-from_slice_get raw.inputs i l at))
-
-  latch_stands : (i : ℕ) (x : Latch) → slice_get raw.latches i ≡ Some x → Contains (definitions raw) x.lit
-  unfolding lits
-  latch_stands i x at =
-      left (raw.inputs ++ lits) _ _ (right raw.inputs lits _
-      (Contains-from_slice_get lits i x.lit (slice_get-map (λ x. x.lit) raw.latches i ∙ ap (option_map (λ x. x.lit)) at)))
-
-  gate_stands : (i : ℕ) (g : Gate) → slice_get raw.gates i ≡ Some g → Contains (definitions raw) g.lhs
-  unfolding lits
-  gate_stands i g at =
-      right (raw.inputs ++ lits) _ _
-      (Contains-from_slice_get _ i g.lhs (slice_get-map (λ g. g.lhs) raw.gates i ∙ ap (option_map (λ g. g.lhs)) at))
-
   definition_in_range : (l : ℕ) → Contains (definitions raw) l → variable l ≤ raw.max_var
   definition_in_range l k =
       let r : IsInRange raw l = All-contains (IsInRange raw) _ l sound.in_range (left _ _ _ k) in omega arith
 
   pub input_in_range : (i l : ℕ) → slice_get raw.inputs i ≡ Some l → variable l ≤ raw.max_var
-  input_in_range i l at = definition_in_range l (input_stands i l at)
+  input_in_range i l at = definition_in_range l (input_stands raw i l at)
 
   pub latch_in_range : (i : ℕ) (x : Latch) → slice_get raw.latches i ≡ Some x → variable x.lit ≤ raw.max_var
-  latch_in_range i x at = definition_in_range x.lit (latch_stands i x at)
+  latch_in_range i x at = definition_in_range x.lit (latch_stands raw i x at)
 
   pub gate_in_range : (i : ℕ) (g : Gate) → slice_get raw.gates i ≡ Some g → variable g.lhs ≤ raw.max_var
-  gate_in_range i g at = definition_in_range g.lhs (gate_stands i g at)
+  gate_in_range i g at = definition_in_range g.lhs (gate_stands raw i g at)
 
   use_in_range : (l : ℕ) → Contains (uses raw) l → variable l ≤ raw.max_var
   use_in_range l k =
@@ -140,8 +147,17 @@ module _ (raw : Raw) (sound : IsSound raw) where
   pub rhs1_defined : (i : ℕ) (g : Gate) → slice_get raw.gates i ≡ Some g → IsDefined raw (variable g.rhs1)
   rhs1_defined i g at = use_defined g.rhs1 (gate_uses i g g.rhs1 at (rhs1_stands g))
 
-  -- the variable of a gate is one of a gate
-  pub gate_is : (i : ℕ) (g : Gate) → slice_get raw.gates i ≡ Some g → IsGate raw (variable g.lhs)
-  gate_is i g at =
-      Contains-from_slice_get _ i (variable g.lhs)
-      (slice_get-map (λ g. variable g.lhs) raw.gates i ∙ ap (option_map (λ g. variable g.lhs)) at)
+pub contains_variable : (xs : List ℕ) (l : ℕ) → Contains xs l → Contains (map variable xs) (variable l)
+contains_variable xs l k =
+    let (i, at) = position_of xs l k in
+    Contains-from_slice_get (map variable xs) i (variable l) (slice_get-map variable xs i ∙ ap (option_map variable) at)
+
+module _ (raw : Raw) where
+  definition_defined : (l : ℕ) → Contains (definitions raw) l → IsDefined raw (variable l)
+  definition_defined l k = let (i, lt, is) = contains_variable (definitions raw) l k in (suc i, omega arith, is)
+
+  pub input_defined : (i l : ℕ) → slice_get raw.inputs i ≡ Some l → IsDefined raw (variable l)
+  input_defined i l at = definition_defined l (input_stands raw i l at)
+
+  pub latch_defined : (i : ℕ) (x : Latch) → slice_get raw.latches i ≡ Some x → IsDefined raw (variable x.lit)
+  latch_defined i x at = definition_defined x.lit (latch_stands raw i x at)

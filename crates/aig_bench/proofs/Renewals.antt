@@ -1,5 +1,5 @@
 -- How the cells of a frame are renewed, write by write.
-use Rattle.std.proofs.Common.{◌≡◌, ◌≢◌, ◌⊎◌, inl, inr, ℕ, zero, suc, ◌+◌, ◌*◌, ◌<◌, ◌≤◌, Bool, true, false, List, length, Some, slice_get, slice_set, get_or, refl, sym, ap, ◌∙◌, subst, arith}
+use Rattle.std.proofs.Common.{◌≡◌, inl, inr, ℕ, ◌+◌, ◌*◌, ◌<◌, ◌≤◌, Bool, true, false, List, length, Some, slice_get, slice_set, refl, sym, ap, ◌∙◌, subst, arith}
 use Rattle.std.proofs.lemmas.Bool.{cases_eq}
 use Rattle.std.proofs.lemmas.List.{length-set}
 use Rattle.aig_base.specs.declared.ternary.Tern.{Tern}
@@ -14,8 +14,8 @@ use Rattle.aig_sim.specs.InputRows.{row_at, with_cell}
 use Rattle.aig_bench.specs.declared.plan.Plan.{Plan}
 use Rattle.aig_bench.specs.Pair.{Pair, HasValue}
 use Rattle.aig_bench.specs.Plan.{IsReady, IsGateOrder, pair_of}
-use Rattle.aig_bench.specs.Current.{AreGateFlags, AreRows, IsLaidOut, Holds, HoldsSources, IsCurrentRow, IsCurrentBefore, AreCurrent, Renews}
-use Rattle.aig_bench.proofs.Cells.{get_set_same, get_set_other, row_written, row_other, frames_written}
+use Rattle.aig_bench.specs.Current.{AreGateFlags, IsLaidOut, Holds, HoldsSources, IsCurrentRow, IsCurrentBefore, AreCurrent, Renews}
+use Rattle.aig_bench.proofs.Cells.{get_set_other, row_written, row_other, frames_written}
 use Rattle.aig_bench.proofs.Circuits.{source-gate}
 use Rattle.aig_bench.proofs.Values.{holds_new, holds_still}
 

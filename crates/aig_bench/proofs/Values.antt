@@ -1,15 +1,13 @@
 -- The rules of values, for the cells of a row.
-use Rattle.std.proofs.Common.{◌≡◌, ◌≢◌, ◌⊎◌, inl, inr, ℕ, zero, suc, ◌-◌, ◌*◌, ◌%◌, ◌<◌, List, length, map, nat_eq, Some, slice_get, slice_set, get_or, refl, sym, ap, ◌∙◌, subst, arith, option_map}
+use Rattle.std.proofs.Common.{◌≡◌, ◌⊎◌, inl, inr, ℕ, suc, ◌-◌, ◌*◌, ◌%◌, ◌<◌, List, length, Some, slice_get, slice_set, get_or, refl, sym, ap, ◌∙◌, subst, arith, option_map}
 use Rattle.std.proofs.lemmas.Option.{slice_get-map, slice_get-get_or, get_or_from_slice_get}
 use Rattle.std.proofs.lemmas.Bool.{cases_eq}
 use Rattle.aig_base.specs.declared.ternary.Tern.{Tern}
-use Rattle.aig_base.specs.declared.ternary.Tern.TheVariants.{Zero, One, X}
+use Rattle.aig_base.specs.declared.ternary.Tern.TheVariants.{Zero, X}
 use Rattle.aig_base.specs.declared.gate.Gate.{Gate}
 use Rattle.aig_base.specs.declared.latch.Latch.{Latch}
-use Rattle.aig_base.specs.declared.raw.Raw.{Raw}
-use Rattle.aig_base.specs.Literal.{variable, IsNegated}
-use Rattle.aig_base.specs.Ternary.{kleene_and, kleene_not}
-use Rattle.aig_base.specs.Sections.{IsDefined, IsGate}
+use Rattle.aig_base.specs.Literal.{variable}
+use Rattle.aig_base.specs.Ternary.{kleene_not}
 use Rattle.aig_base.specs.Sound.{IsSound, IsDefinition}
 use Rattle.aig_base.specs.Grounded.{IsSource}
 use Rattle.aig_base.specs.Grounded as grounded

@@ -3,3 +3,4 @@ pub mod Edit
 pub mod Pair
 pub mod Plan
 pub mod Question
+pub mod TraceText

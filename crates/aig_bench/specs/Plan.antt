@@ -1,5 +1,5 @@
 -- What a bench simulates: a circuit, its gates in an order in which they can be evaluated, and a stimulus (profile).
-use Rattle.std.specs.Prelude.{◌≡◌, ◌⊎◌, ℕ, ◌+◌, ◌*◌, ◌<◌, ◌≤◌, List, length, Some, slice_get}
+use Rattle.std.specs.Prelude.{◌≡◌, ◌⊎◌, ℕ, ◌+◌, ◌*◌, ◌<◌, ◌≤◌, List, length, map, Some, slice_get}
 use Rattle.aig_base.specs.declared.gate.Gate.{Gate}
 use Rattle.aig_base.specs.declared.raw.Raw.{Raw}
 use Rattle.aig_base.specs.Circuit.{IsCircuit}
@@ -13,6 +13,13 @@ use Rattle.aig_bench.specs.Pair.{Pair}
 -- the pair that is simulated
 abbrev pub pair_of : Plan → Pair
 pair_of plan = record { circuit = plan.circuit; rows = plan.stimulus.rows }
+
+-- the gate is the one of the variable
+abbrev pub IsGateOf : Raw → ℕ → Gate → Type 0
+IsGateOf raw v g = (q : ℕ) × (slice_get raw.gates q ≡ Some g) × (variable g.lhs ≡ v)
+
+abbrev pub variables_of : List Gate → List ℕ
+variables_of gates = map (λ g. variable g.lhs) gates
 
 -- the variable is a source's, or a gate's among the first q
 abbrev pub IsReady : Raw → List Gate → ℕ → ℕ → Type 0

@@ -1,8 +1,8 @@
-use Rattle.std.proofs.Common.{◌≡◌, ◌*◌, ◌<◌, ◌≤◌, ℕ, length, Some, slice_get, refl, ◌∙◌, subst, sym, arith}
+use Rattle.std.proofs.Common.{◌≡◌, Some, slice_get, ◌∙◌, arith}
 use Rattle.aig_base.specs.Literal.{variable}
 use Rattle.aig_sim.specs.InputRows.{row_at}
 use Rattle.aig_bench.specs.Plan.{pair_of}
-use Rattle.aig_bench.specs.Current.{AreGateFlags, Holds}
+use Rattle.aig_bench.specs.Current.{Holds}
 use Rattle.aig_bench.proofs.Circuits.{gate_definition, gate_in_range, gate_is, rhs0_in_range, rhs1_in_range}
 use Rattle.aig_bench.proofs.Renewals.{gate_flag, row_current}
 use Rattle.aig_bench.proofs.Steps.{item_at, items_more, items_all, Written, evaluated, flags_still}
@@ -26,7 +26,7 @@ evaluate-requires-clause-gate g c =
     let (i, stands) = c.requires.plan.order.known c.loop-gate.gate-index x at in
     gate_flag plan.circuit _ (variable x.lhs) (flags_still plan _ _ _ c.requires.grid c.loop-gate.invariant.flags)
     (gate_in_range plan.circuit c.requires.plan.circuit.sound i x stands)
-    (gate_is plan.circuit c.requires.plan.circuit.sound i x stands)
+    (gate_is plan.circuit i x stands)
 
 pub evaluate-requires-clause-rhs0 : goal.evaluate-requires-clause-rhs0
 evaluate-requires-clause-rhs0 g c =

@@ -1,6 +1,4 @@
-use Rattle.std.proofs.Common.{◌≡◌, ◌-◌, suc, sym, subst, arith}
-use Rattle.aig_base.specs.Value.{reset_value}
-use Rattle.aig_bench.specs.Pair.{HasValue}
+use Rattle.std.proofs.Common.{◌≡◌, ◌-◌, suc, arith}
 use Rattle.aig_bench.specs.Plan.{pair_of}
 use Rattle.aig_bench.proofs.Circuits.{next_in_range}
 use Rattle.aig_bench.proofs.Values.{latch_starts, latch_follows}

@@ -1,9 +1,8 @@
-use Rattle.std.proofs.Common.{◌≡◌, ◌*◌, ◌<◌, ◌≤◌, ℕ, suc, Some, slice_get, refl, ◌∙◌, subst, sym, arith}
+use Rattle.std.proofs.Common.{◌≡◌, Some, slice_get, ◌∙◌, arith}
 use Rattle.aig_base.specs.Grounded as grounded
 use Rattle.aig_base.specs.Literal.{variable}
 use Rattle.aig_base.specs.Sound.{IsDefinition}
 use Rattle.aig_sim.specs.InputRows.{row_at}
-use Rattle.aig_bench.specs.Pair.{HasValue}
 use Rattle.aig_bench.specs.Plan.{pair_of}
 use Rattle.aig_bench.specs.Current.{Holds}
 use Rattle.aig_bench.proofs.Circuits.{latch_definition, latch_in_range}

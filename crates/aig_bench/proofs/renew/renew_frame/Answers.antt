@@ -1,5 +1,4 @@
-use Rattle.std.proofs.Common.{◌≡◌, ap, ◌∙◌, slice_get, List}
-use Rattle.aig_base.specs.declared.ternary.Tern.{Tern}
+use Rattle.std.proofs.Common.{◌∙◌}
 use Rattle.aig_bench.specs.Plan.{pair_of}
 use Rattle.aig_bench.proofs.Renewals.{laid_out_renewed, before_of_current, before_renewed, current_renewed, renews_then}
 use Rattle.aig_bench.proofs.Values.{sources_hold}
