@@ -1,4 +1,5 @@
 //! Why a bench is not made.
+use aig_base::Memory as NoMemory;
 use thiserror::Error;
 
 /// Why a circuit and a stimulus make no bench, in the order in which the faults are tried.
@@ -13,4 +14,15 @@ pub enum BenchFault {
     /// No memory was found.
     #[error("memory")]
     Memory,
+}
+
+impl From<NoMemory> for BenchFault {
+    ghost use Rattle.std.specs.Prelude.{◌≡◌};
+    ghost use Rattle.aig_bench.specs.declared.bench_fault.BenchFault.TheVariants as faults;
+
+    ghost from_gives = { λ _ fault. fault ≡ faults.Memory };
+
+    fn from(_error: NoMemory) -> BenchFault {
+        BenchFault::Memory
+    }
 }

@@ -1,0 +1,8 @@
+use Rattle.aig_bench.specs.Current.{AreGateFlags, AreRows}
+use Rattle.aig_bench.proofs.layout.add_rows.Given as goal
+
+abbrev pub invariant-loop : goal.invariant-loop
+invariant-loop g l = record {
+  flags : AreGateFlags l.plan.circuit (g.G.Grid.gate_flags l.grid);
+  rows : AreRows l.plan.circuit l.counter (g.G.Grid.cells l.grid);
+}

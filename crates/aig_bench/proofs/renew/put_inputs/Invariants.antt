@@ -1,0 +1,14 @@
+use Rattle.std.proofs.Common.{◌≡◌, ℕ, ◌<◌, Some, slice_get}
+use Rattle.aig_base.specs.Literal.{variable}
+use Rattle.aig_sim.specs.InputRows.{row_at}
+use Rattle.aig_bench.specs.Plan.{pair_of}
+use Rattle.aig_bench.specs.Current.{Holds, Renews}
+use Rattle.aig_bench.proofs.renew.put_inputs.Given as goal
+
+abbrev pub invariant-loop-position : goal.invariant-loop-position
+invariant-loop-position g l = record {
+  renews : Renews (pair_of l.plan) l.frame (g.G.Grid.cells l.initial.grid) (g.G.Grid.cells l.grid);
+  flags : g.G.Grid.gate_flags l.grid ≡ g.G.Grid.gate_flags l.initial.grid;
+  inputs : (i k : ℕ) → i < l.position → slice_get l.plan.circuit.inputs i ≡ Some k
+      → Holds (pair_of l.plan) l.frame (row_at (g.G.Grid.cells l.grid) l.frame) (variable k);
+}

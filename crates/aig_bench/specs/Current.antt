@@ -1,0 +1,71 @@
+-- When the cells of a grid are the values of a pair (profile).
+use Rattle.std.specs.Prelude.{◌≡◌, ◌≢◌, ℕ, suc, ◌+◌, ◌*◌, ◌<◌, ◌≤◌, Bool, true, false, List, length, Some, slice_get}
+use Rattle.aig_base.specs.declared.ternary.Tern.{Tern}
+use Rattle.aig_base.specs.declared.ternary.Tern.TheVariants.{Zero}
+use Rattle.aig_base.specs.declared.latch.Latch.{Latch}
+use Rattle.aig_base.specs.declared.raw.Raw.{Raw}
+use Rattle.aig_base.specs.Grounded.{IsSource}
+use Rattle.aig_base.specs.Literal.{variable}
+use Rattle.aig_base.specs.Sections.{IsDefined, IsGate}
+use Rattle.aig_sim.specs.InputRows.{row_at}
+use Rattle.aig_bench.specs.declared.plan.Plan.{Plan}
+use Rattle.aig_bench.specs.Pair.{Pair, HasValue}
+use Rattle.aig_bench.specs.Plan.{IsPlan, pair_of}
+
+-- a flag for each variable, true for those of gates
+pub record AreGateFlags (raw : Raw) (flags : List Bool) : Type 0 where
+  pub size : length flags ≡ raw.max_var + 1
+  pub gates : (v : ℕ) → v ≤ raw.max_var → IsGate raw v → slice_get flags v ≡ Some true
+  pub others : (v : ℕ) → v ≤ raw.max_var → (IsGate raw v → ⊥) → slice_get flags v ≡ Some false
+
+-- so many rows of cells, a cell a variable, with 0 at variable 0
+pub record AreRows (raw : Raw) (frames : ℕ) (cells : List (List Tern)) : Type 0 where
+  pub frames_are : length cells ≡ frames
+  pub widths : (t : ℕ) → t < frames → length (row_at cells t) ≡ raw.max_var + 1
+  pub constants : (t : ℕ) → t < frames → slice_get (row_at cells t) 0 ≡ Some Zero
+
+-- a grid for the plan, whatever its values
+pub record IsLaidOut (plan : Plan) (flags : List Bool) (cells : List (List Tern)) : Type 0 where
+  pub flags_are : AreGateFlags plan.circuit flags
+  pub rows_are : AreRows plan.circuit (length plan.stimulus.rows) cells
+
+-- in the row of a frame the cell of the variable is its value
+pub record Holds (p : Pair) (t : ℕ) (row : List Tern) (v : ℕ) : Type 0 where
+  pub cell : Tern
+  pub cell_is : slice_get row v ≡ Some cell
+  pub value_is : HasValue p t (2 * v) cell
+
+abbrev pub HoldsInputs : Pair → ℕ → List Tern → Type 0
+HoldsInputs p t row = (i l : ℕ) → slice_get p.circuit.inputs i ≡ Some l → Holds p t row (variable l)
+
+abbrev pub HoldsLatches : Pair → ℕ → List Tern → Type 0
+HoldsLatches p t row = (i : ℕ) (x : Latch) → slice_get p.circuit.latches i ≡ Some x → Holds p t row (variable x.lit)
+
+abbrev pub HoldsSources : Pair → ℕ → List Tern → Type 0
+HoldsSources p t row = (v : ℕ) → IsSource p.circuit v → Holds p t row v
+
+-- the row of a frame has the value of each variable that is defined
+abbrev pub IsCurrentRow : Pair → ℕ → List Tern → Type 0
+IsCurrentRow p t row = (v : ℕ) → IsDefined p.circuit v → Holds p t row v
+
+-- so do the rows of the first n frames
+pub record AreCurrent (p : Pair) (n : ℕ) (cells : List (List Tern)) : Type 0 where
+  pub each : (t : ℕ) → t < n → IsCurrentRow p t (row_at cells t)
+
+-- what the latches at the next frame rest on
+abbrev pub IsCurrentBefore : Pair → ℕ → List (List Tern) → Type 0
+IsCurrentBefore p t cells = (u : ℕ) → t ≡ suc u → IsCurrentRow p u (row_at cells u)
+
+-- from the old cells to the new ones only the row of a frame changes, and what was a value there stays one
+pub record Renews (p : Pair) (t : ℕ) (old new : List (List Tern)) : Type 0 where
+  pub frames : length new ≡ length old
+  pub width : length (row_at new t) ≡ length (row_at old t)
+  pub constant : slice_get (row_at new t) 0 ≡ slice_get (row_at old t) 0
+  pub others : (u : ℕ) → u ≢ t → row_at new u ≡ row_at old u
+  pub keeps : (v : ℕ) → Holds p t (row_at old t) v → Holds p t (row_at new t) v
+
+-- what a bench keeps: a grid for its plan, with the values of all frames
+pub record IsBench (plan : Plan) (flags : List Bool) (cells : List (List Tern)) : Type 0 where
+  pub plan_is : IsPlan plan
+  pub laid_out : IsLaidOut plan flags cells
+  pub current : AreCurrent (pair_of plan) (length plan.stimulus.rows) cells

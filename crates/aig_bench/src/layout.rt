@@ -1,0 +1,45 @@
+//! A new grid for a plan.
+ghost use Rattle.std.specs.Prelude.{◌≡◌, ◌+◌, ◌*◌, ◌<◌, ◌≤◌, length, IfOk, OnOk, []};
+ghost use Rattle.aig_bench.specs.Plan.{IsPlan};
+ghost use Rattle.aig_bench.specs.Current.{AreGateFlags, IsLaidOut};
+
+use crate::gate_order::gate_of;
+use crate::plan::Plan;
+use aig_base::{Circuit, Memory};
+use aig_sim::Grid;
+use std::alloc::Global;
+
+/// For each variable whether it is one of a gate.
+fn gate_flags(alloc: Global, circuit: &Circuit) -> Result<Vec<bool>, Memory>
+    ensures { IfOk result (λ flags. AreGateFlags circuit.now flags.items) }
+{
+    let mut flags = Vec::new(alloc);
+    for variable in 0..circuit.max_var() + 1 {
+        flags.push(gate_of(circuit, variable).is_some())?;
+    }
+    Ok(flags)
+}
+
+/// Appends a row a frame to a grid without rows.
+fn add_rows<G: Grid>(grid: &mut G, plan: &Plan) -> Result<(), Memory>
+    requires plan { IsPlan plan.now }
+    requires flags { AreGateFlags plan.now.circuit (G.gate_flags grid.old) }
+    requires empty { G.cells grid.old ≡ [] }
+    ensures { OnOk result (IsLaidOut plan.now (G.gate_flags grid.new) (G.cells grid.new)) }
+{
+    for _ in 0..plan.stimulus.frames() {
+        grid.add_row()?;
+    }
+    Ok(())
+}
+
+/// A grid with a row a frame.
+pub fn lay_out<G: Grid>(alloc: Global, plan: &Plan) -> Result<G, Memory>
+    requires { IsPlan plan.now }
+    ensures { IfOk result (λ grid. IsLaidOut plan.now (G.gate_flags grid) (G.cells grid)) }
+{
+    let flags = gate_flags(alloc, &plan.circuit)?;
+    let mut grid = G::new(alloc, flags.as_slice())?;
+    add_rows(&mut grid, plan)?;
+    Ok(grid)
+}
