@@ -70,8 +70,8 @@ count_of c Constraint = c.constraints
 count_of c Justice = c.justice
 count_of c Fairness = c.fairness
 
--- what follows the letter, where these entries are named already
-unfoldable pub symbol_at : Counts → List Entry → Kind → List ℕ → Read Entry
+-- what follows the letter: these entries are named already, and one more is
+unfoldable pub symbol_at : Counts → List Entry → Kind → List ℕ → Read (List Entry)
 symbol_at c named kind bytes = do
   position ← number_at greatest bytes
   if nat_le (count_of c kind) position.0 || is_named kind position.0 named
@@ -79,7 +79,7 @@ symbol_at c named kind bytes = do
     else (do
     blank ← byte_at space position.1
     name ← name_at blank.1
-    Ok (((kind, position.0), name.0), name.1))
+    Ok (named ++ ((kind, position.0), name.0) ∷ [], name.1))
 
 abbrev pub Named : Type 0
 Named = List Entry × Bool
@@ -89,8 +89,8 @@ unfoldable pub symbols_then : Counts → List Entry → (List Entry → List ℕ
 symbols_then c named more End bytes = Ok ((named, false), bytes)
 symbols_then c named more Comment bytes = Ok ((named, true), bytes)
 symbols_then c named more (Symbol kind) bytes = do
-  entry ← symbol_at c named kind bytes
-  more (named ++ entry.0 ∷ []) entry.1
+  entries ← symbol_at c named kind bytes
+  more entries.0 entries.1
 
 -- at most so many more symbols
 unfoldable pub symbols_at : Counts → ℕ → List Entry → List ℕ → Read Named
@@ -104,3 +104,9 @@ unfoldable pub names_at : Counts → List ℕ → Read Names
 names_at c bytes = do
   symbols ← symbols_at c (length bytes) [] bytes
   Ok (record { symbols = symbols.0.0; comment = if symbols.0.1 then Some symbols.1 else None }, [])
+
+-- a symbol line begins
+abbrev pub IsSymbol : Next → Type 0
+IsSymbol End = ⊥
+IsSymbol Comment = ⊥
+IsSymbol (Symbol kind) = Unit {0}

@@ -1,5 +1,5 @@
 -- Reading the header line and the sections.
-use Rattle.std.specs.Prelude.{ℕ, zero, suc, ◌+◌, ◌-◌, ◌*◌, List, [], ◌∷◌, Result, Ok, Err, nat_lt, get_or, replicate, if◌then◌else◌}
+use Rattle.std.specs.Prelude.{ℕ, Bool, true, false, zero, suc, ◌+◌, ◌-◌, ◌*◌, List, [], ◌∷◌, Result, Ok, Err, nat_lt, get_or, if◌then◌else◌}
 use Rattle.aig_base.specs.declared.gate.Gate.{Gate}
 use Rattle.aig_base.specs.declared.latch.Latch.{Latch}
 use Rattle.aig_base.specs.Formed as formed
@@ -13,35 +13,47 @@ use Rattle.aig_format.specs.Reading.{text, limit, Read, ◌>>=◌, is_next_at, b
 
 -- ---- the header line
 
+-- the second letter of the word
+unfoldable pub format_at : List ℕ → Read Format
+format_at bytes = do
+  ascii ← is_next_at 97 bytes
+  if ascii.0 then Ok (Ascii, ascii.1) else (do
+    binary ← byte_at 105 ascii.1
+    Ok (Binary, binary.1))
+
 -- `aag ` or `aig `
 unfoldable pub word_at : List ℕ → Read Format
 word_at bytes = do
-  a ← byte_at 97 bytes
-  ascii ← is_next_at 97 a.1
-  if ascii.0
-    then (do
-    g ← byte_at 103 ascii.1
-    end ← byte_at space g.1
-    Ok (Ascii, end.1))
-    else (do
-    i ← byte_at 105 ascii.1
-    g ← byte_at 103 i.1
-    end ← byte_at space g.1
-    Ok (Binary, end.1))
+  first ← byte_at 97 bytes
+  format ← format_at first.1
+  third ← byte_at 103 format.1
+  end ← byte_at space third.1
+  Ok (format.0, end.1)
 
--- so many last counts, and the end of the line; those that are left out are 0
-unfoldable pub tail_at : ℕ → List ℕ → Read (List ℕ)
-tail_at zero bytes = do
-  end ← byte_at line_end bytes
-  Ok ([], end.1)
-tail_at (suc m) bytes = do
+-- the next count and whether the line is over; once it is over, counts are 0
+unfoldable pub count_at : Bool → List ℕ → Read (ℕ × Bool)
+count_at true bytes = Ok ((0, true), bytes)
+count_at false bytes = do
   more ← more_at bytes
-  if more.0
-    then (do
-    count ← number_at formed.limit more.1
-    others ← tail_at m count.1
-    Ok (count.0 ∷ others.0, others.1))
-    else Ok (replicate (suc m) 0, more.1)
+  if more.0 then (do
+      count ← number_at formed.limit more.1
+      Ok ((count.0, false), count.1))
+    else Ok ((0, true), more.1)
+
+-- the end of the line, where it is not over
+unfoldable pub line_end_at : Bool → List ℕ → Read (Unit {0})
+line_end_at true bytes = Ok (tt, bytes)
+line_end_at false bytes = byte_at line_end bytes
+
+-- so many last counts of the line
+unfoldable pub tail_at : ℕ → Bool → List ℕ → Read (List ℕ)
+tail_at zero over bytes = do
+  end ← line_end_at over bytes
+  Ok ([], end.1)
+tail_at (suc m) over bytes = do
+  count ← count_at over bytes
+  others ← tail_at m count.0.1 count.1
+  Ok (count.0.0 ∷ others.0, others.1)
 
 unfoldable pub header_at : List ℕ → Read (Format × Counts)
 header_at bytes = do
@@ -51,7 +63,7 @@ header_at bytes = do
   latches ← field_at formed.limit space inputs.1
   outputs ← field_at formed.limit space latches.1
   gates ← number_at formed.limit outputs.1
-  others ← tail_at 4 gates.1
+  others ← tail_at 4 false gates.1
   Ok ((format.0, record {
     max_var = max_var.0;
     inputs = inputs.0;
