@@ -3,6 +3,7 @@
 
 mod delta;
 mod header;
+mod line;
 mod section;
 mod source;
 mod symbol;

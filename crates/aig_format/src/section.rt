@@ -64,7 +64,7 @@ fn justice<S: Source>(alloc: Global, s: &mut S, count: u32) -> Result<List<List<
 
 /// Outputs, bad state properties, constraints, justice and fairness.
 #[tactic(auto, unfolding(crate::specs::ReadingSections::properties_at))]
-pub(crate) fn properties<S: Source>(
+pub(crate) fn read_properties<S: Source>(
     alloc: Global,
     s: &mut S,
     counts: &Counts,

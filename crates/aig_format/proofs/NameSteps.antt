@@ -1,0 +1,54 @@
+-- How reading of names and symbols goes on, for loops.
+use Rattle.std.proofs.Common.{◌≡◌, ℕ, zero, suc, ◌+◌, ◌≤◌, Bool, true, false, cond, eqb, List, [], ◌∷◌, ◌++◌, length, Option, Some, None, Result, Ok, Err, refl, sym, ap, ◌∙◌}
+use Rattle.std.proofs.lemmas.List.{append-nil}
+use Rattle.aig_base.specs.declared.fault.Fault.{Fault}
+use Rattle.aig_format.specs.declared.header.Counts.{Counts}
+use Rattle.aig_format.specs.Header.{line_end}
+use Rattle.aig_format.specs.Spelling.{Entry}
+use Rattle.aig_format.specs.Reading.{Refusal, text, Read, ◌>>=◌, first_of, rest_of, next_at}
+use Rattle.aig_format.specs.ReadingNames.{Named, line_at, symbols_at}
+use Rattle.aig_format.specs.Meaning.{Fails}
+use Rattle.aig_format.proofs.Steps.{done, done_is, with_front, regroup, fails_else}
+
+-- taking a byte is never refused
+pub next_fails : {B : Type 0} (e : Fault) (bytes : List ℕ) (read : Result B Refusal) → Fails e (next_at bytes) → Fails e read
+next_fails e bytes read h = fails_else e (next_at bytes) (first_of bytes, rest_of bytes) read refl h
+
+-- the byte that was taken was there
+pub taken : (bytes : List ℕ) (x : ℕ) (rest : List ℕ) → next_at bytes ≡ Ok (Some x, rest) → bytes ≡ x ∷ rest
+taken [] x rest h = let p = done_is None (Some x) [] rest h in let e = p.0 in absurd cc
+taken (y ∷ ys) x rest h = let p = done_is (Some y) (Some x) ys rest h in let e = p.0 in let same : y ≡ x = cc in (λ i. same i ∷ p.1 i)
+
+pub not_taken : (bytes rest : List ℕ) → next_at bytes ≡ Ok (None, rest) → (bytes ≡ []) × (rest ≡ [])
+not_taken [] rest h = (refl, sym (done_is None None [] rest h).1)
+not_taken (y ∷ ys) rest h = let p = done_is (Some y) None ys rest h in let e = p.0 in absurd cc
+
+-- ---- a line
+
+pub line_on : (front bytes : List ℕ) (x : ℕ) (rest : List ℕ) (whole : Read (List ℕ)) → next_at bytes ≡ Ok (Some x, rest) → eqb x line_end ≡ false
+    → with_front front (line_at bytes) ≡ whole → with_front (front ++ x ∷ []) (line_at rest) ≡ whole
+unfolding line_at
+line_on front bytes x rest whole h other so_far =
+    let one : with_front front (line_at bytes) ≡ with_front (front ++ x ∷ []) (line_at rest) = rw (taken bytes x rest h, other) (regroup front x (line_at rest)) in
+    sym one ∙ so_far
+
+pub line_ends : (front bytes : List ℕ) (x : ℕ) (rest : List ℕ) (whole : Read (List ℕ)) → next_at bytes ≡ Ok (Some x, rest) → eqb x line_end ≡ true
+    → with_front front (line_at bytes) ≡ whole → whole ≡ Ok (front, rest)
+unfolding line_at
+line_ends front bytes x rest whole h same so_far =
+    let one : with_front front (line_at bytes) ≡ done front rest = rw (taken bytes x rest h, same) (ap (λ (t : List ℕ). done t rest) (append-nil front)) in
+    sym so_far ∙ one
+
+pub line_cut : (front bytes rest : List ℕ) (whole : Read (List ℕ)) → next_at bytes ≡ Ok (None, rest) → with_front front (line_at bytes) ≡ whole → whole ≡ Err text
+unfolding line_at
+line_cut front bytes rest whole h so_far =
+    let one : with_front front (line_at bytes) ≡ Err text = rw ((not_taken bytes rest h).0) refl in
+    sym so_far ∙ one
+
+-- ---- symbols
+
+-- there are symbols enough to be read for the bytes that are left, and reading them gives what reading all gives
+pub record GoesOn (c : Counts) (named : List Entry) (bytes : List ℕ) (total : Read Named) : Type 0 where
+  pub fuel : ℕ
+  pub enough : length bytes ≤ fuel
+  pub same : symbols_at c fuel named bytes ≡ total
