@@ -1,6 +1,7 @@
 -- Reading the symbols and the comment.
 use Rattle.std.specs.Prelude.{ℕ, zero, suc, Bool, true, false, List, [], ◌∷◌, ◌++◌, length, Option, Some, None, Result, Ok, Err, nat_le, ◌==◌, ◌&&◌, ◌||◌, if◌then◌else◌}
 use Rattle.std.specs.List.{list_any}
+use Rattle.std.specs.Map.{keys_of}
 use Rattle.aig_base.specs.declared.symbols.Kind.{Kind}
 use Rattle.aig_base.specs.declared.symbols.Kind.TheVariants.{Input, Latch, Output, Bad, Constraint, Justice, Fairness}
 use Rattle.aig_format.specs.declared.header.Counts.{Counts}
@@ -58,8 +59,11 @@ name_at bytes = do
   name ← line_at bytes
   if is_empty name.0 then Err text else Ok name
 
+abbrev pub same_key : Kind × ℕ → Kind × ℕ → Bool
+same_key a b = letter a.0 == letter b.0 && a.1 == b.1
+
 abbrev pub is_named : Kind → ℕ → List Entry → Bool
-is_named kind position named = list_any (λ e. letter e.0.0 == letter kind && e.0.1 == position) named
+is_named kind position named = list_any (same_key (kind, position)) (keys_of named)
 
 abbrev pub count_of : Counts → Kind → ℕ
 count_of c Input = c.inputs
@@ -70,16 +74,19 @@ count_of c Constraint = c.constraints
 count_of c Justice = c.justice
 count_of c Fairness = c.fairness
 
+-- a position of the section, which is not named yet
+unfoldable pub position_at : Counts → List Entry → Kind → List ℕ → Read ℕ
+position_at c named kind bytes = do
+  position ← number_at greatest bytes
+  if nat_le (count_of c kind) position.0 || is_named kind position.0 named then Err text else Ok position
+
 -- what follows the letter: these entries are named already, and one more is
 unfoldable pub symbol_at : Counts → List Entry → Kind → List ℕ → Read (List Entry)
 symbol_at c named kind bytes = do
-  position ← number_at greatest bytes
-  if nat_le (count_of c kind) position.0 || is_named kind position.0 named
-    then Err text
-    else (do
-    blank ← byte_at space position.1
-    name ← name_at blank.1
-    Ok (named ++ ((kind, position.0), name.0) ∷ [], name.1))
+  position ← position_at c named kind bytes
+  blank ← byte_at space position.1
+  name ← name_at blank.1
+  Ok (named ++ ((kind, position.0), name.0) ∷ [], name.1)
 
 abbrev pub Named : Type 0
 Named = List Entry × Bool

@@ -1,6 +1,7 @@
 //! The symbols and the comment.
-ghost use Rattle.std.specs.Prelude.{◌≡◌, ℕ, ◌<◌, ◌≤◌, List, [], length, Ok, IfOk, Option};
-ghost use Rattle.aig_format.specs.ReadingNames.{kind_of, after_c_at, letter_at, line_at, name_at, symbol_at, symbols_at, names_at, IsSymbol};
+ghost use Rattle.std.specs.Prelude.{◌≡◌, ℕ, ◌<◌, ◌≤◌, List, [], length, Ok, IfOk, Option, Contains};
+ghost use Rattle.std.specs.Map.{keys_of};
+ghost use Rattle.aig_format.specs.ReadingNames.{kind_of, after_c_at, letter_at, line_at, name_at, position_at, symbol_at, symbols_at, names_at, IsSymbol};
 ghost use Rattle.aig_format.specs.Meaning.{Gives, Raises};
 
 use crate::header::Counts;
@@ -107,6 +108,30 @@ fn name<S: Source>(alloc: Global, s: &mut S) -> Result<Bytes, Fault>
     Ok(name)
 }
 
+/// A position of the section that has no name yet.
+#[tactic(auto, unfolding(crate::specs::ReadingNames::position_at))]
+fn position<S: Source>(
+    s: &mut S,
+    counts: &Counts,
+    kind: Kind,
+    named: &Symbols,
+) -> Result<u32, Fault>
+    ensures bytes { S.tells → Gives (λ x. x) result (S.left s.new) (position_at counts.now named.now kind (S.left s.old)) }
+    ensures fresh { IfOk result (λ p. Contains (keys_of named.now) (kind, p) → ⊥) }
+    ensures failures { Raises result (S.failures s.old) (S.failures s.new) }
+    ensures never_more { S.more s.new ≤ S.more s.old }
+{
+    let at = s.at();
+    let position = number(s, BODY)?;
+    if position >= counts.of(kind) {
+        return Err(Fault::Text { at });
+    }
+    if named.contains(kind, position) {
+        return Err(Fault::Text { at });
+    }
+    Ok(position)
+}
+
 /// Adds the symbol that stands after its letter.
 #[tactic(auto, unfolding(crate::specs::ReadingNames::symbol_at))]
 fn symbol<S: Source>(
@@ -120,11 +145,7 @@ fn symbol<S: Source>(
     ensures failures { Raises result (S.failures s.old) (S.failures s.new) }
     ensures never_more { S.more s.new ≤ S.more s.old }
 {
-    let at = s.at();
-    let position = number(s, BODY)?;
-    if position >= counts.of(kind) || all.contains(kind, position) {
-        return Err(Fault::Text { at });
-    }
+    let position = position(s, counts, kind, all)?;
     byte(s, b' ')?;
     let name = name(alloc, s)?;
     all.insert(kind, position, name)?;
