@@ -64,11 +64,3 @@ pub position_free : (c : Counts) (named : List Entry) (kind : Kind) (bytes : Lis
     → p < count_of c kind → (Contains (keys_of named) (kind, p) → ⊥) → position_at c named kind bytes ≡ Ok (p, rest)
 unfolding position_at
 position_free c named kind bytes p rest h lt free = rw (h, lt-leb-false (count_of c kind) p lt, not_named_from kind p named free) refl
-
--- ---- symbols
-
--- there are symbols enough to be read for the bytes that are left, and reading them gives what reading all gives
-pub record GoesOn (c : Counts) (named : List Entry) (bytes : List ℕ) (total : Read Named) : Type 0 where
-  pub fuel : ℕ
-  pub enough : length bytes ≤ fuel
-  pub same : symbols_at c fuel named bytes ≡ total

@@ -1,6 +1,6 @@
 use Rattle.std.proofs.Common.{◌≡◌, length}
 use Rattle.aig_format.specs.ReadingNames.{symbols_at}
-use Rattle.aig_format.proofs.NameSteps.{GoesOn}
+use Rattle.aig_format.proofs.Symbols.{GoesOn}
 use Rattle.aig_format.proofs.symbol.symbols.Given as goal
 
 abbrev pub invariant-loop-kind : goal.invariant-loop-kind
