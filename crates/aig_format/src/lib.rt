@@ -1,9 +1,12 @@
 //! Circuits as bytes: the ASCII and the binary format.
 #![tactic(auto)]
 
+mod ascii;
+mod binary;
 mod delta;
 mod header;
 mod line;
+mod reader;
 mod section;
 mod source;
 mod symbol;
