@@ -176,7 +176,7 @@ stops_line rest = refl
 
 -- ---- a number that may be left out
 
-more_takes : (bytes : List ℕ) (m : Bool) (rest : List ℕ) → more_at bytes ≡ Ok (m, rest) → bytes ≡ cond m (32 ∷ rest) (10 ∷ rest)
+pub more_takes : (bytes : List ℕ) (m : Bool) (rest : List ℕ) → more_at bytes ≡ Ok (m, rest) → bytes ≡ cond m (32 ∷ rest) (10 ∷ rest)
 unfolding more_at
 more_takes bytes m rest h =
     let s = bind_ok (is_next_at 32 bytes) (λ space. cond space.0 (done true space.1) (byte_at 10 space.1 >>= λ e. done false e.1)) (m, rest) h in
@@ -189,11 +189,11 @@ more_takes bytes m rest h =
         let p = done_is false m b.0.1 rest b.2 in
         is_next_takes 32 bytes false left e ∙ byte_takes 10 left b.0.0 b.0.1 b.1 ∙ (λ i. cond (p.0 i) (32 ∷ p.1 i) (10 ∷ p.1 i))
 
-more_space : (rest : List ℕ) → more_at (32 ∷ rest) ≡ Ok (true, rest)
+pub more_space : (rest : List ℕ) → more_at (32 ∷ rest) ≡ Ok (true, rest)
 unfolding more_at is_next_at
 more_space rest = refl
 
-more_line : (rest : List ℕ) → more_at (10 ∷ rest) ≡ Ok (false, rest)
+pub more_line : (rest : List ℕ) → more_at (10 ∷ rest) ≡ Ok (false, rest)
 unfolding more_at is_next_at byte_at
 more_line rest = refl
 

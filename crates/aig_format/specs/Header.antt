@@ -1,6 +1,5 @@
 -- The header line (AIGER 1.0, header; AIGER 1.9 adds four counts).
-use Rattle.std.specs.Prelude.{◌≡◌, ℕ, ◌+◌, ◌-◌, ◌≤◌, Bool, List, [], ◌∷◌, ◌++◌, length, ◌==◌, ◌&&◌, not, if◌then◌else◌, nat_lt}
-use Rattle.std.specs.List.{list_all}
+use Rattle.std.specs.Prelude.{◌≡◌, ℕ, ◌+◌, ◌-◌, ◌≤◌, Bool, true, List, [], ◌∷◌, ◌++◌, length, ◌==◌, ◌&&◌, not, if◌then◌else◌, nat_lt}
 use Rattle.std.specs.Fmt.{decimal}
 use Rattle.aig_base.specs.declared.raw.Raw.{Raw}
 use Rattle.aig_base.specs.Formed.{limit}
@@ -23,12 +22,16 @@ abbrev pub word : Format → List ℕ
 word Ascii = 97 ∷ 97 ∷ 103 ∷ space ∷ []
 word Binary = 97 ∷ 105 ∷ 103 ∷ space ∷ []
 
+unfoldable pub all_zero : List ℕ → Bool
+all_zero [] = true
+all_zero (n ∷ ns) = n == 0 && all_zero ns
+
 -- The last counts of the line, and its end. At least so many of them are written; those after may be left out where
 -- they are all 0.
 unfoldable pub tail : ℕ → List ℕ → List ℕ
 tail least [] = line_end ∷ []
 tail least (n ∷ ns) =
-    if least == 0 && list_all (λ m. m == 0) (n ∷ ns) then line_end ∷ [] else space ∷ (decimal n ++ tail (least - 1) ns)
+    if least == 0 && all_zero (n ∷ ns) then line_end ∷ [] else space ∷ (decimal n ++ tail (least - 1) ns)
 
 abbrev pub trailing : Counts → List ℕ
 trailing c = c.bad ∷ c.constraints ∷ c.justice ∷ c.fairness ∷ []
