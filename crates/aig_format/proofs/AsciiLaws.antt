@@ -96,7 +96,7 @@ ascii_rest resets raw =
     flat_map literal_line raw.inputs ++ (lines latch_line resets raw.latches ++ (properties_of raw ++ (flat_map gate_line raw.gates ++ names_text raw.symbols raw.comment)))
 
 pub ascii_again : (resets : List Bool) (raw : Raw) → HasSpelling raw → ascii_at (counts_of raw) (ascii_rest resets raw) ≡ Ok (raw, [])
-unfolding ascii_at properties_in names_in
+unfolding ascii_at
 ascii_again resets raw s =
     let c : Counts = counts_of raw in
     let n : List ℕ = names_text raw.symbols raw.comment in

@@ -49,8 +49,8 @@ module _ {X : Type 0} (f : X → ℕ) where
       let parts = cons_is (f x) (2 * v) (map f xs) (evens_from (v + 1) (length xs)) e in
       (parts.0, of_evens (suc v) xs (parts.1 ∙ ap (λ (w : ℕ). evens_from w (length xs)) next))
     where
-      cons_is : (a b : ℕ) (as bs : List ℕ) → a ∷ as ≡ b ∷ bs → (a ≡ b) × (as ≡ bs)
-      cons_is a b as bs h = ((let p : a ≡ b = cc in p), (let q : as ≡ bs = cc in q))
+      cons_is : (a b : ℕ) (ys zs : List ℕ) → a ∷ ys ≡ b ∷ zs → (a ≡ b) × (ys ≡ zs)
+      cons_is a b ys zs h = ((let p : a ≡ b = cc in p), (let q : ys ≡ zs = cc in q))
 
 -- ---- lists whose entries fit their variables
 

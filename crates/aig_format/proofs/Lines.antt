@@ -26,7 +26,7 @@ abbrev pub Again : {X : Type 0} → (ℕ → List ℕ → Read X) → (Bool → 
 Again {X} at line Fits = (v : ℕ) (w : Bool) (x : X) (rest : List ℕ) → Fits v x → at v (line w x ++ rest) ≡ Ok (x, rest)
 
 -- each fits its variable, of those from v on
-pub FitsFrom : {X : Type 0} → (ℕ → X → Type 0) → ℕ → List X → Type 0
+unfoldable pub FitsFrom : {X : Type 0} → (ℕ → X → Type 0) → ℕ → List X → Type 0
 FitsFrom Fits v [] = Unit {0}
 FitsFrom Fits v (x ∷ xs) = Fits v x × FitsFrom Fits (suc v) xs
 

@@ -17,10 +17,10 @@ use Rattle.aig_format.specs.ReadingNames.{count_of}
 use Rattle.aig_format.proofs.Names.{IsEntry}
 use Rattle.aig_format.proofs.SectionLaws.{FitsProperties, Counted}
 
-pub properties_in : Raw → Properties
+abbrev pub properties_in : Raw → Properties
 properties_in raw = record { outputs = raw.outputs; bad = raw.bad; constraints = raw.constraints; justice = raw.justice; fairness = raw.fairness }
 
-pub names_in : Raw → Names
+abbrev pub names_in : Raw → Names
 names_in raw = record { symbols = raw.symbols; comment = raw.comment }
 
 count_is : (raw : Raw) (kind : Kind) → count_of (counts_of raw) kind ≡ section_length raw kind
@@ -76,7 +76,6 @@ formed_from raw w sum entries = record {
 }
 
 pub fits_properties : (raw : Raw) → HasSpelling raw → FitsProperties (properties_in raw)
-unfolding properties_in
 fits_properties raw s = record {
   outputs = s.numbers.outputs;
   bad = s.numbers.bad;
@@ -87,5 +86,4 @@ fits_properties raw s = record {
 }
 
 pub counted_properties : (raw : Raw) → Counted (counts_of raw) (properties_in raw)
-unfolding properties_in
 counted_properties raw = record { outputs = refl; bad = refl; constraints = refl; justice = refl; fairness = refl }
