@@ -1,5 +1,5 @@
 -- A delta that is read is spelled so, and what is spelled so is read.
-use Rattle.std.proofs.Common.{◌≡◌, ℕ, zero, suc, ◌+◌, ◌-◌, ◌*◌, ◌/◌, ◌%◌, ◌^◌, ◌<◌, ◌≤◌, Bool, true, false, cond, ltb, eqb, ◌||◌, List, [], ◌∷◌, ◌++◌, Result, Ok, Err, refl, sym, ap, subst, ◌∙◌, arith}
+use Rattle.std.proofs.Common.{◌≡◌, ℕ, zero, suc, ◌+◌, ◌-◌, ◌*◌, ◌/◌, ◌%◌, ◌^◌, ◌<◌, ◌≤◌, Bool, true, false, cond, ltb, eqb, ◌||◌, List, [], ◌∷◌, ◌++◌, length, Result, Ok, Err, refl, sym, ap, subst, ◌∙◌, arith}
 use Rattle.std.proofs.lemmas.Bool.{ltb-true, ltb-false, lt-ltb, le-ltb}
 use Rattle.std.proofs.lemmas.Bool.Decides.{nat_tests}
 use Rattle.aig_format.specs.Reading.{Refusal, text, Read, ◌>>=◌, groups_at, delta_at}
@@ -111,3 +111,33 @@ little (suc zero) n le some lt = omega arith
 little (suc (suc zero)) n le some lt = omega arith
 little (suc (suc (suc zero))) n le some lt = omega arith
 little (suc (suc (suc (suc k)))) n le some lt = absurd (omega arith)
+
+-- ---- the spelling
+
+groups_short : (j n k : ℕ) → n < 128 ^ suc k → length (groups j n) ≤ suc k
+groups_short zero n k lt = omega arith
+groups_short (suc j) n zero lt =
+    let one : n < 128 = omega arith in
+    let size = ap length (one_group (suc j) n one) in
+    omega (arith, size)
+groups_short (suc j) n (suc k) lt = by_size (λ m fits. groups_short j m k fits) (ltb n 128) refl
+  where
+    by_size : ((m : ℕ) → m < 128 ^ suc k → length (groups j m) ≤ suc k) → (b : Bool) → ltb n 128 ≡ b → length (groups (suc j) n) ≤ suc (suc k)
+    by_size again true e = let size = ap length (one_group (suc j) n (ltb-true n 128 e)) in omega (arith, size)
+    by_size again false e =
+        let size = ap length (more_groups j n (ltb-false n 128 e)) in
+        let rest = again (n / 128) (omega (arith, pow_more k)) in
+        omega (arith, size, rest)
+
+pub delta_short : (n k : ℕ) → n < 128 ^ (k + 1) → length (delta n) ≤ k + 1
+unfolding delta
+delta_short n k lt =
+    let next : k + 1 ≡ suc k = omega arith in
+    let fits : n < 128 ^ suc k = subst (λ (j : ℕ). n < 128 ^ j) next lt in
+    omega (arith, groups_short 3 n k fits)
+
+pub delta_ends : (m n : ℕ) (more others : List ℕ) → m < 2 ^ 28 → n < 2 ^ 28 → delta m ++ more ≡ delta n ++ others → (m ≡ n) × (more ≡ others)
+delta_ends m n more others ltm ltn same =
+    let first = delta_again 0 268435456 m more (omega arith) (omega (arith, ltm)) ltm in
+    let second = delta_again 0 268435456 n others (omega arith) (omega (arith, ltn)) ltn in
+    done_is m n more others (sym first ∙ ap (delta_at 0 268435456) same ∙ second)

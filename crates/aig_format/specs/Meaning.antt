@@ -2,7 +2,8 @@
 use Rattle.std.specs.Prelude.{◌≡◌, ◌≢◌, ℕ, ◌<◌, List, Result, Ok, Err}
 use Rattle.aig_base.specs.declared.fault.Fault.{Fault}
 use Rattle.aig_base.specs.declared.fault.Fault.TheVariants as faults
-use Rattle.aig_base.specs.FirstFault.{number_of}
+use Rattle.aig_base.specs.declared.raw.Raw.{Raw}
+use Rattle.aig_base.specs.FirstFault.{number_of, IsFirstFault}
 use Rattle.aig_format.specs.Reading.{Refusal, text, limit, Read}
 use Rattle.aig_format.specs.ReadingFile.{FileRefusal, token, counts}
 
@@ -45,3 +46,13 @@ Raises (Err e) old new = FaultRaises e old new
 -- the fault is one that the parts have
 abbrev pub IsOfParts : Fault → Type 0
 IsOfParts fault = (3 < number_of fault) × (number_of fault < 10)
+
+-- the parts themselves or their first fault, or memory ran out
+abbrev pub IsVerdict : Result Raw Fault → Raw → Type 0
+IsVerdict (Ok circuit) raw = circuit ≡ raw
+IsVerdict (Err fault) raw = fault ≢ faults.Memory → IsFirstFault raw fault
+
+-- this refusal, or memory ran out
+abbrev pub IsRefused : Result Raw Fault → Fault → Type 0
+IsRefused (Ok circuit) why = ⊥
+IsRefused (Err fault) why = fault ≢ faults.Memory → fault ≡ why
