@@ -54,8 +54,17 @@ unfolding ascii_at
 ascii_take c bytes raw rest h =
     bind_then _ _ _ h (λ i ei h1. bind_then _ _ _ h1 (λ l el h2. bind_then _ _ _ h2 (λ p ep h3. bind_then _ _ _ h3 (λ g eg h4. bind_then _ _ _ h4 (λ n en h5.
     let made : Raw = record {
-      max_var = c.max_var; inputs = i.0; latches = l.0; outputs = p.0.outputs; bad = p.0.bad; constraints = p.0.constraints;
-      justice = p.0.justice; fairness = p.0.fairness; gates = g.0; symbols = n.0.symbols; comment = n.0.comment;
+      max_var = c.max_var;
+      inputs = i.0;
+      latches = l.0;
+      outputs = p.0.outputs;
+      bad = p.0.bad;
+      constraints = p.0.constraints;
+      justice = p.0.justice;
+      fairness = p.0.fairness;
+      gates = g.0;
+      symbols = n.0.symbols;
+      comment = n.0.comment;
     } in
     let q = done_is made raw n.1 rest h5 in
     let ti = literals_take c.inputs bytes i.0 i.1 ei in
@@ -69,21 +78,34 @@ ascii_take c bytes raw rest h =
     let lg : List ℕ = flat_map gate_line g.0 in
     let ln : List ℕ = names_text n.0.symbols n.0.comment in
     let same : counts_of made ≡ c = λ j. record {
-      max_var = c.max_var; inputs = ti.1 j; latches = tl.count j; outputs = tp.outputs j; gates = tg.1 j; bad = tp.bad j;
-      constraints = tp.constraints j; justice = tp.justice j; fairness = tp.fairness j;
+      max_var = c.max_var;
+      inputs = ti.1 j;
+      latches = tl.count j;
+      outputs = tp.outputs j;
+      gates = tg.1 j;
+      bad = tp.bad j;
+      constraints = tp.constraints j;
+      justice = tp.justice j;
+      fairness = tp.fairness j;
     } in
     subst (λ (k : Raw). AsciiRead c bytes k) q.0 (record {
       resets = tl.written;
       spelled = λ all front e.
-        (let e1 = join2 all front bytes li i.1 e ti.0 in
-        let e2 = join2 all (front ++ li) i.1 ll l.1 e1 tl.spelled in
-        let e3 = join2 all (front ++ li ++ ll) l.1 lp p.1 e2 tp.spelled in
-        let e4 = join2 all (front ++ li ++ ll ++ lp) p.1 lg g.1 e3 tg.0 in
-        join_end all (front ++ li ++ ll ++ lp ++ lg) g.1 ln e4 tn.spelled);
+          (let e1 = join2 all front bytes li i.1 e ti.0 in
+          let e2 = join2 all (front ++ li) i.1 ll l.1 e1 tl.spelled in
+          let e3 = join2 all (front ++ li ++ ll) l.1 lp p.1 e2 tp.spelled in
+          let e4 = join2 all (front ++ li ++ ll ++ lp) p.1 lg g.1 e3 tg.0 in
+          join_end all (front ++ li ++ ll ++ lp ++ lg) g.1 ln e4 tn.spelled);
       counted = same;
       numbers = record {
-        inputs = ti.2; latches = all_from_fits IsLatch 0 l.0 tl.fits; outputs = tp.fits.outputs; bad = tp.fits.bad; constraints = tp.fits.constraints;
-        justice = tp.fits.justice; fairness = tp.fits.fairness; gates = tg.2;
+        inputs = ti.2;
+        latches = all_from_fits IsLatch 0 l.0 tl.fits;
+        outputs = tp.fits.outputs;
+        bad = tp.fits.bad;
+        constraints = tp.fits.constraints;
+        justice = tp.fits.justice;
+        fairness = tp.fits.fairness;
+        gates = tg.2;
       };
       sum = tp.fits.within;
       entries = tn.fits;
@@ -103,8 +125,10 @@ ascii_again resets raw s =
     let g : List ℕ = flat_map gate_line raw.gates ++ n in
     let p : List ℕ = properties_of raw ++ g in
     let l : List ℕ = lines latch_line resets raw.latches ++ p in
-    rw (literals_again raw.inputs l s.numbers.inputs,
+    rw (
+      literals_again raw.inputs l s.numbers.inputs,
       lines_again (λ v. latch_at) latch_line (λ v. IsLatch) latch_again 0 resets raw.latches p (fits_from_all IsLatch 0 raw.latches s.numbers.latches),
       properties_again c (properties_in raw) g (counted_properties raw) (fits_properties raw s),
       gates_again raw.gates n s.numbers.gates,
-      names_again c (names_in raw) (small_counts c (within_from raw s.formed)) (entries_from raw s.formed) s.names) refl
+      names_again c (names_in raw) (small_counts c (within_from raw s.formed)) (entries_from raw s.formed) s.names,
+    ) refl

@@ -68,7 +68,7 @@ in_order_from raw e =
     let b = length-append raw.inputs ls in
     let exact : raw.max_var ≡ i + l + g = omega (arith, total, a, b, nl, ng) in
     let whole : evens raw.max_var ≡ (evens_from 1 i ++ evens_from (1 + i) l) ++ evens_from (1 + (i + l)) g =
-        ap evens exact ∙ sym (evens_join 1 (i + l) g) ∙ ap (λ (t : List ℕ). t ++ evens_from (1 + (i + l)) g) (sym (evens_join 1 i l)) in
+    ap evens exact ∙ sym (evens_join 1 (i + l) g) ∙ ap (λ (t : List ℕ). t ++ evens_from (1 + (i + l)) g) (sym (evens_join 1 i l)) in
     let c = length-append (evens_from 1 i) (evens_from (1 + i) l) in
     let li = length_evens 1 i in
     let ll = length_evens (1 + i) l in
@@ -140,8 +140,17 @@ unfolding binary_at
 binary_take c bytes raw rest h =
     bind_then _ _ _ h (λ l el h2. bind_then _ _ _ h2 (λ p ep h3. bind_then _ _ _ h3 (λ g eg h4. bind_then _ _ _ h4 (λ n en h5.
     let made : Raw = record {
-      max_var = c.max_var; inputs = evens c.inputs; latches = l.0; outputs = p.0.outputs; bad = p.0.bad; constraints = p.0.constraints;
-      justice = p.0.justice; fairness = p.0.fairness; gates = g.0; symbols = n.0.symbols; comment = n.0.comment;
+      max_var = c.max_var;
+      inputs = evens c.inputs;
+      latches = l.0;
+      outputs = p.0.outputs;
+      bad = p.0.bad;
+      constraints = p.0.constraints;
+      justice = p.0.justice;
+      fairness = p.0.fairness;
+      gates = g.0;
+      symbols = n.0.symbols;
+      comment = n.0.comment;
     } in
     let q = done_is made raw n.1 rest h5 in
     let tl = lines_take implicit_latch_at implicit_latch_line IsImplicitLatch implicit_latch_takes c.latches (c.inputs + 1) bytes l.0 l.1 el in
@@ -154,16 +163,23 @@ binary_take c bytes raw rest h =
     let ln : List ℕ = names_text n.0.symbols n.0.comment in
     let ti : length (evens c.inputs) ≡ c.inputs = length_evens 1 c.inputs in
     let same : counts_of made ≡ c = λ j. record {
-      max_var = c.max_var; inputs = ti j; latches = tl.count j; outputs = tp.outputs j; gates = tg.1 j; bad = tp.bad j;
-      constraints = tp.constraints j; justice = tp.justice j; fairness = tp.fairness j;
+      max_var = c.max_var;
+      inputs = ti j;
+      latches = tl.count j;
+      outputs = tp.outputs j;
+      gates = tg.1 j;
+      bad = tp.bad j;
+      constraints = tp.constraints j;
+      justice = tp.justice j;
+      fairness = tp.fairness j;
     } in
     subst (λ (k : Raw). BinaryRead c bytes k) q.0 (record {
       resets = tl.written;
       spelled = λ all front e.
-        (let e2 = join2 all front bytes ll l.1 e tl.spelled in
-        let e3 = join2 all (front ++ ll) l.1 lp p.1 e2 tp.spelled in
-        let e4 = join2 all (front ++ ll ++ lp) p.1 lg g.1 e3 tg.0 in
-        join_end all (front ++ ll ++ lp ++ lg) g.1 ln e4 tn.spelled);
+          (let e2 = join2 all front bytes ll l.1 e tl.spelled in
+          let e3 = join2 all (front ++ ll) l.1 lp p.1 e2 tp.spelled in
+          let e4 = join2 all (front ++ ll ++ lp) p.1 lg g.1 e3 tg.0 in
+          join_end all (front ++ ll ++ lp ++ lg) g.1 ln e4 tn.spelled);
       counted = same;
       inputs = refl;
       latches = tl.fits;
@@ -186,21 +202,23 @@ binary_numbers bytes raw r w exact =
       latches = fits_map IsImplicitLatch (HasEven latch_lit) (λ v x f. f.0) (i + 1) raw.latches r.latches;
       gates = fits_map IsImplicitGate (HasEven gate_lhs) (λ v x f. f.0) (i + l + 1) raw.gates r.gates;
       exact = exact;
-    } in
-    (record {
-      inputs = subst AreSmall (sym r.inputs) (small_evens i (omega (arith, w.inputs)));
-      latches = all_from (λ v x. (v ≤ formed.limit) × IsImplicitLatch v x) IsLatch (λ v x f. (omega (arith, f.0, f.1.0), f.1.1, f.1.2)) (i + 1) raw.latches latches;
-      outputs = r.fits.outputs;
-      bad = r.fits.bad;
-      constraints = r.fits.constraints;
-      justice = r.fits.justice;
-      fairness = r.fits.fairness;
-      gates = all_from (λ v g. (v ≤ formed.limit) × IsImplicitGate v g) IsGate
-        (λ v g f. (omega (arith, f.0, f.1.0), omega (arith, f.0, f.1.0, f.1.1), omega (arith, f.0, f.1.0, f.1.1, f.1.2))) (i + l + 1) raw.gates gates;
-    }, record {
-      in_order = order_of raw order;
-      gates = all_from IsImplicitGate (λ g. (g.rhs0 < g.lhs) × (g.rhs1 ≤ g.rhs0)) (λ v g f. (f.1, f.2)) (i + l + 1) raw.gates r.gates;
-    })
+    } in (
+      record {
+        inputs = subst AreSmall (sym r.inputs) (small_evens i (omega (arith, w.inputs)));
+        latches = all_from (λ v x. (v ≤ formed.limit) × IsImplicitLatch v x) IsLatch (λ v x f. (omega (arith, f.0, f.1.0), f.1.1, f.1.2)) (i + 1) raw.latches latches;
+        outputs = r.fits.outputs;
+        bad = r.fits.bad;
+        constraints = r.fits.constraints;
+        justice = r.fits.justice;
+        fairness = r.fits.fairness;
+        gates = all_from (λ v g. (v ≤ formed.limit) × IsImplicitGate v g) IsGate
+            (λ v g f. (omega (arith, f.0, f.1.0), omega (arith, f.0, f.1.0, f.1.1), omega (arith, f.0, f.1.0, f.1.1, f.1.2))) (i + l + 1) raw.gates gates;
+      },
+      record {
+        in_order = order_of raw order;
+        gates = all_from IsImplicitGate (λ g. (g.rhs0 < g.lhs) × (g.rhs1 ≤ g.rhs0)) (λ v g f. (f.1, f.2)) (i + l + 1) raw.gates r.gates;
+      },
+    )
 
 -- what follows the header line
 abbrev pub binary_rest : List Bool → Raw → List ℕ
@@ -222,19 +240,30 @@ binary_again resets raw s ready =
     let p : List ℕ = properties_of raw ++ g in
     let w = within_from raw s.formed in
     let latches : FitsFrom IsImplicitLatch (i + 1) raw.latches =
-        fits_map (λ v x. HasEven latch_lit v x × IsLatch x) IsImplicitLatch (λ v x f. (f.0, f.1.1, f.1.2)) (i + 1) raw.latches
-          (fits_and (HasEven latch_lit) IsLatch (i + 1) raw.latches o.latches s.numbers.latches) in
+    fits_map (λ v x. HasEven latch_lit v x × IsLatch x) IsImplicitLatch (λ v x f. (f.0, f.1.1, f.1.2)) (i + 1) raw.latches
+    (fits_and (HasEven latch_lit) IsLatch (i + 1) raw.latches o.latches s.numbers.latches) in
     let below = fits_below (HasEven gate_lhs) formed.limit (i + l + 1) raw.gates (omega (arith, w.max_var, o.exact)) o.gates in
     let gates : FitsFrom IsWrittenGate (i + l + 1) raw.gates =
-        fits_map (λ v x. ((v ≤ formed.limit) × HasEven gate_lhs v x) × ((x.rhs0 < x.lhs) × (x.rhs1 ≤ x.rhs0))) IsWrittenGate
-          (λ v x f. ((f.0.1, f.1.0, f.1.1), omega (arith, f.0.0, f.0.1))) (i + l + 1) raw.gates
-          (fits_and (λ v x. (v ≤ formed.limit) × HasEven gate_lhs v x) (λ x. (x.rhs0 < x.lhs) × (x.rhs1 ≤ x.rhs0)) (i + l + 1) raw.gates below ready.gates) in
+    fits_map (λ v x. ((v ≤ formed.limit) × HasEven gate_lhs v x) × ((x.rhs0 < x.lhs) × (x.rhs1 ≤ x.rhs0))) IsWrittenGate
+    (λ v x f. ((f.0.1, f.1.0, f.1.1), omega (arith, f.0.0, f.0.1))) (i + l + 1) raw.gates
+    (fits_and (λ v x. (v ≤ formed.limit) × HasEven gate_lhs v x) (λ x. (x.rhs0 < x.lhs) × (x.rhs1 ≤ x.rhs0)) (i + l + 1) raw.gates below ready.gates) in
     let made : List ℕ → Raw = λ inputs. record {
-      max_var = raw.max_var; inputs = inputs; latches = raw.latches; outputs = raw.outputs; bad = raw.bad; constraints = raw.constraints;
-      justice = raw.justice; fairness = raw.fairness; gates = raw.gates; symbols = raw.symbols; comment = raw.comment;
+      max_var = raw.max_var;
+      inputs = inputs;
+      latches = raw.latches;
+      outputs = raw.outputs;
+      bad = raw.bad;
+      constraints = raw.constraints;
+      justice = raw.justice;
+      fairness = raw.fairness;
+      gates = raw.gates;
+      symbols = raw.symbols;
+      comment = raw.comment;
     } in
-    rw (lines_again implicit_latch_at implicit_latch_line IsImplicitLatch implicit_latch_again (i + 1) resets raw.latches p latches,
+    rw (
+      lines_again implicit_latch_at implicit_latch_line IsImplicitLatch implicit_latch_again (i + 1) resets raw.latches p latches,
       properties_again c (properties_in raw) g (counted_properties raw) (fits_properties raw s),
       deltas_again (i + l + 1) raw.gates n gates,
-      names_again c (names_in raw) (small_counts c w) (entries_from raw s.formed) s.names)
-      (ap (λ (t : List ℕ). done (made t) []) (sym o.inputs))
+      names_again c (names_in raw) (small_counts c w) (entries_from raw s.formed) s.names,
+    )
+    (ap (λ (t : List ℕ). done (made t) []) (sym o.inputs))

@@ -79,6 +79,7 @@ groups_take (suc k) (b ∷ bytes) n rest h = by_size (λ m left g. groups_take k
         let high : n / 128 ≡ m = omega (arith, p.0, some.0, some.1) in
         let text : groups (suc k) n ≡ b ∷ groups k m = more_groups k n (omega (arith, p.0, some.0)) ∙ (λ i. low i ∷ groups k (high i)) in
         (ap (λ (t : List ℕ). b ∷ t) (before.0 ∙ ap (λ (r : List ℕ). groups k m ++ r) p.1) ∙ ap (λ (t : List ℕ). t ++ rest) (sym text), omega (arith, pow_more k, p.0, before.1, some.1))
+
     by_size : ((m : ℕ) (left : List ℕ) → groups_at k bytes ≡ Ok (m, left) → (bytes ≡ groups k m ++ left) × (m < 128 ^ suc k)) → (t : Bool) → ltb b 128 ≡ t
         → cond t (done b bytes) (groups_at k bytes >>= λ high. cond (eqb high.0 0 || ltb 255 b) (Err text) (done (b - 128 + 128 * high.0) high.1)) ≡ Ok (n, rest) → (b ∷ bytes ≡ groups (suc k) n ++ rest) × (n < 128 ^ suc (suc k))
     by_size again true e h = let p = done_is b n bytes rest h in let lt = ltb-true b 128 e in ((λ i. p.0 i ∷ p.1 i) ∙ ap (λ (t : List ℕ). t ++ rest) (sym (one_group (suc k) n (omega (arith, p.0)))), omega (arith, p.0, pow_more k, positive k))
@@ -114,8 +115,12 @@ little (suc (suc (suc (suc k)))) n le some lt = absurd (omega arith)
 
 -- ---- the spelling
 
+no_more_groups : (n : ℕ) → groups 0 n ≡ n ∷ []
+unfolding groups
+no_more_groups n = refl
+
 groups_short : (j n k : ℕ) → n < 128 ^ suc k → length (groups j n) ≤ suc k
-groups_short zero n k lt = omega arith
+groups_short zero n k lt = let size = ap length (no_more_groups n) in omega (arith, size)
 groups_short (suc j) n zero lt =
     let one : n < 128 = omega arith in
     let size = ap length (one_group (suc j) n one) in

@@ -33,6 +33,7 @@ and_then_counts {B = B} (Err d) f e = absurd (apart d e)
   where
     refused : FileRefusal → Result B FileRefusal
     refused r = Err r
+
     apart : (d : Refusal) → refused (token d) ≡ refused counts → ⊥
     apart d e = cc
 
@@ -97,6 +98,7 @@ file_takes bytes raw e =
     by_body : (f : Format) (c : Counts) (left : List ℕ) (rest : List ℕ) → HeaderRead bytes f c left → are_wrong f c ≡ false → body_at f c left ≡ Ok (raw, rest) → Spells bytes raw
     by_body Ascii c left rest h fine b = inl (ascii_spells bytes c left raw h fine (ascii_take c left raw rest b))
     by_body Binary c left rest h fine b = inr (binary_spells bytes c left raw h fine (binary_take c left raw rest b))
+
     by_wrong : (f : Format) (c : Counts) (left : List ℕ) → header_at bytes ≡ Ok ((f, c), left) → (b : Bool) → are_wrong f c ≡ b
         → cond b (Err counts) (and_then (body_at f c left) (λ raw. Ok raw.0)) ≡ Ok raw → Spells bytes raw
     by_wrong f c left e true w g = absurd cc
@@ -152,6 +154,7 @@ wrong_takes bytes e =
   where
     no_counts : (raw : Raw) → is_read raw ≡ Err counts → ⊥
     no_counts raw e = cc
+
     by_wrong : (f : Format) (c : Counts) (left : List ℕ) → header_at bytes ≡ Ok ((f, c), left) → (b : Bool) → are_wrong f c ≡ b
         → cond b (Err counts) (and_then (body_at f c left) (λ raw. is_read raw.0)) ≡ Err counts → HasWrongCounts bytes
     by_wrong f c left e true w g =

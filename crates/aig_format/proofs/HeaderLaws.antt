@@ -140,27 +140,27 @@ tail_takes (suc m) bytes ns rest h = bind_then _ _ _ h (λ a ea h1. bind_then _ 
         let open_ : false ≡ over = ap (λ (x : ℕ × Bool). x.1) q.0 in
         let t = number_takes formed.limit left c.0 c.1 nine wide ec in
         let h2 : (tail_at m false c.1 >>= λ others. done (c.0 ∷ others.0) others.1) ≡ Ok (ns, rest) =
-            (λ i. tail_at m (open_ i) (q.1 i) >>= λ others. done (number i ∷ others.0) others.1) ∙ h1 in
+        (λ i. tail_at m (open_ i) (q.1 i) >>= λ others. done (number i ∷ others.0) others.1) ∙ h1 in
         bind_then _ _ _ h2 (λ o eo h3.
         let p = done_is (c.0 ∷ o.0) ns o.1 rest h3 in
         let r = again c.1 o.0 o.1 eo in
         let text : bytes ≡ tail (suc r.least) (c.0 ∷ o.0) ++ rest =
-            more_takes bytes true left e
-            ∙ ap (λ (x : List ℕ). space ∷ x) (join2 left (decimal c.0) c.1 (tail r.least o.0) rest t.0 (join_end c.1 (tail r.least o.0) o.1 rest r.spelled p.1))
-            ∙ ap (λ (x : List ℕ). x ++ rest) (sym (tail_more r.least c.0 o.0)) in
+        more_takes bytes true left e
+        ∙ ap (λ (x : List ℕ). space ∷ x) (join2 left (decimal c.0) c.1 (tail r.least o.0) rest t.0 (join_end c.1 (tail r.least o.0) o.1 rest r.spelled p.1))
+        ∙ ap (λ (x : List ℕ). x ++ rest) (sym (tail_more r.least c.0 o.0)) in
         subst (λ (k : List ℕ). TailRead (suc m) bytes k rest) p.0 (record { least = suc r.least; spelled = text; count = ap suc r.count; small = All-cons (λ (n : ℕ). n ≤ formed.limit) c.0 o.0 t.1 r.small })))
     by_more again n over after false left e g h1 =
         let q = done_is (0, true) (n, over) left after g in
         let number : 0 ≡ n = ap (λ (x : ℕ × Bool). x.0) q.0 in
         let closed : true ≡ over = ap (λ (x : ℕ × Bool). x.1) q.0 in
         let h2 : (tail_at m true left >>= λ others. done (0 ∷ others.0) others.1) ≡ Ok (ns, rest) =
-            (λ i. tail_at m (closed i) (q.1 i) >>= λ others. done (number i ∷ others.0) others.1) ∙ h1 in
+        (λ i. tail_at m (closed i) (q.1 i) >>= λ others. done (number i ∷ others.0) others.1) ∙ h1 in
         bind_then _ _ _ h2 (λ o eo h3.
         let p = done_is (0 ∷ o.0) ns o.1 rest h3 in
         let r = over_takes m left o.0 o.1 eo in
         let text : bytes ≡ tail 0 (0 ∷ o.0) ++ rest =
-            more_takes bytes false left e ∙ ap (λ (x : List ℕ). line_end ∷ x) (r.same ∙ p.1)
-            ∙ ap (λ (x : List ℕ). x ++ rest) (sym (tail_zeros 0 o.0 (all_zero_cons o.0 r.zeros))) in
+        more_takes bytes false left e ∙ ap (λ (x : List ℕ). line_end ∷ x) (r.same ∙ p.1)
+        ∙ ap (λ (x : List ℕ). x ++ rest) (sym (tail_zeros 0 o.0 (all_zero_cons o.0 r.zeros))) in
         subst (λ (k : List ℕ). TailRead (suc m) bytes k rest) p.0 (record { least = 0; spelled = text; count = ap suc r.count; small = All-cons (λ (n : ℕ). n ≤ formed.limit) 0 o.0 (omega arith) r.small }))
 
 stops_tail : (k : ℕ) (ns rest : List ℕ) → Stops (tail k ns ++ rest)
@@ -242,8 +242,8 @@ header_takes bytes h rest e =
     bind_then _ _ _ e (λ w ew e0. bind_then _ _ _ e0 (λ m em e1. bind_then _ _ _ e1 (λ i ei e2. bind_then _ _ _ e2 (λ l el e3. bind_then _ _ _ e3 (λ o eo e4. bind_then _ _ _ e4 (λ g eg e5. bind_then _ _ _ e5 (λ t et e6.
     let p = done_is (w.0, counts_from m.0 i.0 l.0 o.0 g.0 t.0) h t.1 rest e6 in
     let made = header_joins bytes w.0 w.1 m i l o g t.0 t.1 (word_takes bytes w.0 w.1 ew)
-      (field_takes formed.limit space w.1 m.0 m.1 nine wide em) (field_takes formed.limit space m.1 i.0 i.1 nine wide ei) (field_takes formed.limit space i.1 l.0 l.1 nine wide el)
-      (field_takes formed.limit space l.1 o.0 o.1 nine wide eo) (number_takes formed.limit o.1 g.0 g.1 nine wide eg) (tail_takes 4 g.1 t.0 t.1 et) in
+    (field_takes formed.limit space w.1 m.0 m.1 nine wide em) (field_takes formed.limit space m.1 i.0 i.1 nine wide ei) (field_takes formed.limit space i.1 l.0 l.1 nine wide el)
+    (field_takes formed.limit space l.1 o.0 o.1 nine wide eo) (number_takes formed.limit o.1 g.0 g.1 nine wide eg) (tail_takes 4 g.1 t.0 t.1 et) in
     let P : Format × Counts → List ℕ → Type 0 = λ k r. HeaderRead bytes k.0 k.1 r in
     subst (λ (k : Format × Counts). P k rest) p.0 (subst (λ (r : List ℕ). P (w.0, counts_from m.0 i.0 l.0 o.0 g.0 t.0) r) p.1 made))))))))
 

@@ -130,7 +130,7 @@ pub gate_again : Again (λ v. gate_at) (λ w. gate_line) (λ v. IsGate)
 unfolding gate_at
 gate_again v w x rest fits =
     let regrouped : gate_line x ++ rest ≡ field x.lhs space ++ (field x.rhs0 space ++ (field x.rhs1 line_end ++ rest)) =
-        append_assoc (field x.lhs space ++ field x.rhs0 space) (field x.rhs1 line_end) rest ∙ append_assoc (field x.lhs space) (field x.rhs0 space) (field x.rhs1 line_end ++ rest) in
+    append_assoc (field x.lhs space ++ field x.rhs0 space) (field x.rhs1 line_end) rest ∙ append_assoc (field x.lhs space) (field x.rhs0 space) (field x.rhs1 line_end ++ rest) in
     ap gate_at regrouped ∙ rw (field_again greatest space x.lhs (field x.rhs0 space ++ (field x.rhs1 line_end ++ rest)) fits.0 wide (stops_space (field x.rhs0 space ++ (field x.rhs1 line_end ++ rest))), field_again greatest space x.rhs0 (field x.rhs1 line_end ++ rest) fits.1 wide (stops_space (field x.rhs1 line_end ++ rest)), field_again greatest line_end x.rhs1 rest fits.2 wide (stops_line rest)) refl
 
 -- the rest of a line doesn't go on with a digit
@@ -159,7 +159,7 @@ pub latch_again : Again (λ v. latch_at) latch_line (λ v. IsLatch)
 unfolding latch_at
 latch_again v w x rest fits =
     let regrouped : latch_line w x ++ rest ≡ field x.lit space ++ (decimal x.next ++ (reset_text w x.reset ++ rest)) =
-        append_assoc (field x.lit space ++ decimal x.next) (reset_text w x.reset) rest ∙ append_assoc (field x.lit space) (decimal x.next) (reset_text w x.reset ++ rest) in
+    append_assoc (field x.lit space ++ decimal x.next) (reset_text w x.reset) rest ∙ append_assoc (field x.lit space) (decimal x.next) (reset_text w x.reset ++ rest) in
     ap latch_at regrouped ∙ rw (field_again greatest space x.lit (decimal x.next ++ (reset_text w x.reset ++ rest)) fits.0 wide (stops_space (decimal x.next ++ (reset_text w x.reset ++ rest))), number_again greatest x.next (reset_text w x.reset ++ rest) fits.1 wide (stops_reset w x.reset rest), optional_again greatest w x.reset rest fits.2 wide) refl
 
 pub implicit_latch_takes : Takes implicit_latch_at implicit_latch_line IsImplicitLatch

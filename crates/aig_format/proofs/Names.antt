@@ -89,6 +89,7 @@ after_c_takes (x ∷ xs) next rest h = by_end (eqb x line_end) refl h
         let p = done_is (Symbol Constraint) next (x ∷ xs) rest g in
         subst (λ (n : Next). Letters (99 ∷ x ∷ xs) n rest) p.0 (ap (λ (t : List ℕ). 99 ∷ t) p.1)
     by_digit false g = absurd cc
+
     by_end : (t : Bool) → eqb x line_end ≡ t → cond t (done Comment xs) (cond (is_digit x) (done (Symbol Constraint) (x ∷ xs)) (Err text)) ≡ Ok (next, rest) → Letters (99 ∷ x ∷ xs) next rest
     by_end true e g =
         let p = done_is Comment next xs rest g in
@@ -122,6 +123,7 @@ letter_takes (x ∷ xs) next rest h = by_c (eqb x 99) refl h
         let p = done_is (Symbol kind) next xs rest g in
         let same : x ≡ letter kind = kind_takes x kind e in
         subst (λ (n : Next). Letters (x ∷ xs) n rest) p.0 (λ i. same i ∷ p.1 i)
+
     by_c : (t : Bool) → eqb x 99 ≡ t → cond t (after_c_at xs) (letter_then (kind_of x) xs) ≡ Ok (next, rest) → Letters (x ∷ xs) next rest
     by_c true e g =
         let same : x ≡ 99 = eqb-true x 99 e in
@@ -196,8 +198,8 @@ symbol_joins : (l : ℕ) (bytes n s m r rest : List ℕ) (p : ℕ) → bytes ≡
 symbol_joins l bytes n s m r rest p e1 e2 e3 e4 =
     let one : bytes ≡ decimal p ++ space ∷ (n ++ line_end ∷ rest) = rw (e1, e2, e3, e4) refl in
     let two : (l ∷ field p space ++ n ++ line_end ∷ []) ++ rest ≡ l ∷ (decimal p ++ space ∷ (n ++ line_end ∷ rest)) =
-        append_assoc (l ∷ field p space ++ n) (line_end ∷ []) rest ∙ append_assoc (l ∷ field p space) n (line_end ∷ rest)
-        ∙ ap (λ (t : List ℕ). l ∷ t) (append_assoc (decimal p) (space ∷ []) (n ++ line_end ∷ rest)) in
+    append_assoc (l ∷ field p space ++ n) (line_end ∷ []) rest ∙ append_assoc (l ∷ field p space) n (line_end ∷ rest)
+    ∙ ap (λ (t : List ℕ). l ∷ t) (append_assoc (decimal p) (space ∷ []) (n ++ line_end ∷ rest)) in
     ap (λ (t : List ℕ). l ∷ t) one ∙ sym two
 
 pub symbol_takes : (c : Counts) (named : List Entry) (kind : Kind) (bytes : List ℕ) (all : List Entry) (rest : List ℕ) → symbol_at c named kind bytes ≡ Ok (all, rest)

@@ -64,6 +64,7 @@ digits_take bound n (x ∷ xs) m rest some le small h = by_digit (λ k pos withi
         let end : 48 + next % 10 ≡ x = omega (arith, range.0, range.1) in
         let step : decimal next ≡ decimal n ++ x ∷ [] = decimal_step next (omega arith) (omega (arith, within)) ∙ (λ i. decimal (front i) ++ (end i ∷ [])) in
         (sym (append_assoc (decimal n) (x ∷ []) xs) ∙ ap (λ (t : List ℕ). t ++ xs) (sym step) ∙ p.0, p.1)
+
     by_digit : ((k : ℕ) → 0 < k → k ≤ bound → digits_at bound k xs ≡ done m rest → (decimal k ++ xs ≡ decimal m ++ rest) × (m ≤ bound)) → (b : Bool) → is_digit x ≡ b → cond b (cond (ltb bound (n * 10 + (x - 48))) (Err limit) (digits_at bound (n * 10 + (x - 48)) xs)) (done n (x ∷ xs)) ≡ done m rest → (decimal n ++ x ∷ xs ≡ decimal m ++ rest) × (m ≤ bound)
     by_digit again true e h = by_bound again (n * 10 + (x - 48)) refl (ltb bound (n * 10 + (x - 48))) refl e h
     by_digit again false e h = let p = done_is n m (x ∷ xs) rest h in (rw (p.0, p.1) refl, rw (← p.0) le)
@@ -101,6 +102,7 @@ number_goes_on bound n rest some le small =
     one : (m : ℕ) → m < 10 → 0 < m → m ≤ bound → (rest : List ℕ) → number_at bound ((48 + m) ∷ rest) ≡ digits_at bound m rest
     one zero lt some le rest = absurd (omega arith)
     one (suc m) lt some le rest = rw (digit_again (suc m) rest lt) refl
+
     more : (m : ℕ) (ds : List ℕ) → 10 ≤ m → (0 < m / 10 → m / 10 ≤ bound → (rest : List ℕ) → number_at bound (ds ++ rest) ≡ digits_at bound (m / 10) rest)
         → 0 < m → m ≤ bound → (rest : List ℕ) → number_at bound ((ds ++ (48 + m % 10) ∷ []) ++ rest) ≡ digits_at bound m rest
     more m ds ten before some le rest =

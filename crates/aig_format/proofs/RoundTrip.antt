@@ -55,7 +55,7 @@ is_small l = l ≤ greatest
 pub small_numbers : (raw : Raw) → IsCircuit raw → HasSmallNumbers raw
 small_numbers raw c =
     let all : AreSmall (definitions raw ++ uses raw) =
-        All-weaker (IsInRange raw) is_small (λ l h. (let m = c.formed.counts.max_var in omega (arith, h, m))) (definitions raw ++ uses raw) c.sound.in_range in
+    All-weaker (IsInRange raw) is_small (λ l h. (let m = c.formed.counts.max_var in omega (arith, h, m))) (definitions raw ++ uses raw) c.sound.in_range in
     let lits : List ℕ = map (λ x. x.lit) raw.latches in
     let lhss : List ℕ = map (λ g. g.lhs) raw.gates in
     let nexts : List ℕ = map (λ x. x.next) raw.latches in
@@ -73,10 +73,10 @@ small_numbers raw c =
     let next : All (λ x. x.next ≤ greatest) raw.latches = all_unmap is_small (λ x. x.next) raw.latches (all_left is_small nexts raw.outputs u5) in
     let lhs : All (λ g. g.lhs ≤ greatest) raw.gates = all_unmap is_small (λ g. g.lhs) raw.gates (all_right is_small (raw.inputs ++ lits) lhss defs) in
     let rhs : All (λ g. AreSmall (g.rhs0 ∷ g.rhs1 ∷ [])) raw.gates = all_unflat is_small (λ g. g.rhs0 ∷ g.rhs1 ∷ []) raw.gates
-        (all_right is_small (nexts ++ raw.outputs ++ raw.bad ++ raw.constraints ++ js ++ raw.fairness) sides used) in
+    (all_right is_small (nexts ++ raw.outputs ++ raw.bad ++ raw.constraints ++ js ++ raw.fairness) sides used) in
     record {
       inputs = all_left is_small raw.inputs lits d1;
-      latches = λ k d lt. (lit k d lt, next k d lt, small_reset _ (c.sound.resets k d lt) (lit k d lt));
+      latches = λ k d lt. (lit k d lt, next k d lt, small_reset (get_or raw.latches k d) (c.sound.resets k d lt) (lit k d lt));
       outputs = all_right is_small nexts raw.outputs u5;
       bad = all_right is_small (nexts ++ raw.outputs) raw.bad u4;
       constraints = all_right is_small (nexts ++ raw.outputs ++ raw.bad) raw.constraints u3;
@@ -95,23 +95,23 @@ room_from : (ls : List ℕ) (m : ℕ) → All (λ l. l ≤ 2 * m + 1) ls → All
 room_from ls m range definition once =
     let size = length-map ls below in
     let pairs : AllPairs (λ x y. x ≢ y) (map below ls) = λ i j d lt within same.
-        (let jn : j < length ls = omega (arith, within, size) in
-        let inn : i < length ls = omega (arith, lt, jn) in
-        let a = get_or-map below ls i 0 d inn in
-        let b = get_or-map below ls j 0 d jn in
-        let ha = definition i 0 inn in
-        let hb = definition j 0 jn in
-        let equal : below (get_or ls i 0) ≡ below (get_or ls j 0) = sym a ∙ same ∙ b in
-        let halves : variable (get_or ls j 0) ≡ variable (get_or ls i 0) = omega (arith, equal, ha.0, ha.1, hb.0, hb.1) in
-        let vs = length-map ls variable in
-        let at_i : slice_get (map variable ls) i ≡ Some (variable (get_or ls i 0)) =
-            slice_get-get_or (map variable ls) i 0 (omega (arith, inn, vs)) ∙ ap Some (get_or-map variable ls i 0 0 inn) in
-        let at_j : slice_get (map variable ls) j ≡ Some (variable (get_or ls i 0)) =
-            slice_get-get_or (map variable ls) j 0 (omega (arith, jn, vs)) ∙ ap Some (get_or-map variable ls j 0 0 jn ∙ halves) in
-        once (variable (get_or ls i 0)) (i, j, lt, at_i, at_j)) in
+    (let jn : j < length ls = omega (arith, within, size) in
+    let inn : i < length ls = omega (arith, lt, jn) in
+    let a = get_or-map below ls i 0 d inn in
+    let b = get_or-map below ls j 0 d jn in
+    let ha = definition i 0 inn in
+    let hb = definition j 0 jn in
+    let equal : below (get_or ls i 0) ≡ below (get_or ls j 0) = sym a ∙ same ∙ b in
+    let halves : variable (get_or ls j 0) ≡ variable (get_or ls i 0) = omega (arith, equal, ha.0, ha.1, hb.0, hb.1) in
+    let vs = length-map ls variable in
+    let at_i : slice_get (map variable ls) i ≡ Some (variable (get_or ls i 0)) =
+    slice_get-get_or (map variable ls) i 0 (omega (arith, inn, vs)) ∙ ap Some (get_or-map variable ls i 0 0 inn) in
+    let at_j : slice_get (map variable ls) j ≡ Some (variable (get_or ls i 0)) =
+    slice_get-get_or (map variable ls) j 0 (omega (arith, jn, vs)) ∙ ap Some (get_or-map variable ls j 0 0 jn ∙ halves) in
+    once (variable (get_or ls i 0)) (i, j, lt, at_i, at_j)) in
     let bound : All (λ q. q < m) (map below ls) = All-map (λ q. q < m) below ls (λ k d lt. (let r = range k d lt in let h = definition k d lt in omega (arith, r, h.0, h.1))) in
     let few = length-le_from_distinct_below (map below ls) m (IsDistinct-from_AllPairs Decides-eqb (map below ls) pairs)
-        (λ q h. All-contains (λ q. q < m) (map below ls) q bound (Contains-from_any (λ x y e. eqb-true x y e) q (map below ls) h)) in
+    (λ q h. All-contains (λ q. q < m) (map below ls) q bound (Contains-from_any (λ x y e. eqb-true x y e) q (map below ls) h)) in
     omega (arith, few, size)
 
 pub room_of : (raw : Raw) → IsCircuit raw → length raw.inputs + length raw.latches + length raw.gates ≤ raw.max_var

@@ -81,7 +81,7 @@ sizes_again total (size ∷ sizes) rest within =
     let after : List ℕ = flat_map literal_line sizes ++ rest in
     let fits : total + size ≤ formed.limit = omega (arith, within, sum) in
     let regrouped : flat_map literal_line (size ∷ sizes) ++ rest ≡ decimal size ++ line_end ∷ after =
-        ap (λ (x : List ℕ). x ++ rest) (flat_map-cons literal_line size sizes) ∙ append_assoc (literal_line size) (flat_map literal_line sizes) rest ∙ append_assoc (decimal size) (line_end ∷ []) after in
+    ap (λ (x : List ℕ). x ++ rest) (flat_map-cons literal_line size sizes) ∙ append_assoc (literal_line size) (flat_map literal_line sizes) rest ∙ append_assoc (decimal size) (line_end ∷ []) after in
     ap (sizes_at (suc (length sizes)) total) regrouped
     ∙ rw (number_again greatest size (line_end ∷ after) (omega (arith, fits)) wide (stops_line after), le-ltb formed.limit (total + size) fits, byte_again line_end after, sizes_again (total + size) sizes rest (omega (arith, within, sum))) refl
 
@@ -117,7 +117,7 @@ groups_again [] rest small = refl
 groups_again (p ∷ ps) rest small =
     let after : List ℕ = group_lines ps ++ rest in
     let regrouped : group_lines (p ∷ ps) ++ rest ≡ flat_map literal_line p ++ after =
-        ap (λ (x : List ℕ). x ++ rest) (flat_map-cons (λ q. flat_map literal_line q) p ps) ∙ append_assoc (flat_map literal_line p) (group_lines ps) rest in
+    ap (λ (x : List ℕ). x ++ rest) (flat_map-cons (λ q. flat_map literal_line q) p ps) ∙ append_assoc (flat_map literal_line p) (group_lines ps) rest in
     ap (groups_of_literals_at (length p ∷ map length ps)) regrouped
     ∙ rw (literals_again p after (All-head AreSmall p ps small), groups_again ps rest (All-tail AreSmall p ps small)) refl
 
@@ -159,7 +159,7 @@ justice_again ps rest within small =
     let after : List ℕ = group_lines ps ++ rest in
     let sum = sum_of_lengths ps in
     let sizes : sizes_at (length ps) 0 (flat_map size_line ps ++ after) ≡ Ok (map length ps, after) =
-        (λ i. sizes_at (sym (length-map ps length) i) 0 (sym (size_lines ps) i ++ after)) ∙ sizes_again 0 (map length ps) after (omega (arith, within, sum)) in
+    (λ i. sizes_at (sym (length-map ps length) i) 0 (sym (size_lines ps) i ++ after)) ∙ sizes_again 0 (map length ps) after (omega (arith, within, sum)) in
     rw (sizes, groups_again ps rest small) refl
 
 -- ---- properties
@@ -209,7 +209,11 @@ properties_take c bytes p rest h =
     let P : Properties → Type 0 = λ x. PropertiesRead c bytes x rest in
     subst P q.0 (record {
       spelled = e5 ∙ ap (λ (r : List ℕ). text_of made ++ r) q.1;
-      outputs = to.1; bad = tb.1; constraints = tk.1; justice = tj.count; fairness = tf.1;
+      outputs = to.1;
+      bad = tb.1;
+      constraints = tk.1;
+      justice = tj.count;
+      fairness = tf.1;
       fits = record { outputs = to.2; bad = tb.2; constraints = tk.2; justice = tj.small; fairness = tf.2; within = tj.within };
     }))))))
 
@@ -234,5 +238,15 @@ properties_again c p rest is fits =
     let k : List ℕ = lk ++ j in
     let b : List ℕ = lb ++ k in
     ap (properties_at c) (apart6 lo lb lk ls lg (flat_map literal_line p.fairness) rest)
-    ∙ rw (is.outputs, literals_again p.outputs b fits.outputs, is.bad, literals_again p.bad k fits.bad, is.constraints, literals_again p.constraints j fits.constraints,
-        is.justice, justice_again p.justice f fits.within fits.justice, is.fairness, literals_again p.fairness rest fits.fairness) refl
+    ∙ rw (
+      is.outputs,
+      literals_again p.outputs b fits.outputs,
+      is.bad,
+      literals_again p.bad k fits.bad,
+      is.constraints,
+      literals_again p.constraints j fits.constraints,
+      is.justice,
+      justice_again p.justice f fits.within fits.justice,
+      is.fairness,
+      literals_again p.fairness rest fits.fairness,
+    ) refl

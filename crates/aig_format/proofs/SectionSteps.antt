@@ -17,7 +17,7 @@ use Rattle.aig_format.proofs.Steps.{done, with_front, regroup, bind_bind, fails_
 after_size : List ℕ → ℕ → ℕ → ℕ × List ℕ → Read (List ℕ)
 after_size front n total size =
     cond (ltb formed.limit (total + size.0)) (Err limit)
-      (byte_at line_end size.1 >>= λ end. with_front (front ++ size.0 ∷ []) (sizes_at n (total + size.0) end.1))
+    (byte_at line_end size.1 >>= λ end. with_front (front ++ size.0 ∷ []) (sizes_at n (total + size.0) end.1))
 
 size_split : (front : List ℕ) (n total : ℕ) (size : ℕ × List ℕ) (over : Bool)
     → with_front front (cond over (Err limit) (byte_at line_end size.1 >>= λ end. sizes_at n (total + size.0) end.1 >>= λ others. done (size.0 ∷ others.0) others.1))
@@ -70,7 +70,7 @@ pub sizes_end_fail : (e : Fault) (front : List ℕ) (count i total : ℕ) (bytes
     → with_front front (sizes_at (count - i) total bytes) ≡ whole → Fails e whole
 sizes_end_fail e front count i total bytes size mid whole lt h within bad so_far =
     subst (λ (r : Read (List ℕ)). Fails e r) (sizes_then front count i total bytes size mid whole lt h within so_far)
-      (fails_on e (byte_at line_end mid) (λ end. with_front (front ++ size ∷ []) (sizes_at (count - (i + 1)) (total + size) end.1)) bad)
+    (fails_on e (byte_at line_end mid) (λ end. with_front (front ++ size ∷ []) (sizes_at (count - (i + 1)) (total + size) end.1)) bad)
 
 pub sizes_on : (front : List ℕ) (count i total : ℕ) (bytes : List ℕ) (size : ℕ) (mid : List ℕ) (u : Unit {0}) (after : List ℕ) (whole : Read (List ℕ)) → i < count
     → number_at greatest bytes ≡ Ok (size, mid) → total + size ≤ formed.limit → byte_at line_end mid ≡ Ok (u, after)
@@ -96,7 +96,7 @@ unfolding groups_of_literals_at after_group
 groups_step front sizes i size bytes whole lt is so_far =
     let next : i + 1 ≡ suc i = omega arith in
     let one : with_front front (groups_of_literals_at (drop i sizes) bytes) ≡ (literals_at (get_or sizes i 0) bytes >>= after_group front (drop (suc i) sizes)) =
-        rw (drop-cons sizes i 0 lt) (by_group (literals_at (get_or sizes i 0) bytes)) in
+    rw (drop-cons sizes i 0 lt) (by_group (literals_at (get_or sizes i 0) bytes)) in
     ap (λ (k : ℕ). literals_at size bytes >>= after_group front (drop k sizes)) next ∙ ap (λ (k : ℕ). literals_at k bytes >>= after_group front (drop (suc i) sizes)) is ∙ sym one ∙ so_far
   where
     by_group : (r : Read (List ℕ)) → with_front front (r >>= λ first. groups_of_literals_at (drop (suc i) sizes) first.1 >>= λ others. done (first.0 ∷ others.0) others.1)

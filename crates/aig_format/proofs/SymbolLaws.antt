@@ -150,26 +150,26 @@ symbols_again c (suc n) named [] true rest small le ends fits once = ap (λ (es 
 symbols_again c (suc n) named [] false rest small le ends fits once = (λ i. done {A = Named} (sym (append-nil named) i, false) (sym (ends refl) i))
 symbols_again c zero named (e ∷ more) follows rest small le ends fits once =
     let text : flat_map symbol_line (e ∷ more) ++ start follows rest ≡ letter e.0.0 ∷ (decimal e.0.1 ++ space ∷ (e.1 ++ line_end ∷ (flat_map symbol_line more ++ start follows rest))) =
-        ap (λ (x : List ℕ). x ++ start follows rest) (flat_map-cons symbol_line e more) ∙ append_assoc (symbol_line e) (flat_map symbol_line more) (start follows rest)
-        ∙ symbol_apart e (flat_map symbol_line more ++ start follows rest) in
+    ap (λ (x : List ℕ). x ++ start follows rest) (flat_map-cons symbol_line e more) ∙ append_assoc (symbol_line e) (flat_map symbol_line more) (start follows rest)
+    ∙ symbol_apart e (flat_map symbol_line more ++ start follows rest) in
     let size = ap length text in
     absurd (omega (arith, le, size))
 symbols_again c (suc n) named (e ∷ more) follows rest small le ends fits once =
     let after : List ℕ = flat_map symbol_line more ++ start follows rest in
     let text : flat_map symbol_line (e ∷ more) ++ start follows rest ≡ letter e.0.0 ∷ (decimal e.0.1 ++ space ∷ (e.1 ++ line_end ∷ after)) =
-        ap (λ (x : List ℕ). x ++ start follows rest) (flat_map-cons symbol_line e more) ∙ append_assoc (symbol_line e) (flat_map symbol_line more) (start follows rest)
-        ∙ symbol_apart e after in
+    ap (λ (x : List ℕ). x ++ start follows rest) (flat_map-cons symbol_line e more) ∙ append_assoc (symbol_line e) (flat_map symbol_line more) (start follows rest)
+    ∙ symbol_apart e after in
     let size = ap length text in
     let deep : length after ≤ length (decimal e.0.1 ++ space ∷ (e.1 ++ line_end ∷ after)) =
-        shorter _ (decimal e.0.1 ++ (space ∷ (e.1 ++ line_end ∷ []))) after (deep_is (decimal e.0.1) e.1 after) in
+    shorter _ (decimal e.0.1 ++ (space ∷ (e.1 ++ line_end ∷ []))) after (deep_is (decimal e.0.1) e.1 after) in
     let here = All-head (IsEntry c) e more fits in
     let within : e.0.1 ≤ greatest = omega (arith, here.there, small e.0.0) in
     let regrouped : named ++ (e ∷ more) ≡ (named ++ e ∷ []) ++ more = sym (append_assoc named (e ∷ []) more) in
     let rec : symbols_at c n (named ++ e ∷ []) after ≡ Ok ((((named ++ e ∷ []) ++ more), follows), rest) =
-        symbols_again c n (named ++ e ∷ []) more follows rest small (omega (arith, le, size, deep)) ends (All-tail (IsEntry c) e more fits) (subst AreOnce regrouped once) in
+    symbols_again c n (named ++ e ∷ []) more follows rest small (omega (arith, le, size, deep)) ends (All-tail (IsEntry c) e more fits) (subst AreOnce regrouped once) in
     ap (symbols_at c (suc n) named) text
     ∙ rw (letter_before e (e.1 ++ line_end ∷ after) within, symbol_again c named e.0.0 e.0.1 e.1 after within here.there here.named (once_free named e more once))
-        (rec ∙ ap (λ (es : List Entry). done {A = Named} (es, follows) rest) (sym regrouped))
+    (rec ∙ ap (λ (es : List Entry). done {A = Named} (es, follows) rest) (sym regrouped))
   where
     deep_is : (d m a : List ℕ) → d ++ space ∷ (m ++ line_end ∷ a) ≡ (d ++ (space ∷ (m ++ line_end ∷ []))) ++ a
     deep_is d m a = sym (append_assoc d (space ∷ (m ++ line_end ∷ [])) a ∙ ap (λ (t : List ℕ). d ++ space ∷ t) (append_assoc m (line_end ∷ []) a))
@@ -189,6 +189,7 @@ names_take c bytes names rest h = bind_then _ _ _ h (λ s es h1. by_comment s.0.
   where
     none : AreOnce []
     none = λ i j d lt within. absurd (omega (arith, within))
+
     by_comment : (all : List Entry) (follows : Bool) (left : List ℕ) → symbols_at c (length bytes) [] bytes ≡ Ok ((all, follows), left)
         → cond follows (done {A = Names} (record { symbols = all; comment = Some left }) []) (done {A = Names} (record { symbols = all; comment = None }) left) ≡ Ok (names, rest) → NamesRead c bytes names rest
     by_comment all true left e g =
@@ -217,7 +218,7 @@ names_again c names small fits once = by_comment names.symbols names.comment fit
   where
     by_comment : (symbols : List Entry) (comment : Option (List ℕ)) → All (IsEntry c) symbols → AreOnce symbols
         → (symbols_at c (length (flat_map symbol_line symbols ++ comment_text comment)) [] (flat_map symbol_line symbols ++ comment_text comment)
-            >>= λ s. cond s.0.1 (done {A = Names} (record { symbols = s.0.0; comment = Some s.1 }) []) (done {A = Names} (record { symbols = s.0.0; comment = None }) s.1))
+        >>= λ s. cond s.0.1 (done {A = Names} (record { symbols = s.0.0; comment = Some s.1 }) []) (done {A = Names} (record { symbols = s.0.0; comment = None }) s.1))
         ≡ Ok (record { symbols = symbols; comment = comment }, [])
     by_comment symbols None fits once = rw (symbols_again c (length (flat_map symbol_line symbols ++ [])) [] symbols false [] small (omega arith) (λ e. refl) fits once) refl
     by_comment symbols (Some bytes) fits once = rw (symbols_again c (length (flat_map symbol_line symbols ++ 99 ∷ line_end ∷ bytes)) [] symbols true bytes small (omega arith) (λ e. absurd cc) fits once) refl

@@ -19,19 +19,22 @@ ascii_at c bytes = do
   properties ← properties_at c latches.1
   gates ← lines_at (λ v. gate_at) c.gates 0 properties.1
   names ← names_at c gates.1
-  Ok (record {
-    max_var = c.max_var;
-    inputs = inputs.0;
-    latches = latches.0;
-    outputs = properties.0.outputs;
-    bad = properties.0.bad;
-    constraints = properties.0.constraints;
-    justice = properties.0.justice;
-    fairness = properties.0.fairness;
-    gates = gates.0;
-    symbols = names.0.symbols;
-    comment = names.0.comment;
-  }, names.1)
+  Ok (
+    record {
+      max_var = c.max_var;
+      inputs = inputs.0;
+      latches = latches.0;
+      outputs = properties.0.outputs;
+      bad = properties.0.bad;
+      constraints = properties.0.constraints;
+      justice = properties.0.justice;
+      fairness = properties.0.fairness;
+      gates = gates.0;
+      symbols = names.0.symbols;
+      comment = names.0.comment;
+    },
+    names.1,
+  )
 
 unfoldable pub binary_at : Counts → List ℕ → Read Raw
 binary_at c bytes = do
@@ -39,19 +42,22 @@ binary_at c bytes = do
   properties ← properties_at c latches.1
   gates ← lines_at implicit_gate_at c.gates (c.inputs + c.latches + 1) properties.1
   names ← names_at c gates.1
-  Ok (record {
-    max_var = c.max_var;
-    inputs = evens c.inputs;
-    latches = latches.0;
-    outputs = properties.0.outputs;
-    bad = properties.0.bad;
-    constraints = properties.0.constraints;
-    justice = properties.0.justice;
-    fairness = properties.0.fairness;
-    gates = gates.0;
-    symbols = names.0.symbols;
-    comment = names.0.comment;
-  }, names.1)
+  Ok (
+    record {
+      max_var = c.max_var;
+      inputs = evens c.inputs;
+      latches = latches.0;
+      outputs = properties.0.outputs;
+      bad = properties.0.bad;
+      constraints = properties.0.constraints;
+      justice = properties.0.justice;
+      fairness = properties.0.fairness;
+      gates = gates.0;
+      symbols = names.0.symbols;
+      comment = names.0.comment;
+    },
+    names.1,
+  )
 
 abbrev pub body_at : Format → Counts → List ℕ → Read Raw
 body_at Ascii c bytes = ascii_at c bytes

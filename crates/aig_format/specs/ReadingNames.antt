@@ -111,7 +111,7 @@ unfoldable pub names_at : Counts → List ℕ → Read Names
 names_at c bytes = do
   symbols ← symbols_at c (length bytes) [] bytes
   if symbols.0.1 then Ok (record { symbols = symbols.0.0; comment = Some symbols.1 }, [])
-    else Ok (record { symbols = symbols.0.0; comment = None }, symbols.1)
+      else Ok (record { symbols = symbols.0.0; comment = None }, symbols.1)
 
 -- a symbol line begins
 abbrev pub IsSymbol : Next → Type 0

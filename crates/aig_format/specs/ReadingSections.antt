@@ -36,9 +36,9 @@ count_at true bytes = Ok ((0, true), bytes)
 count_at false bytes = do
   more ← more_at bytes
   if more.0 then (do
-      count ← number_at formed.limit more.1
-      Ok ((count.0, false), count.1))
-    else Ok ((0, true), more.1)
+    count ← number_at formed.limit more.1
+    Ok ((count.0, false), count.1))
+      else Ok ((0, true), more.1)
 
 -- the end of the line, where it is not over
 unfoldable pub line_end_at : Bool → List ℕ → Read (Unit {0})
@@ -64,17 +64,23 @@ header_at bytes = do
   outputs ← field_at formed.limit space latches.1
   gates ← number_at formed.limit outputs.1
   others ← tail_at 4 false gates.1
-  Ok ((format.0, record {
-    max_var = max_var.0;
-    inputs = inputs.0;
-    latches = latches.0;
-    outputs = outputs.0;
-    gates = gates.0;
-    bad = get_or others.0 0 0;
-    constraints = get_or others.0 1 0;
-    justice = get_or others.0 2 0;
-    fairness = get_or others.0 3 0;
-  }), others.1)
+  Ok (
+    (
+      format.0,
+      record {
+        max_var = max_var.0;
+        inputs = inputs.0;
+        latches = latches.0;
+        outputs = outputs.0;
+        gates = gates.0;
+        bad = get_or others.0 0 0;
+        constraints = get_or others.0 1 0;
+        justice = get_or others.0 2 0;
+        fairness = get_or others.0 3 0;
+      },
+    ),
+    others.1,
+  )
 
 -- ---- lines
 
@@ -128,11 +134,11 @@ sizes_at zero total bytes = Ok ([], bytes)
 sizes_at (suc n) total bytes = do
   size ← number_at greatest bytes
   if nat_lt formed.limit (total + size.0)
-    then Err limit
-    else (do
-    end ← byte_at line_end size.1
-    others ← sizes_at n (total + size.0) end.1
-    Ok (size.0 ∷ others.0, others.1))
+      then Err limit
+      else (do
+        end ← byte_at line_end size.1
+        others ← sizes_at n (total + size.0) end.1
+        Ok (size.0 ∷ others.0, others.1))
 
 -- as many literals as each size says
 unfoldable pub groups_of_literals_at : List ℕ → List ℕ → Read (List (List ℕ))
@@ -154,10 +160,13 @@ properties_at c bytes = do
   constraints ← literals_at c.constraints bad.1
   justice ← justice_at c.justice constraints.1
   fairness ← literals_at c.fairness justice.1
-  Ok (record {
-    outputs = outputs.0;
-    bad = bad.0;
-    constraints = constraints.0;
-    justice = justice.0;
-    fairness = fairness.0;
-  }, fairness.1)
+  Ok (
+    record {
+      outputs = outputs.0;
+      bad = bad.0;
+      constraints = constraints.0;
+      justice = justice.0;
+      fairness = fairness.0;
+    },
+    fairness.1,
+  )

@@ -13,11 +13,7 @@ use std::alloc::Global;
 
 /// All that follows the header line.
 #[tactic(auto, unfolding(crate::specs::ReadingFile::ascii_at))]
-pub(crate) fn ascii_body<S: Source>(
-    alloc: Global,
-    s: &mut S,
-    counts: &Counts,
-) -> Result<Raw, Fault>
+pub(crate) fn ascii_body<S: Source>(alloc: Global, s: &mut S, counts: &Counts) -> Result<Raw, Fault>
     ensures bytes { S.tells → Gives (λ x. x) result (S.left s.new) (ascii_at counts.now (S.left s.old)) }
     ensures failures { Raises result (S.failures s.old) (S.failures s.new) }
 {

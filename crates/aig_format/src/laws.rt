@@ -10,8 +10,7 @@ ghost use Rattle.aig_format.specs.Spells.{Spells, SpellsAscii, SpellsBinary, Are
 /// No bytes spell two different parts, in one format or in both.
 pub fn law_of_one_reading()
     ensures { (bytes : List ℕ) (p q : Raw) → Spells bytes p → Spells bytes q → p ≡ q }
-{
-}
+{}
 
 /// The spelling of a number in groups of seven bits (AIGER 1.0, binary format): a number below 128 is one byte, any
 /// greater number a byte with the high bit set and then the spelling of a 128th of it. No shorter spelling has room for
@@ -22,8 +21,7 @@ pub fn law_of_deltas()
     ensures shortest { (n k : ℕ) → n < 128 ^ (k + 1) → length (delta n) ≤ k + 1 }
     ensures ends { (m n : ℕ) (more others : List ℕ) → m < 2 ^ 28 → n < 2 ^ 28 → delta m ++ more ≡ delta n ++ others
         → (m ≡ n) × (more ≡ others) }
-{
-}
+{}
 
 /// What the writers write spells the circuit, so that it reads back as the same circuit. A circuit's own table of
 /// symbols names no entry twice.
@@ -31,5 +29,4 @@ pub fn law_of_round_trip()
     ensures ascii { (raw : Raw) → IsCircuit raw → AreNamedOnce raw → SpellsAscii (short_ascii raw) raw }
     ensures binary { (raw : Raw) → IsCircuit raw → AreNamedOnce raw → IsBinaryReady raw
         → SpellsBinary (short_binary raw) raw }
-{
-}
+{}

@@ -16,3 +16,6 @@ mod token;
 pub use header::{Counts, Format};
 pub use laws::{law_of_deltas, law_of_one_reading, law_of_round_trip};
 pub use reader::read;
+
+#[cfg(test)]
+mod tests;

@@ -15,12 +15,7 @@ use aig_base::{Circuit, Fault, Raw};
 use std::alloc::Global;
 
 /// All that follows the header line.
-fn body<S: Source>(
-    alloc: Global,
-    s: &mut S,
-    format: Format,
-    counts: &Counts,
-) -> Result<Raw, Fault>
+fn body<S: Source>(alloc: Global, s: &mut S, format: Format, counts: &Counts) -> Result<Raw, Fault>
     requires within { AreWithin counts.now }
     ensures bytes { S.tells → Gives (λ x. x) result (S.left s.new) (body_at format counts.now (S.left s.old)) }
     ensures failures { Raises result (S.failures s.old) (S.failures s.new) }

@@ -186,7 +186,11 @@ fn rest<S: Source>(alloc: Global, s: &mut S) -> Result<Bytes, Fault>
 
 /// The symbols and the comment, which end the file.
 #[tactic(auto, unfolding(crate::specs::ReadingNames::names_at))]
-pub(crate) fn read_names<S: Source>(alloc: Global, s: &mut S, counts: &Counts) -> Result<Names, Fault>
+pub(crate) fn read_names<S: Source>(
+    alloc: Global,
+    s: &mut S,
+    counts: &Counts,
+) -> Result<Names, Fault>
     ensures bytes { S.tells → Gives (λ x. x) result (S.left s.new) (names_at counts.now (S.left s.old)) }
     ensures failures { Raises result (S.failures s.old) (S.failures s.new) }
 {

@@ -150,5 +150,9 @@ pub(crate) fn optional<S: Source>(s: &mut S, bound: u32) -> Result<u32, Fault>
     ensures within { IfOk result (λ n. n ≤ bound) }
     ensures failures { Raises result (S.failures s.old) (S.failures s.new) }
 {
-    if more(s)? { field(s, bound, b'\n') } else { Ok(0) }
+    if more(s)? {
+        field(s, bound, b'\n')
+    } else {
+        Ok(0)
+    }
 }

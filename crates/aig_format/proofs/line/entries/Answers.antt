@@ -11,8 +11,8 @@ returns-in_err-entry-clause-bytes g c = λ told.
 
 pub loop-i-preserved : goal.loop-i-preserved
 loop-i-preserved g c = record {
-    bytes = λ told. rw c.in_ok-push.ensures.ok (lines_on g.X.Implicit.entry_at c.loop-i.all c.args.count c.loop-i.i (c.args.first + c.loop-i.i) (c.args.first + (c.loop-i.i + 1)) (g.S.Source.left c.loop-i.s) c.in_ok-entry.entry (g.S.Source.left c.entry.new.s) (lines_at g.X.Implicit.entry_at c.args.count c.args.first (g.S.Source.left c.args.s.now)) c.loop-i-test.true (omega arith) (c.in_ok-entry.ensures.bytes told) (c.loop-i.invariant.bytes told));
-    failures = c.in_ok-entry.ensures.failures ∙ c.loop-i.invariant.failures;
+  bytes = λ told. rw c.in_ok-push.ensures.ok (lines_on g.X.Implicit.entry_at c.loop-i.all c.args.count c.loop-i.i (c.args.first + c.loop-i.i) (c.args.first + (c.loop-i.i + 1)) (g.S.Source.left c.loop-i.s) c.in_ok-entry.entry (g.S.Source.left c.entry.new.s) (lines_at g.X.Implicit.entry_at c.args.count c.args.first (g.S.Source.left c.args.s.now)) c.loop-i-test.true (omega arith) (c.in_ok-entry.ensures.bytes told) (c.loop-i.invariant.bytes told));
+  failures = c.in_ok-entry.ensures.failures ∙ c.loop-i.invariant.failures;
 }
 
 pub returns-clause-bytes : goal.returns-clause-bytes

@@ -11,8 +11,8 @@ returns-in_err-entry-clause-bytes g c = λ told.
 
 pub loop-preserved : goal.loop-preserved
 loop-preserved g c = record {
-    bytes = λ told. rw c.in_ok-push.ensures.ok (lines_on (λ v. g.X.Line.line_at) c.loop.all c.args.count c.loop.counter c.loop.counter (c.loop.counter + 1) (g.S.Source.left c.loop.s) c.in_ok-entry.entry (g.S.Source.left c.line.new.s) (lines_at (λ v. g.X.Line.line_at) c.args.count 0 (g.S.Source.left c.args.s.now)) c.loop-test.true (omega arith) (c.in_ok-entry.ensures.bytes told) (c.loop.invariant.bytes told));
-    failures = c.in_ok-entry.ensures.failures ∙ c.loop.invariant.failures;
+  bytes = λ told. rw c.in_ok-push.ensures.ok (lines_on (λ v. g.X.Line.line_at) c.loop.all c.args.count c.loop.counter c.loop.counter (c.loop.counter + 1) (g.S.Source.left c.loop.s) c.in_ok-entry.entry (g.S.Source.left c.line.new.s) (lines_at (λ v. g.X.Line.line_at) c.args.count 0 (g.S.Source.left c.args.s.now)) c.loop-test.true (omega arith) (c.in_ok-entry.ensures.bytes told) (c.loop.invariant.bytes told));
+  failures = c.in_ok-entry.ensures.failures ∙ c.loop.invariant.failures;
 }
 
 pub returns-clause-bytes : goal.returns-clause-bytes

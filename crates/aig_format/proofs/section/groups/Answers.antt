@@ -11,8 +11,8 @@ returns-in_err-literals-clause-bytes g c = λ told.
 
 pub loop-size-preserved : goal.loop-size-preserved
 loop-size-preserved g c = record {
-    bytes = λ told. rw c.in_ok-push.ensures.ok (groups_on c.loop-size.all c.args.sizes.now c.loop-size.size-index _ (g.S.Source.left c.loop-size.s) c.in_ok-literals.literals (g.S.Source.left c.lines.new.s) (groups_of_literals_at c.args.sizes.now (g.S.Source.left c.args.s.now)) c.loop-size-test.true refl (c.in_ok-literals.ensures.bytes told) (c.loop-size.invariant.bytes told));
-    failures = c.in_ok-literals.ensures.failures ∙ c.loop-size.invariant.failures;
+  bytes = λ told. rw c.in_ok-push.ensures.ok (groups_on c.loop-size.all c.args.sizes.now c.loop-size.size-index _ (g.S.Source.left c.loop-size.s) c.in_ok-literals.literals (g.S.Source.left c.lines.new.s) (groups_of_literals_at c.args.sizes.now (g.S.Source.left c.args.s.now)) c.loop-size-test.true refl (c.in_ok-literals.ensures.bytes told) (c.loop-size.invariant.bytes told));
+  failures = c.in_ok-literals.ensures.failures ∙ c.loop-size.invariant.failures;
 }
 
 pub returns-clause-bytes : goal.returns-clause-bytes

@@ -20,9 +20,9 @@ returns-in_err-byte-clause-bytes g c = λ told.
 
 pub loop-preserved : goal.loop-preserved
 loop-preserved g c = record {
-    within = omega (arith, c.loop.invariant.within);
-    bytes = λ told. rw c.in_ok-push.ensures.items (sizes_on c.loop.sizes.items c.args.count c.loop.counter c.loop.total (g.S.Source.left c.loop.s) c.in_ok-size.size (g.S.Source.left c.number.new.s) c.in_ok-byte.field-0 (g.S.Source.left c.byte.new.s) (sizes_at c.args.count 0 (g.S.Source.left c.args.s.now)) c.loop-test.true (c.in_ok-size.ensures.bytes told) (omega (arith, c.loop.invariant.within)) (c.in_ok-byte.ensures.bytes told) (c.loop.invariant.bytes told));
-    failures = c.in_ok-byte.ensures.failures ∙ c.in_ok-size.ensures.failures ∙ c.loop.invariant.failures;
+  within = omega (arith, c.loop.invariant.within);
+  bytes = λ told. rw c.in_ok-push.ensures.items (sizes_on c.loop.sizes.items c.args.count c.loop.counter c.loop.total (g.S.Source.left c.loop.s) c.in_ok-size.size (g.S.Source.left c.number.new.s) c.in_ok-byte.field-0 (g.S.Source.left c.byte.new.s) (sizes_at c.args.count 0 (g.S.Source.left c.args.s.now)) c.loop-test.true (c.in_ok-size.ensures.bytes told) (omega (arith, c.loop.invariant.within)) (c.in_ok-byte.ensures.bytes told) (c.loop.invariant.bytes told));
+  failures = c.in_ok-byte.ensures.failures ∙ c.in_ok-size.ensures.failures ∙ c.loop.invariant.failures;
 }
 
 pub returns-clause-bytes : goal.returns-clause-bytes

@@ -13,7 +13,7 @@ returns-in-Some-eq10-clause-bytes g c = λ told.
 
 pub loop-bytes-preserved : goal.loop-bytes-preserved
 loop-bytes-preserved g c = record {
-    bytes = λ told. rw c.in_ok-push-in-Some.ensures.ok (line_on c.loop-bytes.bytes (g.S.Source.left c.loop-bytes.s) c.in-Some.byte (g.S.Source.left c.next.new.self) (line_at (g.S.Source.left c.args.s.now)) (rw c.in-Some.is at (c.in_ok-next.ensures.bytes told)) (λ e. c.in-Some.byte-test.1 e) (c.loop-bytes.invariant.bytes told));
-    never_more = omega (arith, c.in_ok-next.ensures.never_more, c.loop-bytes.invariant.never_more);
-    failures = c.in_ok-next.ensures.failures ∙ c.loop-bytes.invariant.failures;
+  bytes = λ told. rw c.in_ok-push-in-Some.ensures.ok (line_on c.loop-bytes.bytes (g.S.Source.left c.loop-bytes.s) c.in-Some.byte (g.S.Source.left c.next.new.self) (line_at (g.S.Source.left c.args.s.now)) (rw c.in-Some.is at (c.in_ok-next.ensures.bytes told)) (λ e. c.in-Some.byte-test.1 e) (c.loop-bytes.invariant.bytes told));
+  never_more = omega (arith, c.in_ok-next.ensures.never_more, c.loop-bytes.invariant.never_more);
+  failures = c.in_ok-next.ensures.failures ∙ c.loop-bytes.invariant.failures;
 }

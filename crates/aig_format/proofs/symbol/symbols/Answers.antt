@@ -19,8 +19,8 @@ returns-in-Comment-clause-bytes g c = λ told.
 
 pub loop-kind-preserved : goal.loop-kind-preserved
 loop-kind-preserved g c = record {
-    bytes = λ told. goes_on c.args.counts.now c.loop-kind.all c.in-Symbol.kind (g.S.Source.left c.loop-kind.s) (g.S.Source.left c.letter.new.s) c.symbol.new.all (g.S.Source.left c.symbol.new.s) (symbols_at c.args.counts.now (length (g.S.Source.left c.args.s.now)) c.args.all.now (g.S.Source.left c.args.s.now)) (c.loop-kind.invariant.bytes told) (rw c.in-Symbol.is at (c.in_ok-letter.ensures.bytes told)) (c.in_ok-symbol-in-Symbol.ensures.bytes told);
-    failures = c.in_ok-symbol-in-Symbol.ensures.failures ∙ c.in_ok-letter.ensures.failures ∙ c.loop-kind.invariant.failures;
+  bytes = λ told. goes_on c.args.counts.now c.loop-kind.all c.in-Symbol.kind (g.S.Source.left c.loop-kind.s) (g.S.Source.left c.letter.new.s) c.symbol.new.all (g.S.Source.left c.symbol.new.s) (symbols_at c.args.counts.now (length (g.S.Source.left c.args.s.now)) c.args.all.now (g.S.Source.left c.args.s.now)) (c.loop-kind.invariant.bytes told) (rw c.in-Symbol.is at (c.in_ok-letter.ensures.bytes told)) (c.in_ok-symbol-in-Symbol.ensures.bytes told);
+  failures = c.in_ok-symbol-in-Symbol.ensures.failures ∙ c.in_ok-letter.ensures.failures ∙ c.loop-kind.invariant.failures;
 }
 
 pub returns-in_err-symbol-in-Symbol-clause-bytes : goal.returns-in_err-symbol-in-Symbol-clause-bytes

@@ -15,11 +15,11 @@ returns-then-value-bound-clause-bytes g c = λ told.
 
 pub loop-d-preserved : goal.loop-d-preserved
 loop-d-preserved g c = record {
-    some = omega arith;
-    within = omega arith;
-    bytes = λ told. sym (digits_on c.args.bound c.loop-d.value (g.S.Source.left c.loop-d.s) c.in-Some.d (g.S.Source.left c.digit.new.s) (rw c.in-Some.is at (c.in_ok-d.ensures.bytes told)) (omega arith)) ∙ c.loop-d.invariant.bytes told;
-    never_more = omega (arith, c.in_ok-d.ensures.never_more, c.loop-d.invariant.never_more);
-    failures = c.in_ok-d.ensures.failures ∙ c.loop-d.invariant.failures;
+  some = omega arith;
+  within = omega arith;
+  bytes = λ told. sym (digits_on c.args.bound c.loop-d.value (g.S.Source.left c.loop-d.s) c.in-Some.d (g.S.Source.left c.digit.new.s) (rw c.in-Some.is at (c.in_ok-d.ensures.bytes told)) (omega arith)) ∙ c.loop-d.invariant.bytes told;
+  never_more = omega (arith, c.in_ok-d.ensures.never_more, c.loop-d.invariant.never_more);
+  failures = c.in_ok-d.ensures.failures ∙ c.loop-d.invariant.failures;
 }
 
 pub returns-clause-bytes : goal.returns-clause-bytes
