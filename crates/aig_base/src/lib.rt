@@ -12,8 +12,8 @@ mod definition;
 mod entries;
 mod fault;
 mod gate;
-mod grounded;
 mod gate_of;
+mod grounded;
 mod latch;
 mod laws;
 mod least;
@@ -32,8 +32,6 @@ mod renumbering_table;
 mod std_bytes;
 mod symbols;
 mod ternary;
-#[cfg(test)]
-mod tests;
 mod walk;
 mod write;
 
@@ -63,3 +61,4 @@ pub use ternary::Tern;
 pub use write::{write_all, write_number};
 
 #[cfg(test)]
+mod tests;

@@ -1,0 +1,75 @@
+-- What a symbol names: its letter and its position tell it.
+use Rattle.std.proofs.Common.{◌≡◌, ℕ, Bool, true, false, ◌&&◌, ◌==◌, eqb, eq-eqb, List, ◌++◌, ◌∷◌, [], Option, Some, None, refl, sym, ap, ◌∙◌, Contains}
+use Rattle.std.proofs.lemmas.Bool.{eqb-true}
+use Rattle.std.proofs.lemmas.Map.Views.{list_any-from_Contains, Contains-from_any}
+use Rattle.std.specs.Cmp.{IsEquivalence}
+use Rattle.std.specs.List.{list_any}
+use Rattle.std.specs.Map.{keys_of}
+use Rattle.aig_base.specs.declared.symbols.Kind.{Kind}
+use Rattle.aig_base.specs.declared.symbols.Kind.TheVariants.{Input, Latch, Output, Bad, Constraint, Justice, Fairness}
+use Rattle.aig_format.specs.Spelling.{Entry, letter}
+use Rattle.aig_format.specs.ReadingNames.{kind_of, same_key, is_named}
+
+or_constraint : Option Kind → Kind
+or_constraint None = Constraint
+or_constraint (Some kind) = kind
+
+-- the kind of a letter
+kind_back : ℕ → Kind
+kind_back x = or_constraint (kind_of x)
+
+back : (kind : Kind) → kind_back (letter kind) ≡ kind
+unfolding kind_back or_constraint
+back Input = refl
+back Latch = refl
+back Output = refl
+back Bad = refl
+back Constraint = refl
+back Justice = refl
+back Fairness = refl
+
+pub letter_tells : (a b : Kind) → letter a ≡ letter b → a ≡ b
+letter_tells a b e = sym (back a) ∙ ap kind_back e ∙ back b
+
+and_both : (a b : Bool) → a && b ≡ true → (a ≡ true) × (b ≡ true)
+and_both true true h = (refl, refl)
+and_both true false h = (refl, h)
+and_both false b h = (h, absurd cc)
+
+pub same_is : (a b : Kind × ℕ) → same_key a b ≡ true → a ≡ b
+same_is a b h =
+    let p = and_both (letter a.0 == letter b.0) (a.1 == b.1) h in
+    let k : a.0 ≡ b.0 = letter_tells a.0 b.0 (eqb-true (letter a.0) (letter b.0) p.0) in
+    let n : a.1 ≡ b.1 = eqb-true a.1 b.1 p.1 in
+    (λ i. (k i, n i))
+
+pub is_same : (a b : Kind × ℕ) → a ≡ b → same_key a b ≡ true
+is_same a b e =
+    let k : eqb (letter a.0) (letter b.0) ≡ true = eq-eqb (letter a.0) (letter b.0) (ap (λ (x : Kind × ℕ). letter x.0) e) in
+    let n : eqb a.1 b.1 ≡ true = eq-eqb a.1 b.1 (ap (λ (x : Kind × ℕ). x.1) e) in
+    rw (k, n) refl
+
+both_ways : (a b : Bool) → (a ≡ true → b ≡ true) → (b ≡ true → a ≡ true) → a ≡ b
+both_ways true b f g = sym (f refl)
+both_ways false true f g = g refl
+both_ways false false f g = refl
+
+same_laws : IsEquivalence same_key
+same_laws = record {
+  refl = λ x. is_same x x refl;
+  symm = λ x y. both_ways (same_key x y) (same_key y x) (λ h. is_same y x (sym (same_is x y h))) (λ h. is_same x y (sym (same_is y x h)));
+  congr = λ x y z h. ap (λ (w : Kind × ℕ). same_key w z) (same_is x y h);
+}
+
+pub named_is : (kind : Kind) (position : ℕ) (named : List Entry) → is_named kind position named ≡ true → Contains (keys_of named) (kind, position)
+named_is kind position named h = Contains-from_any same_is (kind, position) (keys_of named) h
+
+pub is_named_from : (kind : Kind) (position : ℕ) (named : List Entry) → Contains (keys_of named) (kind, position) → is_named kind position named ≡ true
+is_named_from kind position named h = list_any-from_Contains same_laws (kind, position) (keys_of named) h
+
+not_true : (b : Bool) → (b ≡ true → ⊥) → b ≡ false
+not_true true h = absurd (h refl)
+not_true false h = refl
+
+pub not_named_from : (kind : Kind) (position : ℕ) (named : List Entry) → (Contains (keys_of named) (kind, position) → ⊥) → is_named kind position named ≡ false
+not_named_from kind position named h = not_true (is_named kind position named) (λ e. h (named_is kind position named e))

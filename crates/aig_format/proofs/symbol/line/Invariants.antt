@@ -1,0 +1,14 @@
+use Rattle.std.proofs.Common.{◌≡◌, ◌≤◌}
+use Rattle.aig_format.specs.ReadingNames.{line_at}
+use Rattle.aig_format.proofs.Steps.{with_front}
+use Rattle.aig_format.proofs.symbol.line.Given as goal
+
+abbrev pub invariant-loop-bytes : goal.invariant-loop-bytes
+invariant-loop-bytes g l = record {
+  bytes : g.S.Source.tells → with_front l.bytes (line_at (g.S.Source.left l.s)) ≡ line_at (g.S.Source.left l.fn.s);
+  never_more : g.S.Source.more l.s ≤ g.S.Source.more l.fn.s;
+  failures : g.S.Source.failures l.s ≡ g.S.Source.failures l.fn.s;
+}
+
+abbrev pub decreases-loop-bytes : goal.decreases-loop-bytes
+decreases-loop-bytes g l = g.S.Source.more l.s

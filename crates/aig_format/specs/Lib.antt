@@ -1,0 +1,9 @@
+pub mod Delta
+pub mod Header
+pub mod Spelling
+pub mod Spells
+pub mod Reading
+pub mod ReadingSections
+pub mod ReadingNames
+pub mod ReadingFile
+pub mod Meaning

@@ -1,0 +1,65 @@
+-- What bytes spell. What makes parts a circuit, such as the range of literals and what a reset may be, is no part of it.
+use Rattle.std.specs.Prelude.{◌≡◌, ◌≢◌, ◌⊎◌, ℕ, ◌+◌, ◌≤◌, List, ◌++◌, length, true, All, AllPairs}
+use Rattle.std.specs.Map.{keys_of}
+use Rattle.aig_base.specs.declared.raw.Raw.{Raw}
+use Rattle.aig_base.specs.Formed.{IsFormed}
+use Rattle.aig_base.specs.Renumbered.{IsBinaryReady}
+use Rattle.aig_format.specs.declared.header.Format.{Format}
+use Rattle.aig_format.specs.declared.header.Counts.{Counts}
+use Rattle.aig_format.specs.Header.{AreWithin, are_wrong, header_line}
+use Rattle.aig_format.specs.Spelling.{Zeros, ascii, binary}
+
+-- the greatest number of a circuit's body (profile)
+abbrev pub greatest : ℕ
+greatest = 8388607
+
+abbrev pub AreSmall : List ℕ → Type 0
+AreSmall xs = All (λ l. l ≤ greatest) xs
+
+-- no number of the body is over its limit
+pub record HasSmallNumbers (raw : Raw) : Type 0 where
+  pub inputs : AreSmall raw.inputs
+  pub latches : All (λ x. (x.lit ≤ greatest) × (x.next ≤ greatest) × (x.reset ≤ greatest)) raw.latches
+  pub outputs : AreSmall raw.outputs
+  pub bad : AreSmall raw.bad
+  pub constraints : AreSmall raw.constraints
+  pub justice : All AreSmall raw.justice
+  pub fairness : AreSmall raw.fairness
+  pub gates : All (λ g. (g.lhs ≤ greatest) × (g.rhs0 ≤ greatest) × (g.rhs1 ≤ greatest)) raw.gates
+
+-- no entry has two names
+abbrev pub AreNamedOnce : Raw → Type 0
+AreNamedOnce raw = AllPairs (λ x y. x ≢ y) (keys_of raw.symbols)
+
+-- what parts need to have a spelling
+pub record HasSpelling (raw : Raw) : Type 0 where
+  pub formed : IsFormed raw
+  pub numbers : HasSmallNumbers raw
+  pub names : AreNamedOnce raw
+  pub room : length raw.inputs + length raw.latches + length raw.gates ≤ raw.max_var
+
+-- the bytes are an ASCII file of these parts
+pub record SpellsAscii (bytes : List ℕ) (raw : Raw) : Type 0 where
+  pub parts : HasSpelling raw
+  pub zeros : Zeros
+  pub spelled : bytes ≡ ascii zeros raw
+
+-- the bytes are a binary file of these parts, whose inputs, latches and left sides are left out
+pub record SpellsBinary (bytes : List ℕ) (raw : Raw) : Type 0 where
+  pub parts : HasSpelling raw
+  pub ready : IsBinaryReady raw
+  pub zeros : Zeros
+  pub spelled : bytes ≡ binary zeros raw
+
+abbrev pub Spells : List ℕ → Raw → Type 0
+Spells bytes raw = SpellsAscii bytes raw ⊎ SpellsBinary bytes raw
+
+-- the header line is spelled within its limits, and its counts do not go together
+pub record HasWrongCounts (bytes : List ℕ) : Type 0 where
+  pub format : Format
+  pub counts : Counts
+  pub within : AreWithin counts
+  pub least : ℕ
+  pub rest : List ℕ
+  pub spelled : bytes ≡ header_line format least counts ++ rest
+  pub wrong : are_wrong format counts ≡ true

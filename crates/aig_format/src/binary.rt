@@ -1,0 +1,59 @@
+//! The body of a binary file.
+ghost use Rattle.std.specs.Prelude.{◌≡◌, ◌<◌, ◌^◌, IfOk, IfErr};
+ghost use Rattle.aig_base.specs.Renumbered.{evens};
+ghost use Rattle.aig_format.specs.Header.{AreWithin};
+ghost use Rattle.aig_format.specs.Meaning.{Gives, Raises};
+ghost use Rattle.aig_format.specs.ReadingFile.{binary_at};
+
+use crate::header::Counts;
+use crate::line::entries;
+use crate::section::read_properties;
+use crate::source::Source;
+use crate::symbol::read_names;
+use aig_base::{Fault, Gate, Latch, List, Lit, Raw};
+use std::alloc::Global;
+
+/// The literals of the variables 1, 2, .., `count`.
+fn inputs(alloc: Global, count: u32) -> Result<List<Lit>, Fault>
+    requires { count < 2 ^ 30 }
+    ensures literals { IfOk result (λ list. list ≡ evens count) }
+    ensures memory { IfErr result (λ fault. fault ≡ Fault.Memory) }
+{
+    let mut all = List::new(alloc);
+    for i in 0..count {
+        all.push(Lit::new(2 * (i + 1)))?;
+    }
+    Ok(all)
+}
+
+/// All that follows the header line. Inputs, the latches' literals and the gates' left sides are left out in the file.
+#[tactic(auto, unfolding(crate::specs::ReadingFile::binary_at))]
+pub(crate) fn binary_body<S: Source>(
+    alloc: Global,
+    s: &mut S,
+    counts: &Counts,
+) -> Result<Raw, Fault>
+    requires within { AreWithin counts.now }
+    ensures bytes { S.tells → Gives (λ x. x) result (S.left s.new) (binary_at counts.now (S.left s.old)) }
+    ensures failures { Raises result (S.failures s.old) (S.failures s.new) }
+{
+    let inputs = inputs(alloc, counts.inputs)?;
+    let latches: List<Latch> = entries(alloc, s, counts.inputs + 1, counts.latches)?;
+    let properties = read_properties(alloc, s, counts)?;
+    let first_gate = counts.inputs + counts.latches + 1;
+    let gates: List<Gate> = entries(alloc, s, first_gate, counts.gates)?;
+    let names = read_names(alloc, s, counts)?;
+    Ok(Raw {
+        max_var: counts.max_var,
+        inputs,
+        latches,
+        outputs: properties.outputs,
+        bad: properties.bad,
+        constraints: properties.constraints,
+        justice: properties.justice,
+        fairness: properties.fairness,
+        gates,
+        symbols: names.symbols,
+        comment: names.comment,
+    })
+}

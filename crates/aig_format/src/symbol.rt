@@ -1,0 +1,210 @@
+//! The symbols and the comment.
+ghost use Rattle.std.specs.Prelude.{◌≡◌, ℕ, ◌<◌, ◌≤◌, List, [], length, Ok, IfOk, Option, Contains};
+ghost use Rattle.std.specs.Map.{keys_of};
+ghost use Rattle.aig_format.specs.ReadingNames.{kind_of, after_c_at, letter_at, line_at, name_at, position_at, symbol_at, symbols_at, names_at, IsSymbol};
+ghost use Rattle.aig_format.specs.Meaning.{Gives, Raises};
+
+use crate::header::Counts;
+use crate::source::Source;
+use crate::token::{BODY, byte, number};
+use aig_base::{Bytes, Fault, Kind, List, Symbols};
+use std::alloc::Global;
+
+/// What stands where a symbol line may begin.
+#[derive(Clone, Copy, PartialEq, Eq, Debug)]
+pub enum Next {
+    End,
+    Comment,
+    Symbol(Kind),
+}
+
+/// All that follows the gates.
+#[derive(Drop, Debug)]
+pub struct Names {
+    pub symbols: Symbols,
+    pub comment: Option<Bytes>,
+}
+
+/// The section of a letter, `c` aside.
+fn kind_of(letter: u8) -> Option<Kind>
+    ensures { result ≡ kind_of letter }
+{
+    match letter {
+        b'i' => Some(Kind::Input),
+        b'l' => Some(Kind::Latch),
+        b'o' => Some(Kind::Output),
+        b'b' => Some(Kind::Bad),
+        b'j' => Some(Kind::Justice),
+        b'f' => Some(Kind::Fairness),
+        _ => None,
+    }
+}
+
+/// What a `c` begins: the comment where its line ends, the symbol of a constraint where a digit follows.
+#[tactic(auto, unfolding(crate::specs::ReadingNames::after_c_at))]
+fn after_c<S: Source>(s: &mut S) -> Result<Next, Fault>
+    ensures bytes { S.tells → Gives (λ x. x) result (S.left s.new) (after_c_at (S.left s.old)) }
+    ensures failures { Raises result (S.failures s.old) (S.failures s.new) }
+    ensures never_more { S.more s.new ≤ S.more s.old }
+{
+    let at = s.at();
+    match s.peek()? {
+        Some(b'\n') => {
+            s.next()?;
+            Ok(Next::Comment)
+        }
+        Some(b'0'..=b'9') => Ok(Next::Symbol(Kind::Constraint)),
+        _ => Err(Fault::Text { at }),
+    }
+}
+
+/// The letter of a symbol or the beginning of the comment, taken; or the end.
+#[tactic(auto, unfolding(crate::specs::ReadingNames::letter_at))]
+fn letter<S: Source>(s: &mut S) -> Result<Next, Fault>
+    ensures bytes { S.tells → Gives (λ x. x) result (S.left s.new) (letter_at (S.left s.old)) }
+    ensures failures { Raises result (S.failures s.old) (S.failures s.new) }
+    ensures lowers { IfOk result (λ next. IsSymbol next → S.more s.new < S.more s.old) }
+{
+    let at = s.at();
+    match s.next()? {
+        None => Ok(Next::End),
+        Some(b'c') => after_c(s),
+        Some(byte) => match kind_of(byte) {
+            Some(kind) => Ok(Next::Symbol(kind)),
+            None => Err(Fault::Text { at }),
+        },
+    }
+}
+
+/// The bytes before the end of the line, which is taken.
+fn line<S: Source>(alloc: Global, s: &mut S) -> Result<Bytes, Fault>
+    ensures bytes { S.tells → Gives (λ x. x) result (S.left s.new) (line_at (S.left s.old)) }
+    ensures failures { Raises result (S.failures s.old) (S.failures s.new) }
+    ensures never_more { S.more s.new ≤ S.more s.old }
+{
+    let mut bytes = List::new(alloc);
+    loop {
+        let at = s.at();
+        match s.next()? {
+            None => return Err(Fault::Text { at }),
+            Some(b'\n') => return Ok(bytes),
+            Some(byte) => bytes.push(byte)?,
+        }
+    }
+}
+
+/// A name and the end of its line.
+#[tactic(auto, unfolding(crate::specs::ReadingNames::name_at))]
+fn name<S: Source>(alloc: Global, s: &mut S) -> Result<Bytes, Fault>
+    ensures bytes { S.tells → Gives (λ x. x) result (S.left s.new) (name_at (S.left s.old)) }
+    ensures failures { Raises result (S.failures s.old) (S.failures s.new) }
+    ensures never_more { S.more s.new ≤ S.more s.old }
+{
+    let at = s.at();
+    let name = line(alloc, s)?;
+    if name.is_empty() {
+        return Err(Fault::Text { at });
+    }
+    Ok(name)
+}
+
+/// A position of the section that has no name yet.
+#[tactic(auto, unfolding(crate::specs::ReadingNames::position_at))]
+fn position<S: Source>(
+    s: &mut S,
+    counts: &Counts,
+    kind: Kind,
+    named: &Symbols,
+) -> Result<u32, Fault>
+    ensures bytes { S.tells → Gives (λ x. x) result (S.left s.new) (position_at counts.now named.now kind (S.left s.old)) }
+    ensures fresh { IfOk result (λ p. Contains (keys_of named.now) (kind, p) → ⊥) }
+    ensures failures { Raises result (S.failures s.old) (S.failures s.new) }
+    ensures never_more { S.more s.new ≤ S.more s.old }
+{
+    let at = s.at();
+    let position = number(s, BODY)?;
+    if position >= counts.of(kind) {
+        return Err(Fault::Text { at });
+    }
+    if named.contains(kind, position) {
+        return Err(Fault::Text { at });
+    }
+    Ok(position)
+}
+
+/// Adds the symbol that stands after its letter.
+#[tactic(auto, unfolding(crate::specs::ReadingNames::symbol_at))]
+fn symbol<S: Source>(
+    alloc: Global,
+    s: &mut S,
+    counts: &Counts,
+    kind: Kind,
+    all: &mut Symbols,
+) -> Result<(), Fault>
+    ensures bytes { S.tells → Gives (λ x. all.new) result (S.left s.new) (symbol_at counts.now all.old kind (S.left s.old)) }
+    ensures failures { Raises result (S.failures s.old) (S.failures s.new) }
+    ensures never_more { S.more s.new ≤ S.more s.old }
+{
+    let position = position(s, counts, kind, all)?;
+    byte(s, b' ')?;
+    let name = name(alloc, s)?;
+    all.insert(kind, position, name)?;
+    Ok(())
+}
+
+/// Adds all symbols, and answers whether a comment follows.
+fn symbols<S: Source>(
+    alloc: Global,
+    s: &mut S,
+    counts: &Counts,
+    all: &mut Symbols,
+) -> Result<bool, Fault>
+    ensures bytes { S.tells → Gives (λ comment. (all.new, comment)) result (S.left s.new)
+        (symbols_at counts.now (length (S.left s.old)) all.old (S.left s.old)) }
+    ensures failures { Raises result (S.failures s.old) (S.failures s.new) }
+{
+    loop {
+        match letter(s)? {
+            Next::End => return Ok(false),
+            Next::Comment => return Ok(true),
+            Next::Symbol(kind) => symbol(alloc, s, counts, kind, all)?,
+        }
+    }
+}
+
+/// All bytes that are left.
+fn rest<S: Source>(alloc: Global, s: &mut S) -> Result<Bytes, Fault>
+    ensures bytes { S.tells → Gives (λ x. x) result (S.left s.new) (Ok (S.left s.old, [])) }
+    ensures failures { Raises result (S.failures s.old) (S.failures s.new) }
+{
+    let mut bytes = List::new(alloc);
+    while let Some(byte) = s.next()? {
+        bytes.push(byte)?;
+    }
+    Ok(bytes)
+}
+
+/// The symbols and the comment, which end the file.
+#[tactic(auto, unfolding(crate::specs::ReadingNames::names_at))]
+pub(crate) fn read_names<S: Source>(
+    alloc: Global,
+    s: &mut S,
+    counts: &Counts,
+) -> Result<Names, Fault>
+    ensures bytes { S.tells → Gives (λ x. x) result (S.left s.new) (names_at counts.now (S.left s.old)) }
+    ensures failures { Raises result (S.failures s.old) (S.failures s.new) }
+{
+    let mut all = Symbols::new(alloc);
+    if symbols(alloc, s, counts, &mut all)? {
+        let bytes = rest(alloc, s)?;
+        Ok(Names {
+            symbols: all,
+            comment: Some(bytes),
+        })
+    } else {
+        Ok(Names {
+            symbols: all,
+            comment: None,
+        })
+    }
+}

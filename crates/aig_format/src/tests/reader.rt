@@ -1,0 +1,180 @@
+use crate::delta::delta;
+use crate::reader::{parse, read};
+use crate::source::Slice;
+use aig_base::Fault;
+use std::test::*;
+
+// The fault of a text's tokens or counts, if it has one.
+fn refusal(rt: HostRuntime, bytes: &[u8]) -> Option<Fault> {
+    parse(rt.alloc(), bytes).err()
+}
+
+fn text(at: u64) -> Option<Fault> {
+    Some(Fault::Text { at })
+}
+
+#[test]
+fn deltas(rt: HostRuntime) {
+    for (number, bytes) in [
+        (0, b"\x00".as_slice()),
+        (1, b"\x01"),
+        (127, b"\x7f"),
+        (128, b"\x80\x01"),
+        (300, b"\xac\x02"),
+        (16_383, b"\xff\x7f"),
+        (16_384, b"\x80\x80\x01"),
+        (2_097_151, b"\xff\xff\x7f"),
+        (2_097_152, b"\x80\x80\x80\x01"),
+        (8_388_607, b"\xff\xff\xff\x03"),
+    ] {
+        assert_eq!(rt; delta(&mut Slice::new(bytes), 0, 8_388_607), Ok(number));
+    }
+}
+
+#[test]
+fn refused_headers(rt: HostRuntime) {
+    for (bytes, fault) in [
+        (b"".as_slice(), text(0)),
+        (b"a", text(1)),
+        (b"aag", text(3)),
+        (b"aig", text(3)),
+        (b"abg 0 0 0 0 0\n", text(0)),
+        (b"aag 01 0 0 0 0\n", text(4)),
+        (b"aag 1 2 0 0 0", text(13)),
+        (b"aag 1 2 0 0 0\n", Some(Fault::Counts)),
+        (b"aag 1 2 0 0 0\nx", Some(Fault::Counts)),
+        (b"aig 2 1 0 0 0\n", Some(Fault::Counts)),
+        (b"aag 4194304 0 0 0 0\n", Some(Fault::Limit)),
+        (b"aag 4194303 4194303 0 0 0\n", text(26)),
+        (b"aag 0 0 0 0 0 0 0 0 0 0\n", text(21)),
+    ] {
+        assert_eq!(rt; refusal(rt, bytes), fault);
+    }
+}
+
+#[test]
+fn refused_bodies(rt: HostRuntime) {
+    for (bytes, fault) in [
+        (
+            b"aag 1 1 0 1 0\n2\n8388608\n".as_slice(),
+            Some(Fault::Limit),
+        ),
+        (b"aag 1 1 0 0 0\n2\ni1 a\n", text(17)),
+        (b"aag 1 1 0 0 0\n2\ni8388608 a\n", Some(Fault::Limit)),
+        (b"aag 1 1 0 0 0\n2\ni0 a\ni0 b\n", text(22)),
+        (b"aag 1 1 0 0 0\n2\ni0 \n", text(19)),
+        (b"aag 1 1 0 0 0\n2\nx", text(16)),
+        (b"aag 1 1 0 0 0\n2\nc", text(17)),
+        (b"aag 1 1 0 0 0\n2\ncx", text(17)),
+        (b"aag 1 1 0 0 0\n2\nc0 a\n", text(17)),
+        (b"aag 0 0 0 0 0 0 0 2\n4194303\n1x", Some(Fault::Limit)),
+        (b"aig 3 2 0 1 1\n6\n\x02", text(17)),
+        (b"aig 3 2 0 1 1\n6\n\x82\x00\x02", text(16)),
+        (b"aig 3 2 0 1 1\n6\n\x00\x02", text(16)),
+        (b"aig 3 2 0 1 1\n6\n\x02\x05", text(17)),
+        (
+            b"aig 3 2 0 1 1\n6\n\x80\x80\x80\x80\x80\x80\x80\x80\x80\x00\x02",
+            text(16),
+        ),
+        (b"aig 3 2 0 1 1\n6\n\xff\xff\xff\xff\x0f\x00", text(16)),
+    ] {
+        assert_eq!(rt; refusal(rt, bytes), fault);
+    }
+}
+
+#[test]
+fn long_numbers(rt: HostRuntime) -> Result<(), Fail> {
+    for start in [b"aag ".as_slice(), b"aag 0 0 0 0 0\ni"] {
+        let mut bytes = Vec::new(rt.alloc());
+        bytes.extend_from_slice(start)?;
+        for _ in 0..400 {
+            bytes.push(b'9')?;
+        }
+        assert_eq!(rt; refusal(rt, &bytes), Some(Fault::Limit));
+    }
+    Ok(())
+}
+
+#[test]
+fn accepted(rt: HostRuntime) {
+    for bytes in [
+        b"aag 0 0 0 0 0\n".as_slice(),
+        b"aag 1 1 0 0 0 0 0 1 1\n2\n2\n2\n3\n2\n",
+        b"aag 1 0 1 0 0 0 0\n2 2 0\n",
+        b"aag 5 2 0 1 3\n2\n4\n10\n10 6 8\n8 2 4\n6 4 3\n",
+        b"aag 1 1 0 0 0\n2\nc\n",
+        b"aig 3 2 0 1 1\n6\n\x02\x02",
+        b"aig 4 1 0 1 3\n8\n\x02\x00\x02\x02\x06\x00",
+    ] {
+        assert_eq!(rt; refusal(rt, bytes), None);
+    }
+}
+
+#[test]
+fn parts_are_read(rt: HostRuntime) -> Result<(), Fail> {
+    let raw = parse(
+        rt.alloc(),
+        b"aag 3 1 1 1 1 0 0 1\n2\n4 6 4\n4\n2\n3\n5\n6 4 2\nj0 go\nc\nhi",
+    )?;
+    assert_eq!(rt; raw.max_var, 3);
+    assert_eq!(rt; raw.latches[0].reset.value(), 4);
+    assert_eq!(rt; raw.justice[0].len(), 2);
+    assert_eq!(rt; raw.gates[0].rhs1.value(), 2);
+    assert_eq!(rt; raw.symbols.len(), 1);
+    let raw = parse(rt.alloc(), b"aig 3 1 1 0 1\n6 4\n\x02\x02")?;
+    assert_eq!(rt; raw.inputs[0].value(), 2);
+    assert_eq!(rt; raw.latches[0].lit.value(), 4);
+    assert_eq!(rt; raw.latches[0].reset.value(), 4);
+    assert_eq!(rt; raw.gates[0].lhs.value(), 6);
+    assert_eq!(rt; raw.gates[0].rhs0.value(), 4);
+    assert_eq!(rt; raw.gates[0].rhs1.value(), 2);
+    Ok(())
+}
+
+// Whether exactly the beginnings of these lengths are taken, and all others refused by a fault of text.
+fn takes_only(rt: HostRuntime, bytes: &[u8], lengths: &[usize]) -> bool {
+    for length in 0..bytes.len() + 1 {
+        let wanted = lengths.contains(&length);
+        let as_wanted = match refusal(rt, &bytes[..length]) {
+            None => wanted,
+            Some(Fault::Text { .. }) => !wanted,
+            Some(_) => false,
+        };
+        if !as_wanted {
+            return false;
+        }
+    }
+    true
+}
+
+#[test]
+fn beginnings(rt: HostRuntime) {
+    let ascii = b"aag 1 1 0 0 0 0 1\n2\n2\nc0 go\nc\nhi";
+    assert!(rt; takes_only(rt, ascii, &[22, 28, 30, 31, 32]));
+    assert!(rt; takes_only(rt, b"aig 3 2 0 1 1\n6\n\x02\x02", &[18]));
+}
+
+#[test]
+fn faults_of_parts(rt: HostRuntime) {
+    for (bytes, fault) in [
+        (b"aag 1 1 0 1 0\n2\n8388607\n".as_slice(), Fault::Range),
+        (b"aig 1 1 0 1 0\n4\n", Fault::Range),
+        (b"aag 2 1 0 0 1\n2\n5 2 2\n", Fault::Definition),
+        (b"aag 2 1 1 0 0\n2\n2 1\n", Fault::Redefined(1)),
+        (b"aag 2 1 0 1 0\n2\n4\n", Fault::Undefined(2)),
+        (b"aag 2 1 1 0 0\n2\n4 1 3\n", Fault::Reset(2)),
+        (b"aag 3 1 0 1 2\n2\n4\n4 6 2\n6 4 2\n", Fault::Cycle(2)),
+        (b"aag 2 1 0 1 1\n2\n4\n4 4 2\n", Fault::Cycle(2)),
+    ] {
+        assert_eq!(rt; read(rt.alloc(), bytes).err(), Some(fault));
+    }
+}
+
+#[test]
+fn circuits_are_read(rt: HostRuntime) -> Result<(), Fail> {
+    let circuit = read(rt.alloc(), b"aag 4 2 0 1 2\n2\n4\n8\n8 6 2\n6 2 4\n")?;
+    assert_eq!(rt; circuit.gates()[0].rhs0.value(), 6);
+    let circuit = read(rt.alloc(), b"aag 1 1 0 0 0 0 1\n2\n2\nc0 go\nc\nhi")?;
+    assert_eq!(rt; circuit.comment(), Some(b"hi".as_slice()));
+    Ok(())
+}
