@@ -2,6 +2,7 @@
 #![tactic(auto)]
 
 mod bytes;
+mod change;
 mod check;
 mod circuit;
 mod cycle;
@@ -45,3 +46,6 @@ pub use std_bytes::Std;
 pub use symbols::{Kind, Symbols};
 pub use ternary::Tern;
 pub use write::{write_all, write_number};
+
+#[cfg(test)]
+mod tests;
