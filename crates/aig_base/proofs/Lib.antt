@@ -8,5 +8,5 @@ pub mod Entering
 pub mod Chains
 pub mod Marking
 pub mod Faults
-pub mod Places
+pub mod EntryPlaces
 pub mod Rewiring

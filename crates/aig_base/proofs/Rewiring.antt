@@ -27,7 +27,7 @@ use Rattle.aig_base.proofs.Faults.{in_range_joined, in_range_parted, uses_joined
 use Rattle.aig_base.proofs.Gets.{get_from_Contains, All-at}
 use Rattle.aig_base.proofs.Joined.{All-left}
 use Rattle.aig_base.proofs.Marking.{slice_get_unmap}
-use Rattle.aig_base.proofs.Places.{same_gate, same_latch, gate_defines, latch_defines}
+use Rattle.aig_base.proofs.EntryPlaces.{same_gate, same_latch, gate_defines, latch_defines}
 
 map_same : {A : Type 0} (f : A → A) (xs : List A) → ((k : ℕ) (z : A) → slice_get xs k ≡ Some z → f z ≡ z) → xs ≡ map f xs
 map_same f [] h = refl

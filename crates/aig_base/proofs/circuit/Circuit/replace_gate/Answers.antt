@@ -9,7 +9,7 @@ use Rattle.aig_base.specs.Definition.{Defines}
 use Rattle.aig_base.specs.Grounded.{IsAcyclic}
 use Rattle.aig_base.specs.Literal.{variable}
 use Rattle.aig_base.specs.Sections.{IsDefined, IsLeftSide}
-use Rattle.aig_base.proofs.Places.{left_side_defined}
+use Rattle.aig_base.proofs.EntryPlaces.{left_side_defined}
 use Rattle.aig_base.proofs.Rewiring.{gate_changed, with_gate-circuit, with_gate-table}
 use Rattle.aig_base.proofs.circuit.Circuit.replace_gate.Goals as goal
 
