@@ -52,7 +52,7 @@ module _ (raw : Raw) where
 
   -- what holds of each use, section by section
   module _ (P : ℕ → Type 0) where
-    uses_joined : All (λ x. P x.next) raw.latches → All P raw.outputs → All P raw.bad → All P raw.constraints
+    pub uses_joined : All (λ x. P x.next) raw.latches → All P raw.outputs → All P raw.bad → All P raw.constraints
         → All (λ p. All P p) raw.justice → All P raw.fairness → All (λ g. P g.rhs0 × P g.rhs1) raw.gates → All P (uses raw)
     uses_joined n o b c j f g =
         All-append P _ _ (All-append P _ _ (All-append P _ _ (All-append P _ _ (All-append P _ _ (All-append P _ _
@@ -75,7 +75,7 @@ module _ (raw : Raw) where
           All-unmap P (λ (x : Gate). x.lhs) raw.gates (All-right P (raw.inputs ++ lits) sides h),
         )
 
-    uses_parted : All P (uses raw) → All (λ x. P x.next) raw.latches × All P raw.outputs × All P raw.bad × All P raw.constraints
+    pub uses_parted : All P (uses raw) → All (λ x. P x.next) raw.latches × All P raw.outputs × All P raw.bad × All P raw.constraints
         × All (λ p. All P p) raw.justice × All P raw.fairness × All (λ g. P g.rhs0 × P g.rhs1) raw.gates
     uses_parted h =
         let a = map (λ (x : Latch). x.next) raw.latches in
@@ -105,7 +105,7 @@ module _ (raw : Raw) where
       (uses_joined (IsInRange raw) (λ k d l. (h.latches k d l).1) h.outputs h.bad h.constraints h.justice h.fairness
       (λ k d l. let g = h.gates k d l in (g.1, g.2)))
 
-  in_range_parted : All (IsInRange raw) (definitions raw ++ uses raw) → AreInRange raw
+  pub in_range_parted : All (IsInRange raw) (definitions raw ++ uses raw) → AreInRange raw
   in_range_parted h =
       let d = definitions_parted (IsInRange raw) (All-left (IsInRange raw) (definitions raw) (uses raw) h) in
       let u = uses_parted (IsInRange raw) (All-right (IsInRange raw) (definitions raw) (uses raw) h) in

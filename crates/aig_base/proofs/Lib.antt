@@ -5,6 +5,7 @@ pub mod Defined
 pub mod Descents
 pub mod EachUse
 pub mod Entering
+pub mod EntryPlaces
 pub mod Evens
 pub mod Faults
 pub mod Gates
@@ -29,6 +30,7 @@ pub mod RenumberedParts
 pub mod RenumberedReady
 pub mod RenumberedValues
 pub mod Renumberings
+pub mod Rewiring
 pub mod Roles
 pub mod SymbolCopies
 pub mod SymbolKeys

@@ -4,6 +4,7 @@
 mod block;
 mod buffered;
 mod bytes;
+mod change;
 mod check;
 mod circuit;
 mod count;

@@ -1,0 +1,65 @@
+//! The two changes of a circuit.
+ghost use Rattle.std.specs.Prelude.{◌≡◌};
+ghost use Rattle.aig_base.specs.Changes.{with_gate, with_reset, reset_literal};
+ghost use Rattle.aig_base.specs.Grounded.{IsAcyclic};
+ghost use Rattle.aig_base.specs.Literal.{variable};
+ghost use Rattle.aig_base.specs.Sections.{IsDefined, IsLatchLiteral, IsLeftSide};
+
+use crate::circuit::Circuit;
+use crate::definition::Definition;
+use crate::gate::Gate;
+use crate::latch::Latch;
+use crate::literal::Lit;
+use crate::ternary::Tern;
+
+// The reset of a latch that starts at a value.
+fn reset_for(latch: Lit, value: Tern) -> Lit
+    ensures { result ≡ reset_literal latch value }
+{
+    match value {
+        Tern::Zero => Lit::new(0),
+        Tern::One => Lit::new(1),
+        Tern::X => latch,
+    }
+}
+
+impl Circuit {
+    /// Gives a gate, named by its left side, two other right sides (profile). They are defined, and close no cycle, as
+    /// `would_cycle` tells. Constant time, no memory.
+    pub fn replace_gate(&mut self, gate: Lit, r0: Lit, r1: Lit)
+        requires gate { IsLeftSide self.old gate }
+        requires defined0 { IsDefined self.old (variable r0) }
+        requires defined1 { IsDefined self.old (variable r1) }
+        requires acyclic { IsAcyclic (with_gate self.old gate r0 r1) }
+        ensures { self.new ≡ with_gate self.old gate r0 r1 }
+    {
+        if let Some(definition) = self.definition(gate.var()) {
+            if let Definition::Gate(position) = definition {
+                let rewired = Gate {
+                    lhs: gate,
+                    rhs0: r0,
+                    rhs1: r1,
+                };
+                self.raw.gates.set(position as usize, rewired);
+            }
+        }
+    }
+
+    /// Lets a latch, named by its literal, start at another value (profile); x is uninitialised (AIGER 1.9, resets).
+    /// Constant time, no memory.
+    pub fn replace_reset(&mut self, latch: Lit, value: Tern)
+        requires { IsLatchLiteral self.old latch }
+        ensures { self.new ≡ with_reset self.old latch value }
+    {
+        if let Some(definition) = self.definition(latch.var()) {
+            if let Definition::Latch(position) = definition {
+                let restarted = Latch {
+                    lit: latch,
+                    next: self.raw.latches[position as usize].next,
+                    reset: reset_for(latch, value),
+                };
+                self.raw.latches.set(position as usize, restarted);
+            }
+        }
+    }
+}
