@@ -31,13 +31,15 @@ distinct xs never = IsDistinct-from_apart eqb xs (λ i j d lt below.
     never (get_or xs j d) (i, j, lt, slice_get-get_or xs i d (omega arith) ∙ ap Some e, slice_get-get_or xs j d below)))
 
 -- a list without repetition is no longer than one that has its elements
-pub length_le : (xs ys : List ℕ) → ((x : ℕ) → StandsTwice xs x → ⊥) → ((x : ℕ) → Contains xs x → Contains ys x) → length xs ≤ length ys
+pub length_le : (xs ys : List ℕ) → ((x : ℕ) → StandsTwice xs x → ⊥) → ((x : ℕ) → Contains xs x → Contains ys x)
+    → length xs ≤ length ys
 length_le xs ys never inside =
     length-le_from_is_member (equivalence_from_same Decides-eqb) xs ys (distinct xs never)
     (λ q m. (is_member-Decides Decides-eqb ys q).1 (inside q ((is_member-Decides Decides-eqb xs q).0 m)))
 
 -- no variable stands twice in a canonical order
-pub order_once : (raw : Raw) → IsSound raw → (order : List ℕ) → IsCanonicalOrder raw order → (v : ℕ) → StandsTwice order v → ⊥
+pub order_once : (raw : Raw) → IsSound raw → (order : List ℕ) → IsCanonicalOrder raw order → (v : ℕ)
+    → StandsTwice order v → ⊥
 order_once raw sound order canonical v (i, j, lt, at, here) =
     let (m, n, lu, lv, before) = canonical.ordered i j v lt (slice_get_within order j v here) in
     let e : get_or order i v ≡ v = get_or_from_slice_get order i v v at in
@@ -51,12 +53,14 @@ gates_once raw sound v (i, j, lt, at, here) =
     let lhs : Gate → ℕ = λ g. variable g.lhs in
     let (g, is, e) = unmap_some lhs (slice_get raw.gates i) v (sym (slice_get-map lhs raw.gates i) ∙ at) in
     let (h, stands, f) = unmap_some lhs (slice_get raw.gates j) v (sym (slice_get-map lhs raw.gates j) ∙ here) in
-    let same : gate i ≡ gate j = one_place raw sound (gate i) (gate j) g.lhs h.lhs tt tt (g, is, refl) (h, stands, refl) (e ∙ sym f) in
+    let same : gate i ≡ gate j = one_place raw sound (gate i) (gate j) g.lhs h.lhs tt tt (g, is, refl)
+    (h, stands, refl) (e ∙ sym f) in
     let k : i ≡ j = cc in
     omega arith
 
 -- a canonical order has an entry for each gate
-pub length-order : (raw : Raw) → IsSound raw → (order : List ℕ) → IsCanonicalOrder raw order → length order ≡ length raw.gates
+pub length-order : (raw : Raw) → IsSound raw → (order : List ℕ) → IsCanonicalOrder raw order
+    → length order ≡ length raw.gates
 length-order raw sound order canonical =
     let vs : List ℕ = map (λ g. variable g.lhs) raw.gates in
     let a = length_le order vs (order_once raw sound order canonical) (λ v. (canonical.gates v).0) in
@@ -85,13 +89,18 @@ sections_fit raw sound =
 
     within : (v : ℕ) → (0 < v) × (v ≤ raw.max_var) → Contains (range_with_len 1 raw.max_var) v
     within v (over, le) =
-        let lt : v - 1 < raw.max_var = omega arith in
-        (v - 1, omega (arith, length-range_with_len 1 raw.max_var), get_or-range_with_len 1 raw.max_var (v - 1) v lt ∙ omega arith)
+        let lt : v - 1 < raw.max_var = omega arith in (
+          v - 1,
+          omega (arith, length-range_with_len 1 raw.max_var),
+          get_or-range_with_len 1 raw.max_var (v - 1) v lt
+              ∙ omega arith,
+        )
 
     inside : (v : ℕ) → Contains (map variable (definitions raw)) v → Contains (range_with_len 1 raw.max_var) v
     inside v h =
         let (l, i, at, is) = unmap variable (definitions raw) v h in
         let c = Contains-from_slice_get (definitions raw) i l at in
         let d = All-contains IsDefinition (definitions raw) l sound.definitions c in
-        let r = All-contains (IsInRange raw) (definitions raw) l (All-left (IsInRange raw) (definitions raw) (uses raw) sound.in_range) c in
+        let r = All-contains (IsInRange raw) (definitions raw) l
+        (All-left (IsInRange raw) (definitions raw) (uses raw) sound.in_range) c in
         within v (subst (λ u. (0 < u) × (u ≤ raw.max_var)) is (bounds l d r))

@@ -16,7 +16,8 @@ pub get_or-evens_from : (v n i d : ℕ) → i < n → get_or (evens_from v n) i 
 get_or-evens_from v n i d lt = get_or-map-range_with_len (λ u. 2 * u) v n i (v + i) d lt refl
 
 -- one more literal in order, where a test says so
-pub in_order_more : (xs : List ℕ) (n v i x : ℕ) (b : Bool) → length xs ≡ n → i < n → get_or xs i 0 ≡ x → (IsTrue b ↔ (x ≡ 2 * (v + i)))
+pub in_order_more : (xs : List ℕ) (n v i x : ℕ) (b : Bool) → length xs ≡ n → i < n → get_or xs i 0 ≡ x
+    → (IsTrue b ↔ (x ≡ 2 * (v + i)))
     → b ≡ true → take i xs ≡ evens_from v i → take (i + 1) xs ≡ evens_from v (i + 1)
 in_order_more xs n v i x b size lt at test passed so =
     let below : i < length xs = omega arith in
@@ -24,11 +25,13 @@ in_order_more xs n v i x b size lt at test passed so =
     ∙ sym (map-range_with_len_more (λ u. 2 * u) v i (v + i) refl)
 
 -- a literal out of order, where a test says so
-pub in_order_no : (xs : List ℕ) (n v i x : ℕ) (b : Bool) → length xs ≡ n → i < n → get_or xs i 0 ≡ x → (IsTrue b ↔ (x ≡ 2 * (v + i)))
+pub in_order_no : (xs : List ℕ) (n v i x : ℕ) (b : Bool) → length xs ≡ n → i < n → get_or xs i 0 ≡ x
+    → (IsTrue b ↔ (x ≡ 2 * (v + i)))
     → b ≡ false → IsTrue false ↔ (xs ≡ evens_from v n)
 in_order_no xs n v i x b size lt at test failed = (
   λ h. absurd (false≢true h),
-  λ e. absurd (false≢true (sym failed ∙ test.1 (sym at ∙ ap (λ (ys : List ℕ). get_or ys i 0) e ∙ get_or-evens_from v n i 0 lt))),
+  λ e. absurd (false≢true (sym failed
+      ∙ test.1 (sym at ∙ ap (λ (ys : List ℕ). get_or ys i 0) e ∙ get_or-evens_from v n i 0 lt))),
 )
 
 range-append : (v m n : ℕ) → range_with_len v (m + n) ≡ range_with_len v m ++ range_with_len (v + m) n
@@ -39,7 +42,8 @@ range-append v (suc m) n =
     rw (e, f) (ap (λ (xs : List ℕ). v ∷ xs) (range-append (v + 1) m n))
 
 evens-append : (v m n : ℕ) → evens_from v (m + n) ≡ evens_from v m ++ evens_from (v + m) n
-evens-append v m n = ap (map (λ u. 2 * u)) (range-append v m n) ∙ map-append (λ u. 2 * u) (range_with_len v m) (range_with_len (v + m) n)
+evens-append v m n = ap (map (λ u. 2 * u)) (range-append v m n)
+    ∙ map-append (λ u. 2 * u) (range_with_len v m) (range_with_len (v + m) n)
 
 split_at : (i l a : ℕ) → evens (i + l + a) ≡ evens_from 1 i ++ evens_from (1 + i) l ++ evens_from (1 + i + l) a
 split_at i l a =
@@ -48,16 +52,19 @@ split_at i l a =
 
 same_front : (us vs ws zs : List ℕ) → length us ≡ length vs → us ++ ws ≡ vs ++ zs → (us ≡ vs) × (ws ≡ zs)
 same_front us vs ws zs l e =
-    let f : us ≡ vs = sym (take_at us ws (length us) refl) ∙ ap (take (length us)) e ∙ take_at vs zs (length us) (sym l) in
+    let f : us ≡ vs = sym (take_at us ws (length us) refl) ∙ ap (take (length us)) e
+    ∙ take_at vs zs (length us) (sym l) in
     (f, append_cancel_left us ws zs (e ∙ ap (λ (xs : List ℕ). xs ++ zs) (sym f)))
 
 -- the definitions of three sections are in order where each section is, and the numbers add up
-pub joined : (raw : Raw) → SectionsInOrder raw.inputs raw.latches raw.gates raw.max_var → definitions raw ≡ evens raw.max_var
+pub joined : (raw : Raw) → SectionsInOrder raw.inputs raw.latches raw.gates raw.max_var
+    → definitions raw ≡ evens raw.max_var
 joined raw h =
     ap₂ (λ (us vs : List ℕ). us ++ vs) (ap₂ (λ (us vs : List ℕ). us ++ vs) h.inputs_are h.latches_are) h.gates_are
     ∙ sym (split_at (length raw.inputs) (length raw.latches) (length raw.gates)) ∙ ap evens (sym h.size)
 
-pub apart : (raw : Raw) → definitions raw ≡ evens raw.max_var → SectionsInOrder raw.inputs raw.latches raw.gates raw.max_var
+pub apart : (raw : Raw) → definitions raw ≡ evens raw.max_var
+    → SectionsInOrder raw.inputs raw.latches raw.gates raw.max_var
 apart raw h =
     let xs = raw.inputs in
     let ys : List ℕ = map (λ x. x.lit) raw.latches in

@@ -29,7 +29,8 @@ and_comm X One = refl
 and_comm X X = refl
 
 module _ (raw : Raw) (start : List Tern) (rows : List (List Tern)) (defs : All IsDefinition (definitions raw)) where
-  turn : (t l : ℕ) (w : Tern) → IsDefinition l → Value raw start rows t l w → Value raw start rows t (negation l) (kleene_not w)
+  turn : (t l : ℕ) (w : Tern) → IsDefinition l → Value raw start rows t l w
+      → Value raw start rows t (negation l) (kleene_not w)
   turn t l w (even, over) v =
       let e : negation l ≡ l + 1 = rw even refl in
       let f : l ≡ l + 1 - 1 = omega arith in
@@ -38,20 +39,25 @@ module _ (raw : Raw) (start : List Tern) (rows : List (List Tern)) (defs : All I
       subst (λ k. Value raw start rows t k (kleene_not w)) (sym e) g
 
   -- the negation of a literal has the negated value
-  pub of_negation : {t l : ℕ} {w : Tern} → Value raw start rows t l w → Value raw start rows t (negation l) (kleene_not w)
+  pub of_negation : {t l : ℕ} {w : Tern} → Value raw start rows t l w
+      → Value raw start rows t (negation l) (kleene_not w)
   of_negation (value.constant_false t) = value.constant_true t
   of_negation (value.constant_true t) = value.constant_false t
   of_negation (value.negated t l w over odd v) =
       let e : negation l ≡ l - 1 = rw odd refl in
-      subst (λ k. Value raw start rows t k (kleene_not (kleene_not w))) (sym e) (subst (λ u. Value raw start rows t (l - 1) u) (sym (not_not w)) v)
+      subst (λ k. Value raw start rows t k (kleene_not (kleene_not w))) (sym e)
+      (subst (λ u. Value raw start rows t (l - 1) u) (sym (not_not w)) v)
   of_negation (value.input t p l w row at is cell) =
       turn t l w (IsDefinition-of_definitions raw defs (input p) l tt at) (value.input t p l w row at is cell)
   of_negation (value.latch_first p x w at is) =
-      turn 0 x.lit w (IsDefinition-of_definitions raw defs (latch p) x.lit tt (x, at, refl)) (value.latch_first p x w at is)
+      turn 0 x.lit w (IsDefinition-of_definitions raw defs (latch p) x.lit tt (x, at, refl))
+      (value.latch_first p x w at is)
   of_negation (value.latch_next t p x w at v) =
-      turn (suc t) x.lit w (IsDefinition-of_definitions raw defs (latch p) x.lit tt (x, at, refl)) (value.latch_next t p x w at v)
+      turn (suc t) x.lit w (IsDefinition-of_definitions raw defs (latch p) x.lit tt (x, at, refl))
+      (value.latch_next t p x w at v)
   of_negation (value.gate t q g a b at va vb) =
-      turn t g.lhs (kleene_and a b) (IsDefinition-of_definitions raw defs (gate q) g.lhs tt (g, at, refl)) (value.gate t q g a b at va vb)
+      turn t g.lhs (kleene_and a b) (IsDefinition-of_definitions raw defs (gate q) g.lhs tt (g, at, refl))
+      (value.gate t q g a b at va vb)
 
   -- a gate whose right sides were put in order
   pub of_ready : (t j lhs l r : ℕ) (a b : Tern) → slice_get raw.gates j ≡ Some (ready_gate lhs l r)
@@ -61,7 +67,8 @@ module _ (raw : Raw) (start : List Tern) (rows : List (List Tern)) (defs : All I
       go : (s : Bool) → nat_lt l r ≡ s → Value raw start rows t lhs (kleene_and a b)
       go true e =
           let here : slice_get raw.gates j ≡ Some (record { lhs = lhs; rhs0 = r; rhs1 = l }) = rw e at at in
-          subst (λ u. Value raw start rows t lhs u) (and_comm b a) (value.gate t j (record { lhs = lhs; rhs0 = r; rhs1 = l }) b a here vb va)
+          subst (λ u. Value raw start rows t lhs u) (and_comm b a)
+          (value.gate t j (record { lhs = lhs; rhs0 = r; rhs1 = l }) b a here vb va)
       go false e =
           let here : slice_get raw.gates j ≡ Some (record { lhs = lhs; rhs0 = l; rhs1 = r }) = rw e at at in
           value.gate t j (record { lhs = lhs; rhs0 = l; rhs1 = r }) a b here va vb

@@ -41,14 +41,16 @@ module _ (raw : Raw) (ready : IsBinaryReady raw) (used : All (IsInRange raw) (us
 
   once_only : (v : ℕ) → IsRedefined raw v → ⊥
   once_only v (i, j, lt, at, here) =
-      let number : (k : ℕ) → slice_get (map variable (definitions raw)) k ≡ Some v → v ≡ 1 + k = λ k stands. number_at k stands in
+      let number : (k : ℕ) → slice_get (map variable (definitions raw)) k ≡ Some v
+      → v ≡ 1 + k = λ k stands. number_at k stands in
       omega (arith, number i at, number j here)
     where
       number_at : (k : ℕ) → slice_get (map variable (definitions raw)) k ≡ Some v → v ≡ 1 + k
       number_at k stands =
           let inside = slice_get_within (map variable (definitions raw)) k v stands in
           let below : k < length (definitions raw) = omega (arith, length-map (definitions raw) variable) in
-          let long : length (definitions raw) ≡ raw.max_var = ap length ready.in_order ∙ length-evens_from 1 raw.max_var in
+          let long : length (definitions raw) ≡ raw.max_var = ap length ready.in_order
+          ∙ length-evens_from 1 raw.max_var in
           let e : get_or (definitions raw) k 0 ≡ 2 * (1 + k) =
           ap (λ (ls : List ℕ). get_or ls k 0) ready.in_order ∙ get_or-evens_from 1 raw.max_var k 0 (omega arith) in
           let f : variable (2 * (1 + k)) ≡ 1 + k = omega arith in
@@ -69,8 +71,11 @@ module _ (raw : Raw) (ready : IsBinaryReady raw) (used : All (IsInRange raw) (us
           let defs = evens_are (definitions raw) raw.max_var ready.in_order in
           let d = IsDefinition-of_definitions raw defs (gate q) g.lhs tt (g, at, refl) in
           let inside = slice_get_within raw.gates q g at in
-          let sides = subst (λ (h : Gate). (h.rhs0 < h.lhs) × (h.rhs1 ≤ h.rhs0)) (get_or_from_slice_get raw.gates q g g at) (ready.gates q g inside) in
-          subst (Grounded raw) is (grounded.Grounded.gate q g at (below (variable g.rhs0) (omega arith) (omega arith)) (below (variable g.rhs1) (omega arith) (omega arith)))
+          let sides = subst (λ (h : Gate). (h.rhs0 < h.lhs) × (h.rhs1 ≤ h.rhs0))
+          (get_or_from_slice_get raw.gates q g g at) (ready.gates q g inside) in
+          subst (Grounded raw) is (grounded.Grounded.gate q g at
+          (below (variable g.rhs0) (omega arith) (omega arith))
+          (below (variable g.rhs1) (omega arith) (omega arith)))
 
   pub ready_circuit : IsFormed raw → All IsReset raw.latches → IsCircuit raw
   ready_circuit formed resets = record {
@@ -79,12 +84,14 @@ module _ (raw : Raw) (ready : IsBinaryReady raw) (used : All (IsInRange raw) (us
       in_range = All-append (IsInRange raw) (definitions raw) (uses raw) in_definitions used;
       definitions = evens_are (definitions raw) raw.max_var ready.in_order;
       once = once_only;
-      defined = All-weaker (IsInRange raw) (λ l. IsDefined raw (variable l)) (λ l r. defined_to (variable l) (half l r)) (uses raw) used;
+      defined = All-weaker (IsInRange raw) (λ l. IsDefined raw (variable l))
+          (λ l r. defined_to (variable l) (half l r)) (uses raw) used;
       resets = resets;
     };
     acyclic = λ v is_gate.
         let (g, q, at, is) = unmap (λ (g : Gate). variable g.lhs) raw.gates v is_gate in
-        let inside : IsInRange raw g.lhs = All-contains (IsInRange raw) (definitions raw) g.lhs in_definitions (definition_of_place raw (gate q) g.lhs tt (g, at, refl)) in
+        let inside : IsInRange raw g.lhs = All-contains (IsInRange raw) (definitions raw) g.lhs in_definitions
+        (definition_of_place raw (gate q) g.lhs tt (g, at, refl)) in
         grounded_below (suc v) v (omega arith) (rw (← is) (half g.lhs inside));
   }
     where
@@ -106,7 +113,8 @@ module _ (raw : Raw) (circuit : IsCircuit raw) (order : List ℕ) (canonical : I
       (let b = variable_bound raw order (variable l) in omega (arith, length-order raw circuit.sound order canonical))
 
   in_new_range_all : (ls : List ℕ) → All (IsInRange (renumbered raw order)) (map (renumbered_literal raw order) ls)
-  in_new_range_all ls = All-map (IsInRange (renumbered raw order)) (renumbered_literal raw order) ls (λ k d lt. in_new_range (get_or ls k d))
+  in_new_range_all ls = All-map (IsInRange (renumbered raw order)) (renumbered_literal raw order) ls
+      (λ k d lt. in_new_range (get_or ls k d))
 
   ready_sides : (P : ℕ → Type 0) (lhs a b : ℕ) → P a → P b → P (ready_gate lhs a b).rhs0 × P (ready_gate lhs a b).rhs1
   ready_sides P lhs a b pa pb = go (nat_lt a b) refl
@@ -119,15 +127,18 @@ module _ (raw : Raw) (circuit : IsCircuit raw) (order : List ℕ) (canonical : I
   new_uses =
       let P : ℕ → Type 0 = IsInRange (renumbered raw order) in
       record {
-        nexts = All-map (λ x. P x.next) (renumbered_latch raw order) raw.latches (λ k d lt. in_new_range (get_or raw.latches k d).next);
+        nexts = All-map (λ x. P x.next) (renumbered_latch raw order) raw.latches
+            (λ k d lt. in_new_range (get_or raw.latches k d).next);
         outputs = in_new_range_all raw.outputs;
         bad = in_new_range_all raw.bad;
         constraints = in_new_range_all raw.constraints;
-        justice = All-map (All P) (map (renumbered_literal raw order)) raw.justice (λ k d lt. in_new_range_all (get_or raw.justice k d));
+        justice = All-map (All P) (map (renumbered_literal raw order)) raw.justice
+            (λ k d lt. in_new_range_all (get_or raw.justice k d));
         fairness = in_new_range_all raw.fairness;
         sides = All-map (λ g. P g.rhs0 × P g.rhs1) (renumbered_gate raw order) (ordered_gates raw order) (λ k d lt.
             let g = get_or (ordered_gates raw order) k d in
-            ready_sides P (renumbered_literal raw order g.lhs) (renumbered_literal raw order g.rhs0) (renumbered_literal raw order g.rhs1)
+            ready_sides P (renumbered_literal raw order g.lhs) (renumbered_literal raw order g.rhs0)
+            (renumbered_literal raw order g.rhs1)
             (in_new_range g.rhs0) (in_new_range g.rhs1));
       }
 
@@ -145,4 +156,5 @@ module _ (raw : Raw) (circuit : IsCircuit raw) (order : List ℕ) (canonical : I
       ready_circuit (renumbered raw order) (renumbered_ready raw circuit.sound order canonical circuit.acyclic)
       (all_uses (IsInRange (renumbered raw order)) (renumbered raw order) new_uses)
       (renumbered_formed raw circuit.sound order canonical circuit.formed)
-      (All-map IsReset (renumbered_latch raw order) raw.latches (λ k d lt. new_reset (get_or raw.latches k d) (circuit.sound.resets k d lt)))
+      (All-map IsReset (renumbered_latch raw order) raw.latches
+      (λ k d lt. new_reset (get_or raw.latches k d) (circuit.sound.resets k d lt)))

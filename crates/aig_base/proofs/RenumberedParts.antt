@@ -26,7 +26,8 @@ use Rattle.aig_base.proofs.Roles.{place_found}
 
 pub map_same : {A B : Type 0} (f g : A → B) (xs : List A) → All (λ x. f x ≡ g x) xs → map f xs ≡ map g xs
 map_same f g [] h = refl
-map_same f g (x ∷ xs) h = ap₂ (λ y ys. y ∷ ys) (All-head (λ x. f x ≡ g x) x xs h) (map_same f g xs (All-tail (λ x. f x ≡ g x) x xs h))
+map_same f g (x ∷ xs) h = ap₂ (λ y ys. y ∷ ys) (All-head (λ x. f x ≡ g x) x xs h)
+    (map_same f g xs (All-tail (λ x. f x ≡ g x) x xs h))
 
 -- a place that is found is within the list
 place_within : {A : Type 0} (test : A → Bool) (xs : List A) (i : ℕ) → place_of test xs ≡ Some i → i < length xs
@@ -37,21 +38,26 @@ pub variable_bound : (raw : Raw) (order : List ℕ) (v : ℕ)
     → renumbered_variable raw order v ≤ length raw.inputs + length raw.latches + length order
 unfolding renumbered_variable
 variable_bound raw order v =
-    go (place_of (λ u. u == v) (map variable raw.inputs)) (place_of (λ u. u == v) order) (place_of (λ u. u == v) (map (λ x. variable x.lit) raw.latches))
-    (λ i h. let k = place_within (λ u. u == v) (map variable raw.inputs) i h in omega (arith, length-map raw.inputs variable))
+    go (place_of (λ u. u == v) (map variable raw.inputs)) (place_of (λ u. u == v) order)
+    (place_of (λ u. u == v) (map (λ x. variable x.lit) raw.latches))
+    (λ i h. let k = place_within (λ u. u == v) (map variable raw.inputs) i h in
+    omega (arith, length-map raw.inputs variable))
     (λ i h. place_within (λ u. u == v) order i h)
-    (λ i h. let k = place_within (λ u. u == v) (map (λ (x : Latch). variable x.lit) raw.latches) i h in omega (arith, length-map raw.latches (λ x. variable x.lit)))
+    (λ i h. let k = place_within (λ u. u == v) (map (λ (x : Latch). variable x.lit) raw.latches) i h in
+    omega (arith, length-map raw.latches (λ x. variable x.lit)))
   where
     go : (a b d : Option ℕ) → ((i : ℕ) → a ≡ Some i → i < length raw.inputs) → ((i : ℕ) → b ≡ Some i → i < length order)
         → ((i : ℕ) → d ≡ Some i → i < length raw.latches)
-        → role_variable raw (input_role a (gate_role b (latch_role d))) ≤ length raw.inputs + length raw.latches + length order
+        → role_variable raw (input_role a (gate_role b (latch_role d))) ≤ length raw.inputs + length
+        raw.latches + length order
     go (Some i) b d p q r = let k = p i refl in omega arith
     go None (Some i) d p q r = let k = q i refl in omega arith
     go None None (Some i) p q r = let k = r i refl in omega arith
     go None None None p q r = omega arith
 
 -- each gate of the order, with its neighbours
-ordered_is : (raw : Raw) (order : List ℕ) → ((i : ℕ) → i < length order → (g : Gate) × (gate_of raw (get_or order i 0) ≡ Some g))
+ordered_is : (raw : Raw) (order : List ℕ)
+    → ((i : ℕ) → i < length order → (g : Gate) × (gate_of raw (get_or order i 0) ≡ Some g))
     → map Some (ordered_gates raw order) ≡ map (gate_of raw) order
 ordered_is raw [] h = refl
 ordered_is raw (v ∷ vs) h =
@@ -61,16 +67,19 @@ ordered_is raw (v ∷ vs) h =
 
 module _ (raw : Raw) (sound : IsSound raw) (order : List ℕ) (canonical : IsCanonicalOrder raw order) where
   found : (i : ℕ) → i < length order → (g : Gate) × (gate_of raw (get_or order i 0) ≡ Some g)
-  found i lt = let (g, q, at, is) = gate_at raw sound order canonical i lt in (g, gate_found raw sound (get_or order i 0) q g at is)
+  found i lt = let (g, q, at, is) = gate_at raw sound order canonical i lt in
+      (g, gate_found raw sound (get_or order i 0) q g at is)
 
   pub length-ordered : length (ordered_gates raw order) ≡ length raw.gates
   length-ordered =
-      sym (length-map (ordered_gates raw order) Some) ∙ ap length (ordered_is raw order found) ∙ length-map order (gate_of raw)
+      sym (length-map (ordered_gates raw order) Some) ∙ ap length (ordered_is raw order found)
+      ∙ length-map order (gate_of raw)
       ∙ length-order raw sound order canonical
 
   -- the gate at a place of the order
   pub ordered_at : (i : ℕ) → i < length order
-      → (g : Gate) × (q : ℕ) × (slice_get raw.gates q ≡ Some g) × (variable g.lhs ≡ get_or order i 0) × (slice_get (ordered_gates raw order) i ≡ Some g)
+      → (g : Gate) × (q : ℕ) × (slice_get raw.gates q ≡ Some g) × (variable g.lhs ≡ get_or order i 0)
+      × (slice_get (ordered_gates raw order) i ≡ Some g)
   ordered_at i lt =
       let (g, q, at, is) = gate_at raw sound order canonical i lt in
       let e : option_map Some (slice_get (ordered_gates raw order) i) ≡ Some (Some g) =
@@ -106,7 +115,8 @@ module _ (raw : Raw) (sound : IsSound raw) (order : List ℕ) (canonical : IsCan
       sums [] = refl
       sums (x ∷ xs) =
           sum_by-cons length (map (renumbered_literal raw order) x) (map (map (renumbered_literal raw order)) xs)
-          ∙ ap₂ (λ (a b : ℕ). a + b) (length-map x (renumbered_literal raw order)) (sums xs) ∙ sym (sum_by-cons length x xs)
+          ∙ ap₂ (λ (a b : ℕ). a + b) (length-map x (renumbered_literal raw order)) (sums xs)
+          ∙ sym (sum_by-cons length x xs)
 
       lengths : (k : Kind) → section_length (renumbered raw order) k ≡ section_length raw k
       lengths kind.Input = length-map raw.inputs (renumbered_literal raw order)
@@ -124,9 +134,11 @@ unfolding literal_by renumbered_literal
 literal_same raw order table so l lt = ap (λ v. with_sign l (2 * v)) (so.each (variable l) lt)
 
 module _ (raw : Raw) (order table : List ℕ) (so : IsRenumbering raw order table) where
-  literals_same : (ls : List ℕ) → All (IsListed table) ls → map (literal_by table) ls ≡ map (renumbered_literal raw order) ls
+  literals_same : (ls : List ℕ) → All (IsListed table) ls
+      → map (literal_by table) ls ≡ map (renumbered_literal raw order) ls
   literals_same ls h = map_same (literal_by table) (renumbered_literal raw order) ls
-      (All-weaker (IsListed table) (λ l. literal_by table l ≡ renumbered_literal raw order l) (literal_same raw order table so) ls h)
+      (All-weaker (IsListed table) (λ l. literal_by table l ≡ renumbered_literal raw order l)
+      (literal_same raw order table so) ls h)
 
   latch_same : (x : Latch) → IsLatchListed table x → latch_by table x ≡ renumbered_latch raw order x
   latch_same x (a, b, d) =
@@ -146,7 +158,8 @@ module _ (raw : Raw) (order table : List ℕ) (so : IsRenumbering raw order tabl
   ordered_listed h [] = All-nil (IsGateListed table)
   ordered_listed h (v ∷ vs) = go (gate_of raw v) refl (ordered_listed h vs)
     where
-      go : (o : Option Gate) → gate_of raw v ≡ o → All (IsGateListed table) (ordered_gates raw vs) → All (IsGateListed table) (ordered_gates raw (v ∷ vs))
+      go : (o : Option Gate) → gate_of raw v ≡ o → All (IsGateListed table) (ordered_gates raw vs)
+          → All (IsGateListed table) (ordered_gates raw (v ∷ vs))
       go None e later = rw e later
       go (Some g) e later =
           let (q, at, is) = gate_stands raw v g e in
@@ -159,30 +172,39 @@ module _ (raw : Raw) (order table : List ℕ) (so : IsRenumbering raw order tabl
       let inputs = literals_same raw.inputs h.inputs in
       let latches : map (latch_by table) raw.latches ≡ map (renumbered_latch raw order) raw.latches =
       map_same (latch_by table) (renumbered_latch raw order) raw.latches
-      (All-weaker (IsLatchListed table) (λ x. latch_by table x ≡ renumbered_latch raw order x) latch_same raw.latches h.latches) in
+      (All-weaker (IsLatchListed table) (λ x. latch_by table x ≡ renumbered_latch raw order x) latch_same
+      raw.latches h.latches) in
       let outputs = literals_same raw.outputs h.outputs in
       let bad = literals_same raw.bad h.bad in
       let constraints = literals_same raw.constraints h.constraints in
       let justice : map (map (literal_by table)) raw.justice ≡ map (map (renumbered_literal raw order)) raw.justice =
       map_same (map (literal_by table)) (map (renumbered_literal raw order)) raw.justice
-      (All-weaker (All (IsListed table)) (λ p. map (literal_by table) p ≡ map (renumbered_literal raw order) p) literals_same raw.justice h.justice) in
+      (All-weaker (All (IsListed table)) (λ p. map (literal_by table) p ≡ map (renumbered_literal raw order) p)
+      literals_same raw.justice h.justice) in
       let fairness = literals_same raw.fairness h.fairness in
-      let gates : map (gate_by table) (ordered_gates raw order) ≡ map (renumbered_gate raw order) (ordered_gates raw order) =
+      let gates : map (gate_by table) (ordered_gates raw order)
+      ≡ map (renumbered_gate raw order) (ordered_gates raw order) =
       map_same (gate_by table) (renumbered_gate raw order) (ordered_gates raw order)
-      (All-weaker (IsGateListed table) (λ g. gate_by table g ≡ renumbered_gate raw order g) gate_same (ordered_gates raw order) (ordered_listed h.gates order)) in
+      (All-weaker (IsGateListed table) (λ g. gate_by table g ≡ renumbered_gate raw order g) gate_same
+      (ordered_gates raw order) (ordered_listed h.gates order)) in
       cc
 
 -- the table has each literal of the circuit
-pub all_listed : (raw : Raw) → IsFormed raw → IsSound raw → (order table : List ℕ) → IsCanonicalOrder raw order → IsRenumbering raw order table
+pub all_listed : (raw : Raw) → IsFormed raw → IsSound raw → (order table : List ℕ) → IsCanonicalOrder raw order
+    → IsRenumbering raw order table
     → AreListed raw table
 all_listed raw formed sound order table canonical so =
-    let all : (ls : List ℕ) → All (IsInRange raw) ls → All (IsListed table) ls = All-weaker (IsInRange raw) (IsListed table) listed in
+    let all : (ls : List ℕ) → All (IsInRange raw) ls
+    → All (IsListed table) ls = All-weaker (IsInRange raw) (IsListed table) listed in
     let definitions_in = All-left (IsInRange raw) (definitions raw) (uses raw) sound.in_range in
     let used = each_use (IsInRange raw) raw (All-right (IsInRange raw) (definitions raw) (uses raw) sound.in_range) in
-    let sources = All-left (IsInRange raw) (raw.inputs ++ map (λ x. x.lit) raw.latches) (map (λ g. g.lhs) raw.gates) definitions_in in
-    let latches = All-unmap (IsInRange raw) (λ (x : Latch). x.lit) raw.latches (All-right (IsInRange raw) raw.inputs (map (λ x. x.lit) raw.latches) sources) in
+    let sources = All-left (IsInRange raw) (raw.inputs ++ map (λ x. x.lit) raw.latches) (map (λ g. g.lhs) raw.gates)
+    definitions_in in
+    let latches = All-unmap (IsInRange raw) (λ (x : Latch). x.lit) raw.latches
+    (All-right (IsInRange raw) raw.inputs (map (λ x. x.lit) raw.latches) sources) in
     let lefts = All-unmap (IsInRange raw) (λ (g : Gate). g.lhs) raw.gates
-    (All-right (IsInRange raw) (raw.inputs ++ map (λ x. x.lit) raw.latches) (map (λ g. g.lhs) raw.gates) definitions_in) in
+    (All-right (IsInRange raw) (raw.inputs ++ map (λ x. x.lit) raw.latches) (map (λ g. g.lhs) raw.gates)
+    definitions_in) in
     record {
       entries = λ k d lt.
           let e = so.each k lt in

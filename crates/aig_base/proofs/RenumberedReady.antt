@@ -26,7 +26,8 @@ use Rattle.aig_base.proofs.Renumberings.{gate_at, place_in, input_variable, latc
 use Rattle.aig_base.proofs.Roles.{only_place, role_constant, unmap_some}
 
 -- a definition's literal is even in the renumbered circuit
-pub literal_even : (raw : Raw) (order : List ℕ) (l : ℕ) → IsEven l → renumbered_literal raw order l ≡ 2 * renumbered_variable raw order (variable l)
+pub literal_even : (raw : Raw) (order : List ℕ) (l : ℕ) → IsEven l
+    → renumbered_literal raw order l ≡ 2 * renumbered_variable raw order (variable l)
 unfolding renumbered_literal
 literal_even raw order l even = rw even refl
 
@@ -38,32 +39,40 @@ sign_cases l w = go (nat_eq (l % 2) 0) refl
     go false e = let f : 2 * w % 2 ≡ 0 = omega arith in inr (rw (e, f) refl)
 
 -- a literal is at most the odd one of its variable
-pub literal_bound : (raw : Raw) (order : List ℕ) (l w : ℕ) → renumbered_variable raw order (variable l) ≤ w → renumbered_literal raw order l ≤ 2 * w + 1
+pub literal_bound : (raw : Raw) (order : List ℕ) (l w : ℕ) → renumbered_variable raw order (variable l) ≤ w
+    → renumbered_literal raw order l ≤ 2 * w + 1
 unfolding renumbered_literal
-literal_bound raw order l w le = elim (sign_cases l (renumbered_variable raw order (variable l))) [ inl e ↦ omega arith | inr e ↦ omega arith ]
+literal_bound raw order l w le = elim (sign_cases l (renumbered_variable raw order (variable l)))
+    [ inl e ↦ omega arith | inr e ↦ omega arith ]
 
 -- a list that has the even literals in order
-evens_by : (xs : List ℕ) (v n : ℕ) → length xs ≡ n → ((i : ℕ) → i < n → slice_get xs i ≡ Some (2 * (v + i))) → xs ≡ evens_from v n
+evens_by : (xs : List ℕ) (v n : ℕ) → length xs ≡ n → ((i : ℕ) → i < n → slice_get xs i ≡ Some (2 * (v + i)))
+    → xs ≡ evens_from v n
 evens_by xs v n size at =
     ext_get_or 0 xs (evens_from v n) (size ∙ sym (length-evens_from v n))
-    (λ i lt. let below : i < n = omega arith in get_or_from_slice_get xs i (2 * (v + i)) 0 (at i below) ∙ sym (get_or-evens_from v n i 0 below))
+    (λ i lt. let below : i < n = omega arith in
+    get_or_from_slice_get xs i (2 * (v + i)) 0 (at i below) ∙ sym (get_or-evens_from v n i 0 below))
 
 stands_at : {A : Type 0} (xs : List A) (i : ℕ) → i < length xs → (x : A) × (slice_get xs i ≡ Some x)
 stands_at [] i lt = absurd (omega arith)
 stands_at (x ∷ xs) zero lt = (x, refl)
 stands_at (x ∷ xs) (suc i) lt = stands_at xs i (omega arith)
 
-evens_map : {A : Type 0} (f : A → ℕ) (xs : List A) (v n : ℕ) → length xs ≡ n → ((i : ℕ) (x : A) → slice_get xs i ≡ Some x → f x ≡ 2 * (v + i))
+evens_map : {A : Type 0} (f : A → ℕ) (xs : List A) (v n : ℕ) → length xs ≡ n
+    → ((i : ℕ) (x : A) → slice_get xs i ≡ Some x → f x ≡ 2 * (v + i))
     → map f xs ≡ evens_from v n
 evens_map f xs v n size each =
     evens_by (map f xs) v n (length-map xs f ∙ size)
-    (λ i lt. let (x, at) = stands_at xs i (omega arith) in slice_get-map f xs i ∙ ap (option_map f) at ∙ ap Some (each i x at))
+    (λ i lt. let (x, at) = stands_at xs i (omega arith) in
+    slice_get-map f xs i ∙ ap (option_map f) at ∙ ap Some (each i x at))
 
 -- the sides of a gate whose left side is the greatest
-goes_down : (lhs a b : ℕ) → a < lhs → b < lhs → ((ready_gate lhs a b).rhs0 < (ready_gate lhs a b).lhs) × ((ready_gate lhs a b).rhs1 ≤ (ready_gate lhs a b).rhs0)
+goes_down : (lhs a b : ℕ) → a < lhs → b < lhs
+    → ((ready_gate lhs a b).rhs0 < (ready_gate lhs a b).lhs) × ((ready_gate lhs a b).rhs1 ≤ (ready_gate lhs a b).rhs0)
 goes_down lhs a b la lb = go (nat_lt a b) refl
   where
-    go : (s : Bool) → nat_lt a b ≡ s → ((ready_gate lhs a b).rhs0 < (ready_gate lhs a b).lhs) × ((ready_gate lhs a b).rhs1 ≤ (ready_gate lhs a b).rhs0)
+    go : (s : Bool) → nat_lt a b ≡ s → ((ready_gate lhs a b).rhs0 < (ready_gate lhs a b).lhs)
+        × ((ready_gate lhs a b).rhs1 ≤ (ready_gate lhs a b).rhs0)
     go true e = let k : a ≤ b = grind (arith, nat_tests) in rw e (lb, k)
     go false e = let k : b ≤ a = grind (arith, nat_tests) in rw e (la, k)
 
@@ -87,23 +96,28 @@ module _ (raw : Raw) (sound : IsSound raw) (order : List ℕ) (canonical : IsCan
       literal_even raw order l (even_of (input p) l tt at)
       ∙ ap (λ v. 2 * v) (input_variable raw sound order gates_only (variable l) p (l, at, refl))
 
-  pub latch_literal : (p : ℕ) (x : Latch) → slice_get raw.latches p ≡ Some x → renumbered_literal raw order x.lit ≡ 2 * (length raw.inputs + p + 1)
+  pub latch_literal : (p : ℕ) (x : Latch) → slice_get raw.latches p ≡ Some x
+      → renumbered_literal raw order x.lit ≡ 2 * (length raw.inputs + p + 1)
   latch_literal p x at =
       literal_even raw order x.lit (even_of (latch p) x.lit tt (x, at, refl))
       ∙ ap (λ v. 2 * v) (latch_variable raw sound order gates_only (variable x.lit) p (x, at, refl))
 
   -- the variable at a place of the order
-  pub place_variable : (i : ℕ) → i < length order → renumbered_variable raw order (get_or order i 0) ≡ length raw.inputs + length raw.latches + i + 1
+  pub place_variable : (i : ℕ) → i < length order
+      → renumbered_variable raw order (get_or order i 0) ≡ length raw.inputs + length raw.latches + i + 1
   place_variable i lt =
       let (g, q, at, is) = gate_at raw sound order canonical i lt in
       let here = slice_get-get_or order i 0 lt in
       gate_variable raw sound order gates_only (get_or order i 0) q i (g, at, is)
-      (only_place order i (get_or order i 0) here (λ j stands. place_in raw sound order canonical i j (get_or order i 0) here stands))
+      (only_place order i (get_or order i 0) here
+      (λ j stands. place_in raw sound order canonical i j (get_or order i 0) here stands))
 
-  pub gate_literal : (q i : ℕ) (g : Gate) → slice_get raw.gates q ≡ Some g → i < length order → variable g.lhs ≡ get_or order i 0
+  pub gate_literal : (q i : ℕ) (g : Gate) → slice_get raw.gates q ≡ Some g → i < length order
+      → variable g.lhs ≡ get_or order i 0
       → renumbered_literal raw order g.lhs ≡ 2 * (length raw.inputs + length raw.latches + i + 1)
   gate_literal q i g at lt is =
-      literal_even raw order g.lhs (even_of (gate q) g.lhs tt (g, at, refl)) ∙ ap (λ v. 2 * renumbered_variable raw order v) is
+      literal_even raw order g.lhs (even_of (gate q) g.lhs tt (g, at, refl))
+      ∙ ap (λ v. 2 * renumbered_variable raw order v) is
       ∙ ap (λ v. 2 * v) (place_variable i lt)
 
   pub constant_variable : renumbered_variable raw order 0 ≡ 0
@@ -120,7 +134,8 @@ module _ (raw : Raw) (sound : IsSound raw) (order : List ℕ) (canonical : IsCan
       omega (arith, latch_variable raw sound order gates_only (variable x.lit) p (x, at, refl))
 
   -- what has a lower level than a gate stands before it
-  lower_place : (i j m n : ℕ) → i < length order → j < length order → Level raw (get_or order j 0) m → Level raw (get_or order i 0) n → m < n → j < i
+  lower_place : (i j m n : ℕ) → i < length order → j < length order → Level raw (get_or order j 0) m
+      → Level raw (get_or order i 0) n → m < n → j < i
   lower_place i j m n lt below lj li less = elim (cases i j) [
     | inl before ↦ before
     | inr o ↦ elim o [
@@ -136,7 +151,8 @@ module _ (raw : Raw) (sound : IsSound raw) (order : List ℕ) (canonical : IsCan
       cases : (i j : ℕ) → (j < i) ⊎ ((j ≡ i) ⊎ (i < j))
       cases i j = grind arith
 
-  lower_variable : (i v m n : ℕ) → i < length order → IsDefined raw v → Level raw v m → Level raw (get_or order i 0) n → m < n
+  lower_variable : (i v m n : ℕ) → i < length order → IsDefined raw v → Level raw v m
+      → Level raw (get_or order i 0) n → m < n
       → renumbered_variable raw order v ≤ length raw.inputs + length raw.latches + i
   lower_variable i v m n lt defined lv li less = elim (defined_cases raw v defined) [
     | inl source ↦ omega (arith, source_bound v source)
@@ -148,15 +164,19 @@ module _ (raw : Raw) (sound : IsSound raw) (order : List ℕ) (canonical : IsCan
   ]
 
   -- the sides of the gate at a place
-  side_below : IsAcyclic raw → (q i : ℕ) (g : Gate) → slice_get raw.gates q ≡ Some g → i < length order → variable g.lhs ≡ get_or order i 0
-      → (renumbered_literal raw order g.rhs0 < renumbered_literal raw order g.lhs) × (renumbered_literal raw order g.rhs1 < renumbered_literal raw order g.lhs)
+  side_below : IsAcyclic raw → (q i : ℕ) (g : Gate) → slice_get raw.gates q ≡ Some g → i < length order
+      → variable g.lhs ≡ get_or order i 0
+      → (renumbered_literal raw order g.rhs0 < renumbered_literal raw order g.lhs)
+      × (renumbered_literal raw order g.rhs1 < renumbered_literal raw order g.lhs)
   side_below acyclic q i g at lt is =
       let sides = each_use (λ l. IsDefined raw (variable l)) raw sound.defined in
       let here = get_or_from_slice_get raw.gates q g g at in
-      let (d0, d1) = subst (λ (h : Gate). IsDefined raw (variable h.rhs0) × IsDefined raw (variable h.rhs1)) here (sides.sides q g (slice_get_within raw.gates q g at)) in
+      let (d0, d1) = subst (λ (h : Gate). IsDefined raw (variable h.rhs0) × IsDefined raw (variable h.rhs1)) here
+      (sides.sides q g (slice_get_within raw.gates q g at)) in
       let (a, la) = level_of (Grounded-of_defined raw acyclic (variable g.rhs0) d0) in
       let (b, lb) = level_of (Grounded-of_defined raw acyclic (variable g.rhs1) d1) in
-      let own : Level raw (get_or order i 0) (max a b + 1) = subst (λ u. Level raw u (max a b + 1)) is (grounded.Level.gate q g a b at la lb) in
+      let own : Level raw (get_or order i 0) (max a b + 1) =
+      subst (λ u. Level raw u (max a b + 1)) is (grounded.Level.gate q g a b at la lb) in
       let v0 = lower_variable i (variable g.rhs0) a (max a b + 1) lt d0 la own (omega arith) in
       let v1 = lower_variable i (variable g.rhs1) b (max a b + 1) lt d1 lb own (omega arith) in
       let e = gate_literal q i g at lt is in
@@ -169,21 +189,26 @@ module _ (raw : Raw) (sound : IsSound raw) (order : List ℕ) (canonical : IsCan
       → (q : ℕ) × (i < length order) × (slice_get raw.gates q ≡ Some g) × (variable g.lhs ≡ get_or order i 0)
   ordered_gate i g here =
       let k = slice_get_within (ordered_gates raw order) i g here in
-      let lt : i < length order = omega (arith, length-ordered raw sound order canonical, length-order raw sound order canonical) in
+      let lt : i < length order =
+      omega (arith, length-ordered raw sound order canonical, length-order raw sound order canonical) in
       let (h, q, at, is, stands) = ordered_at raw sound order canonical i lt in
       let same : h ≡ g = cc in
       (q, lt, at ∙ ap Some same, subst (λ (h : Gate). variable h.lhs ≡ get_or order i 0) same is)
 
-  pub sections : SectionsInOrder (renumbered raw order).inputs (renumbered raw order).latches (renumbered raw order).gates (renumbered raw order).max_var
+  pub sections : SectionsInOrder (renumbered raw order).inputs (renumbered raw order).latches
+      (renumbered raw order).gates (renumbered raw order).max_var
   sections =
       let li = length-map raw.inputs (renumbered_literal raw order) in
       let ll = length-map raw.latches (renumbered_latch raw order) in
-      let lg = length-map (ordered_gates raw order) (renumbered_gate raw order) ∙ length-ordered raw sound order canonical in
+      let lg = length-map (ordered_gates raw order) (renumbered_gate raw order)
+      ∙ length-ordered raw sound order canonical in
       record {
         size = omega arith;
-        inputs_are = evens_map (renumbered_literal raw order) raw.inputs 1 _ (sym li) (λ p l at. let e = input_literal p l at in omega arith);
+        inputs_are = evens_map (renumbered_literal raw order) raw.inputs 1 _ (sym li) (λ p l at. let e =
+            input_literal p l at in omega arith);
         latches_are = evens_map (λ x. x.lit) (renumbered raw order).latches _ _ refl (λ p y at.
-            let (x, here, is) = unmap_some (renumbered_latch raw order) (slice_get raw.latches p) y (sym (slice_get-map (renumbered_latch raw order) raw.latches p) ∙ at) in
+            let (x, here, is) = unmap_some (renumbered_latch raw order) (slice_get raw.latches p) y
+            (sym (slice_get-map (renumbered_latch raw order) raw.latches p) ∙ at) in
             let e = latch_literal p x here in
             let f : y.lit ≡ renumbered_literal raw order x.lit = ap (λ z. z.lit) (sym is) in
             omega arith);
@@ -193,18 +218,23 @@ module _ (raw : Raw) (sound : IsSound raw) (order : List ℕ) (canonical : IsCan
             let (q, lt, stands, place) = ordered_gate i g here in
             let e = gate_literal q i g stands lt place in
             let f : y.lhs ≡ renumbered_literal raw order g.lhs = ap (λ z. z.lhs) (sym is)
-            ∙ lhs_stays (renumbered_literal raw order g.lhs) (renumbered_literal raw order g.rhs0) (renumbered_literal raw order g.rhs1) in
+            ∙ lhs_stays (renumbered_literal raw order g.lhs) (renumbered_literal raw order g.rhs0)
+            (renumbered_literal raw order g.rhs1) in
             omega arith);
       }
 
   pub renumbered_ready : IsAcyclic raw → IsBinaryReady (renumbered raw order)
   renumbered_ready acyclic = record {
     in_order = joined (renumbered raw order) sections;
-    gates = All-map (λ g. (g.rhs0 < g.lhs) × (g.rhs1 ≤ g.rhs0)) (renumbered_gate raw order) (ordered_gates raw order) (λ i d lt.
+    gates = All-map (λ g. (g.rhs0 < g.lhs) × (g.rhs1 ≤ g.rhs0)) (renumbered_gate raw order)
+        (ordered_gates raw order) (λ i d lt.
         let (g, here) = stands_at (ordered_gates raw order) i lt in
         let (q, below, stands, place) = ordered_gate i g here in
         let (b0, b1) = side_below acyclic q i g stands below place in
-        let same : g ≡ get_or (ordered_gates raw order) i d = sym (get_or_from_slice_get (ordered_gates raw order) i g d here) in
-        subst (λ (h : Gate). ((renumbered_gate raw order h).rhs0 < (renumbered_gate raw order h).lhs) × ((renumbered_gate raw order h).rhs1 ≤ (renumbered_gate raw order h).rhs0)) same
-        (goes_down (renumbered_literal raw order g.lhs) (renumbered_literal raw order g.rhs0) (renumbered_literal raw order g.rhs1) b0 b1));
+        let same : g ≡ get_or (ordered_gates raw order) i d =
+        sym (get_or_from_slice_get (ordered_gates raw order) i g d here) in
+        subst (λ (h : Gate). ((renumbered_gate raw order h).rhs0 < (renumbered_gate raw order h).lhs)
+        × ((renumbered_gate raw order h).rhs1 ≤ (renumbered_gate raw order h).rhs0)) same
+        (goes_down (renumbered_literal raw order g.lhs) (renumbered_literal raw order g.rhs0)
+        (renumbered_literal raw order g.rhs1) b0 b1));
   }

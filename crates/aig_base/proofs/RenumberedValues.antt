@@ -47,27 +47,33 @@ module _ (raw : Raw) (sound : IsSound raw) (order : List ℕ) (canonical : IsCan
 
   pub renumbered_definitions : All IsDefinition (definitions (renumbered raw order))
   renumbered_definitions =
-      evens_are (definitions (renumbered raw order)) (renumbered raw order).max_var (joined (renumbered raw order) (sections raw sound order canonical))
+      evens_are (definitions (renumbered raw order)) (renumbered raw order).max_var
+      (joined (renumbered raw order) (sections raw sound order canonical))
 
   -- where a gate stands in the renumbered circuit
   pub renumbered_gate_at : (q : ℕ) (g : Gate) → slice_get raw.gates q ≡ Some g
       → (i : ℕ) × (slice_get (renumbered raw order).gates i ≡ Some (renumbered_gate raw order g))
   renumbered_gate_at q g at =
-      let (i, lt, is) = (canonical.gates (variable g.lhs)).1 (Contains-map (λ (g : Gate). variable g.lhs) raw.gates q g at) in
+      let (i, lt, is) = (canonical.gates (variable g.lhs)).1
+      (Contains-map (λ (g : Gate). variable g.lhs) raw.gates q g at) in
       let (h, r, stands, same, here) = ordered_at raw sound order canonical i lt in
       let e : variable h.lhs ≡ variable g.lhs = same ∙ get_or_default order i 0 (variable g.lhs) lt ∙ is in
-      let k : gate r ≡ gate q = one_place raw sound (gate r) (gate q) h.lhs g.lhs tt tt (h, stands, refl) (g, at, refl) e in
+      let k : gate r ≡ gate q = one_place raw sound (gate r) (gate q) h.lhs g.lhs tt tt (h, stands, refl)
+      (g, at, refl) e in
       let f : r ≡ q = cc in
       let there : slice_get raw.gates q ≡ Some h = subst (λ n. slice_get raw.gates n ≡ Some h) f stands in
       let j : h ≡ g = cc in (
         i,
-        slice_get-map (renumbered_gate raw order) (ordered_gates raw order) i ∙ ap (option_map (renumbered_gate raw order)) here
+        slice_get-map (renumbered_gate raw order) (ordered_gates raw order) i
+            ∙ ap (option_map (renumbered_gate raw order)) here
             ∙ ap (λ (h : Gate). Some (renumbered_gate raw order h)) j,
       )
 
   module _ (start : List Tern) (rows : List (List Tern)) where
-    latch_here : (p : ℕ) (x : Latch) → slice_get raw.latches p ≡ Some x → slice_get (renumbered raw order).latches p ≡ Some (renumbered_latch raw order x)
-    latch_here p x at = slice_get-map (renumbered_latch raw order) raw.latches p ∙ ap (option_map (renumbered_latch raw order)) at
+    latch_here : (p : ℕ) (x : Latch) → slice_get raw.latches p ≡ Some x
+        → slice_get (renumbered raw order).latches p ≡ Some (renumbered_latch raw order x)
+    latch_here p x at = slice_get-map (renumbered_latch raw order) raw.latches p
+        ∙ ap (option_map (renumbered_latch raw order)) at
 
     -- each literal's counterpart has its value
     pub renumbered_value : {t l : ℕ} {w : Tern} → Value raw start rows t l w
@@ -76,13 +82,17 @@ module _ (raw : Raw) (sound : IsSound raw) (order : List ℕ) (canonical : IsCan
     renumbered_value (value.constant_true t) = rw true_literal (value.constant_true t)
     renumbered_value (value.input t p l w row at is cell) =
         value.input t p (renumbered_literal raw order l) w row
-        (slice_get-map (renumbered_literal raw order) raw.inputs p ∙ ap (option_map (renumbered_literal raw order)) at) is cell
-    renumbered_value (value.latch_first p x w at is) = value.latch_first p (renumbered_latch raw order x) w (latch_here p x at) is
+        (slice_get-map (renumbered_literal raw order) raw.inputs p
+        ∙ ap (option_map (renumbered_literal raw order)) at) is cell
+    renumbered_value (value.latch_first p x w at is) =
+        value.latch_first p (renumbered_latch raw order x) w (latch_here p x at) is
     renumbered_value (value.latch_next t p x w at v) =
         value.latch_next t p (renumbered_latch raw order x) w (latch_here p x at) (renumbered_value v)
     renumbered_value (value.gate t q g a b at va vb) =
         let (i, here) = renumbered_gate_at q g at in
-        of_ready (renumbered raw order) start rows renumbered_definitions t i (renumbered_literal raw order g.lhs) (renumbered_literal raw order g.rhs0)
+        of_ready (renumbered raw order) start rows renumbered_definitions t i (renumbered_literal raw order g.lhs)
+        (renumbered_literal raw order g.rhs0)
         (renumbered_literal raw order g.rhs1) a b here (renumbered_value va) (renumbered_value vb)
     renumbered_value (value.negated t l w over odd v) =
-        rw (odd_literal raw order l over odd) (of_negation (renumbered raw order) start rows renumbered_definitions (renumbered_value v))
+        rw (odd_literal raw order l over odd)
+        (of_negation (renumbered raw order) start rows renumbered_definitions (renumbered_value v))

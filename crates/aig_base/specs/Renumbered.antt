@@ -33,11 +33,13 @@ renumbered_latch raw order x = record {
 
 -- the gate with these sides, the greater right side first
 abbrev pub ready_gate : ℕ → ℕ → ℕ → Gate
-ready_gate lhs a b = if nat_lt a b then record { lhs = lhs; rhs0 = b; rhs1 = a } else record { lhs = lhs; rhs0 = a; rhs1 = b }
+ready_gate lhs a b =
+    if nat_lt a b then record { lhs = lhs; rhs0 = b; rhs1 = a } else record { lhs = lhs; rhs0 = a; rhs1 = b }
 
 abbrev pub renumbered_gate : Raw → List ℕ → Gate → Gate
 renumbered_gate raw order g =
-    ready_gate (renumbered_literal raw order g.lhs) (renumbered_literal raw order g.rhs0) (renumbered_literal raw order g.rhs1)
+    ready_gate (renumbered_literal raw order g.lhs) (renumbered_literal raw order g.rhs0)
+    (renumbered_literal raw order g.rhs1)
 
 -- the gate of a variable, if it is one of a gate
 abbrev pub gate_of : Raw → ℕ → Option Gate

@@ -24,7 +24,11 @@ abbrev pub IsLatchListed : List ℕ → Latch → Type 0
 IsLatchListed table x = IsListed table x.lit × IsListed table x.next × IsListed table x.reset
 
 abbrev pub latch_by : List ℕ → Latch → Latch
-latch_by table x = record { lit = literal_by table x.lit; next = literal_by table x.next; reset = literal_by table x.reset }
+latch_by table x = record {
+  lit = literal_by table x.lit;
+  next = literal_by table x.next;
+  reset = literal_by table x.reset;
+}
 
 abbrev pub IsGateListed : List ℕ → Gate → Type 0
 IsGateListed table g = IsListed table g.lhs × IsListed table g.rhs0 × IsListed table g.rhs1

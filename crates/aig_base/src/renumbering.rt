@@ -25,6 +25,7 @@ fn renumbered_parts(
     requires { AreListed circuit.now table.now }
     ensures { IfOk result (λ new. new ≡ renumbered_by circuit.now order.now table.now) }
 {
+    // Its contract tells that the parts are a circuit.
     let _max_var = circuit.max_var();
     let defined = circuit.inputs().len() + circuit.latches().len() + circuit.gates().len();
     Ok(Raw {
@@ -64,6 +65,7 @@ pub fn renumber(alloc: Global, circuit: &Circuit) -> Result<Circuit, Memory>
         (order : List ℕ) × IsCanonicalOrder circuit.now order × (new ≡ renumbered circuit.now order)) }
     ensures ready { IfOk result IsBinaryReady }
 {
+    // Its contract tells that the parts are a circuit.
     let _max_var = circuit.max_var();
     let levels = Levels::of(alloc, circuit)?;
     let order = canonical_order(alloc, circuit, &levels)?;

@@ -1,5 +1,5 @@
 //! The parts of a circuit by a table of variables.
-ghost use Rattle.std.specs.Prelude.{◌≡◌, ◌≤◌, length, map, All, IfOk};
+ghost use Rattle.std.specs.Prelude.{◌≡◌, ◌≤◌, map, All, IfOk};
 ghost use Rattle.aig_base.specs.Formed.{limit};
 ghost use Rattle.aig_base.specs.Renumbered.{gate_of, ordered_gates};
 ghost use Rattle.aig_base.specs.RenumberingTable.{literal_by, latch_by, gate_by, IsListed, IsLatchListed, IsGateListed};
@@ -108,6 +108,7 @@ fn new_gate(table: &[u32], gate: Gate) -> Gate
 fn gate_of(circuit: &Circuit, variable: u32) -> Option<Gate>
     ensures { result ≡ gate_of circuit.now variable }
 {
+    // Its contract tells that the parts are a circuit.
     let _max_var = circuit.max_var();
     match circuit.definition(variable) {
         Some(Definition::Input(_)) => None,

@@ -1,6 +1,5 @@
 //! For each variable of a circuit the one that stands for it in the renumbered circuit.
-ghost use Rattle.std.specs.Prelude.{◌≡◌, ◌+◌, ◌<◌, ◌≤◌, [], length, IfOk};
-ghost use Rattle.aig_base.specs.Formed.{limit};
+ghost use Rattle.std.specs.Prelude.{◌≡◌, [], IfOk};
 ghost use Rattle.aig_base.specs.Order.{IsCanonicalOrder};
 ghost use Rattle.aig_base.specs.Renumbered.{renumbered_variable};
 ghost use Rattle.aig_base.specs.RenumberingTable.{IsRenumbering};
@@ -14,6 +13,7 @@ use std::alloc::Global;
 fn source_variable(circuit: &Circuit, variable: u32) -> u32
     ensures { result ≡ renumbered_variable circuit.now [] variable }
 {
+    // Its contract tells that the parts are a circuit.
     let _max_var = circuit.max_var();
     match circuit.definition(variable) {
         Some(Definition::Input(position)) => position + 1,
@@ -40,6 +40,7 @@ fn number_gates(circuit: &Circuit, order: &[u32], table: &mut [u32])
     requires sources { IsRenumbering circuit.now [] table.old }
     ensures { IsRenumbering circuit.now order.now table.new }
 {
+    // Its contract tells that the parts are a circuit.
     let _max_var = circuit.max_var();
     let first = circuit.inputs().len() + circuit.latches().len() + 1;
     for (place, variable) in order.iter().enumerate() {

@@ -8,10 +8,13 @@ pub returns-clause-circuit : goal.returns-clause-circuit
 returns-clause-circuit c = λ raw order circuit canonical. renumbered_circuit raw circuit order canonical
 
 pub returns-clause-ready : goal.returns-clause-ready
-returns-clause-ready c = λ raw order circuit canonical. renumbered_ready raw circuit.sound order canonical circuit.acyclic
+returns-clause-ready c = λ raw order circuit canonical. renumbered_ready raw circuit.sound order canonical
+    circuit.acyclic
 
 pub returns-clause-values : goal.returns-clause-values
-returns-clause-values c = λ raw order start rows sound canonical t l w v. renumbered_value raw sound order canonical start rows v
+returns-clause-values c = λ raw order start rows sound canonical t l w v. renumbered_value raw sound order canonical
+    start rows v
 
 pub returns-clause-no_other : goal.returns-clause-no_other
-returns-clause-no_other c = λ raw order start rows circuit canonical fits. no_other_value raw circuit order canonical start rows fits
+returns-clause-no_other c = λ raw order start rows circuit canonical fits. no_other_value raw circuit order
+    canonical start rows fits

@@ -10,14 +10,16 @@ returns-in-Some-Input c =
     let raw = c.args.circuit.now in
     let (l, at, is) = rw c.in-Some-Input.field-0-is at c.in-Some-Input.ensures.found in
     sym (no_gate_found raw c.args.variable (λ q g here same.
-    let k = one_place raw c.max_var-max_var.ensures.circuit.sound (gate q) (input _) g.lhs l tt tt (g, here, refl) at (same ∙ sym is) in cc))
+    let k = one_place raw c.max_var-max_var.ensures.circuit.sound (gate q) (input _) g.lhs l tt tt (g, here, refl)
+    at (same ∙ sym is) in cc))
 
 pub returns-in-Some-Latch : goal.returns-in-Some-Latch
 returns-in-Some-Latch c =
     let raw = c.args.circuit.now in
     let (x, at, is) = rw c.in-Some-Latch.field-0-is at c.in-Some-Latch.ensures.found in
     sym (no_gate_found raw c.args.variable (λ q g here same.
-    let k = one_place raw c.max_var-max_var.ensures.circuit.sound (gate q) (latch _) g.lhs x.lit tt tt (g, here, refl) (x, at, refl) (same ∙ sym is) in cc))
+    let k = one_place raw c.max_var-max_var.ensures.circuit.sound (gate q) (latch _) g.lhs x.lit tt tt
+    (g, here, refl) (x, at, refl) (same ∙ sym is) in cc))
 
 pub returns-in-Some-Gate : goal.returns-in-Some-Gate
 returns-in-Some-Gate c =
@@ -32,4 +34,5 @@ returns-in-Some-Gate c =
 pub returns-in-None : goal.returns-in-None
 returns-in-None c =
     let raw = c.args.circuit.now in
-    sym (no_gate_found raw c.args.variable (λ q g here same. not_free raw (gate q) g.lhs c.args.variable tt (g, here, refl) same c.in-None.ensures.none))
+    sym (no_gate_found raw c.args.variable
+    (λ q g here same. not_free raw (gate q) g.lhs c.args.variable tt (g, here, refl) same c.in-None.ensures.none))

@@ -15,10 +15,12 @@ pub returns-then-is_neg : goal.returns-then-is_neg
 unfolding literal_by
 returns-then-is_neg c =
     c.not.ensures ∙ ap negation (c.new-positive.ensures ∙ ap (λ v. 2 * slice_index c.args.table.now v) c.var.ensures)
-    ∙ sym (turned c.args.literal (2 * slice_index c.args.table.now (variable c.args.literal)) (c.is_neg.ensures.0 c.if-is_neg.true))
+    ∙ sym (turned c.args.literal (2 * slice_index c.args.table.now (variable c.args.literal))
+    (c.is_neg.ensures.0 c.if-is_neg.true))
 
 pub returns-else-is_neg : goal.returns-else-is_neg
 unfolding literal_by
 returns-else-is_neg c =
     c.new-positive.ensures ∙ ap (λ v. 2 * slice_index c.args.table.now v) c.var.ensures
-    ∙ sym (straight c.args.literal (2 * slice_index c.args.table.now (variable c.args.literal)) (λ h. false≢true (sym c.if-is_neg.false ∙ c.is_neg.ensures.1 h)))
+    ∙ sym (straight c.args.literal (2 * slice_index c.args.table.now (variable c.args.literal))
+    (λ h. false≢true (sym c.if-is_neg.false ∙ c.is_neg.ensures.1 h)))

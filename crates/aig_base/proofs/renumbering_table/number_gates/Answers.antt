@@ -23,12 +23,15 @@ bounds-table-variable c =
     let circuit = c.max_var-max_var.ensures.circuit in
     omega (
       arith,
-      order_below c.args.circuit.now circuit.sound c.args.order.now c.requires.order c.loop-place.place c.loop-place-test.true,
+      order_below c.args.circuit.now circuit.sound c.args.order.now c.requires.order c.loop-place.place
+          c.loop-place-test.true,
       c.loop-place.invariant.size,
     )
 
 pub loop-place-preserved : goal.loop-place-preserved
 loop-place-preserved c =
     let circuit = c.max_var-max_var.ensures.circuit in
-    renumbering_more c.args.circuit.now circuit.sound c.args.order.now c.requires.order c.loop-place.table c.loop-place.place _
-    c.loop-place.invariant c.loop-place-test.true (omega (arith, ap length c.inputs.ensures, ap length c.latches.ensures))
+    renumbering_more c.args.circuit.now circuit.sound c.args.order.now c.requires.order c.loop-place.table
+    c.loop-place.place _
+    c.loop-place.invariant c.loop-place-test.true
+    (omega (arith, ap length c.inputs.ensures, ap length c.latches.ensures))
