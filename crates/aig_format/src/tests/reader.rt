@@ -1,7 +1,7 @@
 use crate::delta::delta;
 use crate::reader::{parse, read};
 use crate::source::Slice;
-use aig_base::Fault;
+use aig_base::{Fault, Gate, Kind, Latch, Lit};
 use std::test::*;
 
 // The fault of a text's tokens or counts, if it has one.
@@ -111,29 +111,49 @@ fn accepted(rt: HostRuntime) {
 }
 
 #[test]
-fn parts_are_read(rt: HostRuntime) -> Result<(), Fail> {
+fn parts_of_ascii(rt: HostRuntime) -> Result<(), Fail> {
     let raw = parse(
         rt.alloc(),
         b"aag 3 1 1 1 1 0 0 1\n2\n4 6 4\n4\n2\n3\n5\n6 4 2\nj0 go\nc\nhi",
     )?;
     assert_eq!(rt; raw.max_var, 3);
-    assert_eq!(rt; raw.latches[0].reset.value(), 4);
-    assert_eq!(rt; raw.justice[0].len(), 2);
-    assert_eq!(rt; raw.gates[0].rhs1.value(), 2);
-    assert_eq!(rt; raw.symbols.len(), 1);
-    let raw = parse(rt.alloc(), b"aig 3 1 1 0 1\n6 4\n\x02\x02")?;
-    assert_eq!(rt; raw.inputs[0].value(), 2);
-    assert_eq!(rt; raw.latches[0].lit.value(), 4);
-    assert_eq!(rt; raw.latches[0].reset.value(), 4);
-    assert_eq!(rt; raw.gates[0].lhs.value(), 6);
-    assert_eq!(rt; raw.gates[0].rhs0.value(), 4);
-    assert_eq!(rt; raw.gates[0].rhs1.value(), 2);
+    assert_eq!(rt; raw.latches.get(0), Some(&latch(4, 6, 4)));
+    assert_eq!(rt; raw.gates.get(0), Some(&gate(6, 4, 2)));
+    for property in raw.justice.iter() {
+        assert_eq!(rt; property.get(1), Some(&Lit::new(5)));
+    }
+    assert!(rt; raw.symbols.contains(Kind::Justice, 0));
     Ok(())
+}
+
+#[test]
+fn parts_of_binary(rt: HostRuntime) -> Result<(), Fail> {
+    let raw = parse(rt.alloc(), b"aig 3 1 1 0 1\n6 4\n\x02\x02")?;
+    assert_eq!(rt; raw.inputs.get(0), Some(&Lit::new(2)));
+    assert_eq!(rt; raw.latches.get(0), Some(&latch(4, 6, 4)));
+    assert_eq!(rt; raw.gates.get(0), Some(&gate(6, 4, 2)));
+    Ok(())
+}
+
+fn latch(lit: u32, next: u32, reset: u32) -> Latch {
+    Latch {
+        lit: Lit::new(lit),
+        next: Lit::new(next),
+        reset: Lit::new(reset),
+    }
+}
+
+fn gate(lhs: u32, rhs0: u32, rhs1: u32) -> Gate {
+    Gate {
+        lhs: Lit::new(lhs),
+        rhs0: Lit::new(rhs0),
+        rhs1: Lit::new(rhs1),
+    }
 }
 
 // Whether exactly the beginnings of these lengths are taken, and all others refused by a fault of text.
 fn takes_only(rt: HostRuntime, bytes: &[u8], lengths: &[usize]) -> bool {
-    for length in 0..bytes.len() + 1 {
+    for length in 0..=bytes.len() {
         let wanted = lengths.contains(&length);
         let as_wanted = match refusal(rt, &bytes[..length]) {
             None => wanted,
@@ -173,7 +193,7 @@ fn faults_of_parts(rt: HostRuntime) {
 #[test]
 fn circuits_are_read(rt: HostRuntime) -> Result<(), Fail> {
     let circuit = read(rt.alloc(), b"aag 4 2 0 1 2\n2\n4\n8\n8 6 2\n6 2 4\n")?;
-    assert_eq!(rt; circuit.gates()[0].rhs0.value(), 6);
+    assert_eq!(rt; circuit.gates().first(), Some(&gate(8, 6, 2)));
     let circuit = read(rt.alloc(), b"aag 1 1 0 0 0 0 1\n2\n2\nc0 go\nc\nhi")?;
     assert_eq!(rt; circuit.comment(), Some(b"hi".as_slice()));
     Ok(())
