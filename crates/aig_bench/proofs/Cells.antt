@@ -5,12 +5,14 @@ use Rattle.std.proofs.lemmas.List.{length-set, get_or-set_same, get_or-set_other
 use Rattle.aig_base.specs.declared.ternary.Tern.{Tern}
 use Rattle.aig_sim.specs.InputRows.{row_at, with_cell}
 
-pub get_set_same : {X : Type 0} (row : List X) (v : ℕ) (w : X) → v < length row → slice_get (slice_set row v w) v ≡ Some w
+pub get_set_same : {X : Type 0} (row : List X) (v : ℕ) (w : X) → v < length row
+    → slice_get (slice_set row v w) v ≡ Some w
 get_set_same row v w lt =
     let within : v < length (set row v w) = rw length-set lt in
     slice_get-get_or (set row v w) v w within ∙ ap Some (get_or-set_same row v w w lt)
 
-pub get_set_other : {X : Type 0} (row : List X) (u v : ℕ) (w : X) → v ≢ u → slice_get (slice_set row u w) v ≡ slice_get row v
+pub get_set_other : {X : Type 0} (row : List X) (u v : ℕ) (w : X) → v ≢ u
+    → slice_get (slice_set row u w) v ≡ slice_get row v
 get_set_other [] u v w ne = refl
 get_set_other (x ∷ xs) zero zero w ne = absurd (ne refl)
 get_set_other (x ∷ xs) zero (suc v) w ne = refl

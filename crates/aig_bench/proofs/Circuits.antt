@@ -24,7 +24,8 @@ module _ (raw : Raw) where
   unfolding lits
   latch_stands i x at =
       left (raw.inputs ++ lits) _ _ (right raw.inputs lits _
-      (Contains-from_slice_get lits i x.lit (slice_get-map (λ x. x.lit) raw.latches i ∙ ap (option_map (λ x. x.lit)) at)))
+      (Contains-from_slice_get lits i x.lit (slice_get-map (λ x. x.lit) raw.latches i
+      ∙ ap (option_map (λ x. x.lit)) at)))
 
   pub gate_stands : (i : ℕ) (g : Gate) → slice_get raw.gates i ≡ Some g → Contains (definitions raw) g.lhs
   unfolding lits
@@ -61,7 +62,8 @@ module _ (raw : Raw) (sound : IsSound raw) where
           let same : g.lhs ≡ l = same_literal g.lhs l (gate_definition q g at) (input_definition p l here) e in
           let h = same_place raw sound (input p) (gate q) l here (g, at, same) in cc
       apart v (grounded.IsSource.latch p x here) g q at e =
-          let same : g.lhs ≡ x.lit = same_literal g.lhs x.lit (gate_definition q g at) (latch_definition p x here) e in
+          let same : g.lhs ≡ x.lit = same_literal g.lhs x.lit (gate_definition q g at)
+          (latch_definition p x here) e in
           let h = same_place raw sound (latch p) (gate q) x.lit (x, here, refl) (g, at, same) in cc
 
   definition_in_range : (l : ℕ) → Contains (definitions raw) l → variable l ≤ raw.max_var
@@ -91,7 +93,8 @@ module _ (raw : Raw) (sound : IsSound raw) where
   unfolding nexts
   next_used i x at =
       left _ _ _ (left _ _ _ (left _ _ _ (left _ _ _ (left _ _ _ (left nexts _ _
-      (Contains-from_slice_get nexts i x.next (slice_get-map (λ x. x.next) raw.latches i ∙ ap (option_map (λ x. x.next)) at)))))))
+      (Contains-from_slice_get nexts i x.next (slice_get-map (λ x. x.next) raw.latches i
+      ∙ ap (option_map (λ x. x.next)) at)))))))
 
   pub next_in_range : (i : ℕ) (x : Latch) → slice_get raw.latches i ≡ Some x → variable x.next ≤ raw.max_var
   next_in_range i x at = use_in_range x.next (next_used i x at)
@@ -121,7 +124,8 @@ module _ (raw : Raw) (sound : IsSound raw) where
       let e : h ≡ g = cc in left _ _ _ (subst (λ (h : Gate). Contains (sides h) l) (sym e) k)
   side_used (h ∷ gates) (suc i) g l at k = right (sides h) _ _ (side_used gates i g l at k)
 
-  gate_uses : (i : ℕ) (g : Gate) (l : ℕ) → slice_get raw.gates i ≡ Some g → Contains (sides g) l → Contains (uses raw) l
+  gate_uses : (i : ℕ) (g : Gate) (l : ℕ) → slice_get raw.gates i ≡ Some g → Contains (sides g) l
+      → Contains (uses raw) l
   unfolding sides nexts
   gate_uses i g l at k =
       right (nexts ++ raw.outputs ++ raw.bad ++ raw.constraints ++ flat_map (λ p. p) raw.justice ++ raw.fairness) _ _
@@ -150,7 +154,8 @@ module _ (raw : Raw) (sound : IsSound raw) where
 pub contains_variable : (xs : List ℕ) (l : ℕ) → Contains xs l → Contains (map variable xs) (variable l)
 contains_variable xs l k =
     let (i, at) = position_of xs l k in
-    Contains-from_slice_get (map variable xs) i (variable l) (slice_get-map variable xs i ∙ ap (option_map variable) at)
+    Contains-from_slice_get (map variable xs) i (variable l)
+    (slice_get-map variable xs i ∙ ap (option_map variable) at)
 
 module _ (raw : Raw) where
   definition_defined : (l : ℕ) → Contains (definitions raw) l → IsDefined raw (variable l)

@@ -34,18 +34,22 @@ module _ (raw : Raw) (sound : IsSound raw) where
 module _ (raw : Raw) where
   defines_stands : (v : ℕ) (d : Definition) → Defines raw v d → Contains (map variable (definitions raw)) v
   defines_stands v (definition.Input p) (l, at, is) =
-      subst (Contains (map variable (definitions raw))) is (contains_variable (definitions raw) l (input_stands raw p l at))
+      subst (Contains (map variable (definitions raw))) is
+      (contains_variable (definitions raw) l (input_stands raw p l at))
   defines_stands v (definition.Latch p) (x, at, is) =
-      subst (Contains (map variable (definitions raw))) is (contains_variable (definitions raw) x.lit (latch_stands raw p x at))
+      subst (Contains (map variable (definitions raw))) is
+      (contains_variable (definitions raw) x.lit (latch_stands raw p x at))
   defines_stands v (definition.Gate q) (g, at, is) =
-      subst (Contains (map variable (definitions raw))) is (contains_variable (definitions raw) g.lhs (gate_stands raw q g at))
+      subst (Contains (map variable (definitions raw))) is
+      (contains_variable (definitions raw) g.lhs (gate_stands raw q g at))
 
   -- a variable other than 0 is defined where there is a definition
   pub defined_by : (v : ℕ) (d : Option Definition) → v ≢ 0 → IfSome d (Defines raw v) → IfNone d (IsFree raw v)
       → IsTrue (is_some d) ↔ IsDefined raw v
   defined_by v None positive some free = (
     λ h. absurd (false≢true h),
-    λ k. elim (Contains-cons 0 (map variable (definitions raw)) v k) [ inl e ↦ absurd (positive e) | inr k ↦ absurd (free k) ],
+    λ k. elim (Contains-cons 0 (map variable (definitions raw)) v k)
+        [ inl e ↦ absurd (positive e) | inr k ↦ absurd (free k) ],
   )
   defined_by v (Some d) positive some free = (
     λ h. let (i, lt, is) = defines_stands v d some in (suc i, omega arith, is),

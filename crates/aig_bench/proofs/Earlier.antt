@@ -20,7 +20,8 @@ value_before raw start old new n same lt (value.latch_first p x w at is) = value
 value_before raw start old new n same lt (value.latch_next t p x w at v) =
     value.latch_next t p x w at (value_before raw start old new n same (omega arith) v)
 value_before raw start old new n same lt (value.gate t q g a b at va vb) =
-    value.gate t q g a b at (value_before raw start old new n same lt va) (value_before raw start old new n same lt vb)
+    value.gate t q g a b at (value_before raw start old new n same lt va)
+    (value_before raw start old new n same lt vb)
 value_before raw start old new n same lt (value.negated t l w over odd v) =
     value.negated t l w over odd (value_before raw start old new n same lt v)
 

@@ -86,7 +86,8 @@ rows_more raw n flags old new h size e = record {
     before : (t : ℕ) → t < n → row_at new t ≡ row_at old t
     before t lt =
         let within : t < length old = omega (arith, h.frames_are) in
-        ap (λ (c : List (List Tern)). row_at c t) e ∙ get_or_append_left old (fresh_row (length flags) ∷ []) [] t within
+        ap (λ (c : List (List Tern)). row_at c t) e ∙ get_or_append_left old (fresh_row (length flags) ∷ []) []
+        t within
 
 -- one more row has room where there is room for all
 pub room_for_row : (m n k bound : ℕ) → n < k → m * k ≤ bound → (n + 1) * m ≤ bound

@@ -42,20 +42,23 @@ module _ (p : Pair) (t : ℕ) where
   pub renews_write : (old new : List (List Tern)) (u : ℕ) (w : Tern) → new ≡ with_cell old t u w → t < length old
       → 0 < u → u < length (row_at old t) → HasValue p t (2 * u) w → Renews p t old new
   renews_write old new u w e lt positive wide v =
-      let row : row_at new t ≡ slice_set (row_at old t) u w = ap (λ (c : List (List Tern)). row_at c t) e ∙ row_written old t u w lt in
+      let row : row_at new t ≡ slice_set (row_at old t) u w = ap (λ (c : List (List Tern)). row_at c t) e
+      ∙ row_written old t u w lt in
       record {
         frames = ap length e ∙ frames_written old t u w;
         width = ap length row ∙ length-set (row_at old t) u w;
         constant =
             ap (λ (r : List Tern). slice_get r 0) row ∙ get_set_other (row_at old t) u 0 w (λ z. omega arith);
         others = λ s ne. ap (λ (c : List (List Tern)). row_at c s) e ∙ row_other old t u w s ne;
-        keeps = λ s h. subst (λ (r : List Tern). Holds p t r s) (sym row) (holds_still p t (row_at old t) u w wide v s h);
+        keeps = λ s h. subst (λ (r : List Tern). Holds p t r s) (sym row)
+            (holds_still p t (row_at old t) u w wide v s h);
       }
 
   pub holds_written : (old new : List (List Tern)) (u : ℕ) (w : Tern) → new ≡ with_cell old t u w → t < length old
       → u < length (row_at old t) → HasValue p t (2 * u) w → Holds p t (row_at new t) u
   holds_written old new u w e lt wide v =
-      let row : row_at new t ≡ slice_set (row_at old t) u w = ap (λ (c : List (List Tern)). row_at c t) e ∙ row_written old t u w lt in
+      let row : row_at new t ≡ slice_set (row_at old t) u w = ap (λ (c : List (List Tern)). row_at c t) e
+      ∙ row_written old t u w lt in
       subst (λ (r : List Tern). Holds p t r u) (sym row) (holds_new p t (row_at old t) u w wide v)
 
 -- a renewed grid is laid out as before
@@ -124,7 +127,8 @@ row_current p t row gates order sources all v d = elim (defined_cases p.circuit 
 ]
 
 -- the frame before stays current
-pub before_of_current : (p : Pair) (t : ℕ) (cells : List (List Tern)) → AreCurrent p t cells → IsCurrentBefore p t cells
+pub before_of_current : (p : Pair) (t : ℕ) (cells : List (List Tern)) → AreCurrent p t cells
+    → IsCurrentBefore p t cells
 before_of_current p t cells h u e = h.each u (omega arith)
 
 pub before_renewed : (p : Pair) (t : ℕ) (old new : List (List Tern)) → IsCurrentBefore p t old → Renews p t old new

@@ -69,8 +69,10 @@ evaluated plan t q x flags start old new p h lt r at sources below e =
     let (i, stands) = p.order.known q x at in
     let definition = gate_definition plan.circuit p.circuit.sound i x stands in
     let still : HoldsSources (pair_of plan) t (row_at old t) = λ v s. r.keeps v (sources v s) in
-    let side0 = ready_holds (pair_of plan) t (row_at old t) plan.gates.items q (variable x.rhs0) still below (p.order.ready0 q x at) in
-    let side1 = ready_holds (pair_of plan) t (row_at old t) plan.gates.items q (variable x.rhs1) still below (p.order.ready1 q x at) in
+    let side0 = ready_holds (pair_of plan) t (row_at old t) plan.gates.items q (variable x.rhs0) still below
+    (p.order.ready0 q x at) in
+    let side1 = ready_holds (pair_of plan) t (row_at old t) plan.gates.items q (variable x.rhs1) still below
+    (p.order.ready1 q x at) in
     written plan t (variable x.lhs) (gate_value (row_at old t) x) flags start old new h lt r e (omega arith)
     (gate_in_range plan.circuit p.circuit.sound i x stands)
     (gate_has_value (pair_of plan) t (row_at old t) i x p.circuit.sound stands side0 side1)

@@ -29,7 +29,8 @@ module _ (p : Pair) (t : ℕ) (row : List Tern) (sound : IsSound p.circuit) wher
 
   latch_values_text : (f : Latch → ℕ) (latches : List Latch)
       → ((i : ℕ) (x : Latch) → slice_get latches i ≡ Some x → Holds p t row (variable (f x)))
-      → AreValues p.circuit (start_of p.circuit) p.rows t (map f latches) (flat_map (λ (x : Latch). cell_text row (f x)) latches)
+      → AreValues p.circuit (start_of p.circuit) p.rows t (map f latches)
+      (flat_map (λ (x : Latch). cell_text row (f x)) latches)
   latch_values_text f [] h = tt
   latch_values_text f (x ∷ latches) h = (
     (literal_value row (f x), literal_has_value p t row (f x) sound (h 0 x refl), refl),
@@ -44,11 +45,13 @@ module _ (p : Pair) (t : ℕ) (row : List Tern) (sound : IsSound p.circuit) wher
     outputs = flat_map (cell_text row) p.circuit.outputs;
     next = flat_map (λ x. cell_text row x.next) p.circuit.latches;
     state_is =
-        latch_values_text (λ x. x.lit) p.circuit.latches (λ i x at. now (variable x.lit) (latch_defined p.circuit i x at));
+        latch_values_text (λ x. x.lit) p.circuit.latches
+        (λ i x at. now (variable x.lit) (latch_defined p.circuit i x at));
     inputs_are = values_text p.circuit.inputs (λ i l at. now (variable l) (input_defined p.circuit i l at));
     outputs_are = values_text p.circuit.outputs (λ i l at. now (variable l) (output_defined p.circuit sound i l at));
     next_is =
-        latch_values_text (λ x. x.next) p.circuit.latches (λ i x at. now (variable x.next) (next_defined p.circuit sound i x at));
+        latch_values_text (λ x. x.next) p.circuit.latches
+        (λ i x at. now (variable x.next) (next_defined p.circuit sound i x at));
     line_is = refl;
   }
 
@@ -58,9 +61,11 @@ lines_more : {X : Type 0} (f : X → List ℕ) (xs : List X) (n : ℕ) (d : X) �
 lines_more f xs n d lt =
     let e : suc n ≡ n + 1 = omega arith in
     ap (λ k. flat_map f (take k xs)) e ∙ ap (flat_map f) (take_more xs n d lt)
-    ∙ flat_map-append f (take n xs) (get_or xs n d ∷ []) ∙ ap (λ (ys : List ℕ). flat_map f (take n xs) ++ ys) (append-nil (f (get_or xs n d)))
+    ∙ flat_map-append f (take n xs) (get_or xs n d ∷ []) ∙ ap (λ (ys : List ℕ). flat_map f (take n xs) ++ ys)
+    (append-nil (f (get_or xs n d)))
 
-lines_are : (p : Pair) (cells : List (List Tern)) → IsSound p.circuit → (n : ℕ) → n ≤ length cells → AreCurrent p n cells
+lines_are : (p : Pair) (cells : List (List Tern)) → IsSound p.circuit → (n : ℕ) → n ≤ length cells
+    → AreCurrent p n cells
     → AreLines p.circuit (start_of p.circuit) p.rows n (flat_map (line_text p.circuit) (take n cells))
 lines_are p cells sound zero le h = refl
 lines_are p cells sound (suc n) le h = (
@@ -75,12 +80,14 @@ pub trace_is : (p : Pair) (cells : List (List Tern)) → IsSound p.circuit → l
     → AreCurrent p (length p.rows) cells → HasTrace p (flat_map (line_text p.circuit) cells)
 trace_is p cells sound e h =
     let whole : take (length p.rows) cells ≡ cells = take_all (length p.rows) cells (omega arith) in
-    subst (λ (xs : List (List Tern)). AreLines p.circuit (start_of p.circuit) p.rows (length p.rows) (flat_map (line_text p.circuit) xs))
+    subst (λ (xs : List (List Tern)). AreLines p.circuit (start_of p.circuit) p.rows (length p.rows)
+    (flat_map (line_text p.circuit) xs))
     whole (lines_are p cells sound (length p.rows) (omega arith) h)
 
 -- the variables of what a line has are among the flags
 module _ (raw : Raw) (sound : IsSound raw) (n : ℕ) (size : n ≡ raw.max_var + 1) where
-  within : {X : Type 0} (f : X → ℕ) (xs : List X) → ((i : ℕ) (x : X) → slice_get xs i ≡ Some x → variable (f x) ≤ raw.max_var)
+  within : {X : Type 0} (f : X → ℕ) (xs : List X) →
+      ((i : ℕ) (x : X) → slice_get xs i ≡ Some x → variable (f x) ≤ raw.max_var)
       → All (λ x. variable (f x) < n) xs
   within f xs h k d lt = let le = h k (get_or xs k d) (slice_get-get_or xs k d lt) in omega arith
 

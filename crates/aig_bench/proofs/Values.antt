@@ -24,14 +24,16 @@ use Rattle.aig_bench.proofs.Cells.{get_set_same, get_set_other}
 use Rattle.aig_bench.proofs.Circuits.{input_definition, latch_definition, gate_definition, next_defined}
 
 -- the value of a definition's literal is that of its variable's even literal
-value_of_variable : (p : Pair) (t l : ℕ) (w : Tern) → IsDefinition l → HasValue p t l w → HasValue p t (2 * variable l) w
+value_of_variable : (p : Pair) (t l : ℕ) (w : Tern) → IsDefinition l → HasValue p t l w
+    → HasValue p t (2 * variable l) w
 value_of_variable p t l w d v = let e : 2 * variable l ≡ l = even l d in rw e v
 
 even_or_odd : (l : ℕ) → (l % 2 ≡ 0) ⊎ (l % 2 ≡ 1)
 even_or_odd l = grind arith
 
 module _ (p : Pair) (t : ℕ) where
-  pub input_value : (i l : ℕ) (w : Tern) → IsSound p.circuit → t < length p.rows → slice_get p.circuit.inputs i ≡ Some l
+  pub input_value : (i l : ℕ) (w : Tern) → IsSound p.circuit → t < length p.rows
+      → slice_get p.circuit.inputs i ≡ Some l
       → slice_get (row_at p.rows t) i ≡ Some w → HasValue p t (2 * variable l) w
   input_value i l w sound lt at is =
       value_of_variable p t l w (input_definition p.circuit sound i l at)

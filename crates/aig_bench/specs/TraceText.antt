@@ -13,4 +13,5 @@ cell_text row l = character (literal_value row l) ∷ []
 unfoldable pub line_text : Raw → List Tern → List ℕ
 line_text raw row =
     flat_map (λ x. cell_text row x.lit) raw.latches ++ (32 ∷ (flat_map (cell_text row) raw.inputs
-    ++ (32 ∷ (flat_map (cell_text row) raw.outputs ++ (32 ∷ (flat_map (λ x. cell_text row x.next) raw.latches ++ 10 ∷ []))))))
+    ++ (32 ∷ (flat_map (cell_text row) raw.outputs
+    ++ (32 ∷ (flat_map (λ x. cell_text row x.next) raw.latches ++ 10 ∷ []))))))

@@ -21,7 +21,7 @@ use std::alloc::Global;
 use std::marker::Model;
 
 /// The greatest number of cells of a bench: variables times frames.
-pub const CELLS: u64 = 67_108_864;
+const CELLS: u64 = 67_108_864;
 
 /// A circuit and a stimulus whose values are at hand, also after edits. Contracts see the pair.
 #[derive(Drop)]
@@ -46,8 +46,8 @@ impl<G: Grid> Model for Bench<G> {
 /// The first fault of the sizes: the stimulus's width, then the number of cells.
 fn check_sizes(circuit: &Circuit, stimulus: &Stimulus) -> Result<(), BenchFault>
     ensures width { IsErrOf result BenchFault.Width ↔ (stimulus.now.width ≢ length circuit.now.inputs) }
-    ensures limit { IsErrOf result BenchFault.Limit
-        ↔ (stimulus.now.width ≡ length circuit.now.inputs) × (67108864 < (circuit.now.max_var + 1) * length stimulus.now.rows) }
+    ensures limit { IsErrOf result BenchFault.Limit ↔ (stimulus.now.width ≡ length circuit.now.inputs)
+        × (67108864 < (circuit.now.max_var + 1) * length stimulus.now.rows) }
     ensures memory { IsErrOf result BenchFault.Memory → ⊥ }
 {
     if stimulus.width() as usize != circuit.inputs().len() {
@@ -101,8 +101,8 @@ impl<G: Grid> Bench<G> {
     /// (profile). It takes memory for the cells.
     pub fn new(alloc: Global, circuit: Circuit, stimulus: Stimulus) -> Result<Bench<G>, BenchFault>
         ensures width { IsErrOf result BenchFault.Width ↔ (stimulus.width ≢ length circuit.inputs) }
-        ensures limit { IsErrOf result BenchFault.Limit
-            ↔ (stimulus.width ≡ length circuit.inputs) × (67108864 < (circuit.max_var + 1) * length stimulus.rows) }
+        ensures limit { IsErrOf result BenchFault.Limit ↔ (stimulus.width ≡ length circuit.inputs)
+            × (67108864 < (circuit.max_var + 1) * length stimulus.rows) }
         ensures made { IfOk result (λ bench. bench ≡ record { circuit = circuit; rows = stimulus.rows }) }
     {
         check_sizes(&circuit, &stimulus)?;
@@ -123,7 +123,7 @@ impl<G: Grid> Bench<G> {
         self.plan.stimulus.frames()
     }
 
-    /// The value of a literal at a frame, both counted from 0, in constant time. Refused are a literal over `2M + 1`, a
+    /// The value of a literal at a frame, counted from 0, in constant time. Refused are a literal over `2M + 1`, a
     /// variable that is neither 0 nor defined, and a frame that is not there, in this order (profile).
     pub fn value(&self, frame: u32, literal: Lit) -> Result<Tern, EditFault>
         ensures { AnswersValue self.now frame literal result }

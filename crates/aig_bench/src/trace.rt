@@ -34,7 +34,8 @@ fn write_literals<G: Grid, W: Write>(
 ) -> Result<(), Io>
     requires frame { frame < length (G.cells grid.now) }
     requires variables { All (λ l. variable l < length (G.gate_flags grid.now)) literals.now }
-    ensures { Writes W.written W.failures out.old out.new (flat_map (cell_text (row_at (G.cells grid.now) frame)) literals.now) result }
+    ensures { Writes W.written W.failures out.old out.new
+        (flat_map (cell_text (row_at (G.cells grid.now) frame)) literals.now) result }
 {
     for literal in literals {
         write_character(out, literal_at(grid, frame, *literal))?;
@@ -51,7 +52,8 @@ fn write_states<G: Grid, W: Write>(
 ) -> Result<(), Io>
     requires frame { frame < length (G.cells grid.now) }
     requires variables { All (λ x. variable x.lit < length (G.gate_flags grid.now)) latches.now }
-    ensures { Writes W.written W.failures out.old out.new (flat_map (λ x. cell_text (row_at (G.cells grid.now) frame) x.lit) latches.now) result }
+    ensures { Writes W.written W.failures out.old out.new
+        (flat_map (λ x. cell_text (row_at (G.cells grid.now) frame) x.lit) latches.now) result }
 {
     for latch in latches {
         write_character(out, literal_at(grid, frame, latch.lit))?;
@@ -68,7 +70,8 @@ fn write_next_states<G: Grid, W: Write>(
 ) -> Result<(), Io>
     requires frame { frame < length (G.cells grid.now) }
     requires variables { All (λ x. variable x.next < length (G.gate_flags grid.now)) latches.now }
-    ensures { Writes W.written W.failures out.old out.new (flat_map (λ x. cell_text (row_at (G.cells grid.now) frame) x.next) latches.now) result }
+    ensures { Writes W.written W.failures out.old out.new
+        (flat_map (λ x. cell_text (row_at (G.cells grid.now) frame) x.next) latches.now) result }
 {
     for latch in latches {
         write_character(out, literal_at(grid, frame, latch.next))?;
@@ -80,7 +83,8 @@ fn write_next_states<G: Grid, W: Write>(
 fn write_line<G: Grid, W: Write>(out: &mut W, grid: &G, plan: &Plan, frame: u32) -> Result<(), Io>
     requires bench { IsBench plan.now (G.gate_flags grid.now) (G.cells grid.now) }
     requires frame { frame < length (G.cells grid.now) }
-    ensures { Writes W.written W.failures out.old out.new (line_text plan.now.circuit (row_at (G.cells grid.now) frame)) result }
+    ensures { Writes W.written W.failures out.old out.new
+        (line_text plan.now.circuit (row_at (G.cells grid.now) frame)) result }
 {
     write_states(out, grid, frame, plan.circuit.latches())?;
     write_all(out, b" ")?;
@@ -95,7 +99,8 @@ fn write_line<G: Grid, W: Write>(out: &mut W, grid: &G, plan: &Plan, frame: u32)
 /// Writes the line of each frame.
 fn write_lines<G: Grid, W: Write>(out: &mut W, grid: &G, plan: &Plan) -> Result<(), Io>
     requires { IsBench plan.now (G.gate_flags grid.now) (G.cells grid.now) }
-    ensures { Writes W.written W.failures out.old out.new (flat_map (line_text plan.now.circuit) (G.cells grid.now)) result }
+    ensures { Writes W.written W.failures out.old out.new
+        (flat_map (line_text plan.now.circuit) (G.cells grid.now)) result }
 {
     for frame in 0..plan.stimulus.frames() {
         write_line(out, grid, plan, frame)?;
@@ -106,7 +111,8 @@ fn write_lines<G: Grid, W: Write>(out: &mut W, grid: &G, plan: &Plan) -> Result<
 /// Writes the trace of all frames.
 pub fn write_frames<G: Grid, W: Write>(out: &mut W, grid: &G, plan: &Plan) -> Result<(), Io>
     requires { IsBench plan.now (G.gate_flags grid.now) (G.cells grid.now) }
-    ensures { (text : List ℕ) × HasTrace (pair_of plan.now) text × Writes W.written W.failures out.old out.new text result }
+    ensures { (text : List ℕ) × HasTrace (pair_of plan.now) text
+        × Writes W.written W.failures out.old out.new text result }
 {
     write_lines(out, grid, plan)
 }

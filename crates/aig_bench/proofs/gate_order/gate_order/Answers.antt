@@ -11,5 +11,6 @@ gates_of-requires c =
 pub returns : goal.returns
 returns c =
     if_ok_both c.gates_of.result c.gates_of.ensures.known c.gates_of.ensures.variables
-    (λ gates known variables. order_of_canonical c.args.circuit.now gates.items c.max_var-max_var.ensures.circuit known
+    (λ gates known variables. order_of_canonical c.args.circuit.now gates.items
+    c.max_var-max_var.ensures.circuit known
     (subst (IsCanonicalOrder c.args.circuit.now) (sym (variables ∙ c.as_slice.ensures.value)) c.in_ok-order.ensures))

@@ -9,8 +9,10 @@ loop-variable-preserved c =
     let (q, at, is) = c.in-Some.ensures.some in
     rw c.in_ok-push.ensures.items
     (record {
-      known = All-push (λ (g : Gate). (q : ℕ) × (slice_get c.args.circuit.now.gates q ≡ Some g)) c.loop-variable.gates.items c.in-Some.gate
+      known = All-push (λ (g : Gate). (q : ℕ) × (slice_get c.args.circuit.now.gates q ≡ Some g))
+          c.loop-variable.gates.items c.in-Some.gate
           c.loop-variable.invariant.known (q, at);
-      variables = variables_more c.loop-variable.gates.items c.in-Some.gate c.args.variables.now c.loop-variable.variable-index
+      variables = variables_more c.loop-variable.gates.items c.in-Some.gate c.args.variables.now
+          c.loop-variable.variable-index
           c.loop-variable.invariant.variables c.loop-variable-test.true is;
     })

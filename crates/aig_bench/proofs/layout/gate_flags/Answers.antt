@@ -5,5 +5,7 @@ use Rattle.aig_bench.proofs.layout.gate_flags.Goals as goal
 pub loop-variable-preserved : goal.loop-variable-preserved
 loop-variable-preserved c =
     rw c.in_ok-push.ensures.items
-    (flags_more c.args.circuit.now c.loop-variable.variable c.loop-variable.flags.items c.is_some.result c.loop-variable.invariant
-    (rw c.is_some.ensures (decides_gate c.args.circuit.now c.loop-variable.variable c.gate_of.result c.gate_of.ensures.some c.gate_of.ensures.none)))
+    (flags_more c.args.circuit.now c.loop-variable.variable c.loop-variable.flags.items c.is_some.result
+    c.loop-variable.invariant
+    (rw c.is_some.ensures (decides_gate c.args.circuit.now c.loop-variable.variable c.gate_of.result
+    c.gate_of.ensures.some c.gate_of.ensures.none)))

@@ -54,7 +54,8 @@ loop-gate-preserved g c =
     let x = c.gate-item.result in
     let at : slice_get plan.gates.items c.loop-gate.gate-index ≡ Some x =
     item_at _ _ c.loop-gate.gate-index x c.as_slice-gate-items.ensures.value c.loop-gate-test.true c.gate-item.is in
-    let step : Written plan c.args.frame (variable x.lhs) (g.G.Grid.cells c.args.grid.now) (g.G.Grid.cells c.loop-gate.grid) (g.G.Grid.cells c.evaluate.new.self) =
+    let step : Written plan c.args.frame (variable x.lhs) (g.G.Grid.cells c.args.grid.now)
+    (g.G.Grid.cells c.loop-gate.grid) (g.G.Grid.cells c.evaluate.new.self) =
     evaluated plan c.args.frame c.loop-gate.gate-index x (g.G.Grid.gate_flags c.args.grid.now)
     (g.G.Grid.cells c.args.grid.now) (g.G.Grid.cells c.loop-gate.grid) (g.G.Grid.cells c.evaluate.new.self)
     c.requires.plan c.requires.grid c.requires.frame c.loop-gate.invariant.renews at c.requires.sources
@@ -62,7 +63,8 @@ loop-gate-preserved g c =
     record {
       renews = step.renews;
       flags = c.evaluate.ensures.gates ∙ c.loop-gate.invariant.flags;
-      gates = items_more (λ k. Holds (pair_of plan) c.args.frame (row_at (g.G.Grid.cells c.evaluate.new.self) c.args.frame) (variable k.lhs))
+      gates = items_more (λ k. Holds (pair_of plan) c.args.frame
+          (row_at (g.G.Grid.cells c.evaluate.new.self) c.args.frame) (variable k.lhs))
           plan.gates.items c.loop-gate.gate-index x at
           (λ i k lt is. step.step.keeps (variable k.lhs) (c.loop-gate.invariant.gates i k lt is)) step.holds;
     }
@@ -70,8 +72,11 @@ loop-gate-preserved g c =
 pub returns-clause-current : goal.returns-clause-current
 returns-clause-current g c =
     let plan = c.args.plan.now in
-    row_current (pair_of plan) c.args.frame (row_at (g.G.Grid.cells c.loop-gate.grid) c.args.frame) plan.gates.items c.requires.plan.order
+    row_current (pair_of plan) c.args.frame (row_at (g.G.Grid.cells c.loop-gate.grid) c.args.frame)
+    plan.gates.items c.requires.plan.order
     (λ v s. c.loop-gate.invariant.renews.keeps v (c.requires.sources v s))
-    (items_all (λ k. Holds (pair_of plan) c.args.frame (row_at (g.G.Grid.cells c.loop-gate.grid) c.args.frame) (variable k.lhs))
-    plan.gates.items c.loop-gate.gate-index (rw (← c.as_slice-gate-items.ensures.value) (omega (arith, c.loop-gate-test.false)))
+    (items_all (λ k. Holds (pair_of plan) c.args.frame (row_at (g.G.Grid.cells c.loop-gate.grid) c.args.frame)
+    (variable k.lhs))
+    plan.gates.items c.loop-gate.gate-index (rw (← c.as_slice-gate-items.ensures.value)
+    (omega (arith, c.loop-gate-test.false)))
     c.loop-gate.invariant.gates)

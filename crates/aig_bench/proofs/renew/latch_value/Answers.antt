@@ -7,7 +7,11 @@ use Rattle.aig_bench.proofs.renew.latch_value.Goals as goal
 pub literal_at-requires-clause-variable : goal.literal_at-requires-clause-variable
 literal_at-requires-clause-variable g c =
     let (i, at) = c.requires.latch in
-    omega (arith, next_in_range c.args.plan.now.circuit c.requires.plan.circuit.sound i c.args.latch at, c.requires.grid.flags_are.size)
+    omega (
+      arith,
+      next_in_range c.args.plan.now.circuit c.requires.plan.circuit.sound i c.args.latch at,
+      c.requires.grid.flags_are.size,
+    )
 
 pub returns-then-frame-eq0 : goal.returns-then-frame-eq0
 returns-then-frame-eq0 g c =
@@ -19,5 +23,6 @@ returns-else-frame-eq0 g c =
     let (i, at) = c.requires.latch in
     let e : c.args.frame ≡ suc (c.args.frame - 1) = omega (arith, c.if-frame-eq0.false) in
     rw c.literal_at.ensures
-    (latch_follows (pair_of c.args.plan.now) c.args.frame (c.args.frame - 1) i c.args.latch _ c.requires.plan.circuit.sound e at
+    (latch_follows (pair_of c.args.plan.now) c.args.frame (c.args.frame - 1) i c.args.latch _
+    c.requires.plan.circuit.sound e at
     (c.requires.before (c.args.frame - 1) e))

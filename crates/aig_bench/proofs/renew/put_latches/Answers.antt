@@ -13,7 +13,8 @@ use Rattle.aig_bench.proofs.renew.put_latches.Goals as goal
 
 pub latch_value-value-requires-clause-grid : goal.latch_value-value-requires-clause-grid
 latch_value-value-requires-clause-grid g c =
-    laid_out_renewed c.args.plan.now c.args.frame _ _ _ _ c.requires.grid c.loop-latch.invariant.renews c.loop-latch.invariant.flags
+    laid_out_renewed c.args.plan.now c.args.frame _ _ _ _ c.requires.grid c.loop-latch.invariant.renews
+    c.loop-latch.invariant.flags
 
 pub latch_value-value-requires-clause-before : goal.latch_value-value-requires-clause-before
 latch_value-value-requires-clause-before g c =
@@ -22,7 +23,8 @@ latch_value-value-requires-clause-before g c =
 pub latch_value-value-requires-clause-latch : goal.latch_value-value-requires-clause-latch
 latch_value-value-requires-clause-latch g c = (
   c.loop-latch.latch-index,
-  item_at _ _ c.loop-latch.latch-index c.latch-item.result c.latches-latch-items.ensures c.loop-latch-test.true c.latch-item.is,
+  item_at _ _ c.loop-latch.latch-index c.latch-item.result c.latches-latch-items.ensures c.loop-latch-test.true
+      c.latch-item.is,
 )
 
 pub put_source-requires-clause-positive : goal.put_source-requires-clause-positive
@@ -31,7 +33,8 @@ put_source-requires-clause-positive g c =
     let x = c.latch-item.result in
     let at : slice_get plan.circuit.latches c.loop-latch.latch-index ≡ Some x =
     item_at _ _ c.loop-latch.latch-index x c.latches-latch-items.ensures c.loop-latch-test.true c.latch-item.is in
-    let definition : IsDefinition x.lit = latch_definition plan.circuit c.requires.plan.circuit.sound c.loop-latch.latch-index x at in
+    let definition : IsDefinition x.lit = latch_definition plan.circuit c.requires.plan.circuit.sound
+    c.loop-latch.latch-index x at in
     rw c.var.ensures (omega arith)
 
 pub put_source-requires-clause-source : goal.put_source-requires-clause-source
@@ -53,22 +56,27 @@ loop-latch-preserved g c =
     let at : slice_get plan.circuit.latches c.loop-latch.latch-index ≡ Some x =
     item_at _ _ c.loop-latch.latch-index x c.latches-latch-items.ensures c.loop-latch-test.true c.latch-item.is in
     let definition : IsDefinition x.lit = latch_definition plan.circuit sound c.loop-latch.latch-index x at in
-    let step : Written plan c.args.frame (variable x.lit) (g.G.Grid.cells c.args.grid.now) (g.G.Grid.cells c.loop-latch.grid) (g.G.Grid.cells c.put_source.new.self) =
+    let step : Written plan c.args.frame (variable x.lit) (g.G.Grid.cells c.args.grid.now)
+    (g.G.Grid.cells c.loop-latch.grid) (g.G.Grid.cells c.put_source.new.self) =
     written plan c.args.frame (variable x.lit) c.latch_value-value.result (g.G.Grid.gate_flags c.args.grid.now)
     (g.G.Grid.cells c.args.grid.now) (g.G.Grid.cells c.loop-latch.grid) (g.G.Grid.cells c.put_source.new.self)
     c.requires.grid c.requires.frame c.loop-latch.invariant.renews (rw (← c.var.ensures) c.put_source.ensures.cells)
     (omega arith) (latch_in_range plan.circuit sound c.loop-latch.latch-index x at)
-    (latch_value (pair_of plan) c.args.frame c.loop-latch.latch-index x c.latch_value-value.result sound at c.latch_value-value.ensures) in
+    (latch_value (pair_of plan) c.args.frame c.loop-latch.latch-index x c.latch_value-value.result sound at
+    c.latch_value-value.ensures) in
     record {
       renews = step.renews;
       flags = c.put_source.ensures.gates ∙ c.loop-latch.invariant.flags;
-      latches = items_more (λ k. Holds (pair_of plan) c.args.frame (row_at (g.G.Grid.cells c.put_source.new.self) c.args.frame) (variable k.lit))
+      latches = items_more (λ k. Holds (pair_of plan) c.args.frame
+          (row_at (g.G.Grid.cells c.put_source.new.self) c.args.frame) (variable k.lit))
           plan.circuit.latches c.loop-latch.latch-index x at
           (λ i k lt is. step.step.keeps (variable k.lit) (c.loop-latch.invariant.latches i k lt is)) step.holds;
     }
 
 pub returns-clause-latches : goal.returns-clause-latches
 returns-clause-latches g c =
-    items_all (λ k. Holds (pair_of c.args.plan.now) c.args.frame (row_at (g.G.Grid.cells c.loop-latch.grid) c.args.frame) (variable k.lit))
-    c.args.plan.now.circuit.latches c.loop-latch.latch-index (rw (← c.latches-latch-items.ensures) (omega (arith, c.loop-latch-test.false)))
+    items_all (λ k. Holds (pair_of c.args.plan.now) c.args.frame
+    (row_at (g.G.Grid.cells c.loop-latch.grid) c.args.frame) (variable k.lit))
+    c.args.plan.now.circuit.latches c.loop-latch.latch-index
+    (rw (← c.latches-latch-items.ensures) (omega (arith, c.loop-latch-test.false)))
     c.loop-latch.invariant.latches

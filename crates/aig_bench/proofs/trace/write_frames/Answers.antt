@@ -9,6 +9,7 @@ returns g c =
     let plan = c.args.plan.now in
     let cells = g.G.Grid.cells c.args.grid.now in (
       flat_map (line_text plan.circuit) cells,
-      trace_is (pair_of plan) cells c.requires.plan_is.circuit.sound c.requires.laid_out.rows_are.frames_are c.requires.current,
+      trace_is (pair_of plan) cells c.requires.plan_is.circuit.sound c.requires.laid_out.rows_are.frames_are
+          c.requires.current,
       c.write_lines.ensures,
     )

@@ -9,6 +9,8 @@ use Rattle.aig_bench.proofs.trace.write_next_states.Goals as goal
 pub returns-in_err-write_character : goal.returns-in_err-write_character
 returns-in_err-write_character g c =
     let text = λ (x : Latch). cell_text (row_at (g.G.Grid.cells c.args.grid.now) c.args.frame) x.next in
-    writes_stop_at text c.args.latches.now c.loop-latch.latch-index c.latch-item.result c.loop-latch.invariant c.loop-latch-test.true
-    (writes_same c.in_err-write_character.ensures (ap (λ w. character w ∷ []) c.literal_at.ensures ∙ ap text c.latch-item.is))
+    writes_stop_at text c.args.latches.now c.loop-latch.latch-index c.latch-item.result c.loop-latch.invariant
+    c.loop-latch-test.true
+    (writes_same c.in_err-write_character.ensures
+    (ap (λ w. character w ∷ []) c.literal_at.ensures ∙ ap text c.latch-item.is))
     c.from_residual.ensures.0

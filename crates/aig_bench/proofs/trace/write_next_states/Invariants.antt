@@ -8,4 +8,5 @@ use Rattle.aig_bench.proofs.trace.write_next_states.Given as goal
 abbrev pub invariant-loop-latch : goal.invariant-loop-latch
 invariant-loop-latch g l =
     Writes {T = Unit {0}} {E = Unit {0}} g.W.Write.written g.W.Write.failures l.initial.out l.out
-    (flat_map (λ (x : Latch). cell_text (row_at (g.G.Grid.cells l.grid) l.frame) x.next) (take l.latch-index l.latches)) (Ok tt)
+    (flat_map (λ (x : Latch). cell_text (row_at (g.G.Grid.cells l.grid) l.frame) x.next)
+    (take l.latch-index l.latches)) (Ok tt)

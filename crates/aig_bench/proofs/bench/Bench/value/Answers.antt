@@ -16,7 +16,8 @@ returns-then-frame-frames g c =
     let defined : IsDefined plan.circuit (variable c.args.literal) =
     subst (IsDefined plan.circuit) c.var-variable.ensures (c.if-not-is_defined.ensures.0 refl) in
     rw (← c.self.view_is)
-    (value_no_frame (pair_of plan) c.args.frame c.args.literal range defined (omega (arith, c.frames.ensures.frames, c.if-frame-frames.true)))
+    (value_no_frame (pair_of plan) c.args.frame c.args.literal range defined
+    (omega (arith, c.frames.ensures.frames, c.if-frame-frames.true)))
 
 pub returns : goal.returns
 returns g c =
@@ -25,9 +26,12 @@ returns g c =
     omega (arith, c.if-variable-max_var.false, c.max_var.ensures.value, c.var-variable.ensures) in
     let defined : IsDefined plan.circuit (variable c.args.literal) =
     subst (IsDefined plan.circuit) c.var-variable.ensures (c.if-not-is_defined.ensures.0 refl) in
-    let there : c.args.frame < length plan.stimulus.rows = omega (arith, c.frames.ensures.frames, c.if-frame-frames.false) in
+    let there : c.args.frame < length plan.stimulus.rows = omega
+    (arith, c.frames.ensures.frames, c.if-frame-frames.false) in
     rw (← c.self.view_is, c.literal_at.ensures) (
       value_allowed (pair_of plan) c.args.frame c.args.literal range defined there,
-      literal_has_value (pair_of plan) c.args.frame (row_at (g.G.Grid.cells c.self.inside.grid) c.args.frame) c.args.literal
-          c.self.invariant.plan_is.circuit.sound (c.self.invariant.current.each c.args.frame there (variable c.args.literal) defined),
+      literal_has_value (pair_of plan) c.args.frame (row_at (g.G.Grid.cells c.self.inside.grid) c.args.frame)
+          c.args.literal
+          c.self.invariant.plan_is.circuit.sound
+          (c.self.invariant.current.each c.args.frame there (variable c.args.literal) defined),
     )
