@@ -1,9 +1,10 @@
 pub mod Delta
+pub mod Gathered
 pub mod Header
+pub mod Meaning
+pub mod Reading
+pub mod ReadingFile
+pub mod ReadingNames
+pub mod ReadingSections
 pub mod Spelling
 pub mod Spells
-pub mod Reading
-pub mod ReadingSections
-pub mod ReadingNames
-pub mod ReadingFile
-pub mod Meaning

@@ -2,17 +2,25 @@
 #![tactic(auto)]
 
 mod ascii;
+mod ascii_writer;
 mod binary;
+mod binary_writer;
 mod delta;
+mod delta_writer;
+mod gather;
 mod header;
+mod header_writer;
 mod laws;
 mod line;
 mod reader;
 mod section;
+mod section_writer;
 mod source;
 mod symbol;
 mod token;
 
+pub use ascii_writer::write_ascii;
+pub use binary_writer::write_binary;
 pub use header::{Counts, Format};
 pub use laws::{law_of_deltas, law_of_one_reading, law_of_round_trip};
 pub use reader::read;

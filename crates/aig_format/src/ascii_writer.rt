@@ -1,0 +1,70 @@
+//! Writing ASCII files.
+ghost use Rattle.std.specs.Prelude.{◌≡◌, [], false, IfErr};
+ghost use Rattle.std.specs.List.{flat_map};
+ghost use Rattle.aig_base.specs.Bytes.{Writes};
+ghost use Rattle.aig_format.specs.Gathered.{Gathers};
+ghost use Rattle.aig_format.specs.Spelling.{latch_line, gate_line, lines, short_ascii};
+
+use crate::gather::{put_field, put_number};
+use crate::header::Format;
+use crate::header_writer::{counts_of, put_header};
+use crate::section_writer::{put_literals, put_names, put_properties, put_reset};
+use aig_base::{Block, Circuit, Fault, Gate, Io, Latch, Write, write_all};
+
+fn put_latch<W: Write>(out: &mut W, block: &mut Block, latch: Latch) -> Result<(), Io>
+    ensures { Gathers W.written W.failures out.old out.new block.old block.new (latch_line false latch) result }
+{
+    put_field(out, block, latch.lit.value(), b' ')?;
+    put_number(out, block, latch.next.value())?;
+    put_reset(out, block, latch.reset)
+}
+
+fn put_latches<W: Write>(out: &mut W, block: &mut Block, latches: &[Latch]) -> Result<(), Io>
+    ensures { Gathers W.written W.failures out.old out.new block.old block.new (flat_map (latch_line false) latches.now) result }
+{
+    for latch in latches {
+        put_latch(out, block, *latch)?;
+    }
+    Ok(())
+}
+
+fn put_gate<W: Write>(out: &mut W, block: &mut Block, gate: Gate) -> Result<(), Io>
+    ensures { Gathers W.written W.failures out.old out.new block.old block.new (gate_line gate) result }
+{
+    put_field(out, block, gate.lhs.value(), b' ')?;
+    put_field(out, block, gate.rhs0.value(), b' ')?;
+    put_field(out, block, gate.rhs1.value(), b'\n')
+}
+
+fn put_gates<W: Write>(out: &mut W, block: &mut Block, gates: &[Gate]) -> Result<(), Io>
+    ensures { Gathers W.written W.failures out.old out.new block.old block.new (flat_map gate_line gates.now) result }
+{
+    for gate in gates {
+        put_gate(out, block, *gate)?;
+    }
+    Ok(())
+}
+
+#[tactic(auto, unfolding(crate::specs::Spelling::ascii))]
+fn put_ascii<W: Write>(out: &mut W, block: &mut Block, circuit: &Circuit) -> Result<(), Io>
+    ensures { Gathers W.written W.failures out.old out.new block.old block.new (short_ascii circuit.now) result }
+{
+    put_header(out, block, Format::Ascii, &counts_of(circuit))?;
+    put_literals(out, block, circuit.inputs())?;
+    put_latches(out, block, circuit.latches())?;
+    put_properties(out, block, circuit)?;
+    put_gates(out, block, circuit.gates())?;
+    put_names(out, block, circuit)
+}
+
+/// Writes a circuit as an ASCII file: as it stands, without trailing zero counts and resets of 0 (AIGER 1.0, ASCII
+/// format; AIGER 1.9). Where a write fails it has written a beginning. It takes no memory.
+pub fn write_ascii<W: Write>(circuit: &Circuit, out: &mut W) -> Result<(), Fault>
+    ensures written { Writes W.written W.failures out.old out.new (short_ascii circuit.now) result }
+    ensures io { IfErr result (λ fault. fault ≡ Fault.Io) }
+{
+    let mut block = Block::new();
+    put_ascii(out, &mut block, circuit)?;
+    write_all(out, block.as_slice())?;
+    Ok(())
+}

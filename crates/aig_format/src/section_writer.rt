@@ -1,0 +1,138 @@
+//! Writing the sections that both formats have.
+ghost use Rattle.std.specs.Prelude.{◌≡◌, ◌<◌, ◌^◌, false, length, All, option_copied};
+ghost use Rattle.std.specs.List.{flat_map};
+ghost use Rattle.aig_base.specs.Formed.{IsFormed};
+ghost use Rattle.aig_format.specs.Gathered.{Gathers};
+ghost use Rattle.aig_format.specs.Spelling.{literal_line, reset_text, size_line, properties_of, property_lines, letter, symbol_line, comment_text, names_text};
+
+use crate::gather::{put, put_field};
+use aig_base::{Block, Bytes, Circuit, Io, Kind, List, Lit, Symbols, Write};
+
+/// A line for each literal.
+pub(crate) fn put_literals<W: Write>(
+    out: &mut W,
+    block: &mut Block,
+    literals: &[Lit],
+) -> Result<(), Io>
+    ensures { Gathers W.written W.failures out.old out.new block.old block.new (flat_map literal_line literals.now) result }
+{
+    for literal in literals {
+        put_field(out, block, literal.value(), b'\n')?;
+    }
+    Ok(())
+}
+
+/// The end of a latch line, with the reset where it is not 0.
+pub(crate) fn put_reset<W: Write>(out: &mut W, block: &mut Block, reset: Lit) -> Result<(), Io>
+    ensures { Gathers W.written W.failures out.old out.new block.old block.new (reset_text false reset) result }
+{
+    if reset.value() == 0 {
+        return put(out, block, b"\n");
+    }
+    put(out, block, b" ")?;
+    put_field(out, block, reset.value(), b'\n')
+}
+
+/// The sizes of the justice properties, which fit their numbers.
+fn put_sizes<W: Write>(out: &mut W, block: &mut Block, properties: &[List<Lit>]) -> Result<(), Io>
+    requires { All (λ p. length p < 2 ^ 32) properties.now }
+    ensures { Gathers W.written W.failures out.old out.new block.old block.new (flat_map size_line properties.now) result }
+{
+    for property in properties {
+        put_field(out, block, property.len() as u32, b'\n')?;
+    }
+    Ok(())
+}
+
+/// The literals of the justice properties, property after property.
+fn put_justice<W: Write>(out: &mut W, block: &mut Block, properties: &[List<Lit>]) -> Result<(), Io>
+    ensures { Gathers W.written W.failures out.old out.new block.old block.new
+        (flat_map (λ p. flat_map literal_line p) properties.now) result }
+{
+    for property in properties {
+        put_literals(out, block, property.as_slice())?;
+    }
+    Ok(())
+}
+
+/// Outputs, bad state properties, constraints, justice and fairness.
+#[tactic(auto, unfolding(crate::specs::Spelling::property_lines))]
+pub(crate) fn put_properties<W: Write>(
+    out: &mut W,
+    block: &mut Block,
+    circuit: &Circuit,
+) -> Result<(), Io>
+    requires { IsFormed circuit.now }
+    ensures { Gathers W.written W.failures out.old out.new block.old block.new (properties_of circuit.now) result }
+{
+    put_literals(out, block, circuit.outputs())?;
+    put_literals(out, block, circuit.bad())?;
+    put_literals(out, block, circuit.constraints())?;
+    put_sizes(out, block, circuit.justice())?;
+    put_justice(out, block, circuit.justice())?;
+    put_literals(out, block, circuit.fairness())
+}
+
+/// The letter that names a section.
+fn letter_of(kind: Kind) -> u8
+    ensures { result ≡ letter kind }
+{
+    match kind {
+        Kind::Input => b'i',
+        Kind::Latch => b'l',
+        Kind::Output => b'o',
+        Kind::Bad => b'b',
+        Kind::Constraint => b'c',
+        Kind::Justice => b'j',
+        Kind::Fairness => b'f',
+    }
+}
+
+fn put_symbol<W: Write>(
+    out: &mut W,
+    block: &mut Block,
+    kind: Kind,
+    position: u32,
+    name: &Bytes,
+) -> Result<(), Io>
+    ensures { Gathers W.written W.failures out.old out.new block.old block.new (symbol_line ((kind, position), name.now)) result }
+{
+    put(out, block, &[letter_of(kind)])?;
+    put_field(out, block, position, b' ')?;
+    put(out, block, name.as_slice())?;
+    put(out, block, b"\n")
+}
+
+fn put_symbols<W: Write>(out: &mut W, block: &mut Block, symbols: &Symbols) -> Result<(), Io>
+    ensures { Gathers W.written W.failures out.old out.new block.old block.new (flat_map symbol_line symbols.now) result }
+{
+    for (key, name) in symbols.iter() {
+        put_symbol(out, block, key.0, key.1, name)?;
+    }
+    Ok(())
+}
+
+fn put_comment<W: Write>(out: &mut W, block: &mut Block, comment: Option<&[u8]>) -> Result<(), Io>
+    ensures { Gathers W.written W.failures out.old out.new block.old block.new (comment_text (option_copied comment.entry)) result }
+{
+    match comment {
+        None => Ok(()),
+        Some(bytes) => {
+            put(out, block, b"c\n")?;
+            put(out, block, bytes)
+        }
+    }
+}
+
+/// Symbols in their order, and the comment.
+#[tactic(auto, unfolding(crate::specs::Spelling::names_text))]
+pub(crate) fn put_names<W: Write>(
+    out: &mut W,
+    block: &mut Block,
+    circuit: &Circuit,
+) -> Result<(), Io>
+    ensures { Gathers W.written W.failures out.old out.new block.old block.new (names_text circuit.now.symbols circuit.now.comment) result }
+{
+    put_symbols(out, block, circuit.symbols())?;
+    put_comment(out, block, circuit.comment())
+}
