@@ -1,6 +1,6 @@
 -- What is written where nothing that may be left out is.
 use Rattle.std.proofs.Common.{◌<◌, ◌^◌, true, All, map, get_or, take, drop, length, ◌≡◌, ◌≤◌, ℕ, zero, suc, ◌+◌, ◌-◌, ◌/◌, ◌%◌, arith, List, [], ◌∷◌, ◌++◌, Bool, false, cond, refl, sym, ap, ◌∙◌}
-use Rattle.std.specs.Prelude.{not, ◌==◌}
+use Rattle.std.specs.Prelude.{not, ◌==◌, ◌&&◌}
 use Rattle.std.specs.List.{flat_map, list_all}
 use Rattle.std.specs.Fmt.{decimal}
 use Rattle.std.proofs.lemmas.List.{take_rest}
@@ -14,7 +14,7 @@ use Rattle.aig_base.specs.Sections.{definitions, uses}
 use Rattle.aig_base.specs.Sound.{IsInRange}
 use Rattle.aig_base.proofs.Joined.{All-left, All-right, All-unmap}
 use Rattle.aig_format.specs.Delta.{groups}
-use Rattle.aig_format.specs.Header.{space, line_end, field, tail}
+use Rattle.aig_format.specs.Header.{space, line_end, field, tail, all_zero}
 use Rattle.aig_format.specs.Spelling.{reset_text, lines}
 
 pub reset_written : (r : ℕ) → (r ≡ 0 → ⊥) → reset_text false r ≡ space ∷ field r line_end
@@ -35,10 +35,16 @@ groups_step (suc m) n some ge =
     ap (λ (b : Bool). cond b (n ∷ []) ((128 + n % 128) ∷ groups m (n / 128))) (le-ltb n 128 ge)
     ∙ ap (λ (j : ℕ). (128 + n % 128) ∷ groups j (n / 128)) (sym less)
 
+-- the test that all counts are 0, as a program makes it
+all_zero_is : (counts : List ℕ) → all_zero counts ≡ list_all (λ n. n == 0) counts
+unfolding all_zero
+all_zero_is [] = refl
+all_zero_is (n ∷ counts) = ap (λ (b : Bool). n == 0 && b) (all_zero_is counts)
+
 pub tail_end : (counts : List ℕ) → list_all (λ n. n == 0) counts ≡ true → tail 0 counts ≡ line_end ∷ []
 unfolding tail
 tail_end [] e = refl
-tail_end (n ∷ counts) e = ap (λ (b : Bool). cond b (line_end ∷ []) (space ∷ (decimal n ++ tail 0 counts))) e
+tail_end (n ∷ counts) e = ap (λ (b : Bool). cond b (line_end ∷ []) (space ∷ (decimal n ++ tail 0 counts))) (all_zero_is (n ∷ counts) ∙ e)
 
 -- counts that are not all 0 begin with one that is written
 pub tail_step : (counts : List ℕ) → list_all (λ n. n == 0) counts ≡ false
@@ -46,7 +52,7 @@ pub tail_step : (counts : List ℕ) → list_all (λ n. n == 0) counts ≡ false
 unfolding tail
 tail_step [] e = cc
 tail_step (n ∷ counts) e =
-    ap (λ (b : Bool). cond b (line_end ∷ []) (space ∷ (decimal n ++ tail 0 counts))) e
+    ap (λ (b : Bool). cond b (line_end ∷ []) (space ∷ (decimal n ++ tail 0 counts))) (all_zero_is (n ∷ counts) ∙ e)
     ∙ ap (λ (ms : List ℕ). space ∷ (decimal n ++ tail 0 ms)) (sym (take_rest (n ∷ counts) 1))
 
 pub some_from_step : (counts : List ℕ) → list_all (λ n. n == 0) counts ≡ false → 0 < length counts

@@ -1,0 +1,5 @@
+pub mod Fields
+pub mod LineLemmas
+pub mod ReplyLemmas
+pub mod RunLemmas
+pub mod WholeLemmas

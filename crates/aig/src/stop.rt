@@ -1,0 +1,35 @@
+//! What ends the program early.
+
+use crate::run_fault::RunFault;
+use std::io;
+
+/// Why the program ends before it is done.
+#[derive(Clone, Copy)]
+pub enum Stop {
+    /// The words are wrong or ask for help, and the user was told.
+    Told,
+    /// The words choose no task.
+    NoTask,
+    /// A word is not UTF-8.
+    NotText,
+    /// A run was refused.
+    Run(RunFault),
+}
+
+impl Stop {
+    pub fn tell(&self, rt: &impl Eprint) -> io::Result<()> {
+        match self {
+            Stop::Told => Ok(()),
+            Stop::NoTask => eprintln!(rt; "error: the words choose no task"),
+            Stop::NotText => eprintln!(rt; "error: a word of the command line is not UTF-8"),
+            Stop::Run(fault) => eprintln!(rt; "aig: {fault}"),
+        }
+    }
+
+    pub fn status(&self) -> u8 {
+        match self {
+            Stop::Told | Stop::NoTask | Stop::NotText => 2,
+            Stop::Run(fault) => fault.status(),
+        }
+    }
+}

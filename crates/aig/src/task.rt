@@ -1,0 +1,168 @@
+//! What the words of the command line choose.
+
+use crate::command_line::{subcommand_of, text_of};
+use crate::files::{open, output, whole};
+use crate::stop::Stop;
+use crate::delivery::{deliver_circuit, deliver_replies, deliver_trace};
+use crate::run_fault::RunFault;
+use crate::script_fault::ScriptFault;
+use aig_base::{Fault, Std};
+use aig_format::Format;
+use aig_sim::StimFault;
+use clap::ArgMatches;
+use std::fs::Files;
+use std::io::Read;
+
+/// What is to be done, and with which files.
+#[derive(Clone, Copy)]
+pub enum Task<'a> {
+    Convert {
+        to: Format,
+        circuit: &'a str,
+    },
+    Simulate {
+        circuit: &'a str,
+        stimulus: &'a str,
+    },
+    Bench {
+        circuit: &'a str,
+        stimulus: &'a str,
+        script: &'a str,
+    },
+}
+
+impl<'a> Task<'a> {
+    /// The task of a command line that matched. Each has one.
+    pub fn of(matches: &ArgMatches<'a>) -> Option<Task<'a>> {
+        let (name, matches) = subcommand_of(matches)?;
+        match name {
+            "toaig" => conversion_of(matches),
+            "sim" => simulation_of(matches),
+            "bench" => bench_of(matches),
+            _ => None,
+        }
+    }
+
+    pub fn run<R: Files + AllocGlobal + Print>(&self, rt: &R) -> Result<(), Stop> {
+        let done = match *self {
+            Task::Convert { to, circuit } => convert(rt, to, circuit),
+            Task::Simulate { circuit, stimulus } => simulate(rt, circuit, stimulus),
+            Task::Bench {
+                circuit,
+                stimulus,
+                script,
+            } => bench(rt, circuit, stimulus, script),
+        };
+        match done {
+            Ok(()) => Ok(()),
+            Err(fault) => Err(Stop::Run(fault)),
+        }
+    }
+}
+
+fn format_of(matches: &ArgMatches<'_>) -> Option<Format> {
+    match text_of(matches, "FORMAT")? {
+        "aag" => Some(Format::Ascii),
+        "aig" => Some(Format::Binary),
+        _ => None,
+    }
+}
+
+fn conversion_of<'a>(matches: &ArgMatches<'a>) -> Option<Task<'a>> {
+    Some(Task::Convert {
+        to: format_of(matches)?,
+        circuit: text_of(matches, "CIRCUIT")?,
+    })
+}
+
+fn simulation_of<'a>(matches: &ArgMatches<'a>) -> Option<Task<'a>> {
+    Some(Task::Simulate {
+        circuit: text_of(matches, "CIRCUIT")?,
+        stimulus: text_of(matches, "STIM")?,
+    })
+}
+
+fn bench_of<'a>(matches: &ArgMatches<'a>) -> Option<Task<'a>> {
+    Some(Task::Bench {
+        circuit: text_of(matches, "CIRCUIT")?,
+        stimulus: text_of(matches, "STIM")?,
+        script: text_of(matches, "SCRIPT")?,
+    })
+}
+
+const CIRCUIT: RunFault = RunFault::Circuit(Fault::Io);
+
+const STIMULUS: RunFault = RunFault::Stimulus(StimFault::Io);
+
+const SCRIPT: RunFault = RunFault::Script(ScriptFault::Io);
+
+fn convert<R: Files + AllocGlobal + Print>(
+    rt: &R,
+    to: Format,
+    circuit: &str,
+) -> Result<(), RunFault> {
+    let circuit = open(rt, circuit, CIRCUIT)?;
+    convert_file(rt, to, circuit)
+}
+
+fn convert_file<R: AllocGlobal + Print, F: Read + Drop>(
+    rt: &R,
+    to: Format,
+    circuit: F,
+) -> Result<(), RunFault> {
+    let circuit = whole(rt.alloc(), circuit, CIRCUIT)?;
+    let mut out = output(rt);
+    deliver_circuit(rt.alloc(), circuit.as_slice(), to, &mut out)
+}
+
+fn simulate<R: Files + AllocGlobal + Print>(
+    rt: &R,
+    circuit: &str,
+    stimulus: &str,
+) -> Result<(), RunFault> {
+    let circuit = open(rt, circuit, CIRCUIT)?;
+    let stimulus = open(rt, stimulus, STIMULUS)?;
+    simulate_files(rt, circuit, stimulus)
+}
+
+fn simulate_files<R: AllocGlobal + Print, F: Read + Drop>(
+    rt: &R,
+    circuit: F,
+    stimulus: F,
+) -> Result<(), RunFault> {
+    let circuit = whole(rt.alloc(), circuit, CIRCUIT)?;
+    let mut stimulus = Std::new(stimulus);
+    let mut out = output(rt);
+    deliver_trace(rt.alloc(), circuit.as_slice(), &mut stimulus, &mut out)
+}
+
+fn bench<R: Files + AllocGlobal + Print>(
+    rt: &R,
+    circuit: &str,
+    stimulus: &str,
+    script: &str,
+) -> Result<(), RunFault> {
+    let circuit = open(rt, circuit, CIRCUIT)?;
+    let stimulus = open(rt, stimulus, STIMULUS)?;
+    let script = open(rt, script, SCRIPT)?;
+    bench_files(rt, circuit, stimulus, script)
+}
+
+fn bench_files<R: AllocGlobal + Print, F: Read + Drop>(
+    rt: &R,
+    circuit: F,
+    stimulus: F,
+    script: F,
+) -> Result<(), RunFault> {
+    let circuit = whole(rt.alloc(), circuit, CIRCUIT)?;
+    let stimulus = whole(rt.alloc(), stimulus, STIMULUS)?;
+    let mut script = Std::new(script);
+    let mut out = output(rt);
+    deliver_replies(
+        rt.alloc(),
+        circuit.as_slice(),
+        stimulus.as_slice(),
+        &mut script,
+        &mut out,
+    )
+}
