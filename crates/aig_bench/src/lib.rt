@@ -13,3 +13,6 @@ mod trace;
 pub use bench::Bench;
 pub use bench_fault::BenchFault;
 pub use edit::{EditFault, EditReport};
+
+#[cfg(test)]
+mod tests;

@@ -1,0 +1,157 @@
+// What proofs do not see: values from outside, and that calls can succeed.
+use crate::{Bench, BenchFault, EditFault};
+use aig_base::{Circuit, Gate, Latch, List, Lit, MemWriter, Raw, Symbols, Tern};
+use aig_sim::{ByteGrid, read_stimulus};
+use std::alloc::Global;
+use std::test::Fail;
+
+// Parts of these inputs and outputs.
+fn parts(alloc: Global, max_var: u32, inputs: &[u32], outputs: &[u32]) -> Result<Raw, Fail> {
+    let mut raw = Raw {
+        max_var,
+        inputs: List::new(alloc),
+        latches: List::new(alloc),
+        outputs: List::new(alloc),
+        bad: List::new(alloc),
+        constraints: List::new(alloc),
+        justice: List::new(alloc),
+        fairness: List::new(alloc),
+        gates: List::new(alloc),
+        symbols: Symbols::new(alloc),
+        comment: None,
+    };
+    for input in inputs {
+        raw.inputs.push(Lit::new(*input))?;
+    }
+    for output in outputs {
+        raw.outputs.push(Lit::new(*output))?;
+    }
+    Ok(raw)
+}
+
+// The parts with one more gate.
+fn with_gate(mut raw: Raw, lhs: u32, rhs0: u32, rhs1: u32) -> Result<Raw, Fail> {
+    raw.gates.push(Gate {
+        lhs: Lit::new(lhs),
+        rhs0: Lit::new(rhs0),
+        rhs1: Lit::new(rhs1),
+    })?;
+    Ok(raw)
+}
+
+// The parts with one more latch.
+fn with_latch(mut raw: Raw, lit: u32, next: u32, reset: u32) -> Result<Raw, Fail> {
+    raw.latches.push(Latch {
+        lit: Lit::new(lit),
+        next: Lit::new(next),
+        reset: Lit::new(reset),
+    })?;
+    Ok(raw)
+}
+
+// The circuit of the parts.
+fn circuit(alloc: Global, raw: Raw) -> Result<Circuit, Fail> {
+    if !raw.is_formed() {
+        return Err("not formed".into());
+    }
+    Ok(Circuit::check(alloc, raw)?)
+}
+
+// A bench of the parts and of a stimulus text.
+fn bench(alloc: Global, raw: Raw, width: u32, text: &[u8]) -> Result<Bench<ByteGrid>, Fail> {
+    let stimulus = read_stimulus(alloc, text, width)?;
+    Ok(Bench::new(alloc, circuit(alloc, raw)?, stimulus)?)
+}
+
+// A gate that reads a gate which comes after it.
+fn two_gates(alloc: Global) -> Result<Raw, Fail> {
+    with_gate(
+        with_gate(parts(alloc, 4, &[2, 4], &[8])?, 8, 6, 2)?,
+        6,
+        2,
+        4,
+    )
+}
+
+#[test]
+fn bits_are_set(rt: HostRuntime) -> Result<(), Fail> {
+    let mut bench = bench(rt.alloc(), two_gates(rt.alloc())?, 2, b"11\n01\n")?;
+    assert_eq!(rt; bench.width(), 2);
+    assert_eq!(rt; bench.frames(), 2);
+    for (frame, literal, value) in [
+        (0, 0, Tern::Zero),
+        (0, 1, Tern::One),
+        (0, 8, Tern::One),
+        (0, 9, Tern::Zero),
+        (1, 4, Tern::One),
+        (1, 6, Tern::Zero),
+        (1, 8, Tern::Zero),
+    ] {
+        assert_eq!(rt;
+            bench.value(frame, Lit::new(literal)),
+            Ok(value),
+            "{literal} at {frame}"
+        );
+    }
+    assert!(rt; bench.set_bit(0, 1, Tern::Zero).is_ok());
+    assert_eq!(rt; bench.value(0, Lit::new(8)), Ok(Tern::Zero));
+    assert_eq!(rt; bench.set_bit(2, 2, Tern::One), Err(EditFault::NoFrame));
+    assert_eq!(rt; bench.set_bit(1, 2, Tern::One), Err(EditFault::NoInput));
+    assert_eq!(rt; bench.value(2, Lit::new(10)), Err(EditFault::Range));
+    assert_eq!(rt; bench.value(2, Lit::new(8)), Err(EditFault::NoFrame));
+    Ok(())
+}
+
+#[test]
+fn bits_reach_later_frames(rt: HostRuntime) -> Result<(), Fail> {
+    // A latch that keeps what its input was, and a variable that nothing defines.
+    let raw = with_latch(parts(rt.alloc(), 3, &[2], &[4])?, 4, 2, 0)?;
+    let mut bench = bench(rt.alloc(), raw, 1, b"0\n0\n")?;
+    assert_eq!(rt; bench.value(1, Lit::new(4)), Ok(Tern::Zero));
+    assert!(rt; bench.set_bit(0, 0, Tern::X).is_ok());
+    assert_eq!(rt; bench.value(1, Lit::new(4)), Ok(Tern::X));
+    assert_eq!(rt; bench.value(2, Lit::new(6)), Err(EditFault::Undefined));
+    Ok(())
+}
+
+#[test]
+fn widths_differ(rt: HostRuntime) -> Result<(), Fail> {
+    let circuit = circuit(rt.alloc(), two_gates(rt.alloc())?)?;
+    let stimulus = read_stimulus(rt.alloc(), b"111\n", 3)?;
+    let answer = Bench::<ByteGrid>::new(rt.alloc(), circuit, stimulus);
+    assert_eq!(rt; answer.err(), Some(BenchFault::Width));
+    Ok(())
+}
+
+// Whether the bench writes this trace, and a beginning of it where there is no room.
+fn writes(alloc: Global, bench: &Bench<ByteGrid>, trace: &[u8]) -> Result<bool, Fail> {
+    let mut out = MemWriter::new(alloc, 64)?;
+    let mut short = MemWriter::new(alloc, 3)?;
+    let whole = bench.write_trace(&mut out).is_ok();
+    let cut = bench.write_trace(&mut short).is_err();
+    Ok(whole && cut && out.bytes() == trace && trace.starts_with(short.bytes()))
+}
+
+#[test]
+fn traces_of_a_latch(rt: HostRuntime) -> Result<(), Fail> {
+    let alloc = rt.alloc();
+    let raw = with_latch(parts(alloc, 1, &[], &[2, 3])?, 2, 3, 0)?;
+    let toggle = bench(alloc, raw, 0, b"\n\n\n")?;
+    assert!(rt; writes(alloc, &toggle, b"0  01 1\n1  10 0\n0  01 1\n")?);
+    let raw = with_latch(parts(alloc, 1, &[], &[2, 3])?, 2, 3, 2)?;
+    let uninitialised = bench(alloc, raw, 0, b"\n")?;
+    assert!(rt; writes(alloc, &uninitialised, b"x  xx x\n")?);
+    Ok(())
+}
+
+#[test]
+fn traces_of_a_gate(rt: HostRuntime) -> Result<(), Fail> {
+    let alloc = rt.alloc();
+    let raw = with_gate(parts(alloc, 3, &[2, 4], &[6])?, 6, 2, 4)?;
+    let one_gate = bench(alloc, raw, 2, b"x0\nx1\n")?;
+    assert!(rt; writes(alloc, &one_gate, b" x0 0 \n x1 x \n")?);
+    let raw = with_gate(parts(alloc, 2, &[2], &[4])?, 4, 2, 3)?;
+    let a_and_not_a = bench(alloc, raw, 1, b"x\n")?;
+    assert!(rt; writes(alloc, &a_and_not_a, b" x x \n")?);
+    Ok(())
+}
