@@ -1,24 +1,21 @@
 -- The body of an ASCII file: what is read is spelled so, and what is spelled so is read.
-use Rattle.std.proofs.Common.{◌≡◌, ℕ, ◌+◌, ◌≤◌, Bool, List, [], ◌∷◌, ◌++◌, length, Result, Ok, Err, refl, sym, ap}
-use Rattle.std.proofs.Common.{subst, ◌∙◌, arith, append_assoc}
+use Rattle.std.proofs.Common.{◌≡◌, ℕ, ◌≤◌, Bool, List, [], ◌++◌, length, Ok, refl, sym, ap}
+use Rattle.std.proofs.Common.{subst, ◌∙◌}
 use Rattle.std.specs.Prelude.{All, sum_by}
 use Rattle.std.specs.List.{flat_map}
 use Rattle.aig_base.specs.declared.raw.Raw.{Raw}
-use Rattle.aig_base.specs.declared.latch.Latch.{Latch}
 use Rattle.aig_base.specs.declared.gate.Gate.{Gate}
 use Rattle.aig_base.specs.Formed as formed
 use Rattle.aig_format.specs.declared.header.Counts.{Counts}
-use Rattle.aig_format.specs.Header.{AreWithin, counts_of}
+use Rattle.aig_format.specs.Header.{counts_of}
 use Rattle.aig_format.specs.Spelling.{literal_line, latch_line, gate_line, lines, properties_of, names_text}
 use Rattle.aig_format.specs.Spells.{HasSmallNumbers, HasSpelling}
-use Rattle.aig_format.specs.Reading.{Read, ◌>>=◌}
-use Rattle.aig_format.specs.ReadingSections.{literals_at, latch_at, gate_at, lines_at, properties_at}
-use Rattle.aig_format.specs.ReadingNames.{names_at}
+use Rattle.aig_format.specs.ReadingSections.{latch_at, gate_at, lines_at}
 use Rattle.aig_format.specs.ReadingFile.{ascii_at}
-use Rattle.aig_format.proofs.Steps.{done, done_is}
+use Rattle.aig_format.proofs.Steps.{done_is}
 use Rattle.aig_format.proofs.Joins.{join2, join_end}
 use Rattle.aig_format.proofs.Numbers.{bind_then}
-use Rattle.aig_format.proofs.Lines.{FitsFrom, lines_take, lines_again, plain_lines, all_from_fits, fits_from_all}
+use Rattle.aig_format.proofs.Lines.{lines_take, lines_again, plain_lines, all_from_fits, fits_from_all}
 use Rattle.aig_format.proofs.Lines.{IsLatch, IsGate, latch_takes, latch_again, gate_takes, gate_again}
 use Rattle.aig_format.proofs.Names.{IsEntry}
 use Rattle.aig_format.proofs.SectionLaws.{literals_take, literals_again, properties_take, properties_again, text_of}

@@ -1,7 +1,7 @@
 -- The body of a binary file: what is read is spelled so, and what is spelled so is read.
-use Rattle.std.proofs.Common.{◌≡◌, ℕ, zero, suc, ◌+◌, ◌*◌, ◌^◌, ◌<◌, ◌≤◌, Bool, List, [], ◌∷◌, ◌++◌, length, map}
-use Rattle.std.proofs.Common.{Result, Ok, Err, refl, sym, ap, subst, ◌∙◌, arith, append_assoc, length-append}
-use Rattle.std.specs.Prelude.{All, sum_by}
+use Rattle.std.proofs.Common.{◌≡◌, ℕ, zero, suc, ◌+◌, ◌*◌, ◌<◌, ◌≤◌, Bool, List, [], ◌∷◌, ◌++◌, length, map}
+use Rattle.std.proofs.Common.{Ok, refl, sym, ap, subst, ◌∙◌, arith, length-append}
+use Rattle.std.specs.Prelude.{All}
 use Rattle.std.specs.List.{flat_map}
 use Rattle.std.proofs.lemmas.List.{length-map}
 use Rattle.std.proofs.lemmas.List.Elements.{All-nil, All-cons, All-weaker}
@@ -15,14 +15,12 @@ use Rattle.aig_format.specs.declared.header.Counts.{Counts}
 use Rattle.aig_format.specs.Header.{AreWithin, counts_of}
 use Rattle.aig_format.specs.Spelling.{implicit_latch_line, gate_deltas, lines, properties_of, names_text}
 use Rattle.aig_format.specs.Spells.{greatest, AreSmall, HasSmallNumbers, HasSpelling}
-use Rattle.aig_format.specs.Reading.{Read, ◌>>=◌}
-use Rattle.aig_format.specs.ReadingSections.{implicit_latch_at, implicit_gate_at, lines_at, properties_at}
-use Rattle.aig_format.specs.ReadingNames.{names_at}
+use Rattle.aig_format.specs.ReadingSections.{implicit_latch_at, implicit_gate_at, lines_at}
 use Rattle.aig_format.specs.ReadingFile.{binary_at}
 use Rattle.aig_format.proofs.Steps.{done, done_is}
 use Rattle.aig_format.proofs.Joins.{join2, join_end}
 use Rattle.aig_format.proofs.Numbers.{bind_then}
-use Rattle.aig_format.proofs.Lines.{FitsFrom, lines_take, lines_again, plain_lines, IsLatch, IsGate, IsLiteral}
+use Rattle.aig_format.proofs.Lines.{FitsFrom, lines_take, lines_again, plain_lines, IsLatch, IsGate}
 use Rattle.aig_format.proofs.Lines.{IsImplicitLatch, IsImplicitGate, IsWrittenGate, implicit_latch_takes}
 use Rattle.aig_format.proofs.Lines.{implicit_latch_again, implicit_gate_takes, implicit_gate_again}
 use Rattle.aig_format.proofs.Names.{IsEntry}

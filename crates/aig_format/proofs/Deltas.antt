@@ -1,10 +1,10 @@
 -- A delta that is read is spelled so, and what is spelled so is read.
 use Rattle.std.proofs.Common.{◌≡◌, ℕ, zero, suc, ◌+◌, ◌-◌, ◌*◌, ◌/◌, ◌%◌, ◌^◌, ◌<◌, ◌≤◌, Bool, true, false, cond, ltb}
-use Rattle.std.proofs.Common.{eqb, ◌||◌, List, [], ◌∷◌, ◌++◌, length, Result, Ok, Err, refl, sym, ap, subst, ◌∙◌}
+use Rattle.std.proofs.Common.{eqb, ◌||◌, List, [], ◌∷◌, ◌++◌, length, Ok, Err, refl, sym, ap, subst, ◌∙◌}
 use Rattle.std.proofs.Common.{arith}
 use Rattle.std.proofs.lemmas.Bool.{ltb-true, ltb-false, lt-ltb, le-ltb}
 use Rattle.std.proofs.lemmas.Bool.Decides.{nat_tests}
-use Rattle.aig_format.specs.Reading.{Refusal, text, Read, ◌>>=◌, groups_at, delta_at}
+use Rattle.aig_format.specs.Reading.{text, ◌>>=◌, groups_at, delta_at}
 use Rattle.aig_format.specs.Delta.{groups, delta}
 use Rattle.aig_format.proofs.Steps.{done, done_is}
 use Rattle.aig_format.proofs.Numbers.{bind_then}

@@ -1,20 +1,19 @@
 -- The file that is read is spelled so, and what is spelled so is read.
-use Rattle.std.proofs.Common.{◌≡◌, ◌⊎◌, inl, inr, ℕ, ◌+◌, ◌<◌, ◌≤◌, Bool, true, false, cond, not, ltb, eqb, eq-eqb}
-use Rattle.std.proofs.Common.{subst, List, [], ◌∷◌, ◌++◌, length, Result, Ok, Err, refl, sym, ap, ◌∙◌, arith}
-use Rattle.std.proofs.lemmas.Bool.{ltb-true, ltb-false, le-ltb, eqb-true}
+use Rattle.std.proofs.Common.{◌≡◌, inl, inr, ℕ, ◌+◌, Bool, true, false, cond, not, eqb, eq-eqb}
+use Rattle.std.proofs.Common.{subst, List, [], ◌++◌, length, Result, Ok, Err, refl, sym, ap, ◌∙◌, arith}
+use Rattle.std.proofs.lemmas.Bool.{ltb-false, le-ltb, eqb-true}
 use Rattle.aig_base.specs.declared.raw.Raw.{Raw}
-use Rattle.aig_base.specs.Renumbered.{IsBinaryReady}
 use Rattle.aig_format.specs.declared.header.Format.{Format}
 use Rattle.aig_format.specs.declared.header.Format.TheVariants.{Ascii, Binary}
 use Rattle.aig_format.specs.declared.header.Counts.{Counts}
-use Rattle.aig_format.specs.Header.{AreWithin, are_wrong, counts_of, header_line}
+use Rattle.aig_format.specs.Header.{are_wrong, counts_of, header_line}
 use Rattle.aig_format.specs.Spelling.{Zeros, ascii, binary, literal_line, latch_line, implicit_latch_line, gate_line}
 use Rattle.aig_format.specs.Spelling.{gate_deltas, lines, properties_of, names_text}
-use Rattle.aig_format.specs.Spells.{HasSpelling, SpellsAscii, SpellsBinary, Spells, HasWrongCounts}
-use Rattle.aig_format.specs.Reading.{Refusal, Read, ◌>>=◌}
+use Rattle.aig_format.specs.Spells.{SpellsAscii, SpellsBinary, Spells, HasWrongCounts}
+use Rattle.aig_format.specs.Reading.{Refusal}
 use Rattle.aig_format.specs.ReadingSections.{header_at}
-use Rattle.aig_format.specs.ReadingFile.{ascii_at, binary_at, body_at, FileRefusal, token, counts, and_then, file_at}
-use Rattle.aig_format.proofs.Steps.{done, done_is}
+use Rattle.aig_format.specs.ReadingFile.{body_at, FileRefusal, token, counts, and_then, file_at}
+use Rattle.aig_format.proofs.Steps.{done}
 use Rattle.aig_format.proofs.Joins.{apart5, apart6}
 use Rattle.aig_format.proofs.HeaderLaws.{HeaderRead, header_takes, header_again}
 use Rattle.aig_format.proofs.Parts.{within_from, formed_from}

@@ -1,6 +1,6 @@
 -- The header line that is read is spelled so, and the line that is spelled so is read.
-use Rattle.std.proofs.Common.{◌≡◌, ℕ, zero, suc, ◌+◌, ◌-◌, ◌^◌, ◌<◌, ◌≤◌, Bool, true, false, cond, eqb, ◌&&◌, ◌==◌}
-use Rattle.std.proofs.Common.{subst, List, [], ◌∷◌, ◌++◌, length, get_or, Result, Ok, Err, refl, sym, ap, ◌∙◌}
+use Rattle.std.proofs.Common.{◌≡◌, ℕ, zero, suc, ◌-◌, ◌^◌, ◌<◌, ◌≤◌, Bool, true, false, cond, eqb, ◌&&◌, ◌==◌}
+use Rattle.std.proofs.Common.{subst, List, [], ◌∷◌, ◌++◌, length, get_or, Ok, refl, sym, ap, ◌∙◌}
 use Rattle.std.proofs.Common.{append_assoc, arith}
 use Rattle.std.specs.Prelude.{All}
 use Rattle.std.specs.Fmt.{decimal}
@@ -12,7 +12,7 @@ use Rattle.aig_format.specs.declared.header.Format.{Format}
 use Rattle.aig_format.specs.declared.header.Format.TheVariants.{Ascii, Binary}
 use Rattle.aig_format.specs.declared.header.Counts.{Counts}
 use Rattle.aig_format.specs.Header.{space, line_end, field, word, all_zero, tail, trailing, header_line, AreWithin}
-use Rattle.aig_format.specs.Reading.{Read, ◌>>=◌, is_next_at, byte_at, number_at, field_at, more_at}
+use Rattle.aig_format.specs.Reading.{◌>>=◌, is_next_at, byte_at, number_at, more_at}
 use Rattle.aig_format.specs.ReadingSections.{format_at, word_at, count_at, line_end_at, tail_at, header_at}
 use Rattle.aig_format.proofs.Steps.{done, done_is}
 use Rattle.aig_format.proofs.Joins.{join2, join_end, apart7}

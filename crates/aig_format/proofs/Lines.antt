@@ -1,6 +1,6 @@
 -- The lines that are read are spelled so, and the lines that are spelled so are read.
-use Rattle.std.proofs.Common.{◌≡◌, ℕ, zero, suc, ◌+◌, ◌-◌, ◌*◌, ◌^◌, ◌<◌, ◌≤◌, Bool, true, false, cond, not, eqb}
-use Rattle.std.proofs.Common.{subst, List, [], ◌∷◌, ◌++◌, length, Result, Ok, Err, refl, sym, ap, ◌∙◌, append_assoc}
+use Rattle.std.proofs.Common.{◌≡◌, ℕ, zero, suc, ◌-◌, ◌*◌, ◌^◌, ◌<◌, ◌≤◌, Bool, true, false, cond, not, eqb}
+use Rattle.std.proofs.Common.{subst, List, [], ◌∷◌, ◌++◌, length, Ok, refl, sym, ap, ◌∙◌, append_assoc}
 use Rattle.std.proofs.Common.{arith}
 use Rattle.std.specs.Prelude.{All}
 use Rattle.std.specs.Fmt.{decimal}
@@ -14,7 +14,7 @@ use Rattle.aig_format.specs.Delta.{delta}
 use Rattle.aig_format.specs.Spelling.{literal_line, reset_text, latch_line, implicit_latch_line, gate_line}
 use Rattle.aig_format.specs.Spelling.{gate_deltas, of_first, of_others, lines}
 use Rattle.aig_format.specs.Spells.{greatest}
-use Rattle.aig_format.specs.Reading.{Read, ◌>>=◌, number_at, field_at, optional_at}
+use Rattle.aig_format.specs.Reading.{Read}
 use Rattle.aig_format.specs.ReadingSections.{literal_at, latch_at, gate_at, implicit_latch_at, implicit_gate_at}
 use Rattle.aig_format.specs.ReadingSections.{lines_at}
 use Rattle.aig_format.proofs.Steps.{done, done_is}

@@ -1,6 +1,6 @@
 -- How reading of names and symbols goes on, for loops.
-use Rattle.std.proofs.Common.{◌≡◌, ℕ, zero, suc, ◌+◌, ◌≤◌, ◌<◌, Contains, leb, Bool, true, false, cond, eqb, eq-eqb}
-use Rattle.std.proofs.Common.{List, [], ◌∷◌, ◌++◌, length, Option, Some, None, Result, Ok, Err, refl, sym, ap, ◌∙◌}
+use Rattle.std.proofs.Common.{◌≡◌, ℕ, ◌<◌, Contains, leb, false, eqb, eq-eqb}
+use Rattle.std.proofs.Common.{List, [], ◌∷◌, ◌++◌, Some, None, Result, Ok, Err, refl, sym, ap, ◌∙◌}
 use Rattle.std.proofs.Common.{arith}
 use Rattle.std.proofs.lemmas.Bool.Decides.{nat_tests}
 use Rattle.std.proofs.lemmas.List.{append-nil}
@@ -11,8 +11,8 @@ use Rattle.aig_base.specs.declared.symbols.Kind.{Kind}
 use Rattle.std.specs.Map.{keys_of}
 use Rattle.aig_format.specs.Spells.{greatest}
 use Rattle.aig_format.specs.Spelling.{Entry}
-use Rattle.aig_format.specs.Reading.{Refusal, text, Read, ◌>>=◌, first_of, rest_of, next_at, number_at}
-use Rattle.aig_format.specs.ReadingNames.{Named, count_of, line_at, position_at, symbols_at}
+use Rattle.aig_format.specs.Reading.{Refusal, text, Read, first_of, rest_of, next_at, number_at}
+use Rattle.aig_format.specs.ReadingNames.{count_of, line_at, position_at}
 use Rattle.aig_format.specs.Meaning.{Fails}
 use Rattle.aig_format.proofs.Keys.{is_named_from, not_named_from}
 use Rattle.aig_format.proofs.Steps.{done, done_is, with_front, regroup, fails_else}

@@ -1,6 +1,6 @@
 -- A symbol that is read is spelled so, and a symbol that is spelled so is read.
-use Rattle.std.proofs.Common.{◌≡◌, ◌≢◌, ℕ, zero, suc, ◌+◌, ◌-◌, ◌<◌, ◌≤◌, ◌^◌, Bool, true, false, cond, eqb, leb}
-use Rattle.std.proofs.Common.{◌||◌, subst, List, [], ◌∷◌, ◌++◌, length, Option, Some, None, Result, Ok, Err, refl}
+use Rattle.std.proofs.Common.{◌≡◌, ◌≢◌, ℕ, ◌-◌, ◌<◌, ◌≤◌, Bool, true, false, cond, eqb, leb}
+use Rattle.std.proofs.Common.{◌||◌, subst, List, [], ◌∷◌, ◌++◌, length, Option, Some, None, Ok, Err, refl}
 use Rattle.std.proofs.Common.{sym, ap, ◌∙◌, append_assoc, arith, Contains}
 use Rattle.std.specs.Prelude.{All}
 use Rattle.std.specs.Map.{keys_of}
@@ -17,13 +17,13 @@ use Rattle.aig_format.specs.declared.symbol.Next.TheVariants.{End, Comment, Symb
 use Rattle.aig_format.specs.Header.{space, line_end, field}
 use Rattle.aig_format.specs.Spelling.{Entry, letter, symbol_line}
 use Rattle.aig_format.specs.Spells.{greatest}
-use Rattle.aig_format.specs.Reading.{Refusal, text, Read, ◌>>=◌, is_digit, digit_at, byte_at, number_then, number_at}
+use Rattle.aig_format.specs.Reading.{text, ◌>>=◌, is_digit, digit_at, number_then, number_at}
 use Rattle.aig_format.specs.ReadingNames.{kind_of, after_c_at, letter_then, letter_at, line_at, is_empty, name_at}
 use Rattle.aig_format.specs.ReadingNames.{is_named, count_of, position_at, symbol_at}
 use Rattle.aig_format.proofs.Steps.{done, done_is}
-use Rattle.aig_format.proofs.Numbers.{bind_then, joins, byte_takes, byte_again, number_takes, number_again, Stops}
+use Rattle.aig_format.proofs.Numbers.{bind_then, byte_takes, byte_again, number_takes, number_again, Stops}
 use Rattle.aig_format.proofs.Numbers.{stops_space}
-use Rattle.aig_format.proofs.Keys.{named_is, is_named_from, not_named_from}
+use Rattle.aig_format.proofs.Keys.{is_named_from, not_named_from}
 
 -- ---- names
 

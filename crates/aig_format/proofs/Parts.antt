@@ -1,5 +1,5 @@
 -- What a file says of the parts as wholes: counts, symbols, numbers.
-use Rattle.std.proofs.Common.{◌≡◌, ◌≢◌, ℕ, ◌+◌, ◌<◌, ◌≤◌, List, [], ◌∷◌, ◌++◌, length, subst, refl, sym, ap, ◌∙◌, arith}
+use Rattle.std.proofs.Common.{◌≡◌, ◌≤◌, length, refl, arith}
 use Rattle.std.specs.Prelude.{All, sum_by}
 use Rattle.std.proofs.lemmas.List.Elements.{All-weaker}
 use Rattle.aig_base.specs.declared.raw.Raw.{Raw}
@@ -11,8 +11,7 @@ use Rattle.aig_format.specs.declared.header.Counts.{Counts}
 use Rattle.aig_format.specs.declared.section.Properties.{Properties}
 use Rattle.aig_format.specs.declared.symbol.Names.{Names}
 use Rattle.aig_format.specs.Header.{AreWithin, counts_of}
-use Rattle.aig_format.specs.Spelling.{Entry}
-use Rattle.aig_format.specs.Spells.{greatest, HasSmallNumbers, HasSpelling}
+use Rattle.aig_format.specs.Spells.{greatest, HasSpelling}
 use Rattle.aig_format.specs.ReadingNames.{count_of}
 use Rattle.aig_format.proofs.Names.{IsEntry}
 use Rattle.aig_format.proofs.SectionLaws.{FitsProperties, Counted}

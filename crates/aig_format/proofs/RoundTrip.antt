@@ -1,9 +1,9 @@
 -- A circuit has a spelling.
-use Rattle.std.proofs.Common.{◌≡◌, ◌≢◌, ◌⊎◌, inl, inr, ℕ, zero, suc, ◌+◌, ◌-◌, ◌*◌, ◌/◌, ◌%◌, ◌<◌, ◌≤◌, Bool, true}
-use Rattle.std.proofs.Common.{eqb, List, [], ◌∷◌, ◌++◌, length, get_or, map, Some, subst, refl, sym, ap, ◌∙◌, arith}
-use Rattle.std.proofs.Common.{Contains, length-append}
+use Rattle.std.proofs.Common.{◌≡◌, ◌≢◌, inl, inr, ℕ, suc, ◌+◌, ◌-◌, ◌*◌, ◌<◌, ◌≤◌}
+use Rattle.std.proofs.Common.{List, [], ◌∷◌, ◌++◌, length, get_or, map, Some, subst, refl, sym, ap, ◌∙◌, arith}
+use Rattle.std.proofs.Common.{length-append}
 use Rattle.std.specs.Prelude.{All, AllPairs, slice_get}
-use Rattle.std.specs.List.{flat_map, list_any}
+use Rattle.std.specs.List.{flat_map}
 use Rattle.std.proofs.lemmas.Bool.{eqb-true}
 use Rattle.std.proofs.lemmas.Bool.Decides.{Decides-eqb}
 use Rattle.std.proofs.lemmas.List.{length-map, get_or-map}
@@ -17,11 +17,10 @@ use Rattle.aig_base.specs.declared.raw.Raw.{Raw}
 use Rattle.aig_base.specs.declared.latch.Latch.{Latch}
 use Rattle.aig_base.specs.declared.gate.Gate.{Gate}
 use Rattle.aig_base.specs.Circuit.{IsCircuit}
-use Rattle.aig_base.specs.Formed.{limit}
 use Rattle.aig_base.specs.Literal.{variable}
 use Rattle.aig_base.specs.Renumbered.{IsBinaryReady}
 use Rattle.aig_base.specs.Sections.{definitions, uses}
-use Rattle.aig_base.specs.Sound.{IsInRange, IsDefinition, IsReset, IsSound, StandsTwice}
+use Rattle.aig_base.specs.Sound.{IsInRange, IsDefinition, IsReset, StandsTwice}
 use Rattle.aig_format.specs.Spelling.{no_zeros, short_ascii, short_binary}
 use Rattle.aig_format.specs.Spells.{greatest, AreSmall, HasSmallNumbers, AreNamedOnce, HasSpelling, SpellsAscii}
 use Rattle.aig_format.specs.Spells.{SpellsBinary}

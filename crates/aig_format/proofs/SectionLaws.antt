@@ -1,6 +1,6 @@
 -- The sections that are read are spelled so, and the sections that are spelled so are read.
 use Rattle.std.proofs.Common.{◌≡◌, ℕ, zero, suc, ◌+◌, ◌^◌, ◌<◌, ◌≤◌, Bool, true, false, cond, ltb, subst, List, []}
-use Rattle.std.proofs.Common.{◌∷◌, ◌++◌, length, map, Result, Ok, Err, refl, sym, ap, ◌∙◌, append_assoc, arith}
+use Rattle.std.proofs.Common.{◌∷◌, ◌++◌, length, map, Ok, Err, refl, sym, ap, ◌∙◌, append_assoc, arith}
 use Rattle.std.specs.Prelude.{All, sum_by}
 use Rattle.std.specs.List.{flat_map}
 use Rattle.std.specs.Fmt.{decimal}
@@ -13,10 +13,10 @@ use Rattle.std.proofs.lemmas.List.Elements.{All-nil, All-cons, All-head, All-tai
 use Rattle.aig_base.specs.Formed as formed
 use Rattle.aig_format.specs.declared.header.Counts.{Counts}
 use Rattle.aig_format.specs.declared.section.Properties.{Properties}
-use Rattle.aig_format.specs.Header.{line_end, field}
+use Rattle.aig_format.specs.Header.{line_end}
 use Rattle.aig_format.specs.Spelling.{literal_line, size_line, property_lines}
 use Rattle.aig_format.specs.Spells.{greatest, AreSmall}
-use Rattle.aig_format.specs.Reading.{limit, Read, ◌>>=◌, byte_at, number_at}
+use Rattle.aig_format.specs.Reading.{limit, ◌>>=◌, byte_at, number_at}
 use Rattle.aig_format.specs.ReadingSections.{literal_at, literals_at, sizes_at, groups_of_literals_at, justice_at}
 use Rattle.aig_format.specs.ReadingSections.{properties_at}
 use Rattle.aig_format.proofs.Steps.{done, done_is}

@@ -1,6 +1,6 @@
 -- How reading of sections goes on, for loops.
-use Rattle.std.proofs.Common.{◌≡◌, ℕ, zero, suc, ◌+◌, ◌-◌, ◌<◌, ◌≤◌, Bool, true, false, cond, ltb, List, [], ◌∷◌}
-use Rattle.std.proofs.Common.{◌++◌, length, get_or, drop, Result, Ok, Err, refl, sym, ap, subst, ◌∙◌, arith}
+use Rattle.std.proofs.Common.{◌≡◌, ℕ, suc, ◌+◌, ◌-◌, ◌<◌, ◌≤◌, Bool, true, false, cond, ltb, List, [], ◌∷◌}
+use Rattle.std.proofs.Common.{◌++◌, length, get_or, drop, Ok, Err, refl, sym, ap, subst, ◌∙◌, arith}
 use Rattle.std.proofs.Math.Seq.{drop-cons}
 use Rattle.std.proofs.lemmas.List.{append-nil, drop_all}
 use Rattle.std.proofs.lemmas.Bool.{lt-ltb, le-ltb}
@@ -8,7 +8,7 @@ use Rattle.aig_base.specs.declared.fault.Fault.{Fault}
 use Rattle.aig_base.specs.Formed as formed
 use Rattle.aig_format.specs.Header.{line_end}
 use Rattle.aig_format.specs.Spells.{greatest}
-use Rattle.aig_format.specs.Reading.{Refusal, text, limit, Read, ◌>>=◌, byte_at, number_at}
+use Rattle.aig_format.specs.Reading.{limit, Read, ◌>>=◌, byte_at, number_at}
 use Rattle.aig_format.specs.ReadingSections.{literals_at, sizes_at, groups_of_literals_at}
 use Rattle.aig_format.specs.Meaning.{Fails}
 use Rattle.aig_format.proofs.Steps.{done, with_front, regroup, bind_bind, fails_on}

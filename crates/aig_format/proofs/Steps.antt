@@ -1,12 +1,12 @@
 -- How reading goes on, for loops.
-use Rattle.std.proofs.Common.{◌≡◌, ℕ, zero, suc, ◌+◌, ◌-◌, ◌*◌, ◌<◌, ◌≤◌, Bool, true, false, cond, ltb, List, [], ◌∷◌}
+use Rattle.std.proofs.Common.{◌≡◌, ℕ, suc, ◌+◌, ◌-◌, ◌*◌, ◌<◌, ◌≤◌, Bool, true, false, cond, ltb, List, [], ◌∷◌}
 use Rattle.std.proofs.Common.{◌++◌, Option, Some, None, Result, Ok, Err, refl, sym, ap, subst, ◌∙◌, append_assoc}
 use Rattle.std.proofs.Common.{arith}
 use Rattle.std.proofs.lemmas.List.{append-nil}
-use Rattle.std.proofs.lemmas.Bool.{ltb-true, lt-ltb, le-ltb}
+use Rattle.std.proofs.lemmas.Bool.{lt-ltb, le-ltb}
 use Rattle.aig_base.specs.declared.fault.Fault.{Fault}
 use Rattle.aig_base.specs.declared.fault.Fault.TheVariants as faults
-use Rattle.aig_format.specs.Reading.{Refusal, text, limit, Read, ◌>>=◌, is_digit, digit_at, digits_at}
+use Rattle.aig_format.specs.Reading.{Refusal, limit, Read, ◌>>=◌, is_digit, digit_at, digits_at}
 use Rattle.aig_format.specs.ReadingSections.{lines_at}
 use Rattle.aig_format.specs.Meaning.{Fails}
 

@@ -1,6 +1,6 @@
 -- All that follows the gates: what is read is spelled so, and what is spelled so is read.
 use Rattle.std.proofs.Common.{◌≡◌, ◌≢◌, ℕ, zero, suc, ◌+◌, ◌<◌, ◌≤◌, ◌⊎◌, inl, inr, ltb, Bool, true, false, cond}
-use Rattle.std.proofs.Common.{subst, List, [], ◌∷◌, ◌++◌, length, get_or, map, Option, Some, None, Result, Ok, Err}
+use Rattle.std.proofs.Common.{subst, List, [], ◌∷◌, ◌++◌, length, get_or, Option, Some, None, Ok}
 use Rattle.std.proofs.Common.{refl, sym, ap, ◌∙◌, append_assoc, arith, Contains, length-append}
 use Rattle.std.specs.Prelude.{All, AllPairs}
 use Rattle.std.specs.Map.{keys_of}
@@ -13,19 +13,18 @@ use Rattle.std.proofs.lemmas.List.{append-nil, map-append}
 use Rattle.std.proofs.lemmas.List.Concat.{flat_map-cons}
 use Rattle.std.proofs.lemmas.List.Elements.{All-nil, All-cons, All-head, All-tail, Contains-get_or}
 use Rattle.aig_base.specs.declared.symbols.Kind.{Kind}
-use Rattle.aig_base.specs.Formed.{IsName}
 use Rattle.aig_format.specs.declared.header.Counts.{Counts}
 use Rattle.aig_format.specs.declared.symbol.Next.{Next}
 use Rattle.aig_format.specs.declared.symbol.Next.TheVariants.{End, Comment, Symbol}
 use Rattle.aig_format.specs.declared.symbol.Names.{Names}
-use Rattle.aig_format.specs.Header.{space, line_end, field, AreWithin}
+use Rattle.aig_format.specs.Header.{space, line_end, field}
 use Rattle.aig_format.specs.Spelling.{Entry, letter, symbol_line, comment_text, names_text}
 use Rattle.aig_format.specs.Spells.{greatest}
-use Rattle.aig_format.specs.Reading.{Refusal, Read, ◌>>=◌}
-use Rattle.aig_format.specs.ReadingNames.{Named, letter_at, after_c_at, count_of, symbol_at, symbols_then, symbols_at}
+use Rattle.aig_format.specs.Reading.{◌>>=◌}
+use Rattle.aig_format.specs.ReadingNames.{Named, letter_at, after_c_at, count_of, symbols_then, symbols_at}
 use Rattle.aig_format.specs.ReadingNames.{names_at}
 use Rattle.aig_format.proofs.Steps.{done, done_is}
-use Rattle.aig_format.proofs.Joins.{join2, join_end}
+use Rattle.aig_format.proofs.Joins.{join2}
 use Rattle.aig_format.proofs.Numbers.{bind_then, number_again, stops_space}
 use Rattle.aig_format.proofs.Names.{letter_takes, letter_again, starts, IsEntry, symbol_takes, symbol_again}
 use Rattle.aig_format.proofs.Symbols.{shorter, symbol_shorter}

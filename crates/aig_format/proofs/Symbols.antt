@@ -1,33 +1,20 @@
 -- The symbols that are read are spelled so, and the symbols that are spelled so are read.
-use Rattle.std.proofs.Common.{◌≡◌, ◌≢◌, ℕ, zero, suc, ◌+◌, ◌<◌, ◌≤◌, Bool, true, false, cond, subst, List, [], ◌∷◌}
-use Rattle.std.proofs.Common.{◌++◌, length, get_or, map, Option, Some, None, Result, Ok, Err, refl, sym, ap, ◌∙◌}
-use Rattle.std.proofs.Common.{append_assoc, arith, Contains, length-append}
-use Rattle.std.specs.Prelude.{All, AllPairs}
-use Rattle.std.specs.Map.{keys_of}
+use Rattle.std.proofs.Common.{◌≡◌, ℕ, zero, suc, ◌+◌, ◌<◌, ◌≤◌, true, false, subst, List, [], ◌∷◌}
+use Rattle.std.proofs.Common.{◌++◌, length, Ok, refl, sym, ap, ◌∙◌}
+use Rattle.std.proofs.Common.{arith, length-append}
 use Rattle.std.specs.Fmt.{decimal}
-use Rattle.std.specs.List.{flat_map}
-use Rattle.std.proofs.Math.ListN.{get_or-append}
-use Rattle.std.proofs.Math.Seq.{get_or-append_seam}
-use Rattle.std.proofs.lemmas.List.{append-nil, map-append}
-use Rattle.std.proofs.lemmas.List.Concat.{flat_map-cons}
-use Rattle.std.proofs.lemmas.List.Elements.{All-nil, All-cons, All-head, All-tail, Contains-get_or}
 use Rattle.aig_base.specs.declared.fault.Fault.{Fault}
 use Rattle.aig_base.specs.declared.symbols.Kind.{Kind}
 use Rattle.aig_format.specs.declared.header.Counts.{Counts}
 use Rattle.aig_format.specs.declared.symbol.Next.{Next}
 use Rattle.aig_format.specs.declared.symbol.Next.TheVariants.{End, Comment, Symbol}
-use Rattle.aig_format.specs.declared.symbol.Names.{Names}
-use Rattle.aig_format.specs.Header.{space, line_end, field}
-use Rattle.aig_format.specs.Spelling.{Entry, letter, symbol_line, comment_text, names_text}
-use Rattle.aig_format.specs.Spells.{greatest}
-use Rattle.aig_format.specs.Reading.{Refusal, Read, ◌>>=◌}
-use Rattle.aig_format.specs.ReadingNames.{Named, letter_at, after_c_at, count_of, symbol_at, symbols_then, symbols_at}
-use Rattle.aig_format.specs.ReadingNames.{names_at}
+use Rattle.aig_format.specs.Header.{space, line_end}
+use Rattle.aig_format.specs.Spelling.{Entry, symbol_line}
+use Rattle.aig_format.specs.Reading.{Read}
+use Rattle.aig_format.specs.ReadingNames.{Named, letter_at, symbol_at, symbols_then, symbols_at}
 use Rattle.aig_format.specs.Meaning.{Fails}
-use Rattle.aig_format.proofs.Steps.{done, done_is, fails_on, fails_else}
-use Rattle.aig_format.proofs.Numbers.{bind_then, number_again, stops_space}
-use Rattle.aig_format.proofs.Names as names
-use Rattle.aig_format.proofs.Names.{Letters, letter_takes, letter_again, starts, IsEntry, symbol_takes, symbol_again}
+use Rattle.aig_format.proofs.Steps.{done, fails_on, fails_else}
+use Rattle.aig_format.proofs.Names.{letter_takes, symbol_takes}
 
 -- ---- how reading goes on
 

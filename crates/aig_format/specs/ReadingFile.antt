@@ -5,8 +5,6 @@ use Rattle.aig_base.specs.Renumbered.{evens}
 use Rattle.aig_format.specs.declared.header.Format.{Format}
 use Rattle.aig_format.specs.declared.header.Format.TheVariants.{Ascii, Binary}
 use Rattle.aig_format.specs.declared.header.Counts.{Counts}
-use Rattle.aig_format.specs.declared.section.Properties.{Properties}
-use Rattle.aig_format.specs.declared.symbol.Names.{Names}
 use Rattle.aig_format.specs.Header.{are_wrong}
 use Rattle.aig_format.specs.Reading.{Refusal, Read, ◌>>=◌}
 use Rattle.aig_format.specs.ReadingSections.{literals_at, latch_at, gate_at, implicit_latch_at, implicit_gate_at}

@@ -1,5 +1,5 @@
 -- Reading the header line and the sections.
-use Rattle.std.specs.Prelude.{ℕ, Bool, true, false, zero, suc, ◌+◌, ◌-◌, ◌*◌, List, [], ◌∷◌, Result, Ok, Err, nat_lt}
+use Rattle.std.specs.Prelude.{ℕ, Bool, true, false, zero, suc, ◌+◌, ◌-◌, ◌*◌, List, [], ◌∷◌, Ok, Err, nat_lt}
 use Rattle.std.specs.Prelude.{get_or, if◌then◌else◌}
 use Rattle.aig_base.specs.declared.gate.Gate.{Gate}
 use Rattle.aig_base.specs.declared.latch.Latch.{Latch}
@@ -10,7 +10,7 @@ use Rattle.aig_format.specs.declared.header.Counts.{Counts}
 use Rattle.aig_format.specs.declared.section.Properties.{Properties}
 use Rattle.aig_format.specs.Header.{space, line_end}
 use Rattle.aig_format.specs.Spells.{greatest}
-use Rattle.aig_format.specs.Reading.{text, limit, Read, ◌>>=◌, is_next_at, byte_at, number_at, field_at, more_at}
+use Rattle.aig_format.specs.Reading.{limit, Read, ◌>>=◌, is_next_at, byte_at, number_at, field_at, more_at}
 use Rattle.aig_format.specs.Reading.{optional_at, delta_at}
 
 -- ---- the header line

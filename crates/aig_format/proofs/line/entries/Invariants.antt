@@ -1,4 +1,4 @@
-use Rattle.std.proofs.Common.{◌≡◌, ◌-◌, ◌+◌, ℕ}
+use Rattle.std.proofs.Common.{◌≡◌, ◌-◌, ◌+◌}
 use Rattle.aig_format.specs.ReadingSections.{lines_at}
 use Rattle.aig_format.proofs.Steps.{with_front}
 use Rattle.aig_format.proofs.line.entries.Given as goal

@@ -1,4 +1,4 @@
-use Rattle.std.proofs.Common.{◌∙◌, ◌++◌, ◌∷◌, [], ℕ, ◌+◌, arith}
+use Rattle.std.proofs.Common.{◌∙◌, ◌+◌, arith}
 use Rattle.std.proofs.lemmas.Result.{err_from_is_err_and}
 use Rattle.aig_format.specs.ReadingSections.{lines_at}
 use Rattle.aig_format.proofs.Steps.{lines_on, lines_fail, lines_done}

@@ -1,6 +1,5 @@
-use Rattle.std.proofs.Common.{◌≡◌, sym, ◌∙◌, Err}
+use Rattle.std.proofs.Common.{◌≡◌}
 use Rattle.std.proofs.lemmas.Result.{err_from_is_err_and}
-use Rattle.aig_base.specs.declared.fault.Fault.{Fault}
 use Rattle.aig_base.specs.declared.fault.Fault.TheVariants as faults
 use Rattle.aig_format.proofs.Verdicts.{err_only, err_counts, err_wrong, ok_formed, ok_found, ok_only, ok_of_parts}
 use Rattle.aig_format.proofs.Verdicts.{ok_wrong}

@@ -1,4 +1,4 @@
-use Rattle.std.proofs.Common.{◌∙◌, ℕ, ◌+◌, arith, refl, rules}
+use Rattle.std.proofs.Common.{◌∙◌, refl}
 use Rattle.std.proofs.lemmas.Result.{err_from_is_err_and}
 use Rattle.aig_format.specs.ReadingSections.{groups_of_literals_at}
 use Rattle.aig_format.proofs.SectionSteps.{groups_fail, groups_on, groups_done}

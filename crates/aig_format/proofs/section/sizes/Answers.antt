@@ -1,4 +1,4 @@
-use Rattle.std.proofs.Common.{◌∙◌, ℕ, ◌+◌, arith}
+use Rattle.std.proofs.Common.{◌∙◌, arith}
 use Rattle.std.proofs.lemmas.Result.{err_from_is_err_and}
 use Rattle.aig_format.specs.ReadingSections.{sizes_at}
 use Rattle.aig_format.proofs.SectionSteps.{sizes_fail, sizes_over, sizes_end_fail, sizes_on, sizes_done}

@@ -1,4 +1,4 @@
-use Rattle.std.proofs.Common.{◌∙◌, ℕ, arith}
+use Rattle.std.proofs.Common.{◌∙◌, arith}
 use Rattle.aig_format.specs.ReadingNames.{line_at}
 use Rattle.aig_format.proofs.NameSteps.{line_on, line_ends, line_cut}
 use Rattle.aig_format.proofs.symbol.line.Goals as goal

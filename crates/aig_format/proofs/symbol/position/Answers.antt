@@ -1,4 +1,4 @@
-use Rattle.std.proofs.Common.{◌≡◌, Bool, true, false, arith, refl}
+use Rattle.std.proofs.Common.{◌≡◌, true, false, arith, refl}
 use Rattle.aig_format.proofs.NameSteps.{position_named, position_free}
 use Rattle.aig_format.proofs.symbol.position.Goals as goal
 

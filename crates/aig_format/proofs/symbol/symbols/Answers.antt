@@ -1,4 +1,4 @@
-use Rattle.std.proofs.Common.{◌∙◌, length, arith}
+use Rattle.std.proofs.Common.{◌∙◌, length}
 use Rattle.std.proofs.lemmas.Result.{err_from_is_err_and}
 use Rattle.aig_format.specs.ReadingNames.{symbols_at}
 use Rattle.aig_format.proofs.Symbols.{goes_fail, goes_end, goes_comment, goes_symbol_fail, goes_on}

@@ -1,4 +1,4 @@
-use Rattle.std.proofs.Common.{◌≡◌, ℕ, ◌<◌, ◌≤◌, List, ◌-◌}
+use Rattle.std.proofs.Common.{◌≡◌, ◌<◌, ◌≤◌, ◌-◌}
 use Rattle.aig_format.specs.Reading.{digits_at}
 use Rattle.aig_format.proofs.token.digits.Given as goal
 
