@@ -1,42 +1,49 @@
 -- The body of an ASCII file: what is read is spelled so, and what is spelled so is read.
-use Rattle.std.proofs.Common.{◌≡◌, ℕ, ◌+◌, ◌≤◌, Bool, List, [], ◌∷◌, ◌++◌, length, Result, Ok, Err, refl, sym, ap, subst, ◌∙◌, arith, append_assoc}
+use Rattle.std.proofs.Common.{◌≡◌, ℕ, ◌≤◌, Bool, List, [], ◌++◌, length, Ok, refl, sym, ap}
+use Rattle.std.proofs.Common.{subst, ◌∙◌}
 use Rattle.std.specs.Prelude.{All, sum_by}
 use Rattle.std.specs.List.{flat_map}
 use Rattle.aig_base.specs.declared.raw.Raw.{Raw}
-use Rattle.aig_base.specs.declared.latch.Latch.{Latch}
 use Rattle.aig_base.specs.declared.gate.Gate.{Gate}
 use Rattle.aig_base.specs.Formed as formed
 use Rattle.aig_format.specs.declared.header.Counts.{Counts}
-use Rattle.aig_format.specs.Header.{AreWithin, counts_of}
+use Rattle.aig_format.specs.Header.{counts_of}
 use Rattle.aig_format.specs.Spelling.{literal_line, latch_line, gate_line, lines, properties_of, names_text}
 use Rattle.aig_format.specs.Spells.{HasSmallNumbers, HasSpelling}
-use Rattle.aig_format.specs.Reading.{Read, ◌>>=◌}
-use Rattle.aig_format.specs.ReadingSections.{literals_at, latch_at, gate_at, lines_at, properties_at}
-use Rattle.aig_format.specs.ReadingNames.{names_at}
+use Rattle.aig_format.specs.ReadingSections.{latch_at, gate_at, lines_at}
 use Rattle.aig_format.specs.ReadingFile.{ascii_at}
-use Rattle.aig_format.proofs.Steps.{done, done_is}
+use Rattle.aig_format.proofs.Steps.{done_is}
 use Rattle.aig_format.proofs.Joins.{join2, join_end}
 use Rattle.aig_format.proofs.Numbers.{bind_then}
-use Rattle.aig_format.proofs.Lines.{FitsFrom, lines_take, lines_again, plain_lines, all_from_fits, fits_from_all, IsLatch, IsGate, latch_takes, latch_again, gate_takes, gate_again}
+use Rattle.aig_format.proofs.Lines.{lines_take, lines_again, plain_lines, all_from_fits, fits_from_all}
+use Rattle.aig_format.proofs.Lines.{IsLatch, IsGate, latch_takes, latch_again, gate_takes, gate_again}
 use Rattle.aig_format.proofs.Names.{IsEntry}
 use Rattle.aig_format.proofs.SectionLaws.{literals_take, literals_again, properties_take, properties_again, text_of}
 use Rattle.aig_format.proofs.SymbolLaws.{AreOnce, names_take, names_again}
-use Rattle.aig_format.proofs.Parts.{properties_in, names_in, within_from, small_counts, entries_from, fits_properties, counted_properties}
+use Rattle.aig_format.proofs.Parts.{properties_in, names_in, within_from, small_counts, entries_from, fits_properties}
+use Rattle.aig_format.proofs.Parts.{counted_properties}
 
-gates_take : (n : ℕ) (bytes : List ℕ) (xs : List Gate) (rest : List ℕ) → lines_at (λ v. gate_at) n 0 bytes ≡ Ok (xs, rest) → (bytes ≡ flat_map gate_line xs ++ rest) × (length xs ≡ n) × All IsGate xs
+gates_take : (n : ℕ) (bytes : List ℕ) (xs : List Gate) (rest : List ℕ) → lines_at (λ v. gate_at) n 0 bytes
+    ≡ Ok (xs, rest) → (bytes ≡ flat_map gate_line xs ++ rest) × (length xs ≡ n) × All IsGate xs
 gates_take n bytes xs rest h =
-    let t = lines_take (λ v. gate_at) (λ w. gate_line) (λ v. IsGate) gate_takes n 0 bytes xs rest h in
-    (t.spelled ∙ ap (λ (s : List ℕ). s ++ rest) (plain_lines gate_line t.written xs), t.count, all_from_fits IsGate 0 xs t.fits)
+    let t = lines_take (λ v. gate_at) (λ w. gate_line) (λ v. IsGate) gate_takes n 0 bytes xs rest h in (
+      t.spelled ∙ ap (λ (s : List ℕ). s ++ rest) (plain_lines gate_line t.written xs),
+      t.count,
+      all_from_fits IsGate 0 xs t.fits,
+    )
 
-gates_again : (xs : List Gate) (rest : List ℕ) → All IsGate xs → lines_at (λ v. gate_at) (length xs) 0 (flat_map gate_line xs ++ rest) ≡ Ok (xs, rest)
+gates_again : (xs : List Gate) (rest : List ℕ) → All IsGate xs
+    → lines_at (λ v. gate_at) (length xs) 0 (flat_map gate_line xs ++ rest) ≡ Ok (xs, rest)
 gates_again xs rest small =
     ap (λ (s : List ℕ). lines_at (λ v. gate_at) (length xs) 0 (s ++ rest)) (sym (plain_lines gate_line [] xs))
-    ∙ lines_again (λ v. gate_at) (λ w. gate_line) (λ v. IsGate) gate_again 0 [] xs rest (fits_from_all IsGate 0 xs small)
+    ∙ lines_again (λ v. gate_at) (λ w. gate_line) (λ v. IsGate) gate_again 0 [] xs rest
+    (fits_from_all IsGate 0 xs small)
 
 -- the text after the header line, in pieces
 abbrev pub ascii_after : List ℕ → List Bool → Raw → List ℕ
 ascii_after front resets raw =
-    front ++ flat_map literal_line raw.inputs ++ lines latch_line resets raw.latches ++ properties_of raw ++ flat_map gate_line raw.gates
+    front ++ flat_map literal_line raw.inputs ++ lines latch_line resets raw.latches ++ properties_of raw ++ flat_map
+    gate_line raw.gates
     ++ names_text raw.symbols raw.comment
 
 -- the body that was read, after any front
@@ -49,10 +56,14 @@ pub record AsciiRead (c : Counts) (bytes : List ℕ) (raw : Raw) : Type 0 where
   pub entries : All (IsEntry c) raw.symbols
   pub once : AreOnce raw.symbols
 
-pub ascii_take : (c : Counts) (bytes : List ℕ) (raw : Raw) (rest : List ℕ) → ascii_at c bytes ≡ Ok (raw, rest) → AsciiRead c bytes raw
+pub ascii_take : (c : Counts) (bytes : List ℕ) (raw : Raw) (rest : List ℕ) → ascii_at c bytes ≡ Ok (raw, rest)
+    → AsciiRead c bytes raw
 unfolding ascii_at
 ascii_take c bytes raw rest h =
-    bind_then _ _ _ h (λ i ei h1. bind_then _ _ _ h1 (λ l el h2. bind_then _ _ _ h2 (λ p ep h3. bind_then _ _ _ h3 (λ g eg h4. bind_then _ _ _ h4 (λ n en h5.
+    bind_then _ _ _ h
+    (λ i ei h1.
+    bind_then _ _ _ h1
+    (λ l el h2. bind_then _ _ _ h2 (λ p ep h3. bind_then _ _ _ h3 (λ g eg h4. bind_then _ _ _ h4 (λ n en h5.
     let made : Raw = record {
       max_var = c.max_var;
       inputs = i.0;
@@ -115,9 +126,12 @@ ascii_take c bytes raw rest h =
 -- what follows the header line
 abbrev pub ascii_rest : List Bool → Raw → List ℕ
 ascii_rest resets raw =
-    flat_map literal_line raw.inputs ++ (lines latch_line resets raw.latches ++ (properties_of raw ++ (flat_map gate_line raw.gates ++ names_text raw.symbols raw.comment)))
+    flat_map literal_line raw.inputs ++
+    (lines latch_line resets raw.latches ++
+    (properties_of raw ++ (flat_map gate_line raw.gates ++ names_text raw.symbols raw.comment)))
 
-pub ascii_again : (resets : List Bool) (raw : Raw) → HasSpelling raw → ascii_at (counts_of raw) (ascii_rest resets raw) ≡ Ok (raw, [])
+pub ascii_again : (resets : List Bool) (raw : Raw) → HasSpelling raw
+    → ascii_at (counts_of raw) (ascii_rest resets raw) ≡ Ok (raw, [])
 unfolding ascii_at
 ascii_again resets raw s =
     let c : Counts = counts_of raw in
@@ -127,7 +141,8 @@ ascii_again resets raw s =
     let l : List ℕ = lines latch_line resets raw.latches ++ p in
     rw (
       literals_again raw.inputs l s.numbers.inputs,
-      lines_again (λ v. latch_at) latch_line (λ v. IsLatch) latch_again 0 resets raw.latches p (fits_from_all IsLatch 0 raw.latches s.numbers.latches),
+      lines_again (λ v. latch_at) latch_line (λ v. IsLatch) latch_again 0 resets raw.latches p
+          (fits_from_all IsLatch 0 raw.latches s.numbers.latches),
       properties_again c (properties_in raw) g (counted_properties raw) (fits_properties raw s),
       gates_again raw.gates n s.numbers.gates,
       names_again c (names_in raw) (small_counts c (within_from raw s.formed)) (entries_from raw s.formed) s.names,

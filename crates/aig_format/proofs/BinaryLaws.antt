@@ -1,6 +1,7 @@
 -- The body of a binary file: what is read is spelled so, and what is spelled so is read.
-use Rattle.std.proofs.Common.{◌≡◌, ℕ, zero, suc, ◌+◌, ◌*◌, ◌^◌, ◌<◌, ◌≤◌, Bool, List, [], ◌∷◌, ◌++◌, length, map, Result, Ok, Err, refl, sym, ap, subst, ◌∙◌, arith, append_assoc, length-append}
-use Rattle.std.specs.Prelude.{All, sum_by}
+use Rattle.std.proofs.Common.{◌≡◌, ℕ, zero, suc, ◌+◌, ◌*◌, ◌<◌, ◌≤◌, Bool, List, [], ◌∷◌, ◌++◌, length, map}
+use Rattle.std.proofs.Common.{Ok, refl, sym, ap, subst, ◌∙◌, arith, length-append}
+use Rattle.std.specs.Prelude.{All}
 use Rattle.std.specs.List.{flat_map}
 use Rattle.std.proofs.lemmas.List.{length-map}
 use Rattle.std.proofs.lemmas.List.Elements.{All-nil, All-cons, All-weaker}
@@ -14,19 +15,21 @@ use Rattle.aig_format.specs.declared.header.Counts.{Counts}
 use Rattle.aig_format.specs.Header.{AreWithin, counts_of}
 use Rattle.aig_format.specs.Spelling.{implicit_latch_line, gate_deltas, lines, properties_of, names_text}
 use Rattle.aig_format.specs.Spells.{greatest, AreSmall, HasSmallNumbers, HasSpelling}
-use Rattle.aig_format.specs.Reading.{Read, ◌>>=◌}
-use Rattle.aig_format.specs.ReadingSections.{implicit_latch_at, implicit_gate_at, lines_at, properties_at}
-use Rattle.aig_format.specs.ReadingNames.{names_at}
+use Rattle.aig_format.specs.ReadingSections.{implicit_latch_at, implicit_gate_at, lines_at}
 use Rattle.aig_format.specs.ReadingFile.{binary_at}
 use Rattle.aig_format.proofs.Steps.{done, done_is}
 use Rattle.aig_format.proofs.Joins.{join2, join_end}
 use Rattle.aig_format.proofs.Numbers.{bind_then}
-use Rattle.aig_format.proofs.Lines.{FitsFrom, lines_take, lines_again, plain_lines, IsLatch, IsGate, IsLiteral, IsImplicitLatch, IsImplicitGate, IsWrittenGate, implicit_latch_takes, implicit_latch_again, implicit_gate_takes, implicit_gate_again}
+use Rattle.aig_format.proofs.Lines.{FitsFrom, lines_take, lines_again, plain_lines, IsLatch, IsGate}
+use Rattle.aig_format.proofs.Lines.{IsImplicitLatch, IsImplicitGate, IsWrittenGate, implicit_latch_takes}
+use Rattle.aig_format.proofs.Lines.{implicit_latch_again, implicit_gate_takes, implicit_gate_again}
 use Rattle.aig_format.proofs.Names.{IsEntry}
 use Rattle.aig_format.proofs.SectionLaws.{FitsProperties, properties_take, properties_again, text_of}
 use Rattle.aig_format.proofs.SymbolLaws.{AreOnce, names_take, names_again}
-use Rattle.aig_format.proofs.Parts.{properties_in, names_in, within_from, small_counts, entries_from, fits_properties, counted_properties}
-use Rattle.aig_format.proofs.Evens.{evens_from, length_evens, evens_join, HasEven, evens_of, of_evens, fits_map, fits_and, fits_below, all_from}
+use Rattle.aig_format.proofs.Parts.{properties_in, names_in, within_from, small_counts, entries_from, fits_properties}
+use Rattle.aig_format.proofs.Parts.{counted_properties}
+use Rattle.aig_format.proofs.Evens.{evens_from, length_evens, evens_join, HasEven, evens_of, of_evens, fits_map}
+use Rattle.aig_format.proofs.Evens.{fits_and, fits_below, all_from}
 
 abbrev latch_lit : Latch → ℕ
 latch_lit x = x.lit
@@ -68,11 +71,14 @@ in_order_from raw e =
     let b = length-append raw.inputs ls in
     let exact : raw.max_var ≡ i + l + g = omega (arith, total, a, b, nl, ng) in
     let whole : evens raw.max_var ≡ (evens_from 1 i ++ evens_from (1 + i) l) ++ evens_from (1 + (i + l)) g =
-    ap evens exact ∙ sym (evens_join 1 (i + l) g) ∙ ap (λ (t : List ℕ). t ++ evens_from (1 + (i + l)) g) (sym (evens_join 1 i l)) in
+    ap evens exact ∙ sym (evens_join 1 (i + l) g)
+    ∙ ap (λ (t : List ℕ). t ++ evens_from (1 + (i + l)) g) (sym (evens_join 1 i l)) in
     let c = length-append (evens_from 1 i) (evens_from (1 + i) l) in
     let li = length_evens 1 i in
     let ll = length_evens (1 + i) l in
-    let two = append_is (raw.inputs ++ ls) gs (evens_from 1 i ++ evens_from (1 + i) l) (evens_from (1 + (i + l)) g) (omega (arith, b, nl, c, li, ll)) (e ∙ whole) in
+    let two =
+    append_is (raw.inputs ++ ls) gs (evens_from 1 i ++ evens_from (1 + i) l) (evens_from (1 + (i + l)) g)
+    (omega (arith, b, nl, c, li, ll)) (e ∙ whole) in
     let three = append_is raw.inputs ls (evens_from 1 i) (evens_from (1 + i) l) (sym li) two.0 in
     let first : 1 + i ≡ i + 1 = omega arith in
     let second : 1 + (i + l) ≡ i + l + 1 = omega arith in
@@ -90,28 +96,36 @@ order_of raw o =
     let g : ℕ = length raw.gates in
     let first : i + 1 ≡ 1 + i = omega arith in
     let second : i + l + 1 ≡ 1 + (i + l) = omega arith in
-    let ls : map latch_lit raw.latches ≡ evens_from (1 + i) l = evens_of latch_lit (i + 1) raw.latches o.latches ∙ ap (λ (v : ℕ). evens_from v l) first in
-    let gs : map gate_lhs raw.gates ≡ evens_from (1 + (i + l)) g = evens_of gate_lhs (i + l + 1) raw.gates o.gates ∙ ap (λ (v : ℕ). evens_from v g) second in
+    let ls : map latch_lit raw.latches ≡ evens_from (1 + i) l =
+    evens_of latch_lit (i + 1) raw.latches o.latches ∙ ap (λ (v : ℕ). evens_from v l) first in
+    let gs : map gate_lhs raw.gates ≡ evens_from (1 + (i + l)) g =
+    evens_of gate_lhs (i + l + 1) raw.gates o.gates ∙ ap (λ (v : ℕ). evens_from v g) second in
     (λ j. (o.inputs j ++ ls j) ++ gs j)
-    ∙ ap (λ (t : List ℕ). t ++ evens_from (1 + (i + l)) g) (evens_join 1 i l) ∙ evens_join 1 (i + l) g ∙ ap evens (sym o.exact)
+    ∙ ap (λ (t : List ℕ). t ++ evens_from (1 + (i + l)) g) (evens_join 1 i l) ∙ evens_join 1 (i + l) g
+    ∙ ap evens (sym o.exact)
 
 -- ---- numbers in order are small
 
 evens_below : (v n top : ℕ) → v + n ≤ suc top → All (λ l. l ≤ 2 * top) (evens_from v n)
 evens_below v zero top le = All-nil (λ (l : ℕ). l ≤ 2 * top)
-evens_below v (suc n) top le = All-cons (λ (l : ℕ). l ≤ 2 * top) (2 * v) (evens_from (v + 1) n) (omega (arith, le)) (evens_below (v + 1) n top (omega (arith, le)))
+evens_below v (suc n) top le =
+    All-cons (λ (l : ℕ). l ≤ 2 * top) (2 * v) (evens_from (v + 1) n) (omega (arith, le))
+    (evens_below (v + 1) n top (omega (arith, le)))
 
 small_evens : (n : ℕ) → n ≤ formed.limit → AreSmall (evens n)
 small_evens n le =
-    All-weaker (λ l. l ≤ 2 * formed.limit) (λ l. l ≤ greatest) (λ l h. omega (arith, h)) (evens n) (evens_below 1 n formed.limit (omega (arith, le)))
+    All-weaker (λ l. l ≤ 2 * formed.limit) (λ l. l ≤ greatest) (λ l h. omega (arith, h)) (evens n)
+    (evens_below 1 n formed.limit (omega (arith, le)))
 
-deltas_take : (n v : ℕ) (bytes : List ℕ) (xs : List Gate) (rest : List ℕ) → lines_at implicit_gate_at n v bytes ≡ Ok (xs, rest)
+deltas_take : (n v : ℕ) (bytes : List ℕ) (xs : List Gate) (rest : List ℕ) → lines_at implicit_gate_at n v bytes
+    ≡ Ok (xs, rest)
     → (bytes ≡ flat_map gate_deltas xs ++ rest) × (length xs ≡ n) × FitsFrom IsImplicitGate v xs
 deltas_take n v bytes xs rest h =
     let t = lines_take implicit_gate_at (λ w. gate_deltas) IsImplicitGate implicit_gate_takes n v bytes xs rest h in
     (t.spelled ∙ ap (λ (s : List ℕ). s ++ rest) (plain_lines gate_deltas t.written xs), t.count, t.fits)
 
-deltas_again : (v : ℕ) (xs : List Gate) (rest : List ℕ) → FitsFrom IsWrittenGate v xs → lines_at implicit_gate_at (length xs) v (flat_map gate_deltas xs ++ rest) ≡ Ok (xs, rest)
+deltas_again : (v : ℕ) (xs : List Gate) (rest : List ℕ) → FitsFrom IsWrittenGate v xs
+    → lines_at implicit_gate_at (length xs) v (flat_map gate_deltas xs ++ rest) ≡ Ok (xs, rest)
 deltas_again v xs rest fits =
     ap (λ (s : List ℕ). lines_at implicit_gate_at (length xs) v (s ++ rest)) (sym (plain_lines gate_deltas [] xs))
     ∙ lines_again implicit_gate_at (λ w. gate_deltas) IsWrittenGate implicit_gate_again v [] xs rest fits
@@ -121,7 +135,8 @@ deltas_again v xs rest fits =
 -- the text up to the end, after the front
 abbrev pub binary_after : List ℕ → List Bool → Raw → List ℕ
 binary_after front resets raw =
-    front ++ lines implicit_latch_line resets raw.latches ++ properties_of raw ++ flat_map gate_deltas raw.gates ++ names_text raw.symbols raw.comment
+    front ++ lines implicit_latch_line resets raw.latches ++ properties_of raw ++ flat_map gate_deltas raw.gates ++
+    names_text raw.symbols raw.comment
 
 -- the body that was read, after any front
 pub record BinaryRead (c : Counts) (bytes : List ℕ) (raw : Raw) : Type 0 where
@@ -135,10 +150,12 @@ pub record BinaryRead (c : Counts) (bytes : List ℕ) (raw : Raw) : Type 0 where
   pub entries : All (IsEntry c) raw.symbols
   pub once : AreOnce raw.symbols
 
-pub binary_take : (c : Counts) (bytes : List ℕ) (raw : Raw) (rest : List ℕ) → binary_at c bytes ≡ Ok (raw, rest) → BinaryRead c bytes raw
+pub binary_take : (c : Counts) (bytes : List ℕ) (raw : Raw) (rest : List ℕ) → binary_at c bytes ≡ Ok (raw, rest)
+    → BinaryRead c bytes raw
 unfolding binary_at
 binary_take c bytes raw rest h =
-    bind_then _ _ _ h (λ l el h2. bind_then _ _ _ h2 (λ p ep h3. bind_then _ _ _ h3 (λ g eg h4. bind_then _ _ _ h4 (λ n en h5.
+    bind_then _ _ _ h
+    (λ l el h2. bind_then _ _ _ h2 (λ p ep h3. bind_then _ _ _ h3 (λ g eg h4. bind_then _ _ _ h4 (λ n en h5.
     let made : Raw = record {
       max_var = c.max_var;
       inputs = evens c.inputs;
@@ -153,7 +170,9 @@ binary_take c bytes raw rest h =
       comment = n.0.comment;
     } in
     let q = done_is made raw n.1 rest h5 in
-    let tl = lines_take implicit_latch_at implicit_latch_line IsImplicitLatch implicit_latch_takes c.latches (c.inputs + 1) bytes l.0 l.1 el in
+    let tl =
+    lines_take implicit_latch_at implicit_latch_line IsImplicitLatch implicit_latch_takes c.latches
+    (c.inputs + 1) bytes l.0 l.1 el in
     let tp = properties_take c l.1 p.0 p.1 ep in
     let tg = deltas_take c.gates (c.inputs + c.latches + 1) p.1 g.0 g.1 eg in
     let tn = names_take c g.1 n.0 n.1 en in
@@ -184,7 +203,15 @@ binary_take c bytes raw rest h =
       inputs = refl;
       latches = tl.fits;
       gates = tg.2;
-      fits = record { outputs = tp.fits.outputs; bad = tp.fits.bad; constraints = tp.fits.constraints; justice = tp.fits.justice; fairness = tp.fits.fairness; within = tp.fits.within };
+      fits = record {
+        outputs = tp.fits.outputs;
+        bad = tp.fits.bad;
+        constraints = tp.fits.constraints;
+        justice =
+            tp.fits.justice;
+        fairness = tp.fits.fairness;
+        within = tp.fits.within;
+      };
       entries = tn.fits;
       once = tn.once;
     })))))
@@ -195,8 +222,10 @@ pub binary_numbers : (bytes : List ℕ) (raw : Raw) → BinaryRead (counts_of ra
 binary_numbers bytes raw r w exact =
     let i : ℕ = length raw.inputs in
     let l : ℕ = length raw.latches in
-    let latches = fits_below IsImplicitLatch formed.limit (i + 1) raw.latches (omega (arith, w.max_var, exact)) r.latches in
-    let gates = fits_below IsImplicitGate formed.limit (i + l + 1) raw.gates (omega (arith, w.max_var, exact)) r.gates in
+    let latches =
+    fits_below IsImplicitLatch formed.limit (i + 1) raw.latches (omega (arith, w.max_var, exact)) r.latches in
+    let gates =
+    fits_below IsImplicitGate formed.limit (i + l + 1) raw.gates (omega (arith, w.max_var, exact)) r.gates in
     let order : InOrder raw = record {
       inputs = r.inputs;
       latches = fits_map IsImplicitLatch (HasEven latch_lit) (λ v x f. f.0) (i + 1) raw.latches r.latches;
@@ -205,30 +234,40 @@ binary_numbers bytes raw r w exact =
     } in (
       record {
         inputs = subst AreSmall (sym r.inputs) (small_evens i (omega (arith, w.inputs)));
-        latches = all_from (λ v x. (v ≤ formed.limit) × IsImplicitLatch v x) IsLatch (λ v x f. (omega (arith, f.0, f.1.0), f.1.1, f.1.2)) (i + 1) raw.latches latches;
+        latches =
+            all_from (λ v x. (v ≤ formed.limit) × IsImplicitLatch v x) IsLatch
+            (λ v x f. (omega (arith, f.0, f.1.0), f.1.1, f.1.2)) (i + 1) raw.latches latches;
         outputs = r.fits.outputs;
         bad = r.fits.bad;
         constraints = r.fits.constraints;
         justice = r.fits.justice;
         fairness = r.fits.fairness;
         gates = all_from (λ v g. (v ≤ formed.limit) × IsImplicitGate v g) IsGate
-            (λ v g f. (omega (arith, f.0, f.1.0), omega (arith, f.0, f.1.0, f.1.1), omega (arith, f.0, f.1.0, f.1.1, f.1.2))) (i + l + 1) raw.gates gates;
+            (λ v g f. (
+              omega (arith, f.0, f.1.0),
+              omega (arith, f.0, f.1.0, f.1.1),
+              omega (arith, f.0, f.1.0, f.1.1, f.1.2),
+            )) (i + l + 1) raw.gates gates;
       },
       record {
         in_order = order_of raw order;
-        gates = all_from IsImplicitGate (λ g. (g.rhs0 < g.lhs) × (g.rhs1 ≤ g.rhs0)) (λ v g f. (f.1, f.2)) (i + l + 1) raw.gates r.gates;
+        gates = all_from IsImplicitGate (λ g. (g.rhs0 < g.lhs) × (g.rhs1 ≤ g.rhs0)) (λ v g f. (f.1, f.2))
+            (i + l + 1) raw.gates r.gates;
       },
     )
 
 -- what follows the header line
 abbrev pub binary_rest : List Bool → Raw → List ℕ
 binary_rest resets raw =
-    lines implicit_latch_line resets raw.latches ++ (properties_of raw ++ (flat_map gate_deltas raw.gates ++ names_text raw.symbols raw.comment))
+    lines implicit_latch_line resets raw.latches ++
+    (properties_of raw ++ (flat_map gate_deltas raw.gates ++ names_text raw.symbols raw.comment))
 
-pub exact_from : (raw : Raw) → IsBinaryReady raw → raw.max_var ≡ length raw.inputs + length raw.latches + length raw.gates
+pub exact_from : (raw : Raw) → IsBinaryReady raw
+    → raw.max_var ≡ length raw.inputs + length raw.latches + length raw.gates
 exact_from raw ready = (in_order_from raw ready.in_order).exact
 
-pub binary_again : (resets : List Bool) (raw : Raw) → HasSpelling raw → IsBinaryReady raw → binary_at (counts_of raw) (binary_rest resets raw) ≡ Ok (raw, [])
+pub binary_again : (resets : List Bool) (raw : Raw) → HasSpelling raw → IsBinaryReady raw
+    → binary_at (counts_of raw) (binary_rest resets raw) ≡ Ok (raw, [])
 unfolding binary_at
 binary_again resets raw s ready =
     let c : Counts = counts_of raw in
@@ -240,13 +279,16 @@ binary_again resets raw s ready =
     let p : List ℕ = properties_of raw ++ g in
     let w = within_from raw s.formed in
     let latches : FitsFrom IsImplicitLatch (i + 1) raw.latches =
-    fits_map (λ v x. HasEven latch_lit v x × IsLatch x) IsImplicitLatch (λ v x f. (f.0, f.1.1, f.1.2)) (i + 1) raw.latches
+    fits_map (λ v x. HasEven latch_lit v x × IsLatch x) IsImplicitLatch (λ v x f. (f.0, f.1.1, f.1.2))
+    (i + 1) raw.latches
     (fits_and (HasEven latch_lit) IsLatch (i + 1) raw.latches o.latches s.numbers.latches) in
-    let below = fits_below (HasEven gate_lhs) formed.limit (i + l + 1) raw.gates (omega (arith, w.max_var, o.exact)) o.gates in
+    let below =
+    fits_below (HasEven gate_lhs) formed.limit (i + l + 1) raw.gates (omega (arith, w.max_var, o.exact)) o.gates in
     let gates : FitsFrom IsWrittenGate (i + l + 1) raw.gates =
     fits_map (λ v x. ((v ≤ formed.limit) × HasEven gate_lhs v x) × ((x.rhs0 < x.lhs) × (x.rhs1 ≤ x.rhs0))) IsWrittenGate
     (λ v x f. ((f.0.1, f.1.0, f.1.1), omega (arith, f.0.0, f.0.1))) (i + l + 1) raw.gates
-    (fits_and (λ v x. (v ≤ formed.limit) × HasEven gate_lhs v x) (λ x. (x.rhs0 < x.lhs) × (x.rhs1 ≤ x.rhs0)) (i + l + 1) raw.gates below ready.gates) in
+    (fits_and (λ v x. (v ≤ formed.limit) × HasEven gate_lhs v x) (λ x. (x.rhs0 < x.lhs) × (x.rhs1 ≤ x.rhs0))
+    (i + l + 1) raw.gates below ready.gates) in
     let made : List ℕ → Raw = λ inputs. record {
       max_var = raw.max_var;
       inputs = inputs;
@@ -261,7 +303,8 @@ binary_again resets raw s ready =
       comment = raw.comment;
     } in
     rw (
-      lines_again implicit_latch_at implicit_latch_line IsImplicitLatch implicit_latch_again (i + 1) resets raw.latches p latches,
+      lines_again implicit_latch_at implicit_latch_line IsImplicitLatch implicit_latch_again
+          (i + 1) resets raw.latches p latches,
       properties_again c (properties_in raw) g (counted_properties raw) (fits_properties raw s),
       deltas_again (i + l + 1) raw.gates n gates,
       names_again c (names_in raw) (small_counts c w) (entries_from raw s.formed) s.names,

@@ -1,8 +1,10 @@
 -- A delta that is read is spelled so, and what is spelled so is read.
-use Rattle.std.proofs.Common.{◌≡◌, ℕ, zero, suc, ◌+◌, ◌-◌, ◌*◌, ◌/◌, ◌%◌, ◌^◌, ◌<◌, ◌≤◌, Bool, true, false, cond, ltb, eqb, ◌||◌, List, [], ◌∷◌, ◌++◌, length, Result, Ok, Err, refl, sym, ap, subst, ◌∙◌, arith}
+use Rattle.std.proofs.Common.{◌≡◌, ℕ, zero, suc, ◌+◌, ◌-◌, ◌*◌, ◌/◌, ◌%◌, ◌^◌, ◌<◌, ◌≤◌, Bool, true, false, cond, ltb}
+use Rattle.std.proofs.Common.{eqb, ◌||◌, List, [], ◌∷◌, ◌++◌, length, Ok, Err, refl, sym, ap, subst, ◌∙◌}
+use Rattle.std.proofs.Common.{arith}
 use Rattle.std.proofs.lemmas.Bool.{ltb-true, ltb-false, lt-ltb, le-ltb}
 use Rattle.std.proofs.lemmas.Bool.Decides.{nat_tests}
-use Rattle.aig_format.specs.Reading.{Refusal, text, Read, ◌>>=◌, groups_at, delta_at}
+use Rattle.aig_format.specs.Reading.{text, ◌>>=◌, groups_at, delta_at}
 use Rattle.aig_format.specs.Delta.{groups, delta}
 use Rattle.aig_format.proofs.Steps.{done, done_is}
 use Rattle.aig_format.proofs.Numbers.{bind_then}
@@ -28,9 +30,13 @@ fits_more : (k n : ℕ) → n < 128 ^ suc k → groups k n ≡ groups (suc k) n
 fits_more zero n lt = let one : n < 128 = omega arith in one_group 0 n one ∙ sym (one_group 1 n one)
 fits_more (suc k) n lt = by_size (λ m fits. fits_more k m fits) (ltb n 128) refl
   where
-    by_size : ((m : ℕ) → m < 128 ^ suc k → groups k m ≡ groups (suc k) m) → (b : Bool) → ltb n 128 ≡ b → groups (suc k) n ≡ groups (suc (suc k)) n
+    by_size : ((m : ℕ) → m < 128 ^ suc k → groups k m ≡ groups (suc k) m) → (b : Bool) → ltb n 128 ≡ b
+        → groups (suc k) n ≡ groups (suc (suc k)) n
     by_size again true e = let one = ltb-true n 128 e in one_group (suc k) n one ∙ sym (one_group (suc (suc k)) n one)
-    by_size again false e = let le = ltb-false n 128 e in more_groups k n le ∙ ap (λ (t : List ℕ). (128 + n % 128) ∷ t) (again (n / 128) (omega (arith, pow_more k))) ∙ sym (more_groups (suc k) n le)
+    by_size again false e = let le =
+        ltb-false n 128 e in more_groups k n le
+        ∙ ap (λ (t : List ℕ). (128 + n % 128) ∷ t) (again (n / 128) (omega (arith, pow_more k)))
+        ∙ sym (more_groups (suc k) n le)
 
 pub delta_small : (n : ℕ) → n < 128 → delta n ≡ n ∷ []
 unfolding delta
@@ -38,7 +44,8 @@ delta_small n lt = one_group 3 n lt
 
 pub delta_large : (n : ℕ) → 128 ≤ n → n < 2 ^ 28 → delta n ≡ (128 + n % 128) ∷ delta (n / 128)
 unfolding delta
-delta_large n le lt = more_groups 2 n le ∙ ap (λ (t : List ℕ). (128 + n % 128) ∷ t) (fits_more 2 (n / 128) (omega arith))
+delta_large n le lt =
+    more_groups 2 n le ∙ ap (λ (t : List ℕ). (128 + n % 128) ∷ t) (fits_more 2 (n / 128) (omega arith))
 
 -- ---- reading
 
@@ -49,56 +56,91 @@ groups_again zero n rest lt =
     ap (λ (t : List ℕ). groups_at 0 (t ++ rest)) (one_group 0 n one) ∙ rw (lt-ltb n 128 one) refl
 groups_again (suc k) n rest lt = by_size (λ m lt. groups_again k m rest lt) (ltb n 128) refl
   where
-    by_size : ((m : ℕ) → m < 128 ^ suc k → groups_at k (groups k m ++ rest) ≡ Ok (m, rest)) → (b : Bool) → ltb n 128 ≡ b → groups_at (suc k) (groups (suc k) n ++ rest) ≡ Ok (n, rest)
-    by_size again true e = ap (λ (t : List ℕ). groups_at (suc k) (t ++ rest)) (one_group (suc k) n (ltb-true n 128 e)) ∙ rw e refl
+    by_size : ((m : ℕ) → m < 128 ^ suc k → groups_at k (groups k m ++ rest) ≡ Ok (m, rest)) → (b : Bool)
+        → ltb n 128 ≡ b → groups_at (suc k) (groups (suc k) n ++ rest) ≡ Ok (n, rest)
+    by_size again true e = ap (λ (t : List ℕ). groups_at (suc k) (t ++ rest)) (one_group (suc k) n (ltb-true n 128 e))
+        ∙ rw e refl
     by_size again false e =
         let le : 128 ≤ n = ltb-false n 128 e in
         let large : ltb (128 + n % 128) 128 ≡ false = le-ltb _ _ (omega arith) in
         let byte : ltb 255 (128 + n % 128) ≡ false = le-ltb _ _ (omega arith) in
         let some : eqb (n / 128) 0 ≡ false = grind (arith, nat_tests) in
         let value : 128 + n % 128 - 128 + 128 * (n / 128) ≡ n = omega arith in
-        ap (λ (t : List ℕ). groups_at (suc k) (t ++ rest)) (more_groups k n le) ∙ rw (large, again (n / 128) (omega (arith, pow_more k)), byte, some, value) refl
+        ap (λ (t : List ℕ). groups_at (suc k) (t ++ rest)) (more_groups k n le)
+        ∙ rw (large, again (n / 128) (omega (arith, pow_more k)), byte, some, value) refl
 
-groups_take : (k : ℕ) (bytes : List ℕ) (n : ℕ) (rest : List ℕ) → groups_at k bytes ≡ Ok (n, rest) → (bytes ≡ groups k n ++ rest) × (n < 128 ^ suc k)
+groups_take : (k : ℕ) (bytes : List ℕ) (n : ℕ) (rest : List ℕ) → groups_at k bytes ≡ Ok (n, rest)
+    → (bytes ≡ groups k n ++ rest) × (n < 128 ^ suc k)
 unfolding groups_at
 groups_take zero [] n rest h = absurd cc
 groups_take (suc k) [] n rest h = absurd cc
 groups_take zero (b ∷ bytes) n rest h = by_size (ltb b 128) refl h
   where
-    by_size : (t : Bool) → ltb b 128 ≡ t → cond t (done b bytes) (Err text) ≡ Ok (n, rest) → (b ∷ bytes ≡ groups 0 n ++ rest) × (n < 128 ^ 1)
-    by_size true e h = let p = done_is b n bytes rest h in let lt = ltb-true b 128 e in ((λ i. p.0 i ∷ p.1 i) ∙ ap (λ (t : List ℕ). t ++ rest) (sym (one_group 0 n (omega (arith, p.0)))), omega (arith, p.0))
+    by_size : (t : Bool) → ltb b 128 ≡ t → cond t (done b bytes) (Err text) ≡ Ok (n, rest)
+        → (b ∷ bytes ≡ groups 0 n ++ rest) × (n < 128 ^ 1)
+    by_size true e h = let p = done_is b n bytes rest h in let lt =
+        ltb-true b 128 e in (
+          (λ i. p.0 i ∷ p.1 i) ∙ ap (λ (t : List ℕ). t ++ rest) (sym (one_group 0 n (omega (arith, p.0)))),
+          omega (arith, p.0),
+        )
     by_size false e h = absurd cc
 groups_take (suc k) (b ∷ bytes) n rest h = by_size (λ m left g. groups_take k bytes m left g) (ltb b 128) refl h
   where
-    by_value : (m : ℕ) (left : List ℕ) → (bytes ≡ groups k m ++ left) × (m < 128 ^ suc k) → 128 ≤ b → (t : Bool) → (eqb m 0 || ltb 255 b) ≡ t → cond t (Err text) (done (b - 128 + 128 * m) left) ≡ Ok (n, rest) → (b ∷ bytes ≡ groups (suc k) n ++ rest) × (n < 128 ^ suc (suc k))
+    by_value : (m : ℕ) (left : List ℕ) → (bytes ≡ groups k m ++ left) × (m < 128 ^ suc k) → 128 ≤ b → (t : Bool)
+        → (eqb m 0 || ltb 255 b) ≡ t → cond t (Err text) (done (b - 128 + 128 * m) left) ≡ Ok (n, rest)
+        → (b ∷ bytes ≡ groups (suc k) n ++ rest) × (n < 128 ^ suc (suc k))
     by_value m left before le true e h = absurd cc
     by_value m left before le false e h =
         let p = done_is (b - 128 + 128 * m) n left rest h in
         let some : (0 < m) × (b < 256) = grind (arith, nat_tests) in
         let low : 128 + n % 128 ≡ b = omega (arith, p.0, some.0, some.1) in
         let high : n / 128 ≡ m = omega (arith, p.0, some.0, some.1) in
-        let text : groups (suc k) n ≡ b ∷ groups k m = more_groups k n (omega (arith, p.0, some.0)) ∙ (λ i. low i ∷ groups k (high i)) in
-        (ap (λ (t : List ℕ). b ∷ t) (before.0 ∙ ap (λ (r : List ℕ). groups k m ++ r) p.1) ∙ ap (λ (t : List ℕ). t ++ rest) (sym text), omega (arith, pow_more k, p.0, before.1, some.1))
+        let text : groups (suc k) n ≡ b ∷ groups k m =
+        more_groups k n (omega (arith, p.0, some.0)) ∙ (λ i. low i ∷ groups k (high i)) in (
+          ap (λ (t : List ℕ). b ∷ t) (before.0 ∙ ap (λ (r : List ℕ). groups k m ++ r) p.1)
+              ∙ ap (λ (t : List ℕ). t ++ rest) (sym text),
+          omega (arith, pow_more k, p.0, before.1, some.1),
+        )
 
-    by_size : ((m : ℕ) (left : List ℕ) → groups_at k bytes ≡ Ok (m, left) → (bytes ≡ groups k m ++ left) × (m < 128 ^ suc k)) → (t : Bool) → ltb b 128 ≡ t
-        → cond t (done b bytes) (groups_at k bytes >>= λ high. cond (eqb high.0 0 || ltb 255 b) (Err text) (done (b - 128 + 128 * high.0) high.1)) ≡ Ok (n, rest) → (b ∷ bytes ≡ groups (suc k) n ++ rest) × (n < 128 ^ suc (suc k))
-    by_size again true e h = let p = done_is b n bytes rest h in let lt = ltb-true b 128 e in ((λ i. p.0 i ∷ p.1 i) ∙ ap (λ (t : List ℕ). t ++ rest) (sym (one_group (suc k) n (omega (arith, p.0)))), omega (arith, p.0, pow_more k, positive k))
-    by_size again false e h = bind_then _ _ _ h (λ m em g. by_value m.0 m.1 (again m.0 m.1 em) (ltb-false b 128 e) (eqb m.0 0 || ltb 255 b) refl g)
+    by_size : ((m : ℕ) (left : List ℕ) → groups_at k bytes ≡ Ok (m, left) → (bytes ≡ groups k m ++ left)
+        × (m < 128 ^ suc k)) → (t : Bool) → ltb b 128 ≡ t
+        → cond t (done b bytes)
+        (groups_at k bytes >>= λ high. cond (eqb high.0 0 || ltb 255 b) (Err text)
+        (done (b - 128 + 128 * high.0) high.1)) ≡ Ok (n, rest) → (b ∷ bytes ≡ groups (suc k) n ++ rest)
+        × (n < 128 ^ suc (suc k))
+    by_size again true e h = let p = done_is b n bytes rest h in let lt =
+        ltb-true b 128 e in (
+          (λ i. p.0 i ∷ p.1 i) ∙ ap (λ (t : List ℕ). t ++ rest) (sym (one_group (suc k) n (omega (arith, p.0)))),
+          omega (arith, p.0, pow_more k, positive k),
+        )
+    by_size again false e h =
+        bind_then _ _ _ h
+        (λ m em g. by_value m.0 m.1 (again m.0 m.1 em) (ltb-false b 128 e) (eqb m.0 0 || ltb 255 b) refl g)
 
-pub delta_again : (low high n : ℕ) (rest : List ℕ) → low ≤ n → n ≤ high → n < 2 ^ 28 → delta_at low high (delta n ++ rest) ≡ Ok (n, rest)
+pub delta_again : (low high n : ℕ) (rest : List ℕ) → low ≤ n → n ≤ high → n < 2 ^ 28
+    → delta_at low high (delta n ++ rest) ≡ Ok (n, rest)
 unfolding delta_at delta
-delta_again low high n rest le1 le2 lt = rw (groups_again 3 n rest (omega arith), le-ltb n low le1, le-ltb high n le2) refl
+delta_again low high n rest le1 le2 lt =
+    rw (groups_again 3 n rest (omega arith), le-ltb n low le1, le-ltb high n le2) refl
 
-pub delta_takes : (low high : ℕ) (bytes : List ℕ) (n : ℕ) (rest : List ℕ) → delta_at low high bytes ≡ Ok (n, rest) → (bytes ≡ delta n ++ rest) × (low ≤ n) × (n ≤ high) × (n < 2 ^ 28)
+pub delta_takes : (low high : ℕ) (bytes : List ℕ) (n : ℕ) (rest : List ℕ) → delta_at low high bytes ≡ Ok (n, rest)
+    → (bytes ≡ delta n ++ rest) × (low ≤ n) × (n ≤ high) × (n < 2 ^ 28)
 unfolding delta_at delta
-delta_takes low high bytes n rest h = bind_then _ _ _ h (λ m em g. by_range m.0 m.1 (groups_take 3 bytes m.0 m.1 em) (ltb m.0 low || ltb high m.0) refl g)
+delta_takes low high bytes n rest h =
+    bind_then _ _ _ h (λ m em g. by_range m.0 m.1 (groups_take 3 bytes m.0 m.1 em) (ltb m.0 low || ltb high m.0) refl g)
   where
-    by_range : (m : ℕ) (left : List ℕ) → (bytes ≡ groups 3 m ++ left) × (m < 128 ^ 4) → (t : Bool) → (ltb m low || ltb high m) ≡ t → cond t (Err text) (done m left) ≡ Ok (n, rest) → (bytes ≡ groups 3 n ++ rest) × (low ≤ n) × (n ≤ high) × (n < 2 ^ 28)
+    by_range : (m : ℕ) (left : List ℕ) → (bytes ≡ groups 3 m ++ left) × (m < 128 ^ 4) → (t : Bool)
+        → (ltb m low || ltb high m) ≡ t → cond t (Err text) (done m left) ≡ Ok (n, rest)
+        → (bytes ≡ groups 3 n ++ rest) × (low ≤ n) × (n ≤ high) × (n < 2 ^ 28)
     by_range m left before true e g = absurd cc
     by_range m left before false e g =
         let p = done_is m n left rest g in
-        let range : (low ≤ m) × (m ≤ high) = grind (arith, nat_tests) in
-        (before.0 ∙ (λ i. groups 3 (p.0 i) ++ p.1 i), omega (arith, p.0, range.0), omega (arith, p.0, range.1), omega (arith, p.0, before.1))
+        let range : (low ≤ m) × (m ≤ high) = grind (arith, nat_tests) in (
+          before.0 ∙ (λ i. groups 3 (p.0 i) ++ p.1 i),
+          omega (arith, p.0, range.0),
+          omega (arith, p.0, range.1),
+          omega (arith, p.0, before.1),
+        )
 
 -- ---- the bounds of the code
 
@@ -127,7 +169,8 @@ groups_short (suc j) n zero lt =
     omega (arith, size)
 groups_short (suc j) n (suc k) lt = by_size (λ m fits. groups_short j m k fits) (ltb n 128) refl
   where
-    by_size : ((m : ℕ) → m < 128 ^ suc k → length (groups j m) ≤ suc k) → (b : Bool) → ltb n 128 ≡ b → length (groups (suc j) n) ≤ suc (suc k)
+    by_size : ((m : ℕ) → m < 128 ^ suc k → length (groups j m) ≤ suc k) → (b : Bool) → ltb n 128 ≡ b
+        → length (groups (suc j) n) ≤ suc (suc k)
     by_size again true e = let size = ap length (one_group (suc j) n (ltb-true n 128 e)) in omega (arith, size)
     by_size again false e =
         let size = ap length (more_groups j n (ltb-false n 128 e)) in
@@ -141,7 +184,8 @@ delta_short n k lt =
     let fits : n < 128 ^ suc k = subst (λ (j : ℕ). n < 128 ^ j) next lt in
     omega (arith, groups_short 3 n k fits)
 
-pub delta_ends : (m n : ℕ) (more others : List ℕ) → m < 2 ^ 28 → n < 2 ^ 28 → delta m ++ more ≡ delta n ++ others → (m ≡ n) × (more ≡ others)
+pub delta_ends : (m n : ℕ) (more others : List ℕ) → m < 2 ^ 28 → n < 2 ^ 28 → delta m ++ more ≡ delta n ++ others
+    → (m ≡ n) × (more ≡ others)
 delta_ends m n more others ltm ltn same =
     let first = delta_again 0 268435456 m more (omega arith) (omega (arith, ltm)) ltm in
     let second = delta_again 0 268435456 n others (omega arith) (omega (arith, ltn)) ltn in

@@ -1,5 +1,6 @@
 -- Literals of variables in order, and lists whose entries have them.
-use Rattle.std.proofs.Common.{◌≡◌, ℕ, zero, suc, ◌+◌, ◌*◌, ◌≤◌, List, [], ◌∷◌, ◌++◌, length, map, refl, sym, ap, ◌∙◌, arith, add-one}
+use Rattle.std.proofs.Common.{◌≡◌, ℕ, zero, suc, ◌+◌, ◌*◌, ◌≤◌, List, [], ◌∷◌, ◌++◌, length, map, refl, sym, ap, ◌∙◌}
+use Rattle.std.proofs.Common.{arith}
 use Rattle.std.specs.Prelude.{All}
 use Rattle.std.specs.List.{range_with_len}
 use Rattle.std.proofs.lemmas.List.FromFn.{map-range_with_len_more, length-map-range_with_len}
@@ -54,24 +55,29 @@ module _ {X : Type 0} (f : X → ℕ) where
 
 -- ---- lists whose entries fit their variables
 
-pub fits_map : {X : Type 0} (A B : ℕ → X → Type 0) → ((v : ℕ) (x : X) → A v x → B v x) → (v : ℕ) (xs : List X) → FitsFrom A v xs → FitsFrom B v xs
+pub fits_map : {X : Type 0} (A B : ℕ → X → Type 0) → ((v : ℕ) (x : X) → A v x → B v x) → (v : ℕ) (xs : List X)
+    → FitsFrom A v xs → FitsFrom B v xs
 unfolding FitsFrom
 fits_map A B f v [] fits = tt
 fits_map A B f v (x ∷ xs) fits = (f v x fits.0, fits_map A B f (suc v) xs fits.1)
 
 -- with a fact of each entry
-pub fits_and : {X : Type 0} (A : ℕ → X → Type 0) (P : X → Type 0) (v : ℕ) (xs : List X) → FitsFrom A v xs → All P xs → FitsFrom (λ u x. A u x × P x) v xs
+pub fits_and : {X : Type 0} (A : ℕ → X → Type 0) (P : X → Type 0) (v : ℕ) (xs : List X) → FitsFrom A v xs → All P xs
+    → FitsFrom (λ u x. A u x × P x) v xs
 unfolding FitsFrom
 fits_and A P v [] fits all = tt
 fits_and A P v (x ∷ xs) fits all = ((fits.0, All-head P x xs all), fits_and A P (suc v) xs fits.1 (All-tail P x xs all))
 
 -- with a bound of the variables
-pub fits_below : {X : Type 0} (A : ℕ → X → Type 0) (top v : ℕ) (xs : List X) → v + length xs ≤ suc top → FitsFrom A v xs → FitsFrom (λ u x. (u ≤ top) × A u x) v xs
+pub fits_below : {X : Type 0} (A : ℕ → X → Type 0) (top v : ℕ) (xs : List X) → v + length xs ≤ suc top
+    → FitsFrom A v xs → FitsFrom (λ u x. (u ≤ top) × A u x) v xs
 unfolding FitsFrom
 fits_below A top v [] le fits = tt
-fits_below A top v (x ∷ xs) le fits = ((omega (arith, le), fits.0), fits_below A top (suc v) xs (omega (arith, le)) fits.1)
+fits_below A top v (x ∷ xs) le fits =
+    ((omega (arith, le), fits.0), fits_below A top (suc v) xs (omega (arith, le)) fits.1)
 
-pub all_from : {X : Type 0} (A : ℕ → X → Type 0) (P : X → Type 0) → ((v : ℕ) (x : X) → A v x → P x) → (v : ℕ) (xs : List X) → FitsFrom A v xs → All P xs
+pub all_from : {X : Type 0} (A : ℕ → X → Type 0) (P : X → Type 0) → ((v : ℕ) (x : X) → A v x → P x)
+    → (v : ℕ) (xs : List X) → FitsFrom A v xs → All P xs
 unfolding FitsFrom
 all_from A P f v [] fits = All-nil P
 all_from A P f v (x ∷ xs) fits = All-cons P x xs (f v x fits.0) (all_from A P f (suc v) xs fits.1)

@@ -1,18 +1,19 @@
 -- The file that is read is spelled so, and what is spelled so is read.
-use Rattle.std.proofs.Common.{◌≡◌, ◌⊎◌, inl, inr, ℕ, ◌+◌, ◌<◌, ◌≤◌, Bool, true, false, cond, not, ltb, eqb, eq-eqb, subst, List, [], ◌∷◌, ◌++◌, length, Result, Ok, Err, refl, sym, ap, ◌∙◌, arith}
-use Rattle.std.proofs.lemmas.Bool.{ltb-true, ltb-false, le-ltb, eqb-true}
+use Rattle.std.proofs.Common.{◌≡◌, inl, inr, ℕ, ◌+◌, Bool, true, false, cond, not, eqb, eq-eqb}
+use Rattle.std.proofs.Common.{subst, List, [], ◌++◌, length, Result, Ok, Err, refl, sym, ap, ◌∙◌, arith}
+use Rattle.std.proofs.lemmas.Bool.{ltb-false, le-ltb, eqb-true}
 use Rattle.aig_base.specs.declared.raw.Raw.{Raw}
-use Rattle.aig_base.specs.Renumbered.{IsBinaryReady}
 use Rattle.aig_format.specs.declared.header.Format.{Format}
 use Rattle.aig_format.specs.declared.header.Format.TheVariants.{Ascii, Binary}
 use Rattle.aig_format.specs.declared.header.Counts.{Counts}
-use Rattle.aig_format.specs.Header.{AreWithin, are_wrong, counts_of, header_line}
-use Rattle.aig_format.specs.Spelling.{Zeros, ascii, binary, literal_line, latch_line, implicit_latch_line, gate_line, gate_deltas, lines, properties_of, names_text}
-use Rattle.aig_format.specs.Spells.{HasSpelling, SpellsAscii, SpellsBinary, Spells, HasWrongCounts}
-use Rattle.aig_format.specs.Reading.{Refusal, Read, ◌>>=◌}
+use Rattle.aig_format.specs.Header.{are_wrong, counts_of, header_line}
+use Rattle.aig_format.specs.Spelling.{Zeros, ascii, binary, literal_line, latch_line, implicit_latch_line, gate_line}
+use Rattle.aig_format.specs.Spelling.{gate_deltas, lines, properties_of, names_text}
+use Rattle.aig_format.specs.Spells.{SpellsAscii, SpellsBinary, Spells, HasWrongCounts}
+use Rattle.aig_format.specs.Reading.{Refusal}
 use Rattle.aig_format.specs.ReadingSections.{header_at}
-use Rattle.aig_format.specs.ReadingFile.{ascii_at, binary_at, body_at, FileRefusal, token, counts, and_then, file_at}
-use Rattle.aig_format.proofs.Steps.{done, done_is}
+use Rattle.aig_format.specs.ReadingFile.{body_at, FileRefusal, token, counts, and_then, file_at}
+use Rattle.aig_format.proofs.Steps.{done}
 use Rattle.aig_format.proofs.Joins.{apart5, apart6}
 use Rattle.aig_format.proofs.HeaderLaws.{HeaderRead, header_takes, header_again}
 use Rattle.aig_format.proofs.Parts.{within_from, formed_from}
@@ -23,11 +24,13 @@ use Rattle.std.proofs.lemmas.List.{append-nil}
 
 -- ---- steps
 
-and_then_ok : {A B : Type 0} (r : Result A Refusal) (f : A → Result B FileRefusal) (y : B) → and_then r f ≡ Ok y → (x : A) × (r ≡ Ok x) × (f x ≡ Ok y)
+and_then_ok : {A B : Type 0} (r : Result A Refusal) (f : A → Result B FileRefusal) (y : B) → and_then r f ≡ Ok y
+    → (x : A) × (r ≡ Ok x) × (f x ≡ Ok y)
 and_then_ok (Ok x) f y e = (x, refl, e)
 and_then_ok (Err d) f y e = absurd cc
 
-and_then_counts : {A B : Type 0} (r : Result A Refusal) (f : A → Result B FileRefusal) → and_then r f ≡ Err counts → (x : A) × (r ≡ Ok x) × (f x ≡ Err counts)
+and_then_counts : {A B : Type 0} (r : Result A Refusal) (f : A → Result B FileRefusal) → and_then r f ≡ Err counts
+    → (x : A) × (r ≡ Ok x) × (f x ≡ Err counts)
 and_then_counts {B = B} (Ok x) f e = (x, refl, e)
 and_then_counts {B = B} (Err d) f e = absurd (apart d e)
   where
@@ -46,7 +49,8 @@ ok_is p q e = cc
 -- ---- what is read
 
 -- the counts of the parts in place of those of the header
-ascii_spells : (bytes : List ℕ) (c : Counts) (left : List ℕ) (raw : Raw) → HeaderRead bytes Ascii c left → are_wrong Ascii c ≡ false → AsciiRead c left raw → SpellsAscii bytes raw
+ascii_spells : (bytes : List ℕ) (c : Counts) (left : List ℕ) (raw : Raw) → HeaderRead bytes Ascii c left
+    → are_wrong Ascii c ≡ false → AsciiRead c left raw → SpellsAscii bytes raw
 unfolding ascii
 ascii_spells bytes c left raw h fine r =
     let is : c ≡ counts_of raw = sym r.counted in
@@ -68,14 +72,17 @@ not_false : (b : Bool) → not b ≡ false → b ≡ true
 not_false true e = refl
 not_false false e = sym e
 
-binary_spells : (bytes : List ℕ) (c : Counts) (left : List ℕ) (raw : Raw) → HeaderRead bytes Binary c left → are_wrong Binary c ≡ false → BinaryRead c left raw → SpellsBinary bytes raw
+binary_spells : (bytes : List ℕ) (c : Counts) (left : List ℕ) (raw : Raw) → HeaderRead bytes Binary c left
+    → are_wrong Binary c ≡ false → BinaryRead c left raw → SpellsBinary bytes raw
 unfolding binary
 binary_spells bytes c left raw h fine r =
     let is : c ≡ counts_of raw = sym r.counted in
-    let h2 : HeaderRead bytes Binary (counts_of raw) left = subst (λ (k : Counts). HeaderRead bytes Binary k left) is h in
+    let h2 : HeaderRead bytes Binary (counts_of raw) left =
+    subst (λ (k : Counts). HeaderRead bytes Binary k left) is h in
     let fine2 : are_wrong Binary (counts_of raw) ≡ false = subst (λ (k : Counts). are_wrong Binary k ≡ false) is fine in
     let r2 : BinaryRead (counts_of raw) left raw = subst (λ (k : Counts). BinaryRead k left raw) is r in
-    let exact : raw.max_var ≡ length raw.inputs + length raw.latches + length raw.gates = eqb-true _ _ (not_false _ fine2) in
+    let exact : raw.max_var ≡ length raw.inputs + length raw.latches + length raw.gates =
+    eqb-true _ _ (not_false _ fine2) in
     let both = binary_numbers left raw r2 h2.within exact in
     record {
       parts = record {
@@ -92,14 +99,17 @@ binary_spells bytes c left raw h fine r =
 pub file_takes : (bytes : List ℕ) (raw : Raw) → file_at bytes ≡ Ok raw → Spells bytes raw
 unfolding file_at
 file_takes bytes raw e =
-    let h = and_then_ok (header_at bytes) (λ h. cond (are_wrong h.0.0 h.0.1) (Err counts) (and_then (body_at h.0.0 h.0.1 h.1) (λ raw. Ok raw.0))) raw e in
+    let h = and_then_ok (header_at bytes)
+    (λ h. cond (are_wrong h.0.0 h.0.1) (Err counts) (and_then (body_at h.0.0 h.0.1 h.1) (λ raw. Ok raw.0))) raw e in
     by_wrong h.0.0.0 h.0.0.1 h.0.1 h.1 (are_wrong h.0.0.0 h.0.0.1) refl h.2
   where
-    by_body : (f : Format) (c : Counts) (left : List ℕ) (rest : List ℕ) → HeaderRead bytes f c left → are_wrong f c ≡ false → body_at f c left ≡ Ok (raw, rest) → Spells bytes raw
+    by_body : (f : Format) (c : Counts) (left : List ℕ) (rest : List ℕ) → HeaderRead bytes f c left
+        → are_wrong f c ≡ false → body_at f c left ≡ Ok (raw, rest) → Spells bytes raw
     by_body Ascii c left rest h fine b = inl (ascii_spells bytes c left raw h fine (ascii_take c left raw rest b))
     by_body Binary c left rest h fine b = inr (binary_spells bytes c left raw h fine (binary_take c left raw rest b))
 
-    by_wrong : (f : Format) (c : Counts) (left : List ℕ) → header_at bytes ≡ Ok ((f, c), left) → (b : Bool) → are_wrong f c ≡ b
+    by_wrong : (f : Format) (c : Counts) (left : List ℕ) → header_at bytes ≡ Ok ((f, c), left) → (b : Bool)
+        → are_wrong f c ≡ b
         → cond b (Err counts) (and_then (body_at f c left) (λ raw. Ok raw.0)) ≡ Ok raw → Spells bytes raw
     by_wrong f c left e true w g = absurd cc
     by_wrong f c left e false w g =
@@ -109,19 +119,29 @@ file_takes bytes raw e =
 
 -- ---- what is spelled
 
-ascii_pieces : (zeros : Zeros) (raw : Raw) → ascii zeros raw ≡ header_line Ascii zeros.counts (counts_of raw) ++ ascii_rest zeros.resets raw
+ascii_pieces : (zeros : Zeros) (raw : Raw)
+    → ascii zeros raw ≡ header_line Ascii zeros.counts (counts_of raw) ++ ascii_rest zeros.resets raw
 unfolding ascii
 ascii_pieces zeros raw =
     sym (append-nil (ascii zeros raw))
-    ∙ apart6 (header_line Ascii zeros.counts (counts_of raw)) (flat_map literal_line raw.inputs) (lines latch_line zeros.resets raw.latches) (properties_of raw) (flat_map gate_line raw.gates) (names_text raw.symbols raw.comment) []
-    ∙ ap (λ (t : List ℕ). header_line Ascii zeros.counts (counts_of raw) ++ (flat_map literal_line raw.inputs ++ (lines latch_line zeros.resets raw.latches ++ (properties_of raw ++ (flat_map gate_line raw.gates ++ t))))) (append-nil (names_text raw.symbols raw.comment))
+    ∙ apart6 (header_line Ascii zeros.counts (counts_of raw)) (flat_map literal_line raw.inputs)
+    (lines latch_line zeros.resets raw.latches) (properties_of raw) (flat_map gate_line raw.gates)
+    (names_text raw.symbols raw.comment) []
+    ∙ ap (λ (t : List ℕ). header_line Ascii zeros.counts (counts_of raw) ++
+    (flat_map literal_line raw.inputs ++
+    (lines latch_line zeros.resets raw.latches ++ (properties_of raw ++ (flat_map gate_line raw.gates ++ t)))))
+    (append-nil (names_text raw.symbols raw.comment))
 
-binary_pieces : (zeros : Zeros) (raw : Raw) → binary zeros raw ≡ header_line Binary zeros.counts (counts_of raw) ++ binary_rest zeros.resets raw
+binary_pieces : (zeros : Zeros) (raw : Raw)
+    → binary zeros raw ≡ header_line Binary zeros.counts (counts_of raw) ++ binary_rest zeros.resets raw
 unfolding binary
 binary_pieces zeros raw =
     sym (append-nil (binary zeros raw))
-    ∙ apart5 (header_line Binary zeros.counts (counts_of raw)) (lines implicit_latch_line zeros.resets raw.latches) (properties_of raw) (flat_map gate_deltas raw.gates) (names_text raw.symbols raw.comment) []
-    ∙ ap (λ (t : List ℕ). header_line Binary zeros.counts (counts_of raw) ++ (lines implicit_latch_line zeros.resets raw.latches ++ (properties_of raw ++ (flat_map gate_deltas raw.gates ++ t)))) (append-nil (names_text raw.symbols raw.comment))
+    ∙ apart5 (header_line Binary zeros.counts (counts_of raw)) (lines implicit_latch_line zeros.resets raw.latches)
+    (properties_of raw) (flat_map gate_deltas raw.gates) (names_text raw.symbols raw.comment) []
+    ∙ ap (λ (t : List ℕ). header_line Binary zeros.counts (counts_of raw) ++
+    (lines implicit_latch_line zeros.resets raw.latches ++
+    (properties_of raw ++ (flat_map gate_deltas raw.gates ++ t)))) (append-nil (names_text raw.symbols raw.comment))
 
 ascii_is_read : (bytes : List ℕ) (raw : Raw) → SpellsAscii bytes raw → file_at bytes ≡ is_read raw
 unfolding file_at
@@ -129,16 +149,25 @@ ascii_is_read bytes raw s =
     let z = s.zeros in
     let fine : are_wrong Ascii (counts_of raw) ≡ false = le-ltb _ _ s.parts.room in
     ap file_at (s.spelled ∙ ascii_pieces z raw)
-    ∙ rw (header_again Ascii z.counts (counts_of raw) (ascii_rest z.resets raw) (within_from raw s.parts.formed), fine, ascii_again z.resets raw s.parts) refl
+    ∙ rw (
+      header_again Ascii z.counts (counts_of raw) (ascii_rest z.resets raw) (within_from raw s.parts.formed),
+      fine,
+      ascii_again z.resets raw s.parts,
+    ) refl
 
 binary_is_read : (bytes : List ℕ) (raw : Raw) → SpellsBinary bytes raw → file_at bytes ≡ is_read raw
 unfolding file_at
 binary_is_read bytes raw s =
     let z = s.zeros in
-    let same : eqb raw.max_var (length raw.inputs + length raw.latches + length raw.gates) ≡ true = eq-eqb _ _ (exact_from raw s.ready) in
+    let same : eqb raw.max_var (length raw.inputs + length raw.latches + length raw.gates) ≡ true =
+    eq-eqb _ _ (exact_from raw s.ready) in
     let fine : are_wrong Binary (counts_of raw) ≡ false = ap not same in
     ap file_at (s.spelled ∙ binary_pieces z raw)
-    ∙ rw (header_again Binary z.counts (counts_of raw) (binary_rest z.resets raw) (within_from raw s.parts.formed), fine, binary_again z.resets raw s.parts s.ready) refl
+    ∙ rw (
+      header_again Binary z.counts (counts_of raw) (binary_rest z.resets raw) (within_from raw s.parts.formed),
+      fine,
+      binary_again z.resets raw s.parts s.ready,
+    ) refl
 
 pub file_again : (bytes : List ℕ) (raw : Raw) → Spells bytes raw → file_at bytes ≡ is_read raw
 file_again bytes raw (inl s) = ascii_is_read bytes raw s
@@ -149,17 +178,28 @@ file_again bytes raw (inr s) = binary_is_read bytes raw s
 pub wrong_takes : (bytes : List ℕ) → file_at bytes ≡ Err counts → HasWrongCounts bytes
 unfolding file_at
 wrong_takes bytes e =
-    let h = and_then_counts (header_at bytes) (λ h. cond (are_wrong h.0.0 h.0.1) (Err counts) (and_then (body_at h.0.0 h.0.1 h.1) (λ raw. Ok raw.0))) e in
+    let h = and_then_counts (header_at bytes)
+    (λ h. cond (are_wrong h.0.0 h.0.1) (Err counts) (and_then (body_at h.0.0 h.0.1 h.1) (λ raw. Ok raw.0))) e in
     by_wrong h.0.0.0 h.0.0.1 h.0.1 h.1 (are_wrong h.0.0.0 h.0.0.1) refl h.2
   where
     no_counts : (raw : Raw) → is_read raw ≡ Err counts → ⊥
     no_counts raw e = cc
 
-    by_wrong : (f : Format) (c : Counts) (left : List ℕ) → header_at bytes ≡ Ok ((f, c), left) → (b : Bool) → are_wrong f c ≡ b
+    by_wrong : (f : Format) (c : Counts) (left : List ℕ) → header_at bytes ≡ Ok ((f, c), left) → (b : Bool)
+        → are_wrong f c ≡ b
         → cond b (Err counts) (and_then (body_at f c left) (λ raw. is_read raw.0)) ≡ Err counts → HasWrongCounts bytes
     by_wrong f c left e true w g =
         let h = header_takes bytes (f, c) left e in
-        record { format = f; counts = c; within = h.within; least = h.least; rest = left; spelled = h.spelled; wrong = w }
+        record {
+          format = f;
+          counts = c;
+          within = h.within;
+          least = h.least;
+          rest = left;
+          spelled = h.spelled;
+          wrong =
+              w;
+        }
     by_wrong f c left e false w g =
         let b = and_then_counts (body_at f c left) (λ raw. is_read raw.0) g in
         absurd (no_counts b.0.0 b.2)

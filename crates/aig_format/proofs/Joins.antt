@@ -12,10 +12,12 @@ pub apart3 : (a b c r : List ℕ) → (a ++ b ++ c) ++ r ≡ a ++ (b ++ (c ++ r)
 apart3 a b c r = append_assoc (a ++ b) c r ∙ append_assoc a b (c ++ r)
 
 pub apart5 : (a b c d e r : List ℕ) → (a ++ b ++ c ++ d ++ e) ++ r ≡ a ++ (b ++ (c ++ (d ++ (e ++ r))))
-apart5 a b c d e r = append_assoc (a ++ b ++ c ++ d) e r ∙ append_assoc (a ++ b ++ c) d (e ++ r) ∙ apart3 a b c (d ++ (e ++ r))
+apart5 a b c d e r = append_assoc (a ++ b ++ c ++ d) e r ∙ append_assoc (a ++ b ++ c) d (e ++ r)
+    ∙ apart3 a b c (d ++ (e ++ r))
 
 pub apart6 : (a b c d e f r : List ℕ) → (a ++ b ++ c ++ d ++ e ++ f) ++ r ≡ a ++ (b ++ (c ++ (d ++ (e ++ (f ++ r)))))
 apart6 a b c d e f r = append_assoc (a ++ b ++ c ++ d ++ e) f r ∙ apart5 a b c d e (f ++ r)
 
-pub apart7 : (a b c d e f g r : List ℕ) → (a ++ b ++ c ++ d ++ e ++ f ++ g) ++ r ≡ a ++ (b ++ (c ++ (d ++ (e ++ (f ++ (g ++ r))))))
+pub apart7 : (a b c d e f g r : List ℕ) → (a ++ b ++ c ++ d ++ e ++ f ++ g) ++ r
+    ≡ a ++ (b ++ (c ++ (d ++ (e ++ (f ++ (g ++ r))))))
 apart7 a b c d e f g r = append_assoc (a ++ b ++ c ++ d ++ e ++ f) g r ∙ apart6 a b c d e f (g ++ r)

@@ -1,9 +1,9 @@
 -- What a symbol names: its letter and its position tell it.
-use Rattle.std.proofs.Common.{◌≡◌, ℕ, Bool, true, false, ◌&&◌, ◌==◌, eqb, eq-eqb, List, ◌++◌, ◌∷◌, [], Option, Some, None, refl, sym, ap, ◌∙◌, Contains}
+use Rattle.std.proofs.Common.{◌≡◌, ℕ, Bool, true, false, ◌&&◌, ◌==◌, eqb, eq-eqb, List, Option, Some}
+use Rattle.std.proofs.Common.{None, refl, sym, ap, ◌∙◌, Contains}
 use Rattle.std.proofs.lemmas.Bool.{eqb-true}
 use Rattle.std.proofs.lemmas.Map.Views.{list_any-from_Contains, Contains-from_any}
 use Rattle.std.specs.Cmp.{IsEquivalence}
-use Rattle.std.specs.List.{list_any}
 use Rattle.std.specs.Map.{keys_of}
 use Rattle.aig_base.specs.declared.symbols.Kind.{Kind}
 use Rattle.aig_base.specs.declared.symbols.Kind.TheVariants.{Input, Latch, Output, Bad, Constraint, Justice, Fairness}
@@ -45,7 +45,8 @@ same_is a b h =
 
 pub is_same : (a b : Kind × ℕ) → a ≡ b → same_key a b ≡ true
 is_same a b e =
-    let k : eqb (letter a.0) (letter b.0) ≡ true = eq-eqb (letter a.0) (letter b.0) (ap (λ (x : Kind × ℕ). letter x.0) e) in
+    let k : eqb (letter a.0) (letter b.0) ≡ true =
+    eq-eqb (letter a.0) (letter b.0) (ap (λ (x : Kind × ℕ). letter x.0) e) in
     let n : eqb a.1 b.1 ≡ true = eq-eqb a.1 b.1 (ap (λ (x : Kind × ℕ). x.1) e) in
     rw (k, n) refl
 
@@ -57,19 +58,23 @@ both_ways false false f g = refl
 same_laws : IsEquivalence same_key
 same_laws = record {
   refl = λ x. is_same x x refl;
-  symm = λ x y. both_ways (same_key x y) (same_key y x) (λ h. is_same y x (sym (same_is x y h))) (λ h. is_same x y (sym (same_is y x h)));
+  symm = λ x y. both_ways (same_key x y) (same_key y x) (λ h. is_same y x (sym (same_is x y h)))
+      (λ h. is_same x y (sym (same_is y x h)));
   congr = λ x y z h. ap (λ (w : Kind × ℕ). same_key w z) (same_is x y h);
 }
 
-pub named_is : (kind : Kind) (position : ℕ) (named : List Entry) → is_named kind position named ≡ true → Contains (keys_of named) (kind, position)
+pub named_is : (kind : Kind) (position : ℕ) (named : List Entry) → is_named kind position named ≡ true
+    → Contains (keys_of named) (kind, position)
 named_is kind position named h = Contains-from_any same_is (kind, position) (keys_of named) h
 
-pub is_named_from : (kind : Kind) (position : ℕ) (named : List Entry) → Contains (keys_of named) (kind, position) → is_named kind position named ≡ true
+pub is_named_from : (kind : Kind) (position : ℕ) (named : List Entry) → Contains (keys_of named) (kind, position)
+    → is_named kind position named ≡ true
 is_named_from kind position named h = list_any-from_Contains same_laws (kind, position) (keys_of named) h
 
 not_true : (b : Bool) → (b ≡ true → ⊥) → b ≡ false
 not_true true h = absurd (h refl)
 not_true false h = refl
 
-pub not_named_from : (kind : Kind) (position : ℕ) (named : List Entry) → (Contains (keys_of named) (kind, position) → ⊥) → is_named kind position named ≡ false
+pub not_named_from : (kind : Kind) (position : ℕ) (named : List Entry)
+    → (Contains (keys_of named) (kind, position) → ⊥) → is_named kind position named ≡ false
 not_named_from kind position named h = not_true (is_named kind position named) (λ e. h (named_is kind position named e))

@@ -1,5 +1,7 @@
 -- The lines that are read are spelled so, and the lines that are spelled so are read.
-use Rattle.std.proofs.Common.{◌≡◌, ℕ, zero, suc, ◌+◌, ◌-◌, ◌*◌, ◌^◌, ◌<◌, ◌≤◌, Bool, true, false, cond, not, eqb, subst, List, [], ◌∷◌, ◌++◌, length, Result, Ok, Err, refl, sym, ap, ◌∙◌, append_assoc, arith}
+use Rattle.std.proofs.Common.{◌≡◌, ℕ, zero, suc, ◌-◌, ◌*◌, ◌^◌, ◌<◌, ◌≤◌, Bool, true, false, cond, not, eqb}
+use Rattle.std.proofs.Common.{subst, List, [], ◌∷◌, ◌++◌, length, Ok, refl, sym, ap, ◌∙◌, append_assoc}
+use Rattle.std.proofs.Common.{arith}
 use Rattle.std.specs.Prelude.{All}
 use Rattle.std.specs.Fmt.{decimal}
 use Rattle.std.specs.List.{flat_map}
@@ -9,17 +11,21 @@ use Rattle.aig_base.specs.declared.latch.Latch.{Latch}
 use Rattle.aig_base.specs.declared.gate.Gate.{Gate}
 use Rattle.aig_format.specs.Header.{space, line_end, field}
 use Rattle.aig_format.specs.Delta.{delta}
-use Rattle.aig_format.specs.Spelling.{literal_line, reset_text, latch_line, implicit_latch_line, gate_line, gate_deltas, of_first, of_others, lines}
+use Rattle.aig_format.specs.Spelling.{literal_line, reset_text, latch_line, implicit_latch_line, gate_line}
+use Rattle.aig_format.specs.Spelling.{gate_deltas, of_first, of_others, lines}
 use Rattle.aig_format.specs.Spells.{greatest}
-use Rattle.aig_format.specs.Reading.{Read, ◌>>=◌, number_at, field_at, optional_at}
-use Rattle.aig_format.specs.ReadingSections.{literal_at, latch_at, gate_at, implicit_latch_at, implicit_gate_at, lines_at}
+use Rattle.aig_format.specs.Reading.{Read}
+use Rattle.aig_format.specs.ReadingSections.{literal_at, latch_at, gate_at, implicit_latch_at, implicit_gate_at}
+use Rattle.aig_format.specs.ReadingSections.{lines_at}
 use Rattle.aig_format.proofs.Steps.{done, done_is}
-use Rattle.aig_format.proofs.Numbers.{bind_then, joins, number_takes, number_again, field_takes, field_again, optional_takes, optional_again, Stops, stops_space, stops_line}
+use Rattle.aig_format.proofs.Numbers.{bind_then, joins, number_takes, number_again, field_takes, field_again}
+use Rattle.aig_format.proofs.Numbers.{optional_takes, optional_again, Stops, stops_space, stops_line}
 use Rattle.aig_format.proofs.Deltas.{delta_takes, delta_again}
 
 -- the law of one kind of line: what is read is spelled so
 abbrev pub Takes : {X : Type 0} → (ℕ → List ℕ → Read X) → (Bool → X → List ℕ) → (ℕ → X → Type 0) → Type 0
-Takes {X} at line Fits = (v : ℕ) (bytes : List ℕ) (x : X) (rest : List ℕ) → at v bytes ≡ Ok (x, rest) → (w : Bool) × (bytes ≡ line w x ++ rest) × Fits v x
+Takes {X} at line Fits = (v : ℕ) (bytes : List ℕ) (x : X) (rest : List ℕ) → at v bytes ≡ Ok (x, rest)
+    → (w : Bool) × (bytes ≡ line w x ++ rest) × Fits v x
 
 -- and what is spelled so is read, whatever follows
 abbrev pub Again : {X : Type 0} → (ℕ → List ℕ → Read X) → (Bool → X → List ℕ) → (ℕ → X → Type 0) → Type 0
@@ -31,14 +37,16 @@ FitsFrom Fits v [] = Unit {0}
 FitsFrom Fits v (x ∷ xs) = Fits v x × FitsFrom Fits (suc v) xs
 
 -- the lines that were read
-pub record LinesRead {X : Type 0} (line : Bool → X → List ℕ) (Fits : ℕ → X → Type 0) (n v : ℕ) (bytes : List ℕ) (xs : List X) (rest : List ℕ) : Type 0 where
+pub record LinesRead {X : Type 0} (line : Bool → X → List ℕ) (Fits : ℕ → X → Type 0) (n v : ℕ) (bytes : List ℕ)
+    (xs : List X) (rest : List ℕ) : Type 0 where
   pub written : List Bool
   pub spelled : bytes ≡ lines line written xs ++ rest
   pub count : length xs ≡ n
   pub fits : FitsFrom Fits v xs
 
 module _ {X : Type 0} (at : ℕ → List ℕ → Read X) (line : Bool → X → List ℕ) (Fits : ℕ → X → Type 0) where
-  pub lines_take : Takes at line Fits → (n v : ℕ) (bytes : List ℕ) (xs : List X) (rest : List ℕ) → lines_at at n v bytes ≡ Ok (xs, rest) → LinesRead line Fits n v bytes xs rest
+  pub lines_take : Takes at line Fits → (n v : ℕ) (bytes : List ℕ) (xs : List X) (rest : List ℕ)
+      → lines_at at n v bytes ≡ Ok (xs, rest) → LinesRead line Fits n v bytes xs rest
   unfolding lines_at lines FitsFrom
   lines_take takes zero v bytes xs rest h =
       let p = done_is [] xs bytes rest h in
@@ -51,23 +59,31 @@ module _ {X : Type 0} (at : ℕ → List ℕ → Read X) (line : Bool → X → 
       let P : List X → Type 0 = λ ys. LinesRead line Fits (suc n) v bytes ys rest in
       subst P p.0 (record {
         written = one.0 ∷ more.written;
-        spelled = joins bytes (line one.0 a.0) a.1 (lines line more.written b.0) rest one.1 (more.spelled ∙ ap (λ (t : List ℕ). lines line more.written b.0 ++ t) p.1);
+        spelled =
+            joins bytes (line one.0 a.0) a.1 (lines line more.written b.0) rest one.1
+            (more.spelled ∙ ap (λ (t : List ℕ). lines line more.written b.0 ++ t) p.1);
         count = ap suc more.count;
         fits = (one.2, more.fits);
       })))
 
-  pub lines_again : Again at line Fits → (v : ℕ) (ws : List Bool) (xs : List X) (rest : List ℕ) → FitsFrom Fits v xs → lines_at at (length xs) v (lines line ws xs ++ rest) ≡ Ok (xs, rest)
+  pub lines_again : Again at line Fits → (v : ℕ) (ws : List Bool) (xs : List X) (rest : List ℕ) → FitsFrom Fits v xs
+      → lines_at at (length xs) v (lines line ws xs ++ rest) ≡ Ok (xs, rest)
   unfolding lines_at lines FitsFrom
   lines_again again v ws [] rest fits = refl
   lines_again again v ws (x ∷ xs) rest fits =
       ap (lines_at at (suc (length xs)) v) (append_assoc (line (of_first ws) x) (lines line (of_others ws) xs) rest)
-      ∙ rw (again v (of_first ws) x (lines line (of_others ws) xs ++ rest) fits.0, lines_again again (suc v) (of_others ws) xs rest fits.1) refl
+      ∙ rw (
+        again v (of_first ws) x (lines line (of_others ws) xs ++ rest) fits.0,
+        lines_again again (suc v) (of_others ws) xs rest fits.1,
+      ) refl
 
 -- where each kind of line has one spelling
-pub plain_lines : {X : Type 0} (line : X → List ℕ) (ws : List Bool) (xs : List X) → lines (λ w. line) ws xs ≡ flat_map line xs
+pub plain_lines : {X : Type 0} (line : X → List ℕ) (ws : List Bool) (xs : List X)
+    → lines (λ w. line) ws xs ≡ flat_map line xs
 unfolding lines
 plain_lines line ws [] = refl
-plain_lines line ws (x ∷ xs) = ap (λ (t : List ℕ). line x ++ t) (plain_lines line (of_others ws) xs) ∙ sym (flat_map-cons line x xs)
+plain_lines line ws (x ∷ xs) = ap (λ (t : List ℕ). line x ++ t) (plain_lines line (of_others ws) xs)
+    ∙ sym (flat_map-cons line x xs)
 
 -- where the variable does not matter
 pub all_from_fits : {X : Type 0} (P : X → Type 0) (v : ℕ) (xs : List X) → FitsFrom (λ u. P) v xs → All P xs
@@ -115,7 +131,8 @@ literal_again v w x rest fits = field_again greatest line_end x rest fits wide (
 
 pub gate_takes : Takes (λ v. gate_at) (λ w. gate_line) (λ v. IsGate)
 unfolding gate_at
-gate_takes v bytes x rest h = bind_then _ _ _ h (λ a ea h1. bind_then _ _ _ h1 (λ b eb h2. bind_then _ _ _ h2 (λ d ed h3.
+gate_takes v bytes x rest h =
+    bind_then _ _ _ h (λ a ea h1. bind_then _ _ _ h1 (λ b eb h2. bind_then _ _ _ h2 (λ d ed h3.
     let made : Gate = record { lhs = a.0; rhs0 = b.0; rhs1 = d.0 } in
     let p = done_is made x d.1 rest h3 in
     let t0 = field_takes greatest space bytes a.0 a.1 nine wide ea in
@@ -130,8 +147,16 @@ pub gate_again : Again (λ v. gate_at) (λ w. gate_line) (λ v. IsGate)
 unfolding gate_at
 gate_again v w x rest fits =
     let regrouped : gate_line x ++ rest ≡ field x.lhs space ++ (field x.rhs0 space ++ (field x.rhs1 line_end ++ rest)) =
-    append_assoc (field x.lhs space ++ field x.rhs0 space) (field x.rhs1 line_end) rest ∙ append_assoc (field x.lhs space) (field x.rhs0 space) (field x.rhs1 line_end ++ rest) in
-    ap gate_at regrouped ∙ rw (field_again greatest space x.lhs (field x.rhs0 space ++ (field x.rhs1 line_end ++ rest)) fits.0 wide (stops_space (field x.rhs0 space ++ (field x.rhs1 line_end ++ rest))), field_again greatest space x.rhs0 (field x.rhs1 line_end ++ rest) fits.1 wide (stops_space (field x.rhs1 line_end ++ rest)), field_again greatest line_end x.rhs1 rest fits.2 wide (stops_line rest)) refl
+    append_assoc (field x.lhs space ++ field x.rhs0 space) (field x.rhs1 line_end) rest
+    ∙ append_assoc (field x.lhs space) (field x.rhs0 space) (field x.rhs1 line_end ++ rest) in
+    ap gate_at regrouped
+    ∙ rw (
+      field_again greatest space x.lhs (field x.rhs0 space ++ (field x.rhs1 line_end ++ rest)) fits.0 wide
+          (stops_space (field x.rhs0 space ++ (field x.rhs1 line_end ++ rest))),
+      field_again greatest space x.rhs0 (field x.rhs1 line_end ++ rest) fits.1 wide
+          (stops_space (field x.rhs1 line_end ++ rest)),
+      field_again greatest line_end x.rhs1 rest fits.2 wide (stops_line rest),
+    ) refl
 
 -- the rest of a line doesn't go on with a digit
 pub stops_reset : (w : Bool) (n : ℕ) (rest : List ℕ) → Stops (reset_text w n ++ rest)
@@ -144,7 +169,8 @@ stops_reset false n rest = by_zero (eqb n 0)
 
 pub latch_takes : Takes (λ v. latch_at) latch_line (λ v. IsLatch)
 unfolding latch_at
-latch_takes v bytes x rest h = bind_then _ _ _ h (λ a ea h1. bind_then _ _ _ h1 (λ b eb h2. bind_then _ _ _ h2 (λ d ed h3.
+latch_takes v bytes x rest h =
+    bind_then _ _ _ h (λ a ea h1. bind_then _ _ _ h1 (λ b eb h2. bind_then _ _ _ h2 (λ d ed h3.
     let made : Latch = record { lit = a.0; next = b.0; reset = d.0 } in
     let p = done_is made x d.1 rest h3 in
     let t0 = field_takes greatest space bytes a.0 a.1 nine wide ea in
@@ -159,8 +185,15 @@ pub latch_again : Again (λ v. latch_at) latch_line (λ v. IsLatch)
 unfolding latch_at
 latch_again v w x rest fits =
     let regrouped : latch_line w x ++ rest ≡ field x.lit space ++ (decimal x.next ++ (reset_text w x.reset ++ rest)) =
-    append_assoc (field x.lit space ++ decimal x.next) (reset_text w x.reset) rest ∙ append_assoc (field x.lit space) (decimal x.next) (reset_text w x.reset ++ rest) in
-    ap latch_at regrouped ∙ rw (field_again greatest space x.lit (decimal x.next ++ (reset_text w x.reset ++ rest)) fits.0 wide (stops_space (decimal x.next ++ (reset_text w x.reset ++ rest))), number_again greatest x.next (reset_text w x.reset ++ rest) fits.1 wide (stops_reset w x.reset rest), optional_again greatest w x.reset rest fits.2 wide) refl
+    append_assoc (field x.lit space ++ decimal x.next) (reset_text w x.reset) rest
+    ∙ append_assoc (field x.lit space) (decimal x.next) (reset_text w x.reset ++ rest) in
+    ap latch_at regrouped
+    ∙ rw (
+      field_again greatest space x.lit (decimal x.next ++ (reset_text w x.reset ++ rest)) fits.0 wide
+          (stops_space (decimal x.next ++ (reset_text w x.reset ++ rest))),
+      number_again greatest x.next (reset_text w x.reset ++ rest) fits.1 wide (stops_reset w x.reset rest),
+      optional_again greatest w x.reset rest fits.2 wide,
+    ) refl
 
 pub implicit_latch_takes : Takes implicit_latch_at implicit_latch_line IsImplicitLatch
 unfolding implicit_latch_at
@@ -179,7 +212,10 @@ implicit_latch_again v w x rest fits =
     let made : Latch = record { lit = 2 * v; next = x.next; reset = x.reset } in
     let same : made ≡ x = λ i. record { lit = sym fits.0 i; next = x.next; reset = x.reset } in
     ap (implicit_latch_at v) (append_assoc (decimal x.next) (reset_text w x.reset) rest)
-    ∙ rw (number_again greatest x.next (reset_text w x.reset ++ rest) fits.1 wide (stops_reset w x.reset rest), optional_again greatest w x.reset rest fits.2 wide) refl
+    ∙ rw (
+      number_again greatest x.next (reset_text w x.reset ++ rest) fits.1 wide (stops_reset w x.reset rest),
+      optional_again greatest w x.reset rest fits.2 wide,
+    ) refl
     ∙ ap (λ (y : Latch). done y rest) same
 
 pub implicit_gate_takes : Takes implicit_gate_at (λ w. gate_deltas) IsImplicitGate
@@ -193,7 +229,11 @@ implicit_gate_takes v bytes x rest h = bind_then _ _ _ h (λ a ea h1. bind_then 
     let second : b.0 ≡ (2 * v - a.0) - (2 * v - a.0 - b.0) = omega (arith, t1.2) in
     let e01 = joins bytes (delta a.0) a.1 (delta b.0) b.1 t0.0 t1.0 in
     let P : Gate → Type 0 = λ g. (w : Bool) × (bytes ≡ gate_deltas g ++ rest) × IsImplicitGate v g in
-    subst P p.0 (false, e01 ∙ (λ i. (delta (first i) ++ delta (second i)) ++ p.1 i), (refl, omega (arith, t0.1, t0.2), omega arith))))
+    subst P p.0 (
+      false,
+      e01 ∙ (λ i. (delta (first i) ++ delta (second i)) ++ p.1 i),
+      (refl, omega (arith, t0.1, t0.2), omega arith),
+    )))
 
 -- a gate whose deltas are short enough
 abbrev pub IsWrittenGate : ℕ → Gate → Type 0
@@ -207,5 +247,11 @@ implicit_gate_again v w x rest fits =
     let made : Gate = record { lhs = 2 * v; rhs0 = x.rhs0; rhs1 = x.rhs1 } in
     let same : made ≡ x = λ i. record { lhs = sym fits.0.0 i; rhs0 = x.rhs0; rhs1 = x.rhs1 } in
     ap (implicit_gate_at v) (append_assoc (delta (x.lhs - x.rhs0)) (delta (x.rhs0 - x.rhs1)) rest)
-    ∙ rw (delta_again 1 (2 * v) (x.lhs - x.rhs0) (delta (x.rhs0 - x.rhs1) ++ rest) (omega (arith, fits.0.1)) (omega (arith, fits.0.0)) (omega (arith, fits.1)), rhs0, delta_again 0 x.rhs0 (x.rhs0 - x.rhs1) rest (omega arith) (omega arith) (omega (arith, fits.0.1, fits.1)), rhs1) refl
+    ∙ rw (
+      delta_again 1 (2 * v) (x.lhs - x.rhs0) (delta (x.rhs0 - x.rhs1) ++ rest) (omega (arith, fits.0.1))
+          (omega (arith, fits.0.0)) (omega (arith, fits.1)),
+      rhs0,
+      delta_again 0 x.rhs0 (x.rhs0 - x.rhs1) rest (omega arith) (omega arith) (omega (arith, fits.0.1, fits.1)),
+      rhs1,
+    ) refl
     ∙ ap (λ (y : Gate). done y rest) same

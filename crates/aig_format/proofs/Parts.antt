@@ -1,5 +1,5 @@
 -- What a file says of the parts as wholes: counts, symbols, numbers.
-use Rattle.std.proofs.Common.{◌≡◌, ◌≢◌, ℕ, ◌+◌, ◌<◌, ◌≤◌, List, [], ◌∷◌, ◌++◌, length, subst, refl, sym, ap, ◌∙◌, arith}
+use Rattle.std.proofs.Common.{◌≡◌, ◌≤◌, length, refl, arith}
 use Rattle.std.specs.Prelude.{All, sum_by}
 use Rattle.std.proofs.lemmas.List.Elements.{All-weaker}
 use Rattle.aig_base.specs.declared.raw.Raw.{Raw}
@@ -11,14 +11,21 @@ use Rattle.aig_format.specs.declared.header.Counts.{Counts}
 use Rattle.aig_format.specs.declared.section.Properties.{Properties}
 use Rattle.aig_format.specs.declared.symbol.Names.{Names}
 use Rattle.aig_format.specs.Header.{AreWithin, counts_of}
-use Rattle.aig_format.specs.Spelling.{Entry}
-use Rattle.aig_format.specs.Spells.{greatest, HasSmallNumbers, HasSpelling}
+use Rattle.aig_format.specs.Spells.{greatest, HasSpelling}
 use Rattle.aig_format.specs.ReadingNames.{count_of}
 use Rattle.aig_format.proofs.Names.{IsEntry}
 use Rattle.aig_format.proofs.SectionLaws.{FitsProperties, Counted}
 
 abbrev pub properties_in : Raw → Properties
-properties_in raw = record { outputs = raw.outputs; bad = raw.bad; constraints = raw.constraints; justice = raw.justice; fairness = raw.fairness }
+properties_in raw =
+    record {
+      outputs = raw.outputs;
+      bad = raw.bad;
+      constraints = raw.constraints;
+      justice = raw.justice;
+      fairness =
+          raw.fairness;
+    }
 
 abbrev pub names_in : Raw → Names
 names_in raw = record { symbols = raw.symbols; comment = raw.comment }
@@ -56,9 +63,12 @@ small_counts c w Fairness = omega (arith, w.fairness)
 
 pub entries_from : (raw : Raw) → IsFormed raw → All (IsEntry (counts_of raw)) raw.symbols
 entries_from raw f =
-    All-weaker (IsSymbolOf raw) (IsEntry (counts_of raw)) (λ e s. record { there = (let is = count_is raw e.0.0 in omega (arith, s.0, is)); named = s.1 }) raw.symbols f.symbols
+    All-weaker (IsSymbolOf raw) (IsEntry (counts_of raw))
+    (λ e s. record { there = (let is = count_is raw e.0.0 in omega (arith, s.0, is)); named = s.1 }) raw.symbols
+    f.symbols
 
-pub formed_from : (raw : Raw) → AreWithin (counts_of raw) → sum_by length raw.justice ≤ formed.limit → All (IsEntry (counts_of raw)) raw.symbols → IsFormed raw
+pub formed_from : (raw : Raw) → AreWithin (counts_of raw) → sum_by length raw.justice ≤ formed.limit
+    → All (IsEntry (counts_of raw)) raw.symbols → IsFormed raw
 formed_from raw w sum entries = record {
   counts = record {
     max_var = w.max_var;
@@ -72,7 +82,9 @@ formed_from raw w sum entries = record {
     gates = w.gates;
     justice_literals = sum;
   };
-  symbols = All-weaker (IsEntry (counts_of raw)) (IsSymbolOf raw) (λ e s. ((let is = count_is raw e.0.0 in omega (arith, s.there, is)), s.named)) raw.symbols entries;
+  symbols =
+      All-weaker (IsEntry (counts_of raw)) (IsSymbolOf raw)
+      (λ e s. ((let is = count_is raw e.0.0 in omega (arith, s.there, is)), s.named)) raw.symbols entries;
 }
 
 pub fits_properties : (raw : Raw) → HasSpelling raw → FitsProperties (properties_in raw)

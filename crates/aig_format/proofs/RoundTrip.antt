@@ -1,7 +1,9 @@
 -- A circuit has a spelling.
-use Rattle.std.proofs.Common.{◌≡◌, ◌≢◌, ◌⊎◌, inl, inr, ℕ, zero, suc, ◌+◌, ◌-◌, ◌*◌, ◌/◌, ◌%◌, ◌<◌, ◌≤◌, Bool, true, eqb, List, [], ◌∷◌, ◌++◌, length, get_or, map, Some, subst, refl, sym, ap, ◌∙◌, arith, Contains, length-append}
+use Rattle.std.proofs.Common.{◌≡◌, ◌≢◌, inl, inr, ℕ, suc, ◌+◌, ◌-◌, ◌*◌, ◌<◌, ◌≤◌}
+use Rattle.std.proofs.Common.{List, [], ◌∷◌, ◌++◌, length, get_or, map, Some, subst, refl, sym, ap, ◌∙◌, arith}
+use Rattle.std.proofs.Common.{length-append}
 use Rattle.std.specs.Prelude.{All, AllPairs, slice_get}
-use Rattle.std.specs.List.{flat_map, list_any}
+use Rattle.std.specs.List.{flat_map}
 use Rattle.std.proofs.lemmas.Bool.{eqb-true}
 use Rattle.std.proofs.lemmas.Bool.Decides.{Decides-eqb}
 use Rattle.std.proofs.lemmas.List.{length-map, get_or-map}
@@ -15,13 +17,13 @@ use Rattle.aig_base.specs.declared.raw.Raw.{Raw}
 use Rattle.aig_base.specs.declared.latch.Latch.{Latch}
 use Rattle.aig_base.specs.declared.gate.Gate.{Gate}
 use Rattle.aig_base.specs.Circuit.{IsCircuit}
-use Rattle.aig_base.specs.Formed.{limit}
 use Rattle.aig_base.specs.Literal.{variable}
 use Rattle.aig_base.specs.Renumbered.{IsBinaryReady}
 use Rattle.aig_base.specs.Sections.{definitions, uses}
-use Rattle.aig_base.specs.Sound.{IsInRange, IsDefinition, IsReset, IsSound, StandsTwice}
+use Rattle.aig_base.specs.Sound.{IsInRange, IsDefinition, IsReset, StandsTwice}
 use Rattle.aig_format.specs.Spelling.{no_zeros, short_ascii, short_binary}
-use Rattle.aig_format.specs.Spells.{greatest, AreSmall, HasSmallNumbers, AreNamedOnce, HasSpelling, SpellsAscii, SpellsBinary}
+use Rattle.aig_format.specs.Spells.{greatest, AreSmall, HasSmallNumbers, AreNamedOnce, HasSpelling, SpellsAscii}
+use Rattle.aig_format.specs.Spells.{SpellsBinary}
 
 -- ---- numbers
 
@@ -36,13 +38,15 @@ module _ {X : Type 0} (P : X → Type 0) where
 
   all_unmap : {Y : Type 0} (f : Y → X) (ys : List Y) → All P (map f ys) → All (λ y. P (f y)) ys
   all_unmap f [] h = All-nil (λ y. P (f y))
-  all_unmap f (y ∷ ys) h = All-cons (λ y. P (f y)) y ys (h 0 (f y) (omega arith)) (all_unmap f ys (λ j e m. h (suc j) e (omega arith)))
+  all_unmap f (y ∷ ys) h =
+      All-cons (λ y. P (f y)) y ys (h 0 (f y) (omega arith)) (all_unmap f ys (λ j e m. h (suc j) e (omega arith)))
 
   all_unflat : {Y : Type 0} (f : Y → List X) (ys : List Y) → All P (flat_map f ys) → All (λ y. All P (f y)) ys
   all_unflat f [] h = All-nil (λ y. All P (f y))
   all_unflat f (y ∷ ys) h =
       let both = subst (All P) (flat_map-cons f y ys) h in
-      All-cons (λ y. All P (f y)) y ys (all_left (f y) (flat_map f ys) both) (all_unflat f ys (all_right (f y) (flat_map f ys) both))
+      All-cons (λ y. All P (f y)) y ys (all_left (f y) (flat_map f ys) both)
+      (all_unflat f ys (all_right (f y) (flat_map f ys) both))
 
 small_reset : (x : Latch) → IsReset x → x.lit ≤ greatest → x.reset ≤ greatest
 small_reset x (inl e) le = omega (arith, e)
@@ -55,7 +59,8 @@ is_small l = l ≤ greatest
 pub small_numbers : (raw : Raw) → IsCircuit raw → HasSmallNumbers raw
 small_numbers raw c =
     let all : AreSmall (definitions raw ++ uses raw) =
-    All-weaker (IsInRange raw) is_small (λ l h. (let m = c.formed.counts.max_var in omega (arith, h, m))) (definitions raw ++ uses raw) c.sound.in_range in
+    All-weaker (IsInRange raw) is_small (λ l h. (let m = c.formed.counts.max_var in omega (arith, h, m)))
+    (definitions raw ++ uses raw) c.sound.in_range in
     let lits : List ℕ = map (λ x. x.lit) raw.latches in
     let lhss : List ℕ = map (λ g. g.lhs) raw.gates in
     let nexts : List ℕ = map (λ x. x.next) raw.latches in
@@ -69,18 +74,26 @@ small_numbers raw c =
     let u3 = all_left is_small (nexts ++ raw.outputs ++ raw.bad ++ raw.constraints) js u2 in
     let u4 = all_left is_small (nexts ++ raw.outputs ++ raw.bad) raw.constraints u3 in
     let u5 = all_left is_small (nexts ++ raw.outputs) raw.bad u4 in
-    let lit : All (λ x. x.lit ≤ greatest) raw.latches = all_unmap is_small (λ x. x.lit) raw.latches (all_right is_small raw.inputs lits d1) in
-    let next : All (λ x. x.next ≤ greatest) raw.latches = all_unmap is_small (λ x. x.next) raw.latches (all_left is_small nexts raw.outputs u5) in
-    let lhs : All (λ g. g.lhs ≤ greatest) raw.gates = all_unmap is_small (λ g. g.lhs) raw.gates (all_right is_small (raw.inputs ++ lits) lhss defs) in
-    let rhs : All (λ g. AreSmall (g.rhs0 ∷ g.rhs1 ∷ [])) raw.gates = all_unflat is_small (λ g. g.rhs0 ∷ g.rhs1 ∷ []) raw.gates
+    let lit : All (λ x. x.lit ≤ greatest) raw.latches =
+    all_unmap is_small (λ x. x.lit) raw.latches (all_right is_small raw.inputs lits d1) in
+    let next : All (λ x. x.next ≤ greatest) raw.latches =
+    all_unmap is_small (λ x. x.next) raw.latches (all_left is_small nexts raw.outputs u5) in
+    let lhs : All (λ g. g.lhs ≤ greatest) raw.gates =
+    all_unmap is_small (λ g. g.lhs) raw.gates (all_right is_small (raw.inputs ++ lits) lhss defs) in
+    let rhs : All (λ g. AreSmall (g.rhs0 ∷ g.rhs1 ∷ [])) raw.gates =
+    all_unflat is_small (λ g. g.rhs0 ∷ g.rhs1 ∷ []) raw.gates
     (all_right is_small (nexts ++ raw.outputs ++ raw.bad ++ raw.constraints ++ js ++ raw.fairness) sides used) in
     record {
       inputs = all_left is_small raw.inputs lits d1;
-      latches = λ k d lt. (lit k d lt, next k d lt, small_reset (get_or raw.latches k d) (c.sound.resets k d lt) (lit k d lt));
+      latches =
+          λ k d lt.
+          (lit k d lt, next k d lt, small_reset (get_or raw.latches k d) (c.sound.resets k d lt) (lit k d lt));
       outputs = all_right is_small nexts raw.outputs u5;
       bad = all_right is_small (nexts ++ raw.outputs) raw.bad u4;
       constraints = all_right is_small (nexts ++ raw.outputs ++ raw.bad) raw.constraints u3;
-      justice = all_unflat is_small (λ p. p) raw.justice (all_right is_small (nexts ++ raw.outputs ++ raw.bad ++ raw.constraints) js u2);
+      justice =
+          all_unflat is_small (λ p. p) raw.justice
+          (all_right is_small (nexts ++ raw.outputs ++ raw.bad ++ raw.constraints) js u2);
       fairness = all_right is_small (nexts ++ raw.outputs ++ raw.bad ++ raw.constraints ++ js) raw.fairness u1;
       gates = λ k d lt. (lhs k d lt, rhs k d lt 0 0 (omega arith), rhs k d lt 1 0 (omega arith));
     }
@@ -91,7 +104,8 @@ abbrev below : ℕ → ℕ
 below l = variable l - 1
 
 -- numbers whose halves are from 1 to m, no two of one half, are at most m
-room_from : (ls : List ℕ) (m : ℕ) → All (λ l. l ≤ 2 * m + 1) ls → All IsDefinition ls → ((v : ℕ) → StandsTwice (map variable ls) v → ⊥) → length ls ≤ m
+room_from : (ls : List ℕ) (m : ℕ) → All (λ l. l ≤ 2 * m + 1) ls → All IsDefinition ls
+    → ((v : ℕ) → StandsTwice (map variable ls) v → ⊥) → length ls ≤ m
 room_from ls m range definition once =
     let size = length-map ls below in
     let pairs : AllPairs (λ x y. x ≢ y) (map below ls) = λ i j d lt within same.
@@ -107,11 +121,15 @@ room_from ls m range definition once =
     let at_i : slice_get (map variable ls) i ≡ Some (variable (get_or ls i 0)) =
     slice_get-get_or (map variable ls) i 0 (omega (arith, inn, vs)) ∙ ap Some (get_or-map variable ls i 0 0 inn) in
     let at_j : slice_get (map variable ls) j ≡ Some (variable (get_or ls i 0)) =
-    slice_get-get_or (map variable ls) j 0 (omega (arith, jn, vs)) ∙ ap Some (get_or-map variable ls j 0 0 jn ∙ halves) in
+    slice_get-get_or (map variable ls) j 0 (omega (arith, jn, vs))
+    ∙ ap Some (get_or-map variable ls j 0 0 jn ∙ halves) in
     once (variable (get_or ls i 0)) (i, j, lt, at_i, at_j)) in
-    let bound : All (λ q. q < m) (map below ls) = All-map (λ q. q < m) below ls (λ k d lt. (let r = range k d lt in let h = definition k d lt in omega (arith, r, h.0, h.1))) in
+    let bound : All (λ q. q < m) (map below ls) =
+    All-map (λ q. q < m) below ls
+    (λ k d lt. (let r = range k d lt in let h = definition k d lt in omega (arith, r, h.0, h.1))) in
     let few = length-le_from_distinct_below (map below ls) m (IsDistinct-from_AllPairs Decides-eqb (map below ls) pairs)
-    (λ q h. All-contains (λ q. q < m) (map below ls) q bound (Contains-from_any (λ x y e. eqb-true x y e) q (map below ls) h)) in
+    (λ q h. All-contains (λ q. q < m) (map below ls) q bound
+    (Contains-from_any (λ x y e. eqb-true x y e) q (map below ls) h)) in
     omega (arith, few, size)
 
 pub room_of : (raw : Raw) → IsCircuit raw → length raw.inputs + length raw.latches + length raw.gates ≤ raw.max_var
@@ -122,16 +140,21 @@ room_of raw c =
     let b = length-append raw.inputs lits in
     let nl : length lits ≡ length raw.latches = length-map raw.latches (λ (x : Latch). x.lit) in
     let ng : length lhss ≡ length raw.gates = length-map raw.gates (λ (g : Gate). g.lhs) in
-    let few = room_from (definitions raw) raw.max_var (all_left (IsInRange raw) (definitions raw) (uses raw) c.sound.in_range) c.sound.definitions c.sound.once in
+    let few =
+    room_from (definitions raw) raw.max_var
+    (all_left (IsInRange raw) (definitions raw) (uses raw) c.sound.in_range) c.sound.definitions c.sound.once in
     omega (arith, few, a, b, nl, ng)
 
 -- ---- spellings
 
 pub has_spelling : (raw : Raw) → IsCircuit raw → AreNamedOnce raw → HasSpelling raw
-has_spelling raw c once = record { formed = c.formed; numbers = small_numbers raw c; names = once; room = room_of raw c }
+has_spelling raw c once =
+    record { formed = c.formed; numbers = small_numbers raw c; names = once; room = room_of raw c }
 
 pub ascii_round_trip : (raw : Raw) → IsCircuit raw → AreNamedOnce raw → SpellsAscii (short_ascii raw) raw
 ascii_round_trip raw c once = record { parts = has_spelling raw c once; zeros = no_zeros; spelled = refl }
 
-pub binary_round_trip : (raw : Raw) → IsCircuit raw → AreNamedOnce raw → IsBinaryReady raw → SpellsBinary (short_binary raw) raw
-binary_round_trip raw c once ready = record { parts = has_spelling raw c once; ready = ready; zeros = no_zeros; spelled = refl }
+pub binary_round_trip : (raw : Raw) → IsCircuit raw → AreNamedOnce raw → IsBinaryReady raw
+    → SpellsBinary (short_binary raw) raw
+binary_round_trip raw c once ready =
+    record { parts = has_spelling raw c once; ready = ready; zeros = no_zeros; spelled = refl }

@@ -1,5 +1,6 @@
 -- The sections that are read are spelled so, and the sections that are spelled so are read.
-use Rattle.std.proofs.Common.{◌≡◌, ℕ, zero, suc, ◌+◌, ◌^◌, ◌<◌, ◌≤◌, Bool, true, false, cond, ltb, subst, List, [], ◌∷◌, ◌++◌, length, map, Result, Ok, Err, refl, sym, ap, ◌∙◌, append_assoc, arith}
+use Rattle.std.proofs.Common.{◌≡◌, ℕ, zero, suc, ◌+◌, ◌^◌, ◌<◌, ◌≤◌, Bool, true, false, cond, ltb, subst, List, []}
+use Rattle.std.proofs.Common.{◌∷◌, ◌++◌, length, map, Ok, Err, refl, sym, ap, ◌∙◌, append_assoc, arith}
 use Rattle.std.specs.Prelude.{All, sum_by}
 use Rattle.std.specs.List.{flat_map}
 use Rattle.std.specs.Fmt.{decimal}
@@ -12,27 +13,35 @@ use Rattle.std.proofs.lemmas.List.Elements.{All-nil, All-cons, All-head, All-tai
 use Rattle.aig_base.specs.Formed as formed
 use Rattle.aig_format.specs.declared.header.Counts.{Counts}
 use Rattle.aig_format.specs.declared.section.Properties.{Properties}
-use Rattle.aig_format.specs.Header.{line_end, field}
+use Rattle.aig_format.specs.Header.{line_end}
 use Rattle.aig_format.specs.Spelling.{literal_line, size_line, property_lines}
 use Rattle.aig_format.specs.Spells.{greatest, AreSmall}
-use Rattle.aig_format.specs.Reading.{limit, Read, ◌>>=◌, byte_at, number_at}
-use Rattle.aig_format.specs.ReadingSections.{literal_at, literals_at, sizes_at, groups_of_literals_at, justice_at, properties_at}
+use Rattle.aig_format.specs.Reading.{limit, ◌>>=◌, byte_at, number_at}
+use Rattle.aig_format.specs.ReadingSections.{literal_at, literals_at, sizes_at, groups_of_literals_at, justice_at}
+use Rattle.aig_format.specs.ReadingSections.{properties_at}
 use Rattle.aig_format.proofs.Steps.{done, done_is}
 use Rattle.aig_format.proofs.Joins.{join2, join_end, apart6}
 use Rattle.aig_format.proofs.Numbers.{bind_then, byte_takes, byte_again, number_takes, number_again, stops_line}
-use Rattle.aig_format.proofs.Lines.{lines_take, lines_again, plain_lines, all_from_fits, fits_from_all, IsLiteral, literal_takes, literal_again}
+use Rattle.aig_format.proofs.Lines.{lines_take, lines_again, plain_lines, all_from_fits, fits_from_all, IsLiteral}
+use Rattle.aig_format.proofs.Lines.{literal_takes, literal_again}
 
 -- ---- literals
 
-pub literals_take : (n : ℕ) (bytes xs rest : List ℕ) → literals_at n bytes ≡ Ok (xs, rest) → (bytes ≡ flat_map literal_line xs ++ rest) × (length xs ≡ n) × AreSmall xs
+pub literals_take : (n : ℕ) (bytes xs rest : List ℕ) → literals_at n bytes ≡ Ok (xs, rest)
+    → (bytes ≡ flat_map literal_line xs ++ rest) × (length xs ≡ n) × AreSmall xs
 literals_take n bytes xs rest h =
-    let t = lines_take (λ v. literal_at) (λ w. literal_line) (λ v. IsLiteral) literal_takes n 0 bytes xs rest h in
-    (t.spelled ∙ ap (λ (s : List ℕ). s ++ rest) (plain_lines literal_line t.written xs), t.count, all_from_fits IsLiteral 0 xs t.fits)
+    let t = lines_take (λ v. literal_at) (λ w. literal_line) (λ v. IsLiteral) literal_takes n 0 bytes xs rest h in (
+      t.spelled ∙ ap (λ (s : List ℕ). s ++ rest) (plain_lines literal_line t.written xs),
+      t.count,
+      all_from_fits IsLiteral 0 xs t.fits,
+    )
 
-pub literals_again : (xs rest : List ℕ) → AreSmall xs → literals_at (length xs) (flat_map literal_line xs ++ rest) ≡ Ok (xs, rest)
+pub literals_again : (xs rest : List ℕ) → AreSmall xs → literals_at (length xs) (flat_map literal_line xs ++ rest)
+    ≡ Ok (xs, rest)
 literals_again xs rest small =
     ap (λ (s : List ℕ). literals_at (length xs) (s ++ rest)) (sym (plain_lines literal_line [] xs))
-    ∙ lines_again (λ v. literal_at) (λ w. literal_line) (λ v. IsLiteral) literal_again 0 [] xs rest (fits_from_all IsLiteral 0 xs small)
+    ∙ lines_again (λ v. literal_at) (λ w. literal_line) (λ v. IsLiteral) literal_again 0 [] xs rest
+    (fits_from_all IsLiteral 0 xs small)
 
 -- ---- sizes
 
@@ -47,16 +56,23 @@ wide = omega arith
 nine : 9 ≤ greatest
 nine = omega arith
 
-pub sizes_take : (n total : ℕ) (bytes sizes rest : List ℕ) → total ≤ formed.limit → sizes_at n total bytes ≡ Ok (sizes, rest) → SizesRead n total bytes sizes rest
+pub sizes_take : (n total : ℕ) (bytes sizes rest : List ℕ) → total ≤ formed.limit
+    → sizes_at n total bytes ≡ Ok (sizes, rest) → SizesRead n total bytes sizes rest
 unfolding sizes_at
 sizes_take zero total bytes sizes rest le h =
     let p = done_is [] sizes bytes rest h in
-    subst (λ (k : List ℕ). SizesRead 0 total bytes k rest) p.0 (record { spelled = p.1; count = refl; within = omega (arith, le) })
-sizes_take (suc n) total bytes sizes rest le h = bind_then _ _ _ h (λ a ea h1. by_over (λ t b s r l e. sizes_take n t b s r l e) a.0 a.1 ea (ltb formed.limit (total + a.0)) refl h1)
+    subst (λ (k : List ℕ). SizesRead 0 total bytes k rest) p.0
+    (record { spelled = p.1; count = refl; within = omega (arith, le) })
+sizes_take (suc n) total bytes sizes rest le h =
+    bind_then _ _ _ h
+    (λ a ea h1. by_over (λ t b s r l e. sizes_take n t b s r l e) a.0 a.1 ea (ltb formed.limit (total + a.0)) refl h1)
   where
-    by_over : ((t : ℕ) (b s r : List ℕ) → t ≤ formed.limit → sizes_at n t b ≡ Ok (s, r) → SizesRead n t b s r) → (size : ℕ) (left : List ℕ) → number_at greatest bytes ≡ Ok (size, left)
+    by_over : ((t : ℕ) (b s r : List ℕ) → t ≤ formed.limit → sizes_at n t b ≡ Ok (s, r) → SizesRead n t b s r)
+        → (size : ℕ) (left : List ℕ) → number_at greatest bytes ≡ Ok (size, left)
         → (over : Bool) → ltb formed.limit (total + size) ≡ over
-        → cond over (Err limit) (byte_at line_end left >>= λ end. sizes_at n (total + size) end.1 >>= λ others. done (size ∷ others.0) others.1) ≡ Ok (sizes, rest)
+        → cond over (Err limit)
+        (byte_at line_end left >>= λ end. sizes_at n (total + size) end.1 >>= λ others.
+        done (size ∷ others.0) others.1) ≡ Ok (sizes, rest)
         → SizesRead (suc n) total bytes sizes rest
     by_over again size left e true o g = absurd cc
     by_over again size left e false o g = bind_then _ _ _ g (λ b eb g1. bind_then _ _ _ g1 (λ d ed g2.
@@ -65,7 +81,9 @@ sizes_take (suc n) total bytes sizes rest le h = bind_then _ _ _ h (λ a ea h1. 
         let t = number_takes greatest bytes size left nine wide e in
         let r = again (total + size) b.1 d.0 d.1 fits ed in
         let line = join2 bytes _ left (line_end ∷ []) b.1 t.0 (byte_takes line_end left b.0 b.1 eb) in
-        let text = join2 bytes (literal_line size) b.1 (flat_map literal_line d.0) rest line (join_end b.1 (flat_map literal_line d.0) d.1 rest r.spelled p.1) in
+        let text =
+        join2 bytes (literal_line size) b.1 (flat_map literal_line d.0) rest line
+        (join_end b.1 (flat_map literal_line d.0) d.1 rest r.spelled p.1) in
         let sum = sum_by-cons (λ k. k) size d.0 in
         subst (λ (k : List ℕ). SizesRead (suc n) total bytes k rest) p.0 (record {
           spelled = text ∙ ap (λ (x : List ℕ). x ++ rest) (sym (flat_map-cons literal_line size d.0));
@@ -73,7 +91,8 @@ sizes_take (suc n) total bytes sizes rest le h = bind_then _ _ _ h (λ a ea h1. 
           within = omega (arith, r.within, sum);
         })))
 
-pub sizes_again : (total : ℕ) (sizes rest : List ℕ) → total + sum_by (λ k. k) sizes ≤ formed.limit → sizes_at (length sizes) total (flat_map literal_line sizes ++ rest) ≡ Ok (sizes, rest)
+pub sizes_again : (total : ℕ) (sizes rest : List ℕ) → total + sum_by (λ k. k) sizes ≤ formed.limit
+    → sizes_at (length sizes) total (flat_map literal_line sizes ++ rest) ≡ Ok (sizes, rest)
 unfolding sizes_at
 sizes_again total [] rest within = refl
 sizes_again total (size ∷ sizes) rest within =
@@ -81,9 +100,16 @@ sizes_again total (size ∷ sizes) rest within =
     let after : List ℕ = flat_map literal_line sizes ++ rest in
     let fits : total + size ≤ formed.limit = omega (arith, within, sum) in
     let regrouped : flat_map literal_line (size ∷ sizes) ++ rest ≡ decimal size ++ line_end ∷ after =
-    ap (λ (x : List ℕ). x ++ rest) (flat_map-cons literal_line size sizes) ∙ append_assoc (literal_line size) (flat_map literal_line sizes) rest ∙ append_assoc (decimal size) (line_end ∷ []) after in
+    ap (λ (x : List ℕ). x ++ rest) (flat_map-cons literal_line size sizes)
+    ∙ append_assoc (literal_line size) (flat_map literal_line sizes) rest
+    ∙ append_assoc (decimal size) (line_end ∷ []) after in
     ap (sizes_at (suc (length sizes)) total) regrouped
-    ∙ rw (number_again greatest size (line_end ∷ after) (omega (arith, fits)) wide (stops_line after), le-ltb formed.limit (total + size) fits, byte_again line_end after, sizes_again (total + size) sizes rest (omega (arith, within, sum))) refl
+    ∙ rw (
+      number_again greatest size (line_end ∷ after) (omega (arith, fits)) wide (stops_line after),
+      le-ltb formed.limit (total + size) fits,
+      byte_again line_end after,
+      sizes_again (total + size) sizes rest (omega (arith, within, sum)),
+    ) refl
 
 -- ---- groups of literals
 
@@ -95,37 +121,46 @@ pub record GroupsRead (counts bytes : List ℕ) (ps : List (List ℕ)) (rest : L
   pub sizes : map length ps ≡ counts
   pub small : All AreSmall ps
 
-pub groups_take : (sizes bytes : List ℕ) (ps : List (List ℕ)) (rest : List ℕ) → groups_of_literals_at sizes bytes ≡ Ok (ps, rest) → GroupsRead sizes bytes ps rest
+pub groups_take : (sizes bytes : List ℕ) (ps : List (List ℕ)) (rest : List ℕ) → groups_of_literals_at sizes bytes
+    ≡ Ok (ps, rest) → GroupsRead sizes bytes ps rest
 unfolding groups_of_literals_at
 groups_take [] bytes ps rest h =
     let p = done_is [] ps bytes rest h in
-    subst (λ (k : List (List ℕ)). GroupsRead [] bytes k rest) p.0 (record { spelled = p.1; sizes = refl; small = All-nil AreSmall })
+    subst (λ (k : List (List ℕ)). GroupsRead [] bytes k rest) p.0
+    (record { spelled = p.1; sizes = refl; small = All-nil AreSmall })
 groups_take (size ∷ sizes) bytes ps rest h = bind_then _ _ _ h (λ a ea h1. bind_then _ _ _ h1 (λ b eb h2.
     let p = done_is (a.0 ∷ b.0) ps b.1 rest h2 in
     let t = literals_take size bytes a.0 a.1 ea in
     let r = groups_take sizes a.1 b.0 b.1 eb in
-    let text = join2 bytes (flat_map literal_line a.0) a.1 (group_lines b.0) rest t.0 (join_end a.1 (group_lines b.0) b.1 rest r.spelled p.1) in
+    let text =
+    join2 bytes (flat_map literal_line a.0) a.1 (group_lines b.0) rest t.0
+    (join_end a.1 (group_lines b.0) b.1 rest r.spelled p.1) in
     subst (λ (k : List (List ℕ)). GroupsRead (size ∷ sizes) bytes k rest) p.0 (record {
       spelled = text ∙ ap (λ (x : List ℕ). x ++ rest) (sym (flat_map-cons (λ q. flat_map literal_line q) a.0 b.0));
       sizes = λ i. t.1 i ∷ r.sizes i;
       small = All-cons AreSmall a.0 b.0 t.2 r.small;
     })))
 
-pub groups_again : (ps : List (List ℕ)) (rest : List ℕ) → All AreSmall ps → groups_of_literals_at (map length ps) (group_lines ps ++ rest) ≡ Ok (ps, rest)
+pub groups_again : (ps : List (List ℕ)) (rest : List ℕ) → All AreSmall ps
+    → groups_of_literals_at (map length ps) (group_lines ps ++ rest) ≡ Ok (ps, rest)
 unfolding groups_of_literals_at
 groups_again [] rest small = refl
 groups_again (p ∷ ps) rest small =
     let after : List ℕ = group_lines ps ++ rest in
     let regrouped : group_lines (p ∷ ps) ++ rest ≡ flat_map literal_line p ++ after =
-    ap (λ (x : List ℕ). x ++ rest) (flat_map-cons (λ q. flat_map literal_line q) p ps) ∙ append_assoc (flat_map literal_line p) (group_lines ps) rest in
+    ap (λ (x : List ℕ). x ++ rest) (flat_map-cons (λ q. flat_map literal_line q) p ps)
+    ∙ append_assoc (flat_map literal_line p) (group_lines ps) rest in
     ap (groups_of_literals_at (length p ∷ map length ps)) regrouped
-    ∙ rw (literals_again p after (All-head AreSmall p ps small), groups_again ps rest (All-tail AreSmall p ps small)) refl
+    ∙ rw (literals_again p after (All-head AreSmall p ps small), groups_again ps rest (All-tail AreSmall p ps small))
+    refl
 
 -- ---- justice
 
 sum_of_lengths : (ps : List (List ℕ)) → sum_by (λ k. k) (map length ps) ≡ sum_by length ps
 sum_of_lengths [] = refl
-sum_of_lengths (p ∷ ps) = sum_by-cons (λ k. k) (length p) (map length ps) ∙ ap (λ (k : ℕ). length p + k) (sum_of_lengths ps) ∙ sym (sum_by-cons length p ps)
+sum_of_lengths (p ∷ ps) =
+    sum_by-cons (λ k. k) (length p) (map length ps) ∙ ap (λ (k : ℕ). length p + k) (sum_of_lengths ps)
+    ∙ sym (sum_by-cons length p ps)
 
 size_lines : (ps : List (List ℕ)) → flat_map literal_line (map length ps) ≡ flat_map size_line ps
 size_lines ps = flat_map-map literal_line length ps
@@ -138,7 +173,8 @@ pub record JusticeRead (n : ℕ) (bytes : List ℕ) (ps : List (List ℕ)) (rest
   pub within : sum_by length ps ≤ formed.limit
   pub small : All AreSmall ps
 
-pub justice_take : (n : ℕ) (bytes : List ℕ) (ps : List (List ℕ)) (rest : List ℕ) → justice_at n bytes ≡ Ok (ps, rest) → JusticeRead n bytes ps rest
+pub justice_take : (n : ℕ) (bytes : List ℕ) (ps : List (List ℕ)) (rest : List ℕ) → justice_at n bytes ≡ Ok (ps, rest)
+    → JusticeRead n bytes ps rest
 unfolding justice_at
 justice_take n bytes ps rest h = bind_then _ _ _ h (λ a ea h1.
     let s = sizes_take n 0 bytes a.0 a.1 (omega arith) ea in
@@ -153,13 +189,15 @@ justice_take n bytes ps rest h = bind_then _ _ _ h (λ a ea h1.
       small = g.small;
     })
 
-pub justice_again : (ps : List (List ℕ)) (rest : List ℕ) → sum_by length ps ≤ formed.limit → All AreSmall ps → justice_at (length ps) (flat_map size_line ps ++ (group_lines ps ++ rest)) ≡ Ok (ps, rest)
+pub justice_again : (ps : List (List ℕ)) (rest : List ℕ) → sum_by length ps ≤ formed.limit → All AreSmall ps
+    → justice_at (length ps) (flat_map size_line ps ++ (group_lines ps ++ rest)) ≡ Ok (ps, rest)
 unfolding justice_at
 justice_again ps rest within small =
     let after : List ℕ = group_lines ps ++ rest in
     let sum = sum_of_lengths ps in
     let sizes : sizes_at (length ps) 0 (flat_map size_line ps ++ after) ≡ Ok (map length ps, after) =
-    (λ i. sizes_at (sym (length-map ps length) i) 0 (sym (size_lines ps) i ++ after)) ∙ sizes_again 0 (map length ps) after (omega (arith, within, sum)) in
+    (λ i. sizes_at (sym (length-map ps length) i) 0 (sym (size_lines ps) i ++ after))
+    ∙ sizes_again 0 (map length ps) after (omega (arith, within, sum)) in
     rw (sizes, groups_again ps rest small) refl
 
 -- ---- properties
@@ -184,10 +222,14 @@ pub record PropertiesRead (c : Counts) (bytes : List ℕ) (p : Properties) (rest
   pub fairness : length p.fairness ≡ c.fairness
   pub fits : FitsProperties p
 
-pub properties_take : (c : Counts) (bytes : List ℕ) (p : Properties) (rest : List ℕ) → properties_at c bytes ≡ Ok (p, rest) → PropertiesRead c bytes p rest
+pub properties_take : (c : Counts) (bytes : List ℕ) (p : Properties) (rest : List ℕ)
+    → properties_at c bytes ≡ Ok (p, rest) → PropertiesRead c bytes p rest
 unfolding properties_at property_lines
 properties_take c bytes p rest h =
-    bind_then _ _ _ h (λ o eo h1. bind_then _ _ _ h1 (λ b eb h2. bind_then _ _ _ h2 (λ k ek h3. bind_then _ _ _ h3 (λ j ej h4. bind_then _ _ _ h4 (λ f ef h5.
+    bind_then _ _ _ h
+    (λ o eo h1.
+    bind_then _ _ _ h1
+    (λ b eb h2. bind_then _ _ _ h2 (λ k ek h3. bind_then _ _ _ h3 (λ j ej h4. bind_then _ _ _ h4 (λ f ef h5.
     let made : Properties = record { outputs = o.0; bad = b.0; constraints = k.0; justice = j.0; fairness = f.0 } in
     let q = done_is made p f.1 rest h5 in
     let to = literals_take c.outputs bytes o.0 o.1 eo in
@@ -214,7 +256,15 @@ properties_take c bytes p rest h =
       constraints = tk.1;
       justice = tj.count;
       fairness = tf.1;
-      fits = record { outputs = to.2; bad = tb.2; constraints = tk.2; justice = tj.small; fairness = tf.2; within = tj.within };
+      fits = record {
+        outputs = to.2;
+        bad = tb.2;
+        constraints = tk.2;
+        justice = tj.small;
+        fairness = tf.2;
+        within =
+            tj.within;
+      };
     }))))))
 
 -- the counts of these properties
@@ -225,7 +275,8 @@ pub record Counted (c : Counts) (p : Properties) : Type 0 where
   pub justice : c.justice ≡ length p.justice
   pub fairness : c.fairness ≡ length p.fairness
 
-pub properties_again : (c : Counts) (p : Properties) (rest : List ℕ) → Counted c p → FitsProperties p → properties_at c (text_of p ++ rest) ≡ Ok (p, rest)
+pub properties_again : (c : Counts) (p : Properties) (rest : List ℕ) → Counted c p → FitsProperties p
+    → properties_at c (text_of p ++ rest) ≡ Ok (p, rest)
 unfolding properties_at property_lines
 properties_again c p rest is fits =
     let lo : List ℕ = flat_map literal_line p.outputs in

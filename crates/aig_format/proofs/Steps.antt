@@ -1,10 +1,12 @@
 -- How reading goes on, for loops.
-use Rattle.std.proofs.Common.{◌≡◌, ℕ, zero, suc, ◌+◌, ◌-◌, ◌*◌, ◌<◌, ◌≤◌, Bool, true, false, cond, ltb, List, [], ◌∷◌, ◌++◌, Option, Some, None, Result, Ok, Err, refl, sym, ap, subst, ◌∙◌, append_assoc, arith}
+use Rattle.std.proofs.Common.{◌≡◌, ℕ, suc, ◌+◌, ◌-◌, ◌*◌, ◌<◌, ◌≤◌, Bool, true, false, cond, ltb, List, [], ◌∷◌}
+use Rattle.std.proofs.Common.{◌++◌, Option, Some, None, Result, Ok, Err, refl, sym, ap, subst, ◌∙◌, append_assoc}
+use Rattle.std.proofs.Common.{arith}
 use Rattle.std.proofs.lemmas.List.{append-nil}
-use Rattle.std.proofs.lemmas.Bool.{ltb-true, lt-ltb, le-ltb}
+use Rattle.std.proofs.lemmas.Bool.{lt-ltb, le-ltb}
 use Rattle.aig_base.specs.declared.fault.Fault.{Fault}
 use Rattle.aig_base.specs.declared.fault.Fault.TheVariants as faults
-use Rattle.aig_format.specs.Reading.{Refusal, text, limit, Read, ◌>>=◌, is_digit, digit_at, digits_at}
+use Rattle.aig_format.specs.Reading.{Refusal, limit, Read, ◌>>=◌, is_digit, digit_at, digits_at}
 use Rattle.aig_format.specs.ReadingSections.{lines_at}
 use Rattle.aig_format.specs.Meaning.{Fails}
 
@@ -20,7 +22,8 @@ done_is {A} x y xs ys h =
     (ap (λ (r : P). r.0) e, ap (λ (r : P). r.1) e)
 
 -- a step that fails is the failure of all
-pub fails_on : {A B : Type 0} (e : Fault) (r : Result A Refusal) (f : A → Result B Refusal) → Fails e r → Fails e (r >>= f)
+pub fails_on : {A B : Type 0} (e : Fault) (r : Result A Refusal) (f : A → Result B Refusal) → Fails e r
+    → Fails e (r >>= f)
 fails_on (faults.Text at) r f h = rw h refl
 fails_on faults.Limit r f h = rw h refl
 fails_on faults.Memory r f h = tt
@@ -28,7 +31,8 @@ fails_on faults.Io r f h = tt
 fails_on fault r f h = absurd h
 
 -- a step that is never refused fails for want of memory or of a read alone
-pub fails_else : {A B : Type 0} (e : Fault) (r : Result A Refusal) (x : A) (read : Result B Refusal) → r ≡ Ok x → Fails e r → Fails e read
+pub fails_else : {A B : Type 0} (e : Fault) (r : Result A Refusal) (x : A) (read : Result B Refusal) → r ≡ Ok x
+    → Fails e r → Fails e read
 fails_else (faults.Text at) r x read is h = let clash = sym is ∙ h in absurd cc
 fails_else faults.Limit r x read is h = let clash = sym is ∙ h in absurd cc
 fails_else faults.Memory r x read is h = tt
@@ -38,19 +42,23 @@ fails_else fault r x read is h = absurd h
 -- ---- numbers
 
 -- the digit that was found, and what is left
-pub found_digit : (x d : ℕ) (xs rest : List ℕ) → digit_at (x ∷ xs) ≡ Ok (Some d, rest) → (is_digit x ≡ true) × (x - 48 ≡ d) × (xs ≡ rest)
+pub found_digit : (x d : ℕ) (xs rest : List ℕ) → digit_at (x ∷ xs) ≡ Ok (Some d, rest)
+    → (is_digit x ≡ true) × (x - 48 ≡ d) × (xs ≡ rest)
 unfolding digit_at
 found_digit x d xs rest h = by_test (is_digit x) h
   where
-    by_test : (b : Bool) → cond b (done (Some (x - 48)) xs) (done None (x ∷ xs)) ≡ done (Some d) rest → (b ≡ true) × (x - 48 ≡ d) × (xs ≡ rest)
-    by_test true h = let p = done_is (Some (x - 48)) (Some d) xs rest h in let e = p.0 in (refl, (let f : x - 48 ≡ d = cc in f), p.1)
+    by_test : (b : Bool) → cond b (done (Some (x - 48)) xs) (done None (x ∷ xs)) ≡ done (Some d) rest
+        → (b ≡ true) × (x - 48 ≡ d) × (xs ≡ rest)
+    by_test true h = let p = done_is (Some (x - 48)) (Some d) xs rest h in let e =
+        p.0 in (refl, (let f : x - 48 ≡ d = cc in f), p.1)
     by_test false h = let p = done_is None (Some d) (x ∷ xs) rest h in let e = p.0 in absurd cc
 
 pub no_digit : (x : ℕ) (xs rest : List ℕ) → digit_at (x ∷ xs) ≡ Ok (None, rest) → (is_digit x ≡ false) × (x ∷ xs ≡ rest)
 unfolding digit_at
 no_digit x xs rest h = by_test (is_digit x) h
   where
-    by_test : (b : Bool) → cond b (done (Some (x - 48)) xs) (done None (x ∷ xs)) ≡ done None rest → (b ≡ false) × (x ∷ xs ≡ rest)
+    by_test : (b : Bool) → cond b (done (Some (x - 48)) xs) (done None (x ∷ xs)) ≡ done None rest
+        → (b ≡ false) × (x ∷ xs ≡ rest)
     by_test true h = let p = done_is (Some (x - 48)) None xs rest h in let e = p.0 in absurd cc
     by_test false h = (refl, (done_is None None (x ∷ xs) rest h).1)
 
@@ -61,14 +69,17 @@ unfolding digit_at digits_at
 digits_more bound n [] d rest h = let p = done_is None (Some d) [] rest h in let e = p.0 in absurd cc
 digits_more bound n (x ∷ xs) d rest h = let p = found_digit x d xs rest h in rw (p.0, p.1, p.2) refl
 
-pub digits_on : (bound n : ℕ) (bytes : List ℕ) (d : ℕ) (rest : List ℕ) → digit_at bytes ≡ Ok (Some d, rest) → n * 10 + d ≤ bound → digits_at bound n bytes ≡ digits_at bound (n * 10 + d) rest
+pub digits_on : (bound n : ℕ) (bytes : List ℕ) (d : ℕ) (rest : List ℕ) → digit_at bytes ≡ Ok (Some d, rest)
+    → n * 10 + d ≤ bound → digits_at bound n bytes ≡ digits_at bound (n * 10 + d) rest
 digits_on bound n bytes d rest h le = digits_more bound n bytes d rest h ∙ rw (le-ltb bound (n * 10 + d) le) refl
 
-pub digits_over : (bound n : ℕ) (bytes : List ℕ) (d : ℕ) (rest : List ℕ) → digit_at bytes ≡ Ok (Some d, rest) → bound < n * 10 + d → digits_at bound n bytes ≡ Err limit
+pub digits_over : (bound n : ℕ) (bytes : List ℕ) (d : ℕ) (rest : List ℕ) → digit_at bytes ≡ Ok (Some d, rest)
+    → bound < n * 10 + d → digits_at bound n bytes ≡ Err limit
 digits_over bound n bytes d rest h lt = digits_more bound n bytes d rest h ∙ rw (lt-ltb bound (n * 10 + d) lt) refl
 
 -- no more digits
-pub digits_done : (bound n : ℕ) (bytes rest : List ℕ) → digit_at bytes ≡ Ok (None, rest) → digits_at bound n bytes ≡ Ok (n, rest)
+pub digits_done : (bound n : ℕ) (bytes rest : List ℕ) → digit_at bytes ≡ Ok (None, rest)
+    → digits_at bound n bytes ≡ Ok (n, rest)
 unfolding digit_at digits_at
 digits_done bound n [] rest h = let p = done_is None None [] rest h in rw (p.1) refl
 digits_done bound n (x ∷ xs) rest h = let p = no_digit x xs rest h in rw (p.0, p.1) refl
@@ -79,11 +90,13 @@ unfolding digit_at
 digit_ok [] = (None, [], refl)
 digit_ok (x ∷ xs) = by_test (is_digit x)
   where
-    by_test : (b : Bool) → (o : Option ℕ) × (rest : List ℕ) × (cond b (done (Some (x - 48)) xs) (done None (x ∷ xs)) ≡ done o rest)
+    by_test : (b : Bool) → (o : Option ℕ) × (rest : List ℕ)
+        × (cond b (done (Some (x - 48)) xs) (done None (x ∷ xs)) ≡ done o rest)
     by_test true = (Some (x - 48), xs, refl)
     by_test false = (None, x ∷ xs, refl)
 
-pub digit_fails : {B : Type 0} (e : Fault) (bytes : List ℕ) (read : Result B Refusal) → Fails e (digit_at bytes) → Fails e read
+pub digit_fails : {B : Type 0} (e : Fault) (bytes : List ℕ) (read : Result B Refusal) → Fails e (digit_at bytes)
+    → Fails e read
 digit_fails e bytes read h = let k = digit_ok bytes in fails_else e (digit_at bytes) (k.0, k.1) read k.2 h
 
 -- ---- lines
@@ -92,36 +105,49 @@ digit_fails e bytes read h = let k = digit_ok bytes in fails_else e (digit_at by
 abbrev pub with_front : {X : Type 0} → List X → Read (List X) → Read (List X)
 with_front front read = read >>= λ x. Ok (front ++ x.0, x.1)
 
-pub regroup : {X : Type 0} (front : List X) (x : X) (read : Read (List X)) → with_front front (read >>= λ y. Ok (x ∷ y.0, y.1)) ≡ with_front (front ++ x ∷ []) read
+pub regroup : {X : Type 0} (front : List X) (x : X) (read : Read (List X))
+    → with_front front (read >>= λ y. Ok (x ∷ y.0, y.1)) ≡ with_front (front ++ x ∷ []) read
 regroup {X} front x (Ok y) = ap (λ (xs : List X). done xs y.1) (simp append_assoc)
 regroup front x (Err e) = refl
 
 -- a failure of the first of two steps
-pub bind_bind : {A B C : Type 0} (r : Result A Refusal) (f : A → Result B Refusal) (g : B → Result C Refusal) → ((r >>= f) >>= g) ≡ (r >>= λ x. f x >>= g)
+pub bind_bind : {A B C : Type 0} (r : Result A Refusal) (f : A → Result B Refusal) (g : B → Result C Refusal)
+    → ((r >>= f) >>= g) ≡ (r >>= λ x. f x >>= g)
 bind_bind (Ok x) f g = refl
 bind_bind (Err e) f g = refl
 
 module _ {X : Type 0} (line : ℕ → List ℕ → Read X) where
-  pub lines_on : (front : List X) (count i v w : ℕ) (bytes : List ℕ) (x : X) (after : List ℕ) (total : Read (List X)) → i < count → w ≡ suc v → line v bytes ≡ Ok (x, after)
-      → with_front front (lines_at line (count - i) v bytes) ≡ total → with_front (front ++ x ∷ []) (lines_at line (count - (i + 1)) w after) ≡ total
+  pub lines_on : (front : List X) (count i v w : ℕ) (bytes : List ℕ) (x : X) (after : List ℕ) (total : Read (List X))
+      → i < count → w ≡ suc v → line v bytes ≡ Ok (x, after)
+      → with_front front (lines_at line (count - i) v bytes) ≡ total
+      → with_front (front ++ x ∷ []) (lines_at line (count - (i + 1)) w after) ≡ total
   unfolding lines_at
   lines_on front count i v w bytes x after total lt is h so_far =
       let k : count - i ≡ suc (count - (i + 1)) = omega arith in
-      let one : with_front front (lines_at line (count - i) v bytes) ≡ with_front (front ++ x ∷ []) (lines_at line (count - (i + 1)) (suc v) after) = rw (k, h) (regroup front x (lines_at line (count - (i + 1)) (suc v) after)) in
+      let one : with_front front (lines_at line (count - i) v bytes)
+      ≡ with_front (front ++ x ∷ []) (lines_at line (count - (i + 1)) (suc v) after) =
+      rw (k, h) (regroup front x (lines_at line (count - (i + 1)) (suc v) after)) in
       ap (λ (u : ℕ). with_front (front ++ x ∷ []) (lines_at line (count - (i + 1)) u after)) is ∙ sym one ∙ so_far
 
-  pub lines_fail : (e : Fault) (front : List X) (count i v : ℕ) (bytes : List ℕ) (total : Read (List X)) → i < count → Fails e (line v bytes)
+  pub lines_fail : (e : Fault) (front : List X) (count i v : ℕ) (bytes : List ℕ) (total : Read (List X)) → i < count
+      → Fails e (line v bytes)
       → with_front front (lines_at line (count - i) v bytes) ≡ total → Fails e total
   unfolding lines_at
   lines_fail e front count i v bytes total lt h so_far =
       let k : count - i ≡ suc (count - (i + 1)) = omega arith in
-      let go : X × List ℕ → Read (List X) = λ first. lines_at line (count - (i + 1)) (suc v) first.1 >>= λ others. done (first.0 ∷ others.0) others.1 in
-      let one : with_front front (lines_at line (count - i) v bytes) ≡ (line v bytes >>= λ first. with_front front (go first)) = rw k (bind_bind (line v bytes) go (λ x. done (front ++ x.0) x.1)) in
-      subst (λ (r : Read (List X)). Fails e r) (sym one ∙ so_far) (fails_on e (line v bytes) (λ first. with_front front (go first)) h)
+      let go : X × List ℕ → Read (List X) =
+      λ first. lines_at line (count - (i + 1)) (suc v) first.1 >>= λ others. done (first.0 ∷ others.0) others.1 in
+      let one : with_front front (lines_at line (count - i) v bytes)
+      ≡ (line v bytes >>= λ first. with_front front (go first)) =
+      rw k (bind_bind (line v bytes) go (λ x. done (front ++ x.0) x.1)) in
+      subst (λ (r : Read (List X)). Fails e r) (sym one ∙ so_far)
+      (fails_on e (line v bytes) (λ first. with_front front (go first)) h)
 
-  pub lines_done : (front : List X) (count i v : ℕ) (bytes : List ℕ) (total : Read (List X)) → count ≤ i → with_front front (lines_at line (count - i) v bytes) ≡ total → total ≡ Ok (front, bytes)
+  pub lines_done : (front : List X) (count i v : ℕ) (bytes : List ℕ) (total : Read (List X)) → count ≤ i
+      → with_front front (lines_at line (count - i) v bytes) ≡ total → total ≡ Ok (front, bytes)
   unfolding lines_at
   lines_done front count i v bytes total le so_far =
       let k : count - i ≡ 0 = omega arith in
-      let one : with_front front (lines_at line (count - i) v bytes) ≡ Ok (front, bytes) = rw k (ap (λ (xs : List X). done xs bytes) (append-nil front)) in
+      let one : with_front front (lines_at line (count - i) v bytes) ≡ Ok (front, bytes) =
+      rw k (ap (λ (xs : List X). done xs bytes) (append-nil front)) in
       sym so_far ∙ one

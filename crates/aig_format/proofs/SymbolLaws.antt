@@ -1,5 +1,7 @@
 -- All that follows the gates: what is read is spelled so, and what is spelled so is read.
-use Rattle.std.proofs.Common.{◌≡◌, ◌≢◌, ℕ, zero, suc, ◌+◌, ◌<◌, ◌≤◌, ◌⊎◌, inl, inr, ltb, Bool, true, false, cond, subst, List, [], ◌∷◌, ◌++◌, length, get_or, map, Option, Some, None, Result, Ok, Err, refl, sym, ap, ◌∙◌, append_assoc, arith, Contains, length-append}
+use Rattle.std.proofs.Common.{◌≡◌, ◌≢◌, ℕ, zero, suc, ◌+◌, ◌<◌, ◌≤◌, ◌⊎◌, inl, inr, ltb, Bool, true, false, cond}
+use Rattle.std.proofs.Common.{subst, List, [], ◌∷◌, ◌++◌, length, get_or, Option, Some, None, Ok}
+use Rattle.std.proofs.Common.{refl, sym, ap, ◌∙◌, append_assoc, arith, Contains, length-append}
 use Rattle.std.specs.Prelude.{All, AllPairs}
 use Rattle.std.specs.Map.{keys_of}
 use Rattle.std.specs.Fmt.{decimal}
@@ -11,18 +13,18 @@ use Rattle.std.proofs.lemmas.List.{append-nil, map-append}
 use Rattle.std.proofs.lemmas.List.Concat.{flat_map-cons}
 use Rattle.std.proofs.lemmas.List.Elements.{All-nil, All-cons, All-head, All-tail, Contains-get_or}
 use Rattle.aig_base.specs.declared.symbols.Kind.{Kind}
-use Rattle.aig_base.specs.Formed.{IsName}
 use Rattle.aig_format.specs.declared.header.Counts.{Counts}
 use Rattle.aig_format.specs.declared.symbol.Next.{Next}
 use Rattle.aig_format.specs.declared.symbol.Next.TheVariants.{End, Comment, Symbol}
 use Rattle.aig_format.specs.declared.symbol.Names.{Names}
-use Rattle.aig_format.specs.Header.{space, line_end, field, AreWithin}
+use Rattle.aig_format.specs.Header.{space, line_end, field}
 use Rattle.aig_format.specs.Spelling.{Entry, letter, symbol_line, comment_text, names_text}
 use Rattle.aig_format.specs.Spells.{greatest}
-use Rattle.aig_format.specs.Reading.{Refusal, Read, ◌>>=◌}
-use Rattle.aig_format.specs.ReadingNames.{Named, letter_at, after_c_at, count_of, symbol_at, symbols_then, symbols_at, names_at}
+use Rattle.aig_format.specs.Reading.{◌>>=◌}
+use Rattle.aig_format.specs.ReadingNames.{Named, letter_at, after_c_at, count_of, symbols_then, symbols_at}
+use Rattle.aig_format.specs.ReadingNames.{names_at}
 use Rattle.aig_format.proofs.Steps.{done, done_is}
-use Rattle.aig_format.proofs.Joins.{join2, join_end}
+use Rattle.aig_format.proofs.Joins.{join2}
 use Rattle.aig_format.proofs.Numbers.{bind_then, number_again, stops_space}
 use Rattle.aig_format.proofs.Names.{letter_takes, letter_again, starts, IsEntry, symbol_takes, symbol_again}
 use Rattle.aig_format.proofs.Symbols.{shorter, symbol_shorter}
@@ -50,7 +52,8 @@ module _ {X : Type 0} (xs : List X) (x : X) where
       by_end : ((j < length xs) ⊎ (j ≡ length xs)) → i < length xs → get_or (xs ++ x ∷ []) i d ≡ get_or xs i d → ⊥
       by_end (inl here) before first = pairs i j d lt here (sym first ∙ same ∙ get_or-append xs (x ∷ []) d j here)
       by_end (inr at) before first =
-          let last : get_or (xs ++ x ∷ []) j d ≡ x = ap (λ (k : ℕ). get_or (xs ++ x ∷ []) k d) at ∙ get_or-append_seam xs x [] d in
+          let last : get_or (xs ++ x ∷ []) j d ≡ x =
+          ap (λ (k : ℕ). get_or (xs ++ x ∷ []) k d) at ∙ get_or-append_seam xs x [] d in
           free (subst (Contains xs) (sym first ∙ same ∙ last) (Contains-get_or xs i d before))
 
   pairs_free : (ys : List X) → AllPairs (λ x y. x ≢ y) (xs ++ x ∷ ys) → Contains xs x → ⊥
@@ -61,13 +64,18 @@ module _ {X : Type 0} (xs : List X) (x : X) where
       let first : get_or (xs ++ x ∷ ys) k x ≡ x = get_or-append xs (x ∷ ys) x k lt ∙ there.2 in
       pairs k (length xs) x lt (omega (arith, both)) (first ∙ sym (get_or-append_seam xs x ys x))
 
-pub once_push : (named : List Entry) (e : Entry) → AreOnce named → (Contains (keys_of named) e.0 → ⊥) → AreOnce (named ++ e ∷ [])
+pub once_push : (named : List Entry) (e : Entry) → AreOnce named → (Contains (keys_of named) e.0 → ⊥)
+    → AreOnce (named ++ e ∷ [])
 once_push named e once free =
-    subst (λ (ks : List (Kind × ℕ)). AllPairs (λ x y. x ≢ y) ks) (sym (map-append (λ (f : Entry). f.0) named (e ∷ []))) (pairs_push (keys_of named) e.0 once free)
+    subst (λ (ks : List (Kind × ℕ)). AllPairs (λ x y. x ≢ y) ks)
+    (sym (map-append (λ (f : Entry). f.0) named (e ∷ []))) (pairs_push (keys_of named) e.0 once free)
 
-pub once_free : (named : List Entry) (e : Entry) (more : List Entry) → AreOnce (named ++ e ∷ more) → Contains (keys_of named) e.0 → ⊥
+pub once_free : (named : List Entry) (e : Entry) (more : List Entry) → AreOnce (named ++ e ∷ more)
+    → Contains (keys_of named) e.0 → ⊥
 once_free named e more once =
-    pairs_free (keys_of named) e.0 (keys_of more) (subst (λ (ks : List (Kind × ℕ)). AllPairs (λ x y. x ≢ y) ks) (map-append (λ (f : Entry). f.0) named (e ∷ more)) once)
+    pairs_free (keys_of named) e.0 (keys_of more)
+    (subst (λ (ks : List (Kind × ℕ)). AllPairs (λ x y. x ≢ y) ks)
+    (map-append (λ (f : Entry). f.0) named (e ∷ more)) once)
 
 -- ---- symbols
 
@@ -77,7 +85,8 @@ start true rest = 99 ∷ line_end ∷ rest
 start false rest = []
 
 -- the symbols that were read
-pub record SymbolsRead (c : Counts) (named : List Entry) (bytes : List ℕ) (all : List Entry) (follows : Bool) (rest : List ℕ) : Type 0 where
+pub record SymbolsRead (c : Counts) (named : List Entry) (bytes : List ℕ) (all : List Entry) (follows : Bool)
+    (rest : List ℕ) : Type 0 where
   pub more : List Entry
   pub adds : all ≡ named ++ more
   pub spelled : bytes ≡ flat_map symbol_line more ++ start follows rest
@@ -85,8 +94,10 @@ pub record SymbolsRead (c : Counts) (named : List Entry) (bytes : List ℕ) (all
   pub fits : All (IsEntry c) more
   pub once : AreOnce named → AreOnce all
 
-no_more : (c : Counts) (named : List Entry) (bytes : List ℕ) (all : List Entry) (follows f : Bool) (mid rest : List ℕ) → bytes ≡ start f mid → (f ≡ false → mid ≡ [])
-    → done {A = Named} (named, f) mid ≡ done {A = Named} (all, follows) rest → SymbolsRead c named bytes all follows rest
+no_more : (c : Counts) (named : List Entry) (bytes : List ℕ) (all : List Entry) (follows f : Bool) (mid rest : List ℕ)
+    → bytes ≡ start f mid → (f ≡ false → mid ≡ [])
+    → done {A = Named} (named, f) mid ≡ done {A = Named} (all, follows) rest
+    → SymbolsRead c named bytes all follows rest
 no_more c named bytes all follows f mid rest is ends h =
     let p = done_is {A = Named} (named, f) (all, follows) mid rest h in
     let same : named ≡ all = ap (λ (x : Named). x.0) p.0 in
@@ -100,15 +111,19 @@ no_more c named bytes all follows f mid rest is ends h =
       once = λ once. subst AreOnce same once;
     }
 
-pub symbols_take : (c : Counts) (n : ℕ) (named : List Entry) (bytes : List ℕ) (all : List Entry) (follows : Bool) (rest : List ℕ) → length bytes ≤ n
+pub symbols_take : (c : Counts) (n : ℕ) (named : List Entry) (bytes : List ℕ) (all : List Entry) (follows : Bool)
+    (rest : List ℕ) → length bytes ≤ n
     → symbols_at c n named bytes ≡ Ok ((all, follows), rest) → SymbolsRead c named bytes all follows rest
 unfolding symbols_at symbols_then
 symbols_take c zero named [] all follows rest le h = no_more c named [] all follows false [] rest refl (λ e. refl) h
 symbols_take c zero named (x ∷ xs) all follows rest le h = absurd (omega (arith, le))
-symbols_take c (suc n) named bytes all follows rest le h = bind_then _ _ _ h (λ a ea h1. by_next (λ m b l e. symbols_take c n m b all follows rest l e) a.0 a.1 ea h1)
+symbols_take c (suc n) named bytes all follows rest le h =
+    bind_then _ _ _ h (λ a ea h1. by_next (λ m b l e. symbols_take c n m b all follows rest l e) a.0 a.1 ea h1)
   where
-    by_next : ((m : List Entry) (b : List ℕ) → length b ≤ n → symbols_at c n m b ≡ Ok ((all, follows), rest) → SymbolsRead c m b all follows rest) → (next : Next) (mid : List ℕ)
-        → letter_at bytes ≡ Ok (next, mid) → symbols_then c named (symbols_at c n) next mid ≡ Ok ((all, follows), rest) → SymbolsRead c named bytes all follows rest
+    by_next : ((m : List Entry) (b : List ℕ) → length b ≤ n → symbols_at c n m b ≡ Ok ((all, follows), rest)
+        → SymbolsRead c m b all follows rest) → (next : Next) (mid : List ℕ)
+        → letter_at bytes ≡ Ok (next, mid) → symbols_then c named (symbols_at c n) next mid
+        ≡ Ok ((all, follows), rest) → SymbolsRead c named bytes all follows rest
     by_next again End mid e g =
         let p = letter_takes bytes End mid e in
         no_more c named bytes all follows false mid rest p.0 (λ e. p.1) g
@@ -117,47 +132,64 @@ symbols_take c (suc n) named bytes all follows rest le h = bind_then _ _ _ h (λ
     by_next again (Symbol kind) mid e g = bind_then _ _ _ g (λ s es g1.
         let t = symbol_takes c named kind mid s.0 s.1 es in
         let r = again s.0 s.1 (omega (arith, le, symbol_shorter c named kind bytes mid s.0 s.1 e es)) g1 in
-        let text = join2 bytes (symbol_line t.entry) s.1 (flat_map symbol_line r.more) (start follows rest) (letter_takes bytes (Symbol kind) mid e ∙ t.spelled) r.spelled in
+        let text =
+        join2 bytes (symbol_line t.entry) s.1 (flat_map symbol_line r.more) (start follows rest)
+        (letter_takes bytes (Symbol kind) mid e ∙ t.spelled) r.spelled in
         record {
           more = t.entry ∷ r.more;
           adds = r.adds ∙ ap (λ (es : List Entry). es ++ r.more) t.adds ∙ append_assoc named (t.entry ∷ []) r.more;
-          spelled = text ∙ ap (λ (x : List ℕ). x ++ start follows rest) (sym (flat_map-cons symbol_line t.entry r.more));
+          spelled =
+              text ∙ ap (λ (x : List ℕ). x ++ start follows rest) (sym (flat_map-cons symbol_line t.entry r.more));
           ends = r.ends;
           fits = All-cons (IsEntry c) t.entry r.more t.fits r.fits;
           once = λ once. r.once (subst AreOnce (sym t.adds) (once_push named t.entry once t.free));
         })
 
 -- a symbol's line in pieces
-symbol_apart : (e : Entry) (rest : List ℕ) → symbol_line e ++ rest ≡ letter e.0.0 ∷ (decimal e.0.1 ++ space ∷ (e.1 ++ line_end ∷ rest))
+symbol_apart : (e : Entry) (rest : List ℕ)
+    → symbol_line e ++ rest ≡ letter e.0.0 ∷ (decimal e.0.1 ++ space ∷ (e.1 ++ line_end ∷ rest))
 symbol_apart e rest =
-    append_assoc (letter e.0.0 ∷ field e.0.1 space ++ e.1) (line_end ∷ []) rest ∙ append_assoc (letter e.0.0 ∷ field e.0.1 space) e.1 (line_end ∷ rest)
+    append_assoc (letter e.0.0 ∷ field e.0.1 space ++ e.1) (line_end ∷ []) rest
+    ∙ append_assoc (letter e.0.0 ∷ field e.0.1 space) e.1 (line_end ∷ rest)
     ∙ ap (λ (t : List ℕ). letter e.0.0 ∷ t) (append_assoc (decimal e.0.1) (space ∷ []) (e.1 ++ line_end ∷ rest))
 
 letter_before : (e : Entry) (after : List ℕ) → e.0.1 ≤ greatest
     → letter_at (letter e.0.0 ∷ (decimal e.0.1 ++ space ∷ after)) ≡ Ok (Symbol e.0.0, decimal e.0.1 ++ space ∷ after)
 letter_before e after le =
     let tail : List ℕ = decimal e.0.1 ++ space ∷ after in
-    let s = starts greatest tail e.0.1 (space ∷ after) (number_again greatest e.0.1 (space ∷ after) le (omega arith) (stops_space after)) in
-    ap (λ (t : List ℕ). letter_at (letter e.0.0 ∷ t)) s.2 ∙ letter_again e.0.0 s.0 s.1 s.3 ∙ ap (λ (t : List ℕ). done (Symbol e.0.0) t) (sym s.2)
+    let s = starts greatest tail e.0.1 (space ∷ after)
+    (number_again greatest e.0.1 (space ∷ after) le (omega arith) (stops_space after)) in
+    ap (λ (t : List ℕ). letter_at (letter e.0.0 ∷ t)) s.2 ∙ letter_again e.0.0 s.0 s.1 s.3
+    ∙ ap (λ (t : List ℕ). done (Symbol e.0.0) t) (sym s.2)
 
-pub symbols_again : (c : Counts) (n : ℕ) (named more : List Entry) (follows : Bool) (rest : List ℕ) → ((kind : Kind) → count_of c kind ≤ greatest)
-    → length (flat_map symbol_line more ++ start follows rest) ≤ n → (follows ≡ false → rest ≡ []) → All (IsEntry c) more → AreOnce (named ++ more)
+pub symbols_again : (c : Counts) (n : ℕ) (named more : List Entry) (follows : Bool) (rest : List ℕ)
+    → ((kind : Kind) → count_of c kind ≤ greatest)
+    → length (flat_map symbol_line more ++ start follows rest) ≤ n → (follows ≡ false → rest ≡ [])
+    → All (IsEntry c) more → AreOnce (named ++ more)
     → symbols_at c n named (flat_map symbol_line more ++ start follows rest) ≡ Ok ((named ++ more, follows), rest)
 unfolding symbols_at symbols_then letter_at after_c_at
 symbols_again c zero named [] true rest small le ends fits once = absurd (omega (arith, le))
-symbols_again c zero named [] false rest small le ends fits once = (λ i. done {A = Named} (sym (append-nil named) i, false) (sym (ends refl) i))
-symbols_again c (suc n) named [] true rest small le ends fits once = ap (λ (es : List Entry). done {A = Named} (es, true) rest) (sym (append-nil named))
-symbols_again c (suc n) named [] false rest small le ends fits once = (λ i. done {A = Named} (sym (append-nil named) i, false) (sym (ends refl) i))
+symbols_again c zero named [] false rest small le ends fits once =
+    (λ i. done {A = Named} (sym (append-nil named) i, false) (sym (ends refl) i))
+symbols_again c (suc n) named [] true rest small le ends fits once =
+    ap (λ (es : List Entry). done {A = Named} (es, true) rest) (sym (append-nil named))
+symbols_again c (suc n) named [] false rest small le ends fits once =
+    (λ i. done {A = Named} (sym (append-nil named) i, false) (sym (ends refl) i))
 symbols_again c zero named (e ∷ more) follows rest small le ends fits once =
-    let text : flat_map symbol_line (e ∷ more) ++ start follows rest ≡ letter e.0.0 ∷ (decimal e.0.1 ++ space ∷ (e.1 ++ line_end ∷ (flat_map symbol_line more ++ start follows rest))) =
-    ap (λ (x : List ℕ). x ++ start follows rest) (flat_map-cons symbol_line e more) ∙ append_assoc (symbol_line e) (flat_map symbol_line more) (start follows rest)
+    let text : flat_map symbol_line (e ∷ more) ++ start follows rest
+    ≡ letter e.0.0 ∷
+    (decimal e.0.1 ++ space ∷ (e.1 ++ line_end ∷ (flat_map symbol_line more ++ start follows rest))) =
+    ap (λ (x : List ℕ). x ++ start follows rest) (flat_map-cons symbol_line e more)
+    ∙ append_assoc (symbol_line e) (flat_map symbol_line more) (start follows rest)
     ∙ symbol_apart e (flat_map symbol_line more ++ start follows rest) in
     let size = ap length text in
     absurd (omega (arith, le, size))
 symbols_again c (suc n) named (e ∷ more) follows rest small le ends fits once =
     let after : List ℕ = flat_map symbol_line more ++ start follows rest in
-    let text : flat_map symbol_line (e ∷ more) ++ start follows rest ≡ letter e.0.0 ∷ (decimal e.0.1 ++ space ∷ (e.1 ++ line_end ∷ after)) =
-    ap (λ (x : List ℕ). x ++ start follows rest) (flat_map-cons symbol_line e more) ∙ append_assoc (symbol_line e) (flat_map symbol_line more) (start follows rest)
+    let text : flat_map symbol_line (e ∷ more) ++ start follows rest
+    ≡ letter e.0.0 ∷ (decimal e.0.1 ++ space ∷ (e.1 ++ line_end ∷ after)) =
+    ap (λ (x : List ℕ). x ++ start follows rest) (flat_map-cons symbol_line e more)
+    ∙ append_assoc (symbol_line e) (flat_map symbol_line more) (start follows rest)
     ∙ symbol_apart e after in
     let size = ap length text in
     let deep : length after ≤ length (decimal e.0.1 ++ space ∷ (e.1 ++ line_end ∷ after)) =
@@ -166,13 +198,19 @@ symbols_again c (suc n) named (e ∷ more) follows rest small le ends fits once 
     let within : e.0.1 ≤ greatest = omega (arith, here.there, small e.0.0) in
     let regrouped : named ++ (e ∷ more) ≡ (named ++ e ∷ []) ++ more = sym (append_assoc named (e ∷ []) more) in
     let rec : symbols_at c n (named ++ e ∷ []) after ≡ Ok ((((named ++ e ∷ []) ++ more), follows), rest) =
-    symbols_again c n (named ++ e ∷ []) more follows rest small (omega (arith, le, size, deep)) ends (All-tail (IsEntry c) e more fits) (subst AreOnce regrouped once) in
+    symbols_again c n (named ++ e ∷ []) more follows rest small (omega (arith, le, size, deep)) ends
+    (All-tail (IsEntry c) e more fits) (subst AreOnce regrouped once) in
     ap (symbols_at c (suc n) named) text
-    ∙ rw (letter_before e (e.1 ++ line_end ∷ after) within, symbol_again c named e.0.0 e.0.1 e.1 after within here.there here.named (once_free named e more once))
+    ∙ rw (
+      letter_before e (e.1 ++ line_end ∷ after) within,
+      symbol_again c named e.0.0 e.0.1 e.1 after within here.there here.named (once_free named e more once),
+    )
     (rec ∙ ap (λ (es : List Entry). done {A = Named} (es, follows) rest) (sym regrouped))
   where
     deep_is : (d m a : List ℕ) → d ++ space ∷ (m ++ line_end ∷ a) ≡ (d ++ (space ∷ (m ++ line_end ∷ []))) ++ a
-    deep_is d m a = sym (append_assoc d (space ∷ (m ++ line_end ∷ [])) a ∙ ap (λ (t : List ℕ). d ++ space ∷ t) (append_assoc m (line_end ∷ []) a))
+    deep_is d m a =
+        sym (append_assoc d (space ∷ (m ++ line_end ∷ [])) a
+        ∙ ap (λ (t : List ℕ). d ++ space ∷ t) (append_assoc m (line_end ∷ []) a))
 
 -- ---- names
 
@@ -183,15 +221,19 @@ pub record NamesRead (c : Counts) (bytes : List ℕ) (names : Names) (rest : Lis
   pub fits : All (IsEntry c) names.symbols
   pub once : AreOnce names.symbols
 
-pub names_take : (c : Counts) (bytes : List ℕ) (names : Names) (rest : List ℕ) → names_at c bytes ≡ Ok (names, rest) → NamesRead c bytes names rest
+pub names_take : (c : Counts) (bytes : List ℕ) (names : Names) (rest : List ℕ) → names_at c bytes ≡ Ok (names, rest)
+    → NamesRead c bytes names rest
 unfolding names_at names_text
 names_take c bytes names rest h = bind_then _ _ _ h (λ s es h1. by_comment s.0.0 s.0.1 s.1 es h1)
   where
     none : AreOnce []
     none = λ i j d lt within. absurd (omega (arith, within))
 
-    by_comment : (all : List Entry) (follows : Bool) (left : List ℕ) → symbols_at c (length bytes) [] bytes ≡ Ok ((all, follows), left)
-        → cond follows (done {A = Names} (record { symbols = all; comment = Some left }) []) (done {A = Names} (record { symbols = all; comment = None }) left) ≡ Ok (names, rest) → NamesRead c bytes names rest
+    by_comment : (all : List Entry) (follows : Bool) (left : List ℕ) → symbols_at c (length bytes) [] bytes
+        ≡ Ok ((all, follows), left)
+        → cond follows (done {A = Names} (record { symbols = all; comment = Some left }) [])
+        (done {A = Names} (record { symbols = all; comment = None }) left) ≡ Ok (names, rest)
+        → NamesRead c bytes names rest
     by_comment all true left e g =
         let p = done_is {A = Names} (record { symbols = all; comment = Some left }) names [] rest g in
         let r = symbols_take c (length bytes) [] bytes all true left (omega arith) e in
@@ -211,14 +253,21 @@ names_take c bytes names rest h = bind_then _ _ _ h (λ s es h1. by_comment s.0.
           once = r.once none;
         })
 
-pub names_again : (c : Counts) (names : Names) → ((kind : Kind) → count_of c kind ≤ greatest) → All (IsEntry c) names.symbols → AreOnce names.symbols
+pub names_again : (c : Counts) (names : Names) → ((kind : Kind) → count_of c kind ≤ greatest)
+    → All (IsEntry c) names.symbols → AreOnce names.symbols
     → names_at c (names_text names.symbols names.comment) ≡ Ok (names, [])
 unfolding names_at names_text
 names_again c names small fits once = by_comment names.symbols names.comment fits once
   where
     by_comment : (symbols : List Entry) (comment : Option (List ℕ)) → All (IsEntry c) symbols → AreOnce symbols
-        → (symbols_at c (length (flat_map symbol_line symbols ++ comment_text comment)) [] (flat_map symbol_line symbols ++ comment_text comment)
-        >>= λ s. cond s.0.1 (done {A = Names} (record { symbols = s.0.0; comment = Some s.1 }) []) (done {A = Names} (record { symbols = s.0.0; comment = None }) s.1))
+        → (symbols_at c (length (flat_map symbol_line symbols ++ comment_text comment)) []
+        (flat_map symbol_line symbols ++ comment_text comment)
+        >>= λ s. cond s.0.1 (done {A = Names} (record { symbols = s.0.0; comment = Some s.1 }) [])
+        (done {A = Names} (record { symbols = s.0.0; comment = None }) s.1))
         ≡ Ok (record { symbols = symbols; comment = comment }, [])
-    by_comment symbols None fits once = rw (symbols_again c (length (flat_map symbol_line symbols ++ [])) [] symbols false [] small (omega arith) (λ e. refl) fits once) refl
-    by_comment symbols (Some bytes) fits once = rw (symbols_again c (length (flat_map symbol_line symbols ++ 99 ∷ line_end ∷ bytes)) [] symbols true bytes small (omega arith) (λ e. absurd cc) fits once) refl
+    by_comment symbols None fits once =
+        rw (symbols_again c (length (flat_map symbol_line symbols ++ [])) [] symbols false [] small (omega arith)
+        (λ e. refl) fits once) refl
+    by_comment symbols (Some bytes) fits once =
+        rw (symbols_again c (length (flat_map symbol_line symbols ++ 99 ∷ line_end ∷ bytes)) [] symbols true bytes
+        small (omega arith) (λ e. absurd cc) fits once) refl

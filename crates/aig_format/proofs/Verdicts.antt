@@ -1,5 +1,5 @@
 -- What the reader answers.
-use Rattle.std.proofs.Common.{◌≡◌, ◌≢◌, inl, inr, ℕ, ◌<◌, List, Result, Ok, Err, refl, sym, ap, subst, ◌∙◌, arith}
+use Rattle.std.proofs.Common.{◌≡◌, ◌≢◌, inl, inr, ℕ, List, Result, Ok, Err, refl, sym, ap, subst, ◌∙◌, arith}
 use Rattle.std.specs.Prelude.{IfOk, IfErr}
 use Rattle.aig_base.specs.declared.raw.Raw.{Raw}
 use Rattle.aig_base.specs.declared.fault.Fault.{Fault}
@@ -29,10 +29,13 @@ read_is_no_refusal raw r e = cc
 
 -- ---- where nothing was read
 
-pub err_only : (bytes : List ℕ) (e : Fault) → FileFails e (file_at bytes) → FaultRaises e 0 0 → (raw : Raw) → Spells bytes raw → IsVerdict (Err e) raw
+pub err_only : (bytes : List ℕ) (e : Fault) → FileFails e (file_at bytes) → FaultRaises e 0 0 → (raw : Raw)
+    → Spells bytes raw → IsVerdict (Err e) raw
 unfolding refused
-err_only bytes (faults.Text at) h io raw s = absurd (read_is_no_refusal raw (token text) (sym (file_again bytes raw s) ∙ h))
-err_only bytes faults.Limit h io raw s = absurd (read_is_no_refusal raw (token limit) (sym (file_again bytes raw s) ∙ h))
+err_only bytes (faults.Text at) h io raw s =
+    absurd (read_is_no_refusal raw (token text) (sym (file_again bytes raw s) ∙ h))
+err_only bytes faults.Limit h io raw s =
+    absurd (read_is_no_refusal raw (token limit) (sym (file_again bytes raw s) ∙ h))
 err_only bytes faults.Counts h io raw s = absurd (read_is_no_refusal raw counts (sym (file_again bytes raw s) ∙ h))
 err_only bytes faults.Memory h io raw s = λ other. absurd (other refl)
 err_only bytes faults.Io h io raw s = absurd (omega (arith, io))
@@ -41,7 +44,8 @@ err_only bytes fault h io raw s = absurd h
 pub err_counts : (bytes : List ℕ) (e : Fault) → FileFails e (file_at bytes) → e ≡ faults.Counts → HasWrongCounts bytes
 err_counts bytes e h is = wrong_takes bytes (subst (λ (f : Fault). FileFails f (file_at bytes)) is h)
 
-pub err_wrong : (bytes : List ℕ) (e : Fault) → FileFails e (file_at bytes) → FaultRaises e 0 0 → HasWrongCounts bytes → IsRefused (Err e) faults.Counts
+pub err_wrong : (bytes : List ℕ) (e : Fault) → FileFails e (file_at bytes) → FaultRaises e 0 0 → HasWrongCounts bytes
+    → IsRefused (Err e) faults.Counts
 unfolding refused
 err_wrong bytes (faults.Text at) h io w = λ other. absurd (text_is_no_count (sym h ∙ wrong_again bytes w))
 err_wrong bytes faults.Limit h io w = λ other. absurd (limit_is_no_count (sym h ∙ wrong_again bytes w))
@@ -50,7 +54,8 @@ err_wrong bytes faults.Memory h io w = λ other. absurd (other refl)
 err_wrong bytes faults.Io h io w = absurd (omega (arith, io))
 err_wrong bytes fault h io w = absurd h
 
-pub err_of_parts : (bytes : List ℕ) (e : Fault) → FileFails e (file_at bytes) → IsOfParts e → (raw : Raw) × Spells bytes raw × IsFirstFault raw e
+pub err_of_parts : (bytes : List ℕ) (e : Fault) → FileFails e (file_at bytes) → IsOfParts e
+    → (raw : Raw) × Spells bytes raw × IsFirstFault raw e
 err_of_parts bytes (faults.Text at) h of_parts = absurd (omega (arith, of_parts.0))
 err_of_parts bytes faults.Limit h of_parts = absurd (omega (arith, of_parts.0))
 err_of_parts bytes faults.Counts h of_parts = absurd (omega (arith, of_parts.0))
@@ -67,21 +72,29 @@ formed_of bytes raw (inr s) = s.parts.formed
 pub ok_formed : (bytes : List ℕ) (raw : Raw) → file_at bytes ≡ Ok raw → IsFormed raw
 ok_formed bytes raw h = formed_of bytes raw (file_takes bytes raw h)
 
-pub ok_found : (bytes : List ℕ) (raw : Raw) (r : Result Raw Fault) → file_at bytes ≡ Ok raw → IfOk r (λ circuit. circuit ≡ raw) → IfOk r (λ circuit. Spells bytes circuit)
+pub ok_found : (bytes : List ℕ) (raw : Raw) (r : Result Raw Fault) → file_at bytes ≡ Ok raw
+    → IfOk r (λ circuit. circuit ≡ raw) → IfOk r (λ circuit. Spells bytes circuit)
 ok_found bytes raw (Ok circuit) h is = subst (λ (p : Raw). Spells bytes p) (sym is) (file_takes bytes raw h)
 ok_found bytes raw (Err e) h is = tt
 
-pub ok_only : (bytes : List ℕ) (raw : Raw) (r : Result Raw Fault) → file_at bytes ≡ Ok raw → IfOk r (λ circuit. circuit ≡ raw) → IfErr r (λ fault. fault ≢ faults.Memory → IsFirstFault raw fault)
+pub ok_only : (bytes : List ℕ) (raw : Raw) (r : Result Raw Fault) → file_at bytes ≡ Ok raw
+    → IfOk r (λ circuit. circuit ≡ raw) → IfErr r (λ fault. fault ≢ faults.Memory → IsFirstFault raw fault)
     → (p : Raw) → Spells bytes p → IsVerdict r p
 ok_only bytes raw (Ok circuit) h is first p s = is ∙ one_reading bytes raw p (file_takes bytes raw h) s
-ok_only bytes raw (Err e) h is first p s = λ other. subst (λ (q : Raw). IsFirstFault q e) (one_reading bytes raw p (file_takes bytes raw h) s) (first other)
+ok_only bytes raw (Err e) h is first p s =
+    λ other. subst (λ (q : Raw). IsFirstFault q e) (one_reading bytes raw p (file_takes bytes raw h) s) (first other)
 
-pub ok_of_parts : (bytes : List ℕ) (raw : Raw) (r : Result Raw Fault) → file_at bytes ≡ Ok raw → IfErr r (λ fault. fault ≢ faults.Memory → IsFirstFault raw fault)
+pub ok_of_parts : (bytes : List ℕ) (raw : Raw) (r : Result Raw Fault) → file_at bytes ≡ Ok raw
+    → IfErr r (λ fault. fault ≢ faults.Memory → IsFirstFault raw fault)
     → IfErr r (λ fault. IsOfParts fault → (p : Raw) × Spells bytes p × IsFirstFault p fault)
 ok_of_parts bytes raw (Ok circuit) h first = tt
-ok_of_parts bytes raw (Err e) h first = λ of_parts.
-    (raw, file_takes bytes raw h, first (λ memory. (let n = ap number_of memory in absurd (omega (arith, n, of_parts.1)))))
+ok_of_parts bytes raw (Err e) h first = λ of_parts. (
+  raw,
+  file_takes bytes raw h,
+  first (λ memory. (let n = ap number_of memory in absurd (omega (arith, n, of_parts.1)))),
+)
 
-pub ok_wrong : (bytes : List ℕ) (raw : Raw) (r : Result Raw Fault) → file_at bytes ≡ Ok raw → HasWrongCounts bytes → IsRefused r faults.Counts
+pub ok_wrong : (bytes : List ℕ) (raw : Raw) (r : Result Raw Fault) → file_at bytes ≡ Ok raw → HasWrongCounts bytes
+    → IsRefused r faults.Counts
 unfolding refused
 ok_wrong bytes raw r h w = absurd (read_is_no_refusal raw counts (sym h ∙ wrong_again bytes w))

@@ -5,11 +5,10 @@ use Rattle.aig_base.specs.Renumbered.{evens}
 use Rattle.aig_format.specs.declared.header.Format.{Format}
 use Rattle.aig_format.specs.declared.header.Format.TheVariants.{Ascii, Binary}
 use Rattle.aig_format.specs.declared.header.Counts.{Counts}
-use Rattle.aig_format.specs.declared.section.Properties.{Properties}
-use Rattle.aig_format.specs.declared.symbol.Names.{Names}
 use Rattle.aig_format.specs.Header.{are_wrong}
 use Rattle.aig_format.specs.Reading.{Refusal, Read, ◌>>=◌}
-use Rattle.aig_format.specs.ReadingSections.{literals_at, latch_at, gate_at, implicit_latch_at, implicit_gate_at, lines_at, properties_at, header_at}
+use Rattle.aig_format.specs.ReadingSections.{literals_at, latch_at, gate_at, implicit_latch_at, implicit_gate_at}
+use Rattle.aig_format.specs.ReadingSections.{lines_at, properties_at, header_at}
 use Rattle.aig_format.specs.ReadingNames.{names_at}
 
 unfoldable pub ascii_at : Counts → List ℕ → Read Raw

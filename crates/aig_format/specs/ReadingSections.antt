@@ -1,5 +1,6 @@
 -- Reading the header line and the sections.
-use Rattle.std.specs.Prelude.{ℕ, Bool, true, false, zero, suc, ◌+◌, ◌-◌, ◌*◌, List, [], ◌∷◌, Result, Ok, Err, nat_lt, get_or, if◌then◌else◌}
+use Rattle.std.specs.Prelude.{ℕ, Bool, true, false, zero, suc, ◌+◌, ◌-◌, ◌*◌, List, [], ◌∷◌, Ok, Err, nat_lt}
+use Rattle.std.specs.Prelude.{get_or, if◌then◌else◌}
 use Rattle.aig_base.specs.declared.gate.Gate.{Gate}
 use Rattle.aig_base.specs.declared.latch.Latch.{Latch}
 use Rattle.aig_base.specs.Formed as formed
@@ -9,7 +10,8 @@ use Rattle.aig_format.specs.declared.header.Counts.{Counts}
 use Rattle.aig_format.specs.declared.section.Properties.{Properties}
 use Rattle.aig_format.specs.Header.{space, line_end}
 use Rattle.aig_format.specs.Spells.{greatest}
-use Rattle.aig_format.specs.Reading.{text, limit, Read, ◌>>=◌, is_next_at, byte_at, number_at, field_at, more_at, optional_at, delta_at}
+use Rattle.aig_format.specs.Reading.{limit, Read, ◌>>=◌, is_next_at, byte_at, number_at, field_at, more_at}
+use Rattle.aig_format.specs.Reading.{optional_at, delta_at}
 
 -- ---- the header line
 

@@ -1,4 +1,5 @@
--- What bytes spell. What makes parts a circuit, such as the range of literals and what a reset may be, is no part of it.
+-- What bytes spell. What makes parts a circuit, such as the range of literals and what a reset may be, is no part of
+-- it.
 use Rattle.std.specs.Prelude.{◌≡◌, ◌≢◌, ◌⊎◌, ℕ, ◌+◌, ◌≤◌, List, ◌++◌, length, true, All, AllPairs}
 use Rattle.std.specs.Map.{keys_of}
 use Rattle.aig_base.specs.declared.raw.Raw.{Raw}

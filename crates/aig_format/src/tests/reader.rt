@@ -123,6 +123,7 @@ fn parts_of_ascii(rt: HostRuntime) -> Result<(), Fail> {
         assert_eq!(rt; property.get(1), Some(&Lit::new(5)));
     }
     assert!(rt; raw.symbols.contains(Kind::Justice, 0));
+    assert_eq!(rt; raw.comment.map(|bytes| bytes.len()), Some(2));
     Ok(())
 }
 
@@ -191,10 +192,12 @@ fn faults_of_parts(rt: HostRuntime) {
 }
 
 #[test]
-fn circuits_are_read(rt: HostRuntime) -> Result<(), Fail> {
-    let circuit = read(rt.alloc(), b"aag 4 2 0 1 2\n2\n4\n8\n8 6 2\n6 2 4\n")?;
-    assert_eq!(rt; circuit.gates().first(), Some(&gate(8, 6, 2)));
-    let circuit = read(rt.alloc(), b"aag 1 1 0 0 0 0 1\n2\n2\nc0 go\nc\nhi")?;
-    assert_eq!(rt; circuit.comment(), Some(b"hi".as_slice()));
-    Ok(())
+fn circuits_are_read(rt: HostRuntime) {
+    for bytes in [
+        b"aag 4 2 0 1 2\n2\n4\n8\n8 6 2\n6 2 4\n".as_slice(),
+        b"aag 1 1 0 0 0 0 1\n2\n2\nc0 go\nc\nhi",
+        b"aig 3 2 0 1 1\n6\n\x02\x02",
+    ] {
+        assert!(rt; read(rt.alloc(), bytes).is_ok());
+    }
 }

@@ -1,10 +1,12 @@
-use Rattle.std.proofs.Common.{◌≡◌, ◌-◌, ◌+◌, ℕ}
+use Rattle.std.proofs.Common.{◌≡◌, ◌-◌, ◌+◌}
 use Rattle.aig_format.specs.ReadingSections.{lines_at}
 use Rattle.aig_format.proofs.Steps.{with_front}
 use Rattle.aig_format.proofs.line.entries.Given as goal
 
 abbrev pub invariant-loop-i : goal.invariant-loop-i
 invariant-loop-i g l = record {
-  bytes : g.S.Source.tells → with_front l.all (lines_at g.X.Implicit.entry_at (l.count - l.i) (l.first + l.i) (g.S.Source.left l.s)) ≡ lines_at g.X.Implicit.entry_at l.count l.first (g.S.Source.left l.fn.s);
+  bytes : g.S.Source.tells
+      → with_front l.all (lines_at g.X.Implicit.entry_at (l.count - l.i) (l.first + l.i) (g.S.Source.left l.s))
+      ≡ lines_at g.X.Implicit.entry_at l.count l.first (g.S.Source.left l.fn.s);
   failures : g.S.Source.failures l.s ≡ g.S.Source.failures l.fn.s;
 }

@@ -6,6 +6,7 @@ use Rattle.aig_format.proofs.section.sizes.Given as goal
 abbrev pub invariant-loop : goal.invariant-loop
 invariant-loop g l = record {
   within : l.total ≤ 4194303;
-  bytes : g.S.Source.tells → with_front l.sizes.items (sizes_at (l.count - l.counter) l.total (g.S.Source.left l.s)) ≡ sizes_at l.count 0 (g.S.Source.left l.fn.s);
+  bytes : g.S.Source.tells → with_front l.sizes.items (sizes_at (l.count - l.counter) l.total (g.S.Source.left l.s))
+      ≡ sizes_at l.count 0 (g.S.Source.left l.fn.s);
   failures : g.S.Source.failures l.s ≡ g.S.Source.failures l.fn.s;
 }

@@ -5,7 +5,9 @@ use Rattle.aig_format.proofs.symbol.symbols.Given as goal
 
 abbrev pub invariant-loop-kind : goal.invariant-loop-kind
 invariant-loop-kind g l = record {
-  bytes : g.S.Source.tells → GoesOn l.counts l.all (g.S.Source.left l.s) (symbols_at l.counts (length (g.S.Source.left l.fn.s)) l.fn.all (g.S.Source.left l.fn.s));
+  bytes : g.S.Source.tells
+      → GoesOn l.counts l.all (g.S.Source.left l.s)
+      (symbols_at l.counts (length (g.S.Source.left l.fn.s)) l.fn.all (g.S.Source.left l.fn.s));
   failures : g.S.Source.failures l.s ≡ g.S.Source.failures l.fn.s;
 }
 

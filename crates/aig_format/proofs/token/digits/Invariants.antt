@@ -1,4 +1,4 @@
-use Rattle.std.proofs.Common.{◌≡◌, ℕ, ◌<◌, ◌≤◌, List, ◌-◌}
+use Rattle.std.proofs.Common.{◌≡◌, ◌<◌, ◌≤◌, ◌-◌}
 use Rattle.aig_format.specs.Reading.{digits_at}
 use Rattle.aig_format.proofs.token.digits.Given as goal
 
@@ -6,7 +6,8 @@ abbrev pub invariant-loop-d : goal.invariant-loop-d
 invariant-loop-d g l = record {
   some : 0 < l.value;
   within : l.value ≤ l.bound;
-  bytes : g.S.Source.tells → digits_at l.bound l.value (g.S.Source.left l.s) ≡ digits_at l.bound l.first (g.S.Source.left l.fn.s);
+  bytes : g.S.Source.tells → digits_at l.bound l.value (g.S.Source.left l.s)
+      ≡ digits_at l.bound l.first (g.S.Source.left l.fn.s);
   never_more : g.S.Source.more l.s ≤ g.S.Source.more l.fn.s;
   failures : g.S.Source.failures l.s ≡ g.S.Source.failures l.fn.s;
 }
