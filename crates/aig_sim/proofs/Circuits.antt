@@ -49,7 +49,8 @@ module _ (raw : Raw) (sound : IsSound raw) where
   unfolding lits
   latch_stands i x at =
       left (raw.inputs ++ lits) _ _ (right raw.inputs lits _
-      (Contains-from_slice_get lits i x.lit (slice_get-map (λ x. x.lit) raw.latches i ∙ ap (option_map (λ x. x.lit)) at)))
+      (Contains-from_slice_get lits i x.lit
+      (slice_get-map (λ x. x.lit) raw.latches i ∙ ap (option_map (λ x. x.lit)) at)))
 
   pub gate_stands : (i : ℕ) (g : Gate) → slice_get raw.gates i ≡ Some g → Contains (definitions raw) g.lhs
   unfolding lits
@@ -84,7 +85,8 @@ module _ (raw : Raw) (sound : IsSound raw) where
   unfolding nexts
   next_used i x at =
       left _ _ _ (left _ _ _ (left _ _ _ (left _ _ _ (left _ _ _ (left nexts _ _
-      (Contains-from_slice_get nexts i x.next (slice_get-map (λ x. x.next) raw.latches i ∙ ap (option_map (λ x. x.next)) at)))))))
+      (Contains-from_slice_get nexts i x.next
+      (slice_get-map (λ x. x.next) raw.latches i ∙ ap (option_map (λ x. x.next)) at)))))))
 
   pub next_in_range : (i : ℕ) (x : Latch) → slice_get raw.latches i ≡ Some x → variable x.next ≤ raw.max_var
   next_in_range i x at = use_in_range x.next (next_used i x at)

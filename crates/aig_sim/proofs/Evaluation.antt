@@ -50,7 +50,8 @@ get_set_same row v w lt =
     let within : v < length (set row v w) = rw length-set lt in
     slice_get-get_or (set row v w) v w within ∙ ap Some (get_or-set_same row v w w lt)
 
-get_set_other : {A : Type 0} (row : List A) (u v : ℕ) (w : A) → v ≢ u → slice_get (slice_set row u w) v ≡ slice_get row v
+get_set_other : {A : Type 0} (row : List A) (u v : ℕ) (w : A) → v ≢ u → slice_get (slice_set row u w) v
+    ≡ slice_get row v
 get_set_other [] u v w ne = refl
 get_set_other (x ∷ xs) zero zero w ne = absurd (ne refl)
 get_set_other (x ∷ xs) zero (suc v) w ne = refl
@@ -62,7 +63,8 @@ even_or_odd l = grind arith
 
 module _ (raw : Raw) (rows : List (List Tern)) (t : ℕ) where
   -- the value of a definition's literal is that of its variable's even literal
-  value_of_variable : (l : ℕ) (w : Tern) → IsDefinition l → HasValue raw rows t l w → HasValue raw rows t (2 * variable l) w
+  value_of_variable : (l : ℕ) (w : Tern) → IsDefinition l → HasValue raw rows t l w
+      → HasValue raw rows t (2 * variable l) w
   value_of_variable l w d v = let e : 2 * variable l ≡ l = even l d in rw e v
 
   pub input_value : (row : List Tern) (i l : ℕ) (w : Tern) → IsSound raw → slice_get rows t ≡ Some row
@@ -73,9 +75,11 @@ module _ (raw : Raw) (rows : List (List Tern)) (t : ℕ) where
   pub latch_value : (states : List Tern) (i : ℕ) (x : Latch) (w : Tern) → IsSound raw → AreStates raw rows t states
       → slice_get raw.latches i ≡ Some x → slice_get states i ≡ Some w → HasValue raw rows t (2 * variable x.lit) w
   latch_value states i x w sound s at is =
-      let (u, here, v) = AllZip-slice_get (λ (x : Latch) (w : Tern). HasValue raw rows t x.lit w) raw.latches states i x s.each at in
+      let (u, here, v) = AllZip-slice_get
+      (λ (x : Latch) (w : Tern). HasValue raw rows t x.lit w) raw.latches states i x s.each at in
       let same : u ≡ w = cc in
-      value_of_variable x.lit w (latch_definition raw sound i x at) (subst (λ (u : Tern). HasValue raw rows t x.lit u) same v)
+      value_of_variable x.lit w (latch_definition raw sound i x at)
+      (subst (λ (u : Tern). HasValue raw rows t x.lit u) same v)
 
   negation_of_false : (w : Tern) → IsSound raw → HasValue raw rows t 0 w → HasValue raw rows t 1 (kleene_not w)
   negation_of_false w sound v =
@@ -120,7 +124,8 @@ module _ (raw : Raw) (rows : List (List Tern)) (t : ℕ) where
   pub renews_none : (cells : List Tern) → Renews raw rows t cells cells
   renews_none cells = record { keeps = λ v h. h }
 
-  pub renews_then : (old mid new : List Tern) → Renews raw rows t old mid → Renews raw rows t mid new → Renews raw rows t old new
+  pub renews_then : (old mid new : List Tern) → Renews raw rows t old mid → Renews raw rows t mid new
+      → Renews raw rows t old new
   renews_then old mid new a b = record { keeps = λ v h. b.keeps v (a.keeps v h) }
 
   -- what was a value stays one
@@ -134,9 +139,11 @@ module _ (raw : Raw) (rows : List (List Tern)) (t : ℕ) where
   }
 
   -- a write among others
-  pub put_value : (old cells : List Tern) (u v : ℕ) (w : Tern) → u ≡ v → u < length cells → HasValue raw rows t (2 * v) w
+  pub put_value : (old cells : List Tern) (u v : ℕ) (w : Tern) → u ≡ v → u < length cells
+      → HasValue raw rows t (2 * v) w
       → Renews raw rows t old cells
-      → Renews raw rows t old (slice_set cells u w) × Renews raw rows t cells (slice_set cells u w) × Holds raw rows t (slice_set cells u w) v
+      → Renews raw rows t old (slice_set cells u w) × Renews raw rows t cells (slice_set cells u w)
+      × Holds raw rows t (slice_set cells u w) v
   put_value old cells u v w e lt val r =
       let here : HasValue raw rows t (2 * u) w = subst (λ (n : ℕ). HasValue raw rows t (2 * n) w) (sym e) val in
       let step = renews_write cells u w lt here in (
@@ -157,12 +164,15 @@ module _ (raw : Raw) (rows : List (List Tern)) (t : ℕ) where
 
   -- the cells before the gate that is evaluated next
   abbrev pub HoldsFirst : List Gate → ℕ → List Tern → Type 0
-  HoldsFirst gates q cells = (r : ℕ) (g : Gate) → r < q → slice_get gates r ≡ Some g → Holds raw rows t cells (variable g.lhs)
+  HoldsFirst gates q cells = (r : ℕ) (g : Gate) → r < q → slice_get gates r ≡ Some g
+      → Holds raw rows t cells (variable g.lhs)
 
-  ready_holds : (gates : List Gate) (q v : ℕ) (cells : List Tern) → HoldsSources raw rows t cells → HoldsFirst gates q cells
+  ready_holds : (gates : List Gate) (q v : ℕ) (cells : List Tern) → HoldsSources raw rows t cells
+      → HoldsFirst gates q cells
       → IsReady raw gates q v → Holds raw rows t cells v
   ready_holds gates q v cells sources first (inl s) = sources v s
-  ready_holds gates q v cells sources first (inr (r, g, lt, at, is)) = subst (Holds raw rows t cells) is (first r g lt at)
+  ready_holds gates q v cells sources first (inr (r, g, lt, at, is)) =
+      subst (Holds raw rows t cells) is (first r g lt at)
 
   -- a gate is evaluated behind those that it reads
   pub gate_value_is : (gates : List Gate) (q : ℕ) (g : Gate) (cells : List Tern) → IsSound raw → IsGateOrder raw gates

@@ -27,7 +27,8 @@ pub gates_more : {raw : Raw} {vs : List ℕ} {gates : List Gate} (v : ℕ) (g : 
     → (r : ℕ) × (slice_get raw.gates r ≡ Some g) → variable g.lhs ≡ v → AreGatesOf raw (vs ++ v ∷ []) (gates ++ g ∷ [])
 gates_more {raw} {vs} {gates} v g h at is = record {
   known = All-push (λ g. (r : ℕ) × (slice_get raw.gates r ≡ Some g)) gates g h.known at;
-  variables_are = map_push (λ (g : Gate). variable g.lhs) gates g ∙ ap (λ (us : List ℕ). us ++ variable g.lhs ∷ []) h.variables_are
+  variables_are = map_push (λ (g : Gate). variable g.lhs) gates g
+      ∙ ap (λ (us : List ℕ). us ++ variable g.lhs ∷ []) h.variables_are
       ∙ ap (λ (u : ℕ). vs ++ u ∷ []) is;
 }
 
@@ -37,12 +38,14 @@ before_in_order : (raw : Raw) (order : List ℕ) (i j u v : ℕ) → IsCanonical
 before_in_order raw order i j u v h lt at at' =
     let within = slice_get_within order j v at' in
     subst (λ (x : ℕ). ComesBefore raw x v) (get_or_from_slice_get order i u 0 at)
-    (subst (λ (y : ℕ). ComesBefore raw (get_or order i 0) y) (get_or_from_slice_get order j v 0 at') (h.ordered i j 0 lt within))
+    (subst (λ (y : ℕ). ComesBefore raw (get_or order i 0) y) (get_or_from_slice_get order j v 0 at')
+    (h.ordered i j 0 lt within))
 
 module _ (raw : Raw) (circuit : IsCircuit raw) (order : List ℕ) (gates : List Gate)
     (canonical : IsCanonicalOrder raw order) (are : AreGatesOf raw order gates) where
   known : (q : ℕ) (g : Gate) → slice_get gates q ≡ Some g → (r : ℕ) × (slice_get raw.gates r ≡ Some g)
-  known q g at = All-contains (λ g. (r : ℕ) × (slice_get raw.gates r ≡ Some g)) gates g are.known (Contains-from_slice_get gates q g at)
+  known q g at = All-contains (λ g. (r : ℕ) × (slice_get raw.gates r ≡ Some g)) gates g are.known
+      (Contains-from_slice_get gates q g at)
 
   in_order : (q : ℕ) (g : Gate) → slice_get gates q ≡ Some g → slice_get order q ≡ Some (variable g.lhs)
   in_order q g at =
@@ -56,15 +59,20 @@ module _ (raw : Raw) (circuit : IsCircuit raw) (order : List ℕ) (gates : List 
       (q, g, at, is)
 
   -- a right side has a lower level than the gate
-  lower : (r : ℕ) (g : Gate) (u m n : ℕ) → slice_get raw.gates r ≡ Some g → (u ≡ variable g.rhs0) ⊎ (u ≡ variable g.rhs1)
+  lower : (r : ℕ) (g : Gate) (u m n : ℕ) → slice_get raw.gates r ≡ Some g → (u ≡ variable g.rhs0)
+      ⊎ (u ≡ variable g.rhs1)
       → Level raw u m → Level raw (variable g.lhs) n → m < n
   lower r g u m n at side lu lv =
-      let (a, la) = level_of (Grounded-of_defined raw circuit.acyclic (variable g.rhs0) (rhs0_defined raw circuit.sound r g at)) in
-      let (b, lb) = level_of (Grounded-of_defined raw circuit.acyclic (variable g.rhs1) (rhs1_defined raw circuit.sound r g at)) in
+      let (a, la) = level_of
+      (Grounded-of_defined raw circuit.acyclic (variable g.rhs0) (rhs0_defined raw circuit.sound r g at)) in
+      let (b, lb) = level_of
+      (Grounded-of_defined raw circuit.acyclic (variable g.rhs1) (rhs1_defined raw circuit.sound r g at)) in
       let top : n ≡ max a b + 1 = same_level circuit.sound lv (by.Level.gate r g a b at la lb) in
       elim side [
-        | inl e ↦ let same : m ≡ a = same_level circuit.sound lu (subst (λ (x : ℕ). Level raw x a) (sym e) la) in omega arith
-        | inr e ↦ let same : m ≡ b = same_level circuit.sound lu (subst (λ (x : ℕ). Level raw x b) (sym e) lb) in omega arith
+        | inl e ↦ let same : m
+            ≡ a = same_level circuit.sound lu (subst (λ (x : ℕ). Level raw x a) (sym e) la) in omega arith
+        | inr e ↦ let same : m
+            ≡ b = same_level circuit.sound lu (subst (λ (x : ℕ). Level raw x b) (sym e) lb) in omega arith
       ]
 
   ready : (q : ℕ) (g : Gate) (u : ℕ) → slice_get gates q ≡ Some g → (u ≡ variable g.rhs0) ⊎ (u ≡ variable g.rhs1)
@@ -84,7 +92,8 @@ module _ (raw : Raw) (circuit : IsCircuit raw) (order : List ℕ) (gates : List 
           | inr o ↦ elim o [
             | inl lt ↦ inr (i, h, lt, there, is)
             | inr gt ↦
-                let (m, n, lv, lu, before) = before_in_order raw order q i (variable g.lhs) u canonical gt (in_order q g at)
+                let (m, n, lv, lu, before) =
+                before_in_order raw order q i (variable g.lhs) u canonical gt (in_order q g at)
                 (in_order i h there ∙ ap Some is) in
                 let below = lower r g u n m stands side lu lv in
                 absurd (omega (arith, below, before))
@@ -96,12 +105,15 @@ module _ (raw : Raw) (circuit : IsCircuit raw) (order : List ℕ) (gates : List 
   gate_order = record {
     known = known;
     complete = complete;
-    ready0 = λ q g at. let (r, stands) = known q g at in ready q g (variable g.rhs0) at (inl refl) (rhs0_defined raw circuit.sound r g stands);
-    ready1 = λ q g at. let (r, stands) = known q g at in ready q g (variable g.rhs1) at (inr refl) (rhs1_defined raw circuit.sound r g stands);
+    ready0 = λ q g at. let (r, stands) = known q g at in
+        ready q g (variable g.rhs0) at (inl refl) (rhs0_defined raw circuit.sound r g stands);
+    ready1 = λ q g at. let (r, stands) = known q g at in
+        ready q g (variable g.rhs1) at (inr refl) (rhs1_defined raw circuit.sound r g stands);
   }
 
 -- what defines a gate's variable
-pub definition_of_gate : (raw : Raw) (v : ℕ) (o : Option Definition) → IsCircuit raw → IsGate raw v → IfSome o (Defines raw v)
+pub definition_of_gate : (raw : Raw) (v : ℕ) (o : Option Definition) → IsCircuit raw → IsGate raw v
+    → IfSome o (Defines raw v)
     → IfNone o (IsFree raw v)
     → (p : ℕ) × (g : Gate) × (o ≡ Some (definition.Gate p)) × (slice_get raw.gates p ≡ Some g) × (variable g.lhs ≡ v)
 definition_of_gate raw v None circuit h some none =

@@ -30,13 +30,15 @@ pub characters : (values : List Tern) → All IsCharacter (map character values)
 characters values = All-map IsCharacter character values (λ i d h. IsCharacter-of_value _)
 
 -- a character past the width
-pub keeps_long : (width : ℕ) (line : List ℕ) (values : List Tern) (w : Tern) (values' : List Tern) → width ≤ length values
+pub keeps_long : (width : ℕ) (line : List ℕ) (values : List Tern) (w : Tern) (values' : List Tern) → width
+    ≤ length values
     → Keeps width line Row values → Keeps width (line ++ character w ∷ []) Long values'
 keeps_long width line values w values' h k =
     let e = k.kept.0 in
     record {
       kept = (
-        All-push IsCharacter line (character w) (subst (All IsCharacter) (sym e) (characters values)) (IsCharacter-of_value w),
+        All-push IsCharacter line (character w) (subst (All IsCharacter) (sym e) (characters values))
+            (IsCharacter-of_value w),
         omega (arith, length_push line (character w), ap length e, length-map values character),
       );
     }
@@ -52,7 +54,11 @@ keeps_more width line Long values w other k = record {
   );
 }
 keeps_more width line Wrong values w other k =
-    record { kept = λ h. k.kept (λ i d lt. subst IsCharacter (get_or_append_left line _ d i lt) (h i d (omega (arith, length_push line (character w))))) }
+    record {
+      kept = λ h. k.kept
+          (λ i d lt. subst IsCharacter (get_or_append_left line _ d i lt)
+          (h i d (omega (arith, length_push line (character w)))));
+    }
 
 -- a line that has no wrong byte and is no row has a wrong length
 pub length_is_wrong : (width number before : ℕ) (line rest : List ℕ) (shape : Shape) (values : List Tern)
@@ -64,7 +70,8 @@ length_is_wrong width number before line rest Row values other ne e k ends = (
   subst (All IsCharacter) (sym k.kept.0) (characters values),
   λ h. ne refl (sym (length-map values character) ∙ ap length (sym k.kept.0) ∙ h),
 )
-length_is_wrong width number before line rest Long values other ne e k ends = (e, ends, k.kept.0, λ h. omega (arith, h, k.kept.1))
+length_is_wrong width number before line rest Long values other ne e k ends =
+    (e, ends, k.kept.0, λ h. omega (arith, h, k.kept.1))
 length_is_wrong width number before line rest Wrong values other ne e k ends = absurd (other refl)
 
 -- nothing was read
@@ -78,7 +85,8 @@ read_none width = record {
 }
 
 -- one byte more of a line
-pub read_byte : {width : ℕ} {text : List ℕ} {rows : List (List Tern)} {shape : Shape} {values : List Tern} (shape' : Shape) (values' : List Tern) (b : ℕ)
+pub read_byte : {width : ℕ} {text : List ℕ} {rows : List (List Tern)} {shape : Shape} {values : List Tern}
+    (shape' : Shape) (values' : List Tern) (b : ℕ)
     → HasRead width text rows shape values → b ≢ 10
     → ((line : List ℕ) → Keeps width line shape values → Keeps width (line ++ b ∷ []) shape' values')
     → HasRead width (text ++ b ∷ []) rows shape' values'
@@ -93,11 +101,13 @@ read_byte {rows} shape' values' b h ne step = record {
 flat_map_push : (rows : List (List Tern)) (values : List Tern)
     → flat_map row_line (rows ++ values ∷ []) ≡ flat_map row_line rows ++ (map character values ++ 10 ∷ [])
 flat_map_push rows values =
-    flat_map-append row_line rows (values ∷ []) ∙ ap (λ (t : List ℕ). flat_map row_line rows ++ t) (append-nil (row_line values))
+    flat_map-append row_line rows (values ∷ [])
+    ∙ ap (λ (t : List ℕ). flat_map row_line rows ++ t) (append-nil (row_line values))
 
 -- the end of a row
 pub read_line : {width : ℕ} {text : List ℕ} {rows : List (List Tern)} {values : List Tern}
-    → HasRead width text rows Row values → length values ≡ width → HasRead width (text ++ 10 ∷ []) (rows ++ values ∷ []) Row []
+    → HasRead width text rows Row values → length values ≡ width
+    → HasRead width (text ++ 10 ∷ []) (rows ++ values ∷ []) Row []
 read_line {width} {rows} {values} h len = record {
   widths = All-push (λ row. length row ≡ width) rows values h.widths len;
   line = [];
@@ -110,7 +120,8 @@ read_line {width} {rows} {values} h len = record {
 }
 
 -- the end of a line that is no row
-pub read_fault : {width : ℕ} {text : List ℕ} {rows : List (List Tern)} {shape : Shape} {values : List Tern} {f : StimFault} (more : List ℕ)
+pub read_fault : {width : ℕ} {text : List ℕ} {rows : List (List Tern)} {shape : Shape} {values : List Tern}
+    {f : StimFault} (more : List ℕ)
     → HasRead width text rows shape values
     → ((line rest : List ℕ) → Keeps width line shape values → EndsLine rest → HasFault width (length rows) line rest f)
     → HasFaultyLine width (text ++ (10 ∷ more)) rows f
@@ -142,7 +153,8 @@ pub read_end : {width : ℕ} {text : List ℕ} {rows : List (List Tern)} {shape 
     → SpellsRows width text rows
 read_end {rows} h none = record {
   widths = h.widths;
-  text_is = h.text_is ∙ ap (λ (t : List ℕ). flat_map row_line rows ++ t) (none h.line h.keeps) ∙ append-nil (flat_map row_line rows);
+  text_is = h.text_is ∙ ap (λ (t : List ℕ). flat_map row_line rows ++ t) (none h.line h.keeps)
+      ∙ append-nil (flat_map row_line rows);
 }
 
 -- a row behind the last one that is allowed
@@ -158,7 +170,8 @@ limit_is_passed width before line rest Row values is len e k ends = (
 limit_is_passed width before line rest Long values is len e k ends = let different : ⊥ = cc in absurd different
 limit_is_passed width before line rest Wrong values is len e k ends = let different : ⊥ = cc in absurd different
 
-pub read_same : {width : ℕ} {text text' : List ℕ} {rows rows' : List (List Tern)} {shape shape' : Shape} {values values' : List Tern}
+pub read_same : {width : ℕ} {text text' : List ℕ} {rows rows' : List (List Tern)} {shape shape' : Shape}
+    {values values' : List Tern}
     → HasRead width text rows shape values → text ≡ text' → rows ≡ rows' → shape ≡ shape' → values ≡ values'
     → HasRead width text' rows' shape' values'
 read_same {width} {text'} {rows} {rows'} {shape} {shape'} {values} {values'} h t r s v =

@@ -11,7 +11,8 @@ use Rattle.aig_sim.specs.StimulusText.{character, row_line, IsCharacter, HaveWid
 use Rattle.aig_sim.proofs.LineLemmas.{characters, no_end_in_character}
 
 -- a line that LF ends begins with the bytes of no other
-split_once : (a b m n : List ℕ) → All (λ x. x ≢ 10) a → All (λ x. x ≢ 10) b → a ++ (10 ∷ m) ≡ b ++ (10 ∷ n) → (a ≡ b) × (m ≡ n)
+split_once : (a b m n : List ℕ) → All (λ x. x ≢ 10) a → All (λ x. x ≢ 10) b → a ++ (10 ∷ m) ≡ b ++ (10 ∷ n) → (a ≡ b)
+    × (m ≡ n)
 split_once [] [] m n p q e = (refl, cc)
 split_once [] (y ∷ b) m n p q e = let is : 10 ≡ y = cc in absurd (All-head (λ x. x ≢ 10) y b q (sym is))
 split_once (x ∷ a) [] m n p q e = let is : x ≡ 10 = cc in absurd (All-head (λ x. x ≢ 10) x a p is)
@@ -52,13 +53,15 @@ no_end_in_row r = All-map (λ x. x ≢ 10) character r (λ i d h. no_end_in_char
 
 -- the text begins with a row of the width
 StartsWithRow : ℕ → List ℕ → Type 0
-StartsWithRow width text = (r : List Tern) × (more : List ℕ) × (length r ≡ width) × (text ≡ map character r ++ (10 ∷ more))
+StartsWithRow width text = (r : List Tern) × (more : List ℕ) × (length r ≡ width)
+    × (text ≡ map character r ++ (10 ∷ more))
 
 row_ends : (r : List Tern) (more : List ℕ) → row_line r ++ more ≡ map character r ++ (10 ∷ more)
 row_ends r more = append_assoc (map character r) (10 ∷ []) more
 
 -- a text as rows and a rest, twice
-rows_twice : (width : ℕ) (rows rows' : List (List Tern)) (rest rest' : List ℕ) → HaveWidth width rows → HaveWidth width rows'
+rows_twice : (width : ℕ) (rows rows' : List (List Tern)) (rest rest' : List ℕ) → HaveWidth width rows
+    → HaveWidth width rows'
     → flat_map row_line rows ++ rest ≡ flat_map row_line rows' ++ rest'
     → ((rows ≡ rows') × (rest ≡ rest')) ⊎ (((length rows < length rows') × StartsWithRow width rest)
     ⊎ ((length rows' < length rows) × StartsWithRow width rest'))
@@ -90,8 +93,13 @@ rows_twice width (r ∷ rows) (s ∷ rows') rest rest' p q e =
     let (same, more) = split_once (map character r) (map character s) t t' (no_end_in_row r) (no_end_in_row s)
     (sym (row_ends r t) ∙ sym (append_assoc (row_line r) (flat_map row_line rows) rest) ∙ e
     ∙ append_assoc (row_line s) (flat_map row_line rows') rest' ∙ row_ends s t') in
-    elim (rows_twice width rows rows' rest rest' (All-tail (λ row. length row ≡ width) r rows p) (All-tail (λ row. length row ≡ width) s rows' q) more) [
-      | inl h ↦ inl (ap (λ (z : List Tern). z ∷ rows) (same_row r s same) ∙ ap (λ (zs : List (List Tern)). s ∷ zs) h.0, h.1)
+    elim (rows_twice width rows rows' rest rest' (All-tail (λ row. length row ≡ width) r rows p)
+    (All-tail (λ row. length row ≡ width) s rows' q) more) [
+      | inl h ↦ inl (
+        ap (λ (z : List Tern). z ∷ rows) (same_row r s same)
+            ∙ ap (λ (zs : List (List Tern)). s ∷ zs) h.0,
+        h.1,
+      )
       | inr h ↦ inr (elim h [ inl k ↦ inl (omega (arith, k.0), k.1) | inr k ↦ inr (omega (arith, k.0), k.1) ])
     ]
 
@@ -100,22 +108,26 @@ unfolding StartsWithRow
 no_row_in_nothing width (r, more, len, e) = no_split (map character r) [] more (λ i d h. absurd (omega arith)) (sym e)
 
 -- a faulty line is no row, unless it is one too many
-fault_is_no_row : (width before : ℕ) (line rest : List ℕ) (f : StimFault) → All (λ x. x ≢ 10) line → HasFault width before line rest f
+fault_is_no_row : (width before : ℕ) (line rest : List ℕ) (f : StimFault) → All (λ x. x ≢ 10) line
+    → HasFault width before line rest f
     → StartsWithRow width (line ++ rest) → before ≡ 65536
 unfolding StartsWithRow
 fault_is_no_row width before line rest fault.Unfinished p h (r, more, len, e) =
     absurd (no_split (map character r) line more p (sym e ∙ ap (λ (t : List ℕ). line ++ t) h.0 ∙ append-nil line))
 fault_is_no_row width before line rest (fault.Char n) p h (r, more, len, e) =
-    let same = split_once line (map character r) h.1.0 more p (no_end_in_row r) (ap (λ (t : List ℕ). line ++ t) (sym h.1.1) ∙ e) in
+    let same = split_once line (map character r) h.1.0 more p (no_end_in_row r)
+    (ap (λ (t : List ℕ). line ++ t) (sym h.1.1) ∙ e) in
     absurd (h.2 (subst (All IsCharacter) (sym same.0) (characters r)))
 fault_is_no_row width before line rest (fault.Length n) p h (r, more, len, e) =
-    let same = split_once line (map character r) h.1.0 more p (no_end_in_row r) (ap (λ (t : List ℕ). line ++ t) (sym h.1.1) ∙ e) in
+    let same = split_once line (map character r) h.1.0 more p (no_end_in_row r)
+    (ap (λ (t : List ℕ). line ++ t) (sym h.1.1) ∙ e) in
     absurd (h.3 (ap length same.0 ∙ length-map r character ∙ len))
 fault_is_no_row width before line rest fault.Limit p h s = h.0
 fault_is_no_row width before line rest fault.Memory p h s = absurd h
 fault_is_no_row width before line rest fault.Io p h s = absurd h
 
-fault_has_bytes : (width before : ℕ) (line rest : List ℕ) (f : StimFault) → HasFault width before line rest f → [] ≡ line ++ rest → ⊥
+fault_has_bytes : (width before : ℕ) (line rest : List ℕ) (f : StimFault) → HasFault width before line rest f → []
+    ≡ line ++ rest → ⊥
 fault_has_bytes width before [] rest fault.Unfinished h e = h.1 refl
 fault_has_bytes width before [] rest (fault.Char n) h e = let no_bytes : [] ≡ 10 ∷ h.1.0 = e ∙ h.1.1 in cc
 fault_has_bytes width before [] rest (fault.Length n) h e = let no_bytes : [] ≡ 10 ∷ h.1.0 = e ∙ h.1.1 in cc
@@ -136,10 +148,12 @@ ended_fault width before line rest (fault.Length n) (fault.Char m) ends h k = ab
 ended_fault width before line rest (fault.Length n) fault.Limit ends h k = absurd (h.3 k.3)
 ended_fault width before line rest fault.Limit (fault.Char m) ends h k = absurd (k.2 h.2)
 ended_fault width before line rest fault.Limit (fault.Length m) ends h k = absurd (k.3 h.3)
-ended_fault width before line rest fault.Unfinished g ends h k = let different : [] ≡ 10 ∷ ends.0 = sym h.0 ∙ ends.1 in cc
+ended_fault width before line rest fault.Unfinished g ends h k = let different : [] ≡ 10 ∷ ends.0 = sym h.0
+    ∙ ends.1 in cc
 ended_fault width before line rest fault.Memory g ends h k = absurd h
 ended_fault width before line rest fault.Io g ends h k = absurd h
-ended_fault width before line rest f fault.Unfinished ends h k = let different : [] ≡ 10 ∷ ends.0 = sym k.0 ∙ ends.1 in cc
+ended_fault width before line rest f fault.Unfinished ends h k = let different : [] ≡ 10 ∷ ends.0 = sym k.0
+    ∙ ends.1 in cc
 ended_fault width before line rest f fault.Memory ends h k = absurd k
 ended_fault width before line rest f fault.Io ends h k = absurd k
 
@@ -154,31 +168,38 @@ ends_or_not width before line rest fault.Io h = absurd h
 
 -- a line that is faulty behind so many rows has one fault
 one_fault : (width before : ℕ) (line rest line' rest' : List ℕ) (f f' : StimFault)
-    → All (λ x. x ≢ 10) line → All (λ x. x ≢ 10) line' → HasFault width before line rest f → HasFault width before line' rest' f'
+    → All (λ x. x ≢ 10) line → All (λ x. x ≢ 10) line' → HasFault width before line rest f
+    → HasFault width before line' rest' f'
     → line ++ rest ≡ line' ++ rest' → f ≡ f'
 one_fault width before line rest line' rest' f f' p p' h h' e =
     elim (ends_or_not width before line rest f h) [
       | inl (is, none) ↦ elim (ends_or_not width before line' rest' f' h') [
         | inl (is', none') ↦ is ∙ sym is'
         | inr (more, ends) ↦
-            absurd (no_split line' line more p (ap (λ (t : List ℕ). line' ++ t) (sym ends) ∙ sym e ∙ ap (λ (t : List ℕ). line ++ t) none ∙ append-nil line))
+            absurd (no_split line' line more p
+            (ap (λ (t : List ℕ). line' ++ t) (sym ends) ∙ sym e ∙ ap (λ (t : List ℕ). line ++ t) none
+            ∙ append-nil line))
       ]
       | inr (more, ends) ↦ elim (ends_or_not width before line' rest' f' h') [
         | inl (is', none') ↦
-            absurd (no_split line line' more p' (ap (λ (t : List ℕ). line ++ t) (sym ends) ∙ e ∙ ap (λ (t : List ℕ). line' ++ t) none' ∙ append-nil line'))
+            absurd (no_split line line' more p'
+            (ap (λ (t : List ℕ). line ++ t) (sym ends) ∙ e ∙ ap (λ (t : List ℕ). line' ++ t) none'
+            ∙ append-nil line'))
         | inr (more', ends') ↦
             let (same, rests) = split_once line line' more more' p p'
             (ap (λ (t : List ℕ). line ++ t) (sym ends) ∙ e ∙ ap (λ (t : List ℕ). line' ++ t) ends') in
             let same_rest : rest' ≡ rest = ends' ∙ ap (λ (t : List ℕ). 10 ∷ t) (sym rests) ∙ sym ends in
             ended_fault width before line rest f f' (more, ends) h
-            (subst (λ (t : List ℕ). HasFault width before line t f') same_rest (subst (λ (t : List ℕ). HasFault width before t rest' f') (sym same) h'))
+            (subst (λ (t : List ℕ). HasFault width before line t f') same_rest
+            (subst (λ (t : List ℕ). HasFault width before t rest' f') (sym same) h'))
       ]
     ]
 
 pub one_list_of_rows : (width : ℕ) (text : List ℕ) (rows rows' : List (List Tern))
     → SpellsRows width text rows → SpellsRows width text rows' → rows ≡ rows'
 one_list_of_rows width text rows rows' h k =
-    elim (rows_twice width rows rows' [] [] h.widths k.widths (append-nil _ ∙ sym h.text_is ∙ k.text_is ∙ sym (append-nil _))) [
+    elim (rows_twice width rows rows' [] [] h.widths k.widths
+    (append-nil _ ∙ sym h.text_is ∙ k.text_is ∙ sym (append-nil _))) [
       | inl s ↦ s.0
       | inr s ↦ absurd (elim s [ inl q ↦ no_row_in_nothing width q.1 | inr q ↦ no_row_in_nothing width q.1 ])
     ]
@@ -186,11 +207,13 @@ one_list_of_rows width text rows rows' h k =
 pub no_faulty_line : (width : ℕ) (text : List ℕ) (rows rows' : List (List Tern)) (f : StimFault)
     → length rows ≤ 65536 → SpellsRows width text rows → HasFaultyLine width text rows' f → ⊥
 no_faulty_line width text rows rows' f limit h k =
-    elim (rows_twice width rows rows' [] (k.line ++ k.rest) h.widths k.widths (append-nil _ ∙ sym h.text_is ∙ k.text_is)) [
+    elim (rows_twice width rows rows' [] (k.line ++ k.rest) h.widths k.widths
+    (append-nil _ ∙ sym h.text_is ∙ k.text_is)) [
       | inl s ↦ fault_has_bytes width (length rows') k.line k.rest f k.fault_is s.1
       | inr s ↦ elim s [
         | inl q ↦ no_row_in_nothing width q.1
-        | inr q ↦ let at : length rows' ≡ 65536 = fault_is_no_row width (length rows') k.line k.rest f k.no_end k.fault_is q.1 in
+        | inr q ↦ let at : length rows'
+            ≡ 65536 = fault_is_no_row width (length rows') k.line k.rest f k.no_end k.fault_is q.1 in
             omega (arith, at, q.0, limit)
       ]
     ]
@@ -199,16 +222,19 @@ pub one_faulty_line : (width : ℕ) (text : List ℕ) (rows rows' : List (List T
     → length rows ≤ 65536 → length rows' ≤ 65536 → HasFaultyLine width text rows f → HasFaultyLine width text rows' f'
     → (rows ≡ rows') × (f ≡ f')
 one_faulty_line width text rows rows' f f' limit limit' h k =
-    elim (rows_twice width rows rows' (h.line ++ h.rest) (k.line ++ k.rest) h.widths k.widths (sym h.text_is ∙ k.text_is)) [
+    elim (rows_twice width rows rows' (h.line ++ h.rest) (k.line ++ k.rest) h.widths k.widths
+    (sym h.text_is ∙ k.text_is)) [
       | inl s ↦ (
         s.0,
         one_fault width (length rows) h.line h.rest k.line k.rest f f' h.no_end k.no_end h.fault_is
             (subst (λ (r : List (List Tern)). HasFault width (length r) k.line k.rest f') (sym s.0) k.fault_is) s.1,
       )
       | inr s ↦ absurd (elim s [
-        | inl q ↦ let at : length rows ≡ 65536 = fault_is_no_row width (length rows) h.line h.rest f h.no_end h.fault_is q.1 in
+        | inl q ↦ let at : length rows
+            ≡ 65536 = fault_is_no_row width (length rows) h.line h.rest f h.no_end h.fault_is q.1 in
             omega (arith, at, q.0, limit')
-        | inr q ↦ let at : length rows' ≡ 65536 = fault_is_no_row width (length rows') k.line k.rest f' k.no_end k.fault_is q.1 in
+        | inr q ↦ let at : length rows'
+            ≡ 65536 = fault_is_no_row width (length rows') k.line k.rest f' k.no_end k.fault_is q.1 in
             omega (arith, at, q.0, limit)
       ])
     ]

@@ -53,7 +53,8 @@ trace_more : (raw : Raw) (start : List Tern) (rows : List (List Tern)) (row : Li
     → IsTrace raw start rows trace → IsLine raw start (rows ++ row ∷ []) (length rows) line
     → IsTrace raw start (rows ++ row ∷ []) (trace ++ line)
 trace_more raw start rows row trace line h k =
-    subst (λ (n : ℕ). AreLines raw start (rows ++ row ∷ []) n (trace ++ line)) (sym (add-one (length rows)) ∙ sym (length_push rows row))
+    subst (λ (n : ℕ). AreLines raw start (rows ++ row ∷ []) n (trace ++ line))
+    (sym (add-one (length rows)) ∙ sym (length_push rows row))
     (trace, line, lines_stay raw start rows (row ∷ []) (length rows) trace h, k, refl)
 
 -- ---- steps
@@ -75,14 +76,16 @@ running_none raw start count s circuit states shape values frames = record {
 
 pub byte_goes_on : (s s' : Simulation) (b : ℕ) (written : Option (List ℕ)) (failures : ℕ)
     → s.line.width ≡ length s.machine.circuit.inputs → s'.frames ≡ s.frames → s'.machine ≡ s.machine → b ≢ 10
-    → ((line : List ℕ) → Keeps s.line.width line s.line.shape s.line.values → Keeps s.line.width (line ++ b ∷ []) s'.line.shape s'.line.values)
+    → ((line : List ℕ) → Keeps s.line.width line s.line.shape s.line.values
+    → Keeps s.line.width (line ++ b ∷ []) s'.line.shape s'.line.values)
     → GoesOn (b ∷ []) s s' written written failures failures
 byte_goes_on s s' b written failures width frames machine ne step raw start count text r = record {
   rows = r.rows;
   trace = r.trace;
   circuit_is = ap (λ (m : Machine). m.circuit) machine ∙ r.circuit_is;
   has_read = read_byte s'.line.shape s'.line.values b r.has_read ne
-      (step_same s.line.shape s'.line.shape s.line.values s'.line.values b (width ∙ ap (λ (c : Raw). length c.inputs) r.circuit_is) step);
+      (step_same s.line.shape s'.line.shape s.line.values s'.line.values b
+      (width ∙ ap (λ (c : Raw). length c.inputs) r.circuit_is) step);
   states_are = subst (λ (m : Machine). AreStates raw r.rows (length r.rows) m.states) (sym machine) r.states_are;
   frames_are = frames ∙ r.frames_are;
   trace_is = r.trace_is;
@@ -90,26 +93,31 @@ byte_goes_on s s' b written failures width frames machine ne step raw start coun
   no_failure = r.no_failure;
 }
 
-pub nothing_goes_on : (s : Simulation) (written : Option (List ℕ)) (failures : ℕ) → GoesOn [] s s written written failures failures
+pub nothing_goes_on : (s : Simulation) (written : Option (List ℕ)) (failures : ℕ)
+    → GoesOn [] s s written written failures failures
 nothing_goes_on s written failures raw start count text r =
     subst (λ (t : List ℕ). Running raw start count t s written failures) (sym (append-nil text)) r
 
 pub goes_on_then : (a b : List ℕ) (s mid s' : Simulation) (w x y : Option (List ℕ)) (f g h : ℕ)
     → GoesOn a s mid w x f g → GoesOn b mid s' x y g h → GoesOn (a ++ b) s s' w y f h
 goes_on_then a b s mid s' w x y f g h p q raw start count text r =
-    subst (λ (t : List ℕ). Running raw start count t s' y h) (append_assoc text a b) (q raw start count (text ++ a) (p raw start count text r))
+    subst (λ (t : List ℕ). Running raw start count t s' y h) (append_assoc text a b)
+    (q raw start count (text ++ a) (p raw start count text r))
 
 pub stops_then : (a b : List ℕ) (s mid : Simulation) (w x y : Option (List ℕ)) (f g h : ℕ) (e : StimFault)
     → GoesOn a s mid w x f g → Stops b mid x y g h e → Stops (a ++ b) s w y f h e
 stops_then a b s mid w x y f g h e p q raw start count text r =
-    subst (λ (t : List ℕ). Stopped raw start count t y h e) (append_assoc text a b) (q raw start count (text ++ a) (p raw start count text r))
+    subst (λ (t : List ℕ). Stopped raw start count t y h e) (append_assoc text a b)
+    (q raw start count (text ++ a) (p raw start count text r))
 
-module _ (s : Simulation) (machine' : Machine) (row : List Tern) (width : s.line.width ≡ length s.machine.circuit.inputs)
+module _ (s : Simulation) (machine' : Machine) (row : List Tern)
+    (width : s.line.width ≡ length s.machine.circuit.inputs)
     (shape : s.line.shape ≡ Row) (values : s.line.values ≡ row) (len : length row ≡ s.line.width)
     (circuit : machine'.circuit ≡ s.machine.circuit)
     (step : (rows : List (List Tern)) → AreStates s.machine.circuit rows (length rows) s.machine.states
     → Steps s.machine.circuit rows row machine'.states machine'.line) where
-  stepped : (raw : Raw) (rows : List (List Tern)) → s.machine.circuit ≡ raw → AreStates raw rows (length rows) s.machine.states
+  stepped : (raw : Raw) (rows : List (List Tern)) → s.machine.circuit ≡ raw
+      → AreStates raw rows (length rows) s.machine.states
       → Steps raw rows row machine'.states machine'.line
   stepped raw rows is are =
       subst (λ (c : Raw). Steps c rows row machine'.states machine'.line) is
@@ -124,24 +132,30 @@ module _ (s : Simulation) (machine' : Machine) (row : List Tern) (width : s.line
       (len ∙ width ∙ ap (λ (c : Raw). length c.inputs) is)
 
   -- a row was simulated and its line written
-  pub row_goes_on : (s' : Simulation) (written written' : Option (List ℕ)) (failures failures' : ℕ) → s'.machine ≡ machine'
+  pub row_goes_on : (s' : Simulation) (written written' : Option (List ℕ)) (failures failures' : ℕ) → s'.machine
+      ≡ machine'
       → s'.line.shape ≡ Row → s'.line.values ≡ [] → s'.frames ≡ min (s.frames + 1) (2 ^ 64 - 1)
       → written' ≡ after written machine'.line → failures' ≡ failures + 0
       → GoesOn (10 ∷ []) s s' written written' failures failures'
-  row_goes_on s' written written' failures failures' machine-is shape' values' frames wrote count-is raw start count text r =
+  row_goes_on s' written written' failures failures' machine-is shape' values' frames wrote count-is raw start count
+      text r =
       let done = stepped raw r.rows r.circuit_is r.states_are in
       record {
         rows = r.rows ++ row ∷ [];
         trace = r.trace ++ machine'.line;
         circuit_is = ap (λ (m : Machine). m.circuit) machine-is ∙ circuit ∙ r.circuit_is;
-        has_read = subst (λ (v : List Tern). HasRead (length raw.inputs) (text ++ 10 ∷ []) (r.rows ++ row ∷ []) s'.line.shape v) (sym values')
+        has_read = subst (λ (v : List Tern). HasRead (length raw.inputs) (text ++ 10 ∷ [])
+            (r.rows ++ row ∷ []) s'.line.shape v) (sym values')
             (subst (λ (k : Shape). HasRead (length raw.inputs) (text ++ 10 ∷ []) (r.rows ++ row ∷ []) k []) (sym shape')
             (row_read raw text r.rows r.circuit_is r.has_read));
-        states_are = subst (λ (n : ℕ). AreStates raw (r.rows ++ row ∷ []) n s'.machine.states) (sym (length_push r.rows row))
-            (subst (λ (m : Machine). AreStates raw (r.rows ++ row ∷ []) (length r.rows + 1) m.states) (sym machine-is) done.states_are);
+        states_are = subst (λ (n : ℕ). AreStates raw (r.rows ++ row ∷ []) n s'.machine.states)
+            (sym (length_push r.rows row))
+            (subst (λ (m : Machine). AreStates raw (r.rows ++ row ∷ []) (length r.rows + 1) m.states)
+            (sym machine-is) done.states_are);
         frames_are = omega (arith, frames, r.frames_are, length_push r.rows row);
         trace_is = trace_more raw (start_of raw) r.rows row r.trace machine'.line r.trace_is done.line_is;
-        wrote = wrote ∙ ap (λ (w : Option (List ℕ)). after w machine'.line) r.wrote ∙ after-append start r.trace machine'.line;
+        wrote = wrote ∙ ap (λ (w : Option (List ℕ)). after w machine'.line) r.wrote
+            ∙ after-append start r.trace machine'.line;
         no_failure = omega (arith, count-is, r.no_failure);
       }
 
@@ -170,8 +184,10 @@ module _ (s : Simulation) (machine' : Machine) (row : List Tern) (width : s.line
         );
       }
 
-stops_by_line : (raw : Raw) (count : ℕ) (text : List ℕ) (rows : List (List Tern)) (trace : List ℕ) (failures : ℕ) (f : StimFault)
-    → IsOfLine f → HasFaultyLine (length raw.inputs) text rows f → failures ≡ count → StopsBy raw count text rows trace trace failures f
+stops_by_line : (raw : Raw) (count : ℕ) (text : List ℕ) (rows : List (List Tern)) (trace : List ℕ) (failures : ℕ)
+    (f : StimFault)
+    → IsOfLine f → HasFaultyLine (length raw.inputs) text rows f → failures ≡ count
+    → StopsBy raw count text rows trace trace failures f
 stops_by_line raw count text rows trace failures (fault.Char n) k h e = (h, refl, e)
 stops_by_line raw count text rows trace failures (fault.Length n) k h e = (h, refl, e)
 stops_by_line raw count text rows trace failures fault.Unfinished k h e = absurd k
@@ -180,9 +196,11 @@ stops_by_line raw count text rows trace failures fault.Memory k h e = absurd k
 stops_by_line raw count text rows trace failures fault.Io k h e = absurd k
 
 -- a faulty line
-pub line_stops : (s : Simulation) (number : ℕ) (f : StimFault) (more : List ℕ) (written : Option (List ℕ)) (failures : ℕ)
+pub line_stops : (s : Simulation) (number : ℕ) (f : StimFault) (more : List ℕ) (written : Option (List ℕ))
+    (failures : ℕ)
     → s.line.width ≡ length s.machine.circuit.inputs → number ≡ min (s.frames + 1) (2 ^ 64 - 1) → IsOfLine f
-    → ((before : ℕ) (line rest : List ℕ) → number ≡ line_number before → Keeps s.line.width line s.line.shape s.line.values
+    → ((before : ℕ) (line rest : List ℕ) → number ≡ line_number before
+    → Keeps s.line.width line s.line.shape s.line.values
     → EndsLine rest → HasFault s.line.width before line rest f)
     → Stops (10 ∷ more) s written written failures failures f
 line_stops s number f more written failures width number-is kind is raw start count text r =
@@ -209,17 +227,24 @@ before-before : (a b : List ℕ) (w : Option (List ℕ)) → before a (before b 
 before-before a b None = refl
 before-before a b (Some xs) = ap Some (sym (append_assoc a b xs))
 
-nothing_read : (text : List ℕ) (left mid to : Option (List ℕ)) → left ≡ before text mid → mid ≡ before [] to → left ≡ before text to
+nothing_read : (text : List ℕ) (left mid to : Option (List ℕ)) → left ≡ before text mid → mid ≡ before [] to → left
+    ≡ before text to
 nothing_read text left mid to h e = h ∙ ap (before text) (e ∙ before_nil to)
 
-pub read_nothing : (raw : Raw) (left : Option (List ℕ)) (reads : ℕ) (start : Option (List ℕ)) (count : ℕ) (s : Simulation)
+pub read_nothing : (raw : Raw) (left : Option (List ℕ)) (reads : ℕ) (start : Option (List ℕ)) (count : ℕ)
+    (s : Simulation)
     → Running raw start count [] s start count → ReadSoFar raw left left reads reads start count s start count
-read_nothing raw left reads start count s r = record { text = []; read = sym (before_nil left); no_failure = refl; running = r }
+read_nothing raw left reads start count s r =
+    record { text = []; read = sym (before_nil left); no_failure = refl; running = r }
 
-module _ {raw : Raw} {left mid to : Option (List ℕ)} {reads reads' reads'' : ℕ} {start : Option (List ℕ)} {count : ℕ} {s : Simulation}
-    {written : Option (List ℕ)} {failures : ℕ} (h : ReadSoFar raw left mid reads reads' start count s written failures) where
-  pub read_more : (chunk : List ℕ) (s' : Simulation) (written' : Option (List ℕ)) (failures' : ℕ) → mid ≡ before chunk to → reads'' ≡ reads' + 0
-      → GoesOn chunk s s' written written' failures failures' → ReadSoFar raw left to reads reads'' start count s' written' failures'
+module _ {raw : Raw} {left mid to : Option (List ℕ)} {reads reads' reads'' : ℕ} {start : Option (List ℕ)} {count : ℕ}
+    {s : Simulation}
+    {written : Option (List ℕ)} {failures : ℕ}
+    (h : ReadSoFar raw left mid reads reads' start count s written failures) where
+  pub read_more : (chunk : List ℕ) (s' : Simulation) (written' : Option (List ℕ)) (failures' : ℕ) → mid
+      ≡ before chunk to → reads'' ≡ reads' + 0
+      → GoesOn chunk s s' written written' failures failures'
+      → ReadSoFar raw left to reads reads'' start count s' written' failures'
   read_more chunk s' written' failures' e n g = record {
     text = h.text ++ chunk;
     read = h.read ∙ ap (before h.text) e ∙ before-before h.text chunk to;
@@ -227,9 +252,11 @@ module _ {raw : Raw} {left mid to : Option (List ℕ)} {reads reads' reads'' : �
     running = g raw start count h.text h.running;
   }
 
-  stopped : (chunk : List ℕ) (written' : Option (List ℕ)) (failures' : ℕ) (f : StimFault) → mid ≡ before chunk to → reads'' ≡ reads' + 0
+  stopped : (chunk : List ℕ) (written' : Option (List ℕ)) (failures' : ℕ) (f : StimFault) → mid ≡ before chunk to
+      → reads'' ≡ reads' + 0
       → Stopped raw start count (h.text ++ chunk) written' failures' f
-      → Simulates raw (record { left = left; reads = reads; writes = count }) (record { left = to; reads = reads''; writes = failures' }) start written' (Err f)
+      → Simulates raw (record { left = left; reads = reads; writes = count })
+      (record { left = to; reads = reads''; writes = failures' }) start written' (Err f)
   stopped chunk written' failures' fault.Io e n k = record {
     text = h.text ++ chunk;
     rows = k.rows;
@@ -264,14 +291,18 @@ module _ {raw : Raw} {left mid to : Option (List ℕ)} {reads reads' reads'' : �
   stopped chunk written' failures' fault.Limit e n k = absurd k.why
   stopped chunk written' failures' fault.Memory e n k = absurd k.why
 
-  pub simulates_stopped : (chunk : List ℕ) (written' : Option (List ℕ)) (failures' : ℕ) (f : StimFault) → mid ≡ before chunk to → reads'' ≡ reads' + 0
+  pub simulates_stopped : (chunk : List ℕ) (written' : Option (List ℕ)) (failures' : ℕ) (f : StimFault) → mid
+      ≡ before chunk to → reads'' ≡ reads' + 0
       → Stops chunk s written written' failures failures' f
-      → Simulates raw (record { left = left; reads = reads; writes = count }) (record { left = to; reads = reads''; writes = failures' }) start written' (Err f)
-  simulates_stopped chunk written' failures' f e n k = stopped chunk written' failures' f e n (k raw start count h.text h.running)
+      → Simulates raw (record { left = left; reads = reads; writes = count })
+      (record { left = to; reads = reads''; writes = failures' }) start written' (Err f)
+  simulates_stopped chunk written' failures' f e n k =
+      stopped chunk written' failures' f e n (k raw start count h.text h.running)
 
   -- a read failed
   pub simulates_read_failed : mid ≡ before [] to → reads'' ≡ reads' + 1
-      → Simulates raw (record { left = left; reads = reads; writes = count }) (record { left = to; reads = reads''; writes = failures }) start written (Err fault.Io)
+      → Simulates raw (record { left = left; reads = reads; writes = count })
+      (record { left = to; reads = reads''; writes = failures }) start written (Err fault.Io)
   simulates_read_failed e n =
       let r = h.running in
       record {
@@ -283,7 +314,13 @@ module _ {raw : Raw} {left mid to : Option (List ℕ)} {reads reads' reads'' : �
         trace_is = r.trace_is;
         wrote = r.wrote;
         ended = inl (
-          record { widths = r.has_read.widths; rest = r.has_read.line; no_end = r.has_read.no_end; text_is = r.has_read.text_is },
+          record {
+            widths = r.has_read.widths;
+            rest = r.has_read.line;
+            no_end = r.has_read.no_end;
+            text_is =
+                r.has_read.text_is;
+          },
           refl,
           (omega (arith, h.no_failure, n), r.no_failure),
         );
@@ -295,7 +332,8 @@ module _ {raw : Raw} {left mid to : Option (List ℕ)} {reads reads' reads'' : �
       → OnOk result ((line : List ℕ) → Keeps s.line.width line s.line.shape s.line.values → line ≡ [])
       → IfErr result (λ f. f ≡ fault.Unfinished)
       → OnErr result ((line : List ℕ) → Keeps s.line.width line s.line.shape s.line.values → line ≢ [])
-      → Simulates raw (record { left = left; reads = reads; writes = count }) (record { left = to; reads = reads''; writes = failures }) start written result
+      → Simulates raw (record { left = left; reads = reads; writes = count })
+      (record { left = to; reads = reads''; writes = failures }) start written result
   simulates_end (Ok n) width e m at_end frames none u v =
       let r = h.running in
       let wide : length raw.inputs ≡ s.line.width = sym (width ∙ ap (λ (c : Raw). length c.inputs) r.circuit_is) in
@@ -318,7 +356,8 @@ module _ {raw : Raw} {left mid to : Option (List ℕ)} {reads reads' reads'' : �
   simulates_end (Err f) width e m at_end u v is some =
       let r = h.running in
       let wide : length raw.inputs ≡ s.line.width = sym (width ∙ ap (λ (c : Raw). length c.inputs) r.circuit_is) in
-      subst (λ (g : StimFault). Simulates raw (record { left = left; reads = reads; writes = count }) (record { left = to; reads = reads''; writes = failures }) start written (Err g)) (sym is)
+      subst (λ (g : StimFault). Simulates raw (record { left = left; reads = reads; writes = count })
+      (record { left = to; reads = reads''; writes = failures }) start written (Err g)) (sym is)
       (record {
         text = h.text;
         rows = r.rows;
@@ -328,7 +367,11 @@ module _ {raw : Raw} {left mid to : Option (List ℕ)} {reads reads' reads'' : �
         trace_is = r.trace_is;
         wrote = r.wrote;
         ended = (
-          (read_unfinished r.has_read (λ line k. some line (subst (λ (w : ℕ). Keeps w line s.line.shape s.line.values) wide k)), at_end),
+          (
+            read_unfinished r.has_read
+                (λ line k. some line (subst (λ (w : ℕ). Keeps w line s.line.shape s.line.values) wide k)),
+            at_end,
+          ),
           refl,
           (omega (arith, h.no_failure, m), r.no_failure),
         );
@@ -336,7 +379,8 @@ module _ {raw : Raw} {left mid to : Option (List ℕ)} {reads reads' reads'' : �
 
 -- no memory was found
 pub simulates_nothing : (raw : Raw) (left : Option (List ℕ)) (reads : ℕ) (start : Option (List ℕ)) (count : ℕ)
-    → Simulates raw (record { left = left; reads = reads; writes = count }) (record { left = left; reads = reads; writes = count }) start start (Err fault.Memory)
+    → Simulates raw (record { left = left; reads = reads; writes = count })
+    (record { left = left; reads = reads; writes = count }) start start (Err fault.Memory)
 simulates_nothing raw left reads start count = record {
   text = [];
   rows = [];

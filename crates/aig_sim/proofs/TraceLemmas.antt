@@ -22,7 +22,8 @@ all_zip_from : {A B : Type 0} (R : A → B → Type 0) (xs : List A) (ys : List 
 all_zip_from R [] [] e h = tt
 all_zip_from R [] (y ∷ ys) e h = absurd (omega (arith, e))
 all_zip_from R (x ∷ xs) [] e h = absurd (omega (arith, e))
-all_zip_from R (x ∷ xs) (y ∷ ys) e h = (h 0 x y refl refl, all_zip_from R xs ys (omega (arith, e)) (λ i a b p q. h (suc i) a b p q))
+all_zip_from R (x ∷ xs) (y ∷ ys) e h =
+    (h 0 x y refl refl, all_zip_from R xs ys (omega (arith, e)) (λ i a b p q. h (suc i) a b p q))
 
 all_zip_of_map : {A B : Type 0} (R : A → B → Type 0) (f : A → B) (xs : List A)
     → ((i : ℕ) (x : A) → slice_get xs i ≡ Some x → R x (f x)) → AllZip R xs (map f xs)
@@ -52,11 +53,13 @@ spelled P (l ∷ ls) [] h = absurd h
 spelled P (l ∷ ls) (w ∷ ws) h = ((w, h.0, refl), spelled P ls ws h.1)
 
 -- a value stays when rows are appended
-pub value_stays : {raw : Raw} {start : List Tern} {rows : List (List Tern)} (more : List (List Tern)) {t l : ℕ} {w : Tern}
+pub value_stays : {raw : Raw} {start : List Tern} {rows : List (List Tern)}
+    (more : List (List Tern)) {t l : ℕ} {w : Tern}
     → Value raw start rows t l w → Value raw start (rows ++ more) t l w
 value_stays more (value.constant_false t) = value.constant_false t
 value_stays more (value.constant_true t) = value.constant_true t
-value_stays {rows} more (value.input t p l w row at here is) = value.input t p l w row at (slice_get_left rows more t row here) is
+value_stays {rows} more (value.input t p l w row at here is) =
+    value.input t p l w row at (slice_get_left rows more t row here) is
 value_stays more (value.latch_first p x w at is) = value.latch_first p x w at is
 value_stays more (value.latch_next t p x w at v) = value.latch_next t p x w at (value_stays more v)
 value_stays more (value.gate t q g a b at va vb) = value.gate t q g a b at (value_stays more va) (value_stays more vb)
@@ -97,13 +100,19 @@ module _ (raw : Raw) (rows : List (List Tern)) (t : ℕ) (sound : IsSound raw) w
       → AreValues raw (start_of raw) rows t raw.inputs (map character row)
   input_text row here len =
       spelled (λ l w. HasValue raw rows t l w) raw.inputs row
-      (all_zip_from (λ l w. HasValue raw rows t l w) raw.inputs row len (λ i l w at is. value.input t i l w row at here is))
+      (all_zip_from (λ l w. HasValue raw rows t l w) raw.inputs row len
+      (λ i l w at is. value.input t i l w row at here is))
 
   output_text : (cells : List Tern) → HoldsAll raw rows t cells
       → AreValues raw (start_of raw) rows t raw.outputs (map (λ l. character (literal_value cells l)) raw.outputs)
   output_text cells h =
-      all_zip_of_map (λ l b. (w : Tern) × HasValue raw rows t l w × (b ≡ character w)) (λ l. character (literal_value cells l)) raw.outputs
-      (λ i l at. (literal_value cells l, literal_has_value raw rows t cells l sound (h _ (output_defined raw sound i l at)), refl))
+      all_zip_of_map (λ l b. (w : Tern) × HasValue raw rows t l w × (b ≡ character w))
+      (λ l. character (literal_value cells l)) raw.outputs
+      (λ i l at. (
+        literal_value cells l,
+        literal_has_value raw rows t cells l sound (h _ (output_defined raw sound i l at)),
+        refl,
+      ))
 
   next_values : (cells : List Tern) → HoldsAll raw rows t cells
       → AllZip (λ x w. HasValue raw rows t x.next w) raw.latches (map (λ x. literal_value cells x.next) raw.latches)
@@ -120,10 +129,13 @@ module _ (raw : Raw) (rows : List (List Tern)) (t : ℕ) (sound : IsSound raw) w
   }
 
   next_text : (cells : List Tern) → HoldsAll raw rows t cells
-      → AreValues raw (start_of raw) rows t (map (λ x. x.next) raw.latches) (map character (map (λ x. literal_value cells x.next) raw.latches))
+      → AreValues raw (start_of raw) rows t (map (λ x. x.next) raw.latches)
+      (map character (map (λ x. literal_value cells x.next) raw.latches))
   next_text cells h =
-      spelled (λ l w. HasValue raw rows t l w) (map (λ x. x.next) raw.latches) (map (λ x. literal_value cells x.next) raw.latches)
-      (all_zip_map (λ l w. HasValue raw rows t l w) (λ (x : Latch). x.next) raw.latches (map (λ x. literal_value cells x.next) raw.latches)
+      spelled (λ l w. HasValue raw rows t l w) (map (λ x. x.next) raw.latches)
+      (map (λ x. literal_value cells x.next) raw.latches)
+      (all_zip_map (λ l w. HasValue raw rows t l w) (λ (x : Latch). x.next) raw.latches
+      (map (λ x. literal_value cells x.next) raw.latches)
       (next_values cells h))
 
 -- the bytes of a line, field by field
@@ -144,7 +156,8 @@ steps raw rows row states states' cells line sound len are all next is =
     let rows' = rows ++ row ∷ [] in
     record {
       states_are = subst (λ (n : ℕ). AreStates raw rows' n states') (sym (add-one t))
-          (subst (λ (s : List Tern). AreStates raw rows' (suc t) s) (sym next) (next_states raw rows' t sound cells all));
+          (subst (λ (s : List Tern). AreStates raw rows' (suc t) s) (sym next)
+          (next_states raw rows' t sound cells all));
       line_is = record {
         state = map character states;
         inputs = map character row;
@@ -153,8 +166,10 @@ steps raw rows row states states' cells line sound len are all next is =
         state_is = state_text raw rows' t sound states (states_stay raw rows (row ∷ []) t states are);
         inputs_are = input_text raw rows' t sound row (last_row rows row) len;
         outputs_are = output_text raw rows' t sound cells all;
-        next_is = subst (λ (s : List Tern). AreValues raw (start_of raw) rows' t (map (λ x. x.next) raw.latches) (map character s)) (sym next)
+        next_is = subst (λ (s : List Tern). AreValues raw (start_of raw) rows' t (map (λ x. x.next) raw.latches)
+            (map character s)) (sym next)
             (next_text raw rows' t sound cells all);
-        line_is = is ∙ fields_are (map character states) (map character row) (map (λ l. character (literal_value cells l)) raw.outputs) (map character states');
+        line_is = is ∙ fields_are (map character states) (map character row)
+            (map (λ l. character (literal_value cells l)) raw.outputs) (map character states');
       };
     }

@@ -27,7 +27,8 @@ abbrev pub HoldsInputs : Raw → List (List Tern) → ℕ → List Tern → Type
 HoldsInputs raw rows t cells = (i l : ℕ) → slice_get raw.inputs i ≡ Some l → Holds raw rows t cells (variable l)
 
 abbrev pub HoldsLatches : Raw → List (List Tern) → ℕ → List Tern → Type 0
-HoldsLatches raw rows t cells = (i : ℕ) (x : Latch) → slice_get raw.latches i ≡ Some x → Holds raw rows t cells (variable x.lit)
+HoldsLatches raw rows t cells = (i : ℕ) (x : Latch) → slice_get raw.latches i ≡ Some x
+    → Holds raw rows t cells (variable x.lit)
 
 -- the cells of variable 0, the inputs and the latches
 abbrev pub HoldsSources : Raw → List (List Tern) → ℕ → List Tern → Type 0

@@ -26,7 +26,8 @@ pub record Keeps (width : ℕ) (line : List ℕ) (shape : Shape) (values : List 
   pub kept : IsKept width line shape values
 
 -- the text so far is these rows and then a line of which this is kept
-pub record HasRead (width : ℕ) (text : List ℕ) (rows : List (List Tern)) (shape : Shape) (values : List Tern) : Type 0 where
+pub record HasRead (width : ℕ) (text : List ℕ) (rows : List (List Tern)) (shape : Shape)
+    (values : List Tern) : Type 0 where
   pub widths : HaveWidth width rows
   pub line : List ℕ
   pub no_end : All (λ b. b ≢ 10) line

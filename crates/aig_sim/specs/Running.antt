@@ -18,7 +18,8 @@ abbrev pub HasRoom : Simulation → Type 0
 HasRoom s = (s.line.width ≡ length s.machine.circuit.inputs) × (s.line.width ≤ s.line.room)
 
 -- The text was read: its rows were simulated, their trace was written behind `start`, and no write failed.
-pub record Running (raw : Raw) (start : Option (List ℕ)) (count : ℕ) (text : List ℕ) (s : Simulation) (written : Option (List ℕ)) (failures : ℕ) : Type 0 where
+pub record Running (raw : Raw) (start : Option (List ℕ)) (count : ℕ) (text : List ℕ) (s : Simulation)
+    (written : Option (List ℕ)) (failures : ℕ) : Type 0 where
   pub rows : List (List Tern)
   pub trace : List ℕ
   pub circuit_is : s.machine.circuit ≡ raw
@@ -42,7 +43,8 @@ StopsBy raw count text rows trace done failures fault.Limit = ⊥
 StopsBy raw count text rows trace done failures fault.Memory = ⊥
 
 -- the text was read, and the simulation stopped on the way
-pub record Stopped (raw : Raw) (start : Option (List ℕ)) (count : ℕ) (text : List ℕ) (written : Option (List ℕ)) (failures : ℕ) (f : StimFault) : Type 0 where
+pub record Stopped (raw : Raw) (start : Option (List ℕ)) (count : ℕ) (text : List ℕ) (written : Option (List ℕ))
+    (failures : ℕ) (f : StimFault) : Type 0 where
   pub rows : List (List Tern)
   pub trace : List ℕ
   pub done : List ℕ

@@ -20,18 +20,22 @@ loop-gate-preserved c =
     let w = c.and-value.result in
     let at : slice_get gates i ≡ Some g = item_at gates gates i g refl c.loop-gate-test.true c.gate-item.is in
     let wide : c.var.result < length cells = omega (arith, c.var.ensures, c.requires.lhs i g at) in
-    let is : w ≡ gate_value cells g = c.and-value.ensures ∙ ap₂ kleene_and c.value_in.ensures c.value_in-in-loop-gate.ensures in
-    let put = λ (raw : Raw) (rows : List (List Tern)) (t : ℕ) (sound : IsSound raw) (order : IsGateOrder raw gates) (h : HoldsSources raw rows t c.args.cells.now).
+    let is : w ≡ gate_value cells g = c.and-value.ensures
+    ∙ ap₂ kleene_and c.value_in.ensures c.value_in-in-loop-gate.ensures in
+    let put = λ (raw : Raw) (rows : List (List Tern)) (t : ℕ) (sound : IsSound raw) (order : IsGateOrder raw gates)
+    (h : HoldsSources raw rows t c.args.cells.now).
     put_value raw rows t cells cells c.var.result (variable g.lhs) w c.var.ensures wide
     (subst (λ (u : Tern). HasValue raw rows t (2 * variable g.lhs) u) (sym is)
     (gate_value_is raw rows t gates i g cells sound order at (c.loop-gate.invariant.sources raw rows t sound order h)
     (c.loop-gate.invariant.first raw rows t sound order h)))
     (renews_none raw rows t cells) in
     record {
-      sources = λ raw rows t sound order h. λ v s. (put raw rows t sound order h).1.keeps v (c.loop-gate.invariant.sources raw rows t sound order h v s);
+      sources = λ raw rows t sound order h. λ v s. (put raw rows t sound order h).1.keeps v
+          (c.loop-gate.invariant.sources raw rows t sound order h v s);
       first = λ raw rows t sound order h.
           items_more (λ k. Holds raw rows t (slice_set cells c.var.result w) (variable k.lhs)) gates i g at
-          (λ j k below is. (put raw rows t sound order h).1.keeps (variable k.lhs) (c.loop-gate.invariant.first raw rows t sound order h j k below is))
+          (λ j k below is. (put raw rows t sound order h).1.keeps (variable k.lhs)
+          (c.loop-gate.invariant.first raw rows t sound order h j k below is))
           (put raw rows t sound order h).2;
     }
 
@@ -40,5 +44,6 @@ returns c =
     let gates = c.args.gates.now in
     λ raw rows t sound order h.
     all_hold raw rows t gates c.loop-gate.cells order (c.loop-gate.invariant.sources raw rows t sound order h)
-    (λ r g below at. items_all (λ (k : Gate). Holds raw rows t c.loop-gate.cells (variable k.lhs)) gates c.loop-gate.gate-index
+    (λ r g below at. items_all
+    (λ (k : Gate). Holds raw rows t c.loop-gate.cells (variable k.lhs)) gates c.loop-gate.gate-index
     (omega (arith, c.loop-gate-test.false)) (c.loop-gate.invariant.first raw rows t sound order h) r g at)

@@ -7,12 +7,16 @@ evaluate_frame-requires c =
     let raw = c.args.circuit.now in
     let sound = c.requires.circuit.sound in
     record {
-      lhs = λ q g at. let (i, stands) = c.requires.gates.known q g at in omega (arith, gate_in_range raw sound i g stands, c.requires.cells);
-      rhs0 = λ q g at. let (i, stands) = c.requires.gates.known q g at in omega (arith, rhs0_in_range raw sound i g stands, c.requires.cells);
-      rhs1 = λ q g at. let (i, stands) = c.requires.gates.known q g at in omega (arith, rhs1_in_range raw sound i g stands, c.requires.cells);
+      lhs = λ q g at. let (i, stands) = c.requires.gates.known q g at in
+          omega (arith, gate_in_range raw sound i g stands, c.requires.cells);
+      rhs0 = λ q g at. let (i, stands) = c.requires.gates.known q g at in
+          omega (arith, rhs0_in_range raw sound i g stands, c.requires.cells);
+      rhs1 = λ q g at. let (i, stands) = c.requires.gates.known q g at in
+          omega (arith, rhs1_in_range raw sound i g stands, c.requires.cells);
     }
 
 pub returns : goal.returns
 returns c =
     λ rows t h s.
-    c.evaluate_frame.ensures c.args.circuit.now rows t c.requires.circuit.sound c.requires.gates (c.put_sources.ensures rows t h s)
+    c.evaluate_frame.ensures c.args.circuit.now rows t c.requires.circuit.sound c.requires.gates
+    (c.put_sources.ensures rows t h s)

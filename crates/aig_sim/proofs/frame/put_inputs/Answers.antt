@@ -16,7 +16,8 @@ loop-position-preserved c =
     let l = c.input-item.result in
     let cells = c.loop-position.cells in
     let w = get_or row i Zero in
-    let at : slice_get raw.inputs i ≡ Some l = item_at _ _ i l c.inputs-input-items.ensures c.loop-position-test.true c.input-item.is in
+    let at : slice_get raw.inputs i
+    ≡ Some l = item_at _ _ i l c.inputs-input-items.ensures c.loop-position-test.true c.input-item.is in
     let lt : i < length row = omega (arith, c.requires.row, ap length c.inputs-input-items.ensures) in
     let fits = input_in_range raw c.requires.circuit.sound i l at in
     let wide : c.var.result < length cells = omega (arith, c.var.ensures, c.requires.cells) in
@@ -26,11 +27,16 @@ loop-position-preserved c =
     (c.loop-position.invariant.renews rows t h) in
     record {
       renews = λ rows t h. (put rows t h).0;
-      inputs = λ rows t h. items_more (λ k. Holds raw rows t (slice_set cells c.var.result w) (variable k)) raw.inputs i l at
-          (λ j k below is. (put rows t h).1.keeps (variable k) (c.loop-position.invariant.inputs rows t h j k below is)) (put rows t h).2;
+      inputs = λ rows t h. items_more
+          (λ k. Holds raw rows t (slice_set cells c.var.result w) (variable k)) raw.inputs i l at
+          (λ j k below is. (put rows t h).1.keeps (variable k)
+          (c.loop-position.invariant.inputs rows t h j k below is)) (put rows t h).2;
     }
 
 pub returns-clause-inputs : goal.returns-clause-inputs
 returns-clause-inputs c =
-    λ rows t h. items_all (λ k. Holds c.args.circuit.now rows t c.loop-position.cells (variable k)) c.args.circuit.now.inputs c.loop-position.position
-    (rw (← c.inputs-input-items.ensures) (omega (arith, c.loop-position-test.false))) (c.loop-position.invariant.inputs rows t h)
+    λ rows t h. items_all
+    (λ k. Holds c.args.circuit.now rows t c.loop-position.cells (variable k)) c.args.circuit.now.inputs
+    c.loop-position.position
+    (rw (← c.inputs-input-items.ensures) (omega (arith, c.loop-position-test.false)))
+    (c.loop-position.invariant.inputs rows t h)

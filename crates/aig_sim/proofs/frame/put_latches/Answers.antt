@@ -13,7 +13,8 @@ pub bounds-cells-var : goal.bounds-cells-var
 bounds-cells-var c =
     let raw = c.args.circuit.now in
     let at : slice_get raw.latches c.loop-position.position ≡ Some c.latch-item.result =
-    item_at _ _ c.loop-position.position c.latch-item.result c.latches-latch-items.ensures c.loop-position-test.true c.latch-item.is in
+    item_at _ _ c.loop-position.position c.latch-item.result c.latches-latch-items.ensures c.loop-position-test.true
+    c.latch-item.is in
     let fits = latch_in_range raw c.requires.circuit.sound c.loop-position.position c.latch-item.result at in
     omega (arith, c.var.ensures, c.requires.cells)
 
@@ -25,7 +26,8 @@ loop-position-preserved c =
     let x = c.latch-item.result in
     let cells = c.loop-position.cells in
     let w = get_or states i Zero in
-    let at : slice_get raw.latches i ≡ Some x = item_at _ _ i x c.latches-latch-items.ensures c.loop-position-test.true c.latch-item.is in
+    let at : slice_get raw.latches i
+    ≡ Some x = item_at _ _ i x c.latches-latch-items.ensures c.loop-position-test.true c.latch-item.is in
     let lt : i < length states = omega (arith, c.requires.states, ap length c.latches-latch-items.ensures) in
     let fits = latch_in_range raw c.requires.circuit.sound i x at in
     let wide : c.var.result < length cells = omega (arith, c.var.ensures, c.requires.cells) in
@@ -35,11 +37,16 @@ loop-position-preserved c =
     (c.loop-position.invariant.renews rows t h) in
     record {
       renews = λ rows t h. (put rows t h).0;
-      latches = λ rows t h. items_more (λ k. Holds raw rows t (slice_set cells c.var.result w) (variable k.lit)) raw.latches i x at
-          (λ j k below is. (put rows t h).1.keeps (variable k.lit) (c.loop-position.invariant.latches rows t h j k below is)) (put rows t h).2;
+      latches = λ rows t h. items_more
+          (λ k. Holds raw rows t (slice_set cells c.var.result w) (variable k.lit)) raw.latches i x at
+          (λ j k below is. (put rows t h).1.keeps (variable k.lit)
+          (c.loop-position.invariant.latches rows t h j k below is)) (put rows t h).2;
     }
 
 pub returns-clause-latches : goal.returns-clause-latches
 returns-clause-latches c =
-    λ rows t h. items_all (λ (k : Latch). Holds c.args.circuit.now rows t c.loop-position.cells (variable k.lit)) c.args.circuit.now.latches c.loop-position.position
-    (rw (← c.latches-latch-items.ensures) (omega (arith, c.loop-position-test.false))) (c.loop-position.invariant.latches rows t h)
+    λ rows t h. items_all
+    (λ (k : Latch). Holds c.args.circuit.now rows t c.loop-position.cells (variable k.lit))
+    c.args.circuit.now.latches c.loop-position.position
+    (rw (← c.latches-latch-items.ensures) (omega (arith, c.loop-position-test.false)))
+    (c.loop-position.invariant.latches rows t h)

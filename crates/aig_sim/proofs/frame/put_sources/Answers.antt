@@ -11,5 +11,7 @@ returns c =
     λ rows t h s.
     let first = c.put_inputs.ensures.renews rows t h in
     let second = c.put_latches.ensures.renews rows t s in
-    sources_hold raw rows t c.put_latches.new.cells (second.keeps 0 (first.keeps 0 (constant_holds raw rows t cells some)))
-    (λ i l at. second.keeps (variable l) (c.put_inputs.ensures.inputs rows t h i l at)) (c.put_latches.ensures.latches rows t s)
+    sources_hold raw rows t c.put_latches.new.cells
+    (second.keeps 0 (first.keeps 0 (constant_holds raw rows t cells some)))
+    (λ i l at. second.keeps (variable l) (c.put_inputs.ensures.inputs rows t h i l at))
+    (c.put_latches.ensures.latches rows t s)

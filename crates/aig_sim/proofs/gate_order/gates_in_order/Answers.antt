@@ -16,7 +16,8 @@ pub returns : goal.returns
 returns c =
     let raw = c.args.circuit.now in
     let order = c.in_ok-order.order.items in
-    IfOk-weaker c.gates_of.result (λ gates. AreGatesOf raw c.deref.result.now gates.items) (λ gates. IsGateOrder raw gates.items)
+    IfOk-weaker c.gates_of.result (λ gates. AreGatesOf raw c.deref.result.now gates.items)
+    (λ gates. IsGateOrder raw gates.items)
     (λ gates are. gate_order raw c.max_var-max_var.ensures.circuit order gates.items c.in_ok-order.ensures
     (subst (λ (vs : List ℕ). AreGatesOf raw vs gates.items) c.deref.ensures.value are))
     c.gates_of.ensures

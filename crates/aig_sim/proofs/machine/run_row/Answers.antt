@@ -10,7 +10,8 @@ pub push_literals-requires-clause-cells : goal.push_literals-requires-clause-cel
 push_literals-requires-clause-cells c =
     let raw = c.args.circuit.now in
     λ i l at.
-    let fits = output_in_range raw c.requires.circuit.sound i l (subst (λ (ls : List ℕ). slice_get ls i ≡ Some l) c.outputs.ensures at) in
+    let fits = output_in_range raw c.requires.circuit.sound i l
+    (subst (λ (ls : List ℕ). slice_get ls i ≡ Some l) c.outputs.ensures at) in
     omega (arith, c.requires.cells)
 
 pub returns-clause-step : goal.returns-clause-step
@@ -19,8 +20,10 @@ returns-clause-step c =
     let row = c.args.row.now in
     let states = c.args.states.now in
     λ rows are.
-    steps raw rows row states c.renew_states.new.states c.evaluate_row.new.cells c.push_values-3.new.self.bytes c.requires.circuit.sound c.requires.row are
-    (c.evaluate_row.ensures (rows ++ row ∷ []) (length rows) (last_row rows row) (states_stay raw rows (row ∷ []) (length rows) states are))
+    steps raw rows row states c.renew_states.new.states c.evaluate_row.new.cells c.push_values-3.new.self.bytes
+    c.requires.circuit.sound c.requires.row are
+    (c.evaluate_row.ensures (rows ++ row ∷ []) (length rows) (last_row rows row)
+    (states_stay raw rows (row ∷ []) (length rows) states are))
     c.renew_states.ensures
     (ap (λ (x : TraceLine). x.bytes) c.push_values-3.ensures
     ∙ ap (λ (t : List ℕ). t ++ (map character c.renew_states.new.states ++ 10 ∷ []))

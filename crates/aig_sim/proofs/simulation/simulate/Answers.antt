@@ -13,7 +13,8 @@ use Rattle.aig_sim.proofs.TraceLemmas.{first_states}
 use Rattle.aig_sim.proofs.simulation.simulate.Goals as goal
 
 -- a fault that is handed on
-handed_on : (P : Result ℕ StimFault → Type 0) (r : Result ℕ StimFault) (e : StimFault) → IsErrAnd r (λ f. f ≡ e) → P (Err e) → P r
+handed_on : (P : Result ℕ StimFault → Type 0) (r : Result ℕ StimFault) (e : StimFault) → IsErrAnd r (λ f. f ≡ e)
+    → P (Err e) → P r
 handed_on P r e h p = let (y, is, same) = err_from_is_err_and r h in subst P (ap Err (sym same) ∙ sym is) p
 
 pub returns-in_err-simulation : goal.returns-in_err-simulation
@@ -22,20 +23,25 @@ returns-in_err-simulation g c =
     let reads = g.R.Read.failures c.args.reader.now in
     let written = g.W.Write.written c.args.out.now in
     let writes = g.W.Write.failures c.args.out.now in
-    handed_on (λ r. Simulates c.args.circuit.now (record { left = left; reads = reads; writes = writes }) (record { left = left; reads = reads; writes = writes }) written written r)
-    c.from_residual.result Memory c.from_residual.ensures.1 (simulates_nothing c.args.circuit.now left reads written writes)
+    handed_on (λ r. Simulates c.args.circuit.now (record { left = left; reads = reads; writes = writes })
+    (record { left = left; reads = reads; writes = writes }) written written r)
+    c.from_residual.result Memory c.from_residual.ensures.1
+    (simulates_nothing c.args.circuit.now left reads written writes)
 
 pub chunks-init : goal.chunks-init
 chunks-init g c =
     let raw = c.args.circuit.now in
     let s = c.in_ok-simulation.simulation in
     let e = c.in_ok-simulation.ensures in
-    let states : AreStates raw [] 0 s.machine.states = subst (λ (v : List Tern). AreStates raw [] 0 v) (sym e.states) (first_states raw) in
+    let states : AreStates raw [] 0 s.machine.states =
+    subst (λ (v : List Tern). AreStates raw [] 0 v) (sym e.states) (first_states raw) in
     record {
       size = refl;
       room = e.room;
-      so_far = read_nothing raw (g.R.Read.left c.args.reader.now) (g.R.Read.failures c.args.reader.now) (g.W.Write.written c.args.out.now) (g.W.Write.failures c.args.out.now) s
-          (running_none raw (g.W.Write.written c.args.out.now) (g.W.Write.failures c.args.out.now) s e.circuit states e.line.0 e.line.1 e.frames);
+      so_far = read_nothing raw (g.R.Read.left c.args.reader.now) (g.R.Read.failures c.args.reader.now)
+          (g.W.Write.written c.args.out.now) (g.W.Write.failures c.args.out.now) s
+          (running_none raw (g.W.Write.written c.args.out.now)
+          (g.W.Write.failures c.args.out.now) s e.circuit states e.line.0 e.line.1 e.frames);
     }
 
 pub chunks-preserved : goal.chunks-preserved
@@ -45,7 +51,8 @@ chunks-preserved g c =
     record {
       size = omega arith;
       room = e.room;
-      so_far = read_more c.chunks.invariant.so_far (take c.in-Ok.size c.read.new.buffer) c.feed.new.self (g.W.Write.written c.feed.new.out) (g.W.Write.failures c.feed.new.out)
+      so_far = read_more c.chunks.invariant.so_far (take c.in-Ok.size c.read.new.buffer) c.feed.new.self
+          (g.W.Write.written c.feed.new.out) (g.W.Write.failures c.feed.new.out)
           h.given h.count e.ok;
     }
 
@@ -56,7 +63,8 @@ returns-then-size-eq0 g c =
     let some : 0 < length c.read.new.buffer = omega arith in
     let zero : c.in-Ok.size ≡ 0 = c.if-size-eq0.true in
     simulates_end c.chunks.invariant.so_far c.finish.result c.chunks.invariant.room.0
-    (subst (λ (n : ℕ). g.R.Read.left c.chunks.reader ≡ before (take n c.read.new.buffer) (g.R.Read.left c.read.new.self)) zero h.given)
+    (subst (λ (n : ℕ). g.R.Read.left c.chunks.reader
+    ≡ before (take n c.read.new.buffer) (g.R.Read.left c.read.new.self)) zero h.given)
     h.count (h.end zero some) e.frames e.ended e.fault e.unfinished
 
 pub returns-in_err-feed : goal.returns-in_err-feed
@@ -65,9 +73,20 @@ returns-in_err-feed g c =
     let e = c.in_err-feed.ensures in
     let f = c.in_err-feed.field-0.0 in
     handed_on (λ r. Simulates c.args.circuit.now
-    (record { left = g.R.Read.left c.args.reader.now; reads = g.R.Read.failures c.args.reader.now; writes = g.W.Write.failures c.args.out.now })
-    (record { left = g.R.Read.left c.read.new.self; reads = g.R.Read.failures c.read.new.self; writes = g.W.Write.failures c.feed.new.out })
+    (record {
+      left = g.R.Read.left c.args.reader.now;
+      reads = g.R.Read.failures c.args.reader.now;
+      writes =
+          g.W.Write.failures c.args.out.now;
+    })
+    (record {
+      left = g.R.Read.left c.read.new.self;
+      reads = g.R.Read.failures c.read.new.self;
+      writes =
+          g.W.Write.failures c.feed.new.out;
+    })
     (g.W.Write.written c.args.out.now) (g.W.Write.written c.feed.new.out) r)
     c.from_residual-in_err-feed.result f c.from_residual-in_err-feed.ensures.1
-    (simulates_stopped c.chunks.invariant.so_far (take c.in-Ok.size c.read.new.buffer) (g.W.Write.written c.feed.new.out) (g.W.Write.failures c.feed.new.out) f
+    (simulates_stopped c.chunks.invariant.so_far (take c.in-Ok.size c.read.new.buffer)
+    (g.W.Write.written c.feed.new.out) (g.W.Write.failures c.feed.new.out) f
     h.given h.count e.err)

@@ -6,8 +6,10 @@ abbrev pub invariant-chunks : goal.invariant-chunks
 invariant-chunks g l = record {
   size : length l.chunk ≡ 4096;
   room : HasRoom l.simulation;
-  so_far : ReadSoFar l.circuit (g.R.Read.left l.initial.reader) (g.R.Read.left l.reader) (g.R.Read.failures l.initial.reader) (g.R.Read.failures l.reader)
-      (g.W.Write.written l.initial.out) (g.W.Write.failures l.initial.out) l.simulation (g.W.Write.written l.out) (g.W.Write.failures l.out);
+  so_far : ReadSoFar l.circuit (g.R.Read.left l.initial.reader) (g.R.Read.left l.reader)
+      (g.R.Read.failures l.initial.reader) (g.R.Read.failures l.reader)
+      (g.W.Write.written l.initial.out) (g.W.Write.failures l.initial.out) l.simulation (g.W.Write.written l.out)
+      (g.W.Write.failures l.out);
 }
 
 abbrev pub decreases-chunks : goal.decreases-chunks

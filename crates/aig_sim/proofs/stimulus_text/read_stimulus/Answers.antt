@@ -20,10 +20,13 @@ returns-in_err-end_line-clause-fault c =
     let split : take i xs ++ (10 ∷ drop (i + 1) xs) ≡ xs =
     ap (λ b. take i xs ++ (b ∷ drop (i + 1) xs)) (sym c.if-byte-eq10.true)
     ∙ ap (λ (t : List ℕ). take i xs ++ t) (sym (drop_more xs i 0 c.loop-byte-test.true)) ∙ take-append-drop i xs in
-    let P : StimFault → Type 0 = λ f. f ≢ Memory → (rows : List (List Tern)) × (length rows ≤ 65536) × HasFaultyLine c.args.width xs rows f in
+    let P : StimFault → Type 0 = λ f. f ≢ Memory → (rows : List (List Tern)) × (length rows ≤ 65536)
+    × HasFaultyLine c.args.width xs rows f in
     let read : HasRead c.loop-byte.line.width (take i xs) rows c.loop-byte.line.shape c.loop-byte.line.values =
-    subst (λ n. HasRead n (take i xs) rows c.loop-byte.line.shape c.loop-byte.line.values) (sym inv.line_width) inv.has_read in
-    fault_same c.from_residual-in_err-end_line.result c.in_err-end_line.field-0.0 P c.from_residual-in_err-end_line.ensures.1
+    subst (λ n. HasRead n (take i xs) rows c.loop-byte.line.shape c.loop-byte.line.values)
+    (sym inv.line_width) inv.has_read in
+    fault_same c.from_residual-in_err-end_line.result c.in_err-end_line.field-0.0 P
+    c.from_residual-in_err-end_line.ensures.1
     (λ m. (
       rows,
       inv.limit,
@@ -47,7 +50,8 @@ loop-byte-preserved c =
           let same_width = ap (λ (s : InputRows). s.width) w.stimulus-is in
           let len = e.row.1 ∙ inv.line_width in
           let row_read : HasRead c.args.width (take i xs) c.loop-byte.stimulus.rows Row c.loop-byte.line.values =
-          subst (λ s. HasRead c.args.width (take i xs) c.loop-byte.stimulus.rows s c.loop-byte.line.values) e.row.0 inv.has_read in
+          subst (λ s. HasRead c.args.width (take i xs) c.loop-byte.stimulus.rows s c.loop-byte.line.values) e.row.0
+          inv.has_read in
           record {
             line_width = same ∙ k.width ∙ inv.line_width;
             width = same_width ∙ e.width ∙ inv.width;
@@ -67,8 +71,10 @@ loop-byte-preserved c =
             width = same_width ∙ inv.width;
             limit = omega (arith, ap length same_rows, inv.limit);
             has_read = read_same
-                (read_byte w.push.new.self.shape w.push.new.self.values (get_or xs i 0) inv.has_read w.if-byte-eq10.false
-                (step_same c.loop-byte.line.shape w.push.new.self.shape c.loop-byte.line.values w.push.new.self.values (get_or xs i 0) inv.line_width e.keeps))
+                (read_byte w.push.new.self.shape w.push.new.self.values
+                (get_or xs i 0) inv.has_read w.if-byte-eq10.false
+                (step_same c.loop-byte.line.shape w.push.new.self.shape c.loop-byte.line.values w.push.new.self.values
+                (get_or xs i 0) inv.line_width e.keeps))
                 (sym more) (sym same_rows)
                 (sym (ap (λ (l : LineInHand). l.shape) w.line-is))
                 (sym (ap (λ (l : LineInHand). l.values) w.line-is));

@@ -9,7 +9,8 @@ returns-else-len-self-clause-keeps c =
     let v = c.args.self.now in
     let is_row : v.shape ≡ Row = ap (λ (l : LineInHand). l.shape) (sym c.self.view_is) ∙ c.in-Row.is in
     let width : c.self.inside.width ≡ v.width = ap (λ (l : LineInHand). l.width) c.self.view_is in
-    let values : length c.self.inside.values.items ≡ length v.values = ap (λ (l : LineInHand). length l.values) c.self.view_is in
+    let values : length c.self.inside.values.items
+    ≡ length v.values = ap (λ (l : LineInHand). length l.values) c.self.view_is in
     let full : v.width ≤ length v.values = omega arith in
     λ line k. keeps_long v.width line v.values c.args.value _ full (subst (λ s. Keeps v.width line s v.values) is_row k)
 

@@ -14,7 +14,8 @@ returns-in_default-clause-fault c =
           λ before line rest e k ends. length_is_wrong v.width c.args.number before line rest v.shape v.values
           (λ h. let no : ⊥ = cc in no) (λ _ h.
           let width : c.self.inside.width ≡ v.width = ap (λ (l : LineInHand). l.width) c.self.view_is in
-          let values : length c.self.inside.values.items ≡ length v.values = ap (λ (l : LineInHand). length l.values) c.self.view_is in
+          let values : length c.self.inside.values.items
+          ≡ length v.values = ap (λ (l : LineInHand). length l.values) c.self.view_is in
           w.if-len-self.false (omega arith)) e k ends
       | in_default-via-in_default w ↦
           let is_long : v.shape ≡ Long = ap (λ (l : LineInHand). l.shape) (sym c.self.view_is) ∙ w.in_default.is in

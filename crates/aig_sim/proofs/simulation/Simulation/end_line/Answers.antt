@@ -15,7 +15,8 @@ returns-in_err-row-clause-err g c =
     let e = c.in_err-row.ensures in
     let P : StimFault → Type 0 = λ fault. (more : List ℕ) → Stops (10 ∷ more) s w w f f fault in
     fault_same c.from_residual.result c.in_err-row.field-0.0 P c.from_residual.ensures.1
-    (λ more. line_stops s c.saturating_add-number.result c.in_err-row.field-0.0 more w f c.requires.room.0 c.saturating_add-number.ensures e.of_line e.fault)
+    (λ more. line_stops s c.saturating_add-number.result c.in_err-row.field-0.0 more w f c.requires.room.0
+    c.saturating_add-number.ensures e.of_line e.fault)
 
 pub returns-in_err-write_all-clause-err : goal.returns-in_err-write_all-clause-err
 returns-in_err-write_all-clause-err g c =
@@ -28,8 +29,10 @@ returns-in_err-write_all-clause-err g c =
     let e = c.in_err-write_all.ensures in
     let P : StimFault → Type 0 = λ fault. (more : List ℕ) → Stops (10 ∷ more) s w w' f f' fault in
     fault_same c.from_residual-in_err-write_all.result Io P c.from_residual-in_err-write_all.ensures.1
-    (λ more. row_stops s c.step.new.self c.in_ok-row.row.now c.requires.room.0 row.0 row.1 row.2 c.step.ensures.circuit c.step.ensures.step more w w' f f'
-    (subst (λ (bytes : List ℕ). (done : List ℕ) × IsBeginning done bytes × (w' ≡ after w done)) c.line.ensures e.err) e.count)
+    (λ more. row_stops s c.step.new.self c.in_ok-row.row.now c.requires.room.0 row.0 row.1 row.2
+    c.step.ensures.circuit c.step.ensures.step more w w' f f'
+    (subst (λ (bytes : List ℕ). (done : List ℕ) × IsBeginning done bytes × (w' ≡ after w done)) c.line.ensures e.err)
+    e.count)
 
 pub returns-clause-ok : goal.returns-clause-ok
 returns-clause-ok g c =
@@ -39,7 +42,9 @@ returns-clause-ok g c =
     let f = g.W.Write.failures c.args.out.now in
     let e = c.in_ok-write_all.ensures in
     let k = c.clear.ensures in
-    row_goes_on s c.step.new.self c.in_ok-row.row.now c.requires.room.0 row.0 row.1 row.2 c.step.ensures.circuit c.step.ensures.step
+    row_goes_on s c.step.new.self c.in_ok-row.row.now c.requires.room.0 row.0 row.1 row.2 c.step.ensures.circuit
+    c.step.ensures.step
     (record { machine = c.step.new.self; line = c.clear.new.self; frames = c.saturating_add-number.result })
-    w (g.W.Write.written c.write_all.new.out) f (g.W.Write.failures c.write_all.new.out) refl k.empty.0 k.empty.1 c.saturating_add-number.ensures
+    w (g.W.Write.written c.write_all.new.out) f
+    (g.W.Write.failures c.write_all.new.out) refl k.empty.0 k.empty.1 c.saturating_add-number.ensures
     (e.ok ∙ ap (after w) c.line.ensures) e.count

@@ -19,9 +19,12 @@ returns-in_err-end_line-clause-err g c =
     ap (λ b. take i xs ++ (b ∷ drop (i + 1) xs)) (sym c.if-byte-eq10.true)
     ∙ ap (λ (t : List ℕ). take i xs ++ t) (sym (drop_more xs i 0 c.loop-byte-test.true)) ∙ take-append-drop i xs in
     fault_same c.from_residual.result e
-    (Stops xs s (written c.args.out.now) (written c.end_line.new.out) (failures c.args.out.now) (failures c.end_line.new.out)) c.from_residual.ensures.1
-    (subst (λ (bytes : List ℕ). Stops bytes s (written c.args.out.now) (written c.end_line.new.out) (failures c.args.out.now) (failures c.end_line.new.out) e) split
-    (stops_then (take i xs) (10 ∷ drop (i + 1) xs) s c.loop-byte.self (written c.args.out.now) (written c.loop-byte.out) (written c.end_line.new.out)
+    (Stops xs s (written c.args.out.now) (written c.end_line.new.out) (failures c.args.out.now)
+    (failures c.end_line.new.out)) c.from_residual.ensures.1
+    (subst (λ (bytes : List ℕ). Stops bytes s (written c.args.out.now) (written c.end_line.new.out)
+    (failures c.args.out.now) (failures c.end_line.new.out) e) split
+    (stops_then (take i xs) (10 ∷ drop (i + 1) xs) s c.loop-byte.self (written c.args.out.now)
+    (written c.loop-byte.out) (written c.end_line.new.out)
     (failures c.args.out.now) (failures c.loop-byte.out) (failures c.end_line.new.out) e
     c.loop-byte.invariant.goes_on (c.in_err-end_line.ensures.err (drop (i + 1) xs))))
 
@@ -37,27 +40,40 @@ loop-byte-preserved g c =
     elim c.if-byte-eq10.branch [
       | then-byte-eq10+in_ok-end_line w ↦
           let e = w.in_ok-end_line.ensures in
-          let bytes : take i xs ++ 10 ∷ [] ≡ take (i + 1) xs = ap (λ (b : ℕ). take i xs ++ b ∷ []) (sym w.if-byte-eq10.true) ∙ sym more in
+          let bytes : take i xs ++ 10 ∷ []
+          ≡ take (i + 1) xs = ap (λ (b : ℕ). take i xs ++ b ∷ []) (sym w.if-byte-eq10.true) ∙ sym more in
           record {
             room = subst HasRoom (sym w.self-is) e.room;
             goes_on =
-                subst (λ (to : g.row.W.Denot). GoesOn (take (i + 1) xs) s c.if-byte-eq10.self (written c.args.out.now) (written to) (failures c.args.out.now) (failures to)) (sym w.out-is)
-                (subst (λ (s' : Simulation). GoesOn (take (i + 1) xs) s s' (written c.args.out.now) (written w.end_line.new.out) (failures c.args.out.now) (failures w.end_line.new.out)) (sym w.self-is)
-                (subst (λ (t : List ℕ). GoesOn t s w.end_line.new.self (written c.args.out.now) (written w.end_line.new.out) (failures c.args.out.now) (failures w.end_line.new.out)) bytes
-                (goes_on_then (take i xs) (10 ∷ []) s mid w.end_line.new.self (written c.args.out.now) (written c.loop-byte.out) (written w.end_line.new.out)
-                (failures c.args.out.now) (failures c.loop-byte.out) (failures w.end_line.new.out) c.loop-byte.invariant.goes_on e.ok)));
+                subst (λ (to : g.row.W.Denot). GoesOn (take (i + 1) xs) s c.if-byte-eq10.self (written c.args.out.now)
+                (written to) (failures c.args.out.now) (failures to)) (sym w.out-is)
+                (subst (λ (s' : Simulation). GoesOn (take (i + 1) xs) s s' (written c.args.out.now)
+                (written w.end_line.new.out) (failures c.args.out.now) (failures w.end_line.new.out))
+                (sym w.self-is)
+                (subst (λ (t : List ℕ). GoesOn t s w.end_line.new.self (written c.args.out.now)
+                (written w.end_line.new.out) (failures c.args.out.now) (failures w.end_line.new.out)) bytes
+                (goes_on_then (take i xs) (10 ∷ []) s mid w.end_line.new.self (written c.args.out.now)
+                (written c.loop-byte.out) (written w.end_line.new.out)
+                (failures c.args.out.now) (failures c.loop-byte.out)
+                (failures w.end_line.new.out) c.loop-byte.invariant.goes_on e.ok)));
           }
       | else-byte-eq10 w ↦
           let e = w.push.ensures in
-          let step = byte_goes_on mid w.push.new.self (get_or xs i 0) (written c.loop-byte.out) (failures c.loop-byte.out)
+          let step = byte_goes_on mid w.push.new.self (get_or xs i 0) (written c.loop-byte.out)
+          (failures c.loop-byte.out)
           c.loop-byte.invariant.room.0 e.frames e.machine w.if-byte-eq10.false e.keeps in
           record {
             room = subst HasRoom (sym w.self-is) e.room;
             goes_on =
-                subst (λ (to : g.row.W.Denot). GoesOn (take (i + 1) xs) s c.if-byte-eq10.self (written c.args.out.now) (written to) (failures c.args.out.now) (failures to)) (sym w.out-is)
-                (subst (λ (s' : Simulation). GoesOn (take (i + 1) xs) s s' (written c.args.out.now) (written c.loop-byte.out) (failures c.args.out.now) (failures c.loop-byte.out)) (sym w.self-is)
-                (subst (λ (t : List ℕ). GoesOn t s w.push.new.self (written c.args.out.now) (written c.loop-byte.out) (failures c.args.out.now) (failures c.loop-byte.out)) (sym more)
-                (goes_on_then (take i xs) (get_or xs i 0 ∷ []) s mid w.push.new.self (written c.args.out.now) (written c.loop-byte.out) (written c.loop-byte.out)
-                (failures c.args.out.now) (failures c.loop-byte.out) (failures c.loop-byte.out) c.loop-byte.invariant.goes_on step)));
+                subst (λ (to : g.row.W.Denot). GoesOn (take (i + 1) xs) s c.if-byte-eq10.self (written c.args.out.now)
+                (written to) (failures c.args.out.now) (failures to)) (sym w.out-is)
+                (subst (λ (s' : Simulation). GoesOn (take (i + 1) xs) s s' (written c.args.out.now)
+                (written c.loop-byte.out) (failures c.args.out.now) (failures c.loop-byte.out)) (sym w.self-is)
+                (subst (λ (t : List ℕ). GoesOn t s w.push.new.self (written c.args.out.now) (written c.loop-byte.out)
+                (failures c.args.out.now) (failures c.loop-byte.out)) (sym more)
+                (goes_on_then (take i xs) (get_or xs i 0 ∷ []) s mid w.push.new.self (written c.args.out.now)
+                (written c.loop-byte.out) (written c.loop-byte.out)
+                (failures c.args.out.now) (failures c.loop-byte.out)
+                (failures c.loop-byte.out) c.loop-byte.invariant.goes_on step)));
           }
     ]

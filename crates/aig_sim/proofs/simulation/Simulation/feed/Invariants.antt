@@ -6,5 +6,6 @@ abbrev pub invariant-loop-byte : goal.invariant-loop-byte
 invariant-loop-byte g l = record {
   room : HasRoom l.self;
   goes_on : GoesOn (take l.byte-index l.chunk) l.initial.self l.self
-      (g.W.Write.written l.initial.out) (g.W.Write.written l.out) (g.W.Write.failures l.initial.out) (g.W.Write.failures l.out);
+      (g.W.Write.written l.initial.out) (g.W.Write.written l.out) (g.W.Write.failures l.initial.out)
+      (g.W.Write.failures l.out);
 }

@@ -5,6 +5,7 @@ use Rattle.aig_sim.proofs.trace_line.TraceLine.push_literals.Given as goal
 
 abbrev pub invariant-loop-literal : goal.invariant-loop-literal
 invariant-loop-literal l = record {
-  bytes : l.self.bytes ≡ l.initial.self.bytes ++ map (λ k. character (literal_value l.cells k)) (take l.literal-index l.literals);
+  bytes : l.self.bytes ≡ l.initial.self.bytes
+      ++ map (λ k. character (literal_value l.cells k)) (take l.literal-index l.literals);
   room : l.self.room ≡ l.initial.self.room;
 }
