@@ -67,3 +67,154 @@ file a_and_not_a 'aag 2 1 0 1 1\n2\n4\n4 2 3\n'
 file cycle 'aag 3 1 0 1 2\n2\n4\n4 6 2\n6 4 2\n'
 file reads_itself 'aag 2 1 0 1 1\n2\n4\n4 4 2\n'
 file unused_variables 'aag 7 1 0 1 2\n14\n5\n4 10 14\n10 14 15\n'
+
+# ---- bench
+file rows '11\n01\n'
+file script 'v 0 8\ns 0 1 0\nv 0 8\n'
+row 'bench: a value before and after an edit' 0 '1\nok\n0\n' '' bench two_gates rows script
+file script 'v 0 9\ns 0 0 x\nv 0 8\nv 1 8\nv 0 10\nq\n'
+row 'bench: negation, unknown, a later frame, out of range, no command' 0 '0\nok\nx\n0\nno 3\nbad\n' '' bench two_gates rows script
+file script '\nv 00 8\nv 0  8\nv 0 4294967296\ns 0 0 2\nt \n'
+row 'bench: lines that are no command' 0 'bad\nbad\nbad\nbad\nbad\nbad\n' '' bench two_gates rows script
+{ printf 'v 0 '; printf '9%.0s' $(seq 400); printf '\n'; } > script
+row 'bench: a number of 400 digits' 0 'bad\n' '' bench two_gates rows script
+file script 'v 0 8\nv 0 8'
+row 'bench: a last line without its end' 0 '1\nbad\n' '' bench two_gates rows script
+file script ''
+row 'bench: an empty script' 0 '' '' bench two_gates rows script
+file script 's 2 0 1\ns 0 2 1\ns 2 2 1\nv 2 10\nv 2 8\nv 0 10\n'
+row 'bench: frames and inputs that are not there' 0 'no 6\nno 7\nno 6\nno 3\nno 6\nno 3\n' '' bench two_gates rows script
+file rows '11\n'
+file script 't\ns 0 0 x\nt\n'
+row 'bench: traces' 0 ' 11 1 \n.\nok\n x1 x \n.\n' '' bench one_gate rows script
+file rows ''
+file script 't\nv 0 6\n'
+row 'bench: no frames' 0 '.\nno 6\n' '' bench one_gate rows script
+file rows '1\n'
+file script 'v 0 3\nv 0 4\n'
+file gap 'aag 2 1 0 1 0\n2\n2\n'
+row 'bench: an undefined variable' 0 '0\nno 4\n' '' bench gap rows script
+file rows '11\n1z\n'
+row 'bench: a refused stimulus' 1 '' 'aig: stimulus: character in line 2\n' bench two_gates rows script
+file rows '11\n01\n'
+row 'bench: a refused circuit' 1 '' 'aig: circuit: cycle 2\n' bench cycle rows script
+row 'bench: a circuit wins over a stimulus' 1 '' 'aig: circuit: cycle 2\n' bench reads_itself two_gates script
+row 'bench: no circuit file' 3 '' 'aig: circuit: input or output\n' bench nowhere rows script
+row 'bench: no stimulus file' 3 '' 'aig: stimulus: input or output\n' bench two_gates nowhere script
+row 'bench: no script wins over a refused circuit' 3 '' 'aig: script: input or output\n' bench cycle rows nowhere
+row 'bench: a directory as the circuit' 3 '' 'aig: circuit: input or output\n' bench . rows script
+for design in two_gates counter fifo; do
+    same "bench: $design" "$expected/$design.replies" bench "$examples/$design.aag" "$examples/$design.stim" "$examples/$design.script"
+done
+file many 'aag 4194303 0 0 0 0\n'
+{ for _ in $(seq 17); do echo; done; } > rows
+row 'bench: more cells than a bench may have' 1 '' 'aig: bench: limit\n' bench many rows script
+file script 'v 0 8\n'
+file rows '11\n'
+"$aig" bench two_gates rows script > /dev/full 2> got.err
+status=$?
+: > got.out; : > wanted.out; printf 'aig: script: input or output\n' > wanted.err
+compare 'bench: standard output is full' 3 $status
+
+# ---- words
+words 'words: none'
+words 'words: help' --help
+words 'words: help of a subcommand' bench --help
+words 'words: an unknown subcommand' fold
+words 'words: a missing file name' bench two_gates
+words 'words: one file name too many' bench a b c d
+
+# ---- sim
+file rows '\n\n\n'
+row 'sim: a latch that negates itself' 0 '0  01 1\n1  10 0\n0  01 1\n' '' sim toggle rows
+file rows '\n'
+row 'sim: an uninitialised latch' 0 'x  xx x\n' '' sim uninitialised_toggle rows
+file rows 'x0\nx1\n'
+row 'sim: unknown inputs' 0 ' x0 0 \n x1 x \n' '' sim one_gate rows
+file rows 'x\n'
+row 'sim: nothing is folded' 0 ' x x \n' '' sim a_and_not_a rows
+file rows '11\n1z\n'
+row 'sim: a wrong character' 1 ' 11 1 \n' 'aig: stimulus: character in line 2\n' sim one_gate rows
+file rows '11\n1111111z\n'
+row 'sim: a wrong character past the width' 1 ' 11 1 \n' 'aig: stimulus: character in line 2\n' sim one_gate rows
+file rows '11\n1\n'
+row 'sim: a short line' 1 ' 11 1 \n' 'aig: stimulus: length of line 2\n' sim one_gate rows
+file rows '11\n1z1111'
+row 'sim: an unfinished line' 1 ' 11 1 \n' 'aig: stimulus: unfinished\n' sim one_gate rows
+file rows ''
+row 'sim: no frames' 0 '' '' sim one_gate rows
+yes 11 | head -n 65537 > rows
+yes ' 11 1 ' | head -n 65537 > long
+same 'sim: more frames than a bench may have' long sim one_gate rows
+row 'sim: no stimulus file' 3 '' 'aig: stimulus: input or output\n' sim one_gate nowhere
+row 'sim: a directory as the stimulus' 3 '' 'aig: stimulus: input or output\n' sim one_gate .
+for design in two_gates counter fifo; do
+    same "sim: $design" "$expected/$design.trace" sim "$examples/$design.aag" "$examples/$design.stim"
+done
+file rows '11\n'
+"$aig" sim one_gate rows > /dev/full 2> got.err
+status=$?
+: > got.out; : > wanted.out; printf 'aig: stimulus: input or output\n' > wanted.err
+compare 'sim: standard output is full' 3 $status
+
+# ---- toaig
+# both NAME ASCII BINARY: the text is written back as it stands, and converted to these bytes.
+both() {
+    file source "$2"
+    row "toaig: $1, as text" 0 "$2" '' toaig --to aag source
+    row "toaig: $1, as binary" 0 "$3" '' toaig --to aig source
+    file source "$3"
+    row "toaig: $1, binary as it stands" 0 "$3" '' toaig --to aig source
+}
+both 'the empty circuit' 'aag 0 0 0 0 0\n' 'aig 0 0 0 0 0\n'
+both 'one gate, with its right sides swapped' 'aag 3 2 0 1 1\n2\n4\n6\n6 2 4\n' 'aig 3 2 0 1 1\n6\n\x02\x02'
+both 'a gate used before its line' 'aag 4 2 0 1 2\n2\n4\n8\n8 6 2\n6 2 4\n' 'aig 4 2 0 1 2\n8\n\x02\x02\x02\x04'
+both 'unused variables' 'aag 7 1 0 1 2\n14\n5\n4 10 14\n10 14 15\n' 'aig 3 1 0 1 2\n7\n\x01\x01\x02\x02'
+both 'a ready circuit, not renumbered' 'aag 4 1 0 1 3\n2\n8\n4 2 2\n6 4 2\n8 2 2\n' 'aig 4 1 0 1 3\n8\n\x02\x00\x02\x02\x06\x00'
+both 'levels before variables' 'aag 5 2 0 1 3\n2\n4\n10\n10 6 8\n8 2 4\n6 4 3\n' 'aig 5 2 0 1 3\n10\n\x02\x01\x04\x02\x02\x02'
+both 'a symbol of a constraint, and a comment' 'aag 1 1 0 0 0 0 1\n2\n2\nc0 go\nc\nhi' 'aig 1 1 0 0 0 0 1\n2\nc0 go\nc\nhi'
+both 'justice and fairness' 'aag 1 1 0 0 0 0 0 1 1\n2\n2\n2\n3\n2\n' 'aig 1 1 0 0 0 0 0 1 1\n2\n2\n3\n2\n'
+both 'an empty comment' 'aag 1 1 0 0 0\n2\nc\n' 'aig 1 1 0 0 0\nc\n'
+file source 'aag 1 0 1 0 0 0 0\n2 2 0\n'
+row 'toaig: zeros that may be left out' 0 'aag 1 0 1 0 0\n2 2\n' '' toaig --to aag source
+# refused NAME BYTES TEXT: a circuit file that is refused with this text.
+refused() {
+    file source "$2"
+    row "toaig: $1" 1 '' "aig: circuit: $3\n" toaig --to aag source
+}
+refused 'the empty file' '' 'text at 0'
+refused 'more inputs than variables' 'aag 1 2 0 0 0\n' 'counts'
+refused 'a binary file with a gap' 'aig 2 1 0 0 0\n' 'counts'
+refused 'a count over the limit' 'aag 4194304 0 0 0 0\n' 'limit'
+refused 'a tenth count' 'aag 0 0 0 0 0 0 0 0 0 0\n' 'text at 21'
+refused 'a leading zero' 'aag 01 0 0 0 0\n' 'text at 4'
+refused 'a literal over the limit' 'aag 1 1 0 1 0\n2\n8388608\n' 'limit'
+refused 'a literal out of range' 'aag 1 1 0 1 0\n2\n8388607\n' 'range'
+refused 'an output out of range' 'aig 1 1 0 1 0\n4\n' 'range'
+refused 'an odd left side' 'aag 2 1 0 0 1\n2\n5 2 2\n' 'definition'
+refused 'a variable defined twice' 'aag 2 1 1 0 0\n2\n2 1\n' 'redefined 1'
+refused 'an undefined variable' 'aag 2 1 0 1 0\n2\n4\n' 'undefined 2'
+refused 'a wrong reset' 'aag 2 1 1 0 0\n2\n4 1 3\n' 'reset 2'
+refused 'a cycle' 'aag 3 1 0 1 2\n2\n4\n4 6 2\n6 4 2\n' 'cycle 2'
+refused 'a gate that reads itself' 'aag 2 1 0 1 1\n2\n4\n4 4 2\n' 'cycle 2'
+refused 'an end between two deltas' 'aig 3 2 0 1 1\n6\n\x02' 'text at 17'
+refused 'a long delta' 'aig 3 2 0 1 1\n6\n\x82\x00\x02' 'text at 16'
+refused 'a first delta of 0' 'aig 3 2 0 1 1\n6\n\x00\x02' 'text at 16'
+refused 'a second delta that is too great' 'aig 3 2 0 1 1\n6\n\x02\x05' 'text at 17'
+refused 'a symbol out of range' 'aag 1 1 0 0 0\n2\ni1 a\n' 'text at 17'
+refused 'a symbol named twice' 'aag 1 1 0 0 0\n2\ni0 a\ni0 b\n' 'text at 22'
+refused 'a comment letter at the end' 'aag 1 1 0 0 0\n2\nc' 'text at 17'
+words 'toaig: no format' toaig two_gates
+words 'toaig: an unknown format' toaig --to dot two_gates
+row 'toaig: no file' 3 '' 'aig: circuit: input or output\n' toaig --to aig nowhere
+"$aig" toaig --to aig two_gates > /dev/full 2> got.err
+status=$?
+: > got.out; : > wanted.out; printf 'aig: output: input or output\n' > wanted.err
+compare 'toaig: standard output is full' 3 $status
+for design in two_gates counter fifo; do
+    same "toaig: $design, to binary" "$examples/$design.aig" toaig --to aig "$examples/$design.aag"
+done
+same 'toaig: a ready design, to binary and back' "$examples/counter.aag" toaig --to aag "$examples/counter.aig"
+
+echo "$passed passed, $failed failed"
+[ "$failed" = 0 ]

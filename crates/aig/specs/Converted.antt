@@ -18,21 +18,22 @@ IsConverted raw Binary text =
     (IsBinaryReady raw × (text ≡ short_binary raw))
     ⊎ ((IsBinaryReady raw → ⊥) × ((order : List ℕ) × IsCanonicalOrder raw order × (text ≡ short_binary (renumbered raw order))))
 
--- the file's circuit was converted and written, as far as the result says
-pub record Converts {X T E : Type 0} (written : X → Option (List ℕ)) (failures : X → ℕ) (old new : X) (file : List ℕ) (to : Format)
-    (r : Result T E) : Type 0 where
-  pub raw : Raw
-  pub file_is : IsFileOf file raw
-  pub text : List ℕ
-  pub converted : IsConverted raw to text
-  pub writes : Writes written failures old new text r
+-- How the writing of a converted circuit ends: written whole; a write failed behind a beginning; no memory was found to
+-- renumber it, and nothing was written.
+abbrev pub IsWritten : {X : Type 0} → (X → Option (List ℕ)) → (X → ℕ) → X → X → Raw → Format → Result (Unit {0}) RunFault → Type 0
+IsWritten written failures old new raw to (Ok done) =
+    (text : List ℕ) × IsConverted raw to text × Writes {T = Unit {0}} {E = RunFault} written failures old new text (Ok done)
+IsWritten written failures old new raw to (Err parts.Output) =
+    (text : List ℕ) × IsConverted raw to text × Writes {T = Unit {0}} {E = RunFault} written failures old new text (Err parts.Output)
+IsWritten written failures old new raw to (Err parts.Memory) = new ≡ old
+IsWritten written failures old new raw to (Err _) = ⊥
 
--- how a conversion ends: written whole, or refused with nothing written, or a write failed behind a beginning
+-- how a conversion ends: a refused file, with nothing written; or its circuit was converted
 abbrev pub ConversionEnds : {X : Type 0} → (X → Option (List ℕ)) → (X → ℕ) → X → X → List ℕ → Format → Result (Unit {0}) RunFault → Type 0
-ConversionEnds written failures old new file to (Ok done) =
-    Converts {T = Unit {0}} {E = RunFault} written failures old new file to (Ok done)
 ConversionEnds written failures old new file to (Err (parts.Circuit fault)) = RefusesCircuit file fault × (new ≡ old)
-ConversionEnds written failures old new file to (Err parts.Output) =
-    Converts {T = Unit {0}} {E = RunFault} written failures old new file to (Err parts.Output)
-ConversionEnds written failures old new file to (Err parts.Memory) = new ≡ old
-ConversionEnds written failures old new file to (Err _) = ⊥
+ConversionEnds written failures old new file to r = (raw : Raw) × IsFileOf file raw × IsWritten written failures old new raw to r
+
+-- a failing write is the output's
+abbrev pub output_of : {T E : Type 0} → Result T E → Result T RunFault
+output_of (Ok done) = Ok done
+output_of (Err fault) = Err parts.Output

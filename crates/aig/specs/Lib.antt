@@ -1,4 +1,7 @@
 pub mod Command
+pub mod Converted
 pub mod Lines
-pub mod Replies
 pub mod Ran
+pub mod Replies
+pub mod Run
+pub mod Status

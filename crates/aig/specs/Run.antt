@@ -55,3 +55,17 @@ RefusesFiles circuit stimulus (Bench fault) = (pair : Pair) × AreFilesOf circui
 RefusesFiles circuit stimulus (Script fault) = ⊥
 RefusesFiles circuit stimulus Output = ⊥
 RefusesFiles circuit stimulus Memory = ⊥
+
+-- a fault of the files, or of their bench
+abbrev pub IsOfFiles : RunFault → Type 0
+IsOfFiles (Circuit fault) = Unit {0}
+IsOfFiles (Stimulus fault) = Unit {0}
+IsOfFiles (Bench fault) = Unit {0}
+IsOfFiles (Script fault) = ⊥
+IsOfFiles Output = ⊥
+IsOfFiles Memory = ⊥
+
+-- a fault that a run of a script can have
+abbrev pub IsOfRun : RunFault → Type 0
+IsOfRun (Script fault) = Unit {0}
+IsOfRun fault = IsOfFiles fault

@@ -1,9 +1,9 @@
-//! The bench and the simulation, from bytes to bytes.
-ghost use Rattle.std.specs.Prelude.{◌≡◌, ℕ, List, length, IfOk, IfErr, OnOk};
-ghost use Rattle.aig_base.specs.declared.raw.Raw.{Raw};
+//! The bench from bytes to bytes.
+ghost use Rattle.std.specs.Prelude.{◌≡◌, length, IfOk, IfErr, OnOk};
 ghost use Rattle.aig_bench.specs.Pair.{Pair};
 ghost use Rattle.aig.specs.Ran.{Ran, Failing};
-ghost use Rattle.aig.specs.Run.{IsFileOf, AreFilesOf, RefusesCircuit, RefusesStimulus, RefusesFiles};
+ghost use Rattle.aig_sim.specs.StimulusText.{SpellsRows};
+ghost use Rattle.aig.specs.Run.{IsFileOf, AreFilesOf, RefusesCircuit, RefusesStimulus, RefusesFiles, IsOfFiles, IsOfRun};
 
 use crate::run_fault::RunFault;
 use crate::script::run_script;
@@ -11,7 +11,7 @@ use crate::script_fault::ScriptFault;
 use aig_base::{Circuit, Fault, Read, Write};
 use aig_bench::Bench;
 use aig_format::read;
-use aig_sim::{Grid, StimFault, Stimulus, read_stimulus, simulate};
+use aig_sim::{Grid, StimFault, Stimulus, read_stimulus};
 use std::alloc::Global;
 
 /// Reads a circuit file.
@@ -27,7 +27,7 @@ pub fn read_circuit(alloc: Global, file: &[u8]) -> Result<Circuit, Fault>
 /// Reads a stimulus file for a circuit.
 fn read_rows(alloc: Global, circuit: &Circuit, file: &[u8]) -> Result<Stimulus, StimFault>
     ensures width { IfOk result (λ stimulus. stimulus.width ≡ length circuit.now.inputs) }
-    ensures rows { IfOk result (λ stimulus. AreFilesOf' circuit.now file.now stimulus.rows) }
+    ensures rows { IfOk result (λ stimulus. SpellsRows (length circuit.now.inputs) file.now stimulus.rows) }
     ensures fault { IfErr result (RefusesStimulus (length circuit.now.inputs) file.now) }
 {
     let _max_var = circuit.max_var();
@@ -72,7 +72,7 @@ pub fn run_bench<G: Grid, R: Read, W: Write>(
     ensures script { IfErr result (λ fault. fault ≡ RunFault.Script ScriptFault.Io →
         (pair new : Pair) × AreFilesOf circuit.now stimulus.now pair
         × Failing R.left R.failures W.written W.failures script.old script.new out.old out.new pair new) }
-    ensures parts { IfErr result (λ fault. IsOfBench fault) }
+    ensures parts { IfErr result IsOfRun }
 {
     let mut bench = open_bench::<G>(alloc, circuit, stimulus)?;
     Ok(run_script(alloc, &mut bench, script, out)?)

@@ -1,7 +1,7 @@
 //! The files that the words name.
 
-use aig_base::{Buffered, Std};
 use crate::run_fault::RunFault;
+use aig_base::{Buffered, Std};
 use std::alloc::Global;
 use std::fs::{self, Files};
 use std::io::{self, ErrorKind, Printer, Read};

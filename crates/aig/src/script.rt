@@ -72,3 +72,23 @@ fn answer_all<G: Grid, R: Read, W: Write>(
     }
     write_all(out, b"bad\n")
 }
+
+/// Reads a script to its end and answers its lines one by one, each before it reads on. A line of any length is handled
+/// without keeping it; a last piece with bytes and no LF is bad. It takes no memory.
+pub fn run_script<G: Grid, R: Read, W: Write>(
+    _alloc: Global,
+    bench: &mut Bench<G>,
+    reader: &mut R,
+    out: &mut W,
+) -> Result<(), ScriptFault>
+    ensures replies { OnOk result (Ran R.left R.failures W.written W.failures reader.old reader.new out.old out.new bench.old bench.new) }
+    ensures io { IfErr result (λ fault. fault ≡ ScriptFault.Io →
+        Failing R.left R.failures W.written W.failures reader.old reader.new out.old out.new bench.old bench.new) }
+    ensures memory { IfErr result (λ fault. fault ≡ ScriptFault.Memory →
+        (reader.new ≡ reader.old) × (out.new ≡ out.old) × (bench.new ≡ bench.old)) }
+{
+    match answer_all(bench, reader, out) {
+        Ok(()) => Ok(()),
+        Err(Io) => Err(ScriptFault::Io),
+    }
+}

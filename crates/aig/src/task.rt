@@ -1,11 +1,11 @@
 //! What the words of the command line choose.
 
 use crate::command_line::{subcommand_of, text_of};
-use crate::files::{open, output, whole};
-use crate::stop::Stop;
 use crate::delivery::{deliver_circuit, deliver_replies, deliver_trace};
+use crate::files::{open, output, whole};
 use crate::run_fault::RunFault;
 use crate::script_fault::ScriptFault;
+use crate::stop::Stop;
 use aig_base::{Fault, Std};
 use aig_format::Format;
 use aig_sim::StimFault;
