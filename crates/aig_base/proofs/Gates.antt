@@ -189,7 +189,8 @@ left_side_found raw v g (q, at, e) =
 
 defined_among : (raw : Raw) (l v : ℕ) → Contains (definitions raw) l → variable l ≡ v → IsDefined raw v
 defined_among raw l v h e =
-    let (k, lt, is) = subst (Contains (map variable (definitions raw))) e (Contains-map variable (definitions raw) l h) in
+    let (k, lt, is) = subst (Contains (map variable (definitions raw))) e
+        (Contains-map variable (definitions raw) l h) in
     (suc k, omega arith, is)
 
 -- what has a definition is defined
@@ -205,6 +206,7 @@ defined_from_definition raw v (definition.Latch p) (x, at, e) =
     (Contains-map (λ (y : Latch). y.lit) raw.latches x (Contains-from_slice_get raw.latches p x at)))) e
 defined_from_definition raw v (definition.Gate q) (g, at, e) = defined_among raw g.lhs v (gate_among raw q g at) e
 
-pub defined_if_found : (raw : Raw) (v : ℕ) (o : Option Definition) → IfSome o (Defines raw v) → IsTrue (is_some o) → IsDefined raw v
+pub defined_if_found : (raw : Raw) (v : ℕ) (o : Option Definition) → IfSome o (Defines raw v) → IsTrue (is_some o)
+    → IsDefined raw v
 defined_if_found raw v None found h = absurd (false≢true h)
 defined_if_found raw v (Some d) found h = defined_from_definition raw v d found
