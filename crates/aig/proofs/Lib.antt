@@ -1,3 +1,4 @@
+pub mod Conversions
 pub mod Fields
 pub mod LineLemmas
 pub mod ReplyLemmas

@@ -19,9 +19,13 @@ pub fn read_circuit(alloc: Global, file: &[u8]) -> Result<Circuit, Fault>
     ensures circuit { IfOk result (IsFileOf file.now) }
     ensures fault { IfErr result (RefusesCircuit file.now) }
 {
-    let circuit = read(alloc, file)?;
-    let _max_var = circuit.max_var();
-    Ok(circuit)
+    match read(alloc, file) {
+        Ok(circuit) => {
+            let _max_var = circuit.max_var();
+            Ok(circuit)
+        }
+        Err(fault) => Err(fault),
+    }
 }
 
 /// Reads a stimulus file for a circuit.
