@@ -22,3 +22,6 @@ pub use simulation::simulate;
 pub use stimulus::{FRAMES, Stimulus};
 pub use stimulus_fault::StimFault;
 pub use stimulus_text::read_stimulus;
+
+#[cfg(test)]
+mod tests;

@@ -1,0 +1,3 @@
+//! Tests of what no clause says: worked examples.
+mod grid;
+mod stimulus_text;

@@ -1,0 +1,45 @@
+//! A grid through its bound.
+ghost use Rattle.std.specs.Prelude.{◌≡◌};
+
+use crate::byte_grid::ByteGrid;
+use crate::grid::Grid;
+use aig_base::{Gate, Lit, Tern};
+use std::alloc::Global;
+use std::test::Fail;
+
+fn gate(lhs: u32, rhs0: u32, rhs1: u32) -> Gate
+    ensures lhs { result.lhs ≡ lhs }
+    ensures rhs0 { result.rhs0 ≡ rhs0 }
+    ensures rhs1 { result.rhs1 ≡ rhs1 }
+{
+    Gate {
+        lhs: Lit::new(lhs),
+        rhs0: Lit::new(rhs0),
+        rhs1: Lit::new(rhs1),
+    }
+}
+
+// The values of variable 3, the AND of 1 and not 2, and of variable 4, the AND of 1 and not 1, for this value of both
+// inputs; then whether a second evaluation changes the cell.
+fn values<G: Grid>(alloc: Global, value: Tern) -> Result<(Tern, Tern, bool), Fail> {
+    let mut grid = G::new(alloc, &[false, false, false, true, true])?;
+    grid.add_row()?;
+    grid.put_source(0, 1, value);
+    grid.put_source(0, 2, value);
+    grid.evaluate(0, gate(6, 2, 5));
+    grid.evaluate(0, gate(8, 2, 3));
+    let again = grid.evaluate(0, gate(6, 2, 5));
+    let first = grid.get(0, 3);
+    let second = grid.get(0, 4);
+    grid.drop_row();
+    Ok((first, second, again))
+}
+
+#[test]
+fn byte_grid(rt: HostRuntime) -> Result<(), Fail> {
+    let one = values::<ByteGrid>(rt.alloc(), Tern::One)?;
+    assert!(rt; one.0 == Tern::Zero && one.1 == Tern::Zero && !one.2);
+    let unknown = values::<ByteGrid>(rt.alloc(), Tern::X)?;
+    assert!(rt; unknown.0 == Tern::X && unknown.1 == Tern::X && !unknown.2);
+    Ok(())
+}

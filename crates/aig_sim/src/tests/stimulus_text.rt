@@ -1,0 +1,61 @@
+//! Texts of stimuli.
+use crate::stimulus_fault::StimFault;
+use crate::stimulus_text::read_stimulus;
+use aig_base::Tern;
+use std::test::Fail;
+
+#[test]
+fn texts_of_width_two(rt: HostRuntime) {
+    let texts: [(&[u8], Result<u32, StimFault>); 8] = [
+        (b"", Ok(0)),
+        (b"11\nx0\n", Ok(2)),
+        (b"11\n1z\n", Err(StimFault::Char(2))),
+        (b"11\n1\n", Err(StimFault::Length(2))),
+        (b"11\n1z1\n", Err(StimFault::Char(2))),
+        (b"11\n111z\n", Err(StimFault::Char(2))),
+        (b"11\n1z", Err(StimFault::Unfinished)),
+        (b"\n1z", Err(StimFault::Length(1))),
+    ];
+    for (text, want) in texts {
+        let frames = match read_stimulus(rt.alloc(), text, 2) {
+            Ok(stimulus) => Ok(stimulus.frames()),
+            Err(fault) => Err(fault),
+        };
+        assert_eq!(rt; frames, want);
+    }
+}
+
+#[test]
+fn every_cut(rt: HostRuntime) {
+    let text = b"11\nx0\n";
+    for cut in 0..text.len() {
+        let result = read_stimulus(rt.alloc(), &text[..cut], 2);
+        if cut % 3 == 0 {
+            assert!(rt; result.is_ok(), "at {cut}");
+        } else {
+            assert!(rt; matches!(&result, Err(StimFault::Unfinished)), "at {cut}");
+        }
+    }
+}
+
+#[test]
+fn values_of_a_text(rt: HostRuntime) -> Result<(), Fail> {
+    let stimulus = read_stimulus(rt.alloc(), b"11\nx0\n", 2)?;
+    if stimulus.frames() == 2 && stimulus.width() == 2 {
+        assert_eq!(rt; stimulus.get(1, 0), Tern::X);
+        assert_eq!(rt; stimulus.get(1, 1), Tern::Zero);
+    } else {
+        return Err("two rows of width 2".into());
+    }
+    Ok(())
+}
+
+#[test]
+fn more_rows_than_the_limit(rt: HostRuntime) -> Result<(), Fail> {
+    let mut text = Vec::new(rt.alloc());
+    text.resize(65_536, b'\n')?;
+    assert!(rt; read_stimulus(rt.alloc(), &text, 0).is_ok());
+    text.push(b'\n')?;
+    assert!(rt; matches!(read_stimulus(rt.alloc(), &text, 0), Err(StimFault::Limit)));
+    Ok(())
+}
