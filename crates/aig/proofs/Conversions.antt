@@ -9,7 +9,7 @@ use Rattle.aig.specs.declared.run_fault.RunFault.TheVariants as parts
 use Rattle.aig.specs.Run.{IsFileOf}
 use Rattle.aig.specs.Converted.{IsConverted, IsWritten, ConversionEnds, output_of}
 
-module _ {X : Type 0} {written : X → Option (List ℕ)} {failures : X → ℕ} {old new : X} where
+module _ {X : Type 0} (written : X → Option (List ℕ)) (failures : X → ℕ) (old new : X) where
   -- a writer's answer, as the output's
   pub written_so : {E : Type 0} (raw : Raw) (to : Format) (text : List ℕ) (r : Result (Unit {0}) E)
       → Writes written failures old new text r → IsConverted raw to text → IsWritten written failures old new raw to (output_of r)

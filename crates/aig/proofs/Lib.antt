@@ -1,3 +1,4 @@
+pub mod Benches
 pub mod Conversions
 pub mod Fields
 pub mod LineLemmas

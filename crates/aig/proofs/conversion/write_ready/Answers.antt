@@ -9,13 +9,13 @@ pub returns-then-is_binary_ready : goal.returns-then-is_binary_ready
 returns-then-is_binary_ready g c =
     let raw = c.args.circuit.now in
     rw c.as_output.ensures
-    (written_so raw Binary (short_binary raw) c.write_binary.result c.write_binary.ensures.written
-      (inl (c.is_binary_ready.ensures.0 c.if-is_binary_ready.true, refl)))
+    (written_so g.W.Write.written g.W.Write.failures c.args.out.now c.write_binary.new.out raw Binary (short_binary raw) c.write_binary.result c.write_binary.ensures.written
+    (inl (c.is_binary_ready.ensures.0 c.if-is_binary_ready.true, refl)))
 
 pub returns : goal.returns
 returns g c =
     let raw = c.args.circuit.now in
     let p = c.in-Ok.ensures.parts in
     rw c.as_output-2.ensures
-    (written_so raw Binary (short_binary c.in-Ok.renumbered) c.write_binary-2.result c.write_binary-2.ensures.written
-      (inr (λ ready. false≢true (sym c.if-is_binary_ready.false ∙ c.is_binary_ready.ensures.1 ready), (p.0, p.1, ap short_binary p.2))))
+    (written_so g.W.Write.written g.W.Write.failures c.args.out.now c.write_binary-2.new.out raw Binary (short_binary c.in-Ok.renumbered) c.write_binary-2.result c.write_binary-2.ensures.written
+    (inr (λ ready. false≢true (sym c.if-is_binary_ready.false ∙ c.is_binary_ready.ensures.1 ready), (p.0, p.1, ap short_binary p.2))))
