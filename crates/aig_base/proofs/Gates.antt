@@ -190,7 +190,7 @@ left_side_found raw v g (q, at, e) =
 defined_among : (raw : Raw) (l v : ℕ) → Contains (definitions raw) l → variable l ≡ v → IsDefined raw v
 defined_among raw l v h e =
     let (k, lt, is) = subst (Contains (map variable (definitions raw))) e
-        (Contains-map variable (definitions raw) l h) in
+    (Contains-map variable (definitions raw) l h) in
     (suc k, omega arith, is)
 
 -- what has a definition is defined
