@@ -1,6 +1,6 @@
 // What proofs do not see: values from outside, and that calls can succeed.
-use crate::{Bench, BenchFault, EditFault};
-use aig_base::{Circuit, Gate, Latch, List, Lit, MemWriter, Raw, Symbols, Tern};
+use crate::{Bench, EditFault};
+use aig_base::{Circuit, Gate, Latch, List, Lit, Raw, Symbols, Tern};
 use aig_sim::{ByteGrid, read_stimulus};
 use std::alloc::Global;
 use std::test::Fail;
@@ -111,47 +111,5 @@ fn bits_reach_later_frames(rt: HostRuntime) -> Result<(), Fail> {
     assert!(rt; bench.set_bit(0, 0, Tern::X).is_ok());
     assert_eq!(rt; bench.value(1, Lit::new(4)), Ok(Tern::X));
     assert_eq!(rt; bench.value(2, Lit::new(6)), Err(EditFault::Undefined));
-    Ok(())
-}
-
-#[test]
-fn widths_differ(rt: HostRuntime) -> Result<(), Fail> {
-    let circuit = circuit(rt.alloc(), two_gates(rt.alloc())?)?;
-    let stimulus = read_stimulus(rt.alloc(), b"111\n", 3)?;
-    let answer = Bench::<ByteGrid>::new(rt.alloc(), circuit, stimulus);
-    assert_eq!(rt; answer.err(), Some(BenchFault::Width));
-    Ok(())
-}
-
-// Whether the bench writes this trace, and a beginning of it where there is no room.
-fn writes(alloc: Global, bench: &Bench<ByteGrid>, trace: &[u8]) -> Result<bool, Fail> {
-    let mut out = MemWriter::new(alloc, 64)?;
-    let mut short = MemWriter::new(alloc, 3)?;
-    let whole = bench.write_trace(&mut out).is_ok();
-    let cut = bench.write_trace(&mut short).is_err();
-    Ok(whole && cut && out.bytes() == trace && trace.starts_with(short.bytes()))
-}
-
-#[test]
-fn traces_of_a_latch(rt: HostRuntime) -> Result<(), Fail> {
-    let alloc = rt.alloc();
-    let raw = with_latch(parts(alloc, 1, &[], &[2, 3])?, 2, 3, 0)?;
-    let toggle = bench(alloc, raw, 0, b"\n\n\n")?;
-    assert!(rt; writes(alloc, &toggle, b"0  01 1\n1  10 0\n0  01 1\n")?);
-    let raw = with_latch(parts(alloc, 1, &[], &[2, 3])?, 2, 3, 2)?;
-    let uninitialised = bench(alloc, raw, 0, b"\n")?;
-    assert!(rt; writes(alloc, &uninitialised, b"x  xx x\n")?);
-    Ok(())
-}
-
-#[test]
-fn traces_of_a_gate(rt: HostRuntime) -> Result<(), Fail> {
-    let alloc = rt.alloc();
-    let raw = with_gate(parts(alloc, 3, &[2, 4], &[6])?, 6, 2, 4)?;
-    let one_gate = bench(alloc, raw, 2, b"x0\nx1\n")?;
-    assert!(rt; writes(alloc, &one_gate, b" x0 0 \n x1 x \n")?);
-    let raw = with_gate(parts(alloc, 2, &[2], &[4])?, 4, 2, 3)?;
-    let a_and_not_a = bench(alloc, raw, 1, b"x\n")?;
-    assert!(rt; writes(alloc, &a_and_not_a, b" x x \n")?);
     Ok(())
 }
