@@ -2,7 +2,6 @@
 mod check;
 mod fakes;
 mod order;
-mod renumbering;
 
 use crate::{
     Bytes, Failed, Fault, Io, Kind, LIMIT, List, Lit, MemReader, MemWriter, Memory, Raw, Read, Std,
