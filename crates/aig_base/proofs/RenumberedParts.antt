@@ -109,6 +109,7 @@ module _ (raw : Raw) (sound : IsSound raw) (order : List ℕ) (canonical : IsCan
     };
     symbols = All-weaker (IsSymbolOf raw) (IsSymbolOf (renumbered raw order))
         (λ e h. (rw (lengths e.0.0) h.0, h.1)) raw.symbols formed.symbols;
+    names = formed.names;
   }
     where
       sums : (xs : List (List ℕ)) → sum_by length (map (map (renumbered_literal raw order)) xs) ≡ sum_by length xs

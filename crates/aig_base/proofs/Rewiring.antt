@@ -116,6 +116,7 @@ module _ (lhs r0 r1 : ℕ) where
         justice_literals = f.counts.justice_literals;
       };
       symbols = λ k d h. let s = f.symbols k d h in (subst (λ n. (get_or raw.symbols k d).0.1 < n) (gate_sections _) s.0, s.1);
+      names = f.names;
     }
 
     rewired_sides : (P : ℕ → Type 0) → P r0 → P r1 → All (λ g. P g.rhs0 × P g.rhs1) raw.gates
@@ -245,6 +246,7 @@ module _ (lit : ℕ) (w : Tern) where
         justice_literals = f.counts.justice_literals;
       };
       symbols = λ k d h. let s = f.symbols k d h in (subst (λ n. (get_or raw.symbols k d).0.1 < n) (reset_sections _) s.0, s.1);
+      names = f.names;
     }
 
     reset_in_range : IsSound raw → All (IsInRange raw) (definitions (with_reset raw lit w) ++ uses (with_reset raw lit w))

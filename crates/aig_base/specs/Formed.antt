@@ -1,6 +1,7 @@
--- Formed parts: counts within the limits (profile), and each symbol names an entry that is there (AIGER 1.0, symbol
--- table).
-use Rattle.std.specs.Prelude.{ℕ, ◌≤◌, ◌<◌, ◌≢◌, List, length, sum_by, All}
+-- Formed parts: counts within the limits (profile), and each symbol names an entry that is there, which has one name
+-- (AIGER 1.0, symbol table).
+use Rattle.std.specs.Prelude.{ℕ, ◌≤◌, ◌<◌, ◌≢◌, List, length, sum_by, All, AllPairs}
+use Rattle.std.specs.Map.{keys_of}
 use Rattle.aig_base.specs.declared.raw.Raw.{Raw}
 use Rattle.aig_base.specs.declared.symbols.Kind.{Kind}
 use Rattle.aig_base.specs.declared.symbols.Kind.TheVariants.{Input, Latch, Output, Bad, Constraint, Justice, Fairness}
@@ -27,6 +28,10 @@ IsName bytes = (0 < length bytes) × All (λ b. b ≢ 10) bytes
 abbrev pub IsSymbolOf : Raw → (Kind × ℕ) × List ℕ → Type 0
 IsSymbolOf raw e = (e.0.1 < section_length raw e.0.0) × IsName e.1
 
+-- no entry has two names
+abbrev pub AreNamedOnce : Raw → Type 0
+AreNamedOnce raw = AllPairs (λ x y. x ≢ y) (keys_of raw.symbols)
+
 -- no count is over the limit
 pub record CountsFit (raw : Raw) : Type 0 where
   pub max_var : raw.max_var ≤ limit
@@ -43,3 +48,4 @@ pub record CountsFit (raw : Raw) : Type 0 where
 pub record IsFormed (raw : Raw) : Type 0 where
   pub counts : CountsFit raw
   pub symbols : All (IsSymbolOf raw) raw.symbols
+  pub names : AreNamedOnce raw

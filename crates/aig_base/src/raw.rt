@@ -1,6 +1,6 @@
 //! The parts of a circuit, unchecked.
 ghost use Rattle.std.specs.Prelude.{◌≡◌, ◌≤◌, ◌↔◌, length, sum_by, All, IsTrue};
-ghost use Rattle.aig_base.specs.Formed.{limit, section_length, IsFormed, CountsFit, IsName, IsSymbolOf};
+ghost use Rattle.aig_base.specs.Formed.{limit, section_length, IsFormed, CountsFit, IsName, IsSymbolOf, AreNamedOnce};
 
 use crate::gate::Gate;
 use crate::latch::Latch;
@@ -85,7 +85,9 @@ impl Raw {
     }
 
     fn symbols_fit(&self) -> bool
-        ensures { IsTrue result ↔ All (IsSymbolOf self.now) self.now.symbols }
+        ensures fit { IsTrue result ↔ All (IsSymbolOf self.now) self.now.symbols }
+        // The table keeps this by its type.
+        ensures once { AreNamedOnce self.now }
     {
         self.symbols
             .iter()
@@ -93,7 +95,7 @@ impl Raw {
     }
 
     /// Whether the parts are within the limits, and each symbol names an entry that is there by one or more bytes
-    /// without LF.
+    /// without LF. (No entry has two names: the table of symbols keeps that by its type.)
     pub fn is_formed(&self) -> bool
         ensures { IsTrue result ↔ IsFormed self.now }
     {

@@ -145,5 +145,5 @@ ascii_again resets raw s =
           (fits_from_all IsLatch 0 raw.latches s.numbers.latches),
       properties_again c (properties_in raw) g (counted_properties raw) (fits_properties raw s),
       gates_again raw.gates n s.numbers.gates,
-      names_again c (names_in raw) (small_counts c (within_from raw s.formed)) (entries_from raw s.formed) s.names,
+      names_again c (names_in raw) (small_counts c (within_from raw s.formed)) (entries_from raw s.formed) s.formed.names,
     ) refl

@@ -307,6 +307,6 @@ binary_again resets raw s ready =
           (i + 1) resets raw.latches p latches,
       properties_again c (properties_in raw) g (counted_properties raw) (fits_properties raw s),
       deltas_again (i + l + 1) raw.gates n gates,
-      names_again c (names_in raw) (small_counts c w) (entries_from raw s.formed) s.names,
+      names_again c (names_in raw) (small_counts c w) (entries_from raw s.formed) s.formed.names,
     )
     (ap (λ (t : List ℕ). done (made t) []) (sym o.inputs))

@@ -59,9 +59,8 @@ ascii_spells bytes c left raw h fine r =
     let r2 : AsciiRead (counts_of raw) left raw = subst (λ (k : Counts). AsciiRead k left raw) is r in
     record {
       parts = record {
-        formed = formed_from raw h2.within r2.sum r2.entries;
+        formed = formed_from raw h2.within r2.sum r2.entries r2.once;
         numbers = r2.numbers;
-        names = r2.once;
         room = ltb-false _ _ fine2;
       };
       zeros = record { counts = h2.least; resets = r2.resets };
@@ -86,9 +85,8 @@ binary_spells bytes c left raw h fine r =
     let both = binary_numbers left raw r2 h2.within exact in
     record {
       parts = record {
-        formed = formed_from raw h2.within r2.fits.within r2.entries;
+        formed = formed_from raw h2.within r2.fits.within r2.entries r2.once;
         numbers = both.0;
-        names = r2.once;
         room = omega (arith, exact);
       };
       ready = both.1;

@@ -6,7 +6,7 @@ use Rattle.aig_base.specs.declared.raw.Raw.{Raw}
 use Rattle.aig_base.specs.declared.symbols.Kind.{Kind}
 use Rattle.aig_base.specs.declared.symbols.Kind.TheVariants.{Input, Latch, Output, Bad, Constraint, Justice, Fairness}
 use Rattle.aig_base.specs.Formed as formed
-use Rattle.aig_base.specs.Formed.{section_length, IsSymbolOf, CountsFit, IsFormed}
+use Rattle.aig_base.specs.Formed.{section_length, IsSymbolOf, AreNamedOnce, CountsFit, IsFormed}
 use Rattle.aig_format.specs.declared.header.Counts.{Counts}
 use Rattle.aig_format.specs.declared.section.Properties.{Properties}
 use Rattle.aig_format.specs.declared.symbol.Names.{Names}
@@ -68,8 +68,8 @@ entries_from raw f =
     f.symbols
 
 pub formed_from : (raw : Raw) → AreWithin (counts_of raw) → sum_by length raw.justice ≤ formed.limit
-    → All (IsEntry (counts_of raw)) raw.symbols → IsFormed raw
-formed_from raw w sum entries = record {
+    → All (IsEntry (counts_of raw)) raw.symbols → AreNamedOnce raw → IsFormed raw
+formed_from raw w sum entries once = record {
   counts = record {
     max_var = w.max_var;
     inputs = w.inputs;
@@ -85,6 +85,7 @@ formed_from raw w sum entries = record {
   symbols =
       All-weaker (IsEntry (counts_of raw)) (IsSymbolOf raw)
       (λ e s. ((let is = count_is raw e.0.0 in omega (arith, s.there, is)), s.named)) raw.symbols entries;
+  names = once;
 }
 
 pub fits_properties : (raw : Raw) → HasSpelling raw → FitsProperties (properties_in raw)

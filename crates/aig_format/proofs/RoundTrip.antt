@@ -22,7 +22,7 @@ use Rattle.aig_base.specs.Renumbered.{IsBinaryReady}
 use Rattle.aig_base.specs.Sections.{definitions, uses}
 use Rattle.aig_base.specs.Sound.{IsInRange, IsDefinition, IsReset, StandsTwice}
 use Rattle.aig_format.specs.Spelling.{no_zeros, short_ascii, short_binary}
-use Rattle.aig_format.specs.Spells.{greatest, AreSmall, HasSmallNumbers, AreNamedOnce, HasSpelling, SpellsAscii}
+use Rattle.aig_format.specs.Spells.{greatest, AreSmall, HasSmallNumbers, HasSpelling, SpellsAscii}
 use Rattle.aig_format.specs.Spells.{SpellsBinary}
 
 -- ---- numbers
@@ -147,14 +147,12 @@ room_of raw c =
 
 -- ---- spellings
 
-pub has_spelling : (raw : Raw) → IsCircuit raw → AreNamedOnce raw → HasSpelling raw
-has_spelling raw c once =
-    record { formed = c.formed; numbers = small_numbers raw c; names = once; room = room_of raw c }
+pub has_spelling : (raw : Raw) → IsCircuit raw → HasSpelling raw
+has_spelling raw c = record { formed = c.formed; numbers = small_numbers raw c; room = room_of raw c }
 
-pub ascii_round_trip : (raw : Raw) → IsCircuit raw → AreNamedOnce raw → SpellsAscii (short_ascii raw) raw
-ascii_round_trip raw c once = record { parts = has_spelling raw c once; zeros = no_zeros; spelled = refl }
+pub ascii_round_trip : (raw : Raw) → IsCircuit raw → SpellsAscii (short_ascii raw) raw
+ascii_round_trip raw c = record { parts = has_spelling raw c; zeros = no_zeros; spelled = refl }
 
-pub binary_round_trip : (raw : Raw) → IsCircuit raw → AreNamedOnce raw → IsBinaryReady raw
-    → SpellsBinary (short_binary raw) raw
-binary_round_trip raw c once ready =
-    record { parts = has_spelling raw c once; ready = ready; zeros = no_zeros; spelled = refl }
+pub binary_round_trip : (raw : Raw) → IsCircuit raw → IsBinaryReady raw → SpellsBinary (short_binary raw) raw
+binary_round_trip raw c ready =
+    record { parts = has_spelling raw c; ready = ready; zeros = no_zeros; spelled = refl }

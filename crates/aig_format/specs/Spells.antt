@@ -1,7 +1,6 @@
 -- What bytes spell. What makes parts a circuit, such as the range of literals and what a reset may be, is no part of
 -- it.
-use Rattle.std.specs.Prelude.{◌≡◌, ◌≢◌, ◌⊎◌, ℕ, ◌+◌, ◌≤◌, List, ◌++◌, length, true, All, AllPairs}
-use Rattle.std.specs.Map.{keys_of}
+use Rattle.std.specs.Prelude.{◌≡◌, ◌⊎◌, ℕ, ◌+◌, ◌≤◌, List, ◌++◌, length, true, All}
 use Rattle.aig_base.specs.declared.raw.Raw.{Raw}
 use Rattle.aig_base.specs.Formed.{IsFormed}
 use Rattle.aig_base.specs.Renumbered.{IsBinaryReady}
@@ -28,15 +27,10 @@ pub record HasSmallNumbers (raw : Raw) : Type 0 where
   pub fairness : AreSmall raw.fairness
   pub gates : All (λ g. (g.lhs ≤ greatest) × (g.rhs0 ≤ greatest) × (g.rhs1 ≤ greatest)) raw.gates
 
--- no entry has two names
-abbrev pub AreNamedOnce : Raw → Type 0
-AreNamedOnce raw = AllPairs (λ x y. x ≢ y) (keys_of raw.symbols)
-
 -- what parts need to have a spelling
 pub record HasSpelling (raw : Raw) : Type 0 where
   pub formed : IsFormed raw
   pub numbers : HasSmallNumbers raw
-  pub names : AreNamedOnce raw
   pub room : length raw.inputs + length raw.latches + length raw.gates ≤ raw.max_var
 
 -- the bytes are an ASCII file of these parts

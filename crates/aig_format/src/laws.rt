@@ -5,7 +5,7 @@ ghost use Rattle.aig_base.specs.Circuit.{IsCircuit};
 ghost use Rattle.aig_base.specs.Renumbered.{IsBinaryReady};
 ghost use Rattle.aig_format.specs.Delta.{delta};
 ghost use Rattle.aig_format.specs.Spelling.{short_ascii, short_binary};
-ghost use Rattle.aig_format.specs.Spells.{Spells, SpellsAscii, SpellsBinary, AreNamedOnce};
+ghost use Rattle.aig_format.specs.Spells.{Spells, SpellsAscii, SpellsBinary};
 
 /// No bytes spell two different parts, in one format or in both.
 pub fn law_of_one_reading()
@@ -23,10 +23,8 @@ pub fn law_of_deltas()
         → (m ≡ n) × (more ≡ others) }
 {}
 
-/// What the writers write spells the circuit, so that it reads back as the same circuit. A circuit's own table of
-/// symbols names no entry twice.
+/// What the writers write spells the circuit, so that it reads back as the same circuit.
 pub fn law_of_round_trip()
-    ensures ascii { (raw : Raw) → IsCircuit raw → AreNamedOnce raw → SpellsAscii (short_ascii raw) raw }
-    ensures binary { (raw : Raw) → IsCircuit raw → AreNamedOnce raw → IsBinaryReady raw
-        → SpellsBinary (short_binary raw) raw }
+    ensures ascii { (raw : Raw) → IsCircuit raw → SpellsAscii (short_ascii raw) raw }
+    ensures binary { (raw : Raw) → IsCircuit raw → IsBinaryReady raw → SpellsBinary (short_binary raw) raw }
 {}
