@@ -1,5 +1,6 @@
 pub mod BlockLemmas
 pub mod Chains
+pub mod Circuits
 pub mod Counting
 pub mod Defined
 pub mod Descents

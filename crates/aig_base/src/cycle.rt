@@ -8,7 +8,6 @@ ghost use Rattle.aig_base.specs.Sections.{IsDefined, IsLeftSide};
 
 use crate::circuit::Circuit;
 use crate::fault::Memory;
-use crate::gate_of::gate_of;
 use crate::literal::Lit;
 use crate::walk::Walk;
 use std::alloc::Global;
@@ -35,7 +34,7 @@ pub fn would_cycle(
         if number == gate.var() {
             return Ok(true);
         }
-        if let Some(read) = gate_of(circuit, number) {
+        if let Some(read) = circuit.gate_of(number) {
             walk.meet(read.rhs0.var())?;
             walk.meet(read.rhs1.var())?;
         }

@@ -7,7 +7,6 @@ ghost use Rattle.aig_base.specs.Literal.{variable};
 use crate::circuit::Circuit;
 use crate::fault::Memory;
 use crate::gate::Gate;
-use crate::gate_of::gate_of;
 use crate::walk::Walk;
 use std::alloc::Global;
 use std::marker::Model;
@@ -67,7 +66,7 @@ fn settle(circuit: &Circuit, walk: &mut Walk, levels: &mut [u32]) -> Result<(), 
     let _ = circuit.max_var();
     while let Some(top) = walk.pending.last().copied() {
         let mut level = 0;
-        if let Some(gate) = gate_of(circuit, top) {
+        if let Some(gate) = circuit.gate_of(top) {
             if let Some(side) = unmet_side(&walk.met, &gate) {
                 walk.meet(side)?;
                 continue;

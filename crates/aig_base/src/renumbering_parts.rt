@@ -1,7 +1,7 @@
 //! The parts of a circuit by a table of variables.
 ghost use Rattle.std.specs.Prelude.{◌≡◌, ◌≤◌, map, All, IfOk};
 ghost use Rattle.aig_base.specs.Formed.{limit};
-ghost use Rattle.aig_base.specs.Renumbered.{gate_of, ordered_gates};
+ghost use Rattle.aig_base.specs.Renumbered.{ordered_gates};
 ghost use Rattle.aig_base.specs.RenumberingTable.{literal_by, latch_by, gate_by, IsListed, IsLatchListed, IsGateListed};
 
 use crate::circuit::Circuit;
@@ -105,19 +105,6 @@ fn new_gate(table: &[u32], gate: Gate) -> Gate
     }
 }
 
-fn gate_of(circuit: &Circuit, variable: u32) -> Option<Gate>
-    ensures { result ≡ gate_of circuit.now variable }
-{
-    // Its contract tells that the parts are a circuit.
-    let _max_var = circuit.max_var();
-    match circuit.definition(variable) {
-        Some(Definition::Input(_)) => None,
-        Some(Definition::Latch(_)) => None,
-        Some(Definition::Gate(position)) => Some(circuit.gates()[position as usize]),
-        None => None,
-    }
-}
-
 /// The gates in the order, with the literals that stand for theirs, and the greater right side first.
 pub(crate) fn new_gates(
     alloc: Global,
@@ -131,7 +118,7 @@ pub(crate) fn new_gates(
 {
     let mut new = List::new(alloc);
     for variable in order {
-        if let Some(gate) = gate_of(circuit, *variable) {
+        if let Some(gate) = circuit.gate_of(*variable) {
             new.push(new_gate(table, gate))?;
         }
     }

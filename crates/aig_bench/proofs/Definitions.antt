@@ -1,35 +1,15 @@
 -- What the definition of a variable says of it.
-use Rattle.std.proofs.Common.{◌≡◌, ◌≢◌, inl, inr, ℕ, suc, map, Option, Some, None, is_some, IsTrue, IfSome, IfNone, ◌↔◌, Contains, refl, sym, subst, arith}
+use Rattle.std.proofs.Common.{◌≡◌, ◌≢◌, inl, inr, ℕ, suc, map, Option, Some, None, slice_get, is_some, IsTrue, IfSome, IfNone, ◌↔◌, Contains, refl, sym, subst, arith}
 use Rattle.std.proofs.lemmas.Bool.{false≢true}
 use Rattle.aig_base.specs.declared.gate.Gate.{Gate}
 use Rattle.aig_base.specs.declared.raw.Raw.{Raw}
 use Rattle.aig_base.specs.declared.definition.Definition.{Definition}
 use Rattle.aig_base.specs.declared.definition.Definition.TheVariants as definition
 use Rattle.aig_base.specs.Definition.{Defines, IsFree}
-use Rattle.aig_base.specs.Grounded as grounded
-use Rattle.aig_base.specs.Grounded.{IsSource}
 use Rattle.aig_base.specs.Literal.{variable}
 use Rattle.aig_base.specs.Sections.{definitions, IsDefined, IsGate}
-use Rattle.aig_base.specs.Sound.{IsSound}
-use Rattle.aig_base.proofs.Positions.{Contains-cons, unmap}
-use Rattle.aig_bench.specs.Plan.{IsGateOf}
-use Rattle.aig_bench.proofs.Circuits.{gate_is, input_stands, latch_stands, gate_stands, source-gate, contains_variable}
-
-module _ (raw : Raw) (sound : IsSound raw) where
-  -- a variable that nothing defines is none of a gate
-  pub free-gate : (v : ℕ) → IsFree raw v → IsGate raw v → ⊥
-  free-gate v free k =
-      let (g, q, at, is) = unmap (λ (g : Gate). variable g.lhs) raw.gates v k in
-      free (subst (Contains (map variable (definitions raw))) is
-      (contains_variable (definitions raw) g.lhs (gate_stands raw q g at)))
-
-  pub input-gate : (v p : ℕ) → Defines raw v (definition.Input p) → IsGate raw v → ⊥
-  input-gate v p (l, at, is) k =
-      source-gate raw sound v (subst (IsSource raw) is (grounded.IsSource.input p l at)) k
-
-  pub latch-gate : (v p : ℕ) → Defines raw v (definition.Latch p) → IsGate raw v → ⊥
-  latch-gate v p (x, at, is) k =
-      source-gate raw sound v (subst (IsSource raw) is (grounded.IsSource.latch p x at)) k
+use Rattle.aig_base.proofs.Positions.{Contains-cons}
+use Rattle.aig_base.proofs.Circuits.{gate_is, input_stands, latch_stands, gate_stands, contains_variable}
 
 module _ (raw : Raw) where
   defines_stands : (v : ℕ) (d : Definition) → Defines raw v d → Contains (map variable (definitions raw)) v
@@ -60,7 +40,7 @@ pub zero_defined : (raw : Raw) (v : ℕ) → v ≡ 0 → IsDefined raw v
 zero_defined raw v e = (0, omega arith, sym e)
 
 -- whether a variable is one of a gate
-pub decides_gate : (raw : Raw) (v : ℕ) (o : Option Gate) → IfSome o (IsGateOf raw v) → IfNone o (IsGate raw v → ⊥)
+pub decides_gate : (raw : Raw) (v : ℕ) (o : Option Gate) → IfSome o (λ g. (q : ℕ) × (slice_get raw.gates q ≡ Some g) × (variable g.lhs ≡ v)) → IfNone o (IsGate raw v → ⊥)
     → IsTrue (is_some o) ↔ IsGate raw v
 decides_gate raw v None some none = (λ h. absurd (false≢true h), λ k. absurd (none k))
 decides_gate raw v (Some g) (q, at, is) none = (λ h. subst (IsGate raw) is (gate_is raw q g at), λ k. refl)

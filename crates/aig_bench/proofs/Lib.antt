@@ -1,10 +1,7 @@
 pub mod Cells
-pub mod Circuits
 pub mod Definitions
 pub mod Earlier
-pub mod Gathered
 pub mod Layouts
-pub mod Orders
 pub mod Refusals
 pub mod Renewals
 pub mod Steps

@@ -13,10 +13,11 @@ use Rattle.aig_base.proofs.Defined.{defined_cases}
 use Rattle.aig_sim.specs.InputRows.{row_at, with_cell}
 use Rattle.aig_bench.specs.declared.plan.Plan.{Plan}
 use Rattle.aig_bench.specs.Pair.{Pair, HasValue}
-use Rattle.aig_bench.specs.Plan.{IsReady, IsGateOrder, pair_of}
+use Rattle.aig_sim.specs.GateOrder.{IsReady, IsGateOrder}
+use Rattle.aig_bench.specs.Plan.{pair_of}
 use Rattle.aig_bench.specs.Current.{AreGateFlags, IsLaidOut, Holds, HoldsSources, IsCurrentRow, IsCurrentBefore, AreCurrent, Renews}
 use Rattle.aig_bench.proofs.Cells.{get_set_other, row_written, row_other, frames_written}
-use Rattle.aig_bench.proofs.Circuits.{source-gate}
+use Rattle.aig_base.proofs.Circuits.{source-gate}
 use Rattle.aig_bench.proofs.Values.{holds_new, holds_still}
 
 module _ (p : Pair) (t : ℕ) where

@@ -11,31 +11,9 @@ use Rattle.aig_bench.specs.declared.plan.Plan.{Plan}
 use Rattle.aig_bench.specs.Pair.{HasValue}
 use Rattle.aig_bench.specs.Plan.{IsPlan, pair_of}
 use Rattle.aig_bench.specs.Current.{AreGateFlags, IsLaidOut, Holds, HoldsSources, Renews}
-use Rattle.aig_bench.proofs.Circuits.{gate_definition, gate_in_range}
+use Rattle.aig_base.proofs.Circuits.{gate_definition, gate_in_range}
 use Rattle.aig_bench.proofs.Renewals.{renews_then, renews_write, holds_written, ready_holds}
 use Rattle.aig_bench.proofs.Values.{gate_has_value}
-
--- the item that a loop reads
-pub item_at : {X : Type 0} (xs ys : List X) (n : ℕ) (x : X) → xs ≡ ys → n < length xs → x ≡ get_or xs n x
-    → slice_get ys n ≡ Some x
-item_at xs ys n x e lt is = rw (← e) (slice_get_read xs (length xs) n x refl lt is)
-
--- what holds of the first n items, and of the next
-pub items_more : {X : Type 0} (P : X → Type 0) (xs : List X) (n : ℕ) (x : X) → slice_get xs n ≡ Some x
-    → ((i : ℕ) (y : X) → i < n → slice_get xs i ≡ Some y → P y) → P x
-    → (i : ℕ) (y : X) → i < n + 1 → slice_get xs i ≡ Some y → P y
-items_more P xs n x at before here i y lt is = elim (cases_eq i n) [
-  | inl e ↦
-      let same : slice_get xs i ≡ Some x = ap (slice_get xs) e ∙ at in
-      let f : x ≡ y = cc in
-      subst P f here
-  | inr ne ↦ before i y (omega arith) is
-]
-
--- what holds of the first n items where there are no more
-pub items_all : {X : Type 0} (P : X → Type 0) (xs : List X) (n : ℕ) → length xs ≤ n
-    → ((i : ℕ) (y : X) → i < n → slice_get xs i ≡ Some y → P y) → (i : ℕ) (y : X) → slice_get xs i ≡ Some y → P y
-items_all P xs n le before i y is = let w = slice_get_within xs i y is in before i y (omega arith) is
 
 -- what a write did to the cells, and what holds of it
 pub record Written (plan : Plan) (t u : ℕ) (start old new : List (List Tern)) : Type 0 where

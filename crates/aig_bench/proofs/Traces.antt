@@ -15,7 +15,7 @@ use Rattle.aig_sim.specs.Trace.{AreValues, IsLine, AreLines}
 use Rattle.aig_bench.specs.Pair.{Pair, HasTrace}
 use Rattle.aig_bench.specs.Current.{Holds, IsCurrentRow, AreCurrent}
 use Rattle.aig_bench.specs.TraceText.{cell_text, line_text}
-use Rattle.aig_bench.proofs.Circuits.{input_in_range, latch_in_range, next_in_range, output_in_range, input_defined, latch_defined, next_defined, output_defined}
+use Rattle.aig_base.proofs.Circuits.{input_in_range, latch_in_range, next_in_range, output_in_range, input_defined, latch_defined, next_defined, output_defined}
 use Rattle.aig_bench.proofs.Values.{literal_has_value}
 
 module _ (p : Pair) (t : ℕ) (row : List Tern) (sound : IsSound p.circuit) where

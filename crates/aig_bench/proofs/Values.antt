@@ -21,7 +21,7 @@ use Rattle.aig_sim.specs.InputRows.{row_at}
 use Rattle.aig_bench.specs.Pair.{Pair, HasValue}
 use Rattle.aig_bench.specs.Current.{Holds, HoldsInputs, HoldsLatches, HoldsSources, IsCurrentRow}
 use Rattle.aig_bench.proofs.Cells.{get_set_same, get_set_other}
-use Rattle.aig_bench.proofs.Circuits.{input_definition, latch_definition, gate_definition, next_defined}
+use Rattle.aig_base.proofs.Circuits.{input_definition, latch_definition, gate_definition, next_defined}
 
 -- the value of a definition's literal is that of its variable's even literal
 value_of_variable : (p : Pair) (t l : ℕ) (w : Tern) → IsDefinition l → HasValue p t l w

@@ -10,13 +10,12 @@ ghost use Rattle.aig_bench.specs.Question.{AnswersValue};
 
 use crate::bench_fault::BenchFault;
 use crate::edit::{EditFault, EditReport};
-use crate::gate_order::gate_order;
 use crate::layout::lay_out;
 use crate::plan::Plan;
 use crate::renew::{literal_at, renew};
 use crate::trace::write_frames;
 use aig_base::{Circuit, Io, Lit, Memory, Tern, Write};
-use aig_sim::{Grid, Stimulus};
+use aig_sim::{Grid, Stimulus, gates_in_order};
 use std::alloc::Global;
 use std::marker::Model;
 
@@ -76,7 +75,7 @@ fn make_plan(alloc: Global, circuit: Circuit, stimulus: Stimulus) -> Result<Plan
     let _max_var = circuit.max_var();
     let _width = stimulus.width();
     let _frames = stimulus.frames();
-    let gates = gate_order(alloc, &circuit)?;
+    let gates = gates_in_order(alloc, &circuit)?;
     Ok(Plan {
         circuit,
         gates,

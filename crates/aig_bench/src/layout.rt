@@ -3,7 +3,6 @@ ghost use Rattle.std.specs.Prelude.{◌≡◌, ◌+◌, ◌*◌, ◌<◌, ◌≤
 ghost use Rattle.aig_bench.specs.Plan.{IsPlan};
 ghost use Rattle.aig_bench.specs.Current.{AreGateFlags, IsLaidOut};
 
-use crate::gate_order::gate_of;
 use crate::plan::Plan;
 use aig_base::{Circuit, Memory};
 use aig_sim::Grid;
@@ -15,7 +14,7 @@ fn gate_flags(alloc: Global, circuit: &Circuit) -> Result<Vec<bool>, Memory>
 {
     let mut flags = Vec::new(alloc);
     for variable in 0..circuit.max_var() + 1 {
-        flags.push(gate_of(circuit, variable).is_some())?;
+        flags.push(circuit.gate_of(variable).is_some())?;
     }
     Ok(flags)
 }

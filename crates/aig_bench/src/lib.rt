@@ -4,7 +4,6 @@
 mod bench;
 mod bench_fault;
 mod edit;
-mod gate_order;
 mod layout;
 mod plan;
 mod renew;

@@ -21,7 +21,7 @@ use Rattle.aig_base.proofs.UniqueValue.{unique}
 use Rattle.aig_sim.specs.Cells.{literal_value, gate_value}
 use Rattle.aig_sim.specs.Frame.{HasValue, Holds, Renews, HoldsInputs, HoldsLatches, HoldsSources, HoldsAll, AreStates}
 use Rattle.aig_sim.specs.GateOrder.{IsReady, IsGateOrder}
-use Rattle.aig_sim.proofs.Circuits.{input_definition, latch_definition, gate_definition}
+use Rattle.aig_base.proofs.Circuits.{input_definition, latch_definition, gate_definition}
 
 -- the item that a loop reads
 pub item_at : {A : Type 0} (xs ys : List A) (n : ℕ) (x : A) → xs ≡ ys → n < length xs → x ≡ get_or xs n x

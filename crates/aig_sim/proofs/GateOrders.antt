@@ -11,16 +11,12 @@ use Rattle.aig_base.specs.Grounded.{IsSource, Level}
 use Rattle.aig_base.specs.Grounded as by
 use Rattle.aig_base.specs.Literal.{variable}
 use Rattle.aig_base.specs.Order.{ComesBefore, IsCanonicalOrder}
-use Rattle.aig_base.specs.Sections.{definitions, IsDefined, IsGate}
-use Rattle.aig_base.specs.declared.definition.Definition.{Definition}
-use Rattle.aig_base.specs.declared.definition.Definition.TheVariants as definition
-use Rattle.aig_base.specs.Definition.{Defines, IsFree}
-use Rattle.std.specs.Prelude.{Option, None, IfSome, IfNone}
+use Rattle.aig_base.specs.Sections.{IsDefined, IsGate}
 use Rattle.aig_base.proofs.Defined.{defined_cases, Grounded-of_defined}
 use Rattle.aig_base.proofs.OneLevel.{level_of, same_level}
-use Rattle.aig_base.proofs.Positions.{Contains-from_slice_get, position_of, unmap}
+use Rattle.aig_base.proofs.Positions.{Contains-from_slice_get, unmap}
 use Rattle.aig_sim.specs.GateOrder.{IsReady, IsGateOrder, AreGatesOf}
-use Rattle.aig_sim.proofs.Circuits.{rhs0_defined, rhs1_defined, gate_stands, source-gate}
+use Rattle.aig_base.proofs.Circuits.{rhs0_defined, rhs1_defined}
 
 -- one gate more
 pub gates_more : {raw : Raw} {vs : List ℕ} {gates : List Gate} (v : ℕ) (g : Gate) → AreGatesOf raw vs gates
@@ -110,20 +106,3 @@ module _ (raw : Raw) (circuit : IsCircuit raw) (order : List ℕ) (gates : List 
     ready1 = λ q g at. let (r, stands) = known q g at in
         ready q g (variable g.rhs1) at (inr refl) (rhs1_defined raw circuit.sound r g stands);
   }
-
--- what defines a gate's variable
-pub definition_of_gate : (raw : Raw) (v : ℕ) (o : Option Definition) → IsCircuit raw → IsGate raw v
-    → IfSome o (Defines raw v)
-    → IfNone o (IsFree raw v)
-    → (p : ℕ) × (g : Gate) × (o ≡ Some (definition.Gate p)) × (slice_get raw.gates p ≡ Some g) × (variable g.lhs ≡ v)
-definition_of_gate raw v None circuit h some none =
-    let (g, q, at, is) = unmap (λ (g : Gate). variable g.lhs) raw.gates v h in
-    absurd (none (subst (Contains (map variable (definitions raw))) is
-    (let (i, stands) = position_of (definitions raw) g.lhs (gate_stands raw circuit.sound q g at) in
-    Contains-from_slice_get (map variable (definitions raw)) i (variable g.lhs)
-    (slice_get-map variable (definitions raw) i ∙ ap (option_map variable) stands))))
-definition_of_gate raw v (Some (definition.Gate p)) circuit h (g, at, is) none = (p, g, refl, at, is)
-definition_of_gate raw v (Some (definition.Input p)) circuit h (l, at, is) none =
-    absurd (source-gate raw circuit.sound v (subst (IsSource raw) is (by.input p l at)) h)
-definition_of_gate raw v (Some (definition.Latch p)) circuit h (x, at, is) none =
-    absurd (source-gate raw circuit.sound v (subst (IsSource raw) is (by.latch p x at)) h)

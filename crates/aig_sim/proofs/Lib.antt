@@ -1,4 +1,3 @@
-pub mod Circuits
 pub mod Evaluation
 pub mod GateOrders
 pub mod LineLemmas

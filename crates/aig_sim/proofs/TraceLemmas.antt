@@ -13,7 +13,7 @@ use Rattle.aig_sim.specs.Frame.{HasValue, HoldsAll, AreStates}
 use Rattle.aig_sim.specs.Machine.{Steps}
 use Rattle.aig_sim.specs.StimulusText.{character}
 use Rattle.aig_sim.specs.Trace.{AreValues}
-use Rattle.aig_sim.proofs.Circuits.{next_defined, output_defined}
+use Rattle.aig_base.proofs.Circuits.{next_defined, output_defined}
 use Rattle.aig_sim.proofs.Evaluation.{literal_has_value}
 
 -- lists of one length, place by place

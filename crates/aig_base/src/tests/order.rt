@@ -3,7 +3,6 @@ ghost use Rattle.std.specs.Prelude.{IsTrue};
 ghost use Rattle.aig_base.specs.Literal.{variable};
 ghost use Rattle.aig_base.specs.Sections.{IsDefined};
 
-use crate::gate_of::gate_of;
 use crate::{Circuit, Gate, Levels, List, Lit, Raw, Symbols, canonical_order, would_cycle};
 use std::alloc::Global;
 use std::test::Fail;
@@ -76,7 +75,7 @@ fn is_defined(circuit: &Circuit, literal: Lit) -> bool
 
 // Whether other right sides of the gate with a variable would close a cycle.
 fn closes(alloc: Global, circuit: &Circuit, gate: u32, r0: u32, r1: u32) -> Result<bool, Fail> {
-    let Some(gate) = gate_of(circuit, gate) else {
+    let Some(gate) = circuit.gate_of(gate) else {
         return Err("no gate".into());
     };
     let first = Lit::new(r0);

@@ -11,7 +11,7 @@ use Rattle.aig_base.proofs.renumbering_parts.new_gates.Goals as goal
 
 pub new_gate-requires-clause-listed : goal.new_gate-requires-clause-listed
 new_gate-requires-clause-listed c =
-    let (q, at, is) = gate_stands c.args.circuit.now _ c.in-Some.gate (sym c.in-Some.ensures) in
+    let (q, at, is) = gate_stands c.args.circuit.now _ c.in-Some.gate (sym c.in-Some.ensures.is) in
     All-contains (IsGateListed c.args.table.now) c.args.circuit.now.gates c.in-Some.gate c.requires.listed
     (Contains-from_slice_get _ q _ at)
 
@@ -25,12 +25,12 @@ loop-variable-preserved c = elim c.match-gate_of.branch [
       w.new-is ∙ w.in_ok-push.ensures.ok ∙ ap₂ (λ (gs : List Gate) (g : Gate). gs ++ g ∷ [])
       c.loop-variable.invariant w.new_gate.ensures
       ∙ sym (map-append by (ordered_gates raw (take i order)) (w.in-Some.gate ∷ []))
-      ∙ sym (ap (map by) (ordered_some raw order i w.in-Some.gate c.loop-variable-test.true (sym w.in-Some.ensures)))
+      ∙ sym (ap (map by) (ordered_some raw order i w.in-Some.gate c.loop-variable-test.true (sym w.in-Some.ensures.is)))
   | in_default w ↦
       let raw = c.args.circuit.now in
       let order = c.args.order.now in
       let i = c.loop-variable.variable-index in
       w.new-is ∙ c.loop-variable.invariant
       ∙ sym (ap (map (gate_by c.args.table.now))
-      (ordered_none raw order i c.loop-variable-test.true (sym c.gate_of.ensures ∙ w.in_default.is)))
+      (ordered_none raw order i c.loop-variable-test.true (sym c.gate_of.ensures.is ∙ w.in_default.is)))
 ]

@@ -8,4 +8,4 @@ loop-variable-preserved c =
     (flags_more c.args.circuit.now c.loop-variable.variable c.loop-variable.flags.items c.is_some.result
     c.loop-variable.invariant
     (rw c.is_some.ensures (decides_gate c.args.circuit.now c.loop-variable.variable c.gate_of.result
-    c.gate_of.ensures.some c.gate_of.ensures.none)))
+    c.gate_of.ensures.found c.gate_of.ensures.none)))

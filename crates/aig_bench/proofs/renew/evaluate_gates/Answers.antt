@@ -3,9 +3,10 @@ use Rattle.aig_base.specs.Literal.{variable}
 use Rattle.aig_sim.specs.InputRows.{row_at}
 use Rattle.aig_bench.specs.Plan.{pair_of}
 use Rattle.aig_bench.specs.Current.{Holds}
-use Rattle.aig_bench.proofs.Circuits.{gate_definition, gate_in_range, gate_is, rhs0_in_range, rhs1_in_range}
+use Rattle.aig_base.proofs.Circuits.{gate_definition, gate_in_range, gate_is, rhs0_in_range, rhs1_in_range}
 use Rattle.aig_bench.proofs.Renewals.{gate_flag, row_current}
-use Rattle.aig_bench.proofs.Steps.{item_at, items_more, items_all, Written, evaluated, flags_still}
+use Rattle.aig_sim.proofs.Evaluation.{item_at, items_more, items_all}
+use Rattle.aig_bench.proofs.Steps.{Written, evaluated, flags_still}
 use Rattle.aig_bench.proofs.renew.evaluate_gates.Goals as goal
 
 pub evaluate-requires-clause-even : goal.evaluate-requires-clause-even

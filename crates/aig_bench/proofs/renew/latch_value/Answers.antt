@@ -1,6 +1,6 @@
 use Rattle.std.proofs.Common.{◌≡◌, ◌-◌, suc, arith}
 use Rattle.aig_bench.specs.Plan.{pair_of}
-use Rattle.aig_bench.proofs.Circuits.{next_in_range}
+use Rattle.aig_base.proofs.Circuits.{next_in_range}
 use Rattle.aig_bench.proofs.Values.{latch_starts, latch_follows}
 use Rattle.aig_bench.proofs.renew.latch_value.Goals as goal
 

@@ -5,9 +5,10 @@ use Rattle.aig_base.specs.Sound.{IsDefinition}
 use Rattle.aig_sim.specs.InputRows.{row_at}
 use Rattle.aig_bench.specs.Plan.{pair_of}
 use Rattle.aig_bench.specs.Current.{Holds}
-use Rattle.aig_bench.proofs.Circuits.{latch_definition, latch_in_range}
+use Rattle.aig_base.proofs.Circuits.{latch_definition, latch_in_range}
 use Rattle.aig_bench.proofs.Renewals.{source_flag, laid_out_renewed, before_renewed}
-use Rattle.aig_bench.proofs.Steps.{item_at, items_more, items_all, Written, written, flags_still}
+use Rattle.aig_sim.proofs.Evaluation.{item_at, items_more, items_all}
+use Rattle.aig_bench.proofs.Steps.{Written, written, flags_still}
 use Rattle.aig_bench.proofs.Values.{latch_value}
 use Rattle.aig_bench.proofs.renew.put_latches.Goals as goal
 

@@ -1,5 +1,5 @@
 use Rattle.std.proofs.Common.{arith}
-use Rattle.aig_sim.proofs.Circuits.{gate_in_range, rhs0_in_range, rhs1_in_range}
+use Rattle.aig_base.proofs.Circuits.{gate_in_range, rhs0_in_range, rhs1_in_range}
 use Rattle.aig_sim.proofs.frame.evaluate_row.Goals as goal
 
 pub evaluate_frame-requires : goal.evaluate_frame-requires

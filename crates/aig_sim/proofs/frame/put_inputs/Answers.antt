@@ -4,7 +4,7 @@ use Rattle.aig_base.specs.declared.ternary.Tern.{Tern}
 use Rattle.aig_base.specs.declared.ternary.Tern.TheVariants.{Zero}
 use Rattle.aig_base.specs.Literal.{variable}
 use Rattle.aig_sim.specs.Frame.{Holds}
-use Rattle.aig_sim.proofs.Circuits.{input_in_range}
+use Rattle.aig_base.proofs.Circuits.{input_in_range}
 use Rattle.aig_sim.proofs.Evaluation.{item_at, items_more, items_all, input_value, put_value}
 use Rattle.aig_sim.proofs.frame.put_inputs.Goals as goal
 

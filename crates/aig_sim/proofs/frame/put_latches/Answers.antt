@@ -5,7 +5,7 @@ use Rattle.aig_base.specs.declared.ternary.Tern.TheVariants.{Zero}
 use Rattle.aig_base.specs.declared.latch.Latch.{Latch}
 use Rattle.aig_base.specs.Literal.{variable}
 use Rattle.aig_sim.specs.Frame.{AreStates, Holds}
-use Rattle.aig_sim.proofs.Circuits.{latch_in_range}
+use Rattle.aig_base.proofs.Circuits.{latch_in_range}
 use Rattle.aig_sim.proofs.Evaluation.{item_at, items_more, items_all, latch_value, put_value}
 use Rattle.aig_sim.proofs.frame.put_latches.Goals as goal
 

@@ -1,5 +1,5 @@
 use Rattle.std.proofs.Common.{◌≡◌, Some, slice_get, arith}
-use Rattle.aig_sim.proofs.Circuits.{next_in_range}
+use Rattle.aig_base.proofs.Circuits.{next_in_range}
 use Rattle.aig_sim.proofs.Evaluation.{item_at}
 use Rattle.aig_sim.proofs.frame.renew_states.Goals as goal
 

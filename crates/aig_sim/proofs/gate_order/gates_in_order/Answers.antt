@@ -6,8 +6,8 @@ use Rattle.aig_sim.specs.GateOrder.{AreGatesOf, IsGateOrder}
 use Rattle.aig_sim.proofs.GateOrders.{gate_order}
 use Rattle.aig_sim.proofs.gate_order.gates_in_order.Goals as goal
 
-pub gates_of-requires-clause-gates : goal.gates_of-requires-clause-gates
-gates_of-requires-clause-gates c =
+pub gates_of-requires : goal.gates_of-requires
+gates_of-requires c =
     let order = c.in_ok-order.order.items in
     subst (All (IsGate c.args.circuit.now)) (sym c.deref.ensures.value)
     (λ k d lt. (c.in_ok-order.ensures.gates _).0 (Contains-get_or order k d lt))

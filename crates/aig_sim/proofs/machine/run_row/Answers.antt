@@ -2,7 +2,7 @@ use Rattle.std.proofs.Common.{◌≡◌, ◌++◌, ◌∷◌, [], ℕ, List, len
 use Rattle.aig_sim.specs.Cells.{literal_value}
 use Rattle.aig_sim.specs.Machine.{TraceLine}
 use Rattle.aig_sim.specs.StimulusText.{character}
-use Rattle.aig_sim.proofs.Circuits.{output_in_range}
+use Rattle.aig_base.proofs.Circuits.{output_in_range}
 use Rattle.aig_sim.proofs.TraceLemmas.{steps, states_stay, last_row}
 use Rattle.aig_sim.proofs.machine.run_row.Goals as goal
 
