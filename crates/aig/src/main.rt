@@ -44,3 +44,6 @@ fn run_words<R: Files + AllocGlobal + Print + Eprint>(
 ) -> Result<(), Stop> {
     words::task_of(rt, words)?.run(rt)
 }
+
+#[cfg(test)]
+mod tests;

@@ -1,0 +1,5 @@
+//! What no clause says: that runs succeed where there is memory, and worked examples from bytes to bytes.
+mod conversions;
+mod fakes;
+mod scripts;
+mod traces;

@@ -1,0 +1,68 @@
+use crate::conversion::convert;
+use crate::run_fault::RunFault;
+use aig_base::{Fault, MemWriter};
+use aig_format::Format;
+use std::test::Fail;
+
+const TWO_GATES: &[u8] = b"aag 4 2 0 1 2\n2\n4\n8\n8 6 2\n6 2 4\n";
+
+#[test]
+fn files_are_converted(rt: HostRuntime) -> Result<(), Fail> {
+    for (file, to, bytes) in [
+        (
+            b"aag 0 0 0 0 0\n".as_slice(),
+            Format::Binary,
+            b"aig 0 0 0 0 0\n".as_slice(),
+        ),
+        (
+            b"aag 3 2 0 1 1\n2\n4\n6\n6 2 4\n",
+            Format::Binary,
+            b"aig 3 2 0 1 1\n6\n\x02\x02",
+        ),
+        (TWO_GATES, Format::Ascii, TWO_GATES),
+        (
+            TWO_GATES,
+            Format::Binary,
+            b"aig 4 2 0 1 2\n8\n\x02\x02\x02\x04",
+        ),
+        (
+            b"aag 7 1 0 1 2\n14\n5\n4 10 14\n10 14 15\n",
+            Format::Binary,
+            b"aig 3 1 0 1 2\n7\n\x01\x01\x02\x02",
+        ),
+        (
+            b"aag 4 1 0 1 3\n2\n8\n4 2 2\n6 4 2\n8 2 2\n",
+            Format::Binary,
+            b"aig 4 1 0 1 3\n8\n\x02\x00\x02\x02\x06\x00",
+        ),
+        (
+            b"aag 1 1 0 0 0 0 1 0 0\n2\n2\nc0 go\nc\nhi",
+            Format::Ascii,
+            b"aag 1 1 0 0 0 0 1\n2\n2\nc0 go\nc\nhi",
+        ),
+    ] {
+        let mut out = MemWriter::new(rt.alloc(), 100)?;
+        convert(rt.alloc(), file, to, &mut out)?;
+        assert_eq!(rt; out.bytes(), bytes);
+    }
+    Ok(())
+}
+
+#[test]
+fn a_refused_file_writes_nothing(rt: HostRuntime) -> Result<(), Fail> {
+    let mut out = MemWriter::new(rt.alloc(), 100)?;
+    let cycle = b"aag 3 1 0 1 2\n2\n4\n4 6 2\n6 4 2\n";
+    let done = convert(rt.alloc(), cycle, Format::Ascii, &mut out);
+    assert_eq!(rt; done, Err(RunFault::Circuit(Fault::Cycle(2))));
+    assert_eq!(rt; out.bytes(), b"".as_slice());
+    Ok(())
+}
+
+#[test]
+fn a_full_writer_ends_a_conversion(rt: HostRuntime) -> Result<(), Fail> {
+    let mut out = MemWriter::new(rt.alloc(), 3)?;
+    let done = convert(rt.alloc(), TWO_GATES, Format::Ascii, &mut out);
+    assert_eq!(rt; done, Err(RunFault::Output));
+    assert_eq!(rt; out.bytes(), b"aag".as_slice());
+    Ok(())
+}
