@@ -98,6 +98,8 @@ file rows '11\n1z\n'
 row 'bench: a refused stimulus' 1 '' 'aig: stimulus: character in line 2\n' bench two_gates rows script
 file rows '11\n01\n'
 row 'bench: a refused circuit' 1 '' 'aig: circuit: cycle 2\n' bench cycle rows script
+row 'bench: a refused example' 1 '' 'aig: circuit: cycle 2\n' bench "$examples/cyclic.aag" "$examples/two_gates.stim" \
+    "$examples/two_gates.script"
 row 'bench: a circuit wins over a stimulus' 1 '' 'aig: circuit: cycle 2\n' bench reads_itself two_gates script
 row 'bench: no circuit file' 3 '' 'aig: circuit: input or output\n' bench nowhere rows script
 row 'bench: no stimulus file' 3 '' 'aig: stimulus: input or output\n' bench two_gates nowhere script
