@@ -6,6 +6,34 @@ use std::alloc::{AllocError, Global};
 
 static FORMATS: [&str; 2] = ["aag", "aig"];
 
+static AFTER_TOAIG: &str =
+    "A circuit whose variables are not in order is renumbered for aig; names and comment stay.
+
+Example: aig toaig --to aig examples/two_gates.aag > two_gates.aig
+The formats are described in docs/FORMATS.md.";
+
+static AFTER_SIM: &str =
+    "A line holds the state, the inputs, the outputs and the next state, with one space between them.
+
+Example: aig sim examples/counter.aag examples/counter.stim
+The formats are described in docs/FORMATS.md.";
+
+static AFTER_BENCH: &str = "Lines of a script; frames and inputs count from 0:
+  s T P V    sets input P of frame T to V, which is 0, 1 or x; the reply is ok
+  v T L      asks for literal L at frame T; the reply is 0, 1 or x
+  t          asks for the trace of all frames; the reply ends with a line .
+A literal is twice its variable, and one more where it is negated. A line that cannot be done is answered
+no and a number, a line that is none of these bad.
+
+Example: aig bench examples/two_gates.aag examples/two_gates.stim examples/two_gates.script
+Scripts and numbers are described in docs/BEHAVIOUR.md.";
+
+static AFTER_ALL: &str =
+    "Exit status: 0 done, 1 refused input, 2 wrong words, 3 memory, input or output.
+
+Example: aig sim examples/counter.aag examples/counter.stim
+What runs is described in docs/BEHAVIOUR.md, the formats in docs/FORMATS.md.";
+
 fn format_argument<'a>(alloc: Global) -> Arg<'a> {
     let format = argument(
         alloc,
@@ -35,7 +63,7 @@ fn stimulus_argument<'a>(alloc: Global) -> Arg<'a> {
     argument(
         alloc,
         "STIM",
-        "The file of the stimulus: a line for each step, with a 0, 1 or x for each input",
+        "The file of the stimulus: a line for each frame, with a 0, 1 or x (unknown) for each input",
     )
 }
 
@@ -50,23 +78,25 @@ fn script_argument<'a>(alloc: Global) -> Arg<'a> {
 fn toaig_command<'a>(alloc: Global) -> Result<Command<'a>, AllocError> {
     Command::new(alloc, "toaig")
         .about("Writes a circuit in another format")
-        .after_help("Example: aig toaig --to aig adder.aag > adder.aig")
+        .after_help(AFTER_TOAIG)
         .arg(format_argument(alloc))?
         .arg(circuit_argument(alloc))
 }
 
 fn sim_command<'a>(alloc: Global) -> Result<Command<'a>, AllocError> {
     Command::new(alloc, "sim")
-        .about("Simulates a circuit, and writes a line for each step")
-        .after_help("Example: aig sim adder.aag adder.stim")
+        .about("Simulates a circuit, and writes a line for each frame")
+        .after_help(AFTER_SIM)
         .arg(circuit_argument(alloc))?
         .arg(stimulus_argument(alloc))
 }
 
 fn bench_command<'a>(alloc: Global) -> Result<Command<'a>, AllocError> {
     Command::new(alloc, "bench")
-        .about("Edits a simulated circuit by a script, and writes a reply to each line")
-        .after_help("Example: aig bench adder.aag adder.stim edits.txt")
+        .about(
+            "Runs a script of edits and questions on a simulation, and writes a reply to each line",
+        )
+        .after_help(AFTER_BENCH)
         .arg(circuit_argument(alloc))?
         .arg(stimulus_argument(alloc))?
         .arg(script_argument(alloc))
@@ -74,7 +104,10 @@ fn bench_command<'a>(alloc: Global) -> Result<Command<'a>, AllocError> {
 
 fn program<'a>(alloc: Global) -> Command<'a> {
     Command::new(alloc, "aig")
-        .about("Works on and-inverter graphs, circuits in the AIGER formats")
+        .about(
+            "Converts, simulates and questions and-inverter graphs, circuits in the AIGER formats",
+        )
+        .after_help(AFTER_ALL)
         .subcommand_required(true)
 }
 
