@@ -1,0 +1,47 @@
+#!/usr/bin/env bash
+# Measures the toolkit against plain Rust programs, and prints tables in Markdown.
+# usage: bench/run.sh
+#
+# AIG=PROGRAM       measures this program (else the proved crates/aig/out/aig; else one is built without proofs)
+# GROWTH=PROGRAM    takes this growth program (else it is built without proofs)
+# TIMES=N           takes the best of N runs (else of 5)
+# Nothing is written outside a temporary folder.
+set -eu
+bench=$(realpath "$(dirname "$0")")
+repository=$(dirname "$bench")
+room=$(mktemp -d)
+trap 'rm -rf "$room"' EXIT
+
+echo "building .." >&2
+(cd "$bench/plain" && CARGO_TARGET_DIR=$room/target cargo build --release --quiet)
+
+# A copy of the crates in which the growth program is one of them.
+mkdir "$room/repository"
+mkdir "$room/repository/crates"
+for crate in "$repository"/crates/*; do
+    mkdir "$room/repository/crates/$(basename "$crate")"
+    for part in "$crate"/*; do
+        [ "$(basename "$part")" = out ] || cp -r "$part" "$room/repository/crates/$(basename "$crate")"
+    done
+done
+cp -r "$bench/growth" "$room/repository/crates/growth"
+{ cat "$repository/crates.txt"; echo "growth: aig_base aig_format anyhow"; } > "$room/repository/crates.txt"
+
+kind="as given"
+if [ -z "${AIG:-}" ] && [ -x "$repository/crates/aig/out/aig" ]; then
+    AIG=$repository/crates/aig/out/aig
+    kind="the proved program"
+elif [ -z "${AIG:-}" ]; then
+    AIG=$room/aig
+    kind="built without proofs, with run-time tests"
+    "$bench/build_unproved.sh" "$room/repository" aig "$AIG"
+fi
+if [ -z "${GROWTH:-}" ]; then
+    GROWTH=$room/growth
+    "$bench/build_unproved.sh" "$room/repository" growth "$GROWTH"
+fi
+
+mkdir "$room/files"
+cd "$room/files"
+export AIG GROWTH KIND="$kind" TARGET=$room/target/release TIMES=${TIMES:-5}
+python3 "$bench/measure.py"
