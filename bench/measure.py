@@ -22,27 +22,37 @@ def make(name, *words):
     return name
 
 
-def processor_time(words, output=os.devnull):
-    """The processor time of a program's run, in seconds."""
-    before = resource.getrusage(resource.RUSAGE_CHILDREN)
-    with open(output, "wb") as out:
-        subprocess.run(words, stdout=out, check=True)
-    after = resource.getrusage(resource.RUSAGE_CHILDREN)
-    return after.ru_utime + after.ru_stime - before.ru_utime - before.ru_stime
+class Run:
+    """A run of a program, the file that it writes to, and the exit status that it is to have."""
+
+    def __init__(self, words, output=os.devnull, status=0):
+        self.words = words
+        self.output = output
+        self.status = status
+
+    def processor_time(self):
+        """Its processor time in seconds."""
+        before = resource.getrusage(resource.RUSAGE_CHILDREN)
+        with open(self.output, "wb") as out:
+            status = subprocess.run(self.words, stdout=out, stderr=subprocess.DEVNULL).returncode
+        after = resource.getrusage(resource.RUSAGE_CHILDREN)
+        if status != self.status:
+            sys.exit(f"{self.words} ended with status {status}")
+        return after.ru_utime + after.ru_stime - before.ru_utime - before.ru_stime
 
 
-def best(runs):
+def best(*runs):
     """The least time of each of several runs, which take turns so that a disturbance meets all."""
     least = [float("inf")] * len(runs)
     for _ in range(TIMES):
-        least = [min(old, processor_time(words)) for old, words in zip(least, runs)]
+        least = [min(old, run.processor_time()) for old, run in zip(least, runs)]
     return least
 
 
 def same(one, other):
     """Stops unless two programs write the same."""
     for words, name in ((one, "one"), (other, "other")):
-        processor_time(words, name)
+        Run(words, name).processor_time()
     if not filecmp.cmp("one", "other", shallow=False):
         sys.exit(f"{one} and {other} write different bytes")
 
@@ -73,28 +83,31 @@ def head(title, *cells):
 
 
 def conversions(text, binary):
-    head("Whole runs, 1,000,000 gates (processor time).", "from", "to", "plain", "aig", "aig / plain")
-    for source in (text, binary):
-        for form in ("aag", "aig"):
-            runs = [[PLAIN, "to" + form, source], [AIG, "toaig", "--to", form, source]]
-            same(*runs)
-            plain, ours = best(runs)
-            row(source[-3:], form, milliseconds(plain), milliseconds(ours), f"{ours / plain:.2f}")
-
-
-def steps(text, binary):
-    head("Steps in memory, 1,000,000 gates (elapsed).", "step", "plain", "aig", "aig / plain")
+    """Whole runs, and their steps by differences: a file with a wrong byte at its end is parsed and refused, one that is
+    written to a full device is parsed and checked. The plain program has no check."""
+    whole, steps = [], []
     for source in (text, binary):
         form = source[-3:]
-        plain = printed([PLAIN, "time", source, "1"])
-        ours = {name: time / 1e9 for name, time in printed([GROWTH, source, "1"]).items()}
-        parse = ours["read"] - ours["check"]
-        rows = [(f"parse {form}", plain["parse"], parse), (f"parse {form}, and check", plain["parse"], ours["read"])]
-        if source == binary:
-            rows += [("write " + other, plain["write_" + name], ours["write_" + name])
-                     for other, name in (("aag", "ascii"), ("aig", "binary"))]
-        for name, one, other in rows:
-            row(name, milliseconds(one), milliseconds(other), f"{other / one:.2f}")
+        wrong = "wrong." + form
+        with open(source, "rb") as file, open(wrong, "wb") as out:
+            out.write(file.read() + b"?")
+        for to in ("aag", "aig"):
+            plain, ours = [PLAIN, "to" + to, source], [AIG, "toaig", "--to", to, source]
+            same(plain, ours)
+            plain_read, plain_all, parsed, checked, both = best(
+                Run([PLAIN, "read", source]), Run(plain), Run([*ours[:-1], wrong], status=1),
+                Run(ours, "/dev/full", 3), Run(ours))
+            whole.append((form, to, plain_all, both))
+            if to == "aag":
+                steps += [(f"parse {form}", plain_read, parsed), (f"parse {form} and check", plain_read, checked)]
+            if form == "aig":
+                steps.append((f"write {to}", plain_all - plain_read, both - checked))
+    head("Whole runs, 1,000,000 gates (processor time).", "from", "to", "plain", "aig", "aig / plain")
+    for form, to, plain, ours in whole:
+        row(form, to, milliseconds(plain), milliseconds(ours), f"{ours / plain:.2f}")
+    head("Steps of these runs, by differences.", "step", "plain", "aig", "aig / plain")
+    for name, plain, ours in steps:
+        row(name, milliseconds(plain), milliseconds(ours), f"{ours / plain:.2f}")
 
 
 def simulations():
@@ -106,8 +119,7 @@ def simulations():
         rows = make("rows", "stimulus", SOURCES[0], str(frames))
         runs = [[PLAIN, "sim", circuit], [AIG, "sim", circuit]]
         same(*([*words, rows] for words in runs))
-        plain_load, load = best([[*words, none] for words in runs])
-        plain_all, both = best([[*words, rows] for words in runs])
+        plain_load, load, plain_all, both = best(*(Run([*words, file]) for file in (none, rows) for words in runs))
         plain, ours = plain_all - plain_load, both - load
         rates = [gates * frames / time / 1e6 for time in (plain, ours)]
         row(f"{gates:,}", f"{frames:,}", *map(milliseconds, (plain_load, load, plain, ours)),
@@ -139,7 +151,6 @@ def main():
     with open(binary, "wb") as out:
         subprocess.run([PLAIN, "toaig", text], stdout=out, check=True)
     conversions(text, binary)
-    steps(text, binary)
     simulations()
     growth()
 

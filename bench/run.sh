@@ -2,10 +2,11 @@
 # Measures the toolkit against plain Rust programs, and prints tables in Markdown.
 # usage: bench/run.sh
 #
-# AIG=PROGRAM       measures this program (else the proved crates/aig/out/aig; else one is built without proofs)
+# AIG=PROGRAM       measures this program (else the proved crates/aig/out/aig; where that is not there, one is built
+#                   without proofs by bench/build_unproved.sh)
 # GROWTH=PROGRAM    takes this growth program (else it is built without proofs)
 # TIMES=N           takes the best of N runs (else of 5)
-# Nothing is written outside a temporary folder.
+# It needs cargo, python3 and rt, and 2 GB for files. Nothing is written outside a temporary folder.
 set -eu
 bench=$(realpath "$(dirname "$0")")
 repository=$(dirname "$bench")
@@ -16,8 +17,7 @@ echo "building .." >&2
 (cd "$bench/plain" && CARGO_TARGET_DIR=$room/target cargo build --release --quiet)
 
 # A copy of the crates in which the growth program is one of them.
-mkdir "$room/repository"
-mkdir "$room/repository/crates"
+mkdir -p "$room/repository/crates"
 for crate in "$repository"/crates/*; do
     mkdir "$room/repository/crates/$(basename "$crate")"
     for part in "$crate"/*; do
@@ -27,13 +27,13 @@ done
 cp -r "$bench/growth" "$room/repository/crates/growth"
 { cat "$repository/crates.txt"; echo "growth: aig_base aig_format anyhow"; } > "$room/repository/crates.txt"
 
-kind="as given"
+kind="as given by AIG"
 if [ -z "${AIG:-}" ] && [ -x "$repository/crates/aig/out/aig" ]; then
     AIG=$repository/crates/aig/out/aig
     kind="the proved program"
 elif [ -z "${AIG:-}" ]; then
     AIG=$room/aig
-    kind="built without proofs, with run-time tests"
+    kind="built without proofs, an estimate of the proved program"
     "$bench/build_unproved.sh" "$room/repository" aig "$AIG"
 fi
 if [ -z "${GROWTH:-}" ]; then

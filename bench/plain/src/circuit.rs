@@ -51,8 +51,9 @@ impl Circuit {
         self.max_var as usize == defined
             && self.inputs.iter().all(|input| is_next(*input))
             && self.latches.iter().all(|latch| is_next(latch.lit))
-            && self.gates.iter().all(|gate| {
-                is_next(gate.lhs) && gate.lhs > gate.rhs0 && gate.rhs0 >= gate.rhs1
-            })
+            && self
+                .gates
+                .iter()
+                .all(|gate| is_next(gate.lhs) && gate.lhs > gate.rhs0 && gate.rhs0 >= gate.rhs1)
     }
 }

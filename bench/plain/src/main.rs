@@ -12,7 +12,8 @@ use std::io::{self, BufReader, BufWriter, Write};
 use std::process::ExitCode;
 use std::time::Instant;
 
-const USAGE: &str = "usage: plain read FILE | toaag FILE | toaig FILE | sim CIRCUIT STIM | time FILE TIMES";
+const USAGE: &str =
+    "usage: plain read FILE | toaag FILE | toaig FILE | sim CIRCUIT STIM | time FILE TIMES";
 
 /// The least time of some calls, in seconds.
 fn least_time<T>(times: u32, mut call: impl FnMut() -> T) -> f64 {

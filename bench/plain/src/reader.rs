@@ -2,8 +2,31 @@
 //! defined once and gates are not cyclic is left to those who need it.
 
 use crate::circuit::{Circuit, Gate, Latch, Symbol};
+use std::fmt;
 
-type Answer<T> = Result<T, String>;
+/// Why a file is refused.
+#[derive(Clone, Copy, Debug)]
+pub enum Refusal {
+    Text { at: usize },
+    Counts,
+    Range(u32),
+    Reset(u32),
+}
+
+impl fmt::Display for Refusal {
+    fn fmt(&self, out: &mut fmt::Formatter) -> fmt::Result {
+        match self {
+            Refusal::Text { at } => write!(out, "text at {at}"),
+            Refusal::Counts => write!(out, "counts"),
+            Refusal::Range(literal) => write!(out, "literal {literal} is out of range"),
+            Refusal::Reset(literal) => write!(out, "reset of latch {literal}"),
+        }
+    }
+}
+
+impl std::error::Error for Refusal {}
+
+type Answer<T> = Result<T, Refusal>;
 
 struct Reader<'a> {
     bytes: &'a [u8],
@@ -20,7 +43,7 @@ struct Counts {
 
 impl Reader<'_> {
     fn refused<T>(&self) -> Answer<T> {
-        Err(format!("text at {}", self.at))
+        Err(Refusal::Text { at: self.at })
     }
 
     fn peek(&self) -> Option<u8> {
@@ -39,7 +62,10 @@ impl Reader<'_> {
         let start = self.at;
         let mut value = 0u32;
         while let Some(byte @ b'0'..=b'9') = self.peek() {
-            value = match value.checked_mul(10).and_then(|v| v.checked_add(u32::from(byte - b'0'))) {
+            value = match value
+                .checked_mul(10)
+                .and_then(|v| v.checked_add(u32::from(byte - b'0')))
+            {
                 Some(value) => value,
                 None => return self.refused(),
             };
@@ -62,7 +88,7 @@ impl Reader<'_> {
     fn literal(&mut self, end: u8, greatest: u32) -> Answer<u32> {
         let value = self.field(end)?;
         if value > greatest {
-            return Err(format!("literal {value} is out of range"));
+            return Err(Refusal::Range(value));
         }
         Ok(value)
     }
@@ -75,14 +101,14 @@ impl Reader<'_> {
     fn latch(&mut self, lit: u32, greatest: u32) -> Answer<Latch> {
         let next = self.number()?;
         if next > greatest {
-            return Err(format!("literal {next} is out of range"));
+            return Err(Refusal::Range(next));
         }
         let mut reset = 0;
         if self.peek() == Some(b' ') {
             self.at += 1;
             reset = self.number()?;
             if reset > 1 && reset != lit {
-                return Err(format!("reset {reset} of latch {lit}"));
+                return Err(Refusal::Reset(lit));
             }
         }
         self.byte(b'\n')?;
@@ -119,16 +145,24 @@ impl Reader<'_> {
         if second > rhs0 {
             return self.refused();
         }
-        Ok(Gate { lhs, rhs0, rhs1: rhs0 - second })
+        Ok(Gate {
+            lhs,
+            rhs0,
+            rhs1: rhs0 - second,
+        })
     }
 
     fn properties(&mut self, circuit: &mut Circuit, counts: &Counts, greatest: u32) -> Answer<()> {
         circuit.outputs = self.literals(counts.outputs, greatest)?;
         circuit.bad = self.literals(counts.bad, greatest)?;
         circuit.constraints = self.literals(counts.constraints, greatest)?;
-        let sizes = (0..counts.justice).map(|_| self.field(b'\n')).collect::<Answer<Vec<u32>>>()?;
+        let sizes = (0..counts.justice)
+            .map(|_| self.field(b'\n'))
+            .collect::<Answer<Vec<u32>>>()?;
         for size in sizes {
-            circuit.justice.push(self.literals(size as usize, greatest)?);
+            circuit
+                .justice
+                .push(self.literals(size as usize, greatest)?);
         }
         circuit.fairness = self.literals(counts.fairness, greatest)?;
         Ok(())
@@ -155,7 +189,11 @@ impl Reader<'_> {
             }
             let position = self.field(b' ')?;
             let name = self.line()?.to_vec();
-            circuit.symbols.push(Symbol { kind, position, name });
+            circuit.symbols.push(Symbol {
+                kind,
+                position,
+                name,
+            });
         }
         Ok(())
     }
@@ -166,7 +204,7 @@ pub fn read(bytes: &[u8]) -> Answer<Circuit> {
     let is_binary = match bytes.get(..4) {
         Some(b"aag ") => false,
         Some(b"aig ") => true,
-        _ => return Err("no header".into()),
+        _ => return Err(Refusal::Text { at: 0 }),
     };
     let mut reader = Reader { bytes, at: 4 };
     let mut numbers = vec![reader.number()?];
@@ -176,14 +214,17 @@ pub fn read(bytes: &[u8]) -> Answer<Circuit> {
     }
     reader.byte(b'\n')?;
     if numbers.len() < 5 {
-        return Err("too few counts".into());
+        return reader.refused();
     }
     numbers.resize(9, 0);
     let max_var = numbers[0];
     let [inputs, latches, outputs, gates] = [1, 2, 3, 4].map(|place| numbers[place] as usize);
     let defined = inputs + latches + gates;
-    if max_var >= 1 << 30 || (max_var as usize) < defined || is_binary && max_var as usize != defined {
-        return Err("counts".into());
+    if max_var >= 1 << 30
+        || (max_var as usize) < defined
+        || is_binary && max_var as usize != defined
+    {
+        return Err(Refusal::Counts);
     }
     let counts = Counts {
         outputs,
@@ -193,7 +234,12 @@ pub fn read(bytes: &[u8]) -> Answer<Circuit> {
         fairness: numbers[8] as usize,
     };
     let greatest = 2 * max_var + 1;
-    let mut circuit = Circuit { max_var, ..Circuit::default() };
+    let mut circuit = Circuit {
+        max_var,
+        ..Circuit::default()
+    };
+    // A gate takes two bytes at least, so no more is reserved than the file can hold.
+    circuit.gates.reserve(gates.min(bytes.len() / 2));
     if is_binary {
         circuit.inputs = (1..=inputs as u32).map(|variable| 2 * variable).collect();
         let mut lit = 2 * inputs as u32;

@@ -86,12 +86,20 @@ fn character(value: u8) -> u8 {
 }
 
 /// Writes the trace of a stimulus, line by line.
-pub fn simulate(circuit: &Circuit, stimulus: &mut impl BufRead, out: &mut impl Write) -> io::Result<()> {
+pub fn simulate(
+    circuit: &Circuit,
+    stimulus: &mut impl BufRead,
+    out: &mut impl Write,
+) -> io::Result<()> {
     let refused = |text: String| io::Error::new(io::ErrorKind::InvalidData, text);
     let gates = ordered(circuit).ok_or_else(|| refused("cycle".into()))?;
     let mut cells = vec![UNKNOWN; circuit.max_var as usize + 1];
     cells[0] = ZERO;
-    let mut states: Vec<u8> = circuit.latches.iter().map(|latch| latch.reset.min(2) as u8).collect();
+    let mut states: Vec<u8> = circuit
+        .latches
+        .iter()
+        .map(|latch| latch.reset.min(2) as u8)
+        .collect();
     let mut row = vec![UNKNOWN; circuit.inputs.len()];
     let mut line = Vec::new();
     let mut trace = Vec::new();
@@ -110,14 +118,20 @@ pub fn simulate(circuit: &Circuit, stimulus: &mut impl BufRead, out: &mut impl W
             cells[(latch.lit >> 1) as usize] = *state;
         }
         for gate in &gates {
-            cells[(gate.lhs >> 1) as usize] = and(value(&cells, gate.rhs0), value(&cells, gate.rhs1));
+            cells[(gate.lhs >> 1) as usize] =
+                and(value(&cells, gate.rhs0), value(&cells, gate.rhs1));
         }
         trace.clear();
         trace.extend(states.iter().map(|state| character(*state)));
         trace.push(b' ');
         trace.extend_from_slice(&line);
         trace.push(b' ');
-        trace.extend(circuit.outputs.iter().map(|output| character(value(&cells, *output))));
+        trace.extend(
+            circuit
+                .outputs
+                .iter()
+                .map(|output| character(value(&cells, *output))),
+        );
         trace.push(b' ');
         for (latch, state) in circuit.latches.iter().zip(&mut states) {
             *state = value(&cells, latch.next);

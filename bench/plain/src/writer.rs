@@ -33,7 +33,9 @@ fn put_delta(out: &mut impl Write, number: u32) -> Result<()> {
 }
 
 fn put_literals(out: &mut impl Write, literals: &[u32]) -> Result<()> {
-    literals.iter().try_for_each(|literal| put_number(out, *literal, b'\n'))
+    literals
+        .iter()
+        .try_for_each(|literal| put_number(out, *literal, b'\n'))
 }
 
 /// A latch's next state and, where it is not 0, its reset.

@@ -4,7 +4,8 @@ use std::error::Error;
 use std::io::{self, BufWriter, Write};
 use std::process::ExitCode;
 
-const USAGE: &str = "usage: generate circuit SHAPE INPUTS LATCHES OUTPUTS GATES | stimulus INPUTS FRAMES
+const USAGE: &str =
+    "usage: generate circuit SHAPE INPUTS LATCHES OUTPUTS GATES | stimulus INPUTS FRAMES
 SHAPE: random, chain, or reversed (the gates of random, their lines from the last to the first)";
 
 /// How far back a random gate reads, in variables. Every eighth side is picked from all.
@@ -33,7 +34,11 @@ impl Random {
 
 /// A literal of a variable from 1 to `greatest`, most of them near `greatest`.
 fn side(random: &mut Random, greatest: u64) -> u64 {
-    let reach = if random.below(8) == 0 { greatest } else { greatest.min(NEAR) };
+    let reach = if random.below(8) == 0 {
+        greatest
+    } else {
+        greatest.min(NEAR)
+    };
     2 * (greatest - random.below(reach)) + random.below(2)
 }
 
@@ -43,7 +48,10 @@ fn gates(shape: &str, random: &mut Random, sources: u64, count: u64) -> Vec<(u64
         .map(|place| {
             let greatest = sources + place;
             let (a, b) = if shape == "chain" {
-                (2 * greatest + random.below(2), 2 * (1 + random.below(sources)) + random.below(2))
+                (
+                    2 * greatest + random.below(2),
+                    2 * (1 + random.below(sources)) + random.below(2),
+                )
             } else {
                 (side(random, greatest), side(random, greatest))
             };
@@ -73,7 +81,11 @@ fn circuit(out: &mut impl Write, shape: &str, counts: [u64; 4]) -> io::Result<()
         (2 * (sources + place as u64 + 1), rhs0, rhs1)
     };
     for place in 0..sides.len() {
-        let place = if shape == "reversed" { sides.len() - 1 - place } else { place };
+        let place = if shape == "reversed" {
+            sides.len() - 1 - place
+        } else {
+            place
+        };
         let (lhs, rhs0, rhs1) = line(place);
         writeln!(out, "{lhs} {rhs0} {rhs1}")?;
     }
@@ -97,7 +109,12 @@ fn run(words: &[&str]) -> Result<(), Box<dyn Error>> {
     let mut out = BufWriter::new(io::stdout().lock());
     match words {
         ["circuit", shape @ ("random" | "chain" | "reversed"), inputs, latches, outputs, count] => {
-            let counts = [inputs.parse()?, latches.parse()?, outputs.parse()?, count.parse()?];
+            let counts = [
+                inputs.parse()?,
+                latches.parse()?,
+                outputs.parse()?,
+                count.parse()?,
+            ];
             circuit(&mut out, shape, counts)?;
         }
         ["stimulus", inputs, frames] => stimulus(&mut out, inputs.parse()?, frames.parse()?)?,
