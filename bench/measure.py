@@ -112,7 +112,7 @@ def conversions(text, binary):
 
 def simulations():
     head("Simulation (processor time; evaluations a second without the time to load).", "gates", "frames",
-         "load: plain", "load: aig", "frames: plain", "frames: aig", "plain, M/s", "aig, M/s", "plain / aig")
+         "load: plain", "load: aig", "frames: plain", "frames: aig", "plain, millions", "aig, millions", "aig / plain (time)")
     none = make("none", "stimulus", SOURCES[0], "0")
     for gates, frames in ((100_000, 1000), (1_000_000, 100)):
         circuit = make("simulated.aag", "circuit", "random", *SOURCES, str(gates))

@@ -6,7 +6,7 @@
 #                   without proofs by bench/build_unproved.sh)
 # GROWTH=PROGRAM    takes this growth program (else it is built without proofs)
 # TIMES=N           takes the best of N runs (else of 5)
-# It needs cargo, python3 and rt, and 2 GB for files. Nothing is written outside a temporary folder.
+# It needs cargo, python3 and rt, and 500 MB for files. Nothing is written outside a temporary folder.
 set -eu
 bench=$(realpath "$(dirname "$0")")
 repository=$(dirname "$bench")
