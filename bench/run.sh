@@ -16,7 +16,8 @@ trap 'rm -rf "$room"' EXIT
 echo "building .." >&2
 (cd "$bench/plain" && CARGO_TARGET_DIR=$room/target cargo build --release --quiet)
 
-# A copy of the crates in which the growth program is one of them.
+# A copy of the crates in which the growth program is one of them. Its file has another ending in the repository, since
+# `rt ci` refuses a .rt file that no check reads.
 mkdir -p "$room/repository/crates"
 for crate in "$repository"/crates/*; do
     mkdir "$room/repository/crates/$(basename "$crate")"
@@ -24,7 +25,8 @@ for crate in "$repository"/crates/*; do
         [ "$(basename "$part")" = out ] || cp -r "$part" "$room/repository/crates/$(basename "$crate")"
     done
 done
-cp -r "$bench/growth" "$room/repository/crates/growth"
+mkdir -p "$room/repository/crates/growth/src"
+cp "$bench/growth/main.rt.in" "$room/repository/crates/growth/src/main.rt"
 { cat "$repository/crates.txt"; echo "growth: aig_base aig_format anyhow"; } > "$room/repository/crates.txt"
 
 kind="as given by AIG"
@@ -41,6 +43,8 @@ if [ -z "${GROWTH:-}" ]; then
     "$bench/build_unproved.sh" "$room/repository" growth "$GROWTH"
 fi
 
+AIG=$(realpath "$AIG")
+GROWTH=$(realpath "$GROWTH")
 mkdir "$room/files"
 cd "$room/files"
 export AIG GROWTH KIND="$kind" TARGET=$room/target/release TIMES=${TIMES:-5}
