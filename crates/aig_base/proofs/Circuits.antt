@@ -39,6 +39,35 @@ module _ (raw : Raw) where
       Contains-from_slice_get _ i (variable g.lhs)
       (slice_get-map (λ g. variable g.lhs) raw.gates i ∙ ap (option_map (λ g. variable g.lhs)) at)
 
+module _ (raw : Raw) where
+  nexts : List ℕ
+  nexts = map (λ x. x.next) raw.latches
+
+  pub sides : Gate → List ℕ
+  sides g = g.rhs0 ∷ g.rhs1 ∷ []
+
+  side_used : (gates : List Gate) (i : ℕ) (g : Gate) (l : ℕ) → slice_get gates i ≡ Some g → Contains (sides g) l
+      → Contains (flat_map sides gates) l
+  side_used [] i g l at k = absurd (cc)
+  side_used (h ∷ gates) zero g l at k =
+      let e : h ≡ g = cc in left _ _ _ (subst (λ (h : Gate). Contains (sides h) l) (sym e) k)
+  side_used (h ∷ gates) (suc i) g l at k = right (sides h) _ _ (side_used gates i g l at k)
+
+  pub gate_uses : (i : ℕ) (g : Gate) (l : ℕ) → slice_get raw.gates i ≡ Some g → Contains (sides g) l
+      → Contains (uses raw) l
+  unfolding sides nexts
+  gate_uses i g l at k =
+      right (nexts ++ raw.outputs ++ raw.bad ++ raw.constraints ++ flat_map (λ p. p) raw.justice ++ raw.fairness) _ _
+      (side_used raw.gates i g l at k)
+
+  pub rhs0_stands : (g : Gate) → Contains (sides g) g.rhs0
+  unfolding sides
+  rhs0_stands g = (0, omega arith, refl)
+
+  pub rhs1_stands : (g : Gate) → Contains (sides g) g.rhs1
+  unfolding sides
+  rhs1_stands g = (1, omega arith, refl)
+
 module _ (raw : Raw) (sound : IsSound raw) where
   pub input_definition : (i l : ℕ) → slice_get raw.inputs i ≡ Some l → IsDefinition l
   input_definition i l at = IsDefinition-of_place raw sound (input i) l tt at
@@ -86,14 +115,11 @@ module _ (raw : Raw) (sound : IsSound raw) where
   use_defined : (l : ℕ) → Contains (uses raw) l → IsDefined raw (variable l)
   use_defined l k = All-contains (λ l. IsDefined raw (variable l)) (uses raw) l sound.defined k
 
-  nexts : List ℕ
-  nexts = map (λ x. x.next) raw.latches
-
   next_used : (i : ℕ) (x : Latch) → slice_get raw.latches i ≡ Some x → Contains (uses raw) x.next
   unfolding nexts
   next_used i x at =
-      left _ _ _ (left _ _ _ (left _ _ _ (left _ _ _ (left _ _ _ (left nexts _ _
-      (Contains-from_slice_get nexts i x.next (slice_get-map (λ x. x.next) raw.latches i
+      left _ _ _ (left _ _ _ (left _ _ _ (left _ _ _ (left _ _ _ (left (nexts raw) _ _
+      (Contains-from_slice_get (nexts raw) i x.next (slice_get-map (λ x. x.next) raw.latches i
       ∙ ap (option_map (λ x. x.next)) at)))))))
 
   pub next_in_range : (i : ℕ) (x : Latch) → slice_get raw.latches i ≡ Some x → variable x.next ≤ raw.max_var
@@ -105,7 +131,7 @@ module _ (raw : Raw) (sound : IsSound raw) where
   output_used : (i l : ℕ) → slice_get raw.outputs i ≡ Some l → Contains (uses raw) l
   unfolding nexts
   output_used i l at =
-      left _ _ _ (left _ _ _ (left _ _ _ (left _ _ _ (left _ _ _ (right nexts _ _
+      left _ _ _ (left _ _ _ (left _ _ _ (left _ _ _ (left _ _ _ (right (nexts raw) _ _
       (Contains-from_slice_get raw.outputs i l at))))))
 
   pub output_in_range : (i l : ℕ) → slice_get raw.outputs i ≡ Some l → variable l ≤ raw.max_var
@@ -114,42 +140,17 @@ module _ (raw : Raw) (sound : IsSound raw) where
   pub output_defined : (i l : ℕ) → slice_get raw.outputs i ≡ Some l → IsDefined raw (variable l)
   output_defined i l at = use_defined l (output_used i l at)
 
-  sides : Gate → List ℕ
-  sides g = g.rhs0 ∷ g.rhs1 ∷ []
-
-  side_used : (gates : List Gate) (i : ℕ) (g : Gate) (l : ℕ) → slice_get gates i ≡ Some g → Contains (sides g) l
-      → Contains (flat_map sides gates) l
-  side_used [] i g l at k = absurd (cc)
-  side_used (h ∷ gates) zero g l at k =
-      let e : h ≡ g = cc in left _ _ _ (subst (λ (h : Gate). Contains (sides h) l) (sym e) k)
-  side_used (h ∷ gates) (suc i) g l at k = right (sides h) _ _ (side_used gates i g l at k)
-
-  gate_uses : (i : ℕ) (g : Gate) (l : ℕ) → slice_get raw.gates i ≡ Some g → Contains (sides g) l
-      → Contains (uses raw) l
-  unfolding sides nexts
-  gate_uses i g l at k =
-      right (nexts ++ raw.outputs ++ raw.bad ++ raw.constraints ++ flat_map (λ p. p) raw.justice ++ raw.fairness) _ _
-      (side_used raw.gates i g l at k)
-
-  rhs0_stands : (g : Gate) → Contains (sides g) g.rhs0
-  unfolding sides
-  rhs0_stands g = (0, omega arith, refl)
-
-  rhs1_stands : (g : Gate) → Contains (sides g) g.rhs1
-  unfolding sides
-  rhs1_stands g = (1, omega arith, refl)
-
   pub rhs0_in_range : (i : ℕ) (g : Gate) → slice_get raw.gates i ≡ Some g → variable g.rhs0 ≤ raw.max_var
-  rhs0_in_range i g at = use_in_range g.rhs0 (gate_uses i g g.rhs0 at (rhs0_stands g))
+  rhs0_in_range i g at = use_in_range g.rhs0 (gate_uses raw i g g.rhs0 at (rhs0_stands raw g))
 
   pub rhs1_in_range : (i : ℕ) (g : Gate) → slice_get raw.gates i ≡ Some g → variable g.rhs1 ≤ raw.max_var
-  rhs1_in_range i g at = use_in_range g.rhs1 (gate_uses i g g.rhs1 at (rhs1_stands g))
+  rhs1_in_range i g at = use_in_range g.rhs1 (gate_uses raw i g g.rhs1 at (rhs1_stands raw g))
 
   pub rhs0_defined : (i : ℕ) (g : Gate) → slice_get raw.gates i ≡ Some g → IsDefined raw (variable g.rhs0)
-  rhs0_defined i g at = use_defined g.rhs0 (gate_uses i g g.rhs0 at (rhs0_stands g))
+  rhs0_defined i g at = use_defined g.rhs0 (gate_uses raw i g g.rhs0 at (rhs0_stands raw g))
 
   pub rhs1_defined : (i : ℕ) (g : Gate) → slice_get raw.gates i ≡ Some g → IsDefined raw (variable g.rhs1)
-  rhs1_defined i g at = use_defined g.rhs1 (gate_uses i g g.rhs1 at (rhs1_stands g))
+  rhs1_defined i g at = use_defined g.rhs1 (gate_uses raw i g g.rhs1 at (rhs1_stands raw g))
 
 pub contains_variable : (xs : List ℕ) (l : ℕ) → Contains xs l → Contains (map variable xs) (variable l)
 contains_variable xs l k =
@@ -166,3 +167,6 @@ module _ (raw : Raw) where
 
   pub latch_defined : (i : ℕ) (x : Latch) → slice_get raw.latches i ≡ Some x → IsDefined raw (variable x.lit)
   latch_defined i x at = definition_defined x.lit (latch_stands raw i x at)
+
+  pub gate_defined : (i : ℕ) (g : Gate) → slice_get raw.gates i ≡ Some g → IsDefined raw (variable g.lhs)
+  gate_defined i g at = definition_defined g.lhs (gate_stands raw i g at)

@@ -1,3 +1,4 @@
+pub mod Ascending
 pub mod BlockLemmas
 pub mod Chains
 pub mod Circuits

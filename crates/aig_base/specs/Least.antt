@@ -34,6 +34,10 @@ IsMarkedGate marks g = slice_get marks (variable g.lhs) ≡ Some true
 abbrev pub IsGroundedGate : Raw → Gate → Type 0
 IsGroundedGate raw g = Grounded raw (variable g.lhs)
 
+-- the gate reads smaller variables alone
+abbrev pub ReadsSmaller : Gate → Type 0
+ReadsSmaller g = (variable g.rhs0 < variable g.lhs) × (variable g.rhs1 < variable g.lhs)
+
 abbrev pub gate_variable : Gate → ℕ
 gate_variable g = variable g.lhs
 

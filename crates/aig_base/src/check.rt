@@ -4,8 +4,10 @@ ghost use Rattle.aig_base.specs.Circuit.{IsCircuit};
 ghost use Rattle.aig_base.specs.Definition.{IsTable};
 ghost use Rattle.aig_base.specs.FirstFault.{IsFirstFault};
 ghost use Rattle.aig_base.specs.Formed.{IsFormed, CountsFit};
-ghost use Rattle.aig_base.specs.Least.{IsLeastAmong, IsGroundedGate, gate_variable};
+ghost use Rattle.aig_base.specs.Least.{IsLeastAmong, IsGroundedGate, ReadsSmaller, gate_variable};
+ghost use Rattle.aig_base.specs.Literal.{variable};
 ghost use Rattle.aig_base.specs.Ranged.{AreInRange, AreDefinitions};
+ghost use Rattle.aig_base.specs.Sections.{uses, IsDefined};
 ghost use Rattle.aig_base.specs.Sound.{IsDefinition};
 
 use crate::circuit::Circuit;
@@ -81,13 +83,30 @@ fn are_definitions(raw: &Raw) -> bool
         && raw.gates.iter().all(|gate| is_definition(gate.lhs))
 }
 
-// The least gate variable that is not grounded.
+fn reads_smaller(gate: Gate) -> bool
+    ensures { IsTrue result ↔ ReadsSmaller gate }
+{
+    gate.rhs0.var() < gate.lhs.var() && gate.rhs1.var() < gate.lhs.var()
+}
+
+fn are_ascending(gates: &[Gate]) -> bool
+    ensures { IsTrue result ↔ All ReadsSmaller gates.now }
+{
+    gates.iter().all(|gate| reads_smaller(*gate))
+}
+
+// The least gate variable that is not grounded. Where each gate reads smaller variables alone, as in every binary file,
+// there is none.
 fn least_ungrounded(alloc: Global, raw: &Raw) -> Result<Option<u32>, Memory>
     requires counts { CountsFit raw.now }
     requires range { AreInRange raw.now }
+    requires defined { All (λ l. IsDefined raw.now (variable l)) (uses raw.now) }
     ensures { IfOk result (IsLeastAmong (IsGroundedGate raw.now) gate_variable raw.now.gates) }
 {
     let gates = raw.gates.as_slice();
+    if are_ascending(gates) {
+        return Ok(None);
+    }
     let marks = grounded_marks(
         alloc,
         raw.max_var,

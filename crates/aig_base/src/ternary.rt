@@ -15,10 +15,15 @@ impl Tern {
     pub fn and(self, other: Tern) -> Tern
         ensures { result ≡ kleene_and self other }
     {
-        match (self, other) {
-            (Tern::Zero, _) | (_, Tern::Zero) => Tern::Zero,
-            (Tern::One, Tern::One) => Tern::One,
-            _ => Tern::X,
+        // Both sides are looked at, so that no jump depends on values.
+        let has_zero = matches!(self, Tern::Zero) | matches!(other, Tern::Zero);
+        let are_ones = matches!(self, Tern::One) & matches!(other, Tern::One);
+        if has_zero {
+            Tern::Zero
+        } else if are_ones {
+            Tern::One
+        } else {
+            Tern::X
         }
     }
 

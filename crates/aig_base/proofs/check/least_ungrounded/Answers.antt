@@ -1,8 +1,9 @@
 use Rattle.std.proofs.Common.{◌≡◌, ◌+◌, ◌<◌, ◌≤◌, ◌*◌, Bool, List, length, get_or, sym, ap, subst, ◌∙◌, arith, All}
 use Rattle.aig_base.specs.declared.gate.Gate.{Gate}
-use Rattle.aig_base.specs.Least.{IsLeastAmong, IsMarkedGate, IsGroundedGate, gate_variable}
+use Rattle.aig_base.specs.Least.{IsLeastAmong, IsMarkedGate, IsGroundedGate, ReadsSmaller, gate_variable}
 use Rattle.aig_base.specs.Literal.{variable}
 use Rattle.aig_base.specs.Marks.{HasParts}
+use Rattle.aig_base.proofs.Ascending.{all_grounded}
 use Rattle.aig_base.proofs.LeastAmong.{least_same}
 use Rattle.aig_base.proofs.check.least_ungrounded.Goals as goal
 
@@ -15,6 +16,12 @@ least_unmarked-requires c =
     let size : n ≡ raw.max_var + 1 = ap length c.as_slice-3.ensures.value ∙ marks.size in
     subst (λ (gs : List Gate). All (λ g. variable g.lhs < n) gs) (sym c.as_slice-gates.ensures)
     (λ k d l. let h : (get_or raw.gates k d).lhs ≤ 2 * raw.max_var + 1 = (c.requires.range.gates k d l).0 in omega arith)
+
+pub returns-then-are_ascending : goal.returns-then-are_ascending
+returns-then-are_ascending c =
+    all_grounded c.args.raw.now c.requires.defined
+    (subst (λ (gs : List Gate). All ReadsSmaller gs) c.as_slice-gates.ensures
+    (c.are_ascending.ensures.0 c.if-are_ascending.true))
 
 pub returns : goal.returns
 returns c =

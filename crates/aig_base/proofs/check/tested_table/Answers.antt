@@ -6,7 +6,7 @@ use Rattle.aig_base.specs.Least.{IsLeastAmong, IsKnown, IsGroundedGate, gate_var
 use Rattle.aig_base.specs.Literal.{variable}
 use Rattle.aig_base.specs.Sections.{definitions, uses}
 use Rattle.aig_base.specs.Sound.{IsReset}
-use Rattle.aig_base.proofs.Faults.{first_range, first_definition, first_redefined, first_undefined, first_reset, first_cycle, circuit_from_tests, table_from_entries}
+use Rattle.aig_base.proofs.Faults.{uses_defined, first_range, first_definition, first_redefined, first_undefined, first_reset, first_cycle, circuit_from_tests, table_from_entries}
 use Rattle.aig_base.proofs.check.tested_table.Goals as goal
 
 pub returns-then-not-are_in_range-clause-fault : goal.returns-then-not-are_in_range-clause-fault
@@ -45,6 +45,15 @@ returns-in-Some-least_bad_reset-clause-fault c = λ other.
     let known = subst (λ (t : List (Option Definition)). IsLeastAmong (IsKnown t) variable (uses raw) None) c.deref.ensures.value c.in_default-least_undefined.ensures in
     first_reset raw table range defs entries known c.in-Some-least_bad_reset.variable
     (subst (λ (xs : List Latch). IsLeastAmong IsReset latch_variable xs (Some c.in-Some-least_bad_reset.variable)) c.as_slice.ensures c.in-Some-least_bad_reset.ensures)
+
+pub least_ungrounded-requires-clause-defined : goal.least_ungrounded-requires-clause-defined
+least_ungrounded-requires-clause-defined c =
+    let raw = c.args.raw.now in
+    let table = c.in_ok-table.field-0.table.items in
+    let entries = subst (λ (o : Option ℕ). AreEntries raw (map variable (definitions raw)) table o) c.in_default.is c.in_ok-table.ensures in
+    uses_defined raw table None entries
+    (subst (λ (t : List (Option Definition)). IsLeastAmong (IsKnown t) variable (uses raw) None) c.deref.ensures.value
+    c.in_default-least_undefined.ensures)
 
 pub returns-in-Some-2-clause-fault : goal.returns-in-Some-2-clause-fault
 returns-in-Some-2-clause-fault c = λ other.
