@@ -128,7 +128,7 @@ def simulations():
 
 def growth():
     head("Growth (elapsed, nanoseconds a gate).", "shape", "gates", "check", "levels", "order")
-    for shape in ("chain", "random", "reversed"):
+    for shape in ("chain", "comb", "random", "reversed"):
         for gates in (100_000, 1_000_000, 4_000_000):
             circuit = make("grown.aag", "circuit", shape, *SOURCES, str(gates))
             times = printed([GROWTH, circuit, "1"])

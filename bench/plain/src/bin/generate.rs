@@ -6,7 +6,7 @@ use std::process::ExitCode;
 
 const USAGE: &str =
     "usage: generate circuit SHAPE INPUTS LATCHES OUTPUTS GATES | stimulus INPUTS FRAMES
-SHAPE: random, chain, or reversed (the gates of random, their lines from the last to the first)";
+SHAPE: random, chain, comb, or reversed (the gates of random, with lines and variables from the last to the first)";
 
 /// How far back a random gate reads, in variables. Every eighth side is picked from all.
 const NEAR: u64 = 4096;
@@ -47,13 +47,21 @@ fn gates(shape: &str, random: &mut Random, sources: u64, count: u64) -> Vec<(u64
     (0..count)
         .map(|place| {
             let greatest = sources + place;
-            let (a, b) = if shape == "chain" {
-                (
+            let (a, b) = match shape {
+                "chain" => (
                     2 * greatest + random.below(2),
                     2 * (1 + random.below(sources)) + random.below(2),
-                )
-            } else {
-                (side(random, greatest), side(random, greatest))
+                ),
+                // A tooth, then the next gate of the back, which reads that tooth and the back so far.
+                "comb" if place % 2 == 0 => (
+                    2 * (1 + random.below(sources)) + random.below(2),
+                    2 * (1 + random.below(sources)) + random.below(2),
+                ),
+                "comb" => (
+                    2 * greatest + random.below(2),
+                    2 * (greatest - 1) + random.below(2),
+                ),
+                _ => (side(random, greatest), side(random, greatest)),
             };
             (a.max(b), a.min(b))
         })
@@ -66,15 +74,24 @@ fn circuit(out: &mut impl Write, shape: &str, counts: [u64; 4]) -> io::Result<()
     let sources = inputs + latches;
     let sides = gates(shape, &mut random, sources, count);
     let greatest = sources + count;
+    // In a reversed circuit the last gate has the first variable behind the sources.
+    let name = |literal: u64| {
+        if shape == "reversed" && literal / 2 > sources {
+            2 * (sources + greatest + 1 - literal / 2) + literal % 2
+        } else {
+            literal
+        }
+    };
     writeln!(out, "aag {greatest} {inputs} {latches} {outputs} {count}")?;
     for variable in 1..=inputs {
         writeln!(out, "{}", 2 * variable)?;
     }
     for variable in inputs + 1..=sources {
-        writeln!(out, "{} {}", 2 * variable, side(&mut random, greatest))?;
+        let next = side(&mut random, greatest);
+        writeln!(out, "{} {}", 2 * variable, name(next))?;
     }
     for _ in 0..outputs {
-        writeln!(out, "{}", side(&mut random, greatest))?;
+        writeln!(out, "{}", name(side(&mut random, greatest)))?;
     }
     let line = |place: usize| {
         let (rhs0, rhs1) = sides[place];
@@ -87,7 +104,7 @@ fn circuit(out: &mut impl Write, shape: &str, counts: [u64; 4]) -> io::Result<()
             place
         };
         let (lhs, rhs0, rhs1) = line(place);
-        writeln!(out, "{lhs} {rhs0} {rhs1}")?;
+        writeln!(out, "{} {} {}", name(lhs), name(rhs0), name(rhs1))?;
     }
     Ok(())
 }
@@ -108,7 +125,7 @@ fn stimulus(out: &mut impl Write, inputs: u64, frames: u64) -> io::Result<()> {
 fn run(words: &[&str]) -> Result<(), Box<dyn Error>> {
     let mut out = BufWriter::new(io::stdout().lock());
     match words {
-        ["circuit", shape @ ("random" | "chain" | "reversed"), inputs, latches, outputs, count] => {
+        ["circuit", shape @ ("random" | "chain" | "comb" | "reversed"), inputs, latches, outputs, count] => {
             let counts = [
                 inputs.parse()?,
                 latches.parse()?,
