@@ -117,6 +117,42 @@ file rows '11\n'
 status=$?
 : > got.out; : > wanted.out; printf 'aig: script: input or output\n' > wanted.err
 compare 'bench: standard output is full' 3 $status
+file rows '11\n01\n'
+file script '+\nw 6 2\n+ 12\nq\n'
+row 'bench: more lines that are no command' 0 'bad\nbad\nbad\nbad\n' '' bench two_gates rows script
+file script 'w 6 2 2\nr 2 1\n+ 11\n-\nu\nv 0 8\n'
+row 'bench: commands that are not built' 0 'bad\nbad\nbad\nbad\nbad\n1\n' '' bench two_gates rows script
+file script 'v 4294967295 8\nv 0 4294967295\ns 4294967295 4294967295 x\n'
+row 'bench: the greatest numbers' 0 'no 6\nno 3\nno 6\n' '' bench two_gates rows script
+{ printf 'v 0 8'; printf ' %.0s' $(seq 5000); printf '\nv 0 8\n'; } > script
+row 'bench: a line that is longer than a chunk' 0 'bad\n1\n' '' bench two_gates rows script
+file rows '1\n'
+file script 'v 1 4\nv 1 6\nv 1 2\n'
+row 'bench: of several faults the one of least number' 0 'no 4\nno 3\nno 6\n' '' bench gap rows script
+file chain 'aag 3 1 2 1 0\n2\n4 2\n6 4\n6\n'
+file rows '1\n0\n0\n'
+file script 'v 2 6\ns 0 0 x\nv 2 6\nt\n'
+row 'bench: an edit reaches later frames' 0 '1\nok\nx\n00 x 0 x0\nx0 0 0 0x\n0x 0 x 00\n.\n' '' bench chain rows script
+file script 'v 0 8\n'
+file rows '11\n1\n'
+row 'bench: a short row' 1 '' 'aig: stimulus: length of line 2\n' bench two_gates rows script
+file rows '11\n1z1\n'
+row 'bench: a wrong character wins over a wrong length' 1 '' 'aig: stimulus: character in line 2\n' bench two_gates rows script
+file rows '11\n1z'
+row 'bench: an unfinished row wins over a wrong character' 1 '' 'aig: stimulus: unfinished\n' bench two_gates rows script
+file empty 'aag 0 0 0 0 0\n'
+yes '' | head -n 65537 > rows
+row 'bench: more rows than a stimulus may have' 1 '' 'aig: stimulus: limit\n' bench empty rows script
+yes '' | head -n 65536 > rows
+file script 'v 65535 1\nv 65536 1\n'
+row 'bench: as many rows as a stimulus may have' 0 '1\nno 6\n' '' bench empty rows script
+{ for _ in $(seq 16); do echo; done; } > rows
+file script 'v 15 0\nv 15 8388606\nv 15 8388608\n'
+row 'bench: as many cells as a bench may have' 0 '0\nno 4\nno 3\n' '' bench many rows script
+file rows '11\n'
+row 'bench: all files are opened before one is read' 3 '' 'aig: stimulus: input or output\n' bench . nowhere script
+row 'bench: a stimulus that cannot be read wins over a refused circuit' 3 '' 'aig: stimulus: input or output\n' bench cycle . script
+row 'bench: a directory as the script' 3 '' 'aig: script: input or output\n' bench two_gates rows .
 
 # ---- words
 words 'words: none'
@@ -125,6 +161,9 @@ words 'words: help of a subcommand' bench --help
 words 'words: an unknown subcommand' fold
 words 'words: a missing file name' bench two_gates
 words 'words: one file name too many' bench a b c d
+words 'words: a subcommand that is not built' unroll --frames 2 --to aag two_gates
+words 'words: another subcommand that is not built' check two_gates rows
+words 'words: a word that is not UTF-8' toaig --to aag "$(printf '\xff')"
 
 # ---- sim
 file rows '\n\n\n'
@@ -158,6 +197,21 @@ file rows '11\n'
 status=$?
 : > got.out; : > wanted.out; printf 'aig: stimulus: input or output\n' > wanted.err
 compare 'sim: standard output is full' 3 $status
+file rows '11\n1z1\n'
+row 'sim: a wrong character in a line that is too long' 1 ' 11 1 \n' 'aig: stimulus: character in line 2\n' sim one_gate rows
+written=('' '' '' ' 11 1 \n' ' 11 1 \n' ' 11 1 \n' ' 11 1 \n x0 0 \n')
+for cut in 0 1 2 3 4 5 6; do
+    printf '11\nx0\n' | head -c $cut > rows
+    if [ $((cut % 3)) = 0 ]; then
+        row "sim: the first $cut bytes of two rows" 0 "${written[$cut]}" '' sim one_gate rows
+    else
+        row "sim: the first $cut bytes of two rows" 1 "${written[$cut]}" 'aig: stimulus: unfinished\n' sim one_gate rows
+    fi
+done
+file rows '11\n'
+row 'sim: no circuit file' 3 '' 'aig: circuit: input or output\n' sim nowhere rows
+row 'sim: a refused circuit' 1 '' 'aig: circuit: cycle 2\n' sim cycle rows
+row 'sim: a stimulus that is not there wins over a refused circuit' 3 '' 'aig: stimulus: input or output\n' sim cycle nowhere
 
 # ---- toaig
 # both NAME ASCII BINARY: the text is written back as it stands, and converted to these bytes.
@@ -217,6 +271,53 @@ for design in two_gates counter fifo; do
     same "toaig: $design, to binary" "$examples/$design.aig" toaig --to aig "$examples/$design.aag"
 done
 same 'toaig: a ready design, to binary and back' "$examples/counter.aag" toaig --to aag "$examples/counter.aig"
+# prefixes NAME FORMAT BYTES LENGTH..: of the beginnings of the bytes those of these lengths are written back, and each
+# other one is refused where it ends.
+prefixes() {
+    local name=$1 format=$2 lengths=" ${*:4} " length
+    file whole "$3"
+    for ((length = 0; length <= $(stat -c %s whole); length++)); do
+        head -c $length whole > source
+        if [[ $lengths == *" $length "* ]]; then
+            same "toaig: the first $length bytes of $name" source toaig --to "$format" source
+        else
+            row "toaig: the first $length bytes of $name" 1 '' "aig: circuit: text at $length\n" toaig --to "$format" source
+        fi
+    done
+}
+prefixes 'a text' aag 'aag 1 1 0 0 0 0 1\n2\n2\nc0 go\nc\nhi' 22 28 30 31 32
+prefixes 'a binary file' aig 'aig 3 2 0 1 1\n6\n\x02\x02' 18
+refused 'counts, whatever follows' 'aag 1 2 0 0 0\nx' 'counts'
+refused 'inputs that do not follow' 'aag 4194303 4194303 0 0 0\n' 'text at 26'
+{ printf 'aag '; printf '9%.0s' $(seq 400); } > source
+row 'toaig: a count of 400 digits' 1 '' 'aig: circuit: limit\n' toaig --to aag source
+{ printf 'aag 0 0 0 0 0\ni'; printf '9%.0s' $(seq 400); } > source
+row 'toaig: a position of 400 digits' 1 '' 'aig: circuit: limit\n' toaig --to aag source
+refused 'a delta of ten groups' 'aig 3 2 0 1 1\n6\n\x80\x80\x80\x80\x80\x80\x80\x80\x80\x00\x02' 'text at 16'
+refused 'a delta of five groups' 'aig 3 2 0 1 1\n6\n\xff\xff\xff\xff\x0f\x00' 'text at 16'
+refused 'an end inside a delta' 'aig 3 2 0 1 1\n6\n\x02\x82' 'text at 17'
+refused 'an empty name' 'aag 1 1 0 0 0\n2\ni0 \n' 'text at 19'
+refused 'a name that the end cuts' 'aag 1 1 0 0 0\n2\ni0 ab' 'text at 21'
+refused 'a comment on the line of its letter' 'aag 1 1 0 0 0\n2\nc hi\n' 'text at 17'
+refused 'a position over the limit' 'aag 1 1 0 0 0\n2\ni8388608 a\n' 'limit'
+refused 'justice sizes over the limit together' 'aag 0 0 0 0 0 0 0 2\n4194303\n1\n' 'limit'
+refused 'CR before LF' 'aag 0 0 0 0 0\r\n' 'text at 13'
+refused 'two spaces' 'aag  0 0 0 0 0\n' 'text at 4'
+# deltas NAME BYTES: a binary file that is written back as it stands.
+deltas() {
+    file source "$2"
+    row "toaig: deltas $1" 0 "$2" '' toaig --to aig source
+}
+deltas '127 and 1' 'aig 64 63 0 0 1\n\x7f\x01'
+deltas '128 and 0' 'aig 64 63 0 0 1\n\x80\x01\x00'
+deltas '300 and 0' 'aig 150 149 0 0 1\n\xac\x02\x00'
+deltas '16,383 and 1' 'aig 8192 8191 0 0 1\n\xff\x7f\x01'
+deltas '16,384 and 0' 'aig 8192 8191 0 0 1\n\x80\x80\x01\x00'
+deltas '2,097,151 and 1' 'aig 1048576 1048575 0 0 1\n\xff\xff\x7f\x01'
+deltas '2,097,152 and 0' 'aig 1048576 1048575 0 0 1\n\x80\x80\x80\x01\x00'
+deltas '8,388,606 and 0, the greatest' 'aig 4194303 4194302 0 0 1\n\xfe\xff\xff\x03\x00'
+both 'all sections and symbols' 'aag 3 1 1 1 1 1 1 1 1\n2\n4 6 4\n6\n6\n4\n1\n6\n4\n6 4 2\nf0 fair\nj0 just\nc0 con\nb0 bad state\no0 out\nl0 state\ni0 in\nc\nhi\n' 'aig 3 1 1 1 1 1 1 1 1\n6 4\n6\n6\n4\n1\n6\n4\n\x02\x02f0 fair\nj0 just\nc0 con\nb0 bad state\no0 out\nl0 state\ni0 in\nc\nhi\n'
+both 'resets' 'aag 9 1 2 1 1\n18\n4 6 4\n8 19 1\n5\n6 4 18\n' 'aig 4 1 2 1 1\n8 4\n3 1\n5\n\x04\x02'
 
 echo "$passed passed, $failed failed"
 [ "$failed" = 0 ]
