@@ -17,6 +17,7 @@ pub enum Stop {
 }
 
 impl Stop {
+    /// Says why on standard error, where that was not said yet.
     pub fn tell(&self, rt: &impl Eprint) -> io::Result<()> {
         match self {
             Stop::Told => Ok(()),
@@ -26,6 +27,7 @@ impl Stop {
         }
     }
 
+    /// The exit status: 2 where the words are wrong, else that of the fault.
     pub fn status(&self) -> u8 {
         match self {
             Stop::Told | Stop::NoTask | Stop::NotText => 2,

@@ -43,6 +43,7 @@ impl<'a> Task<'a> {
         }
     }
 
+    /// Opens the files, does the task, and hands its results to standard output.
     pub fn run<R: Files + AllocGlobal + Print>(&self, rt: &R) -> Result<(), Stop> {
         let done = match *self {
             Task::Convert { to, circuit } => convert(rt, to, circuit),

@@ -52,7 +52,7 @@ impl Block {
         self.as_slice().is_empty()
     }
 
-    /// Takes bytes out in front.
+    /// Takes bytes out in front. The caller knows that so many wait.
     pub fn skip(&mut self, count: usize)
         requires { count ≤ length self.old }
         ensures { self.new ≡ drop count self.old }

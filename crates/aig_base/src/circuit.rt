@@ -34,7 +34,8 @@ impl Model for Circuit {
 }
 
 impl Circuit {
-    /// The greatest variable M. That the parts are formed, sound and acyclic is said here for all callers.
+    /// The greatest variable M. Its contract also says that the parts are formed, sound and acyclic: a proof calls it to
+    /// learn that.
     pub fn max_var(&self) -> u32
         ensures value { result ≡ self.now.max_var }
         ensures circuit { IsCircuit self.now }
@@ -115,7 +116,7 @@ impl Circuit {
         }
     }
 
-    /// What defines a variable. Variable 0 and a variable over M have no definition.
+    /// What defines a variable; nothing defines variable 0, one over M, and one that no input, latch or gate has.
     pub fn definition(&self, variable: u32) -> Option<Definition>
         ensures found { IfSome result (Defines self.now variable) }
         ensures none { IfNone result (IsFree self.now variable) }

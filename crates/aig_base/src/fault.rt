@@ -47,7 +47,7 @@ pub enum Fault {
     /// A latch whose reset is not 0, 1 or its own literal.
     #[error("reset {0}")]
     Reset(u32),
-    /// A gate that is on a cycle of gates, or reads one.
+    /// A gate that is on a cycle of gates, or reads one directly or through other gates.
     #[error("cycle {0}")]
     Cycle(u32),
     /// No memory was found.

@@ -94,7 +94,7 @@ impl Levels {
         Ok(Levels { levels })
     }
 
-    /// The level of a variable of the circuit; 0 for one that nothing defines.
+    /// The level of a variable up to M that is 0 or defined.
     pub fn level(&self, variable: u32) -> u32
         requires { variable < length self.now }
         ensures { slice_get self.now variable ≡ Some result }

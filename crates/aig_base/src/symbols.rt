@@ -37,6 +37,7 @@ impl Model for Symbols {
 }
 
 impl Symbols {
+    /// No names. It takes no memory.
     pub fn new(alloc: Global) -> Symbols
         ensures { result ≡ [] }
     {
@@ -45,6 +46,7 @@ impl Symbols {
         }
     }
 
+    /// How many entries have a name.
     pub fn len(&self) -> usize
         ensures len { result ≡ length self.now }
     {
@@ -72,6 +74,7 @@ impl Symbols {
         Ok(true)
     }
 
+    /// The entries and their names, in the order of the file.
     pub fn iter(&self) -> map::Iter<'_, (Kind, u32), Bytes>
         ensures entries { result ≡ self.now }
         ensures runs { ShowsInOrder (deref_pair {K = Kind × ℕ} {X = List ℕ}) }

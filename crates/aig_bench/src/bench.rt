@@ -1,12 +1,14 @@
 //! The workbench.
 ghost use Rattle.std.specs.Prelude.{◌≡◌, ◌≢◌, ℕ, ◌+◌, ◌*◌, ◌<◌, ◌≤◌, ◌↔◌, List, length, IsErrOf, IfOk, IsTrue, OnOk, OnErr};
 ghost use Rattle.aig_base.specs.Bytes.{Writes};
+ghost use Rattle.aig_base.specs.Circuit.{IsCircuit};
 ghost use Rattle.aig_base.specs.Sections.{IsDefined};
 ghost use Rattle.aig_bench.specs.Current.{IsBench};
 ghost use Rattle.aig_bench.specs.Edit.{Edits, set_bit};
 ghost use Rattle.aig_bench.specs.Pair.{Pair, HasTrace};
 ghost use Rattle.aig_bench.specs.Plan.{IsPlan, pair_of};
 ghost use Rattle.aig_bench.specs.Question.{AnswersValue};
+ghost use Rattle.aig_sim.specs.StimulusText.{HaveWidth};
 
 use crate::bench_fault::BenchFault;
 use crate::edit::{EditFault, EditReport};
@@ -108,9 +110,11 @@ impl<G: Grid> Bench<G> {
         Ok(make(alloc, circuit, stimulus)?)
     }
 
-    /// The number of inputs.
+    /// The number of inputs. Its contract also says that the pair is a circuit and rows of that width.
     pub fn width(&self) -> u32
-        ensures { result ≡ length self.now.circuit.inputs }
+        ensures width { result ≡ length self.now.circuit.inputs }
+        ensures circuit { IsCircuit self.now.circuit }
+        ensures rows { HaveWidth (length self.now.circuit.inputs) self.now.rows }
     {
         self.plan.stimulus.width()
     }

@@ -1,7 +1,7 @@
 //! What an edit answers.
 use thiserror::Error;
 
-/// How many gates' cells an accepted edit evaluated, and how many of them changed.
+/// How many gates' cells an accepted edit evaluated, and how many of them changed. Both are 0 for now.
 #[derive(Clone, Copy, PartialEq, Eq, Debug)]
 pub struct EditReport {
     pub evaluated: u64,

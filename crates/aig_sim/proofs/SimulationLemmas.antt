@@ -2,6 +2,7 @@
 use Rattle.std.proofs.Common.{◌≡◌, ◌≢◌, ℕ, zero, suc, ◌+◌, ◌-◌, ◌^◌, min, List, [], ◌∷◌, ◌++◌, length, map, inl, inr, refl, sym, ap, ◌∙◌, subst, arith, append_assoc, add-one, Ok, Err}
 use Rattle.std.specs.Prelude.{Option, Some, None, Result, IfOk, IfErr, OnOk, OnErr}
 use Rattle.std.specs.List.{flat_map}
+use Rattle.std.specs.Result.{IsErrAnd}
 use Rattle.std.proofs.lemmas.List.{append-nil, length_push}
 use Rattle.aig_base.specs.declared.ternary.Tern.{Tern}
 use Rattle.aig_base.specs.declared.raw.Raw.{Raw}
@@ -20,7 +21,7 @@ use Rattle.aig_sim.specs.Running.{Running, StopsBy, Stopped, GoesOn, Stops, Read
 use Rattle.aig_sim.specs.Simulated.{Simulates}
 use Rattle.aig_sim.specs.StimulusText.{row_line, line_number, EndsLine, HasFault, HasFaultyLine}
 use Rattle.aig_sim.specs.Trace.{AreValues, IsLine, AreLines, IsTrace}
-use Rattle.aig_sim.proofs.LineLemmas.{read_none, read_byte, read_line, read_fault, read_unfinished, read_end, step_same}
+use Rattle.aig_sim.proofs.LineLemmas.{read_none, read_byte, read_line, read_fault, read_unfinished, read_end, step_same, fault_same}
 use Rattle.aig_sim.proofs.TraceLemmas.{value_stays}
 
 -- ---- the trace so far
@@ -391,3 +392,16 @@ simulates_nothing raw left reads start count = record {
   wrote = sym (after-nil start);
   ended = ((refl, refl), refl, (refl, refl));
 }
+
+-- a simulation that has begun does not stop for want of memory
+stops_for_no_memory : (raw : Raw) (start : Option (List ℕ)) (count : ℕ) (text : List ℕ) (written : Option (List ℕ)) (failures : ℕ)
+    (f : StimFault) → f ≡ fault.Memory → Stopped raw start count text written failures f → ⊥
+stops_for_no_memory raw start count text written failures f is s =
+    subst (λ (f : StimFault). StopsBy raw count text s.rows s.trace s.done failures f) is s.why
+
+pub stopped_for_no_memory : (Q : Type 0) {raw : Raw} {start : Option (List ℕ)} {count : ℕ} {text : List ℕ} {written : Option (List ℕ)}
+    {failures : ℕ} (r : Result ℕ StimFault) (f : StimFault) → IsErrAnd r (λ g. g ≡ f)
+    → Stopped raw start count text written failures f → IfErr r (λ g. g ≡ fault.Memory → Q)
+stopped_for_no_memory Q {raw} {start} {count} {text} {written} {failures} r f h stopped =
+    fault_same r f (λ g. g ≡ fault.Memory → Q) h
+    (λ is. absurd (stops_for_no_memory raw start count text written failures f is stopped))

@@ -45,7 +45,7 @@ HasFault width before line rest fault.Limit =
 HasFault width before line rest fault.Memory = ⊥
 HasFault width before line rest fault.Io = ⊥
 
--- the text is these rows and then its first faulty line
+-- the text is these rows and then, where they are at most 65,536, its first faulty line
 pub record HasFaultyLine (width : ℕ) (text : List ℕ) (rows : List (List Tern)) (fault : StimFault) : Type 0 where
   pub widths : HaveWidth width rows
   pub line : List ℕ

@@ -72,7 +72,7 @@ pub trait Grid: Sized + Drop {
         ensures gates { gate_flags self.new ≡ gate_flags self.old }
         ensures count { evaluations self.new ≡ evaluations self.old };
 
-    /// Takes the last row off, where there is one.
+    /// Takes the last row off. The caller knows that there is one.
     fn drop_row(&mut self)
         requires { 0 < length (cells self.old) }
         ensures cells { Self.cells self.new ≡ take (length (Self.cells self.old) - 1) (Self.cells self.old) }

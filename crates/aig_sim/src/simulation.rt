@@ -106,17 +106,19 @@ impl<'a> Simulation<'a> {
 
 /// Reads rows to the end, writes the trace line of each before it reads on, and answers how many there were (`u64::MAX`
 /// for more). It keeps one row, one line and the latches' values, all reserved before the first read; there is no limit
-/// on frames.
+/// on frames. At a fault in line n the lines of the n - 1 rows before it are written; where memory is wanting, nothing
+/// was read.
 pub fn simulate<R: Read, W: Write>(
     alloc: Global,
     circuit: &Circuit,
     reader: &mut R,
     out: &mut W,
 ) -> Result<u64, StimFault>
-    ensures { Simulates circuit.now
+    ensures simulated { Simulates circuit.now
         (record { left = R.left reader.old; reads = R.failures reader.old; writes = W.failures out.old })
         (record { left = R.left reader.new; reads = R.failures reader.new; writes = W.failures out.new })
         (W.written out.old) (W.written out.new) result }
+    ensures memory { IfErr result (λ fault. fault ≡ StimFault.Memory → (reader.new ≡ reader.old) × (out.new ≡ out.old)) }
 {
     let mut simulation = Simulation::new(alloc, circuit)?;
     let mut chunk = [0u8; 4096];

@@ -57,7 +57,7 @@ impl Stimulus {
         self.rows.len() as u32
     }
 
-    /// The value at a position of a frame, both counted from 0.
+    /// The value at a position below the width of a frame that is there, both counted from 0.
     pub fn get(&self, frame: u32, position: u32) -> Tern
         requires frame { frame < length self.now.rows }
         requires position { position < self.now.width }
@@ -66,7 +66,7 @@ impl Stimulus {
         self.rows[frame as usize][position as usize]
     }
 
-    /// Replaces the value at a position of a frame.
+    /// Replaces the value at a position below the width of a frame that is there.
     pub fn set(&mut self, frame: u32, position: u32, value: Tern)
         requires frame { frame < length self.old.rows }
         requires position { position < self.old.width }
@@ -75,7 +75,7 @@ impl Stimulus {
         self.rows[frame as usize].set(position as usize, value);
     }
 
-    /// Appends a row of the width, where there are fewer than 65,536.
+    /// Appends a row. The caller knows that it has the width, and that there are fewer than 65,536.
     pub fn push(&mut self, row: &[Tern]) -> Result<(), Memory>
         requires width { length row.now ≡ self.old.width }
         requires room { length self.old.rows < FRAMES }
@@ -89,7 +89,7 @@ impl Stimulus {
         Ok(())
     }
 
-    /// Takes the last row off, where there is one.
+    /// Takes the last row off. The caller knows that there is one.
     pub fn pop(&mut self)
         requires { 0 < length self.old.rows }
         ensures { self.new ≡ record self.old { rows = take (length self.old.rows - 1) self.old.rows } }

@@ -30,7 +30,8 @@ fn end_line(stimulus: &mut Stimulus, line: &LineInHand) -> Result<(), StimFault>
 }
 
 /// The rows of a text: a line of `width` characters a frame, each `0`, `1` or `x`, each line ended by LF. Otherwise the
-/// fault of the first line that is none of these.
+/// fault of the first line that is none of these: `Unfinished`, else `Char`, else `Length`, else, as the 65,537th,
+/// `Limit`.
 pub fn read_stimulus(alloc: Global, bytes: &[u8], width: u32) -> Result<Stimulus, StimFault>
     ensures width { IfOk result (λ stimulus. stimulus.width ≡ width) }
     ensures rows { IfOk result (λ stimulus. SpellsRows width bytes.now stimulus.rows) }

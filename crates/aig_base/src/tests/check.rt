@@ -118,7 +118,7 @@ fn each_fault_comes_before_the_next(rt: HostRuntime) -> Result<(), Fail> {
 }
 
 #[test]
-fn a_deep_chain_in_reverse_is_a_circuit(rt: HostRuntime) -> Result<(), Fail> {
+fn a_deep_chain_with_its_lines_in_reverse_is_a_circuit(rt: HostRuntime) -> Result<(), Fail> {
     let alloc = rt.alloc();
     let mut raw = parts(alloc, 4_194_303, &[], &[], &[8_388_606], &[])?;
     for variable in (0..4_194_303).rev() {

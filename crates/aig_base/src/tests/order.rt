@@ -142,3 +142,17 @@ fn no_cycle_where_levels_are_one(rt: HostRuntime) -> Result<(), Fail> {
     assert!(rt; !closes(rt.alloc(), &apart, 3, 8, 2)?);
     Ok(())
 }
+
+// Each gate reads the gate with the next variable, the last one a constant, so that no gate reads a smaller variable.
+#[test]
+fn a_deep_chain_of_falling_variables(rt: HostRuntime) -> Result<(), Fail> {
+    let mut rows = Vec::new(rt.alloc());
+    for variable in 1..4_194_303u32 {
+        rows.push((2 * variable, 2 * variable + 2, 1))?;
+    }
+    rows.push((8_388_606, 1, 1))?;
+    let chain = circuit(rt.alloc(), 4_194_303, &[], 2, rows.as_slice())?;
+    assert_eq!(rt; level(rt.alloc(), &chain, 1)?, 4_194_303);
+    assert_eq!(rt; order(rt.alloc(), &chain)?.first(), Some(&4_194_303));
+    Ok(())
+}

@@ -8,7 +8,7 @@ use Rattle.aig_sim.specs.declared.stimulus_fault.StimFault.{StimFault}
 use Rattle.aig_sim.specs.declared.stimulus_fault.StimFault.TheVariants.{Memory}
 use Rattle.aig_sim.specs.Frame.{AreStates}
 use Rattle.aig_sim.specs.Simulated.{Simulates}
-use Rattle.aig_sim.proofs.SimulationLemmas.{running_none, read_nothing, read_more, simulates_stopped, simulates_end, simulates_nothing}
+use Rattle.aig_sim.proofs.SimulationLemmas.{running_none, read_nothing, read_more, simulates_stopped, simulates_end, simulates_nothing, stopped_for_no_memory}
 use Rattle.aig_sim.proofs.TraceLemmas.{first_states}
 use Rattle.aig_sim.proofs.simulation.simulate.Goals as goal
 
@@ -17,8 +17,8 @@ handed_on : (P : Result ℕ StimFault → Type 0) (r : Result ℕ StimFault) (e 
     → P (Err e) → P r
 handed_on P r e h p = let (y, is, same) = err_from_is_err_and r h in subst P (ap Err (sym same) ∙ sym is) p
 
-pub returns-in_err-simulation : goal.returns-in_err-simulation
-returns-in_err-simulation g c =
+pub returns-in_err-simulation-clause-simulated : goal.returns-in_err-simulation-clause-simulated
+returns-in_err-simulation-clause-simulated g c =
     let left = g.R.Read.left c.args.reader.now in
     let reads = g.R.Read.failures c.args.reader.now in
     let written = g.W.Write.written c.args.out.now in
@@ -56,8 +56,8 @@ chunks-preserved g c =
           h.given h.count e.ok;
     }
 
-pub returns-then-size-eq0 : goal.returns-then-size-eq0
-returns-then-size-eq0 g c =
+pub returns-then-size-eq0-clause-simulated : goal.returns-then-size-eq0-clause-simulated
+returns-then-size-eq0-clause-simulated g c =
     let h = c.in-Ok.ensures in
     let e = c.finish.ensures in
     let some : 0 < length c.read.new.buffer = omega arith in
@@ -67,8 +67,8 @@ returns-then-size-eq0 g c =
     ≡ before (take n c.read.new.buffer) (g.R.Read.left c.read.new.self)) zero h.given)
     h.count (h.end zero some) e.frames e.ended e.fault e.unfinished
 
-pub returns-in_err-feed : goal.returns-in_err-feed
-returns-in_err-feed g c =
+pub returns-in_err-feed-clause-simulated : goal.returns-in_err-feed-clause-simulated
+returns-in_err-feed-clause-simulated g c =
     let h = c.in-Ok.ensures in
     let e = c.in_err-feed.ensures in
     let f = c.in_err-feed.field-0.0 in
@@ -90,3 +90,11 @@ returns-in_err-feed g c =
     (simulates_stopped c.chunks.invariant.so_far (take c.in-Ok.size c.read.new.buffer)
     (g.W.Write.written c.feed.new.out) (g.W.Write.failures c.feed.new.out) f
     h.given h.count e.err)
+
+pub returns-in_err-feed-clause-memory : goal.returns-in_err-feed-clause-memory
+returns-in_err-feed-clause-memory g c =
+    let so_far = c.chunks.invariant.so_far in
+    let f = c.in_err-feed.field-0.0 in
+    stopped_for_no_memory _ c.from_residual-in_err-feed.result f c.from_residual-in_err-feed.ensures.1
+    (c.in_err-feed.ensures.err c.args.circuit.now (g.W.Write.written c.args.out.now) (g.W.Write.failures c.args.out.now)
+    so_far.text so_far.running)
