@@ -18,14 +18,15 @@ IsConverted raw Binary text =
     (IsBinaryReady raw × (text ≡ short_binary raw))
     ⊎ ((IsBinaryReady raw → ⊥) × ((order : List ℕ) × IsCanonicalOrder raw order × (text ≡ short_binary (renumbered raw order))))
 
--- How the writing of a converted circuit ends: written whole; a write failed behind a beginning; no memory was found to
--- renumber it, and nothing was written.
+-- How the writing of a converted circuit ends: written whole; a write failed behind a beginning; it has to be renumbered
+-- and no memory was found for that, and nothing was written.
 abbrev pub IsWritten : {X : Type 0} → (X → Option (List ℕ)) → (X → ℕ) → X → X → Raw → Format → Result (Unit {0}) RunFault → Type 0
 IsWritten written failures old new raw to (Ok done) =
     (text : List ℕ) × IsConverted raw to text × Writes {T = Unit {0}} {E = RunFault} written failures old new text (Ok done)
 IsWritten written failures old new raw to (Err parts.Output) =
     (text : List ℕ) × IsConverted raw to text × Writes {T = Unit {0}} {E = RunFault} written failures old new text (Err parts.Output)
-IsWritten written failures old new raw to (Err parts.Memory) = new ≡ old
+IsWritten written failures old new raw Ascii (Err parts.Memory) = ⊥
+IsWritten written failures old new raw Binary (Err parts.Memory) = (IsBinaryReady raw → ⊥) × (new ≡ old)
 IsWritten written failures old new raw to (Err _) = ⊥
 
 -- how a conversion ends: a refused file, with nothing written; or its circuit was converted

@@ -22,17 +22,24 @@ pub record IsFileOf (bytes : List ℕ) (raw : Raw) : Type 0 where
   pub spelled : Spells bytes raw
   pub circuit : IsCircuit raw
 
--- the files are this circuit and rows of its width
+-- the files are this circuit and rows of its width, at most 65,536
 pub record AreFilesOf (circuit stimulus : List ℕ) (pair : Pair) : Type 0 where
   pub circuit_is : IsFileOf circuit pair.circuit
   pub rows_are : SpellsRows (length pair.circuit.inputs) stimulus pair.rows
+  pub frames : length pair.rows ≤ 65536
+
+-- the same, and a bench has room for the cells
+pub record AreBenchFiles (circuit stimulus : List ℕ) (pair : Pair) : Type 0 where
+  pub files_are : AreFilesOf circuit stimulus pair
+  pub cells : (pair.circuit.max_var + 1) * length pair.rows ≤ 67108864
 
 -- Why a circuit file is refused. Where it spells parts, their first fault is told, and such a fault is told of no other
--- file; the fault of the counts needs a header line whose counts do not go together; no read fails.
+-- file; the fault of the counts comes exactly where the header line's counts do not go together; no read fails.
 pub record RefusesCircuit (bytes : List ℕ) (fault : Fault) : Type 0 where
   pub spelled : (raw : Raw) → Spells bytes raw → fault ≢ circuits.Memory → IsFirstFault raw fault
   pub of_parts : IsOfParts fault → (raw : Raw) × Spells bytes raw × IsFirstFault raw fault
   pub counts : fault ≡ circuits.Counts → HasWrongCounts bytes
+  pub wrong : HasWrongCounts bytes → fault ≢ circuits.Memory → fault ≡ circuits.Counts
   pub io : fault ≢ circuits.Io
 
 -- why a stimulus of a width is refused: its first faulty line

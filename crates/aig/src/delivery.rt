@@ -1,10 +1,11 @@
 //! Engines over a writer that holds bytes back: all that they wrote is handed on, whatever they answer.
+ghost use Rattle.std.specs.Prelude.{◌≡◌, [], OnOk};
 
 use crate::conversion::convert;
 use crate::engine::{read_circuit, run_bench};
 use crate::run_fault::RunFault;
 use crate::script_fault::ScriptFault;
-use aig_base::{Buffered, Read, Write};
+use aig_base::{Buffered, Io, Read, Write};
 use aig_format::Format;
 use aig_sim::{ByteGrid, StimFault, simulate};
 use std::alloc::Global;
@@ -15,7 +16,9 @@ pub fn deliver_circuit<W: Write>(
     circuit: &[u8],
     to: Format,
     out: &mut Buffered<W>,
-) -> Result<(), RunFault> {
+) -> Result<(), RunFault>
+    ensures flushed { OnOk result (out.new.held ≡ []) }
+{
     let done = convert(alloc, circuit, to, out);
     ended(done, out, RunFault::Output)
 }
@@ -26,7 +29,9 @@ pub fn deliver_trace<R: Read, W: Write>(
     circuit: &[u8],
     stimulus: &mut R,
     out: &mut Buffered<W>,
-) -> Result<(), RunFault> {
+) -> Result<(), RunFault>
+    ensures flushed { OnOk result (out.new.held ≡ []) }
+{
     let done = write_trace(alloc, circuit, stimulus, out);
     ended(done, out, RunFault::Stimulus(StimFault::Io))
 }
@@ -38,7 +43,9 @@ pub fn deliver_replies<R: Read, W: Write>(
     stimulus: &[u8],
     script: &mut R,
     out: &mut Buffered<W>,
-) -> Result<(), RunFault> {
+) -> Result<(), RunFault>
+    ensures flushed { OnOk result (out.new.held ≡ []) }
+{
     let done = run_bench::<ByteGrid, R, Buffered<W>>(alloc, circuit, stimulus, script, out);
     ended(done, out, RunFault::Script(ScriptFault::Io))
 }
@@ -48,10 +55,14 @@ fn ended<W: Write>(
     done: Result<(), RunFault>,
     out: &mut Buffered<W>,
     part: RunFault,
-) -> Result<(), RunFault> {
-    match (out.flush(), done) {
-        (Err(_), Ok(())) => Err(part),
-        (_, done) => done,
+) -> Result<(), RunFault>
+    ensures flushed { OnOk result (out.new.held ≡ []) }
+{
+    let flushed = out.flush();
+    done?;
+    match flushed {
+        Ok(()) => Ok(()),
+        Err(Io) => Err(part),
     }
 }
 

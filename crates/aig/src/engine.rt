@@ -3,7 +3,7 @@ ghost use Rattle.std.specs.Prelude.{◌≡◌, length, IfOk, IfErr, OnOk};
 ghost use Rattle.aig_bench.specs.Pair.{Pair};
 ghost use Rattle.aig.specs.Ran.{Ran, Failing};
 ghost use Rattle.aig_sim.specs.StimulusText.{SpellsRows};
-ghost use Rattle.aig.specs.Run.{IsFileOf, AreFilesOf, RefusesCircuit, RefusesStimulus, RefusesFiles, IsOfFiles, IsOfRun};
+ghost use Rattle.aig.specs.Run.{IsFileOf, AreBenchFiles, RefusesCircuit, RefusesStimulus, RefusesFiles, IsOfFiles, IsOfRun};
 
 use crate::run_fault::RunFault;
 use crate::script::run_script;
@@ -40,7 +40,7 @@ fn read_rows(alloc: Global, circuit: &Circuit, file: &[u8]) -> Result<Stimulus, 
 
 /// A bench of a circuit file and a stimulus file.
 fn open_bench<G: Grid>(alloc: Global, circuit: &[u8], stimulus: &[u8]) -> Result<Bench<G>, RunFault>
-    ensures bench { IfOk result (AreFilesOf circuit.now stimulus.now) }
+    ensures bench { IfOk result (AreBenchFiles circuit.now stimulus.now) }
     ensures fault { IfErr result (RefusesFiles circuit.now stimulus.now) }
 {
     let circuit = match read_circuit(alloc, circuit) {
@@ -51,6 +51,8 @@ fn open_bench<G: Grid>(alloc: Global, circuit: &[u8], stimulus: &[u8]) -> Result
         Ok(stimulus) => stimulus,
         Err(fault) => return Err(RunFault::Stimulus(fault)),
     };
+    // Its contract tells that the rows are within their limit.
+    let _frames = stimulus.frames();
     match Bench::new(alloc, circuit, stimulus) {
         Ok(bench) => Ok(bench),
         Err(fault) => Err(RunFault::Bench(fault)),
@@ -67,15 +69,19 @@ pub fn run_bench<G: Grid, R: Read, W: Write>(
     out: &mut W,
 ) -> Result<(), RunFault>
     // The script was read to its end, and what was written are its replies.
-    ensures replies { OnOk result ((pair new : Pair) × AreFilesOf circuit.now stimulus.now pair
+    ensures replies { OnOk result ((pair new : Pair) × AreBenchFiles circuit.now stimulus.now pair
         × Ran R.left R.failures W.written W.failures script.old script.new out.old out.new pair new) }
     // A part is refused for a reason of its own, and then no script was read and nothing written.
     ensures refused { IfErr result (λ fault. IsOfFiles fault → RefusesFiles circuit.now stimulus.now fault) }
     ensures untouched { IfErr result (λ fault. IsOfFiles fault → (script.new ≡ script.old) × (out.new ≡ out.old)) }
     // Any other fault is the script's.
     ensures script { IfErr result (λ fault. fault ≡ RunFault.Script ScriptFault.Io →
-        (pair new : Pair) × AreFilesOf circuit.now stimulus.now pair
+        (pair new : Pair) × AreBenchFiles circuit.now stimulus.now pair
         × Failing R.left R.failures W.written W.failures script.old script.new out.old out.new pair new) }
+    // Where a script finds no memory, nothing of it was read and nothing written.
+    ensures memory { IfErr result (λ fault. fault ≡ RunFault.Script ScriptFault.Memory →
+        ((pair : Pair) × AreBenchFiles circuit.now stimulus.now pair)
+        × (script.new ≡ script.old) × (out.new ≡ out.old)) }
     ensures parts { IfErr result IsOfRun }
 {
     let mut bench = open_bench::<G>(alloc, circuit, stimulus)?;

@@ -36,6 +36,26 @@ fn files_are_converted(rt: HostRuntime) -> Result<(), Fail> {
             b"aig 4 1 0 1 3\n8\n\x02\x00\x02\x02\x06\x00",
         ),
         (
+            b"aag 1 1 0 0 0 0 0 1 1\n2\n2\n2\n3\n2\n",
+            Format::Ascii,
+            b"aag 1 1 0 0 0 0 0 1 1\n2\n2\n2\n3\n2\n",
+        ),
+        (
+            b"aag 1 0 1 0 0 0 0\n2 2 0\n",
+            Format::Ascii,
+            b"aag 1 0 1 0 0\n2 2\n",
+        ),
+        (
+            b"aag 5 2 0 1 3\n2\n4\n10\n10 6 8\n8 2 4\n6 4 3\n",
+            Format::Binary,
+            b"aig 5 2 0 1 3\n10\n\x02\x01\x04\x02\x02\x02",
+        ),
+        (
+            b"aag 1 1 0 0 0\n2\nc\n",
+            Format::Ascii,
+            b"aag 1 1 0 0 0\n2\nc\n",
+        ),
+        (
             b"aag 1 1 0 0 0 0 1 0 0\n2\n2\nc0 go\nc\nhi",
             Format::Ascii,
             b"aag 1 1 0 0 0 0 1\n2\n2\nc0 go\nc\nhi",
@@ -49,12 +69,23 @@ fn files_are_converted(rt: HostRuntime) -> Result<(), Fail> {
 }
 
 #[test]
-fn a_refused_file_writes_nothing(rt: HostRuntime) -> Result<(), Fail> {
-    let mut out = MemWriter::new(rt.alloc(), 100)?;
-    let cycle = b"aag 3 1 0 1 2\n2\n4\n4 6 2\n6 4 2\n";
-    let done = convert(rt.alloc(), cycle, Format::Ascii, &mut out);
-    assert_eq!(rt; done, Err(RunFault::Circuit(Fault::Cycle(2))));
-    assert_eq!(rt; out.bytes(), b"".as_slice());
+fn refused_files_write_nothing(rt: HostRuntime) -> Result<(), Fail> {
+    for (file, fault) in [
+        (b"aag 01 0 0 0 0\n".as_slice(), Fault::Text { at: 4 }),
+        (b"aag 4194304 0 0 0 0\n", Fault::Limit),
+        (b"aag 1 2 0 0 0\n", Fault::Counts),
+        (b"aag 1 1 0 1 0\n2\n4\n", Fault::Range),
+        (b"aag 1 1 0 0 0\n3\n", Fault::Definition),
+        (b"aag 2 2 0 0 0\n2\n2\n", Fault::Redefined(1)),
+        (b"aag 2 1 0 1 0\n2\n4\n", Fault::Undefined(2)),
+        (b"aag 2 0 2 0 0\n2 2\n4 2 2\n", Fault::Reset(2)),
+        (b"aag 3 1 0 1 2\n2\n4\n4 6 2\n6 4 2\n", Fault::Cycle(2)),
+    ] {
+        let mut out = MemWriter::new(rt.alloc(), 100)?;
+        let done = convert(rt.alloc(), file, Format::Ascii, &mut out);
+        assert_eq!(rt; done, Err(RunFault::Circuit(fault)));
+        assert_eq!(rt; out.bytes(), b"".as_slice());
+    }
     Ok(())
 }
 

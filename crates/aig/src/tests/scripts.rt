@@ -37,8 +37,8 @@ fn scripts_are_answered(rt: HostRuntime) -> Result<(), Fail> {
         (b"", b""),
     ] {
         let mut out = MemWriter::new(rt.alloc(), 100)?;
-        let mut reader = MemReader::new(script);
-        run_bench::<ByteGrid, MemReader, MemWriter>(
+        let mut reader = ByteByByte::whole(script);
+        run_bench::<ByteGrid, ByteByByte, MemWriter>(
             rt.alloc(),
             TWO_GATES,
             ROWS,

@@ -28,13 +28,17 @@ fn texts_of_width_two(rt: HostRuntime) {
 #[test]
 fn every_cut(rt: HostRuntime) {
     let text = b"11\nx0\n";
-    for cut in 0..text.len() {
-        let result = read_stimulus(rt.alloc(), &text[..cut], 2);
-        if cut % 3 == 0 {
-            assert!(rt; result.is_ok(), "at {cut}");
+    for cut in 0..=text.len() {
+        let want = if cut % 3 == 0 {
+            Ok(cut as u32 / 3)
         } else {
-            assert!(rt; matches!(&result, Err(StimFault::Unfinished)), "at {cut}");
-        }
+            Err(StimFault::Unfinished)
+        };
+        let frames = match read_stimulus(rt.alloc(), &text[..cut], 2) {
+            Ok(stimulus) => Ok(stimulus.frames()),
+            Err(fault) => Err(fault),
+        };
+        assert_eq!(rt; frames, want, "at {cut}");
     }
 }
 

@@ -8,5 +8,6 @@ returns-in-Err-clause-fault c =
       spelled = h.only;
       of_parts = h.of_parts;
       counts = λ e. h.counts (ap Err e);
+      wrong = h.wrong;
       io = λ e. h.io (ap Err e);
     }
