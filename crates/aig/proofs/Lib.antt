@@ -4,4 +4,5 @@ pub mod Fields
 pub mod LineLemmas
 pub mod ReplyLemmas
 pub mod RunLemmas
+pub mod Splits
 pub mod WholeLemmas

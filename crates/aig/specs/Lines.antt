@@ -1,5 +1,6 @@
 -- The lines of a script: the pieces that LF ends, and a last piece with bytes and no LF (profile).
-use Rattle.std.specs.Prelude.{ℕ, List, [], ◌∷◌, ◌++◌, map, take, ◌==◌, if◌then◌else◌}
+use Rattle.std.specs.Prelude.{◌≡◌, ◌≢◌, ℕ, List, [], ◌∷◌, ◌++◌, map, take, All, ◌==◌, if◌then◌else◌}
+use Rattle.std.specs.List.{flat_map}
 
 -- a line, without the LF that ends it, or the bytes behind the last LF
 pub data Line : Type 0 where
@@ -34,3 +35,22 @@ whole_lines script = map whole (lines_by all [] script)
 -- all lines
 abbrev pub lines_of : List ℕ → List Line
 lines_of script = whole_lines script ++ last_piece (rest_by all [] script)
+
+-- ---- what the lines are, whichever way they are found
+
+abbrev pub with_end : List ℕ → List ℕ
+with_end line = line ++ 10 ∷ []
+
+-- the lines, each with the LF that ends it
+abbrev pub ended : List (List ℕ) → List ℕ
+ended lines = flat_map with_end lines
+
+-- no LF stands in the bytes
+abbrev pub IsPiece : List ℕ → Type 0
+IsPiece bytes = All (λ b. b ≢ 10) bytes
+
+-- the script is these pieces, each with the LF that ends it, and what stands behind the last LF
+pub record IsSplit (script : List ℕ) (lines : List (List ℕ)) (rest : List ℕ) : Type 0 where
+  pub lines_are : All IsPiece lines
+  pub rest_is : IsPiece rest
+  pub script_is : script ≡ ended lines ++ rest

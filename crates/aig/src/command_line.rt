@@ -105,7 +105,7 @@ fn bench_command<'a>(alloc: Global) -> Result<Command<'a>, AllocError> {
 fn program<'a>(alloc: Global) -> Command<'a> {
     Command::new(alloc, "aig")
         .about(
-            "Converts, simulates and questions and-inverter graphs, circuits in the AIGER formats",
+            "Converts and simulates and-inverter graphs, circuits in the AIGER formats, and answers scripts about them",
         )
         .after_help(AFTER_ALL)
         .subcommand_required(true)

@@ -7,6 +7,7 @@ mod conversion;
 mod delivery;
 mod engine;
 mod files;
+mod laws;
 mod line;
 mod reply;
 mod run_fault;

@@ -18,9 +18,10 @@ fn trace<R: Read>(
     alloc: Global,
     circuit: &[u8],
     stimulus: &mut R,
+    room: usize,
 ) -> Result<(Result<u64, StimFault>, MemWriter), Fail> {
     let circuit = read(alloc, circuit)?;
-    let mut out = MemWriter::new(alloc, 100)?;
+    let mut out = MemWriter::new(alloc, room)?;
     let frames = simulate(alloc, &circuit, stimulus, &mut out);
     Ok((frames, out))
 }
@@ -53,7 +54,7 @@ fn traces_are_written(rt: HostRuntime) -> Result<(), Fail> {
             b" 11 1 \n",
         ),
     ] {
-        let (answer, out) = trace(rt.alloc(), circuit, &mut ByteByByte::whole(stimulus))?;
+        let (answer, out) = trace(rt.alloc(), circuit, &mut ByteByByte::whole(stimulus), 100)?;
         assert_eq!(rt; answer, frames);
         assert_eq!(rt; out.bytes(), lines);
     }
@@ -63,8 +64,17 @@ fn traces_are_written(rt: HostRuntime) -> Result<(), Fail> {
 #[test]
 fn a_failing_read_ends_a_trace(rt: HostRuntime) -> Result<(), Fail> {
     let mut reader = ByteByByte::cut(b"x0\nx1\n1");
-    let (answer, out) = trace(rt.alloc(), ONE_GATE, &mut reader)?;
+    let (answer, out) = trace(rt.alloc(), ONE_GATE, &mut reader, 100)?;
     assert_eq!(rt; answer, Err(StimFault::Io));
     assert_eq!(rt; out.bytes(), b" x0 0 \n x1 x \n".as_slice());
+    Ok(())
+}
+
+#[test]
+fn a_full_writer_ends_a_trace(rt: HostRuntime) -> Result<(), Fail> {
+    let mut reader = ByteByByte::whole(b"11\n1z\n");
+    let (answer, out) = trace(rt.alloc(), ONE_GATE, &mut reader, 3)?;
+    assert_eq!(rt; answer, Err(StimFault::Io));
+    assert_eq!(rt; out.bytes(), b" 11".as_slice());
     Ok(())
 }
