@@ -41,7 +41,7 @@ range-append v (suc m) n =
     let f : v + suc m ≡ v + 1 + m = omega arith in
     rw (e, f) (ap (λ (xs : List ℕ). v ∷ xs) (range-append (v + 1) m n))
 
-evens-append : (v m n : ℕ) → evens_from v (m + n) ≡ evens_from v m ++ evens_from (v + m) n
+pub evens-append : (v m n : ℕ) → evens_from v (m + n) ≡ evens_from v m ++ evens_from (v + m) n
 evens-append v m n = ap (map (λ u. 2 * u)) (range-append v m n)
     ∙ map-append (λ u. 2 * u) (range_with_len v m) (range_with_len (v + m) n)
 

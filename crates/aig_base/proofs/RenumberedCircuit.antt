@@ -14,7 +14,7 @@ use Rattle.aig_base.specs.Literal.{variable}
 use Rattle.aig_base.specs.Order.{IsCanonicalOrder}
 use Rattle.aig_base.specs.Renumbered.{ordered_gates, renumbered, renumbered_gate, renumbered_latch, renumbered_literal, ready_gate, evens, IsBinaryReady}
 use Rattle.aig_base.specs.Sections.{definitions, uses, IsDefined}
-use Rattle.aig_base.specs.Sound.{IsInRange, IsRedefined, IsReset}
+use Rattle.aig_base.specs.Sound.{IsSound, IsInRange, IsRedefined, IsReset}
 use Rattle.aig_base.proofs.Counting.{length-order}
 use Rattle.aig_base.proofs.Defined.{defined_cases}
 use Rattle.aig_base.proofs.EachUse.{EachUse, all_uses}
@@ -77,34 +77,37 @@ module _ (raw : Raw) (ready : IsBinaryReady raw) (used : All (IsInRange raw) (us
           (below (variable g.rhs0) (omega arith) (omega arith))
           (below (variable g.rhs1) (omega arith) (omega arith)))
 
+  half : (l : ℕ) → IsInRange raw l → variable l ≤ raw.max_var
+  half l r = omega arith
+
+  in_evens : All (IsInRange raw) (evens raw.max_var)
+  in_evens k d lt =
+      let below : k < raw.max_var = omega (arith, length-evens_from 1 raw.max_var) in
+      let e = get_or-evens_from 1 raw.max_var k d below in omega arith
+
+  in_definitions : All (IsInRange raw) (definitions raw)
+  in_definitions = All-same (IsInRange raw) (definitions raw) (evens raw.max_var) ready.in_order in_evens
+
+  pub ready_sound : All IsReset raw.latches → IsSound raw
+  ready_sound resets = record {
+    in_range = All-append (IsInRange raw) (definitions raw) (uses raw) in_definitions used;
+    definitions = evens_are (definitions raw) raw.max_var ready.in_order;
+    once = once_only;
+    defined = All-weaker (IsInRange raw) (λ l. IsDefined raw (variable l))
+        (λ l r. defined_to (variable l) (half l r)) (uses raw) used;
+    resets = resets;
+  }
+
   pub ready_circuit : IsFormed raw → All IsReset raw.latches → IsCircuit raw
   ready_circuit formed resets = record {
     formed = formed;
-    sound = record {
-      in_range = All-append (IsInRange raw) (definitions raw) (uses raw) in_definitions used;
-      definitions = evens_are (definitions raw) raw.max_var ready.in_order;
-      once = once_only;
-      defined = All-weaker (IsInRange raw) (λ l. IsDefined raw (variable l))
-          (λ l r. defined_to (variable l) (half l r)) (uses raw) used;
-      resets = resets;
-    };
+    sound = ready_sound resets;
     acyclic = λ v is_gate.
         let (g, q, at, is) = unmap (λ (g : Gate). variable g.lhs) raw.gates v is_gate in
         let inside : IsInRange raw g.lhs = All-contains (IsInRange raw) (definitions raw) g.lhs in_definitions
         (definition_of_place raw (gate q) g.lhs tt (g, at, refl)) in
         grounded_below (suc v) v (omega arith) (rw (← is) (half g.lhs inside));
   }
-    where
-      half : (l : ℕ) → IsInRange raw l → variable l ≤ raw.max_var
-      half l r = omega arith
-
-      in_evens : All (IsInRange raw) (evens raw.max_var)
-      in_evens k d lt =
-          let below : k < raw.max_var = omega (arith, length-evens_from 1 raw.max_var) in
-          let e = get_or-evens_from 1 raw.max_var k d below in omega arith
-
-      in_definitions : All (IsInRange raw) (definitions raw)
-      in_definitions = All-same (IsInRange raw) (definitions raw) (evens raw.max_var) ready.in_order in_evens
 
 module _ (raw : Raw) (circuit : IsCircuit raw) (order : List ℕ) (canonical : IsCanonicalOrder raw order) where
   in_new_range : (l : ℕ) → IsInRange (renumbered raw order) (renumbered_literal raw order l)

@@ -31,7 +31,7 @@ pub literal_even : (raw : Raw) (order : List ℕ) (l : ℕ) → IsEven l
 unfolding renumbered_literal
 literal_even raw order l even = rw even refl
 
-sign_cases : (l w : ℕ) → (with_sign l (2 * w) ≡ 2 * w) ⊎ (with_sign l (2 * w) ≡ 2 * w + 1)
+pub sign_cases : (l w : ℕ) → (with_sign l (2 * w) ≡ 2 * w) ⊎ (with_sign l (2 * w) ≡ 2 * w + 1)
 sign_cases l w = go (nat_eq (l % 2) 0) refl
   where
     go : (b : Bool) → nat_eq (l % 2) 0 ≡ b → (with_sign l (2 * w) ≡ 2 * w) ⊎ (with_sign l (2 * w) ≡ 2 * w + 1)
@@ -58,7 +58,7 @@ stands_at [] i lt = absurd (omega arith)
 stands_at (x ∷ xs) zero lt = (x, refl)
 stands_at (x ∷ xs) (suc i) lt = stands_at xs i (omega arith)
 
-evens_map : {A : Type 0} (f : A → ℕ) (xs : List A) (v n : ℕ) → length xs ≡ n
+pub evens_map : {A : Type 0} (f : A → ℕ) (xs : List A) (v n : ℕ) → length xs ≡ n
     → ((i : ℕ) (x : A) → slice_get xs i ≡ Some x → f x ≡ 2 * (v + i))
     → map f xs ≡ evens_from v n
 evens_map f xs v n size each =
@@ -67,7 +67,7 @@ evens_map f xs v n size each =
     slice_get-map f xs i ∙ ap (option_map f) at ∙ ap Some (each i x at))
 
 -- the sides of a gate whose left side is the greatest
-goes_down : (lhs a b : ℕ) → a < lhs → b < lhs
+pub goes_down : (lhs a b : ℕ) → a < lhs → b < lhs
     → ((ready_gate lhs a b).rhs0 < (ready_gate lhs a b).lhs) × ((ready_gate lhs a b).rhs1 ≤ (ready_gate lhs a b).rhs0)
 goes_down lhs a b la lb = go (nat_lt a b) refl
   where

@@ -34,7 +34,7 @@ pub data Reached (raw : Raw) (t a b : ℕ) : ℕ → Type 0 where
       → Reached raw t a b (variable g.lhs) → Reached raw t a b (variable g.rhs1)
 
 -- a way back over right sides to t
-data Path (raw : Raw) (t : ℕ) : ℕ → Type 0 where
+pub data Path (raw : Raw) (t : ℕ) : ℕ → Type 0 where
   stop : Path raw t t
   left : (q : ℕ) (g : Gate) → slice_get raw.gates q ≡ Some g → variable g.lhs ≢ t
       → Path raw t (variable g.rhs0) → Path raw t (variable g.lhs)
@@ -49,63 +49,63 @@ path_back (Reached.left q g at ne r) p = path_back r (Path.left q g at ne p)
 path_back (Reached.right q g at ne r) p = path_back r (Path.right q g at ne p)
 
 -- what a way is
-Begins : Raw → ℕ → ℕ → Type 0
+pub Begins : Raw → ℕ → ℕ → Type 0
 Begins raw t v =
     (v ≡ t)
     ⊎ ((q : ℕ) × (g : Gate) × (slice_get raw.gates q ≡ Some g) × (variable g.lhs ≢ t) × (variable g.lhs ≡ v)
     × (Path raw t (variable g.rhs0) ⊎ Path raw t (variable g.rhs1)))
 
-begins : {raw : Raw} {t v : ℕ} → Path raw t v → Begins raw t v
+pub begins : {raw : Raw} {t v : ℕ} → Path raw t v → Begins raw t v
 unfolding Begins
 begins Path.stop = inl refl
 begins (Path.left q g at ne p) = inr (q, g, at, ne, refl, inl p)
 begins (Path.right q g at ne p) = inr (q, g, at, ne, refl, inr p)
 
-rewired_other : (lhs r0 r1 : ℕ) (g : Gate) → g.lhs ≢ lhs → rewired lhs r0 r1 g ≡ g
+pub rewired_other : (lhs r0 r1 : ℕ) (g : Gate) → g.lhs ≢ lhs → rewired lhs r0 r1 g ≡ g
 rewired_other lhs r0 r1 g ne = rw (ne_eqb g.lhs lhs ne) refl
 
-rewired_same : (lhs r0 r1 : ℕ) (g : Gate) → g.lhs ≡ lhs
+pub rewired_same : (lhs r0 r1 : ℕ) (g : Gate) → g.lhs ≡ lhs
     → rewired lhs r0 r1 g ≡ record { lhs = g.lhs; rhs0 = r0; rhs1 = r1 }
 rewired_same lhs r0 r1 g e = rw (eq-eqb g.lhs lhs e) refl
 
 module _ (raw : Raw) (sound : IsSound raw) (lhs r0 r1 : ℕ) (is_gate : IsLeftSide raw lhs) where
   -- the gate of the literal
-  the_gate : (g : Gate) × (q : ℕ) × (slice_get raw.gates q ≡ Some g) × (g.lhs ≡ lhs)
+  pub the_gate : (g : Gate) × (q : ℕ) × (slice_get raw.gates q ≡ Some g) × (g.lhs ≡ lhs)
   the_gate = unmap (λ (g : Gate). g.lhs) raw.gates lhs is_gate
 
-  source_new : (v : ℕ) → IsSource raw v → IsSource (with_gate raw lhs r0 r1) v
+  pub source_new : (v : ℕ) → IsSource raw v → IsSource (with_gate raw lhs r0 r1) v
   source_new v by.IsSource.constant = by.IsSource.constant
   source_new v (by.IsSource.input p l at) = by.IsSource.input p l at
   source_new v (by.IsSource.latch p x at) = by.IsSource.latch p x at
 
-  source_old : (v : ℕ) → IsSource (with_gate raw lhs r0 r1) v → IsSource raw v
+  pub source_old : (v : ℕ) → IsSource (with_gate raw lhs r0 r1) v → IsSource raw v
   source_old v by.IsSource.constant = by.IsSource.constant
   source_old v (by.IsSource.input p l at) = by.IsSource.input p l at
   source_old v (by.IsSource.latch p x at) = by.IsSource.latch p x at
 
   -- the gate at a position, after the change
-  gate_new : (q : ℕ) (g : Gate) → slice_get raw.gates q ≡ Some g
+  pub gate_new : (q : ℕ) (g : Gate) → slice_get raw.gates q ≡ Some g
       → slice_get (map (rewired lhs r0 r1) raw.gates) q ≡ Some (rewired lhs r0 r1 g)
   gate_new q g at = slice_get-map (rewired lhs r0 r1) raw.gates q ∙ ap (option_map (rewired lhs r0 r1)) at
 
-  gate_old : (q : ℕ) (g : Gate) → slice_get (map (rewired lhs r0 r1) raw.gates) q ≡ Some g
+  pub gate_old : (q : ℕ) (g : Gate) → slice_get (map (rewired lhs r0 r1) raw.gates) q ≡ Some g
       → (h : Gate) × (slice_get raw.gates q ≡ Some h) × (rewired lhs r0 r1 h ≡ g)
   gate_old q g at = unmap_option (rewired lhs r0 r1) (slice_get raw.gates q) g
       (sym (slice_get-map (rewired lhs r0 r1) raw.gates q) ∙ at)
 
-  kept : (q : ℕ) (g : Gate) → slice_get raw.gates q ≡ Some g → variable g.lhs ≢ variable lhs
+  pub kept : (q : ℕ) (g : Gate) → slice_get raw.gates q ≡ Some g → variable g.lhs ≢ variable lhs
       → slice_get (map (rewired lhs r0 r1) raw.gates) q ≡ Some g
   kept q g at ne = gate_new q g at ∙ ap Some (rewired_other lhs r0 r1 g (λ e. ne (ap variable e)))
 
   -- a gate with the variable is the one of the literal
-  same_left : (q : ℕ) (g : Gate) → slice_get raw.gates q ≡ Some g → variable g.lhs ≡ variable lhs → g.lhs ≡ lhs
+  pub same_left : (q : ℕ) (g : Gate) → slice_get raw.gates q ≡ Some g → variable g.lhs ≡ variable lhs → g.lhs ≡ lhs
   same_left q g at e =
       let (h, r, found, is) = the_gate in
       let one : g ≡ h = same_gate raw sound q r g h at found (e ∙ ap variable (sym is)) in
       ap (λ (k : Gate). k.lhs) one ∙ is
 
   -- with a way from a new right side to the gate itself, nothing that has a way to it is grounded
-  no_path : {v : ℕ} → Path raw (variable lhs) (variable r0) ⊎ Path raw (variable lhs) (variable r1)
+  pub no_path : {v : ℕ} → Path raw (variable lhs) (variable r0) ⊎ Path raw (variable lhs) (variable r1)
       → Grounded (with_gate raw lhs r0 r1) v → Path raw (variable lhs) v → ⊥
   unfolding Begins
   no_path {v} ends (by.Grounded.source u s) p = elim (begins p) [
@@ -162,7 +162,7 @@ pub record IsWalk (raw : Raw) (t a b : ℕ) (pending owed : List ℕ) (met : Lis
 pub no_element : (v : ℕ) → Contains {X = ℕ} [] v → ⊥
 no_element v (k, lt, is) = absurd (omega arith)
 
-only_element : (u v : ℕ) → Contains (u ∷ []) v → u ≡ v
+pub only_element : (u v : ℕ) → Contains (u ∷ []) v → u ≡ v
 only_element u v (zero, lt, is) = is
 only_element u v (suc k, lt, is) = absurd (omega arith)
 

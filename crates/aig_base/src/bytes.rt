@@ -41,4 +41,9 @@ pub trait Write {
         ensures some { IfOk result (λ n. 0 < length bytes.now → 0 < n) }
         ensures taken { written self.new ≡ after (written self.old) (moved result bytes.now) }
         ensures count { failures self.new ≡ failures self.old + failed result };
+
+    /// Hands on what is held back. It writes no byte of its own.
+    fn flush(&mut self) -> Result<(), Failed>
+        ensures kept { written self.new ≡ written self.old }
+        ensures count { failures self.new ≡ failures self.old + failed result };
 }

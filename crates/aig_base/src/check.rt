@@ -153,6 +153,7 @@ impl Circuit {
     pub fn check(alloc: Global, raw: Raw) -> Result<Circuit, Fault>
         requires formed { IsFormed raw }
         ensures parts { IfOk result (λ circuit. circuit ≡ raw) }
+        ensures circuit { IfOk result IsCircuit }
         ensures fault { IfErr result (λ fault. fault ≢ Fault.Memory → IsFirstFault raw fault) }
     {
         let table = tested_table(alloc, &raw)?;

@@ -33,8 +33,9 @@ pub fn law_of_levels()
         IsSound raw → IsCanonicalOrder raw a → IsCanonicalOrder raw b → a ≡ b }
 {}
 
-/// Sound and acyclic parts have no fault, and parts that have none are sound (profile).
+/// Sound and acyclic parts have no fault, and parts that have none are sound and acyclic (profile).
 pub fn law_of_faults()
     ensures circuit { (raw : Raw) → IsSound raw → IsAcyclic raw → HasNoFault raw }
     ensures sound { (raw : Raw) → HasNoFault raw → IsSound raw }
+    ensures acyclic { (raw : Raw) → HasNoFault raw → IsAcyclic raw }
 {}

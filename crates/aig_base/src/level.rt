@@ -7,15 +7,20 @@ ghost use Rattle.aig_base.specs.Literal.{variable};
 use crate::circuit::Circuit;
 use crate::fault::Memory;
 use crate::gate::Gate;
+use crate::queue::Queue;
+use crate::visits::Visits;
 use crate::walk::Walk;
 use std::alloc::Global;
 use std::marker::Model;
 
 /// The levels of a circuit's variables: 0 for variable 0, an input or a latch, one more than the greater level of its
 /// right sides for a gate (profile).
-#[derive(Drop, Debug)]
+#[derive(Drop)]
 pub struct Levels {
-    levels: Vec<u32>,
+    pub(crate) levels: Vec<u32>,
+    // For `rewire`, with room for all variables: no visits, and nothing in the queue.
+    pub(crate) visits: Visits,
+    pub(crate) queue: Queue,
 }
 
 impl Model for Levels {
@@ -23,7 +28,13 @@ impl Model for Levels {
 
     ghost Value = { List ℕ };
 
+    ghost use Rattle.std.specs.Prelude.{length};
+    ghost use Rattle.aig_base.specs.Queue.{IsEmptyQueue};
+    ghost use Rattle.aig_base.specs.Visits.{AreNoVisits};
+
     ghost view = { λ a. a.levels.items };
+
+    ghost invariant = { λ a. AreNoVisits (length a.levels.items) a.visits × IsEmptyQueue (length a.levels.items) a.queue };
 }
 
 // The variable of a right side that was not met.
@@ -46,7 +57,7 @@ fn unmet_side(met: &[bool], gate: &Gate) -> Option<u32>
 }
 
 // One more than the greater level of the right sides.
-fn level_over(levels: &[u32], gate: &Gate) -> u32
+pub(crate) fn level_over(levels: &[u32], gate: &Gate) -> u32
     requires first { variable gate.now.rhs0 < length levels.now }
     requires second { variable gate.now.rhs1 < length levels.now }
     requires fits { level_above levels.now gate.now < 2 ^ 32 }
@@ -80,18 +91,23 @@ fn settle(circuit: &Circuit, walk: &mut Walk, levels: &mut [u32]) -> Result<(), 
 }
 
 impl Levels {
-    /// The levels of a circuit, in time and memory linear in it.
+    /// The levels of a circuit, in time and memory linear in it, with room for `rewire`.
     pub fn of(alloc: Global, circuit: &Circuit) -> Result<Levels, Memory>
         ensures { IfOk result (AreLevels circuit.now) }
     {
         let max_var = circuit.max_var();
         let mut walk = Walk::new(alloc, max_var)?;
-        let mut levels = vec![in alloc; 0; max_var as usize + 1]?;
+        let size = max_var as usize + 1;
+        let mut levels = vec![in alloc; 0; size]?;
         for variable in 0..max_var + 1 {
             walk.meet(variable)?;
             settle(circuit, &mut walk, &mut levels)?;
         }
-        Ok(Levels { levels })
+        Ok(Levels {
+            levels,
+            visits: Visits::new(alloc, size)?,
+            queue: Queue::new(alloc, size)?,
+        })
     }
 
     /// The level of a variable up to M that is 0 or defined.

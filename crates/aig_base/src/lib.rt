@@ -1,6 +1,7 @@
 //! Literals, circuits and bytes: the ground of the toolkit.
 #![tactic(auto)]
 
+mod behind;
 mod block;
 mod buffered;
 mod bytes;
@@ -24,15 +25,20 @@ mod list;
 mod literal;
 mod memory_bytes;
 mod order;
+mod queue;
 mod raw;
+mod readers;
 mod ready;
+mod renewal;
 mod renumbering;
 mod renumbering_laws;
 mod renumbering_parts;
 mod renumbering_table;
+mod rewire;
 mod std_bytes;
 mod symbols;
 mod ternary;
+mod visits;
 mod walk;
 mod write;
 
@@ -53,9 +59,11 @@ pub use literal::Lit;
 pub use memory_bytes::{MemReader, MemWriter};
 pub use order::canonical_order;
 pub use raw::{LIMIT, Raw};
+pub use readers::Readers;
 pub use ready::is_binary_ready;
 pub use renumbering::renumber;
 pub use renumbering_laws::law_of_renumbering;
+pub use renumbering_table::renumbered_variables;
 pub use std_bytes::Std;
 pub use symbols::{Kind, Symbols};
 pub use ternary::Tern;

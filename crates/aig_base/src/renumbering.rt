@@ -13,7 +13,7 @@ use crate::raw::Raw;
 use crate::renumbering_parts::{
     copied_comment, copied_symbols, new_gates, new_justice, new_latches, new_literals,
 };
-use crate::renumbering_table::renumbering_table;
+use crate::renumbering_table::renumbered_variables;
 use std::alloc::Global;
 
 fn renumbered_parts(
@@ -69,7 +69,7 @@ pub fn renumber(alloc: Global, circuit: &Circuit) -> Result<Circuit, Memory>
     let _max_var = circuit.max_var();
     let levels = Levels::of(alloc, circuit)?;
     let order = canonical_order(alloc, circuit, &levels)?;
-    let table = renumbering_table(alloc, circuit, &order)?;
+    let table = renumbered_variables(alloc, circuit, &order)?;
     let parts = renumbered_parts(alloc, circuit, &order, &table)?;
     check_circuit(alloc, parts)
 }

@@ -1,5 +1,5 @@
 //! What holds of all renumbered circuits: a law is a function that does nothing, and its contract is the law.
-ghost use Rattle.std.specs.Prelude.{ℕ, List};
+ghost use Rattle.std.specs.Prelude.{◌≡◌, ℕ, List};
 ghost use Rattle.aig_base.specs.declared.raw.Raw.{Raw};
 ghost use Rattle.aig_base.specs.declared.ternary.Tern.{Tern};
 ghost use Rattle.aig_base.specs.Circuit.{IsCircuit};
@@ -7,10 +7,10 @@ ghost use Rattle.aig_base.specs.Order.{IsCanonicalOrder};
 ghost use Rattle.aig_base.specs.Renumbered.{renumbered, IsBinaryReady};
 ghost use Rattle.aig_base.specs.RenumberedValues.{KeepsValues, AddsNoValues};
 ghost use Rattle.aig_base.specs.Sound.{IsSound};
-ghost use Rattle.aig_base.specs.Value.{Fits};
+ghost use Rattle.aig_base.specs.Value.{Fits, start_of};
 
 /// A renumbered circuit is a circuit that a binary file can hold, and from the same start and rows each literal's
-/// counterpart has its value at every frame, and no other (profile).
+/// counterpart has its value at every frame, and no other. Its start by resets is the circuit's (profile).
 pub fn law_of_renumbering()
     ensures circuit { (raw : Raw) (order : List ℕ) →
         IsCircuit raw → IsCanonicalOrder raw order → IsCircuit (renumbered raw order) }
@@ -20,4 +20,6 @@ pub fn law_of_renumbering()
         IsSound raw → IsCanonicalOrder raw order → KeepsValues raw order start rows }
     ensures no_other { (raw : Raw) (order : List ℕ) (start : List Tern) (rows : List (List Tern)) →
         IsCircuit raw → IsCanonicalOrder raw order → Fits raw start rows → AddsNoValues raw order start rows }
+    ensures start { (raw : Raw) (order : List ℕ) →
+        IsCircuit raw → IsCanonicalOrder raw order → start_of (renumbered raw order) ≡ start_of raw }
 {}

@@ -50,7 +50,7 @@ fn number_gates(circuit: &Circuit, order: &[u32], table: &mut [u32])
 
 /// For each variable from 0 to M the one that stands for it in the renumbered circuit: inputs, latches, then gates in
 /// the order, from 1 on; 0 for 0 and for a variable that nothing defines.
-pub(crate) fn renumbering_table(
+pub fn renumbered_variables(
     alloc: Global,
     circuit: &Circuit,
     order: &[u32],

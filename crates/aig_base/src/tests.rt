@@ -4,10 +4,10 @@ mod fakes;
 mod order;
 
 use crate::{
-    Bytes, Failed, Fault, Io, Kind, LIMIT, List, Lit, MemReader, MemWriter, Memory, Raw, Read, Std,
-    Symbols, Tern, WouldCycle, Write, write_all, write_number,
+    Buffered, Bytes, Failed, Fault, Io, Kind, LIMIT, List, Lit, MemReader, MemWriter, Memory, Raw,
+    Read, Std, Symbols, Tern, WouldCycle, Write, write_all, write_number,
 };
-use fakes::{OneByte, Stuck};
+use fakes::{OneByte, Short, Stuck};
 use std::alloc::{AllocError, Global};
 use std::test::Fail;
 
@@ -230,6 +230,30 @@ fn writer_of_the_system_that_takes_nothing(rt: HostRuntime) {
     assert_eq!(rt; out.write(b"a"), Err(Failed));
     assert_eq!(rt; write_all(&mut out, b"a"), Err(Io));
     let Stuck = out.into_inner();
+}
+
+#[test]
+fn writer_of_the_system_that_takes_little(rt: HostRuntime) -> Result<(), Fail> {
+    let mut out = Std::new(Short {
+        bytes: Vec::new(rt.alloc()),
+    });
+    assert_eq!(rt; out.write(b"abc"), Ok(2));
+    assert_eq!(rt; write_all(&mut out, b"cde"), Ok(()));
+    assert_eq!(rt; out.flush(), Err(Failed));
+    assert_eq!(rt; out.into_inner().bytes.as_slice(), b"abcde".as_slice());
+    Ok(())
+}
+
+#[test]
+fn a_broken_writer_refuses(rt: HostRuntime) -> Result<(), Fail> {
+    let mut out = Buffered::new(MemWriter::new(rt.alloc(), 3)?);
+    assert_eq!(rt; write_all(&mut out, b"abc"), Ok(()));
+    assert_eq!(rt; out.flush(), Ok(()));
+    assert_eq!(rt; write_all(&mut out, b"d"), Ok(()));
+    assert_eq!(rt; out.flush(), Err(Failed));
+    assert_eq!(rt; out.write(b""), Err(Failed));
+    assert_eq!(rt; out.flush(), Err(Failed));
+    Ok(())
 }
 
 #[test]

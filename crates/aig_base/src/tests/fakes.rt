@@ -16,6 +16,10 @@ impl<W: Write> Write for OneByte<W> {
     fn write(&mut self, bytes: &[u8]) -> Result<usize, Failed> {
         self.inner.write(&bytes[..bytes.len().min(1)])
     }
+
+    fn flush(&mut self) -> Result<(), Failed> {
+        self.inner.flush()
+    }
 }
 
 // A writer of std that takes nothing.
@@ -29,5 +33,21 @@ impl io::Write for Stuck {
 
     fn flush(&mut self) -> io::Result<()> {
         Ok(())
+    }
+}
+
+// A writer of std that takes two bytes of each write, and fails each flush.
+#[derive(Drop)]
+pub struct Short {
+    pub bytes: Vec<u8>,
+}
+
+impl io::Write for Short {
+    fn write(&mut self, bytes: &[u8]) -> io::Result<usize> {
+        self.bytes.write(&bytes[..bytes.len().min(2)])
+    }
+
+    fn flush(&mut self) -> io::Result<()> {
+        Err(io::ErrorKind::BrokenPipe.into())
     }
 }

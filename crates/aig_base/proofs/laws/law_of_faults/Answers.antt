@@ -1,3 +1,4 @@
+use Rattle.aig_base.proofs.Acyclic.{acyclic}
 use Rattle.aig_base.proofs.NoFault.{no_fault, sound}
 use Rattle.aig_base.proofs.laws.law_of_faults.Goals as goal
 
@@ -6,3 +7,6 @@ returns-clause-circuit c = no_fault
 
 pub returns-clause-sound : goal.returns-clause-sound
 returns-clause-sound c = sound
+
+pub returns-clause-acyclic : goal.returns-clause-acyclic
+returns-clause-acyclic c = λ raw never. acyclic raw (sound raw never) never

@@ -1,6 +1,7 @@
 use Rattle.aig_base.proofs.NoOtherValue.{no_other_value}
 use Rattle.aig_base.proofs.RenumberedCircuit.{renumbered_circuit}
 use Rattle.aig_base.proofs.RenumberedReady.{renumbered_ready}
+use Rattle.aig_base.proofs.RenumberedStart.{start_stays}
 use Rattle.aig_base.proofs.RenumberedValues.{renumbered_value}
 use Rattle.aig_base.proofs.renumbering_laws.law_of_renumbering.Goals as goal
 
@@ -18,3 +19,6 @@ returns-clause-values c = λ raw order start rows sound canonical t l w v. renum
 pub returns-clause-no_other : goal.returns-clause-no_other
 returns-clause-no_other c = λ raw order start rows circuit canonical fits. no_other_value raw circuit order
     canonical start rows fits
+
+pub returns-clause-start : goal.returns-clause-start
+returns-clause-start c = λ raw order circuit canonical. start_stays raw circuit order canonical

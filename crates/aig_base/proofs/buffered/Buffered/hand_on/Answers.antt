@@ -1,6 +1,6 @@
 use Rattle.std.proofs.Common.{arith, ◌++◌, take}
 use Rattle.aig_base.proofs.BlockLemmas.{split_more, handed_more}
-use Rattle.aig_base.proofs.buffered.Buffered.flush.Goals as goal
+use Rattle.aig_base.proofs.buffered.Buffered.hand_on.Goals as goal
 
 pub loop-self-preserved : goal.loop-self-preserved
 loop-self-preserved g c =
@@ -11,4 +11,6 @@ loop-self-preserved g c =
       split = rw c.skip.ensures (split_more _ i.front _ c.in_ok-count.count i.split);
       handed = handed_more _ _ _ i.front _ i.handed (rw (← c.as_slice.ensures) h.taken);
       count = omega (arith, i.count, h.count);
+      broken = i.broken;
+      failures = i.failures;
     }

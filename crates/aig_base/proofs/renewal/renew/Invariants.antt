@@ -1,0 +1,11 @@
+use Rattle.std.proofs.Common.{◌+◌, length, not, count_by}
+use Rattle.aig_base.proofs.Passes.{IsPass}
+use Rattle.aig_base.proofs.renewal.renew.Given as goal
+
+abbrev pub invariant-loop-variable : goal.invariant-loop-variable
+invariant-loop-variable l =
+    IsPass l.circuit l.changed.lhs l.changed.rhs0 l.changed.rhs1 l.fn.levels l.levels l.visits l.queue
+
+-- how many wait, and how many were not visited
+abbrev pub decreases-loop-variable : goal.decreases-loop-variable
+decreases-loop-variable l = length l.queue.entries + count_by not l.visits.met.items
