@@ -9,7 +9,8 @@ use Rattle.aig_base.specs.FirstFault.{number_of, IsFirstFault}
 use Rattle.aig_format.specs.Spells.{Spells, HasWrongCounts}
 use Rattle.aig_format.specs.Reading.{text, limit}
 use Rattle.aig_format.specs.ReadingFile.{FileRefusal, token, counts, file_at}
-use Rattle.aig_format.specs.Meaning.{FileFails, FaultRaises, IsOfParts, IsVerdict, IsRefused}
+use Rattle.aig_format.specs.Meaning.{FileFails}
+use Rattle.aig_format.specs.Verdict.{Raises, IsOfParts, IsVerdict, IsRefused, IsReading}
 use Rattle.aig_format.proofs.FileLaws.{is_read, file_takes, file_again, wrong_takes, wrong_again, one_reading}
 
 refused : FileRefusal → Result Raw FileRefusal
@@ -27,9 +28,12 @@ read_is_no_refusal : (raw : Raw) (r : FileRefusal) → is_read raw ≡ refused r
 unfolding refused
 read_is_no_refusal raw r e = cc
 
+abbrev pub failed_by : Fault → Result Raw Fault
+failed_by e = Err e
+
 -- ---- where nothing was read
 
-pub err_only : (bytes : List ℕ) (e : Fault) → FileFails e (file_at bytes) → FaultRaises e 0 0 → (raw : Raw)
+pub err_only : (bytes : List ℕ) (e : Fault) → FileFails e (file_at bytes) → e ≢ faults.Io → (raw : Raw)
     → Spells bytes raw → IsVerdict (Err e) raw
 unfolding refused
 err_only bytes (faults.Text at) h io raw s =
@@ -38,20 +42,20 @@ err_only bytes faults.Limit h io raw s =
     absurd (read_is_no_refusal raw (token limit) (sym (file_again bytes raw s) ∙ h))
 err_only bytes faults.Counts h io raw s = absurd (read_is_no_refusal raw counts (sym (file_again bytes raw s) ∙ h))
 err_only bytes faults.Memory h io raw s = λ other. absurd (other refl)
-err_only bytes faults.Io h io raw s = absurd (omega (arith, io))
+err_only bytes faults.Io h io raw s = absurd (io refl)
 err_only bytes fault h io raw s = absurd h
 
 pub err_counts : (bytes : List ℕ) (e : Fault) → FileFails e (file_at bytes) → e ≡ faults.Counts → HasWrongCounts bytes
 err_counts bytes e h is = wrong_takes bytes (subst (λ (f : Fault). FileFails f (file_at bytes)) is h)
 
-pub err_wrong : (bytes : List ℕ) (e : Fault) → FileFails e (file_at bytes) → FaultRaises e 0 0 → HasWrongCounts bytes
+pub err_wrong : (bytes : List ℕ) (e : Fault) → FileFails e (file_at bytes) → e ≢ faults.Io → HasWrongCounts bytes
     → IsRefused (Err e) faults.Counts
 unfolding refused
 err_wrong bytes (faults.Text at) h io w = λ other. absurd (text_is_no_count (sym h ∙ wrong_again bytes w))
 err_wrong bytes faults.Limit h io w = λ other. absurd (limit_is_no_count (sym h ∙ wrong_again bytes w))
 err_wrong bytes faults.Counts h io w = λ other. refl
 err_wrong bytes faults.Memory h io w = λ other. absurd (other refl)
-err_wrong bytes faults.Io h io w = absurd (omega (arith, io))
+err_wrong bytes faults.Io h io w = absurd (io refl)
 err_wrong bytes fault h io w = absurd h
 
 pub err_of_parts : (bytes : List ℕ) (e : Fault) → FileFails e (file_at bytes) → IsOfParts e
@@ -62,6 +66,21 @@ err_of_parts bytes faults.Counts h of_parts = absurd (omega (arith, of_parts.0))
 err_of_parts bytes faults.Memory h of_parts = absurd (omega (arith, of_parts.1))
 err_of_parts bytes faults.Io h of_parts = absurd (omega (arith, of_parts.1))
 err_of_parts bytes fault h of_parts = absurd h
+
+fault_is : (e f : Fault) → failed_by e ≡ failed_by f → e ≡ f
+fault_is e f h = cc
+
+pub err_reading : (bytes : List ℕ) (e : Fault) → FileFails e (file_at bytes) → (failed_by e ≢ failed_by faults.Io)
+    → IsReading bytes (Err e)
+err_reading bytes e h other =
+    let io : e ≢ faults.Io = λ is. other (ap failed_by is) in
+    record {
+      found = tt;
+      only = err_only bytes e h io;
+      of_parts = err_of_parts bytes e h;
+      counts = λ is. err_counts bytes e h (fault_is e faults.Counts is);
+      wrong = err_wrong bytes e h io;
+    }
 
 -- ---- where parts were read
 
@@ -98,3 +117,28 @@ pub ok_wrong : (bytes : List ℕ) (raw : Raw) (r : Result Raw Fault) → file_at
     → IsRefused r faults.Counts
 unfolding refused
 ok_wrong bytes raw r h w = absurd (read_is_no_refusal raw counts (sym h ∙ wrong_again bytes w))
+
+no_counts : (raw : Raw) (r : Result Raw Fault) → IfErr r (λ fault. fault ≢ faults.Memory → IsFirstFault raw fault)
+    → r ≡ failed_by faults.Counts → ⊥
+no_counts raw (Ok circuit) first is = cc
+no_counts raw (Err e) first is =
+    let e_is : e ≡ faults.Counts = cc in
+    let other : faults.Counts ≢ faults.Memory = λ same. omega (arith, ap number_of same) in
+    let fault = subst (λ (f : Fault). f ≢ faults.Memory → IsFirstFault raw f) e_is first in (fault other).applies
+
+pub ok_reading : (bytes : List ℕ) (raw : Raw) (r : Result Raw Fault) → file_at bytes ≡ Ok raw
+    → IfOk r (λ circuit. circuit ≡ raw) → IfErr r (λ fault. fault ≢ faults.Memory → IsFirstFault raw fault)
+    → IsReading bytes r
+ok_reading bytes raw r h is first = record {
+  found = ok_found bytes raw r h is;
+  only = ok_only bytes raw r h is first;
+  of_parts = ok_of_parts bytes raw r h first;
+  counts = λ same. absurd (no_counts raw r first same);
+  wrong = ok_wrong bytes raw r h;
+}
+
+-- where no call failed, the answer is not that one did
+pub never_io : (r : Result Raw Fault) (n : ℕ) → Raises r n n → r ≢ failed_by faults.Io
+never_io (Ok circuit) n h is = cc
+never_io (Err faults.Io) n h is = absurd (omega (arith, h))
+never_io (Err fault) n h is = cc

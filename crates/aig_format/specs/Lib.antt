@@ -1,6 +1,8 @@
 pub mod Delta
+pub mod Fits
 pub mod Gathered
 pub mod Header
+pub mod Held
 pub mod Meaning
 pub mod Reading
 pub mod ReadingFile
@@ -8,3 +10,4 @@ pub mod ReadingNames
 pub mod ReadingSections
 pub mod Spelling
 pub mod Spells
+pub mod Verdict

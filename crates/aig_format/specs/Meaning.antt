@@ -1,11 +1,29 @@
--- What an answer of the code says about reading.
-use Rattle.std.specs.Prelude.{◌≡◌, ◌≢◌, ℕ, ◌<◌, List, Result, Ok, Err}
+-- What an answer of the reader's parts says about reading.
+use Rattle.std.specs.Prelude.{◌≡◌, ℕ, ◌+◌, List, Result, Ok, Err}
 use Rattle.aig_base.specs.declared.fault.Fault.{Fault}
 use Rattle.aig_base.specs.declared.fault.Fault.TheVariants as faults
-use Rattle.aig_base.specs.declared.raw.Raw.{Raw}
-use Rattle.aig_base.specs.FirstFault.{number_of, IsFirstFault}
+use Rattle.aig_format.specs.declared.token_fault.TokenFault.{TokenFault}
+use Rattle.aig_format.specs.declared.token_fault.TokenFault.TheVariants as tokens
 use Rattle.aig_format.specs.Reading.{Refusal, text, limit, Read}
 use Rattle.aig_format.specs.ReadingFile.{FileRefusal, token, counts}
+
+-- a token's fault as the fault of a file
+abbrev pub fault_of : TokenFault → Fault
+fault_of (tokens.Text at) = faults.Text at
+fault_of tokens.Limit = faults.Limit
+fault_of tokens.Io = faults.Io
+
+-- the token's fault is the refusal that reading gives, or a read failed
+abbrev pub TokenFails : {Y : Type 0} → TokenFault → Result Y Refusal → Type 0
+TokenFails (tokens.Text at) read = read ≡ Err text
+TokenFails tokens.Limit read = read ≡ Err limit
+TokenFails tokens.Io read = Unit {0}
+
+-- What a reader of tokens answered, seen by view, and the bytes that it left are what reading gives, unless a read
+-- failed.
+abbrev pub TokenGives : {X Y : Type 0} → (X → Y) → Result X TokenFault → List ℕ → Read Y → Type 0
+TokenGives view (Ok x) rest read = read ≡ Ok (view x, rest)
+TokenGives view (Err e) rest read = TokenFails e read
 
 -- the fault is the refusal that reading gives, or memory ran out, or a read failed
 abbrev pub Fails : {Y : Type 0} → Fault → Result Y Refusal → Type 0
@@ -15,8 +33,7 @@ Fails faults.Memory read = Unit {0}
 Fails faults.Io read = Unit {0}
 Fails fault read = ⊥
 
--- What a reader answered, seen by view, and the bytes that it left are what reading gives, unless memory ran out or a
--- read failed.
+-- The same of a reader that takes memory: it may run out.
 abbrev pub Gives : {X Y : Type 0} → (X → Y) → Result X Fault → List ℕ → Read Y → Type 0
 Gives view (Ok x) rest read = read ≡ Ok (view x, rest)
 Gives view (Err e) rest read = Fails e read
@@ -34,25 +51,11 @@ abbrev pub Answers : {X Y : Type 0} → (X → Y) → Result X Fault → Result 
 Answers view (Ok x) read = read ≡ Ok (view x)
 Answers view (Err e) read = FileFails e read
 
--- the count of failures rises where the answer says so, and only there
-abbrev pub FaultRaises : Fault → ℕ → ℕ → Type 0
-FaultRaises faults.Io old new = old < new
-FaultRaises fault old new = new ≡ old
+-- the count of failed calls rises by one where the answer says so, and only there
+abbrev pub TokenFaultRaises : TokenFault → ℕ → ℕ → Type 0
+TokenFaultRaises tokens.Io old new = new ≡ old + 1
+TokenFaultRaises fault old new = new ≡ old
 
-abbrev pub Raises : {X : Type 0} → Result X Fault → ℕ → ℕ → Type 0
-Raises (Ok x) old new = new ≡ old
-Raises (Err e) old new = FaultRaises e old new
-
--- the fault is one that the parts have
-abbrev pub IsOfParts : Fault → Type 0
-IsOfParts fault = (3 < number_of fault) × (number_of fault < 10)
-
--- the parts themselves or their first fault, or memory ran out
-abbrev pub IsVerdict : Result Raw Fault → Raw → Type 0
-IsVerdict (Ok circuit) raw = circuit ≡ raw
-IsVerdict (Err fault) raw = fault ≢ faults.Memory → IsFirstFault raw fault
-
--- this refusal, or memory ran out
-abbrev pub IsRefused : Result Raw Fault → Fault → Type 0
-IsRefused (Ok circuit) why = ⊥
-IsRefused (Err fault) why = fault ≢ faults.Memory → fault ≡ why
+abbrev pub TokenRaises : {X : Type 0} → Result X TokenFault → ℕ → ℕ → Type 0
+TokenRaises (Ok x) old new = new ≡ old
+TokenRaises (Err e) old new = TokenFaultRaises e old new

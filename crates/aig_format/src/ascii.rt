@@ -1,6 +1,9 @@
 //! The body of an ASCII file.
-ghost use Rattle.std.specs.Prelude.{◌≡◌};
-ghost use Rattle.aig_format.specs.Meaning.{Gives, Raises};
+ghost use Rattle.std.specs.Prelude.{◌≡◌, IfOk};
+ghost use Rattle.aig_base.specs.Formed.{IsFormed};
+ghost use Rattle.aig_format.specs.Header.{AreWithin};
+ghost use Rattle.aig_format.specs.Meaning.{Gives};
+ghost use Rattle.aig_format.specs.Verdict.{Raises};
 ghost use Rattle.aig_format.specs.ReadingFile.{ascii_at};
 
 use crate::header::Counts;
@@ -14,7 +17,11 @@ use std::alloc::Global;
 /// All that follows the header line.
 #[tactic(auto, unfolding(crate::specs::ReadingFile::ascii_at))]
 pub(crate) fn ascii_body<S: Source>(alloc: Global, s: &mut S, counts: &Counts) -> Result<Raw, Fault>
-    ensures bytes { S.tells → Gives (λ x. x) result (S.left s.new) (ascii_at counts.now (S.left s.old)) }
+    requires within { AreWithin counts.now }
+    ensures bytes { S.tells s.old → Gives (λ x. x) result (S.left s.new) (ascii_at counts.now (S.left s.old)) }
+    ensures formed { IfOk result IsFormed }
+    ensures told { S.tells s.old → S.tells s.new }
+    ensures reader { S.reader s.new ≡ S.reader s.old }
     ensures failures { Raises result (S.failures s.old) (S.failures s.new) }
 {
     let inputs: List<Lit> = lines(alloc, s, counts.inputs)?;

@@ -1,8 +1,10 @@
 //! The body of a binary file.
 ghost use Rattle.std.specs.Prelude.{◌≡◌, ◌<◌, ◌^◌, IfOk, IfErr};
+ghost use Rattle.aig_base.specs.Formed.{IsFormed};
 ghost use Rattle.aig_base.specs.Renumbered.{evens};
 ghost use Rattle.aig_format.specs.Header.{AreWithin};
-ghost use Rattle.aig_format.specs.Meaning.{Gives, Raises};
+ghost use Rattle.aig_format.specs.Meaning.{Gives};
+ghost use Rattle.aig_format.specs.Verdict.{Raises};
 ghost use Rattle.aig_format.specs.ReadingFile.{binary_at};
 
 use crate::header::Counts;
@@ -34,15 +36,19 @@ pub(crate) fn binary_body<S: Source>(
     counts: &Counts,
 ) -> Result<Raw, Fault>
     requires within { AreWithin counts.now }
-    ensures bytes { S.tells → Gives (λ x. x) result (S.left s.new) (binary_at counts.now (S.left s.old)) }
+    ensures bytes { S.tells s.old → Gives (λ x. x) result (S.left s.new) (binary_at counts.now (S.left s.old)) }
+    ensures formed { IfOk result IsFormed }
+    ensures told { S.tells s.old → S.tells s.new }
+    ensures reader { S.reader s.new ≡ S.reader s.old }
     ensures failures { Raises result (S.failures s.old) (S.failures s.new) }
 {
-    let inputs = inputs(alloc, counts.inputs)?;
     let latches: List<Latch> = entries(alloc, s, counts.inputs + 1, counts.latches)?;
     let properties = read_properties(alloc, s, counts)?;
     let first_gate = counts.inputs + counts.latches + 1;
     let gates: List<Gate> = entries(alloc, s, first_gate, counts.gates)?;
     let names = read_names(alloc, s, counts)?;
+    // The inputs are only counted in the file, so they wait until all of it is accepted.
+    let inputs = inputs(alloc, counts.inputs)?;
     Ok(Raw {
         max_var: counts.max_var,
         inputs,

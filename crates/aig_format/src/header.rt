@@ -2,14 +2,15 @@
 ghost use Rattle.std.specs.Prelude.{◌≡◌, ℕ, ◌≤◌, ◌∷◌, [], IfOk, false};
 ghost use Rattle.aig_base.specs.Formed.{limit};
 ghost use Rattle.aig_format.specs.Header.{AreWithin, are_wrong};
-ghost use Rattle.aig_format.specs.Meaning.{Gives, Raises};
+ghost use Rattle.aig_format.specs.Meaning.{TokenGives, TokenRaises};
 ghost use Rattle.aig_format.specs.Reading.{byte_at};
 ghost use Rattle.aig_format.specs.ReadingSections.{format_at, word_at, count_at, line_end_at, tail_at, header_at};
 ghost use Rattle.aig_format.specs.ReadingNames.{count_of};
 
 use crate::source::Source;
 use crate::token::{HEAD, byte, field, is_next, more, number};
-use aig_base::{Fault, Kind};
+use crate::token_fault::TokenFault;
+use aig_base::Kind;
 
 /// The two formats (AIGER 1.0, ASCII format and binary format).
 #[derive(Clone, Copy, PartialEq, Eq, Debug)]
@@ -72,24 +73,28 @@ impl Counts {
 
 /// Takes a byte of the header word. A fault of the word is at 0, or at the end of the file where that cuts it.
 #[tactic(auto, unfolding(crate::specs::Reading::byte_at))]
-fn word_byte<S: Source>(s: &mut S, byte: u8) -> Result<(), Fault>
-    ensures bytes { S.tells → Gives (λ x. x) result (S.left s.new) (byte_at byte (S.left s.old)) }
-    ensures failures { Raises result (S.failures s.old) (S.failures s.new) }
+fn word_byte<S: Source>(s: &mut S, byte: u8) -> Result<(), TokenFault>
+    ensures bytes { S.tells s.old → TokenGives (λ x. x) result (S.left s.new) (byte_at byte (S.left s.old)) }
+    ensures told { S.tells s.old → S.tells s.new }
+    ensures reader { S.reader s.new ≡ S.reader s.old }
+    ensures failures { TokenRaises result (S.failures s.old) (S.failures s.new) }
 {
     if is_next(s, byte)? {
         return Ok(());
     }
     match s.peek()? {
-        None => Err(Fault::Text { at: s.at() }),
-        Some(_) => Err(Fault::Text { at: 0 }),
+        None => Err(TokenFault::Text { at: s.at() }),
+        Some(_) => Err(TokenFault::Text { at: 0 }),
     }
 }
 
 /// The second letter of the word.
 #[tactic(auto, unfolding(crate::specs::ReadingSections::format_at))]
-fn second_letter<S: Source>(s: &mut S) -> Result<Format, Fault>
-    ensures bytes { S.tells → Gives (λ x. x) result (S.left s.new) (format_at (S.left s.old)) }
-    ensures failures { Raises result (S.failures s.old) (S.failures s.new) }
+fn second_letter<S: Source>(s: &mut S) -> Result<Format, TokenFault>
+    ensures bytes { S.tells s.old → TokenGives (λ x. x) result (S.left s.new) (format_at (S.left s.old)) }
+    ensures told { S.tells s.old → S.tells s.new }
+    ensures reader { S.reader s.new ≡ S.reader s.old }
+    ensures failures { TokenRaises result (S.failures s.old) (S.failures s.new) }
 {
     if is_next(s, b'a')? {
         Ok(Format::Ascii)
@@ -100,9 +105,11 @@ fn second_letter<S: Source>(s: &mut S) -> Result<Format, Fault>
 }
 
 #[tactic(auto, unfolding(crate::specs::ReadingSections::word_at))]
-fn word<S: Source>(s: &mut S) -> Result<Format, Fault>
-    ensures bytes { S.tells → Gives (λ x. x) result (S.left s.new) (word_at (S.left s.old)) }
-    ensures failures { Raises result (S.failures s.old) (S.failures s.new) }
+fn word<S: Source>(s: &mut S) -> Result<Format, TokenFault>
+    ensures bytes { S.tells s.old → TokenGives (λ x. x) result (S.left s.new) (word_at (S.left s.old)) }
+    ensures told { S.tells s.old → S.tells s.new }
+    ensures reader { S.reader s.new ≡ S.reader s.old }
+    ensures failures { TokenRaises result (S.failures s.old) (S.failures s.new) }
 {
     word_byte(s, b'a')?;
     let format = second_letter(s)?;
@@ -113,10 +120,12 @@ fn word<S: Source>(s: &mut S) -> Result<Format, Fault>
 
 /// The next count of the line, and whether the line is over; once it is over, counts are 0.
 #[tactic(auto, unfolding(crate::specs::ReadingSections::count_at))]
-fn count<S: Source>(s: &mut S, over: bool) -> Result<(u32, bool), Fault>
-    ensures bytes { S.tells → Gives (λ x. x) result (S.left s.new) (count_at over (S.left s.old)) }
+fn count<S: Source>(s: &mut S, over: bool) -> Result<(u32, bool), TokenFault>
+    ensures bytes { S.tells s.old → TokenGives (λ x. x) result (S.left s.new) (count_at over (S.left s.old)) }
     ensures within { IfOk result (λ c. c.0 ≤ limit) }
-    ensures failures { Raises result (S.failures s.old) (S.failures s.new) }
+    ensures told { S.tells s.old → S.tells s.new }
+    ensures reader { S.reader s.new ≡ S.reader s.old }
+    ensures failures { TokenRaises result (S.failures s.old) (S.failures s.new) }
 {
     if over {
         return Ok((0, true));
@@ -130,19 +139,23 @@ fn count<S: Source>(s: &mut S, over: bool) -> Result<(u32, bool), Fault>
 }
 
 #[tactic(auto, unfolding(crate::specs::ReadingSections::line_end_at))]
-fn line_end<S: Source>(s: &mut S, over: bool) -> Result<(), Fault>
-    ensures bytes { S.tells → Gives (λ x. x) result (S.left s.new) (line_end_at over (S.left s.old)) }
-    ensures failures { Raises result (S.failures s.old) (S.failures s.new) }
+fn line_end<S: Source>(s: &mut S, over: bool) -> Result<(), TokenFault>
+    ensures bytes { S.tells s.old → TokenGives (λ x. x) result (S.left s.new) (line_end_at over (S.left s.old)) }
+    ensures told { S.tells s.old → S.tells s.new }
+    ensures reader { S.reader s.new ≡ S.reader s.old }
+    ensures failures { TokenRaises result (S.failures s.old) (S.failures s.new) }
 {
     if over { Ok(()) } else { byte(s, b'\n') }
 }
 
 #[tactic(auto, unfolding(crate::specs::ReadingSections::tail_at))]
-fn last_counts<S: Source>(s: &mut S) -> Result<Tail, Fault>
-    ensures bytes { S.tells → Gives (λ t. t.bad ∷ t.constraints ∷ t.justice ∷ t.fairness ∷ []) result (S.left s.new)
+fn last_counts<S: Source>(s: &mut S) -> Result<Tail, TokenFault>
+    ensures bytes { S.tells s.old → TokenGives (λ t. t.bad ∷ t.constraints ∷ t.justice ∷ t.fairness ∷ []) result (S.left s.new)
         (tail_at 4 false (S.left s.old)) }
     ensures within { IfOk result (λ t. (t.bad ≤ limit) × (t.constraints ≤ limit) × (t.justice ≤ limit) × (t.fairness ≤ limit)) }
-    ensures failures { Raises result (S.failures s.old) (S.failures s.new) }
+    ensures told { S.tells s.old → S.tells s.new }
+    ensures reader { S.reader s.new ≡ S.reader s.old }
+    ensures failures { TokenRaises result (S.failures s.old) (S.failures s.new) }
 {
     let (bad, over) = count(s, false)?;
     let (constraints, over) = count(s, over)?;
@@ -159,10 +172,12 @@ fn last_counts<S: Source>(s: &mut S) -> Result<Tail, Fault>
 
 /// The header line, with its end.
 #[tactic(auto, unfolding(crate::specs::ReadingSections::header_at))]
-pub(crate) fn header<S: Source>(s: &mut S) -> Result<(Format, Counts), Fault>
-    ensures bytes { S.tells → Gives (λ x. x) result (S.left s.new) (header_at (S.left s.old)) }
+pub(crate) fn header<S: Source>(s: &mut S) -> Result<(Format, Counts), TokenFault>
+    ensures bytes { S.tells s.old → TokenGives (λ x. x) result (S.left s.new) (header_at (S.left s.old)) }
     ensures within { IfOk result (λ h. AreWithin h.1) }
-    ensures failures { Raises result (S.failures s.old) (S.failures s.new) }
+    ensures told { S.tells s.old → S.tells s.new }
+    ensures reader { S.reader s.new ≡ S.reader s.old }
+    ensures failures { TokenRaises result (S.failures s.old) (S.failures s.new) }
 {
     let format = word(s)?;
     let max_var = field(s, HEAD, b' ')?;

@@ -15,15 +15,18 @@ mod line;
 mod reader;
 mod section;
 mod section_writer;
+mod slice;
 mod source;
+mod stream;
 mod symbol;
 mod token;
+mod token_fault;
 
 pub use ascii_writer::write_ascii;
 pub use binary_writer::write_binary;
 pub use header::{Counts, Format};
 pub use laws::{law_of_deltas, law_of_one_reading, law_of_round_trip};
-pub use reader::read;
+pub use reader::{read, read_from};
 
 #[cfg(test)]
 mod tests;

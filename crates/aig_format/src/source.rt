@@ -1,19 +1,22 @@
 //! Where bytes come from.
 ghost use Rattle.std.specs.Prelude.{◌≡◌, ℕ, ◌<◌, ◌≤◌, List, length, IfOk, IfSome};
 ghost use Rattle.aig_format.specs.Reading.{peek_at, next_at};
-ghost use Rattle.aig_format.specs.Meaning.{Gives, Raises};
+ghost use Rattle.aig_format.specs.Meaning.{TokenGives, TokenRaises};
 
-use aig_base::Fault;
+use crate::token_fault::TokenFault;
 
 /// Bytes, one after the other.
 pub(crate) trait Source {
-    /// Holds where values of the type tell their bytes.
-    ghost tells: { Type 0 };
+    /// The value tells its bytes.
+    ghost tells: { Self → Type 0 };
 
-    /// The bytes left.
+    /// The bytes left, where the value tells them.
     ghost left: { Self → List ℕ };
 
-    /// How often a call has failed.
+    /// Which reader it reads from: the name of the borrow.
+    ghost reader: { Self → ℕ };
+
+    /// How many reads have failed.
     ghost failures: { Self → ℕ };
 
     /// A number that each call which takes a byte lowers.
@@ -23,66 +26,19 @@ pub(crate) trait Source {
     fn at(&self) -> u64;
 
     /// The next byte, which stays.
-    fn peek(&mut self) -> Result<Option<u8>, Fault>
-        ensures bytes { tells → Gives (λ x. x) result (left self.new) (peek_at (left self.old)) }
-        ensures failures { Raises result (failures self.old) (failures self.new) }
+    fn peek(&mut self) -> Result<Option<u8>, TokenFault>
+        ensures bytes { tells self.old → TokenGives (λ x. x) result (left self.new) (peek_at (left self.old)) }
+        ensures told { tells self.old → tells self.new }
+        ensures reader { reader self.new ≡ reader self.old }
+        ensures failures { TokenRaises result (failures self.old) (failures self.new) }
         ensures never_more { more self.new ≤ more self.old };
 
     /// The next byte, which is taken.
-    fn next(&mut self) -> Result<Option<u8>, Fault>
-        ensures bytes { tells → Gives (λ x. x) result (left self.new) (next_at (left self.old)) }
-        ensures failures { Raises result (failures self.old) (failures self.new) }
+    fn next(&mut self) -> Result<Option<u8>, TokenFault>
+        ensures bytes { tells self.old → TokenGives (λ x. x) result (left self.new) (next_at (left self.old)) }
+        ensures told { tells self.old → tells self.new }
+        ensures reader { reader self.new ≡ reader self.old }
+        ensures failures { TokenRaises result (failures self.old) (failures self.new) }
         ensures never_more { more self.new ≤ more self.old }
         ensures lowers { IfOk result (λ taken. IfSome taken (λ _. more self.new < more self.old)) };
-}
-
-/// The bytes of a slice, which never fails.
-#[derive(Drop)]
-pub(crate) struct Slice<'a> {
-    rest: &'a [u8],
-    size: usize,
-    ghost within: { length rest.now ≤ size },
-}
-
-impl<'a> Slice<'a> {
-    pub(crate) fn new(bytes: &'a [u8]) -> Slice<'a>
-        ensures { result.rest.now ≡ bytes.now }
-    {
-        Slice {
-            rest: bytes,
-            size: bytes.len(),
-        }
-    }
-}
-
-impl<'a> Source for Slice<'a> {
-    ghost tells = { Unit {0} };
-
-    ghost left = { λ s. s.rest.now };
-
-    ghost failures = { λ _. 0 };
-
-    ghost more = { λ s. length s.rest.now };
-
-    #[inline]
-    fn at(&self) -> u64 {
-        (self.size - self.rest.len()) as u64
-    }
-
-    #[inline]
-    fn peek(&mut self) -> Result<Option<u8>, Fault> {
-        Ok(self.rest.first().copied())
-    }
-
-    #[inline]
-    fn next(&mut self) -> Result<Option<u8>, Fault> {
-        match self.rest {
-            [] => Ok(None),
-            [first, rest @ ..] => {
-                let first = *first;
-                self.rest = rest;
-                Ok(Some(first))
-            }
-        }
-    }
 }

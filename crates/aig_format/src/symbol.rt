@@ -1,12 +1,16 @@
 //! The symbols and the comment.
-ghost use Rattle.std.specs.Prelude.{◌≡◌, ℕ, ◌<◌, ◌≤◌, List, [], length, Ok, IfOk, Option, Contains};
+ghost use Rattle.std.specs.Prelude.{◌≡◌, ◌≢◌, ℕ, ◌<◌, ◌≤◌, List, [], length, Ok, IfOk, OnOk, Option, All, Contains};
 ghost use Rattle.std.specs.Map.{keys_of};
-ghost use Rattle.aig_format.specs.ReadingNames.{kind_of, after_c_at, letter_at, line_at, name_at, position_at, symbol_at, symbols_at, names_at, IsSymbol};
-ghost use Rattle.aig_format.specs.Meaning.{Gives, Raises};
+ghost use Rattle.aig_base.specs.Formed.{IsName};
+ghost use Rattle.aig_format.specs.Fits.{AreSymbols};
+ghost use Rattle.aig_format.specs.ReadingNames.{count_of, kind_of, after_c_at, letter_at, line_at, name_at, position_at, symbol_at, symbols_at, names_at, IsSymbol};
+ghost use Rattle.aig_format.specs.Meaning.{Gives, TokenGives, TokenRaises};
+ghost use Rattle.aig_format.specs.Verdict.{Raises};
 
 use crate::header::Counts;
 use crate::source::Source;
 use crate::token::{BODY, byte, number};
+use crate::token_fault::TokenFault;
 use aig_base::{Bytes, Fault, Kind, List, Symbols};
 use std::alloc::Global;
 
@@ -42,9 +46,11 @@ fn kind_of(letter: u8) -> Option<Kind>
 
 /// What a `c` begins: the comment where its line ends, the symbol of a constraint where a digit follows.
 #[tactic(auto, unfolding(crate::specs::ReadingNames::after_c_at))]
-fn after_c<S: Source>(s: &mut S) -> Result<Next, Fault>
-    ensures bytes { S.tells → Gives (λ x. x) result (S.left s.new) (after_c_at (S.left s.old)) }
-    ensures failures { Raises result (S.failures s.old) (S.failures s.new) }
+fn after_c<S: Source>(s: &mut S) -> Result<Next, TokenFault>
+    ensures bytes { S.tells s.old → TokenGives (λ x. x) result (S.left s.new) (after_c_at (S.left s.old)) }
+    ensures told { S.tells s.old → S.tells s.new }
+    ensures reader { S.reader s.new ≡ S.reader s.old }
+    ensures failures { TokenRaises result (S.failures s.old) (S.failures s.new) }
     ensures never_more { S.more s.new ≤ S.more s.old }
 {
     let at = s.at();
@@ -54,15 +60,17 @@ fn after_c<S: Source>(s: &mut S) -> Result<Next, Fault>
             Ok(Next::Comment)
         }
         Some(b'0'..=b'9') => Ok(Next::Symbol(Kind::Constraint)),
-        _ => Err(Fault::Text { at }),
+        _ => Err(TokenFault::Text { at }),
     }
 }
 
 /// The letter of a symbol or the beginning of the comment, taken; or the end.
 #[tactic(auto, unfolding(crate::specs::ReadingNames::letter_at))]
-fn letter<S: Source>(s: &mut S) -> Result<Next, Fault>
-    ensures bytes { S.tells → Gives (λ x. x) result (S.left s.new) (letter_at (S.left s.old)) }
-    ensures failures { Raises result (S.failures s.old) (S.failures s.new) }
+fn letter<S: Source>(s: &mut S) -> Result<Next, TokenFault>
+    ensures bytes { S.tells s.old → TokenGives (λ x. x) result (S.left s.new) (letter_at (S.left s.old)) }
+    ensures told { S.tells s.old → S.tells s.new }
+    ensures reader { S.reader s.new ≡ S.reader s.old }
+    ensures failures { TokenRaises result (S.failures s.old) (S.failures s.new) }
     ensures lowers { IfOk result (λ next. IsSymbol next → S.more s.new < S.more s.old) }
 {
     let at = s.at();
@@ -71,14 +79,17 @@ fn letter<S: Source>(s: &mut S) -> Result<Next, Fault>
         Some(b'c') => after_c(s),
         Some(byte) => match kind_of(byte) {
             Some(kind) => Ok(Next::Symbol(kind)),
-            None => Err(Fault::Text { at }),
+            None => Err(TokenFault::Text { at }),
         },
     }
 }
 
 /// The bytes before the end of the line, which is taken.
 fn line<S: Source>(alloc: Global, s: &mut S) -> Result<Bytes, Fault>
-    ensures bytes { S.tells → Gives (λ x. x) result (S.left s.new) (line_at (S.left s.old)) }
+    ensures bytes { S.tells s.old → Gives (λ x. x) result (S.left s.new) (line_at (S.left s.old)) }
+    ensures no_end { IfOk result (λ bytes. All (λ b. b ≢ 10) bytes) }
+    ensures told { S.tells s.old → S.tells s.new }
+    ensures reader { S.reader s.new ≡ S.reader s.old }
     ensures failures { Raises result (S.failures s.old) (S.failures s.new) }
     ensures never_more { S.more s.new ≤ S.more s.old }
 {
@@ -96,7 +107,10 @@ fn line<S: Source>(alloc: Global, s: &mut S) -> Result<Bytes, Fault>
 /// A name and the end of its line.
 #[tactic(auto, unfolding(crate::specs::ReadingNames::name_at))]
 fn name<S: Source>(alloc: Global, s: &mut S) -> Result<Bytes, Fault>
-    ensures bytes { S.tells → Gives (λ x. x) result (S.left s.new) (name_at (S.left s.old)) }
+    ensures bytes { S.tells s.old → Gives (λ x. x) result (S.left s.new) (name_at (S.left s.old)) }
+    ensures name { IfOk result IsName }
+    ensures told { S.tells s.old → S.tells s.new }
+    ensures reader { S.reader s.new ≡ S.reader s.old }
     ensures failures { Raises result (S.failures s.old) (S.failures s.new) }
     ensures never_more { S.more s.new ≤ S.more s.old }
 {
@@ -115,19 +129,22 @@ fn position<S: Source>(
     counts: &Counts,
     kind: Kind,
     named: &Symbols,
-) -> Result<u32, Fault>
-    ensures bytes { S.tells → Gives (λ x. x) result (S.left s.new) (position_at counts.now named.now kind (S.left s.old)) }
+) -> Result<u32, TokenFault>
+    ensures bytes { S.tells s.old → TokenGives (λ x. x) result (S.left s.new) (position_at counts.now named.now kind (S.left s.old)) }
+    ensures there { IfOk result (λ p. p < count_of counts.now kind) }
     ensures fresh { IfOk result (λ p. Contains (keys_of named.now) (kind, p) → ⊥) }
-    ensures failures { Raises result (S.failures s.old) (S.failures s.new) }
+    ensures told { S.tells s.old → S.tells s.new }
+    ensures reader { S.reader s.new ≡ S.reader s.old }
+    ensures failures { TokenRaises result (S.failures s.old) (S.failures s.new) }
     ensures never_more { S.more s.new ≤ S.more s.old }
 {
     let at = s.at();
     let position = number(s, BODY)?;
     if position >= counts.of(kind) {
-        return Err(Fault::Text { at });
+        return Err(TokenFault::Text { at });
     }
     if named.contains(kind, position) {
-        return Err(Fault::Text { at });
+        return Err(TokenFault::Text { at });
     }
     Ok(position)
 }
@@ -141,7 +158,10 @@ fn symbol<S: Source>(
     kind: Kind,
     all: &mut Symbols,
 ) -> Result<(), Fault>
-    ensures bytes { S.tells → Gives (λ x. all.new) result (S.left s.new) (symbol_at counts.now all.old kind (S.left s.old)) }
+    ensures bytes { S.tells s.old → Gives (λ x. all.new) result (S.left s.new) (symbol_at counts.now all.old kind (S.left s.old)) }
+    ensures symbols { AreSymbols counts.now all.old → OnOk result (AreSymbols counts.now all.new) }
+    ensures told { S.tells s.old → S.tells s.new }
+    ensures reader { S.reader s.new ≡ S.reader s.old }
     ensures failures { Raises result (S.failures s.old) (S.failures s.new) }
     ensures never_more { S.more s.new ≤ S.more s.old }
 {
@@ -159,8 +179,11 @@ fn symbols<S: Source>(
     counts: &Counts,
     all: &mut Symbols,
 ) -> Result<bool, Fault>
-    ensures bytes { S.tells → Gives (λ comment. (all.new, comment)) result (S.left s.new)
+    ensures bytes { S.tells s.old → Gives (λ comment. (all.new, comment)) result (S.left s.new)
         (symbols_at counts.now (length (S.left s.old)) all.old (S.left s.old)) }
+    ensures symbols { AreSymbols counts.now all.old → OnOk result (AreSymbols counts.now all.new) }
+    ensures told { S.tells s.old → S.tells s.new }
+    ensures reader { S.reader s.new ≡ S.reader s.old }
     ensures failures { Raises result (S.failures s.old) (S.failures s.new) }
 {
     loop {
@@ -174,7 +197,9 @@ fn symbols<S: Source>(
 
 /// All bytes that are left.
 fn rest<S: Source>(alloc: Global, s: &mut S) -> Result<Bytes, Fault>
-    ensures bytes { S.tells → Gives (λ x. x) result (S.left s.new) (Ok (S.left s.old, [])) }
+    ensures bytes { S.tells s.old → Gives (λ x. x) result (S.left s.new) (Ok (S.left s.old, [])) }
+    ensures told { S.tells s.old → S.tells s.new }
+    ensures reader { S.reader s.new ≡ S.reader s.old }
     ensures failures { Raises result (S.failures s.old) (S.failures s.new) }
 {
     let mut bytes = List::new(alloc);
@@ -191,7 +216,10 @@ pub(crate) fn read_names<S: Source>(
     s: &mut S,
     counts: &Counts,
 ) -> Result<Names, Fault>
-    ensures bytes { S.tells → Gives (λ x. x) result (S.left s.new) (names_at counts.now (S.left s.old)) }
+    ensures bytes { S.tells s.old → Gives (λ x. x) result (S.left s.new) (names_at counts.now (S.left s.old)) }
+    ensures symbols { IfOk result (λ names. AreSymbols counts.now names.symbols) }
+    ensures told { S.tells s.old → S.tells s.new }
+    ensures reader { S.reader s.new ≡ S.reader s.old }
     ensures failures { Raises result (S.failures s.old) (S.failures s.new) }
 {
     let mut all = Symbols::new(alloc);

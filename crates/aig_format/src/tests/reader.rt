@@ -1,12 +1,19 @@
 use crate::delta::delta;
-use crate::reader::{parse, read};
-use crate::source::Slice;
-use aig_base::{Fault, Gate, Kind, Latch, Lit};
+use crate::reader::{read, read_from};
+use crate::slice::Slice;
+use crate::tests::fakes::ByteByByte;
+use aig_base::{Fault, Gate, Kind, Latch, Lit, MemReader};
 use std::test::*;
 
-// The fault of a text's tokens or counts, if it has one.
-fn refusal(rt: HostRuntime, bytes: &[u8]) -> Option<Fault> {
-    parse(rt.alloc(), bytes).err()
+// The fault of a file, if it has one: of its bytes, of a reader of blocks and of a reader of single bytes.
+fn refusals(rt: HostRuntime, bytes: &[u8]) -> [Option<Fault>; 3] {
+    let in_blocks = read_from(rt.alloc(), &mut MemReader::new(bytes));
+    let in_bytes = read_from(rt.alloc(), &mut ByteByByte::new(bytes, usize::MAX));
+    [
+        read(rt.alloc(), bytes).err(),
+        in_blocks.err(),
+        in_bytes.err(),
+    ]
 }
 
 fn text(at: u64) -> Option<Fault> {
@@ -39,6 +46,8 @@ fn refused_headers(rt: HostRuntime) {
         (b"aag", text(3)),
         (b"aig", text(3)),
         (b"abg 0 0 0 0 0\n", text(0)),
+        (b"aag\t", text(0)),
+        (b"aag 1x", text(5)),
         (b"aag 01 0 0 0 0\n", text(4)),
         (b"aag 1 2 0 0 0", text(13)),
         (b"aag 1 2 0 0 0\n", Some(Fault::Counts)),
@@ -48,7 +57,7 @@ fn refused_headers(rt: HostRuntime) {
         (b"aag 4194303 4194303 0 0 0\n", text(26)),
         (b"aag 0 0 0 0 0 0 0 0 0 0\n", text(21)),
     ] {
-        assert_eq!(rt; refusal(rt, bytes), fault);
+        assert_eq!(rt; refusals(rt, bytes), [fault; 3]);
     }
 }
 
@@ -63,12 +72,18 @@ fn refused_bodies(rt: HostRuntime) {
         (b"aag 1 1 0 0 0\n2\ni8388608 a\n", Some(Fault::Limit)),
         (b"aag 1 1 0 0 0\n2\ni0 a\ni0 b\n", text(22)),
         (b"aag 1 1 0 0 0\n2\ni0 \n", text(19)),
+        (b"aag 1 1 0 0 0\n2\ni0 ", text(19)),
+        (b"aag 1 1 0 0 0\n2\ni0a", text(18)),
+        (b"aag 1 1 0 0 0\n2\ni0 ab", text(21)),
         (b"aag 1 1 0 0 0\n2\nx", text(16)),
         (b"aag 1 1 0 0 0\n2\nc", text(17)),
         (b"aag 1 1 0 0 0\n2\ncx", text(17)),
         (b"aag 1 1 0 0 0\n2\nc0 a\n", text(17)),
         (b"aag 0 0 0 0 0 0 0 2\n4194303\n1x", Some(Fault::Limit)),
         (b"aig 3 2 0 1 1\n6\n\x02", text(17)),
+        (b"aig 3 2 0 1 1\n6\n\x82", text(16)),
+        (b"aig 3 2 0 1 1\n6\n\x82\x82", text(16)),
+        (b"aig 3 2 0 1 1\n6\n\x02\x82", text(17)),
         (b"aig 3 2 0 1 1\n6\n\x82\x00\x02", text(16)),
         (b"aig 3 2 0 1 1\n6\n\x00\x02", text(16)),
         (b"aig 3 2 0 1 1\n6\n\x02\x05", text(17)),
@@ -78,7 +93,7 @@ fn refused_bodies(rt: HostRuntime) {
         ),
         (b"aig 3 2 0 1 1\n6\n\xff\xff\xff\xff\x0f\x00", text(16)),
     ] {
-        assert_eq!(rt; refusal(rt, bytes), fault);
+        assert_eq!(rt; refusals(rt, bytes), [fault; 3]);
     }
 }
 
@@ -90,7 +105,7 @@ fn long_numbers(rt: HostRuntime) -> Result<(), Fail> {
         for _ in 0..400 {
             bytes.push(b'9')?;
         }
-        assert_eq!(rt; refusal(rt, &bytes), Some(Fault::Limit));
+        assert_eq!(rt; refusals(rt, &bytes), [Some(Fault::Limit); 3]);
     }
     Ok(())
 }
@@ -101,38 +116,39 @@ fn accepted(rt: HostRuntime) {
         b"aag 0 0 0 0 0\n".as_slice(),
         b"aag 1 1 0 0 0 0 0 1 1\n2\n2\n2\n3\n2\n",
         b"aag 1 0 1 0 0 0 0\n2 2 0\n",
+        b"aag 4 2 0 1 2\n2\n4\n8\n8 6 2\n6 2 4\n",
         b"aag 5 2 0 1 3\n2\n4\n10\n10 6 8\n8 2 4\n6 4 3\n",
         b"aag 1 1 0 0 0\n2\nc\n",
         b"aig 3 2 0 1 1\n6\n\x02\x02",
         b"aig 4 1 0 1 3\n8\n\x02\x00\x02\x02\x06\x00",
     ] {
-        assert_eq!(rt; refusal(rt, bytes), None);
+        assert_eq!(rt; refusals(rt, bytes), [None; 3]);
     }
 }
 
 #[test]
 fn parts_of_ascii(rt: HostRuntime) -> Result<(), Fail> {
-    let raw = parse(
+    let circuit = read(
         rt.alloc(),
         b"aag 3 1 1 1 1 0 0 1\n2\n4 6 4\n4\n2\n3\n5\n6 4 2\nj0 go\nc\nhi",
     )?;
-    assert_eq!(rt; raw.max_var, 3);
-    assert_eq!(rt; raw.latches.get(0), Some(&latch(4, 6, 4)));
-    assert_eq!(rt; raw.gates.get(0), Some(&gate(6, 4, 2)));
-    for property in raw.justice.iter() {
+    assert_eq!(rt; circuit.max_var(), 3);
+    assert_eq!(rt; circuit.latches().first(), Some(&latch(4, 6, 4)));
+    assert_eq!(rt; circuit.gates().first(), Some(&gate(6, 4, 2)));
+    for property in circuit.justice() {
         assert_eq!(rt; property.get(1), Some(&Lit::new(5)));
     }
-    assert!(rt; raw.symbols.contains(Kind::Justice, 0));
-    assert_eq!(rt; raw.comment.map(|bytes| bytes.len()), Some(2));
+    assert!(rt; circuit.symbols().contains(Kind::Justice, 0));
+    assert_eq!(rt; circuit.comment(), Some(b"hi".as_slice()));
     Ok(())
 }
 
 #[test]
 fn parts_of_binary(rt: HostRuntime) -> Result<(), Fail> {
-    let raw = parse(rt.alloc(), b"aig 3 1 1 0 1\n6 4\n\x02\x02")?;
-    assert_eq!(rt; raw.inputs.get(0), Some(&Lit::new(2)));
-    assert_eq!(rt; raw.latches.get(0), Some(&latch(4, 6, 4)));
-    assert_eq!(rt; raw.gates.get(0), Some(&gate(6, 4, 2)));
+    let circuit = read(rt.alloc(), b"aig 3 1 1 0 1\n6 4\n\x02\x02")?;
+    assert_eq!(rt; circuit.inputs().first(), Some(&Lit::new(2)));
+    assert_eq!(rt; circuit.latches().first(), Some(&latch(4, 6, 4)));
+    assert_eq!(rt; circuit.gates().first(), Some(&gate(6, 4, 2)));
     Ok(())
 }
 
@@ -156,13 +172,15 @@ fn gate(lhs: u32, rhs0: u32, rhs1: u32) -> Gate {
 fn takes_only(rt: HostRuntime, bytes: &[u8], lengths: &[usize]) -> bool {
     for length in 0..=bytes.len() {
         let wanted = lengths.contains(&length);
-        let as_wanted = match refusal(rt, &bytes[..length]) {
-            None => wanted,
-            Some(Fault::Text { .. }) => !wanted,
-            Some(_) => false,
-        };
-        if !as_wanted {
-            return false;
+        for refusal in refusals(rt, &bytes[..length]) {
+            let as_wanted = match refusal {
+                None => wanted,
+                Some(Fault::Text { .. }) => !wanted,
+                Some(_) => false,
+            };
+            if !as_wanted {
+                return false;
+            }
         }
     }
     true
@@ -187,17 +205,6 @@ fn faults_of_parts(rt: HostRuntime) {
         (b"aag 3 1 0 1 2\n2\n4\n4 6 2\n6 4 2\n", Fault::Cycle(2)),
         (b"aag 2 1 0 1 1\n2\n4\n4 4 2\n", Fault::Cycle(2)),
     ] {
-        assert_eq!(rt; read(rt.alloc(), bytes).err(), Some(fault));
-    }
-}
-
-#[test]
-fn circuits_are_read(rt: HostRuntime) {
-    for bytes in [
-        b"aag 4 2 0 1 2\n2\n4\n8\n8 6 2\n6 2 4\n".as_slice(),
-        b"aag 1 1 0 0 0 0 1\n2\n2\nc0 go\nc\nhi",
-        b"aig 3 2 0 1 1\n6\n\x02\x02",
-    ] {
-        assert!(rt; read(rt.alloc(), bytes).is_ok());
+        assert_eq!(rt; refusals(rt, bytes), [Some(fault); 3]);
     }
 }

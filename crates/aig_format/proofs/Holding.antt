@@ -1,0 +1,40 @@
+-- What a buffer holds, and what a read puts there.
+use Rattle.std.proofs.Common.{◌≡◌, ℕ, suc, ◌+◌, ◌-◌, ◌<◌, ◌≤◌, List, [], ◌∷◌, ◌++◌, length, get_or, take, drop, refl, sym}
+use Rattle.std.proofs.Common.{ap, subst, ◌∙◌, arith, Option, Some, None}
+use Rattle.std.proofs.Math.Seq.{drop-cons}
+use Rattle.aig_base.specs.Bytes.{before, IsAtEnd}
+use Rattle.aig_format.specs.Held.{held, IsKnown, known}
+
+pub held_front : (buffer more : List ℕ) (s e : ℕ) → s < e → e ≤ length buffer
+    → held s e buffer ++ more ≡ get_or buffer s 0 ∷ (held (s + 1) e buffer ++ more)
+held_front buffer more s e lt le =
+    let k : e - s ≡ suc (e - (s + 1)) = omega arith in
+    let long : s < length buffer = omega arith in
+    let next : suc s ≡ s + 1 = omega arith in
+    let d : drop s buffer ≡ get_or buffer s 0 ∷ drop (s + 1) buffer =
+    drop-cons buffer s 0 long ∙ ap (λ (j : ℕ). get_or buffer s 0 ∷ drop j buffer) next in rw (k, d) refl
+
+pub held_none : (buffer more : List ℕ) (s e : ℕ) → e ≤ s → held s e buffer ++ more ≡ more
+held_none buffer more s e le = let k : e - s ≡ 0 = omega arith in rw k refl
+
+-- a read takes its bytes from the front
+pub filled : (old new : Option (List ℕ)) (bytes : List ℕ) → old ≡ before bytes new → IsKnown old
+    → bytes ++ known new ≡ known old
+filled old None bytes is told = absurd (subst IsKnown is told)
+filled old (Some left) bytes is told = rw is refl
+
+pub still_told : (old new : Option (List ℕ)) (bytes : List ℕ) → old ≡ before bytes new → IsKnown old → IsKnown new
+still_told old None bytes is told = absurd (subst IsKnown is told)
+still_told old (Some left) bytes is told = tt
+
+pub none_left : (left : Option (List ℕ)) → IsAtEnd left → known left ≡ []
+none_left None at_end = refl
+none_left (Some left) at_end = at_end
+
+-- before the first read nothing is held
+pub first_left : (left : Option (List ℕ)) (bytes buffer : List ℕ) (s e : ℕ) → s ≡ e → left ≡ Some bytes
+    → held s e buffer ++ known left ≡ bytes
+first_left left bytes buffer s e same is = held_none buffer (known left) s e (omega (arith, same)) ∙ ap known is
+
+pub told_by : (left : Option (List ℕ)) (bytes : List ℕ) → left ≡ Some bytes → IsKnown left
+told_by left bytes is = subst IsKnown (sym is) tt

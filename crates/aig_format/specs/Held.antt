@@ -1,0 +1,15 @@
+-- Bytes that a buffer holds, and those that a reader has left.
+use Rattle.std.specs.Prelude.{ℕ, ◌-◌, List, [], Option, Some, None, take, drop}
+
+-- the bytes from start to end
+abbrev pub held : ℕ → ℕ → List ℕ → List ℕ
+held start end buffer = take (end - start) (drop start buffer)
+
+-- the reader tells its bytes
+abbrev pub IsKnown : Option (List ℕ) → Type 0
+IsKnown None = ⊥
+IsKnown (Some bytes) = Unit {0}
+
+abbrev pub known : Option (List ℕ) → List ℕ
+known None = []
+known (Some bytes) = bytes

@@ -1,0 +1,140 @@
+//! The bytes of a reader.
+ghost use Rattle.std.specs.Prelude.{◌≡◌, ◌+◌, ◌*◌, ◌-◌, ◌<◌, ◌≤◌, ◌++◌, [], take, drop, true, false, IfOk, IfErr, IsTrue};
+ghost use Rattle.aig_format.specs.Held.{held, IsKnown, known};
+ghost use Rattle.aig_format.specs.Meaning.{TokenRaises};
+
+use crate::source::Source;
+use crate::token_fault::TokenFault;
+use aig_base::{Failed, Read};
+
+/// How many bytes are read at once.
+const ROOM: usize = 4096;
+
+/// The bytes of a reader, through a plain array.
+#[derive(Drop)]
+pub(crate) struct Stream<'r, R: Read> {
+    reader: &'r mut R,
+    // The bytes from `start` to `end` were read and not taken.
+    buffer: [u8; ROOM],
+    start: usize,
+    end: usize,
+    // The place of the buffer's first byte.
+    begin: u64,
+    // A read gave the end.
+    ended: bool,
+    ghost ordered: { start ≤ end },
+    ghost within: { end ≤ 4096 },
+    ghost last: { IsTrue ended → known (R.left reader.now) ≡ [] },
+}
+
+impl<'r, R: Read> Stream<'r, R> {
+    /// Nothing is read yet.
+    pub(crate) fn new(reader: &'r mut R) -> Stream<'r, R>
+        ensures same_reference { result.reader.ghost_name ≡ reader.entry.ghost_name }
+        ensures reader { result.reader.now ≡ reader.old }
+        ensures empty { result.start ≡ result.end }
+    {
+        Stream {
+            reader,
+            buffer: [0; ROOM],
+            start: 0,
+            end: 0,
+            begin: 0,
+            ended: false,
+        }
+    }
+
+    /// Reads on where nothing is held and no read gave the end, and answers whether a byte is held.
+    #[inline]
+    fn is_ready(&mut self) -> Result<bool, TokenFault>
+        ensures same_reference { self.new.reader.ghost_name ≡ self.old.reader.ghost_name }
+        ensures same { IsKnown (R.left self.old.reader.now) →
+            held self.new.start self.new.end self.new.buffer ++ known (R.left self.new.reader.now)
+            ≡ held self.old.start self.old.end self.old.buffer ++ known (R.left self.old.reader.now) }
+        ensures some { IfOk result (λ ready. IsTrue ready → self.new.start < self.new.end) }
+        ensures none { IfOk result (λ ready. ready ≡ false →
+            (self.new.start ≡ self.new.end) × (known (R.left self.new.reader.now) ≡ [])) }
+        ensures io { IfErr result (λ fault. fault ≡ TokenFault.Io) }
+        ensures told { IsKnown (R.left self.old.reader.now) → IsKnown (R.left self.new.reader.now) }
+        ensures failures { TokenRaises result (R.failures self.old.reader.now) (R.failures self.new.reader.now) }
+        ensures never_more { 4096 * R.reads_left self.new.reader.now + (self.new.end - self.new.start)
+            ≤ 4096 * R.reads_left self.old.reader.now + (self.old.end - self.old.start) }
+        // No read is made where a byte is held, or where a read gave the end.
+        ensures held { self.old.start < self.old.end → self.new.reader.now ≡ self.old.reader.now }
+        ensures ended { IsTrue self.old.ended → self.new.reader.now ≡ self.old.reader.now }
+    {
+        if self.start < self.end {
+            return Ok(true);
+        }
+        if self.ended {
+            return Ok(false);
+        }
+        self.fill()
+    }
+
+    /// The same where nothing is held.
+    #[inline(never)]
+    fn fill(&mut self) -> Result<bool, TokenFault>
+        requires { self.old.start ≡ self.old.end }
+        ensures same_reference { self.new.reader.ghost_name ≡ self.old.reader.ghost_name }
+        ensures same { IsKnown (R.left self.old.reader.now) →
+            held self.new.start self.new.end self.new.buffer ++ known (R.left self.new.reader.now)
+            ≡ known (R.left self.old.reader.now) }
+        ensures some { IfOk result (λ ready. IsTrue ready → self.new.start < self.new.end) }
+        ensures none { IfOk result (λ ready. ready ≡ false →
+            (self.new.start ≡ self.new.end) × (known (R.left self.new.reader.now) ≡ [])) }
+        ensures io { IfErr result (λ fault. fault ≡ TokenFault.Io) }
+        ensures told { IsKnown (R.left self.old.reader.now) → IsKnown (R.left self.new.reader.now) }
+        ensures failures { TokenRaises result (R.failures self.old.reader.now) (R.failures self.new.reader.now) }
+        ensures never_more { 4096 * R.reads_left self.new.reader.now + (self.new.end - self.new.start)
+            ≤ 4096 * R.reads_left self.old.reader.now }
+    {
+        match self.reader.read(&mut self.buffer) {
+            Err(Failed) => Err(TokenFault::Io),
+            Ok(count) => {
+                self.begin = self.begin.saturating_add(self.end as u64);
+                self.start = 0;
+                self.end = count;
+                self.ended = count == 0;
+                Ok(count > 0)
+            }
+        }
+    }
+}
+
+impl<'r, R: Read> Source for Stream<'r, R> {
+    ghost tells = { λ s. IsKnown (R.left s.reader.now) };
+
+    ghost left = { λ s. held s.start s.end s.buffer ++ known (R.left s.reader.now) };
+
+    ghost reader = { λ s. s.reader.ghost_name };
+
+    ghost failures = { λ s. R.failures s.reader.now };
+
+    ghost more = { λ s. 4096 * R.reads_left s.reader.now + (s.end - s.start) };
+
+    #[inline]
+    fn at(&self) -> u64 {
+        self.begin.saturating_add(self.start as u64)
+    }
+
+    #[inline]
+    fn peek(&mut self) -> Result<Option<u8>, TokenFault> {
+        if self.is_ready()? {
+            Ok(Some(self.buffer[self.start]))
+        } else {
+            Ok(None)
+        }
+    }
+
+    #[inline]
+    fn next(&mut self) -> Result<Option<u8>, TokenFault> {
+        if self.is_ready()? {
+            let byte = self.buffer[self.start];
+            self.start += 1;
+            Ok(Some(byte))
+        } else {
+            Ok(None)
+        }
+    }
+}
