@@ -14,12 +14,12 @@ use Rattle.aig_base.specs.Sound.{IsSound, IsDefinition}
 use Rattle.aig_base.specs.Grounded.{IsSource}
 use Rattle.aig_base.specs.Grounded as grounded
 use Rattle.aig_base.specs.Value as value
-use Rattle.aig_base.specs.Value.{Value, start_of}
+use Rattle.aig_base.specs.Value.{Value}
 use Rattle.aig_base.proofs.Defined.{even, defined_cases}
 use Rattle.aig_base.proofs.Refined.{AllZip-slice_get}
 use Rattle.aig_base.proofs.UniqueValue.{unique}
 use Rattle.aig_sim.specs.Cells.{literal_value, gate_value}
-use Rattle.aig_sim.specs.Frame.{HasValue, Holds, Renews, HoldsInputs, HoldsLatches, HoldsSources, HoldsAll, AreStates}
+use Rattle.aig_sim.specs.Frame.{Holds, Renews, HoldsInputs, HoldsLatches, HoldsSources, HoldsAll, AreStates}
 use Rattle.aig_sim.specs.GateOrder.{IsReady, IsGateOrder}
 use Rattle.aig_base.proofs.Circuits.{input_definition, latch_definition, gate_definition}
 
@@ -45,12 +45,12 @@ pub items_all : {A : Type 0} (P : A → Type 0) (xs : List A) (n : ℕ) → leng
     → ((i : ℕ) (y : A) → i < n → slice_get xs i ≡ Some y → P y) → (i : ℕ) (y : A) → slice_get xs i ≡ Some y → P y
 items_all P xs n le before i y is = let w = slice_get_within xs i y is in before i y (omega arith) is
 
-get_set_same : {A : Type 0} (row : List A) (v : ℕ) (w : A) → v < length row → slice_get (slice_set row v w) v ≡ Some w
+pub get_set_same : {A : Type 0} (row : List A) (v : ℕ) (w : A) → v < length row → slice_get (slice_set row v w) v ≡ Some w
 get_set_same row v w lt =
     let within : v < length (set row v w) = rw length-set lt in
     slice_get-get_or (set row v w) v w within ∙ ap Some (get_or-set_same row v w w lt)
 
-get_set_other : {A : Type 0} (row : List A) (u v : ℕ) (w : A) → v ≢ u → slice_get (slice_set row u w) v
+pub get_set_other : {A : Type 0} (row : List A) (u v : ℕ) (w : A) → v ≢ u → slice_get (slice_set row u w) v
     ≡ slice_get row v
 get_set_other [] u v w ne = refl
 get_set_other (x ∷ xs) zero zero w ne = absurd (ne refl)
@@ -58,49 +58,49 @@ get_set_other (x ∷ xs) zero (suc v) w ne = refl
 get_set_other (x ∷ xs) (suc u) zero w ne = refl
 get_set_other (x ∷ xs) (suc u) (suc v) w ne = get_set_other xs u v w (λ e. ne (ap suc e))
 
-even_or_odd : (l : ℕ) → (l % 2 ≡ 0) ⊎ (l % 2 ≡ 1)
+pub even_or_odd : (l : ℕ) → (l % 2 ≡ 0) ⊎ (l % 2 ≡ 1)
 even_or_odd l = grind arith
 
-module _ (raw : Raw) (rows : List (List Tern)) (t : ℕ) where
+module _ (raw : Raw) (start : List Tern) (rows : List (List Tern)) (t : ℕ) where
   -- the value of a definition's literal is that of its variable's even literal
-  value_of_variable : (l : ℕ) (w : Tern) → IsDefinition l → HasValue raw rows t l w
-      → HasValue raw rows t (2 * variable l) w
+  pub value_of_variable : (l : ℕ) (w : Tern) → IsDefinition l → Value raw start rows t l w
+      → Value raw start rows t (2 * variable l) w
   value_of_variable l w d v = let e : 2 * variable l ≡ l = even l d in rw e v
 
   pub input_value : (row : List Tern) (i l : ℕ) (w : Tern) → IsSound raw → slice_get rows t ≡ Some row
-      → slice_get raw.inputs i ≡ Some l → slice_get row i ≡ Some w → HasValue raw rows t (2 * variable l) w
+      → slice_get raw.inputs i ≡ Some l → slice_get row i ≡ Some w → Value raw start rows t (2 * variable l) w
   input_value row i l w sound here at is =
       value_of_variable l w (input_definition raw sound i l at) (value.input t i l w row at here is)
 
-  pub latch_value : (states : List Tern) (i : ℕ) (x : Latch) (w : Tern) → IsSound raw → AreStates raw rows t states
-      → slice_get raw.latches i ≡ Some x → slice_get states i ≡ Some w → HasValue raw rows t (2 * variable x.lit) w
+  pub latch_value : (states : List Tern) (i : ℕ) (x : Latch) (w : Tern) → IsSound raw → AreStates raw start rows t states
+      → slice_get raw.latches i ≡ Some x → slice_get states i ≡ Some w → Value raw start rows t (2 * variable x.lit) w
   latch_value states i x w sound s at is =
       let (u, here, v) = AllZip-slice_get
-      (λ (x : Latch) (w : Tern). HasValue raw rows t x.lit w) raw.latches states i x s.each at in
+      (λ (x : Latch) (w : Tern). Value raw start rows t x.lit w) raw.latches states i x s.each at in
       let same : u ≡ w = cc in
       value_of_variable x.lit w (latch_definition raw sound i x at)
-      (subst (λ (u : Tern). HasValue raw rows t x.lit u) same v)
+      (subst (λ (u : Tern). Value raw start rows t x.lit u) same v)
 
-  negation_of_false : (w : Tern) → IsSound raw → HasValue raw rows t 0 w → HasValue raw rows t 1 (kleene_not w)
+  negation_of_false : (w : Tern) → IsSound raw → Value raw start rows t 0 w → Value raw start rows t 1 (kleene_not w)
   negation_of_false w sound v =
-      let e : w ≡ Zero = unique raw (start_of raw) rows sound v (value.constant_false t) in
+      let e : w ≡ Zero = unique raw start rows sound v (value.constant_false t) in
       rw e (value.constant_true t)
 
-  odd_has_value : (l : ℕ) (w : Tern) → IsSound raw → l % 2 ≡ 1 → HasValue raw rows t (2 * variable l) w
-      → HasValue raw rows t l (kleene_not w)
+  odd_has_value : (l : ℕ) (w : Tern) → IsSound raw → l % 2 ≡ 1 → Value raw start rows t (2 * variable l) w
+      → Value raw start rows t l (kleene_not w)
   odd_has_value l w sound o v = elim (cases_eq l 1) [
     | inl one ↦
         let zero : 2 * variable l ≡ 0 = omega arith in
-        let start : HasValue raw rows t 0 w = subst (λ (n : ℕ). HasValue raw rows t n w) zero v in
-        subst (λ (n : ℕ). HasValue raw rows t n (kleene_not w)) (sym one) (negation_of_false w sound start)
+        let zero_is : Value raw start rows t 0 w = subst (λ (n : ℕ). Value raw start rows t n w) zero v in
+        subst (λ (n : ℕ). Value raw start rows t n (kleene_not w)) (sym one) (negation_of_false w sound zero_is)
     | inr ne ↦
         let below : 2 * variable l ≡ l - 1 = omega arith in
-        value.negated t l w (omega arith) o (subst (λ (n : ℕ). HasValue raw rows t n w) below v)
+        value.negated t l w (omega arith) o (subst (λ (n : ℕ). Value raw start rows t n w) below v)
   ]
 
   -- a literal's value by the cell of its variable
-  pub literal_has_value : (cells : List Tern) (l : ℕ) → IsSound raw → Holds raw rows t cells (variable l)
-      → HasValue raw rows t l (literal_value cells l)
+  pub literal_has_value : (cells : List Tern) (l : ℕ) → IsSound raw → Holds raw start rows t cells (variable l)
+      → Value raw start rows t l (literal_value cells l)
   literal_has_value cells l sound h =
       let cell : get_or cells (variable l) X ≡ h.cell = get_or_from_slice_get cells (variable l) h.cell X h.cell_is in
       elim (even_or_odd l) [
@@ -108,56 +108,56 @@ module _ (raw : Raw) (rows : List (List Tern)) (t : ℕ) where
         | inr o ↦ rw (o, cell) (odd_has_value l h.cell sound o h.value_is)
       ]
 
-  gate_has_value : (cells : List Tern) (i : ℕ) (g : Gate) → IsSound raw → slice_get raw.gates i ≡ Some g
-      → Holds raw rows t cells (variable g.rhs0) → Holds raw rows t cells (variable g.rhs1)
-      → HasValue raw rows t (2 * variable g.lhs) (gate_value cells g)
+  pub gate_has_value : (cells : List Tern) (i : ℕ) (g : Gate) → IsSound raw → slice_get raw.gates i ≡ Some g
+      → Holds raw start rows t cells (variable g.rhs0) → Holds raw start rows t cells (variable g.rhs1)
+      → Value raw start rows t (2 * variable g.lhs) (gate_value cells g)
   gate_has_value cells i g sound at h0 h1 =
       value_of_variable g.lhs (gate_value cells g) (gate_definition raw sound i g at)
       (value.gate t i g (literal_value cells g.rhs0) (literal_value cells g.rhs1) at
       (literal_has_value cells g.rhs0 sound h0) (literal_has_value cells g.rhs1 sound h1))
 
   -- a value written to a cell
-  pub holds_new : (cells : List Tern) (u : ℕ) (w : Tern) → u < length cells → HasValue raw rows t (2 * u) w
-      → Holds raw rows t (slice_set cells u w) u
+  pub holds_new : (cells : List Tern) (u : ℕ) (w : Tern) → u < length cells → Value raw start rows t (2 * u) w
+      → Holds raw start rows t (slice_set cells u w) u
   holds_new cells u w lt v = record { cell = w; cell_is = get_set_same cells u w lt; value_is = v }
 
-  pub renews_none : (cells : List Tern) → Renews raw rows t cells cells
+  pub renews_none : (cells : List Tern) → Renews raw start rows t cells cells
   renews_none cells = record { keeps = λ v h. h }
 
-  pub renews_then : (old mid new : List Tern) → Renews raw rows t old mid → Renews raw rows t mid new
-      → Renews raw rows t old new
+  pub renews_then : (old mid new : List Tern) → Renews raw start rows t old mid → Renews raw start rows t mid new
+      → Renews raw start rows t old new
   renews_then old mid new a b = record { keeps = λ v h. b.keeps v (a.keeps v h) }
 
   -- what was a value stays one
-  pub renews_write : (cells : List Tern) (u : ℕ) (w : Tern) → u < length cells → HasValue raw rows t (2 * u) w
-      → Renews raw rows t cells (slice_set cells u w)
+  pub renews_write : (cells : List Tern) (u : ℕ) (w : Tern) → u < length cells → Value raw start rows t (2 * u) w
+      → Renews raw start rows t cells (slice_set cells u w)
   renews_write cells u w lt val = record {
     keeps = λ v h. elim (cases_eq v u) [
-      | inl e ↦ subst (λ (v : ℕ). Holds raw rows t (slice_set cells u w) v) (sym e) (holds_new cells u w lt val)
+      | inl e ↦ subst (λ (v : ℕ). Holds raw start rows t (slice_set cells u w) v) (sym e) (holds_new cells u w lt val)
       | inr ne ↦ record { cell = h.cell; cell_is = get_set_other cells u v w ne ∙ h.cell_is; value_is = h.value_is }
     ];
   }
 
   -- a write among others
   pub put_value : (old cells : List Tern) (u v : ℕ) (w : Tern) → u ≡ v → u < length cells
-      → HasValue raw rows t (2 * v) w
-      → Renews raw rows t old cells
-      → Renews raw rows t old (slice_set cells u w) × Renews raw rows t cells (slice_set cells u w)
-      × Holds raw rows t (slice_set cells u w) v
+      → Value raw start rows t (2 * v) w
+      → Renews raw start rows t old cells
+      → Renews raw start rows t old (slice_set cells u w) × Renews raw start rows t cells (slice_set cells u w)
+      × Holds raw start rows t (slice_set cells u w) v
   put_value old cells u v w e lt val r =
-      let here : HasValue raw rows t (2 * u) w = subst (λ (n : ℕ). HasValue raw rows t (2 * n) w) (sym e) val in
+      let here : Value raw start rows t (2 * u) w = subst (λ (n : ℕ). Value raw start rows t (2 * n) w) (sym e) val in
       let step = renews_write cells u w lt here in (
         renews_then old cells (slice_set cells u w) r step,
         step,
-        subst (Holds raw rows t (slice_set cells u w)) e (holds_new cells u w lt here),
+        subst (Holds raw start rows t (slice_set cells u w)) e (holds_new cells u w lt here),
       )
 
   -- the cell of variable 0
-  pub constant_holds : (cells : List Tern) → 0 < length cells → Holds raw rows t (slice_set cells 0 Zero) 0
+  pub constant_holds : (cells : List Tern) → 0 < length cells → Holds raw start rows t (slice_set cells 0 Zero) 0
   constant_holds cells lt = holds_new cells 0 Zero lt (value.constant_false t)
 
-  pub sources_hold : (cells : List Tern) → Holds raw rows t cells 0 → HoldsInputs raw rows t cells
-      → HoldsLatches raw rows t cells → HoldsSources raw rows t cells
+  pub sources_hold : (cells : List Tern) → Holds raw start rows t cells 0 → HoldsInputs raw start rows t cells
+      → HoldsLatches raw start rows t cells → HoldsSources raw start rows t cells
   sources_hold cells is inputs latches v grounded.IsSource.constant = is
   sources_hold cells is inputs latches v (grounded.IsSource.input i l at) = inputs i l at
   sources_hold cells is inputs latches v (grounded.IsSource.latch i x at) = latches i x at
@@ -165,30 +165,30 @@ module _ (raw : Raw) (rows : List (List Tern)) (t : ℕ) where
   -- the cells before the gate that is evaluated next
   abbrev pub HoldsFirst : List Gate → ℕ → List Tern → Type 0
   HoldsFirst gates q cells = (r : ℕ) (g : Gate) → r < q → slice_get gates r ≡ Some g
-      → Holds raw rows t cells (variable g.lhs)
+      → Holds raw start rows t cells (variable g.lhs)
 
-  ready_holds : (gates : List Gate) (q v : ℕ) (cells : List Tern) → HoldsSources raw rows t cells
+  ready_holds : (gates : List Gate) (q v : ℕ) (cells : List Tern) → HoldsSources raw start rows t cells
       → HoldsFirst gates q cells
-      → IsReady raw gates q v → Holds raw rows t cells v
+      → IsReady raw gates q v → Holds raw start rows t cells v
   ready_holds gates q v cells sources first (inl s) = sources v s
   ready_holds gates q v cells sources first (inr (r, g, lt, at, is)) =
-      subst (Holds raw rows t cells) is (first r g lt at)
+      subst (Holds raw start rows t cells) is (first r g lt at)
 
   -- a gate is evaluated behind those that it reads
   pub gate_value_is : (gates : List Gate) (q : ℕ) (g : Gate) (cells : List Tern) → IsSound raw → IsGateOrder raw gates
-      → slice_get gates q ≡ Some g → HoldsSources raw rows t cells → HoldsFirst gates q cells
-      → HasValue raw rows t (2 * variable g.lhs) (gate_value cells g)
+      → slice_get gates q ≡ Some g → HoldsSources raw start rows t cells → HoldsFirst gates q cells
+      → Value raw start rows t (2 * variable g.lhs) (gate_value cells g)
   gate_value_is gates q g cells sound order at sources first =
       let (i, stands) = order.known q g at in
       gate_has_value cells i g sound stands
       (ready_holds gates q (variable g.rhs0) cells sources first (order.ready0 q g at))
       (ready_holds gates q (variable g.rhs1) cells sources first (order.ready1 q g at))
 
-  pub all_hold : (gates : List Gate) (cells : List Tern) → IsGateOrder raw gates → HoldsSources raw rows t cells
-      → HoldsFirst gates (length gates) cells → HoldsAll raw rows t cells
+  pub all_hold : (gates : List Gate) (cells : List Tern) → IsGateOrder raw gates → HoldsSources raw start rows t cells
+      → HoldsFirst gates (length gates) cells → HoldsAll raw start rows t cells
   all_hold gates cells order sources first v d = elim (defined_cases raw v d) [
     | inl s ↦ sources v s
     | inr k ↦
         let (q, g, at, is) = order.complete v k in
-        subst (Holds raw rows t cells) is (first q g (slice_get_within gates q g at) at)
+        subst (Holds raw start rows t cells) is (first q g (slice_get_within gates q g at) at)
   ]

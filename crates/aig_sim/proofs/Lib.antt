@@ -1,6 +1,13 @@
+pub mod Completions
 pub mod Evaluation
 pub mod GateOrders
+pub mod GatherLemmas
 pub mod LineLemmas
 pub mod OneText
+pub mod PlaneBits
+pub mod PlaneLemmas
+pub mod PlaneRows
 pub mod SimulationLemmas
 pub mod TraceLemmas
+pub mod VerdictLemmas
+pub mod WitnessLemmas

@@ -98,7 +98,7 @@ read_byte {rows} shape' values' b h ne step = record {
   keeps = step h.line h.keeps;
 }
 
-flat_map_push : (rows : List (List Tern)) (values : List Tern)
+pub flat_map_push : (rows : List (List Tern)) (values : List Tern)
     → flat_map row_line (rows ++ values ∷ []) ≡ flat_map row_line rows ++ (map character values ++ 10 ∷ [])
 flat_map_push rows values =
     flat_map-append row_line rows (values ∷ [])

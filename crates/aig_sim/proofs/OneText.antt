@@ -7,11 +7,12 @@ use Rattle.aig_base.specs.declared.ternary.Tern.{Tern}
 use Rattle.aig_base.specs.declared.ternary.Tern.TheVariants.{Zero, One, X}
 use Rattle.aig_sim.specs.declared.stimulus_fault.StimFault.{StimFault}
 use Rattle.aig_sim.specs.declared.stimulus_fault.StimFault.TheVariants as fault
+use Rattle.aig_sim.specs.Checking.{BeginsWithRow}
 use Rattle.aig_sim.specs.StimulusText.{character, row_line, IsCharacter, HaveWidth, EndsLine, HasFault, HasFaultyLine, SpellsRows}
 use Rattle.aig_sim.proofs.LineLemmas.{characters, no_end_in_character}
 
 -- a line that LF ends begins with the bytes of no other
-split_once : (a b m n : List ℕ) → All (λ x. x ≢ 10) a → All (λ x. x ≢ 10) b → a ++ (10 ∷ m) ≡ b ++ (10 ∷ n) → (a ≡ b)
+pub split_once : (a b m n : List ℕ) → All (λ x. x ≢ 10) a → All (λ x. x ≢ 10) b → a ++ (10 ∷ m) ≡ b ++ (10 ∷ n) → (a ≡ b)
     × (m ≡ n)
 split_once [] [] m n p q e = (refl, cc)
 split_once [] (y ∷ b) m n p q e = let is : 10 ≡ y = cc in absurd (All-head (λ x. x ≢ 10) y b q (sym is))
@@ -22,7 +23,7 @@ split_once (x ∷ a) (y ∷ b) m n p q e =
     let r = split_once a b m n (All-tail (λ x. x ≢ 10) x a p) (All-tail (λ x. x ≢ 10) y b q) more in
     (ap (λ (z : ℕ). z ∷ a) same ∙ ap (λ (zs : List ℕ). y ∷ zs) r.0, r.1)
 
-no_split : (a b m : List ℕ) → All (λ x. x ≢ 10) b → a ++ (10 ∷ m) ≡ b → ⊥
+pub no_split : (a b m : List ℕ) → All (λ x. x ≢ 10) b → a ++ (10 ∷ m) ≡ b → ⊥
 no_split [] [] m q e = cc
 no_split [] (y ∷ b) m q e = let is : 10 ≡ y = cc in All-head (λ x. x ≢ 10) y b q (sym is)
 no_split (x ∷ a) [] m q e = cc
@@ -39,7 +40,7 @@ same_character One X e = absurd (omega arith)
 same_character X Zero e = absurd (omega arith)
 same_character X One e = absurd (omega arith)
 
-same_row : (r s : List Tern) → map character r ≡ map character s → r ≡ s
+pub same_row : (r s : List Tern) → map character r ≡ map character s → r ≡ s
 same_row [] [] e = refl
 same_row [] (w ∷ s) e = cc
 same_row (v ∷ r) [] e = cc
@@ -48,24 +49,18 @@ same_row (v ∷ r) (w ∷ s) e =
     let more : map character r ≡ map character s = cc in
     ap (λ (z : Tern). z ∷ r) (same_character v w first) ∙ ap (λ (zs : List Tern). w ∷ zs) (same_row r s more)
 
-no_end_in_row : (r : List Tern) → All (λ x. x ≢ 10) (map character r)
+pub no_end_in_row : (r : List Tern) → All (λ x. x ≢ 10) (map character r)
 no_end_in_row r = All-map (λ x. x ≢ 10) character r (λ i d h. no_end_in_character _)
 
--- the text begins with a row of the width
-StartsWithRow : ℕ → List ℕ → Type 0
-StartsWithRow width text = (r : List Tern) × (more : List ℕ) × (length r ≡ width)
-    × (text ≡ map character r ++ (10 ∷ more))
-
-row_ends : (r : List Tern) (more : List ℕ) → row_line r ++ more ≡ map character r ++ (10 ∷ more)
+pub row_ends : (r : List Tern) (more : List ℕ) → row_line r ++ more ≡ map character r ++ (10 ∷ more)
 row_ends r more = append_assoc (map character r) (10 ∷ []) more
 
 -- a text as rows and a rest, twice
-rows_twice : (width : ℕ) (rows rows' : List (List Tern)) (rest rest' : List ℕ) → HaveWidth width rows
+pub rows_twice : (width : ℕ) (rows rows' : List (List Tern)) (rest rest' : List ℕ) → HaveWidth width rows
     → HaveWidth width rows'
     → flat_map row_line rows ++ rest ≡ flat_map row_line rows' ++ rest'
-    → ((rows ≡ rows') × (rest ≡ rest')) ⊎ (((length rows < length rows') × StartsWithRow width rest)
-    ⊎ ((length rows' < length rows) × StartsWithRow width rest'))
-unfolding StartsWithRow
+    → ((rows ≡ rows') × (rest ≡ rest')) ⊎ (((length rows < length rows') × BeginsWithRow width rest)
+    ⊎ ((length rows' < length rows) × BeginsWithRow width rest'))
 rows_twice width [] [] rest rest' p q e = inl (refl, e)
 rows_twice width [] (s ∷ rows') rest rest' p q e =
     inr (inl (
@@ -103,15 +98,13 @@ rows_twice width (r ∷ rows) (s ∷ rows') rest rest' p q e =
       | inr h ↦ inr (elim h [ inl k ↦ inl (omega (arith, k.0), k.1) | inr k ↦ inr (omega (arith, k.0), k.1) ])
     ]
 
-no_row_in_nothing : (width : ℕ) → StartsWithRow width [] → ⊥
-unfolding StartsWithRow
+no_row_in_nothing : (width : ℕ) → BeginsWithRow width [] → ⊥
 no_row_in_nothing width (r, more, len, e) = no_split (map character r) [] more (λ i d h. absurd (omega arith)) (sym e)
 
 -- a faulty line is no row, unless it is one too many
 fault_is_no_row : (width before : ℕ) (line rest : List ℕ) (f : StimFault) → All (λ x. x ≢ 10) line
     → HasFault width before line rest f
-    → StartsWithRow width (line ++ rest) → before ≡ 65536
-unfolding StartsWithRow
+    → BeginsWithRow width (line ++ rest) → before ≡ 65536
 fault_is_no_row width before line rest fault.Unfinished p h (r, more, len, e) =
     absurd (no_split (map character r) line more p (sym e ∙ ap (λ (t : List ℕ). line ++ t) h.0 ∙ append-nil line))
 fault_is_no_row width before line rest (fault.Char n) p h (r, more, len, e) =

@@ -7,6 +7,8 @@ use Rattle.std.proofs.lemmas.List.{append-nil, length_push}
 use Rattle.aig_base.specs.declared.ternary.Tern.{Tern}
 use Rattle.aig_base.specs.declared.raw.Raw.{Raw}
 use Rattle.aig_base.specs.Bytes.{after, before, IsAtEnd, IsBeginning}
+use Rattle.aig_base.specs.Circuit.{IsCircuit}
+use Rattle.aig_base.specs.Sound.{IsSound}
 use Rattle.aig_base.specs.Value.{start_of}
 use Rattle.aig_base.proofs.WriteLemmas.{after-append, after-nil}
 use Rattle.aig_sim.specs.declared.simulation.Simulation.{Simulation}
@@ -21,8 +23,9 @@ use Rattle.aig_sim.specs.Running.{Running, StopsBy, Stopped, GoesOn, Stops, Read
 use Rattle.aig_sim.specs.Simulated.{Simulates}
 use Rattle.aig_sim.specs.StimulusText.{row_line, line_number, EndsLine, HasFault, HasFaultyLine}
 use Rattle.aig_sim.specs.Trace.{AreValues, IsLine, AreLines, IsTrace}
+use Rattle.aig_sim.specs.TraceText.{line_text}
 use Rattle.aig_sim.proofs.LineLemmas.{read_none, read_byte, read_line, read_fault, read_unfinished, read_end, step_same, fault_same}
-use Rattle.aig_sim.proofs.TraceLemmas.{value_stays}
+use Rattle.aig_sim.proofs.TraceLemmas.{value_stays, line_is}
 
 -- ---- the trace so far
 module _ (raw : Raw) (start : List Tern) (rows more : List (List Tern)) where
@@ -60,7 +63,7 @@ trace_more raw start rows row trace line h k =
 
 -- ---- steps
 pub running_none : (raw : Raw) (start : Option (List ℕ)) (count : ℕ) (s : Simulation) → s.machine.circuit ≡ raw
-    → AreStates raw [] 0 s.machine.states → s.line.shape ≡ Row → s.line.values ≡ [] → s.frames ≡ 0
+    → AreStates raw (start_of raw) [] 0 s.machine.states → s.line.shape ≡ Row → s.line.values ≡ [] → s.frames ≡ 0
     → Running raw start count [] s start count
 running_none raw start count s circuit states shape values frames = record {
   rows = [];
@@ -87,7 +90,7 @@ byte_goes_on s s' b written failures width frames machine ne step raw start coun
   has_read = read_byte s'.line.shape s'.line.values b r.has_read ne
       (step_same s.line.shape s'.line.shape s.line.values s'.line.values b
       (width ∙ ap (λ (c : Raw). length c.inputs) r.circuit_is) step);
-  states_are = subst (λ (m : Machine). AreStates raw r.rows (length r.rows) m.states) (sym machine) r.states_are;
+  states_are = subst (λ (m : Machine). AreStates raw (start_of raw) r.rows (length r.rows) m.states) (sym machine) r.states_are;
   frames_are = frames ∙ r.frames_are;
   trace_is = r.trace_is;
   wrote = r.wrote;
@@ -114,15 +117,30 @@ stops_then a b s mid w x y f g h e p q raw start count text r =
 module _ (s : Simulation) (machine' : Machine) (row : List Tern)
     (width : s.line.width ≡ length s.machine.circuit.inputs)
     (shape : s.line.shape ≡ Row) (values : s.line.values ≡ row) (len : length row ≡ s.line.width)
-    (circuit : machine'.circuit ≡ s.machine.circuit)
-    (step : (rows : List (List Tern)) → AreStates s.machine.circuit rows (length rows) s.machine.states
-    → Steps s.machine.circuit rows row machine'.states machine'.line) where
+    (circuit : machine'.circuit ≡ s.machine.circuit) (is_circuit : IsCircuit machine'.circuit)
+    (step : (start : List Tern) (rows : List (List Tern))
+    → AreStates s.machine.circuit start rows (length rows) s.machine.states
+    → Steps s.machine.circuit start rows row machine'.cells machine'.states) where
   stepped : (raw : Raw) (rows : List (List Tern)) → s.machine.circuit ≡ raw
-      → AreStates raw rows (length rows) s.machine.states
-      → Steps raw rows row machine'.states machine'.line
+      → AreStates raw (start_of raw) rows (length rows) s.machine.states
+      → Steps raw (start_of raw) rows row machine'.cells machine'.states
   stepped raw rows is are =
-      subst (λ (c : Raw). Steps c rows row machine'.states machine'.line) is
-      (step rows (subst (λ (c : Raw). AreStates c rows (length rows) s.machine.states) (sym is) are))
+      subst (λ (c : Raw). Steps c (start_of raw) rows row machine'.cells machine'.states) is
+      (step (start_of raw) rows
+      (subst (λ (c : Raw). AreStates c (start_of raw) rows (length rows) s.machine.states) (sym is) are))
+
+  -- the line of the row
+  abbrev line : List ℕ
+  line = line_text machine'.circuit machine'.cells
+
+  line_stepped : (raw : Raw) (rows : List (List Tern)) → s.machine.circuit ≡ raw
+      → Steps raw (start_of raw) rows row machine'.cells machine'.states
+      → IsLine raw (start_of raw) (rows ++ row ∷ []) (length rows) line
+  line_stepped raw rows is h =
+      subst (λ (c : Raw). IsLine raw (start_of raw) (rows ++ row ∷ []) (length rows) (line_text c machine'.cells))
+      (sym (circuit ∙ is))
+      (line_is raw (start_of raw) (rows ++ row ∷ []) (length rows) machine'.cells
+      (subst (λ (c : Raw). IsSound c) (circuit ∙ is) is_circuit.sound) h.cells_are)
 
   row_read : (raw : Raw) (text : List ℕ) (rows : List (List Tern)) → s.machine.circuit ≡ raw
       → HasRead (length raw.inputs) text rows s.line.shape s.line.values
@@ -136,42 +154,42 @@ module _ (s : Simulation) (machine' : Machine) (row : List Tern)
   pub row_goes_on : (s' : Simulation) (written written' : Option (List ℕ)) (failures failures' : ℕ) → s'.machine
       ≡ machine'
       → s'.line.shape ≡ Row → s'.line.values ≡ [] → s'.frames ≡ min (s.frames + 1) (2 ^ 64 - 1)
-      → written' ≡ after written machine'.line → failures' ≡ failures + 0
+      → written' ≡ after written line → failures' ≡ failures + 0
       → GoesOn (10 ∷ []) s s' written written' failures failures'
   row_goes_on s' written written' failures failures' machine-is shape' values' frames wrote count-is raw start count
       text r =
       let done = stepped raw r.rows r.circuit_is r.states_are in
       record {
         rows = r.rows ++ row ∷ [];
-        trace = r.trace ++ machine'.line;
+        trace = r.trace ++ line;
         circuit_is = ap (λ (m : Machine). m.circuit) machine-is ∙ circuit ∙ r.circuit_is;
         has_read = subst (λ (v : List Tern). HasRead (length raw.inputs) (text ++ 10 ∷ [])
             (r.rows ++ row ∷ []) s'.line.shape v) (sym values')
             (subst (λ (k : Shape). HasRead (length raw.inputs) (text ++ 10 ∷ []) (r.rows ++ row ∷ []) k []) (sym shape')
             (row_read raw text r.rows r.circuit_is r.has_read));
-        states_are = subst (λ (n : ℕ). AreStates raw (r.rows ++ row ∷ []) n s'.machine.states)
+        states_are = subst (λ (n : ℕ). AreStates raw (start_of raw) (r.rows ++ row ∷ []) n s'.machine.states)
             (sym (length_push r.rows row))
-            (subst (λ (m : Machine). AreStates raw (r.rows ++ row ∷ []) (length r.rows + 1) m.states)
+            (subst (λ (m : Machine). AreStates raw (start_of raw) (r.rows ++ row ∷ []) (length r.rows + 1) m.states)
             (sym machine-is) done.states_are);
         frames_are = omega (arith, frames, r.frames_are, length_push r.rows row);
-        trace_is = trace_more raw (start_of raw) r.rows row r.trace machine'.line r.trace_is done.line_is;
-        wrote = wrote ∙ ap (λ (w : Option (List ℕ)). after w machine'.line) r.wrote
-            ∙ after-append start r.trace machine'.line;
+        trace_is = trace_more raw (start_of raw) r.rows row r.trace line r.trace_is (line_stepped raw r.rows r.circuit_is done);
+        wrote = wrote ∙ ap (λ (w : Option (List ℕ)). after w line) r.wrote
+            ∙ after-append start r.trace line;
         no_failure = omega (arith, count-is, r.no_failure);
       }
 
   -- a row was simulated, and the write of its line failed
   pub row_stops : (more : List ℕ) (written written' : Option (List ℕ)) (failures failures' : ℕ)
-      → (done : List ℕ) × IsBeginning done machine'.line × (written' ≡ after written done) → failures' ≡ failures + 1
+      → (done : List ℕ) × IsBeginning done line × (written' ≡ after written done) → failures' ≡ failures + 1
       → Stops (10 ∷ more) s written written' failures failures' fault.Io
   row_stops more written written' failures failures' (done, begins, wrote) count-is raw start count text r =
       let done' = stepped raw r.rows r.circuit_is r.states_are in
       let read = row_read raw text r.rows r.circuit_is r.has_read in
       record {
         rows = r.rows ++ row ∷ [];
-        trace = r.trace ++ machine'.line;
+        trace = r.trace ++ line;
         done = r.trace ++ done;
-        trace_is = trace_more raw (start_of raw) r.rows row r.trace machine'.line r.trace_is done'.line_is;
+        trace_is = trace_more raw (start_of raw) r.rows row r.trace line r.trace_is (line_stepped raw r.rows r.circuit_is done');
         wrote = wrote ∙ ap (λ (w : Option (List ℕ)). after w done) r.wrote ∙ after-append start r.trace done;
         why = (
           record {
@@ -237,6 +255,53 @@ pub read_nothing : (raw : Raw) (left : Option (List ℕ)) (reads : ℕ) (start :
     → Running raw start count [] s start count → ReadSoFar raw left left reads reads start count s start count
 read_nothing raw left reads start count s r =
     record { text = []; read = sym (before_nil left); no_failure = refl; running = r }
+
+module _ {raw : Raw} {left mid : Option (List ℕ)} {reads reads' : ℕ} {start : Option (List ℕ)} {count : ℕ}
+    {s : Simulation}
+    {written : Option (List ℕ)} {failures : ℕ}
+    (h : ReadSoFar raw left mid reads reads' start count s written failures) where
+  -- what was written was handed on
+  pub so_far_flushed : (written' : Option (List ℕ)) (failures' : ℕ) → written' ≡ written → failures' ≡ failures + 0
+      → ReadSoFar raw left mid reads reads' start count s written' failures'
+  so_far_flushed written' failures' is n =
+      let r = h.running in
+      record {
+        text = h.text;
+        read = h.read;
+        no_failure = h.no_failure;
+        running = record {
+          rows = r.rows;
+          trace = r.trace;
+          circuit_is = r.circuit_is;
+          has_read = r.has_read;
+          states_are = r.states_are;
+          frames_are = r.frames_are;
+          trace_is = r.trace_is;
+          wrote = is ∙ r.wrote;
+          no_failure = omega (arith, r.no_failure, n);
+        };
+      }
+
+  -- a flush failed
+  pub simulates_flush_failed : (written' : Option (List ℕ)) (failures' : ℕ) → written' ≡ written → failures' ≡ failures + 1
+      → Simulates raw (record { left = left; reads = reads; writes = count })
+      (record { left = mid; reads = reads'; writes = failures' }) start written' (Err fault.Io)
+  simulates_flush_failed written' failures' is n =
+      let r = h.running in
+      record {
+        text = h.text;
+        rows = r.rows;
+        trace = r.trace;
+        done = r.trace;
+        read = h.read;
+        trace_is = r.trace_is;
+        wrote = is ∙ r.wrote;
+        ended = inr (
+          record { widths = r.has_read.widths; rest = r.has_read.line; text_is = r.has_read.text_is },
+          ([], sym (append-nil r.trace)),
+          (h.no_failure, omega (arith, r.no_failure, n)),
+        );
+      }
 
 module _ {raw : Raw} {left mid to : Option (List ℕ)} {reads reads' reads'' : ℕ} {start : Option (List ℕ)} {count : ℕ}
     {s : Simulation}

@@ -1,10 +1,16 @@
 pub mod Cells
+pub mod Checking
 pub mod Frame
+pub mod Gathered
 pub mod GateOrder
 pub mod InputRows
 pub mod LineInHand
 pub mod Machine
+pub mod Planes
 pub mod Running
 pub mod Simulated
 pub mod StimulusText
 pub mod Trace
+pub mod TraceText
+pub mod Verdict
+pub mod WitnessText

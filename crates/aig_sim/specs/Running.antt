@@ -24,7 +24,7 @@ pub record Running (raw : Raw) (start : Option (List ℕ)) (count : ℕ) (text :
   pub trace : List ℕ
   pub circuit_is : s.machine.circuit ≡ raw
   pub has_read : HasRead (length raw.inputs) text rows s.line.shape s.line.values
-  pub states_are : AreStates raw rows (length rows) s.machine.states
+  pub states_are : AreStates raw (start_of raw) rows (length rows) s.machine.states
   pub frames_are : s.frames ≡ min (length rows) (2 ^ 64 - 1)
   pub trace_is : IsTrace raw (start_of raw) rows trace
   pub wrote : written ≡ after start trace

@@ -44,7 +44,7 @@ ReadsFault width new text rows fault.Io = ⊥
 -- How a simulation ends that has read this text: its rows have the trace, of which `done` was written.
 -- All went well: the text spells the rows, the whole trace was written, and the answer is the number of rows, where the
 -- greatest number of 64 bits stands for any greater. A fault: so far as the good rows go. A failing read: all rows that
--- were read whole. A failing write: a beginning.
+-- were read whole. A failing write: a beginning; it may be all, where a flush failed.
 abbrev pub Ends : ℕ → Streams → Streams → List ℕ → List (List Tern) → List ℕ → List ℕ → Result ℕ StimFault → Type 0
 Ends width old new text rows trace done (Ok n) =
     SpellsRows width text rows × IsAtEnd new.left × (done ≡ trace) × (n ≡ min (length rows) (2 ^ 64 - 1)) × NoneFailed old new

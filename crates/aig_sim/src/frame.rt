@@ -18,10 +18,10 @@ fn put_inputs(cells: &mut [Tern], circuit: &Circuit, row: &[Tern])
     requires circuit { IsCircuit circuit.now }
     requires cells { length cells.old ≡ circuit.now.max_var + 1 }
     requires row { length row.now ≡ length circuit.now.inputs }
-    ensures renews { (rows : List (List Tern)) (t : ℕ) → slice_get rows t ≡ Some row.now →
-        Renews circuit.now rows t cells.old cells.new }
-    ensures inputs { (rows : List (List Tern)) (t : ℕ) → slice_get rows t ≡ Some row.now →
-        HoldsInputs circuit.now rows t cells.new }
+    ensures renews { (start : List Tern) (rows : List (List Tern)) (t : ℕ) → slice_get rows t ≡ Some row.now →
+        Renews circuit.now start rows t cells.old cells.new }
+    ensures inputs { (start : List Tern) (rows : List (List Tern)) (t : ℕ) → slice_get rows t ≡ Some row.now →
+        HoldsInputs circuit.now start rows t cells.new }
 {
     for (position, input) in circuit.inputs().iter().enumerate() {
         cells[input.var() as usize] = row[position];
@@ -33,10 +33,10 @@ fn put_latches(cells: &mut [Tern], circuit: &Circuit, states: &[Tern])
     requires circuit { IsCircuit circuit.now }
     requires cells { length cells.old ≡ circuit.now.max_var + 1 }
     requires states { length states.now ≡ length circuit.now.latches }
-    ensures renews { (rows : List (List Tern)) (t : ℕ) → AreStates circuit.now rows t states.now →
-        Renews circuit.now rows t cells.old cells.new }
-    ensures latches { (rows : List (List Tern)) (t : ℕ) → AreStates circuit.now rows t states.now →
-        HoldsLatches circuit.now rows t cells.new }
+    ensures renews { (start : List Tern) (rows : List (List Tern)) (t : ℕ) → AreStates circuit.now start rows t states.now →
+        Renews circuit.now start rows t cells.old cells.new }
+    ensures latches { (start : List Tern) (rows : List (List Tern)) (t : ℕ) → AreStates circuit.now start rows t states.now →
+        HoldsLatches circuit.now start rows t cells.new }
 {
     for (position, latch) in circuit.latches().iter().enumerate() {
         cells[latch.lit.var() as usize] = states[position];
@@ -49,8 +49,8 @@ fn put_sources(cells: &mut [Tern], circuit: &Circuit, row: &[Tern], states: &[Te
     requires cells { length cells.old ≡ circuit.now.max_var + 1 }
     requires row { length row.now ≡ length circuit.now.inputs }
     requires states { length states.now ≡ length circuit.now.latches }
-    ensures { (rows : List (List Tern)) (t : ℕ) → slice_get rows t ≡ Some row.now →
-        AreStates circuit.now rows t states.now → HoldsSources circuit.now rows t cells.new }
+    ensures { (start : List Tern) (rows : List (List Tern)) (t : ℕ) → slice_get rows t ≡ Some row.now →
+        AreStates circuit.now start rows t states.now → HoldsSources circuit.now start rows t cells.new }
 {
     cells[0] = Tern::Zero;
     put_inputs(cells, circuit, row);
@@ -63,8 +63,8 @@ fn evaluate_frame(cells: &mut [Tern], gates: &[Gate])
     requires lhs { (q : ℕ) (g : Gate) → slice_get gates.now q ≡ Some g → variable g.lhs < length cells.old }
     requires rhs0 { (q : ℕ) (g : Gate) → slice_get gates.now q ≡ Some g → variable g.rhs0 < length cells.old }
     requires rhs1 { (q : ℕ) (g : Gate) → slice_get gates.now q ≡ Some g → variable g.rhs1 < length cells.old }
-    ensures { (raw : Raw) (rows : List (List Tern)) (t : ℕ) → IsSound raw → IsGateOrder raw gates.now →
-        HoldsSources raw rows t cells.old → HoldsAll raw rows t cells.new }
+    ensures { (raw : Raw) (start : List Tern) (rows : List (List Tern)) (t : ℕ) → IsSound raw → IsGateOrder raw gates.now →
+        HoldsSources raw start rows t cells.old → HoldsAll raw start rows t cells.new }
 {
     for gate in gates {
         let value = value_in(cells, gate.rhs0).and(value_in(cells, gate.rhs1));
@@ -85,8 +85,8 @@ pub fn evaluate_row(
     requires cells { length cells.old ≡ circuit.now.max_var + 1 }
     requires row { length row.now ≡ length circuit.now.inputs }
     requires states { length states.now ≡ length circuit.now.latches }
-    ensures { (rows : List (List Tern)) (t : ℕ) → slice_get rows t ≡ Some row.now →
-        AreStates circuit.now rows t states.now → HoldsAll circuit.now rows t cells.new }
+    ensures { (start : List Tern) (rows : List (List Tern)) (t : ℕ) → slice_get rows t ≡ Some row.now →
+        AreStates circuit.now start rows t states.now → HoldsAll circuit.now start rows t cells.new }
 {
     put_sources(cells, circuit, row, states);
     evaluate_frame(cells, gates);

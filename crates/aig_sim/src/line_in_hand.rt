@@ -41,8 +41,8 @@ impl Model for LineInHand {
     } };
 }
 
-// The value of a character.
-fn value_of(byte: u8) -> Option<Tern>
+/// The value of a character.
+pub fn value_of(byte: u8) -> Option<Tern>
     ensures some { IfSome result (λ value. byte ≡ character value) }
     ensures none { IfNone result (IsCharacter byte → ⊥) }
 {

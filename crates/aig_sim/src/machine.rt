@@ -1,48 +1,46 @@
 //! A circuit that is simulated row by row.
-ghost use Rattle.std.specs.Prelude.{◌≡◌, ◌+◌, List, length, IfOk};
+ghost use Rattle.std.specs.Prelude.{◌≡◌, ◌+◌, ◌≤◌, List, length, map, IfOk};
 ghost use Rattle.aig_base.specs.declared.ternary.Tern.{Tern};
 ghost use Rattle.aig_base.specs.Circuit.{IsCircuit};
 ghost use Rattle.aig_base.specs.Value.{reset_value, start_of};
 ghost use Rattle.aig_sim.specs.Frame.{AreStates};
 ghost use Rattle.aig_sim.specs.GateOrder.{IsGateOrder};
-ghost use Rattle.aig_sim.specs.Machine.{line_length, Steps};
+ghost use Rattle.aig_sim.specs.Machine.{Steps};
 
 use crate::frame::{evaluate_row, renew_states};
 use crate::gate_order::gates_in_order;
-use crate::trace_line::TraceLine;
+use crate::row::Row;
 use aig_base::{Circuit, Gate, Latch, Memory, Tern};
 use std::alloc::Global;
 use std::marker::Model;
 
-/// A circuit, its gates in the order of their evaluation, a cell a variable, the latches' values at the next frame, and
-/// the trace line of the last one. A row takes no memory.
+/// A circuit, its gates in the order of their evaluation, the last frame's values, a cell a variable, and the latches'
+/// values at the next frame. A row takes no memory.
 #[derive(Drop)]
 pub struct Machine<'a> {
     circuit: &'a Circuit,
     gates: Vec<Gate>,
     cells: Vec<Tern>,
     states: Vec<Tern>,
-    line: TraceLine,
 }
 
 impl<'a> Model for Machine<'a> {
     ghost use Rattle.std.specs.Prelude.{◌≡◌, ◌+◌, length, vec_len};
     ghost use Rattle.aig_base.specs.Circuit.{IsCircuit};
     ghost use Rattle.aig_sim.specs.GateOrder.{IsGateOrder};
-    ghost use Rattle.aig_sim.specs.Machine.{Machine, line_length};
+    ghost use Rattle.aig_sim.specs.Machine.{Machine};
 
     ghost Value = { Machine };
 
-    ghost view = { λ m. record { circuit = m.circuit.now; states = m.states.items; line = m.line.bytes } };
+    ghost view = { λ m. record { circuit = m.circuit.now; cells = m.cells.items; states = m.states.items } };
 
     ghost invariant = { λ m. IsCircuit m.circuit.now × IsGateOrder m.circuit.now m.gates.items
-        × (vec_len m.cells ≡ m.circuit.now.max_var + 1) × (vec_len m.states ≡ length m.circuit.now.latches)
-        × (m.line.room ≡ line_length m.circuit.now) };
+        × (vec_len m.cells ≡ m.circuit.now.max_var + 1) × (vec_len m.states ≡ length m.circuit.now.latches) };
 }
 
-// The value that a latch begins with; an uninitialised one begins with x (AIGER 1.9, resets).
-fn first_value(latch: &Latch) -> Tern
-    ensures { result ≡ reset_value latch.now.reset }
+/// The value that a latch begins with by its reset; an uninitialised one begins with x (AIGER 1.9, resets).
+pub fn first_value(latch: Latch) -> Tern
+    ensures { result ≡ reset_value latch.reset }
 {
     match latch.reset.value() {
         0 => Tern::Zero,
@@ -51,12 +49,13 @@ fn first_value(latch: &Latch) -> Tern
     }
 }
 
-fn first_states(alloc: Global, circuit: &Circuit) -> Result<Vec<Tern>, Memory>
+/// The values that the latches begin with by their resets.
+pub fn first_states(alloc: Global, circuit: &Circuit) -> Result<Vec<Tern>, Memory>
     ensures { IfOk result (λ states. states.items ≡ start_of circuit.now) }
 {
     let mut states = Vec::with_capacity(alloc, circuit.latches().len())?;
     for latch in circuit.latches() {
-        states.push(first_value(latch))?;
+        states.push(first_value(*latch))?;
     }
     Ok(states)
 }
@@ -69,66 +68,66 @@ fn new_cells(alloc: Global, size: usize) -> Result<Vec<Tern>, Memory>
     Ok(cells)
 }
 
-fn room_of(circuit: &Circuit) -> usize
-    requires { IsCircuit circuit.now }
-    ensures { result ≡ line_length circuit.now }
-{
-    2 * circuit.latches().len() + circuit.inputs().len() + circuit.outputs().len() + 4
-}
-
-// Makes the trace line of a frame, and leaves the latches' values at the next one.
-fn run_row(
-    line: &mut TraceLine,
-    cells: &mut [Tern],
-    states: &mut [Tern],
-    circuit: &Circuit,
-    gates: &[Gate],
-    row: &[Tern],
-)
+// Gives the cells the values of a frame, and the latches those behind it.
+fn run_row(cells: &mut [Tern], states: &mut [Tern], circuit: &Circuit, gates: &[Gate], row: &[Tern])
     requires circuit { IsCircuit circuit.now }
     requires gates { IsGateOrder circuit.now gates.now }
-    requires line { line.old.room ≡ line_length circuit.now }
     requires cells { length cells.old ≡ circuit.now.max_var + 1 }
     requires states { length states.old ≡ length circuit.now.latches }
     requires row { length row.now ≡ length circuit.now.inputs }
-    ensures room { line.new.room ≡ line.old.room }
-    ensures step { (rows : List (List Tern)) → AreStates circuit.now rows (length rows) states.old →
-        Steps circuit.now rows row.now states.new line.new.bytes }
+    ensures { (start : List Tern) (rows : List (List Tern)) →
+        AreStates circuit.now start rows (length rows) states.old →
+        Steps circuit.now start rows row.now cells.new states.new }
 {
-    line.clear();
-    line.push_values(states, b' ');
-    line.push_values(row, b' ');
     evaluate_row(cells, circuit, gates, row, states);
-    line.push_literals(cells, circuit.outputs(), b' ');
     renew_states(states, circuit, cells);
-    line.push_values(states, b'\n');
 }
 
 impl<'a> Machine<'a> {
-    /// The circuit before its first frame. All memory that rows take is reserved here.
-    pub fn new(alloc: Global, circuit: &'a Circuit) -> Result<Machine<'a>, Memory>
+    /// The circuit before its first frame, where the latches start at these values. All memory that rows take is
+    /// reserved here.
+    pub fn new(alloc: Global, circuit: &'a Circuit, start: Vec<Tern>) -> Result<Machine<'a>, Memory>
+        requires { length start.items ≡ length circuit.now.latches }
         ensures circuit { IfOk result (λ machine. machine.circuit ≡ circuit.now) }
-        ensures states { IfOk result (λ machine. machine.states ≡ start_of circuit.now) }
+        ensures states { IfOk result (λ machine. machine.states ≡ start.items) }
+        ensures is_circuit { IfOk result (λ machine. IsCircuit machine.circuit) }
     {
         let size = circuit.max_var() as usize + 1;
         Ok(Machine {
             circuit,
             gates: gates_in_order(alloc, circuit)?,
             cells: new_cells(alloc, size)?,
-            states: first_states(alloc, circuit)?,
-            line: TraceLine::new(alloc, room_of(circuit))?,
+            states: start,
         })
     }
 
-    /// Simulates a frame with this row of input values.
+    /// The circuit.
+    pub fn circuit(&self) -> &'a Circuit
+        ensures circuit { result.now ≡ self.now.circuit }
+        ensures is_circuit { IsCircuit self.now.circuit }
+        ensures size { length self.now.cells ≡ self.now.circuit.max_var + 1 }
+    {
+        self.circuit
+    }
+
+    /// The latches' values at the next frame.
+    pub fn states(&self) -> &[Tern]
+        ensures states { result.now ≡ self.now.states }
+        ensures length { length self.now.states ≡ length self.now.circuit.latches }
+    {
+        &self.states
+    }
+
+    /// Gives the cells the values of the next frame, with this row of input values, and the latches those behind it.
     pub fn step(&mut self, row: &[Tern])
         requires { length row.now ≡ length self.old.circuit.inputs }
         ensures circuit { self.new.circuit ≡ self.old.circuit }
-        ensures step { (rows : List (List Tern)) → AreStates self.old.circuit rows (length rows) self.old.states →
-            Steps self.old.circuit rows row.now self.new.states self.new.line }
+        ensures is_circuit { IsCircuit self.new.circuit }
+        ensures step { (start : List Tern) (rows : List (List Tern)) →
+            AreStates self.old.circuit start rows (length rows) self.old.states →
+            Steps self.old.circuit start rows row.now self.new.cells self.new.states }
     {
         run_row(
-            &mut self.line,
             &mut self.cells,
             &mut self.states,
             self.circuit,
@@ -136,11 +135,16 @@ impl<'a> Machine<'a> {
             row,
         );
     }
+}
 
-    /// The trace line of the last row.
-    pub fn line(&self) -> &[u8]
-        ensures { result.now ≡ self.now.line }
-    {
-        self.line.as_slice()
+impl<'a> Row for Machine<'a> {
+    ghost use Rattle.std.specs.Prelude.{◌≤◌};
+
+    ghost cells = { λ m. m.cells };
+
+    ghost has = { λ m v. v ≤ m.circuit.max_var };
+
+    fn value(&self, variable: u32) -> Tern {
+        self.cells[variable as usize]
     }
 }

@@ -7,16 +7,20 @@ ghost use Rattle.aig_sim.specs.Running.{HasRoom, GoesOn, Stops};
 ghost use Rattle.aig_sim.specs.Simulated.{Simulates};
 
 use crate::line_in_hand::LineInHand;
-use crate::machine::Machine;
+use crate::machine::{Machine, first_states};
 use crate::stimulus_fault::StimFault;
-use aig_base::{Circuit, Memory, Read, Write, write_all};
+use crate::trace_block::TraceBlock;
+use crate::trace_line::write_line;
+use aig_base::{Circuit, Memory, Read, Write};
 use std::alloc::Global;
 
-/// A simulation between two bytes: the circuit, the line in hand, and how many frames there were (`u64::MAX` for more).
+/// A simulation between two bytes: the circuit, the line in hand, room for a trace line, and how many frames there were
+/// (`u64::MAX` for more).
 #[derive(Drop)]
 pub struct Simulation<'a> {
     pub machine: Machine<'a>,
     pub line: LineInHand,
+    pub block: TraceBlock,
     pub frames: u64,
 }
 
@@ -31,8 +35,9 @@ impl<'a> Simulation<'a> {
     {
         let width = circuit.inputs().len();
         Ok(Simulation {
-            machine: Machine::new(alloc, circuit)?,
+            machine: Machine::new(alloc, circuit, first_states(alloc, circuit)?)?,
             line: LineInHand::new(alloc, width, width)?,
+            block: TraceBlock::new(),
             frames: 0,
         })
     }
@@ -49,7 +54,8 @@ impl<'a> Simulation<'a> {
         let number = self.frames.saturating_add(1);
         let row = self.line.row(number)?;
         self.machine.step(row);
-        write_all(out, self.machine.line())?;
+        let circuit = self.machine.circuit();
+        write_line(out, &mut self.block, circuit, &self.machine)?;
         self.frames = number;
         self.line.clear();
         Ok(())
@@ -104,10 +110,11 @@ impl<'a> Simulation<'a> {
     }
 }
 
-/// Reads rows to the end, writes the trace line of each before it reads on, and answers how many there were (`u64::MAX`
-/// for more). It keeps one row, one line and the latches' values, all reserved before the first read; there is no limit
-/// on frames. At a fault in line n the lines of the n - 1 rows before it are written; where memory is wanting, nothing
-/// was read.
+/// Reads rows to the end, writes their trace, and answers how many there were (`u64::MAX` for more). It keeps one row,
+/// room for 4,096 bytes of a line and the latches' values, all reserved before the first read; there is no limit on
+/// frames. It flushes before each read, so that the lines of all rows that were read are handed on before it waits. At a
+/// fault in line n the lines of the n - 1 rows before it are written; where memory is wanting, nothing was read. A row's
+/// line goes out before the next row is looked at; the contract says what was written at each end, not when.
 pub fn simulate<R: Read, W: Write>(
     alloc: Global,
     circuit: &Circuit,
@@ -122,10 +129,9 @@ pub fn simulate<R: Read, W: Write>(
 {
     let mut simulation = Simulation::new(alloc, circuit)?;
     let mut chunk = [0u8; 4096];
-    'chunks: loop {
-        let Ok(size) = reader.read(&mut chunk) else {
-            return Err(StimFault::Io);
-        };
+    loop {
+        out.flush()?;
+        let size = reader.read(&mut chunk)?;
         if size == 0 {
             return simulation.finish();
         }

@@ -1,7 +1,7 @@
 //! Why a stimulus is refused.
 ghost use Rattle.std.specs.Prelude.{◌≡◌};
 
-use aig_base::{Io, Memory};
+use aig_base::{Failed, Io, Memory};
 use thiserror::Error;
 
 /// Why the text of a stimulus is refused. Lines count from 1, and `u64::MAX` stands for any greater number; the first
@@ -44,6 +44,16 @@ impl From<Io> for StimFault {
     ghost from_gives = { λ _ fault. fault ≡ faults.Io };
 
     fn from(_error: Io) -> StimFault {
+        StimFault::Io
+    }
+}
+
+impl From<Failed> for StimFault {
+    ghost use Rattle.aig_sim.specs.declared.stimulus_fault.StimFault.TheVariants as faults;
+
+    ghost from_gives = { λ _ fault. fault ≡ faults.Io };
+
+    fn from(_error: Failed) -> StimFault {
         StimFault::Io
     }
 }

@@ -35,6 +35,7 @@ fn end_line(stimulus: &mut Stimulus, line: &LineInHand) -> Result<(), StimFault>
 pub fn read_stimulus(alloc: Global, bytes: &[u8], width: u32) -> Result<Stimulus, StimFault>
     ensures width { IfOk result (λ stimulus. stimulus.width ≡ width) }
     ensures rows { IfOk result (λ stimulus. SpellsRows width bytes.now stimulus.rows) }
+    ensures limit { IfOk result (λ stimulus. length stimulus.rows ≤ 65536) }
     ensures fault { IfErr result (λ fault. fault ≢ StimFault.Memory →
         (rows : List (List Tern)) × (length rows ≤ 65536) × HasFaultyLine width bytes.now rows fault) }
 {

@@ -1,32 +1,18 @@
-//! The line of a trace that is being made.
-ghost use Rattle.std.specs.Prelude.{◌≡◌, ℕ, ◌+◌, ◌<◌, ◌≤◌, [], ◌∷◌, ◌++◌, length, map, Some, slice_get, IfOk};
+//! The lines of a trace, by the values of their frames.
+ghost use Rattle.std.specs.Prelude.{◌≡◌, ℕ, ◌+◌, ◌≤◌, [], ◌∷◌, ◌++◌, length, map, All};
+ghost use Rattle.aig_base.specs.Bytes.{Writes};
+ghost use Rattle.aig_base.specs.Circuit.{IsCircuit};
 ghost use Rattle.aig_base.specs.Literal.{variable};
-ghost use Rattle.aig_sim.specs.Cells.{literal_value};
+ghost use Rattle.aig_sim.specs.Gathered.{Gathers};
 ghost use Rattle.aig_sim.specs.StimulusText.{character};
+ghost use Rattle.aig_sim.specs.TraceText.{literal_character, line_text, trace_text};
 
-use crate::byte_grid::value_in;
-use aig_base::{Lit, Memory, Tern};
-use std::alloc::Global;
-use std::marker::Model;
+use crate::grid::Grid;
+use crate::row::{GridRow, Row, literal_in};
+use crate::trace_block::TraceBlock;
+use aig_base::{Circuit, Io, Latch, Lit, Tern, Write};
 
-/// A line of a trace, in room that was reserved when it was made.
-#[derive(Drop)]
-pub struct TraceLine {
-    bytes: Vec<u8>,
-    room: usize,
-}
-
-impl Model for TraceLine {
-    ghost use Rattle.std.specs.Prelude.{◌≤◌, vec_capacity};
-    ghost use Rattle.aig_sim.specs.Machine.{TraceLine};
-
-    ghost Value = { TraceLine };
-
-    ghost view = { λ l. record { bytes = l.bytes.items; room = l.room } };
-
-    ghost invariant = { λ l. l.room ≤ vec_capacity l.bytes };
-}
-
+// `0`, `1` or `x`.
 fn byte_of(value: Tern) -> u8
     ensures { result ≡ character value }
 {
@@ -37,61 +23,121 @@ fn byte_of(value: Tern) -> u8
     }
 }
 
-impl TraceLine {
-    /// An empty line with room for so many bytes.
-    pub fn new(alloc: Global, room: usize) -> Result<TraceLine, Memory>
-        ensures { IfOk result (λ line. line ≡ record { bytes = []; room = room }) }
-    {
-        Ok(TraceLine {
-            bytes: Vec::with_capacity(alloc, room)?,
-            room,
-        })
+// Puts a character for each literal, and the byte that ends the field.
+fn put_literals<R: Row, W: Write>(
+    out: &mut W,
+    block: &mut TraceBlock,
+    row: &R,
+    literals: &[Lit],
+    end: u8,
+) -> Result<(), Io>
+    requires { All (λ l. R.has row.now (variable l)) literals.now }
+    ensures { Gathers W.written W.failures out.old out.new block.old block.new
+        (map (literal_character (R.cells row.now)) literals.now ++ end ∷ []) result }
+{
+    for literal in literals {
+        block.put(out, byte_of(literal_in(row, *literal)))?;
     }
+    block.put(out, end)
+}
 
-    /// Begins the next line, in the same room.
-    pub fn clear(&mut self)
-        ensures { self.new ≡ record self.old { bytes = [] } }
-    {
-        self.bytes.clear();
+// Puts a character for each latch, and the byte that ends the field.
+fn put_states<R: Row, W: Write>(
+    out: &mut W,
+    block: &mut TraceBlock,
+    row: &R,
+    latches: &[Latch],
+    end: u8,
+) -> Result<(), Io>
+    requires { All (λ x. R.has row.now (variable x.lit)) latches.now }
+    ensures { Gathers W.written W.failures out.old out.new block.old block.new
+        (map (λ x. literal_character (R.cells row.now) x.lit) latches.now ++ end ∷ []) result }
+{
+    for latch in latches {
+        block.put(out, byte_of(literal_in(row, latch.lit)))?;
     }
+    block.put(out, end)
+}
 
-    /// The bytes so far.
-    pub fn as_slice(&self) -> &[u8]
-        ensures { result.now ≡ self.now.bytes }
-    {
-        &self.bytes
+// Puts a character for each latch's next literal, and the byte that ends the field.
+fn put_next_states<R: Row, W: Write>(
+    out: &mut W,
+    block: &mut TraceBlock,
+    row: &R,
+    latches: &[Latch],
+    end: u8,
+) -> Result<(), Io>
+    requires { All (λ x. R.has row.now (variable x.next)) latches.now }
+    ensures { Gathers W.written W.failures out.old out.new block.old block.new
+        (map (λ x. literal_character (R.cells row.now) x.next) latches.now ++ end ∷ []) result }
+{
+    for latch in latches {
+        block.put(out, byte_of(literal_in(row, latch.next)))?;
     }
+    block.put(out, end)
+}
 
-    fn push(&mut self, byte: u8)
-        requires { length self.old.bytes < self.old.room }
-        ensures { self.new ≡ record self.old { bytes = self.old.bytes ++ byte ∷ [] } }
-    {
-        self.bytes.push(byte).unwrap();
-    }
+// Puts the line of a frame: state, inputs, outputs, next state.
+fn put_line<R: Row, W: Write>(
+    out: &mut W,
+    block: &mut TraceBlock,
+    circuit: &Circuit,
+    row: &R,
+) -> Result<(), Io>
+    requires circuit { IsCircuit circuit.now }
+    requires row { (v : ℕ) → v ≤ circuit.now.max_var → R.has row.now v }
+    ensures { Gathers W.written W.failures out.old out.new block.old block.new
+        (line_text circuit.now (R.cells row.now)) result }
+{
+    put_states(out, block, row, circuit.latches(), b' ')?;
+    put_literals(out, block, row, circuit.inputs(), b' ')?;
+    put_literals(out, block, row, circuit.outputs(), b' ')?;
+    put_next_states(out, block, row, circuit.latches(), b'\n')
+}
 
-    /// Adds a character for each value, and the byte that ends the field.
-    pub fn push_values(&mut self, values: &[Tern], end: u8)
-        requires { length self.old.bytes + length values.now < self.old.room }
-        ensures { self.new ≡ record self.old { bytes = self.old.bytes ++ (map character values.now ++ end ∷ []) } }
-    {
-        for value in values {
-            self.push(byte_of(*value));
-        }
-        self.push(end);
-    }
+/// Writes the trace line of a frame: the characters of state, inputs, outputs and next state (profile). The block is
+/// room for them, whatever it holds.
+pub fn write_line<R: Row, W: Write>(
+    out: &mut W,
+    block: &mut TraceBlock,
+    circuit: &Circuit,
+    row: &R,
+) -> Result<(), Io>
+    requires circuit { IsCircuit circuit.now }
+    requires row { (v : ℕ) → v ≤ circuit.now.max_var → R.has row.now v }
+    ensures { Writes W.written W.failures out.old out.new (line_text circuit.now (R.cells row.now)) result }
+{
+    block.clear();
+    put_line(out, block, circuit, row)?;
+    block.hand_on(out)
+}
 
-    /// Adds a character for the value of each literal, by the cells of their variables, and the byte that ends the
-    /// field.
-    pub fn push_literals(&mut self, cells: &[Tern], literals: &[Lit], end: u8)
-        requires cells { (i l : ℕ) → slice_get literals.now i ≡ Some l → variable l < length cells.now }
-        requires room { length self.old.bytes + length literals.now < self.old.room }
-        ensures { self.new ≡ record self.old {
-          bytes = self.old.bytes ++ (map (λ l. character (literal_value cells.now l)) literals.now ++ end ∷ []);
-        } }
-    {
-        for literal in literals {
-            self.push(byte_of(value_in(cells, *literal)));
-        }
-        self.push(end);
+// Puts the lines of all frames of a grid.
+fn put_lines<G: Grid, W: Write>(
+    out: &mut W,
+    block: &mut TraceBlock,
+    circuit: &Circuit,
+    grid: &G,
+) -> Result<(), Io>
+    requires circuit { IsCircuit circuit.now }
+    requires grid { length (G.gate_flags grid.now) ≡ circuit.now.max_var + 1 }
+    ensures { Gathers W.written W.failures out.old out.new block.old block.new
+        (trace_text circuit.now (G.cells grid.now)) result }
+{
+    for frame in 0..grid.rows() {
+        put_line(out, block, circuit, &GridRow { grid, frame })?;
     }
+    Ok(())
+}
+
+/// Writes the trace of a grid with a cell for each variable of the circuit: a line a frame, with the characters of
+/// state, inputs, outputs and next state (profile). It takes no memory.
+pub fn write_trace<G: Grid, W: Write>(out: &mut W, circuit: &Circuit, grid: &G) -> Result<(), Io>
+    requires circuit { IsCircuit circuit.now }
+    requires grid { length (G.gate_flags grid.now) ≡ circuit.now.max_var + 1 }
+    ensures { Writes W.written W.failures out.old out.new (trace_text circuit.now (G.cells grid.now)) result }
+{
+    let mut block = TraceBlock::new();
+    put_lines(out, &mut block, circuit, grid)?;
+    block.hand_on(out)
 }

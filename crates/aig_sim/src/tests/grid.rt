@@ -3,6 +3,7 @@ ghost use Rattle.std.specs.Prelude.{◌≡◌};
 
 use crate::byte_grid::ByteGrid;
 use crate::grid::Grid;
+use crate::plane_grid::PlaneGrid;
 use aig_base::{Gate, Lit, Tern};
 use std::alloc::Global;
 use std::test::Fail;
@@ -35,11 +36,21 @@ fn values<G: Grid>(alloc: Global, value: Tern) -> Result<(Tern, Tern, bool), Fai
     Ok((first, second, again))
 }
 
+// Whether the values are as the tables say.
+fn is_right<G: Grid>(alloc: Global) -> Result<bool, Fail> {
+    let one = values::<G>(alloc, Tern::One)?;
+    let unknown = values::<G>(alloc, Tern::X)?;
+    Ok(one == (Tern::Zero, Tern::Zero, false) && unknown == (Tern::X, Tern::X, false))
+}
+
 #[test]
 fn byte_grid(rt: HostRuntime) -> Result<(), Fail> {
-    let one = values::<ByteGrid>(rt.alloc(), Tern::One)?;
-    assert!(rt; one.0 == Tern::Zero && one.1 == Tern::Zero && !one.2);
-    let unknown = values::<ByteGrid>(rt.alloc(), Tern::X)?;
-    assert!(rt; unknown.0 == Tern::X && unknown.1 == Tern::X && !unknown.2);
+    assert!(rt; is_right::<ByteGrid>(rt.alloc())?);
+    Ok(())
+}
+
+#[test]
+fn plane_grid(rt: HostRuntime) -> Result<(), Fail> {
+    assert!(rt; is_right::<PlaneGrid>(rt.alloc())?);
     Ok(())
 }

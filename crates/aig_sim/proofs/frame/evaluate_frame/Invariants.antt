@@ -9,8 +9,8 @@ use Rattle.aig_sim.proofs.frame.evaluate_frame.Given as goal
 
 abbrev pub invariant-loop-gate : goal.invariant-loop-gate
 invariant-loop-gate l = record {
-  sources : (raw : Raw) (rows : List (List Tern)) (t : ℕ) → IsSound raw → IsGateOrder raw l.gates
-      → HoldsSources raw rows t l.initial.cells → HoldsSources raw rows t l.cells;
-  first : (raw : Raw) (rows : List (List Tern)) (t : ℕ) → IsSound raw → IsGateOrder raw l.gates
-      → HoldsSources raw rows t l.initial.cells → HoldsFirst raw rows t l.gates l.gate-index l.cells;
+  sources : (raw : Raw) (start : List Tern) (rows : List (List Tern)) (t : ℕ) → IsSound raw → IsGateOrder raw l.gates
+      → HoldsSources raw start rows t l.initial.cells → HoldsSources raw start rows t l.cells;
+  first : (raw : Raw) (start : List Tern) (rows : List (List Tern)) (t : ℕ) → IsSound raw → IsGateOrder raw l.gates
+      → HoldsSources raw start rows t l.initial.cells → HoldsFirst raw start rows t l.gates l.gate-index l.cells;
 }

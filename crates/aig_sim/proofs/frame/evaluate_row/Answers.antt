@@ -17,6 +17,6 @@ evaluate_frame-requires c =
 
 pub returns : goal.returns
 returns c =
-    λ rows t h s.
-    c.evaluate_frame.ensures c.args.circuit.now rows t c.requires.circuit.sound c.requires.gates
-    (c.put_sources.ensures rows t h s)
+    λ start rows t h s.
+    c.evaluate_frame.ensures c.args.circuit.now start rows t c.requires.circuit.sound c.requires.gates
+    (c.put_sources.ensures start rows t h s)

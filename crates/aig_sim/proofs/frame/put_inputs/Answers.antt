@@ -21,22 +21,22 @@ loop-position-preserved c =
     let lt : i < length row = omega (arith, c.requires.row, ap length c.inputs-input-items.ensures) in
     let fits = input_in_range raw c.requires.circuit.sound i l at in
     let wide : c.var.result < length cells = omega (arith, c.var.ensures, c.requires.cells) in
-    let put = λ (rows : List (List Tern)) (t : ℕ) (h : slice_get rows t ≡ Some row).
-    put_value raw rows t c.args.cells.now cells c.var.result (variable l) w c.var.ensures wide
-    (input_value raw rows t row i l w c.requires.circuit.sound h at (slice_get-get_or row i Zero lt))
-    (c.loop-position.invariant.renews rows t h) in
+    let put = λ (start : List Tern) (rows : List (List Tern)) (t : ℕ) (h : slice_get rows t ≡ Some row).
+    put_value raw start rows t c.args.cells.now cells c.var.result (variable l) w c.var.ensures wide
+    (input_value raw start rows t row i l w c.requires.circuit.sound h at (slice_get-get_or row i Zero lt))
+    (c.loop-position.invariant.renews start rows t h) in
     record {
-      renews = λ rows t h. (put rows t h).0;
-      inputs = λ rows t h. items_more
-          (λ k. Holds raw rows t (slice_set cells c.var.result w) (variable k)) raw.inputs i l at
-          (λ j k below is. (put rows t h).1.keeps (variable k)
-          (c.loop-position.invariant.inputs rows t h j k below is)) (put rows t h).2;
+      renews = λ start rows t h. (put start rows t h).0;
+      inputs = λ start rows t h. items_more
+          (λ k. Holds raw start rows t (slice_set cells c.var.result w) (variable k)) raw.inputs i l at
+          (λ j k below is. (put start rows t h).1.keeps (variable k)
+          (c.loop-position.invariant.inputs start rows t h j k below is)) (put start rows t h).2;
     }
 
 pub returns-clause-inputs : goal.returns-clause-inputs
 returns-clause-inputs c =
-    λ rows t h. items_all
-    (λ k. Holds c.args.circuit.now rows t c.loop-position.cells (variable k)) c.args.circuit.now.inputs
+    λ start rows t h. items_all
+    (λ k. Holds c.args.circuit.now start rows t c.loop-position.cells (variable k)) c.args.circuit.now.inputs
     c.loop-position.position
     (rw (← c.inputs-input-items.ensures) (omega (arith, c.loop-position-test.false)))
-    (c.loop-position.invariant.inputs rows t h)
+    (c.loop-position.invariant.inputs start rows t h)

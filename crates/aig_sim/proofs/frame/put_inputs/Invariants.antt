@@ -6,9 +6,9 @@ use Rattle.aig_sim.proofs.frame.put_inputs.Given as goal
 
 abbrev pub invariant-loop-position : goal.invariant-loop-position
 invariant-loop-position l = record {
-  renews : (rows : List (List Tern)) (t : ℕ) → slice_get rows t ≡ Some l.row
-      → Renews l.circuit rows t l.initial.cells l.cells;
-  inputs : (rows : List (List Tern)) (t : ℕ) → slice_get rows t ≡ Some l.row
+  renews : (start : List Tern) (rows : List (List Tern)) (t : ℕ) → slice_get rows t ≡ Some l.row
+      → Renews l.circuit start rows t l.initial.cells l.cells;
+  inputs : (start : List Tern) (rows : List (List Tern)) (t : ℕ) → slice_get rows t ≡ Some l.row
       → (i k : ℕ) → i < l.position → slice_get l.circuit.inputs i ≡ Some k
-      → Holds l.circuit rows t l.cells (variable k);
+      → Holds l.circuit start rows t l.cells (variable k);
 }

@@ -31,22 +31,22 @@ loop-position-preserved c =
     let lt : i < length states = omega (arith, c.requires.states, ap length c.latches-latch-items.ensures) in
     let fits = latch_in_range raw c.requires.circuit.sound i x at in
     let wide : c.var.result < length cells = omega (arith, c.var.ensures, c.requires.cells) in
-    let put = λ (rows : List (List Tern)) (t : ℕ) (h : AreStates raw rows t states).
-    put_value raw rows t c.args.cells.now cells c.var.result (variable x.lit) w c.var.ensures wide
-    (latch_value raw rows t states i x w c.requires.circuit.sound h at (slice_get-get_or states i Zero lt))
-    (c.loop-position.invariant.renews rows t h) in
+    let put = λ (start : List Tern) (rows : List (List Tern)) (t : ℕ) (h : AreStates raw start rows t states).
+    put_value raw start rows t c.args.cells.now cells c.var.result (variable x.lit) w c.var.ensures wide
+    (latch_value raw start rows t states i x w c.requires.circuit.sound h at (slice_get-get_or states i Zero lt))
+    (c.loop-position.invariant.renews start rows t h) in
     record {
-      renews = λ rows t h. (put rows t h).0;
-      latches = λ rows t h. items_more
-          (λ k. Holds raw rows t (slice_set cells c.var.result w) (variable k.lit)) raw.latches i x at
-          (λ j k below is. (put rows t h).1.keeps (variable k.lit)
-          (c.loop-position.invariant.latches rows t h j k below is)) (put rows t h).2;
+      renews = λ start rows t h. (put start rows t h).0;
+      latches = λ start rows t h. items_more
+          (λ k. Holds raw start rows t (slice_set cells c.var.result w) (variable k.lit)) raw.latches i x at
+          (λ j k below is. (put start rows t h).1.keeps (variable k.lit)
+          (c.loop-position.invariant.latches start rows t h j k below is)) (put start rows t h).2;
     }
 
 pub returns-clause-latches : goal.returns-clause-latches
 returns-clause-latches c =
-    λ rows t h. items_all
-    (λ (k : Latch). Holds c.args.circuit.now rows t c.loop-position.cells (variable k.lit))
+    λ start rows t h. items_all
+    (λ (k : Latch). Holds c.args.circuit.now start rows t c.loop-position.cells (variable k.lit))
     c.args.circuit.now.latches c.loop-position.position
     (rw (← c.latches-latch-items.ensures) (omega (arith, c.loop-position-test.false)))
-    (c.loop-position.invariant.latches rows t h)
+    (c.loop-position.invariant.latches start rows t h)

@@ -7,9 +7,9 @@ use Rattle.aig_sim.proofs.frame.put_latches.Given as goal
 
 abbrev pub invariant-loop-position : goal.invariant-loop-position
 invariant-loop-position l = record {
-  renews : (rows : List (List Tern)) (t : ℕ) → AreStates l.circuit rows t l.states
-      → Renews l.circuit rows t l.initial.cells l.cells;
-  latches : (rows : List (List Tern)) (t : ℕ) → AreStates l.circuit rows t l.states
+  renews : (start : List Tern) (rows : List (List Tern)) (t : ℕ) → AreStates l.circuit start rows t l.states
+      → Renews l.circuit start rows t l.initial.cells l.cells;
+  latches : (start : List Tern) (rows : List (List Tern)) (t : ℕ) → AreStates l.circuit start rows t l.states
       → (i : ℕ) (x : Latch) → i < l.position → slice_get l.circuit.latches i ≡ Some x
-      → Holds l.circuit rows t l.cells (variable x.lit);
+      → Holds l.circuit start rows t l.cells (variable x.lit);
 }

@@ -8,10 +8,10 @@ returns c =
     let raw = c.args.circuit.now in
     let cells = c.args.cells.now in
     let some : 0 < length cells = omega (arith, c.requires.cells) in
-    λ rows t h s.
-    let first = c.put_inputs.ensures.renews rows t h in
-    let second = c.put_latches.ensures.renews rows t s in
-    sources_hold raw rows t c.put_latches.new.cells
-    (second.keeps 0 (first.keeps 0 (constant_holds raw rows t cells some)))
-    (λ i l at. second.keeps (variable l) (c.put_inputs.ensures.inputs rows t h i l at))
-    (c.put_latches.ensures.latches rows t s)
+    λ start rows t h s.
+    let first = c.put_inputs.ensures.renews start rows t h in
+    let second = c.put_latches.ensures.renews start rows t s in
+    sources_hold raw start rows t c.put_latches.new.cells
+    (second.keeps 0 (first.keeps 0 (constant_holds raw start rows t cells some)))
+    (λ i l at. second.keeps (variable l) (c.put_inputs.ensures.inputs start rows t h i l at))
+    (c.put_latches.ensures.latches start rows t s)

@@ -2,8 +2,8 @@ use Rattle.std.proofs.Common.{◌≡◌, length}
 use Rattle.aig_sim.specs.Running.{HasRoom, ReadSoFar}
 use Rattle.aig_sim.proofs.simulation.simulate.Given as goal
 
-abbrev pub invariant-chunks : goal.invariant-chunks
-invariant-chunks g l = record {
+abbrev pub invariant-loop-simulation : goal.invariant-loop-simulation
+invariant-loop-simulation g l = record {
   size : length l.chunk ≡ 4096;
   room : HasRoom l.simulation;
   so_far : ReadSoFar l.circuit (g.R.Read.left l.initial.reader) (g.R.Read.left l.reader)
@@ -12,5 +12,5 @@ invariant-chunks g l = record {
       (g.W.Write.failures l.out);
 }
 
-abbrev pub decreases-chunks : goal.decreases-chunks
-decreases-chunks g l = g.R.Read.reads_left l.reader
+abbrev pub decreases-loop-simulation : goal.decreases-loop-simulation
+decreases-loop-simulation g l = g.R.Read.reads_left l.reader

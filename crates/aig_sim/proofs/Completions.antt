@@ -1,0 +1,102 @@
+-- A confirmed witness reaches its bad state, whatever its x turn out to be.
+use Rattle.std.proofs.Common.{◌≡◌, ◌≢◌, ◌⊎◌, inl, inr, ℕ, zero, suc, ◌-◌, ◌<◌, List, [], ◌∷◌, length, Some, slice_get, get_or, refl, sym, ap, ◌∙◌, subst, arith}
+use Rattle.std.specs.List.{AllZip}
+use Rattle.std.proofs.lemmas.Option.{slice_get-get_or, slice_get_within}
+use Rattle.aig_base.specs.declared.ternary.Tern.{Tern}
+use Rattle.aig_base.specs.declared.ternary.Tern.TheVariants.{Zero, One, X}
+use Rattle.aig_base.specs.declared.latch.Latch.{Latch}
+use Rattle.aig_base.specs.declared.raw.Raw.{Raw}
+use Rattle.aig_base.specs.Circuit.{IsCircuit}
+use Rattle.aig_base.specs.Completion.{Completes, IsCompletion}
+use Rattle.aig_base.specs.Literal.{variable}
+use Rattle.aig_base.specs.Sections.{IsDefined}
+use Rattle.aig_base.specs.Value.{Value}
+use Rattle.aig_base.proofs.OneValue.{have_one_value}
+use Rattle.aig_base.proofs.Refined.{AllZip-slice_get, kept}
+use Rattle.aig_sim.specs.declared.verdict.Verdict.TheVariants as verdict
+use Rattle.aig_sim.specs.StimulusText.{HaveWidth}
+use Rattle.aig_sim.specs.Verdict.{Allows, StartsWrong, IsNotOne, IsVerdict, ReachesBad, IsConfirmed}
+use Rattle.aig_sim.specs.WitnessText.{Witness, IsAdmitted, SpellsWitness}
+use Rattle.aig_sim.proofs.TraceLemmas.{all_zip_from}
+use Rattle.aig_sim.proofs.VerdictLemmas.{bad_defined, constraint_defined}
+use Rattle.aig_sim.proofs.WitnessLemmas.{no_rows}
+
+zip_length : {A B : Type 0} (R : A → B → Type 0) (xs : List A) (ys : List B) → AllZip R xs ys → length ys ≡ length xs
+zip_length R [] [] h = refl
+zip_length R [] (y ∷ ys) h = absurd h
+zip_length R (x ∷ xs) [] h = absurd h
+zip_length R (x ∷ xs) (y ∷ ys) h = ap suc (zip_length R xs ys h.1)
+
+allowed_or_not : (r : ℕ) (a : Tern) → Allows r a ⊎ (Allows r a → ⊥)
+allowed_or_not zero Zero = inl refl
+allowed_or_not zero One = inr (λ e. let n : ⊥ = cc in n)
+allowed_or_not zero X = inr (λ e. let n : ⊥ = cc in n)
+allowed_or_not (suc zero) Zero = inr (λ e. let n : ⊥ = cc in n)
+allowed_or_not (suc zero) One = inl refl
+allowed_or_not (suc zero) X = inr (λ e. let n : ⊥ = cc in n)
+allowed_or_not (suc (suc n)) a = inl tt
+
+-- what completes an allowed value is allowed
+allowed_still : (r : ℕ) (a b : Tern) → Allows r a → Completes a b → Allows r b
+allowed_still zero a b e h = h.1 (λ x. let n : ⊥ = cc in n) ∙ e
+allowed_still (suc zero) a b e h = h.1 (λ x. let n : ⊥ = cc in n) ∙ e
+allowed_still (suc (suc n)) a b e h = tt
+
+one_or_not : (v : Tern) → (v ≡ One) ⊎ (v ≢ One)
+one_or_not Zero = inr (λ e. let n : ⊥ = cc in n)
+one_or_not One = inl refl
+one_or_not X = inr (λ e. let n : ⊥ = cc in n)
+
+module _ (raw : Raw) (circuit : IsCircuit raw) (w : Witness) (latches : length w.start ≡ length raw.latches)
+    (widths : HaveWidth (length raw.inputs) w.rows) where
+  -- a literal that is not other than 1 is 1
+  is_one : (t p : ℕ) (literals : List ℕ) (l : ℕ) → t < length w.rows → slice_get literals p ≡ Some l
+      → IsDefined raw (variable l) → (IsNotOne raw w t literals p → ⊥) → Value raw w.start w.rows t l One
+  is_one t p literals l lt at defined not_other =
+      let (v, value, only) = have_one_value raw w.start w.rows circuit.sound circuit.acyclic
+      (record { latches = latches; inputs = widths }) t l lt defined in
+      elim (one_or_not v) [
+        | inl e ↦ subst (λ (u : Tern). Value raw w.start w.rows t l u) e value
+        | inr ne ↦ absurd (not_other (record { literal = l; value = v; literal_is = at; value_is = value; not_one = ne }))
+      ]
+
+  module _ (start : List Tern) (rows : List (List Tern)) (completion : IsCompletion w.start w.rows start rows) where
+    one_stays : (t l : ℕ) → Value raw w.start w.rows t l One → Value raw start rows t l One
+    one_stays t l v = kept raw w.start start w.rows rows completion (λ e. let n : ⊥ = cc in n) v
+
+    starts_allowed : ((p : ℕ) → StartsWrong raw w.start p → ⊥) → AllZip (λ x w. Allows x.reset w) raw.latches start
+    starts_allowed right =
+        all_zip_from (λ (x : Latch) (v : Tern). Allows x.reset v) raw.latches start
+        (zip_length Completes w.start start completion.0 ∙ latches)
+        (λ i x b at is.
+        let lt = slice_get_within raw.latches i x at in
+        let a = get_or w.start i X in
+        let here : slice_get w.start i ≡ Some a = slice_get-get_or w.start i X (omega (arith, lt, latches)) in
+        let (b', is', by) = AllZip-slice_get Completes w.start start i a completion.0 here in
+        let same : b' ≡ b = (let p : Some b' ≡ Some b = sym is' ∙ is in cc) in
+        elim (allowed_or_not x.reset a) [
+          | inl ok ↦ allowed_still x.reset a b ok (subst (Completes a) same by)
+          | inr wrong' ↦ absurd (right i (record { latch = x; value = a; latch_is = at; value_is = here; wrong = wrong' }))
+        ])
+
+  pub confirmed : w.rows ≢ [] → IsVerdict raw w verdict.Confirmed → IsConfirmed raw w
+  confirmed some h start rows completion =
+      let frames : length rows ≡ length w.rows = zip_length (AllZip Completes) w.rows rows completion.1 in
+      let last : length w.rows - 1 < length w.rows = (elim (length_cases (length w.rows)) [
+        | inl e ↦ absurd (some (no_rows w.rows e))
+        | inr lt ↦ lt
+      ]) in
+      record {
+        starts = starts_allowed start rows completion (λ p k. h.first (verdict.Initial p) tt k);
+        constrained = λ t p l lt at. one_stays start rows completion t l
+            (is_one t p raw.constraints l (omega (arith, lt, frames)) at (constraint_defined raw circuit.sound p l at)
+            (λ k. h.first (verdict.Constraint t p) tt (omega (arith, lt, frames), k)));
+        bad = λ l at. subst (λ (n : ℕ). Value raw start rows n l One) (ap (λ (k : ℕ). k - 1) (sym frames))
+            (one_stays start rows completion (length w.rows - 1) l
+            (is_one (length w.rows - 1) w.property raw.bad l last at (bad_defined raw circuit.sound w.property l at)
+            (λ k. h.first verdict.NotBad tt k)));
+      }
+    where
+      length_cases : (n : ℕ) → (n ≡ 0) ⊎ (n - 1 < n)
+      length_cases zero = inl refl
+      length_cases (suc n) = inr (omega arith)

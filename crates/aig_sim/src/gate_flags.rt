@@ -1,0 +1,24 @@
+//! Gate flags that contracts alone see.
+ghost use Rattle.std.specs.Prelude.{◌≡◌, Bool, List};
+ghost use Rattle.std.specs.Borrow.{ftrue};
+
+use std::marker::Model;
+
+/// Which variables are gates, as a grid was told. It takes no bytes.
+#[derive(Drop)]
+pub struct GateFlags {
+    pub ghost flags: { List Bool },
+}
+
+impl Model for GateFlags {
+    ghost also_owns = { λ _. ftrue };
+}
+
+impl GateFlags {
+    /// The flags of a slice.
+    pub fn of(_gates: &[bool]) -> GateFlags
+        ensures { result.flags ≡ _gates.now }
+    {
+        GateFlags {}
+    }
+}

@@ -1,0 +1,51 @@
+//! The values of one frame, wherever they are kept.
+ghost use Rattle.std.specs.Prelude.{◌≡◌, ℕ, ◌<◌, List, Some, slice_get};
+ghost use Rattle.aig_base.specs.declared.ternary.Tern.{Tern};
+ghost use Rattle.aig_base.specs.Literal.{variable};
+ghost use Rattle.aig_sim.specs.Cells.{literal_value};
+
+use crate::grid::Grid;
+use aig_base::{Lit, Tern};
+
+/// A value a variable.
+pub trait Row {
+    // The values.
+    ghost cells: { Self → List Tern };
+
+    // Whether the variable has one.
+    ghost has: { Self → ℕ → Type 0 };
+
+    /// The value of a variable.
+    fn value(&self, variable: u32) -> Tern
+        requires { has self.now variable }
+        ensures { slice_get (cells self.now) variable ≡ Some result };
+}
+
+/// The value of a literal by the cell of its variable.
+pub fn literal_in<R: Row>(row: &R, literal: Lit) -> Tern
+    requires { R.has row.now (variable literal) }
+    ensures { result ≡ literal_value (R.cells row.now) literal }
+{
+    let value = row.value(literal.var());
+    if literal.is_neg() { value.not() } else { value }
+}
+
+/// The row of a grid at a frame.
+#[derive(Clone, Copy, Drop)]
+pub struct GridRow<'a, G> {
+    pub grid: &'a G,
+    pub frame: u32,
+}
+
+impl<'a, G: Grid> Row for GridRow<'a, G> {
+    ghost use Rattle.std.specs.Prelude.{◌<◌, length};
+    ghost use Rattle.aig_sim.specs.InputRows.{row_at};
+
+    ghost cells = { λ r. row_at (G.cells r.grid.now) r.frame };
+
+    ghost has = { λ r v. (r.frame < length (G.cells r.grid.now)) × (v < length (G.gate_flags r.grid.now)) };
+
+    fn value(&self, variable: u32) -> Tern {
+        self.grid.get(self.frame, variable)
+    }
+}
