@@ -1,0 +1,10 @@
+pub mod FrameBounds
+pub mod FrameLiterals
+pub mod FrameSteps
+pub mod Frames
+pub mod GuardedValues
+pub mod Guarding
+pub mod UnrolledCircuit
+pub mod UnrolledReady
+pub mod UnrolledRow
+pub mod UnrolledValues

@@ -1,0 +1,11 @@
+use Rattle.std.proofs.Common.{◌≡◌, ◌+◌, map, take}
+use Rattle.std.specs.List.{range_with_len}
+use Rattle.aig_unroll.specs.FrameLiteral.{uninitialised}
+use Rattle.aig_unroll.specs.FrameTable.{first_at}
+use Rattle.aig_unroll.proofs.parts.first_latches.Given as goal
+
+abbrev pub invariant-loop-latch : goal.invariant-loop-latch
+invariant-loop-latch l = record {
+  variable : l.variable ≡ l.behind + uninitialised (take l.latch-index l.latches);
+  new : l.new ≡ map (first_at l.latches l.behind) (range_with_len 0 l.latch-index);
+}

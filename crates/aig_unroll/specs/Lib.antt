@@ -1,0 +1,5 @@
+pub mod FrameLiteral
+pub mod FrameTable
+pub mod Limits
+pub mod Unrolled
+pub mod UnrolledValues

@@ -1,0 +1,68 @@
+-- Values of a circuit over frames, and of its unrolled form at its one frame.
+use Rattle.std.specs.Prelude.{◌≡◌, ◌⊎◌, ◌↔◌, ℕ, ◌+◌, ◌*◌, ◌<◌, ◌≤◌, if◌then◌else◌, List, [], ◌∷◌, ◌++◌, length, flat_map, Contains, Some, slice_get}
+use Rattle.aig_base.specs.declared.latch.Latch.{Latch}
+use Rattle.aig_base.specs.declared.raw.Raw.{Raw}
+use Rattle.aig_base.specs.declared.ternary.Tern.{Tern}
+use Rattle.aig_base.specs.declared.ternary.Tern.TheVariants.{Zero, One, X}
+use Rattle.aig_base.specs.Literal.{variable}
+use Rattle.aig_base.specs.Sections.{IsDefined}
+use Rattle.aig_base.specs.Value.{Value, reset_value}
+use Rattle.aig_unroll.specs.FrameLiteral.{frame_literal, is_uninitialised}
+use Rattle.aig_unroll.specs.Unrolled.{unrolled}
+
+-- a start that the resets allow: an uninitialised latch has any value, another that of its reset
+abbrev pub IsAllowed : Raw → List Tern → Type 0
+IsAllowed raw start = (p : ℕ) (x : Latch) (w : Tern) → slice_get raw.latches p ≡ Some x → slice_get start p ≡ Some w
+    → (x.reset ≡ x.lit) ⊎ (w ≡ reset_value x.reset)
+
+-- the start values of the uninitialised latches, in order
+abbrev pub free_values : List Latch → List Tern → List Tern
+free_values [] start = []
+free_values (x ∷ xs) [] = []
+free_values (x ∷ xs) (w ∷ start) = if is_uninitialised x then w ∷ free_values xs start else free_values xs start
+
+-- the one row of the unrolled circuit: the rows in turn, then the start values of the uninitialised latches
+abbrev pub unrolled_row : Raw → List Tern → List (List Tern) → List Tern
+unrolled_row raw start rows = flat_map (λ row. row) rows ++ free_values raw.latches start
+
+-- the literal has the value in the circuit that is unrolled for as many frames as there are rows
+abbrev pub UnrolledValue : Raw → List ℕ → List Tern → List (List Tern) → ℕ → Tern → Type 0
+UnrolledValue raw order start rows l w =
+    Value (unrolled raw order (length rows)) [] (unrolled_row raw start rows ∷ []) 0 l w
+
+-- what a literal is at a frame, its frame literal is
+abbrev pub KeepsValues : Raw → List ℕ → List Tern → List (List Tern) → Type 0
+KeepsValues raw order start rows =
+    (t l : ℕ) (w : Tern) → t < length rows → Value raw start rows t l w
+    → UnrolledValue raw order start rows (frame_literal raw order (length rows) t l) w
+
+-- the frame literal of a defined literal has no other value
+abbrev pub AddsNoValues : Raw → List ℕ → List Tern → List (List Tern) → Type 0
+AddsNoValues raw order start rows =
+    (t l : ℕ) (w : Tern) → t < length rows → IsDefined raw (variable l)
+    → UnrolledValue raw order start rows (frame_literal raw order (length rows) t l) w → Value raw start rows t l w
+
+-- the bad literal is 1 at frame t, and every constraint is 1 at every frame up to t
+abbrev pub IsReached : Raw → List Tern → List (List Tern) → ℕ → ℕ → Type 0
+IsReached raw start rows t b =
+    Value raw start rows t b One
+    × ((s c : ℕ) → s ≤ t → Contains raw.constraints c → Value raw start rows s c One)
+
+-- the bad literal is 0 at frame t, or a constraint is 0 at a frame up to t
+abbrev pub IsExcluded : Raw → List Tern → List (List Tern) → ℕ → ℕ → Type 0
+IsExcluded raw start rows t b =
+    Value raw start rows t b Zero
+    ⊎ ((s : ℕ) × (c : ℕ) × (s ≤ t) × Contains raw.constraints c × Value raw start rows s c Zero)
+
+-- what the guard of a bad literal is at a frame
+abbrev pub GuardedValue : Raw → List Tern → List (List Tern) → ℕ → ℕ → Tern → Type 0
+GuardedValue raw start rows t b One = IsReached raw start rows t b
+GuardedValue raw start rows t b Zero = IsExcluded raw start rows t b
+GuardedValue raw start rows t b X = (IsReached raw start rows t b → ⊥) × (IsExcluded raw start rows t b → ⊥)
+
+-- bad literal p of frame t stands in the bad section of the unrolled circuit, and it is what its guard is
+abbrev pub GuardsBad : Raw → List ℕ → List Tern → List (List Tern) → Type 0
+GuardsBad raw order start rows =
+    (t p b : ℕ) → t < length rows → slice_get raw.bad p ≡ Some b
+    → (g : ℕ) × (slice_get (unrolled raw order (length rows)).bad (t * length raw.bad + p) ≡ Some g)
+    × ((w : Tern) → UnrolledValue raw order start rows g w ↔ GuardedValue raw start rows t b w)

@@ -1,0 +1,99 @@
+//! What a frame adds to the sections of the unrolled circuit.
+ghost use Rattle.std.specs.Prelude.{◌≡◌, ◌+◌, ◌++◌, ◌≤◌, ◌<◌, OnOk, IfOk, All, length, map};
+ghost use Rattle.std.specs.List.{range_with_len};
+ghost use Rattle.aig_base.specs.Formed.{limit};
+ghost use Rattle.aig_base.specs.RenumberingTable.{IsListed, IsGateListed};
+ghost use Rattle.aig_unroll.specs.FrameLiteral as literals;
+ghost use Rattle.aig_unroll.specs.FrameTable as table;
+ghost use Rattle.aig_unroll.specs.FrameTable.{IsWithin};
+
+use crate::frame::{Frame, literal_at, ready_gate};
+use crate::plan::{Plan, is_uninitialised};
+use aig_base::{Gate, Latch, List, Lit, Memory};
+use std::alloc::Global;
+
+/// Adds the literals at the frame.
+pub(crate) fn push_literals(
+    to: &mut List<Lit>,
+    plan: &Plan,
+    frame: &Frame,
+    literals: &[Lit],
+) -> Result<(), Memory>
+    requires within { IsWithin plan.now frame.now }
+    requires listed { All (IsListed plan.now.numbers.items) literals.now }
+    ensures { OnOk result (to.new ≡ to.old ++ map (table.literal_at plan.now frame.now) literals.now) }
+{
+    for literal in literals {
+        to.push(literal_at(plan, frame, *literal))?;
+    }
+    Ok(())
+}
+
+fn gate_at(plan: &Plan, frame: &Frame, gate: Gate) -> Gate
+    requires within { IsWithin plan.now frame.now }
+    requires listed { IsGateListed plan.now.numbers.items gate }
+    ensures { result ≡ table.gate_at plan.now frame.now gate }
+{
+    ready_gate(
+        literal_at(plan, frame, gate.lhs),
+        literal_at(plan, frame, gate.rhs0),
+        literal_at(plan, frame, gate.rhs1),
+    )
+}
+
+/// Adds the gates at the frame.
+pub(crate) fn push_gates(
+    to: &mut List<Gate>,
+    plan: &Plan,
+    frame: &Frame,
+    gates: &[Gate],
+) -> Result<(), Memory>
+    requires within { IsWithin plan.now frame.now }
+    requires listed { All (IsGateListed plan.now.numbers.items) gates.now }
+    ensures { OnOk result (to.new ≡ to.old ++ map (table.gate_at plan.now frame.now) gates.now) }
+{
+    for gate in gates {
+        to.push(gate_at(plan, frame, *gate))?;
+    }
+    Ok(())
+}
+
+/// The latches' literals at the frame behind this one.
+pub(crate) fn next_latches(
+    alloc: Global,
+    plan: &Plan,
+    frame: &Frame,
+    latches: &[Latch],
+) -> Result<List<Lit>, Memory>
+    requires within { IsWithin plan.now frame.now }
+    requires listed { All (λ x. IsListed plan.now.numbers.items x.next) latches.now }
+    ensures { IfOk result (λ new. new ≡ map (λ x. table.literal_at plan.now frame.now x.next) latches.now) }
+{
+    let mut new = List::new(alloc);
+    for latch in latches {
+        new.push(literal_at(plan, frame, latch.next))?;
+    }
+    Ok(new)
+}
+
+/// The latches' literals at the first frame: resets, and inputs behind this variable for uninitialised ones.
+pub(crate) fn first_latches(
+    alloc: Global,
+    latches: &[Latch],
+    behind: u32,
+) -> Result<List<Lit>, Memory>
+    requires { behind + length latches.now ≤ limit + limit }
+    ensures { IfOk result (λ new. new ≡ map (table.first_at latches.now behind) (range_with_len 0 (length latches.now))) }
+{
+    let mut new = List::new(alloc);
+    let mut variable = behind;
+    for latch in latches {
+        if is_uninitialised(latch) {
+            variable += 1;
+            new.push(Lit::new(2 * variable))?;
+        } else {
+            new.push(latch.reset)?;
+        }
+    }
+    Ok(new)
+}

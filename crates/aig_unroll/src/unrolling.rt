@@ -1,0 +1,140 @@
+//! Unrolling.
+ghost use Rattle.std.specs.Prelude.{◌≡◌, ◌<◌, ◌≤◌, ◌↔◌, ℕ, List, IfOk, OnOk, IsErrOf};
+ghost use Rattle.aig_base.specs.Circuit.{IsCircuit};
+ghost use Rattle.aig_base.specs.Formed.{limit};
+ghost use Rattle.aig_base.specs.Levels.{AreLevels};
+ghost use Rattle.aig_base.specs.Order.{IsCanonicalOrder};
+ghost use Rattle.aig_base.specs.Renumbered.{evens, IsBinaryReady};
+ghost use Rattle.aig_unroll.specs.Limits.{FitsLimits, HasLiveness};
+ghost use Rattle.aig_unroll.specs.Unrolled.{unrolled};
+
+use crate::fault::UnrollFault;
+use crate::limits::{fits_limits, has_liveness};
+use crate::plan::Plan;
+use crate::sections::{Sections, unrolled_sections};
+use aig_base::{Circuit, Fault, Levels, List, Lit, Memory, Raw, Symbols, canonical_order};
+use std::alloc::Global;
+
+// The literals of the variables 1 to this one.
+fn even_literals(alloc: Global, last: u32) -> Result<List<Lit>, Memory>
+    requires { last ≤ limit }
+    ensures { IfOk result (λ new. new ≡ evens last) }
+{
+    let mut new = List::new(alloc);
+    for variable in 0..last {
+        new.push(Lit::new(2 * (variable + 1)))?;
+    }
+    Ok(new)
+}
+
+// The parts of the circuit unrolled for this many frames.
+fn unrolled_parts(
+    alloc: Global,
+    circuit: &Circuit,
+    order: &[u32],
+    frames: u32,
+) -> Result<Raw, Memory>
+    requires order { IsCanonicalOrder circuit.now order.now }
+    requires fits { FitsLimits circuit.now frames }
+    ensures { IfOk result (λ parts. parts ≡ unrolled circuit.now order.now frames) }
+{
+    let plan = Plan::of(alloc, circuit, order, frames)?;
+    let Sections {
+        outputs,
+        bad,
+        constraints,
+        gates,
+    } = unrolled_sections(alloc, circuit, order, &plan, frames)?;
+    Ok(Raw {
+        max_var: plan.sources + frames * plan.size,
+        inputs: even_literals(alloc, plan.sources)?,
+        latches: List::new(alloc),
+        outputs,
+        bad,
+        constraints,
+        justice: List::new(alloc),
+        fairness: List::new(alloc),
+        gates,
+        symbols: Symbols::new(alloc),
+        comment: None,
+    })
+}
+
+// The circuit of parts that are known to be one: no other fault than a want of memory is left.
+fn check_circuit(alloc: Global, parts: Raw) -> Result<Circuit, Memory>
+    requires { IsCircuit parts }
+    ensures { IfOk result (λ circuit. circuit ≡ parts) }
+{
+    match Circuit::check(alloc, parts) {
+        Ok(circuit) => Ok(circuit),
+        Err(fault) => {
+            prove!(matches!(fault, Fault::Memory));
+            Err(Memory)
+        }
+    }
+}
+
+// The circuit unrolled for this many frames, which is within the limits.
+fn unrolled_circuit(
+    alloc: Global,
+    circuit: &Circuit,
+    levels: &Levels,
+    frames: u32,
+) -> Result<Circuit, Memory>
+    requires levels { AreLevels circuit.now levels.now }
+    requires fits { FitsLimits circuit.now frames }
+    ensures parts { IfOk result (λ new.
+        (order : List ℕ) × IsCanonicalOrder circuit.now order × (new ≡ unrolled circuit.now order frames)) }
+    ensures ready { IfOk result IsBinaryReady }
+{
+    // Its contract tells that the parts are a circuit.
+    let _max_var = circuit.max_var();
+    let order = canonical_order(alloc, circuit, levels)?;
+    let parts = unrolled_parts(alloc, circuit, &order, frames)?;
+    check_circuit(alloc, parts)
+}
+
+// The first fault that stands in the way of unrolling.
+fn check_request(circuit: &Circuit, frames: u32) -> Result<(), UnrollFault>
+    ensures no_frames { IsErrOf result UnrollFault.NoFrames ↔ (frames ≡ 0) }
+    ensures liveness { IsErrOf result UnrollFault.Liveness ↔ ((0 < frames) × HasLiveness circuit.now) }
+    ensures limit { IsErrOf result UnrollFault.Limit
+        ↔ ((0 < frames) × (HasLiveness circuit.now → ⊥) × (FitsLimits circuit.now frames → ⊥)) }
+    ensures memory { IsErrOf result UnrollFault.Memory → ⊥ }
+    ensures fits { OnOk result (FitsLimits circuit.now frames) }
+{
+    if frames == 0 {
+        return Err(UnrollFault::NoFrames);
+    }
+    if has_liveness(circuit) {
+        return Err(UnrollFault::Liveness);
+    }
+    if !fits_limits(circuit, frames) {
+        return Err(UnrollFault::Limit);
+    }
+    Ok(())
+}
+
+/// The circuit unrolled for this many frames: a combinational circuit whose inputs are those of the frames in turn and
+/// then the uninitialised latches, and whose sections are those of the frames in turn; the gates of a frame stand in the
+/// canonical order. Where there are both bad literals and constraints, each bad literal is guarded by all constraints up
+/// to its frame (profile). Names and comment go. A binary file can hold it. The caller hands in the circuit's levels.
+/// It refuses 0 frames, then justice and fairness, then what is over its limit, and takes no memory before that.
+pub fn unroll(
+    alloc: Global,
+    circuit: &Circuit,
+    levels: &Levels,
+    frames: u32,
+) -> Result<Circuit, UnrollFault>
+    requires { AreLevels circuit.now levels.now }
+    ensures no_frames { IsErrOf result UnrollFault.NoFrames ↔ (frames ≡ 0) }
+    ensures liveness { IsErrOf result UnrollFault.Liveness ↔ ((0 < frames) × HasLiveness circuit.now) }
+    ensures limit { IsErrOf result UnrollFault.Limit
+        ↔ ((0 < frames) × (HasLiveness circuit.now → ⊥) × (FitsLimits circuit.now frames → ⊥)) }
+    ensures unrolled { IfOk result (λ new.
+        (order : List ℕ) × IsCanonicalOrder circuit.now order × (new ≡ unrolled circuit.now order frames)) }
+    ensures ready { IfOk result IsBinaryReady }
+{
+    check_request(circuit, frames)?;
+    Ok(unrolled_circuit(alloc, circuit, levels, frames)?)
+}
