@@ -1,5 +1,5 @@
 -- When the cells of a grid are the values of a pair (profile).
-use Rattle.std.specs.Prelude.{◌≡◌, ◌≢◌, ℕ, suc, ◌+◌, ◌*◌, ◌<◌, ◌≤◌, Bool, true, false, List, length, Some, slice_get}
+use Rattle.std.specs.Prelude.{◌≡◌, ℕ, suc, ◌+◌, ◌*◌, ◌<◌, ◌≤◌, Bool, true, false, List, length, Some, slice_get}
 use Rattle.aig_base.specs.declared.ternary.Tern.{Tern}
 use Rattle.aig_base.specs.declared.ternary.Tern.TheVariants.{Zero}
 use Rattle.aig_base.specs.declared.latch.Latch.{Latch}
@@ -55,14 +55,6 @@ pub record AreCurrent (p : Pair) (n : ℕ) (cells : List (List Tern)) : Type 0 w
 -- what the latches at the next frame rest on
 abbrev pub IsCurrentBefore : Pair → ℕ → List (List Tern) → Type 0
 IsCurrentBefore p t cells = (u : ℕ) → t ≡ suc u → IsCurrentRow p u (row_at cells u)
-
--- from the old cells to the new ones only the row of a frame changes, and what was a value there stays one
-pub record Renews (p : Pair) (t : ℕ) (old new : List (List Tern)) : Type 0 where
-  pub frames : length new ≡ length old
-  pub width : length (row_at new t) ≡ length (row_at old t)
-  pub constant : slice_get (row_at new t) 0 ≡ slice_get (row_at old t) 0
-  pub others : (u : ℕ) → u ≢ t → row_at new u ≡ row_at old u
-  pub keeps : (v : ℕ) → Holds p t (row_at old t) v → Holds p t (row_at new t) v
 
 -- what a bench keeps: a grid for its plan, with the values of all frames
 pub record IsBench (plan : Plan) (flags : List Bool) (cells : List (List Tern)) : Type 0 where

@@ -1,5 +1,5 @@
 -- Edits of a circuit and its rows (profile).
-use Rattle.std.specs.Prelude.{◌≡◌, ◌≢◌, ℕ, ◌+◌, ◌-◌, ◌*◌, ◌<◌, ◌≤◌, List, [], ◌∷◌, ◌++◌, length, take, Result, Ok, Err}
+use Rattle.std.specs.Prelude.{◌≡◌, ◌≢◌, ◌⊎◌, ℕ, ◌+◌, ◌-◌, ◌*◌, ◌<◌, ◌≤◌, List, [], ◌∷◌, ◌++◌, length, take, Result, Ok, Err}
 use Rattle.aig_base.specs.declared.ternary.Tern.{Tern}
 use Rattle.aig_base.specs.Literal.{variable}
 use Rattle.aig_base.specs.Sections.{IsDefined, IsLeftSide, IsLatchLiteral}
@@ -61,7 +61,20 @@ NoneApplies P = (f : EditFault) → P f → ⊥
 abbrev pub IsLeastFault : (EditFault → Type 0) → EditFault → Type 0
 IsLeastFault P f = P f × ((g : EditFault) → number_of g < number_of f → P g → ⊥)
 
+-- the edits that may want memory
+abbrev pub TakesMemory : Edit → Type 0
+TakesMemory (rewire lhs r0 r1) = Unit {0}
+TakesMemory (set_reset latch w) = ⊥
+TakesMemory (set_bit t i w) = ⊥
+TakesMemory (add_frame row) = Unit {0}
+TakesMemory drop_frame = ⊥
+
+-- such an edit found no memory; whether gates would close a cycle is looked for after that, and no other fault applies
+abbrev pub LacksMemory : Pair → Edit → EditFault → Type 0
+LacksMemory p e f =
+    (f ≡ fault.Memory) × TakesMemory e × ((g : EditFault) → g ≢ fault.Cycle → Forbids p e g → ⊥)
+
 -- the edit takes the pair to the other with this answer; a refused one leaves it
 abbrev pub Edits : {A : Type 0} → Pair → Edit → Result A EditFault → Pair → Type 0
 Edits p e (Ok _) new = NoneApplies (Forbids p e) × (new ≡ edited p e)
-Edits p e (Err f) new = IsLeastFault (Forbids p e) f × (new ≡ p)
+Edits p e (Err f) new = (IsLeastFault (Forbids p e) f ⊎ LacksMemory p e f) × (new ≡ p)

@@ -1,6 +1,11 @@
+pub mod Buckets
 pub mod Current
 pub mod Edit
+pub mod Entry
 pub mod Pair
+pub mod Passing
 pub mod Plan
 pub mod Question
-pub mod TraceText
+pub mod Renewed
+pub mod Sweep
+pub mod Touched

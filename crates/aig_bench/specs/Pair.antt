@@ -1,4 +1,4 @@
--- What a bench is seen as: a circuit and the rows of its stimulus (profile).
+-- What a bench is seen as: a circuit and the rows of its stimulus, and how many gates it evaluated so far (profile).
 use Rattle.std.specs.Prelude.{ℕ, List}
 use Rattle.aig_base.specs.declared.raw.Raw.{Raw}
 use Rattle.aig_base.specs.declared.ternary.Tern.{Tern}
@@ -8,6 +8,10 @@ use Rattle.aig_sim.specs.Trace.{IsTrace}
 pub record Pair : Type 0 where
   pub circuit : Raw
   pub rows : List (List Tern)
+
+pub record BenchState : Type 0 where
+  pub pair : Pair
+  pub evaluations : ℕ
 
 -- the literal has the value at the frame, where the latches start by their resets
 abbrev pub HasValue : Pair → ℕ → ℕ → Tern → Type 0

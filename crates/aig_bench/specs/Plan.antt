@@ -1,7 +1,6 @@
--- What a bench simulates: a circuit, its gates in an order in which they can be evaluated, and a stimulus (profile).
+-- What a bench simulates: a circuit and a stimulus (profile).
 use Rattle.std.specs.Prelude.{◌≡◌, ◌+◌, ◌*◌, ◌≤◌, length}
 use Rattle.aig_base.specs.Circuit.{IsCircuit}
-use Rattle.aig_sim.specs.GateOrder.{IsGateOrder}
 use Rattle.aig_sim.specs.StimulusText.{HaveWidth}
 use Rattle.aig_bench.specs.declared.plan.Plan.{Plan}
 use Rattle.aig_bench.specs.Pair.{Pair}
@@ -17,4 +16,3 @@ pub record IsPlan (plan : Plan) : Type 0 where
   pub widths : HaveWidth plan.stimulus.width plan.stimulus.rows
   pub frames : length plan.stimulus.rows ≤ 65536
   pub cells : (plan.circuit.max_var + 1) * length plan.stimulus.rows ≤ 67108864
-  pub order : IsGateOrder plan.circuit plan.gates.items

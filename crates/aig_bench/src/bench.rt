@@ -1,47 +1,72 @@
 //! The workbench.
-ghost use Rattle.std.specs.Prelude.{◌≡◌, ◌≢◌, ℕ, ◌+◌, ◌*◌, ◌<◌, ◌≤◌, ◌↔◌, List, length, IsErrOf, IfOk, IsTrue, OnOk, OnErr};
+ghost use Rattle.std.specs.Prelude.{◌≡◌, ◌≢◌, ℕ, ◌+◌, ◌*◌, ◌<◌, ◌≤◌, ◌↔◌, List, length, ◌⊎◌, IsErrOf, IfOk, IfErr, OnOk, OnErr};
 ghost use Rattle.aig_base.specs.Bytes.{Writes};
+ghost use Rattle.aig_base.specs.Changes.{with_gate};
 ghost use Rattle.aig_base.specs.Circuit.{IsCircuit};
-ghost use Rattle.aig_base.specs.Sections.{IsDefined};
-ghost use Rattle.aig_bench.specs.Current.{IsBench};
-ghost use Rattle.aig_bench.specs.Edit.{Edits, set_bit};
+ghost use Rattle.aig_base.specs.Grounded.{IsAcyclic};
+ghost use Rattle.aig_base.specs.Levels.{AreLevels};
+ghost use Rattle.aig_base.specs.Literal.{variable};
+ghost use Rattle.aig_base.specs.Readers.{AreReaders, list_of};
+ghost use Rattle.aig_base.specs.Sections.{IsDefined, IsLeftSide};
+ghost use Rattle.aig_bench.specs.Buckets.{Waits};
+ghost use Rattle.aig_bench.specs.Edit.{Edits, rewire, set_reset, set_bit, add_frame, drop_frame};
 ghost use Rattle.aig_bench.specs.Pair.{Pair, HasTrace};
 ghost use Rattle.aig_bench.specs.Plan.{IsPlan, pair_of};
 ghost use Rattle.aig_bench.specs.Question.{AnswersValue};
+ghost use Rattle.aig_bench.specs.Sweep.{IsWork, IsWorking};
+ghost use Rattle.aig_bench.specs.Touched.{Works};
 ghost use Rattle.aig_sim.specs.StimulusText.{HaveWidth};
 
+use crate::allowed::{CELLS, check_reset, check_rewire, is_defined};
 use crate::bench_fault::BenchFault;
+use crate::buckets::Buckets;
 use crate::edit::{EditFault, EditReport};
+use crate::fill::fill;
 use crate::layout::lay_out;
 use crate::plan::Plan;
-use crate::renew::{literal_at, renew};
+use crate::propagate::{renew_from, renew_input};
+use crate::settle::{Net, make_buckets};
 use crate::trace::write_frames;
-use aig_base::{Circuit, Io, Lit, Memory, Tern, Write};
-use aig_sim::{Grid, Stimulus, gates_in_order};
+use crate::value::literal_at;
+use aig_base::{Circuit, Io, Levels, Lit, Memory, Readers, Tern, Write};
+use aig_sim::{FRAMES, Grid, Stimulus};
 use std::alloc::Global;
 use std::marker::Model;
 
-/// The greatest number of cells of a bench: variables times frames.
-const CELLS: u64 = 67_108_864;
-
-/// A circuit and a stimulus whose values are at hand, also after edits. Contracts see the pair.
+/// A circuit and a stimulus whose values are at hand, also after edits. Contracts see the pair, and how many gates were
+/// evaluated.
 #[derive(Drop)]
 pub struct Bench<G: Grid> {
     plan: Plan,
+    net: Net,
+    buckets: Buckets,
     grid: G,
 }
 
 impl<G: Grid> Model for Bench<G> {
-    ghost use Rattle.aig_bench.specs.Pair.{Pair};
+    ghost use Rattle.aig_bench.specs.Pair.{BenchState};
 
-    ghost Value = { Pair };
+    ghost Value = { BenchState };
 
     ghost use Rattle.aig_bench.specs.Plan.{pair_of};
-    ghost use Rattle.aig_bench.specs.Current.{IsBench};
+    ghost use Rattle.aig_bench.specs.Sweep.{IsWorking};
 
-    ghost view = { λ b. pair_of b.plan };
+    ghost view = { λ b. record { pair = pair_of b.plan; evaluations = G.evaluations b.grid } };
 
-    ghost invariant = { λ b. IsBench b.plan (G.gate_flags b.grid) (G.cells b.grid) };
+    ghost invariant = { λ b. IsWorking b.plan b.net b.buckets (G.gate_flags b.grid) (G.cells b.grid) };
+}
+
+/// The report of an edit that evaluates nothing.
+const NOTHING: EditReport = EditReport {
+    evaluated: 0,
+    changed: 0,
+};
+
+/// The number of cells of so many frames.
+fn cells(circuit: &Circuit, frames: u32) -> u64
+    ensures { result ≡ (circuit.now.max_var + 1) * frames }
+{
+    (u64::from(circuit.max_var()) + 1) * u64::from(frames)
 }
 
 /// The first fault of the sizes: the stimulus's width, then the number of cells.
@@ -54,47 +79,94 @@ fn check_sizes(circuit: &Circuit, stimulus: &Stimulus) -> Result<(), BenchFault>
     if stimulus.width() as usize != circuit.inputs().len() {
         return Err(BenchFault::Width);
     }
-    if (u64::from(circuit.max_var()) + 1) * u64::from(stimulus.frames()) > CELLS {
+    if cells(circuit, stimulus.frames()) > CELLS {
         return Err(BenchFault::Limit);
     }
     Ok(())
 }
 
-/// Whether a variable is 0 or defined.
-fn is_defined(circuit: &Circuit, variable: u32) -> bool
-    ensures { IsTrue result ↔ IsDefined circuit.now variable }
-{
-    variable == 0 || circuit.definition(variable).is_some()
-}
-
 /// A plan of the two.
-fn make_plan(alloc: Global, circuit: Circuit, stimulus: Stimulus) -> Result<Plan, Memory>
+fn make_plan(circuit: Circuit, stimulus: Stimulus) -> Plan
     requires width { stimulus.width ≡ length circuit.inputs }
     requires limit { (circuit.max_var + 1) * length stimulus.rows ≤ 67108864 }
-    ensures plan { IfOk result IsPlan }
-    ensures pair { IfOk result (λ plan. pair_of plan ≡ record { circuit = circuit; rows = stimulus.rows }) }
+    ensures plan { IsPlan result }
+    ensures pair { pair_of result ≡ record { circuit = circuit; rows = stimulus.rows } }
 {
+    // Their contracts tell what a plan has to be.
     let _max_var = circuit.max_var();
     let _width = stimulus.width();
     let _frames = stimulus.frames();
-    let gates = gates_in_order(alloc, &circuit)?;
-    Ok(Plan {
-        circuit,
-        gates,
-        stimulus,
-    })
+    Plan { circuit, stimulus }
+}
+
+/// Who reads whom in a circuit, and its levels.
+fn make_net(alloc: Global, circuit: &Circuit) -> Result<Net, Memory>
+    ensures levels { IfOk result (λ net. AreLevels circuit.now net.levels) }
+    ensures readers { IfOk result (λ net. AreReaders circuit.now net.readers) }
+{
+    let levels = Levels::of(alloc, circuit)?;
+    let readers = Readers::of(alloc, circuit)?;
+    Ok(Net { levels, readers })
+}
+
+/// Writes the values of all frames of a new grid.
+fn fill_all<G: Grid>(grid: &mut G, plan: &Plan, net: &Net, buckets: &mut Buckets)
+    requires work { IsWork plan.now net.now (G.gate_flags grid.old) (G.cells grid.old) buckets.old }
+    requires empty { (v : ℕ) → Waits buckets.old v → ⊥ }
+    ensures { IsWorking plan.now net.now buckets.new (G.gate_flags grid.new) (G.cells grid.new) }
+{
+    for frame in 0..plan.stimulus.frames() {
+        fill(grid, plan, net, buckets, frame);
+    }
 }
 
 /// A bench of the two.
 fn make<G: Grid>(alloc: Global, circuit: Circuit, stimulus: Stimulus) -> Result<Bench<G>, Memory>
     requires width { stimulus.width ≡ length circuit.inputs }
     requires limit { (circuit.max_var + 1) * length stimulus.rows ≤ 67108864 }
-    ensures { IfOk result (λ bench. bench ≡ record { circuit = circuit; rows = stimulus.rows }) }
+    ensures { IfOk result (λ bench. bench.pair ≡ record { circuit = circuit; rows = stimulus.rows }) }
 {
-    let plan = make_plan(alloc, circuit, stimulus)?;
+    let plan = make_plan(circuit, stimulus);
+    let net = make_net(alloc, &plan.circuit)?;
+    let mut buckets = make_buckets(alloc, &plan, &net)?;
     let mut grid = lay_out(alloc, &plan)?;
-    renew(&mut grid, &plan, 0);
-    Ok(Bench { plan, grid })
+    fill_all(&mut grid, &plan, &net, &mut buckets);
+    Ok(Bench {
+        plan,
+        net,
+        buckets,
+        grid,
+    })
+}
+
+/// Gives a gate other right sides, unless they close a cycle.
+fn replace_gate(plan: &mut Plan, net: &mut Net, lhs: Lit, r0: Lit, r1: Lit) -> Result<(), EditFault>
+    requires plan { IsPlan plan.old }
+    requires levels { AreLevels plan.old.circuit net.old.levels }
+    requires readers { AreReaders plan.old.circuit net.old.readers }
+    requires gate { IsLeftSide plan.old.circuit lhs }
+    requires defined0 { IsDefined plan.old.circuit (variable r0) }
+    requires defined1 { IsDefined plan.old.circuit (variable r1) }
+    ensures stimulus { plan.new.stimulus ≡ plan.old.stimulus }
+    ensures levels { AreLevels plan.new.circuit net.new.levels }
+    ensures readers { AreReaders plan.new.circuit net.new.readers }
+    ensures acyclic { OnOk result (IsAcyclic (with_gate plan.old.circuit lhs r0 r1)) }
+    ensures circuit { OnOk result (plan.new.circuit ≡ with_gate plan.old.circuit lhs r0 r1) }
+    ensures same { OnErr result (plan.new.circuit ≡ plan.old.circuit) }
+    ensures cycle { IfErr result (λ f. f ≡ EditFault.Cycle → IsAcyclic (with_gate plan.old.circuit lhs r0 r1) → ⊥) }
+    ensures others { IfErr result (λ f. (f ≡ EditFault.Cycle) ⊎ (f ≡ EditFault.Memory)) }
+    ensures memory { IfErr result (λ f. f ≡ EditFault.Memory →
+        (4 ≤ length (list_of net.old.readers (variable r0))) ⊎ (4 ≤ length (list_of net.old.readers (variable r1)))) }
+{
+    net.readers.make_room(r0, r1)?;
+    match net.levels.rewire(&plan.circuit, &net.readers, lhs, r0, r1) {
+        Ok(()) => {
+            net.readers.replace(&plan.circuit, lhs, r0, r1);
+            plan.circuit.replace_gate(lhs, r0, r1);
+            Ok(())
+        }
+        Err(_) => Err(EditFault::Cycle),
+    }
 }
 
 impl<G: Grid> Bench<G> {
@@ -104,7 +176,7 @@ impl<G: Grid> Bench<G> {
         ensures width { IsErrOf result BenchFault.Width ↔ (stimulus.width ≢ length circuit.inputs) }
         ensures limit { IsErrOf result BenchFault.Limit ↔ (stimulus.width ≡ length circuit.inputs)
             × (67108864 < (circuit.max_var + 1) * length stimulus.rows) }
-        ensures made { IfOk result (λ bench. bench ≡ record { circuit = circuit; rows = stimulus.rows }) }
+        ensures made { IfOk result (λ bench. bench.pair ≡ record { circuit = circuit; rows = stimulus.rows }) }
     {
         check_sizes(&circuit, &stimulus)?;
         Ok(make(alloc, circuit, stimulus)?)
@@ -112,16 +184,16 @@ impl<G: Grid> Bench<G> {
 
     /// The number of inputs. Its contract also says that the pair is a circuit and rows of that width.
     pub fn width(&self) -> u32
-        ensures width { result ≡ length self.now.circuit.inputs }
-        ensures circuit { IsCircuit self.now.circuit }
-        ensures rows { HaveWidth (length self.now.circuit.inputs) self.now.rows }
+        ensures width { result ≡ length self.now.pair.circuit.inputs }
+        ensures circuit { IsCircuit self.now.pair.circuit }
+        ensures rows { HaveWidth (length self.now.pair.circuit.inputs) self.now.pair.rows }
     {
         self.plan.stimulus.width()
     }
 
     /// The number of frames.
     pub fn frames(&self) -> u32
-        ensures { result ≡ length self.now.rows }
+        ensures { result ≡ length self.now.pair.rows }
     {
         self.plan.stimulus.frames()
     }
@@ -129,7 +201,7 @@ impl<G: Grid> Bench<G> {
     /// The value of a literal at a frame, counted from 0, in constant time. Refused are a literal over `2M + 1`, a
     /// variable that is neither 0 nor defined, and a frame that is not there, in this order (profile).
     pub fn value(&self, frame: u32, literal: Lit) -> Result<Tern, EditFault>
-        ensures { AnswersValue self.now frame literal result }
+        ensures { AnswersValue self.now.pair frame literal result }
     {
         let variable = literal.var();
         if variable > self.plan.circuit.max_var() {
@@ -152,7 +224,8 @@ impl<G: Grid> Bench<G> {
         position: u32,
         value: Tern,
     ) -> Result<EditReport, EditFault>
-        ensures { Edits self.old (set_bit frame position value) result self.new }
+        ensures edits { Edits self.old.pair (set_bit frame position value) result self.new.pair }
+        ensures works { Works self.old (set_bit frame position value) result self.new }
     {
         if frame >= self.plan.stimulus.frames() {
             return Err(EditFault::NoFrame);
@@ -161,16 +234,103 @@ impl<G: Grid> Bench<G> {
             return Err(EditFault::NoInput);
         }
         self.plan.stimulus.set(frame, position, value);
-        renew(&mut self.grid, &self.plan, frame);
-        Ok(EditReport {
-            evaluated: 0,
-            changed: 0,
-        })
+        Ok(renew_input(
+            &mut self.grid,
+            &self.plan,
+            &self.net,
+            &mut self.buckets,
+            frame,
+            position,
+        ))
+    }
+
+    /// Gives a gate, named by its left side, two other right sides. Refused are what is no left side, right sides out of
+    /// range, undefined ones and a cycle. It takes memory (profile).
+    pub fn rewire(&mut self, lhs: Lit, r0: Lit, r1: Lit) -> Result<EditReport, EditFault>
+        ensures edits { Edits self.old.pair (rewire lhs r0 r1) result self.new.pair }
+        ensures works { Works self.old (rewire lhs r0 r1) result self.new }
+    {
+        check_rewire(&self.plan, lhs, r0, r1)?;
+        replace_gate(&mut self.plan, &mut self.net, lhs, r0, r1)?;
+        Ok(renew_from(
+            &mut self.grid,
+            &self.plan,
+            &self.net,
+            &mut self.buckets,
+            0,
+            &[lhs.var()],
+        ))
+    }
+
+    /// Lets a latch, named by its literal, start at another value; x is uninitialised. Refused is what is no latch's
+    /// literal. It takes no memory (profile).
+    pub fn set_reset(&mut self, latch: Lit, value: Tern) -> Result<EditReport, EditFault>
+        ensures edits { Edits self.old.pair (set_reset latch value) result self.new.pair }
+        ensures works { Works self.old (set_reset latch value) result self.new }
+    {
+        check_reset(&self.plan, latch)?;
+        self.plan.circuit.replace_reset(latch, value);
+        Ok(renew_from(
+            &mut self.grid,
+            &self.plan,
+            &self.net,
+            &mut self.buckets,
+            0,
+            &[],
+        ))
+    }
+
+    /// Appends a frame. Refused are a row that has not a value for each input, and then the 65,537th frame or more than
+    /// 67,108,864 cells. It takes memory (profile).
+    pub fn add_frame(&mut self, row: &[Tern]) -> Result<EditReport, EditFault>
+        ensures edits { Edits self.old.pair (add_frame row.now) result self.new.pair }
+        ensures works { Works self.old (add_frame row.now) result self.new }
+    {
+        let frames = self.plan.stimulus.frames();
+        if row.len() != self.plan.stimulus.width() as usize {
+            return Err(EditFault::Length);
+        }
+        if frames >= FRAMES || cells(&self.plan.circuit, frames + 1) > CELLS {
+            return Err(EditFault::Limit);
+        }
+        self.grid.add_row()?;
+        match self.plan.stimulus.push(row) {
+            Ok(()) => {
+                let report = fill(
+                    &mut self.grid,
+                    &self.plan,
+                    &self.net,
+                    &mut self.buckets,
+                    frames,
+                );
+                Ok(EditReport {
+                    changed: 0,
+                    ..report
+                })
+            }
+            Err(_) => {
+                self.grid.drop_row();
+                Err(EditFault::Memory)
+            }
+        }
+    }
+
+    /// Takes the last frame off. Refused where there is none. It takes no memory (profile).
+    pub fn drop_frame(&mut self) -> Result<EditReport, EditFault>
+        ensures edits { Edits self.old.pair drop_frame result self.new.pair }
+        ensures works { Works self.old drop_frame result self.new }
+    {
+        if self.plan.stimulus.frames() == 0 {
+            return Err(EditFault::Empty);
+        }
+        self.grid.drop_row();
+        self.plan.stimulus.pop();
+        Ok(NOTHING)
     }
 
     /// Writes the trace: a line a frame, with the characters of state, inputs, outputs and next state (profile).
     pub fn write_trace<W: Write>(&self, out: &mut W) -> Result<(), Io>
-        ensures { (text : List ℕ) × HasTrace self.now text × Writes W.written W.failures out.old out.new text result }
+        ensures { (text : List ℕ) × HasTrace self.now.pair text × Writes W.written W.failures out.old out.new text result }
     {
         write_frames(out, &self.grid, &self.plan)
     }

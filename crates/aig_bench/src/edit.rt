@@ -1,7 +1,8 @@
 //! What an edit answers.
+use aig_base::Memory as NoMemory;
 use thiserror::Error;
 
-/// How many gates' cells an accepted edit evaluated, and how many of them changed. Both are 0 for now.
+/// How many gates' cells an accepted edit evaluated, and how many of them changed.
 #[derive(Clone, Copy, PartialEq, Eq, Debug)]
 pub struct EditReport {
     pub evaluated: u64,
@@ -44,4 +45,15 @@ pub enum EditFault {
     /// 11: no memory was found.
     #[error("memory")]
     Memory,
+}
+
+impl From<NoMemory> for EditFault {
+    ghost use Rattle.std.specs.Prelude.{◌≡◌};
+    ghost use Rattle.aig_bench.specs.declared.edit.EditFault.TheVariants as faults;
+
+    ghost from_gives = { λ _ fault. fault ≡ faults.Memory };
+
+    fn from(_error: NoMemory) -> EditFault {
+        EditFault::Memory
+    }
 }

@@ -1,17 +1,24 @@
 //! The workbench: a simulation that stays current while circuit and stimulus change.
 #![tactic(auto)]
 
+mod allowed;
 mod bench;
 mod bench_fault;
+mod buckets;
 mod edit;
+mod fill;
+mod laws;
 mod layout;
 mod plan;
-mod renew;
+mod propagate;
+mod settle;
 mod trace;
+mod value;
 
 pub use bench::Bench;
 pub use bench_fault::BenchFault;
 pub use edit::{EditFault, EditReport};
+pub use laws::law_of_counts;
 
 #[cfg(test)]
 mod tests;

@@ -1,11 +1,10 @@
 //! What a bench simulates.
-use aig_base::{Circuit, Gate};
+use aig_base::Circuit;
 use aig_sim::Stimulus;
 
-/// A circuit, its gates packed in the canonical order, and a stimulus.
+/// A circuit and a stimulus.
 #[derive(Drop, Debug)]
 pub struct Plan {
     pub circuit: Circuit,
-    pub gates: Vec<Gate>,
     pub stimulus: Stimulus,
 }

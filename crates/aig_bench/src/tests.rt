@@ -1,5 +1,5 @@
 // What proofs do not see: values from outside, and that calls can succeed.
-use crate::{Bench, EditFault};
+use crate::{Bench, EditFault, EditReport};
 use aig_base::{Circuit, Gate, Latch, List, Lit, Raw, Symbols, Tern};
 use aig_sim::{ByteGrid, read_stimulus};
 use std::alloc::Global;
@@ -111,5 +111,68 @@ fn bits_reach_later_frames(rt: HostRuntime) -> Result<(), Fail> {
     assert!(rt; bench.set_bit(0, 0, Tern::X).is_ok());
     assert_eq!(rt; bench.value(1, Lit::new(4)), Ok(Tern::X));
     assert_eq!(rt; bench.value(2, Lit::new(6)), Err(EditFault::Undefined));
+    Ok(())
+}
+
+#[test]
+fn gates_are_rewired(rt: HostRuntime) -> Result<(), Fail> {
+    let mut bench = bench(rt.alloc(), two_gates(rt.alloc())?, 2, b"11\n")?;
+    for (lhs, r0, r1, answer, value) in [
+        (2, 0, 0, Err(EditFault::NotAGate), Tern::One),
+        (9, 2, 2, Err(EditFault::NotAGate), Tern::One),
+        (6, 10, 2, Err(EditFault::Range), Tern::One),
+        (6, 8, 2, Err(EditFault::Cycle), Tern::One),
+        (8, 2, 5, Ok(()), Tern::Zero),
+        (6, 8, 2, Ok(()), Tern::Zero),
+        (8, 2, 4, Ok(()), Tern::One),
+    ] {
+        let reply = bench.rewire(Lit::new(lhs), Lit::new(r0), Lit::new(r1));
+        assert_eq!(rt; reply.map(|_| ()), answer);
+        assert_eq!(rt; bench.value(0, Lit::new(8)), Ok(value), "{lhs}");
+    }
+    Ok(())
+}
+
+#[test]
+fn frames_come_and_go(rt: HostRuntime) -> Result<(), Fail> {
+    // A latch that is uninitialised and holds its input.
+    let raw = with_latch(parts(rt.alloc(), 3, &[2], &[4])?, 4, 2, 4)?;
+    let mut bench = bench(rt.alloc(), raw, 1, b"")?;
+    assert_eq!(rt; bench.drop_frame(), Err(EditFault::Empty));
+    assert_eq!(rt;
+        bench.add_frame(&[Tern::One, Tern::One]),
+        Err(EditFault::Length)
+    );
+    assert!(rt; bench.add_frame(&[Tern::One]).is_ok());
+    assert!(rt; bench.add_frame(&[Tern::Zero]).is_ok());
+    assert_eq!(rt; bench.value(0, Lit::new(4)), Ok(Tern::X));
+    assert_eq!(rt; bench.value(1, Lit::new(4)), Ok(Tern::One));
+    assert_eq!(rt;
+        bench.set_reset(Lit::new(2), Tern::One),
+        Err(EditFault::NotALatch)
+    );
+    assert!(rt; bench.set_reset(Lit::new(4), Tern::Zero).is_ok());
+    assert_eq!(rt; bench.value(0, Lit::new(4)), Ok(Tern::Zero));
+    assert!(rt; bench.drop_frame().is_ok());
+    assert_eq!(rt; bench.frames(), 1);
+    Ok(())
+}
+
+#[test]
+fn reports_count_cells(rt: HostRuntime) -> Result<(), Fail> {
+    let mut bench = bench(rt.alloc(), two_gates(rt.alloc())?, 2, b"11\n01\n")?;
+    let reports = [
+        bench.set_bit(0, 1, Tern::Zero),
+        bench.rewire(Lit::new(6), Lit::new(2), Lit::new(2)),
+        bench.set_bit(0, 1, Tern::Zero),
+        bench.add_frame(&[Tern::Zero, Tern::One]),
+        bench.drop_frame(),
+    ];
+    for (report, (evaluated, changed)) in reports
+        .iter()
+        .zip([(2, 2), (3, 2), (0, 0), (2, 0), (0, 0)])
+    {
+        assert_eq!(rt; *report, Ok(EditReport { evaluated, changed }));
+    }
     Ok(())
 }

@@ -1,15 +1,27 @@
-use Rattle.std.proofs.Common.{flat_map}
+use Rattle.std.proofs.Common.{ℕ, List}
+use Rattle.aig_base.specs.declared.ternary.Tern.{Tern}
+use Rattle.aig_base.specs.Value.{start_of}
+use Rattle.aig_sim.specs.Frame.{HoldsAll}
+use Rattle.aig_sim.specs.TraceText.{trace_text}
+use Rattle.aig_sim.proofs.TraceLemmas.{trace_is}
+use Rattle.aig_bench.specs.Current.{IsCurrentRow}
+use Rattle.aig_bench.specs.Pair.{Pair}
 use Rattle.aig_bench.specs.Plan.{pair_of}
-use Rattle.aig_bench.specs.TraceText.{line_text}
-use Rattle.aig_bench.proofs.Traces.{trace_is}
 use Rattle.aig_bench.proofs.trace.write_frames.Goals as goal
+
+-- a row that is current holds all values
+holds_all : (p : Pair) (t : ℕ) (row : List Tern) → IsCurrentRow p t row
+    → HoldsAll p.circuit (start_of p.circuit) p.rows t row
+holds_all p t row h v d = let k = h v d in record { cell = k.cell; cell_is = k.cell_is; value_is = k.value_is }
 
 pub returns : goal.returns
 returns g c =
     let plan = c.args.plan.now in
-    let cells = g.G.Grid.cells c.args.grid.now in (
-      flat_map (line_text plan.circuit) cells,
-      trace_is (pair_of plan) cells c.requires.plan_is.circuit.sound c.requires.laid_out.rows_are.frames_are
-          c.requires.current,
-      c.write_lines.ensures,
+    let p = pair_of plan in
+    let cells = g.G.Grid.cells c.args.grid.now in
+    let h = c.requires in (
+      trace_text plan.circuit cells,
+      trace_is plan.circuit (start_of plan.circuit) plan.stimulus.rows cells h.plan_is.circuit.sound
+          h.laid_out.rows_are.frames_are (λ t lt. holds_all p t _ (h.current.each t lt)),
+      c.write_trace.ensures,
     )

@@ -1,0 +1,191 @@
+-- Latches are put one by one, and then a pass starts.
+use Rattle.std.proofs.Common.{◌≡◌, ◌≢◌, ◌⊎◌, ◌↔◌, inl, inr, ℕ, ◌+◌, ◌*◌, ◌<◌, ◌≤◌, Bool, List, [], ◌∷◌, length, Some, slice_get, slice_set, Contains, sym, ap, ◌∙◌, subst, arith}
+use Rattle.std.proofs.lemmas.Bool.{cases_eq}
+use Rattle.std.proofs.lemmas.Option.{same_Some, slice_get_within}
+use Rattle.aig_base.specs.declared.ternary.Tern.{Tern}
+use Rattle.aig_base.specs.declared.latch.Latch.{Latch}
+use Rattle.aig_base.specs.Grounded as by
+use Rattle.aig_base.specs.Grounded.{IsSource}
+use Rattle.aig_base.specs.Literal.{variable}
+use Rattle.aig_base.specs.Marks.{IsMarked}
+use Rattle.aig_base.specs.Readers.{Reads}
+use Rattle.aig_base.specs.Sound.{IsSound}
+use Rattle.aig_base.specs.Sections.{IsGate}
+use Rattle.aig_base.proofs.Circuits.{gate_definition, gate_in_range}
+use Rattle.aig_base.proofs.Gates.{gate_of, level_of_gate}
+use Rattle.aig_sim.specs.InputRows.{row_at}
+use Rattle.aig_bench.specs.declared.buckets.Buckets.{Buckets}
+use Rattle.aig_bench.specs.declared.plan.Plan.{Plan}
+use Rattle.aig_bench.specs.declared.settle.Net.{Net}
+use Rattle.aig_bench.specs.Buckets.{AreBuckets, Waits, Fits, Links}
+use Rattle.aig_bench.specs.Renewed.{Renewed}
+use Rattle.aig_bench.specs.Pair.{Pair, HasValue}
+use Rattle.aig_bench.specs.Current.{Holds, IsCurrentRow, IsCurrentBefore}
+use Rattle.aig_bench.specs.Entry.{Entering, Puts, Carries, Fills, Rests}
+use Rattle.aig_bench.specs.Sweep.{Starts, IsWork}
+use Rattle.aig_bench.proofs.Chained.{head_in, behind_in}
+use Rattle.aig_bench.proofs.Entries.{no_element, entering_none, entering_more, entered}
+use Rattle.aig_bench.proofs.Values.{constant_holds}
+
+module _ (p : Pair) (t : ℕ) (sound : IsSound p.circuit) where
+  pub puts : (v : ℕ) (w : Tern) (row row' : List Tern) (marks marks' : List Bool) → IsSource p.circuit v → v < length row
+      → row' ≡ slice_set row v w → HasValue p t (2 * v) w
+      → ((u : ℕ) → IsMarked marks' u ↔ (IsMarked marks u ⊎ (Reads p.circuit u v × (slice_get row v ≢ Some w))))
+      → Puts p t v row marks row' marks'
+  puts v w row row' marks marks' source wide is value moved = record {
+    enter = λ forced old put h. rw is (entering_more p t (Contains forced) old sound row marks marks' put v w h source wide value moved);
+  }
+
+  pub carries_none : (row : List Tern) (marks : List Bool) → Carries p t 0 row marks row marks
+  carries_none row marks = record {
+    carry = λ forced old put h. record {
+      now_put = put;
+      entering = h;
+      kept = λ v i. i;
+      latches = λ i x lt at. absurd (omega arith);
+    };
+  }
+
+  pub carries_more : (n : ℕ) (x : Latch) (row mid new : List Tern) (marks marks' marks'' : List Bool)
+      → slice_get p.circuit.latches n ≡ Some x → Carries p t n row marks mid marks'
+      → Puts p t (variable x.lit) mid marks' new marks'' → Carries p t (n + 1) row marks new marks''
+  carries_more n x row mid new marks marks' marks'' at h k = record {
+    carry = λ forced old put e.
+        let c = h.carry forced old put e in
+        record {
+          now_put = variable x.lit ∷ c.now_put;
+          entering = k.enter forced old c.now_put c.entering;
+          kept = λ v i. behind_in (variable x.lit) c.now_put v (c.kept v i);
+          latches = λ i y lt is. elim (cases_eq i n) [
+            | inl e ↦
+                let same : y ≡ x = same_Some y x (sym is ∙ ap (slice_get p.circuit.latches) e ∙ at) in
+                subst (λ (z : Latch). Contains (variable x.lit ∷ c.now_put) (variable z.lit)) (sym same)
+                (head_in (variable x.lit) c.now_put)
+            | inr ne ↦ behind_in (variable x.lit) c.now_put (variable y.lit) (c.latches i y (omega arith) is)
+          ];
+        };
+  }
+
+  -- all latches were put: a pass starts
+  pub started : (forced : List ℕ) (old row new : List Tern) (marks marks' : List Bool) (put : List ℕ) (n : ℕ)
+      → length p.circuit.latches ≤ n → Carries p t n row marks new marks' → Entering p t (Contains forced) old row marks put
+      → Rests p t old put → Starts p t (Contains forced) old new marks'
+  started forced old row new marks marks' put n all h e rest =
+      let c = h.carry forced old put e in
+      entered p t (Contains forced) old sound new marks' c.now_put c.entering (λ v s out. of v s c.now_put (c.kept v) c.latches out)
+    where
+      of : (v : ℕ) → IsSource p.circuit v → (xs : List ℕ) → (Contains put v → Contains xs v)
+          → ((i : ℕ) (x : Latch) → i < n → slice_get p.circuit.latches i ≡ Some x → Contains xs (variable x.lit))
+          → (Contains xs v → ⊥) → Holds p t old v
+      of v by.IsSource.constant xs kept latches out = constant_holds p t old rest.constant
+      of v (by.IsSource.input i l at) xs kept latches out = rest.inputs i l at (λ k. out (kept k))
+      of v (by.IsSource.latch i x at) xs kept latches out =
+          absurd (out (latches i x (let lt = slice_get_within p.circuit.latches i x at in omega arith) at))
+
+-- the rows before a frame stay where that frame alone changes
+pub before_kept : (p : Pair) (t : ℕ) (cells cells' : List (List Tern)) → IsCurrentBefore p t cells
+    → ((u : ℕ) → u ≢ t → row_at cells' u ≡ row_at cells u) → IsCurrentBefore p t cells'
+before_kept p t cells cells' h others u e =
+    let ne : u ≢ t = λ k. omega arith in subst (IsCurrentRow p u) (sym (others u ne)) (h u e)
+
+-- behind renewed frames the row before is current
+pub before_here : (p : Pair) (forced : List ℕ) (first t e c : ℕ) (old new : List (List Tern))
+    → Renewed p forced first t old new e c → first ≤ t → IsCurrentBefore p first old → IsCurrentBefore p t new
+before_here p forced first t e c old new h le before u is = elim (cases_eq t first) [
+  | inl k ↦ subst (IsCurrentRow p u) (sym (h.others u (inl (omega arith)))) (before u (sym k ∙ is))
+  | inr ne ↦ h.current u (omega arith, omega arith)
+]
+
+-- the gates that are evaluated in any case wait, and nothing else
+pub entering_forced : (p : Pair) (t : ℕ) (forced : List ℕ) (row : List Tern) (sound : IsSound p.circuit) (b b' : Buckets)
+    → ((v : ℕ) → Waits b v → ⊥) → Links (Contains forced) b b' → Entering p t (Contains forced) row row b'.marks.items []
+entering_forced p t forced row sound b b' empty links =
+    entering_none p t (Contains forced) row sound b'.marks.items (λ u. (
+      λ m. elim ((links.waits u).0 m) [ inl o ↦ absurd (empty u o) | inr k ↦ k ],
+      λ k. (links.waits u).1 (inr k),
+    ))
+
+module _ (plan : Plan) (net : Net) (flags : List Bool) (cells : List (List Tern)) (b : Buckets) (work : IsWork plan net flags cells b) where
+  -- a gate can wait
+  pub gate_fits : (v : ℕ) → IsGate plan.circuit v → Fits net.levels (length b.head.items) v
+  gate_fits v h =
+      let (g, q, at, is) = gate_of plan.circuit v h in
+      let d = gate_definition plan.circuit work.plan_is.circuit.sound q g at in
+      let k = gate_in_range plan.circuit work.plan_is.circuit.sound q g at in
+      record {
+        positive = omega arith;
+        inside = omega (arith, work.levels.size);
+        level = λ m stands. work.heads v m h
+            (level_of_gate plan.circuit net.levels v m work.levels work.plan_is.circuit.acyclic h stands);
+      }
+
+  pub gates_linked : (xs : List ℕ) → ((v : ℕ) → Contains xs v → IsGate plan.circuit v) → (b' : Buckets)
+      → AreBuckets net.levels b' → Links (Contains xs) b b' → IsWork plan net flags cells b'
+  gates_linked xs are_gates b' are links = record {
+    plan_is = work.plan_is;
+    laid_out = work.laid_out;
+    levels = work.levels;
+    readers = work.readers;
+    buckets = are;
+    size = omega (arith, work.size, links.heads);
+    heads = λ u n k h. let below = work.heads u n k h in omega (arith, links.heads);
+    gates = λ u k. elim ((links.waits u).0 k) [ inl o ↦ work.gates u o | inr i ↦ are_gates u i ];
+  }
+
+-- fewer latches
+pub carries_fewer : (p : Pair) (t m n : ℕ) (row new : List Tern) (marks marks' : List Bool) → n ≤ m
+    → Carries p t m row marks new marks' → Carries p t n row marks new marks'
+carries_fewer p t m n row new marks marks' le h = record {
+  carry = λ forced old put e.
+      let c = h.carry forced old put e in
+      record {
+        now_put = c.now_put;
+        entering = c.entering;
+        kept = c.kept;
+        latches = λ i x lt at. c.latches i x (omega arith) at;
+      };
+}
+
+-- inputs
+module _ (p : Pair) (t : ℕ) where
+  pub fills_none : (row : List Tern) (marks : List Bool) → Fills p t 0 row marks row marks
+  fills_none row marks = record {
+    fill = λ forced old put h. record { now_put = put; entering = h; inputs = λ i l lt at. absurd (omega arith) };
+  }
+
+  pub fills_more : (n l : ℕ) (row mid new : List Tern) (marks marks' marks'' : List Bool)
+      → slice_get p.circuit.inputs n ≡ Some l → Fills p t n row marks mid marks'
+      → Puts p t (variable l) mid marks' new marks'' → Fills p t (n + 1) row marks new marks''
+  fills_more n l row mid new marks marks' marks'' at h k = record {
+    fill = λ forced old put e.
+        let c = h.fill forced old put e in
+        record {
+          now_put = variable l ∷ c.now_put;
+          entering = k.enter forced old c.now_put c.entering;
+          inputs = λ i m lt is. elim (cases_eq i n) [
+            | inl e ↦
+                let same : m ≡ l = same_Some m l (sym is ∙ ap (slice_get p.circuit.inputs) e ∙ at) in
+                subst (λ (z : ℕ). Contains (variable l ∷ c.now_put) (variable z)) (sym same)
+                (head_in (variable l) c.now_put)
+            | inr ne ↦ behind_in (variable l) c.now_put (variable m) (c.inputs i m (omega arith) is)
+          ];
+        };
+  }
+
+  pub fills_fewer : (m n : ℕ) (row new : List Tern) (marks marks' : List Bool) → n ≤ m
+      → Fills p t m row marks new marks' → Fills p t n row marks new marks'
+  fills_fewer m n row new marks marks' le h = record {
+    fill = λ forced old put e.
+        let c = h.fill forced old put e in
+        record { now_put = c.now_put; entering = c.entering; inputs = λ i l lt at. c.inputs i l (omega arith) at };
+  }
+
+-- nothing waits, and one source is put
+pub entering_put : (p : Pair) (t v : ℕ) (sound : IsSound p.circuit) (b : Buckets) (old row' : List Tern) (marks' : List Bool)
+    → ((u : ℕ) → Waits b u → ⊥) → Puts p t v old b.marks.items row' marks'
+    → Entering p t (Contains []) old row' marks' (v ∷ [])
+entering_put p t v sound b old row' marks' empty puts =
+    puts.enter [] old [] (entering_none p t (Contains []) old sound b.marks.items (λ u. (
+      λ m. absurd (empty u m),
+      λ i. absurd (no_element u i),
+    )))

@@ -1,0 +1,610 @@
+-- From the cells of a bench before an edit to those after it.
+use Rattle.std.proofs.Common.{◌≡◌, ◌≢◌, ◌⊎◌, ◌↔◌, inl, inr, ℕ, zero, suc, ◌+◌, ◌-◌, ◌*◌, ◌<◌, ◌≤◌, Bool, true, false, nat_eq, get_or, List, [], ◌∷◌, ◌++◌, map, length, take, Some, slice_get, Contains, refl, sym, ap, ◌∙◌, subst, arith, length-append, length-take}
+use Rattle.std.proofs.lemmas.Bool.{eqb-true}
+use Rattle.std.proofs.lemmas.Option.{same_Some, slice_get-get_or, slice_get_within}
+use Rattle.aig_base.specs.declared.ternary.Tern.{Tern}
+use Rattle.aig_base.specs.declared.ternary.Tern.TheVariants.{Zero}
+use Rattle.aig_base.specs.declared.gate.Gate.{Gate}
+use Rattle.aig_base.specs.declared.raw.Raw.{Raw}
+use Rattle.aig_base.specs.declared.latch.Latch.{Latch}
+use Rattle.aig_base.specs.Changes.{rewired, with_gate, restarted, with_reset}
+use Rattle.aig_base.specs.Levels.{AreLevels}
+use Rattle.aig_base.specs.Literal.{variable}
+use Rattle.aig_base.specs.Readers.{AreReaders}
+use Rattle.aig_base.specs.Sections.{definitions, IsDefined, IsGate, IsLeftSide}
+use Rattle.aig_base.specs.Sound.{IsSound}
+use Rattle.aig_base.specs.Value.{start_of}
+use Rattle.aig_base.proofs.Circuits.{gate_is, gate_defined, rhs0_defined, rhs1_defined, input_defined}
+use Rattle.aig_base.proofs.Gates.{gate_of}
+use Rattle.aig_base.proofs.Positions.{Contains-cons}
+use Rattle.aig_base.proofs.UniqueValue.{unique}
+use Rattle.aig_sim.specs.InputRows.{InputRows, row_at, with_cell}
+use Rattle.aig_sim.specs.StimulusText.{HaveWidth}
+use Rattle.aig_bench.specs.declared.buckets.Buckets.{Buckets}
+use Rattle.aig_bench.specs.declared.plan.Plan.{Plan}
+use Rattle.aig_bench.specs.declared.settle.Net.{Net}
+use Rattle.aig_bench.specs.Buckets.{AreBuckets, IsChain, HasChain, Waits}
+use Rattle.aig_bench.specs.Current.{IsLaidOut, Holds, IsCurrentRow, IsCurrentBefore, AreCurrent, IsBench}
+use Rattle.aig_bench.specs.Edit.{Edit, edited, set_bit, rewire, set_reset, add_frame, drop_frame}
+use Rattle.aig_bench.specs.Entry.{Rests}
+use Rattle.aig_bench.specs.Pair.{Pair, HasValue}
+use Rattle.aig_bench.specs.Passing.{Differs, IsConsistent}
+use Rattle.aig_bench.specs.Plan.{IsPlan, pair_of}
+use Rattle.aig_bench.specs.Renewed.{IsBetween, IsTouchedCell, IsChangedCell, Renewed}
+use Rattle.aig_bench.specs.Sweep.{IsWork, IsWorking, Ends}
+use Rattle.aig_bench.specs.Touched.{HasOther, IsForced, Touches, Changes, AreCells}
+use Rattle.aig_bench.proofs.Cells.{get_set_other, row_written, row_other, frames_written}
+use Rattle.aig_bench.proofs.Changed.{current_below, slice_get_take, slice_get_append}
+use Rattle.aig_bench.proofs.Chained.{head_in}
+use Rattle.aig_bench.proofs.Earlier.{value_before}
+use Rattle.aig_bench.proofs.Height.{level_bound}
+use Rattle.aig_bench.proofs.Others.{differs_other, other_differs, consistent}
+use Rattle.aig_bench.proofs.Renewed.{cells_same, cells_none, renewed_one}
+use Rattle.aig_bench.proofs.Rewired.{left_side_gate, defined_was, gate_was, gate_kept}
+use Rattle.aig_bench.proofs.Values.{input_value}
+
+-- empty buckets are buckets for any levels
+empty_chain : (levels levels' head next : List ℕ) (marks : List Bool) (l : ℕ) → HasChain levels head next marks l
+    → ((v : ℕ) → slice_get marks v ≡ Some true → ⊥) → HasChain levels' head next marks l
+empty_chain levels levels' head next marks l h empty = of h.chain h.leads h.each
+  where
+    of : (chain : List ℕ) → IsChain next (get_or head l 0) chain → ((v : ℕ) → Contains chain v ↔ ((slice_get marks v ≡ Some true) × (slice_get levels v ≡ Some l)))
+        → HasChain levels' head next marks l
+    of [] leads each = record {
+      chain = [];
+      leads = leads;
+      each = λ v. (λ i. absurd (omega (arith, i.1)), λ m. absurd (empty v m.0));
+    }
+    of (x ∷ xs) leads each = absurd (empty x ((each x).0 (head_in x xs)).0)
+
+pub buckets_empty : (levels levels' : List ℕ) (b : Buckets) → AreBuckets levels b → length levels' ≡ length levels
+    → ((v : ℕ) → Waits b v → ⊥) → AreBuckets levels' b
+buckets_empty levels levels' b h size empty = record {
+  marks_size = h.marks_size ∙ sym size;
+  next_size = h.next_size ∙ sym size;
+  chains = λ l lt. empty_chain levels levels' b.head.items b.next.items b.marks.items l (h.chains l lt) empty;
+  placed = λ v m. absurd (empty v m);
+}
+
+-- empty buckets serve another plan of the same size
+pub work_for : (plan new : Plan) (net net' : Net) (flags flags' : List Bool) (cells cells' : List (List Tern)) (b : Buckets)
+    → IsWork plan net flags cells b → ((v : ℕ) → Waits b v → ⊥) → new.circuit.max_var ≡ plan.circuit.max_var → IsPlan new
+    → IsLaidOut new flags' cells' → AreLevels new.circuit net'.levels → AreReaders new.circuit net'.readers
+    → IsWork new net' flags' cells' b
+work_for plan new net net' flags flags' cells cells' b w empty size p laid_out levels readers = record {
+  plan_is = p;
+  laid_out = laid_out;
+  levels = levels;
+  readers = readers;
+  buckets = buckets_empty net.levels net'.levels b w.buckets (omega (arith, levels.size, w.levels.size)) empty;
+  size = omega (arith, w.size);
+  heads = λ v n g l. let le = level_bound new.circuit p.circuit.sound l in omega (arith, w.size);
+  gates = λ v k. absurd (empty v k);
+}
+
+-- what an edit leaves of a pair: the same gates but for those that are evaluated in any case, and the same inputs
+pub record Follows (p p' : Pair) (forced : List ℕ) : Type 0 where
+  pub frames : length p'.rows ≡ length p.rows
+  pub inputs : p'.circuit.inputs ≡ p.circuit.inputs
+  pub gates : (q : ℕ) (g : Gate) → slice_get p'.circuit.gates q ≡ Some g
+      → Contains forced (variable g.lhs) ⊎ (slice_get p.circuit.gates q ≡ Some g)
+  pub defined : (v : ℕ) → IsDefined p'.circuit v → IsDefined p.circuit v
+  pub gate_was : (v : ℕ) → IsGate p'.circuit v → IsGate p.circuit v
+  pub gate_now : (v : ℕ) → IsGate p.circuit v → IsGate p'.circuit v
+
+module _ (p p' : Pair) (forced : List ℕ) (h : Follows p p' forced) (sound : IsSound p.circuit) (sound' : IsSound p'.circuit)
+    (widths : HaveWidth (length p.circuit.inputs) p.rows) where
+  -- an input whose bit is the same has the same value
+  pub input_stays : (t i l : ℕ) (row : List Tern) → t < length p.rows → slice_get p'.circuit.inputs i ≡ Some l
+      → slice_get (row_at p'.rows t) i ≡ slice_get (row_at p.rows t) i → Holds p t row (variable l) → Holds p' t row (variable l)
+  input_stays t i l row lt at same k =
+      let was : slice_get p.circuit.inputs i ≡ Some l = ap (λ (ls : List ℕ). slice_get ls i) (sym h.inputs) ∙ at in
+      let wide : length (row_at p.rows t) ≡ length p.circuit.inputs = widths t [] lt in
+      let w = get_or (row_at p.rows t) i k.cell in
+      let bit : slice_get (row_at p.rows t) i ≡ Some w =
+      slice_get-get_or (row_at p.rows t) i k.cell (omega (arith, slice_get_within p.circuit.inputs i l was)) in
+      let e : k.cell ≡ w = unique p.circuit (start_of p.circuit) p.rows sound k.value_is (input_value p t i l w sound lt was bit) in
+      record {
+        cell = k.cell;
+        cell_is = k.cell_is;
+        value_is = subst (λ (x : Tern). HasValue p' t (2 * variable l) x) (sym e)
+            (input_value p' t i l w sound' (omega (arith, h.frames)) at (same ∙ bit));
+      }
+
+  module _ (cells : List (List Tern)) (now : AreCurrent p (length p.rows) cells) where
+    pub rests : (t : ℕ) (put : List ℕ) → t < length p.rows → slice_get (row_at cells t) 0 ≡ Some Zero
+        → ((i l : ℕ) → slice_get p'.circuit.inputs i ≡ Some l → (Contains put (variable l) → ⊥)
+        → slice_get (row_at p'.rows t) i ≡ slice_get (row_at p.rows t) i)
+        → Rests p' t (row_at cells t) put
+    rests t put lt z same = record {
+      constant = z;
+      inputs = λ i l at out.
+          let was : slice_get p.circuit.inputs i ≡ Some l = ap (λ (ls : List ℕ). slice_get ls i) (sym h.inputs) ∙ at in
+          input_stays t i l (row_at cells t) lt at (same i l at out)
+          (now.each t lt (variable l) (input_defined p.circuit i l was));
+    }
+
+    pub consistent_at : (t : ℕ) → t < length p.rows → IsConsistent p' (Contains forced) (row_at cells t)
+    consistent_at t lt = consistent p p' t (row_at cells t) sound (Contains forced) (now.each t lt) h.gates
+
+    -- what was touched and changed, by the values
+    module _ (e : Edit) (is : p' ≡ edited p e) (first n : ℕ) (all : n ≡ length p.rows)
+        (forces : (t v : ℕ) → IsForced p e t v ↔ (IsBetween first n t × Contains forced v))
+        (gates : (v : ℕ) → Contains forced v → IsGate p'.circuit v)
+        (before : (t v : ℕ) → t < first → HasOther p p' t v → ⊥) where
+      there : (t : ℕ) → IsBetween first n t → (t < length p.rows) × (t < length p'.rows)
+      there t k = (omega arith, omega (arith, h.frames))
+
+      holds : (t v : ℕ) → IsBetween first n t → IsDefined p'.circuit v → Holds p t (row_at cells t) v
+      holds t v k d = now.each t (there t k).0 v (h.defined v d)
+
+      from_first : (t v : ℕ) → t < length p.rows → HasOther p p' t v → IsBetween first n t
+      from_first t v lt o = elim (or t) [ inl k ↦ absurd (before t v k o) | inr k ↦ (k, omega arith) ]
+        where
+          or : (t : ℕ) → (t < first) ⊎ (first ≤ t)
+          or t = grind arith
+
+      touches : (t v : ℕ) → Touches p e t v ↔ (IsBetween first n t × IsTouchedCell p' forced cells t v)
+      touches t v = rw (← is) (
+        λ k. elim k [
+          | inl f ↦
+              let (b, i) = (forces t v).0 f in
+              let (g, q, at, same) = gate_of p'.circuit v (gates v i) in
+              (b, (q, g, at, same, inl (subst (Contains forced) (sym same) i)))
+          | inr r ↦ to r.0 r.1
+        ],
+        λ k. back k.0 k.1,
+      )
+        where
+          to : (t < length p.rows) × (t < length p'.rows)
+              → (q : ℕ) × (g : Gate) × (slice_get p'.circuit.gates q ≡ Some g) × (variable g.lhs ≡ v)
+              × (HasOther p p' t (variable g.rhs0) ⊎ HasOther p p' t (variable g.rhs1))
+              → IsBetween first n t × IsTouchedCell p' forced cells t v
+          to lt (q, g, at, same, inl o) =
+              let b = from_first t (variable g.rhs0) lt.0 o in (
+                b,
+                (
+                  q,
+                  g,
+                  at,
+                  same,
+                  inr (
+                    variable g.rhs0,
+                    inl refl,
+                    other_differs p p' t (row_at cells t) sound (variable g.rhs0)
+                        (holds t (variable g.rhs0) b (rhs0_defined p'.circuit sound' q g at)) o,
+                  ),
+                ),
+              )
+          to lt (q, g, at, same, inr o) =
+              let b = from_first t (variable g.rhs1) lt.0 o in (
+                b,
+                (
+                  q,
+                  g,
+                  at,
+                  same,
+                  inr (
+                    variable g.rhs1,
+                    inr refl,
+                    other_differs p p' t (row_at cells t) sound (variable g.rhs1)
+                        (holds t (variable g.rhs1) b (rhs1_defined p'.circuit sound' q g at)) o,
+                  ),
+                ),
+              )
+
+          back : IsBetween first n t → IsTouchedCell p' forced cells t v
+              → IsForced p e t v ⊎ (((t < length p.rows) × (t < length p'.rows))
+              × ((q : ℕ) × (g : Gate) × (slice_get p'.circuit.gates q ≡ Some g) × (variable g.lhs ≡ v)
+              × (HasOther p p' t (variable g.rhs0) ⊎ HasOther p p' t (variable g.rhs1))))
+          back b (q, g, at, same, inl i) = inl ((forces t v).1 (b, subst (Contains forced) same i))
+          back b (q, g, at, same, inr (u, inl s, d)) =
+              inr (
+                there t b,
+                (
+                  q,
+                  g,
+                  at,
+                  same,
+                  inl (differs_other p p' t (row_at cells t) sound (variable g.rhs0)
+                      (holds t (variable g.rhs0) b (rhs0_defined p'.circuit sound' q g at))
+                      (subst (Differs p' t (row_at cells t)) (sym s) d)),
+                ),
+              )
+          back b (q, g, at, same, inr (u, inr s, d)) =
+              inr (
+                there t b,
+                (
+                  q,
+                  g,
+                  at,
+                  same,
+                  inr (differs_other p p' t (row_at cells t) sound (variable g.rhs1)
+                      (holds t (variable g.rhs1) b (rhs1_defined p'.circuit sound' q g at))
+                      (subst (Differs p' t (row_at cells t)) (sym s) d)),
+                ),
+              )
+
+      changes : (t v : ℕ) → Changes p e t v ↔ (IsBetween first n t × IsChangedCell p' cells t v)
+      changes t v = rw (← is) (
+        λ k.
+            let b = from_first t v k.1.0 k.2 in
+            let g = h.gate_now v k.0 in
+            let (x, q, at, same) = gate_of p'.circuit v g in (
+              b,
+              (
+                g,
+                other_differs p p' t (row_at cells t) sound v
+                    (holds t v b (subst (IsDefined p'.circuit) same (gate_defined p'.circuit q x at))) k.2,
+              ),
+            ),
+        λ k.
+            let (x, q, at, same) = gate_of p'.circuit v k.1.0 in (
+              h.gate_was v k.1.0,
+              there t k.0,
+              differs_other p p' t (row_at cells t) sound v
+                  (holds t v k.0 (subst (IsDefined p'.circuit) same (gate_defined p'.circuit q x at))) k.1.1,
+            ),
+      )
+
+      pub touched_cells : (new : List (List Tern)) (ev ch : ℕ) → Renewed p' forced first n cells new ev ch
+          → AreCells (Touches p e) ev
+      touched_cells new ev ch r = cells_same _ _ ev r.touched touches
+
+      pub changed_cells : (new : List (List Tern)) (ev ch : ℕ) → Renewed p' forced first n cells new ev ch
+          → AreCells (Changes p e) ch
+      changed_cells new ev ch r = cells_same _ _ ch r.changed_cells changes
+
+-- below a frame up to which the rows agree nothing has another value
+pub no_other : (p : Pair) (rows : List (List Tern)) (m : ℕ) → IsSound p.circuit
+    → ((t : ℕ) → t < m → slice_get rows t ≡ slice_get p.rows t)
+    → (t v : ℕ) → t < m → HasOther p (record p { rows = rows }) t v → ⊥
+no_other p rows m sound same t v lt o =
+    o.other (unique p.circuit (start_of p.circuit) rows sound o.after_is
+    (value_before p.circuit (start_of p.circuit) p.rows rows m same lt o.before_is))
+
+-- the rows before the first renewed one are current
+pub before_first : (p : Pair) (m : ℕ) (cells : List (List Tern)) → AreCurrent p m cells → IsCurrentBefore p m cells
+before_first p m cells h u e = h.each u (omega arith)
+
+-- all rows are current
+pub all_current : (p : Pair) (forced : List ℕ) (first n e c : ℕ) (old new : List (List Tern)) → AreCurrent p first old
+    → Renewed p forced first n old new e c → AreCurrent p n new
+all_current p forced first n e c old new h r = record {
+  each = λ t lt. elim (or t) [
+    | inl k ↦ subst (IsCurrentRow p t) (sym (r.others t (inl k))) (h.each t k)
+    | inr k ↦ r.current t (k, lt)
+  ];
+}
+  where
+    or : (t : ℕ) → (t < first) ⊎ (first ≤ t)
+    or t = grind arith
+
+pub none_current : (p : Pair) (cells : List (List Tern)) → AreCurrent p 0 cells
+none_current p cells = record { each = λ t lt. absurd (omega arith) }
+
+pub working : (plan : Plan) (net : Net) (b : Buckets) (flags : List Bool) (cells : List (List Tern))
+    → IsWork plan net flags cells b → ((v : ℕ) → Waits b v → ⊥) → AreCurrent (pair_of plan) (length plan.stimulus.rows) cells
+    → IsWorking plan net b flags cells
+working plan net b flags cells w empty now = record {
+  bench = record { plan_is = w.plan_is; laid_out = w.laid_out; current = now };
+  work = w;
+  empty = empty;
+}
+
+-- a bit that is replaced
+module _ (plan : Plan) (net : Net) (b : Buckets) (flags : List Bool) (cells : List (List Tern)) (s : InputRows)
+    (f i : ℕ) (w : Tern) (h : IsWorking plan net b flags cells)
+    (e : s ≡ record plan.stimulus { rows = with_cell plan.stimulus.rows f i w })
+    (frame : f < length plan.stimulus.rows) where
+  abbrev p : Pair
+  p = pair_of plan
+
+  abbrev new : Plan
+  new = record plan { stimulus = s }
+
+  abbrev p' : Pair
+  p' = pair_of new
+
+  sound : IsSound plan.circuit
+  sound = h.work.plan_is.circuit.sound
+
+  rows_are : s.rows ≡ with_cell plan.stimulus.rows f i w
+  rows_are = ap (λ (x : InputRows). x.rows) e
+
+  pub bit_frames : length s.rows ≡ length plan.stimulus.rows
+  bit_frames = ap length rows_are ∙ frames_written plan.stimulus.rows f i w
+
+  row_kept : (t : ℕ) → t ≢ f → row_at s.rows t ≡ row_at plan.stimulus.rows t
+  row_kept t ne = ap (λ (rows : List (List Tern)). row_at rows t) rows_are ∙ row_other plan.stimulus.rows f i w t ne
+
+  get_kept : (t : ℕ) → t < f → slice_get s.rows t ≡ slice_get plan.stimulus.rows t
+  get_kept t lt = ap (λ (rows : List (List Tern)). slice_get rows t) rows_are
+      ∙ get_set_other plan.stimulus.rows f t _ (λ k. omega arith)
+
+  bit_kept : (j : ℕ) → j ≢ i → slice_get (row_at s.rows f) j ≡ slice_get (row_at plan.stimulus.rows f) j
+  bit_kept j ne = ap (λ (rows : List (List Tern)). slice_get (row_at rows f) j) rows_are
+      ∙ ap (λ (row : List Tern). slice_get row j) (row_written plan.stimulus.rows f i w frame)
+      ∙ get_set_other (row_at plan.stimulus.rows f) i j w ne
+
+  follows : Follows p p' []
+  follows = record {
+    frames = bit_frames;
+    inputs = refl;
+    gates = λ q g at. inr at;
+    defined = λ v d. d;
+    gate_was = λ v d. d;
+    gate_now = λ v d. d;
+  }
+
+  widths : HaveWidth (length plan.circuit.inputs) plan.stimulus.rows
+  widths = subst (λ (n : ℕ). HaveWidth n plan.stimulus.rows) h.work.plan_is.width h.work.plan_is.widths
+
+  pub bit_before : IsCurrentBefore p' f cells
+  bit_before = before_first p' f cells (current_below p (length plan.stimulus.rows) f s.rows cells cells h.bench.current (omega arith) get_kept
+      (λ t lt. refl))
+
+  pub bit_consistent : (t : ℕ) → f ≤ t → t < length s.rows → IsConsistent p' (Contains []) (row_at cells t)
+  bit_consistent t le lt = consistent_at p p' [] follows sound sound widths cells h.bench.current t (omega (arith, bit_frames))
+
+  pub bit_here : (l : ℕ) → slice_get plan.circuit.inputs i ≡ Some l → Rests p' f (row_at cells f) (variable l ∷ [])
+  bit_here l at = rests p p' [] follows sound sound widths cells h.bench.current f (variable l ∷ []) frame
+      (h.work.laid_out.rows_are.constants f frame)
+      (λ j m stands out. bit_kept j (λ k. out (head_is j m stands k)))
+    where
+      head_is : (j m : ℕ) → slice_get plan.circuit.inputs j ≡ Some m → j ≡ i → Contains (variable l ∷ []) (variable m)
+      head_is j m stands k =
+          let same : m ≡ l = same_Some m l (sym stands ∙ ap (slice_get plan.circuit.inputs) k ∙ at) in
+          subst (λ (n : ℕ). Contains (variable l ∷ []) (variable n)) (sym same) (head_in (variable l) [])
+
+  pub bit_behind : (t : ℕ) → f < t → t < length s.rows → Rests p' t (row_at cells t) []
+  bit_behind t lt inside =
+      rests p p' [] follows sound sound widths cells h.bench.current t [] (omega (arith, bit_frames))
+      (h.work.laid_out.rows_are.constants t (omega (arith, bit_frames)))
+      (λ j m stands out. ap (λ (row : List Tern). slice_get row j) (row_kept t (λ k. omega arith)))
+
+  module _ (ev ch : ℕ) (cells' : List (List Tern)) (r : Renewed p' [] f (length s.rows) cells cells' ev ch) where
+    pub bit_current : AreCurrent p' (length s.rows) cells'
+    bit_current = all_current p' [] f (length s.rows) ev ch cells cells'
+        (current_below p (length plan.stimulus.rows) f s.rows cells cells h.bench.current (omega arith) get_kept (λ t lt. refl)) r
+
+    edit_is : p' ≡ edited p (set_bit f i w)
+    edit_is = ap (λ (rows : List (List Tern)). let x : Pair = record p { rows = rows } in x) rows_are
+
+    bit_forces : (t v : ℕ) → IsForced p (set_bit f i w) t v ↔ (IsBetween f (length s.rows) t × Contains [] v)
+    bit_forces t v = (λ k. absurd k, λ k. absurd (omega (arith, k.1.1)))
+
+    pub bit_touched : AreCells (Touches p (set_bit f i w)) ev
+    bit_touched = touched_cells p p' [] follows sound sound widths cells h.bench.current (set_bit f i w) edit_is f
+        (length s.rows) bit_frames bit_forces (λ v k. absurd (omega (arith, k.1)))
+        (no_other p s.rows f sound get_kept) cells' ev ch r
+
+    pub bit_changed : AreCells (Changes p (set_bit f i w)) ch
+    bit_changed = changed_cells p p' [] follows sound sound widths cells h.bench.current (set_bit f i w) edit_is f
+        (length s.rows) bit_frames bit_forces (λ v k. absurd (omega (arith, k.1)))
+        (no_other p s.rows f sound get_kept) cells' ev ch r
+
+-- another circuit for the same rows
+module _ (plan new : Plan) (net : Net) (b : Buckets) (flags : List Bool) (cells : List (List Tern)) (forced : List ℕ)
+    (h : IsWorking plan net b flags cells) (follows : Follows (pair_of plan) (pair_of new) forced)
+    (sound' : IsSound new.circuit) (rows : new.stimulus.rows ≡ plan.stimulus.rows) where
+  abbrev n : ℕ
+  n = length new.stimulus.rows
+
+  size : n ≡ length plan.stimulus.rows
+  size = ap length rows
+
+  wide : HaveWidth (length plan.circuit.inputs) plan.stimulus.rows
+  wide = subst (λ (k : ℕ). HaveWidth k plan.stimulus.rows) h.work.plan_is.width h.work.plan_is.widths
+
+  pub all_consistent : (t : ℕ) → 0 ≤ t → t < n
+      → IsConsistent (pair_of new) (Contains forced) (row_at cells t) × Rests (pair_of new) t (row_at cells t) []
+  all_consistent t le lt =
+      let inside : t < length plan.stimulus.rows = omega (arith, size) in
+      let sound = h.work.plan_is.circuit.sound in (
+        consistent_at (pair_of plan) (pair_of new) forced follows sound sound' wide cells h.bench.current t inside,
+        rests (pair_of plan) (pair_of new) forced follows sound sound' wide cells h.bench.current t [] inside
+            (h.work.laid_out.rows_are.constants t inside)
+            (λ i l at out. ap (λ (rs : List (List Tern)). slice_get (row_at rs t) i) rows),
+      )
+
+  module _ (e : Edit) (is : pair_of new ≡ edited (pair_of plan) e)
+      (forces : (t v : ℕ) → IsForced (pair_of plan) e t v ↔ ((t < length plan.stimulus.rows) × Contains forced v))
+      (gates : (v : ℕ) → Contains forced v → IsGate new.circuit v) (ev ch : ℕ) (cells' : List (List Tern))
+      (r : Renewed (pair_of new) forced 0 n cells cells' ev ch) where
+    forces_all : (t v : ℕ) → IsForced (pair_of plan) e t v ↔ (IsBetween 0 n t × Contains forced v)
+    forces_all t v = (
+      λ k. let (lt, i) = (forces t v).0 k in ((omega arith, omega (arith, size)), i),
+      λ k. (forces t v).1 (omega (arith, size, k.0.1), k.1),
+    )
+
+    pub all_touched : AreCells (Touches (pair_of plan) e) ev
+    all_touched = touched_cells (pair_of plan) (pair_of new) forced follows h.work.plan_is.circuit.sound sound' wide cells
+        h.bench.current e is 0 n size forces_all gates (λ t v lt. absurd (omega arith)) cells' ev ch r
+
+    pub all_changed : AreCells (Changes (pair_of plan) e) ch
+    all_changed = changed_cells (pair_of plan) (pair_of new) forced follows h.work.plan_is.circuit.sound sound' wide cells
+        h.bench.current e is 0 n size forces_all gates (λ t v lt. absurd (omega arith)) cells' ev ch r
+
+same_lit : (lit : ℕ) (w : Tern) (xs : List Latch) → map (λ x. x.lit) (map (restarted lit w) xs) ≡ map (λ x. x.lit) xs
+same_lit lit w [] = refl
+same_lit lit w (x ∷ xs) = ap (λ ls. x.lit ∷ ls) (same_lit lit w xs)
+
+reset_definitions : (raw : Raw) (lit : ℕ) (w : Tern) → definitions (with_reset raw lit w) ≡ definitions raw
+reset_definitions raw lit w = ap (λ ls. raw.inputs ++ ls ++ map (λ (g : Gate). g.lhs) raw.gates) (same_lit lit w raw.latches)
+
+pub follows_reset : (plan : Plan) (c : Raw) (lit : ℕ) (w : Tern) → c ≡ with_reset plan.circuit lit w
+    → Follows (pair_of plan) (pair_of (record plan { circuit = c })) []
+follows_reset plan c lit w e =
+    subst (λ (x : Raw). Follows (pair_of plan) (pair_of (record plan { circuit = x })) []) (sym e)
+    (record {
+      frames = refl;
+      inputs = refl;
+      gates = λ q g at. inr at;
+      defined = λ v d. subst (λ ls. Contains (0 ∷ map variable ls) v) (reset_definitions plan.circuit lit w) d;
+      gate_was = λ v d. d;
+      gate_now = λ v d. d;
+    })
+
+one_is : (x v : ℕ) → Contains (x ∷ []) v → v ≡ x
+one_is x v k = elim (Contains-cons x [] v k) [ inl e ↦ e | inr i ↦ absurd (omega (arith, i.1)) ]
+
+pub forces_gate : (p : Pair) (lhs r0 r1 x t v : ℕ) → x ≡ variable lhs
+    → IsForced p (rewire lhs r0 r1) t v ↔ ((t < length p.rows) × Contains (x ∷ []) v)
+forces_gate p lhs r0 r1 x t v e = (
+  λ k. (k.0, subst (Contains (x ∷ [])) (e ∙ sym k.1) (head_in x [])),
+  λ k. (k.0, one_is x v k.1 ∙ e),
+)
+
+gate_at : (lhs r0 r1 : ℕ) (gs : List Gate) (q : ℕ) (g : Gate) → slice_get (map (rewired lhs r0 r1) gs) q ≡ Some g
+    → (g.lhs ≡ lhs) ⊎ (slice_get gs q ≡ Some g)
+gate_at lhs r0 r1 [] q g at = inr at
+gate_at lhs r0 r1 (z ∷ gs) zero g at = of (nat_eq z.lhs lhs) refl
+  where
+    of : (b : Bool) → nat_eq z.lhs lhs ≡ b → (g.lhs ≡ lhs) ⊎ (Some z ≡ Some g)
+    of true e = inl (ap (λ (x : Gate). x.lhs) (sym (same_Some _ g at)) ∙ eqb-true z.lhs lhs e)
+    of false e = inr (sym (rw e refl) ∙ at)
+gate_at lhs r0 r1 (z ∷ gs) (suc q) g at = gate_at lhs r0 r1 gs q g at
+
+pub follows_rewire : (plan new : Plan) (lhs r0 r1 x : ℕ) → x ≡ variable lhs
+    → new.circuit ≡ with_gate plan.circuit lhs r0 r1 → new.stimulus ≡ plan.stimulus
+    → Follows (pair_of plan) (pair_of new) (x ∷ [])
+follows_rewire plan new lhs r0 r1 x ex e f =
+    let rows : new.stimulus.rows ≡ plan.stimulus.rows = ap (λ (s : InputRows). s.rows) f in
+    record {
+      frames = ap length rows;
+      inputs = ap (λ (c : Raw). c.inputs) e;
+      gates = λ q g at. elim (gate_at lhs r0 r1 plan.circuit.gates q g (subst (λ (c : Raw). slice_get c.gates q ≡ Some g) e at)) [
+        | inl k ↦ inl (subst (Contains (x ∷ [])) (ex ∙ ap variable (sym k)) (head_in x []))
+        | inr k ↦ inr k
+      ];
+      defined = λ v d. defined_was lhs r0 r1 plan.circuit v (subst (λ (c : Raw). IsDefined c v) e d);
+      gate_was = λ v d. gate_was lhs r0 r1 plan.circuit v (subst (λ (c : Raw). IsGate c v) e d);
+      gate_now = λ v d. subst (λ (c : Raw). IsGate c v) (sym e) (gate_kept lhs r0 r1 plan.circuit v d);
+    }
+
+pub forces_none : (p : Pair) (latch : ℕ) (w : Tern) (t v : ℕ)
+    → IsForced p (set_reset latch w) t v ↔ ((t < length p.rows) × Contains [] v)
+forces_none p latch w t v = (λ k. absurd k, λ k. absurd (omega (arith, k.1.1)))
+
+pub none_forced : (raw : Raw) (v : ℕ) → Contains [] v → IsGate raw v
+none_forced raw v k = absurd (omega (arith, k.1))
+
+pub gate_forced : (raw new : Raw) (lhs r0 r1 x v : ℕ) → IsLeftSide raw lhs → x ≡ variable lhs → new ≡ with_gate raw lhs r0 r1
+    → Contains (x ∷ []) v → IsGate new v
+gate_forced raw new lhs r0 r1 x v named ex e k =
+    let g : IsGate raw (variable lhs) = left_side_gate raw lhs named in
+    subst (IsGate new) (sym (one_is x v k ∙ ex))
+    (subst (λ (c : Raw). IsGate c (variable lhs)) (sym e) (gate_kept lhs r0 r1 raw (variable lhs) g))
+
+-- a frame that is added
+module _ (plan : Plan) (s : InputRows) (row : List Tern) (cells mid new : List (List Tern))
+    (sound : IsSound plan.circuit) (now : AreCurrent (pair_of plan) (length plan.stimulus.rows) cells)
+    (e : s ≡ record plan.stimulus { rows = plan.stimulus.rows ++ row ∷ [] }) where
+  abbrev m : ℕ
+  m = length plan.stimulus.rows
+
+  abbrev after : Pair
+  after = pair_of (record plan { stimulus = s })
+
+  abbrev all : List ℕ
+  all = map (λ (g : Gate). variable g.lhs) plan.circuit.gates
+
+  rows_more : s.rows ≡ plan.stimulus.rows ++ row ∷ []
+  rows_more = ap (λ (x : InputRows). x.rows) e
+
+  pub frames_more : length s.rows ≡ m + 1
+  frames_more = ap length rows_more ∙ length-append plan.stimulus.rows (row ∷ [])
+
+  rows_kept : (t : ℕ) → t < m → slice_get s.rows t ≡ slice_get plan.stimulus.rows t
+  rows_kept t lt = ap (λ (rows : List (List Tern)). slice_get rows t) rows_more
+      ∙ slice_get_append plan.stimulus.rows (row ∷ []) t [] lt
+
+  none_before : (t v : ℕ) → t < m → HasOther (pair_of plan) after t v → ⊥
+  none_before = no_other (pair_of plan) s.rows m sound rows_kept
+
+  is_edited : after ≡ edited (pair_of plan) (add_frame row)
+  is_edited = ap (λ (rows : List (List Tern)). let x : Pair = record (pair_of plan) { rows = rows } in x) rows_more
+
+  module _ (ev ch : ℕ) (marks : List Bool) (h : Ends after m (Contains all) (row_at mid m) (row_at new m) marks ev ch)
+      (others : (u : ℕ) → u ≢ m → row_at new u ≡ row_at mid u) where
+    one : Renewed after all m (m + 1) mid new ev ch
+    one = renewed_one after all m ev ch mid new marks others h
+
+    pub added_current : AreCurrent after m mid → AreCurrent after (length s.rows) new
+    added_current before = subst (λ (k : ℕ). AreCurrent after k new) (sym frames_more)
+        (all_current after all m (m + 1) ev ch mid new before one)
+
+    pub added_touched : AreCells (Touches (pair_of plan) (add_frame row)) ev
+    added_touched = cells_same _ _ ev one.touched (λ t v. rw (← is_edited) (
+      λ k. elim k [
+        | inl f ↦
+            let (g, q, at, same) = gate_of plan.circuit v f.1 in
+            ((omega (arith, f.0), omega (arith, f.0)), (q, g, at, same, inl (subst (Contains all) (sym same) f.1)))
+        | inr r ↦ elim r.1.4 [
+          | inl o ↦ absurd (none_before t _ r.0.0 o)
+          | inr o ↦ absurd (none_before t _ r.0.0 o)
+        ]
+      ],
+      λ k. inl (omega (arith, k.0.0, k.0.1), subst (IsGate plan.circuit) k.1.3 (gate_is plan.circuit k.1.0 k.1.1 k.1.2)),
+    ))
+
+    pub added_changed : AreCells (Changes (pair_of plan) (add_frame row)) 0
+    added_changed = cells_none _ (λ t v. rw (← is_edited) (λ k. none_before t v k.1.0 k.2))
+
+-- the last frame taken off changes nothing before it
+module _ (p : Pair) (sound : IsSound p.circuit) where
+  shorter : (t : ℕ) → t < length (take (length p.rows - 1) p.rows) → t < length p.rows - 1
+  shorter t lt = omega (arith, length-take (length p.rows - 1) p.rows)
+
+  same_below : (t : ℕ) → t < length p.rows - 1 → slice_get (take (length p.rows - 1) p.rows) t ≡ slice_get p.rows t
+  same_below t lt = slice_get_take (length p.rows - 1) p.rows t [] (omega arith) lt
+
+  none_other : (t v : ℕ) → t < length p.rows - 1 → HasOther p (edited p drop_frame) t v → ⊥
+  none_other = no_other p (take (length p.rows - 1) p.rows) (length p.rows - 1) sound same_below
+
+  pub dropped_touched : AreCells (Touches p drop_frame) 0
+  dropped_touched = cells_none _ (λ t v k. elim k [
+    | inl f ↦ absurd f
+    | inr r ↦ elim r.1.4 [
+      | inl o ↦ none_other t _ (shorter t r.0.1) o
+      | inr o ↦ none_other t _ (shorter t r.0.1) o
+    ]
+  ])
+
+  pub dropped_changed : AreCells (Changes p drop_frame) 0
+  dropped_changed = cells_none _ (λ t v k. none_other t v (shorter t k.1.1) k.2)
+
+-- the same grid, for a bench whose plan stays
+pub work_same : (plan : Plan) (net : Net) (b : Buckets) (flags flags' : List Bool) (cells cells' : List (List Tern))
+    → IsWorking plan net b flags cells → cells' ≡ cells → flags' ≡ flags → IsWorking plan net b flags' cells'
+work_same plan net b flags flags' cells cells' h e f =
+    subst (λ (c : List (List Tern)). IsWorking plan net b flags' c) (sym e)
+    (subst (λ (x : List Bool). IsWorking plan net b x cells) (sym f) h)
+
+pub fewer_current : (p : Pair) (n m : ℕ) (cells : List (List Tern)) → n ≤ m → AreCurrent p m cells → AreCurrent p n cells
+fewer_current p n m cells le h = record { each = λ t lt. h.each t (omega arith) }
+
+-- a plan that stayed as it was
+pub plan_same : (plan new : Plan) → new.circuit ≡ plan.circuit → new.stimulus ≡ plan.stimulus → new ≡ plan
+plan_same plan new e f =
+    ap (λ (c : Raw). let x : Plan = record { circuit = c; stimulus = new.stimulus } in x) e
+    ∙ ap (λ (s : InputRows). let x : Plan = record { circuit = plan.circuit; stimulus = s } in x) f
+
+pub work_kept : (plan new : Plan) (net net' : Net) (b : Buckets) (flags : List Bool) (cells : List (List Tern))
+    → IsWorking plan net b flags cells → new.circuit ≡ plan.circuit → new.stimulus ≡ plan.stimulus
+    → AreLevels new.circuit net'.levels → AreReaders new.circuit net'.readers → IsWorking new net' b flags cells
+work_kept plan new net net' b flags cells h e f levels readers =
+    let bench = subst (λ (x : Plan). IsBench x flags cells) (sym (plan_same plan new e f)) h.bench in
+    record {
+      bench = bench;
+      work = work_for plan new net net' flags flags cells cells b h.work h.empty (ap (λ (c : Raw). c.max_var) e) bench.plan_is
+          bench.laid_out levels readers;
+      empty = h.empty;
+    }
+
+pub pair_rewired : (plan new : Plan) (c : Raw) → new.circuit ≡ c → new.stimulus ≡ plan.stimulus
+    → pair_of new ≡ record { circuit = c; rows = plan.stimulus.rows }
+pair_rewired plan new c e f =
+    ap (λ (x : Raw). let p : Pair = record { circuit = x; rows = new.stimulus.rows } in p) e
+    ∙ ap (λ (s : InputRows). let p : Pair = record { circuit = c; rows = s.rows } in p) f

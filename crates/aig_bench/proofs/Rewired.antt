@@ -1,0 +1,91 @@
+-- A circuit with other right sides at one gate.
+use Rattle.std.proofs.Common.{◌≡◌, ℕ, ◌+◌, Bool, List, [], ◌∷◌, ◌++◌, length, map, Some, slice_get, Contains, refl, sym, ap, ◌∙◌, subst, arith}
+use Rattle.aig_base.specs.declared.gate.Gate.{Gate}
+use Rattle.aig_base.specs.declared.latch.Latch.{Latch}
+use Rattle.aig_base.specs.declared.raw.Raw.{Raw}
+use Rattle.aig_base.specs.Changes.{rewired, with_gate}
+use Rattle.aig_base.specs.declared.ternary.Tern.{Tern}
+use Rattle.aig_base.specs.Circuit.{IsCircuit}
+use Rattle.aig_base.specs.Grounded.{IsAcyclic}
+use Rattle.aig_base.specs.Literal.{variable}
+use Rattle.aig_base.specs.Sections.{definitions, IsDefined, IsGate, IsLeftSide}
+use Rattle.aig_base.specs.Sound.{IsSound}
+use Rattle.aig_base.proofs.Gates as gates
+use Rattle.aig_base.proofs.Rewiring.{with_gate-circuit}
+use Rattle.aig_base.proofs.Gets.{get_from_Contains}
+use Rattle.aig_base.proofs.Marking.{slice_get_unmap}
+use Rattle.aig_base.proofs.Circuits.{gate_is}
+use Rattle.aig_bench.specs.declared.plan.Plan.{Plan}
+use Rattle.aig_bench.specs.Current.{AreGateFlags, IsLaidOut}
+use Rattle.aig_bench.specs.Pair.{Pair}
+use Rattle.aig_bench.specs.Plan.{IsPlan, pair_of}
+
+pub left_side_gate : (raw : Raw) (l : ℕ) → IsLeftSide raw l → IsGate raw (variable l)
+left_side_gate raw l h =
+    let (k, at) = get_from_Contains (map (λ (g : Gate). g.lhs) raw.gates) l h in
+    let (g, here, e) = slice_get_unmap (λ (g : Gate). g.lhs) raw.gates k l at in
+    subst (λ (n : ℕ). IsGate raw (variable n)) e (gate_is raw k g here)
+
+module _ (lhs r0 r1 : ℕ) where
+  same_sides : {X : Type 0} (f : ℕ → X) (gs : List Gate) → map (λ g. f g.lhs) (map (rewired lhs r0 r1) gs) ≡ map (λ g. f g.lhs) gs
+  same_sides f [] = refl
+  same_sides f (g ∷ gs) = ap (λ ls. f g.lhs ∷ ls) (same_sides f gs)
+
+  pub left_side_kept : (raw : Raw) (l : ℕ) → IsLeftSide raw l → IsLeftSide (with_gate raw lhs r0 r1) l
+  left_side_kept raw l h = subst (λ (ls : List ℕ). Contains ls l) (sym (same_sides (λ n. n) raw.gates)) h
+
+  pub gate_kept : (raw : Raw) (v : ℕ) → IsGate raw v → IsGate (with_gate raw lhs r0 r1) v
+  gate_kept raw v h = subst (λ (ls : List ℕ). Contains ls v) (sym (same_sides variable raw.gates)) h
+
+  pub gate_was : (raw : Raw) (v : ℕ) → IsGate (with_gate raw lhs r0 r1) v → IsGate raw v
+  gate_was raw v h = subst (λ (ls : List ℕ). Contains ls v) (same_sides variable raw.gates) h
+
+  same_definitions : (raw : Raw) → definitions raw ≡ definitions (with_gate raw lhs r0 r1)
+  same_definitions raw = ap (λ ls. raw.inputs ++ map (λ (x : Latch). x.lit) raw.latches ++ ls) (sym (same_sides (λ n. n) raw.gates))
+
+  pub defined_kept : (raw : Raw) (v : ℕ) → IsDefined raw v → IsDefined (with_gate raw lhs r0 r1) v
+  defined_kept raw v h = subst (λ ls. Contains (0 ∷ map variable ls) v) (same_definitions raw) h
+
+  pub defined_was : (raw : Raw) (v : ℕ) → IsDefined (with_gate raw lhs r0 r1) v → IsDefined raw v
+  defined_was raw v h = subst (λ ls. Contains (0 ∷ map variable ls) v) (sym (same_definitions raw)) h
+
+-- the gate that a left side names
+pub lhs_is : (raw : Raw) → IsSound raw → (l q : ℕ) (g : Gate) → slice_get raw.gates q ≡ Some g → IsLeftSide raw l
+    → variable g.lhs ≡ variable l → g.lhs ≡ l
+lhs_is raw sound l q g at h e =
+    let (k, stands) = get_from_Contains (map (λ (g : Gate). g.lhs) raw.gates) l h in
+    let (x, here, f) = slice_get_unmap (λ (g : Gate). g.lhs) raw.gates k l stands in
+    let same : g ≡ x = gates.same_gate raw sound q k g x at here (e ∙ ap variable (sym f)) in
+    ap (λ (y : Gate). y.lhs) same ∙ f
+
+-- a plan whose gate was rewired
+pub plan_rewired : (plan new : Plan) (lhs r0 r1 : ℕ) → IsPlan plan → new.circuit ≡ with_gate plan.circuit lhs r0 r1
+    → new.stimulus ≡ plan.stimulus → IsDefined plan.circuit (variable r0) → IsDefined plan.circuit (variable r1)
+    → IsAcyclic (with_gate plan.circuit lhs r0 r1) → IsPlan new
+plan_rewired plan new lhs r0 r1 p e f d0 d1 acyclic = record {
+  circuit = subst IsCircuit (sym e) (with_gate-circuit lhs r0 r1 plan.circuit p.circuit d0 d1 acyclic);
+  width = rw (e, f) p.width;
+  widths = rw f p.widths;
+  frames = rw f p.frames;
+  cells = rw (e, f) p.cells;
+}
+
+pub laid_out_rewired : (plan new : Plan) (lhs r0 r1 : ℕ) (flags : List Bool) (cells : List (List Tern))
+    → IsLaidOut plan flags cells → pair_of new ≡ record { circuit = with_gate plan.circuit lhs r0 r1; rows = plan.stimulus.rows }
+    → IsLaidOut new flags cells
+laid_out_rewired plan new lhs r0 r1 flags cells h e =
+    let c : new.circuit ≡ with_gate plan.circuit lhs r0 r1 = ap (λ (p : Pair). p.circuit) e in
+    let r : new.stimulus.rows ≡ plan.stimulus.rows = ap (λ (p : Pair). p.rows) e in
+    let m : new.circuit.max_var ≡ plan.circuit.max_var = ap (λ (x : Raw). x.max_var) c in
+    record {
+      flags_are = subst (λ (x : Raw). AreGateFlags x flags) (sym c) (record {
+        size = h.flags_are.size;
+        gates = λ v le k. h.flags_are.gates v le (gate_was lhs r0 r1 plan.circuit v k);
+        others = λ v le k. h.flags_are.others v le (λ i. k (gate_kept lhs r0 r1 plan.circuit v i));
+      });
+      rows_are = record {
+        frames_are = h.rows_are.frames_are ∙ ap length (sym r);
+        widths = λ t lt. h.rows_are.widths t (omega (arith, ap length r)) ∙ ap (λ n. n + 1) (sym m);
+        constants = λ t lt. h.rows_are.constants t (omega (arith, ap length r));
+      };
+    }

@@ -1,0 +1,35 @@
+use Rattle.std.proofs.Common.{◌+◌, arith, map}
+use Rattle.aig_base.specs.declared.gate.Gate.{Gate}
+use Rattle.aig_base.specs.Literal.{variable}
+use Rattle.aig_bench.specs.Plan.{pair_of}
+use Rattle.aig_bench.proofs.Edited.{all_current, none_current, before_first, working, fewer_current}
+use Rattle.aig_bench.proofs.Renewed.{renewed_one}
+use Rattle.aig_bench.proofs.bench.fill_all.Goals as goal
+
+pub loop-frame-init : goal.loop-frame-init
+loop-frame-init g c = record {
+  work = c.requires.work;
+  empty = c.requires.empty;
+  current = none_current (pair_of c.args.plan.now) _;
+}
+
+pub fill-requires-clause-before : goal.fill-requires-clause-before
+fill-requires-clause-before g c = before_first (pair_of c.args.plan.now) c.loop-frame.frame _ c.loop-frame.invariant.current
+
+pub loop-frame-preserved : goal.loop-frame-preserved
+loop-frame-preserved g c =
+    let p = pair_of c.args.plan.now in
+    let all = map (λ (g : Gate). variable g.lhs) c.args.plan.now.circuit.gates in
+    record {
+      work = c.fill.ensures.work;
+      empty = c.fill.ensures.ends.empty;
+      current = all_current p all c.loop-frame.frame (c.loop-frame.frame + 1) _ _ _ _ c.loop-frame.invariant.current
+          (renewed_one p all c.loop-frame.frame _ _ _ _ _ c.fill.ensures.others c.fill.ensures.ends);
+    }
+
+pub returns : goal.returns
+returns g c =
+    let i = c.loop-frame.invariant in
+    working c.args.plan.now c.args.net.now _ _ _ i.work i.empty
+    (fewer_current (pair_of c.args.plan.now) _ c.loop-frame.frame _
+    (omega (arith, c.loop-frame-test.false, c.frames-frame-end.ensures.frames)) i.current)

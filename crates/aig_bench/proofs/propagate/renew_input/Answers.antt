@@ -1,0 +1,63 @@
+use Rattle.std.proofs.Common.{◌≡◌, ◌≢◌, ◌∙◌, ◌+◌, ℕ, [], ◌∷◌, Some, slice_get, sym, subst, length, arith}
+use Rattle.aig_base.specs.Grounded as by
+use Rattle.aig_base.specs.Literal.{variable}
+use Rattle.aig_sim.proofs.Evaluation.{item_at}
+use Rattle.aig_sim.specs.InputRows.{row_at}
+use Rattle.aig_bench.specs.Current.{IsCurrentRow}
+use Rattle.aig_bench.specs.Plan.{pair_of}
+use Rattle.aig_bench.proofs.Carrying.{entering_put}
+use Rattle.aig_bench.proofs.Renewed.{renewed_one, renewed_join}
+use Rattle.aig_bench.proofs.Values.{input_value}
+use Rattle.aig_bench.proofs.propagate.renew_input.Goals as goal
+
+pub put-requires-clause-source : goal.put-requires-clause-source
+put-requires-clause-source g c =
+    let p = pair_of c.args.plan.now in
+    let l = c.index-inputs-position.result in
+    let at : slice_get p.circuit.inputs c.args.position ≡ Some l =
+    item_at _ _ c.args.position l c.inputs.ensures (rw c.inputs.ensures c.requires.position) c.index-inputs-position.is in
+    rw c.var.ensures (by.IsSource.input c.args.position l at)
+
+pub renew_from-rest-requires-clause-empty : goal.renew_from-rest-requires-clause-empty
+renew_from-rest-requires-clause-empty g c =
+    let p = pair_of c.args.plan.now in
+    let sound = c.requires.work.plan_is.circuit.sound in
+    let l = c.index-inputs-position.result in
+    let at : slice_get p.circuit.inputs c.args.position ≡ Some l =
+    item_at _ _ c.args.position l c.inputs.ensures (rw c.inputs.ensures c.requires.position) c.index-inputs-position.is in
+    let value = input_value p c.args.frame c.args.position l c.get-value.result sound c.requires.frame at c.get-value.ensures in
+    let ends = c.pass-first.ensures.ends [] _ (variable l ∷ []) (c.requires.consistent c.args.frame (omega arith) c.requires.frame)
+    (entering_put p c.args.frame (variable l) sound c.args.buckets.now _ _ _ c.requires.empty
+    ((rw c.var.ensures at c.put.ensures.puts) value)) (c.requires.here l at) in
+    ends.empty
+
+pub renew_from-rest-requires-clause-before : goal.renew_from-rest-requires-clause-before
+renew_from-rest-requires-clause-before g c u is =
+    let p = pair_of c.args.plan.now in
+    let sound = c.requires.work.plan_is.circuit.sound in
+    let l = c.index-inputs-position.result in
+    let at : slice_get p.circuit.inputs c.args.position ≡ Some l =
+    item_at _ _ c.args.position l c.inputs.ensures (rw c.inputs.ensures c.requires.position) c.index-inputs-position.is in
+    let value = input_value p c.args.frame c.args.position l c.get-value.result sound c.requires.frame at c.get-value.ensures in
+    let ends = c.pass-first.ensures.ends [] _ (variable l ∷ []) (c.requires.consistent c.args.frame (omega arith) c.requires.frame)
+    (entering_put p c.args.frame (variable l) sound c.args.buckets.now _ _ _ c.requires.empty
+    ((rw c.var.ensures at c.put.ensures.puts) value)) (c.requires.here l at) in
+    let e : u ≡ c.args.frame = omega arith in
+    subst (λ (n : ℕ). IsCurrentRow p n (row_at (g.G.Grid.cells c.pass-first.new.grid) n)) (sym e) ends.current
+
+pub returns-clause-renewed : goal.returns-clause-renewed
+returns-clause-renewed g c =
+    let p = pair_of c.args.plan.now in
+    let sound = c.requires.work.plan_is.circuit.sound in
+    let l = c.index-inputs-position.result in
+    let at : slice_get p.circuit.inputs c.args.position ≡ Some l =
+    item_at _ _ c.args.position l c.inputs.ensures (rw c.inputs.ensures c.requires.position) c.index-inputs-position.is in
+    let value = input_value p c.args.frame c.args.position l c.get-value.result sound c.requires.frame at c.get-value.ensures in
+    let ends = c.pass-first.ensures.ends [] _ (variable l ∷ []) (c.requires.consistent c.args.frame (omega arith) c.requires.frame)
+    (entering_put p c.args.frame (variable l) sound c.args.buckets.now _ _ _ c.requires.empty
+    ((rw c.var.ensures at c.put.ensures.puts) value)) (c.requires.here l at) in
+    let others : (u : ℕ) → u ≢ c.args.frame → row_at (g.G.Grid.cells c.pass-first.new.grid) u ≡ row_at (g.G.Grid.cells c.args.grid.now) u =
+    λ u ne. c.pass-first.ensures.others u ne ∙ c.put.ensures.others u ne in
+    rw (c.total.ensures.evaluated, c.total.ensures.changed)
+    (renewed_join p [] c.args.frame (c.args.frame + 1) (length p.rows) _ _ _ _ _ _ _ (omega arith) (omega (arith, c.requires.frame))
+    (renewed_one p [] c.args.frame _ _ _ _ _ others ends) c.renew_from-rest.ensures.renewed)

@@ -1,0 +1,51 @@
+-- The start of a pass over a frame: some sources have their values, and what reads those that differ waits (profile).
+use Rattle.std.specs.Prelude.{◌≡◌, ◌⊎◌, ◌↔◌, ℕ, ◌<◌, Bool, List, ◌∷◌, Some, slice_get, Contains}
+use Rattle.aig_base.specs.declared.ternary.Tern.{Tern}
+use Rattle.aig_base.specs.declared.ternary.Tern.TheVariants.{Zero}
+use Rattle.aig_base.specs.declared.latch.Latch.{Latch}
+use Rattle.aig_base.specs.Grounded.{IsSource}
+use Rattle.aig_base.specs.Literal.{variable}
+use Rattle.aig_base.specs.Marks.{IsMarked}
+use Rattle.aig_base.specs.Readers.{Reads}
+use Rattle.aig_bench.specs.Pair.{Pair}
+use Rattle.aig_bench.specs.Current.{Holds}
+use Rattle.aig_bench.specs.Passing.{Differs}
+
+-- these sources were put
+pub record Entering (p : Pair) (t : ℕ) (forced : ℕ → Type 0) (old row : List Tern) (marks : List Bool) (put : List ℕ) : Type 0 where
+  pub sources : (v : ℕ) → Contains put v → IsSource p.circuit v
+  pub holds : (v : ℕ) → Contains put v → Holds p t row v
+  pub others : (v : ℕ) → (Contains put v → ⊥) → slice_get row v ≡ slice_get old v
+  pub waits : (u : ℕ) → IsMarked marks u
+      ↔ (forced u ⊎ ((v : ℕ) × Contains put v × Reads p.circuit u v × Differs p t old v))
+
+-- whatever sources were put before, this one was put after them
+pub record Puts (p : Pair) (t v : ℕ) (row : List Tern) (marks : List Bool) (row' : List Tern) (marks' : List Bool) : Type 0 where
+  pub enter : (forced : List ℕ) (old : List Tern) (put : List ℕ) → Entering p t (Contains forced) old row marks put
+      → Entering p t (Contains forced) old row' marks' (v ∷ put)
+
+-- the first n latches were put after them
+pub record Carried (p : Pair) (t n : ℕ) (forced : List ℕ) (old row : List Tern) (marks : List Bool) (put : List ℕ) : Type 0 where
+  pub now_put : List ℕ
+  pub entering : Entering p t (Contains forced) old row marks now_put
+  pub kept : (v : ℕ) → Contains put v → Contains now_put v
+  pub latches : (i : ℕ) (x : Latch) → i < n → slice_get p.circuit.latches i ≡ Some x → Contains now_put (variable x.lit)
+
+pub record Carries (p : Pair) (t n : ℕ) (row : List Tern) (marks : List Bool) (row' : List Tern) (marks' : List Bool) : Type 0 where
+  pub carry : (forced : List ℕ) (old : List Tern) (put : List ℕ) → Entering p t (Contains forced) old row marks put
+      → Carried p t n forced old row' marks' put
+
+-- the first n inputs were put after them
+pub record Filled (p : Pair) (t n : ℕ) (forced : List ℕ) (old row : List Tern) (marks : List Bool) : Type 0 where
+  pub now_put : List ℕ
+  pub entering : Entering p t (Contains forced) old row marks now_put
+  pub inputs : (i l : ℕ) → i < n → slice_get p.circuit.inputs i ≡ Some l → Contains now_put (variable l)
+
+pub record Fills (p : Pair) (t n : ℕ) (row : List Tern) (marks : List Bool) (row' : List Tern) (marks' : List Bool) : Type 0 where
+  pub fill : (forced : List ℕ) (old : List Tern) (put : List ℕ) → Entering p t (Contains forced) old row marks put
+      → Filled p t n forced old row' marks'
+
+-- variable 0 and the inputs that are not put have their values in the old cells
+pub record Rests (p : Pair) (t : ℕ) (old : List Tern) (put : List ℕ) : Type 0 where
+  pub constant : slice_get old 0 ≡ Some Zero
+  pub inputs : (i l : ℕ) → slice_get p.circuit.inputs i ≡ Some l → (Contains put (variable l) → ⊥) → Holds p t old (variable l)

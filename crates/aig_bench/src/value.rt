@@ -1,0 +1,50 @@
+//! Values by the cells of a grid.
+ghost use Rattle.std.specs.Prelude.{◌≡◌, ℕ, ◌+◌, ◌<◌, ◌≤◌, length, Some, slice_get};
+ghost use Rattle.aig_base.specs.Literal.{variable};
+ghost use Rattle.aig_base.specs.Value.{reset_value};
+ghost use Rattle.aig_sim.specs.Cells.{literal_value};
+ghost use Rattle.aig_sim.specs.InputRows.{row_at};
+ghost use Rattle.aig_bench.specs.Pair.{HasValue};
+ghost use Rattle.aig_bench.specs.Plan.{pair_of, IsPlan};
+ghost use Rattle.aig_bench.specs.Current.{IsLaidOut, IsCurrentBefore};
+
+use crate::plan::Plan;
+use aig_base::{Latch, Lit, Tern};
+use aig_sim::Grid;
+
+/// The value of a literal by the cell of its variable.
+pub fn literal_at<G: Grid>(grid: &G, frame: u32, literal: Lit) -> Tern
+    requires frame { frame < length (G.cells grid.now) }
+    requires variable { variable literal < length (G.gate_flags grid.now) }
+    ensures { result ≡ literal_value (row_at (G.cells grid.now) frame) literal }
+{
+    let cell = grid.get(frame, literal.var());
+    if literal.is_neg() { cell.not() } else { cell }
+}
+
+/// The value that a latch begins with; an uninitialised one begins with x (AIGER 1.9, resets).
+fn first_value(latch: Latch) -> Tern
+    ensures { result ≡ reset_value latch.reset }
+{
+    match latch.reset.value() {
+        0 => Tern::Zero,
+        1 => Tern::One,
+        _ => Tern::X,
+    }
+}
+
+/// The value of a latch at a frame, by its reset or by the frame before.
+pub fn latch_value<G: Grid>(grid: &G, plan: &Plan, frame: u32, latch: Latch) -> Tern
+    requires plan { IsPlan plan.now }
+    requires grid { IsLaidOut plan.now (G.gate_flags grid.now) (G.cells grid.now) }
+    requires frame { frame < length plan.now.stimulus.rows }
+    requires before { IsCurrentBefore (pair_of plan.now) frame (G.cells grid.now) }
+    requires latch { (i : ℕ) × (slice_get plan.now.circuit.latches i ≡ Some latch) }
+    ensures { HasValue (pair_of plan.now) frame latch.lit result }
+{
+    if frame == 0 {
+        first_value(latch)
+    } else {
+        literal_at(grid, frame - 1, latch.next)
+    }
+}
