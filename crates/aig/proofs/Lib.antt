@@ -1,8 +1,10 @@
 pub mod Benches
 pub mod Conversions
 pub mod Fields
-pub mod LineLemmas
+pub mod FirstBytes
+pub mod Inputs
 pub mod ReplyLemmas
+pub mod RowLines
 pub mod RunLemmas
+pub mod ScriptLines
 pub mod Splits
-pub mod WholeLemmas

@@ -1,26 +1,66 @@
 -- Commands of a script, as they are written (profile).
-use Rattle.std.specs.Prelude.{ℕ, ◌^◌, ◌<◌, List, [], ◌∷◌, ◌++◌, codes}
+use Rattle.std.specs.Prelude.{◌≢◌, ℕ, ◌^◌, ◌<◌, List, [], ◌∷◌, ◌++◌, codes, map}
 use Rattle.std.specs.Fmt.{decimal}
 use Rattle.aig_base.specs.declared.ternary.Tern.{Tern}
 use Rattle.aig_sim.specs.StimulusText.{character}
-use Rattle.aig.specs.declared.command.Command.{Command}
-use Rattle.aig.specs.declared.command.Command.TheVariants.{SetBit, Value, Trace}
+use Rattle.aig_bench.specs.Edit.{Edit, rewire, set_reset, set_bit, add_frame, drop_frame}
 
--- frame, position and value, and one space between them
-abbrev pub set_bit_fields : ℕ → ℕ → Tern → List ℕ
-set_bit_fields t p w = decimal t ++ 32 ∷ (decimal p ++ 32 ∷ (character w ∷ []))
+-- an edit of circuit or stimulus, or a question about them
+pub data Command : Type 0 where
+  edit : Edit → Command
+  value : (frame literal : ℕ) → Command
+  trace : Command
+
+-- a number, and a space in front of what follows
+abbrev pub field : ℕ → List ℕ → List ℕ
+field n rest = decimal n ++ 32 ∷ rest
+
+-- ---- what stands behind a command's letter
+
+-- gate and right sides
+abbrev pub rewire_fields : ℕ → ℕ → ℕ → List ℕ
+rewire_fields lhs r0 r1 = field lhs (field r0 (decimal r1))
+
+-- latch and value
+abbrev pub reset_fields : ℕ → Tern → List ℕ
+reset_fields latch w = field latch (character w ∷ [])
+
+-- frame, position and value
+abbrev pub bit_fields : ℕ → ℕ → Tern → List ℕ
+bit_fields t p w = field t (field p (character w ∷ []))
 
 -- frame and literal
 abbrev pub value_fields : ℕ → ℕ → List ℕ
-value_fields t l = decimal t ++ 32 ∷ decimal l
+value_fields t l = field t (decimal l)
+
+abbrev pub edit_text : Edit → List ℕ
+edit_text (rewire lhs r0 r1) = codes "w " ++ rewire_fields lhs r0 r1
+edit_text (set_reset latch w) = codes "r " ++ reset_fields latch w
+edit_text (set_bit t p w) = codes "s " ++ bit_fields t p w
+edit_text (add_frame row) = codes "+ " ++ map character row
+edit_text drop_frame = codes "-"
 
 abbrev pub command_text : Command → List ℕ
-command_text (SetBit t p w) = codes "s " ++ set_bit_fields t p w
-command_text (Value t l) = codes "v " ++ value_fields t l
-command_text Trace = codes "t"
+command_text (edit e) = edit_text e
+command_text (value t l) = codes "v " ++ value_fields t l
+command_text trace = codes "t"
 
--- its numbers are at most 4,294,967,295
+-- a number of a script is at most 4,294,967,295
+abbrev pub IsNumber : ℕ → Type 0
+IsNumber n = n < 2 ^ 32
+
+abbrev pub HasNumbers : Edit → Type 0
+HasNumbers (rewire lhs r0 r1) = IsNumber lhs × IsNumber r0 × IsNumber r1
+HasNumbers (set_reset latch w) = IsNumber latch
+HasNumbers (set_bit t p w) = IsNumber t × IsNumber p
+HasNumbers (add_frame row) = Unit {0}
+HasNumbers drop_frame = Unit {0}
+
 abbrev pub IsCommand : Command → Type 0
-IsCommand (SetBit t p w) = (t < 2 ^ 32) × (p < 2 ^ 32)
-IsCommand (Value t l) = (t < 2 ^ 32) × (l < 2 ^ 32)
-IsCommand Trace = Unit {0}
+IsCommand (edit e) = HasNumbers e
+IsCommand (value t l) = IsNumber t × IsNumber l
+IsCommand trace = Unit {0}
+
+-- the line is no command
+abbrev pub IsNoCommand : List ℕ → Type 0
+IsNoCommand line = (c : Command) → IsCommand c → line ≢ command_text c

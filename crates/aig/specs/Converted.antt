@@ -1,6 +1,7 @@
 -- Conversion of a circuit file (profile).
-use Rattle.std.specs.Prelude.{◌≡◌, ◌⊎◌, ℕ, List, Option, Result, Ok, Err}
+use Rattle.std.specs.Prelude.{◌≡◌, ◌≢◌, ◌⊎◌, ℕ, ◌+◌, List, Option, Some, Result, Ok, Err}
 use Rattle.aig_base.specs.declared.raw.Raw.{Raw}
+use Rattle.aig_base.specs.declared.fault.Fault.TheVariants as circuits
 use Rattle.aig_base.specs.Bytes.{Writes}
 use Rattle.aig_base.specs.Order.{IsCanonicalOrder}
 use Rattle.aig_base.specs.Renumbered.{renumbered, IsBinaryReady}
@@ -38,3 +39,17 @@ ConversionEnds written failures old new file to r = (raw : Raw) × IsFileOf file
 abbrev pub output_of : {T E : Type 0} → Result T E → Result T RunFault
 output_of (Ok done) = Ok done
 output_of (Err fault) = Err parts.Output
+
+-- how many reads of the circuit failed, by the answer
+abbrev pub reads_failed : {T : Type 0} → Result T RunFault → ℕ
+reads_failed (Ok done) = 0
+reads_failed (Err (parts.Circuit circuits.Io)) = 1
+reads_failed (Err fault) = 0
+
+-- How an engine ends that takes its circuit from a reader: as it would for the bytes that the reader holds; or a read
+-- failed, one, and nothing was written.
+pub record EndsFrom {Y X T : Type 0} (left : Y → Option (List ℕ)) (failures : Y → ℕ) (reader reader' : Y) (out out' : X)
+    (ends : List ℕ → Type 0) (result : Result T RunFault) : Type 0 where
+  pub ended : (bytes : List ℕ) → left reader ≡ Some bytes → result ≢ Err (parts.Circuit circuits.Io) → ends bytes
+  pub count : failures reader' ≡ failures reader + reads_failed result
+  pub unwritten : result ≡ Err (parts.Circuit circuits.Io) → out' ≡ out

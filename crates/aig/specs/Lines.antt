@@ -1,5 +1,5 @@
 -- The lines of a script: the pieces that LF ends, and a last piece with bytes and no LF (profile).
-use Rattle.std.specs.Prelude.{◌≡◌, ◌≢◌, ℕ, List, [], ◌∷◌, ◌++◌, map, take, All, ◌==◌, if◌then◌else◌}
+use Rattle.std.specs.Prelude.{◌≡◌, ◌≢◌, ℕ, List, [], ◌∷◌, ◌++◌, map, All, ◌==◌, if◌then◌else◌}
 use Rattle.std.specs.List.{flat_map}
 
 -- a line, without the LF that ends it, or the bytes behind the last LF
@@ -7,22 +7,15 @@ pub data Line : Type 0 where
   whole : List ℕ → Line
   unfinished : List ℕ → Line
 
--- with the first bytes of a line in hand, the lines that an LF ends in the bytes that follow; of each, what `keep` keeps
-abbrev pub lines_by : (List ℕ → List ℕ) → List ℕ → List ℕ → List (List ℕ)
-lines_by keep line [] = []
-lines_by keep line (b ∷ bytes) = if b == 10 then line ∷ lines_by keep [] bytes else lines_by keep (keep (line ++ b ∷ [])) bytes
+-- with the first bytes of a line in hand, the lines that an LF ends in the bytes that follow
+abbrev pub lines_from : List ℕ → List ℕ → List (List ℕ)
+lines_from line [] = []
+lines_from line (b ∷ bytes) = if b == 10 then line ∷ lines_from [] bytes else lines_from (line ++ b ∷ []) bytes
 
 -- what stands behind the last LF
-abbrev pub rest_by : (List ℕ → List ℕ) → List ℕ → List ℕ → List ℕ
-rest_by keep line [] = line
-rest_by keep line (b ∷ bytes) = if b == 10 then rest_by keep [] bytes else rest_by keep (keep (line ++ b ∷ [])) bytes
-
-abbrev pub all : List ℕ → List ℕ
-all line = line
-
--- what a reader of scripts keeps of a line: no command has 26 bytes
-abbrev pub kept : List ℕ → List ℕ
-kept line = take 26 line
+abbrev pub rest_from : List ℕ → List ℕ → List ℕ
+rest_from line [] = line
+rest_from line (b ∷ bytes) = if b == 10 then rest_from [] bytes else rest_from (line ++ b ∷ []) bytes
 
 abbrev pub last_piece : List ℕ → List Line
 last_piece [] = []
@@ -30,11 +23,11 @@ last_piece (b ∷ bytes) = unfinished (b ∷ bytes) ∷ []
 
 -- the lines that an LF ends
 abbrev pub whole_lines : List ℕ → List Line
-whole_lines script = map whole (lines_by all [] script)
+whole_lines script = map whole (lines_from [] script)
 
 -- all lines
 abbrev pub lines_of : List ℕ → List Line
-lines_of script = whole_lines script ++ last_piece (rest_by all [] script)
+lines_of script = whole_lines script ++ last_piece (rest_from [] script)
 
 -- ---- what the lines are, whichever way they are found
 

@@ -1,13 +1,12 @@
 -- Runs from bytes to bytes: what the files are, and why they are refused.
-use Rattle.std.specs.Prelude.{◌≡◌, ◌≢◌, ℕ, ◌+◌, ◌*◌, ◌<◌, ◌≤◌, List, length}
+use Rattle.std.specs.Prelude.{◌≡◌, ◌≢◌, ℕ, ◌+◌, ◌*◌, ◌<◌, ◌≤◌, List, length, Err}
 use Rattle.aig_base.specs.declared.raw.Raw.{Raw}
 use Rattle.aig_base.specs.declared.ternary.Tern.{Tern}
 use Rattle.aig_base.specs.declared.fault.Fault.{Fault}
 use Rattle.aig_base.specs.declared.fault.Fault.TheVariants as circuits
 use Rattle.aig_base.specs.Circuit.{IsCircuit}
-use Rattle.aig_base.specs.FirstFault.{IsFirstFault}
-use Rattle.aig_format.specs.Spells.{Spells, HasWrongCounts}
-use Rattle.aig_format.specs.Meaning.{IsOfParts}
+use Rattle.aig_format.specs.Spells.{Spells}
+use Rattle.aig_format.specs.Verdict.{IsReading}
 use Rattle.aig_sim.specs.declared.stimulus_fault.StimFault.{StimFault}
 use Rattle.aig_sim.specs.declared.stimulus_fault.StimFault.TheVariants as stimuli
 use Rattle.aig_sim.specs.StimulusText.{SpellsRows, HasFaultyLine}
@@ -33,14 +32,9 @@ pub record AreBenchFiles (circuit stimulus : List ℕ) (pair : Pair) : Type 0 wh
   pub files_are : AreFilesOf circuit stimulus pair
   pub cells : (pair.circuit.max_var + 1) * length pair.rows ≤ 67108864
 
--- Why a circuit file is refused. Where it spells parts, their first fault is told, and such a fault is told of no other
--- file; the fault of the counts comes exactly where the header line's counts do not go together; no read fails.
-pub record RefusesCircuit (bytes : List ℕ) (fault : Fault) : Type 0 where
-  pub spelled : (raw : Raw) → Spells bytes raw → fault ≢ circuits.Memory → IsFirstFault raw fault
-  pub of_parts : IsOfParts fault → (raw : Raw) × Spells bytes raw × IsFirstFault raw fault
-  pub counts : fault ≡ circuits.Counts → HasWrongCounts bytes
-  pub wrong : HasWrongCounts bytes → fault ≢ circuits.Memory → fault ≡ circuits.Counts
-  pub io : fault ≢ circuits.Io
+-- why a circuit file is refused; no read fails
+abbrev pub RefusesCircuit : List ℕ → Fault → Type 0
+RefusesCircuit bytes fault = IsReading bytes (Err fault) × (fault ≢ circuits.Io)
 
 -- why a stimulus of a width is refused: its first faulty line
 abbrev pub RefusesStimulus : ℕ → List ℕ → StimFault → Type 0
@@ -62,17 +56,3 @@ RefusesFiles circuit stimulus (Bench fault) = (pair : Pair) × AreFilesOf circui
 RefusesFiles circuit stimulus (Script fault) = ⊥
 RefusesFiles circuit stimulus Output = ⊥
 RefusesFiles circuit stimulus Memory = ⊥
-
--- a fault of the files, or of their bench
-abbrev pub IsOfFiles : RunFault → Type 0
-IsOfFiles (Circuit fault) = Unit {0}
-IsOfFiles (Stimulus fault) = Unit {0}
-IsOfFiles (Bench fault) = Unit {0}
-IsOfFiles (Script fault) = ⊥
-IsOfFiles Output = ⊥
-IsOfFiles Memory = ⊥
-
--- a fault that a run of a script can have
-abbrev pub IsOfRun : RunFault → Type 0
-IsOfRun (Script fault) = Unit {0}
-IsOfRun fault = IsOfFiles fault

@@ -1,23 +1,37 @@
 //! Commands of a script.
-ghost use Rattle.std.specs.Prelude.{◌≡◌, ◌≢◌, ℕ, ◌∷◌, ◌++◌, ◌^◌, ◌<◌, [], All, codes, IfSome, IfNone};
+ghost use Rattle.std.specs.Prelude.{◌≡◌, ◌≢◌, ℕ, List, ◌∷◌, ◌++◌, [], All, codes, IfSome, IfNone};
 ghost use Rattle.std.specs.Fmt.{decimal};
 ghost use Rattle.aig_base.specs.declared.ternary.Tern.{Tern};
 ghost use Rattle.aig_sim.specs.StimulusText.{character};
-ghost use Rattle.aig.specs.Command.{command_text, IsCommand, set_bit_fields, value_fields};
-ghost use Rattle.aig.specs.Replies.{IsNoCommand};
+ghost use Rattle.aig.specs.Command.{command_text, field, rewire_fields, reset_fields, bit_fields, value_fields, IsCommand, IsNoCommand, IsNumber};
+ghost use Rattle.aig.specs.Meaning.{meaning};
+ghost use Rattle.aig.specs.ScriptLine.{BeginsRow};
 
 use aig_base::{Lit, Tern};
 use itoa::Buffer;
 
-/// What a line of a script asks for.
+/// What a line of a script asks for, where it appends no frame.
 #[derive(Clone, Copy, PartialEq, Eq, Debug)]
 pub enum Command {
+    /// `w G R0 R1`: the gate of a literal gets these right sides.
+    Rewire {
+        gate: Lit,
+        right0: Lit,
+        right1: Lit,
+    },
+    /// `r L V`: the latch of a literal gets this reset, where x is uninitialised.
+    SetReset {
+        latch: Lit,
+        value: Tern,
+    },
     /// `s T P V`: the stimulus has this value at a frame and a position.
     SetBit {
         frame: u32,
         position: u32,
         value: Tern,
     },
+    /// `-`: the last frame is taken off.
+    DropFrame,
     /// `v T L`: the value of a literal at a frame.
     Value {
         frame: u32,
@@ -37,31 +51,42 @@ fn split_at_space(bytes: &[u8]) -> Option<(&[u8], &[u8])>
     Some((&bytes[..at], &bytes[at + 1..]))
 }
 
-/// A number as it is written: decimal digits without leading zeros, at most `u32::MAX`.
-fn number(field: &[u8]) -> Option<u32>
-    ensures some { IfSome result (λ n. field.now ≡ decimal n) }
-    ensures none { IfNone result ((n : ℕ) → n < 2 ^ 32 → field.now ≢ decimal n) }
+/// The number that the bytes are: decimal digits without leading zeros, at most `u32::MAX`.
+fn parse_number(bytes: &[u8]) -> Option<u32>
+    ensures some { IfSome result (λ n. bytes.now ≡ decimal n) }
+    ensures none { IfNone result ((n : ℕ) → IsNumber n → bytes.now ≢ decimal n) }
 {
-    let Ok(text) = str::from_utf8(field) else {
+    let Ok(text) = str::from_utf8(bytes) else {
         return None;
     };
     let Ok(number) = text.parse::<u32>() else {
         return None;
     };
     let mut buffer = Buffer::new();
-    if buffer.format(number).as_bytes() == field {
+    if buffer.format(number).as_bytes() == bytes {
         Some(number)
     } else {
         None
     }
 }
 
-/// A value as it is written: `0`, `1` or `x`.
-fn value(field: &[u8]) -> Option<Tern>
-    ensures some { IfSome result (λ w. field.now ≡ character w ∷ []) }
-    ensures none { IfNone result ((w : Tern) → field.now ≢ character w ∷ []) }
+/// The number in front, and what stands behind the space that ends it.
+fn parse_field(bytes: &[u8]) -> Option<(u32, &[u8])>
+    ensures some { IfSome result (λ parts. bytes.now ≡ field parts.0 parts.1.now) }
+    ensures only { IfSome result (λ parts. (n : ℕ) (rest : List ℕ) → IsNumber n → bytes.now ≡ field n rest →
+        parts.1.now ≡ rest) }
+    ensures none { IfNone result ((n : ℕ) (rest : List ℕ) → IsNumber n → bytes.now ≢ field n rest) }
 {
-    match field {
+    let (first, rest) = split_at_space(bytes)?;
+    Some((parse_number(first)?, rest))
+}
+
+/// The value that the bytes are: `0`, `1` or `x`.
+fn parse_value(bytes: &[u8]) -> Option<Tern>
+    ensures some { IfSome result (λ w. bytes.now ≡ character w ∷ []) }
+    ensures none { IfNone result ((w : Tern) → bytes.now ≢ character w ∷ []) }
+{
+    match bytes {
         [b'0'] => Some(Tern::Zero),
         [b'1'] => Some(Tern::One),
         [b'x'] => Some(Tern::X),
@@ -69,40 +94,70 @@ fn value(field: &[u8]) -> Option<Tern>
     }
 }
 
-/// The fields of `s`.
-fn set_bit(fields: &[u8]) -> Option<Command>
-    ensures some { IfSome result (λ c. IsCommand c × (codes "s " ++ fields.now ≡ command_text c)) }
-    ensures none { IfNone result ((t p : ℕ) (w : Tern) → t < 2 ^ 32 → p < 2 ^ 32 → fields.now ≢ set_bit_fields t p w) }
+/// What stands behind `w `.
+fn parse_rewire(fields: &[u8]) -> Option<Command>
+    ensures some { IfSome result (λ c. IsCommand (meaning c) × (codes "w " ++ fields.now ≡ command_text (meaning c))) }
+    ensures none { IfNone result ((g a b : ℕ) → IsNumber g → IsNumber a → IsNumber b →
+        fields.now ≢ rewire_fields g a b) }
 {
-    let (frame, rest) = split_at_space(fields)?;
-    let (position, last) = split_at_space(rest)?;
+    let (gate, rest) = parse_field(fields)?;
+    let (right0, last) = parse_field(rest)?;
+    Some(Command::Rewire {
+        gate: Lit::new(gate),
+        right0: Lit::new(right0),
+        right1: Lit::new(parse_number(last)?),
+    })
+}
+
+/// What stands behind `r `.
+fn parse_reset(fields: &[u8]) -> Option<Command>
+    ensures some { IfSome result (λ c. IsCommand (meaning c) × (codes "r " ++ fields.now ≡ command_text (meaning c))) }
+    ensures none { IfNone result ((l : ℕ) (w : Tern) → IsNumber l → fields.now ≢ reset_fields l w) }
+{
+    let (latch, last) = parse_field(fields)?;
+    Some(Command::SetReset {
+        latch: Lit::new(latch),
+        value: parse_value(last)?,
+    })
+}
+
+/// What stands behind `s `.
+fn parse_bit(fields: &[u8]) -> Option<Command>
+    ensures some { IfSome result (λ c. IsCommand (meaning c) × (codes "s " ++ fields.now ≡ command_text (meaning c))) }
+    ensures none { IfNone result ((t p : ℕ) (w : Tern) → IsNumber t → IsNumber p → fields.now ≢ bit_fields t p w) }
+{
+    let (frame, rest) = parse_field(fields)?;
+    let (position, last) = parse_field(rest)?;
     Some(Command::SetBit {
-        frame: number(frame)?,
-        position: number(position)?,
-        value: value(last)?,
+        frame,
+        position,
+        value: parse_value(last)?,
     })
 }
 
-/// The fields of `v`.
-fn question(fields: &[u8]) -> Option<Command>
-    ensures some { IfSome result (λ c. IsCommand c × (codes "v " ++ fields.now ≡ command_text c)) }
-    ensures none { IfNone result ((t l : ℕ) → t < 2 ^ 32 → l < 2 ^ 32 → fields.now ≢ value_fields t l) }
+/// What stands behind `v `.
+fn parse_question(fields: &[u8]) -> Option<Command>
+    ensures some { IfSome result (λ c. IsCommand (meaning c) × (codes "v " ++ fields.now ≡ command_text (meaning c))) }
+    ensures none { IfNone result ((t l : ℕ) → IsNumber t → IsNumber l → fields.now ≢ value_fields t l) }
 {
-    let (frame, literal) = split_at_space(fields)?;
+    let (frame, literal) = parse_field(fields)?;
     Some(Command::Value {
-        frame: number(frame)?,
-        literal: Lit::new(number(literal)?),
+        frame,
+        literal: Lit::new(parse_number(literal)?),
     })
 }
 
-/// The command that a line spells, without its LF.
-pub fn command_of(line: &[u8]) -> Option<Command>
-    ensures some { IfSome result (λ c. IsCommand c × (line.now ≡ command_text c)) }
-    ensures none { IfNone result (IsNoCommand line.now) }
+/// The command that a line spells, without its LF. A line that appends a frame is none of these.
+pub fn parse_command(line: &[u8]) -> Option<Command>
+    ensures some { IfSome result (λ c. IsCommand (meaning c) × (line.now ≡ command_text (meaning c))) }
+    ensures none { IfNone result ((BeginsRow line.now → ⊥) → IsNoCommand line.now) }
 {
     match line {
-        [b's', b' ', fields @ ..] => set_bit(fields),
-        [b'v', b' ', fields @ ..] => question(fields),
+        [b'w', b' ', fields @ ..] => parse_rewire(fields),
+        [b'r', b' ', fields @ ..] => parse_reset(fields),
+        [b's', b' ', fields @ ..] => parse_bit(fields),
+        [b'v', b' ', fields @ ..] => parse_question(fields),
+        [b'-'] => Some(Command::DropFrame),
         [b't'] => Some(Command::Trace),
         _ => None,
     }

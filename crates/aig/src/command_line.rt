@@ -18,12 +18,18 @@ static AFTER_SIM: &str =
 Example: aig sim examples/counter.aag examples/counter.stim
 The formats are described in docs/FORMATS.md.";
 
-static AFTER_BENCH: &str = "Lines of a script; frames and inputs count from 0:
-  s T P V    sets input P of frame T to V, which is 0, 1 or x; the reply is ok
+static AFTER_BENCH: &str = "Lines of a script; frames and inputs count from 0, values are 0, 1 or x:
+  w G R0 R1  gives the gate of literal G the right sides R0 and R1
+  r L V      lets the latch of literal L start at V, where x is uninitialised
+  s T P V    sets input P of frame T to V
+  + BITS     appends a frame with a value for each input
+  -          takes the last frame off
   v T L      asks for literal L at frame T; the reply is 0, 1 or x
   t          asks for the trace of all frames; the reply ends with a line .
-A literal is twice its variable, and one more where it is negated. A line that cannot be done is answered
-no and a number, a line that is none of these bad.
+The reply to an edit that is done is ok. A literal is twice its variable, and one more where it is negated. A line
+that cannot be done is answered no and a number: 1 no gate, 2 no latch, 3 a literal out of range, 4 an undefined
+variable, 5 a cycle, 6 no such frame, 7 no such input, 8 not a value for each input, 9 no frame, 10 too many frames or
+cells, 11 no memory. A line that is none of these is answered bad.
 
 Example: aig bench examples/two_gates.aag examples/two_gates.stim examples/two_gates.script
 Scripts and numbers are described in docs/BEHAVIOUR.md.";

@@ -1,12 +1,11 @@
-//! Conversion from bytes to bytes.
+//! Conversion of a circuit file from a reader to a writer.
 ghost use Rattle.std.specs.Prelude.{◌≡◌};
 ghost use Rattle.aig_format.specs.declared.header.Format.TheVariants.{Binary};
-ghost use Rattle.aig.specs.Converted.{ConversionEnds, IsWritten, output_of};
+ghost use Rattle.aig.specs.Converted.{ConversionEnds, EndsFrom, IsWritten, output_of};
 
-use crate::engine::read_circuit;
 use crate::run_fault::RunFault;
-use aig_base::{Circuit, Fault, Write, is_binary_ready, renumber};
-use aig_format::{Format, write_ascii, write_binary};
+use aig_base::{Circuit, Fault, Read, Write, is_binary_ready, renumber};
+use aig_format::{Format, read_from, write_ascii, write_binary};
 use std::alloc::Global;
 
 /// A failing write is the output's.
@@ -32,22 +31,35 @@ fn write_ready<W: Write>(alloc: Global, circuit: &Circuit, out: &mut W) -> Resul
     as_output(write_binary(&renumbered, out))
 }
 
-/// Writes the circuit of a file in a format: to text as it stands, to binary as it stands where it is ready for that,
-/// else renumbered. Counts and resets of 0 that may be left out are left out.
-pub fn convert<W: Write>(
+/// Writes a circuit in a format: to text as it stands, to binary as it stands where it is ready for that, else renumbered.
+fn write_converted<W: Write>(
     alloc: Global,
-    file: &[u8],
+    circuit: &Circuit,
     to: Format,
     out: &mut W,
 ) -> Result<(), RunFault>
-    ensures { ConversionEnds W.written W.failures out.old out.new file.now to result }
+    ensures { IsWritten W.written W.failures out.old out.new circuit.now to result }
 {
-    let circuit = match read_circuit(alloc, file) {
-        Ok(circuit) => circuit,
-        Err(fault) => return Err(RunFault::Circuit(fault)),
-    };
     match to {
-        Format::Ascii => as_output(write_ascii(&circuit, out)),
-        Format::Binary => write_ready(alloc, &circuit, out),
+        Format::Ascii => as_output(write_ascii(circuit, out)),
+        Format::Binary => write_ready(alloc, circuit, out),
+    }
+}
+
+/// Writes the circuit that a reader holds in a format: to text as it stands, to binary as it stands where it is ready for
+/// that, else renumbered. Counts and resets of 0 that may be left out are left out. The file is never held whole: memory
+/// is taken for its circuit alone.
+pub fn convert_from<R: Read, W: Write>(
+    alloc: Global,
+    reader: &mut R,
+    to: Format,
+    out: &mut W,
+) -> Result<(), RunFault>
+    ensures { EndsFrom R.left R.failures reader.old reader.new out.old out.new
+        (λ bytes. ConversionEnds W.written W.failures out.old out.new bytes to result) result }
+{
+    match read_from(alloc, reader) {
+        Ok(circuit) => write_converted(alloc, &circuit, to, out),
+        Err(fault) => Err(RunFault::Circuit(fault)),
     }
 }

@@ -1,42 +1,51 @@
 //! Engines over a writer that holds bytes back: all that they wrote is handed on, whatever they answer.
-ghost use Rattle.std.specs.Prelude.{◌≡◌, [], OnOk};
+ghost use Rattle.std.specs.Prelude.{◌≡◌};
+ghost use Rattle.aig.specs.Converted.{ConversionEnds, EndsFrom};
+ghost use Rattle.aig.specs.Delivered.{Delivers, IsHandedOn, all_written, calls_failed};
+ghost use Rattle.aig.specs.Engines.{BenchEnds, SimulationEnds};
 
-use crate::conversion::convert;
-use crate::engine::{read_circuit, run_bench};
+use crate::conversion::convert_from;
+use crate::engine::{run_bench, simulate_from};
 use crate::run_fault::RunFault;
 use crate::script_fault::ScriptFault;
-use aig_base::{Buffered, Io, Read, Write};
+use aig_base::{Buffered, Failed, Read, Write};
 use aig_format::Format;
-use aig_sim::{ByteGrid, StimFault, simulate};
+use aig_sim::{PlaneGrid, StimFault};
 use std::alloc::Global;
 
-/// Writes the circuit of a file in a format.
-pub fn deliver_circuit<W: Write>(
+/// Writes the circuit of a file in a format. Where the writer below fails, the fault is the output's.
+pub fn deliver_circuit<R: Read, W: Write>(
     alloc: Global,
-    circuit: &[u8],
+    circuit: &mut R,
     to: Format,
     out: &mut Buffered<W>,
 ) -> Result<(), RunFault>
-    ensures flushed { OnOk result (out.new.held ≡ []) }
+    ensures { Delivers W.written RunFault.Output
+        (λ left answer. EndsFrom R.left R.failures circuit.old circuit.new out.old left
+        (λ bytes. ConversionEnds (all_written W.written) calls_failed out.old left bytes to answer) answer) out.new result }
 {
-    let done = convert(alloc, circuit, to, out);
-    ended(done, out, RunFault::Output)
+    let done = convert_from(alloc, circuit, to, out);
+    handed_on(done, out, RunFault::Output)
 }
 
-/// Writes the trace of a stimulus.
-pub fn deliver_trace<R: Read, W: Write>(
+/// Writes the trace of a stimulus, and answers how many frames there were. Where the writer below fails, the fault is the
+/// stimulus's.
+pub fn deliver_trace<C: Read, R: Read, W: Write>(
     alloc: Global,
-    circuit: &[u8],
+    circuit: &mut C,
     stimulus: &mut R,
     out: &mut Buffered<W>,
-) -> Result<(), RunFault>
-    ensures flushed { OnOk result (out.new.held ≡ []) }
+) -> Result<u64, RunFault>
+    ensures { Delivers W.written (RunFault.Stimulus StimFault.Io)
+        (λ left answer. EndsFrom C.left C.failures circuit.old circuit.new out.old left
+        (λ bytes. SimulationEnds R.left R.failures (all_written W.written) calls_failed
+        stimulus.old stimulus.new out.old left bytes answer) answer) out.new result }
 {
-    let done = write_trace(alloc, circuit, stimulus, out);
-    ended(done, out, RunFault::Stimulus(StimFault::Io))
+    let done = simulate_from(alloc, circuit, stimulus, out);
+    handed_on(done, out, RunFault::Stimulus(StimFault::Io))
 }
 
-/// Writes the replies to a script.
+/// Writes the replies to a script. Where the writer below fails, the fault is the script's.
 pub fn deliver_replies<R: Read, W: Write>(
     alloc: Global,
     circuit: &[u8],
@@ -44,40 +53,24 @@ pub fn deliver_replies<R: Read, W: Write>(
     script: &mut R,
     out: &mut Buffered<W>,
 ) -> Result<(), RunFault>
-    ensures flushed { OnOk result (out.new.held ≡ []) }
+    ensures { Delivers W.written (RunFault.Script ScriptFault.Io)
+        (λ left answer. BenchEnds R.left R.failures (all_written W.written) calls_failed script.old script.new out.old left
+        circuit.now stimulus.now answer) out.new result }
 {
-    let done = run_bench::<ByteGrid, R, Buffered<W>>(alloc, circuit, stimulus, script, out);
-    ended(done, out, RunFault::Script(ScriptFault::Io))
+    let done = run_bench::<PlaneGrid, R, Buffered<W>>(alloc, circuit, stimulus, script, out);
+    handed_on(done, out, RunFault::Script(ScriptFault::Io))
 }
 
-/// The answer of an engine, once all that it wrote is handed on. Its own fault comes first.
-fn ended<W: Write>(
-    done: Result<(), RunFault>,
+/// The answer of an engine, once all that it wrote is handed on; where that fails, the fault of the part that writes.
+fn handed_on<T: Drop, W: Write>(
+    done: Result<T, RunFault>,
     out: &mut Buffered<W>,
     part: RunFault,
-) -> Result<(), RunFault>
-    ensures flushed { OnOk result (out.new.held ≡ []) }
+) -> Result<T, RunFault>
+    ensures { IsHandedOn W.written part out.old done out.new result }
 {
-    let flushed = out.flush();
-    done?;
-    match flushed {
-        Ok(()) => Ok(()),
-        Err(Io) => Err(part),
-    }
-}
-
-fn write_trace<R: Read, W: Write>(
-    alloc: Global,
-    circuit: &[u8],
-    stimulus: &mut R,
-    out: &mut W,
-) -> Result<(), RunFault> {
-    let circuit = match read_circuit(alloc, circuit) {
-        Ok(circuit) => circuit,
-        Err(fault) => return Err(RunFault::Circuit(fault)),
-    };
-    match simulate(alloc, &circuit, stimulus, out) {
-        Ok(_frames) => Ok(()),
-        Err(fault) => Err(RunFault::Stimulus(fault)),
+    match out.flush() {
+        Ok(()) => done,
+        Err(Failed) => Err(part),
     }
 }

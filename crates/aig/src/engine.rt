@@ -1,17 +1,18 @@
-//! The bench from bytes to bytes.
-ghost use Rattle.std.specs.Prelude.{◌≡◌, length, IfOk, IfErr, OnOk};
-ghost use Rattle.aig_bench.specs.Pair.{Pair};
-ghost use Rattle.aig.specs.Ran.{Ran, Failing};
+//! The simulation and the bench from bytes to bytes.
+ghost use Rattle.std.specs.Prelude.{◌≡◌, ℕ, ◌≤◌, List, length, Err, IfOk, IfErr};
+ghost use Rattle.aig_base.specs.Circuit.{IsCircuit};
 ghost use Rattle.aig_sim.specs.StimulusText.{SpellsRows};
-ghost use Rattle.aig.specs.Run.{IsFileOf, AreBenchFiles, RefusesCircuit, RefusesStimulus, RefusesFiles, IsOfFiles, IsOfRun};
+ghost use Rattle.aig.specs.Converted.{EndsFrom, reads_failed};
+ghost use Rattle.aig.specs.Engines.{BenchEnds, SimulationEnds, script_of};
+ghost use Rattle.aig.specs.Run.{IsFileOf, AreBenchFiles, RefusesCircuit, RefusesStimulus, RefusesFiles};
 
 use crate::run_fault::RunFault;
 use crate::script::run_script;
 use crate::script_fault::ScriptFault;
 use aig_base::{Circuit, Fault, Read, Write};
 use aig_bench::Bench;
-use aig_format::read;
-use aig_sim::{Grid, StimFault, Stimulus, read_stimulus};
+use aig_format::{read, read_from};
+use aig_sim::{Grid, StimFault, Stimulus, read_stimulus, simulate};
 use std::alloc::Global;
 
 /// Reads a circuit file.
@@ -19,43 +20,37 @@ pub fn read_circuit(alloc: Global, file: &[u8]) -> Result<Circuit, Fault>
     ensures circuit { IfOk result (IsFileOf file.now) }
     ensures fault { IfErr result (RefusesCircuit file.now) }
 {
-    match read(alloc, file) {
-        Ok(circuit) => {
-            let _max_var = circuit.max_var();
-            Ok(circuit)
-        }
-        Err(fault) => Err(fault),
-    }
+    read(alloc, file)
 }
 
 /// Reads a stimulus file for a circuit.
 fn read_rows(alloc: Global, circuit: &Circuit, file: &[u8]) -> Result<Stimulus, StimFault>
+    requires { IsCircuit circuit.now }
     ensures width { IfOk result (λ stimulus. stimulus.width ≡ length circuit.now.inputs) }
     ensures rows { IfOk result (λ stimulus. SpellsRows (length circuit.now.inputs) file.now stimulus.rows) }
+    ensures limit { IfOk result (λ stimulus. length stimulus.rows ≤ 65536) }
     ensures fault { IfErr result (RefusesStimulus (length circuit.now.inputs) file.now) }
 {
-    let _max_var = circuit.max_var();
     read_stimulus(alloc, file, circuit.inputs().len() as u32)
 }
 
 /// A bench of a circuit file and a stimulus file.
 fn open_bench<G: Grid>(alloc: Global, circuit: &[u8], stimulus: &[u8]) -> Result<Bench<G>, RunFault>
-    ensures bench { IfOk result (AreBenchFiles circuit.now stimulus.now) }
+    ensures bench { IfOk result (λ bench. AreBenchFiles circuit.now stimulus.now bench.pair) }
     ensures fault { IfErr result (RefusesFiles circuit.now stimulus.now) }
 {
-    let circuit = match read_circuit(alloc, circuit) {
-        Ok(circuit) => circuit,
-        Err(fault) => return Err(RunFault::Circuit(fault)),
-    };
-    let stimulus = match read_rows(alloc, &circuit, stimulus) {
-        Ok(stimulus) => stimulus,
-        Err(fault) => return Err(RunFault::Stimulus(fault)),
-    };
-    // Its contract tells that the rows are within their limit.
-    let _frames = stimulus.frames();
-    match Bench::new(alloc, circuit, stimulus) {
-        Ok(bench) => Ok(bench),
-        Err(fault) => Err(RunFault::Bench(fault)),
+    let circuit = read_circuit(alloc, circuit)?;
+    let stimulus = read_rows(alloc, &circuit, stimulus)?;
+    Ok(Bench::new(alloc, circuit, stimulus)?)
+}
+
+/// A fault of a script is the run's.
+fn as_script(done: Result<(), ScriptFault>) -> Result<(), RunFault>
+    ensures { result ≡ script_of done }
+{
+    match done {
+        Ok(()) => Ok(()),
+        Err(fault) => Err(RunFault::Script(fault)),
     }
 }
 
@@ -68,22 +63,46 @@ pub fn run_bench<G: Grid, R: Read, W: Write>(
     script: &mut R,
     out: &mut W,
 ) -> Result<(), RunFault>
-    // The script was read to its end, and what was written are its replies.
-    ensures replies { OnOk result ((pair new : Pair) × AreBenchFiles circuit.now stimulus.now pair
-        × Ran R.left R.failures W.written W.failures script.old script.new out.old out.new pair new) }
-    // A part is refused for a reason of its own, and then no script was read and nothing written.
-    ensures refused { IfErr result (λ fault. IsOfFiles fault → RefusesFiles circuit.now stimulus.now fault) }
-    ensures untouched { IfErr result (λ fault. IsOfFiles fault → (script.new ≡ script.old) × (out.new ≡ out.old)) }
-    // Any other fault is the script's.
-    ensures script { IfErr result (λ fault. fault ≡ RunFault.Script ScriptFault.Io →
-        (pair new : Pair) × AreBenchFiles circuit.now stimulus.now pair
-        × Failing R.left R.failures W.written W.failures script.old script.new out.old out.new pair new) }
-    // Where a script finds no memory, nothing of it was read and nothing written.
-    ensures memory { IfErr result (λ fault. fault ≡ RunFault.Script ScriptFault.Memory →
-        ((pair : Pair) × AreBenchFiles circuit.now stimulus.now pair)
-        × (script.new ≡ script.old) × (out.new ≡ out.old)) }
-    ensures parts { IfErr result IsOfRun }
+    ensures { BenchEnds R.left R.failures W.written W.failures script.old script.new out.old out.new
+        circuit.now stimulus.now result }
 {
     let mut bench = open_bench::<G>(alloc, circuit, stimulus)?;
-    Ok(run_script(alloc, &mut bench, script, out)?)
+    as_script(run_script(alloc, &mut bench, script, out))
+}
+
+/// Simulates a circuit on a stimulus.
+fn run_simulation<R: Read, W: Write>(
+    alloc: Global,
+    circuit: &Circuit,
+    stimulus: &mut R,
+    out: &mut W,
+) -> Result<u64, RunFault>
+    ensures ends { (file : List ℕ) → IsFileOf file circuit.now →
+        SimulationEnds R.left R.failures W.written W.failures stimulus.old stimulus.new out.old out.new file result }
+    ensures read { reads_failed result ≡ 0 }
+{
+    match simulate(alloc, circuit, stimulus, out) {
+        Ok(frames) => Ok(frames),
+        Err(fault) => Err(RunFault::Stimulus(fault)),
+    }
+}
+
+/// Reads the circuit and simulates it on a stimulus that is read row by row, from the start by its resets: for every
+/// circuit file that is accepted and every stimulus, the bytes that are written are those of the trace. It answers how
+/// many frames there were (`u64::MAX` for more). Where a read of the circuit fails, no stimulus was read.
+pub fn simulate_from<C: Read, R: Read, W: Write>(
+    alloc: Global,
+    circuit: &mut C,
+    stimulus: &mut R,
+    out: &mut W,
+) -> Result<u64, RunFault>
+    ensures ends { EndsFrom C.left C.failures circuit.old circuit.new out.old out.new
+        (λ bytes. SimulationEnds R.left R.failures W.written W.failures stimulus.old stimulus.new out.old out.new
+        bytes result) result }
+    ensures unread { result ≡ Err (RunFault.Circuit Fault.Io) → stimulus.new ≡ stimulus.old }
+{
+    match read_from(alloc, circuit) {
+        Ok(circuit) => run_simulation(alloc, &circuit, stimulus, out),
+        Err(fault) => Err(RunFault::Circuit(fault)),
+    }
 }

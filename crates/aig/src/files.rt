@@ -14,8 +14,8 @@ pub fn open<R: Files>(rt: &R, name: &str, part: RunFault) -> Result<R::File, Run
     }
 }
 
-/// All bytes of an open file. A failing read is the fault `part`.
-pub fn whole<F: Read + Drop>(
+/// Reads all bytes of an open file. A failing read is the fault `part`.
+pub fn read_whole<F: Read + Drop>(
     alloc: Global,
     mut file: F,
     part: RunFault,

@@ -42,6 +42,39 @@ impl RunFault {
     }
 }
 
+impl From<Fault> for RunFault {
+    ghost use Rattle.std.specs.Prelude.{◌≡◌};
+    ghost use Rattle.aig.specs.declared.run_fault.RunFault.TheVariants as parts;
+
+    ghost from_gives = { λ fault part. part ≡ parts.Circuit fault };
+
+    fn from(fault: Fault) -> RunFault {
+        RunFault::Circuit(fault)
+    }
+}
+
+impl From<StimFault> for RunFault {
+    ghost use Rattle.std.specs.Prelude.{◌≡◌};
+    ghost use Rattle.aig.specs.declared.run_fault.RunFault.TheVariants as parts;
+
+    ghost from_gives = { λ fault part. part ≡ parts.Stimulus fault };
+
+    fn from(fault: StimFault) -> RunFault {
+        RunFault::Stimulus(fault)
+    }
+}
+
+impl From<BenchFault> for RunFault {
+    ghost use Rattle.std.specs.Prelude.{◌≡◌};
+    ghost use Rattle.aig.specs.declared.run_fault.RunFault.TheVariants as parts;
+
+    ghost from_gives = { λ fault part. part ≡ parts.Bench fault };
+
+    fn from(fault: BenchFault) -> RunFault {
+        RunFault::Bench(fault)
+    }
+}
+
 impl From<ScriptFault> for RunFault {
     ghost use Rattle.std.specs.Prelude.{◌≡◌};
     ghost use Rattle.aig.specs.declared.run_fault.RunFault.TheVariants as parts;

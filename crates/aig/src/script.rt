@@ -1,13 +1,13 @@
 //! Scripts: lines that drive a bench, answered one by one.
-ghost use Rattle.std.specs.Prelude.{◌≡◌, ℕ, [], OnOk, OnErr, IfErr};
+ghost use Rattle.std.specs.Prelude.{◌≡◌, ℕ, List, [], map, length, OnOk, OnErr, IfErr};
 ghost use Rattle.aig_base.specs.Bytes.{IsAtEnd};
-ghost use Rattle.aig.specs.Lines.{kept, lines_by, rest_by};
-ghost use Rattle.aig.specs.Replies.{WholeReply};
-ghost use Rattle.aig.specs.Ran.{Answered, StoppedAt, Reading, Stopped, Ran, Failing};
+ghost use Rattle.aig.specs.Lines.{whole, lines_from, rest_from};
+ghost use Rattle.aig.specs.Ran.{Answered, StoppedAt, Reading, Ran, Failing};
+ghost use Rattle.aig.specs.ScriptLine.{KeepsLine};
 
-use crate::line::Line;
 use crate::reply::answer;
 use crate::script_fault::ScriptFault;
+use crate::script_line::ScriptLine;
 use aig_base::{Io, Read, Write, write_all};
 use aig_bench::Bench;
 use aig_sim::Grid;
@@ -16,17 +16,23 @@ use std::alloc::Global;
 /// Answers each line that the chunk ends, and keeps what is behind the last.
 fn feed<G: Grid, W: Write>(
     bench: &mut Bench<G>,
-    line: &mut Line,
+    line: &mut ScriptLine,
     chunk: &[u8],
     out: &mut W,
 ) -> Result<(), Io>
-    ensures rest { OnOk result (line.new ≡ rest_by kept line.old chunk.now) }
-    ensures ok { OnOk result (Answered W.written W.failures WholeReply out.old out.new (lines_by kept line.old chunk.now) bench.old bench.new) }
-    ensures err { OnErr result (StoppedAt W.written W.failures WholeReply out.old out.new (lines_by kept line.old chunk.now) bench.old bench.new) }
+    requires width { line.old.row.width ≡ length bench.old.pair.circuit.inputs }
+    requires kept { (text : List ℕ) × KeepsLine text line.old }
+    ensures width { line.new.row.width ≡ length bench.new.pair.circuit.inputs }
+    ensures rest { OnOk result ((text : List ℕ) → KeepsLine text line.old →
+        KeepsLine (rest_from text chunk.now) line.new) }
+    ensures ok { OnOk result ((text : List ℕ) → KeepsLine text line.old →
+        Answered W.written W.failures out.old out.new (map whole (lines_from text chunk.now)) bench.old.pair bench.new.pair) }
+    ensures err { OnErr result ((text : List ℕ) → KeepsLine text line.old →
+        StoppedAt W.written W.failures out.old out.new (map whole (lines_from text chunk.now)) bench.old.pair bench.new.pair) }
 {
     for byte in chunk {
         if *byte == b'\n' {
-            answer(bench, line.as_slice(), out)?;
+            answer(bench, line, out)?;
             line.clear();
         } else {
             line.push(*byte);
@@ -35,19 +41,22 @@ fn feed<G: Grid, W: Write>(
     Ok(())
 }
 
-/// Reads to the end, and answers each line that an LF ends before it reads on.
+/// Reads to the end. Before it reads on, it answers each line that an LF ends, and hands the replies on.
 fn answer_lines<G: Grid, R: Read, W: Write>(
     bench: &mut Bench<G>,
-    line: &mut Line,
+    line: &mut ScriptLine,
     reader: &mut R,
     out: &mut W,
 ) -> Result<(), Io>
-    ensures ok { OnOk result (Reading R.left R.failures W.written W.failures reader.old reader.new out.old out.new line.old line.new bench.old bench.new) }
+    requires empty { KeepsLine [] line.old }
+    requires width { line.old.row.width ≡ length bench.old.pair.circuit.inputs }
+    ensures ok { OnOk result (Reading R.left R.failures W.written W.failures reader.old reader.new out.old out.new line.new bench.old.pair bench.new.pair) }
     ensures end { OnOk result (IsAtEnd (R.left reader.new)) }
-    ensures err { OnErr result (Stopped R.left R.failures W.written W.failures reader.old reader.new out.old out.new line.old bench.old bench.new) }
+    ensures err { OnErr result (Failing R.left R.failures W.written W.failures reader.old reader.new out.old out.new bench.old.pair bench.new.pair) }
 {
     let mut buffer = [0u8; 4096];
-    'chunks: loop {
+    loop {
+        out.flush()?;
         let size = reader.read(&mut buffer)?;
         if size == 0 {
             return Ok(());
@@ -59,35 +68,43 @@ fn answer_lines<G: Grid, R: Read, W: Write>(
 /// Answers all lines; a last piece with bytes and no LF is bad.
 fn answer_all<G: Grid, R: Read, W: Write>(
     bench: &mut Bench<G>,
+    line: &mut ScriptLine,
     reader: &mut R,
     out: &mut W,
 ) -> Result<(), Io>
-    ensures ok { OnOk result (Ran R.left R.failures W.written W.failures reader.old reader.new out.old out.new bench.old bench.new) }
-    ensures err { OnErr result (Failing R.left R.failures W.written W.failures reader.old reader.new out.old out.new bench.old bench.new) }
+    requires empty { KeepsLine [] line.old }
+    requires width { line.old.row.width ≡ length bench.old.pair.circuit.inputs }
+    ensures ok { OnOk result (Ran R.left R.failures W.written W.failures reader.old reader.new out.old out.new bench.old.pair bench.new.pair) }
+    ensures err { OnErr result (Failing R.left R.failures W.written W.failures reader.old reader.new out.old out.new bench.old.pair bench.new.pair) }
 {
-    let mut line = Line::new();
-    answer_lines(bench, &mut line, reader, out)?;
+    answer_lines(bench, line, reader, out)?;
     if line.is_empty() {
         return Ok(());
     }
-    write_all(out, b"bad\n")
+    write_all(out, b"bad\n")?;
+    Ok(out.flush()?)
 }
 
-/// Reads a script to its end and answers its lines one by one, each before it reads on. A line of any length is handled
-/// without keeping it; a last piece with bytes and no LF is bad. It takes no memory.
+/// Reads a script to its end and answers its lines one by one, each before it reads on. It flushes before each read, so
+/// that whoever waits for the replies to what was read has them, and behind the last reply. A line of any length is
+/// handled without keeping it; a last piece with bytes and no LF is bad. It takes memory for a row before the first read,
+/// and behind that none but what `w` and `+` take for the bench.
 pub fn run_script<G: Grid, R: Read, W: Write>(
-    _alloc: Global,
+    alloc: Global,
     bench: &mut Bench<G>,
     reader: &mut R,
     out: &mut W,
 ) -> Result<(), ScriptFault>
-    ensures replies { OnOk result (Ran R.left R.failures W.written W.failures reader.old reader.new out.old out.new bench.old bench.new) }
+    ensures replies { OnOk result (Ran R.left R.failures W.written W.failures reader.old reader.new out.old out.new bench.old.pair bench.new.pair) }
     ensures io { IfErr result (λ fault. fault ≡ ScriptFault.Io →
-        Failing R.left R.failures W.written W.failures reader.old reader.new out.old out.new bench.old bench.new) }
+        Failing R.left R.failures W.written W.failures reader.old reader.new out.old out.new bench.old.pair bench.new.pair) }
     ensures memory { IfErr result (λ fault. fault ≡ ScriptFault.Memory →
         (reader.new ≡ reader.old) × (out.new ≡ out.old) × (bench.new ≡ bench.old)) }
 {
-    match answer_all(bench, reader, out) {
+    let Ok(mut line) = ScriptLine::new(alloc, bench.width() as usize) else {
+        return Err(ScriptFault::Memory);
+    };
+    match answer_all(bench, &mut line, reader, out) {
         Ok(()) => Ok(()),
         Err(Io) => Err(ScriptFault::Io),
     }

@@ -2,7 +2,7 @@
 
 use crate::command_line::{subcommand_of, text_of};
 use crate::delivery::{deliver_circuit, deliver_replies, deliver_trace};
-use crate::files::{open, output, whole};
+use crate::files::{open, output, read_whole};
 use crate::run_fault::RunFault;
 use crate::script_fault::ScriptFault;
 use crate::stop::Stop;
@@ -111,9 +111,9 @@ fn convert_file<R: AllocGlobal + Print, F: Read + Drop>(
     to: Format,
     circuit: F,
 ) -> Result<(), RunFault> {
-    let circuit = whole(rt.alloc(), circuit, CIRCUIT)?;
+    let mut circuit = Std::new(circuit);
     let mut out = output(rt);
-    deliver_circuit(rt.alloc(), circuit.as_slice(), to, &mut out)
+    deliver_circuit(rt.alloc(), &mut circuit, to, &mut out)
 }
 
 fn simulate<R: Files + AllocGlobal + Print>(
@@ -131,10 +131,11 @@ fn simulate_files<R: AllocGlobal + Print, F: Read + Drop>(
     circuit: F,
     stimulus: F,
 ) -> Result<(), RunFault> {
-    let circuit = whole(rt.alloc(), circuit, CIRCUIT)?;
+    let mut circuit = Std::new(circuit);
     let mut stimulus = Std::new(stimulus);
     let mut out = output(rt);
-    deliver_trace(rt.alloc(), circuit.as_slice(), &mut stimulus, &mut out)
+    let _frames = deliver_trace(rt.alloc(), &mut circuit, &mut stimulus, &mut out)?;
+    Ok(())
 }
 
 fn bench<R: Files + AllocGlobal + Print>(
@@ -155,8 +156,8 @@ fn bench_files<R: AllocGlobal + Print, F: Read + Drop>(
     stimulus: F,
     script: F,
 ) -> Result<(), RunFault> {
-    let circuit = whole(rt.alloc(), circuit, CIRCUIT)?;
-    let stimulus = whole(rt.alloc(), stimulus, STIMULUS)?;
+    let circuit = read_whole(rt.alloc(), circuit, CIRCUIT)?;
+    let stimulus = read_whole(rt.alloc(), stimulus, STIMULUS)?;
     let mut script = Std::new(script);
     let mut out = output(rt);
     deliver_replies(

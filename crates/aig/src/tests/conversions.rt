@@ -1,4 +1,5 @@
-use crate::conversion::convert;
+use super::fakes::ByteByByte;
+use crate::conversion::convert_from;
 use crate::run_fault::RunFault;
 use aig_base::{Fault, MemWriter};
 use aig_format::Format;
@@ -62,7 +63,7 @@ fn files_are_converted(rt: HostRuntime) -> Result<(), Fail> {
         ),
     ] {
         let mut out = MemWriter::new(rt.alloc(), 100)?;
-        convert(rt.alloc(), file, to, &mut out)?;
+        convert_from(rt.alloc(), &mut ByteByByte::whole(file), to, &mut out)?;
         assert_eq!(rt; out.bytes(), bytes);
     }
     Ok(())
@@ -82,7 +83,12 @@ fn refused_files_write_nothing(rt: HostRuntime) -> Result<(), Fail> {
         (b"aag 3 1 0 1 2\n2\n4\n4 6 2\n6 4 2\n", Fault::Cycle(2)),
     ] {
         let mut out = MemWriter::new(rt.alloc(), 100)?;
-        let done = convert(rt.alloc(), file, Format::Ascii, &mut out);
+        let done = convert_from(
+            rt.alloc(),
+            &mut ByteByByte::whole(file),
+            Format::Ascii,
+            &mut out,
+        );
         assert_eq!(rt; done, Err(RunFault::Circuit(fault)));
         assert_eq!(rt; out.bytes(), b"".as_slice());
     }
@@ -92,8 +98,23 @@ fn refused_files_write_nothing(rt: HostRuntime) -> Result<(), Fail> {
 #[test]
 fn a_full_writer_ends_a_conversion(rt: HostRuntime) -> Result<(), Fail> {
     let mut out = MemWriter::new(rt.alloc(), 3)?;
-    let done = convert(rt.alloc(), TWO_GATES, Format::Ascii, &mut out);
+    let done = convert_from(
+        rt.alloc(),
+        &mut ByteByByte::whole(TWO_GATES),
+        Format::Ascii,
+        &mut out,
+    );
     assert_eq!(rt; done, Err(RunFault::Output));
     assert_eq!(rt; out.bytes(), b"aag".as_slice());
+    Ok(())
+}
+
+#[test]
+fn a_failing_read_ends_a_conversion(rt: HostRuntime) -> Result<(), Fail> {
+    let mut out = MemWriter::new(rt.alloc(), 100)?;
+    let mut reader = ByteByByte::cut(b"aag 3 2 0 1 1\n2\n4\n");
+    let done = convert_from(rt.alloc(), &mut reader, Format::Ascii, &mut out);
+    assert_eq!(rt; done, Err(RunFault::Circuit(Fault::Io)));
+    assert_eq!(rt; out.bytes(), b"".as_slice());
     Ok(())
 }

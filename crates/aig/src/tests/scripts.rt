@@ -20,32 +20,114 @@ fn bench(alloc: Global) -> Result<Bench<ByteGrid>, Fail> {
     Ok(Bench::new(alloc, circuit, stimulus)?)
 }
 
+// A circuit, a stimulus, a script and its replies.
+struct Row {
+    circuit: &'static [u8],
+    stimulus: &'static [u8],
+    script: &'static [u8],
+    replies: &'static [u8],
+}
+
+const UNUSED: &[u8] = b"aag 7 1 0 1 2\n14\n5\n4 10 14\n10 14 15\n";
+
+const ONE_GATE: &[u8] = b"aag 3 2 0 1 1\n2\n4\n6\n6 2 4\n";
+
+const FEEDBACK: &[u8] = b"aag 3 1 1 1 1\n2\n4 6 4\n4\n6 4 2\n";
+
+static TABLE: [Row; 13] = [
+    Row {
+        circuit: TWO_GATES,
+        stimulus: b"11\n01\n",
+        script: b"v 0 8\ns 0 1 0\nv 0 8\nw 6 2 2\nv 0 8\n",
+        replies: b"1\nok\n0\nok\n1\n",
+    },
+    Row {
+        circuit: TWO_GATES,
+        stimulus: b"11\n01\n",
+        script: b"v 0 9\ns 0 0 x\nv 0 8\nv 1 8\nv 0 10\nq\n",
+        replies: b"0\nok\nx\n0\nno 3\nbad\n",
+    },
+    Row {
+        circuit: TWO_GATES,
+        stimulus: b"11\n01\n",
+        script: b"t\ns 2 2 1\ns 0 2 1\n",
+        replies: b" 11 1 \n 01 0 \n.\nno 6\nno 7\n",
+    },
+    Row {
+        circuit: TWO_GATES,
+        stimulus: b"11\n",
+        script: b"\nv 00 8\nv 0  8\nv 0 4294967296\ns 0 0 2\nw 6 2\n+ 12\n+\n- \nr 4 2\nw 6 2 2 2\nt ",
+        replies: b"bad\nbad\nbad\nbad\nbad\nbad\nbad\nbad\nbad\nbad\nbad\nbad\n",
+    },
+    Row {
+        circuit: TWO_GATES,
+        stimulus: b"11\n",
+        script: b"w 2 0 0\nw 9 2 2\nw 6 10 2\nw 6 8 2\nr 6 0\ns 1 2 1\ns 0 2 1\n+ 111\n+ 111z\n",
+        replies: b"no 1\nno 1\nno 3\nno 5\nno 2\nno 6\nno 7\nno 8\nbad\n",
+    },
+    Row {
+        circuit: TWO_GATES,
+        stimulus: b"11\n",
+        script: b"v 5 10\nv 5 8\nv 0 8\ns 0 1 0\nv 0 6\n",
+        replies: b"no 3\nno 6\n1\nok\n0\n",
+    },
+    Row {
+        circuit: TWO_GATES,
+        stimulus: b"11\n",
+        script: b"w 6 8 2\nv 0 6\nw 8 2 4\nw 6 8 2\nv 0 6\n",
+        replies: b"no 5\n1\nok\nok\n1\n",
+    },
+    Row {
+        circuit: TWO_GATES,
+        stimulus: b"11\n",
+        script: b"w 4294967295 4294967295 4294967295\nw 4294967295 4294967295 42949672950\n+ 11111111111111111111111111111111111z\n",
+        replies: b"no 1\nbad\nbad\n",
+    },
+    Row {
+        circuit: UNUSED,
+        stimulus: b"1\n",
+        script: b"w 4 2 14\nw 4 16 2\nv 9 2\nv 0 5\nw 10 14 14\nv 0 4\n",
+        replies: b"no 4\nno 3\nno 4\n1\nok\n1\n",
+    },
+    Row {
+        circuit: ONE_GATE,
+        stimulus: b"",
+        script: b"-\nv 0 6\n+ 11\n+ 1\n+ 11",
+        replies: b"no 9\nno 6\nok\nno 8\nbad\n",
+    },
+    Row {
+        circuit: FEEDBACK,
+        stimulus: b"1\n1\n",
+        script: b"t\nr 4 1\nt\n",
+        replies: b"x 1 x x\nx 1 x x\n.\nok\n1 1 1 1\n1 1 1 1\n.\n",
+    },
+    Row {
+        circuit: b"aag 1 0 1 2 0\n2 3\n2\n3\n",
+        stimulus: b"\n",
+        script: b"+ \nt\n-\nt\n",
+        replies: b"ok\n0  01 1\n1  10 0\n.\nok\n0  01 1\n.\n",
+    },
+    Row {
+        circuit: TWO_GATES,
+        stimulus: b"",
+        script: b"",
+        replies: b"",
+    },
+];
+
 #[test]
 fn scripts_are_answered(rt: HostRuntime) -> Result<(), Fail> {
-    for (script, replies) in [
-        (
-            b"v 0 8\ns 0 1 0\nv 0 8\n".as_slice(),
-            b"1\nok\n0\n".as_slice(),
-        ),
-        (
-            b"v 0 9\ns 0 0 x\nv 0 8\nv 1 8\nv 0 10\nq\n",
-            b"0\nok\nx\n0\nno 3\nbad\n",
-        ),
-        (b"\nv 00 8\nv 0  8\n", b"bad\nbad\nbad\n"),
-        (b"v 0 4294967296\ns 0 0 2\nt ", b"bad\nbad\nbad\n"),
-        (b"t\ns 2 2 1\ns 0 2 1\n", b" 11 1 \n 01 0 \n.\nno 6\nno 7\n"),
-        (b"", b""),
-    ] {
+    for row in &TABLE {
         let mut out = MemWriter::new(rt.alloc(), 100)?;
-        let mut reader = ByteByByte::whole(script);
+        let mut reader = ByteByByte::whole(row.script);
         run_bench::<ByteGrid, ByteByByte, MemWriter>(
             rt.alloc(),
-            TWO_GATES,
-            ROWS,
+            row.circuit,
+            row.stimulus,
             &mut reader,
             &mut out,
         )?;
-        assert_eq!(rt; out.bytes(), replies);
+        assert_eq!(rt; out.bytes(), row.replies);
     }
     Ok(())
 }

@@ -1,13 +1,8 @@
-use Rattle.std.proofs.Common.{ap, Err}
+use Rattle.aig.proofs.Benches.{is_file, refuses_circuit}
 use Rattle.aig.proofs.engine.read_circuit.Goals as goal
 
-pub returns-in-Err-clause-fault : goal.returns-in-Err-clause-fault
-returns-in-Err-clause-fault c =
-    let h = c.in-Err.ensures in
-    record {
-      spelled = h.only;
-      of_parts = h.of_parts;
-      counts = λ e. h.counts (ap Err e);
-      wrong = h.wrong;
-      io = λ e. h.io (ap Err e);
-    }
+pub returns-clause-circuit : goal.returns-clause-circuit
+returns-clause-circuit c = let h = c.read.ensures in is_file c.args.file.now c.read.result h.answers h.circuit
+
+pub returns-clause-fault : goal.returns-clause-fault
+returns-clause-fault c = let h = c.read.ensures in refuses_circuit c.args.file.now c.read.result h.answers h.io

@@ -1,7 +1,7 @@
 use Rattle.std.proofs.Common.{refl, ◌++◌}
 use Rattle.std.specs.Prelude.{codes}
 use Rattle.aig_base.proofs.WriteLemmas.{writes_then, writes_stop}
-use Rattle.aig_bench.specs.Edit.{set_bit}
+use Rattle.aig_bench.specs.Edit.{rewire, set_reset, set_bit, drop_frame}
 use Rattle.aig.specs.Replies.{edit_reply}
 use Rattle.aig.proofs.RunLemmas.{edit_reply_of}
 use Rattle.aig.proofs.reply.obey.Goals as goal
@@ -11,12 +11,36 @@ returns-in_err-write_trace-in-Trace g c =
     let h = c.in_err-write_trace-in-Trace.ensures in
     (h.0 ++ codes ".\n", rw c.in-Trace.is (h.0, h.1, refl, refl), writes_stop _ h.2 c.from_residual.ensures.0)
 
+pub returns-in-Rewire : goal.returns-in-Rewire
+returns-in-Rewire g c = (
+  edit_reply c.rewire.result,
+  rw c.in-Rewire.is (edit_reply_of c.args.bench.now.pair (rewire c.in-Rewire.gate c.in-Rewire.right0 c.in-Rewire.right1)
+      c.rewire.result c.rewire.new.self.pair c.rewire.ensures.edits),
+  c.write_edit.ensures,
+)
+
+pub returns-in-SetReset : goal.returns-in-SetReset
+returns-in-SetReset g c = (
+  edit_reply c.set_reset.result,
+  rw c.in-SetReset.is (edit_reply_of c.args.bench.now.pair (set_reset c.in-SetReset.latch c.in-SetReset.value)
+      c.set_reset.result c.set_reset.new.self.pair c.set_reset.ensures.edits),
+  c.write_edit-in-SetReset.ensures,
+)
+
 pub returns-in-SetBit : goal.returns-in-SetBit
 returns-in-SetBit g c = (
   edit_reply c.set_bit.result,
-  rw c.in-SetBit.is (edit_reply_of c.args.bench.now (set_bit c.in-SetBit.frame c.in-SetBit.position c.in-SetBit.value)
-      c.set_bit.result c.set_bit.new.self c.set_bit.ensures),
-  c.write_edit.ensures,
+  rw c.in-SetBit.is (edit_reply_of c.args.bench.now.pair (set_bit c.in-SetBit.frame c.in-SetBit.position c.in-SetBit.value)
+      c.set_bit.result c.set_bit.new.self.pair c.set_bit.ensures.edits),
+  c.write_edit-in-SetBit.ensures,
+)
+
+pub returns-in-DropFrame : goal.returns-in-DropFrame
+returns-in-DropFrame g c = (
+  edit_reply c.drop_frame.result,
+  rw c.in-DropFrame.is (edit_reply_of c.args.bench.now.pair drop_frame c.drop_frame.result c.drop_frame.new.self.pair
+      c.drop_frame.ensures.edits),
+  c.write_edit-in-DropFrame.ensures,
 )
 
 pub returns-in_ok-write_trace-in-Trace : goal.returns-in_ok-write_trace-in-Trace

@@ -1,0 +1,27 @@
+-- For proofs: what is kept of a line of a script while it is read.
+use Rattle.std.specs.Prelude.{◌≡◌, ◌≢◌, ℕ, Bool, true, false, List, ◌∷◌, ◌++◌, take}
+use Rattle.aig_sim.specs.LineInHand.{LineInHand, Keeps}
+use Rattle.aig.specs.Command.{Command, command_text, IsCommand}
+
+-- the first bytes, whether the line begins as one that appends a frame, and then what stands behind that
+pub record ScriptLine : Type 0 where
+  pub bytes : List ℕ
+  pub is_row : Bool
+  pub row : LineInHand
+
+-- the line begins with `+ `
+abbrev pub BeginsRow : List ℕ → Type 0
+BeginsRow line = (rest : List ℕ) × (line ≡ 43 ∷ 32 ∷ rest)
+
+-- no command but those that append a frame has 35 bytes
+abbrev pub first_bytes : List ℕ → List ℕ
+first_bytes line = take 35 line
+
+abbrev pub KeepsBy : List ℕ → ScriptLine → Bool → Type 0
+KeepsBy line kept false = (kept.bytes ≡ first_bytes line) × (BeginsRow line → ⊥)
+KeepsBy line kept true =
+    (rest : List ℕ) × (line ≡ 43 ∷ 32 ∷ rest) × Keeps kept.row.width rest kept.row.shape kept.row.values
+
+-- this is what is kept of the line
+pub record KeepsLine (line : List ℕ) (kept : ScriptLine) : Type 0 where
+  pub keeps : KeepsBy line kept kept.is_row

@@ -1,0 +1,58 @@
+use crate::delivery::{deliver_circuit, deliver_replies, deliver_trace};
+use crate::run_fault::RunFault;
+use crate::script_fault::ScriptFault;
+use aig_base::{Buffered, Fault, MemReader, MemWriter};
+use aig_format::Format;
+use aig_sim::StimFault;
+use std::test::Fail;
+
+const ONE_GATE: &[u8] = b"aag 3 2 0 1 1\n2\n4\n6\n6 2 4\n";
+
+// Whatever a stimulus has, a failing writer is told; where it writes nothing, its own fault is.
+#[test]
+fn traces_to_full_writers(rt: HostRuntime) -> Result<(), Fail> {
+    for (stimulus, room, answer) in [
+        (b"11\n".as_slice(), 100, Ok(1)),
+        (b"11\n", 3, Err(RunFault::Stimulus(StimFault::Io))),
+        (
+            b"11\n1\n",
+            100,
+            Err(RunFault::Stimulus(StimFault::Length(2))),
+        ),
+        (b"11\n1\n", 3, Err(RunFault::Stimulus(StimFault::Io))),
+        (b"1\n", 0, Err(RunFault::Stimulus(StimFault::Length(1)))),
+    ] {
+        let mut out = Buffered::new(MemWriter::new(rt.alloc(), room)?);
+        let mut reader = MemReader::new(stimulus);
+        let mut circuit = MemReader::new(ONE_GATE);
+        let done = deliver_trace(rt.alloc(), &mut circuit, &mut reader, &mut out);
+        assert_eq!(rt; done, answer);
+    }
+    Ok(())
+}
+
+#[test]
+fn replies_to_full_writers(rt: HostRuntime) -> Result<(), Fail> {
+    for (room, answer) in [(2, Ok(())), (1, Err(RunFault::Script(ScriptFault::Io)))] {
+        let mut out = Buffered::new(MemWriter::new(rt.alloc(), room)?);
+        let mut reader = MemReader::new(b"v 0 6\n");
+        let done = deliver_replies(rt.alloc(), ONE_GATE, b"11\n", &mut reader, &mut out);
+        assert_eq!(rt; done, answer);
+    }
+    Ok(())
+}
+
+#[test]
+fn circuits_to_full_writers(rt: HostRuntime) -> Result<(), Fail> {
+    for (circuit, room, answer) in [
+        (ONE_GATE, 100, Ok(())),
+        (ONE_GATE, 3, Err(RunFault::Output)),
+        (b"aag 1 2 0 0 0\n", 0, Err(RunFault::Circuit(Fault::Counts))),
+    ] {
+        let mut out = Buffered::new(MemWriter::new(rt.alloc(), room)?);
+        let mut reader = MemReader::new(circuit);
+        let done = deliver_circuit(rt.alloc(), &mut reader, Format::Binary, &mut out);
+        assert_eq!(rt; done, answer);
+    }
+    Ok(())
+}
