@@ -9,6 +9,7 @@ import sys
 
 AIG = os.environ["AIG"]
 GROWTH = os.environ["GROWTH"]
+GRIDS = os.environ["GRIDS"]
 PLAIN = os.environ["TARGET"] + "/plain"
 GENERATE = os.environ["TARGET"] + "/generate"
 TIMES = int(os.environ["TIMES"])
@@ -57,15 +58,16 @@ def same(one, other):
         sys.exit(f"{one} and {other} write different bytes")
 
 
+def printed_once(words):
+    """The numbers that a program prints by name."""
+    text = subprocess.run(words, stdout=subprocess.PIPE, check=True, text=True).stdout
+    return {name: float(number) for name, number in (line.split() for line in text.splitlines())}
+
+
 def printed(words):
     """The least of the times that a program prints by name, over several runs."""
-    least = {}
-    for _ in range(TIMES):
-        text = subprocess.run(words, stdout=subprocess.PIPE, check=True, text=True).stdout
-        for line in text.splitlines():
-            name, time = line.split()
-            least[name] = min(float(time), least.get(name, float("inf")))
-    return least
+    runs = [printed_once(words) for _ in range(TIMES)]
+    return {name: min(run[name] for run in runs) for name in runs[0]}
 
 
 def milliseconds(seconds):
@@ -135,6 +137,38 @@ def growth():
             row(shape, f"{gates:,}", *(f"{times[name] / gates:.0f}" for name in ("check", "levels", "order")))
 
 
+def greatest_size(words):
+    """The greatest resident size of a run, in bytes."""
+    with subprocess.Popen(words, stdout=subprocess.DEVNULL) as process:
+        _, status, usage = os.wait4(process.pid, 0)
+        process.returncode = os.waitstatus_to_exitcode(status)
+    if process.returncode:
+        sys.exit(f"{words} ended with status {process.returncode}")
+    return usage.ru_maxrss * 1024
+
+
+def grids():
+    gates, frames = 1_048_511, 64
+    cells = (gates + 65) * frames
+    runs = [[GRIDS, kind, str(gates), str(frames), "1"] for kind in ("bytes", "planes")]
+    least = [printed_once(words) for words in runs]
+    for name in ("changed", "known"):
+        if least[0][name] != least[1][name]:
+            sys.exit(f"the grids tell different numbers of {name} cells")
+    for _ in range(TIMES - 1):
+        for times, words in zip(least, runs):
+            times.update({name: min(time, times[name]) for name, time in printed_once(words).items()})
+    head(f"Grids of {cells:,} cells (elapsed; near: both sides among the 64 variables before the gate).", "work", "bytes",
+         "planes", "bytes, millions a second", "planes, millions a second", "planes / bytes")
+    works = (("make", "make"), ("near", "evaluate, near"), ("far", "evaluate, anywhere"), ("get", "read"))
+    for name, work in works:
+        times = [one[name] / 1e9 for one in least]
+        row(work, *map(milliseconds, times), *(f"{cells / time / 1e6:.0f}" for time in times),
+            f"{times[1] / times[0]:.2f}")
+    sizes = [greatest_size(words) for words in runs]
+    row("greatest resident size", *(f"{size / 1e6:.0f} MB" for size in sizes), "", "", f"{sizes[1] / sizes[0]:.2f}")
+
+
 def machine():
     with open("/proc/cpuinfo") as file:
         model = next(line.split(":")[1].strip() for line in file if line.startswith("model name"))
@@ -153,6 +187,7 @@ def main():
     conversions(text, binary)
     simulations()
     growth()
+    grids()
 
 
 if __name__ == "__main__":

@@ -5,6 +5,7 @@
 # AIG=PROGRAM       measures this program (else the proved crates/aig/out/aig; where that is not there, one is built
 #                   without proofs by bench/build_unproved.sh)
 # GROWTH=PROGRAM    takes this growth program (else it is built without proofs)
+# GRIDS=PROGRAM     takes this program that times grids (else it is built without proofs)
 # TIMES=N           takes the best of N runs (else of 5)
 # It needs cargo, python3 and rt, and 500 MB for files. Nothing is written outside a temporary folder.
 set -eu
@@ -16,8 +17,8 @@ trap 'rm -rf "$room"' EXIT
 echo "building .." >&2
 (cd "$bench/plain" && CARGO_TARGET_DIR=$room/target cargo build --release --quiet)
 
-# A copy of the crates in which the growth program is one of them. Its file has another ending in the repository, since
-# `rt ci` refuses a .rt file that no check reads.
+# A copy of the crates in which the growth program and that of the grids are two of them. Their files have another ending
+# in the repository, since `rt ci` refuses a .rt file that no check reads.
 mkdir -p "$room/repository/crates"
 for crate in "$repository"/crates/*; do
     mkdir "$room/repository/crates/$(basename "$crate")"
@@ -25,9 +26,15 @@ for crate in "$repository"/crates/*; do
         [ "$(basename "$part")" = out ] || cp -r "$part" "$room/repository/crates/$(basename "$crate")"
     done
 done
-mkdir -p "$room/repository/crates/growth/src"
-cp "$bench/growth/main.rt.in" "$room/repository/crates/growth/src/main.rt"
-{ cat "$repository/crates.txt"; echo "growth: aig_base aig_format anyhow"; } > "$room/repository/crates.txt"
+for program in growth grids; do
+    mkdir -p "$room/repository/crates/$program/src"
+    cp "$bench/$program/main.rt.in" "$room/repository/crates/$program/src/main.rt"
+done
+{
+    cat "$repository/crates.txt"
+    echo "growth: aig_base aig_format anyhow"
+    echo "grids: aig_base aig_sim anyhow"
+} > "$room/repository/crates.txt"
 
 kind="as given by AIG"
 if [ -z "${AIG:-}" ] && [ -x "$repository/crates/aig/out/aig" ]; then
@@ -42,10 +49,15 @@ if [ -z "${GROWTH:-}" ]; then
     GROWTH=$room/growth
     "$bench/build_unproved.sh" "$room/repository" growth "$GROWTH"
 fi
+if [ -z "${GRIDS:-}" ]; then
+    GRIDS=$room/grids
+    "$bench/build_unproved.sh" "$room/repository" grids "$GRIDS"
+fi
 
 AIG=$(realpath "$AIG")
 GROWTH=$(realpath "$GROWTH")
+GRIDS=$(realpath "$GRIDS")
 mkdir "$room/files"
 cd "$room/files"
-export AIG GROWTH KIND="$kind" TARGET=$room/target/release TIMES=${TIMES:-5}
+export AIG GROWTH GRIDS KIND="$kind" TARGET=$room/target/release TIMES=${TIMES:-5}
 python3 "$bench/measure.py"

@@ -13,7 +13,7 @@ passed=0
 failed=0
 
 # file NAME TEXT: TEXT is what printf makes of it, so \n is LF and \x02 the byte 2.
-file() { printf "$2" > "$1"; }
+file() { printf -- "$2" > "$1"; }
 
 # row NAME STATUS OUT ERR WORD..: runs `aig WORD..`; OUT and ERR are texts for printf.
 row() {
@@ -121,7 +121,35 @@ file rows '11\n01\n'
 file script '+\nw 6 2\n+ 12\nq\n'
 row 'bench: more lines that are no command' 0 'bad\nbad\nbad\nbad\n' '' bench two_gates rows script
 file script 'w 6 2 2\nr 2 1\n+ 11\n-\nu\nv 0 8\n'
-row 'bench: commands that are not built' 0 'bad\nbad\nbad\nbad\nbad\n1\n' '' bench two_gates rows script
+row 'bench: edits, and a command that is not built' 0 'ok\nno 2\nok\nok\nbad\n1\n' '' bench two_gates rows script
+file rows '11\n01\n'
+file script 'v 0 8\ns 0 1 0\nv 0 8\nw 6 2 2\nv 0 8\n'
+row 'bench: a gate that is rewired' 0 '1\nok\n0\nok\n1\n' '' bench two_gates rows script
+file rows '11\n'
+file script 'w 2 0 0\nw 9 2 2\nw 6 10 2\nw 6 8 2\nr 6 0\ns 1 2 1\ns 0 2 1\n+ 111\n+ 111z\nv 5 10\nv 5 8\nv 0 8\ns 0 1 0\nv 0 6\n'
+row 'bench: refused edits' 0 'no 1\nno 1\nno 3\nno 5\nno 2\nno 6\nno 7\nno 8\nbad\nno 3\nno 6\n1\nok\n0\n' '' bench two_gates rows script
+file script 'w 6 8 2\nv 0 6\nw 8 2 4\nw 6 8 2\nv 0 6\n'
+row 'bench: a cycle that is no more one' 0 'no 5\n1\nok\nok\n1\n' '' bench two_gates rows script
+file rows '1\n'
+file script 'w 4 2 14\nw 4 16 2\nv 9 2\nv 0 5\nw 10 14 14\nv 0 4\n'
+file unused 'aag 7 1 0 1 2\n14\n5\n4 10 14\n10 14 15\n'
+row 'bench: unused variables' 0 'no 4\nno 3\nno 4\n1\nok\n1\n' '' bench unused rows script
+file rows ''
+file script '-\nv 0 6\n+ 11\n+ 1\n+ 11'
+row 'bench: frames added to none' 0 'no 9\nno 6\nok\nno 8\nbad\n' '' bench one_gate rows script
+file rows '1\n1\n'
+file script 't\nr 4 1\nt\n'
+file feedback 'aag 3 1 1 1 1\n2\n4 6 4\n4\n6 4 2\n'
+row 'bench: a reset' 0 'x 1 x x\nx 1 x x\n.\nok\n1 1 1 1\n1 1 1 1\n.\n' '' bench feedback rows script
+file many 'aag 4194303 0 0 0 0\n'
+{ for _ in $(seq 16); do echo; done; } > rows
+file script '+ \n-\n+ \n'
+row 'bench: as many cells as a bench may have' 0 'no 10\nok\nok\n' '' bench many rows script
+file two_words 'aag 65 1 0 1 2\n128\n130\n126 128 128\n130 127 129\n'
+file rows '0\n'
+file script 'v 0 130\ns 0 0 1\nv 0 130\n-\n+ x\nv 0 130\n'
+row 'bench: cells on both sides of a word' 0 '1\nok\n0\nok\nok\nx\n' '' bench two_words rows script
+file rows '11\n01\n'
 file script 'v 4294967295 8\nv 0 4294967295\ns 4294967295 4294967295 x\n'
 row 'bench: the greatest numbers' 0 'no 6\nno 3\nno 6\n' '' bench two_gates rows script
 { printf 'v 0 8'; printf ' %.0s' $(seq 5000); printf '\nv 0 8\n'; } > script

@@ -1,0 +1,104 @@
+#!/usr/bin/env python3
+"""Talks with the built program line by line through two pipes, as a terminal or another program does, and gives up where
+an answer does not come within a time. Then closes the pipe that the program writes to.
+usage: tests/talk.py [PROGRAM]        (without a name: the program that the gate built)"""
+
+import os
+import select
+import subprocess
+import sys
+import tempfile
+
+TESTS = os.path.dirname(os.path.abspath(__file__))
+AIG = os.path.abspath(sys.argv[1] if len(sys.argv) > 1 else TESTS + "/../crates/aig/out/aig")
+SECONDS = 20
+TWO_GATES = b"aag 4 2 0 1 2\n2\n4\n8\n8 6 2\n6 2 4\n"
+TOGGLE = b"aag 1 0 1 2 0\n2 3\n2\n3\n"
+
+
+class Talk:
+    """A run of the program that reads its last file from a pipe, and writes to a pipe."""
+
+    def __init__(self, name, *words):
+        self.name = name
+        self.run = subprocess.Popen(
+            [AIG, *words, "/dev/stdin"], stdin=subprocess.PIPE, stdout=subprocess.PIPE, stderr=subprocess.PIPE
+        )
+
+    def fail(self, text):
+        self.run.kill()
+        sys.exit(f"FAILED: {self.name}: {text}")
+
+    def say(self, line, wanted):
+        """Writes bytes, and waits for this answer. Without an answer, the program is to be silent for a moment."""
+        self.run.stdin.write(line)
+        self.run.stdin.flush()
+        got = b""
+        while len(got) < len(wanted) or not wanted:
+            if not select.select([self.run.stdout], [], [], SECONDS if wanted else 0.3)[0]:
+                break
+            more = os.read(self.run.stdout.fileno(), 65536)
+            got += more
+            if not more or not wanted:
+                break
+        if got != wanted:
+            self.fail(f"{line!r} is answered {got!r}, not {wanted!r}, within {SECONDS} seconds")
+
+    def end(self, status=0, said=b""):
+        """Ends the input. Nothing more is to be answered."""
+        try:
+            out, err = self.run.communicate(timeout=SECONDS)
+        except subprocess.TimeoutExpired:
+            self.fail("it does not end")
+        if (out, err, self.run.returncode) != (b"", said, status):
+            self.fail(f"it ends with {out!r}, {err!r}, status {self.run.returncode}")
+
+
+def script(two_gates, rows):
+    talk = Talk("bench", "bench", two_gates, rows)
+    talk.say(b"v 0 8\n", b"1\n")
+    talk.say(b"s 0 1 0\n", b"ok\n")
+    talk.say(b"v 0 8", b"")
+    talk.say(b"\n", b"0\n")
+    talk.say(b"t\nq\n", b" 10 0 \n 01 0 \n.\nbad\n")
+    for _ in range(2000):
+        talk.say(b"v 1 8\n", b"0\n")
+    talk.say(b"v 0 8\n" * 5000, b"0\n" * 5000)
+    talk.end()
+
+
+def stimulus(toggle):
+    talk = Talk("sim", "sim", toggle)
+    talk.say(b"\n", b"0  01 1\n")
+    talk.say(b"\n", b"1  10 0\n")
+    talk.say(b"\n" * 5000, b"0  01 1\n1  10 0\n" * 2500)
+    talk.end()
+    talk = Talk("sim: a faulty line", "sim", toggle)
+    talk.say(b"\n", b"0  01 1\n")
+    talk.say(b"1\n", b"")
+    talk.end(1, b"aig: stimulus: length of line 2\n")
+
+
+def closed(name, text, part, *words):
+    """Nobody reads what the program writes: a failing write, of which the program tells."""
+    talk = Talk(name + ": a closed pipe", *words)
+    talk.run.stdout.close()
+    talk.run.stdin.write(text)
+    talk.run.stdin.close()
+    if talk.run.wait(timeout=SECONDS) != 3 or talk.run.stderr.read() != b"aig: %s: input or output\n" % part:
+        talk.fail(f"status {talk.run.returncode}")
+
+
+with tempfile.TemporaryDirectory() as room:
+    names = []
+    for name, text in (("two_gates", TWO_GATES), ("toggle", TOGGLE), ("rows", b"11\n01\n")):
+        names.append(os.path.join(room, name))
+        with open(names[-1], "wb") as file:
+            file.write(text)
+    two_gates, toggle, rows = names
+    script(two_gates, rows)
+    stimulus(toggle)
+    closed("bench", b"v 0 8\n", b"script", "bench", two_gates, rows)
+    closed("sim", b"\n", b"stimulus", "sim", toggle)
+    closed("toaig", TWO_GATES, b"output", "toaig", "--to", "aag")
+print("7 talks passed")
