@@ -1,15 +1,14 @@
 -- When the cells of a grid are the values of a pair (profile).
-use Rattle.std.specs.Prelude.{◌≡◌, ℕ, suc, ◌+◌, ◌*◌, ◌<◌, ◌≤◌, Bool, true, false, List, length, Some, slice_get}
+use Rattle.std.specs.Prelude.{◌≡◌, ℕ, suc, ◌+◌, ◌<◌, ◌≤◌, Bool, true, false, List, length, Some, slice_get}
 use Rattle.aig_base.specs.declared.ternary.Tern.{Tern}
 use Rattle.aig_base.specs.declared.ternary.Tern.TheVariants.{Zero}
-use Rattle.aig_base.specs.declared.latch.Latch.{Latch}
 use Rattle.aig_base.specs.declared.raw.Raw.{Raw}
-use Rattle.aig_base.specs.Grounded.{IsSource}
-use Rattle.aig_base.specs.Literal.{variable}
-use Rattle.aig_base.specs.Sections.{IsDefined, IsGate}
+use Rattle.aig_base.specs.Sections.{IsGate}
+use Rattle.aig_base.specs.Value.{start_of}
+use Rattle.aig_sim.specs.Frame as frame
 use Rattle.aig_sim.specs.InputRows.{row_at}
 use Rattle.aig_bench.specs.declared.plan.Plan.{Plan}
-use Rattle.aig_bench.specs.Pair.{Pair, HasValue}
+use Rattle.aig_bench.specs.Pair.{Pair}
 use Rattle.aig_bench.specs.Plan.{IsPlan, pair_of}
 
 -- a flag for each variable, true for those of gates
@@ -30,23 +29,21 @@ pub record IsLaidOut (plan : Plan) (flags : List Bool) (cells : List (List Tern)
   pub rows_are : AreRows plan.circuit (length plan.stimulus.rows) cells
 
 -- in the row of a frame the cell of the variable is its value
-pub record Holds (p : Pair) (t : ℕ) (row : List Tern) (v : ℕ) : Type 0 where
-  pub cell : Tern
-  pub cell_is : slice_get row v ≡ Some cell
-  pub value_is : HasValue p t (2 * v) cell
+abbrev pub Holds : Pair → ℕ → List Tern → ℕ → Type 0
+Holds p t row v = frame.Holds p.circuit (start_of p.circuit) p.rows t row v
 
 abbrev pub HoldsInputs : Pair → ℕ → List Tern → Type 0
-HoldsInputs p t row = (i l : ℕ) → slice_get p.circuit.inputs i ≡ Some l → Holds p t row (variable l)
+HoldsInputs p t row = frame.HoldsInputs p.circuit (start_of p.circuit) p.rows t row
 
 abbrev pub HoldsLatches : Pair → ℕ → List Tern → Type 0
-HoldsLatches p t row = (i : ℕ) (x : Latch) → slice_get p.circuit.latches i ≡ Some x → Holds p t row (variable x.lit)
+HoldsLatches p t row = frame.HoldsLatches p.circuit (start_of p.circuit) p.rows t row
 
 abbrev pub HoldsSources : Pair → ℕ → List Tern → Type 0
-HoldsSources p t row = (v : ℕ) → IsSource p.circuit v → Holds p t row v
+HoldsSources p t row = frame.HoldsSources p.circuit (start_of p.circuit) p.rows t row
 
 -- the row of a frame has the value of each variable that is defined
 abbrev pub IsCurrentRow : Pair → ℕ → List Tern → Type 0
-IsCurrentRow p t row = (v : ℕ) → IsDefined p.circuit v → Holds p t row v
+IsCurrentRow p t row = frame.HoldsAll p.circuit (start_of p.circuit) p.rows t row
 
 -- so do the rows of the first n frames
 pub record AreCurrent (p : Pair) (n : ℕ) (cells : List (List Tern)) : Type 0 where

@@ -9,11 +9,6 @@ use Rattle.aig_bench.specs.Pair.{Pair}
 use Rattle.aig_bench.specs.Plan.{pair_of}
 use Rattle.aig_bench.proofs.trace.write_frames.Goals as goal
 
--- a row that is current holds all values
-holds_all : (p : Pair) (t : ℕ) (row : List Tern) → IsCurrentRow p t row
-    → HoldsAll p.circuit (start_of p.circuit) p.rows t row
-holds_all p t row h v d = let k = h v d in record { cell = k.cell; cell_is = k.cell_is; value_is = k.value_is }
-
 pub returns : goal.returns
 returns g c =
     let plan = c.args.plan.now in
@@ -22,6 +17,6 @@ returns g c =
     let h = c.requires in (
       trace_text plan.circuit cells,
       trace_is plan.circuit (start_of plan.circuit) plan.stimulus.rows cells h.plan_is.circuit.sound
-          h.laid_out.rows_are.frames_are (λ t lt. holds_all p t _ (h.current.each t lt)),
+          h.laid_out.rows_are.frames_are h.current.each,
       c.write_trace.ensures,
     )
