@@ -13,6 +13,7 @@ pub mod EntryPlaces
 pub mod Evens
 pub mod Faults
 pub mod Gates
+pub mod GatherLemmas
 pub mod Gets
 pub mod Heights
 pub mod Joined

@@ -9,6 +9,7 @@ pub mod Entries
 pub mod Filled
 pub mod FirstFault
 pub mod Formed
+pub mod Gathered
 pub mod Grounded
 pub mod Laws
 pub mod Least

@@ -1,6 +1,5 @@
 pub mod Delta
 pub mod Fits
-pub mod Gathered
 pub mod Header
 pub mod Held
 pub mod Meaning

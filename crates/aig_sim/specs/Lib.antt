@@ -1,7 +1,6 @@
 pub mod Cells
 pub mod Checking
 pub mod Frame
-pub mod Gathered
 pub mod GateOrder
 pub mod InputRows
 pub mod LineInHand

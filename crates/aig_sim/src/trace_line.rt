@@ -3,7 +3,7 @@ ghost use Rattle.std.specs.Prelude.{◌≡◌, ℕ, ◌+◌, ◌≤◌, [], ◌�
 ghost use Rattle.aig_base.specs.Bytes.{Writes};
 ghost use Rattle.aig_base.specs.Circuit.{IsCircuit};
 ghost use Rattle.aig_base.specs.Literal.{variable};
-ghost use Rattle.aig_sim.specs.Gathered.{Gathers};
+ghost use Rattle.aig_base.specs.Gathered.{Gathers};
 ghost use Rattle.aig_sim.specs.StimulusText.{character};
 ghost use Rattle.aig_sim.specs.TraceText.{literal_character, line_text, trace_text};
 

@@ -1,10 +1,11 @@
 use Rattle.aig_base.proofs.WriteLemmas.{writes_same}
-use Rattle.aig_format.proofs.GatherLemmas.{written_part, whole_failed, whole_written}
+use Rattle.aig_base.proofs.GatherLemmas.{written_part}
+use Rattle.aig_format.proofs.GatherLemmas.{whole_failed, whole_written}
 use Rattle.aig_format.proofs.ascii_writer.write_ascii.Goals as goal
 
 pub returns-in_err-put_ascii-clause-written : goal.returns-in_err-put_ascii-clause-written
 returns-in_err-put_ascii-clause-written g c =
-    written_part (rw c.new-block.ensures at c.in_err-put_ascii.ensures) c.from_residual.ensures.0
+    written_part c.new-block.ensures c.in_err-put_ascii.ensures c.from_residual.ensures.0
 
 pub returns-in_err-write_all-clause-written : goal.returns-in_err-write_all-clause-written
 returns-in_err-write_all-clause-written g c =

@@ -1,14 +1,14 @@
 use Rattle.std.proofs.Common.{ap}
 use Rattle.aig_format.specs.Spelling.{gate_deltas}
-use Rattle.aig_format.proofs.GatherLemmas.{gathers_stop_at, gathers_more, gathers_same}
+use Rattle.aig_base.proofs.GatherLemmas.{piece_failed, piece_more, gathers_same}
 use Rattle.aig_format.proofs.binary_writer.put_gates.Goals as goal
 
 pub returns-in_err-put_gate : goal.returns-in_err-put_gate
 returns-in_err-put_gate g c =
-    gathers_stop_at gate_deltas c.args.gates.now c.loop-gate.gate-index c.gate-item.result c.loop-gate.invariant c.loop-gate-test.true
+    piece_failed gate_deltas c.args.gates.now c.loop-gate.gate-index c.gate-item.result c.loop-gate.invariant c.loop-gate-test.true
     (gathers_same c.in_err-put_gate.ensures (ap gate_deltas c.gate-item.is)) c.from_residual.ensures.0
 
 pub loop-gate-preserved : goal.loop-gate-preserved
 loop-gate-preserved g c =
-    gathers_more gate_deltas c.args.gates.now c.loop-gate.gate-index c.gate-item.result c.loop-gate.invariant c.loop-gate-test.true
+    piece_more gate_deltas c.args.gates.now c.loop-gate.gate-index c.gate-item.result c.loop-gate.invariant c.loop-gate-test.true
     (gathers_same c.in_ok-put_gate.ensures (ap gate_deltas c.gate-item.is))

@@ -1,6 +1,6 @@
 use Rattle.std.proofs.Common.{◌-◌, ◌/◌, sym}
 use Rattle.aig_format.specs.Delta.{groups}
-use Rattle.aig_format.proofs.GatherLemmas.{gathers_then, gathers_stop, gathers_failed, gathers_same}
+use Rattle.aig_base.proofs.GatherLemmas.{gathers_then, gathers_stop, gathers_failed, gathers_same}
 use Rattle.aig_format.proofs.Written.{groups_step}
 use Rattle.aig_format.proofs.delta_writer.+put_groups.Goals as goal
 

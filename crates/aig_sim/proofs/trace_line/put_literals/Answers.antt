@@ -1,7 +1,8 @@
 use Rattle.std.proofs.Common.{[], ◌∷◌, ap, ◌∙◌, arith}
 use Rattle.aig_sim.specs.StimulusText.{character}
 use Rattle.aig_sim.specs.TraceText.{literal_character}
-use Rattle.aig_sim.proofs.GatherLemmas.{byte_more, byte_failed, all_gathered, gathers_then}
+use Rattle.aig_base.proofs.GatherLemmas.{gathers_then}
+use Rattle.aig_sim.proofs.GatherLemmas.{byte_more, byte_failed, all_gathered}
 use Rattle.aig_sim.proofs.trace_line.put_literals.Goals as goal
 
 pub loop-literal-preserved : goal.loop-literal-preserved

@@ -2,7 +2,7 @@
 use Rattle.std.specs.Prelude.{◌≡◌, ℕ, ◌+◌, List, ◌++◌, Option, Result, OnOk, OnErr}
 use Rattle.aig_base.specs.Bytes.{after, failed, IsBeginning}
 
--- the writer got a part of what waited and of the bytes, and the rest waits; where the call failed it got a beginning
+-- The writer got a part of what waited and of the bytes, and the rest waits. Where the call failed it got a beginning.
 pub record Gathers {X T E : Type 0} (written : X → Option (List ℕ)) (failures : X → ℕ) (old new : X) (held held' bytes : List ℕ)
     (r : Result T E) : Type 0 where
   pub handed : List ℕ
