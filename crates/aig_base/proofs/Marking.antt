@@ -1,6 +1,7 @@
 -- The search for the grounded variables: one more mark, one more gate, one more variable whose readers are visited.
-use Rattle.std.proofs.Common.{◌≡◌, ℕ, zero, suc, ◌+◌, ◌*◌, ◌/◌, ◌<◌, ◌⊎◌, inl, inr, List, [], ◌∷◌, ◌++◌, length, set, map, get_or, Bool, true, false, not, cond, Some, option_map, refl, sym, ap, subst, ◌∙◌, arith, slice_get, Contains}
-use Rattle.std.proofs.lemmas.List.{length-set, length_push}
+use Rattle.std.proofs.Common.{◌≡◌, ℕ, zero, suc, ◌+◌, ◌*◌, ◌/◌, ◌<◌, ◌⊎◌, inl, inr, List, [], ◌∷◌, ◌++◌, length, set, map, get_or, Bool, true, false, not, cond, Some, option_map, refl, sym, ap, subst, ◌∙◌, arith, slice_get, Contains, Result, Ok, Err, OnOk}
+use Rattle.std.proofs.lemmas.List.{length-set, length_push, set-get_or}
+use Rattle.std.proofs.lemmas.Bool.{cases_Bool}
 use Rattle.std.proofs.lemmas.List.Elements.{Contains-push, Contains-push_cases, Contains-append_left, Contains-append_right, Contains-append_cases, All-contains}
 use Rattle.std.proofs.lemmas.List.Sums.{sum_by-set}
 use Rattle.std.proofs.lemmas.Option.{slice_get-get_or, slice_get_within, same_Some, get_or_from_slice_get, slice_get-map, none-some}
@@ -12,17 +13,10 @@ use Rattle.aig_base.specs.Least.{latch_variable}
 use Rattle.aig_base.specs.Links.{Leads, AreLinks}
 use Rattle.aig_base.specs.Literal.{variable}
 use Rattle.aig_base.specs.Marks.{IsMarked, AreMarks, sides, AreStarted, AddsMark, Moves, Waits, IsMarking}
+use Rattle.aig_base.specs.Walk.{Meets}
 use Rattle.aig_base.proofs.Chains.{leads_cases, leads_nowhere, side_first, side_second}
 use Rattle.aig_base.proofs.Entering.{same_or_not}
 use Rattle.aig_base.proofs.Gets.{slice_get-set_same, slice_get-set_other, Contains-from_get, get_from_Contains, All-by_get, same_element}
-
--- a mark that is not set is false
-pub false_from_unmarked : (marks : List Bool) (v : ℕ) → v < length marks → (IsMarked marks v → ⊥) → slice_get marks v ≡ Some false
-false_from_unmarked marks v l unmarked = go (get_or marks v false) (slice_get-get_or marks v false l)
-  where
-    go : (b : Bool) → slice_get marks v ≡ Some b → slice_get marks v ≡ Some false
-    go true e = absurd (unmarked e)
-    go false e = e
 
 module _ (v : ℕ) (marks : List Bool) (pending : List ℕ) where
   -- a variable that was not marked
@@ -60,6 +54,26 @@ module _ (v : ℕ) (marks : List Bool) (pending : List ℕ) where
     waiting = λ u c. c;
     new_waiting = λ u c. inl c;
   }
+
+-- a walk that meets a variable marks it
+pub met_is_marked : (v : ℕ) (marks marks' : List Bool) (pending pending' : List ℕ) → v < length marks
+    → Meets v marks marks' pending pending' → AddsMark v marks pending marks' pending'
+met_is_marked v marks marks' pending pending' lt m = elim (cases_Bool (get_or marks v false)) [
+  | inl e ↦
+      let at : slice_get marks v ≡ Some true = slice_get-get_or marks v false lt ∙ ap Some e in
+      let same : marks' ≡ marks = m.marked ∙ ap (λ (b : Bool). set marks v b) (sym e) ∙ set-get_or marks v false in
+      let none : pending' ≡ pending = rw e at m.added in
+      rw (same, none) (mark_none v marks pending at)
+  | inr e ↦
+      let at : slice_get marks v ≡ Some false = slice_get-get_or marks v false lt ∙ ap Some e in
+      let more : pending' ≡ pending ++ v ∷ [] = rw e at m.added in
+      rw (m.marked, more) (mark_new v marks pending at)
+]
+
+pub mark_meets : {T E : Type 0} (v : ℕ) (marks marks' : List Bool) (pending pending' : List ℕ) (r : Result T E)
+    → v < length marks → OnOk r (Meets v marks marks' pending pending') → OnOk r (AddsMark v marks pending marks' pending')
+mark_meets v marks marks' pending pending' (Ok x) lt m = met_is_marked v marks marks' pending pending' lt m
+mark_meets v marks marks' pending pending' (Err e) lt m = tt
 
 module _ {v : ℕ} {marks : List Bool} {pending : List ℕ} {marks' : List Bool} {pending' : List ℕ} where
   pub moves_from_mark : AddsMark v marks pending marks' pending' → Moves marks pending marks' pending'

@@ -12,45 +12,40 @@ use crate::gate::Gate;
 use crate::latch::Latch;
 use crate::links::Links;
 use crate::literal::Lit;
-use std::alloc::{AllocError, Global};
+use crate::walk::Walk;
+use std::alloc::Global;
 
-/// The marked variables, and those of them whose readers are still to be visited.
+/// A walk that meets the variables which are known to be grounded; pending are those whose readers are still to be
+/// visited.
 #[derive(Drop)]
 struct Marking {
-    marks: Vec<bool>,
-    pending: Vec<u32>,
+    walk: Walk,
 }
 
 impl Marking {
-    fn empty(alloc: Global, max_var: u32) -> Result<Marking, AllocError>
+    fn empty(alloc: Global, max_var: u32) -> Result<Marking, Memory>
         requires { max_var ≤ limit }
-        ensures started { IfOk result (λ m. AreStarted [] m.marks.items m.pending.items) }
-        ensures below { IfOk result (λ m. All (λ v. v < length m.marks.items) m.pending.items) }
-        ensures size { IfOk result (λ m. length m.marks.items ≡ max_var + 1) }
+        ensures started { IfOk result (λ m. AreStarted [] m.walk.met.items m.walk.pending.items) }
+        ensures below { IfOk result (λ m. All (λ v. v < length m.walk.met.items) m.walk.pending.items) }
+        ensures size { IfOk result (λ m. length m.walk.met.items ≡ max_var + 1) }
     {
-        Ok(Marking {
-            marks: vec![in alloc; false; max_var as usize + 1]?,
-            pending: Vec::new(alloc),
-        })
+        let walk = Walk::new(alloc, max_var)?;
+        Ok(Marking { walk })
     }
 
     fn is_marked(&self, variable: u32) -> bool
-        requires { variable < length self.now.marks.items }
-        ensures { IsTrue result ↔ IsMarked self.now.marks.items variable }
+        requires { variable < length self.now.walk.met.items }
+        ensures { IsTrue result ↔ IsMarked self.now.walk.met.items variable }
     {
-        self.marks[variable as usize]
+        self.walk.met[variable as usize]
     }
 
     // Marks a variable, and lets it wait unless it was marked.
     fn mark(&mut self, variable: u32) -> Result<(), Memory>
-        requires { variable < length self.old.marks.items }
-        ensures { OnOk result (AddsMark variable self.old.marks.items self.old.pending.items self.new.marks.items self.new.pending.items) }
+        requires { variable < length self.old.walk.met.items }
+        ensures { OnOk result (AddsMark variable self.old.walk.met.items self.old.walk.pending.items self.new.walk.met.items self.new.walk.pending.items) }
     {
-        if !self.is_marked(variable) {
-            self.pending.push(variable)?;
-            self.marks[variable as usize] = true;
-        }
-        Ok(())
+        self.walk.meet(variable)
     }
 
     // Marks variable 0, the inputs and the latches.
@@ -64,9 +59,9 @@ impl Marking {
         requires inputs { All (λ l. variable l < max_var + 1) inputs.now }
         requires latches { All (λ x. variable x.lit < max_var + 1) latches.now }
         ensures started { IfOk result
-            (λ m. AreStarted (0 ∷ map variable inputs.now ++ map latch_variable latches.now) m.marks.items m.pending.items) }
-        ensures below { IfOk result (λ m. All (λ v. v < length m.marks.items) m.pending.items) }
-        ensures size { IfOk result (λ m. length m.marks.items ≡ max_var + 1) }
+            (λ m. AreStarted (0 ∷ map variable inputs.now ++ map latch_variable latches.now) m.walk.met.items m.walk.pending.items) }
+        ensures below { IfOk result (λ m. All (λ v. v < length m.walk.met.items) m.walk.pending.items) }
+        ensures size { IfOk result (λ m. length m.walk.met.items ≡ max_var + 1) }
     {
         let mut marking = Marking::empty(alloc, max_var)?;
         marking.mark(0)?;
@@ -82,12 +77,12 @@ impl Marking {
     // Marks the left side of a gate if both right sides are marked. `IsMarking` goes on from a position of this gate to
     // the link that follows.
     fn visit(&mut self, gate: Gate) -> Result<(), Memory>
-        requires { IsGateBelow (length self.old.marks.items) gate }
-        ensures moves { OnOk result (Moves self.old.marks.items self.old.pending.items self.new.marks.items self.new.pending.items) }
+        requires { IsGateBelow (length self.old.walk.met.items) gate }
+        ensures moves { OnOk result (Moves self.old.walk.met.items self.old.walk.pending.items self.new.walk.met.items self.new.walk.pending.items) }
         ensures marking { OnOk result ((raw : Raw) (next : List ℕ) (p link : ℕ)
             → slice_get raw.gates (p / 2) ≡ Some gate → slice_get next p ≡ Some link
-            → IsMarking raw next (suc p) self.old.marks.items self.old.pending.items
-            → IsMarking raw next link self.new.marks.items self.new.pending.items) }
+            → IsMarking raw next (suc p) self.old.walk.met.items self.old.walk.pending.items
+            → IsMarking raw next link self.new.walk.met.items self.new.walk.pending.items) }
     {
         if self.is_marked(gate.rhs0.var()) && self.is_marked(gate.rhs1.var()) {
             self.mark(gate.lhs.var())?;
@@ -98,12 +93,12 @@ impl Marking {
     // Visits the gates of a chain, from this link on.
     fn visit_chain(&mut self, readers: &Links, gates: &[Gate], mut link: u32) -> Result<(), Memory>
         requires readers { AreLinks (sides gates.now) readers.now.first.items readers.now.next.items }
-        requires gates { All (IsGateBelow (length self.old.marks.items)) gates.now }
+        requires gates { All (IsGateBelow (length self.old.walk.met.items)) gates.now }
         requires link { link ≤ length readers.now.next.items }
-        ensures moves { OnOk result (Moves self.old.marks.items self.old.pending.items self.new.marks.items self.new.pending.items) }
+        ensures moves { OnOk result (Moves self.old.walk.met.items self.old.walk.pending.items self.new.walk.met.items self.new.walk.pending.items) }
         ensures marking { OnOk result ((raw : Raw) → raw.gates ≡ gates.now
-            → IsMarking raw readers.now.next.items link self.old.marks.items self.old.pending.items
-            → IsMarking raw readers.now.next.items 0 self.new.marks.items self.new.pending.items) }
+            → IsMarking raw readers.now.next.items link self.old.walk.met.items self.old.walk.pending.items
+            → IsMarking raw readers.now.next.items 0 self.new.walk.met.items self.new.walk.pending.items) }
     {
         while link != 0 {
             let position = link as usize - 1;
@@ -116,17 +111,17 @@ impl Marking {
     // Visits the readers of each variable that waits, until none does.
     fn close(&mut self, readers: &Links, gates: &[Gate]) -> Result<(), Memory>
         requires readers { AreLinks (sides gates.now) readers.now.first.items readers.now.next.items }
-        requires size { length readers.now.first.items ≡ length self.old.marks.items }
-        requires gates { All (IsGateBelow (length self.old.marks.items)) gates.now }
-        requires below { All (λ v. v < length self.old.marks.items) self.old.pending.items }
-        ensures size { OnOk result (length self.new.marks.items ≡ length self.old.marks.items) }
-        ensures done { OnOk result (self.new.pending.items ≡ []) }
+        requires size { length readers.now.first.items ≡ length self.old.walk.met.items }
+        requires gates { All (IsGateBelow (length self.old.walk.met.items)) gates.now }
+        requires below { All (λ v. v < length self.old.walk.met.items) self.old.walk.pending.items }
+        ensures size { OnOk result (length self.new.walk.met.items ≡ length self.old.walk.met.items) }
+        ensures done { OnOk result (self.new.walk.pending.items ≡ []) }
         ensures marking { OnOk result ((raw : Raw) → raw.gates ≡ gates.now
-            → IsMarking raw readers.now.next.items 0 self.old.marks.items self.old.pending.items
-            → IsMarking raw readers.now.next.items 0 self.new.marks.items self.new.pending.items) }
-        ensures kept { OnOk result ((v : ℕ) → IsMarked self.old.marks.items v → IsMarked self.new.marks.items v) }
+            → IsMarking raw readers.now.next.items 0 self.old.walk.met.items self.old.walk.pending.items
+            → IsMarking raw readers.now.next.items 0 self.new.walk.met.items self.new.walk.pending.items) }
+        ensures kept { OnOk result ((v : ℕ) → IsMarked self.old.walk.met.items v → IsMarked self.new.walk.met.items v) }
     {
-        while let Some(variable) = self.pending.pop() {
+        while let Some(variable) = self.walk.pending.pop() {
             let link = readers.first(variable);
             self.visit_chain(readers, gates, link)?;
         }
@@ -154,6 +149,5 @@ pub(crate) fn grounded_marks(
     let readers = Links::of_sides(alloc, max_var, gates)?;
     let mut marking = Marking::of_sources(alloc, max_var, inputs, latches)?;
     marking.close(&readers, gates)?;
-    let Marking { marks, pending: _ } = marking;
-    Ok(marks)
+    Ok(marking.walk.met)
 }

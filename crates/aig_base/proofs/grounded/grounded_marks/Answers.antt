@@ -8,9 +8,9 @@ use Rattle.aig_base.proofs.grounded.grounded_marks.Goals as goal
 pub returns : goal.returns
 returns c = λ raw has.
     let next = c.in_ok-readers.readers.next.items in
-    let marks = c.in_ok-marking.marking.marks.items in
-    let pending = c.in_ok-marking.marking.pending.items in
-    let new = c.close.new.self.marks.items in
+    let marks = c.in_ok-marking.marking.walk.met.items in
+    let pending = c.in_ok-marking.marking.walk.pending.items in
+    let new = c.close.new.self.walk.met.items in
     let same : 0 ∷ map variable c.args.inputs.now ++ map latch_variable c.args.latches.now ≡ source_variables raw =
     rw (has.of_inputs, has.of_latches) refl in
     let started = started_same _ (source_variables raw) _ _ same c.in_ok-marking.ensures.started in

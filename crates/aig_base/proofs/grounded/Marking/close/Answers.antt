@@ -5,8 +5,8 @@ use Rattle.aig_base.proofs.grounded.Marking.close.Goals as goal
 
 pub loop-variable-preserved : goal.loop-variable-preserved
 loop-variable-preserved c =
-    let marks = c.loop-variable.self.marks.items in
-    let pending = c.loop-variable.self.pending.items in
+    let marks = c.loop-variable.self.walk.met.items in
+    let pending = c.loop-variable.self.walk.pending.items in
     let rest = c.pop.new.self.items in
     let v = c.in-Some.variable in
     let i = c.loop-variable.invariant in

@@ -5,13 +5,13 @@ use Rattle.aig_base.proofs.grounded.Marking.close.Given as goal
 
 abbrev pub invariant-loop-variable : goal.invariant-loop-variable
 invariant-loop-variable l = record {
-  size : length l.self.marks.items ≡ length l.initial.self.marks.items;
-  below : All (λ v. v < length l.self.marks.items) l.self.pending.items;
-  kept : (v : ℕ) → IsMarked l.initial.self.marks.items v → IsMarked l.self.marks.items v;
+  size : length l.self.walk.met.items ≡ length l.initial.self.walk.met.items;
+  below : All (λ v. v < length l.self.walk.met.items) l.self.walk.pending.items;
+  kept : (v : ℕ) → IsMarked l.initial.self.walk.met.items v → IsMarked l.self.walk.met.items v;
   marking : (raw : Raw) → raw.gates ≡ l.gates
-      → IsMarking raw l.readers.next.items 0 l.initial.self.marks.items l.initial.self.pending.items
-      → IsMarking raw l.readers.next.items 0 l.self.marks.items l.self.pending.items;
+      → IsMarking raw l.readers.next.items 0 l.initial.self.walk.met.items l.initial.self.walk.pending.items
+      → IsMarking raw l.readers.next.items 0 l.self.walk.met.items l.self.walk.pending.items;
 }
 
 abbrev pub decreases-loop-variable : goal.decreases-loop-variable
-decreases-loop-variable l = steps_left l.self.marks.items l.self.pending.items
+decreases-loop-variable l = steps_left l.self.walk.met.items l.self.walk.pending.items

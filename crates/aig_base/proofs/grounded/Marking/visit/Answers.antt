@@ -9,10 +9,10 @@ returns-in_ok-mark-clause-moves c = moves_from_mark c.in_ok-mark.ensures
 
 pub returns-in_ok-mark-clause-marking : goal.returns-in_ok-mark-clause-marking
 returns-in_ok-mark-clause-marking c = λ raw next p link at on i.
-    let marks = c.args.self.now.marks.items in
-    let pending = c.args.self.now.pending.items in
-    let marks' = c.mark.new.self.marks.items in
-    let pending' = c.mark.new.self.pending.items in
+    let marks = c.args.self.now.walk.met.items in
+    let pending = c.args.self.now.walk.pending.items in
+    let marks' = c.mark.new.self.walk.met.items in
+    let pending' = c.mark.new.self.walk.pending.items in
     let m0 = subst (λ (v : ℕ). IsMarked marks v) c.var.ensures (c.is_marked.ensures.0 c.if-is_marked.true) in
     let m1 = subst (λ (v : ℕ). IsMarked marks v) c.var-then-is_marked.ensures (c.is_marked-then-is_marked.ensures.0 c.if-is_marked-2.true) in
     let adds = subst (λ (v : ℕ). AddsMark v marks pending marks' pending') c.var-then-is_marked-2.ensures c.in_ok-mark.ensures in
@@ -20,8 +20,8 @@ returns-in_ok-mark-clause-marking c = λ raw next p link at on i.
 
 pub returns-else-is_marked-clause-marking : goal.returns-else-is_marked-clause-marking
 returns-else-is_marked-clause-marking c = λ raw next p link at on i.
-    let marks = c.args.self.now.marks.items in
-    visit_none raw next p link c.args.gate at on marks c.args.self.now.pending.items
+    let marks = c.args.self.now.walk.met.items in
+    visit_none raw next p link c.args.gate at on marks c.args.self.now.walk.pending.items
     (λ a b. elim c.else-is_marked.branch [
       | else-is_marked-via-then-is_marked+else-is_marked-2 w ↦
           let m = subst (λ (v : ℕ). IsMarked marks v) (sym w.var-then-is_marked.ensures) b in

@@ -16,7 +16,7 @@ visit-requires c =
     let q = (c.loop-link.link - 1) / 2 in
     let within : q < length gates =
     omega (arith, c.requires.readers.size, length-sides c.args.gates.now, c.loop-link.invariant.within, c.loop-link-test.true) in
-    let here = subst (λ (g : Gate). IsGateBelow (length c.args.self.now.marks.items) g) (sym c.index-gates-position.is)
+    let here = subst (λ (g : Gate). IsGateBelow (length c.args.self.now.walk.met.items) g) (sym c.index-gates-position.is)
     (c.requires.gates q c.index-gates-position.result within) in
     subst (λ (n : ℕ). IsGateBelow n c.index-gates-position.result) (sym c.loop-link.invariant.moves.size) here
 
@@ -37,5 +37,5 @@ loop-link-preserved c =
       marking = λ raw same begun.
           c.in_ok-visit.ensures.marking raw next p c.next-link.result
           (subst (λ gs. slice_get gs (p / 2) ≡ Some gate) (sym same) at) c.next-link.ensures
-          (subst (λ n. IsMarking raw next n c.loop-link.self.marks.items c.loop-link.self.pending.items) link (i.marking raw same begun));
+          (subst (λ n. IsMarking raw next n c.loop-link.self.walk.met.items c.loop-link.self.walk.pending.items) link (i.marking raw same begun));
     }
