@@ -7,6 +7,7 @@ ghost use Rattle.aig_base.specs.Grounded.{IsAcyclic};
 ghost use Rattle.aig_base.specs.Levels.{AreLevels};
 ghost use Rattle.aig_base.specs.Literal.{variable};
 ghost use Rattle.aig_base.specs.Readers.{AreReaders, list_of};
+ghost use Rattle.aig_base.specs.Renumbered.{IsBinaryReady};
 ghost use Rattle.aig_base.specs.Sections.{IsDefined, IsLeftSide};
 ghost use Rattle.aig_bench.specs.Buckets.{Waits};
 ghost use Rattle.aig_bench.specs.Edit.{Edits, rewire, set_reset, set_bit, add_frame, drop_frame};
@@ -16,6 +17,7 @@ ghost use Rattle.aig_bench.specs.Question.{AnswersValue};
 ghost use Rattle.aig_bench.specs.Sweep.{IsWork, IsWorking};
 ghost use Rattle.aig_bench.specs.Touched.{Works};
 ghost use Rattle.aig_sim.specs.StimulusText.{HaveWidth};
+ghost use Rattle.aig_unroll.specs.Answers.{AnswersUnrolling};
 
 use crate::allowed::{CELLS, check_reset, check_rewire, is_defined};
 use crate::bench_fault::BenchFault;
@@ -30,6 +32,7 @@ use crate::trace::write_frames;
 use crate::value::literal_at;
 use aig_base::{Circuit, Io, Levels, Lit, Memory, Readers, Tern, Write};
 use aig_sim::{FRAMES, Grid, Stimulus};
+use aig_unroll::{UnrollFault, unroll};
 use std::alloc::Global;
 use std::marker::Model;
 
@@ -333,5 +336,14 @@ impl<G: Grid> Bench<G> {
         ensures { (text : List ℕ) × HasTrace self.now.pair text × Writes W.written W.failures out.old out.new text result }
     {
         write_frames(out, &self.grid, &self.plan)
+    }
+
+    /// The current circuit unrolled for as many frames as there are, as `unroll` gives it: with the gates of a frame in the
+    /// canonical order of the circuit as it is now. It takes memory (profile).
+    pub fn unrolled(&self, alloc: Global) -> Result<Circuit, UnrollFault>
+        ensures answers { AnswersUnrolling self.now.pair.circuit (length self.now.pair.rows) result }
+        ensures ready { IfOk result IsBinaryReady }
+    {
+        unroll(alloc, &self.plan.circuit, &self.net.levels, self.frames())
     }
 }

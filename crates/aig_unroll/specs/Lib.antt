@@ -1,3 +1,4 @@
+pub mod Answers
 pub mod FrameLiteral
 pub mod FrameTable
 pub mod Limits

@@ -1,11 +1,12 @@
 //! Unrolling.
-ghost use Rattle.std.specs.Prelude.{◌≡◌, ◌<◌, ◌≤◌, ◌↔◌, ℕ, List, IfOk, OnOk, IsErrOf};
+ghost use Rattle.std.specs.Prelude.{◌≡◌, ◌≤◌, IfOk, IfErr, OnOk};
 ghost use Rattle.aig_base.specs.Circuit.{IsCircuit};
 ghost use Rattle.aig_base.specs.Formed.{limit};
 ghost use Rattle.aig_base.specs.Levels.{AreLevels};
 ghost use Rattle.aig_base.specs.Order.{IsCanonicalOrder};
 ghost use Rattle.aig_base.specs.Renumbered.{evens, IsBinaryReady};
-ghost use Rattle.aig_unroll.specs.Limits.{FitsLimits, HasLiveness};
+ghost use Rattle.aig_unroll.specs.Answers.{AnswersUnrolling, IsUnrollable, IsUnrolled, RefusesUnrolling};
+ghost use Rattle.aig_unroll.specs.Limits.{FitsLimits};
 ghost use Rattle.aig_unroll.specs.Unrolled.{unrolled};
 
 use crate::fault::UnrollFault;
@@ -83,8 +84,7 @@ fn unrolled_circuit(
 ) -> Result<Circuit, Memory>
     requires levels { AreLevels circuit.now levels.now }
     requires fits { FitsLimits circuit.now frames }
-    ensures parts { IfOk result (λ new.
-        (order : List ℕ) × IsCanonicalOrder circuit.now order × (new ≡ unrolled circuit.now order frames)) }
+    ensures parts { IfOk result (IsUnrolled circuit.now frames) }
     ensures ready { IfOk result IsBinaryReady }
 {
     // Its contract tells that the parts are a circuit.
@@ -96,12 +96,8 @@ fn unrolled_circuit(
 
 // The first fault that stands in the way of unrolling.
 fn check_request(circuit: &Circuit, frames: u32) -> Result<(), UnrollFault>
-    ensures no_frames { IsErrOf result UnrollFault.NoFrames ↔ (frames ≡ 0) }
-    ensures liveness { IsErrOf result UnrollFault.Liveness ↔ ((0 < frames) × HasLiveness circuit.now) }
-    ensures limit { IsErrOf result UnrollFault.Limit
-        ↔ ((0 < frames) × (HasLiveness circuit.now → ⊥) × (FitsLimits circuit.now frames → ⊥)) }
-    ensures memory { IsErrOf result UnrollFault.Memory → ⊥ }
-    ensures fits { OnOk result (FitsLimits circuit.now frames) }
+    ensures unrollable { OnOk result (IsUnrollable circuit.now frames) }
+    ensures refused { IfErr result (RefusesUnrolling circuit.now frames) }
 {
     if frames == 0 {
         return Err(UnrollFault::NoFrames);
@@ -127,12 +123,7 @@ pub fn unroll(
     frames: u32,
 ) -> Result<Circuit, UnrollFault>
     requires { AreLevels circuit.now levels.now }
-    ensures no_frames { IsErrOf result UnrollFault.NoFrames ↔ (frames ≡ 0) }
-    ensures liveness { IsErrOf result UnrollFault.Liveness ↔ ((0 < frames) × HasLiveness circuit.now) }
-    ensures limit { IsErrOf result UnrollFault.Limit
-        ↔ ((0 < frames) × (HasLiveness circuit.now → ⊥) × (FitsLimits circuit.now frames → ⊥)) }
-    ensures unrolled { IfOk result (λ new.
-        (order : List ℕ) × IsCanonicalOrder circuit.now order × (new ≡ unrolled circuit.now order frames)) }
+    ensures answers { AnswersUnrolling circuit.now frames result }
     ensures ready { IfOk result IsBinaryReady }
 {
     check_request(circuit, frames)?;

@@ -1,0 +1,36 @@
+-- What unrolling a circuit for k frames answers (profile).
+use Rattle.std.specs.Prelude.{◌≡◌, ℕ, ◌<◌, List, Result, Ok, Err}
+use Rattle.aig_base.specs.declared.raw.Raw.{Raw}
+use Rattle.aig_base.specs.Order.{IsCanonicalOrder}
+use Rattle.aig_unroll.specs.declared.fault.UnrollFault.{UnrollFault}
+use Rattle.aig_unroll.specs.declared.fault.UnrollFault.TheVariants as faults
+use Rattle.aig_unroll.specs.Limits.{HasLiveness, FitsLimits}
+use Rattle.aig_unroll.specs.Unrolled.{unrolled}
+
+abbrev pub number_of : UnrollFault → ℕ
+number_of faults.NoFrames = 9
+number_of faults.Liveness = 12
+number_of faults.Limit = 10
+number_of faults.Memory = 11
+
+-- nothing but want of memory can refuse it
+pub record IsUnrollable (raw : Raw) (k : ℕ) : Type 0 where
+  pub frames : 0 < k
+  pub no_liveness : HasLiveness raw → ⊥
+  pub limits : FitsLimits raw k
+
+-- it is the circuit unrolled for k frames, with the gates of a frame in the canonical order
+abbrev pub IsUnrolled : Raw → ℕ → Raw → Type 0
+IsUnrolled raw k new = (order : List ℕ) × IsCanonicalOrder raw order × (new ≡ unrolled raw order k)
+
+-- the fault is the first that applies; no memory was found only where none of the others applies
+abbrev pub RefusesUnrolling : Raw → ℕ → UnrollFault → Type 0
+RefusesUnrolling raw k faults.NoFrames = k ≡ 0
+RefusesUnrolling raw k faults.Liveness = (0 < k) × HasLiveness raw
+RefusesUnrolling raw k faults.Limit = (0 < k) × (HasLiveness raw → ⊥) × (FitsLimits raw k → ⊥)
+RefusesUnrolling raw k faults.Memory = IsUnrollable raw k
+
+-- the answer is the unrolled circuit, or the first fault
+abbrev pub AnswersUnrolling : Raw → ℕ → Result Raw UnrollFault → Type 0
+AnswersUnrolling raw k (Ok new) = IsUnrollable raw k × IsUnrolled raw k new
+AnswersUnrolling raw k (Err fault) = RefusesUnrolling raw k fault
