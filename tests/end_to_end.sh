@@ -120,8 +120,8 @@ compare 'bench: standard output is full' 3 $status
 file rows '11\n01\n'
 file script '+\nw 6 2\n+ 12\nq\n'
 row 'bench: more lines that are no command' 0 'bad\nbad\nbad\nbad\n' '' bench two_gates rows script
-file script 'w 6 2 2\nr 2 1\n+ 11\n-\nu\nv 0 8\n'
-row 'bench: edits, and a command that is not built' 0 'ok\nno 2\nok\nok\nbad\n1\n' '' bench two_gates rows script
+file script 'w 6 2 2\nr 2 1\n+ 11\n-\nu \nv 0 8\n'
+row 'bench: edits, and a line that is no command' 0 'ok\nno 2\nok\nok\nbad\n1\n' '' bench two_gates rows script
 file rows '11\n01\n'
 file script 'v 0 8\ns 0 1 0\nv 0 8\nw 6 2 2\nv 0 8\n'
 row 'bench: a gate that is rewired' 0 '1\nok\n0\nok\n1\n' '' bench two_gates rows script
@@ -135,12 +135,12 @@ file script 'w 4 2 14\nw 4 16 2\nv 9 2\nv 0 5\nw 10 14 14\nv 0 4\n'
 file unused 'aag 7 1 0 1 2\n14\n5\n4 10 14\n10 14 15\n'
 row 'bench: unused variables' 0 'no 4\nno 3\nno 4\n1\nok\n1\n' '' bench unused rows script
 file rows ''
-file script '-\nv 0 6\n+ 11\n+ 1\n+ 11'
-row 'bench: frames added to none' 0 'no 9\nno 6\nok\nno 8\nbad\n' '' bench one_gate rows script
+file script '-\nu\nv 0 6\n+ 11\n+ 1\n+ 11'
+row 'bench: frames added to none' 0 'no 9\nno 9\nno 6\nok\nno 8\nbad\n' '' bench one_gate rows script
 file rows '1\n1\n'
-file script 't\nr 4 1\nt\n'
+file script 't\nr 4 1\nt\nu\n'
 file feedback 'aag 3 1 1 1 1\n2\n4 6 4\n4\n6 4 2\n'
-row 'bench: a reset' 0 'x 1 x x\nx 1 x x\n.\nok\n1 1 1 1\n1 1 1 1\n.\n' '' bench feedback rows script
+row 'bench: a reset' 0 'x 1 x x\nx 1 x x\n.\nok\n1 1 1 1\n1 1 1 1\n.\naag 4 2 0 2 2\n2\n4\n1\n6\n6 2 1\n8 6 4\n.\n' '' bench feedback rows script
 file many 'aag 4194303 0 0 0 0\n'
 { for _ in $(seq 16); do echo; done; } > rows
 file script '+ \n-\n+ \n'
@@ -189,7 +189,6 @@ words 'words: help of a subcommand' bench --help
 words 'words: an unknown subcommand' fold
 words 'words: a missing file name' bench two_gates
 words 'words: one file name too many' bench a b c d
-words 'words: a subcommand that is not built' unroll --frames 2 --to aag two_gates
 words 'words: another subcommand that is not built' check two_gates rows
 words 'words: a word that is not UTF-8' toaig --to aag "$(printf '\xff')"
 
@@ -346,6 +345,74 @@ deltas '2,097,152 and 0' 'aig 1048576 1048575 0 0 1\n\x80\x80\x80\x01\x00'
 deltas '8,388,606 and 0, the greatest' 'aig 4194303 4194302 0 0 1\n\xfe\xff\xff\x03\x00'
 both 'all sections and symbols' 'aag 3 1 1 1 1 1 1 1 1\n2\n4 6 4\n6\n6\n4\n1\n6\n4\n6 4 2\nf0 fair\nj0 just\nc0 con\nb0 bad state\no0 out\nl0 state\ni0 in\nc\nhi\n' 'aig 3 1 1 1 1 1 1 1 1\n6 4\n6\n6\n4\n1\n6\n4\n\x02\x02f0 fair\nj0 just\nc0 con\nb0 bad state\no0 out\nl0 state\ni0 in\nc\nhi\n'
 both 'resets' 'aag 9 1 2 1 1\n18\n4 6 4\n8 19 1\n5\n6 4 18\n' 'aig 4 1 2 1 1\n8 4\n3 1\n5\n\x04\x02'
+
+# ---- unroll
+file guarded 'aag 2 2 0 0 0 1 1\n2\n4\n2\n4\n'
+file live 'aag 1 1 0 0 0 0 0 1 1\n2\n2\n2\n3\n2\n'
+{ printf 'aag 64 64 0 0 0\n'; seq 2 2 128; } > wide
+row 'unroll: a latch that negates itself' 0 'aag 0 0 0 6 0\n0\n1\n1\n0\n0\n1\n' '' unroll --frames 3 --to aag toggle
+row 'unroll: an uninitialised latch' 0 'aag 5 3 0 2 2\n2\n4\n6\n6\n8\n8 6 2\n10 8 4\n' '' unroll --frames 2 --to aag feedback
+row 'unroll: to binary' 0 'aig 5 3 0 2 2\n6\n8\n\x02\x04\x02\x04' '' unroll --frames 2 --to aig feedback
+row 'unroll: a guarded bad literal' 0 'aag 8 4 0 0 4 2\n2\n4\n6\n8\n12\n16\n10 4 1\n12 10 2\n14 10 8\n16 14 6\n' '' \
+    unroll --frames 2 --to aag guarded
+row 'unroll: a guarded bad literal, to binary' 0 'aig 8 4 0 0 4 2\n12\n16\n\x06\x03\x02\x08\x04\x02\x02\x08' '' \
+    unroll --frames 2 --to aig guarded
+row 'unroll: no frames' 1 '' 'aig: unroll: no frames\n' unroll --frames 0 --to aag live
+row 'unroll: justice and fairness' 1 '' 'aig: unroll: liveness\n' unroll --frames 1 --to aag live
+row 'unroll: justice and fairness before a limit' 1 '' 'aig: unroll: liveness\n' unroll --frames 65537 --to aag live
+row 'unroll: a variable over its limit' 1 '' 'aig: unroll: limit\n' unroll --frames 65536 --to aag wide
+row 'unroll: more frames than there may be' 1 '' 'aig: unroll: limit\n' unroll --frames 65537 --to aag toggle
+row 'unroll: the greatest number' 1 '' 'aig: unroll: limit\n' unroll --frames 4294967295 --to aig toggle
+"$aig" unroll --frames 65535 --to aag wide > long 2> got.err
+status=$?
+{ head -n 1 long; tail -n 1 long; wc -l < long; } > got.out
+printf 'aag 4194240 4194240 0 0 0\n8388480\n4194241\n' > wanted.out; : > wanted.err
+compare 'unroll: the greatest variable' 0 $status
+row 'unroll: a refused circuit' 1 '' 'aig: circuit: cycle 2\n' unroll --frames 2 --to aag cycle
+row 'unroll: a refused circuit before a refused number' 1 '' 'aig: circuit: cycle 2\n' unroll --frames 0 --to aag cycle
+row 'unroll: no file' 3 '' 'aig: circuit: input or output\n' unroll --frames 2 --to aag nowhere
+"$aig" unroll --frames 2 --to aag feedback > /dev/full 2> got.err
+status=$?
+: > got.out; : > wanted.out; printf 'aig: output: input or output\n' > wanted.err
+compare 'unroll: standard output is full' 3 $status
+words 'unroll: no number' unroll --to aag two_gates
+words 'unroll: a number over its limit' unroll --frames 4294967296 --to aag two_gates
+words 'unroll: no format' unroll --frames 2 two_gates
+file rows '11\n'
+file script 'u\nw 8 2 4\nw 6 8 2\nu\n'
+row 'bench: unrolled as it was rewired' 0 \
+    'aag 4 2 0 1 2\n2\n4\n8\n6 4 2\n8 6 2\n.\nok\nok\naag 4 2 0 1 2\n2\n4\n6\n6 4 2\n8 6 2\n.\n' '' bench two_gates rows script
+file script 'w 8 2 4\nv 0 8\n+ 10\nv 1 6\nu\nv 0 8\n'
+row 'bench: unrolled for a frame that was added' 0 \
+    'ok\n1\nok\n0\naag 8 4 0 2 4\n2\n4\n6\n8\n12\n16\n10 4 2\n12 4 2\n14 8 6\n16 8 6\n.\n1\n' '' bench two_gates rows script
+file rows '11\n11\n'
+file script 'u\n'
+row 'bench: a guarded bad literal' 0 'aag 8 4 0 0 4 2\n2\n4\n6\n8\n12\n16\n10 4 1\n12 10 2\n14 10 8\n16 14 6\n.\n' '' \
+    bench guarded rows script
+file rows '1\n'
+file script 'u\n-\nu\n'
+row 'bench: unrolled with justice and fairness' 0 'no 12\nok\nno 9\n' '' bench live rows script
+yes "$(printf '0%.0s' $(seq 64))" | head -n 65536 > rows
+row 'bench: unrolled over its limit' 0 'no 10\nok\n' '' bench wide rows <(printf 'u\n-\n')
+# outputs_of DESIGN: the outputs of the unrolled design, at the one row of all rows and of unknown start values, are those
+# of all lines of the expected trace.
+outputs_of() {
+    local design=$1 frames free
+    frames=$(wc -l < "$examples/$design.stim")
+    free=$(awk 'NR == 1 { first = $3 + 2; last = $3 + $4 + 1 } NR >= first && NR <= last && $3 == $1 { n++ } END { print n + 0 }' \
+        "$examples/$design.aag")
+    "$aig" unroll --frames "$frames" --to aig "$examples/$design.aag" > unrolled
+    { tr -d '\n' < "$examples/$design.stim"; [ "$free" = 0 ] || printf 'x%.0s' $(seq "$free"); echo; } > rows
+    "$aig" sim unrolled rows > long 2> got.err
+    local status=$?
+    cut -d ' ' -f 3 long > got.out
+    { cut -d ' ' -f 3 "$expected/$design.trace" | tr -d '\n'; echo; } > wanted.out
+    : > wanted.err
+    compare "unroll: $design, the outputs of all frames" 0 $status
+}
+for design in two_gates counter fifo; do
+    outputs_of $design
+done
 
 echo "$passed passed, $failed failed"
 [ "$failed" = 0 ]

@@ -1,7 +1,7 @@
 #!/usr/bin/env bash
 # Runs the built program on small files once for each of its allocations, and refuses that one. Each such run is to write a
 # beginning of what the whole run writes, say that memory is wanting, and end with status 3; or it does without, and ends
-# as the whole run does.
+# as the whole run does. A script that adds a frame and unrolls may also answer `no 11` to one of these, and go on.
 # usage: tests/failing_allocations.sh [PROGRAM]        (without a name: the program that the gate built)
 set -u
 cd "$(dirname "$0")/.."
@@ -46,11 +46,58 @@ each() {
     done
 }
 
+# each_of NAME OUTPUTS WORD..: the same of a script, whose runs with status 0 are to write one of these files.
+each_of() {
+    local name=$1 outputs=$2 calls status ended
+    shift 2
+    REFUSE=0 COUNTED=$room/calls LD_PRELOAD=$room/refuse.so "$aig" "$@" > whole.out 2> whole.err
+    calls=$(cat calls)
+    for ((number = 1; number <= calls; number++)); do
+        REFUSE=$number LD_PRELOAD=$room/refuse.so "$aig" "$@" > got.out 2> got.err
+        status=$?
+        ended=no
+        if [ $status = 3 ] && [ ! -s got.out ] && grep -q 'memory' got.err; then
+            ended=yes
+        elif [ $status = 0 ] && [ ! -s got.err ]; then
+            for output in $outputs; do
+                if cmp -s got.out "$output"; then
+                    ended=yes
+                    touch "$output.seen"
+                fi
+            done
+        fi
+        if [ $ended = yes ]; then
+            passed=$((passed + 1))
+        else
+            failed=$((failed + 1))
+            echo "FAILED: $name, allocation $number of $calls: status $status, $(head -c 80 got.err)"
+        fi
+    done
+    for output in $outputs; do
+        if [ -e "$output.seen" ]; then
+            passed=$((passed + 1))
+        else
+            failed=$((failed + 1))
+            echo "FAILED: $name: no run wrote $output"
+        fi
+    done
+}
+
 printf 'aag 3 1 1 1 1 1 1 1 1\n2\n4 6 4\n6\n6\n4\n1\n6\n4\n6 4 2\ni0 in\nl0 state\nc\nhi\n' > sections
 each 'bench' bench "$examples/two_gates.aag" "$examples/two_gates.stim" "$examples/two_gates.script"
 each 'sim' sim "$examples/counter.aag" "$examples/counter.stim"
 each 'toaig to text' toaig --to aag "$examples/two_gates.aig"
 each 'toaig that renumbers' toaig --to aig "$examples/two_gates.aag"
 each 'toaig of all sections' toaig --to aig sections
+printf 'aag 3 1 1 1 1 1 1\n2\n4 6 4\n6\n6\n4\n6 4 2\n' > guarded
+each 'unroll to text' unroll --frames 3 --to aag guarded
+each 'unroll to binary' unroll --frames 3 --to aig guarded
+printf '11\n' > rows
+printf 'w 8 2 4\nv 0 8\n+ 10\nv 1 6\nu\nv 0 8\n' > script
+printf 'ok\n1\nok\n0\naag 8 4 0 2 4\n2\n4\n6\n8\n12\n16\n10 4 2\n12 4 2\n14 8 6\n16 8 6\n.\n1\n' > nothing_refused
+printf 'ok\n1\nno 11\nno 6\naag 4 2 0 1 2\n2\n4\n8\n6 4 2\n8 4 2\n.\n1\n' > frame_refused
+printf 'ok\n1\nok\n0\nno 11\n1\n' > unrolling_refused
+each_of 'bench that adds a frame and unrolls' 'nothing_refused frame_refused unrolling_refused' \
+    bench "$examples/two_gates.aag" rows script
 echo "$passed passed, $failed failed"
 [ $failed = 0 ] && [ $passed -gt 0 ]

@@ -41,6 +41,7 @@ each() {
 cc -shared -fPIC -O1 -o refuse.so "$tests/refuse_write.c" -ldl 2> cc.err || : > refuse.so
 printf 'aag 3 2 0 1 1\n2\n4\n6\n6 2 4\n' > one_gate
 printf 'aag 3 1 0 1 2\n2\n4\n4 6 2\n6 4 2\n' > cycle
+printf 'aag 1 1 0 0 0 0 0 1 1\n2\n2\n2\n3\n2\n' > live
 printf '11\n' > rows
 printf 'v 0 6\n' > script
 LD_PRELOAD=$room/refuse.so "$aig" toaig --to aag one_gate > got.out 2> got.err
@@ -52,6 +53,11 @@ fi
 each 'toaig' 3 'aig: output: input or output' toaig --to aag one_gate
 each 'toaig to binary' 3 'aig: output: input or output' toaig --to aig one_gate
 each 'toaig of a refused circuit' 1 'aig: circuit: cycle 2' toaig --to aag cycle
+each 'unroll' 3 'aig: output: input or output' unroll --frames 2 --to aag one_gate
+each 'unroll to binary' 3 'aig: output: input or output' unroll --frames 2 --to aig one_gate
+each 'unroll of more than a block' 3 'aig: output: input or output' unroll --frames 2000 --to aag one_gate
+each 'unroll of a refused circuit' 1 'aig: circuit: cycle 2' unroll --frames 2 --to aag cycle
+each 'unroll of a circuit that is not unrolled' 1 'aig: unroll: liveness' unroll --frames 2 --to aag live
 each 'sim' 3 'aig: stimulus: input or output' sim one_gate rows
 each 'sim of a refused circuit' 1 'aig: circuit: cycle 2' sim cycle rows
 printf '11\n1\n' > rows
@@ -69,6 +75,8 @@ each 'sim of more than a block, with a short line' 3 'aig: stimulus: input or ou
 each 'bench' 3 'aig: script: input or output' bench one_gate rows script
 yes 'v 0 6' | head -n 9000 > script
 each 'bench of more than a block' 3 'aig: script: input or output' bench one_gate rows script
+printf 'u\n' > script
+each 'bench that unrolls' 3 'aig: script: input or output' bench one_gate rows script
 printf 'v 0 6' > script
 each 'bench with a last piece' 3 'aig: script: input or output' bench one_gate rows script
 each 'bench of a refused circuit' 1 'aig: circuit: cycle 2' bench cycle rows script

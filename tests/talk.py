@@ -61,6 +61,7 @@ def script(two_gates, rows):
     talk.say(b"v 0 8", b"")
     talk.say(b"\n", b"0\n")
     talk.say(b"t\nq\n", b" 10 0 \n 01 0 \n.\nbad\n")
+    talk.say(b"u\n", b"aag 8 4 0 2 4\n2\n4\n6\n8\n12\n16\n10 4 2\n12 10 2\n14 8 6\n16 14 6\n.\n")
     for _ in range(2000):
         talk.say(b"v 1 8\n", b"0\n")
     talk.say(b"v 0 8\n" * 5000, b"0\n" * 5000)
@@ -101,4 +102,5 @@ with tempfile.TemporaryDirectory() as room:
     closed("bench", b"v 0 8\n", b"script", "bench", two_gates, rows)
     closed("sim", b"\n", b"stimulus", "sim", toggle)
     closed("toaig", TWO_GATES, b"output", "toaig", "--to", "aag")
-print("7 talks passed")
+    closed("unroll", TWO_GATES, b"output", "unroll", "--frames", "2", "--to", "aag")
+print("8 talks passed")

@@ -30,6 +30,7 @@ module _ {X : Type 0} (written : X → Option (List ℕ)) (failures : X → ℕ)
   ends_so file raw to (Err (parts.Script fault)) f w = (raw, f, w)
   ends_so file raw to (Err parts.Output) f w = (raw, f, w)
   ends_so file raw to (Err parts.Memory) f w = (raw, f, w)
+  ends_so file raw to (Err (parts.Unroll fault)) f w = (raw, f, w)
 
   -- no read failed where the writing went so
   no_read_failed : (raw : Raw) (to : Format) (r : Result (Unit {0}) RunFault) → IsWritten written failures old new raw to r
@@ -41,6 +42,7 @@ module _ {X : Type 0} (written : X → Option (List ℕ)) (failures : X → ℕ)
   no_read_failed raw to (Err (parts.Script fault)) w = (refl, λ e. let no : ⊥ = cc in no)
   no_read_failed raw to (Err parts.Output) w = (refl, λ e. let no : ⊥ = cc in no)
   no_read_failed raw to (Err parts.Memory) w = (refl, λ e. let no : ⊥ = cc in no)
+  no_read_failed raw to (Err (parts.Unroll fault)) w = (refl, λ e. let no : ⊥ = cc in no)
 
 -- the answer is not that a read failed
 abbrev pub IsReadWhole : Result Raw Fault → Type 0

@@ -4,7 +4,7 @@ use Rattle.std.proofs.lemmas.List.{take_all, length-take}
 use Rattle.std.proofs.lemmas.Fmt.{length-decimal-le}
 use Rattle.std.specs.Fmt.{decimal}
 use Rattle.aig_bench.specs.Edit as edits
-use Rattle.aig.specs.Command.{Command, edit, value, trace, IsCommand, IsNoCommand, command_text}
+use Rattle.aig.specs.Command.{Command, edit, value, trace, unroll, IsCommand, IsNoCommand, command_text}
 use Rattle.aig.specs.ScriptLine.{BeginsRow, first_bytes}
 
 short_number : (n : ℕ) → n < 2 ^ 32 → length (decimal n) < 11
@@ -21,6 +21,7 @@ short (edit (edits.add_frame row)) is = inr (_, refl)
 short (edit edits.drop_frame) is = inl (omega arith)
 short (value t l) is = inl (let a = short_number t is.0 in let b = short_number l is.1 in simp length-append (omega (arith, a, b)))
 short trace is = inl (omega arith)
+short unroll is = inl (omega arith)
 
 -- a line of which these are all bytes
 all_bytes : (line text : List ℕ) → length text < 35 → first_bytes line ≡ text → line ≡ text

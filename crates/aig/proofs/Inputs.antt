@@ -4,7 +4,7 @@ use Rattle.aig_bench.specs.declared.edit.EditFault.{EditFault}
 use Rattle.aig_bench.specs.Edit as edits
 use Rattle.aig_bench.specs.Edit.{Edit, Edits, edited}
 use Rattle.aig_bench.specs.Pair.{Pair}
-use Rattle.aig.specs.Command.{edit, value, trace}
+use Rattle.aig.specs.Command.{edit, value, trace, unroll}
 use Rattle.aig.specs.Replies.{WholeReply, EditReply}
 
 same_edited : (old : Pair) (e : Edit) → length (edited old e).circuit.inputs ≡ length old.circuit.inputs
@@ -25,5 +25,7 @@ same_inputs old line reply new (inl (edit e, is, text, (r, h, said))) = same_aft
 same_inputs old line reply new (inl (value t l, is, text, (r, h, said, stays))) =
     ap (λ (p : Pair). length p.circuit.inputs) stays
 same_inputs old line reply new (inl (trace, is, text, (bytes, h, said, stays))) =
+    ap (λ (p : Pair). length p.circuit.inputs) stays
+same_inputs old line reply new (inl (unroll, is, text, (r, h, said, stays))) =
     ap (λ (p : Pair). length p.circuit.inputs) stays
 same_inputs old line reply new (inr (none, (said, stays))) = ap (λ (p : Pair). length p.circuit.inputs) stays

@@ -14,7 +14,7 @@ use Rattle.aig_bench.specs.declared.edit.EditFault.{EditFault}
 use Rattle.aig_bench.specs.declared.edit.EditFault.TheVariants as faults
 use Rattle.aig_bench.specs.Pair.{Pair}
 use Rattle.aig_bench.specs.Edit as edits
-use Rattle.aig.specs.Command.{Command, edit, value, trace, IsCommand, IsNoCommand, command_text}
+use Rattle.aig.specs.Command.{Command, edit, value, trace, unroll, IsCommand, IsNoCommand, command_text}
 use Rattle.aig.specs.Replies.{WholeReply, row_fault_reply}
 
 value_of : (b : ℕ) → IsCharacter b → (w : Tern) × (b ≡ character w)
@@ -55,6 +55,7 @@ wrong_row text wrong (edit (edits.add_frame row)) _ e =
 wrong_row text wrong (edit edits.drop_frame) _ e = first_differs 43 45 _ _ (λ h. omega arith) e
 wrong_row text wrong (value t l) _ e = first_differs 43 118 _ _ (λ h. omega arith) e
 wrong_row text wrong trace _ e = first_differs 43 116 _ _ (λ h. omega arith) e
+wrong_row text wrong unroll _ e = first_differs 43 117 _ _ (λ h. omega arith) e
 
 -- a line that is a row
 pub row_line : (width : ℕ) (text : List ℕ) (shape : Shape) (values row : List Tern) → shape ≡ Row → values ≡ row

@@ -10,6 +10,7 @@ pub data Command : Type 0 where
   edit : Edit → Command
   value : (frame literal : ℕ) → Command
   trace : Command
+  unroll : Command
 
 -- a number, and a space in front of what follows
 abbrev pub field : ℕ → List ℕ → List ℕ
@@ -44,6 +45,7 @@ abbrev pub command_text : Command → List ℕ
 command_text (edit e) = edit_text e
 command_text (value t l) = codes "v " ++ value_fields t l
 command_text trace = codes "t"
+command_text unroll = codes "u"
 
 -- a number of a script is at most 4,294,967,295
 abbrev pub IsNumber : ℕ → Type 0
@@ -60,6 +62,7 @@ abbrev pub IsCommand : Command → Type 0
 IsCommand (edit e) = HasNumbers e
 IsCommand (value t l) = IsNumber t × IsNumber l
 IsCommand trace = Unit {0}
+IsCommand unroll = Unit {0}
 
 -- the line is no command
 abbrev pub IsNoCommand : List ℕ → Type 0

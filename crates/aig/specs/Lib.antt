@@ -9,3 +9,4 @@ pub mod Replies
 pub mod Run
 pub mod ScriptLine
 pub mod Status
+pub mod Unrolling

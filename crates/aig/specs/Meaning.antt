@@ -1,8 +1,8 @@
 -- What the program's commands mean.
 use Rattle.aig_bench.specs.Edit as edits
 use Rattle.aig.specs.declared.command.Command as code
-use Rattle.aig.specs.declared.command.Command.TheVariants.{Rewire, SetReset, SetBit, DropFrame, Value, Trace}
-use Rattle.aig.specs.Command.{Command, edit, value, trace}
+use Rattle.aig.specs.declared.command.Command.TheVariants.{Rewire, SetReset, SetBit, DropFrame, Value, Trace, Unroll}
+use Rattle.aig.specs.Command.{Command, edit, value, trace, unroll}
 
 abbrev pub meaning : code.Command → Command
 meaning (Rewire g a b) = edit (edits.rewire g a b)
@@ -11,3 +11,4 @@ meaning (SetBit t p w) = edit (edits.set_bit t p w)
 meaning DropFrame = edit edits.drop_frame
 meaning (Value t l) = value t l
 meaning Trace = trace
+meaning Unroll = unroll

@@ -1,21 +1,29 @@
 -- The meaning of a script: its lines in turn, from one circuit and rows to another, and their replies (profile).
-use Rattle.std.specs.Prelude.{◌≡◌, ◌⊎◌, ℕ, List, [], ◌∷◌, ◌++◌, Result, Ok, Err, codes}
+use Rattle.std.specs.Prelude.{◌≡◌, ◌⊎◌, ℕ, List, length, [], ◌∷◌, ◌++◌, Result, Ok, Err, codes}
 use Rattle.std.specs.Fmt.{decimal}
+use Rattle.aig_base.specs.declared.raw.Raw.{Raw}
 use Rattle.aig_base.specs.declared.ternary.Tern.{Tern}
+use Rattle.aig_format.specs.Spelling.{short_ascii}
 use Rattle.aig_sim.specs.declared.stimulus_fault.StimFault.{StimFault}
 use Rattle.aig_sim.specs.declared.stimulus_fault.StimFault.TheVariants as stimuli
 use Rattle.aig_sim.specs.StimulusText.{character}
+use Rattle.aig_unroll.specs.declared.fault.UnrollFault.{UnrollFault}
+use Rattle.aig_unroll.specs.Answers as unrolling
+use Rattle.aig_unroll.specs.Answers.{AnswersUnrolling}
 use Rattle.aig_bench.specs.declared.edit.EditFault.{EditFault}
 use Rattle.aig_bench.specs.declared.edit.EditFault.TheVariants as faults
 use Rattle.aig_bench.specs.Pair.{Pair, HasTrace}
 use Rattle.aig_bench.specs.Edit.{Edit, Edits, number_of}
 use Rattle.aig_bench.specs.Question.{AnswersValue}
-use Rattle.aig.specs.Command.{Command, edit, value, trace, command_text, IsCommand, IsNoCommand}
+use Rattle.aig.specs.Command.{Command, edit, value, trace, unroll, command_text, IsCommand, IsNoCommand}
 use Rattle.aig.specs.Lines.{Line, whole, unfinished}
 
--- `no` and the number of the fault
+-- `no` and a fault's number
+abbrev pub numbered_refusal : ℕ → List ℕ
+numbered_refusal n = codes "no " ++ (decimal n ++ codes "\n")
+
 abbrev pub refusal : EditFault → List ℕ
-refusal f = codes "no " ++ (decimal (number_of f) ++ codes "\n")
+refusal f = numbered_refusal (number_of f)
 
 abbrev pub edit_reply : {A : Type 0} → Result A EditFault → List ℕ
 edit_reply (Ok _) = codes "ok\n"
@@ -24,6 +32,11 @@ edit_reply (Err f) = refusal f
 abbrev pub value_reply : Result Tern EditFault → List ℕ
 value_reply (Ok w) = character w ∷ 10 ∷ []
 value_reply (Err f) = refusal f
+
+-- the unrolled circuit as a text file, and a line `.`
+abbrev pub unroll_reply : Result Raw UnrollFault → List ℕ
+unroll_reply (Ok circuit) = short_ascii circuit ++ codes ".\n"
+unroll_reply (Err f) = numbered_refusal (unrolling.number_of f)
 
 -- For proofs: the reply to a line that appends a frame, by what is wrong with its row.
 abbrev pub row_fault_reply : StimFault → List ℕ
@@ -43,6 +56,8 @@ CommandReply old (edit e) reply new = EditReply old e reply new
 CommandReply old (value t l) reply new =
     (r : Result Tern EditFault) × AnswersValue old t l r × (reply ≡ value_reply r) × (new ≡ old)
 CommandReply old trace reply new = (text : List ℕ) × HasTrace old text × (reply ≡ text ++ codes ".\n") × (new ≡ old)
+CommandReply old unroll reply new =
+    (r : Result Raw UnrollFault) × AnswersUnrolling old.circuit (length old.rows) r × (reply ≡ unroll_reply r) × (new ≡ old)
 
 abbrev pub IsBad : Pair → List ℕ → Pair → Type 0
 IsBad old reply new = (reply ≡ codes "bad\n") × (new ≡ old)

@@ -14,7 +14,7 @@ use Rattle.aig_bench.specs.declared.bench_fault.BenchFault.{BenchFault}
 use Rattle.aig_bench.specs.declared.bench_fault.BenchFault.TheVariants as benches
 use Rattle.aig_bench.specs.Pair.{Pair}
 use Rattle.aig.specs.declared.run_fault.RunFault.{RunFault}
-use Rattle.aig.specs.declared.run_fault.RunFault.TheVariants.{Circuit, Stimulus, Bench, Script, Output, Memory}
+use Rattle.aig.specs.declared.run_fault.RunFault.TheVariants.{Circuit, Stimulus, Bench, Script, Output, Memory, Unroll}
 
 -- the bytes are a file of this circuit
 pub record IsFileOf (bytes : List ℕ) (raw : Raw) : Type 0 where
@@ -56,3 +56,4 @@ RefusesFiles circuit stimulus (Bench fault) = (pair : Pair) × AreFilesOf circui
 RefusesFiles circuit stimulus (Script fault) = ⊥
 RefusesFiles circuit stimulus Output = ⊥
 RefusesFiles circuit stimulus Memory = ⊥
+RefusesFiles circuit stimulus (Unroll fault) = ⊥

@@ -39,6 +39,8 @@ pub enum Command {
     },
     /// `t`: the trace.
     Trace,
+    /// `u`: the circuit unrolled for all frames.
+    Unroll,
 }
 
 /// The bytes before the first space, and those behind it.
@@ -159,6 +161,7 @@ pub fn parse_command(line: &[u8]) -> Option<Command>
         [b'v', b' ', fields @ ..] => parse_question(fields),
         [b'-'] => Some(Command::DropFrame),
         [b't'] => Some(Command::Trace),
+        [b'u'] => Some(Command::Unroll),
         _ => None,
     }
 }

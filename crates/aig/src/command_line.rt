@@ -26,13 +26,22 @@ static AFTER_BENCH: &str = "Lines of a script; frames and inputs count from 0, v
   -          takes the last frame off
   v T L      asks for literal L at frame T; the reply is 0, 1 or x
   t          asks for the trace of all frames; the reply ends with a line .
+  u          asks for the circuit unrolled for all frames, as text; the reply ends with a line .
 The reply to an edit that is done is ok. A literal is twice its variable, and one more where it is negated. A line
 that cannot be done is answered no and a number: 1 no gate, 2 no latch, 3 a literal out of range, 4 an undefined
 variable, 5 a cycle, 6 no such frame, 7 no such input, 8 not a value for each input, 9 no frame, 10 too many frames or
-cells, 11 no memory. A line that is none of these is answered bad.
+cells, 11 no memory, 12 justice or fairness. A line that is none of these is answered bad.
 
 Example: aig bench examples/two_gates.aag examples/two_gates.stim examples/two_gates.script
 Scripts and numbers are described in docs/BEHAVIOUR.md.";
+
+static AFTER_UNROLL: &str =
+    "The unrolled circuit has no latches: its inputs are those of each frame in turn, and then the latches that start
+at any value; outputs, bad state properties and constraints are those of each frame in turn. Where there are both bad
+state properties and constraints, each bad state property holds only where all constraints held so far.
+
+Example: aig unroll --frames 3 --to aag examples/counter.aag
+The formats are described in docs/FORMATS.md.";
 
 static AFTER_ALL: &str =
     "Exit status: 0 done, 1 refused input, 2 wrong words, 3 memory, input or output.
@@ -81,6 +90,19 @@ fn script_argument<'a>(alloc: Global) -> Arg<'a> {
     )
 }
 
+fn frames_argument<'a>(alloc: Global) -> Arg<'a> {
+    let frames = argument(
+        alloc,
+        "K",
+        "The number of frames, at least 1 and at most 65536",
+    );
+    any_number(frames.long("frames"))
+}
+
+fn any_number<'a>(argument: Arg<'a>) -> Arg<'a> {
+    argument.value_parser(ValueParser::Unsigned(0, 4_294_967_295))
+}
+
 fn toaig_command<'a>(alloc: Global) -> Result<Command<'a>, AllocError> {
     Command::new(alloc, "toaig")
         .about("Writes a circuit in another format")
@@ -108,10 +130,19 @@ fn bench_command<'a>(alloc: Global) -> Result<Command<'a>, AllocError> {
         .arg(script_argument(alloc))
 }
 
+fn unroll_command<'a>(alloc: Global) -> Result<Command<'a>, AllocError> {
+    Command::new(alloc, "unroll")
+        .about("Unrolls a circuit for some frames, and writes the circuit without latches")
+        .after_help(AFTER_UNROLL)
+        .arg(frames_argument(alloc))?
+        .arg(format_argument(alloc))?
+        .arg(circuit_argument(alloc))
+}
+
 fn program<'a>(alloc: Global) -> Command<'a> {
     Command::new(alloc, "aig")
         .about(
-            "Converts and simulates and-inverter graphs, circuits in the AIGER formats, and answers scripts about them",
+            "Converts, simulates and unrolls and-inverter graphs, circuits in the AIGER formats, and answers scripts about them",
         )
         .after_help(AFTER_ALL)
         .subcommand_required(true)
@@ -128,7 +159,8 @@ fn with_subcommand<'a>(
 fn command_line<'a>(alloc: Global) -> Result<Command<'a>, AllocError> {
     let start = with_subcommand(program(alloc), toaig_command(alloc))?;
     let next = with_subcommand(start, sim_command(alloc))?;
-    with_subcommand(next, bench_command(alloc))
+    let last = with_subcommand(next, bench_command(alloc))?;
+    with_subcommand(last, unroll_command(alloc))
 }
 
 /// Matches the words, of which the first is the program's name.
@@ -144,4 +176,9 @@ pub fn subcommand_of<'m, 'a>(matches: &'m ArgMatches<'a>) -> Option<(&'a str, &'
 /// The text of an argument.
 pub fn text_of<'a>(matches: &ArgMatches<'a>, name: &str) -> Option<&'a str> {
     matches.get_str(name)
+}
+
+/// The number of an argument.
+pub fn number_of(matches: &ArgMatches<'_>, name: &str) -> Option<u32> {
+    matches.get_one::<u32>(name)
 }

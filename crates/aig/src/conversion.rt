@@ -9,7 +9,7 @@ use aig_format::{Format, read_from, write_ascii, write_binary};
 use std::alloc::Global;
 
 /// A failing write is the output's.
-fn as_output(done: Result<(), Fault>) -> Result<(), RunFault>
+pub fn as_output(done: Result<(), Fault>) -> Result<(), RunFault>
     ensures { result ≡ output_of done }
 {
     match done {

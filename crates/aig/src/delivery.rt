@@ -3,11 +3,13 @@ ghost use Rattle.std.specs.Prelude.{◌≡◌};
 ghost use Rattle.aig.specs.Converted.{ConversionEnds, EndsFrom};
 ghost use Rattle.aig.specs.Delivered.{Delivers, IsHandedOn, all_written, calls_failed};
 ghost use Rattle.aig.specs.Engines.{BenchEnds, SimulationEnds};
+ghost use Rattle.aig.specs.Unrolling.{UnrollingEnds};
 
 use crate::conversion::convert_from;
 use crate::engine::{run_bench, simulate_from};
 use crate::run_fault::RunFault;
 use crate::script_fault::ScriptFault;
+use crate::unrolling::unroll_bytes;
 use aig_base::{Buffered, Failed, Read, Write};
 use aig_format::Format;
 use aig_sim::{PlaneGrid, StimFault};
@@ -59,6 +61,23 @@ pub fn deliver_replies<R: Read, W: Write>(
 {
     let done = run_bench::<PlaneGrid, R, Buffered<W>>(alloc, circuit, stimulus, script, out);
     handed_on(done, out, RunFault::Script(ScriptFault::Io))
+}
+
+/// Writes a circuit file unrolled for this many frames in a format. Where the writer below fails, the fault is the
+/// output's.
+pub fn deliver_unrolled<W: Write>(
+    alloc: Global,
+    circuit: &[u8],
+    frames: u32,
+    to: Format,
+    out: &mut Buffered<W>,
+) -> Result<(), RunFault>
+    ensures { Delivers W.written RunFault.Output
+        (λ left answer. UnrollingEnds (all_written W.written) calls_failed out.old left circuit.now frames to answer)
+        out.new result }
+{
+    let done = unroll_bytes(alloc, circuit, frames, to, out);
+    handed_on(done, out, RunFault::Output)
 }
 
 /// The answer of an engine, once all that it wrote is handed on; where that fails, the fault of the part that writes.

@@ -1,4 +1,4 @@
-//! The program `aig`: converts and-inverter graphs, simulates them and answers questions on them.
+//! The program `aig`: converts, simulates and unrolls and-inverter graphs, and answers questions on them.
 #![tactic(auto)]
 
 mod command;
@@ -15,6 +15,7 @@ mod script_fault;
 mod script_line;
 mod stop;
 mod task;
+mod unrolling;
 mod words;
 
 use std::env::Env;

@@ -1,17 +1,24 @@
 //! Replies to the lines of a script.
-ghost use Rattle.std.specs.Prelude.{◌≡◌, ℕ, List, ◌∷◌, length};
+ghost use Rattle.std.specs.Prelude.{◌≡◌, ℕ, List, ◌∷◌, length, Result, Ok};
+ghost use Rattle.aig_base.specs.declared.raw.Raw.{Raw};
 ghost use Rattle.aig_base.specs.Bytes.{Writes};
 ghost use Rattle.aig_bench.specs.Edit.{number_of};
 ghost use Rattle.aig_sim.specs.LineInHand.{Keeps};
+ghost use Rattle.aig_unroll.specs.declared.fault.UnrollFault.{UnrollFault};
+ghost use Rattle.aig_unroll.specs.Answers as unrolling;
+ghost use Rattle.aig_unroll.specs.Answers.{AnswersUnrolling};
 ghost use Rattle.aig.specs.Meaning.{meaning};
-ghost use Rattle.aig.specs.Replies.{refusal, edit_reply, value_reply, row_fault_reply, CommandReply, WholeReply};
+ghost use Rattle.aig.specs.Replies.{numbered_refusal, refusal, edit_reply, value_reply, unroll_reply, row_fault_reply, CommandReply, WholeReply};
 ghost use Rattle.aig.specs.ScriptLine.{KeepsLine};
 
 use crate::command::{Command, parse_command};
 use crate::script_line::ScriptLine;
-use aig_base::{Io, Tern, Write, write_all, write_number};
+use aig_base::{Circuit, Io, Tern, Write, write_all, write_number};
 use aig_bench::{Bench, EditFault, EditReport};
+use aig_format::write_ascii;
 use aig_sim::{Grid, LineInHand, StimFault};
+use aig_unroll::UnrollFault;
+use std::alloc::Global;
 
 /// The number of a fault, as `no N` names it.
 fn number_of_fault(fault: EditFault) -> u32
@@ -32,12 +39,30 @@ fn number_of_fault(fault: EditFault) -> u32
     }
 }
 
+/// The number of a fault of the unroller, as `no N` names it.
+fn number_of_unroll_fault(fault: UnrollFault) -> u32
+    ensures { result ≡ unrolling.number_of fault }
+{
+    match fault {
+        UnrollFault::NoFrames => 9,
+        UnrollFault::Liveness => 12,
+        UnrollFault::Limit => 10,
+        UnrollFault::Memory => 11,
+    }
+}
+
+fn write_number_refused<W: Write>(number: u32, out: &mut W) -> Result<(), Io>
+    ensures { Writes W.written W.failures out.old out.new (numbered_refusal number) result }
+{
+    write_all(out, b"no ")?;
+    write_number(out, number)?;
+    write_all(out, b"\n")
+}
+
 fn write_refusal<W: Write>(fault: EditFault, out: &mut W) -> Result<(), Io>
     ensures { Writes W.written W.failures out.old out.new (refusal fault) result }
 {
-    write_all(out, b"no ")?;
-    write_number(out, number_of_fault(fault))?;
-    write_all(out, b"\n")
+    write_number_refused(number_of_fault(fault), out)
 }
 
 fn write_edit<W: Write>(answer: Result<EditReport, EditFault>, out: &mut W) -> Result<(), Io>
@@ -60,8 +85,34 @@ fn write_value<W: Write>(answer: Result<Tern, EditFault>, out: &mut W) -> Result
     }
 }
 
+/// Writes an unrolled circuit as a text file, and a line `.`.
+fn write_unrolled_circuit<W: Write>(circuit: &Circuit, out: &mut W) -> Result<(), Io>
+    ensures { Writes W.written W.failures out.old out.new (unroll_reply (Ok circuit.now)) result }
+{
+    match write_ascii(circuit, out) {
+        Ok(()) => write_all(out, b".\n"),
+        Err(_) => Err(Io),
+    }
+}
+
+/// Writes the circuit unrolled for all frames, or why it is refused.
+fn write_unrolled<G: Grid, W: Write>(alloc: Global, bench: &Bench<G>, out: &mut W) -> Result<(), Io>
+    ensures { (r : Result Raw UnrollFault) × AnswersUnrolling bench.now.pair.circuit (length bench.now.pair.rows) r
+        × Writes W.written W.failures out.old out.new (unroll_reply r) result }
+{
+    match bench.unrolled(alloc) {
+        Ok(circuit) => write_unrolled_circuit(&circuit, out),
+        Err(fault) => write_number_refused(number_of_unroll_fault(fault), out),
+    }
+}
+
 /// Does what the command asks for, and writes its reply.
-fn obey<G: Grid, W: Write>(bench: &mut Bench<G>, command: Command, out: &mut W) -> Result<(), Io>
+fn obey<G: Grid, W: Write>(
+    alloc: Global,
+    bench: &mut Bench<G>,
+    command: Command,
+    out: &mut W,
+) -> Result<(), Io>
     ensures { (reply : List ℕ) × CommandReply bench.old.pair (meaning command) reply bench.new.pair
         × Writes W.written W.failures out.old out.new reply result }
 {
@@ -83,6 +134,7 @@ fn obey<G: Grid, W: Write>(bench: &mut Bench<G>, command: Command, out: &mut W) 
             bench.write_trace(out)?;
             write_all(out, b".\n")
         }
+        Command::Unroll => write_unrolled(alloc, bench, out),
     }
 }
 
@@ -115,6 +167,7 @@ fn append<G: Grid, W: Write>(bench: &mut Bench<G>, row: &LineInHand, out: &mut W
 
 /// Answers a line that an LF ends: does what it asks for, and writes its reply, or `bad`.
 pub fn answer<G: Grid, W: Write>(
+    alloc: Global,
     bench: &mut Bench<G>,
     line: &ScriptLine,
     out: &mut W,
@@ -128,7 +181,7 @@ pub fn answer<G: Grid, W: Write>(
         return append(bench, row, out);
     }
     match parse_command(line.bytes()) {
-        Some(command) => obey(bench, command, out),
+        Some(command) => obey(alloc, bench, command, out),
         None => write_all(out, b"bad\n"),
     }
 }

@@ -6,6 +6,7 @@ use crate::script_fault::ScriptFault;
 use aig_base::{Fault, Memory};
 use aig_bench::BenchFault;
 use aig_sim::StimFault;
+use aig_unroll::UnrollFault;
 use thiserror::Error;
 
 /// The part of a run that refused, and its fault.
@@ -25,6 +26,8 @@ pub enum RunFault {
     /// No memory was found, outside these parts.
     #[error("memory")]
     Memory,
+    #[error("unroll: {0}")]
+    Unroll(UnrollFault),
 }
 
 impl RunFault {
@@ -37,6 +40,8 @@ impl RunFault {
             RunFault::Stimulus(StimFault::Memory | StimFault::Io) => 3,
             RunFault::Bench(BenchFault::Memory) => 3,
             RunFault::Script(_) | RunFault::Output | RunFault::Memory => 3,
+            RunFault::Unroll(UnrollFault::Memory) => 3,
+            RunFault::Unroll(_) => 1,
             RunFault::Circuit(_) | RunFault::Stimulus(_) | RunFault::Bench(_) => 1,
         }
     }
@@ -94,5 +99,16 @@ impl From<Memory> for RunFault {
 
     fn from(_memory: Memory) -> RunFault {
         RunFault::Memory
+    }
+}
+
+impl From<UnrollFault> for RunFault {
+    ghost use Rattle.std.specs.Prelude.{◌≡◌};
+    ghost use Rattle.aig.specs.declared.run_fault.RunFault.TheVariants as parts;
+
+    ghost from_gives = { λ fault part. part ≡ parts.Unroll fault };
+
+    fn from(fault: UnrollFault) -> RunFault {
+        RunFault::Unroll(fault)
     }
 }

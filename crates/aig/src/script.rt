@@ -15,6 +15,7 @@ use std::alloc::Global;
 
 /// Answers each line that the chunk ends, and keeps what is behind the last.
 fn feed<G: Grid, W: Write>(
+    alloc: Global,
     bench: &mut Bench<G>,
     line: &mut ScriptLine,
     chunk: &[u8],
@@ -32,7 +33,7 @@ fn feed<G: Grid, W: Write>(
 {
     for byte in chunk {
         if *byte == b'\n' {
-            answer(bench, line, out)?;
+            answer(alloc, bench, line, out)?;
             line.clear();
         } else {
             line.push(*byte);
@@ -43,6 +44,7 @@ fn feed<G: Grid, W: Write>(
 
 /// Reads to the end. Before it reads on, it answers each line that an LF ends, and hands the replies on.
 fn answer_lines<G: Grid, R: Read, W: Write>(
+    alloc: Global,
     bench: &mut Bench<G>,
     line: &mut ScriptLine,
     reader: &mut R,
@@ -61,12 +63,13 @@ fn answer_lines<G: Grid, R: Read, W: Write>(
         if size == 0 {
             return Ok(());
         }
-        feed(bench, line, &buffer[..size], out)?;
+        feed(alloc, bench, line, &buffer[..size], out)?;
     }
 }
 
 /// Answers all lines; a last piece with bytes and no LF is bad.
 fn answer_all<G: Grid, R: Read, W: Write>(
+    alloc: Global,
     bench: &mut Bench<G>,
     line: &mut ScriptLine,
     reader: &mut R,
@@ -77,7 +80,7 @@ fn answer_all<G: Grid, R: Read, W: Write>(
     ensures ok { OnOk result (Ran R.left R.failures W.written W.failures reader.old reader.new out.old out.new bench.old.pair bench.new.pair) }
     ensures err { OnErr result (Failing R.left R.failures W.written W.failures reader.old reader.new out.old out.new bench.old.pair bench.new.pair) }
 {
-    answer_lines(bench, line, reader, out)?;
+    answer_lines(alloc, bench, line, reader, out)?;
     if line.is_empty() {
         return Ok(());
     }
@@ -88,7 +91,7 @@ fn answer_all<G: Grid, R: Read, W: Write>(
 /// Reads a script to its end and answers its lines one by one, each before it reads on. It flushes before each read, so
 /// that whoever waits for the replies to what was read has them, and behind the last reply. A line of any length is
 /// handled without keeping it; a last piece with bytes and no LF is bad. It takes memory for a row before the first read,
-/// and behind that none but what `w` and `+` take for the bench.
+/// and behind that none but what `w`, `+` and `u` take for the bench.
 pub fn run_script<G: Grid, R: Read, W: Write>(
     alloc: Global,
     bench: &mut Bench<G>,
@@ -104,7 +107,7 @@ pub fn run_script<G: Grid, R: Read, W: Write>(
     let Ok(mut line) = ScriptLine::new(alloc, bench.width() as usize) else {
         return Err(ScriptFault::Memory);
     };
-    match answer_all(bench, &mut line, reader, out) {
+    match answer_all(alloc, bench, &mut line, reader, out) {
         Ok(()) => Ok(()),
         Err(Io) => Err(ScriptFault::Io),
     }

@@ -1,7 +1,7 @@
 //! What the words of the command line choose.
 
-use crate::command_line::{subcommand_of, text_of};
-use crate::delivery::{deliver_circuit, deliver_replies, deliver_trace};
+use crate::command_line::{number_of, subcommand_of, text_of};
+use crate::delivery::{deliver_circuit, deliver_replies, deliver_trace, deliver_unrolled};
 use crate::files::{open, output, read_whole};
 use crate::run_fault::RunFault;
 use crate::script_fault::ScriptFault;
@@ -29,6 +29,11 @@ pub enum Task<'a> {
         stimulus: &'a str,
         script: &'a str,
     },
+    Unroll {
+        frames: u32,
+        to: Format,
+        circuit: &'a str,
+    },
 }
 
 impl<'a> Task<'a> {
@@ -39,6 +44,7 @@ impl<'a> Task<'a> {
             "toaig" => conversion_of(matches),
             "sim" => simulation_of(matches),
             "bench" => bench_of(matches),
+            "unroll" => unrolling_of(matches),
             _ => None,
         }
     }
@@ -53,6 +59,11 @@ impl<'a> Task<'a> {
                 stimulus,
                 script,
             } => bench(rt, circuit, stimulus, script),
+            Task::Unroll {
+                frames,
+                to,
+                circuit,
+            } => unroll(rt, frames, to, circuit),
         };
         match done {
             Ok(()) => Ok(()),
@@ -88,6 +99,14 @@ fn bench_of<'a>(matches: &ArgMatches<'a>) -> Option<Task<'a>> {
         circuit: text_of(matches, "CIRCUIT")?,
         stimulus: text_of(matches, "STIM")?,
         script: text_of(matches, "SCRIPT")?,
+    })
+}
+
+fn unrolling_of<'a>(matches: &ArgMatches<'a>) -> Option<Task<'a>> {
+    Some(Task::Unroll {
+        frames: number_of(matches, "K")?,
+        to: format_of(matches)?,
+        circuit: text_of(matches, "CIRCUIT")?,
     })
 }
 
@@ -167,4 +186,25 @@ fn bench_files<R: AllocGlobal + Print, F: Read + Drop>(
         &mut script,
         &mut out,
     )
+}
+
+fn unroll<R: Files + AllocGlobal + Print>(
+    rt: &R,
+    frames: u32,
+    to: Format,
+    circuit: &str,
+) -> Result<(), RunFault> {
+    let circuit = open(rt, circuit, CIRCUIT)?;
+    unroll_file(rt, frames, to, circuit)
+}
+
+fn unroll_file<R: AllocGlobal + Print, F: Read + Drop>(
+    rt: &R,
+    frames: u32,
+    to: Format,
+    circuit: F,
+) -> Result<(), RunFault> {
+    let circuit = read_whole(rt.alloc(), circuit, CIRCUIT)?;
+    let mut out = output(rt);
+    deliver_unrolled(rt.alloc(), circuit.as_slice(), frames, to, &mut out)
 }

@@ -5,3 +5,4 @@ mod fakes;
 mod messages;
 mod scripts;
 mod traces;
+mod unrollings;

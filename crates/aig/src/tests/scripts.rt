@@ -34,7 +34,7 @@ const ONE_GATE: &[u8] = b"aag 3 2 0 1 1\n2\n4\n6\n6 2 4\n";
 
 const FEEDBACK: &[u8] = b"aag 3 1 1 1 1\n2\n4 6 4\n4\n6 4 2\n";
 
-static TABLE: [Row; 13] = [
+static TABLE: [Row; 15] = [
     Row {
         circuit: TWO_GATES,
         stimulus: b"11\n01\n",
@@ -92,8 +92,8 @@ static TABLE: [Row; 13] = [
     Row {
         circuit: ONE_GATE,
         stimulus: b"",
-        script: b"-\nv 0 6\n+ 11\n+ 1\n+ 11",
-        replies: b"no 9\nno 6\nok\nno 8\nbad\n",
+        script: b"-\nu\nv 0 6\n+ 11\n+ 1\n+ 11",
+        replies: b"no 9\nno 9\nno 6\nok\nno 8\nbad\n",
     },
     Row {
         circuit: FEEDBACK,
@@ -106,6 +106,18 @@ static TABLE: [Row; 13] = [
         stimulus: b"\n",
         script: b"+ \nt\n-\nt\n",
         replies: b"ok\n0  01 1\n1  10 0\n.\nok\n0  01 1\n.\n",
+    },
+    Row {
+        circuit: TWO_GATES,
+        stimulus: b"11\n",
+        script: b"u\nw 8 2 4\nw 6 8 2\nu\n",
+        replies: b"aag 4 2 0 1 2\n2\n4\n8\n6 4 2\n8 6 2\n.\nok\nok\naag 4 2 0 1 2\n2\n4\n6\n6 4 2\n8 6 2\n.\n",
+    },
+    Row {
+        circuit: FEEDBACK,
+        stimulus: b"1\n1\n",
+        script: b"r 4 1\nu\nu \n",
+        replies: b"ok\naag 4 2 0 2 2\n2\n4\n1\n6\n6 2 1\n8 6 4\n.\nbad\n",
     },
     Row {
         circuit: TWO_GATES,

@@ -2,7 +2,7 @@ use Rattle.std.proofs.Common.{refl, ◌++◌}
 use Rattle.std.specs.Prelude.{codes}
 use Rattle.aig_base.proofs.WriteLemmas.{writes_then, writes_stop}
 use Rattle.aig_bench.specs.Edit.{rewire, set_reset, set_bit, drop_frame}
-use Rattle.aig.specs.Replies.{edit_reply}
+use Rattle.aig.specs.Replies.{edit_reply, unroll_reply}
 use Rattle.aig.proofs.RunLemmas.{edit_reply_of}
 use Rattle.aig.proofs.reply.obey.Goals as goal
 
@@ -47,3 +47,8 @@ pub returns-in_ok-write_trace-in-Trace : goal.returns-in_ok-write_trace-in-Trace
 returns-in_ok-write_trace-in-Trace g c =
     let h = c.in_ok-write_trace-in-Trace.ensures in
     (h.0 ++ codes ".\n", rw c.in-Trace.is (h.0, h.1, refl, refl), writes_then h.2 c.write_all.ensures)
+
+pub returns-in-Unroll : goal.returns-in-Unroll
+returns-in-Unroll g c =
+    let h = c.write_unrolled.ensures in
+    (unroll_reply h.0, rw c.in-Unroll.is (h.0, h.1, refl, refl), h.2)
