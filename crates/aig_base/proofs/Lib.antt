@@ -30,6 +30,7 @@ pub mod OneLevel
 pub mod OneOrder
 pub mod OneValue
 pub mod OnlyMemory
+pub mod Outputs
 pub mod Passes
 pub mod Places
 pub mod Positions

@@ -49,7 +49,7 @@ of_both P true x y p q = p
 of_both P false x y p q = q
 
 -- a literal of a defined variable is in range
-in_range_from_defined : (raw : Raw) (r : ℕ) → IsSound raw → IsDefined raw (variable r) → IsInRange raw r
+pub in_range_from_defined : (raw : Raw) (r : ℕ) → IsSound raw → IsDefined raw (variable r) → IsInRange raw r
 in_range_from_defined raw r s has =
     let k = get_from_Contains (0 ∷ map variable (definitions raw)) (variable r) has in
     of k.0 k.1

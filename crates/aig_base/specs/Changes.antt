@@ -1,5 +1,6 @@
--- The two changes of a circuit: other right sides of a gate, another reset of a latch (profile).
-use Rattle.std.specs.Prelude.{ℕ, map, nat_eq, if◌then◌else◌}
+-- The changes of a circuit: other right sides of a gate, another reset of a latch, another literal at an output, one more
+-- gate (profile).
+use Rattle.std.specs.Prelude.{ℕ, ◌+◌, ◌*◌, [], ◌∷◌, ◌++◌, map, nat_eq, slice_set, if◌then◌else◌}
 use Rattle.aig_base.specs.declared.gate.Gate.{Gate}
 use Rattle.aig_base.specs.declared.latch.Latch.{Latch}
 use Rattle.aig_base.specs.declared.raw.Raw.{Raw}
@@ -27,3 +28,15 @@ restarted lit w x = record { lit = x.lit; next = x.next; reset = if nat_eq x.lit
 -- the parts, with another reset at one latch
 abbrev pub with_reset : Raw → ℕ → Tern → Raw
 with_reset raw lit w = record raw { latches = map (restarted lit w) raw.latches }
+
+-- the parts, with another literal at one output
+abbrev pub with_output : Raw → ℕ → ℕ → Raw
+with_output raw position lit = record raw { outputs = slice_set raw.outputs position lit }
+
+-- the gate of the variable behind the greatest, with these right sides
+abbrev pub next_gate : Raw → ℕ → ℕ → Gate
+next_gate raw r0 r1 = record { lhs = 2 * (raw.max_var + 1); rhs0 = r0; rhs1 = r1 }
+
+-- the parts, with this gate at the end of the gates, and its variable the greatest
+abbrev pub with_appended_gate : Raw → ℕ → ℕ → Raw
+with_appended_gate raw r0 r1 = record raw { max_var = raw.max_var + 1; gates = raw.gates ++ next_gate raw r0 r1 ∷ [] }

@@ -1,6 +1,6 @@
-//! The two changes of a circuit.
-ghost use Rattle.std.specs.Prelude.{◌≡◌};
-ghost use Rattle.aig_base.specs.Changes.{with_gate, with_reset, reset_literal};
+//! The changes of a circuit.
+ghost use Rattle.std.specs.Prelude.{◌≡◌, ◌<◌, length};
+ghost use Rattle.aig_base.specs.Changes.{with_gate, with_output, with_reset, reset_literal};
 ghost use Rattle.aig_base.specs.Grounded.{IsAcyclic};
 ghost use Rattle.aig_base.specs.Literal.{variable};
 ghost use Rattle.aig_base.specs.Sections.{IsDefined, IsLatchLiteral, IsLeftSide};
@@ -61,5 +61,14 @@ impl Circuit {
                 self.raw.latches.set(position as usize, restarted);
             }
         }
+    }
+
+    /// Replaces the output at a position, counted from 0, by another literal (profile). Constant time, no memory.
+    pub fn replace_output(&mut self, position: u32, lit: Lit)
+        requires position { position < length self.old.outputs }
+        requires defined { IsDefined self.old (variable lit) }
+        ensures { self.new ≡ with_output self.old position lit }
+    {
+        self.raw.outputs.set(position as usize, lit);
     }
 }
