@@ -1,4 +1,7 @@
 pub mod Acyclic
+pub mod Appended
+pub mod AppendedLevels
+pub mod AppendedReaders
 pub mod Ascending
 pub mod BehindLemmas
 pub mod BlockLemmas

@@ -1,5 +1,5 @@
 -- The variables that were visited, each with a mark and a place in a list.
-use Rattle.std.specs.Prelude.{◌≡◌, ◌⊎◌, ℕ, ◌+◌, ◌≤◌, List, [], not, length, count_by, Contains, Some, slice_get}
+use Rattle.std.specs.Prelude.{◌≡◌, ◌⊎◌, ℕ, ◌+◌, ◌<◌, ◌≤◌, List, [], not, length, count_by, Contains, Some, slice_get}
 use Rattle.std.specs.Vec.{vec_capacity}
 use Rattle.aig_base.specs.declared.visits.Visits.{Visits}
 use Rattle.aig_base.specs.Descent.{IsMet}
@@ -24,6 +24,11 @@ pub record AreNoVisits (size : ℕ) (s : Visits) : Type 0 where
   pub empty : s.list.items ≡ []
   pub marks : length s.met.items ≡ size
   pub room : size ≤ vec_capacity s.list
+
+-- one more variable fits without memory
+pub record FitsOneMore (s : Visits) : Type 0 where
+  pub marks : length s.met.items < vec_capacity s.met
+  pub list : length s.met.items < vec_capacity s.list
 
 -- more was visited, all of it among these variables
 pub record VisitsAmong (xs : List ℕ) (s s' : Visits) : Type 0 where

@@ -1,6 +1,7 @@
 //! Literals, circuits and bytes: the ground of the toolkit.
 #![tactic(auto)]
 
+mod append;
 mod behind;
 mod block;
 mod buffered;
@@ -42,6 +43,7 @@ mod visits;
 mod walk;
 mod write;
 
+pub use append::append_gate;
 pub use block::Block;
 pub use buffered::Buffered;
 pub use bytes::{Failed, Read, Write};

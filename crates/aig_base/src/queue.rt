@@ -1,5 +1,5 @@
 //! Gates that wait for their turn, the one of the least level first.
-ghost use Rattle.std.specs.Prelude.{◌≡◌, ℕ, ◌<◌, ◌≤◌, ◌∷◌, [], length, All, IfOk, IfSome, IfNone, IsPermutation};
+ghost use Rattle.std.specs.Prelude.{◌≡◌, ℕ, ◌<◌, ◌≤◌, ◌∷◌, [], length, All, IfOk, IfSome, IfNone, OnOk, IsPermutation};
 ghost use Rattle.aig_base.specs.Queue.{IsEmptyQueue, entry};
 
 use crate::fault::Memory;
@@ -57,5 +57,15 @@ impl Queue {
             Some(entry) => Some(entry.1),
             None => None,
         }
+    }
+
+    /// Makes room for so many more.
+    pub(crate) fn make_room(&mut self, additional: usize) -> Result<(), Memory>
+        ensures entries { self.new.entries ≡ self.old.entries }
+        ensures capacity { self.old.capacity ≤ self.new.capacity }
+        ensures ok { OnOk result (additional ≤ self.new.capacity) }
+    {
+        self.heap.reserve(additional)?;
+        Ok(())
     }
 }

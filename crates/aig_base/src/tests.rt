@@ -1,4 +1,5 @@
 // What proofs do not see: values from outside, texts, and that calls can succeed.
+mod change;
 mod check;
 mod fakes;
 mod order;

@@ -1,8 +1,8 @@
 //! Visits of variables that take no memory and are taken back.
-ghost use Rattle.std.specs.Prelude.{ℕ, ◌<◌, ◌≤◌, ◌∷◌, [], length, All, IfOk, ◌≡◌, ◌+◌, not, count_by};
+ghost use Rattle.std.specs.Prelude.{ℕ, ◌<◌, ◌≤◌, ◌∷◌, [], length, All, IfOk, OnOk, ◌≡◌, ◌+◌, not, count_by};
 ghost use Rattle.std.specs.Vec.{vec_capacity};
 ghost use Rattle.aig_base.specs.Descent.{IsMet};
-ghost use Rattle.aig_base.specs.Visits.{AreNoVisits, AreVisits, IsFrom, IsVisited, VisitsAmong};
+ghost use Rattle.aig_base.specs.Visits.{AreNoVisits, AreVisits, FitsOneMore, IsFrom, IsVisited, VisitsAmong};
 
 use crate::fault::Memory;
 use std::alloc::Global;
@@ -61,5 +61,25 @@ impl Visits {
     {
         unmark(&mut self.met, &self.list);
         self.list.clear();
+    }
+
+    /// Makes room for one more variable, where nothing is visited.
+    pub(crate) fn make_room(&mut self) -> Result<(), Memory>
+        requires { AreNoVisits (length self.old.met.items) self.old }
+        ensures ok { OnOk result (FitsOneMore self.new) }
+        ensures unvisited { AreNoVisits (length self.old.met.items) self.new }
+    {
+        self.met.reserve(1)?;
+        self.list.reserve(self.met.len() + 1)?;
+        Ok(())
+    }
+
+    /// One more variable, where there is room.
+    pub(crate) fn add_variable(&mut self)
+        requires unvisited { AreNoVisits (length self.old.met.items) self.old }
+        requires room { FitsOneMore self.old }
+        ensures { AreNoVisits (length self.old.met.items + 1) self.new }
+    {
+        self.met.push_reserved(false);
     }
 }

@@ -51,7 +51,7 @@ fn circuit(
 }
 
 // A gate that reads a gate that stands after it.
-fn two_gates(alloc: Global) -> Result<Circuit, Fail> {
+pub(super) fn two_gates(alloc: Global) -> Result<Circuit, Fail> {
     circuit(alloc, 4, &[2, 4], 8, &[(8, 6, 2), (6, 2, 4)])
 }
 
@@ -67,7 +67,7 @@ fn order(alloc: Global, circuit: &Circuit) -> Result<Vec<u32>, Fail> {
     Ok(canonical_order(alloc, circuit, &levels)?)
 }
 
-fn is_defined(circuit: &Circuit, literal: Lit) -> bool
+pub(super) fn is_defined(circuit: &Circuit, literal: Lit) -> bool
     ensures { IsTrue result → IsDefined circuit.now (variable literal) }
 {
     circuit.definition(literal.var()).is_some()

@@ -1,0 +1,79 @@
+use Rattle.std.proofs.Common.{◌≡◌, ℕ, [], ◌∷◌, ◌++◌, List, refl, sym, ap, subst, ◌∙◌, arith}
+use Rattle.aig_base.specs.declared.gate.Gate.{Gate}
+use Rattle.aig_base.specs.Changes.{next_gate, with_appended_gate}
+use Rattle.aig_base.specs.Descent.{level_above}
+use Rattle.aig_base.specs.Levels.{AreLevels}
+use Rattle.aig_base.specs.Literal.{variable}
+use Rattle.aig_base.specs.Readers.{AreReaders}
+use Rattle.aig_base.proofs.AppendedLevels.{level_fits, more_levels}
+use Rattle.aig_base.proofs.AppendedReaders.{more_readers, readers_kept}
+use Rattle.aig_base.proofs.Gates.{defined_in_range}
+use Rattle.aig_base.proofs.ReaderLists.{on_err, room_kept, slots_size}
+use Rattle.aig_base.proofs.append.append_gate.Goals as goal
+
+pub make_room_for_list-requires-clause-within0 : goal.make_room_for_list-requires-clause-within0
+make_room_for_list-requires-clause-within0 c =
+    let raw = c.args.circuit.now in
+    let low = defined_in_range raw c.max_var.ensures.circuit.sound (variable c.args.r0) c.requires.defined0 in
+    let size = slots_size raw c.readers.inside.lists.items _ c.readers.view_is c.requires.readers in
+    omega (arith, c.var.ensures)
+
+pub make_room_for_list-requires-clause-within1 : goal.make_room_for_list-requires-clause-within1
+make_room_for_list-requires-clause-within1 c =
+    let raw = c.args.circuit.now in
+    let low = defined_in_range raw c.max_var.ensures.circuit.sound (variable c.args.r1) c.requires.defined1 in
+    let size = slots_size raw c.readers.inside.lists.items _ c.readers.view_is c.requires.readers in
+    omega (arith, c.var-2.ensures)
+
+pub returns-in_err-make_room_for_list-clause-room : goal.returns-in_err-make_room_for_list-clause-room
+returns-in_err-make_room_for_list-clause-room c =
+    on_err c.from_residual.result _
+    (room_kept c.readers.inside.lists.items c.readers.inside.lists.items c.make_room_for_list.new.lists.items _ c.readers.view_is refl
+    c.make_room_for_list.ensures.keeps)
+
+pub returns-in_err-make_room_for_level-clause-room : goal.returns-in_err-make_room_for_level-clause-room
+returns-in_err-make_room_for_level-clause-room c =
+    on_err c.from_residual-in_err-make_room_for_level.result _
+    (room_kept c.readers.inside.lists.items c.readers.inside.lists.items c.make_room_for_list.new.lists.items _ c.readers.view_is refl
+    c.make_room_for_list.ensures.keeps)
+
+pub returns-in_err-append_gate-clause-room : goal.returns-in_err-append_gate-clause-room
+returns-in_err-append_gate-clause-room c =
+    on_err c.from_residual-in_err-append_gate.result _
+    (room_kept c.readers.inside.lists.items c.readers.inside.lists.items c.make_room_for_list.new.lists.items _ c.readers.view_is refl
+    c.make_room_for_list.ensures.keeps)
+
+pub level_over-level-requires-clause-fits : goal.level_over-level-requires-clause-fits
+level_over-level-requires-clause-fits c =
+    rw (c.deref.ensures.value, c.make_room_for_level.ensures.levels, c.levels.view_is, c.next_gate-gate.ensures)
+    (level_fits c.args.circuit.now c.args.r0 c.args.r1 c.max_var.ensures.circuit c.requires.defined0 c.requires.defined1
+    c.args.levels.now c.requires.levels)
+
+pub returns-clause-levels : goal.returns-clause-levels
+returns-clause-levels c =
+    let raw = c.args.circuit.now in
+    let r0 = c.args.r0 in
+    let r1 = c.args.r1 in
+    let old = c.args.levels.now in
+    let same = c.make_room_for_level.ensures.levels ∙ c.levels.view_is in
+    let level : c.level_over-level.result ≡ level_above old (next_gate raw r0 r1) =
+    c.level_over-level.ensures ∙ ap (λ (xs : List ℕ). level_above xs c.next_gate-gate.result) (c.deref.ensures.value ∙ same)
+    ∙ ap (λ (g : Gate). level_above old g) c.next_gate-gate.ensures in
+    let cells : c.append_level.new.levels.items ≡ old ++ level_above old (next_gate raw r0 r1) ∷ [] =
+    c.append_level.ensures.levels ∙ ap (λ (xs : List ℕ). xs ++ c.level_over-level.result ∷ []) same
+    ∙ ap (λ (n : ℕ). old ++ n ∷ []) level in
+    subst (λ xs. AreLevels (with_appended_gate raw r0 r1) xs) (sym cells)
+    (more_levels raw r0 r1 c.max_var.ensures.circuit c.requires.defined0 c.requires.defined1 old c.requires.levels)
+
+pub returns-clause-readers : goal.returns-clause-readers
+returns-clause-readers c =
+    let raw = c.args.circuit.now in
+    let r0 = c.args.r0 in
+    let r1 = c.args.r1 in
+    let slots = c.make_room_for_list.new.lists.items in
+    let number : c.var-5.result ≡ variable (next_gate raw r0 r1).lhs =
+    c.var-5.ensures ∙ ap (λ (g : Gate). variable g.lhs) c.next_gate-gate.ensures in
+    let were = readers_kept raw c.readers.inside.lists.items slots c.make_room_for_list.ensures.keeps
+    (subst (λ r. AreReaders raw r) (sym c.readers.view_is) c.requires.readers) in
+    more_readers raw r0 r1 c.max_var.ensures.circuit c.requires.defined0 c.requires.defined1 slots c.append_list.new.lists.items were
+    (rw (c.var-3.ensures, c.var-4.ensures, number) at c.append_list.ensures)

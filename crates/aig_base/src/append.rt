@@ -1,0 +1,119 @@
+//! One more gate in a circuit, its levels and its readers.
+ghost use Rattle.std.specs.Prelude.{◌≡◌, ◌+◌, ◌<◌, ◌∷◌, ◌++◌, [], ℕ, length, OnErr, OnOk};
+ghost use Rattle.std.specs.Vec.{vec_capacity};
+ghost use Rattle.aig_base.specs.Changes.{next_gate, with_appended_gate};
+ghost use Rattle.aig_base.specs.Formed.{limit};
+ghost use Rattle.aig_base.specs.Levels.{AreLevels};
+ghost use Rattle.aig_base.specs.Literal.{variable};
+ghost use Rattle.aig_base.specs.Queue.{IsEmptyQueue};
+ghost use Rattle.aig_base.specs.Readers.{AreReaders, HasRoom};
+ghost use Rattle.aig_base.specs.Sections.{IsDefined};
+ghost use Rattle.aig_base.specs.Visits.{AreNoVisits, FitsOneMore};
+
+use crate::circuit::Circuit;
+use crate::definition::Definition;
+use crate::fault::Memory;
+use crate::gate::Gate;
+use crate::level::{Levels, level_over};
+use crate::literal::Lit;
+use crate::queue::Queue;
+use crate::readers::{Readers, append_list, make_room_for_list};
+use crate::visits::Visits;
+
+impl Circuit {
+    // The gate of the variable M + 1 with these right sides.
+    fn next_gate(&self, r0: Lit, r1: Lit) -> Gate
+        requires { self.now.max_var < limit }
+        ensures { result ≡ next_gate self.now r0 r1 }
+    {
+        Gate {
+            lhs: Lit::new(2 * (self.raw.max_var + 1)),
+            rhs0: r0,
+            rhs1: r1,
+        }
+    }
+
+    // Appends that gate, or changes nothing.
+    fn append_gate(&mut self, r0: Lit, r1: Lit) -> Result<(), Memory>
+        requires below { self.old.max_var < limit }
+        requires defined0 { IsDefined self.old (variable r0) }
+        requires defined1 { IsDefined self.old (variable r1) }
+        ensures ok { OnOk result (self.new ≡ with_appended_gate self.old r0 r1) }
+        ensures err { OnErr result (self.new ≡ self.old) }
+    {
+        let gate = self.next_gate(r0, r1);
+        let position = self.raw.gates.len() as u32;
+        self.table.reserve(1)?;
+        self.raw.gates.push(gate)?;
+        self.table.push_reserved(Some(Definition::Gate(position)));
+        self.raw.max_var += 1;
+        Ok(())
+    }
+}
+
+// Makes room for one more level.
+fn make_room_for_level(
+    levels: &mut Vec<u32>,
+    visits: &mut Visits,
+    queue: &mut Queue,
+) -> Result<(), Memory>
+    requires unvisited { AreNoVisits (length levels.old.items) visits.old }
+    requires none { IsEmptyQueue (length levels.old.items) queue.old }
+    ensures levels { levels.new.items ≡ levels.old.items }
+    ensures unvisited { AreNoVisits (length levels.old.items) visits.new }
+    ensures none { IsEmptyQueue (length levels.old.items) queue.new }
+    ensures level { OnOk result (length levels.new.items < vec_capacity levels.new) }
+    ensures visit { OnOk result (FitsOneMore visits.new) }
+    ensures wait { OnOk result (IsEmptyQueue (length levels.old.items + 1) queue.new) }
+{
+    let size = levels.len();
+    levels.reserve(1)?;
+    visits.make_room()?;
+    queue.make_room(size + 1)
+}
+
+// Adds the level of one more variable, where there is room.
+fn append_level(levels: &mut Vec<u32>, visits: &mut Visits, level: u32)
+    requires unvisited { AreNoVisits (length levels.old.items) visits.old }
+    requires level { length levels.old.items < vec_capacity levels.old }
+    requires visit { FitsOneMore visits.old }
+    ensures levels { levels.new.items ≡ levels.old.items ++ level ∷ [] }
+    ensures unvisited { AreNoVisits (length levels.old.items + 1) visits.new }
+{
+    levels.push_reserved(level);
+    visits.add_variable();
+}
+
+/// Appends a gate with the variable M + 1 at the end of a circuit's gates and makes M greater by one (profile); the
+/// circuit's levels and readers become those of the new circuit. M is below its limit, and the right sides are defined.
+/// Where memory is wanting, circuit, levels and lists stay. Amortised constant time, but where a list of readers grows.
+pub fn append_gate(
+    circuit: &mut Circuit,
+    levels: &mut Levels,
+    readers: &mut Readers,
+    r0: Lit,
+    r1: Lit,
+) -> Result<(), Memory>
+    requires below { circuit.old.max_var < limit }
+    requires defined0 { IsDefined circuit.old (variable r0) }
+    requires defined1 { IsDefined circuit.old (variable r1) }
+    requires levels { AreLevels circuit.old levels.old }
+    requires readers { AreReaders circuit.old readers.old }
+    ensures circuit { OnOk result (circuit.new ≡ with_appended_gate circuit.old r0 r1) }
+    ensures levels { OnOk result (AreLevels (with_appended_gate circuit.old r0 r1) levels.new) }
+    ensures readers { OnOk result (AreReaders (with_appended_gate circuit.old r0 r1) readers.new) }
+    ensures same_circuit { OnErr result (circuit.new ≡ circuit.old) }
+    ensures same_levels { OnErr result (levels.new ≡ levels.old) }
+    ensures same_lists { OnErr result (readers.new.lists ≡ readers.old.lists) }
+    ensures room { OnErr result ((v : ℕ) → HasRoom readers.old v → HasRoom readers.new v) }
+{
+    let _ = circuit.max_var();
+    make_room_for_list(&mut readers.lists, r0.var(), r1.var())?;
+    make_room_for_level(&mut levels.levels, &mut levels.visits, &mut levels.queue)?;
+    let gate = circuit.next_gate(r0, r1);
+    circuit.append_gate(r0, r1)?;
+    let level = level_over(&levels.levels, &gate);
+    append_level(&mut levels.levels, &mut levels.visits, level);
+    append_list(&mut readers.lists, r0.var(), r1.var(), gate.lhs.var());
+    Ok(())
+}
