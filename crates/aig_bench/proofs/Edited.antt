@@ -60,10 +60,14 @@ empty_chain levels levels' head next marks l h empty = of h.chain h.leads h.each
 pub buckets_empty : (levels levels' : List ℕ) (b : Buckets) → AreBuckets levels b → length levels' ≡ length levels
     → ((v : ℕ) → Waits b v → ⊥) → AreBuckets levels' b
 buckets_empty levels levels' b h size empty = record {
-  marks_size = h.marks_size ∙ sym size;
-  next_size = h.next_size ∙ sym size;
-  chains = λ l lt. empty_chain levels levels' b.head.items b.next.items b.marks.items l (h.chains l lt) empty;
-  placed = λ v m. absurd (empty v m);
+  chained = record {
+    marks_size = h.chained.marks_size ∙ sym size;
+    next_size = h.chained.next_size ∙ sym size;
+    chains = λ l lt. empty_chain levels levels' b.head.items b.next.items b.marks.items l (h.chained.chains l lt) empty;
+    placed = λ v m. absurd (empty v m);
+  };
+  room = h.room;
+  occupied = h.occupied;
 }
 
 -- empty buckets serve another plan of the same size

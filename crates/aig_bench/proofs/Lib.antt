@@ -1,3 +1,4 @@
+pub mod BitPlaces
 pub mod Carrying
 pub mod Cells
 pub mod Chained

@@ -2,6 +2,7 @@ pub mod Buckets
 pub mod Current
 pub mod Edit
 pub mod Entry
+pub mod LevelSet
 pub mod Pair
 pub mod Passing
 pub mod Plan

@@ -9,6 +9,7 @@ mod edit;
 mod fill;
 mod laws;
 mod layout;
+mod level_set;
 mod plan;
 mod propagate;
 mod settle;

@@ -62,7 +62,7 @@ returns-then-changed-clause-fewer g c =
     let takes = c.in_ok-variable.ensures c.args.net.now.levels w.buckets in
     let (q, at, e) = c.in_ok-gate.ensures.found in
     waiting_less c.args.net.now.levels c.args.buckets.now.marks.items c.link_all.new.self.marks.items c.args.level _
-    w.buckets.marks_size
+    w.buckets.chained.marks_size
     (linked_less c.args.plan.now c.args.net.now _ _ _ _ c.args.frame c.args.level _ q _ w c.requires.frame takes at e
     c.list.result.now c.list.ensures c.link_all.new.self c.link_all.ensures.buckets c.link_all.ensures.links)
     (level_is c.args.plan.now c.args.net.now _ _ _ _ c.args.frame c.args.level _ q _ w c.requires.frame takes at e)
@@ -95,7 +95,7 @@ returns-else-changed-clause-fewer g c =
     let takes = c.in_ok-variable.ensures c.args.net.now.levels w.buckets in
     let (q, at, e) = c.in_ok-gate.ensures.found in
     waiting_less c.args.net.now.levels c.args.buckets.now.marks.items c.take.new.self.marks.items c.args.level _
-    w.buckets.marks_size
+    w.buckets.chained.marks_size
     (λ u stands k. waits_less c.args.plan.now c.args.net.now _ _ _ _ c.args.frame c.args.level _ q _ w c.requires.frame
     takes at e u k)
     (level_is c.args.plan.now c.args.net.now _ _ _ _ c.args.frame c.args.level _ q _ w c.requires.frame takes at e)
