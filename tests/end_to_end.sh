@@ -189,7 +189,8 @@ words 'words: help of a subcommand' bench --help
 words 'words: an unknown subcommand' fold
 words 'words: a missing file name' bench two_gates
 words 'words: one file name too many' bench a b c d
-words 'words: another subcommand that is not built' check two_gates rows
+words 'words: help of check' check --help
+words 'words: check without a witness' check two_gates
 words 'words: a word that is not UTF-8' toaig --to aag "$(printf '\xff')"
 
 # ---- sim
@@ -239,6 +240,90 @@ file rows '11\n'
 row 'sim: no circuit file' 3 '' 'aig: circuit: input or output\n' sim nowhere rows
 row 'sim: a refused circuit' 1 '' 'aig: circuit: cycle 2\n' sim cycle rows
 row 'sim: a stimulus that is not there wins over a refused circuit' 3 '' 'aig: stimulus: input or output\n' sim cycle nowhere
+
+# ---- check
+# shows CIRCUIT WITNESS VERDICT: what a witness shows, or `fault TEXT`; in both files / stands for LF.
+shows() {
+    printf '%s' "$1" | tr / '\n' > circuit
+    printf '%s' "$2" | tr / '\n' > witness
+    case $3 in
+        confirmed) row "check: $1 $2" 0 'confirmed\n' '' check circuit witness ;;
+        fault*) row "check: $1 $2" 1 '' "aig: witness: ${3#fault }\n" check circuit witness ;;
+        *) row "check: $1 $2" 1 "$3\n" '' check circuit witness ;;
+    esac
+}
+input='aag 1 1 0 0 0 1/2/2/'
+shows "$input" '1/b0//x/./' 'not bad'
+shows "$input" '1/b0//1/./' 'confirmed'
+shows "$input" '1/b0//1/0/./' 'not bad'
+toggled='aag 1 0 1 0 0 1/2 3/2/'
+shows "$toggled" '1/b0/0///./' 'confirmed'
+shows "$toggled" '1/b0/0//./' 'not bad'
+shows "$toggled" '1/b0/1//./' 'initial 0'
+shows "$toggled" '1/b0/x//./' 'initial 0'
+shows "$toggled" '1/b1/0//./' 'fault property'
+shows "$toggled" '1/b0/0/./' 'fault text'
+shows "$toggled" '1/b00/0//./' 'fault text'
+shows "$toggled" '1/b99999999999999999999/0//./' 'fault property'
+whole='1/b0/0///./'
+for cut in 0 1 2 3 4 5 6 7 8 9 10; do
+    shows "$toggled" "${whole:0:$cut}" 'fault text'
+done
+shows "$toggled" '1/b0/0///./c/' 'fault text'
+shows "$toggled" '2/b0/0///./' 'fault text'
+shows "$toggled" '1/b0b0/0///./' 'fault text'
+shows "$toggled" '1/j0/0///./' 'fault text'
+shows "$toggled" '1/b1/1///' 'fault text'
+shows "$toggled" '1/b1/1///./' 'fault property'
+constrained='aag 2 2 0 0 0 1 1/2/4/2/4/'
+shows "$constrained" '1/b0//11/1x/./' 'constraint 1 0'
+shows "$constrained" '1/b0//11/11/./' 'confirmed'
+shows "$constrained" '1/b0//10/11/./' 'constraint 0 0'
+shows "$constrained" '1/b0//01/00/./' 'constraint 1 0'
+shows 'aag 3 3 0 0 0 1 2/2/4/6/2/4/6/' '1/b0//111/110/100/./' 'constraint 1 1'
+shows 'aag 3 3 0 0 0 1 2/2/4/6/2/4/6/' '1/b0//111/100/000/./' 'constraint 1 0'
+shows 'aag 3 0 3 0 0 1/2 2/4 4 1/6 6 1/2/' '1/b0/000//./' 'initial 1'
+shows 'aag 3 0 3 0 0 1/2 2/4 4 1/6 6 6/2/' '1/b0/x10//./' 'initial 0'
+shows 'aag 3 0 3 0 0 1 1/2 2/4 4 1/6 6 6/6/2/' '1/b0/01x//./' 'constraint 0 0'
+shows 'aag 3 0 3 0 0 1 1/2 2/4 4 1/6 6 6/6/3/' '1/b0/01x//./' 'not bad'
+shows 'aag 3 0 3 0 0 1 1/2 2/4 4 1/6 6 6/6/3/' '1/b0/011//./' 'confirmed'
+conjunction='aag 3 2 0 0 1 1/2/4/7/6 4 2/'
+shows "$conjunction" '1/b0//0x/./' 'confirmed'
+shows "$conjunction" '1/b0//00/./' 'confirmed'
+shows "$conjunction" '1/b0//01/./' 'confirmed'
+shows "$conjunction" '1/b0//1x/./' 'not bad'
+unfolded='aag 2 1 0 0 1 1/2/5/4 2 3/'
+shows "$unfolded" '1/b0//x/./' 'not bad'
+shows "$unfolded" '1/b0//0/./' 'confirmed'
+shows "$unfolded" '1/b0//1/./' 'confirmed'
+row 'check: an example' 0 'confirmed\n' '' check "$examples/wraps.aag" "$examples/wraps.wit"
+sed '$d' "$examples/wraps.wit" | sed '$d' > witness
+echo . >> witness
+row 'check: an example that is a frame short' 1 'not bad\n' '' check "$examples/wraps.aag" witness
+file circuit 'aag 1 1 0 0 0 1\n2\n2\n'
+{ printf '1\nb0\n\n'; yes 1 | head -n 65536; echo .; } > witness
+row 'check: as many frames as a witness may have' 0 'confirmed\n' '' check circuit witness
+{ printf '1\nb0\n\n'; yes 1 | head -n 65537; echo .; } > witness
+row 'check: more frames than a witness may have' 1 '' 'aig: witness: limit\n' check circuit witness
+{ printf '1\nb1\n\n'; yes 1 | head -n 65537; echo .; } > witness
+row 'check: a property wins over the frames' 1 '' 'aig: witness: property\n' check circuit witness
+{ printf '1\nb1\n\n'; yes 1 | head -n 65537; } > witness
+row 'check: a text wins over a property' 1 '' 'aig: witness: text\n' check circuit witness
+file source 'aig 1 1 0 0 0 1\n2\n'
+file witness '1\nb0\n\n1\n.\n'
+row 'check: a binary circuit' 0 'confirmed\n' '' check source witness
+row 'check: a circuit wins over a witness' 1 '' 'aig: circuit: cycle 2\n' check cycle circuit
+row 'check: no circuit file' 3 '' 'aig: circuit: input or output\n' check nowhere witness
+row 'check: no witness file' 3 '' 'aig: witness: input or output\n' check circuit nowhere
+row 'check: a directory as the witness' 3 '' 'aig: witness: input or output\n' check circuit .
+row 'check: a witness that is not there wins over a refused circuit' 3 '' 'aig: witness: input or output\n' check cycle nowhere
+"$aig" check circuit witness > /dev/full 2> got.err
+status=$?
+: > got.out; : > wanted.out; printf 'aig: output: input or output\n' > wanted.err
+compare 'check: standard output is full' 3 $status
+file found 'c a model checker\n1\nb0b1\n00\n1\n1\n1\n1\n.\nc done\n1\nb1\n'
+sed -n '/^1$/,/^\.$/p' found | sed '/^c/d; s/^\(b[0-9]*\)[bj].*/\1/; /^\.$/q' > witness
+row 'check: a witness of a model checker, brought into form' 0 'confirmed\n' '' check "$examples/wraps.aag" witness
 
 # ---- toaig
 # both NAME ASCII BINARY: the text is written back as it stands, and converted to these bytes.

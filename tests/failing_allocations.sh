@@ -99,5 +99,6 @@ printf 'ok\n1\nno 11\nno 6\naag 4 2 0 1 2\n2\n4\n8\n6 4 2\n8 4 2\n.\n1\n' > fram
 printf 'ok\n1\nok\n0\nno 11\n1\n' > unrolling_refused
 each_of 'bench that adds a frame and unrolls' 'nothing_refused frame_refused unrolling_refused' \
     bench "$examples/two_gates.aag" rows script
+each 'check' check "$examples/wraps.aag" "$examples/wraps.wit"
 echo "$passed passed, $failed failed"
 [ $failed = 0 ] && [ $passed -gt 0 ]

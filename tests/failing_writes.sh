@@ -42,6 +42,8 @@ cc -shared -fPIC -O1 -o refuse.so "$tests/refuse_write.c" -ldl 2> cc.err || : > 
 printf 'aag 3 2 0 1 1\n2\n4\n6\n6 2 4\n' > one_gate
 printf 'aag 3 1 0 1 2\n2\n4\n4 6 2\n6 4 2\n' > cycle
 printf 'aag 1 1 0 0 0 0 0 1 1\n2\n2\n2\n3\n2\n' > live
+printf 'aag 1 1 0 0 0 1\n2\n2\n' > bad_input
+printf '1\nb0\n\n1\n.\n' > witness
 printf '11\n' > rows
 printf 'v 0 6\n' > script
 LD_PRELOAD=$room/refuse.so "$aig" toaig --to aag one_gate > got.out 2> got.err
@@ -85,5 +87,11 @@ each 'bench of a refused stimulus' 1 'aig: stimulus: length of line 3001' bench 
 : > got.out
 "$aig" bench one_gate rows script > /dev/full 2> got.err
 ended 'bench of an empty script, a full device' 0 $? ''
+each 'check' 3 'aig: output: input or output' check bad_input witness
+each 'check of a refused circuit' 1 'aig: circuit: cycle 2' check cycle witness
+printf '1\nb0\n\n0\n.\n' > witness
+each 'check with another verdict' 3 'aig: output: input or output' check bad_input witness
+printf '1\nb1\n\n0\n.\n' > witness
+each 'check of a refused witness' 1 'aig: witness: property' check bad_input witness
 echo "$passed passed, $failed failed"
 [ "$failed" = 0 ]

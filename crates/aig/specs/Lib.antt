@@ -1,3 +1,4 @@
+pub mod Checked
 pub mod Command
 pub mod Converted
 pub mod Delivered

@@ -14,7 +14,7 @@ use Rattle.aig_bench.specs.declared.bench_fault.BenchFault.{BenchFault}
 use Rattle.aig_bench.specs.declared.bench_fault.BenchFault.TheVariants as benches
 use Rattle.aig_bench.specs.Pair.{Pair}
 use Rattle.aig.specs.declared.run_fault.RunFault.{RunFault}
-use Rattle.aig.specs.declared.run_fault.RunFault.TheVariants.{Circuit, Stimulus, Bench, Script, Output, Memory, Unroll}
+use Rattle.aig.specs.declared.run_fault.RunFault.TheVariants.{Circuit, Stimulus, Witness, Bench, Script, Output, Memory, Unroll}
 
 -- the bytes are a file of this circuit
 pub record IsFileOf (bytes : List ℕ) (raw : Raw) : Type 0 where
@@ -52,6 +52,7 @@ abbrev pub RefusesFiles : List ℕ → List ℕ → RunFault → Type 0
 RefusesFiles circuit stimulus (Circuit fault) = RefusesCircuit circuit fault
 RefusesFiles circuit stimulus (Stimulus fault) =
     (raw : Raw) × IsFileOf circuit raw × RefusesStimulus (length raw.inputs) stimulus fault
+RefusesFiles circuit stimulus (Witness fault) = ⊥
 RefusesFiles circuit stimulus (Bench fault) = (pair : Pair) × AreFilesOf circuit stimulus pair × RefusesBench pair fault
 RefusesFiles circuit stimulus (Script fault) = ⊥
 RefusesFiles circuit stimulus Output = ⊥

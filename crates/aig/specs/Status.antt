@@ -2,10 +2,11 @@
 use Rattle.std.specs.Prelude.{ℕ}
 use Rattle.aig_base.specs.declared.fault.Fault.TheVariants as circuits
 use Rattle.aig_sim.specs.declared.stimulus_fault.StimFault.TheVariants as stimuli
+use Rattle.aig_sim.specs.declared.witness_fault.WitnessFault.TheVariants as witnesses
 use Rattle.aig_bench.specs.declared.bench_fault.BenchFault.TheVariants as benches
 use Rattle.aig_unroll.specs.declared.fault.UnrollFault.TheVariants as unrollings
 use Rattle.aig.specs.declared.run_fault.RunFault.{RunFault}
-use Rattle.aig.specs.declared.run_fault.RunFault.TheVariants.{Circuit, Stimulus, Bench, Script, Output, Memory, Unroll}
+use Rattle.aig.specs.declared.run_fault.RunFault.TheVariants.{Circuit, Stimulus, Witness, Bench, Script, Output, Memory, Unroll}
 
 -- 3 where memory was wanting, or a read or a write failed; 1 for any other refusal
 abbrev pub status_of : RunFault → ℕ
@@ -15,6 +16,8 @@ status_of (Circuit _) = 1
 status_of (Stimulus stimuli.Memory) = 3
 status_of (Stimulus stimuli.Io) = 3
 status_of (Stimulus _) = 1
+status_of (Witness witnesses.Memory) = 3
+status_of (Witness _) = 1
 status_of (Bench benches.Memory) = 3
 status_of (Bench _) = 1
 status_of (Script _) = 3

@@ -43,8 +43,22 @@ state properties and constraints, each bad state property holds only where all c
 Example: aig unroll --frames 3 --to aag examples/counter.aag
 The formats are described in docs/FORMATS.md.";
 
+static AFTER_CHECK: &str =
+    "The verdict is the first that applies; latches, frames and constraints count from 0:
+  initial P       latch P starts at a value that its reset does not allow
+  constraint T P  constraint P is not 1 at frame T
+  not bad         the bad state property is not 1 at the last frame
+  confirmed       the run reaches the bad state, whatever the x of the witness turn out to be
+The status is 0 for confirmed, and 1 for any other verdict.
+
+A witness has the line 1, the line b and a position (as b0), a line of the latches' values, a line of the inputs' values
+for each frame, and the line . at its end.
+
+Example: aig check examples/wraps.aag examples/wraps.wit
+Witnesses, and those of model checkers, are described in docs/FORMATS.md.";
+
 static AFTER_ALL: &str =
-    "Exit status: 0 done, 1 refused input, 2 wrong words, 3 memory, input or output.
+    "Exit status: 0 done, 1 refused input or a verdict other than confirmed, 2 wrong words, 3 memory, input or output.
 
 Example: aig sim examples/counter.aag examples/counter.stim
 What runs is described in docs/BEHAVIOUR.md, the formats in docs/FORMATS.md.";
@@ -103,6 +117,14 @@ fn any_number<'a>(argument: Arg<'a>) -> Arg<'a> {
     argument.value_parser(ValueParser::Unsigned(0, 4_294_967_295))
 }
 
+fn witness_argument<'a>(alloc: Global) -> Arg<'a> {
+    argument(
+        alloc,
+        "WITNESS",
+        "The file of the witness, as a model checker writes it",
+    )
+}
+
 fn toaig_command<'a>(alloc: Global) -> Result<Command<'a>, AllocError> {
     Command::new(alloc, "toaig")
         .about("Writes a circuit in another format")
@@ -139,10 +161,18 @@ fn unroll_command<'a>(alloc: Global) -> Result<Command<'a>, AllocError> {
         .arg(circuit_argument(alloc))
 }
 
+fn check_command<'a>(alloc: Global) -> Result<Command<'a>, AllocError> {
+    Command::new(alloc, "check")
+        .about("Checks that a witness reaches a bad state of a circuit, and writes the verdict")
+        .after_help(AFTER_CHECK)
+        .arg(circuit_argument(alloc))?
+        .arg(witness_argument(alloc))
+}
+
 fn program<'a>(alloc: Global) -> Command<'a> {
     Command::new(alloc, "aig")
         .about(
-            "Converts, simulates and unrolls and-inverter graphs, circuits in the AIGER formats, and answers scripts about them",
+            "Converts, simulates and unrolls and-inverter graphs, circuits in the AIGER formats, answers scripts and checks witnesses",
         )
         .after_help(AFTER_ALL)
         .subcommand_required(true)
@@ -160,7 +190,8 @@ fn command_line<'a>(alloc: Global) -> Result<Command<'a>, AllocError> {
     let start = with_subcommand(program(alloc), toaig_command(alloc))?;
     let next = with_subcommand(start, sim_command(alloc))?;
     let last = with_subcommand(next, bench_command(alloc))?;
-    with_subcommand(last, unroll_command(alloc))
+    let more = with_subcommand(last, unroll_command(alloc))?;
+    with_subcommand(more, check_command(alloc))
 }
 
 /// Matches the words, of which the first is the program's name.

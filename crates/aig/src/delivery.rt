@@ -1,10 +1,12 @@
 //! Engines over a writer that holds bytes back: all that they wrote is handed on, whatever they answer.
 ghost use Rattle.std.specs.Prelude.{◌≡◌};
+ghost use Rattle.aig.specs.Checked.{CheckEnds};
 ghost use Rattle.aig.specs.Converted.{ConversionEnds, EndsFrom};
 ghost use Rattle.aig.specs.Delivered.{Delivers, IsHandedOn, all_written, calls_failed};
 ghost use Rattle.aig.specs.Engines.{BenchEnds, SimulationEnds};
 ghost use Rattle.aig.specs.Unrolling.{UnrollingEnds};
 
+use crate::checking::check_bytes;
 use crate::conversion::convert_from;
 use crate::engine::{run_bench, simulate_from};
 use crate::run_fault::RunFault;
@@ -12,7 +14,7 @@ use crate::script_fault::ScriptFault;
 use crate::unrolling::unroll_bytes;
 use aig_base::{Buffered, Failed, Read, Write};
 use aig_format::Format;
-use aig_sim::{PlaneGrid, StimFault};
+use aig_sim::{PlaneGrid, StimFault, Verdict};
 use std::alloc::Global;
 
 /// Writes the circuit of a file in a format. Where the writer below fails, the fault is the output's.
@@ -77,6 +79,21 @@ pub fn deliver_unrolled<W: Write>(
         out.new result }
 {
     let done = unroll_bytes(alloc, circuit, frames, to, out);
+    handed_on(done, out, RunFault::Output)
+}
+
+/// Writes the verdict on a witness, and answers it. Where the writer below fails, the fault is the output's.
+pub fn deliver_verdict<W: Write>(
+    alloc: Global,
+    circuit: &[u8],
+    witness: &[u8],
+    out: &mut Buffered<W>,
+) -> Result<Verdict, RunFault>
+    ensures { Delivers W.written RunFault.Output
+        (λ left answer. CheckEnds (all_written W.written) calls_failed out.old left circuit.now witness.now answer)
+        out.new result }
+{
+    let done = check_bytes(alloc, circuit, witness, out);
     handed_on(done, out, RunFault::Output)
 }
 

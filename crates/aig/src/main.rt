@@ -1,6 +1,7 @@
 //! The program `aig`: converts, simulates and unrolls and-inverter graphs, and answers questions on them.
 #![tactic(auto)]
 
+mod checking;
 mod command;
 mod command_line;
 mod conversion;

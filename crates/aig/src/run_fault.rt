@@ -5,7 +5,7 @@ ghost use Rattle.aig.specs.Status.{status_of};
 use crate::script_fault::ScriptFault;
 use aig_base::{Fault, Memory};
 use aig_bench::BenchFault;
-use aig_sim::StimFault;
+use aig_sim::{StimFault, WitnessFault};
 use aig_unroll::UnrollFault;
 use thiserror::Error;
 
@@ -16,6 +16,8 @@ pub enum RunFault {
     Circuit(Fault),
     #[error("stimulus: {0}")]
     Stimulus(StimFault),
+    #[error("witness: {0}")]
+    Witness(WitnessFault),
     #[error("bench: {0}")]
     Bench(BenchFault),
     #[error("script: {0}")]
@@ -38,11 +40,15 @@ impl RunFault {
         match self {
             RunFault::Circuit(Fault::Memory | Fault::Io) => 3,
             RunFault::Stimulus(StimFault::Memory | StimFault::Io) => 3,
+            RunFault::Witness(WitnessFault::Memory) => 3,
             RunFault::Bench(BenchFault::Memory) => 3,
             RunFault::Script(_) | RunFault::Output | RunFault::Memory => 3,
             RunFault::Unroll(UnrollFault::Memory) => 3,
-            RunFault::Unroll(_) => 1,
-            RunFault::Circuit(_) | RunFault::Stimulus(_) | RunFault::Bench(_) => 1,
+            RunFault::Circuit(_)
+            | RunFault::Stimulus(_)
+            | RunFault::Witness(_)
+            | RunFault::Bench(_)
+            | RunFault::Unroll(_) => 1,
         }
     }
 }
@@ -66,6 +72,17 @@ impl From<StimFault> for RunFault {
 
     fn from(fault: StimFault) -> RunFault {
         RunFault::Stimulus(fault)
+    }
+}
+
+impl From<WitnessFault> for RunFault {
+    ghost use Rattle.std.specs.Prelude.{◌≡◌};
+    ghost use Rattle.aig.specs.declared.run_fault.RunFault.TheVariants as parts;
+
+    ghost from_gives = { λ fault part. part ≡ parts.Witness fault };
+
+    fn from(fault: WitnessFault) -> RunFault {
+        RunFault::Witness(fault)
     }
 }
 

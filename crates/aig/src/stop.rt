@@ -14,24 +14,37 @@ pub enum Stop {
     NotText,
     /// A run was refused.
     Run(RunFault),
+    /// A witness's file cannot be opened or read.
+    Witness,
+    /// A witness was checked, and its verdict, which was written, is not that it is confirmed.
+    NotConfirmed,
+}
+
+impl From<RunFault> for Stop {
+    fn from(fault: RunFault) -> Stop {
+        Stop::Run(fault)
+    }
 }
 
 impl Stop {
     /// Says why on standard error, where that was not said yet.
     pub fn tell(&self, rt: &impl Eprint) -> io::Result<()> {
         match self {
-            Stop::Told => Ok(()),
+            Stop::Told | Stop::NotConfirmed => Ok(()),
             Stop::NoTask => eprintln!(rt; "error: the words choose no task"),
             Stop::NotText => eprintln!(rt; "error: a word of the command line is not UTF-8"),
             Stop::Run(fault) => eprintln!(rt; "aig: {fault}"),
+            Stop::Witness => eprintln!(rt; "aig: witness: input or output"),
         }
     }
 
-    /// The exit status: 2 where the words are wrong, else that of the fault.
+    /// The exit status: 2 where the words are wrong, 1 for a verdict, else that of the fault.
     pub fn status(&self) -> u8 {
         match self {
             Stop::Told | Stop::NoTask | Stop::NotText => 2,
             Stop::Run(fault) => fault.status(),
+            Stop::Witness => 3,
+            Stop::NotConfirmed => 1,
         }
     }
 }

@@ -1,14 +1,16 @@
 //! What the words of the command line choose.
 
 use crate::command_line::{number_of, subcommand_of, text_of};
-use crate::delivery::{deliver_circuit, deliver_replies, deliver_trace, deliver_unrolled};
+use crate::delivery::{
+    deliver_circuit, deliver_replies, deliver_trace, deliver_unrolled, deliver_verdict,
+};
 use crate::files::{open, output, read_whole};
 use crate::run_fault::RunFault;
 use crate::script_fault::ScriptFault;
 use crate::stop::Stop;
 use aig_base::{Fault, Std};
 use aig_format::Format;
-use aig_sim::StimFault;
+use aig_sim::{StimFault, Verdict};
 use clap::ArgMatches;
 use std::fs::Files;
 use std::io::Read;
@@ -34,6 +36,10 @@ pub enum Task<'a> {
         to: Format,
         circuit: &'a str,
     },
+    Check {
+        circuit: &'a str,
+        witness: &'a str,
+    },
 }
 
 impl<'a> Task<'a> {
@@ -45,13 +51,14 @@ impl<'a> Task<'a> {
             "sim" => simulation_of(matches),
             "bench" => bench_of(matches),
             "unroll" => unrolling_of(matches),
+            "check" => check_of(matches),
             _ => None,
         }
     }
 
     /// Opens the files, does the task, and hands its results to standard output.
     pub fn run<R: Files + AllocGlobal + Print>(&self, rt: &R) -> Result<(), Stop> {
-        let done = match *self {
+        match *self {
             Task::Convert { to, circuit } => convert(rt, to, circuit),
             Task::Simulate { circuit, stimulus } => simulate(rt, circuit, stimulus),
             Task::Bench {
@@ -64,10 +71,7 @@ impl<'a> Task<'a> {
                 to,
                 circuit,
             } => unroll(rt, frames, to, circuit),
-        };
-        match done {
-            Ok(()) => Ok(()),
-            Err(fault) => Err(Stop::Run(fault)),
+            Task::Check { circuit, witness } => check(rt, circuit, witness),
         }
     }
 }
@@ -110,17 +114,22 @@ fn unrolling_of<'a>(matches: &ArgMatches<'a>) -> Option<Task<'a>> {
     })
 }
 
-const CIRCUIT: RunFault = RunFault::Circuit(Fault::Io);
+fn check_of<'a>(matches: &ArgMatches<'a>) -> Option<Task<'a>> {
+    Some(Task::Check {
+        circuit: text_of(matches, "CIRCUIT")?,
+        witness: text_of(matches, "WITNESS")?,
+    })
+}
 
-const STIMULUS: RunFault = RunFault::Stimulus(StimFault::Io);
+const CIRCUIT: Stop = Stop::Run(RunFault::Circuit(Fault::Io));
 
-const SCRIPT: RunFault = RunFault::Script(ScriptFault::Io);
+const STIMULUS: Stop = Stop::Run(RunFault::Stimulus(StimFault::Io));
 
-fn convert<R: Files + AllocGlobal + Print>(
-    rt: &R,
-    to: Format,
-    circuit: &str,
-) -> Result<(), RunFault> {
+const SCRIPT: Stop = Stop::Run(RunFault::Script(ScriptFault::Io));
+
+const WITNESS: Stop = Stop::Witness;
+
+fn convert<R: Files + AllocGlobal + Print>(rt: &R, to: Format, circuit: &str) -> Result<(), Stop> {
     let circuit = open(rt, circuit, CIRCUIT)?;
     convert_file(rt, to, circuit)
 }
@@ -129,17 +138,18 @@ fn convert_file<R: AllocGlobal + Print, F: Read + Drop>(
     rt: &R,
     to: Format,
     circuit: F,
-) -> Result<(), RunFault> {
+) -> Result<(), Stop> {
     let mut circuit = Std::new(circuit);
     let mut out = output(rt);
-    deliver_circuit(rt.alloc(), &mut circuit, to, &mut out)
+    deliver_circuit(rt.alloc(), &mut circuit, to, &mut out)?;
+    Ok(())
 }
 
 fn simulate<R: Files + AllocGlobal + Print>(
     rt: &R,
     circuit: &str,
     stimulus: &str,
-) -> Result<(), RunFault> {
+) -> Result<(), Stop> {
     let circuit = open(rt, circuit, CIRCUIT)?;
     let stimulus = open(rt, stimulus, STIMULUS)?;
     simulate_files(rt, circuit, stimulus)
@@ -149,7 +159,7 @@ fn simulate_files<R: AllocGlobal + Print, F: Read + Drop>(
     rt: &R,
     circuit: F,
     stimulus: F,
-) -> Result<(), RunFault> {
+) -> Result<(), Stop> {
     let mut circuit = Std::new(circuit);
     let mut stimulus = Std::new(stimulus);
     let mut out = output(rt);
@@ -162,7 +172,7 @@ fn bench<R: Files + AllocGlobal + Print>(
     circuit: &str,
     stimulus: &str,
     script: &str,
-) -> Result<(), RunFault> {
+) -> Result<(), Stop> {
     let circuit = open(rt, circuit, CIRCUIT)?;
     let stimulus = open(rt, stimulus, STIMULUS)?;
     let script = open(rt, script, SCRIPT)?;
@@ -174,7 +184,7 @@ fn bench_files<R: AllocGlobal + Print, F: Read + Drop>(
     circuit: F,
     stimulus: F,
     script: F,
-) -> Result<(), RunFault> {
+) -> Result<(), Stop> {
     let circuit = read_whole(rt.alloc(), circuit, CIRCUIT)?;
     let stimulus = read_whole(rt.alloc(), stimulus, STIMULUS)?;
     let mut script = Std::new(script);
@@ -185,7 +195,34 @@ fn bench_files<R: AllocGlobal + Print, F: Read + Drop>(
         stimulus.as_slice(),
         &mut script,
         &mut out,
-    )
+    )?;
+    Ok(())
+}
+
+fn check<R: Files + AllocGlobal + Print>(rt: &R, circuit: &str, witness: &str) -> Result<(), Stop> {
+    let circuit = open(rt, circuit, CIRCUIT)?;
+    let witness = open(rt, witness, WITNESS)?;
+    check_files(rt, circuit, witness)
+}
+
+fn check_files<R: AllocGlobal + Print, F: Read + Drop>(
+    rt: &R,
+    circuit: F,
+    witness: F,
+) -> Result<(), Stop> {
+    let circuit = read_whole(rt.alloc(), circuit, CIRCUIT)?;
+    let witness = read_whole(rt.alloc(), witness, WITNESS)?;
+    let mut out = output(rt);
+    let verdict = deliver_verdict(rt.alloc(), circuit.as_slice(), witness.as_slice(), &mut out)?;
+    confirmation(verdict)
+}
+
+/// A verdict other than that the witness is confirmed ends the program with a status of its own.
+fn confirmation(verdict: Verdict) -> Result<(), Stop> {
+    match verdict {
+        Verdict::Confirmed => Ok(()),
+        Verdict::Initial(_) | Verdict::Constraint(..) | Verdict::NotBad => Err(Stop::NotConfirmed),
+    }
 }
 
 fn unroll<R: Files + AllocGlobal + Print>(
@@ -193,7 +230,7 @@ fn unroll<R: Files + AllocGlobal + Print>(
     frames: u32,
     to: Format,
     circuit: &str,
-) -> Result<(), RunFault> {
+) -> Result<(), Stop> {
     let circuit = open(rt, circuit, CIRCUIT)?;
     unroll_file(rt, frames, to, circuit)
 }
@@ -203,8 +240,9 @@ fn unroll_file<R: AllocGlobal + Print, F: Read + Drop>(
     frames: u32,
     to: Format,
     circuit: F,
-) -> Result<(), RunFault> {
+) -> Result<(), Stop> {
     let circuit = read_whole(rt.alloc(), circuit, CIRCUIT)?;
     let mut out = output(rt);
-    deliver_unrolled(rt.alloc(), circuit.as_slice(), frames, to, &mut out)
+    deliver_unrolled(rt.alloc(), circuit.as_slice(), frames, to, &mut out)?;
+    Ok(())
 }

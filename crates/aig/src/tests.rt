@@ -6,3 +6,4 @@ mod messages;
 mod scripts;
 mod traces;
 mod unrollings;
+mod verdicts;

@@ -1,9 +1,9 @@
-use crate::delivery::{deliver_circuit, deliver_replies, deliver_trace};
+use crate::delivery::{deliver_circuit, deliver_replies, deliver_trace, deliver_verdict};
 use crate::run_fault::RunFault;
 use crate::script_fault::ScriptFault;
 use aig_base::{Buffered, Fault, MemReader, MemWriter};
 use aig_format::Format;
-use aig_sim::StimFault;
+use aig_sim::{StimFault, Verdict, WitnessFault};
 use std::test::Fail;
 
 const ONE_GATE: &[u8] = b"aag 3 2 0 1 1\n2\n4\n6\n6 2 4\n";
@@ -52,6 +52,25 @@ fn circuits_to_full_writers(rt: HostRuntime) -> Result<(), Fail> {
         let mut out = Buffered::new(MemWriter::new(rt.alloc(), room)?);
         let mut reader = MemReader::new(circuit);
         let done = deliver_circuit(rt.alloc(), &mut reader, Format::Binary, &mut out);
+        assert_eq!(rt; done, answer);
+    }
+    Ok(())
+}
+
+#[test]
+fn verdicts_to_full_writers(rt: HostRuntime) -> Result<(), Fail> {
+    for (witness, room, answer) in [
+        (b"1\nb0\n\n1\n.\n".as_slice(), 10, Ok(Verdict::Confirmed)),
+        (b"1\nb0\n\n1\n.\n", 9, Err(RunFault::Output)),
+        (b"1\nb0\n\n0\n.\n", 8, Ok(Verdict::NotBad)),
+        (
+            b"1\nb0\n\n0\n",
+            0,
+            Err(RunFault::Witness(WitnessFault::Text)),
+        ),
+    ] {
+        let mut out = Buffered::new(MemWriter::new(rt.alloc(), room)?);
+        let done = deliver_verdict(rt.alloc(), b"aag 1 1 0 0 0 1\n2\n2\n", witness, &mut out);
         assert_eq!(rt; done, answer);
     }
     Ok(())

@@ -2,7 +2,7 @@ use crate::run_fault::RunFault;
 use crate::script_fault::ScriptFault;
 use aig_base::Fault;
 use aig_bench::BenchFault;
-use aig_sim::StimFault;
+use aig_sim::{StimFault, WitnessFault};
 use std::test::Fail;
 
 #[test]
@@ -28,6 +28,13 @@ fn parts_and_texts(rt: HostRuntime) -> Result<(), Fail> {
             RunFault::Stimulus(StimFault::Io),
             "stimulus: input or output",
         ),
+        (RunFault::Witness(WitnessFault::Text), "witness: text"),
+        (
+            RunFault::Witness(WitnessFault::Property),
+            "witness: property",
+        ),
+        (RunFault::Witness(WitnessFault::Limit), "witness: limit"),
+        (RunFault::Witness(WitnessFault::Memory), "witness: memory"),
         (RunFault::Bench(BenchFault::Width), "bench: width"),
         (RunFault::Bench(BenchFault::Limit), "bench: limit"),
         (RunFault::Bench(BenchFault::Memory), "bench: memory"),
