@@ -4,9 +4,9 @@ pub mod GateOrders
 pub mod GatherLemmas
 pub mod LineLemmas
 pub mod OneText
+pub mod PaddedRows
 pub mod PlaneBits
 pub mod PlaneLemmas
-pub mod PlaneRows
 pub mod SimulationLemmas
 pub mod TraceLemmas
 pub mod VerdictLemmas

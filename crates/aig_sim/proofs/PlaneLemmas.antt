@@ -2,7 +2,7 @@
 use Rattle.std.proofs.Common.{◌≡◌, ◌≢◌, inl, inr, ℕ, suc, zero-le, ◌-◌, ◌*◌, ◌/◌, ◌%◌, ◌<◌, List, [], ◌∷◌, ◌++◌, length, replicate, take, Some, All, slice_get, get_or, set, refl, sym, ap, ◌∙◌, subst, arith}
 use Rattle.std.proofs.lemmas.Bool.{cases_lt, cases_eq}
 use Rattle.std.proofs.lemmas.Option.{slice_get-get_or}
-use Rattle.std.proofs.lemmas.List.{length-append, length-set, length-replicate, get_or_append_left, get_or-append_right, get_or-set_same, get_or-set_other, get_or-replicate, take_all, ext_get_or}
+use Rattle.std.proofs.lemmas.List.{append_assoc, length-append, length-set, length-replicate, get_or_append_left, get_or-append_right, get_or-set_same, get_or-set_other, get_or-replicate, take_all, ext_get_or}
 use Rattle.std.proofs.lemmas.List.FromFn.{length-map-range_with_len, get_or-map-range_with_len}
 use Rattle.aig_base.specs.declared.ternary.Tern.{Tern}
 use Rattle.aig_base.specs.declared.ternary.Tern.TheVariants.{Zero, X}
@@ -112,6 +112,15 @@ spelled_unknown k unknown x_is =
     spelled_at words i unknown (omega (arith, length-replicate k unknown))
     ∙ ap (λ (w : Word). value_in w (i % 64)) here ∙ x_is (i % 64) (omega arith)
     ∙ sym (get_or-replicate (64 * k) i X X within))
+
+-- one more word of x
+pub spelled_more : (words : List Word) (unknown : Word) → ((place : ℕ) → place < 64 → value_in unknown place ≡ X)
+    → spelled (words ++ unknown ∷ []) ≡ spelled words ++ replicate 64 X
+unfolding spelled
+spelled_more [] unknown x_is = spelled_unknown 1 unknown x_is
+spelled_more (first ∷ words) unknown x_is =
+    ap (λ (row : List Tern). values_of first ++ row) (spelled_more words unknown x_is)
+    ∙ sym (append_assoc (values_of first) (spelled words) (replicate 64 X))
 
 -- one word whose first cell is 0 and whose other cells are x, and words of x
 pub spelled_fresh : (k : ℕ) (word unknown : Word) → 0 < k → value_in word 0 ≡ Zero

@@ -1,5 +1,5 @@
 -- The cells of a grid: a row a frame, a value a variable.
-use Rattle.std.specs.Prelude.{ℕ, ◌-◌, ◌%◌, Bool, List, ◌∷◌, replicate, slice_index_or, nat_eq, if◌then◌else◌}
+use Rattle.std.specs.Prelude.{ℕ, ◌-◌, ◌%◌, Bool, List, [], ◌∷◌, ◌++◌, replicate, slice_index_or, nat_eq, if◌then◌else◌}
 use Rattle.aig_base.specs.declared.ternary.Tern.{Tern}
 use Rattle.aig_base.specs.declared.ternary.Tern.TheVariants.{Zero, X}
 use Rattle.aig_base.specs.declared.gate.Gate.{Gate}
@@ -19,8 +19,14 @@ gate_value row g = kleene_and (literal_value row g.rhs0) (literal_value row g.rh
 abbrev pub fresh_row : ℕ → List Tern
 fresh_row n = Zero ∷ replicate (n - 1) X
 
--- what a grid is seen as: the values row by row, which variables are gates, and how many evaluations there were
+-- a row with the cell of one more variable, x
+abbrev pub with_new_cell : List Tern → List Tern
+with_new_cell row = row ++ X ∷ []
+
+-- what a grid is seen as: the values row by row, which variables are gates, how many evaluations there were, and whether
+-- one more gate fits without memory
 pub record Cells : Type 0 where
   pub cells : List (List Tern)
   pub gate_flags : List Bool
   pub evaluations : ℕ
+  pub room : Bool

@@ -2,9 +2,11 @@ pub mod Cells
 pub mod Checking
 pub mod Frame
 pub mod GateOrder
+pub mod Gathered
 pub mod InputRows
 pub mod LineInHand
 pub mod Machine
+pub mod Padded
 pub mod Planes
 pub mod Running
 pub mod Simulated

@@ -1,6 +1,6 @@
 -- Cells in two planes of bits, 64 cells a word. A bit of the first plane says that its cell may be 1, the same bit of
 -- the second that it may be 0.
-use Rattle.std.specs.Prelude.{◌≡◌, ℕ, ◌-◌, ◌<◌, ◌≤◌, Bool, true, false, ◌||◌, IsTrue, List, [], ◌∷◌, ◌++◌, length, map, drop, replicate, nat_eq}
+use Rattle.std.specs.Prelude.{ℕ, ◌<◌, Bool, true, false, ◌||◌, IsTrue, List, [], ◌∷◌, ◌++◌, map, nat_eq}
 use Rattle.std.specs.Int.{bit_at}
 use Rattle.std.specs.List.{range_with_len}
 use Rattle.aig_base.specs.declared.ternary.Tern.{Tern}
@@ -44,7 +44,3 @@ spelled (word ∷ words) = values_of word ++ spelled words
 -- each cell of a word may be something
 abbrev pub IsWhole : Word → Type 0
 IsWhole word = (place : ℕ) → place < 64 → IsTrue (bit word.may_be_one place || bit word.may_be_zero place)
-
--- a row for n variables: all cells behind them are x, as a cell that comes later has to be
-abbrev pub IsPadded : ℕ → List Tern → Type 0
-IsPadded n row = (n ≤ length row) × (drop n row ≡ replicate (length row - n) X)

@@ -1,5 +1,5 @@
 //! Gate flags that contracts alone see.
-ghost use Rattle.std.specs.Prelude.{◌≡◌, Bool, List};
+ghost use Rattle.std.specs.Prelude.{◌≡◌, ◌∷◌, ◌++◌, [], Bool, true, List};
 ghost use Rattle.std.specs.Borrow.{ftrue};
 
 use std::marker::Model;
@@ -18,6 +18,13 @@ impl GateFlags {
     /// The flags of a slice.
     pub fn of(_gates: &[bool]) -> GateFlags
         ensures { result.flags ≡ _gates.now }
+    {
+        GateFlags {}
+    }
+
+    /// The flags with one more variable, which is a gate.
+    pub fn one_more(_before: &GateFlags) -> GateFlags
+        ensures { result.flags ≡ _before.now.flags ++ true ∷ [] }
     {
         GateFlags {}
     }

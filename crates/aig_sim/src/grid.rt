@@ -1,9 +1,9 @@
 //! Tables of values that count their evaluations.
-ghost use Rattle.std.specs.Prelude.{◌≡◌, ◌≢◌, ℕ, ◌-◌, ◌+◌, ◌*◌, ◌<◌, ◌≤◌, ◌↔◌, Bool, true, false, List, [], ◌∷◌, ◌++◌, length, take, IsTrue, IfOk, OnOk, OnErr, Some, slice_get, slice_index_or};
+ghost use Rattle.std.specs.Prelude.{◌≡◌, ◌≢◌, ℕ, ◌-◌, ◌+◌, ◌*◌, ◌<◌, ◌≤◌, ◌↔◌, Bool, true, false, List, [], ◌∷◌, ◌++◌, length, map, take, IsTrue, IfOk, OnOk, OnErr, Some, slice_get, slice_index_or};
 ghost use Rattle.aig_base.specs.declared.ternary.Tern.{Tern};
 ghost use Rattle.aig_base.specs.declared.ternary.Tern.TheVariants.{X};
 ghost use Rattle.aig_base.specs.Literal.{variable, IsEven};
-ghost use Rattle.aig_sim.specs.Cells.{gate_value, fresh_row};
+ghost use Rattle.aig_sim.specs.Cells.{gate_value, fresh_row, with_new_cell};
 ghost use Rattle.aig_sim.specs.InputRows.{with_cell, row_at};
 
 use aig_base::{Gate, Memory, Tern};
@@ -20,6 +20,9 @@ pub trait Grid: Sized + Drop {
 
     /// How many evaluations there were.
     ghost evaluations: { Self → ℕ };
+
+    /// Whether one more gate fits without memory.
+    ghost has_room: { Self → Bool };
 
     /// A grid without rows, for variables of which these are gates. Variable 0 is there, and no gate.
     fn new(alloc: Global, gates: &[bool]) -> Result<Self, Memory>
@@ -46,7 +49,8 @@ pub trait Grid: Sized + Drop {
         requires source { slice_get (gate_flags self.old) variable ≡ Some false }
         ensures cells { Self.cells self.new ≡ with_cell (Self.cells self.old) frame variable value }
         ensures gates { gate_flags self.new ≡ gate_flags self.old }
-        ensures count { evaluations self.new ≡ evaluations self.old };
+        ensures count { evaluations self.new ≡ evaluations self.old }
+        ensures room { has_room self.new ≡ has_room self.old };
 
     /// Writes the AND of the right sides' values at a frame to the gate's cell, and answers whether the cell changed.
     fn evaluate(&mut self, frame: u32, gate: Gate) -> bool
@@ -61,7 +65,8 @@ pub trait Grid: Sized + Drop {
             ↔ (slice_index_or (row_at (Self.cells self.new) frame) (variable gate.lhs) X
             ≢ slice_index_or (row_at (Self.cells self.old) frame) (variable gate.lhs) X) }
         ensures gates { gate_flags self.new ≡ gate_flags self.old }
-        ensures count { evaluations self.new ≡ evaluations self.old + 1 };
+        ensures count { evaluations self.new ≡ evaluations self.old + 1 }
+        ensures room { has_room self.new ≡ has_room self.old };
 
     /// Appends a row: x everywhere, 0 at variable 0. Rows and cells stay within a bench's limits.
     fn add_row(&mut self) -> Result<(), Memory>
@@ -77,5 +82,23 @@ pub trait Grid: Sized + Drop {
         requires { 0 < length (cells self.old) }
         ensures cells { Self.cells self.new ≡ take (length (Self.cells self.old) - 1) (Self.cells self.old) }
         ensures gates { gate_flags self.new ≡ gate_flags self.old }
+        ensures count { evaluations self.new ≡ evaluations self.old }
+        ensures room { has_room self.new ≡ has_room self.old };
+
+    /// Makes room for one more gate, which is there until the next `add_row` or `add_gate`; nothing else changes. The
+    /// caller knows that a bench has fewer variables than its limit.
+    fn reserve_gate(&mut self) -> Result<(), Memory>
+        requires { length (gate_flags self.old) < 4194304 }
+        ensures ok { OnOk result (IsTrue (has_room self.new)) }
+        ensures err { OnErr result (has_room self.new ≡ has_room self.old) }
+        ensures cells { Self.cells self.new ≡ Self.cells self.old }
+        ensures gates { gate_flags self.new ≡ gate_flags self.old }
+        ensures count { evaluations self.new ≡ evaluations self.old };
+
+    /// Gives each row one more cell, x, whose variable is a gate. The caller knows that there is room. No memory.
+    fn add_gate(&mut self)
+        requires { IsTrue (has_room self.old) }
+        ensures cells { Self.cells self.new ≡ map with_new_cell (Self.cells self.old) }
+        ensures gates { gate_flags self.new ≡ gate_flags self.old ++ true ∷ [] }
         ensures count { evaluations self.new ≡ evaluations self.old };
 }

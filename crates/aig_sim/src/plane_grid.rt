@@ -1,9 +1,13 @@
 //! A grid with two bits a cell.
+ghost use Rattle.std.specs.Prelude.{ℕ, ◌+◌, ◌<◌, ◌≤◌, List, length, All, OnOk};
+ghost use Rattle.aig_base.specs.declared.ternary.Tern.{Tern};
+ghost use Rattle.aig_sim.specs.Padded.{AreLengthened};
+
 use crate::gate_flags::GateFlags;
 use crate::grid::Grid;
 use crate::plane_row::{Cell, PlaneRow};
 use aig_base::{Count, Gate, Memory, Tern};
-use std::alloc::Global;
+use std::alloc::{AllocError, Global};
 use std::marker::Model;
 
 /// A grid that keeps two bits for each cell: whether it may be 1, and whether it may be 0. So 0 may only be 0, 1 may
@@ -13,26 +17,41 @@ use std::marker::Model;
 pub struct PlaneGrid {
     rows: Vec<PlaneRow>,
     variables: u32,
+    // How many variables each row has cells for.
+    room: u32,
     gates: GateFlags,
     evaluations: Count,
 }
 
 impl Model for PlaneGrid {
-    ghost use Rattle.std.specs.Prelude.{◌≡◌, ◌≤◌, ◌<◌, length, map, take, All, vec_len};
+    ghost use Rattle.std.specs.Prelude.{map, take, nat_lt};
     ghost use Rattle.aig_sim.specs.Cells.{Cells};
 
     ghost Value = { Cells };
 
-    ghost use Rattle.aig_sim.specs.Planes.{IsPadded};
+    ghost use Rattle.aig_sim.specs.Padded.{ArePadded};
 
     ghost view = { λ g. record {
       cells = map (take g.variables) g.rows.items;
       gate_flags = g.gates.flags;
       evaluations = g.evaluations.number;
+      room = nat_lt g.variables g.room;
     } };
 
-    ghost invariant = { λ g. (vec_len g.rows ≤ 65536) × (0 < g.variables) × (g.variables ≤ 4194304)
-        × (length g.gates.flags ≡ g.variables) × All (IsPadded g.variables) g.rows.items };
+    ghost invariant = { λ g. ArePadded g.variables g.room g.gates.flags g.rows.items };
+}
+
+// Gives each row cells for so many variables, at most one more than it has.
+fn make_room(rows: &mut [PlaneRow], size: usize) -> Result<(), AllocError>
+    requires more { All (λ row. size ≤ length row + 1) rows.old }
+    requires limit { size ≤ 4194304 }
+    ensures rows { AreLengthened rows.old rows.new }
+    ensures ok { OnOk result (All (λ row. size ≤ length row) rows.new) }
+{
+    for frame in 0..rows.len() {
+        rows[frame].make_room(size)?;
+    }
+    Ok(())
 }
 
 impl Grid for PlaneGrid {
@@ -42,10 +61,13 @@ impl Grid for PlaneGrid {
 
     ghost evaluations = { λ g. g.evaluations };
 
+    ghost has_room = { λ g. g.room };
+
     fn new(alloc: Global, gates: &[bool]) -> Result<PlaneGrid, Memory> {
         Ok(PlaneGrid {
             rows: Vec::new(alloc),
             variables: gates.len() as u32,
+            room: gates.len() as u32,
             gates: GateFlags::of(gates),
             evaluations: Count::zero(),
         })
@@ -71,12 +93,26 @@ impl Grid for PlaneGrid {
 
     fn add_row(&mut self) -> Result<(), Memory> {
         let alloc = *self.rows.allocator();
-        let row = PlaneRow::new(alloc, self.variables as usize)?;
+        let row = PlaneRow::new(alloc, self.room as usize)?;
         self.rows.push(row)?;
         Ok(())
     }
 
     fn drop_row(&mut self) {
         let _ = self.rows.pop();
+    }
+
+    fn reserve_gate(&mut self) -> Result<(), Memory> {
+        let wanted = self.variables + 1;
+        if self.room < wanted {
+            make_room(&mut self.rows, wanted as usize)?;
+            self.room = wanted;
+        }
+        Ok(())
+    }
+
+    fn add_gate(&mut self) {
+        self.variables += 1;
+        self.gates = GateFlags::one_more(&self.gates);
     }
 }

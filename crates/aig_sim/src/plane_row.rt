@@ -1,9 +1,10 @@
 //! Rows of two bits a cell, sixty-four cells a word.
-ghost use Rattle.std.specs.Prelude.{◌≡◌, ◌≢◌, ℕ, ◌+◌, ◌*◌, ◌/◌, ◌<◌, ◌≤◌, ◌↔◌, IsTrue, IfOk, Some, length, slice_get, slice_set, slice_index_or};
+ghost use Rattle.std.specs.Prelude.{◌≡◌, ◌≢◌, ℕ, ◌+◌, ◌*◌, ◌/◌, ◌<◌, ◌≤◌, ◌↔◌, IsTrue, IfOk, OnOk, Some, length, slice_get, slice_set, slice_index_or};
 ghost use Rattle.aig_base.specs.declared.ternary.Tern.TheVariants.{X};
 ghost use Rattle.aig_base.specs.Literal.{variable};
 ghost use Rattle.aig_base.specs.Ternary.{kleene_and, kleene_not};
 ghost use Rattle.aig_sim.specs.Cells.{literal_value, gate_value, fresh_row};
+ghost use Rattle.aig_sim.specs.Padded.{IsLengthened};
 ghost use Rattle.aig_sim.specs.Planes.{bit, value_in, IsWhole};
 
 use aig_base::{Gate, Lit, Tern};
@@ -188,6 +189,19 @@ impl PlaneRow {
         words.resize(count, Word::unknown())?;
         words[0] = words[0].with_cell(0, Cell::of(Tern::Zero));
         Ok(PlaneRow { words })
+    }
+
+    /// Adds a word of x where there are not cells for so many variables, at most 64 more than there are.
+    pub fn make_room(&mut self, size: usize) -> Result<(), AllocError>
+        requires more { size ≤ length self.old + 64 }
+        requires limit { size ≤ 4194304 }
+        ensures cells { IsLengthened self.old self.new }
+        ensures ok { OnOk result (size ≤ length self.new) }
+    {
+        if self.words.len() < (size + (CELLS - 1)) / CELLS {
+            self.words.push(Word::unknown())?;
+        }
+        Ok(())
     }
 
     /// The cell of a variable.

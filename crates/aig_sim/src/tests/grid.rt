@@ -43,6 +43,20 @@ fn is_right<G: Grid>(alloc: Global) -> Result<bool, Fail> {
     Ok(one == (Tern::Zero, Tern::Zero, false) && unknown == (Tern::X, Tern::X, false))
 }
 
+// The value of a gate that comes behind all variables, at the second of two rows: before and after it is evaluated; then
+// at the first row.
+fn added<G: Grid>(alloc: Global) -> Result<(Tern, Tern, Tern), Fail> {
+    let mut grid = G::new(alloc, &[false, false])?;
+    grid.add_row()?;
+    grid.add_row()?;
+    grid.put_source(1, 1, Tern::One);
+    grid.reserve_gate()?;
+    grid.add_gate();
+    let before = grid.get(1, 2);
+    grid.evaluate(1, gate(4, 2, 2));
+    Ok((before, grid.get(1, 2), grid.get(0, 2)))
+}
+
 #[test]
 fn byte_grid(rt: HostRuntime) -> Result<(), Fail> {
     assert!(rt; is_right::<ByteGrid>(rt.alloc())?);
@@ -52,5 +66,23 @@ fn byte_grid(rt: HostRuntime) -> Result<(), Fail> {
 #[test]
 fn plane_grid(rt: HostRuntime) -> Result<(), Fail> {
     assert!(rt; is_right::<PlaneGrid>(rt.alloc())?);
+    Ok(())
+}
+
+#[test]
+fn byte_grid_with_one_more_gate(rt: HostRuntime) -> Result<(), Fail> {
+    assert_eq!(rt;
+        added::<ByteGrid>(rt.alloc())?,
+        (Tern::X, Tern::One, Tern::X)
+    );
+    Ok(())
+}
+
+#[test]
+fn plane_grid_with_one_more_gate(rt: HostRuntime) -> Result<(), Fail> {
+    assert_eq!(rt;
+        added::<PlaneGrid>(rt.alloc())?,
+        (Tern::X, Tern::One, Tern::X)
+    );
     Ok(())
 }
