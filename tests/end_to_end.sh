@@ -324,6 +324,10 @@ compare 'check: standard output is full' 3 $status
 file found 'c a model checker\n1\nb0b1\n00\n1\n1\n1\n1\n.\nc done\n1\nb1\n'
 sed -n '/^1$/,/^\.$/p' found | sed '/^c/d; s/^\(b[0-9]*\)[bj].*/\1/; /^\.$/q' > witness
 row 'check: a witness of a model checker, brought into form' 0 'confirmed\n' '' check "$examples/wraps.aag" witness
+"$aig" toaig --to aag "$examples/counter.aig" |
+    sed '1s/^\(aag [0-9]* [0-9]* [0-9]*\) \([0-9]*\) \([0-9]*\)$/\1 0 \3 \2/; s/^o\([0-9]* \)/b\1/' > circuit
+file witness '1\nb1\n0000\n10\n10\n00\n.\n'
+row 'check: outputs that are taken for bad states' 0 'confirmed\n' '' check circuit witness
 
 # ---- toaig
 # both NAME ASCII BINARY: the text is written back as it stands, and converted to these bytes.

@@ -51,15 +51,17 @@ with_bad() {
         NR <= last { put($0) }' "$1"
 }
 
-# witness CEX LATCHES NEW: ABC writes the latches at the start and a line a frame, and `# DONE` behind the last; where it
-# folded constraints it has put a latch behind the others.
+# witness CIRCUIT CEX NEW: ABC writes the latches at the start and a line a frame, and `# DONE` behind the last. Where it folded
+# constraints it has left latches out, so the start is taken from the resets, which ABC starts at.
 witness() {
-    awk -v latches="$2" '
-        BEGIN { print "1\nb0" }
-        { sub(/# DONE$/, "") }
-        NR == 1 { print substr($0, 1, latches); next }
-        { print }
-        END { print "." }' "$1" > "$3"
+    awk 'NR == FNR {
+            if (FNR == 1) { inputs = $3; latches = $4 }
+            else if (FNR > 1 + inputs && FNR <= 1 + inputs + latches) start = start ($3 == $1 ? "x" : $3 + 0)
+            next
+        }
+        FNR == 1 { print "1\nb0\n" start; next }
+        { sub(/# DONE$/, ""); print }
+        END { print "." }' "$1" "$2" > "$3"
 }
 
 # verdict_of CIRCUIT WITNESS: the verdict, or what went wrong.
@@ -79,16 +81,21 @@ reaches() {
         awk '{ if (substr($0, 2) ~ /[^1]/) broken = 1; last = substr($0, 1, 1) } END { exit broken || last != "1" }'
 }
 
-# checked NAME CIRCUIT WATCHED WITNESS: the witness is confirmed, and each with one value turned where it is to be.
+# checked NAME CIRCUIT WITNESS: the witness is confirmed.
 checked() {
-    local name=$1 circuit=$2 watched=$3 given=$4 verdict rows width
+    local verdict
     found=$((found + 1))
-    verdict=$(verdict_of "$circuit" "$given")
-    if [ "$verdict" != confirmed ]; then
-        fail "$name: $verdict"
-        return
+    verdict=$(verdict_of "$2" "$3")
+    if [ "$verdict" = confirmed ]; then
+        confirmed=$((confirmed + 1))
+    else
+        fail "$1: $verdict"
     fi
-    confirmed=$((confirmed + 1))
+}
+
+# with_turned NAME CIRCUIT WATCHED WITNESS: the witness with one value turned at a time is confirmed where it is to be.
+with_turned() {
+    local name=$1 circuit=$2 watched=$3 given=$4 verdict rows width
     rows=$(($(wc -l < "$given") - 4))
     width=$(sed -n 4p "$given" | tr -d '\n' | wc -c)
     for ((t = 0; t < rows; t++)); do
@@ -120,7 +127,7 @@ for design in 'counter -formal' 'shift_register -formal' 'fifo -formal' 'arbiter
         fail "yosys $design: no file"
         continue
     fi
-    read -r _ _ _ latches outputs _ < "$design.aag"
+    read -r _ _ _ _ outputs _ < "$design.aag"
     for ((k = 0; k < outputs; k++)); do
         with_bad "$design.aag" $k "$design.$k.aag" watched.aag
         "$aig" toaig --to aig "$design.$k.aag" > bad.aig 2> got.err || fail "$design, output $k: $(cat got.err)"
@@ -130,10 +137,11 @@ for design in 'counter -formal' 'shift_register -formal' 'fifo -formal' 'arbiter
             echo "$design, output $k: no run to a bad state was found"
             continue
         fi
-        witness cex "$latches" given
-        checked "$design, output $k" "$design.$k.aag" watched.aag given
-        checked "$design, output $k, binary" bad.aig watched.aag given
+        witness "$design.$k.aag" cex given
+        checked "$design, output $k" "$design.$k.aag" given
+        checked "$design, output $k, binary" bad.aig given
+        with_turned "$design, output $k" "$design.$k.aag" watched.aag given
     done
 done
 echo "$found witnesses, $confirmed confirmed; of $turned with one value turned $still still reach the bad state; $failed failed"
-[ "$failed" = 0 ] && [ "$found" -gt 0 ] && [ $((2 * still)) -lt "$turned" ]
+[ "$failed" = 0 ] && [ "$found" -gt 0 ] && [ "$still" -lt "$turned" ]
