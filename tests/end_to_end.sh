@@ -186,6 +186,10 @@ row 'bench: a directory as the script' 3 '' 'aig: script: input or output\n' ben
 words 'words: none'
 words 'words: help' --help
 words 'words: help of a subcommand' bench --help
+words 'words: help as a subcommand' help sim
+words 'words: the version' --version
+words 'words: the version, short' -V
+words 'words: the version of a subcommand' sim --version
 words 'words: an unknown subcommand' fold
 words 'words: a missing file name' bench two_gates
 words 'words: one file name too many' bench a b c d

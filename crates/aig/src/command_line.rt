@@ -58,7 +58,8 @@ Example: aig check examples/wraps.aag examples/wraps.wit
 Witnesses, and those of model checkers, are described in docs/FORMATS.md.";
 
 static AFTER_ALL: &str =
-    "Exit status: 0 done, 1 refused input or a verdict other than confirmed, 2 wrong words, 3 memory, input or output.
+    "Exit status: 0 done, 1 refused input or a verdict other than confirmed, 2 wrong words, or words that ask for help
+or the version, 3 memory, input or output.
 
 Example: aig sim examples/counter.aag examples/counter.stim
 What runs is described in docs/BEHAVIOUR.md, the formats in docs/FORMATS.md.";
@@ -171,6 +172,7 @@ fn check_command<'a>(alloc: Global) -> Result<Command<'a>, AllocError> {
 
 fn program<'a>(alloc: Global) -> Command<'a> {
     Command::new(alloc, "aig")
+        .version("0.1.0")
         .about(
             "Converts, simulates and unrolls and-inverter graphs, circuits in the AIGER formats, answers scripts and checks witnesses",
         )

@@ -3,6 +3,7 @@ mod change;
 mod check;
 mod fakes;
 mod order;
+mod rewires;
 
 use crate::{
     Buffered, Bytes, Failed, Fault, Io, Kind, LIMIT, List, Lit, MemReader, MemWriter, Memory, Raw,
