@@ -1,8 +1,8 @@
 #!/usr/bin/env python3
 """Runs the built program on the deepest and the widest circuits that the limits allow, through every subcommand, and on ones
 of an eighth of their size: results that are known, no signal (a recursion that grows with its input would end in one), and
-at most so many times as long and as much memory for eight times as much. It is no part of the gate: it takes minutes, 3 GB
-of memory and 1 GB of files.
+at most so many times as long and as much memory for eight times as much. It is no part of the gate: it takes minutes, 1 GB
+of memory and 500 MB of files.
 usage: tests/deep.py [PROGRAM]        (without a name: the program that the gate built)"""
 
 import filecmp
