@@ -120,6 +120,10 @@ compare 'bench: standard output is full' 3 $status
 file rows '11\n01\n'
 file script '+\nw 6 2\n+ 12\nq\n'
 row 'bench: more lines that are no command' 0 'bad\nbad\nbad\nbad\n' '' bench two_gates rows script
+file script '- \nr 4 2\nw 6 2 2 2\n+ 1 1\n+  11\nw 6 2 \n'
+row 'bench: edits that are no command' 0 'bad\nbad\nbad\nbad\nbad\nbad\n' '' bench two_gates rows script
+{ printf '+ '; printf '01x%.0s' $(seq 2000); printf '\n+ '; printf '1%.0s' $(seq 6000); printf 'z\n-\n-\n-\n'; } > script
+row 'bench: long rows' 0 'no 8\nbad\nok\nok\nno 9\n' '' bench two_gates rows script
 file script 'w 6 2 2\nr 2 1\n+ 11\n-\nu \nv 0 8\n'
 row 'bench: edits, and a line that is no command' 0 'ok\nno 2\nok\nok\nbad\n1\n' '' bench two_gates rows script
 file rows '11\n01\n'

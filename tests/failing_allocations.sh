@@ -1,7 +1,8 @@
 #!/usr/bin/env bash
 # Runs the built program on small files once for each of its allocations, and refuses that one. Each such run is to write a
 # beginning of what the whole run writes, say that memory is wanting, and end with status 3; or it does without, and ends
-# as the whole run does. A script that adds a frame and unrolls may also answer `no 11` to one of these, and go on.
+# as the whole run does. A script that adds a frame and unrolls may also answer `no 11` to one of these, and go on. Then a
+# script of edits with no memory at all behind its beginning: an edit takes none here.
 # usage: tests/failing_allocations.sh [PROGRAM]        (without a name: the program that the gate built)
 set -u
 cd "$(dirname "$0")/.."
@@ -100,5 +101,20 @@ printf 'ok\n1\nok\n0\nno 11\n1\n' > unrolling_refused
 each_of 'bench that adds a frame and unrolls' 'nothing_refused frame_refused unrolling_refused' \
     bench "$examples/two_gates.aag" rows script
 each 'check' check "$examples/wraps.aag" "$examples/wraps.wit"
+
+# A run without a script tells how many allocations come before its first line; all behind them are refused.
+printf '11\n' > row
+printf '' > nothing
+printf 'w 6 8 2\nv 0 6\nw 8 2 4\nw 6 8 2\nv 0 6\n' > edits
+printf 'no 5\n1\nok\nok\n1\n' > wanted
+REFUSE=0 COUNTED=$room/calls LD_PRELOAD=$room/refuse.so "$aig" bench "$examples/two_gates.aag" row nothing > whole.out
+AFTER=1 REFUSE=$(($(cat calls) + 1)) LD_PRELOAD=$room/refuse.so "$aig" bench "$examples/two_gates.aag" row edits > got.out 2> got.err
+status=$?
+if [ $status = 0 ] && cmp -s got.out wanted && [ ! -s got.err ]; then
+    passed=$((passed + 1))
+else
+    failed=$((failed + 1))
+    echo "FAILED: edits without memory: status $status, $(head -c 80 got.err)"
+fi
 echo "$passed passed, $failed failed"
 [ $failed = 0 ] && [ $passed -gt 0 ]

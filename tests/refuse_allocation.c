@@ -1,5 +1,6 @@
-/* Stands before the C library's malloc and realloc, and refuses the call whose number (from 1) is in REFUSE.
-   Where REFUSE is 0, it says on the file COUNTED how many calls there were. Zero bytes are never refused. */
+/* Stands before the C library's malloc and realloc, and refuses the call whose number (from 1) is in REFUSE, and where
+   AFTER is set all calls behind it too. Where REFUSE is 0, it refuses none. It says on the file COUNTED how many calls
+   there were. Zero bytes are never refused. */
 #define _GNU_SOURCE
 #include <dlfcn.h>
 #include <stddef.h>
@@ -11,13 +12,18 @@ static unsigned long calls;
 static int refused(size_t size)
 {
     static unsigned long refuse;
+    static int after;
     static int known;
     if (!known) {
         const char *text = getenv("REFUSE");
         refuse = text ? strtoul(text, NULL, 10) : 0;
+        after = getenv("AFTER") != NULL;
         known = 1;
     }
-    return size > 0 && ++calls == refuse;
+    if (size == 0)
+        return 0;
+    calls++;
+    return calls == refuse || (after && refuse > 0 && calls > refuse);
 }
 
 void *malloc(size_t size)

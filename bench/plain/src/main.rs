@@ -3,6 +3,7 @@
 mod circuit;
 mod reader;
 mod simulator;
+mod workbench;
 mod writer;
 
 use std::error::Error;
@@ -13,7 +14,8 @@ use std::process::ExitCode;
 use std::time::Instant;
 
 const USAGE: &str =
-    "usage: plain read FILE | toaag FILE | toaig FILE | sim CIRCUIT STIM | time FILE TIMES";
+    "usage: plain read FILE | toaag FILE | toaig FILE | sim CIRCUIT STIM | time FILE TIMES
+       plain events CIRCUIT STIM SCRIPT | sweeps CIRCUIT STIM SCRIPT | touched CIRCUIT STIM SCRIPT";
 
 /// The least time of some calls, in seconds.
 fn least_time<T>(times: u32, mut call: impl FnMut() -> T) -> f64 {
@@ -67,6 +69,18 @@ fn run(words: &[&str]) -> Result<(), Box<dyn Error>> {
             let circuit = reader::read(&fs::read(circuit)?)?;
             let mut stimulus = BufReader::with_capacity(1 << 16, File::open(stimulus)?);
             simulator::simulate(&circuit, &mut stimulus, &mut out)?;
+        }
+        [work @ ("events" | "sweeps" | "touched"), circuit, stimulus, script] => {
+            let circuit = reader::read(&fs::read(circuit)?)?;
+            let stimulus = fs::read(stimulus)?;
+            let mut script = BufReader::with_capacity(1 << 16, File::open(script)?);
+            if *work == "touched" {
+                let count =
+                    workbench::run(true, circuit, &stimulus, &mut script, &mut io::sink())?;
+                writeln!(out, "{count}")?;
+            } else {
+                workbench::run(*work == "events", circuit, &stimulus, &mut script, &mut out)?;
+            }
         }
         ["time", file, times] => {
             drop(out);

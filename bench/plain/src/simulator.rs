@@ -3,12 +3,12 @@
 use crate::circuit::{Circuit, Gate};
 use std::io::{self, BufRead, Write};
 
-const ZERO: u8 = 0;
+pub const ZERO: u8 = 0;
 const ONE: u8 = 1;
-const UNKNOWN: u8 = 2;
+pub const UNKNOWN: u8 = 2;
 
 /// The value of a literal.
-fn value(cells: &[u8], literal: u32) -> u8 {
+pub fn value(cells: &[u8], literal: u32) -> u8 {
     let cell = cells[(literal >> 1) as usize];
     if literal & 1 == 1 && cell != UNKNOWN {
         cell ^ 1
@@ -18,7 +18,7 @@ fn value(cells: &[u8], literal: u32) -> u8 {
 }
 
 /// 0 where a side is 0, 1 where both are, else unknown.
-fn and(a: u8, b: u8) -> u8 {
+pub fn and(a: u8, b: u8) -> u8 {
     if a == ZERO || b == ZERO {
         ZERO
     } else {
@@ -27,7 +27,7 @@ fn and(a: u8, b: u8) -> u8 {
 }
 
 /// The gates in an order in which each stands behind those that it reads; none where they are cyclic.
-fn ordered(circuit: &Circuit) -> Option<Vec<Gate>> {
+pub fn ordered(circuit: &Circuit) -> Option<Vec<Gate>> {
     const NO_GATE: u32 = u32::MAX;
     let mut gate_of = vec![NO_GATE; circuit.max_var as usize + 1];
     for (position, gate) in circuit.gates.iter().enumerate() {
@@ -68,7 +68,7 @@ fn ordered(circuit: &Circuit) -> Option<Vec<Gate>> {
     Some(order)
 }
 
-fn parse_row(line: &[u8], row: &mut [u8]) -> bool {
+pub fn parse_row(line: &[u8], row: &mut [u8]) -> bool {
     line.len() == row.len()
         && row.iter_mut().zip(line).all(|(cell, byte)| {
             *cell = match byte {
@@ -81,7 +81,7 @@ fn parse_row(line: &[u8], row: &mut [u8]) -> bool {
         })
 }
 
-fn character(value: u8) -> u8 {
+pub fn character(value: u8) -> u8 {
     b"01x"[value as usize]
 }
 

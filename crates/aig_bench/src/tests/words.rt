@@ -1,0 +1,62 @@
+//! Circuits that end at, before and behind the end of a word of 64 cells, with both grids.
+ghost use Rattle.std.specs.Prelude.{◌<◌, ◌≤◌};
+
+use super::{bench, parts};
+use aig_base::{Gate, Lit, Raw, Tern};
+use aig_sim::{ByteGrid, Grid, PlaneGrid};
+use std::alloc::Global;
+use std::test::Fail;
+
+// An input at the greatest variable, and below it a chain of gates down to variable 1, each the negation of the variable
+// above.
+fn chain(alloc: Global, max_var: u32) -> Result<Raw, Fail>
+    requires { max_var ≤ 1000 }
+{
+    let mut raw = parts(alloc, max_var, &[2 * max_var], &[])?;
+    for variable in 1..max_var {
+        let above = Lit::new(2 * variable + 3);
+        raw.gates.push(Gate {
+            lhs: Lit::new(2 * variable),
+            rhs0: above,
+            rhs1: above,
+        })?;
+    }
+    Ok(raw)
+}
+
+// Whether an edit of the input goes through all gates, and a new frame does.
+fn is_right<G: Grid>(alloc: Global, max_var: u32) -> Result<bool, Fail>
+    requires positive { 0 < max_var }
+    requires limit { max_var ≤ 1000 }
+{
+    let mut bench = bench::<G>(alloc, chain(alloc, max_var)?, 1, b"0\n")?;
+    let gates = u64::from(max_var - 1);
+    let end = if max_var % 2 == 1 {
+        Tern::One
+    } else {
+        Tern::Zero
+    };
+    let bit = bench.set_bit(0, 0, Tern::One)?;
+    let value = bench.value(0, Lit::new(2));
+    let more = bench.add_frame(&[Tern::X])?;
+    let unknown = bench.value(1, Lit::new(2));
+    Ok(
+        (bit.evaluated, bit.changed, more.evaluated, more.changed) == (gates, gates, gates, 0)
+            && (value, unknown) == (Ok(end), Ok(Tern::X)),
+    )
+}
+
+#[test]
+fn ends_of_words(rt: HostRuntime) -> Result<(), Fail> {
+    for max_var in [31, 32, 62, 63, 64, 127, 128, 129] {
+        assert!(rt;
+            is_right::<ByteGrid>(rt.alloc(), max_var)?,
+            "bytes, {max_var}"
+        );
+        assert!(rt;
+            is_right::<PlaneGrid>(rt.alloc(), max_var)?,
+            "planes, {max_var}"
+        );
+    }
+    Ok(())
+}
