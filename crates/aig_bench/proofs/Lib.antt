@@ -10,6 +10,8 @@ pub mod Entries
 pub mod Flags
 pub mod Height
 pub mod Later
+pub mod LatchChains
+pub mod LatchLists
 pub mod Layouts
 pub mod Linked
 pub mod Lowest

@@ -2,6 +2,7 @@ pub mod Buckets
 pub mod Current
 pub mod Edit
 pub mod Entry
+pub mod Latches
 pub mod LevelSet
 pub mod Pair
 pub mod Passing
