@@ -36,51 +36,57 @@ module _ (p : Pair) (t : ℕ) (sound : IsSound p.circuit) where
     enter = λ forced old put h. rw is (entering_more p t (Contains forced) old sound row marks marks' put v w h source wide value moved);
   }
 
-  pub carries_none : (row : List Tern) (marks : List Bool) → Carries p t 0 row marks row marks
-  carries_none row marks = record {
+  pub carries_none : (here : ℕ → Type 0) (row : List Tern) (marks : List Bool) → ((i : ℕ) → here i → ⊥)
+      → Carries p t here row marks row marks
+  carries_none here row marks none = record {
     carry = λ forced old put h. record {
       now_put = put;
       entering = h;
       kept = λ v i. i;
-      latches = λ i x lt at. absurd (omega arith);
+      latches = λ i x k at. absurd (none i k);
     };
   }
 
-  pub carries_more : (n : ℕ) (x : Latch) (row mid new : List Tern) (marks marks' marks'' : List Bool)
-      → slice_get p.circuit.latches n ≡ Some x → Carries p t n row marks mid marks'
-      → Puts p t (variable x.lit) mid marks' new marks'' → Carries p t (n + 1) row marks new marks''
-  carries_more n x row mid new marks marks' marks'' at h k = record {
+  -- one more latch
+  pub carries_more : (here now : ℕ → Type 0) (n : ℕ) (x : Latch) (row mid new : List Tern) (marks marks' marks'' : List Bool)
+      → slice_get p.circuit.latches n ≡ Some x → Carries p t here row marks mid marks'
+      → Puts p t (variable x.lit) mid marks' new marks'' → ((i : ℕ) → now i → (i ≡ n) ⊎ here i)
+      → Carries p t now row marks new marks''
+  carries_more here now n x row mid new marks marks' marks'' at h k only = record {
     carry = λ forced old put e.
         let c = h.carry forced old put e in
         record {
           now_put = variable x.lit ∷ c.now_put;
           entering = k.enter forced old c.now_put c.entering;
           kept = λ v i. behind_in (variable x.lit) c.now_put v (c.kept v i);
-          latches = λ i y lt is. elim (cases_eq i n) [
+          latches = λ i y j is. elim (only i j) [
             | inl e ↦
                 let same : y ≡ x = same_Some y x (sym is ∙ ap (slice_get p.circuit.latches) e ∙ at) in
                 subst (λ (z : Latch). Contains (variable x.lit ∷ c.now_put) (variable z.lit)) (sym same)
                 (head_in (variable x.lit) c.now_put)
-            | inr ne ↦ behind_in (variable x.lit) c.now_put (variable y.lit) (c.latches i y (omega arith) is)
+            | inr o ↦ behind_in (variable x.lit) c.now_put (variable y.lit) (c.latches i y o is)
           ];
         };
   }
 
-  -- all latches were put: a pass starts
-  pub started : (forced : List ℕ) (old row new : List Tern) (marks marks' : List Bool) (put : List ℕ) (n : ℕ)
-      → length p.circuit.latches ≤ n → Carries p t n row marks new marks' → Entering p t (Contains forced) old row marks put
+  -- the latches that were put and those that were right: a pass starts
+  pub started : (here : ℕ → Type 0) (forced : List ℕ) (old row new : List Tern) (marks marks' : List Bool) (put : List ℕ)
+      → ((i : ℕ) (x : Latch) → slice_get p.circuit.latches i ≡ Some x → here i ⊎ Holds p t old (variable x.lit))
+      → Carries p t here row marks new marks' → Entering p t (Contains forced) old row marks put
       → Rests p t old put → Starts p t (Contains forced) old new marks'
-  started forced old row new marks marks' put n all h e rest =
+  started here forced old row new marks marks' put all h e rest =
       let c = h.carry forced old put e in
       entered p t (Contains forced) old sound new marks' c.now_put c.entering (λ v s out. of v s c.now_put (c.kept v) c.latches out)
     where
       of : (v : ℕ) → IsSource p.circuit v → (xs : List ℕ) → (Contains put v → Contains xs v)
-          → ((i : ℕ) (x : Latch) → i < n → slice_get p.circuit.latches i ≡ Some x → Contains xs (variable x.lit))
+          → ((i : ℕ) (x : Latch) → here i → slice_get p.circuit.latches i ≡ Some x → Contains xs (variable x.lit))
           → (Contains xs v → ⊥) → Holds p t old v
       of v by.IsSource.constant xs kept latches out = constant_holds p t old rest.constant
       of v (by.IsSource.input i l at) xs kept latches out = rest.inputs i l at (λ k. out (kept k))
-      of v (by.IsSource.latch i x at) xs kept latches out =
-          absurd (out (latches i x (let lt = slice_get_within p.circuit.latches i x at in omega arith) at))
+      of v (by.IsSource.latch i x at) xs kept latches out = elim (all i x at) [
+        | inl k ↦ absurd (out (latches i x k at))
+        | inr o ↦ o
+      ]
 
 -- the rows before a frame stay where that frame alone changes
 pub before_kept : (p : Pair) (t : ℕ) (cells cells' : List (List Tern)) → IsCurrentBefore p t cells
@@ -133,16 +139,16 @@ module _ (plan : Plan) (net : Net) (flags : List Bool) (cells : List (List Tern)
   }
 
 -- fewer latches
-pub carries_fewer : (p : Pair) (t m n : ℕ) (row new : List Tern) (marks marks' : List Bool) → n ≤ m
-    → Carries p t m row marks new marks' → Carries p t n row marks new marks'
-carries_fewer p t m n row new marks marks' le h = record {
+pub carries_fewer : (p : Pair) (t : ℕ) (here now : ℕ → Type 0) (row new : List Tern) (marks marks' : List Bool)
+    → ((i : ℕ) → now i → here i) → Carries p t here row marks new marks' → Carries p t now row marks new marks'
+carries_fewer p t here now row new marks marks' only h = record {
   carry = λ forced old put e.
       let c = h.carry forced old put e in
       record {
         now_put = c.now_put;
         entering = c.entering;
         kept = c.kept;
-        latches = λ i x lt at. c.latches i x (omega arith) at;
+        latches = λ i x k at. c.latches i x (only i k) at;
       };
 }
 

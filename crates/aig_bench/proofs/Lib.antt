@@ -8,6 +8,7 @@ pub mod Earlier
 pub mod Edited
 pub mod Entries
 pub mod Flags
+pub mod Handed
 pub mod Height
 pub mod Later
 pub mod LatchChains
@@ -20,6 +21,7 @@ pub mod Others
 pub mod Passing
 pub mod PassingStep
 pub mod Puts
+pub mod Quiet
 pub mod Refusals
 pub mod Renewed
 pub mod Rewired

@@ -1,5 +1,5 @@
 -- Whether a literal names a gate or a latch, by what defines its variable.
-use Rattle.std.proofs.Common.{◌≡◌, ◌↔◌, ℕ, nat_eq, false, IsTrue, IfSome, IfNone, Option, Some, List, get_or, slice_get, refl, sym, ap, ◌∙◌, subst, option_map}
+use Rattle.std.proofs.Common.{◌≡◌, ◌≢◌, ◌↔◌, ℕ, nat_eq, false, IsTrue, IfSome, IfNone, Option, Some, List, get_or, slice_get, refl, sym, ap, ◌∙◌, subst, option_map}
 use Rattle.std.proofs.lemmas.Bool.{false≢true, eqb-true}
 use Rattle.std.proofs.lemmas.Bool.Decides.{Decides-eqb}
 use Rattle.std.proofs.lemmas.Option.{slice_get-map, same_Some, get_or_from_slice_get}
@@ -12,6 +12,7 @@ use Rattle.aig_base.specs.Definition.{Defines, IsFree}
 use Rattle.aig_base.specs.Literal.{variable}
 use Rattle.aig_base.specs.Sections.{IsLeftSide, IsLatchLiteral}
 use Rattle.aig_base.specs.Sound.{IsSound}
+use Rattle.aig_bench.specs.Latches.{IsLatchAt}
 use Rattle.aig_base.proofs.EntryPlaces.{gate_defines, latch_defines, left_side_defined, latch_literal_defined}
 use Rattle.aig_base.proofs.Positions.{Contains-from_slice_get}
 
@@ -75,10 +76,36 @@ module _ (raw : Raw) (sound : IsSound raw) (l v : ℕ) (d : Option Definition) (
       let w : n ≡ g.lhs = a ∙ ap (λ (y : Gate). y.lhs) here in
       rw (w, b) (gate_named q g is at)
 
-  pub latch_answer : (p n m : ℕ) (x : Latch) (latches : List Latch) → latches ≡ raw.latches
+  latch_answer : (p n m : ℕ) (x : Latch) (latches : List Latch) → latches ≡ raw.latches
       → d ≡ Some (definition.Latch p) → n ≡ (get_or latches p x).lit → m ≡ l → IsTrue (nat_eq n m) ↔ IsLatchLiteral raw l
   latch_answer p n m x latches same is a b =
       let (y, at, k) = subst (λ (o : Option Definition). IfSome o (Defines raw v)) is found in
       let here : get_or latches p x ≡ y = ap (λ (ys : List Latch). get_or ys p x) same ∙ get_or_from_slice_get raw.latches p y x at in
       let w : n ≡ y.lit = a ∙ ap (λ (z : Latch). z.lit) here in
       rw (w, b) (latch_named p y is at)
+
+  pub none_named : ((p : ℕ) → d ≡ Some (definition.Latch p) → ⊥) → IsLatchLiteral raw l → ⊥
+  none_named other h = false≢true ((latch_not_named other).1 h)
+
+  -- the latch at the position that defines the variable
+  pub latch_here : (p : ℕ) → d ≡ Some (definition.Latch p) → (x : Latch) × (slice_get raw.latches p ≡ Some x)
+  latch_here p is =
+      let (y, at, k) = subst (λ (o : Option Definition). IfSome o (Defines raw v)) is found in (y, at)
+
+  pub latch_answers : (p n m : ℕ) (x : Latch) (latches : List Latch) → latches ≡ raw.latches
+      → d ≡ Some (definition.Latch p) → x ≡ get_or latches p x → n ≡ x.lit → m ≡ l → n ≡ m → IsLatchAt raw l p
+  latch_answers p n m x latches same is at a b e =
+      let (y, there) = latch_here p is in
+      let here : x ≡ y = at ∙ ap (λ (ys : List Latch). get_or ys p x) same ∙ get_or_from_slice_get raw.latches p y x there in
+      (y, there, sym (ap (λ (z : Latch). z.lit) here) ∙ sym a ∙ e ∙ b)
+
+  pub latch_answers_none : (p n m : ℕ) (x : Latch) (latches : List Latch) → latches ≡ raw.latches
+      → d ≡ Some (definition.Latch p) → x ≡ get_or latches p x → n ≡ x.lit → m ≡ l → n ≢ m → IsLatchLiteral raw l → ⊥
+  latch_answers_none p n m x latches same is at a b ne h =
+      ne (eqb-true n m ((latch_answer p n m x latches same is (a ∙ ap (λ (z : Latch). z.lit) at) b).1 h))
+
+-- the latch at a position is one of the circuit's
+pub latch_at_named : (raw : Raw) (l p : ℕ) → IsLatchAt raw l p → IsLatchLiteral raw l
+latch_at_named raw l p (x, at, e) =
+    subst (IsLatchLiteral raw) e
+    (Contains-from_slice_get _ p x.lit (slice_get-map (λ x. x.lit) raw.latches p ∙ ap (option_map (λ (x : Latch). x.lit)) at))

@@ -12,6 +12,9 @@ use Rattle.aig_base.proofs.Circuits.{gate_definition, gate_in_range, gate_is, rh
 use Rattle.aig_base.proofs.Gates.{level_of_gate}
 use Rattle.aig_sim.specs.Cells.{gate_value}
 use Rattle.aig_sim.specs.InputRows.{row_at, with_cell}
+use Rattle.aig_bench.specs.declared.latches.LatchList.{LatchList}
+use Rattle.aig_bench.specs.Latches.{Follows, HandsOn, Lists}
+use Rattle.aig_bench.proofs.Handed.{hands_same, hands_written, set_again}
 use Rattle.aig_bench.specs.declared.buckets.Buckets.{Buckets}
 use Rattle.aig_bench.specs.declared.plan.Plan.{Plan}
 use Rattle.aig_bench.specs.declared.settle.Net.{Net}
@@ -71,6 +74,9 @@ module _ (plan : Plan) (net : Net) (flags : List Bool) (cells : List (List Tern)
 
   in_range : v ≤ plan.circuit.max_var
   in_range = gate_in_range plan.circuit work.plan_is.circuit.sound q g at
+
+  pub taken_in_range : w ≤ plan.circuit.max_var
+  taken_in_range = subst (λ (z : ℕ). z ≤ plan.circuit.max_var) e in_range
 
   positive : 0 < v
   positive = let d = gate_definition plan.circuit work.plan_is.circuit.sound q g at in omega arith
@@ -191,6 +197,13 @@ module _ (plan : Plan) (net : Net) (flags : List Bool) (cells : List (List Tern)
     row_is = ap (λ (c : List (List Tern)). row_at c t) is
         ∙ row_written cells t v (gate_value (row_at cells t) g) (omega (arith, lt, work.laid_out.rows_are.frames_are))
 
+    -- what a change of the cell hands on
+    pub hands_changed : (old new : LatchList) → Lists (λ i. Follows plan.circuit i w) old new
+        → HandsOn plan.circuit (row_at cells t) old (row_at cells' t) new
+    hands_changed old new lists =
+        hands_written plan.circuit (row_at cells t) (row_at cells' t) w (gate_value (row_at cells t) g) old new
+        (subst (λ (z : ℕ). row_at cells' t ≡ slice_set (row_at cells t) z (gate_value (row_at cells t) g)) e row_is) lists
+
     inside_row : v < length (row_at cells t)
     inside_row = omega (arith, in_range, wide)
 
@@ -234,6 +247,13 @@ module _ (plan : Plan) (net : Net) (flags : List Bool) (cells : List (List Tern)
             changed_more = omega arith;
           };
         }
+
+    pub hands_unchanged : (get_or (row_at cells' t) v X ≢ get_or (row_at cells t) v X → ⊥) → (list : LatchList)
+        → HandsOn plan.circuit (row_at cells t) list (row_at cells' t) list
+    hands_unchanged f list =
+        let same = cell_same (row_at cells t) (row_at cells' t) v (gate_value (row_at cells t) g) row_is inside_row f in
+        hands_same plan.circuit (row_at cells t) (row_at cells' t) list (λ u. ap (λ (r : List Tern). slice_get r u) row_is
+        ∙ set_again (row_at cells t) v (gate_value (row_at cells t) g) same u)
 
     pub sweeps_same : (get_or (row_at cells' t) v X ≢ get_or (row_at cells t) v X → ⊥)
         → Sweeps (pair_of plan) t l l (row_at cells t) b.marks.items (row_at cells' t) b'.marks.items 1 0

@@ -1,5 +1,5 @@
 -- The start of a pass over a frame: some sources have their values, and what reads those that differ waits (profile).
-use Rattle.std.specs.Prelude.{◌≡◌, ◌⊎◌, ◌↔◌, ℕ, ◌<◌, Bool, List, ◌∷◌, Some, slice_get, Contains}
+use Rattle.std.specs.Prelude.{◌≡◌, ◌⊎◌, ◌↔◌, ℕ, suc, ◌<◌, Bool, List, ◌∷◌, Some, slice_get, Contains}
 use Rattle.aig_base.specs.declared.ternary.Tern.{Tern}
 use Rattle.aig_base.specs.declared.ternary.Tern.TheVariants.{Zero}
 use Rattle.aig_base.specs.declared.latch.Latch.{Latch}
@@ -7,6 +7,8 @@ use Rattle.aig_base.specs.Grounded.{IsSource}
 use Rattle.aig_base.specs.Literal.{variable}
 use Rattle.aig_base.specs.Marks.{IsMarked}
 use Rattle.aig_base.specs.Readers.{Reads}
+use Rattle.aig_bench.specs.declared.latches.LatchList.{LatchList}
+use Rattle.aig_bench.specs.Latches.{IsListed}
 use Rattle.aig_bench.specs.Pair.{Pair}
 use Rattle.aig_bench.specs.Current.{Holds}
 use Rattle.aig_bench.specs.Passing.{Differs}
@@ -24,16 +26,16 @@ pub record Puts (p : Pair) (t v : ℕ) (row : List Tern) (marks : List Bool) (ro
   pub enter : (forced : List ℕ) (old : List Tern) (put : List ℕ) → Entering p t (Contains forced) old row marks put
       → Entering p t (Contains forced) old row' marks' (v ∷ put)
 
--- the first n latches were put after them
-pub record Carried (p : Pair) (t n : ℕ) (forced : List ℕ) (old row : List Tern) (marks : List Bool) (put : List ℕ) : Type 0 where
+-- the latches at these positions were put after them
+pub record Carried (p : Pair) (t : ℕ) (here : ℕ → Type 0) (forced : List ℕ) (old row : List Tern) (marks : List Bool) (put : List ℕ) : Type 0 where
   pub now_put : List ℕ
   pub entering : Entering p t (Contains forced) old row marks now_put
   pub kept : (v : ℕ) → Contains put v → Contains now_put v
-  pub latches : (i : ℕ) (x : Latch) → i < n → slice_get p.circuit.latches i ≡ Some x → Contains now_put (variable x.lit)
+  pub latches : (i : ℕ) (x : Latch) → here i → slice_get p.circuit.latches i ≡ Some x → Contains now_put (variable x.lit)
 
-pub record Carries (p : Pair) (t n : ℕ) (row : List Tern) (marks : List Bool) (row' : List Tern) (marks' : List Bool) : Type 0 where
+pub record Carries (p : Pair) (t : ℕ) (here : ℕ → Type 0) (row : List Tern) (marks : List Bool) (row' : List Tern) (marks' : List Bool) : Type 0 where
   pub carry : (forced : List ℕ) (old : List Tern) (put : List ℕ) → Entering p t (Contains forced) old row marks put
-      → Carried p t n forced old row' marks' put
+      → Carried p t here forced old row' marks' put
 
 -- the first n inputs were put after them
 pub record Filled (p : Pair) (t n : ℕ) (forced : List ℕ) (old row : List Tern) (marks : List Bool) : Type 0 where
@@ -49,3 +51,8 @@ pub record Fills (p : Pair) (t n : ℕ) (row : List Tern) (marks : List Bool) (r
 pub record Rests (p : Pair) (t : ℕ) (old : List Tern) (put : List ℕ) : Type 0 where
   pub constant : slice_get old 0 ≡ Some Zero
   pub inputs : (i l : ℕ) → slice_get p.circuit.inputs i ≡ Some l → (Contains put (variable l) → ⊥) → Holds p t old (variable l)
+
+-- the latches that are not in the list have their values in the old cells
+abbrev pub LatchesRest : Pair → ℕ → List Tern → LatchList → Type 0
+LatchesRest p t old list = (i : ℕ) (x : Latch) → slice_get p.circuit.latches i ≡ Some x → (IsListed list (suc i) → ⊥)
+    → Holds p t old (variable x.lit)

@@ -44,3 +44,7 @@ Lists P old new = (i : ℕ) → IsListed new i ↔ (IsListed old i ⊎ P i)
 pub record HandsOn (raw : Raw) (row : List Tern) (list : LatchList) (row' : List Tern) (list' : LatchList) : Type 0 where
   pub kept : (i : ℕ) → IsListed list i → IsListed list' i
   pub changed : (i v : ℕ) → Follows raw i v → slice_get row' v ≢ slice_get row v → IsListed list' i
+
+-- the literal is the one of the latch at this position
+abbrev pub IsLatchAt : Raw → ℕ → ℕ → Type 0
+IsLatchAt raw l p = (x : Latch) × (slice_get raw.latches p ≡ Some x) × (x.lit ≡ l)

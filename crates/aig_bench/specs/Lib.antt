@@ -6,6 +6,7 @@ pub mod Latches
 pub mod LevelSet
 pub mod Pair
 pub mod Passing
+pub mod Pending
 pub mod Plan
 pub mod Question
 pub mod Renewed

@@ -1,10 +1,11 @@
 //! Which faults of an edit apply, before anything changes.
-ghost use Rattle.std.specs.Prelude.{◌≡◌, ◌↔◌, IfErr, OnOk, IsTrue};
+ghost use Rattle.std.specs.Prelude.{◌≡◌, ◌↔◌, IfErr, IfOk, IfNone, IfSome, OnOk, IsTrue};
 ghost use Rattle.aig_base.specs.declared.ternary.Tern.{Tern};
 ghost use Rattle.aig_base.specs.Literal.{variable};
 ghost use Rattle.aig_base.specs.Sections.{IsDefined, IsLatchLiteral, IsLeftSide};
 ghost use Rattle.aig_base.specs.Sound.{IsInRange, IsSound};
 ghost use Rattle.aig_bench.specs.Edit.{Forbids, IsLeastFault, rewire, set_reset};
+ghost use Rattle.aig_bench.specs.Latches.{IsLatchAt};
 ghost use Rattle.aig_bench.specs.Plan.{IsPlan, pair_of};
 
 use crate::edit::EditFault;
@@ -36,18 +37,20 @@ fn is_left_side(circuit: &Circuit, literal: Lit) -> bool
     }
 }
 
-/// Whether a literal is the one of a latch.
-fn is_latch(circuit: &Circuit, literal: Lit) -> bool
+/// The position of the latch of a literal.
+fn latch_position(circuit: &Circuit, literal: Lit) -> Option<u32>
     requires { IsSound circuit.now }
-    ensures { IsTrue result ↔ IsLatchLiteral circuit.now literal }
+    ensures latch { IfSome result (λ i. IsLatchAt circuit.now literal i) }
+    ensures none { IfNone result (IsLatchLiteral circuit.now literal → ⊥) }
 {
     match circuit.definition(literal.var()) {
         Some(Definition::Latch(position)) => {
-            circuit.latches()[position as usize].lit.value() == literal.value()
+            let latch = circuit.latches()[position as usize];
+            if latch.lit.value() == literal.value() { Some(position) } else { None }
         }
-        Some(Definition::Input(_)) => false,
-        Some(Definition::Gate(_)) => false,
-        None => false,
+        Some(Definition::Input(_)) => None,
+        Some(Definition::Gate(_)) => None,
+        None => None,
     }
 }
 
@@ -79,14 +82,11 @@ pub fn check_rewire(plan: &Plan, lhs: Lit, r0: Lit, r1: Lit) -> Result<(), EditF
     Ok(())
 }
 
-/// The fault of a reset: no latch.
-pub fn check_reset(plan: &Plan, latch: Lit) -> Result<(), EditFault>
+/// The latch of a reset, or the fault: no latch.
+pub fn check_reset(plan: &Plan, latch: Lit) -> Result<u32, EditFault>
     requires { IsPlan plan.now }
-    ensures latch { OnOk result (IsLatchLiteral plan.now.circuit latch) }
+    ensures latch { IfOk result (λ i. IsLatchAt plan.now.circuit latch i) }
     ensures fault { (value : Tern) → IfErr result (IsLeastFault (Forbids (pair_of plan.now) (set_reset latch value))) }
 {
-    if !is_latch(&plan.circuit, latch) {
-        return Err(EditFault::NotALatch);
-    }
-    Ok(())
+    latch_position(&plan.circuit, latch).ok_or(EditFault::NotALatch)
 }

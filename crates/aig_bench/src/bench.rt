@@ -9,25 +9,26 @@ ghost use Rattle.aig_base.specs.Literal.{variable};
 ghost use Rattle.aig_base.specs.Readers.{AreReaders, list_of};
 ghost use Rattle.aig_base.specs.Renumbered.{IsBinaryReady};
 ghost use Rattle.aig_base.specs.Sections.{IsDefined, IsLeftSide};
-ghost use Rattle.aig_bench.specs.Buckets.{Waits};
 ghost use Rattle.aig_bench.specs.Edit.{Edits, rewire, set_reset, set_bit, add_frame, drop_frame};
 ghost use Rattle.aig_bench.specs.Pair.{Pair, HasTrace};
+ghost use Rattle.aig_bench.specs.Latches.{AreLatchReaders};
+ghost use Rattle.aig_bench.specs.Pending.{HasLists, IsIdle, IsReady};
 ghost use Rattle.aig_bench.specs.Plan.{IsPlan, pair_of};
 ghost use Rattle.aig_bench.specs.Question.{AnswersValue};
-ghost use Rattle.aig_bench.specs.Sweep.{IsWork, IsWorking};
+ghost use Rattle.aig_bench.specs.Sweep.{IsWork};
 ghost use Rattle.aig_bench.specs.Touched.{Works};
 ghost use Rattle.aig_sim.specs.StimulusText.{HaveWidth};
 ghost use Rattle.aig_unroll.specs.Answers.{AnswersUnrolling};
 
 use crate::allowed::{CELLS, check_reset, check_rewire, is_defined};
 use crate::bench_fault::BenchFault;
-use crate::buckets::Buckets;
 use crate::edit::{EditFault, EditReport};
 use crate::fill::fill;
+use crate::latches::LatchReaders;
 use crate::layout::lay_out;
 use crate::plan::Plan;
 use crate::propagate::{renew_from, renew_input};
-use crate::settle::{Net, make_buckets};
+use crate::settle::{Net, Pending, make_pending};
 use crate::trace::write_frames;
 use crate::value::literal_at;
 use aig_base::{Circuit, Io, Levels, Lit, Memory, Readers, Tern, Write};
@@ -42,7 +43,7 @@ use std::marker::Model;
 pub struct Bench<G: Grid> {
     plan: Plan,
     net: Net,
-    buckets: Buckets,
+    pending: Pending,
     grid: G,
 }
 
@@ -52,11 +53,11 @@ impl<G: Grid> Model for Bench<G> {
     ghost Value = { BenchState };
 
     ghost use Rattle.aig_bench.specs.Plan.{pair_of};
-    ghost use Rattle.aig_bench.specs.Sweep.{IsWorking};
+    ghost use Rattle.aig_bench.specs.Pending.{IsReady};
 
     ghost view = { λ b. record { pair = pair_of b.plan; evaluations = G.evaluations b.grid } };
 
-    ghost invariant = { λ b. IsWorking b.plan b.net b.buckets (G.gate_flags b.grid) (G.cells b.grid) };
+    ghost invariant = { λ b. IsReady b.plan b.net b.pending (G.gate_flags b.grid) (G.cells b.grid) };
 }
 
 /// The report of an edit that evaluates nothing.
@@ -106,20 +107,27 @@ fn make_plan(circuit: Circuit, stimulus: Stimulus) -> Plan
 fn make_net(alloc: Global, circuit: &Circuit) -> Result<Net, Memory>
     ensures levels { IfOk result (λ net. AreLevels circuit.now net.levels) }
     ensures readers { IfOk result (λ net. AreReaders circuit.now net.readers) }
+    ensures latches { IfOk result (λ net. AreLatchReaders circuit.now net.latches) }
 {
     let levels = Levels::of(alloc, circuit)?;
     let readers = Readers::of(alloc, circuit)?;
-    Ok(Net { levels, readers })
+    let latches = LatchReaders::of(alloc, circuit)?;
+    Ok(Net {
+        levels,
+        readers,
+        latches,
+    })
 }
 
 /// Writes the values of all frames of a new grid.
-fn fill_all<G: Grid>(grid: &mut G, plan: &Plan, net: &Net, buckets: &mut Buckets)
-    requires work { IsWork plan.now net.now (G.gate_flags grid.old) (G.cells grid.old) buckets.old }
-    requires empty { (v : ℕ) → Waits buckets.old v → ⊥ }
-    ensures { IsWorking plan.now net.now buckets.new (G.gate_flags grid.new) (G.cells grid.new) }
+fn fill_all<G: Grid>(grid: &mut G, plan: &Plan, net: &Net, pending: &mut Pending)
+    requires work { IsWork plan.now net.now (G.gate_flags grid.old) (G.cells grid.old) pending.old.buckets }
+    requires lists { HasLists plan.now net.now pending.old }
+    requires idle { IsIdle pending.old }
+    ensures { IsReady plan.now net.now pending.new (G.gate_flags grid.new) (G.cells grid.new) }
 {
     for frame in 0..plan.stimulus.frames() {
-        fill(grid, plan, net, buckets, frame);
+        fill(grid, plan, net, pending, frame);
     }
 }
 
@@ -131,13 +139,13 @@ fn make<G: Grid>(alloc: Global, circuit: Circuit, stimulus: Stimulus) -> Result<
 {
     let plan = make_plan(circuit, stimulus);
     let net = make_net(alloc, &plan.circuit)?;
-    let mut buckets = make_buckets(alloc, &plan, &net)?;
+    let mut pending = make_pending(alloc, &plan, &net)?;
     let mut grid = lay_out(alloc, &plan)?;
-    fill_all(&mut grid, &plan, &net, &mut buckets);
+    fill_all(&mut grid, &plan, &net, &mut pending);
     Ok(Bench {
         plan,
         net,
-        buckets,
+        pending,
         grid,
     })
 }
@@ -147,12 +155,14 @@ fn replace_gate(plan: &mut Plan, net: &mut Net, lhs: Lit, r0: Lit, r1: Lit) -> R
     requires plan { IsPlan plan.old }
     requires levels { AreLevels plan.old.circuit net.old.levels }
     requires readers { AreReaders plan.old.circuit net.old.readers }
+    requires latches { AreLatchReaders plan.old.circuit net.old.latches }
     requires gate { IsLeftSide plan.old.circuit lhs }
     requires defined0 { IsDefined plan.old.circuit (variable r0) }
     requires defined1 { IsDefined plan.old.circuit (variable r1) }
     ensures stimulus { plan.new.stimulus ≡ plan.old.stimulus }
     ensures levels { AreLevels plan.new.circuit net.new.levels }
     ensures readers { AreReaders plan.new.circuit net.new.readers }
+    ensures latches { AreLatchReaders plan.new.circuit net.new.latches }
     ensures acyclic { OnOk result (IsAcyclic (with_gate plan.old.circuit lhs r0 r1)) }
     ensures circuit { OnOk result (plan.new.circuit ≡ with_gate plan.old.circuit lhs r0 r1) }
     ensures same { OnErr result (plan.new.circuit ≡ plan.old.circuit) }
@@ -241,7 +251,7 @@ impl<G: Grid> Bench<G> {
             &mut self.grid,
             &self.plan,
             &self.net,
-            &mut self.buckets,
+            &mut self.pending,
             frame,
             position,
         ))
@@ -259,7 +269,7 @@ impl<G: Grid> Bench<G> {
             &mut self.grid,
             &self.plan,
             &self.net,
-            &mut self.buckets,
+            &mut self.pending,
             0,
             &[lhs.var()],
         ))
@@ -271,13 +281,14 @@ impl<G: Grid> Bench<G> {
         ensures edits { Edits self.old.pair (set_reset latch value) result self.new.pair }
         ensures works { Works self.old (set_reset latch value) result self.new }
     {
-        check_reset(&self.plan, latch)?;
+        let position = check_reset(&self.plan, latch)?;
         self.plan.circuit.replace_reset(latch, value);
+        self.pending.here.add(position + 1);
         Ok(renew_from(
             &mut self.grid,
             &self.plan,
             &self.net,
-            &mut self.buckets,
+            &mut self.pending,
             0,
             &[],
         ))
@@ -303,7 +314,7 @@ impl<G: Grid> Bench<G> {
                     &mut self.grid,
                     &self.plan,
                     &self.net,
-                    &mut self.buckets,
+                    &mut self.pending,
                     frames,
                 );
                 Ok(EditReport {

@@ -113,7 +113,7 @@ impl LatchReaders {
     }
 
     /// Adds the latches that read a variable to a list.
-    pub fn list(&self, variable: u32, list: &mut LatchList)
+    pub fn list_all(&self, variable: u32, list: &mut LatchList)
         requires { (raw : Raw) × AreLatchReaders raw self.now × (variable ≤ raw.max_var)
             × IsLatchList (length raw.latches) list.old }
         ensures list { (n : ℕ) → IsLatchList n list.old → IsLatchList n list.new }

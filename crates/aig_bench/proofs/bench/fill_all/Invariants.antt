@@ -7,7 +7,7 @@ use Rattle.aig_bench.proofs.bench.fill_all.Given as goal
 
 abbrev pub invariant-loop-frame : goal.invariant-loop-frame
 invariant-loop-frame g l = record {
-  work : IsWork l.plan l.net (g.G.Grid.gate_flags l.grid) (g.G.Grid.cells l.grid) l.buckets;
-  empty : (v : ℕ) → Waits l.buckets v → ⊥;
+  work : IsWork l.plan l.net (g.G.Grid.gate_flags l.grid) (g.G.Grid.cells l.grid) l.pending.buckets;
+  empty : (v : ℕ) → Waits l.pending.buckets v → ⊥;
   current : AreCurrent (pair_of l.plan) l.frame (g.G.Grid.cells l.grid);
 }

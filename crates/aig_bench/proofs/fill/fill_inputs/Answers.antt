@@ -11,6 +11,8 @@ pub loop-position-init : goal.loop-position-init
 loop-position-init g c = record {
   work = c.requires.work;
   others = λ u ne. refl;
+  lists = c.requires.lists;
+  here = refl;
   flags = refl;
   count = refl;
   fills = fills_none (pair_of c.args.plan.now) c.args.frame _ _;
@@ -46,6 +48,8 @@ loop-position-preserved g c =
     record {
       work = c.put.ensures.work;
       others = λ u ne. c.put.ensures.others u ne ∙ i.others u ne;
+      lists = c.put.ensures.lists;
+      here = c.put.ensures.here ∙ i.here;
       flags = c.put.ensures.flags ∙ i.flags;
       count = c.put.ensures.count ∙ i.count;
       fills = fills_more (pair_of plan) c.args.frame c.loop-position.position l _ _ _ _ _ _ at i.fills

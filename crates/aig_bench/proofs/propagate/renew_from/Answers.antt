@@ -43,7 +43,7 @@ loop-frame-preserved g c =
     let here = subst (λ (row : List Tern). IsConsistent p (Contains c.args.forced.now) row × Rests p t row []) (sym same)
     (c.requires.consistent t (omega arith) (omega (arith, c.frames-frame-end.ensures.frames))) in
     let ends = m.ends c.args.forced.now _ [] here.0
-    (entering_forced p t c.args.forced.now _ i.work.plan_is.circuit.sound c.loop-frame.buckets c.link_all.new.self i.empty
+    (entering_forced p t c.args.forced.now _ i.work.plan_is.circuit.sound c.loop-frame.pending.buckets c.link_all.new.self i.empty
     c.link_all.ensures.links) here.1 in
     let e = c.total-report.ensures.evaluated in
     let d = c.total-report.ensures.changed in

@@ -7,8 +7,8 @@ use Rattle.aig_bench.proofs.propagate.renew_from.Given as goal
 
 abbrev pub invariant-loop-frame : goal.invariant-loop-frame
 invariant-loop-frame g l = record {
-  work : IsWork l.plan l.net (g.G.Grid.gate_flags l.grid) (g.G.Grid.cells l.grid) l.buckets;
-  empty : (v : ℕ) → Waits l.buckets v → ⊥;
+  work : IsWork l.plan l.net (g.G.Grid.gate_flags l.grid) (g.G.Grid.cells l.grid) l.pending.buckets;
+  empty : (v : ℕ) → Waits l.pending.buckets v → ⊥;
   count : g.G.Grid.evaluations l.grid ≡ g.G.Grid.evaluations l.initial.grid + l.report.evaluated;
   bound : l.report.evaluated ≤ l.frame * 17592186044416;
   changed : l.report.changed ≤ l.report.evaluated;

@@ -27,7 +27,7 @@ renew_from-rest-requires-clause-empty g c =
     item_at _ _ c.args.position l c.inputs.ensures (rw c.inputs.ensures c.requires.position) c.index-inputs-position.is in
     let value = input_value p c.args.frame c.args.position l c.get-value.result sound c.requires.frame at c.get-value.ensures in
     let ends = c.pass-first.ensures.ends [] _ (variable l ∷ []) (c.requires.consistent c.args.frame (omega arith) c.requires.frame)
-    (entering_put p c.args.frame (variable l) sound c.args.buckets.now _ _ _ c.requires.empty
+    (entering_put p c.args.frame (variable l) sound c.args.pending.now.buckets _ _ _ c.requires.empty
     ((rw c.var.ensures at c.put.ensures.puts) value)) (c.requires.here l at) in
     ends.empty
 
@@ -40,7 +40,7 @@ renew_from-rest-requires-clause-before g c u is =
     item_at _ _ c.args.position l c.inputs.ensures (rw c.inputs.ensures c.requires.position) c.index-inputs-position.is in
     let value = input_value p c.args.frame c.args.position l c.get-value.result sound c.requires.frame at c.get-value.ensures in
     let ends = c.pass-first.ensures.ends [] _ (variable l ∷ []) (c.requires.consistent c.args.frame (omega arith) c.requires.frame)
-    (entering_put p c.args.frame (variable l) sound c.args.buckets.now _ _ _ c.requires.empty
+    (entering_put p c.args.frame (variable l) sound c.args.pending.now.buckets _ _ _ c.requires.empty
     ((rw c.var.ensures at c.put.ensures.puts) value)) (c.requires.here l at) in
     let e : u ≡ c.args.frame = omega arith in
     subst (λ (n : ℕ). IsCurrentRow p n (row_at (g.G.Grid.cells c.pass-first.new.grid) n)) (sym e) ends.current
@@ -54,7 +54,7 @@ returns-clause-renewed g c =
     item_at _ _ c.args.position l c.inputs.ensures (rw c.inputs.ensures c.requires.position) c.index-inputs-position.is in
     let value = input_value p c.args.frame c.args.position l c.get-value.result sound c.requires.frame at c.get-value.ensures in
     let ends = c.pass-first.ensures.ends [] _ (variable l ∷ []) (c.requires.consistent c.args.frame (omega arith) c.requires.frame)
-    (entering_put p c.args.frame (variable l) sound c.args.buckets.now _ _ _ c.requires.empty
+    (entering_put p c.args.frame (variable l) sound c.args.pending.now.buckets _ _ _ c.requires.empty
     ((rw c.var.ensures at c.put.ensures.puts) value)) (c.requires.here l at) in
     let others : (u : ℕ) → u ≢ c.args.frame → row_at (g.G.Grid.cells c.pass-first.new.grid) u ≡ row_at (g.G.Grid.cells c.args.grid.now) u =
     λ u ne. c.pass-first.ensures.others u ne ∙ c.put.ensures.others u ne in

@@ -58,6 +58,6 @@ returns-else-ne-clause-others g c =
 pub returns-else-ne-clause-puts : goal.returns-else-ne-clause-puts
 returns-else-ne-clause-puts g c value =
     put_moves c.args.plan.now c.args.net.now _ _ _ c.args.frame c.args.variable c.requires.work c.requires.frame
-    c.requires.positive c.requires.source _ c.args.value c.args.buckets.now c.put_source.ensures.cells value
-    (waits_kept c.args.buckets.now (Reads c.args.plan.now.circuit) c.args.variable _ c.get-before.result c.args.value
+    c.requires.positive c.requires.source _ c.args.value c.args.pending.now.buckets c.put_source.ensures.cells value
+    (waits_kept c.args.pending.now.buckets (Reads c.args.plan.now.circuit) c.args.variable _ c.get-before.result c.args.value
     c.get-before.ensures (search rules))

@@ -1,23 +1,29 @@
 use Rattle.std.proofs.Common.{◌≡◌, ◌≢◌, ℕ, ◌+◌, ◌-◌, ◌*◌, ◌≤◌, length}
 use Rattle.aig_sim.specs.InputRows.{row_at}
+use Rattle.aig_bench.specs.Latches.{HandsOn}
+use Rattle.aig_bench.specs.Pending.{HasLists}
 use Rattle.aig_bench.specs.Plan.{pair_of}
 use Rattle.aig_bench.specs.Sweep.{IsWork, Sweeps}
 use Rattle.aig_bench.proofs.settle.settle.Given as goal
 
 abbrev pub invariant-loop-level : goal.invariant-loop-level
 invariant-loop-level g l = record {
-  work : IsWork l.plan l.net (g.G.Grid.gate_flags l.grid) (g.G.Grid.cells l.grid) l.buckets;
+  work : IsWork l.plan l.net (g.G.Grid.gate_flags l.grid) (g.G.Grid.cells l.grid) l.pending.buckets;
   others : (u : ℕ) → u ≢ l.frame → row_at (g.G.Grid.cells l.grid) u ≡ row_at (g.G.Grid.cells l.initial.grid) u;
+  lists : HasLists l.plan l.net l.pending;
   flags : g.G.Grid.gate_flags l.grid ≡ g.G.Grid.gate_flags l.initial.grid;
-  heads : length l.buckets.head.items ≡ length l.initial.buckets.head.items;
-  from : l.from ≤ length l.buckets.head.items;
+  heads : length l.pending.buckets.head.items ≡ length l.initial.pending.buckets.head.items;
+  from : l.from ≤ length l.pending.buckets.head.items;
   count : g.G.Grid.evaluations l.grid ≡ g.G.Grid.evaluations l.initial.grid + l.report.evaluated;
   bound : l.report.evaluated ≤ l.from * 4194304;
   changed : l.report.changed ≤ l.report.evaluated;
   sweeps : Sweeps (pair_of l.plan) l.frame 0 l.from
-      (row_at (g.G.Grid.cells l.initial.grid) l.frame) l.initial.buckets.marks.items
-      (row_at (g.G.Grid.cells l.grid) l.frame) l.buckets.marks.items l.report.evaluated l.report.changed;
+      (row_at (g.G.Grid.cells l.initial.grid) l.frame) l.initial.pending.buckets.marks.items
+      (row_at (g.G.Grid.cells l.grid) l.frame) l.pending.buckets.marks.items l.report.evaluated l.report.changed;
+  here : l.pending.here ≡ l.initial.pending.here;
+  hands : HandsOn l.plan.circuit (row_at (g.G.Grid.cells l.initial.grid) l.frame) l.initial.pending.ahead
+      (row_at (g.G.Grid.cells l.grid) l.frame) l.pending.ahead;
 }
 
 abbrev pub decreases-loop-level : goal.decreases-loop-level
-decreases-loop-level g l = length l.buckets.head.items - l.from
+decreases-loop-level g l = length l.pending.buckets.head.items - l.from

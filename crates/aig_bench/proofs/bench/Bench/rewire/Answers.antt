@@ -14,7 +14,7 @@ use Rattle.aig_bench.proofs.bench.Bench.rewire.Goals as goal
 pub invariant_of-self : goal.invariant_of-self
 invariant_of-self g c =
     let h = c.in_err-replace_gate.ensures in
-    work_kept c.self.inside.plan _ c.self.inside.net _ _ _ _ c.self.invariant h.same h.stimulus h.levels h.readers
+    work_kept c.self.inside.plan _ c.self.inside.net _ _ _ _ c.self.invariant.working h.same h.stimulus h.levels h.readers
 
 pub returns-in_err-replace_gate-clause-edits : goal.returns-in_err-replace_gate-clause-edits
 returns-in_err-replace_gate-clause-edits g c =
@@ -31,14 +31,14 @@ returns-in_err-replace_gate-clause-edits g c =
 pub renew_from-requires-clause-work : goal.renew_from-requires-clause-work
 renew_from-requires-clause-work g c =
     let plan = c.self.inside.plan in
-    let w = c.self.invariant.work in
+    let w = c.self.invariant.working.work in
     let h = c.in_ok-replace_gate.ensures in
     let d = c.in_ok-check_rewire.ensures.defined in
     let e = h.circuit in
     let f = h.stimulus in
     let renewed_plan = plan_rewired plan c.replace_gate.new.plan c.args.lhs c.args.r0 c.args.r1 w.plan_is e f d.0 d.1 h.acyclic in
-    work_for plan c.replace_gate.new.plan c.self.inside.net c.replace_gate.new.net _ _ _ _ c.self.inside.buckets w
-    c.self.invariant.empty (ap (λ (x : Raw). x.max_var) e) renewed_plan
+    work_for plan c.replace_gate.new.plan c.self.inside.net c.replace_gate.new.net _ _ _ _ c.self.inside.pending.buckets w
+    c.self.invariant.working.empty (ap (λ (x : Raw). x.max_var) e) renewed_plan
     (laid_out_rewired plan c.replace_gate.new.plan c.args.lhs c.args.r0 c.args.r1 _ _ w.laid_out
     (pair_rewired plan c.replace_gate.new.plan (with_gate plan.circuit c.args.lhs c.args.r0 c.args.r1) e f))
     h.levels h.readers
@@ -51,7 +51,7 @@ renew_from-requires-clause-gates g c v k =
 pub renew_from-requires-clause-consistent : goal.renew_from-requires-clause-consistent
 renew_from-requires-clause-consistent g c =
     let plan = c.self.inside.plan in
-    let w = c.self.invariant.work in
+    let w = c.self.invariant.working.work in
     let h = c.in_ok-replace_gate.ensures in
     let d = c.in_ok-check_rewire.ensures.defined in
     let e = h.circuit in
@@ -59,8 +59,8 @@ renew_from-requires-clause-consistent g c =
     let renewed_plan = plan_rewired plan c.replace_gate.new.plan c.args.lhs c.args.r0 c.args.r1 w.plan_is e f d.0 d.1 h.acyclic in
     let follows = follows_rewire plan c.replace_gate.new.plan c.args.lhs c.args.r0 c.args.r1 c.var.result c.var.ensures e f in
     let rows = ap (λ (s : InputRows). s.rows) f in
-    all_consistent plan c.replace_gate.new.plan c.self.inside.net c.self.inside.buckets _ _ (c.var.result ∷ [])
-    c.self.invariant follows renewed_plan.circuit.sound rows
+    all_consistent plan c.replace_gate.new.plan c.self.inside.net c.self.inside.pending.buckets _ _ (c.var.result ∷ [])
+    c.self.invariant.working follows renewed_plan.circuit.sound rows
 
 pub returns-clause-edits : goal.returns-clause-edits
 returns-clause-edits g c =
@@ -75,7 +75,7 @@ returns-clause-edits g c =
 pub returns-clause-works : goal.returns-clause-works
 returns-clause-works g c =
     let plan = c.self.inside.plan in
-    let w = c.self.invariant.work in
+    let w = c.self.invariant.working.work in
     let h = c.in_ok-replace_gate.ensures in
     let d = c.in_ok-check_rewire.ensures.defined in
     let e = h.circuit in
@@ -85,13 +85,13 @@ returns-clause-works g c =
     let rows = ap (λ (s : InputRows). s.rows) f in
     let is = pair_rewired plan c.replace_gate.new.plan (with_gate plan.circuit c.args.lhs c.args.r0 c.args.r1) e f in
     rw (← c.self.view_is) (
-      all_touched plan c.replace_gate.new.plan c.self.inside.net c.self.inside.buckets _ _ (c.var.result ∷ [])
-          c.self.invariant follows renewed_plan.circuit.sound rows (rewire c.args.lhs c.args.r0 c.args.r1) is
+      all_touched plan c.replace_gate.new.plan c.self.inside.net c.self.inside.pending.buckets _ _ (c.var.result ∷ [])
+          c.self.invariant.working follows renewed_plan.circuit.sound rows (rewire c.args.lhs c.args.r0 c.args.r1) is
           (λ t v. forces_gate (pair_of plan) c.args.lhs c.args.r0 c.args.r1 c.var.result t v c.var.ensures)
           (λ v k. gate_forced plan.circuit c.replace_gate.new.plan.circuit c.args.lhs c.args.r0 c.args.r1 c.var.result v
           c.in_ok-check_rewire.ensures.gate c.var.ensures e k) _ _ _ c.renew_from.ensures.renewed,
-      all_changed plan c.replace_gate.new.plan c.self.inside.net c.self.inside.buckets _ _ (c.var.result ∷ [])
-          c.self.invariant follows renewed_plan.circuit.sound rows (rewire c.args.lhs c.args.r0 c.args.r1) is
+      all_changed plan c.replace_gate.new.plan c.self.inside.net c.self.inside.pending.buckets _ _ (c.var.result ∷ [])
+          c.self.invariant.working follows renewed_plan.circuit.sound rows (rewire c.args.lhs c.args.r0 c.args.r1) is
           (λ t v. forces_gate (pair_of plan) c.args.lhs c.args.r0 c.args.r1 c.var.result t v c.var.ensures)
           (λ v k. gate_forced plan.circuit c.replace_gate.new.plan.circuit c.args.lhs c.args.r0 c.args.r1 c.var.result v
           c.in_ok-check_rewire.ensures.gate c.var.ensures e k) _ _ _ c.renew_from.ensures.renewed,

@@ -4,39 +4,39 @@ use Rattle.aig_bench.proofs.bench.Bench.set_bit.Goals as goal
 
 pub renew_input-requires-clause-before : goal.renew_input-requires-clause-before
 renew_input-requires-clause-before g c =
-    bit_before c.self.inside.plan c.self.inside.net c.self.inside.buckets _ _ c.set.new.self c.args.frame c.args.position
-    c.args.value c.self.invariant c.set.ensures (omega (arith, c.if-frame-frames.false, c.frames.ensures.frames))
+    bit_before c.self.inside.plan c.self.inside.net c.self.inside.pending.buckets _ _ c.set.new.self c.args.frame c.args.position
+    c.args.value c.self.invariant.working c.set.ensures (omega (arith, c.if-frame-frames.false, c.frames.ensures.frames))
 
 pub renew_input-requires-clause-consistent : goal.renew_input-requires-clause-consistent
 renew_input-requires-clause-consistent g c =
-    bit_consistent c.self.inside.plan c.self.inside.net c.self.inside.buckets _ _ c.set.new.self c.args.frame c.args.position
-    c.args.value c.self.invariant c.set.ensures (omega (arith, c.if-frame-frames.false, c.frames.ensures.frames))
+    bit_consistent c.self.inside.plan c.self.inside.net c.self.inside.pending.buckets _ _ c.set.new.self c.args.frame c.args.position
+    c.args.value c.self.invariant.working c.set.ensures (omega (arith, c.if-frame-frames.false, c.frames.ensures.frames))
 
 pub renew_input-requires-clause-here : goal.renew_input-requires-clause-here
 renew_input-requires-clause-here g c =
-    bit_here c.self.inside.plan c.self.inside.net c.self.inside.buckets _ _ c.set.new.self c.args.frame c.args.position
-    c.args.value c.self.invariant c.set.ensures (omega (arith, c.if-frame-frames.false, c.frames.ensures.frames))
+    bit_here c.self.inside.plan c.self.inside.net c.self.inside.pending.buckets _ _ c.set.new.self c.args.frame c.args.position
+    c.args.value c.self.invariant.working c.set.ensures (omega (arith, c.if-frame-frames.false, c.frames.ensures.frames))
 
 pub renew_input-requires-clause-behind : goal.renew_input-requires-clause-behind
 renew_input-requires-clause-behind g c =
-    bit_behind c.self.inside.plan c.self.inside.net c.self.inside.buckets _ _ c.set.new.self c.args.frame c.args.position
-    c.args.value c.self.invariant c.set.ensures (omega (arith, c.if-frame-frames.false, c.frames.ensures.frames))
+    bit_behind c.self.inside.plan c.self.inside.net c.self.inside.pending.buckets _ _ c.set.new.self c.args.frame c.args.position
+    c.args.value c.self.invariant.working c.set.ensures (omega (arith, c.if-frame-frames.false, c.frames.ensures.frames))
 
 pub invariant_of-self : goal.invariant_of-self
 invariant_of-self g c =
     working _ c.self.inside.net _ _ _ c.renew_input.ensures.work c.renew_input.ensures.empty
-    (bit_current c.self.inside.plan c.self.inside.net c.self.inside.buckets _ _ c.set.new.self c.args.frame c.args.position
-    c.args.value c.self.invariant c.set.ensures (omega (arith, c.if-frame-frames.false, c.frames.ensures.frames)) _ _ _
+    (bit_current c.self.inside.plan c.self.inside.net c.self.inside.pending.buckets _ _ c.set.new.self c.args.frame c.args.position
+    c.args.value c.self.invariant.working c.set.ensures (omega (arith, c.if-frame-frames.false, c.frames.ensures.frames)) _ _ _
     c.renew_input.ensures.renewed)
 
 pub returns-clause-works : goal.returns-clause-works
 returns-clause-works g c =
     rw (← c.self.view_is) (
-      bit_touched c.self.inside.plan c.self.inside.net c.self.inside.buckets _ _ c.set.new.self c.args.frame c.args.position
-          c.args.value c.self.invariant c.set.ensures (omega (arith, c.if-frame-frames.false, c.frames.ensures.frames)) _ _ _
+      bit_touched c.self.inside.plan c.self.inside.net c.self.inside.pending.buckets _ _ c.set.new.self c.args.frame c.args.position
+          c.args.value c.self.invariant.working c.set.ensures (omega (arith, c.if-frame-frames.false, c.frames.ensures.frames)) _ _ _
           c.renew_input.ensures.renewed,
-      bit_changed c.self.inside.plan c.self.inside.net c.self.inside.buckets _ _ c.set.new.self c.args.frame c.args.position
-          c.args.value c.self.invariant c.set.ensures (omega (arith, c.if-frame-frames.false, c.frames.ensures.frames)) _ _ _
+      bit_changed c.self.inside.plan c.self.inside.net c.self.inside.pending.buckets _ _ c.set.new.self c.args.frame c.args.position
+          c.args.value c.self.invariant.working c.set.ensures (omega (arith, c.if-frame-frames.false, c.frames.ensures.frames)) _ _ _
           c.renew_input.ensures.renewed,
       c.renew_input.ensures.count,
     )

@@ -17,9 +17,9 @@ returns-in_err-check_reset-clause-edits g c =
 pub renew_from-requires-clause-work : goal.renew_from-requires-clause-work
 renew_from-requires-clause-work g c =
     let plan = c.self.inside.plan in
-    let w = c.self.invariant.work in
+    let w = c.self.invariant.working.work in
     let e = c.replace_reset.ensures in
-    work_for plan _ c.self.inside.net c.self.inside.net _ _ _ _ c.self.inside.buckets w c.self.invariant.empty
+    work_for plan _ c.self.inside.net c.self.inside.net _ _ _ _ c.self.inside.pending.buckets w c.self.invariant.working.empty
     (ap (λ (x : Raw). x.max_var) e)
     (plan_restarted plan _ c.args.latch c.args.value w.plan_is e)
     (laid_out_restarted plan _ c.args.latch c.args.value _ _ w.laid_out e)
@@ -29,9 +29,9 @@ renew_from-requires-clause-work g c =
 pub renew_from-requires-clause-consistent : goal.renew_from-requires-clause-consistent
 renew_from-requires-clause-consistent g c =
     let plan = c.self.inside.plan in
-    let w = c.self.invariant.work in
+    let w = c.self.invariant.working.work in
     let e = c.replace_reset.ensures in
-    all_consistent plan (record plan { circuit = c.replace_reset.new.self }) c.self.inside.net c.self.inside.buckets _ _ [] c.self.invariant
+    all_consistent plan (record plan { circuit = c.replace_reset.new.self }) c.self.inside.net c.self.inside.pending.buckets _ _ [] c.self.invariant.working
     (follows_reset plan _ c.args.latch c.args.value e)
     (plan_restarted plan _ c.args.latch c.args.value w.plan_is e).circuit.sound refl
 
@@ -43,16 +43,16 @@ invariant_of-self g c =
 pub returns-clause-works : goal.returns-clause-works
 returns-clause-works g c =
     let plan = c.self.inside.plan in
-    let w = c.self.invariant.work in
+    let w = c.self.invariant.working.work in
     let e = c.replace_reset.ensures in
     let follows = follows_reset plan _ c.args.latch c.args.value e in
     let sound = (plan_restarted plan _ c.args.latch c.args.value w.plan_is e).circuit.sound in
     let is = ap (λ (x : Raw). let p : Pair = record { circuit = x; rows = plan.stimulus.rows } in p) e in
     rw (← c.self.view_is) (
-      all_touched plan (record plan { circuit = c.replace_reset.new.self }) c.self.inside.net c.self.inside.buckets _ _ [] c.self.invariant follows sound refl
+      all_touched plan (record plan { circuit = c.replace_reset.new.self }) c.self.inside.net c.self.inside.pending.buckets _ _ [] c.self.invariant.working follows sound refl
           (set_reset c.args.latch c.args.value) is (forces_none (pair_of plan) c.args.latch c.args.value)
           (none_forced c.replace_reset.new.self) _ _ _ c.renew_from.ensures.renewed,
-      all_changed plan (record plan { circuit = c.replace_reset.new.self }) c.self.inside.net c.self.inside.buckets _ _ [] c.self.invariant follows sound refl
+      all_changed plan (record plan { circuit = c.replace_reset.new.self }) c.self.inside.net c.self.inside.pending.buckets _ _ [] c.self.invariant.working follows sound refl
           (set_reset c.args.latch c.args.value) is (forces_none (pair_of plan) c.args.latch c.args.value)
           (none_forced c.replace_reset.new.self) _ _ _ c.renew_from.ensures.renewed,
       c.renew_from.ensures.count,

@@ -2,7 +2,7 @@ use Rattle.std.proofs.Common.{ℕ, ◌≤◌}
 use Rattle.aig_base.specs.declared.raw.Raw.{Raw}
 use Rattle.aig_bench.specs.Latches.{AreLatchReaders, IsLatchList}
 use Rattle.aig_bench.proofs.LatchChains.{AreListedOver}
-use Rattle.aig_bench.proofs.latches.LatchReaders.list.Given as goal
+use Rattle.aig_bench.proofs.latches.LatchReaders.list_all.Given as goal
 
 abbrev pub invariant-loop-latch : goal.invariant-loop-latch
 invariant-loop-latch l = record {

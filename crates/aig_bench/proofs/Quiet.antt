@@ -1,0 +1,68 @@
+-- Frames into which nothing is carried stay as they are.
+use Rattle.std.proofs.Common.{◌≡◌, ◌⊎◌, inl, inr, ℕ, zero, suc, ◌+◌, ◌<◌, ◌≤◌, Bool, List, [], length, Some, slice_get, Contains, refl, sym, ap, ◌∙◌, subst, arith}
+use Rattle.aig_base.specs.declared.latch.Latch.{Latch}
+use Rattle.aig_base.specs.declared.ternary.Tern.{Tern}
+use Rattle.aig_base.specs.Literal.{variable}
+use Rattle.aig_sim.specs.InputRows.{row_at}
+use Rattle.aig_bench.specs.declared.buckets.Buckets.{Buckets}
+use Rattle.aig_bench.specs.declared.latches.LatchList.{LatchList}
+use Rattle.aig_bench.specs.declared.plan.Plan.{Plan}
+use Rattle.aig_bench.specs.declared.settle.Net.{Net}
+use Rattle.aig_bench.specs.Buckets.{Waits}
+use Rattle.aig_bench.specs.Current.{Holds, HoldsLatches}
+use Rattle.aig_bench.specs.Entry.{LatchesRest, Rests}
+use Rattle.aig_bench.specs.Latches.{IsListed}
+use Rattle.aig_bench.specs.Passing.{IsConsistent}
+use Rattle.aig_bench.specs.Pending.{IsNextRow}
+use Rattle.aig_bench.specs.Plan.{pair_of}
+use Rattle.aig_bench.specs.Renewed.{Renewed}
+use Rattle.aig_bench.specs.Sweep.{IsWork, Ends}
+use Rattle.aig_bench.proofs.Carrying.{carries_none, started}
+use Rattle.aig_bench.proofs.Entries.{no_element, entering_none}
+use Rattle.aig_bench.proofs.Handed.{latch_next_holds}
+use Rattle.aig_bench.proofs.Renewed.{renewed_none, renewed_one, renewed_join}
+use Rattle.aig_bench.proofs.SweepEnds.{ended}
+use Rattle.aig_bench.proofs.Sweeps.{sweeps_none, sweeps_far}
+
+module _ (plan : Plan) (net : Net) (flags : List Bool) (cells : List (List Tern)) (b : Buckets)
+    (work : IsWork plan net flags cells b) (empty : (v : ℕ) → Waits b v → ⊥) where
+  -- where all sources have their values and nothing waits, a pass has ended
+  quiet_frame : (t : ℕ) (row : List Tern) → IsConsistent (pair_of plan) (Contains []) row → Rests (pair_of plan) t row []
+      → HoldsLatches (pair_of plan) t row → Ends (pair_of plan) t (Contains []) row row b.marks.items 0 0
+  quiet_frame t row fits rest latches =
+      let p = pair_of plan in
+      let sound = work.plan_is.circuit.sound in
+      let marks = b.marks.items in
+      let none : ℕ → Type 0 = λ i. ⊥ in
+      let entering = entering_none p t (Contains []) row sound marks (λ u. (
+        λ m. absurd (empty u m),
+        λ i. absurd (no_element u i),
+      )) in
+      let start = started p t sound none [] row row row marks marks [] (λ i x at. inr (latches i x at))
+      (carries_none p t sound none row marks (λ i k. k)) entering rest in
+      ended plan net flags cells b t (length b.head.items) 0 0 [] row row row marks work (omega arith) fits start
+      (sweeps_far p t net.levels 0 0 (length b.head.items) row row marks marks 0 0 work.levels (sweeps_none p t 0 row marks)
+      (omega arith) (λ u l m at ge lt. empty u m))
+
+  module _ (n : ℕ) (rows : List (List Tern)) (first : ℕ)
+      (fits : (t : ℕ) → first ≤ t → t < n → IsConsistent (pair_of plan) (Contains []) (row_at rows t)
+      × Rests (pair_of plan) t (row_at rows t) [])
+      (next : (t : ℕ) → first ≤ t → suc t < n → IsNextRow plan.circuit (row_at rows t) (row_at rows (suc t))) where
+    -- from a frame on at which all latches have their values
+    pub quiet : (k t : ℕ) → t + k ≡ n → first ≤ t → (t < n → HoldsLatches (pair_of plan) t (row_at rows t))
+        → Renewed (pair_of plan) [] t n rows rows 0 0
+    quiet zero t e le latches =
+        let same : t ≡ n = omega arith in
+        subst (λ (m : ℕ). Renewed (pair_of plan) [] t m rows rows 0 0) same (renewed_none (pair_of plan) [] t rows)
+    quiet (suc k) t e le latches =
+        let lt : t < n = omega arith in
+        let f = fits t le lt in
+        let ends = quiet_frame t (row_at rows t) f.0 f.1 (latches lt) in
+        let one = renewed_one (pair_of plan) [] t 0 0 rows rows b.marks.items (λ u ne. refl) ends in
+        let rest = quiet k (t + 1) (omega arith) (omega arith) (λ more i x at.
+        let less : suc t < n = omega arith in
+        let is : suc t ≡ t + 1 = omega arith in
+        subst (λ (m : ℕ). Holds (pair_of plan) m (row_at rows m) (variable x.lit)) is
+        (latch_next_holds (pair_of plan) t work.plan_is.circuit.sound (row_at rows t) (row_at rows (suc t)) i x at
+        ends.current (next t le less i x at))) in
+        renewed_join (pair_of plan) [] t (t + 1) n 0 0 0 0 rows rows rows (omega arith) (omega arith) one rest
