@@ -95,6 +95,8 @@ pub record Follows (p p' : Pair) (forced : List ℕ) : Type 0 where
   pub defined : (v : ℕ) → IsDefined p'.circuit v → IsDefined p.circuit v
   pub gate_was : (v : ℕ) → IsGate p'.circuit v → IsGate p.circuit v
   pub gate_now : (v : ℕ) → IsGate p.circuit v → IsGate p'.circuit v
+  pub latches : (i : ℕ) (x : Latch) → slice_get p'.circuit.latches i ≡ Some x
+      → (y : Latch) × (slice_get p.circuit.latches i ≡ Some y) × (y.lit ≡ x.lit) × (y.next ≡ x.next)
 
 module _ (p p' : Pair) (forced : List ℕ) (h : Follows p p' forced) (sound : IsSound p.circuit) (sound' : IsSound p'.circuit)
     (widths : HaveWidth (length p.circuit.inputs) p.rows) where

@@ -1,5 +1,5 @@
 -- Frames into which nothing is carried stay as they are.
-use Rattle.std.proofs.Common.{◌≡◌, ◌⊎◌, inl, inr, ℕ, zero, suc, ◌+◌, ◌<◌, ◌≤◌, Bool, List, [], length, Some, slice_get, Contains, refl, sym, ap, ◌∙◌, subst, arith}
+use Rattle.std.proofs.Common.{◌≡◌, ◌⊎◌, inl, inr, ℕ, zero, suc, ◌+◌, ◌-◌, ◌<◌, ◌≤◌, Bool, List, [], ◌∷◌, length, Some, slice_get, Contains, refl, sym, ap, ◌∙◌, subst, arith}
 use Rattle.aig_base.specs.declared.latch.Latch.{Latch}
 use Rattle.aig_base.specs.declared.ternary.Tern.{Tern}
 use Rattle.aig_base.specs.Literal.{variable}
@@ -66,3 +66,25 @@ module _ (plan : Plan) (net : Net) (flags : List Bool) (cells : List (List Tern)
         (latch_next_holds (pair_of plan) t work.plan_is.circuit.sound (row_at rows t) (row_at rows (suc t)) i x at
         ends.current (next t le less i x at))) in
         renewed_join (pair_of plan) [] t (t + 1) n 0 0 0 0 rows rows rows (omega arith) (omega arith) one rest
+
+  -- frames were renewed, and nothing is carried into the next one: all that are left stay
+  pub stopped : (n first t e c : ℕ) (forced : List ℕ) (old new : List (List Tern)) → length forced ≡ 0
+      → Renewed (pair_of plan) forced first t old new e c → first ≤ t → t ≤ n
+      → ((u : ℕ) → first ≤ u → u < n → IsConsistent (pair_of plan) (Contains forced) (row_at old u)
+      × Rests (pair_of plan) u (row_at old u) [])
+      → ((u : ℕ) → first ≤ u → suc u < n → IsNextRow plan.circuit (row_at old u) (row_at old (suc u)))
+      → (t < n → HoldsLatches (pair_of plan) t (row_at new t)) → Renewed (pair_of plan) forced first n old new e c
+  stopped n first t e c [] old new size r le end fits next latches =
+      let p = pair_of plan in
+      let kept : (u : ℕ) → t ≤ u → row_at old u ≡ row_at new u = λ u over. sym (r.others u (inr over)) in
+      let rest = quiet n new t (λ u over lt. subst (λ (row : List Tern). IsConsistent p (Contains []) row × Rests p u row [])
+      (kept u over) (fits u (omega arith) lt))
+      (λ u over lt. subst (λ (row : List Tern). IsNextRow plan.circuit row (row_at new (suc u))) (kept u over)
+      (subst (λ (row : List Tern). IsNextRow plan.circuit (row_at old u) row) (kept (suc u) (omega arith))
+      (next u (omega arith) lt))) (n - t) t (omega arith) (omega arith) latches in
+      let e0 : e + 0 ≡ e = omega arith in
+      let c0 : c + 0 ≡ c = omega arith in
+      subst (λ (k : ℕ). Renewed p [] first n old new k c) e0
+      (subst (λ (k : ℕ). Renewed p [] first n old new (e + 0) k) c0
+      (renewed_join p [] first t n e 0 c 0 old new new le end r rest))
+  stopped n first t e c (v ∷ forced) old new size r le end fits next latches = absurd (omega arith)

@@ -21,11 +21,11 @@ returns-then-value-clause-latch c =
     latch_answers c.args.circuit.now c.requires c.args.literal c.var.result c.definition.result c.var.ensures
     c.definition.ensures.found c.definition.ensures.none c.in-Some-Latch.position _ _ c.index-latches-position.result
     c.latches.result.now c.latches.ensures (cc) c.index-latches-position.is c.value.ensures c.value-in-Some-Latch.ensures
-    c.if-value-value.true
+    c.if-value.true
 
 pub returns-else-value-clause-none : goal.returns-else-value-clause-none
 returns-else-value-clause-none c =
     latch_answers_none c.args.circuit.now c.requires c.args.literal c.var.result c.definition.result c.var.ensures
     c.definition.ensures.found c.definition.ensures.none c.in-Some-Latch.position _ _ c.index-latches-position.result
     c.latches.result.now c.latches.ensures (cc) c.index-latches-position.is c.value.ensures c.value-in-Some-Latch.ensures
-    c.if-value-value.false
+    c.if-value.false
