@@ -1,6 +1,7 @@
 -- From the cells of a bench before an edit to those after it.
 use Rattle.std.proofs.Common.{◌≡◌, ◌≢◌, ◌⊎◌, ◌↔◌, inl, inr, ℕ, zero, suc, ◌+◌, ◌-◌, ◌*◌, ◌<◌, ◌≤◌, Bool, true, false, nat_eq, get_or, List, [], ◌∷◌, ◌++◌, map, length, take, Some, slice_get, Contains, refl, sym, ap, ◌∙◌, subst, arith, length-append, length-take}
 use Rattle.std.proofs.lemmas.Bool.{eqb-true}
+use Rattle.std.proofs.lemmas.Bool.Decides.{eqb_tells}
 use Rattle.std.proofs.lemmas.Option.{same_Some, slice_get-get_or, slice_get_within}
 use Rattle.aig_base.specs.declared.ternary.Tern.{Tern}
 use Rattle.aig_base.specs.declared.ternary.Tern.TheVariants.{Zero}
@@ -13,9 +14,10 @@ use Rattle.aig_base.specs.Literal.{variable}
 use Rattle.aig_base.specs.Readers.{AreReaders}
 use Rattle.aig_base.specs.Sections.{definitions, IsDefined, IsGate, IsLeftSide}
 use Rattle.aig_base.specs.Sound.{IsSound}
-use Rattle.aig_base.specs.Value.{start_of}
-use Rattle.aig_base.proofs.Circuits.{gate_is, gate_defined, rhs0_defined, rhs1_defined, input_defined}
+use Rattle.aig_base.specs.Value.{start_of, reset_value}
+use Rattle.aig_base.proofs.Circuits.{gate_is, gate_defined, rhs0_defined, rhs1_defined, input_defined, latch_defined}
 use Rattle.aig_base.proofs.Gates.{gate_of}
+use Rattle.aig_base.proofs.Places as places
 use Rattle.aig_base.proofs.Positions.{Contains-cons}
 use Rattle.aig_base.proofs.UniqueValue.{unique}
 use Rattle.aig_sim.specs.InputRows.{InputRows, row_at, with_cell}
@@ -24,9 +26,14 @@ use Rattle.aig_bench.specs.declared.buckets.Buckets.{Buckets}
 use Rattle.aig_bench.specs.declared.plan.Plan.{Plan}
 use Rattle.aig_bench.specs.declared.settle.Net.{Net}
 use Rattle.aig_bench.specs.Buckets.{AreBuckets, IsChain, HasChain, Waits}
-use Rattle.aig_bench.specs.Current.{IsLaidOut, Holds, IsCurrentRow, IsCurrentBefore, AreCurrent, IsBench}
+use Rattle.aig_sim.specs.Cells.{literal_value}
+use Rattle.aig_bench.specs.Current.{IsLaidOut, Holds, HoldsLatches, IsCurrentRow, IsCurrentBefore, AreCurrent, IsBench}
 use Rattle.aig_bench.specs.Edit.{Edit, edited, set_bit, rewire, set_reset, add_frame, drop_frame}
-use Rattle.aig_bench.specs.Entry.{Rests}
+use Rattle.aig_bench.specs.declared.latches.LatchList.{LatchList}
+use Rattle.aig_bench.specs.declared.settle.Pending.{Pending}
+use Rattle.aig_bench.specs.Latches.{AreLatchReaders, IsLatchAt, IsListed, IsLast}
+use Rattle.aig_bench.specs.Pending.{HasLists, IsNextRow}
+use Rattle.aig_bench.specs.Entry.{LatchesRest, Rests}
 use Rattle.aig_bench.specs.Pair.{Pair, HasValue}
 use Rattle.aig_bench.specs.Passing.{Differs, IsConsistent}
 use Rattle.aig_bench.specs.Plan.{IsPlan, pair_of}
@@ -41,7 +48,9 @@ use Rattle.aig_bench.proofs.Height.{level_bound}
 use Rattle.aig_bench.proofs.Others.{differs_other, other_differs, consistent}
 use Rattle.aig_bench.proofs.Renewed.{cells_same, cells_none, renewed_one}
 use Rattle.aig_bench.proofs.Rewired.{left_side_gate, defined_was, gate_was, gate_kept}
-use Rattle.aig_bench.proofs.Values.{input_value}
+use Rattle.aig_bench.proofs.Handed.{latch_next_holds}
+use Rattle.aig_bench.proofs.LatchChains.{latch_unmapped}
+use Rattle.aig_bench.proofs.Values.{input_value, latch_value, latch_starts, latch_follows}
 
 -- empty buckets are buckets for any levels
 empty_chain : (levels levels' head next : List ℕ) (marks : List Bool) (l : ℕ) → HasChain levels head next marks l
@@ -132,6 +141,34 @@ module _ (p p' : Pair) (forced : List ℕ) (h : Follows p p' forced) (sound : Is
 
     pub consistent_at : (t : ℕ) → t < length p.rows → IsConsistent p' (Contains forced) (row_at cells t)
     consistent_at t lt = consistent p p' t (row_at cells t) sound (Contains forced) (now.each t lt) h.gates
+
+    -- a latch's cell is what its next literal was in the row before
+    pub next_rows : (t : ℕ) → suc t < length p.rows → IsNextRow p'.circuit (row_at cells t) (row_at cells (suc t))
+    next_rows t lt i x at =
+        let (y, was, lit, next) = h.latches i x at in
+        let k = now.each (suc t) lt (variable y.lit) (latch_defined p.circuit i y was) in
+        let v = latch_value p (suc t) i y (literal_value (row_at cells t) y.next) sound was
+        (latch_follows p (suc t) t i y (row_at cells t) sound refl was (now.each t (omega arith))) in
+        let e : k.cell ≡ literal_value (row_at cells t) y.next =
+        unique p.circuit (start_of p.circuit) p.rows sound k.value_is v in
+        subst (λ (l : ℕ). slice_get (row_at cells (suc t)) (variable l) ≡ Some (literal_value (row_at cells t) x.next)) lit
+        (subst (λ (l : ℕ). slice_get (row_at cells (suc t)) (variable y.lit) ≡ Some (literal_value (row_at cells t) l)) next
+        (k.cell_is ∙ ap Some e))
+
+    -- a latch that starts as before has its value at the first frame
+    pub first_holds : (i : ℕ) (x y : Latch) → slice_get p'.circuit.latches i ≡ Some x → slice_get p.circuit.latches i ≡ Some y
+        → y.lit ≡ x.lit → y.reset ≡ x.reset → 0 < length p.rows → Holds p' 0 (row_at cells 0) (variable x.lit)
+    first_holds i x y at was lit reset lt =
+        let k = now.each 0 lt (variable y.lit) (latch_defined p.circuit i y was) in
+        let v = latch_value p 0 i y (reset_value y.reset) sound was (latch_starts p i y was) in
+        let e : k.cell ≡ reset_value y.reset = unique p.circuit (start_of p.circuit) p.rows sound k.value_is v in
+        record {
+          cell = reset_value x.reset;
+          cell_is = subst (λ (l : ℕ). slice_get (row_at cells 0) (variable l) ≡ Some (reset_value x.reset)) lit
+              (subst (λ (r : ℕ). slice_get (row_at cells 0) (variable y.lit) ≡ Some (reset_value r)) reset
+              (k.cell_is ∙ ap Some e));
+          value_is = latch_value p' 0 i x (reset_value x.reset) sound' at (latch_starts p' i x at);
+        }
 
     -- what was touched and changed, by the values
     module _ (e : Edit) (is : p' ≡ edited p e) (first n : ℕ) (all : n ≡ length p.rows)
@@ -341,6 +378,7 @@ module _ (plan : Plan) (net : Net) (b : Buckets) (flags : List Bool) (cells : Li
     defined = λ v d. d;
     gate_was = λ v d. d;
     gate_now = λ v d. d;
+    latches = λ j x at. (x, at, refl, refl);
   }
 
   widths : HaveWidth (length plan.circuit.inputs) plan.stimulus.rows
@@ -352,6 +390,19 @@ module _ (plan : Plan) (net : Net) (b : Buckets) (flags : List Bool) (cells : Li
 
   pub bit_consistent : (t : ℕ) → f ≤ t → t < length s.rows → IsConsistent p' (Contains []) (row_at cells t)
   bit_consistent t le lt = consistent_at p p' [] follows sound sound widths cells h.bench.current t (omega (arith, bit_frames))
+
+  pub bit_next : (t : ℕ) → f ≤ t → suc t < length s.rows → IsNextRow plan.circuit (row_at cells t) (row_at cells (suc t))
+  bit_next t le lt = next_rows p p' [] follows sound sound widths cells h.bench.current t (omega (arith, bit_frames))
+
+  -- no latch has another value at the frame of the bit
+  pub bit_latches : HoldsLatches p' f (row_at cells f)
+  bit_latches j x at = of f refl
+    where
+      of : (n : ℕ) → n ≡ f → Holds p' n (row_at cells n) (variable x.lit)
+      of zero e = first_holds p p' [] follows sound sound widths cells h.bench.current j x x at at refl refl (omega arith)
+      of (suc u) e =
+          latch_next_holds p' u sound (row_at cells u) (row_at cells (suc u)) j x at (bit_before u (sym e))
+          (next_rows p p' [] follows sound sound widths cells h.bench.current u (omega arith) j x at)
 
   pub bit_here : (l : ℕ) → slice_get plan.circuit.inputs i ≡ Some l → Rests p' f (row_at cells f) (variable l ∷ [])
   bit_here l at = rests p p' [] follows sound sound widths cells h.bench.current f (variable l ∷ []) frame
@@ -414,6 +465,21 @@ module _ (plan new : Plan) (net : Net) (b : Buckets) (flags : List Bool) (cells 
             (λ i l at out. ap (λ (rs : List (List Tern)). slice_get (row_at rs t) i) rows),
       )
 
+  pub all_next : (t : ℕ) → 0 ≤ t → suc t < n → IsNextRow new.circuit (row_at cells t) (row_at cells (suc t))
+  all_next t le lt =
+      next_rows (pair_of plan) (pair_of new) forced follows h.work.plan_is.circuit.sound sound' wide cells h.bench.current t
+      (omega (arith, size))
+
+  -- latches that start as before are not carried into the first frame
+  pub all_latches : (list : LatchList) → ((i : ℕ) (x : Latch) → slice_get new.circuit.latches i ≡ Some x
+      → (IsListed list (suc i) → ⊥)
+      → (y : Latch) × (slice_get plan.circuit.latches i ≡ Some y) × (y.lit ≡ x.lit) × (y.reset ≡ x.reset))
+      → 0 < n → LatchesRest (pair_of new) 0 (row_at cells 0) list
+  all_latches list same lt i x at out =
+      let (y, was, lit, reset) = same i x at out in
+      first_holds (pair_of plan) (pair_of new) forced follows h.work.plan_is.circuit.sound sound' wide cells h.bench.current i x y
+      at was lit reset (omega (arith, size))
+
   module _ (e : Edit) (is : pair_of new ≡ edited (pair_of plan) e)
       (forces : (t v : ℕ) → IsForced (pair_of plan) e t v ↔ ((t < length plan.stimulus.rows) × Contains forced v))
       (gates : (v : ℕ) → Contains forced v → IsGate new.circuit v) (ev ch : ℕ) (cells' : List (List Tern))
@@ -439,6 +505,11 @@ same_lit lit w (x ∷ xs) = ap (λ ls. x.lit ∷ ls) (same_lit lit w xs)
 reset_definitions : (raw : Raw) (lit : ℕ) (w : Tern) → definitions (with_reset raw lit w) ≡ definitions raw
 reset_definitions raw lit w = ap (λ ls. raw.inputs ++ ls ++ map (λ (g : Gate). g.lhs) raw.gates) (same_lit lit w raw.latches)
 
+same_latch : (raw : Raw) → IsSound raw → (i k : ℕ) (y z : Latch) → slice_get raw.latches i ≡ Some y
+    → slice_get raw.latches k ≡ Some z → y.lit ≡ z.lit → i ≡ k
+same_latch raw s i k y z at stands e =
+    let same = places.same_place raw s (places.latch i) (places.latch k) y.lit (y, at, refl) (z, stands, sym e) in cc
+
 pub follows_reset : (plan : Plan) (c : Raw) (lit : ℕ) (w : Tern) → c ≡ with_reset plan.circuit lit w
     → Follows (pair_of plan) (pair_of (record plan { circuit = c })) []
 follows_reset plan c lit w e =
@@ -450,7 +521,27 @@ follows_reset plan c lit w e =
       defined = λ v d. subst (λ ls. Contains (0 ∷ map variable ls) v) (reset_definitions plan.circuit lit w) d;
       gate_was = λ v d. d;
       gate_now = λ v d. d;
+      latches = λ i x at.
+          let (y, here, is) = latch_unmapped (restarted lit w) plan.circuit.latches i x at in
+          (y, here, ap (λ (z : Latch). z.lit) is, ap (λ (z : Latch). z.next) is);
     })
+
+-- of latches that are reset, the others start as before
+pub other_start : (raw : Raw) (lit : ℕ) (w : Tern) (k i : ℕ) (x : Latch) → IsSound raw → IsLatchAt raw lit k
+    → slice_get (with_reset raw lit w).latches i ≡ Some x → i ≢ k
+    → (y : Latch) × (slice_get raw.latches i ≡ Some y) × (y.lit ≡ x.lit) × (y.reset ≡ x.reset)
+other_start raw lit w k i x s (z, stands, named) at ne =
+    let (y, here, is) = latch_unmapped (restarted lit w) raw.latches i x at in
+    (y, here, ap (λ (z : Latch). z.lit) is, same_reset y here ∙ ap (λ (z : Latch). z.reset) is)
+  where
+    apart : (y : Latch) → slice_get raw.latches i ≡ Some y → y.lit ≢ lit
+    apart y here e = ne (same_latch raw s i k y z here stands (e ∙ sym named))
+
+    same_reset : (y : Latch) → slice_get raw.latches i ≡ Some y → y.reset ≡ (restarted lit w y).reset
+    same_reset y here = elim (eqb_tells y.lit lit) [
+      | inl e ↦ absurd (apart y here e.1)
+      | inr e ↦ rw e.0 refl
+    ]
 
 one_is : (x v : ℕ) → Contains (x ∷ []) v → v ≡ x
 one_is x v k = elim (Contains-cons x [] v k) [ inl e ↦ e | inr i ↦ absurd (omega (arith, i.1)) ]
@@ -487,6 +578,7 @@ follows_rewire plan new lhs r0 r1 x ex e f =
       defined = λ v d. defined_was lhs r0 r1 plan.circuit v (subst (λ (c : Raw). IsDefined c v) e d);
       gate_was = λ v d. gate_was lhs r0 r1 plan.circuit v (subst (λ (c : Raw). IsGate c v) e d);
       gate_now = λ v d. subst (λ (c : Raw). IsGate c v) (sym e) (gate_kept lhs r0 r1 plan.circuit v d);
+      latches = λ i y at. (y, subst (λ (c : Raw). slice_get c.latches i ≡ Some y) e at, refl, refl);
     }
 
 pub forces_none : (p : Pair) (latch : ℕ) (w : Tern) (t v : ℕ)
@@ -614,3 +706,13 @@ pub pair_rewired : (plan new : Plan) (c : Raw) → new.circuit ≡ c → new.sti
 pair_rewired plan new c e f =
     ap (λ (x : Raw). let p : Pair = record { circuit = x; rows = new.stimulus.rows } in p) e
     ∙ ap (λ (s : InputRows). let p : Pair = record { circuit = c; rows = s.rows } in p) f
+
+-- the lists serve another plan with as many latches
+pub lists_for : (plan new : Plan) (net net' : Net) (pending : Pending) → HasLists plan net pending
+    → length new.circuit.latches ≡ length plan.circuit.latches → AreLatchReaders new.circuit net'.latches
+    → HasLists new net' pending
+lists_for plan new net net' pending h size readers = record {
+  readers = readers;
+  here = rw size h.here;
+  ahead = rw size h.ahead;
+}

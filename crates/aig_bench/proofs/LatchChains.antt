@@ -1,10 +1,12 @@
 -- The chains of latches that read a variable: how they are made, and how they are gone through.
-use Rattle.std.proofs.Common.{◌≡◌, ◌≢◌, ◌⊎◌, ◌↔◌, inl, inr, ℕ, zero, suc, ◌+◌, ◌<◌, ◌≤◌, List, [], ◌∷◌, ◌++◌, length, replicate, set, get_or, Some, slice_get, refl, sym, ap, ◌∙◌, subst, arith, length-append}
+use Rattle.std.proofs.Common.{◌≡◌, ◌≢◌, ◌⊎◌, ◌↔◌, inl, inr, ℕ, zero, suc, ◌+◌, ◌<◌, ◌≤◌, List, [], ◌∷◌, ◌++◌, length, replicate, set, get_or, map, option_map, Some, slice_get, refl, sym, ap, ◌∙◌, subst, arith, length-append}
 use Rattle.std.proofs.lemmas.Bool.{cases_eq}
-use Rattle.std.proofs.lemmas.List.{length-set, length-replicate}
-use Rattle.std.proofs.lemmas.Option.{same_Some, slice_get-get_or, slice_get_within}
+use Rattle.std.proofs.lemmas.List.{length-map, length-set, length-replicate}
+use Rattle.std.proofs.lemmas.Option.{same_Some, slice_get-get_or, slice_get-map, slice_get_within}
 use Rattle.aig_base.specs.declared.latch.Latch.{Latch}
 use Rattle.aig_base.specs.declared.raw.Raw.{Raw}
+use Rattle.aig_base.specs.Changes.{restarted, with_gate, with_reset}
+use Rattle.aig_base.specs.declared.ternary.Tern.{Tern}
 use Rattle.aig_base.specs.Literal.{variable}
 use Rattle.aig_bench.specs.declared.latches.LatchList.{LatchList}
 use Rattle.aig_bench.specs.declared.latches.LatchReaders.{LatchReaders}
@@ -180,3 +182,60 @@ module _ (raw : Raw) (readers : LatchReaders) (are : AreLatchReaders raw readers
 -- what was read at a position
 pub read_at : (xs : List ℕ) (i x : ℕ) → i < length xs → x ≡ get_or xs i x → slice_get xs i ≡ Some x
 read_at xs i x lt is = slice_get-get_or xs i x lt ∙ ap Some (sym is)
+
+pub latch_unmapped : (f : Latch → Latch) (xs : List Latch) (k : ℕ) (x : Latch) → slice_get (map f xs) k ≡ Some x
+    → (y : Latch) × (slice_get xs k ≡ Some y) × (f y ≡ x)
+latch_unmapped f [] k x at = absurd (cc)
+latch_unmapped f (y ∷ ys) zero x at = (y, refl, same_Some (f y) x at)
+latch_unmapped f (y ∷ ys) (suc k) x at = latch_unmapped f ys k x at
+
+-- the readers of a circuit are those of one whose latches read the same
+pub readers_same : (raw new : Raw) (readers : LatchReaders) → AreLatchReaders raw readers → new.max_var ≡ raw.max_var
+    → length new.latches ≡ length raw.latches
+    → ((p : ℕ) (x : Latch) → slice_get new.latches p ≡ Some x → (y : Latch) × (slice_get raw.latches p ≡ Some y) × (y.next ≡ x.next))
+    → ((p : ℕ) (y : Latch) → slice_get raw.latches p ≡ Some y → (x : Latch) × (slice_get new.latches p ≡ Some x) × (y.next ≡ x.next))
+    → AreLatchReaders new readers
+readers_same raw new readers h variables size was now = record {
+  variables = h.variables ∙ ap (λ n. n + 1) (sym variables);
+  latches = h.latches ∙ ap (λ n. n + 1) (sym size);
+  last = λ v i at. rw size (last_same v (length raw.latches) i (h.last v i at));
+  before = λ p i x at is.
+      let (y, there, next) = was p x at in
+      subst (λ (n : ℕ). IsLast new (variable n) p i) next (last_same (variable y.next) p i (h.before p i y there is));
+}
+  where
+    follows_now : (i v : ℕ) → Follows raw i v → Follows new i v
+    follows_now i v (p, y, is, at, reads) = let (x, there, next) = now p y at in (p, x, is, there, ap variable (sym next) ∙ reads)
+
+    follows_was : (i v : ℕ) → Follows new i v → Follows raw i v
+    follows_was i v (p, x, is, at, reads) = let (y, there, next) = was p x at in (p, y, is, there, ap variable next ∙ reads)
+
+    last_same : (v n i : ℕ) → IsLast raw v n i → IsLast new v n i
+    last_same v n i k = record {
+      inside = k.inside;
+      follows = λ ne. follows_now i v (k.follows ne);
+      none_over = λ j lt le f. k.none_over j lt le (follows_was j v f);
+    }
+
+pub readers_rewired : (raw new : Raw) (lhs r0 r1 : ℕ) (readers : LatchReaders) → AreLatchReaders raw readers
+    → new ≡ with_gate raw lhs r0 r1 → AreLatchReaders new readers
+readers_rewired raw new lhs r0 r1 readers h e =
+    subst (λ (c : Raw). AreLatchReaders c readers) (sym e)
+    (readers_same raw (with_gate raw lhs r0 r1) readers h refl refl (λ p x at. (x, at, refl)) (λ p y at. (y, at, refl)))
+
+pub readers_reset : (raw new : Raw) (lit : ℕ) (w : Tern) (readers : LatchReaders) → AreLatchReaders raw readers
+    → new ≡ with_reset raw lit w → AreLatchReaders new readers
+readers_reset raw new lit w readers h e =
+    subst (λ (c : Raw). AreLatchReaders c readers) (sym e)
+    (readers_same raw (with_reset raw lit w) readers h refl (length-map raw.latches (restarted lit w)) (λ p x at.
+    let (y, there, is) = latch_unmapped (restarted lit w) raw.latches p x at in
+    (y, there, ap (λ (z : Latch). z.next) is)) (λ p y at. (
+      restarted lit w y,
+      slice_get-map (restarted lit w) raw.latches p ∙ ap (option_map (restarted lit w)) at,
+      refl,
+    )))
+
+pub latches_reset : (raw new : Raw) (lit : ℕ) (w : Tern) → new ≡ with_reset raw lit w
+    → length new.latches ≡ length raw.latches
+latches_reset raw new lit w e =
+    ap (λ (c : Raw). length c.latches) e ∙ length-map raw.latches (restarted lit w)

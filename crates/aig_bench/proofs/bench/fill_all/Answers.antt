@@ -9,7 +9,8 @@ use Rattle.aig_bench.proofs.bench.fill_all.Goals as goal
 pub loop-frame-init : goal.loop-frame-init
 loop-frame-init g c = record {
   work = c.requires.work;
-  empty = c.requires.empty;
+  lists = c.requires.lists;
+  idle = c.requires.idle;
   current = none_current (pair_of c.args.plan.now) _;
 }
 
@@ -22,7 +23,8 @@ loop-frame-preserved g c =
     let all = map (λ (g : Gate). variable g.lhs) c.args.plan.now.circuit.gates in
     record {
       work = c.fill.ensures.work;
-      empty = c.fill.ensures.ends.empty;
+      lists = c.fill.ensures.lists;
+      idle = c.fill.ensures.idle;
       current = all_current p all c.loop-frame.frame (c.loop-frame.frame + 1) _ _ _ _ c.loop-frame.invariant.current
           (renewed_one p all c.loop-frame.frame _ _ _ _ _ c.fill.ensures.others c.fill.ensures.ends);
     }
@@ -30,6 +32,10 @@ loop-frame-preserved g c =
 pub returns : goal.returns
 returns g c =
     let i = c.loop-frame.invariant in
-    working c.args.plan.now c.args.net.now _ _ _ i.work i.empty
-    (fewer_current (pair_of c.args.plan.now) _ c.loop-frame.frame _
-    (omega (arith, c.loop-frame-test.false, c.frames-frame-end.ensures.frames)) i.current)
+    record {
+      working = working c.args.plan.now c.args.net.now _ _ _ i.work i.idle.gates
+          (fewer_current (pair_of c.args.plan.now) _ c.loop-frame.frame _
+          (omega (arith, c.loop-frame-test.false, c.frames-frame-end.ensures.frames)) i.current);
+      lists = i.lists;
+      idle = i.idle;
+    }

@@ -1,6 +1,5 @@
-use Rattle.std.proofs.Common.{ℕ}
-use Rattle.aig_bench.specs.Buckets.{Waits}
 use Rattle.aig_bench.specs.Current.{AreCurrent}
+use Rattle.aig_bench.specs.Pending.{HasLists, IsIdle}
 use Rattle.aig_bench.specs.Plan.{pair_of}
 use Rattle.aig_bench.specs.Sweep.{IsWork}
 use Rattle.aig_bench.proofs.bench.fill_all.Given as goal
@@ -8,6 +7,7 @@ use Rattle.aig_bench.proofs.bench.fill_all.Given as goal
 abbrev pub invariant-loop-frame : goal.invariant-loop-frame
 invariant-loop-frame g l = record {
   work : IsWork l.plan l.net (g.G.Grid.gate_flags l.grid) (g.G.Grid.cells l.grid) l.pending.buckets;
-  empty : (v : ℕ) → Waits l.pending.buckets v → ⊥;
+  lists : HasLists l.plan l.net l.pending;
+  idle : IsIdle l.pending;
   current : AreCurrent (pair_of l.plan) l.frame (g.G.Grid.cells l.grid);
 }

@@ -2,6 +2,7 @@ use Rattle.std.proofs.Common.{arith}
 use Rattle.aig_base.specs.Literal.{variable}
 use Rattle.aig_base.proofs.Gates.{defined_in_range}
 use Rattle.aig_bench.proofs.Changed.{readers_kept}
+use Rattle.aig_bench.proofs.LatchChains.{readers_rewired}
 use Rattle.aig_bench.proofs.bench.replace_gate.Goals as goal
 
 pub make_room-requires-clause-first : goal.make_room-requires-clause-first
@@ -33,3 +34,8 @@ replace-requires-clause-readers c = readers_kept c.args.plan.now.circuit _ _ c.r
 
 pub returns-in-Err-clause-readers : goal.returns-in-Err-clause-readers
 returns-in-Err-clause-readers c = readers_kept c.args.plan.now.circuit _ _ c.requires.readers c.make_room.ensures.lists
+
+pub returns-in-Ok-clause-latches : goal.returns-in-Ok-clause-latches
+returns-in-Ok-clause-latches c =
+    readers_rewired c.args.plan.now.circuit _ c.args.lhs c.args.r0 c.args.r1 c.args.net.now.latches c.requires.latches
+    c.replace_gate.ensures

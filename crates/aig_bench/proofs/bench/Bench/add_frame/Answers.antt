@@ -49,9 +49,13 @@ invariant_of-self-in-Ok g c =
     let others = rw t at c.fill-report.ensures.others in
     let before = current_added plan c.push.new.self c.args.row.now w.plan_is c.in-Ok.ensures.ok wide few limit _ _ _
     c.self.invariant.working.bench.current w.laid_out.rows_are.frames_are c.in_ok-add_row.ensures.ok in
-    working _ c.self.inside.net _ _ _ c.fill-report.ensures.work ends.empty
-    (added_current plan c.push.new.self c.args.row.now (g.G.Grid.cells c.self.inside.grid) _ _ w.plan_is.circuit.sound
-    c.self.invariant.working.bench.current c.in-Ok.ensures.ok _ _ _ ends others before)
+    record {
+      working = working _ c.self.inside.net _ _ _ c.fill-report.ensures.work ends.empty
+          (added_current plan c.push.new.self c.args.row.now (g.G.Grid.cells c.self.inside.grid) _ _ w.plan_is.circuit.sound
+          c.self.invariant.working.bench.current c.in-Ok.ensures.ok _ _ _ ends others before);
+      lists = c.fill-report.ensures.lists;
+      idle = c.fill-report.ensures.idle;
+    }
 
 pub returns-in-Ok-clause-works : goal.returns-in-Ok-clause-works
 returns-in-Ok-clause-works g c =

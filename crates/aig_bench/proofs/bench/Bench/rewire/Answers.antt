@@ -1,4 +1,4 @@
-use Rattle.std.proofs.Common.{ap, sym, subst, [], ◌∷◌}
+use Rattle.std.proofs.Common.{◌≡◌, suc, Some, slice_get, length, refl, ap, sym, subst, [], ◌∷◌}
 use Rattle.aig_base.specs.declared.raw.Raw.{Raw}
 use Rattle.aig_base.specs.Changes.{with_gate}
 use Rattle.aig_sim.specs.InputRows.{InputRows}
@@ -6,7 +6,7 @@ use Rattle.aig_bench.specs.declared.plan.Plan.{Plan}
 use Rattle.aig_bench.specs.Edit.{Edits, rewire}
 use Rattle.aig_bench.specs.Pair.{Pair}
 use Rattle.aig_bench.specs.Plan.{pair_of}
-use Rattle.aig_bench.proofs.Edited.{work_for, work_kept, plan_same, pair_rewired, all_consistent, all_touched, all_changed, follows_rewire, forces_gate, gate_forced}
+use Rattle.aig_bench.proofs.Edited.{all_latches, all_next, lists_for, work_for, work_kept, plan_same, pair_rewired, all_consistent, all_touched, all_changed, follows_rewire, forces_gate, gate_forced}
 use Rattle.aig_bench.proofs.Refusals.{lacking, rewire_refused, rewire_allowed}
 use Rattle.aig_bench.proofs.Rewired.{plan_rewired, laid_out_rewired}
 use Rattle.aig_bench.proofs.bench.Bench.rewire.Goals as goal
@@ -14,7 +14,13 @@ use Rattle.aig_bench.proofs.bench.Bench.rewire.Goals as goal
 pub invariant_of-self : goal.invariant_of-self
 invariant_of-self g c =
     let h = c.in_err-replace_gate.ensures in
-    work_kept c.self.inside.plan _ c.self.inside.net _ _ _ _ c.self.invariant.working h.same h.stimulus h.levels h.readers
+    record {
+      working = work_kept c.self.inside.plan _ c.self.inside.net _ _ _ _ c.self.invariant.working h.same h.stimulus h.levels
+          h.readers;
+      lists = lists_for c.self.inside.plan _ c.self.inside.net _ c.self.inside.pending c.self.invariant.lists
+          (ap (λ (x : Raw). length x.latches) h.same) h.latches;
+      idle = c.self.invariant.idle;
+    }
 
 pub returns-in_err-replace_gate-clause-edits : goal.returns-in_err-replace_gate-clause-edits
 returns-in_err-replace_gate-clause-edits g c =
@@ -42,6 +48,41 @@ renew_from-requires-clause-work g c =
     (laid_out_rewired plan c.replace_gate.new.plan c.args.lhs c.args.r0 c.args.r1 _ _ w.laid_out
     (pair_rewired plan c.replace_gate.new.plan (with_gate plan.circuit c.args.lhs c.args.r0 c.args.r1) e f))
     h.levels h.readers
+
+pub renew_from-requires-clause-lists : goal.renew_from-requires-clause-lists
+renew_from-requires-clause-lists g c =
+    let h = c.in_ok-replace_gate.ensures in
+    lists_for c.self.inside.plan _ c.self.inside.net _ c.self.inside.pending c.self.invariant.lists
+    (ap (λ (x : Raw). length x.latches) h.circuit) h.latches
+
+pub renew_from-requires-clause-next : goal.renew_from-requires-clause-next
+renew_from-requires-clause-next g c =
+    let plan = c.self.inside.plan in
+    let w = c.self.invariant.working.work in
+    let h = c.in_ok-replace_gate.ensures in
+    let d = c.in_ok-check_rewire.ensures.defined in
+    let e = h.circuit in
+    let f = h.stimulus in
+    let renewed_plan = plan_rewired plan c.replace_gate.new.plan c.args.lhs c.args.r0 c.args.r1 w.plan_is e f d.0 d.1 h.acyclic in
+    let follows = follows_rewire plan c.replace_gate.new.plan c.args.lhs c.args.r0 c.args.r1 c.var.result c.var.ensures e f in
+    let rows = ap (λ (s : InputRows). s.rows) f in
+    all_next plan c.replace_gate.new.plan c.self.inside.net c.self.inside.pending.buckets _ _ (c.var.result ∷ [])
+    c.self.invariant.working follows renewed_plan.circuit.sound rows
+
+pub renew_from-requires-clause-carried : goal.renew_from-requires-clause-carried
+renew_from-requires-clause-carried g c =
+    let plan = c.self.inside.plan in
+    let w = c.self.invariant.working.work in
+    let h = c.in_ok-replace_gate.ensures in
+    let d = c.in_ok-check_rewire.ensures.defined in
+    let e = h.circuit in
+    let f = h.stimulus in
+    let renewed_plan = plan_rewired plan c.replace_gate.new.plan c.args.lhs c.args.r0 c.args.r1 w.plan_is e f d.0 d.1 h.acyclic in
+    let follows = follows_rewire plan c.replace_gate.new.plan c.args.lhs c.args.r0 c.args.r1 c.var.result c.var.ensures e f in
+    let rows = ap (λ (s : InputRows). s.rows) f in
+    all_latches plan c.replace_gate.new.plan c.self.inside.net c.self.inside.pending.buckets _ _ (c.var.result ∷ [])
+    c.self.invariant.working follows renewed_plan.circuit.sound rows c.self.inside.pending.here
+    (λ i x at out. (x, subst (λ (k : Raw). slice_get k.latches i ≡ Some x) e at, refl, refl))
 
 pub renew_from-requires-clause-gates : goal.renew_from-requires-clause-gates
 renew_from-requires-clause-gates g c v k =
