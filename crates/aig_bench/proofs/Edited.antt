@@ -31,7 +31,7 @@ use Rattle.aig_bench.specs.Current.{IsLaidOut, Holds, HoldsLatches, IsCurrentRow
 use Rattle.aig_bench.specs.Edit.{Edit, edited, set_bit, rewire, set_reset, add_frame, drop_frame}
 use Rattle.aig_bench.specs.declared.latches.LatchList.{LatchList}
 use Rattle.aig_bench.specs.declared.settle.Pending.{Pending}
-use Rattle.aig_bench.specs.Latches.{AreLatchReaders, IsLatchAt, IsListed, IsLast}
+use Rattle.aig_bench.specs.Latches.{AreLatchReaders, IsLatchAt, IsListed}
 use Rattle.aig_bench.specs.Pending.{HasLists, IsNextRow}
 use Rattle.aig_bench.specs.Entry.{LatchesRest, Rests}
 use Rattle.aig_bench.specs.Pair.{Pair, HasValue}

@@ -1,5 +1,5 @@
 -- Latches that are carried from a frame into the next one.
-use Rattle.std.proofs.Common.{◌≡◌, ◌≢◌, ◌⊎◌, ◌↔◌, inl, inr, ℕ, suc, ◌*◌, ◌<◌, List, length, Option, Some, None, slice_get, slice_set, get_or, unwrap_or, refl, sym, ap, ◌∙◌, subst, arith}
+use Rattle.std.proofs.Common.{◌≡◌, ◌≢◌, ◌⊎◌, inl, inr, ℕ, suc, List, Option, Some, None, slice_get, slice_set, get_or, unwrap_or, refl, sym, ap, ◌∙◌, subst}
 use Rattle.std.proofs.lemmas.Bool.{cases_eq}
 use Rattle.std.proofs.lemmas.Option.{slice_get_within, unwrap_or-slice_get}
 use Rattle.aig_base.specs.declared.latch.Latch.{Latch}
@@ -8,12 +8,11 @@ use Rattle.aig_base.specs.declared.ternary.Tern.{Tern}
 use Rattle.aig_base.specs.declared.ternary.Tern.TheVariants.{X}
 use Rattle.aig_base.specs.Literal.{variable}
 use Rattle.aig_base.specs.Sound.{IsSound}
-use Rattle.aig_base.proofs.Circuits.{next_defined}
 use Rattle.aig_sim.specs.Cells.{literal_value}
 use Rattle.aig_bench.specs.declared.latches.LatchList.{LatchList}
 use Rattle.aig_bench.specs.Current.{Holds, IsCurrentRow}
 use Rattle.aig_bench.specs.Latches.{Follows, HandsOn, IsListed, Lists}
-use Rattle.aig_bench.specs.Pair.{Pair, HasValue}
+use Rattle.aig_bench.specs.Pair.{Pair}
 use Rattle.aig_bench.specs.Pending.{IsNextRow}
 use Rattle.aig_bench.proofs.Cells.{get_set_same, get_set_other}
 use Rattle.aig_bench.proofs.Passing.{same_or_other}
@@ -89,7 +88,7 @@ module _ (p : Pair) (t : ℕ) (sound : IsSound p.circuit) where
       → Holds p (suc t) next (variable x.lit)
   not_handed_holds old new next before list now hands follows i x at out = elim
       (same_cell (slice_get new (variable x.next)) (slice_get old (variable x.next))) [
-    | inl e ↦
-        latch_next_holds new next i x at now (follows i x at ∙ ap Some (sym (same_literal_value new old x.next e)))
-    | inr ne ↦ absurd (out (hands.changed (suc i) (variable x.next) (i, x, refl, at, refl) ne))
-  ]
+        | inl e ↦
+            latch_next_holds new next i x at now (follows i x at ∙ ap Some (sym (same_literal_value new old x.next e)))
+        | inr ne ↦ absurd (out (hands.changed (suc i) (variable x.next) (i, x, refl, at, refl) ne))
+      ]

@@ -1,5 +1,5 @@
 -- The chains of latches that read a variable: how they are made, and how they are gone through.
-use Rattle.std.proofs.Common.{◌≡◌, ◌≢◌, ◌⊎◌, ◌↔◌, inl, inr, ℕ, zero, suc, ◌+◌, ◌<◌, ◌≤◌, List, [], ◌∷◌, ◌++◌, length, replicate, set, get_or, map, option_map, Some, slice_get, refl, sym, ap, ◌∙◌, subst, arith, length-append}
+use Rattle.std.proofs.Common.{◌≡◌, ◌≢◌, ◌⊎◌, inl, inr, ℕ, zero, suc, ◌+◌, ◌<◌, ◌≤◌, List, [], ◌∷◌, ◌++◌, length, replicate, set, get_or, map, option_map, Some, slice_get, refl, sym, ap, ◌∙◌, subst, arith, length-append}
 use Rattle.std.proofs.lemmas.Bool.{cases_eq}
 use Rattle.std.proofs.lemmas.List.{length-map, length-set, length-replicate}
 use Rattle.std.proofs.lemmas.Option.{same_Some, slice_get-get_or, slice_get-map, slice_get_within}
@@ -10,7 +10,7 @@ use Rattle.aig_base.specs.declared.ternary.Tern.{Tern}
 use Rattle.aig_base.specs.Literal.{variable}
 use Rattle.aig_bench.specs.declared.latches.LatchList.{LatchList}
 use Rattle.aig_bench.specs.declared.latches.LatchReaders.{LatchReaders}
-use Rattle.aig_bench.specs.Latches.{Follows, IsLast, AreLatchReaders, IsListed, Lists}
+use Rattle.aig_bench.specs.Latches.{Follows, IsLast, AreLatchReaders, Lists}
 use Rattle.aig_bench.proofs.Cells.{get_set_same, get_set_other}
 
 -- the chains of the first n latches

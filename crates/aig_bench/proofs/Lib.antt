@@ -10,7 +10,6 @@ pub mod Entries
 pub mod Flags
 pub mod Handed
 pub mod Height
-pub mod Later
 pub mod LatchChains
 pub mod LatchLists
 pub mod Layouts

@@ -1,17 +1,14 @@
 -- Frames into which nothing is carried stay as they are.
-use Rattle.std.proofs.Common.{◌≡◌, ◌⊎◌, inl, inr, ℕ, zero, suc, ◌+◌, ◌-◌, ◌<◌, ◌≤◌, Bool, List, [], ◌∷◌, length, Some, slice_get, Contains, refl, sym, ap, ◌∙◌, subst, arith}
-use Rattle.aig_base.specs.declared.latch.Latch.{Latch}
+use Rattle.std.proofs.Common.{◌≡◌, inr, ℕ, zero, suc, ◌+◌, ◌-◌, ◌<◌, ◌≤◌, Bool, List, [], ◌∷◌, length, Contains, refl, sym, subst, arith}
 use Rattle.aig_base.specs.declared.ternary.Tern.{Tern}
 use Rattle.aig_base.specs.Literal.{variable}
 use Rattle.aig_sim.specs.InputRows.{row_at}
 use Rattle.aig_bench.specs.declared.buckets.Buckets.{Buckets}
-use Rattle.aig_bench.specs.declared.latches.LatchList.{LatchList}
 use Rattle.aig_bench.specs.declared.plan.Plan.{Plan}
 use Rattle.aig_bench.specs.declared.settle.Net.{Net}
 use Rattle.aig_bench.specs.Buckets.{Waits}
 use Rattle.aig_bench.specs.Current.{Holds, HoldsLatches}
-use Rattle.aig_bench.specs.Entry.{LatchesRest, Rests}
-use Rattle.aig_bench.specs.Latches.{IsListed}
+use Rattle.aig_bench.specs.Entry.{Rests}
 use Rattle.aig_bench.specs.Passing.{IsConsistent}
 use Rattle.aig_bench.specs.Pending.{IsNextRow}
 use Rattle.aig_bench.specs.Plan.{pair_of}

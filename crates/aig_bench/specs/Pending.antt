@@ -1,5 +1,5 @@
 -- What a propagation works on besides the cells: gates that wait, and latches that are carried into a frame (profile).
-use Rattle.std.specs.Prelude.{◌≡◌, ℕ, suc, Bool, List, length, Some, slice_get}
+use Rattle.std.specs.Prelude.{◌≡◌, ℕ, Bool, List, length, Some, slice_get}
 use Rattle.aig_base.specs.declared.latch.Latch.{Latch}
 use Rattle.aig_base.specs.declared.raw.Raw.{Raw}
 use Rattle.aig_base.specs.declared.ternary.Tern.{Tern}
@@ -9,9 +9,7 @@ use Rattle.aig_bench.specs.declared.plan.Plan.{Plan}
 use Rattle.aig_bench.specs.declared.settle.Net.{Net}
 use Rattle.aig_bench.specs.declared.settle.Pending.{Pending}
 use Rattle.aig_bench.specs.Buckets.{Waits}
-use Rattle.aig_bench.specs.Current.{Holds}
 use Rattle.aig_bench.specs.Latches.{AreLatchReaders, IsLatchList, IsListed}
-use Rattle.aig_bench.specs.Pair.{Pair}
 use Rattle.aig_bench.specs.Sweep.{IsWorking}
 
 -- who reads whom, and two lists of the circuit's latches

@@ -46,7 +46,11 @@ fn latch_position(circuit: &Circuit, literal: Lit) -> Option<u32>
     match circuit.definition(literal.var()) {
         Some(Definition::Latch(position)) => {
             let latch = circuit.latches()[position as usize];
-            if latch.lit.value() == literal.value() { Some(position) } else { None }
+            if latch.lit.value() == literal.value() {
+                Some(position)
+            } else {
+                None
+            }
         }
         Some(Definition::Input(_)) => None,
         Some(Definition::Gate(_)) => None,

@@ -18,7 +18,7 @@ use crate::settle::{Net, Pending, put, settle};
 use aig_sim::Grid;
 
 /// Lets all gates wait.
-fn link_gates(plan: &Plan, net: &Net, buckets: &mut Buckets)
+pub fn link_gates(plan: &Plan, net: &Net, buckets: &mut Buckets)
     requires buckets { AreBuckets net.now.levels buckets.old }
     requires fits { (v : ℕ) → IsGate plan.now.circuit v → Fits net.now.levels (length buckets.old.head.items) v }
     ensures buckets { AreBuckets net.now.levels buckets.new }

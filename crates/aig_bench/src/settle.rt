@@ -78,7 +78,9 @@ fn settle_next<G: Grid>(
     let gate = plan.circuit.gate_of(variable)?;
     let changed = grid.evaluate(frame, gate);
     if changed {
-        pending.buckets.link_all(&net.levels, net.readers.list(variable));
+        pending
+            .buckets
+            .link_all(&net.levels, net.readers.list(variable));
         net.latches.list_all(variable, &mut pending.ahead);
     }
     Some(changed)
@@ -208,7 +210,9 @@ pub fn put<G: Grid>(
     let before = grid.get(frame, variable);
     grid.put_source(frame, variable, value);
     if before != value {
-        pending.buckets.link_all(&net.levels, net.readers.list(variable));
+        pending
+            .buckets
+            .link_all(&net.levels, net.readers.list(variable));
         net.latches.list_all(variable, &mut pending.ahead);
     }
 }

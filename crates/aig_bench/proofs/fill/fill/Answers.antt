@@ -1,4 +1,4 @@
-use Rattle.std.proofs.Common.{◌≡◌, ◌∙◌, ◌<◌, inl, ℕ, map, [], length}
+use Rattle.std.proofs.Common.{◌<◌, inl, map, [], length}
 use Rattle.std.proofs.lemmas.Option.{slice_get_within}
 use Rattle.aig_base.specs.declared.gate.Gate.{Gate}
 use Rattle.aig_base.specs.Literal.{variable}

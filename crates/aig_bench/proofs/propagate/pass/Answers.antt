@@ -1,7 +1,4 @@
-use Rattle.std.proofs.Common.{◌≡◌, ◌⊎◌, inl, inr, ℕ, suc, length, Some, slice_get}
-use Rattle.aig_base.specs.declared.latch.Latch.{Latch}
-use Rattle.aig_base.specs.Literal.{variable}
-use Rattle.aig_bench.specs.Current.{Holds}
+use Rattle.std.proofs.Common.{inl, inr, suc}
 use Rattle.aig_bench.specs.Latches.{IsListed}
 use Rattle.aig_bench.specs.Plan.{pair_of}
 use Rattle.aig_bench.proofs.Carrying.{started}

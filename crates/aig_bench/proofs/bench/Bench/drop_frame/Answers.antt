@@ -11,9 +11,9 @@ invariant_of-self g c =
     let b = bench_dropped plan c.pop.new.self _ _ _ _ h.bench c.pop.ensures c.drop_row.ensures.cells c.drop_row.ensures.gates in
     record {
       working = working _ c.self.inside.net c.self.inside.pending.buckets _ _
-    (work_for plan _ c.self.inside.net c.self.inside.net _ _ _ _ c.self.inside.pending.buckets h.work h.empty refl b.plan_is b.laid_out
-    h.work.levels h.work.readers)
-    h.empty b.current;
+          (work_for plan _ c.self.inside.net c.self.inside.net _ _ _ _ c.self.inside.pending.buckets h.work h.empty refl b.plan_is b.laid_out
+          h.work.levels h.work.readers)
+          h.empty b.current;
       lists = lists_for plan _ c.self.inside.net c.self.inside.net c.self.inside.pending c.self.invariant.lists refl
           c.self.invariant.lists.readers;
       idle = c.self.invariant.idle;

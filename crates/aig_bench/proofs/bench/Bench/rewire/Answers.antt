@@ -1,4 +1,4 @@
-use Rattle.std.proofs.Common.{◌≡◌, suc, Some, slice_get, length, refl, ap, sym, subst, [], ◌∷◌}
+use Rattle.std.proofs.Common.{◌≡◌, Some, slice_get, length, refl, ap, sym, subst, [], ◌∷◌}
 use Rattle.aig_base.specs.declared.raw.Raw.{Raw}
 use Rattle.aig_base.specs.Changes.{with_gate}
 use Rattle.aig_sim.specs.InputRows.{InputRows}

@@ -44,9 +44,9 @@ invariant_of-self g c =
       lists = c.renew_input.ensures.lists;
       idle = c.renew_input.ensures.idle;
       working = working _ c.self.inside.net _ _ _ c.renew_input.ensures.work c.renew_input.ensures.idle.gates
-    (bit_current c.self.inside.plan c.self.inside.net c.self.inside.pending.buckets _ _ c.set.new.self c.args.frame c.args.position
-    c.args.value c.self.invariant.working c.set.ensures (omega (arith, c.if-frame-frames.false, c.frames.ensures.frames)) _ _ _
-    c.renew_input.ensures.renewed);
+          (bit_current c.self.inside.plan c.self.inside.net c.self.inside.pending.buckets _ _ c.set.new.self c.args.frame c.args.position
+          c.args.value c.self.invariant.working c.set.ensures (omega (arith, c.if-frame-frames.false, c.frames.ensures.frames)) _ _ _
+          c.renew_input.ensures.renewed);
     }
 
 pub returns-clause-works : goal.returns-clause-works
