@@ -161,27 +161,3 @@ fn frames_come_and_go(rt: HostRuntime) -> Result<(), Fail> {
     assert_eq!(rt; bench.frames(), 1);
     Ok(())
 }
-
-#[test]
-fn changed_latches_are_carried(rt: HostRuntime) -> Result<(), Fail> {
-    // Two latches read the input, one of them its negation, and a third reads the first of these.
-    let raw = parts(rt.alloc(), 5, &[2], &[10])?;
-    let raw = with_latch(with_latch(raw, 4, 2, 0)?, 6, 3, 0)?;
-    let raw = with_gate(with_latch(raw, 8, 4, 0)?, 10, 8, 6)?;
-    let mut bench = bench(rt.alloc(), raw, 1, b"0\n0\n0\n0\n")?;
-    let reports = [
-        bench.set_bit(0, 0, Tern::One),
-        bench.set_reset(Lit::new(4), Tern::One),
-        bench.set_reset(Lit::new(8), Tern::One),
-        bench.set_reset(Lit::new(6), Tern::One),
-        bench.set_bit(3, 0, Tern::One),
-        bench.set_bit(0, 0, Tern::Zero),
-    ];
-    for (report, (evaluated, changed)) in reports
-        .iter()
-        .zip([(2, 1), (1, 0), (1, 0), (1, 1), (0, 0), (2, 2)])
-    {
-        assert_eq!(rt; *report, Ok(EditReport { evaluated, changed }));
-    }
-    Ok(())
-}

@@ -2,7 +2,6 @@ pub mod Cells
 pub mod Checking
 pub mod Frame
 pub mod GateOrder
-pub mod Gathered
 pub mod InputRows
 pub mod LineInHand
 pub mod Machine

@@ -70,6 +70,23 @@ fn are_right_for_two_words<G: Grid>(alloc: Global) -> Result<bool, Fail> {
     )
 }
 
+// Two latches read the input, one of them its negation, and a third reads the first of these.
+fn are_right_for_carried_latches<G: Grid>(alloc: Global) -> Result<bool, Fail> {
+    let raw = with_latch(parts(alloc, 5, &[2], &[10])?, 4, 2, 0)?;
+    let raw = with_latch(with_latch(raw, 6, 3, 0)?, 8, 4, 0)?;
+    let mut bench = bench::<G>(alloc, with_gate(raw, 10, 8, 6)?, 1, b"0\n0\n0\n0\n")?;
+    let bit = bench.set_bit(0, 0, Tern::One);
+    let first = bench.set_reset(Lit::new(4), Tern::One);
+    let third = bench.set_reset(Lit::new(8), Tern::One);
+    let second = bench.set_reset(Lit::new(6), Tern::One);
+    let last = bench.set_bit(3, 0, Tern::One);
+    let back = bench.set_bit(0, 0, Tern::Zero);
+    Ok(
+        (bit, first, third) == (report(2, 1), report(1, 0), report(1, 0))
+            && (second, last, back) == (report(1, 1), report(0, 0), report(2, 2)),
+    )
+}
+
 // Whether all of them are right.
 fn are_right<G: Grid>(alloc: Global) -> Result<bool, Fail> {
     Ok(
@@ -78,7 +95,8 @@ fn are_right<G: Grid>(alloc: Global) -> Result<bool, Fail> {
             & are_right_for_a_reset::<G>(alloc)?
             & are_right_for_a_gate_that_stays::<G>(alloc)?
             & are_right_for_an_unknown::<G>(alloc)?
-            & are_right_for_two_words::<G>(alloc)?,
+            & are_right_for_two_words::<G>(alloc)?
+            & are_right_for_carried_latches::<G>(alloc)?,
     )
 }
 
