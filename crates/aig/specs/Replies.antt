@@ -57,7 +57,8 @@ CommandReply old (value t l) reply new =
     (r : Result Tern EditFault) × AnswersValue old t l r × (reply ≡ value_reply r) × (new ≡ old)
 CommandReply old trace reply new = (text : List ℕ) × HasTrace old text × (reply ≡ text ++ codes ".\n") × (new ≡ old)
 CommandReply old unroll reply new =
-    (r : Result Raw UnrollFault) × AnswersUnrolling old.circuit (length old.rows) r × (reply ≡ unroll_reply r) × (new ≡ old)
+    (r : Result Raw UnrollFault) × AnswersUnrolling old.circuit (length old.rows) r
+    × (reply ≡ unroll_reply r) × (new ≡ old)
 
 abbrev pub IsBad : Pair → List ℕ → Pair → Type 0
 IsBad old reply new = (reply ≡ codes "bad\n") × (new ≡ old)

@@ -20,19 +20,24 @@ abbrev pub IsUnrolledText : Raw → ℕ → Format → List ℕ → Type 0
 IsUnrolledText raw k to text =
     (new : Raw) × AnswersUnrolling raw k (Ok new) × (text ≡ short_spelling to new)
 
--- How the unrolling of a circuit ends: it is written whole; a write failed behind a beginning; it is refused, or no memory
--- was found for its levels, and nothing was written.
-abbrev pub UnrolledCircuitEnds : {X : Type 0} → (X → Option (List ℕ)) → (X → ℕ) → X → X → Raw → ℕ → Format → Result (Unit {0}) RunFault → Type 0
+-- How the unrolling of a circuit ends: it is written whole; a write failed behind a beginning; it is refused, or no
+-- memory was found for its levels, and nothing was written.
+abbrev pub UnrolledCircuitEnds : {X : Type 0} → (X → Option (List ℕ)) → (X → ℕ) → X → X → Raw → ℕ → Format
+    → Result (Unit {0}) RunFault → Type 0
 UnrolledCircuitEnds written failures old new raw k to (Ok done) =
-    (text : List ℕ) × IsUnrolledText raw k to text × Writes {T = Unit {0}} {E = RunFault} written failures old new text (Ok done)
+    (text : List ℕ) × IsUnrolledText raw k to text
+    × Writes {T = Unit {0}} {E = RunFault} written failures old new text (Ok done)
 UnrolledCircuitEnds written failures old new raw k to (Err parts.Output) =
-    (text : List ℕ) × IsUnrolledText raw k to text × Writes {T = Unit {0}} {E = RunFault} written failures old new text (Err parts.Output)
-UnrolledCircuitEnds written failures old new raw k to (Err (parts.Unroll fault)) = AnswersUnrolling raw k (Err fault) × (new ≡ old)
+    (text : List ℕ) × IsUnrolledText raw k to text
+    × Writes {T = Unit {0}} {E = RunFault} written failures old new text (Err parts.Output)
+UnrolledCircuitEnds written failures old new raw k to (Err (parts.Unroll fault)) =
+    AnswersUnrolling raw k (Err fault) × (new ≡ old)
 UnrolledCircuitEnds written failures old new raw k to (Err parts.Memory) = new ≡ old
 UnrolledCircuitEnds written failures old new raw k to (Err _) = ⊥
 
 -- how the unrolling of a file ends: the file is refused, and nothing was written; or as that of its circuit
-abbrev pub UnrollingEnds : {X : Type 0} → (X → Option (List ℕ)) → (X → ℕ) → X → X → List ℕ → ℕ → Format → Result (Unit {0}) RunFault → Type 0
+abbrev pub UnrollingEnds : {X : Type 0} → (X → Option (List ℕ)) → (X → ℕ) → X → X → List ℕ → ℕ → Format
+    → Result (Unit {0}) RunFault → Type 0
 UnrollingEnds written failures old new file k to (Err (parts.Circuit fault)) = RefusesCircuit file fault × (new ≡ old)
 UnrollingEnds written failures old new file k to r =
     (raw : Raw) × IsFileOf file raw × UnrolledCircuitEnds written failures old new raw k to r

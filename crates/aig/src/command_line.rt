@@ -174,7 +174,7 @@ fn program<'a>(alloc: Global) -> Command<'a> {
     Command::new(alloc, "aig")
         .version("0.1.0")
         .about(
-            "Converts, simulates and unrolls and-inverter graphs, circuits in the AIGER formats, answers scripts and checks witnesses",
+            "Converts, simulates and unrolls circuits in the AIGER formats (and-inverter graphs), checks witnesses and answers scripts",
         )
         .after_help(AFTER_ALL)
         .subcommand_required(true)

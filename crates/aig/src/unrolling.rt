@@ -39,9 +39,9 @@ fn unroll_circuit<W: Write>(
     write_short(&unrolled, to, out)
 }
 
-/// Reads a circuit, unrolls it for this many frames, and writes the unrolled circuit in a format: for every circuit file
-/// that is accepted, the bytes that are written are the short spelling of the unrolled circuit. Where the circuit is not
-/// unrolled, or no memory was found for its levels, nothing is written.
+/// Reads a circuit, unrolls it for this many frames, and writes the unrolled circuit in a format: for every circuit
+/// file that is accepted, the bytes that are written are the short spelling of the unrolled circuit. Where the circuit
+/// is not unrolled, or no memory was found for its levels, nothing is written.
 pub fn unroll_bytes<W: Write>(
     alloc: Global,
     circuit: &[u8],

@@ -349,8 +349,8 @@ impl<G: Grid> Bench<G> {
         write_frames(out, &self.grid, &self.plan)
     }
 
-    /// The current circuit unrolled for as many frames as there are, as `unroll` gives it: with the gates of a frame in the
-    /// canonical order of the circuit as it is now. It takes memory (profile).
+    /// The current circuit unrolled for as many frames as there are, as `unroll` gives it: with the gates of a frame in
+    /// the canonical order of the circuit as it is now. It takes memory (profile).
     pub fn unrolled(&self, alloc: Global) -> Result<Circuit, UnrollFault>
         ensures answers { AnswersUnrolling self.now.pair.circuit (length self.now.pair.rows) result }
         ensures ready { IfOk result IsBinaryReady }

@@ -3,6 +3,7 @@ use crate::script_fault::ScriptFault;
 use aig_base::Fault;
 use aig_bench::BenchFault;
 use aig_sim::{StimFault, WitnessFault};
+use aig_unroll::UnrollFault;
 use std::test::Fail;
 
 #[test]
@@ -42,6 +43,10 @@ fn parts_and_texts(rt: HostRuntime) -> Result<(), Fail> {
         (RunFault::Script(ScriptFault::Memory), "script: memory"),
         (RunFault::Output, "output: input or output"),
         (RunFault::Memory, "memory"),
+        (RunFault::Unroll(UnrollFault::NoFrames), "unroll: no frames"),
+        (RunFault::Unroll(UnrollFault::Liveness), "unroll: liveness"),
+        (RunFault::Unroll(UnrollFault::Limit), "unroll: limit"),
+        (RunFault::Unroll(UnrollFault::Memory), "unroll: memory"),
     ] {
         assert_eq!(rt; fault.to_string(rt.alloc())?.as_str(), text);
     }
