@@ -153,8 +153,8 @@ def measure(make, rounds, loads, many, few):
     write("empty", [])
     write("none", [])
     write("rows", [*rng.choices("01", k=circuit.inputs), "\n"])
-    write("script", ["w 0 2 2\n"] * many)
-    at_once = microseconds("none", "script", many)
+    write("script", ["w 0 2 2\n"] * 100_000)
+    at_once = microseconds("none", "script", 100_000)
     for load in loads:
         lines = ["w %d %d %d\n" % line for line in load(circuit, rng, many)]
         write("script", lines)
