@@ -10,16 +10,19 @@ import sys
 AIG = os.environ["AIG"]
 GROWTH = os.environ["GROWTH"]
 GRIDS = os.environ["GRIDS"]
+AIG_PLANES = os.environ["AIG_PLANES"]
+AIG_BYTES = os.environ["AIG_BYTES"]
 PLAIN = os.environ["TARGET"] + "/plain"
+LOADS = os.environ["TARGET"] + "/loads"
 GENERATE = os.environ["TARGET"] + "/generate"
 TIMES = int(os.environ["TIMES"])
 SOURCES = ["1000", "1000", "100"]  # inputs, latches, outputs
 
 
-def make(name, *words):
+def make(name, *words, by=GENERATE):
     """A generated file."""
     with open(name, "wb") as out:
-        subprocess.run([GENERATE, *words], stdout=out, check=True)
+        subprocess.run([by, *map(str, words)], stdout=out, check=True)
     return name
 
 
@@ -84,9 +87,13 @@ def head(title, *cells):
     row(*["---"] * len(cells))
 
 
-def conversions(text, binary):
+def conversions():
     """Whole runs, and their steps by differences: a file with a wrong byte at its end is parsed and refused, one that is
     written to a full device is parsed and checked. The plain program has no check."""
+    text = make("million.aag", "circuit", "random", *SOURCES, "1000000")
+    binary = "million.aig"
+    with open(binary, "wb") as out:
+        subprocess.run([PLAIN, "toaig", text], stdout=out, check=True)
     whole, steps = [], []
     for source in (text, binary):
         form = source[-3:]
@@ -169,6 +176,75 @@ def grids():
     row("greatest resident size", *(f"{size / 1e6:.0f} MB" for size in sizes), "", "", f"{sizes[1] / sizes[0]:.2f}")
 
 
+# Copies of a cipher, bits of half its state, rounds: few cells touched an edit, or nearly all.
+CIPHERS = [("sparse", 10, 16, 6), ("sparse", 104, 16, 6), ("sparse", 1041, 16, 6),
+           ("dense", 1, 64, 16), ("dense", 1, 64, 156), ("dense", 1, 64, 1562)]
+EDITED_FRAMES = 16
+TOUCHED = 20_000_000  # cells that a load is to touch, about
+SWEPT = 200_000_000  # cells that a program which computes all frames anew is to compute, at most, about
+
+
+def edits():
+    """Time an edit: that of a script, less that of an empty one."""
+    head(f"Edits of {EDITED_FRAMES} frames (processor time an edit; touched cells an edit).", "load", "kind", "gates",
+         "edits", "touched", "plain, sweeps", "plain, events", "aig", "a touched cell: plain", "a touched cell: aig",
+         "aig / plain", "planes / bytes")
+    for kind, *cipher in CIPHERS:
+        gates = 10 * cipher[0] * cipher[1] * cipher[2]
+        circuit = make("cipher.aag", "circuit", *cipher, by=LOADS)
+        rows = make("zeros", "stimulus", *cipher[:2], EDITED_FRAMES, by=LOADS)
+        none = make("nothing", "script", "bits", *cipher, EDITED_FRAMES, 0, by=LOADS)
+        programs = [[PLAIN, "sweeps"], [PLAIN, "events"], [AIG, "bench"], [AIG_PLANES, "bench"], [AIG_BYTES, "bench"]]
+        programs = [[*words, circuit, rows] for words in programs]
+        idle = best(*(Run([*words, none]) for words in programs))
+        for load in ("bits", "late", "rewires", "resets", "frames"):
+
+            def script(count):
+                return make(f"{load}.{count}", "script", load, *cipher, EDITED_FRAMES, count, by=LOADS)
+
+            def touched(count):
+                words = [PLAIN, "touched", circuit, rows, script(count)]
+                return int(subprocess.run(words, stdout=subprocess.PIPE, check=True).stdout)
+
+            first = 20
+            count = 2 * max(5, min(10_000, TOUCHED * first // touched(first) // 2))
+            swept = 2 * max(1, min(count, SWEPT // (gates * EDITED_FRAMES)) // 2)
+            long, short = script(count), script(swept)
+            for words in programs[2:]:
+                same([*programs[1], long], [*words, long])
+            same([*programs[0], short], [*programs[1], short])
+            times = best(Run([*programs[0], short]), *(Run([*words, long]) for words in programs[1:]))
+            counts = [swept] + [count] * 4
+            each = [(time - empty) / number for time, empty, number in zip(times, idle, counts)]
+            cells = touched(count) / count
+            row(load, kind, f"{gates:,}", f"{count:,}", f"{cells:,.0f}", *(f"{time * 1e6:,.1f} µs" for time in each[:3]),
+                *(f"{time / cells * 1e9:.1f} ns" for time in each[1:3]), f"{each[2] / each[1]:.2f}",
+                f"{each[3] / each[4]:.2f}")
+
+
+def benches():
+    """Making a bench with both grids, and its memory."""
+    circuit = make("wide.aag", "circuit", 1040, 16, 6, by=LOADS)
+    with open(circuit) as file, open("widest.aag", "w") as out:
+        words = file.readline().split()
+        words[1] = "1048575"
+        print(*words, file=out)
+        out.writelines(file)
+    rows = [make(f"zeros.{frames}", "stimulus", 1040, 16, frames, by=LOADS) for frames in (0, 64)]
+    none = make("nothing", "script", "late", 1040, 16, 6, 64, 0, by=LOADS)
+    open("empty", "w").close()
+    programs = [[PLAIN, "events"], [AIG_BYTES, "bench"], [AIG_PLANES, "bench"]]
+    same(*([*words, "widest.aag", rows[1], none] for words in programs[1:]))
+    runs = [[*words, "widest.aag", file, "empty"] for file in rows for words in programs]
+    times = best(*map(Run, runs))
+    head("A bench of 998,400 gates, and its 64 frames of 1,048,576 cells (processor time).", "work", "plain, events",
+         "bytes", "planes", "planes / bytes")
+    for work, made in (("load", times[:3]), ("frames", [all - load for load, all in zip(times[:3], times[3:])])):
+        row(work, *map(milliseconds, made), f"{made[2] / made[1]:.2f}")
+    sizes = [greatest_size(words) for words in runs[3:]]
+    row("greatest resident size", *(f"{size / 1e6:.0f} MB" for size in sizes), f"{sizes[2] / sizes[1]:.2f}")
+
+
 def machine():
     with open("/proc/cpuinfo") as file:
         model = next(line.split(":")[1].strip() for line in file if line.startswith("model name"))
@@ -180,14 +256,10 @@ def machine():
 
 def main():
     machine()
-    text = make("million.aag", "circuit", "random", *SOURCES, "1000000")
-    binary = "million.aig"
-    with open(binary, "wb") as out:
-        subprocess.run([PLAIN, "toaig", text], stdout=out, check=True)
-    conversions(text, binary)
-    simulations()
-    growth()
-    grids()
+    parts = {"conversions": conversions, "simulations": simulations, "growth": growth, "grids": grids, "edits": edits,
+             "benches": benches}
+    for name in sys.argv[1:] or parts:
+        parts[name]()
 
 
 if __name__ == "__main__":

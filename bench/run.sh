@@ -1,11 +1,12 @@
 #!/usr/bin/env bash
 # Measures the toolkit against plain Rust programs, and prints tables in Markdown.
-# usage: bench/run.sh
+# usage: bench/run.sh [PART..]        (conversions, simulations, growth, grids, edits, benches; without a part: all)
 #
 # AIG=PROGRAM       measures this program (else the proved crates/aig/out/aig; where that is not there, one is built
 #                   without proofs by bench/build_unproved.sh)
 # GROWTH=PROGRAM    takes this growth program (else it is built without proofs)
 # GRIDS=PROGRAM     takes this program that times grids (else it is built without proofs)
+# AIG_PLANES=PROGRAM, AIG_BYTES=PROGRAM     take these with a bench of either grid (else they are built without proofs)
 # TIMES=N           takes the best of N runs (else of 5)
 # It needs cargo, python3 and rt, and 500 MB for files. Nothing is written outside a temporary folder.
 set -eu
@@ -53,11 +54,23 @@ if [ -z "${GRIDS:-}" ]; then
     GRIDS=$room/grids
     "$bench/build_unproved.sh" "$room/repository" grids "$GRIDS"
 fi
+# The program as it is, and with the other grid in its bench: both built in the same way.
+if [ -z "${AIG_PLANES:-}" ]; then
+    AIG_PLANES=$room/aig_planes
+    "$bench/build_unproved.sh" "$room/repository" aig "$AIG_PLANES"
+fi
+if [ -z "${AIG_BYTES:-}" ]; then
+    AIG_BYTES=$room/aig_bytes
+    sed -i 's/PlaneGrid/ByteGrid/g' "$room/repository/crates/aig/src/"*.rt
+    "$bench/build_unproved.sh" "$room/repository" aig "$AIG_BYTES"
+fi
 
 AIG=$(realpath "$AIG")
 GROWTH=$(realpath "$GROWTH")
 GRIDS=$(realpath "$GRIDS")
+AIG_PLANES=$(realpath "$AIG_PLANES")
+AIG_BYTES=$(realpath "$AIG_BYTES")
 mkdir "$room/files"
 cd "$room/files"
-export AIG GROWTH GRIDS KIND="$kind" TARGET=$room/target/release TIMES=${TIMES:-5}
-python3 "$bench/measure.py"
+export AIG AIG_PLANES AIG_BYTES GROWTH GRIDS KIND="$kind" TARGET=$room/target/release TIMES=${TIMES:-5}
+python3 "$bench/measure.py" "$@"

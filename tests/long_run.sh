@@ -6,7 +6,7 @@
 set -u
 cd "$(dirname "$0")/.."
 aig=$(realpath "${1:-crates/aig/out/aig}")
-seconds=60
+seconds=60 # of processor time
 room=$(mktemp -d)
 trap 'rm -rf "$room"' EXIT
 cd "$room" || exit 2
@@ -21,9 +21,9 @@ awk 'BEGIN { for (p = 1; p <= 524287; p++) printf "0"; print "" }' > rows
 awk 'BEGIN { for (k = 1; k <= 1000000; k++) print "s 0 0", k % 2; print "s 0 0 1\nv 0 1048576\nv 0 1048578" }' > script
 awk 'BEGIN { for (k = 1; k <= 1000001; k++) print "ok"; print "1\n0" }' > wanted
 
-timeout "$seconds" "$aig" bench circuit rows script > got 2> err
+(ulimit -t "$seconds" && exec "$aig" bench circuit rows script) > got 2> err
 status=$?
-if [ $status = 124 ]; then
+if [ $status -gt 128 ]; then
     echo "FAILED: the long run does not end within $seconds seconds"
 elif [ $status = 0 ] && cmp -s wanted got && [ ! -s err ]; then
     echo "the long run passed"

@@ -1,113 +1,145 @@
 //! Reports of worked examples, with both grids.
 use super::{bench, parts, two_gates, with_gate, with_latch};
-use crate::{EditFault, EditReport};
-use aig_base::{Lit, Tern};
+use crate::{Bench, EditFault, EditReport};
+use aig_base::{Lit, Raw, Tern};
 use aig_sim::{ByteGrid, Grid, PlaneGrid};
 use std::alloc::Global;
 use std::test::Fail;
 
-// An accepted edit that evaluated and changed so many cells.
-fn report(evaluated: u64, changed: u64) -> Result<EditReport, EditFault> {
-    Ok(EditReport { evaluated, changed })
+/// An edit.
+#[derive(Clone, Copy)]
+enum Step {
+    Bit(u32, u32, Tern),
+    Sides(u32, u32, u32),
+    Reset(u32, Tern),
+    Add(Tern, Tern),
+    AddOne(Tern),
+    Drop,
 }
 
-// A bit and then a gate of two frames, and the bit that stands already.
-fn are_right_for_two_frames<G: Grid>(alloc: Global) -> Result<bool, Fail> {
-    let mut bench = bench::<G>(alloc, two_gates(alloc)?, 2, b"11\n01\n")?;
-    let bit = bench.set_bit(0, 1, Tern::Zero);
-    let gate = bench.rewire(Lit::new(6), Lit::new(2), Lit::new(2));
-    let same = bench.set_bit(0, 1, Tern::Zero);
-    Ok((bit, gate, same) == (report(2, 2), report(3, 2), report(0, 0)))
+fn edit<G: Grid>(bench: &mut Bench<G>, step: Step) -> Result<EditReport, EditFault> {
+    match step {
+        Step::Bit(frame, position, value) => bench.set_bit(frame, position, value),
+        Step::Sides(lhs, r0, r1) => bench.rewire(Lit::new(lhs), Lit::new(r0), Lit::new(r1)),
+        Step::Reset(latch, value) => bench.set_reset(Lit::new(latch), value),
+        Step::Add(first, second) => bench.add_frame(&[first, second]),
+        Step::AddOne(value) => bench.add_frame(&[value]),
+        Step::Drop => bench.drop_frame(),
+    }
 }
 
-// Two gates that change places, and a frame that comes and goes.
-fn are_right_for_one_frame<G: Grid>(alloc: Global) -> Result<bool, Fail> {
-    let mut bench = bench::<G>(alloc, two_gates(alloc)?, 2, b"11\n")?;
-    let above = bench.rewire(Lit::new(8), Lit::new(2), Lit::new(4));
-    let below = bench.rewire(Lit::new(6), Lit::new(8), Lit::new(2));
-    let more = bench.add_frame(&[Tern::Zero, Tern::One]);
-    let less = bench.drop_frame();
-    Ok(
-        (above, below) == (report(1, 0), report(1, 0))
-            && (more, less) == (report(2, 0), report(0, 0)),
-    )
+// Whether edits of this circuit and stimulus, in turn, evaluate and change so many cells.
+fn report<G: Grid>(
+    alloc: Global,
+    raw: Raw,
+    width: u32,
+    text: &[u8],
+    steps: &[(Step, u64, u64)],
+) -> Result<bool, Fail> {
+    let mut bench = bench::<G>(alloc, raw, width, text)?;
+    for (step, evaluated, changed) in steps {
+        let wanted = EditReport {
+            evaluated: *evaluated,
+            changed: *changed,
+        };
+        if edit(&mut bench, *step) != Ok(wanted) {
+            return Ok(false);
+        }
+    }
+    Ok(true)
 }
 
-// The start of a latch that keeps itself.
-fn are_right_for_a_reset<G: Grid>(alloc: Global) -> Result<bool, Fail> {
-    let latch = with_latch(parts(alloc, 3, &[2], &[4])?, 4, 6, 4)?;
-    let mut bench = bench::<G>(alloc, with_gate(latch, 6, 4, 2)?, 1, b"1\n1\n")?;
-    Ok(bench.set_reset(Lit::new(4), Tern::One) == report(2, 2))
+// A latch that keeps itself, uninitialised.
+fn feedback(alloc: Global) -> Result<Raw, Fail> {
+    with_gate(with_latch(parts(alloc, 3, &[2], &[4])?, 4, 6, 4)?, 6, 4, 2)
 }
 
-// A gate whose sides change and whose value stays.
-fn are_right_for_a_gate_that_stays<G: Grid>(alloc: Global) -> Result<bool, Fail> {
-    let sides = with_gate(parts(alloc, 4, &[2], &[8])?, 4, 2, 2)?;
-    let raw = with_gate(with_gate(sides, 6, 3, 3)?, 8, 6, 4)?;
-    let mut bench = bench::<G>(alloc, raw, 1, b"1\n")?;
-    Ok(bench.set_bit(0, 0, Tern::Zero) == report(3, 2))
+// A gate whose sides change together, and whose value stays.
+fn sides_that_change(alloc: Global) -> Result<Raw, Fail> {
+    let side = with_gate(parts(alloc, 4, &[2], &[8])?, 4, 2, 2)?;
+    with_gate(with_gate(side, 6, 3, 3)?, 8, 6, 4)
 }
 
-// A gate that reads an unknown value and its negation.
-fn are_right_for_an_unknown<G: Grid>(alloc: Global) -> Result<bool, Fail> {
-    let raw = with_gate(parts(alloc, 2, &[2], &[4])?, 4, 2, 3)?;
-    let mut bench = bench::<G>(alloc, raw, 1, b"x\n")?;
-    let bit = bench.set_bit(0, 0, Tern::One);
-    Ok((bit, bench.set_bit(0, 0, Tern::One)) == (report(1, 1), report(0, 0)))
+fn a_and_not_a(alloc: Global) -> Result<Raw, Fail> {
+    with_gate(parts(alloc, 2, &[2], &[4])?, 4, 2, 3)
 }
 
 // Cells on both sides of a word's end.
-fn are_right_for_two_words<G: Grid>(alloc: Global) -> Result<bool, Fail> {
-    let input = with_gate(parts(alloc, 65, &[128], &[130])?, 126, 128, 128)?;
-    let mut bench = bench::<G>(alloc, with_gate(input, 130, 127, 129)?, 1, b"0\n")?;
-    let before = bench.value(0, Lit::new(130));
-    let edits = (bench.set_bit(0, 0, Tern::One), bench.drop_frame());
-    let more = bench.add_frame(&[Tern::X]);
-    let after = bench.value(0, Lit::new(130));
-    Ok(
-        edits == (report(2, 2), report(0, 0))
-            && (before, more, after) == (Ok(Tern::One), report(2, 0), Ok(Tern::X)),
+fn two_words(alloc: Global) -> Result<Raw, Fail> {
+    with_gate(
+        with_gate(parts(alloc, 65, &[128], &[130])?, 126, 128, 128)?,
+        130,
+        127,
+        129,
     )
 }
 
 // Two latches read the input, one of them its negation, and a third reads the first of these.
-fn are_right_for_carried_latches<G: Grid>(alloc: Global) -> Result<bool, Fail> {
+fn latches_in_a_row(alloc: Global) -> Result<Raw, Fail> {
     let raw = with_latch(parts(alloc, 5, &[2], &[10])?, 4, 2, 0)?;
-    let raw = with_latch(with_latch(raw, 6, 3, 0)?, 8, 4, 0)?;
-    let mut bench = bench::<G>(alloc, with_gate(raw, 10, 8, 6)?, 1, b"0\n0\n0\n0\n")?;
-    let bit = bench.set_bit(0, 0, Tern::One);
-    let first = bench.set_reset(Lit::new(4), Tern::One);
-    let third = bench.set_reset(Lit::new(8), Tern::One);
-    let second = bench.set_reset(Lit::new(6), Tern::One);
-    let last = bench.set_bit(3, 0, Tern::One);
-    let back = bench.set_bit(0, 0, Tern::Zero);
-    Ok(
-        (bit, first, third) == (report(2, 1), report(1, 0), report(1, 0))
-            && (second, last, back) == (report(1, 1), report(0, 0), report(2, 2)),
-    )
+    with_gate(with_latch(with_latch(raw, 6, 3, 0)?, 8, 4, 0)?, 10, 8, 6)
 }
 
-// Whether all of them are right.
-fn are_right<G: Grid>(alloc: Global) -> Result<bool, Fail> {
-    Ok(
-        are_right_for_two_frames::<G>(alloc)?
-            & are_right_for_one_frame::<G>(alloc)?
-            & are_right_for_a_reset::<G>(alloc)?
-            & are_right_for_a_gate_that_stays::<G>(alloc)?
-            & are_right_for_an_unknown::<G>(alloc)?
-            & are_right_for_two_words::<G>(alloc)?
-            & are_right_for_carried_latches::<G>(alloc)?,
-    )
+// Whether the edits of two gates are right.
+fn gates_report<G: Grid>(alloc: Global) -> Result<bool, Fail> {
+    let two_frames = [
+        (Step::Bit(0, 1, Tern::Zero), 2, 2),
+        (Step::Sides(6, 2, 2), 3, 2),
+        (Step::Bit(0, 1, Tern::Zero), 0, 0),
+    ];
+    let one_frame = [(Step::Sides(8, 2, 4), 1, 0), (Step::Sides(6, 8, 2), 1, 0)];
+    let frames = [(Step::Add(Tern::Zero, Tern::One), 2, 0), (Step::Drop, 0, 0)];
+    let first = report::<G>(alloc, two_gates(alloc)?, 2, b"11\n01\n", &two_frames)?;
+    let second = report::<G>(alloc, two_gates(alloc)?, 2, b"11\n", &one_frame)?;
+    let third = report::<G>(alloc, two_gates(alloc)?, 2, b"11\n", &frames)?;
+    Ok(first & second & third)
+}
+
+// Whether those that reach later frames are.
+fn latches_report<G: Grid>(alloc: Global) -> Result<bool, Fail> {
+    let steps = [
+        (Step::Bit(0, 0, Tern::One), 2, 1),
+        (Step::Reset(4, Tern::One), 1, 0),
+        (Step::Reset(8, Tern::One), 1, 0),
+        (Step::Reset(6, Tern::One), 1, 1),
+        (Step::Bit(3, 0, Tern::One), 0, 0),
+        (Step::Bit(0, 0, Tern::Zero), 2, 2),
+    ];
+    report::<G>(alloc, latches_in_a_row(alloc)?, 1, b"0\n0\n0\n0\n", &steps)
+}
+
+// Whether those of other circuits are.
+fn others_report<G: Grid>(alloc: Global) -> Result<bool, Fail> {
+    let reset = [(Step::Reset(4, Tern::One), 2, 2)];
+    let bit = [(Step::Bit(0, 0, Tern::Zero), 3, 2)];
+    let unknown = [
+        (Step::Bit(0, 0, Tern::One), 1, 1),
+        (Step::Bit(0, 0, Tern::One), 0, 0),
+    ];
+    let words = [
+        (Step::Bit(0, 0, Tern::One), 2, 2),
+        (Step::Drop, 0, 0),
+        (Step::AddOne(Tern::X), 2, 0),
+    ];
+    let first = report::<G>(alloc, feedback(alloc)?, 1, b"1\n1\n", &reset)?;
+    let second = report::<G>(alloc, sides_that_change(alloc)?, 1, b"1\n", &bit)?;
+    let third = report::<G>(alloc, a_and_not_a(alloc)?, 1, b"x\n", &unknown)?;
+    let fourth = report::<G>(alloc, two_words(alloc)?, 1, b"0\n", &words)?;
+    Ok(first & second & third & fourth)
 }
 
 #[test]
 fn reports_of_bytes(rt: HostRuntime) -> Result<(), Fail> {
-    assert!(rt; are_right::<ByteGrid>(rt.alloc())?);
+    assert!(rt; gates_report::<ByteGrid>(rt.alloc())?);
+    assert!(rt; others_report::<ByteGrid>(rt.alloc())?);
+    assert!(rt; latches_report::<ByteGrid>(rt.alloc())?);
     Ok(())
 }
 
 #[test]
 fn reports_of_planes(rt: HostRuntime) -> Result<(), Fail> {
-    assert!(rt; are_right::<PlaneGrid>(rt.alloc())?);
+    assert!(rt; gates_report::<PlaneGrid>(rt.alloc())?);
+    assert!(rt; others_report::<PlaneGrid>(rt.alloc())?);
+    assert!(rt; latches_report::<PlaneGrid>(rt.alloc())?);
     Ok(())
 }

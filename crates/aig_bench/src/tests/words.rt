@@ -2,6 +2,7 @@
 ghost use Rattle.std.specs.Prelude.{◌<◌, ◌≤◌};
 
 use super::{bench, parts};
+use crate::{Bench, EditFault, EditReport};
 use aig_base::{Gate, Lit, Raw, Tern};
 use aig_sim::{ByteGrid, Grid, PlaneGrid};
 use std::alloc::Global;
@@ -24,26 +25,43 @@ fn chain(alloc: Global, max_var: u32) -> Result<Raw, Fail>
     Ok(raw)
 }
 
+// The values at the end of the chain behind an edit and in a new frame, and whether both went through all gates.
+fn ends<G: Grid>(
+    bench: &mut Bench<G>,
+    gates: u64,
+) -> (Result<Tern, EditFault>, Result<Tern, EditFault>, bool) {
+    let bit = bench.set_bit(0, 0, Tern::One);
+    let more = bench.add_frame(&[Tern::X]);
+    let is_whole = bit
+        == Ok(EditReport {
+            evaluated: gates,
+            changed: gates,
+        })
+        && more
+            == Ok(EditReport {
+                evaluated: gates,
+                changed: 0,
+            });
+    (
+        bench.value(0, Lit::new(2)),
+        bench.value(1, Lit::new(2)),
+        is_whole,
+    )
+}
+
 // Whether an edit of the input goes through all gates, and a new frame does.
 fn is_right<G: Grid>(alloc: Global, max_var: u32) -> Result<bool, Fail>
     requires positive { 0 < max_var }
     requires limit { max_var ≤ 1000 }
 {
-    let mut bench = bench::<G>(alloc, chain(alloc, max_var)?, 1, b"0\n")?;
-    let gates = u64::from(max_var - 1);
+    let raw = chain(alloc, max_var)?;
+    let mut bench = bench::<G>(alloc, raw, 1, b"0\n")?;
     let end = if max_var % 2 == 1 {
         Tern::One
     } else {
         Tern::Zero
     };
-    let bit = bench.set_bit(0, 0, Tern::One)?;
-    let value = bench.value(0, Lit::new(2));
-    let more = bench.add_frame(&[Tern::X])?;
-    let unknown = bench.value(1, Lit::new(2));
-    Ok(
-        (bit.evaluated, bit.changed, more.evaluated, more.changed) == (gates, gates, gates, 0)
-            && (value, unknown) == (Ok(end), Ok(Tern::X)),
-    )
+    Ok(ends(&mut bench, u64::from(max_var - 1)) == (Ok(end), Ok(Tern::X), true))
 }
 
 #[test]
