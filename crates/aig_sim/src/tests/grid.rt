@@ -43,7 +43,7 @@ fn is_right<G: Grid>(alloc: Global) -> Result<bool, Fail> {
     Ok(one == (Tern::Zero, Tern::Zero, false) && unknown == (Tern::X, Tern::X, false))
 }
 
-// The value of a gate that comes behind all variables, at the second of two rows: before and after it is evaluated; then
+// The value of a gate that comes behind all variables: at the second of two rows before and after it is evaluated, and
 // at the first row.
 fn added<G: Grid>(alloc: Global) -> Result<(Tern, Tern, Tern), Fail> {
     let mut grid = G::new(alloc, &[false, false])?;
