@@ -18,10 +18,15 @@ fn appended(
     }
     append_gate(circuit, &mut levels, &mut readers, r0, r1)?;
     let last = circuit.max_var();
+    let first = r0.var();
+    let second = r1.var();
+    if first > last || second > last {
+        return Err("out of range".into());
+    }
     Ok((
         levels.level(last),
-        readers.list(r0.var()).contains(&last),
-        readers.list(r1.var()).contains(&last),
+        readers.list(first).contains(&last),
+        readers.list(second).contains(&last),
     ))
 }
 
