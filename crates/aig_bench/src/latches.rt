@@ -1,5 +1,5 @@
-//! The latches that read a variable, and lists of latches, without memory once they are made. A latch's number here is one
-//! more than its position.
+//! The latches that read a variable, and lists of latches, which take no memory once they are made. A latch's number
+//! here is one more than its position.
 ghost use Rattle.std.specs.Prelude.{◌≡◌, ◌≢◌, ◌↔◌, ℕ, ◌+◌, ◌*◌, ◌<◌, ◌≤◌, length, IfOk, IfSome, IfNone, IsTrue, Some, slice_get};
 ghost use Rattle.aig_base.specs.declared.raw.Raw.{Raw};
 ghost use Rattle.aig_bench.specs.Latches.{AreLatchReaders, Follows, IsLatchList, IsListed, Lists};
