@@ -1,4 +1,4 @@
--- The exit status of a refused run (profile).
+-- The exit status of a refused run, and of the program (profile).
 use Rattle.std.specs.Prelude.{ℕ}
 use Rattle.aig_base.specs.declared.fault.Fault.TheVariants as circuits
 use Rattle.aig_sim.specs.declared.stimulus_fault.StimFault.TheVariants as stimuli
@@ -7,6 +7,8 @@ use Rattle.aig_bench.specs.declared.bench_fault.BenchFault.TheVariants as benche
 use Rattle.aig_unroll.specs.declared.fault.UnrollFault.TheVariants as unrollings
 use Rattle.aig.specs.declared.run_fault.RunFault.{RunFault}
 use Rattle.aig.specs.declared.run_fault.RunFault.TheVariants.{Circuit, Stimulus, Witness, Bench, Script, Output, Memory, Unroll}
+use Rattle.aig.specs.declared.stop.Stop.{Stop}
+use Rattle.aig.specs.declared.stop.Stop.TheVariants as stops
 
 -- 3 where memory was wanting, or a read or a write failed; 1 for any other refusal
 abbrev pub status_of : RunFault → ℕ
@@ -25,3 +27,12 @@ status_of Output = 3
 status_of Memory = 3
 status_of (Unroll unrollings.Memory) = 3
 status_of (Unroll _) = 1
+
+-- 2 where the words are wrong; 3 for a witness's file that is not read; 1 for a verdict other than confirmed; else the run's
+abbrev pub status_of_stop : Stop → ℕ
+status_of_stop stops.Told = 2
+status_of_stop stops.NoTask = 2
+status_of_stop stops.NotText = 2
+status_of_stop (stops.Run fault) = status_of fault
+status_of_stop stops.Witness = 3
+status_of_stop stops.NotConfirmed = 1

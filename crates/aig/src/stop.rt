@@ -1,4 +1,6 @@
 //! What ends the program early.
+ghost use Rattle.std.specs.Prelude.{◌≡◌};
+ghost use Rattle.aig.specs.Status.{status_of_stop};
 
 use crate::run_fault::RunFault;
 use std::io;
@@ -39,7 +41,9 @@ impl Stop {
     }
 
     /// The exit status: 2 where the words are wrong, 1 for a verdict, else that of the fault.
-    pub fn status(&self) -> u8 {
+    pub fn status(&self) -> u8
+        ensures { result ≡ status_of_stop self.now }
+    {
         match self {
             Stop::Told | Stop::NoTask | Stop::NotText => 2,
             Stop::Run(fault) => fault.status(),

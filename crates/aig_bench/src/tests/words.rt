@@ -1,7 +1,7 @@
 //! Circuits that end at, before and behind the end of a word of 64 cells, with both grids.
 ghost use Rattle.std.specs.Prelude.{◌<◌, ◌≤◌};
 
-use super::{bench, parts};
+use super::{Parts, bench, circuit};
 use crate::{Bench, EditFault, EditReport};
 use aig_base::{Gate, Lit, Raw, Tern};
 use aig_sim::{ByteGrid, Grid, PlaneGrid};
@@ -10,10 +10,10 @@ use std::test::Fail;
 
 // An input at the greatest variable, and below it a chain of gates down to variable 1, each the negation of the variable
 // above.
-fn chain(alloc: Global, max_var: u32) -> Result<Raw, Fail>
+fn link(raw: &mut Raw, max_var: u32) -> Result<(), Fail>
     requires { max_var ≤ 1000 }
 {
-    let mut raw = parts(alloc, max_var, &[2 * max_var], &[])?;
+    raw.inputs.push(Lit::new(2 * max_var))?;
     for variable in 1..max_var {
         let above = Lit::new(2 * variable + 3);
         raw.gates.push(Gate {
@@ -22,7 +22,7 @@ fn chain(alloc: Global, max_var: u32) -> Result<Raw, Fail>
             rhs1: above,
         })?;
     }
-    Ok(raw)
+    Ok(())
 }
 
 // The values at the end of the chain behind an edit and in a new frame, and whether both went through all gates.
@@ -54,8 +54,9 @@ fn is_right<G: Grid>(alloc: Global, max_var: u32) -> Result<bool, Fail>
     requires positive { 0 < max_var }
     requires limit { max_var ≤ 1000 }
 {
-    let raw = chain(alloc, max_var)?;
-    let mut bench = bench::<G>(alloc, raw, 1, b"0\n")?;
+    let mut raw = Parts::empty(alloc, max_var);
+    link(&mut raw, max_var)?;
+    let mut bench = bench::<G>(alloc, circuit(alloc, raw)?, b"0\n")?;
     let end = if max_var % 2 == 1 {
         Tern::One
     } else {
