@@ -10,6 +10,7 @@ pub mod Entries
 pub mod Flags
 pub mod Handed
 pub mod Height
+pub mod Kept
 pub mod LatchChains
 pub mod LatchLists
 pub mod Layouts
@@ -17,6 +18,7 @@ pub mod Linked
 pub mod Lowest
 pub mod Named
 pub mod Others
+pub mod Outputs
 pub mod Passing
 pub mod PassingStep
 pub mod Puts

@@ -5,7 +5,7 @@ use Rattle.aig_base.specs.Literal.{variable}
 use Rattle.aig_base.specs.Sections.{IsDefined, IsLeftSide, IsLatchLiteral}
 use Rattle.aig_base.specs.Grounded.{IsAcyclic}
 use Rattle.aig_base.specs.Sound.{IsInRange}
-use Rattle.aig_base.specs.Changes.{with_gate, with_reset}
+use Rattle.aig_base.specs.Changes.{with_gate, with_reset, with_output, with_appended_gate}
 use Rattle.aig_sim.specs.InputRows.{with_cell}
 use Rattle.aig_bench.specs.declared.edit.EditFault.{EditFault}
 use Rattle.aig_bench.specs.declared.edit.EditFault.TheVariants as fault
@@ -17,6 +17,8 @@ pub data Edit : Type 0 where
   set_bit : (frame position : ℕ) (value : Tern) → Edit
   add_frame : (row : List Tern) → Edit
   drop_frame : Edit
+  append_gate : (r0 r1 : ℕ) → Edit
+  set_output : (position literal : ℕ) → Edit
 
 -- what the edit makes of the pair, where it is accepted
 abbrev pub edited : Pair → Edit → Pair
@@ -25,6 +27,8 @@ edited p (set_reset latch w) = record p { circuit = with_reset p.circuit latch w
 edited p (set_bit t i w) = record p { rows = with_cell p.rows t i w }
 edited p (add_frame row) = record p { rows = p.rows ++ row ∷ [] }
 edited p drop_frame = record p { rows = take (length p.rows - 1) p.rows }
+edited p (append_gate r0 r1) = record p { circuit = with_appended_gate p.circuit r0 r1 }
+edited p (set_output i l) = record p { circuit = with_output p.circuit i l }
 
 -- the fault applies to the edit; want of memory is none of an edit's own
 abbrev pub Forbids : Pair → Edit → EditFault → Type 0
@@ -38,6 +42,12 @@ Forbids p (set_bit t i w) fault.NoInput = length p.circuit.inputs ≤ i
 Forbids p (add_frame row) fault.Length = length row ≢ length p.circuit.inputs
 Forbids p (add_frame row) fault.Limit = ((p.circuit.max_var + 1) * (length p.rows + 1) ≤ 67108864) × (length p.rows < 65536) → ⊥
 Forbids p drop_frame fault.Empty = p.rows ≡ []
+Forbids p (append_gate r0 r1) fault.Range = IsInRange p.circuit r0 × IsInRange p.circuit r1 → ⊥
+Forbids p (append_gate r0 r1) fault.Undefined = IsDefined p.circuit (variable r0) × IsDefined p.circuit (variable r1) → ⊥
+Forbids p (append_gate r0 r1) fault.Limit = (p.circuit.max_var < 4194303) × ((p.circuit.max_var + 2) * length p.rows ≤ 67108864) → ⊥
+Forbids p (set_output i l) fault.Range = IsInRange p.circuit l → ⊥
+Forbids p (set_output i l) fault.Undefined = IsDefined p.circuit (variable l) → ⊥
+Forbids p (set_output i l) fault.NoOutput = length p.circuit.outputs ≤ i
 Forbids p _ _ = ⊥
 
 abbrev pub number_of : EditFault → ℕ
@@ -52,6 +62,7 @@ number_of fault.Length = 8
 number_of fault.Empty = 9
 number_of fault.Limit = 10
 number_of fault.Memory = 11
+number_of fault.NoOutput = 13
 
 -- no fault applies
 abbrev pub NoneApplies : (EditFault → Type 0) → Type 0
@@ -68,6 +79,8 @@ TakesMemory (set_reset latch w) = ⊥
 TakesMemory (set_bit t i w) = ⊥
 TakesMemory (add_frame row) = Unit {0}
 TakesMemory drop_frame = ⊥
+TakesMemory (append_gate r0 r1) = Unit {0}
+TakesMemory (set_output i l) = ⊥
 
 -- such an edit found no memory; whether gates would close a cycle is looked for after that, and no other fault applies
 abbrev pub LacksMemory : Pair → Edit → EditFault → Type 0

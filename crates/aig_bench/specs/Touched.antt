@@ -4,7 +4,7 @@ use Rattle.aig_base.specs.declared.ternary.Tern.{Tern}
 use Rattle.aig_base.specs.declared.gate.Gate.{Gate}
 use Rattle.aig_base.specs.Literal.{variable}
 use Rattle.aig_base.specs.Sections.{IsGate}
-use Rattle.aig_bench.specs.Edit.{Edit, rewire, add_frame, edited}
+use Rattle.aig_bench.specs.Edit.{Edit, rewire, add_frame, append_gate, edited}
 use Rattle.aig_bench.specs.declared.edit.EditFault.{EditFault}
 use Rattle.aig_bench.specs.declared.edit.EditReport.{EditReport}
 use Rattle.aig_bench.specs.Pair.{Pair, BenchState, HasValue}
@@ -31,6 +31,7 @@ ReadsOther p p' t v =
 abbrev pub IsForced : Pair → Edit → ℕ → ℕ → Type 0
 IsForced p (rewire lhs r0 r1) t v = (t < length p.rows) × (v ≡ variable lhs)
 IsForced p (add_frame row) t v = (t ≡ length p.rows) × IsGate p.circuit v
+IsForced p (append_gate r0 r1) t v = (t < length p.rows) × (v ≡ p.circuit.max_var + 1)
 IsForced p _ t v = ⊥
 
 abbrev pub Touches : Pair → Edit → ℕ → ℕ → Type 0

@@ -1,10 +1,10 @@
 //! Which faults of an edit apply, before anything changes.
-ghost use Rattle.std.specs.Prelude.{◌≡◌, ◌↔◌, IfErr, IfOk, IfNone, IfSome, OnOk, IsTrue};
+ghost use Rattle.std.specs.Prelude.{◌≡◌, ◌↔◌, ◌⊎◌, ◌+◌, ◌*◌, ◌<◌, ◌≤◌, length, IfErr, IfOk, IfNone, IfSome, OnOk, IsTrue};
 ghost use Rattle.aig_base.specs.declared.ternary.Tern.{Tern};
 ghost use Rattle.aig_base.specs.Literal.{variable};
 ghost use Rattle.aig_base.specs.Sections.{IsDefined, IsLatchLiteral, IsLeftSide};
 ghost use Rattle.aig_base.specs.Sound.{IsInRange, IsSound};
-ghost use Rattle.aig_bench.specs.Edit.{Forbids, IsLeastFault, rewire, set_reset};
+ghost use Rattle.aig_bench.specs.Edit.{Forbids, IsLeastFault, NoneApplies, append_gate, rewire, set_output, set_reset};
 ghost use Rattle.aig_bench.specs.Latches.{IsLatchAt};
 ghost use Rattle.aig_bench.specs.Plan.{IsPlan, pair_of};
 
@@ -14,6 +14,9 @@ use aig_base::{Circuit, Definition, Lit};
 
 /// The greatest number of cells of a bench: variables times frames.
 pub const CELLS: u64 = 67_108_864;
+
+/// The greatest variable of a circuit.
+const MAX_VAR: u32 = 4_194_303;
 
 /// Whether a variable is 0 or defined.
 pub fn is_defined(circuit: &Circuit, variable: u32) -> bool
@@ -65,6 +68,35 @@ fn are_in_range(circuit: &Circuit, r0: Lit, r1: Lit) -> bool
     r0.var() <= circuit.max_var() && r1.var() <= circuit.max_var()
 }
 
+/// The fault of right sides: out of range, then undefined ones.
+fn check_sides(circuit: &Circuit, r0: Lit, r1: Lit) -> Result<(), EditFault>
+    ensures range { OnOk result (IsInRange circuit.now r0 × IsInRange circuit.now r1) }
+    ensures defined { OnOk result (IsDefined circuit.now (variable r0) × IsDefined circuit.now (variable r1)) }
+    ensures far { IfErr result (λ f. f ≡ EditFault.Range → IsInRange circuit.now r0 × IsInRange circuit.now r1 → ⊥) }
+    ensures near { IfErr result (λ f. f ≡ EditFault.Undefined → IsInRange circuit.now r0 × IsInRange circuit.now r1) }
+    ensures undefined { IfErr result (λ f. f ≡ EditFault.Undefined
+        → IsDefined circuit.now (variable r0) × IsDefined circuit.now (variable r1) → ⊥) }
+    ensures others { IfErr result (λ f. (f ≡ EditFault.Range) ⊎ (f ≡ EditFault.Undefined)) }
+{
+    if !are_in_range(circuit, r0, r1) {
+        return Err(EditFault::Range);
+    }
+    if !is_defined(circuit, r0.var()) || !is_defined(circuit, r1.var()) {
+        return Err(EditFault::Undefined);
+    }
+    Ok(())
+}
+
+/// Whether one more variable, and a cell of it at each frame, are within the limits.
+fn has_room_for_variable(plan: &Plan) -> bool
+    ensures { IsTrue result ↔ ((plan.now.circuit.max_var < 4194303)
+        × ((plan.now.circuit.max_var + 2) * length plan.now.stimulus.rows ≤ 67108864)) }
+{
+    let max_var = plan.circuit.max_var();
+    let frames = u64::from(plan.stimulus.frames());
+    max_var < MAX_VAR && (u64::from(max_var) + 2) * frames <= CELLS
+}
+
 /// The fault of a rewire, but for a cycle: no gate, then right sides out of range, then undefined ones.
 pub fn check_rewire(plan: &Plan, lhs: Lit, r0: Lit, r1: Lit) -> Result<(), EditFault>
     requires { IsPlan plan.now }
@@ -77,13 +109,7 @@ pub fn check_rewire(plan: &Plan, lhs: Lit, r0: Lit, r1: Lit) -> Result<(), EditF
     if !is_left_side(circuit, lhs) {
         return Err(EditFault::NotAGate);
     }
-    if !are_in_range(circuit, r0, r1) {
-        return Err(EditFault::Range);
-    }
-    if !is_defined(circuit, r0.var()) || !is_defined(circuit, r1.var()) {
-        return Err(EditFault::Undefined);
-    }
-    Ok(())
+    check_sides(circuit, r0, r1)
 }
 
 /// The latch of a reset, or the fault: no latch.
@@ -93,4 +119,35 @@ pub fn check_reset(plan: &Plan, latch: Lit) -> Result<u32, EditFault>
     ensures fault { (value : Tern) → IfErr result (IsLeastFault (Forbids (pair_of plan.now) (set_reset latch value))) }
 {
     latch_position(&plan.circuit, latch).ok_or(EditFault::NotALatch)
+}
+
+/// The fault of an appended gate, but for want of memory: right sides out of range, then undefined ones, then one variable
+/// or cell too many.
+pub fn check_append(plan: &Plan, r0: Lit, r1: Lit) -> Result<(), EditFault>
+    ensures defined { OnOk result (IsDefined plan.now.circuit (variable r0) × IsDefined plan.now.circuit (variable r1)) }
+    ensures max_var { OnOk result (plan.now.circuit.max_var < 4194303) }
+    ensures cells { OnOk result ((plan.now.circuit.max_var + 2) * length plan.now.stimulus.rows ≤ 67108864) }
+    ensures allowed { OnOk result (NoneApplies (Forbids (pair_of plan.now) (append_gate r0 r1))) }
+    ensures fault { IfErr result (IsLeastFault (Forbids (pair_of plan.now) (append_gate r0 r1))) }
+{
+    check_sides(&plan.circuit, r0, r1)?;
+    if !has_room_for_variable(plan) {
+        return Err(EditFault::Limit);
+    }
+    Ok(())
+}
+
+/// The fault of a replaced output: a literal out of range, then an undefined one, then no output.
+pub fn check_output(plan: &Plan, position: u32, literal: Lit) -> Result<(), EditFault>
+    ensures defined { OnOk result (IsDefined plan.now.circuit (variable literal)) }
+    ensures position { OnOk result (position < length plan.now.circuit.outputs) }
+    ensures allowed { OnOk result (NoneApplies (Forbids (pair_of plan.now) (set_output position literal))) }
+    ensures fault { IfErr result (IsLeastFault (Forbids (pair_of plan.now) (set_output position literal))) }
+{
+    let circuit = &plan.circuit;
+    check_sides(circuit, literal, literal)?;
+    if position as usize >= circuit.outputs().len() {
+        return Err(EditFault::NoOutput);
+    }
+    Ok(())
 }

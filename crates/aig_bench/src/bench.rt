@@ -9,7 +9,7 @@ ghost use Rattle.aig_base.specs.Literal.{variable};
 ghost use Rattle.aig_base.specs.Readers.{AreReaders, list_of};
 ghost use Rattle.aig_base.specs.Renumbered.{IsBinaryReady};
 ghost use Rattle.aig_base.specs.Sections.{IsDefined, IsLeftSide};
-ghost use Rattle.aig_bench.specs.Edit.{Edits, rewire, set_reset, set_bit, add_frame, drop_frame};
+ghost use Rattle.aig_bench.specs.Edit.{Edits, rewire, set_reset, set_bit, add_frame, drop_frame, append_gate, set_output};
 ghost use Rattle.aig_bench.specs.Pair.{Pair, HasTrace};
 ghost use Rattle.aig_bench.specs.Latches.{AreLatchReaders};
 ghost use Rattle.aig_bench.specs.Pending.{HasLists, IsIdle, IsReady};
@@ -20,7 +20,7 @@ ghost use Rattle.aig_bench.specs.Touched.{Works};
 ghost use Rattle.aig_sim.specs.StimulusText.{HaveWidth};
 ghost use Rattle.aig_unroll.specs.Answers.{AnswersUnrolling};
 
-use crate::allowed::{CELLS, check_reset, check_rewire, is_defined};
+use crate::allowed::{CELLS, check_append, check_output, check_reset, check_rewire, is_defined};
 use crate::bench_fault::BenchFault;
 use crate::edit::{EditFault, EditReport};
 use crate::fill::fill;
@@ -339,6 +339,27 @@ impl<G: Grid> Bench<G> {
         }
         self.grid.drop_row();
         self.plan.stimulus.pop();
+        Ok(NOTHING)
+    }
+
+    /// Appends a gate with these right sides, whose variable is the new greatest, M + 1. Refused are right sides out of
+    /// range, undefined ones, and then a variable over 4,194,303 or more than 67,108,864 cells. It takes memory (profile).
+    pub fn append_gate(&mut self, r0: Lit, r1: Lit) -> Result<EditReport, EditFault>
+        ensures edits { Edits self.old.pair (append_gate r0 r1) result self.new.pair }
+        ensures works { Works self.old (append_gate r0 r1) result self.new }
+    {
+        check_append(&self.plan, r0, r1)?;
+        Err(EditFault::Memory)
+    }
+
+    /// Replaces the output at a position, counted from 0. Refused are a literal over `2M + 1`, a variable that is neither 0
+    /// nor defined, and an output that is not there, in this order. It takes no memory (profile).
+    pub fn set_output(&mut self, position: u32, literal: Lit) -> Result<EditReport, EditFault>
+        ensures edits { Edits self.old.pair (set_output position literal) result self.new.pair }
+        ensures works { Works self.old (set_output position literal) result self.new }
+    {
+        check_output(&self.plan, position, literal)?;
+        self.plan.circuit.replace_output(position, literal);
         Ok(NOTHING)
     }
 

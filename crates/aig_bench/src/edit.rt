@@ -45,6 +45,9 @@ pub enum EditFault {
     /// 11: no memory was found.
     #[error("memory")]
     Memory,
+    /// 13: an output that is not there.
+    #[error("no output")]
+    NoOutput,
 }
 
 impl From<NoMemory> for EditFault {
