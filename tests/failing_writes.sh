@@ -33,12 +33,12 @@ each() {
     "$aig" "$@" >&- 2> got.err
     ended "$name, a closed output" "$status" $? "$text"
     if [ -s refuse.so ]; then
-        LD_PRELOAD=$room/refuse.so "$aig" "$@" > got.out 2> got.err
+        CALL=write REFUSE=1 LD_PRELOAD=$room/refuse.so "$aig" "$@" > got.out 2> got.err
         ended "$name, a first write that fails" "$status" $? "$text"
     fi
 }
 
-cc -shared -fPIC -O1 -o refuse.so "$tests/refuse_write.c" -ldl 2> cc.err || : > refuse.so
+cc -shared -fPIC -O1 -o refuse.so "$tests/refuse_call.c" -ldl 2> cc.err || : > refuse.so
 printf 'aag 3 2 0 1 1\n2\n4\n6\n6 2 4\n' > one_gate
 printf 'aag 3 1 0 1 2\n2\n4\n4 6 2\n6 4 2\n' > cycle
 printf 'aag 1 1 0 0 0 0 0 1 1\n2\n2\n2\n3\n2\n' > live
@@ -46,7 +46,7 @@ printf 'aag 1 1 0 0 0 1\n2\n2\n' > bad_input
 printf '1\nb0\n\n1\n.\n' > witness
 printf '11\n' > rows
 printf 'v 0 6\n' > script
-LD_PRELOAD=$room/refuse.so "$aig" toaig --to aag one_gate > got.out 2> got.err
+CALL=write REFUSE=1 LD_PRELOAD=$room/refuse.so "$aig" toaig --to aag one_gate > got.out 2> got.err
 if [ $? = 0 ]; then
     echo "no library can stand before write here: runs whose first write alone fails are left out"
     : > refuse.so
