@@ -1,8 +1,8 @@
 #!/usr/bin/env bash
-# Runs the built program on small files once for each of its allocations, and refuses that one. Each such run is to write a
-# beginning of what the whole run writes, say that memory is wanting, and end with status 3; or it does without, and ends
-# as the whole run does. A script that adds a frame and unrolls may also answer `no 11` to one of these, and go on. Then a
-# script of edits with no memory at all behind its beginning: an edit takes none here.
+# Runs the built program on small files once for each of its allocations, and refuses that one. Each such run is to write
+# a beginning of what the whole run writes, say that memory is wanting, and end with status 3; or it does without, and
+# ends as the whole run does. A script may also answer `no 11` to a line that takes memory, and go on. Then scripts with
+# no memory at all behind their beginning: edits take none, but where a gate has a fifth reader.
 # usage: tests/failing_allocations.sh [PROGRAM]        (without a name: the program that the gate built)
 set -u
 cd "$(dirname "$0")/.."
@@ -102,19 +102,46 @@ each_of 'bench that adds a frame and unrolls' 'nothing_refused frame_refused unr
     bench "$examples/two_gates.aag" rows script
 each 'check' check "$examples/wraps.aag" "$examples/wraps.wit"
 
-# A run without a script tells how many allocations come before its first line; all behind them are refused.
-printf '11\n' > row
-printf '' > nothing
-printf 'w 6 8 2\nv 0 6\nw 8 2 4\nw 6 8 2\nv 0 6\n' > edits
-printf 'no 5\n1\nok\nok\n1\n' > wanted
-REFUSE=0 COUNTED=$room/calls LD_PRELOAD=$room/refuse.so "$aig" bench "$examples/two_gates.aag" row nothing > whole.out
-AFTER=1 REFUSE=$(($(cat calls) + 1)) LD_PRELOAD=$room/refuse.so "$aig" bench "$examples/two_gates.aag" row edits > got.out 2> got.err
-status=$?
-if [ $status = 0 ] && cmp -s got.out wanted && [ ! -s got.err ]; then
-    passed=$((passed + 1))
-else
-    failed=$((failed + 1))
-    echo "FAILED: edits without memory: status $status, $(head -c 80 got.err)"
-fi
+# Four gates read an input without memory, so that the fifth takes some: where that is refused, the edits behind it see
+# the gate as it was, with the levels and the readers of the circuit as it was.
+printf 'aag 8 2 0 1 6\n2\n4\n16\n6 4 4\n8 4 4\n10 4 4\n12 4 4\n14 4 4\n16 14 6\n' > circuit
+printf '10\n' > rows
+printf 'w %d 2 2\n' 6 8 10 12 14 > script
+printf 's 0 0 x\nt\nw 12 4 5\nw 14 2 2\ns 0 0 1\nt\nw 6 14 14\nw 14 6 6\nv 0 16\n' >> script
+printf 'ok\nok\nok\nok\nok\nok\n x0 x \n.\n' > taken
+printf 'ok\nok\nok\nok\nno 11\nok\n x0 0 \n.\n' > refused
+printf 'ok\nok\nok\n 10 1 \n.\nok\nno 5\n1\n' > behind
+printf 'aag 8 2 0 1 6\n2\n4\n16\n6 2 2\n8 2 2\n10 5 4\n12 2 2\n14 12 12\n16 14 12\n.\n' > unrolled
+cp script edits
+echo u >> script
+cat taken behind unrolled > nothing_refused
+cat refused behind unrolled > rewire_refused
+{ cat taken behind; echo 'no 11'; } > unrolling_refused
+each_of 'bench that rewires a fifth reader' 'nothing_refused rewire_refused unrolling_refused' \
+    bench circuit rows script
+
+# without NAME WANTED CIRCUIT ROWS SCRIPT: runs a script with no memory at all behind its beginning, and compares its
+# replies. A run without a script tells how many allocations come before its first line; all behind them are refused.
+: > nothing
+without() {
+    local name=$1 wanted=$2 status
+    shift 2
+    REFUSE=0 COUNTED=$room/calls LD_PRELOAD=$room/refuse.so "$aig" bench "$1" "$2" nothing > whole.out
+    AFTER=1 REFUSE=$(($(cat calls) + 1)) LD_PRELOAD=$room/refuse.so "$aig" bench "$@" > got.out 2> got.err
+    status=$?
+    if [ $status = 0 ] && cmp -s got.out "$wanted" && [ ! -s got.err ]; then
+        passed=$((passed + 1))
+    else
+        failed=$((failed + 1))
+        echo "FAILED: $name: status $status, $(head -c 80 got.err)"
+    fi
+}
+
+cat refused behind > wanted
+without 'a fifth reader without memory' wanted circuit rows edits
+printf '11\n' > rows
+printf 'w 6 8 2\nv 0 6\nw 8 2 4\nw 6 8 2\nv 0 6\nr 8 1\ns 0 1 x\nt\n+ 11\nu\n-\n-\nv 0 6\n' > edits
+printf 'no 5\n1\nok\nok\n1\nno 2\nok\n 1x x \n.\nno 11\nno 11\nok\nno 9\nno 6\n' > wanted
+without 'edits without memory' wanted "$examples/two_gates.aag" rows edits
 echo "$passed passed, $failed failed"
 [ $failed = 0 ] && [ $passed -gt 0 ]
