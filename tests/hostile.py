@@ -99,6 +99,7 @@ def script(rng, most, width):
         lines.append(rng.choice((
             f"v {t} {l}", f"v {t} {l}", f"s {t} {number(width)} {rng.choice('01x')}", f"s {t} {number(width)} 1",
             f"w {2 * number(most)} {l} {number(2 * most)}", f"w {2 * number(most)} {l} {number(2 * most)}",
+            f"g {l} {number(2 * most)}", f"g {l} {number(2 * most)}", f"o {number(4)} {l}",
             f"r {2 * number(most)} {rng.choice('01x')}", f"+ {values(rng, width)}", "-", "t", "u", "q")))
     return "".join(line + "\n" for line in lines).encode()
 
@@ -339,4 +340,5 @@ def main():
     sys.exit(1 if failed else 0)
 
 
-main()
+if __name__ == "__main__":
+    main()

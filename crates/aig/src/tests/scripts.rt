@@ -2,23 +2,14 @@ use super::fakes::ByteByByte;
 use crate::engine::run_bench;
 use crate::script::run_script;
 use crate::script_fault::ScriptFault;
-use aig_base::{Lit, MemReader, MemWriter, Tern};
-use aig_bench::Bench;
+use aig_base::{Lit, MemWriter, Tern};
+use aig_bench::{Bench, EditFault};
 use aig_format::read;
 use aig_sim::{ByteGrid, read_stimulus};
 use std::alloc::Global;
 use std::test::Fail;
 
 const TWO_GATES: &[u8] = b"aag 4 2 0 1 2\n2\n4\n8\n8 6 2\n6 2 4\n";
-
-const ROWS: &[u8] = b"11\n01\n";
-
-// A bench of the two gates.
-fn bench(alloc: Global) -> Result<Bench<ByteGrid>, Fail> {
-    let circuit = read(alloc, TWO_GATES)?;
-    let stimulus = read_stimulus(alloc, ROWS, 2)?;
-    Ok(Bench::new(alloc, circuit, stimulus)?)
-}
 
 // A circuit, a stimulus, a script and its replies.
 struct Row {
@@ -144,26 +135,30 @@ fn scripts_are_answered(rt: HostRuntime) -> Result<(), Fail> {
     Ok(())
 }
 
-#[test]
-fn a_failing_read_ends_a_script(rt: HostRuntime) -> Result<(), Fail> {
-    let mut bench = bench(rt.alloc())?;
-    let mut out = MemWriter::new(rt.alloc(), 100)?;
-    let mut reader = ByteByByte::cut(b"v 0 8\ns 0 1 0\nv 0");
-    let done = run_script(rt.alloc(), &mut bench, &mut reader, &mut out);
-    assert_eq!(rt; done, Err(ScriptFault::Io));
-    assert_eq!(rt; out.bytes(), b"1\nok\n".as_slice());
-    assert_eq!(rt; bench.value(0, Lit::new(8)), Ok(Tern::Zero));
-    Ok(())
+// How a script on a bench of the two gates ends, whose reader fails behind it, and the value of literal 8 then.
+fn ended(
+    alloc: Global,
+    script: &[u8],
+    out: &mut MemWriter,
+) -> Result<(Result<(), ScriptFault>, Result<Tern, EditFault>), Fail> {
+    let circuit = read(alloc, TWO_GATES)?;
+    let stimulus = read_stimulus(alloc, b"11\n01\n", 2)?;
+    let mut bench = Bench::<ByteGrid>::new(alloc, circuit, stimulus)?;
+    let done = run_script(alloc, &mut bench, &mut ByteByByte::cut(script), out);
+    Ok((done, bench.value(0, Lit::new(8))))
 }
 
 #[test]
-fn a_full_writer_ends_a_script(rt: HostRuntime) -> Result<(), Fail> {
-    let mut bench = bench(rt.alloc())?;
-    let mut out = MemWriter::new(rt.alloc(), 3)?;
-    let mut reader = MemReader::new(b"v 0 8\ns 0 1 0\nv 0 8\n");
-    let done = run_script(rt.alloc(), &mut bench, &mut reader, &mut out);
-    assert_eq!(rt; done, Err(ScriptFault::Io));
-    assert_eq!(rt; out.bytes(), b"1\no".as_slice());
-    assert_eq!(rt; bench.value(0, Lit::new(8)), Ok(Tern::Zero));
+fn failing_reads_and_writes_end_a_script(rt: HostRuntime) -> Result<(), Fail> {
+    for (script, room, replies, value) in [
+        (b"v 0 8\ns 0 1 0\nv 0".as_slice(), 100, b"1\nok\n".as_slice(), Tern::Zero),
+        (b"v 0 8\ns 0 1 0\nv 0 8\n", 3, b"1\no", Tern::Zero),
+        (b"v 0 8\ns 0 1 0\nv 0 8\n", 1, b"1", Tern::One),
+    ] {
+        let mut out = MemWriter::new(rt.alloc(), room)?;
+        let end = ended(rt.alloc(), script, &mut out)?;
+        assert_eq!(rt; end, (Err(ScriptFault::Io), Ok(value)));
+        assert_eq!(rt; out.bytes(), replies);
+    }
     Ok(())
 }
