@@ -19,6 +19,10 @@ short (edit (edits.set_bit t p w)) is =
     inl (let a = short_number t is.0 in let b = short_number p is.1 in simp length-append (omega (arith, a, b)))
 short (edit (edits.add_frame row)) is = inr (_, refl)
 short (edit edits.drop_frame) is = inl (omega arith)
+short (edit (edits.append_gate r0 r1)) is =
+    inl (let a = short_number r0 is.0 in let b = short_number r1 is.1 in simp length-append (omega (arith, a, b)))
+short (edit (edits.set_output p l)) is =
+    inl (let a = short_number p is.0 in let b = short_number l is.1 in simp length-append (omega (arith, a, b)))
 short (value t l) is = inl (let a = short_number t is.0 in let b = short_number l is.1 in simp length-append (omega (arith, a, b)))
 short trace is = inl (omega arith)
 short unroll is = inl (omega arith)

@@ -13,6 +13,8 @@ same_edited old (edits.set_reset latch w) = refl
 same_edited old (edits.set_bit t i w) = refl
 same_edited old (edits.add_frame row) = refl
 same_edited old edits.drop_frame = refl
+same_edited old (edits.append_gate r0 r1) = refl
+same_edited old (edits.set_output i l) = refl
 
 same_after : {A : Type 0} (old : Pair) (e : Edit) (r : Result A EditFault) (new : Pair) → Edits old e r new
     → length new.circuit.inputs ≡ length old.circuit.inputs

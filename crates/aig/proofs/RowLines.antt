@@ -53,6 +53,8 @@ wrong_row text wrong (edit (edits.set_bit t p w)) _ e = first_differs 43 115 _ _
 wrong_row text wrong (edit (edits.add_frame row)) _ e =
     wrong (subst (All IsCharacter) (sym (rest_same text (map character row) e)) (characters row))
 wrong_row text wrong (edit edits.drop_frame) _ e = first_differs 43 45 _ _ (λ h. omega arith) e
+wrong_row text wrong (edit (edits.append_gate r0 r1)) _ e = first_differs 43 103 _ _ (λ h. omega arith) e
+wrong_row text wrong (edit (edits.set_output p l)) _ e = first_differs 43 111 _ _ (λ h. omega arith) e
 wrong_row text wrong (value t l) _ e = first_differs 43 118 _ _ (λ h. omega arith) e
 wrong_row text wrong trace _ e = first_differs 43 116 _ _ (λ h. omega arith) e
 wrong_row text wrong unroll _ e = first_differs 43 117 _ _ (λ h. omega arith) e
@@ -81,6 +83,7 @@ wrong_length p row ne = (ne, least)
     least faults.Empty lt h = h
     least faults.Limit lt h = omega arith
     least faults.Memory lt h = h
+    least faults.NoOutput lt h = h
 
 -- a line that is no row is answered by its fault
 pub wrong_row_reply : (p : Pair) (width before : ℕ) (text rest : List ℕ) (f : StimFault) → width ≡ length p.circuit.inputs

@@ -3,7 +3,7 @@ use Rattle.std.specs.Prelude.{◌≢◌, ℕ, ◌^◌, ◌<◌, List, [], ◌∷
 use Rattle.std.specs.Fmt.{decimal}
 use Rattle.aig_base.specs.declared.ternary.Tern.{Tern}
 use Rattle.aig_sim.specs.StimulusText.{character}
-use Rattle.aig_bench.specs.Edit.{Edit, rewire, set_reset, set_bit, add_frame, drop_frame}
+use Rattle.aig_bench.specs.Edit.{Edit, rewire, set_reset, set_bit, add_frame, drop_frame, append_gate, set_output}
 
 -- an edit of circuit or stimulus, or a question about them
 pub data Command : Type 0 where
@@ -30,6 +30,14 @@ reset_fields latch w = field latch (character w ∷ [])
 abbrev pub bit_fields : ℕ → ℕ → Tern → List ℕ
 bit_fields t p w = field t (field p (character w ∷ []))
 
+-- right sides
+abbrev pub append_fields : ℕ → ℕ → List ℕ
+append_fields r0 r1 = field r0 (decimal r1)
+
+-- position and literal
+abbrev pub output_fields : ℕ → ℕ → List ℕ
+output_fields p l = field p (decimal l)
+
 -- frame and literal
 abbrev pub value_fields : ℕ → ℕ → List ℕ
 value_fields t l = field t (decimal l)
@@ -40,6 +48,8 @@ edit_text (set_reset latch w) = codes "r " ++ reset_fields latch w
 edit_text (set_bit t p w) = codes "s " ++ bit_fields t p w
 edit_text (add_frame row) = codes "+ " ++ map character row
 edit_text drop_frame = codes "-"
+edit_text (append_gate r0 r1) = codes "g " ++ append_fields r0 r1
+edit_text (set_output p l) = codes "o " ++ output_fields p l
 
 abbrev pub command_text : Command → List ℕ
 command_text (edit e) = edit_text e
@@ -57,6 +67,8 @@ HasNumbers (set_reset latch w) = IsNumber latch
 HasNumbers (set_bit t p w) = IsNumber t × IsNumber p
 HasNumbers (add_frame row) = Unit {0}
 HasNumbers drop_frame = Unit {0}
+HasNumbers (append_gate r0 r1) = IsNumber r0 × IsNumber r1
+HasNumbers (set_output p l) = IsNumber p × IsNumber l
 
 abbrev pub IsCommand : Command → Type 0
 IsCommand (edit e) = HasNumbers e

@@ -3,7 +3,7 @@ ghost use Rattle.std.specs.Prelude.{◌≡◌, ◌≢◌, ℕ, List, ◌∷◌, 
 ghost use Rattle.std.specs.Fmt.{decimal};
 ghost use Rattle.aig_base.specs.declared.ternary.Tern.{Tern};
 ghost use Rattle.aig_sim.specs.StimulusText.{character};
-ghost use Rattle.aig.specs.Command.{command_text, field, rewire_fields, reset_fields, bit_fields, value_fields, IsCommand, IsNoCommand, IsNumber};
+ghost use Rattle.aig.specs.Command.{command_text, field, rewire_fields, reset_fields, bit_fields, append_fields, output_fields, value_fields, IsCommand, IsNoCommand, IsNumber};
 ghost use Rattle.aig.specs.Meaning.{meaning};
 ghost use Rattle.aig.specs.ScriptLine.{BeginsRow};
 
@@ -32,6 +32,16 @@ pub enum Command {
     },
     /// `-`: the last frame is taken off.
     DropFrame,
+    /// `g R0 R1`: a gate with these right sides is appended.
+    AppendGate {
+        right0: Lit,
+        right1: Lit,
+    },
+    /// `o P L`: the output at a position becomes this literal.
+    SetOutput {
+        position: u32,
+        literal: Lit,
+    },
     /// `v T L`: the value of a literal at a frame.
     Value {
         frame: u32,
@@ -137,6 +147,30 @@ fn parse_bit(fields: &[u8]) -> Option<Command>
     })
 }
 
+/// What stands behind `g `.
+fn parse_append(fields: &[u8]) -> Option<Command>
+    ensures some { IfSome result (λ c. IsCommand (meaning c) × (codes "g " ++ fields.now ≡ command_text (meaning c))) }
+    ensures none { IfNone result ((a b : ℕ) → IsNumber a → IsNumber b → fields.now ≢ append_fields a b) }
+{
+    let (right0, last) = parse_field(fields)?;
+    Some(Command::AppendGate {
+        right0: Lit::new(right0),
+        right1: Lit::new(parse_number(last)?),
+    })
+}
+
+/// What stands behind `o `.
+fn parse_output(fields: &[u8]) -> Option<Command>
+    ensures some { IfSome result (λ c. IsCommand (meaning c) × (codes "o " ++ fields.now ≡ command_text (meaning c))) }
+    ensures none { IfNone result ((p l : ℕ) → IsNumber p → IsNumber l → fields.now ≢ output_fields p l) }
+{
+    let (position, literal) = parse_field(fields)?;
+    Some(Command::SetOutput {
+        position,
+        literal: Lit::new(parse_number(literal)?),
+    })
+}
+
 /// What stands behind `v `.
 fn parse_question(fields: &[u8]) -> Option<Command>
     ensures some { IfSome result (λ c. IsCommand (meaning c) × (codes "v " ++ fields.now ≡ command_text (meaning c))) }
@@ -158,6 +192,8 @@ pub fn parse_command(line: &[u8]) -> Option<Command>
         [b'w', b' ', fields @ ..] => parse_rewire(fields),
         [b'r', b' ', fields @ ..] => parse_reset(fields),
         [b's', b' ', fields @ ..] => parse_bit(fields),
+        [b'g', b' ', fields @ ..] => parse_append(fields),
+        [b'o', b' ', fields @ ..] => parse_output(fields),
         [b'v', b' ', fields @ ..] => parse_question(fields),
         [b'-'] => Some(Command::DropFrame),
         [b't'] => Some(Command::Trace),

@@ -36,6 +36,7 @@ fn number_of_fault(fault: EditFault) -> u32
         EditFault::Empty => 9,
         EditFault::Limit => 10,
         EditFault::Memory => 11,
+        EditFault::NoOutput => 13,
     }
 }
 
@@ -129,6 +130,13 @@ fn obey<G: Grid, W: Write>(
             value,
         } => write_edit(bench.set_bit(frame, position, value), out),
         Command::DropFrame => write_edit(bench.drop_frame(), out),
+        Command::AppendGate { right0, right1 } => write_edit(
+            bench.append_gate(right0, right1),
+            out,
+        ),
+        Command::SetOutput { position, literal } => {
+            write_edit(bench.set_output(position, literal), out)
+        }
         Command::Value { frame, literal } => write_value(bench.value(frame, literal), out),
         Command::Trace => {
             bench.write_trace(out)?;

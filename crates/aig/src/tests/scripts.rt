@@ -151,7 +151,12 @@ fn ended(
 #[test]
 fn failing_reads_and_writes_end_a_script(rt: HostRuntime) -> Result<(), Fail> {
     for (script, room, replies, value) in [
-        (b"v 0 8\ns 0 1 0\nv 0".as_slice(), 100, b"1\nok\n".as_slice(), Tern::Zero),
+        (
+            b"v 0 8\ns 0 1 0\nv 0".as_slice(),
+            100,
+            b"1\nok\n".as_slice(),
+            Tern::Zero,
+        ),
         (b"v 0 8\ns 0 1 0\nv 0 8\n", 3, b"1\no", Tern::Zero),
         (b"v 0 8\ns 0 1 0\nv 0 8\n", 1, b"1", Tern::One),
     ] {

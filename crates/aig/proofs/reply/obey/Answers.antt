@@ -1,7 +1,7 @@
 use Rattle.std.proofs.Common.{refl, ◌++◌}
 use Rattle.std.specs.Prelude.{codes}
 use Rattle.aig_base.proofs.WriteLemmas.{writes_then, writes_stop}
-use Rattle.aig_bench.specs.Edit.{rewire, set_reset, set_bit, drop_frame}
+use Rattle.aig_bench.specs.Edit.{rewire, set_reset, set_bit, drop_frame, append_gate, set_output}
 use Rattle.aig.specs.Replies.{edit_reply, unroll_reply}
 use Rattle.aig.proofs.RunLemmas.{edit_reply_of}
 use Rattle.aig.proofs.reply.obey.Goals as goal
@@ -41,6 +41,22 @@ returns-in-DropFrame g c = (
   rw c.in-DropFrame.is (edit_reply_of c.args.bench.now.pair drop_frame c.drop_frame.result c.drop_frame.new.self.pair
       c.drop_frame.ensures.edits),
   c.write_edit-in-DropFrame.ensures,
+)
+
+pub returns-in-AppendGate : goal.returns-in-AppendGate
+returns-in-AppendGate g c = (
+  edit_reply c.append_gate.result,
+  rw c.in-AppendGate.is (edit_reply_of c.args.bench.now.pair (append_gate c.in-AppendGate.right0 c.in-AppendGate.right1)
+      c.append_gate.result c.append_gate.new.self.pair c.append_gate.ensures.edits),
+  c.write_edit-in-AppendGate.ensures,
+)
+
+pub returns-in-SetOutput : goal.returns-in-SetOutput
+returns-in-SetOutput g c = (
+  edit_reply c.set_output.result,
+  rw c.in-SetOutput.is (edit_reply_of c.args.bench.now.pair (set_output c.in-SetOutput.position c.in-SetOutput.literal)
+      c.set_output.result c.set_output.new.self.pair c.set_output.ensures.edits),
+  c.write_edit-in-SetOutput.ensures,
 )
 
 pub returns-in_ok-write_trace-in-Trace : goal.returns-in_ok-write_trace-in-Trace
