@@ -1,5 +1,6 @@
 pub mod Cells
 pub mod Checking
+pub mod Codes
 pub mod Frame
 pub mod GateOrder
 pub mod InputRows

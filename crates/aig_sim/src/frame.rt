@@ -10,11 +10,11 @@ ghost use Rattle.aig_sim.specs.Cells.{literal_value};
 ghost use Rattle.aig_sim.specs.Frame.{AreStates, Renews, HoldsInputs, HoldsLatches, HoldsSources, HoldsAll};
 ghost use Rattle.aig_sim.specs.GateOrder.{IsGateOrder};
 
-use crate::byte_grid::value_in;
+use crate::code::{Code, code_in};
 use aig_base::{Circuit, Gate, Tern};
 
 // Writes the inputs' values.
-fn put_inputs(cells: &mut [Tern], circuit: &Circuit, row: &[Tern])
+fn put_inputs(cells: &mut [Code], circuit: &Circuit, row: &[Tern])
     requires circuit { IsCircuit circuit.now }
     requires cells { length cells.old ≡ circuit.now.max_var + 1 }
     requires row { length row.now ≡ length circuit.now.inputs }
@@ -24,12 +24,12 @@ fn put_inputs(cells: &mut [Tern], circuit: &Circuit, row: &[Tern])
         HoldsInputs circuit.now start rows t cells.new }
 {
     for (position, input) in circuit.inputs().iter().enumerate() {
-        cells[input.var() as usize] = row[position];
+        cells[input.var() as usize] = Code::of(row[position]);
     }
 }
 
 // Writes the latches' values.
-fn put_latches(cells: &mut [Tern], circuit: &Circuit, states: &[Tern])
+fn put_latches(cells: &mut [Code], circuit: &Circuit, states: &[Code])
     requires circuit { IsCircuit circuit.now }
     requires cells { length cells.old ≡ circuit.now.max_var + 1 }
     requires states { length states.now ≡ length circuit.now.latches }
@@ -44,7 +44,7 @@ fn put_latches(cells: &mut [Tern], circuit: &Circuit, states: &[Tern])
 }
 
 // Writes the values of variable 0, the inputs and the latches.
-fn put_sources(cells: &mut [Tern], circuit: &Circuit, row: &[Tern], states: &[Tern])
+fn put_sources(cells: &mut [Code], circuit: &Circuit, row: &[Tern], states: &[Code])
     requires circuit { IsCircuit circuit.now }
     requires cells { length cells.old ≡ circuit.now.max_var + 1 }
     requires row { length row.now ≡ length circuit.now.inputs }
@@ -52,14 +52,14 @@ fn put_sources(cells: &mut [Tern], circuit: &Circuit, row: &[Tern], states: &[Te
     ensures { (start : List Tern) (rows : List (List Tern)) (t : ℕ) → slice_get rows t ≡ Some row.now →
         AreStates circuit.now start rows t states.now → HoldsSources circuit.now start rows t cells.new }
 {
-    cells[0] = Tern::Zero;
+    cells[0] = Code::of(Tern::Zero);
     put_inputs(cells, circuit, row);
     put_latches(cells, circuit, states);
 }
 
 // Evaluates the gates in turn: the cell of each becomes the AND of its right sides. Where the cells of the sources are
 // values and the gates are those of a circuit, each behind the ones that it reads, all cells become values.
-fn evaluate_frame(cells: &mut [Tern], gates: &[Gate])
+fn evaluate_frame(cells: &mut [Code], gates: &[Gate])
     requires lhs { (q : ℕ) (g : Gate) → slice_get gates.now q ≡ Some g → variable g.lhs < length cells.old }
     requires rhs0 { (q : ℕ) (g : Gate) → slice_get gates.now q ≡ Some g → variable g.rhs0 < length cells.old }
     requires rhs1 { (q : ℕ) (g : Gate) → slice_get gates.now q ≡ Some g → variable g.rhs1 < length cells.old }
@@ -67,18 +67,18 @@ fn evaluate_frame(cells: &mut [Tern], gates: &[Gate])
         HoldsSources raw start rows t cells.old → HoldsAll raw start rows t cells.new }
 {
     for gate in gates {
-        let value = value_in(cells, gate.rhs0).and(value_in(cells, gate.rhs1));
+        let value = code_in(cells, gate.rhs0).and(code_in(cells, gate.rhs1));
         cells[gate.lhs.var() as usize] = value;
     }
 }
 
 /// Gives the cells of a frame their values, by its row of input values and the latches' values.
 pub fn evaluate_row(
-    cells: &mut [Tern],
+    cells: &mut [Code],
     circuit: &Circuit,
     gates: &[Gate],
     row: &[Tern],
-    states: &[Tern],
+    states: &[Code],
 )
     requires circuit { IsCircuit circuit.now }
     requires gates { IsGateOrder circuit.now gates.now }
@@ -93,13 +93,13 @@ pub fn evaluate_row(
 }
 
 /// Replaces the latches' values by those of the next frame.
-pub fn renew_states(states: &mut [Tern], circuit: &Circuit, cells: &[Tern])
+pub fn renew_states(states: &mut [Code], circuit: &Circuit, cells: &[Code])
     requires circuit { IsCircuit circuit.now }
     requires cells { length cells.now ≡ circuit.now.max_var + 1 }
     requires states { length states.old ≡ length circuit.now.latches }
     ensures { states.new ≡ map (λ x. literal_value cells.now x.next) circuit.now.latches }
 {
     for (position, latch) in circuit.latches().iter().enumerate() {
-        states[position] = value_in(cells, latch.next);
+        states[position] = code_in(cells, latch.next);
     }
 }

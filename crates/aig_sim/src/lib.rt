@@ -2,6 +2,7 @@
 #![tactic(auto)]
 
 mod byte_grid;
+mod code;
 mod frame;
 mod gate_flags;
 mod gate_order;

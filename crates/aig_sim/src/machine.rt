@@ -7,6 +7,7 @@ ghost use Rattle.aig_sim.specs.Frame.{AreStates};
 ghost use Rattle.aig_sim.specs.GateOrder.{IsGateOrder};
 ghost use Rattle.aig_sim.specs.Machine.{Steps};
 
+use crate::code::Code;
 use crate::frame::{evaluate_row, renew_states};
 use crate::gate_order::gates_in_order;
 use crate::row::Row;
@@ -20,8 +21,8 @@ use std::marker::Model;
 pub struct Machine<'a> {
     circuit: &'a Circuit,
     gates: Vec<Gate>,
-    cells: Vec<Tern>,
-    states: Vec<Tern>,
+    cells: Vec<Code>,
+    states: Vec<Code>,
 }
 
 impl<'a> Model for Machine<'a> {
@@ -60,16 +61,27 @@ pub fn first_states(alloc: Global, circuit: &Circuit) -> Result<Vec<Tern>, Memor
     Ok(states)
 }
 
-fn new_cells(alloc: Global, size: usize) -> Result<Vec<Tern>, Memory>
+fn new_cells(alloc: Global, size: usize) -> Result<Vec<Code>, Memory>
     ensures { IfOk result (λ cells. length cells.items ≡ size) }
 {
     let mut cells = Vec::with_capacity(alloc, size)?;
-    cells.resize(size, Tern::X)?;
+    cells.resize(size, Code::of(Tern::X))?;
     Ok(cells)
 }
 
+// The codes of some values.
+fn codes_of(alloc: Global, values: &[Tern]) -> Result<Vec<Code>, Memory>
+    ensures { IfOk result (λ codes. codes.items ≡ values.now) }
+{
+    let mut codes = Vec::with_capacity(alloc, values.len())?;
+    for value in values {
+        codes.push(Code::of(*value))?;
+    }
+    Ok(codes)
+}
+
 // Gives the cells the values of a frame, and the latches those behind it.
-fn run_row(cells: &mut [Tern], states: &mut [Tern], circuit: &Circuit, gates: &[Gate], row: &[Tern])
+fn run_row(cells: &mut [Code], states: &mut [Code], circuit: &Circuit, gates: &[Gate], row: &[Tern])
     requires circuit { IsCircuit circuit.now }
     requires gates { IsGateOrder circuit.now gates.now }
     requires cells { length cells.old ≡ circuit.now.max_var + 1 }
@@ -97,7 +109,7 @@ impl<'a> Machine<'a> {
             circuit,
             gates: gates_in_order(alloc, circuit)?,
             cells: new_cells(alloc, size)?,
-            states: start,
+            states: codes_of(alloc, &start)?,
         })
     }
 
@@ -111,7 +123,7 @@ impl<'a> Machine<'a> {
     }
 
     /// The latches' values at the next frame.
-    pub fn states(&self) -> &[Tern]
+    pub fn states(&self) -> &[Code]
         ensures states { result.now ≡ self.now.states }
         ensures length { length self.now.states ≡ length self.now.circuit.latches }
     {
@@ -145,6 +157,6 @@ impl<'a> Row for Machine<'a> {
     ghost has = { λ m v. v ≤ m.circuit.max_var };
 
     fn value(&self, variable: u32) -> Tern {
-        self.cells[variable as usize]
+        self.cells[variable as usize].value()
     }
 }

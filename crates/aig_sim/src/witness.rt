@@ -67,7 +67,7 @@ fn wrong_start(machine: &Machine<'_>) -> Option<u32>
 {
     let states = machine.states();
     for (position, latch) in machine.circuit().latches().iter().enumerate() {
-        if !is_allowed(*latch, states[position]) {
+        if !is_allowed(*latch, states[position].value()) {
             return Some(position as u32);
         }
     }

@@ -22,7 +22,7 @@ loop-gate-preserved c =
     let at : slice_get gates i ≡ Some g = item_at gates gates i g refl c.loop-gate-test.true c.gate-item.is in
     let wide : c.var.result < length cells = omega (arith, c.var.ensures, c.requires.lhs i g at) in
     let is : w ≡ gate_value cells g = c.and-value.ensures
-    ∙ ap₂ kleene_and c.value_in.ensures c.value_in-in-loop-gate.ensures in
+    ∙ ap₂ kleene_and c.code_in.ensures c.code_in-in-loop-gate.ensures in
     let put = λ (raw : Raw) (start : List Tern) (rows : List (List Tern)) (t : ℕ) (sound : IsSound raw) (order : IsGateOrder raw gates)
     (h : HoldsSources raw start rows t c.args.cells.now).
     put_value raw start rows t cells cells c.var.result (variable g.lhs) w c.var.ensures wide

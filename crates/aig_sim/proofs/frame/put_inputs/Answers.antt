@@ -1,4 +1,4 @@
-use Rattle.std.proofs.Common.{◌≡◌, ◌<◌, ℕ, List, Some, slice_get, slice_set, get_or, length, ap, arith}
+use Rattle.std.proofs.Common.{◌≡◌, ◌<◌, ℕ, List, Some, slice_get, slice_set, get_or, length, sym, ap, ◌∙◌, arith}
 use Rattle.std.proofs.lemmas.Option.{slice_get-get_or}
 use Rattle.aig_base.specs.declared.ternary.Tern.{Tern}
 use Rattle.aig_base.specs.declared.ternary.Tern.TheVariants.{Zero}
@@ -15,15 +15,17 @@ loop-position-preserved c =
     let i = c.loop-position.position in
     let l = c.input-item.result in
     let cells = c.loop-position.cells in
-    let w = get_or row i Zero in
+    let w = c.of.result in
     let at : slice_get raw.inputs i
     ≡ Some l = item_at _ _ i l c.inputs-input-items.ensures c.loop-position-test.true c.input-item.is in
     let lt : i < length row = omega (arith, c.requires.row, ap length c.inputs-input-items.ensures) in
     let fits = input_in_range raw c.requires.circuit.sound i l at in
     let wide : c.var.result < length cells = omega (arith, c.var.ensures, c.requires.cells) in
+    let value : slice_get row i ≡ Some w =
+    slice_get-get_or row i Zero lt ∙ ap Some (sym c.of.ensures) in
     let put = λ (start : List Tern) (rows : List (List Tern)) (t : ℕ) (h : slice_get rows t ≡ Some row).
     put_value raw start rows t c.args.cells.now cells c.var.result (variable l) w c.var.ensures wide
-    (input_value raw start rows t row i l w c.requires.circuit.sound h at (slice_get-get_or row i Zero lt))
+    (input_value raw start rows t row i l w c.requires.circuit.sound h at value)
     (c.loop-position.invariant.renews start rows t h) in
     record {
       renews = λ start rows t h. (put start rows t h).0;

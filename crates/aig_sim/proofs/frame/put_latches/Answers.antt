@@ -1,7 +1,5 @@
-use Rattle.std.proofs.Common.{◌≡◌, ◌<◌, ℕ, List, Some, slice_get, slice_set, get_or, length, ap, arith}
-use Rattle.std.proofs.lemmas.Option.{slice_get-get_or}
+use Rattle.std.proofs.Common.{◌≡◌, ◌<◌, ℕ, List, Some, slice_get, slice_set, length, refl, ap, arith}
 use Rattle.aig_base.specs.declared.ternary.Tern.{Tern}
-use Rattle.aig_base.specs.declared.ternary.Tern.TheVariants.{Zero}
 use Rattle.aig_base.specs.declared.latch.Latch.{Latch}
 use Rattle.aig_base.specs.Literal.{variable}
 use Rattle.aig_sim.specs.Frame.{AreStates, Holds}
@@ -25,15 +23,17 @@ loop-position-preserved c =
     let i = c.loop-position.position in
     let x = c.latch-item.result in
     let cells = c.loop-position.cells in
-    let w = get_or states i Zero in
+    let w = c.index-states-position.result in
     let at : slice_get raw.latches i
     ≡ Some x = item_at _ _ i x c.latches-latch-items.ensures c.loop-position-test.true c.latch-item.is in
     let lt : i < length states = omega (arith, c.requires.states, ap length c.latches-latch-items.ensures) in
     let fits = latch_in_range raw c.requires.circuit.sound i x at in
     let wide : c.var.result < length cells = omega (arith, c.var.ensures, c.requires.cells) in
+    let value : slice_get states i ≡ Some w =
+    item_at states states i w refl lt c.index-states-position.is in
     let put = λ (start : List Tern) (rows : List (List Tern)) (t : ℕ) (h : AreStates raw start rows t states).
     put_value raw start rows t c.args.cells.now cells c.var.result (variable x.lit) w c.var.ensures wide
-    (latch_value raw start rows t states i x w c.requires.circuit.sound h at (slice_get-get_or states i Zero lt))
+    (latch_value raw start rows t states i x w c.requires.circuit.sound h at value)
     (c.loop-position.invariant.renews start rows t h) in
     record {
       renews = λ start rows t h. (put start rows t h).0;

@@ -1,5 +1,7 @@
-use Rattle.std.proofs.Common.{◌<◌, length, arith}
+use Rattle.std.proofs.Common.{◌<◌, length, slice_set, sym, subst, arith}
+use Rattle.aig_base.specs.declared.ternary.Tern.{Tern}
 use Rattle.aig_base.specs.Literal.{variable}
+use Rattle.aig_sim.specs.Frame.{Holds}
 use Rattle.aig_sim.proofs.Evaluation.{constant_holds, sources_hold}
 use Rattle.aig_sim.proofs.frame.put_sources.Goals as goal
 
@@ -12,6 +14,7 @@ returns c =
     let first = c.put_inputs.ensures.renews start rows t h in
     let second = c.put_latches.ensures.renews start rows t s in
     sources_hold raw start rows t c.put_latches.new.cells
-    (second.keeps 0 (first.keeps 0 (constant_holds raw start rows t cells some)))
+    (second.keeps 0 (first.keeps 0 (subst (λ (w : Tern). Holds raw start rows t (slice_set cells 0 w) 0)
+    (sym c.of.ensures) (constant_holds raw start rows t cells some))))
     (λ i l at. second.keeps (variable l) (c.put_inputs.ensures.inputs start rows t h i l at))
     (c.put_latches.ensures.latches start rows t s)

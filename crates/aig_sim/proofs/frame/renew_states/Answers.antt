@@ -3,8 +3,8 @@ use Rattle.aig_base.proofs.Circuits.{next_in_range}
 use Rattle.aig_sim.proofs.Evaluation.{item_at}
 use Rattle.aig_sim.proofs.frame.renew_states.Goals as goal
 
-pub value_in-requires : goal.value_in-requires
-value_in-requires c =
+pub code_in-requires : goal.code_in-requires
+code_in-requires c =
     let raw = c.args.circuit.now in
     let at : slice_get raw.latches c.loop-position.position ≡ Some c.latch-item.result =
     item_at _ _ c.loop-position.position c.latch-item.result c.latches-latch-items.ensures c.loop-position-test.true

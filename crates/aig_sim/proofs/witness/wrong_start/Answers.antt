@@ -1,10 +1,6 @@
-use Rattle.std.proofs.Common.{◌≡◌, get_or, length, Some, slice_get, sym, ap, ◌∙◌, subst, arith}
-use Rattle.std.specs.Prelude.{List}
-use Rattle.aig_base.specs.declared.ternary.Tern.{Tern}
-use Rattle.std.proofs.lemmas.Option.{slice_get-get_or}
-use Rattle.aig_base.specs.declared.ternary.Tern.TheVariants.{Zero}
+use Rattle.std.proofs.Common.{◌≡◌, length, Some, slice_get, sym, ap, ◌∙◌, subst, arith}
 use Rattle.aig_base.specs.declared.raw.Raw.{Raw}
-use Rattle.aig_sim.specs.Verdict.{StartsWrong}
+use Rattle.aig_sim.specs.Verdict.{Allows, StartsWrong}
 use Rattle.aig_sim.proofs.Evaluation.{item_at}
 use Rattle.aig_sim.proofs.VerdictLemmas.{right_more, starts_right, no_latch_behind}
 use Rattle.aig_sim.proofs.witness.wrong_start.Goals as goal
@@ -17,13 +13,15 @@ loop-position-preserved c =
     let at : slice_get m.circuit.latches i ≡ Some c.latch-item.result =
     item_at _ _ i c.latch-item.result same c.loop-position-test.true c.latch-item.is in
     let states = c.states-states.result.now in
-    let value : slice_get m.states i ≡ Some (get_or states i Zero) =
-    subst (λ (xs : List Tern). slice_get xs i ≡ Some (get_or states i Zero)) c.states-states.ensures.states
-    (slice_get-get_or states i Zero
-    (omega (arith, c.states-states.ensures.length, ap length c.states-states.ensures.states, ap length same, c.loop-position-test.true))) in
+    let w = c.index-states-position.result in
+    let value : slice_get m.states i ≡ Some w =
+    item_at states m.states i w c.states-states.ensures.states
+    (omega (arith, c.states-states.ensures.length, ap length c.states-states.ensures.states, ap length same, c.loop-position-test.true))
+    c.index-states-position.is in
     right_more (StartsWrong m.circuit m.states) i c.loop-position.invariant
-    (starts_right m.circuit m.states i c.latch-item.result (get_or states i Zero) at value
-    (c.is_allowed.ensures.0 c.if-not-is_allowed.false))
+    (starts_right m.circuit m.states i c.latch-item.result w at value
+    (subst (Allows c.latch-item.result.reset) c.value.ensures
+    (c.is_allowed.ensures.0 c.if-not-is_allowed.false)))
 
 pub returns-clause-none : goal.returns-clause-none
 returns-clause-none c =

@@ -1,0 +1,97 @@
+//! Values in two bits, for circuits that are simulated row by row.
+ghost use Rattle.std.specs.Prelude.{◌≡◌, ◌<◌, IsTrue, List, length};
+ghost use Rattle.aig_base.specs.Literal.{variable};
+ghost use Rattle.aig_base.specs.Ternary.{kleene_and, kleene_not};
+ghost use Rattle.aig_sim.specs.Cells.{literal_value};
+ghost use Rattle.aig_sim.specs.StimulusText.{character};
+
+use aig_base::{Lit, Tern};
+use std::marker::Model;
+
+/// A value in two bits: 0 is 00, 1 is 11 and x is 01, so that the bits of an AND are the AND of the bits. Contracts see
+/// the value.
+#[derive(Clone, Copy)]
+pub struct Code {
+    bits: u8,
+}
+
+impl Model for Code {
+    ghost use Rattle.std.specs.Prelude.{◌≡◌};
+    ghost use Rattle.std.proofs.Common.{ap};
+    ghost use Rattle.aig_base.specs.declared.ternary.Tern.{Tern};
+    ghost use Rattle.aig_sim.specs.Codes.{value_of, bits_of};
+
+    ghost Value = { Tern };
+
+    ghost view = { λ a. value_of a.bits };
+
+    ghost inverse = { λ v. record { bits = bits_of v } };
+
+    ghost inverse_ok = { λ a h. ap (λ n. record { bits = n }) h };
+
+    ghost invariant = { λ a. bits_of (value_of a.bits) ≡ a.bits };
+}
+
+/// The bits of a value by its own bits, and behind the fourth those of its negation. None are 10.
+const SIGNED: [u8; 8] = [0b00, 0b01, 0b00, 0b11, 0b11, 0b01, 0b00, 0b00];
+
+/// The character of a value by its bits.
+const CHARACTERS: [u8; 4] = [b'0', b'x', b'x', b'1'];
+
+impl Code {
+    /// The code of a value.
+    pub fn of(value: Tern) -> Code
+        ensures { result ≡ value }
+    {
+        match value {
+            Tern::Zero => Code { bits: 0b00 },
+            Tern::One => Code { bits: 0b11 },
+            Tern::X => Code { bits: 0b01 },
+        }
+    }
+
+    /// The value of the code.
+    pub fn value(self) -> Tern
+        ensures { result ≡ self }
+    {
+        match self.bits {
+            0b00 => Tern::Zero,
+            0b01 => Tern::X,
+            _ => Tern::One,
+        }
+    }
+
+    /// `0`, `1` or `x`.
+    pub fn character(self) -> u8
+        ensures { result ≡ character self }
+    {
+        CHARACTERS[self.bits as usize]
+    }
+
+    /// The negation where `is_negated`, else the value itself. No jump depends on either.
+    pub fn with_sign(self, is_negated: bool) -> Code
+        ensures negated { IsTrue is_negated → result ≡ kleene_not self }
+        ensures same { (IsTrue is_negated → ⊥) → result ≡ self }
+    {
+        Code {
+            bits: SIGNED[4 * (is_negated as usize) + self.bits as usize],
+        }
+    }
+
+    /// The AND of two values.
+    pub fn and(self, other: Code) -> Code
+        ensures { result ≡ kleene_and self other }
+    {
+        Code {
+            bits: self.bits & other.bits,
+        }
+    }
+}
+
+/// The value of a literal by the code of its variable.
+pub fn code_in(cells: &[Code], literal: Lit) -> Code
+    requires { variable literal < length cells.now }
+    ensures { result ≡ literal_value cells.now literal }
+{
+    cells[literal.var() as usize].with_sign(literal.is_neg())
+}
