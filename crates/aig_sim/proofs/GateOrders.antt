@@ -1,6 +1,7 @@
--- The canonical order is one in which gates can be evaluated.
-use Rattle.std.proofs.Common.{◌≡◌, ◌⊎◌, inl, inr, ℕ, ◌+◌, ◌<◌, max, List, [], ◌∷◌, ◌++◌, get_or, Some, slice_get, Contains, refl, sym, ap, ◌∙◌, subst, arith, option_map}
-use Rattle.std.proofs.lemmas.Bool.{cases_order}
+-- The canonical order is one in which gates can be evaluated, and so is that of the file where each gate reads marked
+-- variables alone.
+use Rattle.std.proofs.Common.{◌≡◌, ◌⊎◌, inl, inr, ℕ, zero, suc, ◌+◌, ◌<◌, ◌≤◌, max, List, [], ◌∷◌, ◌++◌, get_or, Bool, true, false, replicate, Some, slice_get, slice_set, length, Contains, refl, sym, ap, ◌∙◌, subst, arith, option_map}
+use Rattle.std.proofs.lemmas.Bool.{cases_eq, cases_order}
 use Rattle.std.proofs.lemmas.Option.{slice_get-map, slice_get_within, get_or_from_slice_get}
 use Rattle.std.proofs.lemmas.List.Elements.{All-contains, All-push}
 use Rattle.std.proofs.lemmas.List.{map_push}
@@ -15,7 +16,8 @@ use Rattle.aig_base.specs.Sections.{IsDefined, IsGate}
 use Rattle.aig_base.proofs.Defined.{defined_cases, Grounded-of_defined}
 use Rattle.aig_base.proofs.OneLevel.{level_of, same_level}
 use Rattle.aig_base.proofs.Positions.{Contains-from_slice_get, unmap}
-use Rattle.aig_sim.specs.GateOrder.{IsReady, IsGateOrder, AreGatesOf}
+use Rattle.aig_sim.specs.GateOrder.{IsReady, IsGateOrder, AreGatesOf, AreMarked}
+use Rattle.aig_sim.proofs.Evaluation.{get_set_other}
 use Rattle.aig_base.proofs.Circuits.{rhs0_defined, rhs1_defined}
 
 -- one gate more
@@ -106,3 +108,63 @@ module _ (raw : Raw) (circuit : IsCircuit raw) (order : List ℕ) (gates : List 
     ready1 = λ q g at. let (r, stands) = known q g at in
         ready q g (variable g.rhs1) at (inr refl) (rhs1_defined raw circuit.sound r g stands);
   }
+
+-- ---- marks
+false_is_not_true : (n v : ℕ) → slice_get (replicate n false) v ≡ Some true → ⊥
+false_is_not_true zero v is = cc
+false_is_not_true (suc n) zero is = cc
+false_is_not_true (suc n) (suc v) is = false_is_not_true n v is
+
+pub none_marked : (P : ℕ → Type 0) (n : ℕ) → AreMarked P (replicate n false)
+none_marked P n v is = absurd (false_is_not_true n v is)
+
+pub one_marked : (P : ℕ → Type 0) (marks : List Bool) (u : ℕ) → AreMarked P marks → P u
+    → AreMarked P (slice_set marks u true)
+one_marked P marks u before here v is = elim (cases_eq v u) [
+  | inl e ↦ subst P (sym e) here
+  | inr ne ↦ before v (sym (get_set_other marks u v true ne) ∙ is)
+]
+
+-- a gate reads variables that are ready
+pub record ReadsReady (raw : Raw) (gates : List Gate) (q : ℕ) (g : Gate) : Type 0 where
+  pub side0 : IsReady raw gates q (variable g.rhs0)
+  pub side1 : IsReady raw gates q (variable g.rhs1)
+
+-- the first n gates read variables that are ready, and what is marked is ready for the next
+pub record AreReady (raw : Raw) (n : ℕ) (marks : List Bool) : Type 0 where
+  pub marked : AreMarked (IsReady raw raw.gates n) marks
+  pub each : (q : ℕ) (g : Gate) → q < n → slice_get raw.gates q ≡ Some g → ReadsReady raw raw.gates q g
+
+pub none_ready : (raw : Raw) (marks : List Bool) → AreMarked (IsSource raw) marks → AreReady raw 0 marks
+none_ready raw marks sources = record { marked = λ v is. inl (sources v is); each = λ q g lt. absurd (omega (arith, lt)) }
+
+ready_later : (raw : Raw) (gates : List Gate) (n v : ℕ) → IsReady raw gates n v → IsReady raw gates (n + 1) v
+ready_later raw gates n v (inl s) = inl s
+ready_later raw gates n v (inr (r, g, lt, at, is)) = inr (r, g, omega (arith, lt), at, is)
+
+pub ready_more : (raw : Raw) (n : ℕ) (g : Gate) (marks : List Bool) → AreReady raw n marks
+    → slice_get raw.gates n ≡ Some g
+    → slice_get marks (variable g.rhs0) ≡ Some true → slice_get marks (variable g.rhs1) ≡ Some true
+    → AreReady raw (n + 1) (slice_set marks (variable g.lhs) true)
+ready_more raw n g marks before at m0 m1 = record {
+  marked = one_marked (IsReady raw raw.gates (n + 1)) marks (variable g.lhs)
+      (λ v is. ready_later raw raw.gates n v (before.marked v is)) (inr (n, g, omega arith, at, refl));
+  each = λ q h lt is. elim (cases_eq q n) [
+    | inl e ↦
+        let p : Some g ≡ Some h = sym at ∙ ap (slice_get raw.gates) (sym e) ∙ is in
+        let same : g ≡ h = cc in
+        subst (λ (q : ℕ). ReadsReady raw raw.gates q h) (sym e) (subst (ReadsReady raw raw.gates n) same
+        (record { side0 = before.marked (variable g.rhs0) m0; side1 = before.marked (variable g.rhs1) m1 }))
+    | inr ne ↦ before.each q h (omega arith) is
+  ];
+}
+
+-- gates that read ready variables alone stand in an order
+pub all_ready : (raw : Raw) (n : ℕ) (marks : List Bool) → length raw.gates ≤ n → AreReady raw n marks
+    → IsGateOrder raw raw.gates
+all_ready raw n marks le h = record {
+  known = λ q g at. (q, at);
+  complete = λ v is. let (g, q, at, e) = unmap (λ (g : Gate). variable g.lhs) raw.gates v is in (q, g, at, e);
+  ready0 = λ q g at. let w = slice_get_within raw.gates q g at in (h.each q g (omega arith) at).side0;
+  ready1 = λ q g at. let w = slice_get_within raw.gates q g at in (h.each q g (omega arith) at).side1;
+}

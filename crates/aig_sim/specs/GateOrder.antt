@@ -1,5 +1,5 @@
 -- Gates in an order in which they can be evaluated (profile).
-use Rattle.std.specs.Prelude.{◌≡◌, ◌⊎◌, ℕ, ◌<◌, List, map, All, Some, slice_get}
+use Rattle.std.specs.Prelude.{◌≡◌, Bool, true, ◌⊎◌, ℕ, ◌<◌, List, map, All, Some, slice_get}
 use Rattle.aig_base.specs.declared.gate.Gate.{Gate}
 use Rattle.aig_base.specs.declared.raw.Raw.{Raw}
 use Rattle.aig_base.specs.Grounded.{IsSource}
@@ -22,3 +22,7 @@ pub record IsGateOrder (raw : Raw) (gates : List Gate) : Type 0 where
 pub record AreGatesOf (raw : Raw) (variables : List ℕ) (gates : List Gate) : Type 0 where
   pub known : All (λ g. (r : ℕ) × (slice_get raw.gates r ≡ Some g)) gates
   pub variables_are : map (λ g. variable g.lhs) gates ≡ variables
+
+-- the marked variables have this property
+abbrev pub AreMarked : (ℕ → Type 0) → List Bool → Type 0
+AreMarked P marks = (v : ℕ) → slice_get marks v ≡ Some true → P v

@@ -1,5 +1,5 @@
 //! A circuit that is simulated row by row.
-ghost use Rattle.std.specs.Prelude.{◌≡◌, ◌+◌, ◌≤◌, List, length, map, IfOk};
+ghost use Rattle.std.specs.Prelude.{◌≡◌, ◌+◌, ◌≤◌, List, length, map, unwrap_or, IfOk};
 ghost use Rattle.aig_base.specs.declared.ternary.Tern.{Tern};
 ghost use Rattle.aig_base.specs.Circuit.{IsCircuit};
 ghost use Rattle.aig_base.specs.Value.{reset_value, start_of};
@@ -9,24 +9,25 @@ ghost use Rattle.aig_sim.specs.Machine.{Steps};
 
 use crate::code::Code;
 use crate::frame::{evaluate_row, renew_states};
-use crate::gate_order::gates_in_order;
+use crate::gate_order::reordered;
 use crate::row::Row;
-use aig_base::{Circuit, Gate, Latch, Memory, Tern};
+use aig_base::{Circuit, Gate, Latch, List, Memory, Tern};
 use std::alloc::Global;
 use std::marker::Model;
 
-/// A circuit, its gates in the order of their evaluation, the last frame's values, a cell a variable, and the latches'
-/// values at the next frame. A row takes no memory.
+/// A circuit, the last frame's values, a cell a variable, and the latches' values at the next frame. A row takes no
+/// memory.
 #[derive(Drop)]
 pub struct Machine<'a> {
     circuit: &'a Circuit,
-    gates: Vec<Gate>,
+    // The gates in the order of their evaluation, where they do not stand in it.
+    order: Option<List<Gate>>,
     cells: Vec<Code>,
     states: Vec<Code>,
 }
 
 impl<'a> Model for Machine<'a> {
-    ghost use Rattle.std.specs.Prelude.{◌≡◌, ◌+◌, length, vec_len};
+    ghost use Rattle.std.specs.Prelude.{◌≡◌, ◌+◌, length, unwrap_or, vec_len};
     ghost use Rattle.aig_base.specs.Circuit.{IsCircuit};
     ghost use Rattle.aig_sim.specs.GateOrder.{IsGateOrder};
     ghost use Rattle.aig_sim.specs.Machine.{Machine};
@@ -35,7 +36,7 @@ impl<'a> Model for Machine<'a> {
 
     ghost view = { λ m. record { circuit = m.circuit.now; cells = m.cells.items; states = m.states.items } };
 
-    ghost invariant = { λ m. IsCircuit m.circuit.now × IsGateOrder m.circuit.now m.gates.items
+    ghost invariant = { λ m. IsCircuit m.circuit.now × IsGateOrder m.circuit.now (unwrap_or m.order m.circuit.now.gates)
         × (vec_len m.cells ≡ m.circuit.now.max_var + 1) × (vec_len m.states ≡ length m.circuit.now.latches) };
 }
 
@@ -80,6 +81,16 @@ fn codes_of(alloc: Global, values: &[Tern]) -> Result<Vec<Code>, Memory>
     Ok(codes)
 }
 
+// The gates in the order of their evaluation: the order, or the gates as they stand.
+fn gates_of<'a>(circuit: &'a Circuit, order: &'a Option<List<Gate>>) -> &'a [Gate]
+    ensures { result.now ≡ unwrap_or order.now circuit.now.gates }
+{
+    match order {
+        Some(gates) => gates.as_slice(),
+        None => circuit.gates(),
+    }
+}
+
 // Gives the cells the values of a frame, and the latches those behind it.
 fn run_row(cells: &mut [Code], states: &mut [Code], circuit: &Circuit, gates: &[Gate], row: &[Tern])
     requires circuit { IsCircuit circuit.now }
@@ -107,7 +118,7 @@ impl<'a> Machine<'a> {
         let size = circuit.max_var() as usize + 1;
         Ok(Machine {
             circuit,
-            gates: gates_in_order(alloc, circuit)?,
+            order: reordered(alloc, circuit)?,
             cells: new_cells(alloc, size)?,
             states: codes_of(alloc, &start)?,
         })
@@ -143,7 +154,7 @@ impl<'a> Machine<'a> {
             &mut self.cells,
             &mut self.states,
             self.circuit,
-            &self.gates,
+            gates_of(self.circuit, &self.order),
             row,
         );
     }
