@@ -1,5 +1,5 @@
 //! Bytes that wait to be handed on.
-ghost use Rattle.std.specs.Prelude.{◌≡◌, ◌+◌, ◌<◌, ◌≤◌, ◌↔◌, [], ◌++◌, length, take, drop, IsTrue};
+ghost use Rattle.std.specs.Prelude.{◌≡◌, ◌+◌, ◌<◌, ◌≤◌, ◌↔◌, [], ◌∷◌, ◌++◌, length, take, drop, false, IsTrue};
 
 use std::marker::Model;
 
@@ -62,6 +62,22 @@ impl Block {
             self.start = 0;
             self.end = 0;
         }
+    }
+
+    /// Puts in one byte, and answers whether there was room for it. Where there was none nothing changes.
+    #[inline]
+    pub fn push(&mut self, byte: u8) -> bool
+        ensures pushed { IsTrue result → self.new ≡ self.old ++ byte ∷ [] }
+        ensures full { result ≡ false → self.new ≡ self.old }
+        ensures some { self.old ≡ [] → IsTrue result }
+    {
+        let behind = self.end;
+        if behind == ROOM {
+            return false;
+        }
+        self.bytes[behind] = byte;
+        self.end = behind + 1;
+        true
     }
 
     /// Puts in what there is room for, and answers how many bytes that are.

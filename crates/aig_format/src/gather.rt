@@ -1,24 +1,47 @@
 //! Bytes that are gathered in a block before they go to a writer, so that a file costs few calls.
 ghost use Rattle.std.specs.Fmt.{decimal};
-ghost use Rattle.std.specs.Prelude.{◌∷◌, []};
+ghost use Rattle.std.specs.Prelude.{◌≡◌, ◌∷◌, [], OnOk};
 ghost use Rattle.aig_base.specs.Gathered.{Gathers};
 ghost use Rattle.aig_format.specs.Header.{field};
 
 use aig_base::{Block, Io, Write, write_all};
-use itoa::Buffer;
+use itoa::{Buffer, write_digits};
+
+/// Puts a byte behind what waits, which is handed on where there is no room.
+#[inline]
+pub(crate) fn put_byte<W: Write>(out: &mut W, block: &mut Block, byte: u8) -> Result<(), Io>
+    ensures { Gathers W.written W.failures out.old out.new block.old block.new (byte ∷ []) result }
+{
+    if block.push(byte) {
+        return Ok(());
+    }
+    hand_on(out, block)?;
+    block.push(byte);
+    Ok(())
+}
+
+/// Hands on all that waits.
+#[inline(never)]
+fn hand_on<W: Write>(out: &mut W, block: &mut Block) -> Result<(), Io>
+    ensures gathers { Gathers W.written W.failures out.old out.new block.old block.new [] result }
+    ensures all { OnOk result (block.new ≡ []) }
+{
+    let waiting = block.as_slice().len();
+    write_all(out, block.as_slice())?;
+    block.skip(waiting);
+    Ok(())
+}
 
 /// Puts the bytes behind what waits, and hands all on where there is no room.
 pub(crate) fn put<W: Write>(out: &mut W, block: &mut Block, bytes: &[u8]) -> Result<(), Io>
     ensures { Gathers W.written W.failures out.old out.new block.old block.new bytes.now result }
 {
-    let count = block.append(bytes);
-    if count == bytes.len() {
-        return Ok(());
+    let mut at = block.append(bytes);
+    while at < bytes.len() {
+        hand_on(out, block)?;
+        at += block.append(&bytes[at..]);
     }
-    let waiting = block.as_slice().len();
-    write_all(out, block.as_slice())?;
-    block.skip(waiting);
-    write_all(out, &bytes[count..])
+    Ok(())
 }
 
 /// Puts a number's decimal digits.
@@ -38,6 +61,7 @@ pub(crate) fn put_field<W: Write>(
 ) -> Result<(), Io>
     ensures { Gathers W.written W.failures out.old out.new block.old block.new (field number end) result }
 {
-    put_number(out, block, number)?;
-    put(out, block, &[end])
+    let mut bytes = [end; 11];
+    let start = write_digits(number as u64, &mut bytes, 10);
+    put(out, block, &bytes[start..])
 }

@@ -1,19 +1,30 @@
-use Rattle.std.proofs.Common.{◌≡◌, ◌∙◌, [], ap, drop, length, arith}
-use Rattle.std.proofs.lemmas.List.{drop_all, take_rest}
-use Rattle.aig_base.proofs.WriteLemmas.{writes_same}
-use Rattle.aig_format.proofs.GatherLemmas.{gathers_handed, gathers_not_handed, filled}
+use Rattle.std.proofs.Common.{ℕ, drop, arith, length-drop}
+use Rattle.std.proofs.lemmas.List.{length-take, take-append-drop, take_all}
+use Rattle.aig_base.proofs.GatherLemmas.{gathers_then, gathers_stop, gathers_failed, gathers_held, gathers_same}
+use Rattle.aig_format.proofs.GatherLemmas.{gathers_more, no_more}
 use Rattle.aig_format.proofs.gather.put.Goals as goal
 
-pub returns-in_err-write_all : goal.returns-in_err-write_all
-returns-in_err-write_all g c =
-    gathers_not_handed (drop c.append-count.result c.args.bytes.now) c.in_err-write_all.ensures
-    (filled c.args.block.now c.append-count.new.self _ c.args.bytes.now c.append-count.result c.append-count.ensures.appended c.as_slice.ensures)
-    c.from_residual.ensures.0
+pub loop-at-init : goal.loop-at-init
+loop-at-init g c = record { inside = c.append-at.ensures.bound; gathered = gathers_held c.append-at.ensures.appended }
+
+pub returns-in_err-hand_on : goal.returns-in_err-hand_on
+returns-in_err-hand_on g c =
+    let h = c.from_residual.ensures.0 in
+    gathers_same
+    (gathers_then c.loop-at.invariant.gathered
+    (gathers_stop (drop c.loop-at.at c.args.bytes.now) h (gathers_failed c.in_err-hand_on.ensures.gathers h)))
+    (take-append-drop c.loop-at.at c.args.bytes.now)
+
+pub loop-at-preserved : goal.loop-at-preserved
+loop-at-preserved g c =
+    let h = c.append-at-in-loop-at.ensures in
+    record {
+      inside = omega (arith, length-take {A = ℕ}, length-drop {A = ℕ}, h.bound);
+      gathered = gathers_more c.args.bytes.now c.loop-at.at c.append-at-in-loop-at.result c.loop-at.invariant.gathered
+          c.in_ok-hand_on.ensures.gathers h.appended;
+    }
 
 pub returns : goal.returns
 returns g c =
-    let emptied : c.skip.new.self ≡ [] =
-    c.skip.ensures ∙ drop_all (length c.as_slice-waiting.result.now) c.append-count.new.self (omega (arith, ap length c.as_slice-waiting.ensures)) in
-    rw emptied
-    (gathers_handed c.in_ok-write_all.ensures (writes_same c.write_all-2.ensures (take_rest c.args.bytes.now c.append-count.result))
-    (filled c.args.block.now c.append-count.new.self _ c.args.bytes.now c.append-count.result c.append-count.ensures.appended c.as_slice.ensures))
+    gathers_same (no_more c.loop-at.invariant.gathered)
+    (take_all c.loop-at.at c.args.bytes.now (omega (arith, c.loop-at-test.false)))

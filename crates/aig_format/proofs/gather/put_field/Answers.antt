@@ -1,10 +1,6 @@
-use Rattle.aig_base.proofs.GatherLemmas.{gathers_then, gathers_stop, gathers_failed}
+use Rattle.std.proofs.Common.{rules}
+use Rattle.std.proofs.lemmas.Fmt.{length-decimal-le}
 use Rattle.aig_format.proofs.gather.put_field.Goals as goal
 
-pub returns-in_err-put_number : goal.returns-in_err-put_number
-returns-in_err-put_number g c =
-    let h = c.from_residual.ensures.0 in
-    gathers_stop _ h (gathers_failed c.in_err-put_number.ensures h)
-
-pub returns : goal.returns
-returns g c = gathers_then c.in_ok-put_number.ensures c.put.ensures
+pub write_digits-start-requires : goal.write_digits-start-requires
+write_digits-start-requires g c = search (rules, length-decimal-le 10)
