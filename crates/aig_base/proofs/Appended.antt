@@ -12,7 +12,7 @@ use Rattle.aig_base.specs.declared.symbols.Kind.{Kind}
 use Rattle.aig_base.specs.declared.symbols.Kind.TheVariants as kind
 use Rattle.aig_base.specs.Changes.{next_gate, with_appended_gate}
 use Rattle.aig_base.specs.Circuit.{IsCircuit}
-use Rattle.aig_base.specs.Definition.{IsEntry, IsTable}
+use Rattle.aig_base.specs.Definition.{IsEntry, IsInOrder, IsTable}
 use Rattle.aig_base.specs.Formed.{IsFormed, limit, section_length}
 use Rattle.aig_base.specs.Grounded as grounded
 use Rattle.aig_base.specs.Grounded.{IsSource, Grounded, IsAcyclic}
@@ -21,6 +21,7 @@ use Rattle.aig_base.specs.Sections.{definitions, uses, IsDefined}
 use Rattle.aig_base.specs.Sound.{IsInRange, IsDefinition, IsSound, StandsTwice}
 use Rattle.aig_base.proofs.Counting.{sections_fit}
 use Rattle.aig_base.proofs.Defined.{Grounded-of_defined}
+use Rattle.aig_base.proofs.Evens.{evens_more}
 use Rattle.aig_base.proofs.Faults.{in_range_joined, in_range_parted, uses_joined, uses_parted}
 use Rattle.aig_base.proofs.Gates.{gate_of, IsGate-of_gate}
 use Rattle.aig_base.proofs.Gets.{All-at, slice_get_left, slice_get_last, slice_get_push}
@@ -203,3 +204,8 @@ module _ (raw : Raw) (r0 r1 : ℕ) where
       old v (Some (definition.Input p)) le h = h
       old v (Some (definition.Latch p)) le h = h
       old v (Some (definition.Gate q)) le (g, at, e) = (g, old_at q g at, e)
+
+  -- definitions in order stay so
+  pub more_in_order : IsInOrder raw → IsInOrder (with_appended_gate raw r0 r1)
+  more_in_order h =
+      more_definitions ∙ ap (λ ls. ls ++ 2 * (raw.max_var + 1) ∷ []) h ∙ sym (evens_more raw.max_var)

@@ -1,19 +1,28 @@
 -- The even literals of variables in order.
-use Rattle.std.proofs.Common.{◌≡◌, ◌↔◌, ℕ, zero, suc, ◌+◌, ◌*◌, ◌<◌, ◌≤◌, All, List, [], ◌∷◌, ◌++◌, Bool, true, false, IsTrue, length, map, take, get_or, refl, sym, ap, ap₂, ◌∙◌, arith, length-append}
+use Rattle.std.proofs.Common.{◌≡◌, ◌↔◌, ℕ, zero, suc, ◌+◌, ◌*◌, ◌<◌, ◌≤◌, All, List, [], ◌∷◌, ◌++◌, Bool, true, false, IsTrue, length, map, take, get_or, refl, sym, ap, ap₂, subst, ◌∙◌, arith, length-append}
 use Rattle.std.proofs.lemmas.Bool.{false≢true}
 use Rattle.std.proofs.lemmas.List.{take_more, take_at, append_cancel_left, map-append, length-map}
+use Rattle.std.proofs.lemmas.List.Elements.{All-same}
 use Rattle.std.proofs.lemmas.List.FromFn.{length-map-range_with_len, get_or-map-range_with_len, map-range_with_len_more}
 use Rattle.std.specs.List.{range_with_len}
 use Rattle.aig_base.specs.declared.raw.Raw.{Raw}
 use Rattle.aig_base.specs.Sections.{definitions}
 use Rattle.aig_base.specs.Renumbered.{evens, evens_from, IsBinaryReady}
 use Rattle.aig_base.specs.Ready.{SectionsInOrder}
+use Rattle.aig_base.specs.Sound.{IsDefinition}
 
 pub length-evens_from : (v n : ℕ) → length (evens_from v n) ≡ n
 length-evens_from v n = length-map-range_with_len (λ u. 2 * u) v n
 
 pub get_or-evens_from : (v n i d : ℕ) → i < n → get_or (evens_from v n) i d ≡ 2 * (v + i)
 get_or-evens_from v n i d lt = get_or-map-range_with_len (λ u. 2 * u) v n i (v + i) d lt refl
+
+-- the even literals of variables from 1 on are definitions
+pub evens_are : (ls : List ℕ) (n : ℕ) → ls ≡ evens n → All IsDefinition ls
+evens_are ls n is = All-same IsDefinition ls (evens n) is (λ k d lt.
+    let below : k < n = omega (arith, length-evens_from 1 n) in
+    let e = get_or-evens_from 1 n k d below in
+    subst IsDefinition (sym e) (omega arith, omega arith))
 
 -- one more literal in order, where a test says so
 pub in_order_more : (xs : List ℕ) (n v i x : ℕ) (b : Bool) → length xs ≡ n → i < n → get_or xs i 0 ≡ x
@@ -44,6 +53,12 @@ range-append v (suc m) n =
 pub evens-append : (v m n : ℕ) → evens_from v (m + n) ≡ evens_from v m ++ evens_from (v + m) n
 evens-append v m n = ap (map (λ u. 2 * u)) (range-append v m n)
     ∙ map-append (λ u. 2 * u) (range_with_len v m) (range_with_len (v + m) n)
+
+-- one more variable
+pub evens_more : (n : ℕ) → evens (n + 1) ≡ evens n ++ 2 * (n + 1) ∷ []
+evens_more n =
+    let e : 1 + n ≡ n + 1 = omega arith in
+    evens-append 1 n 1 ∙ ap (λ (v : ℕ). evens n ++ 2 * v ∷ []) e
 
 split_at : (i l a : ℕ) → evens (i + l + a) ≡ evens_from 1 i ++ evens_from (1 + i) l ++ evens_from (1 + i + l) a
 split_at i l a =

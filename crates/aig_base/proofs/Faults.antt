@@ -17,7 +17,7 @@ use Rattle.aig_base.specs.Formed.{IsFormed}
 use Rattle.aig_base.specs.Grounded.{Grounded, IsAcyclic}
 use Rattle.aig_base.specs.Least.{IsLeastAmong, IsKnown, IsGroundedGate, gate_variable, latch_variable}
 use Rattle.aig_base.specs.Literal.{variable}
-use Rattle.aig_base.specs.Ranged.{AreInRange, AreDefinitions}
+use Rattle.aig_base.specs.Ranged.{AreInRange, AreDefinedOnce, AreDefinitions}
 use Rattle.aig_base.specs.Sections.{definitions, uses, IsDefined}
 use Rattle.aig_base.specs.Sound.{IsInRange, IsDefinition, IsRedefined, IsUndefined, IsReset}
 use Rattle.aig_base.proofs.Entering.{same_or_not}
@@ -261,31 +261,36 @@ module _ (raw : Raw) where
       first = none_before 7 (omega arith) (λ l. in_range_joined r) (λ l. are_definitions_joined d) (λ l. h.twice) (λ l. absurd (omega arith)) (λ l. absurd (omega arith));
     }
 
-    module _ (known : IsLeastAmong (IsKnown table) variable (uses raw) None) where
-      pub first_reset : (v : ℕ) → IsLeastAmong IsReset latch_variable raw.latches (Some v) → IsFirstFault raw (fault.Reset v)
-      first_reset v least = record {
-        applies = least_is_reset v least;
-        first = none_before 8 (omega arith) (λ l. in_range_joined r) (λ l. are_definitions_joined d) (λ l. h.twice) (λ l. uses_defined table None h known) (λ l. absurd (omega arith));
-      }
+    pub once_from_table : IsLeastAmong (IsKnown table) variable (uses raw) None → AreDefinedOnce raw
+    once_from_table known =
+        record { definitions_are = are_definitions_joined d; once = h.twice; defined = uses_defined table None h known }
 
-      pub first_cycle : (v : ℕ) → IsLeastAmong IsReset latch_variable raw.latches None
-          → IsLeastAmong (IsGroundedGate raw) gate_variable raw.gates (Some v) → IsFirstFault raw (fault.Cycle v)
-      first_cycle v resets least = record {
-        applies = least_is_cycle v least;
-        first = none_before 9 (omega arith) (λ l. in_range_joined r) (λ l. are_definitions_joined d) (λ l. h.twice) (λ l. uses_defined table None h known) (λ l. resets);
-      }
+  -- the tests that are left, once what is used is defined
+  module _ (r : AreInRange raw) (o : AreDefinedOnce raw) where
+    pub first_reset : (v : ℕ) → IsLeastAmong IsReset latch_variable raw.latches (Some v) → IsFirstFault raw (fault.Reset v)
+    first_reset v least = record {
+      applies = least_is_reset v least;
+      first = none_before 8 (omega arith) (λ l. in_range_joined r) (λ l. o.definitions_are) (λ l. o.once) (λ l. o.defined) (λ l. absurd (omega arith));
+    }
 
-      -- no fault is left
-      pub circuit_from_tests : IsFormed raw → IsLeastAmong IsReset latch_variable raw.latches None
-          → IsLeastAmong (IsGroundedGate raw) gate_variable raw.gates None → IsCircuit raw
-      circuit_from_tests formed resets grounded = record {
-        formed = formed;
-        sound = record {
-          in_range = in_range_joined r;
-          definitions = are_definitions_joined d;
-          once = h.twice;
-          defined = uses_defined table None h known;
-          resets = resets;
-        };
-        acyclic = acyclic_from_grounded grounded;
-      }
+    pub first_cycle : (v : ℕ) → IsLeastAmong IsReset latch_variable raw.latches None
+        → IsLeastAmong (IsGroundedGate raw) gate_variable raw.gates (Some v) → IsFirstFault raw (fault.Cycle v)
+    first_cycle v resets least = record {
+      applies = least_is_cycle v least;
+      first = none_before 9 (omega arith) (λ l. in_range_joined r) (λ l. o.definitions_are) (λ l. o.once) (λ l. o.defined) (λ l. resets);
+    }
+
+    -- no fault is left
+    pub circuit_from_tests : IsFormed raw → IsLeastAmong IsReset latch_variable raw.latches None
+        → IsLeastAmong (IsGroundedGate raw) gate_variable raw.gates None → IsCircuit raw
+    circuit_from_tests formed resets grounded = record {
+      formed = formed;
+      sound = record {
+        in_range = in_range_joined r;
+        definitions = o.definitions_are;
+        once = o.once;
+        defined = o.defined;
+        resets = resets;
+      };
+      acyclic = acyclic_from_grounded grounded;
+    }

@@ -19,6 +19,7 @@ pub mod Gates
 pub mod GatherLemmas
 pub mod Gets
 pub mod Heights
+pub mod InOrder
 pub mod Joined
 pub mod LeastAmong
 pub mod LevelBound

@@ -3,12 +3,15 @@ use Rattle.std.proofs.Common.{◌≡◌, ℕ, ◌<◌, List, get_or, length-set,
 use Rattle.std.proofs.lemmas.List.Elements.{All-set}
 use Rattle.aig_base.specs.declared.definition.Definition.{Definition}
 use Rattle.aig_base.specs.declared.definition.Definition.TheVariants as definition
+use Rattle.aig_base.specs.declared.definitions.Definitions.{Definitions}
+use Rattle.aig_base.specs.declared.definitions.Definitions.TheVariants as kept
 use Rattle.aig_base.specs.declared.raw.Raw.{Raw}
 use Rattle.aig_base.specs.declared.symbols.Kind.{Kind}
 use Rattle.aig_base.specs.declared.symbols.Kind.TheVariants as kind
 use Rattle.aig_base.specs.Changes.{with_output}
 use Rattle.aig_base.specs.Circuit.{IsCircuit}
 use Rattle.aig_base.specs.Definition.{IsEntry, IsTable}
+use Rattle.aig_base.specs.Definitions.{Tells}
 use Rattle.aig_base.specs.Formed.{IsFormed, section_length}
 use Rattle.aig_base.specs.Grounded as grounded
 use Rattle.aig_base.specs.Grounded.{IsSource, Grounded}
@@ -89,3 +92,7 @@ module _ (raw : Raw) (position lit : ℕ) where
       of v (Some (definition.Input p)) h = h
       of v (Some (definition.Latch p)) h = h
       of v (Some (definition.Gate q)) h = h
+
+  pub with_output-tells : (d : Definitions) → Tells raw d → Tells (with_output raw position lit) d
+  with_output-tells kept.InOrder h = h
+  with_output-tells (kept.Listed table) h = with_output-table table.items h

@@ -18,49 +18,21 @@ use Rattle.aig_base.specs.Sound.{IsSound, IsInRange, IsRedefined, IsReset}
 use Rattle.aig_base.proofs.Counting.{length-order}
 use Rattle.aig_base.proofs.Defined.{defined_cases}
 use Rattle.aig_base.proofs.EachUse.{EachUse, all_uses}
-use Rattle.aig_base.proofs.Evens.{length-evens_from, get_or-evens_from}
+use Rattle.aig_base.proofs.Evens.{evens_are, length-evens_from, get_or-evens_from}
+use Rattle.aig_base.proofs.InOrder.{defined_to, once_only}
 use Rattle.aig_base.proofs.Places.{gate, IsDefinition-of_definitions}
 use Rattle.aig_base.proofs.Positions.{unmap}
 use Rattle.aig_base.proofs.Renumberings.{definition_of_place}
 use Rattle.aig_base.proofs.RenumberedParts.{renumbered_formed, variable_bound}
 use Rattle.aig_base.proofs.RenumberedReady.{renumbered_ready, literal_bound}
-use Rattle.aig_base.proofs.RenumberedValues.{evens_are, false_literal, true_literal}
+use Rattle.aig_base.proofs.RenumberedValues.{false_literal, true_literal}
 
 -- parts that a binary file can hold, whose literals are in range
 module _ (raw : Raw) (ready : IsBinaryReady raw) (used : All (IsInRange raw) (uses raw)) where
-  defined_to : (v : ℕ) → v ≤ raw.max_var → IsDefined raw v
-  defined_to zero le = (0, omega arith, refl)
-  defined_to (suc v) le =
-      let long : length (map variable (definitions raw)) ≡ raw.max_var =
-      length-map (definitions raw) variable ∙ ap length ready.in_order ∙ length-evens_from 1 raw.max_var in
-      let below : v < length (definitions raw) = omega (arith, length-map (definitions raw) variable) in
-      let e : get_or (definitions raw) v 0 ≡ 2 * (1 + v) =
-      ap (λ (ls : List ℕ). get_or ls v 0) ready.in_order ∙ get_or-evens_from 1 raw.max_var v 0 (omega arith) in
-      let f : variable (2 * (1 + v)) ≡ suc v = omega arith in
-      (suc v, omega arith, get_or-map variable (definitions raw) v 0 (suc v) below ∙ ap variable e ∙ f)
-
-  once_only : (v : ℕ) → IsRedefined raw v → ⊥
-  once_only v (i, j, lt, at, here) =
-      let number : (k : ℕ) → slice_get (map variable (definitions raw)) k ≡ Some v
-      → v ≡ 1 + k = λ k stands. number_at k stands in
-      omega (arith, number i at, number j here)
-    where
-      number_at : (k : ℕ) → slice_get (map variable (definitions raw)) k ≡ Some v → v ≡ 1 + k
-      number_at k stands =
-          let inside = slice_get_within (map variable (definitions raw)) k v stands in
-          let below : k < length (definitions raw) = omega (arith, length-map (definitions raw) variable) in
-          let long : length (definitions raw) ≡ raw.max_var = ap length ready.in_order
-          ∙ length-evens_from 1 raw.max_var in
-          let e : get_or (definitions raw) k 0 ≡ 2 * (1 + k) =
-          ap (λ (ls : List ℕ). get_or ls k 0) ready.in_order ∙ get_or-evens_from 1 raw.max_var k 0 (omega arith) in
-          let f : variable (2 * (1 + k)) ≡ 1 + k = omega arith in
-          sym (get_or_from_slice_get (map variable (definitions raw)) k v v stands)
-          ∙ get_or-map variable (definitions raw) k 0 v below ∙ ap variable e ∙ f
-
   -- by the size of the variable
   grounded_below : (n v : ℕ) → v < n → v ≤ raw.max_var → Grounded raw v
   grounded_below zero v lt le = absurd (omega arith)
-  grounded_below (suc n) v lt le = elim (defined_cases raw v (defined_to v le)) [
+  grounded_below (suc n) v lt le = elim (defined_cases raw v (defined_to raw ready.in_order v le)) [
     | inl source ↦ grounded.Grounded.source v source
     | inr is_gate ↦ from_gate (unmap (λ (g : Gate). variable g.lhs) raw.gates v is_gate) (grounded_below n)
   ]
@@ -92,9 +64,9 @@ module _ (raw : Raw) (ready : IsBinaryReady raw) (used : All (IsInRange raw) (us
   ready_sound resets = record {
     in_range = All-append (IsInRange raw) (definitions raw) (uses raw) in_definitions used;
     definitions = evens_are (definitions raw) raw.max_var ready.in_order;
-    once = once_only;
+    once = once_only raw ready.in_order;
     defined = All-weaker (IsInRange raw) (λ l. IsDefined raw (variable l))
-        (λ l r. defined_to (variable l) (half l r)) (uses raw) used;
+        (λ l r. defined_to raw ready.in_order (variable l) (half l r)) (uses raw) used;
     resets = resets;
   }
 

@@ -14,20 +14,13 @@ use Rattle.aig_base.specs.Sections.{definitions}
 use Rattle.aig_base.specs.Sound.{IsSound, IsDefinition}
 use Rattle.aig_base.specs.Value as value
 use Rattle.aig_base.specs.Value.{Value}
-use Rattle.aig_base.proofs.Evens.{joined, get_or-evens_from, length-evens_from}
+use Rattle.aig_base.proofs.Evens.{evens_are, joined}
 use Rattle.aig_base.proofs.NegatedValues.{of_negation, of_ready}
 use Rattle.aig_base.proofs.Places.{gate}
 use Rattle.aig_base.proofs.RenumberedParts.{ordered_at}
 use Rattle.aig_base.proofs.RenumberedReady.{sections, constant_variable}
 use Rattle.aig_base.proofs.Renumberings.{Contains-map}
 use Rattle.aig_base.proofs.Roles.{one_place}
-
--- the even literals of variables from 1 on are definitions
-pub evens_are : (ls : List ℕ) (n : ℕ) → ls ≡ evens n → All IsDefinition ls
-evens_are ls n is = All-same IsDefinition ls (evens n) is (λ k d lt.
-    let below : k < n = omega (arith, length-evens_from 1 n) in
-    let e = get_or-evens_from 1 n k d below in
-    subst IsDefinition (sym e) (omega arith, omega arith))
 
 -- the literal of an odd one
 odd_literal : (raw : Raw) (order : List ℕ) (l : ℕ) → 1 < l → IsNegated l

@@ -7,6 +7,8 @@ use Rattle.std.proofs.lemmas.Bool.Decides.{Decides-eqb}
 use Rattle.std.proofs.lemmas.Option.{slice_get-map, same_Some, none-some, get_or_from_slice_get}
 use Rattle.aig_base.specs.declared.definition.Definition.{Definition}
 use Rattle.aig_base.specs.declared.definition.Definition.TheVariants as definition
+use Rattle.aig_base.specs.declared.definitions.Definitions.{Definitions}
+use Rattle.aig_base.specs.declared.definitions.Definitions.TheVariants as kept
 use Rattle.aig_base.specs.declared.gate.Gate.{Gate}
 use Rattle.aig_base.specs.declared.latch.Latch.{Latch}
 use Rattle.aig_base.specs.declared.raw.Raw.{Raw}
@@ -17,6 +19,7 @@ use Rattle.aig_base.specs.declared.ternary.Tern.TheVariants.{Zero, One, X}
 use Rattle.aig_base.specs.Changes.{rewired, with_gate, reset_literal, restarted, with_reset}
 use Rattle.aig_base.specs.Circuit.{IsCircuit}
 use Rattle.aig_base.specs.Definition.{Defines, IsEntry, IsTable}
+use Rattle.aig_base.specs.Definitions.{Tells}
 use Rattle.aig_base.specs.Formed.{IsFormed, section_length}
 use Rattle.aig_base.specs.Grounded as grounded
 use Rattle.aig_base.specs.Grounded.{IsSource, Grounded, IsAcyclic}
@@ -170,6 +173,10 @@ module _ (lhs r0 r1 : ℕ) where
         of v (Some (definition.Gate q)) (g, at, e) =
             (rewired lhs r0 r1 g, slice_get-map (rewired lhs r0 r1) raw.gates q ∙ ap (option_map (rewired lhs r0 r1)) at, e)
 
+    pub with_gate-tells : (d : Definitions) → Tells raw d → Tells (with_gate raw lhs r0 r1) d
+    with_gate-tells kept.InOrder h = sym same_definitions ∙ h
+    with_gate-tells (kept.Listed table) h = with_gate-table table.items h
+
     -- the write that the table leads to makes the change
     pub gate_changed : IsSound raw → IsLeftSide raw lhs → (v q : ℕ) (d : Definition) (gates : List Gate) → v ≡ variable lhs → d ≡ definition.Gate q
         → Defines raw v d → gates ≡ set raw.gates q (record { lhs = lhs; rhs0 = r0; rhs1 = r1 }) → gates ≡ map (rewired lhs r0 r1) raw.gates
@@ -298,6 +305,10 @@ module _ (lit : ℕ) (w : Tern) where
         of v (Some (definition.Gate q)) h = h
         of v (Some (definition.Latch p)) (x, at, e) =
             (restarted lit w x, slice_get-map (restarted lit w) raw.latches p ∙ ap (option_map (restarted lit w)) at, e)
+
+    pub with_reset-tells : (d : Definitions) → Tells raw d → Tells (with_reset raw lit w) d
+    with_reset-tells kept.InOrder h = sym reset_definitions ∙ h
+    with_reset-tells (kept.Listed table) h = with_reset-table table.items h
 
     -- the write that the table leads to makes the change
     pub reset_changed : IsSound raw → IsLatchLiteral raw lit → (v p : ℕ) (d : Definition) (x : Latch) (latches : List Latch) → v ≡ variable lit → d ≡ definition.Latch p

@@ -6,6 +6,7 @@ use Rattle.aig_base.specs.declared.raw.Raw.{Raw}
 use Rattle.aig_base.specs.declared.definition.Definition.{Definition}
 use Rattle.aig_base.specs.declared.definition.Definition.TheVariants as definition
 use Rattle.aig_base.specs.Literal.{variable}
+use Rattle.aig_base.specs.Renumbered.{evens}
 use Rattle.aig_base.specs.Sections.{definitions}
 
 abbrev pub Defines : Raw → ℕ → Definition → Type 0
@@ -25,3 +26,7 @@ IsEntry raw v (Some d) = Defines raw v d
 pub record IsTable (raw : Raw) (table : List (Option Definition)) : Type 0 where
   pub size : length table ≡ raw.max_var + 1
   pub entries : (v : ℕ) (entry : Option Definition) → slice_get table v ≡ Some entry → IsEntry raw v entry
+
+-- inputs, latches and left sides are in order the literals 2, 4, .., 2M
+abbrev pub IsInOrder : Raw → Type 0
+IsInOrder raw = definitions raw ≡ evens raw.max_var

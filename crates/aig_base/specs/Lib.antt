@@ -4,6 +4,7 @@ pub mod Changes
 pub mod Circuit
 pub mod Completion
 pub mod Definition
+pub mod Definitions
 pub mod Descent
 pub mod Entries
 pub mod Filled

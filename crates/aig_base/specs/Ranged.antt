@@ -1,7 +1,9 @@
--- The first two tests of parts, section by section.
-use Rattle.std.specs.Prelude.{All}
+-- The first tests of parts.
+use Rattle.std.specs.Prelude.{ℕ, All}
 use Rattle.aig_base.specs.declared.raw.Raw.{Raw}
-use Rattle.aig_base.specs.Sound.{IsInRange, IsDefinition}
+use Rattle.aig_base.specs.Literal.{variable}
+use Rattle.aig_base.specs.Sections.{definitions, uses, IsDefined}
+use Rattle.aig_base.specs.Sound.{IsInRange, IsDefinition, IsRedefined}
 
 -- each literal but a reset is in range
 pub record AreInRange (raw : Raw) : Type 0 where
@@ -19,3 +21,9 @@ pub record AreDefinitions (raw : Raw) : Type 0 where
   pub inputs : All (λ l. IsDefinition l) raw.inputs
   pub latches : All (λ x. IsDefinition x.lit) raw.latches
   pub gates : All (λ g. IsDefinition g.lhs) raw.gates
+
+-- what is defined is even and not 0, no variable is defined twice, and each that is used is defined
+pub record AreDefinedOnce (raw : Raw) : Type 0 where
+  pub definitions_are : All IsDefinition (definitions raw)
+  pub once : (v : ℕ) → IsRedefined raw v → ⊥
+  pub defined : All (λ l. IsDefined raw (variable l)) (uses raw)

@@ -11,7 +11,6 @@ ghost use Rattle.aig_base.specs.Sections.{IsDefined};
 ghost use Rattle.aig_base.specs.Visits.{AreNoVisits, FitsOneMore};
 
 use crate::circuit::Circuit;
-use crate::definition::Definition;
 use crate::fault::Memory;
 use crate::gate::Gate;
 use crate::level::{Levels, level_over};
@@ -43,9 +42,9 @@ impl Circuit {
     {
         let gate = self.next_gate(r0, r1);
         let position = self.raw.gates.len() as u32;
-        self.table.reserve(1)?;
+        self.definitions.make_room()?;
         self.raw.gates.push(gate)?;
-        self.table.push_reserved(Some(Definition::Gate(position)));
+        self.definitions.append_gate(position);
         self.raw.max_var += 1;
         Ok(())
     }

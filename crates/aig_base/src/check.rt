@@ -1,17 +1,19 @@
 //! The test of parts.
 ghost use Rattle.std.specs.Prelude.{◌≡◌, ◌≢◌, ◌≤◌, ◌↔◌, All, IsTrue, IfOk, IfErr, OnOk};
 ghost use Rattle.aig_base.specs.Circuit.{IsCircuit};
-ghost use Rattle.aig_base.specs.Definition.{IsTable};
+ghost use Rattle.aig_base.specs.Definition.{IsInOrder, IsTable};
+ghost use Rattle.aig_base.specs.Definitions.{Tells};
 ghost use Rattle.aig_base.specs.FirstFault.{IsFirstFault};
 ghost use Rattle.aig_base.specs.Formed.{IsFormed, CountsFit};
 ghost use Rattle.aig_base.specs.Least.{IsLeastAmong, IsGroundedGate, ReadsSmaller, gate_variable};
 ghost use Rattle.aig_base.specs.Literal.{variable};
-ghost use Rattle.aig_base.specs.Ranged.{AreInRange, AreDefinitions};
+ghost use Rattle.aig_base.specs.Ranged.{AreInRange, AreDefinedOnce, AreDefinitions};
 ghost use Rattle.aig_base.specs.Sections.{uses, IsDefined};
 ghost use Rattle.aig_base.specs.Sound.{IsDefinition};
 
 use crate::circuit::Circuit;
 use crate::definition::Definition;
+use crate::definitions::Definitions;
 use crate::entries::Entries;
 use crate::fault::{Fault, Memory};
 use crate::gate::Gate;
@@ -21,6 +23,7 @@ use crate::least::{least_bad_reset, least_undefined, least_unmarked};
 use crate::list::List;
 use crate::literal::Lit;
 use crate::raw::Raw;
+use crate::ready::definitions_in_order;
 use std::alloc::Global;
 
 fn within(literals: &[Lit], greatest: u32) -> bool
@@ -117,16 +120,27 @@ fn least_ungrounded(alloc: Global, raw: &Raw) -> Result<Option<u32>, Memory>
     Ok(least_unmarked(marks.as_slice(), gates))
 }
 
-// The table of definitions of these parts, or their first fault.
-fn tested_table(alloc: Global, raw: &Raw) -> Result<Vec<Option<Definition>>, Fault>
-    requires { IsFormed raw.now }
-    ensures circuit { OnOk result (IsCircuit raw.now) }
+// Whether the definitions are in order the literals 2, 4, .., 2M.
+fn are_in_order(raw: &Raw) -> bool
+    requires { CountsFit raw.now }
+    ensures { IsTrue result ↔ IsInOrder raw.now }
+{
+    definitions_in_order(
+        raw.inputs.as_slice(),
+        raw.latches.as_slice(),
+        raw.gates.as_slice(),
+        raw.max_var,
+    )
+}
+
+// The table of definitions of parts in range, or the first fault of what they define and use.
+fn listed_definitions(alloc: Global, raw: &Raw) -> Result<Vec<Option<Definition>>, Fault>
+    requires counts { CountsFit raw.now }
+    requires range { AreInRange raw.now }
     ensures table { IfOk result (λ table. IsTable raw.now table.items) }
+    ensures once { OnOk result (AreDefinedOnce raw.now) }
     ensures fault { IfErr result (λ fault. fault ≢ Fault.Memory → IsFirstFault raw.now fault) }
 {
-    if !are_in_range(raw) {
-        return Err(Fault::Range);
-    }
     if !are_definitions(raw) {
         return Err(Fault::Definition);
     }
@@ -137,13 +151,55 @@ fn tested_table(alloc: Global, raw: &Raw) -> Result<Vec<Option<Definition>>, Fau
     if let Some(variable) = least_undefined(&table, raw) {
         return Err(Fault::Undefined(variable));
     }
+    Ok(table)
+}
+
+// The definitions of parts in range, or the first fault of what they define and use. Where the definitions are in order,
+// as in every binary file, there is none.
+fn tested_definitions(alloc: Global, raw: &Raw) -> Result<Definitions, Fault>
+    requires counts { CountsFit raw.now }
+    requires range { AreInRange raw.now }
+    ensures tells { IfOk result (Tells raw.now) }
+    ensures once { OnOk result (AreDefinedOnce raw.now) }
+    ensures fault { IfErr result (λ fault. fault ≢ Fault.Memory → IsFirstFault raw.now fault) }
+{
+    if are_in_order(raw) {
+        return Ok(Definitions::InOrder);
+    }
+    let table = listed_definitions(alloc, raw)?;
+    Ok(Definitions::Listed(table))
+}
+
+// Whether the parts are a circuit, where each variable is known to be defined once: or their first fault.
+fn test_resets_and_cycles(alloc: Global, raw: &Raw) -> Result<(), Fault>
+    requires formed { IsFormed raw.now }
+    requires range { AreInRange raw.now }
+    requires once { AreDefinedOnce raw.now }
+    ensures circuit { OnOk result (IsCircuit raw.now) }
+    ensures fault { IfErr result (λ fault. fault ≢ Fault.Memory → IsFirstFault raw.now fault) }
+{
     if let Some(variable) = least_bad_reset(raw.latches.as_slice()) {
         return Err(Fault::Reset(variable));
     }
     if let Some(variable) = least_ungrounded(alloc, raw)? {
         return Err(Fault::Cycle(variable));
     }
-    Ok(table)
+    Ok(())
+}
+
+// The definitions of these parts, or their first fault.
+fn tested(alloc: Global, raw: &Raw) -> Result<Definitions, Fault>
+    requires { IsFormed raw.now }
+    ensures circuit { OnOk result (IsCircuit raw.now) }
+    ensures tells { IfOk result (Tells raw.now) }
+    ensures fault { IfErr result (λ fault. fault ≢ Fault.Memory → IsFirstFault raw.now fault) }
+{
+    if !are_in_range(raw) {
+        return Err(Fault::Range);
+    }
+    let definitions = tested_definitions(alloc, raw)?;
+    test_resets_and_cycles(alloc, raw)?;
+    Ok(definitions)
 }
 
 impl Circuit {
@@ -156,7 +212,7 @@ impl Circuit {
         ensures circuit { IfOk result IsCircuit }
         ensures fault { IfErr result (λ fault. fault ≢ Fault.Memory → IsFirstFault raw fault) }
     {
-        let table = tested_table(alloc, &raw)?;
-        Ok(Circuit { raw, table })
+        let definitions = tested(alloc, &raw)?;
+        Ok(Circuit { raw, definitions })
     }
 }

@@ -4,6 +4,7 @@ ghost use Rattle.aig_base.specs.Circuit.{IsCircuit};
 ghost use Rattle.aig_base.specs.Definition.{Defines, IsFree};
 
 use crate::definition::Definition;
+use crate::definitions::Definitions;
 use crate::gate::Gate;
 use crate::latch::Latch;
 use crate::list::List;
@@ -16,8 +17,7 @@ use std::marker::Model;
 #[derive(Drop, Debug)]
 pub struct Circuit {
     pub(crate) raw: Raw,
-    // What defines each variable, 0 to M.
-    pub(crate) table: Vec<Option<Definition>>,
+    pub(crate) definitions: Definitions,
 }
 
 impl Model for Circuit {
@@ -26,11 +26,11 @@ impl Model for Circuit {
     ghost Value = { Raw };
 
     ghost use Rattle.aig_base.specs.Circuit.{IsCircuit};
-    ghost use Rattle.aig_base.specs.Definition.{IsTable};
+    ghost use Rattle.aig_base.specs.Definitions.{Tells};
 
     ghost view = { λ a. a.raw };
 
-    ghost invariant = { λ a. IsCircuit a.raw × IsTable a.raw a.table.items };
+    ghost invariant = { λ a. IsCircuit a.raw × Tells a.raw a.definitions };
 }
 
 impl Circuit {
@@ -121,9 +121,6 @@ impl Circuit {
         ensures found { IfSome result (Defines self.now variable) }
         ensures none { IfNone result (IsFree self.now variable) }
     {
-        match self.table.get(variable as usize) {
-            Some(entry) => *entry,
-            None => None,
-        }
+        self.definitions.get(&self.raw, variable)
     }
 }

@@ -12,6 +12,7 @@ mod circuit;
 mod count;
 mod cycle;
 mod definition;
+mod definitions;
 mod entries;
 mod fault;
 mod gate;

@@ -63,8 +63,13 @@ fn sides_go_down(gates: &[Gate]) -> bool
         && gate.rhs1.value() <= gate.rhs0.value())
 }
 
-// Whether inputs, latches and left sides are in order the literals of the variables 1 to `max_var`.
-fn definitions_in_order(inputs: &[Lit], latches: &[Latch], gates: &[Gate], max_var: u32) -> bool
+/// Whether inputs, latches and left sides are in order the literals of the variables 1 to `max_var`.
+pub(crate) fn definitions_in_order(
+    inputs: &[Lit],
+    latches: &[Latch],
+    gates: &[Gate],
+    max_var: u32,
+) -> bool
     requires inputs { length inputs.now ≤ limit }
     requires latches { length latches.now ≤ limit }
     requires gates { length gates.now ≤ limit }

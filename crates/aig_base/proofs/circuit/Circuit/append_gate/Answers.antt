@@ -1,33 +1,33 @@
-use Rattle.std.proofs.Common.{◌≡◌, ◌<◌, [], ◌∷◌, ◌++◌, length, Some, sym, ap, subst, ◌∙◌}
-use Rattle.aig_base.specs.declared.definition.Definition.TheVariants as definition
+use Rattle.std.proofs.Common.{◌≡◌, ◌<◌, [], ◌∷◌, ◌++◌, length, sym, ap, subst, ◌∙◌}
 use Rattle.aig_base.specs.declared.gate.Gate.{Gate}
 use Rattle.aig_base.specs.declared.raw.Raw.{Raw}
 use Rattle.aig_base.specs.Changes.{next_gate}
 use Rattle.aig_base.specs.Formed.{limit}
 use Rattle.aig_base.specs.Literal.{variable}
 use Rattle.aig_base.specs.Sections.{IsDefined}
-use Rattle.aig_base.proofs.Appended.{more_circuit, more_table}
+use Rattle.aig_base.proofs.Appended.{more_circuit}
 use Rattle.aig_base.proofs.circuit.Circuit.append_gate.Goals as goal
 
+pub invariant_of-self : goal.invariant_of-self
+invariant_of-self c = (c.self.invariant.0, c.make_room.ensures.tells c.self.inside.raw c.self.invariant.1)
+
 pub invariant_of-self-in_err-push : goal.invariant_of-self-in_err-push
-invariant_of-self-in_err-push c = rw (c.in_err-push.ensures.err, c.reserve.ensures.items) c.self.invariant
+invariant_of-self-in_err-push c =
+    rw c.in_err-push.ensures.err (c.self.invariant.0, c.make_room.ensures.tells c.self.inside.raw c.self.invariant.1)
 
 pub invariant_of-self-2 : goal.invariant_of-self-2
 invariant_of-self-2 c =
     let raw = c.self.inside.raw in
-    let table = c.self.inside.table.items in
     let r0 = c.args.r0 in
     let r1 = c.args.r1 in
     let back = sym c.self.view_is in
     let gates : c.push.new.self ≡ raw.gates ++ next_gate raw r0 r1 ∷ [] =
     c.in_ok-push.ensures.ok
     ∙ ap (λ (g : Gate). raw.gates ++ g ∷ []) (c.next_gate-gate.ensures ∙ ap (λ (r : Raw). next_gate r r0 r1) back) in
-    let entries : c.push_reserved.new.self.items ≡ table ++ Some (definition.Gate (length raw.gates)) ∷ [] =
-    c.push_reserved.ensures.items ∙ ap (λ es. es ++ Some (definition.Gate c.len-position.result) ∷ []) c.reserve.ensures.items
-    ∙ ap (λ n. table ++ Some (definition.Gate n) ∷ []) c.len-position.ensures in
-    rw (gates, entries) (
+    rw gates (
       more_circuit raw r0 r1 c.self.invariant.0 (subst (λ (r : Raw). r.max_var < limit) back c.requires.below)
           (subst (λ (r : Raw). IsDefined r (variable r0)) back c.requires.defined0)
           (subst (λ (r : Raw). IsDefined r (variable r1)) back c.requires.defined1),
-      more_table raw r0 r1 table c.self.invariant.1,
+      c.append_gate.ensures raw r0 r1 (sym c.len-position.ensures)
+          (c.make_room.ensures.tells raw c.self.invariant.1),
     )

@@ -2,7 +2,7 @@ use Rattle.std.proofs.Common.{sym, subst}
 use Rattle.aig_base.specs.declared.raw.Raw.{Raw}
 use Rattle.aig_base.specs.Literal.{variable}
 use Rattle.aig_base.specs.Sections.{IsDefined}
-use Rattle.aig_base.proofs.Outputs.{with_output-circuit, with_output-table}
+use Rattle.aig_base.proofs.Outputs.{with_output-circuit, with_output-tells}
 use Rattle.aig_base.proofs.circuit.Circuit.replace_output.Goals as goal
 
 pub invariant_of-self : goal.invariant_of-self
@@ -12,5 +12,5 @@ invariant_of-self c =
     let defined = subst (λ (r : Raw). IsDefined r (variable lit)) (sym c.self.view_is) c.requires.defined in
     rw c.set.ensures (
       with_output-circuit raw c.args.position lit c.self.invariant.0 defined,
-      with_output-table raw c.args.position lit c.self.inside.table.items c.self.invariant.1,
+      with_output-tells raw c.args.position lit c.self.inside.definitions c.self.invariant.1,
     )

@@ -8,7 +8,7 @@ use Rattle.aig_base.specs.Circuit.{IsCircuit}
 use Rattle.aig_base.specs.Definition.{Defines}
 use Rattle.aig_base.specs.Sections.{IsLatchLiteral}
 use Rattle.aig_base.proofs.EntryPlaces.{latch_literal_defined}
-use Rattle.aig_base.proofs.Rewiring.{reset_changed, with_reset-circuit, with_reset-table}
+use Rattle.aig_base.proofs.Rewiring.{reset_changed, with_reset-circuit, with_reset-tells}
 use Rattle.aig_base.proofs.circuit.Circuit.replace_reset.Goals as goal
 
 pub invariant_of-self : goal.invariant_of-self
@@ -21,7 +21,7 @@ invariant_of-self c =
     let found = subst (λ (r : Raw). Defines r c.var.result c.in-Some.definition) back c.in-Some.ensures.found in
     let written = subst (λ (n : ℕ). c.set.new.self ≡ set raw.latches c.in-Latch.position (record { lit = lit; next = x.next; reset = n })) c.reset_for.ensures c.set.ensures in
     let e = reset_changed lit c.args.value raw c.self.invariant.0.sound is c.var.result c.in-Latch.position c.in-Some.definition x c.set.new.self c.var.ensures c.in-Latch.is found c.index.ensures written in
-    rw e (with_reset-circuit lit c.args.value raw c.self.invariant.0, with_reset-table lit c.args.value raw c.self.inside.table.items c.self.invariant.1)
+    rw e (with_reset-circuit lit c.args.value raw c.self.invariant.0, with_reset-tells lit c.args.value raw c.self.inside.definitions c.self.invariant.1)
 
 pub returns-in-Latch : goal.returns-in-Latch
 returns-in-Latch c =

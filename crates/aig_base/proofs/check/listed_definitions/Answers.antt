@@ -1,0 +1,43 @@
+use Rattle.std.proofs.Common.{ℕ, List, Option, Some, None, map, sym, ◌∙◌, subst, true≢false}
+use Rattle.aig_base.specs.declared.definition.Definition.{Definition}
+use Rattle.aig_base.specs.Entries.{IsLeastTwice, AreEntries}
+use Rattle.aig_base.specs.Least.{IsLeastAmong, IsKnown}
+use Rattle.aig_base.specs.Literal.{variable}
+use Rattle.aig_base.specs.Sections.{definitions, uses}
+use Rattle.aig_base.proofs.Faults.{first_definition, first_redefined, first_undefined, once_from_table, table_from_entries}
+use Rattle.aig_base.proofs.check.listed_definitions.Goals as goal
+
+pub returns-then-not-are_definitions-clause-fault : goal.returns-then-not-are_definitions-clause-fault
+returns-then-not-are_definitions-clause-fault c = λ other.
+    first_definition c.args.raw.now c.requires.range
+    (λ h. true≢false (sym (c.are_definitions.ensures.1 h) ∙ c.if-not-are_definitions.true))
+
+pub returns-in-Some-clause-fault : goal.returns-in-Some-clause-fault
+returns-in-Some-clause-fault c = λ other.
+    let raw = c.args.raw.now in
+    first_redefined raw c.in-Some.variable c.requires.range (c.are_definitions.ensures.0 c.if-not-are_definitions.false)
+    (subst (λ (o : Option ℕ). IsLeastTwice (map variable (definitions raw)) o) c.in-Some.is c.in_ok-table.ensures.twice)
+
+pub returns-in-Some-least_undefined-clause-fault : goal.returns-in-Some-least_undefined-clause-fault
+returns-in-Some-least_undefined-clause-fault c = λ other.
+    let raw = c.args.raw.now in
+    let table = c.in_ok-table.field-0.table.items in
+    let range = c.requires.range in
+    let defs = c.are_definitions.ensures.0 c.if-not-are_definitions.false in
+    let entries = subst (λ (o : Option ℕ). AreEntries raw (map variable (definitions raw)) table o) c.in_default.is c.in_ok-table.ensures in
+    first_undefined raw table range defs entries c.in-Some-least_undefined.variable
+    (subst (λ (t : List (Option Definition)). IsLeastAmong (IsKnown t) variable (uses raw) (Some c.in-Some-least_undefined.variable)) c.deref.ensures.value
+    c.in-Some-least_undefined.ensures)
+
+pub returns-clause-once : goal.returns-clause-once
+returns-clause-once c =
+    let raw = c.args.raw.now in
+    let table = c.in_ok-table.field-0.table.items in
+    let entries = subst (λ (o : Option ℕ). AreEntries raw (map variable (definitions raw)) table o) c.in_default.is c.in_ok-table.ensures in
+    let defs = c.are_definitions.ensures.0 c.if-not-are_definitions.false in
+    once_from_table raw table c.requires.range defs entries
+    (subst (λ (t : List (Option Definition)). IsLeastAmong (IsKnown t) variable (uses raw) None) c.deref.ensures.value
+    c.in_default-least_undefined.ensures)
+
+pub returns-clause-table : goal.returns-clause-table
+returns-clause-table c = table_from_entries c.args.raw.now c.in_ok-table.field-0.table.items c.in_ok-table.field-0.again c.in_ok-table.ensures
