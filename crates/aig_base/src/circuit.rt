@@ -2,6 +2,7 @@
 ghost use Rattle.std.specs.Prelude.{◌≡◌, ◌<◌, ◌≤◌, Contains, IfSome, IfNone, option_copied};
 ghost use Rattle.aig_base.specs.Circuit.{IsCircuit};
 ghost use Rattle.aig_base.specs.Definition.{Defines, IsFree};
+ghost use Rattle.aig_base.specs.Renumbered.{IsBinaryReady};
 
 use crate::definition::Definition;
 use crate::definitions::Definitions;
@@ -13,7 +14,8 @@ use crate::raw::Raw;
 use crate::symbols::Symbols;
 use std::marker::Model;
 
-/// A circuit: parts that are formed, sound and acyclic. `Circuit::check` makes one.
+/// A circuit: parts that are formed, sound and acyclic. `Circuit::check` makes one, and `Circuit::of_ready` one of parts
+/// that are known to be one.
 #[derive(Drop, Debug)]
 pub struct Circuit {
     pub(crate) raw: Raw,
@@ -34,6 +36,19 @@ impl Model for Circuit {
 }
 
 impl Circuit {
+    /// The circuit of parts that are known to be one, and that a binary file can hold. Nothing is tested, in constant
+    /// time and without memory.
+    pub fn of_ready(raw: Raw) -> Circuit
+        requires circuit { IsCircuit raw }
+        requires ready { IsBinaryReady raw }
+        ensures { result ≡ raw }
+    {
+        Circuit {
+            raw,
+            definitions: Definitions::InOrder,
+        }
+    }
+
     /// The greatest variable M. Its contract also says that the parts are formed, sound and acyclic: a proof calls it to
     /// learn that.
     pub fn max_var(&self) -> u32

@@ -1,12 +1,11 @@
 //! Renumbering.
 ghost use Rattle.std.specs.Prelude.{◌≡◌, ℕ, List, IfOk};
-ghost use Rattle.aig_base.specs.Circuit.{IsCircuit};
 ghost use Rattle.aig_base.specs.Order.{IsCanonicalOrder};
 ghost use Rattle.aig_base.specs.Renumbered.{renumbered, IsBinaryReady};
 ghost use Rattle.aig_base.specs.RenumberingTable.{renumbered_by, AreListed};
 
 use crate::circuit::Circuit;
-use crate::fault::{Fault, Memory};
+use crate::fault::Memory;
 use crate::level::Levels;
 use crate::order::canonical_order;
 use crate::raw::Raw;
@@ -43,20 +42,6 @@ fn renumbered_parts(
     })
 }
 
-// The circuit of parts that are known to be one: no other fault than a want of memory is left.
-fn check_circuit(alloc: Global, parts: Raw) -> Result<Circuit, Memory>
-    requires { IsCircuit parts }
-    ensures { IfOk result (λ circuit. circuit ≡ parts) }
-{
-    match Circuit::check(alloc, parts) {
-        Ok(circuit) => Ok(circuit),
-        Err(fault) => {
-            prove!(matches!(fault, Fault::Memory));
-            Err(Memory)
-        }
-    }
-}
-
 /// The circuit with the variables 1, 2, .. in order: inputs, latches, gates in the canonical order, each gate with its
 /// greater right side first. Negations, resets, symbols and comment stay; unused variables go. A binary file can hold
 /// it. Linear in the circuit.
@@ -71,5 +56,5 @@ pub fn renumber(alloc: Global, circuit: &Circuit) -> Result<Circuit, Memory>
     let order = canonical_order(alloc, circuit, &levels)?;
     let table = renumbered_variables(alloc, circuit, &order)?;
     let parts = renumbered_parts(alloc, circuit, &order, &table)?;
-    check_circuit(alloc, parts)
+    Ok(Circuit::of_ready(parts))
 }
