@@ -1,6 +1,11 @@
 #!/usr/bin/env bash
-# Measures the toolkit against plain Rust programs, and prints tables in Markdown.
-# usage: bench/run.sh [PART..]        (conversions, simulations, growth, grids, edits, benches; without a part: all)
+# Measures the toolkit against a tuned C++ program and against plain Rust programs, and prints tables in Markdown.
+# usage: bench/run.sh ratios [--jobs WORDS] [--shapes WORDS] [--list]
+#            the table of ratios aig / C++, of those jobs and shapes whose names hold the words
+#        bench/run.sh [PART..]
+#            the comparisons with plain Rust programs: conversions, simulations, growth, grids, edits, benches
+#        bench/run.sh
+#            all of both
 #
 # AIG=PROGRAM       measures this program (else the proved crates/aig/out/aig; where that is not there, one is built
 #                   without proofs by bench/build_unproved.sh)
@@ -8,15 +13,23 @@
 # GRIDS=PROGRAM     takes this program that times grids (else it is built without proofs)
 # AIG_PLANES=PROGRAM, AIG_BYTES=PROGRAM     take these with a bench of either grid (else they are built without proofs)
 # TIMES=N           takes the best of N runs (else of 5)
-# It needs cargo, python3 and rt, and 500 MB for files. Nothing is written outside a temporary folder.
+# ROOM=FOLDER       keeps what is built and made in this folder, for the next call; else all is put in a temporary one
+# It needs c++, cargo, python3 and rt, and 1 GB for files. Nothing is written elsewhere.
 set -eu
 bench=$(realpath "$(dirname "$0")")
 repository=$(dirname "$bench")
-room=$(mktemp -d)
-trap 'rm -rf "$room"' EXIT
+if [ -n "${ROOM:-}" ]; then
+    mkdir -p "$ROOM"
+    room=$(realpath "$ROOM")
+    rm -rf "$room/repository"
+else
+    room=$(mktemp -d)
+    trap 'rm -rf "$room"' EXIT
+fi
 
 echo "building .." >&2
 (cd "$bench/plain" && CARGO_TARGET_DIR=$room/target cargo build --release --quiet)
+c++ -O2 -std=c++17 -o "$room/tuned" "$bench/tuned/main.cpp"
 
 # A copy of the crates in which the growth program and that of the grids are two of them. Their files have another ending
 # in the repository, since `rt ci` refuses a .rt file that no check reads.
@@ -46,6 +59,17 @@ elif [ -z "${AIG:-}" ]; then
     kind="built without proofs, an estimate of the proved program"
     "$bench/build_unproved.sh" "$room/repository" aig "$AIG"
 fi
+AIG=$(realpath "$AIG")
+mkdir -p "$room/files"
+export AIG KIND="$kind" TARGET=$room/target/release TIMES=${TIMES:-5}
+ratios() { (cd "$room/files" && TUNED=$room/tuned GENERATE=$TARGET/generate python3 "$bench/ratios.py" "$@"); }
+if [ "${1:-}" = ratios ]; then
+    shift
+    ratios "$@"
+    exit
+fi
+[ $# -gt 0 ] || ratios
+
 if [ -z "${GROWTH:-}" ]; then
     GROWTH=$room/growth
     "$bench/build_unproved.sh" "$room/repository" growth "$GROWTH"
@@ -65,12 +89,10 @@ if [ -z "${AIG_BYTES:-}" ]; then
     "$bench/build_unproved.sh" "$room/repository" aig "$AIG_BYTES"
 fi
 
-AIG=$(realpath "$AIG")
 GROWTH=$(realpath "$GROWTH")
 GRIDS=$(realpath "$GRIDS")
 AIG_PLANES=$(realpath "$AIG_PLANES")
 AIG_BYTES=$(realpath "$AIG_BYTES")
-mkdir "$room/files"
 cd "$room/files"
-export AIG AIG_PLANES AIG_BYTES GROWTH GRIDS KIND="$kind" TARGET=$room/target/release TIMES=${TIMES:-5}
+export AIG_PLANES AIG_BYTES GROWTH GRIDS
 python3 "$bench/measure.py" "$@"

@@ -6,7 +6,9 @@ use std::process::ExitCode;
 
 const USAGE: &str =
     "usage: generate circuit SHAPE INPUTS LATCHES OUTPUTS GATES | stimulus INPUTS FRAMES
-SHAPE: random, chain, comb, or reversed (the gates of random, with lines and variables from the last to the first)";
+       | names COUNT | comment BYTES | values FRAMES VARIABLES LINES
+SHAPE: random, chain, comb, wide (each gate reads inputs and latches alone), reversed (the gates of random, with lines and
+variables from the last to the first), or shuffled (with lines and variables in any order)";
 
 /// How far back a random gate reads, in variables. Every eighth side is picked from all.
 const NEAR: u64 = 4096;
@@ -42,6 +44,15 @@ fn side(random: &mut Random, greatest: u64) -> u64 {
     2 * (greatest - random.below(reach)) + random.below(2)
 }
 
+/// The numbers below a count in any order.
+fn shuffled(random: &mut Random, count: u64) -> Vec<u64> {
+    let mut numbers: Vec<u64> = (0..count).collect();
+    for place in (1..numbers.len()).rev() {
+        numbers.swap(place, random.below(place as u64 + 1) as usize);
+    }
+    numbers
+}
+
 /// The right sides of the gates in order, the greater first.
 fn gates(shape: &str, random: &mut Random, sources: u64, count: u64) -> Vec<(u64, u64)> {
     (0..count)
@@ -61,6 +72,10 @@ fn gates(shape: &str, random: &mut Random, sources: u64, count: u64) -> Vec<(u64
                     2 * greatest + random.below(2),
                     2 * (greatest - 1) + random.below(2),
                 ),
+                "wide" => (
+                    2 * (1 + random.below(sources)) + random.below(2),
+                    2 * (1 + random.below(sources)) + random.below(2),
+                ),
                 _ => (side(random, greatest), side(random, greatest)),
             };
             (a.max(b), a.min(b))
@@ -74,13 +89,16 @@ fn circuit(out: &mut impl Write, shape: &str, counts: [u64; 4]) -> io::Result<()
     let sources = inputs + latches;
     let sides = gates(shape, &mut random, sources, count);
     let greatest = sources + count;
-    // In a reversed circuit the last gate has the first variable behind the sources.
-    let name = |literal: u64| {
-        if shape == "reversed" && literal / 2 > sources {
-            2 * (sources + greatest + 1 - literal / 2) + literal % 2
-        } else {
-            literal
-        }
+    // The places of the gates' variables behind the sources, and the order of the lines.
+    let (places, lines) = match shape {
+        "reversed" => ((0..count).rev().collect(), (0..count).rev().collect()),
+        "shuffled" => (shuffled(&mut random, count), shuffled(&mut random, count)),
+        _ => ((0..count).collect(), (0..count).collect::<Vec<u64>>()),
+    };
+    let places: Vec<u64> = places;
+    let name = |literal: u64| match (literal / 2).checked_sub(sources + 1) {
+        Some(place) => 2 * (sources + 1 + places[place as usize]) + literal % 2,
+        None => literal,
     };
     writeln!(out, "aag {greatest} {inputs} {latches} {outputs} {count}")?;
     for variable in 1..=inputs {
@@ -93,18 +111,49 @@ fn circuit(out: &mut impl Write, shape: &str, counts: [u64; 4]) -> io::Result<()
     for _ in 0..outputs {
         writeln!(out, "{}", name(side(&mut random, greatest)))?;
     }
-    let line = |place: usize| {
-        let (rhs0, rhs1) = sides[place];
-        (2 * (sources + place as u64 + 1), rhs0, rhs1)
-    };
-    for place in 0..sides.len() {
-        let place = if shape == "reversed" {
-            sides.len() - 1 - place
-        } else {
-            place
-        };
-        let (lhs, rhs0, rhs1) = line(place);
+    for place in lines {
+        let (rhs0, rhs1) = sides[place as usize];
+        let lhs = 2 * (sources + place + 1);
         writeln!(out, "{} {} {}", name(lhs), name(rhs0), name(rhs1))?;
+    }
+    Ok(())
+}
+
+/// So many inputs and outputs, half each, that all have a name.
+fn names(out: &mut impl Write, count: u64) -> io::Result<()> {
+    let half = count / 2;
+    writeln!(out, "aag {half} {half} 0 {half} 0")?;
+    for variable in (1..=half).chain(1..=half) {
+        writeln!(out, "{}", 2 * variable)?;
+    }
+    for position in 0..half {
+        writeln!(out, "i{position} bus_{}[{}]", position / 64, position % 64)?;
+    }
+    for position in 0..half {
+        writeln!(out, "o{position} result_{}[{}]", position / 64, position % 64)?;
+    }
+    Ok(())
+}
+
+/// A wire with a comment of so many bytes, in lines.
+fn comment(out: &mut impl Write, bytes: u64) -> io::Result<()> {
+    let line = b"a comment that goes on for as long as it was asked to, in lines\n";
+    out.write_all(b"aag 1 1 0 1 0\n2\n2\nc\n")?;
+    let mut left = bytes as usize;
+    while left > 0 {
+        let count = left.min(line.len());
+        out.write_all(&line[..count])?;
+        left -= count;
+    }
+    Ok(())
+}
+
+/// A script that asks for values.
+fn values(out: &mut impl Write, frames: u64, variables: u64, lines: u64) -> io::Result<()> {
+    let mut random = Random::new();
+    for _ in 0..lines {
+        let frame = random.below(frames);
+        writeln!(out, "v {frame} {}", random.below(2 * variables + 2))?;
     }
     Ok(())
 }
@@ -125,7 +174,7 @@ fn stimulus(out: &mut impl Write, inputs: u64, frames: u64) -> io::Result<()> {
 fn run(words: &[&str]) -> Result<(), Box<dyn Error>> {
     let mut out = BufWriter::new(io::stdout().lock());
     match words {
-        ["circuit", shape @ ("random" | "chain" | "comb" | "reversed"), inputs, latches, outputs, count] => {
+        ["circuit", shape @ ("random" | "chain" | "comb" | "wide" | "reversed" | "shuffled"), inputs, latches, outputs, count] => {
             let counts = [
                 inputs.parse()?,
                 latches.parse()?,
@@ -135,6 +184,11 @@ fn run(words: &[&str]) -> Result<(), Box<dyn Error>> {
             circuit(&mut out, shape, counts)?;
         }
         ["stimulus", inputs, frames] => stimulus(&mut out, inputs.parse()?, frames.parse()?)?,
+        ["names", count] => names(&mut out, count.parse()?)?,
+        ["comment", bytes] => comment(&mut out, bytes.parse()?)?,
+        ["values", frames, variables, lines] => {
+            values(&mut out, frames.parse()?, variables.parse()?, lines.parse()?)?;
+        }
         _ => return Err(USAGE.into()),
     }
     out.flush()?;

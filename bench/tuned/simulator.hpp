@@ -1,0 +1,143 @@
+// Three-valued simulation, a byte a cell.
+#pragma once
+
+#include "checker.hpp"
+#include "circuit.hpp"
+#include "writer.hpp"
+
+#include <cstring>
+#include <fcntl.h>
+#include <unistd.h>
+#include <vector>
+
+// The codes of values: AND is the AND of the codes.
+enum Code : uint8_t { zero = 0, unknown = 1, one = 3 };
+
+// The code of a literal by its sign and its variable's code.
+inline constexpr uint8_t signed_code[8] = {zero, unknown, 2, one, one, unknown, 2, zero};
+// The character of a literal by the same.
+inline constexpr char signed_character[] = "0x?11x?0";
+
+inline uint8_t value(const uint8_t* cells, uint32_t literal) {
+    return signed_code[(literal & 1) << 2 | cells[literal >> 1]];
+}
+
+inline char character(const uint8_t* cells, uint32_t literal) {
+    return signed_character[(literal & 1) << 2 | cells[literal >> 1]];
+}
+
+// The code of a character; of any other byte one with the high bit.
+struct Codes {
+    uint8_t of[256];
+    constexpr Codes() : of() {
+        for (uint8_t& code : of) code = 0x80;
+        of[uint8_t('0')] = zero;
+        of[uint8_t('1')] = one;
+        of[uint8_t('x')] = unknown;
+    }
+};
+inline constexpr Codes codes;
+
+inline uint8_t reset_code(const Latch& latch) { return latch.reset == 0 ? zero : latch.reset == 1 ? one : unknown; }
+
+// The circuit's gates in an order in which each is behind those that it reads.
+inline Array<Gate> gates_in_order(Circuit& circuit) {
+    if (circuit.is_ordered) return std::move(circuit.gates);
+    return Levels(circuit).ordered_gates(circuit);
+}
+
+inline void evaluate(uint8_t* cells, const Array<Gate>& gates) {
+    for (const Gate& gate : gates) cells[gate.lhs >> 1] = value(cells, gate.rhs0) & value(cells, gate.rhs1);
+}
+
+// Takes a stimulus line's values into the cells of the inputs; whether all bytes are values.
+inline bool take_row(const Circuit& circuit, const char* line, uint8_t* cells) {
+    uint8_t seen = 0;
+    for (uint32_t input : circuit.inputs) {
+        uint8_t code = codes.of[uint8_t(*line++)];
+        seen |= code;
+        cells[input >> 1] = code;
+    }
+    return seen < 0x80;
+}
+
+[[noreturn]] inline void refuse_line(const Circuit& circuit, const char* line, size_t length, uint64_t number) {
+    bool are_values = true;
+    for (size_t place = 0; place < length; ++place) are_values &= codes.of[uint8_t(line[place])] < 0x80;
+    (void)circuit;
+    throw Refusal{(are_values ? "stimulus: length of line " : "stimulus: character in line ") + std::to_string(number)};
+}
+
+class Simulator {
+public:
+    Simulator(Circuit whole, Output& out)
+        : circuit(std::move(whole)), gates(gates_in_order(circuit)), cells(circuit.max_var + 1, unknown), out(out) {
+        cells[0] = zero;
+        for (const Latch& latch : circuit.latches) {
+            states.push_back(reset_code(latch));
+            state_text.push_back(signed_character[states.back()]);
+        }
+    }
+
+    void run(int file) {
+        std::vector<char> block(1 << 16);
+        size_t held = 0;
+        for (;;) {
+            if (held == block.size()) block.resize(2 * held);
+            ssize_t count = read(file, &block[held], block.size() - held);
+            if (count < 0) throw Refusal{"stimulus: input or output", 3};
+            if (count == 0) break;
+            const char* at = &block[0];
+            const char* end = at + held + size_t(count);
+            const char* unsearched = at + held;
+            while (const void* found = memchr(unsearched, '\n', size_t(end - unsearched))) {
+                const char* ending = static_cast<const char*>(found);
+                step(at, size_t(ending - at));
+                at = unsearched = ending + 1;
+            }
+            held = size_t(end - at);
+            memmove(&block[0], at, held);
+            out.flush();
+        }
+        if (held > 0) throw Refusal{"stimulus: unfinished"};
+    }
+
+private:
+    Circuit circuit;
+    Array<Gate> gates;
+    std::vector<uint8_t> cells, states;
+    std::string state_text;
+    Output& out;
+    uint64_t lines = 0;
+
+    // Takes a line of values, and writes that of the trace.
+    void step(const char* line, size_t length) {
+        ++lines;
+        if (length != circuit.inputs.size() || !take_row(circuit, line, cells.data()))
+            refuse_line(circuit, line, length, lines);
+        const uint8_t* state = states.data();
+        for (const Latch& latch : circuit.latches) cells[latch.lit >> 1] = *state++;
+        evaluate(cells.data(), gates);
+        out.put(state_text);
+        out.put(' ');
+        out.put(line, length);
+        out.put(' ');
+        put_values(circuit.outputs);
+        out.put(' ');
+        for (size_t place = 0; place < states.size(); ++place) {
+            states[place] = value(cells.data(), circuit.latches[place].next);
+            state_text[place] = signed_character[states[place]];
+        }
+        out.put(state_text);
+        out.put('\n');
+    }
+
+    void put_values(const Array<uint32_t>& literals) {
+        for (size_t place = 0; place < literals.size();) {
+            size_t behind = std::min(literals.size(), place + 4096);
+            char* to = out.room(4096);
+            for (; place < behind; ++place) *to++ = character(cells.data(), literals[place]);
+            out.advance(to);
+        }
+    }
+};
