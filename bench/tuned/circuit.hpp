@@ -1,11 +1,12 @@
-// The parts of a circuit, and arrays whose items are not written before they are needed.
+// The parts of a circuit, and arrays whose room is not touched before it is needed.
 #pragma once
 
+#include <algorithm>
 #include <cstddef>
 #include <cstdint>
+#include <cstring>
 #include <memory>
 #include <string>
-#include <string_view>
 
 // Why a file is refused, in the words of `aig`.
 struct Refusal {
@@ -13,13 +14,26 @@ struct Refusal {
     int status = 1;
 };
 
-// An array with room for so many items, of which the first are there. The room is not touched before it is used.
+// An array of plain items that grows.
 template <class T>
 class Array {
 public:
     Array() = default;
-    explicit Array(size_t room) : items(new T[room]) {}
-    void push(T item) { items[length++] = item; }
+    explicit Array(size_t room) : items(new T[room]), room(room) {}
+    void push(T item) {
+        if (length == room) grow(2 * room + 16);
+        items[length++] = item;
+    }
+    // Room for so many more items at the end, which `add` takes in.
+    T* behind(size_t count) {
+        if (length + count > room) grow(2 * room + count);
+        return end();
+    }
+    void add(size_t count) { length += count; }
+    void remove_first(size_t count) {
+        std::copy(begin() + count, end(), begin());
+        length -= count;
+    }
     T& operator[](size_t place) { return items[place]; }
     const T& operator[](size_t place) const { return items[place]; }
     T* begin() { return items.get(); }
@@ -27,12 +41,17 @@ public:
     const T* begin() const { return items.get(); }
     const T* end() const { return items.get() + length; }
     size_t size() const { return length; }
-    // All of the room was written by place.
-    void fill(size_t count) { length = count; }
 
 private:
     std::unique_ptr<T[]> items;
-    size_t length = 0;
+    size_t length = 0, room = 0;
+
+    void grow(size_t wider) {
+        std::unique_ptr<T[]> copy(new T[wider]);
+        std::copy(begin(), end(), copy.get());
+        items = std::move(copy);
+        room = wider;
+    }
 };
 
 // A latch line. A reset is 0, 1, or the latch's own literal.
@@ -44,24 +63,14 @@ struct Gate {
     uint32_t lhs, rhs0, rhs1;
 };
 
-// A name and where it belongs; its bytes are those of the file.
+// A name's section, position and length.
 struct Symbol {
-    uint32_t position;
-    uint32_t length;
-    const char* name;
+    uint32_t position, length;
     char kind;
-};
-
-// The whole file, with some bytes behind it at which every reading stops: no digit, no blank, no end of a delta.
-struct File {
-    static constexpr size_t padding = 8;
-    std::unique_ptr<char[]> bytes;
-    size_t size = 0;
 };
 
 // The parts of a circuit file, in the order of the file.
 struct Circuit {
-    File file;
     bool is_binary = false;
     uint32_t max_var = 0;
     Array<uint32_t> inputs;
@@ -71,9 +80,10 @@ struct Circuit {
     Array<uint32_t> fairness;
     Array<Gate> gates;
     Array<Symbol> symbols;
+    Array<char> names;  // of all symbols, one behind the other
     bool has_comment = false;
-    std::string_view comment;
-    // The greatest literal, resets aside.
+    Array<char> comment;
+    // The greatest literal, resets and the gates of a binary file aside.
     uint32_t greatest_literal = 0;
     // Each gate reads smaller variables alone, so that there is no cycle.
     bool is_ascending = false;

@@ -13,35 +13,43 @@
 static const char usage[] =
     "usage: tuned toaag CIRCUIT | toaig CIRCUIT | sim CIRCUIT STIM | bench CIRCUIT STIM SCRIPT\n";
 
-static int open_file(const char* path, const char* part) {
-    int file = open(path, O_RDONLY);
-    if (file < 0) throw Refusal{std::string(part) + ": input or output", 3};
-    return file;
-}
-
-static Circuit read_circuit(const char* path) {
-    Circuit circuit = Reader(read_file(path, "circuit")).read();
+static Circuit read_circuit(Source& source) {
+    Circuit circuit = Reader(source).read();
     check(circuit);
     return circuit;
 }
 
+static void convert(const char* word, const char* path, Output& out) {
+    Source source(path, "circuit");
+    Circuit circuit = read_circuit(source);
+    if (strcmp(word, "toaig") == 0) return Writer(circuit, out).write_binary();
+    if (!circuit.is_ascending) Levels levels(circuit);
+    Writer(circuit, out).write_ascii();
+}
+
+static void simulate(char** paths, Output& out) {
+    Source circuit(paths[0], "circuit"), stimulus(paths[1], "stimulus");
+    Simulator(read_circuit(circuit), out).run(stimulus);
+}
+
+static void bench(char** paths, Output& out) {
+    Source circuit(paths[0], "circuit"), stimulus(paths[1], "stimulus"), script(paths[2], "script");
+    Circuit whole = read_circuit(circuit);
+    Array<char> rows(stimulus.size() + Source::block);
+    stimulus.take_rest(rows);
+    Workbench(std::move(whole), rows, out).run(script);
+}
+
 static void run(int count, char** words, Output& out) {
-    if (count == 3 && strcmp(words[1], "toaag") == 0) {
-        Circuit circuit = read_circuit(words[2]);
-        if (!circuit.is_ascending) Levels levels(circuit);
-        Writer(circuit, out).write_ascii();
-    } else if (count == 3 && strcmp(words[1], "toaig") == 0) {
-        Circuit circuit = read_circuit(words[2]);
-        Writer(circuit, out).write_binary();
-    } else if (count == 4 && strcmp(words[1], "sim") == 0) {
-        int stimulus = open_file(words[3], "stimulus");
-        Simulator(read_circuit(words[2]), out).run(stimulus);
-    } else if (count == 5 && strcmp(words[1], "bench") == 0) {
-        int script = open_file(words[4], "script");
-        Workbench(read_circuit(words[2]), read_file(words[3], "stimulus"), out).run(script);
-    } else {
+    const char* word = count > 1 ? words[1] : "";
+    if (count == 3 && (strcmp(word, "toaag") == 0 || strcmp(word, "toaig") == 0))
+        convert(word, words[2], out);
+    else if (count == 4 && strcmp(word, "sim") == 0)
+        simulate(words + 2, out);
+    else if (count == 5 && strcmp(word, "bench") == 0)
+        bench(words + 2, out);
+    else
         throw Refusal{"usage", 2};
-    }
 }
 
 int main(int count, char** words) {

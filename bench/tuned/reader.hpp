@@ -2,45 +2,16 @@
 #pragma once
 
 #include "circuit.hpp"
+#include "input.hpp"
 
-#include <algorithm>
-#include <cstring>
-#include <fcntl.h>
-#include <sys/stat.h>
-#include <unistd.h>
 #include <vector>
 
-// The whole file, by one read where its size is known.
-inline File read_file(const char* path, const char* part) {
-    int file = open(path, O_RDONLY);
-    struct stat status;
-    if (file < 0 || fstat(file, &status) != 0) throw Refusal{std::string(part) + ": input or output", 3};
-    size_t room = S_ISREG(status.st_mode) ? size_t(status.st_size) + 1 : 1 << 16;
-    File made{std::unique_ptr<char[]>(new char[room + File::padding]), 0};
-    for (;;) {
-        ssize_t count = read(file, &made.bytes[made.size], room - made.size);
-        if (count < 0) throw Refusal{std::string(part) + ": input or output", 3};
-        if (count == 0) break;
-        made.size += size_t(count);
-        if (made.size == room) {
-            std::unique_ptr<char[]> wider(new char[2 * room + File::padding]);
-            memcpy(wider.get(), made.bytes.get(), made.size);
-            made.bytes = std::move(wider);
-            room *= 2;
-        }
-    }
-    close(file);
-    memset(&made.bytes[made.size], 0x80, File::padding);
-    return made;
-}
-
+// Reads a file block by block. Before each entry there are bytes enough in hand for every entry but a name, or all that
+// are left, with some behind them at which every reading stops: no digit, no blank, no end of a delta.
 class Reader {
 public:
-    explicit Reader(File whole) {
-        circuit.file = std::move(whole);
-        begin = reinterpret_cast<const uint8_t*>(circuit.file.bytes.get());
-        end = begin + circuit.file.size;
-        at = begin;
+    explicit Reader(Source& source) : source(source), bytes(new uint8_t[room_of_block]), at(bytes.get()), end(at) {
+        refill();
     }
 
     Circuit read() {
@@ -64,18 +35,50 @@ private:
         uint32_t others[4] = {0, 0, 0, 0};
     };
 
+    static constexpr size_t in_hand = 64;
+    static constexpr size_t padding = 8;
+    static constexpr size_t room_of_block = in_hand + Source::block + padding;
+
+    Source& source;
+    std::unique_ptr<uint8_t[]> bytes;
+    const uint8_t *at, *end;
+    size_t before = 0;  // how many bytes of the file are before those in the block
+    bool is_at_end = false;
     Circuit circuit;
-    const uint8_t *begin, *end, *at;
     uint32_t greatest = 0;  // of the literals so far
 
+    void need_entry() {
+        if (size_t(end - at) < in_hand) refill();
+    }
+
+    // Reads on until there are bytes enough for an entry, or no more.
+    void refill() {
+        size_t held = size_t(end - at);
+        before += size_t(at - bytes.get());
+        memmove(bytes.get(), at, held);
+        while (held < in_hand && !is_at_end) {
+            size_t count = source.take(reinterpret_cast<char*>(bytes.get()) + held, Source::block);
+            is_at_end = count == 0;
+            held += count;
+        }
+        at = bytes.get();
+        end = at + held;
+        memset(bytes.get() + held, 0x80, padding);
+    }
+
     [[noreturn]] void refuse(const uint8_t* place) const {
-        throw Refusal{"circuit: text at " + std::to_string(std::min(place, end) - begin)};
+        size_t offset = before + size_t(std::min(place, end) - bytes.get());
+        throw Refusal{"circuit: text at " + std::to_string(offset)};
     }
     [[noreturn]] static void refuse_limit() { throw Refusal{"circuit: limit"}; }
 
-    size_t left() const { return size_t(end - at); }
+    // How many bytes are left of a file, or in the block of what is none.
+    size_t left() const {
+        size_t taken = before + size_t(at - bytes.get());
+        return std::max(source.size(), taken + size_t(end - at)) - taken;
+    }
 
-    // Room for so many entries, but never for more than the bytes that are left can spell.
+    // Room for so many entries at once, but never for more than the bytes that are left can spell.
     template <class T>
     Array<T> room(uint32_t count, size_t bytes_each) const {
         return Array<T>(std::min<size_t>(count, left() / bytes_each + 1));
@@ -102,6 +105,8 @@ private:
         if (*at != wanted) refuse(at);
         ++at;
     }
+
+    // ---- entries
 
     uint32_t literal(uint8_t ending) {
         uint32_t value = number();
@@ -134,10 +139,10 @@ private:
     // ---- the header line
 
     void read_word() {
-        bool is_text = left() < 2 || begin[1] == 'a';
+        bool is_text = at[1] == 'a';
         const char* word = is_text ? "aag " : "aig ";
-        size_t length = std::min<size_t>(left(), 4);
-        if (memcmp(begin, word, length) != 0) refuse(begin);
+        size_t length = std::min<size_t>(size_t(end - at), 4);
+        if (memcmp(at, word, length) != 0) refuse(at);
         if (length < 4) refuse(end);
         circuit.is_binary = !is_text;
         at += 4;
@@ -172,7 +177,10 @@ private:
 
     Array<uint32_t> literals(uint32_t count) {
         Array<uint32_t> made = room<uint32_t>(count, 2);
-        for (uint32_t place = 0; place < count; ++place) made.push(literal('\n'));
+        for (uint32_t place = 0; place < count; ++place) {
+            need_entry();
+            made.push(literal('\n'));
+        }
         return made;
     }
 
@@ -195,6 +203,7 @@ private:
         circuit.justice_sizes = room<uint32_t>(counts.others[2], 2);
         uint32_t total = 0;
         for (uint32_t place = 0; place < counts.others[2]; ++place) {
+            need_entry();
             uint32_t size = number();
             total += size;
             if (total > count_limit) refuse_limit();
@@ -208,10 +217,14 @@ private:
     void read_ascii(const Counts& counts) {
         circuit.inputs = literals(counts.inputs);
         circuit.latches = room<Latch>(counts.latches, 4);
-        for (uint32_t place = 0; place < counts.latches; ++place) circuit.latches.push(latch(literal(' ')));
+        for (uint32_t place = 0; place < counts.latches; ++place) {
+            need_entry();
+            circuit.latches.push(latch(literal(' ')));
+        }
         read_properties(counts);
         circuit.gates = room<Gate>(counts.gates, 6);
         for (uint32_t place = 0; place < counts.gates; ++place) {
+            need_entry();
             uint32_t lhs = literal(' ');
             uint32_t rhs0 = literal(' ');
             uint32_t rhs1 = literal('\n');
@@ -224,10 +237,14 @@ private:
     void read_binary(const Counts& counts) {
         uint32_t lit = 2 * counts.inputs;
         circuit.latches = room<Latch>(counts.latches, 2);
-        for (uint32_t place = 0; place < counts.latches; ++place) circuit.latches.push(latch(lit += 2));
+        for (uint32_t place = 0; place < counts.latches; ++place) {
+            need_entry();
+            circuit.latches.push(latch(lit += 2));
+        }
         read_properties(counts);
         circuit.gates = room<Gate>(counts.gates, 2);
         for (uint32_t place = 0; place < counts.gates; ++place) {
+            need_entry();
             lit += 2;
             const uint8_t* start = at;
             uint32_t rhs0 = lit - delta();
@@ -266,12 +283,15 @@ private:
         size_t total = 0;
         for (uint32_t size : sizes) total += size;
         circuit.symbols = Array<Symbol>(std::min(total, left() / 5 + 1));
+        circuit.names = Array<char>(left());
         std::vector<bool> named[7];
-        while (at != end) {
+        for (;;) {
+            need_entry();
+            if (at == end) return;
             uint8_t kind = *at++;
             if (kind == 'c' && *at == '\n') {
-                circuit.has_comment = true;
-                circuit.comment = std::string_view(reinterpret_cast<const char*>(at + 1), left() - 1);
+                ++at;
+                read_comment();
                 return;
             }
             int section = section_of(kind);
@@ -284,12 +304,36 @@ private:
             if (named[section][position]) refuse(start);
             named[section][position] = true;
             byte(' ');
-            const void* found = memchr(at, '\n', left());
-            if (!found) refuse(end);
-            const uint8_t* ending = static_cast<const uint8_t*>(found);
-            if (ending == at) refuse(at);
-            circuit.symbols.push({position, uint32_t(ending - at), reinterpret_cast<const char*>(at), char(kind)});
-            at = ending + 1;
+            circuit.symbols.push({position, read_name(), char(kind)});
         }
+    }
+
+    // A name and the end of its line; how long it is.
+    uint32_t read_name() {
+        if (*at == '\n') refuse(at);
+        uint32_t length = 0;
+        for (;;) {
+            const void* found = memchr(at, '\n', size_t(end - at));
+            size_t count = found ? size_t(static_cast<const uint8_t*>(found) - at) : size_t(end - at);
+            memcpy(circuit.names.behind(count), at, count);
+            circuit.names.add(count);
+            length += uint32_t(count);
+            at += count;
+            if (found) {
+                ++at;
+                return length;
+            }
+            refill();
+            if (at == end) refuse(end);
+        }
+    }
+
+    void read_comment() {
+        circuit.has_comment = true;
+        size_t count = size_t(end - at);
+        circuit.comment = Array<char>(left() + Source::block);
+        memcpy(circuit.comment.begin(), at, count);
+        circuit.comment.add(count);
+        source.take_rest(circuit.comment);
     }
 };

@@ -3,11 +3,9 @@
 
 #include "checker.hpp"
 #include "circuit.hpp"
+#include "input.hpp"
 #include "writer.hpp"
 
-#include <cstring>
-#include <fcntl.h>
-#include <unistd.h>
 #include <vector>
 
 // The codes of values: AND is the AND of the codes.
@@ -43,7 +41,7 @@ inline uint8_t reset_code(const Latch& latch) { return latch.reset == 0 ? zero :
 // The circuit's gates in an order in which each is behind those that it reads.
 inline Array<Gate> gates_in_order(Circuit& circuit) {
     if (circuit.is_ordered) return std::move(circuit.gates);
-    return Levels(circuit).ordered_gates(circuit);
+    return Levels(circuit).ordered_gates();
 }
 
 inline void evaluate(uint8_t* cells, const Array<Gate>& gates) {
@@ -61,10 +59,9 @@ inline bool take_row(const Circuit& circuit, const char* line, uint8_t* cells) {
     return seen < 0x80;
 }
 
-[[noreturn]] inline void refuse_line(const Circuit& circuit, const char* line, size_t length, uint64_t number) {
+[[noreturn]] inline void refuse_line(const char* line, size_t length, uint64_t number) {
     bool are_values = true;
     for (size_t place = 0; place < length; ++place) are_values &= codes.of[uint8_t(line[place])] < 0x80;
-    (void)circuit;
     throw Refusal{(are_values ? "stimulus: length of line " : "stimulus: character in line ") + std::to_string(number)};
 }
 
@@ -75,38 +72,22 @@ public:
         cells[0] = zero;
         for (const Latch& latch : circuit.latches) {
             states.push_back(reset_code(latch));
-            state_text.push_back(signed_character[states.back()]);
+            state_text.push(signed_character[states.back()]);
         }
     }
 
-    void run(int file) {
-        std::vector<char> block(1 << 16);
-        size_t held = 0;
-        for (;;) {
-            if (held == block.size()) block.resize(2 * held);
-            ssize_t count = read(file, &block[held], block.size() - held);
-            if (count < 0) throw Refusal{"stimulus: input or output", 3};
-            if (count == 0) break;
-            const char* at = &block[0];
-            const char* end = at + held + size_t(count);
-            const char* unsearched = at + held;
-            while (const void* found = memchr(unsearched, '\n', size_t(end - unsearched))) {
-                const char* ending = static_cast<const char*>(found);
-                step(at, size_t(ending - at));
-                at = unsearched = ending + 1;
-            }
-            held = size_t(end - at);
-            memmove(&block[0], at, held);
-            out.flush();
-        }
-        if (held > 0) throw Refusal{"stimulus: unfinished"};
+    void run(Source& stimulus) {
+        Lines rows(stimulus);
+        rows.each([&](const char* line, const char* ending) { step(line, size_t(ending - line)); },
+                  [&] { out.flush(); });
+        if (rows.is_unfinished()) throw Refusal{"stimulus: unfinished"};
     }
 
 private:
     Circuit circuit;
     Array<Gate> gates;
     std::vector<uint8_t> cells, states;
-    std::string state_text;
+    Array<char> state_text;
     Output& out;
     uint64_t lines = 0;
 
@@ -114,7 +95,7 @@ private:
     void step(const char* line, size_t length) {
         ++lines;
         if (length != circuit.inputs.size() || !take_row(circuit, line, cells.data()))
-            refuse_line(circuit, line, length, lines);
+            refuse_line(line, length, lines);
         const uint8_t* state = states.data();
         for (const Latch& latch : circuit.latches) cells[latch.lit >> 1] = *state++;
         evaluate(cells.data(), gates);

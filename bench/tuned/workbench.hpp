@@ -1,17 +1,15 @@
 // Questions about a circuit and a stimulus, and edits of the stimulus's bits; a byte a cell, all frames kept.
 #pragma once
 
-#include "reader.hpp"
+#include "input.hpp"
 #include "simulator.hpp"
-
-#include <optional>
 
 class Workbench {
 public:
-    Workbench(Circuit whole, File stimulus, Output& out)
+    Workbench(Circuit whole, const Array<char>& stimulus, Output& out)
         : circuit(std::move(whole)), gates(gates_in_order(circuit)), width(circuit.max_var + 1), out(out) {
-        const char* at = stimulus.bytes.get();
-        const char* end = at + stimulus.size;
+        const char* at = stimulus.begin();
+        const char* end = stimulus.end();
         std::vector<const char*> lines;
         while (at != end) {
             const void* found = memchr(at, '\n', size_t(end - at));
@@ -19,12 +17,13 @@ public:
             const char* ending = static_cast<const char*>(found);
             bool is_row = size_t(ending - at) == circuit.inputs.size();
             for (const char* byte = at; is_row && byte != ending; ++byte) is_row = codes.of[uint8_t(*byte)] < 0x80;
-            if (!is_row) refuse_line(circuit, at, size_t(ending - at), lines.size() + 1);
+            if (!is_row) refuse_line(at, size_t(ending - at), lines.size() + 1);
+            if (lines.size() == 65'536) throw Refusal{"stimulus: limit"};
             lines.push_back(at);
             at = ending + 1;
         }
         frames = lines.size();
-        if (frames > 65'536 || uint64_t(width) * frames > 67'108'864) throw Refusal{"bench: limit"};
+        if (uint64_t(width) * frames > 67'108'864) throw Refusal{"bench: limit"};
         cells.reset(new uint8_t[width * frames]);
         for (size_t frame = 0; frame < frames; ++frame) {
             uint8_t* row = cells.get() + frame * width;
@@ -36,27 +35,10 @@ public:
         }
     }
 
-    void run(int file) {
-        std::vector<char> block(1 << 16);
-        size_t held = 0;
-        for (;;) {
-            if (held == block.size()) block.resize(2 * held);
-            ssize_t count = read(file, &block[held], block.size() - held);
-            if (count < 0) throw Refusal{"script: input or output", 3};
-            if (count == 0) break;
-            const char* at = &block[0];
-            const char* end = at + held + size_t(count);
-            const char* unsearched = at + held;
-            while (const void* found = memchr(unsearched, '\n', size_t(end - unsearched))) {
-                const char* ending = static_cast<const char*>(found);
-                answer(at, ending);
-                at = unsearched = ending + 1;
-            }
-            held = size_t(end - at);
-            memmove(&block[0], at, held);
-            out.flush();
-        }
-        if (held > 0) out.put("bad\n", 4);
+    void run(Source& script) {
+        Lines lines(script);
+        lines.each([&](const char* line, const char* ending) { answer(line, ending); }, [&] { out.flush(); });
+        if (lines.is_unfinished()) out.put("bad\n", 4);
     }
 
 private:

@@ -47,7 +47,7 @@ public:
         size += count;
     }
 
-    void put(std::string_view text) { put(text.data(), text.size()); }
+    void put(const Array<char>& text) { put(text.begin(), text.size()); }
 
     void flush() {
         write_all(bytes, size);
@@ -167,7 +167,7 @@ public:
         if (circuit.is_ready) {
             write_binary(circuit.gates, AsItStands());
         } else {
-            Array<Gate> gates = Levels(circuit).ordered_gates(circuit);
+            Array<Gate> gates = Levels(circuit).ordered_gates();
             write_binary(gates, Renumbered(circuit, gates));
         }
     }
@@ -245,13 +245,15 @@ private:
     }
 
     void names() {
+        const char* name = circuit.names.begin();
         for (const Symbol& symbol : circuit.symbols) {
             char* to = out.room(64);
             *to++ = symbol.kind;
             to = put_number(to, symbol.position);
             *to++ = ' ';
             out.advance(to);
-            out.put(symbol.name, symbol.length);
+            out.put(name, symbol.length);
+            name += symbol.length;
             out.put('\n');
         }
         if (circuit.has_comment) {
