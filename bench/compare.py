@@ -2,7 +2,7 @@
 """Runs `aig` and the tuned C++ program on the same files, whole ones and ones that were broken at random, and compares
 what they write, what they say and their statuses. The two share no code.
 
-usage: bench/compare.py [--count N] [--seed S] AIG TUNED [FILE..]      (circuits that are compared beside the broken ones)"""
+usage: bench/compare.py [--count N] [--seed S] AIG TUNED [FILE..]      (circuits to compare beside the broken ones)"""
 
 import argparse
 import os

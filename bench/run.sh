@@ -7,8 +7,8 @@
 #        bench/run.sh
 #            all of both
 #
-# AIG=PROGRAM       measures this program (else the proved crates/aig/out/aig; where that is not there, one is built
-#                   without proofs by bench/build_unproved.sh)
+# AIG=PROGRAM       measures this program, which the tables call KIND=WORDS (else the proved crates/aig/out/aig; where
+#                   that is not there, one is built without proofs by bench/build_unproved.sh)
 # GROWTH=PROGRAM    takes this growth program (else it is built without proofs)
 # GRIDS=PROGRAM     takes this program that times grids (else it is built without proofs)
 # AIG_PLANES=PROGRAM, AIG_BYTES=PROGRAM     take these with a bench of either grid (else they are built without proofs)
@@ -50,7 +50,7 @@ done
     echo "grids: aig_base aig_sim anyhow"
 } > "$room/repository/crates.txt"
 
-kind="as given by AIG"
+kind=${KIND:-as given by AIG}
 if [ -z "${AIG:-}" ] && [ -x "$repository/crates/aig/out/aig" ]; then
     AIG=$repository/crates/aig/out/aig
     kind="the proved program"

@@ -23,16 +23,18 @@ static void convert(const char* word, const char* path, Output& out) {
     Source source(path, "circuit");
     Circuit circuit = read_circuit(source);
     if (strcmp(word, "toaig") == 0) return Writer(circuit, out).write_binary();
-    if (!circuit.is_ascending) Levels levels(circuit);
+    check_cycles(circuit);
     Writer(circuit, out).write_ascii();
 }
 
 static void simulate(char** paths, Output& out) {
+    out.part = "stimulus";
     Source circuit(paths[0], "circuit"), stimulus(paths[1], "stimulus");
     Simulator(read_circuit(circuit), out).run(stimulus);
 }
 
 static void bench(char** paths, Output& out) {
+    out.part = "script";
     Source circuit(paths[0], "circuit"), stimulus(paths[1], "stimulus"), script(paths[2], "script");
     Circuit whole = read_circuit(circuit);
     Array<char> rows(stimulus.size() + Source::block);

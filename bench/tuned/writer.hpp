@@ -20,12 +20,12 @@ struct Pairs {
 };
 inline constexpr Pairs pairs;
 
-// Standard output in blocks.
+// Standard output in blocks. A failing write is told as a fault of the part, and not tried again.
 class Output {
 public:
-    ~Output() = default;
+    const char* part = "output";
 
-    // Room for so many bytes, at most `reserve`; `advance` takes what was written there.
+    // Room for so many bytes, at most a block; `advance` takes in what was put there.
     char* room(size_t count) {
         if (size + count > block) flush();
         return bytes + size;
@@ -43,6 +43,7 @@ public:
             write_all(from, count);
             return;
         }
+        if (count == 0) return;
         memcpy(room(count), from, count);
         size += count;
     }
@@ -50,8 +51,9 @@ public:
     void put(const Array<char>& text) { put(text.begin(), text.size()); }
 
     void flush() {
-        write_all(bytes, size);
+        size_t count = size;
         size = 0;
+        write_all(bytes, count);
     }
 
     static constexpr size_t block = 1 << 16;
@@ -60,10 +62,10 @@ private:
     char bytes[block];
     size_t size = 0;
 
-    static void write_all(const char* from, size_t count) {
+    void write_all(const char* from, size_t count) {
         while (count > 0) {
             ssize_t written = write(STDOUT_FILENO, from, count);
-            if (written <= 0) throw Refusal{"output: input or output", 3};
+            if (written <= 0) throw Refusal{std::string(part) + ": input or output", 3};
             from += written;
             count -= size_t(written);
         }
