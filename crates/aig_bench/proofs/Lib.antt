@@ -8,12 +8,15 @@ pub mod Earlier
 pub mod Edited
 pub mod Entries
 pub mod Flags
+pub mod Grown
+pub mod GrownBench
 pub mod Handed
 pub mod Height
 pub mod Kept
 pub mod LatchChains
 pub mod LatchLists
 pub mod Layouts
+pub mod Lengthened
 pub mod Linked
 pub mod Lowest
 pub mod Named

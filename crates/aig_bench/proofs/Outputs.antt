@@ -1,5 +1,5 @@
 -- Another literal at an output: nothing but the outputs changes.
-use Rattle.std.proofs.Common.{◌≡◌, inl, inr, ℕ, Bool, List, refl, sym, ap, subst}
+use Rattle.std.proofs.Common.{◌≡◌, inl, inr, ℕ, Bool, List, refl, sym, subst}
 use Rattle.aig_base.specs.declared.ternary.Tern.{Tern}
 use Rattle.aig_base.specs.declared.raw.Raw.{Raw}
 use Rattle.aig_base.specs.Changes.{with_output}
@@ -7,21 +7,16 @@ use Rattle.aig_base.specs.Grounded as grounded
 use Rattle.aig_base.specs.Grounded.{IsSource, Level}
 use Rattle.aig_base.specs.Levels.{AreLevels}
 use Rattle.aig_base.specs.Literal.{variable}
-use Rattle.aig_base.specs.Readers.{ReaderLists, AreReaders}
+use Rattle.aig_base.specs.Readers.{AreReaders}
 use Rattle.aig_base.specs.Sections.{IsDefined}
 use Rattle.aig_base.proofs.Outputs.{with_output-circuit}
-use Rattle.aig_bench.specs.declared.buckets.Buckets.{Buckets}
-use Rattle.aig_bench.specs.declared.latches.LatchReaders.{LatchReaders}
 use Rattle.aig_bench.specs.declared.plan.Plan.{Plan}
 use Rattle.aig_bench.specs.declared.settle.Net.{Net}
 use Rattle.aig_bench.specs.declared.settle.Pending.{Pending}
 use Rattle.aig_bench.specs.Current.{IsLaidOut, AreCurrent}
 use Rattle.aig_bench.specs.Edit.{set_output}
-use Rattle.aig_bench.specs.Latches.{AreLatchReaders}
-use Rattle.aig_bench.specs.Pair.{Pair}
-use Rattle.aig_bench.specs.Pending.{HasLists, IsReady}
+use Rattle.aig_bench.specs.Pending.{IsReady}
 use Rattle.aig_bench.specs.Plan.{IsPlan, pair_of}
-use Rattle.aig_bench.specs.Sweep.{IsWorking}
 use Rattle.aig_bench.specs.Touched.{HasOther, Touches, Changes, AreCells}
 use Rattle.aig_bench.proofs.Edited.{lists_for, work_for, working}
 use Rattle.aig_bench.proofs.Kept.{HasAll, holds_still, none_other}

@@ -1,5 +1,5 @@
 -- Frames passed over, joined: lists of cells, one behind the other.
-use Rattle.std.proofs.Common.{◌≡◌, ◌≢◌, ◌⊎◌, ◌↔◌, inl, inr, ℕ, suc, ◌+◌, ◌≤◌, Bool, List, [], ◌∷◌, ◌++◌, length, Contains, refl, sym, ap, ◌∙◌, subst, arith, length-append}
+use Rattle.std.proofs.Common.{◌≡◌, ◌≢◌, ◌⊎◌, ◌↔◌, inl, inr, ℕ, zero, suc, ◌+◌, ◌<◌, ◌≤◌, Bool, List, [], ◌∷◌, ◌++◌, length, Contains, refl, sym, ap, ◌∙◌, subst, arith, length-append}
 use Rattle.aig_base.specs.declared.ternary.Tern.{Tern}
 use Rattle.aig_base.proofs.Positions.{Contains-cons}
 use Rattle.aig_sim.specs.InputRows.{row_at}
@@ -116,6 +116,38 @@ cells_none P never = record {
   each = λ t v. (λ h. absurd (nothing (t, v) h), λ r. absurd (never t v r));
   count = refl;
 }
+
+one_cell : (s v : ℕ) → AreCells (λ t u. (t ≡ s) × (u ≡ v)) 1
+one_cell s v = record {
+  cells = (s, v) ∷ [];
+  once = (nothing (s, v), tt);
+  each = λ t u. (
+    λ h. elim (Contains-cons (s, v) [] (t, u) h) [
+      | inl e ↦ pair_same t u s v e
+      | inr k ↦ absurd (nothing (t, u) k)
+    ],
+    λ k. subst (λ (n : ℕ). Contains {X = ℕ × ℕ} ((s, v) ∷ []) (t, n)) (sym k.1)
+        (subst (λ (n : ℕ). Contains {X = ℕ × ℕ} ((s, v) ∷ []) (n, v)) (sym k.0) (here (s, v) [])),
+  );
+  count = refl;
+}
+
+-- the cells of a variable at the first n frames
+pub column_cells : (v n : ℕ) → AreCells (λ t u. (t < n) × (u ≡ v)) n
+column_cells v zero = cells_none _ (λ t u k. absurd (omega (arith, k.0)))
+column_cells v (suc n) =
+    let size : n + 1 ≡ suc n = omega arith in
+    subst (AreCells (λ t u. (t < suc n) × (u ≡ v))) size
+    (cells_joined (λ t u. (t < n) × (u ≡ v)) (λ t u. (t ≡ n) × (u ≡ v)) (λ t u. (t < suc n) × (u ≡ v)) n 1
+    (column_cells v n) (one_cell n v)
+    (λ t u. (
+      λ k. elim (last t k.0) [ inl lt ↦ inl (lt, k.1) | inr e ↦ inr (e, k.1) ],
+      λ k. elim k [ inl a ↦ (omega (arith, a.0), a.1) | inr b ↦ (omega (arith, b.0), b.1) ],
+    ))
+    (λ t u a b. absurd (omega (arith, a.0, b.0))))
+  where
+    last : (t : ℕ) → t < suc n → (t < n) ⊎ (t ≡ n)
+    last t lt = grind arith
 
 module _ (p : Pair) (forced : List ℕ) where
   pub renewed_none : (first : ℕ) (old : List (List Tern)) → Renewed p forced first first old old 0 0

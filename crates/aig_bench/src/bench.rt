@@ -24,6 +24,7 @@ use crate::allowed::{CELLS, check_append, check_output, check_reset, check_rewir
 use crate::bench_fault::BenchFault;
 use crate::edit::{EditFault, EditReport};
 use crate::fill::fill;
+use crate::grow::{evaluate_new, last_gate, make_room};
 use crate::latches::LatchReaders;
 use crate::layout::lay_out;
 use crate::plan::Plan;
@@ -31,7 +32,7 @@ use crate::propagate::{renew_from, renew_input};
 use crate::settle::{Net, Pending, make_pending};
 use crate::trace::write_frames;
 use crate::value::literal_at;
-use aig_base::{Circuit, Io, Levels, Lit, Memory, Readers, Tern, Write};
+use aig_base::{Circuit, Io, Levels, Lit, Memory, Readers, Tern, Write, append_gate};
 use aig_sim::{FRAMES, Grid, Stimulus};
 use aig_unroll::{UnrollFault, unroll};
 use std::alloc::Global;
@@ -349,7 +350,19 @@ impl<G: Grid> Bench<G> {
         ensures works { Works self.old (append_gate r0 r1) result self.new }
     {
         check_append(&self.plan, r0, r1)?;
-        Err(EditFault::Memory)
+        make_room(&mut self.grid, &mut self.net, &mut self.pending)?;
+        append_gate(
+            &mut self.plan.circuit,
+            &mut self.net.levels,
+            &mut self.net.readers,
+            r0,
+            r1,
+        )?;
+        self.net.latches.add_variable();
+        self.pending.buckets.add_variable();
+        self.grid.add_gate();
+        let gate = last_gate(&self.plan.circuit);
+        Ok(evaluate_new(&mut self.grid, &gate))
     }
 
     /// Replaces the output at a position, counted from 0. Refused are a literal over `2M + 1`, a variable that is neither 0

@@ -1,6 +1,7 @@
 //! The latches that read a variable, and lists of latches, which take no memory once they are made. A latch's number
 //! here is one more than its position.
-ghost use Rattle.std.specs.Prelude.{◌≡◌, ◌≢◌, ◌↔◌, ℕ, ◌+◌, ◌*◌, ◌<◌, ◌≤◌, length, IfOk, IfSome, IfNone, IsTrue, Some, slice_get};
+ghost use Rattle.std.specs.Prelude.{◌≡◌, ◌≢◌, ◌↔◌, ℕ, ◌+◌, ◌*◌, ◌<◌, ◌≤◌, [], ◌∷◌, ◌++◌, length, IfOk, OnOk, IfSome, IfNone, IsTrue, Some, slice_get};
+ghost use Rattle.std.specs.Vec.{vec_capacity};
 ghost use Rattle.aig_base.specs.declared.raw.Raw.{Raw};
 ghost use Rattle.aig_bench.specs.Latches.{AreLatchReaders, Follows, IsLatchList, IsListed, Lists};
 
@@ -110,6 +111,24 @@ impl LatchReaders {
             last[variable] = position as u32 + 1;
         }
         Ok(LatchReaders { last, before })
+    }
+
+    /// Makes room for one more variable; nothing else changes.
+    pub fn make_room(&mut self) -> Result<(), Memory>
+        ensures readers { (raw : Raw) → AreLatchReaders raw self.old → AreLatchReaders raw self.new }
+        ensures room { OnOk result (length self.new.last.items < vec_capacity self.new.last) }
+    {
+        self.last.reserve(1)?;
+        Ok(())
+    }
+
+    /// One more variable, which no latch reads, where there is room.
+    pub fn add_variable(&mut self)
+        requires { length self.old.last.items < vec_capacity self.old.last }
+        ensures last { self.new.last.items ≡ self.old.last.items ++ 0 ∷ [] }
+        ensures before { self.new.before.items ≡ self.old.before.items }
+    {
+        self.last.push_reserved(0);
     }
 
     /// Adds the latches that read a variable to a list.

@@ -1,5 +1,5 @@
 //! Sets of levels, a bit for each.
-ghost use Rattle.std.specs.Prelude.{◌≡◌, ◌≢◌, ◌⊎◌, ◌↔◌, ℕ, ◌+◌, ◌*◌, ◌/◌, ◌%◌, ◌<◌, ◌≤◌, IsTrue, IfOk, IfNone, length, slice_index};
+ghost use Rattle.std.specs.Prelude.{◌≡◌, ◌≢◌, ◌⊎◌, ◌↔◌, ℕ, ◌+◌, ◌*◌, ◌/◌, ◌%◌, ◌<◌, ◌≤◌, IsTrue, IfOk, OnOk, IfNone, length, slice_index};
 ghost use Rattle.aig_bench.specs.LevelSet.{HasBit, IsFirstPlace, IsFirstFrom, IsFirstInWord};
 
 use aig_base::Memory;
@@ -38,6 +38,21 @@ impl BitSet {
         let count = (size + (BITS - 1)) / BITS;
         let words = vec![in alloc; 0; count]?;
         Ok(BitSet { words })
+    }
+
+    /// Makes room for a number, which one more word is enough for; no number comes or goes.
+    fn make_room(&mut self, number: usize) -> Result<(), Memory>
+        requires { number / 64 ≤ length self.old.words.items }
+        ensures same { (w : ℕ) → slice_index self.new.words.items w ≡ slice_index self.old.words.items w }
+        ensures more { length self.old.words.items ≤ length self.new.words.items }
+        ensures few { (length self.new.words.items ≡ length self.old.words.items)
+            ⊎ (length self.new.words.items ≡ number / 64 + 1) }
+        ensures room { OnOk result (number / 64 < length self.new.words.items) }
+    {
+        if number / BITS == self.words.len() {
+            self.words.push(0)?;
+        }
+        Ok(())
     }
 
     /// Adds a number.
@@ -96,7 +111,7 @@ impl BitSet {
 }
 
 /// A set of levels, and of the words that have one, so that the next level is found quickly where few are there. It
-/// takes memory when it is made, and none afterwards. Contracts see the words of the levels.
+/// takes memory when it is made and when it grows, and none else. Contracts see the words of the levels.
 #[derive(Drop, Debug)]
 pub struct LevelSet {
     levels: BitSet,
@@ -126,6 +141,18 @@ impl LevelSet {
         let levels = BitSet::new(alloc, size)?;
         let filled = BitSet::new(alloc, (size + (BITS - 1)) / BITS)?;
         Ok(LevelSet { levels, filled })
+    }
+
+    /// Makes room for a level, which one more word is enough for; no level comes or goes.
+    pub fn make_room(&mut self, level: usize) -> Result<(), Memory>
+        requires limit { level < 4194304 }
+        requires near { level / 64 ≤ length self.old }
+        ensures levels { (l : ℕ) → HasBit self.new l ↔ HasBit self.old l }
+        ensures more { length self.old ≤ length self.new }
+        ensures room { OnOk result (level < 64 * length self.new) }
+    {
+        self.filled.make_room(level / BITS)?;
+        self.levels.make_room(level)
     }
 
     /// Adds a level, in constant time.

@@ -7,6 +7,7 @@ mod bench_fault;
 mod buckets;
 mod edit;
 mod fill;
+mod grow;
 mod latches;
 mod laws;
 mod layout;

@@ -1,11 +1,6 @@
-use Rattle.std.proofs.Common.{ℕ, List}
-use Rattle.aig_base.specs.declared.ternary.Tern.{Tern}
 use Rattle.aig_base.specs.Value.{start_of}
-use Rattle.aig_sim.specs.Frame.{HoldsAll}
 use Rattle.aig_sim.specs.TraceText.{trace_text}
 use Rattle.aig_sim.proofs.TraceLemmas.{trace_is}
-use Rattle.aig_bench.specs.Current.{IsCurrentRow}
-use Rattle.aig_bench.specs.Pair.{Pair}
 use Rattle.aig_bench.specs.Plan.{pair_of}
 use Rattle.aig_bench.proofs.trace.write_frames.Goals as goal
 

@@ -1,4 +1,4 @@
-use Rattle.std.proofs.Common.{ℕ, ◌+◌, ◌*◌, ◌/◌, ◌≤◌}
+use Rattle.std.proofs.Common.{◌+◌, ◌*◌, ◌/◌, ◌≤◌}
 use Rattle.aig_bench.specs.LevelSet.{HasNone}
 use Rattle.aig_bench.proofs.level_set.BitSet.first_from.Given as goal
 

@@ -1,0 +1,24 @@
+use Rattle.std.proofs.Common.{ℕ, List, ◌↔◌, sym, subst}
+use Rattle.aig_bench.specs.LevelSet.{HasBit}
+use Rattle.aig_bench.proofs.Lengthened.{has_still, filled_longer, words_longer}
+use Rattle.aig_bench.proofs.level_set.LevelSet.make_room.Goals as goal
+
+pub invariant_of-self : goal.invariant_of-self
+invariant_of-self c =
+    let r = c.make_room.ensures in
+    filled_longer _ _ c.args.level c.self.invariant c.requires.limit _ r.same r.more r.few
+
+pub invariant_of-self-2 : goal.invariant_of-self-2
+invariant_of-self-2 c =
+    let r = c.make_room.ensures in
+    let i = filled_longer _ _ c.args.level c.self.invariant c.requires.limit _ r.same r.more r.few in
+    words_longer _ _ c.args.level i c.requires.limit _ c.make_room-2.ensures.same c.make_room-2.ensures.few
+    c.in_ok-make_room.ensures.room
+
+pub returns-clause-levels : goal.returns-clause-levels
+returns-clause-levels c =
+    let same = c.make_room-2.ensures.same in
+    let old = c.self.inside.levels.words.items in
+    let new = c.make_room-2.new.self.words.items in
+    subst (λ (words : List ℕ). (l : ℕ) → HasBit new l ↔ HasBit words l) c.self.view_is
+    (λ l. (has_still new old (λ w. sym (same w)) l, has_still old new same l))

@@ -1,0 +1,63 @@
+//! One more gate in what a bench keeps.
+ghost use Rattle.std.specs.Prelude.{◌≡◌, ℕ, ◌-◌, ◌+◌, ◌<◌, true, length, IsTrue, OnOk, Some, slice_get, slice_set};
+ghost use Rattle.std.specs.Vec.{vec_capacity};
+ghost use Rattle.aig_base.specs.Literal.{variable, IsEven};
+ghost use Rattle.aig_sim.specs.Cells.{gate_value};
+ghost use Rattle.aig_sim.specs.InputRows.{row_at};
+ghost use Rattle.aig_bench.specs.declared.plan.Plan.{Plan};
+ghost use Rattle.aig_bench.specs.Buckets.{FitsOneMore};
+ghost use Rattle.aig_bench.specs.Pending.{IsReady};
+
+use crate::edit::EditReport;
+use crate::settle::{Net, Pending};
+use aig_base::{Circuit, Gate, Memory};
+use aig_sim::Grid;
+
+/// Makes room for one more variable; nothing else changes.
+pub fn make_room<G: Grid>(grid: &mut G, net: &mut Net, pending: &mut Pending) -> Result<(), Memory>
+    requires few { length (G.gate_flags grid.old) < 4194304 }
+    requires ready { (plan : Plan) × IsReady plan net.old pending.old (G.gate_flags grid.old) (G.cells grid.old) }
+    ensures ready { (plan : Plan) → IsReady plan net.old pending.old (G.gate_flags grid.old) (G.cells grid.old)
+        → IsReady plan net.new pending.new (G.gate_flags grid.new) (G.cells grid.new) }
+    ensures latches { OnOk result (length net.new.latches.last.items < vec_capacity net.new.latches.last) }
+    ensures buckets { OnOk result (FitsOneMore pending.new.buckets) }
+    ensures grid { OnOk result (IsTrue (G.has_room grid.new)) }
+    ensures count { G.evaluations grid.new ≡ G.evaluations grid.old }
+{
+    net.latches.make_room()?;
+    pending.buckets.make_room()?;
+    grid.reserve_gate()
+}
+
+/// The last gate of a circuit that has one.
+pub fn last_gate(circuit: &Circuit) -> Gate
+    requires { 0 < length circuit.now.gates }
+    ensures { slice_get circuit.now.gates (length circuit.now.gates - 1) ≡ Some result }
+{
+    let gates = circuit.gates();
+    gates[gates.len() - 1]
+}
+
+/// Evaluates a new gate at each frame. None of its cells was there before, so none has changed.
+pub fn evaluate_new<G: Grid>(grid: &mut G, gate: &Gate) -> EditReport
+    requires even { IsEven gate.now.lhs }
+    requires gate { slice_get (G.gate_flags grid.old) (variable gate.now.lhs) ≡ Some true }
+    requires rhs0 { variable gate.now.rhs0 < length (G.gate_flags grid.old) }
+    requires rhs1 { variable gate.now.rhs1 < length (G.gate_flags grid.old) }
+    ensures frames { length (G.cells grid.new) ≡ length (G.cells grid.old) }
+    ensures rows { (t : ℕ) → t < length (G.cells grid.old) → row_at (G.cells grid.new) t
+        ≡ slice_set (row_at (G.cells grid.old) t) (variable gate.now.lhs) (gate_value (row_at (G.cells grid.old) t) gate.now) }
+    ensures flags { G.gate_flags grid.new ≡ G.gate_flags grid.old }
+    ensures count { G.evaluations grid.new ≡ G.evaluations grid.old + result.evaluated }
+    ensures evaluated { result.evaluated ≡ length (G.cells grid.old) }
+    ensures changed { result.changed ≡ 0 }
+{
+    let frames = grid.rows();
+    for frame in 0..frames {
+        grid.evaluate(frame, *gate);
+    }
+    EditReport {
+        evaluated: u64::from(frames),
+        changed: 0,
+    }
+}
