@@ -149,6 +149,27 @@ file many 'aag 4194303 0 0 0 0\n'
 { for _ in $(seq 16); do echo; done; } > rows
 file script '+ \n-\n+ \n'
 row 'bench: as many cells as a bench may have' 0 'no 10\nok\nok\n' '' bench many rows script
+file rows '11\n01\n'
+file script 'g 9 2\nv 0 10\nv 1 10\no 0 10\nw 6 10 2\nt\no 1 2\no 1 12\ng 12 0\nu\n'
+unrolled='aag 10 4 0 2 6\n2\n4\n6\n8\n14\n20\n10 4 2\n12 10 2\n14 13 2\n16 8 6\n18 16 6\n20 19 6\n.\n'
+row 'bench: a gate that is appended, and an output that is set' 0 \
+    "ok\n0\n0\nok\nno 5\n 11 0 \n 01 0 \n.\nno 13\nno 3\nno 3\n$unrolled" '' bench two_gates rows script
+file script 'g 9\no 0\ng 9 2 2\no 0 2 2\ng 09 2\no 0 x\ng 4294967296 0\no 0 4294967296\nG 9 2\ng  9 2\no 0 2 \n'
+row 'bench: lines that append no gate and set no output' 0 "$(printf 'bad\\n%.0s' $(seq 11))" '' bench two_gates rows script
+file script 'o 4294967295 2\no 4294967295 4294967295\ng 4294967295 4294967295\no 0 9\nt\n'
+row 'bench: the greatest numbers, and a negated output' 0 'no 13\nno 3\nno 3\nok\n 11 0 \n 01 1 \n.\n' '' \
+    bench two_gates rows script
+file rows ''
+file script 'g 0 0\n'
+row 'bench: a variable over the limit' 0 'no 10\n' '' bench many rows script
+file script 'g 2 14\no 0 2\no 7 14\n'
+row 'bench: an undefined side, an undefined output and one that is not there' 0 'no 4\nno 4\nno 13\n' '' \
+    bench unused rows script
+file wide 'aag 1022 0 0 0 0\n'
+yes '' | head -n 65536 > rows
+file script 'g 0 1\ng 0 1\nv 65535 2047\nv 65535 2048\n-\ng 2047 1\n'
+row 'bench: a gate with as many cells as a bench may have, and one with more' 0 'ok\nno 10\n1\nno 3\nok\nno 10\n' '' \
+    bench wide rows script
 file two_words 'aag 65 1 0 1 2\n128\n130\n126 128 128\n130 127 129\n'
 file rows '0\n'
 file script 'v 0 130\ns 0 0 1\nv 0 130\n-\n+ x\nv 0 130\n'

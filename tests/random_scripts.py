@@ -1,6 +1,6 @@
 #!/usr/bin/env python3
-"""Runs the built program on small random circuits, stimuli and scripts, and compares its replies with those of the plain
-workbench in reference.py, which computes each answer from the parts and the rows.
+"""Runs the built program on small random circuits, stimuli and scripts, and compares its replies with those of the
+plain workbench in reference.py, which computes each answer from the parts and the rows.
 
 usage: tests/random_scripts.py [--count N] [--seed S] [--only CASE] [PROGRAM]
        (without a name: the program that the gate built; without a count: the few hundred cases of the gate)
@@ -21,10 +21,12 @@ from reference import Parts, replies, rows_of
 
 TESTS = os.path.dirname(os.path.abspath(__file__))
 
+# Lines that are no command.
+WRONG = ("", "g 0", "o 0 0 0", "g 0 0 ", "o 0 x", "g  0", "O 0 0", "g 00 0", "w 0 0", "s 0 0", "+", "v 0 4294967296")
+
 
 def script(rng, parts, frames):
-    """Edits and questions, most of which are taken, and of the literals that were not there most are those of gates that
-    were appended."""
+    """Edits and questions, most of which are taken."""
     width, outputs = len(parts.inputs), len(parts.outputs)
     gates = list(parts.gates)
     known = [0, *parts.inputs, *(latch[0] for latch in parts.latches), *gates]
@@ -62,7 +64,7 @@ def script(rng, parts, frames):
         elif kind == "v":
             line = f"v {place(frames)} {side()}"
         else:
-            line = kind if kind != "?" else rng.choice(("", "g 0", "o 0 0 0", "g 0 0 ", "o 0 x", "g  0", "O 0 0", "g 00 0"))
+            line = kind if kind != "?" else rng.choice(WRONG)
         lines.append(line + "\n")
     return "".join(lines) + rng.choice(("", "", "", "t", "g 0 0"))
 
@@ -110,8 +112,8 @@ def main():
             if failed == 10:
                 break
     shutil.rmtree(room)
-    print(f"{len(numbers)} random scripts of seed {chosen.seed}: edits {counts['ok']} taken, {counts['no']} lines refused, "
-          f"{counts['bad']} bad, {failed} failed")
+    print(f"{len(numbers)} random scripts of seed {chosen.seed}: {counts['ok']} edits taken, "
+          f"{counts['no']} lines refused, {counts['bad']} bad, {failed} failed")
     sys.exit(1 if failed else 0)
 
 
