@@ -1,7 +1,8 @@
 -- Bytes of a trace that are gathered piece by piece.
-use Rattle.std.proofs.Common.{◌≡◌, ℕ, ◌+◌, ◌<◌, ◌≤◌, get_or, List, [], ◌∷◌, ◌++◌, length, map, take, drop, sym, ap, ◌∙◌, append_assoc, Ok, Err, IsErr, Result}
+use Rattle.std.proofs.Common.{◌≡◌, ℕ, ◌+◌, ◌-◌, ◌≤◌, length-drop, arith, List, [], ◌∷◌, ◌++◌, length, map, take, drop, sym, ap, ◌∙◌, append_assoc, Ok, Err, IsErr, Result}
 use Rattle.std.specs.Prelude.{Option}
-use Rattle.std.proofs.lemmas.List.{take-append-drop, take_more, take_all, drop_more, map_push, map-append}
+use Rattle.std.proofs.lemmas.List.{take-append-drop, take_all, take_at, length-take-le, length-map, length-append, map-append}
+use Rattle.std.proofs.Math.Seq.{take-add}
 use Rattle.std.proofs.lemmas.Bool.{false≢true}
 use Rattle.aig_base.specs.Bytes.{Writes}
 use Rattle.aig_base.specs.Gathered.{Gathers}
@@ -27,35 +28,52 @@ module _ {X : Type 0} {written : X → Option (List ℕ)} {failures : X → ℕ}
   }
   gathers_not_handed {s = Ok d} w h = absurd (false≢true h)
 
-  -- in a loop over items, one byte an item: the byte that failed
-  pub byte_failed : {Y T E V D S F : Type 0} {old mid new : X} {held held' held'' held''' : List ℕ} {v : V} {e : E} {s : Result S F}
-      (f : Y → ℕ) (xs : List Y) (i : ℕ) (d : Y) (b : ℕ) (rest : List ℕ)
-      → Gathers {E = D} written failures old mid held held' (map f (take i xs)) (Ok v) → i < length xs
-      → b ≡ f (get_or xs i d)
-      → Gathers {T = T} written failures mid new held' held'' (b ∷ []) (Err e) → IsErr s
+  -- in a loop over items, one byte an item: the piece that failed
+  pub span_failed : {Y T E V D S F : Type 0} {old mid new : X} {held held' held'' held''' : List ℕ} {v : V} {e : E} {s : Result S F}
+      (f : Y → ℕ) (xs : List Y) (i n : ℕ) (bytes rest : List ℕ)
+      → Gathers {E = D} written failures old mid held held' (map f (take i xs)) (Ok v)
+      → bytes ≡ map f (take n (drop i xs))
+      → Gathers {T = T} written failures mid new held' held'' bytes (Err e) → IsErr s
       → Gathers written failures old new held held''' (map f xs ++ rest) s
-  byte_failed f xs i d b rest g l is h k =
+  span_failed f xs i n bytes rest g is h k =
       gathers_stop rest k
-      (gathers_same (gathers_then g (gathers_stop (map f (drop (i + 1) xs)) k (gathers_failed h k)))
-      (ap (λ (c : ℕ). map f (take i xs) ++ (c ∷ map f (drop (i + 1) xs))) is
-      ∙ ap (λ (ys : List _). map f (take i xs) ++ map f ys) (sym (drop_more xs i d l))
+      (gathers_same (gathers_then g (gathers_stop (map f (drop n (drop i xs))) k (gathers_failed h k)))
+      (ap (λ (bs : List ℕ). map f (take i xs) ++ (bs ++ map f (drop n (drop i xs)))) is
+      ∙ ap (λ (bs : List ℕ). map f (take i xs) ++ bs)
+      (sym (map-append f (take n (drop i xs)) (drop n (drop i xs))) ∙ ap (map f) (take-append-drop n (drop i xs)))
       ∙ sym (map-append f (take i xs) (drop i xs)) ∙ ap (map f) (take-append-drop i xs)))
 
-  -- one byte more
-  pub byte_more : {Y T E V D S F : Type 0} {old mid new : X} {held held' held'' : List ℕ} {v : V} {x : T} {y : S}
-      (f : Y → ℕ) (xs : List Y) (i : ℕ) (d : Y) (b : ℕ)
-      → Gathers {E = D} written failures old mid held held' (map f (take i xs)) (Ok v) → i < length xs
-      → b ≡ f (get_or xs i d)
-      → Gathers {E = E} written failures mid new held' held'' (b ∷ []) (Ok x)
-      → Gathers {E = F} written failures old new held held'' (map f (take (i + 1) xs)) (Ok y)
-  byte_more f xs i d b g l is h =
+  -- one piece more
+  pub span_more : {Y T E V D S F : Type 0} {old mid new : X} {held held' held'' : List ℕ} {v : V} {x : T} {y : S}
+      (f : Y → ℕ) (xs : List Y) (i n : ℕ) (bytes : List ℕ)
+      → Gathers {E = D} written failures old mid held held' (map f (take i xs)) (Ok v)
+      → bytes ≡ map f (take n (drop i xs))
+      → Gathers {E = E} written failures mid new held' held'' bytes (Ok x)
+      → Gathers {E = F} written failures old new held held'' (map f (take (i + n) xs)) (Ok y)
+  span_more f xs i n bytes g is h =
       let w = gathers_then g h in
       gathers_same (record { handed = w.handed; wrote = w.wrote; ok = w.ok; err = tt; count = w.count })
-      (ap (λ (c : ℕ). map f (take i xs) ++ (c ∷ [])) is
-      ∙ sym (map_push f (take i xs) (get_or xs i d)) ∙ ap (map f) (sym (take_more xs i d l)))
+      (ap (λ (bs : List ℕ). map f (take i xs) ++ bs) is
+      ∙ sym (map-append f (take i xs) (take n (drop i xs))) ∙ ap (map f) (sym (take-add i n xs)))
 
   -- the bytes of all items
   pub all_gathered : {Y D V : Type 0} {old mid : X} {held held' : List ℕ} {v : V}
       (f : Y → ℕ) (xs : List Y) (i : ℕ) → Gathers {E = D} written failures old mid held held' (map f (take i xs)) (Ok v)
       → length xs ≤ i → Gathers {E = D} written failures old mid held held' (map f xs) (Ok v)
   all_gathered f xs i g le = gathers_same g (ap (map f) (take_all i xs le))
+
+-- the bytes of the items from i on, in front of what stood there
+module _ {Y : Type 0} (f : Y → ℕ) (xs : List Y) (i n : ℕ) (text piece : List ℕ) (fits : i + n ≤ length xs)
+    (is : text ≡ map f (take (i + n - i) (drop i xs))) where
+  span_text : text ≡ map f (take n (drop i xs))
+  span_text = is ∙ ap (λ (k : ℕ). map f (take k (drop i xs))) (omega arith)
+
+  span_size : length text ≡ n
+  span_size = ap length span_text ∙ length-map (take n (drop i xs)) f
+      ∙ length-take-le n (drop i xs) (omega (arith, fits, length-drop i xs))
+
+  pub span_is : take n (text ++ drop n piece) ≡ map f (take n (drop i xs))
+  span_is = take_at text (drop n piece) n span_size ∙ span_text
+
+  pub same_room : n ≤ length piece → length (text ++ drop n piece) ≡ length piece
+  same_room le = omega (arith, le, span_size, length-append text (drop n piece), length-drop n piece)

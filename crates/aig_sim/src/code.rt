@@ -4,6 +4,7 @@ ghost use Rattle.aig_base.specs.Literal.{variable};
 ghost use Rattle.aig_base.specs.Ternary.{kleene_and, kleene_not};
 ghost use Rattle.aig_sim.specs.Cells.{literal_value};
 ghost use Rattle.aig_sim.specs.StimulusText.{character};
+ghost use Rattle.aig_sim.specs.TraceText.{literal_character};
 
 use aig_base::{Lit, Tern};
 use std::marker::Model;
@@ -35,8 +36,8 @@ impl Model for Code {
 /// The bits of a value by its own bits, and behind the fourth those of its negation. None are 10.
 const SIGNED: [u8; 8] = [0b00, 0b01, 0b00, 0b11, 0b11, 0b01, 0b00, 0b00];
 
-/// The character of a value by its bits.
-const CHARACTERS: [u8; 4] = [b'0', b'x', b'x', b'1'];
+/// The character of a value by its bits, and behind the fourth that of its negation.
+const CHARACTERS: [u8; 8] = [b'0', b'x', b'x', b'1', b'1', b'x', b'x', b'0'];
 
 impl Code {
     /// The code of a value.
@@ -61,13 +62,6 @@ impl Code {
         }
     }
 
-    /// `0`, `1` or `x`.
-    pub fn character(self) -> u8
-        ensures { result ≡ character self }
-    {
-        CHARACTERS[self.bits as usize]
-    }
-
     /// The negation where `is_negated`, else the value itself. No jump depends on either.
     pub fn with_sign(self, is_negated: bool) -> Code
         ensures negated { IsTrue is_negated → result ≡ kleene_not self }
@@ -76,6 +70,14 @@ impl Code {
         Code {
             bits: SIGNED[4 * (is_negated as usize) + self.bits as usize],
         }
+    }
+
+    /// The character of the negation where `is_negated`, else that of the value itself: `0`, `1` or `x`.
+    pub fn character(self, is_negated: bool) -> u8
+        ensures negated { IsTrue is_negated → result ≡ character (kleene_not self) }
+        ensures same { (IsTrue is_negated → ⊥) → result ≡ character self }
+    {
+        CHARACTERS[4 * (is_negated as usize) + self.bits as usize]
     }
 
     /// The AND of two values.
@@ -94,4 +96,12 @@ pub fn code_in(cells: &[Code], literal: Lit) -> Code
     ensures { result ≡ literal_value cells.now literal }
 {
     cells[literal.var() as usize].with_sign(literal.is_neg())
+}
+
+/// The character of the value of a literal.
+pub fn character_in(cells: &[Code], literal: Lit) -> u8
+    requires { variable literal < length cells.now }
+    ensures { result ≡ literal_character cells.now literal }
+{
+    cells[literal.var() as usize].character(literal.is_neg())
 }

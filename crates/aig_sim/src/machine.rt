@@ -7,11 +7,11 @@ ghost use Rattle.aig_sim.specs.Frame.{AreStates};
 ghost use Rattle.aig_sim.specs.GateOrder.{IsGateOrder};
 ghost use Rattle.aig_sim.specs.Machine.{Steps};
 
-use crate::code::Code;
+use crate::code::{Code, character_in};
 use crate::frame::{evaluate_row, renew_states};
 use crate::gate_order::reordered;
 use crate::row::Row;
-use aig_base::{Circuit, Gate, Latch, List, Memory, Tern};
+use aig_base::{Circuit, Gate, Latch, List, Lit, Memory, Tern};
 use std::alloc::Global;
 use std::marker::Model;
 
@@ -169,5 +169,9 @@ impl<'a> Row for Machine<'a> {
 
     fn value(&self, variable: u32) -> Tern {
         self.cells[variable as usize].value()
+    }
+
+    fn character(&self, literal: Lit) -> u8 {
+        character_in(&self.cells, literal)
     }
 }

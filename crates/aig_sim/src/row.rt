@@ -3,7 +3,9 @@ ghost use Rattle.std.specs.Prelude.{◌≡◌, ℕ, ◌<◌, List, Some, slice_g
 ghost use Rattle.aig_base.specs.declared.ternary.Tern.{Tern};
 ghost use Rattle.aig_base.specs.Literal.{variable};
 ghost use Rattle.aig_sim.specs.Cells.{literal_value};
+ghost use Rattle.aig_sim.specs.TraceText.{literal_character};
 
+use crate::code::Code;
 use crate::grid::Grid;
 use aig_base::{Lit, Tern};
 
@@ -19,6 +21,11 @@ pub trait Row {
     fn value(&self, variable: u32) -> Tern
         requires { has self.now variable }
         ensures { slice_get (cells self.now) variable ≡ Some result };
+
+    /// The character of the value of a literal: `0`, `1` or `x`.
+    fn character(&self, literal: Lit) -> u8
+        requires { has self.now (variable literal) }
+        ensures { result ≡ literal_character (cells self.now) literal };
 }
 
 /// The value of a literal by the cell of its variable.
@@ -47,5 +54,10 @@ impl<'a, G: Grid> Row for GridRow<'a, G> {
 
     fn value(&self, variable: u32) -> Tern {
         self.grid.get(self.frame, variable)
+    }
+
+    fn character(&self, literal: Lit) -> u8 {
+        let value = self.grid.get(self.frame, literal.var());
+        Code::of(value).character(literal.is_neg())
     }
 }

@@ -1,5 +1,5 @@
 //! Bytes of a trace that wait to be written.
-ghost use Rattle.std.specs.Prelude.{◌≡◌, ◌<◌, ◌↔◌, [], ◌∷◌, ◌++◌, length, IsTrue, OnOk, OnErr};
+ghost use Rattle.std.specs.Prelude.{◌≡◌, ◌+◌, ◌<◌, ◌≤◌, ◌↔◌, [], ◌∷◌, ◌++◌, length, IsTrue, OnOk, OnErr};
 ghost use Rattle.aig_base.specs.Bytes.{Writes};
 ghost use Rattle.aig_base.specs.Gathered.{Gathers};
 
@@ -67,6 +67,16 @@ impl TraceBlock {
         self.size += 1;
     }
 
+    /// Puts bytes in, for which there is room.
+    fn append(&mut self, bytes: &[u8])
+        requires { length self.old + length bytes.now ≤ 4096 }
+        ensures { self.new ≡ self.old ++ bytes.now }
+    {
+        let behind = self.size;
+        self.size = behind + bytes.len();
+        self.bytes[behind..behind + bytes.len()].copy_from_slice(bytes);
+    }
+
     /// Hands all bytes on.
     pub fn hand_on<W: Write>(&mut self, out: &mut W) -> Result<(), Io>
         ensures written { Writes W.written W.failures out.old out.new self.old result }
@@ -85,6 +95,18 @@ impl TraceBlock {
             self.hand_on(out)?;
         }
         self.push(byte);
+        Ok(())
+    }
+
+    /// Puts some bytes in, 4,096 at most, and hands on what waits where there is no room for all of them.
+    pub fn put_all<W: Write>(&mut self, out: &mut W, bytes: &[u8]) -> Result<(), Io>
+        requires { length bytes.now ≤ 4096 }
+        ensures { Gathers W.written W.failures out.old out.new self.old self.new bytes.now result }
+    {
+        if bytes.len() > ROOM - self.size {
+            self.hand_on(out)?;
+        }
+        self.append(bytes);
         Ok(())
     }
 }

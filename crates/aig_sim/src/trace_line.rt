@@ -4,22 +4,24 @@ ghost use Rattle.aig_base.specs.Bytes.{Writes};
 ghost use Rattle.aig_base.specs.Circuit.{IsCircuit};
 ghost use Rattle.aig_base.specs.Literal.{variable};
 ghost use Rattle.aig_base.specs.Gathered.{Gathers};
-ghost use Rattle.aig_sim.specs.StimulusText.{character};
 ghost use Rattle.aig_sim.specs.TraceText.{literal_character, line_text, trace_text};
 
 use crate::grid::Grid;
-use crate::row::{GridRow, Row, literal_in};
+use crate::row::{GridRow, Row};
 use crate::trace_block::TraceBlock;
-use aig_base::{Circuit, Io, Latch, Lit, Tern, Write};
+use aig_base::{Circuit, Io, Latch, Lit, Write};
 
-// `0`, `1` or `x`.
-fn byte_of(value: Tern) -> u8
-    ensures { result ≡ character value }
+/// How many characters are put at a time.
+const PIECE: usize = 256;
+
+// Writes a character for each literal.
+fn spell_literals<R: Row>(text: &mut [u8], row: &R, literals: &[Lit])
+    requires row { All (λ l. R.has row.now (variable l)) literals.now }
+    requires room { length text.old ≡ length literals.now }
+    ensures { text.new ≡ map (literal_character (R.cells row.now)) literals.now }
 {
-    match value {
-        Tern::Zero => b'0',
-        Tern::One => b'1',
-        Tern::X => b'x',
+    for (place, literal) in literals.iter().enumerate() {
+        text[place] = row.character(*literal);
     }
 }
 
@@ -35,10 +37,26 @@ fn put_literals<R: Row, W: Write>(
     ensures { Gathers W.written W.failures out.old out.new block.old block.new
         (map (literal_character (R.cells row.now)) literals.now ++ end ∷ []) result }
 {
-    for literal in literals {
-        block.put(out, byte_of(literal_in(row, *literal)))?;
+    let mut piece = [0u8; PIECE];
+    let mut at = 0;
+    while at < literals.len() {
+        let count = PIECE.min(literals.len() - at);
+        spell_literals(&mut piece[..count], row, &literals[at..at + count]);
+        block.put_all(out, &piece[..count])?;
+        at += count;
     }
     block.put(out, end)
+}
+
+// Writes a character for each latch.
+fn spell_states<R: Row>(text: &mut [u8], row: &R, latches: &[Latch])
+    requires row { All (λ x. R.has row.now (variable x.lit)) latches.now }
+    requires room { length text.old ≡ length latches.now }
+    ensures { text.new ≡ map (λ x. literal_character (R.cells row.now) x.lit) latches.now }
+{
+    for (place, latch) in latches.iter().enumerate() {
+        text[place] = row.character(latch.lit);
+    }
 }
 
 // Puts a character for each latch, and the byte that ends the field.
@@ -53,10 +71,26 @@ fn put_states<R: Row, W: Write>(
     ensures { Gathers W.written W.failures out.old out.new block.old block.new
         (map (λ x. literal_character (R.cells row.now) x.lit) latches.now ++ end ∷ []) result }
 {
-    for latch in latches {
-        block.put(out, byte_of(literal_in(row, latch.lit)))?;
+    let mut piece = [0u8; PIECE];
+    let mut at = 0;
+    while at < latches.len() {
+        let count = PIECE.min(latches.len() - at);
+        spell_states(&mut piece[..count], row, &latches[at..at + count]);
+        block.put_all(out, &piece[..count])?;
+        at += count;
     }
     block.put(out, end)
+}
+
+// Writes a character for each latch's next literal.
+fn spell_next_states<R: Row>(text: &mut [u8], row: &R, latches: &[Latch])
+    requires row { All (λ x. R.has row.now (variable x.next)) latches.now }
+    requires room { length text.old ≡ length latches.now }
+    ensures { text.new ≡ map (λ x. literal_character (R.cells row.now) x.next) latches.now }
+{
+    for (place, latch) in latches.iter().enumerate() {
+        text[place] = row.character(latch.next);
+    }
 }
 
 // Puts a character for each latch's next literal, and the byte that ends the field.
@@ -71,8 +105,13 @@ fn put_next_states<R: Row, W: Write>(
     ensures { Gathers W.written W.failures out.old out.new block.old block.new
         (map (λ x. literal_character (R.cells row.now) x.next) latches.now ++ end ∷ []) result }
 {
-    for latch in latches {
-        block.put(out, byte_of(literal_in(row, latch.next)))?;
+    let mut piece = [0u8; PIECE];
+    let mut at = 0;
+    while at < latches.len() {
+        let count = PIECE.min(latches.len() - at);
+        spell_next_states(&mut piece[..count], row, &latches[at..at + count]);
+        block.put_all(out, &piece[..count])?;
+        at += count;
     }
     block.put(out, end)
 }
