@@ -1,6 +1,7 @@
 -- What a buffer holds, and what a read puts there.
 use Rattle.std.proofs.Common.{◌≡◌, ℕ, suc, ◌+◌, ◌-◌, ◌<◌, ◌≤◌, List, [], ◌∷◌, ◌++◌, length, get_or, take, drop, refl, sym}
 use Rattle.std.proofs.Common.{ap, subst, ◌∙◌, arith, Option, Some, None}
+use Rattle.std.proofs.lemmas.List.{length-drop, length-take-le, drop-drop, drop-take, drop-append-le}
 use Rattle.std.proofs.Math.Seq.{drop-cons}
 use Rattle.aig_base.specs.Bytes.{before, IsAtEnd}
 use Rattle.aig_format.specs.Held.{held, IsKnown, known}
@@ -16,6 +17,17 @@ held_front buffer more s e lt le =
 
 pub held_none : (buffer more : List ℕ) (s e : ℕ) → e ≤ s → held s e buffer ++ more ≡ more
 held_none buffer more s e le = let k : e - s ≡ 0 = omega arith in rw k refl
+
+-- so many are taken
+pub held_skip : (buffer more : List ℕ) (s e n : ℕ) → s ≤ e → e ≤ length buffer → n ≤ length (held s e buffer)
+    → held (s + n) e buffer ++ more ≡ drop n (held s e buffer ++ more)
+held_skip buffer more s e n order within le =
+    let all : length (held s e buffer) ≡ e - s = length-take-le (e - s) (drop s buffer) (omega (arith, length-drop s buffer)) in
+    let k : e - s ≡ n + (e - (s + n)) = omega arith in
+    let behind : held (s + n) e buffer ≡ drop n (held s e buffer) =
+    ap (take (e - (s + n))) (sym (drop-drop n s buffer)) ∙ sym (drop-take n (e - (s + n)) (drop s buffer))
+    ∙ ap (λ (j : ℕ). drop n (take j (drop s buffer))) (sym k) in
+    ap (λ (xs : List ℕ). xs ++ more) behind ∙ sym (drop-append-le n (held s e buffer) more le)
 
 -- a read takes its bytes from the front
 pub filled : (old new : Option (List ℕ)) (bytes : List ℕ) → old ≡ before bytes new → IsKnown old

@@ -1,9 +1,12 @@
 -- How reading of names and symbols goes on, for loops.
-use Rattle.std.proofs.Common.{◌≡◌, ℕ, ◌<◌, Contains, leb, false, eqb, eq-eqb}
-use Rattle.std.proofs.Common.{List, [], ◌∷◌, ◌++◌, Some, None, Result, Ok, Err, refl, sym, ap, ◌∙◌}
+use Rattle.std.proofs.Common.{◌≡◌, ◌≢◌, ℕ, ◌+◌, ◌<◌, ◌≤◌, Contains, leb, true, false, eqb, All, length, take, drop, slice_index}
+use Rattle.std.proofs.Common.{List, [], ◌∷◌, ◌++◌, Option, Some, Result, Ok, Err, refl, sym, ap, ◌∙◌, append_assoc}
 use Rattle.std.proofs.Common.{arith}
 use Rattle.std.proofs.lemmas.Bool.Decides.{nat_tests}
-use Rattle.std.proofs.lemmas.List.{append-nil}
+use Rattle.std.specs.Option.{is_some}
+use Rattle.std.proofs.lemmas.Bool.{true≢false}
+use Rattle.std.proofs.lemmas.List.{append-nil, drop-append-le, drop_more, take-append-drop}
+use Rattle.std.proofs.lemmas.List.Elements.{All-head, All-tail}
 use Rattle.aig_base.specs.declared.fault.Fault.{Fault}
 use Rattle.aig_format.specs.declared.header.Counts.{Counts}
 use Rattle.aig_format.specs.Header.{line_end}
@@ -11,7 +14,7 @@ use Rattle.aig_base.specs.declared.symbols.Kind.{Kind}
 use Rattle.std.specs.Map.{keys_of}
 use Rattle.aig_format.specs.Spells.{greatest}
 use Rattle.aig_format.specs.Spelling.{Entry}
-use Rattle.aig_format.specs.Reading.{Refusal, text, Read, first_of, rest_of, next_at, number_at}
+use Rattle.aig_format.specs.Reading.{Refusal, text, Read, first_of, rest_of, peek_at, next_at, number_at}
 use Rattle.aig_format.specs.ReadingNames.{count_of, line_at, position_at}
 use Rattle.aig_format.specs.Meaning.{Fails}
 use Rattle.aig_format.proofs.Keys.{is_named_from, not_named_from}
@@ -22,43 +25,67 @@ pub next_fails : {B : Type 0} (e : Fault) (bytes : List ℕ) (read : Result B Re
     → Fails e read
 next_fails e bytes read h = fails_else e (next_at bytes) (first_of bytes, rest_of bytes) read refl h
 
--- the byte that was taken was there
-pub taken : (bytes : List ℕ) (x : ℕ) (rest : List ℕ) → next_at bytes ≡ Ok (Some x, rest) → bytes ≡ x ∷ rest
-taken [] x rest h = let p = done_is None (Some x) [] rest h in let e = p.0 in absurd cc
-taken (y ∷ ys) x rest h = let p = done_is (Some y) (Some x) ys rest h in let e = p.0 in let same : y ≡ x =
-    cc in (λ i. same i ∷ p.1 i)
-
-pub not_taken : (bytes rest : List ℕ) → next_at bytes ≡ Ok (None, rest) → (bytes ≡ []) × (rest ≡ [])
-not_taken [] rest h = (refl, sym (done_is None None [] rest h).1)
-not_taken (y ∷ ys) rest h = let p = done_is (Some y) None ys rest h in let e = p.0 in absurd cc
-
 -- ---- a line
 
-pub line_on : (front bytes : List ℕ) (x : ℕ) (rest : List ℕ) (whole : Read (List ℕ))
-    → next_at bytes ≡ Ok (Some x, rest) → (x ≡ line_end → ⊥)
-    → with_front front (line_at bytes) ≡ whole → with_front (front ++ x ∷ []) (line_at rest) ≡ whole
+-- bytes of the line that come before more
+line_piece : (front part more : List ℕ) (whole : Read (List ℕ)) → All (λ b. b ≢ line_end) part
+    → with_front front (line_at (part ++ more)) ≡ whole → with_front (front ++ part) (line_at more) ≡ whole
 unfolding line_at
-line_on front bytes x rest whole h other so_far =
-    let one : with_front front (line_at bytes) ≡ with_front (front ++ x ∷ []) (line_at rest) =
-    let test : eqb x line_end ≡ false =
-    grind (arith, nat_tests) in rw (taken bytes x rest h, test) (regroup front x (line_at rest)) in
-    sym one ∙ so_far
+line_piece front [] more whole other so_far = rw (append-nil front) so_far
+line_piece front (x ∷ part) more whole other so_far =
+    let head : x ≢ line_end = All-head (λ (b : ℕ). b ≢ line_end) x part other in
+    let test : eqb x line_end ≡ false = grind (arith, nat_tests) in
+    let one : with_front front (line_at (x ∷ (part ++ more))) ≡ with_front (front ++ x ∷ []) (line_at (part ++ more)) =
+    rw test (regroup front x (line_at (part ++ more))) in
+    let all : (front ++ x ∷ []) ++ part ≡ front ++ x ∷ part = append_assoc front (x ∷ []) part in
+    ap (λ (t : List ℕ). with_front t (line_at more)) (sym all)
+    ∙ line_piece (front ++ x ∷ []) part more whole (All-tail (λ (b : ℕ). b ≢ line_end) x part other) (sym one ∙ so_far)
 
-pub line_ends : (front bytes : List ℕ) (x : ℕ) (rest : List ℕ) (whole : Read (List ℕ))
-    → next_at bytes ≡ Ok (Some x, rest) → x ≡ line_end
-    → with_front front (line_at bytes) ≡ whole → whole ≡ Ok (front, rest)
-unfolding line_at
-line_ends front bytes x rest whole h same so_far =
-    let one : with_front front (line_at bytes) ≡ done front rest =
-    rw (taken bytes x rest h, eq-eqb x line_end same) (ap (λ (t : List ℕ). done t rest) (append-nil front)) in
-    sym so_far ∙ one
+-- what is seen is there, and stays
+seen : (left mid : List ℕ) (o : Option ℕ) → peek_at left ≡ Ok (o, mid) → left ≡ mid
+seen left mid o h = (done_is (first_of left) o left mid h).1
 
-pub line_cut : (front bytes rest : List ℕ) (whole : Read (List ℕ)) → next_at bytes ≡ Ok (None, rest)
-    → with_front front (line_at bytes) ≡ whole → whole ≡ Err text
+-- what is at hand is in the line, and so is what comes behind
+pub line_on : (front left mid new hand behind : List ℕ) (n : ℕ) (o : Option ℕ) (whole : Read (List ℕ))
+    → peek_at left ≡ Ok (o, mid) → mid ≡ hand ++ behind → n ≤ length hand → length hand ≤ n
+    → All (λ b. b ≢ line_end) (take n hand) → new ≡ drop n mid
+    → with_front front (line_at left) ≡ whole → with_front (front ++ take n hand) (line_at new) ≡ whole
+line_on front left mid new hand behind n o whole h split le ge other is so_far =
+    let rest : drop n mid ≡ drop n hand ++ behind = ap (drop n) split ∙ drop-append-le n hand behind le in
+    let cut : hand ≡ take n hand ++ drop n hand = sym (take-append-drop n hand) in
+    let all : left ≡ take n hand ++ new =
+    seen left mid o h ∙ split ∙ ap (λ (t : List ℕ). t ++ behind) cut ∙ append_assoc (take n hand) (drop n hand) behind
+    ∙ ap (λ (t : List ℕ). take n hand ++ t) (sym (is ∙ rest)) in
+    line_piece front (take n hand) new whole other
+    (ap (λ (t : List ℕ). with_front front (line_at t)) (sym all) ∙ so_far)
+
+-- the line ends in what is at hand
+pub line_ends : (front left mid new hand behind : List ℕ) (n : ℕ) (o : Option ℕ) (whole : Read (List ℕ))
+    → peek_at left ≡ Ok (o, mid) → mid ≡ hand ++ behind → n < length hand → slice_index hand n ≡ line_end
+    → All (λ b. b ≢ line_end) (take n hand) → new ≡ drop (n + 1) mid
+    → with_front front (line_at left) ≡ whole → whole ≡ Ok (front ++ take n hand, new)
 unfolding line_at
-line_cut front bytes rest whole h so_far =
-    let one : with_front front (line_at bytes) ≡ Err text = rw ((not_taken bytes rest h).0) refl in
-    sym so_far ∙ one
+line_ends front left mid new hand behind n o whole h split lt end other is so_far =
+    let rest : drop (n + 1) mid ≡ drop (n + 1) hand ++ behind =
+    ap (drop (n + 1)) split ∙ drop-append-le (n + 1) hand behind (omega arith) in
+    let cut : hand ≡ take n hand ++ (line_end ∷ drop (n + 1) hand) =
+    sym (take-append-drop n hand)
+    ∙ ap (λ (t : List ℕ). take n hand ++ t) (drop_more hand n 0 lt ∙ ap (λ (x : ℕ). x ∷ drop (n + 1) hand) end) in
+    let all : left ≡ take n hand ++ (line_end ∷ new) =
+    seen left mid o h ∙ split ∙ ap (λ (t : List ℕ). t ++ behind) cut
+    ∙ append_assoc (take n hand) (line_end ∷ drop (n + 1) hand) behind
+    ∙ ap (λ (t : List ℕ). take n hand ++ (line_end ∷ t)) (sym (is ∙ rest)) in
+    let last = line_piece front (take n hand) (line_end ∷ new) whole other
+    (ap (λ (t : List ℕ). with_front front (line_at t)) (sym all) ∙ so_far) in
+    sym last ∙ ap (λ (t : List ℕ). done t new) (append-nil (front ++ take n hand))
+
+pub line_cut : (front left mid : List ℕ) (o : Option ℕ) (whole : Read (List ℕ)) → peek_at left ≡ Ok (o, mid)
+    → is_some o ≡ false → with_front front (line_at left) ≡ whole → whole ≡ Err text
+unfolding line_at
+line_cut front [] mid o whole h none so_far = sym so_far
+line_cut front (x ∷ left) mid o whole h none so_far =
+    let is = (done_is (Some x) o (x ∷ left) mid h).0 in
+    absurd (true≢false (ap is_some is ∙ none))
 
 -- ---- positions
 

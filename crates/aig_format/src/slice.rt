@@ -1,5 +1,5 @@
 //! The bytes of a slice.
-ghost use Rattle.std.specs.Prelude.{◌≡◌, ◌≤◌, length};
+ghost use Rattle.std.specs.Prelude.{◌≡◌, ◌≤◌, [], length};
 
 use crate::source::Source;
 use crate::token_fault::TokenFault;
@@ -34,9 +34,23 @@ impl<'a> Source for Slice<'a> {
 
     ghost more = { λ s. length s.rest.now };
 
+    ghost hand = { λ s. s.rest.now };
+
+    ghost behind = { λ _. [] };
+
     #[inline]
     fn at(&self) -> u64 {
         (self.size - self.rest.len()) as u64
+    }
+
+    #[inline]
+    fn front(&self) -> &[u8] {
+        self.rest
+    }
+
+    #[inline]
+    fn skip(&mut self, count: usize) {
+        self.rest = &self.rest[count..];
     }
 
     #[inline]

@@ -1,5 +1,5 @@
 //! Where bytes come from.
-ghost use Rattle.std.specs.Prelude.{◌≡◌, ℕ, ◌<◌, ◌≤◌, List, length, IfOk, IfSome};
+ghost use Rattle.std.specs.Prelude.{◌≡◌, ℕ, ◌+◌, ◌<◌, ◌≤◌, List, ◌++◌, length, drop, IfOk, IfSome};
 ghost use Rattle.aig_format.specs.Reading.{peek_at, next_at};
 ghost use Rattle.aig_format.specs.Meaning.{TokenGives, TokenRaises};
 
@@ -22,8 +22,28 @@ pub(crate) trait Source {
     /// A number that each call which takes a byte lowers.
     ghost more: { Self → ℕ };
 
+    /// The bytes at hand, which come next.
+    ghost hand: { Self → List ℕ };
+
+    /// The bytes behind these, where the value tells them.
+    ghost behind: { Self → List ℕ };
+
     /// How many bytes were taken.
     fn at(&self) -> u64;
+
+    /// The bytes at hand. There may be none though bytes are left; after a `peek` at a byte there are some.
+    fn front(&self) -> &[u8]
+        ensures hand { result.now ≡ hand self.now }
+        ensures left { left self.now ≡ hand self.now ++ behind self.now };
+
+    /// Takes so many of the bytes at hand.
+    fn skip(&mut self, count: usize)
+        requires { count ≤ length (hand self.old) }
+        ensures left { left self.new ≡ drop count (left self.old) }
+        ensures told { tells self.old → tells self.new }
+        ensures reader { reader self.new ≡ reader self.old }
+        ensures failures { failures self.new ≡ failures self.old }
+        ensures more { more self.new + count ≤ more self.old };
 
     /// The next byte, which stays.
     fn peek(&mut self) -> Result<Option<u8>, TokenFault>
@@ -31,7 +51,8 @@ pub(crate) trait Source {
         ensures told { tells self.old → tells self.new }
         ensures reader { reader self.new ≡ reader self.old }
         ensures failures { TokenRaises result (failures self.old) (failures self.new) }
-        ensures never_more { more self.new ≤ more self.old };
+        ensures never_more { more self.new ≤ more self.old }
+        ensures hand { IfOk result (λ front. IfSome front (λ _. 0 < length (hand self.new))) };
 
     /// The next byte, which is taken.
     fn next(&mut self) -> Result<Option<u8>, TokenFault>

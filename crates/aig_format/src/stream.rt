@@ -113,9 +113,23 @@ impl<'r, R: Read> Source for Stream<'r, R> {
 
     ghost more = { λ s. 4096 * R.reads_left s.reader.now + (s.end - s.start) };
 
+    ghost hand = { λ s. held s.start s.end s.buffer };
+
+    ghost behind = { λ s. known (R.left s.reader.now) };
+
     #[inline]
     fn at(&self) -> u64 {
         self.begin.saturating_add(self.start as u64)
+    }
+
+    #[inline]
+    fn front(&self) -> &[u8] {
+        &self.buffer[self.start..self.end]
+    }
+
+    #[inline]
+    fn skip(&mut self, count: usize) {
+        self.start += count;
     }
 
     #[inline]

@@ -1,5 +1,5 @@
 //! The symbols and the comment.
-ghost use Rattle.std.specs.Prelude.{◌≡◌, ◌≢◌, ℕ, ◌<◌, ◌≤◌, List, [], length, Ok, IfOk, OnOk, Option, All, Contains};
+ghost use Rattle.std.specs.Prelude.{◌≡◌, ◌≢◌, ℕ, ◌<◌, ◌≤◌, List, [], length, take, slice_index, Ok, IfOk, OnOk, Option, All, Contains};
 ghost use Rattle.std.specs.Map.{keys_of};
 ghost use Rattle.aig_base.specs.Formed.{IsName};
 ghost use Rattle.aig_format.specs.Fits.{AreSymbols};
@@ -12,6 +12,7 @@ use crate::source::Source;
 use crate::token::{BODY, byte, number};
 use crate::token_fault::TokenFault;
 use aig_base::{Bytes, Fault, Kind, List, Symbols};
+use memchr::memchr;
 use std::alloc::Global;
 
 /// What stands where a symbol line may begin.
@@ -84,6 +85,16 @@ fn letter<S: Source>(s: &mut S) -> Result<Next, TokenFault>
     }
 }
 
+/// How many bytes stand before the first end of a line, or all of them where there is none.
+#[inline]
+fn line_length(bytes: &[u8]) -> usize
+    ensures bound { result ≤ length bytes.now }
+    ensures before { All (λ b. b ≢ 10) (take result bytes.now) }
+    ensures end { result < length bytes.now → slice_index bytes.now result ≡ 10 }
+{
+    memchr(b'\n', bytes).unwrap_or(bytes.len())
+}
+
 /// The bytes before the end of the line, which is taken.
 fn line<S: Source>(alloc: Global, s: &mut S) -> Result<Bytes, Fault>
     ensures bytes { S.tells s.old → Gives (λ x. x) result (S.left s.new) (line_at (S.left s.old)) }
@@ -93,15 +104,19 @@ fn line<S: Source>(alloc: Global, s: &mut S) -> Result<Bytes, Fault>
     ensures failures { Raises result (S.failures s.old) (S.failures s.new) }
     ensures never_more { S.more s.new ≤ S.more s.old }
 {
-    let mut bytes = List::new(alloc);
-    loop {
-        let at = s.at();
-        match s.next()? {
-            None => return Err(Fault::Text { at }),
-            Some(b'\n') => return Ok(bytes),
-            Some(byte) => bytes.push(byte)?,
+    let mut bytes = Vec::new(alloc);
+    while s.peek()?.is_some() {
+        let front = s.front();
+        let size = front.len();
+        let count = line_length(front);
+        bytes.extend_from_slice(&front[..count])?;
+        if count < size {
+            s.skip(count + 1);
+            return Ok(List::from_vec(bytes));
         }
+        s.skip(count);
     }
+    Err(Fault::Text { at: s.at() })
 }
 
 /// A name and the end of its line.
@@ -202,11 +217,14 @@ fn rest<S: Source>(alloc: Global, s: &mut S) -> Result<Bytes, Fault>
     ensures reader { S.reader s.new ≡ S.reader s.old }
     ensures failures { Raises result (S.failures s.old) (S.failures s.new) }
 {
-    let mut bytes = List::new(alloc);
-    while let Some(byte) = s.next()? {
-        bytes.push(byte)?;
+    let mut bytes = Vec::new(alloc);
+    while s.peek()?.is_some() {
+        let front = s.front();
+        let count = front.len();
+        bytes.extend_from_slice(front)?;
+        s.skip(count);
     }
-    Ok(bytes)
+    Ok(List::from_vec(bytes))
 }
 
 /// The symbols and the comment, which end the file.

@@ -1,31 +1,42 @@
-use Rattle.std.proofs.Common.{◌∙◌, ◌≢◌, ℕ, arith}
-use Rattle.std.proofs.lemmas.List.Elements.{All-push}
+use Rattle.std.proofs.Common.{◌∙◌, ◌≢◌, ℕ, sym, take, arith}
+use Rattle.std.proofs.lemmas.List.Elements.{All-append}
 use Rattle.aig_format.specs.ReadingNames.{line_at}
 use Rattle.aig_format.proofs.NameSteps.{line_on, line_ends, line_cut}
 use Rattle.aig_format.proofs.symbol.line.Goals as goal
 
-pub returns-in-None-clause-bytes : goal.returns-in-None-clause-bytes
-returns-in-None-clause-bytes g c = λ told.
-    line_cut c.loop-bytes.bytes (g.S.Source.left c.loop-bytes.s) (g.S.Source.left c.next.new.self)
-    (line_at (g.S.Source.left c.args.s.now)) (rw c.in-None.is at (c.in_ok-next.ensures.bytes (c.loop-bytes.invariant.told told)))
-    (c.loop-bytes.invariant.bytes told)
-
-pub returns-in-Some-eq10-clause-bytes : goal.returns-in-Some-eq10-clause-bytes
-returns-in-Some-eq10-clause-bytes g c = λ told.
-    line_ends c.loop-bytes.bytes (g.S.Source.left c.loop-bytes.s) c.in-Some-eq10.field-0
-    (g.S.Source.left c.next.new.self) (line_at (g.S.Source.left c.args.s.now))
-    (rw c.in-Some-eq10.is at (c.in_ok-next.ensures.bytes (c.loop-bytes.invariant.told told))) c.in-Some-eq10.field-0-test
-    (c.loop-bytes.invariant.bytes told)
+pub returns-then-count-size-clause-bytes : goal.returns-then-count-size-clause-bytes
+returns-then-count-size-clause-bytes g c = λ told.
+    let count = c.line_length-count in
+    rw (c.from_vec.ensures, c.in_ok-extend_from_slice.ensures.items)
+    (line_ends c.loop-bytes.bytes.items (g.S.Source.left c.loop-bytes.s) (g.S.Source.left c.peek.new.self)
+    (g.S.Source.left c.skip.new.self) c.front-front.result.now (g.S.Source.behind c.peek.new.self) count.result c.in_ok-peek.field-0
+    (line_at (g.S.Source.left c.args.s.now)) (c.in_ok-peek.ensures.bytes (c.loop-bytes.invariant.told told))
+    (rw c.front-front.ensures.hand (c.front-front.ensures.left)) c.if-count-size.true (count.ensures.end c.if-count-size.true)
+    count.ensures.before c.skip.ensures.left (c.loop-bytes.invariant.bytes told))
 
 pub loop-bytes-preserved : goal.loop-bytes-preserved
-loop-bytes-preserved g c = record {
-  bytes = λ told. rw c.in_ok-push-in-Some.ensures.ok
-      (line_on c.loop-bytes.bytes (g.S.Source.left c.loop-bytes.s) c.in-Some.byte (g.S.Source.left c.next.new.self)
-      (line_at (g.S.Source.left c.args.s.now)) (rw c.in-Some.is at (c.in_ok-next.ensures.bytes (c.loop-bytes.invariant.told told)))
-      (λ e. c.in-Some.byte-test.1 e) (c.loop-bytes.invariant.bytes told));
-  never_more = omega (arith, c.in_ok-next.ensures.never_more, c.loop-bytes.invariant.never_more);
-  no_end = rw c.in_ok-push-in-Some.ensures.ok (All-push (λ (b : ℕ). b ≢ 10) c.loop-bytes.bytes c.in-Some.byte c.loop-bytes.invariant.no_end (λ e. c.in-Some.byte-test.1 e));
-  told = λ told. c.in_ok-next.ensures.told (c.loop-bytes.invariant.told told);
-  reader = c.in_ok-next.ensures.reader ∙ c.loop-bytes.invariant.reader;
-  failures = c.in_ok-next.ensures.failures ∙ c.loop-bytes.invariant.failures;
-}
+loop-bytes-preserved g c =
+    let count = c.line_length-count in
+    let old = c.loop-bytes.invariant in
+    let skip = c.skip-in-loop-bytes in
+    record {
+      bytes = λ told.
+          rw c.in_ok-extend_from_slice.ensures.items
+          (line_on c.loop-bytes.bytes.items (g.S.Source.left c.loop-bytes.s) (g.S.Source.left c.peek.new.self)
+          (g.S.Source.left skip.new.self) c.front-front.result.now (g.S.Source.behind c.peek.new.self) count.result
+          c.in_ok-peek.field-0 (line_at (g.S.Source.left c.args.s.now)) (c.in_ok-peek.ensures.bytes (old.told told))
+          (rw c.front-front.ensures.hand (c.front-front.ensures.left)) count.ensures.bound c.if-count-size.false
+          count.ensures.before skip.ensures.left (old.bytes told));
+      never_more = omega (arith, skip.ensures.more, c.in_ok-peek.ensures.never_more, old.never_more);
+      no_end = rw c.in_ok-extend_from_slice.ensures.items
+          (All-append (λ (b : ℕ). b ≢ 10) c.loop-bytes.bytes.items (take count.result c.front-front.result.now) old.no_end count.ensures.before);
+      told = λ told. skip.ensures.told (c.in_ok-peek.ensures.told (old.told told));
+      reader = skip.ensures.reader ∙ c.in_ok-peek.ensures.reader ∙ old.reader;
+      failures = skip.ensures.failures ∙ c.in_ok-peek.ensures.failures ∙ old.failures;
+    }
+
+pub returns-clause-bytes : goal.returns-clause-bytes
+returns-clause-bytes g c = λ told.
+    line_cut c.loop-bytes.bytes.items (g.S.Source.left c.loop-bytes.s) (g.S.Source.left c.peek.new.self) c.in_ok-peek.field-0
+    (line_at (g.S.Source.left c.args.s.now)) (c.in_ok-peek.ensures.bytes (c.loop-bytes.invariant.told told))
+    (sym c.is_some.ensures ∙ c.if-is_some.false) (c.loop-bytes.invariant.bytes told)

@@ -6,9 +6,9 @@ use Rattle.aig_format.proofs.symbol.line.Given as goal
 
 abbrev pub invariant-loop-bytes : goal.invariant-loop-bytes
 invariant-loop-bytes g l = record {
-  bytes : g.S.Source.tells l.fn.s → with_front l.bytes (line_at (g.S.Source.left l.s)) ≡ line_at (g.S.Source.left l.fn.s);
+  bytes : g.S.Source.tells l.fn.s → with_front l.bytes.items (line_at (g.S.Source.left l.s)) ≡ line_at (g.S.Source.left l.fn.s);
   never_more : g.S.Source.more l.s ≤ g.S.Source.more l.fn.s;
-  no_end : All (λ b. b ≢ 10) l.bytes;
+  no_end : All (λ b. b ≢ 10) l.bytes.items;
   told : g.S.Source.tells l.fn.s → g.S.Source.tells l.s;
   reader : g.S.Source.reader l.s ≡ g.S.Source.reader l.fn.s;
   failures : g.S.Source.failures l.s ≡ g.S.Source.failures l.fn.s;
