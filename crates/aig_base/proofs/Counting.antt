@@ -1,11 +1,13 @@
 -- How many entries lists without repetition have.
-use Rattle.std.proofs.Common.{◌≡◌, ℕ, ◌+◌, ◌-◌, ◌<◌, ◌≤◌, List, ◌++◌, length, map, get_or, eqb, false, Some, slice_get, Contains, refl, sym, ap, ◌∙◌, arith, subst, length-append}
+use Rattle.std.proofs.Common.{◌≡◌, ℕ, ◌+◌, ◌-◌, ◌<◌, ◌≤◌, List, [], ◌∷◌, ◌++◌, inl, inr, suc, length, map, get_or, eqb, false, Some, slice_get, All, Contains, refl, sym, ap, ◌∙◌, arith, subst, length-append}
 use Rattle.std.specs.List.{IsDistinct, range_with_len}
+use Rattle.std.specs.Set.{is_member}
+use Rattle.std.proofs.lemmas.Bool.{cases_Bool, cases_eq, false≢true}
 use Rattle.std.proofs.lemmas.Bool.Decides.{Decides-eqb, nat_tests}
 use Rattle.std.proofs.lemmas.Map.Made.{is_member-Decides, length-le_from_is_member}
 use Rattle.std.proofs.lemmas.Map.Keys.{IsDistinct-from_apart}
-use Rattle.std.proofs.lemmas.List.{length-map}
-use Rattle.std.proofs.lemmas.List.Elements.{All-contains}
+use Rattle.std.proofs.lemmas.List.{length-map, length_push}
+use Rattle.std.proofs.lemmas.List.Elements.{All-contains, Contains-push_cases}
 use Rattle.std.proofs.lemmas.List.FromFn.{length-range_with_len, get_or-range_with_len}
 use Rattle.std.proofs.lemmas.Option.{slice_get-get_or, slice_get-map, slice_get_within, get_or_from_slice_get}
 use Rattle.aig_base.specs.declared.gate.Gate.{Gate}
@@ -13,8 +15,9 @@ use Rattle.aig_base.specs.declared.raw.Raw.{Raw}
 use Rattle.aig_base.specs.Literal.{variable}
 use Rattle.aig_base.specs.Grounded.{Level}
 use Rattle.aig_base.specs.Order.{IsCanonicalOrder}
-use Rattle.aig_base.specs.Sections.{definitions, uses}
-use Rattle.aig_base.specs.Sound.{IsSound, IsInRange, IsDefinition, StandsTwice}
+use Rattle.aig_base.specs.Sections.{definitions, uses, IsDefined}
+use Rattle.aig_base.specs.Sound.{IsSound, IsInRange, IsDefinition, IsRedefined, StandsTwice}
+use Rattle.aig_base.proofs.Gets.{slice_get_push}
 use Rattle.aig_base.proofs.Joined.{All-left}
 use Rattle.aig_base.proofs.OneLevel.{same_level}
 use Rattle.aig_base.proofs.Places.{gate}
@@ -68,39 +71,89 @@ length-order raw sound order canonical =
     let e = length-map raw.gates (λ g. variable g.lhs) in
     omega arith
 
+module _ (raw : Raw) (defs : All IsDefinition (definitions raw)) (range : All (IsInRange raw) (definitions raw)) where
+  vars : List ℕ
+  vars = map variable (definitions raw)
+
+  bounds : (l : ℕ) → IsDefinition l → IsInRange raw l → (0 < variable l) × (variable l ≤ raw.max_var)
+  bounds l d r = (omega arith, omega arith)
+
+  within : (v : ℕ) → (0 < v) × (v ≤ raw.max_var) → Contains (range_with_len 1 raw.max_var) v
+  within v (over, le) =
+      let lt : v - 1 < raw.max_var = omega arith in (
+        v - 1,
+        omega (arith, length-range_with_len 1 raw.max_var),
+        get_or-range_with_len 1 raw.max_var (v - 1) v lt
+            ∙ omega arith,
+      )
+
+  inside : (v : ℕ) → Contains vars v → Contains (range_with_len 1 raw.max_var) v
+  unfolding vars
+  inside v h =
+      let (l, i, at, is) = unmap variable (definitions raw) v h in
+      let c = Contains-from_slice_get (definitions raw) i l at in
+      let d = All-contains IsDefinition (definitions raw) l defs c in
+      let r = All-contains (IsInRange raw) (definitions raw) l range c in
+      within v (subst (λ u. (0 < u) × (u ≤ raw.max_var)) is (bounds l d r))
+
+  many : length vars ≡ length raw.inputs + length raw.latches + length raw.gates
+  unfolding vars
+  many =
+      let xs = raw.inputs in
+      let ys : List ℕ = map (λ x. x.lit) raw.latches in
+      omega (
+        arith,
+        length-map (definitions raw) variable,
+        length-append (xs ++ ys) (map (λ g. g.lhs) raw.gates),
+        length-append xs ys,
+        length-map raw.latches (λ x. x.lit),
+        length-map raw.gates (λ g. g.lhs),
+      )
+
+  pub definitions_fit : ((v : ℕ) → IsRedefined raw v → ⊥)
+      → length raw.inputs + length raw.latches + length raw.gates ≤ raw.max_var
+  unfolding vars
+  definitions_fit once =
+      let a = length_le vars (range_with_len 1 raw.max_var) once inside in
+      omega (arith, length-range_with_len 1 raw.max_var, many)
+
+  -- one more variable stands once, where it is not there
+  once_more : ((v : ℕ) → IsRedefined raw v → ⊥) → (v : ℕ) → (Contains vars v → ⊥) → (x : ℕ)
+      → StandsTwice (vars ++ v ∷ []) x → ⊥
+  unfolding vars
+  once_more once v free x (i, j, lt, at, here) = elim (slice_get_push vars v x j here) [
+    | inl here_j ↦
+        let inside_j = slice_get_within vars j x here_j in
+        elim (slice_get_push vars v x i at) [ inl at_i ↦ once x (i, j, lt, at_i, here_j) | inr e ↦ omega (arith, e.0) ]
+    | inr e ↦ elim (slice_get_push vars v x i at) [
+      | inl at_i ↦ free (subst (Contains vars) (sym e.1) (Contains-from_slice_get vars i x at_i))
+      | inr f ↦ omega (arith, e.0, f.0)
+    ]
+  ]
+
+  -- where as many variables are defined as there are, each is
+  pub all_defined : ((v : ℕ) → IsRedefined raw v → ⊥)
+      → length raw.inputs + length raw.latches + length raw.gates ≡ raw.max_var
+      → (v : ℕ) → v ≤ raw.max_var → IsDefined raw v
+  unfolding vars
+  all_defined once full v le = elim (cases_eq v 0) [
+    | inl e ↦ (0, omega arith, sym e)
+    | inr over ↦ elim (cases_Bool (is_member eqb vars v)) [
+      | inl has ↦ let (k, lt, is) = (is_member-Decides Decides-eqb vars v).0 has in (suc k, omega arith, is)
+      | inr has_not ↦
+          let free : Contains vars v → ⊥ =
+          λ h. false≢true (sym has_not ∙ (is_member-Decides Decides-eqb vars v).1 h) in
+          let one_more : (x : ℕ) → Contains (vars ++ v ∷ []) x → Contains (range_with_len 1 raw.max_var) x =
+          λ x h. elim (Contains-push_cases vars v x h) [
+            | inl was ↦ inside x was
+            | inr e ↦ subst (Contains (range_with_len 1 raw.max_var)) e (within v (omega arith, le))
+          ] in
+          let a = length_le (vars ++ v ∷ []) (range_with_len 1 raw.max_var) (once_more once v free) one_more in
+          absurd (omega (arith, length_push vars v, length-range_with_len 1 raw.max_var, many))
+    ]
+  ]
+
 -- a circuit defines no more variables than there are
 pub sections_fit : (raw : Raw) → IsSound raw → length raw.inputs + length raw.latches + length raw.gates ≤ raw.max_var
 sections_fit raw sound =
-    let a = length_le (map variable (definitions raw)) (range_with_len 1 raw.max_var) sound.once inside in
-    let xs = raw.inputs in
-    let ys : List ℕ = map (λ x. x.lit) raw.latches in
-    omega (
-      arith,
-      length-range_with_len 1 raw.max_var,
-      length-map (definitions raw) variable,
-      length-append (xs ++ ys) (map (λ g. g.lhs) raw.gates),
-      length-append xs ys,
-      length-map raw.latches (λ x. x.lit),
-      length-map raw.gates (λ g. g.lhs),
-    )
-  where
-    bounds : (l : ℕ) → IsDefinition l → IsInRange raw l → (0 < variable l) × (variable l ≤ raw.max_var)
-    bounds l d r = (omega arith, omega arith)
-
-    within : (v : ℕ) → (0 < v) × (v ≤ raw.max_var) → Contains (range_with_len 1 raw.max_var) v
-    within v (over, le) =
-        let lt : v - 1 < raw.max_var = omega arith in (
-          v - 1,
-          omega (arith, length-range_with_len 1 raw.max_var),
-          get_or-range_with_len 1 raw.max_var (v - 1) v lt
-              ∙ omega arith,
-        )
-
-    inside : (v : ℕ) → Contains (map variable (definitions raw)) v → Contains (range_with_len 1 raw.max_var) v
-    inside v h =
-        let (l, i, at, is) = unmap variable (definitions raw) v h in
-        let c = Contains-from_slice_get (definitions raw) i l at in
-        let d = All-contains IsDefinition (definitions raw) l sound.definitions c in
-        let r = All-contains (IsInRange raw) (definitions raw) l
-        (All-left (IsInRange raw) (definitions raw) (uses raw) sound.in_range) c in
-        within v (subst (λ u. (0 < u) × (u ≤ raw.max_var)) is (bounds l d r))
+    definitions_fit raw sound.definitions (All-left (IsInRange raw) (definitions raw) (uses raw) sound.in_range) sound.once

@@ -7,7 +7,7 @@ use Rattle.std.proofs.lemmas.List.FromFn.{length-map-range_with_len, get_or-map-
 use Rattle.std.specs.List.{range_with_len}
 use Rattle.aig_base.specs.declared.raw.Raw.{Raw}
 use Rattle.aig_base.specs.Sections.{definitions}
-use Rattle.aig_base.specs.Renumbered.{evens, evens_from, IsBinaryReady}
+use Rattle.aig_base.specs.Renumbered.{evens, evens_from}
 use Rattle.aig_base.specs.Ready.{SectionsInOrder}
 use Rattle.aig_base.specs.Sound.{IsDefinition}
 
@@ -99,14 +99,3 @@ apart raw h =
     )) whole in
     let head = same_front xs (evens_from 1 (length xs)) ys _ (sym (length-evens_from 1 (length xs))) front.0 in
     record { size = size; inputs_are = head.0; latches_are = head.1; gates_are = front.1 }
-
--- in circuits whose definitions are in order the gates decide
-pub ready_by_gates : (raw : Raw) (b : Bool) → SectionsInOrder raw.inputs raw.latches raw.gates raw.max_var
-    → (IsTrue b ↔ All (λ g. (g.rhs0 < g.lhs) × (g.rhs1 ≤ g.rhs0)) raw.gates) → IsTrue b ↔ IsBinaryReady raw
-ready_by_gates raw b sections test =
-    (λ h. record { in_order = joined raw sections; gates = test.0 h }, λ ready. test.1 ready.gates)
-
--- a circuit whose definitions are out of order is not ready
-pub ready_not : (raw : Raw) (b : Bool) → (IsTrue b ↔ SectionsInOrder raw.inputs raw.latches raw.gates raw.max_var)
-    → b ≡ false → IsTrue b ↔ IsBinaryReady raw
-ready_not raw b test failed = (λ h. absurd (false≢true (sym failed ∙ h)), λ ready. test.1 (apart raw ready.in_order))

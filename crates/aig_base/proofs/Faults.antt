@@ -20,6 +20,7 @@ use Rattle.aig_base.specs.Literal.{variable}
 use Rattle.aig_base.specs.Ranged.{AreInRange, AreDefinedOnce, AreDefinitions}
 use Rattle.aig_base.specs.Sections.{definitions, uses, IsDefined}
 use Rattle.aig_base.specs.Sound.{IsInRange, IsDefinition, IsRedefined, IsUndefined, IsReset}
+use Rattle.aig_base.proofs.Counting.{all_defined}
 use Rattle.aig_base.proofs.Entering.{same_or_not}
 use Rattle.aig_base.proofs.Gets.{Contains-from_get, get_from_Contains, All-at}
 use Rattle.aig_base.proofs.Joined.{All-left, All-right, All-unmap}
@@ -173,7 +174,7 @@ module _ (raw : Raw) where
         let (k, is) = get_from_Contains (map variable (definitions raw)) (variable l) (h.entries (variable l) (Some d) at).1 in
         Contains-from_get (0 ∷ map variable (definitions raw)) (suc k) (variable l) is
 
-    known_from_defined : (l : ℕ) → IsInRange raw l → IsDefined raw (variable l) → IsKnown table l
+    pub known_from_defined : (l : ℕ) → IsInRange raw l → IsDefined raw (variable l) → IsKnown table l
     known_from_defined l in' has =
         let k = get_from_Contains (0 ∷ map variable (definitions raw)) (variable l) has in
         of k.0 k.1
@@ -260,6 +261,19 @@ module _ (raw : Raw) where
       applies = least_is_undefined table None h v (All-right (IsInRange raw) (definitions raw) (uses raw) (in_range_joined r)) least;
       first = none_before 7 (omega arith) (λ l. in_range_joined r) (λ l. are_definitions_joined d) (λ l. h.twice) (λ l. absurd (omega arith)) (λ l. absurd (omega arith));
     }
+
+    -- where as many variables are defined as there are, the table knows all that is used
+    pub known_by_count : length raw.inputs + length raw.latches + length raw.gates ≡ raw.max_var
+        → IsLeastAmong (IsKnown table) variable (uses raw) None
+    known_by_count full = λ k e l.
+        let range = All-left (IsInRange raw) (definitions raw) (uses raw) (in_range_joined r) in
+        let used : ℕ = get_or (uses raw) k e in
+        let low = All-right (IsInRange raw) (definitions raw) (uses raw) (in_range_joined r) k e l in
+        known_from_defined table None h used low
+        (all_defined raw (are_definitions_joined d) range h.twice full (variable used) (half used low))
+      where
+        half : (l : ℕ) → IsInRange raw l → variable l ≤ raw.max_var
+        half l in' = omega arith
 
     pub once_from_table : IsLeastAmong (IsKnown table) variable (uses raw) None → AreDefinedOnce raw
     once_from_table known =

@@ -8,8 +8,9 @@ use Rattle.aig_base.specs.declared.gate.Gate.{Gate}
 use Rattle.aig_base.specs.declared.latch.Latch.{Latch}
 use Rattle.aig_base.specs.declared.raw.Raw.{Raw}
 use Rattle.aig_base.specs.Definition.{Defines, IsFree, IsInOrder}
+use Rattle.aig_base.specs.Least.{ReadsSmaller}
 use Rattle.aig_base.specs.Literal.{variable}
-use Rattle.aig_base.specs.Ranged.{AreInRange, AreDefinedOnce}
+use Rattle.aig_base.specs.Ranged.{AreInRange, AreSectionsInRange, AreDefinedOnce}
 use Rattle.aig_base.specs.Renumbered.{evens_from}
 use Rattle.aig_base.specs.Sections.{definitions, uses, IsDefined}
 use Rattle.aig_base.specs.Sound.{IsInRange, IsRedefined}
@@ -102,3 +103,33 @@ module _ (raw : Raw) (order : IsInOrder raw) where
       let at = even_at (map lhs raw.gates) first (length raw.gates) q (apart raw order).gates_are lt in
       let (g, here, same) = slice_get_unmap lhs raw.gates q (2 * (first + q)) at in
       (g, here, ap variable same ∙ half_of (first + q) ∙ sym is)
+
+  -- gates that read smaller variables alone are in range
+  pub gates_in_range : All ReadsSmaller raw.gates
+      → All (λ g. IsInRange raw g.lhs × IsInRange raw g.rhs0 × IsInRange raw g.rhs1) raw.gates
+  gates_in_range smaller = λ k d lt.
+      let g : Gate = get_or raw.gates k d in
+      let lhs : Gate → ℕ = λ x. x.lhs in
+      let first = 1 + length raw.inputs + length raw.latches in
+      let e : g.lhs ≡ 2 * (first + k) =
+      sym (get_or-map lhs raw.gates k d 0 lt) ∙ ap (λ (ls : List ℕ). get_or ls k 0) (apart raw order).gates_are
+      ∙ get_or-evens_from first (length raw.gates) k 0 lt in
+      let s : ReadsSmaller g = smaller k d lt in
+      let top : g.lhs ≤ 2 * raw.max_var = omega (arith, size_is) in
+      (omega arith, below g.rhs0 g.lhs s.0 top, below g.rhs1 g.lhs s.1 top)
+    where
+      below : (l k : ℕ) → variable l < variable k → k ≤ 2 * raw.max_var → l ≤ 2 * raw.max_var + 1
+      below l k lt le = omega arith
+
+  -- such parts are in range where the other sections are
+  pub range_from_sections : All ReadsSmaller raw.gates → AreSectionsInRange raw → AreInRange raw
+  range_from_sections smaller h = record {
+    inputs = h.inputs;
+    latches = h.latches;
+    outputs = h.outputs;
+    bad = h.bad;
+    constraints = h.constraints;
+    justice = h.justice;
+    fairness = h.fairness;
+    gates = gates_in_range smaller;
+  }

@@ -5,6 +5,16 @@ use Rattle.aig_base.specs.Literal.{variable}
 use Rattle.aig_base.specs.Sections.{definitions, uses, IsDefined}
 use Rattle.aig_base.specs.Sound.{IsInRange, IsDefinition, IsRedefined}
 
+-- each literal outside the gates, but a reset, is in range
+pub record AreSectionsInRange (raw : Raw) : Type 0 where
+  pub inputs : All (λ l. IsInRange raw l) raw.inputs
+  pub latches : All (λ x. IsInRange raw x.lit × IsInRange raw x.next) raw.latches
+  pub outputs : All (λ l. IsInRange raw l) raw.outputs
+  pub bad : All (λ l. IsInRange raw l) raw.bad
+  pub constraints : All (λ l. IsInRange raw l) raw.constraints
+  pub justice : All (λ p. All (λ l. IsInRange raw l) p) raw.justice
+  pub fairness : All (λ l. IsInRange raw l) raw.fairness
+
 -- each literal but a reset is in range
 pub record AreInRange (raw : Raw) : Type 0 where
   pub inputs : All (λ l. IsInRange raw l) raw.inputs

@@ -1,14 +1,15 @@
 //! The test of parts.
-ghost use Rattle.std.specs.Prelude.{◌≡◌, ◌≢◌, ◌≤◌, ◌↔◌, All, IsTrue, IfOk, IfErr, OnOk};
+ghost use Rattle.std.specs.Prelude.{◌≡◌, ◌≢◌, ◌≤◌, ◌↔◌, None, map, All, IsTrue, IfOk, IfErr, OnOk};
 ghost use Rattle.aig_base.specs.Circuit.{IsCircuit};
 ghost use Rattle.aig_base.specs.Definition.{IsInOrder, IsTable};
 ghost use Rattle.aig_base.specs.Definitions.{Tells};
+ghost use Rattle.aig_base.specs.Entries.{AreEntries};
 ghost use Rattle.aig_base.specs.FirstFault.{IsFirstFault};
 ghost use Rattle.aig_base.specs.Formed.{IsFormed, CountsFit};
-ghost use Rattle.aig_base.specs.Least.{IsLeastAmong, IsGroundedGate, ReadsSmaller, gate_variable};
+ghost use Rattle.aig_base.specs.Least.{IsLeastAmong, IsKnown, IsGroundedGate, ReadsSmaller, gate_variable};
 ghost use Rattle.aig_base.specs.Literal.{variable};
-ghost use Rattle.aig_base.specs.Ranged.{AreInRange, AreDefinedOnce, AreDefinitions};
-ghost use Rattle.aig_base.specs.Sections.{uses, IsDefined};
+ghost use Rattle.aig_base.specs.Ranged.{AreInRange, AreSectionsInRange, AreDefinedOnce, AreDefinitions};
+ghost use Rattle.aig_base.specs.Sections.{definitions, uses, IsDefined};
 ghost use Rattle.aig_base.specs.Sound.{IsDefinition};
 
 use crate::circuit::Circuit;
@@ -22,6 +23,7 @@ use crate::latch::Latch;
 use crate::least::{least_bad_reset, least_undefined, least_unmarked};
 use crate::list::List;
 use crate::literal::Lit;
+use crate::ordered::{is_ascending, test_ascending};
 use crate::raw::Raw;
 use crate::ready::definitions_in_order;
 use std::alloc::Global;
@@ -55,10 +57,10 @@ fn gates_within(gates: &[Gate], greatest: u32) -> bool
     })
 }
 
-// Whether each literal but a reset is at most 2M + 1.
-fn are_in_range(raw: &Raw) -> bool
+/// Whether each literal outside the gates, but a reset, is at most 2M + 1.
+pub(crate) fn sections_are_in_range(raw: &Raw) -> bool
     requires { CountsFit raw.now }
-    ensures { IsTrue result ↔ AreInRange raw.now }
+    ensures { IsTrue result ↔ AreSectionsInRange raw.now }
 {
     let greatest = 2 * raw.max_var + 1;
     within(raw.inputs.as_slice(), greatest)
@@ -68,7 +70,14 @@ fn are_in_range(raw: &Raw) -> bool
         && within(raw.constraints.as_slice(), greatest)
         && lists_within(raw.justice.as_slice(), greatest)
         && within(raw.fairness.as_slice(), greatest)
-        && gates_within(raw.gates.as_slice(), greatest)
+}
+
+// Whether each literal but a reset is at most 2M + 1.
+fn are_in_range(raw: &Raw) -> bool
+    requires { CountsFit raw.now }
+    ensures { IsTrue result ↔ AreInRange raw.now }
+{
+    sections_are_in_range(raw) && gates_within(raw.gates.as_slice(), 2 * raw.max_var + 1)
 }
 
 fn is_definition(literal: Lit) -> bool
@@ -86,7 +95,8 @@ fn are_definitions(raw: &Raw) -> bool
         && raw.gates.iter().all(|gate| is_definition(gate.lhs))
 }
 
-fn reads_smaller(gate: Gate) -> bool
+/// Whether a gate reads smaller variables alone.
+pub(crate) fn reads_smaller(gate: Gate) -> bool
     ensures { IsTrue result ↔ ReadsSmaller gate }
 {
     gate.rhs0.var() < gate.lhs.var() && gate.rhs1.var() < gate.lhs.var()
@@ -133,6 +143,21 @@ fn are_in_order(raw: &Raw) -> bool
     )
 }
 
+// The least variable that something reads and nothing defines, where nothing is defined twice. If as many variables are
+// defined as there are, each is, and nothing is looked up.
+fn least_missing(table: &[Option<Definition>], raw: &Raw) -> Option<u32>
+    requires counts { CountsFit raw.now }
+    requires range { AreInRange raw.now }
+    requires definitions { AreDefinitions raw.now }
+    requires entries { AreEntries raw.now (map variable (definitions raw.now)) table.now None }
+    ensures { IsLeastAmong (IsKnown table.now) variable (uses raw.now) result }
+{
+    if raw.inputs.len() + raw.latches.len() + raw.gates.len() == raw.max_var as usize {
+        return None;
+    }
+    least_undefined(table, raw)
+}
+
 // The table of definitions of parts in range, or the first fault of what they define and use.
 fn listed_definitions(alloc: Global, raw: &Raw) -> Result<Vec<Option<Definition>>, Fault>
     requires counts { CountsFit raw.now }
@@ -148,7 +173,7 @@ fn listed_definitions(alloc: Global, raw: &Raw) -> Result<Vec<Option<Definition>
     if let Some(variable) = again {
         return Err(Fault::Redefined(variable));
     }
-    if let Some(variable) = least_undefined(&table, raw) {
+    if let Some(variable) = least_missing(&table, raw) {
         return Err(Fault::Undefined(variable));
     }
     Ok(table)
@@ -194,6 +219,10 @@ fn tested(alloc: Global, raw: &Raw) -> Result<Definitions, Fault>
     ensures tells { IfOk result (Tells raw.now) }
     ensures fault { IfErr result (λ fault. fault ≢ Fault.Memory → IsFirstFault raw.now fault) }
 {
+    if is_ascending(raw) {
+        test_ascending(raw)?;
+        return Ok(Definitions::InOrder);
+    }
     if !are_in_range(raw) {
         return Err(Fault::Range);
     }

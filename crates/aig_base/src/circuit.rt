@@ -1,7 +1,7 @@
 //! Circuits.
-ghost use Rattle.std.specs.Prelude.{◌≡◌, ◌<◌, ◌≤◌, Contains, IfSome, IfNone, option_copied};
+ghost use Rattle.std.specs.Prelude.{◌≡◌, ◌<◌, ◌≤◌, Contains, IsTrue, IfSome, IfNone, option_copied};
 ghost use Rattle.aig_base.specs.Circuit.{IsCircuit};
-ghost use Rattle.aig_base.specs.Definition.{Defines, IsFree};
+ghost use Rattle.aig_base.specs.Definition.{Defines, IsFree, IsInOrder};
 ghost use Rattle.aig_base.specs.Renumbered.{IsBinaryReady};
 
 use crate::definition::Definition;
@@ -56,6 +56,13 @@ impl Circuit {
         ensures circuit { IsCircuit self.now }
     {
         self.raw.max_var
+    }
+
+    /// Whether the circuit keeps that its definitions are in order.
+    pub(crate) fn keeps_order(&self) -> bool
+        ensures { IsTrue result → IsInOrder self.now }
+    {
+        matches!(self.definitions, Definitions::InOrder)
     }
 
     /// The input literals in order.

@@ -27,6 +27,7 @@ mod list;
 mod literal;
 mod memory_bytes;
 mod order;
+mod ordered;
 mod queue;
 mod raw;
 mod readers;

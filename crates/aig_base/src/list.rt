@@ -1,5 +1,5 @@
 //! Lists.
-ghost use Rattle.std.specs.Prelude.{◌≡◌, ◌∷◌, ◌++◌, ◌↔◌, ◌<◌, [], length, slice_get, IsTrue, OnOk, OnErr, option_copied, slice_set, slice_index_or, ◌^◌};
+ghost use Rattle.std.specs.Prelude.{◌≡◌, ◌∷◌, ◌++◌, ◌↔◌, ◌<◌, [], length, slice_get, IsTrue, IfOk, OnOk, OnErr, option_copied, slice_set, slice_index_or, ◌^◌};
 ghost use Rattle.std.specs.Slice.Iter.{iter_rest};
 ghost use Rattle.std.specs.Iterator.Adapters.{IterYieldsInOrder};
 ghost use Rattle.std.specs.List.{AllZip};
@@ -34,6 +34,15 @@ impl<T> List<T> {
         List {
             items: Vec::new(alloc),
         }
+    }
+
+    /// The empty list, with room for so many items.
+    pub fn with_capacity(alloc: Global, capacity: usize) -> Result<List<T>, AllocError>
+        ensures { IfOk result (λ list. list ≡ []) }
+    {
+        Ok(List {
+            items: Vec::with_capacity(alloc, capacity)?,
+        })
     }
 
     /// The list of a `Vec`'s items.

@@ -1,5 +1,6 @@
 //! Whether a circuit is one that a binary file can hold.
 ghost use Rattle.std.specs.Prelude.{◌≡◌, ℕ, ◌+◌, ◌*◌, ◌^◌, ◌<◌, ◌≤◌, ◌↔◌, length, map, All, IsTrue};
+ghost use Rattle.aig_base.specs.Definition.{IsInOrder};
 ghost use Rattle.aig_base.specs.Formed.{limit};
 ghost use Rattle.aig_base.specs.Ready.{SectionsInOrder};
 ghost use Rattle.aig_base.specs.Renumbered.{evens_from, IsBinaryReady};
@@ -9,15 +10,16 @@ use crate::gate::Gate;
 use crate::latch::Latch;
 use crate::literal::Lit;
 
-fn is_even_of(literal: Lit, variable: usize) -> bool
+/// Whether the literal is the positive one of a variable.
+pub(crate) fn is_even_of(literal: Lit, variable: usize) -> bool
     requires { variable < 2 ^ 32 }
     ensures { IsTrue result ↔ (literal ≡ 2 * variable) }
 {
     literal.value() as usize == 2 * variable
 }
 
-// Whether the inputs are the even literals from this variable on.
-fn inputs_in_order(inputs: &[Lit], first: usize) -> bool
+/// Whether the inputs are the even literals from this variable on.
+pub(crate) fn inputs_in_order(inputs: &[Lit], first: usize) -> bool
     requires { first + length inputs.now < 2 ^ 32 }
     ensures { IsTrue result ↔ (inputs.now ≡ evens_from first (length inputs.now)) }
 {
@@ -29,8 +31,8 @@ fn inputs_in_order(inputs: &[Lit], first: usize) -> bool
     true
 }
 
-// Whether the latches go on in that order.
-fn latches_in_order(latches: &[Latch], first: usize) -> bool
+/// Whether the latches go on in that order.
+pub(crate) fn latches_in_order(latches: &[Latch], first: usize) -> bool
     requires { first + length latches.now < 2 ^ 32 }
     ensures { IsTrue result ↔ (map (λ x. x.lit) latches.now ≡ evens_from first (length latches.now)) }
 {
@@ -81,14 +83,21 @@ pub(crate) fn definitions_in_order(
         && left_sides_in_order(gates, 1 + inputs.len() + latches.len())
 }
 
-/// Whether a binary file can hold the circuit as it stands (AIGER 1.0, binary format): the inputs, then the latches,
-/// then the left sides are the literals 2, 4, .., 2M in order, and in each gate the left side is the greatest and the
-/// right sides do not rise. One pass over each section, and no memory.
-pub fn is_binary_ready(circuit: &Circuit) -> bool
-    ensures { IsTrue result ↔ IsBinaryReady circuit.now }
+// Whether the definitions of a circuit are in order. Where it keeps that they are, nothing is looked at.
+fn are_in_order(circuit: &Circuit) -> bool
+    ensures { IsTrue result ↔ IsInOrder circuit.now }
 {
     let max_var = circuit.max_var();
     let gates = circuit.gates();
-    definitions_in_order(circuit.inputs(), circuit.latches(), gates, max_var)
-        && sides_go_down(gates)
+    circuit.keeps_order()
+        || definitions_in_order(circuit.inputs(), circuit.latches(), gates, max_var)
+}
+
+/// Whether a binary file can hold the circuit as it stands (AIGER 1.0, binary format): the inputs, then the latches,
+/// then the left sides are the literals 2, 4, .., 2M in order, and in each gate the left side is the greatest and the
+/// right sides do not rise. One pass over each section at most, and no memory.
+pub fn is_binary_ready(circuit: &Circuit) -> bool
+    ensures { IsTrue result ↔ IsBinaryReady circuit.now }
+{
+    are_in_order(circuit) && sides_go_down(circuit.gates())
 }

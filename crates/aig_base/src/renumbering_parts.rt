@@ -37,7 +37,7 @@ pub(crate) fn new_literals(
     requires listed { All (IsListed table.now) literals.now }
     ensures { IfOk result (λ new. new ≡ map (literal_by table.now) literals.now) }
 {
-    let mut new = List::new(alloc);
+    let mut new = List::with_capacity(alloc, literals.len())?;
     for literal in literals {
         new.push(new_literal(table, *literal))?;
     }
@@ -54,7 +54,7 @@ pub(crate) fn new_justice(
     requires listed { All (All (IsListed table.now)) justice.now }
     ensures { IfOk result (λ new. new ≡ map (map (literal_by table.now)) justice.now) }
 {
-    let mut new = List::new(alloc);
+    let mut new = List::with_capacity(alloc, justice.len())?;
     for literals in justice {
         new.push(new_literals(alloc, table, literals.as_slice())?)?;
     }
@@ -71,7 +71,7 @@ pub(crate) fn new_latches(
     requires listed { All (IsLatchListed table.now) latches.now }
     ensures { IfOk result (λ new. new ≡ map (latch_by table.now) latches.now) }
 {
-    let mut new = List::new(alloc);
+    let mut new = List::with_capacity(alloc, latches.len())?;
     for latch in latches {
         new.push(Latch {
             lit: new_literal(table, latch.lit),
@@ -116,7 +116,7 @@ pub(crate) fn new_gates(
     requires listed { All (IsGateListed table.now) circuit.now.gates }
     ensures { IfOk result (λ new. new ≡ map (gate_by table.now) (ordered_gates circuit.now order.now)) }
 {
-    let mut new = List::new(alloc);
+    let mut new = List::with_capacity(alloc, order.len())?;
     for variable in order {
         if let Some(gate) = circuit.gate_of(*variable) {
             new.push(new_gate(table, gate))?;

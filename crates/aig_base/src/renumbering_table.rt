@@ -27,8 +27,9 @@ fn source_variable(circuit: &Circuit, variable: u32) -> u32
 fn source_table(alloc: Global, circuit: &Circuit) -> Result<Vec<u32>, Memory>
     ensures { IfOk result (λ table. IsRenumbering circuit.now [] table.items) }
 {
-    let mut table = Vec::new(alloc);
-    for variable in 0..circuit.max_var() + 1 {
+    let end = circuit.max_var() + 1;
+    let mut table = Vec::with_capacity(alloc, end as usize)?;
+    for variable in 0..end {
         table.push(source_variable(circuit, variable))?;
     }
     Ok(table)

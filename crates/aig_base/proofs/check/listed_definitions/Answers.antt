@@ -18,16 +18,16 @@ returns-in-Some-clause-fault c = λ other.
     first_redefined raw c.in-Some.variable c.requires.range (c.are_definitions.ensures.0 c.if-not-are_definitions.false)
     (subst (λ (o : Option ℕ). IsLeastTwice (map variable (definitions raw)) o) c.in-Some.is c.in_ok-table.ensures.twice)
 
-pub returns-in-Some-least_undefined-clause-fault : goal.returns-in-Some-least_undefined-clause-fault
-returns-in-Some-least_undefined-clause-fault c = λ other.
+pub returns-in-Some-least_missing-clause-fault : goal.returns-in-Some-least_missing-clause-fault
+returns-in-Some-least_missing-clause-fault c = λ other.
     let raw = c.args.raw.now in
     let table = c.in_ok-table.field-0.table.items in
     let range = c.requires.range in
     let defs = c.are_definitions.ensures.0 c.if-not-are_definitions.false in
     let entries = subst (λ (o : Option ℕ). AreEntries raw (map variable (definitions raw)) table o) c.in_default.is c.in_ok-table.ensures in
-    first_undefined raw table range defs entries c.in-Some-least_undefined.variable
-    (subst (λ (t : List (Option Definition)). IsLeastAmong (IsKnown t) variable (uses raw) (Some c.in-Some-least_undefined.variable)) c.deref.ensures.value
-    c.in-Some-least_undefined.ensures)
+    first_undefined raw table range defs entries c.in-Some-least_missing.variable
+    (subst (λ (t : List (Option Definition)). IsLeastAmong (IsKnown t) variable (uses raw) (Some c.in-Some-least_missing.variable)) c.deref.ensures.value
+    c.in-Some-least_missing.ensures)
 
 pub returns-clause-once : goal.returns-clause-once
 returns-clause-once c =
@@ -37,7 +37,13 @@ returns-clause-once c =
     let defs = c.are_definitions.ensures.0 c.if-not-are_definitions.false in
     once_from_table raw table c.requires.range defs entries
     (subst (λ (t : List (Option Definition)). IsLeastAmong (IsKnown t) variable (uses raw) None) c.deref.ensures.value
-    c.in_default-least_undefined.ensures)
+    c.in_default-least_missing.ensures)
 
 pub returns-clause-table : goal.returns-clause-table
 returns-clause-table c = table_from_entries c.args.raw.now c.in_ok-table.field-0.table.items c.in_ok-table.field-0.again c.in_ok-table.ensures
+
+pub least_missing-requires-clause-entries : goal.least_missing-requires-clause-entries
+least_missing-requires-clause-entries c =
+    let raw = c.args.raw.now in
+    rw c.deref.ensures.value
+    (subst (λ (o : Option ℕ). AreEntries raw (map variable (definitions raw)) c.in_ok-table.field-0.table.items o) c.in_default.is c.in_ok-table.ensures)

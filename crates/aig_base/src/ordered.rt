@@ -1,0 +1,64 @@
+//! The test of parts whose definitions are in order, each gate behind all that it reads, as in every binary file.
+ghost use Rattle.std.specs.Prelude.{◌≡◌, ◌≢◌, ◌+◌, ◌^◌, ◌<◌, length, map, All, IsTrue, IfErr, OnOk};
+ghost use Rattle.aig_base.specs.Circuit.{IsCircuit};
+ghost use Rattle.aig_base.specs.Definition.{IsInOrder};
+ghost use Rattle.aig_base.specs.FirstFault.{IsFirstFault};
+ghost use Rattle.aig_base.specs.Formed.{CountsFit, IsFormed};
+ghost use Rattle.aig_base.specs.Least.{ReadsSmaller};
+ghost use Rattle.aig_base.specs.Renumbered.{evens_from};
+
+use crate::check::{reads_smaller, sections_are_in_range};
+use crate::fault::Fault;
+use crate::gate::Gate;
+use crate::least::least_bad_reset;
+use crate::raw::Raw;
+use crate::ready::{inputs_in_order, is_even_of, latches_in_order};
+
+// Whether the left sides are the even literals from this variable on, and each gate reads smaller variables alone.
+fn gates_ascend(gates: &[Gate], first: usize) -> bool
+    requires { first + length gates.now < 2 ^ 32 }
+    ensures order { IsTrue result → map (λ g. g.lhs) gates.now ≡ evens_from first (length gates.now) }
+    ensures smaller { IsTrue result → All ReadsSmaller gates.now }
+{
+    for (place, gate) in gates.iter().enumerate() {
+        if !is_even_of(gate.lhs, first + place) || !reads_smaller(*gate) {
+            return false;
+        }
+    }
+    true
+}
+
+/// Whether the definitions are in order, and each gate reads smaller variables alone. One pass, and no memory.
+pub(crate) fn is_ascending(raw: &Raw) -> bool
+    requires { CountsFit raw.now }
+    ensures order { IsTrue result → IsInOrder raw.now }
+    ensures smaller { IsTrue result → All ReadsSmaller raw.now.gates }
+{
+    let first_latch = 1 + raw.inputs.len();
+    let first_gate = first_latch + raw.latches.len();
+    if raw.max_var as usize + 1 != first_gate + raw.gates.len()
+        || !inputs_in_order(raw.inputs.as_slice(), 1)
+        || !latches_in_order(raw.latches.as_slice(), first_latch)
+    {
+        return false;
+    }
+    gates_ascend(raw.gates.as_slice(), first_gate)
+}
+
+/// The test of such parts, or their first fault. Nothing but the range of what the gates do not read, and the resets, is
+/// left to test.
+pub(crate) fn test_ascending(raw: &Raw) -> Result<(), Fault>
+    requires formed { IsFormed raw.now }
+    requires order { IsInOrder raw.now }
+    requires smaller { All ReadsSmaller raw.now.gates }
+    ensures circuit { OnOk result (IsCircuit raw.now) }
+    ensures fault { IfErr result (λ fault. fault ≢ Fault.Memory → IsFirstFault raw.now fault) }
+{
+    if !sections_are_in_range(raw) {
+        return Err(Fault::Range);
+    }
+    match least_bad_reset(raw.latches.as_slice()) {
+        Some(variable) => Err(Fault::Reset(variable)),
+        None => Ok(()),
+    }
+}
