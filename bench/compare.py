@@ -16,7 +16,7 @@ REPOSITORY = os.path.dirname(os.path.dirname(os.path.abspath(__file__)))
 sys.path.insert(0, REPOSITORY + "/tests")
 import hostile  # noqa: E402
 
-UNKNOWN_TO_TUNED = re.compile(rb"^[wr+u-].*(\n|$)", re.MULTILINE)
+UNKNOWN_TO_TUNED = re.compile(rb"^[wrgo+u-].*(\n|$)", re.MULTILINE)
 
 
 def answer(program, *words):

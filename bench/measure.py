@@ -87,54 +87,6 @@ def head(title, *cells):
     row(*["---"] * len(cells))
 
 
-def conversions():
-    """Whole runs, and their steps by differences: a file with a wrong byte at its end is parsed and refused, one that is
-    written to a full device is parsed and checked. The plain program has no check."""
-    text = make("million.aag", "circuit", "random", *SOURCES, "1000000")
-    binary = "million.aig"
-    with open(binary, "wb") as out:
-        subprocess.run([PLAIN, "toaig", text], stdout=out, check=True)
-    whole, steps = [], []
-    for source in (text, binary):
-        form = source[-3:]
-        wrong = "wrong." + form
-        with open(source, "rb") as file, open(wrong, "wb") as out:
-            out.write(file.read() + b"?")
-        for to in ("aag", "aig"):
-            plain, ours = [PLAIN, "to" + to, source], [AIG, "toaig", "--to", to, source]
-            same(plain, ours)
-            plain_read, plain_all, parsed, checked, both = best(
-                Run([PLAIN, "read", source]), Run(plain), Run([*ours[:-1], wrong], status=1),
-                Run(ours, "/dev/full", 3), Run(ours))
-            whole.append((form, to, plain_all, both))
-            if to == "aag":
-                steps += [(f"parse {form}", plain_read, parsed), (f"parse {form} and check", plain_read, checked)]
-            if form == "aig":
-                steps.append((f"write {to}", plain_all - plain_read, both - checked))
-    head("Whole runs, 1,000,000 gates (processor time).", "from", "to", "plain", "aig", "aig / plain")
-    for form, to, plain, ours in whole:
-        row(form, to, milliseconds(plain), milliseconds(ours), f"{ours / plain:.2f}")
-    head("Steps of these runs, by differences.", "step", "plain", "aig", "aig / plain")
-    for name, plain, ours in steps:
-        row(name, milliseconds(plain), milliseconds(ours), f"{ours / plain:.2f}")
-
-
-def simulations():
-    head("Simulation (processor time; evaluations a second without the time to load).", "gates", "frames",
-         "load: plain", "load: aig", "frames: plain", "frames: aig", "plain, millions", "aig, millions", "aig / plain (time)")
-    none = make("none", "stimulus", SOURCES[0], "0")
-    for gates, frames in ((100_000, 1000), (1_000_000, 100)):
-        circuit = make("simulated.aag", "circuit", "random", *SOURCES, str(gates))
-        rows = make("rows", "stimulus", SOURCES[0], str(frames))
-        runs = [[PLAIN, "sim", circuit], [AIG, "sim", circuit]]
-        same(*([*words, rows] for words in runs))
-        plain_load, load, plain_all, both = best(*(Run([*words, file]) for file in (none, rows) for words in runs))
-        plain, ours = plain_all - plain_load, both - load
-        rates = [gates * frames / time / 1e6 for time in (plain, ours)]
-        row(f"{gates:,}", f"{frames:,}", *map(milliseconds, (plain_load, load, plain, ours)),
-            *(f"{rate:.0f}" for rate in rates), f"{ours / plain:.2f}")
-
-
 def growth():
     head("Growth (elapsed, nanoseconds a gate).", "shape", "gates", "check", "levels", "order")
     for shape in ("chain", "comb", "random", "reversed"):
@@ -165,8 +117,8 @@ def grids():
     for _ in range(TIMES - 1):
         for times, words in zip(least, runs):
             times.update({name: min(time, times[name]) for name, time in printed_once(words).items()})
-    head(f"Grids of {cells:,} cells (elapsed; near: both sides among the 64 variables before the gate).", "work", "bytes",
-         "planes", "bytes, millions a second", "planes, millions a second", "planes / bytes")
+    head(f"Grids of {cells:,} cells (elapsed; near: both sides among the 64 variables before the gate).", "work",
+         "bytes", "planes", "bytes, millions a second", "planes, millions a second", "planes / bytes")
     works = (("make", "make"), ("near", "evaluate, near"), ("far", "evaluate, anywhere"), ("get", "read"))
     for name, work in works:
         times = [one[name] / 1e9 for one in least]
@@ -217,9 +169,9 @@ def edits():
             counts = [swept] + [count] * 4
             each = [(time - empty) / number for time, empty, number in zip(times, idle, counts)]
             cells = touched(count) / count
-            row(load, kind, f"{gates:,}", f"{count:,}", f"{cells:,.0f}", *(f"{time * 1e6:,.1f} µs" for time in each[:3]),
-                *(f"{time / cells * 1e9:.1f} ns" for time in each[1:3]), f"{each[2] / each[1]:.2f}",
-                f"{each[3] / each[4]:.2f}")
+            row(load, kind, f"{gates:,}", f"{count:,}", f"{cells:,.0f}",
+                *(f"{time * 1e6:,.1f} µs" for time in each[:3]), *(f"{time / cells * 1e9:.1f} ns" for time in each[1:3]),
+                f"{each[2] / each[1]:.2f}", f"{each[3] / each[4]:.2f}")
 
 
 def benches():
@@ -256,8 +208,7 @@ def machine():
 
 def main():
     machine()
-    parts = {"conversions": conversions, "simulations": simulations, "growth": growth, "grids": grids, "edits": edits,
-             "benches": benches}
+    parts = {"growth": growth, "grids": grids, "edits": edits, "benches": benches}
     for name in sys.argv[1:] or parts:
         parts[name]()
 

@@ -1,13 +1,14 @@
 #!/usr/bin/env python3
-"""Measures what a random rewire costs on circuits of 10,000 to 1,000,000 gates, through the lines `w` of a script, and prints
-a table in Markdown.
+"""Measures what a random rewire costs on circuits of 10,000 to 1,000,000 gates, through the lines `w` of a script, and
+prints a table in Markdown.
 usage: bench/rewires.py [PROGRAM]        (without a name: the program that the gate built)
 
-A circuit is many rounds of the cipher Ascon (320 bits, 4,352 gates a round): side by side, each with inputs of its own, or
-in a row, where a round reads the one before it. A load is a script of random rewires; its time is the processor time of a
-run (the least of TIMES, else 5) without that of an empty script, a line: on a stimulus of no frames, which leaves the levels
-and the lists of readers to be renewed, and on one frame of random values, in which cells are renewed too. Of a line that is
-refused at once (`w 0 2 2`) the same is shown, to be compared: it is what reading and answering a line takes."""
+A circuit is many rounds of the cipher Ascon (320 bits, 4,352 gates a round): side by side, each with inputs of its
+own, or in a row, where a round reads the one before it. A load is a script of random rewires; its time is the processor
+time of a run (the least of TIMES, else 5) without that of an empty script, a line: on a stimulus of no frames, which
+leaves the levels and the lists of readers to be renewed, and on one frame of random values, in which cells are renewed
+too. Of a line that is refused at once (`w 0 2 2`) the same is shown, to be compared: it is what reading and answering
+a line takes."""
 
 import os
 import random
@@ -123,7 +124,8 @@ def processor_time(*words):
 
 def microseconds(rows, script, lines):
     """What a line of a script takes on a stimulus."""
-    empty, both = (min(processor_time("bench", "circuit", rows, name) for _ in range(TIMES)) for name in ("empty", script))
+    names = ("empty", script)
+    empty, both = (min(processor_time("bench", "circuit", rows, name) for _ in range(TIMES)) for name in names)
     return (both - empty) / lines * 1e6
 
 
@@ -161,12 +163,14 @@ def measure(make, rounds, loads, many, few):
         without = microseconds("none", "script", many)
         share = refused(many)
         write("script", lines[:few])
-        row(make.__name__.replace("_", " "), f"{len(circuit.gates):,}", max(circuit.levels), load.__name__.replace("_", " "),
-            f"{share:.0%}", f"{at_once:.2f}", f"{without:.2f}", f"{microseconds('rows', 'script', few):.2f}")
+        row(make.__name__.replace("_", " "), f"{len(circuit.gates):,}", max(circuit.levels),
+            load.__name__.replace("_", " "), f"{share:.0%}", f"{at_once:.2f}", f"{without:.2f}",
+            f"{microseconds('rows', 'script', few):.2f}")
 
 
 def main():
-    row("circuit", "gates", "levels", "load", "cycles", "refused at once, microseconds a line", "no frames", "one frame")
+    row("circuit", "gates", "levels", "load", "cycles", "refused at once, microseconds a line", "no frames",
+        "one frame")
     row(*["---"] * 8)
     for rounds in (2, 23, 230):
         measure(side_by_side, rounds, (same_level, below, anywhere), 100_000, 5_000)

@@ -1,9 +1,9 @@
 #!/usr/bin/env bash
-# Measures the toolkit against a tuned C++ program and against plain Rust programs, and prints tables in Markdown.
+# Measures the toolkit against a tuned C++ program and against plain Rust workbenches, and prints tables in Markdown.
 # usage: bench/run.sh ratios [--jobs WORDS] [--shapes WORDS] [--list]
 #            the table of ratios aig / C++, of those jobs and shapes whose names hold the words
 #        bench/run.sh [PART..]
-#            the comparisons with plain Rust programs: conversions, simulations, growth, grids, edits, benches
+#            growth, grids (both kinds), and edits and benches beside plain Rust workbenches
 #        bench/run.sh
 #            all of both
 #
@@ -31,8 +31,8 @@ echo "building .." >&2
 (cd "$bench/plain" && CARGO_TARGET_DIR=$room/target cargo build --release --quiet)
 c++ -O2 -std=c++17 -o "$room/tuned" "$bench/tuned/main.cpp"
 
-# A copy of the crates in which the growth program and that of the grids are two of them. Their files have another ending
-# in the repository, since `rt ci` refuses a .rt file that no check reads.
+# A copy of the crates in which the growth program and that of the grids are two of them. Their files have another
+# ending in the repository, since `rt ci` refuses a .rt file that no check reads.
 mkdir -p "$room/repository/crates"
 for crate in "$repository"/crates/*; do
     mkdir "$room/repository/crates/$(basename "$crate")"

@@ -1,7 +1,6 @@
-//! A ternary simulator: a byte a variable, gates in topological order, one pass a frame.
+//! Values of literals, a byte a variable, gates in topological order, and rows.
 
 use crate::circuit::{Circuit, Gate};
-use std::io::{self, BufRead, Write};
 
 pub const ZERO: u8 = 0;
 const ONE: u8 = 1;
@@ -83,62 +82,4 @@ pub fn parse_row(line: &[u8], row: &mut [u8]) -> bool {
 
 pub fn character(value: u8) -> u8 {
     b"01x"[value as usize]
-}
-
-/// Writes the trace of a stimulus, line by line.
-pub fn simulate(
-    circuit: &Circuit,
-    stimulus: &mut impl BufRead,
-    out: &mut impl Write,
-) -> io::Result<()> {
-    let refused = |text: String| io::Error::new(io::ErrorKind::InvalidData, text);
-    let gates = ordered(circuit).ok_or_else(|| refused("cycle".into()))?;
-    let mut cells = vec![UNKNOWN; circuit.max_var as usize + 1];
-    cells[0] = ZERO;
-    let mut states: Vec<u8> = circuit
-        .latches
-        .iter()
-        .map(|latch| latch.reset.min(2) as u8)
-        .collect();
-    let mut row = vec![UNKNOWN; circuit.inputs.len()];
-    let mut line = Vec::new();
-    let mut trace = Vec::new();
-    for number in 1.. {
-        line.clear();
-        if stimulus.read_until(b'\n', &mut line)? == 0 {
-            break;
-        }
-        if line.pop() != Some(b'\n') || !parse_row(&line, &mut row) {
-            return Err(refused(format!("line {number}")));
-        }
-        for (input, cell) in circuit.inputs.iter().zip(&row) {
-            cells[(input >> 1) as usize] = *cell;
-        }
-        for (latch, state) in circuit.latches.iter().zip(&states) {
-            cells[(latch.lit >> 1) as usize] = *state;
-        }
-        for gate in &gates {
-            cells[(gate.lhs >> 1) as usize] =
-                and(value(&cells, gate.rhs0), value(&cells, gate.rhs1));
-        }
-        trace.clear();
-        trace.extend(states.iter().map(|state| character(*state)));
-        trace.push(b' ');
-        trace.extend_from_slice(&line);
-        trace.push(b' ');
-        trace.extend(
-            circuit
-                .outputs
-                .iter()
-                .map(|output| character(value(&cells, *output))),
-        );
-        trace.push(b' ');
-        for (latch, state) in circuit.latches.iter().zip(&mut states) {
-            *state = value(&cells, latch.next);
-        }
-        trace.extend(states.iter().map(|state| character(*state)));
-        trace.push(b'\n');
-        out.write_all(&trace)?;
-    }
-    Ok(())
 }

@@ -612,8 +612,8 @@ fn run_lines<E: Engine>(
     Ok(engine.evaluated() - before)
 }
 
-/// Answers a script, and carries changes on by levels where `by_events`, else computes from the edited frame on. Tells how
-/// many gates the edits evaluated.
+/// Answers a script, and carries changes on by levels where `by_events`, else computes from the edited frame on. Tells
+/// how many gates the edits evaluated.
 pub fn run(
     by_events: bool,
     circuit: Circuit,

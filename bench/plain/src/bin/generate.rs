@@ -7,8 +7,10 @@ use std::process::ExitCode;
 const USAGE: &str =
     "usage: generate circuit SHAPE INPUTS LATCHES OUTPUTS GATES | stimulus INPUTS FRAMES
        | names COUNT | comment BYTES | values FRAMES VARIABLES LINES
-SHAPE: random, chain, comb, wide (each gate reads inputs and latches alone), reversed (the gates of random, with lines and
-variables from the last to the first), or shuffled (with lines and variables in any order)";
+SHAPE: random, chain, comb, wide (each gate reads inputs and latches alone), reversed (the gates of random, with lines
+and variables from the last to the first), or shuffled (with lines and variables in any order)";
+
+const SHAPES: [&str; 6] = ["random", "chain", "comb", "wide", "reversed", "shuffled"];
 
 /// How far back a random gate reads, in variables. Every eighth side is picked from all.
 const NEAR: u64 = 4096;
@@ -130,7 +132,12 @@ fn names(out: &mut impl Write, count: u64) -> io::Result<()> {
         writeln!(out, "i{position} bus_{}[{}]", position / 64, position % 64)?;
     }
     for position in 0..half {
-        writeln!(out, "o{position} result_{}[{}]", position / 64, position % 64)?;
+        writeln!(
+            out,
+            "o{position} result_{}[{}]",
+            position / 64,
+            position % 64
+        )?;
     }
     Ok(())
 }
@@ -174,7 +181,7 @@ fn stimulus(out: &mut impl Write, inputs: u64, frames: u64) -> io::Result<()> {
 fn run(words: &[&str]) -> Result<(), Box<dyn Error>> {
     let mut out = BufWriter::new(io::stdout().lock());
     match words {
-        ["circuit", shape @ ("random" | "chain" | "comb" | "wide" | "reversed" | "shuffled"), inputs, latches, outputs, count] => {
+        ["circuit", shape, inputs, latches, outputs, count] if SHAPES.contains(shape) => {
             let counts = [
                 inputs.parse()?,
                 latches.parse()?,
@@ -187,7 +194,12 @@ fn run(words: &[&str]) -> Result<(), Box<dyn Error>> {
         ["names", count] => names(&mut out, count.parse()?)?,
         ["comment", bytes] => comment(&mut out, bytes.parse()?)?,
         ["values", frames, variables, lines] => {
-            values(&mut out, frames.parse()?, variables.parse()?, lines.parse()?)?;
+            values(
+                &mut out,
+                frames.parse()?,
+                variables.parse()?,
+                lines.parse()?,
+            )?;
         }
         _ => return Err(USAGE.into()),
     }

@@ -26,8 +26,8 @@ impl Random {
     }
 }
 
-/// Copies of a cipher with a state of two halves, in latches, and a key of half as many bits, in inputs. A round makes a
-/// half of the other: each bit an XOR of four, one of which is an AND. Its gates are ten a bit.
+/// Copies of a cipher with a state of two halves, in latches, and a key of half as many bits, in inputs. A round makes
+/// a half of the other: each bit an XOR of four, one of which is an AND. Its gates are ten a bit.
 #[derive(Clone, Copy)]
 struct Ciphers {
     copies: usize,
