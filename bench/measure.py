@@ -170,8 +170,9 @@ def edits():
             each = [(time - empty) / number for time, empty, number in zip(times, idle, counts)]
             cells = touched(count) / count
             row(load, kind, f"{gates:,}", f"{count:,}", f"{cells:,.0f}",
-                *(f"{time * 1e6:,.1f} µs" for time in each[:3]), *(f"{time / cells * 1e9:.1f} ns" for time in each[1:3]),
-                f"{each[2] / each[1]:.2f}", f"{each[3] / each[4]:.2f}")
+                *(f"{time * 1e6:,.1f} µs" for time in each[:3]),
+                *(f"{time / cells * 1e9:.1f} ns" for time in each[1:3]), f"{each[2] / each[1]:.2f}",
+                f"{each[3] / each[4]:.2f}")
 
 
 def benches():
