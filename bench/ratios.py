@@ -172,7 +172,8 @@ def main():
     with open("/proc/loadavg") as file:
         load = file.read().split()[0]
     print(f"{model}, {os.cpu_count()} cores, load {load} at the start. Processor time, the least of {TIMES} runs.")
-    print(f"Program measured: {os.environ.get('KIND', AIG)}.\n")
+    compiler = subprocess.run(["c++", "--version"], stdout=subprocess.PIPE, check=True, text=True).stdout.splitlines()[0]
+    print(f"Program measured: {os.environ.get('KIND', AIG)}. C++ by {compiler}.\n")
     print("| job | shape | C++ | aig | aig / C++ | goal |\n| --- | --- | --- | --- | --- | --- |", flush=True)
     for job in jobs:
         plain, ours = job.measured()
