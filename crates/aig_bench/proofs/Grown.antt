@@ -37,7 +37,8 @@ module _ (raw : Raw) (r0 r1 : ℕ) where
 
   more_variables : map variable (definitions (with_appended_gate raw r0 r1))
       ≡ map variable (definitions raw) ++ variable (2 * (raw.max_var + 1)) ∷ []
-  more_variables = ap (map variable) more_definitions ∙ map-append variable (definitions raw) (2 * (raw.max_var + 1) ∷ [])
+  more_variables = ap (map variable) more_definitions
+      ∙ map-append variable (definitions raw) (2 * (raw.max_var + 1) ∷ [])
 
   pub defined_cases : (v : ℕ) → IsDefined (with_appended_gate raw r0 r1) v → IsDefined raw v ⊎ (v ≡ raw.max_var + 1)
   defined_cases v h =

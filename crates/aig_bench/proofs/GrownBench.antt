@@ -40,12 +40,14 @@ last_is raw c r0 r1 g e at =
     let long = length-append raw.gates (next_gate raw r0 r1 ∷ []) in
     let place : length c.gates - 1 ≡ length raw.gates = ap (λ (x : Raw). length x.gates - 1) e ∙ omega arith in
     same_Some g (next_gate raw r0 r1)
-    (sym at ∙ ap (slice_get c.gates) place ∙ ap (λ (x : Raw). slice_get x.gates (length raw.gates)) e ∙ new_at raw r0 r1)
+    (sym at ∙ ap (slice_get c.gates) place
+    ∙ ap (λ (x : Raw). slice_get x.gates (length raw.gates)) e ∙ new_at raw r0 r1)
 
 pub even_new : (raw : Raw) (r0 r1 : ℕ) → IsEven (next_gate raw r0 r1).lhs
 even_new raw r0 r1 = omega arith
 
-row_mapped : (cells : List (List Tern)) (t : ℕ) → t < length cells → row_at (map with_new_cell cells) t ≡ with_new_cell (row_at cells t)
+row_mapped : (cells : List (List Tern)) (t : ℕ) → t < length cells
+    → row_at (map with_new_cell cells) t ≡ with_new_cell (row_at cells t)
 row_mapped [] t lt = absurd (omega arith)
 row_mapped (row ∷ cells) zero lt = refl
 row_mapped (row ∷ cells) (suc t) lt = row_mapped cells t (omega arith)
@@ -55,11 +57,13 @@ module _ (plan : Plan) (net : Net) (pending : Pending) (flags : List Bool) (cell
   -- a bench whose lists of readers have other room
   pub ready_still : (c : Raw) (levels : List ℕ) (readers : ReaderLists) → c ≡ plan.circuit → levels ≡ net.levels
       → readers.lists ≡ net.readers.lists
-      → IsReady (record plan { circuit = c }) (record { levels = levels; readers = readers; latches = net.latches }) pending flags cells
+      → IsReady (record plan { circuit = c }) (record { levels = levels; readers = readers; latches = net.latches })
+      pending flags cells
   ready_still c levels readers e f same =
       let w = r.working.work in
+      let net' : Net = record { levels = levels; readers = readers; latches = net.latches } in
       let are = readers_kept plan.circuit net.readers readers w.readers same in
-      subst (λ (x : Raw). IsReady (record plan { circuit = x }) (record { levels = levels; readers = readers; latches = net.latches }) pending flags cells)
+      subst (λ (x : Raw). IsReady (record plan { circuit = x }) net' pending flags cells)
       (sym e)
       (record {
         working = work_kept plan plan net _ pending.buckets flags cells r.working refl refl
@@ -69,7 +73,8 @@ module _ (plan : Plan) (net : Net) (pending : Pending) (flags : List Bool) (cell
       })
 
   module _ (r0 r1 : ℕ) (d : IsDefined plan.circuit (variable r0) × IsDefined plan.circuit (variable r1))
-      (below : plan.circuit.max_var < 4194303) (few : (plan.circuit.max_var + 2) * length plan.stimulus.rows ≤ 67108864) where
+      (below : plan.circuit.max_var < 4194303)
+      (few : (plan.circuit.max_var + 2) * length plan.stimulus.rows ≤ 67108864) where
     abbrev more : Raw
     more = with_appended_gate plan.circuit r0 r1
 
@@ -102,7 +107,8 @@ module _ (plan : Plan) (net : Net) (pending : Pending) (flags : List Bool) (cell
       mid_size = ap length e ∙ length-map cells with_new_cell ∙ r.working.bench.laid_out.rows_are.frames_are
 
       row_is : (t : ℕ) → t < frames
-          → row_at new t ≡ slice_set (with_new_cell (row_at cells t)) (variable gate.lhs) (gate_value (with_new_cell (row_at cells t)) gate)
+          → row_at new t ≡ slice_set (with_new_cell (row_at cells t)) (variable gate.lhs)
+          (gate_value (with_new_cell (row_at cells t)) gate)
       row_is t lt =
           let at : row_at mid t ≡ with_new_cell (row_at cells t) =
           ap (λ (c : List (List Tern)). row_at c t) e
@@ -117,7 +123,8 @@ module _ (plan : Plan) (net : Net) (pending : Pending) (flags : List Bool) (cell
       current : AreCurrent (pair_of after) frames new
       current = record {
         each = λ t lt. subst (IsCurrentRow (pair_of after) t) (sym (row_is t lt))
-            (grown_current (pair_of plan) r0 r1 r.working.bench.plan_is.circuit.sound d.0 d.1 t (row_at cells t) (wide t lt)
+            (grown_current (pair_of plan) r0 r1 r.working.bench.plan_is.circuit.sound d.0 d.1 t (row_at cells t)
+            (wide t lt)
             (r.working.bench.current.each t lt));
       }
 
@@ -131,8 +138,10 @@ module _ (plan : Plan) (net : Net) (pending : Pending) (flags : List Bool) (cell
       }
 
       pub ready_grown : (c : Raw) (levels : List ℕ) (readers : ReaderLists) (latches : LatchReaders) (b : Buckets)
-          (flags' : List Bool) → c ≡ more → AreLevels more levels → AreReaders more readers → AreLatchReaders more latches
-          → AreBuckets levels b → ((v : ℕ) → Waits b v → ⊥) → length b.head.items ≡ length pending.buckets.head.items + 1
+          (flags' : List Bool) → c ≡ more → AreLevels more levels → AreReaders more readers
+          → AreLatchReaders more latches
+          → AreBuckets levels b → ((v : ℕ) → Waits b v → ⊥)
+          → length b.head.items ≡ length pending.buckets.head.items + 1
           → flags' ≡ flags ++ true ∷ []
           → IsReady (record plan { circuit = c }) (record { levels = levels; readers = readers; latches = latches })
           (record { buckets = b; here = pending.here; ahead = pending.ahead }) flags' new
@@ -141,7 +150,10 @@ module _ (plan : Plan) (net : Net) (pending : Pending) (flags : List Bool) (cell
           let net' : Net = record { levels = levels; readers = readers; latches = latches } in
           let pending' : Pending = record { buckets = b; here = pending.here; ahead = pending.ahead } in
           let out : IsLaidOut after flags' new =
-          record { flags_are = flags_grown plan.circuit r0 r1 flags flags' w.laid_out.flags_are fs; rows_are = rows_grown } in
+          record {
+            flags_are = flags_grown plan.circuit r0 r1 flags flags' w.laid_out.flags_are fs;
+            rows_are = rows_grown;
+          } in
           let work : IsWork after net' flags' new b =
           record {
             plan_is = plan_grown;
@@ -150,7 +162,8 @@ module _ (plan : Plan) (net : Net) (pending : Pending) (flags : List Bool) (cell
             readers = rs;
             buckets = bs;
             size = heads ∙ ap (λ n. n + 1) w.size;
-            heads = λ v n k level. let le = level_bound more plan_grown.circuit.sound level in omega (arith, heads, w.size);
+            heads = λ v n k level.
+                let le = level_bound more plan_grown.circuit.sound level in omega (arith, heads, w.size);
             gates = λ v k. absurd (empty v k);
           } in
           subst (λ (x : Raw). IsReady (record plan { circuit = x }) net' pending' flags' new) (sym same)
@@ -164,7 +177,8 @@ module _ (plan : Plan) (net : Net) (pending : Pending) (flags : List Bool) (cell
     no_other : (t v : ℕ) → HasOther (pair_of plan) (pair_of after) t v → ⊥
     no_other = none_other (pair_of plan) more (has_all plan.circuit r0 r1) plan_grown.circuit.sound
 
-    pub grown_touched : (n : ℕ) → n ≡ length plan.stimulus.rows → AreCells (Touches (pair_of plan) (append_gate r0 r1)) n
+    pub grown_touched : (n : ℕ) → n ≡ length plan.stimulus.rows
+        → AreCells (Touches (pair_of plan) (append_gate r0 r1)) n
     grown_touched n e = cells_same _ _ n (column_cells (plan.circuit.max_var + 1) n) (λ t v. (
       λ k. elim k [
         | inl f ↦ (omega (arith, f.0), f.1)

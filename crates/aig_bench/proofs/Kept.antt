@@ -44,7 +44,8 @@ module _ (p : Pair) (more : Raw) (h : HasAll p.circuit more) where
       subst (λ (start : List Tern). Value more start p.rows t l w) (sym same_start)
       (value_stays p.circuit more (start_of p.circuit) p.rows h v)
 
-  pub holds_still : (t v : ℕ) (row row' : List Tern) → slice_get row' v ≡ slice_get row v → Holds p t row v → Holds after t row' v
+  pub holds_still : (t v : ℕ) (row row' : List Tern) → slice_get row' v ≡ slice_get row v
+      → Holds p t row v → Holds after t row' v
   holds_still t v row row' same k =
       record { cell = k.cell; cell_is = same ∙ k.cell_is; value_is = has_still t _ k.cell k.value_is }
 

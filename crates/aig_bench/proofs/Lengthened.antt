@@ -36,7 +36,8 @@ module _ (words filled : List ℕ) (level : ℕ) (i : IsLevelSet words filled) (
 
   -- and then the first one for the level
   pub words_longer : (more : List ℕ) → ((w : ℕ) → get_or more w 0 ≡ get_or words w 0)
-      → (length more ≡ length words) ⊎ (length more ≡ level / 64 + 1) → level / 64 / 64 < length filled → IsLevelSet more filled
+      → (length more ≡ length words) ⊎ (length more ≡ level / 64 + 1) → level / 64 / 64 < length filled
+      → IsLevelSet more filled
   words_longer more same size inside = record {
     limit = elim size [ inl e ↦ omega (arith, i.limit) | inr e ↦ omega arith ];
     room = elim size [ inl e ↦ omega (arith, i.room) | inr e ↦ omega arith ];
@@ -70,7 +71,8 @@ module _ (levels : List ℕ) (b : Buckets) (h : AreBuckets levels b) (empty : (v
       or : (m n : ℕ) → (m < n) ⊎ (n ≤ m)
       or m n = grind arith
 
-      of : (l : ℕ) (chain : List ℕ) → IsChain b.next.items (get_or b.head.items l 0) chain → ((v : ℕ) → Contains chain v → ⊥)
+      of : (l : ℕ) (chain : List ℕ) → IsChain b.next.items (get_or b.head.items l 0) chain
+          → ((v : ℕ) → Contains chain v → ⊥)
           → get_or b.head.items l 0 ≡ 0
       of l [] leads none = leads
       of l (x ∷ xs) leads none = absurd (none x (head_in x xs))
@@ -86,8 +88,10 @@ module _ (levels : List ℕ) (b : Buckets) (h : AreBuckets levels b) (empty : (v
       let longer = length-append b.head.items (0 ∷ []) in
       record {
         chained = record {
-          marks_size = ap length em ∙ length-append b.marks.items (false ∷ []) ∙ ap (λ n. n + 1) h.chained.marks_size ∙ sym size;
-          next_size = ap length en ∙ length-append b.next.items (0 ∷ []) ∙ ap (λ n. n + 1) h.chained.next_size ∙ sym size;
+          marks_size = ap length em ∙ length-append b.marks.items (false ∷ [])
+              ∙ ap (λ n. n + 1) h.chained.marks_size ∙ sym size;
+          next_size = ap length en ∙ length-append b.next.items (0 ∷ [])
+              ∙ ap (λ n. n + 1) h.chained.next_size ∙ sym size;
           chains = λ l lt. record {
             chain = [];
             leads = zero_now l;

@@ -61,8 +61,8 @@ module _ (plan : Plan) (i l : ℕ) where
 
   current : (n : ℕ) (cells : List (List Tern)) → AreCurrent (pair_of plan) n cells → AreCurrent (pair_of after) n cells
   current n cells h = record {
-    each = λ t lt v d. holds_still (pair_of plan) (with_output plan.circuit i l) (same_parts plan.circuit i l) t v _ _ refl
-        (h.each t lt v d);
+    each = λ t lt v d. holds_still (pair_of plan) (with_output plan.circuit i l) (same_parts plan.circuit i l) t v _ _
+        refl (h.each t lt v d);
   }
 
   -- a bench with the other output is ready
@@ -80,7 +80,8 @@ module _ (plan : Plan) (i l : ℕ) where
       subst (λ (x : Raw). IsReady (record plan { circuit = x }) net pending flags cells) (sym e)
       (record {
         working = working after net pending.buckets flags cells
-            (work_for plan after net net flags flags cells cells pending.buckets w r.working.empty refl p out levels readers)
+            (work_for plan after net net flags flags cells cells pending.buckets w r.working.empty refl p out levels
+            readers)
             r.working.empty (current _ cells r.working.bench.current);
         lists = lists_for plan after net net pending r.lists refl
             (readers_same plan.circuit (with_output plan.circuit i l) net.latches r.lists.readers refl refl

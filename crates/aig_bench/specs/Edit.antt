@@ -43,8 +43,10 @@ Forbids p (add_frame row) fault.Length = length row ≢ length p.circuit.inputs
 Forbids p (add_frame row) fault.Limit = ((p.circuit.max_var + 1) * (length p.rows + 1) ≤ 67108864) × (length p.rows < 65536) → ⊥
 Forbids p drop_frame fault.Empty = p.rows ≡ []
 Forbids p (append_gate r0 r1) fault.Range = IsInRange p.circuit r0 × IsInRange p.circuit r1 → ⊥
-Forbids p (append_gate r0 r1) fault.Undefined = IsDefined p.circuit (variable r0) × IsDefined p.circuit (variable r1) → ⊥
-Forbids p (append_gate r0 r1) fault.Limit = (p.circuit.max_var < 4194303) × ((p.circuit.max_var + 2) * length p.rows ≤ 67108864) → ⊥
+Forbids p (append_gate r0 r1) fault.Undefined =
+    IsDefined p.circuit (variable r0) × IsDefined p.circuit (variable r1) → ⊥
+Forbids p (append_gate r0 r1) fault.Limit =
+    (p.circuit.max_var < 4194303) × ((p.circuit.max_var + 2) * length p.rows ≤ 67108864) → ⊥
 Forbids p (set_output i l) fault.Range = IsInRange p.circuit l → ⊥
 Forbids p (set_output i l) fault.Undefined = IsDefined p.circuit (variable l) → ⊥
 Forbids p (set_output i l) fault.NoOutput = length p.circuit.outputs ≤ i

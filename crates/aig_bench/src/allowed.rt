@@ -121,8 +121,8 @@ pub fn check_reset(plan: &Plan, latch: Lit) -> Result<u32, EditFault>
     latch_position(&plan.circuit, latch).ok_or(EditFault::NotALatch)
 }
 
-/// The fault of an appended gate, but for want of memory: right sides out of range, then undefined ones, then one variable
-/// or cell too many.
+/// The fault of an appended gate, but for want of memory: right sides out of range, then undefined ones, then a variable
+/// or cells too many.
 pub fn check_append(plan: &Plan, r0: Lit, r1: Lit) -> Result<(), EditFault>
     ensures defined { OnOk result (IsDefined plan.now.circuit (variable r0) × IsDefined plan.now.circuit (variable r1)) }
     ensures max_var { OnOk result (plan.now.circuit.max_var < 4194303) }

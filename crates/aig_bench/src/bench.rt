@@ -344,7 +344,8 @@ impl<G: Grid> Bench<G> {
     }
 
     /// Appends a gate with these right sides, whose variable is the new greatest, M + 1. Refused are right sides out of
-    /// range, undefined ones, and then a variable over 4,194,303 or more than 67,108,864 cells. It takes memory (profile).
+    /// range, undefined ones, and then a variable over 4,194,303 or more than 67,108,864 cells. It takes memory, for a
+    /// cell at each frame and its place in the lists: amortised constant time and memory a frame (profile).
     pub fn append_gate(&mut self, r0: Lit, r1: Lit) -> Result<EditReport, EditFault>
         ensures edits { Edits self.old.pair (append_gate r0 r1) result self.new.pair }
         ensures works { Works self.old (append_gate r0 r1) result self.new }
@@ -365,8 +366,8 @@ impl<G: Grid> Bench<G> {
         Ok(evaluate_new(&mut self.grid, &gate))
     }
 
-    /// Replaces the output at a position, counted from 0. Refused are a literal over `2M + 1`, a variable that is neither 0
-    /// nor defined, and an output that is not there, in this order. It takes no memory (profile).
+    /// Replaces the output at a position, counted from 0. Refused are a literal over `2M + 1`, a variable that is
+    /// neither 0 nor defined, and an output that is not there, in this order. It takes no memory (profile).
     pub fn set_output(&mut self, position: u32, literal: Lit) -> Result<EditReport, EditFault>
         ensures edits { Edits self.old.pair (set_output position literal) result self.new.pair }
         ensures works { Works self.old (set_output position literal) result self.new }

@@ -39,7 +39,7 @@ pub enum EditFault {
     /// 9: there is no frame to take off.
     #[error("empty")]
     Empty,
-    /// 10: more frames or cells than a bench may have.
+    /// 10: more variables, frames or cells than a bench may have.
     #[error("limit")]
     Limit,
     /// 11: no memory was found.

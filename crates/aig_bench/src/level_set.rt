@@ -111,7 +111,7 @@ impl BitSet {
 }
 
 /// A set of levels, and of the words that have one, so that the next level is found quickly where few are there. It
-/// takes memory when it is made and when it grows, and none else. Contracts see the words of the levels.
+/// takes memory when it is made and when it grows, and else none. Contracts see the words of the levels.
 #[derive(Drop, Debug)]
 pub struct LevelSet {
     levels: BitSet,

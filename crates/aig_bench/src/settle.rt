@@ -33,7 +33,7 @@ pub struct Net {
     pub latches: LatchReaders,
 }
 
-/// What a propagation has still to look at. It takes memory when it is made, and none afterwards.
+/// What a propagation has still to look at. It takes memory when it is made and when the circuit grows, and else none.
 #[derive(Drop)]
 pub struct Pending {
     /// The gates of the frame in hand that wait for their evaluation.

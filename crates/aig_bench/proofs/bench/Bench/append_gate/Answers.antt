@@ -13,7 +13,8 @@ invariant_of-self-in_err-append_gate g c =
     let e = c.append_gate.ensures in
     ready_still c.self.inside.plan c.make_room.new.net c.make_room.new.pending _ _
     (c.make_room.ensures.ready c.self.inside.plan c.self.invariant) _ _ _
-    c.in_err-append_gate.ensures.same_circuit c.in_err-append_gate.ensures.same_levels c.in_err-append_gate.ensures.same_lists
+    c.in_err-append_gate.ensures.same_circuit c.in_err-append_gate.ensures.same_levels
+    c.in_err-append_gate.ensures.same_lists
 
 pub evaluate_new-requires-clause-even : goal.evaluate_new-requires-clause-even
 evaluate_new-requires-clause-even g c =
@@ -35,7 +36,8 @@ evaluate_new-requires-clause-rhs0 g c =
     let raw = c.self.inside.plan.circuit in
     let is = last_is raw _ c.args.r0 c.args.r1 _ c.in_ok-append_gate.ensures.circuit c.last_gate-gate.ensures in
     let r = c.make_room.ensures.ready c.self.inside.plan c.self.invariant in
-    let low = defined_in_range raw r.working.bench.plan_is.circuit.sound (variable c.args.r0) c.in_ok-check_append.ensures.defined.0 in
+    let low = defined_in_range raw r.working.bench.plan_is.circuit.sound (variable c.args.r0)
+    c.in_ok-check_append.ensures.defined.0 in
     let size = r.working.work.laid_out.flags_are.size in
     rw (is, c.add_gate.ensures.gates, length-append) (omega arith)
 
@@ -44,7 +46,8 @@ evaluate_new-requires-clause-rhs1 g c =
     let raw = c.self.inside.plan.circuit in
     let is = last_is raw _ c.args.r0 c.args.r1 _ c.in_ok-append_gate.ensures.circuit c.last_gate-gate.ensures in
     let r = c.make_room.ensures.ready c.self.inside.plan c.self.invariant in
-    let low = defined_in_range raw r.working.bench.plan_is.circuit.sound (variable c.args.r1) c.in_ok-check_append.ensures.defined.1 in
+    let low = defined_in_range raw r.working.bench.plan_is.circuit.sound (variable c.args.r1)
+    c.in_ok-check_append.ensures.defined.1 in
     let size = r.working.work.laid_out.flags_are.size in
     rw (is, c.add_gate.ensures.gates, length-append) (omega arith)
 
@@ -59,9 +62,11 @@ invariant_of-self-2 g c =
     let is = last_is raw _ c.args.r0 c.args.r1 _ e c.last_gate-gate.ensures in
     let levels = c.in_ok-append_gate.ensures.levels in
     ready_grown plan c.make_room.new.net c.make_room.new.pending _ _ r c.args.r0 c.args.r1 a.defined a.max_var a.cells
-    (g.G.Grid.cells c.add_gate.new.self) (g.G.Grid.cells c.evaluate_new.new.grid) c.last_gate-gate.result is c.add_gate.ensures.cells
+    (g.G.Grid.cells c.add_gate.new.self) (g.G.Grid.cells c.evaluate_new.new.grid) c.last_gate-gate.result is
+    c.add_gate.ensures.cells
     more.frames more.rows c.append_gate.new.circuit _ _ _ _ _ e levels c.in_ok-append_gate.ensures.readers
-    (readers_longer raw c.args.r0 c.args.r1 r.working.bench.plan_is.circuit.sound _ c.add_variable.new.self r.lists.readers
+    (readers_longer raw c.args.r0 c.args.r1 r.working.bench.plan_is.circuit.sound _ c.add_variable.new.self
+    r.lists.readers
     c.add_variable.ensures.last c.add_variable.ensures.before)
     (c.add_variable-2.ensures.buckets _ _ r.working.work.buckets
     (levels.size ∙ ap (λ n. n + 1) (sym r.working.work.levels.size)))
