@@ -121,7 +121,7 @@ each_of 'bench that rewires a fifth reader' 'nothing_refused rewire_refused unro
     bench circuit rows script
 
 # Gates that are appended. Whether the second one takes memory too is not said.
-printf '11\n' > rows
+printf '11\n' > ones
 printf 'g 9 2\nv 0 10\no 0 10\ng 4 10\nv 0 12\nt\nu\nv 0 8\n' > script
 printf '.\naag 6 2 0 1 4\n2\n4\n10\n6 4 2\n8 6 2\n10 9 2\n12 10 4\n.\n1\n' > both_unrolled
 printf '.\naag 5 2 0 1 3\n2\n4\n10\n6 4 2\n8 6 2\n10 9 2\n.\n1\n' > one_unrolled
@@ -131,7 +131,7 @@ printf 'no 11\nno 3\nno 3\nno 3\nno 3\n 11 1 \n.\naag 4 2 0 1 2\n2\n4\n8\n6 4 2\
 printf 'ok\n0\nok\nok\n0\n 11 0 \n.\nno 11\n1\n' > unrolling_refused
 touch second_refused.seen
 each_of 'bench that appends gates' 'nothing_refused first_refused second_refused unrolling_refused' \
-    bench "$examples/two_gates.aag" rows script
+    bench "$examples/two_gates.aag" ones script
 
 # without NAME WANTED CIRCUIT ROWS SCRIPT: runs a script with no memory at all behind its beginning, and compares its
 # replies. A run without a script tells how many allocations come before its first line; all behind them are refused.
@@ -152,13 +152,12 @@ without() {
 
 cat refused behind > wanted
 without 'a fifth reader without memory' wanted circuit rows edits
-printf '11\n' > rows
 printf 'w 6 8 2\nv 0 6\nw 8 2 4\nw 6 8 2\nv 0 6\nr 8 1\ns 0 1 x\nt\n+ 11\nu\n-\n-\nv 0 6\n' > edits
 printf 'no 5\n1\nok\nok\n1\nno 2\nok\n 1x x \n.\nno 11\nno 11\nok\nno 9\nno 6\n' > wanted
-without 'edits without memory' wanted "$examples/two_gates.aag" rows edits
+without 'edits without memory' wanted "$examples/two_gates.aag" ones edits
 printf 'g 9 2\nv 0 10\no 0 7\no 1 6\nt\nw 6 2 2\nv 0 6\n' > edits
 printf 'no 11\nno 3\nok\nno 13\n 11 0 \n.\nok\n1\n' > wanted
 without 'a gate that is not appended, and an output that is set, without memory' wanted \
-    "$examples/two_gates.aag" rows edits
+    "$examples/two_gates.aag" ones edits
 echo "$passed passed, $failed failed"
 [ $failed = 0 ] && [ $passed -gt 0 ]
