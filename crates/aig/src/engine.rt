@@ -35,7 +35,11 @@ fn read_rows(alloc: Global, circuit: &Circuit, file: &[u8]) -> Result<Stimulus, 
 }
 
 /// A bench of a circuit file and a stimulus file.
-fn open_bench<G: Grid>(alloc: Global, circuit: &[u8], stimulus: &[u8]) -> Result<Bench<G>, RunFault>
+pub fn open_bench<G: Grid>(
+    alloc: Global,
+    circuit: &[u8],
+    stimulus: &[u8],
+) -> Result<Bench<G>, RunFault>
     ensures bench { IfOk result (λ bench. AreBenchFiles circuit.now stimulus.now bench.pair) }
     ensures fault { IfErr result (RefusesFiles circuit.now stimulus.now) }
 {

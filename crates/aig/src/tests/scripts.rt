@@ -1,11 +1,11 @@
 use super::fakes::ByteByByte;
-use crate::engine::run_bench;
+use crate::engine::{open_bench, run_bench};
+use crate::run_fault::RunFault;
 use crate::script::run_script;
 use crate::script_fault::ScriptFault;
 use aig_base::{Lit, MemWriter, Tern};
-use aig_bench::{Bench, EditFault};
-use aig_format::read;
-use aig_sim::{ByteGrid, read_stimulus};
+use aig_bench::EditFault;
+use aig_sim::{ByteGrid, Grid};
 use std::alloc::Global;
 use std::test::Fail;
 
@@ -136,14 +136,12 @@ fn scripts_are_answered(rt: HostRuntime) -> Result<(), Fail> {
 }
 
 // How a script on a bench of the two gates ends, whose reader fails behind it, and the value of literal 8 then.
-fn ended(
+fn ended<G: Grid>(
     alloc: Global,
     script: &[u8],
     out: &mut MemWriter,
-) -> Result<(Result<(), ScriptFault>, Result<Tern, EditFault>), Fail> {
-    let circuit = read(alloc, TWO_GATES)?;
-    let stimulus = read_stimulus(alloc, b"11\n01\n", 2)?;
-    let mut bench = Bench::<ByteGrid>::new(alloc, circuit, stimulus)?;
+) -> Result<(Result<(), ScriptFault>, Result<Tern, EditFault>), RunFault> {
+    let mut bench = open_bench::<G>(alloc, TWO_GATES, b"11\n01\n")?;
     let done = run_script(alloc, &mut bench, &mut ByteByByte::cut(script), out);
     Ok((done, bench.value(0, Lit::new(8))))
 }
@@ -161,7 +159,7 @@ fn failing_reads_and_writes_end_a_script(rt: HostRuntime) -> Result<(), Fail> {
         (b"v 0 8\ns 0 1 0\nv 0 8\n", 1, b"1", Tern::One),
     ] {
         let mut out = MemWriter::new(rt.alloc(), room)?;
-        let end = ended(rt.alloc(), script, &mut out)?;
+        let end = ended::<ByteGrid>(rt.alloc(), script, &mut out)?;
         assert_eq!(rt; end, (Err(ScriptFault::Io), Ok(value)));
         assert_eq!(rt; out.bytes(), replies);
     }
