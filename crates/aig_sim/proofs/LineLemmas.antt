@@ -1,11 +1,12 @@
 -- A stimulus text, byte by byte.
-use Rattle.std.proofs.Common.{◌≡◌, ◌≢◌, ℕ, ◌≤◌, List, [], ◌∷◌, ◌++◌, length, map, All, inl, inr, refl, sym, ap, ◌∙◌, subst, arith, append_assoc}
+use Rattle.std.proofs.Common.{◌≡◌, ◌≢◌, ℕ, ◌+◌, ◌<◌, ◌≤◌, List, [], ◌∷◌, ◌++◌, length, map, All, inl, inr, refl, sym, ap, ◌∙◌, subst, arith, append_assoc}
 use Rattle.std.specs.List.{flat_map}
-use Rattle.std.specs.Prelude.{Result, Ok, Err, IfErr}
+use Rattle.std.specs.Prelude.{Result, Ok, Err, IfErr, Bool, true, false, ◌&&◌, ◌↔◌, IsTrue}
 use Rattle.std.specs.Result.{IsErrAnd}
-use Rattle.std.proofs.lemmas.List.{append-nil, length-map, length_push, get_or_append_left}
+use Rattle.std.proofs.lemmas.List.{append-nil, length-append, length-map, length_push, get_or_append_left, get_or-append-add}
+use Rattle.std.proofs.lemmas.Bool.{false≢true}
 use Rattle.std.proofs.lemmas.List.Concat.{flat_map-append}
-use Rattle.std.proofs.lemmas.List.Elements.{All-nil, All-push, All-map}
+use Rattle.std.proofs.lemmas.List.Elements.{All-nil, All-push, All-map, All-append}
 use Rattle.aig_base.specs.declared.ternary.Tern.{Tern}
 use Rattle.aig_base.specs.declared.ternary.Tern.TheVariants.{Zero, One, X}
 use Rattle.aig_sim.specs.declared.stimulus_fault.StimFault.{StimFault}
@@ -60,6 +61,54 @@ keeps_more width line Wrong values w other k =
           (h i d (omega (arith, length_push line (character w)))));
     }
 
+-- one byte more is tested
+pub all_more : (P : ℕ → Type 0) (l : List ℕ) (x : ℕ) (b c : Bool) → IsTrue b ↔ All P l → IsTrue c ↔ P x
+    → IsTrue (b && c) ↔ All P (l ++ x ∷ [])
+all_more P l x true true before here = (λ h. All-push P l x (before.0 refl) (here.0 refl), λ h. refl)
+all_more P l x true false before here = (
+  λ h. absurd (false≢true h),
+  λ h. here.1 (subst P (get_or-append-add l (x ∷ []) 0 0) (h (length l + 0) 0 (omega (arith, length_push l x)))),
+)
+all_more P l x false c before here = (
+  λ h. absurd (false≢true h),
+  λ h. before.1 (λ i d lt. subst P (get_or_append_left l (x ∷ []) d i lt) (h i d (omega (arith, lt, length_push l x)))),
+)
+
+-- characters past the width
+pub keeps_long_pieces : (width : ℕ) (line : List ℕ) (values : List Tern) (bytes : List ℕ) (values' : List Tern)
+    → All IsCharacter bytes → width < length values + length bytes
+    → Keeps width line Row values → Keeps width (line ++ bytes) Long values'
+keeps_long_pieces width line values bytes values' are lt k =
+    let e = k.kept.0 in
+    record {
+      kept = (
+        All-append IsCharacter line bytes (subst (All IsCharacter) (sym e) (characters values)) are,
+        omega (arith, length-append line bytes, ap length e, length-map values character),
+      );
+    }
+
+-- a wrong byte in a line
+still_wrong : (line bytes : List ℕ) → (All IsCharacter line → ⊥) → All IsCharacter (line ++ bytes) → ⊥
+still_wrong line bytes wrong h =
+    wrong (λ i d lt. subst IsCharacter (get_or_append_left line bytes d i lt) (h i d (omega (arith, lt, length-append line bytes))))
+
+-- characters of a line that can be no row any more
+pub keeps_more_pieces : (width : ℕ) (line : List ℕ) (shape : Shape) (values : List Tern) (bytes : List ℕ) → (shape ≡ Row → ⊥)
+    → All IsCharacter bytes → Keeps width line shape values → Keeps width (line ++ bytes) shape values
+keeps_more_pieces width line Row values bytes other are k = absurd (other refl)
+keeps_more_pieces width line Long values bytes other are k = record {
+  kept = (All-append IsCharacter line bytes k.kept.0 are, omega (arith, length-append line bytes, k.kept.1));
+}
+keeps_more_pieces width line Wrong values bytes other are k = record { kept = still_wrong line bytes k.kept }
+
+-- bytes of which one is no character
+pub keeps_wrong_pieces : (width : ℕ) (line : List ℕ) (shape : Shape) (values values' : List Tern) (bytes : List ℕ)
+    → (All IsCharacter bytes → ⊥) → Keeps width line shape values → Keeps width (line ++ bytes) Wrong values'
+keeps_wrong_pieces width line shape values values' bytes wrong k = record {
+  kept = λ h. wrong (λ i d lt. subst IsCharacter (get_or-append-add line bytes i d)
+      (h (length line + i) d (omega (arith, lt, length-append line bytes))));
+}
+
 -- a line that has no wrong byte and is no row has a wrong length
 pub length_is_wrong : (width number before : ℕ) (line rest : List ℕ) (shape : Shape) (values : List Tern)
     → (shape ≡ Wrong → ⊥) → (shape ≡ Row → length values ≢ width) → number ≡ line_number before
@@ -95,6 +144,20 @@ read_byte {rows} shape' values' b h ne step = record {
   line = h.line ++ b ∷ [];
   no_end = All-push (λ b. b ≢ 10) h.line b h.no_end ne;
   text_is = ap (λ (t : List ℕ). t ++ b ∷ []) h.text_is ∙ append_assoc (flat_map row_line rows) h.line (b ∷ []);
+  keeps = step h.line h.keeps;
+}
+
+-- a piece more of a line
+pub read_piece : {width : ℕ} {text : List ℕ} {rows : List (List Tern)} {shape : Shape} {values : List Tern}
+    (shape' : Shape) (values' : List Tern) (piece : List ℕ)
+    → HasRead width text rows shape values → All (λ b. b ≢ 10) piece
+    → ((line : List ℕ) → Keeps width line shape values → Keeps width (line ++ piece) shape' values')
+    → HasRead width (text ++ piece) rows shape' values'
+read_piece {rows} shape' values' piece h ne step = record {
+  widths = h.widths;
+  line = h.line ++ piece;
+  no_end = All-append (λ b. b ≢ 10) h.line piece h.no_end ne;
+  text_is = ap (λ (t : List ℕ). t ++ piece) h.text_is ∙ append_assoc (flat_map row_line rows) h.line piece;
   keeps = step h.line h.keeps;
 }
 

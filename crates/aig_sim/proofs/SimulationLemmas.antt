@@ -1,5 +1,5 @@
 -- A simulation, byte by byte and chunk by chunk.
-use Rattle.std.proofs.Common.{◌≡◌, ◌≢◌, ℕ, zero, suc, ◌+◌, ◌-◌, ◌^◌, min, List, [], ◌∷◌, ◌++◌, length, map, inl, inr, refl, sym, ap, ◌∙◌, subst, arith, append_assoc, add-one, Ok, Err}
+use Rattle.std.proofs.Common.{◌≡◌, ◌≢◌, ℕ, zero, suc, ◌+◌, ◌-◌, ◌^◌, min, List, [], ◌∷◌, ◌++◌, length, map, All, inl, inr, refl, sym, ap, ◌∙◌, subst, arith, append_assoc, add-one, Ok, Err}
 use Rattle.std.specs.Prelude.{Option, Some, None, Result, IfOk, IfErr, OnOk, OnErr}
 use Rattle.std.specs.List.{flat_map}
 use Rattle.std.specs.Result.{IsErrAnd}
@@ -24,7 +24,7 @@ use Rattle.aig_sim.specs.Simulated.{Simulates}
 use Rattle.aig_sim.specs.StimulusText.{row_line, line_number, EndsLine, HasFault, HasFaultyLine}
 use Rattle.aig_sim.specs.Trace.{AreValues, IsLine, AreLines, IsTrace}
 use Rattle.aig_sim.specs.TraceText.{line_text}
-use Rattle.aig_sim.proofs.LineLemmas.{read_none, read_byte, read_line, read_fault, read_unfinished, read_end, step_same, fault_same}
+use Rattle.aig_sim.proofs.LineLemmas.{read_none, read_piece, read_line, read_fault, read_unfinished, read_end, fault_same}
 use Rattle.aig_sim.proofs.TraceLemmas.{value_stays, line_is}
 
 -- ---- the trace so far
@@ -78,17 +78,19 @@ running_none raw start count s circuit states shape values frames = record {
   no_failure = refl;
 }
 
-pub byte_goes_on : (s s' : Simulation) (b : ℕ) (written : Option (List ℕ)) (failures : ℕ)
-    → s.line.width ≡ length s.machine.circuit.inputs → s'.frames ≡ s.frames → s'.machine ≡ s.machine → b ≢ 10
+pub piece_goes_on : (s s' : Simulation) (piece : List ℕ) (written : Option (List ℕ)) (failures : ℕ)
+    → s.line.width ≡ length s.machine.circuit.inputs → s'.frames ≡ s.frames → s'.machine ≡ s.machine
+    → All (λ b. b ≢ 10) piece
     → ((line : List ℕ) → Keeps s.line.width line s.line.shape s.line.values
-    → Keeps s.line.width (line ++ b ∷ []) s'.line.shape s'.line.values)
-    → GoesOn (b ∷ []) s s' written written failures failures
-byte_goes_on s s' b written failures width frames machine ne step raw start count text r = record {
+    → Keeps s.line.width (line ++ piece) s'.line.shape s'.line.values)
+    → GoesOn piece s s' written written failures failures
+piece_goes_on s s' piece written failures width frames machine ne step raw start count text r = record {
   rows = r.rows;
   trace = r.trace;
   circuit_is = ap (λ (m : Machine). m.circuit) machine ∙ r.circuit_is;
-  has_read = read_byte s'.line.shape s'.line.values b r.has_read ne
-      (step_same s.line.shape s'.line.shape s.line.values s'.line.values b
+  has_read = read_piece s'.line.shape s'.line.values piece r.has_read ne
+      (subst (λ (w : ℕ). (line : List ℕ) → Keeps w line s.line.shape s.line.values
+      → Keeps w (line ++ piece) s'.line.shape s'.line.values)
       (width ∙ ap (λ (c : Raw). length c.inputs) r.circuit_is) step);
   states_are = subst (λ (m : Machine). AreStates raw (start_of raw) r.rows (length r.rows) m.states) (sym machine) r.states_are;
   frames_are = frames ∙ r.frames_are;

@@ -1,5 +1,5 @@
 //! The line of a stimulus that is being read.
-ghost use Rattle.std.specs.Prelude.{◌≡◌, ℕ, ◌≤◌, ◌<◌, ◌↔◌, List, [], ◌∷◌, ◌++◌, length, map, IsTrue, IfOk, IfErr, OnOk, OnErr, IfSome, IfNone};
+ghost use Rattle.std.specs.Prelude.{◌≡◌, ℕ, ◌-◌, ◌≤◌, ◌<◌, ◌↔◌, List, [], ◌∷◌, ◌++◌, length, map, All, IsTrue, IfOk, IfErr, OnOk, OnErr, IfSome, IfNone};
 ghost use Rattle.aig_sim.specs.StimulusText.{character, line_number, IsCharacter, EndsLine, HasFault};
 ghost use Rattle.aig_sim.specs.LineInHand.{Keeps, IsOfLine};
 
@@ -51,6 +51,49 @@ pub fn value_of(byte: u8) -> Option<Tern>
         b'1' => Some(Tern::One),
         b'x' => Some(Tern::X),
         _ => None,
+    }
+}
+
+/// The value of a byte that is known to be a character.
+pub fn value_by(byte: u8) -> Tern
+    requires { IsCharacter byte }
+    ensures { byte ≡ character result }
+{
+    match byte {
+        b'0' => Tern::Zero,
+        b'1' => Tern::One,
+        _ => Tern::X,
+    }
+}
+
+// Whether a byte is `0`, `1` or `x`.
+fn is_character(byte: u8) -> bool
+    ensures { IsTrue result ↔ IsCharacter byte }
+{
+    // No jump depends on the byte.
+    (byte == b'0') | (byte == b'1') | (byte == b'x')
+}
+
+/// Whether all bytes are `0`, `1` or `x`.
+pub fn are_characters(bytes: &[u8]) -> bool
+    ensures { IsTrue result ↔ All IsCharacter bytes.now }
+{
+    // All are looked at, many at a time.
+    let mut all = true;
+    for byte in bytes {
+        all &= is_character(*byte);
+    }
+    all
+}
+
+// Gives values those of characters.
+fn put_values(values: &mut [Tern], text: &[u8])
+    requires size { length values.old ≡ length text.now }
+    requires characters { All IsCharacter text.now }
+    ensures { map character values.new ≡ text.now }
+{
+    for (place, byte) in text.iter().enumerate() {
+        values[place] = value_by(*byte);
     }
 }
 
@@ -113,6 +156,52 @@ impl LineInHand {
                 Ok(())
             }
         }
+    }
+
+    // Takes characters. It needs memory only where there is no room for the width.
+    fn extend_values(&mut self, text: &[u8]) -> Result<(), Memory>
+        requires { All IsCharacter text.now }
+        ensures width { self.new.width ≡ self.old.width }
+        ensures keeps { OnOk result ((line : List ℕ) →
+            Keeps self.old.width line self.old.shape self.old.values →
+            Keeps self.old.width (line ++ text.now) self.new.shape self.new.values) }
+        ensures err { OnErr result (self.old.room < self.old.width) }
+        ensures room { self.old.room ≤ self.new.room }
+    {
+        if let Shape::Row = self.shape {
+            let behind = self.values.len();
+            if text.len() <= self.width.saturating_sub(behind) {
+                self.values.resize(behind + text.len(), Tern::X)?;
+                put_values(&mut self.values[behind..], text);
+            } else {
+                self.shape = Shape::Long;
+            }
+        }
+        Ok(())
+    }
+
+    /// Takes the line's next bytes. It needs memory only where there is no room for the width.
+    pub fn extend(&mut self, bytes: &[u8]) -> Result<(), Memory>
+        ensures width { self.new.width ≡ self.old.width }
+        ensures keeps { OnOk result ((line : List ℕ) →
+            Keeps self.old.width line self.old.shape self.old.values →
+            Keeps self.old.width (line ++ bytes.now) self.new.shape self.new.values) }
+        ensures err { OnErr result (self.old.room < self.old.width) }
+        ensures room { self.old.room ≤ self.new.room }
+    {
+        if are_characters(bytes) {
+            self.extend_values(bytes)
+        } else {
+            self.shape = Shape::Wrong;
+            Ok(())
+        }
+    }
+
+    /// How many values a row has beyond those so far.
+    pub fn missing(&self) -> usize
+        ensures { result ≡ self.now.width - length self.now.values }
+    {
+        self.width.saturating_sub(self.values.len())
     }
 
     /// Whether the line has no byte so far.

@@ -1,12 +1,12 @@
 //! Simulation of a stimulus that is read row by row.
-ghost use Rattle.std.specs.Prelude.{◌≡◌, ◌≢◌, ℕ, List, [], ◌∷◌, ◌++◌, IfOk, IfErr, OnOk, OnErr};
+ghost use Rattle.std.specs.Prelude.{◌≡◌, ◌≢◌, ℕ, List, [], ◌∷◌, ◌++◌, ◌<◌, ◌≤◌, length, take, All, Some, slice_get, IfOk, IfErr, OnOk, OnErr};
 ghost use Rattle.aig_base.specs.Value.{start_of};
 ghost use Rattle.aig_sim.specs.declared.line_in_hand.Shape.TheVariants as shapes;
 ghost use Rattle.aig_sim.specs.LineInHand.{Keeps};
 ghost use Rattle.aig_sim.specs.Running.{HasRoom, GoesOn, Stops};
 ghost use Rattle.aig_sim.specs.Simulated.{Simulates};
 
-use crate::line_in_hand::LineInHand;
+use crate::line_in_hand::{LineInHand, are_characters};
 use crate::machine::{Machine, first_states};
 use crate::stimulus_fault::StimFault;
 use crate::trace_block::TraceBlock;
@@ -14,7 +14,36 @@ use crate::trace_line::write_line;
 use aig_base::{Circuit, Memory, Read, Write};
 use std::alloc::Global;
 
-/// A simulation between two bytes: the circuit, the line in hand, room for a trace line, and how many frames there were
+// How many bytes stand before the first LF, or how many there are. Most lines are rows: a piece of the likely length is
+// looked at as a whole first.
+fn line_length(bytes: &[u8], likely: usize) -> usize
+    ensures bound { result ≤ length bytes.now }
+    ensures no_end { All (λ b. b ≢ 10) (take result bytes.now) }
+    ensures ended { result < length bytes.now → slice_get bytes.now result ≡ Some 10 }
+{
+    let end = likely.min(bytes.len());
+    if are_characters(&bytes[..end]) && (end == bytes.len() || bytes[end] == b'\n') {
+        end
+    } else {
+        first_end(bytes)
+    }
+}
+
+// How many bytes stand before the first LF, or how many there are.
+fn first_end(bytes: &[u8]) -> usize
+    ensures bound { result ≤ length bytes.now }
+    ensures no_end { All (λ b. b ≢ 10) (take result bytes.now) }
+    ensures ended { result < length bytes.now → slice_get bytes.now result ≡ Some 10 }
+{
+    for (place, byte) in bytes.iter().enumerate() {
+        if *byte == b'\n' {
+            return place;
+        }
+    }
+    bytes.len()
+}
+
+/// A simulation between two pieces of the text: the circuit, the line in hand, room for a trace line, and how many frames there were
 /// (`u64::MAX` for more).
 #[derive(Drop)]
 pub struct Simulation<'a> {
@@ -61,17 +90,37 @@ impl<'a> Simulation<'a> {
         Ok(())
     }
 
-    // Takes a byte of a line. There is room for the width, so that it takes no memory.
-    fn push(&mut self, byte: u8)
+    // Takes a piece of a line. There is room for the width, so that it takes no memory.
+    fn extend(&mut self, piece: &[u8])
         requires room { HasRoom self.old }
         ensures room { HasRoom self.new }
         ensures frames { self.new.frames ≡ self.old.frames }
         ensures machine { self.new.machine ≡ self.old.machine }
         ensures keeps { (line : List ℕ) →
             Keeps self.old.line.width line self.old.line.shape self.old.line.values →
-            Keeps self.old.line.width (line ++ byte ∷ []) self.new.line.shape self.new.line.values }
+            Keeps self.old.line.width (line ++ piece.now) self.new.line.shape self.new.line.values }
     {
-        self.line.push(byte).unwrap();
+        self.line.extend(piece).unwrap();
+    }
+
+    // Takes bytes up to the end of a line, which is then simulated, or all of them. Answers how many it took.
+    fn feed_line<W: Write>(&mut self, bytes: &[u8], out: &mut W) -> Result<usize, StimFault>
+        requires room { HasRoom self.old }
+        ensures room { HasRoom self.new }
+        ensures bound { IfOk result (λ count. count ≤ length bytes.now) }
+        ensures some { IfOk result (λ count. 0 < length bytes.now → 0 < count) }
+        ensures ok { IfOk result (λ count. GoesOn (take count bytes.now) self.old self.new
+            (W.written out.old) (W.written out.new) (W.failures out.old) (W.failures out.new)) }
+        ensures err { IfErr result (Stops bytes.now self.old
+            (W.written out.old) (W.written out.new) (W.failures out.old) (W.failures out.new)) }
+    {
+        let length = line_length(bytes, self.line.missing());
+        self.extend(&bytes[..length]);
+        if length == bytes.len() {
+            return Ok(length);
+        }
+        self.end_line(out)?;
+        Ok(length + 1)
     }
 
     // Takes the bytes of a chunk, and simulates each row that ends in it.
@@ -83,12 +132,9 @@ impl<'a> Simulation<'a> {
         ensures err { IfErr result (Stops chunk.now self.old
             (W.written out.old) (W.written out.new) (W.failures out.old) (W.failures out.new)) }
     {
-        for byte in chunk {
-            if *byte == b'\n' {
-                self.end_line(out)?;
-            } else {
-                self.push(*byte);
-            }
+        let mut at = 0;
+        while at < chunk.len() {
+            at += self.feed_line(&chunk[at..], out)?;
         }
         Ok(())
     }

@@ -2,10 +2,11 @@
 ghost use Rattle.std.specs.Prelude.{◌≡◌, ℕ, ◌<◌, ◌↔◌, false, List, ◌∷◌, ◌++◌, length, map, IfOk, IfErr, IfSome, IfNone, IsTrue};
 ghost use Rattle.aig_base.specs.declared.ternary.Tern.{Tern};
 ghost use Rattle.aig_sim.specs.Checking.{BeginsWithRow, SpellsFrames, IsShape, ReadsNotOne, HasRun, IsFirstFailure};
-ghost use Rattle.aig_sim.specs.StimulusText.{character, IsCharacter};
+ghost use Rattle.aig_sim.specs.StimulusText.{character};
 ghost use Rattle.aig_sim.specs.Verdict.{Allows, StartsWrong, IsVerdict, IsConfirmed};
 ghost use Rattle.aig_sim.specs.WitnessText.{Witness, SpellsWitness, IsAdmitted, HasWitnessFault};
 
+use crate::line_in_hand::value_by;
 use crate::machine::Machine;
 use crate::row::literal_in;
 use crate::stimulus::FRAMES;
@@ -14,18 +15,6 @@ use crate::witness_fault::WitnessFault;
 use crate::witness_text::{Shape, read_shape};
 use aig_base::{Circuit, Latch, Memory, Tern};
 use std::alloc::Global;
-
-// The value of a character.
-fn value_by(byte: u8) -> Tern
-    requires { IsCharacter byte }
-    ensures { byte ≡ character result }
-{
-    match byte {
-        b'0' => Tern::Zero,
-        b'1' => Tern::One,
-        _ => Tern::X,
-    }
-}
 
 // Reads a value a character, and answers the text behind the line.
 fn read_values<'a>(values: &mut [Tern], text: &'a [u8]) -> &'a [u8]

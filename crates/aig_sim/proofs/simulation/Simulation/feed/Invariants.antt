@@ -1,11 +1,15 @@
-use Rattle.std.proofs.Common.{take}
+use Rattle.std.proofs.Common.{◌-◌, ◌≤◌, length, take}
 use Rattle.aig_sim.specs.Running.{HasRoom, GoesOn}
 use Rattle.aig_sim.proofs.simulation.Simulation.feed.Given as goal
 
-abbrev pub invariant-loop-byte : goal.invariant-loop-byte
-invariant-loop-byte g l = record {
+abbrev pub invariant-loop-at : goal.invariant-loop-at
+invariant-loop-at g l = record {
+  inside : l.at ≤ length l.chunk;
   room : HasRoom l.self;
-  goes_on : GoesOn (take l.byte-index l.chunk) l.initial.self l.self
+  goes_on : GoesOn (take l.at l.chunk) l.initial.self l.self
       (g.W.Write.written l.initial.out) (g.W.Write.written l.out) (g.W.Write.failures l.initial.out)
       (g.W.Write.failures l.out);
 }
+
+abbrev pub decreases-loop-at : goal.decreases-loop-at
+decreases-loop-at g l = length l.chunk - l.at
