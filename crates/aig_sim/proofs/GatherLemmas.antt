@@ -1,5 +1,5 @@
 -- Bytes of a trace that are gathered piece by piece.
-use Rattle.std.proofs.Common.{◌≡◌, ℕ, ◌+◌, ◌-◌, ◌≤◌, length-drop, arith, List, [], ◌∷◌, ◌++◌, length, map, take, drop, sym, ap, ◌∙◌, append_assoc, Ok, Err, IsErr, Result}
+use Rattle.std.proofs.Common.{◌≡◌, ℕ, ◌+◌, ◌-◌, ◌≤◌, length-drop, arith, List, ◌++◌, length, map, take, drop, sym, ap, ◌∙◌, append_assoc, Ok, Err, IsErr, Result}
 use Rattle.std.specs.Prelude.{Option}
 use Rattle.std.proofs.lemmas.List.{take-append-drop, take_all, take_at, length-take-le, length-map, length-append, map-append}
 use Rattle.std.proofs.Math.Seq.{take-add}

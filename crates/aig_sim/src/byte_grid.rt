@@ -3,9 +3,11 @@ ghost use Rattle.std.specs.Prelude.{◌≡◌, ◌≢◌, ℕ, ◌+◌, ◌-◌,
 ghost use Rattle.aig_base.specs.declared.ternary.Tern.{Tern};
 ghost use Rattle.aig_base.specs.declared.ternary.Tern.TheVariants.{X};
 ghost use Rattle.aig_base.specs.Literal.{variable};
+ghost use Rattle.aig_base.specs.Ternary.{kleene_and};
 ghost use Rattle.aig_sim.specs.Cells.{literal_value, gate_value, fresh_row};
 ghost use Rattle.aig_sim.specs.Padded.{AreLengthened};
 
+use crate::code::Code;
 use crate::gate_flags::GateFlags;
 use crate::grid::Grid;
 use aig_base::{Count, Gate, List, Lit, Memory, Tern};
@@ -42,13 +44,43 @@ impl Model for ByteGrid {
     ghost invariant = { λ g. ArePadded g.variables g.room g.gates.flags g.rows.items };
 }
 
+/// 0, 1 and x, and behind them their negations.
+const SIGNED: [Tern; 6] = [
+    Tern::Zero,
+    Tern::One,
+    Tern::X,
+    Tern::One,
+    Tern::Zero,
+    Tern::X,
+];
+
+/// The AND of 0, of 1 and of x with 0, 1 and x.
+const AND: [Tern; 9] = [
+    Tern::Zero,
+    Tern::Zero,
+    Tern::Zero,
+    Tern::Zero,
+    Tern::One,
+    Tern::X,
+    Tern::Zero,
+    Tern::X,
+    Tern::X,
+];
+
 /// The value of a literal by the cell of its variable.
 pub fn value_in(cells: &[Tern], literal: Lit) -> Tern
     requires { variable literal < length cells.now }
     ensures { result ≡ literal_value cells.now literal }
 {
     let value = cells[literal.var() as usize];
-    if literal.is_neg() { value.not() } else { value }
+    SIGNED[3 * (literal.is_neg() as usize) + value as usize]
+}
+
+// The AND of two values, by a table, so that no jump depends on them.
+fn and_of(one: Tern, other: Tern) -> Tern
+    ensures { result ≡ kleene_and one other }
+{
+    AND[3 * (one as usize) + other as usize]
 }
 
 // A row of n cells: 0 at variable 0, x everywhere else.
@@ -71,7 +103,7 @@ fn evaluate_in(row: &mut List<Tern>, gate: Gate) -> bool
     ensures changed { IsTrue result ↔ (gate_value row.old gate ≢ slice_index_or row.old (variable gate.lhs) X) }
 {
     let cells = row.as_slice();
-    let value = value_in(cells, gate.rhs0).and(value_in(cells, gate.rhs1));
+    let value = and_of(value_in(cells, gate.rhs0), value_in(cells, gate.rhs1));
     let place = gate.lhs.var() as usize;
     let changed = cells[place] != value;
     row.set(place, value);
@@ -117,6 +149,11 @@ impl Grid for ByteGrid {
 
     fn get(&self, frame: u32, variable: u32) -> Tern {
         self.rows[frame as usize][variable as usize]
+    }
+
+    fn character(&self, frame: u32, literal: Lit) -> u8 {
+        let value = self.rows[frame as usize][literal.var() as usize];
+        Code::of(value).character(literal.is_neg())
     }
 
     fn put_source(&mut self, frame: u32, variable: u32, value: Tern) {

@@ -1,5 +1,5 @@
 //! Values in two bits, for circuits that are simulated row by row.
-ghost use Rattle.std.specs.Prelude.{◌≡◌, ◌<◌, IsTrue, List, length};
+ghost use Rattle.std.specs.Prelude.{◌≡◌, ◌≢◌, ◌<◌, ◌↔◌, IsTrue, List, length};
 ghost use Rattle.aig_base.specs.Literal.{variable};
 ghost use Rattle.aig_base.specs.Ternary.{kleene_and, kleene_not};
 ghost use Rattle.aig_sim.specs.Cells.{literal_value};
@@ -33,6 +33,9 @@ impl Model for Code {
     ghost invariant = { λ a. bits_of (value_of a.bits) ≡ a.bits };
 }
 
+/// The bits of 0, 1 and x.
+const BITS: [u8; 3] = [0b00, 0b11, 0b01];
+
 /// The bits of a value by its own bits, and behind the fourth those of its negation. None are 10.
 const SIGNED: [u8; 8] = [0b00, 0b01, 0b00, 0b11, 0b11, 0b01, 0b00, 0b00];
 
@@ -44,10 +47,8 @@ impl Code {
     pub fn of(value: Tern) -> Code
         ensures { result ≡ value }
     {
-        match value {
-            Tern::Zero => Code { bits: 0b00 },
-            Tern::One => Code { bits: 0b11 },
-            Tern::X => Code { bits: 0b01 },
+        Code {
+            bits: BITS[value as usize],
         }
     }
 
@@ -87,6 +88,13 @@ impl Code {
         Code {
             bits: self.bits & other.bits,
         }
+    }
+
+    /// Whether two values are different.
+    pub fn differs(self, other: Code) -> bool
+        ensures { IsTrue result ↔ (self ≢ other) }
+    {
+        self.bits != other.bits
     }
 }
 

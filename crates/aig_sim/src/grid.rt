@@ -5,8 +5,9 @@ ghost use Rattle.aig_base.specs.declared.ternary.Tern.TheVariants.{X};
 ghost use Rattle.aig_base.specs.Literal.{variable, IsEven};
 ghost use Rattle.aig_sim.specs.Cells.{gate_value, fresh_row, with_new_cell};
 ghost use Rattle.aig_sim.specs.InputRows.{with_cell, row_at};
+ghost use Rattle.aig_sim.specs.TraceText.{literal_character};
 
-use aig_base::{Gate, Memory, Tern};
+use aig_base::{Gate, Lit, Memory, Tern};
 use std::alloc::Global;
 
 /// A row of values a frame, a value a variable. Only `evaluate` changes the cell of a gate in a row that is there, and
@@ -41,6 +42,12 @@ pub trait Grid: Sized + Drop {
         requires frame { frame < length (cells self.now) }
         requires variable { variable < length (gate_flags self.now) }
         ensures { slice_get (row_at (cells self.now) frame) variable ≡ Some result };
+
+    /// The character of the value of a literal at a frame: `0`, `1` or `x`.
+    fn character(&self, frame: u32, literal: Lit) -> u8
+        requires frame { frame < length (cells self.now) }
+        requires variable { variable literal < length (gate_flags self.now) }
+        ensures { result ≡ literal_character (row_at (cells self.now) frame) literal };
 
     /// Replaces the value of an input or a latch at a frame.
     fn put_source(&mut self, frame: u32, variable: u32, value: Tern)

@@ -6,7 +6,7 @@ ghost use Rattle.aig_sim.specs.Padded.{AreLengthened};
 use crate::gate_flags::GateFlags;
 use crate::grid::Grid;
 use crate::plane_row::{Cell, PlaneRow};
-use aig_base::{Count, Gate, Memory, Tern};
+use aig_base::{Count, Gate, Lit, Memory, Tern};
 use std::alloc::{AllocError, Global};
 use std::marker::Model;
 
@@ -79,6 +79,10 @@ impl Grid for PlaneGrid {
 
     fn get(&self, frame: u32, variable: u32) -> Tern {
         self.rows[frame as usize].get(variable as usize).value()
+    }
+
+    fn character(&self, frame: u32, literal: Lit) -> u8 {
+        self.rows[frame as usize].character(literal)
     }
 
     fn put_source(&mut self, frame: u32, variable: u32, value: Tern) {

@@ -5,6 +5,8 @@ ghost use Rattle.aig_base.specs.Literal.{variable};
 ghost use Rattle.aig_base.specs.Ternary.{kleene_and, kleene_not};
 ghost use Rattle.aig_sim.specs.Cells.{literal_value, gate_value, fresh_row};
 ghost use Rattle.aig_sim.specs.Padded.{IsLengthened};
+ghost use Rattle.aig_sim.specs.StimulusText.{character};
+ghost use Rattle.aig_sim.specs.TraceText.{literal_character};
 ghost use Rattle.aig_sim.specs.Planes.{bit, value_in, IsWhole};
 
 use aig_base::{Gate, Lit, Tern};
@@ -37,6 +39,9 @@ impl Model for Cell {
 
     ghost invariant = { λ a. IsTrue (a.may_be_one || a.may_be_zero) };
 }
+
+/// The character of a cell by its two bits, and behind the fourth that of its negation. No cell has neither bit.
+const CHARACTERS: [u8; 8] = [b'x', b'0', b'1', b'x', b'x', b'1', b'0', b'x'];
 
 impl Cell {
     /// The cell of a value.
@@ -75,6 +80,15 @@ impl Cell {
         } else {
             self
         }
+    }
+
+    /// The character of the negation where `is_negated`, else that of the cell itself: `0`, `1` or `x`.
+    pub fn character(self, is_negated: bool) -> u8
+        ensures negated { IsTrue is_negated → result ≡ character (kleene_not self) }
+        ensures same { (IsTrue is_negated → ⊥) → result ≡ character self }
+    {
+        let bits = 2 * (self.may_be_one as usize) + self.may_be_zero as usize;
+        CHARACTERS[4 * (is_negated as usize) + bits]
     }
 
     /// The AND of two cells.
@@ -218,6 +232,14 @@ impl PlaneRow {
         ensures { result ≡ literal_value self.now literal }
     {
         self.get(literal.var() as usize).with_sign(literal.is_neg())
+    }
+
+    /// The character of the value of a literal.
+    pub fn character(&self, literal: Lit) -> u8
+        requires { variable literal < length self.now }
+        ensures { result ≡ literal_character self.now literal }
+    {
+        self.get(literal.var() as usize).character(literal.is_neg())
     }
 
     /// Writes the cell of a variable, and answers whether it changed.

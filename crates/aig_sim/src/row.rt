@@ -5,7 +5,6 @@ ghost use Rattle.aig_base.specs.Literal.{variable};
 ghost use Rattle.aig_sim.specs.Cells.{literal_value};
 ghost use Rattle.aig_sim.specs.TraceText.{literal_character};
 
-use crate::code::Code;
 use crate::grid::Grid;
 use aig_base::{Lit, Tern};
 
@@ -57,7 +56,6 @@ impl<'a, G: Grid> Row for GridRow<'a, G> {
     }
 
     fn character(&self, literal: Lit) -> u8 {
-        let value = self.grid.get(self.frame, literal.var());
-        Code::of(value).character(literal.is_neg())
+        self.grid.character(self.frame, literal)
     }
 }

@@ -6,7 +6,7 @@ ghost use Rattle.aig_sim.specs.StimulusText.{character, row_line, HaveWidth, IsC
 ghost use Rattle.aig_sim.specs.WitnessText.{Witness, SpellsWitness, IsDecimal, rows_text};
 ghost use Rattle.aig_sim.specs.Checking.{BeginsWithRow, SpellsFrames, IsShape};
 
-use crate::line_in_hand::value_of;
+use crate::line_in_hand::are_characters;
 use aig_base::Circuit;
 
 /// No circuit has a property at this position or behind it.
@@ -26,18 +26,6 @@ pub struct Shape<'a> {
     pub rows: &'a [u8],
     /// The number of frames.
     pub frames: usize,
-}
-
-// Whether all bytes are `0`, `1` or `x`.
-fn are_characters(bytes: &[u8]) -> bool
-    ensures { IsTrue result ↔ All IsCharacter bytes.now }
-{
-    for byte in bytes {
-        let Some(_value) = value_of(*byte) else {
-            return false;
-        };
-    }
-    true
 }
 
 // The text behind a line of so many values.

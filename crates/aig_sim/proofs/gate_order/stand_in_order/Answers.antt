@@ -1,4 +1,4 @@
-use Rattle.std.proofs.Common.{◌+◌, replicate, false, sym, subst}
+use Rattle.std.proofs.Common.{sym, subst}
 use Rattle.aig_base.specs.Grounded.{IsSource}
 use Rattle.aig_base.specs.Grounded as grounded
 use Rattle.aig_sim.specs.GateOrder.{AreMarked}

@@ -1,4 +1,4 @@
-use Rattle.std.proofs.Common.{◌+◌, All, take, get_or, sym, subst, arith}
+use Rattle.std.proofs.Common.{All, take, get_or, sym, subst, arith}
 use Rattle.std.specs.Prelude.{◌↔◌, ◌&&◌, IsTrue, List, ℕ}
 use Rattle.std.proofs.lemmas.List.{take_more, take_all}
 use Rattle.aig_sim.specs.StimulusText.{IsCharacter}

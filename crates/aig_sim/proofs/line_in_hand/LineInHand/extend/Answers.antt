@@ -1,4 +1,4 @@
-use Rattle.std.proofs.Common.{◌≡◌, ◌∙◌, sym}
+use Rattle.std.proofs.Common.{◌∙◌, sym}
 use Rattle.std.proofs.lemmas.Bool.{false≢true}
 use Rattle.aig_sim.proofs.LineLemmas.{keeps_wrong_pieces}
 use Rattle.aig_sim.proofs.line_in_hand.LineInHand.extend.Goals as goal
