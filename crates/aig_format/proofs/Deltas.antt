@@ -1,13 +1,14 @@
 -- A delta that is read is spelled so, and what is spelled so is read.
 use Rattle.std.proofs.Common.{◌≡◌, ℕ, zero, suc, ◌+◌, ◌-◌, ◌*◌, ◌/◌, ◌%◌, ◌^◌, ◌<◌, ◌≤◌, Bool, true, false, cond, ltb}
-use Rattle.std.proofs.Common.{eqb, ◌||◌, List, [], ◌∷◌, ◌++◌, length, Ok, Err, refl, sym, ap, subst, ◌∙◌}
+use Rattle.std.proofs.Common.{eqb, ◌||◌, ◌&&◌, Some, None, List, [], ◌∷◌, ◌++◌, length, Ok, Err, refl, sym, ap, subst, ◌∙◌}
 use Rattle.std.proofs.Common.{arith}
 use Rattle.std.proofs.lemmas.Bool.{ltb-true, ltb-false, lt-ltb, le-ltb}
 use Rattle.std.proofs.lemmas.Bool.Decides.{nat_tests}
-use Rattle.aig_format.specs.Reading.{text, ◌>>=◌, groups_at, delta_at}
+use Rattle.aig_format.specs.Reading.{Read, text, ◌>>=◌, next_at, groups_at, delta_at}
 use Rattle.aig_format.specs.Delta.{groups, delta}
 use Rattle.aig_format.proofs.Steps.{done, done_is}
 use Rattle.aig_format.proofs.Numbers.{bind_then}
+use Rattle.std.proofs.lemmas.Nat.{mul-le}
 
 pub pow_more : (k : ℕ) → 128 ^ suc (suc k) ≡ 128 * 128 ^ suc k
 pow_more k = grind arith
@@ -142,19 +143,6 @@ delta_takes low high bytes n rest h =
           omega (arith, p.0, before.1),
         )
 
--- ---- the bounds of the code
-
-pub some_room : (k : ℕ) → 128 ≤ 128 ^ (k + 1)
-some_room k = let e : k + 1 ≡ suc k = omega arith in rw e (positive k)
-
--- with fewer than four groups the value leaves room for one more
-pub little : (k n : ℕ) → k ≤ 3 → 0 < k → n < 128 ^ (k - 1 + 1) → n < 2 ^ 21
-little zero n le some lt = absurd (omega arith)
-little (suc zero) n le some lt = omega arith
-little (suc (suc zero)) n le some lt = omega arith
-little (suc (suc (suc zero))) n le some lt = omega arith
-little (suc (suc (suc (suc k)))) n le some lt = absurd (omega arith)
-
 -- ---- the spelling
 
 no_more_groups : (n : ℕ) → groups 0 n ≡ n ∷ []
@@ -190,3 +178,119 @@ delta_ends m n more others ltm ltn same =
     let first = delta_again 0 268435456 m more (omega arith) (omega (arith, ltm)) ltm in
     let second = delta_again 0 268435456 n others (omega arith) (omega (arith, ltn)) ltn in
     done_is m n more others (sym first ∙ ap (delta_at 0 268435456) same ∙ second)
+
+-- ---- reading group by group
+
+-- what is read of so many groups at most
+abbrev pub groups_left : ℕ → List ℕ → Read ℕ
+groups_left zero bytes = Err text
+groups_left (suc more) bytes = groups_at more bytes
+
+-- the number, by the value of the k groups before, and what one of the next is worth
+abbrev pub number_of : ℕ → ℕ → ℕ → Read ℕ → Read ℕ
+number_of k value worth read =
+    read >>= λ high. cond (eqb high.0 0 && ltb 0 k) (Err text) (done (value + worth * high.0) high.1)
+
+pub number_first : (read : Read ℕ) → number_of 0 0 1 read ≡ read
+number_first (Err e) = refl
+number_first (Ok (n, rest)) =
+    let same : 0 + 1 * n ≡ n = omega arith in
+    by_test (eqb n 0) (done (0 + 1 * n) rest) ∙ ap (λ (m : ℕ). done m rest) same
+  where
+    by_test : (b : Bool) (read : Read ℕ) → cond (b && ltb 0 0) (Err text) read ≡ read
+    by_test true read = refl
+    by_test false read = refl
+
+pub number_cut : (r k value worth : ℕ) (bytes rest : List ℕ) (whole : Read ℕ) → next_at bytes ≡ Ok (None, rest)
+    → number_of k value worth (groups_left r bytes) ≡ whole → whole ≡ Err text
+unfolding groups_at
+number_cut zero k value worth bytes rest whole h so_far = sym so_far
+number_cut (suc zero) k value worth [] rest whole h so_far = sym so_far
+number_cut (suc (suc r)) k value worth [] rest whole h so_far = sym so_far
+number_cut (suc r) k value worth (x ∷ bytes) rest whole h so_far =
+    let p = done_is (Some x) None bytes rest h in let e = p.0 in absurd cc
+
+last_group : (more b : ℕ) (bytes : List ℕ) → b < 128 → groups_at more (b ∷ bytes) ≡ Ok (b, bytes)
+unfolding groups_at
+last_group zero b bytes lt = rw (lt-ltb b 128 lt) refl
+last_group (suc more) b bytes lt = rw (lt-ltb b 128 lt) refl
+
+-- the last group
+pub number_last : (r k value worth b : ℕ) (bytes rest : List ℕ) (whole : Read ℕ) (spare : Bool) → 0 < r
+    → next_at bytes ≡ Ok (Some b, rest) → b < 128 → (eqb b 0 && ltb 0 k) ≡ spare
+    → number_of k value worth (groups_left r bytes) ≡ whole
+    → whole ≡ cond spare (Err text) (done (value + worth * b) rest)
+number_last zero k value worth b bytes rest whole spare some h lt test so_far = absurd (omega (arith, some))
+number_last (suc r) k value worth b [] rest whole spare some h lt test so_far =
+    let p = done_is None (Some b) [] rest h in let e = p.0 in absurd cc
+number_last (suc r) k value worth b (x ∷ bytes) rest whole spare some h lt test so_far =
+    let p = done_is (Some x) (Some b) bytes rest h in
+    let e = p.0 in
+    let same : x ≡ b = cc in
+    let one : groups_at r (x ∷ bytes) ≡ Ok (b, rest) =
+    ap (λ (y : ℕ). groups_at r (y ∷ bytes)) same ∙ last_group r b bytes lt ∙ ap (done b) p.1 in
+    sym so_far ∙ ap (number_of k value worth) one
+    ∙ ap (λ (t : Bool). cond t (Err text) (done (value + worth * b) rest)) test
+
+-- a group that is followed by another
+pub number_more : (r k value worth b : ℕ) (bytes rest : List ℕ) (whole : Read ℕ) → 0 < r
+    → next_at bytes ≡ Ok (Some b, rest) → 128 ≤ b → b < 256
+    → number_of k value worth (groups_left r bytes) ≡ whole
+    → number_of (k + 1) (value + worth * (b - 128)) (worth * 128) (groups_left (r - 1) rest) ≡ whole
+unfolding groups_at
+number_more zero k value worth b bytes rest whole some h ge lt so_far = absurd (omega (arith, some))
+number_more (suc r) k value worth b [] rest whole some h ge lt so_far =
+    let p = done_is None (Some b) [] rest h in let e = p.0 in absurd cc
+number_more (suc r) k value worth b (x ∷ bytes) rest whole some h ge lt so_far =
+    let p = done_is (Some x) (Some b) bytes rest h in
+    let e = p.0 in
+    let same : x ≡ b = cc in
+    let less : suc r - 1 ≡ r = omega arith in
+    let one : number_of k value worth (groups_at r (x ∷ bytes)) ≡ number_of k value worth (groups_at r (b ∷ rest)) =
+    ap (λ (y : ℕ). number_of k value worth (groups_at r (y ∷ bytes))) same
+    ∙ ap (λ (t : List ℕ). number_of k value worth (groups_at r (b ∷ t))) p.1 in
+    ap (λ (j : ℕ). number_of (k + 1) (value + worth * (b - 128)) (worth * 128) (groups_left j rest)) less
+    ∙ sym (by_groups r) ∙ sym one ∙ so_far
+  where
+    by_read : (read : Read ℕ)
+        → number_of k value worth
+        (read >>= λ high. cond (eqb high.0 0 || ltb 255 b) (Err text) (done (b - 128 + 128 * high.0) high.1))
+        ≡ number_of (k + 1) (value + worth * (b - 128)) (worth * 128) read
+    by_read (Err e) = refl
+    by_read (Ok (zero, after)) =
+        let later : ltb 0 (k + 1) ≡ true = lt-ltb 0 (k + 1) (omega arith) in
+        rw later refl
+    by_read (Ok (suc n, after)) =
+        let byte : ltb 255 b ≡ false = le-ltb 255 b (omega (arith, lt)) in
+        let some : eqb (b - 128 + 128 * suc n) 0 ≡ false = grind (arith, nat_tests) in
+        let none : eqb (suc n) 0 ≡ false = grind (arith, nat_tests) in
+        let sum : value + worth * (b - 128 + 128 * suc n) ≡ value + worth * (b - 128) + worth * 128 * suc n =
+        grind arith in
+        rw (byte, none, some, sum) refl
+
+    by_groups : (r : ℕ) → number_of k value worth (groups_at r (b ∷ rest))
+        ≡ number_of (k + 1) (value + worth * (b - 128)) (worth * 128) (groups_left r rest)
+    by_groups zero = rw (le-ltb b 128 ge) refl
+    by_groups (suc r) = rw (le-ltb b 128 ge) (by_read (groups_at r rest))
+
+-- what a group is worth fits
+small_worth : (k : ℕ) → k < 4 → 128 ^ k ≤ 2097152
+small_worth zero lt = omega arith
+small_worth (suc zero) lt = omega arith
+small_worth (suc (suc zero)) lt = omega arith
+small_worth (suc (suc (suc zero))) lt = omega arith
+small_worth (suc (suc (suc (suc k)))) lt = absurd (omega (arith, lt))
+
+pub fits_worth : (worth k b : ℕ) → worth ≡ 128 ^ k → k < 4 → b ≤ 127 → (worth ≤ 2097152) × (worth * b ≤ 266338304)
+fits_worth worth k b is lt le =
+    let small : worth ≤ 2097152 = rw is (small_worth k lt) in
+    (small, mul-le worth b 2097152 127 small le)
+
+pub worth_more : (k : ℕ) → 128 ^ k * 128 ≡ 128 ^ (k + 1)
+worth_more k = let next : k + 1 ≡ suc k = omega arith in rw next (grind arith)
+
+-- there are more groups than four
+pub number_over : (r k value worth : ℕ) (bytes : List ℕ) (whole : Read ℕ) → r ≡ 0
+    → number_of k value worth (groups_left r bytes) ≡ whole → whole ≡ Err text
+number_over zero k value worth bytes whole none so_far = sym so_far
+number_over (suc r) k value worth bytes whole none so_far = absurd (omega (arith, none))

@@ -13,7 +13,6 @@ use Rattle.aig_base.specs.Formed.{IsFormed}
 use Rattle.aig_base.specs.Sections.{definitions, uses}
 use Rattle.aig_base.specs.Sound.{IsInRange}
 use Rattle.aig_base.proofs.Joined.{All-left, All-right, All-unmap}
-use Rattle.aig_format.specs.Delta.{groups}
 use Rattle.aig_format.specs.Header.{space, line_end, field, tail, all_zero}
 use Rattle.aig_format.specs.Spelling.{reset_text, lines}
 
@@ -25,15 +24,6 @@ pub plain_lines : {X : Type 0} (line : Bool → X → List ℕ) (xs : List X) �
 unfolding lines
 plain_lines line [] = refl
 plain_lines line (x ∷ xs) = ap (λ (ys : List ℕ). line false x ++ ys) (plain_lines line xs)
-
--- a number of more groups than one is its lowest seven bits, and then the others
-pub groups_step : (more n : ℕ) → (more ≡ 0 → ⊥) → 128 ≤ n → groups more n ≡ (128 + n % 128) ∷ groups (more - 1) (n / 128)
-unfolding groups
-groups_step zero n some ge = absurd (some refl)
-groups_step (suc m) n some ge =
-    let less : suc m - 1 ≡ m = omega arith in
-    ap (λ (b : Bool). cond b (n ∷ []) ((128 + n % 128) ∷ groups m (n / 128))) (le-ltb n 128 ge)
-    ∙ ap (λ (j : ℕ). (128 + n % 128) ∷ groups j (n / 128)) (sym less)
 
 -- the test that all counts are 0, as a program makes it
 all_zero_is : (counts : List ℕ) → all_zero counts ≡ list_all (λ n. n == 0) counts

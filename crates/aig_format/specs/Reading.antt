@@ -1,5 +1,5 @@
 -- Reading from left to right, with the first refusal that is met: bytes, digits, numbers, deltas.
-use Rattle.std.specs.Prelude.{ℕ, zero, suc, ◌+◌, ◌-◌, ◌*◌, Bool, true, false, List, [], ◌∷◌, Option, Some, None}
+use Rattle.std.specs.Prelude.{◌≡◌, ℕ, zero, suc, ◌+◌, ◌-◌, ◌*◌, Bool, true, false, List, [], ◌∷◌, ◌++◌, Option, Some, None}
 use Rattle.std.specs.Prelude.{Result, Ok, Err, nat_lt, nat_le, ◌==◌, ◌&&◌, ◌||◌, if◌then◌else◌}
 use Rattle.aig_format.specs.Header.{space, line_end}
 
@@ -10,6 +10,11 @@ pub data Refusal : Type 0 where
 -- what reading gives: a value and the bytes after it, or the first refusal
 abbrev pub Read : Type 0 → Type 0
 Read A = Result (A × List ℕ) Refusal
+
+-- The bytes that are taken tell what is read: it is the same whatever comes behind them.
+abbrev pub EndsItself : {A : Type 0} → (List ℕ → Read A) → Type 0
+EndsItself {A} read = (bytes rest : List ℕ) (x : A) → read bytes ≡ Ok (x, rest)
+    → (front : List ℕ) × (bytes ≡ front ++ rest) × ((more : List ℕ) → read (front ++ more) ≡ Ok (x, more))
 
 infixl 10 ◌>>=◌
 abbrev pub ◌>>=◌ : {A B : Type 0} → Result A Refusal → (A → Result B Refusal) → Result B Refusal

@@ -23,6 +23,16 @@ impl<'a> Slice<'a> {
     }
 }
 
+impl Slice<'_> {
+    /// How many bytes are left.
+    #[inline]
+    pub(crate) fn len(&self) -> usize
+        ensures { result ≡ length self.now.rest.now }
+    {
+        self.rest.len()
+    }
+}
+
 impl<'a> Source for Slice<'a> {
     ghost tells = { λ _. Unit {0} };
 

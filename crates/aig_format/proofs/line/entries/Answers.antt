@@ -20,7 +20,7 @@ loop-i-preserved g c = record {
       rw c.in_ok-push.ensures.ok
       (lines_on g.X.Implicit.entry_at c.loop-i.all c.args.count c.loop-i.i (c.args.first + c.loop-i.i)
       (c.args.first + (c.loop-i.i + 1)) (g.S.Source.left c.loop-i.s) c.in_ok-entry.entry
-      (g.S.Source.left c.entry.new.s)
+      (g.S.Source.left c.next_entry.new.s)
       (lines_at g.X.Implicit.entry_at c.args.count c.args.first (g.S.Source.left c.args.s.now)) c.loop-i-test.true
       (omega arith) (c.in_ok-entry.ensures.bytes (c.loop-i.invariant.told told)) (c.loop-i.invariant.bytes told));
   count = omega (arith, ap length c.in_ok-push.ensures.ok, length-append c.loop-i.all (c.in_ok-entry.entry ∷ []), c.loop-i.invariant.count);

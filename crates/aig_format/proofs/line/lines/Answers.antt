@@ -19,7 +19,7 @@ loop-preserved g c = record {
   bytes = λ told.
       rw c.in_ok-push.ensures.ok
       (lines_on (λ v. g.X.Line.line_at) c.loop.all c.args.count c.loop.counter c.loop.counter (c.loop.counter + 1)
-      (g.S.Source.left c.loop.s) c.in_ok-entry.entry (g.S.Source.left c.line.new.s)
+      (g.S.Source.left c.loop.s) c.in_ok-entry.entry (g.S.Source.left c.next_line.new.s)
       (lines_at (λ v. g.X.Line.line_at) c.args.count 0 (g.S.Source.left c.args.s.now)) c.loop-test.true (omega arith)
       (c.in_ok-entry.ensures.bytes (c.loop.invariant.told told)) (c.loop.invariant.bytes told));
   count = omega (arith, ap length c.in_ok-push.ensures.ok, length-append c.loop.all (c.in_ok-entry.entry ∷ []), c.loop.invariant.count);

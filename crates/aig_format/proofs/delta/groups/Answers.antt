@@ -1,0 +1,82 @@
+use Rattle.std.proofs.Common.{◌≡◌, ℕ, ◌-◌, ◌+◌, ◌*◌, ◌∙◌, sym, ap, rules, arith}
+use Rattle.std.proofs.lemmas.Nat.{mul-le}
+use Rattle.aig_format.specs.Reading.{groups_at}
+use Rattle.aig_format.proofs.Deltas.{number_first, number_cut, number_last, number_more, number_over, fits_worth, worth_more}
+use Rattle.aig_format.proofs.delta.groups.Goals as goal
+
+pub loop-k-init : goal.loop-k-init
+loop-k-init g c = record {
+  bytes = λ told. number_first (groups_at 3 (g.S.Source.left c.args.s.now));
+  worth = omega arith;
+  below = omega arith;
+  told = λ told. told;
+  reader = search rules;
+  failures = search rules;
+}
+
+pub returns-in-None-clause-bytes : goal.returns-in-None-clause-bytes
+returns-in-None-clause-bytes g c = λ told.
+    number_cut (4 - c.loop-k.k) c.loop-k.k c.loop-k.value c.loop-k.weight (g.S.Source.left c.loop-k.s)
+    (g.S.Source.left c.next.new.self) (groups_at 3 (g.S.Source.left c.args.s.now))
+    (rw c.in-None.is at (c.in_ok-next.ensures.bytes (c.loop-k.invariant.told told))) (c.loop-k.invariant.bytes told)
+
+pub returns-then-is_spare-clause-bytes : goal.returns-then-is_spare-clause-bytes
+returns-then-is_spare-clause-bytes g c = λ told.
+    number_last (4 - c.loop-k.k) c.loop-k.k c.loop-k.value c.loop-k.weight c.in-Some.byte (g.S.Source.left c.loop-k.s)
+    (g.S.Source.left c.next.new.self) (groups_at 3 (g.S.Source.left c.args.s.now)) _ (omega (arith, c.loop-k-test.true))
+    (rw c.in-Some.is at (c.in_ok-next.ensures.bytes (c.loop-k.invariant.told told))) c.if-byte-lt128.true
+    (sym c.is_spare.ensures ∙ c.if-is_spare.true) (c.loop-k.invariant.bytes told)
+
+pub overflow_mul-result : goal.overflow_mul-result
+overflow_mul-result g c =
+    let i = c.loop-k.invariant in
+    omega (arith, fits_worth c.loop-k.weight c.loop-k.k c.in-Some.byte i.worth c.loop-k-test.true (omega (arith, c.if-byte-lt128.true)))
+
+pub overflow_add-result : goal.overflow_add-result
+overflow_add-result g c =
+    let i = c.loop-k.invariant in
+    let fits = fits_worth c.loop-k.weight c.loop-k.k c.in-Some.byte i.worth c.loop-k-test.true (omega (arith, c.if-byte-lt128.true)) in
+    omega (arith, fits, i.below)
+
+pub returns-then-byte-lt128-clause-bytes : goal.returns-then-byte-lt128-clause-bytes
+returns-then-byte-lt128-clause-bytes g c = λ told.
+    number_last (4 - c.loop-k.k) c.loop-k.k c.loop-k.value c.loop-k.weight c.in-Some.byte (g.S.Source.left c.loop-k.s)
+    (g.S.Source.left c.next.new.self) (groups_at 3 (g.S.Source.left c.args.s.now)) _ (omega (arith, c.loop-k-test.true))
+    (rw c.in-Some.is at (c.in_ok-next.ensures.bytes (c.loop-k.invariant.told told))) c.if-byte-lt128.true
+    (sym c.is_spare.ensures ∙ c.if-is_spare.false) (c.loop-k.invariant.bytes told)
+
+pub overflow_mul-value : goal.overflow_mul-value
+overflow_mul-value g c =
+    let i = c.loop-k.invariant in
+    omega (arith, fits_worth c.loop-k.weight c.loop-k.k (c.in-Some.byte - 128) i.worth c.loop-k-test.true (search rules))
+
+pub overflow_add-value : goal.overflow_add-value
+overflow_add-value g c =
+    let i = c.loop-k.invariant in
+    let fits = fits_worth c.loop-k.weight c.loop-k.k (c.in-Some.byte - 128) i.worth c.loop-k-test.true (search rules) in
+    omega (arith, fits, i.below)
+
+pub overflow_mul-weight : goal.overflow_mul-weight
+overflow_mul-weight g c =
+    omega (arith, fits_worth c.loop-k.weight c.loop-k.k 0 c.loop-k.invariant.worth c.loop-k-test.true (omega arith))
+
+pub loop-k-preserved : goal.loop-k-preserved
+loop-k-preserved g c =
+    let i = c.loop-k.invariant in
+    record {
+      bytes = λ told.
+          let less : 4 - (c.loop-k.k + 1) ≡ 4 - c.loop-k.k - 1 = omega arith in
+          rw less
+          (number_more (4 - c.loop-k.k) c.loop-k.k c.loop-k.value c.loop-k.weight c.in-Some.byte (g.S.Source.left c.loop-k.s)
+          (g.S.Source.left c.next.new.self) (groups_at 3 (g.S.Source.left c.args.s.now)) (omega (arith, c.loop-k-test.true))
+          (rw c.in-Some.is at (c.in_ok-next.ensures.bytes (i.told told))) c.if-byte-lt128.false (search rules) (i.bytes told));
+      worth = ap (λ (t : ℕ). t * 128) i.worth ∙ worth_more c.loop-k.k;
+      below = omega (arith, i.below, mul-le c.loop-k.weight (c.in-Some.byte - 128) c.loop-k.weight 127 (omega arith) (search rules));
+      told = λ told. c.in_ok-next.ensures.told (i.told told);
+      reader = c.in_ok-next.ensures.reader ∙ i.reader;
+      failures = c.in_ok-next.ensures.failures ∙ i.failures;
+    }
+
+pub returns-clause-bytes : goal.returns-clause-bytes
+returns-clause-bytes g c = λ told. number_over (4 - c.loop-k.k) c.loop-k.k c.loop-k.value c.loop-k.weight (g.S.Source.left c.loop-k.s)
+    (groups_at 3 (g.S.Source.left c.args.s.now)) (omega (arith, c.loop-k-test.false)) (c.loop-k.invariant.bytes told)
