@@ -1,11 +1,10 @@
 -- Lists that grow as they are read: their lengths and sums.
-use Rattle.std.proofs.Common.{◌≡◌, ℕ, ◌+◌, ◌<◌, ◌≤◌, List, [], ◌∷◌, ◌++◌, length, get_or, take, map, refl, sym, ap, subst, ◌∙◌, ◌↔◌, arith, Contains, Bool, true, false, IsTrue}
-use Rattle.std.specs.Prelude.{sum, sum_by, All, AllPairs, ◌≢◌}
+use Rattle.std.proofs.Common.{◌≡◌, ℕ, ◌+◌, ◌<◌, List, [], ◌∷◌, ◌++◌, length, get_or, take, map, refl, sym, ap, subst, ◌∙◌, ◌↔◌, arith, Contains, Bool, true, false, IsTrue}
+use Rattle.std.specs.Prelude.{sum, sum_by, All}
 use Rattle.std.specs.Map.{keys_of}
 use Rattle.std.proofs.lemmas.List.{map-append, take_more}
 use Rattle.std.proofs.lemmas.List.Sums.{sum-map, sum_by-append, sum_by-cons}
 use Rattle.std.proofs.lemmas.List.Elements.{All-push, All-weaker}
-use Rattle.aig_base.specs.Formed as formed
 use Rattle.aig_base.specs.Formed.{IsName}
 use Rattle.aig_base.specs.declared.symbols.Kind.{Kind}
 use Rattle.aig_format.specs.declared.header.Counts.{Counts}

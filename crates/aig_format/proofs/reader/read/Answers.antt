@@ -1,6 +1,3 @@
-use Rattle.std.proofs.Common.{rules, ◌≡◌, ◌≢◌, Err}
-use Rattle.aig_base.specs.declared.fault.Fault.TheVariants as faults
-use Rattle.aig_format.specs.Verdict.{IsReading}
 use Rattle.aig_format.proofs.Verdicts.{never_io}
 use Rattle.aig_format.proofs.reader.read.Goals as goal
 

@@ -1,4 +1,4 @@
-use Rattle.std.proofs.Common.{sym, ap, ◌∙◌, arith, rules}
+use Rattle.std.proofs.Common.{sym, ap, ◌∙◌, rules}
 use Rattle.aig_format.specs.Held.{known}
 use Rattle.aig_format.specs.Reading.{next_at}
 use Rattle.aig_format.proofs.Holding.{held_front}

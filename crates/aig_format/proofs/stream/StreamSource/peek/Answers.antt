@@ -1,4 +1,4 @@
-use Rattle.std.proofs.Common.{ℕ, List, Some, sym, ap, ◌∙◌, arith, rules, slice_index_or}
+use Rattle.std.proofs.Common.{ℕ, List, Some, sym, ap, ◌∙◌, rules, slice_index_or}
 use Rattle.aig_format.specs.Held.{known}
 use Rattle.aig_format.specs.Reading.{peek_at}
 use Rattle.aig_format.proofs.Holding.{held_front}
