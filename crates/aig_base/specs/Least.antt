@@ -1,5 +1,5 @@
 -- The least key among those items of a list that are not as they should be.
-use Rattle.std.specs.Prelude.{◌≡◌, ◌⊎◌, ℕ, ◌<◌, min, List, Bool, true, Option, Some, None, All, slice_get}
+use Rattle.std.specs.Prelude.{◌≡◌, ◌⊎◌, ℕ, ◌<◌, min, List, Bool, true, Option, Some, None, All, slice_get, slice_index}
 use Rattle.aig_base.specs.declared.gate.Gate.{Gate}
 use Rattle.aig_base.specs.declared.latch.Latch.{Latch}
 use Rattle.aig_base.specs.declared.definition.Definition.{Definition}
@@ -37,6 +37,12 @@ IsGroundedGate raw g = Grounded raw (variable g.lhs)
 -- the gate reads smaller variables alone
 abbrev pub ReadsSmaller : Gate → Type 0
 ReadsSmaller g = (variable g.rhs0 < variable g.lhs) × (variable g.rhs1 < variable g.lhs)
+
+-- the gate has a greater rank than what it reads
+abbrev pub AscendsBy : List ℕ → Gate → Type 0
+AscendsBy ranks g =
+    (slice_index ranks (variable g.rhs0) < slice_index ranks (variable g.lhs))
+    × (slice_index ranks (variable g.rhs1) < slice_index ranks (variable g.lhs))
 
 abbrev pub gate_variable : Gate → ℕ
 gate_variable g = variable g.lhs

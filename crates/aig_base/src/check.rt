@@ -24,6 +24,7 @@ use crate::least::{least_bad_reset, least_undefined, least_unmarked};
 use crate::list::List;
 use crate::literal::Lit;
 use crate::ordered::{is_ascending, test_ascending};
+use crate::ranks::{all_ascend, ranks};
 use crate::raw::Raw;
 use crate::ready::definitions_in_order;
 use std::alloc::Global;
@@ -108,8 +109,7 @@ fn are_ascending(gates: &[Gate]) -> bool
     gates.iter().all(|gate| reads_smaller(*gate))
 }
 
-// The least gate variable that is not grounded. Where each gate reads smaller variables alone, as in every binary file,
-// there is none.
+// The least gate variable that is not grounded. Where gates have greater ranks than what they read, there is none.
 fn least_ungrounded(alloc: Global, raw: &Raw) -> Result<Option<u32>, Memory>
     requires counts { CountsFit raw.now }
     requires range { AreInRange raw.now }
@@ -118,6 +118,10 @@ fn least_ungrounded(alloc: Global, raw: &Raw) -> Result<Option<u32>, Memory>
 {
     let gates = raw.gates.as_slice();
     if are_ascending(gates) {
+        return Ok(None);
+    }
+    let ranks = ranks(alloc, raw.max_var, gates)?;
+    if all_ascend(&ranks, gates) {
         return Ok(None);
     }
     let marks = grounded_marks(

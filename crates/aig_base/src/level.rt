@@ -37,8 +37,8 @@ impl Model for Levels {
     ghost invariant = { λ a. AreNoVisits (length a.levels.items) a.visits × IsEmptyQueue (length a.levels.items) a.queue };
 }
 
-// The variable of a right side that was not met.
-fn unmet_side(met: &[bool], gate: &Gate) -> Option<u32>
+/// The variable of a right side that was not met.
+pub(crate) fn unmet_side(met: &[bool], gate: &Gate) -> Option<u32>
     requires first { variable gate.now.rhs0 < length met.now }
     requires second { variable gate.now.rhs1 < length met.now }
     ensures side { IfSome result (λ v. (v ≡ variable gate.now.rhs0) ⊎ (v ≡ variable gate.now.rhs1)) }

@@ -29,6 +29,7 @@ mod memory_bytes;
 mod order;
 mod ordered;
 mod queue;
+mod ranks;
 mod raw;
 mod readers;
 mod ready;

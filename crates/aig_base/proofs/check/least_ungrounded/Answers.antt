@@ -1,6 +1,6 @@
 use Rattle.std.proofs.Common.{◌≡◌, ◌+◌, ◌<◌, ◌≤◌, ◌*◌, Bool, List, length, get_or, sym, ap, subst, ◌∙◌, arith, All}
 use Rattle.aig_base.specs.declared.gate.Gate.{Gate}
-use Rattle.aig_base.specs.Least.{IsLeastAmong, IsMarkedGate, IsGroundedGate, ReadsSmaller, gate_variable}
+use Rattle.aig_base.specs.Least.{AscendsBy, IsLeastAmong, IsMarkedGate, IsGroundedGate, ReadsSmaller, gate_variable}
 use Rattle.aig_base.specs.Literal.{variable}
 use Rattle.aig_base.specs.Marks.{HasParts}
 use Rattle.aig_base.proofs.Ascending.{all_grounded}
@@ -19,7 +19,7 @@ least_unmarked-requires c =
 
 pub returns-then-are_ascending : goal.returns-then-are_ascending
 returns-then-are_ascending c =
-    all_grounded c.args.raw.now c.requires.defined
+    all_grounded c.args.raw.now c.requires.defined (λ v. v)
     (subst (λ (gs : List Gate). All ReadsSmaller gs) c.as_slice-gates.ensures
     (c.are_ascending.ensures.0 c.if-are_ascending.true))
 
@@ -32,3 +32,9 @@ returns c =
     let found = subst (λ (gs : List Gate). IsLeastAmong (IsMarkedGate c.as_slice-3.result.now) gate_variable gs r) c.as_slice-gates.ensures c.least_unmarked.ensures in
     let here = subst (λ (ms : List Bool). IsLeastAmong (IsMarkedGate ms) gate_variable raw.gates r) c.as_slice-3.ensures.value found in
     least_same (IsMarkedGate c.in_ok-marks.marks.items) (IsGroundedGate raw) gate_variable raw.gates r (λ g. marks.each (variable g.lhs)) here
+
+pub returns-then-all_ascend : goal.returns-then-all_ascend
+returns-then-all_ascend c =
+    let ranks = c.deref.result.now in
+    all_grounded c.args.raw.now c.requires.defined (λ v. get_or ranks v 0)
+    (subst (λ (gs : List Gate). All (AscendsBy ranks) gs) c.as_slice-gates.ensures (c.all_ascend.ensures c.if-all_ascend.true))

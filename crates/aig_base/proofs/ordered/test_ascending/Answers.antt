@@ -34,4 +34,4 @@ returns-in-None-clause-circuit c =
     let once = defined_once raw c.requires.order range in
     circuit_from_tests raw range once c.requires.formed
     (subst (λ (xs : List Latch). IsLeastAmong IsReset latch_variable xs None) c.as_slice.ensures c.in-None.ensures)
-    (all_grounded raw once.defined c.requires.smaller)
+    (all_grounded raw once.defined (λ v. v) c.requires.smaller)
