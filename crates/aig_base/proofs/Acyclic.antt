@@ -1,6 +1,6 @@
 -- Parts with no fault are acyclic: of each variable it can be told whether it is grounded.
-use Rattle.std.proofs.Common.{◌≡◌, ◌⊎◌, inl, inr, ℕ, zero, suc, ◌+◌, ◌<◌, ◌≤◌, max, List, [], ◌∷◌, length, map, Contains, slice_get, Some, None, Option, refl, sym, ◌∙◌, ap, subst, arith}
-use Rattle.std.proofs.lemmas.Option.{slice_get_within, same_Some}
+use Rattle.std.proofs.Common.{◌≡◌, ◌⊎◌, inl, inr, ℕ, zero, suc, ◌+◌, ◌≤◌, max, List, [], ◌∷◌, slice_get, Some, refl, subst, arith}
+use Rattle.std.proofs.lemmas.Option.{same_Some}
 use Rattle.aig_base.specs.declared.fault.Fault.{Fault}
 use Rattle.aig_base.specs.declared.fault.Fault.TheVariants as fault
 use Rattle.aig_base.specs.declared.gate.Gate.{Gate}

@@ -1,6 +1,5 @@
 -- The values of the renumbered circuit.
-use Rattle.std.proofs.Common.{◌≡◌, ℕ, ◌-◌, ◌/◌, ◌%◌, ◌<◌, List, All, Some, slice_get, option_map, refl, sym, ◌∙◌, ap, subst, arith}
-use Rattle.std.proofs.lemmas.List.Elements.{All-same}
+use Rattle.std.proofs.Common.{◌≡◌, ℕ, ◌-◌, ◌/◌, ◌%◌, ◌<◌, List, All, Some, slice_get, option_map, refl, ◌∙◌, ap, subst, arith}
 use Rattle.std.proofs.lemmas.Option.{slice_get-map}
 use Rattle.std.proofs.lemmas.List.{get_or_default}
 use Rattle.aig_base.specs.declared.gate.Gate.{Gate}
@@ -9,7 +8,7 @@ use Rattle.aig_base.specs.declared.raw.Raw.{Raw}
 use Rattle.aig_base.specs.declared.ternary.Tern.{Tern}
 use Rattle.aig_base.specs.Literal.{variable, negation, IsNegated}
 use Rattle.aig_base.specs.Order.{IsCanonicalOrder}
-use Rattle.aig_base.specs.Renumbered.{ordered_gates, renumbered, renumbered_gate, renumbered_latch, renumbered_literal, evens}
+use Rattle.aig_base.specs.Renumbered.{ordered_gates, renumbered, renumbered_gate, renumbered_latch, renumbered_literal}
 use Rattle.aig_base.specs.Sections.{definitions}
 use Rattle.aig_base.specs.Sound.{IsSound, IsDefinition}
 use Rattle.aig_base.specs.Value as value

@@ -24,22 +24,10 @@ renumbered_variable raw order v = role_variable raw (role raw order v)
 unfoldable pub renumbered_literal : Raw → List ℕ → ℕ → ℕ
 renumbered_literal raw order l = with_sign l (2 * renumbered_variable raw order (variable l))
 
-abbrev pub renumbered_latch : Raw → List ℕ → Latch → Latch
-renumbered_latch raw order x = record {
-  lit = renumbered_literal raw order x.lit;
-  next = renumbered_literal raw order x.next;
-  reset = renumbered_literal raw order x.reset;
-}
-
 -- the gate with these sides, the greater right side first
 abbrev pub ready_gate : ℕ → ℕ → ℕ → Gate
 ready_gate lhs a b =
     if nat_lt a b then record { lhs = lhs; rhs0 = b; rhs1 = a } else record { lhs = lhs; rhs0 = a; rhs1 = b }
-
-abbrev pub renumbered_gate : Raw → List ℕ → Gate → Gate
-renumbered_gate raw order g =
-    ready_gate (renumbered_literal raw order g.lhs) (renumbered_literal raw order g.rhs0)
-    (renumbered_literal raw order g.rhs1)
 
 -- the gate of a variable, if it is one of a gate
 abbrev pub gate_of : Raw → ℕ → Option Gate
@@ -49,20 +37,38 @@ gate_of raw v = find (λ g. variable g.lhs == v) raw.gates
 abbrev pub ordered_gates : Raw → List ℕ → List Gate
 ordered_gates raw order = filter_map (gate_of raw) order
 
-abbrev pub renumbered : Raw → List ℕ → Raw
-renumbered raw order = record {
+-- the latch with other literals in place of its own
+abbrev pub relabelled_latch : (ℕ → ℕ) → Latch → Latch
+relabelled_latch new x = record { lit = new x.lit; next = new x.next; reset = new x.reset }
+
+-- the gate with other literals in place of its own, the greater right side first
+abbrev pub relabelled_gate : (ℕ → ℕ) → Gate → Gate
+relabelled_gate new g = ready_gate (new g.lhs) (new g.rhs0) (new g.rhs1)
+
+-- the circuit with other literals in place of its own, its gates in the canonical order and M as small as can be
+abbrev pub relabelled : (ℕ → ℕ) → Raw → List ℕ → Raw
+relabelled new raw order = record {
   max_var = length raw.inputs + length raw.latches + length raw.gates;
-  inputs = map (renumbered_literal raw order) raw.inputs;
-  latches = map (renumbered_latch raw order) raw.latches;
-  outputs = map (renumbered_literal raw order) raw.outputs;
-  bad = map (renumbered_literal raw order) raw.bad;
-  constraints = map (renumbered_literal raw order) raw.constraints;
-  justice = map (λ p. map (renumbered_literal raw order) p) raw.justice;
-  fairness = map (renumbered_literal raw order) raw.fairness;
-  gates = map (renumbered_gate raw order) (ordered_gates raw order);
+  inputs = map new raw.inputs;
+  latches = map (relabelled_latch new) raw.latches;
+  outputs = map new raw.outputs;
+  bad = map new raw.bad;
+  constraints = map new raw.constraints;
+  justice = map (map new) raw.justice;
+  fairness = map new raw.fairness;
+  gates = map (relabelled_gate new) (ordered_gates raw order);
   symbols = raw.symbols;
   comment = raw.comment;
 }
+
+abbrev pub renumbered_latch : Raw → List ℕ → Latch → Latch
+renumbered_latch raw order = relabelled_latch (renumbered_literal raw order)
+
+abbrev pub renumbered_gate : Raw → List ℕ → Gate → Gate
+renumbered_gate raw order = relabelled_gate (renumbered_literal raw order)
+
+abbrev pub renumbered : Raw → List ℕ → Raw
+renumbered raw order = relabelled (renumbered_literal raw order) raw order
 
 -- the even literals of n variables from a variable on, in order
 abbrev pub evens_from : ℕ → ℕ → List ℕ

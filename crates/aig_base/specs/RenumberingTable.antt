@@ -1,11 +1,11 @@
 -- The table by which a circuit is renumbered: for each variable the one that stands for it.
-use Rattle.std.specs.Prelude.{◌≡◌, ℕ, ◌+◌, ◌*◌, ◌<◌, ◌≤◌, List, length, map, slice_index, All}
+use Rattle.std.specs.Prelude.{◌≡◌, ℕ, ◌+◌, ◌*◌, ◌<◌, ◌≤◌, List, length, slice_index, All}
 use Rattle.aig_base.specs.declared.gate.Gate.{Gate}
 use Rattle.aig_base.specs.declared.latch.Latch.{Latch}
 use Rattle.aig_base.specs.declared.raw.Raw.{Raw}
 use Rattle.aig_base.specs.Formed.{limit}
 use Rattle.aig_base.specs.Literal.{variable, with_sign}
-use Rattle.aig_base.specs.Renumbered.{ready_gate, renumbered_variable, ordered_gates}
+use Rattle.aig_base.specs.Renumbered.{relabelled, relabelled_gate, relabelled_latch, renumbered_variable}
 
 -- the table has the variable that stands for each
 pub record IsRenumbering (raw : Raw) (order : List ℕ) (table : List ℕ) : Type 0 where
@@ -24,18 +24,14 @@ abbrev pub IsLatchListed : List ℕ → Latch → Type 0
 IsLatchListed table x = IsListed table x.lit × IsListed table x.next × IsListed table x.reset
 
 abbrev pub latch_by : List ℕ → Latch → Latch
-latch_by table x = record {
-  lit = literal_by table x.lit;
-  next = literal_by table x.next;
-  reset = literal_by table x.reset;
-}
+latch_by table = relabelled_latch (literal_by table)
 
 abbrev pub IsGateListed : List ℕ → Gate → Type 0
 IsGateListed table g = IsListed table g.lhs × IsListed table g.rhs0 × IsListed table g.rhs1
 
 -- with the greater right side first
 abbrev pub gate_by : List ℕ → Gate → Gate
-gate_by table g = ready_gate (literal_by table g.lhs) (literal_by table g.rhs0) (literal_by table g.rhs1)
+gate_by table = relabelled_gate (literal_by table)
 
 -- the table has an entry for each literal of the circuit, and each entry is within the limit
 pub record AreListed (raw : Raw) (table : List ℕ) : Type 0 where
@@ -51,16 +47,4 @@ pub record AreListed (raw : Raw) (table : List ℕ) : Type 0 where
 
 -- the renumbered circuit, by the table
 abbrev pub renumbered_by : Raw → List ℕ → List ℕ → Raw
-renumbered_by raw order table = record {
-  max_var = length raw.inputs + length raw.latches + length raw.gates;
-  inputs = map (literal_by table) raw.inputs;
-  latches = map (latch_by table) raw.latches;
-  outputs = map (literal_by table) raw.outputs;
-  bad = map (literal_by table) raw.bad;
-  constraints = map (literal_by table) raw.constraints;
-  justice = map (map (literal_by table)) raw.justice;
-  fairness = map (literal_by table) raw.fairness;
-  gates = map (gate_by table) (ordered_gates raw order);
-  symbols = raw.symbols;
-  comment = raw.comment;
-}
+renumbered_by raw order table = relabelled (literal_by table) raw order

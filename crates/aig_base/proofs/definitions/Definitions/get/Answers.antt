@@ -1,4 +1,3 @@
-use Rattle.aig_base.specs.Definitions.{Tells}
 use Rattle.aig_base.proofs.Tables.{defines_from_entry, free_from_entry, entry_at, free_past}
 use Rattle.aig_base.proofs.definitions.Definitions.get.Goals as goal
 
