@@ -5,6 +5,8 @@ use aig_base::{Fault, MemWriter};
 use aig_format::Format;
 use std::test::Fail;
 
+const ONE_GATE: &[u8] = b"aag 3 2 0 1 1\n2\n4\n6\n6 2 4\n";
+
 const TWO_GATES: &[u8] = b"aag 4 2 0 1 2\n2\n4\n8\n8 6 2\n6 2 4\n";
 
 #[test]
@@ -15,11 +17,7 @@ fn files_are_converted(rt: HostRuntime) -> Result<(), Fail> {
             Format::Binary,
             b"aig 0 0 0 0 0\n".as_slice(),
         ),
-        (
-            b"aag 3 2 0 1 1\n2\n4\n6\n6 2 4\n",
-            Format::Binary,
-            b"aig 3 2 0 1 1\n6\n\x02\x02",
-        ),
+        (ONE_GATE, Format::Binary, b"aig 3 2 0 1 1\n6\n\x02\x02"),
         (TWO_GATES, Format::Ascii, TWO_GATES),
         (
             TWO_GATES,
@@ -96,16 +94,16 @@ fn refused_files_write_nothing(rt: HostRuntime) -> Result<(), Fail> {
 }
 
 #[test]
-fn a_full_writer_ends_a_conversion(rt: HostRuntime) -> Result<(), Fail> {
-    let mut out = MemWriter::new(rt.alloc(), 3)?;
-    let done = convert_from(
-        rt.alloc(),
-        &mut ByteByByte::whole(TWO_GATES),
-        Format::Ascii,
-        &mut out,
-    );
-    assert_eq!(rt; done, Err(RunFault::Output));
-    assert_eq!(rt; out.bytes(), b"aag".as_slice());
+fn full_writers_end_a_conversion(rt: HostRuntime) -> Result<(), Fail> {
+    for (to, beginning) in [
+        (Format::Ascii, b"aag".as_slice()),
+        (Format::Binary, b"aig 3 2 0 1 1\n6\n\x02"),
+    ] {
+        let mut out = MemWriter::new(rt.alloc(), beginning.len())?;
+        let done = convert_from(rt.alloc(), &mut ByteByByte::whole(ONE_GATE), to, &mut out);
+        assert_eq!(rt; done, Err(RunFault::Output));
+        assert_eq!(rt; out.bytes(), beginning);
+    }
     Ok(())
 }
 

@@ -63,10 +63,10 @@ fn traces_are_written(rt: HostRuntime) -> Result<(), Fail> {
 
 #[test]
 fn a_failing_read_ends_a_trace(rt: HostRuntime) -> Result<(), Fail> {
-    let mut reader = ByteByByte::cut(b"x0\nx1\n1");
+    let mut reader = ByteByByte::cut(b"11\nx0\n1");
     let (answer, out) = trace(rt.alloc(), ONE_GATE, &mut reader, 100)?;
     assert_eq!(rt; answer, Err(StimFault::Io));
-    assert_eq!(rt; out.bytes(), b" x0 0 \n x1 x \n".as_slice());
+    assert_eq!(rt; out.bytes(), b" 11 1 \n x0 0 \n".as_slice());
     Ok(())
 }
 

@@ -69,3 +69,15 @@ fn refused_circuits_are_not_unrolled(rt: HostRuntime) -> Result<(), Fail> {
     }
     Ok(())
 }
+
+#[test]
+fn full_writers_end_an_unrolling(rt: HostRuntime) -> Result<(), Fail> {
+    let bytes = b"aag 5 3 0 2 2\n2\n4\n6\n6\n8\n8 6 2\n10 8 4\n";
+    for room in 0..bytes.len() {
+        let mut out = MemWriter::new(rt.alloc(), room)?;
+        let done = unroll_bytes(rt.alloc(), FEEDBACK, 2, Format::Ascii, &mut out);
+        assert_eq!(rt; done, Err(RunFault::Output));
+        assert_eq!(rt; out.bytes(), &bytes[..room]);
+    }
+    Ok(())
+}

@@ -56,3 +56,15 @@ fn refused_checks_write_nothing(rt: HostRuntime) -> Result<(), Fail> {
     }
     Ok(())
 }
+
+#[test]
+fn full_writers_end_a_check(rt: HostRuntime) -> Result<(), Fail> {
+    let line = b"confirmed\n";
+    for room in 0..line.len() {
+        let mut out = MemWriter::new(rt.alloc(), room)?;
+        let done = check_bytes(rt.alloc(), CIRCUIT, b"1\nb0\n00\n11\n.\n", &mut out);
+        assert_eq!(rt; done, Err(RunFault::Output));
+        assert_eq!(rt; out.bytes(), &line[..room]);
+    }
+    Ok(())
+}
