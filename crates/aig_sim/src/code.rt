@@ -1,5 +1,5 @@
 //! Values in two bits, for circuits that are simulated row by row.
-ghost use Rattle.std.specs.Prelude.{◌≡◌, ◌≢◌, ◌<◌, ◌↔◌, IsTrue, List, length};
+ghost use Rattle.std.specs.Prelude.{◌≡◌, ◌<◌, IsTrue, List, length};
 ghost use Rattle.aig_base.specs.Literal.{variable};
 ghost use Rattle.aig_base.specs.Ternary.{kleene_and, kleene_not};
 ghost use Rattle.aig_sim.specs.Cells.{literal_value};
@@ -88,13 +88,6 @@ impl Code {
         Code {
             bits: self.bits & other.bits,
         }
-    }
-
-    /// Whether two values are different.
-    pub fn differs(self, other: Code) -> bool
-        ensures { IsTrue result ↔ (self ≢ other) }
-    {
-        self.bits != other.bits
     }
 }
 

@@ -43,6 +43,9 @@ fn first_end(bytes: &[u8]) -> usize
     bytes.len()
 }
 
+/// How many bytes of a stimulus are read at a time.
+const CHUNK: usize = 16384;
+
 /// A simulation between two pieces of the text: the circuit, the line in hand, room for a trace line, and how many frames there were
 /// (`u64::MAX` for more).
 #[derive(Drop)]
@@ -174,7 +177,7 @@ pub fn simulate<R: Read, W: Write>(
     ensures memory { IfErr result (λ fault. fault ≡ StimFault.Memory → (reader.new ≡ reader.old) × (out.new ≡ out.old)) }
 {
     let mut simulation = Simulation::new(alloc, circuit)?;
-    let mut chunk = [0u8; 4096];
+    let mut chunk = [0u8; CHUNK];
     loop {
         out.flush()?;
         let size = reader.read(&mut chunk)?;

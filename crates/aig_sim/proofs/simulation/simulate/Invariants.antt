@@ -4,7 +4,7 @@ use Rattle.aig_sim.proofs.simulation.simulate.Given as goal
 
 abbrev pub invariant-loop-simulation : goal.invariant-loop-simulation
 invariant-loop-simulation g l = record {
-  size : length l.chunk ≡ 4096;
+  size : length l.chunk ≡ 16384;
   room : HasRoom l.simulation;
   so_far : ReadSoFar l.circuit (g.R.Read.left l.initial.reader) (g.R.Read.left l.reader)
       (g.R.Read.failures l.initial.reader) (g.R.Read.failures l.reader)
