@@ -33,7 +33,6 @@ pub mod NoOtherValue
 pub mod OneLevel
 pub mod OneOrder
 pub mod OneValue
-pub mod OnlyMemory
 pub mod Outputs
 pub mod Passes
 pub mod Places
