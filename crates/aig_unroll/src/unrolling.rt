@@ -1,6 +1,5 @@
 //! Unrolling.
 ghost use Rattle.std.specs.Prelude.{◌≡◌, ◌≤◌, IfOk, IfErr, OnOk};
-ghost use Rattle.aig_base.specs.Circuit.{IsCircuit};
 ghost use Rattle.aig_base.specs.Formed.{limit};
 ghost use Rattle.aig_base.specs.Levels.{AreLevels};
 ghost use Rattle.aig_base.specs.Order.{IsCanonicalOrder};
@@ -13,7 +12,7 @@ use crate::fault::UnrollFault;
 use crate::limits::{fits_limits, has_liveness};
 use crate::plan::Plan;
 use crate::sections::{Sections, unrolled_sections};
-use aig_base::{Circuit, Fault, Levels, List, Lit, Memory, Raw, Symbols, canonical_order};
+use aig_base::{Circuit, Levels, List, Lit, Memory, Raw, Symbols, canonical_order};
 use std::alloc::Global;
 
 // The literals of the variables 1 to this one.
@@ -61,20 +60,6 @@ fn unrolled_parts(
     })
 }
 
-// The circuit of parts that are known to be one: no other fault than a want of memory is left.
-fn check_circuit(alloc: Global, parts: Raw) -> Result<Circuit, Memory>
-    requires { IsCircuit parts }
-    ensures { IfOk result (λ circuit. circuit ≡ parts) }
-{
-    match Circuit::check(alloc, parts) {
-        Ok(circuit) => Ok(circuit),
-        Err(fault) => {
-            prove!(matches!(fault, Fault::Memory));
-            Err(Memory)
-        }
-    }
-}
-
 // The circuit unrolled for this many frames, which is within the limits.
 fn unrolled_circuit(
     alloc: Global,
@@ -91,7 +76,7 @@ fn unrolled_circuit(
     let _max_var = circuit.max_var();
     let order = canonical_order(alloc, circuit, levels)?;
     let parts = unrolled_parts(alloc, circuit, &order, frames)?;
-    check_circuit(alloc, parts)
+    Ok(Circuit::of_ready(parts))
 }
 
 // The first fault that stands in the way of unrolling.

@@ -1,23 +1,23 @@
-use Rattle.std.proofs.Common.{◌≡◌, ◌∙◌, Result, Ok, Err, IfOk}
-use Rattle.aig_base.specs.Renumbered.{IsBinaryReady}
+use Rattle.std.proofs.Common.{◌∙◌}
 use Rattle.aig_unroll.proofs.UnrolledCircuit.{unrolled_circuit}
 use Rattle.aig_unroll.proofs.UnrolledReady.{unrolled_ready}
 use Rattle.aig_unroll.proofs.unrolling.unrolled_circuit.Goals as goal
 
-if_ok : {T E : Type 0} (P Q : T → Type 0) (r : Result T E) → ((x : T) → P x → Q x) → IfOk r P → IfOk r Q
-if_ok P Q (Ok x) h p = h x p
-if_ok P Q (Err e) h p = tt
-
-pub check_circuit-requires : goal.check_circuit-requires
-check_circuit-requires c =
+pub of_ready-requires-clause-circuit : goal.of_ready-requires-clause-circuit
+of_ready-requires-clause-circuit c =
     let is = rw c.deref.ensures.value at c.in_ok-parts.ensures in
     rw is (unrolled_circuit c.args.circuit.now c.max_var-max_var.ensures.circuit c.in_ok-order.order.items
     c.in_ok-order.ensures c.args.frames c.requires.fits)
 
+pub of_ready-requires-clause-ready : goal.of_ready-requires-clause-ready
+of_ready-requires-clause-ready c =
+    let is = rw c.deref.ensures.value at c.in_ok-parts.ensures in
+    rw is (unrolled_ready c.args.circuit.now c.max_var-max_var.ensures.circuit c.in_ok-order.order.items
+    c.in_ok-order.ensures c.args.frames)
+
 pub returns-clause-ready : goal.returns-clause-ready
 returns-clause-ready c =
     let is = rw c.deref.ensures.value at c.in_ok-parts.ensures in
-    let ready = unrolled_ready c.args.circuit.now c.max_var-max_var.ensures.circuit c.in_ok-order.order.items
-    c.in_ok-order.ensures c.args.frames in
-    if_ok (λ new. new ≡ c.in_ok-parts.parts) IsBinaryReady c.check_circuit.result (λ new e. let f = e ∙ is in rw f ready)
-    c.check_circuit.ensures
+    let e = c.of_ready.ensures ∙ is in
+    rw e (unrolled_ready c.args.circuit.now c.max_var-max_var.ensures.circuit c.in_ok-order.order.items
+    c.in_ok-order.ensures c.args.frames)
