@@ -1,5 +1,6 @@
 -- Parts with no fault are acyclic: of each variable it can be told whether it is grounded.
-use Rattle.std.proofs.Common.{◌≡◌, ◌⊎◌, inl, inr, ℕ, zero, suc, ◌+◌, ◌≤◌, max, List, [], ◌∷◌, slice_get, Some, refl, subst, arith}
+use Rattle.std.proofs.Common.{◌≡◌, ◌⊎◌, inl, inr, ℕ, zero, suc, ◌+◌, ◌≤◌, max, List, [], ◌∷◌, slice_get, Some, refl}
+use Rattle.std.proofs.Common.{subst, arith}
 use Rattle.std.proofs.lemmas.Option.{same_Some}
 use Rattle.aig_base.specs.declared.fault.Fault.{Fault}
 use Rattle.aig_base.specs.declared.fault.Fault.TheVariants as fault
@@ -38,13 +39,15 @@ any {A = A} P Q cases (y ∷ ys) = elim (cases y) [
 module _ (raw : Raw) where
   source_cases : (v : ℕ) → IsSource raw v ⊎ (IsSource raw v → ⊥)
   source_cases zero = inl by.IsSource.constant
-  source_cases (suc u) = elim (any (λ l. variable l ≡ suc u) (λ l. variable l ≡ suc u → ⊥) (λ l. same (variable l) (suc u)) raw.inputs) [
-    | inl (p, l, at, e) ↦ inl (subst (IsSource raw) e (by.IsSource.input p l at))
-    | inr no_input ↦ elim (any (λ (x : Latch). variable x.lit ≡ suc u) (λ x. variable x.lit ≡ suc u → ⊥) (λ x. same (variable x.lit) (suc u)) raw.latches) [
-      | inl (p, x, at, e) ↦ inl (subst (IsSource raw) e (by.IsSource.latch p x at))
-      | inr no_latch ↦ inr (λ s. neither (suc u) s refl no_input no_latch)
-    ]
-  ]
+  source_cases (suc u) = elim (any (λ l. variable l ≡ suc u) (λ l. variable l ≡ suc u
+      → ⊥) (λ l. same (variable l) (suc u)) raw.inputs) [
+        | inl (p, l, at, e) ↦ inl (subst (IsSource raw) e (by.IsSource.input p l at))
+        | inr no_input ↦ elim (any (λ (x : Latch). variable x.lit ≡ suc u) (λ x. variable x.lit ≡ suc u
+            → ⊥) (λ x. same (variable x.lit) (suc u)) raw.latches) [
+              | inl (p, x, at, e) ↦ inl (subst (IsSource raw) e (by.IsSource.latch p x at))
+              | inr no_latch ↦ inr (λ s. neither (suc u) s refl no_input no_latch)
+            ]
+      ]
     where
       neither : (v : ℕ) → IsSource raw v → v ≡ suc u
           → ((p l : ℕ) → slice_get raw.inputs p ≡ Some l → variable l ≡ suc u → ⊥)
@@ -63,7 +66,8 @@ module _ (raw : Raw) where
 
   -- a gate that gives the variable no level over this one and 0
   abbrev Fails : ℕ → ℕ → Gate → Type 0
-  Fails n v g = variable g.lhs ≡ v → (a b : ℕ) → a ≤ n → b ≤ n → Level raw (variable g.rhs0) a → Level raw (variable g.rhs1) b → ⊥
+  Fails n v g = variable g.lhs ≡ v → (a b : ℕ) → a ≤ n → b ≤ n → Level raw (variable g.rhs0) a
+      → Level raw (variable g.rhs1) b → ⊥
 
   -- what a level over 0 rests on
   above : {v m : ℕ} → Level raw v m → (IsSource raw v → ⊥)

@@ -1,5 +1,6 @@
 -- One more gate keeps a circuit a circuit.
-use Rattle.std.proofs.Common.{◌≡◌, ◌⊎◌, inl, inr, ℕ, ◌+◌, ◌*◌, ◌<◌, ◌≤◌, List, [], ◌∷◌, ◌++◌, length, map, get_or, Option, Some, None, slice_get, All, Contains, refl, sym, ap, subst, ◌∙◌, arith}
+use Rattle.std.proofs.Common.{◌≡◌, ◌⊎◌, inl, inr, ℕ, ◌+◌, ◌*◌, ◌<◌, ◌≤◌, List, [], ◌∷◌, ◌++◌, length, map, get_or}
+use Rattle.std.proofs.Common.{Option, Some, None, slice_get, All, Contains, refl, sym, ap, subst, ◌∙◌, arith}
 use Rattle.std.proofs.lemmas.List.{append_assoc, length_push, map-append}
 use Rattle.std.proofs.lemmas.List.Elements.{All-push, All-weaker, Contains-append_left, Contains-push_cases}
 use Rattle.std.proofs.lemmas.Option.{slice_get_within}
@@ -40,7 +41,8 @@ module _ (raw : Raw) (r0 r1 : ℕ) where
 
   more_variables : map variable (definitions (with_appended_gate raw r0 r1))
       ≡ map variable (definitions raw) ++ variable (2 * (raw.max_var + 1)) ∷ []
-  more_variables = ap (map variable) more_definitions ∙ map-append variable (definitions raw) (2 * (raw.max_var + 1) ∷ [])
+  more_variables = ap (map variable) more_definitions ∙ map-append variable (definitions raw) (2 *
+      (raw.max_var + 1) ∷ [])
 
   pub new_variable : variable (2 * (raw.max_var + 1)) ≡ raw.max_var + 1
   new_variable = omega arith
@@ -61,7 +63,8 @@ module _ (raw : Raw) (r0 r1 : ℕ) where
   source_old v (grounded.latch p x at) = grounded.latch p x at
 
   -- the gates that were there, and the new one
-  pub old_at : (q : ℕ) (g : Gate) → slice_get raw.gates q ≡ Some g → slice_get (with_appended_gate raw r0 r1).gates q ≡ Some g
+  pub old_at : (q : ℕ) (g : Gate) → slice_get raw.gates q ≡ Some g → slice_get (with_appended_gate raw r0 r1).gates q
+      ≡ Some g
   old_at q g at = slice_get_left raw.gates (next_gate raw r0 r1 ∷ []) q g at
 
   pub new_at : slice_get (with_appended_gate raw r0 r1).gates (length raw.gates) ≡ Some (next_gate raw r0 r1)
@@ -105,10 +108,12 @@ module _ (raw : Raw) (r0 r1 : ℕ) where
   all_wider xs h = All-weaker (IsInRange raw) (IsInRange (with_appended_gate raw r0 r1)) wider xs h
 
   in_range : IsSound raw → IsDefined raw (variable r0) → IsDefined raw (variable r1)
-      → All (IsInRange (with_appended_gate raw r0 r1)) (definitions (with_appended_gate raw r0 r1) ++ uses (with_appended_gate raw r0 r1))
+      → All (IsInRange (with_appended_gate raw r0 r1)) (definitions (with_appended_gate raw r0 r1)
+      ++ uses (with_appended_gate raw r0 r1))
   in_range s d0 d1 =
       let h = in_range_parted raw s.in_range in
-      let P : Gate → Type 0 = λ g. IsInRange (with_appended_gate raw r0 r1) g.lhs × IsInRange (with_appended_gate raw r0 r1) g.rhs0
+      let P : Gate → Type 0 = λ g. IsInRange (with_appended_gate raw r0 r1) g.lhs
+      × IsInRange (with_appended_gate raw r0 r1) g.rhs0
       × IsInRange (with_appended_gate raw r0 r1) g.rhs1 in
       in_range_joined (with_appended_gate raw r0 r1) (record {
         inputs = all_wider raw.inputs h.inputs;
@@ -118,7 +123,8 @@ module _ (raw : Raw) (r0 r1 : ℕ) where
         constraints = all_wider raw.constraints h.constraints;
         justice = λ k d l. all_wider _ (h.justice k d l);
         fairness = all_wider raw.fairness h.fairness;
-        gates = All-push P raw.gates (next_gate raw r0 r1) (λ k d l. let g = h.gates k d l in (wider _ g.0, wider _ g.1, wider _ g.2))
+        gates = All-push P raw.gates (next_gate raw r0 r1) (λ k d l. let g = h.gates k d l in
+            (wider _ g.0, wider _ g.1, wider _ g.2))
             (omega arith, wider r0 (in_range_from_defined raw r0 s d0), wider r1 (in_range_from_defined raw r1 s d1));
       })
 
@@ -127,10 +133,12 @@ module _ (raw : Raw) (r0 r1 : ℕ) where
   low s k v at =
       let (l, here, e) = slice_get_unmap variable (definitions raw) k v at in
       let r : IsInRange raw l =
-      All-at (IsInRange raw) (definitions raw) k l (All-left (IsInRange raw) (definitions raw) (uses raw) s.in_range) here in
+      All-at (IsInRange raw) (definitions raw) k l (All-left (IsInRange raw) (definitions raw)
+      (uses raw) s.in_range) here in
       omega arith
 
-  once : IsSound raw → (v : ℕ) → StandsTwice (map variable (definitions raw) ++ variable (2 * (raw.max_var + 1)) ∷ []) v → ⊥
+  once : IsSound raw → (v : ℕ) → StandsTwice (map variable (definitions raw) ++ variable (2 * (raw.max_var + 1)) ∷ []) v
+      → ⊥
   once s v (i, j, lt, a, b) =
       let vs = map variable (definitions raw) in
       elim (slice_get_push vs (variable (2 * (raw.max_var + 1))) v j b) [
@@ -144,7 +152,8 @@ module _ (raw : Raw) (r0 r1 : ℕ) where
         ])
       ]
 
-  pub more_sound : IsSound raw → IsDefined raw (variable r0) → IsDefined raw (variable r1) → IsSound (with_appended_gate raw r0 r1)
+  pub more_sound : IsSound raw → IsDefined raw (variable r0) → IsDefined raw (variable r1)
+      → IsSound (with_appended_gate raw r0 r1)
   more_sound s d0 d1 =
       let P : ℕ → Type 0 = λ l. IsDefined (with_appended_gate raw r0 r1) (variable l) in
       let u = uses_parted raw P (λ k d l. still_defined _ (s.defined k d l)) in
@@ -155,13 +164,15 @@ module _ (raw : Raw) (r0 r1 : ℕ) where
             (All-push IsDefinition (definitions raw) (2 * (raw.max_var + 1)) s.definitions new);
         once = λ v twice. once s v (subst (λ vs. StandsTwice vs v) more_variables twice);
         defined = uses_joined (with_appended_gate raw r0 r1) P u.0 u.1 u.2 u.3 u.4 u.5
-            (All-push (λ g. P g.rhs0 × P g.rhs1) raw.gates (next_gate raw r0 r1) u.6 (still_defined _ d0, still_defined _ d1));
+            (All-push (λ g. P g.rhs0 × P g.rhs1) raw.gates (next_gate raw r0 r1) u.6
+            (still_defined _ d0, still_defined _ d1));
         resets = s.resets;
       }
 
   still_grounded : (v : ℕ) → Grounded raw v → Grounded (with_appended_gate raw r0 r1) v
   still_grounded v (grounded.source _ s) = grounded.source v (source_new v s)
-  still_grounded v (grounded.gate q g at a b) = grounded.gate q g (old_at q g at) (still_grounded _ a) (still_grounded _ b)
+  still_grounded v (grounded.gate q g at a b) = grounded.gate q g (old_at q g at) (still_grounded _ a)
+      (still_grounded _ b)
 
   new_grounded : IsAcyclic raw → IsDefined raw (variable r0) → IsDefined raw (variable r1)
       → Grounded (with_appended_gate raw r0 r1) (variable (2 * (raw.max_var + 1)))
@@ -170,31 +181,40 @@ module _ (raw : Raw) (r0 r1 : ℕ) where
       (still_grounded (variable r0) (Grounded-of_defined raw acyclic (variable r0) d0))
       (still_grounded (variable r1) (Grounded-of_defined raw acyclic (variable r1) d1))
 
-  more_acyclic : IsAcyclic raw → IsDefined raw (variable r0) → IsDefined raw (variable r1) → IsAcyclic (with_appended_gate raw r0 r1)
+  more_acyclic : IsAcyclic raw → IsDefined raw (variable r0) → IsDefined raw (variable r1)
+      → IsAcyclic (with_appended_gate raw r0 r1)
   more_acyclic acyclic d0 d1 v h =
       let (g, q, at, is) = gate_of (with_appended_gate raw r0 r1) v h in
       subst (Grounded (with_appended_gate raw r0 r1)) is (elim (gate_cases q g at) [
         | inl here ↦ still_grounded (variable g.lhs) (acyclic (variable g.lhs) (IsGate-of_gate raw q g here))
-        | inr e ↦ subst (λ (x : Gate). Grounded (with_appended_gate raw r0 r1) (variable x.lhs)) e.1 (new_grounded acyclic d0 d1)
+        | inr e ↦ subst (λ (x : Gate). Grounded (with_appended_gate raw r0 r1) (variable x.lhs)) e.1
+            (new_grounded acyclic d0 d1)
       ])
 
   pub more_circuit : IsCircuit raw → raw.max_var < limit → IsDefined raw (variable r0) → IsDefined raw (variable r1)
       → IsCircuit (with_appended_gate raw r0 r1)
   more_circuit c below d0 d1 =
-      record { formed = formed c.sound below c.formed; sound = more_sound c.sound d0 d1; acyclic = more_acyclic c.acyclic d0 d1 }
+      record {
+        formed = formed c.sound below c.formed;
+        sound = more_sound c.sound d0 d1;
+        acyclic = more_acyclic
+            c.acyclic d0 d1;
+      }
 
   pub more_table : (table : List (Option Definition)) → IsTable raw table
       → IsTable (with_appended_gate raw r0 r1) (table ++ Some (definition.Gate (length raw.gates)) ∷ [])
   more_table table t = record {
     size = omega (arith, length_push table (Some (definition.Gate (length raw.gates))), t.size);
     entries = λ v entry at. elim (slice_get_push table (Some (definition.Gate (length raw.gates))) entry v at) [
-      | inl here ↦ old v entry (let lt = slice_get_within table v entry here in omega (arith, t.size)) (t.entries v entry here)
+      | inl here ↦ old v entry (let lt = slice_get_within table v entry here in omega (arith, t.size))
+          (t.entries v entry here)
       | inr e ↦ subst (IsEntry (with_appended_gate raw r0 r1) v) e.1
           (next_gate raw r0 r1, new_at, (let is = new_variable in let size = t.size in let at = e.0 in omega arith))
     ];
   }
     where
-      old : (v : ℕ) (entry : Option Definition) → v ≤ raw.max_var → IsEntry raw v entry → IsEntry (with_appended_gate raw r0 r1) v entry
+      old : (v : ℕ) (entry : Option Definition) → v ≤ raw.max_var → IsEntry raw v entry
+          → IsEntry (with_appended_gate raw r0 r1) v entry
       old v None le free = λ has.
           elim (Contains-push_cases (map variable (definitions raw)) (variable (2 * (raw.max_var + 1))) v
           (subst (λ vs. Contains vs v) more_variables has)) [

@@ -1,5 +1,6 @@
 -- The levels of a circuit with one more gate.
-use Rattle.std.proofs.Common.{◌≡◌, inl, inr, ℕ, ◌+◌, ◌<◌, ◌≤◌, ◌^◌, max, List, [], ◌∷◌, ◌++◌, length, get_or, Some, slice_get, sym, ap, subst, ◌∙◌, arith}
+use Rattle.std.proofs.Common.{◌≡◌, inl, inr, ℕ, ◌+◌, ◌<◌, ◌≤◌, ◌^◌, max, List, [], ◌∷◌, ◌++◌, length, get_or, Some}
+use Rattle.std.proofs.Common.{slice_get, sym, ap, subst, ◌∙◌, arith}
 use Rattle.std.proofs.lemmas.List.{length_push}
 use Rattle.std.proofs.lemmas.Option.{get_or_from_slice_get, same_Some}
 use Rattle.aig_base.specs.declared.gate.Gate.{Gate}
@@ -20,7 +21,8 @@ use Rattle.aig_base.proofs.Gets.{slice_get_left, slice_get_last}
 use Rattle.aig_base.proofs.LevelBound.{level_bound}
 use Rattle.aig_base.proofs.OneLevel.{level_of}
 
-module _ (raw : Raw) (r0 r1 : ℕ) (c : IsCircuit raw) (d0 : IsDefined raw (variable r0)) (d1 : IsDefined raw (variable r1))
+module _ (raw : Raw) (r0 r1 : ℕ) (c : IsCircuit raw) (d0 : IsDefined raw (variable r0)) (d1 : IsDefined raw
+    (variable r1))
     (levels : List ℕ) (are : AreLevels raw levels) where
   abbrev above : ℕ
   above = level_above levels (next_gate raw r0 r1)
@@ -55,9 +57,11 @@ module _ (raw : Raw) (r0 r1 : ℕ) (c : IsCircuit raw) (d0 : IsDefined raw (vari
       let at1 = level_at l1 in
       elim (gate_cases raw r0 r1 q g at) [
         | inl here ↦
-            (let level = by.Level.gate q g a b here (same_at (variable g.rhs0) a (rhs0_defined raw c.sound q g here) at0)
+            (let level = by.Level.gate q g a b here (same_at (variable g.rhs0) a
+            (rhs0_defined raw c.sound q g here) at0)
             (same_at (variable g.rhs1) b (rhs1_defined raw c.sound q g here) at1) in
-            slice_get_left levels (above ∷ []) (variable g.lhs) (max a b + 1) (are.each (variable g.lhs) (max a b + 1) level))
+            slice_get_left levels (above ∷ []) (variable g.lhs) (max a b + 1) (are.each (variable g.lhs)
+            (max a b + 1) level))
         | inr e ↦
             (let e0 : slice_get (levels ++ above ∷ []) (variable r0) ≡ Some a =
             subst (λ (x : Gate). slice_get (levels ++ above ∷ []) (variable x.rhs0) ≡ Some a) (sym e.1) at0 in

@@ -1,5 +1,6 @@
 -- Where each gate has a greater rank than what it reads, and all that is used is defined, all gates are grounded.
-use Rattle.std.proofs.Common.{◌≡◌, inl, inr, ℕ, zero, suc, ◌<◌, Some, slice_get, get_or, Contains, All, ap, subst, arith}
+use Rattle.std.proofs.Common.{◌≡◌, inl, inr, ℕ, zero, suc, ◌<◌, Some, slice_get, get_or, Contains, All, ap, subst}
+use Rattle.std.proofs.Common.{arith}
 use Rattle.std.proofs.lemmas.Option.{slice_get-get_or}
 use Rattle.std.proofs.lemmas.List.Elements.{All-contains}
 use Rattle.aig_base.specs.declared.gate.Gate.{Gate}
@@ -15,13 +16,15 @@ use Rattle.aig_base.proofs.Gates.{gate_of}
 use Rattle.aig_base.proofs.Positions.{Contains-from_slice_get}
 
 module _ (raw : Raw) (defined : All (λ l. IsDefined raw (variable l)) (uses raw)) (rank : ℕ → ℕ)
-    (over : All (λ g. (rank (variable g.rhs0) < rank (variable g.lhs)) × (rank (variable g.rhs1) < rank (variable g.lhs))) raw.gates) where
+    (over : All (λ g. (rank (variable g.rhs0) < rank (variable g.lhs)) × (rank (variable g.rhs1) < rank
+    (variable g.lhs))) raw.gates) where
   IsOver : Gate → Type 0
   IsOver g = (rank (variable g.rhs0) < rank (variable g.lhs)) × (rank (variable g.rhs1) < rank (variable g.lhs))
 
   side_defined : (q : ℕ) (g : Gate) (l : ℕ) → slice_get raw.gates q ≡ Some g → Contains (sides raw g) l
       → IsDefined raw (variable l)
-  side_defined q g l at k = All-contains (λ l. IsDefined raw (variable l)) (uses raw) l defined (gate_uses raw q g l at k)
+  side_defined q g l at k = All-contains (λ l. IsDefined raw (variable l)) (uses raw) l defined
+      (gate_uses raw q g l at k)
 
   is_over : (q : ℕ) (g : Gate) → slice_get raw.gates q ≡ Some g
       → (rank (variable g.rhs0) < rank (variable g.lhs)) × (rank (variable g.rhs1) < rank (variable g.lhs))
@@ -37,8 +40,10 @@ module _ (raw : Raw) (defined : All (λ l. IsDefined raw (variable l)) (uses raw
         let (less0, less1) = is_over q g at in
         let e : rank (variable g.lhs) ≡ rank v = ap rank is in
         subst (Grounded raw) is (grounded.gate q g at
-        (grounded_below n (variable g.rhs0) (omega (arith, less0, e, lt)) (side_defined q g g.rhs0 at (rhs0_stands raw g)))
-        (grounded_below n (variable g.rhs1) (omega (arith, less1, e, lt)) (side_defined q g g.rhs1 at (rhs1_stands raw g))))
+        (grounded_below n (variable g.rhs0) (omega (arith, less0, e, lt)) (side_defined q g g.rhs0 at
+        (rhs0_stands raw g)))
+        (grounded_below n (variable g.rhs1) (omega (arith, less1, e, lt)) (side_defined q g g.rhs1 at
+        (rhs1_stands raw g))))
   ]
 
   pub all_grounded : All (IsGroundedGate raw) raw.gates

@@ -1,5 +1,7 @@
--- A gate's new right sides close a cycle exactly where one is behind the gate, and what is behind it has greater levels.
-use Rattle.std.proofs.Common.{◌≡◌, ◌≢◌, ◌⊎◌, ◌↔◌, inl, inr, ℕ, ◌+◌, ◌<◌, ◌≤◌, max, Some, slice_get, refl, sym, ◌∙◌, ap, subst, arith}
+-- A gate's new right sides close a cycle exactly where one is behind the gate, and what is behind it has greater
+-- levels.
+use Rattle.std.proofs.Common.{◌≡◌, ◌≢◌, ◌⊎◌, ◌↔◌, inl, inr, ℕ, ◌+◌, ◌<◌, ◌≤◌, max, Some, slice_get, refl, sym, ◌∙◌, ap}
+use Rattle.std.proofs.Common.{subst, arith}
 use Rattle.std.proofs.lemmas.Bool.{cases_eq}
 use Rattle.aig_base.specs.declared.gate.Gate.{Gate}
 use Rattle.aig_base.specs.declared.raw.Raw.{Raw}
@@ -35,13 +37,15 @@ module _ (raw : Raw) (sound : IsSound raw) (lhs r0 r1 : ℕ) (is_gate : IsLeftSi
       let left : (rewired lhs r0 r1 g).lhs ≡ lhs = is in
       let gate : IsGate (with_gate raw lhs r0 r1) (variable lhs) =
       subst (λ l. IsGate (with_gate raw lhs r0 r1) (variable l)) left
-      (IsGate-of_gate (with_gate raw lhs r0 r1) q (rewired lhs r0 r1 g) (gate_new raw sound lhs r0 r1 is_gate q g at)) in
+      (IsGate-of_gate (with_gate raw lhs r0 r1) q (rewired lhs r0 r1 g)
+      (gate_new raw sound lhs r0 r1 is_gate q g at)) in
       let ways : Path raw (variable lhs) (variable r0) ⊎ Path raw (variable lhs) (variable r1) =
       elim ends [ inl b ↦ inl (path_of b) | inr b ↦ inr (path_of b) ] in
       no_path raw sound lhs r0 r1 is_gate ways (acyclic (variable lhs) gate) Path.stop
 
   -- what is not behind the gate stays grounded, and keeps its level
-  pub grounded_before : {v : ℕ} → Grounded raw v → (IsBehind raw (variable lhs) v → ⊥) → Grounded (with_gate raw lhs r0 r1) v
+  pub grounded_before : {v : ℕ} → Grounded raw v → (IsBehind raw (variable lhs) v → ⊥)
+      → Grounded (with_gate raw lhs r0 r1) v
   grounded_before (by.Grounded.source v s) never = by.Grounded.source v (source_new raw sound lhs r0 r1 is_gate v s)
   grounded_before (by.Grounded.gate q g at g0 g1) never =
       by.Grounded.gate q g
@@ -49,7 +53,8 @@ module _ (raw : Raw) (sound : IsSound raw) (lhs r0 r1 : ℕ) (is_gate : IsLeftSi
       (grounded_before g0 (λ b. never (IsBehind.reader q g (variable g.rhs0) at (inl refl) b)))
       (grounded_before g1 (λ b. never (IsBehind.reader q g (variable g.rhs1) at (inr refl) b)))
 
-  pub level_before : {v n : ℕ} → Level raw v n → (IsBehind raw (variable lhs) v → ⊥) → Level (with_gate raw lhs r0 r1) v n
+  pub level_before : {v n : ℕ} → Level raw v n → (IsBehind raw (variable lhs) v → ⊥)
+      → Level (with_gate raw lhs r0 r1) v n
   level_before (by.Level.source v s) never = by.Level.source v (source_new raw sound lhs r0 r1 is_gate v s)
   level_before (by.Level.gate q g a b at la lb) never =
       by.Level.gate q g a b
@@ -58,7 +63,8 @@ module _ (raw : Raw) (sound : IsSound raw) (lhs r0 r1 : ℕ) (is_gate : IsLeftSi
       (level_before lb (λ b. never (IsBehind.reader q g (variable g.rhs1) at (inr refl) b)))
 
   module _ (acyclic : IsAcyclic raw) (d0 : IsDefined raw (variable r0)) (d1 : IsDefined raw (variable r1))
-      (never0 : IsBehind raw (variable lhs) (variable r0) → ⊥) (never1 : IsBehind raw (variable lhs) (variable r1) → ⊥) where
+      (never0 : IsBehind raw (variable lhs) (variable r0) → ⊥) (never1 : IsBehind raw (variable lhs) (variable r1)
+      → ⊥) where
     new_gate_at : (q : ℕ) (g : Gate) → slice_get raw.gates q ≡ Some g → g.lhs ≡ lhs
         → slice_get (with_gate raw lhs r0 r1).gates q ≡ Some (record { lhs = g.lhs; rhs0 = r0; rhs1 = r1 })
     new_gate_at q g at is = gate_new raw sound lhs r0 r1 is_gate q g at ∙ ap Some (rewired_same lhs r0 r1 g is)
@@ -84,7 +90,8 @@ module _ (raw : Raw) (sound : IsSound raw) (lhs r0 r1 : ℕ) (is_gate : IsLeftSi
     still_grounded (by.Grounded.source v s) = by.Grounded.source v (source_new raw sound lhs r0 r1 is_gate v s)
     still_grounded (by.Grounded.gate q g at g0 g1) = elim (cases_eq (variable g.lhs) (variable lhs)) [
       | inl e ↦ rw e changed_gate
-      | inr ne ↦ by.Grounded.gate q g (kept raw sound lhs r0 r1 is_gate q g at ne) (still_grounded g0) (still_grounded g1)
+      | inr ne ↦ by.Grounded.gate q g (kept raw sound lhs r0 r1 is_gate q g at ne) (still_grounded g0)
+          (still_grounded g1)
     ]
 
     -- where no new side is behind the gate there is no cycle
@@ -93,13 +100,15 @@ module _ (raw : Raw) (sound : IsSound raw) (lhs r0 r1 : ℕ) (is_gate : IsLeftSi
         let (g, q, at, is) = gate_of (with_gate raw lhs r0 r1) v h in
         let (k, here, same) = gate_old raw sound lhs r0 r1 is_gate q g at in
         let e : variable k.lhs ≡ v = ap (λ (w : Gate). variable w.lhs) same ∙ is in
-        subst (Grounded (with_gate raw lhs r0 r1)) e (still_grounded (acyclic (variable k.lhs) (IsGate-of_gate raw q k here)))
+        subst (Grounded (with_gate raw lhs r0 r1)) e (still_grounded (acyclic (variable k.lhs)
+        (IsGate-of_gate raw q k here)))
 
 -- what a variable behind t is
 pub Opens : Raw → ℕ → ℕ → Type 0
 Opens raw t v =
     (v ≡ t)
-    ⊎ ((q : ℕ) × (g : Gate) × (u : ℕ) × (slice_get raw.gates q ≡ Some g) × IsSide g u × (variable g.lhs ≡ v) × IsBehind raw t u)
+    ⊎ ((q : ℕ) × (g : Gate) × (u : ℕ) × (slice_get raw.gates q ≡ Some g) × IsSide g u × (variable g.lhs ≡ v)
+    × IsBehind raw t u)
 
 pub opens : {raw : Raw} {t v : ℕ} → IsBehind raw t v → Opens raw t v
 unfolding Opens
@@ -107,7 +116,8 @@ opens IsBehind.self = inl refl
 opens (IsBehind.reader q g u at side b) = inr (q, g, u, at, side, refl, b)
 
 -- a side of a gate has a level, below the gate's
-pub side_level : {raw : Raw} {v n : ℕ} → IsSound raw → Level raw v n → (q : ℕ) (g : Gate) (u : ℕ) → slice_get raw.gates q ≡ Some g
+pub side_level : {raw : Raw} {v n : ℕ} → IsSound raw → Level raw v n → (q : ℕ) (g : Gate) (u : ℕ)
+    → slice_get raw.gates q ≡ Some g
     → IsSide g u → variable g.lhs ≡ v → (m : ℕ) × Level raw u m × (m < n)
 side_level {raw} sound (by.Level.source v s) q g u at side is = absurd (source-gate raw sound v q g at s (sym is))
 side_level {raw} sound (by.Level.gate k h a b here la lb) q g u at side is =
@@ -130,7 +140,8 @@ behind_over {raw} {t} sound m n lt lv (IsBehind.reader q g u at side b) =
     ]
 
 -- where the search up has ended, neither x nor y is behind t
-module _ (raw : Raw) (sound : IsSound raw) (t x y bound : ℕ) (met waits : ℕ → Type 0) (s : IsSearchUp raw t x y bound met waits)
+module _ (raw : Raw) (sound : IsSound raw) (t x y bound : ℕ) (met waits : ℕ → Type 0)
+    (s : IsSearchUp raw t x y bound met waits)
     (none : (v : ℕ) → waits v → ⊥) where
   met_below : {v n : ℕ} → IsBehind raw t v → Level raw v n → n < bound → met v
   met_below IsBehind.self l lt = s.start
@@ -157,9 +168,11 @@ module _ (raw : Raw) (sound : IsSound raw) (t x y bound : ℕ) (met waits : ℕ 
   ]
 
 -- one step: the readers of u were looked at
-pub search_stepped : (raw : Raw) (t x y bound u : ℕ) (met waits met' waits' : ℕ → Type 0) → IsSearchUp raw t x y bound met waits
+pub search_stepped : (raw : Raw) (t x y bound u : ℕ) (met waits met' waits' : ℕ → Type 0)
+    → IsSearchUp raw t x y bound met waits
     → ((v : ℕ) → met v → met' v)
-    → ((v : ℕ) → met' v → met v ⊎ ((q : ℕ) × (g : Gate) × (slice_get raw.gates q ≡ Some g) × IsSide g u × (variable g.lhs ≡ v) × waits' v))
+    → ((v : ℕ) → met' v → met v ⊎ ((q : ℕ) × (g : Gate) × (slice_get raw.gates q ≡ Some g) × IsSide g u
+    × (variable g.lhs ≡ v) × waits' v))
     → met u → ((v : ℕ) → waits v → (v ≡ u) ⊎ waits' v)
     → ((q : ℕ) (g : Gate) → slice_get raw.gates q ≡ Some g → IsSide g u
     → (variable g.lhs ≢ x) × (variable g.lhs ≢ y)
@@ -186,7 +199,8 @@ search_stepped raw t x y bound u met waits met' waits' s keeps new met_u left lo
 }
 
 -- before the search only t was met, and it waits
-pub search_begun : (raw : Raw) (t x y bound : ℕ) (met waits : ℕ → Type 0) → ((v : ℕ) → met v ↔ (v ≡ t)) → ((v : ℕ) → met v → waits v)
+pub search_begun : (raw : Raw) (t x y bound : ℕ) (met waits : ℕ → Type 0) → ((v : ℕ) → met v ↔ (v ≡ t)) → ((v : ℕ)
+    → met v → waits v)
     → IsSearchUp raw t x y bound met waits
 search_begun raw t x y bound met waits is pending = record {
   start = (is t).1 refl_t;

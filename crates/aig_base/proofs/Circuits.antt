@@ -1,5 +1,6 @@
 -- What is known of a circuit's variables.
-use Rattle.std.proofs.Common.{◌≡◌, ℕ, zero, suc, ◌≤◌, List, [], ◌∷◌, ◌++◌, map, flat_map, Some, slice_get, Contains, refl, sym, ap, ◌∙◌, subst, arith, option_map}
+use Rattle.std.proofs.Common.{◌≡◌, ℕ, zero, suc, ◌≤◌, List, [], ◌∷◌, ◌++◌, map, flat_map, Some, slice_get, Contains}
+use Rattle.std.proofs.Common.{refl, sym, ap, ◌∙◌, subst, arith, option_map}
 use Rattle.std.proofs.lemmas.Option.{slice_get-map}
 use Rattle.std.proofs.lemmas.List.Elements.{All-contains, Contains-append_left as left, Contains-append_right as right}
 use Rattle.aig_base.specs.declared.gate.Gate.{Gate}

@@ -1,5 +1,6 @@
 -- How many entries lists without repetition have.
-use Rattle.std.proofs.Common.{◌≡◌, ℕ, ◌+◌, ◌-◌, ◌<◌, ◌≤◌, List, [], ◌∷◌, ◌++◌, inl, inr, suc, length, map, get_or, eqb, false, Some, slice_get, All, Contains, refl, sym, ap, ◌∙◌, arith, subst, length-append}
+use Rattle.std.proofs.Common.{◌≡◌, ℕ, ◌+◌, ◌-◌, ◌<◌, ◌≤◌, List, [], ◌∷◌, ◌++◌, inl, inr, suc, length, map, get_or, eqb}
+use Rattle.std.proofs.Common.{false, Some, slice_get, All, Contains, refl, sym, ap, ◌∙◌, arith, subst, length-append}
 use Rattle.std.specs.List.{IsDistinct, range_with_len}
 use Rattle.std.specs.Set.{is_member}
 use Rattle.std.proofs.lemmas.Bool.{cases_Bool, cases_eq, false≢true}
@@ -156,4 +157,5 @@ module _ (raw : Raw) (defs : All IsDefinition (definitions raw)) (range : All (I
 -- a circuit defines no more variables than there are
 pub sections_fit : (raw : Raw) → IsSound raw → length raw.inputs + length raw.latches + length raw.gates ≤ raw.max_var
 sections_fit raw sound =
-    definitions_fit raw sound.definitions (All-left (IsInRange raw) (definitions raw) (uses raw) sound.in_range) sound.once
+    definitions_fit raw sound.definitions (All-left (IsInRange raw) (definitions raw)
+    (uses raw) sound.in_range) sound.once

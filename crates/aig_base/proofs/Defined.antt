@@ -1,5 +1,6 @@
 -- What is defined is a source or a gate.
-use Rattle.std.proofs.Common.{◌≡◌, ◌⊎◌, inl, inr, ℕ, List, ◌*◌, ◌++◌, map, Some, slice_get, Contains, ◌∙◌, ap, subst, arith, option_map}
+use Rattle.std.proofs.Common.{◌≡◌, ◌⊎◌, inl, inr, ℕ, List, ◌*◌, ◌++◌, map, Some, slice_get, Contains, ◌∙◌, ap, subst}
+use Rattle.std.proofs.Common.{arith, option_map}
 use Rattle.std.proofs.lemmas.Option.{slice_get-map}
 use Rattle.std.proofs.lemmas.List.Elements.{Contains-append_cases}
 use Rattle.aig_base.specs.declared.gate.Gate.{Gate}

@@ -1,5 +1,7 @@
 -- Gates against what else is defined, and against each other.
-use Rattle.std.proofs.Common.{◌≡◌, ◌↔◌, None, IfSome, IfNone, IsTrue, is_some, inl, inr, ℕ, zero, suc, [], ◌∷◌, flat_map, All, ◌++◌, ◌≤◌, List, map, Option, Some, slice_get, Contains, refl, sym, ◌∙◌, ap, subst, arith, option_map}
+use Rattle.std.proofs.Common.{◌≡◌, ◌↔◌, None, IfSome, IfNone, IsTrue, is_some, inl, inr, ℕ, zero, suc, [], ◌∷◌}
+use Rattle.std.proofs.Common.{flat_map, All, ◌++◌, ◌≤◌, List, map, Option, Some, slice_get, Contains, refl, sym, ◌∙◌}
+use Rattle.std.proofs.Common.{ap, subst, arith, option_map}
 use Rattle.std.proofs.lemmas.Bool.{false≢true}
 use Rattle.std.proofs.lemmas.Option.{slice_get-map, same_Some, none-some}
 use Rattle.std.proofs.lemmas.List.Elements.{All-contains, Contains-append_left, Contains-append_right}

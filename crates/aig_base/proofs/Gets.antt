@@ -1,5 +1,6 @@
 -- The element at a position of joined lists.
-use Rattle.std.proofs.Common.{◌≡◌, ◌≢◌, ℕ, zero, suc, ◌+◌, ◌<◌, ◌⊎◌, inl, inr, List, [], ◌∷◌, ◌++◌, length, get_or, set, Some, refl, sym, ap, subst, ◌∙◌, arith, slice_get, Contains, All}
+use Rattle.std.proofs.Common.{◌≡◌, ◌≢◌, ℕ, zero, suc, ◌+◌, ◌<◌, ◌⊎◌, inl, inr, List, [], ◌∷◌, ◌++◌, length, get_or, set}
+use Rattle.std.proofs.Common.{Some, refl, sym, ap, subst, ◌∙◌, arith, slice_get, Contains, All}
 use Rattle.std.proofs.lemmas.Option.{slice_get-get_or, slice_get_within, get_or_from_slice_get, none-some, same_Some}
 
 module _ {X : Type 0} where
@@ -20,7 +21,11 @@ module _ {X : Type 0} where
   slice_get_push [] y x zero h = inr (refl, same_Some y x h)
   slice_get_push [] y x (suc k) h = absurd (none-some x h)
   slice_get_push (z ∷ xs) y x zero h = inl h
-  slice_get_push (z ∷ xs) y x (suc k) h = elim (slice_get_push xs y x k h) [ inl a ↦ inl a | inr b ↦ inr (ap suc b.0, b.1) ]
+  slice_get_push (z ∷ xs) y x (suc k) h = elim (slice_get_push xs y x k h) [
+    | inl a ↦ inl a
+    | inr b ↦ inr
+        (ap suc b.0, b.1)
+  ]
 
   pub slice_get_last : (xs : List X) (y : X) → slice_get (xs ++ y ∷ []) (length xs) ≡ Some y
   slice_get_last [] y = refl

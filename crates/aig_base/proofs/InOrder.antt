@@ -1,5 +1,6 @@
 -- Parts whose definitions are in order the literals 2, 4, .., 2M.
-use Rattle.std.proofs.Common.{◌≡◌, ℕ, zero, suc, ◌+◌, ◌*◌, ◌<◌, ◌≤◌, List, length, map, get_or, All, Contains, Some, slice_get, refl, sym, ◌∙◌, ap, arith}
+use Rattle.std.proofs.Common.{◌≡◌, ℕ, zero, suc, ◌+◌, ◌*◌, ◌<◌, ◌≤◌, List, length, map, get_or, All, Contains, Some}
+use Rattle.std.proofs.Common.{slice_get, refl, sym, ◌∙◌, ap, arith}
 use Rattle.std.proofs.lemmas.List.{length-map, get_or-map}
 use Rattle.std.proofs.lemmas.List.Elements.{All-weaker}
 use Rattle.std.proofs.lemmas.Option.{slice_get-get_or, slice_get_within, get_or_from_slice_get}
@@ -76,7 +77,8 @@ module _ (raw : Raw) (order : IsInOrder raw) where
   defined_once range = record {
     definitions_are = evens_are (definitions raw) raw.max_var order;
     once = once_only;
-    defined = All-weaker (IsInRange raw) (λ l. IsDefined raw (variable l)) (λ l r. defined_to (variable l) (omega arith))
+    defined = All-weaker (IsInRange raw) (λ l. IsDefined raw (variable l)) (λ l r. defined_to (variable l)
+        (omega arith))
         (uses raw) (All-right (IsInRange raw) (definitions raw) (uses raw) (in_range_joined raw range));
   }
 
@@ -84,14 +86,19 @@ module _ (raw : Raw) (order : IsInOrder raw) where
   size_is = (apart raw order).size
 
   pub input_defines : (v p : ℕ) → p < length raw.inputs → v ≡ 1 + p → Defines raw v (definition.Input p)
-  input_defines v p lt is =
-      (2 * (1 + p), even_at raw.inputs 1 (length raw.inputs) p (apart raw order).inputs_are lt, half_of (1 + p) ∙ sym is)
+  input_defines v p lt is = (
+    2 * (1 + p),
+    even_at raw.inputs 1 (length raw.inputs) p (apart raw order).inputs_are lt,
+    half_of (1 + p)
+        ∙ sym is,
+  )
 
   pub latch_defines : (v p : ℕ) → p < length raw.latches → v ≡ 1 + length raw.inputs + p
       → Defines raw v (definition.Latch p)
   latch_defines v p lt is =
       let lit : Latch → ℕ = λ x. x.lit in
-      let at = even_at (map lit raw.latches) (1 + length raw.inputs) (length raw.latches) p (apart raw order).latches_are lt in
+      let at = even_at (map lit raw.latches) (1 + length raw.inputs) (length raw.latches) p
+      (apart raw order).latches_are lt in
       let (x, here, same) = slice_get_unmap lit raw.latches p (2 * (1 + length raw.inputs + p)) at in
       (x, here, ap variable same ∙ half_of (1 + length raw.inputs + p) ∙ sym is)
 

@@ -1,5 +1,6 @@
 -- The least key of the items that are not good: of joined lists, one item on, and of a whole list.
-use Rattle.std.proofs.Common.{◌≡◌, ◌↔◌, ℕ, ◌+◌, ◌<◌, ◌≤◌, ◌⊎◌, inl, inr, min, List, [], ◌∷◌, ◌++◌, length, get_or, take, map, Option, Some, None, refl, sym, ap, subst, ◌∙◌, arith}
+use Rattle.std.proofs.Common.{◌≡◌, ◌↔◌, ℕ, ◌+◌, ◌<◌, ◌≤◌, ◌⊎◌, inl, inr, min, List, [], ◌∷◌, ◌++◌, length, get_or, take}
+use Rattle.std.proofs.Common.{map, Option, Some, None, refl, sym, ap, subst, ◌∙◌, arith}
 use Rattle.std.specs.List.{flat_map}
 use Rattle.std.proofs.lemmas.List.{take_more, map_more, append-nil}
 use Rattle.std.proofs.lemmas.List.Elements.{All-append, All-nil, All-cons}
@@ -41,8 +42,11 @@ module _ {X : Type 0} (Good : X → Type 0) (key : X → ℕ) where
   good_one x good = All-cons Good x [] good (All-nil Good)
 
   pub bad_one : (x : X) (v : ℕ) → v ≡ key x → (Good x → ⊥) → IsLeastAmong Good key (x ∷ []) (Some v)
-  bad_one x v e bad =
-      ((0, x, refl, sym e, bad), All-cons (λ y. key y < v → Good y) x [] (λ l. absurd (omega arith)) (All-nil (λ y. key y < v → Good y)))
+  bad_one x v e bad = (
+    (0, x, refl, sym e, bad),
+    All-cons (λ y. key y < v → Good y) x [] (λ l. absurd (omega arith)) (All-nil
+        (λ y. key y < v → Good y)),
+  )
 
   -- no item
   pub least_none : IsLeastAmong Good key [] None
@@ -50,25 +54,30 @@ module _ {X : Type 0} (Good : X → Type 0) (key : X → ℕ) where
 
   -- one item on in a loop over the list, over what it maps to, and over the pieces that it gives
   pub least_more : (xs : List X) (i : ℕ) (x : X) (a b : Option ℕ) → i < length xs → x ≡ get_or xs i x
-      → IsLeastAmong Good key (take i xs) a → IsLeastAmong Good key (x ∷ []) b → IsLeastAmong Good key (take (i + 1) xs) (lesser a b)
+      → IsLeastAmong Good key (take i xs) a → IsLeastAmong Good key (x ∷ []) b → IsLeastAmong Good key (take (i + 1) xs)
+      (lesser a b)
   least_more xs i x a b l is p q =
       let e : take (i + 1) xs ≡ take i xs ++ x ∷ [] = take_more xs i x l ∙ ap (λ y. take i xs ++ y ∷ []) (sym is) in
       subst (λ ys. IsLeastAmong Good key ys (lesser a b)) (sym e) (least_of_both (take i xs) (x ∷ []) a b p q)
 
-  pub least_more_mapped : {Y : Type 0} (f : Y → X) (ys : List Y) (i : ℕ) (y : Y) (a b : Option ℕ) → i < length ys → y ≡ get_or ys i y
+  pub least_more_mapped : {Y : Type 0} (f : Y → X) (ys : List Y) (i : ℕ) (y : Y) (a b : Option ℕ) → i < length ys → y
+      ≡ get_or ys i y
       → IsLeastAmong Good key (map f (take i ys)) a → IsLeastAmong Good key (f y ∷ []) b
       → IsLeastAmong Good key (map f (take (i + 1) ys)) (lesser a b)
   least_more_mapped f ys i y a b l is p q =
-      let e : map f (take (i + 1) ys) ≡ map f (take i ys) ++ f y ∷ [] = map_more f ys i y l ∙ ap (λ z. map f (take i ys) ++ f z ∷ []) (sym is) in
+      let e : map f (take (i + 1) ys) ≡ map f (take i ys) ++ f y ∷ [] = map_more f ys i y l ∙ ap (λ z. map f (take i ys)
+      ++ f z ∷ []) (sym is) in
       subst (λ zs. IsLeastAmong Good key zs (lesser a b)) (sym e) (least_of_both (map f (take i ys)) (f y ∷ []) a b p q)
 
-  pub least_more_pieces : {Y : Type 0} (f : Y → List X) (ys : List Y) (i : ℕ) (y : Y) (a b : Option ℕ) → i < length ys → y ≡ get_or ys i y
+  pub least_more_pieces : {Y : Type 0} (f : Y → List X) (ys : List Y) (i : ℕ) (y : Y) (a b : Option ℕ) → i < length ys
+      → y ≡ get_or ys i y
       → IsLeastAmong Good key (flat_map f (take i ys)) a → IsLeastAmong Good key (f y) b
       → IsLeastAmong Good key (flat_map f (take (i + 1) ys)) (lesser a b)
   least_more_pieces {Y} f ys i y a b l is p q =
       let t : take (i + 1) ys ≡ take i ys ++ y ∷ [] = take_more ys i y l ∙ ap (λ z. take i ys ++ z ∷ []) (sym is) in
       let e : flat_map f (take (i + 1) ys) ≡ flat_map f (take i ys) ++ f y =
-      ap (flat_map f) t ∙ flat_map-append f (take i ys) (y ∷ []) ∙ ap (λ zs. flat_map f (take i ys) ++ zs) (append-nil (f y)) in
+      ap (flat_map f) t ∙ flat_map-append f (take i ys) (y ∷ []) ∙ ap (λ zs. flat_map f (take i ys)
+      ++ zs) (append-nil (f y)) in
       subst (λ zs. IsLeastAmong Good key zs (lesser a b)) (sym e) (least_of_both (flat_map f (take i ys)) (f y) a b p q)
 
   -- a good item changes nothing
@@ -79,16 +88,19 @@ module _ {X : Type 0} (Good : X → Type 0) (key : X → ℕ) where
   pub least_kept : (xs : List X) (i : ℕ) (x : X) (a : Option ℕ) → i < length xs → x ≡ get_or xs i x
       → IsLeastAmong Good key (take i xs) a → Good x → IsLeastAmong Good key (take (i + 1) xs) a
   least_kept xs i x a l is p good =
-      subst (λ b. IsLeastAmong Good key (take (i + 1) xs) b) (lesser-None a) (least_more xs i x a None l is p (good_one x good))
+      subst (λ b. IsLeastAmong Good key (take (i + 1) xs) b) (lesser-None a) (least_more xs i x a None l is p
+      (good_one x good))
 
-  pub least_joined : (xs ys zs : List X) (a b r : Option ℕ) → zs ≡ ys → r ≡ lesser a b → IsLeastAmong Good key xs a → IsLeastAmong Good key zs b
+  pub least_joined : (xs ys zs : List X) (a b r : Option ℕ) → zs ≡ ys → r ≡ lesser a b → IsLeastAmong Good key xs a
+      → IsLeastAmong Good key zs b
       → IsLeastAmong Good key (xs ++ ys) r
   least_joined xs ys zs a b r e f p q =
       subst (λ o. IsLeastAmong Good key (xs ++ ys) o) (sym f)
       (least_of_both xs ys a b p (subst (λ l. IsLeastAmong Good key l b) e q))
 
 -- two words for good
-pub least_same : {X : Type 0} (Good Fine : X → Type 0) (key : X → ℕ) (xs : List X) (r : Option ℕ) → ((x : X) → Good x ↔ Fine x)
+pub least_same : {X : Type 0} (Good Fine : X → Type 0) (key : X → ℕ) (xs : List X) (r : Option ℕ) → ((x : X)
+    → Good x ↔ Fine x)
     → IsLeastAmong Good key xs r → IsLeastAmong Fine key xs r
 least_same Good Fine key xs None same h = λ k d l. (same _).0 (h k d l)
 least_same Good Fine key xs (Some v) same h =

@@ -1,5 +1,6 @@
 -- A level is at most the greatest variable.
-use Rattle.std.proofs.Common.{◌≡◌, ◌⊎◌, inl, inr, ℕ, zero, suc, ◌+◌, ◌<◌, ◌≤◌, max, List, [], ◌∷◌, length, Contains, refl, sym, ◌∙◌, subst, arith}
+use Rattle.std.proofs.Common.{◌≡◌, ◌⊎◌, inl, inr, ℕ, zero, suc, ◌+◌, ◌<◌, ◌≤◌, max, List, [], ◌∷◌, length, Contains}
+use Rattle.std.proofs.Common.{refl, sym, ◌∙◌, subst, arith}
 use Rattle.std.specs.List.{range_with_len}
 use Rattle.std.proofs.lemmas.List.FromFn.{length-range_with_len, get_or-range_with_len}
 use Rattle.std.proofs.lemmas.Option.{same_Some}
@@ -25,7 +26,8 @@ once_cons v xs never once x (suc i, suc j, lt, a, b) = once x (i, j, omega arith
 
 once_one : (v x : ℕ) → StandsTwice (v ∷ []) x → ⊥
 once_one v x (i, j, lt, a, b) =
-    once_cons v [] (no_element v) (λ y w. (let (k, l, less, c, d) = w in no_element y (Contains-from_get [] k y c))) x (i, j, lt, a, b)
+    once_cons v [] (no_element v) (λ y w. (let (k, l, less, c, d) = w in no_element y (Contains-from_get [] k y c))) x
+    (i, j, lt, a, b)
 
 -- variables of all levels down from this one
 record Descent (raw : Raw) (n : ℕ) : Type 0 where

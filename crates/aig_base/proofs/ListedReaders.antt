@@ -1,5 +1,6 @@
 -- The list of a variable's readers, and the gates that read it.
-use Rattle.std.proofs.Common.{◌≡◌, inl, inr, ℕ, ◌<◌, ◌≤◌, List, Some, slice_get, length, All, Contains, refl, sym, get_or, arith}
+use Rattle.std.proofs.Common.{◌≡◌, inl, inr, ℕ, ◌<◌, ◌≤◌, List, Some, slice_get, length, All, Contains, refl, sym}
+use Rattle.std.proofs.Common.{get_or, arith}
 use Rattle.std.proofs.lemmas.List.Elements.{Contains-get_or}
 use Rattle.aig_base.specs.declared.gate.Gate.{Gate}
 use Rattle.aig_base.specs.declared.raw.Raw.{Raw}
@@ -12,7 +13,8 @@ use Rattle.aig_base.proofs.Gates.{IsGate-of_gate, gate_in_range}
 
 module _ (raw : Raw) (r : ReaderLists) (are : AreReaders raw r) (w : ℕ) (le : w ≤ raw.max_var) where
   -- a gate that reads w stands in the list of w
-  pub listed : (q : ℕ) (g : Gate) → slice_get raw.gates q ≡ Some g → IsSide g w → Contains (list_of r w) (variable g.lhs)
+  pub listed : (q : ℕ) (g : Gate) → slice_get raw.gates q ≡ Some g → IsSide g w → Contains (list_of r w)
+      (variable g.lhs)
   listed q g at side =
       (are.each w (variable g.lhs) le).1 (q, g, at, refl, elim side [ inl e ↦ inl (sym e) | inr e ↦ inr (sym e) ])
 

@@ -1,10 +1,14 @@
 -- The search for the grounded variables: one more mark, one more gate, one more variable whose readers are visited.
-use Rattle.std.proofs.Common.{◌≡◌, ℕ, zero, suc, ◌+◌, ◌*◌, ◌/◌, ◌<◌, ◌⊎◌, inl, inr, List, [], ◌∷◌, ◌++◌, length, set, map, get_or, Bool, true, false, not, cond, Some, option_map, refl, sym, ap, subst, ◌∙◌, arith, slice_get, Contains, Result, Ok, Err, OnOk}
+use Rattle.std.proofs.Common.{◌≡◌, ℕ, zero, suc, ◌+◌, ◌*◌, ◌/◌, ◌<◌, ◌⊎◌, inl, inr, List, [], ◌∷◌, ◌++◌, length, set}
+use Rattle.std.proofs.Common.{map, get_or, Bool, true, false, not, cond, Some, option_map, refl, sym, ap, subst, ◌∙◌}
+use Rattle.std.proofs.Common.{arith, slice_get, Contains, Result, Ok, Err, OnOk}
 use Rattle.std.proofs.lemmas.List.{length-set, length_push, set-get_or}
 use Rattle.std.proofs.lemmas.Bool.{cases_Bool}
-use Rattle.std.proofs.lemmas.List.Elements.{Contains-push, Contains-push_cases, Contains-append_left, Contains-append_right, Contains-append_cases, All-contains}
+use Rattle.std.proofs.lemmas.List.Elements.{Contains-push, Contains-push_cases, Contains-append_left}
+use Rattle.std.proofs.lemmas.List.Elements.{Contains-append_right, Contains-append_cases, All-contains}
 use Rattle.std.proofs.lemmas.List.Sums.{sum_by-set}
-use Rattle.std.proofs.lemmas.Option.{slice_get-get_or, slice_get_within, same_Some, get_or_from_slice_get, slice_get-map, none-some}
+use Rattle.std.proofs.lemmas.Option.{slice_get-get_or, slice_get_within, same_Some, get_or_from_slice_get}
+use Rattle.std.proofs.lemmas.Option.{slice_get-map, none-some}
 use Rattle.aig_base.specs.declared.gate.Gate.{Gate}
 use Rattle.aig_base.specs.declared.raw.Raw.{Raw}
 use Rattle.aig_base.specs.Grounded as grounded
@@ -16,7 +20,8 @@ use Rattle.aig_base.specs.Marks.{IsMarked, AreMarks, sides, AreStarted, AddsMark
 use Rattle.aig_base.specs.Walk.{Meets}
 use Rattle.aig_base.proofs.Chains.{leads_cases, leads_nowhere, side_first, side_second}
 use Rattle.aig_base.proofs.Entering.{same_or_not}
-use Rattle.aig_base.proofs.Gets.{slice_get-set_same, slice_get-set_other, Contains-from_get, get_from_Contains, All-by_get, same_element}
+use Rattle.aig_base.proofs.Gets.{slice_get-set_same, slice_get-set_other, Contains-from_get, get_from_Contains}
+use Rattle.aig_base.proofs.Gets.{All-by_get, same_element}
 
 module _ (v : ℕ) (marks : List Bool) (pending : List ℕ) where
   -- a variable that was not marked
@@ -32,7 +37,8 @@ module _ (v : ℕ) (marks : List Bool) (pending : List ℕ) where
         steps = omega (arith, length_push pending v, sums, one);
         marked = slice_get-set_same marks v true within;
         kept = λ u h. elim (same_or_not u v) [
-          | inl e ↦ subst (λ w. slice_get (set marks v true) w ≡ Some true) (sym e) (slice_get-set_same marks v true within)
+          | inl e ↦ subst (λ w. slice_get (set marks v true) w ≡ Some true) (sym e)
+              (slice_get-set_same marks v true within)
           | inr ne ↦ slice_get-set_other marks v u true ne ∙ h
         ];
         new = λ u h. elim (same_or_not u v) [
@@ -71,7 +77,8 @@ met_is_marked v marks marks' pending pending' lt m = elim (cases_Bool (get_or ma
 ]
 
 pub mark_meets : {T E : Type 0} (v : ℕ) (marks marks' : List Bool) (pending pending' : List ℕ) (r : Result T E)
-    → v < length marks → OnOk r (Meets v marks marks' pending pending') → OnOk r (AddsMark v marks pending marks' pending')
+    → v < length marks → OnOk r (Meets v marks marks' pending pending') → OnOk r
+    (AddsMark v marks pending marks' pending')
 mark_meets v marks marks' pending pending' (Ok x) lt m = met_is_marked v marks marks' pending pending' lt m
 mark_meets v marks marks' pending pending' (Err e) lt m = tt
 
@@ -81,14 +88,17 @@ module _ {v : ℕ} {marks : List Bool} {pending : List ℕ} {marks' : List Bool}
     size = a.size;
     steps = a.steps;
     kept = a.kept;
-    below = λ h. All-by_get (λ u. u < length marks') pending' (λ k u at. elim (a.new_waiting u (Contains-from_get pending' k u at)) [
-      | inl old ↦ let l : u < length marks = All-contains (λ w. w < length marks) pending u h old in omega (arith, a.size)
-      | inr e ↦ let l : v < length marks' = slice_get_within marks' v true a.marked in omega arith
-    ]);
+    below = λ h. All-by_get (λ u. u < length marks') pending' (λ k u at. elim (a.new_waiting u
+        (Contains-from_get pending' k u at)) [
+          | inl old ↦ let l : u < length marks = All-contains (λ w. w < length marks) pending u h old in
+              omega (arith, a.size)
+          | inr e ↦ let l : v < length marks' = slice_get_within marks' v true a.marked in omega arith
+        ]);
   }
 
   -- the marked variables are one more
-  pub started_more : (done : List ℕ) → AreStarted done marks pending → AddsMark v marks pending marks' pending' → AreStarted (done ++ v ∷ []) marks' pending'
+  pub started_more : (done : List ℕ) → AreStarted done marks pending → AddsMark v marks pending marks' pending'
+      → AreStarted (done ++ v ∷ []) marks' pending'
   started_more done s a = record {
     each = λ u. (
       λ h. elim (a.new u h) [
@@ -121,7 +131,8 @@ moves_then f g = record {
   below = λ h. g.below (f.below h);
 }
 
-module _ (raw : Raw) (next : List ℕ) (p link : ℕ) (gate : Gate) (at : slice_get raw.gates (p / 2) ≡ Some gate) (on : slice_get next p ≡ Some link) where
+module _ (raw : Raw) (next : List ℕ) (p link : ℕ) (gate : Gate) (at : slice_get raw.gates (p / 2)
+    ≡ Some gate) (on : slice_get next p ≡ Some link) where
   -- a gate that waits at position p is this one, or waits further on
   wait_on : (q : ℕ) (g : Gate) → slice_get raw.gates q ≡ Some g → Waits next (suc p) q → (gate ≡ g) ⊎ Waits next link q
   wait_on q g is (o, l, e) = elim (leads_cases next l p refl) [
@@ -132,7 +143,8 @@ module _ (raw : Raw) (next : List ℕ) (p link : ℕ) (gate : Gate) (at : slice_
   ]
 
   -- a gate with a side that is not marked
-  pub visit_none : (marks : List Bool) (pending : List ℕ) → (IsMarked marks (variable gate.rhs0) → IsMarked marks (variable gate.rhs1) → ⊥)
+  pub visit_none : (marks : List Bool) (pending : List ℕ) → (IsMarked marks (variable gate.rhs0)
+      → IsMarked marks (variable gate.rhs1) → ⊥)
       → IsMarking raw next (suc p) marks pending → IsMarking raw next link marks pending
   visit_none marks pending unmarked i = record {
     grounded = i.grounded;
@@ -144,7 +156,8 @@ module _ (raw : Raw) (next : List ℕ) (p link : ℕ) (gate : Gate) (at : slice_
         | inr s ↦ elim s [
           | inl h ↦ inr (inr (inl h))
           | inr w ↦ elim (wait_on q g is w) [
-            | inl same ↦ absurd (unmarked (subst (λ (x : Gate). IsMarked marks (variable x.rhs0)) (sym same) a) (subst (λ (x : Gate). IsMarked marks (variable x.rhs1)) (sym same) b))
+            | inl same ↦ absurd (unmarked (subst (λ (x : Gate). IsMarked marks (variable x.rhs0)) (sym same) a) (subst
+                (λ (x : Gate). IsMarked marks (variable x.rhs1)) (sym same) b))
             | inr later ↦ inr (inr (inr later))
           ]
         ]
@@ -160,7 +173,8 @@ module _ (raw : Raw) (next : List ℕ) (p link : ℕ) (gate : Gate) (at : slice_
   visit_both marks pending marks' pending' m0 m1 d i = record {
     grounded = λ u h. elim (d.new u h) [
       | inl old ↦ i.grounded u old
-      | inr new ↦ subst (λ w. Grounded raw w) (sym new.0) (grounded.gate (p / 2) gate at (i.grounded _ m0) (i.grounded _ m1))
+      | inr new ↦ subst (λ w. Grounded raw w) (sym new.0) (grounded.gate (p / 2) gate at (i.grounded _ m0)
+          (i.grounded _ m1))
     ];
     marked = λ u h. elim (d.new_waiting u h) [
       | inl old ↦ d.kept u (i.marked u old)
@@ -188,7 +202,8 @@ module _ (raw : Raw) (next : List ℕ) (p link : ℕ) (gate : Gate) (at : slice_
   }
 
 -- a variable is taken, and its readers wait at its first link
-pub take_pending : (raw : Raw) (gates : List Gate) (first next : List ℕ) (v link : ℕ) (marks : List Bool) (pending rest : List ℕ)
+pub take_pending : (raw : Raw) (gates : List Gate) (first next : List ℕ) (v link : ℕ) (marks : List Bool)
+    (pending rest : List ℕ)
     → AreLinks (sides gates) first next → raw.gates ≡ gates → slice_get first v ≡ Some link → pending ≡ rest ++ v ∷ []
     → IsMarking raw next 0 marks pending → IsMarking raw next link marks rest
 take_pending raw gates first next v link marks pending rest links same at is i =
@@ -204,12 +219,22 @@ take_pending raw gates first next v link marks pending rest links same at is i =
             | inr r ↦ elim r [
               | inl h ↦ elim (back _ h) [
                 | inl h' ↦ inr (inl h')
-                | inr e ↦ inr (inr (inr (2 * q, links.found (2 * q) _ link (side_first gates q g on') (here _ e), omega arith)))
+                | inr e ↦ inr (inr (inr (
+                  2 * q,
+                  links.found (2 * q) _ link (side_first gates q g on')
+                      (here _ e),
+                  omega arith,
+                )))
               ]
               | inr s ↦ elim s [
                 | inl h ↦ elim (back _ h) [
                   | inl h' ↦ inr (inr (inl h'))
-                  | inr e ↦ inr (inr (inr (2 * q + 1, links.found (2 * q + 1) _ link (side_second gates q g on') (here _ e), omega arith)))
+                  | inr e ↦ inr (inr (inr (
+                    2 * q + 1,
+                    links.found (2 * q + 1) _ link (side_second gates q g on')
+                        (here _ e),
+                    omega arith,
+                  )))
                 ]
                 | inr w ↦ absurd (leads_nowhere next w.1 refl)
               ]
@@ -222,7 +247,8 @@ pub marked_from_grounded : (raw : Raw) (next : List ℕ) (marks : List Bool) →
     → ((v : ℕ) → IsSource raw v → IsMarked marks v) → (v : ℕ) → Grounded raw v → IsMarked marks v
 marked_from_grounded raw next marks i sources v (grounded.source _ s) = sources v s
 marked_from_grounded raw next marks i sources v (grounded.gate q g at a b) =
-    elim (i.closed q g at (marked_from_grounded raw next marks i sources _ a) (marked_from_grounded raw next marks i sources _ b)) [
+    elim (i.closed q g at (marked_from_grounded raw next marks i sources _ a)
+    (marked_from_grounded raw next marks i sources _ b)) [
       | inl h ↦ h
       | inr r ↦ elim r [
         | inl h ↦ absurd (omega (arith, h.1))
@@ -234,7 +260,8 @@ marked_from_grounded raw next marks i sources v (grounded.gate q g at a b) =
 abbrev pub source_variables : Raw → List ℕ
 source_variables raw = 0 ∷ map variable raw.inputs ++ map latch_variable raw.latches
 
-pub slice_get_unmap : {X : Type 0} (f : X → ℕ) (xs : List X) (k v : ℕ) → slice_get (map f xs) k ≡ Some v → (x : X) × (slice_get xs k ≡ Some x) × (f x ≡ v)
+pub slice_get_unmap : {X : Type 0} (f : X → ℕ) (xs : List X) (k v : ℕ) → slice_get (map f xs) k ≡ Some v → (x : X)
+    × (slice_get xs k ≡ Some x) × (f x ≡ v)
 slice_get_unmap f [] k v h = absurd (none-some v h)
 slice_get_unmap f (x ∷ xs) zero v h = (x, refl, same_Some (f x) v h)
 slice_get_unmap f (x ∷ xs) (suc k) v h = slice_get_unmap f xs k v h
@@ -243,19 +270,22 @@ listed_source : (raw : Raw) (v : ℕ) → IsSource raw v → Contains (source_va
 listed_source raw v grounded.constant = (0, omega arith, refl)
 listed_source raw v (grounded.input p l at) =
     Contains-append_left (0 ∷ map variable raw.inputs) (map latch_variable raw.latches) v
-    (Contains-from_get (0 ∷ map variable raw.inputs) (suc p) v (slice_get-map variable raw.inputs p ∙ ap (option_map variable) at))
+    (Contains-from_get (0 ∷ map variable raw.inputs) (suc p) v (slice_get-map variable raw.inputs p
+    ∙ ap (option_map variable) at))
 listed_source raw v (grounded.latch p x at) =
     Contains-append_right (0 ∷ map variable raw.inputs) (map latch_variable raw.latches) v
-    (Contains-from_get (map latch_variable raw.latches) p v (slice_get-map latch_variable raw.latches p ∙ ap (option_map latch_variable) at))
+    (Contains-from_get (map latch_variable raw.latches) p v (slice_get-map latch_variable raw.latches p
+    ∙ ap (option_map latch_variable) at))
 
 source_listed : (raw : Raw) (v : ℕ) → Contains (source_variables raw) v → IsSource raw v
-source_listed raw v h = elim (Contains-append_cases (0 ∷ map variable raw.inputs) (map latch_variable raw.latches) v h) [
-  | inl a ↦ let k = get_from_Contains (0 ∷ map variable raw.inputs) v a in of_input k.0 k.1
-  | inr b ↦
-      let k = get_from_Contains (map latch_variable raw.latches) v b in
-      let x = slice_get_unmap latch_variable raw.latches k.0 v k.1 in
-      subst (λ w. IsSource raw w) x.2 (grounded.latch k.0 x.0 x.1)
-]
+source_listed raw v h = elim (Contains-append_cases (0 ∷ map variable raw.inputs)
+    (map latch_variable raw.latches) v h) [
+      | inl a ↦ let k = get_from_Contains (0 ∷ map variable raw.inputs) v a in of_input k.0 k.1
+      | inr b ↦
+          let k = get_from_Contains (map latch_variable raw.latches) v b in
+          let x = slice_get_unmap latch_variable raw.latches k.0 v k.1 in
+          subst (λ w. IsSource raw w) x.2 (grounded.latch k.0 x.0 x.1)
+    ]
   where
     of_input : (k : ℕ) → slice_get (0 ∷ map variable raw.inputs) k ≡ Some v → IsSource raw v
     of_input zero e = subst (λ w. IsSource raw w) (same_Some 0 v e) grounded.constant
@@ -263,7 +293,8 @@ source_listed raw v h = elim (Contains-append_cases (0 ∷ map variable raw.inpu
         let x = slice_get_unmap variable raw.inputs k v e in
         subst (λ w. IsSource raw w) x.2 (grounded.input k x.0 x.1)
 
-module _ (raw : Raw) (next : List ℕ) (marks : List Bool) (pending : List ℕ) (s : AreStarted (source_variables raw) marks pending) where
+module _ (raw : Raw) (next : List ℕ) (marks : List Bool) (pending : List ℕ) (s : AreStarted
+    (source_variables raw) marks pending) where
   -- the search begins
   pub marking_starts : IsMarking raw next 0 marks pending
   marking_starts = record {
@@ -284,5 +315,6 @@ module _ (raw : Raw) (next : List ℕ) (marks : List Bool) (pending : List ℕ) 
   }
 
 -- the first sources, before a loop and one input or latch on
-pub started_same : (xs ys : List ℕ) (marks : List Bool) (pending : List ℕ) → xs ≡ ys → AreStarted xs marks pending → AreStarted ys marks pending
+pub started_same : (xs ys : List ℕ) (marks : List Bool) (pending : List ℕ) → xs ≡ ys → AreStarted xs marks pending
+    → AreStarted ys marks pending
 started_same xs ys marks pending e s = subst (λ zs. AreStarted zs marks pending) e s

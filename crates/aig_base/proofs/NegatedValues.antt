@@ -1,5 +1,6 @@
 -- Values of negated literals, and of gates whose right sides were put in order.
-use Rattle.std.proofs.Common.{◌≡◌, ℕ, suc, ◌+◌, ◌-◌, List, All, Some, slice_get, nat_lt, Bool, true, false, refl, sym, subst, arith}
+use Rattle.std.proofs.Common.{◌≡◌, ℕ, suc, ◌+◌, ◌-◌, List, All, Some, slice_get, nat_lt, Bool, true, false, refl, sym}
+use Rattle.std.proofs.Common.{subst, arith}
 use Rattle.aig_base.specs.declared.raw.Raw.{Raw}
 use Rattle.aig_base.specs.declared.ternary.Tern.{Tern}
 use Rattle.aig_base.specs.declared.ternary.Tern.TheVariants.{Zero, One, X}

@@ -1,5 +1,6 @@
 -- A defined literal has a value at each frame that has a row.
-use Rattle.std.proofs.Common.{◌≡◌, ◌⊎◌, inl, inr, ℕ, zero, suc, ◌-◌, ◌*◌, ◌<◌, List, [], length, map, Some, slice_get, get_or, Contains, refl, ◌∙◌, ap, arith, option_map}
+use Rattle.std.proofs.Common.{◌≡◌, ◌⊎◌, inl, inr, ℕ, zero, suc, ◌-◌, ◌*◌, ◌<◌, List, [], length, map, Some, slice_get}
+use Rattle.std.proofs.Common.{get_or, Contains, refl, ◌∙◌, ap, arith, option_map}
 use Rattle.std.proofs.lemmas.Option.{slice_get-map, slice_get_within, slice_get-get_or}
 use Rattle.std.proofs.lemmas.List.Elements.{All-contains, Contains-append_left as left}
 use Rattle.aig_base.specs.declared.ternary.Tern.{Tern}

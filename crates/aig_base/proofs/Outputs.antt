@@ -67,7 +67,8 @@ module _ (raw : Raw) (position lit : ℕ) where
         });
         definitions = s.definitions;
         once = s.once;
-        defined = uses_joined (with_output raw position lit) P u.0 (All-set P raw.outputs position lit has u.1) u.2 u.3 u.4 u.5 u.6;
+        defined = uses_joined (with_output raw position lit) P u.0
+            (All-set P raw.outputs position lit has u.1) u.2 u.3 u.4 u.5 u.6;
         resets = s.resets;
       }
 
@@ -82,9 +83,15 @@ module _ (raw : Raw) (position lit : ℕ) where
 
   pub with_output-circuit : IsCircuit raw → IsDefined raw (variable lit) → IsCircuit (with_output raw position lit)
   with_output-circuit c has =
-      record { formed = formed c.formed; sound = sound c.sound has; acyclic = λ v is. still_grounded v (c.acyclic v is) }
+      record {
+        formed = formed c.formed;
+        sound = sound c.sound has;
+        acyclic = λ v is. still_grounded v
+            (c.acyclic v is);
+      }
 
-  pub with_output-table : (table : List (Option Definition)) → IsTable raw table → IsTable (with_output raw position lit) table
+  pub with_output-table : (table : List (Option Definition)) → IsTable raw table → IsTable
+      (with_output raw position lit) table
   with_output-table table t = record { size = t.size; entries = λ v entry at. of v entry (t.entries v entry at) }
     where
       of : (v : ℕ) (entry : Option Definition) → IsEntry raw v entry → IsEntry (with_output raw position lit) v entry

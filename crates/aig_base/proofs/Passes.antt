@@ -1,5 +1,7 @@
 -- The pass that renews levels, as the code has it: visits, a queue, and a row of levels.
-use Rattle.std.proofs.Common.{◌≡◌, ◌≢◌, ◌⊎◌, ◌↔◌, inl, inr, ℕ, ◌+◌, ◌-◌, ◌^◌, ◌<◌, ◌≤◌, suc, [], ◌∷◌, List, Some, not, nat_eq, count_by, length, get_or, All, Contains, IsPermutation, slice_get, refl, sym, ◌∙◌, ap, subst, arith}
+use Rattle.std.proofs.Common.{◌≡◌, ◌≢◌, ◌⊎◌, ◌↔◌, inl, inr, ℕ, ◌+◌, ◌-◌, ◌^◌, ◌<◌, ◌≤◌, suc, [], ◌∷◌, List, Some, not}
+use Rattle.std.proofs.Common.{nat_eq, count_by, length, get_or, All, Contains, IsPermutation, slice_get, refl, sym, ◌∙◌}
+use Rattle.std.proofs.Common.{ap, subst, arith}
 use Rattle.std.specs.Vec.{vec_capacity}
 use Rattle.std.proofs.lemmas.Bool.{cases_eq}
 use Rattle.std.proofs.lemmas.List.Elements.{All-contains}
@@ -25,7 +27,9 @@ use Rattle.aig_base.proofs.BehindLemmas.{acyclic_from_before, changed_level, sid
 use Rattle.aig_base.proofs.Defined.{Grounded-of_defined}
 use Rattle.aig_base.proofs.Gates.{IsGate-of_gate, gate_in_range, sides_in_range}
 use Rattle.aig_base.proofs.LevelBound.{level_bound}
-use Rattle.aig_base.proofs.LevelSteps.{IsDone, among_step, capacity_step, cell_here, cell_other, cell_size, done_cases, done_step, entry_from_queued, left_step, list_queued, newly_queued, once_step, queued_cases, queued_from_entry, stays_queued, visited_step}
+use Rattle.aig_base.proofs.LevelSteps.{IsDone, among_step, capacity_step, cell_here, cell_other, cell_size, done_cases}
+use Rattle.aig_base.proofs.LevelSteps.{done_step, entry_from_queued, left_step, list_queued, newly_queued, once_step}
+use Rattle.aig_base.proofs.LevelSteps.{queued_cases, queued_from_entry, stays_queued, visited_step}
 use Rattle.aig_base.proofs.ListedReaders.{reads}
 use Rattle.aig_base.proofs.OneLevel.{level_of, same_level}
 use Rattle.aig_base.proofs.QueueLemmas.{copies_popped, one_other, one_same}
@@ -47,7 +51,8 @@ pub record IsPass (raw : Raw) (lhs r0 r1 : ℕ) (old row : List ℕ) (s : Visits
   pub fits : length old ≤ vec_capacity s.list
   pub fits_queue : length old ≤ q.capacity
 
-module _ (raw : Raw) (c : IsCircuit raw) (lhs r0 r1 : ℕ) (is_gate : IsLeftSide raw lhs) (d0 : IsDefined raw (variable r0))
+module _ (raw : Raw) (c : IsCircuit raw) (lhs r0 r1 : ℕ) (is_gate : IsLeftSide raw lhs) (d0 : IsDefined raw
+    (variable r0))
     (d1 : IsDefined raw (variable r1)) (never0 : IsBehind raw (variable lhs) (variable r0) → ⊥)
     (never1 : IsBehind raw (variable lhs) (variable r1) → ⊥) (old : List ℕ) (are : AreLevels raw old)
     (r : ReaderLists) (readers : AreReaders raw r) where
@@ -120,7 +125,8 @@ module _ (raw : Raw) (c : IsCircuit raw) (lhs r0 r1 : ℕ) (is_gate : IsLeftSide
         ])
 
   -- what waits has its level of before
-  waiting_cell : (row : List ℕ) (waits done : ℕ → Type 0) → Renewing raw lhs r0 r1 old row waits done → (v : ℕ) → waits v
+  waiting_cell : (row : List ℕ) (waits done : ℕ → Type 0) → Renewing raw lhs r0 r1 old row waits done → (v : ℕ)
+      → waits v
       → slice_get row v ≡ slice_get old v
   waiting_cell row waits done n v k =
       let (q, g, u, at, side, is, known, apart) = n.touched v (inl k) in
@@ -182,7 +188,8 @@ module _ (raw : Raw) (c : IsCircuit raw) (lhs r0 r1 : ℕ) (is_gate : IsLeftSide
     first_step =
         let within = gate_within in
         let size = are.size in
-        step (variable lhs) (level_above old changed) old row s s' q q' (λ v. ⊥) (omega arith) within h (λ v k. absurd k)
+        step (variable lhs) (level_above old changed) old row s s' q q' (λ v. ⊥) (omega arith) within h
+        (λ v k. absurd k)
         (λ v k. absurd (never_queued v k)) (λ v k on. absurd (no_visits.unmet v on))
 
     pub passed_first : IsPass raw lhs r0 r1 old row s' q'
@@ -200,10 +207,12 @@ module _ (raw : Raw) (c : IsCircuit raw) (lhs r0 r1 : ℕ) (is_gate : IsLeftSide
         (renewing_same raw lhs r0 r1 old row (IsQueued q') (IsQueued q') (λ v. ⊥) (IsDone s' q') (λ v. (λ k. k, λ k. k))
         (λ v. (
           λ k. absurd k,
-          λ d. no_visits.unmet v ((done_step (list_of r (variable lhs)) (variable lhs) (level_above old changed) old row s s' q q' h v).0 d).0,
+          λ d. no_visits.unmet v ((done_step (list_of r (variable lhs)) (variable lhs)
+              (level_above old changed) old row s s' q q' h v).0 d).0,
         ))
         (begun raw c.sound c.acyclic lhs r0 r1 is_gate old are d0 d1 never0 never1 (get_or old (variable r0) 0)
-        (get_or old (variable r1) 0) (side_at (variable r0) d0) (side_at (variable r1) d1) row (IsQueued q') first_step))
+        (get_or old (variable r1) 0) (side_at (variable r0) d0) (side_at (variable r1) d1) row
+        (IsQueued q') first_step))
 
   -- a variable of the least level is taken out of the queue
   module _ (row : List ℕ) (s : Visits) (q q1 : Queued) (h : IsPass raw lhs r0 r1 old row s q) (rank w : ℕ)
@@ -240,7 +249,8 @@ module _ (raw : Raw) (c : IsCircuit raw) (lhs r0 r1 : ℕ) (is_gate : IsLeftSide
     back : (e : ℕ × ℕ) → Contains q1.entries e → Contains q.entries e
     back e k =
         let (i, lt, at) = k in
-        Contains-permutation ((rank, w) ∷ q1.entries) q.entries e (IsPermutation-sym q.entries ((rank, w) ∷ q1.entries) p)
+        Contains-permutation ((rank, w) ∷ q1.entries) q.entries e (IsPermutation-sym q.entries
+        ((rank, w) ∷ q1.entries) p)
         (suc i, omega arith, at)
 
     here_entry : Contains q.entries (rank, w)
@@ -374,9 +384,11 @@ module _ (raw : Raw) (c : IsCircuit raw) (lhs r0 r1 : ℕ) (is_gate : IsLeftSide
             popped_room h.size h.fits (let f = h.fits_queue in omega arith)
             (renewing_same raw lhs r0 r1 old row' (IsQueued q') (IsQueued q') (λ v. (v ≡ variable g.lhs) ⊎ IsDone s q v)
             (IsDone s' q') (λ v. (λ i. i, λ i. i)) done_now
-            (stepped raw c.sound c.acyclic lhs r0 r1 is_gate old are row (IsQueued q) (IsDone s q) (done_cases s q) h.renewing
+            (stepped raw c.sound c.acyclic lhs r0 r1 is_gate old are row (IsQueued q) (IsDone s q)
+            (done_cases s q) h.renewing
             k g at g_waits (w_level.0) g_level g_high (get_or row (variable g.rhs0) 0) (get_or row (variable g.rhs1) 0)
-            (slice_get-get_or row (variable g.rhs0) 0 in0) (slice_get-get_or row (variable g.rhs1) 0 in1) row' (IsQueued q')
+            (slice_get-get_or row (variable g.rhs0) 0 in0) (slice_get-get_or row (variable g.rhs1) 0 in1) row'
+            (IsQueued q')
             (subst (λ x. RenewsAt raw x (level_above row g) row row' (IsQueued q) (IsQueued q')) (sym is) stepped_at)))
 
   -- the pass ends when nothing waits

@@ -1,5 +1,6 @@
 -- A literal is defined at one place.
-use Rattle.std.proofs.Common.{◌≡◌, ◌⊎◌, inl, inr, ℕ, ◌+◌, ◌<◌, ◌++◌, length, map, Some, slice_get, All, refl, ◌∙◌, ap, arith, option_map, length-append}
+use Rattle.std.proofs.Common.{◌≡◌, ◌⊎◌, inl, inr, ℕ, ◌+◌, ◌<◌, ◌++◌, length, map, Some, slice_get, All, refl, ◌∙◌, ap}
+use Rattle.std.proofs.Common.{arith, option_map, length-append}
 use Rattle.std.proofs.lemmas.Option.{slice_get-map, slice_get_within}
 use Rattle.std.proofs.lemmas.List.{length-map}
 use Rattle.std.proofs.lemmas.List.Elements.{All-contains}

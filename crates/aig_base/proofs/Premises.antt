@@ -44,7 +44,8 @@ levels_differ raw same =
 only_one : (raw : Raw) {t l : ℕ} {w : Tern} → Value (one_input raw 2) [] ((One ∷ []) ∷ []) t l w → l ≡ 2 → w ≡ One
 only_one raw (value.constant_false t) e = absurd (omega arith)
 only_one raw (value.constant_true t) e = absurd (omega arith)
-only_one raw (value.input zero zero l w row at is cell) e = let f : row ≡ One ∷ [] = cc in let g : Some w ≡ Some One = sym cell ∙ ap (λ (r : List Tern). slice_get r 0) f in cc
+only_one raw (value.input zero zero l w row at is cell) e = let f : row ≡ One ∷ [] = cc in let g : Some w
+    ≡ Some One = sym cell ∙ ap (λ (r : List Tern). slice_get r 0) f in cc
 only_one raw (value.input zero (suc p) l w row at is cell) e = let no : ⊥ = cc in absurd no
 only_one raw (value.input (suc t) p l w row at is cell) e = let no : ⊥ = cc in absurd no
 only_one raw (value.latch_first p x w at is) e = let no : ⊥ = cc in absurd no

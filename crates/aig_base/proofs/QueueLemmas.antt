@@ -1,8 +1,10 @@
 -- What a variable that is queued does to the visits and the queue.
-use Rattle.std.proofs.Common.{◌≡◌, ◌≢◌, ◌⊎◌, inl, inr, ℕ, ◌+◌, ◌≤◌, List, [], ◌∷◌, ◌++◌, false, not, cond, nat_eq, count_by, get_or, Contains, IsPermutation, refl, sym, ◌∙◌, ap, subst, arith}
+use Rattle.std.proofs.Common.{◌≡◌, ◌≢◌, ◌⊎◌, inl, inr, ℕ, ◌+◌, ◌≤◌, List, [], ◌∷◌, ◌++◌, false, not, cond, nat_eq}
+use Rattle.std.proofs.Common.{count_by, get_or, Contains, IsPermutation, refl, sym, ◌∙◌, ap, subst, arith}
 use Rattle.std.proofs.lemmas.Bool.{cases_eq, cases_Bool, eq-eqb, ne_eqb, false≢true}
 use Rattle.std.proofs.lemmas.List.Elements.{Contains-append_left, Contains-append_right, Contains-push_cases}
-use Rattle.std.proofs.lemmas.List.Sorted.{Contains-permutation, length_permutation, IsPermutation-sym, sum_by_pushed, sum_by_popped}
+use Rattle.std.proofs.lemmas.List.Sorted.{Contains-permutation, length_permutation, IsPermutation-sym, sum_by_pushed}
+use Rattle.std.proofs.lemmas.List.Sorted.{sum_by_popped}
 use Rattle.aig_base.specs.declared.visits.Visits.{Visits}
 use Rattle.aig_base.specs.Queue.{Queued, copies, entry}
 use Rattle.aig_base.specs.Rewires.{Queues, mark}
@@ -23,7 +25,8 @@ visited_cases s v = cases_Bool (get_or s.met.items v false)
 pub not_visited : (s : Visits) (v : ℕ) → get_or s.met.items v false ≡ false → IsVisited s v → ⊥
 not_visited s v off on = false≢true (sym off ∙ on)
 
-mark_same : (s s' : Visits) (v : ℕ) → (IsVisited s v → IsVisited s' v) → (IsVisited s' v → IsVisited s v) → mark s v ≡ mark s' v
+mark_same : (s s' : Visits) (v : ℕ) → (IsVisited s v → IsVisited s' v) → (IsVisited s' v → IsVisited s v) → mark s v
+    ≡ mark s' v
 mark_same s s' v f g = elim (visited_cases s v) [
   | inl on ↦ mark_on s v on ∙ sym (mark_on s' v (f on))
   | inr off ↦ elim (visited_cases s' v) [
@@ -51,7 +54,8 @@ pub copies_popped : (u rank v : ℕ) (q q' : Queued) → IsPermutation q.entries
 copies_popped u rank v q q' p = sum_by_popped (λ (e : ℕ × ℕ). one u e.1) (rank, v) q.entries q'.entries p
 
 module _ (levels : List ℕ) (v level : ℕ) (s s' : Visits) (q q' : Queued) (off : get_or s.met.items v false ≡ false)
-    (a : VisitsAmong (v ∷ []) s s') (on : IsVisited s' v) (fewer : count_by not s'.met.items + 1 ≡ count_by not s.met.items)
+    (a : VisitsAmong (v ∷ []) s s') (on : IsVisited s' v) (fewer : count_by not s'.met.items + 1
+    ≡ count_by not s.met.items)
     (is : level ≡ get_or levels v 0) (p : IsPermutation (entry level v ∷ q.entries) q'.entries)
     (more : q.capacity ≤ q'.capacity) where
   counts_new : (u : ℕ) → copies q' u + mark s u ≡ copies q u + mark s' u
@@ -80,7 +84,8 @@ module _ (levels : List ℕ) (v level : ℕ) (s s' : Visits) (q q' : Queued) (of
       (Contains-permutation q'.entries (entry level v ∷ q.entries) e
       (IsPermutation-sym (entry level v ∷ q.entries) q'.entries p) h)) [
         | inl same ↦
-            (let what : ℕ × ℕ → Type 0 = λ x. (x ≡ entry (get_or levels x.1 0) x.1) × Contains (v ∷ []) x.1 × (IsVisited s x.1 → ⊥) in
+            (let what : ℕ × ℕ → Type 0 = λ x. (x ≡ entry (get_or levels x.1 0) x.1) × Contains (v ∷ []) x.1
+            × (IsVisited s x.1 → ⊥) in
             inr (subst what (sym same) (ap (λ l. entry l v) is, (0, omega arith, refl), not_visited s v off)))
         | inr k ↦ inl k
       ]
@@ -95,7 +100,8 @@ module _ (levels : List ℕ) (v level : ℕ) (s s' : Visits) (q q' : Queued) (of
     capacity = more;
   }
 
-pub queues_more : (xs levels : List ℕ) (v : ℕ) (s s' s'' : Visits) (q q' q'' : Queued) → VisitsAmong (xs ++ v ∷ []) s s''
+pub queues_more : (xs levels : List ℕ) (v : ℕ) (s s' s'' : Visits) (q q' q'' : Queued) → VisitsAmong (xs
+    ++ v ∷ []) s s''
     → Queues xs levels s s' q q' → Queues (v ∷ []) levels s' s'' q' q'' → Queues (xs ++ v ∷ []) levels s s'' q q''
 queues_more xs levels v s s' s'' q q' q'' among a b = record {
   among = among;

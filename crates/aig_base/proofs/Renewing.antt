@@ -1,5 +1,6 @@
 -- The pass over the gates behind a changed gate, in the order of their old levels, gives the levels of the new circuit.
-use Rattle.std.proofs.Common.{◌≡◌, ◌≢◌, ◌⊎◌, inl, inr, ℕ, ◌+◌, ◌<◌, ◌≤◌, max, List, Option, Some, None, slice_get, refl, sym, ◌∙◌, ap, subst, arith}
+use Rattle.std.proofs.Common.{◌≡◌, ◌≢◌, ◌⊎◌, inl, inr, ℕ, ◌+◌, ◌<◌, ◌≤◌, max, List, Option, Some, None, slice_get, refl}
+use Rattle.std.proofs.Common.{sym, ◌∙◌, ap, subst, arith}
 use Rattle.std.proofs.lemmas.Bool.{cases_eq}
 use Rattle.std.proofs.lemmas.Option.{same_Some}
 use Rattle.aig_base.specs.declared.gate.Gate.{Gate}
@@ -85,14 +86,17 @@ module _ (raw : Raw) (sound : IsSound raw) (acyclic : IsAcyclic raw) (lhs r0 r1 
         subst (Level new u) same k.has
 
     untouched : (q : ℕ) (g : Gate) (a b : ℕ) → slice_get raw.gates q ≡ Some g → variable g.lhs ≢ t
-        → (waits (variable g.lhs) ⊎ done (variable g.lhs) → ⊥) → Level raw (variable g.rhs0) a → Level raw (variable g.rhs1) b
-        → HoldsLevel new row (variable g.rhs0) → HoldsLevel new row (variable g.rhs1) → HoldsLevel new row (variable g.lhs)
+        → (waits (variable g.lhs) ⊎ done (variable g.lhs) → ⊥) → Level raw (variable g.rhs0) a
+        → Level raw (variable g.rhs1) b
+        → HoldsLevel new row (variable g.rhs0) → HoldsLevel new row (variable g.rhs1)
+        → HoldsLevel new row (variable g.lhs)
     untouched q g a b at ne never la lb h0 h1 = record {
       level = max a b + 1;
       has = by.Level.gate q g a b (kept raw sound lhs r0 r1 is_gate q g at ne)
           (old_level q g (variable g.rhs0) a at ne (inl refl) never la h0)
           (old_level q g (variable g.rhs1) b at ne (inr refl) never lb h1);
-      cell = h.others q g at ne (λ d. never (inr d)) ∙ are.each (variable g.lhs) (max a b + 1) (by.Level.gate q g a b at la lb);
+      cell = h.others q g at ne (λ d. never (inr d)) ∙ are.each (variable g.lhs) (max a b + 1)
+          (by.Level.gate q g a b at la lb);
     }
 
     -- where no gate of an old level below n waits, all variables of such a level have their new levels
@@ -178,7 +182,8 @@ module _ (raw : Raw) (sound : IsSound raw) (acyclic : IsAcyclic raw) (lhs r0 r1 
       was_old : slice_get row w ≡ slice_get old w
       was_old = h.others q g at not_t (λ d. h.fresh w w_waits d)
 
-      reader_over : (k : ℕ) (z : Gate) (m : ℕ) → slice_get raw.gates k ≡ Some z → IsSide z w → Level raw (variable z.lhs) m → n < m
+      reader_over : (k : ℕ) (z : Gate) (m : ℕ) → slice_get raw.gates k ≡ Some z → IsSide z w
+          → Level raw (variable z.lhs) m → n < m
       reader_over k z m here side lz =
           let (j, lw, below) = side_level sound lz k z w here side refl in
           let same : j ≡ n = same_level sound lw l in
@@ -196,7 +201,8 @@ module _ (raw : Raw) (sound : IsSound raw) (acyclic : IsAcyclic raw) (lhs r0 r1 
           → (u ≡ t) ⊎ done' u → slice_get row' u ≢ slice_get old u → waits' (variable z.lhs) ⊎ done' (variable z.lhs)
       linked' j z u here ne side known apart = elim (cases_eq u w) [
         | inl e ↦
-            inl (r.readers (λ k. apart (ap (slice_get row') e ∙ r.cell ∙ sym k ∙ was_old ∙ ap (slice_get old) (sym e))) j z here
+            inl (r.readers (λ k. apart (ap (slice_get row') e ∙ r.cell ∙ sym k ∙ was_old
+            ∙ ap (slice_get old) (sym e))) j z here
             (elim side [ inl f ↦ inl (sym e ∙ f) | inr f ↦ inr (sym e ∙ f) ]))
         | inr other ↦
             (let before : slice_get row u ≢ slice_get old u = (λ k. apart (r.same u other ∙ k)) in

@@ -21,7 +21,11 @@ module _ (raw : Raw) (lhs r0 r1 : ℕ) (old row : List ℕ) (waits waits' done d
           | inr k ↦ inr ((d _).0 k)
         ];
     touched = λ v k. (
-        let (q, g, u, at, side, is, known, apart) = h.touched v (elim k [ inl x ↦ inl ((w v).1 x) | inr x ↦ inr ((d v).1 x) ]) in
+        let (q, g, u, at, side, is, known, apart) = h.touched v (elim k [
+          | inl x ↦ inl ((w v).1 x)
+          | inr x ↦ inr
+              ((d v).1 x)
+        ]) in
         (q, g, u, at, side, is, elim known [ inl e ↦ inl e | inr x ↦ inr ((d u).0 x) ], apart));
     fresh = λ v k x. h.fresh v ((w v).1 k) ((d v).1 x);
     over = λ v m k x. h.over v m k ((w v).1 x);

@@ -1,5 +1,6 @@
 -- The renumbered parts are a circuit.
-use Rattle.std.proofs.Common.{◌≡◌, inl, inr, ℕ, zero, suc, ◌+◌, ◌<◌, ◌≤◌, List, length, map, get_or, nat_lt, Bool, true, false, All, Some, slice_get, refl, ◌∙◌, ap, subst, arith}
+use Rattle.std.proofs.Common.{◌≡◌, inl, inr, ℕ, zero, suc, ◌+◌, ◌<◌, ◌≤◌, List, length, map, get_or, nat_lt, Bool, true}
+use Rattle.std.proofs.Common.{false, All, Some, slice_get, refl, ◌∙◌, ap, subst, arith}
 use Rattle.std.proofs.lemmas.List.Elements.{All-same, All-map, All-append, All-weaker, All-contains}
 use Rattle.std.proofs.lemmas.Option.{slice_get_within, get_or_from_slice_get}
 use Rattle.aig_base.specs.declared.gate.Gate.{Gate}
@@ -11,7 +12,8 @@ use Rattle.aig_base.specs.Grounded as grounded
 use Rattle.aig_base.specs.Grounded.{Grounded, IsSource, IsAcyclic}
 use Rattle.aig_base.specs.Literal.{variable}
 use Rattle.aig_base.specs.Order.{IsCanonicalOrder}
-use Rattle.aig_base.specs.Renumbered.{ordered_gates, renumbered, renumbered_gate, renumbered_latch, renumbered_literal, ready_gate, evens, IsBinaryReady}
+use Rattle.aig_base.specs.Renumbered.{ordered_gates, renumbered, renumbered_gate, renumbered_latch, renumbered_literal}
+use Rattle.aig_base.specs.Renumbered.{ready_gate, evens, IsBinaryReady}
 use Rattle.aig_base.specs.Sections.{definitions, uses, IsDefined}
 use Rattle.aig_base.specs.Sound.{IsSound, IsInRange, IsReset}
 use Rattle.aig_base.proofs.Counting.{length-order}

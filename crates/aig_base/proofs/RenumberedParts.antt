@@ -1,5 +1,7 @@
 -- The renumbered parts by the table are those by the roles, and they are formed.
-use Rattle.std.proofs.Common.{◌≡◌, inl, inr, ℕ, suc, ◌+◌, ◌*◌, ◌<◌, ◌≤◌, ◌==◌, Bool, List, [], ◌∷◌, ◌++◌, length, map, get_or, sum_by, All, Option, Some, None, slice_get, option_map, refl, sym, ◌∙◌, ap, ap₂, arith}
+use Rattle.std.proofs.Common.{◌≡◌, inl, inr, ℕ, suc, ◌+◌, ◌*◌, ◌<◌, ◌≤◌, ◌==◌, Bool, List, [], ◌∷◌, ◌++◌, length, map}
+use Rattle.std.proofs.Common.{get_or, sum_by, All, Option, Some, None, slice_get, option_map, refl, sym, ◌∙◌, ap, ap₂}
+use Rattle.std.proofs.Common.{arith}
 use Rattle.std.proofs.lemmas.List.{length-map, get_or_default}
 use Rattle.std.proofs.lemmas.List.Sums.{sum_by-cons}
 use Rattle.std.proofs.lemmas.List.Elements.{All-cons, All-head, All-tail, All-weaker, All-nil, All-contains}
@@ -12,8 +14,10 @@ use Rattle.aig_base.specs.declared.symbols.Kind.TheVariants as kind
 use Rattle.aig_base.specs.Formed.{section_length, IsSymbolOf, IsFormed}
 use Rattle.aig_base.specs.Literal.{variable, with_sign}
 use Rattle.aig_base.specs.Order.{IsCanonicalOrder}
-use Rattle.aig_base.specs.Renumbered.{gate_of, ordered_gates, renumbered, renumbered_gate, renumbered_latch, renumbered_literal, renumbered_variable, role_variable}
-use Rattle.aig_base.specs.RenumberingTable.{IsRenumbering, IsListed, IsLatchListed, IsGateListed, AreListed, literal_by, latch_by, gate_by, renumbered_by}
+use Rattle.aig_base.specs.Renumbered.{gate_of, ordered_gates, renumbered, renumbered_gate, renumbered_latch}
+use Rattle.aig_base.specs.Renumbered.{renumbered_literal, renumbered_variable, role_variable}
+use Rattle.aig_base.specs.RenumberingTable.{IsRenumbering, IsListed, IsLatchListed, IsGateListed, AreListed, literal_by}
+use Rattle.aig_base.specs.RenumberingTable.{latch_by, gate_by, renumbered_by}
 use Rattle.aig_base.specs.Role.{place_of, input_role, gate_role, latch_role}
 use Rattle.aig_base.specs.Sections.{definitions, uses}
 use Rattle.aig_base.specs.Sound.{IsSound, IsInRange, IsReset}

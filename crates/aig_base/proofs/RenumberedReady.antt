@@ -1,5 +1,7 @@
 -- A binary file can hold the renumbered circuit.
-use Rattle.std.proofs.Common.{◌≡◌, ◌⊎◌, inl, inr, ℕ, zero, suc, ◌+◌, ◌*◌, ◌%◌, ◌<◌, ◌≤◌, max, nat_eq, nat_lt, Bool, true, false, List, [], ◌∷◌, length, map, get_or, Contains, Some, slice_get, option_map, refl, sym, ◌∙◌, ap, subst, arith}
+use Rattle.std.proofs.Common.{◌≡◌, ◌⊎◌, inl, inr, ℕ, zero, suc, ◌+◌, ◌*◌, ◌%◌, ◌<◌, ◌≤◌, max, nat_eq, nat_lt, Bool}
+use Rattle.std.proofs.Common.{true, false, List, [], ◌∷◌, length, map, get_or, Contains, Some, slice_get, option_map}
+use Rattle.std.proofs.Common.{refl, sym, ◌∙◌, ap, subst, arith}
 use Rattle.std.proofs.lemmas.Bool.Decides.{nat_tests}
 use Rattle.std.proofs.lemmas.List.{length-map, ext_get_or, get_or_default}
 use Rattle.std.proofs.lemmas.List.Elements.{All-map}
@@ -12,7 +14,8 @@ use Rattle.aig_base.specs.Grounded.{Grounded, IsSource, IsAcyclic, Level}
 use Rattle.aig_base.specs.Literal.{variable, with_sign, IsEven}
 use Rattle.aig_base.specs.Order.{IsCanonicalOrder}
 use Rattle.aig_base.specs.Ready.{SectionsInOrder}
-use Rattle.aig_base.specs.Renumbered.{ordered_gates, renumbered, renumbered_gate, renumbered_latch, renumbered_literal, renumbered_variable, ready_gate, evens_from, IsBinaryReady}
+use Rattle.aig_base.specs.Renumbered.{ordered_gates, renumbered, renumbered_gate, renumbered_latch, renumbered_literal}
+use Rattle.aig_base.specs.Renumbered.{renumbered_variable, ready_gate, evens_from, IsBinaryReady}
 use Rattle.aig_base.specs.Sound.{IsSound}
 use Rattle.aig_base.specs.Sections.{IsDefined, IsGate}
 use Rattle.aig_base.proofs.Counting.{length-order}

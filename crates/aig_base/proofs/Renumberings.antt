@@ -1,9 +1,13 @@
 -- The table of a renumbering, entry by entry.
-use Rattle.std.proofs.Common.{◌≡◌, ◌⊎◌, inl, inr, ℕ, zero, suc, ◌+◌, ◌<◌, ◌==◌, Bool, true, false, List, [], ◌∷◌, ◌++◌, length, map, take, set, get_or, Contains, Some, None, slice_get, option_map, refl, sym, ◌∙◌, ap, subst, arith}
+use Rattle.std.proofs.Common.{◌≡◌, ◌⊎◌, inl, inr, ℕ, zero, suc, ◌+◌, ◌<◌, ◌==◌, Bool, true, false, List, [], ◌∷◌, ◌++◌}
+use Rattle.std.proofs.Common.{length, map, take, set, get_or, Contains, Some, None, slice_get, option_map, refl, sym}
+use Rattle.std.proofs.Common.{◌∙◌, ap, subst, arith}
 use Rattle.std.specs.List.{find, filter_map}
 use Rattle.std.proofs.lemmas.Bool.Decides.{nat_tests}
-use Rattle.std.proofs.lemmas.List.{take_more, length-take, length-set, get_or-take, get_or-set_same, get_or-set_other, append-nil}
-use Rattle.std.proofs.lemmas.List.Elements.{All-contains, Contains-append_left, Contains-append_right, Contains-get_or, filter_map-append}
+use Rattle.std.proofs.lemmas.List.{take_more, length-take, length-set, get_or-take, get_or-set_same, get_or-set_other}
+use Rattle.std.proofs.lemmas.List.{append-nil}
+use Rattle.std.proofs.lemmas.List.Elements.{All-contains, Contains-append_left, Contains-append_right, Contains-get_or}
+use Rattle.std.proofs.lemmas.List.Elements.{filter_map-append}
 use Rattle.std.proofs.lemmas.Option.{slice_get-map, slice_get-get_or, slice_get_within, get_or_from_slice_get}
 use Rattle.aig_base.specs.declared.definition.Definition.TheVariants as definition
 use Rattle.aig_base.specs.declared.gate.Gate.{Gate}
@@ -21,7 +25,8 @@ use Rattle.aig_base.proofs.Counting.{order_once}
 use Rattle.aig_base.proofs.Joined.{All-left}
 use Rattle.aig_base.proofs.Places.{Place, IsSection, constant, input, latch, gate, odd, At}
 use Rattle.aig_base.proofs.Positions.{unmap, Contains-from_slice_get, position_of}
-use Rattle.aig_base.proofs.Roles.{eqb-same, eqb→eq, one_place, only_place, no_place, role_input, role_latch, role_gate_at, role_other}
+use Rattle.aig_base.proofs.Roles.{eqb-same, eqb→eq, one_place, only_place, no_place, role_input, role_latch}
+use Rattle.aig_base.proofs.Roles.{role_gate_at, role_other}
 
 pub Contains-map : {A B : Type 0} (f : A → B) (xs : List A) (i : ℕ) (x : A) → slice_get xs i ≡ Some x
     → Contains (map f xs) (f x)

@@ -1,5 +1,7 @@
 -- The two changes write one entry, and keep a circuit a circuit.
-use Rattle.std.proofs.Common.{◌≡◌, ℕ, zero, suc, ◌+◌, ◌*◌, ◌/◌, ◌<◌, ◌≤◌, ◌⊎◌, Bool, true, false, cond, nat_eq, List, [], ◌∷◌, ◌++◌, map, get_or, set, Option, Some, None, option_map, refl, sym, ap, subst, ◌∙◌, arith, rules, slice_get, All, Contains}
+use Rattle.std.proofs.Common.{◌≡◌, ℕ, zero, suc, ◌+◌, ◌*◌, ◌/◌, ◌<◌, ◌≤◌, ◌⊎◌, Bool, true, false, cond, nat_eq, List}
+use Rattle.std.proofs.Common.{[], ◌∷◌, ◌++◌, map, get_or, set, Option, Some, None, option_map, refl, sym, ap, subst}
+use Rattle.std.proofs.Common.{◌∙◌, arith, rules, slice_get, All, Contains}
 use Rattle.std.proofs.lemmas.List.{length-map}
 use Rattle.std.proofs.lemmas.List.Elements.{All-map}
 use Rattle.std.proofs.lemmas.Bool.{eqb-true}
@@ -32,7 +34,8 @@ use Rattle.aig_base.proofs.Joined.{All-left}
 use Rattle.aig_base.proofs.Marking.{slice_get_unmap}
 use Rattle.aig_base.proofs.EntryPlaces.{same_gate, same_latch, gate_defines, latch_defines}
 
-map_same : {A : Type 0} (f : A → A) (xs : List A) → ((k : ℕ) (z : A) → slice_get xs k ≡ Some z → f z ≡ z) → xs ≡ map f xs
+map_same : {A : Type 0} (f : A → A) (xs : List A) → ((k : ℕ) (z : A) → slice_get xs k ≡ Some z → f z ≡ z) → xs
+    ≡ map f xs
 map_same f [] h = refl
 map_same f (x ∷ xs) h =
     ap (λ y. y ∷ xs) (sym (h 0 x refl)) ∙ ap (λ ys. f x ∷ ys) (map_same f xs (λ k z at. h (suc k) z at))
@@ -42,7 +45,8 @@ map_one : {A : Type 0} (f : A → A) (xs : List A) (q : ℕ) (x : A) → slice_g
     → ((k : ℕ) (z : A) → slice_get xs k ≡ Some z → (k ≡ q → ⊥) → f z ≡ z) → set xs q (f x) ≡ map f xs
 map_one f [] q x at h = absurd (none-some x at)
 map_one f (y ∷ xs) zero x at h =
-    ap (λ z. f z ∷ xs) (sym (same_Some y x at)) ∙ ap (λ ys. f y ∷ ys) (map_same f xs (λ k z is. h (suc k) z is (λ e. omega arith)))
+    ap (λ z. f z ∷ xs) (sym (same_Some y x at)) ∙ ap (λ ys. f y ∷ ys) (map_same f xs (λ k z is. h (suc k) z is
+    (λ e. omega arith)))
 map_one f (y ∷ xs) (suc q) x at h =
     ap (λ z. z ∷ set xs q (f x)) (sym (h 0 y refl (λ e. omega arith)))
     ∙ ap (λ ys. f y ∷ ys) (map_one f xs q x at (λ k z is ne. h (suc k) z is (λ e. ne (omega arith))))
@@ -64,11 +68,13 @@ in_range_from_defined raw r s has =
     of zero e = let f : 0 ≡ r / 2 = same_Some 0 (variable r) e in omega arith
     of (suc k) e =
         let (l, at, f) = slice_get_unmap variable (definitions raw) k (variable r) e in
-        by_variable l (All-at (IsInRange raw) (definitions raw) k l (All-left (IsInRange raw) (definitions raw) (uses raw) s.in_range) at) f
+        by_variable l (All-at (IsInRange raw) (definitions raw) k l (All-left (IsInRange raw) (definitions raw)
+        (uses raw) s.in_range) at) f
 
 module _ (lhs r0 r1 : ℕ) where
   rewired_here : (g : Gate) → g.lhs ≡ lhs → rewired lhs r0 r1 g ≡ record { lhs = lhs; rhs0 = r0; rhs1 = r1 }
-  rewired_here g e = rw ((Decides-eqb g.lhs lhs).1 e) (ap (λ l. let h : Gate = record { lhs = l; rhs0 = r0; rhs1 = r1 } in h) e)
+  rewired_here g e = rw ((Decides-eqb g.lhs lhs).1 e) (ap (λ l. let h : Gate = record { lhs = l; rhs0 = r0; rhs1 = r1 }
+      in h) e)
 
   rewired_other : (g : Gate) → (g.lhs ≡ lhs → ⊥) → rewired lhs r0 r1 g ≡ g
   rewired_other g ne = of (nat_eq g.lhs lhs) refl
@@ -83,7 +89,8 @@ module _ (lhs r0 r1 : ℕ) where
         → set raw.gates q (record { lhs = lhs; rhs0 = r0; rhs1 = r1 }) ≡ map (rewired lhs r0 r1) raw.gates
     gate_written s q g at e =
         ap (set raw.gates q) (sym (rewired_here g e))
-        ∙ map_one (rewired lhs r0 r1) raw.gates q g at (λ k h is ne. rewired_other h (λ f. ne (same_gate raw s k q h g is at (f ∙ sym e))))
+        ∙ map_one (rewired lhs r0 r1) raw.gates q g at (λ k h is ne. rewired_other h (λ f. ne
+        (same_gate raw s k q h g is at (f ∙ sym e))))
 
     same_lhs : (gs : List Gate) → map (λ g. g.lhs) (map (rewired lhs r0 r1) gs) ≡ map (λ g. g.lhs) gs
     same_lhs [] = refl
@@ -118,7 +125,11 @@ module _ (lhs r0 r1 : ℕ) where
         gates = rw length-map f.counts.gates;
         justice_literals = f.counts.justice_literals;
       };
-      symbols = λ k d h. let s = f.symbols k d h in (subst (λ n. (get_or raw.symbols k d).0.1 < n) (gate_sections _) s.0, s.1);
+      symbols = λ k d h. let s = f.symbols k d h in (
+        subst (λ n. (get_or raw.symbols k d).0.1 < n)
+            (gate_sections _) s.0,
+        s.1,
+      );
       names = f.names;
     }
 
@@ -133,7 +144,8 @@ module _ (lhs r0 r1 : ℕ) where
         → All (IsInRange raw) (definitions (with_gate raw lhs r0 r1) ++ uses (with_gate raw lhs r0 r1))
     gate_in_range s d0 d1 =
         let h = in_range_parted raw s.in_range in
-        let sides = rewired_sides (IsInRange raw) (in_range_from_defined raw r0 s d0) (in_range_from_defined raw r1 s d1) (λ k d l. let g = h.gates k d l in (g.1, g.2)) in
+        let sides = rewired_sides (IsInRange raw) (in_range_from_defined raw r0 s d0)
+        (in_range_from_defined raw r1 s d1) (λ k d l. let g = h.gates k d l in (g.1, g.2)) in
         let left = All-map (λ g. IsInRange raw g.lhs) (rewired lhs r0 r1) raw.gates (λ k d l. (h.gates k d l).0) in
         in_range_joined (with_gate raw lhs r0 r1)
         (record {
@@ -147,7 +159,8 @@ module _ (lhs r0 r1 : ℕ) where
           gates = λ k d l. (left k d l, (sides k d l).0, (sides k d l).1);
         })
 
-    gate_sound : IsSound raw → IsDefined raw (variable r0) → IsDefined raw (variable r1) → IsSound (with_gate raw lhs r0 r1)
+    gate_sound : IsSound raw → IsDefined raw (variable r0) → IsDefined raw (variable r1)
+        → IsSound (with_gate raw lhs r0 r1)
     gate_sound s d0 d1 =
         let P : ℕ → Type 0 = λ l. IsDefined (with_gate raw lhs r0 r1) (variable l) in
         let u = uses_parted raw P (λ k d l. still_defined _ (s.defined k d l)) in
@@ -155,31 +168,43 @@ module _ (lhs r0 r1 : ℕ) where
           in_range = gate_in_range s d0 d1;
           definitions = subst (λ ls. All IsDefinition ls) same_definitions s.definitions;
           once = λ v twice. s.once v (subst (λ ls. StandsTwice (map variable ls) v) (sym same_definitions) twice);
-          defined = uses_joined (with_gate raw lhs r0 r1) P u.0 u.1 u.2 u.3 u.4 u.5 (rewired_sides P (still_defined _ d0) (still_defined _ d1) u.6);
+          defined = uses_joined (with_gate raw lhs r0 r1) P u.0 u.1 u.2 u.3 u.4 u.5 (rewired_sides P
+              (still_defined _ d0) (still_defined _ d1) u.6);
           resets = s.resets;
         }
 
     pub with_gate-circuit : IsCircuit raw → IsDefined raw (variable r0) → IsDefined raw (variable r1)
         → IsAcyclic (with_gate raw lhs r0 r1) → IsCircuit (with_gate raw lhs r0 r1)
-    with_gate-circuit c d0 d1 a = record { formed = gate_formed c.formed; sound = gate_sound c.sound d0 d1; acyclic = a }
+    with_gate-circuit c d0 d1 a = record {
+      formed = gate_formed c.formed;
+      sound = gate_sound c.sound d0 d1;
+      acyclic = a;
+    }
 
-    pub with_gate-table : (table : List (Option Definition)) → IsTable raw table → IsTable (with_gate raw lhs r0 r1) table
+    pub with_gate-table : (table : List (Option Definition)) → IsTable raw table → IsTable
+        (with_gate raw lhs r0 r1) table
     with_gate-table table t = record { size = t.size; entries = λ v entry at. of v entry (t.entries v entry at) }
       where
         of : (v : ℕ) (entry : Option Definition) → IsEntry raw v entry → IsEntry (with_gate raw lhs r0 r1) v entry
         of v None free = λ has. free (subst (λ ls. Contains (map variable ls) v) (sym same_definitions) has)
         of v (Some (definition.Input p)) h = h
         of v (Some (definition.Latch p)) h = h
-        of v (Some (definition.Gate q)) (g, at, e) =
-            (rewired lhs r0 r1 g, slice_get-map (rewired lhs r0 r1) raw.gates q ∙ ap (option_map (rewired lhs r0 r1)) at, e)
+        of v (Some (definition.Gate q)) (g, at, e) = (
+          rewired lhs r0 r1 g,
+          slice_get-map (rewired lhs r0 r1) raw.gates q ∙ ap (option_map
+              (rewired lhs r0 r1)) at,
+          e,
+        )
 
     pub with_gate-tells : (d : Definitions) → Tells raw d → Tells (with_gate raw lhs r0 r1) d
     with_gate-tells kept.InOrder h = sym same_definitions ∙ h
     with_gate-tells (kept.Listed table) h = with_gate-table table.items h
 
     -- the write that the table leads to makes the change
-    pub gate_changed : IsSound raw → IsLeftSide raw lhs → (v q : ℕ) (d : Definition) (gates : List Gate) → v ≡ variable lhs → d ≡ definition.Gate q
-        → Defines raw v d → gates ≡ set raw.gates q (record { lhs = lhs; rhs0 = r0; rhs1 = r1 }) → gates ≡ map (rewired lhs r0 r1) raw.gates
+    pub gate_changed : IsSound raw → IsLeftSide raw lhs → (v q : ℕ) (d : Definition) (gates : List Gate) → v
+        ≡ variable lhs → d ≡ definition.Gate q
+        → Defines raw v d → gates ≡ set raw.gates q (record { lhs = lhs; rhs0 = r0; rhs1 = r1 }) → gates
+        ≡ map (rewired lhs r0 r1) raw.gates
     gate_changed s is v q d gates ev ed found eg =
         let at = subst (λ e. Defines raw (variable lhs) e) ed (subst (λ u. Defines raw u d) ev found) in
         let (k, g, same, here, e) = gate_defines raw s lhs is (Some (definition.Gate q)) at tt in
@@ -190,9 +215,15 @@ module _ (lhs r0 r1 : ℕ) where
         of x k e f = cc
 
 module _ (lit : ℕ) (w : Tern) where
-  restarted_here : (x : Latch) → x.lit ≡ lit → restarted lit w x ≡ record { lit = lit; next = x.next; reset = reset_literal lit w }
+  restarted_here : (x : Latch) → x.lit ≡ lit → restarted lit w x
+      ≡ record { lit = lit; next = x.next; reset = reset_literal lit w }
   restarted_here x e =
-      rw ((Decides-eqb x.lit lit).1 e) (ap (λ l. let y : Latch = record { lit = l; next = x.next; reset = reset_literal lit w } in y) e)
+      rw ((Decides-eqb x.lit lit).1 e) (ap (λ l. let y : Latch = record {
+        lit = l;
+        next = x.next;
+        reset = reset_literal
+            lit w;
+      } in y) e)
 
   restarted_other : (x : Latch) → (x.lit ≡ lit → ⊥) → restarted lit w x ≡ x
   restarted_other x ne = of (nat_eq x.lit lit) refl
@@ -214,10 +245,12 @@ module _ (lit : ℕ) (w : Tern) where
   module _ (raw : Raw) where
     -- one write makes the change
     pub reset_written : IsSound raw → (p : ℕ) (x : Latch) → slice_get raw.latches p ≡ Some x → x.lit ≡ lit
-        → set raw.latches p (record { lit = lit; next = x.next; reset = reset_literal lit w }) ≡ map (restarted lit w) raw.latches
+        → set raw.latches p (record { lit = lit; next = x.next; reset = reset_literal lit w })
+        ≡ map (restarted lit w) raw.latches
     reset_written s p x at e =
         ap (set raw.latches p) (sym (restarted_here x e))
-        ∙ map_one (restarted lit w) raw.latches p x at (λ k y is ne. restarted_other y (λ f. ne (same_latch raw s k p y x is at (f ∙ sym e))))
+        ∙ map_one (restarted lit w) raw.latches p x at (λ k y is ne. restarted_other y (λ f. ne
+        (same_latch raw s k p y x is at (f ∙ sym e))))
 
     same_lit : (xs : List Latch) → map (λ x. x.lit) (map (restarted lit w) xs) ≡ map (λ x. x.lit) xs
     same_lit [] = refl
@@ -252,11 +285,16 @@ module _ (lit : ℕ) (w : Tern) where
         gates = f.counts.gates;
         justice_literals = f.counts.justice_literals;
       };
-      symbols = λ k d h. let s = f.symbols k d h in (subst (λ n. (get_or raw.symbols k d).0.1 < n) (reset_sections _) s.0, s.1);
+      symbols = λ k d h. let s = f.symbols k d h in (
+        subst (λ n. (get_or raw.symbols k d).0.1 < n)
+            (reset_sections _) s.0,
+        s.1,
+      );
       names = f.names;
     }
 
-    reset_in_range : IsSound raw → All (IsInRange raw) (definitions (with_reset raw lit w) ++ uses (with_reset raw lit w))
+    reset_in_range : IsSound raw → All (IsInRange raw) (definitions (with_reset raw lit w)
+        ++ uses (with_reset raw lit w))
     reset_in_range s =
         let h = in_range_parted raw s.in_range in
         in_range_joined (with_reset raw lit w)
@@ -279,22 +317,30 @@ module _ (lit : ℕ) (w : Tern) where
           in_range = reset_in_range s;
           definitions = subst (λ ls. All IsDefinition ls) reset_definitions s.definitions;
           once = λ v twice. s.once v (subst (λ ls. StandsTwice (map variable ls) v) (sym reset_definitions) twice);
-          defined = uses_joined (with_reset raw lit w) P (All-map (λ x. P x.next) (restarted lit w) raw.latches u.0) u.1 u.2 u.3 u.4 u.5 u.6;
-          resets = All-map IsReset (restarted lit w) raw.latches (λ k d h. restarted_reset (get_or raw.latches k d) _ refl (s.resets k d h));
+          defined = uses_joined (with_reset raw lit w) P (All-map (λ x. P x.next)
+              (restarted lit w) raw.latches u.0) u.1 u.2 u.3 u.4 u.5 u.6;
+          resets = All-map IsReset (restarted lit w) raw.latches (λ k d h. restarted_reset
+              (get_or raw.latches k d) _ refl (s.resets k d h));
         }
 
     reset_source : (v : ℕ) → IsSource raw v → IsSource (with_reset raw lit w) v
     reset_source v grounded.constant = grounded.constant
     reset_source v (grounded.input p l at) = grounded.input p l at
     reset_source v (grounded.latch p x at) =
-        grounded.latch p (restarted lit w x) (slice_get-map (restarted lit w) raw.latches p ∙ ap (option_map (restarted lit w)) at)
+        grounded.latch p (restarted lit w x) (slice_get-map (restarted lit w) raw.latches p
+        ∙ ap (option_map (restarted lit w)) at)
 
     reset_grounded : (v : ℕ) → Grounded raw v → Grounded (with_reset raw lit w) v
     reset_grounded v (grounded.source _ s) = grounded.source v (reset_source v s)
     reset_grounded v (grounded.gate q g at a b) = grounded.gate q g at (reset_grounded _ a) (reset_grounded _ b)
 
     pub with_reset-circuit : IsCircuit raw → IsCircuit (with_reset raw lit w)
-    with_reset-circuit c = record { formed = reset_formed c.formed; sound = reset_sound c.sound; acyclic = λ v is. reset_grounded v (c.acyclic v is) }
+    with_reset-circuit c = record {
+      formed = reset_formed c.formed;
+      sound = reset_sound c.sound;
+      acyclic = λ v is.
+          reset_grounded v (c.acyclic v is);
+    }
 
     pub with_reset-table : (table : List (Option Definition)) → IsTable raw table → IsTable (with_reset raw lit w) table
     with_reset-table table t = record { size = t.size; entries = λ v entry at. of v entry (t.entries v entry at) }
@@ -311,9 +357,11 @@ module _ (lit : ℕ) (w : Tern) where
     with_reset-tells (kept.Listed table) h = with_reset-table table.items h
 
     -- the write that the table leads to makes the change
-    pub reset_changed : IsSound raw → IsLatchLiteral raw lit → (v p : ℕ) (d : Definition) (x : Latch) (latches : List Latch) → v ≡ variable lit → d ≡ definition.Latch p
+    pub reset_changed : IsSound raw → IsLatchLiteral raw lit → (v p : ℕ) (d : Definition) (x : Latch)
+        (latches : List Latch) → v ≡ variable lit → d ≡ definition.Latch p
         → Defines raw v d → x ≡ get_or raw.latches p x
-        → latches ≡ set raw.latches p (record { lit = lit; next = x.next; reset = reset_literal lit w }) → latches ≡ map (restarted lit w) raw.latches
+        → latches ≡ set raw.latches p (record { lit = lit; next = x.next; reset = reset_literal lit w }) → latches
+        ≡ map (restarted lit w) raw.latches
     reset_changed s is v p d x latches ev ed found read el =
         let at = subst (λ e. Defines raw (variable lit) e) ed (subst (λ u. Defines raw u d) ev found) in
         let (k, y, same, here, e) = latch_defines raw s lit is (Some (definition.Latch p)) at tt in

@@ -1,9 +1,11 @@
 -- The search for what is behind a gate, list of readers by list of readers.
-use Rattle.std.proofs.Common.{◌≡◌, ◌≢◌, ◌⊎◌, inl, inr, ℕ, ◌+◌, ◌<◌, ◌≤◌, List, ◌∷◌, ◌++◌, [], Bool, true, false, length, get_or, Some, slice_get, Contains, refl, sym, ◌∙◌, ap, subst, arith}
+use Rattle.std.proofs.Common.{◌≡◌, ◌≢◌, ◌⊎◌, inl, inr, ℕ, ◌+◌, ◌<◌, ◌≤◌, List, ◌∷◌, ◌++◌, [], Bool, true, false, length}
+use Rattle.std.proofs.Common.{get_or, Some, slice_get, Contains, refl, sym, ◌∙◌, ap, subst, arith}
 use Rattle.std.specs.Bool.{OnFalse}
 use Rattle.std.specs.Vec.{vec_capacity}
 use Rattle.std.proofs.lemmas.Bool.{cases_eq, cases_Bool, false≢true}
-use Rattle.std.proofs.lemmas.Option.{slice_get_read, same_Some, slice_get_within, slice_get-get_or, get_or_from_slice_get}
+use Rattle.std.proofs.lemmas.Option.{slice_get_read, same_Some, slice_get_within, slice_get-get_or}
+use Rattle.std.proofs.lemmas.Option.{get_or_from_slice_get}
 use Rattle.std.proofs.lemmas.List.Elements.{Contains-push_cases}
 use Rattle.aig_base.specs.declared.gate.Gate.{Gate}
 use Rattle.aig_base.specs.declared.raw.Raw.{Raw}
@@ -30,7 +32,8 @@ pub record IsSearch (raw : Raw) (t x y bound : ℕ) (first s : Visits) (next : �
   pub size : length s.met.items ≡ length first.met.items
   pub capacity : vec_capacity s.list ≡ vec_capacity first.list
 
-pub searched_none : (raw : Raw) (t x y bound n : ℕ) (first s : Visits) → AreNoVisits n first → VisitsAmong (t ∷ []) first s
+pub searched_none : (raw : Raw) (t x y bound n : ℕ) (first s : Visits) → AreNoVisits n first
+    → VisitsAmong (t ∷ []) first s
     → IsVisited s t → IsSearch raw t x y bound first s 0
 searched_none raw t x y bound n first s none a start = record {
   up = search_begun raw t x y bound (IsVisited s) (IsFrom s.list.items 0)
@@ -137,7 +140,8 @@ searched_all raw c t x y bound first s next past h = (
         not_behind raw c.sound t x y bound (IsVisited s) (IsFrom s.list.items next) h.up done z n is ne level le b
 
 -- what is defined and is not t is not behind t, where the search with a bound over its level says so
-pub apart_at : (raw : Raw) → IsCircuit raw → (levels : List ℕ) → AreLevels raw levels → (t bound z : ℕ) → IsDefined raw z
+pub apart_at : (raw : Raw) → IsCircuit raw → (levels : List ℕ) → AreLevels raw levels → (t bound z : ℕ)
+    → IsDefined raw z
     → z ≢ t → get_or levels z 0 ≤ bound → IsApart raw t bound z → IsBehind raw t z → ⊥
 apart_at raw c levels are t bound z defined ne le apart b =
     let (n, level) = level_of (Grounded-of_defined raw c.acyclic z defined) in

@@ -49,7 +49,9 @@ module _ {X S : Type 0} (m : IndexMap (Kind × ℕ) X S) (k : Kind × ℕ) (v : 
   none_from_absent (Some x) e lacks = absurd (lacks refl)
 
   -- an entry whose key is new goes to the end
-  pub insert_at_end : (Contains (keys_of m.entries) k → ⊥) → insert_entry key_eq m.entries k v ≡ m.entries ++ (k, v) ∷ []
+  pub insert_at_end : (Contains (keys_of m.entries) k → ⊥) → insert_entry key_eq m.entries k v ≡ m.entries
+      ++ (k, v) ∷ []
   insert_at_end lacks =
       insert_entry-new key_eq m k v
-      (none_from_absent (get key_eq m k) refl (λ some. lacks ((hash_map_contains_key_iff {eq = key_eq} key_laws (λ x y. (key_same x y).0) m k).0 some)))
+      (none_from_absent (get key_eq m k) refl (λ some. lacks ((hash_map_contains_key_iff {eq = key_eq} key_laws (λ x y.
+      (key_same x y).0) m k).0 some)))

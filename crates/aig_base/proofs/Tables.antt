@@ -1,5 +1,6 @@
 -- What an entry of the table of definitions says.
-use Rattle.std.proofs.Common.{◌≡◌, ℕ, ◌<◌, ◌≤◌, List, length, get_or, Option, Some, None, IfSome, IfNone, sym, ap, ◌∙◌, arith}
+use Rattle.std.proofs.Common.{◌≡◌, ℕ, ◌<◌, ◌≤◌, List, length, get_or, Option, Some, None, IfSome, IfNone, sym, ap, ◌∙◌}
+use Rattle.std.proofs.Common.{arith}
 use Rattle.std.proofs.lemmas.List.{length-map, get_or-map}
 use Rattle.std.proofs.lemmas.Option.{slice_get-get_or}
 use Rattle.aig_base.specs.declared.raw.Raw.{Raw}
@@ -10,11 +11,13 @@ use Rattle.aig_base.specs.Sound.{IsSound, IsInRange}
 use Rattle.aig_base.proofs.Joined.{All-left}
 use Rattle.aig_base.specs.Definition.{Defines, IsFree, IsEntry, IsTable}
 
-pub defines_from_entry : (raw : Raw) (v : ℕ) (entry : Option Definition) → IsEntry raw v entry → IfSome entry (Defines raw v)
+pub defines_from_entry : (raw : Raw) (v : ℕ) (entry : Option Definition) → IsEntry raw v entry
+    → IfSome entry (Defines raw v)
 defines_from_entry raw v None h = tt
 defines_from_entry raw v (Some d) h = h
 
-pub free_from_entry : (raw : Raw) (v : ℕ) (entry : Option Definition) → IsEntry raw v entry → IfNone entry (IsFree raw v)
+pub free_from_entry : (raw : Raw) (v : ℕ) (entry : Option Definition) → IsEntry raw v entry
+    → IfNone entry (IsFree raw v)
 free_from_entry raw v None h = h
 free_from_entry raw v (Some d) h = tt
 
@@ -22,8 +25,10 @@ free_from_entry raw v (Some d) h = tt
 pub free_over : (raw : Raw) (v : ℕ) → IsSound raw → raw.max_var < v → IsFree raw v
 free_over raw v sound over (k, lt, is) =
     let below : k < length (definitions raw) = rw length-map at lt in
-    let here : IsInRange raw (get_or (definitions raw) k 0) = All-left (IsInRange raw) (definitions raw) (uses raw) sound.in_range k 0 below in
-    let at : variable (get_or (definitions raw) k 0) ≡ v = sym (get_or-map variable (definitions raw) k 0 v below) ∙ is in
+    let here : IsInRange raw (get_or (definitions raw) k 0) = All-left (IsInRange raw) (definitions raw)
+    (uses raw) sound.in_range k 0 below in
+    let at : variable (get_or (definitions raw) k 0) ≡ v = sym (get_or-map variable (definitions raw) k 0 v below)
+    ∙ is in
     omega arith
 
 -- the entry that reading the table gives

@@ -1,5 +1,5 @@
--- The changes of a circuit: other right sides of a gate, another reset of a latch, another literal at an output, one more
--- gate (profile).
+-- The changes of a circuit: other right sides of a gate, another reset of a latch, another literal at an output, one
+-- more gate (profile).
 use Rattle.std.specs.Prelude.{ℕ, ◌+◌, ◌*◌, [], ◌∷◌, ◌++◌, map, nat_eq, slice_set, if◌then◌else◌}
 use Rattle.aig_base.specs.declared.gate.Gate.{Gate}
 use Rattle.aig_base.specs.declared.latch.Latch.{Latch}
@@ -9,7 +9,11 @@ use Rattle.aig_base.specs.declared.ternary.Tern.TheVariants.{Zero, One, X}
 
 -- the gate, with these right sides if it is the one of this left side
 abbrev pub rewired : ℕ → ℕ → ℕ → Gate → Gate
-rewired lhs r0 r1 g = record { lhs = g.lhs; rhs0 = if nat_eq g.lhs lhs then r0 else g.rhs0; rhs1 = if nat_eq g.lhs lhs then r1 else g.rhs1 }
+rewired lhs r0 r1 g = record {
+  lhs = g.lhs;
+  rhs0 = if nat_eq g.lhs lhs then r0 else g.rhs0;
+  rhs1 = if nat_eq g.lhs lhs then r1 else g.rhs1;
+}
 
 -- the parts, with other right sides at one gate
 abbrev pub with_gate : Raw → ℕ → ℕ → ℕ → Raw
@@ -23,7 +27,8 @@ reset_literal lit X = lit
 
 -- the latch, with this start if it is the one of this literal
 abbrev pub restarted : ℕ → Tern → Latch → Latch
-restarted lit w x = record { lit = x.lit; next = x.next; reset = if nat_eq x.lit lit then reset_literal lit w else x.reset }
+restarted lit w x =
+    record { lit = x.lit; next = x.next; reset = if nat_eq x.lit lit then reset_literal lit w else x.reset }
 
 -- the parts, with another reset at one latch
 abbrev pub with_reset : Raw → ℕ → Tern → Raw

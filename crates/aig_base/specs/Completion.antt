@@ -1,4 +1,5 @@
--- A completion of a start and rows: others of the same lengths, without x, equal to them wherever they are not x (profile).
+-- A completion of a start and rows: others of the same lengths, without x, equal to them wherever they are not x
+-- (profile).
 use Rattle.std.specs.Prelude.{◌≡◌, ◌≢◌, List}
 use Rattle.std.specs.List.{AllZip}
 use Rattle.aig_base.specs.declared.ternary.Tern.{Tern}

@@ -1,5 +1,6 @@
 -- The search for the grounded variables, by marks.
-use Rattle.std.specs.Prelude.{◌≡◌, ◌↔◌, ◌⊎◌, ℕ, ◌+◌, ◌/◌, ◌<◌, List, [], ◌∷◌, length, Bool, true, not, count_by, All, Some, Contains, slice_get}
+use Rattle.std.specs.Prelude.{◌≡◌, ◌↔◌, ◌⊎◌, ℕ, ◌+◌, ◌/◌, ◌<◌, List, [], ◌∷◌, length, Bool, true, not, count_by, All}
+use Rattle.std.specs.Prelude.{Some, Contains, slice_get}
 use Rattle.std.specs.List.{flat_map}
 use Rattle.aig_base.specs.declared.gate.Gate.{Gate}
 use Rattle.aig_base.specs.declared.latch.Latch.{Latch}
@@ -42,7 +43,8 @@ pub record AreStarted (done : List ℕ) (marks : List Bool) (pending : List ℕ)
   pub waiting : (v : ℕ) → IsMarked marks v ↔ Contains pending v
 
 -- a variable is marked, and pending unless it was marked already
-pub record AddsMark (v : ℕ) (marks : List Bool) (pending : List ℕ) (marks' : List Bool) (pending' : List ℕ) : Type 0 where
+pub record AddsMark (v : ℕ) (marks : List Bool) (pending : List ℕ) (marks' : List Bool)
+    (pending' : List ℕ) : Type 0 where
   pub size : length marks' ≡ length marks
   pub steps : steps_left marks' pending' ≡ steps_left marks pending
   pub marked : IsMarked marks' v
@@ -69,4 +71,5 @@ pub record IsMarking (raw : Raw) (next : List ℕ) (link : ℕ) (marks : List Bo
   pub marked : (v : ℕ) → Contains pending v → IsMarked marks v
   pub closed : (q : ℕ) (g : Gate) → slice_get raw.gates q ≡ Some g
       → IsMarked marks (variable g.rhs0) → IsMarked marks (variable g.rhs1)
-      → IsMarked marks (variable g.lhs) ⊎ (Contains pending (variable g.rhs0) ⊎ (Contains pending (variable g.rhs1) ⊎ Waits next link q))
+      → IsMarked marks (variable g.lhs)
+      ⊎ (Contains pending (variable g.rhs0) ⊎ (Contains pending (variable g.rhs1) ⊎ Waits next link q))

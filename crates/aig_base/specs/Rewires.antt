@@ -1,6 +1,7 @@
 -- Levels that are renewed in place where a gate gets other right sides: the search for a cycle, and the pass over the
 -- gates behind the gate, in the order of their old levels.
-use Rattle.std.specs.Prelude.{◌≡◌, ◌≢◌, ◌⊎◌, ℕ, ◌+◌, ◌<◌, ◌≤◌, List, false, not, length, count_by, Some, Contains, slice_get, slice_set, slice_index, slice_index_or, if◌then◌else◌}
+use Rattle.std.specs.Prelude.{◌≡◌, ◌≢◌, ◌⊎◌, ℕ, ◌+◌, ◌<◌, ◌≤◌, List, false, not, length, count_by, Some, Contains}
+use Rattle.std.specs.Prelude.{slice_get, slice_set, slice_index, slice_index_or, if◌then◌else◌}
 use Rattle.aig_base.specs.declared.gate.Gate.{Gate}
 use Rattle.aig_base.specs.declared.raw.Raw.{Raw}
 use Rattle.aig_base.specs.declared.visits.Visits.{Visits}
@@ -69,7 +70,8 @@ pub record Renewing (raw : Raw) (lhs r0 r1 : ℕ) (old row : List ℕ) (waits do
   pub over : (v m k : ℕ) → waits v → Level raw v m → Level raw (variable lhs) k → k < m
   pub order : (v u m n : ℕ) → done v → waits u → Level raw v m → Level raw u n → m ≤ n
 
--- One step of the pass: the gate of w got a level, waits no more, and where that level is another the readers of w wait.
+-- One step of the pass: the gate of w got a level, waits no more, and where that level is another the readers of w
+-- wait.
 pub record RenewsAt (raw : Raw) (w level : ℕ) (row row' : List ℕ) (waits waits' : ℕ → Type 0) : Type 0 where
   pub size : length row' ≡ length row
   pub cell : slice_get row' w ≡ Some level

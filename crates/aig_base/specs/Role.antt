@@ -30,4 +30,5 @@ input_role None other = other
 abbrev pub role : Raw → List ℕ → ℕ → Role
 role raw order v =
     input_role (place_of (λ u. u == v) (map variable raw.inputs))
-    (gate_role (place_of (λ u. u == v) order) (latch_role (place_of (λ u. u == v) (map (λ x. variable x.lit) raw.latches))))
+    (gate_role (place_of (λ u. u == v) order)
+    (latch_role (place_of (λ u. u == v) (map (λ x. variable x.lit) raw.latches))))

@@ -10,7 +10,8 @@ definitions raw = raw.inputs ++ map (λ x. x.lit) raw.latches ++ map (λ g. g.lh
 -- the literals that something reads
 abbrev pub uses : Raw → List ℕ
 uses raw =
-    map (λ x. x.next) raw.latches ++ raw.outputs ++ raw.bad ++ raw.constraints ++ flat_map (λ p. p) raw.justice ++ raw.fairness
+    map (λ x. x.next) raw.latches ++ raw.outputs ++ raw.bad ++ raw.constraints
+    ++ flat_map (λ p. p) raw.justice ++ raw.fairness
     ++ flat_map (λ g. g.rhs0 ∷ g.rhs1 ∷ []) raw.gates
 
 -- the variable is defined; 0 counts as defined

@@ -21,7 +21,8 @@ pub data Value (raw : Raw) (start : List Tern) (rows : List (List Tern)) : ℕ �
   latch_next : (t p : ℕ) (x : Latch) (w : Tern) → slice_get raw.latches p ≡ Some x
       → Value raw start rows t x.next w → Value raw start rows (suc t) x.lit w
   gate : (t q : ℕ) (g : Gate) (a b : Tern) → slice_get raw.gates q ≡ Some g
-      → Value raw start rows t g.rhs0 a → Value raw start rows t g.rhs1 b → Value raw start rows t g.lhs (kleene_and a b)
+      → Value raw start rows t g.rhs0 a → Value raw start rows t g.rhs1 b
+      → Value raw start rows t g.lhs (kleene_and a b)
   negated : (t l : ℕ) (w : Tern) → 1 < l → IsNegated l
       → Value raw start rows t (l - 1) w → Value raw start rows t l (kleene_not w)
 

@@ -41,8 +41,8 @@ fn visit_below(list: &[u32], levels: &[u32], visits: &mut Visits, sought: Sought
     false
 }
 
-// Visits what is behind a gate as far as levels are below the bound. Tells whether one of the sought variables is behind
-// the gate and not the gate itself, and then stops.
+// Visits what is behind a gate as far as levels are below the bound. Tells whether one of the sought variables is
+// behind the gate and not the gate itself, and then stops.
 fn search(
     circuit: &Circuit,
     readers: &Readers,
@@ -75,9 +75,9 @@ fn search(
     false
 }
 
-/// Whether one of two variables is behind a gate: it is the gate, or it reads what is behind it. The search goes from the
-/// gate through readers, and only through those whose level is below that of one of the two, since what reads a variable
-/// has a greater level. No memory.
+/// Whether one of two variables is behind a gate: it is the gate, or it reads what is behind it. The search goes from
+/// the gate through readers, and only through those whose level is below that of one of the two, since what reads a
+/// variable has a greater level. No memory.
 pub(crate) fn is_behind(
     circuit: &Circuit,
     readers: &Readers,

@@ -183,8 +183,8 @@ fn listed_definitions(alloc: Global, raw: &Raw) -> Result<Vec<Option<Definition>
     Ok(table)
 }
 
-// The definitions of parts in range, or the first fault of what they define and use. Where the definitions are in order,
-// as in every binary file, there is none.
+// The definitions of parts in range, or the first fault of what they define and use. Where the definitions are in
+// order, as in every binary file, there is none.
 fn tested_definitions(alloc: Global, raw: &Raw) -> Result<Definitions, Fault>
     requires counts { CountsFit raw.now }
     requires range { AreInRange raw.now }

@@ -14,8 +14,8 @@ use crate::raw::Raw;
 use crate::symbols::Symbols;
 use std::marker::Model;
 
-/// A circuit: parts that are formed, sound and acyclic. `Circuit::check` makes one, and `Circuit::of_ready` one of parts
-/// that are known to be one.
+/// A circuit: parts that are formed, sound and acyclic. `Circuit::check` makes one, and `Circuit::of_ready` one of
+/// parts that are known to be one.
 #[derive(Drop, Debug)]
 pub struct Circuit {
     pub(crate) raw: Raw,
@@ -49,8 +49,8 @@ impl Circuit {
         }
     }
 
-    /// The greatest variable M. Its contract also says that the parts are formed, sound and acyclic: a proof calls it to
-    /// learn that.
+    /// The greatest variable M. Its contract also says that the parts are formed, sound and acyclic: a proof calls it
+    /// to learn that.
     pub fn max_var(&self) -> u32
         ensures value { result ≡ self.now.max_var }
         ensures circuit { IsCircuit self.now }

@@ -12,8 +12,8 @@ use crate::literal::Lit;
 use crate::walk::Walk;
 use std::alloc::Global;
 
-/// Whether the circuit with these right sides at a gate would not be acyclic. `gate` is the gate's even literal, and the
-/// right sides are defined. One walk, linear in the circuit.
+/// Whether the circuit with these right sides at a gate would not be acyclic. `gate` is the gate's even literal, and
+/// the right sides are defined. One walk, linear in the circuit.
 pub fn would_cycle(
     alloc: Global,
     circuit: &Circuit,

@@ -1,10 +1,12 @@
 //! Which variables are grounded.
-ghost use Rattle.std.specs.Prelude.{◌≡◌, ◌↔◌, IsTrue, ◌+◌, ◌/◌, ◌∷◌, ◌++◌, ◌<◌, ◌≤◌, List, [], ℕ, suc, Some, length, map, All, slice_get, IfOk, OnOk};
+ghost use Rattle.std.specs.Prelude.{◌≡◌, ◌↔◌, IsTrue, ◌+◌, ◌/◌, ◌∷◌, ◌++◌, ◌<◌, ◌≤◌, List, [], ℕ, suc, Some, length};
+ghost use Rattle.std.specs.Prelude.{map, All, slice_get, IfOk, OnOk};
 ghost use Rattle.aig_base.specs.Formed.{limit};
 ghost use Rattle.aig_base.specs.Least.{latch_variable};
 ghost use Rattle.aig_base.specs.Links.{AreLinks};
 ghost use Rattle.aig_base.specs.Literal.{variable};
-ghost use Rattle.aig_base.specs.Marks.{sides, AreMarks, HasParts, IsGateBelow, AreStarted, AddsMark, Moves, IsMarked, IsMarking};
+ghost use Rattle.aig_base.specs.Marks.{sides, AreMarks, HasParts, IsGateBelow, AreStarted, AddsMark, Moves, IsMarked};
+ghost use Rattle.aig_base.specs.Marks.{IsMarking};
 ghost use Rattle.aig_base.specs.declared.raw.Raw.{Raw};
 
 use crate::fault::Memory;
@@ -43,7 +45,8 @@ impl Marking {
     // Marks a variable, and lets it wait unless it was marked.
     fn mark(&mut self, variable: u32) -> Result<(), Memory>
         requires { variable < length self.old.walk.met.items }
-        ensures { OnOk result (AddsMark variable self.old.walk.met.items self.old.walk.pending.items self.new.walk.met.items self.new.walk.pending.items) }
+        ensures { OnOk result (AddsMark variable self.old.walk.met.items self.old.walk.pending.items
+            self.new.walk.met.items self.new.walk.pending.items) }
     {
         self.walk.meet(variable)
     }
@@ -59,7 +62,8 @@ impl Marking {
         requires inputs { All (λ l. variable l < max_var + 1) inputs.now }
         requires latches { All (λ x. variable x.lit < max_var + 1) latches.now }
         ensures started { IfOk result
-            (λ m. AreStarted (0 ∷ map variable inputs.now ++ map latch_variable latches.now) m.walk.met.items m.walk.pending.items) }
+            (λ m. AreStarted (0 ∷ map variable inputs.now ++ map latch_variable latches.now)
+            m.walk.met.items m.walk.pending.items) }
         ensures below { IfOk result (λ m. All (λ v. v < length m.walk.met.items) m.walk.pending.items) }
         ensures size { IfOk result (λ m. length m.walk.met.items ≡ max_var + 1) }
     {
@@ -78,7 +82,8 @@ impl Marking {
     // the link that follows.
     fn visit(&mut self, gate: Gate) -> Result<(), Memory>
         requires { IsGateBelow (length self.old.walk.met.items) gate }
-        ensures moves { OnOk result (Moves self.old.walk.met.items self.old.walk.pending.items self.new.walk.met.items self.new.walk.pending.items) }
+        ensures moves { OnOk result (Moves self.old.walk.met.items self.old.walk.pending.items
+            self.new.walk.met.items self.new.walk.pending.items) }
         ensures marking { OnOk result ((raw : Raw) (next : List ℕ) (p link : ℕ)
             → slice_get raw.gates (p / 2) ≡ Some gate → slice_get next p ≡ Some link
             → IsMarking raw next (suc p) self.old.walk.met.items self.old.walk.pending.items
@@ -95,7 +100,8 @@ impl Marking {
         requires readers { AreLinks (sides gates.now) readers.now.first.items readers.now.next.items }
         requires gates { All (IsGateBelow (length self.old.walk.met.items)) gates.now }
         requires link { link ≤ length readers.now.next.items }
-        ensures moves { OnOk result (Moves self.old.walk.met.items self.old.walk.pending.items self.new.walk.met.items self.new.walk.pending.items) }
+        ensures moves { OnOk result (Moves self.old.walk.met.items self.old.walk.pending.items
+            self.new.walk.met.items self.new.walk.pending.items) }
         ensures marking { OnOk result ((raw : Raw) → raw.gates ≡ gates.now
             → IsMarking raw readers.now.next.items link self.old.walk.met.items self.old.walk.pending.items
             → IsMarking raw readers.now.next.items 0 self.new.walk.met.items self.new.walk.pending.items) }

@@ -34,7 +34,8 @@ impl Model for Levels {
 
     ghost view = { λ a. a.levels.items };
 
-    ghost invariant = { λ a. AreNoVisits (length a.levels.items) a.visits × IsEmptyQueue (length a.levels.items) a.queue };
+    ghost invariant = { λ a.
+        AreNoVisits (length a.levels.items) a.visits × IsEmptyQueue (length a.levels.items) a.queue };
 }
 
 /// The variable of a right side that was not met.

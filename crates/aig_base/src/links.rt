@@ -1,5 +1,6 @@
 //! Positions by their keys.
-ghost use Rattle.std.specs.Prelude.{◌≡◌, ◌+◌, ◌*◌, ◌^◌, ◌∷◌, ◌++◌, ◌<◌, ◌≤◌, List, [], ℕ, Some, length, All, slice_get, IfOk, OnOk};
+ghost use Rattle.std.specs.Prelude.{◌≡◌, ◌+◌, ◌*◌, ◌^◌, ◌∷◌, ◌++◌, ◌<◌, ◌≤◌, List, [], ℕ, Some, length, All, slice_get};
+ghost use Rattle.std.specs.Prelude.{IfOk, OnOk};
 ghost use Rattle.aig_base.specs.Formed.{limit};
 ghost use Rattle.aig_base.specs.Links.{AreLinks};
 ghost use Rattle.aig_base.specs.Literal.{variable};
@@ -9,7 +10,8 @@ use crate::fault::Memory;
 use crate::gate::Gate;
 use std::alloc::{AllocError, AllocFailed, Global};
 
-/// The positions of a list of keys, in a chain for each key. Link 0 ends a chain, and link `p + 1` leads to position `p`.
+/// The positions of a list of keys, in a chain for each key. Link 0 ends a chain, and link `p + 1` leads to position
+/// `p`.
 #[derive(Drop)]
 pub(crate) struct Links {
     pub(crate) first: Vec<u32>,

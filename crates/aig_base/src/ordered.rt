@@ -45,8 +45,8 @@ pub(crate) fn is_ascending(raw: &Raw) -> bool
     gates_ascend(raw.gates.as_slice(), first_gate)
 }
 
-/// The test of such parts, or their first fault. Nothing but the range of what the gates do not read, and the resets, is
-/// left to test.
+/// The test of such parts, or their first fault. Nothing but the range of what the gates do not read, and the resets,
+/// is left to test.
 pub(crate) fn test_ascending(raw: &Raw) -> Result<(), Fault>
     requires formed { IsFormed raw.now }
     requires order { IsInOrder raw.now }

@@ -56,8 +56,8 @@ fn rank_pending(
     Ok(rank)
 }
 
-/// A rank for each variable, 0 to `max_var`. It is tried that each gate has a greater rank than what it reads: no more is
-/// said of the ranks, and `all_ascend` tells whether it is so. Linear in the gates and `max_var`.
+/// A rank for each variable, 0 to `max_var`. It is tried that each gate has a greater rank than what it reads: no more
+/// is said of the ranks, and `all_ascend` tells whether it is so. Linear in the gates and `max_var`.
 pub(crate) fn ranks(alloc: Global, max_var: u32, gates: &[Gate]) -> Result<Vec<u32>, Memory>
     requires max_var { max_var ≤ limit }
     requires below { All (IsGateBelow (max_var + 1)) gates.now }

@@ -67,8 +67,8 @@ fn set_level(
     }
 }
 
-/// Makes the levels of a circuit those of the circuit with a changed gate, whose new right sides are not behind it. Only
-/// gates that read a changed level are looked at, each once, in the order of their old levels. No memory.
+/// Makes the levels of a circuit those of the circuit with a changed gate, whose new right sides are not behind it.
+/// Only gates that read a changed level are looked at, each once, in the order of their old levels. No memory.
 pub(crate) fn renew(
     circuit: &Circuit,
     readers: &Readers,

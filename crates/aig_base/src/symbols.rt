@@ -1,5 +1,6 @@
 //! Names of a circuit's entries.
-ghost use Rattle.std.specs.Prelude.{◌≡◌, ◌≢◌, ◌∷◌, ◌++◌, ◌↔◌, ℕ, List, [], length, map, IsTrue, false, Contains, AllPairs, IfOk, OnErr};
+ghost use Rattle.std.specs.Prelude.{◌≡◌, ◌≢◌, ◌∷◌, ◌++◌, ◌↔◌, ℕ, List, [], length, map, IsTrue, false, Contains};
+ghost use Rattle.std.specs.Prelude.{AllPairs, IfOk, OnErr};
 ghost use Rattle.std.specs.Map.{keys_of};
 ghost use Rattle.std.specs.Map.Iter.{ShowsInOrder, deref_pair};
 ghost use Rattle.aig_base.specs.declared.symbols.Kind.{Kind};

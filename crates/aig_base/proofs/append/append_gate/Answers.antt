@@ -28,19 +28,22 @@ make_room_for_list-requires-clause-within1 c =
 pub returns-in_err-make_room_for_list-clause-room : goal.returns-in_err-make_room_for_list-clause-room
 returns-in_err-make_room_for_list-clause-room c =
     on_err c.from_residual.result _
-    (room_kept c.readers.inside.lists.items c.readers.inside.lists.items c.make_room_for_list.new.lists.items _ c.readers.view_is refl
+    (room_kept c.readers.inside.lists.items c.readers.inside.lists.items c.make_room_for_list.new.lists.items _
+    c.readers.view_is refl
     c.make_room_for_list.ensures.keeps)
 
 pub returns-in_err-make_room_for_level-clause-room : goal.returns-in_err-make_room_for_level-clause-room
 returns-in_err-make_room_for_level-clause-room c =
     on_err c.from_residual-in_err-make_room_for_level.result _
-    (room_kept c.readers.inside.lists.items c.readers.inside.lists.items c.make_room_for_list.new.lists.items _ c.readers.view_is refl
+    (room_kept c.readers.inside.lists.items c.readers.inside.lists.items c.make_room_for_list.new.lists.items _
+    c.readers.view_is refl
     c.make_room_for_list.ensures.keeps)
 
 pub returns-in_err-append_gate-clause-room : goal.returns-in_err-append_gate-clause-room
 returns-in_err-append_gate-clause-room c =
     on_err c.from_residual-in_err-append_gate.result _
-    (room_kept c.readers.inside.lists.items c.readers.inside.lists.items c.make_room_for_list.new.lists.items _ c.readers.view_is refl
+    (room_kept c.readers.inside.lists.items c.readers.inside.lists.items c.make_room_for_list.new.lists.items _
+    c.readers.view_is refl
     c.make_room_for_list.ensures.keeps)
 
 pub level_over-level-requires-clause-fits : goal.level_over-level-requires-clause-fits
@@ -57,7 +60,8 @@ returns-clause-levels c =
     let old = c.args.levels.now in
     let same = c.make_room_for_level.ensures.levels ∙ c.levels.view_is in
     let level : c.level_over-level.result ≡ level_above old (next_gate raw r0 r1) =
-    c.level_over-level.ensures ∙ ap (λ (xs : List ℕ). level_above xs c.next_gate-gate.result) (c.deref.ensures.value ∙ same)
+    c.level_over-level.ensures ∙ ap (λ (xs : List ℕ). level_above xs c.next_gate-gate.result) (c.deref.ensures.value
+    ∙ same)
     ∙ ap (λ (g : Gate). level_above old g) c.next_gate-gate.ensures in
     let cells : c.append_level.new.levels.items ≡ old ++ level_above old (next_gate raw r0 r1) ∷ [] =
     c.append_level.ensures.levels ∙ ap (λ (xs : List ℕ). xs ++ c.level_over-level.result ∷ []) same
@@ -75,5 +79,6 @@ returns-clause-readers c =
     c.var-5.ensures ∙ ap (λ (g : Gate). variable g.lhs) c.next_gate-gate.ensures in
     let were = readers_kept raw c.readers.inside.lists.items slots c.make_room_for_list.ensures.keeps
     (subst (λ r. AreReaders raw r) (sym c.readers.view_is) c.requires.readers) in
-    more_readers raw r0 r1 c.max_var.ensures.circuit c.requires.defined0 c.requires.defined1 slots c.append_list.new.lists.items were
+    more_readers raw r0 r1 c.max_var.ensures.circuit c.requires.defined0 c.requires.defined1 slots
+    c.append_list.new.lists.items were
     (rw (c.var-3.ensures, c.var-4.ensures, number) at c.append_list.ensures)

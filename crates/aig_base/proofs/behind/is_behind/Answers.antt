@@ -3,7 +3,8 @@ use Rattle.aig_base.specs.Rewires.{IsApart, IsBehind}
 use Rattle.aig_base.proofs.Gates.{defined_in_range}
 use Rattle.aig_base.proofs.Searches.{apart_at, on_false}
 use Rattle.aig_base.proofs.behind.is_behind.Goals as goal
-use Rattle.aig_base.proofs.behind.is_behind.Goals.{then-first-gate-via-then-first-gate, then-first-gate-via-else-first-gate+then-second-gate}
+use Rattle.aig_base.proofs.behind.is_behind.Goals.{then-first-gate-via-then-first-gate}
+use Rattle.aig_base.proofs.behind.is_behind.Goals.{then-first-gate-via-else-first-gate+then-second-gate}
 
 pub returns-then-first-gate-clause-behind : goal.returns-then-first-gate-clause-behind
 returns-then-first-gate-clause-behind c =
@@ -33,7 +34,8 @@ returns-clause-none c =
     let bound = c.max-bound.result in
     on_false c.search-found.result (IsApart raw gate bound c.args.first × IsApart raw gate bound c.args.second) _
     (λ apart. (
-      apart_at raw c.max_var.ensures.circuit c.args.levels.now c.requires.levels gate bound c.args.first c.requires.defined0
+      apart_at raw c.max_var.ensures.circuit c.args.levels.now c.requires.levels gate bound c.args.first
+          c.requires.defined0
           c.if-first-gate.false (omega (arith, c.max-bound.ensures)) apart.0,
       apart_at raw c.max_var.ensures.circuit c.args.levels.now c.requires.levels gate bound c.args.second
           c.requires.defined1 c.if-second-gate.false (omega (arith, c.max-bound.ensures)) apart.1,

@@ -44,10 +44,12 @@ returns-then-visit_below-clause-found c =
     let le : u ≤ raw.max_var = omega (arith, c.requires.visits.marks, c.requires.levels.size) in
     elim (rw c.list-list.ensures at c.if-visit_below.ensures.found) [
       | inl k ↦
-          inl (searched_found raw c.args.gate s.first s.second s.bound c.args.visits.now c.loop-next.visits c.loop-next.next u
+          inl (searched_found raw c.args.gate s.first s.second s.bound c.args.visits.now c.loop-next.visits
+          c.loop-next.next u
           c.loop-next.invariant at c.args.readers.now c.requires.readers le s.first k)
       | inr k ↦
-          inr (searched_found raw c.args.gate s.first s.second s.bound c.args.visits.now c.loop-next.visits c.loop-next.next u
+          inr (searched_found raw c.args.gate s.first s.second s.bound c.args.visits.now c.loop-next.visits
+          c.loop-next.next u
           c.loop-next.invariant at c.args.readers.now c.requires.readers le s.second k)
     ]
 

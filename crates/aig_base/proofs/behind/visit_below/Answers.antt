@@ -23,14 +23,16 @@ loop-reader-preserved c =
           rw w.visits-is (record {
             among = among_more (take i xs) v c.args.visits.now old w.visit.new.self c.loop-reader.invariant.among
                 w.visit.ensures.among;
-            looked = looks_more (take i xs) c.args.levels.now v c.args.sought.first c.args.sought.second c.args.sought.bound
+            looked = looks_more (take i xs) c.args.levels.now v c.args.sought.first c.args.sought.second
+                c.args.sought.bound
                 old w.visit.new.self c.if-reader-sought.false c.if-reader-sought-2.false w.visit.ensures.among.kept
                 (λ lt. w.visit.ensures.visited) c.loop-reader.invariant.looked;
           })
       | else-levels-reader w ↦
           rw w.visits-is (record {
             among = among_more (take i xs) v c.args.visits.now old old c.loop-reader.invariant.among (among_same _ old);
-            looked = looks_more (take i xs) c.args.levels.now v c.args.sought.first c.args.sought.second c.args.sought.bound
+            looked = looks_more (take i xs) c.args.levels.now v c.args.sought.first c.args.sought.second
+                c.args.sought.bound
                 old old c.if-reader-sought.false c.if-reader-sought-2.false (λ u h. h)
                 (λ lt. absurd (let no = w.if-levels-reader.false in omega arith)) c.loop-reader.invariant.looked;
           })

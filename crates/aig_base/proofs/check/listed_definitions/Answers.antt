@@ -4,7 +4,8 @@ use Rattle.aig_base.specs.Entries.{IsLeastTwice, AreEntries}
 use Rattle.aig_base.specs.Least.{IsLeastAmong, IsKnown}
 use Rattle.aig_base.specs.Literal.{variable}
 use Rattle.aig_base.specs.Sections.{definitions, uses}
-use Rattle.aig_base.proofs.Faults.{first_definition, first_redefined, first_undefined, once_from_table, table_from_entries}
+use Rattle.aig_base.proofs.Faults.{first_definition, first_redefined, first_undefined, once_from_table}
+use Rattle.aig_base.proofs.Faults.{table_from_entries}
 use Rattle.aig_base.proofs.check.listed_definitions.Goals as goal
 
 pub returns-then-not-are_definitions-clause-fault : goal.returns-then-not-are_definitions-clause-fault
@@ -24,26 +25,31 @@ returns-in-Some-least_missing-clause-fault c = λ other.
     let table = c.in_ok-table.field-0.table.items in
     let range = c.requires.range in
     let defs = c.are_definitions.ensures.0 c.if-not-are_definitions.false in
-    let entries = subst (λ (o : Option ℕ). AreEntries raw (map variable (definitions raw)) table o) c.in_default.is c.in_ok-table.ensures in
+    let entries = subst (λ (o : Option ℕ). AreEntries raw (map variable
+    (definitions raw)) table o) c.in_default.is c.in_ok-table.ensures in
     first_undefined raw table range defs entries c.in-Some-least_missing.variable
-    (subst (λ (t : List (Option Definition)). IsLeastAmong (IsKnown t) variable (uses raw) (Some c.in-Some-least_missing.variable)) c.deref.ensures.value
+    (subst (λ (t : List (Option Definition)). IsLeastAmong (IsKnown t) variable (uses raw)
+    (Some c.in-Some-least_missing.variable)) c.deref.ensures.value
     c.in-Some-least_missing.ensures)
 
 pub returns-clause-once : goal.returns-clause-once
 returns-clause-once c =
     let raw = c.args.raw.now in
     let table = c.in_ok-table.field-0.table.items in
-    let entries = subst (λ (o : Option ℕ). AreEntries raw (map variable (definitions raw)) table o) c.in_default.is c.in_ok-table.ensures in
+    let entries = subst (λ (o : Option ℕ). AreEntries raw (map variable
+    (definitions raw)) table o) c.in_default.is c.in_ok-table.ensures in
     let defs = c.are_definitions.ensures.0 c.if-not-are_definitions.false in
     once_from_table raw table c.requires.range defs entries
     (subst (λ (t : List (Option Definition)). IsLeastAmong (IsKnown t) variable (uses raw) None) c.deref.ensures.value
     c.in_default-least_missing.ensures)
 
 pub returns-clause-table : goal.returns-clause-table
-returns-clause-table c = table_from_entries c.args.raw.now c.in_ok-table.field-0.table.items c.in_ok-table.field-0.again c.in_ok-table.ensures
+returns-clause-table c = table_from_entries c.args.raw.now c.in_ok-table.field-0.table.items c.in_ok-table.field-0.again
+    c.in_ok-table.ensures
 
 pub least_missing-requires-clause-entries : goal.least_missing-requires-clause-entries
 least_missing-requires-clause-entries c =
     let raw = c.args.raw.now in
     rw c.deref.ensures.value
-    (subst (λ (o : Option ℕ). AreEntries raw (map variable (definitions raw)) c.in_ok-table.field-0.table.items o) c.in_default.is c.in_ok-table.ensures)
+    (subst (λ (o : Option ℕ). AreEntries raw (map variable (definitions raw)) c.in_ok-table.field-0.table.items o)
+    c.in_default.is c.in_ok-table.ensures)

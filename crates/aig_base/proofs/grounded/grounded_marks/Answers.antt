@@ -16,4 +16,5 @@ returns c = λ raw has.
     let started = started_same _ (source_variables raw) _ _ same c.in_ok-marking.ensures.started in
     let ends = subst (λ (us : List ℕ). IsMarking raw next 0 new us) c.in_ok-close.ensures.done
     (c.in_ok-close.ensures.marking raw has.of_gates (marking_starts raw next marks pending started)) in
-    marking_ends raw next marks pending started c.args.max_var new (c.in_ok-close.ensures.size ∙ c.in_ok-marking.ensures.size) ends c.in_ok-close.ensures.kept
+    marking_ends raw next marks pending started c.args.max_var new (c.in_ok-close.ensures.size
+    ∙ c.in_ok-marking.ensures.size) ends c.in_ok-close.ensures.kept

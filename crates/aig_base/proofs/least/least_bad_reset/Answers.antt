@@ -11,9 +11,11 @@ loop-latch-preserved c =
     elim c.if-not-is_reset.branch [
       | then-not-is_reset w ↦
           rw (w.least-is, w.lesser-least.ensures)
-          (least_more IsReset latch_variable c.args.latches.now c.loop-latch.latch-index x c.loop-latch.least (Some w.var.result)
+          (least_more IsReset latch_variable c.args.latches.now c.loop-latch.latch-index x c.loop-latch.least
+          (Some w.var.result)
           c.loop-latch-test.true c.latch-item.is c.loop-latch.invariant
-          (bad_one IsReset latch_variable x w.var.result w.var.ensures (λ good. true≢false (sym (c.is_reset.ensures.1 good) ∙ w.if-not-is_reset.true))))
+          (bad_one IsReset latch_variable x w.var.result w.var.ensures (λ good. true≢false (sym
+          (c.is_reset.ensures.1 good) ∙ w.if-not-is_reset.true))))
       | else-not-is_reset w ↦
           rw w.least-is
           (least_kept IsReset latch_variable c.args.latches.now c.loop-latch.latch-index x c.loop-latch.least

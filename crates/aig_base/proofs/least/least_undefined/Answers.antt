@@ -14,7 +14,8 @@ returns c =
     let nexts = λ (xs : List Latch). map (λ x. x.next) xs in
     let lists = λ (ps : List (List ℕ)). flat_map (λ p. p) ps in
     let sides = λ (gs : List Gate). flat_map (λ g. g.rhs0 ∷ g.rhs1 ∷ []) gs in
-    let latches = subst (λ (xs : List Latch). IsLeastAmong known variable (nexts xs) c.least_unknown_next-least.result) c.as_slice.ensures c.least_unknown_next-least.ensures in
+    let latches = subst (λ (xs : List Latch). IsLeastAmong known variable
+    (nexts xs) c.least_unknown_next-least.result) c.as_slice.ensures c.least_unknown_next-least.ensures in
     least_joined known variable _ (sides raw.gates) _ _ _ _ (ap sides c.as_slice-7.ensures) c.lesser.ensures
     (least_joined known variable _ raw.fairness _ _ _ _ c.as_slice-6.ensures c.lesser-least-5.ensures
     (least_joined known variable _ (lists raw.justice) _ _ _ _ (ap lists c.as_slice-5.ensures) c.lesser-least-4.ensures

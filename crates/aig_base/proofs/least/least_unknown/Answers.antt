@@ -6,5 +6,6 @@ use Rattle.aig_base.proofs.least.least_unknown.Goals as goal
 pub loop-literal-preserved : goal.loop-literal-preserved
 loop-literal-preserved c =
     rw c.lesser-least.ensures
-    (least_more (IsKnown c.args.table.now) variable c.args.literals.now c.loop-literal.literal-index c.literal-item.result c.loop-literal.least c.unknown.result
+    (least_more (IsKnown c.args.table.now) variable c.args.literals.now c.loop-literal.literal-index
+    c.literal-item.result c.loop-literal.least c.unknown.result
     c.loop-literal-test.true c.literal-item.is c.loop-literal.invariant c.unknown.ensures)

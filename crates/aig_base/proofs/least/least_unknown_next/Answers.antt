@@ -7,5 +7,7 @@ use Rattle.aig_base.proofs.least.least_unknown_next.Goals as goal
 pub loop-latch-preserved : goal.loop-latch-preserved
 loop-latch-preserved c =
     rw c.lesser-least.ensures
-    (least_more_mapped (IsKnown c.args.table.now) variable (λ (x : Latch). x.next) c.args.latches.now c.loop-latch.latch-index c.latch-item.result c.loop-latch.least c.unknown.result
+    (least_more_mapped (IsKnown c.args.table.now) variable (λ
+    (x : Latch). x.next) c.args.latches.now c.loop-latch.latch-index c.latch-item.result c.loop-latch.least
+    c.unknown.result
     c.loop-latch-test.true c.latch-item.is c.loop-latch.invariant c.unknown.ensures)

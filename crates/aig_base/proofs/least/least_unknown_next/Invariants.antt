@@ -4,4 +4,5 @@ use Rattle.aig_base.specs.Literal.{variable}
 use Rattle.aig_base.proofs.least.least_unknown_next.Given as goal
 
 abbrev pub invariant-loop-latch : goal.invariant-loop-latch
-invariant-loop-latch l = IsLeastAmong (IsKnown l.table) variable (map (λ x. x.next) (take l.latch-index l.latches)) l.least
+invariant-loop-latch l = IsLeastAmong (IsKnown l.table) variable (map (λ x. x.next)
+    (take l.latch-index l.latches)) l.least

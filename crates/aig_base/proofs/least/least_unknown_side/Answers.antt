@@ -8,8 +8,12 @@ use Rattle.aig_base.proofs.least.least_unknown_side.Goals as goal
 pub loop-gate-preserved : goal.loop-gate-preserved
 loop-gate-preserved c =
     let g = c.gate-item.result in
-    let both = least_of_both (IsKnown c.args.table.now) variable (g.rhs0 ∷ []) (g.rhs1 ∷ []) _ _ c.unknown.ensures c.unknown-in-loop-gate.ensures in
-    let here = subst (λ (o : Option ℕ). IsLeastAmong (IsKnown c.args.table.now) variable (g.rhs0 ∷ g.rhs1 ∷ []) o) (sym c.lesser-side.ensures) both in
+    let both = least_of_both (IsKnown c.args.table.now) variable (g.rhs0 ∷ [])
+    (g.rhs1 ∷ []) _ _ c.unknown.ensures c.unknown-in-loop-gate.ensures in
+    let here = subst (λ (o : Option ℕ). IsLeastAmong (IsKnown c.args.table.now) variable (g.rhs0 ∷ g.rhs1 ∷ []) o)
+    (sym c.lesser-side.ensures) both in
     rw c.lesser-least.ensures
-    (least_more_pieces (IsKnown c.args.table.now) variable (λ (x : Gate). x.rhs0 ∷ x.rhs1 ∷ []) c.args.gates.now c.loop-gate.gate-index g c.loop-gate.least c.lesser-side.result
+    (least_more_pieces (IsKnown c.args.table.now) variable (λ
+    (x : Gate). x.rhs0 ∷ x.rhs1 ∷ []) c.args.gates.now c.loop-gate.gate-index g c.loop-gate.least
+    c.lesser-side.result
     c.loop-gate-test.true c.gate-item.is c.loop-gate.invariant here)

@@ -15,6 +15,7 @@ loop-place-preserved c = record {
       c.loop-place.invariant.order;
   smaller = λ k d lt. below_more (λ (j : ℕ). ReadsSmaller (get_or c.args.gates.now j d)) c.loop-place.place
       (λ j below. c.loop-place.invariant.smaller j d below)
-      (subst ReadsSmaller (c.index-gates-place.is ∙ get_or_default c.args.gates.now c.loop-place.place _ d c.loop-place-test.true)
+      (subst ReadsSmaller (c.index-gates-place.is ∙ get_or_default c.args.gates.now c.loop-place.place _ d
+      c.loop-place-test.true)
       (c.reads_smaller.ensures.0 c.if-not-reads_smaller.false)) k lt;
 }

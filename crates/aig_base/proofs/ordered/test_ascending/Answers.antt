@@ -22,14 +22,17 @@ returns-then-not-sections_are_in_range-clause-fault c = λ other.
 pub returns-in-Some-clause-fault : goal.returns-in-Some-clause-fault
 returns-in-Some-clause-fault c = λ other.
     let raw = c.args.raw.now in
-    let range = range_from_sections raw c.requires.order c.requires.smaller (c.sections_are_in_range.ensures.0 c.if-not-sections_are_in_range.false) in
+    let range = range_from_sections raw c.requires.order c.requires.smaller
+    (c.sections_are_in_range.ensures.0 c.if-not-sections_are_in_range.false) in
     first_reset raw range (defined_once raw c.requires.order range) c.in-Some.variable
-    (subst (λ (xs : List Latch). IsLeastAmong IsReset latch_variable xs (Some c.in-Some.variable)) c.as_slice.ensures c.in-Some.ensures)
+    (subst (λ (xs : List Latch). IsLeastAmong IsReset latch_variable xs
+    (Some c.in-Some.variable)) c.as_slice.ensures c.in-Some.ensures)
 
 pub returns-in-None-clause-circuit : goal.returns-in-None-clause-circuit
 returns-in-None-clause-circuit c =
     let raw = c.args.raw.now in
-    let range = range_from_sections raw c.requires.order c.requires.smaller (c.sections_are_in_range.ensures.0 c.if-not-sections_are_in_range.false) in
+    let range = range_from_sections raw c.requires.order c.requires.smaller
+    (c.sections_are_in_range.ensures.0 c.if-not-sections_are_in_range.false) in
     let once = defined_once raw c.requires.order range in
     circuit_from_tests raw range once c.requires.formed
     (subst (λ (xs : List Latch). IsLeastAmong IsReset latch_variable xs None) c.as_slice.ensures c.in-None.ensures)

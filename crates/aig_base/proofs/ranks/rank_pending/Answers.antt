@@ -1,4 +1,5 @@
-use Rattle.std.proofs.Common.{◌≡◌, ◌<◌, ◌⊎◌, inl, inr, ◌∙◌, ◌∷◌, ◌++◌, [], ℕ, List, All, length, length-set, subst, sym, ap, true, arith}
+use Rattle.std.proofs.Common.{◌≡◌, ◌<◌, ◌⊎◌, inl, inr, ◌∙◌, ◌∷◌, ◌++◌, [], ℕ, List, All, length, length-set, subst, sym}
+use Rattle.std.proofs.Common.{ap, true, arith}
 use Rattle.std.proofs.lemmas.List.Elements.{All-push}
 use Rattle.aig_base.specs.declared.gate.Gate.{Gate}
 use Rattle.aig_base.specs.Literal.{variable}
@@ -18,8 +19,10 @@ pub loop-top-smaller-in-Some-unmet_side : goal.loop-top-smaller-in-Some-unmet_si
 loop-top-smaller-in-Some-unmet_side c =
     let n = length c.args.walk.now.met.items in
     let i = c.loop-top.invariant in
-    let same : c.push.new.self.items ≡ c.loop-top.walk.pending.items = c.in_ok-push.ensures.items ∙ sym c.in-Some.ensures.items in
-    let low = top_below n c.in-Some.top c.pop.new.self.items (subst (λ (us : List ℕ). All (λ u. u < n) us) c.in-Some.ensures.items i.below) in
+    let same : c.push.new.self.items ≡ c.loop-top.walk.pending.items = c.in_ok-push.ensures.items
+    ∙ sym c.in-Some.ensures.items in
+    let low = top_below n c.in-Some.top c.pop.new.self.items (subst (λ (us : List ℕ). All
+    (λ u. u < n) us) c.in-Some.ensures.items i.below) in
     let gate = subst (IsGateBelow n) (sym c.index-nodes-top.is)
     (c.requires.gates c.in-Some.top c.index-nodes-top.result (let size = c.requires.nodes in omega arith)) in
     let side = side_below n c.in-Some-unmet_side.side c.index-nodes-top.result gate c.in-Some-unmet_side.ensures.side in
@@ -32,8 +35,10 @@ pub loop-top-preserved-in-Some-unmet_side : goal.loop-top-preserved-in-Some-unme
 loop-top-preserved-in-Some-unmet_side c =
     let n = length c.args.walk.now.met.items in
     let i = c.loop-top.invariant in
-    let same : c.push.new.self.items ≡ c.loop-top.walk.pending.items = c.in_ok-push.ensures.items ∙ sym c.in-Some.ensures.items in
-    let low = top_below n c.in-Some.top c.pop.new.self.items (subst (λ (us : List ℕ). All (λ u. u < n) us) c.in-Some.ensures.items i.below) in
+    let same : c.push.new.self.items ≡ c.loop-top.walk.pending.items = c.in_ok-push.ensures.items
+    ∙ sym c.in-Some.ensures.items in
+    let low = top_below n c.in-Some.top c.pop.new.self.items (subst (λ (us : List ℕ). All
+    (λ u. u < n) us) c.in-Some.ensures.items i.below) in
     let gate = subst (IsGateBelow n) (sym c.index-nodes-top.is)
     (c.requires.gates c.in-Some.top c.index-nodes-top.result (let size = c.requires.nodes in omega arith)) in
     let side = side_below n c.in-Some-unmet_side.side c.index-nodes-top.result gate c.in-Some-unmet_side.ensures.side in
@@ -41,5 +46,6 @@ loop-top-preserved-in-Some-unmet_side c =
     (rw c.deref.ensures.value at c.in-Some-unmet_side.ensures.unmet) c.in_ok-meet.ensures in
     record {
       size = ap length marked ∙ length-set c.loop-top.walk.met.items c.in-Some-unmet_side.side true ∙ i.size;
-      below = rw (added, same) (All-push (λ u. u < n) c.loop-top.walk.pending.items c.in-Some-unmet_side.side i.below side);
+      below = rw (added, same) (All-push (λ u. u < n) c.loop-top.walk.pending.items c.in-Some-unmet_side.side i.below
+          side);
     }

@@ -12,6 +12,7 @@ loop-reader-preserved c =
     rw (take_more xs i 0 c.loop-reader-test.true)
     (queues_more (take i xs) c.args.levels.now v c.args.visits.now c.loop-reader.visits c.queue_one.new.visits
     c.args.queue.now c.loop-reader.queue c.queue_one.new.queue
-    (among_more (take i xs) v c.args.visits.now c.loop-reader.visits c.queue_one.new.visits c.loop-reader.invariant.among
+    (among_more (take i xs) v c.args.visits.now c.loop-reader.visits c.queue_one.new.visits
+    c.loop-reader.invariant.among
     c.queue_one.ensures.among)
     c.loop-reader.invariant c.queue_one.ensures)

@@ -41,7 +41,12 @@ one_more_spec 𝓤 𝓛 𝓜 𝓡 wired =
     -- the result is made, with nothing in it
     sets ! (agg ! (no_more !)) refl (tt, tt) $
     returns ! (look_at ! 0 refl) $ free_all ! refl $
-    suffices ! _ (ends_at 𝓛 more.ended lent clauses passed (vstruct vnil) (record { number = a.0.now.number + 1 }) (tt, tt) (tt, tt)) $
+    suffices ! _ (ends_at 𝓛 more.ended lent clauses passed (vstruct vnil) (record { number = a.0.now.number + 1 })
+    (tt, tt) (tt, tt)) $
     says ! refl $
-    pure_i ! (count.the_row.own_val (record { number = a.0.now.number + 1 }) (vstruct vnil ∷ [])) ((λ vss. (tt, tt)), tt) ((tt, (refl, tt)), tt) $
+    pure_i ! (count.the_row.own_val (record { number = a.0.now.number + 1 }) (vstruct vnil ∷ [])) (
+      (λ vss.
+          (tt, tt)),
+      tt,
+    ) ((tt, (refl, tt)), tt) $
     move ! (1 ∷ 2 ∷ 0 ∷ []) $ done !)))

@@ -21,7 +21,8 @@ pub zero_spec : {M : Type 1} → statement M
 zero_spec 𝓤 𝓛 𝓜 𝓡 wired =
     let clauses = zero.clauses 𝓛 𝓜.mem 𝓡.returns in
     let none : (walk_of 𝓛 zero.ended tt clauses).Ghost = ((tt, tt, tt, tt, tt), tt) in
-    proved 𝓛 zero.ended tt clauses 𝓜 𝓡 tt zero.Key.name code.function (code.unfolded 𝓤 𝓛.H 𝓜 𝓡 wired) (λ κs. tt) (λ κs. tt)
+    proved 𝓛 zero.ended tt clauses 𝓜 𝓡 tt zero.Key.name code.function (code.unfolded 𝓤 𝓛.H 𝓜 𝓡 wired) (λ κs. tt)
+    (λ κs. tt)
     (λ κs qs bounds a g are. via 𝓤 _ (fst∗ 𝓤 _ (emp 𝓤))
     (qed 𝓛 (raw (alive 𝓛 zero.signature tt tt) ∷ ‵ (owns [] tt tt) ∷ []) ∵ enter ! _ _ code.function [] _ $
     alloc_all ! (λ l. pass_all ! refl tt $
@@ -30,5 +31,11 @@ zero_spec 𝓤 𝓛 𝓜 𝓡 wired =
     returns ! (look_at ! 0 refl) $ free_all ! refl $
     suffices ! _ (ends_at 𝓛 zero.ended tt clauses none (vstruct vnil) (record { number = 0 }) tt tt) $
     says ! refl $
-    pure_i ! (count.the_row.own_val (record { number = 0 }) (vstruct vnil ∷ [])) ((λ vss. (tt, tt)), tt) ((tt, (refl, tt)), tt) $
+    pure_i ! (count.the_row.own_val (record { number = 0 }) (vstruct vnil ∷ [])) ((λ vss. (tt, tt)), tt) (
+      (
+        tt,
+        (refl, tt),
+      ),
+      tt,
+    ) $
     move ! (1 ∷ 2 ∷ 0 ∷ []) $ done !)))

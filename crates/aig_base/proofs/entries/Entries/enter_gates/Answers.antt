@@ -11,5 +11,12 @@ loop-position-preserved c =
     let p = c.loop-position.position in
     let x = c.index.result.now in
     let within : p < length raw.gates = omega arith in
-    entries_same raw _ _ _ _ (one_more (map variable raw.inputs ++ map latch_variable raw.latches) gate_variable raw.gates p c.var.result x within c.index.ensures c.var.ensures)
-    (c.enter.ensures raw _ c.loop-position.invariant (x, slice_get_read raw.gates _ p x refl within c.index.ensures, sym c.var.ensures))
+    entries_same raw _ _ _ _ (one_more (map variable raw.inputs
+    ++ map latch_variable raw.latches) gate_variable raw.gates p c.var.result x within c.index.ensures
+    c.var.ensures)
+    (c.enter.ensures raw _ c.loop-position.invariant (
+      x,
+      slice_get_read raw.gates _ p x refl within c.index.ensures,
+      sym
+          c.var.ensures,
+    ))

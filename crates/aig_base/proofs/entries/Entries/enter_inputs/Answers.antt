@@ -11,4 +11,8 @@ loop-position-preserved c =
     let x = c.index.result.now in
     let within : p < length raw.inputs = omega arith in
     entries_same raw _ _ _ _ (one_more_first variable raw.inputs p c.var.result x within c.index.ensures c.var.ensures)
-    (c.enter.ensures raw _ c.loop-position.invariant (x, slice_get_read raw.inputs _ p x refl within c.index.ensures, sym c.var.ensures))
+    (c.enter.ensures raw _ c.loop-position.invariant (
+      x,
+      slice_get_read raw.inputs _ p x refl within c.index.ensures,
+      sym c.var.ensures,
+    ))

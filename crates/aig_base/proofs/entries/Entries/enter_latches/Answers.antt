@@ -11,5 +11,10 @@ loop-position-preserved c =
     let p = c.loop-position.position in
     let x = c.index.result.now in
     let within : p < length raw.latches = omega arith in
-    entries_same raw _ _ _ _ (one_more (map variable raw.inputs) latch_variable raw.latches p c.var.result x within c.index.ensures c.var.ensures)
-    (c.enter.ensures raw _ c.loop-position.invariant (x, slice_get_read raw.latches _ p x refl within c.index.ensures, sym c.var.ensures))
+    entries_same raw _ _ _ _ (one_more (map variable raw.inputs) latch_variable raw.latches p c.var.result x within
+    c.index.ensures c.var.ensures)
+    (c.enter.ensures raw _ c.loop-position.invariant (
+      x,
+      slice_get_read raw.latches _ p x refl within c.index.ensures,
+      sym c.var.ensures,
+    ))

@@ -5,4 +5,5 @@ use Rattle.aig_base.specs.Literal.{variable}
 use Rattle.aig_base.proofs.entries.Entries.enter_latches.Given as goal
 
 abbrev pub invariant-loop-position : goal.invariant-loop-position
-invariant-loop-position l = AreEntries l.raw (map variable l.raw.inputs ++ map latch_variable (take l.position l.raw.latches)) l.self.table.items l.self.again
+invariant-loop-position l = AreEntries l.raw (map variable l.raw.inputs ++ map latch_variable
+    (take l.position l.raw.latches)) l.self.table.items l.self.again

@@ -19,6 +19,7 @@ loop-variable-preserved c =
       kept = λ u h. moves.kept u (i.kept u h);
       marking = λ raw same begun.
           c.in_ok-visit_chain.ensures.marking raw same
-          (take_pending raw c.args.gates.now c.args.readers.now.first.items c.args.readers.now.next.items v c.first-link.result marks pending rest
+          (take_pending raw c.args.gates.now c.args.readers.now.first.items c.args.readers.now.next.items v
+          c.first-link.result marks pending rest
           c.requires.readers same c.first-link.ensures is (i.marking raw same begun));
     }

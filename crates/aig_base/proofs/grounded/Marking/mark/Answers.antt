@@ -5,4 +5,5 @@ pub returns : goal.returns
 returns c =
     let old = c.args.self.now.walk in
     let new = c.meet.new.self in
-    mark_meets c.args.variable old.met.items new.met.items old.pending.items new.pending.items _ c.requires c.meet.ensures
+    mark_meets c.args.variable old.met.items new.met.items old.pending.items new.pending.items _ c.requires
+    c.meet.ensures

@@ -20,7 +20,8 @@ loop-input-preserved c =
     let moves = moves_from_mark c.in_ok-mark-2.ensures in
     record {
       started = started_same _ _ _ _
-          (ap (λ vs. 0 ∷ vs) (one_more_first variable c.args.inputs.now c.loop-input.input-index c.var.result c.input-item.result c.loop-input-test.true c.input-item.is c.var.ensures))
+          (ap (λ vs. 0 ∷ vs) (one_more_first variable c.args.inputs.now c.loop-input.input-index c.var.result
+          c.input-item.result c.loop-input-test.true c.input-item.is c.var.ensures))
           (started_more _ i.started c.in_ok-mark-2.ensures);
       below = moves.below i.below;
       size = moves.size ∙ i.size;
@@ -32,7 +33,9 @@ loop-latch-preserved c =
     let moves = moves_from_mark c.in_ok-mark-3.ensures in
     record {
       started = started_same _ _ _ _
-          (one_more (0 ∷ map variable c.args.inputs.now) latch_variable c.args.latches.now c.loop-latch.latch-index c.var-in-loop-latch.result c.latch-item.result c.loop-latch-test.true c.latch-item.is c.var-in-loop-latch.ensures)
+          (one_more (0 ∷ map variable c.args.inputs.now) latch_variable c.args.latches.now c.loop-latch.latch-index
+          c.var-in-loop-latch.result c.latch-item.result c.loop-latch-test.true c.latch-item.is
+          c.var-in-loop-latch.ensures)
           (started_more _ i.started c.in_ok-mark-3.ensures);
       below = moves.below i.below;
       size = moves.size ∙ i.size;

@@ -6,14 +6,16 @@ use Rattle.aig_base.proofs.grounded.Marking.of_sources.Given as goal
 
 abbrev pub invariant-loop-input : goal.invariant-loop-input
 invariant-loop-input l = record {
-  started : AreStarted (0 ∷ map variable (take l.input-index l.inputs)) l.marking.walk.met.items l.marking.walk.pending.items;
+  started : AreStarted (0 ∷ map variable (take l.input-index l.inputs)) l.marking.walk.met.items
+      l.marking.walk.pending.items;
   below : All (λ v. v < length l.marking.walk.met.items) l.marking.walk.pending.items;
   size : length l.marking.walk.met.items ≡ l.max_var + 1;
 }
 
 abbrev pub invariant-loop-latch : goal.invariant-loop-latch
 invariant-loop-latch l = record {
-  started : AreStarted (0 ∷ map variable l.inputs ++ map latch_variable (take l.latch-index l.latches)) l.marking.walk.met.items l.marking.walk.pending.items;
+  started : AreStarted (0 ∷ map variable l.inputs ++ map latch_variable
+      (take l.latch-index l.latches)) l.marking.walk.met.items l.marking.walk.pending.items;
   below : All (λ v. v < length l.marking.walk.met.items) l.marking.walk.pending.items;
   size : length l.marking.walk.met.items ≡ l.max_var + 1;
 }

@@ -2,7 +2,8 @@ use Rattle.std.proofs.Common.{ℕ, subst, sym, ◌∙◌, true≢false}
 use Rattle.aig_base.specs.Marks.{IsMarked, AddsMark}
 use Rattle.aig_base.proofs.Marking.{moves_from_mark, visit_none, visit_both}
 use Rattle.aig_base.proofs.grounded.Marking.visit.Goals as goal
-use Rattle.aig_base.proofs.grounded.Marking.visit.Goals.{else-is_marked-via-then-is_marked+else-is_marked-2, else-is_marked-via-else-is_marked}
+use Rattle.aig_base.proofs.grounded.Marking.visit.Goals.{else-is_marked-via-then-is_marked+else-is_marked-2}
+use Rattle.aig_base.proofs.grounded.Marking.visit.Goals.{else-is_marked-via-else-is_marked}
 
 pub returns-in_ok-mark-clause-moves : goal.returns-in_ok-mark-clause-moves
 returns-in_ok-mark-clause-moves c = moves_from_mark c.in_ok-mark.ensures
@@ -14,8 +15,10 @@ returns-in_ok-mark-clause-marking c = λ raw next p link at on i.
     let marks' = c.mark.new.self.walk.met.items in
     let pending' = c.mark.new.self.walk.pending.items in
     let m0 = subst (λ (v : ℕ). IsMarked marks v) c.var.ensures (c.is_marked.ensures.0 c.if-is_marked.true) in
-    let m1 = subst (λ (v : ℕ). IsMarked marks v) c.var-then-is_marked.ensures (c.is_marked-then-is_marked.ensures.0 c.if-is_marked-2.true) in
-    let adds = subst (λ (v : ℕ). AddsMark v marks pending marks' pending') c.var-then-is_marked-2.ensures c.in_ok-mark.ensures in
+    let m1 = subst (λ (v : ℕ). IsMarked marks v) c.var-then-is_marked.ensures
+    (c.is_marked-then-is_marked.ensures.0 c.if-is_marked-2.true) in
+    let adds = subst (λ (v : ℕ). AddsMark v marks pending marks' pending') c.var-then-is_marked-2.ensures
+    c.in_ok-mark.ensures in
     visit_both raw next p link c.args.gate at on marks pending marks' pending' m0 m1 adds i
 
 pub returns-else-is_marked-clause-marking : goal.returns-else-is_marked-clause-marking

@@ -8,15 +8,28 @@ use Rattle.aig_base.proofs.grounded.Marking.visit_chain.Goals as goal
 
 pub bounds-gates-position : goal.bounds-gates-position
 bounds-gates-position c =
-    omega (arith, c.requires.readers.size, length-sides c.args.gates.now, c.loop-link.invariant.within, c.loop-link-test.true)
+    omega (
+      arith,
+      c.requires.readers.size,
+      length-sides c.args.gates.now,
+      c.loop-link.invariant.within,
+      c.loop-link-test.true,
+    )
 
 pub visit-requires : goal.visit-requires
 visit-requires c =
     let gates = c.args.gates.now in
     let q = (c.loop-link.link - 1) / 2 in
     let within : q < length gates =
-    omega (arith, c.requires.readers.size, length-sides c.args.gates.now, c.loop-link.invariant.within, c.loop-link-test.true) in
-    let here = subst (λ (g : Gate). IsGateBelow (length c.args.self.now.walk.met.items) g) (sym c.index-gates-position.is)
+    omega (
+      arith,
+      c.requires.readers.size,
+      length-sides c.args.gates.now,
+      c.loop-link.invariant.within,
+      c.loop-link-test.true,
+    ) in
+    let here = subst (λ (g : Gate). IsGateBelow (length c.args.self.now.walk.met.items) g)
+    (sym c.index-gates-position.is)
     (c.requires.gates q c.index-gates-position.result within) in
     subst (λ (n : ℕ). IsGateBelow n c.index-gates-position.result) (sym c.loop-link.invariant.moves.size) here
 
@@ -28,7 +41,13 @@ loop-link-preserved c =
     let gate = c.index-gates-position.result in
     let i = c.loop-link.invariant in
     let within : p / 2 < length gates =
-    omega (arith, c.requires.readers.size, length-sides c.args.gates.now, c.loop-link.invariant.within, c.loop-link-test.true) in
+    omega (
+      arith,
+      c.requires.readers.size,
+      length-sides c.args.gates.now,
+      c.loop-link.invariant.within,
+      c.loop-link-test.true,
+    ) in
     let at = slice_get_read gates _ (p / 2) gate refl within c.index-gates-position.is in
     let link : c.loop-link.link ≡ suc p = omega (arith, c.loop-link-test.true) in
     record {
@@ -37,5 +56,6 @@ loop-link-preserved c =
       marking = λ raw same begun.
           c.in_ok-visit.ensures.marking raw next p c.next-link.result
           (subst (λ gs. slice_get gs (p / 2) ≡ Some gate) (sym same) at) c.next-link.ensures
-          (subst (λ n. IsMarking raw next n c.loop-link.self.walk.met.items c.loop-link.self.walk.pending.items) link (i.marking raw same begun));
+          (subst (λ n. IsMarking raw next n c.loop-link.self.walk.met.items c.loop-link.self.walk.pending.items) link
+          (i.marking raw same begun));
     }

@@ -5,10 +5,12 @@ use Rattle.aig_base.proofs.grounded.Marking.visit_chain.Given as goal
 
 abbrev pub invariant-loop-link : goal.invariant-loop-link
 invariant-loop-link l = record {
-  moves : Moves l.initial.self.walk.met.items l.initial.self.walk.pending.items l.self.walk.met.items l.self.walk.pending.items;
+  moves : Moves l.initial.self.walk.met.items l.initial.self.walk.pending.items l.self.walk.met.items
+      l.self.walk.pending.items;
   within : l.link ≤ length l.readers.next.items;
   marking : (raw : Raw) → raw.gates ≡ l.gates
-      → IsMarking raw l.readers.next.items l.initial.link l.initial.self.walk.met.items l.initial.self.walk.pending.items
+      → IsMarking raw l.readers.next.items l.initial.link l.initial.self.walk.met.items
+      l.initial.self.walk.pending.items
       → IsMarking raw l.readers.next.items l.link l.self.walk.met.items l.self.walk.pending.items;
 }
 

@@ -20,5 +20,6 @@ returns-then-is_behind-clause-cycle c =
 pub returns-clause-acyclic : goal.returns-clause-acyclic
 returns-clause-acyclic c =
     let apart = rw (c.var.ensures, c.var-2.ensures, c.var-3.ensures) at c.if-is_behind.ensures.none in
-    acyclic_from_before c.args.circuit.now c.max_var.ensures.circuit.sound c.args.gate c.args.r0 c.args.r1 c.requires.gate
+    acyclic_from_before c.args.circuit.now c.max_var.ensures.circuit.sound c.args.gate c.args.r0 c.args.r1
+    c.requires.gate
     c.max_var.ensures.circuit.acyclic c.requires.defined0 c.requires.defined1 apart.0 apart.1

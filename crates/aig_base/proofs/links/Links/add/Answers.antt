@@ -11,5 +11,6 @@ returns-clause-links c = λ keys h.
     let at = slice_get_read first _ c.args.key c.index-first.result.now refl c.requires.key c.index-first.ensures in
     let e : length next + 1 ≡ c.len.result + 1 = omega (arith, c.args.self.now.next.ok.0, c.len.ensures) in
     rw c.in_ok-push.ensures.items
-    (subst (λ (n : ℕ). AreLinks (keys ++ c.args.key ∷ []) (set first c.args.key n) (next ++ c.index-first.result.now ∷ [])) e
+    (subst (λ (n : ℕ). AreLinks (keys ++ c.args.key ∷ []) (set first c.args.key n) (next
+    ++ c.index-first.result.now ∷ [])) e
     (link_more keys first next c.args.key c.index-first.result.now h at))

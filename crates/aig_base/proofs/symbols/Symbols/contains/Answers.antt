@@ -4,5 +4,6 @@ use Rattle.aig_base.proofs.symbols.Symbols.contains.Goals as goal
 
 pub returns : goal.returns
 returns c =
-    let has = hash_map_contains_key_iff {eq = key_eq} key_laws (λ x y. (key_same x y).0) c.self.inside.names (c.args.kind, c.args.position) in
+    let has = hash_map_contains_key_iff {eq = key_eq} key_laws (λ x y. (key_same x y).0) c.self.inside.names
+    (c.args.kind, c.args.position) in
     rw (c.contains_key.ensures, ← c.self.view_is) has

@@ -1,4 +1,5 @@
-use Rattle.std.proofs.Common.{◌≡◌, ◌∙◌, ◌↔◌, ◌≤◌, ℕ, List, [], length, Contains, ap, get_or, count_by, nat_eq, subst, sym, arith}
+use Rattle.std.proofs.Common.{◌≡◌, ◌∙◌, ◌↔◌, ◌≤◌, ℕ, List, [], length, Contains, ap, get_or, count_by, nat_eq, subst}
+use Rattle.std.proofs.Common.{sym, arith}
 use Rattle.aig_base.specs.declared.raw.Raw.{Raw}
 use Rattle.aig_base.specs.Literal.{variable}
 use Rattle.aig_base.specs.Readers.{AreReaders, ReaderLists, Reads}
