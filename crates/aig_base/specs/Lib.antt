@@ -16,6 +16,7 @@ pub mod Laws
 pub mod Least
 pub mod LevelChains
 pub mod Levels
+pub mod Limits
 pub mod Links
 pub mod Literal
 pub mod Marks

@@ -2,6 +2,7 @@
 use Rattle.std.specs.Prelude.{◌≡◌, ℕ, ◌-◌, ◌<◌, ◌≤◌, Bool, List, ◌++◌, length, drop, replicate, All}
 use Rattle.aig_base.specs.declared.ternary.Tern.{Tern}
 use Rattle.aig_base.specs.declared.ternary.Tern.TheVariants.{X}
+use Rattle.aig_base.specs.Limits.{frame_limit}
 use Rattle.aig_sim.specs.InputRows.{row_at}
 
 -- a row for n variables with cells for as many as the room says; all cells behind the n are x, as a cell that comes
@@ -11,7 +12,7 @@ IsPadded n room row = (room ≤ length row) × (drop n row ≡ replicate (length
 
 -- the rows of a grid with n variables, within a bench's limits
 pub record ArePadded (n room : ℕ) (flags : List Bool) (rows : List (List Tern)) : Type 0 where
-  pub count : length rows ≤ 65536
+  pub count : length rows ≤ frame_limit
   pub constant : 0 < n
   pub fits : n ≤ room
   pub limit : room ≤ 4194304

@@ -5,6 +5,7 @@ use Rattle.aig_base.specs.declared.ternary.Tern.{Tern}
 use Rattle.aig_base.specs.declared.ternary.Tern.TheVariants.{Zero, One, X}
 use Rattle.aig_sim.specs.declared.stimulus_fault.StimFault.{StimFault}
 use Rattle.aig_sim.specs.declared.stimulus_fault.StimFault.TheVariants as fault
+use Rattle.aig_base.specs.Limits.{frame_limit}
 
 -- `0`, `1` or `x`
 abbrev pub character : Tern → ℕ
@@ -41,7 +42,7 @@ HasFault width before line rest (fault.Char n) = (n ≡ line_number before) × E
 HasFault width before line rest (fault.Length n) =
     (n ≡ line_number before) × EndsLine rest × All IsCharacter line × (length line ≢ width)
 HasFault width before line rest fault.Limit =
-    (before ≡ 65536) × EndsLine rest × All IsCharacter line × (length line ≡ width)
+    (before ≡ frame_limit) × EndsLine rest × All IsCharacter line × (length line ≡ width)
 HasFault width before line rest fault.Memory = ⊥
 HasFault width before line rest fault.Io = ⊥
 

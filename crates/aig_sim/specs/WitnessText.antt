@@ -5,6 +5,7 @@ use Rattle.aig_base.specs.declared.ternary.Tern.{Tern}
 use Rattle.aig_base.specs.declared.raw.Raw.{Raw}
 use Rattle.aig_sim.specs.declared.witness_fault.WitnessFault.{WitnessFault}
 use Rattle.aig_sim.specs.declared.witness_fault.WitnessFault.TheVariants as fault
+use Rattle.aig_base.specs.Limits.{frame_limit}
 use Rattle.aig_sim.specs.StimulusText.{row_line, HaveWidth}
 
 -- the digits are the number in decimal, of any length and without leading zeros: a digit, or a positive number and a digit
@@ -37,12 +38,12 @@ pub record SpellsWitness (raw : Raw) (text : List ℕ) (w : Witness) : Type 0 wh
 
 -- the circuit has the property, and the frames are within the limit
 abbrev pub IsAdmitted : Raw → Witness → Type 0
-IsAdmitted raw w = (w.property < length raw.bad) × (length w.rows ≤ 65536)
+IsAdmitted raw w = (w.property < length raw.bad) × (length w.rows ≤ frame_limit)
 
 -- the first of the faults: no witness's text; no such property; over 65,536 frames
 abbrev pub HasWitnessFault : Raw → List ℕ → WitnessFault → Type 0
 HasWitnessFault raw text fault.Text = (w : Witness) → SpellsWitness raw text w → ⊥
 HasWitnessFault raw text fault.Property = (w : Witness) × SpellsWitness raw text w × (length raw.bad ≤ w.property)
 HasWitnessFault raw text fault.Limit =
-    (w : Witness) × SpellsWitness raw text w × (w.property < length raw.bad) × (65536 < length w.rows)
+    (w : Witness) × SpellsWitness raw text w × (w.property < length raw.bad) × (frame_limit < length w.rows)
 HasWitnessFault raw text fault.Memory = Unit {0}

@@ -2,6 +2,7 @@
 ghost use Rattle.std.specs.Prelude.{◌≡◌, ◌≢◌, ℕ, ◌-◌, ◌+◌, ◌*◌, ◌<◌, ◌≤◌, ◌↔◌, Bool, true, false, List, [], ◌∷◌, ◌++◌, length, map, take, IsTrue, IfOk, OnOk, OnErr, Some, slice_get, slice_index_or};
 ghost use Rattle.aig_base.specs.declared.ternary.Tern.{Tern};
 ghost use Rattle.aig_base.specs.declared.ternary.Tern.TheVariants.{X};
+ghost use Rattle.aig_base.specs.Limits.{cell_limit, frame_limit};
 ghost use Rattle.aig_base.specs.Literal.{variable, IsEven};
 ghost use Rattle.aig_sim.specs.Cells.{gate_value, fresh_row, with_new_cell};
 ghost use Rattle.aig_sim.specs.InputRows.{with_cell, row_at};
@@ -77,8 +78,8 @@ pub trait Grid: Sized + Drop {
 
     /// Appends a row: x everywhere, 0 at variable 0. Rows and cells stay within a bench's limits.
     fn add_row(&mut self) -> Result<(), Memory>
-        requires rows { length (cells self.old) < 65536 }
-        requires limit { (length (cells self.old) + 1) * length (gate_flags self.old) ≤ 67108864 }
+        requires rows { length (cells self.old) < frame_limit }
+        requires limit { (length (cells self.old) + 1) * length (gate_flags self.old) ≤ cell_limit }
         ensures ok { OnOk result (cells self.new ≡ cells self.old ++ fresh_row (length (gate_flags self.old)) ∷ []) }
         ensures err { OnErr result (cells self.new ≡ cells self.old) }
         ensures gates { gate_flags self.new ≡ gate_flags self.old }

@@ -3,6 +3,7 @@ ghost use Rattle.std.specs.Prelude.{◌≡◌, ℕ, ◌≤◌, List, length};
 ghost use Rattle.aig_base.specs.declared.ternary.Tern.{Tern};
 ghost use Rattle.aig_sim.specs.declared.stimulus_fault.StimFault.{StimFault};
 ghost use Rattle.aig_base.specs.declared.raw.Raw.{Raw};
+ghost use Rattle.aig_base.specs.Limits.{frame_limit};
 ghost use Rattle.aig_sim.specs.StimulusText.{SpellsRows, HasFaultyLine};
 ghost use Rattle.aig_sim.specs.WitnessText.{Witness, SpellsWitness};
 
@@ -12,9 +13,9 @@ pub fn law_of_stimulus_text()
     ensures rows { (width : ℕ) (text : List ℕ) (rows rows' : List (List Tern)) →
         SpellsRows width text rows → SpellsRows width text rows' → rows ≡ rows' }
     ensures no_fault { (width : ℕ) (text : List ℕ) (rows rows' : List (List Tern)) (fault : StimFault) →
-        length rows ≤ 65536 → SpellsRows width text rows → HasFaultyLine width text rows' fault → ⊥ }
+        length rows ≤ frame_limit → SpellsRows width text rows → HasFaultyLine width text rows' fault → ⊥ }
     ensures fault { (width : ℕ) (text : List ℕ) (rows rows' : List (List Tern)) (fault fault' : StimFault) →
-        length rows ≤ 65536 → length rows' ≤ 65536 →
+        length rows ≤ frame_limit → length rows' ≤ frame_limit →
         HasFaultyLine width text rows fault → HasFaultyLine width text rows' fault' →
         (rows ≡ rows') × (fault ≡ fault') }
 {}

@@ -1,6 +1,7 @@
 //! The text of a stimulus.
 ghost use Rattle.std.specs.Prelude.{◌≡◌, ◌≢◌, ℕ, ◌≤◌, List, [], ◌∷◌, ◌++◌, length, IfOk, IfErr, OnOk};
 ghost use Rattle.aig_base.specs.declared.ternary.Tern.{Tern};
+ghost use Rattle.aig_base.specs.Limits.{frame_limit};
 ghost use Rattle.aig_sim.specs.LineInHand.{Keeps};
 ghost use Rattle.aig_sim.specs.declared.line_in_hand.Shape.TheVariants as shapes;
 ghost use Rattle.aig_sim.specs.StimulusText.{EndsLine, SpellsRows, HasFault, HasFaultyLine};
@@ -14,7 +15,7 @@ use std::alloc::Global;
 fn end_line(stimulus: &mut Stimulus, line: &LineInHand) -> Result<(), StimFault>
     requires { line.now.width ≡ stimulus.old.width }
     ensures width { stimulus.new.width ≡ stimulus.old.width }
-    ensures limit { length stimulus.new.rows ≤ 65536 }
+    ensures limit { length stimulus.new.rows ≤ frame_limit }
     ensures row { OnOk result ((line.now.shape ≡ shapes.Row) × (length line.now.values ≡ line.now.width)
         × (stimulus.new.rows ≡ stimulus.old.rows ++ line.now.values ∷ [])) }
     ensures fault { IfErr result (λ fault. fault ≢ StimFault.Memory → (bytes rest : List ℕ) →
@@ -35,9 +36,9 @@ fn end_line(stimulus: &mut Stimulus, line: &LineInHand) -> Result<(), StimFault>
 pub fn read_stimulus(alloc: Global, bytes: &[u8], width: u32) -> Result<Stimulus, StimFault>
     ensures width { IfOk result (λ stimulus. stimulus.width ≡ width) }
     ensures rows { IfOk result (λ stimulus. SpellsRows width bytes.now stimulus.rows) }
-    ensures limit { IfOk result (λ stimulus. length stimulus.rows ≤ 65536) }
+    ensures limit { IfOk result (λ stimulus. length stimulus.rows ≤ frame_limit) }
     ensures fault { IfErr result (λ fault. fault ≢ StimFault.Memory →
-        (rows : List (List Tern)) × (length rows ≤ 65536) × HasFaultyLine width bytes.now rows fault) }
+        (rows : List (List Tern)) × (length rows ≤ frame_limit) × HasFaultyLine width bytes.now rows fault) }
 {
     let mut stimulus = Stimulus::new(alloc, width);
     let mut line = LineInHand::new(alloc, width as usize, 0)?;

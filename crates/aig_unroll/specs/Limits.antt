@@ -2,12 +2,9 @@
 use Rattle.std.specs.Prelude.{ℕ, ◌+◌, ◌*◌, ◌<◌, ◌≤◌, ◌⊎◌, List, length}
 use Rattle.aig_base.specs.declared.raw.Raw.{Raw}
 use Rattle.aig_base.specs.Formed.{limit}
+use Rattle.aig_base.specs.Limits.{frame_limit}
 use Rattle.aig_unroll.specs.FrameLiteral.{frame_size, input_count}
 use Rattle.aig_unroll.specs.Unrolled.{kept_constraints}
-
--- at most this many frames
-abbrev pub frame_limit : ℕ
-frame_limit = 65536
 
 -- there are justice properties or fairness constraints
 abbrev pub HasLiveness : Raw → Type 0

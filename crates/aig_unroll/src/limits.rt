@@ -1,6 +1,7 @@
 //! What can be unrolled.
 ghost use Rattle.std.specs.Prelude.{◌≡◌, ◌≤◌, ◌*◌, ◌↔◌, IsTrue, length};
 ghost use Rattle.aig_base.specs.Formed.{limit};
+ghost use Rattle.aig_base.specs.Limits.{frame_limit};
 ghost use Rattle.aig_unroll.specs.Limits.{FitsLimits, HasLiveness};
 ghost use Rattle.aig_unroll.specs.Unrolled as parts;
 
@@ -30,10 +31,10 @@ fn kept_constraints(circuit: &Circuit) -> usize
 
 // A count of all frames.
 fn in_frames(frames: usize, count: usize) -> usize
-    requires frames { frames ≤ 65536 }
+    requires frames { frames ≤ frame_limit }
     requires count { count ≤ 3 * limit }
     ensures value { result ≡ frames * count }
-    ensures small { result ≤ 65536 * (3 * limit) }
+    ensures small { result ≤ frame_limit * (3 * limit) }
 {
     frames * count
 }

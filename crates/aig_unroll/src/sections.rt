@@ -1,6 +1,7 @@
 //! The sections of an unrolled circuit.
 ghost use Rattle.std.specs.Prelude.{◌≡◌, ◌≤◌, ◌<◌, ◌+◌, true, false, OnOk, IfOk, All, length};
 ghost use Rattle.aig_base.specs.Formed.{limit};
+ghost use Rattle.aig_base.specs.Limits.{frame_limit};
 ghost use Rattle.aig_base.specs.Order.{IsCanonicalOrder};
 ghost use Rattle.aig_base.specs.Renumbered as renumbered;
 ghost use Rattle.aig_base.specs.RenumberingTable.{IsGateListed, AreListed};
@@ -106,7 +107,7 @@ fn ordered_gates(alloc: Global, circuit: &Circuit, order: &[u32]) -> Result<List
 // The frame behind this one.
 fn next_frame(alloc: Global, plan: &Plan, frame: &Frame, circuit: &Circuit) -> Result<Frame, Memory>
     requires within { IsWithin plan.now frame.now }
-    requires number { frame.now.number < 65536 }
+    requires number { frame.now.number < frame_limit }
     requires listed { AreListed circuit.now plan.now.numbers.items }
     ensures { IfOk result (IsNextFrame circuit.now plan.now frame.now) }
 {
