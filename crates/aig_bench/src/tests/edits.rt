@@ -2,7 +2,7 @@
 use super::{Parts, bench};
 use crate::{Bench, EditFault, EditReport};
 use Answer::{Refused, Report, Value};
-use Step::{Add, At, Bit, Drop, Reset, Sides};
+use Step::{Add, Append, At, Bit, Drop, Output, Reset, Sides};
 use Tern::{One, X, Zero};
 use aig_base::{Lit, Tern};
 use aig_sim::{ByteGrid, Grid, PlaneGrid};
@@ -17,6 +17,8 @@ enum Step {
     Reset(u32, Tern),
     Add(&'static [Tern]),
     Drop,
+    Append(u32, u32),
+    Output(u32, u32),
     At(u32, u32),
 }
 
@@ -53,6 +55,10 @@ fn answer_of<G: Grid>(bench: &mut Bench<G>, step: Step) -> Answer {
         Reset(latch, value) => Answer::of_edit(bench.set_reset(Lit::new(latch), value)),
         Add(row) => Answer::of_edit(bench.add_frame(row)),
         Drop => Answer::of_edit(bench.drop_frame()),
+        Append(r0, r1) => Answer::of_edit(bench.append_gate(Lit::new(r0), Lit::new(r1))),
+        Output(position, literal) => {
+            Answer::of_edit(bench.set_output(position, Lit::new(literal)))
+        }
         At(frame, literal) => Answer::of_value(bench.value(frame, Lit::new(literal))),
     }
 }
@@ -100,7 +106,7 @@ const LATCHES_IN_A_ROW: Parts = Parts {
     gates: &[(10, 8, 6)],
 };
 
-static TABLE: [Row; 8] = [
+static TABLE: [Row; 10] = [
     Row {
         parts: TWO_GATES,
         stimulus: b"11\n01\n",
@@ -136,6 +142,31 @@ static TABLE: [Row; 8] = [
             (Add(&[One]), Refused(EditFault::Length)),
             (Add(&[Zero, One]), Report(2, 0)),
             (Drop, Report(0, 0)),
+        ],
+    },
+    Row {
+        parts: TWO_GATES,
+        stimulus: b"11\n01\n",
+        steps: &[
+            (Append(9, 2), Report(2, 0)),
+            (At(0, 10), Value(Zero)),
+            (At(1, 10), Value(Zero)),
+            (Output(0, 10), Report(0, 0)),
+            (Sides(6, 10, 2), Refused(EditFault::Cycle)),
+            (Output(1, 2), Refused(EditFault::NoOutput)),
+            (Output(1, 12), Refused(EditFault::Range)),
+            (Append(12, 0), Refused(EditFault::Range)),
+        ],
+    },
+    Row {
+        parts: TWO_GATES,
+        stimulus: b"11\n01\n",
+        steps: &[
+            (Append(9, 2), Report(2, 0)),
+            (Append(11, 4), Report(2, 0)),
+            (Output(0, 12), Report(0, 0)),
+            (Add(&[One, Zero]), Report(4, 0)),
+            (Sides(10, 2, 4), Report(5, 3)),
         ],
     },
     Row {

@@ -65,6 +65,42 @@ fn is_right<G: Grid>(alloc: Global, max_var: u32) -> Result<bool, Fail>
     Ok(ends(&mut bench, u64::from(max_var - 1)) == (Ok(end), Ok(Tern::X), true))
 }
 
+// Appends so many gates to a wire, each the negation of the variable before it.
+fn append_chain<G: Grid>(bench: &mut Bench<G>, gates: u32) -> bool
+    requires { gates ≤ 1000 }
+{
+    for variable in 1..gates + 1 {
+        let before = Lit::new(2 * variable + 1);
+        if bench.append_gate(before, before).is_err() {
+            return false;
+        }
+    }
+    true
+}
+
+// Whether an edit goes through 130 gates that were appended, which have more levels and cells than two words.
+fn is_grown<G: Grid>(alloc: Global) -> Result<bool, Fail> {
+    let mut raw = Parts::empty(alloc, 1);
+    raw.inputs.push(Lit::new(2))?;
+    let mut bench = bench::<G>(alloc, circuit(alloc, raw)?, b"0\n")?;
+    let all = EditReport {
+        evaluated: 130,
+        changed: 130,
+    };
+    Ok(
+        append_chain(&mut bench, 130)
+            && bench.set_bit(0, 0, Tern::One) == Ok(all)
+            && bench.value(0, Lit::new(262)) == Ok(Tern::One),
+    )
+}
+
+#[test]
+fn appended_words(rt: HostRuntime) -> Result<(), Fail> {
+    assert!(rt; is_grown::<ByteGrid>(rt.alloc())?);
+    assert!(rt; is_grown::<PlaneGrid>(rt.alloc())?);
+    Ok(())
+}
+
 #[test]
 fn ends_of_words(rt: HostRuntime) -> Result<(), Fail> {
     for max_var in [31, 32, 62, 63, 64, 127, 128, 129] {
