@@ -5,6 +5,7 @@ use Rattle.aig_base.specs.declared.ternary.Tern.{Tern}
 use Rattle.aig_base.specs.declared.fault.Fault.{Fault}
 use Rattle.aig_base.specs.declared.fault.Fault.TheVariants as circuits
 use Rattle.aig_base.specs.Circuit.{IsCircuit}
+use Rattle.aig_base.specs.Limits.{cell_limit, frame_limit}
 use Rattle.aig_format.specs.Spells.{Spells}
 use Rattle.aig_format.specs.Verdict.{IsReading}
 use Rattle.aig_sim.specs.declared.stimulus_fault.StimFault.{StimFault}
@@ -25,12 +26,12 @@ pub record IsFileOf (bytes : List ℕ) (raw : Raw) : Type 0 where
 pub record AreFilesOf (circuit stimulus : List ℕ) (pair : Pair) : Type 0 where
   pub circuit_is : IsFileOf circuit pair.circuit
   pub rows_are : SpellsRows (length pair.circuit.inputs) stimulus pair.rows
-  pub frames : length pair.rows ≤ 65536
+  pub frames : length pair.rows ≤ frame_limit
 
 -- the same, and a bench has room for the cells
 pub record AreBenchFiles (circuit stimulus : List ℕ) (pair : Pair) : Type 0 where
   pub files_are : AreFilesOf circuit stimulus pair
-  pub cells : (pair.circuit.max_var + 1) * length pair.rows ≤ 67108864
+  pub cells : (pair.circuit.max_var + 1) * length pair.rows ≤ cell_limit
 
 -- why a circuit file is refused; no read fails
 abbrev pub RefusesCircuit : List ℕ → Fault → Type 0
@@ -39,12 +40,12 @@ RefusesCircuit bytes fault = IsReading bytes (Err fault) × (fault ≢ circuits.
 -- why a stimulus of a width is refused: its first faulty line
 abbrev pub RefusesStimulus : ℕ → List ℕ → StimFault → Type 0
 RefusesStimulus width text fault =
-    fault ≢ stimuli.Memory → (rows : List (List Tern)) × (length rows ≤ 65536) × HasFaultyLine width text rows fault
+    fault ≢ stimuli.Memory → (rows : List (List Tern)) × (length rows ≤ frame_limit) × HasFaultyLine width text rows fault
 
 -- why no bench is made of a circuit and rows of its width: too many cells
 abbrev pub RefusesBench : Pair → BenchFault → Type 0
 RefusesBench pair benches.Width = ⊥
-RefusesBench pair benches.Limit = 67108864 < (pair.circuit.max_var + 1) * length pair.rows
+RefusesBench pair benches.Limit = cell_limit < (pair.circuit.max_var + 1) * length pair.rows
 RefusesBench pair benches.Memory = Unit {0}
 
 -- why a run ends before its script is read

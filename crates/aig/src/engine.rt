@@ -1,6 +1,7 @@
 //! The simulation and the bench from bytes to bytes.
 ghost use Rattle.std.specs.Prelude.{◌≡◌, ℕ, ◌≤◌, List, length, Err, IfOk, IfErr};
 ghost use Rattle.aig_base.specs.Circuit.{IsCircuit};
+ghost use Rattle.aig_base.specs.Limits.{frame_limit};
 ghost use Rattle.aig_sim.specs.StimulusText.{SpellsRows};
 ghost use Rattle.aig.specs.Converted.{EndsFrom, reads_failed};
 ghost use Rattle.aig.specs.Engines.{BenchEnds, SimulationEnds, script_of};
@@ -28,7 +29,7 @@ fn read_rows(alloc: Global, circuit: &Circuit, file: &[u8]) -> Result<Stimulus, 
     requires { IsCircuit circuit.now }
     ensures width { IfOk result (λ stimulus. stimulus.width ≡ length circuit.now.inputs) }
     ensures rows { IfOk result (λ stimulus. SpellsRows (length circuit.now.inputs) file.now stimulus.rows) }
-    ensures limit { IfOk result (λ stimulus. length stimulus.rows ≤ 65536) }
+    ensures limit { IfOk result (λ stimulus. length stimulus.rows ≤ frame_limit) }
     ensures fault { IfErr result (RefusesStimulus (length circuit.now.inputs) file.now) }
 {
     read_stimulus(alloc, file, circuit.inputs().len() as u32)

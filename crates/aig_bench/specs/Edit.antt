@@ -1,6 +1,7 @@
 -- Edits of a circuit and its rows (profile).
 use Rattle.std.specs.Prelude.{◌≡◌, ◌≢◌, ◌⊎◌, ℕ, ◌+◌, ◌-◌, ◌*◌, ◌<◌, ◌≤◌, List, [], ◌∷◌, ◌++◌, length, take, Result, Ok, Err}
 use Rattle.aig_base.specs.declared.ternary.Tern.{Tern}
+use Rattle.aig_base.specs.Limits.{cell_limit, frame_limit}
 use Rattle.aig_base.specs.Literal.{variable}
 use Rattle.aig_base.specs.Sections.{IsDefined, IsLeftSide, IsLatchLiteral}
 use Rattle.aig_base.specs.Grounded.{IsAcyclic}
@@ -40,7 +41,7 @@ Forbids p (set_reset latch w) fault.NotALatch = IsLatchLiteral p.circuit latch �
 Forbids p (set_bit t i w) fault.NoFrame = length p.rows ≤ t
 Forbids p (set_bit t i w) fault.NoInput = length p.circuit.inputs ≤ i
 Forbids p (add_frame row) fault.Length = length row ≢ length p.circuit.inputs
-Forbids p (add_frame row) fault.Limit = ((p.circuit.max_var + 1) * (length p.rows + 1) ≤ 67108864) × (length p.rows < 65536) → ⊥
+Forbids p (add_frame row) fault.Limit = ((p.circuit.max_var + 1) * (length p.rows + 1) ≤ cell_limit) × (length p.rows < frame_limit) → ⊥
 Forbids p drop_frame fault.Empty = p.rows ≡ []
 Forbids p (append_gate r0 r1) fault.Range = IsInRange p.circuit r0 × IsInRange p.circuit r1 → ⊥
 Forbids p (append_gate r0 r1) fault.Undefined =

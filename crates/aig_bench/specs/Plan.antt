@@ -1,6 +1,7 @@
 -- What a bench simulates: a circuit and a stimulus (profile).
 use Rattle.std.specs.Prelude.{◌≡◌, ◌+◌, ◌*◌, ◌≤◌, length}
 use Rattle.aig_base.specs.Circuit.{IsCircuit}
+use Rattle.aig_base.specs.Limits.{cell_limit, frame_limit}
 use Rattle.aig_sim.specs.StimulusText.{HaveWidth}
 use Rattle.aig_bench.specs.declared.plan.Plan.{Plan}
 use Rattle.aig_bench.specs.Pair.{Pair}
@@ -14,5 +15,5 @@ pub record IsPlan (plan : Plan) : Type 0 where
   pub circuit : IsCircuit plan.circuit
   pub width : plan.stimulus.width ≡ length plan.circuit.inputs
   pub widths : HaveWidth plan.stimulus.width plan.stimulus.rows
-  pub frames : length plan.stimulus.rows ≤ 65536
-  pub cells : (plan.circuit.max_var + 1) * length plan.stimulus.rows ≤ 67108864
+  pub frames : length plan.stimulus.rows ≤ frame_limit
+  pub cells : (plan.circuit.max_var + 1) * length plan.stimulus.rows ≤ cell_limit

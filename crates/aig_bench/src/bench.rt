@@ -5,6 +5,7 @@ ghost use Rattle.aig_base.specs.Changes.{with_gate};
 ghost use Rattle.aig_base.specs.Circuit.{IsCircuit};
 ghost use Rattle.aig_base.specs.Grounded.{IsAcyclic};
 ghost use Rattle.aig_base.specs.Levels.{AreLevels};
+ghost use Rattle.aig_base.specs.Limits.{cell_limit};
 ghost use Rattle.aig_base.specs.Literal.{variable};
 ghost use Rattle.aig_base.specs.Readers.{AreReaders, list_of};
 ghost use Rattle.aig_base.specs.Renumbered.{IsBinaryReady};
@@ -78,7 +79,7 @@ fn cells(circuit: &Circuit, frames: u32) -> u64
 fn check_sizes(circuit: &Circuit, stimulus: &Stimulus) -> Result<(), BenchFault>
     ensures width { IsErrOf result BenchFault.Width ↔ (stimulus.now.width ≢ length circuit.now.inputs) }
     ensures limit { IsErrOf result BenchFault.Limit ↔ (stimulus.now.width ≡ length circuit.now.inputs)
-        × (67108864 < (circuit.now.max_var + 1) * length stimulus.now.rows) }
+        × (cell_limit < (circuit.now.max_var + 1) * length stimulus.now.rows) }
     ensures memory { IsErrOf result BenchFault.Memory → ⊥ }
 {
     if stimulus.width() as usize != circuit.inputs().len() {
@@ -93,7 +94,7 @@ fn check_sizes(circuit: &Circuit, stimulus: &Stimulus) -> Result<(), BenchFault>
 /// A plan of the two.
 fn make_plan(circuit: Circuit, stimulus: Stimulus) -> Plan
     requires width { stimulus.width ≡ length circuit.inputs }
-    requires limit { (circuit.max_var + 1) * length stimulus.rows ≤ 67108864 }
+    requires limit { (circuit.max_var + 1) * length stimulus.rows ≤ cell_limit }
     ensures plan { IsPlan result }
     ensures pair { pair_of result ≡ record { circuit = circuit; rows = stimulus.rows } }
 {
@@ -135,7 +136,7 @@ fn fill_all<G: Grid>(grid: &mut G, plan: &Plan, net: &Net, pending: &mut Pending
 /// A bench of the two.
 fn make<G: Grid>(alloc: Global, circuit: Circuit, stimulus: Stimulus) -> Result<Bench<G>, Memory>
     requires width { stimulus.width ≡ length circuit.inputs }
-    requires limit { (circuit.max_var + 1) * length stimulus.rows ≤ 67108864 }
+    requires limit { (circuit.max_var + 1) * length stimulus.rows ≤ cell_limit }
     ensures { IfOk result (λ bench. bench.pair ≡ record { circuit = circuit; rows = stimulus.rows }) }
 {
     let plan = make_plan(circuit, stimulus);
@@ -189,7 +190,7 @@ impl<G: Grid> Bench<G> {
     pub fn new(alloc: Global, circuit: Circuit, stimulus: Stimulus) -> Result<Bench<G>, BenchFault>
         ensures width { IsErrOf result BenchFault.Width ↔ (stimulus.width ≢ length circuit.inputs) }
         ensures limit { IsErrOf result BenchFault.Limit ↔ (stimulus.width ≡ length circuit.inputs)
-            × (67108864 < (circuit.max_var + 1) * length stimulus.rows) }
+            × (cell_limit < (circuit.max_var + 1) * length stimulus.rows) }
         ensures made { IfOk result (λ bench. bench.pair ≡ record { circuit = circuit; rows = stimulus.rows }) }
     {
         check_sizes(&circuit, &stimulus)?;

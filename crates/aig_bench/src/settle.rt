@@ -2,6 +2,7 @@
 ghost use Rattle.std.specs.Prelude.{IfOk, Bool, ◌≡◌, ◌≢◌, ◌⊎◌, ◌↔◌, ℕ, ◌+◌, ◌<◌, ◌≤◌, List, length, Some, None, slice_get, Contains, IfSome, IfNone, [], ◌*◌};
 ghost use Rattle.aig_base.specs.declared.ternary.Tern as ternary;
 ghost use Rattle.aig_base.specs.Grounded.{IsSource};
+ghost use Rattle.aig_base.specs.Limits.{cell_limit};
 ghost use Rattle.aig_sim.specs.InputRows.{row_at, with_cell};
 ghost use Rattle.aig_bench.specs.Buckets.{Waits};
 ghost use Rattle.aig_base.specs.Levels.{AreLevels};
@@ -88,7 +89,7 @@ fn settle_next<G: Grid>(
 
 /// Counts one more evaluation.
 fn count(report: &mut EditReport, changed: bool)
-    requires evaluated { report.old.evaluated < 67108864 }
+    requires evaluated { report.old.evaluated < cell_limit }
     requires changed { report.old.changed ≤ report.old.evaluated }
     ensures evaluated { report.new.evaluated ≡ report.old.evaluated + 1 }
     ensures changed { report.new.changed ≡ report.old.changed + changes_of (Some changed) }
