@@ -31,7 +31,8 @@ fn write_ready<W: Write>(alloc: Global, circuit: &Circuit, out: &mut W) -> Resul
     as_output(write_binary(&renumbered, out))
 }
 
-/// Writes a circuit in a format: to text as it stands, to binary as it stands where it is ready for that, else renumbered.
+/// Writes a circuit in a format: to text as it stands, to binary as it stands where it is ready for that, else
+/// renumbered.
 fn write_converted<W: Write>(
     alloc: Global,
     circuit: &Circuit,
@@ -46,9 +47,9 @@ fn write_converted<W: Write>(
     }
 }
 
-/// Writes the circuit that a reader holds in a format: to text as it stands, to binary as it stands where it is ready for
-/// that, else renumbered. Counts and resets of 0 that may be left out are left out. The file is never held whole: memory
-/// is taken for its circuit alone.
+/// Writes the circuit that a reader holds in a format: to text as it stands, to binary as it stands where it is ready
+/// for that, else renumbered. Counts and resets of 0 that may be left out are left out. The file is never held whole:
+/// memory is taken for its circuit alone.
 pub fn convert_from<R: Read, W: Write>(
     alloc: Global,
     reader: &mut R,

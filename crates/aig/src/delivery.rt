@@ -26,14 +26,15 @@ pub fn deliver_circuit<R: Read, W: Write>(
 ) -> Result<(), RunFault>
     ensures { Delivers W.written RunFault.Output
         (λ left answer. EndsFrom R.left R.failures circuit.old circuit.new out.old left
-        (λ bytes. ConversionEnds (all_written W.written) calls_failed out.old left bytes to answer) answer) out.new result }
+        (λ bytes. ConversionEnds (all_written W.written) calls_failed out.old left bytes to answer) answer) out.new
+            result }
 {
     let done = convert_from(alloc, circuit, to, out);
     handed_on(done, out, RunFault::Output)
 }
 
-/// Writes the trace of a stimulus, and answers how many frames there were. Where the writer below fails, the fault is the
-/// stimulus's.
+/// Writes the trace of a stimulus, and answers how many frames there were. Where the writer below fails, the fault is
+/// the stimulus's.
 pub fn deliver_trace<C: Read, R: Read, W: Write>(
     alloc: Global,
     circuit: &mut C,
@@ -58,7 +59,8 @@ pub fn deliver_replies<R: Read, W: Write>(
     out: &mut Buffered<W>,
 ) -> Result<(), RunFault>
     ensures { Delivers W.written (RunFault.Script ScriptFault.Io)
-        (λ left answer. BenchEnds R.left R.failures (all_written W.written) calls_failed script.old script.new out.old left
+        (λ left answer. BenchEnds R.left R.failures (all_written W.written) calls_failed script.old script.new out.old
+            left
         circuit.now stimulus.now answer) out.new result }
 {
     let done = run_bench::<PlaneGrid, R, Buffered<W>>(alloc, circuit, stimulus, script, out);

@@ -59,8 +59,8 @@ fn as_script(done: Result<(), ScriptFault>) -> Result<(), RunFault>
     }
 }
 
-/// Reads circuit and stimulus, makes the bench and runs the script on it: for every circuit file that is accepted, every
-/// stimulus for it and every script, the bytes that are written are those of the script's meaning.
+/// Reads circuit and stimulus, makes the bench and runs the script on it: for every circuit file that is accepted,
+/// every stimulus for it and every script, the bytes that are written are those of the script's meaning.
 pub fn run_bench<G: Grid, R: Read, W: Write>(
     alloc: Global,
     circuit: &[u8],

@@ -27,9 +27,11 @@ fn feed<G: Grid, W: Write>(
     ensures rest { OnOk result ((text : List ℕ) → KeepsLine text line.old →
         KeepsLine (rest_from text chunk.now) line.new) }
     ensures ok { OnOk result ((text : List ℕ) → KeepsLine text line.old →
-        Answered W.written W.failures out.old out.new (map whole (lines_from text chunk.now)) bench.old.pair bench.new.pair) }
+        Answered W.written W.failures out.old out.new (map whole (lines_from text chunk.now)) bench.old.pair
+            bench.new.pair) }
     ensures err { OnErr result ((text : List ℕ) → KeepsLine text line.old →
-        StoppedAt W.written W.failures out.old out.new (map whole (lines_from text chunk.now)) bench.old.pair bench.new.pair) }
+        StoppedAt W.written W.failures out.old out.new (map whole (lines_from text chunk.now)) bench.old.pair
+            bench.new.pair) }
 {
     for byte in chunk {
         if *byte == b'\n' {
@@ -52,9 +54,11 @@ fn answer_lines<G: Grid, R: Read, W: Write>(
 ) -> Result<(), Io>
     requires empty { KeepsLine [] line.old }
     requires width { line.old.row.width ≡ length bench.old.pair.circuit.inputs }
-    ensures ok { OnOk result (Reading R.left R.failures W.written W.failures reader.old reader.new out.old out.new line.new bench.old.pair bench.new.pair) }
+    ensures ok { OnOk result (Reading R.left R.failures W.written W.failures reader.old reader.new out.old out.new
+        line.new bench.old.pair bench.new.pair) }
     ensures end { OnOk result (IsAtEnd (R.left reader.new)) }
-    ensures err { OnErr result (Failing R.left R.failures W.written W.failures reader.old reader.new out.old out.new bench.old.pair bench.new.pair) }
+    ensures err { OnErr result (Failing R.left R.failures W.written W.failures reader.old reader.new out.old out.new
+        bench.old.pair bench.new.pair) }
 {
     let mut buffer = [0u8; 4096];
     loop {
@@ -77,8 +81,10 @@ fn answer_all<G: Grid, R: Read, W: Write>(
 ) -> Result<(), Io>
     requires empty { KeepsLine [] line.old }
     requires width { line.old.row.width ≡ length bench.old.pair.circuit.inputs }
-    ensures ok { OnOk result (Ran R.left R.failures W.written W.failures reader.old reader.new out.old out.new bench.old.pair bench.new.pair) }
-    ensures err { OnErr result (Failing R.left R.failures W.written W.failures reader.old reader.new out.old out.new bench.old.pair bench.new.pair) }
+    ensures ok { OnOk result (Ran R.left R.failures W.written W.failures reader.old reader.new out.old out.new
+        bench.old.pair bench.new.pair) }
+    ensures err { OnErr result (Failing R.left R.failures W.written W.failures reader.old reader.new out.old out.new
+        bench.old.pair bench.new.pair) }
 {
     answer_lines(alloc, bench, line, reader, out)?;
     if line.is_empty() {
@@ -90,17 +96,19 @@ fn answer_all<G: Grid, R: Read, W: Write>(
 
 /// Reads a script to its end and answers its lines one by one, each before it reads on. It flushes before each read, so
 /// that whoever waits for the replies to what was read has them, and behind the last reply. A line of any length is
-/// handled without keeping it; a last piece with bytes and no LF is bad. It takes memory for a row before the first read,
-/// and behind that none but what `w`, `+`, `g` and `u` take for the bench.
+/// handled without keeping it; a last piece with bytes and no LF is bad. It takes memory for a row before the first
+/// read, and behind that none but what `w`, `+`, `g` and `u` take for the bench.
 pub fn run_script<G: Grid, R: Read, W: Write>(
     alloc: Global,
     bench: &mut Bench<G>,
     reader: &mut R,
     out: &mut W,
 ) -> Result<(), ScriptFault>
-    ensures replies { OnOk result (Ran R.left R.failures W.written W.failures reader.old reader.new out.old out.new bench.old.pair bench.new.pair) }
+    ensures replies { OnOk result (Ran R.left R.failures W.written W.failures reader.old reader.new out.old out.new
+        bench.old.pair bench.new.pair) }
     ensures io { IfErr result (λ fault. fault ≡ ScriptFault.Io →
-        Failing R.left R.failures W.written W.failures reader.old reader.new out.old out.new bench.old.pair bench.new.pair) }
+        Failing R.left R.failures W.written W.failures reader.old reader.new out.old out.new bench.old.pair
+            bench.new.pair) }
     ensures memory { IfErr result (λ fault. fault ≡ ScriptFault.Memory →
         (reader.new ≡ reader.old) × (out.new ≡ out.old) × (bench.new ≡ bench.old)) }
 {

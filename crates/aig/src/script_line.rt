@@ -10,8 +10,8 @@ use std::marker::Model;
 /// The longest command that appends no frame has 34 bytes.
 const ROOM: usize = 35;
 
-/// What is kept of a line of any length: its first bytes, as many as tell whether it is a command, and where it appends a
-/// frame as many values as a row has.
+/// What is kept of a line of any length: its first bytes, as many as tell whether it is a command, and where it appends
+/// a frame as many values as a row has.
 #[derive(Drop)]
 pub struct ScriptLine {
     bytes: [u8; ROOM],

@@ -1,6 +1,7 @@
 -- Edits of a circuit and its rows (profile).
 use Rattle.std.specs.Prelude.{◌≡◌, ◌≢◌, ◌⊎◌, ℕ, ◌+◌, ◌-◌, ◌*◌, ◌<◌, ◌≤◌, List, [], ◌∷◌, ◌++◌, length, take, Result, Ok, Err}
 use Rattle.aig_base.specs.declared.ternary.Tern.{Tern}
+use Rattle.aig_base.specs.Formed.{limit}
 use Rattle.aig_base.specs.Limits.{cell_limit, frame_limit}
 use Rattle.aig_base.specs.Literal.{variable}
 use Rattle.aig_base.specs.Sections.{IsDefined, IsLeftSide, IsLatchLiteral}
@@ -47,7 +48,7 @@ Forbids p (append_gate r0 r1) fault.Range = IsInRange p.circuit r0 × IsInRange 
 Forbids p (append_gate r0 r1) fault.Undefined =
     IsDefined p.circuit (variable r0) × IsDefined p.circuit (variable r1) → ⊥
 Forbids p (append_gate r0 r1) fault.Limit =
-    (p.circuit.max_var < 4194303) × ((p.circuit.max_var + 2) * length p.rows ≤ 67108864) → ⊥
+    (p.circuit.max_var < limit) × ((p.circuit.max_var + 2) * length p.rows ≤ cell_limit) → ⊥
 Forbids p (set_output i l) fault.Range = IsInRange p.circuit l → ⊥
 Forbids p (set_output i l) fault.Undefined = IsDefined p.circuit (variable l) → ⊥
 Forbids p (set_output i l) fault.NoOutput = length p.circuit.outputs ≤ i

@@ -1,6 +1,8 @@
 //! Which faults of an edit apply, before anything changes.
 ghost use Rattle.std.specs.Prelude.{◌≡◌, ◌↔◌, ◌⊎◌, ◌+◌, ◌*◌, ◌<◌, ◌≤◌, length, IfErr, IfOk, IfNone, IfSome, OnOk, IsTrue};
 ghost use Rattle.aig_base.specs.declared.ternary.Tern.{Tern};
+ghost use Rattle.aig_base.specs.Formed.{limit};
+ghost use Rattle.aig_base.specs.Limits.{cell_limit};
 ghost use Rattle.aig_base.specs.Literal.{variable};
 ghost use Rattle.aig_base.specs.Sections.{IsDefined, IsLatchLiteral, IsLeftSide};
 ghost use Rattle.aig_base.specs.Sound.{IsInRange, IsSound};
@@ -10,13 +12,10 @@ ghost use Rattle.aig_bench.specs.Plan.{IsPlan, pair_of};
 
 use crate::edit::EditFault;
 use crate::plan::Plan;
-use aig_base::{Circuit, Definition, Lit};
+use aig_base::{Circuit, Definition, LIMIT, Lit};
 
 /// The greatest number of cells of a bench: variables times frames.
 pub const CELLS: u64 = 67_108_864;
-
-/// The greatest variable of a circuit.
-const MAX_VAR: u32 = 4_194_303;
 
 /// Whether a variable is 0 or defined.
 pub fn is_defined(circuit: &Circuit, variable: u32) -> bool
@@ -89,12 +88,12 @@ fn check_sides(circuit: &Circuit, r0: Lit, r1: Lit) -> Result<(), EditFault>
 
 /// Whether one more variable, and a cell of it at each frame, are within the limits.
 fn has_room_for_variable(plan: &Plan) -> bool
-    ensures { IsTrue result ↔ ((plan.now.circuit.max_var < 4194303)
-        × ((plan.now.circuit.max_var + 2) * length plan.now.stimulus.rows ≤ 67108864)) }
+    ensures { IsTrue result ↔ ((plan.now.circuit.max_var < limit)
+        × ((plan.now.circuit.max_var + 2) * length plan.now.stimulus.rows ≤ cell_limit)) }
 {
     let max_var = plan.circuit.max_var();
     let frames = u64::from(plan.stimulus.frames());
-    max_var < MAX_VAR && (u64::from(max_var) + 2) * frames <= CELLS
+    (max_var as usize) < LIMIT && (u64::from(max_var) + 2) * frames <= CELLS
 }
 
 /// The fault of a rewire, but for a cycle: no gate, then right sides out of range, then undefined ones.
@@ -102,7 +101,8 @@ pub fn check_rewire(plan: &Plan, lhs: Lit, r0: Lit, r1: Lit) -> Result<(), EditF
     requires { IsPlan plan.now }
     ensures gate { OnOk result (IsLeftSide plan.now.circuit lhs) }
     ensures range { OnOk result (IsInRange plan.now.circuit r0 × IsInRange plan.now.circuit r1) }
-    ensures defined { OnOk result (IsDefined plan.now.circuit (variable r0) × IsDefined plan.now.circuit (variable r1)) }
+    ensures defined { OnOk result (IsDefined plan.now.circuit (variable r0)
+        × IsDefined plan.now.circuit (variable r1)) }
     ensures fault { IfErr result (IsLeastFault (Forbids (pair_of plan.now) (rewire lhs r0 r1))) }
 {
     let circuit = &plan.circuit;
@@ -121,12 +121,13 @@ pub fn check_reset(plan: &Plan, latch: Lit) -> Result<u32, EditFault>
     latch_position(&plan.circuit, latch).ok_or(EditFault::NotALatch)
 }
 
-/// The fault of an appended gate, but for want of memory: right sides out of range, then undefined ones, then a variable
-/// or cells too many.
+/// The fault of an appended gate, but for want of memory: right sides out of range, then undefined ones, then a
+/// variable or cells too many.
 pub fn check_append(plan: &Plan, r0: Lit, r1: Lit) -> Result<(), EditFault>
-    ensures defined { OnOk result (IsDefined plan.now.circuit (variable r0) × IsDefined plan.now.circuit (variable r1)) }
-    ensures max_var { OnOk result (plan.now.circuit.max_var < 4194303) }
-    ensures cells { OnOk result ((plan.now.circuit.max_var + 2) * length plan.now.stimulus.rows ≤ 67108864) }
+    ensures defined { OnOk result (IsDefined plan.now.circuit (variable r0)
+        × IsDefined plan.now.circuit (variable r1)) }
+    ensures max_var { OnOk result (plan.now.circuit.max_var < limit) }
+    ensures cells { OnOk result ((plan.now.circuit.max_var + 2) * length plan.now.stimulus.rows ≤ cell_limit) }
     ensures allowed { OnOk result (NoneApplies (Forbids (pair_of plan.now) (append_gate r0 r1))) }
     ensures fault { IfErr result (IsLeastFault (Forbids (pair_of plan.now) (append_gate r0 r1))) }
 {

@@ -259,8 +259,8 @@ impl<G: Grid> Bench<G> {
         ))
     }
 
-    /// Gives a gate, named by its left side, two other right sides. Refused are what is no left side, right sides out of
-    /// range, undefined ones and a cycle. It takes memory (profile).
+    /// Gives a gate, named by its left side, two other right sides. Refused are what is no left side, right sides out
+    /// of range, undefined ones and a cycle. It takes memory (profile).
     pub fn rewire(&mut self, lhs: Lit, r0: Lit, r1: Lit) -> Result<EditReport, EditFault>
         ensures edits { Edits self.old.pair (rewire lhs r0 r1) result self.new.pair }
         ensures works { Works self.old (rewire lhs r0 r1) result self.new }
@@ -380,7 +380,8 @@ impl<G: Grid> Bench<G> {
 
     /// Writes the trace: a line a frame, with the characters of state, inputs, outputs and next state (profile).
     pub fn write_trace<W: Write>(&self, out: &mut W) -> Result<(), Io>
-        ensures { (text : List ℕ) × HasTrace self.now.pair text × Writes W.written W.failures out.old out.new text result }
+        ensures { (text : List ℕ) × HasTrace self.now.pair text
+            × Writes W.written W.failures out.old out.new text result }
     {
         write_frames(out, &self.grid, &self.plan)
     }

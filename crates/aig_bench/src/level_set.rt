@@ -60,7 +60,8 @@ impl BitSet {
         requires { number / 64 < length self.old.words.items }
         ensures words { length self.new.words.items ≡ length self.old.words.items }
         ensures bits { (n : ℕ) → HasBit self.new.words.items n ↔ (HasBit self.old.words.items n ⊎ (n ≡ number)) }
-        ensures others { (w : ℕ) → w ≢ number / 64 → slice_index self.new.words.items w ≡ slice_index self.old.words.items w }
+        ensures others { (w : ℕ) → w ≢ number / 64 → slice_index self.new.words.items w
+            ≡ slice_index self.old.words.items w }
         ensures filled { slice_index self.new.words.items (number / 64) ≢ 0 }
     {
         self.words[number / BITS] |= 1 << (number % BITS);
@@ -71,7 +72,8 @@ impl BitSet {
         requires { number / 64 < length self.old.words.items }
         ensures words { length self.new.words.items ≡ length self.old.words.items }
         ensures bits { (n : ℕ) → HasBit self.new.words.items n ↔ (HasBit self.old.words.items n × (n ≢ number)) }
-        ensures others { (w : ℕ) → w ≢ number / 64 → slice_index self.new.words.items w ≡ slice_index self.old.words.items w }
+        ensures others { (w : ℕ) → w ≢ number / 64 → slice_index self.new.words.items w
+            ≡ slice_index self.old.words.items w }
         ensures kept { (w : ℕ) → slice_index self.old.words.items w ≡ 0 → slice_index self.new.words.items w ≡ 0 }
         ensures emptied { IsTrue result ↔ (slice_index self.new.words.items (number / 64) ≡ 0) }
     {

@@ -77,9 +77,9 @@ fn carry<G: Grid>(grid: &mut G, plan: &Plan, net: &Net, pending: &mut Pending, f
     }
 }
 
-/// Writes the values of the latches that are carried into a frame, evaluates what that and what waits already touch, and
-/// lists the latches that are carried into the next one. It answers how many gates were evaluated and the cells of how
-/// many changed.
+/// Writes the values of the latches that are carried into a frame, evaluates what that and what waits already touch,
+/// and lists the latches that are carried into the next one. It answers how many gates were evaluated and the cells of
+/// how many changed.
 pub fn pass<G: Grid>(
     grid: &mut G,
     plan: &Plan,
@@ -98,10 +98,13 @@ pub fn pass<G: Grid>(
     ensures count { G.evaluations grid.new ≡ G.evaluations grid.old + result.evaluated }
     ensures evaluated { result.evaluated ≤ 17592186044416 }
     ensures changed { result.changed ≤ result.evaluated }
-    ensures ends { (forced : List ℕ) (old : List ternary.Tern) (put : List ℕ) → IsConsistent (pair_of plan.now) (Contains forced) old
-        → Entering (pair_of plan.now) frame (Contains forced) old (row_at (G.cells grid.old) frame) pending.old.buckets.marks.items put
+    ensures ends { (forced : List ℕ) (old : List ternary.Tern) (put : List ℕ)
+        → IsConsistent (pair_of plan.now) (Contains forced) old
+        → Entering (pair_of plan.now) frame (Contains forced) old (row_at (G.cells grid.old) frame)
+            pending.old.buckets.marks.items put
         → Rests (pair_of plan.now) frame old put → LatchesRest (pair_of plan.now) frame old pending.old.here
-        → Ends (pair_of plan.now) frame (Contains forced) old (row_at (G.cells grid.new) frame) pending.new.buckets.marks.items
+        → Ends (pair_of plan.now) frame (Contains forced) old (row_at (G.cells grid.new) frame)
+            pending.new.buckets.marks.items
         result.evaluated result.changed }
     ensures hands { HandsOn plan.now.circuit (row_at (G.cells grid.old) frame) pending.old.ahead
         (row_at (G.cells grid.new) frame) pending.new.here }
@@ -126,8 +129,8 @@ pub fn total(first: EditReport, second: EditReport) -> EditReport
     }
 }
 
-/// Renews the frames from one on: evaluates these gates at each, and whatever is touched by them and by the latches that
-/// are carried into it. It ends at the first frame into which nothing is carried, if no gates are given.
+/// Renews the frames from one on: evaluates these gates at each, and whatever is touched by them and by the latches
+/// that are carried into it. It ends at the first frame into which nothing is carried, if no gates are given.
 pub fn renew_from<G: Grid>(
     grid: &mut G,
     plan: &Plan,

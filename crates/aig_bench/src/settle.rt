@@ -159,8 +159,10 @@ pub fn settle<G: Grid>(
     ensures evaluated { result.evaluated ≤ 17592186044416 }
     ensures changed { result.changed ≤ result.evaluated }
     ensures ends { (forced : List ℕ) (old : List ternary.Tern) → IsConsistent (pair_of plan.now) (Contains forced) old
-        → Starts (pair_of plan.now) frame (Contains forced) old (row_at (G.cells grid.old) frame) pending.old.buckets.marks.items
-        → Ends (pair_of plan.now) frame (Contains forced) old (row_at (G.cells grid.new) frame) pending.new.buckets.marks.items
+        → Starts (pair_of plan.now) frame (Contains forced) old (row_at (G.cells grid.old) frame)
+            pending.old.buckets.marks.items
+        → Ends (pair_of plan.now) frame (Contains forced) old (row_at (G.cells grid.new) frame)
+            pending.new.buckets.marks.items
         result.evaluated result.changed }
     ensures here { pending.new.here ≡ pending.old.here }
     ensures hands { HandsOn plan.now.circuit (row_at (G.cells grid.old) frame) pending.old.ahead
@@ -180,7 +182,8 @@ pub fn settle<G: Grid>(
     report
 }
 
-/// Writes the value of an input or a latch, and lets its readers wait if the cell changed; its latches are carried ahead.
+/// Writes the value of an input or a latch, and lets its readers wait if the cell changed; its latches are carried
+/// ahead.
 pub fn put<G: Grid>(
     grid: &mut G,
     plan: &Plan,
@@ -224,7 +227,8 @@ pub fn make_pending(alloc: Global, plan: &Plan, net: &Net) -> Result<Pending, Me
     requires levels { AreLevels plan.now.circuit net.now.levels }
     requires readers { AreReaders plan.now.circuit net.now.readers }
     requires latches { AreLatchReaders plan.now.circuit net.now.latches }
-    ensures work { IfOk result (λ w. (flags : List Bool) (cells : List (List ternary.Tern)) → IsLaidOut plan.now flags cells
+    ensures work { IfOk result (λ w. (flags : List Bool) (cells : List (List ternary.Tern))
+        → IsLaidOut plan.now flags cells
         → IsWork plan.now net.now flags cells w.buckets) }
     ensures lists { IfOk result (λ w. HasLists plan.now net.now w) }
     ensures idle { IfOk result IsIdle }

@@ -1,7 +1,6 @@
 //! Values by the cells of a grid.
 ghost use Rattle.std.specs.Prelude.{◌≡◌, ℕ, ◌+◌, ◌<◌, ◌≤◌, length, Some, slice_get};
 ghost use Rattle.aig_base.specs.Literal.{variable};
-ghost use Rattle.aig_base.specs.Value.{reset_value};
 ghost use Rattle.aig_sim.specs.Cells.{literal_value};
 ghost use Rattle.aig_sim.specs.InputRows.{row_at};
 ghost use Rattle.aig_bench.specs.Pair.{HasValue};
@@ -10,7 +9,7 @@ ghost use Rattle.aig_bench.specs.Current.{IsLaidOut, IsCurrentBefore};
 
 use crate::plan::Plan;
 use aig_base::{Latch, Lit, Tern};
-use aig_sim::Grid;
+use aig_sim::{Grid, first_value};
 
 /// The value of a literal by the cell of its variable.
 pub fn literal_at<G: Grid>(grid: &G, frame: u32, literal: Lit) -> Tern
@@ -20,17 +19,6 @@ pub fn literal_at<G: Grid>(grid: &G, frame: u32, literal: Lit) -> Tern
 {
     let cell = grid.get(frame, literal.var());
     if literal.is_neg() { cell.not() } else { cell }
-}
-
-/// The value that a latch begins with; an uninitialised one begins with x (AIGER 1.9, resets).
-fn first_value(latch: Latch) -> Tern
-    ensures { result ≡ reset_value latch.reset }
-{
-    match latch.reset.value() {
-        0 => Tern::Zero,
-        1 => Tern::One,
-        _ => Tern::X,
-    }
 }
 
 /// The value of a latch at a frame, by its reset or by the frame before.

@@ -20,7 +20,8 @@ fn put_latch<W: Write>(out: &mut W, block: &mut Block, latch: Latch) -> Result<(
 }
 
 fn put_latches<W: Write>(out: &mut W, block: &mut Block, latches: &[Latch]) -> Result<(), Io>
-    ensures { Gathers W.written W.failures out.old out.new block.old block.new (flat_map (latch_line false) latches.now) result }
+    ensures { Gathers W.written W.failures out.old out.new block.old block.new (flat_map (latch_line false)
+        latches.now) result }
 {
     for latch in latches {
         put_latch(out, block, *latch)?;

@@ -150,9 +150,11 @@ fn line_end<S: Source>(s: &mut S, over: bool) -> Result<(), TokenFault>
 
 #[tactic(auto, unfolding(crate::specs::ReadingSections::tail_at))]
 fn last_counts<S: Source>(s: &mut S) -> Result<Tail, TokenFault>
-    ensures bytes { S.tells s.old → TokenGives (λ t. t.bad ∷ t.constraints ∷ t.justice ∷ t.fairness ∷ []) result (S.left s.new)
+    ensures bytes { S.tells s.old → TokenGives (λ t. t.bad ∷ t.constraints ∷ t.justice ∷ t.fairness ∷ []) result
+        (S.left s.new)
         (tail_at 4 false (S.left s.old)) }
-    ensures within { IfOk result (λ t. (t.bad ≤ limit) × (t.constraints ≤ limit) × (t.justice ≤ limit) × (t.fairness ≤ limit)) }
+    ensures within { IfOk result (λ t. (t.bad ≤ limit) × (t.constraints ≤ limit) × (t.justice ≤ limit)
+        × (t.fairness ≤ limit)) }
     ensures told { S.tells s.old → S.tells s.new }
     ensures reader { S.reader s.new ≡ S.reader s.old }
     ensures failures { TokenRaises result (S.failures s.old) (S.failures s.new) }

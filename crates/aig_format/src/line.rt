@@ -111,7 +111,8 @@ pub(crate) fn lines<S: Source, X: Line>(
     s: &mut S,
     count: u32,
 ) -> Result<List<X>, Fault>
-    ensures bytes { S.tells s.old → Gives (λ x. x) result (S.left s.new) (lines_at (λ v. X.line_at) count 0 (S.left s.old)) }
+    ensures bytes { S.tells s.old → Gives (λ x. x) result (S.left s.new) (lines_at (λ v. X.line_at) count 0 (S.left
+        s.old)) }
     ensures count { IfOk result (λ all. length all ≡ count) }
     ensures told { S.tells s.old → S.tells s.new }
     ensures reader { S.reader s.new ≡ S.reader s.old }
@@ -144,7 +145,8 @@ impl Implicit for Latch {
     ghost entry_at = { implicit_latch_at };
 
     #[inline]
-    #[tactic(auto, unfolding(crate::specs::ReadingSections::implicit_latch_at), using(crate::proofs::Ends::implicit_latch_ends))]
+    #[tactic(auto, unfolding(crate::specs::ReadingSections::implicit_latch_at),
+        using(crate::proofs::Ends::implicit_latch_ends))]
     fn entry<S: Source>(s: &mut S, variable: u32) -> Result<Latch, TokenFault> {
         let next = number(s, BODY)?;
         let reset = optional(s, BODY)?;
@@ -160,7 +162,8 @@ impl Implicit for Gate {
     ghost entry_at = { implicit_gate_at };
 
     #[inline]
-    #[tactic(auto, unfolding(crate::specs::ReadingSections::implicit_gate_at), using(crate::proofs::Ends::implicit_gate_ends))]
+    #[tactic(auto, unfolding(crate::specs::ReadingSections::implicit_gate_at),
+        using(crate::proofs::Ends::implicit_gate_ends))]
     fn entry<S: Source>(s: &mut S, variable: u32) -> Result<Gate, TokenFault> {
         let lhs = 2 * variable;
         let rhs0 = lhs - delta(s, 1, lhs)?;
@@ -216,7 +219,8 @@ pub(crate) fn entries<S: Source, X: Implicit>(
     count: u32,
 ) -> Result<List<X>, Fault>
     requires { first + count ≤ 2 ^ 30 }
-    ensures bytes { S.tells s.old → Gives (λ x. x) result (S.left s.new) (lines_at X.entry_at count first (S.left s.old)) }
+    ensures bytes { S.tells s.old → Gives (λ x. x) result (S.left s.new) (lines_at X.entry_at count first (S.left
+        s.old)) }
     ensures count { IfOk result (λ all. length all ≡ count) }
     ensures told { S.tells s.old → S.tells s.new }
     ensures reader { S.reader s.new ≡ S.reader s.old }

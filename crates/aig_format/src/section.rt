@@ -49,7 +49,8 @@ fn sizes<S: Source>(alloc: Global, s: &mut S, count: u32) -> Result<Vec<u32>, Fa
 
 /// As many literals as each size says.
 fn groups<S: Source>(alloc: Global, s: &mut S, sizes: &[u32]) -> Result<List<List<Lit>>, Fault>
-    ensures bytes { S.tells s.old → Gives (λ x. x) result (S.left s.new) (groups_of_literals_at sizes.now (S.left s.old)) }
+    ensures bytes { S.tells s.old → Gives (λ x. x) result (S.left s.new) (groups_of_literals_at sizes.now (S.left
+        s.old)) }
     ensures sizes { IfOk result (λ all. map length all ≡ sizes.now) }
     ensures told { S.tells s.old → S.tells s.new }
     ensures reader { S.reader s.new ≡ S.reader s.old }

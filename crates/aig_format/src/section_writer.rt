@@ -14,7 +14,8 @@ pub(crate) fn put_literals<W: Write>(
     block: &mut Block,
     literals: &[Lit],
 ) -> Result<(), Io>
-    ensures { Gathers W.written W.failures out.old out.new block.old block.new (flat_map literal_line literals.now) result }
+    ensures { Gathers W.written W.failures out.old out.new block.old block.new (flat_map literal_line literals.now)
+        result }
 {
     for literal in literals {
         put_field(out, block, literal.value(), b'\n')?;
@@ -36,7 +37,8 @@ pub(crate) fn put_reset<W: Write>(out: &mut W, block: &mut Block, reset: Lit) ->
 /// The sizes of the justice properties, which fit their numbers.
 fn put_sizes<W: Write>(out: &mut W, block: &mut Block, properties: &[List<Lit>]) -> Result<(), Io>
     requires { All (λ p. length p < 2 ^ 32) properties.now }
-    ensures { Gathers W.written W.failures out.old out.new block.old block.new (flat_map size_line properties.now) result }
+    ensures { Gathers W.written W.failures out.old out.new block.old block.new (flat_map size_line properties.now)
+        result }
 {
     for property in properties {
         put_field(out, block, property.len() as u32, b'\n')?;
@@ -95,7 +97,8 @@ fn put_symbol<W: Write>(
     position: u32,
     name: &Bytes,
 ) -> Result<(), Io>
-    ensures { Gathers W.written W.failures out.old out.new block.old block.new (symbol_line ((kind, position), name.now)) result }
+    ensures { Gathers W.written W.failures out.old out.new block.old block.new (symbol_line ((kind, position),
+        name.now)) result }
 {
     put(out, block, &[letter_of(kind)])?;
     put_field(out, block, position, b' ')?;
@@ -104,7 +107,8 @@ fn put_symbol<W: Write>(
 }
 
 fn put_symbols<W: Write>(out: &mut W, block: &mut Block, symbols: &Symbols) -> Result<(), Io>
-    ensures { Gathers W.written W.failures out.old out.new block.old block.new (flat_map symbol_line symbols.now) result }
+    ensures { Gathers W.written W.failures out.old out.new block.old block.new (flat_map symbol_line symbols.now)
+        result }
 {
     for (key, name) in symbols.iter() {
         put_symbol(out, block, key.0, key.1, name)?;
@@ -113,7 +117,8 @@ fn put_symbols<W: Write>(out: &mut W, block: &mut Block, symbols: &Symbols) -> R
 }
 
 fn put_comment<W: Write>(out: &mut W, block: &mut Block, comment: Option<&[u8]>) -> Result<(), Io>
-    ensures { Gathers W.written W.failures out.old out.new block.old block.new (comment_text (option_copied comment.entry)) result }
+    ensures { Gathers W.written W.failures out.old out.new block.old block.new (comment_text (option_copied
+        comment.entry)) result }
 {
     match comment {
         None => Ok(()),
@@ -131,7 +136,8 @@ pub(crate) fn put_names<W: Write>(
     block: &mut Block,
     circuit: &Circuit,
 ) -> Result<(), Io>
-    ensures { Gathers W.written W.failures out.old out.new block.old block.new (names_text circuit.now.symbols circuit.now.comment) result }
+    ensures { Gathers W.written W.failures out.old out.new block.old block.new (names_text circuit.now.symbols
+        circuit.now.comment) result }
 {
     put_symbols(out, block, circuit.symbols())?;
     put_comment(out, block, circuit.comment())

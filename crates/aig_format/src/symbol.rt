@@ -145,7 +145,8 @@ fn position<S: Source>(
     kind: Kind,
     named: &Symbols,
 ) -> Result<u32, TokenFault>
-    ensures bytes { S.tells s.old → TokenGives (λ x. x) result (S.left s.new) (position_at counts.now named.now kind (S.left s.old)) }
+    ensures bytes { S.tells s.old → TokenGives (λ x. x) result (S.left s.new) (position_at counts.now named.now kind
+        (S.left s.old)) }
     ensures there { IfOk result (λ p. p < count_of counts.now kind) }
     ensures fresh { IfOk result (λ p. Contains (keys_of named.now) (kind, p) → ⊥) }
     ensures told { S.tells s.old → S.tells s.new }
@@ -173,7 +174,8 @@ fn symbol<S: Source>(
     kind: Kind,
     all: &mut Symbols,
 ) -> Result<(), Fault>
-    ensures bytes { S.tells s.old → Gives (λ x. all.new) result (S.left s.new) (symbol_at counts.now all.old kind (S.left s.old)) }
+    ensures bytes { S.tells s.old → Gives (λ x. all.new) result (S.left s.new) (symbol_at counts.now all.old kind
+        (S.left s.old)) }
     ensures symbols { AreSymbols counts.now all.old → OnOk result (AreSymbols counts.now all.new) }
     ensures told { S.tells s.old → S.tells s.new }
     ensures reader { S.reader s.new ≡ S.reader s.old }

@@ -33,9 +33,11 @@ fn put_latches(cells: &mut [Code], circuit: &Circuit, states: &[Code])
     requires circuit { IsCircuit circuit.now }
     requires cells { length cells.old ≡ circuit.now.max_var + 1 }
     requires states { length states.now ≡ length circuit.now.latches }
-    ensures renews { (start : List Tern) (rows : List (List Tern)) (t : ℕ) → AreStates circuit.now start rows t states.now →
+    ensures renews { (start : List Tern) (rows : List (List Tern)) (t : ℕ)
+        → AreStates circuit.now start rows t states.now →
         Renews circuit.now start rows t cells.old cells.new }
-    ensures latches { (start : List Tern) (rows : List (List Tern)) (t : ℕ) → AreStates circuit.now start rows t states.now →
+    ensures latches { (start : List Tern) (rows : List (List Tern)) (t : ℕ)
+        → AreStates circuit.now start rows t states.now →
         HoldsLatches circuit.now start rows t cells.new }
 {
     for (position, latch) in circuit.latches().iter().enumerate() {
@@ -63,7 +65,8 @@ fn evaluate_frame(cells: &mut [Code], gates: &[Gate])
     requires lhs { (q : ℕ) (g : Gate) → slice_get gates.now q ≡ Some g → variable g.lhs < length cells.old }
     requires rhs0 { (q : ℕ) (g : Gate) → slice_get gates.now q ≡ Some g → variable g.rhs0 < length cells.old }
     requires rhs1 { (q : ℕ) (g : Gate) → slice_get gates.now q ≡ Some g → variable g.rhs1 < length cells.old }
-    ensures { (raw : Raw) (start : List Tern) (rows : List (List Tern)) (t : ℕ) → IsSound raw → IsGateOrder raw gates.now →
+    ensures { (raw : Raw) (start : List Tern) (rows : List (List Tern)) (t : ℕ) → IsSound raw
+        → IsGateOrder raw gates.now →
         HoldsSources raw start rows t cells.old → HoldsAll raw start rows t cells.new }
 {
     for gate in gates {

@@ -24,8 +24,7 @@ mod witness;
 mod witness_fault;
 mod witness_text;
 
-pub use byte_grid::{ByteGrid, value_in};
-pub use gate_order::gates_in_order;
+pub use byte_grid::ByteGrid;
 pub use grid::Grid;
 pub use laws::{law_of_stimulus_text, law_of_witness_text};
 pub use line_in_hand::{LineInHand, Shape};

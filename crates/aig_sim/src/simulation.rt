@@ -46,8 +46,8 @@ fn first_end(bytes: &[u8]) -> usize
 /// How many bytes of a stimulus are read at a time.
 const CHUNK: usize = 16384;
 
-/// A simulation between two pieces of the text: the circuit, the line in hand, room for a trace line, and how many frames there were
-/// (`u64::MAX` for more).
+/// A simulation between two pieces of the text: the circuit, the line in hand, room for a trace line, and how many
+/// frames there were (`u64::MAX` for more).
 #[derive(Drop)]
 pub struct Simulation<'a> {
     pub machine: Machine<'a>,
@@ -161,9 +161,9 @@ impl<'a> Simulation<'a> {
 
 /// Reads rows to the end, writes their trace, and answers how many there were (`u64::MAX` for more). It keeps one row,
 /// room for 4,096 bytes of a line and the latches' values, all reserved before the first read; there is no limit on
-/// frames. It flushes before each read, so that the lines of all rows that were read are handed on before it waits. At a
-/// fault in line n the lines of the n - 1 rows before it are written; where memory is wanting, nothing was read. A row's
-/// line goes out before the next row is looked at; the contract says what was written at each end, not when.
+/// frames. It flushes before each read, so that the lines of all rows that were read are handed on before it waits. At
+/// a fault in line n the lines of the n - 1 rows before it are written; where memory is wanting, nothing was read. A
+/// row's line goes out before the next row is looked at; the contract says what was written at each end, not when.
 pub fn simulate<R: Read, W: Write>(
     alloc: Global,
     circuit: &Circuit,
@@ -174,7 +174,8 @@ pub fn simulate<R: Read, W: Write>(
         (record { left = R.left reader.old; reads = R.failures reader.old; writes = W.failures out.old })
         (record { left = R.left reader.new; reads = R.failures reader.new; writes = W.failures out.new })
         (W.written out.old) (W.written out.new) result }
-    ensures memory { IfErr result (λ fault. fault ≡ StimFault.Memory → (reader.new ≡ reader.old) × (out.new ≡ out.old)) }
+    ensures memory { IfErr result (λ fault. fault ≡ StimFault.Memory → (reader.new ≡ reader.old)
+        × (out.new ≡ out.old)) }
 {
     let mut simulation = Simulation::new(alloc, circuit)?;
     let mut chunk = [0u8; CHUNK];

@@ -102,12 +102,16 @@ fn run_frames(
     frames: u32,
 ) -> Option<(u32, u32)>
     requires row { length row.old ≡ length machine.old.circuit.inputs }
-    requires rows { (given : List (List Tern)) × (length given ≡ frames) × SpellsFrames (length row.old) rows.now given }
+    requires rows { (given : List (List Tern)) × (length given ≡ frames)
+        × SpellsFrames (length row.old) rows.now given }
     ensures circuit { machine.new.circuit ≡ machine.old.circuit }
-    ensures some { IfSome result (λ at. (w : Witness) → HasRun machine.old.circuit w 0 rows.now machine.old.cells machine.old.states →
+    ensures some { IfSome result (λ at. (w : Witness)
+        → HasRun machine.old.circuit w 0 rows.now machine.old.cells machine.old.states →
         length w.rows ≡ frames → IsFirstFailure machine.old.circuit w at.0 at.1) }
-    ensures none { IfNone result ((w : Witness) → HasRun machine.old.circuit w 0 rows.now machine.old.cells machine.old.states →
-        length w.rows ≡ frames → (rest : List ℕ) × HasRun machine.old.circuit w frames rest machine.new.cells machine.new.states) }
+    ensures none { IfNone result ((w : Witness)
+        → HasRun machine.old.circuit w 0 rows.now machine.old.cells machine.old.states →
+        length w.rows ≡ frames → (rest : List ℕ)
+            × HasRun machine.old.circuit w frames rest machine.new.cells machine.new.states) }
 {
     let mut rest = rows;
     for frame in 0..frames {

@@ -139,7 +139,8 @@ fn body_of(text: &[u8], property: u32, latches: usize, inputs: usize) -> Option<
 /// The parts of a witness's text, for so many latches and inputs; none where the bytes are no such text. It takes no
 /// memory.
 pub fn read_shape<'a>(circuit: &Circuit, text: &'a [u8]) -> Option<Shape<'a>>
-    ensures some { IfSome result (λ shape. (w : Witness) × SpellsWitness circuit.now text.now w × IsShape circuit.now shape w) }
+    ensures some { IfSome result (λ shape. (w : Witness) × SpellsWitness circuit.now text.now w
+        × IsShape circuit.now shape w) }
     ensures none { IfNone result ((w : Witness) → SpellsWitness circuit.now text.now w → ⊥) }
 {
     let position = text.strip_prefix(b"1\nb")?;

@@ -20,9 +20,9 @@ pub fn law_of_frame_literals()
         AddsNoValues raw order start rows }
 {}
 
-/// From the same starts and for the same rows: each bad literal of each frame of the unrolled circuit, at its place in the
-/// bad section, is 1 exactly where the bad literal is 1 at that frame and every constraint is 1 at every frame up to it;
-/// it is 0 exactly where one of these values is 0; else it is x (profile).
+/// From the same starts and for the same rows: each bad literal of each frame of the unrolled circuit, at its place in
+/// the bad section, is 1 exactly where the bad literal is 1 at that frame and every constraint is 1 at every frame up
+/// to it; it is 0 exactly where one of these values is 0; else it is x (profile).
 pub fn law_of_guards()
     ensures { (raw : Raw) (order : List ℕ) (start : List Tern) (rows : List (List Tern)) →
         IsCircuit raw → IsCanonicalOrder raw order → Fits raw start rows → IsAllowed raw start →

@@ -83,7 +83,8 @@ pub(crate) fn first_latches(
     behind: u32,
 ) -> Result<List<Lit>, Memory>
     requires { behind + length latches.now ≤ limit + limit }
-    ensures { IfOk result (λ new. new ≡ map (table.first_at latches.now behind) (range_with_len 0 (length latches.now))) }
+    ensures { IfOk result (λ new. new
+        ≡ map (table.first_at latches.now behind) (range_with_len 0 (length latches.now))) }
 {
     let mut new = List::new(alloc);
     let mut variable = behind;

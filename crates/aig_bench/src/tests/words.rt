@@ -8,8 +8,8 @@ use aig_sim::{ByteGrid, Grid, PlaneGrid};
 use std::alloc::Global;
 use std::test::Fail;
 
-// An input at the greatest variable, and below it a chain of gates down to variable 1, each the negation of the variable
-// above.
+// An input at the greatest variable, and below it a chain of gates down to variable 1, each the negation of the
+// variable above.
 fn link(raw: &mut Raw, max_var: u32) -> Result<(), Fail>
     requires { max_var ≤ 1000 }
 {
