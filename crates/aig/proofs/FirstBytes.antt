@@ -5,6 +5,8 @@ use Rattle.std.proofs.lemmas.Fmt.{length-decimal-le}
 use Rattle.std.specs.Fmt.{decimal}
 use Rattle.aig_bench.specs.Edit as edits
 use Rattle.aig.specs.Command.{Command, edit, value, trace, unroll, IsCommand, IsNoCommand, command_text}
+use Rattle.aig_bench.specs.Pair.{Pair}
+use Rattle.aig.specs.Replies.{WholeReply}
 use Rattle.aig.specs.ScriptLine.{BeginsRow, first_bytes}
 
 short_number : (n : ℕ) → n < 2 ^ 32 → length (decimal n) < 11
@@ -50,4 +52,12 @@ pub is_no_command : (line : List ℕ) → (BeginsRow line → ⊥) → IsNoComma
 is_no_command line never none c is e = elim (short c is) [
   | inl lt ↦ none c is (take_all 35 line (let n : length line ≡ length (command_text c) = ap length e in omega (arith, n)) ∙ e)
   | inr row ↦ never (subst BeginsRow (sym e) row)
+]
+
+-- the reply to the first bytes of a line is that to the line
+pub whole_reply : (line : List ℕ) (old : Pair) (reply : List ℕ) (new : Pair) → (BeginsRow line → ⊥)
+    → WholeReply old (first_bytes line) reply new → WholeReply old line reply new
+whole_reply line old reply new never h = elim h [
+  | inl some ↦ inl (some.0, some.1, is_command line some.0 some.1 never some.2, some.3)
+  | inr none ↦ inr (is_no_command line never none.0, none.1)
 ]

@@ -1,8 +1,10 @@
 pub mod Benches
 pub mod Conversions
+pub mod Digits
 pub mod Fields
 pub mod FirstBytes
 pub mod Inputs
+pub mod Pieces
 pub mod ReplyLemmas
 pub mod RowLines
 pub mod RunLemmas

@@ -25,51 +25,16 @@ rest_from-append s (x ∷ xs) ys =
     ≡ rest_from (cond v (rest_from [] xs) (rest_from (s ++ x ∷ []) xs)) ys)
     [ true ↦ rest_from-append [] xs ys | false ↦ rest_from-append (s ++ x ∷ []) xs ys ]
 
--- one byte more: an LF ends the line in hand,
-pub line_ends : (s xs : List ℕ) (i : ℕ) → i < length xs → get_or xs i 0 ≡ 10
-    → (lines_from s (take (i + 1) xs) ≡ lines_from s (take i xs) ++ (rest_from s (take i xs) ∷ [])) × (rest_from s (take (i + 1) xs) ≡ [])
-line_ends s xs i l e = (
-  ap (lines_from s) (take_more xs i 0 l) ∙ lines_from-append s (take i xs) (get_or xs i 0 ∷ [])
-      ∙ ap (λ (b : ℕ). lines_from s (take i xs) ++ lines_from (rest_from s (take i xs)) (b ∷ [])) e,
-  ap (rest_from s) (take_more xs i 0 l) ∙ rest_from-append s (take i xs) (get_or xs i 0 ∷ [])
-      ∙ ap (λ (b : ℕ). rest_from (rest_from s (take i xs)) (b ∷ [])) e,
-)
+-- the whole lines of bytes in two parts
+pub whole_from-append : (s xs ys : List ℕ)
+    → map whole (lines_from s xs) ++ map whole (lines_from (rest_from s xs) ys) ≡ map whole (lines_from s (xs ++ ys))
+whole_from-append s xs ys =
+    sym (map-append whole (lines_from s xs) (lines_from (rest_from s xs) ys))
+    ∙ sym (ap (λ (ls : List (List ℕ)). map whole ls) (lines_from-append s xs ys))
 
--- any other byte joins it,
-pub line_goes_on : (s xs : List ℕ) (i : ℕ) → i < length xs → (get_or xs i 0 ≡ 10 → ⊥)
-    → (lines_from s (take (i + 1) xs) ≡ lines_from s (take i xs))
-    × (rest_from s (take (i + 1) xs) ≡ (rest_from s (take i xs) ++ get_or xs i 0 ∷ []))
-line_goes_on s xs i l n =
-    let b : ℕ = get_or xs i 0 in
-    let r : List ℕ = rest_from s (take i xs) in
-    let h : eqb b 10 ≡ false = ne_eqb b 10 n in (
-      ap (lines_from s) (take_more xs i 0 l) ∙ lines_from-append s (take i xs) (b ∷ [])
-          ∙ ap (λ (v : Bool). lines_from s (take i xs) ++ cond v (r ∷ []) []) h ∙ append-nil (lines_from s (take i xs)),
-      ap (rest_from s) (take_more xs i 0 l) ∙ rest_from-append s (take i xs) (b ∷ [])
-          ∙ ap (λ (v : Bool). cond v [] (r ++ b ∷ [])) h,
-    )
-
--- and all the lines, at an LF.
-pub line_splits : (s xs : List ℕ) (i : ℕ) → i < length xs → get_or xs i 0 ≡ 10
-    → lines_from s xs ≡ lines_from s (take i xs) ++ (rest_from s (take i xs) ∷ lines_from [] (drop (i + 1) xs))
-line_splits s xs i l e =
-    ap (lines_from s) (sym (take-append-drop i xs)) ∙ ap (λ (ys : List ℕ). lines_from s (take i xs ++ ys)) (drop_more xs i 0 l)
-    ∙ lines_from-append s (take i xs) (get_or xs i 0 ∷ drop (i + 1) xs)
-    ∙ ap (λ (b : ℕ). lines_from s (take i xs) ++ lines_from (rest_from s (take i xs)) (b ∷ drop (i + 1) xs)) e
-
--- the same of whole lines
-pub whole_ends : (s xs : List ℕ) (i : ℕ) → i < length xs → get_or xs i 0 ≡ 10
-    → map whole (lines_from s (take i xs)) ++ (whole (rest_from s (take i xs)) ∷ []) ≡ map whole (lines_from s (take (i + 1) xs))
-whole_ends s xs i l e =
-    sym (map-append whole (lines_from s (take i xs)) (rest_from s (take i xs) ∷ []))
-    ∙ sym (ap (λ (ls : List (List ℕ)). map whole ls) (line_ends s xs i l e).0)
-
-pub whole_splits : (s xs : List ℕ) (i : ℕ) → i < length xs → get_or xs i 0 ≡ 10
-    → map whole (lines_from s xs)
-    ≡ map whole (lines_from s (take i xs)) ++ (whole (rest_from s (take i xs)) ∷ map whole (lines_from [] (drop (i + 1) xs)))
-whole_splits s xs i l e =
-    ap (λ (ls : List (List ℕ)). map whole ls) (line_splits s xs i l e)
-    ∙ map-append whole (lines_from s (take i xs)) (rest_from s (take i xs) ∷ lines_from [] (drop (i + 1) xs))
+pub on_ok : {T E P : Type 0} (r : Result T E) → P → OnOk r P
+on_ok (Ok x) p = p
+on_ok (Err e) p = tt
 
 pub on_err : {T E P : Type 0} (r : Result T E) → P → OnErr r P
 on_err (Ok x) p = tt
@@ -144,6 +109,10 @@ module _ {X : Type 0} {written : X → Option (List ℕ)} {failures : X → ℕ}
     stepped = s.stepped;
     writes = s.writes;
   }
+
+  pub stopped_same : {from to : X} {lines lines' : List Line} {old new : Pair}
+      → StoppedAt written failures from to lines old new → lines ≡ lines' → StoppedAt written failures from to lines' old new
+  stopped_same {from} {to} {old} {new} s e = subst (λ (ls : List Line). StoppedAt written failures from to ls old new) e s
 
   pub answered_same : {from to to' : X} {lines lines' : List Line} {old new new' : Pair}
       → Answered written failures from to lines old new → to ≡ to' → lines ≡ lines' → new ≡ new'

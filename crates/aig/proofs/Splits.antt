@@ -64,7 +64,7 @@ All-tail : {X : Type 0} (P : X → Type 0) (x : X) (xs : List X) → All P (x �
 All-tail P x xs h = λ k d lt. h (suc k) d (omega arith)
 
 -- a piece and the LF that ends it are taken as a line
-lines_step : (line piece more : List ℕ) → IsPiece piece
+pub lines_step : (line piece more : List ℕ) → IsPiece piece
     → lines_from line (piece ++ 10 ∷ more) ≡ (line ++ piece) ∷ lines_from [] more
 lines_step line [] more p = ap (λ (l : List ℕ). l ∷ lines_from [] more) (sym (append-nil line))
 lines_step line (b ∷ piece) more p =
@@ -74,7 +74,7 @@ lines_step line (b ∷ piece) more p =
     ∙ lines_step (line ++ b ∷ []) piece more (All-tail (λ b. b ≢ 10) b piece p)
     ∙ ap (λ (l : List ℕ). l ∷ lines_from [] more) (append_assoc line (b ∷ []) piece)
 
-rest_step : (line piece more : List ℕ) → IsPiece piece → rest_from line (piece ++ 10 ∷ more) ≡ rest_from [] more
+pub rest_step : (line piece more : List ℕ) → IsPiece piece → rest_from line (piece ++ 10 ∷ more) ≡ rest_from [] more
 rest_step line [] more p = refl
 rest_step line (b ∷ piece) more p =
     let ne : eqb b 10 ≡ false = ne_eqb b 10 (All-head (λ b. b ≢ 10) b piece p) in
@@ -82,14 +82,14 @@ rest_step line (b ∷ piece) more p =
     ∙ rest_step (line ++ b ∷ []) piece more (All-tail (λ b. b ≢ 10) b piece p)
 
 -- a piece without its end is what stands behind
-no_lines : (line piece : List ℕ) → IsPiece piece → lines_from line piece ≡ []
+pub no_lines : (line piece : List ℕ) → IsPiece piece → lines_from line piece ≡ []
 no_lines line [] p = refl
 no_lines line (b ∷ piece) p =
     let ne : eqb b 10 ≡ false = ne_eqb b 10 (All-head (λ b. b ≢ 10) b piece p) in
     ap (λ (v : Bool). cond v (line ∷ lines_from [] piece) (lines_from (line ++ b ∷ []) piece)) ne
     ∙ no_lines (line ++ b ∷ []) piece (All-tail (λ b. b ≢ 10) b piece p)
 
-all_rest : (line piece : List ℕ) → IsPiece piece → rest_from line piece ≡ line ++ piece
+pub all_rest : (line piece : List ℕ) → IsPiece piece → rest_from line piece ≡ line ++ piece
 all_rest line [] p = sym (append-nil line)
 all_rest line (b ∷ piece) p =
     let ne : eqb b 10 ≡ false = ne_eqb b 10 (All-head (λ b. b ≢ 10) b piece p) in

@@ -1,5 +1,5 @@
 //! Commands of a script.
-ghost use Rattle.std.specs.Prelude.{◌≡◌, ◌≢◌, ℕ, List, ◌∷◌, ◌++◌, [], All, codes, IfSome, IfNone};
+ghost use Rattle.std.specs.Prelude.{◌≡◌, ◌≢◌, ◌<◌, ℕ, List, ◌∷◌, ◌++◌, [], All, codes, IfSome, IfNone};
 ghost use Rattle.std.specs.Fmt.{decimal};
 ghost use Rattle.aig_base.specs.declared.ternary.Tern.{Tern};
 ghost use Rattle.aig_sim.specs.StimulusText.{character};
@@ -8,7 +8,6 @@ ghost use Rattle.aig.specs.Meaning.{meaning};
 ghost use Rattle.aig.specs.ScriptLine.{BeginsRow};
 
 use aig_base::{Lit, Tern};
-use itoa::Buffer;
 
 /// What a line of a script asks for, where it appends no frame.
 #[derive(Clone, Copy, PartialEq, Eq, Debug)]
@@ -63,23 +62,39 @@ fn split_at_space(bytes: &[u8]) -> Option<(&[u8], &[u8])>
     Some((&bytes[..at], &bytes[at + 1..]))
 }
 
+/// The number whose digits are those of another one and these behind them, where it is at most `u32::MAX`.
+fn longer_number(first: u32, digits: &[u8]) -> Option<u32>
+    requires { 0 < first }
+    ensures some { IfSome result (λ n. decimal first ++ digits.now ≡ decimal n) }
+    ensures none { IfNone result ((n : ℕ) → IsNumber n → decimal first ++ digits.now ≢ decimal n) }
+{
+    let mut number = first;
+    for digit in digits {
+        if !digit.is_ascii_digit() {
+            return None;
+        }
+        let longer = number as u64 * 10 + (*digit - b'0') as u64;
+        if longer > u32::MAX as u64 {
+            return None;
+        }
+        number = longer as u32;
+    }
+    Some(number)
+}
+
 /// The number that the bytes are: decimal digits without leading zeros, at most `u32::MAX`.
 fn parse_number(bytes: &[u8]) -> Option<u32>
     ensures some { IfSome result (λ n. bytes.now ≡ decimal n) }
     ensures none { IfNone result ((n : ℕ) → IsNumber n → bytes.now ≢ decimal n) }
 {
-    let Ok(text) = str::from_utf8(bytes) else {
+    let (first, rest) = bytes.split_first()?;
+    if !first.is_ascii_digit() {
         return None;
-    };
-    let Ok(number) = text.parse::<u32>() else {
-        return None;
-    };
-    let mut buffer = Buffer::new();
-    if buffer.format(number).as_bytes() == bytes {
-        Some(number)
-    } else {
-        None
     }
+    if *first > b'0' {
+        return longer_number((*first - b'0') as u32, rest);
+    }
+    if rest.is_empty() { Some(0) } else { None }
 }
 
 /// The number in front, and what stands behind the space that ends it.

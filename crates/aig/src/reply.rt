@@ -9,7 +9,7 @@ ghost use Rattle.aig_unroll.specs.Answers as unrolling;
 ghost use Rattle.aig_unroll.specs.Answers.{AnswersUnrolling};
 ghost use Rattle.aig.specs.Meaning.{meaning};
 ghost use Rattle.aig.specs.Replies.{numbered_refusal, refusal, edit_reply, value_reply, unroll_reply, row_fault_reply, CommandReply, WholeReply};
-ghost use Rattle.aig.specs.ScriptLine.{KeepsLine};
+ghost use Rattle.aig.specs.ScriptLine.{BeginsRow, KeepsLine};
 
 use crate::command::{Command, parse_command};
 use crate::script_line::ScriptLine;
@@ -173,6 +173,22 @@ fn append<G: Grid, W: Write>(bench: &mut Bench<G>, row: &LineInHand, out: &mut W
     }
 }
 
+/// Answers a line that appends no frame: does what it asks for, and writes its reply, or `bad`.
+pub fn answer_command<G: Grid, W: Write>(
+    alloc: Global,
+    bench: &mut Bench<G>,
+    line: &[u8],
+    out: &mut W,
+) -> Result<(), Io>
+    ensures { (reply : List ℕ) × ((BeginsRow line.now → ⊥) → WholeReply bench.old.pair line.now reply bench.new.pair)
+        × Writes W.written W.failures out.old out.new reply result }
+{
+    match parse_command(line) {
+        Some(command) => obey(alloc, bench, command, out),
+        None => write_all(out, b"bad\n"),
+    }
+}
+
 /// Answers a line that an LF ends: does what it asks for, and writes its reply, or `bad`.
 pub fn answer<G: Grid, W: Write>(
     alloc: Global,
@@ -188,8 +204,5 @@ pub fn answer<G: Grid, W: Write>(
     if let Some(row) = line.row() {
         return append(bench, row, out);
     }
-    match parse_command(line.bytes()) {
-        Some(command) => obey(alloc, bench, command, out),
-        None => write_all(out, b"bad\n"),
-    }
+    answer_command(alloc, bench, line.bytes(), out)
 }

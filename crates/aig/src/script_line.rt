@@ -100,6 +100,16 @@ impl ScriptLine {
         }
     }
 
+    /// Takes the line's next bytes.
+    pub fn extend(&mut self, bytes: &[u8])
+        ensures keeps { (line : List ℕ) → KeepsLine line self.old → KeepsLine (line ++ bytes.now) self.new }
+        ensures width { self.new.row.width ≡ self.old.row.width }
+    {
+        for byte in bytes {
+            self.push(*byte);
+        }
+    }
+
     /// Whether the line has no byte so far.
     pub fn is_empty(&self) -> bool
         ensures { (line : List ℕ) → KeepsLine line self.now → IsTrue result ↔ (line ≡ []) }
