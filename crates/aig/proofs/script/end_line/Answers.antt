@@ -3,7 +3,6 @@ use Rattle.std.proofs.lemmas.Bool.{true≢false}
 use Rattle.aig.specs.Replies.{WholeReply}
 use Rattle.aig.specs.ScriptLine.{KeepsLine}
 use Rattle.aig.proofs.ReplyLemmas.{on_ok}
-
 use Rattle.aig.proofs.script.end_line.Goals as goal
 use Rattle.aig_base.proofs.WriteLemmas.{writes_err}
 
