@@ -6,7 +6,7 @@ use Rattle.std.specs.Fmt.{decimal}
 use Rattle.std.proofs.lemmas.Bool.Decides.{nat_tests}
 use Rattle.std.proofs.lemmas.Bool.{cases_lt}
 use Rattle.std.proofs.lemmas.Fmt.{decimal_digit, decimal_step, decimal_by_steps, decimal_injective, decimal_nonempty}
-use Rattle.std.proofs.lemmas.List.{take_all, take-append-le, take-append-drop, drop_more, append-nil}
+use Rattle.std.proofs.lemmas.List.{take_all, take-append-le, take-append-drop, drop_more}
 use Rattle.std.proofs.lemmas.List.Elements.{All-append}
 
 -- std's test of a digit

@@ -1,9 +1,9 @@
 -- Bytes up to the end of a line.
-use Rattle.std.proofs.Common.{◌≡◌, ℕ, ◌+◌, ◌<◌, List, [], ◌∷◌, ◌++◌, length, take, drop, map, Some, refl, sym, ap, ◌∙◌, subst}
+use Rattle.std.proofs.Common.{◌≡◌, ℕ, ◌+◌, ◌<◌, List, [], ◌∷◌, ◌++◌, length, take, drop, map, Some, sym, ap, ◌∙◌}
 use Rattle.std.specs.Prelude.{slice_get}
 use Rattle.std.proofs.lemmas.List.{take-append-drop, drop_more, take_more}
 use Rattle.std.proofs.lemmas.Option.{get_or_from_slice_get}
-use Rattle.aig.specs.Lines.{Line, IsPiece, whole, lines_from, rest_from}
+use Rattle.aig.specs.Lines.{IsPiece, whole, lines_from, rest_from}
 use Rattle.aig.proofs.Splits.{lines_step, rest_step}
 
 -- the end of a line is at a place

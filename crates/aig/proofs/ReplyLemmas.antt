@@ -1,8 +1,8 @@
 -- Lines read in pieces, and runs that go on.
-use Rattle.std.proofs.Common.{◌≡◌, ℕ, ◌+◌, ◌<◌, List, [], ◌∷◌, ◌++◌, length, take, drop, get_or, cond, eqb, true, false, refl, sym, ap, ◌∙◌, append_assoc, Ok, Err, OnErr, OnOk, IsErr, Result, Bool, Some, subst, map, inl, inr, arith}
+use Rattle.std.proofs.Common.{◌≡◌, ℕ, ◌+◌, List, [], ◌∷◌, ◌++◌, cond, eqb, true, false, refl, sym, ap, ◌∙◌, append_assoc, Ok, Err, OnErr, OnOk, IsErr, Result, Some, subst, map, inl, inr, arith}
 use Rattle.std.specs.Prelude.{Option, None}
-use Rattle.std.proofs.lemmas.List.{take-append-drop, drop_more, take_more, append-nil, map-append}
-use Rattle.std.proofs.lemmas.Bool.{ne_eqb, false≢true}
+use Rattle.std.proofs.lemmas.List.{append-nil, map-append}
+use Rattle.std.proofs.lemmas.Bool.{false≢true}
 use Rattle.aig_base.specs.Bytes.{Writes, before}
 use Rattle.aig_base.proofs.WriteLemmas.{writes_then, writes_none}
 use Rattle.aig.specs.Lines.{Line, whole, lines_from, rest_from, whole_lines}

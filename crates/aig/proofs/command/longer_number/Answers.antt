@@ -1,4 +1,4 @@
-use Rattle.std.proofs.Common.{◌≡◌, ℕ, ◌+◌, ◌≤◌, get_or, length, take, drop, ◌++◌, ◌∷◌, [], List, sym, ap, ◌∙◌, arith, append_assoc}
+use Rattle.std.proofs.Common.{ℕ, ◌+◌, ◌≤◌, get_or, take, drop, ◌++◌, ◌∷◌, [], List, sym, ap, ◌∙◌, arith, append_assoc}
 use Rattle.std.specs.Fmt.{decimal}
 use Rattle.std.proofs.lemmas.List.{take_more}
 use Rattle.aig.proofs.Digits.{is_digit, is_no_digit, digit_behind, digit_joins, grows, left}

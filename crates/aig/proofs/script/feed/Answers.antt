@@ -2,7 +2,7 @@ use Rattle.std.proofs.Common.{◌≡◌, ℕ, ◌+◌, ◌-◌, ◌++◌, List, 
 use Rattle.std.proofs.lemmas.List.{take_all, take-append-drop, length-drop}
 use Rattle.std.proofs.Math.Seq.{take-add}
 use Rattle.aig.specs.Lines.{whole, lines_from, rest_from}
-use Rattle.aig.specs.ScriptLine.{ScriptLine, KeepsLine}
+use Rattle.aig.specs.ScriptLine.{KeepsLine}
 use Rattle.aig.proofs.ReplyLemmas.{rest_from-append, whole_from-append, on_err, answered_then, answered_same, stopped_then, stopped_same}
 use Rattle.aig.proofs.script.feed.Goals as goal
 

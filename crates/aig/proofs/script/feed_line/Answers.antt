@@ -1,5 +1,5 @@
-use Rattle.std.proofs.Common.{◌≡◌, ℕ, ◌+◌, ◌++◌, ◌<◌, ◌∷◌, [], List, length, take, drop, map, ap, refl, sym, subst, ◌∙◌, arith}
-use Rattle.std.proofs.lemmas.List.{take_all, append-nil}
+use Rattle.std.proofs.Common.{◌≡◌, ℕ, ◌+◌, ◌++◌, ◌<◌, [], List, length, take, drop, map, ap, refl, sym, subst, ◌∙◌, arith}
+use Rattle.std.proofs.lemmas.List.{take_all}
 use Rattle.aig.specs.Lines.{IsPiece, whole, lines_from, rest_from}
 use Rattle.aig.specs.ScriptLine.{KeepsLine}
 use Rattle.aig.proofs.Inputs.{same_inputs}
