@@ -1,11 +1,11 @@
 -- No line of a script changes how many inputs there are.
-use Rattle.std.proofs.Common.{◌≡◌, ◌⊎◌, inl, inr, ℕ, List, length, refl, ap, Result, Ok, Err}
+use Rattle.std.proofs.Common.{◌≡◌, inl, inr, ℕ, List, length, refl, ap, Result, Ok, Err}
 use Rattle.aig_bench.specs.declared.edit.EditFault.{EditFault}
 use Rattle.aig_bench.specs.Edit as edits
 use Rattle.aig_bench.specs.Edit.{Edit, Edits, edited}
 use Rattle.aig_bench.specs.Pair.{Pair}
 use Rattle.aig.specs.Command.{edit, value, trace, unroll}
-use Rattle.aig.specs.Replies.{WholeReply, EditReply}
+use Rattle.aig.specs.Replies.{WholeReply}
 
 same_edited : (old : Pair) (e : Edit) → length (edited old e).circuit.inputs ≡ length old.circuit.inputs
 same_edited old (edits.rewire lhs r0 r1) = refl

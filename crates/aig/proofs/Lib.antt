@@ -10,3 +10,4 @@ pub mod RowLines
 pub mod RunLemmas
 pub mod ScriptLines
 pub mod Splits
+pub mod Unrollings

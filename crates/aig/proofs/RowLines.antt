@@ -1,5 +1,5 @@
 -- Lines of a script that append a frame.
-use Rattle.std.proofs.Common.{◌≡◌, ◌≢◌, ◌⊎◌, inl, inr, ℕ, zero, suc, ◌+◌, ◌<◌, List, [], ◌∷◌, ◌++◌, length, map, All, Err, refl, sym, ap, ◌∙◌, subst, arith}
+use Rattle.std.proofs.Common.{◌≡◌, ◌≢◌, inl, inr, ℕ, ◌<◌, List, [], ◌∷◌, length, map, All, Err, refl, sym, ap, ◌∙◌, subst, arith}
 use Rattle.std.proofs.lemmas.List.{length-map}
 use Rattle.std.proofs.lemmas.List.Elements.{All-head, All-tail, All-map}
 use Rattle.aig_base.specs.declared.ternary.Tern.{Tern}
@@ -14,7 +14,7 @@ use Rattle.aig_bench.specs.declared.edit.EditFault.{EditFault}
 use Rattle.aig_bench.specs.declared.edit.EditFault.TheVariants as faults
 use Rattle.aig_bench.specs.Pair.{Pair}
 use Rattle.aig_bench.specs.Edit as edits
-use Rattle.aig.specs.Command.{Command, edit, value, trace, unroll, IsCommand, IsNoCommand, command_text}
+use Rattle.aig.specs.Command.{edit, value, trace, unroll, IsNoCommand, command_text}
 use Rattle.aig.specs.Replies.{WholeReply, row_fault_reply}
 
 value_of : (b : ℕ) → IsCharacter b → (w : Tern) × (b ≡ character w)

@@ -1,9 +1,7 @@
 -- A byte joins a line of a script.
-use Rattle.std.proofs.Common.{◌≡◌, ℕ, zero, suc, ◌+◌, ◌<◌, ◌≤◌, List, [], ◌∷◌, ◌++◌, length, take, set, refl, sym, ap, ◌∙◌, subst, arith, length-append}
-use Rattle.std.specs.Prelude.{false, true}
+use Rattle.std.proofs.Common.{◌≡◌, ℕ, ◌+◌, ◌<◌, ◌≤◌, List, [], ◌∷◌, ◌++◌, length, take, set, refl, sym, ap, ◌∙◌, subst, arith, length-append}
+use Rattle.std.specs.Prelude.{false}
 use Rattle.std.proofs.lemmas.List.{take_more_set, take_all, take-append-le, length-take}
-use Rattle.aig_sim.specs.declared.line_in_hand.Shape.TheVariants.{Row}
-use Rattle.aig_sim.specs.LineInHand.{Keeps}
 use Rattle.aig.specs.ScriptLine.{ScriptLine, BeginsRow, KeepsLine, KeepsBy, first_bytes}
 
 -- a line of which all was kept

@@ -1,7 +1,6 @@
 -- For proofs: what is kept of a line of a script while it is read.
-use Rattle.std.specs.Prelude.{◌≡◌, ◌≢◌, ℕ, Bool, true, false, List, ◌∷◌, ◌++◌, take}
+use Rattle.std.specs.Prelude.{◌≡◌, ℕ, Bool, true, false, List, ◌∷◌, take}
 use Rattle.aig_sim.specs.LineInHand.{LineInHand, Keeps}
-use Rattle.aig.specs.Command.{Command, command_text, IsCommand}
 
 -- the first bytes, whether the line begins as one that appends a frame, and then what stands behind that
 pub record ScriptLine : Type 0 where

@@ -1,4 +1,4 @@
-use Rattle.std.proofs.Common.{refl, inl, List, ℕ}
+use Rattle.std.proofs.Common.{refl, inl}
 use Rattle.std.specs.Prelude.{[], ◌∷◌}
 use Rattle.aig_bench.specs.Edit.{add_frame}
 use Rattle.aig.specs.Command.{edit}

@@ -1,4 +1,4 @@
-use Rattle.std.proofs.Common.{◌≡◌, ℕ, List, ◌∷◌, ◌++◌, [], ap, sym, ◌∙◌, arith}
+use Rattle.std.proofs.Common.{◌∷◌, ◌++◌, [], ap, sym, ◌∙◌}
 use Rattle.std.proofs.lemmas.Bool.{false≢true}
 use Rattle.aig.specs.ScriptLine.{ScriptLine, first_bytes}
 use Rattle.aig.proofs.ScriptLines.{joins_within, joins_past, begins_with, keeps_bytes, bytes_keep}
