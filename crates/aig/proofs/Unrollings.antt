@@ -18,5 +18,5 @@ module _ {X : Type 0} (written : X → Option (List ℕ)) (failures : X → ℕ)
   unrolled_so raw k to unrolled (Ok done) a w o = (short_spelling to unrolled, (unrolled, a, refl), w)
   unrolled_so raw k to unrolled (Err fault) a w o =
       subst (λ f. Writes {T = Unit {0}} {E = RunFault} written failures old new (short_spelling to unrolled) (Err f)
-          → UnrolledCircuitEnds written failures old new raw k to (Err f))
+      → UnrolledCircuitEnds written failures old new raw k to (Err f))
       (sym o) (λ h. (short_spelling to unrolled, (unrolled, a, refl), h)) w

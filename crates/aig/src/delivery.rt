@@ -27,7 +27,7 @@ pub fn deliver_circuit<R: Read, W: Write>(
     ensures { Delivers W.written RunFault.Output
         (λ left answer. EndsFrom R.left R.failures circuit.old circuit.new out.old left
         (λ bytes. ConversionEnds (all_written W.written) calls_failed out.old left bytes to answer) answer) out.new
-            result }
+        result }
 {
     let done = convert_from(alloc, circuit, to, out);
     handed_on(done, out, RunFault::Output)
@@ -60,7 +60,7 @@ pub fn deliver_replies<R: Read, W: Write>(
 ) -> Result<(), RunFault>
     ensures { Delivers W.written (RunFault.Script ScriptFault.Io)
         (λ left answer. BenchEnds R.left R.failures (all_written W.written) calls_failed script.old script.new out.old
-            left
+        left
         circuit.now stimulus.now answer) out.new result }
 {
     let done = run_bench::<PlaneGrid, R, Buffered<W>>(alloc, circuit, stimulus, script, out);

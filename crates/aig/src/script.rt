@@ -104,10 +104,10 @@ fn feed<G: Grid, W: Write>(
         KeepsLine (rest_from text chunk.now) line.new) }
     ensures ok { OnOk result ((text : List ℕ) → KeepsLine text line.old →
         Answered W.written W.failures out.old out.new (map whole (lines_from text chunk.now)) bench.old.pair
-            bench.new.pair) }
+        bench.new.pair) }
     ensures err { OnErr result ((text : List ℕ) → KeepsLine text line.old →
         StoppedAt W.written W.failures out.old out.new (map whole (lines_from text chunk.now)) bench.old.pair
-            bench.new.pair) }
+        bench.new.pair) }
 {
     let mut at = 0;
     while at < chunk.len() {
@@ -180,7 +180,7 @@ pub fn run_script<G: Grid, R: Read, W: Write>(
         bench.old.pair bench.new.pair) }
     ensures io { IfErr result (λ fault. fault ≡ ScriptFault.Io →
         Failing R.left R.failures W.written W.failures reader.old reader.new out.old out.new bench.old.pair
-            bench.new.pair) }
+        bench.new.pair) }
     ensures memory { IfErr result (λ fault. fault ≡ ScriptFault.Memory →
         (reader.new ≡ reader.old) × (out.new ≡ out.old) × (bench.new ≡ bench.old)) }
 {

@@ -47,7 +47,7 @@ pub fn evaluate_new<G: Grid>(grid: &mut G, gate: &Gate) -> EditReport
     ensures frames { length (G.cells grid.new) ≡ length (G.cells grid.old) }
     ensures rows { (t : ℕ) → t < length (G.cells grid.old) → row_at (G.cells grid.new) t
         ≡ slice_set (row_at (G.cells grid.old) t) (variable gate.now.lhs) (gate_value (row_at (G.cells grid.old) t)
-            gate.now) }
+        gate.now) }
     ensures flags { G.gate_flags grid.new ≡ G.gate_flags grid.old }
     ensures count { G.evaluations grid.new ≡ G.evaluations grid.old + result.evaluated }
     ensures evaluated { result.evaluated ≡ length (G.cells grid.old) }

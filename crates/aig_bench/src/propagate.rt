@@ -101,10 +101,10 @@ pub fn pass<G: Grid>(
     ensures ends { (forced : List ℕ) (old : List ternary.Tern) (put : List ℕ)
         → IsConsistent (pair_of plan.now) (Contains forced) old
         → Entering (pair_of plan.now) frame (Contains forced) old (row_at (G.cells grid.old) frame)
-            pending.old.buckets.marks.items put
+        pending.old.buckets.marks.items put
         → Rests (pair_of plan.now) frame old put → LatchesRest (pair_of plan.now) frame old pending.old.here
         → Ends (pair_of plan.now) frame (Contains forced) old (row_at (G.cells grid.new) frame)
-            pending.new.buckets.marks.items
+        pending.new.buckets.marks.items
         result.evaluated result.changed }
     ensures hands { HandsOn plan.now.circuit (row_at (G.cells grid.old) frame) pending.old.ahead
         (row_at (G.cells grid.new) frame) pending.new.here }

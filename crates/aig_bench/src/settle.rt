@@ -160,9 +160,9 @@ pub fn settle<G: Grid>(
     ensures changed { result.changed ≤ result.evaluated }
     ensures ends { (forced : List ℕ) (old : List ternary.Tern) → IsConsistent (pair_of plan.now) (Contains forced) old
         → Starts (pair_of plan.now) frame (Contains forced) old (row_at (G.cells grid.old) frame)
-            pending.old.buckets.marks.items
+        pending.old.buckets.marks.items
         → Ends (pair_of plan.now) frame (Contains forced) old (row_at (G.cells grid.new) frame)
-            pending.new.buckets.marks.items
+        pending.new.buckets.marks.items
         result.evaluated result.changed }
     ensures here { pending.new.here ≡ pending.old.here }
     ensures hands { HandsOn plan.now.circuit (row_at (G.cells grid.old) frame) pending.old.ahead

@@ -145,8 +145,7 @@ impl Implicit for Latch {
     ghost entry_at = { implicit_latch_at };
 
     #[inline]
-    #[tactic(auto, unfolding(crate::specs::ReadingSections::implicit_latch_at),
-        using(crate::proofs::Ends::implicit_latch_ends))]
+    #[tactic(auto, unfolding(crate::specs::ReadingSections::implicit_latch_at), using(crate::proofs::Ends::implicit_latch_ends))]
     fn entry<S: Source>(s: &mut S, variable: u32) -> Result<Latch, TokenFault> {
         let next = number(s, BODY)?;
         let reset = optional(s, BODY)?;
@@ -162,8 +161,7 @@ impl Implicit for Gate {
     ghost entry_at = { implicit_gate_at };
 
     #[inline]
-    #[tactic(auto, unfolding(crate::specs::ReadingSections::implicit_gate_at),
-        using(crate::proofs::Ends::implicit_gate_ends))]
+    #[tactic(auto, unfolding(crate::specs::ReadingSections::implicit_gate_at), using(crate::proofs::Ends::implicit_gate_ends))]
     fn entry<S: Source>(s: &mut S, variable: u32) -> Result<Gate, TokenFault> {
         let lhs = 2 * variable;
         let rhs0 = lhs - delta(s, 1, lhs)?;

@@ -97,8 +97,10 @@ fn put_symbol<W: Write>(
     position: u32,
     name: &Bytes,
 ) -> Result<(), Io>
-    ensures { Gathers W.written W.failures out.old out.new block.old block.new (symbol_line ((kind, position),
-        name.now)) result }
+    ensures { Gathers W.written W.failures out.old out.new block.old block.new (symbol_line (
+      (kind, position),
+      name.now,
+    )) result }
 {
     put(out, block, &[letter_of(kind)])?;
     put_field(out, block, position, b' ')?;

@@ -69,7 +69,7 @@ pub trait Grid: Sized + Drop {
         requires rhs1 { variable gate.rhs1 < length (gate_flags self.old) }
         ensures cells { Self.cells self.new
             ≡ with_cell (Self.cells self.old) frame (variable gate.lhs) (gate_value (row_at (Self.cells self.old)
-                frame) gate) }
+            frame) gate) }
         ensures changed { IsTrue result
             ↔ (slice_index_or (row_at (Self.cells self.new) frame) (variable gate.lhs) X
             ≢ slice_index_or (row_at (Self.cells self.old) frame) (variable gate.lhs) X) }

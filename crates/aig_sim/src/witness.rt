@@ -111,7 +111,7 @@ fn run_frames(
     ensures none { IfNone result ((w : Witness)
         → HasRun machine.old.circuit w 0 rows.now machine.old.cells machine.old.states →
         length w.rows ≡ frames → (rest : List ℕ)
-            × HasRun machine.old.circuit w frames rest machine.new.cells machine.new.states) }
+        × HasRun machine.old.circuit w frames rest machine.new.cells machine.new.states) }
 {
     let mut rest = rows;
     for frame in 0..frames {
