@@ -3,7 +3,8 @@ ghost use Rattle.std.specs.Prelude.{◌≡◌, ◌≢◌, ◌<◌, ℕ, List, �
 ghost use Rattle.std.specs.Fmt.{decimal};
 ghost use Rattle.aig_base.specs.declared.ternary.Tern.{Tern};
 ghost use Rattle.aig_sim.specs.StimulusText.{character};
-ghost use Rattle.aig.specs.Command.{command_text, field, rewire_fields, reset_fields, bit_fields, append_fields, output_fields, value_fields, IsCommand, IsNoCommand, IsNumber};
+ghost use Rattle.aig.specs.Command.{command_text, field, rewire_fields, reset_fields, bit_fields, append_fields};
+ghost use Rattle.aig.specs.Command.{output_fields, value_fields, IsCommand, IsNoCommand, IsNumber};
 ghost use Rattle.aig.specs.Meaning.{meaning};
 ghost use Rattle.aig.specs.ScriptLine.{BeginsRow};
 

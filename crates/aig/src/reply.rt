@@ -8,7 +8,8 @@ ghost use Rattle.aig_unroll.specs.declared.fault.UnrollFault.{UnrollFault};
 ghost use Rattle.aig_unroll.specs.Answers as unrolling;
 ghost use Rattle.aig_unroll.specs.Answers.{AnswersUnrolling};
 ghost use Rattle.aig.specs.Meaning.{meaning};
-ghost use Rattle.aig.specs.Replies.{numbered_refusal, refusal, edit_reply, value_reply, unroll_reply, row_fault_reply, CommandReply, WholeReply};
+ghost use Rattle.aig.specs.Replies.{numbered_refusal, refusal, edit_reply, value_reply, unroll_reply};
+ghost use Rattle.aig.specs.Replies.{row_fault_reply, CommandReply, WholeReply};
 ghost use Rattle.aig.specs.ScriptLine.{BeginsRow, KeepsLine};
 
 use crate::command::{Command, parse_command};

@@ -1,5 +1,6 @@
 //! Scripts: lines that drive a bench, answered one by one.
-ghost use Rattle.std.specs.Prelude.{◌≡◌, ◌<◌, ◌≤◌, ◌↔◌, ◌++◌, ℕ, List, [], map, length, take, slice_get, Some, IsTrue, OnOk, OnErr, IfOk, IfErr};
+ghost use Rattle.std.specs.Prelude.{◌≡◌, ◌<◌, ◌≤◌, ◌↔◌, ◌++◌, ℕ, List, [], map, length, take, slice_get, Some};
+ghost use Rattle.std.specs.Prelude.{IsTrue, OnOk, OnErr, IfOk, IfErr};
 ghost use Rattle.aig_base.specs.Bytes.{IsAtEnd, Writes};
 ghost use Rattle.aig.specs.Lines.{IsPiece, whole, lines_from, rest_from};
 ghost use Rattle.aig.specs.Ran.{Answered, StoppedAt, Reading, Ran, Failing};

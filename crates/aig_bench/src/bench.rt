@@ -1,5 +1,6 @@
 //! The workbench.
-ghost use Rattle.std.specs.Prelude.{◌≡◌, ◌≢◌, ℕ, ◌+◌, ◌*◌, ◌<◌, ◌≤◌, ◌↔◌, List, length, ◌⊎◌, IsErrOf, IfOk, IfErr, OnOk, OnErr};
+ghost use Rattle.std.specs.Prelude.{◌≡◌, ◌≢◌, ℕ, ◌+◌, ◌*◌, ◌<◌, ◌≤◌, ◌↔◌, List, length, ◌⊎◌, IsErrOf, IfOk, IfErr};
+ghost use Rattle.std.specs.Prelude.{OnOk, OnErr};
 ghost use Rattle.aig_base.specs.Bytes.{Writes};
 ghost use Rattle.aig_base.specs.Changes.{with_gate};
 ghost use Rattle.aig_base.specs.Circuit.{IsCircuit};
@@ -10,7 +11,8 @@ ghost use Rattle.aig_base.specs.Literal.{variable};
 ghost use Rattle.aig_base.specs.Readers.{AreReaders, list_of};
 ghost use Rattle.aig_base.specs.Renumbered.{IsBinaryReady};
 ghost use Rattle.aig_base.specs.Sections.{IsDefined, IsLeftSide};
-ghost use Rattle.aig_bench.specs.Edit.{Edits, rewire, set_reset, set_bit, add_frame, drop_frame, append_gate, set_output};
+ghost use Rattle.aig_bench.specs.Edit.{Edits, rewire, set_reset, set_bit, add_frame, drop_frame, append_gate};
+ghost use Rattle.aig_bench.specs.Edit.{set_output};
 ghost use Rattle.aig_bench.specs.Pair.{Pair, HasTrace};
 ghost use Rattle.aig_bench.specs.Latches.{AreLatchReaders};
 ghost use Rattle.aig_bench.specs.Pending.{HasLists, IsIdle, IsReady};

@@ -1,6 +1,7 @@
 //! The latches that read a variable, and lists of latches, which take no memory once they are made. A latch's number
 //! here is one more than its position.
-ghost use Rattle.std.specs.Prelude.{◌≡◌, ◌≢◌, ◌↔◌, ℕ, ◌+◌, ◌*◌, ◌<◌, ◌≤◌, [], ◌∷◌, ◌++◌, length, IfOk, OnOk, IfSome, IfNone, IsTrue, Some, slice_get};
+ghost use Rattle.std.specs.Prelude.{◌≡◌, ◌≢◌, ◌↔◌, ℕ, ◌+◌, ◌*◌, ◌<◌, ◌≤◌, [], ◌∷◌, ◌++◌, length, IfOk, OnOk, IfSome};
+ghost use Rattle.std.specs.Prelude.{IfNone, IsTrue, Some, slice_get};
 ghost use Rattle.std.specs.Vec.{vec_capacity};
 ghost use Rattle.aig_base.specs.declared.raw.Raw.{Raw};
 ghost use Rattle.aig_bench.specs.Latches.{AreLatchReaders, Follows, IsLatchList, IsListed, Lists};

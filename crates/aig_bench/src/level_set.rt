@@ -1,5 +1,6 @@
 //! Sets of levels, a bit for each.
-ghost use Rattle.std.specs.Prelude.{◌≡◌, ◌≢◌, ◌⊎◌, ◌↔◌, ℕ, ◌+◌, ◌*◌, ◌/◌, ◌%◌, ◌<◌, ◌≤◌, IsTrue, IfOk, OnOk, IfNone, length, slice_index};
+ghost use Rattle.std.specs.Prelude.{◌≡◌, ◌≢◌, ◌⊎◌, ◌↔◌, ℕ, ◌+◌, ◌*◌, ◌/◌, ◌%◌, ◌<◌, ◌≤◌, IsTrue, IfOk, OnOk, IfNone};
+ghost use Rattle.std.specs.Prelude.{length, slice_index};
 ghost use Rattle.aig_bench.specs.LevelSet.{HasBit, IsFirstPlace, IsFirstFrom, IsFirstInWord};
 
 use aig_base::Memory;

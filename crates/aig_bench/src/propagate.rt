@@ -1,5 +1,6 @@
 //! Values that an edit changed, carried on through the frames.
-ghost use Rattle.std.specs.Prelude.{◌≡◌, ◌≢◌, ℕ, suc, ◌+◌, ◌*◌, ◌<◌, ◌≤◌, List, [], ◌∷◌, length, Some, slice_get, Contains};
+ghost use Rattle.std.specs.Prelude.{◌≡◌, ◌≢◌, ℕ, suc, ◌+◌, ◌*◌, ◌<◌, ◌≤◌, List, [], ◌∷◌, length, Some, slice_get};
+ghost use Rattle.std.specs.Prelude.{Contains};
 ghost use Rattle.aig_base.specs.declared.ternary.Tern as ternary;
 ghost use Rattle.aig_base.specs.Literal.{variable};
 ghost use Rattle.aig_base.specs.Sections.{IsGate};

@@ -1,5 +1,6 @@
 //! The evaluation of what waits at a frame, level by level.
-ghost use Rattle.std.specs.Prelude.{IfOk, Bool, ◌≡◌, ◌≢◌, ◌⊎◌, ◌↔◌, ℕ, ◌+◌, ◌<◌, ◌≤◌, List, length, Some, None, slice_get, Contains, IfSome, IfNone, [], ◌*◌};
+ghost use Rattle.std.specs.Prelude.{IfOk, Bool, ◌≡◌, ◌≢◌, ◌⊎◌, ◌↔◌, ℕ, ◌+◌, ◌<◌, ◌≤◌, List, length, Some, None};
+ghost use Rattle.std.specs.Prelude.{slice_get, Contains, IfSome, IfNone, [], ◌*◌};
 ghost use Rattle.aig_base.specs.declared.ternary.Tern as ternary;
 ghost use Rattle.aig_base.specs.Grounded.{IsSource};
 ghost use Rattle.aig_base.specs.Limits.{cell_limit};

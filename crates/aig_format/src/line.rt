@@ -1,7 +1,8 @@
 //! Lines of the sections, and entries of which a part is implied.
 ghost use Rattle.std.specs.Prelude.{◌≡◌, ℕ, ◌+◌, ◌<◌, ◌≤◌, ◌^◌, List, length, Ok, IfOk, IfSome, IfNone};
 ghost use Rattle.aig_format.specs.Reading.{Read, EndsItself};
-ghost use Rattle.aig_format.specs.ReadingSections.{literal_at, latch_at, gate_at, implicit_latch_at, implicit_gate_at, lines_at};
+ghost use Rattle.aig_format.specs.ReadingSections.{literal_at, latch_at, gate_at, implicit_latch_at};
+ghost use Rattle.aig_format.specs.ReadingSections.{implicit_gate_at, lines_at};
 ghost use Rattle.aig_format.specs.Meaning.{Gives, TokenGives, TokenRaises};
 ghost use Rattle.aig_format.specs.Verdict.{Raises};
 

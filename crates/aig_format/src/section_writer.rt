@@ -3,7 +3,8 @@ ghost use Rattle.std.specs.Prelude.{◌≡◌, ◌<◌, ◌^◌, false, length, 
 ghost use Rattle.std.specs.List.{flat_map};
 ghost use Rattle.aig_base.specs.Formed.{IsFormed};
 ghost use Rattle.aig_base.specs.Gathered.{Gathers};
-ghost use Rattle.aig_format.specs.Spelling.{literal_line, reset_text, size_line, properties_of, property_lines, letter, symbol_line, comment_text, names_text};
+ghost use Rattle.aig_format.specs.Spelling.{literal_line, reset_text, size_line, properties_of, property_lines};
+ghost use Rattle.aig_format.specs.Spelling.{letter, symbol_line, comment_text, names_text};
 
 use crate::gather::{put, put_field};
 use aig_base::{Block, Bytes, Circuit, Io, Kind, List, Lit, Symbols, Write};

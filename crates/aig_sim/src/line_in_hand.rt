@@ -1,5 +1,6 @@
 //! The line of a stimulus that is being read.
-ghost use Rattle.std.specs.Prelude.{◌≡◌, ℕ, ◌-◌, ◌≤◌, ◌<◌, ◌↔◌, List, [], ◌∷◌, ◌++◌, length, map, All, IsTrue, IfOk, IfErr, OnOk, OnErr, IfSome, IfNone};
+ghost use Rattle.std.specs.Prelude.{◌≡◌, ℕ, ◌-◌, ◌≤◌, ◌<◌, ◌↔◌, List, [], ◌∷◌, ◌++◌, length, map, All, IsTrue, IfOk};
+ghost use Rattle.std.specs.Prelude.{IfErr, OnOk, OnErr, IfSome, IfNone};
 ghost use Rattle.aig_sim.specs.StimulusText.{character, line_number, IsCharacter, EndsLine, HasFault};
 ghost use Rattle.aig_sim.specs.LineInHand.{Keeps, IsOfLine};
 

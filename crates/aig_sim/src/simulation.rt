@@ -1,5 +1,6 @@
 //! Simulation of a stimulus that is read row by row.
-ghost use Rattle.std.specs.Prelude.{◌≡◌, ◌≢◌, ℕ, List, [], ◌∷◌, ◌++◌, ◌<◌, ◌≤◌, length, take, All, Some, slice_get, IfOk, IfErr, OnOk, OnErr};
+ghost use Rattle.std.specs.Prelude.{◌≡◌, ◌≢◌, ℕ, List, [], ◌∷◌, ◌++◌, ◌<◌, ◌≤◌, length, take, All, Some, slice_get};
+ghost use Rattle.std.specs.Prelude.{IfOk, IfErr, OnOk, OnErr};
 ghost use Rattle.aig_base.specs.Value.{start_of};
 ghost use Rattle.aig_sim.specs.declared.line_in_hand.Shape.TheVariants as shapes;
 ghost use Rattle.aig_sim.specs.LineInHand.{Keeps};

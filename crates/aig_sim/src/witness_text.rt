@@ -1,5 +1,6 @@
 //! The text of a witness.
-ghost use Rattle.std.specs.Prelude.{◌≡◌, ◌≢◌, ℕ, ◌+◌, ◌<◌, ◌≤◌, ◌↔◌, min, List, [], ◌∷◌, ◌++◌, length, map, take, All, IsTrue, IfSome, IfNone, slice_index_or};
+ghost use Rattle.std.specs.Prelude.{◌≡◌, ◌≢◌, ℕ, ◌+◌, ◌<◌, ◌≤◌, ◌↔◌, min, List, [], ◌∷◌, ◌++◌, length, map, take};
+ghost use Rattle.std.specs.Prelude.{All, IsTrue, IfSome, IfNone, slice_index_or};
 ghost use Rattle.aig_base.specs.declared.ternary.Tern.{Tern};
 ghost use Rattle.aig_base.specs.declared.raw.Raw.{Raw};
 ghost use Rattle.aig_sim.specs.StimulusText.{character, row_line, HaveWidth, IsCharacter};
