@@ -1,13 +1,1 @@
-pub mod Checked
-pub mod Command
-pub mod Converted
-pub mod Delivered
-pub mod Engines
-pub mod Lines
-pub mod Ran
-pub mod Meaning
-pub mod Replies
-pub mod Run
-pub mod ScriptLine
 pub mod Status
-pub mod Unrolling

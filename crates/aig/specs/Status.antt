@@ -1,32 +1,8 @@
--- The exit status of a refused run, and of the program (profile).
+-- The exit status of the program (profile).
 use Rattle.std.specs.Prelude.{ℕ}
-use Rattle.aig_base.specs.declared.fault.Fault.TheVariants as circuits
-use Rattle.aig_sim.specs.declared.stimulus_fault.StimFault.TheVariants as stimuli
-use Rattle.aig_sim.specs.declared.witness_fault.WitnessFault.TheVariants as witnesses
-use Rattle.aig_bench.specs.declared.bench_fault.BenchFault.TheVariants as benches
-use Rattle.aig_unroll.specs.declared.fault.UnrollFault.TheVariants as unrollings
-use Rattle.aig.specs.declared.run_fault.RunFault.{RunFault}
-use Rattle.aig.specs.declared.run_fault.RunFault.TheVariants.{Circuit, Stimulus, Witness, Bench, Script, Output, Memory, Unroll}
+use Rattle.aig_engines.specs.Status.{status_of}
 use Rattle.aig.specs.declared.stop.Stop.{Stop}
 use Rattle.aig.specs.declared.stop.Stop.TheVariants as stops
-
--- 3 where memory was wanting, or a read or a write failed; 1 for any other refusal
-abbrev pub status_of : RunFault → ℕ
-status_of (Circuit circuits.Memory) = 3
-status_of (Circuit circuits.Io) = 3
-status_of (Circuit _) = 1
-status_of (Stimulus stimuli.Memory) = 3
-status_of (Stimulus stimuli.Io) = 3
-status_of (Stimulus _) = 1
-status_of (Witness witnesses.Memory) = 3
-status_of (Witness _) = 1
-status_of (Bench benches.Memory) = 3
-status_of (Bench _) = 1
-status_of (Script _) = 3
-status_of Output = 3
-status_of Memory = 3
-status_of (Unroll unrollings.Memory) = 3
-status_of (Unroll _) = 1
 
 -- 2 where the words are wrong; 3 for a witness's file that is not read; 1 for a verdict other than confirmed; else the run's
 abbrev pub status_of_stop : Stop → ℕ

@@ -1,8 +1,8 @@
 //! The files that the words name.
 
-use crate::run_fault::RunFault;
 use crate::stop::Stop;
 use aig_base::{Buffered, Std};
+use aig_engines::RunFault;
 use std::alloc::Global;
 use std::fs::{self, Files};
 use std::io::{self, ErrorKind, Printer, Read};

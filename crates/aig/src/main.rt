@@ -1,22 +1,10 @@
 //! The program `aig`: converts, simulates and unrolls and-inverter graphs, and answers questions on them.
 #![tactic(auto)]
 
-mod checking;
-mod command;
 mod command_line;
-mod conversion;
-mod delivery;
-mod engine;
 mod files;
-mod laws;
-mod reply;
-mod run_fault;
-mod script;
-mod script_fault;
-mod script_line;
 mod stop;
 mod task;
-mod unrolling;
 mod words;
 
 use std::env::Env;
@@ -47,6 +35,3 @@ fn run_words<R: Files + AllocGlobal + Print + Eprint>(
 ) -> Result<(), Stop> {
     words::task_of(rt, words)?.run(rt)
 }
-
-#[cfg(test)]
-mod tests;

@@ -2,7 +2,7 @@
 ghost use Rattle.std.specs.Prelude.{◌≡◌};
 ghost use Rattle.aig.specs.Status.{status_of_stop};
 
-use crate::run_fault::RunFault;
+use aig_engines::RunFault;
 use std::io;
 
 /// Why the program ends before it is done.

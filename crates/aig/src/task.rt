@@ -1,14 +1,13 @@
 //! What the words of the command line choose.
 
 use crate::command_line::{number_of, subcommand_of, text_of};
-use crate::delivery::{
-    deliver_circuit, deliver_replies, deliver_trace, deliver_unrolled, deliver_verdict,
-};
 use crate::files::{open, output, read_whole};
-use crate::run_fault::RunFault;
-use crate::script_fault::ScriptFault;
 use crate::stop::Stop;
 use aig_base::{Fault, Std};
+use aig_engines::{
+    RunFault, ScriptFault, deliver_circuit, deliver_replies, deliver_trace, deliver_unrolled,
+    deliver_verdict,
+};
 use aig_format::Format;
 use aig_sim::{StimFault, Verdict};
 use clap::ArgMatches;

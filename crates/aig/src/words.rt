@@ -1,9 +1,9 @@
 //! The words of the command line.
 
 use crate::command_line::matches_of;
-use crate::run_fault::RunFault;
 use crate::stop::Stop;
 use crate::task::Task;
+use aig_engines::RunFault;
 use clap::error::ErrorKind;
 use std::env::{self, Env};
 use std::io;

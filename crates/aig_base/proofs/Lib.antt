@@ -4,7 +4,6 @@ pub mod AppendedLevels
 pub mod AppendedReaders
 pub mod Ascending
 pub mod BehindLemmas
-pub mod BlockLemmas
 pub mod Chains
 pub mod Circuits
 pub mod Counting
@@ -16,7 +15,6 @@ pub mod EntryPlaces
 pub mod Evens
 pub mod Faults
 pub mod Gates
-pub mod GatherLemmas
 pub mod Gets
 pub mod Heights
 pub mod InOrder
@@ -59,4 +57,3 @@ pub mod UniqueValue
 pub mod ValueRules
 pub mod VisitLemmas
 pub mod Walks
-pub mod WriteLemmas

@@ -1,5 +1,3 @@
-pub mod Buffered
-pub mod Bytes
 pub mod Changes
 pub mod Circuit
 pub mod Completion
@@ -7,10 +5,8 @@ pub mod Definition
 pub mod Definitions
 pub mod Descent
 pub mod Entries
-pub mod Filled
 pub mod FirstFault
 pub mod Formed
-pub mod Gathered
 pub mod Grounded
 pub mod Laws
 pub mod Least
@@ -36,4 +32,3 @@ pub mod Ternary
 pub mod Value
 pub mod Visits
 pub mod Walk
-pub mod Wrapped

@@ -11,13 +11,13 @@ ghost use Rattle.aig_base.specs.Sections.{IsDefined};
 ghost use Rattle.aig_base.specs.Visits.{AreNoVisits, FitsOneMore};
 
 use crate::circuit::Circuit;
-use crate::fault::Memory;
 use crate::gate::Gate;
 use crate::level::{Levels, level_over};
 use crate::literal::Lit;
 use crate::queue::Queue;
 use crate::readers::{Readers, append_list, make_room_for_list};
 use crate::visits::Visits;
+use aig_bytes::Memory;
 
 impl Circuit {
     // The gate of the variable M + 1 with these right sides.

@@ -16,7 +16,7 @@ use crate::circuit::Circuit;
 use crate::definition::Definition;
 use crate::definitions::Definitions;
 use crate::entries::Entries;
-use crate::fault::{Fault, Memory};
+use crate::fault::Fault;
 use crate::gate::Gate;
 use crate::grounded::grounded_marks;
 use crate::latch::Latch;
@@ -27,6 +27,7 @@ use crate::ordered::{is_ascending, test_ascending};
 use crate::ranks::{all_ascend, ranks};
 use crate::raw::Raw;
 use crate::ready::definitions_in_order;
+use aig_bytes::Memory;
 use std::alloc::Global;
 
 fn within(literals: &[Lit], greatest: u32) -> bool

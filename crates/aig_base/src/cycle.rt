@@ -7,9 +7,9 @@ ghost use Rattle.aig_base.specs.Literal.{variable};
 ghost use Rattle.aig_base.specs.Sections.{IsDefined, IsLeftSide};
 
 use crate::circuit::Circuit;
-use crate::fault::Memory;
 use crate::literal::Lit;
 use crate::walk::Walk;
+use aig_bytes::Memory;
 use std::alloc::Global;
 
 /// Whether the circuit with these right sides at a gate would not be acyclic. `gate` is the gate's even literal, and

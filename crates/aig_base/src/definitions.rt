@@ -8,8 +8,8 @@ ghost use Rattle.aig_base.specs.Formed.{CountsFit};
 ghost use Rattle.aig_base.specs.declared.raw.Raw.{Raw};
 
 use crate::definition::Definition;
-use crate::fault::Memory;
 use crate::raw::Raw;
+use aig_bytes::Memory;
 
 /// What defines each variable of a circuit.
 #[derive(Drop, Debug)]

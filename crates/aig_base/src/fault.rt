@@ -1,18 +1,9 @@
 //! Why a circuit is refused.
 ghost use Rattle.std.specs.Prelude.{◌≡◌};
 
+use aig_bytes::{Io, Memory};
 use std::alloc::{AllocError, AllocFailed};
 use thiserror::Error;
-
-/// No memory was found.
-#[derive(Clone, Copy, PartialEq, Eq, Debug, Error)]
-#[error("memory")]
-pub struct Memory;
-
-/// A read or a write failed.
-#[derive(Clone, Copy, PartialEq, Eq, Debug, Error)]
-#[error("input or output")]
-pub struct Io;
 
 /// The change would close a cycle of gates.
 #[derive(Clone, Copy, PartialEq, Eq, Debug, Error)]
@@ -56,18 +47,6 @@ pub enum Fault {
     /// A read or a write failed.
     #[error("input or output")]
     Io,
-}
-
-impl From<AllocError> for Memory {
-    fn from(_error: AllocError) -> Memory {
-        Memory
-    }
-}
-
-impl<T: Drop> From<AllocFailed<T>> for Memory {
-    fn from(_error: AllocFailed<T>) -> Memory {
-        Memory
-    }
 }
 
 impl From<AllocError> for Fault {

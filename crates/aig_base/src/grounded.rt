@@ -9,12 +9,12 @@ ghost use Rattle.aig_base.specs.Marks.{sides, AreMarks, HasParts, IsGateBelow, A
 ghost use Rattle.aig_base.specs.Marks.{IsMarking};
 ghost use Rattle.aig_base.specs.declared.raw.Raw.{Raw};
 
-use crate::fault::Memory;
 use crate::gate::Gate;
 use crate::latch::Latch;
 use crate::links::Links;
 use crate::literal::Lit;
 use crate::walk::Walk;
+use aig_bytes::Memory;
 use std::alloc::Global;
 
 /// A walk that meets the variables which are known to be grounded; pending are those whose readers are still to be

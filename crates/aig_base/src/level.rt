@@ -5,11 +5,11 @@ ghost use Rattle.aig_base.specs.Levels.{AreLevels};
 ghost use Rattle.aig_base.specs.Literal.{variable};
 
 use crate::circuit::Circuit;
-use crate::fault::Memory;
 use crate::gate::Gate;
 use crate::queue::Queue;
 use crate::visits::Visits;
 use crate::walk::Walk;
+use aig_bytes::Memory;
 use std::alloc::Global;
 use std::marker::Model;
 

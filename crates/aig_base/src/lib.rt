@@ -3,13 +3,9 @@
 
 mod append;
 mod behind;
-mod block;
-mod buffered;
-mod bytes;
 mod change;
 mod check;
 mod circuit;
-mod count;
 mod cycle;
 mod definition;
 mod definitions;
@@ -25,7 +21,6 @@ mod level;
 mod links;
 mod list;
 mod literal;
-mod memory_bytes;
 mod order;
 mod ordered;
 mod queue;
@@ -39,29 +34,26 @@ mod renumbering_laws;
 mod renumbering_parts;
 mod renumbering_table;
 mod rewire;
-mod std_bytes;
 mod symbols;
 mod ternary;
 mod visits;
 mod walk;
-mod write;
 
+pub use aig_bytes::{
+    Block, Buffered, Count, Failed, Io, MemReader, MemWriter, Memory, Read, Std, Write, write_all,
+    write_number,
+};
 pub use append::append_gate;
-pub use block::Block;
-pub use buffered::Buffered;
-pub use bytes::{Failed, Read, Write};
 pub use circuit::Circuit;
-pub use count::Count;
 pub use cycle::would_cycle;
 pub use definition::Definition;
-pub use fault::{Fault, Io, Memory, WouldCycle};
+pub use fault::{Fault, WouldCycle};
 pub use gate::Gate;
 pub use latch::Latch;
 pub use laws::{law_of_completion, law_of_faults, law_of_levels, law_of_one_value};
 pub use level::Levels;
 pub use list::{Bytes, List};
 pub use literal::Lit;
-pub use memory_bytes::{MemReader, MemWriter};
 pub use order::canonical_order;
 pub use raw::{LIMIT, Raw};
 pub use readers::Readers;
@@ -69,10 +61,8 @@ pub use ready::is_binary_ready;
 pub use renumbering::renumber;
 pub use renumbering_laws::law_of_renumbering;
 pub use renumbering_table::renumbered_variables;
-pub use std_bytes::Std;
 pub use symbols::{Kind, Symbols};
 pub use ternary::Tern;
-pub use write::{write_all, write_number};
 
 #[cfg(test)]
 mod tests;

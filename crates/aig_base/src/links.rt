@@ -6,8 +6,8 @@ ghost use Rattle.aig_base.specs.Links.{AreLinks};
 ghost use Rattle.aig_base.specs.Literal.{variable};
 ghost use Rattle.aig_base.specs.Marks.{sides, IsGateBelow};
 
-use crate::fault::Memory;
 use crate::gate::Gate;
+use aig_bytes::Memory;
 use std::alloc::{AllocError, AllocFailed, Global};
 
 /// The positions of a list of keys, in a chain for each key. Link 0 ends a chain, and link `p + 1` leads to position

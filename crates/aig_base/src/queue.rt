@@ -2,7 +2,7 @@
 ghost use Rattle.std.specs.Prelude.{◌≡◌, ℕ, ◌<◌, ◌≤◌, ◌∷◌, [], length, All, IfOk, IfSome, IfNone, OnOk, IsPermutation};
 ghost use Rattle.aig_base.specs.Queue.{IsEmptyQueue, entry};
 
-use crate::fault::Memory;
+use aig_bytes::Memory;
 use std::alloc::Global;
 use std::collections::BinaryHeap;
 use std::marker::Model;

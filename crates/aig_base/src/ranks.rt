@@ -4,11 +4,11 @@ ghost use Rattle.aig_base.specs.Formed.{limit};
 ghost use Rattle.aig_base.specs.Least.{AscendsBy};
 ghost use Rattle.aig_base.specs.Marks.{IsGateBelow};
 
-use crate::fault::Memory;
 use crate::gate::Gate;
 use crate::level::unmet_side;
 use crate::literal::Lit;
 use crate::walk::Walk;
+use aig_bytes::Memory;
 use std::alloc::Global;
 
 // Each gate at its variable, and elsewhere one that reads variable 0 alone.

@@ -6,12 +6,12 @@ ghost use Rattle.aig_base.specs.RenumberingTable.{literal_by, latch_by, gate_by,
 
 use crate::circuit::Circuit;
 use crate::definition::Definition;
-use crate::fault::Memory;
 use crate::gate::Gate;
 use crate::latch::Latch;
 use crate::list::{Bytes, List};
 use crate::literal::Lit;
 use crate::symbols::Symbols;
+use aig_bytes::Memory;
 use std::alloc::Global;
 
 fn new_literal(table: &[u32], literal: Lit) -> Lit

@@ -6,7 +6,7 @@ ghost use Rattle.aig_base.specs.RenumberingTable.{IsRenumbering};
 
 use crate::circuit::Circuit;
 use crate::definition::Definition;
-use crate::fault::Memory;
+use aig_bytes::Memory;
 use std::alloc::Global;
 
 // The variable that stands for an input or a latch; 0 for any other.

@@ -4,7 +4,7 @@ ghost use Rattle.std.specs.Vec.{vec_capacity};
 ghost use Rattle.aig_base.specs.Descent.{IsMet};
 ghost use Rattle.aig_base.specs.Visits.{AreNoVisits, AreVisits, FitsOneMore, IsFrom, IsVisited, VisitsAmong};
 
-use crate::fault::Memory;
+use aig_bytes::Memory;
 use std::alloc::Global;
 
 /// The variables that were visited, with room for all of them.

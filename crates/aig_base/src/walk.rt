@@ -2,7 +2,7 @@
 ghost use Rattle.std.specs.Prelude.{◌≡◌, ◌+◌, ◌<◌, [], false, length, replicate, IfOk, OnOk};
 ghost use Rattle.aig_base.specs.Walk.{Meets};
 
-use crate::fault::Memory;
+use aig_bytes::Memory;
 use std::alloc::Global;
 
 /// A walk over variables that meets each one once.

@@ -4,9 +4,9 @@ use Rattle.std.specs.Prelude.{Option}
 use Rattle.std.proofs.lemmas.List.{take_rest}
 use Rattle.std.proofs.Math.Seq.{take-add}
 use Rattle.std.proofs.lemmas.Bool.{false≢true}
-use Rattle.aig_base.specs.Bytes.{Writes}
-use Rattle.aig_base.specs.Gathered.{Gathers}
-use Rattle.aig_base.proofs.GatherLemmas.{gathers_then, gathers_held, gathers_same, written_whole}
+use Rattle.aig_bytes.specs.Bytes.{Writes}
+use Rattle.aig_bytes.specs.Gathered.{Gathers}
+use Rattle.aig_bytes.proofs.GatherLemmas.{gathers_then, gathers_held, gathers_same, written_whole}
 
 module _ {X : Type 0} {written : X → Option (List ℕ)} {failures : X → ℕ} where
   -- bytes from i on that went into the emptied block

@@ -4,8 +4,8 @@ use Rattle.std.specs.Prelude.{Option}
 use Rattle.std.specs.List.{flat_map}
 use Rattle.std.proofs.lemmas.List.{append-nil}
 use Rattle.std.proofs.lemmas.List.Concat.{flat_map-append}
-use Rattle.aig_base.specs.Gathered.{Gathers}
-use Rattle.aig_base.proofs.GatherLemmas.{gathers_then, gathers_stop, gathers_failed, gathers_same, gathers_none}
+use Rattle.aig_bytes.specs.Gathered.{Gathers}
+use Rattle.aig_bytes.proofs.GatherLemmas.{gathers_then, gathers_stop, gathers_failed, gathers_same, gathers_none}
 
 -- the items in front were written, and the others are left
 pub record Front {Y X : Type 0} (written : X → Option (List ℕ)) (failures : X → ℕ) (f : Y → List ℕ) (old new : X) (held held' : List ℕ)

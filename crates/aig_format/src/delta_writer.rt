@@ -1,7 +1,7 @@
 //! Writing numbers in groups of seven bits.
 ghost use Rattle.std.specs.Prelude.{◌≡◌, ◌+◌, ◌^◌, ◌<◌};
 ghost use Rattle.aig_format.specs.Delta.{groups, delta};
-ghost use Rattle.aig_base.specs.Gathered.{Gathers};
+ghost use Rattle.aig_bytes.specs.Gathered.{Gathers};
 
 use crate::gather::put_byte;
 use aig_base::{Block, Io, Write};

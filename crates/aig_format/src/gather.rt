@@ -1,7 +1,7 @@
 //! Bytes that are gathered in a block before they go to a writer, so that a file costs few calls.
 ghost use Rattle.std.specs.Fmt.{decimal};
 ghost use Rattle.std.specs.Prelude.{◌≡◌, ◌∷◌, [], OnOk};
-ghost use Rattle.aig_base.specs.Gathered.{Gathers};
+ghost use Rattle.aig_bytes.specs.Gathered.{Gathers};
 ghost use Rattle.aig_format.specs.Header.{field};
 
 use aig_base::{Block, Io, Write, write_all};

@@ -4,9 +4,9 @@ use Rattle.std.specs.Prelude.{Option}
 use Rattle.std.proofs.lemmas.List.{take-append-drop, take_all, take_at, length-take-le, length-map, length-append, map-append}
 use Rattle.std.proofs.Math.Seq.{take-add}
 use Rattle.std.proofs.lemmas.Bool.{false≢true}
-use Rattle.aig_base.specs.Bytes.{Writes}
-use Rattle.aig_base.specs.Gathered.{Gathers}
-use Rattle.aig_base.proofs.GatherLemmas.{gathers_then, gathers_stop, gathers_failed, gathers_same}
+use Rattle.aig_bytes.specs.Bytes.{Writes}
+use Rattle.aig_bytes.specs.Gathered.{Gathers}
+use Rattle.aig_bytes.proofs.GatherLemmas.{gathers_then, gathers_stop, gathers_failed, gathers_same}
 
 module _ {X : Type 0} {written : X → Option (List ℕ)} {failures : X → ℕ} where
   -- what waited was handed on, and the piece waits

@@ -6,11 +6,11 @@ use Rattle.std.specs.Result.{IsErrAnd}
 use Rattle.std.proofs.lemmas.List.{append-nil, length_push}
 use Rattle.aig_base.specs.declared.ternary.Tern.{Tern}
 use Rattle.aig_base.specs.declared.raw.Raw.{Raw}
-use Rattle.aig_base.specs.Bytes.{after, before, IsAtEnd, IsBeginning}
+use Rattle.aig_bytes.specs.Bytes.{after, before, IsAtEnd, IsBeginning}
 use Rattle.aig_base.specs.Circuit.{IsCircuit}
 use Rattle.aig_base.specs.Sound.{IsSound}
 use Rattle.aig_base.specs.Value.{start_of}
-use Rattle.aig_base.proofs.WriteLemmas.{after-append, after-nil}
+use Rattle.aig_bytes.proofs.WriteLemmas.{after-append, after-nil}
 use Rattle.aig_sim.specs.declared.simulation.Simulation.{Simulation}
 use Rattle.aig_sim.specs.declared.line_in_hand.Shape.{Shape}
 use Rattle.aig_sim.specs.declared.line_in_hand.Shape.TheVariants.{Row}

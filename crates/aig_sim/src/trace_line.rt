@@ -1,9 +1,9 @@
 //! The lines of a trace, by the values of their frames.
 ghost use Rattle.std.specs.Prelude.{◌≡◌, ℕ, ◌+◌, ◌≤◌, [], ◌∷◌, ◌++◌, length, map, All};
-ghost use Rattle.aig_base.specs.Bytes.{Writes};
+ghost use Rattle.aig_bytes.specs.Bytes.{Writes};
 ghost use Rattle.aig_base.specs.Circuit.{IsCircuit};
 ghost use Rattle.aig_base.specs.Literal.{variable};
-ghost use Rattle.aig_base.specs.Gathered.{Gathers};
+ghost use Rattle.aig_bytes.specs.Gathered.{Gathers};
 ghost use Rattle.aig_sim.specs.TraceText.{literal_character, line_text, trace_text};
 
 use crate::grid::Grid;

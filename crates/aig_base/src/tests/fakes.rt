@@ -1,5 +1,5 @@
 // Readers and writers that tests use.
-use crate::bytes::{Failed, Write};
+use aig_bytes::{Failed, Write};
 use std::io;
 
 // Hands on one byte of each write.

@@ -1,6 +1,6 @@
 use Rattle.std.proofs.Common.{ap}
 use Rattle.aig_format.specs.Header.{field}
-use Rattle.aig_base.proofs.GatherLemmas.{gathers_then, gathers_stop, gathers_failed, gathers_same}
+use Rattle.aig_bytes.proofs.GatherLemmas.{gathers_then, gathers_stop, gathers_failed, gathers_same}
 use Rattle.aig_format.proofs.ascii_writer.put_gate.Goals as goal
 
 pub returns-in_err-put_field : goal.returns-in_err-put_field

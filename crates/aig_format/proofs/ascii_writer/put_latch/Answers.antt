@@ -1,7 +1,7 @@
 use Rattle.std.proofs.Common.{ap}
 use Rattle.std.specs.Fmt.{decimal}
 use Rattle.aig_format.specs.Header.{field}
-use Rattle.aig_base.proofs.GatherLemmas.{gathers_then, gathers_stop, gathers_failed, gathers_same}
+use Rattle.aig_bytes.proofs.GatherLemmas.{gathers_then, gathers_stop, gathers_failed, gathers_same}
 use Rattle.aig_format.proofs.ascii_writer.put_latch.Goals as goal
 
 pub returns-in_err-put_field : goal.returns-in_err-put_field

@@ -1,5 +1,5 @@
-use Rattle.aig_base.proofs.WriteLemmas.{writes_same}
-use Rattle.aig_base.proofs.GatherLemmas.{written_part}
+use Rattle.aig_bytes.proofs.WriteLemmas.{writes_same}
+use Rattle.aig_bytes.proofs.GatherLemmas.{written_part}
 use Rattle.aig_format.proofs.GatherLemmas.{whole_failed, whole_written}
 use Rattle.aig_format.proofs.ascii_writer.write_ascii.Goals as goal
 

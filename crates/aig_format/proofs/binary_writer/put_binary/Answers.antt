@@ -6,7 +6,7 @@ use Rattle.aig_format.specs.declared.header.Format.TheVariants.{Binary}
 use Rattle.aig_format.specs.Header.{header_line}
 use Rattle.aig_format.specs.Spelling.{implicit_latch_line, gate_deltas}
 use Rattle.aig_format.proofs.Written.{plain_lines}
-use Rattle.aig_base.proofs.GatherLemmas.{gathers_then, gathers_stop, gathers_failed, gathers_same}
+use Rattle.aig_bytes.proofs.GatherLemmas.{gathers_then, gathers_stop, gathers_failed, gathers_same}
 use Rattle.aig_format.specs.Spelling.{binary}
 use Rattle.aig_format.proofs.binary_writer.put_binary.Goals as goal
 

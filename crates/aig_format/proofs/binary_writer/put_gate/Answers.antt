@@ -1,6 +1,6 @@
 use Rattle.std.proofs.Common.{ap, ap₂, ◌-◌}
 use Rattle.aig_format.specs.Delta.{delta}
-use Rattle.aig_base.proofs.GatherLemmas.{gathers_then, gathers_stop, gathers_failed, gathers_same}
+use Rattle.aig_bytes.proofs.GatherLemmas.{gathers_then, gathers_stop, gathers_failed, gathers_same}
 use Rattle.aig_format.proofs.binary_writer.put_gate.Goals as goal
 
 pub returns-in_err-put_delta : goal.returns-in_err-put_delta

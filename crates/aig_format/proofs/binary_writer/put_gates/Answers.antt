@@ -1,6 +1,6 @@
 use Rattle.std.proofs.Common.{ap}
 use Rattle.aig_format.specs.Spelling.{gate_deltas}
-use Rattle.aig_base.proofs.GatherLemmas.{piece_failed, piece_more, gathers_same}
+use Rattle.aig_bytes.proofs.GatherLemmas.{piece_failed, piece_more, gathers_same}
 use Rattle.aig_format.proofs.binary_writer.put_gates.Goals as goal
 
 pub returns-in_err-put_gate : goal.returns-in_err-put_gate

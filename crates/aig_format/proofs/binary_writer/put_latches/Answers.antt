@@ -1,7 +1,7 @@
 use Rattle.std.proofs.Common.{ap}
 use Rattle.std.proofs.Common.{false}
 use Rattle.aig_format.specs.Spelling.{implicit_latch_line}
-use Rattle.aig_base.proofs.GatherLemmas.{piece_failed, piece_more, gathers_same}
+use Rattle.aig_bytes.proofs.GatherLemmas.{piece_failed, piece_more, gathers_same}
 use Rattle.aig_format.proofs.binary_writer.put_latches.Goals as goal
 
 pub returns-in_err-put_latch : goal.returns-in_err-put_latch

@@ -1,6 +1,6 @@
 use Rattle.std.proofs.Common.{ℕ, ◌+◌, ◌/◌, ◌%◌, List, [], ◌∷◌, ◌++◌, refl, sym, ap, ◌∙◌, append_assoc, arith}
 use Rattle.aig_format.specs.Delta.{delta}
-use Rattle.aig_base.proofs.GatherLemmas.{gathers_then, gathers_stop, gathers_failed, gathers_none, gathers_same}
+use Rattle.aig_bytes.proofs.GatherLemmas.{gathers_then, gathers_stop, gathers_failed, gathers_none, gathers_same}
 use Rattle.aig_format.proofs.GatherLemmas.{no_more}
 use Rattle.aig_format.proofs.Deltas.{delta_small, delta_large}
 use Rattle.aig_format.proofs.delta_writer.put_delta.Goals as goal

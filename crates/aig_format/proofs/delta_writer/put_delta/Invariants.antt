@@ -1,5 +1,5 @@
 use Rattle.std.proofs.Common.{◌≡◌, ◌<◌, ◌^◌, ℕ, List, ◌++◌, Ok}
-use Rattle.aig_base.specs.Gathered.{Gathers}
+use Rattle.aig_bytes.specs.Gathered.{Gathers}
 use Rattle.aig_format.specs.Delta.{delta}
 use Rattle.aig_format.proofs.delta_writer.put_delta.Given as goal
 

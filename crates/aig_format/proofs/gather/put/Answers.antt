@@ -1,6 +1,6 @@
 use Rattle.std.proofs.Common.{ℕ, drop, arith, length-drop}
 use Rattle.std.proofs.lemmas.List.{length-take, take-append-drop, take_all}
-use Rattle.aig_base.proofs.GatherLemmas.{gathers_then, gathers_stop, gathers_failed, gathers_held, gathers_same}
+use Rattle.aig_bytes.proofs.GatherLemmas.{gathers_then, gathers_stop, gathers_failed, gathers_held, gathers_same}
 use Rattle.aig_format.proofs.GatherLemmas.{gathers_more, no_more}
 use Rattle.aig_format.proofs.gather.put.Goals as goal
 

@@ -1,5 +1,5 @@
 use Rattle.std.proofs.Common.{sym, ◌∙◌}
-use Rattle.aig_base.proofs.GatherLemmas.{gathers_then, gathers_stop, gathers_failed, gathers_same}
+use Rattle.aig_bytes.proofs.GatherLemmas.{gathers_then, gathers_stop, gathers_failed, gathers_same}
 use Rattle.aig_format.proofs.Written.{tail_end, tail_step}
 use Rattle.aig_format.proofs.header_writer.+put_tail.Goals as goal
 

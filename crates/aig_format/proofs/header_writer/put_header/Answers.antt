@@ -1,4 +1,4 @@
-use Rattle.aig_base.proofs.GatherLemmas.{gathers_then, gathers_stop, gathers_failed}
+use Rattle.aig_bytes.proofs.GatherLemmas.{gathers_then, gathers_stop, gathers_failed}
 use Rattle.aig_format.specs.Header.{header_line}
 use Rattle.aig_format.proofs.header_writer.put_header.Goals as goal
 

@@ -1,4 +1,4 @@
-use Rattle.aig_base.proofs.GatherLemmas.{gathers_then, gathers_stop, gathers_failed}
+use Rattle.aig_bytes.proofs.GatherLemmas.{gathers_then, gathers_stop, gathers_failed}
 use Rattle.aig_format.proofs.section_writer.put_comment.Goals as goal
 
 pub returns-in_err-put-in-Some : goal.returns-in_err-put-in-Some

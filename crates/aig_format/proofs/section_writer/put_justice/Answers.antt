@@ -1,7 +1,7 @@
 use Rattle.std.proofs.Common.{ap, ◌∙◌}
 use Rattle.std.specs.List.{flat_map}
 use Rattle.aig_format.specs.Spelling.{literal_line}
-use Rattle.aig_base.proofs.GatherLemmas.{piece_failed, piece_more, gathers_same}
+use Rattle.aig_bytes.proofs.GatherLemmas.{piece_failed, piece_more, gathers_same}
 use Rattle.aig_format.proofs.section_writer.put_justice.Goals as goal
 
 pub returns-in_err-put_literals : goal.returns-in_err-put_literals

@@ -1,7 +1,7 @@
 use Rattle.std.proofs.Common.{ap}
 use Rattle.std.specs.List.{flat_map}
 use Rattle.aig_format.specs.Spelling.{symbol_line, comment_text}
-use Rattle.aig_base.proofs.GatherLemmas.{gathers_then, gathers_stop, gathers_failed, gathers_same}
+use Rattle.aig_bytes.proofs.GatherLemmas.{gathers_then, gathers_stop, gathers_failed, gathers_same}
 use Rattle.aig_format.specs.Spelling.{names_text}
 use Rattle.aig_format.proofs.section_writer.put_names.Goals as goal
 

@@ -2,7 +2,7 @@ use Rattle.aig_format.proofs.Written.{small_sizes}
 use Rattle.std.proofs.Common.{ap}
 use Rattle.std.specs.List.{flat_map}
 use Rattle.aig_format.specs.Spelling.{literal_line, size_line}
-use Rattle.aig_base.proofs.GatherLemmas.{gathers_then, gathers_stop, gathers_failed, gathers_same}
+use Rattle.aig_bytes.proofs.GatherLemmas.{gathers_then, gathers_stop, gathers_failed, gathers_same}
 use Rattle.aig_format.specs.Spelling.{property_lines}
 use Rattle.aig_format.proofs.section_writer.put_properties.Goals as goal
 

@@ -2,7 +2,7 @@ use Rattle.std.proofs.Common.{ap, ◌∙◌}
 use Rattle.std.proofs.Common.{length}
 use Rattle.aig_format.specs.Header.{field}
 use Rattle.aig_format.specs.Spelling.{size_line}
-use Rattle.aig_base.proofs.GatherLemmas.{piece_failed, piece_more, gathers_same}
+use Rattle.aig_bytes.proofs.GatherLemmas.{piece_failed, piece_more, gathers_same}
 use Rattle.aig_format.proofs.section_writer.put_sizes.Goals as goal
 
 pub returns-in_err-put_field : goal.returns-in_err-put_field

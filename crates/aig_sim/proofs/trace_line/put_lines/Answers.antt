@@ -1,6 +1,6 @@
 use Rattle.std.proofs.Common.{[], ◌<◌, length, arith}
 use Rattle.aig_sim.specs.TraceText.{line_text}
-use Rattle.aig_base.proofs.GatherLemmas.{piece_more, piece_failed}
+use Rattle.aig_bytes.proofs.GatherLemmas.{piece_more, piece_failed}
 use Rattle.aig_sim.proofs.trace_line.put_lines.Goals as goal
 
 pub loop-frame-preserved : goal.loop-frame-preserved

@@ -1,7 +1,7 @@
 use Rattle.std.proofs.Common.{◌+◌, ◌∷◌, [], ◌≤◌, length, ◌∙◌, arith}
 use Rattle.aig_base.specs.declared.latch.Latch.{Latch}
 use Rattle.aig_sim.specs.TraceText.{literal_character}
-use Rattle.aig_base.proofs.GatherLemmas.{gathers_then}
+use Rattle.aig_bytes.proofs.GatherLemmas.{gathers_then}
 use Rattle.aig_sim.proofs.GatherLemmas.{span_is, same_room, span_more, span_failed, all_gathered}
 use Rattle.aig_sim.proofs.trace_line.put_next_states.Goals as goal
 

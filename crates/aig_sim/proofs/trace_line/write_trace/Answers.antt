@@ -1,4 +1,4 @@
-use Rattle.aig_base.proofs.GatherLemmas.{written_whole, written_part}
+use Rattle.aig_bytes.proofs.GatherLemmas.{written_whole, written_part}
 use Rattle.aig_sim.proofs.trace_line.write_trace.Goals as goal
 
 pub returns-in_err-put_lines : goal.returns-in_err-put_lines

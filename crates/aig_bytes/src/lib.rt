@@ -1,0 +1,20 @@
+//! Bytes on their way in and out: readers, writers, what gathers small pieces, and counts of failed calls.
+#![tactic(auto)]
+
+mod block;
+mod buffered;
+mod bytes;
+mod count;
+mod fault;
+mod memory_bytes;
+mod std_bytes;
+mod write;
+
+pub use block::Block;
+pub use buffered::Buffered;
+pub use bytes::{Failed, Read, Write};
+pub use count::Count;
+pub use fault::{Io, Memory};
+pub use memory_bytes::{MemReader, MemWriter};
+pub use std_bytes::Std;
+pub use write::{write_all, write_number};

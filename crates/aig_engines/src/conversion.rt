@@ -1,0 +1,66 @@
+//! Conversion of a circuit file from a reader to a writer.
+ghost use Rattle.std.specs.Prelude.{◌≡◌};
+ghost use Rattle.aig_format.specs.declared.header.Format.TheVariants.{Binary};
+ghost use Rattle.aig_engines.specs.Converted.{ConversionEnds, EndsFrom, IsWritten, output_of};
+
+use crate::run_fault::RunFault;
+use aig_base::{Circuit, Fault, Read, Write, is_binary_ready, renumber};
+use aig_format::{Format, read_from, write_ascii, write_binary};
+use std::alloc::Global;
+
+/// A failing write is the output's.
+pub fn as_output(done: Result<(), Fault>) -> Result<(), RunFault>
+    ensures { result ≡ output_of done }
+{
+    match done {
+        Ok(()) => Ok(()),
+        Err(_) => Err(RunFault::Output),
+    }
+}
+
+/// Writes a circuit as a binary file: a ready one as it stands, any other renumbered.
+fn write_ready<W: Write>(alloc: Global, circuit: &Circuit, out: &mut W) -> Result<(), RunFault>
+    ensures { IsWritten W.written W.failures out.old out.new circuit.now Binary result }
+{
+    if is_binary_ready(circuit) {
+        return as_output(write_binary(circuit, out));
+    }
+    let Ok(renumbered) = renumber(alloc, circuit) else {
+        return Err(RunFault::Memory);
+    };
+    as_output(write_binary(&renumbered, out))
+}
+
+/// Writes a circuit in a format: to text as it stands, to binary as it stands where it is ready for that, else
+/// renumbered.
+fn write_converted<W: Write>(
+    alloc: Global,
+    circuit: &Circuit,
+    to: Format,
+    out: &mut W,
+) -> Result<(), RunFault>
+    ensures { IsWritten W.written W.failures out.old out.new circuit.now to result }
+{
+    match to {
+        Format::Ascii => as_output(write_ascii(circuit, out)),
+        Format::Binary => write_ready(alloc, circuit, out),
+    }
+}
+
+/// Writes the circuit that a reader holds in a format: to text as it stands, to binary as it stands where it is ready
+/// for that, else renumbered. Counts and resets of 0 that may be left out are left out. The file is never held whole:
+/// memory is taken for its circuit alone.
+pub fn convert_from<R: Read, W: Write>(
+    alloc: Global,
+    reader: &mut R,
+    to: Format,
+    out: &mut W,
+) -> Result<(), RunFault>
+    ensures { EndsFrom R.left R.failures reader.old reader.new out.old out.new
+        (λ bytes. ConversionEnds W.written W.failures out.old out.new bytes to result) result }
+{
+    match read_from(alloc, reader) {
+        Ok(circuit) => write_converted(alloc, &circuit, to, out),
+        Err(fault) => Err(RunFault::Circuit(fault)),
+    }
+}

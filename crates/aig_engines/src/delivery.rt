@@ -1,0 +1,114 @@
+//! Engines over a writer that holds bytes back: all that they wrote is handed on, whatever they answer.
+ghost use Rattle.std.specs.Prelude.{◌≡◌};
+ghost use Rattle.aig_engines.specs.Checked.{CheckEnds};
+ghost use Rattle.aig_engines.specs.Converted.{ConversionEnds, EndsFrom};
+ghost use Rattle.aig_engines.specs.Delivered.{Delivers, IsHandedOn, all_written, calls_failed};
+ghost use Rattle.aig_engines.specs.Engines.{BenchEnds, SimulationEnds};
+ghost use Rattle.aig_engines.specs.Unrolling.{UnrollingEnds};
+
+use crate::checking::check_bytes;
+use crate::conversion::convert_from;
+use crate::engine::{run_bench, simulate_from};
+use crate::run_fault::RunFault;
+use crate::script_fault::ScriptFault;
+use crate::unrolling::unroll_bytes;
+use aig_base::{Buffered, Failed, Read, Write};
+use aig_format::Format;
+use aig_sim::{PlaneGrid, StimFault, Verdict};
+use std::alloc::Global;
+
+/// Writes the circuit of a file in a format. Where the writer below fails, the fault is the output's.
+pub fn deliver_circuit<R: Read, W: Write>(
+    alloc: Global,
+    circuit: &mut R,
+    to: Format,
+    out: &mut Buffered<W>,
+) -> Result<(), RunFault>
+    ensures { Delivers W.written RunFault.Output
+        (λ left answer. EndsFrom R.left R.failures circuit.old circuit.new out.old left
+        (λ bytes. ConversionEnds (all_written W.written) calls_failed out.old left bytes to answer) answer) out.new
+        result }
+{
+    let done = convert_from(alloc, circuit, to, out);
+    handed_on(done, out, RunFault::Output)
+}
+
+/// Writes the trace of a stimulus, and answers how many frames there were. Where the writer below fails, the fault is
+/// the stimulus's.
+pub fn deliver_trace<C: Read, R: Read, W: Write>(
+    alloc: Global,
+    circuit: &mut C,
+    stimulus: &mut R,
+    out: &mut Buffered<W>,
+) -> Result<u64, RunFault>
+    ensures { Delivers W.written (RunFault.Stimulus StimFault.Io)
+        (λ left answer. EndsFrom C.left C.failures circuit.old circuit.new out.old left
+        (λ bytes. SimulationEnds R.left R.failures (all_written W.written) calls_failed
+        stimulus.old stimulus.new out.old left bytes answer) answer) out.new result }
+{
+    let done = simulate_from(alloc, circuit, stimulus, out);
+    handed_on(done, out, RunFault::Stimulus(StimFault::Io))
+}
+
+/// Writes the replies to a script. Where the writer below fails, the fault is the script's.
+pub fn deliver_replies<R: Read, W: Write>(
+    alloc: Global,
+    circuit: &[u8],
+    stimulus: &[u8],
+    script: &mut R,
+    out: &mut Buffered<W>,
+) -> Result<(), RunFault>
+    ensures { Delivers W.written (RunFault.Script ScriptFault.Io)
+        (λ left answer. BenchEnds R.left R.failures (all_written W.written) calls_failed script.old script.new out.old
+        left
+        circuit.now stimulus.now answer) out.new result }
+{
+    let done = run_bench::<PlaneGrid, R, Buffered<W>>(alloc, circuit, stimulus, script, out);
+    handed_on(done, out, RunFault::Script(ScriptFault::Io))
+}
+
+/// Writes a circuit file unrolled for this many frames in a format. Where the writer below fails, the fault is the
+/// output's.
+pub fn deliver_unrolled<W: Write>(
+    alloc: Global,
+    circuit: &[u8],
+    frames: u32,
+    to: Format,
+    out: &mut Buffered<W>,
+) -> Result<(), RunFault>
+    ensures { Delivers W.written RunFault.Output
+        (λ left answer. UnrollingEnds (all_written W.written) calls_failed out.old left circuit.now frames to answer)
+        out.new result }
+{
+    let done = unroll_bytes(alloc, circuit, frames, to, out);
+    handed_on(done, out, RunFault::Output)
+}
+
+/// Writes the verdict on a witness, and answers it. Where the writer below fails, the fault is the output's.
+pub fn deliver_verdict<W: Write>(
+    alloc: Global,
+    circuit: &[u8],
+    witness: &[u8],
+    out: &mut Buffered<W>,
+) -> Result<Verdict, RunFault>
+    ensures { Delivers W.written RunFault.Output
+        (λ left answer. CheckEnds (all_written W.written) calls_failed out.old left circuit.now witness.now answer)
+        out.new result }
+{
+    let done = check_bytes(alloc, circuit, witness, out);
+    handed_on(done, out, RunFault::Output)
+}
+
+/// The answer of an engine, once all that it wrote is handed on; where that fails, the fault of the part that writes.
+fn handed_on<T: Drop, W: Write>(
+    done: Result<T, RunFault>,
+    out: &mut Buffered<W>,
+    part: RunFault,
+) -> Result<T, RunFault>
+    ensures { IsHandedOn W.written part out.old done out.new result }
+{
+    match out.flush() {
+        Ok(()) => done,
+        Err(Failed) => Err(part),
+    }
+}

@@ -1,0 +1,56 @@
+//! Unrolling of a circuit file.
+ghost use Rattle.std.specs.Prelude.{◌≡◌, IfErr};
+ghost use Rattle.aig_bytes.specs.Bytes.{Writes};
+ghost use Rattle.aig_base.specs.Renumbered.{IsBinaryReady};
+ghost use Rattle.aig_engines.specs.Unrolling.{UnrolledCircuitEnds, UnrollingEnds, short_spelling};
+
+use crate::conversion::as_output;
+use crate::engine::read_circuit;
+use crate::run_fault::RunFault;
+use aig_base::{Circuit, Levels, Write};
+use aig_format::{Format, write_ascii, write_binary};
+use aig_unroll::unroll;
+use std::alloc::Global;
+
+/// Writes a circuit that a binary file can hold in a format, as it stands.
+fn write_short<W: Write>(circuit: &Circuit, to: Format, out: &mut W) -> Result<(), RunFault>
+    requires { IsBinaryReady circuit.now }
+    ensures written { Writes W.written W.failures out.old out.new (short_spelling to circuit.now) result }
+    ensures output { IfErr result (λ fault. fault ≡ RunFault.Output) }
+{
+    match to {
+        Format::Ascii => as_output(write_ascii(circuit, out)),
+        Format::Binary => as_output(write_binary(circuit, out)),
+    }
+}
+
+/// Unrolls a circuit for this many frames, and writes it in a format.
+fn unroll_circuit<W: Write>(
+    alloc: Global,
+    circuit: &Circuit,
+    frames: u32,
+    to: Format,
+    out: &mut W,
+) -> Result<(), RunFault>
+    ensures { UnrolledCircuitEnds W.written W.failures out.old out.new circuit.now frames to result }
+{
+    let levels = Levels::of(alloc, circuit)?;
+    let unrolled = unroll(alloc, circuit, &levels, frames)?;
+    write_short(&unrolled, to, out)
+}
+
+/// Reads a circuit, unrolls it for this many frames, and writes the unrolled circuit in a format: for every circuit
+/// file that is accepted, the bytes that are written are the short spelling of the unrolled circuit. Where the circuit
+/// is not unrolled, or no memory was found for its levels, nothing is written.
+pub fn unroll_bytes<W: Write>(
+    alloc: Global,
+    circuit: &[u8],
+    frames: u32,
+    to: Format,
+    out: &mut W,
+) -> Result<(), RunFault>
+    ensures { UnrollingEnds W.written W.failures out.old out.new circuit.now frames to result }
+{
+    let circuit = read_circuit(alloc, circuit)?;
+    unroll_circuit(alloc, &circuit, frames, to, out)
+}
