@@ -59,7 +59,7 @@ impl Queue {
         }
     }
 
-    /// Makes room for so many more.
+    /// Sees that there is room for so many in all, those that wait included.
     pub(crate) fn make_room(&mut self, additional: usize) -> Result<(), Memory>
         ensures entries { self.new.entries ≡ self.old.entries }
         ensures capacity { self.old.capacity ≤ self.new.capacity }
