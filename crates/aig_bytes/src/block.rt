@@ -6,7 +6,8 @@ use std::marker::Model;
 /// How many bytes a block has room for.
 const ROOM: usize = 4096;
 
-/// Bytes that wait in a plain array, 4,096 at most. They are taken out in front and put in behind.
+/// Bytes that wait in a plain array, 4,096 at most. They are taken out in front and put in behind. No byte is moved, so
+/// the room of those that were taken out serves again only once none waits.
 #[derive(Drop)]
 pub struct Block {
     bytes: [u8; ROOM],
@@ -64,7 +65,8 @@ impl Block {
         }
     }
 
-    /// Puts in one byte, and answers whether there was room for it. Where there was none nothing changes.
+    /// Puts in one byte behind those that wait, and answers whether there was room for it there. Where there was none
+    /// nothing changes.
     #[inline]
     pub fn push(&mut self, byte: u8) -> bool
         ensures pushed { IsTrue result → self.new ≡ self.old ++ byte ∷ [] }
@@ -80,7 +82,8 @@ impl Block {
         true
     }
 
-    /// Puts in what there is room for, and answers how many bytes that are.
+    /// Puts in the first of these bytes, as many as there is room for behind those that wait, and answers how many. That
+    /// is at least one where none waits.
     pub fn append(&mut self, bytes: &[u8]) -> usize
         ensures appended { self.new ≡ self.old ++ take result bytes.now }
         ensures bound { result ≤ length bytes.now }

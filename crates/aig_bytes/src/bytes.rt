@@ -2,7 +2,7 @@
 ghost use Rattle.std.specs.Prelude.{◌≡◌, ℕ, ◌+◌, ◌<◌, ◌≤◌, List, length, IfOk, Option};
 ghost use Rattle.aig_bytes.specs.Bytes.{after, before, failed, moved, IsAtEnd};
 
-/// A read or a write did not happen.
+/// A read, a write or a flush failed.
 #[derive(Clone, Copy, Debug, PartialEq, Eq)]
 pub struct Failed;
 
@@ -42,8 +42,11 @@ pub trait Write {
         ensures taken { written self.new ≡ after (written self.old) (moved result bytes.now) }
         ensures count { failures self.new ≡ failures self.old + failed result };
 
-    /// Hands on what is held back. It writes no byte of its own.
+    /// Hands on what is held back. It writes no byte of its own. A writer that holds nothing back has nothing to do.
     fn flush(&mut self) -> Result<(), Failed>
         ensures kept { written self.new ≡ written self.old }
-        ensures count { failures self.new ≡ failures self.old + failed result };
+        ensures count { failures self.new ≡ failures self.old + failed result }
+    {
+        Ok(())
+    }
 }

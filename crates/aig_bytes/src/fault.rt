@@ -8,7 +8,7 @@ use thiserror::Error;
 #[error("memory")]
 pub struct Memory;
 
-/// A read or a write failed.
+/// A read, a write or a flush failed.
 #[derive(Clone, Copy, PartialEq, Eq, Debug, Error)]
 #[error("input or output")]
 pub struct Io;

@@ -1,5 +1,5 @@
 //! Readers and writers of the system.
-ghost use Rattle.std.specs.Prelude.{◌≡◌, ◌+◌, ◌-◌, ◌^◌, ◌<◌, ◌≤◌, ℕ, None, IfOk, length};
+ghost use Rattle.std.specs.Prelude.{◌≡◌, ◌+◌, ◌-◌, ◌^◌, ◌<◌, ◌≤◌, ℕ, None, IfOk, OnErr, length};
 ghost use Rattle.std.specs.Io.KnownBytes.{Keeps, ReadConsumes, WriteAppends};
 ghost use Rattle.aig_bytes.specs.Bytes.{after, before, failed, moved, IsAtEnd};
 
@@ -8,8 +8,8 @@ use crate::count::Count;
 use std::io;
 use std::marker::Model;
 
-/// A reader or a writer of `std::io`. It tells none of its bytes, tries no failure again, and fails where a write takes
-/// no byte, or where `u64::MAX` reads have given bytes.
+/// A reader or a writer of `std::io`. It tells none of its bytes, and tries no failure again. It fails also where a write
+/// takes none of the bytes that there are, and where `u64::MAX` reads have given bytes.
 #[derive(Drop)]
 pub struct Std<T> {
     inner: T,
@@ -67,9 +67,11 @@ impl<T: io::Read> Read for Std<T> {
         ensures lowers { IfOk result (λ n. 0 < n → self.new.reads_left < self.old.reads_left) }
         ensures never_more { self.new.reads_left ≤ self.old.reads_left }
 
-        // What the reader of std gave is given, and each read that gives bytes counts as one.
+        // What the reader of std gave is given. Each read that gives bytes counts as one, and no other counts.
         ensures inner { ReadConsumes (T.remaining self.old.inner) (T.remaining self.new.inner) result buffer.new }
         ensures one { IfOk result (λ n. 0 < n → self.old.reads_left ≡ self.new.reads_left + 1) }
+        ensures none { IfOk result (λ n. n ≡ 0 → self.new.reads_left ≡ self.old.reads_left) }
+        ensures refused { OnErr result (self.new.reads_left ≡ self.old.reads_left) }
     {
         if self.reads_left > 0
             && let Ok(count) = self.inner.read(buffer)

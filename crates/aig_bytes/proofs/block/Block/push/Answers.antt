@@ -1,4 +1,4 @@
-use Rattle.std.proofs.Common.{arith, ap, length, drop, take, ◌∙◌}
+use Rattle.std.proofs.Common.{arith, ap, length, take, ◌∙◌}
 use Rattle.std.proofs.lemmas.List.{length-drop, length-take-le}
 use Rattle.aig_bytes.proofs.block.Block.push.Goals as goal
 
