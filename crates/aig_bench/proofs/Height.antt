@@ -15,7 +15,8 @@ use Rattle.aig_bench.specs.Touched.{IsOnce}
 use Rattle.aig_bench.proofs.Entries.{no_element}
 use Rattle.aig_bench.proofs.Linked.{contains_at}
 
-once_never : (xs : List ℕ) → IsOnce xs → (x : ℕ) → StandsTwice xs x → ⊥
+-- in a list of which each stands once, none stands twice
+pub once_never : (xs : List ℕ) → IsOnce xs → (x : ℕ) → StandsTwice xs x → ⊥
 once_never [] once x (i, j, lt, a, b) = absurd (cc)
 once_never (y ∷ ys) once x (i, zero, lt, a, b) = absurd (omega arith)
 once_never (y ∷ ys) once x (zero, suc j, lt, a, b) =

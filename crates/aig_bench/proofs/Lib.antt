@@ -7,6 +7,8 @@ pub mod Definitions
 pub mod Earlier
 pub mod Edited
 pub mod Entries
+pub mod EveryGate
+pub mod Fanouts
 pub mod Flags
 pub mod Grown
 pub mod GrownBench

@@ -1,7 +1,9 @@
 pub mod Buckets
+pub mod Cells
 pub mod Current
 pub mod Edit
 pub mod Entry
+pub mod Fanout
 pub mod Latches
 pub mod LevelSet
 pub mod Pair

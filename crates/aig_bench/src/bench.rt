@@ -11,8 +11,10 @@ ghost use Rattle.aig_base.specs.Literal.{variable};
 ghost use Rattle.aig_base.specs.Readers.{AreReaders, list_of};
 ghost use Rattle.aig_base.specs.Renumbered.{IsBinaryReady};
 ghost use Rattle.aig_base.specs.Sections.{IsDefined, IsLeftSide};
+ghost use Rattle.aig_bench.specs.Cells.{HasCurrentCells};
 ghost use Rattle.aig_bench.specs.Edit.{Edits, rewire, set_reset, set_bit, add_frame, drop_frame, append_gate};
 ghost use Rattle.aig_bench.specs.Edit.{set_output};
+ghost use Rattle.aig_bench.specs.Fanout.{HasFourReaders};
 ghost use Rattle.aig_bench.specs.Pair.{Pair, HasTrace};
 ghost use Rattle.aig_bench.specs.Latches.{AreLatchReaders};
 ghost use Rattle.aig_bench.specs.Pending.{HasLists, IsIdle, IsReady};
@@ -128,7 +130,9 @@ fn fill_all<G: Grid>(grid: &mut G, plan: &Plan, net: &Net, pending: &mut Pending
     requires work { IsWork plan.now net.now (G.gate_flags grid.old) (G.cells grid.old) pending.old.buckets }
     requires lists { HasLists plan.now net.now pending.old }
     requires idle { IsIdle pending.old }
-    ensures { IsReady plan.now net.now pending.new (G.gate_flags grid.new) (G.cells grid.new) }
+    ensures ready { IsReady plan.now net.now pending.new (G.gate_flags grid.new) (G.cells grid.new) }
+    ensures count { G.evaluations grid.new
+        ≡ G.evaluations grid.old + length plan.now.circuit.gates * length plan.now.stimulus.rows }
 {
     for frame in 0..plan.stimulus.frames() {
         fill(grid, plan, net, pending, frame);
@@ -139,7 +143,8 @@ fn fill_all<G: Grid>(grid: &mut G, plan: &Plan, net: &Net, pending: &mut Pending
 fn make<G: Grid>(alloc: Global, circuit: Circuit, stimulus: Stimulus) -> Result<Bench<G>, Memory>
     requires width { stimulus.width ≡ length circuit.inputs }
     requires limit { (circuit.max_var + 1) * length stimulus.rows ≤ cell_limit }
-    ensures { IfOk result (λ bench. bench.pair ≡ record { circuit = circuit; rows = stimulus.rows }) }
+    ensures pair { IfOk result (λ bench. bench.pair ≡ record { circuit = circuit; rows = stimulus.rows }) }
+    ensures evaluations { IfOk result (λ bench. bench.evaluations ≡ length circuit.gates * length stimulus.rows) }
 {
     let plan = make_plan(circuit, stimulus);
     let net = make_net(alloc, &plan.circuit)?;
@@ -188,12 +193,14 @@ fn replace_gate(plan: &mut Plan, net: &mut Net, lhs: Lit, r0: Lit, r1: Lit) -> R
 
 impl<G: Grid> Bench<G> {
     /// A bench of a circuit and a stimulus with a value for each input, of at most 67,108,864 cells: `M + 1` a frame
-    /// (profile). It takes memory for the cells.
+    /// (profile). It evaluates each gate once a frame, and takes memory for the cells.
     pub fn new(alloc: Global, circuit: Circuit, stimulus: Stimulus) -> Result<Bench<G>, BenchFault>
         ensures width { IsErrOf result BenchFault.Width ↔ (stimulus.width ≢ length circuit.inputs) }
         ensures limit { IsErrOf result BenchFault.Limit ↔ (stimulus.width ≡ length circuit.inputs)
             × (cell_limit < (circuit.max_var + 1) * length stimulus.rows) }
         ensures made { IfOk result (λ bench. bench.pair ≡ record { circuit = circuit; rows = stimulus.rows }) }
+        ensures evaluations { IfOk result (λ bench.
+            bench.evaluations ≡ length circuit.gates * length stimulus.rows) }
     {
         check_sizes(&circuit, &stimulus)?;
         Ok(make(alloc, circuit, stimulus)?)
@@ -215,8 +222,17 @@ impl<G: Grid> Bench<G> {
         self.plan.stimulus.frames()
     }
 
-    /// The value of a literal at a frame, counted from 0, in constant time. Refused are a literal over `2M + 1`, a
-    /// variable that is neither 0 nor defined, and a frame that is not there, in this order (profile).
+    /// The grid: a row a frame, where the cell of each defined variable is its value, and the count of all evaluations.
+    pub fn grid(&self) -> &G
+        ensures cells { HasCurrentCells self.now.pair (G.cells result.now) }
+        ensures evaluations { G.evaluations result.now ≡ self.now.evaluations }
+    {
+        &self.grid
+    }
+
+    /// The value of a literal at a frame, counted from 0: what the grid has for it, and nothing is evaluated. Refused are
+    /// a literal over `2M + 1`, a variable that is neither 0 nor defined, and a frame that is not there, in this order
+    /// (profile).
     pub fn value(&self, frame: u32, literal: Lit) -> Result<Tern, EditFault>
         ensures { AnswersValue self.now.pair frame literal result }
     {
@@ -262,10 +278,12 @@ impl<G: Grid> Bench<G> {
     }
 
     /// Gives a gate, named by its left side, two other right sides. Refused are what is no left side, right sides out
-    /// of range, undefined ones and a cycle. It takes memory (profile).
+    /// of range, undefined ones and a cycle. It takes memory where a new right side has four readers or more (profile).
     pub fn rewire(&mut self, lhs: Lit, r0: Lit, r1: Lit) -> Result<EditReport, EditFault>
         ensures edits { Edits self.old.pair (rewire lhs r0 r1) result self.new.pair }
         ensures works { Works self.old (rewire lhs r0 r1) result self.new }
+        ensures memory { IfErr result (λ fault. fault ≡ EditFault.Memory →
+            HasFourReaders self.old.pair.circuit (variable r0) ⊎ HasFourReaders self.old.pair.circuit (variable r1)) }
     {
         check_rewire(&self.plan, lhs, r0, r1)?;
         replace_gate(&mut self.plan, &mut self.net, lhs, r0, r1)?;
@@ -348,7 +366,7 @@ impl<G: Grid> Bench<G> {
 
     /// Appends a gate with these right sides, whose variable is the new greatest, M + 1. Refused are right sides out of
     /// range, undefined ones, and then a variable over 4,194,303 or more than 67,108,864 cells. It takes memory, for a
-    /// cell at each frame and its place in the lists: amortised constant time and memory a frame (profile).
+    /// cell at each frame and its place in the lists (profile).
     pub fn append_gate(&mut self, r0: Lit, r1: Lit) -> Result<EditReport, EditFault>
         ensures edits { Edits self.old.pair (append_gate r0 r1) result self.new.pair }
         ensures works { Works self.old (append_gate r0 r1) result self.new }

@@ -44,7 +44,7 @@ impl LatchList {
         self.first == 0
     }
 
-    /// Adds a latch, in constant time, unless it is in the list already.
+    /// Adds a latch, unless it is in the list already.
     pub fn add(&mut self, latch: u32)
         requires positive { 0 < latch }
         requires inside { latch < length self.old.marks.items }
@@ -60,7 +60,7 @@ impl LatchList {
         self.marks[latch as usize] = true;
     }
 
-    /// Takes a latch out of the list, in constant time, if there is one.
+    /// Takes a latch out of the list, if there is one.
     pub fn take(&mut self) -> Option<u32>
         requires list { (n : ℕ) × IsLatchList n self.old }
         ensures list { (n : ℕ) → IsLatchList n self.old → IsLatchList n self.new }
@@ -99,7 +99,7 @@ pub struct LatchReaders {
 }
 
 impl LatchReaders {
-    /// The latches that read each variable of a circuit, in linear time.
+    /// The latches that read each variable of a circuit.
     pub fn of(alloc: Global, circuit: &Circuit) -> Result<LatchReaders, Memory>
         ensures { IfOk result (AreLatchReaders circuit.now) }
     {

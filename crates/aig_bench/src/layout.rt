@@ -24,7 +24,8 @@ fn add_rows<G: Grid>(grid: &mut G, plan: &Plan) -> Result<(), Memory>
     requires plan { IsPlan plan.now }
     requires flags { AreGateFlags plan.now.circuit (G.gate_flags grid.old) }
     requires empty { G.cells grid.old ≡ [] }
-    ensures { OnOk result (IsLaidOut plan.now (G.gate_flags grid.new) (G.cells grid.new)) }
+    ensures laid_out { OnOk result (IsLaidOut plan.now (G.gate_flags grid.new) (G.cells grid.new)) }
+    ensures count { G.evaluations grid.new ≡ G.evaluations grid.old }
 {
     for _ in 0..plan.stimulus.frames() {
         grid.add_row()?;
@@ -35,7 +36,8 @@ fn add_rows<G: Grid>(grid: &mut G, plan: &Plan) -> Result<(), Memory>
 /// A grid with a row a frame.
 pub fn lay_out<G: Grid>(alloc: Global, plan: &Plan) -> Result<G, Memory>
     requires { IsPlan plan.now }
-    ensures { IfOk result (λ grid. IsLaidOut plan.now (G.gate_flags grid) (G.cells grid)) }
+    ensures laid_out { IfOk result (λ grid. IsLaidOut plan.now (G.gate_flags grid) (G.cells grid)) }
+    ensures count { IfOk result (λ grid. G.evaluations grid ≡ 0) }
 {
     let flags = gate_flags(alloc, &plan.circuit)?;
     let mut grid = G::new(alloc, flags.as_slice())?;

@@ -158,7 +158,7 @@ impl LevelSet {
         self.levels.make_room(level)
     }
 
-    /// Adds a level, in constant time.
+    /// Adds a level.
     pub fn insert(&mut self, level: usize)
         requires { level < 64 * length self.old }
         ensures room { length self.new ≡ length self.old }
@@ -168,7 +168,7 @@ impl LevelSet {
         self.filled.insert(level / BITS);
     }
 
-    /// Takes a level out, in constant time.
+    /// Takes a level out.
     pub fn remove(&mut self, level: usize)
         requires { level < 64 * length self.old }
         ensures room { length self.new ≡ length self.old }

@@ -79,19 +79,23 @@ module _ (raw : Raw) (circuit : IsCircuit raw) (w : Witness) (latches : length w
           | inr wrong' ↦ absurd (right i (record { latch = x; value = a; latch_is = at; value_is = here; wrong = wrong' }))
         ])
 
-  pub confirmed : w.rows ≢ [] → IsVerdict raw w verdict.Confirmed → IsConfirmed raw w
-  confirmed some h start rows completion =
+  pub confirmed : w.rows ≢ [] → w.property < length raw.bad → IsVerdict raw w verdict.Confirmed → IsConfirmed raw w
+  confirmed some there h start rows completion =
       let frames : length rows ≡ length w.rows = zip_length (AllZip Completes) w.rows rows completion.1 in
       let last : length w.rows - 1 < length w.rows = (elim (length_cases (length w.rows)) [
         | inl e ↦ absurd (some (no_rows w.rows e))
         | inr lt ↦ lt
       ]) in
+      let l = get_or raw.bad w.property 0 in
+      let at : slice_get raw.bad w.property ≡ Some l = slice_get-get_or raw.bad w.property 0 there in
       record {
         starts = starts_allowed start rows completion (λ p k. h.first (verdict.Initial p) tt k);
         constrained = λ t p l lt at. one_stays start rows completion t l
             (is_one t p raw.constraints l (omega (arith, lt, frames)) at (constraint_defined raw circuit.sound p l at)
             (λ k. h.first (verdict.Constraint t p) tt (omega (arith, lt, frames), k)));
-        bad = λ l at. subst (λ (n : ℕ). Value raw start rows n l One) (ap (λ (k : ℕ). k - 1) (sym frames))
+        literal = l;
+        literal_is = at;
+        bad = subst (λ (n : ℕ). Value raw start rows n l One) (ap (λ (k : ℕ). k - 1) (sym frames))
             (one_stays start rows completion (length w.rows - 1) l
             (is_one (length w.rows - 1) w.property raw.bad l last at (bad_defined raw circuit.sound w.property l at)
             (λ k. h.first verdict.NotBad tt k)));

@@ -61,11 +61,14 @@ pub record IsVerdict (raw : Raw) (w : Witness) (v : Verdict) : Type 0 where
   pub applies : Applies raw w v
   pub first : (u : Verdict) → IsBefore u v → Applies raw w u → ⊥
 
--- a run from an allowed start under which all constraints hold at every frame, and the property at the last
+-- a run from an allowed start under which all constraints hold at every frame, and at the last the property, which the
+-- circuit has
 pub record ReachesBad (raw : Raw) (property : ℕ) (start : List Tern) (rows : List (List Tern)) : Type 0 where
   pub starts : AllZip (λ x w. Allows x.reset w) raw.latches start
   pub constrained : (t p l : ℕ) → t < length rows → slice_get raw.constraints p ≡ Some l → Value raw start rows t l One
-  pub bad : (l : ℕ) → slice_get raw.bad property ≡ Some l → Value raw start rows (length rows - 1) l One
+  pub literal : ℕ
+  pub literal_is : slice_get raw.bad property ≡ Some literal
+  pub bad : Value raw start rows (length rows - 1) literal One
 
 -- whatever the x of the witness turn out to be, its run reaches the property
 abbrev pub IsConfirmed : Raw → Witness → Type 0

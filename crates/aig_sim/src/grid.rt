@@ -10,6 +10,7 @@ ghost use Rattle.aig_sim.specs.Cells.{gate_value, fresh_row, with_new_cell};
 ghost use Rattle.aig_sim.specs.InputRows.{with_cell, row_at};
 ghost use Rattle.aig_sim.specs.TraceText.{literal_character};
 
+use crate::code::Code;
 use aig_base::{Gate, Lit, Memory, Tern};
 use std::alloc::Global;
 
@@ -50,7 +51,10 @@ pub trait Grid: Sized + Drop {
     fn character(&self, frame: u32, literal: Lit) -> u8
         requires frame { frame < length (cells self.now) }
         requires variable { variable literal < length (gate_flags self.now) }
-        ensures { result ≡ literal_character (row_at (cells self.now) frame) literal };
+        ensures { result ≡ literal_character (row_at (cells self.now) frame) literal }
+    {
+        Code::of(self.get(frame, literal.var())).character(literal.is_neg())
+    }
 
     /// Replaces the value of an input or a latch at a frame.
     fn put_source(&mut self, frame: u32, variable: u32, value: Tern)

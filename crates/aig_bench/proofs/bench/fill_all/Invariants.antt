@@ -1,3 +1,4 @@
+use Rattle.std.proofs.Common.{◌≡◌, ◌+◌, ◌*◌, length}
 use Rattle.aig_bench.specs.Current.{AreCurrent}
 use Rattle.aig_bench.specs.Pending.{HasLists, IsIdle}
 use Rattle.aig_bench.specs.Plan.{pair_of}
@@ -10,4 +11,5 @@ invariant-loop-frame g l = record {
   lists : HasLists l.plan l.net l.pending;
   idle : IsIdle l.pending;
   current : AreCurrent (pair_of l.plan) l.frame (g.G.Grid.cells l.grid);
+  count : g.G.Grid.evaluations l.grid ≡ g.G.Grid.evaluations l.fn.grid + length l.plan.circuit.gates * l.frame;
 }

@@ -1,3 +1,4 @@
+use Rattle.std.proofs.Common.{◌≡◌}
 use Rattle.aig_bench.specs.Current.{AreGateFlags, AreRows}
 use Rattle.aig_bench.proofs.layout.add_rows.Given as goal
 
@@ -5,4 +6,5 @@ abbrev pub invariant-loop : goal.invariant-loop
 invariant-loop g l = record {
   flags : AreGateFlags l.plan.circuit (g.G.Grid.gate_flags l.grid);
   rows : AreRows l.plan.circuit l.counter (g.G.Grid.cells l.grid);
+  count : g.G.Grid.evaluations l.grid ≡ g.G.Grid.evaluations l.fn.grid;
 }

@@ -15,5 +15,5 @@ returns-clause-confirmed c = λ e v h.
       omega (arith, c.if-shape.false, shape.frames_are),
     ) in
     subst (IsConfirmed raw) (one_witness raw c.args.text.now w v spells h)
-    (confirmed raw circuit w spells.start_is spells.widths spells.some
+    (confirmed raw circuit w spells.start_is spells.widths spells.some admitted.0
     (subst (IsVerdict raw w) e (c.in_ok-verdict.ensures w shape admitted)))

@@ -1,12 +1,15 @@
 use Rattle.std.proofs.Common.{◌≡◌, Some, slice_get, length, refl, ap, sym, subst, [], ◌∷◌}
 use Rattle.aig_base.specs.declared.raw.Raw.{Raw}
 use Rattle.aig_base.specs.Changes.{with_gate}
+use Rattle.aig_base.specs.Literal.{variable}
+use Rattle.aig_base.proofs.Gates.{defined_in_range}
 use Rattle.aig_sim.specs.InputRows.{InputRows}
 use Rattle.aig_bench.specs.declared.plan.Plan.{Plan}
 use Rattle.aig_bench.specs.Edit.{Edits, rewire}
 use Rattle.aig_bench.specs.Pair.{Pair}
 use Rattle.aig_bench.specs.Plan.{pair_of}
 use Rattle.aig_bench.proofs.Edited.{all_latches, all_next, lists_for, work_for, work_kept, plan_same, pair_rewired, all_consistent, all_touched, all_changed, follows_rewire, forces_gate, gate_forced}
+use Rattle.aig_bench.proofs.Fanouts.{handed_fault, no_memory, either_four}
 use Rattle.aig_bench.proofs.Refusals.{lacking, rewire_refused, rewire_allowed}
 use Rattle.aig_bench.proofs.Rewired.{plan_rewired, laid_out_rewired}
 use Rattle.aig_bench.proofs.bench.Bench.rewire.Goals as goal
@@ -33,6 +36,25 @@ returns-in_err-replace_gate-clause-edits g c =
     c.in_err-replace_gate.field-0.0 c.from_residual-in_err-replace_gate.ensures.1
     (rewire_refused p c.args.lhs c.args.r0 c.args.r1 c.in_ok-check_rewire.ensures.gate c.in_ok-check_rewire.ensures.range
     c.in_ok-check_rewire.ensures.defined c.in_err-replace_gate.field-0.0 h.others h.cycle)))
+
+pub returns-in_err-check_rewire-clause-memory : goal.returns-in_err-check_rewire-clause-memory
+returns-in_err-check_rewire-clause-memory g c =
+    handed_fault _ c.from_residual.result c.in_err-check_rewire.field-0.0 c.from_residual.ensures.1
+    (λ e. absurd (no_memory (pair_of c.self.inside.plan) c.args.lhs c.args.r0 c.args.r1 c.in_err-check_rewire.field-0.0
+    c.in_err-check_rewire.ensures.fault e))
+
+pub returns-in_err-replace_gate-clause-memory : goal.returns-in_err-replace_gate-clause-memory
+returns-in_err-replace_gate-clause-memory g c =
+    let raw = c.self.inside.plan.circuit in
+    let w = c.self.invariant.working.work in
+    let d = c.in_ok-check_rewire.ensures.defined in
+    rw (← c.self.view_is)
+    (handed_fault _ c.from_residual-in_err-replace_gate.result c.in_err-replace_gate.field-0.0
+    c.from_residual-in_err-replace_gate.ensures.1
+    (λ e. either_four raw c.self.inside.net.readers (variable c.args.r0) (variable c.args.r1) w.readers
+    (defined_in_range raw w.plan_is.circuit.sound (variable c.args.r0) d.0)
+    (defined_in_range raw w.plan_is.circuit.sound (variable c.args.r1) d.1)
+    (c.in_err-replace_gate.ensures.memory e)))
 
 pub renew_from-requires-clause-work : goal.renew_from-requires-clause-work
 renew_from-requires-clause-work g c =

@@ -1,0 +1,12 @@
+use Rattle.aig_bench.specs.Plan.{pair_of}
+use Rattle.aig_bench.proofs.bench.Bench.grid.Goals as goal
+
+pub returns-clause-cells : goal.returns-clause-cells
+returns-clause-cells g c =
+    let b = c.self.invariant.working.bench in
+    rw (← c.self.view_is) (record {
+      rows = b.laid_out.rows_are.frames_are;
+      values = λ t v lt defined. (
+          let h = b.current.each t lt v defined in
+          (h.cell, h.cell_is, h.value_is));
+    })
