@@ -48,6 +48,8 @@ impl<'a> Source for Slice<'a> {
 
     ghost behind = { λ _. [] };
 
+    ghost ended = { λ s. s.rest.now ≡ [] };
+
     #[inline]
     fn at(&self) -> u64 {
         (self.size - self.rest.len()) as u64

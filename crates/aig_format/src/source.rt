@@ -1,5 +1,5 @@
 //! Where bytes come from.
-ghost use Rattle.std.specs.Prelude.{◌≡◌, ℕ, ◌+◌, ◌<◌, ◌≤◌, List, ◌++◌, length, drop, IfOk, IfSome};
+ghost use Rattle.std.specs.Prelude.{◌≡◌, ℕ, ◌+◌, ◌<◌, ◌≤◌, List, ◌++◌, length, drop, IfOk, IfSome, IfNone};
 ghost use Rattle.aig_format.specs.Reading.{peek_at, next_at};
 ghost use Rattle.aig_format.specs.Meaning.{TokenGives, TokenRaises};
 
@@ -28,6 +28,9 @@ pub(crate) trait Source {
     /// The bytes behind these, where the value tells them.
     ghost behind: { Self → List ℕ };
 
+    /// The end was met and is remembered: nothing is read on.
+    ghost ended: { Self → Type 0 };
+
     /// How many bytes were taken.
     fn at(&self) -> u64;
 
@@ -43,10 +46,13 @@ pub(crate) trait Source {
         ensures told { tells self.old → tells self.new }
         ensures reader { reader self.new ≡ reader self.old }
         ensures failures { failures self.new ≡ failures self.old }
-        ensures more { more self.new + count ≤ more self.old };
+        ensures more { more self.new + count ≤ more self.old }
+        ensures ended { ended self.old → ended self.new };
 
     /// The next byte, which stays.
     fn peek(&mut self) -> Result<Option<u8>, TokenFault>
+        ensures ended { ended self.old → self.new ≡ self.old }
+        ensures remembered { IfOk result (λ front. IfNone front (ended self.new)) }
         ensures bytes { tells self.old → TokenGives (λ x. x) result (left self.new) (peek_at (left self.old)) }
         ensures told { tells self.old → tells self.new }
         ensures reader { reader self.new ≡ reader self.old }
@@ -56,6 +62,8 @@ pub(crate) trait Source {
 
     /// The next byte, which is taken.
     fn next(&mut self) -> Result<Option<u8>, TokenFault>
+        ensures ended { ended self.old → self.new ≡ self.old }
+        ensures remembered { IfOk result (λ taken. IfNone taken (ended self.new)) }
         ensures bytes { tells self.old → TokenGives (λ x. x) result (left self.new) (next_at (left self.old)) }
         ensures told { tells self.old → tells self.new }
         ensures reader { reader self.new ≡ reader self.old }

@@ -25,7 +25,7 @@ pub(crate) struct Stream<'r, R: Read> {
     ended: bool,
     ghost ordered: { start ≤ end },
     ghost within: { end ≤ 4096 },
-    ghost last: { IsTrue ended → known (R.left reader.now) ≡ [] },
+    ghost last: { IsTrue ended → (start ≡ end) × (known (R.left reader.now) ≡ []) },
 }
 
 impl<'r, R: Read> Stream<'r, R> {
@@ -45,7 +45,8 @@ impl<'r, R: Read> Stream<'r, R> {
         }
     }
 
-    /// Reads on where nothing is held and no read gave the end, and answers whether a byte is held.
+    /// Reads on where nothing is held and no read gave the end, and answers whether a byte is held. That a read gave the
+    /// end is remembered.
     #[inline]
     fn is_ready(&mut self) -> Result<bool, TokenFault>
         ensures same_reference { self.new.reader.ghost_name ≡ self.old.reader.ghost_name }
@@ -55,14 +56,15 @@ impl<'r, R: Read> Stream<'r, R> {
         ensures some { IfOk result (λ ready. IsTrue ready → self.new.start < self.new.end) }
         ensures none { IfOk result (λ ready. ready ≡ false →
             (self.new.start ≡ self.new.end) × (known (R.left self.new.reader.now) ≡ [])) }
+        ensures remembered { IfOk result (λ ready. ready ≡ false → IsTrue self.new.ended) }
         ensures io { IfErr result (λ fault. fault ≡ TokenFault.Io) }
         ensures told { IsKnown (R.left self.old.reader.now) → IsKnown (R.left self.new.reader.now) }
         ensures failures { TokenRaises result (R.failures self.old.reader.now) (R.failures self.new.reader.now) }
         ensures never_more { 4096 * R.reads_left self.new.reader.now + (self.new.end - self.new.start)
             ≤ 4096 * R.reads_left self.old.reader.now + (self.old.end - self.old.start) }
-        // No read is made where a byte is held, or where a read gave the end.
-        ensures held { self.old.start < self.old.end → self.new.reader.now ≡ self.old.reader.now }
-        ensures ended { IsTrue self.old.ended → self.new.reader.now ≡ self.old.reader.now }
+        // No read is made where a byte is held, or where a read gave the end: nothing changes.
+        ensures held { self.old.start < self.old.end → self.new ≡ self.old }
+        ensures ended { IsTrue self.old.ended → self.new ≡ self.old }
     {
         if self.start < self.end {
             return Ok(true);
@@ -84,6 +86,7 @@ impl<'r, R: Read> Stream<'r, R> {
         ensures some { IfOk result (λ ready. IsTrue ready → self.new.start < self.new.end) }
         ensures none { IfOk result (λ ready. ready ≡ false →
             (self.new.start ≡ self.new.end) × (known (R.left self.new.reader.now) ≡ [])) }
+        ensures remembered { IfOk result (λ ready. ready ≡ false → IsTrue self.new.ended) }
         ensures io { IfErr result (λ fault. fault ≡ TokenFault.Io) }
         ensures told { IsKnown (R.left self.old.reader.now) → IsKnown (R.left self.new.reader.now) }
         ensures failures { TokenRaises result (R.failures self.old.reader.now) (R.failures self.new.reader.now) }
@@ -117,6 +120,8 @@ impl<'r, R: Read> Source for Stream<'r, R> {
     ghost hand = { λ s. held s.start s.end s.buffer };
 
     ghost behind = { λ s. known (R.left s.reader.now) };
+
+    ghost ended = { λ s. IsTrue s.ended };
 
     #[inline]
     fn at(&self) -> u64 {
