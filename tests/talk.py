@@ -96,8 +96,11 @@ def closed(name, text, part, *words):
     """Nobody reads what the program writes: a failing write, of which the program tells."""
     talk = Talk(name + ": a closed pipe", *words)
     talk.run.stdout.close()
-    talk.run.stdin.write(text)
-    talk.run.stdin.close()
+    try:
+        talk.run.stdin.write(text)
+        talk.run.stdin.close()
+    except BrokenPipeError:
+        talk.fail("it ends before its input does")
     try:
         talk.run.wait(timeout=SECONDS)
     except subprocess.TimeoutExpired:

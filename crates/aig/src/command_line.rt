@@ -6,8 +6,7 @@ use std::alloc::{AllocError, Global};
 
 /// The program's version, and the toolchain that it is written for, as `rt version` names it. A program cannot tell how
 /// it was built: `rt ci` proves what it builds, and `bench/build_unproved.sh` says so here where nothing was proved.
-static VERSION: &str =
-    "0.1.0 (rattle-kit-13b logic dac8208d650f15bf, proved where rt ci built it)";
+static VERSION: &str = "0.1.0 (rattle-kit-13b logic dac8208d650f15bf, proved where rt ci built it)";
 
 static FORMATS: [&str; 2] = ["aag", "aig"];
 
@@ -23,7 +22,8 @@ static AFTER_SIM: &str =
 Example: aig sim examples/counter.aag examples/counter.stim
 The formats are described in docs/FORMATS.md.";
 
-static AFTER_BENCH: &str = "Lines of a script; frames, inputs and outputs count from 0, values are 0, 1 or x:
+static AFTER_BENCH: &str =
+    "Lines of a script; frames, inputs and outputs count from 0, values are 0, 1 or x:
   w G R0 R1  gives the gate of literal G the right sides R0 and R1
   r L V      lets the latch of literal L start at V, where x is uninitialised
   s T P V    sets input P of frame T to V
