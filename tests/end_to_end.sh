@@ -35,6 +35,17 @@ same() {
     compare "$name" 0 $?
 }
 
+# told NAME FILE WORD..: words that ask for a text, which is the file's and goes to standard error alone. The program is
+# called by its own name here, which the texts tell.
+told() {
+    local name=$1
+    : > wanted.out
+    cp "$2" wanted.err
+    shift 2
+    (exec -a aig "$aig" "$@") > got.out 2> got.err
+    compare "$name" 2 $?
+}
+
 # words NAME WORD..: words that are refused, with a text of the command-line parser on standard error alone.
 words() {
     local name=$1
@@ -206,19 +217,41 @@ file rows '11\n'
 row 'bench: all files are opened before one is read' 3 '' 'aig: stimulus: input or output\n' bench . nowhere script
 row 'bench: a stimulus that cannot be read wins over a refused circuit' 3 '' 'aig: stimulus: input or output\n' bench cycle . script
 row 'bench: a directory as the script' 3 '' 'aig: script: input or output\n' bench two_gates rows .
+# Files are opened in the order of the words, and read in that order when all are open.
+for files in 'nowhere rows script' 'nowhere nowhere script' 'nowhere rows nowhere' 'nowhere nowhere nowhere' \
+    'nowhere . script' 'nowhere rows .' '. rows script' '. . script' '. rows .' '. . .' 'nowhere . nowhere'; do
+    row "bench: the circuit's file is told of $files" 3 '' 'aig: circuit: input or output\n' bench $files
+done
+for files in 'two_gates nowhere script' 'two_gates nowhere nowhere' 'two_gates nowhere .' '. nowhere script' '. nowhere nowhere' \
+    '. nowhere .' 'cycle nowhere nowhere' 'two_gates . script' 'two_gates . .' 'cycle . .'; do
+    row "bench: the stimulus's file is told of $files" 3 '' 'aig: stimulus: input or output\n' bench $files
+done
+for files in 'two_gates rows nowhere' '. rows nowhere' 'two_gates . nowhere' '. . nowhere' 'cycle . nowhere'; do
+    row "bench: the script's file is told of $files" 3 '' 'aig: script: input or output\n' bench $files
+done
 
 # ---- words
 words 'words: none'
-words 'words: help' --help
-words 'words: help of a subcommand' bench --help
-words 'words: help as a subcommand' help sim
-words 'words: the version' --version
-words 'words: the version, short' -V
+for word in --help -h help; do
+    told "words: $word" "$expected/help/aig.txt" $word
+done
+for command in toaig sim bench unroll check; do
+    told "words: help of $command" "$expected/help/$command.txt" $command --help
+    told "words: help of $command, short" "$expected/help/$command.txt" $command -h
+    told "words: help of $command, as a subcommand" "$expected/help/$command.txt" help $command
+done
+told 'words: help of help' "$expected/help/help.txt" help help
+# The version names the toolchain that is here. The program that the gate built says that it is proved; one of which nothing
+# was proved (bench/build_unproved.sh) says so, and is taken where it is named alone.
+proved='proved where rt ci built it'
+if [ $# -gt 0 ] && "$aig" --version 2>&1 | grep -q 'not proved'; then proved='built by rt try, not proved'; fi
+echo "aig 0.1.0 ($(rt version), $proved)" > version
+told 'words: the version' version --version
+told 'words: the version, short' version -V
 words 'words: the version of a subcommand' sim --version
 words 'words: an unknown subcommand' fold
 words 'words: a missing file name' bench two_gates
 words 'words: one file name too many' bench a b c d
-words 'words: help of check' check --help
 words 'words: check without a witness' check two_gates
 words 'words: a word that is not UTF-8' toaig --to aag "$(printf '\xff')"
 
@@ -269,6 +302,11 @@ file rows '11\n'
 row 'sim: no circuit file' 3 '' 'aig: circuit: input or output\n' sim nowhere rows
 row 'sim: a refused circuit' 1 '' 'aig: circuit: cycle 2\n' sim cycle rows
 row 'sim: a stimulus that is not there wins over a refused circuit' 3 '' 'aig: stimulus: input or output\n' sim cycle nowhere
+for files in 'nowhere nowhere' 'nowhere .' '. rows' '. .'; do
+    row "sim: the circuit's file is told of $files" 3 '' 'aig: circuit: input or output\n' sim $files
+done
+row 'sim: both files are opened before one is read' 3 '' 'aig: stimulus: input or output\n' sim . nowhere
+row 'sim: a refused circuit wins over a stimulus that cannot be read' 1 '' 'aig: circuit: cycle 2\n' sim cycle .
 
 # ---- check
 # shows CIRCUIT WITNESS VERDICT: what a witness shows, or `fault TEXT`; in both files / stands for LF.
@@ -346,6 +384,11 @@ row 'check: no circuit file' 3 '' 'aig: circuit: input or output\n' check nowher
 row 'check: no witness file' 3 '' 'aig: witness: input or output\n' check circuit nowhere
 row 'check: a directory as the witness' 3 '' 'aig: witness: input or output\n' check circuit .
 row 'check: a witness that is not there wins over a refused circuit' 3 '' 'aig: witness: input or output\n' check cycle nowhere
+for files in 'nowhere nowhere' 'nowhere .' '. witness' '. .'; do
+    row "check: the circuit's file is told of $files" 3 '' 'aig: circuit: input or output\n' check $files
+done
+row 'check: both files are opened before one is read' 3 '' 'aig: witness: input or output\n' check . nowhere
+row 'check: a witness that cannot be read wins over a refused circuit' 3 '' 'aig: witness: input or output\n' check cycle .
 "$aig" check circuit witness > /dev/full 2> got.err
 status=$?
 : > got.out; : > wanted.out; printf 'aig: output: input or output\n' > wanted.err

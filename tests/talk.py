@@ -14,6 +14,12 @@ AIG = os.path.abspath(sys.argv[1] if len(sys.argv) > 1 else TESTS + "/../crates/
 SECONDS = 20
 TWO_GATES = b"aag 4 2 0 1 2\n2\n4\n8\n8 6 2\n6 2 4\n"
 TOGGLE = b"aag 1 0 1 2 0\n2 3\n2\n3\n"
+passed = 0
+failed = 0
+
+
+class Failure(Exception):
+    """A talk that did not go as it should."""
 
 
 class Talk:
@@ -27,12 +33,15 @@ class Talk:
 
     def fail(self, text):
         self.run.kill()
-        sys.exit(f"FAILED: {self.name}: {text}")
+        raise Failure(f"{self.name}: {text}")
 
     def say(self, line, wanted):
         """Writes bytes, and waits for this answer. Without an answer, the program is to be silent for a moment."""
-        self.run.stdin.write(line)
-        self.run.stdin.flush()
+        try:
+            self.run.stdin.write(line)
+            self.run.stdin.flush()
+        except BrokenPipeError:
+            self.fail("it ends before its input does")
         got = b""
         while len(got) < len(wanted) or not wanted:
             if not select.select([self.run.stdout], [], [], SECONDS if wanted else 0.3)[0]:
@@ -74,6 +83,9 @@ def stimulus(toggle):
     talk.say(b"\n", b"1  10 0\n")
     talk.say(b"\n" * 5000, b"0  01 1\n1  10 0\n" * 2500)
     talk.end()
+
+
+def faulty_line(toggle):
     talk = Talk("sim: a faulty line", "sim", toggle)
     talk.say(b"\n", b"0  01 1\n")
     talk.say(b"1\n", b"")
@@ -84,10 +96,28 @@ def closed(name, text, part, *words):
     """Nobody reads what the program writes: a failing write, of which the program tells."""
     talk = Talk(name + ": a closed pipe", *words)
     talk.run.stdout.close()
-    talk.run.stdin.write(text)
-    talk.run.stdin.close()
-    if talk.run.wait(timeout=SECONDS) != 3 or talk.run.stderr.read() != b"aig: %s: input or output\n" % part:
+    try:
+        talk.run.stdin.write(text)
+        talk.run.stdin.close()
+    except BrokenPipeError:
+        talk.fail("it ends before its input does")
+    try:
+        talk.run.wait(timeout=SECONDS)
+    except subprocess.TimeoutExpired:
+        talk.fail("it does not end")
+    if talk.run.returncode != 3 or talk.run.stderr.read() != b"aig: %s: input or output\n" % part:
         talk.fail(f"status {talk.run.returncode}")
+
+
+def held(talk, *words):
+    """Holds a talk, and counts how it went."""
+    global passed, failed
+    try:
+        talk(*words)
+        passed += 1
+    except Failure as failure:
+        failed += 1
+        print(f"FAILED: {failure}")
 
 
 with tempfile.TemporaryDirectory() as room:
@@ -97,10 +127,12 @@ with tempfile.TemporaryDirectory() as room:
         with open(names[-1], "wb") as file:
             file.write(text)
     two_gates, toggle, rows = names
-    script(two_gates, rows)
-    stimulus(toggle)
-    closed("bench", b"v 0 8\n", b"script", "bench", two_gates, rows)
-    closed("sim", b"\n", b"stimulus", "sim", toggle)
-    closed("toaig", TWO_GATES, b"output", "toaig", "--to", "aag")
-    closed("unroll", TWO_GATES, b"output", "unroll", "--frames", "2", "--to", "aag")
-print("8 talks passed")
+    held(script, two_gates, rows)
+    held(stimulus, toggle)
+    held(faulty_line, toggle)
+    held(closed, "bench", b"v 0 8\n", b"script", "bench", two_gates, rows)
+    held(closed, "sim", b"\n", b"stimulus", "sim", toggle)
+    held(closed, "toaig", TWO_GATES, b"output", "toaig", "--to", "aag")
+    held(closed, "unroll", TWO_GATES, b"output", "unroll", "--frames", "2", "--to", "aag")
+print(f"{passed} passed, {failed} failed")
+sys.exit(1 if failed or not passed else 0)

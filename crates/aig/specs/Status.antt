@@ -4,7 +4,7 @@ use Rattle.aig_engines.specs.Status.{status_of}
 use Rattle.aig.specs.declared.stop.Stop.{Stop}
 use Rattle.aig.specs.declared.stop.Stop.TheVariants as stops
 
--- 2 where the words are wrong; 3 for a witness's file that is not read; 1 for a verdict other than confirmed; else the run's
+-- 2 where the words are wrong or ask for a text; 3 for a witness's file that is not read; 1 for a verdict other than confirmed; else the run's
 abbrev pub status_of_stop : Stop → ℕ
 status_of_stop stops.Told = 2
 status_of_stop stops.NoTask = 2

@@ -4,10 +4,14 @@ use clap::builder::ValueParser;
 use clap::{Arg, ArgMatches, Command};
 use std::alloc::{AllocError, Global};
 
+/// The program's version, and the toolchain that it is written for, as `rt version` names it. A program cannot tell how
+/// it was built: `rt ci` proves what it builds, and `bench/build_unproved.sh` says so here where nothing was proved.
+static VERSION: &str = "0.1.0 (rattle-kit-13b logic dac8208d650f15bf, proved where rt ci built it)";
+
 static FORMATS: [&str; 2] = ["aag", "aig"];
 
 static AFTER_TOAIG: &str =
-    "A circuit whose variables are not in order is renumbered for aig; names and comment stay.
+    "A circuit that the format aig does not hold as it stands is renumbered for it; names and comment stay.
 
 Example: aig toaig --to aig examples/two_gates.aag > two_gates.aig
 The formats are described in docs/FORMATS.md.";
@@ -18,19 +22,22 @@ static AFTER_SIM: &str =
 Example: aig sim examples/counter.aag examples/counter.stim
 The formats are described in docs/FORMATS.md.";
 
-static AFTER_BENCH: &str = "Lines of a script; frames and inputs count from 0, values are 0, 1 or x:
+static AFTER_BENCH: &str =
+    "Lines of a script; frames, inputs and outputs count from 0, values are 0, 1 or x:
   w G R0 R1  gives the gate of literal G the right sides R0 and R1
   r L V      lets the latch of literal L start at V, where x is uninitialised
   s T P V    sets input P of frame T to V
   + BITS     appends a frame with a value for each input
   -          takes the last frame off
+  g R0 R1    appends a gate with the right sides R0 and R1; its variable is the new greatest
+  o P L      makes output P the literal L
   v T L      asks for literal L at frame T; the reply is 0, 1 or x
   t          asks for the trace of all frames; the reply ends with a line .
   u          asks for the circuit unrolled for all frames, as text; the reply ends with a line .
 The reply to an edit that is done is ok. A literal is twice its variable, and one more where it is negated. A line
 that cannot be done is answered no and a number: 1 no gate, 2 no latch, 3 a literal out of range, 4 an undefined
-variable, 5 a cycle, 6 no such frame, 7 no such input, 8 not a value for each input, 9 no frame, 10 too many frames or
-cells, 11 no memory, 12 justice or fairness. A line that is none of these is answered bad.
+variable, 5 a cycle, 6 no such frame, 7 no such input, 8 not a value for each input, 9 no frame, 10 over a limit,
+11 no memory, 12 justice or fairness, 13 no such output. A line that is none of these is answered bad.
 
 Example: aig bench examples/two_gates.aag examples/two_gates.stim examples/two_gates.script
 Scripts and numbers are described in docs/BEHAVIOUR.md.";
@@ -38,7 +45,8 @@ Scripts and numbers are described in docs/BEHAVIOUR.md.";
 static AFTER_UNROLL: &str =
     "The unrolled circuit has no latches: its inputs are those of each frame in turn, and then the latches that start
 at any value; outputs, bad state properties and constraints are those of each frame in turn. Where there are both bad
-state properties and constraints, each bad state property holds only where all constraints held so far.
+state properties and constraints, each bad state property holds only where all constraints held so far, and no
+constraints are left.
 
 Example: aig unroll --frames 3 --to aag examples/counter.aag
 The formats are described in docs/FORMATS.md.";
@@ -122,7 +130,7 @@ fn witness_argument<'a>(alloc: Global) -> Arg<'a> {
     argument(
         alloc,
         "WITNESS",
-        "The file of the witness, as a model checker writes it",
+        "The file of the witness: a run that is to reach a bad state",
     )
 }
 
@@ -172,7 +180,7 @@ fn check_command<'a>(alloc: Global) -> Result<Command<'a>, AllocError> {
 
 fn program<'a>(alloc: Global) -> Command<'a> {
     Command::new(alloc, "aig")
-        .version("0.1.0")
+        .version(VERSION)
         .about(
             "Converts, simulates and unrolls circuits in the AIGER formats (and-inverter graphs), checks witnesses and answers scripts",
         )

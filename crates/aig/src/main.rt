@@ -1,4 +1,4 @@
-//! The program `aig`: converts, simulates and unrolls and-inverter graphs, and answers questions on them.
+//! The program `aig`: converts, simulates and unrolls and-inverter graphs, checks witnesses and answers scripts.
 #![tactic(auto)]
 
 mod command_line;

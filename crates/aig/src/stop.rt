@@ -8,7 +8,7 @@ use std::io;
 /// Why the program ends before it is done.
 #[derive(Clone, Copy)]
 pub enum Stop {
-    /// The words are wrong or ask for help, and the user was told.
+    /// The words are wrong, or ask for help or the version, and the user was told.
     Told,
     /// The words choose no task.
     NoTask,

@@ -1,8 +1,9 @@
-//! Conversion of a circuit file from a reader to a writer.
+//! Conversion of a circuit file, from its bytes or from a reader, to a writer.
 ghost use Rattle.std.specs.Prelude.{◌≡◌};
 ghost use Rattle.aig_format.specs.declared.header.Format.TheVariants.{Binary};
 ghost use Rattle.aig_engines.specs.Converted.{ConversionEnds, EndsFrom, IsWritten, output_of};
 
+use crate::engine::read_circuit;
 use crate::run_fault::RunFault;
 use aig_base::{Circuit, Fault, Read, Write, is_binary_ready, renumber};
 use aig_format::{Format, read_from, write_ascii, write_binary};
@@ -47,9 +48,24 @@ fn write_converted<W: Write>(
     }
 }
 
-/// Writes the circuit that a reader holds in a format: to text as it stands, to binary as it stands where it is ready
-/// for that, else renumbered. Counts and resets of 0 that may be left out are left out. The file is never held whole:
-/// memory is taken for its circuit alone.
+/// Writes the circuit of a file in a format: to text as it stands, to binary as it stands where it is ready for that,
+/// else renumbered. Counts and resets of 0 that may be left out are left out. Where the file is refused, or no memory
+/// was found to renumber its circuit, nothing is written.
+pub fn convert<W: Write>(
+    alloc: Global,
+    file: &[u8],
+    to: Format,
+    out: &mut W,
+) -> Result<(), RunFault>
+    ensures { ConversionEnds W.written W.failures out.old out.new file.now to result }
+{
+    let circuit = read_circuit(alloc, file)?;
+    write_converted(alloc, &circuit, to, out)
+}
+
+/// Writes the circuit that a reader holds in a format: as `convert` does for the bytes that the reader holds, or a read
+/// failed and nothing is written. The file is never held whole: memory is taken for its circuit, and where that is
+/// renumbered for the renumbered one.
 pub fn convert_from<R: Read, W: Write>(
     alloc: Global,
     reader: &mut R,

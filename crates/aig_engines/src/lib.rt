@@ -15,7 +15,7 @@ mod script_line;
 mod unrolling;
 
 pub use checking::check_bytes;
-pub use conversion::convert_from;
+pub use conversion::{convert, convert_from};
 pub use delivery::{
     deliver_circuit, deliver_replies, deliver_trace, deliver_unrolled, deliver_verdict,
 };

@@ -8,7 +8,7 @@ pub enum ScriptFault {
     /// A read or a write failed.
     #[error("input or output")]
     Io,
-    /// No memory was found; then nothing was read. Not answered for now, as scripts take no memory.
+    /// No memory was found for a row; then nothing was read.
     #[error("memory")]
     Memory,
 }
