@@ -63,6 +63,3 @@ pub use renumbering_laws::law_of_renumbering;
 pub use renumbering_table::renumbered_variables;
 pub use symbols::{Kind, Symbols};
 pub use ternary::Tern;
-
-#[cfg(test)]
-mod tests;

@@ -22,6 +22,3 @@ pub use bench::Bench;
 pub use bench_fault::BenchFault;
 pub use edit::{EditFault, EditReport};
 pub use laws::law_of_counts;
-
-#[cfg(test)]
-mod tests;

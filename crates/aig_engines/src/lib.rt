@@ -25,6 +25,3 @@ pub use run_fault::RunFault;
 pub use script::run_script;
 pub use script_fault::ScriptFault;
 pub use unrolling::unroll_bytes;
-
-#[cfg(test)]
-mod tests;

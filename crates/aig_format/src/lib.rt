@@ -27,6 +27,3 @@ pub use binary_writer::write_binary;
 pub use header::{Counts, Format};
 pub use laws::{law_of_deltas, law_of_one_reading, law_of_round_trip};
 pub use reader::{read, read_from};
-
-#[cfg(test)]
-mod tests;

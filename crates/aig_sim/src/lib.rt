@@ -38,6 +38,3 @@ pub use trace_line::write_trace;
 pub use verdict::Verdict;
 pub use witness::check_witness;
 pub use witness_fault::WitnessFault;
-
-#[cfg(test)]
-mod tests;

@@ -1,0 +1,168 @@
+//! What a circuit is made of, and its changes.
+ghost use Rattle.std.specs.Prelude.{IfSome};
+ghost use Rattle.aig_base.specs.Sections.{IsLatchLiteral};
+
+use crate::check::name;
+use crate::parts::{FEEDBACK, TWO_GATES, UNUSED, is_defined};
+use aig_base::{
+    Circuit, Kind, LIMIT, Latch, Levels, List, Lit, MemWriter, Readers, Symbols, Tern, append_gate,
+    is_binary_ready, renumber,
+};
+use aig_format::{read, write_ascii};
+use std::alloc::Global;
+use std::test::Fail;
+
+// A list has its items in order, and a copy of it has the same.
+#[test]
+fn lists(rt: HostRuntime) -> Result<(), Fail> {
+    let mut list = List::new(rt.alloc());
+    assert!(rt; list.is_empty());
+    list.push(7)?;
+    list.push(8)?;
+    assert_eq!(rt; list.len(), 2);
+    assert_eq!(rt; list.get(1), Some(&8));
+    assert_eq!(rt; list.get(2), None);
+    list.set(0, 9);
+    assert_eq!(rt; list[0], 9);
+    let copy = list.clone()?;
+    assert_eq!(rt; copy.as_slice(), [9, 8].as_slice());
+    let mut sum = 0u64;
+    for item in copy.iter() {
+        sum = sum.wrapping_add(*item);
+    }
+    assert_eq!(rt; sum, 17);
+    let items = copy.into_vec();
+    assert_eq!(rt; items.as_slice(), [9, 8].as_slice());
+    assert_eq!(rt; List::from_vec(items).len(), 2);
+    Ok(())
+}
+
+// A second name of an entry changes nothing, and the names stand in the order in which they came.
+#[test]
+fn symbols_in_order(rt: HostRuntime) -> Result<(), Fail> {
+    let mut symbols = Symbols::new(rt.alloc());
+    let names: [(Kind, u32, &[u8], bool); 4] = [
+        (Kind::Output, 1, b"out", true),
+        (Kind::Input, 1, b"in", true),
+        (Kind::Output, 1, b"again", false),
+        (Kind::Input, 0, b"first", true),
+    ];
+    for (kind, position, bytes, fresh) in names {
+        let bytes = name(rt.alloc(), bytes)?;
+        assert_eq!(rt; symbols.insert(kind, position, bytes)?, fresh);
+    }
+    assert_eq!(rt; symbols.len(), 3);
+    assert!(rt; symbols.contains(Kind::Input, 1) && !symbols.contains(Kind::Output, 0));
+    let wanted: [&[u8]; 3] = [b"out", b"in", b"first"];
+    for ((_, bytes), wanted_bytes) in symbols.iter().zip(wanted) {
+        assert_eq!(rt; bytes.as_slice(), wanted_bytes);
+    }
+    Ok(())
+}
+
+// The level of a gate with these right sides once it is appended, and whether it reads them then.
+fn appended(
+    alloc: Global,
+    circuit: &mut Circuit,
+    r0: Lit,
+    r1: Lit,
+) -> Result<(u32, bool, bool), Fail> {
+    let mut levels = Levels::of(alloc, circuit)?;
+    let mut readers = Readers::of(alloc, circuit)?;
+    if circuit.max_var() as usize >= LIMIT || !is_defined(circuit, r0) || !is_defined(circuit, r1) {
+        return Err("not allowed".into());
+    }
+    append_gate(circuit, &mut levels, &mut readers, r0, r1)?;
+    let last = circuit.max_var();
+    let first = r0.var();
+    let second = r1.var();
+    if first > last || second > last {
+        return Err("out of range".into());
+    }
+    Ok((
+        levels.level(last),
+        readers.list(first).contains(&last),
+        readers.list(second).contains(&last),
+    ))
+}
+
+// An appended gate has the next variable, its level, and is a reader of both sides.
+#[test]
+fn a_gate_is_appended(rt: HostRuntime) -> Result<(), Fail> {
+    let mut circuit = read(rt.alloc(), TWO_GATES)?;
+    let found = appended(rt.alloc(), &mut circuit, Lit::new(9), Lit::new(2))?;
+    assert_eq!(rt; found, (3, true, true));
+    assert_eq!(rt; circuit.max_var(), 5);
+    assert_eq!(rt; circuit.gates().len(), 3);
+    Ok(())
+}
+
+// A replaced output is the literal that was given.
+#[test]
+fn an_output_is_replaced(rt: HostRuntime) -> Result<(), Fail> {
+    let mut circuit = read(rt.alloc(), TWO_GATES)?;
+    let literal = Lit::new(3);
+    if circuit.outputs().len() != 1 || !is_defined(&circuit, literal) {
+        return Err("not allowed".into());
+    }
+    circuit.replace_output(0, literal);
+    assert_eq!(rt; circuit.outputs(), [literal].as_slice());
+    Ok(())
+}
+
+// The literal of the first latch.
+fn first_latch(circuit: &Circuit) -> Option<Lit>
+    ensures { IfSome result (IsLatchLiteral circuit.now) }
+{
+    match circuit.latches() {
+        [latch, ..] => Some(latch.lit),
+        [] => None,
+    }
+}
+
+// A latch starts at 0, at 1 or, for x, at its own literal, and keeps its next literal.
+#[test]
+fn a_reset_is_replaced(rt: HostRuntime) -> Result<(), Fail> {
+    let mut circuit = read(rt.alloc(), FEEDBACK)?;
+    for (value, reset) in [(Tern::One, 1), (Tern::Zero, 0), (Tern::X, 4)] {
+        if let Some(latch) = first_latch(&circuit) {
+            circuit.replace_reset(latch, value);
+        }
+        let latch = Latch {
+            lit: Lit::new(4),
+            next: Lit::new(6),
+            reset: Lit::new(reset),
+        };
+        assert_eq!(rt; circuit.latches(), [latch].as_slice());
+    }
+    Ok(())
+}
+
+// A renumbered circuit has its inputs, then its latches, then its gates in the canonical order, and is ready for the
+// binary writer.
+#[test]
+fn circuits_are_renumbered(rt: HostRuntime) -> Result<(), Fail> {
+    for (file, ready, renumbered) in [
+        (
+            TWO_GATES,
+            false,
+            b"aag 4 2 0 1 2\n2\n4\n8\n6 4 2\n8 6 2\n".as_slice(),
+        ),
+        (UNUSED, false, b"aag 3 1 0 1 2\n2\n7\n4 3 2\n6 4 2\n"),
+        (FEEDBACK, true, FEEDBACK),
+        (
+            b"aag 3 1 1 1 1\n4\n2 6 1\n3\n6 4 2\n",
+            false,
+            b"aag 3 1 1 1 1\n2\n4 6 1\n5\n6 4 2\n",
+        ),
+    ] {
+        let circuit = read(rt.alloc(), file)?;
+        assert_eq!(rt; is_binary_ready(&circuit), ready);
+        let circuit = renumber(rt.alloc(), &circuit)?;
+        assert!(rt; is_binary_ready(&circuit));
+        let mut out = MemWriter::new(rt.alloc(), 100)?;
+        write_ascii(&circuit, &mut out)?;
+        assert_eq!(rt; out.bytes(), renumbered);
+    }
+    Ok(())
+}

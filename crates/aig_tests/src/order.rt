@@ -1,0 +1,54 @@
+//! Levels, orders and cycles of small circuits.
+use crate::parts::{TWO_GATES, UNUSED, is_defined};
+use aig_base::{Circuit, Levels, Lit, canonical_order, would_cycle};
+use aig_format::read;
+use std::alloc::Global;
+use std::test::Fail;
+
+// The canonical order goes by level, then by variable; a gate is one level over the greater of its sides.
+#[test]
+fn levels_and_orders(rt: HostRuntime) -> Result<(), Fail> {
+    for (file, variable, level, wanted) in [
+        (TWO_GATES, 4, 2, [3, 4]),
+        (UNUSED, 2, 2, [5, 2]),
+        (b"aag 4 2 0 1 2\n2\n4\n8\n8 2 4\n6 2 4\n", 4, 1, [3, 4]),
+    ] {
+        let circuit = read(rt.alloc(), file)?;
+        let levels = Levels::of(rt.alloc(), &circuit)?;
+        assert!(rt; variable <= circuit.max_var());
+        assert_eq!(rt; levels.level(variable), level);
+        let order = canonical_order(rt.alloc(), &circuit, &levels)?;
+        assert_eq!(rt; order.as_slice(), wanted.as_slice());
+    }
+    Ok(())
+}
+
+/// Whether other right sides of the gate of a literal would close a cycle.
+pub fn closes(alloc: Global, circuit: &Circuit, row: [u32; 3]) -> Result<bool, Fail> {
+    let [gate, r0, r1] = row;
+    let Some(gate) = circuit.gate_of(gate / 2) else {
+        return Err("no gate".into());
+    };
+    let first = Lit::new(r0);
+    let second = Lit::new(r1);
+    if !is_defined(circuit, first) || !is_defined(circuit, second) {
+        return Err("not defined".into());
+    }
+    Ok(would_cycle(alloc, circuit, gate.lhs, first, second)?)
+}
+
+// Right sides close a cycle exactly where a gate would read itself, whatever the levels.
+#[test]
+fn cycles(rt: HostRuntime) -> Result<(), Fail> {
+    for (file, row, cycle) in [
+        (TWO_GATES, [6, 8, 2], true),
+        (TWO_GATES, [6, 2, 9], true),
+        (TWO_GATES, [8, 8, 2], true),
+        (TWO_GATES, [8, 2, 4], false),
+        (b"aag 4 2 0 1 2\n2\n4\n8\n8 2 4\n6 2 4\n", [6, 8, 2], false),
+    ] {
+        let circuit = read(rt.alloc(), file)?;
+        assert_eq!(rt; closes(rt.alloc(), &circuit, row)?, cycle);
+    }
+    Ok(())
+}

@@ -1,0 +1,102 @@
+//! Circuits that tests use.
+ghost use Rattle.std.specs.Prelude.{◌≤◌, IsTrue};
+ghost use Rattle.aig_base.specs.Literal.{variable};
+ghost use Rattle.aig_base.specs.Sections.{IsDefined};
+
+use aig_base::{Circuit, Gate, List, Lit, Raw, Symbols};
+use aig_bench::Bench;
+use aig_format::read;
+use aig_sim::{Grid, read_stimulus};
+use std::alloc::Global;
+use std::test::Fail;
+
+/// One gate over two inputs.
+pub const ONE_GATE: &[u8] = b"aag 3 2 0 1 1\n2\n4\n6\n6 2 4\n";
+
+/// A gate that reads a gate which stands after it.
+pub const TWO_GATES: &[u8] = b"aag 4 2 0 1 2\n2\n4\n8\n8 6 2\n6 2 4\n";
+
+/// Two gates, the first of which reads the second, and variables that nothing defines.
+pub const UNUSED: &[u8] = b"aag 7 1 0 1 2\n14\n5\n4 10 14\n10 14 15\n";
+
+/// An uninitialised latch that keeps what it is while the input is 1.
+pub const FEEDBACK: &[u8] = b"aag 3 1 1 1 1\n2\n4 6 4\n4\n6 4 2\n";
+
+/// A latch that is 0 and 1 in turn.
+pub const TOGGLE: &[u8] = b"aag 1 0 1 2 0\n2 3\n2\n3\n";
+
+/// A circuit that is not legal: two counts of inputs do not go together.
+pub const REFUSED: &[u8] = b"aag 1 2 0 0 0\n";
+
+/// Parts without entries.
+pub fn empty(alloc: Global, max_var: u32) -> Raw {
+    Raw {
+        max_var,
+        inputs: List::new(alloc),
+        latches: List::new(alloc),
+        outputs: List::new(alloc),
+        bad: List::new(alloc),
+        constraints: List::new(alloc),
+        justice: List::new(alloc),
+        fairness: List::new(alloc),
+        gates: List::new(alloc),
+        symbols: Symbols::new(alloc),
+        comment: None,
+    }
+}
+
+// Puts in an input at the greatest variable, and below it a chain of gates down to variable 1, each the negation of the
+// variable above.
+fn link(raw: &mut Raw, max_var: u32) -> Result<(), Fail>
+    requires { max_var ≤ 4194303 }
+{
+    raw.inputs.push(Lit::new(2 * max_var))?;
+    for variable in 1..max_var {
+        let above = Lit::new(2 * variable + 3);
+        raw.gates.push(Gate {
+            lhs: Lit::new(2 * variable),
+            rhs0: above,
+            rhs1: above,
+        })?;
+    }
+    Ok(())
+}
+
+/// The parts of such a chain.
+pub fn falling_chain(alloc: Global, max_var: u32) -> Result<Raw, Fail>
+    requires { max_var ≤ 4194303 }
+{
+    let mut raw = empty(alloc, max_var);
+    link(&mut raw, max_var)?;
+    Ok(raw)
+}
+
+/// The circuit of parts.
+pub fn circuit(alloc: Global, raw: Raw) -> Result<Circuit, Fail> {
+    if !raw.is_formed() {
+        return Err("not formed".into());
+    }
+    Ok(Circuit::check(alloc, raw)?)
+}
+
+/// A bench of a circuit and of a stimulus text.
+pub fn bench_of<G: Grid>(
+    alloc: Global,
+    circuit: Circuit,
+    stimulus: &[u8],
+) -> Result<Bench<G>, Fail> {
+    let stimulus = read_stimulus(alloc, stimulus, circuit.inputs().len() as u32)?;
+    Ok(Bench::new(alloc, circuit, stimulus)?)
+}
+
+/// A bench of a circuit file and of a stimulus text.
+pub fn bench<G: Grid>(alloc: Global, file: &[u8], stimulus: &[u8]) -> Result<Bench<G>, Fail> {
+    bench_of(alloc, read(alloc, file)?, stimulus)
+}
+
+/// Whether the variable of a literal is defined.
+pub fn is_defined(circuit: &Circuit, literal: Lit) -> bool
+    ensures { IsTrue result → IsDefined circuit.now (variable literal) }
+{
+    circuit.definition(literal.var()).is_some()
+}
