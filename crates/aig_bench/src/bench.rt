@@ -225,6 +225,7 @@ impl<G: Grid> Bench<G> {
     /// The grid: a row a frame, where the cell of each defined variable is its value, and the count of all evaluations.
     pub fn grid(&self) -> &G
         ensures cells { HasCurrentCells self.now.pair (G.cells result.now) }
+        ensures variables { length (G.gate_flags result.now) ≡ self.now.pair.circuit.max_var + 1 }
         ensures evaluations { G.evaluations result.now ≡ self.now.evaluations }
     {
         &self.grid
@@ -278,7 +279,8 @@ impl<G: Grid> Bench<G> {
     }
 
     /// Gives a gate, named by its left side, two other right sides. Refused are what is no left side, right sides out
-    /// of range, undefined ones and a cycle. It takes memory where a new right side has four readers or more (profile).
+    /// of range, undefined ones and a cycle. It takes memory only where four gates or more read a new right side
+    /// already (profile).
     pub fn rewire(&mut self, lhs: Lit, r0: Lit, r1: Lit) -> Result<EditReport, EditFault>
         ensures edits { Edits self.old.pair (rewire lhs r0 r1) result self.new.pair }
         ensures works { Works self.old (rewire lhs r0 r1) result self.new }

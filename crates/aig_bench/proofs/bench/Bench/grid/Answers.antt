@@ -10,3 +10,6 @@ returns-clause-cells g c =
           let h = b.current.each t lt v defined in
           (h.cell, h.cell_is, h.value_is));
     })
+
+pub returns-clause-variables : goal.returns-clause-variables
+returns-clause-variables g c = rw (← c.self.view_is) c.self.invariant.working.bench.laid_out.flags_are.size
