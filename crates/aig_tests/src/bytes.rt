@@ -1,5 +1,5 @@
 //! Bytes in and out.
-use crate::fakes::{Marked, OneByte, Short, Stuck};
+use crate::fakes::{Marked, OneByte, Plain, Short, Stuck};
 use aig_bytes::{
     Block, Buffered, Failed, Io, MemReader, MemWriter, Read, Std, Write, write_all, write_number,
 };
@@ -136,6 +136,27 @@ fn a_broken_buffer_refuses(rt: HostRuntime) -> Result<(), Fail> {
     assert_eq!(rt; write_all(&mut out, b"d"), Ok(()));
     assert_eq!(rt; out.flush(), Err(Failed));
     assert_eq!(rt; out.write(b""), Err(Failed));
+    assert_eq!(rt; out.flush(), Err(Failed));
+    Ok(())
+}
+
+// A writer without a flush of its own serves `write_all` and a buffer.
+#[test]
+fn a_writer_needs_no_flush(rt: HostRuntime) -> Result<(), Fail> {
+    let mut plain = Plain {
+        inner: MemWriter::new(rt.alloc(), 3)?,
+    };
+    assert_eq!(rt; write_all(&mut plain, b"ab"), Ok(()));
+    assert_eq!(rt; plain.flush(), Ok(()));
+    assert_eq!(rt; write_all(&mut plain, b"cd"), Err(Io));
+    assert_eq!(rt; plain.inner.bytes(), b"abc".as_slice());
+
+    let mut out = Buffered::new(Plain {
+        inner: MemWriter::new(rt.alloc(), 3)?,
+    });
+    assert_eq!(rt; write_all(&mut out, b"abc"), Ok(()));
+    assert_eq!(rt; out.flush(), Ok(()));
+    assert_eq!(rt; write_all(&mut out, b"d"), Ok(()));
     assert_eq!(rt; out.flush(), Err(Failed));
     Ok(())
 }

@@ -2,7 +2,7 @@
 use crate::fakes::Pieces;
 use crate::parts::{ONE_GATE, REFUSED, TWO_GATES};
 use aig_base::{Fault, MemWriter};
-use aig_engines::{RunFault, convert_from};
+use aig_engines::{RunFault, convert, convert_from};
 use aig_format::Format;
 use std::test::Fail;
 
@@ -61,6 +61,10 @@ fn files_are_converted(rt: HostRuntime) -> Result<(), Fail> {
         let mut out = MemWriter::new(rt.alloc(), 100)?;
         convert_from(rt.alloc(), &mut Pieces::whole(file), to, &mut out)?;
         assert_eq!(rt; out.bytes(), bytes);
+
+        let mut out = MemWriter::new(rt.alloc(), 100)?;
+        convert(rt.alloc(), file, to, &mut out)?;
+        assert_eq!(rt; out.bytes(), bytes);
     }
     Ok(())
 }
@@ -86,6 +90,8 @@ fn refused_files_write_nothing(rt: HostRuntime) -> Result<(), Fail> {
             Format::Ascii,
             &mut out,
         );
+        assert_eq!(rt; done, Err(RunFault::Circuit(fault)));
+        let done = convert(rt.alloc(), file, Format::Ascii, &mut out);
         assert_eq!(rt; done, Err(RunFault::Circuit(fault)));
         assert_eq!(rt; out.bytes(), b"".as_slice());
     }

@@ -1,5 +1,5 @@
 //! Readers and writers that tests use.
-use aig_bytes::{Count, Failed, MemReader, Read, Write};
+use aig_bytes::{Count, Failed, MemReader, MemWriter, Read, Write};
 use std::io;
 
 /// Hands out at most so many bytes a call (one at least), and fails after so many calls.
@@ -49,6 +49,24 @@ impl<'a> Read for Pieces<'a> {
         self.calls -= 1;
         let room = buffer.len().min(self.size.max(1));
         self.bytes.read(&mut buffer[..room])
+    }
+}
+
+/// A writer with the one method that each has to have.
+#[derive(Drop)]
+pub struct Plain {
+    pub inner: MemWriter,
+}
+
+impl Write for Plain {
+    ghost use Rattle.std.specs.Prelude.{Some};
+
+    ghost written = { λ w. Some w.inner.bytes };
+
+    ghost failures = { λ w. w.inner.failures };
+
+    fn write(&mut self, bytes: &[u8]) -> Result<usize, Failed> {
+        self.inner.write(bytes)
     }
 }
 

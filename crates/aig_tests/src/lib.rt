@@ -2,7 +2,11 @@
 #![tactic(auto)]
 
 #[cfg(test)]
+mod bare;
+#[cfg(test)]
 mod bytes;
+#[cfg(test)]
+mod cells;
 #[cfg(test)]
 mod check;
 #[cfg(test)]
