@@ -68,8 +68,8 @@ pub record AreWithin (c : Counts) : Type 0 where
   pub justice : c.justice ≤ limit
   pub fairness : c.fairness ≤ limit
 
--- The counts do not go together: in an ASCII file there are variables enough for all that is defined, in a binary file
--- as many.
+-- The counts do not go together: an ASCII file has too few variables for all that is defined, a binary file too few or
+-- too many.
 abbrev pub are_wrong : Format → Counts → Bool
 are_wrong Ascii c = nat_lt c.max_var (c.inputs + c.latches + c.gates)
 are_wrong Binary c = not (c.max_var == c.inputs + c.latches + c.gates)

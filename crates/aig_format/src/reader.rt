@@ -62,8 +62,9 @@ fn circuit<S: Source>(alloc: Global, s: &mut S) -> Result<Circuit, Fault>
 ///
 /// The faults, in the order in which they are tried: the first token of the header line that is refused (`Text` with
 /// its place, or `Limit`), counts that do not go together, the first token of the body that is refused, then those of
-/// the parts. It never answers `Io`. Linear in the file and its greatest variable; nothing is reserved by a count that
-/// the file merely claims.
+/// the parts. It never answers `Io`. Lists grow with what was read: no count of the header reserves anything while the
+/// file is read. Linear in the file and its greatest variable, but for symbols at positions that are chosen to collide
+/// in their table.
 pub fn read(alloc: Global, bytes: &[u8]) -> Result<Circuit, Fault>
     ensures answers { IsReading bytes.now result }
     ensures circuit { IfOk result IsCircuit }
@@ -75,8 +76,8 @@ pub fn read(alloc: Global, bytes: &[u8]) -> Result<Circuit, Fault>
 
 /// What `read` answers for the bytes that the reader holds, or `Io` where a read failed, which ends it.
 ///
-/// It reads through an array of 4,096 bytes, no further than the answer needs, and not again after a read that gave the
-/// end.
+/// It reads through an array of 4,096 bytes: it makes no read that the answer does not need, and none after one that
+/// gave the end. Bytes of the last block that the answer does not need are taken from the reader too.
 pub fn read_from<R: Read>(alloc: Global, reader: &mut R) -> Result<Circuit, Fault>
     ensures answers { (bytes : List ℕ) → R.left reader.old ≡ Some bytes → result ≢ Err Fault.Io
         → IsReading bytes result }

@@ -31,7 +31,7 @@ pub(crate) trait Source {
     /// The end was met and is remembered: nothing is read on.
     ghost ended: { Self → Type 0 };
 
-    /// How many bytes were taken.
+    /// How many bytes were taken; `u64`'s greatest value where there were more.
     fn at(&self) -> u64;
 
     /// The bytes at hand. There may be none though bytes are left; after a `peek` at a byte there are some.

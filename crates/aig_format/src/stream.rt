@@ -75,7 +75,7 @@ impl<'r, R: Read> Stream<'r, R> {
         self.fill()
     }
 
-    /// The same where nothing is held.
+    /// The same where nothing is held and no read gave the end.
     #[inline(never)]
     fn fill(&mut self) -> Result<bool, TokenFault>
         requires { self.old.start ≡ self.old.end }

@@ -1,4 +1,4 @@
-//! The tokens: single bytes, numbers, deltas.
+//! The tokens: single bytes and numbers.
 ghost use Rattle.std.specs.Prelude.{◌≡◌, ℕ, ◌+◌, ◌<◌, ◌≤◌, ◌^◌, List, IfOk, IfSome};
 ghost use Rattle.aig_format.specs.Reading.{digit_at, is_next_at, byte_at, digits_at, number_at, field_at, more_at};
 ghost use Rattle.aig_format.specs.Reading.{optional_at};
