@@ -1,4 +1,3 @@
-use Rattle.aig_bench.specs.Plan.{pair_of}
 use Rattle.aig_bench.proofs.bench.Bench.grid.Goals as goal
 
 pub returns-clause-cells : goal.returns-clause-cells
