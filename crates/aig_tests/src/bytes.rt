@@ -54,16 +54,17 @@ fn writes_until_full(rt: HostRuntime) -> Result<(), Fail> {
     Ok(())
 }
 
+static TEXTS: [(u32, &[u8]); 4] = [
+    (0, b"text 0"),
+    (9, b"text 9"),
+    (10, b"text 10"),
+    (4_294_967_295, b"text 4294967295"),
+];
+
 // With each room what is written is a beginning, and the call fails where something is missing.
 #[test]
 fn writes_a_beginning(rt: HostRuntime) -> Result<(), Fail> {
-    let table: [(u32, &[u8]); 4] = [
-        (0, b"text 0"),
-        (9, b"text 9"),
-        (10, b"text 10"),
-        (4_294_967_295, b"text 4294967295"),
-    ];
-    for (number, text) in table {
+    for &(number, text) in &TEXTS {
         for room in 0..17usize {
             let mut out = MemWriter::new(rt.alloc(), room)?;
             let done = write_all(&mut out, b"text ").is_ok()

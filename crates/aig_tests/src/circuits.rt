@@ -138,24 +138,22 @@ fn a_reset_is_replaced(rt: HostRuntime) -> Result<(), Fail> {
     Ok(())
 }
 
+static RENUMBERED: [(&[u8], bool, &[u8]); 4] = [
+    (TWO_GATES, false, b"aag 4 2 0 1 2\n2\n4\n8\n6 4 2\n8 6 2\n"),
+    (UNUSED, false, b"aag 3 1 0 1 2\n2\n7\n4 3 2\n6 4 2\n"),
+    (FEEDBACK, true, FEEDBACK),
+    (
+        b"aag 3 1 1 1 1\n4\n2 6 1\n3\n6 4 2\n",
+        false,
+        b"aag 3 1 1 1 1\n2\n4 6 1\n5\n6 4 2\n",
+    ),
+];
+
 // A renumbered circuit has its inputs, then its latches, then its gates in the canonical order, and is ready for the
 // binary writer.
 #[test]
 fn circuits_are_renumbered(rt: HostRuntime) -> Result<(), Fail> {
-    for (file, ready, renumbered) in [
-        (
-            TWO_GATES,
-            false,
-            b"aag 4 2 0 1 2\n2\n4\n8\n6 4 2\n8 6 2\n".as_slice(),
-        ),
-        (UNUSED, false, b"aag 3 1 0 1 2\n2\n7\n4 3 2\n6 4 2\n"),
-        (FEEDBACK, true, FEEDBACK),
-        (
-            b"aag 3 1 1 1 1\n4\n2 6 1\n3\n6 4 2\n",
-            false,
-            b"aag 3 1 1 1 1\n2\n4 6 1\n5\n6 4 2\n",
-        ),
-    ] {
+    for &(file, ready, renumbered) in &RENUMBERED {
         let circuit = read(rt.alloc(), file)?;
         assert_eq!(rt; is_binary_ready(&circuit), ready);
         let circuit = renumber(rt.alloc(), &circuit)?;

@@ -1,19 +1,20 @@
 //! Literals and three-valued logic.
 use aig_base::{Lit, Tern};
 
+static TABLE: [(u32, u32, bool, u32); 7] = [
+    (0, 0, false, 1),
+    (1, 0, true, 0),
+    (2, 1, false, 3),
+    (3, 1, true, 2),
+    (8_388_607, 4_194_303, true, 8_388_606),
+    (4_294_967_294, 2_147_483_647, false, 4_294_967_295),
+    (4_294_967_295, 2_147_483_647, true, 4_294_967_294),
+];
+
 // A literal is twice its variable, plus one where it is negated.
 #[test]
 fn literals(rt: HostRuntime) {
-    let table = [
-        (0, 0, false, 1),
-        (1, 0, true, 0),
-        (2, 1, false, 3),
-        (3, 1, true, 2),
-        (8_388_607, 4_194_303, true, 8_388_606),
-        (4_294_967_294, 2_147_483_647, false, 4_294_967_295),
-        (4_294_967_295, 2_147_483_647, true, 4_294_967_294),
-    ];
-    for (code, var, is_neg, not) in table {
+    for &(code, var, is_neg, not) in &TABLE {
         let literal = Lit::new(code);
         assert_eq!(rt; literal.value(), code);
         assert_eq!(rt; literal.var(), var, "of {code}");

@@ -5,14 +5,16 @@ use aig_format::read;
 use std::alloc::Global;
 use std::test::Fail;
 
+static ORDERS: [(&[u8], u32, u32, [u32; 2]); 3] = [
+    (TWO_GATES, 4, 2, [3, 4]),
+    (UNUSED, 2, 2, [5, 2]),
+    (b"aag 4 2 0 1 2\n2\n4\n8\n8 2 4\n6 2 4\n", 4, 1, [3, 4]),
+];
+
 // The canonical order goes by level, then by variable; a gate is one level over the greater of its sides.
 #[test]
 fn levels_and_orders(rt: HostRuntime) -> Result<(), Fail> {
-    for (file, variable, level, wanted) in [
-        (TWO_GATES, 4, 2, [3, 4]),
-        (UNUSED, 2, 2, [5, 2]),
-        (b"aag 4 2 0 1 2\n2\n4\n8\n8 2 4\n6 2 4\n", 4, 1, [3, 4]),
-    ] {
+    for &(file, variable, level, wanted) in &ORDERS {
         let circuit = read(rt.alloc(), file)?;
         let levels = Levels::of(rt.alloc(), &circuit)?;
         assert!(rt; variable <= circuit.max_var());
@@ -37,16 +39,18 @@ pub fn closes(alloc: Global, circuit: &Circuit, row: [u32; 3]) -> Result<bool, F
     Ok(would_cycle(alloc, circuit, gate.lhs, first, second)?)
 }
 
+static CYCLES: [(&[u8], [u32; 3], bool); 5] = [
+    (TWO_GATES, [6, 8, 2], true),
+    (TWO_GATES, [6, 2, 9], true),
+    (TWO_GATES, [8, 8, 2], true),
+    (TWO_GATES, [8, 2, 4], false),
+    (b"aag 4 2 0 1 2\n2\n4\n8\n8 2 4\n6 2 4\n", [6, 8, 2], false),
+];
+
 // Right sides close a cycle exactly where a gate would read itself, whatever the levels.
 #[test]
 fn cycles(rt: HostRuntime) -> Result<(), Fail> {
-    for (file, row, cycle) in [
-        (TWO_GATES, [6, 8, 2], true),
-        (TWO_GATES, [6, 2, 9], true),
-        (TWO_GATES, [8, 8, 2], true),
-        (TWO_GATES, [8, 2, 4], false),
-        (b"aag 4 2 0 1 2\n2\n4\n8\n8 2 4\n6 2 4\n", [6, 8, 2], false),
-    ] {
+    for &(file, row, cycle) in &CYCLES {
         let circuit = read(rt.alloc(), file)?;
         assert_eq!(rt; closes(rt.alloc(), &circuit, row)?, cycle);
     }

@@ -45,65 +45,72 @@ fn deltas(rt: HostRuntime) -> Result<(), Fail> {
     Ok(())
 }
 
+static HEADERS: [(&[u8], Fault); 15] = [
+    (b"", Fault::Text { at: 0 }),
+    (b"a", Fault::Text { at: 1 }),
+    (b"aag", Fault::Text { at: 3 }),
+    (b"aig", Fault::Text { at: 3 }),
+    (b"abg 0 0 0 0 0\n", Fault::Text { at: 0 }),
+    (b"aag\t", Fault::Text { at: 0 }),
+    (b"aag 1x", Fault::Text { at: 5 }),
+    (b"aag 01 0 0 0 0\n", Fault::Text { at: 4 }),
+    (b"aag 1 2 0 0 0", Fault::Text { at: 13 }),
+    (b"aag 1 2 0 0 0\n", Fault::Counts),
+    (b"aag 1 2 0 0 0\nx", Fault::Counts),
+    (b"aig 2 1 0 0 0\n", Fault::Counts),
+    (b"aag 4194304 0 0 0 0\n", Fault::Limit),
+    (b"aag 4194303 4194303 0 0 0\n", Fault::Text { at: 26 }),
+    (b"aag 0 0 0 0 0 0 0 0 0 0\n", Fault::Text { at: 21 }),
+];
+
 // A header line that is wrong is refused by its first fault, at its place.
 #[test]
 fn refused_headers(rt: HostRuntime) {
-    for (bytes, fault) in [
-        (b"".as_slice(), text(0)),
-        (b"a", text(1)),
-        (b"aag", text(3)),
-        (b"aig", text(3)),
-        (b"abg 0 0 0 0 0\n", text(0)),
-        (b"aag\t", text(0)),
-        (b"aag 1x", text(5)),
-        (b"aag 01 0 0 0 0\n", text(4)),
-        (b"aag 1 2 0 0 0", text(13)),
-        (b"aag 1 2 0 0 0\n", Some(Fault::Counts)),
-        (b"aag 1 2 0 0 0\nx", Some(Fault::Counts)),
-        (b"aig 2 1 0 0 0\n", Some(Fault::Counts)),
-        (b"aag 4194304 0 0 0 0\n", Some(Fault::Limit)),
-        (b"aag 4194303 4194303 0 0 0\n", text(26)),
-        (b"aag 0 0 0 0 0 0 0 0 0 0\n", text(21)),
-    ] {
-        assert_eq!(rt; refusals(rt, bytes), [fault; 3]);
+    for &(bytes, fault) in &HEADERS {
+        assert_eq!(rt; refusals(rt, bytes), [Some(fault); 3]);
     }
 }
+
+static BODIES: [(&[u8], Fault); 23] = [
+    (b"aag 1 1 0 1 0\n2\n8388608\n", Fault::Limit),
+    (b"aag 1 1 0 0 0\n2\ni1 a\n", Fault::Text { at: 17 }),
+    (b"aag 1 1 0 0 0\n2\ni8388608 a\n", Fault::Limit),
+    (b"aag 1 1 0 0 0\n2\ni0 a\ni0 b\n", Fault::Text { at: 22 }),
+    (b"aag 1 1 0 0 0\n2\ni0 \n", Fault::Text { at: 19 }),
+    (b"aag 1 1 0 0 0\n2\ni0 ", Fault::Text { at: 19 }),
+    (b"aag 1 1 0 0 0\n2\ni0a", Fault::Text { at: 18 }),
+    (b"aag 1 1 0 0 0\n2\ni0 ab", Fault::Text { at: 21 }),
+    (b"aag 1 1 0 0 0\n2\nx", Fault::Text { at: 16 }),
+    (b"aag 1 1 0 0 0\n2\nc", Fault::Text { at: 17 }),
+    (b"aag 1 1 0 0 0\n2\ncx", Fault::Text { at: 17 }),
+    (b"aag 1 1 0 0 0\n2\nc0 a\n", Fault::Text { at: 17 }),
+    (b"aag 0 0 0 0 0 0 0 2\n4194303\n1x", Fault::Limit),
+    (b"aig 3 2 0 1 1\n6\n\x02", Fault::Text { at: 17 }),
+    (b"aig 3 2 0 1 1\n6\n\x82", Fault::Text { at: 16 }),
+    (b"aig 3 2 0 1 1\n6\n\x82\x82", Fault::Text { at: 16 }),
+    (b"aig 3 2 0 1 1\n6\n\x02\x82", Fault::Text { at: 17 }),
+    (b"aig 3 2 0 1 1\n6\n\x82\x00\x02", Fault::Text { at: 16 }),
+    (b"aig 3 2 0 1 1\n6\n\x00\x02", Fault::Text { at: 16 }),
+    (b"aig 3 2 0 1 1\n6\n\x02\x05", Fault::Text { at: 17 }),
+    (
+        b"aig 3 2 0 1 1\n6\n\xff\xff\xff\x03\x00",
+        Fault::Text { at: 16 },
+    ),
+    (
+        b"aig 3 2 0 1 1\n6\n\x80\x80\x80\x80\x80\x80\x80\x80\x80\x00\x02",
+        Fault::Text { at: 16 },
+    ),
+    (
+        b"aig 3 2 0 1 1\n6\n\xff\xff\xff\xff\x0f\x00",
+        Fault::Text { at: 16 },
+    ),
+];
 
 // What stands behind the header is refused by its first fault, at its place.
 #[test]
 fn refused_bodies(rt: HostRuntime) {
-    for (bytes, fault) in [
-        (
-            b"aag 1 1 0 1 0\n2\n8388608\n".as_slice(),
-            Some(Fault::Limit),
-        ),
-        (b"aag 1 1 0 0 0\n2\ni1 a\n", text(17)),
-        (b"aag 1 1 0 0 0\n2\ni8388608 a\n", Some(Fault::Limit)),
-        (b"aag 1 1 0 0 0\n2\ni0 a\ni0 b\n", text(22)),
-        (b"aag 1 1 0 0 0\n2\ni0 \n", text(19)),
-        (b"aag 1 1 0 0 0\n2\ni0 ", text(19)),
-        (b"aag 1 1 0 0 0\n2\ni0a", text(18)),
-        (b"aag 1 1 0 0 0\n2\ni0 ab", text(21)),
-        (b"aag 1 1 0 0 0\n2\nx", text(16)),
-        (b"aag 1 1 0 0 0\n2\nc", text(17)),
-        (b"aag 1 1 0 0 0\n2\ncx", text(17)),
-        (b"aag 1 1 0 0 0\n2\nc0 a\n", text(17)),
-        (b"aag 0 0 0 0 0 0 0 2\n4194303\n1x", Some(Fault::Limit)),
-        (b"aig 3 2 0 1 1\n6\n\x02", text(17)),
-        (b"aig 3 2 0 1 1\n6\n\x82", text(16)),
-        (b"aig 3 2 0 1 1\n6\n\x82\x82", text(16)),
-        (b"aig 3 2 0 1 1\n6\n\x02\x82", text(17)),
-        (b"aig 3 2 0 1 1\n6\n\x82\x00\x02", text(16)),
-        (b"aig 3 2 0 1 1\n6\n\x00\x02", text(16)),
-        (b"aig 3 2 0 1 1\n6\n\x02\x05", text(17)),
-        (b"aig 3 2 0 1 1\n6\n\xff\xff\xff\x03\x00", text(16)),
-        (
-            b"aig 3 2 0 1 1\n6\n\x80\x80\x80\x80\x80\x80\x80\x80\x80\x00\x02",
-            text(16),
-        ),
-        (b"aig 3 2 0 1 1\n6\n\xff\xff\xff\xff\x0f\x00", text(16)),
-    ] {
-        assert_eq!(rt; refusals(rt, bytes), [fault; 3]);
+    for &(bytes, fault) in &BODIES {
+        assert_eq!(rt; refusals(rt, bytes), [Some(fault); 3]);
     }
 }
 
@@ -121,19 +128,21 @@ fn long_numbers(rt: HostRuntime) -> Result<(), Fail> {
     Ok(())
 }
 
+static ACCEPTED: [&[u8]; 8] = [
+    b"aag 0 0 0 0 0\n",
+    b"aag 1 1 0 0 0 0 0 1 1\n2\n2\n2\n3\n2\n",
+    b"aag 1 0 1 0 0 0 0\n2 2 0\n",
+    b"aag 4 2 0 1 2\n2\n4\n8\n8 6 2\n6 2 4\n",
+    b"aag 5 2 0 1 3\n2\n4\n10\n10 6 8\n8 2 4\n6 4 3\n",
+    b"aag 1 1 0 0 0\n2\nc\n",
+    b"aig 3 2 0 1 1\n6\n\x02\x02",
+    b"aig 4 1 0 1 3\n8\n\x02\x00\x02\x02\x06\x00",
+];
+
 // These files are accepted: without gates, with 1.9 properties, with an empty comment.
 #[test]
 fn accepted(rt: HostRuntime) {
-    for bytes in [
-        b"aag 0 0 0 0 0\n".as_slice(),
-        b"aag 1 1 0 0 0 0 0 1 1\n2\n2\n2\n3\n2\n",
-        b"aag 1 0 1 0 0 0 0\n2 2 0\n",
-        b"aag 4 2 0 1 2\n2\n4\n8\n8 6 2\n6 2 4\n",
-        b"aag 5 2 0 1 3\n2\n4\n10\n10 6 8\n8 2 4\n6 4 3\n",
-        b"aag 1 1 0 0 0\n2\nc\n",
-        b"aig 3 2 0 1 1\n6\n\x02\x02",
-        b"aig 4 1 0 1 3\n8\n\x02\x00\x02\x02\x06\x00",
-    ] {
+    for &bytes in &ACCEPTED {
         assert_eq!(rt; refusals(rt, bytes), [None; 3]);
     }
 }
@@ -208,37 +217,41 @@ fn beginnings(rt: HostRuntime) {
     assert!(rt; takes_only(rt, b"aig 3 2 0 1 1\n6\n\x02\x02", &[18]));
 }
 
+static PARTS: [(&[u8], Fault); 8] = [
+    (b"aag 1 1 0 1 0\n2\n8388607\n", Fault::Range),
+    (b"aig 1 1 0 1 0\n4\n", Fault::Range),
+    (b"aag 2 1 0 0 1\n2\n5 2 2\n", Fault::Definition),
+    (b"aag 2 1 1 0 0\n2\n2 1\n", Fault::Redefined(1)),
+    (b"aag 2 1 0 1 0\n2\n4\n", Fault::Undefined(2)),
+    (b"aag 2 1 1 0 0\n2\n4 1 3\n", Fault::Reset(2)),
+    (b"aag 3 1 0 1 2\n2\n4\n4 6 2\n6 4 2\n", Fault::Cycle(2)),
+    (b"aag 2 1 0 1 1\n2\n4\n4 4 2\n", Fault::Cycle(2)),
+];
+
 // Parts that are no circuit are refused by their fault.
 #[test]
 fn faults_of_parts(rt: HostRuntime) {
-    for (bytes, fault) in [
-        (b"aag 1 1 0 1 0\n2\n8388607\n".as_slice(), Fault::Range),
-        (b"aig 1 1 0 1 0\n4\n", Fault::Range),
-        (b"aag 2 1 0 0 1\n2\n5 2 2\n", Fault::Definition),
-        (b"aag 2 1 1 0 0\n2\n2 1\n", Fault::Redefined(1)),
-        (b"aag 2 1 0 1 0\n2\n4\n", Fault::Undefined(2)),
-        (b"aag 2 1 1 0 0\n2\n4 1 3\n", Fault::Reset(2)),
-        (b"aag 3 1 0 1 2\n2\n4\n4 6 2\n6 4 2\n", Fault::Cycle(2)),
-        (b"aag 2 1 0 1 1\n2\n4\n4 4 2\n", Fault::Cycle(2)),
-    ] {
+    for &(bytes, fault) in &PARTS {
         assert_eq!(rt; refusals(rt, bytes), [Some(fault); 3]);
     }
 }
+
+static READS: [(&[u8], usize, Option<Fault>); 8] = [
+    (b"a", 2, Some(Fault::Text { at: 1 })),
+    (b"aag 1x", 6, Some(Fault::Text { at: 5 })),
+    (b"abg 0 0 0 0 0\n", 2, Some(Fault::Text { at: 0 })),
+    (b"aag 1 2 0 0 0", 14, Some(Fault::Text { at: 13 })),
+    (b"aag 1 2 0 0 0\nx", 14, Some(Fault::Counts)),
+    (b"aig 3 2 0 1 1\n6\n\x82", 18, Some(Fault::Text { at: 16 })),
+    (b"aag 1 1 0 1 0\n2\n8388607\n", 25, Some(Fault::Range)),
+    (b"aag 1 1 0 0 0\n2\ni0 ab\nc\nhi", 27, None),
+];
 
 // Each read that an answer needs fails in turn, and the answer is `Io`; one behind the last is not made. So many reads
 // are needed: one a byte up to the refused one, or all and one for the end.
 #[test]
 fn failing_reads(rt: HostRuntime) {
-    for (bytes, needed, fault) in [
-        (b"a".as_slice(), 2, text(1)),
-        (b"aag 1x", 6, text(5)),
-        (b"abg 0 0 0 0 0\n", 2, text(0)),
-        (b"aag 1 2 0 0 0", 14, text(13)),
-        (b"aag 1 2 0 0 0\nx", 14, Some(Fault::Counts)),
-        (b"aig 3 2 0 1 1\n6\n\x82", 18, text(16)),
-        (b"aag 1 1 0 1 0\n2\n8388607\n", 25, Some(Fault::Range)),
-        (b"aag 1 1 0 0 0\n2\ni0 ab\nc\nhi", 27, None),
-    ] {
+    for &(bytes, needed, fault) in &READS {
         for calls in 0..needed {
             let answer = read_from(rt.alloc(), &mut Pieces::new(bytes, 1, calls));
             assert_eq!(rt; answer.err(), Some(Fault::Io));

@@ -145,19 +145,16 @@ fn ended<G: Grid>(
     Ok((done, bench.value(0, Lit::new(8))))
 }
 
+static ENDS: [(&[u8], usize, &[u8], Tern); 3] = [
+    (b"v 0 8\ns 0 1 0\nv 0", 100, b"1\nok\n", Tern::Zero),
+    (b"v 0 8\ns 0 1 0\nv 0 8\n", 3, b"1\no", Tern::Zero),
+    (b"v 0 8\ns 0 1 0\nv 0 8\n", 1, b"1", Tern::One),
+];
+
 // A failing read or write is told, and all lines before it are answered.
 #[test]
 fn failing_reads_and_writes_end_a_script(rt: HostRuntime) -> Result<(), Fail> {
-    for (script, room, replies, value) in [
-        (
-            b"v 0 8\ns 0 1 0\nv 0".as_slice(),
-            100,
-            b"1\nok\n".as_slice(),
-            Tern::Zero,
-        ),
-        (b"v 0 8\ns 0 1 0\nv 0 8\n", 3, b"1\no", Tern::Zero),
-        (b"v 0 8\ns 0 1 0\nv 0 8\n", 1, b"1", Tern::One),
-    ] {
+    for &(script, room, replies, value) in &ENDS {
         let mut out = MemWriter::new(rt.alloc(), room)?;
         let end = ended::<ByteGrid>(rt.alloc(), script, &mut out)?;
         assert_eq!(rt; end, (Err(ScriptFault::Io), Ok(value)));
@@ -179,15 +176,17 @@ fn flushed(alloc: Global, lines: usize) -> Result<Vec<u8>, Fail> {
     Ok(out.into_inner().bytes)
 }
 
+static FLUSHED: [(usize, &[u8]); 4] = [
+    (0, b"|"),
+    (1, b"|1\n|"),
+    (2, b"|1\n|ok\n|"),
+    (3, b"|1\n|ok\n|0\n|"),
+];
+
 // Before each read all replies to the lines that were read are flushed.
 #[test]
 fn replies_come_before_the_next_read(rt: HostRuntime) -> Result<(), Fail> {
-    for (lines, wanted) in [
-        (0, b"|".as_slice()),
-        (1, b"|1\n|"),
-        (2, b"|1\n|ok\n|"),
-        (3, b"|1\n|ok\n|0\n|"),
-    ] {
+    for &(lines, wanted) in &FLUSHED {
         assert_eq!(rt; flushed(rt.alloc(), lines)?.as_slice(), wanted);
     }
     Ok(())

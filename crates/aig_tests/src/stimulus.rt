@@ -3,20 +3,21 @@ use aig_base::Tern;
 use aig_sim::{StimFault, read_stimulus};
 use std::test::Fail;
 
+static TEXTS: [(&[u8], Result<u32, StimFault>); 8] = [
+    (b"", Ok(0)),
+    (b"11\nx0\n", Ok(2)),
+    (b"11\n1z\n", Err(StimFault::Char(2))),
+    (b"11\n1\n", Err(StimFault::Length(2))),
+    (b"11\n1z1\n", Err(StimFault::Char(2))),
+    (b"11\n111z\n", Err(StimFault::Char(2))),
+    (b"11\n1z", Err(StimFault::Unfinished)),
+    (b"\n1z", Err(StimFault::Length(1))),
+];
+
 // A stimulus is refused by the fault of its first wrong line.
 #[test]
 fn texts_of_width_two(rt: HostRuntime) {
-    let texts: [(&[u8], Result<u32, StimFault>); 8] = [
-        (b"", Ok(0)),
-        (b"11\nx0\n", Ok(2)),
-        (b"11\n1z\n", Err(StimFault::Char(2))),
-        (b"11\n1\n", Err(StimFault::Length(2))),
-        (b"11\n1z1\n", Err(StimFault::Char(2))),
-        (b"11\n111z\n", Err(StimFault::Char(2))),
-        (b"11\n1z", Err(StimFault::Unfinished)),
-        (b"\n1z", Err(StimFault::Length(1))),
-    ];
-    for (text, want) in texts {
+    for &(text, want) in &TEXTS {
         let frames = match read_stimulus(rt.alloc(), text, 2) {
             Ok(stimulus) => Ok(stimulus.frames()),
             Err(fault) => Err(fault),

@@ -24,35 +24,32 @@ fn trace<R: Read>(
     Ok((frames, out))
 }
 
+static TRACES: [(&[u8], &[u8], Result<u64, StimFault>, &[u8]); 9] = [
+    (TOGGLE, b"\n\n\n", Ok(3), b"0  01 1\n1  10 0\n0  01 1\n"),
+    (UNINITIALISED_TOGGLE, b"\n", Ok(1), b"x  xx x\n"),
+    (ONE_GATE, b"x0\nx1\n", Ok(2), b" x0 0 \n x1 x \n"),
+    (A_AND_NOT_A, b"x\n", Ok(1), b" x x \n"),
+    (ONE_GATE, b"", Ok(0), b""),
+    (ONE_GATE, b"11\n1z\n", Err(StimFault::Char(2)), b" 11 1 \n"),
+    (
+        ONE_GATE,
+        b"11\n1111111z\n",
+        Err(StimFault::Char(2)),
+        b" 11 1 \n",
+    ),
+    (ONE_GATE, b"11\n1\n", Err(StimFault::Length(2)), b" 11 1 \n"),
+    (
+        ONE_GATE,
+        b"11\n1z1111",
+        Err(StimFault::Unfinished),
+        b" 11 1 \n",
+    ),
+];
+
 // A trace has a line a row, up to the first wrong one.
 #[test]
 fn traces_are_written(rt: HostRuntime) -> Result<(), Fail> {
-    for (circuit, stimulus, frames, lines) in [
-        (
-            TOGGLE,
-            b"\n\n\n".as_slice(),
-            Ok(3),
-            b"0  01 1\n1  10 0\n0  01 1\n".as_slice(),
-        ),
-        (UNINITIALISED_TOGGLE, b"\n", Ok(1), b"x  xx x\n"),
-        (ONE_GATE, b"x0\nx1\n", Ok(2), b" x0 0 \n x1 x \n"),
-        (A_AND_NOT_A, b"x\n", Ok(1), b" x x \n"),
-        (ONE_GATE, b"", Ok(0), b""),
-        (ONE_GATE, b"11\n1z\n", Err(StimFault::Char(2)), b" 11 1 \n"),
-        (
-            ONE_GATE,
-            b"11\n1111111z\n",
-            Err(StimFault::Char(2)),
-            b" 11 1 \n",
-        ),
-        (ONE_GATE, b"11\n1\n", Err(StimFault::Length(2)), b" 11 1 \n"),
-        (
-            ONE_GATE,
-            b"11\n1z1111",
-            Err(StimFault::Unfinished),
-            b" 11 1 \n",
-        ),
-    ] {
+    for &(circuit, stimulus, frames, lines) in &TRACES {
         let (answer, out) = trace(rt.alloc(), circuit, &mut Pieces::whole(stimulus), 100)?;
         assert_eq!(rt; answer, frames);
         assert_eq!(rt; out.bytes(), lines);
@@ -93,15 +90,17 @@ fn flushed(alloc: Global, rows: usize) -> Result<Vec<u8>, Fail> {
     Ok(out.into_inner().bytes)
 }
 
+static FLUSHED: [(usize, &[u8]); 4] = [
+    (0, b"|"),
+    (1, b"| 11 1 \n|"),
+    (2, b"| 11 1 \n| 01 0 \n|"),
+    (3, b"| 11 1 \n| 01 0 \n| x1 x \n|"),
+];
+
 // Before each read the lines of all rows that were read are flushed.
 #[test]
 fn lines_come_before_the_next_read(rt: HostRuntime) -> Result<(), Fail> {
-    for (rows, wanted) in [
-        (0, b"|".as_slice()),
-        (1, b"| 11 1 \n|"),
-        (2, b"| 11 1 \n| 01 0 \n|"),
-        (3, b"| 11 1 \n| 01 0 \n| x1 x \n|"),
-    ] {
+    for &(rows, wanted) in &FLUSHED {
         assert_eq!(rt; flushed(rt.alloc(), rows)?.as_slice(), wanted);
     }
     Ok(())

@@ -8,35 +8,37 @@ use std::test::Fail;
 // Two inputs, of which the first is the bad state and both are constraints; two latches that start at 0.
 const CIRCUIT: &[u8] = b"aag 4 2 2 0 0 1 2\n2\n4\n6 6\n8 8\n2\n2\n4\n";
 
+static VERDICTS: [(&[u8], &[u8], Verdict, &[u8]); 4] = [
+    (
+        CIRCUIT,
+        b"1\nb0\n00\n11\n.\n",
+        Verdict::Confirmed,
+        b"confirmed\n",
+    ),
+    (
+        CIRCUIT,
+        b"1\nb0\n01\n11\n.\n",
+        Verdict::Initial(1),
+        b"initial 1\n",
+    ),
+    (
+        CIRCUIT,
+        b"1\nb0\n00\n11\n1x\n.\n",
+        Verdict::Constraint(1, 1),
+        b"constraint 1 1\n",
+    ),
+    (
+        b"aag 1 1 0 0 0 1\n2\n2\n",
+        b"1\nb0\n\n0\n.\n",
+        Verdict::NotBad,
+        b"not bad\n",
+    ),
+];
+
 // Each verdict is written as its line.
 #[test]
 fn verdicts_are_written(rt: HostRuntime) -> Result<(), Fail> {
-    for (circuit, witness, verdict, line) in [
-        (
-            CIRCUIT,
-            b"1\nb0\n00\n11\n.\n".as_slice(),
-            Verdict::Confirmed,
-            b"confirmed\n".as_slice(),
-        ),
-        (
-            CIRCUIT,
-            b"1\nb0\n01\n11\n.\n",
-            Verdict::Initial(1),
-            b"initial 1\n",
-        ),
-        (
-            CIRCUIT,
-            b"1\nb0\n00\n11\n1x\n.\n",
-            Verdict::Constraint(1, 1),
-            b"constraint 1 1\n",
-        ),
-        (
-            b"aag 1 1 0 0 0 1\n2\n2\n",
-            b"1\nb0\n\n0\n.\n",
-            Verdict::NotBad,
-            b"not bad\n",
-        ),
-    ] {
+    for &(circuit, witness, verdict, line) in &VERDICTS {
         let mut out = MemWriter::new(rt.alloc(), 100)?;
         assert_eq!(rt;
             check_bytes(rt.alloc(), circuit, witness, &mut out),
@@ -47,18 +49,20 @@ fn verdicts_are_written(rt: HostRuntime) -> Result<(), Fail> {
     Ok(())
 }
 
+static REFUSALS: [(&[u8], &[u8], RunFault); 3] = [
+    (REFUSED, b"1\n", RunFault::Circuit(Fault::Counts)),
+    (CIRCUIT, b"1\n", RunFault::Witness(WitnessFault::Text)),
+    (
+        CIRCUIT,
+        b"1\nb1\n00\n11\n.\n",
+        RunFault::Witness(WitnessFault::Property),
+    ),
+];
+
 // A refused circuit comes before the witness's fault, and nothing is written.
 #[test]
 fn refused_checks_write_nothing(rt: HostRuntime) -> Result<(), Fail> {
-    for (circuit, witness, fault) in [
-        (REFUSED, b"1\n".as_slice(), RunFault::Circuit(Fault::Counts)),
-        (CIRCUIT, b"1\n", RunFault::Witness(WitnessFault::Text)),
-        (
-            CIRCUIT,
-            b"1\nb1\n00\n11\n.\n",
-            RunFault::Witness(WitnessFault::Property),
-        ),
-    ] {
+    for &(circuit, witness, fault) in &REFUSALS {
         let mut out = MemWriter::new(rt.alloc(), 100)?;
         assert_eq!(rt;
             check_bytes(rt.alloc(), circuit, witness, &mut out),
