@@ -1,5 +1,6 @@
 //! The cells that a bench lends, behind edits that are done and edits that are refused.
 use crate::bare::Bare;
+use crate::edits::{Step, answer_of};
 use crate::parts::{TWO_GATES, bench};
 use Tern::{One, X, Zero};
 use aig_base::{Lit, MemWriter, Tern};
@@ -31,42 +32,61 @@ fn are<G: Grid>(bench: &Bench<G>, rows: [&[Tern]; 2]) -> bool {
     same
 }
 
-// The cells behind each of some edits: of two gates, 3 = 1 AND 2 and 4 = 3 AND 1.
+// Edits of two gates, 3 = 1 AND 2 and 4 = 3 AND 1, some of them refused, and the cells behind each.
+static STEPS: [(Step, [&[Tern]; 2]); 8] = [
+    (
+        Step::At(0, 0),
+        [&[Zero, One, One, One, One], &[Zero, Zero, One, Zero, Zero]],
+    ),
+    (
+        Step::Bit(0, 1, Zero),
+        [ZEROS, &[Zero, Zero, One, Zero, Zero]],
+    ),
+    (
+        Step::Sides(6, 8, 2),
+        [ZEROS, &[Zero, Zero, One, Zero, Zero]],
+    ),
+    (
+        Step::Bit(2, 0, One),
+        [ZEROS, &[Zero, Zero, One, Zero, Zero]],
+    ),
+    (Step::Add(&[One]), [ZEROS, &[Zero, Zero, One, Zero, Zero]]),
+    (
+        Step::Sides(6, 2, 2),
+        [&[Zero, One, Zero, One, One], &[Zero, Zero, One, Zero, Zero]],
+    ),
+    (
+        Step::Bit(1, 0, X),
+        [&[Zero, One, Zero, One, One], &[Zero, X, One, X, X]],
+    ),
+    (
+        Step::Append(9, 2),
+        [&[Zero, One, Zero, One, One, Zero], &[Zero, X, One, X, X, X]],
+    ),
+];
+
+const ZEROS: &[Tern] = &[Zero, One, Zero, Zero, Zero];
+
+// Whether the cells are right behind each edit.
 fn follow<G: Grid>(alloc: Global) -> Result<bool, Fail> {
     let mut bench = bench::<G>(alloc, TWO_GATES, b"11\n01\n")?;
-    let mut same = are(
-        &bench,
-        [&[Zero, One, One, One, One], &[Zero, Zero, One, Zero, Zero]],
-    );
-    bench.set_bit(0, 1, Zero)?;
-    let zeros = [Zero, One, Zero, Zero, Zero];
-    same &= are(&bench, [&zeros, &[Zero, Zero, One, Zero, Zero]]);
-    same &= bench.rewire(Lit::new(6), Lit::new(8), Lit::new(2)).is_err();
-    same &= bench.set_bit(2, 0, One).is_err();
-    same &= bench.add_frame(&[One]).is_err();
-    same &= are(&bench, [&zeros, &[Zero, Zero, One, Zero, Zero]]);
-    bench.rewire(Lit::new(6), Lit::new(2), Lit::new(2))?;
-    bench.set_bit(1, 0, X)?;
-    same &= are(
-        &bench,
-        [&[Zero, One, Zero, One, One], &[Zero, X, One, X, X]],
-    );
-    bench.append_gate(Lit::new(9), Lit::new(2))?;
-    Ok(
-        same && are(
-            &bench,
-            [&[Zero, One, Zero, One, One, Zero], &[Zero, X, One, X, X, X]],
-        ),
-    )
+    let mut same = true;
+    for (step, rows) in &STEPS {
+        let _ = answer_of(&mut bench, *step);
+        same &= are(&bench, *rows);
+    }
+    Ok(same)
 }
 
 // Every cell is the value of the current circuit and stimulus, behind edits that are done and ones that are refused, in
 // each grid, and in one that has the calls alone that a grid has to have.
 #[test]
 fn cells_are_current(rt: HostRuntime) -> Result<(), Fail> {
-    assert!(rt; follow::<ByteGrid>(rt.alloc())?);
-    assert!(rt; follow::<PlaneGrid>(rt.alloc())?);
-    assert!(rt; follow::<Bare>(rt.alloc())?);
+    let mut right = true;
+    right &= follow::<ByteGrid>(rt.alloc())?;
+    right &= follow::<PlaneGrid>(rt.alloc())?;
+    right &= follow::<Bare>(rt.alloc())?;
+    assert!(rt; right);
     Ok(())
 }
 

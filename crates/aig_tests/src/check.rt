@@ -78,11 +78,13 @@ fn a_deep_chain_in_reverse(rt: HostRuntime) -> Result<(), Fail> {
 // A chain of a million gates in which each reads a greater variable is a circuit, with its levels and its order.
 #[test]
 fn a_deep_chain_of_falling_variables(rt: HostRuntime) -> Result<(), Fail> {
+    let mut right = true;
     let chain = circuit(rt.alloc(), falling_chain(rt.alloc(), 1_000_001)?)?;
     let levels = Levels::of(rt.alloc(), &chain)?;
-    assert!(rt; chain.max_var() > 0);
-    assert_eq!(rt; levels.level(1), 1_000_000);
+    right &= chain.max_var() > 0;
+    right &= levels.level(1) == 1_000_000;
     let order = canonical_order(rt.alloc(), &chain, &levels)?;
-    assert_eq!(rt; order.first(), Some(&1_000_000));
+    right &= order.first() == Some(&1_000_000);
+    assert!(rt; right);
     Ok(())
 }

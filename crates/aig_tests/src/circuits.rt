@@ -15,31 +15,34 @@ use std::test::Fail;
 // A list has its items in order, and a copy of it has the same.
 #[test]
 fn lists(rt: HostRuntime) -> Result<(), Fail> {
+    let mut right = true;
     let mut list = List::new(rt.alloc());
-    assert!(rt; list.is_empty());
+    right &= list.is_empty();
     list.push(7)?;
     list.push(8)?;
-    assert_eq!(rt; list.len(), 2);
-    assert_eq!(rt; list.get(1), Some(&8));
-    assert_eq!(rt; list.get(2), None);
+    right &= list.len() == 2;
+    right &= list.get(1) == Some(&8);
+    right &= list.get(2) == None;
     list.set(0, 9);
-    assert_eq!(rt; list[0], 9);
+    right &= list[0] == 9;
     let copy = list.clone()?;
-    assert_eq!(rt; copy.as_slice(), [9, 8].as_slice());
+    right &= copy.as_slice() == [9, 8].as_slice();
     let mut sum = 0u64;
     for item in copy.iter() {
         sum = sum.wrapping_add(*item);
     }
-    assert_eq!(rt; sum, 17);
+    right &= sum == 17;
     let items = copy.into_vec();
-    assert_eq!(rt; items.as_slice(), [9, 8].as_slice());
-    assert_eq!(rt; List::from_vec(items).len(), 2);
+    right &= items.as_slice() == [9, 8].as_slice();
+    right &= List::from_vec(items).len() == 2;
+    assert!(rt; right);
     Ok(())
 }
 
 // A second name of an entry changes nothing, and the names stand in the order in which they came.
 #[test]
 fn symbols_in_order(rt: HostRuntime) -> Result<(), Fail> {
+    let mut right = true;
     let mut symbols = Symbols::new(rt.alloc());
     let names: [(Kind, u32, &[u8], bool); 4] = [
         (Kind::Output, 1, b"out", true),
@@ -49,14 +52,15 @@ fn symbols_in_order(rt: HostRuntime) -> Result<(), Fail> {
     ];
     for (kind, position, bytes, fresh) in names {
         let bytes = name(rt.alloc(), bytes)?;
-        assert_eq!(rt; symbols.insert(kind, position, bytes)?, fresh);
+        right &= symbols.insert(kind, position, bytes)? == fresh;
     }
-    assert_eq!(rt; symbols.len(), 3);
-    assert!(rt; symbols.contains(Kind::Input, 1) && !symbols.contains(Kind::Output, 0));
+    right &= symbols.len() == 3;
+    right &= symbols.contains(Kind::Input, 1) && !symbols.contains(Kind::Output, 0);
     let wanted: [&[u8]; 3] = [b"out", b"in", b"first"];
     for ((_, bytes), wanted_bytes) in symbols.iter().zip(wanted) {
-        assert_eq!(rt; bytes.as_slice(), wanted_bytes);
+        right &= bytes.as_slice() == wanted_bytes;
     }
+    assert!(rt; right);
     Ok(())
 }
 
@@ -89,11 +93,13 @@ fn appended(
 // An appended gate has the next variable, its level, and is a reader of both sides.
 #[test]
 fn a_gate_is_appended(rt: HostRuntime) -> Result<(), Fail> {
+    let mut right = true;
     let mut circuit = read(rt.alloc(), TWO_GATES)?;
     let found = appended(rt.alloc(), &mut circuit, Lit::new(9), Lit::new(2))?;
-    assert_eq!(rt; found, (3, true, true));
-    assert_eq!(rt; circuit.max_var(), 5);
-    assert_eq!(rt; circuit.gates().len(), 3);
+    right &= found == (3, true, true);
+    right &= circuit.max_var() == 5;
+    right &= circuit.gates().len() == 3;
+    assert!(rt; right);
     Ok(())
 }
 
@@ -153,14 +159,16 @@ static RENUMBERED: [(&[u8], bool, &[u8]); 4] = [
 // binary writer.
 #[test]
 fn circuits_are_renumbered(rt: HostRuntime) -> Result<(), Fail> {
+    let mut right = true;
     for &(file, ready, renumbered) in &RENUMBERED {
         let circuit = read(rt.alloc(), file)?;
-        assert_eq!(rt; is_binary_ready(&circuit), ready);
+        right &= is_binary_ready(&circuit) == ready;
         let circuit = renumber(rt.alloc(), &circuit)?;
-        assert!(rt; is_binary_ready(&circuit));
+        right &= is_binary_ready(&circuit);
         let mut out = MemWriter::new(rt.alloc(), 100)?;
         write_ascii(&circuit, &mut out)?;
-        assert_eq!(rt; out.bytes(), renumbered);
+        right &= out.bytes() == renumbered;
     }
+    assert!(rt; right);
     Ok(())
 }

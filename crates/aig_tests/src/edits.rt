@@ -11,7 +11,7 @@ use std::test::Fail;
 
 // An edit, or a question for a value.
 #[derive(Clone, Copy)]
-enum Step {
+pub enum Step {
     Bit(u32, u32, Tern),
     Sides(u32, u32, u32),
     Reset(u32, Tern),
@@ -24,7 +24,7 @@ enum Step {
 
 // How many cells an edit evaluated and changed, or a value.
 #[derive(Clone, Copy, PartialEq)]
-enum Answer {
+pub enum Answer {
     Report(u64, u64),
     Value(Tern),
     Refused(EditFault),
@@ -46,7 +46,7 @@ impl Answer {
     }
 }
 
-fn answer_of<G: Grid>(bench: &mut Bench<G>, step: Step) -> Answer {
+pub fn answer_of<G: Grid>(bench: &mut Bench<G>, step: Step) -> Answer {
     match step {
         Bit(frame, position, value) => Answer::of_edit(bench.set_bit(frame, position, value)),
         Sides(lhs, r0, r1) => {

@@ -14,18 +14,21 @@ static TABLE: [(u32, u32, bool, u32); 7] = [
 // A literal is twice its variable, plus one where it is negated.
 #[test]
 fn literals(rt: HostRuntime) {
+    let mut right = true;
     for &(code, var, is_neg, not) in &TABLE {
         let literal = Lit::new(code);
-        assert_eq!(rt; literal.value(), code);
-        assert_eq!(rt; literal.var(), var, "of {code}");
-        assert_eq!(rt; literal.is_neg(), is_neg, "of {code}");
-        assert_eq!(rt; literal.not(), Lit::new(not), "of {code}");
+        right &= literal.value() == code;
+        right &= literal.var() == var;
+        right &= literal.is_neg() == is_neg;
+        right &= literal.not() == Lit::new(not);
     }
+    assert!(rt; right);
 }
 
 // AND and NOT are those of Kleene's strong logic.
 #[test]
 fn kleene_tables(rt: HostRuntime) {
+    let mut right = true;
     let values = [Tern::Zero, Tern::One, Tern::X];
     let ands = [
         [Tern::Zero, Tern::Zero, Tern::Zero],
@@ -34,10 +37,11 @@ fn kleene_tables(rt: HostRuntime) {
     ];
     for (a, row) in values.iter().zip(ands.iter()) {
         for (b, and) in values.iter().zip(row.iter()) {
-            assert_eq!(rt; a.and(*b), *and, "{a:?} and {b:?}");
+            right &= a.and(*b) == *and;
         }
     }
-    assert_eq!(rt; Tern::Zero.not(), Tern::One);
-    assert_eq!(rt; Tern::One.not(), Tern::Zero);
-    assert_eq!(rt; Tern::X.not(), Tern::X);
+    right &= Tern::Zero.not() == Tern::One;
+    right &= Tern::One.not() == Tern::Zero;
+    right &= Tern::X.not() == Tern::X;
+    assert!(rt; right);
 }

@@ -73,11 +73,13 @@ static FAULTS: [(Fault, &str); 11] = [
 // A fault has its words, and its place or variable.
 #[test]
 fn fault_texts(rt: HostRuntime) -> Result<(), Fail> {
+    let mut right = true;
     for &(fault, text) in &FAULTS {
-        assert_eq!(rt; fault.to_string(rt.alloc())?.as_str(), text);
+        right &= fault.to_string(rt.alloc())?.as_str() == text;
     }
-    assert_eq!(rt; Memory.to_string(rt.alloc())?.as_str(), "memory");
-    assert_eq!(rt; Io.to_string(rt.alloc())?.as_str(), "input or output");
-    assert_eq!(rt; WouldCycle.to_string(rt.alloc())?.as_str(), "cycle");
+    right &= Memory.to_string(rt.alloc())?.as_str() == "memory";
+    right &= Io.to_string(rt.alloc())?.as_str() == "input or output";
+    right &= WouldCycle.to_string(rt.alloc())?.as_str() == "cycle";
+    assert!(rt; right);
     Ok(())
 }

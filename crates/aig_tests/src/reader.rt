@@ -28,6 +28,7 @@ const DELTAS: &[u8] = b"aig 4194303 4194297 0 0 6\n\
 // Deltas of each length are read as their numbers, and written as they were.
 #[test]
 fn deltas(rt: HostRuntime) -> Result<(), Fail> {
+    let mut right = true;
     let circuit = read(rt.alloc(), DELTAS)?;
     let gates = [
         gate(8_388_596, 8_388_595, 8_388_595),
@@ -37,11 +38,12 @@ fn deltas(rt: HostRuntime) -> Result<(), Fail> {
         gate(8_388_604, 6_291_452, 6_291_451),
         gate(8_388_606, 0, 0),
     ];
-    assert_eq!(rt; circuit.gates(), gates.as_slice());
-    assert!(rt; is_binary_ready(&circuit));
+    right &= circuit.gates() == gates.as_slice();
+    right &= is_binary_ready(&circuit);
     let mut out = MemWriter::new(rt.alloc(), 100)?;
     write_binary(&circuit, &mut out)?;
-    assert_eq!(rt; out.bytes(), DELTAS);
+    right &= out.bytes() == DELTAS;
+    assert!(rt; right);
     Ok(())
 }
 
@@ -150,28 +152,32 @@ fn accepted(rt: HostRuntime) {
 // An ASCII file gives each section as it stands.
 #[test]
 fn parts_of_ascii(rt: HostRuntime) -> Result<(), Fail> {
+    let mut right = true;
     let circuit = read(
         rt.alloc(),
         b"aag 3 1 1 1 1 0 0 1\n2\n4 6 4\n4\n2\n3\n5\n6 4 2\nj0 go\nc\nhi",
     )?;
-    assert_eq!(rt; circuit.max_var(), 3);
-    assert_eq!(rt; circuit.latches().first(), Some(&latch(4, 6, 4)));
-    assert_eq!(rt; circuit.gates().first(), Some(&gate(6, 4, 2)));
+    right &= circuit.max_var() == 3;
+    right &= circuit.latches().first() == Some(&latch(4, 6, 4));
+    right &= circuit.gates().first() == Some(&gate(6, 4, 2));
     for property in circuit.justice() {
-        assert_eq!(rt; property.get(1), Some(&Lit::new(5)));
+        right &= property.get(1) == Some(&Lit::new(5));
     }
-    assert!(rt; circuit.symbols().contains(Kind::Justice, 0));
-    assert_eq!(rt; circuit.comment(), Some(b"hi".as_slice()));
+    right &= circuit.symbols().contains(Kind::Justice, 0);
+    right &= circuit.comment() == Some(b"hi".as_slice());
+    assert!(rt; right);
     Ok(())
 }
 
 // A binary file has its inputs, latches and gates in the order of their variables.
 #[test]
 fn parts_of_binary(rt: HostRuntime) -> Result<(), Fail> {
+    let mut right = true;
     let circuit = read(rt.alloc(), b"aig 3 1 1 0 1\n6 4\n\x02\x02")?;
-    assert_eq!(rt; circuit.inputs().first(), Some(&Lit::new(2)));
-    assert_eq!(rt; circuit.latches().first(), Some(&latch(4, 6, 4)));
-    assert_eq!(rt; circuit.gates().first(), Some(&gate(6, 4, 2)));
+    right &= circuit.inputs().first() == Some(&Lit::new(2));
+    right &= circuit.latches().first() == Some(&latch(4, 6, 4));
+    right &= circuit.gates().first() == Some(&gate(6, 4, 2));
+    assert!(rt; right);
     Ok(())
 }
 
@@ -264,6 +270,7 @@ fn failing_reads(rt: HostRuntime) {
 // A name that fills more than one block, and the place of a fault behind it.
 #[test]
 fn blocks(rt: HostRuntime) -> Result<(), Fail> {
+    let mut right = true;
     let mut bytes = Vec::new(rt.alloc());
     bytes.extend_from_slice(b"aag 1 1 0 0 0\n2\ni0 ")?;
     for _ in 0..9_000 {
@@ -273,13 +280,14 @@ fn blocks(rt: HostRuntime) -> Result<(), Fail> {
     for (end, fault) in [(b'c', 9_021), (b'x', 9_020)] {
         bytes.push(end)?;
         let answer = read_from(rt.alloc(), &mut MemReader::new(&bytes));
-        assert_eq!(rt; answer.err(), text(fault));
-        assert_eq!(rt; read(rt.alloc(), &bytes).err(), text(fault));
+        right &= answer.err() == text(fault);
+        right &= read(rt.alloc(), &bytes).err() == text(fault);
         let _ = bytes.pop();
     }
     let circuit = read_from(rt.alloc(), &mut MemReader::new(&bytes))?;
     for (_, name) in circuit.symbols().iter() {
-        assert_eq!(rt; name.len(), 9_000);
+        right &= name.len() == 9_000;
     }
+    assert!(rt; right);
     Ok(())
 }
