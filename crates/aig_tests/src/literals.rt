@@ -25,23 +25,26 @@ fn literals(rt: HostRuntime) {
     assert!(rt; right);
 }
 
+static ANDS: [(Tern, Tern, Tern); 9] = [
+    (Tern::Zero, Tern::Zero, Tern::Zero),
+    (Tern::Zero, Tern::One, Tern::Zero),
+    (Tern::Zero, Tern::X, Tern::Zero),
+    (Tern::One, Tern::Zero, Tern::Zero),
+    (Tern::One, Tern::One, Tern::One),
+    (Tern::One, Tern::X, Tern::X),
+    (Tern::X, Tern::Zero, Tern::Zero),
+    (Tern::X, Tern::One, Tern::X),
+    (Tern::X, Tern::X, Tern::X),
+];
+
 // AND and NOT are those of Kleene's strong logic.
 #[test]
 fn kleene_tables(rt: HostRuntime) {
-    let mut right = true;
-    let values = [Tern::Zero, Tern::One, Tern::X];
-    let ands = [
-        [Tern::Zero, Tern::Zero, Tern::Zero],
-        [Tern::Zero, Tern::One, Tern::X],
-        [Tern::Zero, Tern::X, Tern::X],
-    ];
-    for (a, row) in values.iter().zip(ands.iter()) {
-        for (b, and) in values.iter().zip(row.iter()) {
-            right &= a.and(*b) == *and;
-        }
-    }
-    right &= Tern::Zero.not() == Tern::One;
+    let mut right = Tern::Zero.not() == Tern::One;
     right &= Tern::One.not() == Tern::Zero;
     right &= Tern::X.not() == Tern::X;
+    for &(a, b, and) in &ANDS {
+        right &= a.and(b) == and;
+    }
     assert!(rt; right);
 }

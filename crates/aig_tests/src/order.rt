@@ -18,7 +18,7 @@ fn levels_and_orders(rt: HostRuntime) -> Result<(), Fail> {
     for &(file, variable, level, wanted) in &ORDERS {
         let circuit = read(rt.alloc(), file)?;
         let levels = Levels::of(rt.alloc(), &circuit)?;
-        right &= variable <= circuit.max_var();
+        assert!(rt; variable <= circuit.max_var());
         right &= levels.level(variable) == level;
         let order = canonical_order(rt.alloc(), &circuit, &levels)?;
         right &= order.as_slice() == wanted.as_slice();

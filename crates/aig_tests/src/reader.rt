@@ -2,6 +2,7 @@
 use crate::fakes::Pieces;
 use aig_base::{Fault, Gate, Kind, Latch, Lit, MemReader, MemWriter, is_binary_ready};
 use aig_format::{read, read_from, write_binary};
+use std::alloc::Global;
 use std::test::*;
 
 // The fault of a file, if it has one: of its bytes, of a reader of blocks and of a reader of single bytes.
@@ -253,17 +254,20 @@ static READS: [(&[u8], usize, Option<Fault>); 8] = [
     (b"aag 1 1 0 0 0\n2\ni0 ab\nc\nhi", 27, None),
 ];
 
+// How reading ends where so many reads of a byte are made before one fails.
+fn fault_behind(alloc: Global, bytes: &[u8], calls: usize) -> Option<Fault> {
+    read_from(alloc, &mut Pieces::new(bytes, 1, calls)).err()
+}
+
 // Each read that an answer needs fails in turn, and the answer is `Io`; one behind the last is not made. So many reads
 // are needed: one a byte up to the refused one, or all and one for the end.
 #[test]
 fn failing_reads(rt: HostRuntime) {
     for &(bytes, needed, fault) in &READS {
         for calls in 0..needed {
-            let answer = read_from(rt.alloc(), &mut Pieces::new(bytes, 1, calls));
-            assert_eq!(rt; answer.err(), Some(Fault::Io));
+            assert!(rt; fault_behind(rt.alloc(), bytes, calls) == Some(Fault::Io));
         }
-        let answer = read_from(rt.alloc(), &mut Pieces::new(bytes, 1, needed));
-        assert_eq!(rt; answer.err(), fault);
+        assert!(rt; fault_behind(rt.alloc(), bytes, needed) == fault);
     }
 }
 
