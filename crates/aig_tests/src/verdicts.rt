@@ -3,6 +3,7 @@ use crate::parts::REFUSED;
 use aig_base::{Fault, MemWriter};
 use aig_engines::{RunFault, check_bytes};
 use aig_sim::{Verdict, WitnessFault};
+use std::alloc::Global;
 use std::test::Fail;
 
 // Two inputs, of which the first is the bad state and both are constraints; two latches that start at 0.
@@ -35,13 +36,24 @@ static VERDICTS: [(&[u8], &[u8], Verdict, &[u8]); 4] = [
     ),
 ];
 
+// Whether a check writes this line and answers this verdict.
+fn writes(
+    alloc: Global,
+    circuit: &[u8],
+    witness: &[u8],
+    verdict: Verdict,
+    line: &[u8],
+) -> Result<bool, Fail> {
+    let mut out = MemWriter::new(alloc, 100)?;
+    let answer = check_bytes(alloc, circuit, witness, &mut out);
+    Ok(answer == Ok(verdict) && out.bytes() == line)
+}
+
 // Each verdict is written as its line.
 #[test]
 fn verdicts_are_written(rt: HostRuntime) -> Result<(), Fail> {
     for &(circuit, witness, verdict, line) in &VERDICTS {
-        let mut out = MemWriter::new(rt.alloc(), 100)?;
-        let is_right = check_bytes(rt.alloc(), circuit, witness, &mut out) == Ok(verdict);
-        assert!(rt; is_right && out.bytes() == line);
+        assert!(rt; writes(rt.alloc(), circuit, witness, verdict, line)?);
     }
     Ok(())
 }
