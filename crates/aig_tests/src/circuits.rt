@@ -155,20 +155,25 @@ static RENUMBERED: [(&[u8], bool, &[u8]); 4] = [
     ),
 ];
 
+// The text of a renumbered circuit, which is ready for the binary writer.
+fn renumbered_text(alloc: Global, circuit: &Circuit) -> Result<MemWriter, Fail> {
+    let renumbered = renumber(alloc, circuit)?;
+    if !is_binary_ready(&renumbered) {
+        return Err("not ready".into());
+    }
+    let mut out = MemWriter::new(alloc, 100)?;
+    write_ascii(&renumbered, &mut out)?;
+    Ok(out)
+}
+
 // A renumbered circuit has its inputs, then its latches, then its gates in the canonical order, and is ready for the
 // binary writer.
 #[test]
 fn circuits_are_renumbered(rt: HostRuntime) -> Result<(), Fail> {
-    let mut right = true;
     for &(file, ready, renumbered) in &RENUMBERED {
         let circuit = read(rt.alloc(), file)?;
-        right &= is_binary_ready(&circuit) == ready;
-        let circuit = renumber(rt.alloc(), &circuit)?;
-        right &= is_binary_ready(&circuit);
-        let mut out = MemWriter::new(rt.alloc(), 100)?;
-        write_ascii(&circuit, &mut out)?;
-        right &= out.bytes() == renumbered;
+        let out = renumbered_text(rt.alloc(), &circuit)?;
+        assert!(rt; is_binary_ready(&circuit) == ready && out.bytes() == renumbered);
     }
-    assert!(rt; right);
     Ok(())
 }

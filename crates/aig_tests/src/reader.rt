@@ -40,7 +40,7 @@ fn deltas(rt: HostRuntime) -> Result<(), Fail> {
         gate(8_388_606, 0, 0),
     ];
     right &= circuit.gates() == gates.as_slice();
-    right &= is_binary_ready(&circuit);
+    assert!(rt; is_binary_ready(&circuit));
     let mut out = MemWriter::new(rt.alloc(), 100)?;
     write_binary(&circuit, &mut out)?;
     right &= out.bytes() == DELTAS;

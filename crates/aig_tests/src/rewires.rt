@@ -157,29 +157,39 @@ fn wrong_rewires(alloc: Global, net: &mut Net, rows: &[([u32; 3], bool)]) -> Res
 const EIGHT_GATES: &[u8] =
     b"aag 11 3 0 0 8\n2\n4\n6\n8 2 4\n10 8 6\n12 10 8\n14 12 2\n16 9 13\n18 16 16\n20 3 5\n22 18 20\n";
 
+static OF_TWO_GATES: [([u32; 3], bool); 3] = [
+    ([6, 8, 2], false),
+    ([8, 2, 4], true),
+    ([6, 8, 2], true),
+];
+
+static OF_EIGHT_GATES: [([u32; 3], bool); 12] = [
+    ([8, 2, 3], true),
+    ([10, 2, 3], true),
+    ([12, 2, 2], true),
+    ([14, 2, 5], true),
+    ([16, 4, 2], true),
+    ([18, 2, 3], true),
+    ([18, 4, 4], true),
+    ([16, 2, 5], true),
+    ([12, 4, 22], true),
+    ([22, 12, 2], false),
+    ([8, 4, 5], true),
+    ([14, 4, 4], true),
+];
+
+// How many rewires of a circuit file do not go well.
+fn wrong_in(alloc: Global, file: &[u8], rows: &[([u32; 3], bool)]) -> Result<u32, Fail> {
+    let mut net = net_of(alloc, file)?;
+    wrong_rewires(alloc, &mut net, rows)
+}
+
 // A cycle is refused until it is no more one. A variable is read by more gates than are kept without memory, and then
 // by none.
 #[test]
 fn rewires(rt: HostRuntime) -> Result<(), Fail> {
-    let mut net = net_of(rt.alloc(), TWO_GATES)?;
-    let rows = [([6, 8, 2], false), ([8, 2, 4], true), ([6, 8, 2], true)];
-    assert_eq!(rt; wrong_rewires(rt.alloc(), &mut net, &rows)?, 0);
-    let mut net = net_of(rt.alloc(), EIGHT_GATES)?;
-    let rows = [
-        ([8, 2, 3], true),
-        ([10, 2, 3], true),
-        ([12, 2, 2], true),
-        ([14, 2, 5], true),
-        ([16, 4, 2], true),
-        ([18, 2, 3], true),
-        ([18, 4, 4], true),
-        ([16, 2, 5], true),
-        ([12, 4, 22], true),
-        ([22, 12, 2], false),
-        ([8, 4, 5], true),
-        ([14, 4, 4], true),
-    ];
-    assert_eq!(rt; wrong_rewires(rt.alloc(), &mut net, &rows)?, 0);
+    assert!(rt; wrong_in(rt.alloc(), TWO_GATES, &OF_TWO_GATES)? == 0);
+    assert!(rt; wrong_in(rt.alloc(), EIGHT_GATES, &OF_EIGHT_GATES)? == 0);
     Ok(())
 }
 
