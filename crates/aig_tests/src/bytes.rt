@@ -35,9 +35,13 @@ fn blocks(rt: HostRuntime) {
     right &= block.push(b'a');
     right &= block.append(b"bcd") == 3;
     right &= block.as_slice() == b"abcd".as_slice();
-    block.skip(3);
+    if block.as_slice().len() == 4 {
+        block.skip(3);
+    }
     right &= block.as_slice() == b"d".as_slice();
-    block.skip(1);
+    if block.as_slice().len() == 1 {
+        block.skip(1);
+    }
     right &= block.is_empty();
     right &= block.append(&[b'x'; 5000]) == 4096;
     right &= !block.push(b'y');
