@@ -231,9 +231,9 @@ impl<G: Grid> Bench<G> {
         &self.grid
     }
 
-    /// The value of a literal at a frame, counted from 0: what the grid has for it, and nothing is evaluated. Refused are
-    /// a literal over `2M + 1`, a variable that is neither 0 nor defined, and a frame that is not there, in this order
-    /// (profile).
+    /// The value of a literal at a frame, counted from 0: what the grid has for it, and nothing is evaluated. Refused
+    /// are a literal over `2M + 1`, a variable that is neither 0 nor defined, and a frame that is not there, in this
+    /// order (profile).
     pub fn value(&self, frame: u32, literal: Lit) -> Result<Tern, EditFault>
         ensures { AnswersValue self.now.pair frame literal result }
     {

@@ -82,8 +82,8 @@ impl Block {
         true
     }
 
-    /// Puts in the first of these bytes, as many as there is room for behind those that wait, and answers how many. That
-    /// is at least one where none waits.
+    /// Puts in the first of these bytes, as many as there is room for behind those that wait, and answers how many.
+    /// That is at least one where none waits.
     pub fn append(&mut self, bytes: &[u8]) -> usize
         ensures appended { self.new ≡ self.old ++ take result bytes.now }
         ensures bound { result ≤ length bytes.now }

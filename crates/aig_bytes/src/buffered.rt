@@ -8,9 +8,9 @@ use crate::bytes::{Failed, Write};
 use crate::count::Count;
 use std::marker::Model;
 
-/// Holds back what it takes, 4,096 bytes at most, and hands it on to another writer where a write finds no room, and at a
-/// flush. What it holds when it is dropped is lost. Once the other writer failed, this one is broken: it never calls the
-/// other again, and refuses each call.
+/// Holds back what it takes, 4,096 bytes at most, and hands it on to another writer where a write finds no room, and at
+/// a flush. What it holds when it is dropped is lost. Once the other writer failed, this one is broken: it never calls
+/// the other again, and refuses each call.
 #[derive(Drop)]
 pub struct Buffered<W> {
     inner: W,

@@ -8,8 +8,8 @@ use crate::count::Count;
 use std::io;
 use std::marker::Model;
 
-/// A reader or a writer of `std::io`. It tells none of its bytes, and tries no failure again. It fails also where a write
-/// takes none of the bytes that there are, and where `u64::MAX` reads have given bytes.
+/// A reader or a writer of `std::io`. It tells none of its bytes, and tries no failure again. It fails also where a
+/// write takes none of the bytes that there are, and where `u64::MAX` reads have given bytes.
 #[derive(Drop)]
 pub struct Std<T> {
     inner: T,

@@ -47,8 +47,8 @@ fn first_end(bytes: &[u8]) -> usize
 /// How many bytes of a stimulus a read asks for; it may give fewer.
 const CHUNK: usize = 16384;
 
-/// A simulation between two pieces of the text: the circuit with its values, the line in hand, room for 4,096 bytes of a
-/// trace line, and how many frames there were (`u64::MAX` for more).
+/// A simulation between two pieces of the text: the circuit with its values, the line in hand, room for 4,096 bytes of
+/// a trace line, and how many frames there were (`u64::MAX` for more).
 #[derive(Drop)]
 pub struct Simulation<'a> {
     pub machine: Machine<'a>,
@@ -160,13 +160,13 @@ impl<'a> Simulation<'a> {
     }
 }
 
-/// Reads rows to the end, writes their trace, and answers how many there were (`u64::MAX` for more). It keeps one row, a
-/// value for each variable and each latch, the gates once more where they do not stand in the order of their evaluation,
-/// and room for 16,384 bytes of the text and 4,096 of a trace line, all reserved before the first read; there is no
-/// limit on frames. It flushes before each read, so that the lines of all rows that were read are handed on before it
-/// waits. At a fault in line n the lines of the n - 1 rows before it are written; where memory is wanting, nothing was
-/// read. A row's line goes out before the next row is looked at; the contract says what was written at each end, not
-/// when.
+/// Reads rows to the end, writes their trace, and answers how many there were (`u64::MAX` for more). It keeps one row,
+/// a value for each variable and each latch, the gates once more where they do not stand in the order of their
+/// evaluation, and room for 16,384 bytes of the text and 4,096 of a trace line, all reserved before the first read;
+/// there is no limit on frames. It flushes before each read, so that the lines of all rows that were read are handed on
+/// before it waits. At a fault in line n the lines of the n - 1 rows before it are written; where memory is wanting,
+/// nothing was read. A row's line goes out before the next row is looked at; the contract says what was written at each
+/// end, not when.
 pub fn simulate<R: Read, W: Write>(
     alloc: Global,
     circuit: &Circuit,
