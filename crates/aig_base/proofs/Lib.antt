@@ -23,6 +23,7 @@ pub mod LeastAmong
 pub mod LevelBound
 pub mod LevelChains
 pub mod LevelSteps
+pub mod ListPlaces
 pub mod ListedReaders
 pub mod Marking
 pub mod NegatedValues
@@ -53,6 +54,7 @@ pub mod Searches
 pub mod SymbolCopies
 pub mod SymbolKeys
 pub mod Tables
+pub mod TidyLists
 pub mod UniqueValue
 pub mod ValueRules
 pub mod VisitLemmas

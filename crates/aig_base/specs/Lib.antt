@@ -14,6 +14,7 @@ pub mod LevelChains
 pub mod Levels
 pub mod Limits
 pub mod Links
+pub mod ListPlaces
 pub mod Literal
 pub mod Marks
 pub mod Order

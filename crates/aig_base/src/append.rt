@@ -108,12 +108,18 @@ pub fn append_gate(
     ensures room { OnErr result ((v : ℕ) → HasRoom readers.old v → HasRoom readers.new v) }
 {
     let _ = circuit.max_var();
-    make_room_for_list(&mut readers.lists, r0.var(), r1.var())?;
+    make_room_for_list(&mut readers.lists, &mut readers.places, r0.var(), r1.var())?;
     make_room_for_level(&mut levels.levels, &mut levels.visits, &mut levels.queue)?;
     let gate = circuit.next_gate(r0, r1);
     circuit.append_gate(r0, r1)?;
     let level = level_over(&levels.levels, &gate);
     append_level(&mut levels.levels, &mut levels.visits, level);
-    append_list(&mut readers.lists, r0.var(), r1.var(), gate.lhs.var());
+    append_list(
+        &mut readers.lists,
+        &mut readers.places,
+        r0.var(),
+        r1.var(),
+        gate.lhs.var(),
+    );
     Ok(())
 }

@@ -20,6 +20,7 @@ mod least;
 mod level;
 mod links;
 mod list;
+mod list_places;
 mod literal;
 mod order;
 mod ordered;

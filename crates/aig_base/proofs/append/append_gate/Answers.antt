@@ -1,14 +1,15 @@
-use Rattle.std.proofs.Common.{◌≡◌, ℕ, [], ◌∷◌, ◌++◌, List, refl, sym, ap, subst, ◌∙◌, arith}
+use Rattle.std.proofs.Common.{◌≡◌, ℕ, [], ◌∷◌, ◌++◌, length, List, refl, sym, ap, subst, ◌∙◌, arith}
 use Rattle.aig_base.specs.declared.gate.Gate.{Gate}
 use Rattle.aig_base.specs.Changes.{next_gate, with_appended_gate}
 use Rattle.aig_base.specs.Descent.{level_above}
 use Rattle.aig_base.specs.Levels.{AreLevels}
 use Rattle.aig_base.specs.Literal.{variable}
-use Rattle.aig_base.specs.Readers.{AreReaders}
+use Rattle.aig_base.specs.Readers.{AreReaders, Reads}
 use Rattle.aig_base.proofs.AppendedLevels.{level_fits, more_levels}
 use Rattle.aig_base.proofs.AppendedReaders.{more_readers, readers_kept}
 use Rattle.aig_base.proofs.Gates.{defined_in_range}
-use Rattle.aig_base.proofs.ReaderLists.{on_err, room_kept, slots_size}
+use Rattle.aig_base.proofs.ReaderLists.{kept_size, on_err, room_kept, slots_size, tallied}
+use Rattle.aig_base.proofs.TidyLists.{absent_over, tidy_tallied}
 use Rattle.aig_base.proofs.append.append_gate.Goals as goal
 
 pub make_room_for_list-requires-clause-within0 : goal.make_room_for_list-requires-clause-within0
@@ -81,4 +82,30 @@ returns-clause-readers c =
     (subst (λ r. AreReaders raw r) (sym c.readers.view_is) c.requires.readers) in
     more_readers raw r0 r1 c.max_var.ensures.circuit c.requires.defined0 c.requires.defined1 slots
     c.append_list.new.lists.items were
-    (rw (c.var-3.ensures, c.var-4.ensures, number) at c.append_list.ensures)
+    (rw (c.var-3.ensures, c.var-4.ensures, number) at c.append_list.ensures.appends)
+
+pub append_list-requires-clause-absent : goal.append_list-requires-clause-absent
+append_list-requires-clause-absent c =
+    let raw = c.args.circuit.now in
+    let slots = c.make_room_for_list.new.lists.items in
+    let number : c.var-5.result ≡ variable (next_gate raw c.args.r0 c.args.r1).lhs =
+    c.var-5.ensures ∙ ap (λ (g : Gate). variable g.lhs) c.next_gate-gate.ensures in
+    let were = readers_kept raw c.readers.inside.lists.items slots c.make_room_for_list.ensures.keeps
+    (subst (λ r. AreReaders raw r) (sym c.readers.view_is) c.requires.readers) in
+    absent_over raw c.max_var.ensures.circuit.sound slots (tallied raw slots were) c.var-5.result (omega arith)
+
+pub append_list-requires-clause-tidy : goal.append_list-requires-clause-tidy
+append_list-requires-clause-tidy c =
+    let raw = c.args.circuit.now in
+    let slots = c.make_room_for_list.new.lists.items in
+    let were = readers_kept raw c.readers.inside.lists.items slots c.make_room_for_list.ensures.keeps
+    (subst (λ r. AreReaders raw r) (sym c.readers.view_is) c.requires.readers) in
+    tidy_tallied raw c.max_var.ensures.circuit.sound c.max_var.ensures.circuit.formed.counts.max_var (Reads raw) slots
+    (tallied raw slots were) (λ w v p. p)
+
+pub append_list-requires-clause-covered : goal.append_list-requires-clause-covered
+append_list-requires-clause-covered c =
+    let old = c.readers.inside.lists.items in
+    let size = kept_size old c.make_room_for_list.new.lists.items c.make_room_for_list.ensures.keeps in
+    let covered = c.in_ok-make_room_for_list.ensures.covered c.readers.invariant in
+    λ v lt. let le = covered v lt in omega (arith, ap length c.deref_mut.ensures.value)
