@@ -47,7 +47,7 @@ def run(script):
 
 
 def values_behind_a_hub(readers):
-    """Gates leave the hub and come back in any order, and between that the hub changes its value in one frame."""
+    """Gates leave the hub and come back in any order, and one more is appended; then the hub changes its value."""
     chance = random.Random(readers)
     first = circuit("circuit", 2, [(HUB, 1)] * readers)
     gates = [first + 2 * at for at in range(readers)]
@@ -56,12 +56,16 @@ def values_behind_a_hub(readers):
     reads = {gate: HUB for gate in gates}
     lines, wanted = [], []
     for _ in range(20):
-        for gate in chance.sample(gates, readers // 2):
+        for gate in chance.sample(gates, len(gates) // 2):
             reads[gate] = chance.choice((HUB, HUB, other))
             sides = [reads[gate], chance.choice((1, reads[gate]))]
             chance.shuffle(sides)
             lines.append(f"w {gate} {sides[0]} {sides[1]}")
             wanted.append("ok")
+        gates.append(gates[-1] + 2)
+        reads[gates[-1]] = HUB
+        lines.append(f"g {HUB} 1")
+        wanted.append("ok")
         value[HUB] ^= 1
         lines.append(f"s 0 0 {value[HUB]}")
         wanted.append("ok")
