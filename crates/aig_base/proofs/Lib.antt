@@ -4,6 +4,7 @@ pub mod AppendedLevels
 pub mod AppendedReaders
 pub mod Ascending
 pub mod BehindLemmas
+pub mod BitLemmas
 pub mod Chains
 pub mod Circuits
 pub mod Counting
@@ -25,6 +26,7 @@ pub mod LevelChains
 pub mod LevelSteps
 pub mod ListedReaders
 pub mod Marking
+pub mod NamedLemmas
 pub mod NegatedValues
 pub mod NoFault
 pub mod NoOtherValue
@@ -50,8 +52,8 @@ pub mod Renumberings
 pub mod Rewiring
 pub mod Roles
 pub mod Searches
-pub mod SymbolCopies
 pub mod SymbolKeys
+pub mod SymbolLemmas
 pub mod Tables
 pub mod UniqueValue
 pub mod ValueRules
