@@ -4,6 +4,7 @@ pub mod AppendedLevels
 pub mod AppendedReaders
 pub mod Ascending
 pub mod BehindLemmas
+pub mod BitLemmas
 pub mod Chains
 pub mod Circuits
 pub mod Counting
@@ -26,6 +27,7 @@ pub mod LevelSteps
 pub mod ListPlaces
 pub mod ListedReaders
 pub mod Marking
+pub mod NamedLemmas
 pub mod NegatedValues
 pub mod NoFault
 pub mod NoOtherValue
@@ -51,8 +53,8 @@ pub mod Renumberings
 pub mod Rewiring
 pub mod Roles
 pub mod Searches
-pub mod SymbolCopies
 pub mod SymbolKeys
+pub mod SymbolLemmas
 pub mod Tables
 pub mod TidyLists
 pub mod UniqueValue

@@ -1,3 +1,4 @@
+pub mod Bits
 pub mod Changes
 pub mod Circuit
 pub mod Completion
@@ -29,6 +30,7 @@ pub mod Rewires
 pub mod Role
 pub mod Sections
 pub mod Sound
+pub mod SymbolPlaces
 pub mod Ternary
 pub mod Value
 pub mod Visits

@@ -28,7 +28,7 @@ pub struct Raw {
     pub comment: Option<Bytes>,
 }
 
-fn is_name(name: &Bytes) -> bool
+fn is_name(name: &[u8]) -> bool
     ensures { IsTrue result ↔ IsName name.now }
 {
     !name.is_empty() && name.iter().all(|byte| *byte != b'\n')
@@ -78,7 +78,7 @@ impl Raw {
             && sum_fits(&self.justice)
     }
 
-    fn names_entry(&self, kind: Kind, position: u32, name: &Bytes) -> bool
+    fn names_entry(&self, kind: Kind, position: u32, name: &[u8]) -> bool
         ensures { IsTrue result ↔ IsSymbolOf self.now ((kind, position), name.now) }
     {
         (position as usize) < self.section_length(kind) && is_name(name)

@@ -37,7 +37,7 @@ fn renumbered_parts(
         justice: new_justice(alloc, table, circuit.justice())?,
         fairness: new_literals(alloc, table, circuit.fairness())?,
         gates: new_gates(alloc, table, circuit, order)?,
-        symbols: copied_symbols(alloc, circuit.symbols())?,
+        symbols: copied_symbols(circuit.symbols())?,
         comment: copied_comment(alloc, circuit)?,
     })
 }

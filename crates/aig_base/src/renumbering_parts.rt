@@ -125,21 +125,11 @@ pub(crate) fn new_gates(
     Ok(new)
 }
 
-fn copied_name(name: &Bytes) -> Result<Bytes, Memory>
-    ensures { IfOk result (λ new. new ≡ name.now) }
-{
-    Ok(name.clone()?)
-}
-
 /// The symbols once more.
-pub(crate) fn copied_symbols(alloc: Global, symbols: &Symbols) -> Result<Symbols, Memory>
+pub(crate) fn copied_symbols(symbols: &Symbols) -> Result<Symbols, Memory>
     ensures { IfOk result (λ new. new ≡ symbols.now) }
 {
-    let mut new = Symbols::new(alloc);
-    for (key, name) in symbols.iter() {
-        new.insert(key.0, key.1, copied_name(name)?)?;
-    }
-    Ok(new)
+    Ok(symbols.clone()?)
 }
 
 /// The comment of the circuit once more.

@@ -7,7 +7,7 @@ ghost use Rattle.aig_format.specs.Spelling.{literal_line, reset_text, size_line,
 ghost use Rattle.aig_format.specs.Spelling.{letter, symbol_line, comment_text, names_text};
 
 use crate::gather::{put, put_field};
-use aig_base::{Block, Bytes, Circuit, Io, Kind, List, Lit, Symbols, Write};
+use aig_base::{Block, Circuit, Io, Kind, List, Lit, Symbols, Write};
 
 /// A line for each literal.
 pub(crate) fn put_literals<W: Write>(
@@ -96,7 +96,7 @@ fn put_symbol<W: Write>(
     block: &mut Block,
     kind: Kind,
     position: u32,
-    name: &Bytes,
+    name: &[u8],
 ) -> Result<(), Io>
     ensures { Gathers W.written W.failures out.old out.new block.old block.new (symbol_line (
       (kind, position),
@@ -105,7 +105,7 @@ fn put_symbol<W: Write>(
 {
     put(out, block, &[letter_of(kind)])?;
     put_field(out, block, position, b' ')?;
-    put(out, block, name.as_slice())?;
+    put(out, block, name)?;
     put(out, block, b"\n")
 }
 

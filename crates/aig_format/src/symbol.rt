@@ -13,7 +13,7 @@ use crate::header::Counts;
 use crate::source::Source;
 use crate::token::{BODY, byte, number};
 use crate::token_fault::TokenFault;
-use aig_base::{Bytes, Fault, Kind, List, Symbols};
+use aig_base::{Bytes, Fault, Kind, List, SymbolList, Symbols};
 use memchr::memchr;
 use std::alloc::Global;
 
@@ -97,16 +97,16 @@ fn line_length(bytes: &[u8]) -> usize
     memchr(b'\n', bytes).unwrap_or(bytes.len())
 }
 
-/// The bytes before the end of the line, which is taken.
-fn line<S: Source>(alloc: Global, s: &mut S) -> Result<Bytes, Fault>
-    ensures bytes { S.tells s.old → Gives (λ x. x) result (S.left s.new) (line_at (S.left s.old)) }
-    ensures no_end { IfOk result (λ bytes. All (λ b. b ≢ 10) bytes) }
+/// Reads the bytes before the end of the line, which is taken.
+fn line<S: Source>(s: &mut S, bytes: &mut Vec<u8>) -> Result<(), Fault>
+    ensures bytes { S.tells s.old → Gives (λ _. bytes.new.items) result (S.left s.new) (line_at (S.left s.old)) }
+    ensures no_end { OnOk result (All (λ b. b ≢ 10) bytes.new.items) }
     ensures told { S.tells s.old → S.tells s.new }
     ensures reader { S.reader s.new ≡ S.reader s.old }
     ensures failures { Raises result (S.failures s.old) (S.failures s.new) }
     ensures never_more { S.more s.new ≤ S.more s.old }
 {
-    let mut bytes = Vec::new(alloc);
+    bytes.clear();
     while s.peek()?.is_some() {
         let front = s.front();
         let size = front.len();
@@ -114,29 +114,29 @@ fn line<S: Source>(alloc: Global, s: &mut S) -> Result<Bytes, Fault>
         bytes.extend_from_slice(&front[..count])?;
         if count < size {
             s.skip(count + 1);
-            return Ok(List::from_vec(bytes));
+            return Ok(());
         }
         s.skip(count);
     }
     Err(Fault::Text { at: s.at() })
 }
 
-/// A name and the end of its line.
+/// Reads a name and the end of its line.
 #[tactic(auto, unfolding(crate::specs::ReadingNames::name_at))]
-fn name<S: Source>(alloc: Global, s: &mut S) -> Result<Bytes, Fault>
-    ensures bytes { S.tells s.old → Gives (λ x. x) result (S.left s.new) (name_at (S.left s.old)) }
-    ensures name { IfOk result IsName }
+fn name<S: Source>(s: &mut S, bytes: &mut Vec<u8>) -> Result<(), Fault>
+    ensures bytes { S.tells s.old → Gives (λ _. bytes.new.items) result (S.left s.new) (name_at (S.left s.old)) }
+    ensures name { OnOk result (IsName bytes.new.items) }
     ensures told { S.tells s.old → S.tells s.new }
     ensures reader { S.reader s.new ≡ S.reader s.old }
     ensures failures { Raises result (S.failures s.old) (S.failures s.new) }
     ensures never_more { S.more s.new ≤ S.more s.old }
 {
     let at = s.at();
-    let name = line(alloc, s)?;
-    if name.is_empty() {
+    line(s, bytes)?;
+    if bytes.is_empty() {
         return Err(Fault::Text { at });
     }
-    Ok(name)
+    Ok(())
 }
 
 /// A position of the section that has no name yet.
@@ -145,7 +145,7 @@ fn position<S: Source>(
     s: &mut S,
     counts: &Counts,
     kind: Kind,
-    named: &Symbols,
+    named: &SymbolList,
 ) -> Result<u32, TokenFault>
     ensures bytes { S.tells s.old → TokenGives (λ x. x) result (S.left s.new) (position_at counts.now named.now kind
         (S.left s.old)) }
@@ -167,14 +167,14 @@ fn position<S: Source>(
     Ok(position)
 }
 
-/// Adds the symbol that stands after its letter.
+/// Adds the symbol that stands after its letter. Its name is read into these bytes first.
 #[tactic(auto, unfolding(crate::specs::ReadingNames::symbol_at))]
 fn symbol<S: Source>(
-    alloc: Global,
     s: &mut S,
     counts: &Counts,
     kind: Kind,
-    all: &mut Symbols,
+    all: &mut SymbolList,
+    bytes: &mut Vec<u8>,
 ) -> Result<(), Fault>
     ensures bytes { S.tells s.old → Gives (λ x. all.new) result (S.left s.new) (symbol_at counts.now all.old kind
         (S.left s.old)) }
@@ -186,8 +186,8 @@ fn symbol<S: Source>(
 {
     let position = position(s, counts, kind, all)?;
     byte(s, b' ')?;
-    let name = name(alloc, s)?;
-    all.insert(kind, position, name)?;
+    name(s, bytes)?;
+    all.push(kind, position, bytes.as_slice())?;
     Ok(())
 }
 
@@ -196,7 +196,7 @@ fn symbols<S: Source>(
     alloc: Global,
     s: &mut S,
     counts: &Counts,
-    all: &mut Symbols,
+    all: &mut SymbolList,
 ) -> Result<bool, Fault>
     ensures bytes { S.tells s.old → Gives (λ comment. (all.new, comment)) result (S.left s.new)
         (symbols_at counts.now (length (S.left s.old)) all.old (S.left s.old)) }
@@ -205,11 +205,12 @@ fn symbols<S: Source>(
     ensures reader { S.reader s.new ≡ S.reader s.old }
     ensures failures { Raises result (S.failures s.old) (S.failures s.new) }
 {
+    let mut name = Vec::new(alloc);
     loop {
         match letter(s)? {
             Next::End => return Ok(false),
             Next::Comment => return Ok(true),
-            Next::Symbol(kind) => symbol(alloc, s, counts, kind, all)?,
+            Next::Symbol(kind) => symbol(s, counts, kind, all, &mut name)?,
         }
     }
 }
@@ -244,17 +245,13 @@ pub(crate) fn read_names<S: Source>(
     ensures reader { S.reader s.new ≡ S.reader s.old }
     ensures failures { Raises result (S.failures s.old) (S.failures s.new) }
 {
-    let mut all = Symbols::new(alloc);
-    if symbols(alloc, s, counts, &mut all)? {
-        let bytes = rest(alloc, s)?;
-        Ok(Names {
-            symbols: all,
-            comment: Some(bytes),
-        })
+    let mut all = SymbolList::new(alloc);
+    let has_comment = symbols(alloc, s, counts, &mut all)?;
+    let symbols = all.into_symbols()?;
+    let comment = if has_comment {
+        Some(rest(alloc, s)?)
     } else {
-        Ok(Names {
-            symbols: all,
-            comment: None,
-        })
-    }
+        None
+    };
+    Ok(Names { symbols, comment })
 }

@@ -58,7 +58,7 @@ fn symbols_in_order(rt: HostRuntime) -> Result<(), Fail> {
     right &= symbols.contains(Kind::Input, 1) && !symbols.contains(Kind::Output, 0);
     let wanted: [&[u8]; 3] = [b"out", b"in", b"first"];
     for ((_, bytes), wanted_bytes) in symbols.iter().zip(wanted) {
-        right &= bytes.as_slice() == wanted_bytes;
+        right &= bytes == wanted_bytes;
     }
     assert!(rt; right);
     Ok(())

@@ -17,9 +17,9 @@ pub returns-in_err-put-2 : goal.returns-in_err-put-2
 returns-in_err-put-2 g c =
     let h = c.from_residual-in_err-put-2.ensures.0 in
     gathers_then (gathers_same c.in_ok-put.ensures (ap (λ (b : ℕ). b ∷ []) c.letter_of.ensures))
-    (gathers_stop _ h (gathers_then c.in_ok-put_field.ensures (gathers_failed (gathers_same c.in_err-put-2.ensures c.as_slice.ensures) h)))
+    (gathers_stop _ h (gathers_then c.in_ok-put_field.ensures (gathers_failed c.in_err-put-2.ensures h)))
 
 pub returns : goal.returns
 returns g c =
     gathers_then (gathers_same c.in_ok-put.ensures (ap (λ (b : ℕ). b ∷ []) c.letter_of.ensures))
-    (gathers_then (gathers_then c.in_ok-put_field.ensures (gathers_same c.in_ok-put-2.ensures c.as_slice.ensures)) c.put-3.ensures)
+    (gathers_then (gathers_then c.in_ok-put_field.ensures c.in_ok-put-2.ensures) c.put-3.ensures)

@@ -4,8 +4,8 @@ use Rattle.aig_format.specs.ReadingNames.{line_at}
 use Rattle.aig_format.proofs.Steps.{with_front}
 use Rattle.aig_format.proofs.symbol.line.Given as goal
 
-abbrev pub invariant-loop-bytes : goal.invariant-loop-bytes
-invariant-loop-bytes g l = record {
+abbrev pub invariant-loop-s : goal.invariant-loop-s
+invariant-loop-s g l = record {
   bytes : g.S.Source.tells l.fn.s → with_front l.bytes.items (line_at (g.S.Source.left l.s)) ≡ line_at (g.S.Source.left l.fn.s);
   never_more : g.S.Source.more l.s ≤ g.S.Source.more l.fn.s;
   no_end : All (λ b. b ≢ 10) l.bytes.items;
@@ -14,5 +14,5 @@ invariant-loop-bytes g l = record {
   failures : g.S.Source.failures l.s ≡ g.S.Source.failures l.fn.s;
 }
 
-abbrev pub decreases-loop-bytes : goal.decreases-loop-bytes
-decreases-loop-bytes g l = g.S.Source.more l.s
+abbrev pub decreases-loop-s : goal.decreases-loop-s
+decreases-loop-s g l = g.S.Source.more l.s

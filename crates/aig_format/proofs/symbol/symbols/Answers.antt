@@ -10,37 +10,37 @@ pub returns-in_err-letter-clause-bytes : goal.returns-in_err-letter-clause-bytes
 returns-in_err-letter-clause-bytes g c = λ told.
     let p = err_from_is_err_and c.from_residual.result c.from_residual.ensures.1 in
     rw (p.1, p.2)
-    (goes_fail (fault_of c.in_err-letter.field-0.0) c.args.counts.now c.loop-kind.all (g.S.Source.left c.loop-kind.s)
+    (goes_fail (fault_of c.in_err-letter.field-0.0) c.args.counts.now c.loop-name.all (g.S.Source.left c.loop-name.s)
     (symbols_at c.args.counts.now (length (g.S.Source.left c.args.s.now)) c.args.all.now
-    (g.S.Source.left c.args.s.now)) (c.loop-kind.invariant.bytes told) (fails_of c.in_err-letter.field-0.0 _ (c.in_err-letter.ensures.bytes (c.loop-kind.invariant.told told))))
+    (g.S.Source.left c.args.s.now)) (c.loop-name.invariant.bytes told) (fails_of c.in_err-letter.field-0.0 _ (c.in_err-letter.ensures.bytes (c.loop-name.invariant.told told))))
 
 pub returns-in-End-clause-bytes : goal.returns-in-End-clause-bytes
 returns-in-End-clause-bytes g c = λ told.
-    goes_end c.args.counts.now c.loop-kind.all (g.S.Source.left c.loop-kind.s) (g.S.Source.left c.letter.new.s)
+    goes_end c.args.counts.now c.loop-name.all (g.S.Source.left c.loop-name.s) (g.S.Source.left c.letter.new.s)
     (symbols_at c.args.counts.now (length (g.S.Source.left c.args.s.now)) c.args.all.now
-    (g.S.Source.left c.args.s.now)) (c.loop-kind.invariant.bytes told)
-    (rw c.in-End.is at (c.in_ok-letter.ensures.bytes (c.loop-kind.invariant.told told)))
+    (g.S.Source.left c.args.s.now)) (c.loop-name.invariant.bytes told)
+    (rw c.in-End.is at (c.in_ok-letter.ensures.bytes (c.loop-name.invariant.told told)))
 
 pub returns-in-Comment-clause-bytes : goal.returns-in-Comment-clause-bytes
 returns-in-Comment-clause-bytes g c = λ told.
-    goes_comment c.args.counts.now c.loop-kind.all (g.S.Source.left c.loop-kind.s) (g.S.Source.left c.letter.new.s)
+    goes_comment c.args.counts.now c.loop-name.all (g.S.Source.left c.loop-name.s) (g.S.Source.left c.letter.new.s)
     (symbols_at c.args.counts.now (length (g.S.Source.left c.args.s.now)) c.args.all.now
-    (g.S.Source.left c.args.s.now)) (c.loop-kind.invariant.bytes told)
-    (rw c.in-Comment.is at (c.in_ok-letter.ensures.bytes (c.loop-kind.invariant.told told)))
+    (g.S.Source.left c.args.s.now)) (c.loop-name.invariant.bytes told)
+    (rw c.in-Comment.is at (c.in_ok-letter.ensures.bytes (c.loop-name.invariant.told told)))
 
-pub loop-kind-preserved : goal.loop-kind-preserved
-loop-kind-preserved g c = record {
-  bytes = λ told. goes_on c.args.counts.now c.loop-kind.all c.in-Symbol.kind (g.S.Source.left c.loop-kind.s)
+pub loop-name-preserved : goal.loop-name-preserved
+loop-name-preserved g c = record {
+  bytes = λ told. goes_on c.args.counts.now c.loop-name.all c.in-Symbol.kind (g.S.Source.left c.loop-name.s)
       (g.S.Source.left c.letter.new.s) c.symbol.new.all (g.S.Source.left c.symbol.new.s)
       (symbols_at c.args.counts.now (length (g.S.Source.left c.args.s.now)) c.args.all.now
-      (g.S.Source.left c.args.s.now)) (c.loop-kind.invariant.bytes told)
-      (rw c.in-Symbol.is at (c.in_ok-letter.ensures.bytes (c.loop-kind.invariant.told told))) (c.in_ok-symbol-in-Symbol.ensures.bytes (c.in_ok-letter.ensures.told (c.loop-kind.invariant.told told)));
-  symbols = λ so_far. c.in_ok-symbol-in-Symbol.ensures.symbols (c.loop-kind.invariant.symbols so_far);
-  told = λ told. c.in_ok-symbol-in-Symbol.ensures.told (c.in_ok-letter.ensures.told (c.loop-kind.invariant.told told));
+      (g.S.Source.left c.args.s.now)) (c.loop-name.invariant.bytes told)
+      (rw c.in-Symbol.is at (c.in_ok-letter.ensures.bytes (c.loop-name.invariant.told told))) (c.in_ok-symbol-in-Symbol.ensures.bytes (c.in_ok-letter.ensures.told (c.loop-name.invariant.told told)));
+  symbols = λ so_far. c.in_ok-symbol-in-Symbol.ensures.symbols (c.loop-name.invariant.symbols so_far);
+  told = λ told. c.in_ok-symbol-in-Symbol.ensures.told (c.in_ok-letter.ensures.told (c.loop-name.invariant.told told));
   reader = c.in_ok-symbol-in-Symbol.ensures.reader ∙ c.in_ok-letter.ensures.reader
-      ∙ c.loop-kind.invariant.reader;
+      ∙ c.loop-name.invariant.reader;
   failures = c.in_ok-symbol-in-Symbol.ensures.failures ∙ c.in_ok-letter.ensures.failures
-      ∙ c.loop-kind.invariant.failures;
+      ∙ c.loop-name.invariant.failures;
 }
 
 pub returns-in_err-symbol-in-Symbol-clause-bytes : goal.returns-in_err-symbol-in-Symbol-clause-bytes
@@ -48,8 +48,8 @@ returns-in_err-symbol-in-Symbol-clause-bytes g c = λ told.
     let p = err_from_is_err_and c.from_residual-in_err-symbol-in-Symbol.result
     c.from_residual-in_err-symbol-in-Symbol.ensures.1 in
     rw (p.1, p.2)
-    (goes_symbol_fail c.in_err-symbol-in-Symbol.field-0.0 c.args.counts.now c.loop-kind.all c.in-Symbol.kind
-    (g.S.Source.left c.loop-kind.s) (g.S.Source.left c.letter.new.s)
+    (goes_symbol_fail c.in_err-symbol-in-Symbol.field-0.0 c.args.counts.now c.loop-name.all c.in-Symbol.kind
+    (g.S.Source.left c.loop-name.s) (g.S.Source.left c.letter.new.s)
     (symbols_at c.args.counts.now (length (g.S.Source.left c.args.s.now)) c.args.all.now
-    (g.S.Source.left c.args.s.now)) (c.loop-kind.invariant.bytes told)
-    (rw c.in-Symbol.is at (c.in_ok-letter.ensures.bytes (c.loop-kind.invariant.told told))) (c.in_err-symbol-in-Symbol.ensures.bytes (c.in_ok-letter.ensures.told (c.loop-kind.invariant.told told))))
+    (g.S.Source.left c.args.s.now)) (c.loop-name.invariant.bytes told)
+    (rw c.in-Symbol.is at (c.in_ok-letter.ensures.bytes (c.loop-name.invariant.told told))) (c.in_err-symbol-in-Symbol.ensures.bytes (c.in_ok-letter.ensures.told (c.loop-name.invariant.told told))))

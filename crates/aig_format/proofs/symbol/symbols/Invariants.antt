@@ -4,8 +4,8 @@ use Rattle.aig_format.specs.ReadingNames.{symbols_at}
 use Rattle.aig_format.proofs.Symbols.{GoesOn}
 use Rattle.aig_format.proofs.symbol.symbols.Given as goal
 
-abbrev pub invariant-loop-kind : goal.invariant-loop-kind
-invariant-loop-kind g l = record {
+abbrev pub invariant-loop-name : goal.invariant-loop-name
+invariant-loop-name g l = record {
   bytes : g.S.Source.tells l.fn.s
       → GoesOn l.counts l.all (g.S.Source.left l.s)
       (symbols_at l.counts (length (g.S.Source.left l.fn.s)) l.fn.all (g.S.Source.left l.fn.s));
@@ -15,5 +15,5 @@ invariant-loop-kind g l = record {
   failures : g.S.Source.failures l.s ≡ g.S.Source.failures l.fn.s;
 }
 
-abbrev pub decreases-loop-kind : goal.decreases-loop-kind
-decreases-loop-kind g l = g.S.Source.more l.s
+abbrev pub decreases-loop-name : goal.decreases-loop-name
+decreases-loop-name g l = g.S.Source.more l.s

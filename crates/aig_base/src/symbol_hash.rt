@@ -1,0 +1,74 @@
+//! How the table of symbols hashes.
+ghost use Rattle.std.specs.List.{fold};
+ghost use Rattle.std.specs.Hash as fed;
+ghost use Rattle.std.specs.Hash.FoldHasher as folding;
+
+use crate::symbols::Kind;
+use std::hash::{BuildHasher, DefaultHasher, FoldHasher, Hasher};
+
+/// A hash by two keys, one taken in before the entry and one behind it.
+#[derive(Clone, Copy)]
+pub(crate) struct SymbolHasher {
+    state: FoldHasher,
+    last: u64,
+}
+
+impl Hasher for SymbolHasher {
+    ghost write = { λ s bytes. record { state = folding.write s.state bytes; last = s.last } };
+
+    ghost finish = { λ s. folding.finish (fold folding.write s.state (fed.u64 s.last)) };
+
+    fn write(&mut self, bytes: &[u8]) {
+        self.state.write(bytes);
+    }
+
+    fn finish(&self) -> u64 {
+        let mut state = self.state;
+        state.write_u64(self.last);
+        state.finish()
+    }
+}
+
+/// Makes the hashers of a table of symbols. Its keys are made from entries by SipHash: from all of them where the table
+/// is made behind the last name of a file, so that no choice of positions can crowd it. Whoever chooses the last one
+/// has chosen the keys.
+#[derive(Clone, Copy)]
+pub(crate) struct SymbolHash {
+    hasher: SymbolHasher,
+}
+
+impl SymbolHash {
+    /// Hashers by keys that are made from what was mixed.
+    pub(crate) fn by(mixed: DefaultHasher) -> SymbolHash {
+        let mut mixed = mixed;
+        let mut state = FoldHasher::default();
+        state.write_u64(mixed.finish());
+        mixed.write_u64(state.finish());
+        SymbolHash {
+            hasher: SymbolHasher {
+                state,
+                last: mixed.finish(),
+            },
+        }
+    }
+
+    /// Hashers by fixed keys.
+    pub(crate) fn fixed() -> SymbolHash {
+        SymbolHash::by(DefaultHasher::new())
+    }
+}
+
+/// Mixes an entry into what the keys are made from.
+pub(crate) fn mix(mixed: &mut DefaultHasher, kind: Kind, position: u32) {
+    mixed.write_u64((kind as u64) << 32 | position as u64);
+}
+
+impl BuildHasher for SymbolHash {
+    type Hasher = SymbolHasher;
+
+    ghost build_hasher = { λ s. s.hasher };
+
+    fn build_hasher(&self) -> SymbolHasher {
+        self.hasher
+    }
+}

@@ -1,0 +1,34 @@
+//! Names that lie behind one another in one list of bytes.
+ghost use Rattle.std.specs.Prelude.{◌≡◌, ◌++◌, ◌≤◌, length, slice_range, IfOk, OnOk, OnErr};
+
+use std::alloc::AllocError;
+
+/// Where a name begins in the list of bytes, and where it ends.
+#[derive(Clone, Copy, Debug)]
+pub(crate) struct Place {
+    start: usize,
+    end: usize,
+}
+
+/// Puts a name behind the others. Where memory is refused nothing changes.
+pub(crate) fn put_name(text: &mut Vec<u8>, name: &[u8]) -> Result<Place, AllocError>
+    ensures place { IfOk result (λ p. (p.start ≡ length text.old.items) × (p.end ≡ length text.new.items)) }
+    ensures ok { OnOk result (text.new.items ≡ text.old.items ++ name.now) }
+    ensures err { OnErr result (text.new.items ≡ text.old.items) }
+{
+    let start = text.len();
+    text.extend_from_slice(name)?;
+    Ok(Place {
+        start,
+        end: text.len(),
+    })
+}
+
+/// The name that stands there.
+pub(crate) fn name_at(text: &[u8], place: Place) -> &[u8]
+    requires ordered { place.start ≤ place.end }
+    requires within { place.end ≤ length text.now }
+    ensures { result.now ≡ slice_range text.now place.start place.end }
+{
+    &text[place.start..place.end]
+}
