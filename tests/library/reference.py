@@ -1,10 +1,11 @@
 #!/usr/bin/env python3
 """A plain simulator of AIGER text files and a plain workbench, apart from the toolkit: it makes the expected outputs in
-tests/expected, and random_scripts.py runs the program beside it. Each answer is computed from the parts and the rows.
+tests/expected, and tests compare the program with it. Each answer is computed from the parts and the rows.
 
-usage: reference.py sim CIRCUIT STIM              the trace
-       reference.py bench CIRCUIT STIM SCRIPT     the replies to a script
+usage: tests/library/reference.py sim CIRCUIT STIM              the trace
+       tests/library/reference.py bench CIRCUIT STIM SCRIPT     the replies to a script
 """
+
 import re
 import sys
 

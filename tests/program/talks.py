@@ -1,21 +1,14 @@
-#!/usr/bin/env python3
-"""Talks with the built program line by line through two pipes, as a terminal or another program does, and gives up where
-an answer does not come within a time. Then closes the pipe that the program writes to.
-usage: tests/talk.py [PROGRAM]        (without a name: the program that the gate built)"""
+"""Talks with the program line by line through two pipes, as a terminal or another program has them: a reply has to come
+before the next line does. Then the pipe that the program writes to is closed."""
 
 import os
 import select
 import subprocess
-import sys
-import tempfile
 
-TESTS = os.path.dirname(os.path.abspath(__file__))
-AIG = os.path.abspath(sys.argv[1] if len(sys.argv) > 1 else TESTS + "/../crates/aig/out/aig")
+from library.circuits import TEXTS, write_all
+from library.runs import write
+
 SECONDS = 20
-TWO_GATES = b"aag 4 2 0 1 2\n2\n4\n8\n8 6 2\n6 2 4\n"
-TOGGLE = b"aag 1 0 1 2 0\n2 3\n2\n3\n"
-passed = 0
-failed = 0
 
 
 class Failure(Exception):
@@ -25,15 +18,13 @@ class Failure(Exception):
 class Talk:
     """A run of the program that reads its last file from a pipe, and writes to a pipe."""
 
-    def __init__(self, name, *words):
-        self.name = name
-        self.run = subprocess.Popen(
-            [AIG, *words, "/dev/stdin"], stdin=subprocess.PIPE, stdout=subprocess.PIPE, stderr=subprocess.PIPE
-        )
+    def __init__(self, program, *words):
+        self.run = subprocess.Popen([program.path, *words, "/dev/stdin"], stdin=subprocess.PIPE, stdout=subprocess.PIPE,
+                                    stderr=subprocess.PIPE)
 
     def fail(self, text):
         self.run.kill()
-        raise Failure(f"{self.name}: {text}")
+        raise Failure(text)
 
     def say(self, line, wanted):
         """Writes bytes, and waits for this answer. Without an answer, the program is to be silent for a moment."""
@@ -63,8 +54,8 @@ class Talk:
             self.fail(f"it ends with {out!r}, {err!r}, status {self.run.returncode}")
 
 
-def script(two_gates, rows):
-    talk = Talk("bench", "bench", two_gates, rows)
+def script(program):
+    talk = Talk(program, "bench", "two_gates", "rows")
     talk.say(b"v 0 8\n", b"1\n")
     talk.say(b"s 0 1 0\n", b"ok\n")
     talk.say(b"v 0 8", b"")
@@ -77,24 +68,24 @@ def script(two_gates, rows):
     talk.end()
 
 
-def stimulus(toggle):
-    talk = Talk("sim", "sim", toggle)
+def stimulus(program):
+    talk = Talk(program, "sim", "toggle")
     talk.say(b"\n", b"0  01 1\n")
     talk.say(b"\n", b"1  10 0\n")
     talk.say(b"\n" * 5000, b"0  01 1\n1  10 0\n" * 2500)
     talk.end()
 
 
-def faulty_line(toggle):
-    talk = Talk("sim: a faulty line", "sim", toggle)
+def faulty_line(program):
+    talk = Talk(program, "sim", "toggle")
     talk.say(b"\n", b"0  01 1\n")
     talk.say(b"1\n", b"")
     talk.end(1, b"aig: stimulus: length of line 2\n")
 
 
-def closed(name, text, part, *words):
-    """Nobody reads what the program writes: a failing write, of which the program tells."""
-    talk = Talk(name + ": a closed pipe", *words)
+def closed(program, words, text, part):
+    """Nobody reads what the program writes: a failing write, which the program tells."""
+    talk = Talk(program, *words.split(" "))
     talk.run.stdout.close()
     try:
         talk.run.stdin.write(text)
@@ -109,30 +100,22 @@ def closed(name, text, part, *words):
         talk.fail(f"status {talk.run.returncode}")
 
 
-def held(talk, *words):
-    """Holds a talk, and counts how it went."""
-    global passed, failed
-    try:
-        talk(*words)
-        passed += 1
-    except Failure as failure:
-        failed += 1
-        print(f"FAILED: {failure}")
-
-
-with tempfile.TemporaryDirectory() as room:
-    names = []
-    for name, text in (("two_gates", TWO_GATES), ("toggle", TOGGLE), ("rows", b"11\n01\n")):
-        names.append(os.path.join(room, name))
-        with open(names[-1], "wb") as file:
-            file.write(text)
-    two_gates, toggle, rows = names
-    held(script, two_gates, rows)
-    held(stimulus, toggle)
-    held(faulty_line, toggle)
-    held(closed, "bench", b"v 0 8\n", b"script", "bench", two_gates, rows)
-    held(closed, "sim", b"\n", b"stimulus", "sim", toggle)
-    held(closed, "toaig", TWO_GATES, b"output", "toaig", "--to", "aag")
-    held(closed, "unroll", TWO_GATES, b"output", "unroll", "--frames", "2", "--to", "aag")
-print(f"{passed} passed, {failed} failed")
-sys.exit(1 if failed or not passed else 0)
+def talks(program, tally, _):
+    two_gates = TEXTS["two_gates"].encode()
+    write_all()
+    write("rows", "11\n01\n")
+    held = (
+        ("a script", script, ()),
+        ("a stimulus", stimulus, ()),
+        ("a faulty line", faulty_line, ()),
+        ("bench, a closed pipe", closed, ("bench two_gates rows", b"v 0 8\n", b"script")),
+        ("sim, a closed pipe", closed, ("sim toggle", b"\n", b"stimulus")),
+        ("toaig, a closed pipe", closed, ("toaig --to aag", two_gates, b"output")),
+        ("unroll, a closed pipe", closed, ("unroll --frames 2 --to aag", two_gates, b"output")),
+    )
+    for name, talk, details in held:
+        try:
+            talk(program, *details)
+            tally.check(f"talks: {name}", True)
+        except Failure as failure:
+            tally.check(f"talks: {name}", False, failure)
