@@ -11,7 +11,8 @@
 #include <cstring>
 
 static const char usage[] =
-    "usage: tuned toaag CIRCUIT | toaig CIRCUIT | sim CIRCUIT STIM | bench CIRCUIT STIM SCRIPT\n";
+    "usage: tuned toaag CIRCUIT | toaig CIRCUIT | sim CIRCUIT STIM | bench CIRCUIT STIM SCRIPT\n"
+    "       tuned touched CIRCUIT STIM SCRIPT       tells on standard error too how many gates the edits evaluate\n";
 
 static Circuit read_circuit(Source& source) {
     Circuit circuit = Reader(source).read();
@@ -33,13 +34,15 @@ static void simulate(char** paths, Output& out) {
     Simulator(read_circuit(circuit), out).run(stimulus);
 }
 
-static void bench(char** paths, Output& out) {
+static void bench(char** paths, Output& out, bool tells_touched) {
     out.part = "script";
     Source circuit(paths[0], "circuit"), stimulus(paths[1], "stimulus"), script(paths[2], "script");
     Circuit whole = read_circuit(circuit);
     Array<char> rows(stimulus.size() + Source::block);
     stimulus.take_rest(rows);
-    Workbench(std::move(whole), rows, out).run(script);
+    Workbench workbench(std::move(whole), rows, out);
+    workbench.run(script);
+    if (tells_touched) fprintf(stderr, "%llu\n", static_cast<unsigned long long>(workbench.evaluated()));
 }
 
 static void run(int count, char** words, Output& out) {
@@ -48,8 +51,8 @@ static void run(int count, char** words, Output& out) {
         convert(word, words[2], out);
     else if (count == 4 && strcmp(word, "sim") == 0)
         simulate(words + 2, out);
-    else if (count == 5 && strcmp(word, "bench") == 0)
-        bench(words + 2, out);
+    else if (count == 5 && (strcmp(word, "bench") == 0 || strcmp(word, "touched") == 0))
+        bench(words + 2, out, strcmp(word, "touched") == 0);
     else
         throw Refusal{"usage", 2};
 }
