@@ -12,7 +12,6 @@ import re
 import resource
 import signal
 import subprocess
-import time
 
 from at_random.cases import Wrong, each
 from library import broken
