@@ -1,0 +1,503 @@
+#!/usr/bin/env python3
+"""Measures the toolkit, mostly beside a tuned C++ program that does the same, and prints tables in Markdown.
+
+Tables:
+  ratios     aig / C++, of conversions, simulations and questions (--jobs and --shapes pick, --list names them)
+  edits      aig / C++, of edits of every kind on copies of a cipher
+  benches    aig / C++, making a bench of a million gates and 64 frames, and its memory
+  growth     circuit check, levels and order by the number of gates
+  rewires    what a rewire costs by how far it reaches
+  grids      both grids of cells side by side
+and, which is no table,
+  compare    both programs on broken files (--count N, --seed S) and on --circuits FILE..: the same bytes, messages and
+             statuses
+
+It measures the program that --aig names, else the proved crates/aig/out/aig; where that is not there, one is built
+without proofs. It needs c++, 1 GB for files and, for growth, grids and what is built without proofs, rt. What it builds
+and makes is put into the folder that --room names, for the next call, else into a temporary one. A time is the
+processor time of the whole process, the least of --times runs; where two programs are compared their runs take turns,
+so that a disturbance meets both."""
+
+import argparse
+import filecmp
+import os
+import random
+import shutil
+import subprocess
+import sys
+import tempfile
+
+import loads
+
+BENCHMARKS = os.path.dirname(os.path.abspath(__file__))
+REPOSITORY = os.path.dirname(BENCHMARKS)
+sys.path.insert(0, REPOSITORY + "/tests")
+from library import broken  # noqa: E402
+from library.runs import DESIGNS, EXAMPLES, contents_of, write  # noqa: E402
+
+SOURCES = (1000, 1000, 100)  # inputs, latches, outputs
+MILLION = 1_000_000
+
+
+# ---- programs
+
+class Programs:
+    """The programs that are measured; each is built when it is first wanted."""
+
+    def __init__(self, aig):
+        self.named = aig
+        self.found = {}
+
+    def get(self, name):
+        if name not in self.found:
+            print(f"{name} ..", file=sys.stderr)
+            self.found[name] = getattr(self, name)()
+        return self.found[name]
+
+    def tuned(self):
+        """The C++ program."""
+        source, program = BENCHMARKS + "/tuned/main.cpp", os.path.abspath("tuned")
+        subprocess.run(["c++", "-O2", "-std=c++17", "-o", program, source], check=True)
+        return program
+
+    def aig(self):
+        proved = REPOSITORY + "/crates/aig/out/aig"
+        if self.named or os.access(proved, os.X_OK):
+            return os.path.abspath(self.named or proved)
+        return unproved("aig", REPOSITORY)
+
+    def growth(self):
+        return self.beside("growth", "aig_base aig_format anyhow")
+
+    def grids(self):
+        return self.beside("grids", "aig_base aig_sim anyhow")
+
+    @staticmethod
+    def beside(name, libraries):
+        """A Rattle program that is no crate of the repository: it is one in a copy. Its file has another ending here,
+        since `rt ci` refuses a .rt file that no check reads."""
+        copy = os.path.abspath("repository")
+        shutil.rmtree(copy, ignore_errors=True)
+        shutil.copytree(REPOSITORY + "/crates", copy + "/crates", ignore=shutil.ignore_patterns("out"))
+        os.makedirs(f"{copy}/crates/{name}/src")
+        shutil.copy(f"{BENCHMARKS}/{name}.rt.in", f"{copy}/crates/{name}/src/main.rt")
+        shutil.copy(REPOSITORY + "/crates.txt", copy)
+        with open(copy + "/crates.txt", "a", encoding="ascii") as file:
+            file.write(f"{name}: {libraries}\n")
+        return unproved(name, copy)
+
+    def kind(self):
+        said = subprocess.run([self.get("aig"), "--version"], capture_output=True, text=True, check=False).stderr
+        kind = "built without proofs, an estimate of the proved program" if "not proved" in said else "proved"
+        return f"{self.get('aig')}, {kind}"
+
+
+def unproved(name, repository):
+    program = os.path.abspath(name)
+    if not os.path.exists(program):
+        subprocess.run([REPOSITORY + "/tests/build_unproved.sh", repository, name, program], check=True)
+    return program
+
+
+# ---- files
+
+def make(name, *words):
+    """A generated file, which is kept, and is there whole or not at all."""
+    if not os.path.exists(name):
+        with open(name + ".part", "w", encoding="ascii") as file:
+            file.writelines(loads.made(*words))
+        os.rename(name + ".part", name)
+    return name
+
+
+def load(*words):
+    """A generated file by its words."""
+    return make(".".join(map(str, words)), *words)
+
+
+def empty():
+    return write("empty", "")
+
+
+# ---- times
+
+class Run:
+    """What a run of a program took."""
+
+    def __init__(self, words, output=os.devnull):
+        words = list(map(str, words))
+        with open(output, "wb") as out, subprocess.Popen(words, stdout=out, stderr=subprocess.DEVNULL) as process:
+            _, status, usage = os.wait4(process.pid, 0)
+            process.returncode = os.waitstatus_to_exitcode(status)
+        if process.returncode:
+            sys.exit(f"{words} ended with status {process.returncode}")
+        self.seconds = usage.ru_utime + usage.ru_stime
+        self.size = usage.ru_maxrss * 1024
+
+
+def least(times, *runs):
+    """The least time of each of several runs, which take turns."""
+    found = [float("inf")] * len(runs)
+    for _ in range(times):
+        found = [min(old, Run(words).seconds) for old, words in zip(found, runs)]
+    return found
+
+
+def same(one, other):
+    """Stops unless two programs write the same, and answers how many bytes."""
+    for words, name in ((one, "one"), (other, "other")):
+        Run(words, name)
+    if not filecmp.cmp("one", "other", shallow=False):
+        sys.exit(f"{one} and {other} write different bytes")
+    return os.path.getsize("one")
+
+
+def printed(times, words):
+    """The least of the numbers that a program prints by name."""
+    found = {}
+    for _ in range(times):
+        text = subprocess.run(words, stdout=subprocess.PIPE, check=True, text=True).stdout
+        for name, number in (line.split() for line in text.splitlines()):
+            found[name] = min(float(number), found.get(name, float("inf")))
+    return found
+
+
+def milliseconds(seconds):
+    return f"{seconds * 1e3:,.1f} ms"
+
+
+def row(*cells):
+    print("| " + " | ".join(map(str, cells)) + " |", flush=True)
+
+
+def head(title, *cells):
+    print(f"\n{title}\n")
+    row(*cells)
+    row(*["---"] * len(cells))
+
+
+# ---- ratios
+
+class Job:
+    """The same work of both programs, beside work that is to be taken off, in so many units; and the ratio wished
+    for."""
+
+    def __init__(self, name, shape, goal, words, idle=None, units=None, unit="ms"):
+        self.name, self.shape, self.goal = name, shape, goal
+        self.words, self.idle, self.units, self.unit = words, idle, units, unit
+
+    def measured(self, programs, times):
+        """The least time of the C++ program and of `aig`."""
+        tuned, aig = programs.get("tuned"), programs.get("aig")
+        runs = []
+        for words in [self.words()] + ([self.idle()] if self.idle else []):
+            runs += [[tuned, *(["to" + words[2], words[3]] if words[0] == "toaig" else words)], [aig, *words]]
+        self.bytes = same(*runs[:2])
+        found = least(times, *runs)
+        return [found[at] - (found[at + 2] if self.idle else 0) for at in range(2)]
+
+    def shown(self, seconds):
+        if self.unit == "ms":
+            return milliseconds(seconds)
+        return f"{seconds / (self.bytes if self.unit == 'a byte' else self.units) * 1e9:.2f} ns {self.unit}"
+
+
+def conversions(programs):
+    """Text and binary files of a million gates, names and comments."""
+    goals = {("aag", "aag"): 0.9, ("aag", "aig"): 1.0, ("aig", "aag"): 1.0, ("aig", "aig"): 1.1}
+    words = {"aag": "text", "aig": "binary"}
+
+    def binary(text):
+        """The same in the other format."""
+        if not os.path.exists(text + ".aig"):
+            Run([programs.get("tuned"), "toaig", text], "part")
+            os.rename("part", text + ".aig")
+        return text + ".aig"
+
+    def job(form, to, *load_words):
+        text = load(*load_words)
+        return ["toaig", "--to", to, text if form == "aag" else binary(text)]
+
+    for (form, to), goal in goals.items():
+        for shape in ("random", "chain", "wide", "shuffled"):
+            yield Job(f"{words[form]} to {words[to]}", shape, goal,
+                      lambda form=form, to=to, shape=shape: job(form, to, "circuit", shape, *SOURCES, MILLION))
+    for to in ("aag", "aig"):
+        yield Job(f"500,000 names, text to {words[to]}", "names", 1.3, lambda to=to: job("aag", to, "names", 500_000))
+    yield Job("20 MB of comment, text to text", "comment", 1.1, lambda: job("aag", "aag", "comment", 20_000_000))
+
+
+def simulations(_):
+    """Frames alone, loading alone, and lines without gates."""
+    def sim(shape, gates, frames):
+        return ["sim", load("circuit", shape, *SOURCES, gates), load("stimulus", 1000, frames)]
+
+    for gates, frames in ((100_000, 1000), (MILLION, 100)):
+        for shape in ("random", "chain", "wide", "shuffled"):
+            yield Job(f"sim, frames alone, {gates:,} gates", shape, 1.0,
+                      lambda shape=shape, gates=gates, frames=frames: sim(shape, gates, frames),
+                      lambda shape=shape, gates=gates: sim(shape, gates, 0), gates * frames, "a gate")
+    for shape in ("random", "chain", "wide", "shuffled"):
+        yield Job("sim, loading 1,000,000 gates", shape, 1.3, lambda shape=shape: sim(shape, MILLION, 0))
+
+    def lines(frames):
+        return ["sim", load("circuit", "random", 1000, 10, 10, 10), load("stimulus", 1000, frames)]
+
+    yield Job("sim, lines of 1,000 characters", "random", 1.2, lambda: lines(50_000), lambda: lines(0), 50_000,
+              "a line")
+
+
+def questions(_):
+    """Traces of all frames, and lines that ask for a value."""
+    def bench(script):
+        return ["bench", load("circuit", "random", 1000, 1000, 1000, 10_000), load("stimulus", 1000, 64), script]
+
+    yield Job("bench, `t`", "random", 1.2, lambda: bench(write("traces", "t\n" * 200)), lambda: bench(empty()), None,
+              "a byte")
+    yield Job("bench, `v`", "random", 1.2, lambda: bench(load("values", 64, 12_000, MILLION)), lambda: bench(empty()),
+              MILLION, "a line")
+
+
+def ratios(programs, chosen):
+    jobs = [job for part in (conversions, simulations, questions) for job in part(programs)]
+    jobs = [job for job in jobs if chosen.jobs in job.name and chosen.shapes in job.shape]
+    if chosen.list:
+        print(*(f"{job.name} ({job.shape})" for job in jobs), sep="\n")
+        return
+    head("Beside the C++ program (processor time).", "job", "shape", "C++", "aig", "aig / C++", "goal")
+    for job in jobs:
+        tuned, ours = job.measured(programs, chosen.times)
+        row(job.name, job.shape, job.shown(tuned), job.shown(ours), f"{ours / tuned:.2f}", f"{job.goal:.1f}")
+
+
+# ---- edits
+
+# Copies of a cipher, bits of half its state, rounds: few cells touched an edit, or nearly all.
+CIPHERS = (("sparse", 10, 16, 6), ("sparse", 104, 16, 6), ("sparse", 1041, 16, 6),
+           ("dense", 1, 64, 16), ("dense", 1, 64, 156), ("dense", 1, 64, 1562))
+EDITED_FRAMES = 16
+TOUCHED = 20_000_000  # cells that a load is to touch, about
+
+
+def touched(programs, circuit, rows, script):
+    """How many cells of gates the edits of a script touch."""
+    words = [programs.get("tuned"), "touched", circuit, rows, script]
+    done = subprocess.run(words, stdout=subprocess.DEVNULL, stderr=subprocess.PIPE, check=True)
+    return int(done.stderr)
+
+
+def edits(programs, chosen):
+    """Time an edit: that of a script, less that of an empty one."""
+    head(f"Edits of {EDITED_FRAMES} frames (processor time an edit; touched cells an edit).", "load", "kind", "gates",
+         "edits", "touched", "C++", "aig", "a touched cell: C++", "a touched cell: aig", "aig / C++")
+    for kind, *cipher in CIPHERS:
+        if chosen.shapes not in kind:
+            continue
+        circuit, rows = load("cipher", *cipher), load("zeros", cipher[0] * cipher[1], EDITED_FRAMES)
+        both = [[programs.get(name), "bench", circuit, rows] for name in ("tuned", "aig")]
+        idle = least(chosen.times, *([*words, empty()] for words in both))
+        for name in (name for name in ("bits", "late", "rewires", "resets", "frames") if chosen.jobs in name):
+            def script(count, name=name):
+                return load("edits", name, *cipher, EDITED_FRAMES, count)
+
+            few = touched(programs, circuit, rows, script(20))
+            count = 2 * max(5, min(10_000, TOUCHED * 20 // max(few, 1) // 2))
+            long = script(count)
+            same(*([*words, long] for words in both))
+            tuned, ours = ((time - none) / count
+                           for time, none in zip(least(chosen.times, *([*words, long] for words in both)), idle))
+            cells = touched(programs, circuit, rows, long) / count
+            each = [f"{time / cells * 1e9:.1f} ns" if cells else "" for time in (tuned, ours)]
+            gates = 10 * cipher[0] * cipher[1] * cipher[2]
+            row(name, kind, f"{gates:,}", f"{count:,}", f"{cells:,.0f}", f"{tuned * 1e6:,.1f} µs",
+                f"{ours * 1e6:,.1f} µs", *each, f"{ours / tuned:.2f}")
+
+
+def benches(programs, chosen):
+    """Making a bench, and its memory."""
+    circuit = load("cipher", 1040, 16, 6)
+    with open(circuit, encoding="ascii") as file, open("widest", "w", encoding="ascii") as out:
+        words = file.readline().split()
+        words[1] = "1048575"
+        print(*words, file=out)
+        out.writelines(file)
+    rows = [load("zeros", 1040 * 16, frames) for frames in (0, 64)]
+    runs = [[programs.get(name), "bench", "widest", file, empty()] for file in rows for name in ("tuned", "aig")]
+    found = least(chosen.times, *runs)
+    head("A bench of 998,400 gates, and its 64 frames of 1,048,576 cells (processor time).", "work", "C++", "aig",
+         "aig / C++")
+    for work, (tuned, ours) in (("load", found[:2]), ("frames", [found[2] - found[0], found[3] - found[1]])):
+        row(work, milliseconds(tuned), milliseconds(ours), f"{ours / tuned:.2f}")
+    tuned, ours = (Run(words).size for words in runs[2:])
+    row("greatest resident size", f"{tuned / 1e6:.0f} MB", f"{ours / 1e6:.0f} MB", f"{ours / tuned:.2f}")
+
+
+# ---- the toolkit alone
+
+def growth(programs, chosen):
+    head("Growth (elapsed, nanoseconds a gate).", "shape", "gates", "check", "levels", "order")
+    for shape in ("chain", "comb", "random", "reversed"):
+        for gates in (100_000, MILLION, 4 * MILLION):
+            circuit = load("circuit", shape, *SOURCES, gates)
+            times = printed(chosen.times, [programs.get("growth"), circuit, "1"])
+            row(shape, f"{gates:,}", *(f"{times[name] / gates:.0f}" for name in ("check", "levels", "order")))
+
+
+def rewires(programs, chosen):
+    """Lines `w` of a script on rounds of Ascon: on a stimulus of no frames, where levels and fan-outs alone are
+    renewed, and on one frame. Of a line that is refused at once the time is shown too: it is what reading and
+    answering a line takes."""
+    head("Rewires (microseconds a line).", "circuit", "gates", "levels", "load", "cycles", "refused at once",
+         "no frames", "one frame")
+    at_once = write("refused", "w 0 2 2\n" * 100_000)
+    for shape, kinds, many, few in (("side_by_side", ("same_level", "below", "anywhere"), 100_000, 5_000),
+                                    ("in_a_row", ("same_level", "below"), 5_000, 500)):
+        for rounds in (2, 23, 230):
+            made, circuit = loads.Ascon(shape, rounds), load("ascon", shape, rounds)
+            rng = random.Random(64)
+            frame = write("frame", "".join(rng.choices("01", k=made.inputs)) + "\n")
+
+            def line(rows, script, count, circuit=circuit):
+                words = [programs.get("aig"), "bench", circuit, rows]
+                none, both = least(chosen.times, [*words, empty()], [*words, script])
+                return f"{(both - none) / count * 1e6:.2f}"
+
+            refused = line(empty(), at_once, 100_000)
+            for kind in kinds:
+                long, short = (load("rewires", kind, shape, rounds, count) for count in (many, few))
+                Run([programs.get("aig"), "bench", circuit, empty(), long], "replies")
+                with open("replies", encoding="ascii") as file:
+                    replies = file.read().split("\n")
+                if replies.count("ok") + replies.count("no 5") != many:
+                    sys.exit("other replies than ok and no 5")
+                row(shape.replace("_", " "), f"{len(made.gates):,}", f"{max(made.levels):,}", kind.replace("_", " "),
+                    f"{replies.count('no 5') / many:.0%}", refused, line(empty(), long, many), line(frame, short, few))
+
+
+def grids(programs, chosen):
+    gates, frames = 1_048_511, 64
+    cells = (gates + 65) * frames
+    runs = [[programs.get("grids"), kind, str(gates), str(frames), "1"] for kind in ("bytes", "planes")]
+    times = [printed(chosen.times, words) for words in runs]
+    for name in ("changed", "known"):
+        if times[0][name] != times[1][name]:
+            sys.exit(f"the grids tell different numbers of {name} cells")
+    head(f"Grids of {cells:,} cells (elapsed; near: both sides among the 64 variables before the gate).", "work",
+         "bytes", "planes", "bytes, millions a second", "planes, millions a second", "planes / bytes")
+    for name, work in (("make", "make"), ("near", "evaluate, near"), ("far", "evaluate, anywhere"), ("get", "read")):
+        each = [one[name] / 1e9 for one in times]
+        row(work, *map(milliseconds, each), *(f"{cells / time / 1e6:.0f}" for time in each), f"{each[1] / each[0]:.2f}")
+    sizes = [Run(words).size for words in runs]
+    row("greatest resident size", *(f"{size / 1e6:.0f} MB" for size in sizes), "", "", f"{sizes[1] / sizes[0]:.2f}")
+
+
+# ---- both programs on broken files
+
+class Pair:
+    """Both programs, and how often they were compared."""
+
+    def __init__(self, programs):
+        self.aig, self.tuned = programs.get("aig"), programs.get("tuned")
+        self.compared = self.accepted = self.different = 0
+
+    @staticmethod
+    def answer(program, words):
+        """A run's status, and what it writes and says."""
+        ran = subprocess.run([program, *words], stdin=subprocess.DEVNULL, capture_output=True, check=False)
+        return ran.returncode, ran.stdout, ran.stderr
+
+    def compare(self, note, words, other_words=None):
+        one, other = self.answer(self.aig, words), self.answer(self.tuned, other_words or words)
+        self.compared += 1
+        self.accepted += one[0] == 0
+        if one != other:
+            self.different += 1
+            shown = [f"{status} {out[:60]!r} {err!r}" for status, out, err in (one, other)]
+            print(f"DIFFERENT: {note}: {' '.join(words)}: aig {shown[0]}, C++ {shown[1]}")
+        return one
+
+    def conversions(self, note, circuit):
+        for to in ("aag", "aig"):
+            ended = self.compare(note, ["toaig", "--to", to, circuit], ["to" + to, circuit])
+        return ended
+
+    def case(self, sources, designs, rng, note):
+        """A circuit, a stimulus and a script, most of them broken. The C++ program unrolls nothing."""
+        whole = rng.choice((rng.choice(sources), broken.circuit(rng), broken.circuit(rng)))
+        other = rng.choice((rng.choice(sources), broken.circuit(rng), rng.choice(designs)))
+        data = broken.changed(rng, whole, other)
+        write("circuit", data)
+        status, binary, _ = self.conversions(note, "circuit")
+        if status == 0:
+            write("binary", binary)
+            self.conversions(note, "binary")
+            write("broken", broken.changed(rng, binary, other))
+            self.conversions(note, "broken")
+        most, inputs, _ = broken.counts_of(data)
+        width = min(inputs, 300)
+        good = broken.stimulus(rng, width)
+        script = broken.changed(rng, broken.script(rng, min(most, 60), width), good)
+        write("script", b"".join(line for line in script.splitlines(keepends=True) if line != b"u\n"))
+        for rows in (good, broken.changed(rng, good, other)):
+            write("rows", rows)
+            self.compare(note, ["sim", "circuit", "rows"])
+            self.compare(note, ["bench", "circuit", "rows", "script"])
+
+
+def compare(programs, chosen):
+    sources, designs = contents_of(EXAMPLES, (".aag", ".aig")), contents_of(DESIGNS, (".v",))
+    pair = Pair(programs)
+    for circuit in chosen.circuits:
+        pair.conversions(circuit, circuit)
+    for number in range(chosen.count):
+        pair.case(sources, designs, random.Random(f"{chosen.seed} {number}"), f"seed {chosen.seed}, case {number}")
+    print(f"{pair.compared} runs compared, {pair.accepted} accepted, {pair.different} different")
+    if pair.different:
+        sys.exit(1)
+
+
+# ---- command line
+
+TABLES = {made.__name__: made for made in (ratios, edits, benches, growth, rewires, grids, compare)}
+
+
+def machine(programs, chosen):
+    with open("/proc/cpuinfo", encoding="utf-8") as file:
+        model = next(line.split(":")[1].strip() for line in file if line.startswith("model name"))
+    with open("/proc/loadavg", encoding="ascii") as file:
+        busy = file.read().split()[0]
+    said = subprocess.run(["c++", "--version"], stdout=subprocess.PIPE, check=True, text=True).stdout
+    compiler = said.splitlines()[0]
+    print(f"{model}, {os.cpu_count()} cores, load {busy} at the start. The least of {chosen.times} runs.")
+    print(f"Program measured: {programs.kind()}. C++ by {compiler}.", flush=True)
+
+
+def main():
+    parser = argparse.ArgumentParser(description=__doc__, formatter_class=argparse.RawDescriptionHelpFormatter)
+    parser.add_argument("tables", nargs="+", choices=list(TABLES), metavar="TABLE")
+    parser.add_argument("--aig", help="the program that is measured")
+    parser.add_argument("--room", help="the folder of what is built and made")
+    parser.add_argument("--times", type=int, default=5)
+    parser.add_argument("--jobs", default="", help="of ratios and edits, the jobs whose names hold this")
+    parser.add_argument("--shapes", default="", help="of ratios and edits, the shapes whose names hold this")
+    parser.add_argument("--list", action="store_true", help="names the jobs of ratios alone")
+    parser.add_argument("--count", type=int, default=300, help="of compare, how many cases")
+    parser.add_argument("--seed", type=int, default=1, help="of compare")
+    parser.add_argument("--circuits", type=os.path.abspath, nargs="+", default=[], help="of compare, files to convert too")
+    chosen = parser.parse_args()
+    programs = Programs(chosen.aig and os.path.abspath(chosen.aig))
+    room = os.path.abspath(chosen.room or tempfile.mkdtemp())
+    os.makedirs(room, exist_ok=True)
+    os.chdir(room)
+    try:
+        if not chosen.list:
+            machine(programs, chosen)
+        for name in chosen.tables:
+            TABLES[name](programs, chosen)
+    finally:
+        if not chosen.room:
+            shutil.rmtree(room)
+
+
+if __name__ == "__main__":
+    main()

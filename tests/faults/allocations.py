@@ -1,0 +1,118 @@
+"""Allocations that are refused, one in each run: it writes a beginning of what the whole run writes, says that memory
+is wanting, and ends with status 3; or it does without, and ends as the whole run does. A script may also answer `no
+11` to a line that takes memory, and go on. Then scripts with no memory at all behind their beginning: edits take none,
+but for a fifth gate that reads a variable and for a gate that is appended."""
+
+import re
+
+from faults.refusing import Refusing
+from library.circuits import TEXTS, write_all
+from library.runs import EXAMPLES, Ended, LeftOut, write
+
+MEMORY = re.compile(rb"aig: ((circuit|stimulus|witness|unroll|bench|script): )?memory\n")
+TWO_GATES = [f"{EXAMPLES}/two_gates.{ending}" for ending in ("aag", "stim", "script")]
+
+# Runs of which each allocation is refused in turn.
+RUNS = (
+    ("bench", ["bench", *TWO_GATES]),
+    ("sim", ["sim", f"{EXAMPLES}/counter.aag", f"{EXAMPLES}/counter.stim"]),
+    ("toaig to text", ["toaig", "--to", "aag", f"{EXAMPLES}/two_gates.aig"]),
+    ("toaig that renumbers", ["toaig", "--to", "aig", f"{EXAMPLES}/two_gates.aag"]),
+    ("toaig of all sections", ["toaig", "--to", "aig", "sections"]),
+    ("unroll to text", ["unroll", "--frames", "3", "--to", "aag", "guarded_latch"]),
+    ("unroll to binary", ["unroll", "--frames", "3", "--to", "aig", "guarded_latch"]),
+    ("check", ["check", f"{EXAMPLES}/wraps.aag", f"{EXAMPLES}/wraps.wit"]),
+)
+
+# Four gates read an input without memory, so that the fifth takes some: where that is refused, the edits behind it see
+# the gate as it was, with the levels and the fan-outs of the circuit as it was.
+FAN_OUT = "aag 8 2 0 1 6\n2\n4\n16\n6 4 4\n8 4 4\n10 4 4\n12 4 4\n14 4 4\n16 14 6\n"
+FIFTH_READER = "".join(f"w {gate} 2 2\n" for gate in (6, 8, 10, 12, 14))
+FIFTH_READER += "s 0 0 x\nt\nw 12 4 5\nw 14 2 2\ns 0 0 1\nt\nw 6 14 14\nw 14 6 6\nv 0 16\n"
+TAKEN = "ok\n" * 6 + " x0 x \n.\n"
+NOT_TAKEN = "ok\n" * 4 + "no 11\nok\n x0 0 \n.\n"
+BEHIND = "ok\n" * 3 + " 10 1 \n.\nok\nno 5\n1\n"
+UNROLLED = "aag 8 2 0 1 6\n2\n4\n16\n6 2 2\n8 2 2\n10 5 4\n12 2 2\n14 12 12\n16 14 12\n.\n"
+
+# Gates that are appended. Whether the second one takes memory too is not said.
+APPENDED = "g 9 2\nv 0 10\no 0 10\ng 4 10\nv 0 12\nt\nu\nv 0 8\n"
+BOTH = "ok\n0\nok\nok\n0\n 11 0 \n.\n"
+
+# Scripts: what they do, circuit, stimulus, lines, the replies one of which each run writes, and those that no run has
+# to.
+SCRIPTS = (
+    ("bench that adds a frame and unrolls", TEXTS["two_gates"], "11\n", "w 8 2 4\nv 0 8\n+ 10\nv 1 6\nu\nv 0 8\n",
+     ("ok\n1\nok\n0\naag 8 4 0 2 4\n2\n4\n6\n8\n12\n16\n10 4 2\n12 4 2\n14 8 6\n16 8 6\n.\n1\n",
+      "ok\n1\nno 11\nno 6\naag 4 2 0 1 2\n2\n4\n8\n6 4 2\n8 4 2\n.\n1\n",
+      "ok\n1\nok\n0\nno 11\n1\n"), ()),
+    ("bench that rewires a fifth gate to a variable", FAN_OUT, "10\n", FIFTH_READER + "u\n",
+     (TAKEN + BEHIND + UNROLLED, NOT_TAKEN + BEHIND + UNROLLED, TAKEN + BEHIND + "no 11\n"), ()),
+    ("bench that appends gates", TEXTS["two_gates"], "11\n", APPENDED,
+     (BOTH + "aag 6 2 0 1 4\n2\n4\n10\n6 4 2\n8 6 2\n10 9 2\n12 10 4\n.\n1\n",
+      "no 11\nno 3\nno 3\nno 3\nno 3\n 11 1 \n.\naag 4 2 0 1 2\n2\n4\n8\n6 4 2\n8 6 2\n.\n1\n",
+      BOTH + "no 11\n1\n"),
+     ("ok\n0\nok\nno 11\nno 3\n 11 0 \n.\naag 5 2 0 1 3\n2\n4\n10\n6 4 2\n8 6 2\n10 9 2\n.\n1\n", )),
+)
+
+# Scripts without memory: what they do, circuit, stimulus, lines and replies.
+WITHOUT_MEMORY = (
+    ("a fifth gate that reads a variable", FAN_OUT, "10\n", FIFTH_READER, NOT_TAKEN + BEHIND),
+    ("edits", TEXTS["two_gates"], "11\n",
+     "w 6 8 2\nv 0 6\nw 8 2 4\nw 6 8 2\nv 0 6\nr 8 1\ns 0 1 x\nt\n+ 11\nu\n-\n-\nv 0 6\n",
+     "no 5\n1\nok\nok\n1\nno 2\nok\n 1x x \n.\nno 11\nno 11\nok\nno 9\nno 6\n"),
+    ("a gate that is not appended, and an output that is set", TEXTS["two_gates"], "11\n",
+     "g 9 2\nv 0 10\no 0 7\no 1 6\nt\nw 6 2 2\nv 0 6\n", "no 11\nno 3\nok\nno 13\n 11 0 \n.\nok\n1\n"),
+)
+
+
+def allocations(program, tally, _):
+    beneath = Refusing(program, "refuse_allocation")
+    write_all()
+    if beneath.counted(REFUSE=0)[1] == 0:
+        raise LeftOut("no library can stand before malloc here")
+    for name, words in RUNS:
+        each(beneath, tally, name, words)
+    for name, circuit, stimulus, script, wanted, others in SCRIPTS:
+        each_of(beneath, tally, name, wanted, others, files(circuit, stimulus, script))
+    for name, circuit, stimulus, script, replies in WITHOUT_MEMORY:
+        # A run without a script tells how many allocations come before its first line; all behind them are refused.
+        before = beneath.counted(*files(circuit, stimulus, ""), REFUSE=0)[1]
+        ended = beneath.run(*files(circuit, stimulus, script), REFUSE=before + 1, AFTER=1)
+        tally.compare(f"allocations: {name}, without memory", ended, Ended(0, replies.encode(), b""))
+
+
+def files(circuit, stimulus, script):
+    """The words of a run on these files."""
+    for name, text in (("circuit", circuit), ("rows", stimulus), ("script", script)):
+        write(name, text)
+    return ["bench", "circuit", "rows", "script"]
+
+
+def refusals(beneath, words):
+    """The whole run, and the runs with one allocation refused, each with its number."""
+    whole, calls = beneath.counted(*words, REFUSE=0)
+    numbers = range(1, calls + 1)
+    return whole, [(f"allocation {number} of {calls}", beneath.run(*words, REFUSE=number)) for number in numbers]
+
+
+def tells_memory(ended):
+    return ended.status == 3 and MEMORY.fullmatch(ended.err) is not None
+
+
+def each(beneath, tally, name, words):
+    whole, ends = refusals(beneath, words)
+    for which, ended in ends:
+        is_told = tells_memory(ended) and whole.out.startswith(ended.out)
+        tally.check(f"allocations: {name}, {which}", is_told or ended == whole._replace(status=0, err=b""), ended)
+
+
+def each_of(beneath, tally, name, wanted, others, words):
+    """The same of a script, whose runs with status 0 write one of the wanted replies or of the others. Of the wanted
+    ones each is to be written by some run."""
+    seen = set()
+    for which, ended in refusals(beneath, words)[1]:
+        is_taken = ended.status == 0 and ended.err == b"" and ended.out.decode() in (*wanted, *others)
+        seen.add(ended.out.decode() if is_taken else None)
+        tally.check(f"allocations: {name}, {which}", is_taken or (tells_memory(ended) and ended.out == b""), ended)
+    for replies in wanted:
+        tally.check(f"allocations: {name}", replies in seen, f"no run wrote {replies!r}")

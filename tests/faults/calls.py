@@ -1,0 +1,82 @@
+"""Reads and writes that fail, one in each run, where each call moves one byte: so a run fails at each place of its
+files and of its results. A write may also take no byte. Each such run ends with status 3 and tells the part whose call
+failed. Behind a failing write exactly the bytes before it were written; before a failing read of a script or a
+stimulus all lines that were read are answered."""
+
+from faults.refusing import Refusing
+from library.circuits import TEXTS, write_all
+from library.runs import Ended, LeftOut, input_or_output, write
+
+ONE_GATE, TWO_GATES = TEXTS["one_gate"].encode(), TEXTS["two_gates"].encode()
+BAD_INPUT, CYCLE = TEXTS["bad_input"].encode(), TEXTS["cycle"].encode()
+UNROLLED = b"aag 8 4 0 2 4\n2\n4\n6\n8\n12\n16\n10 4 2\n12 10 2\n14 8 6\n16 14 6\n"
+
+# A run: its words, its files in the order in which they are read, each with the part that a failing read of it is told
+# as, the part of a failing write, the status and the fault of the run where no call fails, and its results in pieces:
+# one for each line of the last file where that is streamed, else one.
+RUNS = (
+    ("bench", [("circuit", TWO_GATES), ("stimulus", b"11\n01\n"), ("script", b"v 0 8\ns 0 1 0\nv 0 8\n")],
+     "script", 0, b"", [b"1\n", b"ok\n", b"0\n"]),
+    ("bench", [("circuit", TWO_GATES), ("stimulus", b"11\n"), ("script", b"w 6 8 2\n+ 1z\nt\n+ 11\nu\nv 0")],
+     "script", 0, b"", [b"no 5\n", b"bad\n", b" 11 1 \n.\n", b"ok\n", UNROLLED + b".\n", b"bad\n"]),
+    ("sim", [("circuit", ONE_GATE), ("stimulus", b"11\nx0\n1x\n")], "stimulus",
+     0, b"", [b" 11 1 \n", b" x0 0 \n", b" 1x x \n"]),
+    ("sim", [("circuit", ONE_GATE), ("stimulus", b"11\n1z\n")], "stimulus",
+     1, b"aig: stimulus: character in line 2\n", [b" 11 1 \n"]),
+    ("sim", [("circuit", ONE_GATE), ("stimulus", b"11\n1")], "stimulus",
+     1, b"aig: stimulus: unfinished\n", [b" 11 1 \n"]),
+    ("toaig --to aag", [("circuit", TWO_GATES)], "output", 0, b"", [TWO_GATES]),
+    ("toaig --to aig", [("circuit", ONE_GATE)], "output", 0, b"", [b"aig 3 2 0 1 1\n6\n\x02\x02"]),
+    ("toaig --to aag", [("circuit", b"aig 3 2 0 1 1\n6\n\x02\x02")], "output",
+     0, b"", [b"aag 3 2 0 1 1\n2\n4\n6\n6 4 2\n"]),
+    ("toaig --to aag", [("circuit", CYCLE)], "output", 1, b"aig: circuit: cycle 2\n", [b""]),
+    ("unroll --frames 2 --to aag", [("circuit", TWO_GATES)], "output", 0, b"", [UNROLLED]),
+    ("unroll --frames 2 --to aig", [("circuit", TWO_GATES)], "output",
+     0, b"", [b"aig 8 4 0 2 4\n12\n16\n\x06\x02\x02\x08\x06\x02\x02\x08"]),
+    ("check", [("circuit", BAD_INPUT), ("witness", b"1\nb0\n\n1\n.\n")], "output", 0, b"", [b"confirmed\n"]),
+    ("check", [("circuit", BAD_INPUT), ("witness", b"1\nb0\n\nx\n.\n")], "output", 1, b"", [b"not bad\n"]),
+)
+
+
+def calls(program, tally, _):
+    beneath = Refusing(program, "refuse_call")
+    write_all()
+    if beneath.counted("toaig", "--to", "aag", "one_gate", CALL="read")[1] == 0:
+        raise LeftOut("no library can stand before read here")
+    for run in RUNS:
+        each(beneath, tally, *run)
+
+
+def answered(files, pieces, number):
+    """Before the read of this number fails: the part of its file, and the results so far."""
+    for part, content in files[:-1]:
+        if number <= len(content) + 1:
+            return part, b""
+        number -= len(content) + 1
+    part, content = files[-1]
+    is_streamed = part in ("script", "stimulus") and len(files) > 1
+    lines = content[:number - 1].count(b"\n") if is_streamed else 0
+    return part, b"".join(pieces[:lines])
+
+
+def each(beneath, tally, command, files, write_part, status, fault, pieces):
+    """The run with short reads and writes; then with each of its reads failing, and with each of its writes."""
+    words = command.split(" ") + [part for part, _ in files]
+    for part, content in files:
+        write(part, content)
+    results = b"".join(pieces)
+    whole = Ended(status, results, fault)
+    got = beneath.counted(*words, STEP=1, CALL="write")
+    tally.compare(f"calls: {command}, a byte written at a time", got, (whole, len(results)))
+    got, reads = beneath.counted(*words, STEP=1, CALL="read")
+    tally.compare(f"calls: {command}, a byte read at a time", got, whole)
+    for number in range(1, reads + 1):
+        wanted = input_or_output(*answered(files, pieces, number))
+        got = beneath.run(*words, STEP=1, CALL="read", REFUSE=number)
+        tally.compare(f"calls: {command}, read {number} of {reads} fails", got, wanted)
+    for number in range(1, len(results) + 1):
+        wanted = input_or_output(write_part, results[:number - 1])
+        got = beneath.run(*words, STEP=1, CALL="write", REFUSE=number)
+        tally.compare(f"calls: {command}, write {number} fails", got, wanted)
+        got = beneath.run(*words, STEP=1, CALL="write", REFUSE=number, NONE=1)
+        tally.compare(f"calls: {command}, write {number} takes none", got, wanted)

@@ -1,0 +1,82 @@
+"""Runs that cannot write their results: on a full device, on a closed output, and where the first write fails and all
+later ones would be taken. Each says so, ends with status 3, and writes nothing behind the failure; where a run is
+refused before it writes, its own fault is told."""
+
+import os
+
+from faults.refusing import Refusing
+from library.circuits import write_all
+from library.runs import Ended, LeftOut, input_or_output, refused, write
+
+ROWS = "11\n" * 3000
+OUTPUT, STIMULUS, SCRIPT = (input_or_output(part) for part in ("output", "stimulus", "script"))
+CYCLE = refused("circuit: cycle 2")
+
+# What is run, its words, the files that they name beside the small circuits, and how the run ends.
+RUNS = (
+    ("toaig", "toaig --to aag one_gate", {}, OUTPUT),
+    ("toaig to binary", "toaig --to aig one_gate", {}, OUTPUT),
+    ("toaig of a refused circuit", "toaig --to aag cycle", {}, CYCLE),
+    ("unroll", "unroll --frames 2 --to aag one_gate", {}, OUTPUT),
+    ("unroll to binary", "unroll --frames 2 --to aig one_gate", {}, OUTPUT),
+    ("unroll of more than a block", "unroll --frames 2000 --to aag one_gate", {}, OUTPUT),
+    ("unroll of a refused circuit", "unroll --frames 2 --to aag cycle", {}, CYCLE),
+    ("unroll of a circuit that is not unrolled", "unroll --frames 2 --to aag live", {}, refused("unroll: liveness")),
+    ("sim", "sim one_gate rows", {"rows": "11\n"}, STIMULUS),
+    ("sim of a refused circuit", "sim cycle rows", {"rows": "11\n"}, CYCLE),
+    ("sim with a short line", "sim one_gate rows", {"rows": "11\n1\n"}, STIMULUS),
+    ("sim with a wrong character", "sim one_gate rows", {"rows": "11\n1z\n"}, STIMULUS),
+    ("sim with an unfinished line", "sim one_gate rows", {"rows": "11\n1"}, STIMULUS),
+    ("sim with a first line that is short", "sim one_gate rows", {"rows": "1\n"},
+     refused("stimulus: length of line 1")),
+    ("sim of more than a block", "sim one_gate rows", {"rows": ROWS}, STIMULUS),
+    ("sim of more than a block, with a short line", "sim one_gate rows", {"rows": ROWS + "1\n"}, STIMULUS),
+    ("bench", "bench one_gate rows script", {"rows": ROWS, "script": "v 0 6\n"}, SCRIPT),
+    ("bench of more than a block", "bench one_gate rows script", {"rows": ROWS, "script": "v 0 6\n" * 9000}, SCRIPT),
+    ("bench that unrolls", "bench one_gate rows script", {"rows": ROWS, "script": "u\n"}, SCRIPT),
+    ("bench with a last piece", "bench one_gate rows script", {"rows": ROWS, "script": "v 0 6"}, SCRIPT),
+    ("bench of a refused circuit", "bench cycle rows script", {"rows": ROWS, "script": "v 0 6"}, CYCLE),
+    ("bench of a refused stimulus", "bench one_gate rows script", {"rows": ROWS + "1\n", "script": "v 0 6"},
+     refused("stimulus: length of line 3001")),
+    ("check", "check bad_input witness", {"witness": "1\nb0\n\n1\n.\n"}, OUTPUT),
+    ("check of a refused circuit", "check cycle witness", {"witness": "1\nb0\n\n1\n.\n"}, CYCLE),
+    ("check with another verdict", "check bad_input witness", {"witness": "1\nb0\n\n0\n.\n"}, OUTPUT),
+    ("check of a refused witness", "check bad_input witness", {"witness": "1\nb1\n\n0\n.\n"},
+     refused("witness: property")),
+)
+
+
+def writes(program, tally, _):
+    write_all()
+    beneath = first_write_fails(program)
+    for name, words, files, wanted in RUNS:
+        for file, text in files.items():
+            write(file, text)
+        words = words.split(" ")
+        tally.compare(f"writes: {name}, a full device", full(program, words), wanted)
+        closed = program.run(*words, stdout=None, preexec_fn=lambda: os.close(1))
+        tally.compare(f"writes: {name}, a closed output", closed._replace(out=b""), wanted)
+        if beneath:
+            ended = beneath.run(*words, CALL="write", REFUSE=1)
+            tally.compare(f"writes: {name}, a first write that fails", ended, wanted)
+    write("rows", ROWS)
+    write("script", "")
+    ended = full(program, ["bench", "one_gate", "rows", "script"])
+    tally.compare("writes: bench of an empty script, a full device", ended, Ended(0, b"", b""))
+
+
+def full(program, words):
+    with open("/dev/full", "wb") as device:
+        return program.run(*words, stdout=device)._replace(out=b"")
+
+
+def first_write_fails(program):
+    """The program whose first write fails, or None where that cannot be had."""
+    try:
+        beneath = Refusing(program, "refuse_call")
+        if beneath.run("toaig", "--to", "aag", "one_gate", CALL="write", REFUSE=1).status == 0:
+            raise LeftOut("no library can stand before write here")
+    except LeftOut as reason:
+        print(f"writes: {reason}: runs whose first write fails are left out")
+        return None
+    return beneath

@@ -1,0 +1,113 @@
+"""Rows of `aig toaig`: conversions with known bytes, refused files, and the beginnings of files."""
+
+from library.circuits import write_all
+from library.runs import EXAMPLES
+from program.rows import Rows, data
+
+# What is converted, as text and as a binary file.
+CONVERSIONS = (
+    ("the empty circuit", "aag 0 0 0 0 0\n", "aig 0 0 0 0 0\n"),
+    ("one gate, with its right sides swapped", "aag 3 2 0 1 1\n2\n4\n6\n6 2 4\n", "aig 3 2 0 1 1\n6\n\x02\x02"),
+    ("a gate used before its line", "aag 4 2 0 1 2\n2\n4\n8\n8 6 2\n6 2 4\n", "aig 4 2 0 1 2\n8\n\x02\x02\x02\x04"),
+    ("unused variables", "aag 7 1 0 1 2\n14\n5\n4 10 14\n10 14 15\n", "aig 3 1 0 1 2\n7\n\x01\x01\x02\x02"),
+    ("a ready circuit, not renumbered", "aag 4 1 0 1 3\n2\n8\n4 2 2\n6 4 2\n8 2 2\n",
+     "aig 4 1 0 1 3\n8\n\x02\x00\x02\x02\x06\x00"),
+    ("levels before variables", "aag 5 2 0 1 3\n2\n4\n10\n10 6 8\n8 2 4\n6 4 3\n",
+     "aig 5 2 0 1 3\n10\n\x02\x01\x04\x02\x02\x02"),
+    ("a symbol of a constraint, and a comment", "aag 1 1 0 0 0 0 1\n2\n2\nc0 go\nc\nhi",
+     "aig 1 1 0 0 0 0 1\n2\nc0 go\nc\nhi"),
+    ("justice and fairness", "aag 1 1 0 0 0 0 0 1 1\n2\n2\n2\n3\n2\n", "aig 1 1 0 0 0 0 0 1 1\n2\n2\n3\n2\n"),
+    ("an empty comment", "aag 1 1 0 0 0\n2\nc\n", "aig 1 1 0 0 0\nc\n"),
+    ("all sections and symbols",
+     "aag 3 1 1 1 1 1 1 1 1\n2\n4 6 4\n6\n6\n4\n1\n6\n4\n6 4 2\n"
+     "f0 fair\nj0 just\nc0 con\nb0 bad state\no0 out\nl0 state\ni0 in\nc\nhi\n",
+     "aig 3 1 1 1 1 1 1 1 1\n6 4\n6\n6\n4\n1\n6\n4\n\x02\x02"
+     "f0 fair\nj0 just\nc0 con\nb0 bad state\no0 out\nl0 state\ni0 in\nc\nhi\n"),
+    ("resets", "aag 9 1 2 1 1\n18\n4 6 4\n8 19 1\n5\n6 4 18\n", "aig 4 1 2 1 1\n8 4\n3 1\n5\n\x04\x02"),
+)
+
+# Binary files that are written back as they stand, by their deltas.
+DELTAS = (
+    ("127 and 1", b"aig 64 63 0 0 1\n\x7f\x01"),
+    ("128 and 0", b"aig 64 63 0 0 1\n\x80\x01\x00"),
+    ("300 and 0", b"aig 150 149 0 0 1\n\xac\x02\x00"),
+    ("16,383 and 1", b"aig 8192 8191 0 0 1\n\xff\x7f\x01"),
+    ("16,384 and 0", b"aig 8192 8191 0 0 1\n\x80\x80\x01\x00"),
+    ("2,097,151 and 1", b"aig 1048576 1048575 0 0 1\n\xff\xff\x7f\x01"),
+    ("2,097,152 and 0", b"aig 1048576 1048575 0 0 1\n\x80\x80\x80\x01\x00"),
+    ("8,388,606 and 0, the greatest", b"aig 4194303 4194302 0 0 1\n\xfe\xff\xff\x03\x00"),
+)
+
+REFUSALS = (
+    ("the empty file", "", "text at 0"),
+    ("more inputs than variables", "aag 1 2 0 0 0\n", "counts"),
+    ("a binary file with a gap", "aig 2 1 0 0 0\n", "counts"),
+    ("a count over the limit", "aag 4194304 0 0 0 0\n", "limit"),
+    ("a tenth count", "aag 0 0 0 0 0 0 0 0 0 0\n", "text at 21"),
+    ("a leading zero", "aag 01 0 0 0 0\n", "text at 4"),
+    ("a literal over the limit", "aag 1 1 0 1 0\n2\n8388608\n", "limit"),
+    ("a literal out of range", "aag 1 1 0 1 0\n2\n8388607\n", "range"),
+    ("an output out of range", "aig 1 1 0 1 0\n4\n", "range"),
+    ("an odd left side", "aag 2 1 0 0 1\n2\n5 2 2\n", "definition"),
+    ("a variable defined twice", "aag 2 1 1 0 0\n2\n2 1\n", "redefined 1"),
+    ("an undefined variable", "aag 2 1 0 1 0\n2\n4\n", "undefined 2"),
+    ("a wrong reset", "aag 2 1 1 0 0\n2\n4 1 3\n", "reset 2"),
+    ("a cycle", "aag 3 1 0 1 2\n2\n4\n4 6 2\n6 4 2\n", "cycle 2"),
+    ("a gate that reads itself", "aag 2 1 0 1 1\n2\n4\n4 4 2\n", "cycle 2"),
+    ("an end between two deltas", "aig 3 2 0 1 1\n6\n\x02", "text at 17"),
+    ("a long delta", b"aig 3 2 0 1 1\n6\n\x82\x00\x02", "text at 16"),
+    ("a first delta of 0", "aig 3 2 0 1 1\n6\n\x00\x02", "text at 16"),
+    ("a second delta that is too great", "aig 3 2 0 1 1\n6\n\x02\x05", "text at 17"),
+    ("a symbol out of range", "aag 1 1 0 0 0\n2\ni1 a\n", "text at 17"),
+    ("a symbol named twice", "aag 1 1 0 0 0\n2\ni0 a\ni0 b\n", "text at 22"),
+    ("a comment letter at the end", "aag 1 1 0 0 0\n2\nc", "text at 17"),
+    ("counts, whatever follows", "aag 1 2 0 0 0\nx", "counts"),
+    ("inputs that do not follow", "aag 4194303 4194303 0 0 0\n", "text at 26"),
+    ("a count of 400 digits", "aag " + "9" * 400, "limit"),
+    ("a position of 400 digits", "aag 0 0 0 0 0\ni" + "9" * 400, "limit"),
+    ("a delta of ten groups", b"aig 3 2 0 1 1\n6\n\x80\x80\x80\x80\x80\x80\x80\x80\x80\x00\x02", "text at 16"),
+    ("a delta of five groups", b"aig 3 2 0 1 1\n6\n\xff\xff\xff\xff\x0f\x00", "text at 16"),
+    ("an end inside a delta", b"aig 3 2 0 1 1\n6\n\x02\x82", "text at 17"),
+    ("an empty name", "aag 1 1 0 0 0\n2\ni0 \n", "text at 19"),
+    ("a name that the end cuts", "aag 1 1 0 0 0\n2\ni0 ab", "text at 21"),
+    ("a comment on the line of its letter", "aag 1 1 0 0 0\n2\nc hi\n", "text at 17"),
+    ("a position over the limit", "aag 1 1 0 0 0\n2\ni8388608 a\n", "limit"),
+    ("justice sizes over the limit together", "aag 0 0 0 0 0 0 0 2\n4194303\n1\n", "limit"),
+    ("CR before LF", "aag 0 0 0 0 0\r\n", "text at 13"),
+    ("two spaces", "aag  0 0 0 0 0\n", "text at 4"),
+)
+
+# Files of which these beginnings alone are circuits; each other one is refused where it ends.
+BEGINNINGS = (
+    ("a text", "aag", "aag 1 1 0 0 0 0 1\n2\n2\nc0 go\nc\nhi", (22, 28, 30, 31)),
+    ("a binary file", "aig", "aig 3 2 0 1 1\n6\n\x02\x02", ()),
+)
+
+
+def toaig(program, tally, _):
+    rows = Rows("toaig", program, tally)
+    write_all()
+    for name, text, binary in CONVERSIONS:
+        rows.gives(f"{name}, as text", "toaig --to aag source", text, source=text)
+        rows.gives(f"{name}, as binary", "toaig --to aig source", binary, source=text)
+        rows.gives(f"{name}, binary as it stands", "toaig --to aig source", binary, source=binary)
+    rows.gives("zeros that may be left out", "toaig --to aag source", "aag 1 0 1 0 0\n2 2\n",
+               source="aag 1 0 1 0 0 0 0\n2 2 0\n")
+    for name, binary in DELTAS:
+        rows.gives(f"deltas {name}", "toaig --to aig source", binary, source=binary)
+    for name, text, fault in REFUSALS:
+        rows.refuses(name, "toaig --to aag source", f"circuit: {fault}", source=text)
+    for name, to, text, lengths in BEGINNINGS:
+        for length in range(1, len(text)):
+            case, words = f"the first {length} bytes of {name}", f"toaig --to {to} source"
+            beginning = data(text[:length])
+            if length in lengths:
+                rows.gives(case, words, beginning, source=beginning)
+            else:
+                rows.refuses(case, words, f"circuit: text at {length}", source=beginning)
+    rows.fails("no file", "toaig --to aig nowhere", "circuit")
+    for design in ("two_gates", "counter", "fifo"):
+        text, binary = (f"{EXAMPLES}/{design}.{ending}" for ending in ("aag", "aig"))
+        rows.copies(f"{design}, to binary", ["toaig", "--to", "aig", text], binary)
+    text, binary = (f"{EXAMPLES}/counter.{ending}" for ending in ("aag", "aig"))
+    rows.copies("a ready design, to binary and back", ["toaig", "--to", "aag", binary], text)

@@ -1,0 +1,57 @@
+"""Rows of the command line: help texts, the version, and words that are refused."""
+
+import subprocess
+
+from library.circuits import write_all
+from library.runs import EXPECTED, Ended, contents
+from program.rows import Rows
+
+# Words that the command line refuses, with a text of its own on standard error alone.
+REFUSALS = (
+    ("none", []),
+    ("the version of a subcommand", ["sim", "--version"]),
+    ("an unknown subcommand", ["fold"]),
+    ("a missing file name", ["bench", "two_gates"]),
+    ("one file name too many", ["bench", "a", "b", "c", "d"]),
+    ("check without a witness", ["check", "two_gates"]),
+    ("a word that is not UTF-8", ["toaig", "--to", "aag", b"\xff"]),
+    ("no format", ["toaig", "two_gates"]),
+    ("an unknown format", ["toaig", "--to", "dot", "two_gates"]),
+    ("no number of frames", ["unroll", "--to", "aag", "two_gates"]),
+    ("a number of frames over its limit", ["unroll", "--frames", "4294967296", "--to", "aag", "two_gates"]),
+    ("no format to unroll to", ["unroll", "--frames", "2", "two_gates"]),
+)
+
+
+def words(program, tally, _):
+    rows = Rows("words", program, tally)
+    write_all()
+    for word in ("--help", "-h", "help"):
+        tells(rows, [word], contents(f"{EXPECTED}/help/aig.txt"))
+    for command in ("toaig", "sim", "bench", "unroll", "check"):
+        for asked in ([command, "--help"], [command, "-h"], ["help", command]):
+            tells(rows, asked, contents(f"{EXPECTED}/help/{command}.txt"))
+    tells(rows, ["help", "help"], contents(f"{EXPECTED}/help/help.txt"))
+    for word in ("--version", "-V"):
+        tells(rows, [word], version(program))
+    for name, refused in REFUSALS:
+        ended = program.run(*refused)
+        is_refused = (ended.status, ended.out) == (2, b"") and ended.err != b""
+        tally.check(f"words: {name}", is_refused, ended)
+
+
+def tells(rows, asked, text):
+    """These words ask for a text, which goes to standard error alone. It names the program, so that is called `aig`."""
+    done = subprocess.run(["aig", *asked], executable=rows.program.path, stdin=subprocess.DEVNULL, capture_output=True,
+                          check=False)
+    ended = Ended(done.returncode, done.stdout, done.stderr)
+    rows.tally.compare(f"words: {' '.join(asked)}", ended, Ended(2, b"", text))
+
+
+def version(program):
+    """What the version has to be: it names the toolchain that is here. The program that the gate built says that it is
+    proved; one that was named may say that it is not (tests/build_unproved.sh)."""
+    toolchain = subprocess.run(["rt", "version"], capture_output=True, text=True, check=True).stdout.strip()
+    is_unproved = program.is_named and b"not proved" in program.run("--version").err
+    proved = "built by rt try, not proved" if is_unproved else "proved where rt ci built it"
+    return f"aig 0.1.0 ({toolchain}, {proved})\n".encode()

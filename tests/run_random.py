@@ -1,0 +1,13 @@
+#!/usr/bin/env python3
+"""Runs the built program on files made at random: broken ones through every subcommand, and scripts, whose replies
+have to be those of a plain workbench. The gate runs a few hundred cases of each; --count and --seed choose others."""
+
+from at_random import cases
+from at_random.hostile import hostile
+from at_random.scripts import scripts
+from library import runs
+
+PARTS = {"hostile": hostile, "scripts": scripts}
+
+if __name__ == "__main__":
+    runs.main(__doc__, PARTS, options=cases.options)
