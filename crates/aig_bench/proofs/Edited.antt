@@ -16,7 +16,7 @@ use Rattle.aig_base.specs.Readers.{AreReaders}
 use Rattle.aig_base.specs.Sections.{definitions, IsDefined, IsGate, IsLeftSide}
 use Rattle.aig_base.specs.Sound.{IsSound}
 use Rattle.aig_base.specs.Value.{start_of, reset_value}
-use Rattle.aig_base.proofs.Circuits.{gate_is, gate_defined, rhs0_defined, rhs1_defined, input_defined, latch_defined}
+use Rattle.aig_base.proofs.Circuits.{gate_defined, rhs0_defined, rhs1_defined, input_defined, latch_defined}
 use Rattle.aig_base.proofs.Counting.{gates_once}
 use Rattle.aig_base.proofs.Gates.{gate_of}
 use Rattle.aig_base.proofs.Places as places

@@ -1,5 +1,5 @@
 -- Orders of a circuit's gates, by lists of their positions.
-use Rattle.std.proofs.Common.{◌≡◌, ◌≢◌, ◌⊎◌, inl, inr, ℕ, zero, suc, ◌+◌, ◌-◌, ◌<◌, ◌≤◌, List, [], ◌∷◌, ◌++◌, All, Contains, length, map, Some, slice_get, refl, sym, ap, ◌∙◌, subst, arith, length-append, option_map}
+use Rattle.std.proofs.Common.{◌≡◌, inl, inr, ℕ, suc, ◌+◌, ◌<◌, List, [], ◌∷◌, ◌++◌, All, Contains, length, map, Some, slice_get, refl, sym, ap, ◌∙◌, subst, arith, length-append, option_map}
 use Rattle.std.proofs.lemmas.List.{get_or_append_left, length-map, map_push}
 use Rattle.std.proofs.lemmas.List.Elements.{All-push}
 use Rattle.std.proofs.lemmas.Option.{get_or_from_slice_get, slice_get-map, slice_get_within}
@@ -12,7 +12,7 @@ use Rattle.aig_base.specs.Grounded.{IsSource}
 use Rattle.aig_base.specs.Grounded as by
 use Rattle.aig_base.specs.Literal.{variable}
 use Rattle.aig_base.specs.Order.{IsCanonicalOrder}
-use Rattle.aig_base.specs.Sections.{IsDefined, IsGate}
+use Rattle.aig_base.specs.Sections.{IsDefined}
 use Rattle.aig_base.proofs.Appended.{new_at, new_variable, old_at}
 use Rattle.aig_base.proofs.Counting.{length-order}
 use Rattle.aig_base.proofs.Defined.{defined_cases}

@@ -1,4 +1,4 @@
-use Rattle.std.proofs.Common.{◌≡◌, ℕ, List, All, get_or, sym, subst}
+use Rattle.std.proofs.Common.{ℕ, List, All, get_or, sym, subst}
 use Rattle.std.proofs.lemmas.Option.{slice_get-get_or}
 use Rattle.aig_base.specs.Sections.{IsGate}
 use Rattle.aig_base.proofs.Positions.{Contains-from_slice_get}

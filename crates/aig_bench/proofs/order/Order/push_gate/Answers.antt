@@ -1,4 +1,4 @@
-use Rattle.std.proofs.Common.{◌≡◌, ◌++◌, ◌∷◌, [], ℕ, List, sym, subst}
+use Rattle.std.proofs.Common.{ℕ, List, sym, subst}
 use Rattle.aig_base.specs.Changes.{with_appended_gate}
 use Rattle.aig_bench.specs.declared.order.Way.{Way}
 use Rattle.aig_bench.specs.Order.{AreTaken, IsListing}
