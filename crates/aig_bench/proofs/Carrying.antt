@@ -1,5 +1,5 @@
 -- Latches are put one by one, and then a pass starts.
-use Rattle.std.proofs.Common.{◌≡◌, ◌≢◌, ◌⊎◌, ◌↔◌, inl, inr, ℕ, ◌+◌, ◌*◌, ◌<◌, ◌≤◌, Bool, List, [], ◌∷◌, length, Some, slice_get, slice_set, Contains, sym, ap, ◌∙◌, subst, arith}
+use Rattle.std.proofs.Common.{◌≡◌, ◌≢◌, ◌⊎◌, ◌↔◌, inl, inr, ℕ, ◌*◌, ◌<◌, ◌≤◌, Bool, List, [], ◌∷◌, length, Some, slice_get, slice_set, Contains, sym, ap, ◌∙◌, subst, arith}
 use Rattle.std.proofs.lemmas.Bool.{cases_eq}
 use Rattle.std.proofs.lemmas.Option.{same_Some}
 use Rattle.aig_base.specs.declared.ternary.Tern.{Tern}
@@ -21,7 +21,7 @@ use Rattle.aig_bench.specs.Buckets.{AreBuckets, Waits, Fits, Links}
 use Rattle.aig_bench.specs.Renewed.{Renewed}
 use Rattle.aig_bench.specs.Pair.{Pair, HasValue}
 use Rattle.aig_bench.specs.Current.{Holds, IsCurrentRow, IsCurrentBefore}
-use Rattle.aig_bench.specs.Entry.{Entering, Puts, Carries, Fills, Rests}
+use Rattle.aig_bench.specs.Entry.{Entering, Puts, Carries, Rests}
 use Rattle.aig_bench.specs.Sweep.{Starts, IsWork}
 use Rattle.aig_bench.proofs.Chained.{head_in, behind_in}
 use Rattle.aig_bench.proofs.Entries.{no_element, entering_none, entering_more, entered}
@@ -151,40 +151,6 @@ carries_fewer p t here now row new marks marks' only h = record {
         latches = λ i x k at. c.latches i x (only i k) at;
       };
 }
-
--- inputs
-module _ (p : Pair) (t : ℕ) where
-  pub fills_none : (row : List Tern) (marks : List Bool) → Fills p t 0 row marks row marks
-  fills_none row marks = record {
-    fill = λ forced old put h. record { now_put = put; entering = h; inputs = λ i l lt at. absurd (omega arith) };
-  }
-
-  pub fills_more : (n l : ℕ) (row mid new : List Tern) (marks marks' marks'' : List Bool)
-      → slice_get p.circuit.inputs n ≡ Some l → Fills p t n row marks mid marks'
-      → Puts p t (variable l) mid marks' new marks'' → Fills p t (n + 1) row marks new marks''
-  fills_more n l row mid new marks marks' marks'' at h k = record {
-    fill = λ forced old put e.
-        let c = h.fill forced old put e in
-        record {
-          now_put = variable l ∷ c.now_put;
-          entering = k.enter forced old c.now_put c.entering;
-          inputs = λ i m lt is. elim (cases_eq i n) [
-            | inl e ↦
-                let same : m ≡ l = same_Some m l (sym is ∙ ap (slice_get p.circuit.inputs) e ∙ at) in
-                subst (λ (z : ℕ). Contains (variable l ∷ c.now_put) (variable z)) (sym same)
-                (head_in (variable l) c.now_put)
-            | inr ne ↦ behind_in (variable l) c.now_put (variable m) (c.inputs i m (omega arith) is)
-          ];
-        };
-  }
-
-  pub fills_fewer : (m n : ℕ) (row new : List Tern) (marks marks' : List Bool) → n ≤ m
-      → Fills p t m row marks new marks' → Fills p t n row marks new marks'
-  fills_fewer m n row new marks marks' le h = record {
-    fill = λ forced old put e.
-        let c = h.fill forced old put e in
-        record { now_put = c.now_put; entering = c.entering; inputs = λ i l lt at. c.inputs i l (omega arith) at };
-  }
 
 -- nothing waits, and one source is put
 pub entering_put : (p : Pair) (t v : ℕ) (sound : IsSound p.circuit) (b : Buckets) (old row' : List Tern) (marks' : List Bool)

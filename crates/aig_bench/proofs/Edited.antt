@@ -1,7 +1,8 @@
 -- From the cells of a bench before an edit to those after it.
 use Rattle.std.proofs.Common.{◌≡◌, ◌≢◌, ◌⊎◌, ◌↔◌, inl, inr, ℕ, zero, suc, ◌+◌, ◌-◌, ◌*◌, ◌<◌, ◌≤◌, Bool, true, false, nat_eq, get_or, List, [], ◌∷◌, ◌++◌, map, length, take, Some, slice_get, Contains, refl, sym, ap, ◌∙◌, subst, arith, length-append, length-take}
-use Rattle.std.proofs.lemmas.Bool.{eqb-true}
+use Rattle.std.proofs.lemmas.Bool.{cases_eq, eqb-true}
 use Rattle.std.proofs.lemmas.Bool.Decides.{eqb_tells}
+use Rattle.std.proofs.lemmas.List.{length-map}
 use Rattle.std.proofs.lemmas.Option.{same_Some, slice_get-get_or, slice_get_within}
 use Rattle.aig_base.specs.declared.ternary.Tern.{Tern}
 use Rattle.aig_base.specs.declared.ternary.Tern.TheVariants.{Zero}
@@ -15,7 +16,8 @@ use Rattle.aig_base.specs.Readers.{AreReaders}
 use Rattle.aig_base.specs.Sections.{definitions, IsDefined, IsGate, IsLeftSide}
 use Rattle.aig_base.specs.Sound.{IsSound}
 use Rattle.aig_base.specs.Value.{start_of, reset_value}
-use Rattle.aig_base.proofs.Circuits.{gate_is, gate_defined, rhs0_defined, rhs1_defined, input_defined, latch_defined}
+use Rattle.aig_base.proofs.Circuits.{gate_defined, rhs0_defined, rhs1_defined, input_defined, latch_defined}
+use Rattle.aig_base.proofs.Counting.{gates_once}
 use Rattle.aig_base.proofs.Gates.{gate_of}
 use Rattle.aig_base.proofs.Places as places
 use Rattle.aig_base.proofs.Positions.{Contains-cons}
@@ -38,15 +40,15 @@ use Rattle.aig_bench.specs.Pair.{Pair, HasValue}
 use Rattle.aig_bench.specs.Passing.{Differs, IsConsistent}
 use Rattle.aig_bench.specs.Plan.{IsPlan, pair_of}
 use Rattle.aig_bench.specs.Renewed.{IsBetween, IsTouchedCell, IsChangedCell, Renewed}
-use Rattle.aig_bench.specs.Sweep.{IsWork, IsWorking, Ends}
+use Rattle.aig_bench.specs.Sweep.{IsWork, IsWorking}
 use Rattle.aig_bench.specs.Touched.{HasOther, IsForced, Touches, Changes, AreCells}
 use Rattle.aig_bench.proofs.Cells.{get_set_other, row_written, row_other, frames_written}
 use Rattle.aig_bench.proofs.Changed.{current_below, slice_get_take, slice_get_append}
 use Rattle.aig_bench.proofs.Chained.{head_in}
 use Rattle.aig_bench.proofs.Earlier.{value_before}
-use Rattle.aig_bench.proofs.Height.{level_bound}
+use Rattle.aig_bench.proofs.Height.{level_bound, never_once}
 use Rattle.aig_bench.proofs.Others.{differs_other, other_differs, consistent}
-use Rattle.aig_bench.proofs.Renewed.{cells_same, cells_none, renewed_one}
+use Rattle.aig_bench.proofs.Renewed.{cells_same, cells_none, frame_cells}
 use Rattle.aig_bench.proofs.Rewired.{left_side_gate, defined_was, gate_was, gate_kept}
 use Rattle.aig_bench.proofs.Handed.{latch_next_holds}
 use Rattle.aig_bench.proofs.LatchChains.{latch_unmapped}
@@ -322,6 +324,16 @@ all_current p forced first n e c old new h r = record {
   where
     or : (t : ℕ) → (t < first) ⊎ (first ≤ t)
     or t = grind arith
+
+-- one row more is current
+pub current_more : (p : Pair) (n : ℕ) (old new : List (List Tern)) → AreCurrent p n old → IsCurrentRow p n (row_at new n)
+    → ((u : ℕ) → u ≢ n → row_at new u ≡ row_at old u) → AreCurrent p (n + 1) new
+current_more p n old new h row others = record {
+  each = λ t lt. elim (cases_eq t n) [
+    | inl e ↦ subst (λ (k : ℕ). IsCurrentRow p k (row_at new k)) (sym e) row
+    | inr ne ↦ subst (IsCurrentRow p t) (sym (others t ne)) (h.each t (omega arith))
+  ];
+}
 
 pub none_current : (p : Pair) (cells : List (List Tern)) → AreCurrent p 0 cells
 none_current p cells = record { each = λ t lt. absurd (omega arith) }
@@ -624,31 +636,28 @@ module _ (plan : Plan) (s : InputRows) (row : List Tern) (cells mid new : List (
   is_edited : after ≡ edited (pair_of plan) (add_frame row)
   is_edited = ap (λ (rows : List (List Tern)). let x : Pair = record (pair_of plan) { rows = rows } in x) rows_more
 
-  module _ (ev ch : ℕ) (marks : List Bool) (h : Ends after m (Contains all) (row_at mid m) (row_at new m) marks ev ch)
-      (others : (u : ℕ) → u ≢ m → row_at new u ≡ row_at mid u) where
-    one : Renewed after all m (m + 1) mid new ev ch
-    one = renewed_one after all m ev ch mid new marks others h
+  pub added_current : (now_row : IsCurrentRow after m (row_at new m)) → ((u : ℕ) → u ≢ m → row_at new u ≡ row_at mid u)
+      → AreCurrent after m mid → AreCurrent after (length s.rows) new
+  added_current now_row others before =
+      subst (λ (k : ℕ). AreCurrent after k new) (sym frames_more) (current_more after m mid new before now_row others)
 
-    pub added_current : AreCurrent after m mid → AreCurrent after (length s.rows) new
-    added_current before = subst (λ (k : ℕ). AreCurrent after k new) (sym frames_more)
-        (all_current after all m (m + 1) ev ch mid new before one)
+  pub added_touched : (n : ℕ) → n ≡ length plan.circuit.gates → AreCells (Touches (pair_of plan) (add_frame row)) n
+  added_touched n is =
+      let once = never_once all (gates_once plan.circuit sound) in
+      let size : length all ≡ n = length-map plan.circuit.gates (λ (g : Gate). variable g.lhs) ∙ sym is in
+      cells_same _ _ n (subst (AreCells (λ t v. (t ≡ m) × Contains all v)) size (frame_cells m all once)) (λ t v. rw (← is_edited) (
+        λ k. elim k [
+          | inl f ↦ f
+          | inr r ↦ elim r.1.4 [
+            | inl o ↦ absurd (none_before t _ r.0.0 o)
+            | inr o ↦ absurd (none_before t _ r.0.0 o)
+          ]
+        ],
+        λ k. inl k,
+      ))
 
-    pub added_touched : AreCells (Touches (pair_of plan) (add_frame row)) ev
-    added_touched = cells_same _ _ ev one.touched (λ t v. rw (← is_edited) (
-      λ k. elim k [
-        | inl f ↦
-            let (g, q, at, same) = gate_of plan.circuit v f.1 in
-            ((omega (arith, f.0), omega (arith, f.0)), (q, g, at, same, inl (subst (Contains all) (sym same) f.1)))
-        | inr r ↦ elim r.1.4 [
-          | inl o ↦ absurd (none_before t _ r.0.0 o)
-          | inr o ↦ absurd (none_before t _ r.0.0 o)
-        ]
-      ],
-      λ k. inl (omega (arith, k.0.0, k.0.1), subst (IsGate plan.circuit) k.1.3 (gate_is plan.circuit k.1.0 k.1.1 k.1.2)),
-    ))
-
-    pub added_changed : AreCells (Changes (pair_of plan) (add_frame row)) 0
-    added_changed = cells_none _ (λ t v. rw (← is_edited) (λ k. none_before t v k.1.0 k.2))
+  pub added_changed : AreCells (Changes (pair_of plan) (add_frame row)) 0
+  added_changed = cells_none _ (λ t v. rw (← is_edited) (λ k. none_before t v k.1.0 k.2))
 
 -- the last frame taken off changes nothing before it
 module _ (p : Pair) (sound : IsSound p.circuit) where

@@ -10,7 +10,7 @@ use Rattle.aig_base.specs.Sound.{IsSound, StandsTwice}
 use Rattle.aig_base.proofs.Counting.{length_le}
 use Rattle.aig_base.proofs.Gates.{level_in_range}
 use Rattle.aig_base.proofs.OneLevel.{same_level}
-use Rattle.aig_base.proofs.Positions.{Contains-cons}
+use Rattle.aig_base.proofs.Positions.{Contains-cons, position_of}
 use Rattle.aig_bench.specs.Touched.{IsOnce}
 use Rattle.aig_bench.proofs.Entries.{no_element}
 use Rattle.aig_bench.proofs.Linked.{contains_at}
@@ -22,6 +22,14 @@ once_never (y ∷ ys) once x (i, zero, lt, a, b) = absurd (omega arith)
 once_never (y ∷ ys) once x (zero, suc j, lt, a, b) =
     let e : y ≡ x = cc in once.0 (subst (Contains ys) (sym e) (contains_at ys j x b))
 once_never (y ∷ ys) once x (suc i, suc j, lt, a, b) = once_never ys once.1 x (i, j, omega arith, a, b)
+
+-- and the other way round
+pub never_once : (xs : List ℕ) → ((x : ℕ) → StandsTwice xs x → ⊥) → IsOnce xs
+never_once [] never = tt
+never_once (y ∷ ys) never = (
+  λ k. let (i, at) = position_of ys y k in never y (0, suc i, omega arith, refl, at),
+  never_once ys (λ x (i, j, lt, a, b). never x (suc i, suc j, omega arith, a, b)),
+)
 
 -- variables of all levels down from this one
 record Descent (raw : Raw) (n : ℕ) : Type 0 where

@@ -10,6 +10,7 @@ pub mod Entries
 pub mod EveryGate
 pub mod Fanouts
 pub mod Flags
+pub mod GateLists
 pub mod Grown
 pub mod GrownBench
 pub mod Handed
@@ -34,5 +35,6 @@ pub mod Rewired
 pub mod SweepEnds
 pub mod SweepSteps
 pub mod Sweeps
+pub mod Swept
 pub mod Values
 pub mod Waiting

@@ -149,6 +149,18 @@ column_cells v (suc n) =
     last : (t : ℕ) → t < suc n → (t < n) ⊎ (t ≡ n)
     last t lt = grind arith
 
+-- the cells of these variables at one frame
+pub frame_cells : (s : ℕ) (vs : List ℕ) → IsOnce vs → AreCells (λ t v. (t ≡ s) × Contains vs v) (length vs)
+frame_cells s vs once = record {
+  cells = at_frame s vs;
+  once = once_framed s vs once;
+  each = λ t v. (
+    framed s vs t v,
+    λ k. subst (λ (n : ℕ). Contains (at_frame s vs) (n, v)) (sym k.0) (frames s vs v k.1),
+  );
+  count = length_framed s vs;
+}
+
 module _ (p : Pair) (forced : List ℕ) where
   pub renewed_none : (first : ℕ) (old : List (List Tern)) → Renewed p forced first first old old 0 0
   renewed_none first old = record {

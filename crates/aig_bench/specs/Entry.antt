@@ -1,5 +1,5 @@
 -- The start of a pass over a frame: some sources have their values, and what reads those that differ waits (profile).
-use Rattle.std.specs.Prelude.{◌≡◌, ◌⊎◌, ◌↔◌, ℕ, suc, ◌<◌, Bool, List, ◌∷◌, Some, slice_get, Contains}
+use Rattle.std.specs.Prelude.{◌≡◌, ◌⊎◌, ◌↔◌, ℕ, suc, Bool, List, ◌∷◌, Some, slice_get, Contains}
 use Rattle.aig_base.specs.declared.ternary.Tern.{Tern}
 use Rattle.aig_base.specs.declared.ternary.Tern.TheVariants.{Zero}
 use Rattle.aig_base.specs.declared.latch.Latch.{Latch}
@@ -36,16 +36,6 @@ pub record Carried (p : Pair) (t : ℕ) (here : ℕ → Type 0) (forced : List �
 pub record Carries (p : Pair) (t : ℕ) (here : ℕ → Type 0) (row : List Tern) (marks : List Bool) (row' : List Tern) (marks' : List Bool) : Type 0 where
   pub carry : (forced : List ℕ) (old : List Tern) (put : List ℕ) → Entering p t (Contains forced) old row marks put
       → Carried p t here forced old row' marks' put
-
--- the first n inputs were put after them
-pub record Filled (p : Pair) (t n : ℕ) (forced : List ℕ) (old row : List Tern) (marks : List Bool) : Type 0 where
-  pub now_put : List ℕ
-  pub entering : Entering p t (Contains forced) old row marks now_put
-  pub inputs : (i l : ℕ) → i < n → slice_get p.circuit.inputs i ≡ Some l → Contains now_put (variable l)
-
-pub record Fills (p : Pair) (t n : ℕ) (row : List Tern) (marks : List Bool) (row' : List Tern) (marks' : List Bool) : Type 0 where
-  pub fill : (forced : List ℕ) (old : List Tern) (put : List ℕ) → Entering p t (Contains forced) old row marks put
-      → Filled p t n forced old row' marks'
 
 -- variable 0 and the inputs that are not put have their values in the old cells
 pub record Rests (p : Pair) (t : ℕ) (old : List Tern) (put : List ℕ) : Type 0 where

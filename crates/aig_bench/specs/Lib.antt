@@ -6,6 +6,7 @@ pub mod Entry
 pub mod Fanout
 pub mod Latches
 pub mod LevelSet
+pub mod Order
 pub mod Pair
 pub mod Passing
 pub mod Pending

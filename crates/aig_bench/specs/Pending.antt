@@ -5,11 +5,13 @@ use Rattle.aig_base.specs.declared.raw.Raw.{Raw}
 use Rattle.aig_base.specs.declared.ternary.Tern.{Tern}
 use Rattle.aig_base.specs.Literal.{variable}
 use Rattle.aig_sim.specs.Cells.{literal_value}
+use Rattle.aig_bench.specs.declared.order.Order.{Order}
 use Rattle.aig_bench.specs.declared.plan.Plan.{Plan}
 use Rattle.aig_bench.specs.declared.settle.Net.{Net}
 use Rattle.aig_bench.specs.declared.settle.Pending.{Pending}
 use Rattle.aig_bench.specs.Buckets.{Waits}
 use Rattle.aig_bench.specs.Latches.{AreLatchReaders, IsLatchList, IsListed}
+use Rattle.aig_bench.specs.Order.{Orders}
 use Rattle.aig_bench.specs.Sweep.{IsWorking}
 
 -- who reads whom, and two lists of the circuit's latches
@@ -29,6 +31,11 @@ pub record IsReady (plan : Plan) (net : Net) (pending : Pending) (flags : List B
   pub working : IsWorking plan net pending.buckets flags cells
   pub lists : HasLists plan net pending
   pub idle : IsIdle pending
+
+-- the same with an order of the circuit's gates, or none
+pub record IsHeld (plan : Plan) (net : Net) (pending : Pending) (order : Order) (flags : List Bool) (cells : List (List Tern)) : Type 0 where
+  pub ready : IsReady plan net pending flags cells
+  pub orders : Orders plan.circuit order
 
 -- the latches' cells in a row are the values of their next literals in the row before
 abbrev pub IsNextRow : Raw → List Tern → List Tern → Type 0

@@ -12,15 +12,15 @@ ghost use Rattle.aig_base.specs.Readers.{AreReaders, list_of};
 ghost use Rattle.aig_base.specs.Renumbered.{IsBinaryReady};
 ghost use Rattle.aig_base.specs.Sections.{IsDefined, IsLeftSide};
 ghost use Rattle.aig_bench.specs.Cells.{HasCurrentCells};
+ghost use Rattle.aig_bench.specs.Current.{AreCurrent, IsLaidOut};
 ghost use Rattle.aig_bench.specs.Edit.{Edits, rewire, set_reset, set_bit, add_frame, drop_frame, append_gate};
 ghost use Rattle.aig_bench.specs.Edit.{set_output};
 ghost use Rattle.aig_bench.specs.Fanout.{HasFourReaders};
 ghost use Rattle.aig_bench.specs.Pair.{Pair, HasTrace};
 ghost use Rattle.aig_bench.specs.Latches.{AreLatchReaders};
-ghost use Rattle.aig_bench.specs.Pending.{HasLists, IsIdle, IsReady};
+ghost use Rattle.aig_bench.specs.Order.{IsKnown, Orders};
 ghost use Rattle.aig_bench.specs.Plan.{IsPlan, pair_of};
 ghost use Rattle.aig_bench.specs.Question.{AnswersValue};
-ghost use Rattle.aig_bench.specs.Sweep.{IsWork};
 ghost use Rattle.aig_bench.specs.Touched.{Works};
 ghost use Rattle.aig_sim.specs.StimulusText.{HaveWidth};
 ghost use Rattle.aig_unroll.specs.Answers.{AnswersUnrolling};
@@ -29,9 +29,10 @@ use crate::allowed::{CELLS, check_append, check_output, check_reset, check_rewir
 use crate::bench_fault::BenchFault;
 use crate::edit::{EditFault, EditReport};
 use crate::fill::fill;
-use crate::grow::{evaluate_new, last_gate, make_room};
+use crate::grow::{evaluate_new, gate_count, last_gate, make_room};
 use crate::latches::LatchReaders;
 use crate::layout::lay_out;
+use crate::order::Order;
 use crate::plan::Plan;
 use crate::propagate::{renew_from, renew_input};
 use crate::settle::{Net, Pending, make_pending};
@@ -50,6 +51,7 @@ pub struct Bench<G: Grid> {
     plan: Plan,
     net: Net,
     pending: Pending,
+    order: Order,
     grid: G,
 }
 
@@ -59,11 +61,11 @@ impl<G: Grid> Model for Bench<G> {
     ghost Value = { BenchState };
 
     ghost use Rattle.aig_bench.specs.Plan.{pair_of};
-    ghost use Rattle.aig_bench.specs.Pending.{IsReady};
+    ghost use Rattle.aig_bench.specs.Pending.{IsHeld};
 
     ghost view = { λ b. record { pair = pair_of b.plan; evaluations = G.evaluations b.grid } };
 
-    ghost invariant = { λ b. IsReady b.plan b.net b.pending (G.gate_flags b.grid) (G.cells b.grid) };
+    ghost invariant = { λ b. IsHeld b.plan b.net b.pending b.order (G.gate_flags b.grid) (G.cells b.grid) };
 }
 
 /// The report of an edit that evaluates nothing.
@@ -126,16 +128,18 @@ fn make_net(alloc: Global, circuit: &Circuit) -> Result<Net, Memory>
 }
 
 /// Writes the values of all frames of a new grid.
-fn fill_all<G: Grid>(grid: &mut G, plan: &Plan, net: &Net, pending: &mut Pending)
-    requires work { IsWork plan.now net.now (G.gate_flags grid.old) (G.cells grid.old) pending.old.buckets }
-    requires lists { HasLists plan.now net.now pending.old }
-    requires idle { IsIdle pending.old }
-    ensures ready { IsReady plan.now net.now pending.new (G.gate_flags grid.new) (G.cells grid.new) }
+fn fill_all<G: Grid>(grid: &mut G, plan: &Plan, order: &Order)
+    requires plan { IsPlan plan.now }
+    requires grid { IsLaidOut plan.now (G.gate_flags grid.old) (G.cells grid.old) }
+    requires orders { Orders plan.now.circuit order.now }
+    requires known { IsKnown order.now }
+    ensures grid { IsLaidOut plan.now (G.gate_flags grid.new) (G.cells grid.new) }
+    ensures current { AreCurrent (pair_of plan.now) (length plan.now.stimulus.rows) (G.cells grid.new) }
     ensures count { G.evaluations grid.new
         ≡ G.evaluations grid.old + length plan.now.circuit.gates * length plan.now.stimulus.rows }
 {
     for frame in 0..plan.stimulus.frames() {
-        fill(grid, plan, net, pending, frame);
+        fill(grid, plan, order, frame);
     }
 }
 
@@ -148,13 +152,15 @@ fn make<G: Grid>(alloc: Global, circuit: Circuit, stimulus: Stimulus) -> Result<
 {
     let plan = make_plan(circuit, stimulus);
     let net = make_net(alloc, &plan.circuit)?;
-    let mut pending = make_pending(alloc, &plan, &net)?;
+    let order = Order::of(alloc, &plan.circuit, &net.levels)?;
+    let pending = make_pending(alloc, &plan, &net)?;
     let mut grid = lay_out(alloc, &plan)?;
-    fill_all(&mut grid, &plan, &net, &mut pending);
+    fill_all(&mut grid, &plan, &order);
     Ok(Bench {
         plan,
         net,
         pending,
+        order,
         grid,
     })
 }
@@ -289,6 +295,7 @@ impl<G: Grid> Bench<G> {
     {
         check_rewire(&self.plan, lhs, r0, r1)?;
         replace_gate(&mut self.plan, &mut self.net, lhs, r0, r1)?;
+        self.order.forget();
         Ok(renew_from(
             &mut self.grid,
             &self.plan,
@@ -331,19 +338,14 @@ impl<G: Grid> Bench<G> {
         if frames >= FRAMES || cells(&self.plan.circuit, frames + 1) > CELLS {
             return Err(EditFault::Limit);
         }
+        self.order.renew(&self.plan.circuit, &self.net.levels)?;
         self.grid.add_row()?;
         match self.plan.stimulus.push(row) {
             Ok(()) => {
-                let report = fill(
-                    &mut self.grid,
-                    &self.plan,
-                    &self.net,
-                    &mut self.pending,
-                    frames,
-                );
+                fill(&mut self.grid, &self.plan, &self.order, frames);
                 Ok(EditReport {
+                    evaluated: u64::from(gate_count(&self.plan.circuit)),
                     changed: 0,
-                    ..report
                 })
             }
             Err(_) => {
@@ -374,7 +376,9 @@ impl<G: Grid> Bench<G> {
         ensures works { Works self.old (append_gate r0 r1) result self.new }
     {
         check_append(&self.plan, r0, r1)?;
+        let gates = gate_count(&self.plan.circuit);
         make_room(&mut self.grid, &mut self.net, &mut self.pending)?;
+        self.order.reserve_gate()?;
         append_gate(
             &mut self.plan.circuit,
             &mut self.net.levels,
@@ -385,6 +389,7 @@ impl<G: Grid> Bench<G> {
         self.net.latches.add_variable();
         self.pending.buckets.add_variable();
         self.grid.add_gate();
+        self.order.push_gate(gates);
         let gate = last_gate(&self.plan.circuit);
         Ok(evaluate_new(&mut self.grid, &gate))
     }

@@ -29,6 +29,15 @@ pub fn make_room<G: Grid>(grid: &mut G, net: &mut Net, pending: &mut Pending) ->
     grid.reserve_gate()
 }
 
+/// The number of gates of a circuit.
+pub fn gate_count(circuit: &Circuit) -> u32
+    ensures { result ≡ length circuit.now.gates }
+{
+    // Its contract tells that the parts are a circuit.
+    let _max_var = circuit.max_var();
+    circuit.gates().len() as u32
+}
+
 /// The last gate of a circuit that has one.
 pub fn last_gate(circuit: &Circuit) -> Gate
     requires { 0 < length circuit.now.gates }

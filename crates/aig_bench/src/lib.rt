@@ -12,6 +12,7 @@ mod latches;
 mod laws;
 mod layout;
 mod level_set;
+mod order;
 mod plan;
 mod propagate;
 mod settle;

@@ -8,6 +8,8 @@ pub mod PaddedRows
 pub mod PlaneBits
 pub mod PlaneLemmas
 pub mod SimulationLemmas
+pub mod SweepLemmas
+pub mod SweptRows
 pub mod TraceLemmas
 pub mod VerdictLemmas
 pub mod WitnessLemmas

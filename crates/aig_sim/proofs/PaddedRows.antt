@@ -14,17 +14,17 @@ use Rattle.aig_sim.specs.Cells.{Cells, literal_value, gate_value, fresh_row, wit
 use Rattle.aig_sim.specs.InputRows.{with_cell, row_at}
 use Rattle.aig_sim.specs.Padded.{ArePadded, AreLengthened, IsLengthened, IsPadded}
 
-padded_set : (n room : ℕ) (row : List Tern) (v : ℕ) (x : Tern) → IsPadded n room row → v < n → IsPadded n room (set row v x)
+pub padded_set : (n room : ℕ) (row : List Tern) (v : ℕ) (x : Tern) → IsPadded n room row → v < n → IsPadded n room (set row v x)
 padded_set n room row v x padded lt = (
   omega (arith, length-set row v x, padded.0),
   drop-set-lt n row v x lt ∙ padded.1 ∙ ap (λ (k : ℕ). replicate (k - n) X) (sym (length-set row v x)),
 )
 
-literal_of_row : (n : ℕ) (row : List Tern) (l : ℕ) → variable l < n → literal_value (take n row) l ≡ literal_value row l
+pub literal_of_row : (n : ℕ) (row : List Tern) (l : ℕ) → variable l < n → literal_value (take n row) l ≡ literal_value row l
 literal_of_row n row l lt = rw (get_or-take n row (variable l) X lt) refl
 
 -- what contracts see of a grid
-abbrev seen : ℕ → ℕ → List (List Tern) → List Bool → ℕ → Cells
+abbrev pub seen : ℕ → ℕ → List (List Tern) → List Bool → ℕ → Cells
 seen n room rows flags count =
     record { cells = map (take n) rows; gate_flags = flags; evaluations = count; room = nat_lt n room }
 

@@ -1,12 +1,12 @@
 //! Tables of values that count their evaluations.
 ghost use Rattle.std.specs.Prelude.{◌≡◌, ◌≢◌, ℕ, ◌-◌, ◌+◌, ◌*◌, ◌<◌, ◌≤◌, ◌↔◌, Bool, true, false, List, [], ◌∷◌};
-ghost use Rattle.std.specs.Prelude.{◌++◌, length, map, take, IsTrue, IfOk, OnOk, OnErr, Some, slice_get};
+ghost use Rattle.std.specs.Prelude.{◌++◌, length, map, take, All, IsTrue, IfOk, OnOk, OnErr, Some, slice_get};
 ghost use Rattle.std.specs.Prelude.{slice_index_or};
 ghost use Rattle.aig_base.specs.declared.ternary.Tern.{Tern};
 ghost use Rattle.aig_base.specs.declared.ternary.Tern.TheVariants.{X};
 ghost use Rattle.aig_base.specs.Limits.{cell_limit, frame_limit};
 ghost use Rattle.aig_base.specs.Literal.{variable, IsEven};
-ghost use Rattle.aig_sim.specs.Cells.{gate_value, fresh_row, with_new_cell};
+ghost use Rattle.aig_sim.specs.Cells.{gate_value, fresh_row, with_new_cell, with_swept_row, HasCells};
 ghost use Rattle.aig_sim.specs.InputRows.{with_cell, row_at};
 ghost use Rattle.aig_sim.specs.TraceText.{literal_character};
 
@@ -82,6 +82,20 @@ pub trait Grid: Sized + Drop {
         ensures gates { gate_flags self.new ≡ gate_flags self.old }
         ensures count { evaluations self.new ≡ evaluations self.old + 1 }
         ensures room { has_room self.new ≡ has_room self.old };
+
+    /// Evaluates gates at a frame one after the other, in the order of the slice.
+    fn sweep(&mut self, frame: u32, gates: &[Gate])
+        requires frame { frame < length (cells self.old) }
+        requires gates { All (HasCells (gate_flags self.old)) gates.now }
+        ensures cells { Self.cells self.new ≡ with_swept_row (Self.cells self.old) frame gates.now }
+        ensures gates { gate_flags self.new ≡ gate_flags self.old }
+        ensures count { evaluations self.new ≡ evaluations self.old + length gates.now }
+        ensures room { has_room self.new ≡ has_room self.old }
+    {
+        for gate in gates {
+            self.evaluate(frame, *gate);
+        }
+    }
 
     /// Appends a row: x everywhere, 0 at variable 0. Rows and cells stay within a bench's limits.
     fn add_row(&mut self) -> Result<(), Memory>

@@ -25,6 +25,7 @@ mod witness_fault;
 mod witness_text;
 
 pub use byte_grid::ByteGrid;
+pub use gate_order::stand_in_order;
 pub use grid::Grid;
 pub use laws::{law_of_stimulus_text, law_of_witness_text};
 pub use line_in_hand::{LineInHand, Shape};

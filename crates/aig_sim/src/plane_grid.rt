@@ -1,6 +1,7 @@
 //! A grid with two bits a cell.
-ghost use Rattle.std.specs.Prelude.{ℕ, ◌+◌, ◌<◌, ◌≤◌, List, length, All, OnOk};
+ghost use Rattle.std.specs.Prelude.{ℕ, ◌≡◌, ◌+◌, ◌<◌, ◌≤◌, List, length, All, OnOk, fold};
 ghost use Rattle.aig_base.specs.declared.ternary.Tern.{Tern};
+ghost use Rattle.aig_sim.specs.Cells.{with_gate, HasPlaces};
 ghost use Rattle.aig_sim.specs.Padded.{AreLengthened};
 
 use crate::gate_flags::GateFlags;
@@ -54,6 +55,25 @@ fn make_room(rows: &mut [PlaneRow], size: usize) -> Result<(), AllocError>
     Ok(())
 }
 
+// Evaluates gates one after the other, in the order of the slice.
+fn sweep_row(row: &mut PlaneRow, gates: &[Gate])
+    requires { All (HasPlaces (length row.old)) gates.now }
+    ensures { row.new ≡ fold with_gate row.old gates.now }
+{
+    for gate in gates {
+        row.evaluate(*gate);
+    }
+}
+
+// Counts so many evaluations.
+fn count_more(count: &mut Count, more: usize)
+    ensures { count.new.number ≡ count.old.number + more }
+{
+    for _ in 0..more {
+        *count = Count::one_more(count);
+    }
+}
+
 impl Grid for PlaneGrid {
     ghost cells = { λ g. g.cells };
 
@@ -93,6 +113,11 @@ impl Grid for PlaneGrid {
         let changed = self.rows[frame as usize].evaluate(gate);
         self.evaluations = Count::one_more(&self.evaluations);
         changed
+    }
+
+    fn sweep(&mut self, frame: u32, gates: &[Gate]) {
+        sweep_row(&mut self.rows[frame as usize], gates);
+        count_more(&mut self.evaluations, gates.len());
     }
 
     fn add_row(&mut self) -> Result<(), Memory> {

@@ -1,60 +1,113 @@
-use Rattle.std.proofs.Common.{◌≡◌, ◌⊎◌, ◌∙◌, ◌+◌, ◌<◌, ◌≤◌, inl, inr, ℕ, length, Some, slice_get, refl, arith}
-use Rattle.std.proofs.lemmas.Bool.{cases_eq}
-use Rattle.aig_sim.proofs.Evaluation.{item_at}
+use Rattle.std.proofs.Common.{◌≡◌, ◌∙◌, Some, slice_get, refl, arith}
+use Rattle.aig_base.specs.declared.latch.Latch.{Latch}
+use Rattle.aig_base.specs.Grounded as by
+use Rattle.aig_base.specs.Literal.{variable}
+use Rattle.aig_base.specs.Value.{start_of}
+use Rattle.aig_base.proofs.Circuits.{latch_definition}
+use Rattle.aig_sim.specs.InputRows.{row_at}
+use Rattle.aig_sim.proofs.Evaluation.{item_at, items_all, items_more, renews_none, renews_then}
+use Rattle.aig_bench.specs.Current.{Holds}
 use Rattle.aig_bench.specs.Plan.{pair_of}
-use Rattle.aig_bench.proofs.Carrying.{before_kept, carries_none, carries_more, carries_fewer}
+use Rattle.aig_bench.proofs.Carrying.{before_kept}
+use Rattle.aig_bench.proofs.Values.{latch_value}
 use Rattle.aig_bench.proofs.fill.fill_latches.Goals as goal
 
-last_or : (n i : ℕ) → i < n + 1 → (i ≡ n) ⊎ (i < n)
-last_or n i lt = elim (cases_eq i n) [ inl e ↦ inl e | inr ne ↦ inr (omega arith) ]
-
 pub loop-latch-init : goal.loop-latch-init
-loop-latch-init g c = record {
-  work = c.requires.work;
-  others = λ u ne. refl;
-  lists = c.requires.lists;
-  here = refl;
-  flags = refl;
-  count = refl;
-  carries = carries_none (pair_of c.args.plan.now) c.args.frame c.requires.work.plan_is.circuit.sound (λ i. i < 0) _ _
-      (λ i lt. omega arith);
-}
+loop-latch-init g c =
+    let plan = c.args.plan.now in
+    record {
+      grid = c.requires.grid;
+      others = λ u ne. refl;
+      flags = refl;
+      count = refl;
+      renews = renews_none plan.circuit (start_of plan.circuit) plan.stimulus.rows c.args.frame _;
+      latches = λ i x lt. absurd (omega arith);
+    }
 
-pub put_latch-requires-clause-before : goal.put_latch-requires-clause-before
-put_latch-requires-clause-before g c =
+pub latch_value-value-requires-clause-grid : goal.latch_value-value-requires-clause-grid
+latch_value-value-requires-clause-grid g c = c.loop-latch.invariant.grid
+
+pub latch_value-value-requires-clause-before : goal.latch_value-value-requires-clause-before
+latch_value-value-requires-clause-before g c =
     before_kept (pair_of c.args.plan.now) c.args.frame _ _ c.requires.before c.loop-latch.invariant.others
 
-pub put_latch-requires-clause-latch : goal.put_latch-requires-clause-latch
-put_latch-requires-clause-latch g c = (
+pub latch_value-value-requires-clause-latch : goal.latch_value-value-requires-clause-latch
+latch_value-value-requires-clause-latch g c = (
   c.loop-latch.latch-index,
   item_at _ _ c.loop-latch.latch-index c.latch-item.result c.latches-latch-items.ensures c.loop-latch-test.true
       c.latch-item.is,
 )
 
+pub fill_source-requires-clause-grid : goal.fill_source-requires-clause-grid
+fill_source-requires-clause-grid g c = c.loop-latch.invariant.grid
+
+pub fill_source-requires-clause-positive : goal.fill_source-requires-clause-positive
+fill_source-requires-clause-positive g c =
+    let plan = c.args.plan.now in
+    let x = c.latch-item.result in
+    let at : slice_get plan.circuit.latches c.loop-latch.latch-index ≡ Some x =
+    item_at _ _ c.loop-latch.latch-index x c.latches-latch-items.ensures c.loop-latch-test.true c.latch-item.is in
+    let definition = latch_definition plan.circuit c.requires.plan.circuit.sound c.loop-latch.latch-index x at in
+    rw c.var.ensures (omega arith)
+
+pub fill_source-requires-clause-source : goal.fill_source-requires-clause-source
+fill_source-requires-clause-source g c =
+    let plan = c.args.plan.now in
+    let x = c.latch-item.result in
+    let at : slice_get plan.circuit.latches c.loop-latch.latch-index ≡ Some x =
+    item_at _ _ c.loop-latch.latch-index x c.latches-latch-items.ensures c.loop-latch-test.true c.latch-item.is in
+    rw c.var.ensures (by.IsSource.latch c.loop-latch.latch-index x at)
+
+pub fill_source-requires-clause-value : goal.fill_source-requires-clause-value
+fill_source-requires-clause-value g c =
+    let plan = c.args.plan.now in
+    let x = c.latch-item.result in
+    let at : slice_get plan.circuit.latches c.loop-latch.latch-index ≡ Some x =
+    item_at _ _ c.loop-latch.latch-index x c.latches-latch-items.ensures c.loop-latch-test.true c.latch-item.is in
+    rw c.var.ensures
+    (latch_value (pair_of plan) c.args.frame c.loop-latch.latch-index x c.latch_value-value.result
+    c.requires.plan.circuit.sound at c.latch_value-value.ensures)
+
 pub loop-latch-preserved : goal.loop-latch-preserved
 loop-latch-preserved g c =
     let plan = c.args.plan.now in
     let x = c.latch-item.result in
-    let n = c.loop-latch.latch-index in
     let i = c.loop-latch.invariant in
-    let k = c.put_latch.ensures in
-    let at : slice_get plan.circuit.latches n ≡ Some x =
-    item_at _ _ n x c.latches-latch-items.ensures c.loop-latch-test.true c.latch-item.is in
+    let at : slice_get plan.circuit.latches c.loop-latch.latch-index ≡ Some x =
+    item_at _ _ c.loop-latch.latch-index x c.latches-latch-items.ensures c.loop-latch-test.true c.latch-item.is in
     record {
-      work = k.work;
-      others = λ u ne. k.others u ne ∙ i.others u ne;
-      lists = k.lists;
-      here = k.here ∙ i.here;
-      flags = k.flags ∙ i.flags;
-      count = k.count ∙ i.count;
-      carries = carries_more (pair_of plan) c.args.frame c.requires.work.plan_is.circuit.sound (λ j. j < n) (λ j. j < n + 1)
-          n x _ _ _ _ _ _ at i.carries k.puts (last_or n);
+      grid = c.fill_source.ensures.grid;
+      others = λ u ne. c.fill_source.ensures.others u ne ∙ i.others u ne;
+      flags = c.fill_source.ensures.flags ∙ i.flags;
+      count = c.fill_source.ensures.count ∙ i.count;
+      renews = renews_then plan.circuit (start_of plan.circuit) plan.stimulus.rows c.args.frame _ _ _ i.renews
+          c.fill_source.ensures.renews;
+      latches = items_more
+          (λ (y : Latch). Holds (pair_of plan) c.args.frame (row_at (g.G.Grid.cells c.fill_source.new.grid) c.args.frame) (variable y.lit))
+          plan.circuit.latches c.loop-latch.latch-index x at
+          (λ j y below is. c.fill_source.ensures.renews.keeps (variable y.lit) (i.latches j y below is))
+          (rw c.var.ensures at c.fill_source.ensures.holds);
     }
 
-pub returns-clause-carries : goal.returns-clause-carries
-returns-clause-carries g c =
-    let all : length c.args.plan.now.circuit.latches ≤ c.loop-latch.latch-index =
-    rw (← c.latches-latch-items.ensures) (omega (arith, c.loop-latch-test.false)) in
-    carries_fewer (pair_of c.args.plan.now) c.args.frame (λ j. j < c.loop-latch.latch-index)
-    (λ j. j < length c.args.plan.now.circuit.latches) _ _ _ _
-    (λ j lt. omega arith) c.loop-latch.invariant.carries
+pub returns-clause-grid : goal.returns-clause-grid
+returns-clause-grid g c = c.loop-latch.invariant.grid
+
+pub returns-clause-others : goal.returns-clause-others
+returns-clause-others g c = c.loop-latch.invariant.others
+
+pub returns-clause-flags : goal.returns-clause-flags
+returns-clause-flags g c = c.loop-latch.invariant.flags
+
+pub returns-clause-count : goal.returns-clause-count
+returns-clause-count g c = c.loop-latch.invariant.count
+
+pub returns-clause-renews : goal.returns-clause-renews
+returns-clause-renews g c = c.loop-latch.invariant.renews
+
+pub returns-clause-latches : goal.returns-clause-latches
+returns-clause-latches g c =
+    let plan = c.args.plan.now in
+    items_all
+    (λ (y : Latch). Holds (pair_of plan) c.args.frame (row_at (g.G.Grid.cells c.loop-latch.grid) c.args.frame) (variable y.lit))
+    plan.circuit.latches c.loop-latch.latch-index
+    (rw (← c.latches-latch-items.ensures) (omega (arith, c.loop-latch-test.false))) c.loop-latch.invariant.latches

@@ -1,20 +1,21 @@
-use Rattle.std.proofs.Common.{◌≡◌, ◌≢◌, ℕ, ◌<◌}
+use Rattle.std.proofs.Common.{◌≡◌, ◌≢◌, ℕ, ◌<◌, Some, slice_get}
+use Rattle.aig_base.specs.declared.latch.Latch.{Latch}
+use Rattle.aig_base.specs.Literal.{variable}
+use Rattle.aig_base.specs.Value.{start_of}
+use Rattle.aig_sim.specs.Frame.{Renews}
 use Rattle.aig_sim.specs.InputRows.{row_at}
-use Rattle.aig_bench.specs.Entry.{Carries}
-use Rattle.aig_bench.specs.Pending.{HasLists}
+use Rattle.aig_bench.specs.Current.{Holds, IsLaidOut}
 use Rattle.aig_bench.specs.Plan.{pair_of}
-use Rattle.aig_bench.specs.Sweep.{IsWork}
 use Rattle.aig_bench.proofs.fill.fill_latches.Given as goal
 
 abbrev pub invariant-loop-latch : goal.invariant-loop-latch
 invariant-loop-latch g l = record {
-  work : IsWork l.plan l.net (g.G.Grid.gate_flags l.grid) (g.G.Grid.cells l.grid) l.pending.buckets;
+  grid : IsLaidOut l.plan (g.G.Grid.gate_flags l.grid) (g.G.Grid.cells l.grid);
   others : (u : ℕ) → u ≢ l.frame → row_at (g.G.Grid.cells l.grid) u ≡ row_at (g.G.Grid.cells l.initial.grid) u;
-  lists : HasLists l.plan l.net l.pending;
-  here : l.pending.here ≡ l.initial.pending.here;
   flags : g.G.Grid.gate_flags l.grid ≡ g.G.Grid.gate_flags l.initial.grid;
   count : g.G.Grid.evaluations l.grid ≡ g.G.Grid.evaluations l.initial.grid;
-  carries : Carries (pair_of l.plan) l.frame (λ i. i < l.latch-index)
-      (row_at (g.G.Grid.cells l.initial.grid) l.frame) l.initial.pending.buckets.marks.items
-      (row_at (g.G.Grid.cells l.grid) l.frame) l.pending.buckets.marks.items;
+  renews : Renews l.plan.circuit (start_of l.plan.circuit) l.plan.stimulus.rows l.frame
+      (row_at (g.G.Grid.cells l.initial.grid) l.frame) (row_at (g.G.Grid.cells l.grid) l.frame);
+  latches : (i : ℕ) (x : Latch) → i < l.latch-index → slice_get l.plan.circuit.latches i ≡ Some x
+      → Holds (pair_of l.plan) l.frame (row_at (g.G.Grid.cells l.grid) l.frame) (variable x.lit);
 }

@@ -2,7 +2,7 @@ use Rattle.aig_bench.proofs.bench.Bench.grid.Goals as goal
 
 pub returns-clause-cells : goal.returns-clause-cells
 returns-clause-cells g c =
-    let b = c.self.invariant.working.bench in
+    let b = c.self.invariant.ready.working.bench in
     rw (← c.self.view_is) (record {
       rows = b.laid_out.rows_are.frames_are;
       values = λ t v lt defined. (
@@ -11,4 +11,4 @@ returns-clause-cells g c =
     })
 
 pub returns-clause-variables : goal.returns-clause-variables
-returns-clause-variables g c = rw (← c.self.view_is) c.self.invariant.working.bench.laid_out.flags_are.size
+returns-clause-variables g c = rw (← c.self.view_is) c.self.invariant.ready.working.bench.laid_out.flags_are.size

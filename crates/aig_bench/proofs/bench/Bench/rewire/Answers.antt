@@ -12,17 +12,21 @@ use Rattle.aig_bench.proofs.Edited.{all_latches, all_next, lists_for, work_for, 
 use Rattle.aig_bench.proofs.Fanouts.{handed_fault, no_memory, either_four}
 use Rattle.aig_bench.proofs.Refusals.{lacking, rewire_refused, rewire_allowed}
 use Rattle.aig_bench.proofs.Rewired.{plan_rewired, laid_out_rewired}
+use Rattle.aig_bench.specs.Order.{Orders}
 use Rattle.aig_bench.proofs.bench.Bench.rewire.Goals as goal
 
 pub invariant_of-self : goal.invariant_of-self
 invariant_of-self g c =
     let h = c.in_err-replace_gate.ensures in
     record {
-      working = work_kept c.self.inside.plan _ c.self.inside.net _ _ _ _ c.self.invariant.working h.same h.stimulus h.levels
-          h.readers;
-      lists = lists_for c.self.inside.plan _ c.self.inside.net _ c.self.inside.pending c.self.invariant.lists
-          (ap (λ (x : Raw). length x.latches) h.same) h.latches;
-      idle = c.self.invariant.idle;
+      ready = record {
+        working = work_kept c.self.inside.plan _ c.self.inside.net _ _ _ _ c.self.invariant.ready.working h.same h.stimulus h.levels
+            h.readers;
+        lists = lists_for c.self.inside.plan _ c.self.inside.net _ c.self.inside.pending c.self.invariant.ready.lists
+            (ap (λ (x : Raw). length x.latches) h.same) h.latches;
+        idle = c.self.invariant.ready.idle;
+      };
+      orders = subst (λ (raw : Raw). Orders raw c.self.inside.order) (sym h.same) c.self.invariant.orders;
     }
 
 pub returns-in_err-replace_gate-clause-edits : goal.returns-in_err-replace_gate-clause-edits
@@ -46,7 +50,7 @@ returns-in_err-check_rewire-clause-memory g c =
 pub returns-in_err-replace_gate-clause-memory : goal.returns-in_err-replace_gate-clause-memory
 returns-in_err-replace_gate-clause-memory g c =
     let raw = c.self.inside.plan.circuit in
-    let w = c.self.invariant.working.work in
+    let w = c.self.invariant.ready.working.work in
     let d = c.in_ok-check_rewire.ensures.defined in
     rw (← c.self.view_is)
     (handed_fault _ c.from_residual-in_err-replace_gate.result c.in_err-replace_gate.field-0.0
@@ -59,14 +63,14 @@ returns-in_err-replace_gate-clause-memory g c =
 pub renew_from-requires-clause-work : goal.renew_from-requires-clause-work
 renew_from-requires-clause-work g c =
     let plan = c.self.inside.plan in
-    let w = c.self.invariant.working.work in
+    let w = c.self.invariant.ready.working.work in
     let h = c.in_ok-replace_gate.ensures in
     let d = c.in_ok-check_rewire.ensures.defined in
     let e = h.circuit in
     let f = h.stimulus in
     let renewed_plan = plan_rewired plan c.replace_gate.new.plan c.args.lhs c.args.r0 c.args.r1 w.plan_is e f d.0 d.1 h.acyclic in
     work_for plan c.replace_gate.new.plan c.self.inside.net c.replace_gate.new.net _ _ _ _ c.self.inside.pending.buckets w
-    c.self.invariant.working.empty (ap (λ (x : Raw). x.max_var) e) renewed_plan
+    c.self.invariant.ready.working.empty (ap (λ (x : Raw). x.max_var) e) renewed_plan
     (laid_out_rewired plan c.replace_gate.new.plan c.args.lhs c.args.r0 c.args.r1 _ _ w.laid_out
     (pair_rewired plan c.replace_gate.new.plan (with_gate plan.circuit c.args.lhs c.args.r0 c.args.r1) e f))
     h.levels h.readers
@@ -74,13 +78,13 @@ renew_from-requires-clause-work g c =
 pub renew_from-requires-clause-lists : goal.renew_from-requires-clause-lists
 renew_from-requires-clause-lists g c =
     let h = c.in_ok-replace_gate.ensures in
-    lists_for c.self.inside.plan _ c.self.inside.net _ c.self.inside.pending c.self.invariant.lists
+    lists_for c.self.inside.plan _ c.self.inside.net _ c.self.inside.pending c.self.invariant.ready.lists
     (ap (λ (x : Raw). length x.latches) h.circuit) h.latches
 
 pub renew_from-requires-clause-next : goal.renew_from-requires-clause-next
 renew_from-requires-clause-next g c =
     let plan = c.self.inside.plan in
-    let w = c.self.invariant.working.work in
+    let w = c.self.invariant.ready.working.work in
     let h = c.in_ok-replace_gate.ensures in
     let d = c.in_ok-check_rewire.ensures.defined in
     let e = h.circuit in
@@ -89,12 +93,12 @@ renew_from-requires-clause-next g c =
     let follows = follows_rewire plan c.replace_gate.new.plan c.args.lhs c.args.r0 c.args.r1 c.var.result c.var.ensures e f in
     let rows = ap (λ (s : InputRows). s.rows) f in
     all_next plan c.replace_gate.new.plan c.self.inside.net c.self.inside.pending.buckets _ _ (c.var.result ∷ [])
-    c.self.invariant.working follows renewed_plan.circuit.sound rows
+    c.self.invariant.ready.working follows renewed_plan.circuit.sound rows
 
 pub renew_from-requires-clause-carried : goal.renew_from-requires-clause-carried
 renew_from-requires-clause-carried g c =
     let plan = c.self.inside.plan in
-    let w = c.self.invariant.working.work in
+    let w = c.self.invariant.ready.working.work in
     let h = c.in_ok-replace_gate.ensures in
     let d = c.in_ok-check_rewire.ensures.defined in
     let e = h.circuit in
@@ -103,7 +107,7 @@ renew_from-requires-clause-carried g c =
     let follows = follows_rewire plan c.replace_gate.new.plan c.args.lhs c.args.r0 c.args.r1 c.var.result c.var.ensures e f in
     let rows = ap (λ (s : InputRows). s.rows) f in
     all_latches plan c.replace_gate.new.plan c.self.inside.net c.self.inside.pending.buckets _ _ (c.var.result ∷ [])
-    c.self.invariant.working follows renewed_plan.circuit.sound rows c.self.inside.pending.here
+    c.self.invariant.ready.working follows renewed_plan.circuit.sound rows c.self.inside.pending.here
     (λ i x at out. (x, subst (λ (k : Raw). slice_get k.latches i ≡ Some x) e at, refl, refl))
 
 pub renew_from-requires-clause-gates : goal.renew_from-requires-clause-gates
@@ -114,7 +118,7 @@ renew_from-requires-clause-gates g c v k =
 pub renew_from-requires-clause-consistent : goal.renew_from-requires-clause-consistent
 renew_from-requires-clause-consistent g c =
     let plan = c.self.inside.plan in
-    let w = c.self.invariant.working.work in
+    let w = c.self.invariant.ready.working.work in
     let h = c.in_ok-replace_gate.ensures in
     let d = c.in_ok-check_rewire.ensures.defined in
     let e = h.circuit in
@@ -123,7 +127,7 @@ renew_from-requires-clause-consistent g c =
     let follows = follows_rewire plan c.replace_gate.new.plan c.args.lhs c.args.r0 c.args.r1 c.var.result c.var.ensures e f in
     let rows = ap (λ (s : InputRows). s.rows) f in
     all_consistent plan c.replace_gate.new.plan c.self.inside.net c.self.inside.pending.buckets _ _ (c.var.result ∷ [])
-    c.self.invariant.working follows renewed_plan.circuit.sound rows
+    c.self.invariant.ready.working follows renewed_plan.circuit.sound rows
 
 pub returns-clause-edits : goal.returns-clause-edits
 returns-clause-edits g c =
@@ -138,7 +142,7 @@ returns-clause-edits g c =
 pub returns-clause-works : goal.returns-clause-works
 returns-clause-works g c =
     let plan = c.self.inside.plan in
-    let w = c.self.invariant.working.work in
+    let w = c.self.invariant.ready.working.work in
     let h = c.in_ok-replace_gate.ensures in
     let d = c.in_ok-check_rewire.ensures.defined in
     let e = h.circuit in
@@ -149,12 +153,12 @@ returns-clause-works g c =
     let is = pair_rewired plan c.replace_gate.new.plan (with_gate plan.circuit c.args.lhs c.args.r0 c.args.r1) e f in
     rw (← c.self.view_is) (
       all_touched plan c.replace_gate.new.plan c.self.inside.net c.self.inside.pending.buckets _ _ (c.var.result ∷ [])
-          c.self.invariant.working follows renewed_plan.circuit.sound rows (rewire c.args.lhs c.args.r0 c.args.r1) is
+          c.self.invariant.ready.working follows renewed_plan.circuit.sound rows (rewire c.args.lhs c.args.r0 c.args.r1) is
           (λ t v. forces_gate (pair_of plan) c.args.lhs c.args.r0 c.args.r1 c.var.result t v c.var.ensures)
           (λ v k. gate_forced plan.circuit c.replace_gate.new.plan.circuit c.args.lhs c.args.r0 c.args.r1 c.var.result v
           c.in_ok-check_rewire.ensures.gate c.var.ensures e k) _ _ _ c.renew_from.ensures.renewed,
       all_changed plan c.replace_gate.new.plan c.self.inside.net c.self.inside.pending.buckets _ _ (c.var.result ∷ [])
-          c.self.invariant.working follows renewed_plan.circuit.sound rows (rewire c.args.lhs c.args.r0 c.args.r1) is
+          c.self.invariant.ready.working follows renewed_plan.circuit.sound rows (rewire c.args.lhs c.args.r0 c.args.r1) is
           (λ t v. forces_gate (pair_of plan) c.args.lhs c.args.r0 c.args.r1 c.var.result t v c.var.ensures)
           (λ v k. gate_forced plan.circuit c.replace_gate.new.plan.circuit c.args.lhs c.args.r0 c.args.r1 c.var.result v
           c.in_ok-check_rewire.ensures.gate c.var.ensures e k) _ _ _ c.renew_from.ensures.renewed,

@@ -9,6 +9,7 @@ use Rattle.aig_bench.proofs.Edited.{all_latches, all_next, other_start, work_for
 use Rattle.aig_bench.proofs.LatchChains.{latches_reset, readers_reset}
 use Rattle.aig_bench.proofs.Named.{latch_at_named}
 use Rattle.aig_bench.proofs.Refusals.{refused, reset_allowed}
+use Rattle.aig_bench.proofs.GateLists.{orders_reset}
 use Rattle.aig_bench.proofs.bench.Bench.set_reset.Goals as goal
 
 pub returns-in_err-position-clause-edits : goal.returns-in_err-position-clause-edits
@@ -20,9 +21,9 @@ returns-in_err-position-clause-edits g c =
 pub renew_from-requires-clause-work : goal.renew_from-requires-clause-work
 renew_from-requires-clause-work g c =
     let plan = c.self.inside.plan in
-    let w = c.self.invariant.working.work in
+    let w = c.self.invariant.ready.working.work in
     let e = c.replace_reset.ensures in
-    work_for plan _ c.self.inside.net c.self.inside.net _ _ _ _ c.self.inside.pending.buckets w c.self.invariant.working.empty
+    work_for plan _ c.self.inside.net c.self.inside.net _ _ _ _ c.self.inside.pending.buckets w c.self.invariant.ready.working.empty
     (ap (λ (x : Raw). x.max_var) e)
     (plan_restarted plan _ c.args.latch c.args.value w.plan_is e)
     (laid_out_restarted plan _ c.args.latch c.args.value _ _ w.laid_out e)
@@ -32,9 +33,9 @@ renew_from-requires-clause-work g c =
 pub renew_from-requires-clause-consistent : goal.renew_from-requires-clause-consistent
 renew_from-requires-clause-consistent g c =
     let plan = c.self.inside.plan in
-    let w = c.self.invariant.working.work in
+    let w = c.self.invariant.ready.working.work in
     let e = c.replace_reset.ensures in
-    all_consistent plan (record plan { circuit = c.replace_reset.new.self }) c.self.inside.net c.self.inside.pending.buckets _ _ [] c.self.invariant.working
+    all_consistent plan (record plan { circuit = c.replace_reset.new.self }) c.self.inside.net c.self.inside.pending.buckets _ _ [] c.self.invariant.ready.working
     (follows_reset plan _ c.args.latch c.args.value e)
     (plan_restarted plan _ c.args.latch c.args.value w.plan_is e).circuit.sound refl
 
@@ -46,20 +47,20 @@ pub overflow_add-position : goal.overflow_add-position
 overflow_add-position g c =
     let (x, at, e) = c.in_ok-position.ensures.latch in
     let inside = slice_get_within c.self.inside.plan.circuit.latches c.in_ok-position.position x at in
-    let few = c.self.invariant.working.work.plan_is.circuit.formed.counts.latches in
+    let few = c.self.invariant.ready.working.work.plan_is.circuit.formed.counts.latches in
     omega arith
 
 pub add-requires-clause-inside : goal.add-requires-clause-inside
 add-requires-clause-inside g c =
     let (x, at, e) = c.in_ok-position.ensures.latch in
     let inside = slice_get_within c.self.inside.plan.circuit.latches c.in_ok-position.position x at in
-    let size = c.self.invariant.lists.here.size in
+    let size = c.self.invariant.ready.lists.here.size in
     omega arith
 
 pub renew_from-requires-clause-lists : goal.renew_from-requires-clause-lists
 renew_from-requires-clause-lists g c =
     let plan = c.self.inside.plan in
-    let h = c.self.invariant.lists in
+    let h = c.self.invariant.ready.lists in
     let e = c.replace_reset.ensures in
     let size = latches_reset plan.circuit _ c.args.latch c.args.value e in
     record {
@@ -71,19 +72,19 @@ renew_from-requires-clause-lists g c =
 pub renew_from-requires-clause-next : goal.renew_from-requires-clause-next
 renew_from-requires-clause-next g c =
     let plan = c.self.inside.plan in
-    let w = c.self.invariant.working.work in
+    let w = c.self.invariant.ready.working.work in
     let e = c.replace_reset.ensures in
     all_next plan (record plan { circuit = c.replace_reset.new.self }) c.self.inside.net c.self.inside.pending.buckets _ _ []
-    c.self.invariant.working (follows_reset plan _ c.args.latch c.args.value e)
+    c.self.invariant.ready.working (follows_reset plan _ c.args.latch c.args.value e)
     (plan_restarted plan _ c.args.latch c.args.value w.plan_is e).circuit.sound refl
 
 pub renew_from-requires-clause-carried : goal.renew_from-requires-clause-carried
 renew_from-requires-clause-carried g c =
     let plan = c.self.inside.plan in
-    let w = c.self.invariant.working.work in
+    let w = c.self.invariant.ready.working.work in
     let e = c.replace_reset.ensures in
     all_latches plan (record plan { circuit = c.replace_reset.new.self }) c.self.inside.net c.self.inside.pending.buckets _ _ []
-    c.self.invariant.working (follows_reset plan _ c.args.latch c.args.value e)
+    c.self.invariant.ready.working (follows_reset plan _ c.args.latch c.args.value e)
     (plan_restarted plan _ c.args.latch c.args.value w.plan_is e).circuit.sound refl c.add.new.self
     (λ i x at out. other_start plan.circuit c.args.latch c.args.value c.in_ok-position.position i x
     w.plan_is.circuit.sound c.in_ok-position.ensures.latch
@@ -93,25 +94,29 @@ renew_from-requires-clause-carried g c =
 pub invariant_of-self : goal.invariant_of-self
 invariant_of-self g c =
     record {
-      working = working _ c.self.inside.net _ _ _ c.renew_from.ensures.work c.renew_from.ensures.idle.gates
-          (all_current _ [] 0 _ _ _ _ _ (none_current _ _) c.renew_from.ensures.renewed);
-      lists = c.renew_from.ensures.lists;
-      idle = c.renew_from.ensures.idle;
+      ready = record {
+        working = working _ c.self.inside.net _ _ _ c.renew_from.ensures.work c.renew_from.ensures.idle.gates
+            (all_current _ [] 0 _ _ _ _ _ (none_current _ _) c.renew_from.ensures.renewed);
+        lists = c.renew_from.ensures.lists;
+        idle = c.renew_from.ensures.idle;
+      };
+      orders = orders_reset c.self.inside.plan.circuit c.replace_reset.new.self c.args.latch c.args.value c.self.inside.order
+          c.replace_reset.ensures c.self.invariant.orders;
     }
 
 pub returns-clause-works : goal.returns-clause-works
 returns-clause-works g c =
     let plan = c.self.inside.plan in
-    let w = c.self.invariant.working.work in
+    let w = c.self.invariant.ready.working.work in
     let e = c.replace_reset.ensures in
     let follows = follows_reset plan _ c.args.latch c.args.value e in
     let sound = (plan_restarted plan _ c.args.latch c.args.value w.plan_is e).circuit.sound in
     let is = ap (λ (x : Raw). let p : Pair = record { circuit = x; rows = plan.stimulus.rows } in p) e in
     rw (← c.self.view_is) (
-      all_touched plan (record plan { circuit = c.replace_reset.new.self }) c.self.inside.net c.self.inside.pending.buckets _ _ [] c.self.invariant.working follows sound refl
+      all_touched plan (record plan { circuit = c.replace_reset.new.self }) c.self.inside.net c.self.inside.pending.buckets _ _ [] c.self.invariant.ready.working follows sound refl
           (set_reset c.args.latch c.args.value) is (forces_none (pair_of plan) c.args.latch c.args.value)
           (none_forced c.replace_reset.new.self) _ _ _ c.renew_from.ensures.renewed,
-      all_changed plan (record plan { circuit = c.replace_reset.new.self }) c.self.inside.net c.self.inside.pending.buckets _ _ [] c.self.invariant.working follows sound refl
+      all_changed plan (record plan { circuit = c.replace_reset.new.self }) c.self.inside.net c.self.inside.pending.buckets _ _ [] c.self.invariant.ready.working follows sound refl
           (set_reset c.args.latch c.args.value) is (forces_none (pair_of plan) c.args.latch c.args.value)
           (none_forced c.replace_reset.new.self) _ _ _ c.renew_from.ensures.renewed,
       c.renew_from.ensures.count,

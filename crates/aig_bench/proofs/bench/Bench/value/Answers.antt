@@ -32,6 +32,6 @@ returns g c =
       value_allowed (pair_of plan) c.args.frame c.args.literal range defined there,
       literal_has_value (pair_of plan) c.args.frame (row_at (g.G.Grid.cells c.self.inside.grid) c.args.frame)
           c.args.literal
-          c.self.invariant.working.bench.plan_is.circuit.sound
-          (c.self.invariant.working.bench.current.each c.args.frame there (variable c.args.literal) defined),
+          c.self.invariant.ready.working.bench.plan_is.circuit.sound
+          (c.self.invariant.ready.working.bench.current.each c.args.frame there (variable c.args.literal) defined),
     )

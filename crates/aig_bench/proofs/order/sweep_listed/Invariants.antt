@@ -1,0 +1,17 @@
+use Rattle.std.proofs.Common.{◌≡◌, ◌+◌, ◌-◌, ◌≤◌, length, take}
+use Rattle.aig_sim.specs.Cells.{with_swept_row}
+use Rattle.aig_bench.specs.Order.{gates_at}
+use Rattle.aig_bench.proofs.order.sweep_listed.Given as goal
+
+abbrev pub invariant-loop-done : goal.invariant-loop-done
+invariant-loop-done g l = record {
+  done : l.done ≤ length l.positions;
+  room : length l.batch ≡ 256;
+  cells : g.G.Grid.cells l.grid
+      ≡ with_swept_row (g.G.Grid.cells l.initial.grid) l.frame (gates_at l.gates (take l.done l.positions));
+  flags : g.G.Grid.gate_flags l.grid ≡ g.G.Grid.gate_flags l.initial.grid;
+  count : g.G.Grid.evaluations l.grid ≡ g.G.Grid.evaluations l.initial.grid + l.done;
+}
+
+abbrev pub decreases-loop-done : goal.decreases-loop-done
+decreases-loop-done g l = length l.positions - l.done
