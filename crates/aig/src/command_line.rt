@@ -5,7 +5,7 @@ use clap::{Arg, ArgMatches, Command};
 use std::alloc::{AllocError, Global};
 
 /// The program's version, and the toolchain that it is written for, as `rt version` names it. A program cannot tell how
-/// it was built: `rt ci` proves what it builds, and `bench/build_unproved.sh` says so here where nothing was proved.
+/// it was built: `rt ci` proves what it builds, and `tests/build_unproved.sh` says so here where nothing was proved.
 static VERSION: &str = "0.1.0 (rattle-kit-13b logic dac8208d650f15bf, proved where rt ci built it)";
 
 static FORMATS: [&str; 2] = ["aag", "aig"];

@@ -4,10 +4,10 @@ use Rattle.std.proofs.Common.{get_or, Contains, refl, sym, ap, subst, ◌∙◌,
 use Rattle.std.proofs.lemmas.List.{length_push}
 use Rattle.std.proofs.lemmas.Option.{slice_get_within}
 use Rattle.smallvec.specs.SmallVec.{SmallVec}
-use Rattle.aig_base.specs.declared.raw.Raw.{Raw}
+use Rattle.aig_parts.specs.declared.raw.Raw.{Raw}
 use Rattle.aig_base.specs.Changes.{next_gate, with_appended_gate}
 use Rattle.aig_base.specs.Circuit.{IsCircuit}
-use Rattle.aig_base.specs.Literal.{variable}
+use Rattle.aig_parts.specs.Literal.{variable}
 use Rattle.aig_base.specs.Readers.{Appends, AreReaders, AreTallied, Fits, Keeps, Reads, ReadsBefore, reader_lists}
 use Rattle.aig_base.specs.Readers.{tally}
 use Rattle.aig_base.specs.Sections.{IsDefined}

@@ -11,9 +11,9 @@ use Rattle.std.proofs.lemmas.List.{length-map, length_push}
 use Rattle.std.proofs.lemmas.List.Elements.{All-contains, Contains-push_cases}
 use Rattle.std.proofs.lemmas.List.FromFn.{length-range_with_len, get_or-range_with_len}
 use Rattle.std.proofs.lemmas.Option.{slice_get-get_or, slice_get-map, slice_get_within, get_or_from_slice_get}
-use Rattle.aig_base.specs.declared.gate.Gate.{Gate}
-use Rattle.aig_base.specs.declared.raw.Raw.{Raw}
-use Rattle.aig_base.specs.Literal.{variable}
+use Rattle.aig_parts.specs.declared.gate.Gate.{Gate}
+use Rattle.aig_parts.specs.declared.raw.Raw.{Raw}
+use Rattle.aig_parts.specs.Literal.{variable}
 use Rattle.aig_base.specs.Grounded.{Level}
 use Rattle.aig_base.specs.Order.{IsCanonicalOrder}
 use Rattle.aig_base.specs.Sections.{definitions, uses, IsDefined}
@@ -24,7 +24,7 @@ use Rattle.aig_base.proofs.OneLevel.{same_level}
 use Rattle.aig_base.proofs.Places.{gate}
 use Rattle.aig_base.proofs.Positions.{unmap, Contains-from_slice_get}
 use Rattle.aig_base.proofs.Roles.{unmap_some, one_place}
-use Rattle.aig_base.proofs.SymbolKeys.{equivalence_from_same}
+use Rattle.aig_parts.proofs.SymbolKeys.{equivalence_from_same}
 
 eqb-false : (a b : ℕ) → (a ≡ b → ⊥) → eqb a b ≡ false
 eqb-false a b h = grind (arith, nat_tests)

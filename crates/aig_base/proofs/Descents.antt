@@ -10,14 +10,14 @@ use Rattle.std.proofs.lemmas.List.Elements.{Contains-push, Contains-push_cases, 
 use Rattle.std.proofs.lemmas.List.Quantifiers.{all_pairs_push}
 use Rattle.std.proofs.lemmas.List.Sums.{sum_by-set, count_by-le-length}
 use Rattle.std.proofs.lemmas.Option.{slice_get_within, slice_get-get_or, get_or_from_slice_get}
-use Rattle.aig_base.specs.declared.gate.Gate.{Gate}
-use Rattle.aig_base.specs.declared.raw.Raw.{Raw}
+use Rattle.aig_parts.specs.declared.gate.Gate.{Gate}
+use Rattle.aig_parts.specs.declared.raw.Raw.{Raw}
 use Rattle.aig_base.specs.Circuit.{IsCircuit}
 use Rattle.aig_base.specs.Descent.{IsMet, IsOver, IsSettled, IsDescent, Settles}
 use Rattle.aig_base.specs.Grounded.{Level, IsSource, IsAcyclic}
 use Rattle.aig_base.specs.Grounded as by
 use Rattle.aig_base.specs.Levels.{AreLevels}
-use Rattle.aig_base.specs.Literal.{variable}
+use Rattle.aig_parts.specs.Literal.{variable}
 use Rattle.aig_base.specs.Sections.{IsGate}
 use Rattle.aig_base.specs.Sound.{IsSound}
 use Rattle.aig_base.specs.Walk.{Meets}

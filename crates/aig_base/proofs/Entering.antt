@@ -5,16 +5,16 @@ use Rattle.std.proofs.Common.{Contains}
 use Rattle.std.proofs.lemmas.List.{length-set, length_push, map-append, map_more}
 use Rattle.std.proofs.lemmas.List.Elements.{Contains-push, Contains-push_cases, Contains-append_left}
 use Rattle.std.proofs.lemmas.Option.{slice_get_within, same_Some}
-use Rattle.aig_base.specs.declared.raw.Raw.{Raw}
+use Rattle.aig_parts.specs.declared.raw.Raw.{Raw}
 use Rattle.aig_base.specs.declared.definition.Definition.{Definition}
 use Rattle.aig_base.specs.Definition.{Defines}
 use Rattle.aig_base.specs.Entries.{IsEntryOf, IsLeastTwice, AreEntries}
 use Rattle.aig_base.specs.FirstFault.{IsLeast}
 use Rattle.aig_base.specs.Least.{lesser, latch_variable, gate_variable}
-use Rattle.aig_base.specs.Literal.{variable}
+use Rattle.aig_parts.specs.Literal.{variable}
 use Rattle.aig_base.specs.Sections.{definitions}
-use Rattle.aig_base.specs.declared.gate.Gate.{Gate}
-use Rattle.aig_base.specs.declared.latch.Latch.{Latch}
+use Rattle.aig_parts.specs.declared.gate.Gate.{Gate}
+use Rattle.aig_parts.specs.declared.latch.Latch.{Latch}
 use Rattle.aig_base.specs.Sound.{StandsTwice}
 use Rattle.aig_base.proofs.Gets.{slice_get_left, slice_get_push, slice_get_last, slice_get-set_same}
 use Rattle.aig_base.proofs.Gets.{slice_get-set_other, Contains-from_get, get_from_Contains}

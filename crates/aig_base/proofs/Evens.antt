@@ -6,7 +6,7 @@ use Rattle.std.proofs.lemmas.List.{take_more, take_at, append_cancel_left, map-a
 use Rattle.std.proofs.lemmas.List.Elements.{All-same}
 use Rattle.std.proofs.lemmas.List.FromFn.{length-map-range_with_len, get_or-map-range_with_len, map-range_with_len_more}
 use Rattle.std.specs.List.{range_with_len}
-use Rattle.aig_base.specs.declared.raw.Raw.{Raw}
+use Rattle.aig_parts.specs.declared.raw.Raw.{Raw}
 use Rattle.aig_base.specs.Sections.{definitions}
 use Rattle.aig_base.specs.Renumbered.{evens, evens_from}
 use Rattle.aig_base.specs.Ready.{SectionsInOrder}

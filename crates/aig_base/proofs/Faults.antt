@@ -6,19 +6,19 @@ use Rattle.std.specs.List.{Any, flat_map}
 use Rattle.std.proofs.lemmas.List.Elements.{All-append, All-nil, All-cons, All-map, All-contains}
 use Rattle.std.proofs.lemmas.Option.{slice_get-get_or, slice_get-map, same_Some}
 use Rattle.aig_base.specs.declared.definition.Definition.{Definition}
-use Rattle.aig_base.specs.declared.fault.Fault.{Fault}
-use Rattle.aig_base.specs.declared.fault.Fault.TheVariants as fault
-use Rattle.aig_base.specs.declared.gate.Gate.{Gate}
-use Rattle.aig_base.specs.declared.latch.Latch.{Latch}
-use Rattle.aig_base.specs.declared.raw.Raw.{Raw}
+use Rattle.aig_parts.specs.declared.fault.Fault.{Fault}
+use Rattle.aig_parts.specs.declared.fault.Fault.TheVariants as fault
+use Rattle.aig_parts.specs.declared.gate.Gate.{Gate}
+use Rattle.aig_parts.specs.declared.latch.Latch.{Latch}
+use Rattle.aig_parts.specs.declared.raw.Raw.{Raw}
 use Rattle.aig_base.specs.Circuit.{IsCircuit}
 use Rattle.aig_base.specs.Definition.{IsEntry, IsTable}
 use Rattle.aig_base.specs.Entries.{IsEntryOf, AreEntries}
 use Rattle.aig_base.specs.FirstFault.{IsLeast, HasBadReset, IsUngrounded, Applies, number_of, IsFirstFault}
-use Rattle.aig_base.specs.Formed.{IsFormed}
+use Rattle.aig_parts.specs.Formed.{IsFormed}
 use Rattle.aig_base.specs.Grounded.{Grounded, IsAcyclic}
 use Rattle.aig_base.specs.Least.{IsLeastAmong, IsKnown, IsGroundedGate, gate_variable, latch_variable}
-use Rattle.aig_base.specs.Literal.{variable}
+use Rattle.aig_parts.specs.Literal.{variable}
 use Rattle.aig_base.specs.Ranged.{AreInRange, AreDefinedOnce, AreDefinitions}
 use Rattle.aig_base.specs.Sections.{definitions, uses, IsDefined}
 use Rattle.aig_base.specs.Sound.{IsInRange, IsDefinition, IsRedefined, IsUndefined, IsReset}

@@ -5,13 +5,13 @@ use Rattle.std.proofs.Common.{ap, subst, arith, option_map}
 use Rattle.std.proofs.lemmas.Bool.{false≢true}
 use Rattle.std.proofs.lemmas.Option.{slice_get-map, same_Some, none-some}
 use Rattle.std.proofs.lemmas.List.Elements.{All-contains, Contains-append_left, Contains-append_right}
-use Rattle.aig_base.specs.declared.gate.Gate.{Gate}
-use Rattle.aig_base.specs.declared.latch.Latch.{Latch}
-use Rattle.aig_base.specs.declared.raw.Raw.{Raw}
+use Rattle.aig_parts.specs.declared.gate.Gate.{Gate}
+use Rattle.aig_parts.specs.declared.latch.Latch.{Latch}
+use Rattle.aig_parts.specs.declared.raw.Raw.{Raw}
 use Rattle.aig_base.specs.declared.definition.Definition.{Definition}
 use Rattle.aig_base.specs.declared.definition.Definition.TheVariants as definition
 use Rattle.aig_base.specs.Definition.{Defines, IsFree}
-use Rattle.aig_base.specs.Literal.{variable}
+use Rattle.aig_parts.specs.Literal.{variable}
 use Rattle.aig_base.specs.Sections.{definitions, uses, IsDefined, IsGate, IsLeftSide}
 use Rattle.aig_base.specs.Grounded.{IsSource, Grounded, IsAcyclic, Level}
 use Rattle.aig_base.specs.Grounded as by

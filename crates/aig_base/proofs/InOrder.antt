@@ -5,12 +5,12 @@ use Rattle.std.proofs.lemmas.List.{length-map, get_or-map}
 use Rattle.std.proofs.lemmas.List.Elements.{All-weaker}
 use Rattle.std.proofs.lemmas.Option.{slice_get-get_or, slice_get_within, get_or_from_slice_get}
 use Rattle.aig_base.specs.declared.definition.Definition.TheVariants as definition
-use Rattle.aig_base.specs.declared.gate.Gate.{Gate}
-use Rattle.aig_base.specs.declared.latch.Latch.{Latch}
-use Rattle.aig_base.specs.declared.raw.Raw.{Raw}
+use Rattle.aig_parts.specs.declared.gate.Gate.{Gate}
+use Rattle.aig_parts.specs.declared.latch.Latch.{Latch}
+use Rattle.aig_parts.specs.declared.raw.Raw.{Raw}
 use Rattle.aig_base.specs.Definition.{Defines, IsFree, IsInOrder}
 use Rattle.aig_base.specs.Least.{ReadsSmaller}
-use Rattle.aig_base.specs.Literal.{variable}
+use Rattle.aig_parts.specs.Literal.{variable}
 use Rattle.aig_base.specs.Ranged.{AreInRange, AreSectionsInRange, AreDefinedOnce}
 use Rattle.aig_base.specs.Renumbered.{evens_from}
 use Rattle.aig_base.specs.Sections.{definitions, uses, IsDefined}

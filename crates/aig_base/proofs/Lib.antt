@@ -4,7 +4,6 @@ pub mod AppendedLevels
 pub mod AppendedReaders
 pub mod Ascending
 pub mod BehindLemmas
-pub mod BitLemmas
 pub mod Chains
 pub mod Circuits
 pub mod Counting
@@ -27,7 +26,6 @@ pub mod LevelSteps
 pub mod ListPlaces
 pub mod ListedReaders
 pub mod Marking
-pub mod NamedLemmas
 pub mod NegatedValues
 pub mod NoFault
 pub mod NoOtherValue
@@ -53,8 +51,6 @@ pub mod Renumberings
 pub mod Rewiring
 pub mod Roles
 pub mod Searches
-pub mod SymbolKeys
-pub mod SymbolLemmas
 pub mod Tables
 pub mod TidyLists
 pub mod UniqueValue

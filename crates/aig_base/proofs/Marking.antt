@@ -9,13 +9,13 @@ use Rattle.std.proofs.lemmas.List.Elements.{Contains-append_right, Contains-appe
 use Rattle.std.proofs.lemmas.List.Sums.{sum_by-set}
 use Rattle.std.proofs.lemmas.Option.{slice_get-get_or, slice_get_within, same_Some, get_or_from_slice_get}
 use Rattle.std.proofs.lemmas.Option.{slice_get-map, none-some}
-use Rattle.aig_base.specs.declared.gate.Gate.{Gate}
-use Rattle.aig_base.specs.declared.raw.Raw.{Raw}
+use Rattle.aig_parts.specs.declared.gate.Gate.{Gate}
+use Rattle.aig_parts.specs.declared.raw.Raw.{Raw}
 use Rattle.aig_base.specs.Grounded as grounded
 use Rattle.aig_base.specs.Grounded.{IsSource, Grounded}
 use Rattle.aig_base.specs.Least.{latch_variable}
 use Rattle.aig_base.specs.Links.{Leads, AreLinks}
-use Rattle.aig_base.specs.Literal.{variable}
+use Rattle.aig_parts.specs.Literal.{variable}
 use Rattle.aig_base.specs.Marks.{IsMarked, AreMarks, sides, AreStarted, AddsMark, Moves, Waits, IsMarking}
 use Rattle.aig_base.specs.Walk.{Meets}
 use Rattle.aig_base.proofs.Chains.{leads_cases, leads_nowhere, side_first, side_second}

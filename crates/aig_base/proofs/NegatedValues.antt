@@ -1,14 +1,14 @@
 -- Values of negated literals, and of gates whose right sides were put in order.
 use Rattle.std.proofs.Common.{◌≡◌, ℕ, suc, ◌+◌, ◌-◌, List, All, Some, slice_get, nat_lt, Bool, true, false, refl, sym}
 use Rattle.std.proofs.Common.{subst, arith}
-use Rattle.aig_base.specs.declared.raw.Raw.{Raw}
-use Rattle.aig_base.specs.declared.ternary.Tern.{Tern}
-use Rattle.aig_base.specs.declared.ternary.Tern.TheVariants.{Zero, One, X}
-use Rattle.aig_base.specs.Literal.{negation}
+use Rattle.aig_parts.specs.declared.raw.Raw.{Raw}
+use Rattle.aig_parts.specs.declared.ternary.Tern.{Tern}
+use Rattle.aig_parts.specs.declared.ternary.Tern.TheVariants.{Zero, One, X}
+use Rattle.aig_parts.specs.Literal.{negation}
 use Rattle.aig_base.specs.Renumbered.{ready_gate}
 use Rattle.aig_base.specs.Sections.{definitions}
 use Rattle.aig_base.specs.Sound.{IsDefinition}
-use Rattle.aig_base.specs.Ternary.{kleene_and, kleene_not}
+use Rattle.aig_parts.specs.Ternary.{kleene_and, kleene_not}
 use Rattle.aig_base.specs.Value as value
 use Rattle.aig_base.specs.Value.{Value}
 use Rattle.aig_base.proofs.Places.{input, latch, gate, IsDefinition-of_definitions}

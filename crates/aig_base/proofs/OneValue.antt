@@ -3,12 +3,12 @@ use Rattle.std.proofs.Common.{◌≡◌, ◌⊎◌, inl, inr, ℕ, zero, suc, �
 use Rattle.std.proofs.Common.{get_or, Contains, refl, ◌∙◌, ap, arith, option_map}
 use Rattle.std.proofs.lemmas.Option.{slice_get-map, slice_get_within, slice_get-get_or}
 use Rattle.std.proofs.lemmas.List.Elements.{All-contains, Contains-append_left as left}
-use Rattle.aig_base.specs.declared.ternary.Tern.{Tern}
-use Rattle.aig_base.specs.declared.ternary.Tern.TheVariants.{Zero, One, X}
-use Rattle.aig_base.specs.declared.latch.Latch.{Latch}
-use Rattle.aig_base.specs.Ternary.{kleene_and, kleene_not}
-use Rattle.aig_base.specs.Literal.{variable, IsNegated}
-use Rattle.aig_base.specs.declared.raw.Raw.{Raw}
+use Rattle.aig_parts.specs.declared.ternary.Tern.{Tern}
+use Rattle.aig_parts.specs.declared.ternary.Tern.TheVariants.{Zero, One, X}
+use Rattle.aig_parts.specs.declared.latch.Latch.{Latch}
+use Rattle.aig_parts.specs.Ternary.{kleene_and, kleene_not}
+use Rattle.aig_parts.specs.Literal.{variable, IsNegated}
+use Rattle.aig_parts.specs.declared.raw.Raw.{Raw}
 use Rattle.aig_base.specs.Sections.{uses, IsDefined}
 use Rattle.aig_base.specs.Grounded.{Grounded, IsSource, IsAcyclic}
 use Rattle.aig_base.specs.Grounded as grounded

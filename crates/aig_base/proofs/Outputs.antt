@@ -5,17 +5,17 @@ use Rattle.aig_base.specs.declared.definition.Definition.{Definition}
 use Rattle.aig_base.specs.declared.definition.Definition.TheVariants as definition
 use Rattle.aig_base.specs.declared.definitions.Definitions.{Definitions}
 use Rattle.aig_base.specs.declared.definitions.Definitions.TheVariants as kept
-use Rattle.aig_base.specs.declared.raw.Raw.{Raw}
-use Rattle.aig_base.specs.declared.symbols.Kind.{Kind}
-use Rattle.aig_base.specs.declared.symbols.Kind.TheVariants as kind
+use Rattle.aig_parts.specs.declared.raw.Raw.{Raw}
+use Rattle.aig_parts.specs.declared.symbols.Kind.{Kind}
+use Rattle.aig_parts.specs.declared.symbols.Kind.TheVariants as kind
 use Rattle.aig_base.specs.Changes.{with_output}
 use Rattle.aig_base.specs.Circuit.{IsCircuit}
 use Rattle.aig_base.specs.Definition.{IsEntry, IsTable}
 use Rattle.aig_base.specs.Definitions.{Tells}
-use Rattle.aig_base.specs.Formed.{IsFormed, section_length}
+use Rattle.aig_parts.specs.Formed.{IsFormed, section_length}
 use Rattle.aig_base.specs.Grounded as grounded
 use Rattle.aig_base.specs.Grounded.{IsSource, Grounded}
-use Rattle.aig_base.specs.Literal.{variable}
+use Rattle.aig_parts.specs.Literal.{variable}
 use Rattle.aig_base.specs.Sections.{IsDefined}
 use Rattle.aig_base.specs.Sound.{IsInRange, IsSound}
 use Rattle.aig_base.proofs.Faults.{in_range_joined, in_range_parted, uses_joined, uses_parted}

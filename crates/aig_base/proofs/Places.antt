@@ -4,10 +4,10 @@ use Rattle.std.proofs.Common.{arith, option_map, length-append}
 use Rattle.std.proofs.lemmas.Option.{slice_get-map, slice_get_within}
 use Rattle.std.proofs.lemmas.List.{length-map}
 use Rattle.std.proofs.lemmas.List.Elements.{All-contains}
-use Rattle.aig_base.specs.declared.gate.Gate.{Gate}
-use Rattle.aig_base.specs.declared.latch.Latch.{Latch}
-use Rattle.aig_base.specs.Literal.{variable, IsNegated}
-use Rattle.aig_base.specs.declared.raw.Raw.{Raw}
+use Rattle.aig_parts.specs.declared.gate.Gate.{Gate}
+use Rattle.aig_parts.specs.declared.latch.Latch.{Latch}
+use Rattle.aig_parts.specs.Literal.{variable, IsNegated}
+use Rattle.aig_parts.specs.declared.raw.Raw.{Raw}
 use Rattle.aig_base.specs.Sections.{definitions}
 use Rattle.aig_base.specs.Sound.{IsSound, IsDefinition}
 use Rattle.aig_base.proofs.Positions.{slice_get_left, slice_get_right, Contains-from_slice_get}

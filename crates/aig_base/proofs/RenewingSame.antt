@@ -1,7 +1,7 @@
 -- What waits and what is done may be said in another way.
 use Rattle.std.proofs.Common.{◌≡◌, ◌≢◌, ◌⊎◌, ◌↔◌, ◌≤◌, inl, inr, ℕ, List, Some, Contains, length, slice_get}
-use Rattle.aig_base.specs.declared.raw.Raw.{Raw}
-use Rattle.aig_base.specs.Literal.{variable}
+use Rattle.aig_parts.specs.declared.raw.Raw.{Raw}
+use Rattle.aig_parts.specs.Literal.{variable}
 use Rattle.aig_base.specs.Readers.{AreReaders, ReaderLists, list_of}
 use Rattle.aig_base.specs.Rewires.{Renewing, RenewsAt}
 use Rattle.aig_base.proofs.ListedReaders.{listed, reads}

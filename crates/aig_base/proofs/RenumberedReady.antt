@@ -6,12 +6,12 @@ use Rattle.std.proofs.lemmas.Bool.Decides.{nat_tests}
 use Rattle.std.proofs.lemmas.List.{length-map, ext_get_or, get_or_default}
 use Rattle.std.proofs.lemmas.List.Elements.{All-map}
 use Rattle.std.proofs.lemmas.Option.{slice_get-map, slice_get-get_or, slice_get_within, get_or_from_slice_get}
-use Rattle.aig_base.specs.declared.gate.Gate.{Gate}
-use Rattle.aig_base.specs.declared.latch.Latch.{Latch}
-use Rattle.aig_base.specs.declared.raw.Raw.{Raw}
+use Rattle.aig_parts.specs.declared.gate.Gate.{Gate}
+use Rattle.aig_parts.specs.declared.latch.Latch.{Latch}
+use Rattle.aig_parts.specs.declared.raw.Raw.{Raw}
 use Rattle.aig_base.specs.Grounded as grounded
 use Rattle.aig_base.specs.Grounded.{Grounded, IsSource, IsAcyclic, Level}
-use Rattle.aig_base.specs.Literal.{variable, with_sign, IsEven}
+use Rattle.aig_parts.specs.Literal.{variable, with_sign, IsEven}
 use Rattle.aig_base.specs.Order.{IsCanonicalOrder}
 use Rattle.aig_base.specs.Ready.{SectionsInOrder}
 use Rattle.aig_base.specs.Renumbered.{ordered_gates, renumbered, renumbered_gate, renumbered_latch, renumbered_literal}

@@ -11,21 +11,21 @@ use Rattle.aig_base.specs.declared.definition.Definition.{Definition}
 use Rattle.aig_base.specs.declared.definition.Definition.TheVariants as definition
 use Rattle.aig_base.specs.declared.definitions.Definitions.{Definitions}
 use Rattle.aig_base.specs.declared.definitions.Definitions.TheVariants as kept
-use Rattle.aig_base.specs.declared.gate.Gate.{Gate}
-use Rattle.aig_base.specs.declared.latch.Latch.{Latch}
-use Rattle.aig_base.specs.declared.raw.Raw.{Raw}
-use Rattle.aig_base.specs.declared.symbols.Kind.{Kind}
-use Rattle.aig_base.specs.declared.symbols.Kind.TheVariants as kind
-use Rattle.aig_base.specs.declared.ternary.Tern.{Tern}
-use Rattle.aig_base.specs.declared.ternary.Tern.TheVariants.{Zero, One, X}
+use Rattle.aig_parts.specs.declared.gate.Gate.{Gate}
+use Rattle.aig_parts.specs.declared.latch.Latch.{Latch}
+use Rattle.aig_parts.specs.declared.raw.Raw.{Raw}
+use Rattle.aig_parts.specs.declared.symbols.Kind.{Kind}
+use Rattle.aig_parts.specs.declared.symbols.Kind.TheVariants as kind
+use Rattle.aig_parts.specs.declared.ternary.Tern.{Tern}
+use Rattle.aig_parts.specs.declared.ternary.Tern.TheVariants.{Zero, One, X}
 use Rattle.aig_base.specs.Changes.{rewired, with_gate, reset_literal, restarted, with_reset}
 use Rattle.aig_base.specs.Circuit.{IsCircuit}
 use Rattle.aig_base.specs.Definition.{Defines, IsEntry, IsTable}
 use Rattle.aig_base.specs.Definitions.{Tells}
-use Rattle.aig_base.specs.Formed.{IsFormed, section_length}
+use Rattle.aig_parts.specs.Formed.{IsFormed, section_length}
 use Rattle.aig_base.specs.Grounded as grounded
 use Rattle.aig_base.specs.Grounded.{IsSource, Grounded, IsAcyclic}
-use Rattle.aig_base.specs.Literal.{variable}
+use Rattle.aig_parts.specs.Literal.{variable}
 use Rattle.aig_base.specs.Sections.{definitions, uses, IsDefined, IsLatchLiteral, IsLeftSide}
 use Rattle.aig_base.specs.Sound.{IsInRange, IsDefinition, IsReset, IsSound, StandsTwice}
 use Rattle.aig_base.proofs.Faults.{in_range_joined, in_range_parted, uses_joined, uses_parted}

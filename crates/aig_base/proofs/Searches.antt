@@ -7,13 +7,13 @@ use Rattle.std.proofs.lemmas.Bool.{cases_eq, cases_Bool, false≢true}
 use Rattle.std.proofs.lemmas.Option.{slice_get_read, same_Some, slice_get_within, slice_get-get_or}
 use Rattle.std.proofs.lemmas.Option.{get_or_from_slice_get}
 use Rattle.std.proofs.lemmas.List.Elements.{Contains-push_cases}
-use Rattle.aig_base.specs.declared.gate.Gate.{Gate}
-use Rattle.aig_base.specs.declared.raw.Raw.{Raw}
+use Rattle.aig_parts.specs.declared.gate.Gate.{Gate}
+use Rattle.aig_parts.specs.declared.raw.Raw.{Raw}
 use Rattle.aig_base.specs.declared.visits.Visits.{Visits}
 use Rattle.aig_base.specs.Circuit.{IsCircuit}
 use Rattle.aig_base.specs.Grounded.{Level}
 use Rattle.aig_base.specs.Levels.{AreLevels}
-use Rattle.aig_base.specs.Literal.{variable}
+use Rattle.aig_parts.specs.Literal.{variable}
 use Rattle.aig_base.specs.Readers.{AreReaders, ReaderLists, list_of}
 use Rattle.aig_base.specs.Rewires.{IsApart, IsBehind, IsSearchUp, IsSide, LooksAt}
 use Rattle.aig_base.specs.Sections.{IsDefined}

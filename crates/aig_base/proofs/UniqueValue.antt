@@ -1,11 +1,11 @@
 -- A literal has at most one value.
 use Rattle.std.proofs.Common.{◌≡◌, ℕ, zero, suc, ◌-◌, List, Some, slice_get, refl, sym, subst, arith}
-use Rattle.aig_base.specs.declared.ternary.Tern.{Tern}
-use Rattle.aig_base.specs.declared.ternary.Tern.TheVariants.{Zero, One}
-use Rattle.aig_base.specs.declared.gate.Gate.{Gate}
-use Rattle.aig_base.specs.declared.latch.Latch.{Latch}
-use Rattle.aig_base.specs.Ternary.{kleene_and, kleene_not}
-use Rattle.aig_base.specs.declared.raw.Raw.{Raw}
+use Rattle.aig_parts.specs.declared.ternary.Tern.{Tern}
+use Rattle.aig_parts.specs.declared.ternary.Tern.TheVariants.{Zero, One}
+use Rattle.aig_parts.specs.declared.gate.Gate.{Gate}
+use Rattle.aig_parts.specs.declared.latch.Latch.{Latch}
+use Rattle.aig_parts.specs.Ternary.{kleene_and, kleene_not}
+use Rattle.aig_parts.specs.declared.raw.Raw.{Raw}
 use Rattle.aig_base.specs.Sound.{IsSound}
 use Rattle.aig_base.specs.Value as value
 use Rattle.aig_base.specs.Value.{Value}

@@ -1,6 +1,6 @@
 -- A circuit: formed parts that are sound and acyclic.
-use Rattle.aig_base.specs.declared.raw.Raw.{Raw}
-use Rattle.aig_base.specs.Formed.{IsFormed}
+use Rattle.aig_parts.specs.declared.raw.Raw.{Raw}
+use Rattle.aig_parts.specs.Formed.{IsFormed}
 use Rattle.aig_base.specs.Sound.{IsSound}
 use Rattle.aig_base.specs.Grounded.{IsAcyclic}
 

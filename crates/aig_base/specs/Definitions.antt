@@ -3,7 +3,7 @@ use Rattle.std.specs.Prelude.{◌<◌, length}
 use Rattle.std.specs.Vec.{vec_capacity}
 use Rattle.aig_base.specs.declared.definitions.Definitions.{Definitions}
 use Rattle.aig_base.specs.declared.definitions.Definitions.TheVariants as kept
-use Rattle.aig_base.specs.declared.raw.Raw.{Raw}
+use Rattle.aig_parts.specs.declared.raw.Raw.{Raw}
 use Rattle.aig_base.specs.Definition.{IsInOrder, IsTable}
 
 -- these are the definitions of these parts

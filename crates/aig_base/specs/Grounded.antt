@@ -1,10 +1,10 @@
 -- The variables that rest on inputs and latches alone (AIGER 1.0: gate definitions are not cyclic), and their levels
 -- (profile).
 use Rattle.std.specs.Prelude.{◌≡◌, ℕ, ◌+◌, max, Some, slice_get}
-use Rattle.aig_base.specs.declared.gate.Gate.{Gate}
-use Rattle.aig_base.specs.declared.latch.Latch.{Latch}
-use Rattle.aig_base.specs.declared.raw.Raw.{Raw}
-use Rattle.aig_base.specs.Literal.{variable}
+use Rattle.aig_parts.specs.declared.gate.Gate.{Gate}
+use Rattle.aig_parts.specs.declared.latch.Latch.{Latch}
+use Rattle.aig_parts.specs.declared.raw.Raw.{Raw}
+use Rattle.aig_parts.specs.Literal.{variable}
 use Rattle.aig_base.specs.Sections.{IsGate}
 
 -- variable 0, an input or a latch

@@ -1,11 +1,11 @@
 -- The least key among those items of a list that are not as they should be.
 use Rattle.std.specs.Prelude.{◌≡◌, ◌⊎◌, ℕ, ◌<◌, min, List, Bool, true, Option, Some, None, All, slice_get, slice_index}
-use Rattle.aig_base.specs.declared.gate.Gate.{Gate}
-use Rattle.aig_base.specs.declared.latch.Latch.{Latch}
+use Rattle.aig_parts.specs.declared.gate.Gate.{Gate}
+use Rattle.aig_parts.specs.declared.latch.Latch.{Latch}
 use Rattle.aig_base.specs.declared.definition.Definition.{Definition}
-use Rattle.aig_base.specs.declared.raw.Raw.{Raw}
+use Rattle.aig_parts.specs.declared.raw.Raw.{Raw}
 use Rattle.aig_base.specs.Grounded.{Grounded}
-use Rattle.aig_base.specs.Literal.{variable}
+use Rattle.aig_parts.specs.Literal.{variable}
 
 -- an item with this key is not good
 abbrev pub HasBad : {X : Type 0} → (X → Type 0) → (X → ℕ) → List X → ℕ → Type 0

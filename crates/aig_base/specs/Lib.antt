@@ -1,4 +1,3 @@
-pub mod Bits
 pub mod Changes
 pub mod Circuit
 pub mod Completion
@@ -7,7 +6,6 @@ pub mod Definitions
 pub mod Descent
 pub mod Entries
 pub mod FirstFault
-pub mod Formed
 pub mod Grounded
 pub mod Laws
 pub mod Least
@@ -16,7 +14,6 @@ pub mod Levels
 pub mod Limits
 pub mod Links
 pub mod ListPlaces
-pub mod Literal
 pub mod Marks
 pub mod Order
 pub mod Queue
@@ -30,8 +27,6 @@ pub mod Rewires
 pub mod Role
 pub mod Sections
 pub mod Sound
-pub mod SymbolPlaces
-pub mod Ternary
 pub mod Value
 pub mod Visits
 pub mod Walk

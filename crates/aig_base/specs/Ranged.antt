@@ -1,7 +1,7 @@
 -- The first tests of parts.
 use Rattle.std.specs.Prelude.{ℕ, All}
-use Rattle.aig_base.specs.declared.raw.Raw.{Raw}
-use Rattle.aig_base.specs.Literal.{variable}
+use Rattle.aig_parts.specs.declared.raw.Raw.{Raw}
+use Rattle.aig_parts.specs.Literal.{variable}
 use Rattle.aig_base.specs.Sections.{definitions, uses, IsDefined}
 use Rattle.aig_base.specs.Sound.{IsInRange, IsDefinition, IsRedefined}
 

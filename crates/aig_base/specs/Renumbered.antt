@@ -2,10 +2,10 @@
 use Rattle.std.specs.Prelude.{◌≡◌, ℕ, ◌+◌, ◌*◌, ◌<◌, ◌≤◌, List, length, map, Option, find, All, nat_lt, ◌==◌}
 use Rattle.std.specs.Prelude.{if◌then◌else◌}
 use Rattle.std.specs.List.{filter_map, range_with_len}
-use Rattle.aig_base.specs.declared.gate.Gate.{Gate}
-use Rattle.aig_base.specs.declared.latch.Latch.{Latch}
-use Rattle.aig_base.specs.declared.raw.Raw.{Raw}
-use Rattle.aig_base.specs.Literal.{variable, with_sign}
+use Rattle.aig_parts.specs.declared.gate.Gate.{Gate}
+use Rattle.aig_parts.specs.declared.latch.Latch.{Latch}
+use Rattle.aig_parts.specs.declared.raw.Raw.{Raw}
+use Rattle.aig_parts.specs.Literal.{variable, with_sign}
 use Rattle.aig_base.specs.Sections.{definitions}
 use Rattle.aig_base.specs.Role as roles
 use Rattle.aig_base.specs.Role.{Role, role}

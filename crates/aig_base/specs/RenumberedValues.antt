@@ -1,8 +1,8 @@
 -- Values of a circuit and of its renumbered form, from the same start and the same rows.
 use Rattle.std.specs.Prelude.{ℕ, ◌<◌, List, length}
-use Rattle.aig_base.specs.declared.raw.Raw.{Raw}
-use Rattle.aig_base.specs.declared.ternary.Tern.{Tern}
-use Rattle.aig_base.specs.Literal.{variable}
+use Rattle.aig_parts.specs.declared.raw.Raw.{Raw}
+use Rattle.aig_parts.specs.declared.ternary.Tern.{Tern}
+use Rattle.aig_parts.specs.Literal.{variable}
 use Rattle.aig_base.specs.Renumbered.{renumbered, renumbered_literal}
 use Rattle.aig_base.specs.Sections.{IsDefined}
 use Rattle.aig_base.specs.Value.{Value}

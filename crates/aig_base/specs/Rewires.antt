@@ -2,12 +2,12 @@
 -- gates behind the gate, in the order of their old levels.
 use Rattle.std.specs.Prelude.{◌≡◌, ◌≢◌, ◌⊎◌, ℕ, ◌+◌, ◌<◌, ◌≤◌, List, false, not, length, count_by, Some, Contains}
 use Rattle.std.specs.Prelude.{slice_get, slice_set, slice_index, slice_index_or, if◌then◌else◌}
-use Rattle.aig_base.specs.declared.gate.Gate.{Gate}
-use Rattle.aig_base.specs.declared.raw.Raw.{Raw}
+use Rattle.aig_parts.specs.declared.gate.Gate.{Gate}
+use Rattle.aig_parts.specs.declared.raw.Raw.{Raw}
 use Rattle.aig_base.specs.declared.visits.Visits.{Visits}
 use Rattle.aig_base.specs.Changes.{with_gate}
 use Rattle.aig_base.specs.Grounded.{IsSource, Level}
-use Rattle.aig_base.specs.Literal.{variable}
+use Rattle.aig_parts.specs.Literal.{variable}
 use Rattle.aig_base.specs.Queue.{Queued, copies, entry}
 use Rattle.aig_base.specs.Visits.{IsVisited, VisitsAmong}
 

@@ -1,7 +1,7 @@
 -- What a variable is, with gates by their place in the canonical order.
 use Rattle.std.specs.Prelude.{ℕ, suc, List, [], ◌∷◌, Bool, Option, Some, None, map, option_map, ◌==◌, if◌then◌else◌}
-use Rattle.aig_base.specs.declared.raw.Raw.{Raw}
-use Rattle.aig_base.specs.Literal.{variable}
+use Rattle.aig_parts.specs.declared.raw.Raw.{Raw}
+use Rattle.aig_parts.specs.Literal.{variable}
 
 -- the first place at which the test gives true
 abbrev pub place_of : {A : Type 0} → (A → Bool) → List A → Option ℕ

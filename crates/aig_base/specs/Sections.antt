@@ -1,7 +1,7 @@
 -- What the sections of a circuit define and use (AIGER 1.0, ASCII format; AIGER 1.9, header).
 use Rattle.std.specs.Prelude.{ℕ, List, [], ◌∷◌, ◌++◌, map, flat_map, Contains}
-use Rattle.aig_base.specs.declared.raw.Raw.{Raw}
-use Rattle.aig_base.specs.Literal.{variable}
+use Rattle.aig_parts.specs.declared.raw.Raw.{Raw}
+use Rattle.aig_parts.specs.Literal.{variable}
 
 -- the literals that the inputs, latches and gates define
 abbrev pub definitions : Raw → List ℕ

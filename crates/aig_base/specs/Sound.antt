@@ -1,9 +1,9 @@
 -- What makes parts a circuit (AIGER 1.0, ASCII format; AIGER 1.9, resets; that each used variable is
 -- defined, and none twice, is profile).
 use Rattle.std.specs.Prelude.{◌≡◌, ◌⊎◌, ℕ, ◌+◌, ◌*◌, ◌<◌, ◌≤◌, List, ◌++◌, map, All, Contains, Some, slice_get}
-use Rattle.aig_base.specs.declared.latch.Latch.{Latch}
-use Rattle.aig_base.specs.declared.raw.Raw.{Raw}
-use Rattle.aig_base.specs.Literal.{variable, IsEven}
+use Rattle.aig_parts.specs.declared.latch.Latch.{Latch}
+use Rattle.aig_parts.specs.declared.raw.Raw.{Raw}
+use Rattle.aig_parts.specs.Literal.{variable, IsEven}
 use Rattle.aig_base.specs.Sections.{definitions, uses, IsDefined}
 
 abbrev pub IsInRange : Raw → ℕ → Type 0

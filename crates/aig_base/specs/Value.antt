@@ -1,12 +1,12 @@
 -- The value of a literal at a frame (AIGER 1.0 and 1.9, semantics; x is profile).
 use Rattle.std.specs.Prelude.{◌≡◌, ℕ, zero, suc, ◌-◌, ◌<◌, List, map, length, Some, slice_get, All}
-use Rattle.aig_base.specs.declared.ternary.Tern.{Tern}
-use Rattle.aig_base.specs.declared.ternary.Tern.TheVariants.{Zero, One, X}
-use Rattle.aig_base.specs.declared.gate.Gate.{Gate}
-use Rattle.aig_base.specs.declared.latch.Latch.{Latch}
-use Rattle.aig_base.specs.declared.raw.Raw.{Raw}
-use Rattle.aig_base.specs.Literal.{variable, IsNegated}
-use Rattle.aig_base.specs.Ternary.{kleene_and, kleene_not}
+use Rattle.aig_parts.specs.declared.ternary.Tern.{Tern}
+use Rattle.aig_parts.specs.declared.ternary.Tern.TheVariants.{Zero, One, X}
+use Rattle.aig_parts.specs.declared.gate.Gate.{Gate}
+use Rattle.aig_parts.specs.declared.latch.Latch.{Latch}
+use Rattle.aig_parts.specs.declared.raw.Raw.{Raw}
+use Rattle.aig_parts.specs.Literal.{variable, IsNegated}
+use Rattle.aig_parts.specs.Ternary.{kleene_and, kleene_not}
 use Rattle.aig_base.specs.Sections.{IsDefined}
 
 -- Value raw start rows t l w: at frame t literal l has the value w, where the latches start at these values and the

@@ -2,22 +2,21 @@
 ghost use Rattle.std.specs.Prelude.{◌≡◌, ◌+◌, ◌<◌, ◌∷◌, ◌++◌, [], ℕ, length, OnErr, OnOk};
 ghost use Rattle.std.specs.Vec.{vec_capacity};
 ghost use Rattle.aig_base.specs.Changes.{next_gate, with_appended_gate};
-ghost use Rattle.aig_base.specs.Formed.{limit};
+ghost use Rattle.aig_parts.specs.Formed.{limit};
 ghost use Rattle.aig_base.specs.Levels.{AreLevels};
-ghost use Rattle.aig_base.specs.Literal.{variable};
+ghost use Rattle.aig_parts.specs.Literal.{variable};
 ghost use Rattle.aig_base.specs.Queue.{IsEmptyQueue};
 ghost use Rattle.aig_base.specs.Readers.{AreReaders, HasRoom};
 ghost use Rattle.aig_base.specs.Sections.{IsDefined};
 ghost use Rattle.aig_base.specs.Visits.{AreNoVisits, FitsOneMore};
 
 use crate::circuit::Circuit;
-use crate::gate::Gate;
 use crate::level::{Levels, level_over};
-use crate::literal::Lit;
 use crate::queue::Queue;
 use crate::readers::{Readers, append_list, make_room_for_list};
 use crate::visits::Visits;
 use aig_bytes::Memory;
+use aig_parts::{Gate, Lit};
 
 impl Circuit {
     // The gate of the variable M + 1 with these right sides.

@@ -2,15 +2,12 @@
 ghost use Rattle.std.specs.Prelude.{◌≡◌, ◌<◌, length};
 ghost use Rattle.aig_base.specs.Changes.{with_gate, with_output, with_reset, reset_literal};
 ghost use Rattle.aig_base.specs.Grounded.{IsAcyclic};
-ghost use Rattle.aig_base.specs.Literal.{variable};
+ghost use Rattle.aig_parts.specs.Literal.{variable};
 ghost use Rattle.aig_base.specs.Sections.{IsDefined, IsLatchLiteral, IsLeftSide};
 
 use crate::circuit::Circuit;
 use crate::definition::Definition;
-use crate::gate::Gate;
-use crate::latch::Latch;
-use crate::literal::Lit;
-use crate::ternary::Tern;
+use aig_parts::{Gate, Latch, Lit, Tern};
 
 // The reset of a latch that starts at a value.
 fn reset_for(latch: Lit, value: Tern) -> Lit

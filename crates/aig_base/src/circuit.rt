@@ -6,12 +6,7 @@ ghost use Rattle.aig_base.specs.Renumbered.{IsBinaryReady};
 
 use crate::definition::Definition;
 use crate::definitions::Definitions;
-use crate::gate::Gate;
-use crate::latch::Latch;
-use crate::list::List;
-use crate::literal::Lit;
-use crate::raw::Raw;
-use crate::symbols::Symbols;
+use aig_parts::{Gate, Latch, List, Lit, Raw, Symbols};
 use std::marker::Model;
 
 /// A circuit: parts that are formed, sound and acyclic. `Circuit::check` makes one, and `Circuit::of_ready` one of
@@ -23,7 +18,7 @@ pub struct Circuit {
 }
 
 impl Model for Circuit {
-    ghost use Rattle.aig_base.specs.declared.raw.Raw.{Raw};
+    ghost use Rattle.aig_parts.specs.declared.raw.Raw.{Raw};
 
     ghost Value = { Raw };
 

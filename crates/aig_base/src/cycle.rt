@@ -3,13 +3,13 @@ ghost use Rattle.std.specs.Prelude.{IfOk};
 ghost use Rattle.std.specs.Bool.{OnTrue, OnFalse};
 ghost use Rattle.aig_base.specs.Changes.{with_gate};
 ghost use Rattle.aig_base.specs.Grounded.{IsAcyclic};
-ghost use Rattle.aig_base.specs.Literal.{variable};
+ghost use Rattle.aig_parts.specs.Literal.{variable};
 ghost use Rattle.aig_base.specs.Sections.{IsDefined, IsLeftSide};
 
 use crate::circuit::Circuit;
-use crate::literal::Lit;
 use crate::walk::Walk;
 use aig_bytes::Memory;
+use aig_parts::Lit;
 use std::alloc::Global;
 
 /// Whether the circuit with these right sides at a gate would not be acyclic. `gate` is the gate's even literal, and

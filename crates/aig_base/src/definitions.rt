@@ -4,12 +4,12 @@ ghost use Rattle.aig_base.specs.Changes.{with_appended_gate};
 ghost use Rattle.aig_base.specs.Circuit.{IsCircuit};
 ghost use Rattle.aig_base.specs.Definition.{Defines, IsFree, IsInOrder};
 ghost use Rattle.aig_base.specs.Definitions.{FitsOneDefinition, Tells};
-ghost use Rattle.aig_base.specs.Formed.{CountsFit};
-ghost use Rattle.aig_base.specs.declared.raw.Raw.{Raw};
+ghost use Rattle.aig_parts.specs.Formed.{CountsFit};
+ghost use Rattle.aig_parts.specs.declared.raw.Raw.{Raw};
 
 use crate::definition::Definition;
-use crate::raw::Raw;
 use aig_bytes::Memory;
+use aig_parts::Raw;
 
 /// What defines each variable of a circuit.
 #[derive(Drop, Debug)]

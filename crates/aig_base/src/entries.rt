@@ -2,16 +2,16 @@
 ghost use Rattle.std.specs.Prelude.{◌≡◌, ◌∷◌, ◌++◌, ◌<◌, ◌≤◌, List, [], ℕ, length, map, IfOk};
 ghost use Rattle.aig_base.specs.Definition.{Defines};
 ghost use Rattle.aig_base.specs.Entries.{AreEntries};
-ghost use Rattle.aig_base.specs.Formed.{CountsFit, limit};
+ghost use Rattle.aig_parts.specs.Formed.{CountsFit, limit};
 ghost use Rattle.aig_base.specs.Least.{gate_variable, latch_variable};
-ghost use Rattle.aig_base.specs.Literal.{variable};
+ghost use Rattle.aig_parts.specs.Literal.{variable};
 ghost use Rattle.aig_base.specs.Ranged.{AreInRange};
 ghost use Rattle.aig_base.specs.Sections.{definitions};
-ghost use Rattle.aig_base.specs.declared.raw.Raw.{Raw};
+ghost use Rattle.aig_parts.specs.declared.raw.Raw.{Raw};
 
 use crate::definition::Definition;
 use crate::least::lesser;
-use crate::raw::Raw;
+use aig_parts::Raw;
 use std::alloc::{AllocError, Global};
 
 /// The table of definitions, and the least variable that is defined again.

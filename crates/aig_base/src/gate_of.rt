@@ -1,12 +1,12 @@
 //! The gate that defines a variable.
 ghost use Rattle.std.specs.Prelude.{◌≡◌, ℕ, Some, slice_get, IfSome, IfNone};
-ghost use Rattle.aig_base.specs.Literal as literal;
+ghost use Rattle.aig_parts.specs.Literal as literal;
 ghost use Rattle.aig_base.specs.Renumbered.{gate_of};
 ghost use Rattle.aig_base.specs.Sections.{IsGate};
 
 use crate::circuit::Circuit;
 use crate::definition::Definition;
-use crate::gate::Gate;
+use aig_parts::Gate;
 
 impl Circuit {
     /// The gate with this variable on its left side, if there is one. It takes constant time.

@@ -1,20 +1,18 @@
 //! Which variables are grounded.
 ghost use Rattle.std.specs.Prelude.{◌≡◌, ◌↔◌, IsTrue, ◌+◌, ◌/◌, ◌∷◌, ◌++◌, ◌<◌, ◌≤◌, List, [], ℕ, suc, Some, length};
 ghost use Rattle.std.specs.Prelude.{map, All, slice_get, IfOk, OnOk};
-ghost use Rattle.aig_base.specs.Formed.{limit};
+ghost use Rattle.aig_parts.specs.Formed.{limit};
 ghost use Rattle.aig_base.specs.Least.{latch_variable};
 ghost use Rattle.aig_base.specs.Links.{AreLinks};
-ghost use Rattle.aig_base.specs.Literal.{variable};
+ghost use Rattle.aig_parts.specs.Literal.{variable};
 ghost use Rattle.aig_base.specs.Marks.{sides, AreMarks, HasParts, IsGateBelow, AreStarted, AddsMark, Moves, IsMarked};
 ghost use Rattle.aig_base.specs.Marks.{IsMarking};
-ghost use Rattle.aig_base.specs.declared.raw.Raw.{Raw};
+ghost use Rattle.aig_parts.specs.declared.raw.Raw.{Raw};
 
-use crate::gate::Gate;
-use crate::latch::Latch;
 use crate::links::Links;
-use crate::literal::Lit;
 use crate::walk::Walk;
 use aig_bytes::Memory;
+use aig_parts::{Gate, Latch, Lit};
 use std::alloc::Global;
 
 /// A walk that meets the variables which are known to be grounded; pending are those whose readers are still to be

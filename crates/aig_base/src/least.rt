@@ -2,17 +2,13 @@
 ghost use Rattle.std.specs.Prelude.{◌≡◌, ◌+◌, ◌∷◌, ◌<◌, ◌↔◌, [], length, map, All, IsTrue, slice_get};
 ghost use Rattle.std.specs.List.{flat_map};
 ghost use Rattle.aig_base.specs.Least.{lesser, IsLeastAmong, IsKnown, IsMarkedGate, gate_variable, latch_variable};
-ghost use Rattle.aig_base.specs.Literal.{variable};
+ghost use Rattle.aig_parts.specs.Literal.{variable};
 ghost use Rattle.aig_base.specs.Ranged.{AreInRange};
 ghost use Rattle.aig_base.specs.Sections.{uses};
 ghost use Rattle.aig_base.specs.Sound.{IsReset};
 
 use crate::definition::Definition;
-use crate::gate::Gate;
-use crate::latch::Latch;
-use crate::list::List;
-use crate::literal::Lit;
-use crate::raw::Raw;
+use aig_parts::{Gate, Latch, List, Lit, Raw};
 
 /// The lesser number, where there is one.
 pub(crate) fn lesser(a: Option<u32>, b: Option<u32>) -> Option<u32>

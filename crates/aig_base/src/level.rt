@@ -2,14 +2,14 @@
 ghost use Rattle.std.specs.Prelude.{◌≡◌, ◌⊎◌, ◌<◌, ◌^◌, length, Some, slice_get, IfNone, IfOk, IfSome, OnOk};
 ghost use Rattle.aig_base.specs.Descent.{level_above, IsDescent, IsMet, Settles};
 ghost use Rattle.aig_base.specs.Levels.{AreLevels};
-ghost use Rattle.aig_base.specs.Literal.{variable};
+ghost use Rattle.aig_parts.specs.Literal.{variable};
 
 use crate::circuit::Circuit;
-use crate::gate::Gate;
 use crate::queue::Queue;
 use crate::visits::Visits;
 use crate::walk::Walk;
 use aig_bytes::Memory;
+use aig_parts::Gate;
 use std::alloc::Global;
 use std::marker::Model;
 

@@ -1,13 +1,13 @@
 //! Positions by their keys.
 ghost use Rattle.std.specs.Prelude.{◌≡◌, ◌+◌, ◌*◌, ◌^◌, ◌∷◌, ◌++◌, ◌<◌, ◌≤◌, List, [], ℕ, Some, length, All, slice_get};
 ghost use Rattle.std.specs.Prelude.{IfOk, OnOk};
-ghost use Rattle.aig_base.specs.Formed.{limit};
+ghost use Rattle.aig_parts.specs.Formed.{limit};
 ghost use Rattle.aig_base.specs.Links.{AreLinks};
-ghost use Rattle.aig_base.specs.Literal.{variable};
+ghost use Rattle.aig_parts.specs.Literal.{variable};
 ghost use Rattle.aig_base.specs.Marks.{sides, IsGateBelow};
 
-use crate::gate::Gate;
 use aig_bytes::Memory;
+use aig_parts::Gate;
 use std::alloc::{AllocError, AllocFailed, Global};
 
 /// The positions of a list of keys, in a chain for each key. Link 0 ends a chain, and link `p + 1` leads to position

@@ -3,16 +3,14 @@ ghost use Rattle.std.specs.Prelude.{◌≡◌, ◌≢◌, ◌+◌, ◌^◌, ◌<
 ghost use Rattle.aig_base.specs.Circuit.{IsCircuit};
 ghost use Rattle.aig_base.specs.Definition.{IsInOrder};
 ghost use Rattle.aig_base.specs.FirstFault.{IsFirstFault};
-ghost use Rattle.aig_base.specs.Formed.{CountsFit, IsFormed};
+ghost use Rattle.aig_parts.specs.Formed.{CountsFit, IsFormed};
 ghost use Rattle.aig_base.specs.Least.{ReadsSmaller};
 ghost use Rattle.aig_base.specs.Renumbered.{evens_from};
 
 use crate::check::{reads_smaller, sections_are_in_range};
-use crate::fault::Fault;
-use crate::gate::Gate;
 use crate::least::least_bad_reset;
-use crate::raw::Raw;
 use crate::ready::{inputs_in_order, is_even_of, latches_in_order};
+use aig_parts::{Fault, Gate, Raw};
 
 // Whether the left sides are the even literals from this variable on, and each gate reads smaller variables alone.
 fn gates_ascend(gates: &[Gate], first: usize) -> bool

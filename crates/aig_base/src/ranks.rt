@@ -1,14 +1,13 @@
 //! Ranks of variables, by which gates ascend where there is no cycle.
 ghost use Rattle.std.specs.Prelude.{◌≡◌, ◌↔◌, ◌+◌, ◌<◌, ◌≤◌, [], length, All, IfOk, IsTrue, OnOk};
-ghost use Rattle.aig_base.specs.Formed.{limit};
+ghost use Rattle.aig_parts.specs.Formed.{limit};
 ghost use Rattle.aig_base.specs.Least.{AscendsBy};
 ghost use Rattle.aig_base.specs.Marks.{IsGateBelow};
 
-use crate::gate::Gate;
 use crate::level::unmet_side;
-use crate::literal::Lit;
 use crate::walk::Walk;
 use aig_bytes::Memory;
+use aig_parts::{Gate, Lit};
 use std::alloc::Global;
 
 // Each gate at its variable, and elsewhere one that reads variable 0 alone.

@@ -1,14 +1,12 @@
 //! Whether a circuit is one that a binary file can hold.
 ghost use Rattle.std.specs.Prelude.{◌≡◌, ℕ, ◌+◌, ◌*◌, ◌^◌, ◌<◌, ◌≤◌, ◌↔◌, length, map, All, IsTrue};
 ghost use Rattle.aig_base.specs.Definition.{IsInOrder};
-ghost use Rattle.aig_base.specs.Formed.{limit};
+ghost use Rattle.aig_parts.specs.Formed.{limit};
 ghost use Rattle.aig_base.specs.Ready.{SectionsInOrder};
 ghost use Rattle.aig_base.specs.Renumbered.{evens_from, IsBinaryReady};
 
 use crate::circuit::Circuit;
-use crate::gate::Gate;
-use crate::latch::Latch;
-use crate::literal::Lit;
+use aig_parts::{Gate, Latch, Lit};
 
 /// Whether the literal is the positive one of a variable.
 pub(crate) fn is_even_of(literal: Lit, variable: usize) -> bool

@@ -2,7 +2,7 @@
 ghost use Rattle.std.specs.Prelude.{◌≡◌, ◌+◌, ◌<◌, ◌≤◌, ◌∷◌, [], length, not, count_by, slice_index, All, Contains};
 ghost use Rattle.aig_base.specs.Changes.{with_gate};
 ghost use Rattle.aig_base.specs.Levels.{AreLevels};
-ghost use Rattle.aig_base.specs.Literal as literal;
+ghost use Rattle.aig_parts.specs.Literal as literal;
 ghost use Rattle.aig_base.specs.Queue.{IsEmptyQueue};
 ghost use Rattle.aig_base.specs.Readers.{AreReaders, list_of};
 ghost use Rattle.aig_base.specs.Rewires.{IsBehind, Queues, SetsLevel};
@@ -10,11 +10,11 @@ ghost use Rattle.aig_base.specs.Sections.{IsDefined, IsLeftSide};
 ghost use Rattle.aig_base.specs.Visits.{AreNoVisits, AreVisits};
 
 use crate::circuit::Circuit;
-use crate::gate::Gate;
 use crate::level::level_over;
 use crate::queue::Queue;
 use crate::readers::Readers;
 use crate::visits::Visits;
+use aig_parts::Gate;
 
 // Queues a variable with its level, unless it was visited.
 fn queue_one(levels: &[u32], visits: &mut Visits, queue: &mut Queue, variable: u32)

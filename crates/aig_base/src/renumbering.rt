@@ -7,12 +7,12 @@ ghost use Rattle.aig_base.specs.RenumberingTable.{renumbered_by, AreListed};
 use crate::circuit::Circuit;
 use crate::level::Levels;
 use crate::order::canonical_order;
-use crate::raw::Raw;
 use crate::renumbering_parts::{
     copied_comment, copied_symbols, new_gates, new_justice, new_latches, new_literals,
 };
 use crate::renumbering_table::renumbered_variables;
 use aig_bytes::Memory;
+use aig_parts::Raw;
 use std::alloc::Global;
 
 fn renumbered_parts(

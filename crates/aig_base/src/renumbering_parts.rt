@@ -1,17 +1,13 @@
 //! The parts of a circuit by a table of variables.
 ghost use Rattle.std.specs.Prelude.{◌≡◌, ◌≤◌, map, All, IfOk};
-ghost use Rattle.aig_base.specs.Formed.{limit};
+ghost use Rattle.aig_parts.specs.Formed.{limit};
 ghost use Rattle.aig_base.specs.Renumbered.{ordered_gates};
 ghost use Rattle.aig_base.specs.RenumberingTable.{literal_by, latch_by, gate_by, IsListed, IsLatchListed, IsGateListed};
 
 use crate::circuit::Circuit;
 use crate::definition::Definition;
-use crate::gate::Gate;
-use crate::latch::Latch;
-use crate::list::{Bytes, List};
-use crate::literal::Lit;
-use crate::symbols::Symbols;
 use aig_bytes::Memory;
+use aig_parts::{Bytes, Gate, Latch, List, Lit, Symbols};
 use std::alloc::Global;
 
 fn new_literal(table: &[u32], literal: Lit) -> Lit

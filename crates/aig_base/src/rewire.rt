@@ -3,18 +3,16 @@ ghost use Rattle.std.specs.Prelude.{◌≡◌, OnErr, OnOk};
 ghost use Rattle.aig_base.specs.Changes.{with_gate};
 ghost use Rattle.aig_base.specs.Grounded.{IsAcyclic};
 ghost use Rattle.aig_base.specs.Levels.{AreLevels};
-ghost use Rattle.aig_base.specs.Literal.{variable};
+ghost use Rattle.aig_parts.specs.Literal.{variable};
 ghost use Rattle.aig_base.specs.Readers.{AreReaders};
 ghost use Rattle.aig_base.specs.Sections.{IsDefined, IsLeftSide};
 
 use crate::behind::is_behind;
 use crate::circuit::Circuit;
-use crate::fault::WouldCycle;
-use crate::gate::Gate;
 use crate::level::Levels;
-use crate::literal::Lit;
 use crate::readers::Readers;
 use crate::renewal::renew;
+use aig_parts::{Gate, Lit, WouldCycle};
 
 impl Levels {
     /// Makes these the levels of the circuit with other right sides at a gate, and refuses that where it would close a

@@ -4,15 +4,15 @@ use Rattle.std.proofs.lemmas.List.{get_or-take, get_or_append_left, take-append-
 use Rattle.std.proofs.lemmas.List.Elements.{All-take, All-append}
 use Rattle.std.proofs.lemmas.Option.{slice_get-get_or, same_Some}
 use Rattle.std.proofs.Math.Nat.{mul-le-mul_left}
-use Rattle.aig_base.specs.declared.ternary.Tern.{Tern}
-use Rattle.aig_base.specs.declared.raw.Raw.{Raw}
+use Rattle.aig_parts.specs.declared.ternary.Tern.{Tern}
+use Rattle.aig_parts.specs.declared.raw.Raw.{Raw}
 use Rattle.aig_base.specs.Changes.{restarted, with_reset}
 use Rattle.aig_base.specs.Grounded.{IsSource, Level}
 use Rattle.aig_base.specs.Levels.{AreLevels}
 use Rattle.aig_base.specs.Readers.{ReaderLists, Reads, AreReaders}
 use Rattle.aig_base.specs.Grounded as grounded
-use Rattle.aig_base.specs.declared.latch.Latch.{Latch}
-use Rattle.aig_base.specs.Literal.{variable}
+use Rattle.aig_parts.specs.declared.latch.Latch.{Latch}
+use Rattle.aig_parts.specs.Literal.{variable}
 use Rattle.aig_base.specs.Value.{start_of}
 use Rattle.aig_base.proofs.Rewiring.{with_reset-circuit}
 use Rattle.aig_sim.specs.InputRows.{InputRows, row_at}

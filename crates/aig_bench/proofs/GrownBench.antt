@@ -2,12 +2,12 @@
 use Rattle.std.proofs.Common.{◌≡◌, inl, inr, ℕ, zero, suc, ◌+◌, ◌-◌, ◌*◌, ◌<◌, ◌≤◌, Bool, true, List, [], ◌∷◌, ◌++◌, map, length, Some, slice_get, slice_set, refl, sym, ap, ◌∙◌, subst, arith, length-append}
 use Rattle.std.proofs.lemmas.List.{length-map}
 use Rattle.std.proofs.lemmas.Option.{same_Some}
-use Rattle.aig_base.specs.declared.ternary.Tern.{Tern}
-use Rattle.aig_base.specs.declared.gate.Gate.{Gate}
-use Rattle.aig_base.specs.declared.raw.Raw.{Raw}
+use Rattle.aig_parts.specs.declared.ternary.Tern.{Tern}
+use Rattle.aig_parts.specs.declared.gate.Gate.{Gate}
+use Rattle.aig_parts.specs.declared.raw.Raw.{Raw}
 use Rattle.aig_base.specs.Changes.{next_gate, with_appended_gate}
 use Rattle.aig_base.specs.Levels.{AreLevels}
-use Rattle.aig_base.specs.Literal.{variable, IsEven}
+use Rattle.aig_parts.specs.Literal.{variable, IsEven}
 use Rattle.aig_base.specs.Readers.{ReaderLists, AreReaders}
 use Rattle.aig_base.specs.Sections.{IsDefined}
 use Rattle.aig_base.proofs.Appended.{more_circuit, new_at}

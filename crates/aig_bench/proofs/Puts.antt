@@ -1,6 +1,6 @@
 -- What the writing of a source does to grid and buckets.
 use Rattle.std.proofs.Common.{◌≡◌, ◌≢◌, ◌⊎◌, ◌↔◌, inl, inr, ℕ, ◌+◌, ◌*◌, ◌<◌, ◌≤◌, Bool, false, List, length, Option, Some, slice_get, slice_set, Contains, ap, ◌∙◌, subst, arith}
-use Rattle.aig_base.specs.declared.ternary.Tern.{Tern}
+use Rattle.aig_parts.specs.declared.ternary.Tern.{Tern}
 use Rattle.aig_base.specs.Grounded as by
 use Rattle.aig_base.specs.Grounded.{IsSource, Level}
 use Rattle.aig_base.specs.Levels.{AreLevels}

@@ -1,7 +1,7 @@
 -- Frames into which nothing is carried stay as they are.
 use Rattle.std.proofs.Common.{◌≡◌, inr, ℕ, zero, suc, ◌+◌, ◌-◌, ◌<◌, ◌≤◌, Bool, List, [], ◌∷◌, length, Contains, refl, sym, subst, arith}
-use Rattle.aig_base.specs.declared.ternary.Tern.{Tern}
-use Rattle.aig_base.specs.Literal.{variable}
+use Rattle.aig_parts.specs.declared.ternary.Tern.{Tern}
+use Rattle.aig_parts.specs.Literal.{variable}
 use Rattle.aig_sim.specs.InputRows.{row_at}
 use Rattle.aig_bench.specs.declared.buckets.Buckets.{Buckets}
 use Rattle.aig_bench.specs.declared.plan.Plan.{Plan}

@@ -1,9 +1,9 @@
 -- Which fault of a question or an edit applies first.
 use Rattle.std.proofs.Common.{◌≡◌, ◌≢◌, ◌⊎◌, inl, inr, ℕ, ◌<◌, ◌≤◌, length, Result, Ok, Err, IsErrAnd, refl, sym, subst, arith}
-use Rattle.aig_base.specs.declared.ternary.Tern.{Tern}
+use Rattle.aig_parts.specs.declared.ternary.Tern.{Tern}
 use Rattle.aig_base.specs.Changes.{with_gate}
 use Rattle.aig_base.specs.Grounded.{IsAcyclic}
-use Rattle.aig_base.specs.Literal.{variable}
+use Rattle.aig_parts.specs.Literal.{variable}
 use Rattle.aig_base.specs.Sections.{IsDefined, IsLeftSide, IsLatchLiteral}
 use Rattle.aig_base.specs.Sound.{IsInRange}
 use Rattle.aig_bench.specs.declared.edit.EditFault.{EditFault}

@@ -2,11 +2,11 @@
 use Rattle.std.proofs.Common.{◌≡◌, ◌≢◌, ◌↔◌, inl, inr, ℕ, ◌+◌, ◌<◌, ◌≤◌, Bool, true, List, ◌∷◌, length, get_or, Some, slice_get, slice_set, Contains, refl, sym, ap, ◌∙◌, subst, arith}
 use Rattle.std.proofs.lemmas.Bool.{cases_eq}
 use Rattle.std.proofs.lemmas.List.{length-set}
-use Rattle.aig_base.specs.declared.ternary.Tern.{Tern}
-use Rattle.aig_base.specs.declared.ternary.Tern.TheVariants.{X}
-use Rattle.aig_base.specs.declared.gate.Gate.{Gate}
+use Rattle.aig_parts.specs.declared.ternary.Tern.{Tern}
+use Rattle.aig_parts.specs.declared.ternary.Tern.TheVariants.{X}
+use Rattle.aig_parts.specs.declared.gate.Gate.{Gate}
 use Rattle.aig_base.specs.Grounded.{Level}
-use Rattle.aig_base.specs.Literal.{variable, IsEven}
+use Rattle.aig_parts.specs.Literal.{variable, IsEven}
 use Rattle.aig_base.specs.Sections.{IsGate}
 use Rattle.aig_base.proofs.Circuits.{gate_definition, gate_in_range, gate_is, rhs0_in_range, rhs1_in_range}
 use Rattle.aig_base.proofs.Gates.{level_of_gate}
@@ -21,7 +21,7 @@ use Rattle.aig_bench.specs.declared.settle.Net.{Net}
 use Rattle.aig_bench.specs.Buckets.{AreBuckets, Waits, Fits, Links, Takes}
 use Rattle.aig_bench.specs.Current.{AreGateFlags, IsLaidOut}
 use Rattle.aig_bench.specs.Plan.{pair_of}
-use Rattle.aig_base.specs.declared.raw.Raw.{Raw}
+use Rattle.aig_parts.specs.declared.raw.Raw.{Raw}
 use Rattle.aig_base.specs.Readers.{ReaderLists, list_of, Reads, AreReaders}
 use Rattle.aig_bench.specs.Sweep.{IsWork, Sweeps}
 use Rattle.aig_bench.proofs.Cells.{get_set_other, row_written, row_other, frames_written}

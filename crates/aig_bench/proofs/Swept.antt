@@ -6,13 +6,13 @@ use Rattle.std.proofs.lemmas.List.{get_or-set_other, get_or-set_same, length-set
 use Rattle.std.proofs.lemmas.List.Elements.{All-drop, All-map, All-take}
 use Rattle.std.proofs.lemmas.List.Sums.{fold_more, fold-append}
 use Rattle.std.proofs.lemmas.Option.{slice_get-get_or}
-use Rattle.aig_base.specs.declared.gate.Gate.{Gate}
-use Rattle.aig_base.specs.declared.raw.Raw.{Raw}
-use Rattle.aig_base.specs.declared.ternary.Tern.{Tern}
+use Rattle.aig_parts.specs.declared.gate.Gate.{Gate}
+use Rattle.aig_parts.specs.declared.raw.Raw.{Raw}
+use Rattle.aig_parts.specs.declared.ternary.Tern.{Tern}
 use Rattle.aig_base.specs.Circuit.{IsCircuit}
 use Rattle.aig_base.specs.Grounded as by
 use Rattle.aig_base.specs.Grounded.{IsSource}
-use Rattle.aig_base.specs.Literal.{variable}
+use Rattle.aig_parts.specs.Literal.{variable}
 use Rattle.aig_base.specs.Sound.{IsSound}
 use Rattle.aig_base.specs.Value.{start_of}
 use Rattle.aig_base.proofs.Circuits.{gate_definition, gate_in_range, gate_is, rhs0_in_range, rhs1_in_range}

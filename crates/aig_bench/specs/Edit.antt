@@ -1,9 +1,9 @@
 -- Edits of a circuit and its rows (profile).
 use Rattle.std.specs.Prelude.{◌≡◌, ◌≢◌, ◌⊎◌, ℕ, ◌+◌, ◌-◌, ◌*◌, ◌<◌, ◌≤◌, List, [], ◌∷◌, ◌++◌, length, take, Result, Ok, Err}
-use Rattle.aig_base.specs.declared.ternary.Tern.{Tern}
-use Rattle.aig_base.specs.Formed.{limit}
+use Rattle.aig_parts.specs.declared.ternary.Tern.{Tern}
+use Rattle.aig_parts.specs.Formed.{limit}
 use Rattle.aig_base.specs.Limits.{cell_limit, frame_limit}
-use Rattle.aig_base.specs.Literal.{variable}
+use Rattle.aig_parts.specs.Literal.{variable}
 use Rattle.aig_base.specs.Sections.{IsDefined, IsLeftSide, IsLatchLiteral}
 use Rattle.aig_base.specs.Grounded.{IsAcyclic}
 use Rattle.aig_base.specs.Sound.{IsInRange}

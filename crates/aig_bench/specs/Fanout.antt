@@ -1,6 +1,6 @@
 -- Variables that many gates read (profile).
 use Rattle.std.specs.Prelude.{ℕ, ◌≤◌, List, length, Contains}
-use Rattle.aig_base.specs.declared.raw.Raw.{Raw}
+use Rattle.aig_parts.specs.declared.raw.Raw.{Raw}
 use Rattle.aig_base.specs.Readers.{Reads}
 use Rattle.aig_bench.specs.Touched.{IsOnce}
 

@@ -1,8 +1,8 @@
 -- The order in which a bench takes the gates of its circuit (profile).
 use Rattle.std.specs.Prelude.{◌≡◌, ◌≢◌, ℕ, ◌<◌, List, All, length, map, slice_index_or}
 use Rattle.std.specs.Vec.{vec_capacity}
-use Rattle.aig_base.specs.declared.gate.Gate.{Gate}
-use Rattle.aig_base.specs.declared.raw.Raw.{Raw}
+use Rattle.aig_parts.specs.declared.gate.Gate.{Gate}
+use Rattle.aig_parts.specs.declared.raw.Raw.{Raw}
 use Rattle.aig_sim.specs.GateOrder.{AreGatesOf, IsGateOrder}
 use Rattle.aig_bench.specs.declared.order.Order.{Order}
 use Rattle.aig_bench.specs.declared.order.Way.{Way}

@@ -1,7 +1,7 @@
 -- What a bench is seen as: a circuit and the rows of its stimulus, and how many gates it evaluated so far (profile).
 use Rattle.std.specs.Prelude.{ℕ, List}
-use Rattle.aig_base.specs.declared.raw.Raw.{Raw}
-use Rattle.aig_base.specs.declared.ternary.Tern.{Tern}
+use Rattle.aig_parts.specs.declared.raw.Raw.{Raw}
+use Rattle.aig_parts.specs.declared.ternary.Tern.{Tern}
 use Rattle.aig_base.specs.Value.{Value, start_of}
 use Rattle.aig_sim.specs.Trace.{IsTrace}
 

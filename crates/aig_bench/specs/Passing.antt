@@ -1,9 +1,9 @@
 -- A pass over one frame: some gates were evaluated, some wait, and the others have their cells of before (profile).
 use Rattle.std.specs.Prelude.{◌≡◌, ◌≢◌, ◌⊎◌, ℕ, ◌*◌, Bool, List, Some, slice_get}
-use Rattle.aig_base.specs.declared.ternary.Tern.{Tern}
-use Rattle.aig_base.specs.declared.gate.Gate.{Gate}
+use Rattle.aig_parts.specs.declared.ternary.Tern.{Tern}
+use Rattle.aig_parts.specs.declared.gate.Gate.{Gate}
 use Rattle.aig_base.specs.Grounded.{IsSource}
-use Rattle.aig_base.specs.Literal.{variable}
+use Rattle.aig_parts.specs.Literal.{variable}
 use Rattle.aig_base.specs.Marks.{IsMarked}
 use Rattle.aig_sim.specs.Cells.{gate_value}
 use Rattle.aig_bench.specs.Pair.{Pair, HasValue}

@@ -1,7 +1,7 @@
 -- The value of a literal at a frame, as a bench answers it (profile).
 use Rattle.std.specs.Prelude.{ℕ, ◌≤◌, length, Result, Ok, Err}
-use Rattle.aig_base.specs.declared.ternary.Tern.{Tern}
-use Rattle.aig_base.specs.Literal.{variable}
+use Rattle.aig_parts.specs.declared.ternary.Tern.{Tern}
+use Rattle.aig_parts.specs.Literal.{variable}
 use Rattle.aig_base.specs.Sections.{IsDefined}
 use Rattle.aig_base.specs.Sound.{IsInRange}
 use Rattle.aig_bench.specs.declared.edit.EditFault.{EditFault}

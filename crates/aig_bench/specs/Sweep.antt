@@ -1,10 +1,10 @@
 -- A sweep over one frame: the waiting gates are evaluated, level by level (profile).
 use Rattle.std.specs.Prelude.{◌≡◌, ◌↔◌, ℕ, ◌+◌, ◌<◌, ◌≤◌, Bool, true, false, List, [], ◌∷◌, length, Option, Some, None, slice_get, Contains, nat_eq, if◌then◌else◌}
-use Rattle.aig_base.specs.declared.ternary.Tern.{Tern}
-use Rattle.aig_base.specs.declared.gate.Gate.{Gate}
+use Rattle.aig_parts.specs.declared.ternary.Tern.{Tern}
+use Rattle.aig_parts.specs.declared.gate.Gate.{Gate}
 use Rattle.aig_base.specs.Grounded.{Level}
 use Rattle.aig_base.specs.Levels.{AreLevels}
-use Rattle.aig_base.specs.Literal.{variable}
+use Rattle.aig_parts.specs.Literal.{variable}
 use Rattle.aig_base.specs.Marks.{IsMarked}
 use Rattle.aig_base.specs.Readers.{AreReaders}
 use Rattle.aig_base.specs.Sections.{IsGate}

@@ -1,8 +1,8 @@
 -- Which cells an accepted edit touches, and which it changes (profile).
 use Rattle.std.specs.Prelude.{◌≡◌, ◌≢◌, ◌⊎◌, ◌↔◌, ℕ, ◌+◌, ◌*◌, ◌<◌, List, [], ◌∷◌, length, Result, Ok, Err, Some, slice_get, Contains}
-use Rattle.aig_base.specs.declared.ternary.Tern.{Tern}
-use Rattle.aig_base.specs.declared.gate.Gate.{Gate}
-use Rattle.aig_base.specs.Literal.{variable}
+use Rattle.aig_parts.specs.declared.ternary.Tern.{Tern}
+use Rattle.aig_parts.specs.declared.gate.Gate.{Gate}
+use Rattle.aig_parts.specs.Literal.{variable}
 use Rattle.aig_base.specs.Sections.{IsGate}
 use Rattle.aig_bench.specs.Edit.{Edit, rewire, add_frame, append_gate, edited}
 use Rattle.aig_bench.specs.declared.edit.EditFault.{EditFault}

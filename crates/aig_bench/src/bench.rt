@@ -7,7 +7,7 @@ ghost use Rattle.aig_base.specs.Circuit.{IsCircuit};
 ghost use Rattle.aig_base.specs.Grounded.{IsAcyclic};
 ghost use Rattle.aig_base.specs.Levels.{AreLevels};
 ghost use Rattle.aig_base.specs.Limits.{cell_limit};
-ghost use Rattle.aig_base.specs.Literal.{variable};
+ghost use Rattle.aig_parts.specs.Literal.{variable};
 ghost use Rattle.aig_base.specs.Readers.{AreReaders, list_of};
 ghost use Rattle.aig_base.specs.Renumbered.{IsBinaryReady};
 ghost use Rattle.aig_base.specs.Sections.{IsDefined, IsLeftSide};

@@ -1,7 +1,7 @@
 //! One more gate in what a bench keeps.
 ghost use Rattle.std.specs.Prelude.{◌≡◌, ℕ, ◌-◌, ◌+◌, ◌<◌, true, length, IsTrue, OnOk, Some, slice_get, slice_set};
 ghost use Rattle.std.specs.Vec.{vec_capacity};
-ghost use Rattle.aig_base.specs.Literal.{variable, IsEven};
+ghost use Rattle.aig_parts.specs.Literal.{variable, IsEven};
 ghost use Rattle.aig_sim.specs.Cells.{gate_value};
 ghost use Rattle.aig_sim.specs.InputRows.{row_at};
 ghost use Rattle.aig_bench.specs.declared.plan.Plan.{Plan};

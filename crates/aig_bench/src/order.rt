@@ -1,12 +1,12 @@
 //! The order in which the gates of a circuit are evaluated at a new frame.
 ghost use Rattle.std.specs.Prelude.{◌≡◌, ◌≢◌, ℕ, ◌+◌, ◌<◌, ◌≤◌, List, length, take, All, IfOk, OnOk};
 ghost use Rattle.std.specs.Prelude.{Some, slice_get};
-ghost use Rattle.aig_base.specs.declared.gate.Gate as gate;
-ghost use Rattle.aig_base.specs.declared.raw.Raw.{Raw};
+ghost use Rattle.aig_parts.specs.declared.gate.Gate as gate;
+ghost use Rattle.aig_parts.specs.declared.raw.Raw.{Raw};
 ghost use Rattle.aig_base.specs.Changes.{with_appended_gate};
 ghost use Rattle.aig_base.specs.Circuit.{IsCircuit};
 ghost use Rattle.aig_base.specs.Levels.{AreLevels};
-ghost use Rattle.aig_base.specs.Literal as literal;
+ghost use Rattle.aig_parts.specs.Literal as literal;
 ghost use Rattle.aig_base.specs.Sections.{IsDefined, IsGate};
 ghost use Rattle.aig_sim.specs.Cells.{HasCells, with_swept_row};
 ghost use Rattle.aig_bench.specs.Current.{AreGateFlags};

@@ -1,8 +1,8 @@
 //! Values that an edit changed, carried on through the frames.
 ghost use Rattle.std.specs.Prelude.{◌≡◌, ◌≢◌, ℕ, suc, ◌+◌, ◌*◌, ◌<◌, ◌≤◌, List, [], ◌∷◌, length, Some, slice_get};
 ghost use Rattle.std.specs.Prelude.{Contains};
-ghost use Rattle.aig_base.specs.declared.ternary.Tern as ternary;
-ghost use Rattle.aig_base.specs.Literal.{variable};
+ghost use Rattle.aig_parts.specs.declared.ternary.Tern as ternary;
+ghost use Rattle.aig_parts.specs.Literal.{variable};
 ghost use Rattle.aig_base.specs.Sections.{IsGate};
 ghost use Rattle.aig_sim.specs.InputRows.{row_at};
 ghost use Rattle.aig_bench.specs.Buckets.{Waits};

@@ -1,7 +1,7 @@
 //! The evaluation of what waits at a frame, level by level.
 ghost use Rattle.std.specs.Prelude.{IfOk, Bool, ◌≡◌, ◌≢◌, ◌⊎◌, ◌↔◌, ℕ, ◌+◌, ◌<◌, ◌≤◌, List, length, Some, None};
 ghost use Rattle.std.specs.Prelude.{slice_get, Contains, IfSome, IfNone, [], ◌*◌};
-ghost use Rattle.aig_base.specs.declared.ternary.Tern as ternary;
+ghost use Rattle.aig_parts.specs.declared.ternary.Tern as ternary;
 ghost use Rattle.aig_base.specs.Grounded.{IsSource};
 ghost use Rattle.aig_base.specs.Limits.{cell_limit};
 ghost use Rattle.aig_sim.specs.InputRows.{row_at, with_cell};

@@ -2,7 +2,7 @@
 use Rattle.std.proofs.Common.{◌≡◌, ℕ, List, Result, Ok, Err, refl, sym, subst}
 use Rattle.std.specs.Prelude.{Option, IfErr}
 use Rattle.aig_bytes.specs.Bytes.{Writes}
-use Rattle.aig_base.specs.declared.raw.Raw.{Raw}
+use Rattle.aig_parts.specs.declared.raw.Raw.{Raw}
 use Rattle.aig_format.specs.declared.header.Format.{Format}
 use Rattle.aig_unroll.specs.Answers.{AnswersUnrolling}
 use Rattle.aig_engines.specs.declared.run_fault.RunFault.{RunFault}

@@ -1,6 +1,6 @@
 -- How the engines end that take a circuit's bytes: a simulation, and a bench that a script drives.
 use Rattle.std.specs.Prelude.{◌≡◌, ℕ, List, Option, Result, Ok, Err}
-use Rattle.aig_base.specs.declared.raw.Raw.{Raw}
+use Rattle.aig_parts.specs.declared.raw.Raw.{Raw}
 use Rattle.aig_sim.specs.declared.stimulus_fault.StimFault.TheVariants as stimuli
 use Rattle.aig_sim.specs.Simulated.{Streams, Simulates}
 use Rattle.aig_bench.specs.Pair.{Pair}

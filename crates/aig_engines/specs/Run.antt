@@ -1,9 +1,9 @@
 -- Runs from bytes to bytes: what the files are, and why they are refused.
 use Rattle.std.specs.Prelude.{◌≢◌, ℕ, ◌+◌, ◌*◌, ◌<◌, ◌≤◌, List, length, Err}
-use Rattle.aig_base.specs.declared.raw.Raw.{Raw}
-use Rattle.aig_base.specs.declared.ternary.Tern.{Tern}
-use Rattle.aig_base.specs.declared.fault.Fault.{Fault}
-use Rattle.aig_base.specs.declared.fault.Fault.TheVariants as circuits
+use Rattle.aig_parts.specs.declared.raw.Raw.{Raw}
+use Rattle.aig_parts.specs.declared.ternary.Tern.{Tern}
+use Rattle.aig_parts.specs.declared.fault.Fault.{Fault}
+use Rattle.aig_parts.specs.declared.fault.Fault.TheVariants as circuits
 use Rattle.aig_base.specs.Circuit.{IsCircuit}
 use Rattle.aig_base.specs.Limits.{cell_limit, frame_limit}
 use Rattle.aig_format.specs.Spells.{Spells}

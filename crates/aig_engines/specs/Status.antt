@@ -1,6 +1,6 @@
 -- The exit status of a refused run (profile).
 use Rattle.std.specs.Prelude.{ℕ}
-use Rattle.aig_base.specs.declared.fault.Fault.TheVariants as circuits
+use Rattle.aig_parts.specs.declared.fault.Fault.TheVariants as circuits
 use Rattle.aig_sim.specs.declared.stimulus_fault.StimFault.TheVariants as stimuli
 use Rattle.aig_sim.specs.declared.witness_fault.WitnessFault.TheVariants as witnesses
 use Rattle.aig_bench.specs.declared.bench_fault.BenchFault.TheVariants as benches

@@ -1,7 +1,7 @@
 //! Commands of a script.
 ghost use Rattle.std.specs.Prelude.{◌≡◌, ◌≢◌, ◌<◌, ℕ, List, ◌∷◌, ◌++◌, [], All, codes, IfSome, IfNone};
 ghost use Rattle.std.specs.Fmt.{decimal};
-ghost use Rattle.aig_base.specs.declared.ternary.Tern.{Tern};
+ghost use Rattle.aig_parts.specs.declared.ternary.Tern.{Tern};
 ghost use Rattle.aig_sim.specs.StimulusText.{character};
 ghost use Rattle.aig_engines.specs.Command.{command_text, field, rewire_fields, reset_fields, bit_fields, append_fields};
 ghost use Rattle.aig_engines.specs.Command.{output_fields, value_fields, IsCommand, IsNoCommand, IsNumber};

@@ -1,6 +1,6 @@
 //! Replies to the lines of a script.
 ghost use Rattle.std.specs.Prelude.{◌≡◌, ℕ, List, ◌∷◌, length, Result, Ok};
-ghost use Rattle.aig_base.specs.declared.raw.Raw.{Raw};
+ghost use Rattle.aig_parts.specs.declared.raw.Raw.{Raw};
 ghost use Rattle.aig_bytes.specs.Bytes.{Writes};
 ghost use Rattle.aig_bench.specs.Edit.{number_of};
 ghost use Rattle.aig_sim.specs.LineInHand.{Keeps};

@@ -1,6 +1,6 @@
 -- What is read of a line or an entry is told by the bytes that it takes.
 use Rattle.std.proofs.Common.{ℕ, ◌-◌, ◌*◌, List, ◌++◌, Bool, refl, ap, ◌∙◌, append_assoc}
-use Rattle.aig_base.specs.declared.gate.Gate.{Gate}
+use Rattle.aig_parts.specs.declared.gate.Gate.{Gate}
 use Rattle.aig_format.specs.Delta.{delta}
 use Rattle.aig_format.specs.Reading.{Read, EndsItself}
 use Rattle.aig_format.specs.ReadingSections.{literal_at, latch_at, gate_at, implicit_latch_at, implicit_gate_at}

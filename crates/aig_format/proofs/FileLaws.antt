@@ -2,7 +2,7 @@
 use Rattle.std.proofs.Common.{◌≡◌, inl, inr, ℕ, ◌+◌, Bool, true, false, cond, not, eqb, eq-eqb}
 use Rattle.std.proofs.Common.{subst, List, [], ◌++◌, length, Result, Ok, Err, refl, sym, ap, ◌∙◌, arith}
 use Rattle.std.proofs.lemmas.Bool.{ltb-false, le-ltb, eqb-true}
-use Rattle.aig_base.specs.declared.raw.Raw.{Raw}
+use Rattle.aig_parts.specs.declared.raw.Raw.{Raw}
 use Rattle.aig_format.specs.declared.header.Format.{Format}
 use Rattle.aig_format.specs.declared.header.Format.TheVariants.{Ascii, Binary}
 use Rattle.aig_format.specs.declared.header.Counts.{Counts}

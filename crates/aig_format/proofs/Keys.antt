@@ -5,8 +5,8 @@ use Rattle.std.proofs.lemmas.Bool.{eqb-true}
 use Rattle.std.proofs.lemmas.Map.Views.{list_any-from_Contains, Contains-from_any}
 use Rattle.std.specs.Cmp.{IsEquivalence}
 use Rattle.std.specs.Map.{keys_of}
-use Rattle.aig_base.specs.declared.symbols.Kind.{Kind}
-use Rattle.aig_base.specs.declared.symbols.Kind.TheVariants.{Input, Latch, Output, Bad, Constraint, Justice, Fairness}
+use Rattle.aig_parts.specs.declared.symbols.Kind.{Kind}
+use Rattle.aig_parts.specs.declared.symbols.Kind.TheVariants.{Input, Latch, Output, Bad, Constraint, Justice, Fairness}
 use Rattle.aig_format.specs.Spelling.{Entry, letter}
 use Rattle.aig_format.specs.ReadingNames.{kind_of, same_key, is_named}
 

@@ -7,8 +7,8 @@ use Rattle.std.specs.Fmt.{decimal}
 use Rattle.std.specs.List.{flat_map}
 use Rattle.std.proofs.lemmas.List.Concat.{flat_map-cons}
 use Rattle.std.proofs.lemmas.List.Elements.{All-nil, All-cons, All-head, All-tail}
-use Rattle.aig_base.specs.declared.latch.Latch.{Latch}
-use Rattle.aig_base.specs.declared.gate.Gate.{Gate}
+use Rattle.aig_parts.specs.declared.latch.Latch.{Latch}
+use Rattle.aig_parts.specs.declared.gate.Gate.{Gate}
 use Rattle.aig_format.specs.Header.{space, line_end, field}
 use Rattle.aig_format.specs.Delta.{delta}
 use Rattle.aig_format.specs.Spelling.{literal_line, reset_text, latch_line, implicit_latch_line, gate_line}

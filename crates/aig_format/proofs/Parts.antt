@@ -2,11 +2,11 @@
 use Rattle.std.proofs.Common.{◌≡◌, ◌≤◌, length, refl, arith}
 use Rattle.std.specs.Prelude.{All, sum_by}
 use Rattle.std.proofs.lemmas.List.Elements.{All-weaker}
-use Rattle.aig_base.specs.declared.raw.Raw.{Raw}
-use Rattle.aig_base.specs.declared.symbols.Kind.{Kind}
-use Rattle.aig_base.specs.declared.symbols.Kind.TheVariants.{Input, Latch, Output, Bad, Constraint, Justice, Fairness}
-use Rattle.aig_base.specs.Formed as formed
-use Rattle.aig_base.specs.Formed.{section_length, IsSymbolOf, AreNamedOnce, CountsFit, IsFormed}
+use Rattle.aig_parts.specs.declared.raw.Raw.{Raw}
+use Rattle.aig_parts.specs.declared.symbols.Kind.{Kind}
+use Rattle.aig_parts.specs.declared.symbols.Kind.TheVariants.{Input, Latch, Output, Bad, Constraint, Justice, Fairness}
+use Rattle.aig_parts.specs.Formed as formed
+use Rattle.aig_parts.specs.Formed.{section_length, IsSymbolOf, AreNamedOnce, CountsFit, IsFormed}
 use Rattle.aig_format.specs.declared.header.Counts.{Counts}
 use Rattle.aig_format.specs.declared.section.Properties.{Properties}
 use Rattle.aig_format.specs.declared.symbol.Names.{Names}

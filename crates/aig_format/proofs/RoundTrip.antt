@@ -13,11 +13,11 @@ use Rattle.std.proofs.lemmas.Option.{slice_get-get_or}
 use Rattle.std.proofs.lemmas.Map.Views.{Contains-from_any}
 use Rattle.std.proofs.lemmas.Map.Made.{IsDistinct-from_AllPairs}
 use Rattle.std.proofs.lemmas.Map.Steps.{length-le_from_distinct_below}
-use Rattle.aig_base.specs.declared.raw.Raw.{Raw}
-use Rattle.aig_base.specs.declared.latch.Latch.{Latch}
-use Rattle.aig_base.specs.declared.gate.Gate.{Gate}
+use Rattle.aig_parts.specs.declared.raw.Raw.{Raw}
+use Rattle.aig_parts.specs.declared.latch.Latch.{Latch}
+use Rattle.aig_parts.specs.declared.gate.Gate.{Gate}
 use Rattle.aig_base.specs.Circuit.{IsCircuit}
-use Rattle.aig_base.specs.Literal.{variable}
+use Rattle.aig_parts.specs.Literal.{variable}
 use Rattle.aig_base.specs.Renumbered.{IsBinaryReady}
 use Rattle.aig_base.specs.Sections.{definitions, uses}
 use Rattle.aig_base.specs.Sound.{IsInRange, IsDefinition, IsReset, StandsTwice}

@@ -4,8 +4,8 @@ use Rattle.std.proofs.Common.{◌++◌, length, get_or, drop, Ok, Err, refl, sym
 use Rattle.std.proofs.Math.Seq.{drop-cons}
 use Rattle.std.proofs.lemmas.List.{append-nil, drop_all}
 use Rattle.std.proofs.lemmas.Bool.{lt-ltb, le-ltb}
-use Rattle.aig_base.specs.declared.fault.Fault.{Fault}
-use Rattle.aig_base.specs.Formed as formed
+use Rattle.aig_parts.specs.declared.fault.Fault.{Fault}
+use Rattle.aig_parts.specs.Formed as formed
 use Rattle.aig_format.specs.Header.{line_end}
 use Rattle.aig_format.specs.Spells.{greatest}
 use Rattle.aig_format.specs.Reading.{limit, Read, ◌>>=◌, byte_at, number_at}

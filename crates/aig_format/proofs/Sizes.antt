@@ -5,14 +5,14 @@ use Rattle.std.specs.Map.{keys_of}
 use Rattle.std.proofs.lemmas.List.{map-append, take_more}
 use Rattle.std.proofs.lemmas.List.Sums.{sum-map, sum_by-append, sum_by-cons}
 use Rattle.std.proofs.lemmas.List.Elements.{All-push, All-weaker}
-use Rattle.aig_base.specs.Formed.{IsName}
-use Rattle.aig_base.specs.declared.symbols.Kind.{Kind}
+use Rattle.aig_parts.specs.Formed.{IsName}
+use Rattle.aig_parts.specs.declared.symbols.Kind.{Kind}
 use Rattle.aig_format.specs.declared.header.Counts.{Counts}
 use Rattle.aig_format.specs.Spelling.{Entry}
 use Rattle.aig_format.specs.ReadingNames.{count_of}
 use Rattle.aig_format.specs.Fits.{IsSymbol, AreSymbols}
-use Rattle.aig_base.specs.declared.raw.Raw.{Raw}
-use Rattle.aig_base.specs.Formed.{IsFormed}
+use Rattle.aig_parts.specs.declared.raw.Raw.{Raw}
+use Rattle.aig_parts.specs.Formed.{IsFormed}
 use Rattle.aig_format.specs.Header.{AreWithin, counts_of}
 use Rattle.aig_format.specs.Fits.{HasCounts}
 use Rattle.aig_format.proofs.Names.{IsEntry}

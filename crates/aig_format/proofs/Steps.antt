@@ -4,8 +4,8 @@ use Rattle.std.proofs.Common.{◌++◌, Option, Some, None, Result, Ok, Err, ref
 use Rattle.std.proofs.Common.{arith}
 use Rattle.std.proofs.lemmas.List.{append-nil}
 use Rattle.std.proofs.lemmas.Bool.{lt-ltb, le-ltb}
-use Rattle.aig_base.specs.declared.fault.Fault.{Fault}
-use Rattle.aig_base.specs.declared.fault.Fault.TheVariants as faults
+use Rattle.aig_parts.specs.declared.fault.Fault.{Fault}
+use Rattle.aig_parts.specs.declared.fault.Fault.TheVariants as faults
 use Rattle.aig_format.specs.Reading.{Refusal, limit, Read, ◌>>=◌, is_digit, digit_at, digits_at}
 use Rattle.aig_format.specs.ReadingSections.{lines_at}
 use Rattle.aig_format.specs.declared.token_fault.TokenFault.{TokenFault}

@@ -3,8 +3,8 @@ use Rattle.std.proofs.Common.{◌≡◌, ℕ, zero, suc, ◌+◌, ◌<◌, ◌�
 use Rattle.std.proofs.Common.{◌++◌, length, Ok, refl, sym, ap, ◌∙◌}
 use Rattle.std.proofs.Common.{arith, length-append}
 use Rattle.std.specs.Fmt.{decimal}
-use Rattle.aig_base.specs.declared.fault.Fault.{Fault}
-use Rattle.aig_base.specs.declared.symbols.Kind.{Kind}
+use Rattle.aig_parts.specs.declared.fault.Fault.{Fault}
+use Rattle.aig_parts.specs.declared.symbols.Kind.{Kind}
 use Rattle.aig_format.specs.declared.header.Counts.{Counts}
 use Rattle.aig_format.specs.declared.symbol.Next.{Next}
 use Rattle.aig_format.specs.declared.symbol.Next.TheVariants.{End, Comment, Symbol}

@@ -1,10 +1,10 @@
 -- What the reader answers.
 use Rattle.std.proofs.Common.{◌≡◌, ◌≢◌, inl, inr, ℕ, List, Result, Ok, Err, refl, sym, ap, subst, ◌∙◌, arith}
 use Rattle.std.specs.Prelude.{IfOk, IfErr}
-use Rattle.aig_base.specs.declared.raw.Raw.{Raw}
-use Rattle.aig_base.specs.declared.fault.Fault.{Fault}
-use Rattle.aig_base.specs.declared.fault.Fault.TheVariants as faults
-use Rattle.aig_base.specs.Formed.{IsFormed}
+use Rattle.aig_parts.specs.declared.raw.Raw.{Raw}
+use Rattle.aig_parts.specs.declared.fault.Fault.{Fault}
+use Rattle.aig_parts.specs.declared.fault.Fault.TheVariants as faults
+use Rattle.aig_parts.specs.Formed.{IsFormed}
 use Rattle.aig_base.specs.FirstFault.{number_of, IsFirstFault}
 use Rattle.aig_format.specs.Spells.{Spells, HasWrongCounts}
 use Rattle.aig_format.specs.Reading.{text, limit}

@@ -1,8 +1,8 @@
 -- What the counts of a header say of the parts that are read behind it.
 use Rattle.std.specs.Prelude.{◌≡◌, ◌≢◌, ◌<◌, ◌≤◌, List, length, sum_by, All, AllPairs}
 use Rattle.std.specs.Map.{keys_of}
-use Rattle.aig_base.specs.Formed as formed
-use Rattle.aig_base.specs.Formed.{IsName}
+use Rattle.aig_parts.specs.Formed as formed
+use Rattle.aig_parts.specs.Formed.{IsName}
 use Rattle.aig_format.specs.declared.header.Counts.{Counts}
 use Rattle.aig_format.specs.declared.section.Properties.{Properties}
 use Rattle.aig_format.specs.Spelling.{Entry}

@@ -1,7 +1,7 @@
 -- What an answer of the reader's parts says about reading.
 use Rattle.std.specs.Prelude.{◌≡◌, ℕ, ◌+◌, List, Result, Ok, Err}
-use Rattle.aig_base.specs.declared.fault.Fault.{Fault}
-use Rattle.aig_base.specs.declared.fault.Fault.TheVariants as faults
+use Rattle.aig_parts.specs.declared.fault.Fault.{Fault}
+use Rattle.aig_parts.specs.declared.fault.Fault.TheVariants as faults
 use Rattle.aig_format.specs.declared.token_fault.TokenFault.{TokenFault}
 use Rattle.aig_format.specs.declared.token_fault.TokenFault.TheVariants as tokens
 use Rattle.aig_format.specs.Reading.{Refusal, text, limit, Read}

@@ -1,9 +1,9 @@
 -- Reading the header line and the sections.
 use Rattle.std.specs.Prelude.{ℕ, Bool, true, false, zero, suc, ◌+◌, ◌-◌, ◌*◌, List, [], ◌∷◌, Ok, Err, nat_lt}
 use Rattle.std.specs.Prelude.{get_or, if◌then◌else◌}
-use Rattle.aig_base.specs.declared.gate.Gate.{Gate}
-use Rattle.aig_base.specs.declared.latch.Latch.{Latch}
-use Rattle.aig_base.specs.Formed as formed
+use Rattle.aig_parts.specs.declared.gate.Gate.{Gate}
+use Rattle.aig_parts.specs.declared.latch.Latch.{Latch}
+use Rattle.aig_parts.specs.Formed as formed
 use Rattle.aig_format.specs.declared.header.Format.{Format}
 use Rattle.aig_format.specs.declared.header.Format.TheVariants.{Ascii, Binary}
 use Rattle.aig_format.specs.declared.header.Counts.{Counts}

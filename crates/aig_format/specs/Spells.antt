@@ -1,8 +1,8 @@
 -- What bytes spell. What makes parts a circuit, such as the range of literals and what a reset may be, is no part of
 -- it.
 use Rattle.std.specs.Prelude.{◌≡◌, ◌⊎◌, ℕ, ◌+◌, ◌≤◌, List, ◌++◌, length, true, All}
-use Rattle.aig_base.specs.declared.raw.Raw.{Raw}
-use Rattle.aig_base.specs.Formed.{IsFormed}
+use Rattle.aig_parts.specs.declared.raw.Raw.{Raw}
+use Rattle.aig_parts.specs.Formed.{IsFormed}
 use Rattle.aig_base.specs.Renumbered.{IsBinaryReady}
 use Rattle.aig_format.specs.declared.header.Format.{Format}
 use Rattle.aig_format.specs.declared.header.Counts.{Counts}

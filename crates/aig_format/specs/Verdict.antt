@@ -1,8 +1,8 @@
 -- What reading a file answers.
 use Rattle.std.specs.Prelude.{◌≡◌, ◌≢◌, ℕ, ◌+◌, ◌<◌, List, Result, Ok, Err, IfOk, IfErr}
-use Rattle.aig_base.specs.declared.fault.Fault.{Fault}
-use Rattle.aig_base.specs.declared.fault.Fault.TheVariants as faults
-use Rattle.aig_base.specs.declared.raw.Raw.{Raw}
+use Rattle.aig_parts.specs.declared.fault.Fault.{Fault}
+use Rattle.aig_parts.specs.declared.fault.Fault.TheVariants as faults
+use Rattle.aig_parts.specs.declared.raw.Raw.{Raw}
 use Rattle.aig_base.specs.FirstFault.{number_of, IsFirstFault}
 use Rattle.aig_format.specs.Spells.{Spells, HasWrongCounts}
 

@@ -1,6 +1,6 @@
 //! The body of an ASCII file.
 ghost use Rattle.std.specs.Prelude.{◌≡◌, IfOk};
-ghost use Rattle.aig_base.specs.Formed.{IsFormed};
+ghost use Rattle.aig_parts.specs.Formed.{IsFormed};
 ghost use Rattle.aig_format.specs.Header.{AreWithin};
 ghost use Rattle.aig_format.specs.Meaning.{Gives};
 ghost use Rattle.aig_format.specs.Verdict.{Raises};

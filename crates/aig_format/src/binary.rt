@@ -1,6 +1,6 @@
 //! The body of a binary file.
 ghost use Rattle.std.specs.Prelude.{◌≡◌, ◌<◌, ◌^◌, IfOk, IfErr};
-ghost use Rattle.aig_base.specs.Formed.{IsFormed};
+ghost use Rattle.aig_parts.specs.Formed.{IsFormed};
 ghost use Rattle.aig_base.specs.Renumbered.{evens};
 ghost use Rattle.aig_format.specs.Header.{AreWithin};
 ghost use Rattle.aig_format.specs.Meaning.{Gives};

@@ -1,6 +1,6 @@
 //! The header line.
 ghost use Rattle.std.specs.Prelude.{◌≡◌, ℕ, ◌≤◌, ◌∷◌, [], IfOk, false};
-ghost use Rattle.aig_base.specs.Formed.{limit};
+ghost use Rattle.aig_parts.specs.Formed.{limit};
 ghost use Rattle.aig_format.specs.Header.{AreWithin, are_wrong};
 ghost use Rattle.aig_format.specs.Meaning.{TokenGives, TokenRaises};
 ghost use Rattle.aig_format.specs.Reading.{byte_at};

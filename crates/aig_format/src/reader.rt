@@ -1,7 +1,7 @@
 //! Reading a file.
 ghost use Rattle.std.specs.Prelude.{◌≡◌, ◌≢◌, ℕ, List, Some, Err, IfOk};
 ghost use Rattle.aig_base.specs.Circuit.{IsCircuit};
-ghost use Rattle.aig_base.specs.Formed.{IsFormed};
+ghost use Rattle.aig_parts.specs.Formed.{IsFormed};
 ghost use Rattle.aig_format.specs.Header.{AreWithin};
 ghost use Rattle.aig_format.specs.Meaning.{Answers, Gives};
 ghost use Rattle.aig_format.specs.Verdict.{IsReading, Raises};

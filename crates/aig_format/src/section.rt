@@ -1,6 +1,6 @@
 //! The sections that both formats have as text lines.
 ghost use Rattle.std.specs.Prelude.{◌≡◌, ◌≤◌, List, ℕ, length, map, sum, sum_by, IfOk};
-ghost use Rattle.aig_base.specs.Formed.{limit};
+ghost use Rattle.aig_parts.specs.Formed.{limit};
 ghost use Rattle.aig_format.specs.Fits.{HasCounts};
 ghost use Rattle.aig_format.specs.declared.header.Counts.{Counts};
 ghost use Rattle.aig_format.specs.ReadingSections.{sizes_at, groups_of_literals_at, justice_at, properties_at};

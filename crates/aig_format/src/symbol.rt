@@ -2,7 +2,7 @@
 ghost use Rattle.std.specs.Prelude.{◌≡◌, ◌≢◌, ℕ, ◌<◌, ◌≤◌, List, [], length, take, slice_index, Ok, IfOk, OnOk};
 ghost use Rattle.std.specs.Prelude.{Option, All, Contains};
 ghost use Rattle.std.specs.Map.{keys_of};
-ghost use Rattle.aig_base.specs.Formed.{IsName};
+ghost use Rattle.aig_parts.specs.Formed.{IsName};
 ghost use Rattle.aig_format.specs.Fits.{AreSymbols};
 ghost use Rattle.aig_format.specs.ReadingNames.{count_of, kind_of, after_c_at, letter_at, line_at, name_at};
 ghost use Rattle.aig_format.specs.ReadingNames.{position_at, symbol_at, symbols_at, names_at, IsSymbol};

@@ -7,8 +7,8 @@ use Rattle.std.proofs.lemmas.List.{append-nil, length-append, length-map, length
 use Rattle.std.proofs.lemmas.Bool.{false≢true}
 use Rattle.std.proofs.lemmas.List.Concat.{flat_map-append}
 use Rattle.std.proofs.lemmas.List.Elements.{All-nil, All-push, All-map, All-append}
-use Rattle.aig_base.specs.declared.ternary.Tern.{Tern}
-use Rattle.aig_base.specs.declared.ternary.Tern.TheVariants.{Zero, One, X}
+use Rattle.aig_parts.specs.declared.ternary.Tern.{Tern}
+use Rattle.aig_parts.specs.declared.ternary.Tern.TheVariants.{Zero, One, X}
 use Rattle.aig_sim.specs.declared.stimulus_fault.StimFault.{StimFault}
 use Rattle.aig_sim.specs.declared.stimulus_fault.StimFault.TheVariants as fault
 use Rattle.aig_sim.specs.declared.line_in_hand.Shape.{Shape}

@@ -6,10 +6,10 @@ use Rattle.std.proofs.lemmas.Bool.Decides.{nat_tests}
 use Rattle.std.proofs.lemmas.List.{length-set, length-map, length_push, length-replicate, get_or-set_same, get_or-take, get_or-map, get_or_default, take-replicate, take-append-le, take_more, drop-replicate, drop-append-le, drop-set-lt, map-set, map_push, replicate-append-replicate, append_assoc, ext_get_or}
 use Rattle.std.proofs.lemmas.Option.{slice_get_within}
 use Rattle.std.proofs.lemmas.List.Elements.{All-set, All-push}
-use Rattle.aig_base.specs.declared.ternary.Tern.{Tern}
-use Rattle.aig_base.specs.declared.ternary.Tern.TheVariants.{Zero, X}
-use Rattle.aig_base.specs.declared.gate.Gate.{Gate}
-use Rattle.aig_base.specs.Literal.{variable}
+use Rattle.aig_parts.specs.declared.ternary.Tern.{Tern}
+use Rattle.aig_parts.specs.declared.ternary.Tern.TheVariants.{Zero, X}
+use Rattle.aig_parts.specs.declared.gate.Gate.{Gate}
+use Rattle.aig_parts.specs.Literal.{variable}
 use Rattle.aig_sim.specs.Cells.{Cells, literal_value, gate_value, fresh_row, with_new_cell}
 use Rattle.aig_sim.specs.InputRows.{with_cell, row_at}
 use Rattle.aig_sim.specs.Padded.{ArePadded, AreLengthened, IsLengthened, IsPadded}

@@ -4,8 +4,8 @@ use Rattle.std.proofs.lemmas.Bool.{cases_lt, cases_eq}
 use Rattle.std.proofs.lemmas.Option.{slice_get-get_or}
 use Rattle.std.proofs.lemmas.List.{append_assoc, length-append, length-set, length-replicate, get_or_append_left, get_or-append_right, get_or-set_same, get_or-set_other, get_or-replicate, take_all, ext_get_or}
 use Rattle.std.proofs.lemmas.List.FromFn.{length-map-range_with_len, get_or-map-range_with_len}
-use Rattle.aig_base.specs.declared.ternary.Tern.{Tern}
-use Rattle.aig_base.specs.declared.ternary.Tern.TheVariants.{Zero, X}
+use Rattle.aig_parts.specs.declared.ternary.Tern.{Tern}
+use Rattle.aig_parts.specs.declared.ternary.Tern.TheVariants.{Zero, X}
 use Rattle.aig_sim.specs.declared.plane_row.Word.{Word}
 use Rattle.aig_sim.specs.Cells.{fresh_row}
 use Rattle.aig_sim.specs.Planes.{value_in, values_of, spelled, IsWhole}

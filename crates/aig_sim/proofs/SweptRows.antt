@@ -4,10 +4,10 @@ use Rattle.std.proofs.Math.Seq.{take-set-lt}
 use Rattle.std.proofs.lemmas.List.{length-set, length-map, get_or-map, map-set}
 use Rattle.std.proofs.lemmas.List.Elements.{All-set}
 use Rattle.std.proofs.lemmas.Option.{slice_get_within}
-use Rattle.aig_base.specs.declared.ternary.Tern.{Tern}
-use Rattle.aig_base.specs.declared.gate.Gate.{Gate}
-use Rattle.aig_base.specs.Literal.{variable}
-use Rattle.aig_base.specs.Ternary.{kleene_and}
+use Rattle.aig_parts.specs.declared.ternary.Tern.{Tern}
+use Rattle.aig_parts.specs.declared.gate.Gate.{Gate}
+use Rattle.aig_parts.specs.Literal.{variable}
+use Rattle.aig_parts.specs.Ternary.{kleene_and}
 use Rattle.aig_sim.specs.Cells.{Cells, HasCells, HasPlaces, gate_value, with_gate, with_swept_row}
 use Rattle.aig_sim.specs.InputRows.{row_at}
 use Rattle.aig_sim.specs.Padded.{ArePadded, IsPadded}

@@ -4,9 +4,9 @@ use Rattle.std.specs.List.{flat_map}
 use Rattle.std.specs.Prelude.{min, Option, Some, None, IfNone}
 use Rattle.std.proofs.lemmas.List.{append-nil, length-append, length-map, length_push, take-append-drop, take_all, take_more, drop_more, get_or_append_left}
 use Rattle.std.proofs.lemmas.List.Elements.{All-head, All-tail, All-push, All-nil}
-use Rattle.aig_base.specs.declared.ternary.Tern.{Tern}
-use Rattle.aig_base.specs.declared.ternary.Tern.TheVariants.{Zero, One, X}
-use Rattle.aig_base.specs.declared.raw.Raw.{Raw}
+use Rattle.aig_parts.specs.declared.ternary.Tern.{Tern}
+use Rattle.aig_parts.specs.declared.ternary.Tern.TheVariants.{Zero, One, X}
+use Rattle.aig_parts.specs.declared.raw.Raw.{Raw}
 use Rattle.aig_sim.specs.declared.witness_text.Shape.{Shape}
 use Rattle.aig_sim.specs.Checking.{BeginsWithRow, SpellsFrames, IsShape}
 use Rattle.aig_sim.specs.StimulusText.{character, row_line, IsCharacter, HaveWidth}

@@ -1,10 +1,10 @@
 -- The cells of a grid: a row a frame, a value a variable.
 use Rattle.std.specs.Prelude.{◌≡◌, ℕ, ◌-◌, ◌%◌, ◌<◌, Bool, true, List, [], ◌∷◌, ◌++◌, length, replicate, fold, Some, slice_get, slice_set, slice_index_or, nat_eq, if◌then◌else◌}
-use Rattle.aig_base.specs.declared.ternary.Tern.{Tern}
-use Rattle.aig_base.specs.declared.ternary.Tern.TheVariants.{Zero, X}
-use Rattle.aig_base.specs.declared.gate.Gate.{Gate}
-use Rattle.aig_base.specs.Literal.{variable, IsEven}
-use Rattle.aig_base.specs.Ternary.{kleene_and, kleene_not}
+use Rattle.aig_parts.specs.declared.ternary.Tern.{Tern}
+use Rattle.aig_parts.specs.declared.ternary.Tern.TheVariants.{Zero, X}
+use Rattle.aig_parts.specs.declared.gate.Gate.{Gate}
+use Rattle.aig_parts.specs.Literal.{variable, IsEven}
+use Rattle.aig_parts.specs.Ternary.{kleene_and, kleene_not}
 use Rattle.aig_sim.specs.InputRows.{row_at}
 
 -- the value of a literal by the cell of its variable

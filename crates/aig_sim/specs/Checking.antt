@@ -1,8 +1,8 @@
 -- How far a check of a witness has come.
 use Rattle.std.specs.Prelude.{◌≡◌, ◌≢◌, ℕ, suc, ◌<◌, min, List, [], ◌∷◌, ◌++◌, length, map, take, drop, Some, slice_get}
-use Rattle.aig_base.specs.declared.ternary.Tern.{Tern}
-use Rattle.aig_base.specs.declared.ternary.Tern.TheVariants.{One}
-use Rattle.aig_base.specs.declared.raw.Raw.{Raw}
+use Rattle.aig_parts.specs.declared.ternary.Tern.{Tern}
+use Rattle.aig_parts.specs.declared.ternary.Tern.TheVariants.{One}
+use Rattle.aig_parts.specs.declared.raw.Raw.{Raw}
 use Rattle.aig_sim.specs.declared.witness_text.Shape.{Shape}
 use Rattle.aig_sim.specs.Cells.{literal_value}
 use Rattle.aig_sim.specs.Frame.{HoldsAll, AreStates}

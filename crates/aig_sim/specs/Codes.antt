@@ -1,7 +1,7 @@
 -- Values in two bits.
 use Rattle.std.specs.Prelude.{ℕ, zero, suc}
-use Rattle.aig_base.specs.declared.ternary.Tern.{Tern}
-use Rattle.aig_base.specs.declared.ternary.Tern.TheVariants.{Zero, One, X}
+use Rattle.aig_parts.specs.declared.ternary.Tern.{Tern}
+use Rattle.aig_parts.specs.declared.ternary.Tern.TheVariants.{Zero, One, X}
 
 -- the bits of a value: 00, 11, 01
 abbrev pub bits_of : Tern → ℕ

@@ -1,6 +1,6 @@
 -- What a stimulus is seen as: rows of one width, a row a frame (profile).
 use Rattle.std.specs.Prelude.{ℕ, List, [], slice_set, slice_index_or}
-use Rattle.aig_base.specs.declared.ternary.Tern.{Tern}
+use Rattle.aig_parts.specs.declared.ternary.Tern.{Tern}
 
 pub record InputRows : Type 0 where
   pub width : ℕ

@@ -1,7 +1,7 @@
 -- What is kept of a stimulus line that is being read.
 use Rattle.std.specs.Prelude.{◌≡◌, ◌≢◌, ℕ, ◌<◌, ◌≤◌, List, ◌++◌, length, map, All}
 use Rattle.std.specs.List.{flat_map}
-use Rattle.aig_base.specs.declared.ternary.Tern.{Tern}
+use Rattle.aig_parts.specs.declared.ternary.Tern.{Tern}
 use Rattle.aig_sim.specs.declared.stimulus_fault.StimFault.{StimFault}
 use Rattle.aig_sim.specs.declared.stimulus_fault.StimFault.TheVariants as fault
 use Rattle.aig_sim.specs.declared.line_in_hand.Shape.{Shape}

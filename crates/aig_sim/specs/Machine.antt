@@ -1,7 +1,7 @@
 -- What a circuit that is simulated row by row is seen as.
 use Rattle.std.specs.Prelude.{ℕ, ◌+◌, List, [], ◌∷◌, ◌++◌, length}
-use Rattle.aig_base.specs.declared.ternary.Tern.{Tern}
-use Rattle.aig_base.specs.declared.raw.Raw.{Raw}
+use Rattle.aig_parts.specs.declared.ternary.Tern.{Tern}
+use Rattle.aig_parts.specs.declared.raw.Raw.{Raw}
 use Rattle.aig_sim.specs.Frame.{HoldsAll, AreStates}
 
 -- the circuit, a cell a variable with the values at the last frame, and the latches' values at the next one

@@ -1,8 +1,8 @@
 -- What a simulation read and wrote.
 use Rattle.std.specs.Prelude.{◌≡◌, ◌⊎◌, ℕ, ◌+◌, ◌-◌, ◌^◌, min, List, [], ◌++◌, length, Option, Result, Ok, Err}
 use Rattle.std.specs.List.{flat_map}
-use Rattle.aig_base.specs.declared.ternary.Tern.{Tern}
-use Rattle.aig_base.specs.declared.raw.Raw.{Raw}
+use Rattle.aig_parts.specs.declared.ternary.Tern.{Tern}
+use Rattle.aig_parts.specs.declared.raw.Raw.{Raw}
 use Rattle.aig_bytes.specs.Bytes.{before, after, IsAtEnd, IsBeginning}
 use Rattle.aig_base.specs.Value.{start_of}
 use Rattle.aig_sim.specs.declared.stimulus_fault.StimFault.{StimFault}

@@ -1,8 +1,8 @@
 -- The text of a witness: the line `1`, the line `b` and a position, a line of latches' values, a line of inputs' values a
 -- frame, and the line `.` (profile, after the witnesses of AIGER 1.9).
 use Rattle.std.specs.Prelude.{◌≡◌, ◌≢◌, ℕ, ◌+◌, ◌*◌, ◌<◌, ◌≤◌, List, [], ◌∷◌, ◌++◌, length, flat_map}
-use Rattle.aig_base.specs.declared.ternary.Tern.{Tern}
-use Rattle.aig_base.specs.declared.raw.Raw.{Raw}
+use Rattle.aig_parts.specs.declared.ternary.Tern.{Tern}
+use Rattle.aig_parts.specs.declared.raw.Raw.{Raw}
 use Rattle.aig_sim.specs.declared.witness_fault.WitnessFault.{WitnessFault}
 use Rattle.aig_sim.specs.declared.witness_fault.WitnessFault.TheVariants as fault
 use Rattle.aig_base.specs.Limits.{frame_limit}

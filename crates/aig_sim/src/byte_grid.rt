@@ -1,10 +1,10 @@
 //! A grid with a byte a cell.
 ghost use Rattle.std.specs.Prelude.{◌≡◌, ◌≢◌, ℕ, ◌+◌, ◌-◌, ◌<◌, ◌≤◌, ◌↔◌, List, [], ◌∷◌, ◌++◌, replicate, length};
 ghost use Rattle.std.specs.Prelude.{All, IfOk, IsTrue, OnOk, slice_set, slice_index_or};
-ghost use Rattle.aig_base.specs.declared.ternary.Tern.{Tern};
-ghost use Rattle.aig_base.specs.declared.ternary.Tern.TheVariants.{X};
-ghost use Rattle.aig_base.specs.Literal.{variable};
-ghost use Rattle.aig_base.specs.Ternary.{kleene_and};
+ghost use Rattle.aig_parts.specs.declared.ternary.Tern.{Tern};
+ghost use Rattle.aig_parts.specs.declared.ternary.Tern.TheVariants.{X};
+ghost use Rattle.aig_parts.specs.Literal.{variable};
+ghost use Rattle.aig_parts.specs.Ternary.{kleene_and};
 ghost use Rattle.aig_sim.specs.Cells.{literal_value, gate_value, fresh_row};
 ghost use Rattle.aig_sim.specs.Padded.{AreLengthened};
 

@@ -1,7 +1,7 @@
 //! Values in two bits, for circuits that are simulated row by row.
 ghost use Rattle.std.specs.Prelude.{◌≡◌, ◌<◌, IsTrue, List, length};
-ghost use Rattle.aig_base.specs.Literal.{variable};
-ghost use Rattle.aig_base.specs.Ternary.{kleene_and, kleene_not};
+ghost use Rattle.aig_parts.specs.Literal.{variable};
+ghost use Rattle.aig_parts.specs.Ternary.{kleene_and, kleene_not};
 ghost use Rattle.aig_sim.specs.Cells.{literal_value};
 ghost use Rattle.aig_sim.specs.StimulusText.{character};
 ghost use Rattle.aig_sim.specs.TraceText.{literal_character};
@@ -19,7 +19,7 @@ pub struct Code {
 impl Model for Code {
     ghost use Rattle.std.specs.Prelude.{◌≡◌};
     ghost use Rattle.std.proofs.Common.{ap};
-    ghost use Rattle.aig_base.specs.declared.ternary.Tern.{Tern};
+    ghost use Rattle.aig_parts.specs.declared.ternary.Tern.{Tern};
     ghost use Rattle.aig_sim.specs.Codes.{value_of, bits_of};
 
     ghost Value = { Tern };

@@ -2,10 +2,10 @@
 ghost use Rattle.std.specs.Prelude.{◌≡◌, ◌≢◌, ℕ, ◌-◌, ◌+◌, ◌*◌, ◌<◌, ◌≤◌, ◌↔◌, Bool, true, false, List, [], ◌∷◌};
 ghost use Rattle.std.specs.Prelude.{◌++◌, length, map, take, All, IsTrue, IfOk, OnOk, OnErr, Some, slice_get};
 ghost use Rattle.std.specs.Prelude.{slice_index_or};
-ghost use Rattle.aig_base.specs.declared.ternary.Tern.{Tern};
-ghost use Rattle.aig_base.specs.declared.ternary.Tern.TheVariants.{X};
+ghost use Rattle.aig_parts.specs.declared.ternary.Tern.{Tern};
+ghost use Rattle.aig_parts.specs.declared.ternary.Tern.TheVariants.{X};
 ghost use Rattle.aig_base.specs.Limits.{cell_limit, frame_limit};
-ghost use Rattle.aig_base.specs.Literal.{variable, IsEven};
+ghost use Rattle.aig_parts.specs.Literal.{variable, IsEven};
 ghost use Rattle.aig_sim.specs.Cells.{gate_value, fresh_row, with_new_cell, with_swept_row, HasCells};
 ghost use Rattle.aig_sim.specs.InputRows.{with_cell, row_at};
 ghost use Rattle.aig_sim.specs.TraceText.{literal_character};

@@ -1,8 +1,8 @@
 //! What holds of all texts of stimuli and witnesses. A law is a function that does nothing: its contract is the law.
 ghost use Rattle.std.specs.Prelude.{◌≡◌, ℕ, ◌≤◌, List, length};
-ghost use Rattle.aig_base.specs.declared.ternary.Tern.{Tern};
+ghost use Rattle.aig_parts.specs.declared.ternary.Tern.{Tern};
 ghost use Rattle.aig_sim.specs.declared.stimulus_fault.StimFault.{StimFault};
-ghost use Rattle.aig_base.specs.declared.raw.Raw.{Raw};
+ghost use Rattle.aig_parts.specs.declared.raw.Raw.{Raw};
 ghost use Rattle.aig_base.specs.Limits.{frame_limit};
 ghost use Rattle.aig_sim.specs.StimulusText.{SpellsRows, HasFaultyLine};
 ghost use Rattle.aig_sim.specs.WitnessText.{Witness, SpellsWitness};

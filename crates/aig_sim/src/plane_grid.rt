@@ -1,6 +1,6 @@
 //! A grid with two bits a cell.
 ghost use Rattle.std.specs.Prelude.{ℕ, ◌≡◌, ◌+◌, ◌<◌, ◌≤◌, List, length, All, OnOk, fold};
-ghost use Rattle.aig_base.specs.declared.ternary.Tern.{Tern};
+ghost use Rattle.aig_parts.specs.declared.ternary.Tern.{Tern};
 ghost use Rattle.aig_sim.specs.Cells.{with_gate, HasPlaces};
 ghost use Rattle.aig_sim.specs.Padded.{AreLengthened};
 

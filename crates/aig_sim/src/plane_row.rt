@@ -1,9 +1,9 @@
 //! Rows of two bits a cell, sixty-four cells a word.
 ghost use Rattle.std.specs.Prelude.{◌≡◌, ◌≢◌, ℕ, ◌+◌, ◌*◌, ◌/◌, ◌<◌, ◌≤◌, ◌↔◌, IsTrue, IfOk, OnOk, Some, length};
 ghost use Rattle.std.specs.Prelude.{slice_get, slice_set, slice_index_or};
-ghost use Rattle.aig_base.specs.declared.ternary.Tern.TheVariants.{X};
-ghost use Rattle.aig_base.specs.Literal.{variable};
-ghost use Rattle.aig_base.specs.Ternary.{kleene_and, kleene_not};
+ghost use Rattle.aig_parts.specs.declared.ternary.Tern.TheVariants.{X};
+ghost use Rattle.aig_parts.specs.Literal.{variable};
+ghost use Rattle.aig_parts.specs.Ternary.{kleene_and, kleene_not};
 ghost use Rattle.aig_sim.specs.Cells.{literal_value, gate_value, fresh_row};
 ghost use Rattle.aig_sim.specs.Padded.{IsLengthened};
 ghost use Rattle.aig_sim.specs.StimulusText.{character};
@@ -28,7 +28,7 @@ pub struct Cell {
 
 impl Model for Cell {
     ghost use Rattle.std.specs.Prelude.{◌||◌, IsTrue};
-    ghost use Rattle.aig_base.specs.declared.ternary.Tern.{Tern};
+    ghost use Rattle.aig_parts.specs.declared.ternary.Tern.{Tern};
 
     ghost Value = { Tern };
 
@@ -181,7 +181,7 @@ pub struct PlaneRow {
 
 impl Model for PlaneRow {
     ghost use Rattle.std.specs.Prelude.{List, All};
-    ghost use Rattle.aig_base.specs.declared.ternary.Tern.{Tern};
+    ghost use Rattle.aig_parts.specs.declared.ternary.Tern.{Tern};
 
     ghost Value = { List Tern };
 

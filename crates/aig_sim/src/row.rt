@@ -1,7 +1,7 @@
 //! The values of one frame, wherever they are kept.
 ghost use Rattle.std.specs.Prelude.{◌≡◌, ℕ, ◌<◌, List, Some, slice_get};
-ghost use Rattle.aig_base.specs.declared.ternary.Tern.{Tern};
-ghost use Rattle.aig_base.specs.Literal.{variable};
+ghost use Rattle.aig_parts.specs.declared.ternary.Tern.{Tern};
+ghost use Rattle.aig_parts.specs.Literal.{variable};
 ghost use Rattle.aig_sim.specs.Cells.{literal_value};
 ghost use Rattle.aig_sim.specs.TraceText.{literal_character};
 

@@ -1,7 +1,7 @@
 //! Whether a witness shows what it says.
 ghost use Rattle.std.specs.Prelude.{◌≡◌, ℕ, ◌<◌, ◌↔◌, false, List, ◌∷◌, ◌++◌, length, map, IfOk, IfErr, IfSome};
 ghost use Rattle.std.specs.Prelude.{IfNone, IsTrue};
-ghost use Rattle.aig_base.specs.declared.ternary.Tern.{Tern};
+ghost use Rattle.aig_parts.specs.declared.ternary.Tern.{Tern};
 ghost use Rattle.aig_sim.specs.Checking.{BeginsWithRow, SpellsFrames, IsShape, ReadsNotOne, HasRun, IsFirstFailure};
 ghost use Rattle.aig_sim.specs.StimulusText.{character};
 ghost use Rattle.aig_sim.specs.Verdict.{Allows, StartsWrong, IsVerdict, IsConfirmed};

@@ -1,8 +1,8 @@
 //! The text of a witness.
 ghost use Rattle.std.specs.Prelude.{◌≡◌, ◌≢◌, ℕ, ◌+◌, ◌<◌, ◌≤◌, ◌↔◌, min, List, [], ◌∷◌, ◌++◌, length, map, take};
 ghost use Rattle.std.specs.Prelude.{All, IsTrue, IfSome, IfNone, slice_index_or};
-ghost use Rattle.aig_base.specs.declared.ternary.Tern.{Tern};
-ghost use Rattle.aig_base.specs.declared.raw.Raw.{Raw};
+ghost use Rattle.aig_parts.specs.declared.ternary.Tern.{Tern};
+ghost use Rattle.aig_parts.specs.declared.raw.Raw.{Raw};
 ghost use Rattle.aig_sim.specs.StimulusText.{character, row_line, HaveWidth, IsCharacter};
 ghost use Rattle.aig_sim.specs.WitnessText.{Witness, SpellsWitness, IsDecimal, rows_text};
 ghost use Rattle.aig_sim.specs.Checking.{BeginsWithRow, SpellsFrames, IsShape};

@@ -1,6 +1,6 @@
 //! Circuits that tests use.
 ghost use Rattle.std.specs.Prelude.{◌≤◌, IsTrue};
-ghost use Rattle.aig_base.specs.Literal.{variable};
+ghost use Rattle.aig_parts.specs.Literal.{variable};
 ghost use Rattle.aig_base.specs.Sections.{IsDefined};
 
 use aig_base::{Circuit, Gate, List, Lit, Raw, Symbols};

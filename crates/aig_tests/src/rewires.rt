@@ -1,6 +1,6 @@
 //! Levels and readers renewed in place, against both computed from nothing.
 ghost use Rattle.aig_base.specs.Levels.{AreLevels};
-ghost use Rattle.aig_base.specs.Literal.{variable};
+ghost use Rattle.aig_parts.specs.Literal.{variable};
 ghost use Rattle.aig_base.specs.Readers.{AreReaders};
 ghost use Rattle.aig_base.specs.Sections.{IsDefined, IsLeftSide};
 
@@ -21,7 +21,7 @@ struct Net {
 }
 
 impl Model for Net {
-    ghost use Rattle.aig_base.specs.declared.raw.Raw.{Raw};
+    ghost use Rattle.aig_parts.specs.declared.raw.Raw.{Raw};
 
     ghost Value = { Raw };
 

@@ -1,7 +1,7 @@
 -- When there are guards.
 use Rattle.std.proofs.Common.{◌≡◌, ℕ, zero, ◌<◌, nat_lt, Bool, true, false, ◌&&◌, length, refl, arith}
 use Rattle.std.proofs.lemmas.Bool.Decides.{nat_tests}
-use Rattle.aig_base.specs.declared.raw.Raw.{Raw}
+use Rattle.aig_parts.specs.declared.raw.Raw.{Raw}
 use Rattle.aig_unroll.specs.FrameLiteral.{has_guards, chain_count, guard_count}
 
 -- with guards, a chain gate a constraint and a guard gate a bad literal

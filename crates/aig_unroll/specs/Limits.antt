@@ -1,7 +1,7 @@
 -- What can be unrolled (profile).
 use Rattle.std.specs.Prelude.{ℕ, ◌+◌, ◌*◌, ◌<◌, ◌≤◌, ◌⊎◌, List, length}
-use Rattle.aig_base.specs.declared.raw.Raw.{Raw}
-use Rattle.aig_base.specs.Formed.{limit}
+use Rattle.aig_parts.specs.declared.raw.Raw.{Raw}
+use Rattle.aig_parts.specs.Formed.{limit}
 use Rattle.aig_base.specs.Limits.{frame_limit}
 use Rattle.aig_unroll.specs.FrameLiteral.{frame_size, input_count}
 use Rattle.aig_unroll.specs.Unrolled.{kept_constraints}

@@ -1,8 +1,8 @@
 -- The circuit unrolled for k frames (profile).
 use Rattle.std.specs.Prelude.{ℕ, zero, suc, ◌+◌, ◌*◌, ◌-◌, if◌then◌else◌, List, [], ◌∷◌, ◌++◌, length, map, None, slice_index}
 use Rattle.std.specs.List.{range_with_len}
-use Rattle.aig_base.specs.declared.gate.Gate.{Gate}
-use Rattle.aig_base.specs.declared.raw.Raw.{Raw}
+use Rattle.aig_parts.specs.declared.gate.Gate.{Gate}
+use Rattle.aig_parts.specs.declared.raw.Raw.{Raw}
 use Rattle.aig_base.specs.Renumbered.{ready_gate, ordered_gates, evens}
 use Rattle.aig_unroll.specs.FrameLiteral.{frame_literal, gate_variable, frame_size, input_count, has_guards, chain_count, guard_count}
 

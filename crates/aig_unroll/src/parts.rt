@@ -1,7 +1,7 @@
 //! What a frame adds to the sections of the unrolled circuit.
 ghost use Rattle.std.specs.Prelude.{◌≡◌, ◌+◌, ◌++◌, ◌≤◌, ◌<◌, OnOk, IfOk, All, length, map};
 ghost use Rattle.std.specs.List.{range_with_len};
-ghost use Rattle.aig_base.specs.Formed.{limit};
+ghost use Rattle.aig_parts.specs.Formed.{limit};
 ghost use Rattle.aig_base.specs.RenumberingTable.{IsListed, IsGateListed};
 ghost use Rattle.aig_unroll.specs.FrameLiteral as literals;
 ghost use Rattle.aig_unroll.specs.FrameTable as table;

@@ -1,6 +1,6 @@
 //! Unrolling.
 ghost use Rattle.std.specs.Prelude.{◌≡◌, ◌≤◌, IfOk, IfErr, OnOk};
-ghost use Rattle.aig_base.specs.Formed.{limit};
+ghost use Rattle.aig_parts.specs.Formed.{limit};
 ghost use Rattle.aig_base.specs.Levels.{AreLevels};
 ghost use Rattle.aig_base.specs.Order.{IsCanonicalOrder};
 ghost use Rattle.aig_base.specs.Renumbered.{evens, IsBinaryReady};

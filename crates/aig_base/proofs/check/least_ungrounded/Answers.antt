@@ -1,7 +1,7 @@
 use Rattle.std.proofs.Common.{◌≡◌, ◌+◌, ◌<◌, ◌≤◌, ◌*◌, Bool, List, length, get_or, sym, ap, subst, ◌∙◌, arith, All}
-use Rattle.aig_base.specs.declared.gate.Gate.{Gate}
+use Rattle.aig_parts.specs.declared.gate.Gate.{Gate}
 use Rattle.aig_base.specs.Least.{AscendsBy, IsLeastAmong, IsMarkedGate, IsGroundedGate, ReadsSmaller, gate_variable}
-use Rattle.aig_base.specs.Literal.{variable}
+use Rattle.aig_parts.specs.Literal.{variable}
 use Rattle.aig_base.specs.Marks.{HasParts}
 use Rattle.aig_base.proofs.Ascending.{all_grounded}
 use Rattle.aig_base.proofs.LeastAmong.{least_same}

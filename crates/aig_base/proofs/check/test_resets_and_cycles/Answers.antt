@@ -1,5 +1,5 @@
 use Rattle.std.proofs.Common.{ℕ, List, Option, Some, None, subst}
-use Rattle.aig_base.specs.declared.latch.Latch.{Latch}
+use Rattle.aig_parts.specs.declared.latch.Latch.{Latch}
 use Rattle.aig_base.specs.Least.{IsLeastAmong, IsGroundedGate, gate_variable, latch_variable}
 use Rattle.aig_base.specs.Sound.{IsReset}
 use Rattle.aig_base.proofs.Faults.{first_reset, first_cycle, circuit_from_tests}

@@ -1,7 +1,7 @@
 use Rattle.std.proofs.Common.{take}
 use Rattle.std.specs.List.{flat_map}
 use Rattle.aig_base.specs.Least.{IsLeastAmong, IsKnown}
-use Rattle.aig_base.specs.Literal.{variable}
+use Rattle.aig_parts.specs.Literal.{variable}
 use Rattle.aig_base.proofs.least.least_unknown_in_lists.Given as goal
 
 abbrev pub invariant-loop-list : goal.invariant-loop-list

@@ -1,6 +1,6 @@
 use Rattle.std.proofs.Common.{map, take}
 use Rattle.aig_base.specs.Least.{IsLeastAmong, IsKnown}
-use Rattle.aig_base.specs.Literal.{variable}
+use Rattle.aig_parts.specs.Literal.{variable}
 use Rattle.aig_base.proofs.least.least_unknown_next.Given as goal
 
 abbrev pub invariant-loop-latch : goal.invariant-loop-latch

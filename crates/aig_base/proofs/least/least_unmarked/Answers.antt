@@ -1,7 +1,7 @@
 use Rattle.std.proofs.Common.{◌≡◌, ◌<◌, Some, false, true, length, get_or, slice_get, sym, ap, subst, arith, ◌∙◌}
 use Rattle.std.proofs.Common.{true≢false}
 use Rattle.std.proofs.lemmas.Option.{slice_get-get_or, same_Some}
-use Rattle.aig_base.specs.declared.gate.Gate.{Gate}
+use Rattle.aig_parts.specs.declared.gate.Gate.{Gate}
 use Rattle.aig_base.specs.Least.{IsMarkedGate, gate_variable}
 use Rattle.aig_base.proofs.LeastAmong.{least_more, least_kept, bad_one}
 use Rattle.aig_base.proofs.least.least_unmarked.Goals as goal

@@ -1,8 +1,8 @@
 use Rattle.std.proofs.Common.{◌≡◌, ◌<◌, ◌⊎◌, inl, inr, ◌∙◌, ◌∷◌, ◌++◌, [], ℕ, List, All, length, length-set, subst, sym}
 use Rattle.std.proofs.Common.{ap, true, arith}
 use Rattle.std.proofs.lemmas.List.Elements.{All-push}
-use Rattle.aig_base.specs.declared.gate.Gate.{Gate}
-use Rattle.aig_base.specs.Literal.{variable}
+use Rattle.aig_parts.specs.declared.gate.Gate.{Gate}
+use Rattle.aig_parts.specs.Literal.{variable}
 use Rattle.aig_base.specs.Marks.{IsGateBelow}
 use Rattle.aig_base.proofs.Descents.{meets_fresh}
 use Rattle.aig_base.proofs.Joined.{All-right}

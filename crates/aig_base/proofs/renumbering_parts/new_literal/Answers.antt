@@ -1,7 +1,7 @@
 use Rattle.std.proofs.Common.{◌≡◌, ◌*◌, ◌%◌, ◌∙◌, ℕ, sym, ap, refl, slice_index}
 use Rattle.std.proofs.Common.{arith}
 use Rattle.std.proofs.lemmas.Bool.{false≢true}
-use Rattle.aig_base.specs.Literal.{variable, negation, with_sign, IsNegated}
+use Rattle.aig_parts.specs.Literal.{variable, negation, with_sign, IsNegated}
 use Rattle.aig_base.specs.RenumberingTable.{literal_by}
 use Rattle.aig_base.proofs.renumbering_parts.new_literal.Goals as goal
 

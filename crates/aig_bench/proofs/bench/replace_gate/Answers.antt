@@ -1,5 +1,5 @@
 use Rattle.std.proofs.Common.{arith}
-use Rattle.aig_base.specs.Literal.{variable}
+use Rattle.aig_parts.specs.Literal.{variable}
 use Rattle.aig_base.proofs.Gates.{defined_in_range}
 use Rattle.aig_bench.proofs.Changed.{readers_kept}
 use Rattle.aig_bench.proofs.LatchChains.{readers_rewired}

@@ -1,5 +1,5 @@
 use Rattle.std.proofs.Common.{◌∙◌}
-use Rattle.aig_base.specs.Literal.{variable}
+use Rattle.aig_parts.specs.Literal.{variable}
 use Rattle.aig_bench.proofs.Swept.{current_swept, laid_out_swept, row_kept}
 use Rattle.aig_bench.proofs.fill.fill.Goals as goal
 

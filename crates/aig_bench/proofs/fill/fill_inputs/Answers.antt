@@ -1,6 +1,6 @@
 use Rattle.std.proofs.Common.{◌≡◌, ◌∙◌, ℕ, Some, slice_get, refl, arith}
 use Rattle.aig_base.specs.Grounded as by
-use Rattle.aig_base.specs.Literal.{variable}
+use Rattle.aig_parts.specs.Literal.{variable}
 use Rattle.aig_base.proofs.Circuits.{input_definition}
 use Rattle.aig_sim.specs.InputRows.{row_at}
 use Rattle.aig_sim.proofs.Evaluation.{item_at, items_all, items_more}

@@ -1,7 +1,7 @@
 use Rattle.std.proofs.Common.{◌≡◌, ◌∙◌, Some, slice_get, refl, arith}
-use Rattle.aig_base.specs.declared.latch.Latch.{Latch}
+use Rattle.aig_parts.specs.declared.latch.Latch.{Latch}
 use Rattle.aig_base.specs.Grounded as by
-use Rattle.aig_base.specs.Literal.{variable}
+use Rattle.aig_parts.specs.Literal.{variable}
 use Rattle.aig_base.specs.Value.{start_of}
 use Rattle.aig_base.proofs.Circuits.{latch_definition}
 use Rattle.aig_sim.specs.InputRows.{row_at}

@@ -1,6 +1,6 @@
 use Rattle.std.proofs.Common.{◌≡◌, ◌≢◌, ℕ, ◌<◌, Some, slice_get}
-use Rattle.aig_base.specs.declared.latch.Latch.{Latch}
-use Rattle.aig_base.specs.Literal.{variable}
+use Rattle.aig_parts.specs.declared.latch.Latch.{Latch}
+use Rattle.aig_parts.specs.Literal.{variable}
 use Rattle.aig_base.specs.Value.{start_of}
 use Rattle.aig_sim.specs.Frame.{Renews}
 use Rattle.aig_sim.specs.InputRows.{row_at}

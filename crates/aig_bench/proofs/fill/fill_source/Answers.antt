@@ -1,5 +1,5 @@
 use Rattle.std.proofs.Common.{List, sym, ap, ◌∙◌, subst}
-use Rattle.aig_base.specs.declared.ternary.Tern.{Tern}
+use Rattle.aig_parts.specs.declared.ternary.Tern.{Tern}
 use Rattle.aig_base.specs.Grounded as by
 use Rattle.aig_base.specs.Value.{start_of}
 use Rattle.aig_base.proofs.Gates.{level_in_range}

@@ -1,11 +1,11 @@
 use Rattle.std.proofs.Common.{◌≡◌, ◌∙◌, ◌+◌, ◌<◌, ℕ, suc, [], inr, sym, subst, arith, List, length, Contains}
-use Rattle.aig_base.specs.Literal.{variable}
+use Rattle.aig_parts.specs.Literal.{variable}
 use Rattle.aig_bench.specs.Current.{Holds}
 use Rattle.aig_bench.specs.Pending.{IsNextRow}
 use Rattle.std.proofs.lemmas.Bool.{eqb-true}
 use Rattle.aig_bench.proofs.Handed.{not_handed_holds}
 use Rattle.aig_bench.proofs.Quiet.{stopped}
-use Rattle.aig_base.specs.declared.ternary.Tern.{Tern}
+use Rattle.aig_parts.specs.declared.ternary.Tern.{Tern}
 use Rattle.aig_sim.specs.InputRows.{row_at}
 use Rattle.aig_bench.specs.Entry.{Rests}
 use Rattle.aig_bench.specs.Passing.{IsConsistent}

@@ -1,9 +1,9 @@
 use Rattle.std.proofs.Common.{◌≡◌, ◌≢◌, ◌∙◌, ◌+◌, ◌<◌, ℕ, suc, List, [], ◌∷◌, Some, slice_get, sym, subst, length, arith}
 use Rattle.aig_base.specs.Grounded as by
-use Rattle.aig_base.specs.Literal.{variable}
+use Rattle.aig_parts.specs.Literal.{variable}
 use Rattle.aig_sim.proofs.Evaluation.{item_at}
 use Rattle.aig_sim.specs.InputRows.{row_at}
-use Rattle.aig_base.specs.declared.ternary.Tern.{Tern}
+use Rattle.aig_parts.specs.declared.ternary.Tern.{Tern}
 use Rattle.aig_bench.specs.Current.{Holds, IsCurrentRow}
 use Rattle.aig_bench.specs.Pending.{IsNextRow}
 use Rattle.aig_bench.proofs.Handed.{hands_then, not_handed_holds}

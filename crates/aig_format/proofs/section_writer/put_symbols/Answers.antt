@@ -1,7 +1,7 @@
 use Rattle.std.proofs.Common.{ℕ, List}
 use Rattle.std.specs.Map.Iter.{deref_pair}
 use Rattle.std.proofs.lemmas.Map.Iter.{rest_more}
-use Rattle.aig_base.specs.declared.symbols.Kind.{Kind}
+use Rattle.aig_parts.specs.declared.symbols.Kind.{Kind}
 use Rattle.aig_format.proofs.SymbolLoop.{front_more, front_stops}
 use Rattle.aig_format.proofs.section_writer.put_symbols.Goals as goal
 

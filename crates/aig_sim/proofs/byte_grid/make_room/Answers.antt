@@ -1,7 +1,7 @@
 use Rattle.std.proofs.Common.{◌≡◌, ◌<◌, ◌≤◌, List, [], ◌∷◌, ◌++◌, length, ap, sym, ◌∙◌, arith}
 use Rattle.std.proofs.lemmas.List.{length_push}
-use Rattle.aig_base.specs.declared.ternary.Tern.{Tern}
-use Rattle.aig_base.specs.declared.ternary.Tern.TheVariants.{X}
+use Rattle.aig_parts.specs.declared.ternary.Tern.{Tern}
+use Rattle.aig_parts.specs.declared.ternary.Tern.TheVariants.{X}
 use Rattle.aig_sim.proofs.PaddedRows.{longer_all, longer_kept, longer_set, near_here}
 use Rattle.aig_sim.proofs.byte_grid.make_room.Goals as goal
 use Rattle.aig_sim.proofs.byte_grid.make_room.Goals.{then-len-size+in_ok-push, else-len-size}

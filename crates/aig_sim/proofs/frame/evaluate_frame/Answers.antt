@@ -1,10 +1,10 @@
 use Rattle.std.proofs.Common.{◌≡◌, ◌<◌, ℕ, ◌*◌, List, Some, slice_get, slice_set, length, sym, subst, refl, ap₂, ◌∙◌, arith}
-use Rattle.aig_base.specs.declared.ternary.Tern.{Tern}
-use Rattle.aig_base.specs.declared.gate.Gate.{Gate}
-use Rattle.aig_base.specs.declared.raw.Raw.{Raw}
-use Rattle.aig_base.specs.Literal.{variable}
+use Rattle.aig_parts.specs.declared.ternary.Tern.{Tern}
+use Rattle.aig_parts.specs.declared.gate.Gate.{Gate}
+use Rattle.aig_parts.specs.declared.raw.Raw.{Raw}
+use Rattle.aig_parts.specs.Literal.{variable}
 use Rattle.aig_base.specs.Sound.{IsSound}
-use Rattle.aig_base.specs.Ternary.{kleene_and}
+use Rattle.aig_parts.specs.Ternary.{kleene_and}
 use Rattle.aig_base.specs.Value.{Value}
 use Rattle.aig_sim.specs.Cells.{gate_value}
 use Rattle.aig_sim.specs.Frame.{Holds, HoldsSources}

@@ -1,6 +1,6 @@
 use Rattle.std.proofs.Common.{◌≡◌, ℕ, ◌<◌, List, Some, slice_get}
-use Rattle.aig_base.specs.declared.ternary.Tern.{Tern}
-use Rattle.aig_base.specs.Literal.{variable}
+use Rattle.aig_parts.specs.declared.ternary.Tern.{Tern}
+use Rattle.aig_parts.specs.Literal.{variable}
 use Rattle.aig_sim.specs.Frame.{Holds, Renews}
 use Rattle.aig_sim.proofs.frame.put_inputs.Given as goal
 

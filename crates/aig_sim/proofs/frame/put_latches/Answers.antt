@@ -1,7 +1,7 @@
 use Rattle.std.proofs.Common.{◌≡◌, ◌<◌, ℕ, List, Some, slice_get, slice_set, length, refl, ap, arith}
-use Rattle.aig_base.specs.declared.ternary.Tern.{Tern}
-use Rattle.aig_base.specs.declared.latch.Latch.{Latch}
-use Rattle.aig_base.specs.Literal.{variable}
+use Rattle.aig_parts.specs.declared.ternary.Tern.{Tern}
+use Rattle.aig_parts.specs.declared.latch.Latch.{Latch}
+use Rattle.aig_parts.specs.Literal.{variable}
 use Rattle.aig_sim.specs.Frame.{AreStates, Holds}
 use Rattle.aig_base.proofs.Circuits.{latch_in_range}
 use Rattle.aig_sim.proofs.Evaluation.{item_at, items_more, items_all, latch_value, put_value}

@@ -1,5 +1,5 @@
 use Rattle.std.proofs.Common.{◌≡◌, take, map}
-use Rattle.aig_base.specs.declared.latch.Latch.{Latch}
+use Rattle.aig_parts.specs.declared.latch.Latch.{Latch}
 use Rattle.aig_sim.specs.Cells.{literal_value}
 use Rattle.aig_sim.proofs.frame.renew_states.Given as goal
 

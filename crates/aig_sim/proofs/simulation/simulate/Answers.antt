@@ -3,8 +3,8 @@ use Rattle.std.specs.Prelude.{Result}
 use Rattle.std.specs.Result.{IsErrAnd}
 use Rattle.std.proofs.lemmas.List.{length-map}
 use Rattle.std.proofs.lemmas.Result.{err_from_is_err_and}
-use Rattle.aig_base.specs.declared.ternary.Tern.{Tern}
-use Rattle.aig_base.specs.declared.latch.Latch.{Latch}
+use Rattle.aig_parts.specs.declared.ternary.Tern.{Tern}
+use Rattle.aig_parts.specs.declared.latch.Latch.{Latch}
 use Rattle.aig_bytes.specs.Bytes.{before}
 use Rattle.aig_base.specs.Value.{reset_value, start_of}
 use Rattle.aig_sim.specs.declared.stimulus_fault.StimFault.{StimFault}

@@ -1,5 +1,5 @@
 use Rattle.std.proofs.Common.{◌+◌, ◌∷◌, [], ◌≤◌, length, ◌∙◌, arith}
-use Rattle.aig_base.specs.declared.latch.Latch.{Latch}
+use Rattle.aig_parts.specs.declared.latch.Latch.{Latch}
 use Rattle.aig_sim.specs.TraceText.{literal_character}
 use Rattle.aig_bytes.proofs.GatherLemmas.{gathers_then}
 use Rattle.aig_sim.proofs.GatherLemmas.{span_is, same_room, span_more, span_failed, all_gathered}

@@ -1,5 +1,5 @@
 use Rattle.std.proofs.Common.{◌≡◌, take, map}
-use Rattle.aig_base.specs.declared.latch.Latch.{Latch}
+use Rattle.aig_parts.specs.declared.latch.Latch.{Latch}
 use Rattle.aig_sim.specs.TraceText.{literal_character}
 use Rattle.aig_sim.proofs.trace_line.spell_next_states.Given as goal
 

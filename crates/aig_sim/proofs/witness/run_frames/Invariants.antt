@@ -1,5 +1,5 @@
 use Rattle.std.proofs.Common.{◌≡◌, ℕ, List, length, drop}
-use Rattle.aig_base.specs.declared.ternary.Tern.{Tern}
+use Rattle.aig_parts.specs.declared.ternary.Tern.{Tern}
 use Rattle.aig_sim.specs.Checking.{HasRun}
 use Rattle.aig_sim.specs.StimulusText.{HaveWidth}
 use Rattle.aig_sim.specs.WitnessText.{Witness, rows_text}

@@ -1,6 +1,6 @@
 use Rattle.std.proofs.Common.{◌≡◌, ◌++◌, ◌<◌, ◌≤◌, ◌+◌, List, length}
 use Rattle.std.specs.List.{flat_map}
-use Rattle.aig_base.specs.declared.ternary.Tern.{Tern}
+use Rattle.aig_parts.specs.declared.ternary.Tern.{Tern}
 use Rattle.aig_sim.specs.StimulusText.{row_line, HaveWidth}
 use Rattle.aig_sim.proofs.witness_text.count_rows.Given as goal
 

@@ -1,13 +1,13 @@
 use Rattle.std.proofs.Common.{List, Some, None, sym, ap, subst, ◌∙◌}
 use Rattle.std.proofs.lemmas.Option.{same_Some, none-some}
 use Rattle.aig_base.specs.declared.definition.Definition.TheVariants as definition
-use Rattle.aig_base.specs.declared.gate.Gate.{Gate}
-use Rattle.aig_base.specs.declared.raw.Raw.{Raw}
+use Rattle.aig_parts.specs.declared.gate.Gate.{Gate}
+use Rattle.aig_parts.specs.declared.raw.Raw.{Raw}
 use Rattle.aig_base.specs.Changes.{with_gate}
 use Rattle.aig_base.specs.Circuit.{IsCircuit}
 use Rattle.aig_base.specs.Definition.{Defines}
 use Rattle.aig_base.specs.Grounded.{IsAcyclic}
-use Rattle.aig_base.specs.Literal.{variable}
+use Rattle.aig_parts.specs.Literal.{variable}
 use Rattle.aig_base.specs.Sections.{IsDefined, IsLeftSide}
 use Rattle.aig_base.proofs.EntryPlaces.{left_side_defined}
 use Rattle.aig_base.proofs.Rewiring.{gate_changed, with_gate-circuit, with_gate-tells}

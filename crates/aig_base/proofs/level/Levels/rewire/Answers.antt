@@ -1,5 +1,5 @@
 use Rattle.std.proofs.Common.{◌∙◌, ap, subst, sym}
-use Rattle.aig_base.specs.Literal.{variable}
+use Rattle.aig_parts.specs.Literal.{variable}
 use Rattle.aig_base.specs.Sections.{IsGate}
 use Rattle.aig_base.proofs.BehindLemmas.{acyclic_from_before, cycle_from_behind}
 use Rattle.aig_base.proofs.Gates.{IsGate-of_gate}

@@ -1,12 +1,12 @@
 use Rattle.std.proofs.Common.{◌≡◌, ◌+◌, length, true, Some, slice_get, sym, ap, ◌∙◌, subst, arith}
 use Rattle.std.proofs.lemmas.List.{length-append, length-map}
-use Rattle.aig_base.specs.declared.gate.Gate.{Gate}
-use Rattle.aig_base.specs.Literal.{variable, IsEven}
+use Rattle.aig_parts.specs.declared.gate.Gate.{Gate}
+use Rattle.aig_parts.specs.Literal.{variable, IsEven}
 use Rattle.aig_base.proofs.Gates.{defined_in_range}
 use Rattle.aig_bench.proofs.Grown.{new_flag}
 use Rattle.aig_bench.proofs.GrownBench.{even_new, grown_changed, grown_touched, last_is, ready_grown, ready_still}
 use Rattle.aig_bench.proofs.Lengthened.{readers_longer}
-use Rattle.aig_base.specs.declared.raw.Raw.{Raw}
+use Rattle.aig_parts.specs.declared.raw.Raw.{Raw}
 use Rattle.aig_bench.specs.Order.{Orders}
 use Rattle.aig_bench.proofs.bench.Bench.append_gate.Goals as goal
 

@@ -1,7 +1,7 @@
 use Rattle.std.proofs.Common.{◌≡◌, Some, slice_get, length, refl, ap, sym, subst, [], ◌∷◌}
-use Rattle.aig_base.specs.declared.raw.Raw.{Raw}
+use Rattle.aig_parts.specs.declared.raw.Raw.{Raw}
 use Rattle.aig_base.specs.Changes.{with_gate}
-use Rattle.aig_base.specs.Literal.{variable}
+use Rattle.aig_parts.specs.Literal.{variable}
 use Rattle.aig_base.proofs.Gates.{defined_in_range}
 use Rattle.aig_sim.specs.InputRows.{InputRows}
 use Rattle.aig_bench.specs.declared.plan.Plan.{Plan}

@@ -1,6 +1,6 @@
 use Rattle.std.proofs.Common.{◌≡◌, inr, suc, Some, slice_get, length, [], refl, ap, subst, arith}
 use Rattle.std.proofs.lemmas.Option.{slice_get_within}
-use Rattle.aig_base.specs.declared.raw.Raw.{Raw}
+use Rattle.aig_parts.specs.declared.raw.Raw.{Raw}
 use Rattle.aig_bench.specs.Edit.{set_reset}
 use Rattle.aig_bench.specs.Pair.{Pair}
 use Rattle.aig_bench.specs.Plan.{pair_of}

@@ -1,7 +1,7 @@
 use Rattle.std.proofs.Common.{refl, subst, arith, ◌<◌, length}
 use Rattle.aig_base.specs.Sections.{IsDefined}
 use Rattle.aig_base.specs.Sound.{IsInRange}
-use Rattle.aig_base.specs.Literal.{variable}
+use Rattle.aig_parts.specs.Literal.{variable}
 use Rattle.aig_sim.specs.InputRows.{row_at}
 use Rattle.aig_bench.specs.Plan.{pair_of}
 use Rattle.aig_bench.proofs.Refusals.{value_no_frame, value_allowed}

@@ -1,6 +1,6 @@
 use Rattle.std.proofs.Common.{true, ap, ◌∙◌}
-use Rattle.aig_base.specs.declared.ternary.Tern.{Tern}
-use Rattle.aig_base.specs.Literal.{variable}
+use Rattle.aig_parts.specs.declared.ternary.Tern.{Tern}
+use Rattle.aig_parts.specs.Literal.{variable}
 use Rattle.aig_sim.specs.Cells.{gate_value}
 use Rattle.aig_sim.specs.InputRows.{with_cell}
 use Rattle.aig_sim.proofs.PaddedRows.{reached, rows_padded, rows_written, gate_of_row, cell_before, cell_after}

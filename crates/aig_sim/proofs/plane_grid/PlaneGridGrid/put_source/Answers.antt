@@ -1,5 +1,5 @@
 use Rattle.std.proofs.Common.{◌≡◌, false, set, ap, ◌∙◌}
-use Rattle.aig_base.specs.declared.ternary.Tern.{Tern}
+use Rattle.aig_parts.specs.declared.ternary.Tern.{Tern}
 use Rattle.aig_sim.proofs.PaddedRows.{reached, rows_padded, rows_written}
 use Rattle.aig_sim.proofs.plane_grid.PlaneGridGrid.put_source.Goals as goal
 

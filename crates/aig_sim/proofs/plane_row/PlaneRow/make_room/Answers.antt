@@ -1,6 +1,6 @@
 use Rattle.std.proofs.Common.{◌++◌, replicate, List, ap, ◌∙◌, length, arith}
-use Rattle.aig_base.specs.declared.ternary.Tern.{Tern}
-use Rattle.aig_base.specs.declared.ternary.Tern.TheVariants.{X}
+use Rattle.aig_parts.specs.declared.ternary.Tern.{Tern}
+use Rattle.aig_parts.specs.declared.ternary.Tern.TheVariants.{X}
 use Rattle.aig_sim.specs.Planes.{spelled}
 use Rattle.aig_sim.proofs.PlaneLemmas.{length-spelled, spelled_more}
 use Rattle.aig_sim.proofs.plane_row.PlaneRow.make_room.Goals as goal

@@ -1,0 +1,4 @@
+pub mod BitLemmas
+pub mod NamedLemmas
+pub mod SymbolKeys
+pub mod SymbolLemmas

@@ -1,0 +1,167 @@
+//! Names of a circuit's entries.
+ghost use Rattle.std.specs.Prelude.{◌≡◌, ◌≢◌, ◌∷◌, ◌++◌, ◌↔◌, ℕ, List, [], length, map, IsTrue, false, Contains};
+ghost use Rattle.std.specs.Prelude.{All, AllPairs, IfOk, OnErr};
+ghost use Rattle.std.specs.Map.{keys_of};
+ghost use Rattle.std.specs.Map.Iter.{ShowsInOrder, TakesFirst, deref_pair};
+ghost use Rattle.std.specs.Iterator.{at_most};
+ghost use Rattle.aig_parts.specs.declared.symbols.Kind.{Kind};
+ghost use Rattle.aig_parts.specs.SymbolPlaces.{Key, symbols_in, IsPlaceIn};
+
+use crate::list::Bytes;
+use crate::symbol_hash::{SymbolHash, mix};
+use crate::symbol_places::{Place, name_at, put_name};
+use indexmap::{IndexMap, map};
+use std::alloc::{AllocError, Global};
+use std::hash::DefaultHasher;
+use std::marker::Model;
+
+/// The section that a symbol names an entry of.
+#[derive(Clone, Copy, PartialEq, Eq, Hash, Debug)]
+pub enum Kind {
+    Input,
+    Latch,
+    Output,
+    Bad,
+    Constraint,
+    Justice,
+    Fairness,
+}
+
+/// The names of entries, in the order of the file. No entry has two names. The names lie behind one another in one list
+/// of bytes.
+#[derive(Drop, Debug)]
+pub struct Symbols {
+    places: IndexMap<(Kind, u32), Place, SymbolHash>,
+    text: Vec<u8>,
+}
+
+impl Model for Symbols {
+    ghost use Rattle.std.specs.Prelude.{List, ℕ, All};
+    ghost use Rattle.aig_parts.specs.declared.symbols.Kind.{Kind};
+
+    ghost Value = { List ((Kind × ℕ) × List ℕ) };
+
+    ghost use Rattle.aig_parts.specs.SymbolPlaces.{symbols_in, IsPlaceIn};
+
+    ghost view = { λ a. symbols_in a.text.items a.places.entries };
+
+    ghost invariant = { λ a. All (IsPlaceIn a.text.items) a.places.entries };
+}
+
+impl Symbols {
+    /// No names. It takes no memory.
+    pub fn new(alloc: Global) -> Symbols
+        ensures { result ≡ [] }
+    {
+        Symbols {
+            places: IndexMap::with_hasher(alloc, SymbolHash::fixed()),
+            text: Vec::new(alloc),
+        }
+    }
+
+    /// The symbols of these entries, none of which comes twice.
+    pub(crate) fn of_entries(
+        alloc: Global,
+        entries: &[((Kind, u32), Place)],
+        text: Vec<u8>,
+    ) -> Result<Symbols, AllocError>
+        requires places { All (IsPlaceIn text.items) entries.now }
+        requires once { AllPairs (λ x y. x ≢ y) (keys_of entries.now) }
+        ensures { IfOk result (λ symbols. symbols ≡ symbols_in text.items entries.now) }
+    {
+        let mut mixed = DefaultHasher::new();
+        for ((kind, position), _) in entries {
+            mix(&mut mixed, *kind, *position);
+        }
+        let hash = SymbolHash::by(mixed);
+        let mut places = IndexMap::with_capacity_and_hasher(alloc, entries.len(), hash)?;
+        for (key, place) in entries {
+            places.insert(*key, *place)?;
+        }
+        Ok(Symbols { places, text })
+    }
+
+    /// How many entries have a name.
+    pub fn len(&self) -> usize
+        ensures len { result ≡ length self.now }
+    {
+        self.places.len()
+    }
+
+    /// Whether an entry has a name.
+    pub fn contains(&self, kind: Kind, position: u32) -> bool
+        ensures { IsTrue result ↔ Contains (keys_of self.now) (kind, position) }
+    {
+        self.places.contains_key(&(kind, position))
+    }
+
+    /// Adds a name at the end, and answers whether the entry had none. If it had one, nothing changes.
+    pub fn insert(&mut self, kind: Kind, position: u32, name: Bytes) -> Result<bool, AllocError>
+        ensures fresh { IfOk result (λ b. IsTrue b → self.new ≡ self.old ++ ((kind, position), name) ∷ []) }
+        ensures named { IfOk result (λ b. b ≡ false → self.new ≡ self.old) }
+        ensures when { IfOk result (λ b. (b ≡ false) ↔ Contains (keys_of self.old) (kind, position)) }
+        ensures err { OnErr result (self.new ≡ self.old) }
+    {
+        if self.contains(kind, position) {
+            return Ok(false);
+        }
+        let place = put_name(&mut self.text, name.as_slice())?;
+        self.places.insert((kind, position), place)?;
+        Ok(true)
+    }
+
+    /// The entries and their names, in the order of the file.
+    pub fn iter(&self) -> SymbolIter<'_>
+        ensures entries { result ≡ self.now }
+        ensures runs { ShowsInOrder (deref_pair {K = Kind × ℕ} {X = List ℕ}) }
+        ensures distinct { AllPairs (λ x y. x ≢ y) (keys_of self.now) }
+    {
+        SymbolIter {
+            places: self.places.iter(),
+            text: self.text.as_slice(),
+        }
+    }
+}
+
+impl Clone for Symbols {
+    ghost is_clone = { λ v w. w ≡ v };
+
+    fn clone(&self) -> Result<Symbols, AllocError> {
+        Ok(Symbols {
+            places: self.places.clone()?,
+            text: self.text.clone()?,
+        })
+    }
+}
+
+/// The entries and their names that are left, as `(&entry, name)`.
+#[derive(Drop)]
+pub struct SymbolIter<'a> {
+    places: map::Iter<'a, (Kind, u32), Place>,
+    text: &'a [u8],
+}
+
+impl<'a> Model for SymbolIter<'a> {
+    ghost use Rattle.std.specs.Prelude.{List, ℕ, All};
+    ghost use Rattle.aig_parts.specs.declared.symbols.Kind.{Kind};
+    ghost use Rattle.aig_parts.specs.SymbolPlaces.{symbols_in, IsPlaceIn};
+
+    ghost Value = { List ((Kind × ℕ) × List ℕ) };
+
+    ghost view = { λ a. symbols_in a.text.now a.places };
+
+    ghost invariant = { λ a. All (IsPlaceIn a.text.now) a.places };
+}
+
+impl<'a> Iterator for SymbolIter<'a> {
+    type Item = (&'a (Kind, u32), &'a [u8]);
+
+    ghost next_gives = { TakesFirst deref_pair };
+
+    ghost remaining = { λ s. at_most (length s) };
+
+    fn next(&mut self) -> Option<(&'a (Kind, u32), &'a [u8])> {
+        let (entry, place) = self.places.next()?;
+        Some((entry, name_at(self.text, *place)))
+    }
+}
