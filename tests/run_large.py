@@ -1,16 +1,25 @@
 #!/usr/bin/env python3
-"""Runs the built program on files of more than its blocks and on long scripts. Two parts run only where they are asked
-for: `deep`, of circuits as deep and as wide as the limits allow (minutes, 1 GB of memory, 500 MB of files), and
-`claims`, of the memory for small files that claim millions of entries."""
+"""Runs the built program on files of more than its blocks, on long scripts, and on files that were chosen to be slow.
+Two parts run only where they are asked for: `deep`, of circuits as deep and as wide as the limits allow (minutes, 1 GB
+of memory, 500 MB of files), and `claims`, of the memory for small files that claim millions of entries."""
 
 from large.block_edges import block_edges
 from large.claims import claims
+from large.crowded_names import NAMES, crowded_names
 from large.deep import deep
 from large.files import large_files
+from large.hubs import hubs
 from large.long_run import long_run
 from library import runs
 
-PARTS = {"block_edges": block_edges, "files": large_files, "long_run": long_run, "deep": deep, "claims": claims}
+PARTS = {"block_edges": block_edges, "files": large_files, "long_run": long_run, "names": crowded_names, "hubs": hubs,
+         "deep": deep, "claims": claims}
+
+
+def options(parser):
+    parser.add_argument("--names", type=int, default=NAMES, help="how many names the part `names` has")
+    parser.add_argument("--readers", type=int, default=200_000, help="how many gates read the net of the part `hubs`")
+
 
 if __name__ == "__main__":
-    runs.main(__doc__, PARTS, outside=("deep", "claims"))
+    runs.main(__doc__, PARTS, outside=("deep", "claims"), options=options)
