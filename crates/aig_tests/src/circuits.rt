@@ -5,8 +5,8 @@ ghost use Rattle.aig_base.specs.Sections.{IsLatchLiteral};
 use crate::check::name;
 use crate::parts::{FEEDBACK, TWO_GATES, UNUSED, is_defined};
 use aig_base::{
-    Circuit, Kind, LIMIT, Latch, Levels, List, Lit, MemWriter, Readers, Symbols, Tern, append_gate,
-    is_binary_ready, renumber,
+    Circuit, Kind, LIMIT, Latch, Levels, List, Lit, MemWriter, Readers, SymbolList, Symbols, Tern,
+    append_gate, is_binary_ready, renumber,
 };
 use aig_format::{read, write_ascii};
 use std::alloc::Global;
@@ -60,6 +60,37 @@ fn symbols_in_order(rt: HostRuntime) -> Result<(), Fail> {
     for ((_, bytes), wanted_bytes) in symbols.iter().zip(wanted) {
         right &= bytes == wanted_bytes;
     }
+    assert!(rt; right);
+    Ok(())
+}
+
+// Symbols that are listed in any order become a table in that order, and so does a copy. Entries far apart, at both ends
+// of a page of bits and of one position in other sections are told apart.
+#[test]
+fn listed_symbols(rt: HostRuntime) -> Result<(), Fail> {
+    let mut right = true;
+    let mut list = SymbolList::new(rt.alloc());
+    let entries = [
+        (Kind::Input, 4_194_302),
+        (Kind::Output, 16_383),
+        (Kind::Output, 16_384),
+        (Kind::Fairness, 16_383),
+        (Kind::Input, 0),
+    ];
+    for (kind, position) in entries {
+        if list.contains(kind, position) {
+            right = false;
+        } else {
+            list.push(kind, position, b"name")?;
+        }
+        right &= list.contains(kind, position);
+    }
+    right &= !list.contains(Kind::Output, 0) && !list.contains(Kind::Bad, 16_383);
+    let symbols = list.into_symbols()?.clone()?;
+    for ((entry, bytes), wanted) in symbols.iter().zip(entries) {
+        right &= *entry == wanted && bytes == b"name".as_slice();
+    }
+    right &= symbols.len() == 5 && symbols.contains(Kind::Fairness, 16_383);
     assert!(rt; right);
     Ok(())
 }
