@@ -168,8 +168,9 @@ impl Order {
     /// One more gate behind the others, where there is room. `gates` is how many there were.
     pub fn push_gate(&mut self, gates: u32)
         requires { FitsOneGate self.old }
-        ensures { (raw : Raw) (r0 r1 : ℕ) → length raw.gates ≡ gates → IsCircuit raw → IsDefined raw (literal.variable r0)
-            → IsDefined raw (literal.variable r1) → Orders raw self.old → Orders (with_appended_gate raw r0 r1) self.new }
+        ensures { (raw : Raw) (r0 r1 : ℕ) → length raw.gates ≡ gates → IsCircuit raw
+            → IsDefined raw (literal.variable r0) → IsDefined raw (literal.variable r1) → Orders raw self.old
+            → Orders (with_appended_gate raw r0 r1) self.new }
     {
         match self.way {
             Way::Standing => {}

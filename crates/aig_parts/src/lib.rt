@@ -1,4 +1,4 @@
-//! What circuits are made of: literals, three-valued logic, lists, names, gates, latches, parts, and why they are refused.
+//! What circuits are made of: literals, three-valued logic, lists, names, gates, latches, parts, and their faults.
 #![tactic(auto)]
 
 mod bits;
