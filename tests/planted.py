@@ -1,0 +1,219 @@
+#!/usr/bin/env python3
+"""Tries the planted bugs of crates, all of a crate together: each changes the body of a function, and a proof of a
+function rests on the contracts of others alone, so that one check of a copy says of each changed function whether the
+prover refuses it. Bugs that change one function, or one line, come in checks of their own.
+
+A bug is refused where a function that it changes is not proved, and one of that function's goals, or an answer for it
+in proofs/, is refused for another reason than that a proof file names what the bug took away.
+
+It tries those of the gate (crates/NAME/must-fail) and all others (crates/NAME/planted), over what `rt ci` or `rt check`
+left of the libraries below a crate; where there is nothing, they are built first. Not part of the gate, which tries the
+former one by one."""
+
+import argparse
+import collections
+import concurrent.futures
+import importlib.machinery
+import importlib.util
+import os
+import pathlib
+import re
+import shutil
+import subprocess
+import sys
+import tempfile
+
+ROOT = pathlib.Path(__file__).resolve().parent.parent
+NAMES = r"has no field|is not in scope|has no `|was not admitted"
+
+Edit = collections.namedtuple("Edit", "name pairs functions")
+Function = collections.namedtuple("Function", "name file first last")
+
+
+def toolchain():
+    """The toolchain's command as a module: it knows which libraries a crate's check is given."""
+    path = os.path.realpath(shutil.which("rt") or sys.exit("rt is not on the path"))
+    sys.path.insert(0, os.path.dirname(path))
+    loader = importlib.machinery.SourceFileLoader("toolchain_rt", path)
+    module = importlib.util.module_from_spec(importlib.util.spec_from_loader("toolchain_rt", loader))
+    loader.exec_module(module)
+    return module
+
+
+def camel(text):
+    """The words of a type, as they stand in the name of an impl."""
+    return "".join(word[:1].upper() + word[1:] for word in re.findall(r"[A-Za-z_]\w*", text))
+
+
+def module_of(file):
+    module = "::".join(pathlib.Path(file).with_suffix("").parts[1:])
+    return "" if module in ("lib", "main") else module + "::"
+
+
+def types(crate, files):
+    """The modules of a crate's types, by their names."""
+    found = {}
+    for file in files:
+        for name in re.findall(r"(?m)^(?:pub(?:\(crate\))? )?(?:struct|enum) (\w+)", (crate / file).read_text()):
+            found[name] = module_of(file)
+    return found
+
+
+def functions(crate, file, homes):
+    """Yields the functions of a source file, by the names that a check gives them, with their first and last lines. A
+    method is named by the module of its type, one of a trait by that of its impl."""
+    module = owner = ""
+    lines = (crate / file).read_text().split("\n")
+    for number, line in enumerate(lines):
+        block = re.match(r"(?:pub )?(?:impl|trait)\b(?:<.*?>)?\s+(.*?)\s*\{?$", line)
+        if block and not line.startswith((" ", "impl Model")):
+            head = re.sub(r"\bwhere\b.*|:.*", "", block[1])
+            trait, _, of = head.rpartition(" for ")
+            of = re.match(r"\w+", of)[0]
+            inner = re.match(r"([\w:]+)(?:<(.*)>)?$", trait.strip()) if trait else None
+            # of From<AllocFailed<T>> the name has From and AllocFailed
+            given = re.match(r"&?(?:'\w+ )?([\w]+)", inner[2])[1] if inner and inner[2] else ""
+            owner = of + (inner[1].split("::")[-1] + camel(given) if inner else "") + "::"
+            module = module_of(file) if inner else homes.get(of, module_of(file))
+        elif line == "}":
+            module = owner = ""
+        at = re.match(r"(\s*)(?:pub(?:\(crate\))? )?fn (\w+)", line)
+        if at:
+            body = number
+            while not (lines[body].endswith((" {", "{}", ";")) or lines[body] == at[1] + "{"):
+                body += 1
+            if not lines[body].endswith(";"):
+                end = body if lines[body].endswith("{}") else lines.index(at[1] + "}", body)
+                yield Function((module + owner if at[1] else module_of(file)) + at[2], file, number + 1, end + 1)
+
+
+def read(crate, path, known):
+    """A planted bug: its changes, and the functions whose bodies it changes."""
+    pairs, file, old = [], None, None
+    for line in path.read_text().split("\n"):
+        word, _, text = line.partition(":")
+        text = text[1:] if text.startswith(" ") else text
+        if word == "file":
+            file = text.strip()
+        elif word == "old":
+            old = text
+        elif word == "new":
+            pairs.append((file, old, text))
+    changed = []
+    for file, old, _ in pairs:
+        text = (crate / file).read_text()
+        if text.count(old) == 1:
+            line = text[: text.index(old)].count("\n") + 1
+            changed += [it for it in known[file] if it.first <= line <= it.last]
+    # a constant is every function's of its file
+    changed = changed or [it for file, _, _ in pairs for it in known[file]]
+    return Edit(f"{path.parent.name}/{path.name}", pairs, list(dict.fromkeys(changed)))
+
+
+def rounds(crate, edits):
+    """Divides planted bugs into checks: in each, no function is changed twice, and each piece of text is there once."""
+    left = edits
+    while left:
+        texts, taken, later, busy = {}, [], [], set()
+        for edit in left:
+            mine = dict(texts)
+            fits = not busy & {it.name for it in edit.functions}
+            for file, old, new in edit.pairs if fits else ():
+                text = mine.get(file) or (crate / file).read_text()
+                fits = fits and text.count(old) == 1
+                mine[file] = text.replace(old, new)
+            if fits:
+                texts, taken = mine, taken + [edit]
+                busy |= {it.name for it in edit.functions}
+            else:
+                later.append(edit)
+        if not taken:
+            yield None, left
+            return
+        yield texts, taken
+        left = later
+
+
+def tried(tools, crate, texts, edits):
+    """Checks a copy of a crate with these texts, and yields of each planted bug whether it is refused, and why."""
+    wanted = sorted({it.name for edit in edits for it in edit.functions})
+    with tempfile.TemporaryDirectory(prefix="planted-") as room:
+        for part in tools.rtlib.PARTS:
+            if os.path.isdir(f"{crate.folder}/{part}"):
+                shutil.copytree(f"{crate.folder}/{part}", f"{room}/{part}")
+        for file, text in texts.items():
+            pathlib.Path(room, file).write_text(text)
+        only = [word for name in wanted for word in ("--only", name)]
+        words = [tools.rtlib.RATTLE, "check", *crate.words(["--jobs", "1", *only], keeps=False)]
+        ran = subprocess.run(words, cwd=room, stdin=subprocess.DEVNULL, stdout=subprocess.PIPE, stderr=subprocess.STDOUT,
+                             errors="replace", check=False)
+    lines = ran.stdout.split("\n")
+    verdicts = dict(re.findall(rf"(?m)^fn {crate.name}::(\S+): (.*)$", ran.stdout))
+    for edit in edits:
+        refused, why = False, "no function of the crate is changed" if not edit.functions else ""
+        for function in edit.functions:
+            verdict = verdicts.get(function.name)
+            if verdict is None:
+                why = why or f"nothing is said of {function.name}: {lines[-2][:200] if len(lines) > 1 else ''}"
+            elif verdict == "proved":
+                why = why or f"{function.name} is still proved"
+            else:
+                goals = [it for it in lines if is_of(it, function)]
+                reasons = [it for it in goals if not re.search(rf"proofs/.*({NAMES})", it)]
+                refused = refused or bool(reasons)
+                why = (reasons or goals or [f"{function.name}: {verdict}, and no goal is told"])[0][:180]
+        yield edit, refused, why
+
+
+def is_of(line, function):
+    """Whether a line tells of a refusal in a function: at its lines, or in a proof file of it."""
+    at = re.match(r"(?:note: )?(?:\./)?(\S+?):(\d+):\d+:", line)
+    if not at or ": note:" in line:
+        return False
+    if at[1] == function.file:
+        return function.first <= int(at[2]) <= function.last
+    return at[1].startswith("proofs/" + function.name.replace("::", "/") + "/")
+
+
+def main():
+    parser = argparse.ArgumentParser(description=__doc__, formatter_class=argparse.RawDescriptionHelpFormatter)
+    parser.add_argument("--jobs", type=int, default=os.cpu_count(), help="how many checks run side by side")
+    parser.add_argument("--only", action="append", help="the planted bugs whose names hold this; may be given again")
+    parser.add_argument("--gate", action="store_true", help="those of must-fail/ alone")
+    parser.add_argument("crates", nargs="*", help="the crates whose planted bugs are tried (else all)")
+    words = parser.parse_args()
+    tools = toolchain()
+    os.chdir(ROOT)
+    tools.rtlib.guarded()
+    work, failed, passed = [], 0, 0
+    for crate in tools.rtlib.crates_below(str(ROOT)):
+        if words.crates and crate.name not in words.crates:
+            continue
+        for below in crate.below():
+            if not os.path.isdir(below.rlib) and below.build_rlib(["--jobs", str(words.jobs)], anew=False):
+                sys.exit(f"{below.name} is not proved")
+        folder = pathlib.Path(crate.folder)
+        files = [str(it.relative_to(folder)) for it in (folder / "src").rglob("*.rt")]
+        homes = types(folder, files)
+        known = {file: list(functions(folder, file, homes)) for file in files}
+        paths = sorted(it for part in ("must-fail", "planted")[: 1 if words.gate else 2] for it in (folder / part).glob("*.edit"))
+        edits = [read(folder, it, known) for it in paths if not words.only or any(word in it.name for word in words.only)]
+        for texts, some in rounds(folder, edits):
+            if texts is None:
+                for edit in some:
+                    print(f"{crate.name}/{edit.name}: FAILED: it cannot be applied")
+                    failed += 1
+            else:
+                work.append((crate, texts, some))
+    work.sort(key=lambda it: -len(it[2]))
+    with concurrent.futures.ThreadPoolExecutor(words.jobs) as pool:
+        for (crate, _, _), answers in zip(work, pool.map(lambda it: list(tried(tools, *it)), work)):
+            for edit, refused, why in answers:
+                print(f"{crate.name}/{edit.name}: {'refused' if refused else 'FAILED'}: {why}", flush=True)
+                passed, failed = passed + refused, failed + (not refused)
+    print(f"{passed} passed, {failed} failed")
+    return 1 if failed else 0
+
+
+if __name__ == "__main__":
+    sys.exit(main())
