@@ -68,18 +68,14 @@ static STEPS: [(Step, [&[Tern]; 2]); 8] = [
 const ZEROS: &[Tern] = &[Zero, One, Zero, Zero, Zero];
 
 // Whether the cells are right behind each edit.
-fn stay_right<G: Grid>(bench: &mut Bench<G>) -> bool {
-    let mut same = true;
-    for (step, rows) in &STEPS {
-        let _ = answer_of(bench, *step);
-        same &= are(bench, *rows);
-    }
-    same
-}
-
 fn follow<G: Grid>(alloc: Global) -> Result<bool, Fail> {
     let mut bench = bench::<G>(alloc, TWO_GATES, b"11\n01\n")?;
-    Ok(stay_right(&mut bench))
+    let mut same = true;
+    for (step, rows) in &STEPS {
+        let _ = answer_of(&mut bench, *step);
+        same &= are(&bench, *rows);
+    }
+    Ok(same)
 }
 
 // Every cell is the value of the current circuit and stimulus, behind edits that are done and ones that are refused, in
@@ -94,18 +90,12 @@ fn cells_are_current(rt: HostRuntime) -> Result<(), Fail> {
     Ok(())
 }
 
-// Whether a bench writes this trace.
-fn writes<G: Grid>(alloc: Global, bench: &Bench<G>, trace: &[u8]) -> bool {
-    let Ok(mut out) = MemWriter::new(alloc, 100) else {
-        return false;
-    };
-    bench.write_trace(&mut out).is_ok() && out.bytes() == trace
-}
-
 // The trace of a bench over such a grid.
 #[test]
 fn traces_of_a_bare_grid(rt: HostRuntime) -> Result<(), Fail> {
     let bench = bench::<Bare>(rt.alloc(), TWO_GATES, b"11\nx1\n")?;
-    assert!(rt; writes(rt.alloc(), &bench, b" 11 1 \n x1 x \n"));
+    let mut out = MemWriter::new(rt.alloc(), 100)?;
+    assert_eq!(rt; bench.write_trace(&mut out), Ok(()));
+    assert_eq!(rt; out.bytes(), b" 11 1 \n x1 x \n".as_slice());
     Ok(())
 }

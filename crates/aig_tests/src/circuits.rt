@@ -64,8 +64,8 @@ fn symbols_in_order(rt: HostRuntime) -> Result<(), Fail> {
     Ok(())
 }
 
-// Symbols that are listed in any order become a table in that order, and so does a copy. Entries far apart, at both
-// ends of a page of bits and of one position in other sections are told apart.
+// Symbols that are listed in any order become a table in that order, and so does a copy. Entries far apart, at both ends
+// of a page of bits and of one position in other sections are told apart.
 #[test]
 fn listed_symbols(rt: HostRuntime) -> Result<(), Fail> {
     let mut right = true;
@@ -186,23 +186,25 @@ static RENUMBERED: [(&[u8], bool, &[u8]); 4] = [
     ),
 ];
 
-// Whether the renumbered circuit is ready for the binary writer, and has this text.
-fn is_renumbered(alloc: Global, circuit: &Circuit, text: &[u8]) -> Result<bool, Fail> {
+// The text of a renumbered circuit, which is ready for the binary writer.
+fn renumbered_text(alloc: Global, circuit: &Circuit) -> Result<MemWriter, Fail> {
     let renumbered = renumber(alloc, circuit)?;
+    if !is_binary_ready(&renumbered) {
+        return Err("not ready".into());
+    }
     let mut out = MemWriter::new(alloc, 100)?;
-    let written = write_ascii(&renumbered, &mut out).is_ok();
-    Ok(written && is_binary_ready(&renumbered) && out.bytes() == text)
+    write_ascii(&renumbered, &mut out)?;
+    Ok(out)
 }
 
 // A renumbered circuit has its inputs, then its latches, then its gates in the canonical order, and is ready for the
 // binary writer.
 #[test]
 fn circuits_are_renumbered(rt: HostRuntime) -> Result<(), Fail> {
-    for &(file, ready, text) in &RENUMBERED {
+    for &(file, ready, renumbered) in &RENUMBERED {
         let circuit = read(rt.alloc(), file)?;
-        assert!(rt;
-            is_binary_ready(&circuit) == ready && is_renumbered(rt.alloc(), &circuit, text)?
-        );
+        let out = renumbered_text(rt.alloc(), &circuit)?;
+        assert!(rt; is_binary_ready(&circuit) == ready && out.bytes() == renumbered);
     }
     Ok(())
 }

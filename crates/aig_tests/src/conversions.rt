@@ -4,7 +4,6 @@ use crate::parts::{ONE_GATE, REFUSED, TWO_GATES};
 use aig_base::{Fault, MemWriter};
 use aig_engines::{RunFault, convert, convert_from};
 use aig_format::Format;
-use std::alloc::Global;
 use std::test::Fail;
 
 static CONVERTED: [(&[u8], Format, &[u8]); 11] = [
@@ -53,20 +52,17 @@ static CONVERTED: [(&[u8], Format, &[u8]); 11] = [
     ),
 ];
 
-// Whether a file is converted to these bytes, from a reader and from memory.
-fn converts(alloc: Global, file: &[u8], to: Format, bytes: &[u8]) -> Result<bool, Fail> {
-    let mut out = MemWriter::new(alloc, 100)?;
-    let read = convert_from(alloc, &mut Pieces::whole(file), to, &mut out).is_ok();
-    let mut again = MemWriter::new(alloc, 100)?;
-    let held = convert(alloc, file, to, &mut again).is_ok();
-    Ok(read && held && out.bytes() == bytes && again.bytes() == bytes)
-}
-
 // A file is written as it stands in ASCII, and renumbered in binary where it is not ready.
 #[test]
 fn files_are_converted(rt: HostRuntime) -> Result<(), Fail> {
     for &(file, to, bytes) in &CONVERTED {
-        assert!(rt; converts(rt.alloc(), file, to, bytes)?);
+        let mut out = MemWriter::new(rt.alloc(), 100)?;
+        convert_from(rt.alloc(), &mut Pieces::whole(file), to, &mut out)?;
+        assert_eq!(rt; out.bytes(), bytes);
+
+        let mut out = MemWriter::new(rt.alloc(), 100)?;
+        convert(rt.alloc(), file, to, &mut out)?;
+        assert_eq!(rt; out.bytes(), bytes);
     }
     Ok(())
 }
@@ -83,36 +79,39 @@ static REFUSED_FILES: [(&[u8], Fault); 9] = [
     (b"aag 3 1 0 1 2\n2\n4\n4 6 2\n6 4 2\n", Fault::Cycle(2)),
 ];
 
-// Whether a conversion from a reader, and one from memory, end with this fault, where nothing is written.
-fn refuses(alloc: Global, file: &[u8], fault: Fault) -> Result<bool, Fail> {
-    let mut out = MemWriter::new(alloc, 100)?;
-    let read = convert_from(alloc, &mut Pieces::whole(file), Format::Ascii, &mut out);
-    let held = convert(alloc, file, Format::Ascii, &mut out);
-    let refusal = Err(RunFault::Circuit(fault));
-    Ok(read == refusal && held == refusal && out.bytes().is_empty())
-}
-
 // A refused file writes nothing.
 #[test]
 fn refused_files_write_nothing(rt: HostRuntime) -> Result<(), Fail> {
+    let mut right = true;
     for &(file, fault) in &REFUSED_FILES {
-        assert!(rt; refuses(rt.alloc(), file, fault)?);
+        let mut out = MemWriter::new(rt.alloc(), 100)?;
+        let done = convert_from(
+            rt.alloc(),
+            &mut Pieces::whole(file),
+            Format::Ascii,
+            &mut out,
+        );
+        right &= done == Err(RunFault::Circuit(fault));
+        let done = convert(rt.alloc(), file, Format::Ascii, &mut out);
+        right &= done == Err(RunFault::Circuit(fault));
+        right &= out.bytes() == b"".as_slice();
     }
+    assert!(rt; right);
     Ok(())
-}
-
-// Whether a conversion to a writer with so much room writes it full, and says so.
-fn fills(alloc: Global, to: Format, beginning: &[u8]) -> Result<bool, Fail> {
-    let mut out = MemWriter::new(alloc, beginning.len())?;
-    let done = convert_from(alloc, &mut Pieces::whole(ONE_GATE), to, &mut out);
-    Ok(done == Err(RunFault::Output) && out.bytes() == beginning)
 }
 
 // A full writer has a beginning, and is told.
 #[test]
 fn full_writers_end_a_conversion(rt: HostRuntime) -> Result<(), Fail> {
-    assert!(rt; fills(rt.alloc(), Format::Ascii, b"aag")?);
-    assert!(rt; fills(rt.alloc(), Format::Binary, b"aig 3 2 0 1 1\n6\n\x02")?);
+    for (to, beginning) in [
+        (Format::Ascii, b"aag".as_slice()),
+        (Format::Binary, b"aig 3 2 0 1 1\n6\n\x02"),
+    ] {
+        let mut out = MemWriter::new(rt.alloc(), beginning.len())?;
+        let done = convert_from(rt.alloc(), &mut Pieces::whole(ONE_GATE), to, &mut out);
+        assert_eq!(rt; done, Err(RunFault::Output));
+        assert_eq!(rt; out.bytes(), beginning);
+    }
     Ok(())
 }
 
@@ -122,6 +121,7 @@ fn a_failing_read_ends_a_conversion(rt: HostRuntime) -> Result<(), Fail> {
     let mut out = MemWriter::new(rt.alloc(), 100)?;
     let mut reader = Pieces::cut(b"aag 3 2 0 1 1\n2\n4\n");
     let done = convert_from(rt.alloc(), &mut reader, Format::Ascii, &mut out);
-    assert!(rt; done == Err(RunFault::Circuit(Fault::Io)) && out.bytes().is_empty());
+    assert_eq!(rt; done, Err(RunFault::Circuit(Fault::Io)));
+    assert_eq!(rt; out.bytes(), b"".as_slice());
     Ok(())
 }

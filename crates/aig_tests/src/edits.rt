@@ -201,26 +201,29 @@ static TABLE: [Row; 10] = [
     },
 ];
 
-// Whether all steps answer what they should.
-fn answers<G: Grid>(bench: &mut Bench<G>, steps: &[(Step, Answer)]) -> bool {
-    let mut right = true;
-    for (step, wanted) in steps {
-        right &= answer_of(bench, *step) == *wanted;
-    }
-    right
-}
-
+// Whether all steps of a row answer what they should.
 fn is_answered<G: Grid>(alloc: Global, row: &Row) -> Result<bool, Fail> {
     let mut bench = bench::<G>(alloc, row.file, row.stimulus)?;
-    Ok(answers(&mut bench, row.steps))
+    for (step, wanted) in row.steps {
+        if answer_of(&mut bench, *step) != *wanted {
+            return Ok(false);
+        }
+    }
+    Ok(true)
 }
 
 // After any edits the answers are those of the current circuit and stimulus, and an edit counts what it evaluated.
 #[test]
 fn edits(rt: HostRuntime) -> Result<(), Fail> {
     for (index, row) in TABLE.iter().enumerate() {
-        assert!(rt; is_answered::<ByteGrid>(rt.alloc(), row)?, "row {index}");
-        assert!(rt; is_answered::<PlaneGrid>(rt.alloc(), row)?, "row {index}");
+        assert!(rt;
+            is_answered::<ByteGrid>(rt.alloc(), row)?,
+            "bytes, row {index}"
+        );
+        assert!(rt;
+            is_answered::<PlaneGrid>(rt.alloc(), row)?,
+            "planes, row {index}"
+        );
     }
     Ok(())
 }

@@ -1,6 +1,6 @@
 //! Reading files: what is accepted, which fault of which place is told, and which reads are made.
 use crate::fakes::Pieces;
-use aig_base::{Circuit, Fault, Gate, Kind, Latch, Lit, MemReader, MemWriter, is_binary_ready};
+use aig_base::{Fault, Gate, Kind, Latch, Lit, MemReader, MemWriter, is_binary_ready};
 use aig_format::{read, read_from, write_binary};
 use std::alloc::Global;
 use std::test::*;
@@ -150,29 +150,23 @@ fn accepted(rt: HostRuntime) {
     }
 }
 
-// Whether the entries of a circuit are those of its first lines, and its names those of its last.
-fn has_entries(circuit: &Circuit) -> bool {
-    circuit.max_var() == 3
-        && circuit.latches().first() == Some(&latch(4, 6, 4))
-        && circuit.gates().first() == Some(&gate(6, 4, 2))
-}
-
-fn has_names(circuit: &Circuit) -> bool {
-    let property = match circuit.justice() {
-        [property] => property.get(1) == Some(&Lit::new(5)),
-        _ => false,
-    };
-    property
-        && circuit.symbols().contains(Kind::Justice, 0)
-        && circuit.comment() == Some(b"hi".as_slice())
-}
-
 // An ASCII file gives each section as it stands.
 #[test]
 fn parts_of_ascii(rt: HostRuntime) -> Result<(), Fail> {
-    let text = b"aag 3 1 1 1 1 0 0 1\n2\n4 6 4\n4\n2\n3\n5\n6 4 2\nj0 go\nc\nhi";
-    let circuit = read(rt.alloc(), text)?;
-    assert!(rt; has_entries(&circuit) && has_names(&circuit));
+    let mut right = true;
+    let circuit = read(
+        rt.alloc(),
+        b"aag 3 1 1 1 1 0 0 1\n2\n4 6 4\n4\n2\n3\n5\n6 4 2\nj0 go\nc\nhi",
+    )?;
+    right &= circuit.max_var() == 3;
+    right &= circuit.latches().first() == Some(&latch(4, 6, 4));
+    right &= circuit.gates().first() == Some(&gate(6, 4, 2));
+    for property in circuit.justice() {
+        right &= property.get(1) == Some(&Lit::new(5));
+    }
+    right &= circuit.symbols().contains(Kind::Justice, 0);
+    right &= circuit.comment() == Some(b"hi".as_slice());
+    assert!(rt; right);
     Ok(())
 }
 

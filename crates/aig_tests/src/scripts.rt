@@ -2,7 +2,7 @@
 use crate::fakes::{Marked, Pieces};
 use crate::parts::{FEEDBACK, ONE_GATE, TOGGLE, TWO_GATES, UNUSED, bench};
 use aig_base::{Lit, MemWriter, Std, Tern};
-use aig_bench::Bench;
+use aig_bench::EditFault;
 use aig_engines::{ScriptFault, run_bench, run_script};
 use aig_sim::{ByteGrid, Grid, PlaneGrid};
 use std::alloc::Global;
@@ -116,55 +116,33 @@ static TABLE: [Row; 16] = [
     },
 ];
 
-// Whether a script gets its replies on a grid.
-fn is_replied<G: Grid>(alloc: Global, row: &Row) -> Result<bool, Fail> {
+// The replies to a script on a grid.
+fn replies<G: Grid>(alloc: Global, row: &Row) -> Result<MemWriter, Fail> {
     let mut out = MemWriter::new(alloc, 100)?;
     let mut reader = Pieces::whole(row.script);
-    let done = run_bench::<G, Pieces, MemWriter>(
-        alloc,
-        row.circuit,
-        row.stimulus,
-        &mut reader,
-        &mut out,
-    );
-    Ok(done.is_ok() && out.bytes() == row.replies)
+    run_bench::<G, Pieces, MemWriter>(alloc, row.circuit, row.stimulus, &mut reader, &mut out)?;
+    Ok(out)
 }
 
 // Each line of a script gets its reply, whatever the grid.
 #[test]
 fn scripts_are_answered(rt: HostRuntime) -> Result<(), Fail> {
-    for (index, row) in TABLE.iter().enumerate() {
-        assert!(rt; is_replied::<ByteGrid>(rt.alloc(), row)?, "row {index}");
-        assert!(rt; is_replied::<PlaneGrid>(rt.alloc(), row)?, "row {index}");
+    for row in &TABLE {
+        assert_eq!(rt; replies::<ByteGrid>(rt.alloc(), row)?.bytes(), row.replies);
+        assert_eq!(rt; replies::<PlaneGrid>(rt.alloc(), row)?.bytes(), row.replies);
     }
     Ok(())
 }
 
-// Whether a script on a bench of the two gates, whose reader fails behind it, ends with these replies and this value of
-// literal 8.
-fn ends<G: Grid>(
+// How a script on a bench of the two gates ends, whose reader fails behind it, and the value of literal 8 then.
+fn ended<G: Grid>(
     alloc: Global,
     script: &[u8],
-    room: usize,
-    replies: &[u8],
-    value: Tern,
-) -> Result<bool, Fail> {
+    out: &mut MemWriter,
+) -> Result<(Result<(), ScriptFault>, Result<Tern, EditFault>), Fail> {
     let mut bench = bench::<G>(alloc, TWO_GATES, b"11\n01\n")?;
-    Ok(breaks(alloc, &mut bench, script, room, replies) && bench.value(0, Lit::new(8)) == Ok(value))
-}
-
-fn breaks<G: Grid>(
-    alloc: Global,
-    bench: &mut Bench<G>,
-    script: &[u8],
-    room: usize,
-    replies: &[u8],
-) -> bool {
-    let Ok(mut out) = MemWriter::new(alloc, room) else {
-        return false;
-    };
-    let done = run_script(alloc, bench, &mut Pieces::cut(script), &mut out);
-    done == Err(ScriptFault::Io) && out.bytes() == replies
+    let done = run_script(alloc, &mut bench, &mut Pieces::cut(script), out);
+    Ok((done, bench.value(0, Lit::new(8))))
 }
 
 static ENDS: [(&[u8], usize, &[u8], Tern); 3] = [
@@ -177,7 +155,10 @@ static ENDS: [(&[u8], usize, &[u8], Tern); 3] = [
 #[test]
 fn failing_reads_and_writes_end_a_script(rt: HostRuntime) -> Result<(), Fail> {
     for &(script, room, replies, value) in &ENDS {
-        assert!(rt; ends::<ByteGrid>(rt.alloc(), script, room, replies, value)?);
+        let mut out = MemWriter::new(rt.alloc(), room)?;
+        let end = ended::<ByteGrid>(rt.alloc(), script, &mut out)?;
+        assert_eq!(rt; end, (Err(ScriptFault::Io), Ok(value)));
+        assert_eq!(rt; out.bytes(), replies);
     }
     Ok(())
 }

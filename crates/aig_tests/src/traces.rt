@@ -1,7 +1,7 @@
 //! Traces of stimuli that are read row by row.
 use crate::fakes::{Marked, Pieces};
 use crate::parts::{ONE_GATE, TOGGLE};
-use aig_base::{Circuit, MemWriter, Read, Std};
+use aig_base::{MemWriter, Read, Std};
 use aig_format::read;
 use aig_sim::{StimFault, simulate};
 use std::alloc::Global;
@@ -11,31 +11,17 @@ const UNINITIALISED_TOGGLE: &[u8] = b"aag 1 0 1 2 0\n2 3 2\n2\n3\n";
 
 const A_AND_NOT_A: &[u8] = b"aag 2 1 0 1 1\n2\n4\n4 2 3\n";
 
-// Whether the simulation of a circuit file answers this, and writes these lines to a writer with so much room.
-fn traces<R: Read>(
+// What the simulation of a circuit file answers, and what it writes.
+fn trace<R: Read>(
     alloc: Global,
-    file: &[u8],
+    circuit: &[u8],
     stimulus: &mut R,
     room: usize,
-    answer: Result<u64, StimFault>,
-    lines: &[u8],
-) -> Result<bool, Fail> {
-    let circuit = read(alloc, file)?;
-    Ok(writes(alloc, &circuit, stimulus, room, answer, lines))
-}
-
-fn writes<R: Read>(
-    alloc: Global,
-    circuit: &Circuit,
-    stimulus: &mut R,
-    room: usize,
-    answer: Result<u64, StimFault>,
-    lines: &[u8],
-) -> bool {
-    let Ok(mut out) = MemWriter::new(alloc, room) else {
-        return false;
-    };
-    simulate(alloc, circuit, stimulus, &mut out) == answer && out.bytes() == lines
+) -> Result<(Result<u64, StimFault>, MemWriter), Fail> {
+    let circuit = read(alloc, circuit)?;
+    let mut out = MemWriter::new(alloc, room)?;
+    let frames = simulate(alloc, &circuit, stimulus, &mut out);
+    Ok((frames, out))
 }
 
 static TRACES: [(&[u8], &[u8], Result<u64, StimFault>, &[u8]); 9] = [
@@ -63,9 +49,10 @@ static TRACES: [(&[u8], &[u8], Result<u64, StimFault>, &[u8]); 9] = [
 // A trace has a line a row, up to the first wrong one.
 #[test]
 fn traces_are_written(rt: HostRuntime) -> Result<(), Fail> {
-    for &(file, stimulus, answer, lines) in &TRACES {
-        let mut reader = Pieces::whole(stimulus);
-        assert!(rt; traces(rt.alloc(), file, &mut reader, 100, answer, lines)?);
+    for &(circuit, stimulus, frames, lines) in &TRACES {
+        let (answer, out) = trace(rt.alloc(), circuit, &mut Pieces::whole(stimulus), 100)?;
+        assert_eq!(rt; answer, frames);
+        assert_eq!(rt; out.bytes(), lines);
     }
     Ok(())
 }
@@ -74,17 +61,9 @@ fn traces_are_written(rt: HostRuntime) -> Result<(), Fail> {
 #[test]
 fn a_failing_read_ends_a_trace(rt: HostRuntime) -> Result<(), Fail> {
     let mut reader = Pieces::cut(b"11\nx0\n1");
-    let lines = b" 11 1 \n x0 0 \n";
-    assert!(rt;
-        traces(
-            rt.alloc(),
-            ONE_GATE,
-            &mut reader,
-            100,
-            Err(StimFault::Io),
-            lines
-        )?
-    );
+    let (answer, out) = trace(rt.alloc(), ONE_GATE, &mut reader, 100)?;
+    assert_eq!(rt; answer, Err(StimFault::Io));
+    assert_eq!(rt; out.bytes(), b" 11 1 \n x0 0 \n".as_slice());
     Ok(())
 }
 
@@ -92,16 +71,9 @@ fn a_failing_read_ends_a_trace(rt: HostRuntime) -> Result<(), Fail> {
 #[test]
 fn a_full_writer_ends_a_trace(rt: HostRuntime) -> Result<(), Fail> {
     let mut reader = Pieces::whole(b"11\n1z\n");
-    assert!(rt;
-        traces(
-            rt.alloc(),
-            ONE_GATE,
-            &mut reader,
-            3,
-            Err(StimFault::Io),
-            b" 11"
-        )?
-    );
+    let (answer, out) = trace(rt.alloc(), ONE_GATE, &mut reader, 3)?;
+    assert_eq!(rt; answer, Err(StimFault::Io));
+    assert_eq!(rt; out.bytes(), b" 11".as_slice());
     Ok(())
 }
 
