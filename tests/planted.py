@@ -160,6 +160,8 @@ def tried(tools, crate, texts, edits):
             else:
                 goals = [it for it in lines if is_of(it, function)]
                 reasons = [it for it in goals if not re.search(rf"proofs/.*({NAMES})", it)]
+                # a goal that is left to a proof file which is not there
+                reasons += [verdict] * ("did not prove" in verdict)
                 refused = refused or bool(reasons)
                 why = (reasons or goals or [f"{function.name}: {verdict}, and no goal is told"])[0][:180]
         yield edit, refused, why
