@@ -45,8 +45,8 @@ impl<'r, R: Read> Stream<'r, R> {
         }
     }
 
-    /// Reads on where nothing is held and no read gave the end, and answers whether a byte is held. That a read gave the
-    /// end is remembered.
+    /// Reads on where nothing is held and no read gave the end, and answers whether a byte is held. That a read gave
+    /// the end is remembered.
     #[inline]
     fn is_ready(&mut self) -> Result<bool, TokenFault>
         ensures same_reference { self.new.reader.ghost_name ≡ self.old.reader.ghost_name }

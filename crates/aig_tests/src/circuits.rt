@@ -64,8 +64,8 @@ fn symbols_in_order(rt: HostRuntime) -> Result<(), Fail> {
     Ok(())
 }
 
-// Symbols that are listed in any order become a table in that order, and so does a copy. Entries far apart, at both ends
-// of a page of bits and of one position in other sections are told apart.
+// Symbols that are listed in any order become a table in that order, and so does a copy. Entries far apart, at both
+// ends of a page of bits and of one position in other sections are told apart.
 #[test]
 fn listed_symbols(rt: HostRuntime) -> Result<(), Fail> {
     let mut right = true;
