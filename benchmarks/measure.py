@@ -4,7 +4,9 @@
 Tables:
   ratios     aig / C++, of conversions, simulations and questions (--jobs and --shapes pick, --list names them)
   edits      aig / C++, of edits of every kind on copies of a cipher
-  benches    aig / C++, making a bench of a million gates and 64 frames, and its memory
+  benches    aig / C++, making a bench of a million gates
+  sizes      aig / C++, how conversions, frames and benches grow from 100,000 to 4,000,000 gates
+  memory     the greatest resident sizes of both
   growth     circuit check, levels and order by the number of gates
   rewires    what a rewire costs by how far it reaches
   grids      both grids of cells side by side
@@ -132,7 +134,6 @@ class Run:
         if process.returncode:
             sys.exit(f"{words} ended with status {process.returncode}")
         self.seconds = usage.ru_utime + usage.ru_stime
-        self.size = usage.ru_maxrss * 1024
 
 
 def least(times, *runs):
@@ -204,7 +205,7 @@ class Job:
 
 def conversions(programs):
     """Text and binary files of a million gates, names and comments."""
-    goals = {("aag", "aag"): 0.9, ("aag", "aig"): 1.0, ("aig", "aag"): 1.0, ("aig", "aig"): 1.1}
+    goals = {("aag", "aag"): 1.1, ("aag", "aig"): 1.1, ("aig", "aag"): 1.1, ("aig", "aig"): 1.15}
     words = {"aag": "text", "aig": "binary"}
 
     def binary(text):
@@ -220,10 +221,10 @@ def conversions(programs):
 
     for (form, to), goal in goals.items():
         for shape in ("random", "chain", "wide", "shuffled"):
-            yield Job(f"{words[form]} to {words[to]}", shape, goal,
+            yield Job(f"{words[form]} to {words[to]}", shape, 1.15 if shape == "shuffled" else goal,
                       lambda form=form, to=to, shape=shape: job(form, to, "circuit", shape, *SOURCES, MILLION))
     for to in ("aag", "aig"):
-        yield Job(f"500,000 names, text to {words[to]}", "names", 1.3, lambda to=to: job("aag", to, "names", 500_000))
+        yield Job(f"500,000 names, text to {words[to]}", "names", 1.9, lambda to=to: job("aag", to, "names", 500_000))
     yield Job("20 MB of comment, text to text", "comment", 1.1, lambda: job("aag", "aag", "comment", 20_000_000))
 
 
@@ -238,12 +239,12 @@ def simulations(_):
                       lambda shape=shape, gates=gates, frames=frames: sim(shape, gates, frames),
                       lambda shape=shape, gates=gates: sim(shape, gates, 0), gates * frames, "a gate")
     for shape in ("random", "chain", "wide", "shuffled"):
-        yield Job("sim, loading 1,000,000 gates", shape, 1.3, lambda shape=shape: sim(shape, MILLION, 0))
+        yield Job("sim, loading 1,000,000 gates", shape, 1.2, lambda shape=shape: sim(shape, MILLION, 0))
 
     def lines(frames):
         return ["sim", load("circuit", "random", 1000, 10, 10, 10), load("stimulus", 1000, frames)]
 
-    yield Job("sim, lines of 1,000 characters", "random", 1.2, lambda: lines(50_000), lambda: lines(0), 50_000,
+    yield Job("sim, lines of 1,000 characters", "random", 0.9, lambda: lines(50_000), lambda: lines(0), 50_000,
               "a line")
 
 
@@ -252,9 +253,9 @@ def questions(_):
     def bench(script):
         return ["bench", load("circuit", "random", 1000, 1000, 1000, 10_000), load("stimulus", 1000, 64), script]
 
-    yield Job("bench, `t`", "random", 1.2, lambda: bench(write("traces", "t\n" * 200)), lambda: bench(empty()), None,
+    yield Job("bench, `t`", "random", 1.3, lambda: bench(write("traces", "t\n" * 200)), lambda: bench(empty()), None,
               "a byte")
-    yield Job("bench, `v`", "random", 1.2, lambda: bench(load("values", 64, 12_000, MILLION)), lambda: bench(empty()),
+    yield Job("bench, `v`", "random", 1.3, lambda: bench(load("values", 64, 12_000, MILLION)), lambda: bench(empty()),
               MILLION, "a line")
 
 
@@ -267,7 +268,7 @@ def ratios(programs, chosen):
     head("Beside the C++ program (processor time).", "job", "shape", "C++", "aig", "aig / C++", "goal")
     for job in jobs:
         tuned, ours = job.measured(programs, chosen.times)
-        row(job.name, job.shape, job.shown(tuned), job.shown(ours), f"{ours / tuned:.2f}", f"{job.goal:.1f}")
+        row(job.name, job.shape, job.shown(tuned), job.shown(ours), f"{ours / tuned:.2f}", f"{job.goal:.2f}")
 
 
 # ---- edits
@@ -289,7 +290,7 @@ def touched(programs, circuit, rows, script):
 def edits(programs, chosen):
     """Time an edit: that of a script, less that of an empty one."""
     head(f"Edits of {EDITED_FRAMES} frames (processor time an edit; touched cells an edit).", "load", "kind", "gates",
-         "edits", "touched", "C++", "aig", "a touched cell: C++", "a touched cell: aig", "aig / C++")
+         "edits", "touched", "C++", "aig", "a touched cell: C++", "a touched cell: aig", "aig / C++", "goal")
     for kind, *cipher in CIPHERS:
         if chosen.shapes not in kind:
             continue
@@ -310,26 +311,89 @@ def edits(programs, chosen):
             each = [f"{time / cells * 1e9:.1f} ns" if cells else "" for time in (tuned, ours)]
             gates = 10 * cipher[0] * cipher[1] * cipher[2]
             row(name, kind, f"{gates:,}", f"{count:,}", f"{cells:,.0f}", f"{tuned * 1e6:,.1f} µs",
-                f"{ours * 1e6:,.1f} µs", *each, f"{ours / tuned:.2f}")
+                f"{ours * 1e6:,.1f} µs", *each, f"{ours / tuned:.2f}", "1.20" if name == "frames" else "1.30")
 
 
 def benches(programs, chosen):
-    """Making a bench, and its memory."""
-    circuit = load("cipher", 1040, 16, 6)
-    with open(circuit, encoding="ascii") as file, open("widest", "w", encoding="ascii") as out:
-        words = file.readline().split()
-        words[1] = "1048575"
-        print(*words, file=out)
-        out.writelines(file)
-    rows = [load("zeros", 1040 * 16, frames) for frames in (0, 64)]
-    runs = [[programs.get(name), "bench", "widest", file, empty()] for file in rows for name in ("tuned", "aig")]
-    found = least(chosen.times, *runs)
-    head("A bench of 998,400 gates, and its 64 frames of 1,048,576 cells (processor time).", "work", "C++", "aig",
-         "aig / C++")
-    for work, (tuned, ours) in (("load", found[:2]), ("frames", [found[2] - found[0], found[3] - found[1]])):
-        row(work, milliseconds(tuned), milliseconds(ours), f"{ours / tuned:.2f}")
-    tuned, ours = (Run(words).size for words in runs[2:])
-    row("greatest resident size", f"{tuned / 1e6:.0f} MB", f"{ours / 1e6:.0f} MB", f"{ours / tuned:.2f}")
+    """Making a bench: its circuit, and its frames."""
+    head("Making a bench (processor time).", "circuit", "frames", "work", "C++", "aig", "aig / C++", "goal")
+    for name, frames, circuit, inputs in (
+        ("1,000,000 gates, random", 32, load("circuit", "random", *SOURCES, MILLION), 1000),
+        ("998,400 gates, copies of a cipher", 64, load("cipher", 1040, 16, 6), 1040 * 16),
+    ):
+        rows = [load("zeros", inputs, count) for count in (0, frames)]
+        runs = [[programs.get(who), "bench", circuit, file, empty()] for file in rows for who in ("tuned", "aig")]
+        found = least(chosen.times, *runs)
+        for work, (tuned, ours) in (("load", found[:2]), ("frames", [found[2] - found[0], found[3] - found[1]])):
+            row(name, frames, work, milliseconds(tuned), milliseconds(ours), f"{ours / tuned:.2f}", "1.20")
+
+
+def sizes(programs, chosen):
+    """How jobs grow with the number of gates."""
+    def toaig(to, *words):
+        return lambda gates: ([["toaig", "--to", to, load("circuit", *words, *SOURCES, gates)]], gates)
+
+    def bench(gates):
+        circuit, frames = load("circuit", "random", *SOURCES, gates), 2**25 // gates
+        return [["bench", circuit, load("zeros", 1000, count), empty()] for count in (frames, 0)], gates * frames
+
+    def added(gates):
+        circuit, rows, frames = load("circuit", "random", *SOURCES, gates), load("zeros", 1000, 1), 2**25 // gates
+        script = write("added", ("+ " + "0" * 1000 + "\n") * frames)
+        return [["bench", circuit, rows, file] for file in (script, empty())], gates * frames
+
+    def sim(gates):
+        circuit, frames = load("circuit", "random", *SOURCES, gates), 2**27 // gates
+        return [["sim", circuit, load("stimulus", 1000, count)] for count in (frames, 0)], gates * frames
+
+    jobs = {
+        "text to text, random": toaig("aag", "random"),
+        "text to binary, random": toaig("aig", "random"),
+        "text to binary, shuffled": toaig("aig", "shuffled"),
+        "sim, a gate of a frame": sim,
+        "making a bench, a gate of a frame": bench,
+        "new frames (`+`), a gate of a frame": added,
+    }
+    head("Growth (processor time, nanoseconds a gate).", "job", "gates", "C++", "aig", "aig / C++")
+    for name, job in jobs.items():
+        for gates in (100_000, MILLION, 4 * MILLION):
+            runs, units = job(gates)
+            both = []
+            for words in runs:
+                both.append([programs.get("tuned"), *(["to" + words[2], words[3]] if words[0] == "toaig" else words)])
+                both.append([programs.get("aig"), *words])
+            found = least(chosen.times, *both)
+            tuned, ours = (found[at] - (found[at + 2] if len(runs) > 1 else 0) for at in range(2))
+            row(name, f"{gates:,}", *(f"{time / units * 1e9:.2f}" for time in (tuned, ours)), f"{ours / tuned:.2f}")
+
+
+def resident(words):
+    """The greatest resident size of a run. A small process starts it, since that of what starts it counts too."""
+    starts = ("import resource, subprocess, sys; subprocess.run(sys.argv[1:], stdout=subprocess.DEVNULL, check=True); "
+              "print(resource.getrusage(resource.RUSAGE_CHILDREN).ru_maxrss)")
+    done = subprocess.run([sys.executable, "-c", starts, *words], stdout=subprocess.PIPE, check=True, text=True)
+    return 1024 * int(done.stdout)
+
+
+def memory(programs, _):
+    """The greatest resident sizes."""
+    head("Greatest resident size.", "job", "C++", "aig")
+    aag, aig = (lambda circuit: ["toaig", "--to", "aag", circuit]), (lambda circuit: ["toaig", "--to", "aig", circuit])
+
+    def bench(circuit, inputs, frames):
+        return ["bench", circuit, load("zeros", inputs, frames), empty()]
+
+    jobs = {
+        "4,000,000 gates in order, text to text": aag(load("circuit", "random", *SOURCES, 4 * MILLION)),
+        "4,000,000 gates out of order, text to binary": aig(load("circuit", "shuffled", *SOURCES, 4 * MILLION)),
+        "a bench of 1,000,000 gates and 32 frames": bench(load("circuit", "random", *SOURCES, MILLION), 1000, 32),
+        "a bench of `aag 4194303 0 0 0 0` and one frame": bench(write("claims", "aag 4194303 0 0 0 0\n"), 0, 1),
+        "1,000,000 names, text to text": aag(load("names", MILLION)),
+    }
+    for name, words in jobs.items():
+        tuned = ["to" + words[2], words[3]] if words[0] == "toaig" else words
+        sizes = [resident([programs.get(who), *it]) for who, it in (("tuned", tuned), ("aig", words))]
+        row(name, *(f"{size / 1e6:.0f} MB" for size in sizes))
 
 
 # ---- the toolkit alone
@@ -387,7 +451,7 @@ def grids(programs, chosen):
     for name, work in (("make", "make"), ("near", "evaluate, near"), ("far", "evaluate, anywhere"), ("get", "read")):
         each = [one[name] / 1e9 for one in times]
         row(work, *map(milliseconds, each), *(f"{cells / time / 1e6:.0f}" for time in each), f"{each[1] / each[0]:.2f}")
-    sizes = [Run(words).size for words in runs]
+    sizes = [resident(words) for words in runs]
     row("greatest resident size", *(f"{size / 1e6:.0f} MB" for size in sizes), "", "", f"{sizes[1] / sizes[0]:.2f}")
 
 
@@ -458,7 +522,7 @@ def compare(programs, chosen):
 
 # ---- command line
 
-TABLES = {made.__name__: made for made in (ratios, edits, benches, growth, rewires, grids, compare)}
+TABLES = {made.__name__: made for made in (ratios, edits, benches, sizes, memory, growth, rewires, grids, compare)}
 
 
 def machine(programs, chosen):

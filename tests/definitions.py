@@ -19,8 +19,9 @@ Definition = collections.namedtuple("Definition", "file name lines words")
 
 
 def words(text):
-    """Returns the words of a text, and behind a dot the one before it and the one behind."""
-    return set(re.findall(r"[^\s(){}\[\],;.:`\"|]+", text))
+    """Returns the words of a text: of `module.name` both, and the whole."""
+    whole = set(re.findall(r"[^\s(){}\[\],;:`\"|]+", text))
+    return whole | {part for word in whole for part in word.split(".")}
 
 
 def imports(text):
@@ -35,7 +36,9 @@ def imports(text):
 
 
 def without_comments(text):
-    return re.sub(r"(?m)(^|\s)--(\s.*)?$", "", text)
+    """Returns a text without its comments, each list of imports in one line."""
+    text = re.sub(r"(?m)(^|\s)--(\s.*)?$", "", text)
+    return re.sub(r"(?m)^(use [^{\n]*)\{([^}]*)\}", lambda at: at[1] + "{" + " ".join(at[2].split()) + "}", text)
 
 
 def definitions(path):
@@ -52,7 +55,7 @@ def definitions(path):
         line = line[2:] if inside else line
         if not line.strip() or IMPORT.match(line) or line.startswith(("use ", "pub use ", "pub mod ")):
             continue
-        if not line[0].isspace():
+        if not line[0].isspace() and line != "}":
             at = ITEM.match(line)
             name = at[1] if at else line.split()[0]
         if name:
@@ -129,7 +132,7 @@ def main():
     for crate in crates:
         for path in sorted((crate / "specs").rglob("*.antt")):
             module = ".".join(path.relative_to(crate / "specs").with_suffix("").parts)
-            text, own = path.read_text(), {}
+            text = without_comments(path.read_text())
             known = imports(text)
             for name, lines, said, inner in definitions(path):
                 table[crate.name, module, name] = Definition(path, name, lines, said), known
@@ -141,9 +144,10 @@ def main():
         for word in said:
             if here and word in homes.get(here, {}):
                 yield (*here, homes[here][word])
-            elif word in known:
-                crate, module, name = known[word]
-                if name is not None and (crate, module) in homes:
+            elif word in known or word.partition(".")[0] in known:
+                crate, module, name = known.get(word) or known[word.partition(".")[0]]
+                name = name or word.partition(".")[2]
+                if (crate, module) in homes:
                     yield crate, module, homes[crate, module].get(name, name)
 
     waiting, reached = [], set()

@@ -6,9 +6,8 @@ prover refuses it. Bugs that change one function, or one line, come in checks of
 A bug is refused where a function that it changes is not proved, and one of that function's goals, or an answer for it
 in proofs/, is refused for another reason than that a proof file names what the bug took away.
 
-It tries those of the gate (crates/NAME/must-fail) and all others (crates/NAME/planted), over what `rt ci` or `rt check`
-left of the libraries below a crate; where there is nothing, they are built first. Not part of the gate, which tries the
-former one by one."""
+It tries those of the gate (crates/NAME/planted) and with --more all others too (crates/NAME/planted/more), over what
+`rt ci` or `rt check` left of the libraries below a crate; where there is nothing, they are built first."""
 
 import argparse
 import collections
@@ -22,11 +21,12 @@ import shutil
 import subprocess
 import sys
 import tempfile
+import time
 
 ROOT = pathlib.Path(__file__).resolve().parent.parent
 NAMES = r"has no field|is not in scope|has no `|was not admitted"
 
-Edit = collections.namedtuple("Edit", "name pairs functions")
+Edit = collections.namedtuple("Edit", "name changes functions")
 Function = collections.namedtuple("Function", "name file first last")
 
 
@@ -88,8 +88,9 @@ def functions(crate, file, homes):
 
 
 def read(crate, path, known):
-    """A planted bug: its changes, and the functions whose bodies it changes."""
-    pairs, file, old = [], None, None
+    """A planted bug: its changes, each a piece of one line, and the functions whose bodies it changes. There are none
+    where a piece is not in its file exactly once, as the changes before it left it."""
+    changes, changed, texts, file, old = [], [], {}, None, None
     for line in path.read_text().split("\n"):
         word, _, text = line.partition(":")
         text = text[1:] if text.startswith(" ") else text
@@ -98,40 +99,32 @@ def read(crate, path, known):
         elif word == "old":
             old = text
         elif word == "new":
-            pairs.append((file, old, text))
-    changed = []
-    for file, old, _ in pairs:
-        text = (crate / file).read_text()
-        if text.count(old) == 1:
-            line = text[: text.index(old)].count("\n") + 1
-            changed += [it for it in known[file] if it.first <= line <= it.last]
+            before = texts.get(file) or (crate / file).read_text()
+            if before.count(old) != 1:
+                return Edit(f"{path.parent.name}/{path.name}", [], [])
+            at = before[: before.index(old)].count("\n")
+            changes.append((file, at, old, text))
+            changed += [it for it in known[file] if it.first <= at + 1 <= it.last]
+            texts[file] = before.replace(old, text)
     # a constant is every function's of its file
-    changed = changed or [it for file, _, _ in pairs for it in known[file]]
-    return Edit(f"{path.parent.name}/{path.name}", pairs, list(dict.fromkeys(changed)))
+    changed = changed or [it for file, *_ in changes for it in known[file]]
+    return Edit(f"{path.parent.name}/{path.name}", changes, list(dict.fromkeys(changed)))
 
 
 def rounds(crate, edits):
-    """Divides planted bugs into checks: in each, no function is changed twice, and each piece of text is there once."""
+    """Divides planted bugs into checks, in each of which no function is changed twice: the texts, and the bugs."""
     left = edits
     while left:
-        texts, taken, later, busy = {}, [], [], set()
+        texts, taken, busy = {}, [], set()
         for edit in left:
-            mine = dict(texts)
-            fits = not busy & {it.name for it in edit.functions}
-            for file, old, new in edit.pairs if fits else ():
-                text = mine.get(file) or (crate / file).read_text()
-                fits = fits and text.count(old) == 1
-                mine[file] = text.replace(old, new)
-            if fits:
-                texts, taken = mine, taken + [edit]
+            if busy.isdisjoint(it.name for it in edit.functions):
+                taken.append(edit)
                 busy |= {it.name for it in edit.functions}
-            else:
-                later.append(edit)
-        if not taken:
-            yield None, left
-            return
-        yield texts, taken
-        left = later
+                for file, at, old, new in edit.changes:
+                    lines = texts.setdefault(file, (crate / file).read_text().split("\n"))
+                    lines[at] = lines[at].replace(old, new)
+        yield {file: "\n".join(lines) for file, lines in texts.items()}, taken
+        left = [it for it in left if it not in taken]
 
 
 def tried(tools, crate, texts, edits):
@@ -145,8 +138,8 @@ def tried(tools, crate, texts, edits):
             pathlib.Path(room, file).write_text(text)
         only = [word for name in wanted for word in ("--only", name)]
         words = [tools.rtlib.RATTLE, "check", *crate.words(["--jobs", "1", *only], keeps=False)]
-        ran = subprocess.run(words, cwd=room, stdin=subprocess.DEVNULL, stdout=subprocess.PIPE, stderr=subprocess.STDOUT,
-                             errors="replace", check=False)
+        ran = subprocess.run(words, cwd=room, stdin=subprocess.DEVNULL, stdout=subprocess.PIPE,
+                             stderr=subprocess.STDOUT, errors="replace", check=False)
     lines = ran.stdout.split("\n")
     verdicts = dict(re.findall(rf"(?m)^fn {crate.name}::(\S+): (.*)$", ran.stdout))
     for edit in edits:
@@ -177,42 +170,71 @@ def is_of(line, function):
     return at[1].startswith("proofs/" + function.name.replace("::", "/") + "/")
 
 
+def told(tools, crate, texts, edits):
+    """Tries planted bugs, tells of each as soon as they are tried, and returns which are refused."""
+    answers = list(tried(tools, crate, texts, edits))
+    for edit, refused, why in answers:
+        print(f"{crate.name}/{edit.name}: {'refused' if refused else 'FAILED'}: {why}", flush=True)
+    return [refused for _, refused, _ in answers]
+
+
+def checks_of(crate, rooms, only):
+    """Returns the checks that a crate's planted bugs need (crate, texts, bugs), and the bugs that cannot be applied."""
+    folder = pathlib.Path(crate.folder)
+    files = [str(it.relative_to(folder)) for it in (folder / "src").rglob("*.rt")]
+    homes = types(folder, files)
+    known = {file: list(functions(folder, file, homes)) for file in files}
+    paths = [it for room in rooms for it in sorted((folder / room).glob("*.edit"))]
+    edits = [read(folder, it, known) for it in paths if not only or any(word in it.name for word in only)]
+    checks = [(crate, *some) for some in rounds(folder, [it for it in edits if it.changes])]
+    return checks, [it for it in edits if not it.changes]
+
+
+def in_turn(checks, behind):
+    """Yields the checks that can be made, the largest first: all, or those whose libraries an `rt ci` that runs has
+    proved, by its output so far."""
+    left = sorted(checks, key=lambda it: -len(it[2]))
+    while left:
+        said = behind.read_text() if behind else ""
+        if re.search(r"(?m)^rt: .* NOT PROVED$", said):
+            sys.exit("a library is not proved")
+        proved = set(re.findall(r"(?m)^rt: (\w+) proved$", said))
+        ready = [it for it in left if not behind or proved.issuperset(below.name for below in it[0].below())]
+        yield from ready
+        left = [it for it in left if it not in ready]
+        time.sleep(2 if left else 0)
+
+
 def main():
     parser = argparse.ArgumentParser(description=__doc__, formatter_class=argparse.RawDescriptionHelpFormatter)
-    parser.add_argument("--jobs", type=int, default=os.cpu_count(), help="how many checks run side by side")
+    processors = len(os.sched_getaffinity(0))
+    parser.add_argument("--jobs", type=int, default=processors, help="how many checks run side by side")
     parser.add_argument("--only", action="append", help="the planted bugs whose names hold this; may be given again")
-    parser.add_argument("--gate", action="store_true", help="those of must-fail/ alone")
+    parser.add_argument("--more", action="store_true", help="those of planted/more/ too")
+    parser.add_argument("--behind", type=pathlib.Path, metavar="FILE",
+                        help="the output of an `rt ci` that runs: a crate waits for the libraries below it")
     parser.add_argument("crates", nargs="*", help="the crates whose planted bugs are tried (else all)")
     words = parser.parse_args()
     tools = toolchain()
     os.chdir(ROOT)
     tools.rtlib.guarded()
+    rooms = ("planted", "planted/more") if words.more else ("planted",)
     work, failed, passed = [], 0, 0
     for crate in tools.rtlib.crates_below(str(ROOT)):
         if words.crates and crate.name not in words.crates:
             continue
-        for below in crate.below():
+        checks, wrong = checks_of(crate, rooms, words.only)
+        for edit in wrong:
+            print(f"{crate.name}/{edit.name}: FAILED: it cannot be applied")
+            failed += 1
+        for below in crate.below() if checks and not words.behind else ():
             if not os.path.isdir(below.rlib) and below.build_rlib(["--jobs", str(words.jobs)], anew=False):
                 sys.exit(f"{below.name} is not proved")
-        folder = pathlib.Path(crate.folder)
-        files = [str(it.relative_to(folder)) for it in (folder / "src").rglob("*.rt")]
-        homes = types(folder, files)
-        known = {file: list(functions(folder, file, homes)) for file in files}
-        paths = sorted(it for part in ("must-fail", "planted")[: 1 if words.gate else 2] for it in (folder / part).glob("*.edit"))
-        edits = [read(folder, it, known) for it in paths if not words.only or any(word in it.name for word in words.only)]
-        for texts, some in rounds(folder, edits):
-            if texts is None:
-                for edit in some:
-                    print(f"{crate.name}/{edit.name}: FAILED: it cannot be applied")
-                    failed += 1
-            else:
-                work.append((crate, texts, some))
-    work.sort(key=lambda it: -len(it[2]))
+        work += checks
     with concurrent.futures.ThreadPoolExecutor(words.jobs) as pool:
-        for (crate, _, _), answers in zip(work, pool.map(lambda it: list(tried(tools, *it)), work)):
-            for edit, refused, why in answers:
-                print(f"{crate.name}/{edit.name}: {'refused' if refused else 'FAILED'}: {why}", flush=True)
-                passed, failed = passed + refused, failed + (not refused)
+        tries = [pool.submit(told, tools, *check) for check in in_turn(work, words.behind)]
+    for refusals in (it.result() for it in tries):
+        passed, failed = passed + sum(refusals), failed + len(refusals) - sum(refusals)
     print(f"{passed} passed, {failed} failed")
     return 1 if failed else 0
 

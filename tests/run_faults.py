@@ -5,10 +5,11 @@ memory go on. Parts that need a C compiler (`cc`) are left out where there is no
 
 from faults.allocations import allocations
 from faults.calls import calls
+from faults.kept import kept
 from faults.writes import writes
 from library import runs
 
-PARTS = {"allocations": allocations, "writes": writes, "calls": calls}
+PARTS = {"allocations": allocations, "writes": writes, "calls": calls, "kept": kept}
 
 if __name__ == "__main__":
     runs.main(__doc__, PARTS)

@@ -7,14 +7,18 @@ from library import runs
 from program.bench import bench
 from program.check import check
 from program.helps import helps
+from program.info import info
+from program.kept import kept
+from program.pages import pages
 from program.sim import sim
 from program.talks import talks
 from program.toaig import toaig
 from program.unroll import unroll
+from program.wave import wave
 from program.words import words
 
-PARTS = {"bench": bench, "words": words, "sim": sim, "check": check, "toaig": toaig, "unroll": unroll, "help": helps,
-         "talks": talks}
+PARTS = {"bench": bench, "kept": kept, "words": words, "sim": sim, "wave": wave, "check": check, "toaig": toaig,
+         "unroll": unroll, "info": info, "help": helps, "pages": pages, "talks": talks}
 
 if __name__ == "__main__":
     runs.main(__doc__, PARTS)

@@ -1,13 +1,15 @@
 #!/usr/bin/env python3
-"""Runs the built program beside Yosys and ABC, on files that these write and on runs that they find. It is no part of
-the gate: the tools are Debian's packages `yosys` and `berkeley-abc`, and a run takes a minute."""
+"""Runs the built program beside Yosys and ABC, on files that these write and on runs that they find, and its dumps
+beside those of Icarus Verilog and GTKWave. It is no part of the gate: the tools are Debian's packages `yosys`,
+`berkeley-abc`, `iverilog` and `gtkwave`, and a run takes a minute."""
 
 from library import runs
 from tools.conversions import conversions
 from tools.unrolled import unrolled
+from tools.waves import waves
 from tools.witnesses import witnesses
 
-PARTS = {"conversions": conversions, "unrolled": unrolled, "witnesses": witnesses}
+PARTS = {"conversions": conversions, "unrolled": unrolled, "witnesses": witnesses, "waves": waves}
 
 if __name__ == "__main__":
     runs.main(__doc__, PARTS)

@@ -49,7 +49,7 @@ class Runs:
         is_result = is_verdict or (status == 0 and words[0] != "check")
         if (is_result and said) or not (is_result or LINE.fullmatch(said)):
             raise Wrong(f"{words}: status {status} with {said[:200]!r}")
-        if status == 1 and words[0] not in ("sim", "check") and got:
+        if status == 1 and words[0] not in ("sim", "wave", "check") and got:
             raise Wrong(f"{words}: it is refused and writes {got[:200]!r}")
         if taken > 1 + work * 1e-6:
             raise Wrong(f"{words}: {taken:.1f} s of processor time, for a work of {work}")
@@ -130,7 +130,10 @@ def case(runs, sources, designs, rng):
     if runs.converts(work, data, good):
         runs.asks(work, "circuit", good)
     write("rows", rows)
-    runs.run(work, "sim", "circuit", "rows")
+    simulated, _ = runs.run(work, "sim", "circuit", "rows")
+    told = contents("err")
+    if (runs.run(work, "wave", "circuit", "rows")[0], contents("err")) != (simulated, told):
+        raise Wrong("the dump is refused otherwise than the trace")
     write("script", lines)
     runs.run(work, "bench", "circuit", "rows", "script")
     status, got = runs.run(work + 5 * most, "unroll", "--frames", "3", "--to", "aag", "circuit")

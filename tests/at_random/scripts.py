@@ -1,5 +1,6 @@
 """Small random circuits, stimuli and scripts, with the replies of the plain workbench of library/reference.py, which
-computes each answer from the parts and the rows."""
+computes each answer from the parts and the rows. What a script leaves is kept in files, which may be those that were
+read: a run on them with the script `t` writes the trace that `t` would have written at its end."""
 
 import collections
 
@@ -66,9 +67,16 @@ def case(program, rng):
         write(name, text)
     wanted = replies(parts, rows_of(rows), asked)
     write("wanted", wanted)
-    ended = program.run("bench", "circuit", "stimulus", "script")
+    kept = rng.choice((("circuit", "stimulus"), ("new_circuit", "new_stimulus")))
+    ended = program.run("bench", "--circuit-out", kept[0], "--stimulus-out", kept[1], "circuit", "stimulus", "script")
     if ended != Ended(0, wanted.encode(), b""):
         raise Wrong(f"status {ended.status}, {ended.err[:200]!r}, other replies than wanted")
+    whole = asked[:asked.rfind("\n") + 1]
+    replied, traced = (replies(Parts(design), rows_of(rows), lines) for lines in (whole, whole + "t\n"))
+    write("script", "t\n")
+    ended = program.run("bench", *kept, "script")
+    if ended != Ended(0, traced[len(replied):].encode(), b""):
+        raise Wrong(f"status {ended.status}, {ended.err[:200]!r}, another trace of the files that were kept")
     return wanted
 
 

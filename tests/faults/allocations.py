@@ -15,13 +15,17 @@ TWO_GATES = [f"{EXAMPLES}/two_gates.{ending}" for ending in ("aag", "stim", "scr
 # Runs of which each allocation is refused in turn.
 RUNS = (
     ("bench", ["bench", *TWO_GATES]),
+    ("bench that keeps files", ["bench", "--circuit-out", "empty", "--stimulus-out", "kept_rows", *TWO_GATES]),
     ("sim", ["sim", f"{EXAMPLES}/counter.aag", f"{EXAMPLES}/counter.stim"]),
+    ("wave", ["wave", f"{EXAMPLES}/counter.aag", f"{EXAMPLES}/counter.stim"]),
     ("toaig to text", ["toaig", "--to", "aag", f"{EXAMPLES}/two_gates.aig"]),
     ("toaig that renumbers", ["toaig", "--to", "aig", f"{EXAMPLES}/two_gates.aag"]),
     ("toaig of all sections", ["toaig", "--to", "aig", "sections"]),
     ("unroll to text", ["unroll", "--frames", "3", "--to", "aag", "guarded_latch"]),
     ("unroll to binary", ["unroll", "--frames", "3", "--to", "aig", "guarded_latch"]),
     ("check", ["check", f"{EXAMPLES}/wraps.aag", f"{EXAMPLES}/wraps.wit"]),
+    ("info", ["info", f"{EXAMPLES}/two_gates.aag"]),
+    ("info of all sections", ["info", "sections"]),
 )
 
 # Four gates read an input without memory, so that the fifth takes some: where that is refused, the edits behind it see

@@ -9,11 +9,26 @@ from library.runs import Ended, LeftOut, input_or_output, write
 
 ONE_GATE, TWO_GATES = TEXTS["one_gate"].encode(), TEXTS["two_gates"].encode()
 BAD_INPUT, CYCLE = TEXTS["bad_input"].encode(), TEXTS["cycle"].encode()
+FACTS = (b"format aag\nvariables 3\ninputs 2\nlatches 0\noutputs 1\ngates 1\nbad 0\nconstraints 0\njustice 0\n"
+         b"fairness 0\nuninitialised 0\nlevels 1\nfanout 1\nsymbols 0\ncomment 0\nready no\n")
 UNROLLED = b"aag 8 4 0 2 4\n2\n4\n6\n8\n12\n16\n10 4 2\n12 10 2\n14 8 6\n16 14 6\n"
+
+HEADER = b"""$version aig $end
+$timescale 1 ns $end
+$scope module inputs $end
+$var wire 1 ! i0 $end
+$var wire 1 " i1 $end
+$upscope $end
+$scope module outputs $end
+$var wire 1 # o0 $end
+$upscope $end
+$enddefinitions $end
+"""
 
 # A run: its words, its files in the order in which they are read, each with the part that a failing read of it is told
 # as, the part of a failing write, the status and the fault of the run where no call fails, and its results in pieces:
-# one for each line of the last file where that is streamed, else one.
+# one for each line of the last file where that is streamed, and one for its end, else one; and what is written before a
+# line is read.
 RUNS = (
     ("bench", [("circuit", TWO_GATES), ("stimulus", b"11\n01\n"), ("script", b"v 0 8\ns 0 1 0\nv 0 8\n")],
      "script", 0, b"", [b"1\n", b"ok\n", b"0\n"]),
@@ -25,6 +40,10 @@ RUNS = (
      1, b"aig: stimulus: character in line 2\n", [b" 11 1 \n"]),
     ("sim", [("circuit", ONE_GATE), ("stimulus", b"11\n1")], "stimulus",
      1, b"aig: stimulus: unfinished\n", [b" 11 1 \n"]),
+    ("wave", [("circuit", ONE_GATE), ("stimulus", b"11\nx1\n")], "stimulus", 0, b"",
+     [b'#0\n$dumpvars\n1!\n1"\n1#\n$end\n', b"#1\nx!\nx#\n", b"#2\n"], HEADER),
+    ("wave", [("circuit", ONE_GATE), ("stimulus", b"11\n1z\n")], "stimulus",
+     1, b"aig: stimulus: character in line 2\n", [b'#0\n$dumpvars\n1!\n1"\n1#\n$end\n'], HEADER),
     ("toaig --to aag", [("circuit", TWO_GATES)], "output", 0, b"", [TWO_GATES]),
     ("toaig --to aig", [("circuit", ONE_GATE)], "output", 0, b"", [b"aig 3 2 0 1 1\n6\n\x02\x02"]),
     ("toaig --to aag", [("circuit", b"aig 3 2 0 1 1\n6\n\x02\x02")], "output",
@@ -33,6 +52,8 @@ RUNS = (
     ("unroll --frames 2 --to aag", [("circuit", TWO_GATES)], "output", 0, b"", [UNROLLED]),
     ("unroll --frames 2 --to aig", [("circuit", TWO_GATES)], "output",
      0, b"", [b"aig 8 4 0 2 4\n12\n16\n\x06\x02\x02\x08\x06\x02\x02\x08"]),
+    ("info", [("circuit", ONE_GATE)], "output", 0, b"", [FACTS]),
+    ("info", [("circuit", CYCLE)], "output", 1, b"aig: circuit: cycle 2\n", [b""]),
     ("check", [("circuit", BAD_INPUT), ("witness", b"1\nb0\n\n1\n.\n")], "output", 0, b"", [b"confirmed\n"]),
     ("check", [("circuit", BAD_INPUT), ("witness", b"1\nb0\n\nx\n.\n")], "output", 1, b"", [b"not bad\n"]),
 )
@@ -47,7 +68,7 @@ def calls(program, tally, _):
         each(beneath, tally, *run)
 
 
-def answered(files, pieces, number):
+def answered(files, pieces, header, number):
     """Before the read of this number fails: the part of its file, and the results so far."""
     for part, content in files[:-1]:
         if number <= len(content) + 1:
@@ -56,22 +77,22 @@ def answered(files, pieces, number):
     part, content = files[-1]
     is_streamed = part in ("script", "stimulus") and len(files) > 1
     lines = content[:number - 1].count(b"\n") if is_streamed else 0
-    return part, b"".join(pieces[:lines])
+    return part, header + b"".join(pieces[:lines])
 
 
-def each(beneath, tally, command, files, write_part, status, fault, pieces):
+def each(beneath, tally, command, files, write_part, status, fault, pieces, header=b""):
     """The run with short reads and writes; then with each of its reads failing, and with each of its writes."""
     words = command.split(" ") + [part for part, _ in files]
     for part, content in files:
         write(part, content)
-    results = b"".join(pieces)
+    results = header + b"".join(pieces)
     whole = Ended(status, results, fault)
     got = beneath.counted(*words, STEP=1, CALL="write")
     tally.compare(f"calls: {command}, a byte written at a time", got, (whole, len(results)))
     got, reads = beneath.counted(*words, STEP=1, CALL="read")
     tally.compare(f"calls: {command}, a byte read at a time", got, whole)
     for number in range(1, reads + 1):
-        wanted = input_or_output(*answered(files, pieces, number))
+        wanted = input_or_output(*answered(files, pieces, header, number))
         got = beneath.run(*words, STEP=1, CALL="read", REFUSE=number)
         tally.compare(f"calls: {command}, read {number} of {reads} fails", got, wanted)
     for number in range(1, len(results) + 1):

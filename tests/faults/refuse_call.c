@@ -1,13 +1,15 @@
-/* Stands before the C library's read and write. CALL is `read` (of any file) or `write` (to standard output): its call
-   whose number (from 1) is in REFUSE fails, or where NONE is set takes no byte, and all others are let through. Where
-   STEP is set, each call moves one byte at most. It says on the file COUNTED how many such calls there were. A call
-   without bytes is no such call. */
+/* Stands before the C library's read, write, fsync, fchmod and rename. CALL is `read` (of any file), `write` (to standard
+   output), `file` (a write to another file than standard error), `fsync`, `fchmod` or `rename`: its call whose number
+   (from 1) is in REFUSE fails, or where NONE is set takes no byte, and all others are let through. Where STEP is set,
+   each call moves one byte at most. It says on the file COUNTED how many such calls there were. A call that is to move
+   no bytes is no such call. */
 #define _GNU_SOURCE
 #include <dlfcn.h>
 #include <errno.h>
 #include <stdio.h>
 #include <stdlib.h>
 #include <string.h>
+#include <sys/stat.h>
 #include <unistd.h>
 
 static unsigned long calls;
@@ -50,11 +52,35 @@ ssize_t write(int file, const void *bytes, size_t count)
     static ssize_t (*next)(int, const void *, size_t);
     if (!next)
         next = (ssize_t (*)(int, const void *, size_t))dlsym(RTLD_NEXT, "write");
-    if (file != STDOUT_FILENO)
+    if (file == STDERR_FILENO)
         return next(file, bytes, count);
-    if (count > 0 && refused("write"))
+    if (count > 0 && refused(file == STDOUT_FILENO ? "write" : "file"))
         return refusal();
     return next(file, bytes, step(count));
+}
+
+int fsync(int file)
+{
+    static int (*next)(int);
+    if (!next)
+        next = (int (*)(int))dlsym(RTLD_NEXT, "fsync");
+    return refused("fsync") ? (int)refusal() : next(file);
+}
+
+int fchmod(int file, mode_t mode)
+{
+    static int (*next)(int, mode_t);
+    if (!next)
+        next = (int (*)(int, mode_t))dlsym(RTLD_NEXT, "fchmod");
+    return refused("fchmod") ? (int)refusal() : next(file, mode);
+}
+
+int rename(const char *old, const char *new)
+{
+    static int (*next)(const char *, const char *);
+    if (!next)
+        next = (int (*)(const char *, const char *))dlsym(RTLD_NEXT, "rename");
+    return refused("rename") ? (int)refusal() : next(old, new);
 }
 
 __attribute__((destructor)) static void tell(void)

@@ -71,6 +71,17 @@ REPLIES = (
      "aag 8 4 0 0 4 2\n2\n4\n6\n8\n12\n16\n10 4 1\n12 10 2\n14 10 8\n16 14 6\n.\n"),
     ("unrolled with justice and fairness", "live", "1\n", "u\n-\nu\n", "no 12\nok\nno 9\n"),
     ("unrolled over its limit", "inputs", f"{'0' * 64}\n" * 65536, "u\n-\n", "no 10\nok\n"),
+    ("a trace, and bits that are not there", "two_gates", "11\n01\n", "t\ns 2 2 1\ns 0 2 1\n",
+     " 11 1 \n 01 0 \n.\nno 6\nno 7\n"),
+    ("lines that are no command, behind one row", "two_gates", "11\n",
+     "\nv 00 8\nv 0  8\nv 0 4294967296\ns 0 0 2\nw 6 2\n+ 12\n+\n- \nr 4 2\nw 6 2 2 2\nt ", "bad\n" * 12),
+    ("the greatest numbers, and a row of 37 characters", "two_gates", "11\n",
+     f"w 4294967295 4294967295 4294967295\nw 4294967295 4294967295 42949672950\n+ {'1' * 36}z\n", "no 1\nbad\nbad\n"),
+    ("a frame of no inputs, and away with it", "toggle", "\n", "+ \nt\n-\nt\n",
+     "ok\n0  01 1\n1  10 0\n.\nok\n0  01 1\n.\n"),
+    ("an output that is an appended gate", "two_gates", "11\n01\n",
+     "g 9 4\no 0 10\nt\ng 12 0\no 9 12\no 1 2\ng 9\no 0 10 \n",
+     "ok\nok\n 11 0 \n 01 1 \n.\nno 3\nno 3\nno 13\nbad\nbad\n"),
 )
 
 # What is run, the circuit, the stimulus and the refusal.
@@ -105,6 +116,8 @@ def bench(program, tally, _):
         rows.gives(name, f"bench {circuit} rows script", replies, rows=stimulus, script=script)
     for name, circuit, stimulus, text in REFUSALS:
         rows.refuses(name, f"bench {circuit} rows script", text, rows=stimulus, script="v 0 8\n")
+    ends_of_words(rows)
+    levels_far_apart(rows)
     rows.refuses("a circuit wins over a stimulus", "bench reads_itself two_gates script", "circuit: cycle 2")
     example = [f"{EXAMPLES}/{name}" for name in ("cyclic.aag", "two_gates.stim", "two_gates.script")]
     rows.refuses("a refused example", ["bench", *example], "circuit: cycle 2", rows="11\n01\n")
@@ -114,3 +127,29 @@ def bench(program, tally, _):
     for part, runs in FAILURES:
         for files in runs:
             rows.fails(f"the {part}'s file is told of {files}", f"bench {files}", part)
+
+
+def falling_chain(greatest):
+    """An input at the greatest variable, and below it gates down to variable 1, each the negation of the one above."""
+    gates = "".join(f"{2 * at} {2 * at + 3} {2 * at + 3}\n" for at in range(1, greatest))
+    return f"aag {greatest} 1 0 0 {greatest - 1}\n{2 * greatest}\n{gates}"
+
+
+def ends_of_words(rows):
+    """An edit, a new frame and appended gates go through all cells, wherever a word of cells ends."""
+    for greatest in (31, 32, 33, 62, 63, 64, 65, 95, 96, 97, 127, 128, 129, 130):
+        rows.gives(f"a chain of {greatest} variables", "bench chain rows script",
+                   f"{1 - greatest % 2}\nok\n{greatest % 2}\nok\nx\n", chain=falling_chain(greatest), rows="0\n",
+                   script="v 0 2\ns 0 0 1\nv 0 2\n+ x\nv 1 2\n")
+    appended = "".join(f"g {2 * at + 1} {2 * at + 1}\n" for at in range(1, 131))
+    rows.gives("a chain of 130 appended gates", "bench wire rows script", "ok\n" * 131 + "1\n0\n",
+               wire="aag 1 1 0 0 0\n2\n", rows="0\n", script=appended + "s 0 0 1\nv 0 262\nv 0 260\n")
+
+
+def levels_far_apart(rows):
+    """An edit at level 1 goes through gates at the levels 5, 70, 9000 and 9001, whose other sides stand in a chain."""
+    sides = ((1, 1), (18004, 17994), (18004, 17865), (18004, 5), (18006, 18010))
+    script = "".join(f"g {left} {right}\n" for left, right in sides)
+    rows.gives("levels far apart", "bench chain rows script", "ok\n" * 5 + "1\nok\n0\n0\n0\n0\n",
+               chain=falling_chain(9001), rows="1\n",
+               script=script + "v 0 18012\nw 18004 0 0\nv 0 18012\nv 0 18010\nv 0 18008\nv 0 18006\n")

@@ -44,13 +44,13 @@ class Talk:
         if got != wanted:
             self.fail(f"{line!r} is answered {got!r}, not {wanted!r}, within {SECONDS} seconds")
 
-    def end(self, status=0, said=b""):
-        """Ends the input. Nothing more is to be answered."""
+    def end(self, status=0, said=b"", answer=b""):
+        """Ends the input. Nothing more is to be answered than this."""
         try:
             out, err = self.run.communicate(timeout=SECONDS)
         except subprocess.TimeoutExpired:
             self.fail("it does not end")
-        if (out, err, self.run.returncode) != (b"", said, status):
+        if (out, err, self.run.returncode) != (answer, said, status):
             self.fail(f"it ends with {out!r}, {err!r}, status {self.run.returncode}")
 
 
@@ -83,6 +83,24 @@ def faulty_line(program):
     talk.end(1, b"aig: stimulus: length of line 2\n")
 
 
+def dump(program):
+    talk = Talk(program, "wave", "toggle")
+    talk.say(b"", b"""$version aig $end
+$timescale 1 ns $end
+$scope module latches $end
+$var reg 1 ! l0 $end
+$upscope $end
+$scope module outputs $end
+$var wire 1 " o0 $end
+$var wire 1 # o1 $end
+$upscope $end
+$enddefinitions $end
+""")
+    talk.say(b"\n", b'#0\n$dumpvars\n0!\n0"\n1#\n$end\n')
+    talk.say(b"\n", b'#1\n1!\n1"\n0#\n')
+    talk.end(answer=b"#2\n")
+
+
 def closed(program, words, text, part):
     """Nobody reads what the program writes: a failing write, which the program tells."""
     talk = Talk(program, *words.split(" "))
@@ -108,8 +126,10 @@ def talks(program, tally, _):
         ("a script", script, ()),
         ("a stimulus", stimulus, ()),
         ("a faulty line", faulty_line, ()),
+        ("a dump", dump, ()),
         ("bench, a closed pipe", closed, ("bench two_gates rows", b"v 0 8\n", b"script")),
         ("sim, a closed pipe", closed, ("sim toggle", b"\n", b"stimulus")),
+        ("wave, a closed pipe", closed, ("wave toggle", b"\n", b"stimulus")),
         ("toaig, a closed pipe", closed, ("toaig --to aag", two_gates, b"output")),
         ("unroll, a closed pipe", closed, ("unroll --frames 2 --to aag", two_gates, b"output")),
     )

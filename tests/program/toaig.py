@@ -75,6 +75,36 @@ REFUSALS = (
     ("justice sizes over the limit together", "aag 0 0 0 0 0 0 0 2\n4194303\n1\n", "limit"),
     ("CR before LF", "aag 0 0 0 0 0\r\n", "text at 13"),
     ("two spaces", "aag  0 0 0 0 0\n", "text at 4"),
+    ("a letter alone", "a", "text at 1"),
+    ("a format word alone", "aag", "text at 3"),
+    ("the other format word alone", "aig", "text at 3"),
+    ("no format word", "abg 0 0 0 0 0\n", "text at 0"),
+    ("a tab behind the format word", "aag\t", "text at 0"),
+    ("a letter behind a count", "aag 1x", "text at 5"),
+    ("wrong counts whose line is cut", "aag 1 2 0 0 0", "text at 13"),
+    ("a symbol without a name", "aag 1 1 0 0 0\n2\ni0 ", "text at 19"),
+    ("a letter behind a position", "aag 1 1 0 0 0\n2\ni0a", "text at 18"),
+    ("a letter of no section", "aag 1 1 0 0 0\n2\nx", "text at 16"),
+    ("a letter behind the comment's", "aag 1 1 0 0 0\n2\ncx", "text at 17"),
+    ("a constraint's symbol where there is none", "aag 1 1 0 0 0\n2\nc0 a\n", "text at 17"),
+    ("justice sizes over the limit, before a letter", "aag 0 0 0 0 0 0 0 2\n4194303\n1x", "limit"),
+    ("a first delta that is cut", b"aig 3 2 0 1 1\n6\n\x82", "text at 16"),
+    ("a first delta that is cut behind two groups", b"aig 3 2 0 1 1\n6\n\x82\x82", "text at 16"),
+    ("a first delta of four groups that is too great", b"aig 3 2 0 1 1\n6\n\xff\xff\xff\x03\x00", "text at 16"),
+    ("range before undefined", "aag 1 1 0 1 0\n2\n4\n", "range"),
+    ("range before definition", "aag 1 1 0 1 0\n3\n4\n", "range"),
+    ("a constant that is defined", "aag 1 1 0 0 0\n0\n", "definition"),
+    ("an odd input", "aag 1 1 0 0 0\n3\n", "definition"),
+    ("definition before redefined", "aag 3 3 0 0 0\n4\n4\n3\n", "definition"),
+    ("an input twice", "aag 2 2 0 0 0\n2\n2\n", "redefined 1"),
+    ("the least variable that is defined twice", "aag 4 4 0 0 0\n4\n4\n2\n2\n", "redefined 1"),
+    ("redefined before undefined", "aag 2 1 0 1 1\n2\n4\n2 0 1\n", "redefined 1"),
+    ("the least undefined variable", "aag 3 1 0 2 0\n2\n7\n4\n", "undefined 2"),
+    ("undefined before reset", "aag 2 0 1 0 0\n2 4 9\n", "undefined 2"),
+    ("the least latch with a wrong reset", "aag 2 0 2 0 0\n4 0 2\n2 0 3\n", "reset 1"),
+    ("a reset by another latch", "aag 2 0 2 0 0\n2 2\n4 2 2\n", "reset 2"),
+    ("reset before cycle", "aag 2 0 1 0 1\n4 0 2\n2 2 2\n", "reset 2"),
+    ("the least variable of two cycles", "aag 3 1 0 0 2\n2\n6 6 2\n4 7 2\n", "cycle 2"),
 )
 
 # Files of which these beginnings alone are circuits; each other one is refused where it ends.
@@ -97,6 +127,7 @@ def toaig(program, tally, _):
         rows.gives(f"deltas {name}", "toaig --to aig source", binary, source=binary)
     for name, text, fault in REFUSALS:
         rows.refuses(name, "toaig --to aag source", f"circuit: {fault}", source=text)
+        rows.refuses(f"{name}, read whole", "unroll --frames 1 --to aag source", f"circuit: {fault}", source=text)
     for name, to, text, lengths in BEGINNINGS:
         for length in range(1, len(text)):
             case, words = f"the first {length} bytes of {name}", f"toaig --to {to} source"

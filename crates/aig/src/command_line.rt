@@ -22,6 +22,14 @@ static AFTER_SIM: &str =
 Example: aig sim examples/counter.aag examples/counter.stim
 The formats are described in docs/FORMATS.md.";
 
+static AFTER_WAVE: &str =
+    "The dump (IEEE 1364) is read by waveform viewers, as GTKWave and Surfer. It shows inputs, latches, outputs, bad
+state properties and constraints by their names, or without one by letter and position, as i0 or l3. Frame T is
+time T.
+
+Example: aig wave examples/counter.aag examples/counter.stim > counter.vcd
+The formats are described in docs/FORMATS.md.";
+
 static AFTER_BENCH: &str =
     "Lines of a script; frames, inputs and outputs count from 0, values are 0, 1 or x:
   w G R0 R1  gives the gate of literal G the right sides R0 and R1
@@ -38,6 +46,10 @@ The reply to an edit that is done is ok. A literal is twice its variable, and on
 that cannot be done is answered no and a number: 1 no gate, 2 no latch, 3 a literal out of range, 4 an undefined
 variable, 5 a cycle, 6 no such frame, 7 no such input, 8 not a value for each input, 9 no frame, 10 over a limit,
 11 no memory, 12 justice or fairness, 13 no such output. A line that is none of these is answered bad.
+
+A file is written once the script has been run to its end, whatever the replies; it may be CIRCUIT or STIM. The text is
+written to FILE.new, which must not be there, and takes FILE's name when it is whole; a device or a pipe is written
+directly.
 
 Example: aig bench examples/two_gates.aag examples/two_gates.stim examples/two_gates.script
 Scripts and numbers are described in docs/BEHAVIOUR.md.";
@@ -64,6 +76,21 @@ for each frame, and the line . at its end.
 
 Example: aig check examples/wraps.aag examples/wraps.wit
 Witnesses, and those of model checkers, are described in docs/FORMATS.md.";
+
+static AFTER_INFO: &str = "A line holds a name, a space and a value; the names, in this order:
+  format         the format of the file, aag or aig
+  variables      the greatest variable
+  inputs, latches, outputs, gates, bad, constraints, justice, fairness
+                 how many there are of each
+  uninitialised  how many latches start at any value
+  levels         the greatest level: 0 for a source, one more than the greater right side's for a gate
+  fanout         how many gates read the variable that most gates read
+  symbols        how many entries have a name
+  comment        how many bytes the comment has
+  ready          yes where the format aig can hold the circuit as it stands, else no
+
+Example: aig info examples/counter.aag
+The lines are described in docs/BEHAVIOUR.md.";
 
 static AFTER_ALL: &str =
     "Exit status: 0 done, 1 refused input or a verdict other than confirmed, 2 wrong words, or words that ask for help
@@ -150,12 +177,45 @@ fn sim_command<'a>(alloc: Global) -> Result<Command<'a>, AllocError> {
         .arg(stimulus_argument(alloc))
 }
 
+fn wave_command<'a>(alloc: Global) -> Result<Command<'a>, AllocError> {
+    Command::new(alloc, "wave")
+        .about("Simulates a circuit, and writes a value change dump for waveform viewers")
+        .after_help(AFTER_WAVE)
+        .arg(circuit_argument(alloc))?
+        .arg(stimulus_argument(alloc))
+}
+
+fn kept_argument<'a>(alloc: Global, name: &'a str, help: &'a str) -> Arg<'a> {
+    Arg::new(alloc, name)
+        .long(name)
+        .value_name("FILE")
+        .help(help)
+}
+
+fn circuit_out_argument<'a>(alloc: Global) -> Arg<'a> {
+    kept_argument(
+        alloc,
+        "circuit-out",
+        "Writes the circuit that the script leaves to FILE, as text",
+    )
+}
+
+fn stimulus_out_argument<'a>(alloc: Global) -> Arg<'a> {
+    kept_argument(
+        alloc,
+        "stimulus-out",
+        "Writes the rows that the script leaves to FILE, as a stimulus",
+    )
+}
+
 fn bench_command<'a>(alloc: Global) -> Result<Command<'a>, AllocError> {
     Command::new(alloc, "bench")
         .about(
             "Runs a script of edits and questions on a simulation, and writes a reply to each line",
         )
         .after_help(AFTER_BENCH)
+        .arg(circuit_out_argument(alloc))?
+        .arg(stimulus_out_argument(alloc))?
         .arg(circuit_argument(alloc))?
         .arg(stimulus_argument(alloc))?
         .arg(script_argument(alloc))
@@ -176,6 +236,13 @@ fn check_command<'a>(alloc: Global) -> Result<Command<'a>, AllocError> {
         .after_help(AFTER_CHECK)
         .arg(circuit_argument(alloc))?
         .arg(witness_argument(alloc))
+}
+
+fn info_command<'a>(alloc: Global) -> Result<Command<'a>, AllocError> {
+    Command::new(alloc, "info")
+        .about("Tells what a circuit is, a line for each fact")
+        .after_help(AFTER_INFO)
+        .arg(circuit_argument(alloc))
 }
 
 fn program<'a>(alloc: Global) -> Command<'a> {
@@ -199,9 +266,11 @@ fn with_subcommand<'a>(
 fn command_line<'a>(alloc: Global) -> Result<Command<'a>, AllocError> {
     let start = with_subcommand(program(alloc), toaig_command(alloc))?;
     let next = with_subcommand(start, sim_command(alloc))?;
-    let last = with_subcommand(next, bench_command(alloc))?;
+    let wave = with_subcommand(next, wave_command(alloc))?;
+    let last = with_subcommand(wave, bench_command(alloc))?;
     let more = with_subcommand(last, unroll_command(alloc))?;
-    with_subcommand(more, check_command(alloc))
+    let checks = with_subcommand(more, check_command(alloc))?;
+    with_subcommand(checks, info_command(alloc))
 }
 
 /// Matches the words, of which the first is the program's name.

@@ -1,6 +1,6 @@
 //! The files that the words name.
 
-use crate::stop::Stop;
+use crate::exit::Exit;
 use aig_base::{Buffered, Std};
 use aig_engines::RunFault;
 use std::alloc::Global;
@@ -8,7 +8,7 @@ use std::fs::{self, Files};
 use std::io::{self, ErrorKind, Printer, Read};
 
 /// Opens a file. One that cannot be opened ends the program with `part`.
-pub fn open<R: Files>(rt: &R, name: &str, part: Stop) -> Result<R::File, Stop> {
+pub fn open<R: Files>(rt: &R, name: &str, part: Exit) -> Result<R::File, Exit> {
     match fs::open(rt, name) {
         Ok(file) => Ok(file),
         Err(_) => Err(part),
@@ -16,12 +16,12 @@ pub fn open<R: Files>(rt: &R, name: &str, part: Stop) -> Result<R::File, Stop> {
 }
 
 /// Reads all bytes of an open file. A failing read ends the program with `part`.
-pub fn read_whole<F: Read + Drop>(alloc: Global, mut file: F, part: Stop) -> Result<Vec<u8>, Stop> {
+pub fn read_whole<F: Read + Drop>(alloc: Global, mut file: F, part: Exit) -> Result<Vec<u8>, Exit> {
     let mut bytes = Vec::new(alloc);
     match file.read_to_end(&mut bytes) {
         Ok(_) => Ok(bytes),
         Err(error) => match error.kind() {
-            ErrorKind::OutOfMemory => Err(Stop::Run(RunFault::Memory)),
+            ErrorKind::OutOfMemory => Err(Exit::Run(RunFault::Memory)),
             _ => Err(part),
         },
     }

@@ -1,37 +1,39 @@
 //! The program `aig`: converts, simulates and unrolls and-inverter graphs, checks witnesses and answers scripts.
 #![tactic(auto)]
 
+mod arguments;
 mod command_line;
+mod exit;
 mod files;
-mod stop;
+mod kept;
+mod new_file;
 mod task;
-mod words;
 
+use exit::Exit;
 use std::env::Env;
 use std::fs::Files;
 use std::process::ExitCode;
-use stop::Stop;
 
 fn main(rt: HostRuntime) -> ExitCode {
     match run(&rt) {
         Ok(()) => ExitCode::from(0),
-        Err(stop) => {
+        Err(exit) => {
             // Nobody is left to tell of a failing write to standard error.
-            let _ = stop.tell(&rt);
-            ExitCode::from(stop.status())
+            let _ = exit.tell(&rt);
+            ExitCode::from(exit.status())
         }
     }
 }
 
 /// Reads the words of the command line, and does what they choose.
-fn run<R: Env + Files + AllocGlobal + Print + Eprint>(rt: &R) -> Result<(), Stop> {
-    let words = words::all(rt)?;
+fn run<R: Env + Files + AllocGlobal + Print + Eprint>(rt: &R) -> Result<(), Exit> {
+    let words = arguments::all(rt)?;
     run_words(rt, words.as_slice())
 }
 
 fn run_words<R: Files + AllocGlobal + Print + Eprint>(
     rt: &R,
     words: &[String],
-) -> Result<(), Stop> {
-    words::task_of(rt, words)?.run(rt)
+) -> Result<(), Exit> {
+    arguments::task_of(rt, words)?.run(rt)
 }

@@ -1,12 +1,13 @@
 //! What the words of the command line choose.
 
 use crate::command_line::{number_of, subcommand_of, text_of};
+use crate::exit::Exit;
 use crate::files::{open, output, read_whole};
-use crate::stop::Stop;
+use crate::kept::{Kept, keep};
 use aig_base::{Fault, Std};
 use aig_engines::{
-    RunFault, ScriptFault, deliver_circuit, deliver_replies, deliver_trace, deliver_unrolled,
-    deliver_verdict,
+    RunFault, ScriptFault, deliver_bench, deliver_circuit, deliver_info, deliver_replies,
+    deliver_trace, deliver_unrolled, deliver_verdict, deliver_wave,
 };
 use aig_format::Format;
 use aig_sim::{StimFault, Verdict};
@@ -25,10 +26,15 @@ pub enum Task<'a> {
         circuit: &'a str,
         stimulus: &'a str,
     },
+    Wave {
+        circuit: &'a str,
+        stimulus: &'a str,
+    },
     Bench {
         circuit: &'a str,
         stimulus: &'a str,
         script: &'a str,
+        kept: Kept<'a>,
     },
     Unroll {
         frames: u32,
@@ -39,6 +45,9 @@ pub enum Task<'a> {
         circuit: &'a str,
         witness: &'a str,
     },
+    Info {
+        circuit: &'a str,
+    },
 }
 
 impl<'a> Task<'a> {
@@ -48,29 +57,34 @@ impl<'a> Task<'a> {
         match name {
             "toaig" => conversion_of(matches),
             "sim" => simulation_of(matches),
+            "wave" => wave_of(matches),
             "bench" => bench_of(matches),
             "unroll" => unrolling_of(matches),
             "check" => check_of(matches),
+            "info" => info_of(matches),
             _ => None,
         }
     }
 
     /// Opens the files, does the task, and hands its results to standard output.
-    pub fn run<R: Files + AllocGlobal + Print>(&self, rt: &R) -> Result<(), Stop> {
+    pub fn run<R: Files + AllocGlobal + Print>(&self, rt: &R) -> Result<(), Exit> {
         match *self {
             Task::Convert { to, circuit } => convert(rt, to, circuit),
             Task::Simulate { circuit, stimulus } => simulate(rt, circuit, stimulus),
+            Task::Wave { circuit, stimulus } => wave(rt, circuit, stimulus),
             Task::Bench {
                 circuit,
                 stimulus,
                 script,
-            } => bench(rt, circuit, stimulus, script),
+                kept,
+            } => bench(rt, circuit, stimulus, script, kept),
             Task::Unroll {
                 frames,
                 to,
                 circuit,
             } => unroll(rt, frames, to, circuit),
             Task::Check { circuit, witness } => check(rt, circuit, witness),
+            Task::Info { circuit } => info(rt, circuit),
         }
     }
 }
@@ -97,11 +111,22 @@ fn simulation_of<'a>(matches: &ArgMatches<'a>) -> Option<Task<'a>> {
     })
 }
 
+fn wave_of<'a>(matches: &ArgMatches<'a>) -> Option<Task<'a>> {
+    Some(Task::Wave {
+        circuit: text_of(matches, "CIRCUIT")?,
+        stimulus: text_of(matches, "STIM")?,
+    })
+}
+
 fn bench_of<'a>(matches: &ArgMatches<'a>) -> Option<Task<'a>> {
     Some(Task::Bench {
         circuit: text_of(matches, "CIRCUIT")?,
         stimulus: text_of(matches, "STIM")?,
         script: text_of(matches, "SCRIPT")?,
+        kept: Kept {
+            circuit: text_of(matches, "circuit-out"),
+            stimulus: text_of(matches, "stimulus-out"),
+        },
     })
 }
 
@@ -120,15 +145,21 @@ fn check_of<'a>(matches: &ArgMatches<'a>) -> Option<Task<'a>> {
     })
 }
 
-const CIRCUIT: Stop = Stop::Run(RunFault::Circuit(Fault::Io));
+fn info_of<'a>(matches: &ArgMatches<'a>) -> Option<Task<'a>> {
+    Some(Task::Info {
+        circuit: text_of(matches, "CIRCUIT")?,
+    })
+}
 
-const STIMULUS: Stop = Stop::Run(RunFault::Stimulus(StimFault::Io));
+const CIRCUIT: Exit = Exit::Run(RunFault::Circuit(Fault::Io));
 
-const SCRIPT: Stop = Stop::Run(RunFault::Script(ScriptFault::Io));
+const STIMULUS: Exit = Exit::Run(RunFault::Stimulus(StimFault::Io));
 
-const WITNESS: Stop = Stop::Witness;
+const SCRIPT: Exit = Exit::Run(RunFault::Script(ScriptFault::Io));
 
-fn convert<R: Files + AllocGlobal + Print>(rt: &R, to: Format, circuit: &str) -> Result<(), Stop> {
+const WITNESS: Exit = Exit::Witness;
+
+fn convert<R: Files + AllocGlobal + Print>(rt: &R, to: Format, circuit: &str) -> Result<(), Exit> {
     let circuit = open(rt, circuit, CIRCUIT)?;
     convert_file(rt, to, circuit)
 }
@@ -137,7 +168,7 @@ fn convert_file<R: AllocGlobal + Print, F: Read + Drop>(
     rt: &R,
     to: Format,
     circuit: F,
-) -> Result<(), Stop> {
+) -> Result<(), Exit> {
     let mut circuit = Std::new(circuit);
     let mut out = output(rt);
     deliver_circuit(rt.alloc(), &mut circuit, to, &mut out)?;
@@ -148,7 +179,7 @@ fn simulate<R: Files + AllocGlobal + Print>(
     rt: &R,
     circuit: &str,
     stimulus: &str,
-) -> Result<(), Stop> {
+) -> Result<(), Exit> {
     let circuit = open(rt, circuit, CIRCUIT)?;
     let stimulus = open(rt, stimulus, STIMULUS)?;
     simulate_files(rt, circuit, stimulus)
@@ -158,11 +189,29 @@ fn simulate_files<R: AllocGlobal + Print, F: Read + Drop>(
     rt: &R,
     circuit: F,
     stimulus: F,
-) -> Result<(), Stop> {
+) -> Result<(), Exit> {
     let mut circuit = Std::new(circuit);
     let mut stimulus = Std::new(stimulus);
     let mut out = output(rt);
     let _frames = deliver_trace(rt.alloc(), &mut circuit, &mut stimulus, &mut out)?;
+    Ok(())
+}
+
+fn wave<R: Files + AllocGlobal + Print>(rt: &R, circuit: &str, stimulus: &str) -> Result<(), Exit> {
+    let circuit = open(rt, circuit, CIRCUIT)?;
+    let stimulus = open(rt, stimulus, STIMULUS)?;
+    wave_files(rt, circuit, stimulus)
+}
+
+fn wave_files<R: AllocGlobal + Print, F: Read + Drop>(
+    rt: &R,
+    circuit: F,
+    stimulus: F,
+) -> Result<(), Exit> {
+    let mut circuit = Std::new(circuit);
+    let mut stimulus = Std::new(stimulus);
+    let mut out = output(rt);
+    let _frames = deliver_wave(rt.alloc(), &mut circuit, &mut stimulus, &mut out)?;
     Ok(())
 }
 
@@ -171,34 +220,56 @@ fn bench<R: Files + AllocGlobal + Print>(
     circuit: &str,
     stimulus: &str,
     script: &str,
-) -> Result<(), Stop> {
+    kept: Kept<'_>,
+) -> Result<(), Exit> {
     let circuit = open(rt, circuit, CIRCUIT)?;
     let stimulus = open(rt, stimulus, STIMULUS)?;
     let script = open(rt, script, SCRIPT)?;
-    bench_files(rt, circuit, stimulus, script)
+    bench_files(rt, circuit, stimulus, script, kept)
 }
 
-fn bench_files<R: AllocGlobal + Print, F: Read + Drop>(
+fn bench_files<R: Files + AllocGlobal + Print, F: Read + Drop>(
     rt: &R,
     circuit: F,
     stimulus: F,
     script: F,
-) -> Result<(), Stop> {
+    kept: Kept<'_>,
+) -> Result<(), Exit> {
     let circuit = read_whole(rt.alloc(), circuit, CIRCUIT)?;
     let stimulus = read_whole(rt.alloc(), stimulus, STIMULUS)?;
+    if kept.is_empty() {
+        write_replies(rt, circuit.as_slice(), stimulus.as_slice(), script)
+    } else {
+        write_replies_and_keep(rt, circuit.as_slice(), stimulus.as_slice(), script, kept)
+    }
+}
+
+fn write_replies<R: AllocGlobal + Print, F: Read + Drop>(
+    rt: &R,
+    circuit: &[u8],
+    stimulus: &[u8],
+    script: F,
+) -> Result<(), Exit> {
     let mut script = Std::new(script);
     let mut out = output(rt);
-    deliver_replies(
-        rt.alloc(),
-        circuit.as_slice(),
-        stimulus.as_slice(),
-        &mut script,
-        &mut out,
-    )?;
+    deliver_replies(rt.alloc(), circuit, stimulus, &mut script, &mut out)?;
     Ok(())
 }
 
-fn check<R: Files + AllocGlobal + Print>(rt: &R, circuit: &str, witness: &str) -> Result<(), Stop> {
+fn write_replies_and_keep<R: Files + AllocGlobal + Print, F: Read + Drop>(
+    rt: &R,
+    circuit: &[u8],
+    stimulus: &[u8],
+    script: F,
+    kept: Kept<'_>,
+) -> Result<(), Exit> {
+    let mut script = Std::new(script);
+    let mut out = output(rt);
+    let bench = deliver_bench(rt.alloc(), circuit, stimulus, &mut script, &mut out)?;
+    keep(rt, &bench, kept)
+}
+
+fn check<R: Files + AllocGlobal + Print>(rt: &R, circuit: &str, witness: &str) -> Result<(), Exit> {
     let circuit = open(rt, circuit, CIRCUIT)?;
     let witness = open(rt, witness, WITNESS)?;
     check_files(rt, circuit, witness)
@@ -208,7 +279,7 @@ fn check_files<R: AllocGlobal + Print, F: Read + Drop>(
     rt: &R,
     circuit: F,
     witness: F,
-) -> Result<(), Stop> {
+) -> Result<(), Exit> {
     let circuit = read_whole(rt.alloc(), circuit, CIRCUIT)?;
     let witness = read_whole(rt.alloc(), witness, WITNESS)?;
     let mut out = output(rt);
@@ -217,10 +288,10 @@ fn check_files<R: AllocGlobal + Print, F: Read + Drop>(
 }
 
 /// A verdict other than that the witness is confirmed ends the program with a status of its own.
-fn confirmation(verdict: Verdict) -> Result<(), Stop> {
+fn confirmation(verdict: Verdict) -> Result<(), Exit> {
     match verdict {
         Verdict::Confirmed => Ok(()),
-        Verdict::Initial(_) | Verdict::Constraint(..) | Verdict::NotBad => Err(Stop::NotConfirmed),
+        Verdict::Initial(_) | Verdict::Constraint(..) | Verdict::NotBad => Err(Exit::NotConfirmed),
     }
 }
 
@@ -229,7 +300,7 @@ fn unroll<R: Files + AllocGlobal + Print>(
     frames: u32,
     to: Format,
     circuit: &str,
-) -> Result<(), Stop> {
+) -> Result<(), Exit> {
     let circuit = open(rt, circuit, CIRCUIT)?;
     unroll_file(rt, frames, to, circuit)
 }
@@ -239,9 +310,21 @@ fn unroll_file<R: AllocGlobal + Print, F: Read + Drop>(
     frames: u32,
     to: Format,
     circuit: F,
-) -> Result<(), Stop> {
+) -> Result<(), Exit> {
     let circuit = read_whole(rt.alloc(), circuit, CIRCUIT)?;
     let mut out = output(rt);
     deliver_unrolled(rt.alloc(), circuit.as_slice(), frames, to, &mut out)?;
+    Ok(())
+}
+
+fn info<R: Files + AllocGlobal + Print>(rt: &R, circuit: &str) -> Result<(), Exit> {
+    let circuit = open(rt, circuit, CIRCUIT)?;
+    info_file(rt, circuit)
+}
+
+fn info_file<R: AllocGlobal + Print, F: Read + Drop>(rt: &R, circuit: F) -> Result<(), Exit> {
+    let circuit = read_whole(rt.alloc(), circuit, CIRCUIT)?;
+    let mut out = output(rt);
+    deliver_info(rt.alloc(), circuit.as_slice(), &mut out)?;
     Ok(())
 }

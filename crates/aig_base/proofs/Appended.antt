@@ -13,7 +13,8 @@ use Rattle.aig_parts.specs.declared.symbols.Kind.{Kind}
 use Rattle.aig_parts.specs.declared.symbols.Kind.TheVariants as kind
 use Rattle.aig_base.specs.Changes.{next_gate, with_appended_gate}
 use Rattle.aig_base.specs.Circuit.{IsCircuit}
-use Rattle.aig_base.specs.Definition.{IsEntry, IsInOrder, IsTable}
+use Rattle.aig_base.specs.Definition.{IsInOrder}
+use Rattle.aig_base.specs.state.Definitions.{IsEntry, IsTable}
 use Rattle.aig_parts.specs.Formed.{IsFormed, limit, section_length}
 use Rattle.aig_base.specs.Grounded as grounded
 use Rattle.aig_base.specs.Grounded.{IsSource, Grounded, IsAcyclic}

@@ -8,8 +8,8 @@ use Rattle.aig_parts.specs.declared.raw.Raw.{Raw}
 use Rattle.aig_base.specs.Changes.{next_gate, with_appended_gate}
 use Rattle.aig_base.specs.Circuit.{IsCircuit}
 use Rattle.aig_parts.specs.Literal.{variable}
-use Rattle.aig_base.specs.Readers.{Appends, AreReaders, AreTallied, Fits, Keeps, Reads, ReadsBefore, reader_lists}
-use Rattle.aig_base.specs.Readers.{tally}
+use Rattle.aig_base.specs.Readers.{AreReaders, Reads, reader_lists}
+use Rattle.aig_base.specs.state.ReaderSlots.{Appends, AreTallied, Fits, Keeps, ReadsBefore, tally}
 use Rattle.aig_base.specs.Sections.{IsDefined}
 use Rattle.aig_base.proofs.Appended.{gate_cases, more_sound, new_at, old_at}
 use Rattle.aig_base.proofs.Gates.{sides_in_range}

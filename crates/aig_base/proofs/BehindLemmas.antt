@@ -9,7 +9,7 @@ use Rattle.aig_base.specs.Changes.{rewired, with_gate}
 use Rattle.aig_base.specs.Grounded.{Grounded, IsSource, IsAcyclic, Level}
 use Rattle.aig_base.specs.Grounded as by
 use Rattle.aig_parts.specs.Literal.{variable}
-use Rattle.aig_base.specs.Rewires.{IsSide, IsBehind, IsSearchUp}
+use Rattle.aig_base.specs.state.Rewires.{IsSide, IsBehind, IsSearchUp}
 use Rattle.aig_base.specs.Sections.{IsDefined, IsGate, IsLeftSide}
 use Rattle.aig_base.specs.Sound.{IsSound}
 use Rattle.aig_base.proofs.Defined.{Grounded-of_defined}

@@ -13,14 +13,14 @@ use Rattle.std.proofs.lemmas.Option.{slice_get_within, slice_get-get_or, get_or_
 use Rattle.aig_parts.specs.declared.gate.Gate.{Gate}
 use Rattle.aig_parts.specs.declared.raw.Raw.{Raw}
 use Rattle.aig_base.specs.Circuit.{IsCircuit}
-use Rattle.aig_base.specs.Descent.{IsMet, IsOver, IsSettled, IsDescent, Settles}
+use Rattle.aig_base.specs.state.Descent.{IsMet, IsOver, IsSettled, IsDescent, Settles}
 use Rattle.aig_base.specs.Grounded.{Level, IsSource, IsAcyclic}
 use Rattle.aig_base.specs.Grounded as by
 use Rattle.aig_base.specs.Levels.{AreLevels}
 use Rattle.aig_parts.specs.Literal.{variable}
 use Rattle.aig_base.specs.Sections.{IsGate}
 use Rattle.aig_base.specs.Sound.{IsSound}
-use Rattle.aig_base.specs.Walk.{Meets}
+use Rattle.aig_base.specs.state.Walk.{Meets}
 use Rattle.aig_base.proofs.Gates.{IsGate-of_gate, same_gate, source-gate, sides_in_range, level_in_range}
 use Rattle.aig_base.proofs.OneLevel.{level_of, same_level}
 use Rattle.aig_base.proofs.Walks.{no_element, was_met, met_within, meets_keep, meets_mark}

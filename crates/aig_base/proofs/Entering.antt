@@ -8,9 +8,9 @@ use Rattle.std.proofs.lemmas.Option.{slice_get_within, same_Some}
 use Rattle.aig_parts.specs.declared.raw.Raw.{Raw}
 use Rattle.aig_base.specs.declared.definition.Definition.{Definition}
 use Rattle.aig_base.specs.Definition.{Defines}
-use Rattle.aig_base.specs.Entries.{IsEntryOf, IsLeastTwice, AreEntries}
+use Rattle.aig_base.specs.state.Entries.{IsEntryOf, IsLeastTwice, AreEntries}
 use Rattle.aig_base.specs.FirstFault.{IsLeast}
-use Rattle.aig_base.specs.Least.{lesser, latch_variable, gate_variable}
+use Rattle.aig_base.specs.state.Least.{lesser, latch_variable, gate_variable}
 use Rattle.aig_parts.specs.Literal.{variable}
 use Rattle.aig_base.specs.Sections.{definitions}
 use Rattle.aig_parts.specs.declared.gate.Gate.{Gate}

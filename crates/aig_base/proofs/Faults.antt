@@ -12,14 +12,14 @@ use Rattle.aig_parts.specs.declared.gate.Gate.{Gate}
 use Rattle.aig_parts.specs.declared.latch.Latch.{Latch}
 use Rattle.aig_parts.specs.declared.raw.Raw.{Raw}
 use Rattle.aig_base.specs.Circuit.{IsCircuit}
-use Rattle.aig_base.specs.Definition.{IsEntry, IsTable}
-use Rattle.aig_base.specs.Entries.{IsEntryOf, AreEntries}
+use Rattle.aig_base.specs.state.Definitions.{IsEntry, IsTable}
+use Rattle.aig_base.specs.state.Entries.{IsEntryOf, AreEntries}
 use Rattle.aig_base.specs.FirstFault.{IsLeast, HasBadReset, IsUngrounded, Applies, number_of, IsFirstFault}
 use Rattle.aig_parts.specs.Formed.{IsFormed}
 use Rattle.aig_base.specs.Grounded.{Grounded, IsAcyclic}
-use Rattle.aig_base.specs.Least.{IsLeastAmong, IsKnown, IsGroundedGate, gate_variable, latch_variable}
+use Rattle.aig_base.specs.state.Least.{IsLeastAmong, IsKnown, IsGroundedGate, gate_variable, latch_variable}
 use Rattle.aig_parts.specs.Literal.{variable}
-use Rattle.aig_base.specs.Ranged.{AreInRange, AreDefinedOnce, AreDefinitions}
+use Rattle.aig_base.specs.state.Ranged.{AreInRange, AreDefinedOnce, AreDefinitions}
 use Rattle.aig_base.specs.Sections.{definitions, uses, IsDefined}
 use Rattle.aig_base.specs.Sound.{IsInRange, IsDefinition, IsRedefined, IsUndefined, IsReset}
 use Rattle.aig_base.proofs.Counting.{all_defined}

@@ -9,9 +9,9 @@ use Rattle.aig_parts.specs.declared.gate.Gate.{Gate}
 use Rattle.aig_parts.specs.declared.latch.Latch.{Latch}
 use Rattle.aig_parts.specs.declared.raw.Raw.{Raw}
 use Rattle.aig_base.specs.Definition.{Defines, IsFree, IsInOrder}
-use Rattle.aig_base.specs.Least.{ReadsSmaller}
+use Rattle.aig_base.specs.state.Least.{ReadsSmaller}
 use Rattle.aig_parts.specs.Literal.{variable}
-use Rattle.aig_base.specs.Ranged.{AreInRange, AreSectionsInRange, AreDefinedOnce}
+use Rattle.aig_base.specs.state.Ranged.{AreInRange, AreSectionsInRange, AreDefinedOnce}
 use Rattle.aig_base.specs.Renumbered.{evens_from}
 use Rattle.aig_base.specs.Sections.{definitions, uses, IsDefined}
 use Rattle.aig_base.specs.Sound.{IsInRange, IsRedefined}

@@ -6,9 +6,9 @@ use Rattle.std.proofs.lemmas.Bool.{cases_eq}
 use Rattle.std.proofs.lemmas.List.Sums.{sum_by-cons}
 use Rattle.std.proofs.lemmas.Option.{none-some, same_Some}
 use Rattle.aig_base.specs.declared.visits.Visits.{Visits}
-use Rattle.aig_base.specs.Queue.{Queued, IsQueued, copies}
-use Rattle.aig_base.specs.Rewires.{SetsLevel, mark}
-use Rattle.aig_base.specs.Visits.{IsVisited, VisitsAmong}
+use Rattle.aig_base.specs.state.Queue.{Queued, IsQueued, copies}
+use Rattle.aig_base.specs.state.Rewires.{SetsLevel, mark}
+use Rattle.aig_base.specs.state.Visits.{IsVisited, VisitsAmong}
 use Rattle.aig_base.proofs.Gets.{Contains-from_get, get_from_Contains, slice_get-set_same, slice_get-set_other}
 use Rattle.aig_base.proofs.QueueLemmas.{mark_on, mark_off, not_visited, visited_cases, one, one_same, one_other}
 use Rattle.aig_base.proofs.Renewing.{same_cell}

@@ -7,7 +7,7 @@ use Rattle.aig_parts.specs.declared.raw.Raw.{Raw}
 use Rattle.aig_base.specs.Levels.{AreLevels}
 use Rattle.aig_parts.specs.Literal.{variable}
 use Rattle.aig_base.specs.Readers.{AreReaders, ReaderLists, list_of}
-use Rattle.aig_base.specs.Rewires.{IsSide}
+use Rattle.aig_base.specs.state.Rewires.{IsSide}
 use Rattle.aig_base.specs.Sound.{IsSound}
 use Rattle.aig_base.proofs.Gates.{IsGate-of_gate, gate_in_range}
 

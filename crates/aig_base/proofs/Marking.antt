@@ -13,11 +13,11 @@ use Rattle.aig_parts.specs.declared.gate.Gate.{Gate}
 use Rattle.aig_parts.specs.declared.raw.Raw.{Raw}
 use Rattle.aig_base.specs.Grounded as grounded
 use Rattle.aig_base.specs.Grounded.{IsSource, Grounded}
-use Rattle.aig_base.specs.Least.{latch_variable}
-use Rattle.aig_base.specs.Links.{Leads, AreLinks}
+use Rattle.aig_base.specs.state.Least.{latch_variable}
+use Rattle.aig_base.specs.state.Links.{Leads, AreLinks}
 use Rattle.aig_parts.specs.Literal.{variable}
-use Rattle.aig_base.specs.Marks.{IsMarked, AreMarks, sides, AreStarted, AddsMark, Moves, Waits, IsMarking}
-use Rattle.aig_base.specs.Walk.{Meets}
+use Rattle.aig_base.specs.state.Marks.{IsMarked, AreMarks, sides, AreStarted, AddsMark, Moves, Waits, IsMarking}
+use Rattle.aig_base.specs.state.Walk.{Meets}
 use Rattle.aig_base.proofs.Chains.{leads_cases, leads_nowhere, side_first, side_second}
 use Rattle.aig_base.proofs.Entering.{same_or_not}
 use Rattle.aig_base.proofs.Gets.{slice_get-set_same, slice_get-set_other, Contains-from_get, get_from_Contains}

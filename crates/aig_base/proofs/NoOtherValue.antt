@@ -10,7 +10,7 @@ use Rattle.aig_base.specs.Sections.{IsDefined}
 use Rattle.aig_base.specs.Value.{Value, Fits}
 use Rattle.aig_base.proofs.OneValue.{exists_value}
 use Rattle.aig_base.proofs.RenumberedCircuit.{renumbered_circuit}
-use Rattle.aig_base.proofs.RenumberedValues.{renumbered_value}
+use Rattle.aig_base.proofs.RenumberedValueLemmas.{renumbered_value}
 use Rattle.aig_base.proofs.UniqueValue.{unique}
 
 -- the counterpart of a defined literal has no other value

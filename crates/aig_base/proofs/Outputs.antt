@@ -10,8 +10,8 @@ use Rattle.aig_parts.specs.declared.symbols.Kind.{Kind}
 use Rattle.aig_parts.specs.declared.symbols.Kind.TheVariants as kind
 use Rattle.aig_base.specs.Changes.{with_output}
 use Rattle.aig_base.specs.Circuit.{IsCircuit}
-use Rattle.aig_base.specs.Definition.{IsEntry, IsTable}
-use Rattle.aig_base.specs.Definitions.{Tells}
+use Rattle.aig_base.specs.state.Definitions.{IsEntry, IsTable}
+use Rattle.aig_base.specs.state.Definitions.{Tells}
 use Rattle.aig_parts.specs.Formed.{IsFormed, section_length}
 use Rattle.aig_base.specs.Grounded as grounded
 use Rattle.aig_base.specs.Grounded.{IsSource, Grounded}

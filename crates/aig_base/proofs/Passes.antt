@@ -13,16 +13,16 @@ use Rattle.aig_parts.specs.declared.raw.Raw.{Raw}
 use Rattle.aig_base.specs.declared.visits.Visits.{Visits}
 use Rattle.aig_base.specs.Changes.{with_gate}
 use Rattle.aig_base.specs.Circuit.{IsCircuit}
-use Rattle.aig_base.specs.Descent.{level_above}
+use Rattle.aig_base.specs.state.Descent.{level_above}
 use Rattle.aig_base.specs.Grounded as by
 use Rattle.aig_base.specs.Grounded.{IsAcyclic, Level}
 use Rattle.aig_base.specs.Levels.{AreLevels}
 use Rattle.aig_parts.specs.Literal.{variable}
-use Rattle.aig_base.specs.Queue.{IsEmptyQueue, Queued, IsQueued, copies}
+use Rattle.aig_base.specs.state.Queue.{IsEmptyQueue, Queued, IsQueued, copies}
 use Rattle.aig_base.specs.Readers.{AreReaders, ReaderLists, list_of}
-use Rattle.aig_base.specs.Rewires.{HoldsLevel, IsBehind, Renewing, RenewsAt, SetsLevel}
+use Rattle.aig_base.specs.state.Rewires.{HoldsLevel, IsBehind, Renewing, RenewsAt, SetsLevel}
 use Rattle.aig_base.specs.Sections.{IsDefined, IsGate, IsLeftSide}
-use Rattle.aig_base.specs.Visits.{AreNoVisits, AreVisits, IsVisited}
+use Rattle.aig_base.specs.state.Visits.{AreNoVisits, AreVisits, IsVisited}
 use Rattle.aig_base.proofs.BehindLemmas.{acyclic_from_before, changed_level, side_level}
 use Rattle.aig_base.proofs.Defined.{Grounded-of_defined}
 use Rattle.aig_base.proofs.Gates.{IsGate-of_gate, gate_in_range, sides_in_range}

@@ -6,9 +6,9 @@ use Rattle.std.proofs.lemmas.List.Elements.{Contains-append_left, Contains-appen
 use Rattle.std.proofs.lemmas.List.Sorted.{Contains-permutation, length_permutation, IsPermutation-sym, sum_by_pushed}
 use Rattle.std.proofs.lemmas.List.Sorted.{sum_by_popped}
 use Rattle.aig_base.specs.declared.visits.Visits.{Visits}
-use Rattle.aig_base.specs.Queue.{Queued, copies, entry}
-use Rattle.aig_base.specs.Rewires.{Queues, mark}
-use Rattle.aig_base.specs.Visits.{IsVisited, VisitsAmong}
+use Rattle.aig_base.specs.state.Queue.{Queued, copies, entry}
+use Rattle.aig_base.specs.state.Rewires.{Queues, mark}
+use Rattle.aig_base.specs.state.Visits.{IsVisited, VisitsAmong}
 use Rattle.aig_base.proofs.Positions.{Contains-cons}
 use Rattle.aig_base.proofs.Walks.{only_element}
 

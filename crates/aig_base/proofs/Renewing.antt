@@ -10,7 +10,7 @@ use Rattle.aig_base.specs.Grounded.{Grounded, IsSource, IsAcyclic, Level}
 use Rattle.aig_base.specs.Grounded as by
 use Rattle.aig_base.specs.Levels.{AreLevels}
 use Rattle.aig_parts.specs.Literal.{variable}
-use Rattle.aig_base.specs.Rewires.{IsSide, IsBehind, HoldsLevel, IsTouched, Renewing, RenewsAt}
+use Rattle.aig_base.specs.state.Rewires.{IsSide, IsBehind, HoldsLevel, IsTouched, Renewing, RenewsAt}
 use Rattle.aig_base.specs.Sections.{IsDefined, IsLeftSide}
 use Rattle.aig_base.specs.Sound.{IsSound}
 use Rattle.aig_base.proofs.BehindLemmas.{changed_level, side_level}

@@ -3,7 +3,7 @@ use Rattle.std.proofs.Common.{◌≡◌, ◌≢◌, ◌⊎◌, ◌↔◌, ◌≤
 use Rattle.aig_parts.specs.declared.raw.Raw.{Raw}
 use Rattle.aig_parts.specs.Literal.{variable}
 use Rattle.aig_base.specs.Readers.{AreReaders, ReaderLists, list_of}
-use Rattle.aig_base.specs.Rewires.{Renewing, RenewsAt}
+use Rattle.aig_base.specs.state.Rewires.{Renewing, RenewsAt}
 use Rattle.aig_base.proofs.ListedReaders.{listed, reads}
 
 module _ (raw : Raw) (lhs r0 r1 : ℕ) (old row : List ℕ) (waits waits' done done' : ℕ → Type 0)

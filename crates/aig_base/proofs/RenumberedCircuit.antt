@@ -26,7 +26,7 @@ use Rattle.aig_base.proofs.Positions.{unmap}
 use Rattle.aig_base.proofs.Renumberings.{definition_of_place}
 use Rattle.aig_base.proofs.RenumberedParts.{renumbered_formed, variable_bound}
 use Rattle.aig_base.proofs.RenumberedReady.{renumbered_ready, literal_bound}
-use Rattle.aig_base.proofs.RenumberedValues.{false_literal, true_literal}
+use Rattle.aig_base.proofs.RenumberedValueLemmas.{false_literal, true_literal}
 
 -- parts that a binary file can hold, whose literals are in range
 module _ (raw : Raw) (ready : IsBinaryReady raw) (used : All (IsInRange raw) (uses raw)) where

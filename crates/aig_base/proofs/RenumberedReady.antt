@@ -13,7 +13,7 @@ use Rattle.aig_base.specs.Grounded as grounded
 use Rattle.aig_base.specs.Grounded.{Grounded, IsSource, IsAcyclic, Level}
 use Rattle.aig_parts.specs.Literal.{variable, with_sign, IsEven}
 use Rattle.aig_base.specs.Order.{IsCanonicalOrder}
-use Rattle.aig_base.specs.Ready.{SectionsInOrder}
+use Rattle.aig_base.specs.state.Ready.{SectionsInOrder}
 use Rattle.aig_base.specs.Renumbered.{ordered_gates, renumbered, renumbered_gate, renumbered_latch, renumbered_literal}
 use Rattle.aig_base.specs.Renumbered.{renumbered_variable, ready_gate, evens_from, IsBinaryReady}
 use Rattle.aig_base.specs.Sound.{IsSound}

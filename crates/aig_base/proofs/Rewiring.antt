@@ -20,8 +20,9 @@ use Rattle.aig_parts.specs.declared.ternary.Tern.{Tern}
 use Rattle.aig_parts.specs.declared.ternary.Tern.TheVariants.{Zero, One, X}
 use Rattle.aig_base.specs.Changes.{rewired, with_gate, reset_literal, restarted, with_reset}
 use Rattle.aig_base.specs.Circuit.{IsCircuit}
-use Rattle.aig_base.specs.Definition.{Defines, IsEntry, IsTable}
-use Rattle.aig_base.specs.Definitions.{Tells}
+use Rattle.aig_base.specs.Definition.{Defines}
+use Rattle.aig_base.specs.state.Definitions.{IsEntry, IsTable}
+use Rattle.aig_base.specs.state.Definitions.{Tells}
 use Rattle.aig_parts.specs.Formed.{IsFormed, section_length}
 use Rattle.aig_base.specs.Grounded as grounded
 use Rattle.aig_base.specs.Grounded.{IsSource, Grounded, IsAcyclic}

@@ -15,9 +15,9 @@ use Rattle.aig_base.specs.Grounded.{Level}
 use Rattle.aig_base.specs.Levels.{AreLevels}
 use Rattle.aig_parts.specs.Literal.{variable}
 use Rattle.aig_base.specs.Readers.{AreReaders, ReaderLists, list_of}
-use Rattle.aig_base.specs.Rewires.{IsApart, IsBehind, IsSearchUp, IsSide, LooksAt}
+use Rattle.aig_base.specs.state.Rewires.{IsApart, IsBehind, IsSearchUp, IsSide, LooksAt}
 use Rattle.aig_base.specs.Sections.{IsDefined}
-use Rattle.aig_base.specs.Visits.{AreNoVisits, AreVisits, IsFrom, IsVisited, VisitsAmong}
+use Rattle.aig_base.specs.state.Visits.{AreNoVisits, AreVisits, IsFrom, IsVisited, VisitsAmong}
 use Rattle.aig_base.proofs.BehindLemmas.{not_behind, search_begun, search_stepped}
 use Rattle.aig_base.proofs.Defined.{Grounded-of_defined}
 use Rattle.aig_base.proofs.ListedReaders.{listed, reads}

@@ -9,7 +9,8 @@ use Rattle.aig_parts.specs.Literal.{variable}
 use Rattle.aig_base.specs.Sections.{definitions, uses}
 use Rattle.aig_base.specs.Sound.{IsSound, IsInRange}
 use Rattle.aig_base.proofs.Joined.{All-left}
-use Rattle.aig_base.specs.Definition.{Defines, IsFree, IsEntry, IsTable}
+use Rattle.aig_base.specs.Definition.{Defines, IsFree}
+use Rattle.aig_base.specs.state.Definitions.{IsEntry, IsTable}
 
 pub defines_from_entry : (raw : Raw) (v : ℕ) (entry : Option Definition) → IsEntry raw v entry
     → IfSome entry (Defines raw v)

@@ -7,13 +7,14 @@ use Rattle.std.proofs.lemmas.List.FromFn.{length-range_with_len, get_or-range_wi
 use Rattle.smallvec.specs.SmallVec.{SmallVec}
 use Rattle.aig_parts.specs.declared.gate.Gate.{Gate}
 use Rattle.aig_parts.specs.declared.raw.Raw.{Raw}
-use Rattle.aig_base.specs.ListPlaces.{AreTidy}
+use Rattle.aig_base.specs.state.ListPlaces.{AreTidy}
 use Rattle.aig_parts.specs.Literal.{variable}
-use Rattle.aig_base.specs.Readers.{AreTallied, Reads, items_at, tally}
+use Rattle.aig_base.specs.Readers.{Reads}
+use Rattle.aig_base.specs.state.ReaderSlots.{AreTallied, items_at, tally}
 use Rattle.aig_base.specs.Sound.{IsSound, StandsTwice}
 use Rattle.aig_base.proofs.Counting.{length_le}
 use Rattle.aig_base.proofs.Gates.{IsGate-of_gate, gate_in_range, same_gate}
-use Rattle.aig_base.proofs.ListPlaces.{same_place}
+use Rattle.aig_base.proofs.ListPlaceLemmas.{same_place}
 use Rattle.aig_base.proofs.ReaderLists.{count-of_Contains}
 
 two_sides : (a b v x y : ℕ) → (a ≡ v) ⊎ (b ≡ v) → (a ≡ x) ⊎ (b ≡ x) → (a ≡ y) ⊎ (b ≡ y)

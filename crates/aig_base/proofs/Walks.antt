@@ -17,7 +17,7 @@ use Rattle.aig_base.specs.Grounded as by
 use Rattle.aig_parts.specs.Literal.{variable}
 use Rattle.aig_base.specs.Sections.{IsDefined, IsGate, IsLeftSide}
 use Rattle.aig_base.specs.Sound.{IsSound}
-use Rattle.aig_base.specs.Walk.{Meets}
+use Rattle.aig_base.specs.state.Walk.{Meets}
 use Rattle.aig_base.proofs.Defined.{Grounded-of_defined}
 use Rattle.aig_base.proofs.Gates.{defined_in_range, sides_in_range, IsGate-of_gate, gate_of, same_gate, source-gate}
 use Rattle.aig_base.proofs.Positions.{unmap}

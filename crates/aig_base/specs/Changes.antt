@@ -1,5 +1,5 @@
 -- The changes of a circuit: other right sides of a gate, another reset of a latch, another literal at an output, one
--- more gate (profile).
+-- more gate (our own choice).
 use Rattle.std.specs.Prelude.{ℕ, ◌+◌, ◌*◌, [], ◌∷◌, ◌++◌, map, nat_eq, slice_set, if◌then◌else◌}
 use Rattle.aig_parts.specs.declared.gate.Gate.{Gate}
 use Rattle.aig_parts.specs.declared.latch.Latch.{Latch}

@@ -1,5 +1,5 @@
 -- A completion of a start and rows: others of the same lengths, without x, equal to them wherever they are not x
--- (profile).
+-- (our own choice).
 use Rattle.std.specs.Prelude.{◌≡◌, ◌≢◌, List}
 use Rattle.std.specs.List.{AllZip}
 use Rattle.aig_parts.specs.declared.ternary.Tern.{Tern}

@@ -1,5 +1,5 @@
 -- What defines a variable: an input, a latch or a gate, by its position in its section.
-use Rattle.std.specs.Prelude.{◌≡◌, ℕ, ◌+◌, List, length, map, Option, Some, None, Contains, slice_get}
+use Rattle.std.specs.Prelude.{◌≡◌, ℕ, map, Some, Contains, slice_get}
 use Rattle.aig_parts.specs.declared.gate.Gate.{Gate}
 use Rattle.aig_parts.specs.declared.latch.Latch.{Latch}
 use Rattle.aig_parts.specs.declared.raw.Raw.{Raw}
@@ -17,15 +17,6 @@ Defines raw v (definition.Gate q) = (g : Gate) × (slice_get raw.gates q ≡ Som
 -- nothing defines the variable
 abbrev pub IsFree : Raw → ℕ → Type 0
 IsFree raw v = Contains (map variable (definitions raw)) v → ⊥
-
--- an entry for each variable: what defines it, or nothing
-abbrev pub IsEntry : Raw → ℕ → Option Definition → Type 0
-IsEntry raw v None = IsFree raw v
-IsEntry raw v (Some d) = Defines raw v d
-
-pub record IsTable (raw : Raw) (table : List (Option Definition)) : Type 0 where
-  pub size : length table ≡ raw.max_var + 1
-  pub entries : (v : ℕ) (entry : Option Definition) → slice_get table v ≡ Some entry → IsEntry raw v entry
 
 -- inputs, latches and left sides are in order the literals 2, 4, .., 2M
 abbrev pub IsInOrder : Raw → Type 0

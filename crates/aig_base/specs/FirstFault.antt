@@ -1,4 +1,4 @@
--- The fault of parts that are no circuit: the first that applies, in the order of its number (profile).
+-- The fault of parts that are no circuit: the first that applies, in the order of its number (our own choice).
 use Rattle.std.specs.Prelude.{◌≡◌, ℕ, ◌+◌, ◌*◌, ◌<◌, ◌++◌, Any, Some, slice_get}
 use Rattle.aig_parts.specs.declared.latch.Latch.{Latch}
 use Rattle.aig_parts.specs.declared.raw.Raw.{Raw}

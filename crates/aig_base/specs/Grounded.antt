@@ -1,5 +1,5 @@
 -- The variables that rest on inputs and latches alone (AIGER 1.0: gate definitions are not cyclic), and their levels
--- (profile).
+-- (our own choice).
 use Rattle.std.specs.Prelude.{◌≡◌, ℕ, ◌+◌, max, Some, slice_get}
 use Rattle.aig_parts.specs.declared.gate.Gate.{Gate}
 use Rattle.aig_parts.specs.declared.latch.Latch.{Latch}

@@ -1,4 +1,4 @@
--- Levels, a number a variable.
+-- Levels, a number a variable: one more than the greater of a gate's two fan-ins.
 use Rattle.std.specs.Prelude.{◌≡◌, ℕ, ◌+◌, List, length, Some, slice_get}
 use Rattle.aig_parts.specs.declared.raw.Raw.{Raw}
 use Rattle.aig_base.specs.Grounded.{Level}

@@ -1,4 +1,4 @@
--- The limits of frames and cells (profile).
+-- The limits of frames and cells (our own choice).
 use Rattle.std.specs.Prelude.{ℕ}
 
 -- the greatest number of frames of a stimulus, of a witness's run and of an unrolling

@@ -1,4 +1,4 @@
--- The renumbered circuit (profile; its form is what AIGER 1.0 asks of a binary file).
+-- The renumbered circuit (our own choice; its form is what AIGER 1.0 asks of a binary file).
 use Rattle.std.specs.Prelude.{◌≡◌, ℕ, ◌+◌, ◌*◌, ◌<◌, ◌≤◌, List, length, map, Option, find, All, nat_lt, ◌==◌}
 use Rattle.std.specs.Prelude.{if◌then◌else◌}
 use Rattle.std.specs.List.{filter_map, range_with_len}

@@ -1,4 +1,4 @@
--- The value of a literal at a frame (AIGER 1.0 and 1.9, semantics; x is profile).
+-- The value of a literal at a frame: 0, 1 or x, unknown (AIGER 1.0 and 1.9, semantics; x is our own choice).
 use Rattle.std.specs.Prelude.{◌≡◌, ℕ, zero, suc, ◌-◌, ◌<◌, List, map, length, Some, slice_get, All}
 use Rattle.aig_parts.specs.declared.ternary.Tern.{Tern}
 use Rattle.aig_parts.specs.declared.ternary.Tern.TheVariants.{Zero, One, X}

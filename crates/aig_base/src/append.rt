@@ -1,15 +1,16 @@
-//! One more gate in a circuit, its levels and its readers.
+//! One more gate in a circuit, its levels and the fan-outs.
 ghost use Rattle.std.specs.Prelude.{◌≡◌, ◌+◌, ◌<◌, ◌∷◌, ◌++◌, [], ℕ, length, OnErr, OnOk};
 ghost use Rattle.std.specs.Vec.{vec_capacity};
 ghost use Rattle.aig_base.specs.Changes.{next_gate, with_appended_gate};
 ghost use Rattle.aig_parts.specs.Formed.{limit};
 ghost use Rattle.aig_base.specs.Levels.{AreLevels};
 ghost use Rattle.aig_parts.specs.Literal.{variable};
-ghost use Rattle.aig_base.specs.Queue.{IsEmptyQueue};
+ghost use Rattle.aig_base.specs.state.Queue.{IsEmptyQueue};
 ghost use Rattle.aig_base.specs.Readers.{AreReaders, HasRoom};
 ghost use Rattle.aig_base.specs.Sections.{IsDefined};
-ghost use Rattle.aig_base.specs.Visits.{AreNoVisits, FitsOneMore};
+ghost use Rattle.aig_base.specs.state.Visits.{AreNoVisits, FitsOneMore};
 
+use crate::change::forget;
 use crate::circuit::Circuit;
 use crate::level::{Levels, level_over};
 use crate::queue::Queue;
@@ -45,6 +46,7 @@ impl Circuit {
         self.raw.gates.push(gate)?;
         self.definitions.append_gate(position);
         self.raw.max_var += 1;
+        forget(&mut self.levels);
         Ok(())
     }
 }
@@ -82,10 +84,10 @@ fn append_level(levels: &mut Vec<u32>, visits: &mut Visits, level: u32)
     visits.add_variable();
 }
 
-/// Appends a gate with the variable M + 1 at the end of a circuit's gates, and makes M greater by one (profile). The
-/// circuit's levels and readers become those of the new circuit. M is below its limit, and the right sides are defined.
-/// Where memory is wanting, circuit, levels and lists stay; room that was made may stay too. Amortised constant time
-/// and memory.
+/// Appends a gate with the variable M + 1 at the end of a circuit's gates, and makes M greater by one (our own choice).
+/// The circuit's levels and readers become those of the new circuit. M is below its limit, and the right sides are
+/// defined. Where memory is wanting, circuit, levels and lists stay; room that was made may stay too. Amortised
+/// constant time and memory.
 pub fn append_gate(
     circuit: &mut Circuit,
     levels: &mut Levels,

@@ -1,12 +1,12 @@
-//! Which variables are behind a gate.
+//! Which variables are behind a gate: its transitive fan-out.
 ghost use Rattle.std.specs.Prelude.{◌≡◌, ◌⊎◌, ◌<◌, length, All, Contains};
 ghost use Rattle.std.specs.Vec.{vec_capacity};
 ghost use Rattle.std.specs.Bool.{OnTrue, OnFalse};
 ghost use Rattle.aig_base.specs.Levels.{AreLevels};
 ghost use Rattle.aig_base.specs.Readers.{AreReaders};
-ghost use Rattle.aig_base.specs.Rewires.{IsApart, IsBehind, LooksAt};
+ghost use Rattle.aig_base.specs.state.Rewires.{IsApart, IsBehind, LooksAt};
 ghost use Rattle.aig_base.specs.Sections.{IsDefined, IsGate};
-ghost use Rattle.aig_base.specs.Visits.{AreNoVisits, AreVisits, VisitsAmong};
+ghost use Rattle.aig_base.specs.state.Visits.{AreNoVisits, AreVisits, VisitsAmong};
 
 use crate::circuit::Circuit;
 use crate::readers::Readers;

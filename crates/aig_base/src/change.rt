@@ -1,5 +1,5 @@
 //! The changes of a circuit.
-ghost use Rattle.std.specs.Prelude.{◌≡◌, ◌<◌, length};
+ghost use Rattle.std.specs.Prelude.{◌≡◌, ◌<◌, None, length};
 ghost use Rattle.aig_base.specs.Changes.{with_gate, with_output, with_reset, reset_literal};
 ghost use Rattle.aig_base.specs.Grounded.{IsAcyclic};
 ghost use Rattle.aig_parts.specs.Literal.{variable};
@@ -20,9 +20,16 @@ fn reset_for(latch: Lit, value: Tern) -> Lit
     }
 }
 
+/// Forgets the levels that a circuit keeps, where it changes.
+pub(crate) fn forget(levels: &mut Option<Vec<u32>>)
+    ensures { levels.new ≡ None }
+{
+    *levels = None;
+}
+
 impl Circuit {
-    /// Gives a gate, named by its left side, two other right sides (profile). They are defined, and close no cycle, as
-    /// `would_cycle` tells. Constant time, no memory.
+    /// Gives a gate, named by its left side, two other right sides (our own choice). They are defined, and close no
+    /// cycle, as `would_cycle` tells. Constant time, no memory.
     pub fn replace_gate(&mut self, gate: Lit, r0: Lit, r1: Lit)
         requires gate { IsLeftSide self.old gate }
         requires defined0 { IsDefined self.old (variable r0) }
@@ -38,12 +45,13 @@ impl Circuit {
                     rhs1: r1,
                 };
                 self.raw.gates.set(position as usize, rewired);
+                forget(&mut self.levels);
             }
         }
     }
 
-    /// Lets a latch, named by its literal, start at another value (profile); x is uninitialised (AIGER 1.9, resets).
-    /// Constant time, no memory.
+    /// Lets a latch, named by its literal, start at another value (our own choice); x is uninitialised (AIGER 1.9,
+    /// resets). Constant time, no memory.
     pub fn replace_reset(&mut self, latch: Lit, value: Tern)
         requires { IsLatchLiteral self.old latch }
         ensures { self.new ≡ with_reset self.old latch value }
@@ -56,16 +64,19 @@ impl Circuit {
                     reset: reset_for(latch, value),
                 };
                 self.raw.latches.set(position as usize, restarted);
+                forget(&mut self.levels);
             }
         }
     }
 
-    /// Replaces the output at a position, counted from 0, by another literal (profile). Constant time, no memory.
+    /// Replaces the output at a position, counted from 0, by another literal (our own choice). Constant time, no
+    /// memory.
     pub fn replace_output(&mut self, position: u32, lit: Lit)
         requires position { position < length self.old.outputs }
         requires defined { IsDefined self.old (variable lit) }
         ensures { self.new ≡ with_output self.old position lit }
     {
         self.raw.outputs.set(position as usize, lit);
+        forget(&mut self.levels);
     }
 }

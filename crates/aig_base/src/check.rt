@@ -1,16 +1,19 @@
-//! The test of parts.
-ghost use Rattle.std.specs.Prelude.{◌≡◌, ◌≢◌, ◌≤◌, ◌↔◌, None, map, All, IsTrue, IfOk, IfErr, OnOk};
+//! The test of parts: whether they are a circuit, or the first fault.
+ghost use Rattle.std.specs.Prelude.{◌≡◌, ◌≢◌, ◌≤◌, ◌↔◌, None, map, All, IsTrue, IfOk, IfErr, IfSome, OnOk};
 ghost use Rattle.aig_base.specs.Circuit.{IsCircuit};
-ghost use Rattle.aig_base.specs.Definition.{IsInOrder, IsTable};
-ghost use Rattle.aig_base.specs.Definitions.{Tells};
-ghost use Rattle.aig_base.specs.Entries.{AreEntries};
+ghost use Rattle.aig_base.specs.Definition.{IsInOrder};
+ghost use Rattle.aig_base.specs.state.Definitions.{IsTable};
+ghost use Rattle.aig_base.specs.state.Definitions.{Tells};
+ghost use Rattle.aig_base.specs.state.Entries.{AreEntries};
 ghost use Rattle.aig_base.specs.FirstFault.{IsFirstFault};
 ghost use Rattle.aig_parts.specs.Formed.{IsFormed, CountsFit};
-ghost use Rattle.aig_base.specs.Least.{IsLeastAmong, IsKnown, IsGroundedGate, ReadsSmaller, gate_variable};
+ghost use Rattle.aig_base.specs.Levels.{AreLevels};
+ghost use Rattle.aig_base.specs.state.Least.{IsLeastAmong, IsKnown, IsGroundedGate, ReadsSmaller, gate_variable};
 ghost use Rattle.aig_parts.specs.Literal.{variable};
-ghost use Rattle.aig_base.specs.Ranged.{AreInRange, AreSectionsInRange, AreDefinedOnce, AreDefinitions};
+ghost use Rattle.aig_base.specs.state.Ranged.{AreInRange, AreSectionsInRange, AreDefinedOnce, AreDefinitions};
 ghost use Rattle.aig_base.specs.Sections.{definitions, uses, IsDefined};
 ghost use Rattle.aig_base.specs.Sound.{IsDefinition};
+ghost use Rattle.aig_base.specs.state.TriedLevels.{AreStepped};
 
 use crate::circuit::Circuit;
 use crate::definition::Definition;
@@ -19,11 +22,18 @@ use crate::entries::Entries;
 use crate::grounded::grounded_marks;
 use crate::least::{least_bad_reset, least_undefined, least_unmarked};
 use crate::ordered::{is_ascending, test_ascending};
-use crate::ranks::{all_ascend, ranks};
 use crate::ready::definitions_in_order;
+use crate::tried_levels::{are_levels, tried_levels};
 use aig_bytes::Memory;
 use aig_parts::{Fault, Gate, Latch, List, Lit, Raw};
 use std::alloc::Global;
+
+// What the test finds that a circuit keeps.
+#[derive(Drop)]
+struct Kept {
+    definitions: Definitions,
+    levels: Option<Vec<u32>>,
+}
 
 fn within(literals: &[Lit], greatest: u32) -> bool
     ensures { IsTrue result ↔ All (λ l. l ≤ greatest) literals.now }
@@ -105,21 +115,26 @@ fn are_ascending(gates: &[Gate]) -> bool
     gates.iter().all(|gate| reads_smaller(*gate))
 }
 
-// The least gate variable that is not grounded. Where gates have greater ranks than what they read, there is none.
+// The levels of the variables, where they are found.
+fn found_levels(alloc: Global, raw: &Raw) -> Result<Option<Vec<u32>>, Memory>
+    requires counts { CountsFit raw.now }
+    requires range { AreInRange raw.now }
+    ensures { IfOk result (λ found. IfSome found (λ levels. AreStepped raw.now levels.items)) }
+{
+    let levels = tried_levels(alloc, raw)?;
+    if are_levels(&levels, raw) {
+        return Ok(Some(levels));
+    }
+    Ok(None)
+}
+
+// The least gate variable that is not grounded.
 fn least_ungrounded(alloc: Global, raw: &Raw) -> Result<Option<u32>, Memory>
     requires counts { CountsFit raw.now }
     requires range { AreInRange raw.now }
-    requires defined { All (λ l. IsDefined raw.now (variable l)) (uses raw.now) }
     ensures { IfOk result (IsLeastAmong (IsGroundedGate raw.now) gate_variable raw.now.gates) }
 {
     let gates = raw.gates.as_slice();
-    if are_ascending(gates) {
-        return Ok(None);
-    }
-    let ranks = ranks(alloc, raw.max_var, gates)?;
-    if all_ascend(&ranks, gates) {
-        return Ok(None);
-    }
     let marks = grounded_marks(
         alloc,
         raw.max_var,
@@ -195,40 +210,55 @@ fn tested_definitions(alloc: Global, raw: &Raw) -> Result<Definitions, Fault>
     Ok(Definitions::Listed(table))
 }
 
-// Whether the parts are a circuit, where each variable is known to be defined once: or their first fault.
-fn test_resets_and_cycles(alloc: Global, raw: &Raw) -> Result<(), Fault>
+// That the parts are a circuit, where each variable is known to be defined once, or their first fault. Where a gate
+// does not read smaller variables alone, that there is no cycle is seen by the levels.
+fn test_resets_and_cycles(alloc: Global, raw: &Raw) -> Result<Option<Vec<u32>>, Fault>
     requires formed { IsFormed raw.now }
     requires range { AreInRange raw.now }
     requires once { AreDefinedOnce raw.now }
     ensures circuit { OnOk result (IsCircuit raw.now) }
+    ensures levels { IfOk result (λ found. IfSome found (λ levels. AreLevels raw.now levels.items)) }
     ensures fault { IfErr result (λ fault. fault ≢ Fault.Memory → IsFirstFault raw.now fault) }
 {
     if let Some(variable) = least_bad_reset(raw.latches.as_slice()) {
         return Err(Fault::Reset(variable));
     }
-    if let Some(variable) = least_ungrounded(alloc, raw)? {
-        return Err(Fault::Cycle(variable));
+    if are_ascending(raw.gates.as_slice()) {
+        return Ok(None);
     }
-    Ok(())
+    if let Some(levels) = found_levels(alloc, raw)? {
+        return Ok(Some(levels));
+    }
+    match least_ungrounded(alloc, raw)? {
+        Some(variable) => Err(Fault::Cycle(variable)),
+        None => Ok(None),
+    }
 }
 
-// The definitions of these parts, or their first fault.
-fn tested(alloc: Global, raw: &Raw) -> Result<Definitions, Fault>
+// What a circuit of these parts keeps, or their first fault.
+fn tested(alloc: Global, raw: &Raw) -> Result<Kept, Fault>
     requires { IsFormed raw.now }
     ensures circuit { OnOk result (IsCircuit raw.now) }
-    ensures tells { IfOk result (Tells raw.now) }
+    ensures tells { IfOk result (λ kept. Tells raw.now kept.definitions) }
+    ensures levels { IfOk result (λ kept. IfSome kept.levels (λ levels. AreLevels raw.now levels.items)) }
     ensures fault { IfErr result (λ fault. fault ≢ Fault.Memory → IsFirstFault raw.now fault) }
 {
     if is_ascending(raw) {
         test_ascending(raw)?;
-        return Ok(Definitions::InOrder);
+        return Ok(Kept {
+            definitions: Definitions::InOrder,
+            levels: None,
+        });
     }
     if !are_in_range(raw) {
         return Err(Fault::Range);
     }
     let definitions = tested_definitions(alloc, raw)?;
-    test_resets_and_cycles(alloc, raw)?;
-    Ok(definitions)
+    let levels = test_resets_and_cycles(alloc, raw)?;
+    Ok(Kept {
+        definitions,
+        levels,
+    })
 }
 
 impl Circuit {
@@ -241,7 +271,14 @@ impl Circuit {
         ensures circuit { IfOk result IsCircuit }
         ensures fault { IfErr result (λ fault. fault ≢ Fault.Memory → IsFirstFault raw fault) }
     {
-        let definitions = tested(alloc, &raw)?;
-        Ok(Circuit { raw, definitions })
+        let Kept {
+            definitions,
+            levels,
+        } = tested(alloc, &raw)?;
+        Ok(Circuit {
+            raw,
+            definitions,
+            levels,
+        })
     }
 }

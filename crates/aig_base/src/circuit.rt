@@ -2,6 +2,7 @@
 ghost use Rattle.std.specs.Prelude.{◌≡◌, ◌<◌, ◌≤◌, Contains, IsTrue, IfSome, IfNone, option_copied};
 ghost use Rattle.aig_base.specs.Circuit.{IsCircuit};
 ghost use Rattle.aig_base.specs.Definition.{Defines, IsFree, IsInOrder};
+ghost use Rattle.aig_base.specs.Levels.{AreLevels};
 ghost use Rattle.aig_base.specs.Renumbered.{IsBinaryReady};
 
 use crate::definition::Definition;
@@ -15,6 +16,8 @@ use std::marker::Model;
 pub struct Circuit {
     pub(crate) raw: Raw,
     pub(crate) definitions: Definitions,
+    // The levels of its variables, where the check found them; a change drops them.
+    pub(crate) levels: Option<Vec<u32>>,
 }
 
 impl Model for Circuit {
@@ -22,12 +25,15 @@ impl Model for Circuit {
 
     ghost Value = { Raw };
 
+    ghost use Rattle.std.specs.Prelude.{IfSome};
     ghost use Rattle.aig_base.specs.Circuit.{IsCircuit};
-    ghost use Rattle.aig_base.specs.Definitions.{Tells};
+    ghost use Rattle.aig_base.specs.Levels.{AreLevels};
+    ghost use Rattle.aig_base.specs.state.Definitions.{Tells};
 
     ghost view = { λ a. a.raw };
 
-    ghost invariant = { λ a. IsCircuit a.raw × Tells a.raw a.definitions };
+    ghost invariant = { λ a.
+        IsCircuit a.raw × Tells a.raw a.definitions × IfSome a.levels (λ l. AreLevels a.raw l.items) };
 }
 
 impl Circuit {
@@ -41,6 +47,7 @@ impl Circuit {
         Circuit {
             raw,
             definitions: Definitions::InOrder,
+            levels: None,
         }
     }
 
@@ -58,6 +65,16 @@ impl Circuit {
         ensures { IsTrue result → IsInOrder self.now }
     {
         matches!(self.definitions, Definitions::InOrder)
+    }
+
+    /// The levels of the variables, if the circuit keeps them.
+    pub(crate) fn kept_levels(&self) -> Option<&[u32]>
+        ensures { IfSome result (λ levels. AreLevels self.now levels.now) }
+    {
+        match &self.levels {
+            Some(levels) => Some(levels.as_slice()),
+            None => None,
+        }
     }
 
     /// The input literals in order.

@@ -1,4 +1,4 @@
-//! Whether a change of a gate would close a cycle.
+//! Whether other fan-ins of a gate would close a combinational cycle.
 ghost use Rattle.std.specs.Prelude.{IfOk};
 ghost use Rattle.std.specs.Bool.{OnTrue, OnFalse};
 ghost use Rattle.aig_base.specs.Changes.{with_gate};

@@ -3,7 +3,7 @@ ghost use Rattle.std.specs.Prelude.{ℕ, ◌≡◌, length, IfNone, IfSome, OnOk
 ghost use Rattle.aig_base.specs.Changes.{with_appended_gate};
 ghost use Rattle.aig_base.specs.Circuit.{IsCircuit};
 ghost use Rattle.aig_base.specs.Definition.{Defines, IsFree, IsInOrder};
-ghost use Rattle.aig_base.specs.Definitions.{FitsOneDefinition, Tells};
+ghost use Rattle.aig_base.specs.state.Definitions.{FitsOneDefinition, Tells};
 ghost use Rattle.aig_parts.specs.Formed.{CountsFit};
 ghost use Rattle.aig_parts.specs.declared.raw.Raw.{Raw};
 

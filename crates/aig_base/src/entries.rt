@@ -1,11 +1,11 @@
 //! The table of definitions.
 ghost use Rattle.std.specs.Prelude.{◌≡◌, ◌∷◌, ◌++◌, ◌<◌, ◌≤◌, List, [], ℕ, length, map, IfOk};
 ghost use Rattle.aig_base.specs.Definition.{Defines};
-ghost use Rattle.aig_base.specs.Entries.{AreEntries};
+ghost use Rattle.aig_base.specs.state.Entries.{AreEntries};
 ghost use Rattle.aig_parts.specs.Formed.{CountsFit, limit};
-ghost use Rattle.aig_base.specs.Least.{gate_variable, latch_variable};
+ghost use Rattle.aig_base.specs.state.Least.{gate_variable, latch_variable};
 ghost use Rattle.aig_parts.specs.Literal.{variable};
-ghost use Rattle.aig_base.specs.Ranged.{AreInRange};
+ghost use Rattle.aig_base.specs.state.Ranged.{AreInRange};
 ghost use Rattle.aig_base.specs.Sections.{definitions};
 ghost use Rattle.aig_parts.specs.declared.raw.Raw.{Raw};
 

@@ -1,12 +1,12 @@
-//! Which variables are grounded.
+//! Which variables are grounded: their transitive fan-in ends at inputs, latches and the constant.
 ghost use Rattle.std.specs.Prelude.{◌≡◌, ◌↔◌, IsTrue, ◌+◌, ◌/◌, ◌∷◌, ◌++◌, ◌<◌, ◌≤◌, List, [], ℕ, suc, Some, length};
 ghost use Rattle.std.specs.Prelude.{map, All, slice_get, IfOk, OnOk};
 ghost use Rattle.aig_parts.specs.Formed.{limit};
-ghost use Rattle.aig_base.specs.Least.{latch_variable};
-ghost use Rattle.aig_base.specs.Links.{AreLinks};
+ghost use Rattle.aig_base.specs.state.Least.{latch_variable};
+ghost use Rattle.aig_base.specs.state.Links.{AreLinks};
 ghost use Rattle.aig_parts.specs.Literal.{variable};
-ghost use Rattle.aig_base.specs.Marks.{sides, AreMarks, HasParts, IsGateBelow, AreStarted, AddsMark, Moves, IsMarked};
-ghost use Rattle.aig_base.specs.Marks.{IsMarking};
+ghost use Rattle.aig_base.specs.state.Marks.{sides, AreMarks, HasParts, IsGateBelow, AreStarted, AddsMark, Moves, IsMarked};
+ghost use Rattle.aig_base.specs.state.Marks.{IsMarking};
 ghost use Rattle.aig_parts.specs.declared.raw.Raw.{Raw};
 
 use crate::links::Links;

@@ -17,14 +17,14 @@ pub fn law_of_one_value()
 {}
 
 /// A value that is not x is the value under every completion: whatever the x of the start and the rows turn out to be,
-/// it stays (profile). It holds of any parts, sound or not.
+/// it stays (our own choice). It holds of any parts, sound or not.
 pub fn law_of_completion()
     ensures stays { (raw : Raw) (start start' : List Tern) (rows rows' : List (List Tern)) →
         IsCompletion start rows start' rows' → KnownValuesStay raw start rows start' rows' }
 {}
 
 /// A variable has a level exactly where it is grounded. In sound parts it has one level, and there is at most one
-/// canonical order of the gates (profile).
+/// canonical order of the gates (our own choice).
 pub fn law_of_levels()
     ensures level { (raw : Raw) (v : ℕ) → Grounded raw v → (n : ℕ) × Level raw v n }
     ensures grounded { (raw : Raw) (v n : ℕ) → Level raw v n → Grounded raw v }
@@ -33,7 +33,7 @@ pub fn law_of_levels()
         IsSound raw → IsCanonicalOrder raw a → IsCanonicalOrder raw b → a ≡ b }
 {}
 
-/// Sound and acyclic parts have no fault, and parts that have none are sound and acyclic (profile).
+/// Sound and acyclic parts have no fault, and parts that have none are sound and acyclic (our own choice).
 pub fn law_of_faults()
     ensures circuit { (raw : Raw) → IsSound raw → IsAcyclic raw → HasNoFault raw }
     ensures sound { (raw : Raw) → HasNoFault raw → IsSound raw }

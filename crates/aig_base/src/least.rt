@@ -1,9 +1,9 @@
 //! The least variable of a section that fails a test.
 ghost use Rattle.std.specs.Prelude.{◌≡◌, ◌+◌, ◌∷◌, ◌<◌, ◌↔◌, [], length, map, All, IsTrue, slice_get};
 ghost use Rattle.std.specs.List.{flat_map};
-ghost use Rattle.aig_base.specs.Least.{lesser, IsLeastAmong, IsKnown, IsMarkedGate, gate_variable, latch_variable};
+ghost use Rattle.aig_base.specs.state.Least.{lesser, IsLeastAmong, IsKnown, IsMarkedGate, gate_variable, latch_variable};
 ghost use Rattle.aig_parts.specs.Literal.{variable};
-ghost use Rattle.aig_base.specs.Ranged.{AreInRange};
+ghost use Rattle.aig_base.specs.state.Ranged.{AreInRange};
 ghost use Rattle.aig_base.specs.Sections.{uses};
 ghost use Rattle.aig_base.specs.Sound.{IsReset};
 

@@ -1,6 +1,6 @@
-//! Levels of variables.
+//! Levels of variables: the longest way down the fan-ins to an input, a latch or the constant.
 ghost use Rattle.std.specs.Prelude.{◌≡◌, ◌⊎◌, ◌<◌, ◌^◌, length, Some, slice_get, IfNone, IfOk, IfSome, OnOk};
-ghost use Rattle.aig_base.specs.Descent.{level_above, IsDescent, IsMet, Settles};
+ghost use Rattle.aig_base.specs.state.Descent.{level_above, IsDescent, IsMet, Settles};
 ghost use Rattle.aig_base.specs.Levels.{AreLevels};
 ghost use Rattle.aig_parts.specs.Literal.{variable};
 
@@ -14,7 +14,7 @@ use std::alloc::Global;
 use std::marker::Model;
 
 /// The levels of a circuit's variables: 0 for variable 0, an input or a latch, one more than the greater level of its
-/// right sides for a gate (profile).
+/// right sides for a gate (our own choice).
 #[derive(Drop)]
 pub struct Levels {
     pub(crate) levels: Vec<u32>,
@@ -29,8 +29,8 @@ impl Model for Levels {
     ghost Value = { List ℕ };
 
     ghost use Rattle.std.specs.Prelude.{length};
-    ghost use Rattle.aig_base.specs.Queue.{IsEmptyQueue};
-    ghost use Rattle.aig_base.specs.Visits.{AreNoVisits};
+    ghost use Rattle.aig_base.specs.state.Queue.{IsEmptyQueue};
+    ghost use Rattle.aig_base.specs.state.Visits.{AreNoVisits};
 
     ghost view = { λ a. a.levels.items };
 
@@ -38,8 +38,8 @@ impl Model for Levels {
         AreNoVisits (length a.levels.items) a.visits × IsEmptyQueue (length a.levels.items) a.queue };
 }
 
-/// The variable of a right side that was not met.
-pub(crate) fn unmet_side(met: &[bool], gate: &Gate) -> Option<u32>
+// The variable of a right side that was not met.
+fn unmet_side(met: &[bool], gate: &Gate) -> Option<u32>
     requires first { variable gate.now.rhs0 < length met.now }
     requires second { variable gate.now.rhs1 < length met.now }
     ensures side { IfSome result (λ v. (v ≡ variable gate.now.rhs0) ⊎ (v ≡ variable gate.now.rhs1)) }
@@ -57,7 +57,7 @@ pub(crate) fn unmet_side(met: &[bool], gate: &Gate) -> Option<u32>
     None
 }
 
-// One more than the greater level of the right sides.
+/// One more than the greater level of the right sides.
 pub(crate) fn level_over(levels: &[u32], gate: &Gate) -> u32
     requires first { variable gate.now.rhs0 < length levels.now }
     requires second { variable gate.now.rhs1 < length levels.now }
@@ -91,21 +91,38 @@ fn settle(circuit: &Circuit, walk: &mut Walk, levels: &mut [u32]) -> Result<(), 
     Ok(())
 }
 
+/// The levels of a circuit, found by a walk.
+pub(crate) fn walked_levels(alloc: Global, circuit: &Circuit) -> Result<Vec<u32>, Memory>
+    ensures { IfOk result (λ levels. AreLevels circuit.now levels.items) }
+{
+    let max_var = circuit.max_var();
+    let mut walk = Walk::new(alloc, max_var)?;
+    let mut levels = vec![in alloc; 0; max_var as usize + 1]?;
+    for variable in 0..max_var + 1 {
+        walk.meet(variable)?;
+        settle(circuit, &mut walk, &mut levels)?;
+    }
+    Ok(levels)
+}
+
+// The levels of a circuit: those that it keeps, or else found.
+fn level_list(alloc: Global, circuit: &Circuit) -> Result<Vec<u32>, Memory>
+    ensures { IfOk result (λ levels. AreLevels circuit.now levels.items) }
+{
+    match circuit.kept_levels() {
+        Some(levels) => Ok(Vec::from_slice(alloc, levels)?),
+        None => walked_levels(alloc, circuit),
+    }
+}
+
 impl Levels {
     /// The levels of a circuit, in time and memory linear in it, with room for `rewire`.
     pub fn of(alloc: Global, circuit: &Circuit) -> Result<Levels, Memory>
         ensures { IfOk result (AreLevels circuit.now) }
     {
-        let max_var = circuit.max_var();
-        let mut walk = Walk::new(alloc, max_var)?;
-        let size = max_var as usize + 1;
-        let mut levels = vec![in alloc; 0; size]?;
-        for variable in 0..max_var + 1 {
-            walk.meet(variable)?;
-            settle(circuit, &mut walk, &mut levels)?;
-        }
+        let size = circuit.max_var() as usize + 1;
         Ok(Levels {
-            levels,
+            levels: level_list(alloc, circuit)?,
             visits: Visits::new(alloc, size)?,
             queue: Queue::new(alloc, size)?,
         })

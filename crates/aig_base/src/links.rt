@@ -2,9 +2,9 @@
 ghost use Rattle.std.specs.Prelude.{◌≡◌, ◌+◌, ◌*◌, ◌^◌, ◌∷◌, ◌++◌, ◌<◌, ◌≤◌, List, [], ℕ, Some, length, All, slice_get};
 ghost use Rattle.std.specs.Prelude.{IfOk, OnOk};
 ghost use Rattle.aig_parts.specs.Formed.{limit};
-ghost use Rattle.aig_base.specs.Links.{AreLinks};
+ghost use Rattle.aig_base.specs.state.Links.{AreLinks};
 ghost use Rattle.aig_parts.specs.Literal.{variable};
-ghost use Rattle.aig_base.specs.Marks.{sides, IsGateBelow};
+ghost use Rattle.aig_base.specs.state.Marks.{sides, IsGateBelow};
 
 use aig_bytes::Memory;
 use aig_parts::Gate;

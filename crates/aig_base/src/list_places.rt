@@ -1,7 +1,7 @@
 //! Where gates stand in long lists.
 ghost use Rattle.std.specs.Prelude.{◌≡◌, ◌≢◌, ◌⊎◌, ◌↔◌, ℕ, ◌*◌, ◌^◌, ◌<◌, ◌≤◌, length, Some, slice_get};
 ghost use Rattle.std.specs.Prelude.{slice_index_or, IsTrue, IfNone, IfSome, OnErr, OnOk};
-ghost use Rattle.aig_base.specs.ListPlaces.{Extends, HasPlace, Renews, Writes, short};
+ghost use Rattle.aig_base.specs.state.ListPlaces.{Extends, HasPlace, Renews, Writes, short};
 
 use aig_bytes::Memory;
 

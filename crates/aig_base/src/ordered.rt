@@ -4,7 +4,7 @@ ghost use Rattle.aig_base.specs.Circuit.{IsCircuit};
 ghost use Rattle.aig_base.specs.Definition.{IsInOrder};
 ghost use Rattle.aig_base.specs.FirstFault.{IsFirstFault};
 ghost use Rattle.aig_parts.specs.Formed.{CountsFit, IsFormed};
-ghost use Rattle.aig_base.specs.Least.{ReadsSmaller};
+ghost use Rattle.aig_base.specs.state.Least.{ReadsSmaller};
 ghost use Rattle.aig_base.specs.Renumbered.{evens_from};
 
 use crate::check::{reads_smaller, sections_are_in_range};

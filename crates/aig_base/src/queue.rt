@@ -1,6 +1,6 @@
 //! Gates that wait for their turn, the one of the least level first.
 ghost use Rattle.std.specs.Prelude.{◌≡◌, ℕ, ◌<◌, ◌≤◌, ◌∷◌, [], length, All, IfOk, IfSome, IfNone, OnOk, IsPermutation};
-ghost use Rattle.aig_base.specs.Queue.{IsEmptyQueue, entry};
+ghost use Rattle.aig_base.specs.state.Queue.{IsEmptyQueue, entry};
 
 use aig_bytes::Memory;
 use std::alloc::Global;
@@ -16,7 +16,7 @@ pub(crate) struct Queue {
 impl Model for Queue {
     ghost use Rattle.std.specs.Ordering.{nat_cmp, ordering_then};
     ghost use Rattle.std.specs.BinaryHeap.{IsHeap, heap_items, heap_capacity};
-    ghost use Rattle.aig_base.specs.Queue.{Queued};
+    ghost use Rattle.aig_base.specs.state.Queue.{Queued};
 
     ghost Value = { Queued };
 

@@ -2,7 +2,7 @@
 ghost use Rattle.std.specs.Prelude.{◌≡◌, ℕ, ◌+◌, ◌*◌, ◌^◌, ◌<◌, ◌≤◌, ◌↔◌, length, map, All, IsTrue};
 ghost use Rattle.aig_base.specs.Definition.{IsInOrder};
 ghost use Rattle.aig_parts.specs.Formed.{limit};
-ghost use Rattle.aig_base.specs.Ready.{SectionsInOrder};
+ghost use Rattle.aig_base.specs.state.Ready.{SectionsInOrder};
 ghost use Rattle.aig_base.specs.Renumbered.{evens_from, IsBinaryReady};
 
 use crate::circuit::Circuit;

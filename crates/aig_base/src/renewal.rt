@@ -3,11 +3,11 @@ ghost use Rattle.std.specs.Prelude.{◌≡◌, ◌+◌, ◌<◌, ◌≤◌, ◌�
 ghost use Rattle.aig_base.specs.Changes.{with_gate};
 ghost use Rattle.aig_base.specs.Levels.{AreLevels};
 ghost use Rattle.aig_parts.specs.Literal as literal;
-ghost use Rattle.aig_base.specs.Queue.{IsEmptyQueue};
+ghost use Rattle.aig_base.specs.state.Queue.{IsEmptyQueue};
 ghost use Rattle.aig_base.specs.Readers.{AreReaders, list_of};
-ghost use Rattle.aig_base.specs.Rewires.{IsBehind, Queues, SetsLevel};
+ghost use Rattle.aig_base.specs.state.Rewires.{IsBehind, Queues, SetsLevel};
 ghost use Rattle.aig_base.specs.Sections.{IsDefined, IsLeftSide};
-ghost use Rattle.aig_base.specs.Visits.{AreNoVisits, AreVisits};
+ghost use Rattle.aig_base.specs.state.Visits.{AreNoVisits, AreVisits};
 
 use crate::circuit::Circuit;
 use crate::level::level_over;

@@ -5,8 +5,7 @@ ghost use Rattle.aig_base.specs.Renumbered.{renumbered, IsBinaryReady};
 ghost use Rattle.aig_base.specs.RenumberingTable.{renumbered_by, AreListed};
 
 use crate::circuit::Circuit;
-use crate::level::Levels;
-use crate::order::canonical_order;
+use crate::order::order_of;
 use crate::renumbering_parts::{
     copied_comment, copied_symbols, new_gates, new_justice, new_latches, new_literals,
 };
@@ -52,8 +51,7 @@ pub fn renumber(alloc: Global, circuit: &Circuit) -> Result<Circuit, Memory>
 {
     // Its contract tells that the parts are a circuit.
     let _max_var = circuit.max_var();
-    let levels = Levels::of(alloc, circuit)?;
-    let order = canonical_order(alloc, circuit, &levels)?;
+    let order = order_of(alloc, circuit)?;
     let table = renumbered_variables(alloc, circuit, &order)?;
     let parts = renumbered_parts(alloc, circuit, &order, &table)?;
     Ok(Circuit::of_ready(parts))

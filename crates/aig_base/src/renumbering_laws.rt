@@ -10,7 +10,7 @@ ghost use Rattle.aig_base.specs.Sound.{IsSound};
 ghost use Rattle.aig_base.specs.Value.{Fits, start_of};
 
 /// A renumbered circuit is a circuit that a binary file can hold, and from the same start and rows each literal's
-/// counterpart has its value at every frame, and no other. Its start by resets is the circuit's (profile).
+/// counterpart has its value at every frame, and no other. Its start by resets is the circuit's (our own choice).
 pub fn law_of_renumbering()
     ensures circuit { (raw : Raw) (order : List ℕ) →
         IsCircuit raw → IsCanonicalOrder raw order → IsCircuit (renumbered raw order) }

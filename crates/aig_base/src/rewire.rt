@@ -1,4 +1,4 @@
-//! Levels of a circuit in which a gate gets other right sides.
+//! Levels of a circuit in which a gate gets other right sides, its fan-ins.
 ghost use Rattle.std.specs.Prelude.{◌≡◌, OnErr, OnOk};
 ghost use Rattle.aig_base.specs.Changes.{with_gate};
 ghost use Rattle.aig_base.specs.Grounded.{IsAcyclic};

@@ -1,8 +1,8 @@
 //! Visits of variables that take no memory and are taken back.
 ghost use Rattle.std.specs.Prelude.{ℕ, ◌<◌, ◌≤◌, ◌∷◌, [], length, All, IfOk, OnOk, ◌≡◌, ◌+◌, not, count_by};
 ghost use Rattle.std.specs.Vec.{vec_capacity};
-ghost use Rattle.aig_base.specs.Descent.{IsMet};
-ghost use Rattle.aig_base.specs.Visits.{AreNoVisits, AreVisits, FitsOneMore, IsFrom, IsVisited, VisitsAmong};
+ghost use Rattle.aig_base.specs.state.Descent.{IsMet};
+ghost use Rattle.aig_base.specs.state.Visits.{AreNoVisits, AreVisits, FitsOneMore, IsFrom, IsVisited, VisitsAmong};
 
 use aig_bytes::Memory;
 use std::alloc::Global;

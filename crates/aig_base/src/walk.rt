@@ -1,6 +1,6 @@
 //! Walks over the variables of a circuit.
 ghost use Rattle.std.specs.Prelude.{◌≡◌, ◌+◌, ◌<◌, [], false, length, replicate, IfOk, OnOk};
-ghost use Rattle.aig_base.specs.Walk.{Meets};
+ghost use Rattle.aig_base.specs.state.Walk.{Meets};
 
 use aig_bytes::Memory;
 use std::alloc::Global;

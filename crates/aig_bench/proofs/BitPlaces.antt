@@ -6,7 +6,7 @@ use Rattle.std.proofs.lemmas.List.{get_or_read, get_or_past}
 use Rattle.std.proofs.lemmas.Nat.{div-add-mod', pow_pos}
 use Rattle.std.proofs.lemmas.Nat.Bits.{bit_at_cat_high, bit_at-trailing_zeros, bit_at-zero, bit_at_above, bit_at_set_same, bit_at_set_other, bit_at_clear_same, bit_at_clear_other}
 use Rattle.std.proofs.Math.Nat.{mod-lt, div-le_self}
-use Rattle.aig_bench.specs.LevelSet.{HasBit, HasNone, IsFirstPlace, IsFirstFrom, IsFirstInWord, IsLevelSet}
+use Rattle.aig_bench.specs.state.LevelSet.{HasBit, HasNone, IsFirstPlace, IsFirstFrom, IsFirstInWord, IsLevelSet}
 
 differ : (n : ℕ) → n ≡ 0 → n ≡ 1 → ⊥
 differ n a b = omega arith
@@ -183,16 +183,6 @@ none_then words from mid end h k n le lt has = elim (less_or n mid) [
   | inr above ↦ k n above lt has
 ]
 
-pub first_of_word : (words : List ℕ) (from n : ℕ) → IsFirstInWord words from (Some n) → IsFirstFrom words from (Some n)
-first_of_word words from n (le, lt, has, none) = (le, has, none)
-
--- a word further: none in this one
-pub none_more : (words : List ℕ) (from word : ℕ) → HasNone words from (word * 64) → IsFirstInWord words (word * 64) None
-    → HasNone words from ((word + 1) * 64)
-none_more words from word h k =
-    none_then words from (word * 64) ((word + 1) * 64) h
-    (λ n le lt. k n le (omega arith))
-
 -- none in the words before, and the first one of a word
 pub first_then : (words : List ℕ) (from word n : ℕ) → from ≤ word * 64 → HasNone words from (word * 64)
     → IsFirstInWord words (word * 64) (Some n) → IsFirstFrom words from (Some n)
@@ -217,9 +207,6 @@ module _ (words filled : List ℕ) (set : IsLevelSet words filled) where
     | inl below ↦ h n le below has
     | inr above ↦ k (n / 64) (omega arith) (filled_of n has)
   ]
-
-  pub filled_inside : (w : ℕ) → HasBit filled w → w < 4194304
-  filled_inside w has = let h = has_inside filled w has in let few = set.few in omega arith
 
   -- the first word behind this one that has a number
   pub next_filled : (from w n : ℕ) → HasNone words from ((from / 64 + 1) * 64)

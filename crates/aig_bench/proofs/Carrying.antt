@@ -7,7 +7,7 @@ use Rattle.aig_parts.specs.declared.latch.Latch.{Latch}
 use Rattle.aig_base.specs.Grounded as by
 use Rattle.aig_base.specs.Grounded.{IsSource}
 use Rattle.aig_parts.specs.Literal.{variable}
-use Rattle.aig_base.specs.Marks.{IsMarked}
+use Rattle.aig_base.specs.state.Marks.{IsMarked}
 use Rattle.aig_base.specs.Readers.{Reads}
 use Rattle.aig_base.specs.Sound.{IsSound}
 use Rattle.aig_base.specs.Sections.{IsGate}
@@ -17,12 +17,13 @@ use Rattle.aig_sim.specs.InputRows.{row_at}
 use Rattle.aig_bench.specs.declared.buckets.Buckets.{Buckets}
 use Rattle.aig_bench.specs.declared.plan.Plan.{Plan}
 use Rattle.aig_bench.specs.declared.settle.Net.{Net}
-use Rattle.aig_bench.specs.Buckets.{AreBuckets, Waits, Fits, Links}
-use Rattle.aig_bench.specs.Renewed.{Renewed}
+use Rattle.aig_bench.specs.state.Buckets.{AreBuckets, Fits, Links}
+use Rattle.aig_bench.specs.state.Renewed.{Renewed}
 use Rattle.aig_bench.specs.Pair.{Pair, HasValue}
-use Rattle.aig_bench.specs.Current.{Holds, IsCurrentRow, IsCurrentBefore}
-use Rattle.aig_bench.specs.Entry.{Entering, Puts, Carries, Rests}
-use Rattle.aig_bench.specs.Sweep.{Starts, IsWork}
+use Rattle.aig_bench.specs.state.Current.{Holds, IsCurrentRow, IsCurrentBefore}
+use Rattle.aig_bench.specs.state.Engine.{IsClear}
+use Rattle.aig_bench.specs.state.Entry.{Entering, Puts, Carries, Rests}
+use Rattle.aig_bench.specs.state.Sweep.{Starts, IsWork}
 use Rattle.aig_bench.proofs.Chained.{head_in, behind_in}
 use Rattle.aig_bench.proofs.Entries.{no_element, entering_none, entering_more, entered}
 use Rattle.aig_bench.proofs.Values.{constant_holds}
@@ -103,12 +104,13 @@ before_here p forced first t e c old new h le before u is = elim (cases_eq t fir
 ]
 
 -- the gates that are evaluated in any case wait, and nothing else
-pub entering_forced : (p : Pair) (t : ℕ) (forced : List ℕ) (row : List Tern) (sound : IsSound p.circuit) (b b' : Buckets)
-    → ((v : ℕ) → Waits b v → ⊥) → Links (Contains forced) b b' → Entering p t (Contains forced) row row b'.marks.items []
-entering_forced p t forced row sound b b' empty links =
-    entering_none p t (Contains forced) row sound b'.marks.items (λ u. (
-      λ m. elim ((links.waits u).0 m) [ inl o ↦ absurd (empty u o) | inr k ↦ k ],
-      λ k. (links.waits u).1 (inr k),
+pub entering_forced : (p : Pair) (t : ℕ) (forced : List ℕ) (row : List Tern) (sound : IsSound p.circuit) (marks marks' : List Bool)
+    → IsClear marks → ((u : ℕ) → IsMarked marks' u ↔ (IsMarked marks u ⊎ Contains forced u))
+    → Entering p t (Contains forced) row row marks' []
+entering_forced p t forced row sound marks marks' clear waits =
+    entering_none p t (Contains forced) row sound marks' (λ u. (
+      λ m. elim ((waits u).0 m) [ inl o ↦ absurd (clear u o) | inr k ↦ k ],
+      λ k. (waits u).1 (inr k),
     ))
 
 module _ (plan : Plan) (net : Net) (flags : List Bool) (cells : List (List Tern)) (b : Buckets) (work : IsWork plan net flags cells b) where
@@ -153,11 +155,10 @@ carries_fewer p t here now row new marks marks' only h = record {
 }
 
 -- nothing waits, and one source is put
-pub entering_put : (p : Pair) (t v : ℕ) (sound : IsSound p.circuit) (b : Buckets) (old row' : List Tern) (marks' : List Bool)
-    → ((u : ℕ) → Waits b u → ⊥) → Puts p t v old b.marks.items row' marks'
-    → Entering p t (Contains []) old row' marks' (v ∷ [])
-entering_put p t v sound b old row' marks' empty puts =
-    puts.enter [] old [] (entering_none p t (Contains []) old sound b.marks.items (λ u. (
-      λ m. absurd (empty u m),
+pub entering_put : (p : Pair) (t v : ℕ) (sound : IsSound p.circuit) (marks marks' : List Bool) (old row' : List Tern)
+    → IsClear marks → Puts p t v old marks row' marks' → Entering p t (Contains []) old row' marks' (v ∷ [])
+entering_put p t v sound marks marks' old row' clear puts =
+    puts.enter [] old [] (entering_none p t (Contains []) old sound marks (λ u. (
+      λ m. absurd (clear u m),
       λ i. absurd (no_element u i),
     )))

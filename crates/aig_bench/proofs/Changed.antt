@@ -1,6 +1,6 @@
 -- Plans and grids after an edit.
 use Rattle.std.proofs.Common.{◌≡◌, ◌↔◌, ℕ, zero, suc, ◌+◌, ◌-◌, ◌*◌, ◌<◌, ◌≤◌, Bool, nat_eq, List, [], ◌∷◌, ◌++◌, length, map, get_or, count_by, take, Some, slice_get, Contains, refl, sym, ap, ◌∙◌, subst, arith, length-append, length-take}
-use Rattle.std.proofs.lemmas.List.{get_or-take, get_or_append_left, take-append-le, take_all}
+use Rattle.std.proofs.lemmas.List.{get_or-take, get_or_append_left}
 use Rattle.std.proofs.lemmas.List.Elements.{All-take, All-append}
 use Rattle.std.proofs.lemmas.Option.{slice_get-get_or, same_Some}
 use Rattle.std.proofs.Math.Nat.{mul-le-mul_left}
@@ -19,7 +19,7 @@ use Rattle.aig_sim.specs.InputRows.{InputRows, row_at}
 use Rattle.aig_sim.specs.StimulusText.{HaveWidth}
 use Rattle.aig_bench.specs.declared.plan.Plan.{Plan}
 use Rattle.aig_bench.specs.Pair.{Pair}
-use Rattle.aig_bench.specs.Current.{AreGateFlags, AreRows, IsLaidOut, Holds, AreCurrent, IsBench}
+use Rattle.aig_bench.specs.state.Current.{AreGateFlags, AreRows, IsLaidOut, Holds, AreCurrent, IsBench}
 use Rattle.aig_sim.specs.Cells.{fresh_row}
 use Rattle.aig_bench.proofs.Layouts.{rows_more}
 use Rattle.aig_bench.specs.Plan.{IsPlan, pair_of}
@@ -133,21 +133,6 @@ module _ (plan : Plan) (s : InputRows) (row : List Tern) (p : IsPlan plan)
       (plan.stimulus.rows ++ row ∷ []) cells cells' h (omega arith)
       (λ t lt. slice_get_append plan.stimulus.rows (row ∷ []) t [] lt)
       (λ t lt. ap (λ (c : List (List Tern)). row_at c t) is ∙ get_or_append_left cells more_cells [] t (omega (arith, size))))
-
--- the last row taken off again
-pub dropped_again : (cells mid new : List (List Tern)) (row : List Tern) → mid ≡ cells ++ row ∷ []
-    → new ≡ take (length mid - 1) mid → new ≡ cells
-dropped_again cells mid new row e is =
-    let size : length mid - 1 ≡ length cells = omega (arith, ap length e, length-append cells (row ∷ [])) in
-    is ∙ ap (λ (n : ℕ). take n mid) size ∙ ap (take (length cells)) e
-    ∙ take-append-le (length cells) cells (row ∷ []) (omega arith) ∙ take_all (length cells) cells (omega arith)
-
--- the same grid, for a bench whose plan stays
-pub bench_same : (plan : Plan) (flags flags' : List Bool) (cells cells' : List (List Tern)) → IsBench plan flags cells
-    → cells' ≡ cells → flags' ≡ flags → IsBench plan flags' cells'
-bench_same plan flags flags' cells cells' b e f =
-    subst (λ (c : List (List Tern)). IsBench plan flags' c) (sym e)
-    (subst (λ (x : List Bool). IsBench plan x cells) (sym f) b)
 
 -- a plan whose latch starts otherwise
 pub plan_restarted : (plan : Plan) (c : Raw) (lit : ℕ) (w : Tern) → IsPlan plan → c ≡ with_reset plan.circuit lit w

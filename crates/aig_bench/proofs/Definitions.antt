@@ -1,5 +1,5 @@
 -- What the definition of a variable says of it.
-use Rattle.std.proofs.Common.{◌≡◌, ◌≢◌, inl, inr, ℕ, suc, map, Option, Some, None, slice_get, is_some, IsTrue, IfSome, IfNone, ◌↔◌, Contains, refl, sym, subst, arith}
+use Rattle.std.proofs.Common.{◌≡◌, ◌≢◌, inl, inr, ℕ, suc, map, Option, Some, None, slice_get, is_some, IsTrue, IfSome, IfNone, ◌↔◌, Contains, refl, subst, arith}
 use Rattle.std.proofs.lemmas.Bool.{false≢true}
 use Rattle.aig_parts.specs.declared.gate.Gate.{Gate}
 use Rattle.aig_parts.specs.declared.raw.Raw.{Raw}
@@ -35,9 +35,6 @@ module _ (raw : Raw) where
     λ h. let (i, lt, is) = defines_stands v d some in (suc i, omega arith, is),
     λ k. refl,
   )
-
-pub zero_defined : (raw : Raw) (v : ℕ) → v ≡ 0 → IsDefined raw v
-zero_defined raw v e = (0, omega arith, sym e)
 
 -- whether a variable is one of a gate
 pub decides_gate : (raw : Raw) (v : ℕ) (o : Option Gate) → IfSome o (λ g. (q : ℕ) × (slice_get raw.gates q ≡ Some g) × (variable g.lhs ≡ v)) → IfNone o (IsGate raw v → ⊥)

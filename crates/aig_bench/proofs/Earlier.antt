@@ -1,13 +1,9 @@
 -- Values do not depend on the rows of later frames.
-use Rattle.std.proofs.Common.{◌≡◌, ℕ, ◌<◌, ◌≤◌, List, slice_get, ◌∙◌, arith}
+use Rattle.std.proofs.Common.{◌≡◌, ℕ, ◌<◌, List, slice_get, ◌∙◌, arith}
 use Rattle.aig_parts.specs.declared.ternary.Tern.{Tern}
 use Rattle.aig_parts.specs.declared.raw.Raw.{Raw}
 use Rattle.aig_base.specs.Value as value
 use Rattle.aig_base.specs.Value.{Value, start_of}
-use Rattle.aig_sim.specs.InputRows.{row_at, with_cell}
-use Rattle.aig_bench.specs.Pair.{Pair}
-use Rattle.aig_bench.specs.Current.{Holds, AreCurrent}
-use Rattle.aig_bench.proofs.Cells.{get_set_other}
 
 pub value_before : (raw : Raw) (start : List Tern) (old new : List (List Tern)) (n : ℕ)
     → ((t : ℕ) → t < n → slice_get new t ≡ slice_get old t) → {t l : ℕ} {w : Tern} → t < n
@@ -24,19 +20,3 @@ value_before raw start old new n same lt (value.gate t q g a b at va vb) =
     (value_before raw start old new n same lt vb)
 value_before raw start old new n same lt (value.negated t l w over odd v) =
     value.negated t l w over odd (value_before raw start old new n same lt v)
-
--- another bit at a frame leaves the cells before it current
-pub current_before : (p : Pair) (n t i : ℕ) (w : Tern) (cells : List (List Tern)) → AreCurrent p n cells → t ≤ n
-    → AreCurrent (record p { rows = with_cell p.rows t i w }) t cells
-current_before p n t i w cells h le = record {
-  each = λ u lt v d. still u lt v (h.each u (omega arith) v d);
-}
-  where
-    still : (u : ℕ) → u < t → (v : ℕ) → Holds p u (row_at cells u) v
-        → Holds (record p { rows = with_cell p.rows t i w }) u (row_at cells u) v
-    still u lt v k = record {
-      cell = k.cell;
-      cell_is = k.cell_is;
-      value_is = value_before p.circuit (start_of p.circuit) p.rows (with_cell p.rows t i w) t
-          (λ s below. get_set_other p.rows t s _ (λ e. omega arith)) lt k.value_is;
-    }

@@ -15,6 +15,7 @@ use Rattle.aig_parts.specs.Literal.{variable}
 use Rattle.aig_base.specs.Readers.{AreReaders}
 use Rattle.aig_base.specs.Sections.{definitions, IsDefined, IsGate, IsLeftSide}
 use Rattle.aig_base.specs.Sound.{IsSound}
+use Rattle.aig_base.specs.state.Marks.{IsMarked}
 use Rattle.aig_base.specs.Value.{start_of, reset_value}
 use Rattle.aig_base.proofs.Circuits.{gate_defined, rhs0_defined, rhs1_defined, input_defined, latch_defined}
 use Rattle.aig_base.proofs.Counting.{gates_once}
@@ -27,20 +28,19 @@ use Rattle.aig_sim.specs.StimulusText.{HaveWidth}
 use Rattle.aig_bench.specs.declared.buckets.Buckets.{Buckets}
 use Rattle.aig_bench.specs.declared.plan.Plan.{Plan}
 use Rattle.aig_bench.specs.declared.settle.Net.{Net}
-use Rattle.aig_bench.specs.Buckets.{AreBuckets, IsChain, HasChain, Waits}
+use Rattle.aig_bench.specs.state.Buckets.{AreBuckets, IsChain, HasChain, Waits}
 use Rattle.aig_sim.specs.Cells.{literal_value}
-use Rattle.aig_bench.specs.Current.{IsLaidOut, Holds, HoldsLatches, IsCurrentRow, IsCurrentBefore, AreCurrent, IsBench}
+use Rattle.aig_bench.specs.state.Current.{IsLaidOut, Holds, HoldsLatches, IsCurrentRow, IsCurrentBefore, AreCurrent, IsBench}
 use Rattle.aig_bench.specs.Edit.{Edit, edited, set_bit, rewire, set_reset, add_frame, drop_frame}
-use Rattle.aig_bench.specs.declared.latches.LatchList.{LatchList}
 use Rattle.aig_bench.specs.declared.settle.Pending.{Pending}
-use Rattle.aig_bench.specs.Latches.{AreLatchReaders, IsLatchAt, IsListed}
-use Rattle.aig_bench.specs.Pending.{HasLists, IsNextRow}
-use Rattle.aig_bench.specs.Entry.{LatchesRest, Rests}
+use Rattle.aig_bench.specs.state.Latches.{AreLatchReaders, IsLatchAt}
+use Rattle.aig_bench.specs.state.Pending.{HasLists, IsNextRow}
+use Rattle.aig_bench.specs.state.Entry.{LatchesRest, Rests}
 use Rattle.aig_bench.specs.Pair.{Pair, HasValue}
-use Rattle.aig_bench.specs.Passing.{Differs, IsConsistent}
+use Rattle.aig_bench.specs.state.Passing.{Differs, IsConsistent}
 use Rattle.aig_bench.specs.Plan.{IsPlan, pair_of}
-use Rattle.aig_bench.specs.Renewed.{IsBetween, IsTouchedCell, IsChangedCell, Renewed}
-use Rattle.aig_bench.specs.Sweep.{IsWork, IsWorking}
+use Rattle.aig_bench.specs.state.Renewed.{IsBetween, IsTouchedCell, IsChangedCell, Renewed}
+use Rattle.aig_bench.specs.state.Sweep.{IsWork, IsWorking}
 use Rattle.aig_bench.specs.Touched.{HasOther, IsForced, Touches, Changes, AreCells}
 use Rattle.aig_bench.proofs.Cells.{get_set_other, row_written, row_other, frames_written}
 use Rattle.aig_bench.proofs.Changed.{current_below, slice_get_take, slice_get_append}
@@ -396,9 +396,12 @@ module _ (plan : Plan) (net : Net) (b : Buckets) (flags : List Bool) (cells : Li
   widths : HaveWidth (length plan.circuit.inputs) plan.stimulus.rows
   widths = subst (λ (n : ℕ). HaveWidth n plan.stimulus.rows) h.work.plan_is.width h.work.plan_is.widths
 
+  -- the rows before the frame of the bit
+  pub bit_below : AreCurrent p' f cells
+  bit_below = current_below p (length plan.stimulus.rows) f s.rows cells cells h.bench.current (omega arith) get_kept (λ t lt. refl)
+
   pub bit_before : IsCurrentBefore p' f cells
-  bit_before = before_first p' f cells (current_below p (length plan.stimulus.rows) f s.rows cells cells h.bench.current (omega arith) get_kept
-      (λ t lt. refl))
+  bit_before = before_first p' f cells bit_below
 
   pub bit_consistent : (t : ℕ) → f ≤ t → t < length s.rows → IsConsistent p' (Contains []) (row_at cells t)
   bit_consistent t le lt = consistent_at p p' [] follows sound sound widths cells h.bench.current t (omega (arith, bit_frames))
@@ -433,10 +436,6 @@ module _ (plan : Plan) (net : Net) (b : Buckets) (flags : List Bool) (cells : Li
       (λ j m stands out. ap (λ (row : List Tern). slice_get row j) (row_kept t (λ k. omega arith)))
 
   module _ (ev ch : ℕ) (cells' : List (List Tern)) (r : Renewed p' [] f (length s.rows) cells cells' ev ch) where
-    pub bit_current : AreCurrent p' (length s.rows) cells'
-    bit_current = all_current p' [] f (length s.rows) ev ch cells cells'
-        (current_below p (length plan.stimulus.rows) f s.rows cells cells h.bench.current (omega arith) get_kept (λ t lt. refl)) r
-
     edit_is : p' ≡ edited p (set_bit f i w)
     edit_is = ap (λ (rows : List (List Tern)). let x : Pair = record p { rows = rows } in x) rows_are
 
@@ -483,11 +482,11 @@ module _ (plan new : Plan) (net : Net) (b : Buckets) (flags : List Bool) (cells 
       (omega (arith, size))
 
   -- latches that start as before are not carried into the first frame
-  pub all_latches : (list : LatchList) → ((i : ℕ) (x : Latch) → slice_get new.circuit.latches i ≡ Some x
-      → (IsListed list (suc i) → ⊥)
+  pub all_latches : (marks : List Bool) → ((i : ℕ) (x : Latch) → slice_get new.circuit.latches i ≡ Some x
+      → (IsMarked marks (suc i) → ⊥)
       → (y : Latch) × (slice_get plan.circuit.latches i ≡ Some y) × (y.lit ≡ x.lit) × (y.reset ≡ x.reset))
-      → 0 < n → LatchesRest (pair_of new) 0 (row_at cells 0) list
-  all_latches list same lt i x at out =
+      → 0 < n → LatchesRest (pair_of new) 0 (row_at cells 0) marks
+  all_latches marks same lt i x at out =
       let (y, was, lit, reset) = same i x at out in
       first_holds (pair_of plan) (pair_of new) forced follows h.work.plan_is.circuit.sound sound' wide cells h.bench.current i x y
       at was lit reset (omega (arith, size))
@@ -681,13 +680,6 @@ module _ (p : Pair) (sound : IsSound p.circuit) where
 
   pub dropped_changed : AreCells (Changes p drop_frame) 0
   dropped_changed = cells_none _ (λ t v k. none_other t v (shorter t k.1.1) k.2)
-
--- the same grid, for a bench whose plan stays
-pub work_same : (plan : Plan) (net : Net) (b : Buckets) (flags flags' : List Bool) (cells cells' : List (List Tern))
-    → IsWorking plan net b flags cells → cells' ≡ cells → flags' ≡ flags → IsWorking plan net b flags' cells'
-work_same plan net b flags flags' cells cells' h e f =
-    subst (λ (c : List (List Tern)). IsWorking plan net b flags' c) (sym e)
-    (subst (λ (x : List Bool). IsWorking plan net b x cells) (sym f) h)
 
 pub fewer_current : (p : Pair) (n m : ℕ) (cells : List (List Tern)) → n ≤ m → AreCurrent p m cells → AreCurrent p n cells
 fewer_current p n m cells le h = record { each = λ t lt. h.each t (omega arith) }

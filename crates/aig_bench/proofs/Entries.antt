@@ -6,7 +6,7 @@ use Rattle.aig_parts.specs.declared.ternary.Tern.{Tern}
 use Rattle.aig_parts.specs.declared.gate.Gate.{Gate}
 use Rattle.aig_base.specs.Grounded.{IsSource}
 use Rattle.aig_parts.specs.Literal.{variable}
-use Rattle.aig_base.specs.Marks.{IsMarked}
+use Rattle.aig_base.specs.state.Marks.{IsMarked}
 use Rattle.aig_base.specs.Sound.{IsSound}
 use Rattle.aig_base.specs.Value.{start_of}
 use Rattle.aig_base.proofs.Gates.{same_gate}
@@ -14,11 +14,11 @@ use Rattle.aig_base.proofs.Circuits.{gate_is, source-gate}
 use Rattle.aig_base.proofs.Positions.{Contains-cons}
 use Rattle.aig_base.proofs.UniqueValue.{unique}
 use Rattle.aig_bench.specs.Pair.{Pair, HasValue}
-use Rattle.aig_bench.specs.Current.{Holds, HoldsSources}
-use Rattle.aig_bench.specs.Entry.{Entering}
-use Rattle.aig_bench.specs.Passing.{Differs, IsSide, IsTouched, IsReached}
+use Rattle.aig_bench.specs.state.Current.{Holds, HoldsSources}
+use Rattle.aig_bench.specs.state.Entry.{Entering}
+use Rattle.aig_bench.specs.state.Passing.{Differs, IsSide, IsTouched, IsReached}
 use Rattle.aig_base.specs.Readers.{Reads}
-use Rattle.aig_bench.specs.Sweep.{Starts}
+use Rattle.aig_bench.specs.state.Sweep.{Starts}
 use Rattle.aig_bench.proofs.Cells.{get_set_other}
 use Rattle.aig_bench.proofs.Chained.{head_in, behind_in, none_marked}
 use Rattle.aig_bench.proofs.Values.{holds_new, holds_still}

@@ -5,7 +5,7 @@ use Rattle.aig_base.specs.Grounded.{IsSource}
 use Rattle.aig_base.specs.Sections.{IsGate}
 use Rattle.aig_base.specs.Sound.{IsSound}
 use Rattle.aig_base.proofs.Circuits.{source-gate}
-use Rattle.aig_bench.specs.Current.{AreGateFlags}
+use Rattle.aig_bench.specs.state.Current.{AreGateFlags}
 
 pub gate_flag : (raw : Raw) (flags : List Bool) (v : ℕ) → AreGateFlags raw flags → v ≤ raw.max_var → IsGate raw v
     → slice_get flags v ≡ Some true

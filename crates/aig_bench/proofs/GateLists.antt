@@ -22,17 +22,11 @@ use Rattle.aig_sim.proofs.GateOrders.{gate_order, gates_more}
 use Rattle.aig_bench.specs.declared.order.Order.{Order}
 use Rattle.aig_bench.specs.declared.order.Way.{Way}
 use Rattle.aig_bench.specs.declared.order.Way.TheVariants.{Standing, Listed, Stale}
-use Rattle.aig_bench.specs.Order.{gate_at, gates_at, ArePositions, AreTaken, IsFullOrder, IsListing, Orders}
+use Rattle.aig_bench.specs.state.Order.{gate_at, gates_at, ArePositions, AreTaken, IsFullOrder, IsListing, Orders}
 use Rattle.aig_bench.proofs.Grown.{gate_was}
 
 gate_is_at : (gates : List Gate) (q : ℕ) (g : Gate) → slice_get gates q ≡ Some g → gate_at gates q ≡ g
 gate_is_at gates q g at = get_or_from_slice_get gates q g _ at
-
-pub positions_none : (raw : Raw) → ArePositions raw [] []
-positions_none raw = record {
-  inside = λ k d lt. absurd (omega arith);
-  gates = record { known = λ k d lt. absurd (omega arith); variables_are = refl };
-}
 
 pub positions_more : (raw : Raw) (variables positions : List ℕ) (v q : ℕ) (g : Gate) → ArePositions raw variables positions
     → slice_get raw.gates q ≡ Some g → variable g.lhs ≡ v → ArePositions raw (variables ++ v ∷ []) (positions ++ q ∷ [])

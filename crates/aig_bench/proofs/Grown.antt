@@ -15,7 +15,7 @@ use Rattle.aig_base.proofs.Appended.{gate_cases, more_sound, new_at, new_variabl
 use Rattle.aig_base.proofs.Gates as gates
 use Rattle.aig_base.proofs.Gets.{slice_get_last}
 use Rattle.aig_sim.specs.Cells.{gate_value, with_new_cell}
-use Rattle.aig_bench.specs.Current.{AreGateFlags, IsCurrentRow, Holds}
+use Rattle.aig_bench.specs.state.Current.{AreGateFlags, IsCurrentRow, Holds}
 use Rattle.aig_bench.specs.Pair.{Pair, HasValue}
 use Rattle.aig_bench.proofs.Cells.{get_set_other, get_set_same}
 use Rattle.aig_bench.proofs.Changed.{slice_get_append}

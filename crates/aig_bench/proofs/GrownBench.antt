@@ -18,13 +18,13 @@ use Rattle.aig_bench.specs.declared.latches.LatchReaders.{LatchReaders}
 use Rattle.aig_bench.specs.declared.plan.Plan.{Plan}
 use Rattle.aig_bench.specs.declared.settle.Net.{Net}
 use Rattle.aig_bench.specs.declared.settle.Pending.{Pending}
-use Rattle.aig_bench.specs.Buckets.{AreBuckets, Waits}
-use Rattle.aig_bench.specs.Current.{AreCurrent, AreRows, IsCurrentRow, IsLaidOut}
+use Rattle.aig_bench.specs.state.Buckets.{AreBuckets, Waits}
+use Rattle.aig_bench.specs.state.Current.{AreCurrent, AreRows, IsCurrentRow, IsLaidOut}
 use Rattle.aig_bench.specs.Edit.{append_gate}
-use Rattle.aig_bench.specs.Latches.{AreLatchReaders}
-use Rattle.aig_bench.specs.Pending.{IsReady}
+use Rattle.aig_bench.specs.state.Latches.{AreLatchReaders}
+use Rattle.aig_bench.specs.state.Pending.{IsReady}
 use Rattle.aig_bench.specs.Plan.{IsPlan, pair_of}
-use Rattle.aig_bench.specs.Sweep.{IsWork}
+use Rattle.aig_bench.specs.state.Sweep.{IsWork}
 use Rattle.aig_bench.specs.Touched.{HasOther, Touches, Changes, AreCells}
 use Rattle.aig_bench.proofs.Changed.{readers_kept}
 use Rattle.aig_bench.proofs.Edited.{lists_for, work_kept, working}
@@ -170,7 +170,7 @@ module _ (plan : Plan) (net : Net) (pending : Pending) (flags : List Bool) (cell
           (record {
             working = working after net' b flags' new work empty current;
             lists = record { readers = ls; here = r.lists.here; ahead = r.lists.ahead };
-            idle = record { gates = empty; here = r.idle.here; ahead = r.idle.ahead };
+            idle = record { waits = empty; here = r.idle.here; ahead = r.idle.ahead };
           })
 
     -- no value changes, and the new gate's cells are touched

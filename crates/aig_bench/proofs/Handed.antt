@@ -1,5 +1,5 @@
 -- Latches that are carried from a frame into the next one.
-use Rattle.std.proofs.Common.{◌≡◌, ◌≢◌, ◌⊎◌, inl, inr, ℕ, suc, List, Option, Some, None, slice_get, slice_set, get_or, unwrap_or, refl, sym, ap, ◌∙◌, subst}
+use Rattle.std.proofs.Common.{◌≡◌, ◌≢◌, ◌⊎◌, inl, inr, ℕ, suc, Bool, List, Option, Some, None, slice_get, slice_set, get_or, unwrap_or, refl, sym, ap, ◌∙◌, subst}
 use Rattle.std.proofs.lemmas.Bool.{cases_eq}
 use Rattle.std.proofs.lemmas.Option.{slice_get_within, unwrap_or-slice_get}
 use Rattle.aig_parts.specs.declared.latch.Latch.{Latch}
@@ -7,13 +7,14 @@ use Rattle.aig_parts.specs.declared.raw.Raw.{Raw}
 use Rattle.aig_parts.specs.declared.ternary.Tern.{Tern}
 use Rattle.aig_parts.specs.declared.ternary.Tern.TheVariants.{X}
 use Rattle.aig_parts.specs.Literal.{variable}
+use Rattle.aig_base.specs.state.Marks.{IsMarked}
 use Rattle.aig_base.specs.Sound.{IsSound}
 use Rattle.aig_sim.specs.Cells.{literal_value}
 use Rattle.aig_bench.specs.declared.latches.LatchList.{LatchList}
-use Rattle.aig_bench.specs.Current.{Holds, IsCurrentRow}
-use Rattle.aig_bench.specs.Latches.{Follows, HandsOn, IsListed, Lists}
+use Rattle.aig_bench.specs.state.Current.{Holds, IsCurrentRow}
+use Rattle.aig_bench.specs.state.Latches.{Follows, HandsOn, Lists}
 use Rattle.aig_bench.specs.Pair.{Pair}
-use Rattle.aig_bench.specs.Pending.{IsNextRow}
+use Rattle.aig_bench.specs.state.Pending.{IsNextRow}
 use Rattle.aig_bench.proofs.Cells.{get_set_same, get_set_other}
 use Rattle.aig_bench.proofs.Passing.{same_or_other}
 use Rattle.aig_bench.proofs.Values.{latch_follows, latch_value}
@@ -34,18 +35,18 @@ same_cell (Some w) None = inr (λ e. cc)
 same_cell (Some w) (Some z) = same_or_other (Some w) z
 
 module _ (raw : Raw) where
-  pub hands_same : (row row' : List Tern) (list : LatchList) → ((v : ℕ) → slice_get row' v ≡ slice_get row v)
-      → HandsOn raw row list row' list
-  hands_same row row' list same = record {
+  pub hands_same : (row row' : List Tern) (marks : List Bool) → ((v : ℕ) → slice_get row' v ≡ slice_get row v)
+      → HandsOn raw row marks row' marks
+  hands_same row row' marks same = record {
     kept = λ i m. m;
     changed = λ i v f ne. absurd (ne (same v));
   }
 
-  pub hands_none : (row : List Tern) (list : LatchList) → HandsOn raw row list row list
-  hands_none row list = hands_same row row list (λ v. refl)
+  pub hands_none : (row : List Tern) (marks : List Bool) → HandsOn raw row marks row marks
+  hands_none row marks = hands_same row row marks (λ v. refl)
 
   pub hands_written : (row row' : List Tern) (u : ℕ) (w : Tern) (old new : LatchList) → row' ≡ slice_set row u w
-      → Lists (λ i. Follows raw i u) old new → HandsOn raw row old row' new
+      → Lists (λ i. Follows raw i u) old new → HandsOn raw row old.marks.items row' new.marks.items
   hands_written row row' u w old new is lists = record {
     kept = λ i m. (lists i).1 (inl m);
     changed = λ i v f ne. elim (cases_eq v u) [
@@ -54,7 +55,7 @@ module _ (raw : Raw) where
     ];
   }
 
-  pub hands_then : (a b c : List Tern) (l m n : LatchList) → HandsOn raw a l b m → HandsOn raw b m c n → HandsOn raw a l c n
+  pub hands_then : (a b c : List Tern) (l m n : List Bool) → HandsOn raw a l b m → HandsOn raw b m c n → HandsOn raw a l c n
   hands_then a b c l m n h k = record {
     kept = λ i x. k.kept i (h.kept i x);
     changed = λ i v f ne. elim (same_cell (slice_get b v) (slice_get a v)) [
@@ -82,11 +83,11 @@ module _ (p : Pair) (t : ℕ) (sound : IsSound p.circuit) where
       same_read a b v e = sym (unwrap_or-slice_get a v X) ∙ ap (λ (o : Option Tern). unwrap_or o X) e ∙ unwrap_or-slice_get b v X
 
   -- a latch that is not carried on has its value in the next row already
-  pub not_handed_holds : (old new next : List Tern) (before list : LatchList) → IsCurrentRow p t new
-      → HandsOn p.circuit old before new list → IsNextRow p.circuit old next
-      → (i : ℕ) (x : Latch) → slice_get p.circuit.latches i ≡ Some x → (IsListed list (suc i) → ⊥)
+  pub not_handed_holds : (old new next : List Tern) (before marks : List Bool) → IsCurrentRow p t new
+      → HandsOn p.circuit old before new marks → IsNextRow p.circuit old next
+      → (i : ℕ) (x : Latch) → slice_get p.circuit.latches i ≡ Some x → (IsMarked marks (suc i) → ⊥)
       → Holds p (suc t) next (variable x.lit)
-  not_handed_holds old new next before list now hands follows i x at out = elim
+  not_handed_holds old new next before marks now hands follows i x at out = elim
       (same_cell (slice_get new (variable x.next)) (slice_get old (variable x.next))) [
         | inl e ↦
             latch_next_holds new next i x at now (follows i x at ∙ ap Some (sym (same_literal_value new old x.next e)))

@@ -8,7 +8,7 @@ use Rattle.aig_base.specs.Sound.{IsSound}
 use Rattle.aig_base.specs.Value as value
 use Rattle.aig_base.specs.Value.{Value, start_of, reset_value}
 use Rattle.aig_base.proofs.UniqueValue.{unique}
-use Rattle.aig_bench.specs.Current.{Holds}
+use Rattle.aig_bench.specs.state.Current.{Holds}
 use Rattle.aig_bench.specs.Pair.{Pair, HasValue}
 use Rattle.aig_bench.specs.Touched.{HasOther}
 

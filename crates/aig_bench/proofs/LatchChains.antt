@@ -10,7 +10,7 @@ use Rattle.aig_parts.specs.declared.ternary.Tern.{Tern}
 use Rattle.aig_parts.specs.Literal.{variable}
 use Rattle.aig_bench.specs.declared.latches.LatchList.{LatchList}
 use Rattle.aig_bench.specs.declared.latches.LatchReaders.{LatchReaders}
-use Rattle.aig_bench.specs.Latches.{Follows, IsLast, AreLatchReaders, Lists}
+use Rattle.aig_bench.specs.state.Latches.{Follows, IsLast, AreLatchReaders, Lists}
 use Rattle.aig_bench.proofs.Cells.{get_set_same, get_set_other}
 
 -- the chains of the first n latches
@@ -169,15 +169,6 @@ module _ (raw : Raw) (readers : LatchReaders) (are : AreLatchReaders raw readers
       where
         over : (j i : ℕ) → (i < j) ⊎ (j ≤ i)
         over j i = grind arith
-
-  pub listing_all : (i : ℕ) (old new : LatchList) → i ≡ 0 → AreListedOver raw v i old new → Lists (λ j. Follows raw j v) old new
-  listing_all i old new e h j = (
-    λ m. elim ((h.lists j).0 m) [ inl o ↦ inl o | inr f ↦ inr f.0 ],
-    λ m. (h.lists j).1 (elim m [
-      | inl o ↦ inl o
-      | inr f ↦ inr (f, (let (p, x, is, there, reads) = f in omega arith))
-    ]),
-  )
 
 -- what was read at a position
 pub read_at : (xs : List ℕ) (i x : ℕ) → i < length xs → x ≡ get_or xs i x → slice_get xs i ≡ Some x

@@ -4,11 +4,11 @@ use Rattle.std.proofs.lemmas.Bool.{false≢true}
 use Rattle.std.proofs.lemmas.Bool.Decides.{eqb_tells}
 use Rattle.std.proofs.lemmas.List.{length-replicate}
 use Rattle.std.proofs.lemmas.Option.{slice_get_within}
-use Rattle.aig_base.specs.Marks.{IsMarked}
+use Rattle.aig_base.specs.state.Marks.{IsMarked}
 use Rattle.aig_bench.specs.declared.latches.LatchList.{LatchList}
-use Rattle.aig_bench.specs.Buckets.{AreChained}
-use Rattle.aig_bench.specs.Latches.{IsLatchList, IsListed}
-use Rattle.aig_bench.specs.Sweep.{waiting}
+use Rattle.aig_bench.specs.state.Buckets.{AreChained}
+use Rattle.aig_bench.specs.state.Latches.{IsLatchList, IsListed}
+use Rattle.aig_bench.specs.state.Sweep.{waiting}
 use Rattle.aig_bench.proofs.Chained.{linked, linked_waits, none_of_level, first_waits, first_inside, first_inside_marks, taken_waits, taken, none_marked}
 use Rattle.aig_bench.proofs.Waiting.{waiting_less}
 
@@ -53,11 +53,11 @@ module _ (n first : ℕ) (next : List ℕ) (marks : List Bool) (size : length ma
     list_taken second then = taken (replicate (n + 1) 0) (first ∷ []) next marks h 0 (omega arith) first refl some second then
 
 -- how many latches a list has
-abbrev pub listed : LatchList → ℕ
-listed l = waiting (replicate (length l.marks.items) 0) l.marks.items 0
+abbrev pub listed : List Bool → ℕ
+listed marks = waiting (replicate (length marks) 0) marks 0
 
 pub listed_less : (n i : ℕ) (old new : LatchList) → IsLatchList n old → IsLatchList n new → IsListed old i
-    → ((j : ℕ) → IsListed new j ↔ (IsListed old j × (j ≢ i))) → listed new < listed old
+    → ((j : ℕ) → IsListed new j ↔ (IsListed old j × (j ≢ i))) → listed new.marks.items < listed old.marks.items
 listed_less n i old new h k m left =
     rw (h.size, k.size) (waiting_less (replicate (n + 1) 0) old.marks.items new.marks.items 0 i
     (h.size ∙ sym (length-replicate (n + 1) 0)) (λ u at l. ((left u).0 l).0)

@@ -10,7 +10,7 @@ use Rattle.aig_base.specs.Sections.{IsGate}
 use Rattle.aig_base.proofs.Positions.{slice_get_left, slice_get_right}
 use Rattle.aig_sim.specs.Cells.{fresh_row}
 use Rattle.aig_sim.specs.InputRows.{row_at}
-use Rattle.aig_bench.specs.Current.{AreGateFlags, AreRows}
+use Rattle.aig_bench.specs.state.Current.{AreGateFlags, AreRows}
 
 -- flags of the first n variables
 pub record FlagsTo (raw : Raw) (n : ℕ) (flags : List Bool) : Type 0 where
@@ -49,16 +49,6 @@ flags_all raw flags h = record {
   size = h.size;
   gates = λ v le k. h.gates v (omega arith) k;
   others = λ v le k. h.others v (omega arith) k;
-}
-
-pub flags_none : (raw : Raw) → FlagsTo raw 0 []
-flags_none raw = record { size = refl; gates = λ v lt. absurd (omega arith); others = λ v lt. absurd (omega arith) }
-
-pub rows_none : (raw : Raw) (cells : List (List Tern)) → cells ≡ [] → AreRows raw 0 cells
-rows_none raw cells e = record {
-  frames_are = ap length e;
-  widths = λ t lt. absurd (omega arith);
-  constants = λ t lt. absurd (omega arith);
 }
 
 length_fresh : (n : ℕ) → 0 < n → length (fresh_row n) ≡ n

@@ -2,7 +2,7 @@
 use Rattle.std.proofs.Common.{◌≡◌, ◌⊎◌, inl, inr, ℕ, zero, suc, ◌+◌, ◌*◌, ◌/◌, ◌<◌, ◌≤◌, Bool, false, true, List, [], ◌∷◌, ◌++◌, length, get_or, slice_get, Contains, refl, sym, ap, ◌∙◌, subst, arith, length-append}
 use Rattle.std.proofs.lemmas.Bool.{false≢true}
 use Rattle.std.proofs.lemmas.List.{get_or_past}
-use Rattle.aig_base.specs.Marks.{IsMarked}
+use Rattle.aig_base.specs.state.Marks.{IsMarked}
 use Rattle.aig_base.proofs.Gets.{slice_get_push}
 use Rattle.aig_parts.specs.declared.raw.Raw.{Raw}
 use Rattle.aig_base.specs.Changes.{with_appended_gate}
@@ -11,16 +11,17 @@ use Rattle.aig_base.specs.Sound.{IsSound}
 use Rattle.aig_base.proofs.Circuits.{next_in_range}
 use Rattle.aig_bench.specs.declared.buckets.Buckets.{Buckets}
 use Rattle.aig_bench.specs.declared.latches.LatchReaders.{LatchReaders}
-use Rattle.aig_bench.specs.Buckets.{AreBuckets, IsChain, Waits}
-use Rattle.aig_bench.specs.Latches.{AreLatchReaders, Follows, IsLast}
-use Rattle.aig_bench.specs.LevelSet.{HasBit, IsLevelSet}
+use Rattle.aig_bench.specs.state.Buckets.{AreBuckets, IsChain, Waits}
+use Rattle.aig_bench.specs.state.Latches.{AreLatchReaders, Follows, IsLast}
+use Rattle.aig_parts.specs.Formed.{limit}
+use Rattle.aig_bench.specs.state.LevelSet.{HasBit, IsLevelSet}
 use Rattle.aig_bench.proofs.Chained.{head_in}
 
 pub has_still : (old new : List ℕ) → ((w : ℕ) → get_or new w 0 ≡ get_or old w 0) → (n : ℕ) → HasBit old n → HasBit new n
 unfolding HasBit
 has_still old new same n h = rw (same (n / 64)) h
 
-module _ (words filled : List ℕ) (level : ℕ) (i : IsLevelSet words filled) (limit : level < 4194304) where
+module _ (words filled : List ℕ) (level : ℕ) (i : IsLevelSet words filled) (low : level ≤ limit) where
   -- the second set has room for the word of a level
   pub filled_longer : (more : List ℕ) → ((w : ℕ) → get_or more w 0 ≡ get_or filled w 0) → length filled ≤ length more
       → (length more ≡ length filled) ⊎ (length more ≡ level / 64 / 64 + 1) → IsLevelSet words more

@@ -6,6 +6,7 @@ pub mod Changed
 pub mod Definitions
 pub mod Earlier
 pub mod Edited
+pub mod Engines
 pub mod Entries
 pub mod EveryGate
 pub mod Fanouts
@@ -31,6 +32,7 @@ pub mod Puts
 pub mod Quiet
 pub mod Refusals
 pub mod Renewed
+pub mod Renewing
 pub mod Rewired
 pub mod SweepEnds
 pub mod SweepSteps

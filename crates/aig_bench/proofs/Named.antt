@@ -12,7 +12,7 @@ use Rattle.aig_base.specs.Definition.{Defines, IsFree}
 use Rattle.aig_parts.specs.Literal.{variable}
 use Rattle.aig_base.specs.Sections.{IsLeftSide, IsLatchLiteral}
 use Rattle.aig_base.specs.Sound.{IsSound}
-use Rattle.aig_bench.specs.Latches.{IsLatchAt}
+use Rattle.aig_bench.specs.state.Latches.{IsLatchAt}
 use Rattle.aig_base.proofs.EntryPlaces.{gate_defines, latch_defines, left_side_defined, latch_literal_defined}
 use Rattle.aig_base.proofs.Positions.{Contains-from_slice_get}
 

@@ -13,9 +13,9 @@ use Rattle.aig_base.proofs.Outputs.{with_output-circuit}
 use Rattle.aig_bench.specs.declared.plan.Plan.{Plan}
 use Rattle.aig_bench.specs.declared.settle.Net.{Net}
 use Rattle.aig_bench.specs.declared.settle.Pending.{Pending}
-use Rattle.aig_bench.specs.Current.{IsLaidOut, AreCurrent}
+use Rattle.aig_bench.specs.state.Current.{IsLaidOut, AreCurrent}
 use Rattle.aig_bench.specs.Edit.{set_output}
-use Rattle.aig_bench.specs.Pending.{IsReady}
+use Rattle.aig_bench.specs.state.Pending.{IsReady}
 use Rattle.aig_bench.specs.Plan.{IsPlan, pair_of}
 use Rattle.aig_bench.specs.Touched.{HasOther, Touches, Changes, AreCells}
 use Rattle.aig_bench.proofs.Edited.{lists_for, work_for, working}

@@ -7,7 +7,7 @@ use Rattle.aig_parts.specs.declared.raw.Raw.{Raw}
 use Rattle.aig_base.specs.Grounded as by
 use Rattle.aig_base.specs.Grounded.{IsSource, IsAcyclic, Level}
 use Rattle.aig_parts.specs.Literal.{variable}
-use Rattle.aig_base.specs.Marks.{IsMarked}
+use Rattle.aig_base.specs.state.Marks.{IsMarked}
 use Rattle.aig_base.specs.Sound.{IsSound}
 use Rattle.aig_base.specs.Value.{start_of}
 use Rattle.aig_base.proofs.Circuits.{rhs0_defined, rhs1_defined}
@@ -16,8 +16,8 @@ use Rattle.aig_base.proofs.OneLevel.{level_of}
 use Rattle.aig_base.proofs.UniqueValue.{unique}
 use Rattle.aig_sim.specs.Cells.{gate_value}
 use Rattle.aig_bench.specs.Pair.{Pair}
-use Rattle.aig_bench.specs.Current.{Holds, IsCurrentRow}
-use Rattle.aig_bench.specs.Passing.{Differs, IsSide, IsTouched, IsReached, Passing, IsConsistent}
+use Rattle.aig_bench.specs.state.Current.{Holds, IsCurrentRow}
+use Rattle.aig_bench.specs.state.Passing.{Differs, IsSide, IsTouched, IsReached, Passing, IsConsistent}
 use Rattle.aig_bench.proofs.Values.{gate_has_value}
 
 -- a source or a gate

@@ -11,15 +11,18 @@ use Rattle.aig_sim.specs.InputRows.{row_at, with_cell}
 use Rattle.aig_bench.specs.declared.buckets.Buckets.{Buckets}
 use Rattle.aig_bench.specs.declared.plan.Plan.{Plan}
 use Rattle.aig_bench.specs.declared.settle.Net.{Net}
-use Rattle.aig_bench.specs.Buckets.{AreBuckets, Waits, Fits, Links}
-use Rattle.aig_bench.specs.Current.{IsLaidOut}
+use Rattle.aig_bench.specs.state.Buckets.{AreBuckets, Waits, Fits, Links}
+use Rattle.aig_bench.specs.state.Current.{IsLaidOut}
 use Rattle.aig_bench.specs.Pair.{HasValue}
 use Rattle.aig_bench.specs.Plan.{IsPlan, pair_of}
 use Rattle.aig_bench.proofs.Carrying.{puts}
+use Rattle.aig_bench.specs.declared.latches.LatchList.{LatchList}
+use Rattle.aig_bench.specs.state.Latches.{Follows, HandsOn, Lists}
 use Rattle.aig_bench.proofs.Cells.{row_written, row_other}
-use Rattle.aig_bench.specs.Entry.{Puts}
+use Rattle.aig_bench.proofs.Handed.{hands_same, hands_written, set_again}
+use Rattle.aig_bench.specs.state.Entry.{Puts}
 use Rattle.aig_base.specs.Readers.{list_of, Reads, AreReaders}
-use Rattle.aig_bench.specs.Sweep.{IsWork}
+use Rattle.aig_bench.specs.state.Sweep.{IsWork}
 use Rattle.aig_bench.proofs.Flags.{source_flag}
 use Rattle.aig_bench.proofs.SweepSteps.{laid_out_written, each_reader}
 use Rattle.aig_bench.proofs.Height.{level_bound}
@@ -56,6 +59,17 @@ module _ (plan : Plan) (net : Net) (flags : List Bool) (cells : List (List Tern)
     row_is : row_at cells' t ≡ slice_set (row_at cells t) v w
     row_is = ap (λ (c : List (List Tern)). row_at c t) is
         ∙ row_written cells t v w (omega (arith, lt, work.laid_out.rows_are.frames_are))
+
+    -- what a change of the cell hands on
+    pub put_hands : (old new : LatchList) → Lists (λ i. Follows plan.circuit i v) old new
+        → HandsOn plan.circuit (row_at cells t) old.marks.items (row_at cells' t) new.marks.items
+    put_hands old new lists = hands_written plan.circuit (row_at cells t) (row_at cells' t) v w old new row_is lists
+
+    pub put_hands_none : (a : Tern) → slice_get (row_at cells t) v ≡ Some a → a ≡ w → (marks : List Bool)
+        → HandsOn plan.circuit (row_at cells t) marks (row_at cells' t) marks
+    put_hands_none a at same marks =
+        hands_same plan.circuit (row_at cells t) (row_at cells' t) marks (λ u. ap (λ (r : List Tern). slice_get r u) row_is
+        ∙ set_again (row_at cells t) v w (at ∙ ap Some same) u)
 
     pub put_others : (u : ℕ) → u ≢ t → row_at cells' u ≡ row_at cells u
     put_others u ne = ap (λ (c : List (List Tern)). row_at c u) is ∙ row_other cells t v w u ne

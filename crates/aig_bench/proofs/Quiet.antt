@@ -6,14 +6,14 @@ use Rattle.aig_sim.specs.InputRows.{row_at}
 use Rattle.aig_bench.specs.declared.buckets.Buckets.{Buckets}
 use Rattle.aig_bench.specs.declared.plan.Plan.{Plan}
 use Rattle.aig_bench.specs.declared.settle.Net.{Net}
-use Rattle.aig_bench.specs.Buckets.{Waits}
-use Rattle.aig_bench.specs.Current.{Holds, HoldsLatches}
-use Rattle.aig_bench.specs.Entry.{Rests}
-use Rattle.aig_bench.specs.Passing.{IsConsistent}
-use Rattle.aig_bench.specs.Pending.{IsNextRow}
+use Rattle.aig_bench.specs.state.Buckets.{Waits}
+use Rattle.aig_bench.specs.state.Current.{Holds, HoldsLatches}
+use Rattle.aig_bench.specs.state.Entry.{Rests}
+use Rattle.aig_bench.specs.state.Passing.{IsConsistent}
+use Rattle.aig_bench.specs.state.Pending.{IsNextRow}
 use Rattle.aig_bench.specs.Plan.{pair_of}
-use Rattle.aig_bench.specs.Renewed.{Renewed}
-use Rattle.aig_bench.specs.Sweep.{IsWork, Ends}
+use Rattle.aig_bench.specs.state.Renewed.{Renewed}
+use Rattle.aig_bench.specs.state.Sweep.{IsWork, Ends}
 use Rattle.aig_bench.proofs.Carrying.{carries_none, started}
 use Rattle.aig_bench.proofs.Entries.{no_element, entering_none}
 use Rattle.aig_bench.proofs.Handed.{latch_next_holds}

@@ -31,40 +31,8 @@ module _ (p : Pair) (t l : ℕ) where
   value_allowed range defined there _ f = f
 
 module _ (p : Pair) (lhs r0 r1 : ℕ) where
-  pub rewires_no_gate : (IsLeftSide p.circuit lhs → ⊥) → IsLeastFault (Forbids p (rewire lhs r0 r1)) fault.NotAGate
-  rewires_no_gate none = (none, below)
-    where
-      below : (g : EditFault) → number_of g < 1 → Forbids p (rewire lhs r0 r1) g → ⊥
-      below fault.NotAGate lt f = absurd (omega arith)
-      below fault.Range lt f = absurd (omega arith)
-      below fault.Undefined lt f = absurd (omega arith)
-      below fault.Cycle lt f = absurd (omega arith)
-      below _ lt f = f
-
   module _ (gate : IsLeftSide p.circuit lhs) where
-    pub rewires_far : (IsInRange p.circuit r0 × IsInRange p.circuit r1 → ⊥)
-        → IsLeastFault (Forbids p (rewire lhs r0 r1)) fault.Range
-    rewires_far far = (far, below)
-      where
-        below : (g : EditFault) → number_of g < 3 → Forbids p (rewire lhs r0 r1) g → ⊥
-        below fault.NotAGate lt f = f gate
-        below fault.Range lt f = absurd (omega arith)
-        below fault.Undefined lt f = absurd (omega arith)
-        below fault.Cycle lt f = absurd (omega arith)
-        below _ lt f = f
-
     module _ (range : IsInRange p.circuit r0 × IsInRange p.circuit r1) where
-      pub rewires_undefined : (IsDefined p.circuit (variable r0) × IsDefined p.circuit (variable r1) → ⊥)
-          → IsLeastFault (Forbids p (rewire lhs r0 r1)) fault.Undefined
-      rewires_undefined none = (none, below)
-        where
-          below : (g : EditFault) → number_of g < 4 → Forbids p (rewire lhs r0 r1) g → ⊥
-          below fault.NotAGate lt f = f gate
-          below fault.Range lt f = f range
-          below fault.Undefined lt f = absurd (omega arith)
-          below fault.Cycle lt f = absurd (omega arith)
-          below _ lt f = f
-
       module _ (defined : IsDefined p.circuit (variable r0) × IsDefined p.circuit (variable r1)) where
         pub rewires_cycle : (IsAcyclic (with_gate p.circuit lhs r0 r1) → ⊥)
             → IsLeastFault (Forbids p (rewire lhs r0 r1)) fault.Cycle
@@ -103,13 +71,6 @@ module _ (p : Pair) (lhs r0 r1 : ℕ) where
         rewire_refused f (inr e) cycle = inr (subst (LacksMemory p (rewire lhs r0 r1)) (sym e) rewire_lacks)
 
 module _ (p : Pair) (latch : ℕ) (w : Tern) where
-  pub resets_no_latch : (IsLatchLiteral p.circuit latch → ⊥) → IsLeastFault (Forbids p (set_reset latch w)) fault.NotALatch
-  resets_no_latch none = (none, below)
-    where
-      below : (g : EditFault) → number_of g < 2 → Forbids p (set_reset latch w) g → ⊥
-      below fault.NotALatch lt f = absurd (omega arith)
-      below _ lt f = f
-
   pub reset_allowed : IsLatchLiteral p.circuit latch → NoneApplies (Forbids p (set_reset latch w))
   reset_allowed h fault.NotALatch f = f h
   reset_allowed h _ f = f

@@ -3,11 +3,11 @@ use Rattle.std.proofs.Common.{◌≡◌, ◌≢◌, ◌⊎◌, ◌↔◌, inl, i
 use Rattle.aig_parts.specs.declared.ternary.Tern.{Tern}
 use Rattle.aig_base.proofs.Positions.{Contains-cons}
 use Rattle.aig_sim.specs.InputRows.{row_at}
-use Rattle.aig_bench.specs.Current.{IsCurrentRow}
+use Rattle.aig_bench.specs.state.Current.{IsCurrentRow}
 use Rattle.aig_bench.specs.Pair.{Pair}
-use Rattle.aig_bench.specs.Passing.{Differs, IsTouched}
-use Rattle.aig_bench.specs.Renewed.{IsBetween, IsTouchedCell, Renewed}
-use Rattle.aig_bench.specs.Sweep.{Ends}
+use Rattle.aig_bench.specs.state.Passing.{Differs, IsTouched}
+use Rattle.aig_bench.specs.state.Renewed.{IsBetween, IsTouchedCell, Renewed}
+use Rattle.aig_bench.specs.state.Sweep.{Ends}
 use Rattle.aig_bench.specs.Touched.{IsOnce, AreCells}
 use Rattle.aig_base.proofs.Gates.{gate_of}
 

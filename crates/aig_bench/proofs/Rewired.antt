@@ -1,5 +1,5 @@
 -- A circuit with other right sides at one gate.
-use Rattle.std.proofs.Common.{◌≡◌, ℕ, ◌+◌, Bool, List, [], ◌∷◌, ◌++◌, length, map, Some, slice_get, Contains, refl, sym, ap, ◌∙◌, subst, arith}
+use Rattle.std.proofs.Common.{◌≡◌, ℕ, ◌+◌, Bool, List, [], ◌∷◌, ◌++◌, length, map, Contains, refl, sym, ap, ◌∙◌, subst, arith}
 use Rattle.aig_parts.specs.declared.gate.Gate.{Gate}
 use Rattle.aig_parts.specs.declared.latch.Latch.{Latch}
 use Rattle.aig_parts.specs.declared.raw.Raw.{Raw}
@@ -9,14 +9,12 @@ use Rattle.aig_base.specs.Circuit.{IsCircuit}
 use Rattle.aig_base.specs.Grounded.{IsAcyclic}
 use Rattle.aig_parts.specs.Literal.{variable}
 use Rattle.aig_base.specs.Sections.{definitions, IsDefined, IsGate, IsLeftSide}
-use Rattle.aig_base.specs.Sound.{IsSound}
-use Rattle.aig_base.proofs.Gates as gates
 use Rattle.aig_base.proofs.Rewiring.{with_gate-circuit}
 use Rattle.aig_base.proofs.Gets.{get_from_Contains}
 use Rattle.aig_base.proofs.Marking.{slice_get_unmap}
 use Rattle.aig_base.proofs.Circuits.{gate_is}
 use Rattle.aig_bench.specs.declared.plan.Plan.{Plan}
-use Rattle.aig_bench.specs.Current.{AreGateFlags, IsLaidOut}
+use Rattle.aig_bench.specs.state.Current.{AreGateFlags, IsLaidOut}
 use Rattle.aig_bench.specs.Pair.{Pair}
 use Rattle.aig_bench.specs.Plan.{IsPlan, pair_of}
 
@@ -31,9 +29,6 @@ module _ (lhs r0 r1 : ℕ) where
   same_sides f [] = refl
   same_sides f (g ∷ gs) = ap (λ ls. f g.lhs ∷ ls) (same_sides f gs)
 
-  pub left_side_kept : (raw : Raw) (l : ℕ) → IsLeftSide raw l → IsLeftSide (with_gate raw lhs r0 r1) l
-  left_side_kept raw l h = subst (λ (ls : List ℕ). Contains ls l) (sym (same_sides (λ n. n) raw.gates)) h
-
   pub gate_kept : (raw : Raw) (v : ℕ) → IsGate raw v → IsGate (with_gate raw lhs r0 r1) v
   gate_kept raw v h = subst (λ (ls : List ℕ). Contains ls v) (sym (same_sides variable raw.gates)) h
 
@@ -43,20 +38,8 @@ module _ (lhs r0 r1 : ℕ) where
   same_definitions : (raw : Raw) → definitions raw ≡ definitions (with_gate raw lhs r0 r1)
   same_definitions raw = ap (λ ls. raw.inputs ++ map (λ (x : Latch). x.lit) raw.latches ++ ls) (sym (same_sides (λ n. n) raw.gates))
 
-  pub defined_kept : (raw : Raw) (v : ℕ) → IsDefined raw v → IsDefined (with_gate raw lhs r0 r1) v
-  defined_kept raw v h = subst (λ ls. Contains (0 ∷ map variable ls) v) (same_definitions raw) h
-
   pub defined_was : (raw : Raw) (v : ℕ) → IsDefined (with_gate raw lhs r0 r1) v → IsDefined raw v
   defined_was raw v h = subst (λ ls. Contains (0 ∷ map variable ls) v) (sym (same_definitions raw)) h
-
--- the gate that a left side names
-pub lhs_is : (raw : Raw) → IsSound raw → (l q : ℕ) (g : Gate) → slice_get raw.gates q ≡ Some g → IsLeftSide raw l
-    → variable g.lhs ≡ variable l → g.lhs ≡ l
-lhs_is raw sound l q g at h e =
-    let (k, stands) = get_from_Contains (map (λ (g : Gate). g.lhs) raw.gates) l h in
-    let (x, here, f) = slice_get_unmap (λ (g : Gate). g.lhs) raw.gates k l stands in
-    let same : g ≡ x = gates.same_gate raw sound q k g x at here (e ∙ ap variable (sym f)) in
-    ap (λ (y : Gate). y.lhs) same ∙ f
 
 -- a plan whose gate was rewired
 pub plan_rewired : (plan new : Plan) (lhs r0 r1 : ℕ) → IsPlan plan → new.circuit ≡ with_gate plan.circuit lhs r0 r1

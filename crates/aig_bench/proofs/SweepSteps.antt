@@ -13,17 +13,17 @@ use Rattle.aig_base.proofs.Gates.{level_of_gate}
 use Rattle.aig_sim.specs.Cells.{gate_value}
 use Rattle.aig_sim.specs.InputRows.{row_at, with_cell}
 use Rattle.aig_bench.specs.declared.latches.LatchList.{LatchList}
-use Rattle.aig_bench.specs.Latches.{Follows, HandsOn, Lists}
+use Rattle.aig_bench.specs.state.Latches.{Follows, HandsOn, Lists}
 use Rattle.aig_bench.proofs.Handed.{hands_same, hands_written, set_again}
 use Rattle.aig_bench.specs.declared.buckets.Buckets.{Buckets}
 use Rattle.aig_bench.specs.declared.plan.Plan.{Plan}
 use Rattle.aig_bench.specs.declared.settle.Net.{Net}
-use Rattle.aig_bench.specs.Buckets.{AreBuckets, Waits, Fits, Links, Takes}
-use Rattle.aig_bench.specs.Current.{AreGateFlags, IsLaidOut}
+use Rattle.aig_bench.specs.state.Buckets.{AreBuckets, Waits, Fits, Links, Takes}
+use Rattle.aig_bench.specs.state.Current.{AreGateFlags, IsLaidOut}
 use Rattle.aig_bench.specs.Plan.{pair_of}
 use Rattle.aig_parts.specs.declared.raw.Raw.{Raw}
 use Rattle.aig_base.specs.Readers.{ReaderLists, list_of, Reads, AreReaders}
-use Rattle.aig_bench.specs.Sweep.{IsWork, Sweeps}
+use Rattle.aig_bench.specs.state.Sweep.{IsWork, Sweeps}
 use Rattle.aig_bench.proofs.Cells.{get_set_other, row_written, row_other, frames_written}
 use Rattle.aig_bench.proofs.Flags.{gate_flag}
 use Rattle.aig_bench.proofs.Sweeps.{lower, swept_changed, swept_same, cell_changed, cell_same}
@@ -199,7 +199,7 @@ module _ (plan : Plan) (net : Net) (flags : List Bool) (cells : List (List Tern)
 
     -- what a change of the cell hands on
     pub hands_changed : (old new : LatchList) → Lists (λ i. Follows plan.circuit i w) old new
-        → HandsOn plan.circuit (row_at cells t) old (row_at cells' t) new
+        → HandsOn plan.circuit (row_at cells t) old.marks.items (row_at cells' t) new.marks.items
     hands_changed old new lists =
         hands_written plan.circuit (row_at cells t) (row_at cells' t) w (gate_value (row_at cells t) g) old new
         (subst (λ (z : ℕ). row_at cells' t ≡ slice_set (row_at cells t) z (gate_value (row_at cells t) g)) e row_is) lists
@@ -248,11 +248,11 @@ module _ (plan : Plan) (net : Net) (flags : List Bool) (cells : List (List Tern)
           };
         }
 
-    pub hands_unchanged : (get_or (row_at cells' t) v X ≢ get_or (row_at cells t) v X → ⊥) → (list : LatchList)
-        → HandsOn plan.circuit (row_at cells t) list (row_at cells' t) list
-    hands_unchanged f list =
+    pub hands_unchanged : (get_or (row_at cells' t) v X ≢ get_or (row_at cells t) v X → ⊥) → (marks : List Bool)
+        → HandsOn plan.circuit (row_at cells t) marks (row_at cells' t) marks
+    hands_unchanged f marks =
         let same = cell_same (row_at cells t) (row_at cells' t) v (gate_value (row_at cells t) g) row_is inside_row f in
-        hands_same plan.circuit (row_at cells t) (row_at cells' t) list (λ u. ap (λ (r : List Tern). slice_get r u) row_is
+        hands_same plan.circuit (row_at cells t) (row_at cells' t) marks (λ u. ap (λ (r : List Tern). slice_get r u) row_is
         ∙ set_again (row_at cells t) v (gate_value (row_at cells t) g) same u)
 
     pub sweeps_same : (get_or (row_at cells' t) v X ≢ get_or (row_at cells t) v X → ⊥)

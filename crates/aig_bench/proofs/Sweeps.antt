@@ -11,7 +11,7 @@ use Rattle.aig_base.specs.Grounded as by
 use Rattle.aig_base.specs.Grounded.{IsSource, Level}
 use Rattle.aig_base.specs.Levels.{AreLevels}
 use Rattle.aig_parts.specs.Literal.{variable}
-use Rattle.aig_base.specs.Marks.{IsMarked}
+use Rattle.aig_base.specs.state.Marks.{IsMarked}
 use Rattle.aig_base.specs.Sections.{IsDefined, IsGate}
 use Rattle.aig_base.proofs.Circuits.{gate_defined, gate_in_range, gate_is, rhs0_defined, rhs1_defined}
 use Rattle.aig_base.proofs.Defined.{Grounded-of_defined}
@@ -20,10 +20,10 @@ use Rattle.aig_base.proofs.OneLevel.{level_of, same_level}
 use Rattle.aig_base.proofs.Positions.{Contains-cons}
 use Rattle.aig_sim.specs.Cells.{gate_value}
 use Rattle.aig_bench.specs.Pair.{Pair, HasValue}
-use Rattle.aig_bench.specs.Current.{Holds}
-use Rattle.aig_bench.specs.Passing.{Differs, IsSide, Passing, IsConsistent}
+use Rattle.aig_bench.specs.state.Current.{Holds}
+use Rattle.aig_bench.specs.state.Passing.{Differs, IsSide, Passing, IsConsistent}
 use Rattle.aig_base.specs.Readers.{Reads}
-use Rattle.aig_bench.specs.Sweep.{Sweeping, Sweeps}
+use Rattle.aig_bench.specs.state.Sweep.{Sweeping, Sweeps}
 use Rattle.aig_bench.specs.Touched.{IsOnce}
 use Rattle.aig_bench.proofs.Cells.{get_set_same, get_set_other}
 use Rattle.aig_bench.proofs.Chained.{head_in, behind_in}

@@ -18,14 +18,14 @@ use Rattle.aig_base.specs.Value.{start_of}
 use Rattle.aig_base.proofs.Circuits.{gate_definition, gate_in_range, gate_is, rhs0_in_range, rhs1_in_range}
 use Rattle.aig_base.proofs.Gates.{level_in_range}
 use Rattle.aig_sim.specs.Cells.{HasCells, gate_value, with_gate, with_swept_row}
-use Rattle.aig_sim.specs.Frame.{HoldsAll, HoldsSources}
+use Rattle.aig_sim.specs.state.Frame.{HoldsAll, HoldsSources}
 use Rattle.aig_sim.specs.GateOrder.{IsGateOrder}
 use Rattle.aig_sim.specs.InputRows.{row_at, with_cell}
 use Rattle.aig_sim.proofs.Evaluation.{HoldsFirst, all_hold, gate_value_is, items_more, put_value, renews_none}
 use Rattle.aig_sim.proofs.SweepLemmas.{length-swept}
-use Rattle.aig_bench.specs.Current.{AreGateFlags, HoldsInputs, HoldsLatches, IsCurrentRow, IsLaidOut}
+use Rattle.aig_bench.specs.state.Current.{AreGateFlags, HoldsInputs, HoldsLatches, IsCurrentRow, IsLaidOut}
 use Rattle.aig_bench.specs.declared.plan.Plan.{Plan}
-use Rattle.aig_bench.specs.Order.{gate_at, gates_at, IsFullOrder}
+use Rattle.aig_bench.specs.state.Order.{gate_at, gates_at, IsFullOrder}
 use Rattle.aig_bench.specs.Plan.{IsPlan, pair_of}
 use Rattle.aig_bench.proofs.Cells.{get_set_other, row_written}
 use Rattle.aig_bench.proofs.Values.{sources_hold}
@@ -122,7 +122,7 @@ module _ (raw : Raw) (start : List Tern) (rows : List (List Tern)) (t : ℕ) (so
         subst (HoldsSources raw start rows t) next (λ v s. put.1.keeps v (held v s)),
         subst (HoldsFirst raw start rows t gates (suc n)) next
             (λ i k lt is. items_more
-            (λ x. Rattle.aig_sim.specs.Frame.Holds raw start rows t (with_gate (after n) g) (variable x.lhs)) gates n g at
+            (λ x. Rattle.aig_sim.specs.state.Frame.Holds raw start rows t (with_gate (after n) g) (variable x.lhs)) gates n g at
             (λ j x below here. put.1.keeps (variable x.lhs) (first j x below here)) put.2 i k (omega arith) is),
       )
 

@@ -15,7 +15,7 @@ use Rattle.aig_sim.specs.Cells.{literal_value, gate_value}
 use Rattle.aig_sim.specs.InputRows.{row_at}
 use Rattle.aig_sim.proofs.Evaluation as cells
 use Rattle.aig_bench.specs.Pair.{Pair, HasValue}
-use Rattle.aig_bench.specs.Current.{Holds, HoldsInputs, HoldsLatches, HoldsSources, IsCurrentRow}
+use Rattle.aig_bench.specs.state.Current.{Holds, HoldsInputs, HoldsLatches, HoldsSources, IsCurrentRow}
 
 module _ (p : Pair) (t : ℕ) where
   pub input_value : (i l : ℕ) (w : Tern) → IsSound p.circuit → t < length p.rows

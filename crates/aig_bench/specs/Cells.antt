@@ -1,4 +1,4 @@
--- The cells of a bench: a row a frame, a value a variable (profile).
+-- The cells of a bench: a row a frame, a value a variable (our own choice).
 use Rattle.std.specs.Prelude.{◌≡◌, ℕ, ◌*◌, ◌<◌, List, length, Some, slice_get}
 use Rattle.aig_parts.specs.declared.ternary.Tern.{Tern}
 use Rattle.aig_base.specs.Sections.{IsDefined}

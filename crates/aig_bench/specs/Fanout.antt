@@ -1,4 +1,4 @@
--- Variables that many gates read (profile).
+-- Variables of a large fan-out: many gates read them (our own choice).
 use Rattle.std.specs.Prelude.{ℕ, ◌≤◌, List, length, Contains}
 use Rattle.aig_parts.specs.declared.raw.Raw.{Raw}
 use Rattle.aig_base.specs.Readers.{Reads}

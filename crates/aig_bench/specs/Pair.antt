@@ -1,4 +1,4 @@
--- What a bench is seen as: a circuit and the rows of its stimulus, and how many gates it evaluated so far (profile).
+-- What a bench is seen as: a circuit and the rows of its stimulus, and how many gates it evaluated so far (our own choice).
 use Rattle.std.specs.Prelude.{ℕ, List}
 use Rattle.aig_parts.specs.declared.raw.Raw.{Raw}
 use Rattle.aig_parts.specs.declared.ternary.Tern.{Tern}

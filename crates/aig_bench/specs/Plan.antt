@@ -1,4 +1,4 @@
--- What a bench simulates: a circuit and a stimulus (profile).
+-- What a bench simulates: a circuit and a stimulus (our own choice).
 use Rattle.std.specs.Prelude.{◌≡◌, ◌+◌, ◌*◌, ◌≤◌, length}
 use Rattle.aig_base.specs.Circuit.{IsCircuit}
 use Rattle.aig_base.specs.Limits.{cell_limit, frame_limit}

@@ -1,4 +1,4 @@
--- The value of a literal at a frame, as a bench answers it (profile).
+-- The value of a literal at a frame, as a bench answers it (our own choice).
 use Rattle.std.specs.Prelude.{ℕ, ◌≤◌, length, Result, Ok, Err}
 use Rattle.aig_parts.specs.declared.ternary.Tern.{Tern}
 use Rattle.aig_parts.specs.Literal.{variable}

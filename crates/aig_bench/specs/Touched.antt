@@ -1,4 +1,4 @@
--- Which cells an accepted edit touches, and which it changes (profile).
+-- Which cells an accepted edit touches, and which it changes (our own choice).
 use Rattle.std.specs.Prelude.{◌≡◌, ◌≢◌, ◌⊎◌, ◌↔◌, ℕ, ◌+◌, ◌*◌, ◌<◌, List, [], ◌∷◌, length, Result, Ok, Err, Some, slice_get, Contains}
 use Rattle.aig_parts.specs.declared.ternary.Tern.{Tern}
 use Rattle.aig_parts.specs.declared.gate.Gate.{Gate}

@@ -8,7 +8,7 @@ ghost use Rattle.aig_parts.specs.Literal.{variable};
 ghost use Rattle.aig_base.specs.Sections.{IsDefined, IsLatchLiteral, IsLeftSide};
 ghost use Rattle.aig_base.specs.Sound.{IsInRange, IsSound};
 ghost use Rattle.aig_bench.specs.Edit.{Forbids, IsLeastFault, NoneApplies, append_gate, rewire, set_output, set_reset};
-ghost use Rattle.aig_bench.specs.Latches.{IsLatchAt};
+ghost use Rattle.aig_bench.specs.state.Latches.{IsLatchAt};
 ghost use Rattle.aig_bench.specs.Plan.{IsPlan, pair_of};
 
 use crate::edit::EditFault;

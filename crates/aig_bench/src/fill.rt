@@ -1,11 +1,11 @@
-//! The cells of a new frame.
+//! The cells of a new frame, evaluated in a topological order.
 ghost use Rattle.std.specs.Prelude.{◌≡◌, ◌≢◌, ℕ, ◌+◌, ◌*◌, ◌<◌, length};
 ghost use Rattle.aig_base.specs.Grounded.{IsSource};
 ghost use Rattle.aig_base.specs.Value.{start_of};
-ghost use Rattle.aig_sim.specs.Frame.{Renews};
+ghost use Rattle.aig_sim.specs.state.Frame.{Renews};
 ghost use Rattle.aig_sim.specs.InputRows.{row_at};
-ghost use Rattle.aig_bench.specs.Current.{Holds, HoldsInputs, HoldsLatches, IsCurrentBefore, IsCurrentRow, IsLaidOut};
-ghost use Rattle.aig_bench.specs.Order.{IsKnown, Orders};
+ghost use Rattle.aig_bench.specs.state.Current.{Holds, HoldsInputs, HoldsLatches, IsCurrentBefore, IsCurrentRow, IsLaidOut};
+ghost use Rattle.aig_bench.specs.state.Order.{IsKnown, Orders};
 ghost use Rattle.aig_bench.specs.Pair.{HasValue};
 ghost use Rattle.aig_bench.specs.Plan.{pair_of, IsPlan};
 

@@ -1,12 +1,13 @@
 //! One more gate in what a bench keeps.
-ghost use Rattle.std.specs.Prelude.{◌≡◌, ℕ, ◌-◌, ◌+◌, ◌<◌, true, length, IsTrue, OnOk, Some, slice_get, slice_set};
+ghost use Rattle.std.specs.Prelude.{◌≡◌, ℕ, ◌-◌, ◌+◌, ◌<◌, ◌≤◌, true, length, IsTrue, OnOk, Some, slice_get, slice_set};
 ghost use Rattle.std.specs.Vec.{vec_capacity};
+ghost use Rattle.aig_parts.specs.Formed.{limit};
 ghost use Rattle.aig_parts.specs.Literal.{variable, IsEven};
 ghost use Rattle.aig_sim.specs.Cells.{gate_value};
 ghost use Rattle.aig_sim.specs.InputRows.{row_at};
 ghost use Rattle.aig_bench.specs.declared.plan.Plan.{Plan};
-ghost use Rattle.aig_bench.specs.Buckets.{FitsOneMore};
-ghost use Rattle.aig_bench.specs.Pending.{IsReady};
+ghost use Rattle.aig_bench.specs.state.Buckets.{FitsOneMore};
+ghost use Rattle.aig_bench.specs.state.Pending.{IsReady};
 
 use crate::edit::EditReport;
 use crate::settle::{Net, Pending};
@@ -15,7 +16,7 @@ use aig_sim::Grid;
 
 /// Makes room for one more variable; nothing else changes.
 pub fn make_room<G: Grid>(grid: &mut G, net: &mut Net, pending: &mut Pending) -> Result<(), Memory>
-    requires few { length (G.gate_flags grid.old) < 4194304 }
+    requires few { length (G.gate_flags grid.old) ≤ limit }
     requires ready { (plan : Plan) × IsReady plan net.old pending.old (G.gate_flags grid.old) (G.cells grid.old) }
     ensures ready { (plan : Plan) → IsReady plan net.old pending.old (G.gate_flags grid.old) (G.cells grid.old)
         → IsReady plan net.new pending.new (G.gate_flags grid.new) (G.cells grid.new) }

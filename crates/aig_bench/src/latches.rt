@@ -3,8 +3,9 @@
 ghost use Rattle.std.specs.Prelude.{◌≡◌, ◌≢◌, ◌↔◌, ℕ, ◌+◌, ◌*◌, ◌<◌, ◌≤◌, [], ◌∷◌, ◌++◌, length, IfOk, OnOk, IfSome};
 ghost use Rattle.std.specs.Prelude.{IfNone, IsTrue, Some, slice_get};
 ghost use Rattle.std.specs.Vec.{vec_capacity};
+ghost use Rattle.aig_parts.specs.Formed.{limit};
 ghost use Rattle.aig_parts.specs.declared.raw.Raw.{Raw};
-ghost use Rattle.aig_bench.specs.Latches.{AreLatchReaders, Follows, IsLatchList, IsListed, Lists};
+ghost use Rattle.aig_bench.specs.state.Latches.{AreLatchReaders, Follows, IsLatchList, IsListed, Lists};
 
 use aig_base::{Circuit, Memory};
 use std::alloc::Global;
@@ -23,7 +24,7 @@ pub struct LatchList {
 impl LatchList {
     /// A list for so many latches, in which none is.
     pub fn new(alloc: Global, latches: usize) -> Result<LatchList, Memory>
-        requires { latches < 4194304 }
+        requires { latches ≤ limit }
         ensures list { IfOk result (IsLatchList latches) }
         ensures empty { IfOk result (λ l. (i : ℕ) → IsListed l i → ⊥) }
     {

@@ -1,7 +1,7 @@
 //! A new grid for a plan.
 ghost use Rattle.std.specs.Prelude.{◌≡◌, ◌+◌, ◌*◌, ◌<◌, ◌≤◌, length, IfOk, OnOk, []};
 ghost use Rattle.aig_bench.specs.Plan.{IsPlan};
-ghost use Rattle.aig_bench.specs.Current.{AreGateFlags, IsLaidOut};
+ghost use Rattle.aig_bench.specs.state.Current.{AreGateFlags, IsLaidOut};
 
 use crate::plan::Plan;
 use aig_base::{Circuit, Memory};

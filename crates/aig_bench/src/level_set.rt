@@ -1,7 +1,8 @@
 //! Sets of levels, a bit for each.
 ghost use Rattle.std.specs.Prelude.{◌≡◌, ◌≢◌, ◌⊎◌, ◌↔◌, ℕ, ◌+◌, ◌*◌, ◌/◌, ◌%◌, ◌<◌, ◌≤◌, IsTrue, IfOk, OnOk, IfNone};
 ghost use Rattle.std.specs.Prelude.{length, slice_index};
-ghost use Rattle.aig_bench.specs.LevelSet.{HasBit, IsFirstPlace, IsFirstFrom, IsFirstInWord};
+ghost use Rattle.aig_parts.specs.Formed.{limit};
+ghost use Rattle.aig_bench.specs.state.LevelSet.{HasBit, IsFirstPlace, IsFirstFrom, IsFirstInWord, word_limit};
 
 use aig_base::Memory;
 use std::alloc::Global;
@@ -32,7 +33,7 @@ struct BitSet {
 impl BitSet {
     /// No numbers, with room for those below `size`, in the fewest words.
     fn new(alloc: Global, size: usize) -> Result<BitSet, Memory>
-        requires { size ≤ 4194304 }
+        requires { size ≤ limit + 1 }
         ensures words { IfOk result (λ b. length b.words.items ≡ (size + 63) / 64) }
         ensures empty { IfOk result (λ b. (n : ℕ) → slice_index b.words.items n ≡ 0) }
     {
@@ -98,7 +99,7 @@ impl BitSet {
 
     /// The least number from this one on, if there is one.
     fn first_from(&self, from: usize) -> Option<usize>
-        requires { length self.now.words.items ≤ 67108864 }
+        requires { length self.now.words.items ≤ word_limit }
         ensures { IsFirstFrom self.now.words.items from result }
     {
         if let Some(number) = self.first_in_word(from) {
@@ -127,7 +128,7 @@ impl Model for LevelSet {
 
     ghost Value = { List ℕ };
 
-    ghost use Rattle.aig_bench.specs.LevelSet.{IsLevelSet};
+    ghost use Rattle.aig_bench.specs.state.LevelSet.{IsLevelSet};
 
     ghost view = { λ s. s.levels.words.items };
 
@@ -137,7 +138,7 @@ impl Model for LevelSet {
 impl LevelSet {
     /// No levels, with room for those below `size`.
     pub fn new(alloc: Global, size: usize) -> Result<LevelSet, Memory>
-        requires { size ≤ 4194304 }
+        requires { size ≤ limit + 1 }
         ensures room { IfOk result (λ s. size ≤ 64 * length s) }
         ensures empty { IfOk result (λ s. (l : ℕ) → HasBit s l → ⊥) }
     {
@@ -148,7 +149,7 @@ impl LevelSet {
 
     /// Makes room for a level, which one more word is enough for; no level comes or goes.
     pub fn make_room(&mut self, level: usize) -> Result<(), Memory>
-        requires limit { level < 4194304 }
+        requires limit { level ≤ limit }
         requires near { level / 64 ≤ length self.old }
         ensures levels { (l : ℕ) → HasBit self.new l ↔ HasBit self.old l }
         ensures more { length self.old ≤ length self.new }

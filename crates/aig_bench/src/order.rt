@@ -1,4 +1,4 @@
-//! The order in which the gates of a circuit are evaluated at a new frame.
+//! The topological order in which the gates of a circuit are evaluated at a new frame.
 ghost use Rattle.std.specs.Prelude.{◌≡◌, ◌≢◌, ℕ, ◌+◌, ◌<◌, ◌≤◌, List, length, take, All, IfOk, OnOk};
 ghost use Rattle.std.specs.Prelude.{Some, slice_get};
 ghost use Rattle.aig_parts.specs.declared.gate.Gate as gate;
@@ -9,8 +9,8 @@ ghost use Rattle.aig_base.specs.Levels.{AreLevels};
 ghost use Rattle.aig_parts.specs.Literal as literal;
 ghost use Rattle.aig_base.specs.Sections.{IsDefined, IsGate};
 ghost use Rattle.aig_sim.specs.Cells.{HasCells, with_swept_row};
-ghost use Rattle.aig_bench.specs.Current.{AreGateFlags};
-ghost use Rattle.aig_bench.specs.Order.{gates_at, ArePositions, FitsOneGate, IsFullOrder, IsKnown, Orders};
+ghost use Rattle.aig_bench.specs.state.Current.{AreGateFlags};
+ghost use Rattle.aig_bench.specs.state.Order.{gates_at, ArePositions, FitsOneGate, IsFullOrder, IsKnown, Orders};
 
 use aig_base::{Circuit, Definition, Gate, Levels, Lit, Memory, canonical_order};
 use aig_sim::{Grid, stand_in_order};

@@ -1,7 +1,7 @@
 //! The trace of a bench.
 ghost use Rattle.std.specs.Prelude.{ℕ, List};
 ghost use Rattle.aig_bytes.specs.Bytes.{Writes};
-ghost use Rattle.aig_bench.specs.Current.{IsBench};
+ghost use Rattle.aig_bench.specs.state.Current.{IsBench};
 ghost use Rattle.aig_bench.specs.Pair.{HasTrace};
 ghost use Rattle.aig_bench.specs.Plan.{pair_of};
 

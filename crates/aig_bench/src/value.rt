@@ -5,7 +5,7 @@ ghost use Rattle.aig_sim.specs.Cells.{literal_value};
 ghost use Rattle.aig_sim.specs.InputRows.{row_at};
 ghost use Rattle.aig_bench.specs.Pair.{HasValue};
 ghost use Rattle.aig_bench.specs.Plan.{pair_of, IsPlan};
-ghost use Rattle.aig_bench.specs.Current.{IsLaidOut, IsCurrentBefore};
+ghost use Rattle.aig_bench.specs.state.Current.{IsLaidOut, IsCurrentBefore};
 
 use crate::plan::Plan;
 use aig_base::{Latch, Lit, Tern};

@@ -6,7 +6,7 @@ use Rattle.std.proofs.lemmas.List.{append-nil, take-append-drop, take_more, drop
 use Rattle.std.proofs.lemmas.List.Concat.{flat_map-append}
 use Rattle.std.proofs.lemmas.Bool.{false≢true}
 use Rattle.aig_bytes.specs.Bytes.{after, Writes}
-use Rattle.aig_bytes.specs.Gathered.{Gathers}
+use Rattle.aig_bytes.specs.state.Gathered.{Gathers}
 use Rattle.aig_bytes.proofs.WriteLemmas.{after-append, after-nil, writes_then, writes_same}
 
 -- parts that join

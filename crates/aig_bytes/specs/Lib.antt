@@ -1,5 +1,5 @@
 pub mod Buffered
 pub mod Bytes
 pub mod Filled
-pub mod Gathered
 pub mod Wrapped
+pub mod state

@@ -1,13 +1,18 @@
 //! Bytes that wait to be handed on.
 ghost use Rattle.std.specs.Prelude.{◌≡◌, ◌+◌, ◌<◌, ◌≤◌, ◌↔◌, [], ◌∷◌, ◌++◌, length, take, drop, false, IsTrue};
+ghost use Rattle.std.specs.Fmt.{decimal};
 
+use itoa::write_digits;
 use std::marker::Model;
 
 /// How many bytes a block has room for.
-const ROOM: usize = 4096;
+const ROOM: usize = 32_768;
 
-/// Bytes that wait in a plain array, 4,096 at most. They are taken out in front and put in behind. No byte is moved, so
-/// the room of those that were taken out serves again only once none waits.
+/// How many bytes the longest number takes.
+const DIGITS: usize = 10;
+
+/// Bytes that wait in a plain array, 32,768 at most. They are taken out in front and put in behind. No byte is moved,
+/// so the room of those that were taken out serves again only once none waits.
 #[derive(Drop)]
 pub struct Block {
     bytes: [u8; ROOM],
@@ -24,7 +29,26 @@ impl Model for Block {
     ghost view = { λ b. drop b.start (take b.end b.bytes) };
 
     // With none waiting there is all the room.
-    ghost invariant = { λ b. (b.start ≤ b.end) × (b.end ≤ 4096) × (b.start ≡ b.end → b.end ≡ 0) };
+    ghost invariant = { λ b. (b.start ≤ b.end) × (b.end ≤ 32768) × (b.start ≡ b.end → b.end ≡ 0) };
+}
+
+/// How many digits a number has.
+fn digit_count(number: u32) -> usize
+    ensures digits { result ≡ length (decimal number) }
+    ensures most { result ≤ 10 }
+{
+    match number {
+        0..=9 => 1,
+        10..=99 => 2,
+        100..=999 => 3,
+        1_000..=9_999 => 4,
+        10_000..=99_999 => 5,
+        100_000..=999_999 => 6,
+        1_000_000..=9_999_999 => 7,
+        10_000_000..=99_999_999 => 8,
+        100_000_000..=999_999_999 => 9,
+        _ => 10,
+    }
 }
 
 impl Block {
@@ -79,6 +103,41 @@ impl Block {
         }
         self.bytes[behind] = byte;
         self.end = behind + 1;
+        true
+    }
+
+    /// Puts in a number's digits and the byte that ends it behind those that wait, where there is room for the longest
+    /// number there, and answers whether there was. Where there was none nothing changes.
+    pub fn push_field(&mut self, number: u32, end: u8) -> bool
+        ensures pushed { IsTrue result → self.new ≡ self.old ++ (decimal number ++ end ∷ []) }
+        ensures full { result ≡ false → self.new ≡ self.old }
+        ensures some { self.old ≡ [] → IsTrue result }
+    {
+        let behind = self.end;
+        if ROOM - behind <= DIGITS {
+            return false;
+        }
+        let last = behind + digit_count(number);
+        write_digits(number as u64, &mut self.bytes, last);
+        self.bytes[last] = end;
+        self.end = last + 1;
+        true
+    }
+
+    /// Puts in the first of four bytes behind those that wait, where there is room for all four there, and answers
+    /// whether there was. Where there was none nothing changes.
+    pub fn push_first(&mut self, bytes: [u8; 4], count: usize) -> bool
+        requires { count ≤ 4 }
+        ensures pushed { IsTrue result → self.new ≡ self.old ++ take count bytes }
+        ensures full { result ≡ false → self.new ≡ self.old }
+        ensures some { self.old ≡ [] → IsTrue result }
+    {
+        let behind = self.end;
+        if ROOM - behind < 4 {
+            return false;
+        }
+        self.bytes[behind..behind + 4].copy_from_slice(&bytes);
+        self.end = behind + count;
         true
     }
 

@@ -8,9 +8,12 @@ use crate::bytes::{Failed, Write};
 use crate::count::Count;
 use std::marker::Model;
 
-/// Holds back what it takes, 4,096 bytes at most, and hands it on to another writer where a write finds no room, and at
-/// a flush. What it holds when it is dropped is lost. Once the other writer failed, this one is broken: it never calls
-/// the other again, and refuses each call.
+/// From how many bytes on a piece is not held back.
+const LARGE: usize = 4096;
+
+/// Holds back small pieces, 32,768 bytes at most, and hands them on to another writer where a write finds no room,
+/// before a piece of 4,096 bytes or more, which goes straight on, and at a flush. What it holds when it is dropped is
+/// lost. Once the other writer failed, this one is broken: it never calls the other again, and refuses each call.
 #[derive(Drop)]
 pub struct Buffered<W> {
     inner: W,
@@ -70,6 +73,27 @@ impl<W: Write> Buffered<W> {
         }
         Ok(())
     }
+
+    // Takes bytes from the front: large pieces go straight on, behind what is held, and others are held.
+    fn take(&mut self, bytes: &[u8]) -> Result<usize, Failed>
+        ensures bound { IfOk result (λ n. n ≤ length bytes.now) }
+        ensures some { IfOk result (λ n. 0 < length bytes.now → 0 < n) }
+        ensures handed { HandsOn W.written self.old self.new (moved result bytes.now) }
+        ensures count { W.failures self.new.inner ≡ W.failures self.old.inner + failed result }
+        ensures broken { self.new.is_broken ≡ self.old.is_broken }
+        ensures failures { self.new.failures ≡ self.old.failures }
+    {
+        if bytes.len() >= LARGE {
+            self.hand_on()?;
+            return self.inner.write(bytes);
+        }
+        let count = self.held.append(bytes);
+        if count > 0 || bytes.is_empty() {
+            return Ok(count);
+        }
+        self.hand_on()?;
+        Ok(self.held.append(bytes))
+    }
 }
 
 impl<W: Write> Write for Buffered<W> {
@@ -94,14 +118,10 @@ impl<W: Write> Write for Buffered<W> {
         if self.is_broken {
             return Err(self.fail());
         }
-        let count = self.held.append(bytes);
-        if count > 0 || bytes.is_empty() {
-            return Ok(count);
+        match self.take(bytes) {
+            Ok(count) => Ok(count),
+            Err(Failed) => Err(self.fail()),
         }
-        if self.hand_on().is_err() {
-            return Err(self.fail());
-        }
-        Ok(self.held.append(bytes))
     }
 
     fn flush(&mut self) -> Result<(), Failed>

@@ -37,18 +37,6 @@ impl<T> Std<T> {
             failures: Count::zero(),
         }
     }
-
-    /// The reader or the writer itself.
-    pub fn into_inner(self) -> T
-        ensures { result ≡ self.inner }
-    {
-        let Std {
-            inner,
-            reads_left: _,
-            failures: _,
-        } = self;
-        inner
-    }
 }
 
 impl<T: io::Read> Read for Std<T> {

@@ -8,11 +8,14 @@ use Rattle.aig_format.specs.Verdict.{IsReading, Raises, FaultRaises}
 use Rattle.aig_parts.specs.declared.raw.Raw.{Raw}
 use Rattle.aig_bytes.specs.Bytes.{Writes}
 use Rattle.aig_format.specs.declared.header.Format.{Format}
+use Rattle.aig_sim.specs.declared.stimulus_fault.StimFault.{StimFault}
+use Rattle.aig_sim.specs.Simulated.{Streams}
 use Rattle.aig_engines.specs.declared.run_fault.RunFault.{RunFault}
 use Rattle.aig_engines.specs.declared.run_fault.RunFault.TheVariants as parts
-use Rattle.aig_engines.specs.Engines.{SimulationEnds}
+use Rattle.aig_engines.specs.Engines.{RunEnds}
 use Rattle.aig_engines.specs.Run.{IsFileOf}
-use Rattle.aig_engines.specs.Converted.{IsConverted, IsWritten, ConversionEnds, EndsFrom, output_of, reads_failed}
+use Rattle.aig_engines.specs.Converted.{IsConverted, IsWritten, ConversionEnds, EndsFrom, reads_failed}
+use Rattle.aig_engines.specs.state.Faults.{output_of}
 
 module _ {X : Type 0} (written : X → Option (List ℕ)) (failures : X → ℕ) (old new : X) where
   -- a writer's answer, as the output's
@@ -96,14 +99,15 @@ module _ {Y X : Type 0} (left : Y → Option (List ℕ)) (read_failures : Y → 
         unwritten = λ is. absurd (none.1 is);
       }
 
--- the same of a simulation
+-- the same of a run on a stimulus, whatever it writes
 module _ {Z Y X : Type 0} (left : Z → Option (List ℕ)) (read_failures : Z → ℕ) (stimulus_left : Y → Option (List ℕ))
-    (stimulus_failures : Y → ℕ) (written : X → Option (List ℕ)) (failures : X → ℕ) (reader reader' : Z) where
+    (stimulus_failures : Y → ℕ) (written : X → Option (List ℕ)) (failures : X → ℕ) (reader reader' : Z)
+    (Runs : Raw → Streams → Streams → Option (List ℕ) → Option (List ℕ) → Result ℕ StimFault → Type 0) where
   pub unread_from : (stimulus : Y) (out : X) (fault : Fault)
       → ((bytes : List ℕ) → left reader ≡ Some bytes → IsReadWhole (Err fault) → IsReading bytes (Err fault))
       → Raises {X = Raw} (Err fault) (read_failures reader) (read_failures reader')
       → EndsFrom {T = ℕ} left read_failures reader reader' out out
-      (λ bytes. SimulationEnds stimulus_left stimulus_failures written failures stimulus stimulus out out bytes (Err (parts.Circuit fault)))
+      (λ bytes. RunEnds stimulus_left stimulus_failures written failures Runs stimulus stimulus out out bytes (Err (parts.Circuit fault)))
       (Err (parts.Circuit fault))
   unread_from stimulus out fault answers count = record {
     ended = λ bytes e ne. let io : fault ≢ circuits.Io = (λ is. ne (ap (λ f. Err (parts.Circuit f)) is)) in
@@ -112,15 +116,15 @@ module _ {Z Y X : Type 0} (left : Z → Option (List ℕ)) (read_failures : Z �
     unwritten = λ is. refl;
   }
 
-  pub simulated_from : (stimulus stimulus' : Y) (out out' : X) (raw : Raw) (r : Result ℕ RunFault)
+  pub run_from : (stimulus stimulus' : Y) (out out' : X) (raw : Raw) (r : Result ℕ RunFault)
       → ((bytes : List ℕ) → left reader ≡ Some bytes → IsReadWhole (Ok raw) → IsReading bytes (Ok raw))
       → IsCircuit raw → Raises {X = Raw} (Ok raw) (read_failures reader) (read_failures reader')
       → ((file : List ℕ) → IsFileOf file raw
-      → SimulationEnds stimulus_left stimulus_failures written failures stimulus stimulus' out out' file r)
+      → RunEnds stimulus_left stimulus_failures written failures Runs stimulus stimulus' out out' file r)
       → reads_failed r ≡ 0
       → EndsFrom left read_failures reader reader' out out'
-      (λ bytes. SimulationEnds stimulus_left stimulus_failures written failures stimulus stimulus' out out' bytes r) r
-  simulated_from stimulus stimulus' out out' raw r answers circuit count ends none = record {
+      (λ bytes. RunEnds stimulus_left stimulus_failures written failures Runs stimulus stimulus' out out' bytes r) r
+  run_from stimulus stimulus' out out' raw r answers circuit count ends none = record {
     ended = λ bytes e ne.
         let reading = answers bytes e (λ is. let no : ⊥ = cc in no) in
         ends bytes (record { spelled = reading.found; circuit = circuit });

@@ -3,7 +3,9 @@ pub mod Conversions
 pub mod Digits
 pub mod Fields
 pub mod FirstBytes
+pub mod InfoLemmas
 pub mod Inputs
+pub mod KeptFiles
 pub mod Pieces
 pub mod ReplyLemmas
 pub mod RowLines

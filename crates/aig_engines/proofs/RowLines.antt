@@ -15,7 +15,8 @@ use Rattle.aig_bench.specs.declared.edit.EditFault.TheVariants as faults
 use Rattle.aig_bench.specs.Pair.{Pair}
 use Rattle.aig_bench.specs.Edit as edits
 use Rattle.aig_engines.specs.Command.{edit, value, trace, unroll, IsNoCommand, command_text}
-use Rattle.aig_engines.specs.Replies.{WholeReply, row_fault_reply}
+use Rattle.aig_engines.specs.Replies.{WholeReply}
+use Rattle.aig_engines.specs.state.Faults.{row_fault_reply}
 
 value_of : (b : ℕ) → IsCharacter b → (w : Tern) × (b ≡ character w)
 value_of b (inl e) = (Zero, e)

@@ -1,4 +1,4 @@
--- Checks of a witness from bytes to a verdict's line (profile).
+-- Checks of a witness from bytes to a verdict's line (our own choice).
 use Rattle.std.specs.Prelude.{◌≡◌, ℕ, List, ◌++◌, Option, Result, Ok, Err, codes}
 use Rattle.std.specs.Fmt.{decimal}
 use Rattle.aig_parts.specs.declared.raw.Raw.{Raw}

@@ -1,4 +1,4 @@
--- Commands of a script, as they are written (profile).
+-- Commands of a script, as they are written (our own choice).
 use Rattle.std.specs.Prelude.{◌≢◌, ℕ, ◌^◌, ◌<◌, List, [], ◌∷◌, ◌++◌, codes, map}
 use Rattle.std.specs.Fmt.{decimal}
 use Rattle.aig_parts.specs.declared.ternary.Tern.{Tern}

@@ -1,4 +1,4 @@
--- Conversion of a circuit file (profile).
+-- Conversion of a circuit file (our own choice).
 use Rattle.std.specs.Prelude.{◌≡◌, ◌≢◌, ◌⊎◌, ℕ, ◌+◌, List, Option, Some, Result, Ok, Err}
 use Rattle.aig_parts.specs.declared.raw.Raw.{Raw}
 use Rattle.aig_parts.specs.declared.fault.Fault.TheVariants as circuits
@@ -34,11 +34,6 @@ IsWritten written failures old new raw to (Err _) = ⊥
 abbrev pub ConversionEnds : {X : Type 0} → (X → Option (List ℕ)) → (X → ℕ) → X → X → List ℕ → Format → Result (Unit {0}) RunFault → Type 0
 ConversionEnds written failures old new file to (Err (parts.Circuit fault)) = RefusesCircuit file fault × (new ≡ old)
 ConversionEnds written failures old new file to r = (raw : Raw) × IsFileOf file raw × IsWritten written failures old new raw to r
-
--- a failing write is the output's
-abbrev pub output_of : {T E : Type 0} → Result T E → Result T RunFault
-output_of (Ok done) = Ok done
-output_of (Err fault) = Err parts.Output
 
 -- how many reads of the circuit failed, by the answer
 abbrev pub reads_failed : {T : Type 0} → Result T RunFault → ℕ

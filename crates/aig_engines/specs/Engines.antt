@@ -1,39 +1,45 @@
--- How the engines end that take a circuit's bytes: a simulation, and a bench that a script drives.
+-- How the engines end that take a circuit's bytes: a simulation, a dump, and a bench that a script drives.
 use Rattle.std.specs.Prelude.{◌≡◌, ℕ, List, Option, Result, Ok, Err}
 use Rattle.aig_parts.specs.declared.raw.Raw.{Raw}
+use Rattle.aig_sim.specs.declared.stimulus_fault.StimFault.{StimFault}
 use Rattle.aig_sim.specs.declared.stimulus_fault.StimFault.TheVariants as stimuli
+use Rattle.aig_sim.specs.Dumped.{Dumps}
 use Rattle.aig_sim.specs.Simulated.{Streams, Simulates}
 use Rattle.aig_bench.specs.Pair.{Pair}
 use Rattle.aig_engines.specs.declared.run_fault.RunFault.{RunFault}
 use Rattle.aig_engines.specs.declared.run_fault.RunFault.TheVariants.{Circuit, Stimulus, Script}
-use Rattle.aig_engines.specs.declared.script_fault.ScriptFault.{ScriptFault}
 use Rattle.aig_engines.specs.declared.script_fault.ScriptFault.TheVariants as scripts
 use Rattle.aig_engines.specs.Ran.{Ran, Failing}
 use Rattle.aig_engines.specs.Run.{IsFileOf, AreBenchFiles, RefusesCircuit, RefusesFiles}
-
--- a fault of a script is the run's
-abbrev pub script_of : Result (Unit {0}) ScriptFault → Result (Unit {0}) RunFault
-script_of (Ok done) = Ok done
-script_of (Err fault) = Err (Script fault)
 
 module _ {Y X : Type 0} (left : Y → Option (List ℕ)) (read_failures : Y → ℕ) (written : X → Option (List ℕ)) (failures : X → ℕ) where
   abbrev streams : Y → X → Streams
   streams reader out = record { left = left reader; reads = read_failures reader; writes = failures out }
 
-  -- How a simulation from bytes ends. The file is refused, and nothing was read or written; its circuit was simulated, to
-  -- the end or to a fault of the stimulus; or no memory was found for that, and nothing was read or written.
-  abbrev pub SimulationEnds : Y → Y → X → X → List ℕ → Result ℕ RunFault → Type 0
-  SimulationEnds reader reader' out out' file (Ok frames) =
+  -- How a run of a circuit on a stimulus ends, from bytes, where `Runs` says what it reads and writes. The file is
+  -- refused, and nothing was read or written; its circuit was run, to the end or to a fault of the stimulus; or no
+  -- memory was found for that, and nothing was read or written.
+  abbrev pub RunEnds : (Raw → Streams → Streams → Option (List ℕ) → Option (List ℕ) → Result ℕ StimFault → Type 0)
+      → Y → Y → X → X → List ℕ → Result ℕ RunFault → Type 0
+  RunEnds Runs reader reader' out out' file (Ok frames) =
       (raw : Raw) × IsFileOf file raw
-      × Simulates raw (streams reader out) (streams reader' out') (written out) (written out') (Ok frames)
-  SimulationEnds reader reader' out out' file (Err (Circuit fault)) =
+      × Runs raw (streams reader out) (streams reader' out') (written out) (written out') (Ok frames)
+  RunEnds Runs reader reader' out out' file (Err (Circuit fault)) =
       RefusesCircuit file fault × (reader' ≡ reader) × (out' ≡ out)
-  SimulationEnds reader reader' out out' file (Err (Stimulus stimuli.Memory)) =
+  RunEnds Runs reader reader' out out' file (Err (Stimulus stimuli.Memory)) =
       ((raw : Raw) × IsFileOf file raw) × (reader' ≡ reader) × (out' ≡ out)
-  SimulationEnds reader reader' out out' file (Err (Stimulus fault)) =
+  RunEnds Runs reader reader' out out' file (Err (Stimulus fault)) =
       (raw : Raw) × IsFileOf file raw
-      × Simulates raw (streams reader out) (streams reader' out') (written out) (written out') (Err fault)
-  SimulationEnds reader reader' out out' file (Err _) = ⊥
+      × Runs raw (streams reader out) (streams reader' out') (written out) (written out') (Err fault)
+  RunEnds Runs reader reader' out out' file (Err _) = ⊥
+
+  -- a simulation: the trace is written
+  abbrev pub SimulationEnds : Y → Y → X → X → List ℕ → Result ℕ RunFault → Type 0
+  SimulationEnds = RunEnds Simulates
+
+  -- a dump: the text of the value change dump is written
+  abbrev pub WaveEnds : Y → Y → X → X → List ℕ → Result ℕ RunFault → Type 0
+  WaveEnds = RunEnds Dumps
 
   -- How a bench from bytes ends. Its script was run to the end, and what was written are its replies; it was not, as a
   -- read, a write or a flush failed; no memory was found for it, or a part is refused for a reason of its own, and then

@@ -3,11 +3,13 @@ pub mod Command
 pub mod Converted
 pub mod Delivered
 pub mod Engines
+pub mod Info
+pub mod Kept
 pub mod Lines
 pub mod Ran
-pub mod Meaning
 pub mod Replies
 pub mod Run
 pub mod ScriptLine
 pub mod Status
 pub mod Unrolling
+pub mod state

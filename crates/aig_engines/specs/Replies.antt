@@ -1,17 +1,14 @@
--- The meaning of a script: its lines in turn, from one circuit and rows to another, and their replies (profile).
+-- The meaning of a script: its lines in turn, from one circuit and rows to another, and their replies (our own choice).
 use Rattle.std.specs.Prelude.{◌≡◌, ◌⊎◌, ℕ, List, length, [], ◌∷◌, ◌++◌, Result, Ok, Err, codes}
 use Rattle.std.specs.Fmt.{decimal}
 use Rattle.aig_parts.specs.declared.raw.Raw.{Raw}
 use Rattle.aig_parts.specs.declared.ternary.Tern.{Tern}
 use Rattle.aig_format.specs.Spelling.{short_ascii}
-use Rattle.aig_sim.specs.declared.stimulus_fault.StimFault.{StimFault}
-use Rattle.aig_sim.specs.declared.stimulus_fault.StimFault.TheVariants as stimuli
 use Rattle.aig_sim.specs.StimulusText.{character}
 use Rattle.aig_unroll.specs.declared.fault.UnrollFault.{UnrollFault}
 use Rattle.aig_unroll.specs.Answers as unrolling
 use Rattle.aig_unroll.specs.Answers.{AnswersUnrolling}
 use Rattle.aig_bench.specs.declared.edit.EditFault.{EditFault}
-use Rattle.aig_bench.specs.declared.edit.EditFault.TheVariants as faults
 use Rattle.aig_bench.specs.Pair.{Pair, HasTrace}
 use Rattle.aig_bench.specs.Edit.{Edit, Edits, number_of}
 use Rattle.aig_bench.specs.Question.{AnswersValue}
@@ -37,15 +34,6 @@ value_reply (Err f) = refusal f
 abbrev pub unroll_reply : Result Raw UnrollFault → List ℕ
 unroll_reply (Ok circuit) = short_ascii circuit ++ codes ".\n"
 unroll_reply (Err f) = numbered_refusal (unrolling.number_of f)
-
--- For proofs: the reply to a line that appends a frame, by what is wrong with its row.
-abbrev pub row_fault_reply : StimFault → List ℕ
-row_fault_reply (stimuli.Length n) = refusal faults.Length
-row_fault_reply (stimuli.Char n) = codes "bad\n"
-row_fault_reply stimuli.Unfinished = codes "bad\n"
-row_fault_reply stimuli.Limit = codes "bad\n"
-row_fault_reply stimuli.Memory = codes "bad\n"
-row_fault_reply stimuli.Io = codes "bad\n"
 
 -- an edit, from one pair to another
 abbrev pub EditReply : Pair → Edit → List ℕ → Pair → Type 0

@@ -1,4 +1,4 @@
--- The exit status of a refused run (profile).
+-- The exit status of a refused run (our own choice).
 use Rattle.std.specs.Prelude.{ℕ}
 use Rattle.aig_parts.specs.declared.fault.Fault.TheVariants as circuits
 use Rattle.aig_sim.specs.declared.stimulus_fault.StimFault.TheVariants as stimuli

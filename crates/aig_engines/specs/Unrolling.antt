@@ -1,4 +1,4 @@
--- Unrolling of a circuit file (profile).
+-- Unrolling of a circuit file (our own choice).
 use Rattle.std.specs.Prelude.{◌≡◌, ℕ, List, Option, Result, Ok, Err}
 use Rattle.aig_parts.specs.declared.raw.Raw.{Raw}
 use Rattle.aig_bytes.specs.Bytes.{Writes}

@@ -50,7 +50,7 @@ fn verdict_of(alloc: Global, circuit: &[u8], witness: &[u8]) -> Result<Verdict, 
     Ok(check_witness(alloc, &circuit, witness)?)
 }
 
-/// Checks a witness against the circuit of a file (AIGER 1.9, witnesses; profile), writes the verdict's line
+/// Checks a witness against the circuit of a file (AIGER 1.9, witnesses; our own choice), writes the verdict's line
 /// (`confirmed`, `initial P`, `constraint T P` or `not bad`) and answers the verdict: for every circuit file that is
 /// accepted and every witness for it. A circuit that is refused wins over the witness; at a refusal nothing is written.
 pub fn check_bytes<W: Write>(

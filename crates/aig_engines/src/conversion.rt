@@ -1,7 +1,8 @@
 //! Conversion of a circuit file, from its bytes or from a reader, to a writer.
 ghost use Rattle.std.specs.Prelude.{◌≡◌};
 ghost use Rattle.aig_format.specs.declared.header.Format.TheVariants.{Binary};
-ghost use Rattle.aig_engines.specs.Converted.{ConversionEnds, EndsFrom, IsWritten, output_of};
+ghost use Rattle.aig_engines.specs.Converted.{ConversionEnds, EndsFrom, IsWritten};
+ghost use Rattle.aig_engines.specs.state.Faults.{output_of};
 
 use crate::engine::read_circuit;
 use crate::run_fault::RunFault;

@@ -3,16 +3,22 @@ ghost use Rattle.std.specs.Prelude.{◌≡◌};
 ghost use Rattle.aig_engines.specs.Checked.{CheckEnds};
 ghost use Rattle.aig_engines.specs.Converted.{ConversionEnds, EndsFrom};
 ghost use Rattle.aig_engines.specs.Delivered.{Delivers, IsHandedOn, all_written, calls_failed};
-ghost use Rattle.aig_engines.specs.Engines.{BenchEnds, SimulationEnds};
+ghost use Rattle.aig_engines.specs.Engines.{BenchEnds, SimulationEnds, WaveEnds};
+ghost use Rattle.aig_engines.specs.Info.{InfoEnds};
+ghost use Rattle.aig_engines.specs.Kept.{BenchLeft};
 ghost use Rattle.aig_engines.specs.Unrolling.{UnrollingEnds};
 
 use crate::checking::check_bytes;
 use crate::conversion::convert_from;
 use crate::engine::{run_bench, simulate_from};
+use crate::info::info_bytes;
+use crate::keeping::bench_after_script;
 use crate::run_fault::RunFault;
 use crate::script_fault::ScriptFault;
 use crate::unrolling::unroll_bytes;
+use crate::wave::wave_from;
 use aig_base::{Buffered, Failed, Read, Write};
+use aig_bench::Bench;
 use aig_format::Format;
 use aig_sim::{PlaneGrid, StimFault, Verdict};
 use std::alloc::Global;
@@ -50,6 +56,23 @@ pub fn deliver_trace<C: Read, R: Read, W: Write>(
     handed_on(done, out, RunFault::Stimulus(StimFault::Io))
 }
 
+/// Writes the value change dump of a run, and answers how many frames there were. Where the writer below fails, the
+/// fault is the stimulus's.
+pub fn deliver_wave<C: Read, R: Read, W: Write>(
+    alloc: Global,
+    circuit: &mut C,
+    stimulus: &mut R,
+    out: &mut Buffered<W>,
+) -> Result<u64, RunFault>
+    ensures { Delivers W.written (RunFault.Stimulus StimFault.Io)
+        (λ left answer. EndsFrom C.left C.failures circuit.old circuit.new out.old left
+        (λ bytes. WaveEnds R.left R.failures (all_written W.written) calls_failed
+        stimulus.old stimulus.new out.old left bytes answer) answer) out.new result }
+{
+    let done = wave_from(alloc, circuit, stimulus, out);
+    handed_on(done, out, RunFault::Stimulus(StimFault::Io))
+}
+
 /// Writes the replies to a script. Where the writer below fails, the fault is the script's.
 pub fn deliver_replies<R: Read, W: Write>(
     alloc: Global,
@@ -64,6 +87,25 @@ pub fn deliver_replies<R: Read, W: Write>(
         circuit.now stimulus.now answer) out.new result }
 {
     let done = run_bench::<PlaneGrid, R, Buffered<W>>(alloc, circuit, stimulus, script, out);
+    handed_on(done, out, RunFault::Script(ScriptFault::Io))
+}
+
+/// Writes the replies to a script, and answers the bench that it leaves. Where the writer below fails, there is none,
+/// and the fault is the script's.
+pub fn deliver_bench<R: Read, W: Write>(
+    alloc: Global,
+    circuit: &[u8],
+    stimulus: &[u8],
+    script: &mut R,
+    out: &mut Buffered<W>,
+) -> Result<Bench<PlaneGrid>, RunFault>
+    ensures { Delivers W.written (RunFault.Script ScriptFault.Io)
+        (λ left answer. BenchLeft R.left R.failures (all_written W.written) calls_failed script.old script.new
+        out.old left circuit.now stimulus.now answer) out.new result }
+{
+    let done = bench_after_script::<PlaneGrid, R, Buffered<W>>(
+        alloc, circuit, stimulus, script, out,
+    );
     handed_on(done, out, RunFault::Script(ScriptFault::Io))
 }
 
@@ -96,6 +138,20 @@ pub fn deliver_verdict<W: Write>(
         out.new result }
 {
     let done = check_bytes(alloc, circuit, witness, out);
+    handed_on(done, out, RunFault::Output)
+}
+
+/// Writes what a circuit file holds. Where the writer below fails, the fault is the output's.
+pub fn deliver_info<W: Write>(
+    alloc: Global,
+    circuit: &[u8],
+    out: &mut Buffered<W>,
+) -> Result<(), RunFault>
+    ensures { Delivers W.written RunFault.Output
+        (λ left answer. InfoEnds (all_written W.written) calls_failed out.old left circuit.now answer)
+        out.new result }
+{
+    let done = info_bytes(alloc, circuit, out);
     handed_on(done, out, RunFault::Output)
 }
 

@@ -4,7 +4,8 @@ ghost use Rattle.aig_base.specs.Circuit.{IsCircuit};
 ghost use Rattle.aig_base.specs.Limits.{frame_limit};
 ghost use Rattle.aig_sim.specs.StimulusText.{SpellsRows};
 ghost use Rattle.aig_engines.specs.Converted.{EndsFrom, reads_failed};
-ghost use Rattle.aig_engines.specs.Engines.{BenchEnds, SimulationEnds, script_of};
+ghost use Rattle.aig_engines.specs.Engines.{BenchEnds, SimulationEnds};
+ghost use Rattle.aig_engines.specs.state.Faults.{script_of};
 ghost use Rattle.aig_engines.specs.Run.{IsFileOf, AreBenchFiles, RefusesCircuit, RefusesStimulus, RefusesFiles};
 
 use crate::run_fault::RunFault;
@@ -50,7 +51,7 @@ pub fn open_bench<G: Grid>(
 }
 
 /// A fault of a script is the run's.
-fn as_script(done: Result<(), ScriptFault>) -> Result<(), RunFault>
+pub fn as_script(done: Result<(), ScriptFault>) -> Result<(), RunFault>
     ensures { result ≡ script_of done }
 {
     match done {

@@ -1,4 +1,5 @@
-//! What the program does, from bytes to bytes: conversion, simulation, unrolling, checks of witnesses, and scripts.
+//! What the program does, from bytes to bytes: conversion, simulation, dumps, unrolling, checks of witnesses,
+//! scripts, and what a circuit is.
 #![tactic(auto)]
 
 mod checking;
@@ -6,6 +7,8 @@ mod command;
 mod conversion;
 mod delivery;
 mod engine;
+mod info;
+mod keeping;
 mod laws;
 mod reply;
 mod run_fault;
@@ -13,15 +16,20 @@ mod script;
 mod script_fault;
 mod script_line;
 mod unrolling;
+mod wave;
 
 pub use checking::check_bytes;
 pub use conversion::{convert, convert_from};
 pub use delivery::{
-    deliver_circuit, deliver_replies, deliver_trace, deliver_unrolled, deliver_verdict,
+    deliver_bench, deliver_circuit, deliver_info, deliver_replies, deliver_trace, deliver_unrolled,
+    deliver_verdict, deliver_wave,
 };
 pub use engine::{run_bench, simulate_from};
-pub use laws::law_of_lines;
+pub use info::{Facts, info_bytes};
+pub use keeping::{bench_after_script, keep_circuit, keep_stimulus};
+pub use laws::{law_of_kept_files, law_of_lines};
 pub use run_fault::RunFault;
 pub use script::run_script;
 pub use script_fault::ScriptFault;
 pub use unrolling::unroll_bytes;
+pub use wave::wave_from;

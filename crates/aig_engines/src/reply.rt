@@ -7,9 +7,10 @@ ghost use Rattle.aig_sim.specs.LineInHand.{Keeps};
 ghost use Rattle.aig_unroll.specs.declared.fault.UnrollFault.{UnrollFault};
 ghost use Rattle.aig_unroll.specs.Answers as unrolling;
 ghost use Rattle.aig_unroll.specs.Answers.{AnswersUnrolling};
-ghost use Rattle.aig_engines.specs.Meaning.{meaning};
+ghost use Rattle.aig_engines.specs.state.Meaning.{meaning};
 ghost use Rattle.aig_engines.specs.Replies.{numbered_refusal, refusal, edit_reply, value_reply, unroll_reply};
-ghost use Rattle.aig_engines.specs.Replies.{row_fault_reply, CommandReply, WholeReply};
+ghost use Rattle.aig_engines.specs.Replies.{CommandReply, WholeReply};
+ghost use Rattle.aig_engines.specs.state.Faults.{row_fault_reply};
 ghost use Rattle.aig_engines.specs.ScriptLine.{BeginsRow, KeepsLine};
 
 use crate::command::{Command, parse_command};

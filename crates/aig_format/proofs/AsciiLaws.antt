@@ -10,8 +10,8 @@ use Rattle.aig_format.specs.declared.header.Counts.{Counts}
 use Rattle.aig_format.specs.Header.{counts_of}
 use Rattle.aig_format.specs.Spelling.{literal_line, latch_line, gate_line, lines, properties_of, names_text}
 use Rattle.aig_format.specs.Spells.{HasSmallNumbers, HasSpelling}
-use Rattle.aig_format.specs.ReadingSections.{latch_at, gate_at, lines_at}
-use Rattle.aig_format.specs.ReadingFile.{ascii_at}
+use Rattle.aig_format.specs.state.ReadingSections.{latch_at, gate_at, lines_at}
+use Rattle.aig_format.specs.state.ReadingFile.{ascii_at}
 use Rattle.aig_format.proofs.Steps.{done_is}
 use Rattle.aig_format.proofs.Joins.{join2, join_end}
 use Rattle.aig_format.proofs.Numbers.{bind_then}

@@ -15,8 +15,8 @@ use Rattle.aig_format.specs.declared.header.Counts.{Counts}
 use Rattle.aig_format.specs.Header.{AreWithin, counts_of}
 use Rattle.aig_format.specs.Spelling.{implicit_latch_line, gate_deltas, lines, properties_of, names_text}
 use Rattle.aig_format.specs.Spells.{greatest, AreSmall, HasSmallNumbers, HasSpelling}
-use Rattle.aig_format.specs.ReadingSections.{implicit_latch_at, implicit_gate_at, lines_at}
-use Rattle.aig_format.specs.ReadingFile.{binary_at}
+use Rattle.aig_format.specs.state.ReadingSections.{implicit_latch_at, implicit_gate_at, lines_at}
+use Rattle.aig_format.specs.state.ReadingFile.{binary_at}
 use Rattle.aig_format.proofs.Steps.{done, done_is}
 use Rattle.aig_format.proofs.Joins.{join2, join_end}
 use Rattle.aig_format.proofs.Numbers.{bind_then}

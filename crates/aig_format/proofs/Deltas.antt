@@ -4,7 +4,7 @@ use Rattle.std.proofs.Common.{eqb, ◌||◌, ◌&&◌, Some, None, List, [], ◌
 use Rattle.std.proofs.Common.{arith}
 use Rattle.std.proofs.lemmas.Bool.{ltb-true, ltb-false, lt-ltb, le-ltb}
 use Rattle.std.proofs.lemmas.Bool.Decides.{nat_tests}
-use Rattle.aig_format.specs.Reading.{Read, text, ◌>>=◌, next_at, groups_at, delta_at}
+use Rattle.aig_format.specs.state.Reading.{Read, text, ◌>>=◌, next_at, groups_at, delta_at}
 use Rattle.aig_format.specs.Delta.{groups, delta}
 use Rattle.aig_format.proofs.Steps.{done, done_is}
 use Rattle.aig_format.proofs.Numbers.{bind_then}
@@ -47,6 +47,10 @@ pub delta_large : (n : ℕ) → 128 ≤ n → n < 2 ^ 28 → delta n ≡ (128 + 
 unfolding delta
 delta_large n le lt =
     more_groups 2 n le ∙ ap (λ (t : List ℕ). (128 + n % 128) ∷ t) (fits_more 2 (n / 128) (omega arith))
+
+-- one group more
+pub delta_more : (n : ℕ) (rest : List ℕ) → 128 ≤ n → n < 2 ^ 28 → delta (n / 128) ≡ rest → delta n ≡ (128 + n % 128) ∷ rest
+delta_more n rest le lt h = delta_large n le lt ∙ ap (λ (t : List ℕ). (128 + n % 128) ∷ t) h
 
 -- ---- reading
 
@@ -210,10 +214,19 @@ number_cut (suc (suc r)) k value worth [] rest whole h so_far = sym so_far
 number_cut (suc r) k value worth (x ∷ bytes) rest whole h so_far =
     let p = done_is (Some x) None bytes rest h in let e = p.0 in absurd cc
 
-last_group : (more b : ℕ) (bytes : List ℕ) → b < 128 → groups_at more (b ∷ bytes) ≡ Ok (b, bytes)
+pub last_group : (more b : ℕ) (bytes : List ℕ) → b < 128 → groups_at more (b ∷ bytes) ≡ Ok (b, bytes)
 unfolding groups_at
 last_group zero b bytes lt = rw (lt-ltb b 128 lt) refl
 last_group (suc more) b bytes lt = rw (lt-ltb b 128 lt) refl
+
+pub more_group : (more b high : ℕ) (bytes rest : List ℕ) → 128 ≤ b → b < 256 → 0 < high
+    → groups_at more bytes ≡ Ok (high, rest) → groups_at (suc more) (b ∷ bytes) ≡ Ok (b - 128 + 128 * high, rest)
+unfolding groups_at
+more_group more b high bytes rest ge lt some h =
+    let large : ltb b 128 ≡ false = le-ltb b 128 ge in
+    let byte : ltb 255 b ≡ false = le-ltb 255 b (omega arith) in
+    let value : eqb high 0 ≡ false = grind (arith, nat_tests) in
+    rw (large, h, byte, value) refl
 
 -- the last group
 pub number_last : (r k value worth b : ℕ) (bytes rest : List ℕ) (whole : Read ℕ) (spare : Bool) → 0 < r

@@ -2,8 +2,8 @@
 use Rattle.std.proofs.Common.{ℕ, ◌-◌, ◌*◌, List, ◌++◌, Bool, refl, ap, ◌∙◌, append_assoc}
 use Rattle.aig_parts.specs.declared.gate.Gate.{Gate}
 use Rattle.aig_format.specs.Delta.{delta}
-use Rattle.aig_format.specs.Reading.{Read, EndsItself}
-use Rattle.aig_format.specs.ReadingSections.{literal_at, latch_at, gate_at, implicit_latch_at, implicit_gate_at}
+use Rattle.aig_format.specs.state.Reading.{Read, EndsItself}
+use Rattle.aig_format.specs.state.ReadingSections.{literal_at, latch_at, gate_at, implicit_latch_at, implicit_gate_at}
 use Rattle.aig_format.proofs.Steps.{done, done_is}
 use Rattle.aig_format.proofs.Numbers.{bind_then, joins}
 use Rattle.aig_format.proofs.Deltas.{delta_takes, delta_again}

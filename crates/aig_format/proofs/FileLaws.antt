@@ -10,9 +10,9 @@ use Rattle.aig_format.specs.Header.{are_wrong, counts_of, header_line}
 use Rattle.aig_format.specs.Spelling.{Zeros, ascii, binary, literal_line, latch_line, implicit_latch_line, gate_line}
 use Rattle.aig_format.specs.Spelling.{gate_deltas, lines, properties_of, names_text}
 use Rattle.aig_format.specs.Spells.{SpellsAscii, SpellsBinary, Spells, HasWrongCounts}
-use Rattle.aig_format.specs.Reading.{Refusal}
-use Rattle.aig_format.specs.ReadingSections.{header_at}
-use Rattle.aig_format.specs.ReadingFile.{body_at, FileRefusal, token, counts, and_then, file_at}
+use Rattle.aig_format.specs.state.Reading.{Refusal}
+use Rattle.aig_format.specs.state.ReadingSections.{header_at}
+use Rattle.aig_format.specs.state.ReadingFile.{body_at, FileRefusal, token, counts, and_then, file_at}
 use Rattle.aig_format.proofs.Steps.{done}
 use Rattle.aig_format.proofs.Joins.{apart5, apart6}
 use Rattle.aig_format.proofs.HeaderLaws.{HeaderRead, header_takes, header_again}

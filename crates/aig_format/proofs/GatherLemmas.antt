@@ -5,7 +5,7 @@ use Rattle.std.proofs.lemmas.List.{take_rest}
 use Rattle.std.proofs.Math.Seq.{take-add}
 use Rattle.std.proofs.lemmas.Bool.{false≢true}
 use Rattle.aig_bytes.specs.Bytes.{Writes}
-use Rattle.aig_bytes.specs.Gathered.{Gathers}
+use Rattle.aig_bytes.specs.state.Gathered.{Gathers}
 use Rattle.aig_bytes.proofs.GatherLemmas.{gathers_then, gathers_held, gathers_same, written_whole}
 
 module _ {X : Type 0} {written : X → Option (List ℕ)} {failures : X → ℕ} where

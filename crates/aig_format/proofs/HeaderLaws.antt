@@ -12,8 +12,8 @@ use Rattle.aig_format.specs.declared.header.Format.{Format}
 use Rattle.aig_format.specs.declared.header.Format.TheVariants.{Ascii, Binary}
 use Rattle.aig_format.specs.declared.header.Counts.{Counts}
 use Rattle.aig_format.specs.Header.{space, line_end, field, word, all_zero, tail, trailing, header_line, AreWithin}
-use Rattle.aig_format.specs.Reading.{◌>>=◌, is_next_at, byte_at, number_at, more_at}
-use Rattle.aig_format.specs.ReadingSections.{format_at, word_at, count_at, line_end_at, tail_at, header_at}
+use Rattle.aig_format.specs.state.Reading.{◌>>=◌, is_next_at, byte_at, number_at, more_at}
+use Rattle.aig_format.specs.state.ReadingSections.{format_at, word_at, count_at, line_end_at, tail_at, header_at}
 use Rattle.aig_format.proofs.Steps.{done, done_is}
 use Rattle.aig_format.proofs.Joins.{join2, join_end, apart7}
 use Rattle.aig_format.proofs.Numbers.{bind_then, is_next_takes, byte_takes, byte_again, number_takes, number_again}

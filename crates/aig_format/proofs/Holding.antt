@@ -4,7 +4,7 @@ use Rattle.std.proofs.Common.{ap, subst, ◌∙◌, arith, Option, Some, None}
 use Rattle.std.proofs.lemmas.List.{length-drop, length-take-le, drop-drop, drop-take, drop-append-le}
 use Rattle.std.proofs.Math.Seq.{drop-cons}
 use Rattle.aig_bytes.specs.Bytes.{before, IsAtEnd}
-use Rattle.aig_format.specs.Held.{held, IsKnown, known}
+use Rattle.aig_format.specs.state.Held.{held, IsKnown, known}
 
 pub held_front : (buffer more : List ℕ) (s e : ℕ) → s < e → e ≤ length buffer
     → held s e buffer ++ more ≡ get_or buffer s 0 ∷ (held (s + 1) e buffer ++ more)

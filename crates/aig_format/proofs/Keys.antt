@@ -8,7 +8,7 @@ use Rattle.std.specs.Map.{keys_of}
 use Rattle.aig_parts.specs.declared.symbols.Kind.{Kind}
 use Rattle.aig_parts.specs.declared.symbols.Kind.TheVariants.{Input, Latch, Output, Bad, Constraint, Justice, Fairness}
 use Rattle.aig_format.specs.Spelling.{Entry, letter}
-use Rattle.aig_format.specs.ReadingNames.{kind_of, same_key, is_named}
+use Rattle.aig_format.specs.state.ReadingNames.{kind_of, same_key, is_named}
 
 or_constraint : Option Kind → Kind
 or_constraint None = Constraint

@@ -14,9 +14,9 @@ use Rattle.aig_format.specs.Delta.{delta}
 use Rattle.aig_format.specs.Spelling.{literal_line, reset_text, latch_line, implicit_latch_line, gate_line}
 use Rattle.aig_format.specs.Spelling.{gate_deltas, of_first, of_others, lines}
 use Rattle.aig_format.specs.Spells.{greatest}
-use Rattle.aig_format.specs.Reading.{Read}
-use Rattle.aig_format.specs.ReadingSections.{literal_at, latch_at, gate_at, implicit_latch_at, implicit_gate_at}
-use Rattle.aig_format.specs.ReadingSections.{lines_at}
+use Rattle.aig_format.specs.state.Reading.{Read}
+use Rattle.aig_format.specs.state.ReadingSections.{literal_at, latch_at, gate_at, implicit_latch_at, implicit_gate_at}
+use Rattle.aig_format.specs.state.ReadingSections.{lines_at}
 use Rattle.aig_format.proofs.Steps.{done, done_is}
 use Rattle.aig_format.proofs.Numbers.{bind_then, joins, number_takes, number_again, field_takes, field_again}
 use Rattle.aig_format.proofs.Numbers.{optional_takes, optional_again, Stops, stops_space, stops_line}

@@ -17,9 +17,9 @@ use Rattle.aig_format.specs.declared.symbol.Next.TheVariants.{End, Comment, Symb
 use Rattle.aig_format.specs.Header.{space, line_end, field}
 use Rattle.aig_format.specs.Spelling.{Entry, letter, symbol_line}
 use Rattle.aig_format.specs.Spells.{greatest}
-use Rattle.aig_format.specs.Reading.{text, ◌>>=◌, is_digit, digit_at, number_then, number_at}
-use Rattle.aig_format.specs.ReadingNames.{kind_of, after_c_at, letter_then, letter_at, line_at, is_empty, name_at}
-use Rattle.aig_format.specs.ReadingNames.{is_named, count_of, position_at, symbol_at}
+use Rattle.aig_format.specs.state.Reading.{text, ◌>>=◌, is_digit, digit_at, number_then, number_at}
+use Rattle.aig_format.specs.state.ReadingNames.{kind_of, after_c_at, letter_then, letter_at, line_at, is_empty, name_at}
+use Rattle.aig_format.specs.state.ReadingNames.{is_named, count_of, position_at, symbol_at}
 use Rattle.aig_format.proofs.Steps.{done, done_is}
 use Rattle.aig_format.proofs.Numbers.{bind_then, byte_takes, byte_again, number_takes, number_again, Stops}
 use Rattle.aig_format.proofs.Numbers.{stops_space}

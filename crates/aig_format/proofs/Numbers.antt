@@ -8,8 +8,8 @@ use Rattle.std.proofs.lemmas.Fmt.{decimal_digit, decimal_step, decimal_by_steps}
 use Rattle.std.specs.Fmt.{decimal}
 use Rattle.aig_format.specs.Header.{field}
 use Rattle.aig_format.specs.Spelling.{reset_text}
-use Rattle.aig_format.specs.Reading.{Refusal, text, limit, ◌>>=◌, is_digit, digit_at, is_next_at, byte_at}
-use Rattle.aig_format.specs.Reading.{digits_at, zero_then, number_then, number_at, field_at, more_at, optional_at}
+use Rattle.aig_format.specs.state.Reading.{Refusal, text, limit, ◌>>=◌, is_digit, digit_at, is_next_at, byte_at}
+use Rattle.aig_format.specs.state.Reading.{digits_at, zero_then, number_then, number_at, field_at, more_at, optional_at}
 use Rattle.aig_format.proofs.Steps.{done, done_is, found_digit, no_digit, digits_on, digits_done}
 
 -- the value of a step that was not refused

@@ -12,7 +12,7 @@ use Rattle.aig_format.specs.declared.section.Properties.{Properties}
 use Rattle.aig_format.specs.declared.symbol.Names.{Names}
 use Rattle.aig_format.specs.Header.{AreWithin, counts_of}
 use Rattle.aig_format.specs.Spells.{greatest, HasSpelling}
-use Rattle.aig_format.specs.ReadingNames.{count_of}
+use Rattle.aig_format.specs.state.ReadingNames.{count_of}
 use Rattle.aig_format.proofs.Names.{IsEntry}
 use Rattle.aig_format.proofs.SectionLaws.{FitsProperties, Counted}
 

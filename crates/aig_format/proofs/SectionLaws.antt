@@ -16,9 +16,9 @@ use Rattle.aig_format.specs.declared.section.Properties.{Properties}
 use Rattle.aig_format.specs.Header.{line_end}
 use Rattle.aig_format.specs.Spelling.{literal_line, size_line, property_lines}
 use Rattle.aig_format.specs.Spells.{greatest, AreSmall}
-use Rattle.aig_format.specs.Reading.{limit, ◌>>=◌, byte_at, number_at}
-use Rattle.aig_format.specs.ReadingSections.{literal_at, literals_at, sizes_at, groups_of_literals_at, justice_at}
-use Rattle.aig_format.specs.ReadingSections.{properties_at}
+use Rattle.aig_format.specs.state.Reading.{limit, ◌>>=◌, byte_at, number_at}
+use Rattle.aig_format.specs.state.ReadingSections.{literal_at, literals_at, sizes_at, groups_of_literals_at, justice_at}
+use Rattle.aig_format.specs.state.ReadingSections.{properties_at}
 use Rattle.aig_format.proofs.Steps.{done, done_is}
 use Rattle.aig_format.proofs.Joins.{join2, join_end, apart6}
 use Rattle.aig_format.proofs.Numbers.{bind_then, byte_takes, byte_again, number_takes, number_again, stops_line}

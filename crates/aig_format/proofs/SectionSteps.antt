@@ -8,9 +8,9 @@ use Rattle.aig_parts.specs.declared.fault.Fault.{Fault}
 use Rattle.aig_parts.specs.Formed as formed
 use Rattle.aig_format.specs.Header.{line_end}
 use Rattle.aig_format.specs.Spells.{greatest}
-use Rattle.aig_format.specs.Reading.{limit, Read, ◌>>=◌, byte_at, number_at}
-use Rattle.aig_format.specs.ReadingSections.{literals_at, sizes_at, groups_of_literals_at}
-use Rattle.aig_format.specs.Meaning.{Fails}
+use Rattle.aig_format.specs.state.Reading.{limit, Read, ◌>>=◌, byte_at, number_at}
+use Rattle.aig_format.specs.state.ReadingSections.{literals_at, sizes_at, groups_of_literals_at}
+use Rattle.aig_format.specs.state.Meaning.{Fails}
 use Rattle.aig_format.proofs.Steps.{done, with_front, regroup, bind_bind, fails_on}
 
 -- ---- sizes

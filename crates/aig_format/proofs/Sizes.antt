@@ -9,12 +9,12 @@ use Rattle.aig_parts.specs.Formed.{IsName}
 use Rattle.aig_parts.specs.declared.symbols.Kind.{Kind}
 use Rattle.aig_format.specs.declared.header.Counts.{Counts}
 use Rattle.aig_format.specs.Spelling.{Entry}
-use Rattle.aig_format.specs.ReadingNames.{count_of}
-use Rattle.aig_format.specs.Fits.{IsSymbol, AreSymbols}
+use Rattle.aig_format.specs.state.ReadingNames.{count_of}
+use Rattle.aig_format.specs.state.Fits.{IsSymbol, AreSymbols}
 use Rattle.aig_parts.specs.declared.raw.Raw.{Raw}
 use Rattle.aig_parts.specs.Formed.{IsFormed}
 use Rattle.aig_format.specs.Header.{AreWithin, counts_of}
-use Rattle.aig_format.specs.Fits.{HasCounts}
+use Rattle.aig_format.specs.state.Fits.{HasCounts}
 use Rattle.aig_format.proofs.Names.{IsEntry}
 use Rattle.aig_format.proofs.Parts.{properties_in, formed_from}
 use Rattle.aig_format.proofs.SymbolLaws.{once_push}

@@ -6,11 +6,9 @@ use Rattle.std.proofs.lemmas.List.{append-nil}
 use Rattle.std.proofs.lemmas.Bool.{lt-ltb, le-ltb}
 use Rattle.aig_parts.specs.declared.fault.Fault.{Fault}
 use Rattle.aig_parts.specs.declared.fault.Fault.TheVariants as faults
-use Rattle.aig_format.specs.Reading.{Refusal, limit, Read, ◌>>=◌, is_digit, digit_at, digits_at}
-use Rattle.aig_format.specs.ReadingSections.{lines_at}
-use Rattle.aig_format.specs.declared.token_fault.TokenFault.{TokenFault}
-use Rattle.aig_format.specs.declared.token_fault.TokenFault.TheVariants as tokens
-use Rattle.aig_format.specs.Meaning.{Fails, TokenFails, fault_of}
+use Rattle.aig_format.specs.state.Reading.{Refusal, limit, Read, ◌>>=◌, is_digit, digit_at, digits_at}
+use Rattle.aig_format.specs.state.ReadingSections.{lines_at}
+use Rattle.aig_format.specs.state.Meaning.{Fails}
 
 abbrev pub done : {A : Type 0} → A → List ℕ → Read A
 done x rest = Ok (x, rest)
@@ -40,18 +38,6 @@ fails_else faults.Limit r x read is h = let clash = sym is ∙ h in absurd cc
 fails_else faults.Memory r x read is h = tt
 fails_else faults.Io r x read is h = tt
 fails_else fault r x read is h = absurd h
-
--- a token's fault as the fault of a file
-pub fails_of : {Y : Type 0} (e : TokenFault) (read : Result Y Refusal) → TokenFails e read → Fails (fault_of e) read
-fails_of (tokens.Text at) read h = h
-fails_of tokens.Limit read h = h
-fails_of tokens.Io read h = tt
-
-token_fails_else : {A B : Type 0} (e : TokenFault) (r : Result A Refusal) (x : A) (read : Result B Refusal) → r ≡ Ok x
-    → TokenFails e r → TokenFails e read
-token_fails_else (tokens.Text at) r x read is h = let clash = sym is ∙ h in absurd cc
-token_fails_else tokens.Limit r x read is h = let clash = sym is ∙ h in absurd cc
-token_fails_else tokens.Io r x read is h = tt
 
 -- ---- numbers
 
@@ -109,9 +95,9 @@ digit_ok (x ∷ xs) = by_test (is_digit x)
     by_test true = (Some (x - 48), xs, refl)
     by_test false = (None, x ∷ xs, refl)
 
-pub digit_fails : {B : Type 0} (e : TokenFault) (bytes : List ℕ) (read : Result B Refusal)
-    → TokenFails e (digit_at bytes) → TokenFails e read
-digit_fails e bytes read h = let k = digit_ok bytes in token_fails_else e (digit_at bytes) (k.0, k.1) read k.2 h
+pub digit_fails : {B : Type 0} (e : Fault) (bytes : List ℕ) (read : Result B Refusal) → Fails e (digit_at bytes)
+    → Fails e read
+digit_fails e bytes read h = let k = digit_ok bytes in fails_else e (digit_at bytes) (k.0, k.1) read k.2 h
 
 -- ---- lines
 

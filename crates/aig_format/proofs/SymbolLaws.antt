@@ -20,9 +20,9 @@ use Rattle.aig_format.specs.declared.symbol.Names.{Names}
 use Rattle.aig_format.specs.Header.{space, line_end, field}
 use Rattle.aig_format.specs.Spelling.{Entry, letter, symbol_line, comment_text, names_text}
 use Rattle.aig_format.specs.Spells.{greatest}
-use Rattle.aig_format.specs.Reading.{◌>>=◌}
-use Rattle.aig_format.specs.ReadingNames.{Named, letter_at, after_c_at, count_of, symbols_then, symbols_at}
-use Rattle.aig_format.specs.ReadingNames.{names_at}
+use Rattle.aig_format.specs.state.Reading.{◌>>=◌}
+use Rattle.aig_format.specs.state.ReadingNames.{Named, letter_at, after_c_at, count_of, symbols_then, symbols_at}
+use Rattle.aig_format.specs.state.ReadingNames.{names_at}
 use Rattle.aig_format.proofs.Steps.{done, done_is}
 use Rattle.aig_format.proofs.Joins.{join2}
 use Rattle.aig_format.proofs.Numbers.{bind_then, number_again, stops_space}

@@ -10,9 +10,9 @@ use Rattle.aig_format.specs.declared.symbol.Next.{Next}
 use Rattle.aig_format.specs.declared.symbol.Next.TheVariants.{End, Comment, Symbol}
 use Rattle.aig_format.specs.Header.{space, line_end}
 use Rattle.aig_format.specs.Spelling.{Entry, symbol_line}
-use Rattle.aig_format.specs.Reading.{Read}
-use Rattle.aig_format.specs.ReadingNames.{Named, letter_at, symbol_at, symbols_then, symbols_at}
-use Rattle.aig_format.specs.Meaning.{Fails}
+use Rattle.aig_format.specs.state.Reading.{Read}
+use Rattle.aig_format.specs.state.ReadingNames.{Named, letter_at, symbol_at, symbols_then, symbols_at}
+use Rattle.aig_format.specs.state.Meaning.{Fails}
 use Rattle.aig_format.proofs.Steps.{done, fails_on, fails_else}
 use Rattle.aig_format.proofs.Names.{letter_takes, symbol_takes}
 

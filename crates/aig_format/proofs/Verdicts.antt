@@ -7,9 +7,9 @@ use Rattle.aig_parts.specs.declared.fault.Fault.TheVariants as faults
 use Rattle.aig_parts.specs.Formed.{IsFormed}
 use Rattle.aig_base.specs.FirstFault.{number_of, IsFirstFault}
 use Rattle.aig_format.specs.Spells.{Spells, HasWrongCounts}
-use Rattle.aig_format.specs.Reading.{text, limit}
-use Rattle.aig_format.specs.ReadingFile.{FileRefusal, token, counts, file_at}
-use Rattle.aig_format.specs.Meaning.{FileFails}
+use Rattle.aig_format.specs.state.Reading.{text, limit}
+use Rattle.aig_format.specs.state.ReadingFile.{FileRefusal, token, counts, file_at}
+use Rattle.aig_format.specs.state.Meaning.{FileFails}
 use Rattle.aig_format.specs.Verdict.{Raises, IsOfParts, IsVerdict, IsRefused, IsReading}
 use Rattle.aig_format.proofs.FileLaws.{is_read, file_takes, file_again, wrong_takes, wrong_again, one_reading}
 

@@ -56,7 +56,7 @@ counts_of raw = record {
   fairness = length raw.fairness;
 }
 
--- each count is within its limit (profile)
+-- each count is within its limit (our own choice)
 pub record AreWithin (c : Counts) : Type 0 where
   pub max_var : c.max_var ≤ limit
   pub inputs : c.inputs ≤ limit

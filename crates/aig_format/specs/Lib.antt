@@ -1,12 +1,6 @@
 pub mod Delta
-pub mod Fits
 pub mod Header
-pub mod Held
-pub mod Meaning
-pub mod Reading
-pub mod ReadingFile
-pub mod ReadingNames
-pub mod ReadingSections
 pub mod Spelling
 pub mod Spells
 pub mod Verdict
+pub mod state

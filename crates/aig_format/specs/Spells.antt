@@ -9,7 +9,7 @@ use Rattle.aig_format.specs.declared.header.Counts.{Counts}
 use Rattle.aig_format.specs.Header.{AreWithin, are_wrong, header_line}
 use Rattle.aig_format.specs.Spelling.{Zeros, ascii, binary}
 
--- the greatest number of a circuit's body (profile)
+-- the greatest number of a circuit's body (our own choice)
 abbrev pub greatest : ℕ
 greatest = 8388607
 

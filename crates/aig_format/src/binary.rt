@@ -3,12 +3,11 @@ ghost use Rattle.std.specs.Prelude.{◌≡◌, ◌<◌, ◌^◌, IfOk, IfErr};
 ghost use Rattle.aig_parts.specs.Formed.{IsFormed};
 ghost use Rattle.aig_base.specs.Renumbered.{evens};
 ghost use Rattle.aig_format.specs.Header.{AreWithin};
-ghost use Rattle.aig_format.specs.Meaning.{Gives};
-ghost use Rattle.aig_format.specs.Verdict.{Raises};
-ghost use Rattle.aig_format.specs.ReadingFile.{binary_at};
+ghost use Rattle.aig_format.specs.state.Reads.{Reads};
+ghost use Rattle.aig_format.specs.state.ReadingFile.{binary_at};
 
 use crate::header::Counts;
-use crate::line::entries;
+use crate::line::{Implied, lines};
 use crate::section::read_properties;
 use crate::source::Source;
 use crate::symbol::read_names;
@@ -29,23 +28,20 @@ fn inputs(alloc: Global, count: u32) -> Result<List<Lit>, Fault>
 }
 
 /// All that follows the header line. Inputs, the latches' literals and the gates' left sides are left out in the file.
-#[tactic(auto, unfolding(crate::specs::ReadingFile::binary_at))]
+#[tactic(auto, unfolding(crate::specs::state::ReadingFile::binary_at))]
 pub(crate) fn binary_body<S: Source>(
     alloc: Global,
     s: &mut S,
     counts: &Counts,
 ) -> Result<Raw, Fault>
     requires within { AreWithin counts.now }
-    ensures bytes { S.tells s.old → Gives (λ x. x) result (S.left s.new) (binary_at counts.now (S.left s.old)) }
+    ensures reads { Reads S.Source s.old s.new (λ x. x) result (binary_at counts.now) }
     ensures formed { IfOk result IsFormed }
-    ensures told { S.tells s.old → S.tells s.new }
-    ensures reader { S.reader s.new ≡ S.reader s.old }
-    ensures failures { Raises result (S.failures s.old) (S.failures s.new) }
 {
-    let latches: List<Latch> = entries(alloc, s, counts.inputs + 1, counts.latches)?;
+    let latches = lines::<S, Implied, Latch>(alloc, s, counts.inputs + 1, counts.latches)?;
     let properties = read_properties(alloc, s, counts)?;
     let first_gate = counts.inputs + counts.latches + 1;
-    let gates: List<Gate> = entries(alloc, s, first_gate, counts.gates)?;
+    let gates = lines::<S, Implied, Gate>(alloc, s, first_gate, counts.gates)?;
     let names = read_names(alloc, s, counts)?;
     // The inputs are only counted in the file, so they wait until all of it is accepted.
     let inputs = inputs(alloc, counts.inputs)?;

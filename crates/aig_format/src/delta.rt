@@ -1,7 +1,7 @@
 //! Numbers in groups of seven bits.
 ghost use Rattle.std.specs.Prelude.{◌≡◌, ℕ, ◌+◌, ◌<◌, ◌≤◌, ◌^◌, nat_lt, ◌==◌, ◌&&◌, List, IfOk};
-ghost use Rattle.aig_format.specs.Reading.{groups_at, delta_at};
-ghost use Rattle.aig_format.specs.Meaning.{TokenGives, TokenRaises};
+ghost use Rattle.aig_format.specs.state.Reading.{groups_at, delta_at};
+ghost use Rattle.aig_format.specs.state.Reads.{ReadsToken};
 
 use crate::source::Source;
 use crate::token_fault::TokenFault;
@@ -17,10 +17,7 @@ fn is_spare(k: u32, byte: u8) -> bool
 /// A number of at most four groups, the least first, in a delta that begins at `at`.
 #[inline]
 fn groups<S: Source>(s: &mut S, at: u64) -> Result<u32, TokenFault>
-    ensures bytes { S.tells s.old → TokenGives (λ x. x) result (S.left s.new) (groups_at 3 (S.left s.old)) }
-    ensures told { S.tells s.old → S.tells s.new }
-    ensures reader { S.reader s.new ≡ S.reader s.old }
-    ensures failures { TokenRaises result (S.failures s.old) (S.failures s.new) }
+    ensures reads { ReadsToken S.Source s.old s.new result (groups_at 3) }
 {
     let mut value = 0;
     let mut weight = 1;
@@ -44,13 +41,10 @@ fn groups<S: Source>(s: &mut S, at: u64) -> Result<u32, TokenFault>
 
 /// A delta from `low` to `high`, in its shortest spelling.
 #[inline]
-#[tactic(auto, unfolding(crate::specs::Reading::delta_at))]
+#[tactic(auto, unfolding(crate::specs::state::Reading::delta_at))]
 pub(crate) fn delta<S: Source>(s: &mut S, low: u32, high: u32) -> Result<u32, TokenFault>
-    ensures bytes { S.tells s.old → TokenGives (λ x. x) result (S.left s.new) (delta_at low high (S.left s.old)) }
+    ensures reads { ReadsToken S.Source s.old s.new result (delta_at low high) }
     ensures within { IfOk result (λ n. n ≤ high) }
-    ensures told { S.tells s.old → S.tells s.new }
-    ensures reader { S.reader s.new ≡ S.reader s.old }
-    ensures failures { TokenRaises result (S.failures s.old) (S.failures s.new) }
 {
     let at = s.at();
     let n = groups(s, at)?;

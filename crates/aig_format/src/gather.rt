@@ -1,24 +1,11 @@
 //! Bytes that are gathered in a block before they go to a writer, so that a file costs few calls.
 ghost use Rattle.std.specs.Fmt.{decimal};
-ghost use Rattle.std.specs.Prelude.{◌≡◌, ◌∷◌, [], OnOk};
-ghost use Rattle.aig_bytes.specs.Gathered.{Gathers};
+ghost use Rattle.std.specs.Prelude.{◌≡◌, ◌≤◌, [], take, OnOk};
+ghost use Rattle.aig_bytes.specs.state.Gathered.{Gathers};
 ghost use Rattle.aig_format.specs.Header.{field};
 
 use aig_base::{Block, Io, Write, write_all};
-use itoa::{Buffer, write_digits};
-
-/// Puts a byte behind what waits, which is handed on where there is no room.
-#[inline]
-pub(crate) fn put_byte<W: Write>(out: &mut W, block: &mut Block, byte: u8) -> Result<(), Io>
-    ensures { Gathers W.written W.failures out.old out.new block.old block.new (byte ∷ []) result }
-{
-    if block.push(byte) {
-        return Ok(());
-    }
-    hand_on(out, block)?;
-    block.push(byte);
-    Ok(())
-}
+use itoa::Buffer;
 
 /// Hands on all that waits.
 #[inline(never)]
@@ -61,7 +48,28 @@ pub(crate) fn put_field<W: Write>(
 ) -> Result<(), Io>
     ensures { Gathers W.written W.failures out.old out.new block.old block.new (field number end) result }
 {
-    let mut bytes = [end; 11];
-    let start = write_digits(number as u64, &mut bytes, 10);
-    put(out, block, &bytes[start..])
+    if block.push_field(number, end) {
+        return Ok(());
+    }
+    hand_on(out, block)?;
+    block.push_field(number, end);
+    Ok(())
+}
+
+/// Puts the first of four bytes.
+pub(crate) fn put_first<W: Write>(
+    out: &mut W,
+    block: &mut Block,
+    bytes: [u8; 4],
+    count: usize,
+) -> Result<(), Io>
+    requires { count ≤ 4 }
+    ensures { Gathers W.written W.failures out.old out.new block.old block.new (take count bytes) result }
+{
+    if block.push_first(bytes, count) {
+        return Ok(());
+    }
+    hand_on(out, block)?;
+    block.push_first(bytes, count);
+    Ok(())
 }

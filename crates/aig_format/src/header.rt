@@ -2,10 +2,11 @@
 ghost use Rattle.std.specs.Prelude.{◌≡◌, ℕ, ◌≤◌, ◌∷◌, [], IfOk, false};
 ghost use Rattle.aig_parts.specs.Formed.{limit};
 ghost use Rattle.aig_format.specs.Header.{AreWithin, are_wrong};
-ghost use Rattle.aig_format.specs.Meaning.{TokenGives, TokenRaises};
-ghost use Rattle.aig_format.specs.Reading.{byte_at};
-ghost use Rattle.aig_format.specs.ReadingSections.{format_at, word_at, count_at, line_end_at, tail_at, header_at};
-ghost use Rattle.aig_format.specs.ReadingNames.{count_of};
+ghost use Rattle.aig_format.specs.state.Meaning.{of_token};
+ghost use Rattle.aig_format.specs.state.Reads.{Reads, ReadsToken};
+ghost use Rattle.aig_format.specs.state.Reading.{byte_at};
+ghost use Rattle.aig_format.specs.state.ReadingSections.{format_at, word_at, count_at, line_end_at, tail_at, header_at};
+ghost use Rattle.aig_format.specs.state.ReadingNames.{count_of};
 
 use crate::source::Source;
 use crate::token::{HEAD, byte, field, is_next, more, number};
@@ -72,12 +73,9 @@ impl Counts {
 }
 
 /// Takes a byte of the header word. A fault of the word is at 0, or at the end of the file where that cuts it.
-#[tactic(auto, unfolding(crate::specs::Reading::byte_at))]
+#[tactic(auto, unfolding(crate::specs::state::Reading::byte_at))]
 fn word_byte<S: Source>(s: &mut S, byte: u8) -> Result<(), TokenFault>
-    ensures bytes { S.tells s.old → TokenGives (λ x. x) result (S.left s.new) (byte_at byte (S.left s.old)) }
-    ensures told { S.tells s.old → S.tells s.new }
-    ensures reader { S.reader s.new ≡ S.reader s.old }
-    ensures failures { TokenRaises result (S.failures s.old) (S.failures s.new) }
+    ensures reads { ReadsToken S.Source s.old s.new result (byte_at byte) }
 {
     if is_next(s, byte)? {
         return Ok(());
@@ -89,12 +87,9 @@ fn word_byte<S: Source>(s: &mut S, byte: u8) -> Result<(), TokenFault>
 }
 
 /// The second letter of the word.
-#[tactic(auto, unfolding(crate::specs::ReadingSections::format_at))]
+#[tactic(auto, unfolding(crate::specs::state::ReadingSections::format_at))]
 fn second_letter<S: Source>(s: &mut S) -> Result<Format, TokenFault>
-    ensures bytes { S.tells s.old → TokenGives (λ x. x) result (S.left s.new) (format_at (S.left s.old)) }
-    ensures told { S.tells s.old → S.tells s.new }
-    ensures reader { S.reader s.new ≡ S.reader s.old }
-    ensures failures { TokenRaises result (S.failures s.old) (S.failures s.new) }
+    ensures reads { ReadsToken S.Source s.old s.new result format_at }
 {
     if is_next(s, b'a')? {
         Ok(Format::Ascii)
@@ -104,12 +99,9 @@ fn second_letter<S: Source>(s: &mut S) -> Result<Format, TokenFault>
     }
 }
 
-#[tactic(auto, unfolding(crate::specs::ReadingSections::word_at))]
+#[tactic(auto, unfolding(crate::specs::state::ReadingSections::word_at))]
 fn word<S: Source>(s: &mut S) -> Result<Format, TokenFault>
-    ensures bytes { S.tells s.old → TokenGives (λ x. x) result (S.left s.new) (word_at (S.left s.old)) }
-    ensures told { S.tells s.old → S.tells s.new }
-    ensures reader { S.reader s.new ≡ S.reader s.old }
-    ensures failures { TokenRaises result (S.failures s.old) (S.failures s.new) }
+    ensures reads { ReadsToken S.Source s.old s.new result word_at }
 {
     word_byte(s, b'a')?;
     let format = second_letter(s)?;
@@ -119,13 +111,10 @@ fn word<S: Source>(s: &mut S) -> Result<Format, TokenFault>
 }
 
 /// The next count of the line, and whether the line is over; once it is over, counts are 0.
-#[tactic(auto, unfolding(crate::specs::ReadingSections::count_at))]
+#[tactic(auto, unfolding(crate::specs::state::ReadingSections::count_at))]
 fn count<S: Source>(s: &mut S, over: bool) -> Result<(u32, bool), TokenFault>
-    ensures bytes { S.tells s.old → TokenGives (λ x. x) result (S.left s.new) (count_at over (S.left s.old)) }
+    ensures reads { ReadsToken S.Source s.old s.new result (count_at over) }
     ensures within { IfOk result (λ c. c.0 ≤ limit) }
-    ensures told { S.tells s.old → S.tells s.new }
-    ensures reader { S.reader s.new ≡ S.reader s.old }
-    ensures failures { TokenRaises result (S.failures s.old) (S.failures s.new) }
 {
     if over {
         return Ok((0, true));
@@ -138,26 +127,18 @@ fn count<S: Source>(s: &mut S, over: bool) -> Result<(u32, bool), TokenFault>
     }
 }
 
-#[tactic(auto, unfolding(crate::specs::ReadingSections::line_end_at))]
+#[tactic(auto, unfolding(crate::specs::state::ReadingSections::line_end_at))]
 fn line_end<S: Source>(s: &mut S, over: bool) -> Result<(), TokenFault>
-    ensures bytes { S.tells s.old → TokenGives (λ x. x) result (S.left s.new) (line_end_at over (S.left s.old)) }
-    ensures told { S.tells s.old → S.tells s.new }
-    ensures reader { S.reader s.new ≡ S.reader s.old }
-    ensures failures { TokenRaises result (S.failures s.old) (S.failures s.new) }
+    ensures reads { ReadsToken S.Source s.old s.new result (line_end_at over) }
 {
     if over { Ok(()) } else { byte(s, b'\n') }
 }
 
-#[tactic(auto, unfolding(crate::specs::ReadingSections::tail_at))]
+#[tactic(auto, unfolding(crate::specs::state::ReadingSections::tail_at))]
 fn last_counts<S: Source>(s: &mut S) -> Result<Tail, TokenFault>
-    ensures bytes { S.tells s.old → TokenGives (λ t. t.bad ∷ t.constraints ∷ t.justice ∷ t.fairness ∷ []) result
-        (S.left s.new)
-        (tail_at 4 false (S.left s.old)) }
+    ensures reads { Reads S.Source s.old s.new (λ t. t.bad ∷ t.constraints ∷ t.justice ∷ t.fairness ∷ []) (of_token result) (tail_at 4 false) }
     ensures within { IfOk result (λ t. (t.bad ≤ limit) × (t.constraints ≤ limit) × (t.justice ≤ limit)
         × (t.fairness ≤ limit)) }
-    ensures told { S.tells s.old → S.tells s.new }
-    ensures reader { S.reader s.new ≡ S.reader s.old }
-    ensures failures { TokenRaises result (S.failures s.old) (S.failures s.new) }
 {
     let (bad, over) = count(s, false)?;
     let (constraints, over) = count(s, over)?;
@@ -173,13 +154,10 @@ fn last_counts<S: Source>(s: &mut S) -> Result<Tail, TokenFault>
 }
 
 /// The header line, with its end.
-#[tactic(auto, unfolding(crate::specs::ReadingSections::header_at))]
+#[tactic(auto, unfolding(crate::specs::state::ReadingSections::header_at))]
 pub(crate) fn header<S: Source>(s: &mut S) -> Result<(Format, Counts), TokenFault>
-    ensures bytes { S.tells s.old → TokenGives (λ x. x) result (S.left s.new) (header_at (S.left s.old)) }
+    ensures reads { ReadsToken S.Source s.old s.new result header_at }
     ensures within { IfOk result (λ h. AreWithin h.1) }
-    ensures told { S.tells s.old → S.tells s.new }
-    ensures reader { S.reader s.new ≡ S.reader s.old }
-    ensures failures { TokenRaises result (S.failures s.old) (S.failures s.new) }
 {
     let format = word(s)?;
     let max_var = field(s, HEAD, b' ')?;

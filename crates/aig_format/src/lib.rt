@@ -3,6 +3,7 @@
 
 mod ascii;
 mod ascii_writer;
+mod at_hand;
 mod binary;
 mod binary_writer;
 mod delta;

@@ -3,9 +3,10 @@ ghost use Rattle.std.specs.Prelude.{◌≡◌, ◌≢◌, ℕ, List, Some, Err, 
 ghost use Rattle.aig_base.specs.Circuit.{IsCircuit};
 ghost use Rattle.aig_parts.specs.Formed.{IsFormed};
 ghost use Rattle.aig_format.specs.Header.{AreWithin};
-ghost use Rattle.aig_format.specs.Meaning.{Answers, Gives};
+ghost use Rattle.aig_format.specs.state.Meaning.{Answers};
+ghost use Rattle.aig_format.specs.state.Reads.{Reads};
 ghost use Rattle.aig_format.specs.Verdict.{IsReading, Raises};
-ghost use Rattle.aig_format.specs.ReadingFile.{body_at, file_at};
+ghost use Rattle.aig_format.specs.state.ReadingFile.{body_at, file_at};
 
 use crate::ascii::ascii_body;
 use crate::binary::binary_body;
@@ -19,11 +20,8 @@ use std::alloc::Global;
 /// All that follows the header line.
 fn body<S: Source>(alloc: Global, s: &mut S, format: Format, counts: &Counts) -> Result<Raw, Fault>
     requires within { AreWithin counts.now }
-    ensures bytes { S.tells s.old → Gives (λ x. x) result (S.left s.new) (body_at format counts.now (S.left s.old)) }
+    ensures reads { Reads S.Source s.old s.new (λ x. x) result (body_at format counts.now) }
     ensures formed { IfOk result IsFormed }
-    ensures told { S.tells s.old → S.tells s.new }
-    ensures reader { S.reader s.new ≡ S.reader s.old }
-    ensures failures { Raises result (S.failures s.old) (S.failures s.new) }
 {
     match format {
         Format::Ascii => ascii_body(alloc, s, counts),
@@ -32,11 +30,10 @@ fn body<S: Source>(alloc: Global, s: &mut S, format: Format, counts: &Counts) ->
 }
 
 /// The parts that the bytes left spell, all of them.
-#[tactic(auto, unfolding(crate::specs::ReadingFile::file_at))]
+#[tactic(auto, unfolding(crate::specs::state::ReadingFile::file_at))]
 pub(crate) fn file<S: Source>(alloc: Global, s: &mut S) -> Result<Raw, Fault>
     ensures bytes { S.tells s.old → Answers (λ x. x) result (file_at (S.left s.old)) }
     ensures formed { IfOk result IsFormed }
-    ensures told { S.tells s.old → S.tells s.new }
     ensures reader { S.reader s.new ≡ S.reader s.old }
     ensures failures { Raises result (S.failures s.old) (S.failures s.new) }
 {

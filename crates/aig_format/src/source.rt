@@ -1,7 +1,8 @@
 //! Where bytes come from.
 ghost use Rattle.std.specs.Prelude.{◌≡◌, ℕ, ◌+◌, ◌<◌, ◌≤◌, List, ◌++◌, length, drop, IfOk, IfSome, IfNone};
-ghost use Rattle.aig_format.specs.Reading.{peek_at, next_at};
-ghost use Rattle.aig_format.specs.Meaning.{TokenGives, TokenRaises};
+ghost use Rattle.aig_format.specs.state.Reading.{peek_at, next_at};
+ghost use Rattle.aig_format.specs.Verdict.{Raises};
+ghost use Rattle.aig_format.specs.state.Meaning.{Gives, of_token};
 
 use crate::token_fault::TokenFault;
 
@@ -53,10 +54,10 @@ pub(crate) trait Source {
     fn peek(&mut self) -> Result<Option<u8>, TokenFault>
         ensures ended { ended self.old → self.new ≡ self.old }
         ensures remembered { IfOk result (λ front. IfNone front (ended self.new)) }
-        ensures bytes { tells self.old → TokenGives (λ x. x) result (left self.new) (peek_at (left self.old)) }
+        ensures bytes { tells self.old → Gives (λ x. x) (of_token result) (left self.new) (peek_at (left self.old)) }
         ensures told { tells self.old → tells self.new }
         ensures reader { reader self.new ≡ reader self.old }
-        ensures failures { TokenRaises result (failures self.old) (failures self.new) }
+        ensures failures { Raises (of_token result) (failures self.old) (failures self.new) }
         ensures never_more { more self.new ≤ more self.old }
         ensures hand { IfOk result (λ front. IfSome front (λ _. 0 < length (hand self.new))) };
 
@@ -64,10 +65,10 @@ pub(crate) trait Source {
     fn next(&mut self) -> Result<Option<u8>, TokenFault>
         ensures ended { ended self.old → self.new ≡ self.old }
         ensures remembered { IfOk result (λ taken. IfNone taken (ended self.new)) }
-        ensures bytes { tells self.old → TokenGives (λ x. x) result (left self.new) (next_at (left self.old)) }
+        ensures bytes { tells self.old → Gives (λ x. x) (of_token result) (left self.new) (next_at (left self.old)) }
         ensures told { tells self.old → tells self.new }
         ensures reader { reader self.new ≡ reader self.old }
-        ensures failures { TokenRaises result (failures self.old) (failures self.new) }
+        ensures failures { Raises (of_token result) (failures self.old) (failures self.new) }
         ensures never_more { more self.new ≤ more self.old }
         ensures lowers { IfOk result (λ taken. IfSome taken (λ _. more self.new < more self.old)) };
 }

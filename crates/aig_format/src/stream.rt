@@ -1,8 +1,9 @@
 //! The bytes of a reader.
 ghost use Rattle.std.specs.Prelude.{◌≡◌, ◌+◌, ◌*◌, ◌-◌, ◌<◌, ◌≤◌, ◌++◌, [], take, drop, true, false, IfOk, IfErr};
 ghost use Rattle.std.specs.Prelude.{IsTrue};
-ghost use Rattle.aig_format.specs.Held.{held, IsKnown, known};
-ghost use Rattle.aig_format.specs.Meaning.{TokenRaises};
+ghost use Rattle.aig_format.specs.state.Held.{held, IsKnown, known};
+ghost use Rattle.aig_format.specs.Verdict.{Raises};
+ghost use Rattle.aig_format.specs.state.Meaning.{of_token};
 
 use crate::source::Source;
 use crate::token_fault::TokenFault;
@@ -59,7 +60,7 @@ impl<'r, R: Read> Stream<'r, R> {
         ensures remembered { IfOk result (λ ready. ready ≡ false → IsTrue self.new.ended) }
         ensures io { IfErr result (λ fault. fault ≡ TokenFault.Io) }
         ensures told { IsKnown (R.left self.old.reader.now) → IsKnown (R.left self.new.reader.now) }
-        ensures failures { TokenRaises result (R.failures self.old.reader.now) (R.failures self.new.reader.now) }
+        ensures failures { Raises (of_token result) (R.failures self.old.reader.now) (R.failures self.new.reader.now) }
         ensures never_more { 4096 * R.reads_left self.new.reader.now + (self.new.end - self.new.start)
             ≤ 4096 * R.reads_left self.old.reader.now + (self.old.end - self.old.start) }
         // No read is made where a byte is held, or where a read gave the end: nothing changes.
@@ -89,7 +90,7 @@ impl<'r, R: Read> Stream<'r, R> {
         ensures remembered { IfOk result (λ ready. ready ≡ false → IsTrue self.new.ended) }
         ensures io { IfErr result (λ fault. fault ≡ TokenFault.Io) }
         ensures told { IsKnown (R.left self.old.reader.now) → IsKnown (R.left self.new.reader.now) }
-        ensures failures { TokenRaises result (R.failures self.old.reader.now) (R.failures self.new.reader.now) }
+        ensures failures { Raises (of_token result) (R.failures self.old.reader.now) (R.failures self.new.reader.now) }
         ensures never_more { 4096 * R.reads_left self.new.reader.now + (self.new.end - self.new.start)
             ≤ 4096 * R.reads_left self.old.reader.now }
     {

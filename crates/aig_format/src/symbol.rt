@@ -3,11 +3,10 @@ ghost use Rattle.std.specs.Prelude.{◌≡◌, ◌≢◌, ℕ, ◌<◌, ◌≤�
 ghost use Rattle.std.specs.Prelude.{Option, All, Contains};
 ghost use Rattle.std.specs.Map.{keys_of};
 ghost use Rattle.aig_parts.specs.Formed.{IsName};
-ghost use Rattle.aig_format.specs.Fits.{AreSymbols};
-ghost use Rattle.aig_format.specs.ReadingNames.{count_of, kind_of, after_c_at, letter_at, line_at, name_at};
-ghost use Rattle.aig_format.specs.ReadingNames.{position_at, symbol_at, symbols_at, names_at, IsSymbol};
-ghost use Rattle.aig_format.specs.Meaning.{Gives, TokenGives, TokenRaises};
-ghost use Rattle.aig_format.specs.Verdict.{Raises};
+ghost use Rattle.aig_format.specs.state.Fits.{AreSymbols};
+ghost use Rattle.aig_format.specs.state.ReadingNames.{count_of, kind_of, after_c_at, letter_at, line_at, name_at};
+ghost use Rattle.aig_format.specs.state.ReadingNames.{position_at, symbol_at, symbols_at, names_at, IsSymbol};
+ghost use Rattle.aig_format.specs.state.Reads.{Reads, ReadsToken};
 
 use crate::header::Counts;
 use crate::source::Source;
@@ -48,13 +47,9 @@ fn kind_of(letter: u8) -> Option<Kind>
 }
 
 /// What a `c` begins: the comment where its line ends, the symbol of a constraint where a digit follows.
-#[tactic(auto, unfolding(crate::specs::ReadingNames::after_c_at))]
+#[tactic(auto, unfolding(crate::specs::state::ReadingNames::after_c_at))]
 fn after_c<S: Source>(s: &mut S) -> Result<Next, TokenFault>
-    ensures bytes { S.tells s.old → TokenGives (λ x. x) result (S.left s.new) (after_c_at (S.left s.old)) }
-    ensures told { S.tells s.old → S.tells s.new }
-    ensures reader { S.reader s.new ≡ S.reader s.old }
-    ensures failures { TokenRaises result (S.failures s.old) (S.failures s.new) }
-    ensures never_more { S.more s.new ≤ S.more s.old }
+    ensures reads { ReadsToken S.Source s.old s.new result after_c_at }
 {
     let at = s.at();
     match s.peek()? {
@@ -68,12 +63,9 @@ fn after_c<S: Source>(s: &mut S) -> Result<Next, TokenFault>
 }
 
 /// The letter of a symbol or the beginning of the comment, taken; or the end.
-#[tactic(auto, unfolding(crate::specs::ReadingNames::letter_at))]
+#[tactic(auto, unfolding(crate::specs::state::ReadingNames::letter_at))]
 fn letter<S: Source>(s: &mut S) -> Result<Next, TokenFault>
-    ensures bytes { S.tells s.old → TokenGives (λ x. x) result (S.left s.new) (letter_at (S.left s.old)) }
-    ensures told { S.tells s.old → S.tells s.new }
-    ensures reader { S.reader s.new ≡ S.reader s.old }
-    ensures failures { TokenRaises result (S.failures s.old) (S.failures s.new) }
+    ensures reads { ReadsToken S.Source s.old s.new result letter_at }
     ensures lowers { IfOk result (λ next. IsSymbol next → S.more s.new < S.more s.old) }
 {
     let at = s.at();
@@ -99,12 +91,8 @@ fn line_length(bytes: &[u8]) -> usize
 
 /// Reads the bytes before the end of the line, which is taken.
 fn line<S: Source>(s: &mut S, bytes: &mut Vec<u8>) -> Result<(), Fault>
-    ensures bytes { S.tells s.old → Gives (λ _. bytes.new.items) result (S.left s.new) (line_at (S.left s.old)) }
+    ensures reads { Reads S.Source s.old s.new (λ _. bytes.new.items) result line_at }
     ensures no_end { OnOk result (All (λ b. b ≢ 10) bytes.new.items) }
-    ensures told { S.tells s.old → S.tells s.new }
-    ensures reader { S.reader s.new ≡ S.reader s.old }
-    ensures failures { Raises result (S.failures s.old) (S.failures s.new) }
-    ensures never_more { S.more s.new ≤ S.more s.old }
 {
     bytes.clear();
     while s.peek()?.is_some() {
@@ -122,14 +110,10 @@ fn line<S: Source>(s: &mut S, bytes: &mut Vec<u8>) -> Result<(), Fault>
 }
 
 /// Reads a name and the end of its line.
-#[tactic(auto, unfolding(crate::specs::ReadingNames::name_at))]
+#[tactic(auto, unfolding(crate::specs::state::ReadingNames::name_at))]
 fn name<S: Source>(s: &mut S, bytes: &mut Vec<u8>) -> Result<(), Fault>
-    ensures bytes { S.tells s.old → Gives (λ _. bytes.new.items) result (S.left s.new) (name_at (S.left s.old)) }
+    ensures reads { Reads S.Source s.old s.new (λ _. bytes.new.items) result name_at }
     ensures name { OnOk result (IsName bytes.new.items) }
-    ensures told { S.tells s.old → S.tells s.new }
-    ensures reader { S.reader s.new ≡ S.reader s.old }
-    ensures failures { Raises result (S.failures s.old) (S.failures s.new) }
-    ensures never_more { S.more s.new ≤ S.more s.old }
 {
     let at = s.at();
     line(s, bytes)?;
@@ -140,21 +124,16 @@ fn name<S: Source>(s: &mut S, bytes: &mut Vec<u8>) -> Result<(), Fault>
 }
 
 /// A position of the section that has no name yet.
-#[tactic(auto, unfolding(crate::specs::ReadingNames::position_at))]
+#[tactic(auto, unfolding(crate::specs::state::ReadingNames::position_at))]
 fn position<S: Source>(
     s: &mut S,
     counts: &Counts,
     kind: Kind,
     named: &SymbolList,
 ) -> Result<u32, TokenFault>
-    ensures bytes { S.tells s.old → TokenGives (λ x. x) result (S.left s.new) (position_at counts.now named.now kind
-        (S.left s.old)) }
+    ensures reads { ReadsToken S.Source s.old s.new result (position_at counts.now named.now kind) }
     ensures there { IfOk result (λ p. p < count_of counts.now kind) }
     ensures fresh { IfOk result (λ p. Contains (keys_of named.now) (kind, p) → ⊥) }
-    ensures told { S.tells s.old → S.tells s.new }
-    ensures reader { S.reader s.new ≡ S.reader s.old }
-    ensures failures { TokenRaises result (S.failures s.old) (S.failures s.new) }
-    ensures never_more { S.more s.new ≤ S.more s.old }
 {
     let at = s.at();
     let position = number(s, BODY)?;
@@ -168,7 +147,7 @@ fn position<S: Source>(
 }
 
 /// Adds the symbol that stands after its letter. Its name is read into these bytes first.
-#[tactic(auto, unfolding(crate::specs::ReadingNames::symbol_at))]
+#[tactic(auto, unfolding(crate::specs::state::ReadingNames::symbol_at))]
 fn symbol<S: Source>(
     s: &mut S,
     counts: &Counts,
@@ -176,13 +155,8 @@ fn symbol<S: Source>(
     all: &mut SymbolList,
     bytes: &mut Vec<u8>,
 ) -> Result<(), Fault>
-    ensures bytes { S.tells s.old → Gives (λ x. all.new) result (S.left s.new) (symbol_at counts.now all.old kind
-        (S.left s.old)) }
+    ensures reads { Reads S.Source s.old s.new (λ x. all.new) result (symbol_at counts.now all.old kind) }
     ensures symbols { AreSymbols counts.now all.old → OnOk result (AreSymbols counts.now all.new) }
-    ensures told { S.tells s.old → S.tells s.new }
-    ensures reader { S.reader s.new ≡ S.reader s.old }
-    ensures failures { Raises result (S.failures s.old) (S.failures s.new) }
-    ensures never_more { S.more s.new ≤ S.more s.old }
 {
     let position = position(s, counts, kind, all)?;
     byte(s, b' ')?;
@@ -198,12 +172,8 @@ fn symbols<S: Source>(
     counts: &Counts,
     all: &mut SymbolList,
 ) -> Result<bool, Fault>
-    ensures bytes { S.tells s.old → Gives (λ comment. (all.new, comment)) result (S.left s.new)
-        (symbols_at counts.now (length (S.left s.old)) all.old (S.left s.old)) }
+    ensures reads { Reads S.Source s.old s.new (λ comment. (all.new, comment)) result (λ bytes. symbols_at counts.now (length bytes) all.old bytes) }
     ensures symbols { AreSymbols counts.now all.old → OnOk result (AreSymbols counts.now all.new) }
-    ensures told { S.tells s.old → S.tells s.new }
-    ensures reader { S.reader s.new ≡ S.reader s.old }
-    ensures failures { Raises result (S.failures s.old) (S.failures s.new) }
 {
     let mut name = Vec::new(alloc);
     loop {
@@ -217,10 +187,7 @@ fn symbols<S: Source>(
 
 /// All bytes that are left.
 fn rest<S: Source>(alloc: Global, s: &mut S) -> Result<Bytes, Fault>
-    ensures bytes { S.tells s.old → Gives (λ x. x) result (S.left s.new) (Ok (S.left s.old, [])) }
-    ensures told { S.tells s.old → S.tells s.new }
-    ensures reader { S.reader s.new ≡ S.reader s.old }
-    ensures failures { Raises result (S.failures s.old) (S.failures s.new) }
+    ensures reads { Reads S.Source s.old s.new (λ x. x) result (λ bytes. Ok (bytes, [])) }
 {
     let mut bytes = Vec::new(alloc);
     while s.peek()?.is_some() {
@@ -233,17 +200,14 @@ fn rest<S: Source>(alloc: Global, s: &mut S) -> Result<Bytes, Fault>
 }
 
 /// The symbols and the comment, which end the file.
-#[tactic(auto, unfolding(crate::specs::ReadingNames::names_at))]
+#[tactic(auto, unfolding(crate::specs::state::ReadingNames::names_at))]
 pub(crate) fn read_names<S: Source>(
     alloc: Global,
     s: &mut S,
     counts: &Counts,
 ) -> Result<Names, Fault>
-    ensures bytes { S.tells s.old → Gives (λ x. x) result (S.left s.new) (names_at counts.now (S.left s.old)) }
+    ensures reads { Reads S.Source s.old s.new (λ x. x) result (names_at counts.now) }
     ensures symbols { IfOk result (λ names. AreSymbols counts.now names.symbols) }
-    ensures told { S.tells s.old → S.tells s.new }
-    ensures reader { S.reader s.new ≡ S.reader s.old }
-    ensures failures { Raises result (S.failures s.old) (S.failures s.new) }
 {
     let mut all = SymbolList::new(alloc);
     let has_comment = symbols(alloc, s, counts, &mut all)?;

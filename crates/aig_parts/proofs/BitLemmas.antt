@@ -5,7 +5,7 @@ use Rattle.std.proofs.lemmas.Bool.{cases_eq}
 use Rattle.std.proofs.lemmas.Bool.Decides.{Decides-eqb}
 use Rattle.std.proofs.lemmas.List.{get_or_read, get_or_past}
 use Rattle.std.proofs.lemmas.Nat.Bits.{shr_and_one, bit_at-zero, bit_at_set_same, bit_at_set_other}
-use Rattle.aig_parts.specs.Bits.{HasBit}
+use Rattle.aig_parts.specs.state.Bits.{HasBit}
 
 differ : (n : ℕ) → n ≡ 0 → n ≡ 1 → ⊥
 differ n a b = omega arith

@@ -5,8 +5,9 @@ use Rattle.std.specs.Prelude.{OnOk, OnErr}
 use Rattle.std.proofs.lemmas.List.{get_or_past, get_or_read, set-get_or}
 use Rattle.aig_parts.specs.declared.symbols.Kind.{Kind}
 use Rattle.aig_parts.specs.declared.symbols.Kind.TheVariants.{Input, Latch, Output, Bad, Constraint, Justice, Fairness}
-use Rattle.aig_parts.specs.Bits.{HasBit}
-use Rattle.aig_parts.specs.SymbolPlaces.{Key, section_number, page_of, IsMarked}
+use Rattle.aig_parts.specs.state.Bits.{HasBit}
+use Rattle.aig_parts.specs.SymbolPlaces.{Key}
+use Rattle.aig_parts.specs.state.NamedEntries.{section_number, page_of, IsMarked}
 use Rattle.aig_parts.proofs.BitLemmas.{past}
 
 -- ---- pages

@@ -1,4 +1,4 @@
--- Formed parts: counts within the limits (profile), and each symbol names an entry that is there, which has one name
+-- Formed parts: counts within the limits (our own choice), and each symbol names an entry that is there, which has one name
 -- (AIGER 1.0, symbol table).
 use Rattle.std.specs.Prelude.{ℕ, ◌≤◌, ◌<◌, ◌≢◌, List, length, sum_by, All, AllPairs}
 use Rattle.std.specs.Map.{keys_of}

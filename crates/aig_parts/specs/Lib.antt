@@ -1,5 +1,5 @@
-pub mod Bits
 pub mod Formed
 pub mod Literal
 pub mod SymbolPlaces
 pub mod Ternary
+pub mod state

@@ -1,4 +1,4 @@
--- Kleene's tables for 0, 1 and unknown (AIGER 1.9, resets; profile).
+-- Kleene's tables for 0, 1 and unknown (AIGER 1.9, resets; our own choice).
 use Rattle.aig_parts.specs.declared.ternary.Tern.{Tern}
 use Rattle.aig_parts.specs.declared.ternary.Tern.TheVariants.{Zero, One, X}
 

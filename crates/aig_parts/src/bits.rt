@@ -1,6 +1,6 @@
 //! Sets of numbers, a bit for each.
 ghost use Rattle.std.specs.Prelude.{◌≡◌, ◌⊎◌, ◌↔◌, ℕ, ◌/◌, ◌<◌, [], length, slice_index, IsTrue, OnOk, OnErr};
-ghost use Rattle.aig_parts.specs.Bits.{HasBit};
+ghost use Rattle.aig_parts.specs.state.Bits.{HasBit};
 
 use std::alloc::{AllocError, Global};
 use std::marker::Model;

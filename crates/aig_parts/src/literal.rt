@@ -40,14 +40,14 @@ impl Lit {
     pub fn var(self) -> u32
         ensures { result ≡ variable self }
     {
-        self.code / 2
+        self.value() / 2
     }
 
     /// Whether the literal is odd, the negation of the one below it.
     pub fn is_neg(self) -> bool
         ensures { IsTrue result ↔ IsNegated self }
     {
-        self.code % 2 == 1
+        self.value() % 2 == 1
     }
 
     /// The same variable with the other sign.

@@ -1,6 +1,7 @@
 //! Which entries have a name.
 ghost use Rattle.std.specs.Prelude.{◌≡◌, ◌⊎◌, ◌↔◌, ℕ, ◌^◌, ◌<◌, ◌≤◌, [], length, slice_index_or, IsTrue, OnOk, OnErr};
-ghost use Rattle.aig_parts.specs.SymbolPlaces.{Key, section_number, page_of, IsMarked};
+ghost use Rattle.aig_parts.specs.SymbolPlaces.{Key};
+ghost use Rattle.aig_parts.specs.state.NamedEntries.{section_number, page_of, IsMarked};
 
 use crate::bits::BitSet;
 use crate::symbols::Kind;

@@ -20,7 +20,8 @@ pub struct SymbolList {
 impl Model for SymbolList {
     ghost use Rattle.std.specs.Prelude.{List, ℕ};
     ghost use Rattle.aig_parts.specs.declared.symbols.Kind.{Kind};
-    ghost use Rattle.aig_parts.specs.SymbolPlaces.{symbols_in, AreListed};
+    ghost use Rattle.aig_parts.specs.SymbolPlaces.{symbols_in};
+    ghost use Rattle.aig_parts.specs.state.NamedEntries.{AreListed};
 
     ghost Value = { List ((Kind × ℕ) × List ℕ) };
 

@@ -1,11 +1,12 @@
 //! Names of a circuit's entries.
 ghost use Rattle.std.specs.Prelude.{◌≡◌, ◌≢◌, ◌∷◌, ◌++◌, ◌↔◌, ℕ, List, [], length, map, IsTrue, false, Contains};
-ghost use Rattle.std.specs.Prelude.{All, AllPairs, IfOk, OnErr};
+ghost use Rattle.std.specs.Prelude.{All, AllPairs, IfOk, IfSome, IfNone, OnErr};
 ghost use Rattle.std.specs.Map.{keys_of};
 ghost use Rattle.std.specs.Map.Iter.{ShowsInOrder, TakesFirst, deref_pair};
 ghost use Rattle.std.specs.Iterator.{at_most};
 ghost use Rattle.aig_parts.specs.declared.symbols.Kind.{Kind};
-ghost use Rattle.aig_parts.specs.SymbolPlaces.{Key, symbols_in, IsPlaceIn};
+ghost use Rattle.aig_parts.specs.SymbolPlaces.{Key, symbols_in};
+ghost use Rattle.aig_parts.specs.state.NamedEntries.{IsPlaceIn};
 
 use crate::list::Bytes;
 use crate::symbol_hash::{SymbolHash, mix};
@@ -41,7 +42,8 @@ impl Model for Symbols {
 
     ghost Value = { List ((Kind × ℕ) × List ℕ) };
 
-    ghost use Rattle.aig_parts.specs.SymbolPlaces.{symbols_in, IsPlaceIn};
+    ghost use Rattle.aig_parts.specs.SymbolPlaces.{symbols_in};
+    ghost use Rattle.aig_parts.specs.state.NamedEntries.{IsPlaceIn};
 
     ghost view = { λ a. symbols_in a.text.items a.places.entries };
 
@@ -95,6 +97,17 @@ impl Symbols {
         self.places.contains_key(&(kind, position))
     }
 
+    /// The name of an entry, or none where it has none.
+    pub fn get(&self, kind: Kind, position: u32) -> Option<&[u8]>
+        ensures some { IfSome result (λ name. Contains self.now ((kind, position), name.now)) }
+        ensures none { IfNone result (Contains (keys_of self.now) (kind, position) → ⊥) }
+    {
+        match self.places.get(&(kind, position)) {
+            Some(place) => Some(name_at(self.text.as_slice(), *place)),
+            None => None,
+        }
+    }
+
     /// Adds a name at the end, and answers whether the entry had none. If it had one, nothing changes.
     pub fn insert(&mut self, kind: Kind, position: u32, name: Bytes) -> Result<bool, AllocError>
         ensures fresh { IfOk result (λ b. IsTrue b → self.new ≡ self.old ++ ((kind, position), name) ∷ []) }
@@ -144,7 +157,8 @@ pub struct SymbolIter<'a> {
 impl<'a> Model for SymbolIter<'a> {
     ghost use Rattle.std.specs.Prelude.{List, ℕ, All};
     ghost use Rattle.aig_parts.specs.declared.symbols.Kind.{Kind};
-    ghost use Rattle.aig_parts.specs.SymbolPlaces.{symbols_in, IsPlaceIn};
+    ghost use Rattle.aig_parts.specs.SymbolPlaces.{symbols_in};
+    ghost use Rattle.aig_parts.specs.state.NamedEntries.{IsPlaceIn};
 
     ghost Value = { List ((Kind × ℕ) × List ℕ) };
 

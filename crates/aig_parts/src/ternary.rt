@@ -2,7 +2,7 @@
 ghost use Rattle.std.specs.Prelude.{◌≡◌};
 ghost use Rattle.aig_parts.specs.Ternary.{kleene_and, kleene_not};
 
-/// 0, 1 or unknown, with Kleene's tables (AIGER 1.9, resets; profile).
+/// 0, 1 or unknown, with Kleene's tables (AIGER 1.9, resets; our own choice).
 #[derive(Clone, Copy, PartialEq, Eq, Debug)]
 pub enum Tern {
     Zero,

@@ -19,7 +19,7 @@ use Rattle.aig_base.proofs.Defined.{even, defined_cases}
 use Rattle.aig_base.proofs.Refined.{AllZip-slice_get}
 use Rattle.aig_base.proofs.UniqueValue.{unique}
 use Rattle.aig_sim.specs.Cells.{literal_value, gate_value}
-use Rattle.aig_sim.specs.Frame.{Holds, Renews, HoldsInputs, HoldsLatches, HoldsSources, HoldsAll, AreStates}
+use Rattle.aig_sim.specs.state.Frame.{Holds, Renews, HoldsInputs, HoldsLatches, HoldsSources, HoldsAll, AreStates}
 use Rattle.aig_sim.specs.GateOrder.{IsReady, IsGateOrder}
 use Rattle.aig_base.proofs.Circuits.{input_definition, latch_definition, gate_definition}
 

@@ -1,12 +1,12 @@
 -- Bytes of a trace that are gathered piece by piece.
-use Rattle.std.proofs.Common.{◌≡◌, ℕ, ◌+◌, ◌-◌, ◌≤◌, length-drop, arith, List, ◌++◌, length, map, take, drop, sym, ap, ◌∙◌, append_assoc, Ok, Err, IsErr, Result}
+use Rattle.std.proofs.Common.{◌≡◌, ℕ, ◌+◌, ◌-◌, ◌≤◌, length-drop, arith, List, [], ◌++◌, length, map, take, drop, refl, sym, ap, ◌∙◌, append_assoc, Ok, Err, IsErr, Result}
 use Rattle.std.specs.Prelude.{Option}
-use Rattle.std.proofs.lemmas.List.{take-append-drop, take_all, take_at, length-take-le, length-map, length-append, map-append}
+use Rattle.std.proofs.lemmas.List.{append-nil, take-append-drop, take_all, take_at, length-take-le, length-map, length-append, map-append}
 use Rattle.std.proofs.Math.Seq.{take-add}
 use Rattle.std.proofs.lemmas.Bool.{false≢true}
 use Rattle.aig_bytes.specs.Bytes.{Writes}
-use Rattle.aig_bytes.specs.Gathered.{Gathers}
-use Rattle.aig_bytes.proofs.GatherLemmas.{gathers_then, gathers_stop, gathers_failed, gathers_same}
+use Rattle.aig_bytes.specs.state.Gathered.{Gathers}
+use Rattle.aig_bytes.proofs.GatherLemmas.{gathers_then, gathers_stop, gathers_failed, gathers_same, gathers_none}
 
 module _ {X : Type 0} {written : X → Option (List ℕ)} {failures : X → ℕ} where
   -- what waited was handed on, and the piece waits
@@ -61,6 +61,66 @@ module _ {X : Type 0} {written : X → Option (List ℕ)} {failures : X → ℕ}
       (f : Y → ℕ) (xs : List Y) (i : ℕ) → Gathers {E = D} written failures old mid held held' (map f (take i xs)) (Ok v)
       → length xs ≤ i → Gathers {E = D} written failures old mid held held' (map f xs) (Ok v)
   all_gathered f xs i g le = gathers_same g (ap (map f) (take_all i xs le))
+
+-- the same success as another result
+pub gathers_ok : {X T E S F : Type 0} {written : X → Option (List ℕ)} {failures : X → ℕ} {old new : X} {held held' a : List ℕ}
+    {x : T} {y : S} → Gathers {E = E} written failures old new held held' a (Ok x)
+    → Gathers {E = F} written failures old new held held' a (Ok y)
+gathers_ok g = record { handed = g.handed; wrote = g.wrote; ok = g.ok; err = tt; count = g.count }
+
+-- of a whole text, all but this rest was gathered
+pub record Partly {X : Type 0} (written : X → Option (List ℕ)) (failures : X → ℕ) (old new : X) (held held' whole rest : List ℕ)
+    : Type 0 where
+  pub done : List ℕ
+  pub gathered : Gathers {T = Unit {0}} {E = Unit {0}} written failures old new held held' done (Ok tt)
+  pub whole_is : whole ≡ done ++ rest
+
+module _ {X : Type 0} {written : X → Option (List ℕ)} {failures : X → ℕ} where
+  pub partly_none : (old : X) (held whole : List ℕ) → Partly written failures old old held held whole whole
+  partly_none old held whole = record { done = []; gathered = gathers_none; whole_is = refl }
+
+  pub partly_same : {old new : X} {held held' whole rest rest' : List ℕ}
+      → Partly written failures old new held held' whole rest → rest ≡ rest'
+      → Partly written failures old new held held' whole rest'
+  partly_same h e =
+      record { done = h.done; gathered = h.gathered; whole_is = h.whole_is ∙ ap (λ (t : List ℕ). h.done ++ t) e }
+
+  -- one piece more
+  pub partly_more : {T E : Type 0} {old mid new : X} {held held' held'' whole piece rest : List ℕ} {x : T}
+      → Partly written failures old mid held held' whole (piece ++ rest)
+      → Gathers {E = E} written failures mid new held' held'' piece (Ok x)
+      → Partly written failures old new held held'' whole rest
+  partly_more {piece} {rest} h g =
+      let w = gathers_then h.gathered g in
+      record {
+        done = h.done ++ piece;
+        gathered = record { handed = w.handed; wrote = w.wrote; ok = w.ok; err = tt; count = w.count };
+        whole_is = h.whole_is ∙ sym (append_assoc h.done piece rest);
+      }
+
+  -- the piece that failed
+  pub partly_stops : {T E S F : Type 0} {old mid new : X} {held held' held'' waits whole piece : List ℕ} {e : E}
+      {s : Result S F} (rest : List ℕ)
+      → Partly written failures old mid held held' whole (piece ++ rest)
+      → Gathers {T = T} written failures mid new held' held'' piece (Err e) → IsErr s
+      → Gathers written failures old new held waits whole s
+  partly_stops rest h g k =
+      gathers_same (gathers_then h.gathered (gathers_stop rest k (gathers_failed g k))) (sym h.whole_is)
+
+  -- the last piece
+  pub partly_ends : {S F : Type 0} {old mid new : X} {held held' held'' whole piece : List ℕ} {s : Result S F}
+      → Partly written failures old mid held held' whole piece
+      → Gathers written failures mid new held' held'' piece s → Gathers written failures old new held held'' whole s
+  partly_ends h g = gathers_same (gathers_then h.gathered g) (sym h.whole_is)
+
+  -- nothing is left
+  pub partly_done : {F : Type 0} {old new : X} {held held' whole : List ℕ}
+      → Partly written failures old new held held' whole []
+      → Gathers {T = Unit {0}} {E = F} written failures old new held held' whole (Ok tt)
+  partly_done {F} h =
+      let g = h.gathered in
+      gathers_same {S = Unit {0}} {F = F} (record { handed = g.handed; wrote = g.wrote; ok = g.ok; err = tt; count = g.count })
+      (sym (append-nil h.done) ∙ sym h.whole_is)
 
 -- the bytes of the items from i on, in front of what stood there
 module _ {Y : Type 0} (f : Y → ℕ) (xs : List Y) (i n : ℕ) (text piece : List ℕ) (fits : i + n ≤ length xs)

@@ -5,6 +5,7 @@ use Rattle.std.specs.Prelude.{Result, Ok, Err, IfErr, Bool, true, false, ◌&&�
 use Rattle.std.specs.Result.{IsErrAnd}
 use Rattle.std.proofs.lemmas.List.{append-nil, length-append, length-map, length_push, get_or_append_left, get_or-append-add}
 use Rattle.std.proofs.lemmas.Bool.{false≢true}
+use Rattle.std.proofs.lemmas.Result.{err_from_is_err_and}
 use Rattle.std.proofs.lemmas.List.Concat.{flat_map-append}
 use Rattle.std.proofs.lemmas.List.Elements.{All-nil, All-push, All-map, All-append}
 use Rattle.aig_parts.specs.declared.ternary.Tern.{Tern}
@@ -254,3 +255,8 @@ pub step_same : {n m : ℕ} (s s' : Shape) (v v' : List Tern) (b : ℕ) → n �
     → (line : List ℕ) → Keeps m line s v → Keeps m (line ++ b ∷ []) s' v'
 step_same s s' v v' b e =
     subst (λ (w : ℕ). (line : List ℕ) → Keeps w line s v → Keeps w (line ++ b ∷ []) s' v') e
+
+-- a fault that is handed on
+pub handed_on : (P : Result ℕ StimFault → Type 0) (r : Result ℕ StimFault) (e : StimFault) → IsErrAnd r (λ f. f ≡ e)
+    → P (Err e) → P r
+handed_on P r e h p = let (y, is, same) = err_from_is_err_and r h in subst P (ap Err (sym same) ∙ sym is) p

@@ -3,7 +3,7 @@ use Rattle.std.proofs.Common.{◌≡◌, inl, inr, ℕ, suc, zero, ◌+◌, ◌-
 use Rattle.std.proofs.Math.Seq.{take-set-lt}
 use Rattle.std.proofs.lemmas.Bool.{cases_eq}
 use Rattle.std.proofs.lemmas.Bool.Decides.{nat_tests}
-use Rattle.std.proofs.lemmas.List.{length-set, length-map, length_push, length-replicate, get_or-set_same, get_or-take, get_or-map, get_or_default, take-replicate, take-append-le, take_more, drop-replicate, drop-append-le, drop-set-lt, map-set, map_push, replicate-append-replicate, append_assoc, ext_get_or}
+use Rattle.std.proofs.lemmas.List.{length-set, length-map, length_push, length-replicate, length-take, get_or-set_same, get_or-take, get_or-map, get_or_default, take-replicate, take-append-le, take_more, drop-replicate, drop-append-le, drop-set-lt, map-set, map_push, replicate-append-replicate, append_assoc, ext_get_or}
 use Rattle.std.proofs.lemmas.Option.{slice_get_within}
 use Rattle.std.proofs.lemmas.List.Elements.{All-set, All-push}
 use Rattle.aig_parts.specs.declared.ternary.Tern.{Tern}
@@ -12,7 +12,7 @@ use Rattle.aig_parts.specs.declared.gate.Gate.{Gate}
 use Rattle.aig_parts.specs.Literal.{variable}
 use Rattle.aig_sim.specs.Cells.{Cells, literal_value, gate_value, fresh_row, with_new_cell}
 use Rattle.aig_sim.specs.InputRows.{with_cell, row_at}
-use Rattle.aig_sim.specs.Padded.{ArePadded, AreLengthened, IsLengthened, IsPadded}
+use Rattle.aig_sim.specs.state.Padded.{ArePadded, AreLengthened, IsLengthened, IsPadded}
 
 pub padded_set : (n room : ℕ) (row : List Tern) (v : ℕ) (x : Tern) → IsPadded n room row → v < n → IsPadded n room (set row v x)
 padded_set n room row v x padded lt = (
@@ -123,8 +123,23 @@ padded_fresh n room m pos fits le =
           ∙ ap (λ (k : ℕ). replicate k X) k,
     )
 
--- words of 64 cells
-pub words_suffice : (n : ℕ) → n ≤ 64 * ((n + 63) / 64)
+-- the first k rows
+pub first_padded : (n room : ℕ) (flags : List Bool) (rows : List (List Tern)) (k : ℕ) → ArePadded n room flags rows
+    → ArePadded n room flags (take k rows)
+first_padded n room flags rows k are =
+    let size = length-take k rows in
+    record {
+      count = omega (arith, are.count);
+      constant = are.constant;
+      fits = are.fits;
+      limit = are.limit;
+      flagged = are.flagged;
+      each = λ t d lt.
+          subst (IsPadded n room) (sym (get_or-take k rows t d (omega arith))) (are.each t d (omega arith));
+    }
+
+-- words of 32 cells
+pub words_suffice : (n : ℕ) → n ≤ 32 * ((n + 31) / 32)
 words_suffice n = omega arith
 
 -- one more row of m cells

@@ -1,128 +1,127 @@
 -- A simulation, byte by byte and chunk by chunk.
-use Rattle.std.proofs.Common.{◌≡◌, ◌≢◌, ℕ, zero, suc, ◌+◌, ◌-◌, ◌^◌, min, List, [], ◌∷◌, ◌++◌, length, map, All, inl, inr, refl, sym, ap, ◌∙◌, subst, arith, append_assoc, add-one, Ok, Err}
+use Rattle.std.proofs.Common.{◌≡◌, ◌≢◌, ℕ, ◌+◌, ◌-◌, ◌^◌, min, List, [], ◌∷◌, ◌++◌, length, All, inl, inr, refl, sym, ap, ◌∙◌, subst, arith, append_assoc, Ok, Err}
 use Rattle.std.specs.Prelude.{Option, Some, None, Result, IfOk, IfErr, OnOk, OnErr}
 use Rattle.std.specs.List.{flat_map}
 use Rattle.std.specs.Result.{IsErrAnd}
-use Rattle.std.proofs.lemmas.List.{append-nil, length_push}
+use Rattle.std.proofs.lemmas.List.{append-nil, length_push, length-map}
 use Rattle.aig_parts.specs.declared.ternary.Tern.{Tern}
 use Rattle.aig_parts.specs.declared.raw.Raw.{Raw}
 use Rattle.aig_bytes.specs.Bytes.{after, before, IsAtEnd, IsBeginning}
 use Rattle.aig_base.specs.Circuit.{IsCircuit}
-use Rattle.aig_base.specs.Sound.{IsSound}
-use Rattle.aig_base.specs.Value.{start_of}
+use Rattle.aig_parts.specs.declared.latch.Latch.{Latch}
+use Rattle.aig_base.specs.Value.{reset_value, start_of}
 use Rattle.aig_bytes.proofs.WriteLemmas.{after-append, after-nil}
 use Rattle.aig_sim.specs.declared.simulation.Simulation.{Simulation}
 use Rattle.aig_sim.specs.declared.line_in_hand.Shape.{Shape}
 use Rattle.aig_sim.specs.declared.line_in_hand.Shape.TheVariants.{Row}
 use Rattle.aig_sim.specs.declared.stimulus_fault.StimFault.{StimFault}
 use Rattle.aig_sim.specs.declared.stimulus_fault.StimFault.TheVariants as fault
-use Rattle.aig_sim.specs.Frame.{AreStates}
+use Rattle.aig_sim.specs.state.Frame.{HoldsAll, AreStates}
 use Rattle.aig_sim.specs.LineInHand.{Keeps, HasRead, IsOfLine}
-use Rattle.aig_sim.specs.Machine.{Machine, Steps}
-use Rattle.aig_sim.specs.Running.{Running, StopsBy, Stopped, GoesOn, Stops, ReadSoFar}
-use Rattle.aig_sim.specs.Simulated.{Simulates}
+use Rattle.aig_sim.specs.state.Machine.{Machine, Steps}
+use Rattle.aig_sim.specs.state.Running.{Telling, Recorded, Starts, Running, StopsBy, Stopped, GoesOn, Stops, ReadSoFar, Streamed}
+use Rattle.aig_sim.specs.Simulated.{Streams, Simulates}
 use Rattle.aig_sim.specs.StimulusText.{row_line, line_number, EndsLine, HasFault, HasFaultyLine}
-use Rattle.aig_sim.specs.Trace.{AreValues, IsLine, AreLines, IsTrace}
-use Rattle.aig_sim.specs.TraceText.{line_text}
+use Rattle.aig_sim.specs.Trace.{IsTrace}
 use Rattle.aig_sim.proofs.LineLemmas.{read_none, read_piece, read_line, read_fault, read_unfinished, read_end, fault_same}
-use Rattle.aig_sim.proofs.TraceLemmas.{value_stays, line_is}
+use Rattle.aig_sim.proofs.TraceLemmas.{first_states}
 
--- ---- the trace so far
-module _ (raw : Raw) (start : List Tern) (rows more : List (List Tern)) where
-  values_stay : (t : ℕ) (ls bs : List ℕ) → AreValues raw start rows t ls bs → AreValues raw start (rows ++ more) t ls bs
-  values_stay t [] [] h = tt
-  values_stay t [] (b ∷ bs) h = absurd h
-  values_stay t (l ∷ ls) [] h = absurd h
-  values_stay t (l ∷ ls) (b ∷ bs) h = ((h.0.0, value_stays more h.0.1, h.0.2), values_stay t ls bs h.1)
+-- ---- reads
+pub before_nil : (w : Option (List ℕ)) → before [] w ≡ w
+before_nil None = refl
+before_nil (Some xs) = refl
 
-  line_stays : (t : ℕ) (line : List ℕ) → IsLine raw start rows t line → IsLine raw start (rows ++ more) t line
-  line_stays t line h = record {
-    state = h.state;
-    inputs = h.inputs;
-    outputs = h.outputs;
-    next = h.next;
-    state_is = values_stay t (map (λ x. x.lit) raw.latches) h.state h.state_is;
-    inputs_are = values_stay t raw.inputs h.inputs h.inputs_are;
-    outputs_are = values_stay t raw.outputs h.outputs h.outputs_are;
-    next_is = values_stay t (map (λ x. x.next) raw.latches) h.next h.next_is;
-    line_is = h.line_is;
+before-before : (a b : List ℕ) (w : Option (List ℕ)) → before a (before b w) ≡ before (a ++ b) w
+before-before a b None = refl
+before-before a b (Some xs) = ap Some (sym (append_assoc a b xs))
+
+nothing_read : (text : List ℕ) (left mid to : Option (List ℕ)) → left ≡ before text mid → mid ≡ before [] to → left
+    ≡ before text to
+nothing_read text left mid to h e = h ∙ ap (before text) (e ∙ before_nil to)
+
+stops_by_line : (raw : Raw) (count : ℕ) (text : List ℕ) (rows : List (List Tern)) (trace : List ℕ) (failures : ℕ)
+    (f : StimFault)
+    → IsOfLine f → HasFaultyLine (length raw.inputs) text rows f → failures ≡ count
+    → StopsBy raw count text rows trace trace failures f
+stops_by_line raw count text rows trace failures (fault.Char n) k h e = (h, refl, e)
+stops_by_line raw count text rows trace failures (fault.Length n) k h e = (h, refl, e)
+stops_by_line raw count text rows trace failures fault.Unfinished k h e = absurd k
+stops_by_line raw count text rows trace failures fault.Limit k h e = absurd k
+stops_by_line raw count text rows trace failures fault.Memory k h e = absurd k
+stops_by_line raw count text rows trace failures fault.Io k h e = absurd k
+
+module _ {T : Type 0} {is_text : Telling} {recorded : Recorded T} where
+  -- ---- steps
+  pub running_none : (start : Option (List ℕ)) (count : ℕ) (s : Simulation T)
+      → Starts is_text recorded s → Running is_text recorded s.machine.circuit start count [] s start count
+  running_none start count s h =
+      let raw = s.machine.circuit in
+      record {
+        rows = [];
+        trace = [];
+        circuit_is = refl;
+        has_read = subst (λ (v : List Tern). HasRead (length raw.inputs) [] [] s.line.shape v) (sym h.values_are)
+            (subst (λ (k : Shape). HasRead (length raw.inputs) [] [] k []) (sym h.shape_is) (read_none (length raw.inputs)));
+        states_are = subst (λ (v : List Tern). AreStates raw (start_of raw) [] 0 v) (sym h.states_are)
+            (first_states raw (start_of raw) (length-map raw.latches (λ (x : Latch). reset_value x.reset)));
+        frames_are = omega (arith, h.frames_are);
+        recorded_are = h.none_recorded;
+        trace_is = h.no_text;
+        wrote = sym (after-nil start);
+        no_failure = refl;
+      }
+
+  pub piece_goes_on : (s s' : Simulation T) (piece : List ℕ) (written : Option (List ℕ)) (failures : ℕ)
+      → s.line.width ≡ length s.machine.circuit.inputs → s'.frames ≡ s.frames → s'.machine ≡ s.machine → s'.recorder ≡ s.recorder
+      → All (λ b. b ≢ 10) piece
+      → ((line : List ℕ) → Keeps s.line.width line s.line.shape s.line.values
+      → Keeps s.line.width (line ++ piece) s'.line.shape s'.line.values)
+      → GoesOn is_text recorded piece s s' written written failures failures
+  piece_goes_on s s' piece written failures width frames machine recorder ne step raw start count text r = record {
+    rows = r.rows;
+    trace = r.trace;
+    circuit_is = ap (λ (m : Machine). m.circuit) machine ∙ r.circuit_is;
+    has_read = read_piece s'.line.shape s'.line.values piece r.has_read ne
+        (subst (λ (w : ℕ). (line : List ℕ) → Keeps w line s.line.shape s.line.values
+        → Keeps w (line ++ piece) s'.line.shape s'.line.values)
+        (width ∙ ap (λ (c : Raw). length c.inputs) r.circuit_is) step);
+    states_are = subst (λ (m : Machine). AreStates raw (start_of raw) r.rows (length r.rows) m.states) (sym machine) r.states_are;
+    frames_are = frames ∙ r.frames_are;
+    recorded_are = subst (λ (k : T). recorded k raw (start_of raw) r.rows) (sym recorder) r.recorded_are;
+    trace_is = r.trace_is;
+    wrote = r.wrote;
+    no_failure = r.no_failure;
   }
 
-  lines_stay : (t : ℕ) (text : List ℕ) → AreLines raw start rows t text → AreLines raw start (rows ++ more) t text
-  lines_stay zero text h = h
-  lines_stay (suc t) text h = (h.0, h.1, lines_stay t h.0 h.2, line_stays t h.1 h.3, h.4)
+  pub nothing_goes_on : (s : Simulation T) (written : Option (List ℕ)) (failures : ℕ)
+      → GoesOn is_text recorded [] s s written written failures failures
+  nothing_goes_on s written failures raw start count text r =
+      subst (λ (t : List ℕ). Running is_text recorded raw start count t s written failures) (sym (append-nil text)) r
 
--- one line more
-trace_more : (raw : Raw) (start : List Tern) (rows : List (List Tern)) (row : List Tern) (trace line : List ℕ)
-    → IsTrace raw start rows trace → IsLine raw start (rows ++ row ∷ []) (length rows) line
-    → IsTrace raw start (rows ++ row ∷ []) (trace ++ line)
-trace_more raw start rows row trace line h k =
-    subst (λ (n : ℕ). AreLines raw start (rows ++ row ∷ []) n (trace ++ line))
-    (sym (add-one (length rows)) ∙ sym (length_push rows row))
-    (trace, line, lines_stay raw start rows (row ∷ []) (length rows) trace h, k, refl)
+  pub goes_on_then : (a b : List ℕ) (s mid s' : Simulation T) (w x y : Option (List ℕ)) (f g h : ℕ)
+      → GoesOn is_text recorded a s mid w x f g → GoesOn is_text recorded b mid s' x y g h → GoesOn is_text recorded (a ++ b) s s' w y f h
+  goes_on_then a b s mid s' w x y f g h p q raw start count text r =
+      subst (λ (t : List ℕ). Running is_text recorded raw start count t s' y h) (append_assoc text a b)
+      (q raw start count (text ++ a) (p raw start count text r))
 
--- ---- steps
-pub running_none : (raw : Raw) (start : Option (List ℕ)) (count : ℕ) (s : Simulation) → s.machine.circuit ≡ raw
-    → AreStates raw (start_of raw) [] 0 s.machine.states → s.line.shape ≡ Row → s.line.values ≡ [] → s.frames ≡ 0
-    → Running raw start count [] s start count
-running_none raw start count s circuit states shape values frames = record {
-  rows = [];
-  trace = [];
-  circuit_is = circuit;
-  has_read = subst (λ (v : List Tern). HasRead (length raw.inputs) [] [] s.line.shape v) (sym values)
-      (subst (λ (k : Shape). HasRead (length raw.inputs) [] [] k []) (sym shape) (read_none (length raw.inputs)));
-  states_are = states;
-  frames_are = omega (arith, frames);
-  trace_is = refl;
-  wrote = sym (after-nil start);
-  no_failure = refl;
-}
+  pub stops_then : (a b : List ℕ) (s mid : Simulation T) (w x y : Option (List ℕ)) (f g h : ℕ) (e : StimFault)
+      → GoesOn is_text recorded a s mid w x f g → Stops is_text recorded b mid x y g h e → Stops is_text recorded (a ++ b) s w y f h e
+  stops_then a b s mid w x y f g h e p q raw start count text r =
+      subst (λ (t : List ℕ). Stopped is_text raw start count t y h e) (append_assoc text a b)
+      (q raw start count (text ++ a) (p raw start count text r))
 
-pub piece_goes_on : (s s' : Simulation) (piece : List ℕ) (written : Option (List ℕ)) (failures : ℕ)
-    → s.line.width ≡ length s.machine.circuit.inputs → s'.frames ≡ s.frames → s'.machine ≡ s.machine
-    → All (λ b. b ≢ 10) piece
-    → ((line : List ℕ) → Keeps s.line.width line s.line.shape s.line.values
-    → Keeps s.line.width (line ++ piece) s'.line.shape s'.line.values)
-    → GoesOn piece s s' written written failures failures
-piece_goes_on s s' piece written failures width frames machine ne step raw start count text r = record {
-  rows = r.rows;
-  trace = r.trace;
-  circuit_is = ap (λ (m : Machine). m.circuit) machine ∙ r.circuit_is;
-  has_read = read_piece s'.line.shape s'.line.values piece r.has_read ne
-      (subst (λ (w : ℕ). (line : List ℕ) → Keeps w line s.line.shape s.line.values
-      → Keeps w (line ++ piece) s'.line.shape s'.line.values)
-      (width ∙ ap (λ (c : Raw). length c.inputs) r.circuit_is) step);
-  states_are = subst (λ (m : Machine). AreStates raw (start_of raw) r.rows (length r.rows) m.states) (sym machine) r.states_are;
-  frames_are = frames ∙ r.frames_are;
-  trace_is = r.trace_is;
-  wrote = r.wrote;
-  no_failure = r.no_failure;
-}
-
-pub nothing_goes_on : (s : Simulation) (written : Option (List ℕ)) (failures : ℕ)
-    → GoesOn [] s s written written failures failures
-nothing_goes_on s written failures raw start count text r =
-    subst (λ (t : List ℕ). Running raw start count t s written failures) (sym (append-nil text)) r
-
-pub goes_on_then : (a b : List ℕ) (s mid s' : Simulation) (w x y : Option (List ℕ)) (f g h : ℕ)
-    → GoesOn a s mid w x f g → GoesOn b mid s' x y g h → GoesOn (a ++ b) s s' w y f h
-goes_on_then a b s mid s' w x y f g h p q raw start count text r =
-    subst (λ (t : List ℕ). Running raw start count t s' y h) (append_assoc text a b)
-    (q raw start count (text ++ a) (p raw start count text r))
-
-pub stops_then : (a b : List ℕ) (s mid : Simulation) (w x y : Option (List ℕ)) (f g h : ℕ) (e : StimFault)
-    → GoesOn a s mid w x f g → Stops b mid x y g h e → Stops (a ++ b) s w y f h e
-stops_then a b s mid w x y f g h e p q raw start count text r =
-    subst (λ (t : List ℕ). Stopped raw start count t y h e) (append_assoc text a b)
-    (q raw start count (text ++ a) (p raw start count text r))
-
-module _ (s : Simulation) (machine' : Machine) (row : List Tern)
+module _ {T : Type 0} (is_text : Telling) (recorded : Recorded T) (s : Simulation T) (machine' : Machine) (row : List Tern)
     (width : s.line.width ≡ length s.machine.circuit.inputs)
     (shape : s.line.shape ≡ Row) (values : s.line.values ≡ row) (len : length row ≡ s.line.width)
     (circuit : machine'.circuit ≡ s.machine.circuit) (is_circuit : IsCircuit machine'.circuit)
     (step : (start : List Tern) (rows : List (List Tern))
     → AreStates s.machine.circuit start rows (length rows) s.machine.states
-    → Steps s.machine.circuit start rows row machine'.cells machine'.states) where
+    → Steps s.machine.circuit start rows row machine'.cells machine'.states)
+    (piece : List ℕ) (told : (start : List Tern) (rows : List (List Tern)) (row : List Tern) (text : List ℕ)
+    → is_text machine'.circuit start rows text → recorded s.recorder machine'.circuit start rows
+    → HoldsAll machine'.circuit start (rows ++ row ∷ []) (length rows) machine'.cells
+    → s.frames ≡ min (length rows) (2 ^ 64 - 1)
+    → is_text machine'.circuit start (rows ++ row ∷ []) (text ++ piece)) where
   stepped : (raw : Raw) (rows : List (List Tern)) → s.machine.circuit ≡ raw
       → AreStates raw (start_of raw) rows (length rows) s.machine.states
       → Steps raw (start_of raw) rows row machine'.cells machine'.states
@@ -131,18 +130,16 @@ module _ (s : Simulation) (machine' : Machine) (row : List Tern)
       (step (start_of raw) rows
       (subst (λ (c : Raw). AreStates c (start_of raw) rows (length rows) s.machine.states) (sym is) are))
 
-  -- the line of the row
-  abbrev line : List ℕ
-  line = line_text machine'.circuit machine'.cells
-
-  line_stepped : (raw : Raw) (rows : List (List Tern)) → s.machine.circuit ≡ raw
-      → Steps raw (start_of raw) rows row machine'.cells machine'.states
-      → IsLine raw (start_of raw) (rows ++ row ∷ []) (length rows) line
-  line_stepped raw rows is h =
-      subst (λ (c : Raw). IsLine raw (start_of raw) (rows ++ row ∷ []) (length rows) (line_text c machine'.cells))
-      (sym (circuit ∙ is))
-      (line_is raw (start_of raw) (rows ++ row ∷ []) (length rows) machine'.cells
-      (subst (λ (c : Raw). IsSound c) (circuit ∙ is) is_circuit.sound) h.cells_are)
+  -- the text with the piece of the row
+  told_more : (raw : Raw) (rows : List (List Tern)) (text : List ℕ) → s.machine.circuit ≡ raw
+      → is_text raw (start_of raw) rows text → recorded s.recorder raw (start_of raw) rows
+      → Steps raw (start_of raw) rows row machine'.cells machine'.states → s.frames ≡ min (length rows) (2 ^ 64 - 1)
+      → is_text raw (start_of raw) (rows ++ row ∷ []) (text ++ piece)
+  told_more raw rows text is t r h n =
+      subst (λ (c : Raw). is_text c (start_of raw) rows text → recorded s.recorder c (start_of raw) rows
+      → HoldsAll c (start_of raw) (rows ++ row ∷ []) (length rows) machine'.cells
+      → is_text c (start_of raw) (rows ++ row ∷ []) (text ++ piece))
+      (circuit ∙ is) (λ t r h. told (start_of raw) rows row text t r h n) t r h.cells_are
 
   row_read : (raw : Raw) (text : List ℕ) (rows : List (List Tern)) → s.machine.circuit ≡ raw
       → HasRead (length raw.inputs) text rows s.line.shape s.line.values
@@ -152,18 +149,23 @@ module _ (s : Simulation) (machine' : Machine) (row : List Tern)
       (subst (λ (k : Shape). HasRead (length raw.inputs) text rows k s.line.values) shape h))
       (len ∙ width ∙ ap (λ (c : Raw). length c.inputs) is)
 
-  -- a row was simulated and its line written
-  pub row_goes_on : (s' : Simulation) (written written' : Option (List ℕ)) (failures failures' : ℕ) → s'.machine
-      ≡ machine'
+  -- a row was simulated and its text written
+  pub row_goes_on : (s' : Simulation T) (written written' : Option (List ℕ)) (failures failures' : ℕ)
+      → s'.machine ≡ machine'
+      → ((start : List Tern) (rows : List (List Tern)) (row : List Tern)
+      → recorded s.recorder machine'.circuit start rows
+      → HoldsAll machine'.circuit start (rows ++ row ∷ []) (length rows) machine'.cells
+      → s.frames ≡ min (length rows) (2 ^ 64 - 1)
+      → recorded s'.recorder machine'.circuit start (rows ++ row ∷ []))
       → s'.line.shape ≡ Row → s'.line.values ≡ [] → s'.frames ≡ min (s.frames + 1) (2 ^ 64 - 1)
-      → written' ≡ after written line → failures' ≡ failures + 0
-      → GoesOn (10 ∷ []) s s' written written' failures failures'
-  row_goes_on s' written written' failures failures' machine-is shape' values' frames wrote count-is raw start count
+      → written' ≡ after written piece → failures' ≡ failures + 0
+      → GoesOn is_text recorded (10 ∷ []) s s' written written' failures failures'
+  row_goes_on s' written written' failures failures' machine-is kept shape' values' frames wrote count-is raw start count
       text r =
       let done = stepped raw r.rows r.circuit_is r.states_are in
       record {
         rows = r.rows ++ row ∷ [];
-        trace = r.trace ++ line;
+        trace = r.trace ++ piece;
         circuit_is = ap (λ (m : Machine). m.circuit) machine-is ∙ circuit ∙ r.circuit_is;
         has_read = subst (λ (v : List Tern). HasRead (length raw.inputs) (text ++ 10 ∷ [])
             (r.rows ++ row ∷ []) s'.line.shape v) (sym values')
@@ -174,24 +176,28 @@ module _ (s : Simulation) (machine' : Machine) (row : List Tern)
             (subst (λ (m : Machine). AreStates raw (start_of raw) (r.rows ++ row ∷ []) (length r.rows + 1) m.states)
             (sym machine-is) done.states_are);
         frames_are = omega (arith, frames, r.frames_are, length_push r.rows row);
-        trace_is = trace_more raw (start_of raw) r.rows row r.trace line r.trace_is (line_stepped raw r.rows r.circuit_is done);
-        wrote = wrote ∙ ap (λ (w : Option (List ℕ)). after w line) r.wrote
-            ∙ after-append start r.trace line;
+        recorded_are = subst (λ (c : Raw). recorded s.recorder c (start_of raw) r.rows
+            → HoldsAll c (start_of raw) (r.rows ++ row ∷ []) (length r.rows) machine'.cells
+            → recorded s'.recorder c (start_of raw) (r.rows ++ row ∷ []))
+            (circuit ∙ r.circuit_is) (λ k h. kept (start_of raw) r.rows row k h r.frames_are) r.recorded_are done.cells_are;
+        trace_is = told_more raw r.rows r.trace r.circuit_is r.trace_is r.recorded_are done r.frames_are;
+        wrote = wrote ∙ ap (λ (w : Option (List ℕ)). after w piece) r.wrote
+            ∙ after-append start r.trace piece;
         no_failure = omega (arith, count-is, r.no_failure);
       }
 
-  -- a row was simulated, and the write of its line failed
+  -- a row was simulated, and the write of its text failed
   pub row_stops : (more : List ℕ) (written written' : Option (List ℕ)) (failures failures' : ℕ)
-      → (done : List ℕ) × IsBeginning done line × (written' ≡ after written done) → failures' ≡ failures + 1
-      → Stops (10 ∷ more) s written written' failures failures' fault.Io
+      → (done : List ℕ) × IsBeginning done piece × (written' ≡ after written done) → failures' ≡ failures + 1
+      → Stops is_text recorded (10 ∷ more) s written written' failures failures' fault.Io
   row_stops more written written' failures failures' (done, begins, wrote) count-is raw start count text r =
       let done' = stepped raw r.rows r.circuit_is r.states_are in
       let read = row_read raw text r.rows r.circuit_is r.has_read in
       record {
         rows = r.rows ++ row ∷ [];
-        trace = r.trace ++ line;
+        trace = r.trace ++ piece;
         done = r.trace ++ done;
-        trace_is = trace_more raw (start_of raw) r.rows row r.trace line r.trace_is (line_stepped raw r.rows r.circuit_is done');
+        trace_is = told_more raw r.rows r.trace r.circuit_is r.trace_is r.recorded_are done' r.frames_are;
         wrote = wrote ∙ ap (λ (w : Option (List ℕ)). after w done) r.wrote ∙ after-append start r.trace done;
         why = (
           record {
@@ -205,245 +211,223 @@ module _ (s : Simulation) (machine' : Machine) (row : List Tern)
         );
       }
 
-stops_by_line : (raw : Raw) (count : ℕ) (text : List ℕ) (rows : List (List Tern)) (trace : List ℕ) (failures : ℕ)
-    (f : StimFault)
-    → IsOfLine f → HasFaultyLine (length raw.inputs) text rows f → failures ≡ count
-    → StopsBy raw count text rows trace trace failures f
-stops_by_line raw count text rows trace failures (fault.Char n) k h e = (h, refl, e)
-stops_by_line raw count text rows trace failures (fault.Length n) k h e = (h, refl, e)
-stops_by_line raw count text rows trace failures fault.Unfinished k h e = absurd k
-stops_by_line raw count text rows trace failures fault.Limit k h e = absurd k
-stops_by_line raw count text rows trace failures fault.Memory k h e = absurd k
-stops_by_line raw count text rows trace failures fault.Io k h e = absurd k
-
--- a faulty line
-pub line_stops : (s : Simulation) (number : ℕ) (f : StimFault) (more : List ℕ) (written : Option (List ℕ))
-    (failures : ℕ)
-    → s.line.width ≡ length s.machine.circuit.inputs → number ≡ min (s.frames + 1) (2 ^ 64 - 1) → IsOfLine f
-    → ((before : ℕ) (line rest : List ℕ) → number ≡ line_number before
-    → Keeps s.line.width line s.line.shape s.line.values
-    → EndsLine rest → HasFault s.line.width before line rest f)
-    → Stops (10 ∷ more) s written written failures failures f
-line_stops s number f more written failures width number-is kind is raw start count text r =
-    let wide : s.line.width ≡ length raw.inputs = width ∙ ap (λ (c : Raw). length c.inputs) r.circuit_is in
-    let e : number ≡ line_number (length r.rows) = omega (arith, number-is, r.frames_are) in
-    let faulty = subst (λ (n : ℕ). HasFaultyLine n (text ++ (10 ∷ more)) r.rows f) wide
-    (read_fault more (subst (λ (n : ℕ). HasRead n text r.rows s.line.shape s.line.values) (sym wide) r.has_read)
-    (λ line rest. is (length r.rows) line rest e)) in
-    record {
-      rows = r.rows;
-      trace = r.trace;
-      done = r.trace;
-      trace_is = r.trace_is;
-      wrote = r.wrote;
-      why = stops_by_line raw count (text ++ (10 ∷ more)) r.rows r.trace failures f kind faulty r.no_failure;
-    }
-
--- ---- reads
-before_nil : (w : Option (List ℕ)) → before [] w ≡ w
-before_nil None = refl
-before_nil (Some xs) = refl
-
-before-before : (a b : List ℕ) (w : Option (List ℕ)) → before a (before b w) ≡ before (a ++ b) w
-before-before a b None = refl
-before-before a b (Some xs) = ap Some (sym (append_assoc a b xs))
-
-nothing_read : (text : List ℕ) (left mid to : Option (List ℕ)) → left ≡ before text mid → mid ≡ before [] to → left
-    ≡ before text to
-nothing_read text left mid to h e = h ∙ ap (before text) (e ∙ before_nil to)
-
-pub read_nothing : (raw : Raw) (left : Option (List ℕ)) (reads : ℕ) (start : Option (List ℕ)) (count : ℕ)
-    (s : Simulation)
-    → Running raw start count [] s start count → ReadSoFar raw left left reads reads start count s start count
-read_nothing raw left reads start count s r =
-    record { text = []; read = sym (before_nil left); no_failure = refl; running = r }
-
-module _ {raw : Raw} {left mid : Option (List ℕ)} {reads reads' : ℕ} {start : Option (List ℕ)} {count : ℕ}
-    {s : Simulation}
-    {written : Option (List ℕ)} {failures : ℕ}
-    (h : ReadSoFar raw left mid reads reads' start count s written failures) where
-  -- what was written was handed on
-  pub so_far_flushed : (written' : Option (List ℕ)) (failures' : ℕ) → written' ≡ written → failures' ≡ failures + 0
-      → ReadSoFar raw left mid reads reads' start count s written' failures'
-  so_far_flushed written' failures' is n =
-      let r = h.running in
+module _ {T : Type 0} {is_text : Telling} {recorded : Recorded T} where
+  -- a faulty line
+  pub line_stops : (s : Simulation T) (number : ℕ) (f : StimFault) (more : List ℕ) (written : Option (List ℕ))
+      (failures : ℕ)
+      → s.line.width ≡ length s.machine.circuit.inputs → number ≡ min (s.frames + 1) (2 ^ 64 - 1) → IsOfLine f
+      → ((before : ℕ) (line rest : List ℕ) → number ≡ line_number before
+      → Keeps s.line.width line s.line.shape s.line.values
+      → EndsLine rest → HasFault s.line.width before line rest f)
+      → Stops is_text recorded (10 ∷ more) s written written failures failures f
+  line_stops s number f more written failures width number-is kind is raw start count text r =
+      let wide : s.line.width ≡ length raw.inputs = width ∙ ap (λ (c : Raw). length c.inputs) r.circuit_is in
+      let e : number ≡ line_number (length r.rows) = omega (arith, number-is, r.frames_are) in
+      let faulty = subst (λ (n : ℕ). HasFaultyLine n (text ++ (10 ∷ more)) r.rows f) wide
+      (read_fault more (subst (λ (n : ℕ). HasRead n text r.rows s.line.shape s.line.values) (sym wide) r.has_read)
+      (λ line rest. is (length r.rows) line rest e)) in
       record {
-        text = h.text;
-        read = h.read;
-        no_failure = h.no_failure;
-        running = record {
+        rows = r.rows;
+        trace = r.trace;
+        done = r.trace;
+        trace_is = r.trace_is;
+        wrote = r.wrote;
+        why = stops_by_line raw count (text ++ (10 ∷ more)) r.rows r.trace failures f kind faulty r.no_failure;
+      }
+
+  pub read_nothing : (raw : Raw) (left : Option (List ℕ)) (reads : ℕ) (start : Option (List ℕ)) (count : ℕ)
+      (s : Simulation T)
+      → Running is_text recorded raw start count [] s start count → ReadSoFar is_text recorded raw left left reads reads start count s start count
+  read_nothing raw left reads start count s r =
+      record { text = []; read = sym (before_nil left); no_failure = refl; running = r }
+
+  module _ {raw : Raw} {left mid : Option (List ℕ)} {reads reads' : ℕ} {start : Option (List ℕ)} {count : ℕ}
+      {s : Simulation T}
+      {written : Option (List ℕ)} {failures : ℕ}
+      (h : ReadSoFar is_text recorded raw left mid reads reads' start count s written failures) where
+    -- what was written was handed on
+    pub so_far_flushed : (written' : Option (List ℕ)) (failures' : ℕ) → written' ≡ written → failures' ≡ failures + 0
+        → ReadSoFar is_text recorded raw left mid reads reads' start count s written' failures'
+    so_far_flushed written' failures' is n =
+        let r = h.running in
+        record {
+          text = h.text;
+          read = h.read;
+          no_failure = h.no_failure;
+          running = record {
+            rows = r.rows;
+            trace = r.trace;
+            circuit_is = r.circuit_is;
+            has_read = r.has_read;
+            states_are = r.states_are;
+            frames_are = r.frames_are;
+            recorded_are = r.recorded_are;
+            trace_is = r.trace_is;
+            wrote = is ∙ r.wrote;
+            no_failure = omega (arith, r.no_failure, n);
+          };
+        }
+
+    -- a flush failed
+    pub simulates_flush_failed : (written' : Option (List ℕ)) (failures' : ℕ) → written' ≡ written → failures' ≡ failures + 1
+        → Streamed is_text raw (record { left = left; reads = reads; writes = count })
+        (record { left = mid; reads = reads'; writes = failures' }) start written' (Err fault.Io)
+    simulates_flush_failed written' failures' is n =
+        let r = h.running in
+        record {
+          text = h.text;
           rows = r.rows;
           trace = r.trace;
-          circuit_is = r.circuit_is;
-          has_read = r.has_read;
-          states_are = r.states_are;
-          frames_are = r.frames_are;
+          done = r.trace;
+          read = h.read;
           trace_is = r.trace_is;
           wrote = is ∙ r.wrote;
-          no_failure = omega (arith, r.no_failure, n);
-        };
-      }
+          ended = inr (
+            record { widths = r.has_read.widths; rest = r.has_read.line; text_is = r.has_read.text_is },
+            ([], sym (append-nil r.trace)),
+            (h.no_failure, omega (arith, r.no_failure, n)),
+          );
+        }
 
-  -- a flush failed
-  pub simulates_flush_failed : (written' : Option (List ℕ)) (failures' : ℕ) → written' ≡ written → failures' ≡ failures + 1
-      → Simulates raw (record { left = left; reads = reads; writes = count })
-      (record { left = mid; reads = reads'; writes = failures' }) start written' (Err fault.Io)
-  simulates_flush_failed written' failures' is n =
-      let r = h.running in
-      record {
-        text = h.text;
-        rows = r.rows;
-        trace = r.trace;
-        done = r.trace;
-        read = h.read;
-        trace_is = r.trace_is;
-        wrote = is ∙ r.wrote;
-        ended = inr (
-          record { widths = r.has_read.widths; rest = r.has_read.line; text_is = r.has_read.text_is },
-          ([], sym (append-nil r.trace)),
-          (h.no_failure, omega (arith, r.no_failure, n)),
-        );
-      }
+  module _ {raw : Raw} {left mid to : Option (List ℕ)} {reads reads' reads'' : ℕ} {start : Option (List ℕ)} {count : ℕ}
+      {s : Simulation T}
+      {written : Option (List ℕ)} {failures : ℕ}
+      (h : ReadSoFar is_text recorded raw left mid reads reads' start count s written failures) where
+    pub read_more : (chunk : List ℕ) (s' : Simulation T) (written' : Option (List ℕ)) (failures' : ℕ) → mid
+        ≡ before chunk to → reads'' ≡ reads' + 0
+        → GoesOn is_text recorded chunk s s' written written' failures failures'
+        → ReadSoFar is_text recorded raw left to reads reads'' start count s' written' failures'
+    read_more chunk s' written' failures' e n g = record {
+      text = h.text ++ chunk;
+      read = h.read ∙ ap (before h.text) e ∙ before-before h.text chunk to;
+      no_failure = omega (arith, h.no_failure, n);
+      running = g raw start count h.text h.running;
+    }
 
-module _ {raw : Raw} {left mid to : Option (List ℕ)} {reads reads' reads'' : ℕ} {start : Option (List ℕ)} {count : ℕ}
-    {s : Simulation}
-    {written : Option (List ℕ)} {failures : ℕ}
-    (h : ReadSoFar raw left mid reads reads' start count s written failures) where
-  pub read_more : (chunk : List ℕ) (s' : Simulation) (written' : Option (List ℕ)) (failures' : ℕ) → mid
-      ≡ before chunk to → reads'' ≡ reads' + 0
-      → GoesOn chunk s s' written written' failures failures'
-      → ReadSoFar raw left to reads reads'' start count s' written' failures'
-  read_more chunk s' written' failures' e n g = record {
-    text = h.text ++ chunk;
-    read = h.read ∙ ap (before h.text) e ∙ before-before h.text chunk to;
-    no_failure = omega (arith, h.no_failure, n);
-    running = g raw start count h.text h.running;
-  }
+    stopped : (chunk : List ℕ) (written' : Option (List ℕ)) (failures' : ℕ) (f : StimFault) → mid ≡ before chunk to
+        → reads'' ≡ reads' + 0
+        → Stopped is_text raw start count (h.text ++ chunk) written' failures' f
+        → Streamed is_text raw (record { left = left; reads = reads; writes = count })
+        (record { left = to; reads = reads''; writes = failures' }) start written' (Err f)
+    stopped chunk written' failures' fault.Io e n k = record {
+      text = h.text ++ chunk;
+      rows = k.rows;
+      trace = k.trace;
+      done = k.done;
+      read = h.read ∙ ap (before h.text) e ∙ before-before h.text chunk to;
+      trace_is = k.trace_is;
+      wrote = k.wrote;
+      ended = inr (k.why.0, k.why.1, (omega (arith, h.no_failure, n), k.why.2));
+    }
+    stopped chunk written' failures' (fault.Char m) e n k = record {
+      text = h.text ++ chunk;
+      rows = k.rows;
+      trace = k.trace;
+      done = k.done;
+      read = h.read ∙ ap (before h.text) e ∙ before-before h.text chunk to;
+      trace_is = k.trace_is;
+      wrote = k.wrote;
+      ended = (k.why.0, k.why.1, (omega (arith, h.no_failure, n), k.why.2));
+    }
+    stopped chunk written' failures' (fault.Length m) e n k = record {
+      text = h.text ++ chunk;
+      rows = k.rows;
+      trace = k.trace;
+      done = k.done;
+      read = h.read ∙ ap (before h.text) e ∙ before-before h.text chunk to;
+      trace_is = k.trace_is;
+      wrote = k.wrote;
+      ended = (k.why.0, k.why.1, (omega (arith, h.no_failure, n), k.why.2));
+    }
+    stopped chunk written' failures' fault.Unfinished e n k = absurd k.why
+    stopped chunk written' failures' fault.Limit e n k = absurd k.why
+    stopped chunk written' failures' fault.Memory e n k = absurd k.why
 
-  stopped : (chunk : List ℕ) (written' : Option (List ℕ)) (failures' : ℕ) (f : StimFault) → mid ≡ before chunk to
-      → reads'' ≡ reads' + 0
-      → Stopped raw start count (h.text ++ chunk) written' failures' f
-      → Simulates raw (record { left = left; reads = reads; writes = count })
-      (record { left = to; reads = reads''; writes = failures' }) start written' (Err f)
-  stopped chunk written' failures' fault.Io e n k = record {
-    text = h.text ++ chunk;
-    rows = k.rows;
-    trace = k.trace;
-    done = k.done;
-    read = h.read ∙ ap (before h.text) e ∙ before-before h.text chunk to;
-    trace_is = k.trace_is;
-    wrote = k.wrote;
-    ended = inr (k.why.0, k.why.1, (omega (arith, h.no_failure, n), k.why.2));
-  }
-  stopped chunk written' failures' (fault.Char m) e n k = record {
-    text = h.text ++ chunk;
-    rows = k.rows;
-    trace = k.trace;
-    done = k.done;
-    read = h.read ∙ ap (before h.text) e ∙ before-before h.text chunk to;
-    trace_is = k.trace_is;
-    wrote = k.wrote;
-    ended = (k.why.0, k.why.1, (omega (arith, h.no_failure, n), k.why.2));
-  }
-  stopped chunk written' failures' (fault.Length m) e n k = record {
-    text = h.text ++ chunk;
-    rows = k.rows;
-    trace = k.trace;
-    done = k.done;
-    read = h.read ∙ ap (before h.text) e ∙ before-before h.text chunk to;
-    trace_is = k.trace_is;
-    wrote = k.wrote;
-    ended = (k.why.0, k.why.1, (omega (arith, h.no_failure, n), k.why.2));
-  }
-  stopped chunk written' failures' fault.Unfinished e n k = absurd k.why
-  stopped chunk written' failures' fault.Limit e n k = absurd k.why
-  stopped chunk written' failures' fault.Memory e n k = absurd k.why
+    pub simulates_stopped : (chunk : List ℕ) (written' : Option (List ℕ)) (failures' : ℕ) (f : StimFault) → mid
+        ≡ before chunk to → reads'' ≡ reads' + 0
+        → Stops is_text recorded chunk s written written' failures failures' f
+        → Streamed is_text raw (record { left = left; reads = reads; writes = count })
+        (record { left = to; reads = reads''; writes = failures' }) start written' (Err f)
+    simulates_stopped chunk written' failures' f e n k =
+        stopped chunk written' failures' f e n (k raw start count h.text h.running)
 
-  pub simulates_stopped : (chunk : List ℕ) (written' : Option (List ℕ)) (failures' : ℕ) (f : StimFault) → mid
-      ≡ before chunk to → reads'' ≡ reads' + 0
-      → Stops chunk s written written' failures failures' f
-      → Simulates raw (record { left = left; reads = reads; writes = count })
-      (record { left = to; reads = reads''; writes = failures' }) start written' (Err f)
-  simulates_stopped chunk written' failures' f e n k =
-      stopped chunk written' failures' f e n (k raw start count h.text h.running)
+    -- a read failed
+    pub simulates_read_failed : mid ≡ before [] to → reads'' ≡ reads' + 1
+        → Streamed is_text raw (record { left = left; reads = reads; writes = count })
+        (record { left = to; reads = reads''; writes = failures }) start written (Err fault.Io)
+    simulates_read_failed e n =
+        let r = h.running in
+        record {
+          text = h.text;
+          rows = r.rows;
+          trace = r.trace;
+          done = r.trace;
+          read = nothing_read h.text left mid to h.read e;
+          trace_is = r.trace_is;
+          wrote = r.wrote;
+          ended = inl (
+            record {
+              widths = r.has_read.widths;
+              rest = r.has_read.line;
+              no_end = r.has_read.no_end;
+              text_is =
+                  r.has_read.text_is;
+            },
+            refl,
+            (omega (arith, h.no_failure, n), r.no_failure),
+          );
+        }
 
-  -- a read failed
-  pub simulates_read_failed : mid ≡ before [] to → reads'' ≡ reads' + 1
-      → Simulates raw (record { left = left; reads = reads; writes = count })
-      (record { left = to; reads = reads''; writes = failures }) start written (Err fault.Io)
-  simulates_read_failed e n =
-      let r = h.running in
-      record {
-        text = h.text;
-        rows = r.rows;
-        trace = r.trace;
-        done = r.trace;
-        read = nothing_read h.text left mid to h.read e;
-        trace_is = r.trace_is;
-        wrote = r.wrote;
-        ended = inl (
-          record {
-            widths = r.has_read.widths;
-            rest = r.has_read.line;
-            no_end = r.has_read.no_end;
-            text_is =
-                r.has_read.text_is;
-          },
-          refl,
-          (omega (arith, h.no_failure, n), r.no_failure),
-        );
-      }
-
-  -- the reader is at its end
-  pub simulates_end : (result : Result ℕ StimFault) → s.line.width ≡ length s.machine.circuit.inputs
-      → mid ≡ before [] to → reads'' ≡ reads' + 0 → IsAtEnd to → IfOk result (λ n. n ≡ s.frames)
-      → OnOk result ((line : List ℕ) → Keeps s.line.width line s.line.shape s.line.values → line ≡ [])
-      → IfErr result (λ f. f ≡ fault.Unfinished)
-      → OnErr result ((line : List ℕ) → Keeps s.line.width line s.line.shape s.line.values → line ≢ [])
-      → Simulates raw (record { left = left; reads = reads; writes = count })
-      (record { left = to; reads = reads''; writes = failures }) start written result
-  simulates_end (Ok n) width e m at_end frames none u v =
-      let r = h.running in
-      let wide : length raw.inputs ≡ s.line.width = sym (width ∙ ap (λ (c : Raw). length c.inputs) r.circuit_is) in
-      record {
-        text = h.text;
-        rows = r.rows;
-        trace = r.trace;
-        done = r.trace;
-        read = nothing_read h.text left mid to h.read e;
-        trace_is = r.trace_is;
-        wrote = r.wrote;
-        ended = (
-          read_end r.has_read (λ line k. none line (subst (λ (w : ℕ). Keeps w line s.line.shape s.line.values) wide k)),
-          at_end,
-          refl,
-          frames ∙ r.frames_are,
-          (omega (arith, h.no_failure, m), r.no_failure),
-        );
-      }
-  simulates_end (Err f) width e m at_end u v is some =
-      let r = h.running in
-      let wide : length raw.inputs ≡ s.line.width = sym (width ∙ ap (λ (c : Raw). length c.inputs) r.circuit_is) in
-      subst (λ (g : StimFault). Simulates raw (record { left = left; reads = reads; writes = count })
-      (record { left = to; reads = reads''; writes = failures }) start written (Err g)) (sym is)
-      (record {
-        text = h.text;
-        rows = r.rows;
-        trace = r.trace;
-        done = r.trace;
-        read = nothing_read h.text left mid to h.read e;
-        trace_is = r.trace_is;
-        wrote = r.wrote;
-        ended = (
-          (
-            read_unfinished r.has_read
-                (λ line k. some line (subst (λ (w : ℕ). Keeps w line s.line.shape s.line.values) wide k)),
+    -- the reader is at its end
+    pub simulates_end : (result : Result ℕ StimFault) → s.line.width ≡ length s.machine.circuit.inputs
+        → mid ≡ before [] to → reads'' ≡ reads' + 0 → IsAtEnd to → IfOk result (λ n. n ≡ s.frames)
+        → OnOk result ((line : List ℕ) → Keeps s.line.width line s.line.shape s.line.values → line ≡ [])
+        → IfErr result (λ f. f ≡ fault.Unfinished)
+        → OnErr result ((line : List ℕ) → Keeps s.line.width line s.line.shape s.line.values → line ≢ [])
+        → Streamed is_text raw (record { left = left; reads = reads; writes = count })
+        (record { left = to; reads = reads''; writes = failures }) start written result
+    simulates_end (Ok n) width e m at_end frames none u v =
+        let r = h.running in
+        let wide : length raw.inputs ≡ s.line.width = sym (width ∙ ap (λ (c : Raw). length c.inputs) r.circuit_is) in
+        record {
+          text = h.text;
+          rows = r.rows;
+          trace = r.trace;
+          done = r.trace;
+          read = nothing_read h.text left mid to h.read e;
+          trace_is = r.trace_is;
+          wrote = r.wrote;
+          ended = (
+            read_end r.has_read (λ line k. none line (subst (λ (w : ℕ). Keeps w line s.line.shape s.line.values) wide k)),
             at_end,
-          ),
-          refl,
-          (omega (arith, h.no_failure, m), r.no_failure),
-        );
-      })
+            refl,
+            frames ∙ r.frames_are,
+            (omega (arith, h.no_failure, m), r.no_failure),
+          );
+        }
+    simulates_end (Err f) width e m at_end u v is some =
+        let r = h.running in
+        let wide : length raw.inputs ≡ s.line.width = sym (width ∙ ap (λ (c : Raw). length c.inputs) r.circuit_is) in
+        subst (λ (g : StimFault). Streamed is_text raw (record { left = left; reads = reads; writes = count })
+        (record { left = to; reads = reads''; writes = failures }) start written (Err g)) (sym is)
+        (record {
+          text = h.text;
+          rows = r.rows;
+          trace = r.trace;
+          done = r.trace;
+          read = nothing_read h.text left mid to h.read e;
+          trace_is = r.trace_is;
+          wrote = r.wrote;
+          ended = (
+            (
+              read_unfinished r.has_read
+                  (λ line k. some line (subst (λ (w : ℕ). Keeps w line s.line.shape s.line.values) wide k)),
+              at_end,
+            ),
+            refl,
+            (omega (arith, h.no_failure, m), r.no_failure),
+          );
+        })
 
 -- no memory was found
 pub simulates_nothing : (raw : Raw) (left : Option (List ℕ)) (reads : ℕ) (start : Option (List ℕ)) (count : ℕ)
@@ -460,15 +444,31 @@ simulates_nothing raw left reads start count = record {
   ended = ((refl, refl), refl, (refl, refl));
 }
 
+-- what is streamed as a trace is simulated
+pub simulates : (raw : Raw) (old new : Streams) (written written' : Option (List ℕ)) (result : Result ℕ StimFault)
+    → Streamed (λ raw start rows text. IsTrace raw start rows text) raw old new written written' result
+    → Simulates raw old new written written' result
+simulates raw old new written written' result h = record {
+  text = h.text;
+  rows = h.rows;
+  trace = h.trace;
+  done = h.done;
+  read = h.read;
+  trace_is = h.trace_is;
+  wrote = h.wrote;
+  ended = h.ended;
+}
+
 -- a simulation that has begun does not stop for want of memory
-stops_for_no_memory : (raw : Raw) (start : Option (List ℕ)) (count : ℕ) (text : List ℕ) (written : Option (List ℕ)) (failures : ℕ)
-    (f : StimFault) → f ≡ fault.Memory → Stopped raw start count text written failures f → ⊥
-stops_for_no_memory raw start count text written failures f is s =
+stops_for_no_memory : (is_text : Telling) (raw : Raw) (start : Option (List ℕ)) (count : ℕ) (text : List ℕ)
+    (written : Option (List ℕ)) (failures : ℕ) (f : StimFault) → f ≡ fault.Memory
+    → Stopped is_text raw start count text written failures f → ⊥
+stops_for_no_memory is_text raw start count text written failures f is s =
     subst (λ (f : StimFault). StopsBy raw count text s.rows s.trace s.done failures f) is s.why
 
-pub stopped_for_no_memory : (Q : Type 0) {raw : Raw} {start : Option (List ℕ)} {count : ℕ} {text : List ℕ} {written : Option (List ℕ)}
-    {failures : ℕ} (r : Result ℕ StimFault) (f : StimFault) → IsErrAnd r (λ g. g ≡ f)
-    → Stopped raw start count text written failures f → IfErr r (λ g. g ≡ fault.Memory → Q)
-stopped_for_no_memory Q {raw} {start} {count} {text} {written} {failures} r f h stopped =
-    fault_same r f (λ g. g ≡ fault.Memory → Q) h
-    (λ is. absurd (stops_for_no_memory raw start count text written failures f is stopped))
+pub stopped_for_no_memory : {is_text : Telling} {raw : Raw} {start : Option (List ℕ)} {count : ℕ} {text : List ℕ}
+    {written : Option (List ℕ)} {failures : ℕ} (r : Result ℕ StimFault) (f : StimFault) → IsErrAnd r (λ g. g ≡ f)
+    → Stopped is_text raw start count text written failures f → IfErr r (λ g. g ≢ fault.Memory)
+stopped_for_no_memory {is_text} {raw} {start} {count} {text} {written} {failures} r f h stopped =
+    fault_same r f (λ g. g ≢ fault.Memory) h
+    (λ is. stops_for_no_memory is_text raw start count text written failures f is stopped)

@@ -5,7 +5,7 @@ use Rattle.std.proofs.lemmas.List.Sums.{fold_more}
 use Rattle.aig_parts.specs.declared.ternary.Tern.{Tern}
 use Rattle.aig_parts.specs.declared.gate.Gate.{Gate}
 use Rattle.aig_parts.specs.Literal.{variable}
-use Rattle.aig_sim.specs.Cells.{gate_value, with_gate, with_swept_row}
+use Rattle.aig_sim.specs.Cells.{HasPlaces, gate_value, with_gate, with_swept_row}
 use Rattle.aig_sim.specs.InputRows.{with_cell, row_at}
 
 -- an evaluation adds no cell
@@ -18,6 +18,13 @@ length-swept row (g ∷ gates) =
 pub item_is : {A : Type 0} (P : A → Type 0) (xs : List A) (i : ℕ) (x : A) → All P xs → i < length xs → x ≡ get_or xs i x
     → P x
 item_is P xs i x all lt is = subst P (sym is) (all i x lt)
+
+-- the places of the gate that comes next are in the row as it is then
+pub places_next : (row now : List Tern) (gates : List Gate) (i : ℕ) (g : Gate) → All (HasPlaces (length row)) gates
+    → i < length gates → g ≡ get_or gates i g → now ≡ fold with_gate row (take i gates) → HasPlaces (length now) g
+places_next row now gates i g all lt is e =
+    subst (λ (n : ℕ). HasPlaces n g) (sym (ap length e ∙ length-swept row (take i gates)))
+    (item_is (HasPlaces (length row)) gates i g all lt is)
 
 -- a row after one gate more
 pub row_more : (row : List Tern) (gates : List Gate) (i : ℕ) (g : Gate) → i < length gates → g ≡ get_or gates i g

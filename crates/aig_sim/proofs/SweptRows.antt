@@ -1,7 +1,7 @@
 -- Gates that are evaluated one after the other in a row with room for more cells.
 use Rattle.std.proofs.Common.{◌≡◌, ℕ, suc, ◌<◌, ◌≤◌, Bool, List, [], ◌∷◌, length, map, All, fold, take, get_or, set, refl, sym, ap, ap₂, ◌∙◌, subst, arith}
 use Rattle.std.proofs.Math.Seq.{take-set-lt}
-use Rattle.std.proofs.lemmas.List.{length-set, length-map, get_or-map, map-set}
+use Rattle.std.proofs.lemmas.List.{length-set, map-set}
 use Rattle.std.proofs.lemmas.List.Elements.{All-set}
 use Rattle.std.proofs.lemmas.Option.{slice_get_within}
 use Rattle.aig_parts.specs.declared.ternary.Tern.{Tern}
@@ -9,9 +9,9 @@ use Rattle.aig_parts.specs.declared.gate.Gate.{Gate}
 use Rattle.aig_parts.specs.Literal.{variable}
 use Rattle.aig_parts.specs.Ternary.{kleene_and}
 use Rattle.aig_sim.specs.Cells.{Cells, HasCells, HasPlaces, gate_value, with_gate, with_swept_row}
-use Rattle.aig_sim.specs.InputRows.{row_at}
-use Rattle.aig_sim.specs.Padded.{ArePadded, IsPadded}
+use Rattle.aig_sim.specs.state.Padded.{ArePadded, IsPadded}
 use Rattle.aig_sim.proofs.PaddedRows.{literal_of_row, padded_set, seen}
+use Rattle.aig_sim.proofs.SeenRows.{first_cells, has_cell, padded_row, taken}
 
 swept_padded : (n room : ℕ) (row : List Tern) (gates : List Gate) → All (HasPlaces n) gates → IsPadded n room row
     → IsPadded n room (fold with_gate row gates)
@@ -34,57 +34,49 @@ swept_taken n row (g ∷ gates) all =
     ∙ ap (λ (r : List Tern). fold with_gate r gates) (taken_gate n row g (all 0 g (omega arith)))
 
 -- a row of a grid that a caller names, and gates that can be evaluated
-module _ (n room count : ℕ) (rows : List (List Tern)) (flags : List Bool) (grid : Cells)
-    (view : seen n room rows flags count ≡ grid) (are : ArePadded n room flags rows)
-    (t : ℕ) (frame : t < length grid.cells) (row : List Tern) (is : row ≡ get_or rows t row)
-    (gates : List Gate) (all : All (HasCells grid.gate_flags) gates) where
-  cells : map (take n) rows ≡ grid.cells
-  cells = ap (λ (g : Cells). g.cells) view
-
-  size : length grid.gate_flags ≡ n
-  size = sym (ap (λ (g : Cells). length g.gate_flags) view) ∙ are.flagged
-
-  there : t < length rows
-  there = omega (arith, ap length cells, length-map rows (take n))
-
-  row_padded : IsPadded n room row
-  row_padded = subst (IsPadded n room) (sym is) (are.each t row there)
-
+module _ {A : Type 0} (cells : A → List Tern) (items : List A) {n room count : ℕ} {flags : List Bool}
+    (are : ArePadded n room flags (map cells items)) {grid : Cells}
+    (view : seen n room (map cells items) flags count ≡ grid) {t : ℕ} (frame : t < length grid.cells)
+    {row : A} (is : row ≡ get_or items t row) (gates : List Gate) (all : All (HasCells grid.gate_flags) gates) where
   places : All (HasPlaces n) gates
   places k d lt =
       let h = all k d lt in
+      let first = first_cells cells items are view frame is in
       record {
-        lhs = omega (arith, slice_get_within grid.gate_flags _ _ h.gate, size);
-        rhs0 = omega (arith, h.rhs0, size);
-        rhs1 = omega (arith, h.rhs1, size);
+        lhs = first _ (slice_get_within grid.gate_flags _ _ h.gate);
+        rhs0 = first _ h.rhs0;
+        rhs1 = first _ h.rhs1;
       }
 
-  pub row_places : All (HasPlaces (length row)) gates
+  pub row_places : All (HasPlaces (length (cells row))) gates
   row_places k d lt =
-      let h = places k d lt in
-      let fits = are.fits in
-      let wide = row_padded.0 in
-      record { lhs = omega (arith, h.lhs); rhs0 = omega (arith, h.rhs0); rhs1 = omega (arith, h.rhs1) }
+      let h = all k d lt in
+      let there = has_cell cells items are view frame is in
+      record {
+        lhs = there _ (slice_get_within grid.gate_flags _ _ h.gate);
+        rhs0 = there _ h.rhs0;
+        rhs1 = there _ h.rhs1;
+      }
 
-  row_of : row_at grid.cells t ≡ take n row
-  row_of =
-      ap (λ (c : List (List Tern)). row_at c t) (sym cells) ∙ get_or-map (take n) rows t row [] there
-      ∙ ap (take n) (sym is)
+  module _ (new : A) (e : cells new ≡ fold with_gate (cells row) gates) where
+    pub swept_padded_items : ArePadded n room flags (map cells (set items t new))
+    swept_padded_items =
+        let rows = map cells items in
+        let row_padded = padded_row cells items are view frame is in
+        subst (ArePadded n room flags) (sym (map-set cells items t new)) (record {
+          count = omega (arith, length-set rows t (cells new), are.count);
+          constant = are.constant;
+          fits = are.fits;
+          limit = are.limit;
+          flagged = are.flagged;
+          each = All-set (IsPadded n room) rows t (cells new)
+              (subst (IsPadded n room) (sym e) (swept_padded n room (cells row) gates places row_padded)) are.each;
+        })
 
-  pub swept_rows_padded : (new : List Tern) → new ≡ fold with_gate row gates → ArePadded n room flags (set rows t new)
-  swept_rows_padded new e = record {
-    count = omega (arith, length-set rows t new, are.count);
-    constant = are.constant;
-    fits = are.fits;
-    limit = are.limit;
-    flagged = are.flagged;
-    each = All-set (IsPadded n room) rows t new
-        (subst (IsPadded n room) (sym e) (swept_padded n room row gates places row_padded)) are.each;
-  }
-
-  pub swept_rows : (new : List Tern) → new ≡ fold with_gate row gates
-      → map (take n) (set rows t new) ≡ with_swept_row grid.cells t gates
-  swept_rows new e =
-      map-set (take n) rows t new ∙ ap (λ (c : List (List Tern)). set c t (take n new)) cells
-      ∙ ap (set grid.cells t)
-      (ap (take n) e ∙ swept_taken n row gates places ∙ ap (λ (r : List Tern). fold with_gate r gates) (sym row_of))
+    pub swept_items : map (take n) (map cells (set items t new)) ≡ with_swept_row grid.cells t gates
+    swept_items =
+        ap (map (take n)) (map-set cells items t new) ∙ map-set (take n) (map cells items) t (cells new)
+        ∙ ap (λ (c : List (List Tern)). set c t (take n (cells new))) (ap (λ (g : Cells). g.cells) view)
+        ∙ ap (set grid.cells t)
+        (ap (take n) e ∙ swept_taken n (cells row) gates places
+        ∙ ap (λ (r : List Tern). fold with_gate r gates) (sym (taken cells items are view frame is)))

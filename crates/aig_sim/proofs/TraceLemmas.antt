@@ -1,7 +1,7 @@
 -- A trace, line by line.
 use Rattle.std.proofs.Common.{◌≡◌, ℕ, zero, suc, ◌+◌, ◌<◌, ◌≤◌, List, [], ◌∷◌, ◌++◌, length, map, flat_map, get_or, take, Some, slice_get, refl, sym, ap, ◌∙◌, subst, arith, append_assoc, add-one}
 use Rattle.std.specs.List.{AllZip}
-use Rattle.std.proofs.lemmas.List.{append-nil, take_more, take_all}
+use Rattle.std.proofs.lemmas.List.{append-nil, length_push, take_more, take_all}
 use Rattle.std.proofs.lemmas.List.Concat.{flat_map-append}
 use Rattle.aig_parts.specs.declared.ternary.Tern.{Tern}
 use Rattle.aig_parts.specs.declared.latch.Latch.{Latch}
@@ -13,10 +13,9 @@ use Rattle.aig_base.specs.Value.{Value, start_of, reset_value}
 use Rattle.aig_base.proofs.Circuits.{input_defined, latch_defined, next_defined, output_defined}
 use Rattle.aig_base.proofs.Positions.{slice_get_left}
 use Rattle.aig_sim.specs.Cells.{literal_value}
-use Rattle.aig_sim.specs.Frame.{Holds, HoldsAll, AreStates}
+use Rattle.aig_sim.specs.state.Frame.{Holds, HoldsAll, AreStates}
 use Rattle.aig_sim.specs.InputRows.{row_at}
-use Rattle.aig_sim.specs.Machine.{Steps}
-use Rattle.aig_sim.specs.StimulusText.{character}
+use Rattle.aig_sim.specs.state.Machine.{Steps}
 use Rattle.aig_sim.specs.Trace.{AreValues, IsLine, AreLines, IsTrace}
 use Rattle.aig_sim.specs.TraceText.{literal_character, line_text, trace_text}
 use Rattle.aig_sim.proofs.Evaluation.{literal_has_value}
@@ -110,7 +109,7 @@ fields_are : (a b c d : List ℕ)
 fields_are a b c d = simp append_assoc
 
 module _ (raw : Raw) (start : List Tern) (rows : List (List Tern)) (t : ℕ) (cells : List Tern) (sound : IsSound raw) where
-  values_text : (literals : List ℕ)
+  pub values_text : (literals : List ℕ)
       → ((i l : ℕ) → slice_get literals i ≡ Some l → Holds raw start rows t cells (variable l))
       → AreValues raw start rows t literals (map (literal_character cells) literals)
   values_text [] h = tt
@@ -173,3 +172,37 @@ trace_is raw start rows cells sound e h =
     let whole : take (length rows) cells ≡ cells = take_all (length rows) cells (omega arith) in
     subst (λ (xs : List (List Tern)). AreLines raw start rows (length rows) (flat_map (line_text raw) xs))
     whole (lines_are raw start rows cells sound (length rows) (omega arith) h)
+
+-- ---- more rows
+module _ (raw : Raw) (start : List Tern) (rows more : List (List Tern)) where
+  pub values_stay : (t : ℕ) (ls bs : List ℕ) → AreValues raw start rows t ls bs → AreValues raw start (rows ++ more) t ls bs
+  values_stay t [] [] h = tt
+  values_stay t [] (b ∷ bs) h = absurd h
+  values_stay t (l ∷ ls) [] h = absurd h
+  values_stay t (l ∷ ls) (b ∷ bs) h = ((h.0.0, value_stays more h.0.1, h.0.2), values_stay t ls bs h.1)
+
+  line_stays : (t : ℕ) (line : List ℕ) → IsLine raw start rows t line → IsLine raw start (rows ++ more) t line
+  line_stays t line h = record {
+    state = h.state;
+    inputs = h.inputs;
+    outputs = h.outputs;
+    next = h.next;
+    state_is = values_stay t (map (λ x. x.lit) raw.latches) h.state h.state_is;
+    inputs_are = values_stay t raw.inputs h.inputs h.inputs_are;
+    outputs_are = values_stay t raw.outputs h.outputs h.outputs_are;
+    next_is = values_stay t (map (λ x. x.next) raw.latches) h.next h.next_is;
+    line_is = h.line_is;
+  }
+
+  lines_stay : (t : ℕ) (text : List ℕ) → AreLines raw start rows t text → AreLines raw start (rows ++ more) t text
+  lines_stay zero text h = h
+  lines_stay (suc t) text h = (h.0, h.1, lines_stay t h.0 h.2, line_stays t h.1 h.3, h.4)
+
+-- one line more
+pub trace_more : (raw : Raw) (start : List Tern) (rows : List (List Tern)) (row : List Tern) (trace line : List ℕ)
+    → IsTrace raw start rows trace → IsLine raw start (rows ++ row ∷ []) (length rows) line
+    → IsTrace raw start (rows ++ row ∷ []) (trace ++ line)
+trace_more raw start rows row trace line h k =
+    subst (λ (n : ℕ). AreLines raw start (rows ++ row ∷ []) n (trace ++ line))
+    (sym (add-one (length rows)) ∙ sym (length_push rows row))
+    (trace, line, lines_stay raw start rows (row ∷ []) (length rows) trace h, k, refl)

@@ -20,9 +20,9 @@ use Rattle.aig_sim.specs.Cells.{literal_value}
 use Rattle.aig_sim.specs.declared.verdict.Verdict.{Verdict}
 use Rattle.aig_sim.specs.declared.verdict.Verdict.TheVariants as verdict
 use Rattle.aig_sim.specs.declared.witness_text.Shape.{Shape}
-use Rattle.aig_sim.specs.Checking.{IsShape, BeginsWithRow, ReadsNotOne, HasRun, HoldConstraints, IsFirstFailure}
-use Rattle.aig_sim.specs.Frame.{Holds, HoldsAll, AreStates}
-use Rattle.aig_sim.specs.Machine.{Steps}
+use Rattle.aig_sim.specs.state.Checking.{IsShape, BeginsWithRow, ReadsNotOne, HasRun, HoldConstraints, IsFirstFailure}
+use Rattle.aig_sim.specs.state.Frame.{Holds, HoldsAll, AreStates}
+use Rattle.aig_sim.specs.state.Machine.{Steps}
 use Rattle.aig_sim.specs.StimulusText.{character, row_line, HaveWidth}
 use Rattle.aig_sim.specs.Verdict.{Allows, StartsWrong, IsNotOne, Applies, IsBefore, IsVerdict}
 use Rattle.aig_sim.specs.WitnessText.{Witness, IsAdmitted, rows_text}

@@ -8,7 +8,7 @@ use Rattle.aig_parts.specs.declared.ternary.Tern.{Tern}
 use Rattle.aig_parts.specs.declared.ternary.Tern.TheVariants.{Zero, One, X}
 use Rattle.aig_parts.specs.declared.raw.Raw.{Raw}
 use Rattle.aig_sim.specs.declared.witness_text.Shape.{Shape}
-use Rattle.aig_sim.specs.Checking.{BeginsWithRow, SpellsFrames, IsShape}
+use Rattle.aig_sim.specs.state.Checking.{BeginsWithRow, SpellsFrames, IsShape}
 use Rattle.aig_sim.specs.StimulusText.{character, row_line, IsCharacter, HaveWidth}
 use Rattle.aig_sim.specs.WitnessText.{Witness, SpellsWitness, IsDecimal, rows_text}
 use Rattle.std.proofs.lemmas.Bool.{cases_eq}

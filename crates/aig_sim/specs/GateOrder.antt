@@ -1,4 +1,4 @@
--- Gates in an order in which they can be evaluated (profile).
+-- Gates in a topological order, in which they can be evaluated (our own choice).
 use Rattle.std.specs.Prelude.{◌≡◌, Bool, true, ◌⊎◌, ℕ, ◌<◌, List, map, All, Some, slice_get}
 use Rattle.aig_parts.specs.declared.gate.Gate.{Gate}
 use Rattle.aig_parts.specs.declared.raw.Raw.{Raw}

@@ -1,4 +1,4 @@
--- What a stimulus is seen as: rows of one width, a row a frame (profile).
+-- What a stimulus is seen as: rows of one width, a row a frame, a value a primary input (our own choice).
 use Rattle.std.specs.Prelude.{ℕ, List, [], slice_set, slice_index_or}
 use Rattle.aig_parts.specs.declared.ternary.Tern.{Tern}
 

@@ -1,4 +1,4 @@
--- The text of a stimulus: a line a frame, a character an input, each line ended by LF (profile).
+-- The text of a stimulus: a line a frame, a character an input, each line ended by LF (our own choice).
 use Rattle.std.specs.Prelude.{◌≡◌, ◌≢◌, ◌⊎◌, ℕ, ◌+◌, ◌-◌, ◌^◌, min, List, [], ◌∷◌, ◌++◌, length, map, All}
 use Rattle.std.specs.List.{flat_map}
 use Rattle.aig_parts.specs.declared.ternary.Tern.{Tern}

@@ -1,5 +1,5 @@
 -- The text of a trace: a line a frame, with the values of the latches, the inputs, the outputs and the next states
--- (profile, after the stimulus traces of AIGER 1.0).
+-- (our own choice, after the stimulus traces of AIGER 1.0).
 use Rattle.std.specs.Prelude.{◌≡◌, ℕ, zero, suc, List, [], ◌∷◌, ◌++◌, length, map}
 use Rattle.std.specs.List.{AllZip}
 use Rattle.aig_parts.specs.declared.ternary.Tern.{Tern}

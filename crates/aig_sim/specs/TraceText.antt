@@ -1,4 +1,4 @@
--- The text of a trace by the cells of its frames (profile).
+-- The text of a trace by the cells of its frames (our own choice).
 use Rattle.std.specs.Prelude.{ℕ, List, [], ◌∷◌, ◌++◌, map, flat_map}
 use Rattle.aig_parts.specs.declared.ternary.Tern.{Tern}
 use Rattle.aig_parts.specs.declared.raw.Raw.{Raw}

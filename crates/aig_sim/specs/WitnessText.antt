@@ -1,5 +1,5 @@
 -- The text of a witness: the line `1`, the line `b` and a position, a line of latches' values, a line of inputs' values a
--- frame, and the line `.` (profile, after the witnesses of AIGER 1.9).
+-- frame, and the line `.` (our own choice, after the witnesses of AIGER 1.9).
 use Rattle.std.specs.Prelude.{◌≡◌, ◌≢◌, ℕ, ◌+◌, ◌*◌, ◌<◌, ◌≤◌, List, [], ◌∷◌, ◌++◌, length, flat_map}
 use Rattle.aig_parts.specs.declared.ternary.Tern.{Tern}
 use Rattle.aig_parts.specs.declared.raw.Raw.{Raw}

@@ -1,8 +1,9 @@
 //! Values in two bits, for circuits that are simulated row by row.
-ghost use Rattle.std.specs.Prelude.{◌≡◌, ◌<◌, IsTrue, List, length};
+ghost use Rattle.std.specs.Prelude.{◌≡◌, ◌≢◌, ◌<◌, ◌↔◌, IsTrue, List, length};
 ghost use Rattle.aig_parts.specs.Literal.{variable};
 ghost use Rattle.aig_parts.specs.Ternary.{kleene_and, kleene_not};
 ghost use Rattle.aig_sim.specs.Cells.{literal_value};
+ghost use Rattle.aig_sim.specs.state.Codes.{value_of, bits_of, IsCode};
 ghost use Rattle.aig_sim.specs.StimulusText.{character};
 ghost use Rattle.aig_sim.specs.TraceText.{literal_character};
 
@@ -17,10 +18,9 @@ pub struct Code {
 }
 
 impl Model for Code {
-    ghost use Rattle.std.specs.Prelude.{◌≡◌};
     ghost use Rattle.std.proofs.Common.{ap};
     ghost use Rattle.aig_parts.specs.declared.ternary.Tern.{Tern};
-    ghost use Rattle.aig_sim.specs.Codes.{value_of, bits_of};
+    ghost use Rattle.aig_sim.specs.state.Codes.{value_of, bits_of, IsCode};
 
     ghost Value = { Tern };
 
@@ -30,7 +30,7 @@ impl Model for Code {
 
     ghost inverse_ok = { λ a h. ap (λ n. record { bits = n }) h };
 
-    ghost invariant = { λ a. bits_of (value_of a.bits) ≡ a.bits };
+    ghost invariant = { λ a. IsCode a.bits };
 }
 
 /// The bits of 0, 1 and x.
@@ -50,6 +50,21 @@ impl Code {
         Code {
             bits: BITS[value as usize],
         }
+    }
+
+    /// The code that has these bits.
+    pub fn of_bits(bits: u8) -> Code
+        requires { IsCode bits }
+        ensures { result ≡ value_of bits }
+    {
+        Code { bits }
+    }
+
+    /// The bits of the code.
+    pub fn bits(self) -> u8
+        ensures { result ≡ bits_of self }
+    {
+        self.bits
     }
 
     /// The value of the code.
@@ -79,6 +94,13 @@ impl Code {
         ensures same { (IsTrue is_negated → ⊥) → result ≡ character self }
     {
         CHARACTERS[4 * (is_negated as usize) + self.bits as usize]
+    }
+
+    /// Whether two values differ.
+    pub fn differs(self, other: Code) -> bool
+        ensures { IsTrue result ↔ (self ≢ other) }
+    {
+        self.bits != other.bits
     }
 
     /// The AND of two values.

@@ -7,7 +7,7 @@ ghost use Rattle.aig_base.specs.Circuit.{IsCircuit};
 ghost use Rattle.aig_parts.specs.Literal.{variable};
 ghost use Rattle.aig_base.specs.Sound.{IsSound};
 ghost use Rattle.aig_sim.specs.Cells.{literal_value};
-ghost use Rattle.aig_sim.specs.Frame.{AreStates, Renews, HoldsInputs, HoldsLatches, HoldsSources, HoldsAll};
+ghost use Rattle.aig_sim.specs.state.Frame.{AreStates, Renews, HoldsInputs, HoldsLatches, HoldsSources, HoldsAll};
 ghost use Rattle.aig_sim.specs.GateOrder.{IsGateOrder};
 
 use crate::code::{Code, code_in};

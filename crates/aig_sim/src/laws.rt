@@ -1,14 +1,22 @@
-//! What holds of all texts of stimuli and witnesses. A law is a function that does nothing: its contract is the law.
-ghost use Rattle.std.specs.Prelude.{◌≡◌, ℕ, ◌≤◌, List, length};
+//! What holds of all texts of stimuli, witnesses and dumps. Each law is a function that does nothing: its contract is
+//! the law.
+ghost use Rattle.std.specs.Prelude.{◌≡◌, ◌≢◌, ℕ, ◌<◌, ◌≤◌, ◌^◌, List, ◌++◌, length, slice_get, Some, All};
 ghost use Rattle.aig_parts.specs.declared.ternary.Tern.{Tern};
 ghost use Rattle.aig_sim.specs.declared.stimulus_fault.StimFault.{StimFault};
 ghost use Rattle.aig_parts.specs.declared.raw.Raw.{Raw};
+ghost use Rattle.aig_parts.specs.declared.symbols.Kind.{Kind};
+ghost use Rattle.aig_parts.specs.Formed.{IsFormed};
 ghost use Rattle.aig_base.specs.Limits.{frame_limit};
+ghost use Rattle.aig_base.specs.Sound.{IsSound};
+ghost use Rattle.aig_sim.specs.Dump.{AreFrames, IsDump};
+ghost use Rattle.aig_sim.specs.DumpHeader.{header};
+ghost use Rattle.aig_sim.specs.DumpNames.{identifier_code, name_of};
+ghost use Rattle.aig_sim.specs.DumpRead.{lines, ShowsFrames};
 ghost use Rattle.aig_sim.specs.StimulusText.{SpellsRows, HasFaultyLine};
 ghost use Rattle.aig_sim.specs.WitnessText.{Witness, SpellsWitness};
 
 /// A text spells at most one list of rows of a width. A text that spells rows within the limit has no faulty line, and
-/// behind at most 65,536 rows a text has at most one first faulty line, with one fault (profile).
+/// behind at most 65,536 rows a text has at most one first faulty line, with one fault (our own choice).
 pub fn law_of_stimulus_text()
     ensures rows { (width : ℕ) (text : List ℕ) (rows rows' : List (List Tern)) →
         SpellsRows width text rows → SpellsRows width text rows' → rows ≡ rows' }
@@ -20,8 +28,27 @@ pub fn law_of_stimulus_text()
         (rows ≡ rows') × (fault ≡ fault') }
 {}
 
-/// A text spells at most one witness of a circuit (profile).
+/// A text spells at most one witness of a circuit (our own choice).
 pub fn law_of_witness_text()
     ensures one { (raw : Raw) (text : List ℕ) (w v : Witness) →
         SpellsWitness raw text w → SpellsWitness raw text v → w ≡ v }
+{}
+
+/// A viewer of a dump sees the run: in sound parts, the last value that stands for a signal's code at a time at most t
+/// is the signal's value at frame t, also where the dump breaks off behind one of its frames. Two signals have two
+/// codes; codes and names have visible bytes alone, no name begins with `$`, in formed parts none is empty, and each
+/// line of the header begins with `$`, so that none is taken for a time or a value (IEEE 1364, value change dump).
+pub fn law_of_dump()
+    ensures shows { (raw : Raw) (start : List Tern) (rows : List (List Tern)) (text : List ℕ) →
+        IsSound raw → length rows < 2 ^ 64 → IsDump raw start rows text →
+        ShowsFrames raw start rows (length rows) text }
+    ensures begins { (raw : Raw) (start : List Tern) (rows : List (List Tern)) (k : ℕ) (frames : List ℕ) →
+        IsSound raw → k ≤ 2 ^ 64 → AreFrames raw start rows k frames →
+        ShowsFrames raw start rows k (header raw ++ frames) }
+    ensures one_code { (m n : ℕ) → identifier_code m ≡ identifier_code n → m ≡ n }
+    ensures code { (n : ℕ) → All (λ b. (33 ≤ b) × (b ≤ 126)) (identifier_code n) }
+    ensures name { (raw : Raw) (kind : Kind) (p : ℕ) → All (λ b. (33 ≤ b) × (b ≤ 126)) (name_of raw kind p) }
+    ensures no_keyword { (raw : Raw) (kind : Kind) (p : ℕ) → slice_get (name_of raw kind p) 0 ≢ Some 36 }
+    ensures some_name { (raw : Raw) (kind : Kind) (p : ℕ) → IsFormed raw → 0 < length (name_of raw kind p) }
+    ensures directives { (raw : Raw) → All (λ line. slice_get line 0 ≡ Some 36) (lines (header raw)) }
 {}

@@ -1,11 +1,11 @@
-//! A circuit that is simulated row by row.
+//! A circuit that is simulated row by row: three-valued simulation in a topological order.
 ghost use Rattle.std.specs.Prelude.{◌≡◌, ◌+◌, ◌≤◌, List, length, map, unwrap_or, IfOk};
 ghost use Rattle.aig_parts.specs.declared.ternary.Tern.{Tern};
 ghost use Rattle.aig_base.specs.Circuit.{IsCircuit};
 ghost use Rattle.aig_base.specs.Value.{reset_value, start_of};
-ghost use Rattle.aig_sim.specs.Frame.{AreStates};
+ghost use Rattle.aig_sim.specs.state.Frame.{AreStates};
 ghost use Rattle.aig_sim.specs.GateOrder.{IsGateOrder};
-ghost use Rattle.aig_sim.specs.Machine.{Steps};
+ghost use Rattle.aig_sim.specs.state.Machine.{Steps};
 
 use crate::code::{Code, character_in};
 use crate::frame::{evaluate_row, renew_states};
@@ -30,7 +30,7 @@ impl<'a> Model for Machine<'a> {
     ghost use Rattle.std.specs.Prelude.{◌≡◌, ◌+◌, length, unwrap_or, vec_len};
     ghost use Rattle.aig_base.specs.Circuit.{IsCircuit};
     ghost use Rattle.aig_sim.specs.GateOrder.{IsGateOrder};
-    ghost use Rattle.aig_sim.specs.Machine.{Machine};
+    ghost use Rattle.aig_sim.specs.state.Machine.{Machine};
 
     ghost Value = { Machine };
 

@@ -4,14 +4,13 @@ ghost use Rattle.std.specs.Prelude.{IfOk, IfErr, OnOk, OnErr};
 ghost use Rattle.aig_base.specs.Value.{start_of};
 ghost use Rattle.aig_sim.specs.declared.line_in_hand.Shape.TheVariants as shapes;
 ghost use Rattle.aig_sim.specs.LineInHand.{Keeps};
-ghost use Rattle.aig_sim.specs.Running.{HasRoom, GoesOn, Stops};
+ghost use Rattle.aig_sim.specs.state.Running.{HasRoom, Starts, GoesOn, Stops, Streamed};
 ghost use Rattle.aig_sim.specs.Simulated.{Simulates};
 
 use crate::line_in_hand::{LineInHand, are_characters};
 use crate::machine::{Machine, first_states};
+use crate::recorder::{Recorder, TraceRecorder};
 use crate::stimulus_fault::StimFault;
-use crate::trace_block::TraceBlock;
-use crate::trace_line::write_line;
 use aig_base::{Circuit, Memory, Read, Write};
 use std::alloc::Global;
 
@@ -47,20 +46,26 @@ fn first_end(bytes: &[u8]) -> usize
 /// How many bytes of a stimulus a read asks for; it may give fewer.
 const CHUNK: usize = 16384;
 
-/// A simulation between two pieces of the text: the circuit with its values, the line in hand, room for 4,096 bytes of
-/// a trace line, and how many frames there were (`u64::MAX` for more).
+/// A simulation between two pieces of the text: the circuit with its values, the line in hand, what writes the frames,
+/// and how many frames there were (`u64::MAX` for more).
 #[derive(Drop)]
-pub struct Simulation<'a> {
+pub struct Simulation<'a, T> {
     pub machine: Machine<'a>,
     pub line: LineInHand,
-    pub block: TraceBlock,
+    pub recorder: T,
     pub frames: u64,
 }
 
-impl<'a> Simulation<'a> {
-    // The simulation before the first byte. All memory that it takes is reserved here.
-    fn new(alloc: Global, circuit: &'a Circuit) -> Result<Simulation<'a>, Memory>
-        ensures room { IfOk result HasRoom }
+impl<'a, T: Recorder + Drop> Simulation<'a, T> {
+    /// The simulation before the first byte. All memory that it takes is reserved here.
+    pub fn new(
+        alloc: Global,
+        circuit: &'a Circuit,
+        recorder: T,
+    ) -> Result<Simulation<'a, T>, Memory>
+        requires fits { T.fits recorder circuit.now }
+        ensures room { IfOk result (HasRoom T.fits) }
+        ensures recorder { IfOk result (λ s. s.recorder ≡ recorder) }
         ensures circuit { IfOk result (λ s. s.machine.circuit ≡ circuit.now) }
         ensures states { IfOk result (λ s. s.machine.states ≡ start_of circuit.now) }
         ensures line { IfOk result (λ s. (s.line.shape ≡ shapes.Row) × (s.line.values ≡ [])) }
@@ -70,25 +75,24 @@ impl<'a> Simulation<'a> {
         Ok(Simulation {
             machine: Machine::new(alloc, circuit, first_states(alloc, circuit)?)?,
             line: LineInHand::new(alloc, width, width)?,
-            block: TraceBlock::new(),
+            recorder,
             frames: 0,
         })
     }
 
-    // Simulates the row that the line in hand is, and writes its trace line.
+    // Simulates the row that the line in hand is, and writes what is told of its frame.
     fn end_line<W: Write>(&mut self, out: &mut W) -> Result<(), StimFault>
-        requires room { HasRoom self.old }
-        ensures room { HasRoom self.new }
-        ensures ok { OnOk result (GoesOn (10 ∷ []) self.old self.new
+        requires room { HasRoom T.fits self.old }
+        ensures room { HasRoom T.fits self.new }
+        ensures ok { OnOk result (GoesOn T.is_text T.has_recorded (10 ∷ []) self.old self.new
             (W.written out.old) (W.written out.new) (W.failures out.old) (W.failures out.new)) }
-        ensures err { IfErr result (λ fault. (more : List ℕ) → Stops (10 ∷ more) self.old
+        ensures err { IfErr result (λ fault. (more : List ℕ) → Stops T.is_text T.has_recorded (10 ∷ more) self.old
             (W.written out.old) (W.written out.new) (W.failures out.old) (W.failures out.new) fault) }
     {
         let number = self.frames.saturating_add(1);
         let row = self.line.row(number)?;
         self.machine.step(row);
-        let circuit = self.machine.circuit();
-        write_line(out, &mut self.block, circuit, &self.machine)?;
+        self.recorder.record(out, &self.machine, self.frames)?;
         self.frames = number;
         self.line.clear();
         Ok(())
@@ -96,10 +100,11 @@ impl<'a> Simulation<'a> {
 
     // Takes a piece of a line. There is room for the width, so that it takes no memory.
     fn extend(&mut self, piece: &[u8])
-        requires room { HasRoom self.old }
-        ensures room { HasRoom self.new }
+        requires room { HasRoom T.fits self.old }
+        ensures room { HasRoom T.fits self.new }
         ensures frames { self.new.frames ≡ self.old.frames }
         ensures machine { self.new.machine ≡ self.old.machine }
+        ensures recorder { self.new.recorder ≡ self.old.recorder }
         ensures keeps { (line : List ℕ) →
             Keeps self.old.line.width line self.old.line.shape self.old.line.values →
             Keeps self.old.line.width (line ++ piece.now) self.new.line.shape self.new.line.values }
@@ -109,13 +114,13 @@ impl<'a> Simulation<'a> {
 
     // Takes bytes up to the end of a line, which is then simulated, or all of them. Answers how many it took.
     fn feed_line<W: Write>(&mut self, bytes: &[u8], out: &mut W) -> Result<usize, StimFault>
-        requires room { HasRoom self.old }
-        ensures room { HasRoom self.new }
+        requires room { HasRoom T.fits self.old }
+        ensures room { HasRoom T.fits self.new }
         ensures bound { IfOk result (λ count. count ≤ length bytes.now) }
         ensures some { IfOk result (λ count. 0 < length bytes.now → 0 < count) }
-        ensures ok { IfOk result (λ count. GoesOn (take count bytes.now) self.old self.new
+        ensures ok { IfOk result (λ count. GoesOn T.is_text T.has_recorded (take count bytes.now) self.old self.new
             (W.written out.old) (W.written out.new) (W.failures out.old) (W.failures out.new)) }
-        ensures err { IfErr result (Stops bytes.now self.old
+        ensures err { IfErr result (Stops T.is_text T.has_recorded bytes.now self.old
             (W.written out.old) (W.written out.new) (W.failures out.old) (W.failures out.new)) }
     {
         let length = line_length(bytes, self.line.missing());
@@ -129,11 +134,11 @@ impl<'a> Simulation<'a> {
 
     // Takes the bytes of a chunk, and simulates each row that ends in it.
     fn feed<W: Write>(&mut self, chunk: &[u8], out: &mut W) -> Result<(), StimFault>
-        requires room { HasRoom self.old }
-        ensures room { HasRoom self.new }
-        ensures ok { OnOk result (GoesOn chunk.now self.old self.new
+        requires room { HasRoom T.fits self.old }
+        ensures room { HasRoom T.fits self.new }
+        ensures ok { OnOk result (GoesOn T.is_text T.has_recorded chunk.now self.old self.new
             (W.written out.old) (W.written out.new) (W.failures out.old) (W.failures out.new)) }
-        ensures err { IfErr result (Stops chunk.now self.old
+        ensures err { IfErr result (Stops T.is_text T.has_recorded chunk.now self.old
             (W.written out.old) (W.written out.new) (W.failures out.old) (W.failures out.new)) }
     {
         let mut at = 0;
@@ -158,6 +163,28 @@ impl<'a> Simulation<'a> {
             Err(StimFault::Unfinished)
         }
     }
+
+    /// Reads rows to the end, writes what is told of each frame, and answers how many there were (`u64::MAX` for
+    /// more). It takes no memory. It flushes before each read.
+    pub fn run<R: Read, W: Write>(&mut self, reader: &mut R, out: &mut W) -> Result<u64, StimFault>
+        requires room { HasRoom T.fits self.old }
+        requires starts { Starts T.is_text T.has_recorded self.old }
+        ensures streams { Streamed T.is_text self.old.machine.circuit
+            (record { left = R.left reader.old; reads = R.failures reader.old; writes = W.failures out.old })
+            (record { left = R.left reader.new; reads = R.failures reader.new; writes = W.failures out.new })
+            (W.written out.old) (W.written out.new) result }
+        ensures memory { IfErr result (λ fault. fault ≢ StimFault.Memory) }
+    {
+        let mut chunk = [0u8; CHUNK];
+        loop {
+            out.flush()?;
+            let size = reader.read(&mut chunk)?;
+            if size == 0 {
+                return self.finish();
+            }
+            self.feed(&chunk[..size], out)?;
+        }
+    }
 }
 
 /// Reads rows to the end, writes their trace, and answers how many there were (`u64::MAX` for more). It keeps one row,
@@ -180,14 +207,6 @@ pub fn simulate<R: Read, W: Write>(
     ensures memory { IfErr result (λ fault. fault ≡ StimFault.Memory → (reader.new ≡ reader.old)
         × (out.new ≡ out.old)) }
 {
-    let mut simulation = Simulation::new(alloc, circuit)?;
-    let mut chunk = [0u8; CHUNK];
-    loop {
-        out.flush()?;
-        let size = reader.read(&mut chunk)?;
-        if size == 0 {
-            return simulation.finish();
-        }
-        simulation.feed(&chunk[..size], out)?;
-    }
+    let mut simulation = Simulation::new(alloc, circuit, TraceRecorder::new())?;
+    simulation.run(reader, out)
 }

@@ -1,4 +1,4 @@
-//! The input values of a simulation.
+//! The values of the primary inputs, frame by frame.
 ghost use Rattle.std.specs.Prelude.{◌≡◌, ◌-◌, ◌+◌, ◌<◌, ◌≤◌, [], ◌∷◌, ◌++◌, length, take, All, OnOk, OnErr, Some};
 ghost use Rattle.std.specs.Prelude.{slice_get};
 ghost use Rattle.aig_sim.specs.InputRows.{with_cell, row_at};
@@ -65,6 +65,14 @@ impl Stimulus {
         ensures { slice_get (row_at self.now.rows frame) position ≡ Some result }
     {
         self.rows[frame as usize][position as usize]
+    }
+
+    /// The row of a frame that is there.
+    pub(crate) fn row(&self, frame: u32) -> &[Tern]
+        requires { frame < length self.now.rows }
+        ensures { result.now ≡ row_at self.now.rows frame }
+    {
+        self.rows[frame as usize].as_slice()
     }
 
     /// Replaces the value at a position below the width of a frame that is there.

@@ -1,7 +1,7 @@
 //! Bytes of a trace that wait to be written.
 ghost use Rattle.std.specs.Prelude.{◌≡◌, ◌+◌, ◌<◌, ◌≤◌, ◌↔◌, [], ◌∷◌, ◌++◌, length, IsTrue, OnOk, OnErr};
 ghost use Rattle.aig_bytes.specs.Bytes.{Writes};
-ghost use Rattle.aig_bytes.specs.Gathered.{Gathers};
+ghost use Rattle.aig_bytes.specs.state.Gathered.{Gathers};
 
 use aig_base::{Io, Write, write_all};
 use std::marker::Model;

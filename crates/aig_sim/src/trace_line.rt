@@ -3,7 +3,7 @@ ghost use Rattle.std.specs.Prelude.{◌≡◌, ℕ, ◌+◌, ◌≤◌, [], ◌�
 ghost use Rattle.aig_bytes.specs.Bytes.{Writes};
 ghost use Rattle.aig_base.specs.Circuit.{IsCircuit};
 ghost use Rattle.aig_parts.specs.Literal.{variable};
-ghost use Rattle.aig_bytes.specs.Gathered.{Gathers};
+ghost use Rattle.aig_bytes.specs.state.Gathered.{Gathers};
 ghost use Rattle.aig_sim.specs.TraceText.{literal_character, line_text, trace_text};
 
 use crate::grid::Grid;
@@ -14,8 +14,8 @@ use aig_base::{Circuit, Io, Latch, Lit, Write};
 /// How many characters are put at a time.
 const PIECE: usize = 256;
 
-// Writes a character for each literal.
-fn spell_literals<R: Row>(text: &mut [u8], row: &R, literals: &[Lit])
+/// Writes a character for each literal.
+pub fn spell_literals<R: Row>(text: &mut [u8], row: &R, literals: &[Lit])
     requires row { All (λ l. R.has row.now (variable l)) literals.now }
     requires room { length text.old ≡ length literals.now }
     ensures { text.new ≡ map (literal_character (R.cells row.now)) literals.now }
@@ -134,8 +134,8 @@ fn put_line<R: Row, W: Write>(
     put_next_states(out, block, row, circuit.latches(), b'\n')
 }
 
-/// Writes the trace line of a frame: the characters of state, inputs, outputs and next state (profile). The block is
-/// room for them, whatever it holds.
+/// Writes the trace line of a frame: the characters of state, inputs, outputs and next state (our own choice). The
+/// block is room for them, whatever it holds.
 pub fn write_line<R: Row, W: Write>(
     out: &mut W,
     block: &mut TraceBlock,
@@ -170,7 +170,7 @@ fn put_lines<G: Grid, W: Write>(
 }
 
 /// Writes the trace of a grid with a cell for each variable of the circuit: a line a frame, with the characters of
-/// state, inputs, outputs and next state (profile). It takes no memory.
+/// state, inputs, outputs and next state (our own choice). It takes no memory.
 pub fn write_trace<G: Grid, W: Write>(out: &mut W, circuit: &Circuit, grid: &G) -> Result<(), Io>
     requires circuit { IsCircuit circuit.now }
     requires grid { length (G.gate_flags grid.now) ≡ circuit.now.max_var + 1 }

@@ -2,7 +2,7 @@
 ghost use Rattle.std.specs.Prelude.{◌≡◌, ℕ, ◌<◌, ◌↔◌, false, List, ◌∷◌, ◌++◌, length, map, IfOk, IfErr, IfSome};
 ghost use Rattle.std.specs.Prelude.{IfNone, IsTrue};
 ghost use Rattle.aig_parts.specs.declared.ternary.Tern.{Tern};
-ghost use Rattle.aig_sim.specs.Checking.{BeginsWithRow, SpellsFrames, IsShape, ReadsNotOne, HasRun, IsFirstFailure};
+ghost use Rattle.aig_sim.specs.state.Checking.{BeginsWithRow, SpellsFrames, IsShape, ReadsNotOne, HasRun, IsFirstFailure};
 ghost use Rattle.aig_sim.specs.StimulusText.{character};
 ghost use Rattle.aig_sim.specs.Verdict.{Allows, StartsWrong, IsVerdict, IsConfirmed};
 ghost use Rattle.aig_sim.specs.WitnessText.{Witness, SpellsWitness, IsAdmitted, HasWitnessFault};
@@ -158,10 +158,10 @@ fn judge(alloc: Global, circuit: &Circuit, shape: &Shape<'_>) -> Result<Verdict,
     Ok(Verdict::Confirmed)
 }
 
-/// What a witness shows of a circuit (AIGER 1.9, witnesses; profile). Its text is the line `1`; the line `b` and the
-/// position of a bad state property; a line of the latches' values, from which the run starts; a line of the inputs'
-/// values a frame, at least one; and the line `.`. Values are `0`, `1` and `x`. Refused are, in this order, any other
-/// text, a property that the circuit has not, and more than 65,536 frames.
+/// What a witness shows of a circuit (AIGER 1.9, witnesses; our own choice). Its text is the line `1`; the line `b` and
+/// the position of a bad state property; a line of the latches' values, from which the run starts; a line of the
+/// inputs' values a frame, at least one; and the line `.`. Values are `0`, `1` and `x`. Refused are, in this order, any
+/// other text, a property that the circuit has not, and more than 65,536 frames.
 ///
 /// The verdict is the first that applies: a latch that starts at another value than its reset, where that is 0 or 1;
 /// a constraint that is not 1; a property that is not 1 at the last frame. Otherwise the witness is confirmed: its run

@@ -5,7 +5,7 @@ ghost use Rattle.aig_parts.specs.declared.ternary.Tern.{Tern};
 ghost use Rattle.aig_parts.specs.declared.raw.Raw.{Raw};
 ghost use Rattle.aig_sim.specs.StimulusText.{character, row_line, HaveWidth, IsCharacter};
 ghost use Rattle.aig_sim.specs.WitnessText.{Witness, SpellsWitness, IsDecimal, rows_text};
-ghost use Rattle.aig_sim.specs.Checking.{BeginsWithRow, SpellsFrames, IsShape};
+ghost use Rattle.aig_sim.specs.state.Checking.{BeginsWithRow, SpellsFrames, IsShape};
 
 use crate::line_in_hand::are_characters;
 use aig_base::Circuit;

@@ -43,10 +43,13 @@ fn blocks(rt: HostRuntime) {
         block.skip(1);
     }
     right &= block.is_empty();
-    right &= block.append(&[b'x'; 5000]) == 4096;
-    right &= !block.push(b'y');
+    right &= block.push_field(4_294_967_295, b' ') && block.push_field(0, b'\n');
+    right &= block.push_first(*b"abcd", 2);
+    right &= block.as_slice() == b"4294967295 0\nab".as_slice();
+    right &= block.append(&[b'x'; 40_000]) == 32_753;
+    right &= !block.push(b'y') && !block.push_field(7, b'y') && !block.push_first(*b"yyyy", 1);
     right &= block.append(b"y") == 0;
-    right &= block.as_slice() == [b'x'; 4096].as_slice();
+    right &= block.as_slice().len() == 32_768;
     assert!(rt; right);
 }
 
@@ -104,14 +107,14 @@ fn writers_of_the_system(rt: HostRuntime) -> Result<(), Fail> {
     right &= out.write(b"a") == Err(Failed);
     right &= write_all(&mut out, b"a") == Err(Io);
 
-    let mut out = Std::new(Short {
+    let mut short = Short {
         bytes: Vec::new(rt.alloc()),
-    });
+    };
+    let mut out = Std::new(&mut short);
     right &= out.write(b"abc") == Ok(2);
     right &= write_all(&mut out, b"cde") == Ok(());
     right &= out.flush() == Err(Failed);
-    right &= out.into_inner().bytes.as_slice() == b"abcde".as_slice();
-    assert!(rt; right);
+    assert!(rt; right && short.bytes.as_slice() == b"abcde".as_slice());
     Ok(())
 }
 

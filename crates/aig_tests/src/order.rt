@@ -1,4 +1,6 @@
 //! Levels, orders and cycles of small circuits.
+ghost use Rattle.std.specs.Prelude.{◌≤◌};
+
 use crate::parts::{TWO_GATES, UNUSED, is_defined};
 use aig_base::{Circuit, Levels, Lit, canonical_order, would_cycle};
 use aig_format::read;
@@ -11,24 +13,33 @@ static ORDERS: [(&[u8], u32, u32, [u32; 2]); 3] = [
     (b"aag 4 2 0 1 2\n2\n4\n8\n8 2 4\n6 2 4\n", 4, 1, [3, 4]),
 ];
 
+// Whether a variable has this level, and the first two gates of the canonical order are these.
+fn are_ordered(alloc: Global, circuit: &Circuit, variable: u32, level: u32, gates: [u32; 2]) -> bool
+    requires { variable ≤ circuit.now.max_var }
+{
+    let Ok(levels) = Levels::of(alloc, circuit) else {
+        return false;
+    };
+    let is_level = levels.level(variable) == level;
+    match canonical_order(alloc, circuit, &levels) {
+        Ok(order) => is_level && order.as_slice() == gates.as_slice(),
+        Err(_) => false,
+    }
+}
+
 // The canonical order goes by level, then by variable; a gate is one level over the greater of its sides.
 #[test]
 fn levels_and_orders(rt: HostRuntime) -> Result<(), Fail> {
-    let mut right = true;
-    for &(file, variable, level, wanted) in &ORDERS {
+    for &(file, variable, level, gates) in &ORDERS {
         let circuit = read(rt.alloc(), file)?;
-        let levels = Levels::of(rt.alloc(), &circuit)?;
         assert!(rt; variable <= circuit.max_var());
-        right &= levels.level(variable) == level;
-        let order = canonical_order(rt.alloc(), &circuit, &levels)?;
-        right &= order.as_slice() == wanted.as_slice();
+        assert!(rt; are_ordered(rt.alloc(), &circuit, variable, level, gates));
     }
-    assert!(rt; right);
     Ok(())
 }
 
-/// Whether other right sides of the gate of a literal would close a cycle.
-pub fn closes(alloc: Global, circuit: &Circuit, row: [u32; 3]) -> Result<bool, Fail> {
+// Whether other right sides of the gate of a literal would close a cycle.
+fn closes(alloc: Global, circuit: &Circuit, row: [u32; 3]) -> Result<bool, Fail> {
     let [gate, r0, r1] = row;
     let Some(gate) = circuit.gate_of(gate / 2) else {
         return Err("no gate".into());

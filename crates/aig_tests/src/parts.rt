@@ -4,9 +4,6 @@ ghost use Rattle.aig_parts.specs.Literal.{variable};
 ghost use Rattle.aig_base.specs.Sections.{IsDefined};
 
 use aig_base::{Circuit, Gate, List, Lit, Raw, Symbols};
-use aig_bench::Bench;
-use aig_format::read;
-use aig_sim::{Grid, read_stimulus};
 use std::alloc::Global;
 use std::test::Fail;
 
@@ -21,12 +18,6 @@ pub const UNUSED: &[u8] = b"aag 7 1 0 1 2\n14\n5\n4 10 14\n10 14 15\n";
 
 /// An uninitialised latch that keeps what it is while the input is 1.
 pub const FEEDBACK: &[u8] = b"aag 3 1 1 1 1\n2\n4 6 4\n4\n6 4 2\n";
-
-/// A latch that is 0 and 1 in turn.
-pub const TOGGLE: &[u8] = b"aag 1 0 1 2 0\n2 3\n2\n3\n";
-
-/// A circuit that is not legal: two counts of inputs do not go together.
-pub const REFUSED: &[u8] = b"aag 1 2 0 0 0\n";
 
 /// Parts without entries.
 pub fn empty(alloc: Global, max_var: u32) -> Raw {
@@ -77,21 +68,6 @@ pub fn circuit(alloc: Global, raw: Raw) -> Result<Circuit, Fail> {
         return Err("not formed".into());
     }
     Ok(Circuit::check(alloc, raw)?)
-}
-
-/// A bench of a circuit and of a stimulus text.
-pub fn bench_of<G: Grid>(
-    alloc: Global,
-    circuit: Circuit,
-    stimulus: &[u8],
-) -> Result<Bench<G>, Fail> {
-    let stimulus = read_stimulus(alloc, stimulus, circuit.inputs().len() as u32)?;
-    Ok(Bench::new(alloc, circuit, stimulus)?)
-}
-
-/// A bench of a circuit file and of a stimulus text.
-pub fn bench<G: Grid>(alloc: Global, file: &[u8], stimulus: &[u8]) -> Result<Bench<G>, Fail> {
-    bench_of(alloc, read(alloc, file)?, stimulus)
 }
 
 /// Whether the variable of a literal is defined.

@@ -20,7 +20,7 @@ use Rattle.aig_base.proofs.Roles.{place_found, only_place, role_input, role_latc
 use Rattle.aig_unroll.specs.declared.plan.Plan.{Plan}
 use Rattle.aig_unroll.specs.declared.frame.Frame.{Frame}
 use Rattle.aig_unroll.specs.FrameLiteral.{frame_literal, gate_variable, first_literal, next_literal, role_literal}
-use Rattle.aig_unroll.specs.FrameTable.{IsPlan, IsFrame, literal_at, number_literal}
+use Rattle.aig_unroll.specs.state.FrameTable.{IsPlan, IsFrame, literal_at, number_literal}
 
 -- the literals of the latches at a frame
 unfoldable pub latch_literal : Raw → List ℕ → ℕ → ℕ → ℕ → ℕ

@@ -9,7 +9,7 @@ use Rattle.aig_parts.specs.declared.gate.Gate.{Gate}
 use Rattle.aig_parts.specs.declared.latch.Latch.{Latch}
 use Rattle.aig_base.specs.Renumbered.{ready_gate}
 use Rattle.aig_unroll.specs.FrameLiteral.{is_uninitialised, uninitialised}
-use Rattle.aig_unroll.specs.FrameTable.{first_at}
+use Rattle.aig_unroll.specs.state.FrameTable.{first_at}
 
 -- one more of the items by their places
 pub joined_more : {X : Type 0} (f : ℕ → X) (front old new : List X) (i : ℕ) (x : X)

@@ -21,8 +21,8 @@ use Rattle.aig_unroll.specs.declared.frame.Frame.{Frame}
 use Rattle.aig_unroll.specs.declared.plan.Plan.{Plan}
 use Rattle.aig_unroll.specs.declared.sections.Sections.{Sections}
 use Rattle.aig_unroll.specs.FrameLiteral.{frame_literal, gate_variable, first_literal, has_guards, chain_count, guard_count}
-use Rattle.aig_unroll.specs.FrameTable as table
-use Rattle.aig_unroll.specs.FrameTable.{IsPlan, IsFrame, IsWithin, IsNextFrame, AddsFrame, AreSections, literal_at, gates_at, bad_at, first_at}
+use Rattle.aig_unroll.specs.state.FrameTable as table
+use Rattle.aig_unroll.specs.state.FrameTable.{IsPlan, IsFrame, IsWithin, IsNextFrame, AddsFrame, AreSections, literal_at, gates_at, bad_at, first_at}
 use Rattle.aig_unroll.specs.Limits.{FitsLimits}
 use Rattle.aig_unroll.specs.Unrolled as parts
 use Rattle.aig_unroll.specs.Unrolled.{frames, frame_literals, frame_bad, frame_gate, frame_gates, kept_constraints}

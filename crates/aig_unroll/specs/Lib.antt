@@ -1,6 +1,6 @@
 pub mod Answers
 pub mod FrameLiteral
-pub mod FrameTable
 pub mod Limits
 pub mod Unrolled
 pub mod UnrolledValues
+pub mod state

@@ -1,4 +1,4 @@
--- What can be unrolled (profile).
+-- What can be unrolled (our own choice).
 use Rattle.std.specs.Prelude.{ℕ, ◌+◌, ◌*◌, ◌<◌, ◌≤◌, ◌⊎◌, List, length}
 use Rattle.aig_parts.specs.declared.raw.Raw.{Raw}
 use Rattle.aig_parts.specs.Formed.{limit}

@@ -2,8 +2,8 @@
 ghost use Rattle.std.specs.Prelude.{◌≡◌, ◌+◌, ◌≤◌, IfOk, map};
 ghost use Rattle.aig_base.specs.Renumbered as renumbered;
 ghost use Rattle.aig_base.specs.RenumberingTable.{IsListed};
-ghost use Rattle.aig_unroll.specs.FrameTable as table;
-ghost use Rattle.aig_unroll.specs.FrameTable.{IsWithin};
+ghost use Rattle.aig_unroll.specs.state.FrameTable as table;
+ghost use Rattle.aig_unroll.specs.state.FrameTable.{IsWithin};
 
 use crate::plan::{Plan, is_uninitialised};
 use aig_base::{Gate, Latch, List, Lit, Memory};

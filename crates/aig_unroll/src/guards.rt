@@ -2,8 +2,8 @@
 ghost use Rattle.std.specs.Prelude.{◌≡◌, ◌+◌, ◌*◌, ◌++◌, ◌≤◌, ◌<◌, OnOk, IfOk, All, length, map};
 ghost use Rattle.std.specs.List.{range_with_len};
 ghost use Rattle.aig_base.specs.RenumberingTable.{IsListed};
-ghost use Rattle.aig_unroll.specs.FrameTable as table;
-ghost use Rattle.aig_unroll.specs.FrameTable.{IsWithin};
+ghost use Rattle.aig_unroll.specs.state.FrameTable as table;
+ghost use Rattle.aig_unroll.specs.state.FrameTable.{IsWithin};
 
 use crate::frame::{Frame, literal_at, ready_gate};
 use crate::plan::Plan;

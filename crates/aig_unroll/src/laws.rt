@@ -10,7 +10,7 @@ ghost use Rattle.aig_unroll.specs.UnrolledValues.{IsAllowed, KeepsValues, AddsNo
 /// From every start that the resets allow, where an uninitialised latch may have any of the three values, and for any
 /// rows: in the circuit unrolled for as many frames as there are rows, the frame literal of a literal has at the one
 /// frame the value that the literal has at its frame, and no other. The one row is the rows in turn, and then the start
-/// values of the uninitialised latches in order (profile).
+/// values of the uninitialised latches in order (our own choice).
 pub fn law_of_frame_literals()
     ensures values { (raw : Raw) (order : List ℕ) (start : List Tern) (rows : List (List Tern)) →
         IsCircuit raw → IsCanonicalOrder raw order → Fits raw start rows → IsAllowed raw start →
@@ -22,7 +22,7 @@ pub fn law_of_frame_literals()
 
 /// From the same starts and for the same rows: each bad literal of each frame of the unrolled circuit, at its place in
 /// the bad section, is 1 exactly where the bad literal is 1 at that frame and every constraint is 1 at every frame up
-/// to it; it is 0 exactly where one of these values is 0; else it is x (profile).
+/// to it; it is 0 exactly where one of these values is 0; else it is x (our own choice).
 pub fn law_of_guards()
     ensures { (raw : Raw) (order : List ℕ) (start : List Tern) (rows : List (List Tern)) →
         IsCircuit raw → IsCanonicalOrder raw order → Fits raw start rows → IsAllowed raw start →

@@ -1,4 +1,4 @@
-//! Circuits unrolled over frames.
+//! Circuits unrolled over frames: time-frame expansion.
 #![tactic(auto)]
 
 mod fault;

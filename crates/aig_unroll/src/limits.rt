@@ -8,7 +8,7 @@ ghost use Rattle.aig_unroll.specs.Unrolled as parts;
 use crate::plan::{frame_size, has_guards, uninitialised};
 use aig_base::{Circuit, LIMIT};
 
-/// The greatest number of frames (profile).
+/// The greatest number of frames (our own choice).
 const FRAMES: u32 = 65_536;
 
 /// Whether there are justice properties or fairness constraints.

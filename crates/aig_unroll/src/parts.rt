@@ -4,8 +4,8 @@ ghost use Rattle.std.specs.List.{range_with_len};
 ghost use Rattle.aig_parts.specs.Formed.{limit};
 ghost use Rattle.aig_base.specs.RenumberingTable.{IsListed, IsGateListed};
 ghost use Rattle.aig_unroll.specs.FrameLiteral as literals;
-ghost use Rattle.aig_unroll.specs.FrameTable as table;
-ghost use Rattle.aig_unroll.specs.FrameTable.{IsWithin};
+ghost use Rattle.aig_unroll.specs.state.FrameTable as table;
+ghost use Rattle.aig_unroll.specs.state.FrameTable.{IsWithin};
 
 use crate::frame::{Frame, literal_at, ready_gate};
 use crate::plan::{Plan, is_uninitialised};

@@ -3,7 +3,7 @@ ghost use Rattle.std.specs.Prelude.{◌≡◌, ◌+◌, ◌*◌, ◌≤◌, ◌�
 ghost use Rattle.aig_parts.specs.Formed.{limit};
 ghost use Rattle.aig_base.specs.Order.{IsCanonicalOrder};
 ghost use Rattle.aig_unroll.specs.FrameLiteral as literals;
-ghost use Rattle.aig_unroll.specs.FrameTable.{IsPlan};
+ghost use Rattle.aig_unroll.specs.state.FrameTable.{IsPlan};
 ghost use Rattle.aig_unroll.specs.Limits.{FitsLimits};
 
 use aig_base::{Circuit, Latch, Memory, renumbered_variables};

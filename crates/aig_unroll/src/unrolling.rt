@@ -1,4 +1,4 @@
-//! Unrolling.
+//! Unrolling, the time-frame expansion of a circuit.
 ghost use Rattle.std.specs.Prelude.{◌≡◌, ◌≤◌, IfOk, IfErr, OnOk};
 ghost use Rattle.aig_parts.specs.Formed.{limit};
 ghost use Rattle.aig_base.specs.Levels.{AreLevels};
@@ -99,9 +99,9 @@ fn check_request(circuit: &Circuit, frames: u32) -> Result<(), UnrollFault>
 /// The circuit unrolled for this many frames: a combinational circuit whose inputs are those of the frames in turn and
 /// then the uninitialised latches, and whose sections are those of the frames in turn; the gates of a frame stand in
 /// the canonical order. Where there are both bad literals and constraints, each bad literal is guarded by all
-/// constraints up to its frame (profile). Names and comment go. A binary file can hold it. The caller hands in the
-/// circuit's levels. It refuses 0 frames, then justice and fairness, then what is over its limit, and takes no memory
-/// before that.
+/// constraints up to its frame (our own choice). Names and comment go. A binary file can hold it. The caller hands in
+/// the circuit's levels. It refuses 0 frames, then justice and fairness, then what is over its limit, and takes no
+/// memory before that.
 pub fn unroll(
     alloc: Global,
     circuit: &Circuit,

@@ -1,7 +1,7 @@
 use Rattle.std.proofs.Common.{◌≡◌, ℕ, [], ◌∷◌, ◌++◌, length, List, refl, sym, ap, subst, ◌∙◌, arith}
 use Rattle.aig_parts.specs.declared.gate.Gate.{Gate}
 use Rattle.aig_base.specs.Changes.{next_gate, with_appended_gate}
-use Rattle.aig_base.specs.Descent.{level_above}
+use Rattle.aig_base.specs.state.Descent.{level_above}
 use Rattle.aig_base.specs.Levels.{AreLevels}
 use Rattle.aig_parts.specs.Literal.{variable}
 use Rattle.aig_base.specs.Readers.{AreReaders, Reads}

@@ -1,5 +1,5 @@
 use Rattle.std.proofs.Common.{inl, inr, subst, sym, arith}
-use Rattle.aig_base.specs.Rewires.{IsApart, IsBehind}
+use Rattle.aig_base.specs.state.Rewires.{IsApart, IsBehind}
 use Rattle.aig_base.proofs.Gates.{defined_in_range}
 use Rattle.aig_base.proofs.Searches.{apart_at, on_false}
 use Rattle.aig_base.proofs.behind.is_behind.Goals as goal

@@ -1,6 +1,6 @@
 use Rattle.std.proofs.Common.{take}
-use Rattle.aig_base.specs.Rewires.{LooksAt}
-use Rattle.aig_base.specs.Visits.{VisitsAmong}
+use Rattle.aig_base.specs.state.Rewires.{LooksAt}
+use Rattle.aig_base.specs.state.Visits.{VisitsAmong}
 use Rattle.aig_base.proofs.behind.visit_below.Given as goal
 
 abbrev pub invariant-loop-reader : goal.invariant-loop-reader

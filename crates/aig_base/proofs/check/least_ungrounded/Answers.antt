@@ -1,9 +1,8 @@
 use Rattle.std.proofs.Common.{◌≡◌, ◌+◌, ◌<◌, ◌≤◌, ◌*◌, Bool, List, length, get_or, sym, ap, subst, ◌∙◌, arith, All}
 use Rattle.aig_parts.specs.declared.gate.Gate.{Gate}
-use Rattle.aig_base.specs.Least.{AscendsBy, IsLeastAmong, IsMarkedGate, IsGroundedGate, ReadsSmaller, gate_variable}
+use Rattle.aig_base.specs.state.Least.{IsLeastAmong, IsMarkedGate, IsGroundedGate, gate_variable}
 use Rattle.aig_parts.specs.Literal.{variable}
-use Rattle.aig_base.specs.Marks.{HasParts}
-use Rattle.aig_base.proofs.Ascending.{all_grounded}
+use Rattle.aig_base.specs.state.Marks.{HasParts}
 use Rattle.aig_base.proofs.LeastAmong.{least_same}
 use Rattle.aig_base.proofs.check.least_ungrounded.Goals as goal
 
@@ -23,12 +22,6 @@ least_unmarked-requires c =
     (λ k d l. let h : (get_or raw.gates k d).lhs ≤ 2 * raw.max_var + 1 = (c.requires.range.gates k d l).0 in
     omega arith)
 
-pub returns-then-are_ascending : goal.returns-then-are_ascending
-returns-then-are_ascending c =
-    all_grounded c.args.raw.now c.requires.defined (λ v. v)
-    (subst (λ (gs : List Gate). All ReadsSmaller gs) c.as_slice-gates.ensures
-    (c.are_ascending.ensures.0 c.if-are_ascending.true))
-
 pub returns : goal.returns
 returns c =
     let raw = c.args.raw.now in
@@ -46,10 +39,3 @@ returns c =
     c.as_slice-3.ensures.value found in
     least_same (IsMarkedGate c.in_ok-marks.marks.items) (IsGroundedGate raw) gate_variable raw.gates r (λ g. marks.each
     (variable g.lhs)) here
-
-pub returns-then-all_ascend : goal.returns-then-all_ascend
-returns-then-all_ascend c =
-    let ranks = c.deref.result.now in
-    all_grounded c.args.raw.now c.requires.defined (λ v. get_or ranks v 0)
-    (subst (λ (gs : List Gate). All (AscendsBy ranks) gs) c.as_slice-gates.ensures
-    (c.all_ascend.ensures c.if-all_ascend.true))

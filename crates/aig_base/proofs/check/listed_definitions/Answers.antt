@@ -1,7 +1,7 @@
 use Rattle.std.proofs.Common.{ℕ, List, Option, Some, None, map, sym, ◌∙◌, subst, true≢false}
 use Rattle.aig_base.specs.declared.definition.Definition.{Definition}
-use Rattle.aig_base.specs.Entries.{IsLeastTwice, AreEntries}
-use Rattle.aig_base.specs.Least.{IsLeastAmong, IsKnown}
+use Rattle.aig_base.specs.state.Entries.{IsLeastTwice, AreEntries}
+use Rattle.aig_base.specs.state.Least.{IsLeastAmong, IsKnown}
 use Rattle.aig_parts.specs.Literal.{variable}
 use Rattle.aig_base.specs.Sections.{definitions, uses}
 use Rattle.aig_base.proofs.Faults.{first_definition, first_redefined, first_undefined, once_from_table}

@@ -1,5 +1,5 @@
 use Rattle.std.proofs.Common.{take}
-use Rattle.aig_base.specs.Least.{IsLeastAmong, latch_variable}
+use Rattle.aig_base.specs.state.Least.{IsLeastAmong, latch_variable}
 use Rattle.aig_base.specs.Sound.{IsReset}
 use Rattle.aig_base.proofs.least.least_bad_reset.Given as goal
 

@@ -2,7 +2,7 @@ use Rattle.std.proofs.Common.{ℕ, List, [], ◌∷◌, map, ap, subst}
 use Rattle.std.specs.List.{flat_map}
 use Rattle.aig_parts.specs.declared.latch.Latch.{Latch}
 use Rattle.aig_parts.specs.declared.gate.Gate.{Gate}
-use Rattle.aig_base.specs.Least.{IsKnown, IsLeastAmong}
+use Rattle.aig_base.specs.state.Least.{IsKnown, IsLeastAmong}
 use Rattle.aig_parts.specs.Literal.{variable}
 use Rattle.aig_base.proofs.LeastAmong.{least_joined}
 use Rattle.aig_base.proofs.least.least_undefined.Goals as goal

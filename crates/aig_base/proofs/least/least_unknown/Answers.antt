@@ -1,4 +1,4 @@
-use Rattle.aig_base.specs.Least.{IsKnown}
+use Rattle.aig_base.specs.state.Least.{IsKnown}
 use Rattle.aig_parts.specs.Literal.{variable}
 use Rattle.aig_base.proofs.LeastAmong.{least_more}
 use Rattle.aig_base.proofs.least.least_unknown.Goals as goal

@@ -1,5 +1,5 @@
 use Rattle.std.proofs.Common.{take}
-use Rattle.aig_base.specs.Least.{IsLeastAmong, IsKnown}
+use Rattle.aig_base.specs.state.Least.{IsLeastAmong, IsKnown}
 use Rattle.aig_parts.specs.Literal.{variable}
 use Rattle.aig_base.proofs.least.least_unknown.Given as goal
 

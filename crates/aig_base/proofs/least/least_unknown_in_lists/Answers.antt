@@ -1,5 +1,5 @@
 use Rattle.std.proofs.Common.{ℕ, List, subst}
-use Rattle.aig_base.specs.Least.{IsKnown, IsLeastAmong}
+use Rattle.aig_base.specs.state.Least.{IsKnown, IsLeastAmong}
 use Rattle.aig_parts.specs.Literal.{variable}
 use Rattle.aig_base.proofs.LeastAmong.{least_more_pieces}
 use Rattle.aig_base.proofs.least.least_unknown_in_lists.Goals as goal

@@ -1,6 +1,6 @@
 use Rattle.std.proofs.Common.{[], ◌∷◌, take}
 use Rattle.std.specs.List.{flat_map}
-use Rattle.aig_base.specs.Least.{IsLeastAmong, IsKnown}
+use Rattle.aig_base.specs.state.Least.{IsLeastAmong, IsKnown}
 use Rattle.aig_parts.specs.Literal.{variable}
 use Rattle.aig_base.proofs.least.least_unknown_side.Given as goal
 

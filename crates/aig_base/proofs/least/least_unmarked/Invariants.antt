@@ -1,5 +1,5 @@
 use Rattle.std.proofs.Common.{take}
-use Rattle.aig_base.specs.Least.{IsLeastAmong, IsMarkedGate, gate_variable}
+use Rattle.aig_base.specs.state.Least.{IsLeastAmong, IsMarkedGate, gate_variable}
 use Rattle.aig_base.proofs.least.least_unmarked.Given as goal
 
 abbrev pub invariant-loop-gate : goal.invariant-loop-gate

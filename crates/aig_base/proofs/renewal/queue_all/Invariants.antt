@@ -1,5 +1,5 @@
 use Rattle.std.proofs.Common.{take}
-use Rattle.aig_base.specs.Rewires.{Queues}
+use Rattle.aig_base.specs.state.Rewires.{Queues}
 use Rattle.aig_base.proofs.renewal.queue_all.Given as goal
 
 abbrev pub invariant-loop-reader : goal.invariant-loop-reader

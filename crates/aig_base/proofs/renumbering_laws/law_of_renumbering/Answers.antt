@@ -2,7 +2,7 @@ use Rattle.aig_base.proofs.NoOtherValue.{no_other_value}
 use Rattle.aig_base.proofs.RenumberedCircuit.{renumbered_circuit}
 use Rattle.aig_base.proofs.RenumberedReady.{renumbered_ready}
 use Rattle.aig_base.proofs.RenumberedStart.{start_stays}
-use Rattle.aig_base.proofs.RenumberedValues.{renumbered_value}
+use Rattle.aig_base.proofs.RenumberedValueLemmas.{renumbered_value}
 use Rattle.aig_base.proofs.renumbering_laws.law_of_renumbering.Goals as goal
 
 pub returns-clause-circuit : goal.returns-clause-circuit

@@ -1,6 +1,6 @@
 use Rattle.std.proofs.Common.{ℕ}
-use Rattle.aig_base.specs.Descent.{IsMet}
-use Rattle.aig_base.specs.Visits.{IsFrom}
+use Rattle.aig_base.specs.state.Descent.{IsMet}
+use Rattle.aig_base.specs.state.Visits.{IsFrom}
 use Rattle.aig_base.proofs.visits.unmark.Given as goal
 
 abbrev pub invariant-loop-variable : goal.invariant-loop-variable

@@ -1,4 +1,4 @@
-use Rattle.std.proofs.Common.{arith}
+use Rattle.std.proofs.Common.{arith, rules}
 use Rattle.aig_parts.specs.Literal.{variable}
 use Rattle.aig_base.proofs.Gates.{defined_in_range}
 use Rattle.aig_bench.proofs.Changed.{readers_kept}
@@ -11,7 +11,7 @@ make_room-requires-clause-first c =
       arith,
       defined_in_range c.args.plan.now.circuit c.requires.plan.circuit.sound (variable c.args.r0)
           c.requires.defined0,
-      c.requires.readers.size,
+      c.requires.net.readers.size,
     )
 
 pub make_room-requires-clause-second : goal.make_room-requires-clause-second
@@ -20,22 +20,36 @@ make_room-requires-clause-second c =
       arith,
       defined_in_range c.args.plan.now.circuit c.requires.plan.circuit.sound (variable c.args.r1)
           c.requires.defined1,
-      c.requires.readers.size,
+      c.requires.net.readers.size,
     )
 
-pub returns-in_err-make_room-clause-readers : goal.returns-in_err-make_room-clause-readers
-returns-in_err-make_room-clause-readers c = readers_kept c.args.plan.now.circuit _ _ c.requires.readers c.make_room.ensures.lists
+pub returns-in_err-make_room-clause-net : goal.returns-in_err-make_room-clause-net
+returns-in_err-make_room-clause-net c = record {
+  levels = c.requires.net.levels;
+  readers = readers_kept c.args.plan.now.circuit _ _ c.requires.net.readers c.make_room.ensures.lists;
+  latches = c.requires.net.latches;
+}
+
+pub rewire-requires-clause-levels : goal.rewire-requires-clause-levels
+rewire-requires-clause-levels c = c.requires.net.levels
 
 pub rewire-requires-clause-readers : goal.rewire-requires-clause-readers
-rewire-requires-clause-readers c = readers_kept c.args.plan.now.circuit _ _ c.requires.readers c.make_room.ensures.lists
+rewire-requires-clause-readers c = readers_kept c.args.plan.now.circuit _ _ c.requires.net.readers c.make_room.ensures.lists
 
 pub replace-requires-clause-readers : goal.replace-requires-clause-readers
-replace-requires-clause-readers c = readers_kept c.args.plan.now.circuit _ _ c.requires.readers c.make_room.ensures.lists
+replace-requires-clause-readers c = readers_kept c.args.plan.now.circuit _ _ c.requires.net.readers c.make_room.ensures.lists
 
-pub returns-in-Err-clause-readers : goal.returns-in-Err-clause-readers
-returns-in-Err-clause-readers c = readers_kept c.args.plan.now.circuit _ _ c.requires.readers c.make_room.ensures.lists
+pub returns-in-Err-clause-net : goal.returns-in-Err-clause-net
+returns-in-Err-clause-net c = record {
+  levels = search rules;
+  readers = readers_kept c.args.plan.now.circuit _ _ c.requires.net.readers c.make_room.ensures.lists;
+  latches = c.requires.net.latches;
+}
 
-pub returns-in-Ok-clause-latches : goal.returns-in-Ok-clause-latches
-returns-in-Ok-clause-latches c =
-    readers_rewired c.args.plan.now.circuit _ c.args.lhs c.args.r0 c.args.r1 c.args.net.now.latches c.requires.latches
-    c.replace_gate.ensures
+pub returns-in-Ok-clause-net : goal.returns-in-Ok-clause-net
+returns-in-Ok-clause-net c = record {
+  levels = search rules;
+  readers = search rules;
+  latches = readers_rewired c.args.plan.now.circuit _ c.args.lhs c.args.r0 c.args.r1 c.args.net.now.latches c.requires.net.latches
+      c.replace_gate.ensures;
+}

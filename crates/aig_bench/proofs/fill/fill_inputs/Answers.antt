@@ -4,7 +4,7 @@ use Rattle.aig_parts.specs.Literal.{variable}
 use Rattle.aig_base.proofs.Circuits.{input_definition}
 use Rattle.aig_sim.specs.InputRows.{row_at}
 use Rattle.aig_sim.proofs.Evaluation.{item_at, items_all, items_more}
-use Rattle.aig_bench.specs.Current.{Holds}
+use Rattle.aig_bench.specs.state.Current.{Holds}
 use Rattle.aig_bench.specs.Plan.{pair_of}
 use Rattle.aig_bench.proofs.Values.{input_value}
 use Rattle.aig_bench.proofs.fill.fill_inputs.Goals as goal

@@ -6,7 +6,7 @@ use Rattle.aig_base.specs.Value.{start_of}
 use Rattle.aig_base.proofs.Circuits.{latch_definition}
 use Rattle.aig_sim.specs.InputRows.{row_at}
 use Rattle.aig_sim.proofs.Evaluation.{item_at, items_all, items_more, renews_none, renews_then}
-use Rattle.aig_bench.specs.Current.{Holds}
+use Rattle.aig_bench.specs.state.Current.{Holds}
 use Rattle.aig_bench.specs.Plan.{pair_of}
 use Rattle.aig_bench.proofs.Carrying.{before_kept}
 use Rattle.aig_bench.proofs.Values.{latch_value}

@@ -1,5 +1,5 @@
 use Rattle.std.proofs.Common.{◌≡◌}
-use Rattle.aig_bench.specs.Current.{AreGateFlags, AreRows}
+use Rattle.aig_bench.specs.state.Current.{AreGateFlags, AreRows}
 use Rattle.aig_bench.proofs.layout.add_rows.Given as goal
 
 abbrev pub invariant-loop : goal.invariant-loop

@@ -1,11 +1,12 @@
-use Rattle.aig_engines.proofs.Conversions.{unread_from, simulated_from}
+use Rattle.aig_sim.specs.Simulated.{Simulates}
+use Rattle.aig_engines.proofs.Conversions.{unread_from, run_from}
 use Rattle.aig_engines.proofs.engine.simulate_from.Goals as goal
 
 pub returns-in-Ok-clause-ends : goal.returns-in-Ok-clause-ends
 returns-in-Ok-clause-ends g c =
     let h = c.in-Ok.ensures in
-    simulated_from g.C.Read.left g.C.Read.failures g.R.Read.left g.R.Read.failures g.W.Write.written g.W.Write.failures
-    c.args.circuit.now c.read_from.new.reader c.args.stimulus.now c.run_simulation.new.stimulus
+    run_from g.C.Read.left g.C.Read.failures g.R.Read.left g.R.Read.failures g.W.Write.written g.W.Write.failures
+    c.args.circuit.now c.read_from.new.reader Simulates c.args.stimulus.now c.run_simulation.new.stimulus
     c.args.out.now c.run_simulation.new.out c.in-Ok.circuit c.run_simulation.result h.answers h.circuit h.io
     c.run_simulation.ensures.ends c.run_simulation.ensures.read
 
@@ -13,4 +14,4 @@ pub returns-in-Err-clause-ends : goal.returns-in-Err-clause-ends
 returns-in-Err-clause-ends g c =
     let h = c.in-Err.ensures in
     unread_from g.C.Read.left g.C.Read.failures g.R.Read.left g.R.Read.failures g.W.Write.written g.W.Write.failures
-    c.args.circuit.now c.read_from.new.reader c.args.stimulus.now c.args.out.now c.in-Err.fault h.answers h.io
+    c.args.circuit.now c.read_from.new.reader Simulates c.args.stimulus.now c.args.out.now c.in-Err.fault h.answers h.io

@@ -2,7 +2,8 @@ use Rattle.std.proofs.Common.{refl, inl}
 use Rattle.std.specs.Prelude.{[], ◌∷◌}
 use Rattle.aig_bench.specs.Edit.{add_frame}
 use Rattle.aig_engines.specs.Command.{edit}
-use Rattle.aig_engines.specs.Replies.{edit_reply, row_fault_reply}
+use Rattle.aig_engines.specs.Replies.{edit_reply}
+use Rattle.aig_engines.specs.state.Faults.{row_fault_reply}
 use Rattle.aig_engines.proofs.RowLines.{row_line, wrong_row_reply}
 use Rattle.aig_engines.proofs.RunLemmas.{edit_reply_of}
 use Rattle.aig_engines.proofs.reply.append.Goals as goal

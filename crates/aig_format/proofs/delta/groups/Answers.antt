@@ -1,31 +1,39 @@
-use Rattle.std.proofs.Common.{◌≡◌, ℕ, ◌-◌, ◌+◌, ◌*◌, ◌∙◌, sym, ap, rules, arith}
+use Rattle.std.proofs.Common.{◌≡◌, ℕ, ◌-◌, ◌+◌, ◌*◌, ◌∙◌, sym, ap, refl, rules, arith}
 use Rattle.std.proofs.lemmas.Nat.{mul-le}
-use Rattle.aig_format.specs.Reading.{groups_at}
 use Rattle.aig_format.proofs.Deltas.{number_first, number_cut, number_last, number_more, number_over, fits_worth, worth_more}
+use Rattle.aig_format.proofs.Keeping.{keeps_step, keeps_reads}
 use Rattle.aig_format.proofs.delta.groups.Goals as goal
 
 pub loop-k-init : goal.loop-k-init
 loop-k-init g c = record {
-  bytes = λ told. number_first (groups_at 3 (g.S.Source.left c.args.s.now));
+  bytes = λ told. number_first _;
   worth = omega arith;
   below = omega arith;
-  told = λ told. told;
-  reader = search rules;
-  failures = search rules;
+  keeps = record { told = λ told. told; reader = refl; failures = refl; never_more = omega arith };
 }
 
-pub returns-in-None-clause-bytes : goal.returns-in-None-clause-bytes
-returns-in-None-clause-bytes g c = λ told.
-    number_cut (4 - c.loop-k.k) c.loop-k.k c.loop-k.value c.loop-k.weight (g.S.Source.left c.loop-k.s)
-    (g.S.Source.left c.next.new.self) (groups_at 3 (g.S.Source.left c.args.s.now))
-    (rw c.in-None.is at (c.in_ok-next.ensures.bytes (c.loop-k.invariant.told told))) (c.loop-k.invariant.bytes told)
+pub returns-in-None : goal.returns-in-None
+returns-in-None g c =
+    let e = c.in_ok-next.ensures in
+    let kept = keeps_step c.loop-k.invariant.keeps e.told e.reader e.failures e.never_more in
+    record {
+      reads = keeps_reads kept (λ n. refl) (λ told.
+          number_cut (4 - c.loop-k.k) c.loop-k.k c.loop-k.value c.loop-k.weight (g.S.Source.left c.loop-k.s)
+          (g.S.Source.left c.next.new.self) _
+          (rw c.in-None.is at (c.in_ok-next.ensures.bytes (c.loop-k.invariant.keeps.told told))) (c.loop-k.invariant.bytes told));
+    }
 
-pub returns-then-is_spare-clause-bytes : goal.returns-then-is_spare-clause-bytes
-returns-then-is_spare-clause-bytes g c = λ told.
-    number_last (4 - c.loop-k.k) c.loop-k.k c.loop-k.value c.loop-k.weight c.in-Some.byte (g.S.Source.left c.loop-k.s)
-    (g.S.Source.left c.next.new.self) (groups_at 3 (g.S.Source.left c.args.s.now)) _ (omega (arith, c.loop-k-test.true))
-    (rw c.in-Some.is at (c.in_ok-next.ensures.bytes (c.loop-k.invariant.told told))) c.if-byte-lt128.true
-    (sym c.is_spare.ensures ∙ c.if-is_spare.true) (c.loop-k.invariant.bytes told)
+pub returns-then-is_spare : goal.returns-then-is_spare
+returns-then-is_spare g c =
+    let e = c.in_ok-next.ensures in
+    let kept = keeps_step c.loop-k.invariant.keeps e.told e.reader e.failures e.never_more in
+    record {
+      reads = keeps_reads kept (λ n. refl) (λ told.
+          number_last (4 - c.loop-k.k) c.loop-k.k c.loop-k.value c.loop-k.weight c.in-Some.byte (g.S.Source.left c.loop-k.s)
+          (g.S.Source.left c.next.new.self) _ _ (omega (arith, c.loop-k-test.true))
+          (rw c.in-Some.is at (c.in_ok-next.ensures.bytes (c.loop-k.invariant.keeps.told told))) c.if-byte-lt128.true
+          (sym c.is_spare.ensures ∙ c.if-is_spare.true) (c.loop-k.invariant.bytes told));
+    }
 
 pub overflow_mul-result : goal.overflow_mul-result
 overflow_mul-result g c =
@@ -38,12 +46,17 @@ overflow_add-result g c =
     let fits = fits_worth c.loop-k.weight c.loop-k.k c.in-Some.byte i.worth c.loop-k-test.true (omega (arith, c.if-byte-lt128.true)) in
     omega (arith, fits, i.below)
 
-pub returns-then-byte-lt128-clause-bytes : goal.returns-then-byte-lt128-clause-bytes
-returns-then-byte-lt128-clause-bytes g c = λ told.
-    number_last (4 - c.loop-k.k) c.loop-k.k c.loop-k.value c.loop-k.weight c.in-Some.byte (g.S.Source.left c.loop-k.s)
-    (g.S.Source.left c.next.new.self) (groups_at 3 (g.S.Source.left c.args.s.now)) _ (omega (arith, c.loop-k-test.true))
-    (rw c.in-Some.is at (c.in_ok-next.ensures.bytes (c.loop-k.invariant.told told))) c.if-byte-lt128.true
-    (sym c.is_spare.ensures ∙ c.if-is_spare.false) (c.loop-k.invariant.bytes told)
+pub returns-then-byte-lt128 : goal.returns-then-byte-lt128
+returns-then-byte-lt128 g c =
+    let e = c.in_ok-next.ensures in
+    let kept = keeps_step c.loop-k.invariant.keeps e.told e.reader e.failures e.never_more in
+    record {
+      reads = keeps_reads kept (λ n. refl) (λ told.
+          number_last (4 - c.loop-k.k) c.loop-k.k c.loop-k.value c.loop-k.weight c.in-Some.byte (g.S.Source.left c.loop-k.s)
+          (g.S.Source.left c.next.new.self) _ _ (omega (arith, c.loop-k-test.true))
+          (rw c.in-Some.is at (c.in_ok-next.ensures.bytes (c.loop-k.invariant.keeps.told told))) c.if-byte-lt128.true
+          (sym c.is_spare.ensures ∙ c.if-is_spare.false) (c.loop-k.invariant.bytes told));
+    }
 
 pub overflow_mul-value : goal.overflow_mul-value
 overflow_mul-value g c =
@@ -68,15 +81,16 @@ loop-k-preserved g c =
           let less : 4 - (c.loop-k.k + 1) ≡ 4 - c.loop-k.k - 1 = omega arith in
           rw less
           (number_more (4 - c.loop-k.k) c.loop-k.k c.loop-k.value c.loop-k.weight c.in-Some.byte (g.S.Source.left c.loop-k.s)
-          (g.S.Source.left c.next.new.self) (groups_at 3 (g.S.Source.left c.args.s.now)) (omega (arith, c.loop-k-test.true))
-          (rw c.in-Some.is at (c.in_ok-next.ensures.bytes (i.told told))) c.if-byte-lt128.false (search rules) (i.bytes told));
+          (g.S.Source.left c.next.new.self) _ (omega (arith, c.loop-k-test.true))
+          (rw c.in-Some.is at (c.in_ok-next.ensures.bytes (i.keeps.told told))) c.if-byte-lt128.false (search rules) (i.bytes told));
       worth = ap (λ (t : ℕ). t * 128) i.worth ∙ worth_more c.loop-k.k;
       below = omega (arith, i.below, mul-le c.loop-k.weight (c.in-Some.byte - 128) c.loop-k.weight 127 (omega arith) (search rules));
-      told = λ told. c.in_ok-next.ensures.told (i.told told);
-      reader = c.in_ok-next.ensures.reader ∙ i.reader;
-      failures = c.in_ok-next.ensures.failures ∙ i.failures;
+      keeps = let e = c.in_ok-next.ensures in keeps_step i.keeps e.told e.reader e.failures e.never_more;
     }
 
-pub returns-clause-bytes : goal.returns-clause-bytes
-returns-clause-bytes g c = λ told. number_over (4 - c.loop-k.k) c.loop-k.k c.loop-k.value c.loop-k.weight (g.S.Source.left c.loop-k.s)
-    (groups_at 3 (g.S.Source.left c.args.s.now)) (omega (arith, c.loop-k-test.false)) (c.loop-k.invariant.bytes told)
+pub returns : goal.returns
+returns g c = record {
+  reads = keeps_reads c.loop-k.invariant.keeps (λ n. refl)
+      (λ told. number_over (4 - c.loop-k.k) c.loop-k.k c.loop-k.value c.loop-k.weight (g.S.Source.left c.loop-k.s)
+      _ (omega (arith, c.loop-k-test.false)) (c.loop-k.invariant.bytes told));
+}

@@ -1,35 +1,32 @@
-use Rattle.std.proofs.Common.{◌∙◌, ◌+◌, ◌∷◌, [], arith, ap, length, length-append}
+use Rattle.std.proofs.Common.{◌+◌, ◌∷◌, [], arith, ap, length, length-append, refl}
 use Rattle.std.proofs.lemmas.Result.{err_from_is_err_and}
-use Rattle.aig_format.specs.ReadingSections.{lines_at}
-use Rattle.aig_format.specs.Meaning.{fault_of}
-use Rattle.aig_format.proofs.Steps.{lines_on, lines_fail, lines_done, fails_of}
+use Rattle.aig_format.proofs.Keeping.{keeps_then, keeps_reads, err_reads}
+use Rattle.aig_format.proofs.Steps.{lines_on, lines_fail, lines_done}
 use Rattle.aig_format.proofs.line.lines.Goals as goal
 
-pub returns-in_err-entry-clause-bytes : goal.returns-in_err-entry-clause-bytes
-returns-in_err-entry-clause-bytes g c = λ told.
+pub returns-in_err-line-clause-reads : goal.returns-in_err-line-clause-reads
+returns-in_err-line-clause-reads g c =
     let p = err_from_is_err_and c.from_residual.result c.from_residual.ensures.1 in
     rw (p.1, p.2)
-    (lines_fail (λ v. g.X.Line.line_at) (fault_of c.in_err-entry.field-0.0) c.loop.all c.args.count c.loop.counter
-    c.loop.counter (g.S.Source.left c.loop.s)
-    (lines_at (λ v. g.X.Line.line_at) c.args.count 0 (g.S.Source.left c.args.s.now)) c.loop-test.true
-    (fails_of c.in_err-entry.field-0.0 _ (c.in_err-entry.ensures.bytes (c.loop.invariant.told told))) (c.loop.invariant.bytes told))
+    (err_reads c.loop-i.invariant.keeps c.in_err-line.ensures.reads (λ told fails.
+    lines_fail g.X.Line.line_at _ c.loop-i.all c.args.count c.loop-i.i (c.args.first + c.loop-i.i) (g.S.Source.left c.loop-i.s)
+    _ c.loop-i-test.true fails (c.loop-i.invariant.bytes told)))
 
-pub loop-preserved : goal.loop-preserved
-loop-preserved g c = record {
-  bytes = λ told.
-      rw c.in_ok-push.ensures.ok
-      (lines_on (λ v. g.X.Line.line_at) c.loop.all c.args.count c.loop.counter c.loop.counter (c.loop.counter + 1)
-      (g.S.Source.left c.loop.s) c.in_ok-entry.entry (g.S.Source.left c.next_line.new.s)
-      (lines_at (λ v. g.X.Line.line_at) c.args.count 0 (g.S.Source.left c.args.s.now)) c.loop-test.true (omega arith)
-      (c.in_ok-entry.ensures.bytes (c.loop.invariant.told told)) (c.loop.invariant.bytes told));
-  count = omega (arith, ap length c.in_ok-push.ensures.ok, length-append c.loop.all (c.in_ok-entry.entry ∷ []), c.loop.invariant.count);
-  told = λ told. c.in_ok-entry.ensures.told (c.loop.invariant.told told);
-  reader = c.in_ok-entry.ensures.reader ∙ c.loop.invariant.reader;
-  failures = c.in_ok-entry.ensures.failures ∙ c.loop.invariant.failures;
-}
+pub loop-i-preserved : goal.loop-i-preserved
+loop-i-preserved g c =
+    let i = c.loop-i.invariant in
+    record {
+      bytes = λ told.
+          rw c.in_ok-push.ensures.ok
+          (lines_on g.X.Line.line_at c.loop-i.all c.args.count c.loop-i.i (c.args.first + c.loop-i.i) (c.args.first + (c.loop-i.i + 1))
+          (g.S.Source.left c.loop-i.s) c.in_ok-line.line (g.S.Source.left c.next_line.new.s)
+          _ c.loop-i-test.true (omega arith)
+          (c.in_ok-line.ensures.reads.bytes (i.keeps.told told)) (i.bytes told));
+      count = omega (arith, ap length c.in_ok-push.ensures.ok, length-append c.loop-i.all (c.in_ok-line.line ∷ []), i.count);
+      keeps = keeps_then i.keeps c.in_ok-line.ensures.reads;
+    }
 
-pub returns-clause-bytes : goal.returns-clause-bytes
-returns-clause-bytes g c =
-    λ told. lines_done (λ v. g.X.Line.line_at) c.loop.all c.args.count c.loop.counter c.loop.counter
-    (g.S.Source.left c.loop.s) (lines_at (λ v. g.X.Line.line_at) c.args.count 0 (g.S.Source.left c.args.s.now))
-    c.loop-test.false (c.loop.invariant.bytes told)
+pub returns-clause-reads : goal.returns-clause-reads
+returns-clause-reads g c = keeps_reads c.loop-i.invariant.keeps (λ n. refl)
+    (λ told. lines_done g.X.Line.line_at c.loop-i.all c.args.count c.loop-i.i (c.args.first + c.loop-i.i) (g.S.Source.left c.loop-i.s)
+    _ c.loop-i-test.false (c.loop-i.invariant.bytes told))

@@ -1,15 +1,14 @@
-use Rattle.std.proofs.Common.{◌≡◌, length, ◌-◌}
-use Rattle.aig_format.specs.ReadingSections.{lines_at}
+use Rattle.std.proofs.Common.{◌≡◌, length, ◌-◌, ◌+◌}
+use Rattle.aig_format.specs.state.ReadingSections.{lines_at}
+use Rattle.aig_format.specs.state.Reads.{Keeps}
 use Rattle.aig_format.proofs.Steps.{with_front}
 use Rattle.aig_format.proofs.line.lines.Given as goal
 
-abbrev pub invariant-loop : goal.invariant-loop
-invariant-loop g l = record {
+abbrev pub invariant-loop-i : goal.invariant-loop-i
+invariant-loop-i g l = record {
   bytes : g.S.Source.tells l.fn.s
-      → with_front l.all (lines_at (λ v. g.X.Line.line_at) (l.count - l.counter) l.counter (g.S.Source.left l.s))
-      ≡ lines_at (λ v. g.X.Line.line_at) l.count 0 (g.S.Source.left l.fn.s);
-  count : length l.all ≡ l.counter;
-  told : g.S.Source.tells l.fn.s → g.S.Source.tells l.s;
-  reader : g.S.Source.reader l.s ≡ g.S.Source.reader l.fn.s;
-  failures : g.S.Source.failures l.s ≡ g.S.Source.failures l.fn.s;
+      → with_front l.all (lines_at g.X.Line.line_at (l.count - l.i) (l.first + l.i) (g.S.Source.left l.s))
+      ≡ lines_at g.X.Line.line_at l.count l.first (g.S.Source.left l.fn.s);
+  count : length l.all ≡ l.i;
+  keeps : Keeps g.S.Source l.fn.s l.s;
 }

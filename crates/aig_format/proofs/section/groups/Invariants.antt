@@ -1,5 +1,6 @@
 use Rattle.std.proofs.Common.{◌≡◌, drop, take, map, length}
-use Rattle.aig_format.specs.ReadingSections.{groups_of_literals_at}
+use Rattle.aig_format.specs.state.ReadingSections.{groups_of_literals_at}
+use Rattle.aig_format.specs.state.Reads.{Keeps}
 use Rattle.aig_format.proofs.Steps.{with_front}
 use Rattle.aig_format.proofs.section.groups.Given as goal
 
@@ -9,7 +10,5 @@ invariant-loop-size g l = record {
       → with_front l.all (groups_of_literals_at (drop l.size-index l.sizes) (g.S.Source.left l.s))
       ≡ groups_of_literals_at l.sizes (g.S.Source.left l.fn.s);
   sizes : map length l.all ≡ take l.size-index l.sizes;
-  told : g.S.Source.tells l.fn.s → g.S.Source.tells l.s;
-  reader : g.S.Source.reader l.s ≡ g.S.Source.reader l.fn.s;
-  failures : g.S.Source.failures l.s ≡ g.S.Source.failures l.fn.s;
+  keeps : Keeps g.S.Source l.fn.s l.s;
 }

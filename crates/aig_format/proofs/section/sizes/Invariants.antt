@@ -1,6 +1,7 @@
 use Rattle.std.proofs.Common.{◌≡◌, ◌≤◌, ◌-◌, length}
 use Rattle.std.specs.Prelude.{sum}
-use Rattle.aig_format.specs.ReadingSections.{sizes_at}
+use Rattle.aig_format.specs.state.ReadingSections.{sizes_at}
+use Rattle.aig_format.specs.state.Reads.{Keeps}
 use Rattle.aig_format.proofs.Steps.{with_front}
 use Rattle.aig_format.proofs.section.sizes.Given as goal
 
@@ -11,7 +12,5 @@ invariant-loop g l = record {
   within : l.total ≤ 4194303;
   bytes : g.S.Source.tells l.fn.s → with_front l.sizes.items (sizes_at (l.count - l.counter) l.total (g.S.Source.left l.s))
       ≡ sizes_at l.count 0 (g.S.Source.left l.fn.s);
-  told : g.S.Source.tells l.fn.s → g.S.Source.tells l.s;
-  reader : g.S.Source.reader l.s ≡ g.S.Source.reader l.fn.s;
-  failures : g.S.Source.failures l.s ≡ g.S.Source.failures l.fn.s;
+  keeps : Keeps g.S.Source l.fn.s l.s;
 }

@@ -1,18 +1,21 @@
-use Rattle.std.proofs.Common.{◌∙◌, ◌≢◌, ℕ, sym, take, arith}
+use Rattle.std.proofs.Common.{◌∙◌, ◌≢◌, ℕ, sym, take, refl, arith}
 use Rattle.std.proofs.lemmas.List.Elements.{All-append}
-use Rattle.aig_format.specs.ReadingNames.{line_at}
+use Rattle.aig_format.proofs.Keeping.{keeps_step, keeps_reads}
 use Rattle.aig_format.proofs.NameSteps.{line_on, line_ends, line_cut}
 use Rattle.aig_format.proofs.symbol.line.Goals as goal
 
-pub returns-then-count-size-clause-bytes : goal.returns-then-count-size-clause-bytes
-returns-then-count-size-clause-bytes g c = λ told.
+pub returns-then-count-size-clause-reads : goal.returns-then-count-size-clause-reads
+returns-then-count-size-clause-reads g c =
     let count = c.line_length-count in
-    rw c.in_ok-extend_from_slice.ensures.items
+    let skip = c.skip.ensures in
+    let peek = c.in_ok-peek.ensures in
+    let peeked = keeps_step c.loop-s.invariant.keeps peek.told peek.reader peek.failures peek.never_more in
+    keeps_reads (keeps_step peeked skip.told skip.reader skip.failures (omega (arith, skip.more))) (λ n. refl) (λ told. rw c.in_ok-extend_from_slice.ensures.items
     (line_ends c.loop-s.bytes.items (g.S.Source.left c.loop-s.s) (g.S.Source.left c.peek.new.self)
     (g.S.Source.left c.skip.new.self) c.front-front.result.now (g.S.Source.behind c.peek.new.self) count.result c.in_ok-peek.field-0
-    (line_at (g.S.Source.left c.args.s.now)) (c.in_ok-peek.ensures.bytes (c.loop-s.invariant.told told))
+    _ (c.in_ok-peek.ensures.bytes (c.loop-s.invariant.keeps.told told))
     (rw c.front-front.ensures.hand (c.front-front.ensures.left)) c.if-count-size.true (count.ensures.end c.if-count-size.true)
-    count.ensures.before c.skip.ensures.left (c.loop-s.invariant.bytes told))
+    count.ensures.before skip.left (c.loop-s.invariant.bytes told)))
 
 pub loop-s-preserved : goal.loop-s-preserved
 loop-s-preserved g c =
@@ -24,19 +27,21 @@ loop-s-preserved g c =
           rw c.in_ok-extend_from_slice.ensures.items
           (line_on c.loop-s.bytes.items (g.S.Source.left c.loop-s.s) (g.S.Source.left c.peek.new.self)
           (g.S.Source.left skip.new.self) c.front-front.result.now (g.S.Source.behind c.peek.new.self) count.result
-          c.in_ok-peek.field-0 (line_at (g.S.Source.left c.args.s.now)) (c.in_ok-peek.ensures.bytes (old.told told))
+          c.in_ok-peek.field-0 _ (c.in_ok-peek.ensures.bytes (old.keeps.told told))
           (rw c.front-front.ensures.hand (c.front-front.ensures.left)) count.ensures.bound c.if-count-size.false
           count.ensures.before skip.ensures.left (old.bytes told));
-      never_more = omega (arith, skip.ensures.more, c.in_ok-peek.ensures.never_more, old.never_more);
       no_end = rw c.in_ok-extend_from_slice.ensures.items
           (All-append (λ (b : ℕ). b ≢ 10) c.loop-s.bytes.items (take count.result c.front-front.result.now) old.no_end count.ensures.before);
-      told = λ told. skip.ensures.told (c.in_ok-peek.ensures.told (old.told told));
-      reader = skip.ensures.reader ∙ c.in_ok-peek.ensures.reader ∙ old.reader;
-      failures = skip.ensures.failures ∙ c.in_ok-peek.ensures.failures ∙ old.failures;
+      keeps =
+          let e = c.in_ok-peek.ensures in
+          let peeked = keeps_step old.keeps e.told e.reader e.failures e.never_more in
+          keeps_step peeked skip.ensures.told skip.ensures.reader skip.ensures.failures (omega (arith, skip.ensures.more));
     }
 
-pub returns-clause-bytes : goal.returns-clause-bytes
-returns-clause-bytes g c = λ told.
+pub returns-clause-reads : goal.returns-clause-reads
+returns-clause-reads g c =
+    let e = c.in_ok-peek.ensures in
+    keeps_reads (keeps_step c.loop-s.invariant.keeps e.told e.reader e.failures e.never_more) (λ n. refl) (λ told.
     line_cut c.loop-s.bytes.items (g.S.Source.left c.loop-s.s) (g.S.Source.left c.peek.new.self) c.in_ok-peek.field-0
-    (line_at (g.S.Source.left c.args.s.now)) (c.in_ok-peek.ensures.bytes (c.loop-s.invariant.told told))
-    (sym c.is_some.ensures ∙ c.if-is_some.false) (c.loop-s.invariant.bytes told)
+    _ (c.in_ok-peek.ensures.bytes (c.loop-s.invariant.keeps.told told))
+    (sym c.is_some.ensures ∙ c.if-is_some.false) (c.loop-s.invariant.bytes told))

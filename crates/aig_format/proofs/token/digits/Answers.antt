@@ -1,21 +1,22 @@
-use Rattle.std.proofs.Common.{sym, ◌∙◌, arith}
+use Rattle.std.proofs.Common.{sym, ◌∙◌, arith, refl}
 use Rattle.std.proofs.lemmas.Result.{err_from_is_err_and}
-use Rattle.aig_format.specs.Reading.{digits_at}
+use Rattle.aig_format.proofs.Keeping.{keeps_then, keeps_reads, err_reads}
 use Rattle.aig_format.proofs.Steps.{digits_on, digits_over, digits_done, digit_fails}
 use Rattle.aig_format.proofs.token.digits.Goals as goal
 
-pub returns-in_err-d-clause-bytes : goal.returns-in_err-d-clause-bytes
-returns-in_err-d-clause-bytes g c = λ told.
+pub returns-in_err-d-clause-reads : goal.returns-in_err-d-clause-reads
+returns-in_err-d-clause-reads g c =
     let p = err_from_is_err_and c.from_residual.result c.from_residual.ensures.1 in
     rw (p.1, p.2)
-    (digit_fails c.in_err-d.field-0.0 (g.S.Source.left c.loop-d.s)
-    (digits_at c.args.bound c.args.first (g.S.Source.left c.args.s.now)) (c.in_err-d.ensures.bytes (c.loop-d.invariant.told told)))
+    (err_reads c.loop-d.invariant.keeps c.in_err-d.ensures.reads (λ told fails. digit_fails _ (g.S.Source.left c.loop-d.s) _ fails))
 
-pub returns-then-value-bound-clause-bytes : goal.returns-then-value-bound-clause-bytes
-returns-then-value-bound-clause-bytes g c = λ told.
-    sym (c.loop-d.invariant.bytes told)
+pub returns-then-value-bound-clause-reads : goal.returns-then-value-bound-clause-reads
+returns-then-value-bound-clause-reads g c =
+    let i = c.loop-d.invariant in
+    keeps_reads (keeps_then i.keeps c.in_ok-d.ensures.reads) (λ n. refl) (λ told.
+    sym (i.bytes told)
     ∙ digits_over c.args.bound c.loop-d.value (g.S.Source.left c.loop-d.s) c.in-Some.d
-    (g.S.Source.left c.digit.new.s) (rw c.in-Some.is at (c.in_ok-d.ensures.bytes (c.loop-d.invariant.told told))) (omega arith)
+    (g.S.Source.left c.digit.new.s) (rw c.in-Some.is at (c.in_ok-d.ensures.reads.bytes (i.keeps.told told))) (omega arith))
 
 pub loop-d-preserved : goal.loop-d-preserved
 loop-d-preserved g c = record {
@@ -23,16 +24,15 @@ loop-d-preserved g c = record {
   within = omega arith;
   bytes = λ told.
       sym (digits_on c.args.bound c.loop-d.value (g.S.Source.left c.loop-d.s) c.in-Some.d
-      (g.S.Source.left c.digit.new.s) (rw c.in-Some.is at (c.in_ok-d.ensures.bytes (c.loop-d.invariant.told told))) (omega arith))
+      (g.S.Source.left c.digit.new.s) (rw c.in-Some.is at (c.in_ok-d.ensures.reads.bytes (c.loop-d.invariant.keeps.told told))) (omega arith))
       ∙ c.loop-d.invariant.bytes told;
-  never_more = omega (arith, c.in_ok-d.ensures.never_more, c.loop-d.invariant.never_more);
-  told = λ told. c.in_ok-d.ensures.told (c.loop-d.invariant.told told);
-  reader = c.in_ok-d.ensures.reader ∙ c.loop-d.invariant.reader;
-  failures = c.in_ok-d.ensures.failures ∙ c.loop-d.invariant.failures;
+  keeps = keeps_then c.loop-d.invariant.keeps c.in_ok-d.ensures.reads;
 }
 
-pub returns-clause-bytes : goal.returns-clause-bytes
-returns-clause-bytes g c = λ told.
-    sym (c.loop-d.invariant.bytes told)
+pub returns-clause-reads : goal.returns-clause-reads
+returns-clause-reads g c =
+    let i = c.loop-d.invariant in
+    keeps_reads (keeps_then i.keeps c.in_ok-d.ensures.reads) (λ n. refl) (λ told.
+    sym (i.bytes told)
     ∙ digits_done c.args.bound c.loop-d.value (g.S.Source.left c.loop-d.s) (g.S.Source.left c.digit.new.s)
-    (rw c.in_default.is at (c.in_ok-d.ensures.bytes (c.loop-d.invariant.told told)))
+    (rw c.in_default.is at (c.in_ok-d.ensures.reads.bytes (i.keeps.told told))))

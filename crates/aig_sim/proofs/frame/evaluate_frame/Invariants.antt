@@ -2,7 +2,7 @@ use Rattle.std.proofs.Common.{ℕ, List}
 use Rattle.aig_parts.specs.declared.ternary.Tern.{Tern}
 use Rattle.aig_parts.specs.declared.raw.Raw.{Raw}
 use Rattle.aig_base.specs.Sound.{IsSound}
-use Rattle.aig_sim.specs.Frame.{HoldsSources}
+use Rattle.aig_sim.specs.state.Frame.{HoldsSources}
 use Rattle.aig_sim.specs.GateOrder.{IsGateOrder}
 use Rattle.aig_sim.proofs.Evaluation.{HoldsFirst}
 use Rattle.aig_sim.proofs.frame.evaluate_frame.Given as goal

@@ -2,7 +2,7 @@ use Rattle.std.proofs.Common.{◌≡◌, ◌<◌, ℕ, List, Some, slice_get, sl
 use Rattle.aig_parts.specs.declared.ternary.Tern.{Tern}
 use Rattle.aig_parts.specs.declared.latch.Latch.{Latch}
 use Rattle.aig_parts.specs.Literal.{variable}
-use Rattle.aig_sim.specs.Frame.{AreStates, Holds}
+use Rattle.aig_sim.specs.state.Frame.{AreStates, Holds}
 use Rattle.aig_base.proofs.Circuits.{latch_in_range}
 use Rattle.aig_sim.proofs.Evaluation.{item_at, items_more, items_all, latch_value, put_value}
 use Rattle.aig_sim.proofs.frame.put_latches.Goals as goal

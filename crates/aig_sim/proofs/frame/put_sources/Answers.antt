@@ -1,7 +1,7 @@
 use Rattle.std.proofs.Common.{◌<◌, length, slice_set, sym, subst, arith}
 use Rattle.aig_parts.specs.declared.ternary.Tern.{Tern}
 use Rattle.aig_parts.specs.Literal.{variable}
-use Rattle.aig_sim.specs.Frame.{Holds}
+use Rattle.aig_sim.specs.state.Frame.{Holds}
 use Rattle.aig_sim.proofs.Evaluation.{constant_holds, sources_hold}
 use Rattle.aig_sim.proofs.frame.put_sources.Goals as goal
 

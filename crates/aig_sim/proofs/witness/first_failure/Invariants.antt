@@ -1,5 +1,5 @@
 use Rattle.std.proofs.Common.{ℕ, ◌<◌}
-use Rattle.aig_sim.specs.Checking.{ReadsNotOne}
+use Rattle.aig_sim.specs.state.Checking.{ReadsNotOne}
 use Rattle.aig_sim.proofs.witness.first_failure.Given as goal
 
 abbrev pub invariant-loop-position : goal.invariant-loop-position

@@ -2,8 +2,8 @@ use Rattle.std.proofs.Common.{◌≡◌, ℕ, ◌<◌, ◌-◌, List, length, dr
 use Rattle.aig_parts.specs.declared.ternary.Tern.{Tern}
 use Rattle.aig_parts.specs.declared.raw.Raw.{Raw}
 use Rattle.aig_base.specs.Circuit.{IsCircuit}
-use Rattle.aig_sim.specs.Checking.{IsShape, IsFirstFailure, ReadsNotOne, HasRun}
-use Rattle.aig_sim.specs.Frame.{HoldsAll}
+use Rattle.aig_sim.specs.state.Checking.{IsShape, IsFirstFailure, ReadsNotOne, HasRun}
+use Rattle.aig_sim.specs.state.Frame.{HoldsAll}
 use Rattle.aig_sim.specs.Verdict.{StartsWrong}
 use Rattle.aig_sim.proofs.VerdictLemmas.{both, start_same, property_same, run_begins, other_start, not_held, not_reached, reached, last_frame, shows_not_one, shown_not_one, bad_defined}
 use Rattle.aig_sim.proofs.witness.judge.Goals as goal

@@ -2,7 +2,7 @@ use Rattle.std.proofs.Common.{◌≡◌, ◌%◌, ◌<◌, ◌∙◌, ℕ, List,
 use Rattle.std.proofs.lemmas.Bool.{false≢true}
 use Rattle.std.proofs.lemmas.List.{get_or_default}
 use Rattle.aig_parts.specs.Literal.{variable, negation, with_sign, IsNegated}
-use Rattle.aig_unroll.specs.FrameTable.{literal_at, number_literal}
+use Rattle.aig_unroll.specs.state.FrameTable.{literal_at, number_literal}
 use Rattle.aig_unroll.proofs.frame.literal_at.Goals as goal
 
 turned : (l k : ℕ) → IsNegated l → with_sign l k ≡ negation k

@@ -1,6 +1,6 @@
 use Rattle.std.proofs.Common.{arith}
 use Rattle.std.proofs.lemmas.Grind.{common_steps}
-use Rattle.aig_unroll.specs.FrameTable.{number_literal}
+use Rattle.aig_unroll.specs.state.FrameTable.{number_literal}
 use Rattle.aig_unroll.proofs.frame.number_literal.Goals as goal
 
 pub returns-then-definitions-number : goal.returns-then-definitions-number

@@ -1,4 +1,4 @@
-use Rattle.aig_unroll.specs.FrameTable.{guard_literal}
+use Rattle.aig_unroll.specs.state.FrameTable.{guard_literal}
 use Rattle.aig_unroll.proofs.FrameSteps.{joined_more}
 use Rattle.aig_unroll.proofs.guards.push_guard_literals.Goals as goal
 

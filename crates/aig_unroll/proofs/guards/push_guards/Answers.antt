@@ -1,5 +1,5 @@
 use Rattle.std.proofs.Common.{◌∙◌, ap}
-use Rattle.aig_unroll.specs.FrameTable.{guard_gate, literal_at}
+use Rattle.aig_unroll.specs.state.FrameTable.{guard_gate, literal_at}
 use Rattle.aig_unroll.proofs.FrameSteps.{joined_more, ready_same, item_at}
 use Rattle.aig_unroll.proofs.guards.push_guards.Goals as goal
 

@@ -1,6 +1,6 @@
 use Rattle.std.proofs.Common.{◌≡◌, ◌++◌, map}
 use Rattle.std.specs.List.{range_with_len}
-use Rattle.aig_unroll.specs.FrameTable.{guard_gate}
+use Rattle.aig_unroll.specs.state.FrameTable.{guard_gate}
 use Rattle.aig_unroll.proofs.guards.push_guards.Given as goal
 
 abbrev pub invariant-loop-place : goal.invariant-loop-place

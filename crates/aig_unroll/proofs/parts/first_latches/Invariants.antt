@@ -1,7 +1,7 @@
 use Rattle.std.proofs.Common.{◌≡◌, ◌+◌, map, take}
 use Rattle.std.specs.List.{range_with_len}
 use Rattle.aig_unroll.specs.FrameLiteral.{uninitialised}
-use Rattle.aig_unroll.specs.FrameTable.{first_at}
+use Rattle.aig_unroll.specs.state.FrameTable.{first_at}
 use Rattle.aig_unroll.proofs.parts.first_latches.Given as goal
 
 abbrev pub invariant-loop-latch : goal.invariant-loop-latch

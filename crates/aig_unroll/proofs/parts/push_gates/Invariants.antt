@@ -1,5 +1,5 @@
 use Rattle.std.proofs.Common.{◌≡◌, ◌++◌, map, take}
-use Rattle.aig_unroll.specs.FrameTable.{gate_at}
+use Rattle.aig_unroll.specs.state.FrameTable.{gate_at}
 use Rattle.aig_unroll.proofs.parts.push_gates.Given as goal
 
 abbrev pub invariant-loop-gate : goal.invariant-loop-gate

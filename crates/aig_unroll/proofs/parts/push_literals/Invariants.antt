@@ -1,5 +1,5 @@
 use Rattle.std.proofs.Common.{◌≡◌, ◌++◌, map, take}
-use Rattle.aig_unroll.specs.FrameTable.{literal_at}
+use Rattle.aig_unroll.specs.state.FrameTable.{literal_at}
 use Rattle.aig_unroll.proofs.parts.push_literals.Given as goal
 
 abbrev pub invariant-loop-literal : goal.invariant-loop-literal

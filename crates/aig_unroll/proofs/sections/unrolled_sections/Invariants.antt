@@ -1,5 +1,5 @@
 use Rattle.std.proofs.Common.{◌≤◌, ◌-◌}
-use Rattle.aig_unroll.specs.FrameTable.{IsFrame, AreSections}
+use Rattle.aig_unroll.specs.state.FrameTable.{IsFrame, AreSections}
 use Rattle.aig_unroll.proofs.sections.unrolled_sections.Given as goal
 
 abbrev pub invariant-loop-frame : goal.invariant-loop-frame

@@ -30,6 +30,7 @@ invariant_of-self c =
           (subst (λ (r : Raw). IsDefined r (variable r1)) back c.requires.defined1)
           (subst (λ (r : Raw). IsAcyclic (with_gate r gate r0 r1)) back c.requires.acyclic),
       with_gate-tells gate r0 r1 raw c.self.inside.definitions c.self.invariant.1,
+      rw c.forget.ensures tt,
     )
 
 pub returns-in-Gate : goal.returns-in-Gate

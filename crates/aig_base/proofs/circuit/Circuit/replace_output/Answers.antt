@@ -13,4 +13,5 @@ invariant_of-self c =
     rw c.set.ensures (
       with_output-circuit raw c.args.position lit c.self.invariant.0 defined,
       with_output-tells raw c.args.position lit c.self.inside.definitions c.self.invariant.1,
+      rw c.forget.ensures tt,
     )

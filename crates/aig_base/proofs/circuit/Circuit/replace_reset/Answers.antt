@@ -27,6 +27,7 @@ invariant_of-self c =
       with_reset-circuit lit c.args.value raw c.self.invariant.0,
       with_reset-tells lit c.args.value raw
           c.self.inside.definitions c.self.invariant.1,
+      rw c.forget.ensures tt,
     )
 
 pub returns-in-Latch : goal.returns-in-Latch

@@ -2,7 +2,7 @@ use Rattle.std.proofs.Common.{List, Option, sym, ap, subst, ◌∙◌, ◌++◌,
 use Rattle.aig_base.specs.declared.definition.Definition.{Definition}
 use Rattle.aig_base.specs.declared.definition.Definition.TheVariants as definition
 use Rattle.aig_base.specs.Changes.{with_appended_gate}
-use Rattle.aig_base.specs.Definition.{IsTable}
+use Rattle.aig_base.specs.state.Definitions.{IsTable}
 use Rattle.aig_base.proofs.Appended.{more_in_order, more_table}
 use Rattle.aig_base.proofs.definitions.Definitions.append_gate.Goals as goal
 

@@ -1,5 +1,5 @@
 use Rattle.std.proofs.Common.{map, take}
-use Rattle.aig_base.specs.Entries.{AreEntries}
+use Rattle.aig_base.specs.state.Entries.{AreEntries}
 use Rattle.aig_parts.specs.Literal.{variable}
 use Rattle.aig_base.proofs.entries.Entries.enter_inputs.Given as goal
 

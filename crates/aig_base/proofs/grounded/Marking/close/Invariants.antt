@@ -1,6 +1,6 @@
 use Rattle.std.proofs.Common.{◌≡◌, ◌<◌, ℕ, length, All}
 use Rattle.aig_parts.specs.declared.raw.Raw.{Raw}
-use Rattle.aig_base.specs.Marks.{IsMarked, IsMarking, steps_left}
+use Rattle.aig_base.specs.state.Marks.{IsMarked, IsMarking, steps_left}
 use Rattle.aig_base.proofs.grounded.Marking.close.Given as goal
 
 abbrev pub invariant-loop-variable : goal.invariant-loop-variable

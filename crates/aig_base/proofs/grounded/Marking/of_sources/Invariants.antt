@@ -1,7 +1,7 @@
 use Rattle.std.proofs.Common.{◌≡◌, ◌+◌, ◌<◌, ◌∷◌, ◌++◌, length, map, take, All}
-use Rattle.aig_base.specs.Least.{latch_variable}
+use Rattle.aig_base.specs.state.Least.{latch_variable}
 use Rattle.aig_parts.specs.Literal.{variable}
-use Rattle.aig_base.specs.Marks.{AreStarted}
+use Rattle.aig_base.specs.state.Marks.{AreStarted}
 use Rattle.aig_base.proofs.grounded.Marking.of_sources.Given as goal
 
 abbrev pub invariant-loop-input : goal.invariant-loop-input

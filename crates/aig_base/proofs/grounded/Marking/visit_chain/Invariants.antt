@@ -1,6 +1,6 @@
 use Rattle.std.proofs.Common.{◌≡◌, ◌≤◌, length}
 use Rattle.aig_parts.specs.declared.raw.Raw.{Raw}
-use Rattle.aig_base.specs.Marks.{Moves, IsMarking}
+use Rattle.aig_base.specs.state.Marks.{Moves, IsMarking}
 use Rattle.aig_base.proofs.grounded.Marking.visit_chain.Given as goal
 
 abbrev pub invariant-loop-link : goal.invariant-loop-link

@@ -1,6 +1,6 @@
 use Rattle.std.proofs.Common.{◌≡◌, ◌+◌, length, take}
-use Rattle.aig_base.specs.Links.{AreLinks}
-use Rattle.aig_base.specs.Marks.{sides}
+use Rattle.aig_base.specs.state.Links.{AreLinks}
+use Rattle.aig_base.specs.state.Marks.{sides}
 use Rattle.aig_base.proofs.links.Links.of_sides.Given as goal
 
 abbrev pub invariant-loop-gate : goal.invariant-loop-gate

@@ -1,29 +1,34 @@
 use Rattle.std.proofs.Common.{refl, arith}
 use Rattle.aig_bench.specs.Plan.{pair_of}
+use Rattle.aig_bench.proofs.Engines.{held}
 use Rattle.aig_bench.proofs.Changed.{bench_dropped}
-use Rattle.aig_bench.proofs.Edited.{lists_for, work_for, working, dropped_touched, dropped_changed}
+use Rattle.aig_bench.proofs.Edited.{lists_for, work_for, dropped_touched, dropped_changed}
 use Rattle.aig_bench.proofs.bench.Bench.drop_frame.Goals as goal
 
-pub invariant_of-self : goal.invariant_of-self
-invariant_of-self g c =
-    let plan = c.self.inside.plan in
-    let h = c.self.invariant.ready.working in
+pub invariant_of-engine : goal.invariant_of-engine
+invariant_of-engine g c =
+    let k = held c.engine.invariant c.engine.view_is c.self.invariant in
+    let plan = c.engine.inside.plan in
+    let h = k.working in
     let b = bench_dropped plan c.pop.new.self _ _ _ _ h.bench c.pop.ensures c.drop_row.ensures.cells c.drop_row.ensures.gates in
     record {
-      ready = record {
-        working = working _ c.self.inside.net c.self.inside.pending.buckets _ _
-            (work_for plan _ c.self.inside.net c.self.inside.net _ _ _ _ c.self.inside.pending.buckets h.work h.empty refl b.plan_is b.laid_out
-            h.work.levels h.work.readers)
-            h.empty b.current;
-        lists = lists_for plan _ c.self.inside.net c.self.inside.net c.self.inside.pending c.self.invariant.ready.lists refl
-            c.self.invariant.ready.lists.readers;
-        idle = c.self.invariant.ready.idle;
-      };
-      orders = c.self.invariant.orders;
+      work = work_for plan _ c.engine.inside.net c.engine.inside.net _ _ _ _ c.engine.inside.pending.buckets h.work h.empty refl b.plan_is
+          b.laid_out h.work.levels h.work.readers;
+      lists = lists_for plan _ c.engine.inside.net c.engine.inside.net c.engine.inside.pending k.lists refl k.lists.readers;
+      orders = c.engine.invariant.orders;
     }
+
+pub invariant_of-self-2 : goal.invariant_of-self-2
+invariant_of-self-2 g c =
+    let k = held c.engine.invariant c.engine.view_is c.self.invariant in
+    let plan = c.engine.inside.plan in
+    let h = k.working in
+    let b = bench_dropped plan c.pop.new.self _ _ _ _ h.bench c.pop.ensures c.drop_row.ensures.cells c.drop_row.ensures.gates in
+    record { current = b.current; idle = k.idle }
 
 pub returns-clause-works : goal.returns-clause-works
 returns-clause-works g c =
-    let p = pair_of c.self.inside.plan in
-    let sound = c.self.invariant.ready.working.work.plan_is.circuit.sound in
-    rw (← c.self.view_is) (dropped_touched p sound, dropped_changed p sound, omega (arith, c.drop_row.ensures.count))
+    let k = held c.engine.invariant c.engine.view_is c.self.invariant in
+    let p = pair_of c.engine.inside.plan in
+    let sound = k.working.work.plan_is.circuit.sound in
+    rw (← c.self.view_is, ← c.engine.view_is) (dropped_touched p sound, dropped_changed p sound, omega (arith, c.drop_row.ensures.count))

@@ -1,23 +1,35 @@
 use Rattle.std.proofs.Common.{arith}
+use Rattle.aig_bench.proofs.Engines.{held}
 use Rattle.aig_bench.proofs.Outputs.{ready_set, set_touched, set_changed}
 use Rattle.aig_bench.proofs.GateLists.{orders_output}
 use Rattle.aig_bench.proofs.bench.Bench.set_output.Goals as goal
 
-pub invariant_of-self : goal.invariant_of-self
-invariant_of-self g c =
+pub invariant_of-engine : goal.invariant_of-engine
+invariant_of-engine g c =
+    let k = held c.engine.invariant c.engine.view_is c.self.invariant in
+    let r = ready_set c.engine.inside.plan c.args.position c.args.literal _ _ _ _ _ c.replace_output.ensures
+    c.in_ok-check_output.ensures.defined k in
     record {
-      ready = ready_set c.self.inside.plan c.args.position c.args.literal _ _ _ _ _ c.replace_output.ensures
-          c.in_ok-check_output.ensures.defined c.self.invariant.ready;
-      orders = orders_output c.self.inside.plan.circuit _ c.args.position c.args.literal c.self.inside.order
-          c.replace_output.ensures c.self.invariant.orders;
+      work = r.working.work;
+      lists = r.lists;
+      orders = orders_output c.engine.inside.plan.circuit _ c.args.position c.args.literal c.engine.inside.order
+          c.replace_output.ensures c.engine.invariant.orders;
     }
+
+pub invariant_of-self-2 : goal.invariant_of-self-2
+invariant_of-self-2 g c =
+    let k = held c.engine.invariant c.engine.view_is c.self.invariant in
+    let r = ready_set c.engine.inside.plan c.args.position c.args.literal _ _ _ _ _ c.replace_output.ensures
+    c.in_ok-check_output.ensures.defined k in
+    record { current = r.working.bench.current; idle = r.idle }
 
 pub returns-clause-works : goal.returns-clause-works
 returns-clause-works g c =
-    let plan = c.self.inside.plan in
-    let p = c.self.invariant.ready.working.work.plan_is in
+    let k = held c.engine.invariant c.engine.view_is c.self.invariant in
+    let plan = c.engine.inside.plan in
+    let p = k.working.work.plan_is in
     let d = c.in_ok-check_output.ensures.defined in
-    rw (← c.self.view_is) (
+    rw (← c.self.view_is, ← c.engine.view_is) (
       set_touched plan c.args.position c.args.literal p d,
       set_changed plan c.args.position c.args.literal p d,
       omega arith,

@@ -1,5 +1,5 @@
 use Rattle.std.proofs.Common.{ℕ}
-use Rattle.aig_bench.specs.Latches.{IsLatchList}
+use Rattle.aig_bench.specs.state.Latches.{IsLatchList}
 use Rattle.aig_bench.proofs.LatchLists.{listed}
 use Rattle.aig_bench.proofs.latches.LatchList.clear.Given as goal
 
@@ -9,4 +9,4 @@ invariant-loop l = record {
 }
 
 abbrev pub decreases-loop : goal.decreases-loop
-decreases-loop l = listed l.self
+decreases-loop l = listed l.self.marks.items

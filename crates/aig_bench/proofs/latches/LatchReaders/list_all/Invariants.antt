@@ -1,6 +1,6 @@
 use Rattle.std.proofs.Common.{ℕ, ◌≤◌}
 use Rattle.aig_parts.specs.declared.raw.Raw.{Raw}
-use Rattle.aig_bench.specs.Latches.{AreLatchReaders, IsLatchList}
+use Rattle.aig_bench.specs.state.Latches.{AreLatchReaders, IsLatchList}
 use Rattle.aig_bench.proofs.LatchChains.{AreListedOver}
 use Rattle.aig_bench.proofs.latches.LatchReaders.list_all.Given as goal
 

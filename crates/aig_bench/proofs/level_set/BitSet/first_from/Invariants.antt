@@ -1,5 +1,5 @@
 use Rattle.std.proofs.Common.{◌+◌, ◌*◌, ◌/◌, ◌≤◌}
-use Rattle.aig_bench.specs.LevelSet.{HasNone}
+use Rattle.aig_bench.specs.state.LevelSet.{HasNone}
 use Rattle.aig_bench.proofs.level_set.BitSet.first_from.Given as goal
 
 abbrev pub invariant-loop-word : goal.invariant-loop-word

@@ -1,5 +1,5 @@
 use Rattle.std.proofs.Common.{None, subst}
-use Rattle.aig_bench.specs.LevelSet.{IsFirstFrom}
+use Rattle.aig_bench.specs.state.LevelSet.{IsFirstFrom}
 use Rattle.aig_bench.proofs.BitPlaces.{none_filled, found_in_word}
 use Rattle.aig_bench.proofs.level_set.LevelSet.first_from.Goals as goal
 

@@ -1,5 +1,5 @@
 use Rattle.std.proofs.Common.{ℕ, List, ◌↔◌, sym, subst}
-use Rattle.aig_bench.specs.LevelSet.{HasBit}
+use Rattle.aig_bench.specs.state.LevelSet.{HasBit}
 use Rattle.aig_bench.proofs.Lengthened.{has_still, filled_longer, words_longer}
 use Rattle.aig_bench.proofs.level_set.LevelSet.make_room.Goals as goal
 

@@ -1,7 +1,7 @@
 use Rattle.std.proofs.Common.{ℕ, List, sym, subst}
 use Rattle.aig_base.specs.Changes.{with_appended_gate}
 use Rattle.aig_bench.specs.declared.order.Way.{Way}
-use Rattle.aig_bench.specs.Order.{AreTaken, IsListing}
+use Rattle.aig_bench.specs.state.Order.{AreTaken, IsListing}
 use Rattle.aig_bench.proofs.GateLists.{listing_more, order_more}
 use Rattle.aig_bench.proofs.order.Order.push_gate.Goals as goal
 

@@ -2,7 +2,7 @@ use Rattle.std.proofs.Common.{ℕ, List, All, sym, subst}
 use Rattle.aig_parts.specs.declared.gate.Gate.{Gate}
 use Rattle.aig_sim.specs.Cells.{HasCells}
 use Rattle.aig_bench.specs.declared.order.Way.{Way}
-use Rattle.aig_bench.specs.Order.{AreTaken, gates_at}
+use Rattle.aig_bench.specs.state.Order.{AreTaken, gates_at}
 use Rattle.aig_bench.proofs.Swept.{have_cells}
 use Rattle.aig_bench.proofs.order.Order.sweep.Goals as goal
 

@@ -1,6 +1,6 @@
 use Rattle.std.proofs.Common.{sym, ap, ◌∙◌, rules}
-use Rattle.aig_format.specs.Held.{known}
-use Rattle.aig_format.specs.Reading.{next_at}
+use Rattle.aig_format.specs.state.Held.{known}
+use Rattle.aig_format.specs.state.Reading.{next_at}
 use Rattle.aig_format.proofs.Holding.{held_front}
 use Rattle.aig_format.proofs.stream.StreamSource.next.Goals as goal
 

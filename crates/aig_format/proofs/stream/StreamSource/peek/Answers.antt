@@ -1,6 +1,6 @@
 use Rattle.std.proofs.Common.{ℕ, List, Some, sym, ap, ◌∙◌, rules, slice_index_or}
-use Rattle.aig_format.specs.Held.{known}
-use Rattle.aig_format.specs.Reading.{peek_at}
+use Rattle.aig_format.specs.state.Held.{known}
+use Rattle.aig_format.specs.state.Reading.{peek_at}
 use Rattle.aig_format.proofs.Holding.{held_front}
 use Rattle.aig_format.proofs.Steps.{done}
 use Rattle.aig_format.proofs.stream.StreamSource.peek.Goals as goal

@@ -1,5 +1,5 @@
 use Rattle.std.proofs.Common.{rules}
-use Rattle.aig_format.specs.Held.{known}
+use Rattle.aig_format.specs.state.Held.{known}
 use Rattle.aig_format.proofs.Holding.{held_skip}
 use Rattle.aig_format.proofs.stream.StreamSource.skip.Goals as goal
 

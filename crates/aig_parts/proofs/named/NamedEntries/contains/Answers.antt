@@ -1,6 +1,6 @@
 use Rattle.std.proofs.Common.{length, arith, ◌≤◌, ◌<◌}
 use Rattle.std.proofs.lemmas.Bool.Decides.{nat_tests}
-use Rattle.aig_parts.specs.SymbolPlaces.{page_of}
+use Rattle.aig_parts.specs.state.NamedEntries.{page_of}
 use Rattle.aig_parts.proofs.NamedLemmas.{no_page, mark_read}
 use Rattle.aig_parts.proofs.named.NamedEntries.contains.Goals as goal
 

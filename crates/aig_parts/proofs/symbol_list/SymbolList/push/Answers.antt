@@ -1,7 +1,8 @@
 use Rattle.std.proofs.Common.{◌∙◌, sym, subst, ℕ, List, ◌∷◌, ◌++◌, [], Contains, ap}
 use Rattle.std.specs.Map.{keys_of}
 use Rattle.aig_parts.specs.declared.symbol_places.Place.{Place}
-use Rattle.aig_parts.specs.SymbolPlaces.{Key, symbols_in, AreListed}
+use Rattle.aig_parts.specs.SymbolPlaces.{Key, symbols_in}
+use Rattle.aig_parts.specs.state.NamedEntries.{AreListed}
 use Rattle.aig_parts.proofs.NamedLemmas.{on_error}
 use Rattle.aig_parts.proofs.SymbolLemmas.{keys_in, symbols_stay, symbol_more, listed_longer, listed_more}
 use Rattle.aig_parts.proofs.symbol_list.SymbolList.push.Goals as goal

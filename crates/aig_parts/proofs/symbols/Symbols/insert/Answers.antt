@@ -2,7 +2,8 @@ use Rattle.std.proofs.Common.{◌∙◌, sym, subst, ℕ, List, ◌∷◌, ◌++
 use Rattle.std.specs.Prelude.{All}
 use Rattle.std.specs.Map.{keys_of}
 use Rattle.aig_parts.specs.declared.symbol_places.Place.{Place}
-use Rattle.aig_parts.specs.SymbolPlaces.{Key, symbols_in, IsPlaceIn}
+use Rattle.aig_parts.specs.SymbolPlaces.{Key, symbols_in}
+use Rattle.aig_parts.specs.state.NamedEntries.{IsPlaceIn}
 use Rattle.aig_parts.proofs.NamedLemmas.{on_error}
 use Rattle.aig_parts.proofs.SymbolKeys.{insert_at_end}
 use Rattle.aig_parts.proofs.SymbolLemmas.{keys_in, symbols_stay, symbol_more, place_more}

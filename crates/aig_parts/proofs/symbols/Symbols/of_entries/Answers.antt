@@ -2,7 +2,8 @@ use Rattle.std.proofs.Common.{◌∙◌, ◌≡◌, List, sym, subst, ap}
 use Rattle.std.specs.Prelude.{All}
 use Rattle.std.proofs.lemmas.List.{take_all, get_or_default}
 use Rattle.aig_parts.specs.declared.symbol_places.Place.{Place}
-use Rattle.aig_parts.specs.SymbolPlaces.{Key, symbols_in, IsPlaceIn}
+use Rattle.aig_parts.specs.SymbolPlaces.{Key, symbols_in}
+use Rattle.aig_parts.specs.state.NamedEntries.{IsPlaceIn}
 use Rattle.aig_parts.proofs.SymbolLemmas.{entry_more}
 use Rattle.aig_parts.proofs.symbols.Symbols.of_entries.Goals as goal
 

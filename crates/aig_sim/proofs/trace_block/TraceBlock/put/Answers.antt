@@ -1,6 +1,6 @@
 use Rattle.std.proofs.Common.{◌≡◌, [], ◌++◌, ◌∷◌, length, ap, ◌∙◌, arith, subst, sym}
 use Rattle.std.specs.Prelude.{List, ℕ}
-use Rattle.aig_bytes.specs.Gathered.{Gathers}
+use Rattle.aig_bytes.specs.state.Gathered.{Gathers}
 use Rattle.aig_bytes.proofs.GatherLemmas.{gathers_held}
 use Rattle.aig_sim.proofs.GatherLemmas.{gathers_handed, gathers_not_handed}
 use Rattle.aig_sim.proofs.trace_block.TraceBlock.put.Goals as goal

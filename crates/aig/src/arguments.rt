@@ -1,0 +1,43 @@
+//! The arguments of the command line.
+
+use crate::command_line::matches_of;
+use crate::exit::Exit;
+use crate::task::Task;
+use aig_engines::RunFault;
+use clap::error::ErrorKind;
+use std::env::{self, Env};
+use std::io;
+
+/// All arguments, the program's name first.
+pub fn all<R: Env + AllocGlobal>(rt: &R) -> Result<Vec<String>, Exit> {
+    match env::args(rt) {
+        Ok(words) => match words.collect(rt.alloc()) {
+            Ok(list) => Ok(list),
+            Err(_) => Err(Exit::Run(RunFault::Memory)),
+        },
+        Err(error) => match error.kind() {
+            io::ErrorKind::OutOfMemory => Err(Exit::Run(RunFault::Memory)),
+            _ => Err(Exit::NotText),
+        },
+    }
+}
+
+/// The task that the arguments choose. Where they choose none, clap's text goes to standard error.
+pub fn task_of<'a, R: AllocGlobal + Eprint>(rt: &R, words: &'a [String]) -> Result<Task<'a>, Exit> {
+    match matches_of(rt.alloc(), words) {
+        Ok(matches) => match Task::of(&matches) {
+            Some(task) => Ok(task),
+            None => Err(Exit::NoTask),
+        },
+        Err(error) => Err(refused(rt, &error)),
+    }
+}
+
+fn refused(rt: &impl Eprint, error: &clap::Error) -> Exit {
+    if error.kind() == ErrorKind::OutOfMemory {
+        return Exit::Run(RunFault::Memory);
+    }
+    // Nobody is left to tell of a failing write to standard error.
+    let _ = rt.eprint(error);
+    Exit::Told
+}

@@ -1,9 +1,0 @@
-use Rattle.std.proofs.Common.{◌≡◌, ◌+◌, All, length}
-use Rattle.aig_base.specs.Marks.{IsGateBelow}
-use Rattle.aig_base.proofs.ranks.gates_by_variable.Given as goal
-
-abbrev pub invariant-loop-gate : goal.invariant-loop-gate
-invariant-loop-gate l = record {
-  size : length l.nodes.items ≡ l.max_var + 1;
-  below : All (IsGateBelow (l.max_var + 1)) l.nodes.items;
-}

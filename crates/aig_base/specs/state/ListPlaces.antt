@@ -1,0 +1,94 @@
+-- Where gates stand in the lists of the variables that they read.
+use Rattle.std.specs.Prelude.{◌≡◌, ◌≢◌, ◌⊎◌, ℕ, ◌^◌, ◌<◌, ◌≤◌, List, [], length, Some, slice_get, slice_index_or}
+use Rattle.smallvec.specs.SmallVec.{SmallVec}
+use Rattle.aig_base.specs.declared.list_places.Places.{Places}
+use Rattle.aig_base.specs.state.ReaderSlots.{items_at, tally}
+
+-- places from here on are kept
+abbrev pub short : ℕ
+short = 64
+
+-- w stands in the list of v at place i
+abbrev pub StandsAt : List (SmallVec ℕ) → ℕ → ℕ → ℕ → Type 0
+StandsAt slots v i w = slice_get (items_at slots v) i ≡ Some w
+
+-- how many fit into the list of v
+abbrev pub capacity_at : List (SmallVec ℕ) → ℕ → ℕ
+capacity_at slots v = (slice_index_or slots v (record { items = []; capacity = 0 })).capacity
+
+-- i is kept as a place of w
+pub record HasPlace (places : List Places) (w i : ℕ) : Type 0 where
+  pub kept : Places
+  pub at : slice_get places w ≡ Some kept
+  pub is : (kept.first ≡ i) ⊎ (kept.second ≡ i)
+
+-- i and j are kept as the two places of w
+pub record HasPlaces (places : List Places) (w i j : ℕ) : Type 0 where
+  pub kept : Places
+  pub at : slice_get places w ≡ Some kept
+  pub are : ((kept.first ≡ i) × (kept.second ≡ j)) ⊎ ((kept.first ≡ j) × (kept.second ≡ i))
+
+-- of each entry behind the first ones the place is kept, at its gate; and there is a place for each variable, where a
+-- list has room behind the first ones
+pub record AreKept (slots : List (SmallVec ℕ)) (places : List Places) : Type 0 where
+  pub one : (v i w : ℕ) → short ≤ i → StandsAt slots v i w → HasPlace places w i
+  pub two : (v x i j w : ℕ) → v ≢ x → short ≤ i → short ≤ j → StandsAt slots v i w → StandsAt slots x j w
+      → HasPlaces places w i j
+  pub covered : (v : ℕ) → short < capacity_at slots v → length slots ≤ length places
+
+-- the table has an entry for each of n variables, where a list has room behind the first ones
+abbrev pub IsCoveredTo : ℕ → List (SmallVec ℕ) → List Places → Type 0
+IsCoveredTo n slots places = (v : ℕ) → short < capacity_at slots v → n ≤ length places
+
+-- each gate stands in two lists at most and once in each, and lists are not too long for 32 bits
+pub record AreTidy (slots : List (SmallVec ℕ)) : Type 0 where
+  pub once : (v w : ℕ) → tally slots v w ≤ 1
+  pub few : (v x y w : ℕ) → 1 ≤ tally slots v w → 1 ≤ tally slots x w → 1 ≤ tally slots y w
+      → (v ≡ x) ⊎ (v ≡ y) ⊎ (x ≡ y)
+  pub narrow : (v : ℕ) → length (items_at slots v) < 2 ^ 32
+
+-- nothing is lost of the table
+pub record Extends (old new : List Places) : Type 0 where
+  pub size : length old ≤ length new
+  pub same : (w : ℕ) (p : Places) → slice_get old w ≡ Some p → slice_get new w ≡ Some p
+
+-- of the places of w, the one that was `from` is `to`
+pub record Renews (w from to : ℕ) (old new : List Places) : Type 0 where
+  pub size : length new ≡ length old
+  pub others : (x : ℕ) → x ≢ w → slice_get new x ≡ slice_get old x
+  pub first : (p : Places) → slice_get old w ≡ Some p → p.first ≡ from
+      → slice_get new w ≡ Some (record { first = to; second = p.second })
+  pub second : (p : Places) → slice_get old w ≡ Some p → p.first ≢ from
+      → slice_get new w ≡ Some (record { first = p.first; second = to })
+
+-- these are the places of u, where one of them is kept
+pub record Writes (u : ℕ) (p : Places) (old new : List Places) : Type 0 where
+  pub size : length new ≡ length old
+  pub others : (x : ℕ) → x ≢ u → slice_get new x ≡ slice_get old x
+  pub here : (short ≤ p.first) ⊎ (short ≤ p.second) → slice_get new u ≡ Some p
+
+-- in a list that lost an entry no other has moved behind the first ones
+pub record Stays (old new : List ℕ) (before after : List Places) : Type 0 where
+  pub list : (i w : ℕ) → short ≤ i → slice_get new i ≡ Some w → slice_get old i ≡ Some w
+  pub places : after ≡ before
+
+-- in a list that lost an entry w moved to its place, and that is kept
+pub record Shifts (w from to : ℕ) (old new : List ℕ) (before after : List Places) : Type 0 where
+  pub was : slice_get old from ≡ Some w
+  pub long : short ≤ from
+  pub here : slice_get new to ≡ Some w
+  pub others : (i x : ℕ) → i ≢ to → slice_get new i ≡ Some x → slice_get old i ≡ Some x
+  pub renews : Renews w from to before after
+
+abbrev pub Follows : List ℕ → List ℕ → List Places → List Places → Type 0
+Follows old new before after =
+    Stays old new before after ⊎ ((w from to : ℕ) × Shifts w from to old new before after)
+
+-- u came to the places of p at the ends of the lists of v and x
+pub record StandsNew (v x u : ℕ) (p : Places) (old new : List (SmallVec ℕ)) : Type 0 where
+  pub capacities : (y : ℕ) → capacity_at new y ≡ capacity_at old y
+  pub first : p.first ≡ length (items_at old v)
+  pub second : p.second ≡ length (items_at old x)
+  pub others : (y : ℕ) → y ≢ v → y ≢ x → items_at new y ≡ items_at old y
+  pub entries : (y i w : ℕ) → StandsAt new y i w
+      → StandsAt old y i w ⊎ ((w ≡ u) × (((y ≡ v) × (i ≡ p.first)) ⊎ ((y ≡ x) × (i ≡ p.second))))

@@ -1,0 +1,161 @@
+use Rattle.std.proofs.Common.{◌<◌, length, refl, sym, subst, arith}
+use Rattle.std.proofs.lemmas.Bool.{false≢true}
+use Rattle.aig_bench.specs.state.Engine.{EngineState}
+use Rattle.aig_bench.proofs.Waiting.{waiting_less}
+use Rattle.aig_bench.proofs.SweepSteps.{lhs_even, lhs_flag, rhs0_inside, rhs1_inside, taken_work, waits_less, waited, waits_no_more, level_is, readers_fit, linked_work, linked_less, linked_no_more, written_work, sweeps_changed, sweeps_same, hands_changed, hands_unchanged, other_rows, taken_in_range}
+use Rattle.aig_bench.proofs.engine.Engine.settle_next.Goals as goal
+
+pub returns-in_err-gate-clause-settles : goal.returns-in_err-gate-clause-settles
+returns-in_err-gate-clause-settles g c =
+    let w = c.self.invariant.work in
+    let takes = c.in_ok-variable.ensures c.self.inside.net.levels w.buckets in
+    absurd (c.in_err-gate.ensures.none (w.gates _ takes.waited))
+
+pub evaluate-changed-requires-clause-even : goal.evaluate-changed-requires-clause-even
+evaluate-changed-requires-clause-even g c =
+    let w = c.self.invariant.work in
+    let takes = c.in_ok-variable.ensures c.self.inside.net.levels w.buckets in
+    let (q, at, e) = c.in_ok-gate.ensures.found in
+    let lt = subst (λ (s : EngineState). c.args.frame < length s.pair.rows) (sym c.self.view_is) c.requires.frame in
+    lhs_even _ _ _ _ _ _ _ _ _ q _ w lt takes at e
+
+pub evaluate-changed-requires-clause-gate : goal.evaluate-changed-requires-clause-gate
+evaluate-changed-requires-clause-gate g c =
+    let w = c.self.invariant.work in
+    let takes = c.in_ok-variable.ensures c.self.inside.net.levels w.buckets in
+    let (q, at, e) = c.in_ok-gate.ensures.found in
+    let lt = subst (λ (s : EngineState). c.args.frame < length s.pair.rows) (sym c.self.view_is) c.requires.frame in
+    lhs_flag _ _ _ _ _ _ _ _ _ q _ w lt takes at e
+
+pub evaluate-changed-requires-clause-rhs0 : goal.evaluate-changed-requires-clause-rhs0
+evaluate-changed-requires-clause-rhs0 g c =
+    let w = c.self.invariant.work in
+    let takes = c.in_ok-variable.ensures c.self.inside.net.levels w.buckets in
+    let (q, at, e) = c.in_ok-gate.ensures.found in
+    let lt = subst (λ (s : EngineState). c.args.frame < length s.pair.rows) (sym c.self.view_is) c.requires.frame in
+    rhs0_inside _ _ _ _ _ _ _ _ _ q _ w lt takes at e
+
+pub evaluate-changed-requires-clause-rhs1 : goal.evaluate-changed-requires-clause-rhs1
+evaluate-changed-requires-clause-rhs1 g c =
+    let w = c.self.invariant.work in
+    let takes = c.in_ok-variable.ensures c.self.inside.net.levels w.buckets in
+    let (q, at, e) = c.in_ok-gate.ensures.found in
+    let lt = subst (λ (s : EngineState). c.args.frame < length s.pair.rows) (sym c.self.view_is) c.requires.frame in
+    rhs1_inside _ _ _ _ _ _ _ _ _ q _ w lt takes at e
+
+pub list-readers-requires : goal.list-readers-requires
+list-readers-requires g c =
+    let w = c.self.invariant.work in
+    let takes = c.in_ok-variable.ensures c.self.inside.net.levels w.buckets in
+    let (q, at, e) = c.in_ok-gate.ensures.found in
+    let lt = subst (λ (s : EngineState). c.args.frame < length s.pair.rows) (sym c.self.view_is) c.requires.frame in
+    omega (arith, taken_in_range _ _ _ _ _ _ _ _ _ q _ w lt takes at e, w.readers.size)
+
+pub link_all-requires-clause-fit : goal.link_all-requires-clause-fit
+link_all-requires-clause-fit g c =
+    let w = c.self.invariant.work in
+    let takes = c.in_ok-variable.ensures c.self.inside.net.levels w.buckets in
+    let (q, at, e) = c.in_ok-gate.ensures.found in
+    let lt = subst (λ (s : EngineState). c.args.frame < length s.pair.rows) (sym c.self.view_is) c.requires.frame in
+    readers_fit _ _ _ _ _ _ _ _ _ q _ w lt takes at e c.list-readers.result.now c.list-readers.ensures
+
+pub list_all-requires : goal.list_all-requires
+list_all-requires g c =
+    let w = c.self.invariant.work in
+    let takes = c.in_ok-variable.ensures c.self.inside.net.levels w.buckets in
+    let (q, at, e) = c.in_ok-gate.ensures.found in
+    let lt = subst (λ (s : EngineState). c.args.frame < length s.pair.rows) (sym c.self.view_is) c.requires.frame in
+    (c.self.inside.plan.circuit, c.self.invariant.lists.readers, taken_in_range _ _ _ _ _ _ _ _ _ q _ w lt takes at e, c.self.invariant.lists.ahead)
+
+pub invariant_of-self-then-changed : goal.invariant_of-self-then-changed
+invariant_of-self-then-changed g c =
+    let w = c.self.invariant.work in
+    let takes = c.in_ok-variable.ensures c.self.inside.net.levels w.buckets in
+    let (q, at, e) = c.in_ok-gate.ensures.found in
+    let lt = subst (λ (s : EngineState). c.args.frame < length s.pair.rows) (sym c.self.view_is) c.requires.frame in
+    record {
+      work = written_work _ _ _ _ _ _ _ _ _ q _ w lt takes at e _ c.if-changed.ensures.cells _ c.link_all.new.self c.if-changed.ensures.gates
+          (linked_work _ _ _ _ _ _ _ _ _ q _ w lt takes at e c.list-readers.result.now c.list-readers.ensures c.link_all.new.self c.link_all.ensures.buckets c.link_all.ensures.links);
+      lists = record {
+        readers = c.self.invariant.lists.readers;
+        here = c.self.invariant.lists.here;
+        ahead = c.list_all.ensures.list _ c.self.invariant.lists.ahead;
+      };
+      orders = c.self.invariant.orders;
+    }
+
+pub invariant_of-self-else-changed : goal.invariant_of-self-else-changed
+invariant_of-self-else-changed g c =
+    let w = c.self.invariant.work in
+    let takes = c.in_ok-variable.ensures c.self.inside.net.levels w.buckets in
+    let (q, at, e) = c.in_ok-gate.ensures.found in
+    let lt = subst (λ (s : EngineState). c.args.frame < length s.pair.rows) (sym c.self.view_is) c.requires.frame in
+    record {
+      work = written_work _ _ _ _ _ _ _ _ _ q _ w lt takes at e _ c.if-changed.ensures.cells _ c.take.new.self c.if-changed.ensures.gates (taken_work _ _ _ _ _ _ _ _ _ q _ w lt takes at e);
+      lists = record {
+        readers = c.self.invariant.lists.readers;
+        here = c.self.invariant.lists.here;
+        ahead = c.self.invariant.lists.ahead;
+      };
+      orders = c.self.invariant.orders;
+    }
+
+pub returns-then-changed-clause-fewer : goal.returns-then-changed-clause-fewer
+returns-then-changed-clause-fewer g c =
+    let w = c.self.invariant.work in
+    let takes = c.in_ok-variable.ensures c.self.inside.net.levels w.buckets in
+    let (q, at, e) = c.in_ok-gate.ensures.found in
+    let lt = subst (λ (s : EngineState). c.args.frame < length s.pair.rows) (sym c.self.view_is) c.requires.frame in
+    rw (← c.self.view_is)
+    (waiting_less c.self.inside.net.levels c.self.inside.pending.buckets.marks.items c.link_all.new.self.marks.items c.args.level _
+    w.buckets.chained.marks_size (linked_less _ _ _ _ _ _ _ _ _ q _ w lt takes at e c.list-readers.result.now c.list-readers.ensures c.link_all.new.self c.link_all.ensures.buckets c.link_all.ensures.links) (level_is _ _ _ _ _ _ _ _ _ q _ w lt takes at e) (waited _ _ _ _ _ _ _ _ _ q _ w lt takes at e) (linked_no_more _ _ _ _ _ _ _ _ _ q _ w lt takes at e c.list-readers.result.now c.list-readers.ensures c.link_all.new.self c.link_all.ensures.buckets c.link_all.ensures.links))
+
+pub returns-else-changed-clause-fewer : goal.returns-else-changed-clause-fewer
+returns-else-changed-clause-fewer g c =
+    let w = c.self.invariant.work in
+    let takes = c.in_ok-variable.ensures c.self.inside.net.levels w.buckets in
+    let (q, at, e) = c.in_ok-gate.ensures.found in
+    let lt = subst (λ (s : EngineState). c.args.frame < length s.pair.rows) (sym c.self.view_is) c.requires.frame in
+    rw (← c.self.view_is)
+    (waiting_less c.self.inside.net.levels c.self.inside.pending.buckets.marks.items c.take.new.self.marks.items c.args.level _
+    w.buckets.chained.marks_size (λ u stands k. waits_less _ _ _ _ _ _ _ _ _ q _ w lt takes at e u k) (level_is _ _ _ _ _ _ _ _ _ q _ w lt takes at e) (waited _ _ _ _ _ _ _ _ _ q _ w lt takes at e) (waits_no_more _ _ _ _ _ _ _ _ _ q _ w lt takes at e))
+
+pub returns-then-changed-clause-settles : goal.returns-then-changed-clause-settles
+returns-then-changed-clause-settles g c =
+    let w = c.self.invariant.work in
+    let takes = c.in_ok-variable.ensures c.self.inside.net.levels w.buckets in
+    let (q, at, e) = c.in_ok-gate.ensures.found in
+    let lt = subst (λ (s : EngineState). c.args.frame < length s.pair.rows) (sym c.self.view_is) c.requires.frame in
+    rw (← c.self.view_is, c.if-changed.true) (record {
+      row = record {
+        pair = refl;
+        levels = refl;
+        others = other_rows _ _ _ _ _ _ _ _ _ q _ w lt takes at e _ c.if-changed.ensures.cells;
+        hands = hands_changed _ _ _ _ _ _ _ _ _ q _ w lt takes at e _ c.if-changed.ensures.cells c.self.inside.pending.ahead c.list_all.new.list (c.list_all.ensures.lists c.self.inside.plan.circuit
+            c.self.invariant.lists.readers (taken_in_range _ _ _ _ _ _ _ _ _ q _ w lt takes at e));
+        evaluations = c.if-changed.ensures.count;
+      };
+      here = refl;
+      few = omega arith;
+      sweeps = sweeps_changed _ _ _ _ _ _ _ _ _ q _ w lt takes at e _ c.if-changed.ensures.cells c.list-readers.result.now c.list-readers.ensures c.link_all.new.self
+          c.link_all.ensures.links (c.if-changed.ensures.changed.0 refl);
+    })
+
+pub returns-else-changed-clause-settles : goal.returns-else-changed-clause-settles
+returns-else-changed-clause-settles g c =
+    let w = c.self.invariant.work in
+    let takes = c.in_ok-variable.ensures c.self.inside.net.levels w.buckets in
+    let (q, at, e) = c.in_ok-gate.ensures.found in
+    let lt = subst (λ (s : EngineState). c.args.frame < length s.pair.rows) (sym c.self.view_is) c.requires.frame in
+    rw (← c.self.view_is, c.if-changed.false) (record {
+      row = record {
+        pair = refl;
+        levels = refl;
+        others = other_rows _ _ _ _ _ _ _ _ _ q _ w lt takes at e _ c.if-changed.ensures.cells;
+        hands = hands_unchanged _ _ _ _ _ _ _ _ _ q _ w lt takes at e _ c.if-changed.ensures.cells (λ k. false≢true (c.if-changed.ensures.changed.1 k)) _;
+        evaluations = c.if-changed.ensures.count;
+      };
+      here = refl;
+      few = omega arith;
+      sweeps = sweeps_same _ _ _ _ _ _ _ _ _ q _ w lt takes at e _ c.if-changed.ensures.cells (λ k. false≢true (c.if-changed.ensures.changed.1 k));
+    })

@@ -1,0 +1,60 @@
+-- When the cells of a grid are the values of a pair (our own choice).
+use Rattle.std.specs.Prelude.{◌≡◌, ℕ, suc, ◌+◌, ◌<◌, ◌≤◌, Bool, true, false, List, length, Some, slice_get}
+use Rattle.aig_parts.specs.declared.ternary.Tern.{Tern}
+use Rattle.aig_parts.specs.declared.ternary.Tern.TheVariants.{Zero}
+use Rattle.aig_parts.specs.declared.raw.Raw.{Raw}
+use Rattle.aig_base.specs.Sections.{IsGate}
+use Rattle.aig_base.specs.Value.{start_of}
+use Rattle.aig_sim.specs.state.Frame as frame
+use Rattle.aig_sim.specs.InputRows.{row_at}
+use Rattle.aig_bench.specs.declared.plan.Plan.{Plan}
+use Rattle.aig_bench.specs.Pair.{Pair}
+use Rattle.aig_bench.specs.Plan.{IsPlan, pair_of}
+
+-- a flag for each variable, true for those of gates
+pub record AreGateFlags (raw : Raw) (flags : List Bool) : Type 0 where
+  pub size : length flags ≡ raw.max_var + 1
+  pub gates : (v : ℕ) → v ≤ raw.max_var → IsGate raw v → slice_get flags v ≡ Some true
+  pub others : (v : ℕ) → v ≤ raw.max_var → (IsGate raw v → ⊥) → slice_get flags v ≡ Some false
+
+-- so many rows of cells, a cell a variable, with 0 at variable 0
+pub record AreRows (raw : Raw) (frames : ℕ) (cells : List (List Tern)) : Type 0 where
+  pub frames_are : length cells ≡ frames
+  pub widths : (t : ℕ) → t < frames → length (row_at cells t) ≡ raw.max_var + 1
+  pub constants : (t : ℕ) → t < frames → slice_get (row_at cells t) 0 ≡ Some Zero
+
+-- a grid for the plan, whatever its values
+pub record IsLaidOut (plan : Plan) (flags : List Bool) (cells : List (List Tern)) : Type 0 where
+  pub flags_are : AreGateFlags plan.circuit flags
+  pub rows_are : AreRows plan.circuit (length plan.stimulus.rows) cells
+
+-- in the row of a frame the cell of the variable is its value
+abbrev pub Holds : Pair → ℕ → List Tern → ℕ → Type 0
+Holds p t row v = frame.Holds p.circuit (start_of p.circuit) p.rows t row v
+
+abbrev pub HoldsInputs : Pair → ℕ → List Tern → Type 0
+HoldsInputs p t row = frame.HoldsInputs p.circuit (start_of p.circuit) p.rows t row
+
+abbrev pub HoldsLatches : Pair → ℕ → List Tern → Type 0
+HoldsLatches p t row = frame.HoldsLatches p.circuit (start_of p.circuit) p.rows t row
+
+abbrev pub HoldsSources : Pair → ℕ → List Tern → Type 0
+HoldsSources p t row = frame.HoldsSources p.circuit (start_of p.circuit) p.rows t row
+
+-- the row of a frame has the value of each variable that is defined
+abbrev pub IsCurrentRow : Pair → ℕ → List Tern → Type 0
+IsCurrentRow p t row = frame.HoldsAll p.circuit (start_of p.circuit) p.rows t row
+
+-- so do the rows of the first n frames
+pub record AreCurrent (p : Pair) (n : ℕ) (cells : List (List Tern)) : Type 0 where
+  pub each : (t : ℕ) → t < n → IsCurrentRow p t (row_at cells t)
+
+-- what the latches at the next frame rest on
+abbrev pub IsCurrentBefore : Pair → ℕ → List (List Tern) → Type 0
+IsCurrentBefore p t cells = (u : ℕ) → t ≡ suc u → IsCurrentRow p u (row_at cells u)
+
+-- what a bench keeps: a grid for its plan, with the values of all frames
+pub record IsBench (plan : Plan) (flags : List Bool) (cells : List (List Tern)) : Type 0 where
+  pub plan_is : IsPlan plan
+  pub laid_out : IsLaidOut plan flags cells
+  pub current : AreCurrent (pair_of plan) (length plan.stimulus.rows) cells

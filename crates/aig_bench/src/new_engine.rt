@@ -1,0 +1,99 @@
+//! A new engine: the faults of a circuit and a stimulus, and what is made of the two.
+ghost use Rattle.std.specs.Prelude.{◌≡◌, ◌≢◌, ◌+◌, ◌*◌, ◌<◌, ◌↔◌, length, IsErrOf, IfOk, OnOk};
+ghost use Rattle.aig_base.specs.Circuit.{IsCircuit};
+ghost use Rattle.aig_base.specs.Limits.{cell_limit};
+ghost use Rattle.aig_bench.specs.Plan.{IsPlan, pair_of};
+ghost use Rattle.aig_bench.specs.state.Current.{AreCurrent, IsLaidOut};
+ghost use Rattle.aig_bench.specs.state.Engine.{IsSettled};
+ghost use Rattle.aig_bench.specs.state.Order.{IsKnown, Orders};
+ghost use Rattle.aig_bench.specs.state.Pending.{IsNet};
+
+use crate::allowed::CELLS;
+use crate::bench_fault::BenchFault;
+use crate::engine::Engine;
+use crate::fill::fill;
+use crate::latches::LatchReaders;
+use crate::layout::lay_out;
+use crate::order::Order;
+use crate::plan::Plan;
+use crate::settle::{Net, make_pending};
+use aig_base::{Circuit, Levels, Memory, Readers};
+use aig_sim::{Grid, Stimulus};
+use std::alloc::Global;
+
+/// The number of cells of so many frames.
+pub fn cells(circuit: &Circuit, frames: u32) -> u64
+    ensures count { result ≡ (circuit.now.max_var + 1) * frames }
+    ensures circuit { IsCircuit circuit.now }
+{
+    (u64::from(circuit.max_var()) + 1) * u64::from(frames)
+}
+
+/// The first fault of the sizes: the stimulus's width, then the number of cells.
+pub fn check_sizes(circuit: &Circuit, stimulus: &Stimulus) -> Result<(), BenchFault>
+    ensures width { IsErrOf result BenchFault.Width ↔ (stimulus.now.width ≢ length circuit.now.inputs) }
+    ensures limit { IsErrOf result BenchFault.Limit ↔ (stimulus.now.width ≡ length circuit.now.inputs)
+        × (cell_limit < (circuit.now.max_var + 1) * length stimulus.now.rows) }
+    ensures memory { IsErrOf result BenchFault.Memory → ⊥ }
+    ensures plan { OnOk result (IsPlan (record { circuit = circuit.now; stimulus = stimulus.now })) }
+{
+    if stimulus.width() as usize != circuit.inputs().len() {
+        return Err(BenchFault::Width);
+    }
+    if cells(circuit, stimulus.frames()) > CELLS {
+        return Err(BenchFault::Limit);
+    }
+    Ok(())
+}
+
+/// Who reads whom in a circuit, and its levels.
+fn make_net(alloc: Global, circuit: &Circuit) -> Result<Net, Memory>
+    ensures { IfOk result (IsNet circuit.now) }
+{
+    let levels = Levels::of(alloc, circuit)?;
+    let readers = Readers::of(alloc, circuit)?;
+    let latches = LatchReaders::of(alloc, circuit)?;
+    Ok(Net {
+        levels,
+        readers,
+        latches,
+    })
+}
+
+/// Writes the values of all frames of a new grid.
+fn fill_all<G: Grid>(grid: &mut G, plan: &Plan, order: &Order)
+    requires plan { IsPlan plan.now }
+    requires grid { IsLaidOut plan.now (G.gate_flags grid.old) (G.cells grid.old) }
+    requires orders { Orders plan.now.circuit order.now }
+    requires known { IsKnown order.now }
+    ensures grid { IsLaidOut plan.now (G.gate_flags grid.new) (G.cells grid.new) }
+    ensures current { AreCurrent (pair_of plan.now) (length plan.now.stimulus.rows) (G.cells grid.new) }
+    ensures count { G.evaluations grid.new
+        ≡ G.evaluations grid.old + length plan.now.circuit.gates * length plan.now.stimulus.rows }
+{
+    for frame in 0..plan.stimulus.frames() {
+        fill(grid, plan, order, frame);
+    }
+}
+
+/// An engine for a plan, where nothing is to be looked at.
+pub fn make<G: Grid>(alloc: Global, plan: Plan) -> Result<Engine<G>, Memory>
+    requires { IsPlan plan }
+    ensures pair { IfOk result (λ engine. engine.pair ≡ pair_of plan) }
+    ensures settled { IfOk result IsSettled }
+    ensures evaluations { IfOk result (λ engine.
+        engine.evaluations ≡ length plan.circuit.gates * length plan.stimulus.rows) }
+{
+    let net = make_net(alloc, &plan.circuit)?;
+    let order = Order::of(alloc, &plan.circuit, &net.levels)?;
+    let pending = make_pending(alloc, &plan, &net)?;
+    let mut grid = lay_out(alloc, &plan)?;
+    fill_all(&mut grid, &plan, &order);
+    Ok(Engine {
+        plan,
+        net,
+        pending,
+        order,
+        grid,
+    })
+}

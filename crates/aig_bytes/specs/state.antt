@@ -1,0 +1,2 @@
+-- What proofs alone need: the functions' tables, walks and steps. No contract of an exported function reaches them.
+pub mod Gathered

@@ -1,0 +1,49 @@
+//! The value change dump of a run, from bytes to bytes.
+ghost use Rattle.std.specs.Prelude.{◌≡◌, ℕ, List, Err};
+ghost use Rattle.aig_engines.specs.Converted.{EndsFrom, reads_failed};
+ghost use Rattle.aig_engines.specs.Engines.{WaveEnds};
+ghost use Rattle.aig_engines.specs.Run.{IsFileOf};
+
+use crate::run_fault::RunFault;
+use aig_base::{Circuit, Fault, Read, Write};
+use aig_format::read_from;
+use aig_sim::dump;
+use std::alloc::Global;
+
+/// Dumps the run of a circuit on a stimulus.
+fn run_dump<R: Read, W: Write>(
+    alloc: Global,
+    circuit: &Circuit,
+    stimulus: &mut R,
+    out: &mut W,
+) -> Result<u64, RunFault>
+    ensures ends { (file : List ℕ) → IsFileOf file circuit.now →
+        WaveEnds R.left R.failures W.written W.failures stimulus.old stimulus.new out.old out.new file result }
+    ensures read { reads_failed result ≡ 0 }
+{
+    match dump(alloc, circuit, stimulus, out) {
+        Ok(frames) => Ok(frames),
+        Err(fault) => Err(RunFault::Stimulus(fault)),
+    }
+}
+
+/// Reads the circuit and writes the value change dump (IEEE 1364) of its run on a stimulus that is read row by row,
+/// from the start by its resets: for every circuit file that is accepted and every stimulus, the bytes that are
+/// written are those of the dump. It answers how many frames there were (`u64::MAX` for more). Where a read of the
+/// circuit fails, no stimulus was read.
+pub fn wave_from<C: Read, R: Read, W: Write>(
+    alloc: Global,
+    circuit: &mut C,
+    stimulus: &mut R,
+    out: &mut W,
+) -> Result<u64, RunFault>
+    ensures ends { EndsFrom C.left C.failures circuit.old circuit.new out.old out.new
+        (λ bytes. WaveEnds R.left R.failures W.written W.failures stimulus.old stimulus.new out.old out.new
+        bytes result) result }
+    ensures unread { result ≡ Err (RunFault.Circuit Fault.Io) → stimulus.new ≡ stimulus.old }
+{
+    match read_from(alloc, circuit) {
+        Ok(circuit) => run_dump(alloc, &circuit, stimulus, out),
+        Err(fault) => Err(RunFault::Circuit(fault)),
+    }
+}

@@ -1,0 +1,59 @@
+-- How a call that reads follows calls that none failed.
+use Rattle.std.proofs.Common.{◌≡◌, ◌≤◌, ℕ, List, Result, Ok, Err, sym, ◌∙◌, arith, subst}
+use Rattle.aig_parts.specs.declared.fault.Fault.{Fault}
+use Rattle.aig_format.specs.declared.source.Source.{Ghosts}
+use Rattle.aig_format.specs.Verdict.{Raises, FaultRaises}
+use Rattle.aig_format.specs.state.Meaning.{Fails, Gives}
+use Rattle.aig_format.specs.state.Reading.{Read}
+use Rattle.aig_format.specs.state.Reads.{Reads, Keeps}
+
+module _ {S : Type 0} {source : Ghosts S} where
+  pub keeps_on : {old mid new : S} → Keeps source old mid → Keeps source mid new → Keeps source old new
+  keeps_on k l = record {
+    told = λ told. l.told (k.told told);
+    reader = l.reader ∙ k.reader;
+    failures = l.failures ∙ k.failures;
+    never_more = omega (arith, l.never_more, k.never_more);
+  }
+
+  pub kept : {X Y : Type 0} {old new : S} {view : X → Y} {x : X} {read : List ℕ → Read Y}
+      → Reads source old new view (Ok x) read → Keeps source old new
+  kept r = record { told = r.told; reader = r.reader; failures = r.failures; never_more = r.never_more }
+
+  pub keeps_then : {X Y : Type 0} {old mid new : S} {view : X → Y} {x : X} {read : List ℕ → Read Y}
+      → Keeps source old mid → Reads source mid new view (Ok x) read → Keeps source old new
+  keeps_then k r = keeps_on k (kept r)
+
+  -- one more call of the source
+  pub keeps_step : {old mid new : S} → Keeps source old mid → (source.tells mid → source.tells new)
+      → source.reader new ≡ source.reader mid → source.failures new ≡ source.failures mid
+      → source.more new ≤ source.more mid → Keeps source old new
+  keeps_step k told reader failures more =
+      keeps_on k (record { told = told; reader = reader; failures = failures; never_more = more })
+
+  -- an answer that is no failed read
+  pub keeps_reads : {X Y : Type 0} {old new : S} {view : X → Y} {result : Result X Fault} {read : List ℕ → Read Y}
+      → Keeps source old new → ((n : ℕ) → Raises result n n)
+      → (source.tells old → Gives view result (source.left new) (read (source.left old)))
+      → Reads source old new view result read
+  keeps_reads {old} {result} k same bytes = record {
+    bytes = bytes;
+    told = k.told;
+    reader = k.reader;
+    failures = subst (Raises result (source.failures old)) (sym k.failures) (same (source.failures old));
+    never_more = k.never_more;
+  }
+
+  -- a call that is refused
+  pub err_reads : {X Y Z W : Type 0} {old mid new : S} {view : X → Y} {view' : Z → W} {e : Fault}
+      {read : List ℕ → Read Y} {read' : List ℕ → Read W}
+      → Keeps source old mid → Reads source mid new view (Err e) read
+      → (source.tells old → Fails e (read (source.left mid)) → Fails e (read' (source.left old)))
+      → Reads source old new view' (Err e) read'
+  err_reads {new} {e} k r bytes = record {
+    bytes = λ told. bytes told (r.bytes (k.told told));
+    told = λ told. r.told (k.told told);
+    reader = r.reader ∙ k.reader;
+    failures = subst (λ (n : ℕ). FaultRaises e n (source.failures new)) k.failures r.failures;
+    never_more = omega (arith, r.never_more, k.never_more);
+  }

@@ -1,0 +1,27 @@
+-- What the counts of a header say of the parts that are read behind it.
+use Rattle.std.specs.Prelude.{◌≡◌, ◌≢◌, ◌<◌, ◌≤◌, List, length, sum_by, All, AllPairs}
+use Rattle.std.specs.Map.{keys_of}
+use Rattle.aig_parts.specs.Formed as formed
+use Rattle.aig_parts.specs.Formed.{IsName}
+use Rattle.aig_format.specs.declared.header.Counts.{Counts}
+use Rattle.aig_format.specs.declared.section.Properties.{Properties}
+use Rattle.aig_format.specs.Spelling.{Entry}
+use Rattle.aig_format.specs.state.ReadingNames.{count_of}
+
+-- each section has as many entries as is counted
+pub record HasCounts (c : Counts) (p : Properties) : Type 0 where
+  pub outputs : length p.outputs ≡ c.outputs
+  pub bad : length p.bad ≡ c.bad
+  pub constraints : length p.constraints ≡ c.constraints
+  pub justice : length p.justice ≡ c.justice
+  pub literals : sum_by length p.justice ≤ formed.limit
+  pub fairness : length p.fairness ≡ c.fairness
+
+-- a symbol names an entry that is counted
+abbrev pub IsSymbol : Counts → Entry → Type 0
+IsSymbol c e = (e.0.1 < count_of c e.0.0) × IsName e.1
+
+-- each symbol does, and no entry is named twice
+pub record AreSymbols (c : Counts) (symbols : List Entry) : Type 0 where
+  pub entries : All (IsSymbol c) symbols
+  pub once : AllPairs (λ x y. x ≢ y) (keys_of symbols)

@@ -1,7 +1,0 @@
--- Sets of numbers by bits, 64 a word (profile).
-use Rattle.std.specs.Prelude.{◌≡◌, ℕ, ◌/◌, ◌%◌, List, slice_index}
-use Rattle.std.specs.Int.{bit_at}
-
--- the number is there: its bit is 1
-unfoldable pub HasBit : List ℕ → ℕ → Type 0
-HasBit words n = bit_at (slice_index words (n / 64)) (n % 64) ≡ 1

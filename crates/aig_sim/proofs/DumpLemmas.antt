@@ -1,0 +1,111 @@
+-- The text of a value change dump.
+use Rattle.std.proofs.Common.{◌≡◌, ◌≢◌, ℕ, zero, suc, ◌+◌, ◌/◌, ◌%◌, ◌<◌, ◌≤◌, Bool, true, false, nat_lt, List, [], ◌∷◌, ◌++◌, length, map, replicate, drop, get_or, refl, sym, ap, ◌∙◌, arith}
+use Rattle.std.specs.Prelude.{◌==◌, if◌then◌else◌, codes}
+use Rattle.std.proofs.lemmas.Bool.{le-ltb, lt-ltb, ltb-false, eqb-true}
+use Rattle.std.proofs.lemmas.List.{drop_more, drop_all}
+use Rattle.aig_parts.specs.declared.ternary.Tern.{Tern}
+use Rattle.aig_parts.specs.declared.ternary.Tern.TheVariants.{Zero, One, X}
+use Rattle.aig_sim.specs.Cells.{literal_value}
+use Rattle.aig_sim.specs.Dump.{value_line, all_lines, changed_lines}
+use Rattle.aig_sim.specs.DumpNames.{code_digits, identifier_code}
+use Rattle.aig_sim.specs.state.Dumping.{number_line, dumped_text}
+use Rattle.aig_sim.specs.StimulusText.{character}
+use Rattle.aig_sim.specs.TraceText.{literal_character}
+
+pub if_true : {A : Type 0} (b : Bool) (x y : A) → b ≡ true → (if b then x else y) ≡ x
+if_true b x y e = ap (λ (t : Bool). if t then x else y) e
+
+pub if_false : {A : Type 0} (b : Bool) (x y : A) → b ≡ false → (if b then x else y) ≡ y
+if_false b x y e = ap (λ (t : Bool). if t then x else y) e
+
+eqb_cases : (a b : ℕ) (t : Bool) → (a == b) ≡ t → a ≢ b → (a == b) ≡ false
+eqb_cases a b true e ne = absurd (ne (eqb-true a b e))
+eqb_cases a b false e ne = e
+
+pub eqb_no : (a b : ℕ) → a ≢ b → (a == b) ≡ false
+eqb_no a b ne = eqb_cases a b (a == b) refl ne
+
+-- ---- identifier codes
+digits_step : (j k n : ℕ) (b : Bool) → nat_lt n 94 ≡ b → n < suc j → n < suc k
+    → (n / 94 < j → n / 94 < k → code_digits j (n / 94) ≡ code_digits k (n / 94)) → code_digits (suc j) n ≡ code_digits (suc k) n
+unfolding code_digits
+digits_step j k n true e p q h =
+    ap (λ (ds : List ℕ). (33 + n % 94) ∷ ds)
+    (if_true (nat_lt n 94) [] (code_digits j (n / 94)) e ∙ sym (if_true (nat_lt n 94) [] (code_digits k (n / 94)) e))
+digits_step j k n false e p q h =
+    let le = ltb-false n 94 e in
+    ap (λ (ds : List ℕ). (33 + n % 94) ∷ ds)
+    (if_false (nat_lt n 94) [] (code_digits j (n / 94)) e ∙ h (omega (arith, le, p)) (omega (arith, le, q))
+    ∙ sym (if_false (nat_lt n 94) [] (code_digits k (n / 94)) e))
+
+digits_enough : (j k n : ℕ) → n < j → n < k → code_digits j n ≡ code_digits k n
+digits_enough zero k n p q = absurd (omega (arith, p))
+digits_enough (suc j) zero n p q = absurd (omega (arith, q))
+digits_enough (suc j) (suc k) n p q = digits_step j k n (nat_lt n 94) refl p q (λ a b. digits_enough j k (n / 94) a b)
+
+-- a code of one digit
+pub code_last : (n : ℕ) → n < 94 → identifier_code n ≡ (33 + n) ∷ []
+unfolding code_digits
+code_last n lt =
+    let same : n % 94 ≡ n = omega (arith, lt) in
+    let none = if_true (nat_lt n 94) [] (code_digits n (n / 94)) (lt-ltb n 94 lt) in
+    λ i. (33 + same i) ∷ none i
+
+-- a code of more
+pub code_more : (n : ℕ) → 94 ≤ n → identifier_code n ≡ (33 + n % 94) ∷ identifier_code (n / 94)
+unfolding code_digits
+code_more n le =
+    ap (λ (ds : List ℕ). (33 + n % 94) ∷ ds)
+    (if_false (nat_lt n 94) [] (code_digits n (n / 94)) (le-ltb n 94 le)
+    ∙ digits_enough n (suc (n / 94)) (n / 94) (omega (arith, le)) (omega arith))
+
+-- ---- values
+no_zero : (w : Tern) → (0 == character w) ≡ false
+no_zero Zero = refl
+no_zero One = refl
+no_zero X = refl
+
+-- where no signal has a character, all change
+pub changed_first : (n : ℕ) (cells : List Tern) (ls : List ℕ)
+    → changed_lines n (replicate (length ls) 0) (map (literal_character cells) ls)
+    ≡ all_lines n (map (literal_character cells) ls)
+unfolding changed_lines all_lines
+changed_first n cells [] = refl
+changed_first n cells (l ∷ ls) =
+    let line = value_line n (literal_character cells l) in
+    let first = if_false (0 == literal_character cells l) [] line (no_zero (literal_value cells l)) in
+    λ i. first i ++ changed_first (suc n) cells ls i
+
+-- the lines from a place on
+pub changed_from : (bs cs : List ℕ) (i : ℕ) → i < length cs → length bs ≡ length cs
+    → changed_lines i (drop i bs) (drop i cs)
+    ≡ (if get_or bs i 0 == get_or cs i 0 then [] else value_line i (get_or cs i 0))
+    ++ changed_lines (i + 1) (drop (i + 1) bs) (drop (i + 1) cs)
+unfolding changed_lines
+changed_from bs cs i lt size =
+    let here : drop i bs ≡ get_or bs i 0 ∷ drop (i + 1) bs = drop_more bs i 0 (omega (arith, lt, size)) in
+    let there : drop i cs ≡ get_or cs i 0 ∷ drop (i + 1) cs = drop_more cs i 0 lt in
+    let next : suc i ≡ i + 1 = omega arith in
+    (λ j. changed_lines i (here j) (there j))
+    ∙ (λ j. (if get_or bs i 0 == get_or cs i 0 then [] else value_line i (get_or cs i 0))
+    ++ changed_lines (next j) (drop (i + 1) bs) (drop (i + 1) cs))
+
+-- behind the last place there are none
+pub changed_none : (bs cs : List ℕ) (i : ℕ) → length cs ≤ i → length bs ≡ length cs → changed_lines i (drop i bs) (drop i cs) ≡ []
+unfolding changed_lines
+changed_none bs cs i le size =
+    ap (λ (xs : List ℕ). changed_lines i xs (drop i cs)) (drop_all i bs (omega (arith, le, size)))
+
+-- ---- frames
+pub first_frame : (t : ℕ) (bs cs : List ℕ) → t ≤ 0
+    → number_line t ++ (codes "$dumpvars\n" ++ (changed_lines 0 bs cs ++ codes "$end\n")) ≡ dumped_text t bs cs
+first_frame zero bs cs le = refl
+first_frame (suc t) bs cs le = absurd (omega (arith, le))
+
+pub later_frame : (t : ℕ) (bs cs : List ℕ) → 0 < t → number_line t ++ changed_lines 0 bs cs ≡ dumped_text t bs cs
+later_frame zero bs cs lt = absurd (omega (arith, lt))
+later_frame (suc t) bs cs lt = refl
+
+pub frame_begins : (t : ℕ) (bs cs : List ℕ) → (rest : List ℕ) × (number_line t ++ rest ≡ dumped_text t bs cs)
+frame_begins zero bs cs = (codes "$dumpvars\n" ++ (changed_lines 0 bs cs ++ codes "$end\n"), refl)
+frame_begins (suc t) bs cs = (changed_lines 0 bs cs, refl)

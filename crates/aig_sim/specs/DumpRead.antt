@@ -1,0 +1,50 @@
+-- What a viewer sees of a signal in a value change dump (IEEE 1364, value change dump; that it is read line by line is our
+-- own choice).
+use Rattle.std.specs.Prelude.{◌≡◌, ℕ, ◌<◌, Bool, ◌&&◌, ◌||◌, ◌==◌, nat_le, if◌then◌else◌, List, [], ◌∷◌, ◌++◌, slice_get, Option, Some, None}
+use Rattle.std.specs.Str.{bytes_eq}
+use Rattle.std.specs.Str.Parse.{digits_value}
+use Rattle.aig_parts.specs.declared.ternary.Tern.{Tern}
+use Rattle.aig_parts.specs.declared.raw.Raw.{Raw}
+use Rattle.aig_base.specs.Value.{Value}
+use Rattle.aig_sim.specs.StimulusText.{character}
+use Rattle.aig_sim.specs.Dump.{signals}
+use Rattle.aig_sim.specs.DumpNames.{identifier_code}
+
+-- the lines of a text, of which the first one has begun; LF ends a line, and what no LF ends is none
+unfoldable pub lines_behind : List ℕ → List ℕ → List (List ℕ)
+lines_behind line [] = []
+lines_behind line (b ∷ text) = if b == 10 then line ∷ lines_behind [] text else lines_behind (line ++ b ∷ []) text
+
+abbrev pub lines : List ℕ → List (List ℕ)
+lines text = lines_behind [] text
+
+-- the time behind a line, where it was `now` before: `#` and a decimal number tell it
+abbrev pub time_behind : ℕ → List ℕ → ℕ
+time_behind now [] = now
+time_behind now (b ∷ rest) = if b == 35 then digits_value 10 rest else now
+
+-- `0`, `1` or `x`
+abbrev pub is_value : ℕ → Bool
+is_value b = b == 48 || (b == 49 || b == 120)
+
+-- what a look at time t sees of a code behind a line, where it saw `value` before: a value and the code are its new value,
+-- unless it is later than t
+abbrev pub value_behind : List ℕ → ℕ → ℕ → Option ℕ → List ℕ → Option ℕ
+value_behind code t now value [] = value
+value_behind code t now value (b ∷ rest) =
+    if is_value b && (bytes_eq rest code && nat_le now t) then Some b else value
+
+-- the same behind these lines; those that begin with `$`, and all others, tell neither time nor value
+unfoldable pub seen : List ℕ → ℕ → ℕ → Option ℕ → List (List ℕ) → Option ℕ
+seen code t now value [] = value
+seen code t now value (line ∷ more) =
+    seen code t (time_behind now line) (value_behind code t now value line) more
+
+-- the last value that a text gives a code at a time at most t
+abbrev pub read_value : List ℕ → List ℕ → ℕ → Option ℕ
+read_value text code t = seen code t 0 None (lines text)
+
+-- at each time below k a look at each signal sees its value at that frame
+abbrev pub ShowsFrames : Raw → List Tern → List (List Tern) → ℕ → List ℕ → Type 0
+ShowsFrames raw start rows k text = (t n l : ℕ) → t < k → slice_get (signals raw) n ≡ Some l
+    → (w : Tern) × Value raw start rows t l w × (read_value text (identifier_code n) t ≡ Some (character w))

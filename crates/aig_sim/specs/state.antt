@@ -1,0 +1,9 @@
+-- What proofs alone need: the functions' tables, walks and steps. No contract of an exported function reaches them.
+pub mod Checking
+pub mod Codes
+pub mod Dumping
+pub mod Frame
+pub mod Machine
+pub mod Padded
+pub mod Running
+pub mod Words

@@ -1,0 +1,20 @@
+-- Values in two bits.
+use Rattle.std.specs.Prelude.{◌≡◌, ℕ, zero, suc}
+use Rattle.aig_parts.specs.declared.ternary.Tern.{Tern}
+use Rattle.aig_parts.specs.declared.ternary.Tern.TheVariants.{Zero, One, X}
+
+-- the bits of a value: 00, 11, 01
+abbrev pub bits_of : Tern → ℕ
+bits_of Zero = 0
+bits_of One = 3
+bits_of X = 1
+
+-- the value that has the bits
+abbrev pub value_of : ℕ → Tern
+value_of zero = Zero
+value_of (suc zero) = X
+value_of (suc (suc n)) = One
+
+-- the bits are those of a value: not 10
+abbrev pub IsCode : ℕ → Type 0
+IsCode bits = bits_of (value_of bits) ≡ bits

@@ -1,0 +1,141 @@
+//! Numbers, identifier codes and values in a value change dump.
+ghost use Rattle.std.specs.Prelude.{◌≡◌, ◌<◌, ◌^◌, ◌==◌, if◌then◌else◌, [], length, decimal};
+ghost use Rattle.aig_bytes.specs.Bytes.{Writes};
+ghost use Rattle.aig_bytes.specs.state.Gathered.{Gathers};
+ghost use Rattle.aig_sim.specs.Dump.{value_line, changed_lines};
+ghost use Rattle.aig_sim.specs.DumpNames.{identifier_code};
+ghost use Rattle.aig_sim.specs.state.Dumping.{number_line, dumped_text};
+
+use crate::trace_block::TraceBlock;
+use aig_base::{Io, Write};
+use itoa::Buffer;
+
+/// How many bytes serve as digits of identifier codes, from `!` to `~`.
+const BASE: u32 = 94;
+
+/// Puts a number's decimal digits.
+pub fn put_number<W: Write>(out: &mut W, block: &mut TraceBlock, number: u64) -> Result<(), Io>
+    ensures { Gathers W.written W.failures out.old out.new block.old block.new (decimal number) result }
+{
+    let mut buffer = Buffer::new();
+    block.put_all(out, buffer.format(number).as_bytes())
+}
+
+/// Puts the identifier code of a signal.
+pub fn put_code<W: Write>(out: &mut W, block: &mut TraceBlock, signal: u32) -> Result<(), Io>
+    ensures { Gathers W.written W.failures out.old out.new block.old block.new (identifier_code signal) result }
+{
+    let mut rest = signal;
+    while rest >= BASE {
+        block.put(out, b'!' + (rest % BASE) as u8)?;
+        rest /= BASE;
+    }
+    block.put(out, b'!' + rest as u8)
+}
+
+// Puts the line of a time.
+fn put_time<W: Write>(out: &mut W, block: &mut TraceBlock, time: u64) -> Result<(), Io>
+    ensures { Gathers W.written W.failures out.old out.new block.old block.new (number_line time) result }
+{
+    block.put(out, b'#')?;
+    put_number(out, block, time)?;
+    block.put(out, b'\n')
+}
+
+// Puts the line that gives a signal a character.
+fn put_value<W: Write>(
+    out: &mut W,
+    block: &mut TraceBlock,
+    signal: u32,
+    character: u8,
+) -> Result<(), Io>
+    ensures { Gathers W.written W.failures out.old out.new block.old block.new (value_line signal character) result }
+{
+    block.put(out, character)?;
+    put_code(out, block, signal)?;
+    block.put(out, b'\n')
+}
+
+// Puts the line of a signal whose character is no longer the one before.
+fn put_change<W: Write>(
+    out: &mut W,
+    block: &mut TraceBlock,
+    signal: u32,
+    before: u8,
+    after: u8,
+) -> Result<(), Io>
+    ensures { Gathers W.written W.failures out.old out.new block.old block.new
+        (if before == after then [] else value_line signal after) result }
+{
+    if before == after {
+        return Ok(());
+    }
+    put_value(out, block, signal, after)
+}
+
+// Puts the lines of all signals whose characters are no longer those before.
+fn put_changes<W: Write>(
+    out: &mut W,
+    block: &mut TraceBlock,
+    before: &[u8],
+    after: &[u8],
+) -> Result<(), Io>
+    requires size { length before.now ≡ length after.now }
+    requires few { length after.now < 2 ^ 32 }
+    ensures { Gathers W.written W.failures out.old out.new block.old block.new
+        (changed_lines 0 before.now after.now) result }
+{
+    for signal in 0..after.len() {
+        put_change(out, block, signal as u32, before[signal], after[signal])?;
+    }
+    Ok(())
+}
+
+// Puts the text of a frame by the characters of the signals before it and in it.
+fn put_frame<W: Write>(
+    out: &mut W,
+    block: &mut TraceBlock,
+    frame: u64,
+    before: &[u8],
+    after: &[u8],
+) -> Result<(), Io>
+    requires size { length before.now ≡ length after.now }
+    requires few { length after.now < 2 ^ 32 }
+    ensures { Gathers W.written W.failures out.old out.new block.old block.new
+        (dumped_text frame before.now after.now) result }
+{
+    put_time(out, block, frame)?;
+    if frame > 0 {
+        return put_changes(out, block, before, after);
+    }
+    block.put_all(out, b"$dumpvars\n")?;
+    put_changes(out, block, before, after)?;
+    block.put_all(out, b"$end\n")
+}
+
+/// Writes the text of a frame by the characters of the signals before it, of which there are none before frame 0, and
+/// in it. The block is room for it, whatever it holds.
+pub fn write_frame<W: Write>(
+    out: &mut W,
+    block: &mut TraceBlock,
+    frame: u64,
+    before: &[u8],
+    after: &[u8],
+) -> Result<(), Io>
+    requires size { length before.now ≡ length after.now }
+    requires few { length after.now < 2 ^ 32 }
+    ensures { Writes W.written W.failures out.old out.new (dumped_text frame before.now after.now) result }
+{
+    block.clear();
+    put_frame(out, block, frame, before, after)?;
+    block.hand_on(out)
+}
+
+/// Writes the line of a time.
+pub fn write_time<W: Write>(out: &mut W, time: u64) -> Result<(), Io>
+    ensures { Writes W.written W.failures out.old out.new (number_line time) result }
+{
+    let mut block = TraceBlock::new();
+    put_time(out, &mut block, time)?;
+    block.hand_on(out)
+}

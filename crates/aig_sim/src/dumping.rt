@@ -1,0 +1,49 @@
+//! Dumps of a simulation.
+ghost use Rattle.std.specs.Prelude.{◌≡◌, ◌++◌, [], IfErr};
+ghost use Rattle.aig_bytes.specs.Bytes.{Writes};
+ghost use Rattle.aig_sim.specs.Dumped.{Dumps};
+ghost use Rattle.aig_sim.specs.state.Dumping.{ending};
+
+use crate::dump_header::write_header;
+use crate::dump_recorder::DumpRecorder;
+use crate::dump_text::write_time;
+use crate::simulation::Simulation;
+use crate::stimulus_fault::StimFault;
+use aig_base::{Circuit, Io, Read, Write};
+use std::alloc::Global;
+
+// Writes the end behind so many frames.
+fn write_end<W: Write>(out: &mut W, frames: u64) -> Result<(), Io>
+    ensures { Writes W.written W.failures out.old out.new (ending frames) result }
+{
+    if frames == 0 {
+        return Ok(());
+    }
+    write_time(out, frames)
+}
+
+/// Reads rows to the end, writes a value change dump of their frames (IEEE 1364), and answers how many there were
+/// (`u64::MAX` for more). The header goes out before the first read. It keeps what `simulate` keeps, and for each
+/// signal its literal and two characters, all reserved before the header is written; there is no limit on frames. It
+/// flushes before each read. At a fault in line n the frames of the n - 1 rows before it are written, without the line
+/// that ends a dump; where memory is wanting, nothing was read or written.
+pub fn dump<R: Read, W: Write>(
+    alloc: Global,
+    circuit: &Circuit,
+    reader: &mut R,
+    out: &mut W,
+) -> Result<u64, StimFault>
+    ensures dumped { Dumps circuit.now
+        (record { left = R.left reader.old; reads = R.failures reader.old; writes = W.failures out.old })
+        (record { left = R.left reader.new; reads = R.failures reader.new; writes = W.failures out.new })
+        (W.written out.old) (W.written out.new) result }
+    ensures memory { IfErr result (λ fault. fault ≡ StimFault.Memory → (reader.new ≡ reader.old)
+        × (out.new ≡ out.old)) }
+{
+    let recorder = DumpRecorder::new(alloc, circuit)?;
+    let mut simulation = Simulation::new(alloc, circuit, recorder)?;
+    write_header(out, circuit)?;
+    let frames = simulation.run(reader, out)?;
+    write_end(out, frames)?;
+    Ok(frames)
+}
