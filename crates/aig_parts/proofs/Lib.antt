@@ -2,3 +2,4 @@ pub mod BitLemmas
 pub mod NamedLemmas
 pub mod SymbolKeys
 pub mod SymbolLemmas
+pub mod TableLemmas

@@ -1,9 +1,8 @@
 -- Names by their places in one list of bytes.
 use Rattle.std.proofs.Common.{◌≡◌, ◌≢◌, ◌⊎◌, ◌↔◌, inl, inr, ℕ, ◌+◌, ◌-◌, ◌<◌, ◌≤◌, List, [], ◌∷◌, ◌++◌, length, take, drop, get_or, Contains, AllPairs, refl, sym, ap, subst, ◌∙◌, arith, length-append}
-use Rattle.std.specs.Prelude.{All, Some, slice_get, slice_range, option_map}
-use Rattle.std.specs.Map.{keys_of, lookup}
-use Rattle.std.proofs.lemmas.Map.Entries.{place_from_lookup}
-use Rattle.std.proofs.lemmas.Option.{slice_get-map, slice_get_within, get_or_from_slice_get}
+use Rattle.std.specs.Prelude.{All, slice_range, Option, Some, None, IfSome, IfNone, IsSome}
+use Rattle.std.specs.Map.{keys_of}
+use Rattle.std.proofs.lemmas.Bool.{false≢true}
 use Rattle.std.proofs.lemmas.List.{map-append, length-map, length-take-le, take_more, take-map, get_or-take, get_or-map, take-append-le, drop-append-le, length-drop, drop_at}
 use Rattle.std.proofs.Math.Seq.{take-length}
 use Rattle.std.proofs.lemmas.List.Elements.{All-nil, All-head, All-contains, All-tail, All-push, All-weaker, Contains-get_or, Contains-append_left, Contains-push, Contains-push_cases}
@@ -11,7 +10,7 @@ use Rattle.std.proofs.lemmas.List.Quantifiers.{all_pairs_push}
 use Rattle.aig_parts.specs.declared.symbol_places.Place.{Place}
 use Rattle.indexmap.specs.IndexMap.{IndexMap, insert_entry}
 use Rattle.aig_parts.proofs.NamedLemmas.{no_page}
-use Rattle.aig_parts.proofs.SymbolKeys.{key_eq, key_same, insert_at_end}
+use Rattle.aig_parts.proofs.SymbolKeys.{key_eq, insert_at_end}
 use Rattle.aig_parts.specs.SymbolPlaces.{Key, symbol_in, symbols_in}
 use Rattle.aig_parts.specs.state.NamedEntries.{IsPlaceIn, IsMarked, AreListed}
 
@@ -66,19 +65,34 @@ module _ (text name text' : List ℕ) (es : List (Key × Place)) (k : Key) (p : 
       (subst (λ (t : List ℕ). All (IsPlaceIn t) es) (sym is) (places_stay text name es within))
       (omega (arith, start, end, n, m), omega (arith, end))
 
--- the name that a look-up finds
-pub name_found : (text : List ℕ) (es : List (Key × Place)) (k : Key) (p : Place) → lookup (key_eq k) es ≡ Some p
+-- the name at a place that was found
+pub name_found : (text : List ℕ) (es : List (Key × Place)) (k : Key) (p : Place) → Contains es (k, p)
     → All (IsPlaceIn text) es → IsPlaceIn text (k, p) × Contains (symbols_in text es) (k, slice_range text p.start p.end)
 name_found text es k p found within =
-    let (i, k', at, same) = place_from_lookup (key_eq k) es p found in
-    let is : k' ≡ k = sym ((key_same k k').0 same) in
-    let here : slice_get es i ≡ Some (k, p) = at ∙ ap (λ (x : Key). Some (x, p)) is in
-    let named : slice_get (symbols_in text es) i ≡ Some (k, slice_range text p.start p.end) =
-    slice_get-map (symbol_in text) es i ∙ ap (option_map (symbol_in text)) here in (
-      All-contains (IsPlaceIn text) es (k, p) within
-          (i, slice_get_within es i (k, p) here, get_or_from_slice_get es i (k, p) (k, p) here),
-      (i, slice_get_within (symbols_in text es) i _ named, get_or_from_slice_get (symbols_in text es) i _ _ named),
+    let (i, lt, is) = found in (
+      All-contains (IsPlaceIn text) es (k, p) within found,
+      (
+        i,
+        omega (arith, lt, length-map es (symbol_in text)),
+        get_or-map (symbol_in text) es i (k, p) _ lt ∙ ap (symbol_in text) is,
+      ),
     )
+
+key_of_entry : (es : List (Key × Place)) (k : Key) (p : Place) → Contains es (k, p) → Contains (keys_of es) k
+key_of_entry es k p (i, lt, is) = (
+  i,
+  omega (arith, lt, length-map es (λ (x : Key × Place). x.0)),
+  get_or-map (λ (x : Key × Place). x.0) es i (k, p) k lt ∙ ap (λ (x : Key × Place). x.0) is,
+)
+
+-- an entry is there where a place is found
+pub key_found : (o : Option Place) (text : List ℕ) (es : List (Key × Place)) (k : Key)
+    → IfSome o (λ p. Contains es (k, p)) → IfNone o (Contains (keys_of es) k → ⊥)
+    → IsSome o ↔ Contains (keys_of (symbols_in text es)) k
+key_found None text es k some none =
+    (λ h. absurd (false≢true h), λ h. absurd (none (subst (λ (ks : List Key). Contains ks k) (keys_in text es) h)))
+key_found (Some p) text es k some none =
+    (λ h. subst (λ (ks : List Key). Contains ks k) (sym (keys_in text es)) (key_of_entry es k p some), λ h. refl)
 
 -- ---- a table of entries
 

@@ -29,7 +29,8 @@ impl Model for NamedEntries {
     ghost view = { λ a. a.pages.items };
 }
 
-fn section_number(kind: Kind) -> usize
+/// The number of a section.
+pub(crate) fn section_number(kind: Kind) -> usize
     ensures number { result ≡ section_number kind }
     ensures few { result < 7 }
 {

@@ -71,6 +71,6 @@ impl SymbolList {
             entries,
             text,
         } = self;
-        Symbols::of_entries(*entries.allocator(), entries.as_slice(), text)
+        Symbols::of_entries(entries, text)
     }
 }

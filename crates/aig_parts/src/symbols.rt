@@ -9,11 +9,9 @@ ghost use Rattle.aig_parts.specs.SymbolPlaces.{Key, symbols_in};
 ghost use Rattle.aig_parts.specs.state.NamedEntries.{IsPlaceIn};
 
 use crate::list::Bytes;
-use crate::symbol_hash::{SymbolHash, mix};
 use crate::symbol_places::{Place, name_at, put_name};
-use indexmap::{IndexMap, map};
+use crate::symbol_table::{SymbolTable, TableIter};
 use std::alloc::{AllocError, Global};
-use std::hash::DefaultHasher;
 use std::marker::Model;
 
 /// The section that a symbol names an entry of.
@@ -32,7 +30,7 @@ pub enum Kind {
 /// of bytes.
 #[derive(Drop, Debug)]
 pub struct Symbols {
-    places: IndexMap<(Kind, u32), Place, SymbolHash>,
+    places: SymbolTable,
     text: Vec<u8>,
 }
 
@@ -45,9 +43,9 @@ impl Model for Symbols {
     ghost use Rattle.aig_parts.specs.SymbolPlaces.{symbols_in};
     ghost use Rattle.aig_parts.specs.state.NamedEntries.{IsPlaceIn};
 
-    ghost view = { λ a. symbols_in a.text.items a.places.entries };
+    ghost view = { λ a. symbols_in a.text.items a.places };
 
-    ghost invariant = { λ a. All (IsPlaceIn a.text.items) a.places.entries };
+    ghost invariant = { λ a. All (IsPlaceIn a.text.items) a.places };
 }
 
 impl Symbols {
@@ -56,31 +54,24 @@ impl Symbols {
         ensures { result ≡ [] }
     {
         Symbols {
-            places: IndexMap::with_hasher(alloc, SymbolHash::fixed()),
+            places: SymbolTable::new(alloc),
             text: Vec::new(alloc),
         }
     }
 
     /// The symbols of these entries, none of which comes twice.
     pub(crate) fn of_entries(
-        alloc: Global,
-        entries: &[((Kind, u32), Place)],
+        entries: Vec<((Kind, u32), Place)>,
         text: Vec<u8>,
     ) -> Result<Symbols, AllocError>
-        requires places { All (IsPlaceIn text.items) entries.now }
-        requires once { AllPairs (λ x y. x ≢ y) (keys_of entries.now) }
-        ensures { IfOk result (λ symbols. symbols ≡ symbols_in text.items entries.now) }
+        requires places { All (IsPlaceIn text.items) entries.items }
+        requires once { AllPairs (λ x y. x ≢ y) (keys_of entries.items) }
+        ensures { IfOk result (λ symbols. symbols ≡ symbols_in text.items entries.items) }
     {
-        let mut mixed = DefaultHasher::new();
-        for ((kind, position), _) in entries {
-            mix(&mut mixed, *kind, *position);
-        }
-        let hash = SymbolHash::by(mixed);
-        let mut places = IndexMap::with_capacity_and_hasher(alloc, entries.len(), hash)?;
-        for (key, place) in entries {
-            places.insert(*key, *place)?;
-        }
-        Ok(Symbols { places, text })
+        Ok(Symbols {
+            places: SymbolTable::of_entries(entries)?,
+            text,
+        })
     }
 
     /// How many entries have a name.
@@ -94,7 +85,7 @@ impl Symbols {
     pub fn contains(&self, kind: Kind, position: u32) -> bool
         ensures { IsTrue result ↔ Contains (keys_of self.now) (kind, position) }
     {
-        self.places.contains_key(&(kind, position))
+        self.places.find((kind, position)).is_some()
     }
 
     /// The name of an entry, or none where it has none.
@@ -102,10 +93,8 @@ impl Symbols {
         ensures some { IfSome result (λ name. Contains self.now ((kind, position), name.now)) }
         ensures none { IfNone result (Contains (keys_of self.now) (kind, position) → ⊥) }
     {
-        match self.places.get(&(kind, position)) {
-            Some(place) => Some(name_at(self.text.as_slice(), *place)),
-            None => None,
-        }
+        let place = self.places.find((kind, position))?;
+        Some(name_at(self.text.as_slice(), place))
     }
 
     /// Adds a name at the end, and answers whether the entry had none. If it had one, nothing changes.
@@ -119,7 +108,7 @@ impl Symbols {
             return Ok(false);
         }
         let place = put_name(&mut self.text, name.as_slice())?;
-        self.places.insert((kind, position), place)?;
+        self.places.push((kind, position), place)?;
         Ok(true)
     }
 
@@ -150,7 +139,7 @@ impl Clone for Symbols {
 /// The entries and their names that are left, as `(&entry, name)`.
 #[derive(Drop)]
 pub struct SymbolIter<'a> {
-    places: map::Iter<'a, (Kind, u32), Place>,
+    places: TableIter<'a>,
     text: &'a [u8],
 }
 
@@ -176,6 +165,6 @@ impl<'a> Iterator for SymbolIter<'a> {
 
     fn next(&mut self) -> Option<(&'a (Kind, u32), &'a [u8])> {
         let (entry, place) = self.places.next()?;
-        Some((entry, name_at(self.text, *place)))
+        Some((entry, name_at(self.text, place)))
     }
 }

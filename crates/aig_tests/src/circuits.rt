@@ -89,6 +89,7 @@ fn listed_symbols(rt: HostRuntime) -> Result<(), Fail> {
         right &= *entry == wanted && bytes == b"name".as_slice();
     }
     right &= symbols.len() == 5 && symbols.contains(Kind::Fairness, 16_383);
+    right &= symbols.contains(Kind::Input, 0) && !symbols.contains(Kind::Input, 1);
     assert!(rt; right);
     Ok(())
 }

@@ -9,17 +9,17 @@ use Rattle.aig_parts.proofs.symbols.SymbolIterIterator.next.Goals as goal
 pub name_at-requires-clause-ordered : goal.name_at-requires-clause-ordered
 name_at-requires-clause-ordered c =
     let P = IsPlaceIn c.self.inside.text.now in
-    (All-head P (c.in_ok-entry.entry.now, c.in_ok-entry.place.now) c.next.new.self
-    (subst (λ (es : List (Key × Place)). All P es) c.in_ok-entry.ensures.steps c.self.invariant)).0
+    (All-head P (c.in_ok-entry.entry.now, c.in_ok-entry.place) c.next.new.self
+    (subst (λ (es : List (Key × Place)). All P es) c.in_ok-entry.ensures.some c.self.invariant)).0
 
 pub name_at-requires-clause-within : goal.name_at-requires-clause-within
 name_at-requires-clause-within c =
     let P = IsPlaceIn c.self.inside.text.now in
-    (All-head P (c.in_ok-entry.entry.now, c.in_ok-entry.place.now) c.next.new.self
-    (subst (λ (es : List (Key × Place)). All P es) c.in_ok-entry.ensures.steps c.self.invariant)).1
+    (All-head P (c.in_ok-entry.entry.now, c.in_ok-entry.place) c.next.new.self
+    (subst (λ (es : List (Key × Place)). All P es) c.in_ok-entry.ensures.some c.self.invariant)).1
 
 pub invariant_of-self-2 : goal.invariant_of-self-2
 invariant_of-self-2 c =
     let P = IsPlaceIn c.self.inside.text.now in
-    All-tail P (c.in_ok-entry.entry.now, c.in_ok-entry.place.now) c.next.new.self
-    (subst (λ (es : List (Key × Place)). All P es) c.in_ok-entry.ensures.steps c.self.invariant)
+    All-tail P (c.in_ok-entry.entry.now, c.in_ok-entry.place) c.next.new.self
+    (subst (λ (es : List (Key × Place)). All P es) c.in_ok-entry.ensures.some c.self.invariant)

@@ -1,8 +1,6 @@
 use Rattle.std.proofs.Common.{ap, length}
-use Rattle.std.proofs.lemmas.Map.Made.{AllPairs-from_IsDistinct}
 use Rattle.std.proofs.iter.runs.Sources.{from_front}
 use Rattle.std.specs.Map.Iter.{TakesFirst, deref_pair}
-use Rattle.aig_parts.proofs.SymbolKeys.{key_same}
 use Rattle.aig_parts.proofs.SymbolLemmas.{keys_in}
 use Rattle.aig_parts.proofs.symbols.Symbols.iter.Goals as goal
 
@@ -11,5 +9,4 @@ returns-clause-runs c = from_front (TakesFirst deref_pair) deref_pair (λ s. s) 
 
 pub returns-clause-distinct : goal.returns-clause-distinct
 returns-clause-distinct c =
-    rw (← c.self.view_is, keys_in c.self.inside.text.items c.self.inside.places.entries)
-    (AllPairs-from_IsDistinct key_same _ c.iter.ensures.unique)
+    rw (← c.self.view_is, keys_in c.self.inside.text.items c.self.inside.places) c.iter.ensures.distinct

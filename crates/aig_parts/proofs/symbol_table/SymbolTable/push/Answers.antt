@@ -1,0 +1,42 @@
+use Rattle.std.proofs.Common.{◌<◌, ◌∷◌, ◌++◌, [], List, Contains, sym, subst, ap, ◌∙◌}
+use Rattle.std.specs.Map.{keys_of}
+use Rattle.std.specs.Prelude.{All}
+use Rattle.aig_parts.specs.declared.symbol_places.Place.{Place}
+use Rattle.aig_parts.specs.SymbolPlaces.{Key}
+use Rattle.aig_parts.specs.state.SymbolTable.{number_of, Ascend, IsTable}
+use Rattle.aig_parts.proofs.SymbolKeys.{insert_at_end}
+use Rattle.aig_parts.proofs.TableLemmas.{pushed, pushed_behind, behind, not_other}
+use Rattle.aig_parts.proofs.symbol_table.SymbolTable.push.Goals as goal
+
+pub comes_behind-requires : goal.comes_behind-requires
+comes_behind-requires c = subst (λ (es : List (Key × Place)). Ascend es) (sym c.deref.ensures.value) c.self.invariant.ascend
+
+pub invariant_of-self-then-comes_behind : goal.invariant_of-self-then-comes_behind
+invariant_of-self-then-comes_behind c =
+    let fresh = subst (λ (es : List (Key × Place)). Contains (keys_of es) c.args.entry → ⊥) (sym c.self.view_is) c.requires in
+    let low = subst (λ (es : List (Key × Place)). All (λ x. number_of x.0 < number_of c.args.entry) es)
+    c.deref.ensures.value (c.comes_behind.ensures c.if-comes_behind.true) in
+    subst (λ (es : List (Key × Place)). IsTable es c.self.inside.others.entries) (sym c.in_ok-push.ensures.items)
+    (pushed c.self.inside.ascending.items c.self.inside.others.entries c.args.entry c.args.place c.self.invariant fresh
+    (c.is_empty.ensures.0 c.if-is_empty.true) low)
+
+pub invariant_of-self-in_ok-insert : goal.invariant_of-self-in_ok-insert
+invariant_of-self-in_ok-insert c =
+    let fresh = subst (λ (es : List (Key × Place)). Contains (keys_of es) c.args.entry → ⊥) (sym c.self.view_is) c.requires in
+    let ascending = c.self.inside.ascending.items in
+    let others = c.self.inside.others in
+    let entries = c.in_ok-insert.ensures.entries ∙ insert_at_end others c.args.entry c.args.place
+    (not_other ascending others.entries c.args.entry fresh) in
+    subst (λ (es : List (Key × Place)). IsTable ascending es) (sym entries)
+    (pushed_behind ascending others.entries c.args.entry c.args.place c.self.invariant fresh)
+
+pub returns-in_ok-insert-clause-ok : goal.returns-in_ok-insert-clause-ok
+returns-in_ok-insert-clause-ok c =
+    let fresh = subst (λ (es : List (Key × Place)). Contains (keys_of es) c.args.entry → ⊥) (sym c.self.view_is) c.requires in
+    let ascending = c.self.inside.ascending.items in
+    let others = c.self.inside.others in
+    let entries = c.in_ok-insert.ensures.entries ∙ insert_at_end others c.args.entry c.args.place
+    (not_other ascending others.entries c.args.entry fresh) in
+    ap (λ (es : List (Key × Place)). ascending ++ es) entries
+    ∙ behind ascending others.entries c.args.entry c.args.place c.self.invariant fresh
+    ∙ ap (λ (es : List (Key × Place)). es ++ (c.args.entry, c.args.place) ∷ []) c.self.view_is

@@ -1,0 +1,25 @@
+use Rattle.std.proofs.Common.{ℕ, ◌-◌, ◌<◌, get_or, List, length, sym, subst, ◌∙◌, arith}
+use Rattle.std.proofs.lemmas.List.{take_all}
+use Rattle.aig_parts.specs.declared.symbol_places.Place.{Place}
+use Rattle.aig_parts.specs.SymbolPlaces.{Key}
+use Rattle.aig_parts.specs.state.SymbolTable.{number_of, Ascend}
+use Rattle.aig_parts.proofs.TableLemmas.{nowhere, ascend_more}
+use Rattle.aig_parts.proofs.symbol_table.ascending_count.Goals as goal
+
+pub loop-place-preserved : goal.loop-place-preserved
+loop-place-preserved c =
+    let es = c.args.entries.now in
+    let i = c.loop-place.place in
+    let up : number_of (get_or es (i - 1) nowhere).0 < number_of (get_or es i nowhere).0 =
+    subst (λ (n : ℕ). n < number_of (get_or es i nowhere).0) c.number_of.ensures
+    (subst (λ (n : ℕ). c.number_of.result < n) c.number_of-in-loop-place.ensures c.if-number_of.false) in (
+      omega arith,
+      ascend_more es i nowhere c.loop-place.invariant.0 c.loop-place-test.true up c.loop-place.invariant.1,
+    )
+
+pub returns-clause-ascend : goal.returns-clause-ascend
+returns-clause-ascend c =
+    let es = c.args.entries.now in
+    subst (λ (xs : List (Key × Place)). Ascend xs)
+    (take_all c.loop-place.place es c.loop-place-test.false ∙ sym (take_all (length es) es (omega arith)))
+    c.loop-place.invariant.1

@@ -1,0 +1,19 @@
+-- Entries that have a name: in a list so far as they ascend, and from there on in a table by hash.
+use Rattle.std.specs.Prelude.{◌≢◌, ℕ, ◌+◌, ◌*◌, ◌<◌, List, ◌++◌, AllPairs}
+use Rattle.std.specs.Map.{keys_of}
+use Rattle.aig_parts.specs.declared.symbol_places.Place.{Place}
+use Rattle.aig_parts.specs.SymbolPlaces.{Key}
+use Rattle.aig_parts.specs.state.NamedEntries.{section_number}
+
+-- entries by section, and within one by position
+abbrev pub number_of : Key → ℕ
+number_of k = section_number k.0 * 4294967296 + k.1
+
+-- each entry has a smaller number than any later one
+abbrev pub Ascend : List (Key × Place) → Type 0
+Ascend entries = AllPairs (λ x y. number_of x.0 < number_of y.0) entries
+
+-- no entry comes twice
+pub record IsTable (ascending others : List (Key × Place)) : Type 0 where
+  pub ascend : Ascend ascending
+  pub once : AllPairs (λ x y. x ≢ y) (keys_of (ascending ++ others))

@@ -1,0 +1,224 @@
+//! Entries of a circuit that have a name, with the places of their names.
+ghost use Rattle.std.specs.Prelude.{◌≡◌, ◌≢◌, ◌∷◌, ◌++◌, ◌≤◌, ◌<◌, ◌↔◌, ℕ, [], length, take, drop, All, AllPairs, Contains};
+ghost use Rattle.std.specs.Prelude.{IsTrue, IfOk, IfSome, IfNone, OnOk, OnErr};
+ghost use Rattle.std.specs.Map.{keys_of};
+ghost use Rattle.aig_parts.specs.state.SymbolTable.{number_of, Ascend};
+
+use crate::named::section_number;
+use crate::symbol_hash::{SymbolHash, mix};
+use crate::symbol_places::Place;
+use crate::symbols::Kind;
+use indexmap::{IndexMap, map};
+use std::alloc::{AllocError, Global};
+use std::hash::DefaultHasher;
+use std::marker::Model;
+
+/// How far sections are apart.
+const SECTION: u64 = 4_294_967_296;
+
+/// Entries in the order of the file, each once, with the places of their names. So far as they ascend, by section and
+/// position, they lie in a list; from the first that does not, in a table by hash.
+#[derive(Drop, Debug)]
+pub(crate) struct SymbolTable {
+    ascending: Vec<((Kind, u32), Place)>,
+    others: IndexMap<(Kind, u32), Place, SymbolHash>,
+}
+
+impl Model for SymbolTable {
+    ghost use Rattle.std.specs.Prelude.{List, ℕ, ◌++◌};
+    ghost use Rattle.aig_parts.specs.declared.symbol_places.Place.{Place};
+    ghost use Rattle.aig_parts.specs.SymbolPlaces.{Key};
+    ghost use Rattle.aig_parts.specs.state.SymbolTable.{IsTable};
+
+    ghost Value = { List (Key × Place) };
+
+    ghost view = { λ a. a.ascending.items ++ a.others.entries };
+
+    ghost invariant = { λ a. IsTable a.ascending.items a.others.entries };
+}
+
+// Entries by section, and within one by position.
+fn number_of(entry: (Kind, u32)) -> u64
+    ensures { result ≡ number_of entry }
+{
+    section_number(entry.0) as u64 * SECTION + entry.1 as u64
+}
+
+// How many entries ascend from the first one on.
+fn ascending_count(entries: &[((Kind, u32), Place)]) -> usize
+    ensures bound { result ≤ length entries.now }
+    ensures ascend { Ascend (take result entries.now) }
+{
+    for place in 1..entries.len() {
+        if number_of(entries[place - 1].0) >= number_of(entries[place].0) {
+            return place;
+        }
+    }
+    entries.len()
+}
+
+// The table of the entries from a place on, with a key that is made from all.
+fn others_of(
+    alloc: Global,
+    entries: &[((Kind, u32), Place)],
+    from: usize,
+) -> Result<IndexMap<(Kind, u32), Place, SymbolHash>, AllocError>
+    requires from { from ≤ length entries.now }
+    requires once { AllPairs (λ x y. x ≢ y) (keys_of entries.now) }
+    ensures { IfOk result (λ others. others.entries ≡ drop from entries.now) }
+{
+    if from == entries.len() {
+        return Ok(IndexMap::with_hasher(alloc, SymbolHash::fixed()));
+    }
+    let mut mixed = DefaultHasher::new();
+    for ((kind, position), _) in entries {
+        mix(&mut mixed, *kind, *position);
+    }
+    let count = entries.len() - from;
+    let mut others = IndexMap::with_capacity_and_hasher(alloc, count, SymbolHash::by(mixed))?;
+    for (entry, place) in &entries[from..] {
+        others.insert(*entry, *place)?;
+    }
+    Ok(others)
+}
+
+// Whether an entry comes behind all of these, which ascend.
+fn comes_behind(entries: &[((Kind, u32), Place)], entry: (Kind, u32)) -> bool
+    requires { Ascend entries.now }
+    ensures { IsTrue result → All (λ x. number_of x.0 < number_of entry) entries.now }
+{
+    entries.is_empty() || number_of(entries[entries.len() - 1].0) < number_of(entry)
+}
+
+// The place of an entry's name, among entries that ascend.
+fn find_ascending(entries: &[((Kind, u32), Place)], entry: (Kind, u32)) -> Option<Place>
+    requires { Ascend entries.now }
+    ensures some { IfSome result (λ place. Contains entries.now (entry, place)) }
+    ensures none { IfNone result (Contains (keys_of entries.now) entry → ⊥) }
+{
+    let number = number_of(entry);
+    match entries.binary_search_by_key(&number, |(other, _)| number_of(*other)) {
+        Ok(at) if entries[at].0 == entry => Some(entries[at].1),
+        _ => None,
+    }
+}
+
+impl SymbolTable {
+    /// None. It takes no memory.
+    pub(crate) fn new(alloc: Global) -> SymbolTable
+        ensures { result ≡ [] }
+    {
+        SymbolTable {
+            ascending: Vec::new(alloc),
+            others: IndexMap::with_hasher(alloc, SymbolHash::fixed()),
+        }
+    }
+
+    /// These entries, none of which comes twice.
+    pub(crate) fn of_entries(entries: Vec<((Kind, u32), Place)>) -> Result<SymbolTable, AllocError>
+        requires { AllPairs (λ x y. x ≢ y) (keys_of entries.items) }
+        ensures { IfOk result (λ table. table ≡ entries.items) }
+    {
+        let mut entries = entries;
+        let count = ascending_count(&entries);
+        let others = others_of(*entries.allocator(), &entries, count)?;
+        entries.truncate(count);
+        Ok(SymbolTable {
+            ascending: entries,
+            others,
+        })
+    }
+
+    /// How many there are.
+    pub(crate) fn len(&self) -> usize
+        ensures { result ≡ length self.now }
+    {
+        self.ascending.len() + self.others.len()
+    }
+
+    /// The place of an entry's name.
+    pub(crate) fn find(&self, entry: (Kind, u32)) -> Option<Place>
+        ensures some { IfSome result (λ place. Contains self.now (entry, place)) }
+        ensures none { IfNone result (Contains (keys_of self.now) entry → ⊥) }
+    {
+        match find_ascending(&self.ascending, entry) {
+            Some(place) => Some(place),
+            None => match self.others.get(&entry) {
+                Some(place) => Some(*place),
+                None => None,
+            },
+        }
+    }
+
+    /// Adds an entry that is not there.
+    pub(crate) fn push(&mut self, entry: (Kind, u32), place: Place) -> Result<(), AllocError>
+        requires { Contains (keys_of self.old) entry → ⊥ }
+        ensures ok { OnOk result (self.new ≡ self.old ++ (entry, place) ∷ []) }
+        ensures err { OnErr result (self.new ≡ self.old) }
+    {
+        if self.others.is_empty() && comes_behind(&self.ascending, entry) {
+            self.ascending.push((entry, place))?;
+        } else {
+            self.others.insert(entry, place)?;
+        }
+        Ok(())
+    }
+
+    /// The entries and their places.
+    pub(crate) fn iter(&self) -> TableIter<'_>
+        ensures entries { result ≡ self.now }
+        ensures distinct { AllPairs (λ x y. x ≢ y) (keys_of self.now) }
+    {
+        TableIter {
+            ascending: self.ascending.as_slice(),
+            others: self.others.iter(),
+        }
+    }
+}
+
+impl Clone for SymbolTable {
+    ghost is_clone = { λ v w. w ≡ v };
+
+    fn clone(&self) -> Result<SymbolTable, AllocError> {
+        Ok(SymbolTable {
+            ascending: self.ascending.clone()?,
+            others: self.others.clone()?,
+        })
+    }
+}
+
+/// The entries that are left.
+#[derive(Drop)]
+pub(crate) struct TableIter<'a> {
+    ascending: &'a [((Kind, u32), Place)],
+    others: map::Iter<'a, (Kind, u32), Place>,
+}
+
+impl<'a> Model for TableIter<'a> {
+    ghost use Rattle.std.specs.Prelude.{List, ℕ, ◌++◌};
+    ghost use Rattle.aig_parts.specs.declared.symbol_places.Place.{Place};
+    ghost use Rattle.aig_parts.specs.SymbolPlaces.{Key};
+
+    ghost Value = { List (Key × Place) };
+
+    ghost view = { λ a. a.ascending.now ++ a.others };
+}
+
+impl<'a> TableIter<'a> {
+    /// Takes the first entry.
+    pub(crate) fn next(&mut self) -> Option<(&'a (Kind, u32), Place)>
+        ensures some { IfSome result (λ e. self.old ≡ (e.0.now, e.1) ∷ self.new) }
+        ensures none { IfNone result ((self.old ≡ []) × (self.new ≡ [])) }
+    {
+        match self.ascending.split_first() {
+            Some(((entry, place), rest)) => {
+                self.ascending = rest;
+                Some((entry, *place))
+            }
+            None => {
+                let (entry, place) = self.others.next()?;
+                Some((entry, *place))
+            }
+        }
+    }
+}
