@@ -41,7 +41,7 @@ all_signals P raw a b c d e =
     (All-append P raw.outputs (raw.bad ++ raw.constraints) (each P raw.outputs c)
     (All-append P raw.bad raw.constraints (each P raw.bad d) (each P raw.constraints e))))
 
-signals_defined : (raw : Raw) → IsSound raw → All (λ l. IsDefined raw (variable l)) (signals raw)
+pub signals_defined : (raw : Raw) → IsSound raw → All (λ l. IsDefined raw (variable l)) (signals raw)
 signals_defined raw sound =
     all_signals (λ l. IsDefined raw (variable l)) raw (λ i l at. input_defined raw i l at) (λ i x at. latch_defined raw i x at)
     (λ i l at. output_defined raw sound i l at) (λ i l at. bad_defined raw sound i l at)
@@ -90,7 +90,7 @@ module _ (raw : Raw) (start : List Tern) (rows more : List (List Tern)) where
     h.4,
   )
 
-  frames_stay : (t : ℕ) (text : List ℕ) → AreFrames raw start rows t text → AreFrames raw start (rows ++ more) t text
+  pub frames_stay : (t : ℕ) (text : List ℕ) → AreFrames raw start rows t text → AreFrames raw start (rows ++ more) t text
   frames_stay zero text h = h
   frames_stay (suc t) text h = (h.0, h.1, frames_stay t h.0 h.2, frame_stays t h.1 h.3, h.4)
 

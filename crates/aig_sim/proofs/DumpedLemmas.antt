@@ -20,7 +20,7 @@ use Rattle.aig_sim.proofs.SimulationLemmas.{before_nil}
 abbrev dumped : Telling
 dumped raw start rows text = AreDumped raw start rows text
 
-ending_is : (n k : ℕ) → n ≡ min k (2 ^ 64 - 1) → ending n ≡ closing k
+pub ending_is : (n k : ℕ) → n ≡ min k (2 ^ 64 - 1) → ending n ≡ closing k
 ending_is n zero is = ap ending is
 ending_is zero (suc k) is = absurd (omega (arith, is))
 ending_is (suc n) (suc k) is = ap number_line is

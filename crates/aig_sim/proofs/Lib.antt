@@ -13,6 +13,8 @@ pub mod GatherLemmas
 pub mod LineLemmas
 pub mod OneText
 pub mod PaddedRows
+pub mod ReplayLemmas
+pub mod RunTexts
 pub mod SeenRows
 pub mod SimulationLemmas
 pub mod SweepLemmas

@@ -194,7 +194,7 @@ module _ (raw : Raw) (start : List Tern) (rows more : List (List Tern)) where
     line_is = h.line_is;
   }
 
-  lines_stay : (t : ℕ) (text : List ℕ) → AreLines raw start rows t text → AreLines raw start (rows ++ more) t text
+  pub lines_stay : (t : ℕ) (text : List ℕ) → AreLines raw start rows t text → AreLines raw start (rows ++ more) t text
   lines_stay zero text h = h
   lines_stay (suc t) text h = (h.0, h.1, lines_stay t h.0 h.2, line_stays t h.1 h.3, h.4)
 

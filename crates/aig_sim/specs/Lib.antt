@@ -7,6 +7,7 @@ pub mod Dumped
 pub mod GateOrder
 pub mod InputRows
 pub mod LineInHand
+pub mod Replayed
 pub mod Simulated
 pub mod StimulusText
 pub mod Trace

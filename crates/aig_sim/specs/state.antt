@@ -5,5 +5,6 @@ pub mod Dumping
 pub mod Frame
 pub mod Machine
 pub mod Padded
+pub mod Replaying
 pub mod Running
 pub mod Words

@@ -12,8 +12,8 @@ use crate::stimulus_fault::StimFault;
 use aig_base::{Circuit, Io, Read, Write};
 use std::alloc::Global;
 
-// Writes the end behind so many frames.
-fn write_end<W: Write>(out: &mut W, frames: u64) -> Result<(), Io>
+/// Writes the end behind so many frames.
+pub fn write_end<W: Write>(out: &mut W, frames: u64) -> Result<(), Io>
     ensures { Writes W.written W.failures out.old out.new (ending frames) result }
 {
     if frames == 0 {

@@ -2,6 +2,7 @@
 ghost use Rattle.std.specs.Prelude.{◌≡◌, ℕ, ◌<◌, ◌↔◌, false, List, ◌∷◌, ◌++◌, length, map, IfOk, IfErr, IfSome};
 ghost use Rattle.std.specs.Prelude.{IfNone, IsTrue};
 ghost use Rattle.aig_parts.specs.declared.ternary.Tern.{Tern};
+ghost use Rattle.aig_base.specs.Circuit.{IsCircuit};
 ghost use Rattle.aig_sim.specs.state.Checking.{BeginsWithRow, SpellsFrames, IsShape, ReadsNotOne, HasRun, IsFirstFailure};
 ghost use Rattle.aig_sim.specs.StimulusText.{character};
 ghost use Rattle.aig_sim.specs.Verdict.{Allows, StartsWrong, IsVerdict, IsConfirmed};
@@ -17,8 +18,8 @@ use crate::witness_text::{Shape, read_shape};
 use aig_base::{Circuit, Latch, Memory, Tern};
 use std::alloc::Global;
 
-// Reads a value a character, and answers the text behind the line.
-fn read_values<'a>(values: &mut [Tern], text: &'a [u8]) -> &'a [u8]
+/// Reads a value a character, and answers the text behind the line.
+pub fn read_values<'a>(values: &mut [Tern], text: &'a [u8]) -> &'a [u8]
     requires { BeginsWithRow (length values.old) text.now }
     ensures { text.now ≡ map character values.new ++ (10 ∷ result.now) }
 {
@@ -136,18 +137,68 @@ fn read_start(alloc: Global, text: &[u8], size: usize) -> Result<Vec<Tern>, Memo
     Ok(start)
 }
 
+/// The parts of the text of a witness that the circuit admits.
+pub fn admitted_shape<'a>(circuit: &Circuit, text: &'a [u8]) -> Result<Shape<'a>, WitnessFault>
+    ensures shape { IfOk result (λ shape. (w : Witness) × SpellsWitness circuit.now text.now w
+        × IsShape circuit.now shape w × IsAdmitted circuit.now w) }
+    ensures fault { IfErr result (HasWitnessFault circuit.now text.now) }
+{
+    let _max_var = circuit.max_var();
+    let Some(shape) = read_shape(circuit, text) else {
+        return Err(WitnessFault::Text);
+    };
+    if shape.property as usize >= circuit.bad().len() {
+        return Err(WitnessFault::Property);
+    }
+    if shape.frames > FRAMES as usize {
+        return Err(WitnessFault::Limit);
+    }
+    Ok(shape)
+}
+
+/// A witness's run before its first frame: the circuit, where the latches start as the witness has it, and room for a
+/// row.
+#[derive(Drop)]
+pub struct WitnessRun<'a> {
+    pub machine: Machine<'a>,
+    pub row: Vec<Tern>,
+}
+
+impl<'a> WitnessRun<'a> {
+    /// All memory that the run takes is reserved here.
+    pub fn new(
+        alloc: Global,
+        circuit: &'a Circuit,
+        shape: &Shape<'_>,
+    ) -> Result<WitnessRun<'a>, Memory>
+        requires { (w : Witness) × IsShape circuit.now shape.now w }
+        ensures circuit { IfOk result (λ run. run.machine.circuit ≡ circuit.now) }
+        ensures is_circuit { IfOk result (λ run. IsCircuit run.machine.circuit) }
+        ensures states { IfOk result (λ run. (w : Witness) → IsShape circuit.now shape.now w →
+            run.machine.states ≡ w.start) }
+        ensures row { IfOk result (λ run. length run.row.items ≡ length circuit.now.inputs) }
+    {
+        let start = read_start(alloc, shape.start, circuit.latches().len())?;
+        Ok(WitnessRun {
+            machine: Machine::new(alloc, circuit, start)?,
+            row: new_values(alloc, circuit.inputs().len())?,
+        })
+    }
+}
+
 // The verdict on a witness of these parts.
 fn judge(alloc: Global, circuit: &Circuit, shape: &Shape<'_>) -> Result<Verdict, Memory>
     requires { (w : Witness) × IsShape circuit.now shape.now w × IsAdmitted circuit.now w }
     ensures { IfOk result (λ verdict. (w : Witness) → IsShape circuit.now shape.now w → IsAdmitted circuit.now w →
         IsVerdict circuit.now w verdict) }
 {
-    let start = read_start(alloc, shape.start, circuit.latches().len())?;
-    let mut machine = Machine::new(alloc, circuit, start)?;
+    let WitnessRun {
+        mut machine,
+        mut row,
+    } = WitnessRun::new(alloc, circuit, shape)?;
     if let Some(position) = wrong_start(&machine) {
         return Ok(Verdict::Initial(position));
     }
-    let mut row = new_values(alloc, circuit.inputs().len())?;
     let failure = run_frames(&mut machine, &mut row, shape.rows, shape.frames as u32);
     if let Some((frame, position)) = failure {
         return Ok(Verdict::Constraint(frame, position));
@@ -175,15 +226,7 @@ pub fn check_witness(alloc: Global, circuit: &Circuit, text: &[u8]) -> Result<Ve
     ensures fault { IfErr result (HasWitnessFault circuit.now text.now) }
 {
     let _max_var = circuit.max_var();
-    let Some(shape) = read_shape(circuit, text) else {
-        return Err(WitnessFault::Text);
-    };
-    if shape.property as usize >= circuit.bad().len() {
-        return Err(WitnessFault::Property);
-    }
-    if shape.frames > FRAMES as usize {
-        return Err(WitnessFault::Limit);
-    }
+    let shape = admitted_shape(circuit, text)?;
     let verdict = judge(alloc, circuit, &shape)?;
     Ok(verdict)
 }

@@ -1,6 +1,5 @@
-use Rattle.std.proofs.Common.{◌≡◌, ℕ, ◌<◌, ◌≤◌, length, ap, subst, arith}
+use Rattle.std.proofs.Common.{subst}
 use Rattle.aig_sim.specs.Verdict.{IsVerdict, IsConfirmed}
-use Rattle.aig_sim.specs.WitnessText.{Witness, IsAdmitted}
 use Rattle.aig_sim.proofs.Completions.{confirmed}
 use Rattle.aig_sim.proofs.WitnessLemmas.{one_witness}
 use Rattle.aig_sim.proofs.witness.check_witness.Goals as goal
@@ -9,11 +8,7 @@ pub returns-clause-confirmed : goal.returns-clause-confirmed
 returns-clause-confirmed c = λ e v h.
     let raw = c.args.circuit.now in
     let circuit = c.max_var-max_var.ensures.circuit in
-    let (w, spells, shape) = c.in-Some.ensures.some in
-    let admitted : IsAdmitted raw w = (
-      omega (arith, c.if-shape-bad.false, ap length c.bad.ensures, shape.property_is, circuit.formed.counts.bad),
-      omega (arith, c.if-shape.false, shape.frames_are),
-    ) in
+    let (w, spells, shape, admitted) = c.in_ok-shape.ensures.shape in
     subst (IsConfirmed raw) (one_witness raw c.args.text.now w v spells h)
     (confirmed raw circuit w spells.start_is spells.widths spells.some admitted.0
     (subst (IsVerdict raw w) e (c.in_ok-verdict.ensures w shape admitted)))

@@ -1,11 +1,9 @@
-use Rattle.std.proofs.Common.{◌≡◌, ℕ, ◌<◌, ◌-◌, List, length, drop, sym, ap, ◌∙◌, subst, arith}
-use Rattle.aig_parts.specs.declared.ternary.Tern.{Tern}
+use Rattle.std.proofs.Common.{◌≡◌, ℕ, ◌<◌, ◌-◌, length, sym, ◌∙◌, subst}
 use Rattle.aig_parts.specs.declared.raw.Raw.{Raw}
 use Rattle.aig_base.specs.Circuit.{IsCircuit}
-use Rattle.aig_sim.specs.state.Checking.{IsShape, IsFirstFailure, ReadsNotOne, HasRun}
-use Rattle.aig_sim.specs.state.Frame.{HoldsAll}
+use Rattle.aig_sim.specs.state.Checking.{IsFirstFailure, ReadsNotOne, HasRun}
 use Rattle.aig_sim.specs.Verdict.{StartsWrong}
-use Rattle.aig_sim.proofs.VerdictLemmas.{both, start_same, property_same, run_begins, other_start, not_held, not_reached, reached, last_frame, shows_not_one, shown_not_one, bad_defined}
+use Rattle.aig_sim.proofs.VerdictLemmas.{both, property_same, run_begins, other_start, not_held, not_reached, reached, last_frame, shows_not_one, shown_not_one, bad_defined}
 use Rattle.aig_sim.proofs.witness.judge.Goals as goal
 
 pub returns-in-Some : goal.returns-in-Some
@@ -14,8 +12,8 @@ returns-in-Some c =
     let e = c.in_ok-machine.ensures in
     let p = c.in-Some.position in
     λ w h admitted.
-    let states : c.in_ok-machine.machine.states ≡ w.start =
-    e.states ∙ start_same c.in_ok-start.start.items c.in_ok-start.ensures.read.0 h c.in_ok-start.ensures.read.1 in
+    let states : c.in_ok-machine.field-0.machine.states ≡ w.start =
+    e.states w h in
     other_start raw w p (both (λ r s. StartsWrong r s p) e.circuit states c.in-Some.ensures.some)
     (both (λ r s. (q : ℕ) → q < p → StartsWrong r s q → ⊥) e.circuit states c.in-Some.ensures.least)
 
@@ -23,11 +21,11 @@ pub returns-in-Some-failure : goal.returns-in-Some-failure
 returns-in-Some-failure c =
     let raw = c.args.circuit.now in
     let e = c.in_ok-machine.ensures in
-    let machine = c.in_ok-machine.machine in
+    let machine = c.in_ok-machine.field-0.machine in
     let at = c.in-Some-failure in
     λ w h admitted.
     let states : machine.states ≡ w.start =
-    e.states ∙ start_same c.in_ok-start.start.items c.in_ok-start.ensures.read.0 h c.in_ok-start.ensures.read.1 in
+    e.states w h in
     not_held raw w at.frame at.position
     (both (λ r s. (q : ℕ) → StartsWrong r s q → ⊥) e.circuit states c.in_default.ensures.none)
     (subst (λ (r : Raw). IsFirstFailure r w at.frame at.position) e.circuit
@@ -38,12 +36,12 @@ pub returns-then-not-is_bad : goal.returns-then-not-is_bad
 returns-then-not-is_bad c =
     let raw = c.args.circuit.now in
     let e = c.in_ok-machine.ensures in
-    let machine = c.in_ok-machine.machine in
+    let machine = c.in_ok-machine.field-0.machine in
     let machine' = c.run_frames-failure.new.machine in
     λ w h admitted.
     let circuit : IsCircuit raw = subst IsCircuit e.circuit e.is_circuit in
     let states : machine.states ≡ w.start =
-    e.states ∙ start_same c.in_ok-start.start.items c.in_ok-start.ensures.read.0 h c.in_ok-start.ensures.read.1 in
+    e.states w h in
     let (rest, run) = c.in_default-failure.ensures.none w
     (subst (λ (r : Raw). HasRun r w 0 c.args.shape.now.rows.now machine.cells machine.states) (sym e.circuit)
     (run_begins machine.cells machine.states h states)) (sym h.frames_are) in
@@ -63,12 +61,12 @@ pub returns : goal.returns
 returns c =
     let raw = c.args.circuit.now in
     let e = c.in_ok-machine.ensures in
-    let machine = c.in_ok-machine.machine in
+    let machine = c.in_ok-machine.field-0.machine in
     let machine' = c.run_frames-failure.new.machine in
     λ w h admitted.
     let circuit : IsCircuit raw = subst IsCircuit e.circuit e.is_circuit in
     let states : machine.states ≡ w.start =
-    e.states ∙ start_same c.in_ok-start.start.items c.in_ok-start.ensures.read.0 h c.in_ok-start.ensures.read.1 in
+    e.states w h in
     let (rest, run) = c.in_default-failure.ensures.none w
     (subst (λ (r : Raw). HasRun r w 0 c.args.shape.now.rows.now machine.cells machine.states) (sym e.circuit)
     (run_begins machine.cells machine.states h states)) (sym h.frames_are) in
