@@ -11,6 +11,7 @@ pub mod Evaluation
 pub mod GateOrders
 pub mod GatherLemmas
 pub mod LineLemmas
+pub mod NeighbourLemmas
 pub mod OneText
 pub mod PaddedRows
 pub mod ReplayLemmas

@@ -1,9 +1,11 @@
 -- A stimulus text, byte by byte.
-use Rattle.std.proofs.Common.{◌≡◌, ◌≢◌, ℕ, ◌+◌, ◌<◌, ◌≤◌, List, [], ◌∷◌, ◌++◌, length, map, All, inl, inr, refl, sym, ap, ◌∙◌, subst, arith, append_assoc}
+use Rattle.std.proofs.Common.{◌≡◌, ◌≢◌, ℕ, ◌+◌, ◌<◌, ◌≤◌, List, [], ◌∷◌, ◌++◌, length, map, All, inl, inr, refl, sym, ap, ◌∙◌, subst, arith, append_assoc, ◌-◌, take, drop, length-drop, get_or, Some, slice_get}
 use Rattle.std.specs.List.{flat_map}
 use Rattle.std.specs.Prelude.{Result, Ok, Err, IfErr, Bool, true, false, ◌&&◌, ◌↔◌, IsTrue}
 use Rattle.std.specs.Result.{IsErrAnd}
-use Rattle.std.proofs.lemmas.List.{append-nil, length-append, length-map, length_push, get_or_append_left, get_or-append-add}
+use Rattle.std.proofs.Math.Seq.{take-add, get_or-drop}
+use Rattle.std.proofs.lemmas.Option.{get_or_from_slice_get}
+use Rattle.std.proofs.lemmas.List.{take_all, append-nil, length-append, length-map, length_push, get_or_append_left, get_or-append-add}
 use Rattle.std.proofs.lemmas.Bool.{false≢true}
 use Rattle.std.proofs.lemmas.Result.{err_from_is_err_and}
 use Rattle.std.proofs.lemmas.List.Concat.{flat_map-append}
@@ -161,6 +163,41 @@ read_piece {rows} shape' values' piece h ne step = record {
   text_is = ap (λ (t : List ℕ). t ++ piece) h.text_is ∙ append_assoc (flat_map row_line rows) h.line piece;
   keeps = step h.line h.keeps;
 }
+
+-- a piece more of a line, of the bytes behind a place
+pub read_more : {width n : ℕ} {rows : List (List Tern)} {shape : Shape} {values : List Tern} (xs : List ℕ) (i m : ℕ)
+    (shape' : Shape) (values' : List Tern) → n ≡ width → HasRead width (take i xs) rows shape values
+    → All (λ b. b ≢ 10) (take m (take (length xs - i) (drop i xs)))
+    → ((line : List ℕ) → Keeps n line shape values → Keeps n (line ++ take (i + m - i) (drop i xs)) shape' values')
+    → HasRead width (take (i + m) xs) rows shape' values'
+read_more {width} {n} {rows} {shape} {values} xs i m shape' values' e h none step =
+    let size : i + m - i ≡ m = omega arith in
+    let rest : take (length xs - i) (drop i xs) ≡ drop i xs =
+    take_all (length xs - i) (drop i xs) (omega (arith, length-drop i xs)) in
+    let no_end : All (λ b. b ≢ 10) (take m (drop i xs)) =
+    subst (λ (t : List ℕ). All (λ b. b ≢ 10) (take m t)) rest none in
+    let same : (line : List ℕ) → Keeps width line shape values
+    → Keeps width (line ++ take (i + m - i) (drop i xs)) shape' values' =
+    subst (λ (w : ℕ). (line : List ℕ) → Keeps w line shape values
+    → Keeps w (line ++ take (i + m - i) (drop i xs)) shape' values') e step in
+    let taken : (line : List ℕ) → Keeps width line shape values
+    → Keeps width (line ++ take m (drop i xs)) shape' values' =
+    subst (λ (k : ℕ). (line : List ℕ) → Keeps width line shape values
+    → Keeps width (line ++ take k (drop i xs)) shape' values') size same in
+    subst (λ (t : List ℕ). HasRead width t rows shape' values') (sym (take-add i m xs))
+    (read_piece shape' values' (take m (drop i xs)) h no_end taken)
+
+-- the end of a line in the bytes behind a place
+pub end_behind : (xs : List ℕ) (i n : ℕ) → i + n < length xs
+    → (n < length (take (length xs - i) (drop i xs)) → slice_get (take (length xs - i) (drop i xs)) n ≡ Some 10)
+    → get_or xs (i + n) 0 ≡ 10
+end_behind xs i n lt ended =
+    let rest : take (length xs - i) (drop i xs) ≡ drop i xs =
+    take_all (length xs - i) (drop i xs) (omega (arith, length-drop i xs)) in
+    let within : n < length (drop i xs) = omega (arith, lt, length-drop i xs) in
+    let is : slice_get (drop i xs) n ≡ Some 10 =
+    subst (λ (t : List ℕ). n < length t → slice_get t n ≡ Some 10) rest ended within in
+    sym (get_or-drop i xs n 0) ∙ get_or_from_slice_get (drop i xs) n 10 0 is
 
 pub flat_map_push : (rows : List (List Tern)) (values : List Tern)
     → flat_map row_line (rows ++ values ∷ []) ≡ flat_map row_line rows ++ (map character values ++ 10 ∷ [])

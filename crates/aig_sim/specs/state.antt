@@ -4,6 +4,7 @@ pub mod Codes
 pub mod Dumping
 pub mod Frame
 pub mod Machine
+pub mod Neighbours
 pub mod Padded
 pub mod Replaying
 pub mod Running

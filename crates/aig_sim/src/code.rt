@@ -1,5 +1,5 @@
 //! Values in two bits, for circuits that are simulated row by row.
-ghost use Rattle.std.specs.Prelude.{◌≡◌, ◌≢◌, ◌<◌, ◌↔◌, IsTrue, List, length};
+ghost use Rattle.std.specs.Prelude.{◌≡◌, ◌≢◌, ◌<◌, ◌↔◌, IsTrue, List, length, map, All};
 ghost use Rattle.aig_parts.specs.Literal.{variable};
 ghost use Rattle.aig_parts.specs.Ternary.{kleene_and, kleene_not};
 ghost use Rattle.aig_sim.specs.Cells.{literal_value};
@@ -7,6 +7,7 @@ ghost use Rattle.aig_sim.specs.state.Codes.{value_of, bits_of, IsCode};
 ghost use Rattle.aig_sim.specs.StimulusText.{character};
 ghost use Rattle.aig_sim.specs.TraceText.{literal_character};
 
+use crate::row::first_of_neighbours;
 use aig_base::{Lit, Tern};
 use std::marker::Model;
 
@@ -33,9 +34,6 @@ impl Model for Code {
     ghost invariant = { λ a. IsCode a.bits };
 }
 
-/// The bits of 0, 1 and x.
-const BITS: [u8; 3] = [0b00, 0b11, 0b01];
-
 /// The bits of a value by its own bits, and behind the fourth those of its negation. None are 10.
 const SIGNED: [u8; 8] = [0b00, 0b01, 0b00, 0b11, 0b11, 0b01, 0b00, 0b00];
 
@@ -48,7 +46,7 @@ impl Code {
         ensures { result ≡ value }
     {
         Code {
-            bits: BITS[value as usize],
+            bits: (value as u8 >> 1) | (value as u8 & 1) * 0b11,
         }
     }
 
@@ -86,6 +84,13 @@ impl Code {
         Code {
             bits: SIGNED[4 * (is_negated as usize) + self.bits as usize],
         }
+    }
+
+    // The character of the value: `0`, `1` or `x`. Many are made at a time, as no table is read.
+    fn plain_character(self) -> u8
+        ensures { result ≡ character self }
+    {
+        if self.bits == 0b01 { b'x' } else { b'0' + (self.bits >> 1) }
     }
 
     /// The character of the negation where `is_negated`, else that of the value itself: `0`, `1` or `x`.
@@ -127,4 +132,37 @@ pub fn character_in(cells: &[Code], literal: Lit) -> u8
     ensures { result ≡ literal_character cells.now literal }
 {
     cells[literal.var() as usize].character(literal.is_neg())
+}
+
+// Writes the characters of codes.
+fn spell_codes(text: &mut [u8], codes: &[Code])
+    requires { length text.old ≡ length codes.now }
+    ensures { text.new ≡ map character codes.now }
+{
+    for (place, code) in codes.iter().enumerate() {
+        text[place] = code.plain_character();
+    }
+}
+
+// Writes the characters of literals, one by one.
+fn spell_each(text: &mut [u8], cells: &[Code], literals: &[Lit])
+    requires cells { All (λ l. variable l < length cells.now) literals.now }
+    requires room { length text.old ≡ length literals.now }
+    ensures { text.new ≡ map (literal_character cells.now) literals.now }
+{
+    for (place, literal) in literals.iter().enumerate() {
+        text[place] = character_in(cells, *literal);
+    }
+}
+
+/// Writes the characters of literals: those of neighbours are those of a piece of the cells.
+pub fn spell_in(text: &mut [u8], cells: &[Code], literals: &[Lit])
+    requires cells { All (λ l. variable l < length cells.now) literals.now }
+    requires room { length text.old ≡ length literals.now }
+    ensures { text.new ≡ map (literal_character cells.now) literals.now }
+{
+    match first_of_neighbours(literals) {
+        Some(first) => spell_codes(text, &cells[first..first + literals.len()]),
+        None => spell_each(text, cells, literals),
+    }
 }

@@ -1,5 +1,5 @@
 //! The values of one frame: a cell a variable.
-ghost use Rattle.std.specs.Prelude.{◌≡◌, ℕ, ◌+◌, ◌<◌, List, length, map, Some, slice_get};
+ghost use Rattle.std.specs.Prelude.{◌≡◌, ℕ, ◌+◌, ◌<◌, List, length, map, Some, slice_get, IfSome};
 ghost use Rattle.aig_parts.specs.declared.ternary.Tern.{Tern};
 ghost use Rattle.aig_parts.specs.declared.gate.Gate.{Gate};
 ghost use Rattle.aig_parts.specs.declared.raw.Raw.{Raw};
@@ -7,24 +7,49 @@ ghost use Rattle.aig_base.specs.Circuit.{IsCircuit};
 ghost use Rattle.aig_parts.specs.Literal.{variable};
 ghost use Rattle.aig_base.specs.Sound.{IsSound};
 ghost use Rattle.aig_sim.specs.Cells.{literal_value};
-ghost use Rattle.aig_sim.specs.state.Frame.{AreStates, Renews, HoldsInputs, HoldsLatches, HoldsSources, HoldsAll};
+ghost use Rattle.aig_sim.specs.state.Frame.{AreStates, Renews, PutsInputs, HoldsLatches, HoldsSources, HoldsAll};
+ghost use Rattle.aig_sim.specs.state.Neighbours.{AreNeighbours};
 ghost use Rattle.aig_sim.specs.GateOrder.{IsGateOrder};
 
 use crate::code::{Code, code_in};
 use aig_base::{Circuit, Gate, Tern};
 
-// Writes the inputs' values.
-fn put_inputs(cells: &mut [Code], circuit: &Circuit, row: &[Tern])
+// Writes the inputs' values, one by one.
+fn put_each_input(cells: &mut [Code], circuit: &Circuit, row: &[Tern])
     requires circuit { IsCircuit circuit.now }
     requires cells { length cells.old ≡ circuit.now.max_var + 1 }
     requires row { length row.now ≡ length circuit.now.inputs }
-    ensures renews { (start : List Tern) (rows : List (List Tern)) (t : ℕ) → slice_get rows t ≡ Some row.now →
-        Renews circuit.now start rows t cells.old cells.new }
-    ensures inputs { (start : List Tern) (rows : List (List Tern)) (t : ℕ) → slice_get rows t ≡ Some row.now →
-        HoldsInputs circuit.now start rows t cells.new }
+    ensures { PutsInputs circuit.now row.now cells.old cells.new }
 {
     for (position, input) in circuit.inputs().iter().enumerate() {
         cells[input.var() as usize] = Code::of(row[position]);
+    }
+}
+
+// Writes the values of inputs that are neighbours from this variable on, many at a time.
+fn put_neighbours(cells: &mut [Code], circuit: &Circuit, row: &[Tern], first: usize)
+    requires circuit { IsCircuit circuit.now }
+    requires cells { length cells.old ≡ circuit.now.max_var + 1 }
+    requires row { length row.now ≡ length circuit.now.inputs }
+    requires neighbours { AreNeighbours first circuit.now.inputs }
+    ensures { PutsInputs circuit.now row.now cells.old cells.new }
+{
+    for (position, value) in row.iter().enumerate() {
+        cells[first + position] = Code::of(*value);
+    }
+}
+
+// Writes the inputs' values, which may be known to be neighbours from some variable on.
+fn put_inputs(cells: &mut [Code], circuit: &Circuit, row: &[Tern], first: Option<usize>)
+    requires circuit { IsCircuit circuit.now }
+    requires cells { length cells.old ≡ circuit.now.max_var + 1 }
+    requires row { length row.now ≡ length circuit.now.inputs }
+    requires first { IfSome first (λ v. AreNeighbours v circuit.now.inputs) }
+    ensures { PutsInputs circuit.now row.now cells.old cells.new }
+{
+    match first {
+        Some(variable) => put_neighbours(cells, circuit, row, variable),
+        None => put_each_input(cells, circuit, row),
     }
 }
 
@@ -46,16 +71,23 @@ fn put_latches(cells: &mut [Code], circuit: &Circuit, states: &[Code])
 }
 
 // Writes the values of variable 0, the inputs and the latches.
-fn put_sources(cells: &mut [Code], circuit: &Circuit, row: &[Tern], states: &[Code])
+fn put_sources(
+    cells: &mut [Code],
+    circuit: &Circuit,
+    row: &[Tern],
+    first: Option<usize>,
+    states: &[Code],
+)
     requires circuit { IsCircuit circuit.now }
     requires cells { length cells.old ≡ circuit.now.max_var + 1 }
     requires row { length row.now ≡ length circuit.now.inputs }
+    requires first { IfSome first (λ v. AreNeighbours v circuit.now.inputs) }
     requires states { length states.now ≡ length circuit.now.latches }
     ensures { (start : List Tern) (rows : List (List Tern)) (t : ℕ) → slice_get rows t ≡ Some row.now →
         AreStates circuit.now start rows t states.now → HoldsSources circuit.now start rows t cells.new }
 {
     cells[0] = Code::of(Tern::Zero);
-    put_inputs(cells, circuit, row);
+    put_inputs(cells, circuit, row, first);
     put_latches(cells, circuit, states);
 }
 
@@ -75,23 +107,26 @@ fn evaluate_frame(cells: &mut [Code], gates: &[Gate])
     }
 }
 
-/// Gives the cells of a frame their values, by its row of input values and the latches' values.
+/// Gives the cells of a frame their values, by its row of input values and the latches' values. The inputs may be
+/// known to be neighbours from some variable on.
 pub fn evaluate_row(
     cells: &mut [Code],
     circuit: &Circuit,
     gates: &[Gate],
     row: &[Tern],
+    first: Option<usize>,
     states: &[Code],
 )
     requires circuit { IsCircuit circuit.now }
     requires gates { IsGateOrder circuit.now gates.now }
     requires cells { length cells.old ≡ circuit.now.max_var + 1 }
     requires row { length row.now ≡ length circuit.now.inputs }
+    requires first { IfSome first (λ v. AreNeighbours v circuit.now.inputs) }
     requires states { length states.now ≡ length circuit.now.latches }
     ensures { (start : List Tern) (rows : List (List Tern)) (t : ℕ) → slice_get rows t ≡ Some row.now →
         AreStates circuit.now start rows t states.now → HoldsAll circuit.now start rows t cells.new }
 {
-    put_sources(cells, circuit, row, states);
+    put_sources(cells, circuit, row, first, states);
     evaluate_frame(cells, gates);
 }
 

@@ -1,11 +1,12 @@
 //! The line of a stimulus that is being read.
-ghost use Rattle.std.specs.Prelude.{◌≡◌, ℕ, ◌-◌, ◌≤◌, ◌<◌, ◌↔◌, List, [], ◌∷◌, ◌++◌, length, map, All, IsTrue, IfOk};
-ghost use Rattle.std.specs.Prelude.{IfErr, OnOk, OnErr, IfSome, IfNone};
+ghost use Rattle.std.specs.Prelude.{◌≡◌, ◌≢◌, ℕ, ◌-◌, ◌≤◌, ◌<◌, ◌↔◌, List, [], ◌∷◌, ◌++◌, length, map, All, IsTrue};
+ghost use Rattle.std.specs.Prelude.{IfOk, IfErr, OnOk, OnErr, IfSome, IfNone, Some, take, slice_get};
 ghost use Rattle.aig_sim.specs.StimulusText.{character, line_number, IsCharacter, EndsLine, HasFault};
 ghost use Rattle.aig_sim.specs.LineInHand.{Keeps, IsOfLine};
 
 use crate::stimulus_fault::StimFault;
 use aig_base::{Memory, Tern};
+use memchr::memchr;
 use std::alloc::Global;
 use std::marker::Model;
 
@@ -40,6 +41,15 @@ impl Model for LineInHand {
       values = l.values.items;
       room = vec_capacity l.values;
     } };
+}
+
+/// How many bytes stand before the first LF, or how many there are.
+pub fn line_length(bytes: &[u8]) -> usize
+    ensures bound { result ≤ length bytes.now }
+    ensures no_end { All (λ b. b ≢ 10) (take result bytes.now) }
+    ensures ended { result < length bytes.now → slice_get bytes.now result ≡ Some 10 }
+{
+    memchr(b'\n', bytes).unwrap_or(bytes.len())
 }
 
 /// The value of a character.

@@ -1,16 +1,17 @@
 //! A circuit that is simulated row by row: three-valued simulation in a topological order.
-ghost use Rattle.std.specs.Prelude.{◌≡◌, ◌+◌, ◌≤◌, List, length, map, unwrap_or, IfOk};
+ghost use Rattle.std.specs.Prelude.{◌≡◌, ◌+◌, ◌≤◌, List, length, map, unwrap_or, IfOk, IfSome};
 ghost use Rattle.aig_parts.specs.declared.ternary.Tern.{Tern};
 ghost use Rattle.aig_base.specs.Circuit.{IsCircuit};
 ghost use Rattle.aig_base.specs.Value.{reset_value, start_of};
 ghost use Rattle.aig_sim.specs.state.Frame.{AreStates};
 ghost use Rattle.aig_sim.specs.GateOrder.{IsGateOrder};
 ghost use Rattle.aig_sim.specs.state.Machine.{Steps};
+ghost use Rattle.aig_sim.specs.state.Neighbours.{AreNeighbours};
 
-use crate::code::{Code, character_in};
+use crate::code::{Code, character_in, spell_in};
 use crate::frame::{evaluate_row, renew_states};
 use crate::gate_order::reordered;
-use crate::row::Row;
+use crate::row::{Row, first_of_neighbours};
 use aig_base::{Circuit, Gate, Latch, List, Lit, Memory, Tern};
 use std::alloc::Global;
 use std::marker::Model;
@@ -22,22 +23,26 @@ pub struct Machine<'a> {
     circuit: &'a Circuit,
     // The gates in the order of their evaluation, where they do not stand in it.
     order: Option<List<Gate>>,
+    // The first input's variable, where the inputs are neighbours.
+    first: Option<usize>,
     cells: Vec<Code>,
     states: Vec<Code>,
 }
 
 impl<'a> Model for Machine<'a> {
-    ghost use Rattle.std.specs.Prelude.{◌≡◌, ◌+◌, length, unwrap_or, vec_len};
+    ghost use Rattle.std.specs.Prelude.{◌≡◌, ◌+◌, length, unwrap_or, vec_len, IfSome};
     ghost use Rattle.aig_base.specs.Circuit.{IsCircuit};
     ghost use Rattle.aig_sim.specs.GateOrder.{IsGateOrder};
     ghost use Rattle.aig_sim.specs.state.Machine.{Machine};
+    ghost use Rattle.aig_sim.specs.state.Neighbours.{AreNeighbours};
 
     ghost Value = { Machine };
 
     ghost view = { λ m. record { circuit = m.circuit.now; cells = m.cells.items; states = m.states.items } };
 
     ghost invariant = { λ m. IsCircuit m.circuit.now × IsGateOrder m.circuit.now (unwrap_or m.order m.circuit.now.gates)
-        × (vec_len m.cells ≡ m.circuit.now.max_var + 1) × (vec_len m.states ≡ length m.circuit.now.latches) };
+        × (vec_len m.cells ≡ m.circuit.now.max_var + 1) × (vec_len m.states ≡ length m.circuit.now.latches)
+        × IfSome m.first (λ v. AreNeighbours v m.circuit.now.inputs) };
 }
 
 /// The value that a latch begins with by its reset; an uninitialised one begins with x (AIGER 1.9, resets).
@@ -92,17 +97,25 @@ fn gates_of<'a>(circuit: &'a Circuit, order: &'a Option<List<Gate>>) -> &'a [Gat
 }
 
 // Gives the cells the values of a frame, and the latches those behind it.
-fn run_row(cells: &mut [Code], states: &mut [Code], circuit: &Circuit, gates: &[Gate], row: &[Tern])
+fn run_row(
+    cells: &mut [Code],
+    states: &mut [Code],
+    circuit: &Circuit,
+    gates: &[Gate],
+    row: &[Tern],
+    first: Option<usize>,
+)
     requires circuit { IsCircuit circuit.now }
     requires gates { IsGateOrder circuit.now gates.now }
     requires cells { length cells.old ≡ circuit.now.max_var + 1 }
     requires states { length states.old ≡ length circuit.now.latches }
     requires row { length row.now ≡ length circuit.now.inputs }
+    requires first { IfSome first (λ v. AreNeighbours v circuit.now.inputs) }
     ensures { (start : List Tern) (rows : List (List Tern)) →
         AreStates circuit.now start rows (length rows) states.old →
         Steps circuit.now start rows row.now cells.new states.new }
 {
-    evaluate_row(cells, circuit, gates, row, states);
+    evaluate_row(cells, circuit, gates, row, first, states);
     renew_states(states, circuit, cells);
 }
 
@@ -119,6 +132,7 @@ impl<'a> Machine<'a> {
         Ok(Machine {
             circuit,
             order: reordered(alloc, circuit)?,
+            first: first_of_neighbours(circuit.inputs()),
             cells: new_cells(alloc, size)?,
             states: codes_of(alloc, &start)?,
         })
@@ -156,6 +170,7 @@ impl<'a> Machine<'a> {
             self.circuit,
             gates_of(self.circuit, &self.order),
             row,
+            self.first,
         );
     }
 }
@@ -173,5 +188,9 @@ impl<'a> Row for Machine<'a> {
 
     fn character(&self, literal: Lit) -> u8 {
         character_in(&self.cells, literal)
+    }
+
+    fn spell(&self, text: &mut [u8], literals: &[Lit]) {
+        spell_in(text, &self.cells, literals);
     }
 }

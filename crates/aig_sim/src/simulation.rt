@@ -1,5 +1,5 @@
 //! Simulation of a stimulus that is read row by row.
-ghost use Rattle.std.specs.Prelude.{◌≡◌, ◌≢◌, ℕ, List, [], ◌∷◌, ◌++◌, ◌<◌, ◌≤◌, length, take, All, Some, slice_get};
+ghost use Rattle.std.specs.Prelude.{◌≡◌, ◌≢◌, ℕ, List, [], ◌∷◌, ◌++◌, ◌<◌, ◌≤◌, length, take};
 ghost use Rattle.std.specs.Prelude.{IfOk, IfErr, OnOk, OnErr};
 ghost use Rattle.aig_base.specs.Value.{start_of};
 ghost use Rattle.aig_sim.specs.declared.line_in_hand.Shape.TheVariants as shapes;
@@ -7,41 +7,12 @@ ghost use Rattle.aig_sim.specs.LineInHand.{Keeps};
 ghost use Rattle.aig_sim.specs.state.Running.{HasRoom, Starts, GoesOn, Stops, Streamed};
 ghost use Rattle.aig_sim.specs.Simulated.{Simulates};
 
-use crate::line_in_hand::{LineInHand, are_characters};
+use crate::line_in_hand::{LineInHand, line_length};
 use crate::machine::{Machine, first_states};
 use crate::recorder::{Recorder, TraceRecorder};
 use crate::stimulus_fault::StimFault;
 use aig_base::{Circuit, Memory, Read, Write};
 use std::alloc::Global;
-
-// How many bytes stand before the first LF, or how many there are. Most lines are rows: a piece of the likely length is
-// looked at as a whole first.
-fn line_length(bytes: &[u8], likely: usize) -> usize
-    ensures bound { result ≤ length bytes.now }
-    ensures no_end { All (λ b. b ≢ 10) (take result bytes.now) }
-    ensures ended { result < length bytes.now → slice_get bytes.now result ≡ Some 10 }
-{
-    let end = likely.min(bytes.len());
-    if are_characters(&bytes[..end]) && (end == bytes.len() || bytes[end] == b'\n') {
-        end
-    } else {
-        first_end(bytes)
-    }
-}
-
-// How many bytes stand before the first LF, or how many there are.
-fn first_end(bytes: &[u8]) -> usize
-    ensures bound { result ≤ length bytes.now }
-    ensures no_end { All (λ b. b ≢ 10) (take result bytes.now) }
-    ensures ended { result < length bytes.now → slice_get bytes.now result ≡ Some 10 }
-{
-    for (place, byte) in bytes.iter().enumerate() {
-        if *byte == b'\n' {
-            return place;
-        }
-    }
-    bytes.len()
-}
 
 /// How many bytes of a stimulus a read asks for; it may give fewer.
 const CHUNK: usize = 16384;
@@ -123,7 +94,7 @@ impl<'a, T: Recorder + Drop> Simulation<'a, T> {
         ensures err { IfErr result (Stops T.is_text T.has_recorded bytes.now self.old
             (W.written out.old) (W.written out.new) (W.failures out.old) (W.failures out.new)) }
     {
-        let length = line_length(bytes, self.line.missing());
+        let length = line_length(bytes);
         self.extend(&bytes[..length]);
         if length == bytes.len() {
             return Ok(length);

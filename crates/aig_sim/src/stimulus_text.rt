@@ -6,7 +6,7 @@ ghost use Rattle.aig_sim.specs.LineInHand.{Keeps};
 ghost use Rattle.aig_sim.specs.declared.line_in_hand.Shape.TheVariants as shapes;
 ghost use Rattle.aig_sim.specs.StimulusText.{EndsLine, SpellsRows, HasFault, HasFaultyLine};
 
-use crate::line_in_hand::LineInHand;
+use crate::line_in_hand::{LineInHand, line_length};
 use crate::stimulus::{FRAMES, Stimulus};
 use crate::stimulus_fault::StimFault;
 use std::alloc::Global;
@@ -42,12 +42,15 @@ pub fn read_stimulus(alloc: Global, bytes: &[u8], width: u32) -> Result<Stimulus
 {
     let mut stimulus = Stimulus::new(alloc, width);
     let mut line = LineInHand::new(alloc, width as usize, 0)?;
-    for byte in bytes {
-        if *byte == b'\n' {
+    let mut at = 0;
+    while at < bytes.len() {
+        let length = line_length(&bytes[at..]);
+        line.extend(&bytes[at..at + length])?;
+        at += length;
+        if at < bytes.len() {
             end_line(&mut stimulus, &line)?;
             line.clear();
-        } else {
-            line.push(*byte)?;
+            at += 1;
         }
     }
     if line.is_empty() {

@@ -20,9 +20,7 @@ pub fn spell_literals<R: Row>(text: &mut [u8], row: &R, literals: &[Lit])
     requires room { length text.old ≡ length literals.now }
     ensures { text.new ≡ map (literal_character (R.cells row.now)) literals.now }
 {
-    for (place, literal) in literals.iter().enumerate() {
-        text[place] = row.character(*literal);
-    }
+    row.spell(text, literals);
 }
 
 // Puts a character for each literal, and the byte that ends the field.

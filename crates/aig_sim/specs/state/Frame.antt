@@ -26,6 +26,13 @@ abbrev pub HoldsInputs : Raw → List Tern → List (List Tern) → ℕ → List
 HoldsInputs raw start rows t cells = (i l : ℕ) → slice_get raw.inputs i ≡ Some l
     → Holds raw start rows t cells (variable l)
 
+-- a frame's row was written: what was a value stays one, and the cells of the inputs are values
+pub record PutsInputs (raw : Raw) (row old new : List Tern) : Type 0 where
+  pub renews : (start : List Tern) (rows : List (List Tern)) (t : ℕ) → slice_get rows t ≡ Some row
+      → Renews raw start rows t old new
+  pub inputs : (start : List Tern) (rows : List (List Tern)) (t : ℕ) → slice_get rows t ≡ Some row
+      → HoldsInputs raw start rows t new
+
 -- the cells of the latches
 abbrev pub HoldsLatches : Raw → List Tern → List (List Tern) → ℕ → List Tern → Type 0
 HoldsLatches raw start rows t cells = (i : ℕ) (x : Latch) → slice_get raw.latches i ≡ Some x

@@ -6,7 +6,7 @@ use Rattle.aig_parts.specs.Literal.{variable}
 use Rattle.aig_sim.specs.state.Frame.{Holds}
 use Rattle.aig_base.proofs.Circuits.{input_in_range}
 use Rattle.aig_sim.proofs.Evaluation.{item_at, items_more, items_all, input_value, put_value}
-use Rattle.aig_sim.proofs.frame.put_inputs.Goals as goal
+use Rattle.aig_sim.proofs.frame.put_each_input.Goals as goal
 
 pub loop-position-preserved : goal.loop-position-preserved
 loop-position-preserved c =
@@ -35,10 +35,12 @@ loop-position-preserved c =
           (c.loop-position.invariant.inputs start rows t h j k below is)) (put start rows t h).2;
     }
 
-pub returns-clause-inputs : goal.returns-clause-inputs
-returns-clause-inputs c =
-    λ start rows t h. items_all
-    (λ k. Holds c.args.circuit.now start rows t c.loop-position.cells (variable k)) c.args.circuit.now.inputs
-    c.loop-position.position
-    (rw (← c.inputs-input-items.ensures) (omega (arith, c.loop-position-test.false)))
-    (c.loop-position.invariant.inputs start rows t h)
+pub returns : goal.returns
+returns c = record {
+  renews = c.loop-position.invariant.renews;
+  inputs = λ start rows t h. items_all
+      (λ k. Holds c.args.circuit.now start rows t c.loop-position.cells (variable k)) c.args.circuit.now.inputs
+      c.loop-position.position
+      (rw (← c.inputs-input-items.ensures) (omega (arith, c.loop-position-test.false)))
+      (c.loop-position.invariant.inputs start rows t h);
+}
