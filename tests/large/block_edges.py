@@ -1,6 +1,7 @@
-"""Circuit files in which a token, whole or broken, stands across the edge of a block: the program reads 4,096 bytes at
-once, and each token is put at every place where it has one of the bytes 4,095 to 4,097. The same files come through a
-pipe that gives the bytes of the token one at a time, so that there is an edge at each of them; so do headers.
+"""Circuit files in which a token, whole or broken, stands across the edge of a block: the program reads 32,768 bytes at
+once, and each token is put at every place where it has one of the bytes 32,767 to 32,769. The same files come through a
+pipe that gives the bytes of the token one at a time, so that there is an edge at each of them; so do headers. Lines
+that are all at hand are read in one loop, and the one at the edge token by token: so the two meet at every kind.
 
 What is to come out is told by the plain reader, which knows no blocks: the circuit's normal text and its binary file,
 each of which is read again; or the message of the first fault, with its place.
@@ -18,7 +19,8 @@ import subprocess
 from library.plain_reader import Fault, Reader, delta, in_order, spelled, test_parts
 from library.runs import Ended, refused, write
 
-EDGES = (4095, 4097)
+BLOCK = 32768
+EDGES = (BLOCK - 1, BLOCK + 1)
 SECONDS = 20
 
 # What stands in a file in place of a token of each kind: other ones that are right, and broken ones.
@@ -68,7 +70,7 @@ def names(*chosen):
 
 def behind_outputs(word, most, inputs, counts):
     """Inputs, a latch and outputs; one output more is to follow, and then the other sections of these counts."""
-    lines = 470 if word == b"aag" else 900
+    lines = 6800 if word == b"aag" else 7240
     first = join(header(word, most, inputs, 1, lines + 1, *counts))
     latch = 2 * (inputs + 1)
     if word == b"aag":
@@ -99,7 +101,7 @@ def gates(word, *numbers):
 
 def behind_latches(word):
     """Latches, behind others."""
-    lines = 580 if word == b"aag" else 1600
+    lines = 4400 if word == b"aag" else 13080
     first = join(header(word, lines + 8, 6, lines + 2, 0, 0)) + (b"2\n4\n6\n8\n10\n12\n" if word == b"aag" else b"")
     lefts = [b"%d " % (2 * at) if word == b"aag" else b"" for at in range(7, lines + 9)]
     tried = []
@@ -116,12 +118,13 @@ def behind_latches(word):
 
 
 def behind_inputs():
-    """Files with an input and a name behind other inputs, in text; zeros at the end of the header say nothing."""
+    """Files with an input and a name behind other inputs, in text; zeros at the end of the header say nothing, and one
+    variable, of one digit or of two, is no input."""
     found = {}
-    for lines, zeros in itertools.product(range(910, 930), range(5)):
-        first = join(header(b"aag", lines + 1, lines + 1, 0, 0, 0, *[0] * zeros))
-        first += b"".join(b"%d\n" % (2 * at) for at in range(1, lines + 1))
-        found.setdefault(len(first), (first, [*line("number", 2 * lines + 2), *names((b"i", 0, b"n"))]))
+    for lines, zeros, other in itertools.product(range(6370, 6396), range(5), (4, 40)):
+        first = join(header(b"aag", lines + 2, lines + 1, 0, 0, 0, *[0] * zeros))
+        first += b"".join(b"%d\n" % (2 * at) for at in range(1, lines + 2) if at != other)
+        found.setdefault(len(first), (first, [*line("number", 2 * lines + 4), *names((b"i", 0, b"n"))]))
     for length, (first, tried) in found.items():
         base = {length: first}.get
         yield from with_others(base, tried, [0, 1])
@@ -193,7 +196,7 @@ def files():
     most = 1050000
     tried = [*line("number", 2 * most), *gates(b"aig", (2 * most, 2, 1))]
     whole = with_others(behind_outputs(b"aig", most, most - 2, (1, )), tried)
-    yield from ((data, place) for data, place in whole if place == 4094 and data.endswith(tried[-1][1]))
+    yield from ((data, place) for data, place in whole if place == BLOCK - 2 and data.endswith(tried[-1][1]))
     yield from headers()
 
 

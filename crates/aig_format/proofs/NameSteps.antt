@@ -18,7 +18,8 @@ use Rattle.aig_format.specs.state.Reading.{Refusal, text, Read, first_of, rest_o
 use Rattle.aig_format.specs.state.ReadingNames.{count_of, line_at, position_at}
 use Rattle.aig_format.specs.state.Meaning.{Fails}
 use Rattle.aig_format.proofs.Keys.{is_named_from, not_named_from}
-use Rattle.aig_format.proofs.Steps.{done, done_is, with_front, regroup, fails_else}
+use Rattle.aig_format.proofs.Steps.{done, done_is, regroup, fails_else}
+use Rattle.aig_format.specs.state.ReadingSections.{with_front}
 
 -- taking a byte is never refused
 pub next_fails : {B : Type 0} (e : Fault) (bytes : List ℕ) (read : Result B Refusal) → Fails e (next_at bytes)

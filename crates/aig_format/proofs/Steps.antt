@@ -1,14 +1,15 @@
 -- How reading goes on, for loops.
 use Rattle.std.proofs.Common.{◌≡◌, ℕ, suc, ◌+◌, ◌-◌, ◌*◌, ◌<◌, ◌≤◌, Bool, true, false, cond, ltb, List, [], ◌∷◌}
 use Rattle.std.proofs.Common.{◌++◌, Option, Some, None, Result, Ok, Err, refl, sym, ap, subst, ◌∙◌, append_assoc}
-use Rattle.std.proofs.Common.{arith}
-use Rattle.std.proofs.lemmas.List.{append-nil}
+use Rattle.std.proofs.Common.{arith, length, length-append, drop}
+use Rattle.std.proofs.lemmas.List.{append-nil, length-drop, drop-drop, drop-append-le}
 use Rattle.std.proofs.lemmas.Bool.{lt-ltb, le-ltb}
 use Rattle.aig_parts.specs.declared.fault.Fault.{Fault}
 use Rattle.aig_parts.specs.declared.fault.Fault.TheVariants as faults
-use Rattle.aig_format.specs.state.Reading.{Refusal, limit, Read, ◌>>=◌, is_digit, digit_at, digits_at}
-use Rattle.aig_format.specs.state.ReadingSections.{lines_at}
+use Rattle.aig_format.specs.state.Reading.{Refusal, limit, Read, EndsItself, ◌>>=◌, is_digit, digit_at, digits_at}
+use Rattle.aig_format.specs.state.ReadingSections.{lines_at, with_front}
 use Rattle.aig_format.specs.state.Meaning.{Fails}
+use Rattle.aig_format.specs.state.Reads.{Adds}
 
 abbrev pub done : {A : Type 0} → A → List ℕ → Read A
 done x rest = Ok (x, rest)
@@ -101,10 +102,6 @@ digit_fails e bytes read h = let k = digit_ok bytes in fails_else e (digit_at by
 
 -- ---- lines
 
--- what was read before, and what is still read
-abbrev pub with_front : {X : Type 0} → List X → Read (List X) → Read (List X)
-with_front front read = read >>= λ x. Ok (front ++ x.0, x.1)
-
 pub regroup : {X : Type 0} (front : List X) (x : X) (read : Read (List X))
     → with_front front (read >>= λ y. Ok (x ∷ y.0, y.1)) ≡ with_front (front ++ x ∷ []) read
 regroup {X} front x (Ok y) = ap (λ (xs : List X). done xs y.1) (simp append_assoc)
@@ -128,6 +125,68 @@ module _ {X : Type 0} (line : ℕ → List ℕ → Read X) where
       ≡ with_front (front ++ x ∷ []) (lines_at line (count - (i + 1)) (suc v) after) =
       rw (k, h) (regroup front x (lines_at line (count - (i + 1)) (suc v) after)) in
       ap (λ (u : ℕ). with_front (front ++ x ∷ []) (lines_at line (count - (i + 1)) u after)) is ∙ sym one ∙ so_far
+
+  -- the first one stands at the front of bytes, whatever comes behind these
+  pub lines_next : (front : List X) (v : ℕ) (bytes after : List ℕ) (x : X) → EndsItself (line v) → line v bytes ≡ Ok (x, after)
+      → (rest : ℕ) (more : List ℕ) → with_front (front ++ x ∷ []) (lines_at line rest (suc v) (after ++ more))
+      ≡ with_front front (lines_at line (suc rest) v (bytes ++ more))
+  unfolding lines_at
+  lines_next front v bytes after x ends h rest more =
+      let e = ends bytes after x h in
+      let first : line v (bytes ++ more) ≡ Ok (x, after ++ more) =
+      ap (λ (xs : List ℕ). line v (xs ++ more)) e.1 ∙ ap (line v) (append_assoc e.0 after more) ∙ e.2 (after ++ more) in
+      rw first (sym (regroup front x (lines_at line rest (suc v) (after ++ more))))
+
+  pub adds_none : (first : ℕ) (hand : List ℕ) (all : List X) → Adds line first 0 0 hand all all
+  adds_none first hand all = record {
+    within = omega arith;
+    count = omega arith;
+    lines = λ rest more.
+        let e : first + 0 ≡ first = omega arith in
+        let k : rest ≡ 0 + rest = omega arith in
+        ap (λ (v : ℕ). with_front all (lines_at line rest v (hand ++ more))) e
+        ∙ ap (λ (n : ℕ). with_front all (lines_at line n first (hand ++ more))) k;
+  }
+
+  -- one more that is at hand
+  pub adds_more : (first taken size more : ℕ) (hand shown : List ℕ) (old all new : List X) (x : X)
+      → Adds line first taken size hand old all → shown ≡ drop size hand → EndsItself (line (first + taken))
+      → more ≤ length shown → line (first + taken) shown ≡ Ok (x, drop more shown) → new ≡ all ++ x ∷ []
+      → Adds line first (taken + 1) (size + more) hand old new
+  adds_more first taken size more hand shown old all new x adds same ends le h is = record {
+    within = omega (arith, le, ap length same, length-drop size hand, adds.within);
+    count = omega (arith, ap length is, length-append all (x ∷ []), adds.count);
+    lines = λ rest behind.
+        let v : first + (taken + 1) ≡ suc (first + taken) = omega arith in
+        let k : taken + suc rest ≡ taken + 1 + rest = omega arith in
+        ap (λ (ys : List X). with_front ys (lines_at line rest (first + (taken + 1)) (drop (size + more) hand ++ behind))) is
+        ∙ ap (λ (u : ℕ). with_front (all ++ x ∷ []) (lines_at line rest u (drop (size + more) hand ++ behind))) v
+        ∙ ap (λ (xs : List ℕ). with_front (all ++ x ∷ []) (lines_at line rest (suc (first + taken)) (xs ++ behind)))
+        (sym (drop-drop more size hand))
+        ∙ lines_next all (first + taken) (drop size hand) (drop more (drop size hand)) x ends
+        (subst (λ (xs : List ℕ). line (first + taken) xs ≡ Ok (x, drop more xs)) same h) rest behind
+        ∙ adds.lines (suc rest) behind
+        ∙ ap (λ (n : ℕ). with_front old (lines_at line n first (hand ++ behind))) k;
+  }
+
+  -- those that were at hand are read
+  pub lines_taken : (all new : List X) (count i first taken size : ℕ) (shown hand behind bytes after : List ℕ)
+      (total : Read (List X)) → i + taken ≤ count → shown ≡ hand → bytes ≡ hand ++ behind → after ≡ drop size bytes
+      → Adds line (first + i) taken size shown all new
+      → with_front all (lines_at line (count - i) (first + i) bytes) ≡ total
+      → with_front new (lines_at line (count - (i + taken)) (first + (i + taken)) after) ≡ total
+  lines_taken all new count i first taken size shown hand behind bytes after total le same split is adds so_far =
+      let rest : ℕ = count - (i + taken) in
+      let whole : bytes ≡ shown ++ behind = split ∙ ap (λ (xs : List ℕ). xs ++ behind) (sym same) in
+      let left : after ≡ drop size shown ++ behind =
+      is ∙ ap (drop size) whole ∙ drop-append-le size shown behind adds.within in
+      let k : taken + (count - (i + taken)) ≡ count - i = omega (arith, le) in
+      let v : first + (i + taken) ≡ first + i + taken = omega arith in
+      ap (λ (u : ℕ). with_front new (lines_at line rest u after)) v
+      ∙ ap (λ (xs : List ℕ). with_front new (lines_at line rest (first + i + taken) xs)) left
+      ∙ adds.lines rest behind
+      ∙ ap (λ (n : ℕ). with_front all (lines_at line n (first + i) (shown ++ behind))) k
+      ∙ ap (λ (xs : List ℕ). with_front all (lines_at line (count - i) (first + i) xs)) (sym whole) ∙ so_far
 
   pub lines_fail : (e : Fault) (front : List X) (count i v : ℕ) (bytes : List ℕ) (total : Read (List X)) → i < count
       → Fails e (line v bytes)

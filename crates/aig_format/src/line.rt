@@ -1,9 +1,9 @@
 //! Lines of the sections, and entries of which a part is implied.
-ghost use Rattle.std.specs.Prelude.{◌≡◌, ℕ, ◌+◌, ◌<◌, ◌≤◌, ◌^◌, List, length, drop, Ok, IfOk, IfSome, IfNone};
+ghost use Rattle.std.specs.Prelude.{◌≡◌, ℕ, ◌+◌, ◌<◌, ◌≤◌, ◌^◌, List, length, drop, Ok, IfOk, IfSome};
 ghost use Rattle.aig_format.specs.state.Reading.{Read, EndsItself};
 ghost use Rattle.aig_format.specs.state.ReadingSections.{literal_at, latch_at, gate_at, implicit_latch_at};
 ghost use Rattle.aig_format.specs.state.ReadingSections.{implicit_gate_at, lines_at};
-ghost use Rattle.aig_format.specs.state.Reads.{Reads, ReadsToken};
+ghost use Rattle.aig_format.specs.state.Reads.{Adds, Reads, ReadsToken};
 
 use crate::at_hand::{delta_in, field_in};
 use crate::delta::delta;
@@ -12,7 +12,7 @@ use crate::source::Source;
 use crate::token::{BODY, field, number, optional};
 use crate::token_fault::TokenFault;
 use aig_base::{Fault, Gate, Latch, List, Lit};
-use std::alloc::Global;
+use std::alloc::{AllocFailed, Global};
 
 /// Entries as lines of text.
 pub(crate) struct Text;
@@ -170,31 +170,31 @@ impl Line<Implied> for Gate {
     }
 }
 
-/// One that is all at hand. Where there is none, nothing is taken.
-#[inline]
-fn line_at_hand<S: Source, F, X: Line<F>>(s: &mut S, variable: u32) -> Option<X>
-    requires { X.fits variable }
-    ensures some { IfSome result (λ x. Reads S.Source s.old s.new (λ y. y) (Ok x) (X.line_at variable)) }
-    ensures none { IfNone result (s.new ≡ s.old) }
+/// Adds those that are all at hand, one behind the other, at most so many: how many, and the length of all of them.
+fn push_at_hand<F, X: Line<F>>(
+    all: &mut List<X>,
+    hand: &[u8],
+    first: u32,
+    most: u32,
+) -> Result<(u32, usize), AllocFailed<X>>
+    requires room { first + most < 2 ^ 32 }
+    requires fits { (i : ℕ) → i < most → X.fits (first + i) }
+    ensures adds { IfOk result (λ taken. Adds X.line_at first taken.0 taken.1 hand.now all.old all.new) }
+    ensures most { IfOk result (λ taken. taken.0 ≤ most) }
 {
-    let (line, size) = X::at_hand(s.front(), variable)?;
-    s.skip(size);
-    Some(line)
-}
-
-/// The next one: from what is at hand, or byte by byte where it goes beyond that, or is refused.
-#[inline]
-fn next_line<S: Source, F, X: Line<F>>(s: &mut S, variable: u32) -> Result<X, TokenFault>
-    requires { X.fits variable }
-    ensures reads { ReadsToken S.Source s.old s.new result (X.line_at variable) }
-{
-    match line_at_hand::<S, F, X>(s, variable) {
-        Some(line) => Ok(line),
-        None => X::line(s, variable),
+    let mut size = 0;
+    for count in 0..most {
+        let Some((line, more)) = X::at_hand(&hand[size..], first + count) else {
+            return Ok((count, size));
+        };
+        all.push(line)?;
+        size += more;
     }
+    Ok((most, size))
 }
 
-/// So many, of the variables from `first` on.
+/// So many, of the variables from `first` on: those that are at hand, and token by token the one that goes beyond that,
+/// or is refused.
 pub(crate) fn lines<S: Source, F, X: Line<F>>(
     alloc: Global,
     s: &mut S,
@@ -207,9 +207,16 @@ pub(crate) fn lines<S: Source, F, X: Line<F>>(
     ensures count { IfOk result (λ all. length all ≡ count) }
 {
     let mut all = List::new(alloc);
-    for i in 0..count {
-        let line = next_line::<S, F, X>(s, first + i)?;
+    let mut read = 0;
+    loop {
+        let (taken, size) = push_at_hand::<F, X>(&mut all, s.front(), first + read, count - read)?;
+        s.skip(size);
+        read += taken;
+        if read == count {
+            return Ok(all);
+        }
+        let line = X::line(s, first + read)?;
         all.push(line)?;
+        read += 1;
     }
-    Ok(all)
 }

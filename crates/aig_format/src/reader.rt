@@ -72,7 +72,7 @@ pub fn read(alloc: Global, bytes: &[u8]) -> Result<Circuit, Fault>
 
 /// What `read` answers for the bytes that the reader holds, or `Io` where a read failed, which ends it.
 ///
-/// It reads through an array of 4,096 bytes: it makes no read that the answer does not need, and none after one that
+/// It reads through an array of 32,768 bytes: it makes no read that the answer does not need, and none after one that
 /// gave the end. Bytes of the last block that the answer does not need are taken from the reader too.
 pub fn read_from<R: Read>(alloc: Global, reader: &mut R) -> Result<Circuit, Fault>
     ensures answers { (bytes : List ℕ) → R.left reader.old ≡ Some bytes → result ≢ Err Fault.Io

@@ -1,7 +1,7 @@
 //! The bytes of a reader.
 ghost use Rattle.std.specs.Prelude.{◌≡◌, ◌+◌, ◌*◌, ◌-◌, ◌<◌, ◌≤◌, ◌++◌, [], take, drop, true, false, IfOk, IfErr};
 ghost use Rattle.std.specs.Prelude.{IsTrue};
-ghost use Rattle.aig_format.specs.state.Held.{held, IsKnown, known};
+ghost use Rattle.aig_format.specs.state.Held.{held, IsKnown, known, room};
 ghost use Rattle.aig_format.specs.Verdict.{Raises};
 ghost use Rattle.aig_format.specs.state.Meaning.{of_token};
 
@@ -10,7 +10,7 @@ use crate::token_fault::TokenFault;
 use aig_base::{Failed, Read};
 
 /// How many bytes are read at once.
-const ROOM: usize = 4096;
+const ROOM: usize = 32_768;
 
 /// The bytes of a reader, through a plain array.
 #[derive(Drop)]
@@ -25,7 +25,7 @@ pub(crate) struct Stream<'r, R: Read> {
     // A read gave the end.
     ended: bool,
     ghost ordered: { start ≤ end },
-    ghost within: { end ≤ 4096 },
+    ghost within: { end ≤ room },
     ghost last: { IsTrue ended → (start ≡ end) × (known (R.left reader.now) ≡ []) },
 }
 
@@ -61,8 +61,8 @@ impl<'r, R: Read> Stream<'r, R> {
         ensures io { IfErr result (λ fault. fault ≡ TokenFault.Io) }
         ensures told { IsKnown (R.left self.old.reader.now) → IsKnown (R.left self.new.reader.now) }
         ensures failures { Raises (of_token result) (R.failures self.old.reader.now) (R.failures self.new.reader.now) }
-        ensures never_more { 4096 * R.reads_left self.new.reader.now + (self.new.end - self.new.start)
-            ≤ 4096 * R.reads_left self.old.reader.now + (self.old.end - self.old.start) }
+        ensures never_more { room * R.reads_left self.new.reader.now + (self.new.end - self.new.start)
+            ≤ room * R.reads_left self.old.reader.now + (self.old.end - self.old.start) }
         // No read is made where a byte is held, or where a read gave the end: nothing changes.
         ensures held { self.old.start < self.old.end → self.new ≡ self.old }
         ensures ended { IsTrue self.old.ended → self.new ≡ self.old }
@@ -91,8 +91,8 @@ impl<'r, R: Read> Stream<'r, R> {
         ensures io { IfErr result (λ fault. fault ≡ TokenFault.Io) }
         ensures told { IsKnown (R.left self.old.reader.now) → IsKnown (R.left self.new.reader.now) }
         ensures failures { Raises (of_token result) (R.failures self.old.reader.now) (R.failures self.new.reader.now) }
-        ensures never_more { 4096 * R.reads_left self.new.reader.now + (self.new.end - self.new.start)
-            ≤ 4096 * R.reads_left self.old.reader.now }
+        ensures never_more { room * R.reads_left self.new.reader.now + (self.new.end - self.new.start)
+            ≤ room * R.reads_left self.old.reader.now }
     {
         match self.reader.read(&mut self.buffer) {
             Err(Failed) => Err(TokenFault::Io),
@@ -116,7 +116,7 @@ impl<'r, R: Read> Source for Stream<'r, R> {
 
     ghost failures = { λ s. R.failures s.reader.now };
 
-    ghost more = { λ s. 4096 * R.reads_left s.reader.now + (s.end - s.start) };
+    ghost more = { λ s. room * R.reads_left s.reader.now + (s.end - s.start) };
 
     ghost hand = { λ s. held s.start s.end s.buffer };
 

@@ -1,5 +1,5 @@
 -- Reading the header line and the sections.
-use Rattle.std.specs.Prelude.{ℕ, Bool, true, false, zero, suc, ◌+◌, ◌-◌, ◌*◌, List, [], ◌∷◌, Ok, Err, nat_lt}
+use Rattle.std.specs.Prelude.{ℕ, Bool, true, false, zero, suc, ◌+◌, ◌-◌, ◌*◌, List, [], ◌∷◌, ◌++◌, Ok, Err, nat_lt}
 use Rattle.std.specs.Prelude.{get_or, if◌then◌else◌}
 use Rattle.aig_parts.specs.declared.gate.Gate.{Gate}
 use Rattle.aig_parts.specs.declared.latch.Latch.{Latch}
@@ -124,6 +124,10 @@ lines_at line (suc n) v bytes = do
   first ← line v bytes
   others ← lines_at line n (suc v) first.1
   Ok (first.0 ∷ others.0, others.1)
+
+-- what was read before, and what is still read
+abbrev pub with_front : {X : Type 0} → List X → Read (List X) → Read (List X)
+with_front front read = read >>= λ x. Ok (front ++ x.0, x.1)
 
 abbrev pub literals_at : ℕ → List ℕ → Read (List ℕ)
 literals_at n bytes = lines_at (λ v. literal_at) n 0 bytes

@@ -1,11 +1,12 @@
 -- What calls that read do to their source.
-use Rattle.std.specs.Prelude.{◌≡◌, ◌≤◌, ℕ, List, Result}
+use Rattle.std.specs.Prelude.{◌≡◌, ◌≤◌, ◌+◌, ◌++◌, ℕ, List, Result, length, drop}
 use Rattle.aig_parts.specs.declared.fault.Fault.{Fault}
 use Rattle.aig_format.specs.declared.source.Source.{Ghosts}
 use Rattle.aig_format.specs.declared.token_fault.TokenFault.{TokenFault}
 use Rattle.aig_format.specs.Verdict.{Raises}
 use Rattle.aig_format.specs.state.Meaning.{of_token, Gives}
 use Rattle.aig_format.specs.state.Reading.{Read}
+use Rattle.aig_format.specs.state.ReadingSections.{lines_at, with_front}
 
 -- What was answered, seen by view, and the bytes that are left are what reading gives, unless memory ran out or a read
 -- failed. The source tells its bytes as before and is of the same reader; a failed read is counted; there is no more to
@@ -28,3 +29,13 @@ pub record Keeps {S : Type 0} (source : Ghosts S) (old new : S) : Type 0 where
   pub reader : source.reader new ≡ source.reader old
   pub failures : source.failures new ≡ source.failures old
   pub never_more : source.more new ≤ source.more old
+
+-- So many entries, of the variables from first on, stand in so many bytes at the front of hand and were added to a
+-- list: whatever comes behind hand, reading them and the rest behind old is reading the rest behind new.
+pub record Adds {X : Type 0} (line : ℕ → List ℕ → Read X) (first taken size : ℕ) (hand : List ℕ) (old new : List X)
+    : Type 0 where
+  pub within : size ≤ length hand
+  pub count : length new ≡ length old + taken
+  pub lines : (rest : ℕ) (more : List ℕ)
+      → with_front new (lines_at line rest (first + taken) (drop size hand ++ more))
+      ≡ with_front old (lines_at line (taken + rest) first (hand ++ more))

@@ -1,32 +1,80 @@
-use Rattle.std.proofs.Common.{◌+◌, ◌∷◌, [], arith, ap, length, length-append, refl}
+use Rattle.std.proofs.Common.{ℕ, ◌≡◌, ◌+◌, ◌∷◌, [], arith, ap, length, length-append, refl, subst}
 use Rattle.std.proofs.lemmas.Result.{err_from_is_err_and}
-use Rattle.aig_format.proofs.Keeping.{keeps_then, keeps_reads, err_reads}
-use Rattle.aig_format.proofs.Steps.{lines_on, lines_fail, lines_done}
+use Rattle.aig_format.proofs.Keeping.{keeps_step, keeps_then, keeps_reads, err_reads}
+use Rattle.aig_format.proofs.Steps.{lines_taken, lines_on, lines_fail, lines_done}
 use Rattle.aig_format.proofs.line.lines.Goals as goal
+
+pub push_at_hand-requires-clause-fits : goal.push_at_hand-requires-clause-fits
+push_at_hand-requires-clause-fits g c = λ j lt.
+    let e : c.args.first + (c.loop-all.read + j) ≡ c.args.first + c.loop-all.read + j = omega arith in
+    subst g.X.Line.fits e (c.requires.fits (c.loop-all.read + j) (omega (arith, lt)))
+
+pub returns-then-read-count-clause-reads : goal.returns-then-read-count-clause-reads
+returns-then-read-count-clause-reads g c =
+    let i = c.loop-all.invariant in
+    let t = c.in_ok-taken in
+    let s = c.skip.ensures in
+    let read : ℕ = c.loop-all.read + t.taken in
+    let keeps = keeps_step i.keeps s.told s.reader s.failures (omega (arith, s.more)) in
+    let bytes = λ (told : g.S.Source.tells c.args.s.now).
+    lines_taken g.X.Line.line_at c.loop-all.all c.push_at_hand.new.all c.args.count c.loop-all.read c.args.first t.taken t.size
+    c.front.result.now _ _ _ _ _ (omega (arith, i.most, t.ensures.most)) c.front.ensures.hand c.front.ensures.left s.left
+    t.ensures.adds (i.bytes told) in
+    keeps_reads keeps (λ n. refl) (λ told.
+    lines_done g.X.Line.line_at c.push_at_hand.new.all c.args.count read (c.args.first + read) _ _
+    (omega (arith, c.if-read-count.true)) (bytes told))
+
+pub returns-then-read-count-clause-count : goal.returns-then-read-count-clause-count
+returns-then-read-count-clause-count g c =
+    omega (arith, c.in_ok-taken.ensures.adds.count, c.loop-all.invariant.count, c.if-read-count.true)
+
+pub line-requires : goal.line-requires
+line-requires g c =
+    c.requires.fits (c.loop-all.read + c.in_ok-taken.taken)
+    (omega (arith, c.loop-all.invariant.most, c.in_ok-taken.ensures.most, c.if-read-count.false))
 
 pub returns-in_err-line-clause-reads : goal.returns-in_err-line-clause-reads
 returns-in_err-line-clause-reads g c =
-    let p = err_from_is_err_and c.from_residual.result c.from_residual.ensures.1 in
+    let p = err_from_is_err_and c.from_residual-in_err-line.result c.from_residual-in_err-line.ensures.1 in
+    let i = c.loop-all.invariant in
+    let t = c.in_ok-taken in
+    let s = c.skip.ensures in
+    let read : ℕ = c.loop-all.read + t.taken in
+    let keeps = keeps_step i.keeps s.told s.reader s.failures (omega (arith, s.more)) in
+    let bytes = λ (told : g.S.Source.tells c.args.s.now).
+    lines_taken g.X.Line.line_at c.loop-all.all c.push_at_hand.new.all c.args.count c.loop-all.read c.args.first t.taken t.size
+    c.front.result.now _ _ _ _ _ (omega (arith, i.most, t.ensures.most)) c.front.ensures.hand c.front.ensures.left s.left
+    t.ensures.adds (i.bytes told) in
     rw (p.1, p.2)
-    (err_reads c.loop-i.invariant.keeps c.in_err-line.ensures.reads (λ told fails.
-    lines_fail g.X.Line.line_at _ c.loop-i.all c.args.count c.loop-i.i (c.args.first + c.loop-i.i) (g.S.Source.left c.loop-i.s)
-    _ c.loop-i-test.true fails (c.loop-i.invariant.bytes told)))
+    (err_reads keeps c.in_err-line.ensures.reads (λ told fails.
+    lines_fail g.X.Line.line_at _ c.push_at_hand.new.all c.args.count read (c.args.first + read) _ _
+    (omega (arith, i.most, t.ensures.most, c.if-read-count.false)) fails (bytes told)))
 
-pub loop-i-preserved : goal.loop-i-preserved
-loop-i-preserved g c =
-    let i = c.loop-i.invariant in
+pub loop-all-preserved : goal.loop-all-preserved
+loop-all-preserved g c =
+    let i = c.loop-all.invariant in
+    let t = c.in_ok-taken in
+    let s = c.skip.ensures in
+    let read : ℕ = c.loop-all.read + t.taken in
+    let keeps = keeps_step i.keeps s.told s.reader s.failures (omega (arith, s.more)) in
+    let bytes = λ (told : g.S.Source.tells c.args.s.now).
+    lines_taken g.X.Line.line_at c.loop-all.all c.push_at_hand.new.all c.args.count c.loop-all.read c.args.first t.taken t.size
+    c.front.result.now _ _ _ _ _ (omega (arith, i.most, t.ensures.most)) c.front.ensures.hand c.front.ensures.left s.left
+    t.ensures.adds (i.bytes told) in
     record {
       bytes = λ told.
           rw c.in_ok-push.ensures.ok
-          (lines_on g.X.Line.line_at c.loop-i.all c.args.count c.loop-i.i (c.args.first + c.loop-i.i) (c.args.first + (c.loop-i.i + 1))
-          (g.S.Source.left c.loop-i.s) c.in_ok-line.line (g.S.Source.left c.next_line.new.s)
-          _ c.loop-i-test.true (omega arith)
-          (c.in_ok-line.ensures.reads.bytes (i.keeps.told told)) (i.bytes told));
-      count = omega (arith, ap length c.in_ok-push.ensures.ok, length-append c.loop-i.all (c.in_ok-line.line ∷ []), i.count);
-      keeps = keeps_then i.keeps c.in_ok-line.ensures.reads;
+          (lines_on g.X.Line.line_at c.push_at_hand.new.all c.args.count read (c.args.first + read) (c.args.first + (read + 1)) _
+          c.in_ok-line.line _ _ (omega (arith, i.most, t.ensures.most, c.if-read-count.false)) (omega arith)
+          (c.in_ok-line.ensures.reads.bytes (keeps.told told)) (bytes told));
+      count =
+          omega (
+            arith,
+            ap length c.in_ok-push.ensures.ok,
+            length-append c.push_at_hand.new.all (c.in_ok-line.line ∷ []),
+            t.ensures.adds.count,
+            i.count,
+          );
+      most = omega (arith, i.most, t.ensures.most, c.if-read-count.false);
+      keeps = keeps_then keeps c.in_ok-line.ensures.reads;
     }
-
-pub returns-clause-reads : goal.returns-clause-reads
-returns-clause-reads g c = keeps_reads c.loop-i.invariant.keeps (λ n. refl)
-    (λ told. lines_done g.X.Line.line_at c.loop-i.all c.args.count c.loop-i.i (c.args.first + c.loop-i.i) (g.S.Source.left c.loop-i.s)
-    _ c.loop-i-test.false (c.loop-i.invariant.bytes told))

@@ -1,7 +1,7 @@
 use Rattle.std.proofs.Common.{◌≡◌, drop, take, map, length}
 use Rattle.aig_format.specs.state.ReadingSections.{groups_of_literals_at}
 use Rattle.aig_format.specs.state.Reads.{Keeps}
-use Rattle.aig_format.proofs.Steps.{with_front}
+use Rattle.aig_format.specs.state.ReadingSections.{with_front}
 use Rattle.aig_format.proofs.section.groups.Given as goal
 
 abbrev pub invariant-loop-size : goal.invariant-loop-size

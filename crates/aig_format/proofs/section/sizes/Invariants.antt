@@ -2,7 +2,7 @@ use Rattle.std.proofs.Common.{◌≡◌, ◌≤◌, ◌-◌, length}
 use Rattle.std.specs.Prelude.{sum}
 use Rattle.aig_format.specs.state.ReadingSections.{sizes_at}
 use Rattle.aig_format.specs.state.Reads.{Keeps}
-use Rattle.aig_format.proofs.Steps.{with_front}
+use Rattle.aig_format.specs.state.ReadingSections.{with_front}
 use Rattle.aig_format.proofs.section.sizes.Given as goal
 
 abbrev pub invariant-loop : goal.invariant-loop

@@ -2,7 +2,7 @@ use Rattle.std.proofs.Common.{◌≡◌, ◌≢◌}
 use Rattle.std.specs.Prelude.{All}
 use Rattle.aig_format.specs.state.ReadingNames.{line_at}
 use Rattle.aig_format.specs.state.Reads.{Keeps}
-use Rattle.aig_format.proofs.Steps.{with_front}
+use Rattle.aig_format.specs.state.ReadingSections.{with_front}
 use Rattle.aig_format.proofs.symbol.line.Given as goal
 
 abbrev pub invariant-loop-s : goal.invariant-loop-s
