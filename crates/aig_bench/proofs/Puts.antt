@@ -1,6 +1,7 @@
 -- What the writing of a source does to grid and buckets.
 use Rattle.std.proofs.Common.{◌≡◌, ◌≢◌, ◌⊎◌, ◌↔◌, inl, inr, ℕ, ◌+◌, ◌*◌, ◌<◌, ◌≤◌, Bool, false, List, length, Option, Some, slice_get, slice_set, Contains, ap, ◌∙◌, subst, arith}
 use Rattle.aig_parts.specs.declared.ternary.Tern.{Tern}
+use Rattle.aig_parts.specs.Formed.{limit}
 use Rattle.aig_base.specs.Grounded as by
 use Rattle.aig_base.specs.Grounded.{IsSource, Level}
 use Rattle.aig_base.specs.Levels.{AreLevels}
@@ -148,8 +149,8 @@ new_work plan net b p levels readers size are empty flags cells laid_out = recor
   gates = λ v k. absurd (empty v k);
 }
 
--- a circuit has at most 4,194,304 variables
-pub few_variables : (plan : Plan) → IsPlan plan → plan.circuit.max_var + 1 ≤ 4194304
+-- a circuit has no more variables than the limit and 0
+pub few_variables : (plan : Plan) → IsPlan plan → plan.circuit.max_var + 1 ≤ limit + 1
 few_variables plan p = let h = p.circuit.formed.counts.max_var in omega arith
 
 -- nothing more waits where the cell has the value already

@@ -1,5 +1,5 @@
 //! Values that an edit changed, carried on through the frames.
-ghost use Rattle.std.specs.Prelude.{◌≡◌, ◌↔◌, ◌⊎◌, ℕ, ◌+◌, ◌*◌, ◌<◌, ◌≤◌, [], length, Some, slice_get, Contains};
+ghost use Rattle.std.specs.Prelude.{◌≡◌, ◌↔◌, ◌⊎◌, ℕ, ◌+◌, ◌*◌, ◌^◌, ◌<◌, ◌≤◌, [], length, Some, slice_get, Contains};
 ghost use Rattle.aig_base.specs.Limits.{frame_limit};
 ghost use Rattle.aig_parts.specs.Literal.{variable};
 ghost use Rattle.aig_base.specs.Sections.{IsGate};
@@ -17,8 +17,8 @@ use std::mem::swap;
 
 // Adds up two reports.
 fn total(first: EditReport, second: EditReport) -> EditReport
-    requires evaluated { first.evaluated + second.evaluated < 18446744073709551616 }
-    requires changed { first.changed + second.changed < 18446744073709551616 }
+    requires evaluated { first.evaluated + second.evaluated < 2 ^ 64 }
+    requires changed { first.changed + second.changed < 2 ^ 64 }
     ensures evaluated { result.evaluated ≡ first.evaluated + second.evaluated }
     ensures changed { result.changed ≡ first.changed + second.changed }
 {
@@ -84,7 +84,7 @@ impl<G: Grid> Engine<G> {
         self.pending.buckets.link_all(&self.net.levels, gates);
     }
 
-    /// RenewsAll the frames from one on: evaluates these gates at each, and whatever is touched by them and by the latches
+    /// Renews the frames from one on: evaluates these gates at each, and whatever is touched by them and by the latches
     /// that are carried into it. It ends at the first frame into which nothing is carried, if no gates are given.
     pub fn renew_from(&mut self, first: u32, forced: &[u32]) -> EditReport
         requires { IsBehind self.old forced.now first }
@@ -108,7 +108,7 @@ impl<G: Grid> Engine<G> {
         report
     }
 
-    /// RenewsAll the frames from one on of which an input's value at a position was replaced.
+    /// Renews the frames from one on, of which an input's value at a position was replaced.
     pub fn renew_input(&mut self, frame: u32, position: u32) -> EditReport
         requires position { position < length self.old.pair.circuit.inputs }
         requires frame { frame < length self.old.pair.rows }

@@ -1,6 +1,7 @@
 -- Steps of an engine over one frame: what was evaluated of it, and what that answers for (our own choice).
-use Rattle.std.specs.Prelude.{◌≡◌, ℕ, suc, ◌≤◌, Bool, if◌then◌else◌, List, Option, Some, None, Contains}
+use Rattle.std.specs.Prelude.{◌≡◌, ℕ, suc, ◌+◌, ◌*◌, ◌≤◌, Bool, if◌then◌else◌, List, Option, Some, None, Contains}
 use Rattle.aig_parts.specs.declared.ternary.Tern.{Tern}
+use Rattle.aig_parts.specs.Formed.{limit}
 use Rattle.aig_base.specs.state.Marks.{IsMarked}
 use Rattle.aig_sim.specs.InputRows.{row_at}
 use Rattle.aig_bench.specs.declared.edit.EditReport.{EditReport}
@@ -9,9 +10,9 @@ use Rattle.aig_bench.specs.state.Entry.{Carries, Entering, LatchesRest, Puts, Re
 use Rattle.aig_bench.specs.state.Passing.{IsConsistent}
 use Rattle.aig_bench.specs.state.Sweep.{Sweeps, Starts, Ends}
 
--- more than the evaluations of one frame: as many gates on as many levels as there can be
+-- no frame has more evaluations: as many levels as there can be, of as many gates
 abbrev pub frame_work : ℕ
-frame_work = 17592186044416
+frame_work = (limit + 1) * (limit + 1)
 
 -- what the evaluation of one gate counts for, by whether its cell changed
 abbrev pub report_of : Option Bool → EditReport

@@ -1,4 +1,5 @@
-use Rattle.std.proofs.Common.{◌-◌, ◌*◌, ◌<◌, ◌≤◌, length}
+use Rattle.std.proofs.Common.{◌+◌, ◌-◌, ◌*◌, ◌<◌, ◌≤◌, length}
+use Rattle.aig_parts.specs.Formed.{limit}
 use Rattle.aig_bench.specs.state.Steps.{SettlesLevels}
 use Rattle.aig_bench.proofs.engine.Engine.settle.Given as goal
 
@@ -6,7 +7,7 @@ abbrev pub invariant-loop-level : goal.invariant-loop-level
 invariant-loop-level g l = record {
   frame : l.frame < length l.self.pair.rows;
   from : l.from ≤ length l.initial.self.levels;
-  bound : l.report.evaluated ≤ l.from * 4194304;
+  bound : l.report.evaluated ≤ l.from * (limit + 1);
   settles : SettlesLevels l.frame 0 l.from l.initial.self l.self l.report;
 }
 

@@ -1,4 +1,5 @@
 use Rattle.std.proofs.Common.{◌+◌, ◌<◌, ◌≤◌, length}
+use Rattle.aig_parts.specs.Formed.{limit}
 use Rattle.aig_bench.specs.state.Steps.{SettlesLevels}
 use Rattle.aig_bench.specs.state.Sweep.{waiting}
 use Rattle.aig_bench.proofs.engine.Engine.settle_level.Given as goal
@@ -7,7 +8,7 @@ abbrev pub invariant-loop-changed : goal.invariant-loop-changed
 invariant-loop-changed g l = record {
   frame : l.frame < length l.self.pair.rows;
   level : l.level < length l.self.levels;
-  bound : waiting l.initial.self.levels l.self.waits l.level + l.report.evaluated ≤ 4194304;
+  bound : waiting l.initial.self.levels l.self.waits l.level + l.report.evaluated ≤ limit + 1;
   settles : SettlesLevels l.frame l.level l.level l.initial.self l.self l.report;
 }
 
