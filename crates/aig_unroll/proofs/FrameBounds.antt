@@ -1,10 +1,9 @@
 -- How great frame literals are.
-use Rattle.std.proofs.Common.{◌≡◌, ◌⊎◌, inl, inr, ℕ, zero, suc, ◌+◌, ◌-◌, ◌*◌, ◌/◌, ◌%◌, ◌<◌, ◌≤◌, ◌==◌, nat_eq, Bool, true, false, if◌then◌else◌, List, [], ◌∷◌, length, take, count_by, get_or, Contains, Option, Some, None, slice_get, refl, sym, ◌∙◌, ap, subst, arith}
+use Rattle.std.proofs.Common.{◌≡◌, inl, inr, ℕ, zero, suc, ◌+◌, ◌-◌, ◌*◌, ◌%◌, ◌<◌, ◌≤◌, nat_eq, Bool, true, false, if◌then◌else◌, List, length, take, count_by, Option, Some, None, slice_get, refl, ◌∙◌, ap, arith}
 use Rattle.std.proofs.Math.Nat.{mul-le-mul_right}
 use Rattle.std.proofs.lemmas.Bool.Decides.{nat_tests}
 use Rattle.std.proofs.lemmas.List.Sums.{count_by_more_yes, sum_by-take-le}
 use Rattle.std.proofs.lemmas.Option.{slice_get_within, get_or_from_slice_get}
-use Rattle.aig_parts.specs.declared.gate.Gate.{Gate}
 use Rattle.aig_parts.specs.declared.latch.Latch.{Latch}
 use Rattle.aig_parts.specs.declared.raw.Raw.{Raw}
 use Rattle.aig_parts.specs.Literal.{variable, with_sign}
@@ -16,7 +15,7 @@ use Rattle.aig_base.specs.Sound.{IsSound, IsReset}
 use Rattle.aig_base.proofs.Counting.{length-order}
 use Rattle.aig_base.proofs.Gets.{All-at}
 use Rattle.aig_base.proofs.RenumberedParts.{variable_bound}
-use Rattle.aig_unroll.specs.FrameLiteral.{frame_literal, frame_size, input_count, gate_variable, first_literal, next_literal, role_literal, is_uninitialised, uninitialised}
+use Rattle.aig_unroll.specs.FrameLiteral.{frame_literal, frame_size, input_count, first_literal, next_literal, role_literal, is_uninitialised}
 use Rattle.aig_unroll.proofs.FrameLiterals.{latch_literal, by_role, input_within}
 
 -- a literal of a variable up to w keeps to it when it is negated

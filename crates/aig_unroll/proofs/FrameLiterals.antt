@@ -1,19 +1,19 @@
 -- Frame literals by what a variable is, and by a plan and a frame.
-use Rattle.std.proofs.Common.{◌≡◌, ◌⊎◌, inl, inr, ℕ, zero, suc, ◌+◌, ◌-◌, ◌*◌, ◌/◌, ◌%◌, ◌<◌, ◌≤◌, ◌==◌, nat_eq, nat_lt, Bool, true, false, if◌then◌else◌, List, [], ◌∷◌, length, map, take, count_by, get_or, slice_index, Contains, Option, Some, None, slice_get, option_map, refl, sym, ◌∙◌, ap, subst, arith}
+use Rattle.std.proofs.Common.{◌≡◌, ℕ, zero, suc, ◌+◌, ◌-◌, ◌*◌, ◌/◌, ◌%◌, ◌<◌, ◌==◌, nat_lt, Bool, true, false, List, [], ◌∷◌, length, map, get_or, slice_index, Contains, Option, Some, None, slice_get, option_map, refl, sym, ◌∙◌, ap, arith}
 use Rattle.std.proofs.lemmas.Bool.Decides.{nat_tests}
 use Rattle.std.proofs.lemmas.List.{length-map}
 use Rattle.std.proofs.lemmas.Option.{slice_get-map, slice_get-get_or, slice_get_within, get_or_from_slice_get}
 use Rattle.aig_parts.specs.declared.gate.Gate.{Gate}
 use Rattle.aig_parts.specs.declared.latch.Latch.{Latch}
 use Rattle.aig_parts.specs.declared.raw.Raw.{Raw}
-use Rattle.aig_parts.specs.Literal.{variable, with_sign, negation, IsNegated, IsEven}
+use Rattle.aig_parts.specs.Literal.{variable, with_sign, negation, IsNegated}
 use Rattle.aig_base.specs.Order.{IsCanonicalOrder}
 use Rattle.aig_base.specs.Renumbered.{renumbered_variable, role_variable}
 use Rattle.aig_base.specs.RenumberingTable.{IsListed}
 use Rattle.aig_base.specs.Role as roles
 use Rattle.aig_base.specs.Role.{Role, role, place_of, input_role, gate_role, latch_role}
 use Rattle.aig_base.specs.Sections.{IsGate}
-use Rattle.aig_base.specs.Sound.{IsSound, IsDefinition}
+use Rattle.aig_base.specs.Sound.{IsSound}
 use Rattle.aig_base.proofs.Places.{input, latch, gate, IsDefinition-of_place}
 use Rattle.aig_base.proofs.Renumberings.{place_in}
 use Rattle.aig_base.proofs.Roles.{place_found, only_place, role_input, role_latch, role_gate_at, role_constant}

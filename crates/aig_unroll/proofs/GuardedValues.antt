@@ -1,9 +1,7 @@
 -- The values of chain gates and of guards.
-use Rattle.std.proofs.Common.{◌≡◌, ◌⊎◌, ◌↔◌, inl, inr, ℕ, zero, suc, ◌+◌, ◌-◌, ◌*◌, ◌<◌, ◌≤◌, nat_lt, Bool, true, false, ◌&&◌, List, [], ◌∷◌, ◌++◌, length, map, get_or, slice_index, Contains, All, Some, slice_get, option_map, refl, sym, ◌∙◌, ap, subst, arith}
+use Rattle.std.proofs.Common.{◌≡◌, ◌⊎◌, ◌↔◌, inl, inr, ℕ, zero, suc, ◌+◌, ◌-◌, ◌*◌, ◌<◌, ◌≤◌, nat_lt, Bool, true, false, ◌&&◌, List, [], ◌∷◌, ◌++◌, length, map, slice_index, Contains, Some, slice_get, option_map, refl, sym, ◌∙◌, ap, subst, arith}
 use Rattle.std.specs.List.{range_with_len}
 use Rattle.std.proofs.lemmas.Bool.Decides.{nat_tests}
-use Rattle.std.proofs.lemmas.List.{length-map}
-use Rattle.std.proofs.lemmas.List.FromFn.{length-map-range_with_len}
 use Rattle.std.proofs.lemmas.Option.{slice_get-map, slice_get_within, get_or_from_slice_get}
 use Rattle.aig_parts.specs.declared.gate.Gate.{Gate}
 use Rattle.aig_parts.specs.declared.raw.Raw.{Raw}
@@ -22,10 +20,9 @@ use Rattle.aig_base.proofs.Gets.{All-at}
 use Rattle.aig_base.proofs.NegatedValues.{of_ready}
 use Rattle.aig_base.proofs.OneValue.{exists_value}
 use Rattle.aig_base.proofs.Positions.{slice_get_left, slice_get_right, Contains-from_slice_get, position_of}
-use Rattle.aig_base.proofs.RenumberedParts.{length-ordered}
 use Rattle.aig_base.proofs.UniqueValue.{unique}
 use Rattle.aig_unroll.specs.FrameLiteral.{frame_literal, has_guards, chain_count, guard_count}
-use Rattle.aig_unroll.specs.Unrolled.{unrolled, frames, frame_bad, frame_gate, frame_gates, chain_gate, chain_literal, chain_before, link_before, guard_gate, guard_literal, last_chain}
+use Rattle.aig_unroll.specs.Unrolled.{unrolled, frame_bad, frame_gate, frame_gates, chain_gate, chain_literal, link_before, guard_gate, guard_literal, last_chain}
 use Rattle.aig_unroll.specs.UnrolledValues.{IsAllowed, UnrolledValue, unrolled_row, IsReached, IsExcluded, GuardedValue, GuardsBad}
 use Rattle.aig_unroll.proofs.FrameLiterals.{stands_at}
 use Rattle.aig_unroll.proofs.Guarding.{AreGuarded, guarded}

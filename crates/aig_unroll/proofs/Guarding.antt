@@ -1,5 +1,5 @@
 -- When there are guards.
-use Rattle.std.proofs.Common.{◌≡◌, ℕ, zero, ◌<◌, nat_lt, Bool, true, false, ◌&&◌, length, refl, arith}
+use Rattle.std.proofs.Common.{◌≡◌, ℕ, ◌<◌, nat_lt, Bool, true, false, ◌&&◌, length, refl, arith}
 use Rattle.std.proofs.lemmas.Bool.Decides.{nat_tests}
 use Rattle.aig_parts.specs.declared.raw.Raw.{Raw}
 use Rattle.aig_unroll.specs.FrameLiteral.{has_guards, chain_count, guard_count}

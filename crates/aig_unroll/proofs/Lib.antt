@@ -4,6 +4,8 @@ pub mod FrameSteps
 pub mod Frames
 pub mod GuardedValues
 pub mod Guarding
+pub mod InputMapLaw
+pub mod InputMapLines
 pub mod UnrolledCircuit
 pub mod UnrolledReady
 pub mod UnrolledRow

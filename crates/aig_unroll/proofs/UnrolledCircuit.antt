@@ -1,5 +1,5 @@
 -- The unrolled parts are a circuit.
-use Rattle.std.proofs.Common.{◌≡◌, ℕ, zero, suc, ◌+◌, ◌*◌, ◌<◌, ◌≤◌, Bool, true, false, if◌then◌else◌, List, [], ◌∷◌, ◌++◌, length, map, All, get_or, Some, slice_get, refl, sym, ◌∙◌, ap, subst, arith, zero-mul, length-append}
+use Rattle.std.proofs.Common.{◌≡◌, ℕ, zero, suc, ◌+◌, ◌*◌, ◌<◌, ◌≤◌, Bool, true, false, if◌then◌else◌, List, length, map, All, get_or, refl, sym, ◌∙◌, ap, subst, arith, zero-mul, length-append}
 use Rattle.std.specs.List.{range_with_len}
 use Rattle.std.proofs.Math.Nat.{mul-le-mul_right}
 use Rattle.std.proofs.lemmas.List.{length-map}
@@ -13,10 +13,10 @@ use Rattle.aig_parts.specs.Formed.{IsFormed, IsSymbolOf}
 use Rattle.aig_base.specs.Order.{IsCanonicalOrder}
 use Rattle.aig_base.specs.Sections.{uses}
 use Rattle.aig_base.specs.Sound.{IsSound, IsInRange, IsReset}
-use Rattle.aig_base.proofs.EachUse.{EachUse, all_uses}
+use Rattle.aig_base.proofs.EachUse.{all_uses}
 use Rattle.aig_base.proofs.Evens.{length-evens_from}
 use Rattle.aig_base.proofs.RenumberedCircuit.{ready_sound, ready_circuit}
-use Rattle.aig_unroll.specs.FrameLiteral.{frame_literal, frame_size, input_count, has_guards, chain_count, guard_count}
+use Rattle.aig_unroll.specs.FrameLiteral.{frame_literal, frame_size, input_count, has_guards, guard_count}
 use Rattle.aig_unroll.specs.Limits.{FitsLimits}
 use Rattle.aig_unroll.specs.Unrolled.{unrolled, frames, frame_literals, frame_bad, guard_literal, kept_constraints}
 use Rattle.aig_unroll.proofs.FrameBounds.{any_bound}

@@ -1,5 +1,5 @@
 -- A binary file can hold the unrolled circuit.
-use Rattle.std.proofs.Common.{◌≡◌, ℕ, zero, suc, ◌+◌, ◌-◌, ◌*◌, ◌<◌, ◌≤◌, inl, inr, nat_lt, Bool, true, false, List, [], ◌∷◌, ◌++◌, length, map, All, slice_index, Some, slice_get, option_map, refl, sym, ◌∙◌, ap, ap₂, subst, arith, zero-mul}
+use Rattle.std.proofs.Common.{◌≡◌, ℕ, zero, suc, ◌+◌, ◌*◌, ◌<◌, ◌≤◌, inl, inr, nat_lt, Bool, true, false, List, ◌++◌, length, map, All, slice_index, Some, slice_get, option_map, refl, sym, ◌∙◌, ap, ap₂, subst, arith, zero-mul}
 use Rattle.std.specs.List.{range_with_len}
 use Rattle.std.proofs.Math.Nat.{mul-le-mul_right}
 use Rattle.std.proofs.lemmas.List.{length-map, map-append}
@@ -9,7 +9,7 @@ use Rattle.std.proofs.lemmas.Option.{slice_get-map, slice_get_within, get_or_fro
 use Rattle.aig_parts.specs.declared.gate.Gate.{Gate}
 use Rattle.aig_parts.specs.declared.raw.Raw.{Raw}
 use Rattle.aig_base.specs.Circuit.{IsCircuit}
-use Rattle.aig_parts.specs.Literal.{variable, with_sign}
+use Rattle.aig_parts.specs.Literal.{variable}
 use Rattle.aig_base.specs.Order.{IsCanonicalOrder}
 use Rattle.aig_base.specs.state.Ready.{SectionsInOrder}
 use Rattle.aig_base.specs.Renumbered.{ordered_gates, ready_gate, renumbered, renumbered_gate, renumbered_literal, renumbered_variable, evens, evens_from, IsBinaryReady}
@@ -19,7 +19,7 @@ use Rattle.aig_base.proofs.Gets.{All-at, All-by_get}
 use Rattle.aig_base.proofs.RenumberedParts.{length-ordered}
 use Rattle.aig_base.proofs.RenumberedReady.{ordered_gate, gate_literal, renumbered_ready, evens_map, goes_down, lhs_stays, sign_cases}
 use Rattle.aig_base.proofs.Roles.{unmap_some}
-use Rattle.aig_unroll.specs.FrameLiteral.{frame_literal, gate_variable, frame_size, input_count, chain_count, guard_count}
+use Rattle.aig_unroll.specs.FrameLiteral.{frame_literal, frame_size, input_count, chain_count, guard_count}
 use Rattle.aig_unroll.specs.Unrolled.{unrolled, frames, frame_gate, frame_gates, chain_gate, chain_literal, link_before, chain_before, guard_gate, guard_literal, last_chain}
 use Rattle.aig_unroll.proofs.FrameBounds.{literal_bound, any_bound}
 use Rattle.aig_unroll.proofs.FrameLiterals.{of_gate}

@@ -5,6 +5,8 @@ ghost use Rattle.aig_parts.specs.declared.ternary.Tern.{Tern};
 ghost use Rattle.aig_base.specs.Circuit.{IsCircuit};
 ghost use Rattle.aig_base.specs.Order.{IsCanonicalOrder};
 ghost use Rattle.aig_base.specs.Value.{Fits};
+ghost use Rattle.aig_unroll.specs.InputMap.{TellsInputs};
+ghost use Rattle.aig_unroll.specs.Unrolled.{unrolled};
 ghost use Rattle.aig_unroll.specs.UnrolledValues.{IsAllowed, KeepsValues, AddsNoValues, GuardsBad};
 
 /// From every start that the resets allow, where an uninitialised latch may have any of the three values, and for any
@@ -27,4 +29,11 @@ pub fn law_of_guards()
     ensures { (raw : Raw) (order : List ℕ) (start : List Tern) (rows : List (List Tern)) →
         IsCircuit raw → IsCanonicalOrder raw order → Fits raw start rows → IsAllowed raw start →
         GuardsBad raw order start rows }
+{}
+
+/// The inputs of a circuit unrolled for some frames are, in order, the frame literals of the inputs at the frames and
+/// those of the uninitialised latches at frame 0 that the lines of its map tell (our own choice).
+pub fn law_of_input_map()
+    ensures { (raw : Raw) (order : List ℕ) (frames : ℕ) → IsCircuit raw → IsCanonicalOrder raw order →
+        TellsInputs raw order frames (unrolled raw order frames).inputs }
 {}

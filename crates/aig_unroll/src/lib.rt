@@ -4,6 +4,7 @@
 mod fault;
 mod frame;
 mod guards;
+mod input_map;
 mod laws;
 mod limits;
 mod parts;
@@ -12,5 +13,6 @@ mod sections;
 mod unrolling;
 
 pub use fault::UnrollFault;
-pub use laws::{law_of_frame_literals, law_of_guards};
+pub use input_map::write_input_map;
+pub use laws::{law_of_frame_literals, law_of_guards, law_of_input_map};
 pub use unrolling::unroll;

@@ -1,5 +1,5 @@
 -- How a frame's literals are found: by a number for each variable, and a literal for each latch.
-use Rattle.std.specs.Prelude.{◌≡◌, ℕ, zero, suc, ◌+◌, ◌*◌, ◌-◌, ◌<◌, ◌≤◌, nat_lt, if◌then◌else◌, List, [], ◌++◌, length, map, take, Option, Some, None, slice_get, All, slice_index}
+use Rattle.std.specs.Prelude.{◌≡◌, ℕ, zero, suc, ◌+◌, ◌*◌, ◌-◌, ◌≤◌, nat_lt, if◌then◌else◌, List, [], ◌++◌, length, map, take, Option, Some, None, slice_get, All, slice_index}
 use Rattle.std.specs.List.{range_with_len}
 use Rattle.aig_parts.specs.declared.gate.Gate.{Gate}
 use Rattle.aig_parts.specs.declared.latch.Latch.{Latch}
@@ -7,7 +7,7 @@ use Rattle.aig_parts.specs.declared.raw.Raw.{Raw}
 use Rattle.aig_parts.specs.Formed.{limit}
 use Rattle.aig_parts.specs.Literal.{variable, with_sign}
 use Rattle.aig_base.specs.Renumbered.{ready_gate}
-use Rattle.aig_base.specs.RenumberingTable.{IsRenumbering, IsListed, IsGateListed}
+use Rattle.aig_base.specs.RenumberingTable.{IsRenumbering}
 use Rattle.aig_unroll.specs.declared.plan.Plan.{Plan}
 use Rattle.aig_unroll.specs.declared.frame.Frame.{Frame}
 use Rattle.aig_unroll.specs.declared.sections.Sections.{Sections}

@@ -1,5 +1,5 @@
-use Rattle.std.proofs.Common.{◌∙◌, ap, sym, add-one}
-use Rattle.aig_unroll.specs.state.FrameTable.{chain_gate, link_before, literal_at}
+use Rattle.std.proofs.Common.{◌∙◌, ap, add-one}
+use Rattle.aig_unroll.specs.state.FrameTable.{chain_gate, literal_at}
 use Rattle.aig_unroll.proofs.FrameSteps.{joined_more, ready_same, item_at}
 use Rattle.aig_unroll.proofs.guards.push_chain.Goals as goal
 

@@ -1,7 +1,6 @@
-use Rattle.std.proofs.Common.{◌≡◌, ◌*◌, ◌∙◌, All, List, sym, refl, ap, subst, arith}
+use Rattle.std.proofs.Common.{◌*◌, ◌∙◌, All, List, sym, refl, subst, arith}
 use Rattle.aig_parts.specs.declared.gate.Gate.{Gate}
 use Rattle.aig_base.specs.RenumberingTable.{IsGateListed}
-use Rattle.aig_unroll.specs.state.FrameTable.{first_at, AddsFrame}
 use Rattle.aig_unroll.proofs.Frames.{listed, ordered_listed, first_frame, within, one_more}
 use Rattle.aig_unroll.proofs.sections.unrolled_sections.Goals as goal
 

@@ -1,0 +1,72 @@
+-- What the inputs of an unrolled circuit are, and a text that tells it (our own choice).
+use Rattle.std.specs.Prelude.{◌≡◌, ℕ, ◌+◌, ◌==◌, Bool, true, false, ◌&&◌, if◌then◌else◌, List, [], ◌∷◌, ◌++◌, length, map, slice_index, codes, decimal}
+use Rattle.std.specs.List.{range_with_len}
+use Rattle.aig_parts.specs.declared.latch.Latch.{Latch}
+use Rattle.aig_parts.specs.declared.raw.Raw.{Raw}
+use Rattle.aig_parts.specs.declared.symbols.Kind.{Kind}
+use Rattle.aig_parts.specs.declared.symbols.Kind.TheVariants as kinds
+use Rattle.aig_parts.specs.SymbolPlaces.{Key}
+use Rattle.aig_unroll.specs.FrameLiteral.{frame_literal, is_uninitialised}
+use Rattle.aig_unroll.specs.Unrolled.{frames}
+
+-- where an input of the unrolled circuit is from: an input of the circuit at frame t, or the start of a latch; by its
+-- position p
+pub data Origin : Type 0 where
+  input : (t p : ℕ) → Origin
+  start : (p : ℕ) → Origin
+
+-- the inputs of the circuit at frame t
+abbrev pub frame_origins : Raw → ℕ → List Origin
+frame_origins raw t = map (input t) (range_with_len 0 (length raw.inputs))
+
+-- the uninitialised ones of these latches, the first of which is at position p
+unfoldable pub start_origins : ℕ → List Latch → List Origin
+start_origins p [] = []
+start_origins p (x ∷ xs) =
+    if is_uninitialised x then start p ∷ start_origins (p + 1) xs else start_origins (p + 1) xs
+
+-- where the inputs of the circuit unrolled for k frames are from, in order
+abbrev pub origins : Raw → ℕ → List Origin
+origins raw k = frames (frame_origins raw) k ++ start_origins 0 raw.latches
+
+-- the literal that stands for it: that of the input at frame t, or of the latch at frame 0
+abbrev pub origin_literal : Raw → List ℕ → ℕ → Origin → ℕ
+origin_literal raw order k (input t p) = frame_literal raw order k t (slice_index raw.inputs p)
+origin_literal raw order k (start p) = frame_literal raw order k 0 (slice_index (map (λ x. x.lit) raw.latches) p)
+
+abbrev pub is_input : Kind → Bool
+is_input kinds.Input = true
+is_input _ = false
+
+abbrev pub is_latch : Kind → Bool
+is_latch kinds.Latch = true
+is_latch _ = false
+
+-- the symbol at position p of the section that the test tells, empty where there is none
+unfoldable pub symbol_at : (Kind → Bool) → List (Key × List ℕ) → ℕ → List ℕ
+symbol_at test [] p = []
+symbol_at test (s ∷ symbols) p = if test s.0.0 && s.0.1 == p then s.1 else symbol_at test symbols p
+
+-- a number and a space
+abbrev pub field : ℕ → List ℕ
+field n = decimal n ++ codes " "
+
+-- the line of the input at position n of the unrolled circuit
+abbrev pub origin_line : Raw → ℕ → Origin → List ℕ
+origin_line raw n (input t p) =
+    codes "i " ++ (field n ++ (field t ++ (field p ++ (symbol_at is_input raw.symbols p ++ codes "\n"))))
+origin_line raw n (start p) =
+    codes "l " ++ (field n ++ (field p ++ (symbol_at is_latch raw.symbols p ++ codes "\n")))
+
+-- a line each, the first of which is that of position n
+unfoldable pub origin_lines : Raw → ℕ → List Origin → List ℕ
+origin_lines raw n [] = []
+origin_lines raw n (o ∷ os) = origin_line raw n o ++ origin_lines raw (n + 1) os
+
+-- the map of the circuit unrolled for k frames: the lines of all its inputs
+abbrev pub map_text : Raw → ℕ → List ℕ
+map_text raw k = origin_lines raw 0 (origins raw k)
+
+-- the literals that the lines tell are the inputs of the unrolled circuit, in order
+abbrev pub TellsInputs : Raw → List ℕ → ℕ → List ℕ → Type 0
+TellsInputs raw order k inputs = map (origin_literal raw order k) (origins raw k) ≡ inputs

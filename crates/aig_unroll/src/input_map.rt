@@ -1,0 +1,198 @@
+//! The text that tells what the inputs of an unrolled circuit are.
+ghost use Rattle.std.specs.Prelude.{◌≡◌, ◌+◌, ◌*◌, ◌≤◌, ◌<◌, ◌^◌, decimal, length, IfOk};
+ghost use Rattle.aig_bytes.specs.Bytes.{Writes};
+ghost use Rattle.aig_unroll.specs.InputMap as inputs;
+ghost use Rattle.aig_unroll.specs.InputMap.{field, frame_origins, is_input, is_latch, map_text, origin_line, origin_lines, start_origins, symbol_at};
+ghost use Rattle.aig_unroll.specs.Unrolled as parts;
+ghost use Rattle.aig_unroll.specs.state.MapLines.{position_behind, start_line};
+
+use crate::plan::is_uninitialised;
+use aig_base::{Circuit, Io, Kind, Latch, Write, write_all};
+use itoa::Buffer;
+
+// Writes a number's decimal digits.
+fn write_digits<W: Write>(out: &mut W, number: u64) -> Result<(), Io>
+    ensures { Writes W.written W.failures out.old out.new (decimal number) result }
+{
+    let mut buffer = Buffer::new();
+    write_all(out, buffer.format(number).as_bytes())
+}
+
+// Writes a number and a space.
+fn write_field<W: Write>(out: &mut W, number: u64) -> Result<(), Io>
+    ensures { Writes W.written W.failures out.old out.new (field number) result }
+{
+    write_digits(out, number)?;
+    write_all(out, b" ")
+}
+
+// Writes the symbol of an input, if it has one.
+fn write_input_symbol<W: Write>(out: &mut W, circuit: &Circuit, input: u32) -> Result<(), Io>
+    ensures { Writes W.written W.failures out.old out.new (symbol_at is_input circuit.now.symbols input) result }
+{
+    // Its contract says that no entry has two names.
+    let _max_var = circuit.max_var();
+    match circuit.symbols().get(Kind::Input, input) {
+        Some(symbol) => write_all(out, symbol),
+        None => Ok(()),
+    }
+}
+
+// Writes the symbol of a latch, if it has one.
+fn write_latch_symbol<W: Write>(out: &mut W, circuit: &Circuit, latch: u32) -> Result<(), Io>
+    ensures { Writes W.written W.failures out.old out.new (symbol_at is_latch circuit.now.symbols latch) result }
+{
+    // Its contract says that no entry has two names.
+    let _max_var = circuit.max_var();
+    match circuit.symbols().get(Kind::Latch, latch) {
+        Some(symbol) => write_all(out, symbol),
+        None => Ok(()),
+    }
+}
+
+// Writes the line of an input at a frame.
+fn write_input<W: Write>(
+    out: &mut W,
+    circuit: &Circuit,
+    position: u64,
+    frame: u32,
+    input: u32,
+) -> Result<(), Io>
+    ensures { Writes W.written W.failures out.old out.new
+        (origin_line circuit.now position (inputs.input frame input)) result }
+{
+    write_all(out, b"i ")?;
+    write_field(out, position)?;
+    write_field(out, frame as u64)?;
+    write_field(out, input as u64)?;
+    write_input_symbol(out, circuit, input)?;
+    write_all(out, b"\n")
+}
+
+// Writes the line of the start of a latch.
+fn write_start<W: Write>(
+    out: &mut W,
+    circuit: &Circuit,
+    position: u64,
+    latch: u32,
+) -> Result<(), Io>
+    ensures { Writes W.written W.failures out.old out.new
+        (origin_line circuit.now position (inputs.start latch)) result }
+{
+    write_all(out, b"l ")?;
+    write_field(out, position)?;
+    write_field(out, latch as u64)?;
+    write_latch_symbol(out, circuit, latch)?;
+    write_all(out, b"\n")
+}
+
+// Writes the lines of the inputs at a frame, the first of which is at this position.
+fn write_frame<W: Write>(
+    out: &mut W,
+    circuit: &Circuit,
+    inputs: u32,
+    position: u64,
+    frame: u32,
+) -> Result<(), Io>
+    requires inputs { inputs ≡ length circuit.now.inputs }
+    requires position { position ≤ 2 ^ 32 * 4194303 }
+    ensures { Writes W.written W.failures out.old out.new
+        (origin_lines circuit.now position (frame_origins circuit.now frame)) result }
+{
+    for input in 0..inputs {
+        write_input(out, circuit, position + input as u64, frame, input)?;
+    }
+    Ok(())
+}
+
+// How many inputs there are.
+fn input_count(circuit: &Circuit) -> u32
+    ensures value { result ≡ length circuit.now.inputs }
+    ensures few { result ≤ 4194303 }
+{
+    // Its contract says how many there are at most.
+    let _max_var = circuit.max_var();
+    circuit.inputs().len() as u32
+}
+
+// How many inputs there are at frames.
+fn in_frames(frames: u32, inputs: u32) -> u64
+    requires { inputs ≤ 4194303 }
+    ensures value { result ≡ frames * inputs }
+    ensures few { result ≤ 2 ^ 32 * 4194303 }
+{
+    frames as u64 * inputs as u64
+}
+
+// Writes the lines of the inputs at all frames.
+fn write_frames<W: Write>(
+    out: &mut W,
+    circuit: &Circuit,
+    inputs: u32,
+    frames: u32,
+) -> Result<(), Io>
+    requires inputs { inputs ≡ length circuit.now.inputs }
+    requires few { inputs ≤ 4194303 }
+    ensures { Writes W.written W.failures out.old out.new
+        (origin_lines circuit.now 0 (parts.frames (frame_origins circuit.now) frames)) result }
+{
+    for frame in 0..frames {
+        write_frame(out, circuit, inputs, in_frames(frame, inputs), frame)?;
+    }
+    Ok(())
+}
+
+// Writes the line of a latch that is at this position if it is uninitialised, and answers the position behind it.
+fn write_start_of<W: Write>(
+    out: &mut W,
+    circuit: &Circuit,
+    position: u64,
+    place: u32,
+    latch: &Latch,
+) -> Result<u64, Io>
+    requires { position < 2 ^ 63 }
+    ensures written { Writes W.written W.failures out.old out.new
+        (start_line circuit.now position place latch.now) result }
+    ensures behind { IfOk result (λ behind. behind ≡ position_behind position latch.now) }
+    ensures few { IfOk result (λ behind. behind ≤ position + 1) }
+{
+    if is_uninitialised(latch) {
+        write_start(out, circuit, position, place)?;
+        Ok(position + 1)
+    } else {
+        Ok(position)
+    }
+}
+
+// Writes the lines of those of these latches that are uninitialised, the first of which is at this position.
+fn write_starts<W: Write>(
+    out: &mut W,
+    circuit: &Circuit,
+    first: u64,
+    latches: &[Latch],
+) -> Result<(), Io>
+    requires first { first ≤ 2 ^ 32 * 4194303 }
+    requires latches { length latches.now ≤ 4194303 }
+    ensures { Writes W.written W.failures out.old out.new
+        (origin_lines circuit.now first (start_origins 0 latches.now)) result }
+{
+    let mut position = first;
+    for (place, latch) in latches.iter().enumerate() {
+        position = write_start_of(out, circuit, position, place as u32, latch)?;
+    }
+    Ok(())
+}
+
+/// Writes what the inputs of the circuit unrolled for this many frames are, a line each in order: `i POSITION FRAME
+/// INPUT NAME` for an input of the circuit at a frame, `l POSITION LATCH NAME` for the start of an uninitialised latch,
+/// where NAME is the symbol, if there is one (our own choice). All numbers count from 0. It takes no memory, and writes
+/// in small pieces: hand in a writer that gathers them.
+pub fn write_input_map<W: Write>(circuit: &Circuit, frames: u32, out: &mut W) -> Result<(), Io>
+    ensures { Writes W.written W.failures out.old out.new (map_text circuit.now frames) result }
+{
+    // Its contract says how many latches there are at most.
+    let _max_var = circuit.max_var();
+    let inputs = input_count(circuit);
+    write_frames(out, circuit, inputs, frames)?;
+    write_starts(out, circuit, in_frames(frames, inputs), circuit.latches())
+}
