@@ -58,7 +58,7 @@ pub handed_fault : {A : Type 0} (P : EditFault → Type 0) (r : Result A EditFau
 handed_fault P (Ok a) x h k = tt
 handed_fault P (Err f) x h k = subst P (sym h) k
 
--- want of memory is no fault of a rewire's own
+-- out of memory is no fault of a rewire's own
 pub no_memory : (p : Pair) (lhs r0 r1 : ℕ) (x : EditFault) → IsLeastFault (Forbids p (rewire lhs r0 r1)) x
     → x ≡ fault.Memory → ⊥
 no_memory p lhs r0 r1 x h e = (subst (IsLeastFault (Forbids p (rewire lhs r0 r1))) e h).0
