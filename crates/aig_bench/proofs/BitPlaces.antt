@@ -71,9 +71,6 @@ pub past : (words : List ℕ) (n : ℕ) → length words ≤ n / 64 → HasBit w
 unfolding HasBit
 past words n le is = nothing_set (get_or words (n / 64) 0) (n % 64) (get_or_past words (n / 64) 0 le) is
 
-pub has_inside : (words : List ℕ) (n : ℕ) → HasBit words n → n / 64 < length words
-has_inside words n is = elim (less_or (n / 64) (length words)) [ inl lt ↦ lt | inr le ↦ absurd (past words n le is) ]
-
 -- a word that is 0 has no number
 pub none_of_zero : (words : List ℕ) (n : ℕ) → get_or words (n / 64) 0 ≡ 0 → HasBit words n → ⊥
 unfolding HasBit

@@ -15,8 +15,8 @@ use Rattle.aig_base.proofs.Circuits.{gate_definition, gate_in_range}
 use Rattle.aig_base.proofs.Gates.{gate_of, level_of_gate}
 use Rattle.aig_sim.specs.InputRows.{row_at}
 use Rattle.aig_bench.specs.declared.buckets.Buckets.{Buckets}
-use Rattle.aig_bench.specs.declared.plan.Plan.{Plan}
-use Rattle.aig_bench.specs.declared.settle.Net.{Net}
+use Rattle.aig_bench.specs.declared.setup.Setup.{Setup}
+use Rattle.aig_bench.specs.declared.settle.Fanouts.{Fanouts}
 use Rattle.aig_bench.specs.state.Buckets.{AreBuckets, Fits, Links}
 use Rattle.aig_bench.specs.state.Renewed.{Renewed}
 use Rattle.aig_bench.specs.Pair.{Pair, HasValue}
@@ -113,24 +113,24 @@ entering_forced p t forced row sound marks marks' clear waits =
       λ k. (waits u).1 (inr k),
     ))
 
-module _ (plan : Plan) (net : Net) (flags : List Bool) (cells : List (List Tern)) (b : Buckets) (work : IsWork plan net flags cells b) where
+module _ (setup : Setup) (fanouts : Fanouts) (flags : List Bool) (cells : List (List Tern)) (b : Buckets) (work : IsWork setup fanouts flags cells b) where
   -- a gate can wait
-  pub gate_fits : (v : ℕ) → IsGate plan.circuit v → Fits net.levels (length b.head.items) v
+  pub gate_fits : (v : ℕ) → IsGate setup.circuit v → Fits fanouts.levels (length b.head.items) v
   gate_fits v h =
-      let (g, q, at, is) = gate_of plan.circuit v h in
-      let d = gate_definition plan.circuit work.plan_is.circuit.sound q g at in
-      let k = gate_in_range plan.circuit work.plan_is.circuit.sound q g at in
+      let (g, q, at, is) = gate_of setup.circuit v h in
+      let d = gate_definition setup.circuit work.setup_is.circuit.sound q g at in
+      let k = gate_in_range setup.circuit work.setup_is.circuit.sound q g at in
       record {
         positive = omega arith;
         inside = omega (arith, work.levels.size);
         level = λ m stands. work.heads v m h
-            (level_of_gate plan.circuit net.levels v m work.levels work.plan_is.circuit.acyclic h stands);
+            (level_of_gate setup.circuit fanouts.levels v m work.levels work.setup_is.circuit.acyclic h stands);
       }
 
-  pub gates_linked : (xs : List ℕ) → ((v : ℕ) → Contains xs v → IsGate plan.circuit v) → (b' : Buckets)
-      → AreBuckets net.levels b' → Links (Contains xs) b b' → IsWork plan net flags cells b'
+  pub gates_linked : (xs : List ℕ) → ((v : ℕ) → Contains xs v → IsGate setup.circuit v) → (b' : Buckets)
+      → AreBuckets fanouts.levels b' → Links (Contains xs) b b' → IsWork setup fanouts flags cells b'
   gates_linked xs are_gates b' are links = record {
-    plan_is = work.plan_is;
+    setup_is = work.setup_is;
     laid_out = work.laid_out;
     levels = work.levels;
     readers = work.readers;

@@ -1,15 +1,14 @@
 -- What the definition of a variable says of it.
-use Rattle.std.proofs.Common.{◌≡◌, ◌≢◌, inl, inr, ℕ, suc, map, Option, Some, None, slice_get, is_some, IsTrue, IfSome, IfNone, ◌↔◌, Contains, refl, subst, arith}
+use Rattle.std.proofs.Common.{◌≢◌, inl, inr, ℕ, suc, map, Option, Some, None, is_some, IsTrue, IfSome, IfNone, ◌↔◌, Contains, refl, subst, arith}
 use Rattle.std.proofs.lemmas.Bool.{false≢true}
-use Rattle.aig_parts.specs.declared.gate.Gate.{Gate}
 use Rattle.aig_parts.specs.declared.raw.Raw.{Raw}
 use Rattle.aig_base.specs.declared.definition.Definition.{Definition}
 use Rattle.aig_base.specs.declared.definition.Definition.TheVariants as definition
 use Rattle.aig_base.specs.Definition.{Defines, IsFree}
 use Rattle.aig_parts.specs.Literal.{variable}
-use Rattle.aig_base.specs.Sections.{definitions, IsDefined, IsGate}
+use Rattle.aig_base.specs.Sections.{definitions, IsDefined}
 use Rattle.aig_base.proofs.Positions.{Contains-cons}
-use Rattle.aig_base.proofs.Circuits.{gate_is, input_stands, latch_stands, gate_stands, contains_variable}
+use Rattle.aig_base.proofs.Circuits.{input_stands, latch_stands, gate_stands, contains_variable}
 
 module _ (raw : Raw) where
   defines_stands : (v : ℕ) (d : Definition) → Defines raw v d → Contains (map variable (definitions raw)) v
@@ -35,9 +34,3 @@ module _ (raw : Raw) where
     λ h. let (i, lt, is) = defines_stands v d some in (suc i, omega arith, is),
     λ k. refl,
   )
-
--- whether a variable is one of a gate
-pub decides_gate : (raw : Raw) (v : ℕ) (o : Option Gate) → IfSome o (λ g. (q : ℕ) × (slice_get raw.gates q ≡ Some g) × (variable g.lhs ≡ v)) → IfNone o (IsGate raw v → ⊥)
-    → IsTrue (is_some o) ↔ IsGate raw v
-decides_gate raw v None some none = (λ h. absurd (false≢true h), λ k. absurd (none k))
-decides_gate raw v (Some g) (q, at, is) none = (λ h. subst (IsGate raw) is (gate_is raw q g at), λ k. refl)

@@ -6,11 +6,11 @@ use Rattle.aig_base.specs.state.Marks.{IsMarked}
 use Rattle.aig_sim.specs.InputRows.{row_at}
 use Rattle.aig_bench.specs.declared.edit.EditReport.{EditReport}
 use Rattle.aig_bench.specs.declared.order.Order.{Order}
-use Rattle.aig_bench.specs.declared.plan.Plan.{Plan}
-use Rattle.aig_bench.specs.declared.settle.Net.{Net}
+use Rattle.aig_bench.specs.declared.setup.Setup.{Setup}
+use Rattle.aig_bench.specs.declared.settle.Fanouts.{Fanouts}
 use Rattle.aig_bench.specs.declared.settle.Pending.{Pending}
 use Rattle.aig_bench.specs.Pair.{Pair}
-use Rattle.aig_bench.specs.Plan.{pair_of}
+use Rattle.aig_bench.specs.state.Setup.{pair_of}
 use Rattle.aig_bench.specs.state.Buckets.{IsClear}
 use Rattle.aig_bench.specs.state.Engine.{EngineState, ChangesRow, IsSettled}
 use Rattle.aig_bench.specs.state.Current.{AreCurrent}
@@ -88,10 +88,10 @@ module _ (t : ℕ) (a b c : EngineState) where
         (subst (λ (xs : List ℕ). (u : ℕ) → IsMarked c.waits u → slice_get xs u ≢ Some n) h.row.levels none);
   }
 
-module _ (plan : Plan) (net : Net) (pending : Pending) (flags : List Bool) (cells : List (List Tern)) (n t from : ℕ)
-    (a b : EngineState) (x : EditReport) (work : IsWork plan net flags cells pending.buckets)
-    (is : state_of plan net pending cells n ≡ b) (h : SettlesLevels t 0 from a b x) where
-  pair_is : pair_of plan ≡ a.pair
+module _ (setup : Setup) (fanouts : Fanouts) (pending : Pending) (flags : List Bool) (cells : List (List Tern)) (n t from : ℕ)
+    (a b : EngineState) (x : EditReport) (work : IsWork setup fanouts flags cells pending.buckets)
+    (is : state_of setup fanouts pending cells n ≡ b) (h : SettlesLevels t 0 from a b x) where
+  pair_is : pair_of setup ≡ a.pair
   pair_is = ap (λ (s : EngineState). s.pair) is ∙ h.row.pair
 
   levels_are : AreLevels a.pair.circuit a.levels
@@ -100,7 +100,7 @@ module _ (plan : Plan) (net : Net) (pending : Pending) (flags : List Bool) (cell
       (subst (λ (s : EngineState). AreLevels s.pair.circuit s.levels) is work.levels))
 
   -- past levels of which nothing waits
-  pub levels_clear : (end : ℕ) → from ≤ end → IsClear net.levels pending.buckets from end → SettlesLevels t 0 end a b x
+  pub levels_clear : (end : ℕ) → from ≤ end → IsClear fanouts.levels pending.buckets from end → SettlesLevels t 0 end a b x
   levels_clear end le clear = record {
     row = h.row;
     here = h.here;
@@ -113,15 +113,15 @@ module _ (plan : Plan) (net : Net) (pending : Pending) (flags : List Bool) (cell
 
   -- where nothing waits a pass has ended
   pub settles : (end : ℕ) → from ≤ end → length pending.buckets.head.items ≤ end
-      → IsClear net.levels pending.buckets from end → Settles t a b x
+      → IsClear fanouts.levels pending.buckets from end → Settles t a b x
   settles end le top clear = record {
     row = h.row;
     here = h.here;
     few = h.few;
     ends = λ forced old fits start.
         subst (λ (p : Pair). Ends p t (Contains forced) old (row_at b.cells t) b.waits x.evaluated x.changed) pair_is
-        (subst (λ (s : EngineState). Ends (pair_of plan) t (Contains forced) old (row_at s.cells t) s.waits x.evaluated x.changed) is
-        (ended plan net flags cells pending.buckets t end x.evaluated x.changed forced old (row_at a.cells t) (row_at cells t) a.waits work top
+        (subst (λ (s : EngineState). Ends (pair_of setup) t (Contains forced) old (row_at s.cells t) s.waits x.evaluated x.changed) is
+        (ended setup fanouts flags cells pending.buckets t end x.evaluated x.changed forced old (row_at a.cells t) (row_at cells t) a.waits work top
         (subst (λ (p : Pair). IsConsistent p (Contains forced) old) (sym pair_is) fits)
         (subst (λ (p : Pair). Starts p t (Contains forced) old (row_at a.cells t) a.waits) (sym pair_is) start)
         (subst (λ (p : Pair). Sweeps p t 0 end (row_at a.cells t) a.waits (row_at cells t) pending.buckets.marks.items x.evaluated x.changed) (sym pair_is)
@@ -130,13 +130,13 @@ module _ (plan : Plan) (net : Net) (pending : Pending) (flags : List Bool) (cell
   }
 
 -- an engine where nothing is to be looked at is what a bench keeps
-pub held : {plan : Plan} {net : Net} {pending : Pending} {order : Order} {flags : List Bool} {cells : List (List Tern)} {n : ℕ} {s : EngineState}
-    → IsEngine plan net pending order flags cells → state_of plan net pending cells n ≡ s → IsSettled s
-    → IsReady plan net pending flags cells
-held {plan = plan} {net = net} {pending = pending} {flags = flags} {cells = cells} {n = n} e is h =
-    let k : IsSettled (state_of plan net pending cells n) = subst IsSettled (sym is) h in
+pub held : {setup : Setup} {fanouts : Fanouts} {pending : Pending} {order : Order} {flags : List Bool} {cells : List (List Tern)} {n : ℕ} {s : EngineState}
+    → IsEngine setup fanouts pending order flags cells → state_of setup fanouts pending cells n ≡ s → IsSettled s
+    → IsReady setup fanouts pending flags cells
+held {setup = setup} {fanouts = fanouts} {pending = pending} {flags = flags} {cells = cells} {n = n} e is h =
+    let k : IsSettled (state_of setup fanouts pending cells n) = subst IsSettled (sym is) h in
     record {
-      working = working plan net pending.buckets flags cells e.work k.idle.waits k.current;
+      working = working setup fanouts pending.buckets flags cells e.work k.idle.waits k.current;
       lists = e.lists;
       idle = k.idle;
     }

@@ -19,7 +19,7 @@ use Rattle.aig_bench.specs.state.Entry.{Entering}
 use Rattle.aig_bench.specs.state.Passing.{Differs, IsSide, IsTouched, IsReached}
 use Rattle.aig_base.specs.Readers.{Reads}
 use Rattle.aig_bench.specs.state.Sweep.{Starts}
-use Rattle.aig_bench.proofs.Cells.{get_set_other}
+use Rattle.aig_bench.proofs.CellLemmas.{get_set_other}
 use Rattle.aig_bench.proofs.Chained.{head_in, behind_in, none_marked}
 use Rattle.aig_bench.proofs.Values.{holds_new, holds_still}
 

@@ -17,7 +17,7 @@ use Rattle.aig_base.proofs.Gets.{slice_get_last}
 use Rattle.aig_sim.specs.Cells.{gate_value, with_new_cell}
 use Rattle.aig_bench.specs.state.Current.{AreGateFlags, IsCurrentRow, Holds}
 use Rattle.aig_bench.specs.Pair.{Pair, HasValue}
-use Rattle.aig_bench.proofs.Cells.{get_set_other, get_set_same}
+use Rattle.aig_bench.proofs.CellLemmas.{get_set_other, get_set_same}
 use Rattle.aig_bench.proofs.Changed.{slice_get_append}
 use Rattle.aig_bench.proofs.Kept.{HasAll, holds_still}
 use Rattle.aig_bench.proofs.Layouts.{flags_all, flags_more}

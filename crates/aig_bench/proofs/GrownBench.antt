@@ -13,17 +13,19 @@ use Rattle.aig_base.specs.Sections.{IsDefined}
 use Rattle.aig_base.proofs.Appended.{more_circuit, new_at}
 use Rattle.aig_sim.specs.Cells.{gate_value, with_new_cell}
 use Rattle.aig_sim.specs.InputRows.{row_at}
+use Rattle.aig_base.specs.Limits.{cell_limit}
+use Rattle.aig_parts.specs.Formed.{limit}
 use Rattle.aig_bench.specs.declared.buckets.Buckets.{Buckets}
 use Rattle.aig_bench.specs.declared.latches.LatchReaders.{LatchReaders}
-use Rattle.aig_bench.specs.declared.plan.Plan.{Plan}
-use Rattle.aig_bench.specs.declared.settle.Net.{Net}
+use Rattle.aig_bench.specs.declared.setup.Setup.{Setup}
+use Rattle.aig_bench.specs.declared.settle.Fanouts.{Fanouts}
 use Rattle.aig_bench.specs.declared.settle.Pending.{Pending}
 use Rattle.aig_bench.specs.state.Buckets.{AreBuckets, Waits}
 use Rattle.aig_bench.specs.state.Current.{AreCurrent, AreRows, IsCurrentRow, IsLaidOut}
 use Rattle.aig_bench.specs.Edit.{append_gate}
 use Rattle.aig_bench.specs.state.Latches.{AreLatchReaders}
 use Rattle.aig_bench.specs.state.Pending.{IsReady}
-use Rattle.aig_bench.specs.Plan.{IsPlan, pair_of}
+use Rattle.aig_bench.specs.state.Setup.{IsSetup, pair_of}
 use Rattle.aig_bench.specs.state.Sweep.{IsWork}
 use Rattle.aig_bench.specs.Touched.{HasOther, Touches, Changes, AreCells}
 use Rattle.aig_bench.proofs.Changed.{readers_kept}
@@ -31,7 +33,7 @@ use Rattle.aig_bench.proofs.Edited.{lists_for, work_kept, working}
 use Rattle.aig_bench.proofs.Grown.{flags_grown, grown_current, grown_old, grown_width, has_all}
 use Rattle.aig_bench.proofs.Height.{level_bound}
 use Rattle.aig_bench.proofs.Kept.{none_other}
-use Rattle.aig_bench.proofs.Renewed.{cells_none, cells_same, column_cells}
+use Rattle.aig_bench.proofs.RenewalLemmas.{cells_none, cells_same, column_cells}
 
 -- the last gate is the new one
 pub last_is : (raw c : Raw) (r0 r1 : ℕ) (g : Gate) → c ≡ with_appended_gate raw r0 r1
@@ -52,44 +54,44 @@ row_mapped [] t lt = absurd (omega arith)
 row_mapped (row ∷ cells) zero lt = refl
 row_mapped (row ∷ cells) (suc t) lt = row_mapped cells t (omega arith)
 
-module _ (plan : Plan) (net : Net) (pending : Pending) (flags : List Bool) (cells : List (List Tern))
-    (r : IsReady plan net pending flags cells) where
+module _ (setup : Setup) (fanouts : Fanouts) (pending : Pending) (flags : List Bool) (cells : List (List Tern))
+    (r : IsReady setup fanouts pending flags cells) where
   -- a bench whose lists of readers have other room
-  pub ready_still : (c : Raw) (levels : List ℕ) (readers : ReaderLists) → c ≡ plan.circuit → levels ≡ net.levels
-      → readers.lists ≡ net.readers.lists
-      → IsReady (record plan { circuit = c }) (record { levels = levels; readers = readers; latches = net.latches })
+  pub ready_still : (c : Raw) (levels : List ℕ) (readers : ReaderLists) → c ≡ setup.circuit → levels ≡ fanouts.levels
+      → readers.lists ≡ fanouts.readers.lists
+      → IsReady (record setup { circuit = c }) (record { levels = levels; readers = readers; latches = fanouts.latches })
       pending flags cells
   ready_still c levels readers e f same =
       let w = r.working.work in
-      let net' : Net = record { levels = levels; readers = readers; latches = net.latches } in
-      let are = readers_kept plan.circuit net.readers readers w.readers same in
-      subst (λ (x : Raw). IsReady (record plan { circuit = x }) net' pending flags cells)
+      let fanouts' : Fanouts = record { levels = levels; readers = readers; latches = fanouts.latches } in
+      let are = readers_kept setup.circuit fanouts.readers readers w.readers same in
+      subst (λ (x : Raw). IsReady (record setup { circuit = x }) fanouts' pending flags cells)
       (sym e)
       (record {
-        working = work_kept plan plan net _ pending.buckets flags cells r.working refl refl
-            (subst (AreLevels plan.circuit) (sym f) w.levels) are;
-        lists = lists_for plan plan net _ pending r.lists refl r.lists.readers;
+        working = work_kept setup setup fanouts _ pending.buckets flags cells r.working refl refl
+            (subst (AreLevels setup.circuit) (sym f) w.levels) are;
+        lists = lists_for setup setup fanouts _ pending r.lists refl r.lists.readers;
         idle = r.idle;
       })
 
-  module _ (r0 r1 : ℕ) (d : IsDefined plan.circuit (variable r0) × IsDefined plan.circuit (variable r1))
-      (below : plan.circuit.max_var < 4194303)
-      (few : (plan.circuit.max_var + 2) * length plan.stimulus.rows ≤ 67108864) where
+  module _ (r0 r1 : ℕ) (d : IsDefined setup.circuit (variable r0) × IsDefined setup.circuit (variable r1))
+      (below : setup.circuit.max_var < limit)
+      (few : (setup.circuit.max_var + 2) * length setup.stimulus.rows ≤ cell_limit) where
     abbrev more : Raw
-    more = with_appended_gate plan.circuit r0 r1
+    more = with_appended_gate setup.circuit r0 r1
 
-    abbrev after : Plan
-    after = record plan { circuit = more }
+    abbrev after : Setup
+    after = record setup { circuit = more }
 
     abbrev gate : Gate
-    gate = next_gate plan.circuit r0 r1
+    gate = next_gate setup.circuit r0 r1
 
-    plan_grown : IsPlan after
-    plan_grown =
-        let p = r.working.bench.plan_is in
-        let same : plan.circuit.max_var + 1 + 1 ≡ plan.circuit.max_var + 2 = omega arith in
+    setup_grown : IsSetup after
+    setup_grown =
+        let p = r.working.bench.setup_is in
+        let same : setup.circuit.max_var + 1 + 1 ≡ setup.circuit.max_var + 2 = omega arith in
         record {
-          circuit = more_circuit plan.circuit r0 r1 p.circuit below d.0 d.1;
+          circuit = more_circuit setup.circuit r0 r1 p.circuit below d.0 d.1;
           width = p.width;
           widths = p.widths;
           frames = p.frames;
@@ -101,7 +103,7 @@ module _ (plan : Plan) (net : Net) (pending : Pending) (flags : List Bool) (cell
         (rows : (t : ℕ) → t < length mid
         → row_at new t ≡ slice_set (row_at mid t) (variable g.lhs) (gate_value (row_at mid t) g)) where
       abbrev frames : ℕ
-      frames = length plan.stimulus.rows
+      frames = length setup.stimulus.rows
 
       mid_size : length mid ≡ frames
       mid_size = ap length e ∙ length-map cells with_new_cell ∙ r.working.bench.laid_out.rows_are.frames_are
@@ -117,13 +119,13 @@ module _ (plan : Plan) (net : Net) (pending : Pending) (flags : List Bool) (cell
           ∙ ap (λ (x : Gate). slice_set (row_at mid t) (variable x.lhs) (gate_value (row_at mid t) x)) is
           ∙ ap (λ (row : List Tern). slice_set row (variable gate.lhs) (gate_value row gate)) at
 
-      wide : (t : ℕ) → t < frames → length (row_at cells t) ≡ plan.circuit.max_var + 1
+      wide : (t : ℕ) → t < frames → length (row_at cells t) ≡ setup.circuit.max_var + 1
       wide t lt = r.working.bench.laid_out.rows_are.widths t lt
 
       current : AreCurrent (pair_of after) frames new
       current = record {
         each = λ t lt. subst (IsCurrentRow (pair_of after) t) (sym (row_is t lt))
-            (grown_current (pair_of plan) r0 r1 r.working.bench.plan_is.circuit.sound d.0 d.1 t (row_at cells t)
+            (grown_current (pair_of setup) r0 r1 r.working.bench.setup_is.circuit.sound d.0 d.1 t (row_at cells t)
             (wide t lt)
             (r.working.bench.current.each t lt));
       }
@@ -131,9 +133,9 @@ module _ (plan : Plan) (net : Net) (pending : Pending) (flags : List Bool) (cell
       rows_grown : AreRows more frames new
       rows_grown = record {
         frames_are = size ∙ mid_size;
-        widths = λ t lt. ap length (row_is t lt) ∙ grown_width plan.circuit r0 r1 (row_at cells t) _ (wide t lt);
+        widths = λ t lt. ap length (row_is t lt) ∙ grown_width setup.circuit r0 r1 (row_at cells t) _ (wide t lt);
         constants = λ t lt. ap (λ (row : List Tern). slice_get row 0) (row_is t lt)
-            ∙ grown_old plan.circuit r0 r1 (row_at cells t) _ (wide t lt) 0 (omega arith)
+            ∙ grown_old setup.circuit r0 r1 (row_at cells t) _ (wide t lt) 0 (omega arith)
             ∙ r.working.bench.laid_out.rows_are.constants t lt;
       }
 
@@ -143,43 +145,43 @@ module _ (plan : Plan) (net : Net) (pending : Pending) (flags : List Bool) (cell
           → AreBuckets levels b → ((v : ℕ) → Waits b v → ⊥)
           → length b.head.items ≡ length pending.buckets.head.items + 1
           → flags' ≡ flags ++ true ∷ []
-          → IsReady (record plan { circuit = c }) (record { levels = levels; readers = readers; latches = latches })
+          → IsReady (record setup { circuit = c }) (record { levels = levels; readers = readers; latches = latches })
           (record { buckets = b; here = pending.here; ahead = pending.ahead }) flags' new
       ready_grown c levels readers latches b flags' same l rs ls bs empty heads fs =
           let w = r.working.work in
-          let net' : Net = record { levels = levels; readers = readers; latches = latches } in
+          let fanouts' : Fanouts = record { levels = levels; readers = readers; latches = latches } in
           let pending' : Pending = record { buckets = b; here = pending.here; ahead = pending.ahead } in
           let out : IsLaidOut after flags' new =
           record {
-            flags_are = flags_grown plan.circuit r0 r1 flags flags' w.laid_out.flags_are fs;
+            flags_are = flags_grown setup.circuit r0 r1 flags flags' w.laid_out.flags_are fs;
             rows_are = rows_grown;
           } in
-          let work : IsWork after net' flags' new b =
+          let work : IsWork after fanouts' flags' new b =
           record {
-            plan_is = plan_grown;
+            setup_is = setup_grown;
             laid_out = out;
             levels = l;
             readers = rs;
             buckets = bs;
             size = heads ∙ ap (λ n. n + 1) w.size;
             heads = λ v n k level.
-                let le = level_bound more plan_grown.circuit.sound level in omega (arith, heads, w.size);
+                let le = level_bound more setup_grown.circuit.sound level in omega (arith, heads, w.size);
             gates = λ v k. absurd (empty v k);
           } in
-          subst (λ (x : Raw). IsReady (record plan { circuit = x }) net' pending' flags' new) (sym same)
+          subst (λ (x : Raw). IsReady (record setup { circuit = x }) fanouts' pending' flags' new) (sym same)
           (record {
-            working = working after net' b flags' new work empty current;
+            working = working after fanouts' b flags' new work empty current;
             lists = record { readers = ls; here = r.lists.here; ahead = r.lists.ahead };
             idle = record { waits = empty; here = r.idle.here; ahead = r.idle.ahead };
           })
 
     -- no value changes, and the new gate's cells are touched
-    no_other : (t v : ℕ) → HasOther (pair_of plan) (pair_of after) t v → ⊥
-    no_other = none_other (pair_of plan) more (has_all plan.circuit r0 r1) plan_grown.circuit.sound
+    no_other : (t v : ℕ) → HasOther (pair_of setup) (pair_of after) t v → ⊥
+    no_other = none_other (pair_of setup) more (has_all setup.circuit r0 r1) setup_grown.circuit.sound
 
-    pub grown_touched : (n : ℕ) → n ≡ length plan.stimulus.rows
-        → AreCells (Touches (pair_of plan) (append_gate r0 r1)) n
-    grown_touched n e = cells_same _ _ n (column_cells (plan.circuit.max_var + 1) n) (λ t v. (
+    pub grown_touched : (n : ℕ) → n ≡ length setup.stimulus.rows
+        → AreCells (Touches (pair_of setup) (append_gate r0 r1)) n
+    grown_touched n e = cells_same _ _ n (column_cells (setup.circuit.max_var + 1) n) (λ t v. (
       λ k. elim k [
         | inl f ↦ (omega (arith, f.0), f.1)
         | inr o ↦ elim o.1.4 [ inl a ↦ absurd (no_other t _ a) | inr a ↦ absurd (no_other t _ a) ]
@@ -187,6 +189,6 @@ module _ (plan : Plan) (net : Net) (pending : Pending) (flags : List Bool) (cell
       λ k. inl (omega (arith, k.0), k.1),
     ))
 
-    pub grown_changed : (n : ℕ) → n ≡ 0 → AreCells (Changes (pair_of plan) (append_gate r0 r1)) n
+    pub grown_changed : (n : ℕ) → n ≡ 0 → AreCells (Changes (pair_of setup) (append_gate r0 r1)) n
     grown_changed n e =
-        subst (AreCells (Changes (pair_of plan) (append_gate r0 r1))) (sym e) (cells_none _ (λ t v k. no_other t v k.2))
+        subst (AreCells (Changes (pair_of setup) (append_gate r0 r1))) (sym e) (cells_none _ (λ t v k. no_other t v k.2))

@@ -15,8 +15,8 @@ use Rattle.aig_bench.specs.state.Current.{Holds, IsCurrentRow}
 use Rattle.aig_bench.specs.state.Latches.{Follows, HandsOn, Lists}
 use Rattle.aig_bench.specs.Pair.{Pair}
 use Rattle.aig_bench.specs.state.Pending.{IsNextRow}
-use Rattle.aig_bench.proofs.Cells.{get_set_same, get_set_other}
-use Rattle.aig_bench.proofs.Passing.{same_or_other}
+use Rattle.aig_bench.proofs.CellLemmas.{get_set_same, get_set_other}
+use Rattle.aig_bench.proofs.PassLemmas.{same_or_other}
 use Rattle.aig_bench.proofs.Values.{latch_follows, latch_value}
 
 -- a value that was there is written again

@@ -11,7 +11,7 @@ use Rattle.aig_parts.specs.Literal.{variable}
 use Rattle.aig_bench.specs.declared.latches.LatchList.{LatchList}
 use Rattle.aig_bench.specs.declared.latches.LatchReaders.{LatchReaders}
 use Rattle.aig_bench.specs.state.Latches.{Follows, IsLast, AreLatchReaders, Lists}
-use Rattle.aig_bench.proofs.Cells.{get_set_same, get_set_other}
+use Rattle.aig_bench.proofs.CellLemmas.{get_set_same, get_set_other}
 
 -- the chains of the first n latches
 pub record AreChainsSoFar (raw : Raw) (n : ℕ) (last before : List ℕ) : Type 0 where

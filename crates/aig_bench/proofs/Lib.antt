@@ -1,6 +1,6 @@
 pub mod BitPlaces
 pub mod Carrying
-pub mod Cells
+pub mod CellLemmas
 pub mod Chained
 pub mod Changed
 pub mod Definitions
@@ -9,8 +9,8 @@ pub mod Edited
 pub mod Engines
 pub mod Entries
 pub mod EveryGate
-pub mod Fanouts
 pub mod Flags
+pub mod FourReaders
 pub mod GateLists
 pub mod Grown
 pub mod GrownBench
@@ -26,12 +26,12 @@ pub mod Lowest
 pub mod Named
 pub mod Others
 pub mod Outputs
-pub mod Passing
+pub mod PassLemmas
 pub mod PassingStep
 pub mod Puts
 pub mod Quiet
 pub mod Refusals
-pub mod Renewed
+pub mod RenewalLemmas
 pub mod Renewing
 pub mod Rewired
 pub mod SweepEnds

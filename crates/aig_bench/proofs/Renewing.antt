@@ -6,8 +6,8 @@ use Rattle.aig_base.specs.state.Marks.{IsMarked}
 use Rattle.aig_base.specs.Sound.{IsSound}
 use Rattle.aig_sim.specs.InputRows.{row_at}
 use Rattle.aig_bench.specs.declared.edit.EditReport.{EditReport}
-use Rattle.aig_bench.specs.declared.plan.Plan.{Plan}
-use Rattle.aig_bench.specs.declared.settle.Net.{Net}
+use Rattle.aig_bench.specs.declared.setup.Setup.{Setup}
+use Rattle.aig_bench.specs.declared.settle.Fanouts.{Fanouts}
 use Rattle.aig_bench.specs.declared.settle.Pending.{Pending}
 use Rattle.aig_bench.specs.Pair.{Pair}
 use Rattle.aig_bench.specs.state.Current.{Holds, HoldsLatches, IsCurrentBefore, IsCurrentRow}
@@ -22,7 +22,7 @@ use Rattle.aig_bench.specs.state.Sweep.{IsWork, Ends}
 use Rattle.aig_bench.proofs.Carrying.{before_here, entering_forced, entering_put}
 use Rattle.aig_bench.proofs.Handed.{hands_then, not_handed_holds}
 use Rattle.aig_bench.proofs.Quiet.{stopped}
-use Rattle.aig_bench.proofs.Renewed.{renewed_none, renewed_one, renewed_join}
+use Rattle.aig_bench.proofs.RenewalLemmas.{renewed_none, renewed_one, renewed_join}
 
 -- what a pass of an engine ensures, said of the pair
 passed : (p : Pair) (t : ℕ) (f m : EngineState) (r : EditReport) → f.pair ≡ p → PassesOver t f m r → (forced : List ℕ) (old : List Tern) (put : List ℕ)
@@ -140,11 +140,11 @@ renews_all forced first t a s r here h e none = record {
 }
 
 -- nothing is carried into the frame, and no gates are forced: all frames that are left stay
-pub renews_stopped : (plan : Plan) (net : Net) (pending : Pending) (flags : List Bool) (now : List (List Tern)) (n : ℕ) (a s : EngineState)
-    → IsWork plan net flags now pending.buckets → state_of plan net pending now n ≡ s
+pub renews_stopped : (setup : Setup) (fanouts : Fanouts) (pending : Pending) (flags : List Bool) (now : List (List Tern)) (n : ℕ) (a s : EngineState)
+    → IsWork setup fanouts flags now pending.buckets → state_of setup fanouts pending now n ≡ s
     → (forced : List ℕ) (first t : ℕ) (r : EditReport) → length forced ≡ 0 → first ≤ t → t ≤ length a.pair.rows
     → IsBehind a forced first → RenewsUpTo forced first t a s r → IsClear s.here → RenewsAll forced first a s r
-renews_stopped plan net pending flags now n a s work is forced first t r size le end behind h none = record {
+renews_stopped setup fanouts pending flags now n a s work is forced first t r size le end behind h none = record {
   pair = h.pair;
   idle = record { waits = h.waits; here = none; ahead = h.ahead };
   count = h.count;
@@ -153,8 +153,8 @@ renews_stopped plan net pending flags now n a s work is forced first t r size le
       → Renewed q forced first t a.cells s.cells r.evaluated r.changed → (t < length q.rows → HoldsLatches q t (row_at s.cells t))
       → Renewed q forced first (length q.rows) a.cells s.cells r.evaluated r.changed)
       (ap (λ (x : EngineState). x.pair) is ∙ h.pair)
-      (λ end behind renewed latches. stopped plan net flags now pending.buckets work
-      (subst (λ (x : EngineState). IsClear x.waits) (sym is) h.waits) (length plan.stimulus.rows) first t _ _ forced a.cells s.cells size
+      (λ end behind renewed latches. stopped setup fanouts flags now pending.buckets work
+      (subst (λ (x : EngineState). IsClear x.waits) (sym is) h.waits) (length setup.stimulus.rows) first t _ _ forced a.cells s.cells size
       renewed le end behind.consistent behind.next latches)) end behind.cells h.renewed (λ lt j x at. h.carried lt j x at (none (suc j)));
 }
 

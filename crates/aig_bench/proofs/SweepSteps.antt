@@ -16,15 +16,15 @@ use Rattle.aig_bench.specs.declared.latches.LatchList.{LatchList}
 use Rattle.aig_bench.specs.state.Latches.{Follows, HandsOn, Lists}
 use Rattle.aig_bench.proofs.Handed.{hands_same, hands_written, set_again}
 use Rattle.aig_bench.specs.declared.buckets.Buckets.{Buckets}
-use Rattle.aig_bench.specs.declared.plan.Plan.{Plan}
-use Rattle.aig_bench.specs.declared.settle.Net.{Net}
+use Rattle.aig_bench.specs.declared.setup.Setup.{Setup}
+use Rattle.aig_bench.specs.declared.settle.Fanouts.{Fanouts}
 use Rattle.aig_bench.specs.state.Buckets.{AreBuckets, Waits, Fits, Links, Takes}
 use Rattle.aig_bench.specs.state.Current.{AreGateFlags, IsLaidOut}
-use Rattle.aig_bench.specs.Plan.{pair_of}
+use Rattle.aig_bench.specs.state.Setup.{pair_of}
 use Rattle.aig_parts.specs.declared.raw.Raw.{Raw}
 use Rattle.aig_base.specs.Readers.{ReaderLists, list_of, Reads, AreReaders}
 use Rattle.aig_bench.specs.state.Sweep.{IsWork, Sweeps}
-use Rattle.aig_bench.proofs.Cells.{get_set_other, row_written, row_other, frames_written}
+use Rattle.aig_bench.proofs.CellLemmas.{get_set_other, row_written, row_other, frames_written}
 use Rattle.aig_bench.proofs.Flags.{gate_flag}
 use Rattle.aig_bench.proofs.Sweeps.{lower, swept_changed, swept_same, cell_changed, cell_same}
 
@@ -34,11 +34,11 @@ pub each_reader : (raw : Raw) (r : ReaderLists) (xs : List ℕ) (v : ℕ) → Ar
 each_reader raw r xs v h le e u = rw e (h.each v u le)
 
 -- a grid in which a cell was written is laid out as before
-pub laid_out_written : (plan : Plan) (t u : ℕ) (w : Tern) (flags flags' : List Bool) (old new : List (List Tern))
-    → IsLaidOut plan flags old → new ≡ with_cell old t u w → t < length plan.stimulus.rows → 0 < u → flags' ≡ flags
-    → IsLaidOut plan flags' new
-laid_out_written plan t u w flags flags' old new h is lt positive e = record {
-  flags_are = subst (AreGateFlags plan.circuit) (sym e) h.flags_are;
+pub laid_out_written : (setup : Setup) (t u : ℕ) (w : Tern) (flags flags' : List Bool) (old new : List (List Tern))
+    → IsLaidOut setup flags old → new ≡ with_cell old t u w → t < length setup.stimulus.rows → 0 < u → flags' ≡ flags
+    → IsLaidOut setup flags' new
+laid_out_written setup t u w flags flags' old new h is lt positive e = record {
+  flags_are = subst (AreGateFlags setup.circuit) (sym e) h.flags_are;
   rows_are = record {
     frames_are = ap length is ∙ frames_written old t u w ∙ h.rows_are.frames_are;
     widths = λ s below. elim (cases_eq s t) [
@@ -63,46 +63,46 @@ laid_out_written plan t u w flags flags' old new h is lt positive e = record {
     there : (s : ℕ) → s ≢ t → row_at new s ≡ row_at old s
     there s ne = ap (λ (c : List (List Tern)). row_at c s) is ∙ row_other old t u w s ne
 
-module _ (plan : Plan) (net : Net) (flags : List Bool) (cells : List (List Tern)) (b b' : Buckets) (t l w q : ℕ) (g : Gate)
-    (work : IsWork plan net flags cells b) (lt : t < length plan.stimulus.rows)
-    (takes : Takes net.levels l b b' (Some w)) (at : slice_get plan.circuit.gates q ≡ Some g) (e : variable g.lhs ≡ w) where
+module _ (setup : Setup) (fanouts : Fanouts) (flags : List Bool) (cells : List (List Tern)) (b b' : Buckets) (t l w q : ℕ) (g : Gate)
+    (work : IsWork setup fanouts flags cells b) (lt : t < length setup.stimulus.rows)
+    (takes : Takes fanouts.levels l b b' (Some w)) (at : slice_get setup.circuit.gates q ≡ Some g) (e : variable g.lhs ≡ w) where
   abbrev v : ℕ
   v = variable g.lhs
 
-  taken : Takes net.levels l b b' (Some v)
-  taken = subst (λ (z : ℕ). Takes net.levels l b b' (Some z)) (sym e) takes
+  taken : Takes fanouts.levels l b b' (Some v)
+  taken = subst (λ (z : ℕ). Takes fanouts.levels l b b' (Some z)) (sym e) takes
 
-  in_range : v ≤ plan.circuit.max_var
-  in_range = gate_in_range plan.circuit work.plan_is.circuit.sound q g at
+  in_range : v ≤ setup.circuit.max_var
+  in_range = gate_in_range setup.circuit work.setup_is.circuit.sound q g at
 
-  pub taken_in_range : w ≤ plan.circuit.max_var
-  taken_in_range = subst (λ (z : ℕ). z ≤ plan.circuit.max_var) e in_range
+  pub taken_in_range : w ≤ setup.circuit.max_var
+  taken_in_range = subst (λ (z : ℕ). z ≤ setup.circuit.max_var) e in_range
 
   positive : 0 < v
-  positive = let d = gate_definition plan.circuit work.plan_is.circuit.sound q g at in omega arith
+  positive = let d = gate_definition setup.circuit work.setup_is.circuit.sound q g at in omega arith
 
   pub lhs_even : IsEven g.lhs
-  lhs_even = (gate_definition plan.circuit work.plan_is.circuit.sound q g at).0
+  lhs_even = (gate_definition setup.circuit work.setup_is.circuit.sound q g at).0
 
   pub lhs_flag : slice_get flags v ≡ Some true
-  lhs_flag = gate_flag plan.circuit flags v work.laid_out.flags_are in_range (gate_is plan.circuit q g at)
+  lhs_flag = gate_flag setup.circuit flags v work.laid_out.flags_are in_range (gate_is setup.circuit q g at)
 
   pub rhs0_inside : variable g.rhs0 < length flags
-  rhs0_inside = omega (arith, rhs0_in_range plan.circuit work.plan_is.circuit.sound q g at, work.laid_out.flags_are.size)
+  rhs0_inside = omega (arith, rhs0_in_range setup.circuit work.setup_is.circuit.sound q g at, work.laid_out.flags_are.size)
 
   pub rhs1_inside : variable g.rhs1 < length flags
-  rhs1_inside = omega (arith, rhs1_in_range plan.circuit work.plan_is.circuit.sound q g at, work.laid_out.flags_are.size)
+  rhs1_inside = omega (arith, rhs1_in_range setup.circuit work.setup_is.circuit.sound q g at, work.laid_out.flags_are.size)
 
-  level : Level plan.circuit v l
-  level = level_of_gate plan.circuit net.levels v l work.levels work.plan_is.circuit.acyclic (gate_is plan.circuit q g at)
+  level : Level setup.circuit v l
+  level = level_of_gate setup.circuit fanouts.levels v l work.levels work.setup_is.circuit.acyclic (gate_is setup.circuit q g at)
       taken.of_level
 
-  wide : length (row_at cells t) ≡ plan.circuit.max_var + 1
+  wide : length (row_at cells t) ≡ setup.circuit.max_var + 1
   wide = work.laid_out.rows_are.widths t lt
 
-  pub taken_work : IsWork plan net flags cells b'
+  pub taken_work : IsWork setup fanouts flags cells b'
   taken_work = record {
-    plan_is = work.plan_is;
+    setup_is = work.setup_is;
     laid_out = work.laid_out;
     levels = work.levels;
     readers = work.readers;
@@ -122,37 +122,37 @@ module _ (plan : Plan) (net : Net) (flags : List Bool) (cells : List (List Tern)
   pub waits_no_more : Waits b' v → ⊥
   waits_no_more k = ((taken.waits v).0 k).1 refl
 
-  pub level_is : slice_get net.levels v ≡ Some l
+  pub level_is : slice_get fanouts.levels v ≡ Some l
   level_is = taken.of_level
 
-  module _ (xs : List ℕ) (read : xs ≡ list_of net.readers w) where
-    reads : (u : ℕ) → Contains xs u ↔ Reads plan.circuit u v
-    reads = each_reader plan.circuit net.readers xs v work.readers in_range (read ∙ ap (list_of net.readers) (sym e))
+  module _ (xs : List ℕ) (read : xs ≡ list_of fanouts.readers w) where
+    reads : (u : ℕ) → Contains xs u ↔ Reads setup.circuit u v
+    reads = each_reader setup.circuit fanouts.readers xs v work.readers in_range (read ∙ ap (list_of fanouts.readers) (sym e))
 
-    gate_reads : (u : ℕ) → Contains xs u → IsGate plan.circuit u
+    gate_reads : (u : ℕ) → Contains xs u → IsGate setup.circuit u
     gate_reads u i =
         let (r, x, there, is, side) = (reads u).0 i in
-        subst (IsGate plan.circuit) is (gate_is plan.circuit r x there)
+        subst (IsGate setup.circuit) is (gate_is setup.circuit r x there)
 
-    pub readers_fit : (u : ℕ) → Contains xs u → Fits net.levels (length b'.head.items) u
+    pub readers_fit : (u : ℕ) → Contains xs u → Fits fanouts.levels (length b'.head.items) u
     readers_fit u i =
         let (r, x, there, is, side) = (reads u).0 i in
-        let d = gate_definition plan.circuit work.plan_is.circuit.sound r x there in
-        let k = gate_in_range plan.circuit work.plan_is.circuit.sound r x there in
+        let d = gate_definition setup.circuit work.setup_is.circuit.sound r x there in
+        let k = gate_in_range setup.circuit work.setup_is.circuit.sound r x there in
         let h = gate_reads u i in
         record {
           positive = omega arith;
           inside = omega (arith, work.levels.size);
           level = λ m stands.
               let below = work.heads u m h
-              (level_of_gate plan.circuit net.levels u m work.levels work.plan_is.circuit.acyclic h stands) in
+              (level_of_gate setup.circuit fanouts.levels u m work.levels work.setup_is.circuit.acyclic h stands) in
               omega (arith, taken.heads);
         }
 
-    module _ (b'' : Buckets) (are : AreBuckets net.levels b'') (links : Links (Contains xs) b' b'') where
-      pub linked_work : IsWork plan net flags cells b''
+    module _ (b'' : Buckets) (are : AreBuckets fanouts.levels b'') (links : Links (Contains xs) b' b'') where
+      pub linked_work : IsWork setup fanouts flags cells b''
       linked_work = record {
-        plan_is = work.plan_is;
+        setup_is = work.setup_is;
         laid_out = work.laid_out;
         levels = work.levels;
         readers = work.readers;
@@ -166,19 +166,19 @@ module _ (plan : Plan) (net : Net) (flags : List Bool) (cells : List (List Tern)
       }
 
       -- a reader has a higher level, so at this level no more wait
-      pub linked_less : (u : ℕ) → slice_get net.levels u ≡ Some l → Waits b'' u → Waits b u
+      pub linked_less : (u : ℕ) → slice_get fanouts.levels u ≡ Some l → Waits b'' u → Waits b u
       linked_less u stands k = elim ((links.waits u).0 k) [
         | inl o ↦ waits_less u o
         | inr i ↦ absurd (reader_over u stands i)
       ]
         where
-          reader_over : (u : ℕ) → slice_get net.levels u ≡ Some l → Contains xs u → ⊥
+          reader_over : (u : ℕ) → slice_get fanouts.levels u ≡ Some l → Contains xs u → ⊥
           reader_over u stands i =
               let (r, x, there, is, side) = (reads u).0 i in
-              let k : Level plan.circuit u l = level_of_gate plan.circuit net.levels u l work.levels
-              work.plan_is.circuit.acyclic (gate_reads u i) stands in
-              let o : l < l = lower (pair_of plan) t work.plan_is.circuit r x v l l there side level
-              (subst (λ (z : ℕ). Level plan.circuit z l) (sym is) k) in
+              let k : Level setup.circuit u l = level_of_gate setup.circuit fanouts.levels u l work.levels
+              work.setup_is.circuit.acyclic (gate_reads u i) stands in
+              let o : l < l = lower (pair_of setup) t work.setup_is.circuit r x v l l there side level
+              (subst (λ (z : ℕ). Level setup.circuit z l) (sym is) k) in
               omega arith
 
       pub linked_no_more : Waits b'' v → ⊥
@@ -186,8 +186,8 @@ module _ (plan : Plan) (net : Net) (flags : List Bool) (cells : List (List Tern)
         | inl o ↦ waits_no_more o
         | inr i ↦
             let (r, x, there, is, side) = (reads v).0 i in
-            let o : l < l = lower (pair_of plan) t work.plan_is.circuit r x v l l there side level
-            (subst (λ (z : ℕ). Level plan.circuit z l) (sym is) level) in
+            let o : l < l = lower (pair_of setup) t work.setup_is.circuit r x v l l there side level
+            (subst (λ (z : ℕ). Level setup.circuit z l) (sym is) level) in
             absurd (omega arith)
       ]
 
@@ -198,10 +198,10 @@ module _ (plan : Plan) (net : Net) (flags : List Bool) (cells : List (List Tern)
         ∙ row_written cells t v (gate_value (row_at cells t) g) (omega (arith, lt, work.laid_out.rows_are.frames_are))
 
     -- what a change of the cell hands on
-    pub hands_changed : (old new : LatchList) → Lists (λ i. Follows plan.circuit i w) old new
-        → HandsOn plan.circuit (row_at cells t) old.marks.items (row_at cells' t) new.marks.items
+    pub hands_changed : (old new : LatchList) → Lists (λ i. Follows setup.circuit i w) old new
+        → HandsOn setup.circuit (row_at cells t) old.marks.items (row_at cells' t) new.marks.items
     hands_changed old new lists =
-        hands_written plan.circuit (row_at cells t) (row_at cells' t) w (gate_value (row_at cells t) g) old new
+        hands_written setup.circuit (row_at cells t) (row_at cells' t) w (gate_value (row_at cells t) g) old new
         (subst (λ (z : ℕ). row_at cells' t ≡ slice_set (row_at cells t) z (gate_value (row_at cells t) g)) e row_is) lists
 
     inside_row : v < length (row_at cells t)
@@ -211,10 +211,10 @@ module _ (plan : Plan) (net : Net) (flags : List Bool) (cells : List (List Tern)
     other_rows u ne = ap (λ (c : List (List Tern)). row_at c u) is
         ∙ row_other cells t v (gate_value (row_at cells t) g) u ne
 
-    pub written_work : (flags' : List Bool) (x : Buckets) → flags' ≡ flags → IsWork plan net flags cells x → IsWork plan net flags' cells' x
+    pub written_work : (flags' : List Bool) (x : Buckets) → flags' ≡ flags → IsWork setup fanouts flags cells x → IsWork setup fanouts flags' cells' x
     written_work flags' x same h = record {
-      plan_is = h.plan_is;
-      laid_out = laid_out_written plan t v (gate_value (row_at cells t) g) flags flags' cells cells' h.laid_out is lt positive same;
+      setup_is = h.setup_is;
+      laid_out = laid_out_written setup t v (gate_value (row_at cells t) g) flags flags' cells cells' h.laid_out is lt positive same;
       levels = h.levels;
       readers = h.readers;
       buckets = h.buckets;
@@ -223,16 +223,16 @@ module _ (plan : Plan) (net : Net) (flags : List Bool) (cells : List (List Tern)
       gates = h.gates;
     }
 
-    pub sweeps_changed : (xs : List ℕ) → xs ≡ list_of net.readers w → (b'' : Buckets) → Links (Contains xs) b' b''
+    pub sweeps_changed : (xs : List ℕ) → xs ≡ list_of fanouts.readers w → (b'' : Buckets) → Links (Contains xs) b' b''
         → get_or (row_at cells' t) v X ≢ get_or (row_at cells t) v X
-        → Sweeps (pair_of plan) t l l (row_at cells t) b.marks.items (row_at cells' t) b''.marks.items 1 1
+        → Sweeps (pair_of setup) t l l (row_at cells t) b.marks.items (row_at cells' t) b''.marks.items 1 1
     sweeps_changed xs read b'' links ne =
         let fresh = cell_changed (row_at cells t) (row_at cells' t) v (gate_value (row_at cells t) g) row_is inside_row ne in
         record {
           sweep = λ forced old ys zs fits s. record {
             evaluated_now = v ∷ ys;
             changed_now = v ∷ zs;
-            sweeping = rw row_is (swept_changed (pair_of plan) t work.plan_is.circuit (Contains forced) old (row_at cells t)
+            sweeping = rw row_is (swept_changed (pair_of setup) t work.setup_is.circuit (Contains forced) old (row_at cells t)
                 b.marks.items b''.marks.items l q g ys zs fits s at waited level wide (λ u. (
                   λ k. elim ((links.waits u).0 k) [
                     | inl o ↦ inl ((taken.waits u).0 o)
@@ -249,21 +249,21 @@ module _ (plan : Plan) (net : Net) (flags : List Bool) (cells : List (List Tern)
         }
 
     pub hands_unchanged : (get_or (row_at cells' t) v X ≢ get_or (row_at cells t) v X → ⊥) → (marks : List Bool)
-        → HandsOn plan.circuit (row_at cells t) marks (row_at cells' t) marks
+        → HandsOn setup.circuit (row_at cells t) marks (row_at cells' t) marks
     hands_unchanged f marks =
         let same = cell_same (row_at cells t) (row_at cells' t) v (gate_value (row_at cells t) g) row_is inside_row f in
-        hands_same plan.circuit (row_at cells t) (row_at cells' t) marks (λ u. ap (λ (r : List Tern). slice_get r u) row_is
+        hands_same setup.circuit (row_at cells t) (row_at cells' t) marks (λ u. ap (λ (r : List Tern). slice_get r u) row_is
         ∙ set_again (row_at cells t) v (gate_value (row_at cells t) g) same u)
 
     pub sweeps_same : (get_or (row_at cells' t) v X ≢ get_or (row_at cells t) v X → ⊥)
-        → Sweeps (pair_of plan) t l l (row_at cells t) b.marks.items (row_at cells' t) b'.marks.items 1 0
+        → Sweeps (pair_of setup) t l l (row_at cells t) b.marks.items (row_at cells' t) b'.marks.items 1 0
     sweeps_same f =
         let same = cell_same (row_at cells t) (row_at cells' t) v (gate_value (row_at cells t) g) row_is inside_row f in
         record {
           sweep = λ forced old ys zs fits s. record {
             evaluated_now = v ∷ ys;
             changed_now = zs;
-            sweeping = rw row_is (swept_same (pair_of plan) t work.plan_is.circuit (Contains forced) old (row_at cells t)
+            sweeping = rw row_is (swept_same (pair_of setup) t work.setup_is.circuit (Contains forced) old (row_at cells t)
                 b.marks.items b'.marks.items l q g ys zs fits s at waited level wide (λ u. (
                   λ k. inl ((taken.waits u).0 k),
                   λ k. elim k [

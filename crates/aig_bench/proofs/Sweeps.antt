@@ -25,9 +25,9 @@ use Rattle.aig_bench.specs.state.Passing.{Differs, IsSide, Passing, IsConsistent
 use Rattle.aig_base.specs.Readers.{Reads}
 use Rattle.aig_bench.specs.state.Sweep.{Sweeping, Sweeps}
 use Rattle.aig_bench.specs.Touched.{IsOnce}
-use Rattle.aig_bench.proofs.Cells.{get_set_same, get_set_other}
+use Rattle.aig_bench.proofs.CellLemmas.{get_set_same, get_set_other}
 use Rattle.aig_bench.proofs.Chained.{head_in, behind_in}
-use Rattle.aig_bench.proofs.Passing.{behind, same_or_other}
+use Rattle.aig_bench.proofs.PassLemmas.{behind, same_or_other}
 use Rattle.aig_bench.proofs.PassingStep.{stepped, changed, differs}
 use Rattle.aig_bench.proofs.Values.{gate_has_value}
 

@@ -24,10 +24,10 @@ use Rattle.aig_sim.specs.InputRows.{row_at, with_cell}
 use Rattle.aig_sim.proofs.Evaluation.{HoldsFirst, all_hold, gate_value_is, items_more, put_value, renews_none}
 use Rattle.aig_sim.proofs.SweepLemmas.{length-swept}
 use Rattle.aig_bench.specs.state.Current.{AreGateFlags, HoldsInputs, HoldsLatches, IsCurrentRow, IsLaidOut}
-use Rattle.aig_bench.specs.declared.plan.Plan.{Plan}
+use Rattle.aig_bench.specs.declared.setup.Setup.{Setup}
 use Rattle.aig_bench.specs.state.Order.{gate_at, gates_at, IsFullOrder}
-use Rattle.aig_bench.specs.Plan.{IsPlan, pair_of}
-use Rattle.aig_bench.proofs.Cells.{get_set_other, row_written}
+use Rattle.aig_bench.specs.state.Setup.{IsSetup, pair_of}
+use Rattle.aig_bench.proofs.CellLemmas.{get_set_other, row_written}
 use Rattle.aig_bench.proofs.Values.{sources_hold}
 
 -- the gates of an order can be evaluated
@@ -133,16 +133,16 @@ module _ (raw : Raw) (start : List Tern) (rows : List (List Tern)) (t : ℕ) (so
       ap (fold with_gate row) (take_all (length gates) gates (omega arith)) in
       subst (HoldsAll raw start rows t) all (all_hold raw start rows t gates (after (length gates)) order held first)
 
--- a source that is put in a grid for a plan
-pub row_put : (plan : Plan) (flags : List Bool) (old new : List (List Tern)) (t v : ℕ) (w : Tern) → IsLaidOut plan flags old
-    → t < length plan.stimulus.rows → new ≡ with_cell old t v w → row_at new t ≡ slice_set (row_at old t) v w
-row_put plan flags old new t v w h lt is =
+-- a source that is put in a grid for a setup
+pub row_put : (setup : Setup) (flags : List Bool) (old new : List (List Tern)) (t v : ℕ) (w : Tern) → IsLaidOut setup flags old
+    → t < length setup.stimulus.rows → new ≡ with_cell old t v w → row_at new t ≡ slice_set (row_at old t) v w
+row_put setup flags old new t v w h lt is =
     ap (λ (rows : List (List Tern)). row_at rows t) is ∙ row_written old t v w (omega (arith, h.rows_are.frames_are))
 
-pub source_inside : (plan : Plan) (flags : List Bool) (cells : List (List Tern)) (t v : ℕ) → IsPlan plan
-    → IsLaidOut plan flags cells → t < length plan.stimulus.rows → IsSource plan.circuit v → v < length (row_at cells t)
-source_inside plan flags cells t v p h lt source =
-    omega (arith, level_in_range plan.circuit p.circuit.sound (by.Level.source v source), h.rows_are.widths t lt)
+pub source_inside : (setup : Setup) (flags : List Bool) (cells : List (List Tern)) (t v : ℕ) → IsSetup setup
+    → IsLaidOut setup flags cells → t < length setup.stimulus.rows → IsSource setup.circuit v → v < length (row_at cells t)
+source_inside setup flags cells t v p h lt source =
+    omega (arith, level_in_range setup.circuit p.circuit.sound (by.Level.source v source), h.rows_are.widths t lt)
 
 -- variable 0 is no gate's
 kept_zero : (row : List Tern) (gates : List Gate) → All (λ g. 0 < variable g.lhs) gates
@@ -159,9 +159,9 @@ positive_sides raw gates sound order k d lt =
     let definition = gate_definition raw sound r (get_or gates k d) stands in
     omega (arith, definition)
 
--- a grid for a plan in which all gates were swept at a frame
-module _ (plan : Plan) (flags flags' : List Bool) (old new : List (List Tern)) (t : ℕ) (gates : List Gate) (p : IsPlan plan)
-    (h : IsLaidOut plan flags old) (lt : t < length plan.stimulus.rows) (full : IsFullOrder plan.circuit gates)
+-- a grid for a setup in which all gates were swept at a frame
+module _ (setup : Setup) (flags flags' : List Bool) (old new : List (List Tern)) (t : ℕ) (gates : List Gate) (p : IsSetup setup)
+    (h : IsLaidOut setup flags old) (lt : t < length setup.stimulus.rows) (full : IsFullOrder setup.circuit gates)
     (e : new ≡ with_swept_row old t gates) where
   row_is : row_at new t ≡ fold with_gate (row_at old t) gates
   row_is =
@@ -173,9 +173,9 @@ module _ (plan : Plan) (flags flags' : List Bool) (old new : List (List Tern)) (
       ap (λ (rows : List (List Tern)). row_at rows u) e
       ∙ get_or-set_other old t u (fold with_gate (row_at old t) gates) [] ne
 
-  pub laid_out_swept : flags' ≡ flags → IsLaidOut plan flags' new
+  pub laid_out_swept : flags' ≡ flags → IsLaidOut setup flags' new
   laid_out_swept same = record {
-    flags_are = subst (AreGateFlags plan.circuit) (sym same) h.flags_are;
+    flags_are = subst (AreGateFlags setup.circuit) (sym same) h.flags_are;
     rows_are = record {
       frames_are = ap length e ∙ length-set old t _ ∙ h.rows_are.frames_are;
       widths = λ s below. elim (cases_eq s t) [
@@ -185,17 +185,17 @@ module _ (plan : Plan) (flags flags' : List Bool) (old new : List (List Tern)) (
       ];
       constants = λ s below. elim (cases_eq s t) [
         | inl k ↦ ap (λ (n : ℕ). slice_get (row_at new n) 0) k ∙ ap (λ (row : List Tern). slice_get row 0) row_is
-            ∙ kept_zero (row_at old t) gates (positive_sides plan.circuit gates p.circuit.sound full.order)
+            ∙ kept_zero (row_at old t) gates (positive_sides setup.circuit gates p.circuit.sound full.order)
             ∙ h.rows_are.constants t lt
         | inr ne ↦ ap (λ (row : List Tern). slice_get row 0) (row_kept s ne) ∙ h.rows_are.constants s below
       ];
     };
   }
 
-  pub current_swept : HoldsInputs (pair_of plan) t (row_at old t) → HoldsLatches (pair_of plan) t (row_at old t)
-      → IsCurrentRow (pair_of plan) t (row_at new t)
+  pub current_swept : HoldsInputs (pair_of setup) t (row_at old t) → HoldsLatches (pair_of setup) t (row_at old t)
+      → IsCurrentRow (pair_of setup) t (row_at new t)
   current_swept inputs latches =
-      subst (IsCurrentRow (pair_of plan) t) (sym row_is)
-      (swept_holds plan.circuit (start_of plan.circuit) plan.stimulus.rows t p.circuit.sound gates full.order (row_at old t)
+      subst (IsCurrentRow (pair_of setup) t) (sym row_is)
+      (swept_holds setup.circuit (start_of setup.circuit) setup.stimulus.rows t p.circuit.sound gates full.order (row_at old t)
       (h.rows_are.widths t lt)
-      (sources_hold (pair_of plan) t (row_at old t) (h.rows_are.constants t lt) inputs latches))
+      (sources_hold (pair_of setup) t (row_at old t) (h.rows_are.constants t lt) inputs latches))

@@ -32,7 +32,7 @@ edited p drop_frame = record p { rows = take (length p.rows - 1) p.rows }
 edited p (append_gate r0 r1) = record p { circuit = with_appended_gate p.circuit r0 r1 }
 edited p (set_output i l) = record p { circuit = with_output p.circuit i l }
 
--- the fault applies to the edit; want of memory is none of an edit's own
+-- the fault applies to the edit; out of memory is none of an edit's own
 abbrev pub Forbids : Pair → Edit → EditFault → Type 0
 Forbids p (rewire lhs r0 r1) fault.NotAGate = IsLeftSide p.circuit lhs → ⊥
 Forbids p (rewire lhs r0 r1) fault.Range = IsInRange p.circuit r0 × IsInRange p.circuit r1 → ⊥

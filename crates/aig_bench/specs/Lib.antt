@@ -2,7 +2,6 @@ pub mod Cells
 pub mod Edit
 pub mod Fanout
 pub mod Pair
-pub mod Plan
 pub mod Question
 pub mod Touched
 pub mod state

@@ -9,5 +9,6 @@ pub mod Order
 pub mod Passing
 pub mod Pending
 pub mod Renewed
+pub mod Setup
 pub mod Steps
 pub mod Sweep

@@ -16,8 +16,8 @@ ghost use Rattle.aig_bench.specs.Edit.{Edits, rewire, set_reset, set_bit, add_fr
 ghost use Rattle.aig_bench.specs.Edit.{set_output};
 ghost use Rattle.aig_bench.specs.Fanout.{HasFourReaders};
 ghost use Rattle.aig_bench.specs.Pair.{Pair, HasTrace};
-ghost use Rattle.aig_bench.specs.state.Pending.{IsNet};
-ghost use Rattle.aig_bench.specs.Plan.{IsPlan};
+ghost use Rattle.aig_bench.specs.state.Pending.{AreFanouts};
+ghost use Rattle.aig_bench.specs.state.Setup.{IsSetup};
 ghost use Rattle.aig_bench.specs.Question.{AnswersValue};
 ghost use Rattle.aig_bench.specs.Touched.{Works};
 ghost use Rattle.aig_sim.specs.StimulusText.{HaveWidth};
@@ -30,8 +30,8 @@ use crate::engine::Engine;
 use crate::fill::fill;
 use crate::grow::{evaluate_new, gate_count, last_gate, make_room};
 use crate::new_engine::{cells, check_sizes, make};
-use crate::plan::Plan;
-use crate::settle::Net;
+use crate::settle::Fanouts;
+use crate::setup::Setup;
 use crate::trace::write_frames;
 use crate::value::literal_at;
 use aig_base::{Circuit, Io, Lit, Tern, Write, append_gate};
@@ -66,27 +66,36 @@ const NOTHING: EditReport = EditReport {
 };
 
 /// Gives a gate other right sides, unless they close a cycle.
-fn replace_gate(plan: &mut Plan, net: &mut Net, lhs: Lit, r0: Lit, r1: Lit) -> Result<(), EditFault>
-    requires plan { IsPlan plan.old }
-    requires net { IsNet plan.old.circuit net.old }
-    requires gate { IsLeftSide plan.old.circuit lhs }
-    requires defined0 { IsDefined plan.old.circuit (variable r0) }
-    requires defined1 { IsDefined plan.old.circuit (variable r1) }
-    ensures stimulus { plan.new.stimulus ≡ plan.old.stimulus }
-    ensures net { IsNet plan.new.circuit net.new }
-    ensures acyclic { OnOk result (IsAcyclic (with_gate plan.old.circuit lhs r0 r1)) }
-    ensures circuit { OnOk result (plan.new.circuit ≡ with_gate plan.old.circuit lhs r0 r1) }
-    ensures same { OnErr result (plan.new.circuit ≡ plan.old.circuit) }
-    ensures cycle { IfErr result (λ f. f ≡ EditFault.Cycle → IsAcyclic (with_gate plan.old.circuit lhs r0 r1) → ⊥) }
+fn replace_gate(
+    setup: &mut Setup,
+    fanouts: &mut Fanouts,
+    lhs: Lit,
+    r0: Lit,
+    r1: Lit,
+) -> Result<(), EditFault>
+    requires setup { IsSetup setup.old }
+    requires fanouts { AreFanouts setup.old.circuit fanouts.old }
+    requires gate { IsLeftSide setup.old.circuit lhs }
+    requires defined0 { IsDefined setup.old.circuit (variable r0) }
+    requires defined1 { IsDefined setup.old.circuit (variable r1) }
+    ensures stimulus { setup.new.stimulus ≡ setup.old.stimulus }
+    ensures fanouts { AreFanouts setup.new.circuit fanouts.new }
+    ensures acyclic { OnOk result (IsAcyclic (with_gate setup.old.circuit lhs r0 r1)) }
+    ensures circuit { OnOk result (setup.new.circuit ≡ with_gate setup.old.circuit lhs r0 r1) }
+    ensures same { OnErr result (setup.new.circuit ≡ setup.old.circuit) }
+    ensures cycle { IfErr result (λ f. f ≡ EditFault.Cycle → IsAcyclic (with_gate setup.old.circuit lhs r0 r1) → ⊥) }
     ensures others { IfErr result (λ f. (f ≡ EditFault.Cycle) ⊎ (f ≡ EditFault.Memory)) }
     ensures memory { IfErr result (λ f. f ≡ EditFault.Memory →
-        (4 ≤ length (list_of net.old.readers (variable r0))) ⊎ (4 ≤ length (list_of net.old.readers (variable r1)))) }
+        (4 ≤ length (list_of fanouts.old.readers (variable r0))) ⊎ (4 ≤ length (list_of fanouts.old.readers (variable r1)))) }
 {
-    net.readers.make_room(r0, r1)?;
-    match net.levels.rewire(&plan.circuit, &net.readers, lhs, r0, r1) {
+    fanouts.readers.make_room(r0, r1)?;
+    match fanouts
+        .levels
+        .rewire(&setup.circuit, &fanouts.readers, lhs, r0, r1)
+    {
         Ok(()) => {
-            net.readers.replace(&plan.circuit, lhs, r0, r1);
-            plan.circuit.replace_gate(lhs, r0, r1);
+            fanouts.readers.replace(&setup.circuit, lhs, r0, r1);
+            setup.circuit.replace_gate(lhs, r0, r1);
             Ok(())
         }
         Err(_) => Err(EditFault::Cycle),
@@ -105,7 +114,7 @@ impl<G: Grid> Bench<G> {
             bench.evaluations ≡ length circuit.gates * length stimulus.rows) }
     {
         check_sizes(&circuit, &stimulus)?;
-        let engine = make(alloc, Plan { circuit, stimulus })?;
+        let engine = make(alloc, Setup { circuit, stimulus })?;
         Ok(Bench { engine })
     }
 
@@ -116,7 +125,7 @@ impl<G: Grid> Bench<G> {
         ensures rows { HaveWidth (length self.now.pair.circuit.inputs) self.now.pair.rows }
     {
         let engine = &self.engine;
-        engine.plan.stimulus.width()
+        engine.setup.stimulus.width()
     }
 
     /// The number of frames.
@@ -124,7 +133,7 @@ impl<G: Grid> Bench<G> {
         ensures { result ≡ length self.now.pair.rows }
     {
         let engine = &self.engine;
-        engine.plan.stimulus.frames()
+        engine.setup.stimulus.frames()
     }
 
     /// The circuit as it is now: with all edits that were done.
@@ -132,7 +141,7 @@ impl<G: Grid> Bench<G> {
         ensures { result.now ≡ self.now.pair.circuit }
     {
         let engine = &self.engine;
-        &engine.plan.circuit
+        &engine.setup.circuit
     }
 
     /// The stimulus as it is now. Its contract also says that its cells are within the limit of a bench.
@@ -142,7 +151,7 @@ impl<G: Grid> Bench<G> {
         ensures limit { (self.now.pair.circuit.max_var + 1) * length self.now.pair.rows ≤ cell_limit }
     {
         let engine = &self.engine;
-        &engine.plan.stimulus
+        &engine.setup.stimulus
     }
 
     /// The grid: a row a frame, where the cell of each defined variable is its value, and the count of all evaluations.
@@ -163,13 +172,13 @@ impl<G: Grid> Bench<G> {
     {
         let engine = &self.engine;
         let variable = literal.var();
-        if variable > engine.plan.circuit.max_var() {
+        if variable > engine.setup.circuit.max_var() {
             return Err(EditFault::Range);
         }
-        if !is_defined(&engine.plan.circuit, variable) {
+        if !is_defined(&engine.setup.circuit, variable) {
             return Err(EditFault::Undefined);
         }
-        if frame >= engine.plan.stimulus.frames() {
+        if frame >= engine.setup.stimulus.frames() {
             return Err(EditFault::NoFrame);
         }
         Ok(literal_at(&engine.grid, frame, literal))
@@ -187,13 +196,13 @@ impl<G: Grid> Bench<G> {
         ensures works { Works self.old (set_bit frame position value) result self.new }
     {
         let engine = &mut self.engine;
-        if frame >= engine.plan.stimulus.frames() {
+        if frame >= engine.setup.stimulus.frames() {
             return Err(EditFault::NoFrame);
         }
-        if position >= engine.plan.stimulus.width() {
+        if position >= engine.setup.stimulus.width() {
             return Err(EditFault::NoInput);
         }
-        engine.plan.stimulus.set(frame, position, value);
+        engine.setup.stimulus.set(frame, position, value);
         Ok(engine.renew_input(frame, position))
     }
 
@@ -207,8 +216,8 @@ impl<G: Grid> Bench<G> {
             HasFourReaders self.old.pair.circuit (variable r0) ⊎ HasFourReaders self.old.pair.circuit (variable r1)) }
     {
         let engine = &mut self.engine;
-        check_rewire(&engine.plan, lhs, r0, r1)?;
-        replace_gate(&mut engine.plan, &mut engine.net, lhs, r0, r1)?;
+        check_rewire(&engine.setup, lhs, r0, r1)?;
+        replace_gate(&mut engine.setup, &mut engine.fanouts, lhs, r0, r1)?;
         engine.order.forget();
         Ok(engine.renew_from(0, &[lhs.var()]))
     }
@@ -220,8 +229,8 @@ impl<G: Grid> Bench<G> {
         ensures works { Works self.old (set_reset latch value) result self.new }
     {
         let engine = &mut self.engine;
-        let position = check_reset(&engine.plan, latch)?;
-        engine.plan.circuit.replace_reset(latch, value);
+        let position = check_reset(&engine.setup, latch)?;
+        engine.setup.circuit.replace_reset(latch, value);
         engine.pending.here.add(position + 1);
         Ok(engine.renew_from(0, &[]))
     }
@@ -233,27 +242,27 @@ impl<G: Grid> Bench<G> {
         ensures works { Works self.old (add_frame row.now) result self.new }
     {
         let engine = &mut self.engine;
-        let frames = engine.plan.stimulus.frames();
-        if row.len() != engine.plan.stimulus.width() as usize {
+        let frames = engine.setup.stimulus.frames();
+        if row.len() != engine.setup.stimulus.width() as usize {
             return Err(EditFault::Length);
         }
-        if frames >= FRAMES || cells(&engine.plan.circuit, frames + 1) > CELLS {
+        if frames >= FRAMES || cells(&engine.setup.circuit, frames + 1) > CELLS {
             return Err(EditFault::Limit);
         }
         engine
             .order
-            .renew(&engine.plan.circuit, &engine.net.levels)?;
+            .renew(&engine.setup.circuit, &engine.fanouts.levels)?;
         engine.grid.add_row()?;
-        match engine.plan.stimulus.push(row) {
+        match engine.setup.stimulus.push(row) {
             Ok(()) => {}
             Err(_) => {
                 engine.grid.drop_row();
                 return Err(EditFault::Memory);
             }
         }
-        fill(&mut engine.grid, &engine.plan, &engine.order, frames);
+        fill(&mut engine.grid, &engine.setup, &engine.order, frames);
         Ok(EditReport {
-            evaluated: u64::from(gate_count(&engine.plan.circuit)),
+            evaluated: u64::from(gate_count(&engine.setup.circuit)),
             changed: 0,
         })
     }
@@ -264,11 +273,11 @@ impl<G: Grid> Bench<G> {
         ensures works { Works self.old drop_frame result self.new }
     {
         let engine = &mut self.engine;
-        if engine.plan.stimulus.frames() == 0 {
+        if engine.setup.stimulus.frames() == 0 {
             return Err(EditFault::Empty);
         }
         engine.grid.drop_row();
-        engine.plan.stimulus.pop();
+        engine.setup.stimulus.pop();
         Ok(NOTHING)
     }
 
@@ -280,22 +289,22 @@ impl<G: Grid> Bench<G> {
         ensures works { Works self.old (append_gate r0 r1) result self.new }
     {
         let engine = &mut self.engine;
-        check_append(&engine.plan, r0, r1)?;
-        let gates = gate_count(&engine.plan.circuit);
-        make_room(&mut engine.grid, &mut engine.net, &mut engine.pending)?;
+        check_append(&engine.setup, r0, r1)?;
+        let gates = gate_count(&engine.setup.circuit);
+        make_room(&mut engine.grid, &mut engine.fanouts, &mut engine.pending)?;
         engine.order.reserve_gate()?;
         append_gate(
-            &mut engine.plan.circuit,
-            &mut engine.net.levels,
-            &mut engine.net.readers,
+            &mut engine.setup.circuit,
+            &mut engine.fanouts.levels,
+            &mut engine.fanouts.readers,
             r0,
             r1,
         )?;
-        engine.net.latches.add_variable();
+        engine.fanouts.latches.add_variable();
         engine.pending.buckets.add_variable();
         engine.grid.add_gate();
         engine.order.push_gate(gates);
-        let gate = last_gate(&engine.plan.circuit);
+        let gate = last_gate(&engine.setup.circuit);
         Ok(evaluate_new(&mut engine.grid, &gate))
     }
 
@@ -306,8 +315,8 @@ impl<G: Grid> Bench<G> {
         ensures works { Works self.old (set_output position literal) result self.new }
     {
         let engine = &mut self.engine;
-        check_output(&engine.plan, position, literal)?;
-        engine.plan.circuit.replace_output(position, literal);
+        check_output(&engine.setup, position, literal)?;
+        engine.setup.circuit.replace_output(position, literal);
         Ok(NOTHING)
     }
 
@@ -317,7 +326,7 @@ impl<G: Grid> Bench<G> {
             × Writes W.written W.failures out.old out.new text result }
     {
         let engine = &self.engine;
-        write_frames(out, &engine.grid, &engine.plan)
+        write_frames(out, &engine.grid, &engine.setup)
     }
 
     /// The current circuit unrolled for as many frames as there are, as `unroll` gives it: with the gates of a frame in
@@ -329,8 +338,8 @@ impl<G: Grid> Bench<G> {
         let engine = &self.engine;
         unroll(
             alloc,
-            &engine.plan.circuit,
-            &engine.net.levels,
+            &engine.setup.circuit,
+            &engine.fanouts.levels,
             self.frames(),
         )
     }

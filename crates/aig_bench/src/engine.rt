@@ -1,7 +1,7 @@
 //! A circuit and a stimulus on a grid of cells, with what it takes to keep the cells current.
 use crate::order::Order;
-use crate::plan::Plan;
-use crate::settle::{Net, Pending};
+use crate::settle::{Fanouts, Pending};
+use crate::setup::Setup;
 use aig_sim::Grid;
 use std::marker::Model;
 
@@ -9,8 +9,8 @@ use std::marker::Model;
 /// to look at. Contracts see the pair, the cells and what is still to be looked at.
 #[derive(Drop)]
 pub struct Engine<G: Grid> {
-    pub plan: Plan,
-    pub net: Net,
+    pub setup: Setup,
+    pub fanouts: Fanouts,
     pub pending: Pending,
     pub order: Order,
     pub grid: G,
@@ -23,7 +23,7 @@ impl<G: Grid> Model for Engine<G> {
 
     ghost use Rattle.aig_bench.specs.state.Pending.{IsEngine, state_of};
 
-    ghost view = { λ e. state_of e.plan e.net e.pending (G.cells e.grid) (G.evaluations e.grid) };
+    ghost view = { λ e. state_of e.setup e.fanouts e.pending (G.cells e.grid) (G.evaluations e.grid) };
 
-    ghost invariant = { λ e. IsEngine e.plan e.net e.pending e.order (G.gate_flags e.grid) (G.cells e.grid) };
+    ghost invariant = { λ e. IsEngine e.setup e.fanouts e.pending e.order (G.gate_flags e.grid) (G.cells e.grid) };
 }

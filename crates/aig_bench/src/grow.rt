@@ -5,27 +5,31 @@ ghost use Rattle.aig_parts.specs.Formed.{limit};
 ghost use Rattle.aig_parts.specs.Literal.{variable, IsEven};
 ghost use Rattle.aig_sim.specs.Cells.{gate_value};
 ghost use Rattle.aig_sim.specs.InputRows.{row_at};
-ghost use Rattle.aig_bench.specs.declared.plan.Plan.{Plan};
+ghost use Rattle.aig_bench.specs.declared.setup.Setup.{Setup};
 ghost use Rattle.aig_bench.specs.state.Buckets.{FitsOneMore};
 ghost use Rattle.aig_bench.specs.state.Pending.{IsReady};
 
 use crate::edit::EditReport;
-use crate::settle::{Net, Pending};
+use crate::settle::{Fanouts, Pending};
 use aig_base::{Circuit, Gate, Memory};
 use aig_sim::Grid;
 
 /// Makes room for one more variable; nothing else changes.
-pub fn make_room<G: Grid>(grid: &mut G, net: &mut Net, pending: &mut Pending) -> Result<(), Memory>
+pub fn make_room<G: Grid>(
+    grid: &mut G,
+    fanouts: &mut Fanouts,
+    pending: &mut Pending,
+) -> Result<(), Memory>
     requires few { length (G.gate_flags grid.old) ≤ limit }
-    requires ready { (plan : Plan) × IsReady plan net.old pending.old (G.gate_flags grid.old) (G.cells grid.old) }
-    ensures ready { (plan : Plan) → IsReady plan net.old pending.old (G.gate_flags grid.old) (G.cells grid.old)
-        → IsReady plan net.new pending.new (G.gate_flags grid.new) (G.cells grid.new) }
-    ensures latches { OnOk result (length net.new.latches.last.items < vec_capacity net.new.latches.last) }
+    requires ready { (setup : Setup) × IsReady setup fanouts.old pending.old (G.gate_flags grid.old) (G.cells grid.old) }
+    ensures ready { (setup : Setup) → IsReady setup fanouts.old pending.old (G.gate_flags grid.old) (G.cells grid.old)
+        → IsReady setup fanouts.new pending.new (G.gate_flags grid.new) (G.cells grid.new) }
+    ensures latches { OnOk result (length fanouts.new.latches.last.items < vec_capacity fanouts.new.latches.last) }
     ensures buckets { OnOk result (FitsOneMore pending.new.buckets) }
     ensures grid { OnOk result (IsTrue (G.has_room grid.new)) }
     ensures count { G.evaluations grid.new ≡ G.evaluations grid.old }
 {
-    net.latches.make_room()?;
+    fanouts.latches.make_room()?;
     pending.buckets.make_room()?;
     grid.reserve_gate()
 }

@@ -1,9 +1,9 @@
-//! A new grid for a plan.
+//! A new grid for a setup.
 ghost use Rattle.std.specs.Prelude.{◌≡◌, ◌+◌, ◌*◌, ◌<◌, ◌≤◌, length, IfOk, OnOk, []};
-ghost use Rattle.aig_bench.specs.Plan.{IsPlan};
+ghost use Rattle.aig_bench.specs.state.Setup.{IsSetup};
 ghost use Rattle.aig_bench.specs.state.Current.{AreGateFlags, IsLaidOut};
 
-use crate::plan::Plan;
+use crate::setup::Setup;
 use aig_base::{Circuit, Memory};
 use aig_sim::Grid;
 use std::alloc::Global;
@@ -20,27 +20,27 @@ fn gate_flags(alloc: Global, circuit: &Circuit) -> Result<Vec<bool>, Memory>
 }
 
 /// Appends a row a frame to a grid without rows.
-fn add_rows<G: Grid>(grid: &mut G, plan: &Plan) -> Result<(), Memory>
-    requires plan { IsPlan plan.now }
-    requires flags { AreGateFlags plan.now.circuit (G.gate_flags grid.old) }
+fn add_rows<G: Grid>(grid: &mut G, setup: &Setup) -> Result<(), Memory>
+    requires setup { IsSetup setup.now }
+    requires flags { AreGateFlags setup.now.circuit (G.gate_flags grid.old) }
     requires empty { G.cells grid.old ≡ [] }
-    ensures laid_out { OnOk result (IsLaidOut plan.now (G.gate_flags grid.new) (G.cells grid.new)) }
+    ensures laid_out { OnOk result (IsLaidOut setup.now (G.gate_flags grid.new) (G.cells grid.new)) }
     ensures count { G.evaluations grid.new ≡ G.evaluations grid.old }
 {
-    for _ in 0..plan.stimulus.frames() {
+    for _ in 0..setup.stimulus.frames() {
         grid.add_row()?;
     }
     Ok(())
 }
 
 /// A grid with a row a frame.
-pub fn lay_out<G: Grid>(alloc: Global, plan: &Plan) -> Result<G, Memory>
-    requires { IsPlan plan.now }
-    ensures laid_out { IfOk result (λ grid. IsLaidOut plan.now (G.gate_flags grid) (G.cells grid)) }
+pub fn lay_out<G: Grid>(alloc: Global, setup: &Setup) -> Result<G, Memory>
+    requires { IsSetup setup.now }
+    ensures laid_out { IfOk result (λ grid. IsLaidOut setup.now (G.gate_flags grid) (G.cells grid)) }
     ensures count { IfOk result (λ grid. G.evaluations grid ≡ 0) }
 {
-    let flags = gate_flags(alloc, &plan.circuit)?;
+    let flags = gate_flags(alloc, &setup.circuit)?;
     let mut grid = G::new(alloc, flags.as_slice())?;
-    add_rows(&mut grid, plan)?;
+    add_rows(&mut grid, setup)?;
     Ok(grid)
 }

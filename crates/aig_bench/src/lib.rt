@@ -15,9 +15,9 @@ mod layout;
 mod level_set;
 mod new_engine;
 mod order;
-mod plan;
 mod propagate;
 mod settle;
+mod setup;
 mod trace;
 mod value;
 

@@ -2,11 +2,11 @@
 ghost use Rattle.std.specs.Prelude.{◌≡◌, ◌≢◌, ◌+◌, ◌*◌, ◌<◌, ◌↔◌, length, IsErrOf, IfOk, OnOk};
 ghost use Rattle.aig_base.specs.Circuit.{IsCircuit};
 ghost use Rattle.aig_base.specs.Limits.{cell_limit};
-ghost use Rattle.aig_bench.specs.Plan.{IsPlan, pair_of};
+ghost use Rattle.aig_bench.specs.state.Setup.{IsSetup, pair_of};
 ghost use Rattle.aig_bench.specs.state.Current.{AreCurrent, IsLaidOut};
 ghost use Rattle.aig_bench.specs.state.Engine.{IsSettled};
 ghost use Rattle.aig_bench.specs.state.Order.{IsKnown, Orders};
-ghost use Rattle.aig_bench.specs.state.Pending.{IsNet};
+ghost use Rattle.aig_bench.specs.state.Pending.{AreFanouts};
 
 use crate::allowed::CELLS;
 use crate::bench_fault::BenchFault;
@@ -15,8 +15,8 @@ use crate::fill::fill;
 use crate::latches::LatchReaders;
 use crate::layout::lay_out;
 use crate::order::Order;
-use crate::plan::Plan;
-use crate::settle::{Net, make_pending};
+use crate::settle::{Fanouts, make_pending};
+use crate::setup::Setup;
 use aig_base::{Circuit, Levels, Memory, Readers};
 use aig_sim::{Grid, Stimulus};
 use std::alloc::Global;
@@ -35,7 +35,7 @@ pub fn check_sizes(circuit: &Circuit, stimulus: &Stimulus) -> Result<(), BenchFa
     ensures limit { IsErrOf result BenchFault.Limit ↔ (stimulus.now.width ≡ length circuit.now.inputs)
         × (cell_limit < (circuit.now.max_var + 1) * length stimulus.now.rows) }
     ensures memory { IsErrOf result BenchFault.Memory → ⊥ }
-    ensures plan { OnOk result (IsPlan (record { circuit = circuit.now; stimulus = stimulus.now })) }
+    ensures setup { OnOk result (IsSetup (record { circuit = circuit.now; stimulus = stimulus.now })) }
 {
     if stimulus.width() as usize != circuit.inputs().len() {
         return Err(BenchFault::Width);
@@ -47,13 +47,13 @@ pub fn check_sizes(circuit: &Circuit, stimulus: &Stimulus) -> Result<(), BenchFa
 }
 
 /// Who reads whom in a circuit, and its levels.
-fn make_net(alloc: Global, circuit: &Circuit) -> Result<Net, Memory>
-    ensures { IfOk result (IsNet circuit.now) }
+fn make_fanouts(alloc: Global, circuit: &Circuit) -> Result<Fanouts, Memory>
+    ensures { IfOk result (AreFanouts circuit.now) }
 {
     let levels = Levels::of(alloc, circuit)?;
     let readers = Readers::of(alloc, circuit)?;
     let latches = LatchReaders::of(alloc, circuit)?;
-    Ok(Net {
+    Ok(Fanouts {
         levels,
         readers,
         latches,
@@ -61,37 +61,37 @@ fn make_net(alloc: Global, circuit: &Circuit) -> Result<Net, Memory>
 }
 
 /// Writes the values of all frames of a new grid.
-fn fill_all<G: Grid>(grid: &mut G, plan: &Plan, order: &Order)
-    requires plan { IsPlan plan.now }
-    requires grid { IsLaidOut plan.now (G.gate_flags grid.old) (G.cells grid.old) }
-    requires orders { Orders plan.now.circuit order.now }
+fn fill_all<G: Grid>(grid: &mut G, setup: &Setup, order: &Order)
+    requires setup { IsSetup setup.now }
+    requires grid { IsLaidOut setup.now (G.gate_flags grid.old) (G.cells grid.old) }
+    requires orders { Orders setup.now.circuit order.now }
     requires known { IsKnown order.now }
-    ensures grid { IsLaidOut plan.now (G.gate_flags grid.new) (G.cells grid.new) }
-    ensures current { AreCurrent (pair_of plan.now) (length plan.now.stimulus.rows) (G.cells grid.new) }
+    ensures grid { IsLaidOut setup.now (G.gate_flags grid.new) (G.cells grid.new) }
+    ensures current { AreCurrent (pair_of setup.now) (length setup.now.stimulus.rows) (G.cells grid.new) }
     ensures count { G.evaluations grid.new
-        ≡ G.evaluations grid.old + length plan.now.circuit.gates * length plan.now.stimulus.rows }
+        ≡ G.evaluations grid.old + length setup.now.circuit.gates * length setup.now.stimulus.rows }
 {
-    for frame in 0..plan.stimulus.frames() {
-        fill(grid, plan, order, frame);
+    for frame in 0..setup.stimulus.frames() {
+        fill(grid, setup, order, frame);
     }
 }
 
-/// An engine for a plan, where nothing is to be looked at.
-pub fn make<G: Grid>(alloc: Global, plan: Plan) -> Result<Engine<G>, Memory>
-    requires { IsPlan plan }
-    ensures pair { IfOk result (λ engine. engine.pair ≡ pair_of plan) }
+/// An engine for a setup, where nothing is to be looked at.
+pub fn make<G: Grid>(alloc: Global, setup: Setup) -> Result<Engine<G>, Memory>
+    requires { IsSetup setup }
+    ensures pair { IfOk result (λ engine. engine.pair ≡ pair_of setup) }
     ensures settled { IfOk result IsSettled }
     ensures evaluations { IfOk result (λ engine.
-        engine.evaluations ≡ length plan.circuit.gates * length plan.stimulus.rows) }
+        engine.evaluations ≡ length setup.circuit.gates * length setup.stimulus.rows) }
 {
-    let net = make_net(alloc, &plan.circuit)?;
-    let order = Order::of(alloc, &plan.circuit, &net.levels)?;
-    let pending = make_pending(alloc, &plan, &net)?;
-    let mut grid = lay_out(alloc, &plan)?;
-    fill_all(&mut grid, &plan, &order);
+    let fanouts = make_fanouts(alloc, &setup.circuit)?;
+    let order = Order::of(alloc, &setup.circuit, &fanouts.levels)?;
+    let pending = make_pending(alloc, &setup, &fanouts)?;
+    let mut grid = lay_out(alloc, &setup)?;
+    fill_all(&mut grid, &setup, &order);
     Ok(Engine {
-        plan,
-        net,
+        setup,
+        fanouts,
         pending,
         order,
         grid,

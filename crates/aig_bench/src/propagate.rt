@@ -37,7 +37,7 @@ impl<G: Grid> Engine<G> {
         ensures { PutsSource frame (variable latch.lit) self.old self.new }
     {
         let variable = latch.lit.var();
-        let value = latch_value(&self.grid, &self.plan, frame, latch);
+        let value = latch_value(&self.grid, &self.setup, frame, latch);
         self.put(frame, variable, value);
     }
 
@@ -48,7 +48,7 @@ impl<G: Grid> Engine<G> {
         ensures { PutsLatches frame self.old self.new }
     {
         while let Some(number) = self.pending.here.take() {
-            let latch = self.plan.circuit.latches()[number as usize - 1];
+            let latch = self.setup.circuit.latches()[number as usize - 1];
             self.put_latch(frame, latch);
         }
     }
@@ -63,7 +63,7 @@ impl<G: Grid> Engine<G> {
         ensures evaluated { result.evaluated ≤ frame_work }
     {
         // Its invariant tells that the pair's circuit is one.
-        let _plan = &self.plan;
+        let _setup = &self.setup;
         self.carry(frame);
         self.settle(frame)
     }
@@ -81,7 +81,7 @@ impl<G: Grid> Engine<G> {
         ensures same { self.new ≡ record self.old { waits = self.new.waits } }
         ensures waits { (v : ℕ) → IsMarked self.new.waits v ↔ (IsMarked self.old.waits v ⊎ Contains gates.now v) }
     {
-        self.pending.buckets.link_all(&self.net.levels, gates);
+        self.pending.buckets.link_all(&self.fanouts.levels, gates);
     }
 
     /// Renews the frames from one on: evaluates these gates at each, and whatever is touched by them and by the latches
@@ -95,7 +95,7 @@ impl<G: Grid> Engine<G> {
             evaluated: 0,
             changed: 0,
         };
-        for frame in first..self.plan.stimulus.frames() {
+        for frame in first..self.setup.stimulus.frames() {
             if forced.is_empty() && self.pending.here.is_empty() {
                 return report;
             }
@@ -115,8 +115,8 @@ impl<G: Grid> Engine<G> {
         requires behind { IsBehindBit self.old frame position }
         ensures { RenewsAll [] frame self.old self.new result }
     {
-        let input = self.plan.circuit.inputs()[position as usize];
-        let value = self.plan.stimulus.get(frame, position);
+        let input = self.setup.circuit.inputs()[position as usize];
+        let value = self.setup.stimulus.get(frame, position);
         self.put(frame, input.var(), value);
         let first = self.pass(frame);
         self.advance();

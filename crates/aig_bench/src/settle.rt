@@ -8,10 +8,10 @@ ghost use Rattle.aig_base.specs.Levels.{AreLevels};
 ghost use Rattle.aig_base.specs.Limits.{cell_limit};
 ghost use Rattle.aig_base.specs.state.Marks.{IsMarked};
 ghost use Rattle.aig_bench.specs.Pair.{HasValue};
-ghost use Rattle.aig_bench.specs.Plan.{IsPlan};
+ghost use Rattle.aig_bench.specs.state.Setup.{IsSetup};
 ghost use Rattle.aig_bench.specs.state.Current.{IsLaidOut};
 ghost use Rattle.aig_bench.specs.state.Engine.{IsIdle};
-ghost use Rattle.aig_bench.specs.state.Pending.{HasLists, IsNet};
+ghost use Rattle.aig_bench.specs.state.Pending.{HasLists, AreFanouts};
 ghost use Rattle.aig_bench.specs.state.Steps.{frame_work, report_of, PutsSource, Settles, SettlesLevels};
 ghost use Rattle.aig_bench.specs.state.Sweep.{IsWork, waiting};
 
@@ -19,14 +19,14 @@ use crate::buckets::Buckets;
 use crate::edit::EditReport;
 use crate::engine::Engine;
 use crate::latches::{LatchList, LatchReaders};
-use crate::plan::Plan;
+use crate::setup::Setup;
 use aig_base::{Levels, Memory, Readers, Tern};
 use aig_sim::Grid;
 use std::alloc::Global;
 
 /// Who reads whom, and the levels.
 #[derive(Drop)]
-pub struct Net {
+pub struct Fanouts {
     pub levels: Levels,
     /// For each variable the gates that read it.
     pub readers: Readers,
@@ -70,12 +70,14 @@ impl<G: Grid> Engine<G> {
         ensures settles { SettlesLevels frame level level self.old self.new (report_of result) }
     {
         let variable = self.pending.buckets.take(level)?;
-        let gate = self.plan.circuit.gate_of(variable)?;
+        let gate = self.setup.circuit.gate_of(variable)?;
         let changed = self.grid.evaluate(frame, gate);
         if changed {
-            let readers = self.net.readers.list(variable);
-            self.pending.buckets.link_all(&self.net.levels, readers);
-            self.net.latches.list_all(variable, &mut self.pending.ahead);
+            let readers = self.fanouts.readers.list(variable);
+            self.pending.buckets.link_all(&self.fanouts.levels, readers);
+            self.fanouts
+                .latches
+                .list_all(variable, &mut self.pending.ahead);
         }
         Some(changed)
     }
@@ -132,25 +134,27 @@ impl<G: Grid> Engine<G> {
         let before = self.grid.get(frame, variable);
         self.grid.put_source(frame, variable, value);
         if before != value {
-            let readers = self.net.readers.list(variable);
-            self.pending.buckets.link_all(&self.net.levels, readers);
-            self.net.latches.list_all(variable, &mut self.pending.ahead);
+            let readers = self.fanouts.readers.list(variable);
+            self.pending.buckets.link_all(&self.fanouts.levels, readers);
+            self.fanouts
+                .latches
+                .list_all(variable, &mut self.pending.ahead);
         }
     }
 }
 
-/// What a propagation works on, for a plan, where nothing is to be looked at.
-pub fn make_pending(alloc: Global, plan: &Plan, net: &Net) -> Result<Pending, Memory>
-    requires plan { IsPlan plan.now }
-    requires net { IsNet plan.now.circuit net.now }
+/// What a propagation works on, for a setup, where nothing is to be looked at.
+pub fn make_pending(alloc: Global, setup: &Setup, fanouts: &Fanouts) -> Result<Pending, Memory>
+    requires setup { IsSetup setup.now }
+    requires fanouts { AreFanouts setup.now.circuit fanouts.now }
     ensures work { IfOk result (λ w. (flags : List Bool) (cells : List (List ternary.Tern))
-        → IsLaidOut plan.now flags cells
-        → IsWork plan.now net.now flags cells w.buckets) }
-    ensures lists { IfOk result (λ w. HasLists plan.now net.now w) }
+        → IsLaidOut setup.now flags cells
+        → IsWork setup.now fanouts.now flags cells w.buckets) }
+    ensures lists { IfOk result (λ w. HasLists setup.now fanouts.now w) }
     ensures quiet { IfOk result (λ w. IsIdle w.buckets.marks.items w.here.marks.items w.ahead.marks.items) }
 {
-    let latches = plan.circuit.latches().len();
-    let buckets = Buckets::new(alloc, plan.circuit.max_var())?;
+    let latches = setup.circuit.latches().len();
+    let buckets = Buckets::new(alloc, setup.circuit.max_var())?;
     let here = LatchList::new(alloc, latches)?;
     let ahead = LatchList::new(alloc, latches)?;
     Ok(Pending {

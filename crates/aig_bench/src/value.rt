@@ -4,10 +4,10 @@ ghost use Rattle.aig_parts.specs.Literal.{variable};
 ghost use Rattle.aig_sim.specs.Cells.{literal_value};
 ghost use Rattle.aig_sim.specs.InputRows.{row_at};
 ghost use Rattle.aig_bench.specs.Pair.{HasValue};
-ghost use Rattle.aig_bench.specs.Plan.{pair_of, IsPlan};
+ghost use Rattle.aig_bench.specs.state.Setup.{pair_of, IsSetup};
 ghost use Rattle.aig_bench.specs.state.Current.{IsLaidOut, IsCurrentBefore};
 
-use crate::plan::Plan;
+use crate::setup::Setup;
 use aig_base::{Latch, Lit, Tern};
 use aig_sim::{Grid, first_value};
 
@@ -22,13 +22,13 @@ pub fn literal_at<G: Grid>(grid: &G, frame: u32, literal: Lit) -> Tern
 }
 
 /// The value of a latch at a frame, by its reset or by the frame before.
-pub fn latch_value<G: Grid>(grid: &G, plan: &Plan, frame: u32, latch: Latch) -> Tern
-    requires plan { IsPlan plan.now }
-    requires grid { IsLaidOut plan.now (G.gate_flags grid.now) (G.cells grid.now) }
-    requires frame { frame < length plan.now.stimulus.rows }
-    requires before { IsCurrentBefore (pair_of plan.now) frame (G.cells grid.now) }
-    requires latch { (i : ℕ) × (slice_get plan.now.circuit.latches i ≡ Some latch) }
-    ensures { HasValue (pair_of plan.now) frame latch.lit result }
+pub fn latch_value<G: Grid>(grid: &G, setup: &Setup, frame: u32, latch: Latch) -> Tern
+    requires setup { IsSetup setup.now }
+    requires grid { IsLaidOut setup.now (G.gate_flags grid.now) (G.cells grid.now) }
+    requires frame { frame < length setup.now.stimulus.rows }
+    requires before { IsCurrentBefore (pair_of setup.now) frame (G.cells grid.now) }
+    requires latch { (i : ℕ) × (slice_get setup.now.circuit.latches i ≡ Some latch) }
+    ensures { HasValue (pair_of setup.now) frame latch.lit result }
 {
     if frame == 0 {
         first_value(latch)

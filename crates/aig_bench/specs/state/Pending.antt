@@ -8,39 +8,39 @@ use Rattle.aig_parts.specs.Literal.{variable}
 use Rattle.aig_base.specs.Readers.{AreReaders}
 use Rattle.aig_sim.specs.Cells.{literal_value}
 use Rattle.aig_bench.specs.declared.order.Order.{Order}
-use Rattle.aig_bench.specs.declared.plan.Plan.{Plan}
-use Rattle.aig_bench.specs.declared.settle.Net.{Net}
+use Rattle.aig_bench.specs.declared.setup.Setup.{Setup}
+use Rattle.aig_bench.specs.declared.settle.Fanouts.{Fanouts}
 use Rattle.aig_bench.specs.declared.settle.Pending.{Pending}
-use Rattle.aig_bench.specs.Plan.{pair_of}
+use Rattle.aig_bench.specs.state.Setup.{pair_of}
 use Rattle.aig_bench.specs.state.Engine.{EngineState, IsIdle}
 use Rattle.aig_bench.specs.state.Latches.{AreLatchReaders, IsLatchList}
 use Rattle.aig_bench.specs.state.Order.{Orders}
 use Rattle.aig_bench.specs.state.Sweep.{IsWork, IsWorking}
 
 -- the levels of a circuit, and who reads whom
-pub record IsNet (raw : Raw) (net : Net) : Type 0 where
-  pub levels : AreLevels raw net.levels
-  pub readers : AreReaders raw net.readers
-  pub latches : AreLatchReaders raw net.latches
+pub record AreFanouts (raw : Raw) (fanouts : Fanouts) : Type 0 where
+  pub levels : AreLevels raw fanouts.levels
+  pub readers : AreReaders raw fanouts.readers
+  pub latches : AreLatchReaders raw fanouts.latches
 
 -- who reads whom, and two lists of the circuit's latches
-pub record HasLists (plan : Plan) (net : Net) (pending : Pending) : Type 0 where
-  pub readers : AreLatchReaders plan.circuit net.latches
-  pub here : IsLatchList (length plan.circuit.latches) pending.here
-  pub ahead : IsLatchList (length plan.circuit.latches) pending.ahead
+pub record HasLists (setup : Setup) (fanouts : Fanouts) (pending : Pending) : Type 0 where
+  pub readers : AreLatchReaders setup.circuit fanouts.latches
+  pub here : IsLatchList (length setup.circuit.latches) pending.here
+  pub ahead : IsLatchList (length setup.circuit.latches) pending.ahead
 
--- what an engine keeps: a grid for its plan, buckets in which gates alone wait, lists, and an order of its gates or none
-pub record IsEngine (plan : Plan) (net : Net) (pending : Pending) (order : Order) (flags : List Bool) (cells : List (List Tern)) : Type 0 where
-  pub work : IsWork plan net flags cells pending.buckets
-  pub lists : HasLists plan net pending
-  pub orders : Orders plan.circuit order
+-- what an engine keeps: a grid for its setup, buckets in which gates alone wait, lists, and an order of its gates or none
+pub record IsEngine (setup : Setup) (fanouts : Fanouts) (pending : Pending) (order : Order) (flags : List Bool) (cells : List (List Tern)) : Type 0 where
+  pub work : IsWork setup fanouts flags cells pending.buckets
+  pub lists : HasLists setup fanouts pending
+  pub orders : Orders setup.circuit order
 
 -- what contracts see of it
-abbrev pub state_of : Plan → Net → Pending → List (List Tern) → ℕ → EngineState
-state_of plan net pending cells n = record {
-  pair = pair_of plan;
+abbrev pub state_of : Setup → Fanouts → Pending → List (List Tern) → ℕ → EngineState
+state_of setup fanouts pending cells n = record {
+  pair = pair_of setup;
   cells = cells;
-  levels = net.levels;
+  levels = fanouts.levels;
   waits = pending.buckets.marks.items;
   here = pending.here.marks.items;
   ahead = pending.ahead.marks.items;
@@ -48,9 +48,9 @@ state_of plan net pending cells n = record {
 }
 
 -- what a bench keeps: the cells are the values of all frames, and there is nothing to be looked at
-pub record IsReady (plan : Plan) (net : Net) (pending : Pending) (flags : List Bool) (cells : List (List Tern)) : Type 0 where
-  pub working : IsWorking plan net pending.buckets flags cells
-  pub lists : HasLists plan net pending
+pub record IsReady (setup : Setup) (fanouts : Fanouts) (pending : Pending) (flags : List Bool) (cells : List (List Tern)) : Type 0 where
+  pub working : IsWorking setup fanouts pending.buckets flags cells
+  pub lists : HasLists setup fanouts pending
   pub idle : IsIdle pending.buckets.marks.items pending.here.marks.items pending.ahead.marks.items
 
 -- the latches' cells in a row are the values of their next literals in the row before

@@ -5,7 +5,7 @@ use Rattle.aig_base.proofs.Circuits.{input_definition}
 use Rattle.aig_sim.specs.InputRows.{row_at}
 use Rattle.aig_sim.proofs.Evaluation.{item_at, items_all, items_more}
 use Rattle.aig_bench.specs.state.Current.{Holds}
-use Rattle.aig_bench.specs.Plan.{pair_of}
+use Rattle.aig_bench.specs.state.Setup.{pair_of}
 use Rattle.aig_bench.proofs.Values.{input_value}
 use Rattle.aig_bench.proofs.fill.fill_inputs.Goals as goal
 
@@ -23,37 +23,37 @@ fill_source-requires-clause-grid g c = c.loop-position.invariant.grid
 
 pub fill_source-requires-clause-positive : goal.fill_source-requires-clause-positive
 fill_source-requires-clause-positive g c =
-    let plan = c.args.plan.now in
+    let setup = c.args.setup.now in
     let l = c.input-item.result in
-    let at : slice_get plan.circuit.inputs c.loop-position.position ≡ Some l =
+    let at : slice_get setup.circuit.inputs c.loop-position.position ≡ Some l =
     item_at _ _ c.loop-position.position l c.inputs-input-items.ensures c.loop-position-test.true c.input-item.is in
-    let definition = input_definition plan.circuit c.requires.plan.circuit.sound c.loop-position.position l at in
+    let definition = input_definition setup.circuit c.requires.setup.circuit.sound c.loop-position.position l at in
     rw c.var.ensures (omega arith)
 
 pub fill_source-requires-clause-source : goal.fill_source-requires-clause-source
 fill_source-requires-clause-source g c =
-    let plan = c.args.plan.now in
+    let setup = c.args.setup.now in
     let l = c.input-item.result in
-    let at : slice_get plan.circuit.inputs c.loop-position.position ≡ Some l =
+    let at : slice_get setup.circuit.inputs c.loop-position.position ≡ Some l =
     item_at _ _ c.loop-position.position l c.inputs-input-items.ensures c.loop-position-test.true c.input-item.is in
     rw c.var.ensures (by.IsSource.input c.loop-position.position l at)
 
 pub fill_source-requires-clause-value : goal.fill_source-requires-clause-value
 fill_source-requires-clause-value g c =
-    let plan = c.args.plan.now in
+    let setup = c.args.setup.now in
     let l = c.input-item.result in
-    let at : slice_get plan.circuit.inputs c.loop-position.position ≡ Some l =
+    let at : slice_get setup.circuit.inputs c.loop-position.position ≡ Some l =
     item_at _ _ c.loop-position.position l c.inputs-input-items.ensures c.loop-position-test.true c.input-item.is in
     rw c.var.ensures
-    (input_value (pair_of plan) c.args.frame c.loop-position.position l c.get-value.result c.requires.plan.circuit.sound
+    (input_value (pair_of setup) c.args.frame c.loop-position.position l c.get-value.result c.requires.setup.circuit.sound
     c.requires.frame at c.get-value.ensures)
 
 pub loop-position-preserved : goal.loop-position-preserved
 loop-position-preserved g c =
-    let plan = c.args.plan.now in
+    let setup = c.args.setup.now in
     let l = c.input-item.result in
     let i = c.loop-position.invariant in
-    let at : slice_get plan.circuit.inputs c.loop-position.position ≡ Some l =
+    let at : slice_get setup.circuit.inputs c.loop-position.position ≡ Some l =
     item_at _ _ c.loop-position.position l c.inputs-input-items.ensures c.loop-position-test.true c.input-item.is in
     record {
       grid = c.fill_source.ensures.grid;
@@ -61,8 +61,8 @@ loop-position-preserved g c =
       flags = c.fill_source.ensures.flags ∙ i.flags;
       count = c.fill_source.ensures.count ∙ i.count;
       inputs = items_more
-          (λ (k : ℕ). Holds (pair_of plan) c.args.frame (row_at (g.G.Grid.cells c.fill_source.new.grid) c.args.frame) (variable k))
-          plan.circuit.inputs c.loop-position.position l at
+          (λ (k : ℕ). Holds (pair_of setup) c.args.frame (row_at (g.G.Grid.cells c.fill_source.new.grid) c.args.frame) (variable k))
+          setup.circuit.inputs c.loop-position.position l at
           (λ j k below is. c.fill_source.ensures.renews.keeps (variable k) (i.inputs j k below is))
           (rw c.var.ensures at c.fill_source.ensures.holds);
     }
@@ -81,8 +81,8 @@ returns-clause-count g c = c.loop-position.invariant.count
 
 pub returns-clause-inputs : goal.returns-clause-inputs
 returns-clause-inputs g c =
-    let plan = c.args.plan.now in
+    let setup = c.args.setup.now in
     items_all
-    (λ (k : ℕ). Holds (pair_of plan) c.args.frame (row_at (g.G.Grid.cells c.loop-position.grid) c.args.frame) (variable k))
-    plan.circuit.inputs c.loop-position.position
+    (λ (k : ℕ). Holds (pair_of setup) c.args.frame (row_at (g.G.Grid.cells c.loop-position.grid) c.args.frame) (variable k))
+    setup.circuit.inputs c.loop-position.position
     (rw (← c.inputs-input-items.ensures) (omega (arith, c.loop-position-test.false))) c.loop-position.invariant.inputs

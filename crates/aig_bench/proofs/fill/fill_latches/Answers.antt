@@ -7,20 +7,20 @@ use Rattle.aig_base.proofs.Circuits.{latch_definition}
 use Rattle.aig_sim.specs.InputRows.{row_at}
 use Rattle.aig_sim.proofs.Evaluation.{item_at, items_all, items_more, renews_none, renews_then}
 use Rattle.aig_bench.specs.state.Current.{Holds}
-use Rattle.aig_bench.specs.Plan.{pair_of}
+use Rattle.aig_bench.specs.state.Setup.{pair_of}
 use Rattle.aig_bench.proofs.Carrying.{before_kept}
 use Rattle.aig_bench.proofs.Values.{latch_value}
 use Rattle.aig_bench.proofs.fill.fill_latches.Goals as goal
 
 pub loop-latch-init : goal.loop-latch-init
 loop-latch-init g c =
-    let plan = c.args.plan.now in
+    let setup = c.args.setup.now in
     record {
       grid = c.requires.grid;
       others = λ u ne. refl;
       flags = refl;
       count = refl;
-      renews = renews_none plan.circuit (start_of plan.circuit) plan.stimulus.rows c.args.frame _;
+      renews = renews_none setup.circuit (start_of setup.circuit) setup.stimulus.rows c.args.frame _;
       latches = λ i x lt. absurd (omega arith);
     }
 
@@ -29,7 +29,7 @@ latch_value-value-requires-clause-grid g c = c.loop-latch.invariant.grid
 
 pub latch_value-value-requires-clause-before : goal.latch_value-value-requires-clause-before
 latch_value-value-requires-clause-before g c =
-    before_kept (pair_of c.args.plan.now) c.args.frame _ _ c.requires.before c.loop-latch.invariant.others
+    before_kept (pair_of c.args.setup.now) c.args.frame _ _ c.requires.before c.loop-latch.invariant.others
 
 pub latch_value-value-requires-clause-latch : goal.latch_value-value-requires-clause-latch
 latch_value-value-requires-clause-latch g c = (
@@ -43,48 +43,48 @@ fill_source-requires-clause-grid g c = c.loop-latch.invariant.grid
 
 pub fill_source-requires-clause-positive : goal.fill_source-requires-clause-positive
 fill_source-requires-clause-positive g c =
-    let plan = c.args.plan.now in
+    let setup = c.args.setup.now in
     let x = c.latch-item.result in
-    let at : slice_get plan.circuit.latches c.loop-latch.latch-index ≡ Some x =
+    let at : slice_get setup.circuit.latches c.loop-latch.latch-index ≡ Some x =
     item_at _ _ c.loop-latch.latch-index x c.latches-latch-items.ensures c.loop-latch-test.true c.latch-item.is in
-    let definition = latch_definition plan.circuit c.requires.plan.circuit.sound c.loop-latch.latch-index x at in
+    let definition = latch_definition setup.circuit c.requires.setup.circuit.sound c.loop-latch.latch-index x at in
     rw c.var.ensures (omega arith)
 
 pub fill_source-requires-clause-source : goal.fill_source-requires-clause-source
 fill_source-requires-clause-source g c =
-    let plan = c.args.plan.now in
+    let setup = c.args.setup.now in
     let x = c.latch-item.result in
-    let at : slice_get plan.circuit.latches c.loop-latch.latch-index ≡ Some x =
+    let at : slice_get setup.circuit.latches c.loop-latch.latch-index ≡ Some x =
     item_at _ _ c.loop-latch.latch-index x c.latches-latch-items.ensures c.loop-latch-test.true c.latch-item.is in
     rw c.var.ensures (by.IsSource.latch c.loop-latch.latch-index x at)
 
 pub fill_source-requires-clause-value : goal.fill_source-requires-clause-value
 fill_source-requires-clause-value g c =
-    let plan = c.args.plan.now in
+    let setup = c.args.setup.now in
     let x = c.latch-item.result in
-    let at : slice_get plan.circuit.latches c.loop-latch.latch-index ≡ Some x =
+    let at : slice_get setup.circuit.latches c.loop-latch.latch-index ≡ Some x =
     item_at _ _ c.loop-latch.latch-index x c.latches-latch-items.ensures c.loop-latch-test.true c.latch-item.is in
     rw c.var.ensures
-    (latch_value (pair_of plan) c.args.frame c.loop-latch.latch-index x c.latch_value-value.result
-    c.requires.plan.circuit.sound at c.latch_value-value.ensures)
+    (latch_value (pair_of setup) c.args.frame c.loop-latch.latch-index x c.latch_value-value.result
+    c.requires.setup.circuit.sound at c.latch_value-value.ensures)
 
 pub loop-latch-preserved : goal.loop-latch-preserved
 loop-latch-preserved g c =
-    let plan = c.args.plan.now in
+    let setup = c.args.setup.now in
     let x = c.latch-item.result in
     let i = c.loop-latch.invariant in
-    let at : slice_get plan.circuit.latches c.loop-latch.latch-index ≡ Some x =
+    let at : slice_get setup.circuit.latches c.loop-latch.latch-index ≡ Some x =
     item_at _ _ c.loop-latch.latch-index x c.latches-latch-items.ensures c.loop-latch-test.true c.latch-item.is in
     record {
       grid = c.fill_source.ensures.grid;
       others = λ u ne. c.fill_source.ensures.others u ne ∙ i.others u ne;
       flags = c.fill_source.ensures.flags ∙ i.flags;
       count = c.fill_source.ensures.count ∙ i.count;
-      renews = renews_then plan.circuit (start_of plan.circuit) plan.stimulus.rows c.args.frame _ _ _ i.renews
+      renews = renews_then setup.circuit (start_of setup.circuit) setup.stimulus.rows c.args.frame _ _ _ i.renews
           c.fill_source.ensures.renews;
       latches = items_more
-          (λ (y : Latch). Holds (pair_of plan) c.args.frame (row_at (g.G.Grid.cells c.fill_source.new.grid) c.args.frame) (variable y.lit))
-          plan.circuit.latches c.loop-latch.latch-index x at
+          (λ (y : Latch). Holds (pair_of setup) c.args.frame (row_at (g.G.Grid.cells c.fill_source.new.grid) c.args.frame) (variable y.lit))
+          setup.circuit.latches c.loop-latch.latch-index x at
           (λ j y below is. c.fill_source.ensures.renews.keeps (variable y.lit) (i.latches j y below is))
           (rw c.var.ensures at c.fill_source.ensures.holds);
     }
@@ -106,8 +106,8 @@ returns-clause-renews g c = c.loop-latch.invariant.renews
 
 pub returns-clause-latches : goal.returns-clause-latches
 returns-clause-latches g c =
-    let plan = c.args.plan.now in
+    let setup = c.args.setup.now in
     items_all
-    (λ (y : Latch). Holds (pair_of plan) c.args.frame (row_at (g.G.Grid.cells c.loop-latch.grid) c.args.frame) (variable y.lit))
-    plan.circuit.latches c.loop-latch.latch-index
+    (λ (y : Latch). Holds (pair_of setup) c.args.frame (row_at (g.G.Grid.cells c.loop-latch.grid) c.args.frame) (variable y.lit))
+    setup.circuit.latches c.loop-latch.latch-index
     (rw (← c.latches-latch-items.ensures) (omega (arith, c.loop-latch-test.false))) c.loop-latch.invariant.latches

@@ -1,4 +1,4 @@
-use Rattle.aig_bench.proofs.Definitions.{decides_gate}
+use Rattle.aig_base.proofs.Gates.{found_decides}
 use Rattle.aig_bench.proofs.Layouts.{flags_more}
 use Rattle.aig_bench.proofs.layout.gate_flags.Goals as goal
 
@@ -7,5 +7,5 @@ loop-variable-preserved c =
     rw c.in_ok-push.ensures.items
     (flags_more c.args.circuit.now c.loop-variable.variable c.loop-variable.flags.items c.is_some.result
     c.loop-variable.invariant
-    (rw c.is_some.ensures (decides_gate c.args.circuit.now c.loop-variable.variable c.gate_of.result
+    (rw c.is_some.ensures (found_decides c.args.circuit.now c.loop-variable.variable c.gate_of.result
     c.gate_of.ensures.found c.gate_of.ensures.none)))

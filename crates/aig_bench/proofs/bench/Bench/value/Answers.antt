@@ -3,7 +3,7 @@ use Rattle.aig_base.specs.Sections.{IsDefined}
 use Rattle.aig_base.specs.Sound.{IsInRange}
 use Rattle.aig_parts.specs.Literal.{variable}
 use Rattle.aig_sim.specs.InputRows.{row_at}
-use Rattle.aig_bench.specs.Plan.{pair_of}
+use Rattle.aig_bench.specs.state.Setup.{pair_of}
 use Rattle.aig_bench.proofs.Engines.{held}
 use Rattle.aig_bench.proofs.Refusals.{value_no_frame, value_allowed}
 use Rattle.aig_bench.proofs.Values.{literal_has_value}
@@ -11,29 +11,29 @@ use Rattle.aig_bench.proofs.bench.Bench.value.Goals as goal
 
 pub returns-then-frame-frames : goal.returns-then-frame-frames
 returns-then-frame-frames g c =
-    let plan = c.engine.inside.plan in
-    let range : IsInRange plan.circuit c.args.literal =
+    let setup = c.engine.inside.setup in
+    let range : IsInRange setup.circuit c.args.literal =
     omega (arith, c.if-variable-max_var.false, c.max_var.ensures.value, c.var-variable.ensures) in
-    let defined : IsDefined plan.circuit (variable c.args.literal) =
-    subst (IsDefined plan.circuit) c.var-variable.ensures (c.if-not-is_defined.ensures.0 refl) in
+    let defined : IsDefined setup.circuit (variable c.args.literal) =
+    subst (IsDefined setup.circuit) c.var-variable.ensures (c.if-not-is_defined.ensures.0 refl) in
     rw (← c.self.view_is, ← c.engine.view_is)
-    (value_no_frame (pair_of plan) c.args.frame c.args.literal range defined
+    (value_no_frame (pair_of setup) c.args.frame c.args.literal range defined
     (omega (arith, c.frames.ensures.frames, c.if-frame-frames.true)))
 
 pub returns : goal.returns
 returns g c =
     let k = held c.engine.invariant c.engine.view_is c.self.invariant in
-    let plan = c.engine.inside.plan in
-    let range : IsInRange plan.circuit c.args.literal =
+    let setup = c.engine.inside.setup in
+    let range : IsInRange setup.circuit c.args.literal =
     omega (arith, c.if-variable-max_var.false, c.max_var.ensures.value, c.var-variable.ensures) in
-    let defined : IsDefined plan.circuit (variable c.args.literal) =
-    subst (IsDefined plan.circuit) c.var-variable.ensures (c.if-not-is_defined.ensures.0 refl) in
-    let there : c.args.frame < length plan.stimulus.rows = omega
+    let defined : IsDefined setup.circuit (variable c.args.literal) =
+    subst (IsDefined setup.circuit) c.var-variable.ensures (c.if-not-is_defined.ensures.0 refl) in
+    let there : c.args.frame < length setup.stimulus.rows = omega
     (arith, c.frames.ensures.frames, c.if-frame-frames.false) in
     rw (← c.self.view_is, ← c.engine.view_is, c.literal_at.ensures) (
-      value_allowed (pair_of plan) c.args.frame c.args.literal range defined there,
-      literal_has_value (pair_of plan) c.args.frame (row_at (g.G.Grid.cells c.engine.inside.grid) c.args.frame)
+      value_allowed (pair_of setup) c.args.frame c.args.literal range defined there,
+      literal_has_value (pair_of setup) c.args.frame (row_at (g.G.Grid.cells c.engine.inside.grid) c.args.frame)
           c.args.literal
-          k.working.bench.plan_is.circuit.sound
+          k.working.bench.setup_is.circuit.sound
           (k.working.bench.current.each c.args.frame there (variable c.args.literal) defined),
     )

@@ -8,7 +8,7 @@ use Rattle.aig_bench.specs.state.Sweep.{Ends, Starts}
 use Rattle.aig_bench.specs.state.Passing.{IsConsistent}
 use Rattle.aig_bench.proofs.Carrying.{started}
 use Rattle.aig_bench.proofs.Engines.{row_then}
-use Rattle.aig_bench.proofs.Passing.{marked_or_not}
+use Rattle.aig_bench.proofs.PassLemmas.{marked_or_not}
 use Rattle.aig_bench.proofs.engine.Engine.pass.Goals as goal
 
 pub returns-clause-passes : goal.returns-clause-passes
@@ -20,7 +20,7 @@ returns-clause-passes g c =
     let first = c.carry.ensures in
     let last = c.settle.ensures.settles in
     let same : mid.pair ≡ s.pair = first.row.pair in
-    let sound = subst (λ (x : EngineState). IsSound x.pair.circuit) c.self.view_is c.self.invariant.work.plan_is.circuit.sound in
+    let sound = subst (λ (x : EngineState). IsSound x.pair.circuit) c.self.view_is c.self.invariant.work.setup_is.circuit.sound in
     record {
       row = row_then t s mid new 0 c.settle.result.evaluated c.settle.result.evaluated first.row last.row (omega arith);
       none = subst IsClear (sym last.here) first.none;

@@ -18,7 +18,7 @@ latch_value-value-requires-clause-latch g c =
 pub put-requires-clause-positive : goal.put-requires-clause-positive
 put-requires-clause-positive g c =
     let (i, at) = rw (← c.self.view_is) at c.requires.latch in
-    let definition = latch_definition c.self.inside.plan.circuit c.self.invariant.work.plan_is.circuit.sound i c.args.latch at in
+    let definition = latch_definition c.self.inside.setup.circuit c.self.invariant.work.setup_is.circuit.sound i c.args.latch at in
     rw c.var-variable.ensures (omega arith)
 
 pub put-requires-clause-source : goal.put-requires-clause-source
@@ -29,7 +29,7 @@ pub put-requires-clause-value : goal.put-requires-clause-value
 put-requires-clause-value g c =
     let (i, at) = rw (← c.self.view_is) at c.requires.latch in
     rw (c.var-variable.ensures, ← c.self.view_is) (latch_value _ c.args.frame i c.args.latch c.latch_value-value.result
-    c.self.invariant.work.plan_is.circuit.sound at c.latch_value-value.ensures)
+    c.self.invariant.work.setup_is.circuit.sound at c.latch_value-value.ensures)
 
 pub returns : goal.returns
 returns g c = rw c.var-variable.ensures at c.put.ensures

@@ -8,13 +8,13 @@ use Rattle.aig_bench.proofs.engine.Engine.settle_next.Goals as goal
 pub returns-in_err-gate-clause-settles : goal.returns-in_err-gate-clause-settles
 returns-in_err-gate-clause-settles g c =
     let w = c.self.invariant.work in
-    let takes = c.in_ok-variable.ensures c.self.inside.net.levels w.buckets in
+    let takes = c.in_ok-variable.ensures c.self.inside.fanouts.levels w.buckets in
     absurd (c.in_err-gate.ensures.none (w.gates _ takes.waited))
 
 pub evaluate-changed-requires-clause-even : goal.evaluate-changed-requires-clause-even
 evaluate-changed-requires-clause-even g c =
     let w = c.self.invariant.work in
-    let takes = c.in_ok-variable.ensures c.self.inside.net.levels w.buckets in
+    let takes = c.in_ok-variable.ensures c.self.inside.fanouts.levels w.buckets in
     let (q, at, e) = c.in_ok-gate.ensures.found in
     let lt = subst (λ (s : EngineState). c.args.frame < length s.pair.rows) (sym c.self.view_is) c.requires.frame in
     lhs_even _ _ _ _ _ _ _ _ _ q _ w lt takes at e
@@ -22,7 +22,7 @@ evaluate-changed-requires-clause-even g c =
 pub evaluate-changed-requires-clause-gate : goal.evaluate-changed-requires-clause-gate
 evaluate-changed-requires-clause-gate g c =
     let w = c.self.invariant.work in
-    let takes = c.in_ok-variable.ensures c.self.inside.net.levels w.buckets in
+    let takes = c.in_ok-variable.ensures c.self.inside.fanouts.levels w.buckets in
     let (q, at, e) = c.in_ok-gate.ensures.found in
     let lt = subst (λ (s : EngineState). c.args.frame < length s.pair.rows) (sym c.self.view_is) c.requires.frame in
     lhs_flag _ _ _ _ _ _ _ _ _ q _ w lt takes at e
@@ -30,7 +30,7 @@ evaluate-changed-requires-clause-gate g c =
 pub evaluate-changed-requires-clause-rhs0 : goal.evaluate-changed-requires-clause-rhs0
 evaluate-changed-requires-clause-rhs0 g c =
     let w = c.self.invariant.work in
-    let takes = c.in_ok-variable.ensures c.self.inside.net.levels w.buckets in
+    let takes = c.in_ok-variable.ensures c.self.inside.fanouts.levels w.buckets in
     let (q, at, e) = c.in_ok-gate.ensures.found in
     let lt = subst (λ (s : EngineState). c.args.frame < length s.pair.rows) (sym c.self.view_is) c.requires.frame in
     rhs0_inside _ _ _ _ _ _ _ _ _ q _ w lt takes at e
@@ -38,7 +38,7 @@ evaluate-changed-requires-clause-rhs0 g c =
 pub evaluate-changed-requires-clause-rhs1 : goal.evaluate-changed-requires-clause-rhs1
 evaluate-changed-requires-clause-rhs1 g c =
     let w = c.self.invariant.work in
-    let takes = c.in_ok-variable.ensures c.self.inside.net.levels w.buckets in
+    let takes = c.in_ok-variable.ensures c.self.inside.fanouts.levels w.buckets in
     let (q, at, e) = c.in_ok-gate.ensures.found in
     let lt = subst (λ (s : EngineState). c.args.frame < length s.pair.rows) (sym c.self.view_is) c.requires.frame in
     rhs1_inside _ _ _ _ _ _ _ _ _ q _ w lt takes at e
@@ -46,7 +46,7 @@ evaluate-changed-requires-clause-rhs1 g c =
 pub list-readers-requires : goal.list-readers-requires
 list-readers-requires g c =
     let w = c.self.invariant.work in
-    let takes = c.in_ok-variable.ensures c.self.inside.net.levels w.buckets in
+    let takes = c.in_ok-variable.ensures c.self.inside.fanouts.levels w.buckets in
     let (q, at, e) = c.in_ok-gate.ensures.found in
     let lt = subst (λ (s : EngineState). c.args.frame < length s.pair.rows) (sym c.self.view_is) c.requires.frame in
     omega (arith, taken_in_range _ _ _ _ _ _ _ _ _ q _ w lt takes at e, w.readers.size)
@@ -54,7 +54,7 @@ list-readers-requires g c =
 pub link_all-requires-clause-fit : goal.link_all-requires-clause-fit
 link_all-requires-clause-fit g c =
     let w = c.self.invariant.work in
-    let takes = c.in_ok-variable.ensures c.self.inside.net.levels w.buckets in
+    let takes = c.in_ok-variable.ensures c.self.inside.fanouts.levels w.buckets in
     let (q, at, e) = c.in_ok-gate.ensures.found in
     let lt = subst (λ (s : EngineState). c.args.frame < length s.pair.rows) (sym c.self.view_is) c.requires.frame in
     readers_fit _ _ _ _ _ _ _ _ _ q _ w lt takes at e c.list-readers.result.now c.list-readers.ensures
@@ -62,15 +62,15 @@ link_all-requires-clause-fit g c =
 pub list_all-requires : goal.list_all-requires
 list_all-requires g c =
     let w = c.self.invariant.work in
-    let takes = c.in_ok-variable.ensures c.self.inside.net.levels w.buckets in
+    let takes = c.in_ok-variable.ensures c.self.inside.fanouts.levels w.buckets in
     let (q, at, e) = c.in_ok-gate.ensures.found in
     let lt = subst (λ (s : EngineState). c.args.frame < length s.pair.rows) (sym c.self.view_is) c.requires.frame in
-    (c.self.inside.plan.circuit, c.self.invariant.lists.readers, taken_in_range _ _ _ _ _ _ _ _ _ q _ w lt takes at e, c.self.invariant.lists.ahead)
+    (c.self.inside.setup.circuit, c.self.invariant.lists.readers, taken_in_range _ _ _ _ _ _ _ _ _ q _ w lt takes at e, c.self.invariant.lists.ahead)
 
 pub invariant_of-self-then-changed : goal.invariant_of-self-then-changed
 invariant_of-self-then-changed g c =
     let w = c.self.invariant.work in
-    let takes = c.in_ok-variable.ensures c.self.inside.net.levels w.buckets in
+    let takes = c.in_ok-variable.ensures c.self.inside.fanouts.levels w.buckets in
     let (q, at, e) = c.in_ok-gate.ensures.found in
     let lt = subst (λ (s : EngineState). c.args.frame < length s.pair.rows) (sym c.self.view_is) c.requires.frame in
     record {
@@ -87,7 +87,7 @@ invariant_of-self-then-changed g c =
 pub invariant_of-self-else-changed : goal.invariant_of-self-else-changed
 invariant_of-self-else-changed g c =
     let w = c.self.invariant.work in
-    let takes = c.in_ok-variable.ensures c.self.inside.net.levels w.buckets in
+    let takes = c.in_ok-variable.ensures c.self.inside.fanouts.levels w.buckets in
     let (q, at, e) = c.in_ok-gate.ensures.found in
     let lt = subst (λ (s : EngineState). c.args.frame < length s.pair.rows) (sym c.self.view_is) c.requires.frame in
     record {
@@ -103,27 +103,27 @@ invariant_of-self-else-changed g c =
 pub returns-then-changed-clause-fewer : goal.returns-then-changed-clause-fewer
 returns-then-changed-clause-fewer g c =
     let w = c.self.invariant.work in
-    let takes = c.in_ok-variable.ensures c.self.inside.net.levels w.buckets in
+    let takes = c.in_ok-variable.ensures c.self.inside.fanouts.levels w.buckets in
     let (q, at, e) = c.in_ok-gate.ensures.found in
     let lt = subst (λ (s : EngineState). c.args.frame < length s.pair.rows) (sym c.self.view_is) c.requires.frame in
     rw (← c.self.view_is)
-    (waiting_less c.self.inside.net.levels c.self.inside.pending.buckets.marks.items c.link_all.new.self.marks.items c.args.level _
+    (waiting_less c.self.inside.fanouts.levels c.self.inside.pending.buckets.marks.items c.link_all.new.self.marks.items c.args.level _
     w.buckets.chained.marks_size (linked_less _ _ _ _ _ _ _ _ _ q _ w lt takes at e c.list-readers.result.now c.list-readers.ensures c.link_all.new.self c.link_all.ensures.buckets c.link_all.ensures.links) (level_is _ _ _ _ _ _ _ _ _ q _ w lt takes at e) (waited _ _ _ _ _ _ _ _ _ q _ w lt takes at e) (linked_no_more _ _ _ _ _ _ _ _ _ q _ w lt takes at e c.list-readers.result.now c.list-readers.ensures c.link_all.new.self c.link_all.ensures.buckets c.link_all.ensures.links))
 
 pub returns-else-changed-clause-fewer : goal.returns-else-changed-clause-fewer
 returns-else-changed-clause-fewer g c =
     let w = c.self.invariant.work in
-    let takes = c.in_ok-variable.ensures c.self.inside.net.levels w.buckets in
+    let takes = c.in_ok-variable.ensures c.self.inside.fanouts.levels w.buckets in
     let (q, at, e) = c.in_ok-gate.ensures.found in
     let lt = subst (λ (s : EngineState). c.args.frame < length s.pair.rows) (sym c.self.view_is) c.requires.frame in
     rw (← c.self.view_is)
-    (waiting_less c.self.inside.net.levels c.self.inside.pending.buckets.marks.items c.take.new.self.marks.items c.args.level _
+    (waiting_less c.self.inside.fanouts.levels c.self.inside.pending.buckets.marks.items c.take.new.self.marks.items c.args.level _
     w.buckets.chained.marks_size (λ u stands k. waits_less _ _ _ _ _ _ _ _ _ q _ w lt takes at e u k) (level_is _ _ _ _ _ _ _ _ _ q _ w lt takes at e) (waited _ _ _ _ _ _ _ _ _ q _ w lt takes at e) (waits_no_more _ _ _ _ _ _ _ _ _ q _ w lt takes at e))
 
 pub returns-then-changed-clause-settles : goal.returns-then-changed-clause-settles
 returns-then-changed-clause-settles g c =
     let w = c.self.invariant.work in
-    let takes = c.in_ok-variable.ensures c.self.inside.net.levels w.buckets in
+    let takes = c.in_ok-variable.ensures c.self.inside.fanouts.levels w.buckets in
     let (q, at, e) = c.in_ok-gate.ensures.found in
     let lt = subst (λ (s : EngineState). c.args.frame < length s.pair.rows) (sym c.self.view_is) c.requires.frame in
     rw (← c.self.view_is, c.if-changed.true) (record {
@@ -131,7 +131,7 @@ returns-then-changed-clause-settles g c =
         pair = refl;
         levels = refl;
         others = other_rows _ _ _ _ _ _ _ _ _ q _ w lt takes at e _ c.if-changed.ensures.cells;
-        hands = hands_changed _ _ _ _ _ _ _ _ _ q _ w lt takes at e _ c.if-changed.ensures.cells c.self.inside.pending.ahead c.list_all.new.list (c.list_all.ensures.lists c.self.inside.plan.circuit
+        hands = hands_changed _ _ _ _ _ _ _ _ _ q _ w lt takes at e _ c.if-changed.ensures.cells c.self.inside.pending.ahead c.list_all.new.list (c.list_all.ensures.lists c.self.inside.setup.circuit
             c.self.invariant.lists.readers (taken_in_range _ _ _ _ _ _ _ _ _ q _ w lt takes at e));
         evaluations = c.if-changed.ensures.count;
       };
@@ -144,7 +144,7 @@ returns-then-changed-clause-settles g c =
 pub returns-else-changed-clause-settles : goal.returns-else-changed-clause-settles
 returns-else-changed-clause-settles g c =
     let w = c.self.invariant.work in
-    let takes = c.in_ok-variable.ensures c.self.inside.net.levels w.buckets in
+    let takes = c.in_ok-variable.ensures c.self.inside.fanouts.levels w.buckets in
     let (q, at, e) = c.in_ok-gate.ensures.found in
     let lt = subst (λ (s : EngineState). c.args.frame < length s.pair.rows) (sym c.self.view_is) c.requires.frame in
     rw (← c.self.view_is, c.if-changed.false) (record {

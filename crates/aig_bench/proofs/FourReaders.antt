@@ -1,25 +1,14 @@
 -- Variables that at least four gates read.
-use Rattle.std.proofs.Common.{◌≡◌, ◌⊎◌, inl, inr, ℕ, ◌+◌, ◌≤◌, List, [], ◌∷◌, length, nat_eq, cond, count_by, Result, Ok, Err, IfErr, IsErrAnd, refl, sym, subst, arith}
-use Rattle.std.proofs.lemmas.List.Sums.{sum_by-cons}
-use Rattle.std.proofs.lemmas.Bool.{eq-eqb}
+use Rattle.std.proofs.Common.{◌≡◌, ◌⊎◌, inl, inr, ℕ, ◌+◌, ◌≤◌, List, [], ◌∷◌, length, nat_eq, count_by, Result, Ok, Err, IfErr, IsErrAnd, refl, sym, subst, arith}
 use Rattle.aig_parts.specs.declared.raw.Raw.{Raw}
 use Rattle.aig_base.specs.Readers.{AreReaders, ReaderLists, list_of}
-use Rattle.aig_base.proofs.ReaderLists.{count-of_Contains}
+use Rattle.aig_base.proofs.ReaderLists.{count-cons, count-of_Contains, one_same}
 use Rattle.aig_bench.specs.declared.edit.EditFault.{EditFault}
 use Rattle.aig_bench.specs.declared.edit.EditFault.TheVariants as fault
 use Rattle.aig_bench.specs.Edit.{rewire, Forbids, IsLeastFault}
 use Rattle.aig_bench.specs.Fanout.{HasFourReaders}
 use Rattle.aig_bench.specs.Pair.{Pair}
 use Rattle.aig_bench.specs.Touched.{IsOnce}
-
-abbrev one : ℕ → ℕ → ℕ
-one w x = cond (nat_eq w x) 1 0
-
-count-cons : (w x : ℕ) (xs : List ℕ) → count_by (nat_eq w) (x ∷ xs) ≡ one w x + count_by (nat_eq w) xs
-count-cons w x xs = sum_by-cons (one w) x xs
-
-one_same : (u : ℕ) → one u u ≡ 1
-one_same u = rw (eq-eqb u u refl) refl
 
 -- a count of a longer list is no less
 count_below : (w x : ℕ) (xs : List ℕ) → count_by (nat_eq w) (x ∷ xs) ≤ 1 → count_by (nat_eq w) xs ≤ 1
@@ -58,7 +47,7 @@ pub handed_fault : {A : Type 0} (P : EditFault → Type 0) (r : Result A EditFau
 handed_fault P (Ok a) x h k = tt
 handed_fault P (Err f) x h k = subst P (sym h) k
 
--- want of memory is no fault of a rewire's own
+-- out of memory is no fault of a rewire's own
 pub no_memory : (p : Pair) (lhs r0 r1 : ℕ) (x : EditFault) → IsLeastFault (Forbids p (rewire lhs r0 r1)) x
     → x ≡ fault.Memory → ⊥
 no_memory p lhs r0 r1 x h e = (subst (IsLeastFault (Forbids p (rewire lhs r0 r1))) e h).0

@@ -4,7 +4,7 @@ use aig_sim::Stimulus;
 
 /// A circuit and a stimulus.
 #[derive(Drop, Debug)]
-pub struct Plan {
+pub struct Setup {
     pub circuit: Circuit,
     pub stimulus: Stimulus,
 }
