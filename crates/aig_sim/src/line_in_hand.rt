@@ -1,5 +1,5 @@
 //! The line of a stimulus that is being read.
-ghost use Rattle.std.specs.Prelude.{◌≡◌, ◌≢◌, ℕ, ◌-◌, ◌≤◌, ◌<◌, ◌↔◌, List, [], ◌∷◌, ◌++◌, length, map, All, IsTrue};
+ghost use Rattle.std.specs.Prelude.{◌≡◌, ◌≢◌, ℕ, ◌≤◌, ◌<◌, ◌↔◌, List, [], ◌∷◌, ◌++◌, length, map, All, IsTrue};
 ghost use Rattle.std.specs.Prelude.{IfOk, IfErr, OnOk, OnErr, IfSome, IfNone, Some, take, slice_get};
 ghost use Rattle.aig_sim.specs.StimulusText.{character, line_number, IsCharacter, EndsLine, HasFault};
 ghost use Rattle.aig_sim.specs.LineInHand.{Keeps, IsOfLine};
@@ -206,13 +206,6 @@ impl LineInHand {
             self.shape = Shape::Wrong;
             Ok(())
         }
-    }
-
-    /// How many values a row has beyond those so far.
-    pub fn missing(&self) -> usize
-        ensures { result ≡ self.now.width - length self.now.values }
-    {
-        self.width.saturating_sub(self.values.len())
     }
 
     /// Whether the line has no byte so far.
