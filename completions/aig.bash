@@ -9,7 +9,7 @@ _aig() {
         [sim]="--help"
         [wave]="--help"
         [bench]="--circuit-out --stimulus-out --help"
-        [unroll]="--frames --to --help"
+        [unroll]="--frames --to --map --help"
         [check]="--help"
         [info]="--help"
     )

@@ -5,11 +5,12 @@ beside those of Icarus Verilog and GTKWave. It is no part of the gate: the tools
 
 from library import runs
 from tools.conversions import conversions
+from tools.maps import maps
 from tools.unrolled import unrolled
 from tools.waves import waves
 from tools.witnesses import witnesses
 
-PARTS = {"conversions": conversions, "unrolled": unrolled, "witnesses": witnesses, "waves": waves}
+PARTS = {"conversions": conversions, "unrolled": unrolled, "maps": maps, "witnesses": witnesses, "waves": waves}
 
 if __name__ == "__main__":
     runs.main(__doc__, PARTS)

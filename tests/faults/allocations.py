@@ -23,6 +23,7 @@ RUNS = (
     ("toaig of all sections", ["toaig", "--to", "aig", "sections"]),
     ("unroll to text", ["unroll", "--frames", "3", "--to", "aag", "guarded_latch"]),
     ("unroll to binary", ["unroll", "--frames", "3", "--to", "aig", "guarded_latch"]),
+    ("unroll with a map", ["unroll", "--frames", "3", "--to", "aag", "--map", "map", "guarded_latch"]),
     ("check", ["check", f"{EXAMPLES}/wraps.aag", f"{EXAMPLES}/wraps.wit"]),
     ("info", ["info", f"{EXAMPLES}/two_gates.aag"]),
     ("info of all sections", ["info", "sections"]),

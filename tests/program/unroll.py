@@ -1,7 +1,12 @@
 """Rows of `aig unroll`: unrolled circuits with known bytes, refusals, and the outputs of unrolled designs."""
 
+import itertools
+import os
+
+from library import reference
 from library.circuits import write_all
-from library.runs import EXAMPLES, EXPECTED, Ended, contents, write
+from library.recipes import make_witness
+from library.runs import EXAMPLES, EXPECTED, Ended, contents, input_or_output, write
 from program.rows import Rows
 
 # What is unrolled: frames, format, circuit, and what is written.
@@ -26,6 +31,18 @@ REFUSALS = (
     ("a refused circuit before a refused number", "0 --to aag cycle", "circuit: cycle 2"),
 )
 
+# What a map tells: frames, circuit, and its lines.
+MAPS = (
+    ("an uninitialised latch", 2, "feedback", "i 0 0 0 \ni 1 1 0 \nl 2 0 \n"),
+    ("names", 1, "sections", None),
+    ("a latch that starts at 0", 3, "toggle", ""),
+    ("inputs and frames", 2, "guarded", "i 0 0 0 \ni 1 0 1 \ni 2 1 0 \ni 3 1 1 \n"),
+    ("names and starts", 2, "starts", "i 0 0 0 in\ni 1 0 1 \ni 2 1 0 in\ni 3 1 1 \nl 4 1 \nl 5 3 free one\n"),
+)
+# Two inputs, a latch that counts, one that is free and one that starts at 1; bad where all three are 1, a constraint.
+RUN = ("aag 9 2 3 0 4 1 1\n2\n4\n6 18\n8 4 8\n10 8 1\n16\n3\n12 6 8\n14 10 4\n16 12 14\n18 3 4\n")
+STARTS = ("aag 6 2 4 0 0 1\n2\n4\n6 2 1\n8 4 8\n10 2\n12 10 12\n12\ni0 in\nl0 not free\nl3 free one\nb0 in\n")
+
 
 def unroll(program, tally, _):
     rows = Rows("unroll", program, tally)
@@ -39,6 +56,50 @@ def unroll(program, tally, _):
     rows.gives("the greatest variable", "unroll --frames 65535 --to aag inputs", f"aag 4194240 4194240 0 0 0\n{inputs}")
     for design in ("two_gates", "counter", "fifo"):
         outputs_of_all_frames(rows, design)
+    maps(rows)
+    recipe(rows)
+
+
+def maps(rows):
+    """Maps of known bytes, and runs that write none."""
+    write("starts", STARTS)
+    for name, frames, circuit, text in MAPS:
+        words = f"--frames {frames} --to aag"
+        wanted = rows.program.run("unroll", *words.split(" "), circuit)
+        rows.ends(f"map: {name}", f"unroll {words} --map map {circuit}", wanted)
+        if text is None:
+            rows.tally.check("unroll: map: no unrolling, no map", wanted.status == 1 and not os.path.exists("map"))
+        else:
+            rows.tally.compare(f"unroll: map: {name}, lines", contents("map"), text.encode())
+            os.remove("map")
+    rows.ends("map: a folder that is not there", "unroll --frames 2 --to aag --map nowhere/map feedback",
+              input_or_output("output", UNROLLED[1][2].encode()))
+    with open("/dev/full", "wb") as full:
+        rows.tally.compare("unroll: map: a full device, no map", rows.program.run(
+            "unroll", "--frames", "2", "--to", "aag", "--map", "map", "feedback", stdout=full),
+            input_or_output("output", None))
+    rows.tally.check("unroll: map: a full device, no map", not os.path.exists("map"))
+    rows.ends("map: on a full device", "unroll --frames 2 --to aag --map /dev/full feedback",
+              input_or_output("output", UNROLLED[1][2].encode()))
+
+
+def recipe(rows):
+    """The recipe that makes a witness of a row: of all rows of a circuit, those are confirmed that by the plain
+    simulator reach its bad state at the last frame."""
+    write("old.aag", RUN)
+    rows.program.run("unroll", "--frames", "3", "--to", "aag", "--map", "map", "old.aag")
+    write("unrolled.aag", rows.program.run("unroll", "--frames", "3", "--to", "aag", "old.aag").out)
+    parts = reference.Parts(contents("unrolled.aag").decode())
+    found = 0
+    for values in itertools.product("01", repeat=len(parts.inputs)):
+        known = reference.values(parts, [values])[0]
+        write("row", "".join(values) + "\n")
+        make_witness(2)
+        is_reached = reference.literal(known, parts.bad[2]) == "1"
+        found += is_reached
+        ended = rows.program.run("check", "old.aag", "run.wit")
+        rows.tally.compare(f"unroll: the witness of {''.join(values)}", ended.out == b"confirmed\n", is_reached)
+    rows.tally.check("unroll: rows that reach the bad state", 0 < found < 2 ** len(parts.inputs), found)
 
 
 def outputs_of_all_frames(rows, design):

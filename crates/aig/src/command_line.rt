@@ -60,6 +60,11 @@ at any value; outputs, bad state properties and constraints are those of each fr
 state properties and constraints, each bad state property holds only where all constraints held so far, and no
 constraints are left.
 
+A line of FILE is one of these, for the input at position N of the unrolled circuit; all numbers count from 0:
+  i N T P NAME  it is input P at frame T
+  l N P NAME    it is the start of latch P
+NAME is the symbol, if there is one. FILE is written once the unrolled circuit is, as bench writes its files.
+
 Example: aig unroll --frames 3 --to aag examples/counter.aag
 The formats are described in docs/FORMATS.md.";
 
@@ -149,6 +154,14 @@ fn frames_argument<'a>(alloc: Global) -> Arg<'a> {
     any_number(frames.long("frames"))
 }
 
+fn map_argument<'a>(alloc: Global) -> Arg<'a> {
+    kept_argument(
+        alloc,
+        "map",
+        "Writes what each input of the unrolled circuit is to FILE, a line each",
+    )
+}
+
 fn any_number<'a>(argument: Arg<'a>) -> Arg<'a> {
     argument.value_parser(ValueParser::Unsigned(0, 4_294_967_295))
 }
@@ -227,6 +240,7 @@ fn unroll_command<'a>(alloc: Global) -> Result<Command<'a>, AllocError> {
         .after_help(AFTER_UNROLL)
         .arg(frames_argument(alloc))?
         .arg(format_argument(alloc))?
+        .arg(map_argument(alloc))?
         .arg(circuit_argument(alloc))
 }
 

@@ -1,11 +1,14 @@
 //! The files that the words name.
 
 use crate::exit::Exit;
-use aig_base::{Buffered, Std};
+use aig_base::{Buffered, Fault, Std};
 use aig_engines::RunFault;
 use std::alloc::Global;
 use std::fs::{self, Files};
 use std::io::{self, ErrorKind, Printer, Read};
+
+/// A circuit's file cannot be opened or read.
+pub const CIRCUIT: Exit = Exit::Run(RunFault::Circuit(Fault::Io));
 
 /// Opens a file. One that cannot be opened ends the program with `part`.
 pub fn open<R: Files>(rt: &R, name: &str, part: Exit) -> Result<R::File, Exit> {

@@ -1,10 +1,10 @@
-//! The files that keep what a script leaves.
+//! The files that keep what a script leaves, and what tells the inputs of an unrolled circuit.
 
 use crate::exit::Exit;
 use crate::new_file::{NewFile, OUTPUT, begin};
-use aig_base::{Std, Write};
+use aig_base::{Buffered, Circuit, Std};
 use aig_bench::Bench;
-use aig_engines::{RunFault, keep_circuit, keep_stimulus};
+use aig_engines::{RunFault, deliver_input_map, keep_circuit, keep_stimulus};
 use aig_sim::PlaneGrid;
 use std::fs::{Files, OpenFile};
 use std::io;
@@ -23,11 +23,12 @@ impl Kept<'_> {
     }
 }
 
-/// What a file keeps of a bench.
+/// What a file keeps: the circuit or the rows of a bench, or the inputs of a circuit unrolled for so many frames.
 #[derive(Clone, Copy)]
-enum Part {
-    Circuit,
-    Stimulus,
+enum Part<'a> {
+    Circuit(&'a Bench<PlaneGrid>),
+    Stimulus(&'a Bench<PlaneGrid>),
+    Inputs(&'a Circuit, u32),
 }
 
 /// Writes what a bench has to the files that are asked for. Each text is whole on its disk before one takes its name.
@@ -36,8 +37,8 @@ pub fn keep<R: Files + AllocGlobal>(
     bench: &Bench<PlaneGrid>,
     names: Kept<'_>,
 ) -> Result<(), Exit> {
-    let circuit = write_part(rt, bench, Part::Circuit, names.circuit)?;
-    match write_part(rt, bench, Part::Stimulus, names.stimulus) {
+    let circuit = write_asked(rt, Part::Circuit(bench), names.circuit)?;
+    match write_asked(rt, Part::Stimulus(bench), names.stimulus) {
         Ok(stimulus) => take_names(rt, &circuit, &stimulus),
         Err(exit) => {
             remove(rt, &circuit);
@@ -46,18 +47,37 @@ pub fn keep<R: Files + AllocGlobal>(
     }
 }
 
-/// Writes a part, and answers the new file that it is in; none where a device or a pipe got it, or nobody asked.
-fn write_part<R: Files + AllocGlobal>(
+/// Writes what each input of the circuit unrolled for so many frames is to a file.
+pub fn keep_inputs<R: Files + AllocGlobal>(
     rt: &R,
-    bench: &Bench<PlaneGrid>,
-    part: Part,
+    circuit: &Circuit,
+    frames: u32,
+    name: &str,
+) -> Result<(), Exit> {
+    let new = write_part(rt, Part::Inputs(circuit, frames), name)?;
+    take_name(rt, &new)
+}
+
+/// Writes a part where it is asked for.
+fn write_asked<R: Files + AllocGlobal>(
+    rt: &R,
+    part: Part<'_>,
     name: Option<&str>,
 ) -> Result<Option<NewFile>, Exit> {
-    let Some(name) = name else {
-        return Ok(None);
-    };
+    match name {
+        Some(name) => write_part(rt, part, name),
+        None => Ok(None),
+    }
+}
+
+/// Writes a part, and answers the new file that it is in; none where a device or a pipe got it.
+fn write_part<R: Files + AllocGlobal>(
+    rt: &R,
+    part: Part<'_>,
+    name: &str,
+) -> Result<Option<NewFile>, Exit> {
     let (mut file, new) = begin(rt, name)?;
-    let done = write_file(bench, part, &mut file, new.is_some());
+    let done = write_file(part, &mut file, new.is_some());
     if done.is_err() {
         remove(rt, &new);
     }
@@ -67,23 +87,32 @@ fn write_part<R: Files + AllocGlobal>(
 
 /// Writes a part to an open file, and to its disk where that is wanted.
 fn write_file<F: io::Write + OpenFile>(
-    bench: &Bench<PlaneGrid>,
-    part: Part,
+    part: Part<'_>,
     file: &mut F,
     is_synced: bool,
 ) -> Result<(), Exit> {
-    write_text(bench, part, &mut Std::new(&mut *file))?;
+    write_text(part, &mut *file)?;
     if is_synced && file.sync_all().is_err() {
         return Err(OUTPUT);
     }
     Ok(())
 }
 
-fn write_text<W: Write>(bench: &Bench<PlaneGrid>, part: Part, out: &mut W) -> Result<(), RunFault> {
+fn write_text<F: io::Write>(part: Part<'_>, file: &mut F) -> Result<(), RunFault> {
     match part {
-        Part::Circuit => keep_circuit(bench, out),
-        Part::Stimulus => keep_stimulus(bench, out),
+        Part::Circuit(bench) => keep_circuit(bench, &mut Std::new(file)),
+        Part::Stimulus(bench) => keep_stimulus(bench, &mut Std::new(file)),
+        Part::Inputs(circuit, frames) => write_inputs(circuit, frames, file),
     }
+}
+
+fn write_inputs<F: io::Write>(
+    circuit: &Circuit,
+    frames: u32,
+    file: &mut F,
+) -> Result<(), RunFault> {
+    let mut out = Buffered::new(Std::new(file));
+    deliver_input_map(circuit, frames, &mut out)
 }
 
 /// Gives the new files their names.

@@ -2,12 +2,15 @@
 #![tactic(auto)]
 
 mod arguments;
+mod circuits;
 mod command_line;
 mod exit;
 mod files;
 mod kept;
 mod new_file;
+mod simulations;
 mod task;
+mod witnesses;
 
 use exit::Exit;
 use std::env::Env;

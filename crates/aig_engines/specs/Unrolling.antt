@@ -41,3 +41,12 @@ abbrev pub UnrollingEnds : {X : Type 0} → (X → Option (List ℕ)) → (X →
 UnrollingEnds written failures old new file k to (Err (parts.Circuit fault)) = RefusesCircuit file fault × (new ≡ old)
 UnrollingEnds written failures old new file k to r =
     (raw : Raw) × IsFileOf file raw × UnrolledCircuitEnds written failures old new raw k to r
+
+-- How it ends where the circuit is kept. The unrolled circuit was written whole, and this is the circuit of the file; or
+-- there is none, and it ended as any other with this fault.
+abbrev pub UnrollingLeft : {X : Type 0} → (X → Option (List ℕ)) → (X → ℕ) → X → X → List ℕ → ℕ → Format
+    → Result Raw RunFault → Type 0
+UnrollingLeft written failures old new file k to (Ok raw) =
+    IsFileOf file raw × UnrolledCircuitEnds written failures old new raw k to (Ok tt)
+UnrollingLeft written failures old new file k to (Err fault) =
+    UnrollingEnds written failures old new file k to (Err fault)

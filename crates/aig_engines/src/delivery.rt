@@ -6,7 +6,9 @@ ghost use Rattle.aig_engines.specs.Delivered.{Delivers, IsHandedOn, all_written,
 ghost use Rattle.aig_engines.specs.Engines.{BenchEnds, SimulationEnds, WaveEnds};
 ghost use Rattle.aig_engines.specs.Info.{InfoEnds};
 ghost use Rattle.aig_engines.specs.Kept.{BenchLeft};
-ghost use Rattle.aig_engines.specs.Unrolling.{UnrollingEnds};
+ghost use Rattle.aig_engines.specs.Unrolling.{UnrollingEnds, UnrollingLeft};
+ghost use Rattle.aig_bytes.specs.Bytes.{Writes};
+ghost use Rattle.aig_unroll.specs.InputMap.{map_text};
 
 use crate::checking::check_bytes;
 use crate::conversion::convert_from;
@@ -15,9 +17,9 @@ use crate::info::info_bytes;
 use crate::keeping::bench_after_script;
 use crate::run_fault::RunFault;
 use crate::script_fault::ScriptFault;
-use crate::unrolling::unroll_bytes;
+use crate::unrolling::{keep_input_map, unroll_and_keep, unroll_bytes};
 use crate::wave::wave_from;
-use aig_base::{Buffered, Failed, Read, Write};
+use aig_base::{Buffered, Circuit, Failed, Read, Write};
 use aig_bench::Bench;
 use aig_format::Format;
 use aig_sim::{PlaneGrid, StimFault, Verdict};
@@ -123,6 +125,38 @@ pub fn deliver_unrolled<W: Write>(
         out.new result }
 {
     let done = unroll_bytes(alloc, circuit, frames, to, out);
+    handed_on(done, out, RunFault::Output)
+}
+
+/// Writes a circuit file unrolled for this many frames in a format, and answers the circuit that was read. Where the
+/// writer below fails, there is none, and the fault is the output's.
+pub fn deliver_unrolled_and_keep<W: Write>(
+    alloc: Global,
+    circuit: &[u8],
+    frames: u32,
+    to: Format,
+    out: &mut Buffered<W>,
+) -> Result<Circuit, RunFault>
+    ensures { Delivers W.written RunFault.Output
+        (λ left answer. UnrollingLeft (all_written W.written) calls_failed out.old left circuit.now frames to answer)
+        out.new result }
+{
+    let done = unroll_and_keep(alloc, circuit, frames, to, out);
+    handed_on(done, out, RunFault::Output)
+}
+
+/// Writes what each input of the circuit unrolled for this many frames is. Where the writer below fails, the fault is
+/// the output's.
+pub fn deliver_input_map<W: Write>(
+    circuit: &Circuit,
+    frames: u32,
+    out: &mut Buffered<W>,
+) -> Result<(), RunFault>
+    ensures { Delivers W.written RunFault.Output
+        (λ left answer. Writes (all_written W.written) calls_failed out.old left (map_text circuit.now frames) answer)
+        out.new result }
+{
+    let done = keep_input_map(circuit, frames, out);
     handed_on(done, out, RunFault::Output)
 }
 

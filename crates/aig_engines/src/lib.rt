@@ -21,8 +21,8 @@ mod wave;
 pub use checking::check_bytes;
 pub use conversion::{convert, convert_from};
 pub use delivery::{
-    deliver_bench, deliver_circuit, deliver_info, deliver_replies, deliver_trace, deliver_unrolled,
-    deliver_verdict, deliver_wave,
+    deliver_bench, deliver_circuit, deliver_info, deliver_input_map, deliver_replies,
+    deliver_trace, deliver_unrolled, deliver_unrolled_and_keep, deliver_verdict, deliver_wave,
 };
 pub use engine::{run_bench, simulate_from};
 pub use info::{Facts, info_bytes};
@@ -31,5 +31,5 @@ pub use laws::{law_of_kept_files, law_of_lines};
 pub use run_fault::RunFault;
 pub use script::run_script;
 pub use script_fault::ScriptFault;
-pub use unrolling::unroll_bytes;
+pub use unrolling::{keep_input_map, unroll_and_keep, unroll_bytes};
 pub use wave::wave_from;

@@ -2,14 +2,15 @@
 ghost use Rattle.std.specs.Prelude.{◌≡◌, IfErr};
 ghost use Rattle.aig_bytes.specs.Bytes.{Writes};
 ghost use Rattle.aig_base.specs.Renumbered.{IsBinaryReady};
-ghost use Rattle.aig_engines.specs.Unrolling.{UnrolledCircuitEnds, UnrollingEnds, short_spelling};
+ghost use Rattle.aig_unroll.specs.InputMap.{map_text};
+ghost use Rattle.aig_engines.specs.Unrolling.{UnrolledCircuitEnds, UnrollingEnds, UnrollingLeft, short_spelling};
 
 use crate::conversion::as_output;
 use crate::engine::read_circuit;
 use crate::run_fault::RunFault;
-use aig_base::{Circuit, Levels, Write};
+use aig_base::{Circuit, Io, Levels, Write};
 use aig_format::{Format, write_ascii, write_binary};
-use aig_unroll::unroll;
+use aig_unroll::{unroll, write_input_map};
 use std::alloc::Global;
 
 /// Writes a circuit that a binary file can hold in a format, as it stands.
@@ -53,4 +54,32 @@ pub fn unroll_bytes<W: Write>(
 {
     let circuit = read_circuit(alloc, circuit)?;
     unroll_circuit(alloc, &circuit, frames, to, out)
+}
+
+/// Unrolls the circuit of a file as `unroll_bytes` does, and answers the circuit that was read once the unrolled one is
+/// written whole.
+pub fn unroll_and_keep<W: Write>(
+    alloc: Global,
+    circuit: &[u8],
+    frames: u32,
+    to: Format,
+    out: &mut W,
+) -> Result<Circuit, RunFault>
+    ensures { UnrollingLeft W.written W.failures out.old out.new circuit.now frames to result }
+{
+    let read = read_circuit(alloc, circuit)?;
+    unroll_circuit(alloc, &read, frames, to, out)?;
+    Ok(read)
+}
+
+/// Writes what each input of the circuit unrolled for this many frames is, a line each (`write_input_map`). Where a
+/// write fails it has written a beginning.
+pub fn keep_input_map<W: Write>(circuit: &Circuit, frames: u32, out: &mut W) -> Result<(), RunFault>
+    ensures written { Writes W.written W.failures out.old out.new (map_text circuit.now frames) result }
+    ensures output { IfErr result (λ fault. fault ≡ RunFault.Output) }
+{
+    match write_input_map(circuit, frames, out) {
+        Ok(()) => Ok(()),
+        Err(Io) => Err(RunFault::Output),
+    }
 }

@@ -1,0 +1,93 @@
+//! The tasks that read a circuit alone: conversion, unrolling, and what it is.
+
+use crate::exit::Exit;
+use crate::files::{CIRCUIT, open, output, read_whole};
+use crate::kept::keep_inputs;
+use aig_base::Std;
+use aig_engines::{deliver_circuit, deliver_info, deliver_unrolled, deliver_unrolled_and_keep};
+use aig_format::Format;
+use std::fs::Files;
+use std::io::Read;
+
+/// Writes a circuit in a format.
+pub fn convert<R: Files + AllocGlobal + Print>(
+    rt: &R,
+    to: Format,
+    circuit: &str,
+) -> Result<(), Exit> {
+    let circuit = open(rt, circuit, CIRCUIT)?;
+    convert_file(rt, to, circuit)
+}
+
+fn convert_file<R: AllocGlobal + Print, F: Read + Drop>(
+    rt: &R,
+    to: Format,
+    circuit: F,
+) -> Result<(), Exit> {
+    let mut circuit = Std::new(circuit);
+    let mut out = output(rt);
+    deliver_circuit(rt.alloc(), &mut circuit, to, &mut out)?;
+    Ok(())
+}
+
+/// Writes a circuit unrolled for so many frames, and what its inputs are to the file of this name, if there is one.
+pub fn unroll<R: Files + AllocGlobal + Print>(
+    rt: &R,
+    frames: u32,
+    to: Format,
+    circuit: &str,
+    map: Option<&str>,
+) -> Result<(), Exit> {
+    let circuit = open(rt, circuit, CIRCUIT)?;
+    unroll_file(rt, frames, to, circuit, map)
+}
+
+fn unroll_file<R: Files + AllocGlobal + Print, F: Read + Drop>(
+    rt: &R,
+    frames: u32,
+    to: Format,
+    circuit: F,
+    map: Option<&str>,
+) -> Result<(), Exit> {
+    let circuit = read_whole(rt.alloc(), circuit, CIRCUIT)?;
+    match map {
+        Some(name) => write_unrolled_and_keep(rt, frames, to, circuit.as_slice(), name),
+        None => write_unrolled(rt, frames, to, circuit.as_slice()),
+    }
+}
+
+fn write_unrolled<R: AllocGlobal + Print>(
+    rt: &R,
+    frames: u32,
+    to: Format,
+    circuit: &[u8],
+) -> Result<(), Exit> {
+    let mut out = output(rt);
+    deliver_unrolled(rt.alloc(), circuit, frames, to, &mut out)?;
+    Ok(())
+}
+
+fn write_unrolled_and_keep<R: Files + AllocGlobal + Print>(
+    rt: &R,
+    frames: u32,
+    to: Format,
+    circuit: &[u8],
+    map: &str,
+) -> Result<(), Exit> {
+    let mut out = output(rt);
+    let circuit = deliver_unrolled_and_keep(rt.alloc(), circuit, frames, to, &mut out)?;
+    keep_inputs(rt, &circuit, frames, map)
+}
+
+/// Writes what a circuit is.
+pub fn info<R: Files + AllocGlobal + Print>(rt: &R, circuit: &str) -> Result<(), Exit> {
+    let circuit = open(rt, circuit, CIRCUIT)?;
+    info_file(rt, circuit)
+}
+
+fn info_file<R: AllocGlobal + Print, F: Read + Drop>(rt: &R, circuit: F) -> Result<(), Exit> {
+    let circuit = read_whole(rt.alloc(), circuit, CIRCUIT)?;
+    let mut out = output(rt);
+    deliver_info(rt.alloc(), circuit.as_slice(), &mut out)?;
+    Ok(())
+}
