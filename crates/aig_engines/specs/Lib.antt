@@ -7,6 +7,7 @@ pub mod Info
 pub mod Kept
 pub mod Lines
 pub mod Ran
+pub mod Replay
 pub mod Replies
 pub mod Run
 pub mod ScriptLine

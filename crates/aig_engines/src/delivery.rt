@@ -6,6 +6,7 @@ ghost use Rattle.aig_engines.specs.Delivered.{Delivers, IsHandedOn, all_written,
 ghost use Rattle.aig_engines.specs.Engines.{BenchEnds, SimulationEnds, WaveEnds};
 ghost use Rattle.aig_engines.specs.Info.{InfoEnds};
 ghost use Rattle.aig_engines.specs.Kept.{BenchLeft};
+ghost use Rattle.aig_engines.specs.Replay.{ReplayEnds, TracedEnds};
 ghost use Rattle.aig_engines.specs.Unrolling.{UnrollingEnds, UnrollingLeft};
 ghost use Rattle.aig_bytes.specs.Bytes.{Writes};
 ghost use Rattle.aig_unroll.specs.InputMap.{map_text};
@@ -15,6 +16,7 @@ use crate::conversion::convert_from;
 use crate::engine::{run_bench, simulate_from};
 use crate::info::info_bytes;
 use crate::keeping::bench_after_script;
+use crate::replaying::{check_and_trace_bytes, wave_witness_bytes};
 use crate::run_fault::RunFault;
 use crate::script_fault::ScriptFault;
 use crate::unrolling::{keep_input_map, unroll_and_keep, unroll_bytes};
@@ -172,6 +174,37 @@ pub fn deliver_verdict<W: Write>(
         out.new result }
 {
     let done = check_bytes(alloc, circuit, witness, out);
+    handed_on(done, out, RunFault::Output)
+}
+
+/// Writes the trace of a witness's run and the verdict on it, and answers the verdict. Where the writer below fails, the
+/// fault is the output's.
+pub fn deliver_traced_verdict<W: Write>(
+    alloc: Global,
+    circuit: &[u8],
+    witness: &[u8],
+    out: &mut Buffered<W>,
+) -> Result<Verdict, RunFault>
+    ensures { Delivers W.written RunFault.Output
+        (λ left answer. TracedEnds (all_written W.written) calls_failed out.old left circuit.now witness.now answer)
+        out.new result }
+{
+    let done = check_and_trace_bytes(alloc, circuit, witness, out);
+    handed_on(done, out, RunFault::Output)
+}
+
+/// Writes the value change dump of a witness's run. Where the writer below fails, the fault is the output's.
+pub fn deliver_witness_wave<W: Write>(
+    alloc: Global,
+    circuit: &[u8],
+    witness: &[u8],
+    out: &mut Buffered<W>,
+) -> Result<(), RunFault>
+    ensures { Delivers W.written RunFault.Output
+        (λ left answer. ReplayEnds (all_written W.written) calls_failed out.old left circuit.now witness.now answer)
+        out.new result }
+{
+    let done = wave_witness_bytes(alloc, circuit, witness, out);
     handed_on(done, out, RunFault::Output)
 }
 

@@ -1,0 +1,53 @@
+//! Runs of witnesses from bytes to bytes.
+ghost use Rattle.std.specs.Prelude.{◌≡◌};
+ghost use Rattle.aig_engines.specs.Replay.{ReplayEnds, TracedEnds};
+
+use crate::checking::write_verdict;
+use crate::engine::read_circuit;
+use crate::run_fault::RunFault;
+use aig_base::{Circuit, Io, Write};
+use aig_sim::{ReplayFault, Verdict, check_witness, dump_witness, trace_witness};
+use std::alloc::Global;
+
+/// Writes the value change dump (IEEE 1364) of the run that a witness of the circuit of a file describes, from the
+/// witness's own start, whatever its verdict: for every circuit file that is accepted and every witness for it, the
+/// bytes that are written are those of the dump. A circuit that is refused wins over the witness, which is refused
+/// where `check_bytes` refuses it; at a refusal nothing is written.
+pub fn wave_witness_bytes<W: Write>(
+    alloc: Global,
+    circuit: &[u8],
+    witness: &[u8],
+    out: &mut W,
+) -> Result<(), RunFault>
+    ensures { ReplayEnds W.written W.failures out.old out.new circuit.now witness.now result }
+{
+    let circuit = read_circuit(alloc, circuit)?;
+    match dump_witness(alloc, &circuit, witness, out) {
+        Ok(()) => Ok(()),
+        Err(ReplayFault::Witness(why)) => Err(RunFault::Witness(why)),
+        Err(ReplayFault::Io) => Err(RunFault::Output),
+    }
+}
+
+/// Checks a witness against the circuit of a file as `check_bytes` does, writes the trace of its run and then the
+/// verdict's line, and answers the verdict. At a refusal nothing is written.
+pub fn check_and_trace_bytes<W: Write>(
+    alloc: Global,
+    circuit: &[u8],
+    witness: &[u8],
+    out: &mut W,
+) -> Result<Verdict, RunFault>
+    ensures { TracedEnds W.written W.failures out.old out.new circuit.now witness.now result }
+{
+    let circuit = read_circuit(alloc, circuit)?;
+    let verdict = check_witness(alloc, &circuit, witness)?;
+    match trace_witness(alloc, &circuit, witness, out) {
+        Ok(()) => {}
+        Err(ReplayFault::Witness(why)) => return Err(RunFault::Witness(why)),
+        Err(ReplayFault::Io) => return Err(RunFault::Output),
+    }
+    match write_verdict(verdict, out) {
+        Ok(()) => Ok(verdict),
+        Err(Io) => Err(RunFault::Output),
+    }
+}
