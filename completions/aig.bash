@@ -7,10 +7,10 @@ _aig() {
     declare -A options=(
         [toaig]="--to --help"
         [sim]="--help"
-        [wave]="--help"
+        [wave]="--witness --help"
         [bench]="--circuit-out --stimulus-out --help"
         [unroll]="--frames --to --map --help"
-        [check]="--help"
+        [check]="--trace --help"
         [info]="--help"
     )
     declare -A values=(

@@ -10,6 +10,7 @@ from program.helps import helps
 from program.info import info
 from program.kept import kept
 from program.pages import pages
+from program.replays import replays
 from program.sim import sim
 from program.talks import talks
 from program.toaig import toaig
@@ -17,8 +18,8 @@ from program.unroll import unroll
 from program.wave import wave
 from program.words import words
 
-PARTS = {"bench": bench, "kept": kept, "words": words, "sim": sim, "wave": wave, "check": check, "toaig": toaig,
-         "unroll": unroll, "info": info, "help": helps, "pages": pages, "talks": talks}
+PARTS = {"bench": bench, "kept": kept, "words": words, "sim": sim, "wave": wave, "check": check, "replays": replays,
+         "toaig": toaig, "unroll": unroll, "info": info, "help": helps, "pages": pages, "talks": talks}
 
 if __name__ == "__main__":
     runs.main(__doc__, PARTS)

@@ -25,6 +25,8 @@ RUNS = (
     ("unroll to binary", ["unroll", "--frames", "3", "--to", "aig", "guarded_latch"]),
     ("unroll with a map", ["unroll", "--frames", "3", "--to", "aag", "--map", "map", "guarded_latch"]),
     ("check", ["check", f"{EXAMPLES}/wraps.aag", f"{EXAMPLES}/wraps.wit"]),
+    ("check with a trace", ["check", "--trace", f"{EXAMPLES}/wraps.aag", f"{EXAMPLES}/wraps.wit"]),
+    ("wave of a witness", ["wave", "--witness", f"{EXAMPLES}/wraps.aag", f"{EXAMPLES}/wraps.wit"]),
     ("info", ["info", f"{EXAMPLES}/two_gates.aag"]),
     ("info of all sections", ["info", "sections"]),
 )

@@ -25,6 +25,17 @@ $upscope $end
 $enddefinitions $end
 """
 
+WITNESS_HEADER = b"""$version aig $end
+$timescale 1 ns $end
+$scope module inputs $end
+$var wire 1 ! i0 $end
+$upscope $end
+$scope module bad $end
+$var wire 1 " b0 $end
+$upscope $end
+$enddefinitions $end
+"""
+
 # A run: its words, its files in the order in which they are read, each with the part that a failing read of it is told
 # as, the part of a failing write, the status and the fault of the run where no call fails, and its results in pieces:
 # one for each line of the last file where that is streamed, and one for its end, else one; and what is written before a
@@ -56,6 +67,12 @@ RUNS = (
     ("info", [("circuit", CYCLE)], "output", 1, b"aig: circuit: cycle 2\n", [b""]),
     ("check", [("circuit", BAD_INPUT), ("witness", b"1\nb0\n\n1\n.\n")], "output", 0, b"", [b"confirmed\n"]),
     ("check", [("circuit", BAD_INPUT), ("witness", b"1\nb0\n\nx\n.\n")], "output", 1, b"", [b"not bad\n"]),
+    ("check --trace", [("circuit", BAD_INPUT), ("witness", b"1\nb0\n\nx\n.\n")], "output",
+     1, b"", [b" x  \nnot bad\n"]),
+    ("wave --witness", [("circuit", BAD_INPUT), ("witness", b"1\nb0\n\nx\n1\n.\n")], "output", 0, b"",
+     [WITNESS_HEADER + b'#0\n$dumpvars\nx!\nx"\n$end\n#1\n1!\n1"\n#2\n']),
+    ("wave --witness", [("circuit", BAD_INPUT), ("witness", b"1\nb1\n\nx\n.\n")], "output",
+     1, b"aig: witness: property\n", [b""]),
 )
 
 

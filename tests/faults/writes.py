@@ -9,6 +9,7 @@ from library.circuits import write_all
 from library.runs import Ended, LeftOut, input_or_output, refused, write
 
 ROWS = "11\n" * 3000
+MANY_FRAMES = "1\nb0\n\n" + "0\n1\n" * 5000 + ".\n"
 OUTPUT, STIMULUS, SCRIPT = (input_or_output(part) for part in ("output", "stimulus", "script"))
 CYCLE = refused("circuit: cycle 2")
 
@@ -50,6 +51,17 @@ RUNS = (
     ("check with another verdict", "check bad_input witness", {"witness": "1\nb0\n\n0\n.\n"}, OUTPUT),
     ("check of a refused witness", "check bad_input witness", {"witness": "1\nb1\n\n0\n.\n"},
      refused("witness: property")),
+    ("check with a trace", "check --trace bad_input witness", {"witness": "1\nb0\n\n1\n.\n"}, OUTPUT),
+    ("check with a trace and another verdict", "check --trace bad_input witness", {"witness": "1\nb0\n\n0\n.\n"},
+     OUTPUT),
+    ("check with a trace of more than a block", "check --trace bad_input witness", {"witness": MANY_FRAMES}, OUTPUT),
+    ("check with a trace of a refused witness", "check --trace bad_input witness", {"witness": "1\nb1\n\n0\n.\n"},
+     refused("witness: property")),
+    ("wave of a witness", "wave --witness bad_input witness", {"witness": "1\nb0\n\n1\n.\n"}, OUTPUT),
+    ("wave of a witness of more than a block", "wave --witness bad_input witness", {"witness": MANY_FRAMES}, OUTPUT),
+    ("wave of a refused witness", "wave --witness bad_input witness", {"witness": "1\nb1\n\n0\n.\n"},
+     refused("witness: property")),
+    ("wave of a witness of a refused circuit", "wave --witness cycle witness", {"witness": "1\nb0\n\n1\n.\n"}, CYCLE),
 )
 
 

@@ -1,7 +1,7 @@
 //! What the words of the command line may be.
 
 use clap::builder::ValueParser;
-use clap::{Arg, ArgMatches, Command};
+use clap::{Arg, ArgAction, ArgMatches, Command};
 use std::alloc::{AllocError, Global};
 
 /// The program's version, and the toolchain that it is written for, as `rt version` names it. A program cannot tell how
@@ -27,7 +27,11 @@ static AFTER_WAVE: &str =
 state properties and constraints by their names, or without one by letter and position, as i0 or l3. Frame T is
 time T.
 
-Example: aig wave examples/counter.aag examples/counter.stim > counter.vcd
+With --witness STIM is the file of a witness, and the dump shows its run: from its own values of the latches, and
+whatever its verdict would be.
+
+Examples: aig wave examples/counter.aag examples/counter.stim > counter.vcd
+          aig wave --witness examples/wraps.aag examples/wraps.wit > wraps.vcd
 The formats are described in docs/FORMATS.md.";
 
 static AFTER_BENCH: &str =
@@ -75,6 +79,8 @@ static AFTER_CHECK: &str =
   not bad         the bad state property is not 1 at the last frame
   confirmed       the run reaches the bad state, whatever the x of the witness turn out to be
 The status is 0 for confirmed, and 1 for any other verdict.
+
+With --trace a line for each frame of the run comes first, as sim writes it, whatever the verdict.
 
 A witness has the line 1, the line b and a position (as b0), a line of the latches' values, a line of the inputs' values
 for each frame, and the line . at its end.
@@ -174,6 +180,37 @@ fn witness_argument<'a>(alloc: Global) -> Arg<'a> {
     )
 }
 
+fn run_argument<'a>(alloc: Global) -> Arg<'a> {
+    argument(
+        alloc,
+        "STIM",
+        "The file of the stimulus: a line a frame, a 0, 1 or x for each input; with --witness, that of the witness",
+    )
+}
+
+fn flag<'a>(alloc: Global, name: &'a str, help: &'a str) -> Arg<'a> {
+    Arg::new(alloc, name)
+        .long(name)
+        .action(ArgAction::SetTrue)
+        .help(help)
+}
+
+fn witness_flag<'a>(alloc: Global) -> Arg<'a> {
+    flag(
+        alloc,
+        "witness",
+        "Writes the run of a witness, whose file stands in place of the stimulus",
+    )
+}
+
+fn trace_flag<'a>(alloc: Global) -> Arg<'a> {
+    flag(
+        alloc,
+        "trace",
+        "Writes the trace of the witness's run, and then the verdict",
+    )
+}
+
 fn toaig_command<'a>(alloc: Global) -> Result<Command<'a>, AllocError> {
     Command::new(alloc, "toaig")
         .about("Writes a circuit in another format")
@@ -194,8 +231,9 @@ fn wave_command<'a>(alloc: Global) -> Result<Command<'a>, AllocError> {
     Command::new(alloc, "wave")
         .about("Simulates a circuit, and writes a value change dump for waveform viewers")
         .after_help(AFTER_WAVE)
+        .arg(witness_flag(alloc))?
         .arg(circuit_argument(alloc))?
-        .arg(stimulus_argument(alloc))
+        .arg(run_argument(alloc))
 }
 
 fn kept_argument<'a>(alloc: Global, name: &'a str, help: &'a str) -> Arg<'a> {
@@ -248,6 +286,7 @@ fn check_command<'a>(alloc: Global) -> Result<Command<'a>, AllocError> {
     Command::new(alloc, "check")
         .about("Checks that a witness reaches a bad state of a circuit, and writes the verdict")
         .after_help(AFTER_CHECK)
+        .arg(trace_flag(alloc))?
         .arg(circuit_argument(alloc))?
         .arg(witness_argument(alloc))
 }
@@ -305,4 +344,9 @@ pub fn text_of<'a>(matches: &ArgMatches<'a>, name: &str) -> Option<&'a str> {
 /// The number of an argument.
 pub fn number_of(matches: &ArgMatches<'_>, name: &str) -> Option<u32> {
     matches.get_one::<u32>(name)
+}
+
+/// Whether a flag was met.
+pub fn has_flag(matches: &ArgMatches<'_>, name: &str) -> bool {
+    matches.get_flag(name)
 }

@@ -1,11 +1,11 @@
 //! What the words of the command line choose.
 
 use crate::circuits::{convert, info, unroll};
-use crate::command_line::{number_of, subcommand_of, text_of};
+use crate::command_line::{has_flag, number_of, subcommand_of, text_of};
 use crate::exit::Exit;
 use crate::kept::Kept;
 use crate::simulations::{bench, simulate, wave};
-use crate::witnesses::check;
+use crate::witnesses::{check, wave_witness};
 use aig_format::Format;
 use clap::ArgMatches;
 use std::fs::Files;
@@ -25,6 +25,10 @@ pub enum Task<'a> {
         circuit: &'a str,
         stimulus: &'a str,
     },
+    WaveWitness {
+        circuit: &'a str,
+        witness: &'a str,
+    },
     Bench {
         circuit: &'a str,
         stimulus: &'a str,
@@ -40,6 +44,7 @@ pub enum Task<'a> {
     Check {
         circuit: &'a str,
         witness: &'a str,
+        with_trace: bool,
     },
     Info {
         circuit: &'a str,
@@ -68,6 +73,7 @@ impl<'a> Task<'a> {
             Task::Convert { to, circuit } => convert(rt, to, circuit),
             Task::Simulate { circuit, stimulus } => simulate(rt, circuit, stimulus),
             Task::Wave { circuit, stimulus } => wave(rt, circuit, stimulus),
+            Task::WaveWitness { circuit, witness } => wave_witness(rt, circuit, witness),
             Task::Bench {
                 circuit,
                 stimulus,
@@ -80,7 +86,11 @@ impl<'a> Task<'a> {
                 circuit,
                 map,
             } => unroll(rt, frames, to, circuit, map),
-            Task::Check { circuit, witness } => check(rt, circuit, witness),
+            Task::Check {
+                circuit,
+                witness,
+                with_trace,
+            } => check(rt, circuit, witness, with_trace),
             Task::Info { circuit } => info(rt, circuit),
         }
     }
@@ -109,10 +119,19 @@ fn simulation_of<'a>(matches: &ArgMatches<'a>) -> Option<Task<'a>> {
 }
 
 fn wave_of<'a>(matches: &ArgMatches<'a>) -> Option<Task<'a>> {
-    Some(Task::Wave {
-        circuit: text_of(matches, "CIRCUIT")?,
-        stimulus: text_of(matches, "STIM")?,
-    })
+    let circuit = text_of(matches, "CIRCUIT")?;
+    let file = text_of(matches, "STIM")?;
+    if has_flag(matches, "witness") {
+        Some(Task::WaveWitness {
+            circuit,
+            witness: file,
+        })
+    } else {
+        Some(Task::Wave {
+            circuit,
+            stimulus: file,
+        })
+    }
 }
 
 fn bench_of<'a>(matches: &ArgMatches<'a>) -> Option<Task<'a>> {
@@ -140,6 +159,7 @@ fn check_of<'a>(matches: &ArgMatches<'a>) -> Option<Task<'a>> {
     Some(Task::Check {
         circuit: text_of(matches, "CIRCUIT")?,
         witness: text_of(matches, "WITNESS")?,
+        with_trace: has_flag(matches, "trace"),
     })
 }
 

@@ -1,35 +1,50 @@
-//! The task that reads a circuit and a witness: its check.
+//! The tasks that read a circuit and a witness: its check, and the dump of its run.
 
 use crate::exit::Exit;
 use crate::files::{CIRCUIT, open, output, read_whole};
-use aig_engines::deliver_verdict;
+use aig_engines::{RunFault, deliver_traced_verdict, deliver_verdict, deliver_witness_wave};
 use aig_sim::Verdict;
 use std::fs::Files;
 use std::io::Read;
 
 const WITNESS: Exit = Exit::Witness;
 
-/// Writes the verdict on a witness.
+/// Writes the verdict on a witness, and before it the trace of its run where that is wanted.
 pub fn check<R: Files + AllocGlobal + Print>(
     rt: &R,
     circuit: &str,
     witness: &str,
+    with_trace: bool,
 ) -> Result<(), Exit> {
     let circuit = open(rt, circuit, CIRCUIT)?;
     let witness = open(rt, witness, WITNESS)?;
-    check_files(rt, circuit, witness)
+    check_files(rt, circuit, witness, with_trace)
 }
 
 fn check_files<R: AllocGlobal + Print, F: Read + Drop>(
     rt: &R,
     circuit: F,
     witness: F,
+    with_trace: bool,
 ) -> Result<(), Exit> {
     let circuit = read_whole(rt.alloc(), circuit, CIRCUIT)?;
     let witness = read_whole(rt.alloc(), witness, WITNESS)?;
-    let mut out = output(rt);
-    let verdict = deliver_verdict(rt.alloc(), circuit.as_slice(), witness.as_slice(), &mut out)?;
+    let verdict = write_verdict(rt, circuit.as_slice(), witness.as_slice(), with_trace)?;
     confirmation(verdict)
+}
+
+fn write_verdict<R: AllocGlobal + Print>(
+    rt: &R,
+    circuit: &[u8],
+    witness: &[u8],
+    with_trace: bool,
+) -> Result<Verdict, RunFault> {
+    let mut out = output(rt);
+    if with_trace {
+        deliver_traced_verdict(rt.alloc(), circuit, witness, &mut out)
+    } else {
+        deliver_verdict(rt.alloc(), circuit, witness, &mut out)
+    }
 }
 
 /// A verdict other than that the witness is confirmed ends the program with a status of its own.
@@ -38,4 +53,27 @@ fn confirmation(verdict: Verdict) -> Result<(), Exit> {
         Verdict::Confirmed => Ok(()),
         Verdict::Initial(_) | Verdict::Constraint(..) | Verdict::NotBad => Err(Exit::NotConfirmed),
     }
+}
+
+/// Writes the value change dump of a witness's run.
+pub fn wave_witness<R: Files + AllocGlobal + Print>(
+    rt: &R,
+    circuit: &str,
+    witness: &str,
+) -> Result<(), Exit> {
+    let circuit = open(rt, circuit, CIRCUIT)?;
+    let witness = open(rt, witness, WITNESS)?;
+    wave_files(rt, circuit, witness)
+}
+
+fn wave_files<R: AllocGlobal + Print, F: Read + Drop>(
+    rt: &R,
+    circuit: F,
+    witness: F,
+) -> Result<(), Exit> {
+    let circuit = read_whole(rt.alloc(), circuit, CIRCUIT)?;
+    let witness = read_whole(rt.alloc(), witness, WITNESS)?;
+    let mut out = output(rt);
+    deliver_witness_wave(rt.alloc(), circuit.as_slice(), witness.as_slice(), &mut out)?;
+    Ok(())
 }
