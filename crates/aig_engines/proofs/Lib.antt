@@ -7,6 +7,7 @@ pub mod InfoLemmas
 pub mod Inputs
 pub mod KeptFiles
 pub mod Pieces
+pub mod Replays
 pub mod ReplyLemmas
 pub mod RowLines
 pub mod RunLemmas

@@ -1,6 +1,7 @@
 //! Runs of witnesses from bytes to bytes.
-ghost use Rattle.std.specs.Prelude.{◌≡◌};
+ghost use Rattle.std.specs.Prelude.{ℕ, List};
 ghost use Rattle.aig_engines.specs.Replay.{ReplayEnds, TracedEnds};
+ghost use Rattle.aig_engines.specs.Run.{IsFileOf};
 
 use crate::checking::write_verdict;
 use crate::engine::read_circuit;
@@ -29,6 +30,28 @@ pub fn wave_witness_bytes<W: Write>(
     }
 }
 
+// Writes the trace of a witness's run and the verdict on it, and answers the verdict.
+fn tell_run<W: Write>(
+    alloc: Global,
+    circuit: &Circuit,
+    witness: &[u8],
+    out: &mut W,
+) -> Result<Verdict, RunFault>
+    ensures { (file : List ℕ) → IsFileOf file circuit.now →
+        TracedEnds W.written W.failures out.old out.new file witness.now result }
+{
+    let verdict = check_witness(alloc, circuit, witness)?;
+    match trace_witness(alloc, circuit, witness, out) {
+        Ok(()) => {}
+        Err(ReplayFault::Witness(why)) => return Err(RunFault::Witness(why)),
+        Err(ReplayFault::Io) => return Err(RunFault::Output),
+    }
+    match write_verdict(verdict, out) {
+        Ok(()) => Ok(verdict),
+        Err(Io) => Err(RunFault::Output),
+    }
+}
+
 /// Checks a witness against the circuit of a file as `check_bytes` does, writes the trace of its run and then the
 /// verdict's line, and answers the verdict. At a refusal nothing is written.
 pub fn check_and_trace_bytes<W: Write>(
@@ -40,14 +63,5 @@ pub fn check_and_trace_bytes<W: Write>(
     ensures { TracedEnds W.written W.failures out.old out.new circuit.now witness.now result }
 {
     let circuit = read_circuit(alloc, circuit)?;
-    let verdict = check_witness(alloc, &circuit, witness)?;
-    match trace_witness(alloc, &circuit, witness, out) {
-        Ok(()) => {}
-        Err(ReplayFault::Witness(why)) => return Err(RunFault::Witness(why)),
-        Err(ReplayFault::Io) => return Err(RunFault::Output),
-    }
-    match write_verdict(verdict, out) {
-        Ok(()) => Ok(verdict),
-        Err(Io) => Err(RunFault::Output),
-    }
+    tell_run(alloc, &circuit, witness, out)
 }

@@ -68,8 +68,10 @@ pub fn unroll_and_keep<W: Write>(
     ensures { UnrollingLeft W.written W.failures out.old out.new circuit.now frames to result }
 {
     let read = read_circuit(alloc, circuit)?;
-    unroll_circuit(alloc, &read, frames, to, out)?;
-    Ok(read)
+    match unroll_circuit(alloc, &read, frames, to, out) {
+        Ok(()) => Ok(read),
+        Err(fault) => Err(fault),
+    }
 }
 
 /// Writes what each input of the circuit unrolled for this many frames is, a line each (`write_input_map`). Where a

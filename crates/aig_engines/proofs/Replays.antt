@@ -1,0 +1,71 @@
+-- A trace, and behind it a verdict's line.
+use Rattle.std.proofs.Common.{◌≡◌, ℕ, ◌+◌, List, ◌++◌, Ok, Err, sym, ap, ◌∙◌, append_assoc, arith, refl}
+use Rattle.std.specs.Prelude.{Option}
+use Rattle.aig_parts.specs.declared.raw.Raw.{Raw}
+use Rattle.aig_bytes.specs.Bytes.{after, IsBeginning, Writes}
+use Rattle.aig_bytes.proofs.WriteLemmas.{after-append}
+use Rattle.aig_sim.specs.declared.verdict.Verdict.{Verdict}
+use Rattle.aig_engines.specs.declared.run_fault.RunFault.{RunFault}
+use Rattle.aig_engines.specs.declared.run_fault.RunFault.TheVariants as parts
+use Rattle.aig_sim.specs.declared.verdict.Verdict.TheVariants.{Confirmed}
+use Rattle.aig_sim.specs.Replayed.{TellsRun}
+use Rattle.aig_sim.specs.Trace.{IsTrace}
+use Rattle.aig_sim.specs.Verdict.{IsVerdict, IsConfirmed}
+use Rattle.aig_sim.specs.WitnessText.{Witness, SpellsWitness, IsAdmitted}
+use Rattle.aig_engines.specs.Checked.{verdict_text}
+use Rattle.aig_engines.specs.Replay.{Traces}
+use Rattle.aig_engines.specs.Run.{IsFileOf}
+
+-- what is told of a witness that shows a verdict
+pub traces_so : (file text told : List ℕ) (raw : Raw) (v : Verdict) (w : Witness) → IsFileOf file raw
+    → SpellsWitness raw text w → IsAdmitted raw w → IsVerdict raw w v → (v ≡ Confirmed → IsConfirmed raw w)
+    → TellsRun (λ raw start rows text. IsTrace raw start rows text) raw text told
+    → Traces file text v (told ++ verdict_text v)
+traces_so file text told raw v w is spelled admitted shown confirmed tells = record {
+  shows = record {
+    raw = raw;
+    file_is = is;
+    witness = w;
+    text_is = spelled;
+    admitted = admitted;
+    verdict_is = shown;
+    confirmed = confirmed;
+  };
+  raw = raw;
+  file_is = is;
+  trace = told;
+  trace_is = tells;
+  told_is = refl;
+}
+
+module _ {X : Type 0} (written : X → Option (List ℕ)) (failures : X → ℕ) (old new : X) (told line : List ℕ) where
+  -- a write of the trace failed
+  pub trace_stopped : (done : List ℕ) → IsBeginning done told → written new ≡ after (written old) done
+      → failures new ≡ failures old + 1
+      → Writes {T = Verdict} {E = RunFault} written failures old new (told ++ line) (Err parts.Output)
+  trace_stopped done (rest, is) wrote count = record {
+    ok = tt;
+    err = (done, (rest ++ line, ap (λ (xs : List ℕ). xs ++ line) is ∙ append_assoc done rest line), wrote);
+    count = count;
+  }
+
+  module _ (mid : X) (traced : written mid ≡ after (written old) told) (none : failures mid ≡ failures old) where
+    on_from : (bytes : List ℕ) → written new ≡ after (written mid) bytes → written new ≡ after (written old) (told ++ bytes)
+    on_from bytes wrote =
+        wrote ∙ ap (λ (w : Option (List ℕ)). after w bytes) traced ∙ after-append (written old) told bytes
+
+    -- both were written
+    pub both_written : (verdict : Verdict) → written new ≡ after (written mid) line → failures new ≡ failures mid + 0
+        → Writes {T = Verdict} {E = RunFault} written failures old new (told ++ line) (Ok verdict)
+    both_written verdict wrote count =
+        record { ok = on_from line wrote; err = tt; count = omega (arith, none, count) }
+
+    -- a write of the line failed
+    pub line_stopped : (done : List ℕ) → IsBeginning done line → written new ≡ after (written mid) done
+        → failures new ≡ failures mid + 1
+        → Writes {T = Verdict} {E = RunFault} written failures old new (told ++ line) (Err parts.Output)
+    line_stopped done (rest, is) wrote count = record {
+      ok = tt;
+      err = (told ++ done, (rest, ap (λ (xs : List ℕ). told ++ xs) is ∙ sym (append_assoc told done rest)), on_from done wrote);
+      count = omega (arith, none, count);
+    }
