@@ -22,7 +22,7 @@ LINE = re.compile(
     rb"|stimulus: ((character in|length of) line \d+|unfinished|limit)"
     rb"|bench: limit|unroll: (no frames|liveness|limit)|witness: (text|property|limit))\n"
 )
-VERDICT = re.compile(rb"confirmed\n|initial \d+\n|constraint \d+ \d+\n|not bad\n")
+VERDICT = re.compile(rb"([01x]* [01x]* [01x]* [01x]*\n)*(confirmed|initial \d+|constraint \d+ \d+|not bad)\n")
 # A run that takes longer is ended: there is no bound as great.
 SECONDS = 120
 
@@ -101,6 +101,20 @@ class Runs:
             raise Wrong("the converted circuits have other traces")
         return True
 
+    def replays(self, work):
+        """The trace and the dump of a witness's run are refused where its check is, and nothing of them is written
+        then; behind the trace stands the verdict."""
+        status, verdict = self.run(work, "check", "circuit", "witness")
+        told = contents("err")
+        traced, trace = self.run(work, "check", "--trace", "circuit", "witness")
+        if (traced, contents("err")) != (status, told) or not trace.endswith(verdict):
+            raise Wrong("the trace of a witness is judged otherwise than the witness")
+        waved, dump = self.run(work, "wave", "--witness", "circuit", "witness")
+        if (waved, contents("err")) != (1 if told else 0, told):
+            raise Wrong("the dump of a witness is refused otherwise than the witness")
+        if told and (verdict or trace or dump):
+            raise Wrong("a witness is refused, and something is written")
+
     def asks(self, work, name, rows):
         """The workbench tells the trace that the simulator writes."""
         write("script", "t\n")
@@ -142,7 +156,7 @@ def case(runs, sources, designs, rng):
         if runs.run(work + 5 * len(got), "toaig", "--to", "aag", "unrolled") != (0, got):
             raise Wrong("an unrolled circuit is not written back as it stands")
     write("witness", broken.changed(rng, broken.witness(rng, width, states), rows))
-    runs.run(work, "check", "circuit", "witness")
+    runs.replays(work)
 
 
 def late(*_):
