@@ -90,7 +90,11 @@ impl Code {
     fn plain_character(self) -> u8
         ensures { result ≡ character self }
     {
-        if self.bits == 0b01 { b'x' } else { b'0' + (self.bits >> 1) }
+        if self.bits == 0b01 {
+            b'x'
+        } else {
+            b'0' + (self.bits >> 1)
+        }
     }
 
     /// The character of the negation where `is_negated`, else that of the value itself: `0`, `1` or `x`.

@@ -99,5 +99,9 @@ pub fn first_of_neighbours(literals: &[Lit]) -> Option<usize>
     if last < first || (last - first) as usize != literals.len() - 1 {
         return None;
     }
-    if are_neighbours(literals, first) { Some(first as usize) } else { None }
+    if are_neighbours(literals, first) {
+        Some(first as usize)
+    } else {
+        None
+    }
 }
