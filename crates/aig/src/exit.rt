@@ -1,6 +1,6 @@
 //! What ends the program early.
 ghost use Rattle.std.specs.Prelude.{◌≡◌};
-ghost use Rattle.aig.specs.state.Status.{status_of_exit};
+ghost use Rattle.aig.specs.state.ExitStatus.{status_of_exit};
 
 use aig_engines::RunFault;
 use std::io;

@@ -1,4 +1,4 @@
-pub mod Cells
+pub mod CurrentCells
 pub mod Edit
 pub mod Fanout
 pub mod Pair

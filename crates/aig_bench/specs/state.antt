@@ -5,7 +5,7 @@ pub mod Engine
 pub mod Entry
 pub mod Latches
 pub mod LevelSet
-pub mod Order
+pub mod SweepOrder
 pub mod Passing
 pub mod Pending
 pub mod Renewed

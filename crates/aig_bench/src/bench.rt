@@ -10,7 +10,7 @@ ghost use Rattle.aig_parts.specs.Literal.{variable};
 ghost use Rattle.aig_base.specs.Readers.{list_of};
 ghost use Rattle.aig_base.specs.Renumbered.{IsBinaryReady};
 ghost use Rattle.aig_base.specs.Sections.{IsDefined, IsLeftSide};
-ghost use Rattle.aig_bench.specs.Cells.{HasCurrentCells};
+ghost use Rattle.aig_bench.specs.CurrentCells.{HasCurrentCells};
 ghost use Rattle.aig_bench.specs.state.Engine.{IsSettled};
 ghost use Rattle.aig_bench.specs.Edit.{Edits, rewire, set_reset, set_bit, add_frame, drop_frame, append_gate};
 ghost use Rattle.aig_bench.specs.Edit.{set_output};

@@ -5,7 +5,7 @@ ghost use Rattle.aig_base.specs.Value.{start_of};
 ghost use Rattle.aig_sim.specs.state.Frame.{Renews};
 ghost use Rattle.aig_sim.specs.InputRows.{row_at};
 ghost use Rattle.aig_bench.specs.state.Current.{Holds, HoldsInputs, HoldsLatches, IsCurrentBefore, IsCurrentRow, IsLaidOut};
-ghost use Rattle.aig_bench.specs.state.Order.{IsKnown, Orders};
+ghost use Rattle.aig_bench.specs.state.SweepOrder.{IsKnown, Orders};
 ghost use Rattle.aig_bench.specs.Pair.{HasValue};
 ghost use Rattle.aig_bench.specs.state.Setup.{pair_of, IsSetup};
 

@@ -5,7 +5,7 @@ ghost use Rattle.aig_base.specs.Limits.{cell_limit};
 ghost use Rattle.aig_bench.specs.state.Setup.{IsSetup, pair_of};
 ghost use Rattle.aig_bench.specs.state.Current.{AreCurrent, IsLaidOut};
 ghost use Rattle.aig_bench.specs.state.Engine.{IsSettled};
-ghost use Rattle.aig_bench.specs.state.Order.{IsKnown, Orders};
+ghost use Rattle.aig_bench.specs.state.SweepOrder.{IsKnown, Orders};
 ghost use Rattle.aig_bench.specs.state.Pending.{AreFanouts};
 
 use crate::allowed::CELLS;

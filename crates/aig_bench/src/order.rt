@@ -10,7 +10,7 @@ ghost use Rattle.aig_parts.specs.Literal as literal;
 ghost use Rattle.aig_base.specs.Sections.{IsDefined, IsGate};
 ghost use Rattle.aig_sim.specs.Cells.{HasCells, with_swept_row};
 ghost use Rattle.aig_bench.specs.state.Current.{AreGateFlags};
-ghost use Rattle.aig_bench.specs.state.Order.{gates_at, ArePositions, FitsOneGate, IsFullOrder, IsKnown, Orders};
+ghost use Rattle.aig_bench.specs.state.SweepOrder.{gates_at, ArePositions, FitsOneGate, IsFullOrder, IsKnown, Orders};
 
 use aig_base::{Circuit, Definition, Gate, Levels, Lit, Memory, canonical_order};
 use aig_sim::{Grid, stand_in_order};

@@ -6,7 +6,7 @@ use Rattle.aig_parts.specs.declared.raw.Raw.{Raw}
 use Rattle.aig_parts.specs.declared.fault.Fault.{Fault}
 use Rattle.aig_parts.specs.declared.fault.Fault.TheVariants as circuits
 use Rattle.aig_base.specs.Circuit.{IsCircuit}
-use Rattle.aig_format.specs.Verdict.{IsReading}
+use Rattle.aig_format.specs.FileReading.{IsReading}
 use Rattle.aig_bench.specs.declared.bench_fault.BenchFault.{BenchFault}
 use Rattle.aig_bench.specs.declared.bench_fault.BenchFault.TheVariants as benches
 use Rattle.aig_bench.specs.Pair.{Pair, BenchState}

@@ -4,7 +4,7 @@ use Rattle.std.specs.Prelude.{Option}
 use Rattle.aig_parts.specs.declared.fault.Fault.{Fault}
 use Rattle.aig_parts.specs.declared.fault.Fault.TheVariants as circuits
 use Rattle.aig_base.specs.Circuit.{IsCircuit}
-use Rattle.aig_format.specs.Verdict.{IsReading, Raises, FaultRaises}
+use Rattle.aig_format.specs.FileReading.{IsReading, Raises, FaultRaises}
 use Rattle.aig_parts.specs.declared.raw.Raw.{Raw}
 use Rattle.aig_bytes.specs.Bytes.{Writes}
 use Rattle.aig_format.specs.declared.header.Format.{Format}

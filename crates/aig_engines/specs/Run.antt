@@ -7,7 +7,7 @@ use Rattle.aig_parts.specs.declared.fault.Fault.TheVariants as circuits
 use Rattle.aig_base.specs.Circuit.{IsCircuit}
 use Rattle.aig_base.specs.Limits.{cell_limit, frame_limit}
 use Rattle.aig_format.specs.Spells.{Spells}
-use Rattle.aig_format.specs.Verdict.{IsReading}
+use Rattle.aig_format.specs.FileReading.{IsReading}
 use Rattle.aig_sim.specs.declared.stimulus_fault.StimFault.{StimFault}
 use Rattle.aig_sim.specs.declared.stimulus_fault.StimFault.TheVariants as stimuli
 use Rattle.aig_sim.specs.StimulusText.{SpellsRows, HasFaultyLine}

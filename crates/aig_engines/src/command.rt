@@ -5,7 +5,7 @@ ghost use Rattle.aig_parts.specs.declared.ternary.Tern.{Tern};
 ghost use Rattle.aig_sim.specs.StimulusText.{character};
 ghost use Rattle.aig_engines.specs.Command.{command_text, field, rewire_fields, reset_fields, bit_fields, append_fields};
 ghost use Rattle.aig_engines.specs.Command.{output_fields, value_fields, IsCommand, IsNoCommand, IsNumber};
-ghost use Rattle.aig_engines.specs.state.Meaning.{meaning};
+ghost use Rattle.aig_engines.specs.state.CommandMeaning.{meaning};
 ghost use Rattle.aig_engines.specs.ScriptLine.{BeginsRow};
 
 use aig_base::{Lit, Tern};

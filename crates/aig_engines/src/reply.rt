@@ -7,7 +7,7 @@ ghost use Rattle.aig_sim.specs.LineInHand.{Keeps};
 ghost use Rattle.aig_unroll.specs.declared.fault.UnrollFault.{UnrollFault};
 ghost use Rattle.aig_unroll.specs.Answers as unrolling;
 ghost use Rattle.aig_unroll.specs.Answers.{AnswersUnrolling};
-ghost use Rattle.aig_engines.specs.state.Meaning.{meaning};
+ghost use Rattle.aig_engines.specs.state.CommandMeaning.{meaning};
 ghost use Rattle.aig_engines.specs.Replies.{numbered_refusal, refusal, edit_reply, value_reply, unroll_reply};
 ghost use Rattle.aig_engines.specs.Replies.{CommandReply, WholeReply};
 ghost use Rattle.aig_engines.specs.state.Faults.{row_fault_reply};

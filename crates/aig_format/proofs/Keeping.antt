@@ -2,8 +2,8 @@
 use Rattle.std.proofs.Common.{◌≡◌, ◌≤◌, ℕ, List, Result, Ok, Err, sym, ◌∙◌, arith, subst}
 use Rattle.aig_parts.specs.declared.fault.Fault.{Fault}
 use Rattle.aig_format.specs.declared.source.Source.{Ghosts}
-use Rattle.aig_format.specs.Verdict.{Raises, FaultRaises}
-use Rattle.aig_format.specs.state.Meaning.{Fails, Gives}
+use Rattle.aig_format.specs.FileReading.{Raises, FaultRaises}
+use Rattle.aig_format.specs.state.ReaderAnswers.{Fails, Gives}
 use Rattle.aig_format.specs.state.Reading.{Read}
 use Rattle.aig_format.specs.state.Reads.{Reads, Keeps}
 

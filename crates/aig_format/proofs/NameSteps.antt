@@ -16,7 +16,7 @@ use Rattle.aig_format.specs.Spells.{greatest}
 use Rattle.aig_format.specs.Spelling.{Entry}
 use Rattle.aig_format.specs.state.Reading.{Refusal, text, Read, first_of, rest_of, peek_at, next_at, number_at}
 use Rattle.aig_format.specs.state.ReadingNames.{count_of, line_at, position_at}
-use Rattle.aig_format.specs.state.Meaning.{Fails}
+use Rattle.aig_format.specs.state.ReaderAnswers.{Fails}
 use Rattle.aig_format.proofs.Keys.{is_named_from, not_named_from}
 use Rattle.aig_format.proofs.Steps.{done, done_is, regroup, fails_else}
 use Rattle.aig_format.specs.state.ReadingSections.{with_front}

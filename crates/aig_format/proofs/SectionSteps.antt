@@ -10,7 +10,7 @@ use Rattle.aig_format.specs.Header.{line_end}
 use Rattle.aig_format.specs.Spells.{greatest}
 use Rattle.aig_format.specs.state.Reading.{limit, Read, ◌>>=◌, byte_at, number_at}
 use Rattle.aig_format.specs.state.ReadingSections.{literals_at, sizes_at, groups_of_literals_at}
-use Rattle.aig_format.specs.state.Meaning.{Fails}
+use Rattle.aig_format.specs.state.ReaderAnswers.{Fails}
 use Rattle.aig_format.proofs.Steps.{done, regroup, bind_bind, fails_on}
 use Rattle.aig_format.specs.state.ReadingSections.{with_front}
 

@@ -8,7 +8,7 @@ use Rattle.aig_parts.specs.declared.fault.Fault.{Fault}
 use Rattle.aig_parts.specs.declared.fault.Fault.TheVariants as faults
 use Rattle.aig_format.specs.state.Reading.{Refusal, limit, Read, EndsItself, ◌>>=◌, is_digit, digit_at, digits_at}
 use Rattle.aig_format.specs.state.ReadingSections.{lines_at, with_front}
-use Rattle.aig_format.specs.state.Meaning.{Fails}
+use Rattle.aig_format.specs.state.ReaderAnswers.{Fails}
 use Rattle.aig_format.specs.state.Reads.{Adds}
 
 abbrev pub done : {A : Type 0} → A → List ℕ → Read A

@@ -12,7 +12,7 @@ use Rattle.aig_format.specs.Header.{space, line_end}
 use Rattle.aig_format.specs.Spelling.{Entry, symbol_line}
 use Rattle.aig_format.specs.state.Reading.{Read}
 use Rattle.aig_format.specs.state.ReadingNames.{Named, letter_at, symbol_at, symbols_then, symbols_at}
-use Rattle.aig_format.specs.state.Meaning.{Fails}
+use Rattle.aig_format.specs.state.ReaderAnswers.{Fails}
 use Rattle.aig_format.proofs.Steps.{done, fails_on, fails_else}
 use Rattle.aig_format.proofs.Names.{letter_takes, symbol_takes}
 

@@ -9,8 +9,8 @@ use Rattle.aig_base.specs.FirstFault.{number_of, IsFirstFault}
 use Rattle.aig_format.specs.Spells.{Spells, HasWrongCounts}
 use Rattle.aig_format.specs.state.Reading.{text, limit}
 use Rattle.aig_format.specs.state.ReadingFile.{FileRefusal, token, counts, file_at}
-use Rattle.aig_format.specs.state.Meaning.{FileFails}
-use Rattle.aig_format.specs.Verdict.{Raises, IsOfParts, IsVerdict, IsRefused, IsReading}
+use Rattle.aig_format.specs.state.ReaderAnswers.{FileFails}
+use Rattle.aig_format.specs.FileReading.{Raises, IsOfParts, IsVerdict, IsRefused, IsReading}
 use Rattle.aig_format.proofs.FileLaws.{is_read, file_takes, file_again, wrong_takes, wrong_again, one_reading}
 
 refused : FileRefusal → Result Raw FileRefusal

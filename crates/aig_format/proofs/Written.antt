@@ -12,7 +12,7 @@ use Rattle.aig_base.specs.Circuit.{IsCircuit}
 use Rattle.aig_parts.specs.Formed.{IsFormed}
 use Rattle.aig_base.specs.Sections.{definitions, uses}
 use Rattle.aig_base.specs.Sound.{IsInRange}
-use Rattle.aig_base.proofs.Joined.{All-left, All-right, All-unmap}
+use Rattle.aig_base.proofs.lists.Joined.{All-left, All-right, All-unmap}
 use Rattle.aig_format.specs.Header.{space, line_end, field, tail, all_zero}
 use Rattle.aig_format.specs.Spelling.{reset_text, lines}
 

@@ -2,5 +2,5 @@ pub mod Delta
 pub mod Header
 pub mod Spelling
 pub mod Spells
-pub mod Verdict
+pub mod FileReading
 pub mod state

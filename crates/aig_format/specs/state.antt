@@ -1,7 +1,7 @@
 -- What proofs alone need: the functions' tables, walks and steps. No contract of an exported function reaches them.
 pub mod Fits
 pub mod Held
-pub mod Meaning
+pub mod ReaderAnswers
 pub mod Reading
 pub mod ReadingFile
 pub mod ReadingNames

@@ -2,7 +2,7 @@
 ghost use Rattle.std.specs.Prelude.{◌≡◌, ℕ, ◌≤◌, ◌∷◌, [], IfOk, false};
 ghost use Rattle.aig_parts.specs.Formed.{limit};
 ghost use Rattle.aig_format.specs.Header.{AreWithin, are_wrong};
-ghost use Rattle.aig_format.specs.state.Meaning.{of_token};
+ghost use Rattle.aig_format.specs.state.ReaderAnswers.{of_token};
 ghost use Rattle.aig_format.specs.state.Reads.{Reads, ReadsToken};
 ghost use Rattle.aig_format.specs.state.Reading.{byte_at};
 ghost use Rattle.aig_format.specs.state.ReadingSections.{format_at, word_at, count_at, line_end_at, tail_at, header_at};

@@ -3,9 +3,9 @@ ghost use Rattle.std.specs.Prelude.{◌≡◌, ◌≢◌, ℕ, List, Some, Err, 
 ghost use Rattle.aig_base.specs.Circuit.{IsCircuit};
 ghost use Rattle.aig_parts.specs.Formed.{IsFormed};
 ghost use Rattle.aig_format.specs.Header.{AreWithin};
-ghost use Rattle.aig_format.specs.state.Meaning.{Answers};
+ghost use Rattle.aig_format.specs.state.ReaderAnswers.{Answers};
 ghost use Rattle.aig_format.specs.state.Reads.{Reads};
-ghost use Rattle.aig_format.specs.Verdict.{IsReading, Raises};
+ghost use Rattle.aig_format.specs.FileReading.{IsReading, Raises};
 ghost use Rattle.aig_format.specs.state.ReadingFile.{body_at, file_at};
 
 use crate::ascii::ascii_body;

@@ -1,8 +1,8 @@
 //! Where bytes come from.
 ghost use Rattle.std.specs.Prelude.{◌≡◌, ℕ, ◌+◌, ◌<◌, ◌≤◌, List, ◌++◌, length, drop, IfOk, IfSome, IfNone};
 ghost use Rattle.aig_format.specs.state.Reading.{peek_at, next_at};
-ghost use Rattle.aig_format.specs.Verdict.{Raises};
-ghost use Rattle.aig_format.specs.state.Meaning.{Gives, of_token};
+ghost use Rattle.aig_format.specs.FileReading.{Raises};
+ghost use Rattle.aig_format.specs.state.ReaderAnswers.{Gives, of_token};
 
 use crate::token_fault::TokenFault;
 

@@ -2,8 +2,8 @@
 ghost use Rattle.std.specs.Prelude.{◌≡◌, ◌+◌, ◌*◌, ◌-◌, ◌<◌, ◌≤◌, ◌++◌, [], take, drop, true, false, IfOk, IfErr};
 ghost use Rattle.std.specs.Prelude.{IsTrue};
 ghost use Rattle.aig_format.specs.state.Held.{held, IsKnown, known, room};
-ghost use Rattle.aig_format.specs.Verdict.{Raises};
-ghost use Rattle.aig_format.specs.state.Meaning.{of_token};
+ghost use Rattle.aig_format.specs.FileReading.{Raises};
+ghost use Rattle.aig_format.specs.state.ReaderAnswers.{of_token};
 
 use crate::source::Source;
 use crate::token_fault::TokenFault;

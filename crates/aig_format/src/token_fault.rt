@@ -15,7 +15,7 @@ pub enum TokenFault {
 }
 
 impl From<TokenFault> for Fault {
-    ghost use Rattle.aig_format.specs.state.Meaning.{fault_of};
+    ghost use Rattle.aig_format.specs.state.ReaderAnswers.{fault_of};
 
     ghost from_gives = { λ token fault. fault ≡ fault_of token };
 

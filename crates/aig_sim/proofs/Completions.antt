@@ -11,8 +11,8 @@ use Rattle.aig_base.specs.Completion.{Completes, IsCompletion}
 use Rattle.aig_parts.specs.Literal.{variable}
 use Rattle.aig_base.specs.Sections.{IsDefined}
 use Rattle.aig_base.specs.Value.{Value}
-use Rattle.aig_base.proofs.OneValue.{have_one_value}
-use Rattle.aig_base.proofs.Refined.{AllZip-slice_get, kept}
+use Rattle.aig_base.proofs.values.OneValue.{have_one_value}
+use Rattle.aig_base.proofs.values.Refined.{AllZip-slice_get, kept}
 use Rattle.aig_sim.specs.declared.verdict.Verdict.TheVariants as verdict
 use Rattle.aig_sim.specs.StimulusText.{HaveWidth}
 use Rattle.aig_sim.specs.Verdict.{Allows, StartsWrong, IsNotOne, IsVerdict, ReachesBad, IsConfirmed}

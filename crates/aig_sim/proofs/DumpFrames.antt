@@ -10,8 +10,8 @@ use Rattle.aig_parts.specs.Formed.{CountsFit}
 use Rattle.aig_parts.specs.Literal.{variable}
 use Rattle.aig_base.specs.Sections.{IsDefined}
 use Rattle.aig_base.specs.Sound.{IsSound}
-use Rattle.aig_base.proofs.Circuits.{input_defined, latch_defined, output_defined, input_in_range, latch_in_range, output_in_range}
-use Rattle.aig_base.proofs.Positions.{Contains-from_slice_get}
+use Rattle.aig_base.proofs.circuits.Circuits.{input_defined, latch_defined, output_defined, input_in_range, latch_in_range, output_in_range}
+use Rattle.aig_base.proofs.lists.Positions.{Contains-from_slice_get}
 use Rattle.aig_sim.specs.Dump.{signals, changed_lines, first_text, next_text, IsFrame, AreFrames}
 use Rattle.aig_sim.specs.state.Dumping.{number_line, dumped_text, characters_of, AreLast, AreDumped}
 use Rattle.aig_sim.specs.state.Frame.{HoldsAll}

@@ -9,7 +9,7 @@ use Rattle.aig_parts.specs.declared.ternary.Tern.TheVariants.{Zero, One, X}
 use Rattle.aig_parts.specs.declared.raw.Raw.{Raw}
 use Rattle.aig_base.specs.Sound.{IsSound}
 use Rattle.aig_base.specs.Value.{Value}
-use Rattle.aig_base.proofs.UniqueValue.{unique}
+use Rattle.aig_base.proofs.values.UniqueValue.{unique}
 use Rattle.aig_sim.specs.StimulusText.{character, IsCharacter}
 use Rattle.aig_sim.specs.Trace.{AreValues}
 use Rattle.aig_sim.specs.Dump.{signals, first_text, next_text, AreFrames, closing, IsDump}

@@ -15,13 +15,13 @@ use Rattle.aig_base.specs.Grounded.{IsSource}
 use Rattle.aig_base.specs.Grounded as grounded
 use Rattle.aig_base.specs.Value as value
 use Rattle.aig_base.specs.Value.{Value}
-use Rattle.aig_base.proofs.Defined.{even, defined_cases}
-use Rattle.aig_base.proofs.Refined.{AllZip-slice_get}
-use Rattle.aig_base.proofs.UniqueValue.{unique}
+use Rattle.aig_base.proofs.circuits.Defined.{even, defined_cases}
+use Rattle.aig_base.proofs.values.Refined.{AllZip-slice_get}
+use Rattle.aig_base.proofs.values.UniqueValue.{unique}
 use Rattle.aig_sim.specs.Cells.{literal_value, gate_value}
 use Rattle.aig_sim.specs.state.Frame.{Holds, Renews, HoldsInputs, HoldsLatches, HoldsSources, HoldsAll, AreStates}
 use Rattle.aig_sim.specs.GateOrder.{IsReady, IsGateOrder}
-use Rattle.aig_base.proofs.Circuits.{input_definition, latch_definition, gate_definition}
+use Rattle.aig_base.proofs.circuits.Circuits.{input_definition, latch_definition, gate_definition}
 
 -- the item that a loop reads
 pub item_at : {A : Type 0} (xs ys : List A) (n : ℕ) (x : A) → xs ≡ ys → n < length xs → x ≡ get_or xs n x

@@ -13,12 +13,12 @@ use Rattle.aig_base.specs.Grounded as by
 use Rattle.aig_parts.specs.Literal.{variable}
 use Rattle.aig_base.specs.Order.{ComesBefore, IsCanonicalOrder}
 use Rattle.aig_base.specs.Sections.{IsDefined, IsGate}
-use Rattle.aig_base.proofs.Defined.{defined_cases, Grounded-of_defined}
-use Rattle.aig_base.proofs.OneLevel.{level_of, same_level}
-use Rattle.aig_base.proofs.Positions.{Contains-from_slice_get, unmap}
+use Rattle.aig_base.proofs.circuits.Defined.{defined_cases, Grounded-of_defined}
+use Rattle.aig_base.proofs.levels.OneLevel.{level_of, same_level}
+use Rattle.aig_base.proofs.lists.Positions.{Contains-from_slice_get, unmap}
 use Rattle.aig_sim.specs.GateOrder.{IsReady, IsGateOrder, AreGatesOf, AreMarked}
 use Rattle.aig_sim.proofs.Evaluation.{get_set_other}
-use Rattle.aig_base.proofs.Circuits.{rhs0_defined, rhs1_defined}
+use Rattle.aig_base.proofs.circuits.Circuits.{rhs0_defined, rhs1_defined}
 
 -- one gate more
 pub gates_more : {raw : Raw} {vs : List ℕ} {gates : List Gate} (v : ℕ) (g : Gate) → AreGatesOf raw vs gates

@@ -12,12 +12,12 @@ use Rattle.aig_base.specs.Circuit.{IsCircuit}
 use Rattle.aig_sim.specs.declared.replay_fault.ReplayFault.{ReplayFault}
 use Rattle.aig_sim.specs.declared.replay_fault.ReplayFault.TheVariants as fault
 use Rattle.aig_sim.specs.declared.witness_fault.WitnessFault.{WitnessFault}
-use Rattle.aig_sim.specs.declared.witness_text.Shape.{Shape}
+use Rattle.aig_sim.specs.declared.witness_text.WitnessParts.{WitnessParts}
 use Rattle.aig_sim.specs.Dump.{IsDump, closing}
 use Rattle.aig_sim.specs.DumpHeader.{header}
 use Rattle.aig_sim.specs.Replayed.{TellsRun, Replays}
 use Rattle.aig_sim.specs.state.Dumping.{AreDumped, ending}
-use Rattle.aig_sim.specs.state.Checking.{IsShape}
+use Rattle.aig_sim.specs.state.Checking.{ArePartsOf}
 use Rattle.aig_sim.specs.state.Frame.{HoldsAll, AreStates}
 use Rattle.aig_sim.specs.state.Machine.{Steps}
 use Rattle.aig_sim.specs.state.Replaying.{BeginsRun, NoneTold, HasReplayed, WritesFrames, WritesRun}
@@ -207,10 +207,10 @@ module _ {raw : Raw} {w : Witness} {states : List Tern} {rows : List ℕ} {frame
           }
 
 -- ---- from the run to the text of the witness
-pub ready_is : {raw raw' : Raw} {shape : Shape} {w : Witness} {states : List Tern} → IsShape raw shape w → raw' ≡ raw
-    → IsCircuit raw' → states ≡ w.start → BeginsRun raw' w states shape.rows.now shape.frames
-ready_is {raw} {raw'} {shape} {w} {states} h same circuit is =
-    subst (λ (r : Raw). BeginsRun r w states shape.rows.now shape.frames) (sym same)
+pub ready_is : {raw raw' : Raw} {parts : WitnessParts} {w : Witness} {states : List Tern} → ArePartsOf raw parts w → raw' ≡ raw
+    → IsCircuit raw' → states ≡ w.start → BeginsRun raw' w states parts.rows.now parts.frames
+ready_is {raw} {raw'} {parts} {w} {states} h same circuit is =
+    subst (λ (r : Raw). BeginsRun r w states parts.rows.now parts.frames) (sym same)
     (record {
       circuit = subst IsCircuit same circuit;
       latches = h.latches;

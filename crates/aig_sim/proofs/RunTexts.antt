@@ -9,9 +9,9 @@ use Rattle.aig_parts.specs.Literal.{variable}
 use Rattle.aig_base.specs.Circuit.{IsCircuit}
 use Rattle.aig_base.specs.Sections.{IsDefined}
 use Rattle.aig_base.specs.Value.{Fits}
-use Rattle.aig_base.proofs.Circuits.{input_defined, latch_defined, next_defined, output_defined}
-use Rattle.aig_base.proofs.OneValue.{exists_value}
-use Rattle.aig_base.proofs.Positions.{Contains-from_slice_get}
+use Rattle.aig_base.proofs.circuits.Circuits.{input_defined, latch_defined, next_defined, output_defined}
+use Rattle.aig_base.proofs.values.OneValue.{exists_value}
+use Rattle.aig_base.proofs.lists.Positions.{Contains-from_slice_get}
 use Rattle.aig_sim.specs.Dump.{signals, first_text, next_text, IsFrame, AreFrames}
 use Rattle.aig_sim.specs.state.Dumping.{AreDumped}
 use Rattle.aig_sim.specs.StimulusText.{character}

@@ -10,8 +10,8 @@ use Rattle.aig_parts.specs.Literal.{variable}
 use Rattle.aig_base.specs.Sound.{IsSound}
 use Rattle.aig_base.specs.Value as value
 use Rattle.aig_base.specs.Value.{Value, start_of, reset_value}
-use Rattle.aig_base.proofs.Circuits.{input_defined, latch_defined, next_defined, output_defined}
-use Rattle.aig_base.proofs.Positions.{slice_get_left}
+use Rattle.aig_base.proofs.circuits.Circuits.{input_defined, latch_defined, next_defined, output_defined}
+use Rattle.aig_base.proofs.lists.Positions.{slice_get_left}
 use Rattle.aig_sim.specs.Cells.{literal_value}
 use Rattle.aig_sim.specs.state.Frame.{Holds, HoldsAll, AreStates}
 use Rattle.aig_sim.specs.InputRows.{row_at}

@@ -14,13 +14,13 @@ use Rattle.aig_parts.specs.Literal.{variable}
 use Rattle.aig_base.specs.Sections.{definitions, uses, IsDefined}
 use Rattle.aig_base.specs.Sound.{IsSound, IsInRange}
 use Rattle.aig_base.specs.Value.{Value}
-use Rattle.aig_base.proofs.Positions.{Contains-from_slice_get}
-use Rattle.aig_base.proofs.UniqueValue.{unique}
+use Rattle.aig_base.proofs.lists.Positions.{Contains-from_slice_get}
+use Rattle.aig_base.proofs.values.UniqueValue.{unique}
 use Rattle.aig_sim.specs.Cells.{literal_value}
 use Rattle.aig_sim.specs.declared.verdict.Verdict.{Verdict}
 use Rattle.aig_sim.specs.declared.verdict.Verdict.TheVariants as verdict
-use Rattle.aig_sim.specs.declared.witness_text.Shape.{Shape}
-use Rattle.aig_sim.specs.state.Checking.{IsShape, BeginsWithRow, ReadsNotOne, HasRun, HoldConstraints, IsFirstFailure}
+use Rattle.aig_sim.specs.declared.witness_text.WitnessParts.{WitnessParts}
+use Rattle.aig_sim.specs.state.Checking.{ArePartsOf, BeginsWithRow, ReadsNotOne, HasRun, HoldConstraints, IsFirstFailure}
 use Rattle.aig_sim.specs.state.Frame.{Holds, HoldsAll, AreStates}
 use Rattle.aig_sim.specs.state.Machine.{Steps}
 use Rattle.aig_sim.specs.StimulusText.{character, row_line, HaveWidth}
@@ -218,15 +218,15 @@ module _ (raw : Raw) (sound : IsSound raw) (w : Witness) (t : ℕ) (rest rest' :
 -- ---- the first verdict that applies
 
 -- the start that was read is the witness's
-pub start_same : {raw : Raw} {shape : Shape} {w : Witness} (start : List Tern) (rest : List ℕ) → IsShape raw shape w
-    → shape.start.now ≡ map character start ++ (10 ∷ rest) → start ≡ w.start
-start_same {shape} {w} start rest h read =
-    (same_line shape.start.now start w.start rest shape.rows.now read
-    (h.start_is ∙ sym (row_ends w.start shape.rows.now))).0
+pub start_same : {raw : Raw} {parts : WitnessParts} {w : Witness} (start : List Tern) (rest : List ℕ) → ArePartsOf raw parts w
+    → parts.start.now ≡ map character start ++ (10 ∷ rest) → start ≡ w.start
+start_same {parts} {w} start rest h read =
+    (same_line parts.start.now start w.start rest parts.rows.now read
+    (h.start_is ∙ sym (row_ends w.start parts.rows.now))).0
 
 -- before the first frame
-pub run_begins : {raw : Raw} {shape : Shape} {w : Witness} (cells states : List Tern) → IsShape raw shape w → states ≡ w.start
-    → HasRun raw w 0 shape.rows.now cells states
+pub run_begins : {raw : Raw} {parts : WitnessParts} {w : Witness} (cells states : List Tern) → ArePartsOf raw parts w → states ≡ w.start
+    → HasRun raw w 0 parts.rows.now cells states
 run_begins {raw} {w} cells states h e = record {
   rest_is = h.rows_are.text_is;
   states_are = subst (λ (s : List Tern). AreStates raw w.start [] 0 s) (sym e) (first_states raw w.start h.latches);
@@ -291,7 +291,7 @@ pub both : (P : Raw → List Tern → Type 0) {m raw : Raw} {s start : List Tern
 both P {m} {raw} {s} {start} e f h = subst (λ (t : List Tern). P raw t) f (subst (λ (r : Raw). P r s) e h)
 
 -- what the check of the frames and of the property rests on
-module _ {raw : Raw} {shape : Shape} {w : Witness} (circuit : IsCircuit raw) (h : IsShape raw shape w) (admitted : IsAdmitted raw w)
+module _ {raw : Raw} {parts : WitnessParts} {w : Witness} (circuit : IsCircuit raw) (h : ArePartsOf raw parts w) (admitted : IsAdmitted raw w)
   where
-    pub property_same : shape.property ≡ w.property
+    pub property_same : parts.property ≡ w.property
     property_same = omega (arith, h.property_is, admitted.0, circuit.formed.counts.bad)

@@ -7,8 +7,8 @@ use Rattle.std.proofs.lemmas.List.Elements.{All-head, All-tail, All-push, All-ni
 use Rattle.aig_parts.specs.declared.ternary.Tern.{Tern}
 use Rattle.aig_parts.specs.declared.ternary.Tern.TheVariants.{Zero, One, X}
 use Rattle.aig_parts.specs.declared.raw.Raw.{Raw}
-use Rattle.aig_sim.specs.declared.witness_text.Shape.{Shape}
-use Rattle.aig_sim.specs.state.Checking.{BeginsWithRow, SpellsFrames, IsShape}
+use Rattle.aig_sim.specs.declared.witness_text.WitnessParts.{WitnessParts}
+use Rattle.aig_sim.specs.state.Checking.{BeginsWithRow, SpellsFrames, ArePartsOf}
 use Rattle.aig_sim.specs.StimulusText.{character, row_line, IsCharacter, HaveWidth}
 use Rattle.aig_sim.specs.WitnessText.{Witness, SpellsWitness, IsDecimal, rows_text}
 use Rattle.std.proofs.lemmas.Bool.{cases_eq}
@@ -243,14 +243,14 @@ module _ (raw : Raw) (text position : List ℕ) (head : text ≡ 49 ∷ (10 ∷ 
         other w.start w.rows (h.start_is ∙ sym l) h.some
         (subst (λ (n : ℕ). HaveWidth n w.rows) (sym i) h.widths) (is ∙ (spelled_by w h).1)
 
-    pub shape_is : (shape : Shape) (body : List ℕ) (latches inputs n : ℕ) (start : List Tern) (rows : List (List Tern))
+    pub parts_are : (parts : WitnessParts) (body : List ℕ) (latches inputs n : ℕ) (start : List Tern) (rows : List (List Tern))
         → body ≡ drop (size + 1) position → latches ≡ length raw.latches → inputs ≡ length raw.inputs
-        → IsDecimal (take size position) n → shape.property ≡ min n 4194304 → shape.start.now ≡ body
-        → length start ≡ latches → rows ≢ [] → length rows ≡ shape.frames
-        → body ≡ map character start ++ (10 ∷ shape.rows.now) → SpellsFrames inputs shape.rows.now rows
-        → (w : Witness) × SpellsWitness raw text w × IsShape raw shape w
-    shape_is shape body latches inputs n start rows is l i decimal prop from len some count begins frames =
-        let frames' = subst (λ (k : ℕ). SpellsFrames k shape.rows.now rows) i frames in
+        → IsDecimal (take size position) n → parts.property ≡ min n 4194304 → parts.start.now ≡ body
+        → length start ≡ latches → rows ≢ [] → length rows ≡ parts.frames
+        → body ≡ map character start ++ (10 ∷ parts.rows.now) → SpellsFrames inputs parts.rows.now rows
+        → (w : Witness) × SpellsWitness raw text w × ArePartsOf raw parts w
+    parts_are parts body latches inputs n start rows is l i decimal prop from len some count begins frames =
+        let frames' = subst (λ (k : ℕ). SpellsFrames k parts.rows.now rows) i frames in
         let line : body ≡ row_line start ++ rows_text rows = begins
         ∙ ap (λ (t : List ℕ). map character start ++ (10 ∷ t)) frames.text_is ∙ sym (row_ends start (rows_text rows)) in (
           record { property = n; start = start; rows = rows },

@@ -7,7 +7,7 @@ use Rattle.std.proofs.lemmas.Nat.Bits.{bit_at_and, bit_at_or, bit_at_not, bit_at
 use Rattle.std.specs.Int.{bit_at}
 use Rattle.aig_parts.specs.declared.ternary.Tern.{Tern}
 use Rattle.aig_parts.specs.declared.ternary.Tern.TheVariants.{Zero, One, X}
-use Rattle.aig_sim.specs.state.Codes.{value_of, bits_of, IsCode}
+use Rattle.aig_sim.specs.state.Codes.{code_value, bits_of, IsCode}
 use Rattle.aig_sim.specs.state.Words.{bits_at, value_in, IsWhole}
 
 two_bits : (n place : ℕ) → bits_at n place ≡ bit_at n (2 * place) + 2 * bit_at n (2 * place + 1)
@@ -96,7 +96,7 @@ bits_small Zero = omega arith
 bits_small One = omega arith
 bits_small X = omega arith
 
-pub value_back : (x : Tern) → value_of (bits_of x) ≡ x
+pub value_back : (x : Tern) → code_value (bits_of x) ≡ x
 value_back Zero = refl
 value_back One = refl
 value_back X = refl

@@ -1,5 +1,6 @@
 //! Rows of cells, however they are kept.
 ghost use Rattle.std.specs.Prelude.{◌≡◌, ℕ, ◌+◌, ◌<◌, ◌≤◌, List, Some, length, IfOk, OnOk, slice_get, slice_set};
+ghost use Rattle.aig_parts.specs.Formed.{limit};
 ghost use Rattle.aig_parts.specs.declared.ternary.Tern.{Tern};
 ghost use Rattle.aig_sim.specs.Cells.{fresh_row};
 ghost use Rattle.aig_sim.specs.state.Padded.{IsLengthened};
@@ -15,13 +16,13 @@ pub trait CellRow: Sized + Drop {
     /// A row with room for this many cells at least: 0 at variable 0, x everywhere else.
     fn new(alloc: Global, size: usize) -> Result<Self, AllocError>
         requires positive { 0 < size }
-        requires limit { size ≤ 4194304 }
+        requires limit { size ≤ limit + 1 }
         ensures { IfOk result (λ row. (room : ℕ) × (size ≤ room) × (cells row ≡ fresh_row room)) };
 
     /// Adds cells, which are x, where there are not so many, at most one more than there are.
     fn make_room(&mut self, size: usize) -> Result<(), AllocError>
         requires more { size ≤ length (cells self.old) + 1 }
-        requires limit { size ≤ 4194304 }
+        requires limit { size ≤ limit + 1 }
         ensures cells { IsLengthened (Self.cells self.old) (Self.cells self.new) }
         ensures ok { OnOk result (size ≤ length (Self.cells self.new)) };
 

@@ -3,7 +3,7 @@ ghost use Rattle.std.specs.Prelude.{◌≡◌, ◌≢◌, ◌<◌, ◌↔◌, Is
 ghost use Rattle.aig_parts.specs.Literal.{variable};
 ghost use Rattle.aig_parts.specs.Ternary.{kleene_and, kleene_not};
 ghost use Rattle.aig_sim.specs.Cells.{literal_value};
-ghost use Rattle.aig_sim.specs.state.Codes.{value_of, bits_of, IsCode};
+ghost use Rattle.aig_sim.specs.state.Codes.{code_value, bits_of, IsCode};
 ghost use Rattle.aig_sim.specs.StimulusText.{character};
 ghost use Rattle.aig_sim.specs.TraceText.{literal_character};
 
@@ -21,11 +21,11 @@ pub struct Code {
 impl Model for Code {
     ghost use Rattle.std.proofs.Common.{ap};
     ghost use Rattle.aig_parts.specs.declared.ternary.Tern.{Tern};
-    ghost use Rattle.aig_sim.specs.state.Codes.{value_of, bits_of, IsCode};
+    ghost use Rattle.aig_sim.specs.state.Codes.{code_value, bits_of, IsCode};
 
     ghost Value = { Tern };
 
-    ghost view = { λ a. value_of a.bits };
+    ghost view = { λ a. code_value a.bits };
 
     ghost inverse = { λ v. record { bits = bits_of v } };
 
@@ -53,7 +53,7 @@ impl Code {
     /// The code that has these bits.
     pub fn of_bits(bits: u8) -> Code
         requires { IsCode bits }
-        ensures { result ≡ value_of bits }
+        ensures { result ≡ code_value bits }
     {
         Code { bits }
     }

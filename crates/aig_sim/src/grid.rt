@@ -2,6 +2,7 @@
 ghost use Rattle.std.specs.Prelude.{◌≡◌, ◌≢◌, ℕ, ◌-◌, ◌+◌, ◌*◌, ◌<◌, ◌≤◌, ◌↔◌, Bool, true, false, List, [], ◌∷◌};
 ghost use Rattle.std.specs.Prelude.{◌++◌, length, map, take, All, IsTrue, IfOk, OnOk, OnErr, Some, slice_get};
 ghost use Rattle.std.specs.Prelude.{slice_index_or};
+ghost use Rattle.aig_parts.specs.Formed.{limit};
 ghost use Rattle.aig_parts.specs.declared.ternary.Tern.{Tern};
 ghost use Rattle.aig_parts.specs.declared.ternary.Tern.TheVariants.{X};
 ghost use Rattle.aig_base.specs.Limits.{cell_limit, frame_limit};
@@ -32,7 +33,7 @@ pub trait Grid: Sized + Drop {
     /// A grid without rows, for variables of which these are gates. Variable 0 is there, and no gate.
     fn new(alloc: Global, gates: &[bool]) -> Result<Self, Memory>
         requires constant { slice_get gates.now 0 ≡ Some false }
-        requires limit { length gates.now ≤ 4194304 }
+        requires limit { length gates.now ≤ limit + 1 }
         ensures cells { IfOk result (λ grid. Self.cells grid ≡ []) }
         ensures gates { IfOk result (λ grid. Self.gate_flags grid ≡ gates.now) }
         ensures count { IfOk result (λ grid. evaluations grid ≡ 0) };
@@ -117,7 +118,7 @@ pub trait Grid: Sized + Drop {
     /// Makes room for one more gate, which is there until the next `add_row` or `add_gate`; nothing else changes. The
     /// caller knows that a bench has fewer variables than its limit.
     fn reserve_gate(&mut self) -> Result<(), Memory>
-        requires { length (gate_flags self.old) < 4194304 }
+        requires { length (gate_flags self.old) < limit + 1 }
         ensures ok { OnOk result (IsTrue (has_room self.new)) }
         ensures err { OnErr result (has_room self.new ≡ has_room self.old) }
         ensures cells { Self.cells self.new ≡ Self.cells self.old }

@@ -8,7 +8,7 @@ mod dump_header;
 mod dump_recorder;
 mod dump_text;
 mod dumping;
-mod frame;
+mod frame_cells;
 mod gate_flags;
 mod gate_order;
 mod grid;

@@ -9,7 +9,7 @@ ghost use Rattle.aig_sim.specs.state.Machine.{Steps};
 ghost use Rattle.aig_sim.specs.state.Neighbours.{AreNeighbours};
 
 use crate::code::{Code, character_in, spell_in};
-use crate::frame::{evaluate_row, renew_states};
+use crate::frame_cells::{evaluate_row, renew_states};
 use crate::gate_order::reordered;
 use crate::row::{Row, first_of_neighbours};
 use aig_base::{Circuit, Gate, Latch, List, Lit, Memory, Tern};
@@ -87,7 +87,7 @@ fn codes_of(alloc: Global, values: &[Tern]) -> Result<Vec<Code>, Memory>
 }
 
 // The gates in the order of their evaluation: the order, or the gates as they stand.
-fn gates_of<'a>(circuit: &'a Circuit, order: &'a Option<List<Gate>>) -> &'a [Gate]
+fn gates_in_turn<'a>(circuit: &'a Circuit, order: &'a Option<List<Gate>>) -> &'a [Gate]
     ensures { result.now ≡ unwrap_or order.now circuit.now.gates }
 {
     match order {
@@ -168,7 +168,7 @@ impl<'a> Machine<'a> {
             &mut self.cells,
             &mut self.states,
             self.circuit,
-            gates_of(self.circuit, &self.order),
+            gates_in_turn(self.circuit, &self.order),
             row,
             self.first,
         );

@@ -14,7 +14,7 @@ use crate::dumping::write_end;
 use crate::machine::Machine;
 use crate::recorder::{Recorder, TraceRecorder};
 use crate::replay_fault::ReplayFault;
-use crate::witness::{WitnessRun, admitted_shape, read_values};
+use crate::witness::{WitnessRun, admitted_parts, read_values};
 use aig_base::{Circuit, Io, Tern, Write};
 use std::alloc::Global;
 
@@ -102,9 +102,9 @@ pub fn trace_witness<W: Write>(
     ensures { Replays (λ raw start rows text. IsTrace raw start rows text) circuit.now text.now W.written W.failures
         out.old out.new result }
 {
-    let shape = admitted_shape(circuit, text)?;
-    let mut run = WitnessRun::new(alloc, circuit, &shape)?;
-    write_trace(&mut run, shape.rows, shape.frames as u32, out)?;
+    let parts = admitted_parts(circuit, text)?;
+    let mut run = WitnessRun::new(alloc, circuit, &parts)?;
+    write_trace(&mut run, parts.rows, parts.frames as u32, out)?;
     Ok(())
 }
 
@@ -121,14 +121,14 @@ pub fn dump_witness<W: Write>(
     ensures { Replays (λ raw start rows text. IsDump raw start rows text) circuit.now text.now W.written W.failures
         out.old out.new result }
 {
-    let shape = admitted_shape(circuit, text)?;
+    let parts = admitted_parts(circuit, text)?;
     let mut recorder = DumpRecorder::new(alloc, circuit)?;
-    let mut run = WitnessRun::new(alloc, circuit, &shape)?;
+    let mut run = WitnessRun::new(alloc, circuit, &parts)?;
     write_dump(
         &mut run,
         &mut recorder,
-        shape.rows,
-        shape.frames as u32,
+        parts.rows,
+        parts.frames as u32,
         out,
     )?;
     Ok(())

@@ -1,6 +1,7 @@
 //! Grids of rows, however these keep their cells.
 ghost use Rattle.std.specs.Prelude.{◌≡◌, ◌≢◌, ◌+◌, ◌<◌, ◌≤◌, ◌↔◌, length, map, fold, All, IsTrue, OnOk};
 ghost use Rattle.std.specs.Prelude.{slice_set, slice_index_or};
+ghost use Rattle.aig_parts.specs.Formed.{limit};
 ghost use Rattle.aig_parts.specs.declared.ternary.Tern.TheVariants.{X};
 ghost use Rattle.aig_parts.specs.Literal.{variable};
 ghost use Rattle.aig_sim.specs.Cells.{literal_value, gate_value, with_gate, HasPlaces};
@@ -100,7 +101,7 @@ fn sweep_in<R: CellRow>(row: &mut R, gates: &[Gate])
 // Gives each row cells for so many variables, at most one more than it has.
 fn make_room<R: CellRow>(rows: &mut [R], size: usize) -> Result<(), AllocError>
     requires more { All (λ row. size ≤ length (R.cells row) + 1) rows.old }
-    requires limit { size ≤ 4194304 }
+    requires limit { size ≤ limit + 1 }
     ensures rows { AreLengthened (map R.cells rows.old) (map R.cells rows.new) }
     ensures ok { OnOk result (All (λ row. size ≤ length (R.cells row)) rows.new) }
 {

@@ -3,7 +3,7 @@ ghost use Rattle.std.specs.Prelude.{◌≡◌, ℕ, ◌<◌, ◌↔◌, false, L
 ghost use Rattle.std.specs.Prelude.{IfNone, IsTrue};
 ghost use Rattle.aig_parts.specs.declared.ternary.Tern.{Tern};
 ghost use Rattle.aig_base.specs.Circuit.{IsCircuit};
-ghost use Rattle.aig_sim.specs.state.Checking.{BeginsWithRow, SpellsFrames, IsShape, ReadsNotOne, HasRun, IsFirstFailure};
+ghost use Rattle.aig_sim.specs.state.Checking.{BeginsWithRow, SpellsFrames, ArePartsOf, ReadsNotOne, HasRun, IsFirstFailure};
 ghost use Rattle.aig_sim.specs.StimulusText.{character};
 ghost use Rattle.aig_sim.specs.Verdict.{Allows, StartsWrong, IsVerdict, IsConfirmed};
 ghost use Rattle.aig_sim.specs.WitnessText.{Witness, SpellsWitness, IsAdmitted, HasWitnessFault};
@@ -14,7 +14,7 @@ use crate::row::literal_in;
 use crate::stimulus::FRAMES;
 use crate::verdict::Verdict;
 use crate::witness_fault::WitnessFault;
-use crate::witness_text::{Shape, read_shape};
+use crate::witness_text::{WitnessParts, read_parts};
 use aig_base::{Circuit, Latch, Memory, Tern};
 use std::alloc::Global;
 
@@ -138,22 +138,22 @@ fn read_start(alloc: Global, text: &[u8], size: usize) -> Result<Vec<Tern>, Memo
 }
 
 /// The parts of the text of a witness that the circuit admits.
-pub fn admitted_shape<'a>(circuit: &Circuit, text: &'a [u8]) -> Result<Shape<'a>, WitnessFault>
-    ensures shape { IfOk result (λ shape. (w : Witness) × SpellsWitness circuit.now text.now w
-        × IsShape circuit.now shape w × IsAdmitted circuit.now w) }
+pub fn admitted_parts<'a>(circuit: &Circuit, text: &'a [u8]) -> Result<WitnessParts<'a>, WitnessFault>
+    ensures parts { IfOk result (λ parts. (w : Witness) × SpellsWitness circuit.now text.now w
+        × ArePartsOf circuit.now parts w × IsAdmitted circuit.now w) }
     ensures fault { IfErr result (HasWitnessFault circuit.now text.now) }
 {
     let _max_var = circuit.max_var();
-    let Some(shape) = read_shape(circuit, text) else {
+    let Some(parts) = read_parts(circuit, text) else {
         return Err(WitnessFault::Text);
     };
-    if shape.property as usize >= circuit.bad().len() {
+    if parts.property as usize >= circuit.bad().len() {
         return Err(WitnessFault::Property);
     }
-    if shape.frames > FRAMES as usize {
+    if parts.frames > FRAMES as usize {
         return Err(WitnessFault::Limit);
     }
-    Ok(shape)
+    Ok(parts)
 }
 
 /// A witness's run before its first frame: the circuit, where the latches start as the witness has it, and room for a
@@ -169,16 +169,16 @@ impl<'a> WitnessRun<'a> {
     pub fn new(
         alloc: Global,
         circuit: &'a Circuit,
-        shape: &Shape<'_>,
+        parts: &WitnessParts<'_>,
     ) -> Result<WitnessRun<'a>, Memory>
-        requires { (w : Witness) × IsShape circuit.now shape.now w }
+        requires { (w : Witness) × ArePartsOf circuit.now parts.now w }
         ensures circuit { IfOk result (λ run. run.machine.circuit ≡ circuit.now) }
         ensures is_circuit { IfOk result (λ run. IsCircuit run.machine.circuit) }
-        ensures states { IfOk result (λ run. (w : Witness) → IsShape circuit.now shape.now w →
+        ensures states { IfOk result (λ run. (w : Witness) → ArePartsOf circuit.now parts.now w →
             run.machine.states ≡ w.start) }
         ensures row { IfOk result (λ run. length run.row.items ≡ length circuit.now.inputs) }
     {
-        let start = read_start(alloc, shape.start, circuit.latches().len())?;
+        let start = read_start(alloc, parts.start, circuit.latches().len())?;
         Ok(WitnessRun {
             machine: Machine::new(alloc, circuit, start)?,
             row: new_values(alloc, circuit.inputs().len())?,
@@ -187,23 +187,23 @@ impl<'a> WitnessRun<'a> {
 }
 
 // The verdict on a witness of these parts.
-fn judge(alloc: Global, circuit: &Circuit, shape: &Shape<'_>) -> Result<Verdict, Memory>
-    requires { (w : Witness) × IsShape circuit.now shape.now w × IsAdmitted circuit.now w }
-    ensures { IfOk result (λ verdict. (w : Witness) → IsShape circuit.now shape.now w → IsAdmitted circuit.now w →
+fn judge(alloc: Global, circuit: &Circuit, parts: &WitnessParts<'_>) -> Result<Verdict, Memory>
+    requires { (w : Witness) × ArePartsOf circuit.now parts.now w × IsAdmitted circuit.now w }
+    ensures { IfOk result (λ verdict. (w : Witness) → ArePartsOf circuit.now parts.now w → IsAdmitted circuit.now w →
         IsVerdict circuit.now w verdict) }
 {
     let WitnessRun {
         mut machine,
         mut row,
-    } = WitnessRun::new(alloc, circuit, shape)?;
+    } = WitnessRun::new(alloc, circuit, parts)?;
     if let Some(position) = wrong_start(&machine) {
         return Ok(Verdict::Initial(position));
     }
-    let failure = run_frames(&mut machine, &mut row, shape.rows, shape.frames as u32);
+    let failure = run_frames(&mut machine, &mut row, parts.rows, parts.frames as u32);
     if let Some((frame, position)) = failure {
         return Ok(Verdict::Constraint(frame, position));
     }
-    if !is_bad(&machine, shape.property) {
+    if !is_bad(&machine, parts.property) {
         return Ok(Verdict::NotBad);
     }
     Ok(Verdict::Confirmed)
@@ -226,7 +226,7 @@ pub fn check_witness(alloc: Global, circuit: &Circuit, text: &[u8]) -> Result<Ve
     ensures fault { IfErr result (HasWitnessFault circuit.now text.now) }
 {
     let _max_var = circuit.max_var();
-    let shape = admitted_shape(circuit, text)?;
-    let verdict = judge(alloc, circuit, &shape)?;
+    let parts = admitted_parts(circuit, text)?;
+    let verdict = judge(alloc, circuit, &parts)?;
     Ok(verdict)
 }

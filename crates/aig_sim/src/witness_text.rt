@@ -1,11 +1,12 @@
 //! The text of a witness.
 ghost use Rattle.std.specs.Prelude.{◌≡◌, ◌≢◌, ℕ, ◌+◌, ◌<◌, ◌≤◌, ◌↔◌, min, List, [], ◌∷◌, ◌++◌, length, map, take};
 ghost use Rattle.std.specs.Prelude.{All, IsTrue, IfSome, IfNone, slice_index_or};
+ghost use Rattle.aig_parts.specs.Formed.{limit};
 ghost use Rattle.aig_parts.specs.declared.ternary.Tern.{Tern};
 ghost use Rattle.aig_parts.specs.declared.raw.Raw.{Raw};
 ghost use Rattle.aig_sim.specs.StimulusText.{character, row_line, HaveWidth, IsCharacter};
 ghost use Rattle.aig_sim.specs.WitnessText.{Witness, SpellsWitness, IsDecimal, rows_text};
-ghost use Rattle.aig_sim.specs.state.Checking.{BeginsWithRow, SpellsFrames, IsShape};
+ghost use Rattle.aig_sim.specs.state.Checking.{BeginsWithRow, SpellsFrames, ArePartsOf};
 
 use crate::line_in_hand::are_characters;
 use aig_base::Circuit;
@@ -18,7 +19,7 @@ const END: &[u8] = b".\n";
 
 /// The parts of a witness's text.
 #[derive(Clone, Copy, Drop)]
-pub struct Shape<'a> {
+pub struct WitnessParts<'a> {
     /// The position of the property; 4,194,304 stands for any greater.
     pub property: u32,
     /// The text from the line of latches' values on.
@@ -82,7 +83,7 @@ fn has_leading_zero(digits: &[u8]) -> bool
 
 // The number that these digits are in decimal; 4,194,304 stands for any greater.
 fn position_of(digits: &[u8]) -> Option<u32>
-    ensures some { IfSome result (λ position. (n : ℕ) × IsDecimal digits.now n × (position ≡ min n 4194304)) }
+    ensures some { IfSome result (λ position. (n : ℕ) × IsDecimal digits.now n × (position ≡ min n (limit + 1))) }
     ensures none { IfNone result ((n : ℕ) → IsDecimal digits.now n → ⊥) }
 {
     if digits.is_empty() {
@@ -102,7 +103,7 @@ fn position_of(digits: &[u8]) -> Option<u32>
 }
 
 // How many bytes there are before the first LF.
-fn line_length(text: &[u8]) -> Option<usize>
+fn line_end(text: &[u8]) -> Option<usize>
     ensures some { IfSome result (λ size. (size < length text.now) × (slice_index_or text.now size 0 ≡ 10)
         × All (λ b. b ≢ 10) (take size text.now)) }
     ensures none { IfNone result (All (λ b. b ≢ 10) text.now) }
@@ -116,11 +117,11 @@ fn line_length(text: &[u8]) -> Option<usize>
 }
 
 // The parts of the text behind the position's line.
-fn body_of(text: &[u8], property: u32, latches: usize, inputs: usize) -> Option<Shape<'_>>
-    ensures some { IfSome result (λ shape. (shape.property ≡ property) × (shape.start.now ≡ text.now)
+fn body_of(text: &[u8], property: u32, latches: usize, inputs: usize) -> Option<WitnessParts<'_>>
+    ensures some { IfSome result (λ parts. (parts.property ≡ property) × (parts.start.now ≡ text.now)
         × ((start : List Tern) × (rows : List (List Tern)) × (length start ≡ latches) × (rows ≢ [])
-        × (length rows ≡ shape.frames) × (text.now ≡ map character start ++ (10 ∷ shape.rows.now))
-        × SpellsFrames inputs shape.rows.now rows)) }
+        × (length rows ≡ parts.frames) × (text.now ≡ map character start ++ (10 ∷ parts.rows.now))
+        × SpellsFrames inputs parts.rows.now rows)) }
     ensures none { IfNone result ((start : List Tern) (rows : List (List Tern)) → length start ≡ latches → rows ≢ [] →
         HaveWidth inputs rows → text.now ≡ row_line start ++ rows_text rows → ⊥) }
 {
@@ -129,7 +130,7 @@ fn body_of(text: &[u8], property: u32, latches: usize, inputs: usize) -> Option<
     if frames == 0 {
         return None;
     }
-    Some(Shape {
+    Some(WitnessParts {
         property,
         start: text,
         rows,
@@ -139,20 +140,20 @@ fn body_of(text: &[u8], property: u32, latches: usize, inputs: usize) -> Option<
 
 /// The parts of a witness's text, for so many latches and inputs; none where the bytes are no such text. It takes no
 /// memory.
-pub fn read_shape<'a>(circuit: &Circuit, text: &'a [u8]) -> Option<Shape<'a>>
-    ensures some { IfSome result (λ shape. (w : Witness) × SpellsWitness circuit.now text.now w
-        × IsShape circuit.now shape w) }
+pub fn read_parts<'a>(circuit: &Circuit, text: &'a [u8]) -> Option<WitnessParts<'a>>
+    ensures some { IfSome result (λ parts. (w : Witness) × SpellsWitness circuit.now text.now w
+        × ArePartsOf circuit.now parts w) }
     ensures none { IfNone result ((w : Witness) → SpellsWitness circuit.now text.now w → ⊥) }
 {
     let position = text.strip_prefix(b"1\nb")?;
-    let size = line_length(position)?;
+    let size = line_end(position)?;
     let property = position_of(&position[..size])?;
     let body = &position[size + 1..];
-    let shape = body_of(
+    let parts = body_of(
         body,
         property,
         circuit.latches().len(),
         circuit.inputs().len(),
     )?;
-    Some(shape)
+    Some(parts)
 }

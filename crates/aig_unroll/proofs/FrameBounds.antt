@@ -12,9 +12,9 @@ use Rattle.aig_base.specs.Renumbered.{renumbered_variable, role_variable}
 use Rattle.aig_base.specs.Role as roles
 use Rattle.aig_base.specs.Role.{Role, role}
 use Rattle.aig_base.specs.Sound.{IsSound, IsReset}
-use Rattle.aig_base.proofs.Counting.{length-order}
-use Rattle.aig_base.proofs.Gets.{All-at}
-use Rattle.aig_base.proofs.RenumberedParts.{variable_bound}
+use Rattle.aig_base.proofs.lists.Counting.{length-order}
+use Rattle.aig_base.proofs.lists.Gets.{All-at}
+use Rattle.aig_base.proofs.renumbered.RenumberedParts.{variable_bound}
 use Rattle.aig_unroll.specs.FrameLiteral.{frame_literal, frame_size, input_count, first_literal, next_literal, role_literal, is_uninitialised}
 use Rattle.aig_unroll.proofs.FrameLiterals.{latch_literal, by_role, input_within}
 

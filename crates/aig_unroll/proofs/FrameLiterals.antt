@@ -14,11 +14,11 @@ use Rattle.aig_base.specs.Role as roles
 use Rattle.aig_base.specs.Role.{Role, role, place_of, input_role, gate_role, latch_role}
 use Rattle.aig_base.specs.Sections.{IsGate}
 use Rattle.aig_base.specs.Sound.{IsSound}
-use Rattle.aig_base.proofs.Places.{input, latch, gate, IsDefinition-of_place}
-use Rattle.aig_base.proofs.Renumberings.{place_in}
-use Rattle.aig_base.proofs.Roles.{place_found, only_place, role_input, role_latch, role_gate_at, role_constant}
+use Rattle.aig_base.proofs.circuits.Places.{input, latch, gate, IsDefinition-of_place}
+use Rattle.aig_base.proofs.renumbered.Renumberings.{place_in}
+use Rattle.aig_base.proofs.circuits.Roles.{place_found, only_place, role_input, role_latch, role_gate_at, role_constant}
 use Rattle.aig_unroll.specs.declared.plan.Plan.{Plan}
-use Rattle.aig_unroll.specs.declared.frame.Frame.{Frame}
+use Rattle.aig_unroll.specs.declared.frame_literals.Frame.{Frame}
 use Rattle.aig_unroll.specs.FrameLiteral.{frame_literal, gate_variable, first_literal, next_literal, role_literal}
 use Rattle.aig_unroll.specs.state.FrameTable.{IsPlan, IsFrame, literal_at, number_literal}
 

@@ -13,17 +13,17 @@ use Rattle.aig_base.specs.Circuit.{IsCircuit}
 use Rattle.aig_base.specs.Order.{IsCanonicalOrder}
 use Rattle.aig_base.specs.Renumbered.{ordered_gates}
 use Rattle.aig_base.specs.RenumberingTable.{IsListed, IsLatchListed, IsGateListed, AreListed}
-use Rattle.aig_base.proofs.Counting.{length-order, sections_fit}
-use Rattle.aig_base.proofs.Gets.{All-at, All-by_get}
-use Rattle.aig_base.proofs.RenumberedParts.{map_same, all_listed, variable_bound}
-use Rattle.aig_base.proofs.RenumberedReady.{ordered_gate}
-use Rattle.aig_unroll.specs.declared.frame.Frame.{Frame}
+use Rattle.aig_base.proofs.lists.Counting.{length-order, sections_fit}
+use Rattle.aig_base.proofs.lists.Gets.{All-at, All-by_get}
+use Rattle.aig_base.proofs.renumbered.RenumberedParts.{map_same, all_listed, variable_bound}
+use Rattle.aig_base.proofs.renumbered.RenumberedReady.{ordered_gate}
+use Rattle.aig_unroll.specs.declared.frame_literals.Frame.{Frame}
 use Rattle.aig_unroll.specs.declared.plan.Plan.{Plan}
 use Rattle.aig_unroll.specs.declared.sections.Sections.{Sections}
 use Rattle.aig_unroll.specs.FrameLiteral.{frame_literal, gate_variable, first_literal, has_guards, chain_count, guard_count}
 use Rattle.aig_unroll.specs.state.FrameTable as table
 use Rattle.aig_unroll.specs.state.FrameTable.{IsPlan, IsFrame, IsWithin, IsNextFrame, AddsFrame, AreSections, literal_at, gates_at, bad_at, first_at}
-use Rattle.aig_unroll.specs.Limits.{FitsLimits}
+use Rattle.aig_unroll.specs.Unrollable.{FitsLimits}
 use Rattle.aig_unroll.specs.Unrolled as parts
 use Rattle.aig_unroll.specs.Unrolled.{frames, frame_literals, frame_bad, frame_gate, frame_gates, kept_constraints}
 use Rattle.aig_unroll.proofs.FrameLiterals.{literal_same, of_first, of_next, stands_at}

@@ -15,12 +15,12 @@ use Rattle.aig_base.specs.Sections.{IsDefined}
 use Rattle.aig_parts.specs.Ternary.{kleene_and}
 use Rattle.aig_base.specs.Value as value
 use Rattle.aig_base.specs.Value.{Value, Fits}
-use Rattle.aig_base.proofs.EachUse.{each_use}
-use Rattle.aig_base.proofs.Gets.{All-at}
-use Rattle.aig_base.proofs.NegatedValues.{of_ready}
-use Rattle.aig_base.proofs.OneValue.{exists_value}
-use Rattle.aig_base.proofs.Positions.{slice_get_left, slice_get_right, Contains-from_slice_get, position_of}
-use Rattle.aig_base.proofs.UniqueValue.{unique}
+use Rattle.aig_base.proofs.circuits.EachUse.{each_use}
+use Rattle.aig_base.proofs.lists.Gets.{All-at}
+use Rattle.aig_base.proofs.values.NegatedValues.{of_ready}
+use Rattle.aig_base.proofs.values.OneValue.{exists_value}
+use Rattle.aig_base.proofs.lists.Positions.{slice_get_left, slice_get_right, Contains-from_slice_get, position_of}
+use Rattle.aig_base.proofs.values.UniqueValue.{unique}
 use Rattle.aig_unroll.specs.FrameLiteral.{frame_literal, has_guards, chain_count, guard_count}
 use Rattle.aig_unroll.specs.Unrolled.{unrolled, frame_bad, frame_gate, frame_gates, chain_gate, chain_literal, link_before, guard_gate, guard_literal, last_chain}
 use Rattle.aig_unroll.specs.UnrolledValues.{IsAllowed, UnrolledValue, unrolled_row, IsReached, IsExcluded, GuardedValue, GuardsBad}

@@ -9,7 +9,7 @@ use Rattle.aig_parts.specs.declared.raw.Raw.{Raw}
 use Rattle.aig_base.specs.Circuit.{IsCircuit}
 use Rattle.aig_base.specs.Order.{IsCanonicalOrder}
 use Rattle.aig_base.specs.Renumbered.{evens, evens_from}
-use Rattle.aig_base.proofs.Evens.{length-evens_from, get_or-evens_from, evens-append}
+use Rattle.aig_base.proofs.lists.Evens.{length-evens_from, get_or-evens_from, evens-append}
 use Rattle.aig_unroll.specs.FrameLiteral.{frame_literal, input_count, is_uninitialised, uninitialised}
 use Rattle.aig_unroll.specs.InputMap.{Origin, input, start, frame_origins, start_origins, origins, origin_literal}
 use Rattle.aig_unroll.specs.Unrolled.{frames}

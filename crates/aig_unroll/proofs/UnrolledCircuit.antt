@@ -13,11 +13,11 @@ use Rattle.aig_parts.specs.Formed.{IsFormed, IsSymbolOf}
 use Rattle.aig_base.specs.Order.{IsCanonicalOrder}
 use Rattle.aig_base.specs.Sections.{uses}
 use Rattle.aig_base.specs.Sound.{IsSound, IsInRange, IsReset}
-use Rattle.aig_base.proofs.EachUse.{all_uses}
-use Rattle.aig_base.proofs.Evens.{length-evens_from}
-use Rattle.aig_base.proofs.RenumberedCircuit.{ready_sound, ready_circuit}
+use Rattle.aig_base.proofs.circuits.EachUse.{all_uses}
+use Rattle.aig_base.proofs.lists.Evens.{length-evens_from}
+use Rattle.aig_base.proofs.renumbered.RenumberedCircuit.{ready_sound, ready_circuit}
 use Rattle.aig_unroll.specs.FrameLiteral.{frame_literal, frame_size, input_count, has_guards, guard_count}
-use Rattle.aig_unroll.specs.Limits.{FitsLimits}
+use Rattle.aig_unroll.specs.Unrollable.{FitsLimits}
 use Rattle.aig_unroll.specs.Unrolled.{unrolled, frames, frame_literals, frame_bad, guard_literal, kept_constraints}
 use Rattle.aig_unroll.proofs.FrameBounds.{any_bound}
 use Rattle.aig_unroll.proofs.Guarding.{guarded}

@@ -13,12 +13,12 @@ use Rattle.aig_parts.specs.Literal.{variable}
 use Rattle.aig_base.specs.Order.{IsCanonicalOrder}
 use Rattle.aig_base.specs.state.Ready.{SectionsInOrder}
 use Rattle.aig_base.specs.Renumbered.{ordered_gates, ready_gate, renumbered, renumbered_gate, renumbered_literal, renumbered_variable, evens, evens_from, IsBinaryReady}
-use Rattle.aig_base.proofs.Counting.{length-order}
-use Rattle.aig_base.proofs.Evens.{joined, evens-append, length-evens_from}
-use Rattle.aig_base.proofs.Gets.{All-at, All-by_get}
-use Rattle.aig_base.proofs.RenumberedParts.{length-ordered}
-use Rattle.aig_base.proofs.RenumberedReady.{ordered_gate, gate_literal, renumbered_ready, evens_map, goes_down, lhs_stays, sign_cases}
-use Rattle.aig_base.proofs.Roles.{unmap_some}
+use Rattle.aig_base.proofs.lists.Counting.{length-order}
+use Rattle.aig_base.proofs.lists.Evens.{joined, evens-append, length-evens_from}
+use Rattle.aig_base.proofs.lists.Gets.{All-at, All-by_get}
+use Rattle.aig_base.proofs.renumbered.RenumberedParts.{length-ordered}
+use Rattle.aig_base.proofs.renumbered.RenumberedReady.{ordered_gate, gate_literal, renumbered_ready, evens_map, goes_down, lhs_stays, sign_cases}
+use Rattle.aig_base.proofs.circuits.Roles.{unmap_some}
 use Rattle.aig_unroll.specs.FrameLiteral.{frame_literal, frame_size, input_count, chain_count, guard_count}
 use Rattle.aig_unroll.specs.Unrolled.{unrolled, frames, frame_gate, frame_gates, chain_gate, chain_literal, link_before, chain_before, guard_gate, guard_literal, last_chain}
 use Rattle.aig_unroll.proofs.FrameBounds.{literal_bound, any_bound}

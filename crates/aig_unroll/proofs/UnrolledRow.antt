@@ -8,8 +8,8 @@ use Rattle.std.proofs.lemmas.Option.{slice_get-get_or}
 use Rattle.aig_parts.specs.declared.latch.Latch.{Latch}
 use Rattle.aig_parts.specs.declared.ternary.Tern.{Tern}
 use Rattle.aig_base.specs.Renumbered.{evens}
-use Rattle.aig_base.proofs.Evens.{length-evens_from, get_or-evens_from}
-use Rattle.aig_base.proofs.Positions.{slice_get_left, slice_get_right}
+use Rattle.aig_base.proofs.lists.Evens.{length-evens_from, get_or-evens_from}
+use Rattle.aig_base.proofs.lists.Positions.{slice_get_left, slice_get_right}
 use Rattle.aig_unroll.specs.FrameLiteral.{is_uninitialised, uninitialised}
 use Rattle.aig_unroll.specs.Unrolled.{frames}
 use Rattle.aig_unroll.specs.UnrolledValues.{free_values}

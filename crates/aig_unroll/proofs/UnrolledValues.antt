@@ -17,15 +17,15 @@ use Rattle.aig_base.specs.Sections.{IsDefined}
 use Rattle.aig_base.specs.Sound.{IsReset}
 use Rattle.aig_base.specs.Value as value
 use Rattle.aig_base.specs.Value.{Value, Fits, reset_value}
-use Rattle.aig_base.proofs.Gets.{All-at}
-use Rattle.aig_base.proofs.NegatedValues.{of_negation, of_ready}
-use Rattle.aig_base.proofs.OneValue.{exists_value}
-use Rattle.aig_base.proofs.Places.{gate}
-use Rattle.aig_base.proofs.Positions.{slice_get_left, slice_get_right}
-use Rattle.aig_base.proofs.RenumberedParts.{ordered_at}
-use Rattle.aig_base.proofs.Renumberings.{Contains-map}
-use Rattle.aig_base.proofs.Roles.{one_place}
-use Rattle.aig_base.proofs.UniqueValue.{unique}
+use Rattle.aig_base.proofs.lists.Gets.{All-at}
+use Rattle.aig_base.proofs.values.NegatedValues.{of_negation, of_ready}
+use Rattle.aig_base.proofs.values.OneValue.{exists_value}
+use Rattle.aig_base.proofs.circuits.Places.{gate}
+use Rattle.aig_base.proofs.lists.Positions.{slice_get_left, slice_get_right}
+use Rattle.aig_base.proofs.renumbered.RenumberedParts.{ordered_at}
+use Rattle.aig_base.proofs.renumbered.Renumberings.{Contains-map}
+use Rattle.aig_base.proofs.circuits.Roles.{one_place}
+use Rattle.aig_base.proofs.values.UniqueValue.{unique}
 use Rattle.aig_unroll.specs.FrameLiteral.{frame_literal, first_literal, is_uninitialised, uninitialised, input_count, chain_count, guard_count}
 use Rattle.aig_unroll.specs.Unrolled.{unrolled, frame_gate, frame_gates, chain_gate, guard_gate}
 use Rattle.aig_unroll.specs.UnrolledValues.{IsAllowed, UnrolledValue, unrolled_row, free_values}

@@ -4,7 +4,7 @@ use Rattle.aig_parts.specs.declared.raw.Raw.{Raw}
 use Rattle.aig_base.specs.Order.{IsCanonicalOrder}
 use Rattle.aig_unroll.specs.declared.fault.UnrollFault.{UnrollFault}
 use Rattle.aig_unroll.specs.declared.fault.UnrollFault.TheVariants as faults
-use Rattle.aig_unroll.specs.Limits.{HasLiveness, FitsLimits}
+use Rattle.aig_unroll.specs.Unrollable.{HasLiveness, FitsLimits}
 use Rattle.aig_unroll.specs.Unrolled.{unrolled}
 
 abbrev pub number_of : UnrollFault → ℕ

@@ -1,7 +1,7 @@
 pub mod Answers
 pub mod FrameLiteral
 pub mod InputMap
-pub mod Limits
+pub mod Unrollable
 pub mod Unrolled
 pub mod UnrolledValues
 pub mod state

@@ -5,7 +5,7 @@ ghost use Rattle.aig_base.specs.RenumberingTable.{IsListed};
 ghost use Rattle.aig_unroll.specs.state.FrameTable as table;
 ghost use Rattle.aig_unroll.specs.state.FrameTable.{IsWithin};
 
-use crate::frame::{Frame, literal_at, ready_gate};
+use crate::frame_literals::{Frame, literal_at, ready_gate};
 use crate::plan::Plan;
 use aig_base::{Gate, List, Lit, Memory};
 

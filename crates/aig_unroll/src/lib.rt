@@ -2,7 +2,7 @@
 #![tactic(auto)]
 
 mod fault;
-mod frame;
+mod frame_literals;
 mod guards;
 mod input_map;
 mod laws;

@@ -2,7 +2,7 @@
 ghost use Rattle.std.specs.Prelude.{◌≡◌, ◌≤◌, ◌*◌, ◌↔◌, IsTrue, length};
 ghost use Rattle.aig_parts.specs.Formed.{limit};
 ghost use Rattle.aig_base.specs.Limits.{frame_limit};
-ghost use Rattle.aig_unroll.specs.Limits.{FitsLimits, HasLiveness};
+ghost use Rattle.aig_unroll.specs.Unrollable.{FitsLimits, HasLiveness};
 ghost use Rattle.aig_unroll.specs.Unrolled as parts;
 
 use crate::plan::{frame_size, has_guards, uninitialised};

@@ -7,7 +7,7 @@ ghost use Rattle.aig_unroll.specs.FrameLiteral as literals;
 ghost use Rattle.aig_unroll.specs.state.FrameTable as table;
 ghost use Rattle.aig_unroll.specs.state.FrameTable.{IsWithin};
 
-use crate::frame::{Frame, literal_at, ready_gate};
+use crate::frame_literals::{Frame, literal_at, ready_gate};
 use crate::plan::{Plan, is_uninitialised};
 use aig_base::{Gate, Latch, List, Lit, Memory};
 use std::alloc::Global;

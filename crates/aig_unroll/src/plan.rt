@@ -4,7 +4,7 @@ ghost use Rattle.aig_parts.specs.Formed.{limit};
 ghost use Rattle.aig_base.specs.Order.{IsCanonicalOrder};
 ghost use Rattle.aig_unroll.specs.FrameLiteral as literals;
 ghost use Rattle.aig_unroll.specs.state.FrameTable.{IsPlan};
-ghost use Rattle.aig_unroll.specs.Limits.{FitsLimits};
+ghost use Rattle.aig_unroll.specs.Unrollable.{FitsLimits};
 
 use aig_base::{Circuit, Latch, Memory, renumbered_variables};
 use std::alloc::Global;

@@ -7,9 +7,9 @@ ghost use Rattle.aig_base.specs.Renumbered as renumbered;
 ghost use Rattle.aig_base.specs.RenumberingTable.{IsGateListed, AreListed};
 ghost use Rattle.aig_unroll.specs.FrameLiteral as literals;
 ghost use Rattle.aig_unroll.specs.state.FrameTable.{IsWithin, IsPlan, AddsFrame, AddsProperties, AreSections, IsNextFrame};
-ghost use Rattle.aig_unroll.specs.Limits.{FitsLimits};
+ghost use Rattle.aig_unroll.specs.Unrollable.{FitsLimits};
 
-use crate::frame::Frame;
+use crate::frame_literals::Frame;
 use crate::guards::{push_chain, push_guard_literals, push_guards};
 use crate::parts::{first_latches, next_latches, push_gates, push_literals};
 use crate::plan::{Plan, has_guards};

@@ -5,7 +5,7 @@ ghost use Rattle.aig_base.specs.Levels.{AreLevels};
 ghost use Rattle.aig_base.specs.Order.{IsCanonicalOrder};
 ghost use Rattle.aig_base.specs.Renumbered.{evens, IsBinaryReady};
 ghost use Rattle.aig_unroll.specs.Answers.{AnswersUnrolling, IsUnrollable, IsUnrolled, RefusesUnrolling};
-ghost use Rattle.aig_unroll.specs.Limits.{FitsLimits};
+ghost use Rattle.aig_unroll.specs.Unrollable.{FitsLimits};
 ghost use Rattle.aig_unroll.specs.Unrolled.{unrolled};
 
 use crate::fault::UnrollFault;

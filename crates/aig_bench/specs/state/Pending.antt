@@ -14,7 +14,7 @@ use Rattle.aig_bench.specs.declared.settle.Pending.{Pending}
 use Rattle.aig_bench.specs.state.Setup.{pair_of}
 use Rattle.aig_bench.specs.state.Engine.{EngineState, IsIdle}
 use Rattle.aig_bench.specs.state.Latches.{AreLatchReaders, IsLatchList}
-use Rattle.aig_bench.specs.state.Order.{Orders}
+use Rattle.aig_bench.specs.state.SweepOrder.{Orders}
 use Rattle.aig_bench.specs.state.Sweep.{IsWork, IsWorking}
 
 -- the levels of a circuit, and who reads whom

@@ -3,8 +3,8 @@ use Rattle.std.specs.Prelude.{◌≡◌, ◌≤◌, ◌+◌, ◌++◌, ℕ, List
 use Rattle.aig_parts.specs.declared.fault.Fault.{Fault}
 use Rattle.aig_format.specs.declared.source.Source.{Ghosts}
 use Rattle.aig_format.specs.declared.token_fault.TokenFault.{TokenFault}
-use Rattle.aig_format.specs.Verdict.{Raises}
-use Rattle.aig_format.specs.state.Meaning.{of_token, Gives}
+use Rattle.aig_format.specs.FileReading.{Raises}
+use Rattle.aig_format.specs.state.ReaderAnswers.{of_token, Gives}
 use Rattle.aig_format.specs.state.Reading.{Read}
 use Rattle.aig_format.specs.state.ReadingSections.{lines_at, with_front}
 

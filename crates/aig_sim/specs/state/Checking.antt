@@ -1,9 +1,10 @@
 -- How far a check of a witness has come.
-use Rattle.std.specs.Prelude.{◌≡◌, ◌≢◌, ℕ, suc, ◌<◌, min, List, [], ◌∷◌, ◌++◌, length, map, take, drop, Some, slice_get}
+use Rattle.std.specs.Prelude.{◌≡◌, ◌≢◌, ℕ, suc, ◌+◌, ◌<◌, min, List, [], ◌∷◌, ◌++◌, length, map, take, drop, Some, slice_get}
+use Rattle.aig_parts.specs.Formed.{limit}
 use Rattle.aig_parts.specs.declared.ternary.Tern.{Tern}
 use Rattle.aig_parts.specs.declared.ternary.Tern.TheVariants.{One}
 use Rattle.aig_parts.specs.declared.raw.Raw.{Raw}
-use Rattle.aig_sim.specs.declared.witness_text.Shape.{Shape}
+use Rattle.aig_sim.specs.declared.witness_text.WitnessParts.{WitnessParts}
 use Rattle.aig_sim.specs.Cells.{literal_value}
 use Rattle.aig_sim.specs.state.Frame.{HoldsAll, AreStates}
 use Rattle.aig_sim.specs.StimulusText.{character, HaveWidth}
@@ -19,14 +20,14 @@ pub record SpellsFrames (width : ℕ) (text : List ℕ) (rows : List (List Tern)
   pub widths : HaveWidth width rows
   pub text_is : text ≡ rows_text rows
 
--- the parts of the text of this witness, where positions from 4,194,304 on count as that
-pub record IsShape (raw : Raw) (shape : Shape) (w : Witness) : Type 0 where
+-- the parts of the text of this witness, where positions over the limit of a section count as the one behind it
+pub record ArePartsOf (raw : Raw) (parts : WitnessParts) (w : Witness) : Type 0 where
   pub latches : length w.start ≡ length raw.latches
   pub some : w.rows ≢ []
-  pub property_is : shape.property ≡ min w.property 4194304
-  pub frames_are : shape.frames ≡ length w.rows
-  pub start_is : shape.start.now ≡ map character w.start ++ (10 ∷ shape.rows.now)
-  pub rows_are : SpellsFrames (length raw.inputs) shape.rows.now w.rows
+  pub property_is : parts.property ≡ min w.property (limit + 1)
+  pub frames_are : parts.frames ≡ length w.rows
+  pub start_is : parts.start.now ≡ map character w.start ++ (10 ∷ parts.rows.now)
+  pub rows_are : SpellsFrames (length raw.inputs) parts.rows.now w.rows
 
 -- by these cells the literal at position p is not 1
 pub record ReadsNotOne (cells : List Tern) (literals : List ℕ) (p : ℕ) : Type 0 where

@@ -10,11 +10,11 @@ bits_of One = 3
 bits_of X = 1
 
 -- the value that has the bits
-abbrev pub value_of : ℕ → Tern
-value_of zero = Zero
-value_of (suc zero) = X
-value_of (suc (suc n)) = One
+abbrev pub code_value : ℕ → Tern
+code_value zero = Zero
+code_value (suc zero) = X
+code_value (suc (suc n)) = One
 
 -- the bits are those of a value: not 10
 abbrev pub IsCode : ℕ → Type 0
-IsCode bits = bits_of (value_of bits) ≡ bits
+IsCode bits = bits_of (code_value bits) ≡ bits

@@ -1,5 +1,6 @@
 -- Rows with cells behind those of their variables: room for variables that come later.
-use Rattle.std.specs.Prelude.{◌≡◌, ℕ, ◌-◌, ◌<◌, ◌≤◌, Bool, List, ◌++◌, length, drop, replicate, All}
+use Rattle.std.specs.Prelude.{◌≡◌, ℕ, ◌+◌, ◌-◌, ◌<◌, ◌≤◌, Bool, List, ◌++◌, length, drop, replicate, All}
+use Rattle.aig_parts.specs.Formed.{limit}
 use Rattle.aig_parts.specs.declared.ternary.Tern.{Tern}
 use Rattle.aig_parts.specs.declared.ternary.Tern.TheVariants.{X}
 use Rattle.aig_base.specs.Limits.{frame_limit}
@@ -15,7 +16,7 @@ pub record ArePadded (n room : ℕ) (flags : List Bool) (rows : List (List Tern)
   pub count : length rows ≤ frame_limit
   pub constant : 0 < n
   pub fits : n ≤ room
-  pub limit : room ≤ 4194304
+  pub limit : room ≤ limit + 1
   pub flagged : length flags ≡ n
   pub each : All (IsPadded n room) rows
 

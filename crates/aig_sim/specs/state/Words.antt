@@ -3,7 +3,7 @@ use Rattle.std.specs.Prelude.{ℕ, ◌*◌, ◌/◌, ◌^◌, ◌<◌, List, [],
 use Rattle.std.specs.Int.Bits.{bit_and}
 use Rattle.std.specs.List.{range_with_len}
 use Rattle.aig_parts.specs.declared.ternary.Tern.{Tern}
-use Rattle.aig_sim.specs.state.Codes.{value_of, IsCode}
+use Rattle.aig_sim.specs.state.Codes.{code_value, IsCode}
 
 -- the two bits at a place of a word
 unfoldable pub bits_at : ℕ → ℕ → ℕ
@@ -11,7 +11,7 @@ bits_at word place = bit_and (word / 2 ^ (2 * place)) 3
 
 -- the value of the cell there
 abbrev pub value_in : ℕ → ℕ → Tern
-value_in word place = value_of (bits_at word place)
+value_in word place = code_value (bits_at word place)
 
 -- the values of a word's cells
 abbrev pub values_of : ℕ → List Tern

@@ -5,11 +5,11 @@ use Rattle.aig_base.specs.state.Descent.{level_above}
 use Rattle.aig_base.specs.Levels.{AreLevels}
 use Rattle.aig_parts.specs.Literal.{variable}
 use Rattle.aig_base.specs.Readers.{AreReaders, Reads}
-use Rattle.aig_base.proofs.AppendedLevels.{level_fits, more_levels}
-use Rattle.aig_base.proofs.AppendedReaders.{more_readers, readers_kept}
-use Rattle.aig_base.proofs.Gates.{defined_in_range}
-use Rattle.aig_base.proofs.ReaderLists.{kept_size, on_err, room_kept, slots_size, tallied}
-use Rattle.aig_base.proofs.TidyLists.{absent_over, tidy_tallied}
+use Rattle.aig_base.proofs.growth.AppendedLevels.{level_fits, more_levels}
+use Rattle.aig_base.proofs.growth.AppendedReaders.{more_readers, readers_kept}
+use Rattle.aig_base.proofs.circuits.Gates.{defined_in_range}
+use Rattle.aig_base.proofs.fan_outs.ReaderLists.{kept_size, on_err, room_kept, slots_size, tallied}
+use Rattle.aig_base.proofs.fan_outs.TidyLists.{absent_over, tidy_tallied}
 use Rattle.aig_base.proofs.append.append_gate.Goals as goal
 
 pub make_room_for_list-requires-clause-within0 : goal.make_room_for_list-requires-clause-within0

@@ -1,7 +1,7 @@
 use Rattle.std.proofs.Common.{inl, inr, subst, sym, arith}
 use Rattle.aig_base.specs.state.Rewires.{IsApart, IsBehind}
-use Rattle.aig_base.proofs.Gates.{defined_in_range}
-use Rattle.aig_base.proofs.Searches.{apart_at, on_false}
+use Rattle.aig_base.proofs.circuits.Gates.{defined_in_range}
+use Rattle.aig_base.proofs.rewires.Searches.{apart_at, on_false}
 use Rattle.aig_base.proofs.behind.is_behind.Goals as goal
 use Rattle.aig_base.proofs.behind.is_behind.Goals.{then-first-gate-via-then-first-gate}
 use Rattle.aig_base.proofs.behind.is_behind.Goals.{then-first-gate-via-else-first-gate+then-second-gate}

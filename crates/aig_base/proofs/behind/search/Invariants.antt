@@ -1,5 +1,5 @@
 use Rattle.std.proofs.Common.{◌+◌, ◌-◌, length, not, count_by}
-use Rattle.aig_base.proofs.Searches.{IsSearch}
+use Rattle.aig_base.proofs.rewires.Searches.{IsSearch}
 use Rattle.aig_base.proofs.behind.search.Given as goal
 
 abbrev pub invariant-loop-next : goal.invariant-loop-next

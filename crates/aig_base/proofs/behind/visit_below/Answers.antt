@@ -1,7 +1,7 @@
 use Rattle.std.proofs.Common.{take, get_or, arith}
 use Rattle.std.proofs.lemmas.List.{take_more}
-use Rattle.aig_base.proofs.Searches.{looks_more}
-use Rattle.aig_base.proofs.VisitLemmas.{among_more, among_same, among_wider, Contains-of_take}
+use Rattle.aig_base.proofs.rewires.Searches.{looks_more}
+use Rattle.aig_base.proofs.rewires.VisitLemmas.{among_more, among_same, among_wider, Contains-of_take}
 use Rattle.aig_base.proofs.behind.visit_below.Goals as goal
 use Rattle.aig_base.proofs.behind.visit_below.Goals.{then-levels-reader, else-levels-reader}
 

@@ -1,4 +1,4 @@
-use Rattle.aig_base.proofs.Evens.{apart, joined}
+use Rattle.aig_base.proofs.lists.Evens.{apart, joined}
 use Rattle.aig_base.proofs.check.are_in_order.Goals as goal
 
 pub returns : goal.returns

@@ -1,5 +1,5 @@
 use Rattle.std.proofs.Common.{arith}
-use Rattle.aig_base.proofs.Faults.{known_by_count}
+use Rattle.aig_base.proofs.checks.Faults.{known_by_count}
 use Rattle.aig_base.proofs.check.least_missing.Goals as goal
 
 pub returns-then-len-raw : goal.returns-then-len-raw

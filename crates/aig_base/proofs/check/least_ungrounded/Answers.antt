@@ -3,7 +3,7 @@ use Rattle.aig_parts.specs.declared.gate.Gate.{Gate}
 use Rattle.aig_base.specs.state.Least.{IsLeastAmong, IsMarkedGate, IsGroundedGate, gate_variable}
 use Rattle.aig_parts.specs.Literal.{variable}
 use Rattle.aig_base.specs.state.Marks.{HasParts}
-use Rattle.aig_base.proofs.LeastAmong.{least_same}
+use Rattle.aig_base.proofs.lists.LeastAmong.{least_same}
 use Rattle.aig_base.proofs.check.least_ungrounded.Goals as goal
 
 pub least_unmarked-requires : goal.least_unmarked-requires

@@ -4,8 +4,8 @@ use Rattle.aig_base.specs.state.Entries.{IsLeastTwice, AreEntries}
 use Rattle.aig_base.specs.state.Least.{IsLeastAmong, IsKnown}
 use Rattle.aig_parts.specs.Literal.{variable}
 use Rattle.aig_base.specs.Sections.{definitions, uses}
-use Rattle.aig_base.proofs.Faults.{first_definition, first_redefined, first_undefined, once_from_table}
-use Rattle.aig_base.proofs.Faults.{table_from_entries}
+use Rattle.aig_base.proofs.checks.Faults.{first_definition, first_redefined, first_undefined, once_from_table}
+use Rattle.aig_base.proofs.checks.Faults.{table_from_entries}
 use Rattle.aig_base.proofs.check.listed_definitions.Goals as goal
 
 pub returns-then-not-are_definitions-clause-fault : goal.returns-then-not-are_definitions-clause-fault

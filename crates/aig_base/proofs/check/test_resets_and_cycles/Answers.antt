@@ -3,9 +3,9 @@ use Rattle.aig_parts.specs.declared.gate.Gate.{Gate}
 use Rattle.aig_parts.specs.declared.latch.Latch.{Latch}
 use Rattle.aig_base.specs.state.Least.{IsLeastAmong, IsGroundedGate, ReadsSmaller, gate_variable, latch_variable}
 use Rattle.aig_base.specs.Sound.{IsReset}
-use Rattle.aig_base.proofs.Ascending.{all_grounded}
-use Rattle.aig_base.proofs.Faults.{first_reset, first_cycle, circuit_from_tests}
-use Rattle.aig_base.proofs.TriedLevelLemmas.{tried_are_levels, tried_grounded}
+use Rattle.aig_base.proofs.checks.Ascending.{all_grounded}
+use Rattle.aig_base.proofs.checks.Faults.{first_reset, first_cycle, circuit_from_tests}
+use Rattle.aig_base.proofs.checks.TriedLevelLemmas.{tried_are_levels, tried_grounded}
 use Rattle.aig_base.proofs.check.test_resets_and_cycles.Goals as goal
 
 pub returns-in-Some-clause-fault : goal.returns-in-Some-clause-fault

@@ -1,5 +1,5 @@
 use Rattle.std.proofs.Common.{sym, ◌∙◌, true≢false}
-use Rattle.aig_base.proofs.Faults.{first_range}
+use Rattle.aig_base.proofs.checks.Faults.{first_range}
 use Rattle.aig_base.proofs.check.tested.Goals as goal
 
 pub returns-then-not-are_in_range-clause-fault : goal.returns-then-not-are_in_range-clause-fault

@@ -1,4 +1,4 @@
-use Rattle.aig_base.proofs.InOrder.{defined_once}
+use Rattle.aig_base.proofs.circuits.InOrder.{defined_once}
 use Rattle.aig_base.proofs.check.tested_definitions.Goals as goal
 
 pub returns-then-are_in_order-clause-once : goal.returns-then-are_in_order-clause-once

@@ -1,8 +1,8 @@
 use Rattle.std.proofs.Common.{◌≡◌, ◌+◌, ◌∙◌, sym, ap, length, replicate, false, arith}
 use Rattle.std.proofs.lemmas.List.{nil_from_length, length-replicate}
-use Rattle.aig_base.proofs.Gates.{defined_in_range}
-use Rattle.aig_base.proofs.Walks.{search_begin, search_gate, search_pass, search_found, search_done, side_fits}
-use Rattle.aig_base.proofs.Walks.{meets_size, meets_left}
+use Rattle.aig_base.proofs.circuits.Gates.{defined_in_range}
+use Rattle.aig_base.proofs.checks.Walks.{search_begin, search_gate, search_pass, search_found, search_done, side_fits}
+use Rattle.aig_base.proofs.checks.Walks.{meets_size, meets_left}
 use Rattle.aig_base.proofs.cycle.would_cycle.Goals as goal
 
 pub meet-requires : goal.meet-requires

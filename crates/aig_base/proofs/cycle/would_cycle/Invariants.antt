@@ -1,5 +1,5 @@
 use Rattle.std.proofs.Common.{◌+◌, not, count_by, vec_len}
-use Rattle.aig_base.proofs.Walks.{IsSearch}
+use Rattle.aig_base.proofs.checks.Walks.{IsSearch}
 use Rattle.aig_base.proofs.cycle.would_cycle.Given as goal
 
 abbrev pub invariant-loop-number : goal.invariant-loop-number

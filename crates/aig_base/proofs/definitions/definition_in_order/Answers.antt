@@ -1,5 +1,5 @@
 use Rattle.std.proofs.Common.{◌<◌, arith}
-use Rattle.aig_base.proofs.InOrder.{free_past_all, free_zero, gate_defines, input_defines, latch_defines, size_is}
+use Rattle.aig_base.proofs.circuits.InOrder.{free_past_all, free_zero, gate_defines, input_defines, latch_defines, size_is}
 use Rattle.aig_base.proofs.definitions.definition_in_order.Goals as goal
 
 pub returns-then-variable-eq0-clause-none : goal.returns-then-variable-eq0-clause-none

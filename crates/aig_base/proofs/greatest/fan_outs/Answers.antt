@@ -1,9 +1,9 @@
 use Rattle.std.proofs.Common.{◌≡◌, ◌+◌, ◌<◌, ◌≤◌, ◌∙◌, cond, length, get_or, count_by, ap, sym, subst, arith}
 use Rattle.std.proofs.lemmas.List.{with_items_is, take_all}
 use Rattle.aig_base.specs.Greatest.{reads}
-use Rattle.aig_base.proofs.Gates.{sides_in_range}
-use Rattle.aig_base.proofs.GreatestLemmas.{count_more, count_within}
-use Rattle.aig_base.proofs.ReaderLists.{gate_at}
+use Rattle.aig_base.proofs.circuits.Gates.{sides_in_range}
+use Rattle.aig_base.proofs.levels.GreatestLemmas.{count_more, count_within}
+use Rattle.aig_base.proofs.fan_outs.ReaderLists.{gate_at}
 use Rattle.aig_base.proofs.greatest.fan_outs.Goals as goal
 
 pub count_gate-requires-clause-first : goal.count_gate-requires-clause-first

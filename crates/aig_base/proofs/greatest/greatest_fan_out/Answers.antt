@@ -1,5 +1,5 @@
 use Rattle.std.proofs.Common.{subst, Contains, All, ◌≤◌}
-use Rattle.aig_base.proofs.GreatestLemmas.{fan_out_so}
+use Rattle.aig_base.proofs.levels.GreatestLemmas.{fan_out_so}
 use Rattle.aig_base.proofs.greatest.greatest_fan_out.Goals as goal
 
 pub returns : goal.returns

@@ -1,9 +1,9 @@
 use Rattle.std.proofs.Common.{◌≡◌, ◌<◌, max, get_or, length, ap, subst, arith}
 use Rattle.aig_base.specs.Grounded as by
 use Rattle.aig_parts.specs.Literal.{variable}
-use Rattle.aig_base.proofs.Gates.{gate_in_range, IsGate-of_gate}
-use Rattle.aig_base.proofs.GreatestLemmas.{level_listed, reached_more, within_more, greatest_so}
-use Rattle.aig_base.proofs.ReaderLists.{gate_at}
+use Rattle.aig_base.proofs.circuits.Gates.{gate_in_range, IsGate-of_gate}
+use Rattle.aig_base.proofs.levels.GreatestLemmas.{level_listed, reached_more, within_more, greatest_so}
+use Rattle.aig_base.proofs.fan_outs.ReaderLists.{gate_at}
 use Rattle.aig_base.proofs.greatest.greatest_level.Goals as goal
 
 pub loop-gate-init : goal.loop-gate-init

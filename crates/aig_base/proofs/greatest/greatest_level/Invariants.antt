@@ -1,6 +1,6 @@
 use Rattle.std.proofs.Common.{ℕ}
 use Rattle.aig_base.specs.Grounded.{Level}
-use Rattle.aig_base.proofs.GreatestLemmas.{AreLevelsWithin}
+use Rattle.aig_base.proofs.levels.GreatestLemmas.{AreLevelsWithin}
 use Rattle.aig_base.proofs.greatest.greatest_level.Given as goal
 
 abbrev pub invariant-loop-gate : goal.invariant-loop-gate

@@ -1,4 +1,4 @@
-use Rattle.aig_base.proofs.GreatestLemmas.{contains_more, bounded_more}
+use Rattle.aig_base.proofs.levels.GreatestLemmas.{contains_more, bounded_more}
 use Rattle.aig_base.proofs.greatest.greatest_of.Goals as goal
 
 pub loop-number-preserved : goal.loop-number-preserved

@@ -2,7 +2,7 @@ use Rattle.std.proofs.Common.{◌≡◌, ◌∷◌, ◌++◌, ℕ, List, map, re
 use Rattle.aig_base.specs.state.Least.{latch_variable}
 use Rattle.aig_parts.specs.Literal.{variable}
 use Rattle.aig_base.specs.state.Marks.{IsMarking}
-use Rattle.aig_base.proofs.Marking.{source_variables, started_same, marking_starts, marking_ends}
+use Rattle.aig_base.proofs.checks.Marking.{source_variables, started_same, marking_starts, marking_ends}
 use Rattle.aig_base.proofs.grounded.grounded_marks.Goals as goal
 
 pub returns : goal.returns

@@ -1,4 +1,4 @@
-use Rattle.aig_base.proofs.Refined.{kept}
+use Rattle.aig_base.proofs.values.Refined.{kept}
 use Rattle.aig_base.proofs.laws.law_of_completion.Goals as goal
 
 pub returns : goal.returns

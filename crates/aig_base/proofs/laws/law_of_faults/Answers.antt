@@ -1,5 +1,5 @@
-use Rattle.aig_base.proofs.Acyclic.{acyclic}
-use Rattle.aig_base.proofs.NoFault.{no_fault, sound}
+use Rattle.aig_base.proofs.checks.Acyclic.{acyclic}
+use Rattle.aig_base.proofs.checks.NoFault.{no_fault, sound}
 use Rattle.aig_base.proofs.laws.law_of_faults.Goals as goal
 
 pub returns-clause-circuit : goal.returns-clause-circuit

@@ -1,5 +1,5 @@
-use Rattle.aig_base.proofs.OneLevel.{level_of, Grounded-of_level, same_level}
-use Rattle.aig_base.proofs.OneOrder.{one_order}
+use Rattle.aig_base.proofs.levels.OneLevel.{level_of, Grounded-of_level, same_level}
+use Rattle.aig_base.proofs.levels.OneOrder.{one_order}
 use Rattle.aig_base.proofs.laws.law_of_levels.Goals as goal
 
 pub returns-clause-level : goal.returns-clause-level

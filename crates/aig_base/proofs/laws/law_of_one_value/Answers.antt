@@ -1,4 +1,4 @@
-use Rattle.aig_base.proofs.OneValue.{have_one_value}
+use Rattle.aig_base.proofs.values.OneValue.{have_one_value}
 use Rattle.aig_base.proofs.laws.law_of_one_value.Goals as goal
 
 pub returns : goal.returns

@@ -1,7 +1,7 @@
 use Rattle.std.proofs.Common.{Some, sym, ◌∙◌, true≢false}
 use Rattle.aig_base.specs.state.Least.{latch_variable}
 use Rattle.aig_base.specs.Sound.{IsReset}
-use Rattle.aig_base.proofs.LeastAmong.{least_more, least_kept, bad_one}
+use Rattle.aig_base.proofs.lists.LeastAmong.{least_more, least_kept, bad_one}
 use Rattle.aig_base.proofs.least.least_bad_reset.Goals as goal
 use Rattle.aig_base.proofs.least.least_bad_reset.Goals.{then-not-is_reset, else-not-is_reset}
 

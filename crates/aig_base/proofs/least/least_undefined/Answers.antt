@@ -4,7 +4,7 @@ use Rattle.aig_parts.specs.declared.latch.Latch.{Latch}
 use Rattle.aig_parts.specs.declared.gate.Gate.{Gate}
 use Rattle.aig_base.specs.state.Least.{IsKnown, IsLeastAmong}
 use Rattle.aig_parts.specs.Literal.{variable}
-use Rattle.aig_base.proofs.LeastAmong.{least_joined}
+use Rattle.aig_base.proofs.lists.LeastAmong.{least_joined}
 use Rattle.aig_base.proofs.least.least_undefined.Goals as goal
 
 pub returns : goal.returns

@@ -1,6 +1,6 @@
 use Rattle.aig_base.specs.state.Least.{IsKnown}
 use Rattle.aig_parts.specs.Literal.{variable}
-use Rattle.aig_base.proofs.LeastAmong.{least_more}
+use Rattle.aig_base.proofs.lists.LeastAmong.{least_more}
 use Rattle.aig_base.proofs.least.least_unknown.Goals as goal
 
 pub loop-literal-preserved : goal.loop-literal-preserved

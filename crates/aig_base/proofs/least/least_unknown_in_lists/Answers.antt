@@ -1,7 +1,7 @@
 use Rattle.std.proofs.Common.{ℕ, List, subst}
 use Rattle.aig_base.specs.state.Least.{IsKnown, IsLeastAmong}
 use Rattle.aig_parts.specs.Literal.{variable}
-use Rattle.aig_base.proofs.LeastAmong.{least_more_pieces}
+use Rattle.aig_base.proofs.lists.LeastAmong.{least_more_pieces}
 use Rattle.aig_base.proofs.least.least_unknown_in_lists.Goals as goal
 
 pub loop-list-preserved : goal.loop-list-preserved

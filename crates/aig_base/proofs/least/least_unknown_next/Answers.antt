@@ -1,7 +1,7 @@
 use Rattle.aig_parts.specs.declared.latch.Latch.{Latch}
 use Rattle.aig_base.specs.state.Least.{IsKnown}
 use Rattle.aig_parts.specs.Literal.{variable}
-use Rattle.aig_base.proofs.LeastAmong.{least_more_mapped}
+use Rattle.aig_base.proofs.lists.LeastAmong.{least_more_mapped}
 use Rattle.aig_base.proofs.least.least_unknown_next.Goals as goal
 
 pub loop-latch-preserved : goal.loop-latch-preserved

@@ -2,7 +2,7 @@ use Rattle.std.proofs.Common.{ℕ, [], ◌∷◌, Option, subst, sym}
 use Rattle.aig_parts.specs.declared.gate.Gate.{Gate}
 use Rattle.aig_base.specs.state.Least.{IsKnown, IsLeastAmong}
 use Rattle.aig_parts.specs.Literal.{variable}
-use Rattle.aig_base.proofs.LeastAmong.{least_of_both, least_more_pieces}
+use Rattle.aig_base.proofs.lists.LeastAmong.{least_of_both, least_more_pieces}
 use Rattle.aig_base.proofs.least.least_unknown_side.Goals as goal
 
 pub loop-gate-preserved : goal.loop-gate-preserved

@@ -3,7 +3,7 @@ use Rattle.std.proofs.Common.{true≢false}
 use Rattle.std.proofs.lemmas.Option.{slice_get-get_or, same_Some}
 use Rattle.aig_parts.specs.declared.gate.Gate.{Gate}
 use Rattle.aig_base.specs.state.Least.{IsMarkedGate, gate_variable}
-use Rattle.aig_base.proofs.LeastAmong.{least_more, least_kept, bad_one}
+use Rattle.aig_base.proofs.lists.LeastAmong.{least_more, least_kept, bad_one}
 use Rattle.aig_base.proofs.least.least_unmarked.Goals as goal
 use Rattle.aig_base.proofs.least.least_unmarked.Goals.{then-not-marks-variable, else-not-marks-variable}
 

@@ -1,7 +1,7 @@
 use Rattle.std.proofs.Common.{◌∙◌, length, sym, ap, refl, arith}
-use Rattle.aig_base.proofs.Gates.{sides_in_range}
-use Rattle.aig_base.proofs.Descents.{split_at_last, split_popped, side_within, top_in_range, descent_side, descent_gate}
-use Rattle.aig_base.proofs.Descents.{descent_other, meets_fresh, under_way_side}
+use Rattle.aig_base.proofs.circuits.Gates.{sides_in_range}
+use Rattle.aig_base.proofs.levels.Descents.{split_at_last, split_popped, side_within, top_in_range, descent_side, descent_gate}
+use Rattle.aig_base.proofs.levels.Descents.{descent_other, meets_fresh, under_way_side}
 use Rattle.aig_base.proofs.level.settle.Goals as goal
 use Rattle.aig_base.proofs.level.settle.Goals.{in-Some-gate_of+in_default-unmet_side, in_default-gate_of}
 

@@ -1,5 +1,5 @@
 use Rattle.std.proofs.Common.{◌+◌, ◌*◌, not, count_by, vec_len}
-use Rattle.aig_base.proofs.Descents.{IsUnderWay}
+use Rattle.aig_base.proofs.levels.Descents.{IsUnderWay}
 use Rattle.aig_base.proofs.level.settle.Given as goal
 
 abbrev pub invariant-loop-top : goal.invariant-loop-top

@@ -1,6 +1,6 @@
 use Rattle.std.proofs.Common.{◌<◌, length, arith}
 use Rattle.std.proofs.lemmas.List.{take_at}
-use Rattle.aig_base.proofs.Descents.{descent_root, swept_more, swept_all}
+use Rattle.aig_base.proofs.levels.Descents.{descent_root, swept_more, swept_all}
 use Rattle.aig_base.proofs.level.walked_levels.Goals as goal
 
 pub settle-requires : goal.settle-requires

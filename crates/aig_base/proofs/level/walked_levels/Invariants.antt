@@ -1,4 +1,4 @@
-use Rattle.aig_base.proofs.Descents.{IsSwept}
+use Rattle.aig_base.proofs.levels.Descents.{IsSwept}
 use Rattle.aig_base.proofs.level.walked_levels.Given as goal
 
 abbrev pub invariant-loop-variable : goal.invariant-loop-variable

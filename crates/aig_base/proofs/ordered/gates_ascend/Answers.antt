@@ -1,7 +1,7 @@
 use Rattle.std.proofs.Common.{◌∙◌, ℕ, get_or, sym, ap, subst, map}
 use Rattle.std.proofs.lemmas.List.{length-map, get_or-map, get_or_default}
 use borrow.Author.Count.{below_more}
-use Rattle.aig_base.proofs.Evens.{in_order_more}
+use Rattle.aig_base.proofs.lists.Evens.{in_order_more}
 use Rattle.aig_base.specs.state.Least.{ReadsSmaller}
 use Rattle.aig_base.proofs.ordered.gates_ascend.Goals as goal
 

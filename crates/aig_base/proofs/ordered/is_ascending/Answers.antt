@@ -1,5 +1,5 @@
 use Rattle.std.proofs.Common.{arith}
-use Rattle.aig_base.proofs.Evens.{joined}
+use Rattle.aig_base.proofs.lists.Evens.{joined}
 use Rattle.aig_base.proofs.ordered.is_ascending.Goals as goal
 
 pub returns-clause-order : goal.returns-clause-order

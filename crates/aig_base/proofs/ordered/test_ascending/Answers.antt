@@ -2,9 +2,9 @@ use Rattle.std.proofs.Common.{List, Some, None, sym, ◌∙◌, subst, true≢fa
 use Rattle.aig_parts.specs.declared.latch.Latch.{Latch}
 use Rattle.aig_base.specs.state.Least.{IsLeastAmong, latch_variable}
 use Rattle.aig_base.specs.Sound.{IsReset}
-use Rattle.aig_base.proofs.Ascending.{all_grounded}
-use Rattle.aig_base.proofs.Faults.{circuit_from_tests, first_range, first_reset}
-use Rattle.aig_base.proofs.InOrder.{defined_once, range_from_sections}
+use Rattle.aig_base.proofs.checks.Ascending.{all_grounded}
+use Rattle.aig_base.proofs.checks.Faults.{circuit_from_tests, first_range, first_reset}
+use Rattle.aig_base.proofs.circuits.InOrder.{defined_once, range_from_sections}
 use Rattle.aig_base.proofs.ordered.test_ascending.Goals as goal
 
 pub returns-then-not-sections_are_in_range-clause-fault : goal.returns-then-not-sections_are_in_range-clause-fault

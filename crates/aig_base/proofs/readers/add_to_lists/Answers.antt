@@ -1,4 +1,4 @@
-use Rattle.aig_base.proofs.ReaderLists.{adds_two, adds_once}
+use Rattle.aig_base.proofs.fan_outs.ReaderLists.{adds_two, adds_once}
 use Rattle.aig_base.proofs.readers.add_to_lists.Goals as goal
 
 pub returns-then-second-first-clause-adds : goal.returns-then-second-first-clause-adds

@@ -1,4 +1,4 @@
-use Rattle.aig_base.proofs.ListPlaceLemmas.{items_pushed, tidy_same}
+use Rattle.aig_base.proofs.fan_outs.ListPlaceLemmas.{items_pushed, tidy_same}
 use Rattle.aig_base.proofs.readers.append_list.Goals as goal
 
 pub add_to_both-requires-clause-tidy : goal.add_to_both-requires-clause-tidy

@@ -1,7 +1,7 @@
 use Rattle.std.proofs.Common.{◌∙◌, count_by, nat_eq, ap}
 use Rattle.aig_parts.specs.Literal.{variable}
-use Rattle.aig_base.proofs.ListPlaceLemmas.{tidy_same}
-use Rattle.aig_base.proofs.ReaderLists.{kept_items}
+use Rattle.aig_base.proofs.fan_outs.ListPlaceLemmas.{tidy_same}
+use Rattle.aig_base.proofs.fan_outs.ReaderLists.{kept_items}
 use Rattle.aig_base.proofs.readers.list_gate.Goals as goal
 
 pub add_to_both-requires-clause-absent : goal.add_to_both-requires-clause-absent

@@ -1,8 +1,8 @@
 use Rattle.std.proofs.Common.{◌∙◌, ◌+◌, length, subst, sym, ap, arith}
 use Rattle.std.proofs.lemmas.List.{with_items_is}
 use Rattle.aig_base.specs.state.ListPlaces.{AreKept, IsCoveredTo}
-use Rattle.aig_base.proofs.ListPlaceLemmas.{kept_more}
-use Rattle.aig_base.proofs.ReaderLists.{kept_size, on_ok}
+use Rattle.aig_base.proofs.fan_outs.ListPlaceLemmas.{kept_more}
+use Rattle.aig_base.proofs.fan_outs.ReaderLists.{kept_size, on_ok}
 use Rattle.aig_base.proofs.readers.make_room_for_list.Goals as goal
 
 pub returns-clause-kept : goal.returns-clause-kept

@@ -1,4 +1,4 @@
-use Rattle.aig_base.proofs.ReaderLists.{gone_after}
+use Rattle.aig_base.proofs.fan_outs.ReaderLists.{gone_after}
 use Rattle.aig_base.proofs.readers.move_gate.Goals as goal
 
 pub add_to_both-requires-clause-absent : goal.add_to_both-requires-clause-absent

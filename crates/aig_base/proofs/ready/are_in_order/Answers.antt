@@ -1,4 +1,4 @@
-use Rattle.aig_base.proofs.Evens.{apart, joined}
+use Rattle.aig_base.proofs.lists.Evens.{apart, joined}
 use Rattle.aig_base.proofs.ready.are_in_order.Goals as goal
 
 pub returns-then-keeps_order : goal.returns-then-keeps_order

@@ -1,6 +1,6 @@
 use Rattle.std.proofs.Common.{refl, sym}
 use Rattle.std.proofs.lemmas.List.{get_or_read}
-use Rattle.aig_base.proofs.Evens.{in_order_more, in_order_no}
+use Rattle.aig_base.proofs.lists.Evens.{in_order_more, in_order_no}
 use Rattle.aig_base.proofs.ready.inputs_in_order.Goals as goal
 
 pub returns-then-not-is_even_of : goal.returns-then-not-is_even_of

@@ -1,6 +1,6 @@
 use Rattle.std.proofs.Common.{◌∙◌, sym, ap, map}
 use Rattle.std.proofs.lemmas.List.{length-map, get_or-map}
-use Rattle.aig_base.proofs.Evens.{in_order_more, in_order_no}
+use Rattle.aig_base.proofs.lists.Evens.{in_order_more, in_order_no}
 use Rattle.aig_base.proofs.ready.latches_in_order.Goals as goal
 
 pub returns-then-not-is_even_of : goal.returns-then-not-is_even_of

@@ -1,7 +1,7 @@
 use Rattle.std.proofs.Common.{get_or, take}
 use Rattle.std.proofs.lemmas.List.{take_more}
-use Rattle.aig_base.proofs.QueueLemmas.{queues_more}
-use Rattle.aig_base.proofs.VisitLemmas.{among_more}
+use Rattle.aig_base.proofs.rewires.QueueLemmas.{queues_more}
+use Rattle.aig_base.proofs.rewires.VisitLemmas.{among_more}
 use Rattle.aig_base.proofs.renewal.queue_all.Goals as goal
 
 pub loop-reader-preserved : goal.loop-reader-preserved

@@ -1,6 +1,6 @@
 use Rattle.std.proofs.Common.{refl}
-use Rattle.aig_base.proofs.QueueLemmas.{not_visited, queued_new}
-use Rattle.aig_base.proofs.VisitLemmas.{is_off}
+use Rattle.aig_base.proofs.rewires.QueueLemmas.{not_visited, queued_new}
+use Rattle.aig_base.proofs.rewires.VisitLemmas.{is_off}
 use Rattle.aig_base.proofs.renewal.queue_one.Goals as goal
 
 pub returns-then-not-index : goal.returns-then-not-index

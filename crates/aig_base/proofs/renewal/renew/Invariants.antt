@@ -1,5 +1,5 @@
 use Rattle.std.proofs.Common.{◌+◌, length, not, count_by}
-use Rattle.aig_base.proofs.Passes.{IsPass}
+use Rattle.aig_base.proofs.rewires.Passes.{IsPass}
 use Rattle.aig_base.proofs.renewal.renew.Given as goal
 
 abbrev pub invariant-loop-variable : goal.invariant-loop-variable

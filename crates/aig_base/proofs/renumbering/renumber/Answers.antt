@@ -4,9 +4,9 @@ use Rattle.aig_base.specs.Circuit.{IsCircuit}
 use Rattle.aig_base.specs.Order.{IsCanonicalOrder}
 use Rattle.aig_base.specs.Renumbered.{renumbered}
 use Rattle.aig_base.specs.RenumberingTable.{IsRenumbering, renumbered_by}
-use Rattle.aig_base.proofs.RenumberedCircuit.{renumbered_circuit}
-use Rattle.aig_base.proofs.RenumberedParts.{all_listed, renumbered_same}
-use Rattle.aig_base.proofs.RenumberedReady.{renumbered_ready}
+use Rattle.aig_base.proofs.renumbered.RenumberedCircuit.{renumbered_circuit}
+use Rattle.aig_base.proofs.renumbered.RenumberedParts.{all_listed, renumbered_same}
+use Rattle.aig_base.proofs.renumbered.RenumberedReady.{renumbered_ready}
 use Rattle.aig_base.proofs.renumbering.renumber.Goals as goal
 
 -- the parts that were built

@@ -1,8 +1,8 @@
-use Rattle.aig_base.proofs.NoOtherValue.{no_other_value}
-use Rattle.aig_base.proofs.RenumberedCircuit.{renumbered_circuit}
-use Rattle.aig_base.proofs.RenumberedReady.{renumbered_ready}
-use Rattle.aig_base.proofs.RenumberedStart.{start_stays}
-use Rattle.aig_base.proofs.RenumberedValueLemmas.{renumbered_value}
+use Rattle.aig_base.proofs.renumbered.NoOtherValue.{no_other_value}
+use Rattle.aig_base.proofs.renumbered.RenumberedCircuit.{renumbered_circuit}
+use Rattle.aig_base.proofs.renumbered.RenumberedReady.{renumbered_ready}
+use Rattle.aig_base.proofs.renumbered.RenumberedStart.{start_stays}
+use Rattle.aig_base.proofs.renumbered.RenumberedValueLemmas.{renumbered_value}
 use Rattle.aig_base.proofs.renumbering_laws.law_of_renumbering.Goals as goal
 
 pub returns-clause-circuit : goal.returns-clause-circuit

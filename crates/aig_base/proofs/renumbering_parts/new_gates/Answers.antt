@@ -4,8 +4,8 @@ use Rattle.std.proofs.lemmas.List.Elements.{All-contains}
 use Rattle.aig_parts.specs.declared.gate.Gate.{Gate}
 use Rattle.aig_base.specs.Renumbered.{ordered_gates}
 use Rattle.aig_base.specs.RenumberingTable.{IsGateListed, gate_by}
-use Rattle.aig_base.proofs.Positions.{Contains-from_slice_get}
-use Rattle.aig_base.proofs.Renumberings.{gate_stands, ordered_some, ordered_none}
+use Rattle.aig_base.proofs.lists.Positions.{Contains-from_slice_get}
+use Rattle.aig_base.proofs.renumbered.Renumberings.{gate_stands, ordered_some, ordered_none}
 use Rattle.aig_base.proofs.renumbering_parts.new_gates.Goals.{in-Some+in_ok-push, in_default}
 use Rattle.aig_base.proofs.renumbering_parts.new_gates.Goals as goal
 

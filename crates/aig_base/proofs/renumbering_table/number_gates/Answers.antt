@@ -1,6 +1,6 @@
 use Rattle.std.proofs.Common.{ap, length, arith}
-use Rattle.aig_base.proofs.Counting.{length-order}
-use Rattle.aig_base.proofs.Renumberings.{order_below, renumbering_more}
+use Rattle.aig_base.proofs.lists.Counting.{length-order}
+use Rattle.aig_base.proofs.renumbered.Renumberings.{order_below, renumbering_more}
 use Rattle.aig_base.proofs.renumbering_table.number_gates.Goals as goal
 
 pub overflow_cast-table : goal.overflow_cast-table

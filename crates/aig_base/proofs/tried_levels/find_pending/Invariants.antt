@@ -1,6 +1,6 @@
 use Rattle.std.proofs.Common.{◌≡◌, ◌+◌, ◌*◌, ◌<◌, All, length, vec_len}
 use Rattle.aig_base.specs.state.TriedLevels.{ReadsBelow}
-use Rattle.aig_base.proofs.TriedLevelLemmas.{unmet}
+use Rattle.aig_base.proofs.checks.TriedLevelLemmas.{unmet}
 use Rattle.aig_base.proofs.tried_levels.find_pending.Given as goal
 
 abbrev pub invariant-loop-top : goal.invariant-loop-top

@@ -1,4 +1,4 @@
-use Rattle.aig_bench.proofs.Definitions.{defined_by}
+use Rattle.aig_bench.proofs.cells.Definitions.{defined_by}
 use Rattle.aig_bench.proofs.allowed.is_defined.Goals as goal
 
 pub returns-else-variable-eq0 : goal.returns-else-variable-eq0

@@ -1,4 +1,4 @@
-use Rattle.aig_bench.proofs.Named.{gate_answer, gate_not_named}
+use Rattle.aig_bench.proofs.edits.Named.{gate_answer, gate_not_named}
 use Rattle.aig_bench.proofs.allowed.is_left_side.Goals as goal
 
 pub returns-in-Some-Gate : goal.returns-in-Some-Gate

@@ -1,4 +1,4 @@
-use Rattle.aig_bench.proofs.Named.{none_named, latch_answers, latch_answers_none}
+use Rattle.aig_bench.proofs.edits.Named.{none_named, latch_answers, latch_answers_none}
 use Rattle.aig_bench.proofs.allowed.latch_position.Goals as goal
 
 pub returns-in-Some-Input-clause-none : goal.returns-in-Some-Input-clause-none

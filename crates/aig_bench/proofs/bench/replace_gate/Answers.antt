@@ -1,8 +1,8 @@
 use Rattle.std.proofs.Common.{arith, rules}
 use Rattle.aig_parts.specs.Literal.{variable}
-use Rattle.aig_base.proofs.Gates.{defined_in_range}
-use Rattle.aig_bench.proofs.Changed.{readers_kept}
-use Rattle.aig_bench.proofs.LatchChains.{readers_rewired}
+use Rattle.aig_base.proofs.circuits.Gates.{defined_in_range}
+use Rattle.aig_bench.proofs.renewals.Changed.{readers_kept}
+use Rattle.aig_bench.proofs.carries.LatchChains.{readers_rewired}
 use Rattle.aig_bench.proofs.bench.replace_gate.Goals as goal
 
 pub make_room-requires-clause-first : goal.make_room-requires-clause-first

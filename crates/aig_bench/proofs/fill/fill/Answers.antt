@@ -1,6 +1,6 @@
 use Rattle.std.proofs.Common.{◌∙◌}
 use Rattle.aig_parts.specs.Literal.{variable}
-use Rattle.aig_bench.proofs.Swept.{current_swept, laid_out_swept, row_kept}
+use Rattle.aig_bench.proofs.new_frames.Swept.{current_swept, laid_out_swept, row_kept}
 use Rattle.aig_bench.proofs.fill.fill.Goals as goal
 
 pub returns-clause-grid : goal.returns-clause-grid

@@ -1,12 +1,12 @@
 use Rattle.std.proofs.Common.{◌≡◌, ◌∙◌, ℕ, Some, slice_get, refl, arith}
 use Rattle.aig_base.specs.Grounded as by
 use Rattle.aig_parts.specs.Literal.{variable}
-use Rattle.aig_base.proofs.Circuits.{input_definition}
+use Rattle.aig_base.proofs.circuits.Circuits.{input_definition}
 use Rattle.aig_sim.specs.InputRows.{row_at}
 use Rattle.aig_sim.proofs.Evaluation.{item_at, items_all, items_more}
 use Rattle.aig_bench.specs.state.Current.{Holds}
 use Rattle.aig_bench.specs.state.Setup.{pair_of}
-use Rattle.aig_bench.proofs.Values.{input_value}
+use Rattle.aig_bench.proofs.cells.Values.{input_value}
 use Rattle.aig_bench.proofs.fill.fill_inputs.Goals as goal
 
 pub loop-position-init : goal.loop-position-init

@@ -3,13 +3,13 @@ use Rattle.aig_parts.specs.declared.latch.Latch.{Latch}
 use Rattle.aig_base.specs.Grounded as by
 use Rattle.aig_parts.specs.Literal.{variable}
 use Rattle.aig_base.specs.Value.{start_of}
-use Rattle.aig_base.proofs.Circuits.{latch_definition}
+use Rattle.aig_base.proofs.circuits.Circuits.{latch_definition}
 use Rattle.aig_sim.specs.InputRows.{row_at}
 use Rattle.aig_sim.proofs.Evaluation.{item_at, items_all, items_more, renews_none, renews_then}
 use Rattle.aig_bench.specs.state.Current.{Holds}
 use Rattle.aig_bench.specs.state.Setup.{pair_of}
-use Rattle.aig_bench.proofs.Carrying.{before_kept}
-use Rattle.aig_bench.proofs.Values.{latch_value}
+use Rattle.aig_bench.proofs.carries.Carrying.{before_kept}
+use Rattle.aig_bench.proofs.cells.Values.{latch_value}
 use Rattle.aig_bench.proofs.fill.fill_latches.Goals as goal
 
 pub loop-latch-init : goal.loop-latch-init

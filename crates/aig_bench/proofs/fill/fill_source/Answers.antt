@@ -2,16 +2,16 @@ use Rattle.std.proofs.Common.{List, sym, ap, ◌∙◌, subst}
 use Rattle.aig_parts.specs.declared.ternary.Tern.{Tern}
 use Rattle.aig_base.specs.Grounded as by
 use Rattle.aig_base.specs.Value.{start_of}
-use Rattle.aig_base.proofs.Gates.{level_in_range}
+use Rattle.aig_base.proofs.circuits.Gates.{level_in_range}
 use Rattle.aig_sim.specs.state.Frame.{Renews}
 use Rattle.aig_sim.specs.InputRows.{row_at}
 use Rattle.aig_sim.proofs.Evaluation.{holds_new, renews_write}
 use Rattle.aig_bench.specs.state.Current.{Holds}
 use Rattle.aig_bench.specs.state.Setup.{pair_of}
-use Rattle.aig_bench.proofs.CellLemmas.{row_other}
-use Rattle.aig_bench.proofs.Flags.{source_flag}
-use Rattle.aig_bench.proofs.Swept.{row_put, source_inside}
-use Rattle.aig_bench.proofs.SweepSteps.{laid_out_written}
+use Rattle.aig_bench.proofs.cells.CellLemmas.{row_other}
+use Rattle.aig_bench.proofs.cells.Flags.{source_flag}
+use Rattle.aig_bench.proofs.new_frames.Swept.{row_put, source_inside}
+use Rattle.aig_bench.proofs.passes.SweepSteps.{laid_out_written}
 use Rattle.aig_bench.proofs.fill.fill_source.Goals as goal
 
 pub put_source-requires-clause-source : goal.put_source-requires-clause-source

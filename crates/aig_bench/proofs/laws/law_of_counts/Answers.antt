@@ -1,5 +1,5 @@
 use Rattle.aig_bench.specs.Touched.{Touches, Changes}
-use Rattle.aig_bench.proofs.RenewalLemmas.{one_count}
+use Rattle.aig_bench.proofs.renewals.RenewalLemmas.{one_count}
 use Rattle.aig_bench.proofs.laws.law_of_counts.Goals as goal
 
 pub returns-clause-touched : goal.returns-clause-touched

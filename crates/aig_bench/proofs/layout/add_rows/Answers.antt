@@ -1,6 +1,6 @@
 use Rattle.std.proofs.Common.{◌+◌, length, arith}
 use Rattle.aig_base.specs.Limits.{cell_limit}
-use Rattle.aig_bench.proofs.Layouts.{room_for_row}
+use Rattle.aig_bench.proofs.cells.Layouts.{room_for_row}
 use Rattle.aig_bench.proofs.layout.add_rows.Goals as goal
 
 pub add_row-requires-clause-limit : goal.add_row-requires-clause-limit

@@ -1,5 +1,5 @@
-use Rattle.aig_base.proofs.Gates.{found_decides}
-use Rattle.aig_bench.proofs.Layouts.{flags_more}
+use Rattle.aig_base.proofs.circuits.Gates.{found_decides}
+use Rattle.aig_bench.proofs.cells.Layouts.{flags_more}
 use Rattle.aig_bench.proofs.layout.gate_flags.Goals as goal
 
 pub loop-variable-preserved : goal.loop-variable-preserved

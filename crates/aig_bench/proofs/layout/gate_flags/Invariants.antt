@@ -1,4 +1,4 @@
-use Rattle.aig_bench.proofs.Layouts.{FlagsTo}
+use Rattle.aig_bench.proofs.cells.Layouts.{FlagsTo}
 use Rattle.aig_bench.proofs.layout.gate_flags.Given as goal
 
 abbrev pub invariant-loop-variable : goal.invariant-loop-variable

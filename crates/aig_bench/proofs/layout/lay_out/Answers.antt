@@ -1,6 +1,6 @@
 use Rattle.std.proofs.Common.{arith}
 use Rattle.aig_base.specs.Grounded as grounded
-use Rattle.aig_base.proofs.Circuits.{source-gate}
+use Rattle.aig_base.proofs.circuits.Circuits.{source-gate}
 use Rattle.aig_bench.proofs.layout.lay_out.Goals as goal
 
 pub new-requires-clause-constant : goal.new-requires-clause-constant

@@ -1,7 +1,7 @@
 use Rattle.std.proofs.Common.{◌≡◌, arith, length}
 use Rattle.aig_bench.specs.state.Setup.{pair_of}
-use Rattle.aig_bench.proofs.Edited.{before_first, current_more, fewer_current, none_current}
-use Rattle.aig_bench.proofs.EveryGate.{none_yet, once_more}
+use Rattle.aig_bench.proofs.edits.Edited.{before_first, current_more, fewer_current, none_current}
+use Rattle.aig_bench.proofs.passes.EveryGate.{none_yet, once_more}
 use Rattle.aig_bench.proofs.new_engine.fill_all.Goals as goal
 
 pub loop-frame-init : goal.loop-frame-init

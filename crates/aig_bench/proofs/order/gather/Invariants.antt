@@ -1,5 +1,5 @@
 use Rattle.std.proofs.Common.{◌≡◌, take}
-use Rattle.aig_bench.specs.state.Order.{gates_at}
+use Rattle.aig_bench.specs.state.SweepOrder.{gates_at}
 use Rattle.aig_bench.proofs.order.gather.Given as goal
 
 abbrev pub invariant-loop-place : goal.invariant-loop-place

@@ -1,4 +1,4 @@
-use Rattle.aig_base.proofs.Gates.{free_no_gate, input_no_gate, latch_no_gate}
+use Rattle.aig_base.proofs.circuits.Gates.{free_no_gate, input_no_gate, latch_no_gate}
 use Rattle.aig_bench.proofs.order.position_of.Goals as goal
 
 pub unreachable-requires : goal.unreachable-requires

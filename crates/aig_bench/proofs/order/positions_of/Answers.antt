@@ -1,7 +1,7 @@
 use Rattle.std.proofs.Common.{◌+◌, ◌∷◌, [], ◌++◌, get_or, sym, take, subst, List, ℕ}
 use Rattle.std.proofs.lemmas.List.{take_more}
-use Rattle.aig_bench.specs.state.Order.{ArePositions}
-use Rattle.aig_bench.proofs.GateLists.{positions_more}
+use Rattle.aig_bench.specs.state.SweepOrder.{ArePositions}
+use Rattle.aig_bench.proofs.new_frames.GateLists.{positions_more}
 use Rattle.aig_bench.proofs.order.positions_of.Goals as goal
 
 pub position_of-requires : goal.position_of-requires

@@ -1,5 +1,5 @@
 use Rattle.std.proofs.Common.{take}
-use Rattle.aig_bench.specs.state.Order.{ArePositions}
+use Rattle.aig_bench.specs.state.SweepOrder.{ArePositions}
 use Rattle.aig_bench.proofs.order.positions_of.Given as goal
 
 abbrev pub invariant-loop-variable : goal.invariant-loop-variable

@@ -1,6 +1,6 @@
 use Rattle.std.proofs.Common.{◌≡◌, ◌+◌, ◌-◌, ◌≤◌, length, take}
 use Rattle.aig_sim.specs.Cells.{with_swept_row}
-use Rattle.aig_bench.specs.state.Order.{gates_at}
+use Rattle.aig_bench.specs.state.SweepOrder.{gates_at}
 use Rattle.aig_bench.proofs.order.sweep_listed.Given as goal
 
 abbrev pub invariant-loop-done : goal.invariant-loop-done

@@ -1,7 +1,7 @@
 use Rattle.std.proofs.Common.{◌≡◌, ◌-◌, suc, arith}
 use Rattle.aig_bench.specs.state.Setup.{pair_of}
-use Rattle.aig_base.proofs.Circuits.{next_in_range}
-use Rattle.aig_bench.proofs.Values.{latch_starts, latch_follows}
+use Rattle.aig_base.proofs.circuits.Circuits.{next_in_range}
+use Rattle.aig_bench.proofs.cells.Values.{latch_starts, latch_follows}
 use Rattle.aig_bench.proofs.value.latch_value.Goals as goal
 
 pub literal_at-requires-clause-variable : goal.literal_at-requires-clause-variable

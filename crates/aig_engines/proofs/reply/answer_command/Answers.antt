@@ -1,6 +1,6 @@
 use Rattle.std.proofs.Common.{inl, inr, refl}
 use Rattle.std.specs.Prelude.{codes}
-use Rattle.aig_engines.specs.state.Meaning.{meaning}
+use Rattle.aig_engines.specs.state.CommandMeaning.{meaning}
 use Rattle.aig_engines.proofs.reply.answer_command.Goals as goal
 
 pub returns-in-Some : goal.returns-in-Some

@@ -1,5 +1,5 @@
 use Rattle.std.proofs.Common.{◌∙◌, ap, subst, List, ℕ}
-use Rattle.aig_format.specs.Verdict.{IsReading}
+use Rattle.aig_format.specs.FileReading.{IsReading}
 use Rattle.aig_format.proofs.Holding.{first_left, told_by}
 use Rattle.aig_format.proofs.reader.read_from.Goals as goal
 

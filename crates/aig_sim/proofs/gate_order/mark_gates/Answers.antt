@@ -1,7 +1,7 @@
 use Rattle.std.proofs.Common.{◌≡◌, ◌+◌, ◌<◌, Some, true, false, get_or, slice_get, slice_set, length, sym, ap, ◌∙◌, subst, arith}
 use Rattle.std.proofs.lemmas.List.{length-set}
 use Rattle.std.proofs.lemmas.Option.{slice_get-get_or}
-use Rattle.aig_base.proofs.Circuits.{gate_in_range, rhs0_in_range, rhs1_in_range}
+use Rattle.aig_base.proofs.circuits.Circuits.{gate_in_range, rhs0_in_range, rhs1_in_range}
 use Rattle.aig_sim.proofs.Evaluation.{item_at}
 use Rattle.aig_sim.proofs.GateOrders.{AreReady, none_ready, ready_more, all_ready}
 use Rattle.aig_sim.proofs.gate_order.mark_gates.Goals as goal

@@ -2,7 +2,7 @@ use Rattle.std.proofs.Common.{◌≡◌, Some, slice_get, sym, ◌∙◌, subst,
 use Rattle.std.proofs.lemmas.List.{length-set}
 use Rattle.aig_base.specs.Grounded.{IsSource}
 use Rattle.aig_base.specs.Grounded as grounded
-use Rattle.aig_base.proofs.Circuits.{latch_in_range}
+use Rattle.aig_base.proofs.circuits.Circuits.{latch_in_range}
 use Rattle.aig_sim.proofs.Evaluation.{item_at}
 use Rattle.aig_sim.proofs.GateOrders.{one_marked}
 use Rattle.aig_sim.proofs.gate_order.mark_latches.Goals as goal

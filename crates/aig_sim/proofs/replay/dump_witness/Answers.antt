@@ -4,11 +4,11 @@ use Rattle.aig_sim.specs.Dump.{IsDump}
 use Rattle.aig_sim.proofs.ReplayLemmas.{ready_is, not_replayed, replayed, replay_failed}
 use Rattle.aig_sim.proofs.replay.dump_witness.Goals as goal
 
-pub returns-in_err-shape : goal.returns-in_err-shape
-returns-in_err-shape g c =
+pub returns-in_err-parts : goal.returns-in_err-parts
+returns-in_err-parts g c =
     not_replayed (λ raw start rows text. IsDump raw start rows text) c.args.circuit.now c.args.text.now g.W.Write.written
-    g.W.Write.failures c.args.out.now c.args.out.now c.in_err-shape.field-0.0 c.from_residual.result
-    c.from_residual.ensures.1 c.in_err-shape.ensures.fault refl
+    g.W.Write.failures c.args.out.now c.args.out.now c.in_err-parts.field-0.0 c.from_residual.result
+    c.from_residual.ensures.1 c.in_err-parts.ensures.fault refl
 
 pub returns-in_err-recorder : goal.returns-in_err-recorder
 returns-in_err-recorder g c =
@@ -24,21 +24,21 @@ returns-in_err-run g c =
 
 pub write_dump-requires-clause-ready : goal.write_dump-requires-clause-ready
 write_dump-requires-clause-ready g c =
-    let (w, spells, shape, admitted) = c.in_ok-shape.ensures.shape in
+    let (w, spells, parts, admitted) = c.in_ok-parts.ensures.parts in
     let e = c.in_ok-run.ensures in
-    (w, ready_is shape e.circuit e.is_circuit (e.states w shape))
+    (w, ready_is parts e.circuit e.is_circuit (e.states w parts))
 
 pub returns-in_err-write_dump : goal.returns-in_err-write_dump
 returns-in_err-write_dump g c =
-    let (w, spells, shape, admitted) = c.in_ok-shape.ensures.shape in
+    let (w, spells, parts, admitted) = c.in_ok-parts.ensures.parts in
     let e = c.in_ok-run.ensures in
     replay_failed (λ raw start rows text. IsDump raw start rows text) w spells admitted e.circuit
     c.from_residual-in_err-write_dump.result c.from_residual-in_err-write_dump.ensures.1
-    (c.in_err-write_dump.ensures w (ready_is shape e.circuit e.is_circuit (e.states w shape)))
+    (c.in_err-write_dump.ensures w (ready_is parts e.circuit e.is_circuit (e.states w parts)))
 
 pub returns : goal.returns
 returns g c =
-    let (w, spells, shape, admitted) = c.in_ok-shape.ensures.shape in
+    let (w, spells, parts, admitted) = c.in_ok-parts.ensures.parts in
     let e = c.in_ok-run.ensures in
     replayed (λ raw start rows text. IsDump raw start rows text) w spells admitted e.circuit
-    (c.in_ok-write_dump.ensures w (ready_is shape e.circuit e.is_circuit (e.states w shape)))
+    (c.in_ok-write_dump.ensures w (ready_is parts e.circuit e.is_circuit (e.states w parts)))

@@ -8,7 +8,7 @@ pub returns-clause-confirmed : goal.returns-clause-confirmed
 returns-clause-confirmed c = λ e v h.
     let raw = c.args.circuit.now in
     let circuit = c.max_var-max_var.ensures.circuit in
-    let (w, spells, shape, admitted) = c.in_ok-shape.ensures.shape in
+    let (w, spells, parts, admitted) = c.in_ok-parts.ensures.parts in
     subst (IsConfirmed raw) (one_witness raw c.args.text.now w v spells h)
     (confirmed raw circuit w spells.start_is spells.widths spells.some admitted.0
-    (subst (IsVerdict raw w) e (c.in_ok-verdict.ensures w shape admitted)))
+    (subst (IsVerdict raw w) e (c.in_ok-verdict.ensures w parts admitted)))

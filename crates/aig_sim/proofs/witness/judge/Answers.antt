@@ -29,7 +29,7 @@ returns-in-Some-failure c =
     not_held raw w at.frame at.position
     (both (λ r s. (q : ℕ) → StartsWrong r s q → ⊥) e.circuit states c.in_default.ensures.none)
     (subst (λ (r : Raw). IsFirstFailure r w at.frame at.position) e.circuit
-    (at.ensures.some w (subst (λ (r : Raw). HasRun r w 0 c.args.shape.now.rows.now machine.cells machine.states) (sym e.circuit)
+    (at.ensures.some w (subst (λ (r : Raw). HasRun r w 0 c.args.parts.now.rows.now machine.cells machine.states) (sym e.circuit)
     (run_begins machine.cells machine.states h states)) (sym h.frames_are)))
 
 pub returns-then-not-is_bad : goal.returns-then-not-is_bad
@@ -43,14 +43,14 @@ returns-then-not-is_bad c =
     let states : machine.states ≡ w.start =
     e.states w h in
     let (rest, run) = c.in_default-failure.ensures.none w
-    (subst (λ (r : Raw). HasRun r w 0 c.args.shape.now.rows.now machine.cells machine.states) (sym e.circuit)
+    (subst (λ (r : Raw). HasRun r w 0 c.args.parts.now.rows.now machine.cells machine.states) (sym e.circuit)
     (run_begins machine.cells machine.states h states)) (sym h.frames_are) in
     let done : HasRun raw w (length w.rows) rest machine'.cells machine'.states =
     subst (λ (n : ℕ). HasRun raw w n rest machine'.cells machine'.states) h.frames_are
-    (subst (λ (r : Raw). HasRun r w c.args.shape.now.frames rest machine'.cells machine'.states) e.circuit run) in
+    (subst (λ (r : Raw). HasRun r w c.args.parts.now.frames rest machine'.cells machine'.states) e.circuit run) in
     let is : ReadsNotOne machine'.cells raw.bad w.property =
     subst (λ (n : ℕ). ReadsNotOne machine'.cells raw.bad n) (property_same circuit h admitted)
-    (subst (λ (r : Raw). ReadsNotOne machine'.cells r.bad c.args.shape.now.property)
+    (subst (λ (r : Raw). ReadsNotOne machine'.cells r.bad c.args.parts.now.property)
     (c.run_frames-failure.ensures.circuit ∙ e.circuit) (c.is_bad.ensures.no c.if-not-is_bad.true)) in
     not_reached raw w (both (λ r s. (q : ℕ) → StartsWrong r s q → ⊥) e.circuit states c.in_default.ensures.none)
     done.constrained
@@ -68,11 +68,11 @@ returns c =
     let states : machine.states ≡ w.start =
     e.states w h in
     let (rest, run) = c.in_default-failure.ensures.none w
-    (subst (λ (r : Raw). HasRun r w 0 c.args.shape.now.rows.now machine.cells machine.states) (sym e.circuit)
+    (subst (λ (r : Raw). HasRun r w 0 c.args.parts.now.rows.now machine.cells machine.states) (sym e.circuit)
     (run_begins machine.cells machine.states h states)) (sym h.frames_are) in
     let done : HasRun raw w (length w.rows) rest machine'.cells machine'.states =
     subst (λ (n : ℕ). HasRun raw w n rest machine'.cells machine'.states) h.frames_are
-    (subst (λ (r : Raw). HasRun r w c.args.shape.now.frames rest machine'.cells machine'.states) e.circuit run) in
+    (subst (λ (r : Raw). HasRun r w c.args.parts.now.frames rest machine'.cells machine'.states) e.circuit run) in
     reached raw w (both (λ r s. (q : ℕ) → StartsWrong r s q → ⊥) e.circuit states c.in_default.ensures.none)
     done.constrained
     (λ k. c.is_bad.ensures.yes c.if-not-is_bad.false

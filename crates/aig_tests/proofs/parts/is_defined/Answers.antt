@@ -1,4 +1,4 @@
-use Rattle.aig_base.proofs.Gates.{defined_if_found}
+use Rattle.aig_base.proofs.circuits.Gates.{defined_if_found}
 use Rattle.aig_tests.proofs.parts.is_defined.Goals as goal
 
 pub returns : goal.returns

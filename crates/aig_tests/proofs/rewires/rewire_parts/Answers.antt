@@ -3,7 +3,7 @@ use Rattle.std.proofs.Common.{sym, arith}
 use Rattle.aig_parts.specs.declared.raw.Raw.{Raw}
 use Rattle.aig_parts.specs.Literal.{variable}
 use Rattle.aig_base.specs.Readers.{AreReaders, ReaderLists, Reads}
-use Rattle.aig_base.proofs.Gates.{defined_in_range}
+use Rattle.aig_base.proofs.circuits.Gates.{defined_in_range}
 use Rattle.aig_tests.proofs.rewires.rewire_parts.Goals as goal
 
 -- room alone leaves the readers

@@ -1,6 +1,6 @@
 use Rattle.std.proofs.Common.{◌∷◌, ◌++◌, [], ◌∙◌, List, sym, ap}
 use Rattle.aig_parts.specs.declared.gate.Gate.{Gate}
-use Rattle.aig_base.proofs.Renumberings.{ordered_some, ordered_none}
+use Rattle.aig_base.proofs.renumbered.Renumberings.{ordered_some, ordered_none}
 use Rattle.aig_unroll.proofs.sections.ordered_gates.Goals.{in-Some+in_ok-push, in_default}
 use Rattle.aig_unroll.proofs.sections.ordered_gates.Goals as goal
 

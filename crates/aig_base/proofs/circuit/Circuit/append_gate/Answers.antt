@@ -5,7 +5,7 @@ use Rattle.aig_base.specs.Changes.{next_gate}
 use Rattle.aig_parts.specs.Formed.{limit}
 use Rattle.aig_parts.specs.Literal.{variable}
 use Rattle.aig_base.specs.Sections.{IsDefined}
-use Rattle.aig_base.proofs.Appended.{more_circuit}
+use Rattle.aig_base.proofs.growth.Appended.{more_circuit}
 use Rattle.aig_base.proofs.circuit.Circuit.append_gate.Goals as goal
 
 pub invariant_of-self : goal.invariant_of-self

@@ -1,9 +1,9 @@
 use Rattle.std.proofs.Common.{◌≡◌, ◌∙◌, Some, slice_get, sym, ap, refl}
 use Rattle.std.proofs.lemmas.Option.{slice_get-get_or, slice_get_within}
-use Rattle.aig_base.proofs.Gates.{input_no_gate, latch_no_gate, free_no_gate}
-use Rattle.aig_base.proofs.Places.{input, latch, gate}
-use Rattle.aig_base.proofs.Roles.{one_place}
-use Rattle.aig_base.proofs.Renumberings.{gate_found, no_gate_found, not_free}
+use Rattle.aig_base.proofs.circuits.Gates.{input_no_gate, latch_no_gate, free_no_gate}
+use Rattle.aig_base.proofs.circuits.Places.{input, latch, gate}
+use Rattle.aig_base.proofs.circuits.Roles.{one_place}
+use Rattle.aig_base.proofs.renumbered.Renumberings.{gate_found, no_gate_found, not_free}
 use Rattle.aig_base.proofs.circuit.Circuit.gate_of.Goals as goal
 
 pub returns-in-Some-Input-clause-is : goal.returns-in-Some-Input-clause-is

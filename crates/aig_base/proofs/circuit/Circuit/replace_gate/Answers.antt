@@ -9,8 +9,8 @@ use Rattle.aig_base.specs.Definition.{Defines}
 use Rattle.aig_base.specs.Grounded.{IsAcyclic}
 use Rattle.aig_parts.specs.Literal.{variable}
 use Rattle.aig_base.specs.Sections.{IsDefined, IsLeftSide}
-use Rattle.aig_base.proofs.EntryPlaces.{left_side_defined}
-use Rattle.aig_base.proofs.Rewiring.{gate_changed, with_gate-circuit, with_gate-tells}
+use Rattle.aig_base.proofs.circuits.EntryPlaces.{left_side_defined}
+use Rattle.aig_base.proofs.rewires.Rewiring.{gate_changed, with_gate-circuit, with_gate-tells}
 use Rattle.aig_base.proofs.circuit.Circuit.replace_gate.Goals as goal
 
 pub invariant_of-self : goal.invariant_of-self

@@ -2,7 +2,7 @@ use Rattle.std.proofs.Common.{sym, subst}
 use Rattle.aig_parts.specs.declared.raw.Raw.{Raw}
 use Rattle.aig_parts.specs.Literal.{variable}
 use Rattle.aig_base.specs.Sections.{IsDefined}
-use Rattle.aig_base.proofs.Outputs.{with_output-circuit, with_output-tells}
+use Rattle.aig_base.proofs.growth.Outputs.{with_output-circuit, with_output-tells}
 use Rattle.aig_base.proofs.circuit.Circuit.replace_output.Goals as goal
 
 pub invariant_of-self : goal.invariant_of-self

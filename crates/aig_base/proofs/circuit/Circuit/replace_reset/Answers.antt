@@ -7,8 +7,8 @@ use Rattle.aig_base.specs.Changes.{with_reset}
 use Rattle.aig_base.specs.Circuit.{IsCircuit}
 use Rattle.aig_base.specs.Definition.{Defines}
 use Rattle.aig_base.specs.Sections.{IsLatchLiteral}
-use Rattle.aig_base.proofs.EntryPlaces.{latch_literal_defined}
-use Rattle.aig_base.proofs.Rewiring.{reset_changed, with_reset-circuit, with_reset-tells}
+use Rattle.aig_base.proofs.circuits.EntryPlaces.{latch_literal_defined}
+use Rattle.aig_base.proofs.rewires.Rewiring.{reset_changed, with_reset-circuit, with_reset-tells}
 use Rattle.aig_base.proofs.circuit.Circuit.replace_reset.Goals as goal
 
 pub invariant_of-self : goal.invariant_of-self

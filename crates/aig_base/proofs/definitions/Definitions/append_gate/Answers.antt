@@ -3,7 +3,7 @@ use Rattle.aig_base.specs.declared.definition.Definition.{Definition}
 use Rattle.aig_base.specs.declared.definition.Definition.TheVariants as definition
 use Rattle.aig_base.specs.Changes.{with_appended_gate}
 use Rattle.aig_base.specs.state.Definitions.{IsTable}
-use Rattle.aig_base.proofs.Appended.{more_in_order, more_table}
+use Rattle.aig_base.proofs.growth.Appended.{more_in_order, more_table}
 use Rattle.aig_base.proofs.definitions.Definitions.append_gate.Goals as goal
 
 pub returns-in-Listed : goal.returns-in-Listed

@@ -1,4 +1,4 @@
-use Rattle.aig_base.proofs.Tables.{defines_from_entry, free_from_entry, entry_at, free_past}
+use Rattle.aig_base.proofs.circuits.Tables.{defines_from_entry, free_from_entry, entry_at, free_past}
 use Rattle.aig_base.proofs.definitions.Definitions.get.Goals as goal
 
 pub returns-in-Some-clause-found : goal.returns-in-Some-clause-found

@@ -1,6 +1,6 @@
 use Rattle.std.proofs.Common.{Some, refl, ap, ◌∙◌}
 use Rattle.std.proofs.lemmas.Option.{slice_get_read}
-use Rattle.aig_base.proofs.Entering.{enter_new, enter_again}
+use Rattle.aig_base.proofs.circuits.Entering.{enter_new, enter_again}
 use Rattle.aig_base.proofs.entries.Entries.enter.Goals as goal
 
 pub returns-in-Some : goal.returns-in-Some

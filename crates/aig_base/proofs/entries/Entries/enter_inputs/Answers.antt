@@ -1,7 +1,7 @@
 use Rattle.std.proofs.Common.{◌<◌, length, refl, sym, arith}
 use Rattle.std.proofs.lemmas.Option.{slice_get_read}
 use Rattle.aig_parts.specs.Literal.{variable}
-use Rattle.aig_base.proofs.Entering.{entries_same, one_more_first}
+use Rattle.aig_base.proofs.circuits.Entering.{entries_same, one_more_first}
 use Rattle.aig_base.proofs.entries.Entries.enter_inputs.Goals as goal
 
 pub loop-position-preserved : goal.loop-position-preserved

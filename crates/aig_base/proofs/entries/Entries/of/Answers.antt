@@ -1,4 +1,4 @@
-use Rattle.aig_base.proofs.Entering.{entries_same, definition_variables}
+use Rattle.aig_base.proofs.circuits.Entering.{entries_same, definition_variables}
 use Rattle.aig_base.proofs.entries.Entries.of.Goals as goal
 
 pub returns : goal.returns

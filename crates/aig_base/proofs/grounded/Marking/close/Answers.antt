@@ -1,6 +1,6 @@
 use Rattle.std.proofs.Common.{◌<◌, ◌∷◌, [], ℕ, List, length, subst, ◌∙◌, All}
-use Rattle.aig_base.proofs.Joined.{All-left}
-use Rattle.aig_base.proofs.Marking.{take_pending}
+use Rattle.aig_base.proofs.lists.Joined.{All-left}
+use Rattle.aig_base.proofs.checks.Marking.{take_pending}
 use Rattle.aig_base.proofs.grounded.Marking.close.Goals as goal
 
 pub loop-variable-preserved : goal.loop-variable-preserved

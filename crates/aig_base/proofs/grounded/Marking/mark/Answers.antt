@@ -1,4 +1,4 @@
-use Rattle.aig_base.proofs.Marking.{mark_meets}
+use Rattle.aig_base.proofs.checks.Marking.{mark_meets}
 use Rattle.aig_base.proofs.grounded.Marking.mark.Goals as goal
 
 pub returns : goal.returns

@@ -1,8 +1,8 @@
 use Rattle.std.proofs.Common.{◌∷◌, map, ap, ◌∙◌}
 use Rattle.aig_base.specs.state.Least.{latch_variable}
 use Rattle.aig_parts.specs.Literal.{variable}
-use Rattle.aig_base.proofs.Entering.{one_more, one_more_first}
-use Rattle.aig_base.proofs.Marking.{moves_from_mark, started_more, started_same}
+use Rattle.aig_base.proofs.circuits.Entering.{one_more, one_more_first}
+use Rattle.aig_base.proofs.checks.Marking.{moves_from_mark, started_more, started_same}
 use Rattle.aig_base.proofs.grounded.Marking.of_sources.Goals as goal
 
 pub loop-input-init : goal.loop-input-init

@@ -1,6 +1,6 @@
 use Rattle.std.proofs.Common.{ℕ, subst, sym, ◌∙◌, true≢false}
 use Rattle.aig_base.specs.state.Marks.{IsMarked, AddsMark}
-use Rattle.aig_base.proofs.Marking.{moves_from_mark, visit_none, visit_both}
+use Rattle.aig_base.proofs.checks.Marking.{moves_from_mark, visit_none, visit_both}
 use Rattle.aig_base.proofs.grounded.Marking.visit.Goals as goal
 use Rattle.aig_base.proofs.grounded.Marking.visit.Goals.{else-is_marked-via-then-is_marked+else-is_marked-2}
 use Rattle.aig_base.proofs.grounded.Marking.visit.Goals.{else-is_marked-via-else-is_marked}

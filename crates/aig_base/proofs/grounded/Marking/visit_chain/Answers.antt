@@ -2,8 +2,8 @@ use Rattle.std.proofs.Common.{◌≡◌, ◌-◌, ◌/◌, ◌<◌, suc, ℕ, So
 use Rattle.std.proofs.lemmas.Option.{slice_get_read}
 use Rattle.aig_parts.specs.declared.gate.Gate.{Gate}
 use Rattle.aig_base.specs.state.Marks.{IsGateBelow, IsMarking}
-use Rattle.aig_base.proofs.Chains.{length-sides}
-use Rattle.aig_base.proofs.Marking.{moves_then}
+use Rattle.aig_base.proofs.lists.Chains.{length-sides}
+use Rattle.aig_base.proofs.checks.Marking.{moves_then}
 use Rattle.aig_base.proofs.grounded.Marking.visit_chain.Goals as goal
 
 pub bounds-gates-position : goal.bounds-gates-position

@@ -1,9 +1,9 @@
 use Rattle.std.proofs.Common.{◌∙◌, ap, subst, sym}
 use Rattle.aig_parts.specs.Literal.{variable}
 use Rattle.aig_base.specs.Sections.{IsGate}
-use Rattle.aig_base.proofs.BehindLemmas.{acyclic_from_before, cycle_from_behind}
-use Rattle.aig_base.proofs.Gates.{IsGate-of_gate}
-use Rattle.aig_base.proofs.Walks.{the_gate}
+use Rattle.aig_base.proofs.rewires.BehindLemmas.{acyclic_from_before, cycle_from_behind}
+use Rattle.aig_base.proofs.circuits.Gates.{IsGate-of_gate}
+use Rattle.aig_base.proofs.checks.Walks.{the_gate}
 use Rattle.aig_base.proofs.level.Levels.rewire.Goals as goal
 
 pub is_behind-requires-clause-gate : goal.is_behind-requires-clause-gate

@@ -1,7 +1,7 @@
 use Rattle.std.proofs.Common.{◌≡◌, ◌+◌, ◌∷◌, ◌++◌, [], ℕ, length, set, refl, subst, arith}
 use Rattle.std.proofs.lemmas.Option.{slice_get_read}
 use Rattle.aig_base.specs.state.Links.{AreLinks}
-use Rattle.aig_base.proofs.Chains.{link_more}
+use Rattle.aig_base.proofs.lists.Chains.{link_more}
 use Rattle.aig_base.proofs.links.Links.add.Goals as goal
 
 pub returns-clause-links : goal.returns-clause-links

@@ -1,7 +1,7 @@
 use Rattle.std.proofs.Common.{take, arith, rules}
 use Rattle.std.proofs.lemmas.List.{length_push}
 use Rattle.aig_base.specs.state.Marks.{sides}
-use Rattle.aig_base.proofs.Chains.{links_same, sides_more, sides_so_far}
+use Rattle.aig_base.proofs.lists.Chains.{links_same, sides_more, sides_so_far}
 use Rattle.aig_base.proofs.links.Links.of_sides.Goals as goal
 
 pub add-requires-clause-room : goal.add-requires-clause-room

@@ -1,4 +1,4 @@
-use Rattle.aig_base.proofs.VisitLemmas.{listed_within}
+use Rattle.aig_base.proofs.rewires.VisitLemmas.{listed_within}
 use Rattle.aig_base.proofs.visits.Visits.clear.Goals as goal
 
 pub unmark-requires-clause-within : goal.unmark-requires-clause-within

@@ -1,5 +1,5 @@
 use Rattle.std.proofs.Common.{refl}
-use Rattle.aig_base.proofs.VisitLemmas.{is_off, missing, visited_more}
+use Rattle.aig_base.proofs.rewires.VisitLemmas.{is_off, missing, visited_more}
 use Rattle.aig_base.proofs.visits.Visits.visit.Goals as goal
 
 pub returns-then-not-index-clause-among : goal.returns-then-not-index-clause-among

@@ -1,8 +1,8 @@
 use Rattle.std.proofs.Common.{arith, refl, ◌∙◌, ◌<◌, ◌≤◌, ◌+◌, ◌*◌, length}
 use Rattle.aig_base.specs.Limits.{cell_limit, frame_limit}
-use Rattle.aig_bench.proofs.Engines.{held}
-use Rattle.aig_bench.proofs.Changed.{room_added, setup_added, current_added, laid_out_added}
-use Rattle.aig_bench.proofs.Edited.{work_for, before_first, added_current, added_touched, added_changed, frames_more, lists_for}
+use Rattle.aig_bench.proofs.renewals.Engines.{held}
+use Rattle.aig_bench.proofs.renewals.Changed.{room_added, setup_added, current_added, laid_out_added}
+use Rattle.aig_bench.proofs.edits.Edited.{work_for, before_first, added_current, added_touched, added_changed, frames_more, lists_for}
 use Rattle.aig_bench.proofs.bench.Bench.add_frame.Goals as goal
 
 pub add_row-requires-clause-limit : goal.add_row-requires-clause-limit

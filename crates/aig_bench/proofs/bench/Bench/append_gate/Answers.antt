@@ -2,13 +2,13 @@ use Rattle.std.proofs.Common.{◌≡◌, ◌+◌, length, true, Some, slice_get,
 use Rattle.std.proofs.lemmas.List.{length-append, length-map}
 use Rattle.aig_parts.specs.declared.gate.Gate.{Gate}
 use Rattle.aig_parts.specs.Literal.{variable, IsEven}
-use Rattle.aig_base.proofs.Gates.{defined_in_range}
-use Rattle.aig_bench.proofs.Engines.{held}
-use Rattle.aig_bench.proofs.Grown.{new_flag}
-use Rattle.aig_bench.proofs.GrownBench.{even_new, grown_changed, grown_touched, last_is, ready_grown, ready_still}
-use Rattle.aig_bench.proofs.Lengthened.{readers_longer}
+use Rattle.aig_base.proofs.circuits.Gates.{defined_in_range}
+use Rattle.aig_bench.proofs.renewals.Engines.{held}
+use Rattle.aig_bench.proofs.growing.Grown.{new_flag}
+use Rattle.aig_bench.proofs.growing.GrownBench.{even_new, grown_changed, grown_touched, last_is, ready_grown, ready_still}
+use Rattle.aig_bench.proofs.growing.Lengthened.{readers_longer}
 use Rattle.aig_parts.specs.declared.raw.Raw.{Raw}
-use Rattle.aig_bench.specs.state.Order.{Orders}
+use Rattle.aig_bench.specs.state.SweepOrder.{Orders}
 use Rattle.aig_bench.proofs.bench.Bench.append_gate.Goals as goal
 
 pub make_room-requires-clause-ready : goal.make_room-requires-clause-ready

@@ -1,8 +1,8 @@
 use Rattle.std.proofs.Common.{refl, arith}
 use Rattle.aig_bench.specs.state.Setup.{pair_of}
-use Rattle.aig_bench.proofs.Engines.{held}
-use Rattle.aig_bench.proofs.Changed.{bench_dropped}
-use Rattle.aig_bench.proofs.Edited.{lists_for, work_for, dropped_touched, dropped_changed}
+use Rattle.aig_bench.proofs.renewals.Engines.{held}
+use Rattle.aig_bench.proofs.renewals.Changed.{bench_dropped}
+use Rattle.aig_bench.proofs.edits.Edited.{lists_for, work_for, dropped_touched, dropped_changed}
 use Rattle.aig_bench.proofs.bench.Bench.drop_frame.Goals as goal
 
 pub invariant_of-engine : goal.invariant_of-engine

@@ -1,4 +1,4 @@
-use Rattle.aig_bench.proofs.Engines.{held}
+use Rattle.aig_bench.proofs.renewals.Engines.{held}
 use Rattle.aig_bench.proofs.bench.Bench.grid.Goals as goal
 
 pub returns-clause-cells : goal.returns-clause-cells

@@ -2,18 +2,18 @@ use Rattle.std.proofs.Common.{arith, ◌≡◌, ◌∙◌, Some, slice_get, leng
 use Rattle.aig_parts.specs.declared.raw.Raw.{Raw}
 use Rattle.aig_base.specs.Changes.{with_gate}
 use Rattle.aig_parts.specs.Literal.{variable}
-use Rattle.aig_base.proofs.Gates.{defined_in_range}
+use Rattle.aig_base.proofs.circuits.Gates.{defined_in_range}
 use Rattle.aig_sim.specs.InputRows.{InputRows}
 use Rattle.aig_bench.specs.declared.setup.Setup.{Setup}
 use Rattle.aig_bench.specs.Edit.{Edits, rewire}
 use Rattle.aig_bench.specs.Pair.{Pair}
 use Rattle.aig_bench.specs.state.Setup.{pair_of}
-use Rattle.aig_bench.proofs.Engines.{held, settled_renewed}
-use Rattle.aig_bench.proofs.Edited.{none_current, all_latches, all_next, lists_for, work_for, work_kept, setup_same, pair_rewired, all_consistent, all_touched, all_changed, follows_rewire, forces_gate, gate_forced}
-use Rattle.aig_bench.proofs.FourReaders.{handed_fault, no_memory, either_four}
-use Rattle.aig_bench.proofs.Refusals.{lacking, rewire_refused, rewire_allowed}
-use Rattle.aig_bench.proofs.Rewired.{setup_rewired, laid_out_rewired}
-use Rattle.aig_bench.specs.state.Order.{Orders}
+use Rattle.aig_bench.proofs.renewals.Engines.{held, settled_renewed}
+use Rattle.aig_bench.proofs.edits.Edited.{none_current, all_latches, all_next, lists_for, work_for, work_kept, setup_same, pair_rewired, all_consistent, all_touched, all_changed, follows_rewire, forces_gate, gate_forced}
+use Rattle.aig_bench.proofs.edits.FourReaders.{handed_fault, no_memory, either_four}
+use Rattle.aig_bench.proofs.edits.Refusals.{lacking, rewire_refused, rewire_allowed}
+use Rattle.aig_bench.proofs.edits.Rewired.{setup_rewired, laid_out_rewired}
+use Rattle.aig_bench.specs.state.SweepOrder.{Orders}
 use Rattle.aig_bench.proofs.bench.Bench.rewire.Goals as goal
 
 pub invariant_of-engine : goal.invariant_of-engine

@@ -1,7 +1,7 @@
 use Rattle.std.proofs.Common.{arith}
-use Rattle.aig_bench.proofs.Engines.{held}
-use Rattle.aig_bench.proofs.Outputs.{ready_set, set_touched, set_changed}
-use Rattle.aig_bench.proofs.GateLists.{orders_output}
+use Rattle.aig_bench.proofs.renewals.Engines.{held}
+use Rattle.aig_bench.proofs.growing.Outputs.{ready_set, set_touched, set_changed}
+use Rattle.aig_bench.proofs.new_frames.GateLists.{orders_output}
 use Rattle.aig_bench.proofs.bench.Bench.set_output.Goals as goal
 
 pub invariant_of-engine : goal.invariant_of-engine

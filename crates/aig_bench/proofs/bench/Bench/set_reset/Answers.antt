@@ -4,13 +4,13 @@ use Rattle.aig_parts.specs.declared.raw.Raw.{Raw}
 use Rattle.aig_bench.specs.Edit.{set_reset}
 use Rattle.aig_bench.specs.Pair.{Pair}
 use Rattle.aig_bench.specs.state.Setup.{pair_of}
-use Rattle.aig_bench.proofs.Engines.{held, settled_renewed}
-use Rattle.aig_bench.proofs.Changed.{setup_restarted, laid_out_restarted, levels_restarted, readers_restarted}
-use Rattle.aig_bench.proofs.Edited.{all_latches, all_next, other_start, work_for, none_current, all_consistent, all_touched, all_changed, follows_reset, forces_none, none_forced}
-use Rattle.aig_bench.proofs.LatchChains.{latches_reset, readers_reset}
-use Rattle.aig_bench.proofs.Named.{latch_at_named}
-use Rattle.aig_bench.proofs.Refusals.{refused, reset_allowed}
-use Rattle.aig_bench.proofs.GateLists.{orders_reset}
+use Rattle.aig_bench.proofs.renewals.Engines.{held, settled_renewed}
+use Rattle.aig_bench.proofs.renewals.Changed.{setup_restarted, laid_out_restarted, levels_restarted, readers_restarted}
+use Rattle.aig_bench.proofs.edits.Edited.{all_latches, all_next, other_start, work_for, none_current, all_consistent, all_touched, all_changed, follows_reset, forces_none, none_forced}
+use Rattle.aig_bench.proofs.carries.LatchChains.{latches_reset, readers_reset}
+use Rattle.aig_bench.proofs.edits.Named.{latch_at_named}
+use Rattle.aig_bench.proofs.edits.Refusals.{refused, reset_allowed}
+use Rattle.aig_bench.proofs.new_frames.GateLists.{orders_reset}
 use Rattle.aig_bench.proofs.bench.Bench.set_reset.Goals as goal
 
 pub returns-in_err-position-clause-edits : goal.returns-in_err-position-clause-edits

@@ -4,9 +4,9 @@ use Rattle.aig_base.specs.Sound.{IsInRange}
 use Rattle.aig_parts.specs.Literal.{variable}
 use Rattle.aig_sim.specs.InputRows.{row_at}
 use Rattle.aig_bench.specs.state.Setup.{pair_of}
-use Rattle.aig_bench.proofs.Engines.{held}
-use Rattle.aig_bench.proofs.Refusals.{value_no_frame, value_allowed}
-use Rattle.aig_bench.proofs.Values.{literal_has_value}
+use Rattle.aig_bench.proofs.renewals.Engines.{held}
+use Rattle.aig_bench.proofs.edits.Refusals.{value_no_frame, value_allowed}
+use Rattle.aig_bench.proofs.cells.Values.{literal_has_value}
 use Rattle.aig_bench.proofs.bench.Bench.value.Goals as goal
 
 pub returns-then-frame-frames : goal.returns-then-frame-frames

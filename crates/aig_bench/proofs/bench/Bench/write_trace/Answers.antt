@@ -1,4 +1,4 @@
-use Rattle.aig_bench.proofs.Engines.{held}
+use Rattle.aig_bench.proofs.renewals.Engines.{held}
 use Rattle.aig_bench.proofs.bench.Bench.write_trace.Goals as goal
 
 pub write_frames-requires : goal.write_frames-requires

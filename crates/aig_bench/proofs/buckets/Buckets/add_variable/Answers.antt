@@ -1,5 +1,5 @@
 use Rattle.std.proofs.Common.{refl}
-use Rattle.aig_bench.proofs.Lengthened.{buckets_longer, unmarked_pushed}
+use Rattle.aig_bench.proofs.growing.Lengthened.{buckets_longer, unmarked_pushed}
 use Rattle.aig_bench.proofs.buckets.Buckets.add_variable.Goals as goal
 
 pub returns-clause-buckets : goal.returns-clause-buckets

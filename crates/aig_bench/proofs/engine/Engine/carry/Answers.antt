@@ -9,10 +9,10 @@ use Rattle.aig_sim.specs.InputRows.{row_at}
 use Rattle.aig_bench.specs.Pair.{Pair}
 use Rattle.aig_bench.specs.state.Engine.{EngineState}
 use Rattle.aig_bench.specs.state.Entry.{Puts}
-use Rattle.aig_bench.proofs.Engines.{row_here, row_then}
+use Rattle.aig_bench.proofs.renewals.Engines.{row_here, row_then}
 use Rattle.aig_bench.specs.state.Setup.{pair_of}
-use Rattle.aig_bench.proofs.Carrying.{before_kept, carries_more, carries_fewer}
-use Rattle.aig_bench.proofs.LatchLists.{listed_less}
+use Rattle.aig_bench.proofs.carries.Carrying.{before_kept, carries_more, carries_fewer}
+use Rattle.aig_bench.proofs.carries.LatchLists.{listed_less}
 use Rattle.aig_bench.proofs.engine.Engine.carry.Goals as goal
 
 taken_or : (start old new : List Bool) (number : ℕ) → 0 < number

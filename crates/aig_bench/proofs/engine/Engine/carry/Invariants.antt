@@ -4,7 +4,7 @@ use Rattle.aig_sim.specs.InputRows.{row_at}
 use Rattle.aig_bench.specs.state.Current.{IsCurrentBefore}
 use Rattle.aig_bench.specs.state.Engine.{ChangesRow}
 use Rattle.aig_bench.specs.state.Entry.{Carries}
-use Rattle.aig_bench.proofs.LatchLists.{listed}
+use Rattle.aig_bench.proofs.carries.LatchLists.{listed}
 use Rattle.aig_bench.proofs.engine.Engine.carry.Given as goal
 
 abbrev pub invariant-loop-number : goal.invariant-loop-number

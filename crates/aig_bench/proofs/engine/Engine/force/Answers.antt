@@ -1,7 +1,7 @@
 use Rattle.std.proofs.Common.{sym, subst}
 use Rattle.aig_base.specs.Sections.{IsGate}
 use Rattle.aig_bench.specs.state.Engine.{EngineState}
-use Rattle.aig_bench.proofs.Carrying.{gate_fits, gates_linked}
+use Rattle.aig_bench.proofs.carries.Carrying.{gate_fits, gates_linked}
 use Rattle.aig_bench.proofs.engine.Engine.force.Goals as goal
 
 pub link_all-requires-clause-fit : goal.link_all-requires-clause-fit

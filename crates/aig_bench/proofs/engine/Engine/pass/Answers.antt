@@ -6,9 +6,9 @@ use Rattle.aig_bench.specs.Pair.{Pair}
 use Rattle.aig_bench.specs.state.Engine.{EngineState, IsClear}
 use Rattle.aig_bench.specs.state.Sweep.{Ends, Starts}
 use Rattle.aig_bench.specs.state.Passing.{IsConsistent}
-use Rattle.aig_bench.proofs.Carrying.{started}
-use Rattle.aig_bench.proofs.Engines.{row_then}
-use Rattle.aig_bench.proofs.PassLemmas.{marked_or_not}
+use Rattle.aig_bench.proofs.carries.Carrying.{started}
+use Rattle.aig_bench.proofs.renewals.Engines.{row_then}
+use Rattle.aig_bench.proofs.passes.PassLemmas.{marked_or_not}
 use Rattle.aig_bench.proofs.engine.Engine.pass.Goals as goal
 
 pub returns-clause-passes : goal.returns-clause-passes

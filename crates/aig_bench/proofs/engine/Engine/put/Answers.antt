@@ -3,7 +3,7 @@ use Rattle.aig_base.specs.Grounded.{IsSource}
 use Rattle.aig_base.specs.Readers.{Reads}
 use Rattle.aig_bench.specs.Pair.{HasValue}
 use Rattle.aig_bench.specs.state.Engine.{EngineState}
-use Rattle.aig_bench.proofs.Puts.{waits_kept, put_moves, put_others, put_hands, put_hands_none, in_range, inside_flags, inside_readers, no_gate, put_work, source_readers_fit, source_linked, waits_put, not_the_value}
+use Rattle.aig_bench.proofs.passes.Puts.{waits_kept, put_moves, put_others, put_hands, put_hands_none, in_range, inside_flags, inside_readers, no_gate, put_work, source_readers_fit, source_linked, waits_put, not_the_value}
 use Rattle.aig_bench.proofs.engine.Engine.put.Goals as goal
 
 pub get-before-requires-clause-variable : goal.get-before-requires-clause-variable

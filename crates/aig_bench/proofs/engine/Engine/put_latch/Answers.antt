@@ -1,9 +1,9 @@
 use Rattle.std.proofs.Common.{◌≡◌, ℕ, Some, slice_get, arith, sym, subst}
 use Rattle.aig_base.specs.Grounded as by
-use Rattle.aig_base.proofs.Circuits.{latch_definition}
+use Rattle.aig_base.proofs.circuits.Circuits.{latch_definition}
 use Rattle.aig_bench.specs.state.Current.{IsCurrentBefore}
 use Rattle.aig_bench.specs.state.Engine.{EngineState}
-use Rattle.aig_bench.proofs.Values.{latch_value}
+use Rattle.aig_bench.proofs.cells.Values.{latch_value}
 use Rattle.aig_bench.proofs.engine.Engine.put_latch.Goals as goal
 
 pub latch_value-value-requires-clause-before : goal.latch_value-value-requires-clause-before

@@ -5,7 +5,7 @@ use Rattle.aig_base.specs.Sound.{IsSound}
 use Rattle.aig_bench.specs.Pair.{Pair}
 use Rattle.aig_bench.specs.state.Engine.{EngineState, IsClear}
 use Rattle.aig_bench.specs.state.Renewed.{RenewsAll}
-use Rattle.aig_bench.proofs.Renewing.{before_pass, renews_all, renews_more, renews_none, renews_stopped}
+use Rattle.aig_bench.proofs.renewals.Renewing.{before_pass, renews_all, renews_more, renews_none, renews_stopped}
 use Rattle.aig_bench.proofs.engine.Engine.renew_from.Goals as goal
 
 pub loop-frame-init : goal.loop-frame-init

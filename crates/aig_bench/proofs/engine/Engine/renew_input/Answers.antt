@@ -1,12 +1,12 @@
 use Rattle.std.proofs.Common.{◌≡◌, ◌<◌, Some, slice_get, subst, length, arith}
 use Rattle.aig_base.specs.Grounded as by
 use Rattle.aig_base.specs.Sound.{IsSound}
-use Rattle.aig_base.proofs.Circuits.{input_definition}
+use Rattle.aig_base.proofs.circuits.Circuits.{input_definition}
 use Rattle.aig_sim.proofs.Evaluation.{item_at}
 use Rattle.aig_bench.specs.state.Setup.{pair_of}
 use Rattle.aig_bench.specs.state.Engine.{EngineState}
-use Rattle.aig_bench.proofs.Renewing.{before_bit, behind_bit, renews_bit}
-use Rattle.aig_bench.proofs.Values.{input_value}
+use Rattle.aig_bench.proofs.renewals.Renewing.{before_bit, behind_bit, renews_bit}
+use Rattle.aig_bench.proofs.cells.Values.{input_value}
 use Rattle.aig_bench.proofs.engine.Engine.renew_input.Goals as goal
 
 pub put-requires-clause-positive : goal.put-requires-clause-positive

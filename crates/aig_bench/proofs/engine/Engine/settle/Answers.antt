@@ -1,7 +1,7 @@
 use Rattle.std.proofs.Common.{◌∙◌, ◌+◌, ◌≡◌, length, refl, ap, arith}
 use Rattle.aig_bench.specs.state.Engine.{EngineState}
-use Rattle.aig_bench.proofs.Engines.{levels_none, levels_then, levels_clear, settles}
-use Rattle.aig_bench.proofs.Puts.{few_variables}
+use Rattle.aig_bench.proofs.renewals.Engines.{levels_none, levels_then, levels_clear, settles}
+use Rattle.aig_bench.proofs.passes.Puts.{few_variables}
 use Rattle.aig_bench.proofs.engine.Engine.settle.Goals as goal
 
 pub loop-level-init : goal.loop-level-init

@@ -1,7 +1,7 @@
 use Rattle.std.proofs.Common.{◌<◌, ℕ, List, subst, arith}
 use Rattle.aig_bench.specs.state.Sweep.{waiting}
-use Rattle.aig_bench.proofs.Engines.{levels_none, levels_past, levels_then}
-use Rattle.aig_bench.proofs.Waiting.{waiting_bound}
+use Rattle.aig_bench.proofs.renewals.Engines.{levels_none, levels_past, levels_then}
+use Rattle.aig_bench.proofs.waits.Waiting.{waiting_bound}
 use Rattle.aig_bench.proofs.engine.Engine.settle_level.Goals as goal
 
 pub loop-changed-init : goal.loop-changed-init

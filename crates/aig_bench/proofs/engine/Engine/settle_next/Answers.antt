@@ -1,8 +1,8 @@
 use Rattle.std.proofs.Common.{◌<◌, length, refl, sym, subst, arith}
 use Rattle.std.proofs.lemmas.Bool.{false≢true}
 use Rattle.aig_bench.specs.state.Engine.{EngineState}
-use Rattle.aig_bench.proofs.Waiting.{waiting_less}
-use Rattle.aig_bench.proofs.SweepSteps.{lhs_even, lhs_flag, rhs0_inside, rhs1_inside, taken_work, waits_less, waited, waits_no_more, level_is, readers_fit, linked_work, linked_less, linked_no_more, written_work, sweeps_changed, sweeps_same, hands_changed, hands_unchanged, other_rows, taken_in_range}
+use Rattle.aig_bench.proofs.waits.Waiting.{waiting_less}
+use Rattle.aig_bench.proofs.passes.SweepSteps.{lhs_even, lhs_flag, rhs0_inside, rhs1_inside, taken_work, waits_less, waited, waits_no_more, level_is, readers_fit, linked_work, linked_less, linked_no_more, written_work, sweeps_changed, sweeps_same, hands_changed, hands_unchanged, other_rows, taken_in_range}
 use Rattle.aig_bench.proofs.engine.Engine.settle_next.Goals as goal
 
 pub returns-in_err-gate-clause-settles : goal.returns-in_err-gate-clause-settles

@@ -1,7 +1,7 @@
 use Rattle.std.proofs.Common.{◌∙◌}
 use Rattle.std.proofs.lemmas.List.{length-set}
-use Rattle.aig_bench.proofs.Chained.{unmarked_read}
-use Rattle.aig_bench.proofs.LatchLists.{list_linked, list_waits}
+use Rattle.aig_bench.proofs.waits.Chained.{unmarked_read}
+use Rattle.aig_bench.proofs.carries.LatchLists.{list_linked, list_waits}
 use Rattle.aig_bench.proofs.latches.LatchList.add.Goals as goal
 
 pub returns-clause-list : goal.returns-clause-list

@@ -2,7 +2,7 @@ use Rattle.std.proofs.Common.{ℕ, ◌<◌, ◌↔◌, ◌≢◌, ◌≡◌, tru
 use Rattle.std.proofs.lemmas.Bool.{false≢true}
 use Rattle.aig_bench.specs.declared.latches.LatchList.{LatchList}
 use Rattle.aig_bench.specs.state.Latches.{IsLatchList, IsListed}
-use Rattle.aig_bench.proofs.LatchLists.{listed, listed_less}
+use Rattle.aig_bench.proofs.carries.LatchLists.{listed, listed_less}
 use Rattle.aig_bench.proofs.latches.LatchList.clear.Goals as goal
 
 less : (n : ℕ) (old new : LatchList) (o : Option ℕ) → is_some o ≡ true → IsLatchList n old → IsLatchList n new

@@ -1,6 +1,6 @@
 use Rattle.std.proofs.Common.{ℕ}
 use Rattle.aig_bench.specs.state.Latches.{IsLatchList}
-use Rattle.aig_bench.proofs.LatchLists.{listed}
+use Rattle.aig_bench.proofs.carries.LatchLists.{listed}
 use Rattle.aig_bench.proofs.latches.LatchList.clear.Given as goal
 
 abbrev pub invariant-loop : goal.invariant-loop

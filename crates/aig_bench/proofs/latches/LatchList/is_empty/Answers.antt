@@ -1,4 +1,4 @@
-use Rattle.aig_bench.proofs.LatchLists.{list_empty}
+use Rattle.aig_bench.proofs.carries.LatchLists.{list_empty}
 use Rattle.aig_bench.proofs.latches.LatchList.is_empty.Goals as goal
 
 pub returns : goal.returns

@@ -1,6 +1,6 @@
 use Rattle.std.proofs.Common.{refl, ◌+◌, []}
-use Rattle.aig_bench.proofs.Chained.{none_marked}
-use Rattle.aig_bench.proofs.LatchLists.{list_new}
+use Rattle.aig_bench.proofs.waits.Chained.{none_marked}
+use Rattle.aig_bench.proofs.carries.LatchLists.{list_new}
 use Rattle.aig_bench.proofs.latches.LatchList.new.Goals as goal
 
 pub returns-clause-list : goal.returns-clause-list

@@ -1,6 +1,6 @@
 use Rattle.std.proofs.Common.{◌∙◌, arith}
 use Rattle.std.proofs.lemmas.List.{length-set}
-use Rattle.aig_bench.proofs.LatchLists.{list_none, list_first, list_inside, list_inside_marks, list_left, list_taken}
+use Rattle.aig_bench.proofs.carries.LatchLists.{list_none, list_first, list_inside, list_inside_marks, list_left, list_taken}
 use Rattle.aig_bench.proofs.latches.LatchList.take.Goals as goal
 
 pub returns-then-first-eq0-clause-none : goal.returns-then-first-eq0-clause-none

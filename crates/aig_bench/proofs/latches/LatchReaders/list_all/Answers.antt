@@ -1,5 +1,5 @@
 use Rattle.std.proofs.Common.{arith}
-use Rattle.aig_bench.proofs.LatchChains.{listing_none, before_less, listing_more, read_at}
+use Rattle.aig_bench.proofs.carries.LatchChains.{listing_none, before_less, listing_more, read_at}
 use Rattle.aig_bench.proofs.latches.LatchReaders.list_all.Goals as goal
 
 pub loop-latch-init : goal.loop-latch-init

@@ -1,7 +1,7 @@
 use Rattle.std.proofs.Common.{ℕ, ◌≤◌}
 use Rattle.aig_parts.specs.declared.raw.Raw.{Raw}
 use Rattle.aig_bench.specs.state.Latches.{AreLatchReaders, IsLatchList}
-use Rattle.aig_bench.proofs.LatchChains.{AreListedOver}
+use Rattle.aig_bench.proofs.carries.LatchChains.{AreListedOver}
 use Rattle.aig_bench.proofs.latches.LatchReaders.list_all.Given as goal
 
 abbrev pub invariant-loop-latch : goal.invariant-loop-latch

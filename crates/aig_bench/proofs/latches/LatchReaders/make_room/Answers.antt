@@ -1,5 +1,5 @@
 use Rattle.std.proofs.Common.{refl}
-use Rattle.aig_bench.proofs.Lengthened.{readers_roomy}
+use Rattle.aig_bench.proofs.growing.Lengthened.{readers_roomy}
 use Rattle.aig_bench.proofs.latches.LatchReaders.make_room.Goals as goal
 
 pub returns-in_err-reserve-clause-readers : goal.returns-in_err-reserve-clause-readers

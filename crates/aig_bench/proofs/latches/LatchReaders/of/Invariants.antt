@@ -1,4 +1,4 @@
-use Rattle.aig_bench.proofs.LatchChains.{AreChainsSoFar}
+use Rattle.aig_bench.proofs.carries.LatchChains.{AreChainsSoFar}
 use Rattle.aig_bench.proofs.latches.LatchReaders.of.Given as goal
 
 abbrev pub invariant-loop-position : goal.invariant-loop-position

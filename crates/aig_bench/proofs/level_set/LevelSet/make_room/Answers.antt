@@ -1,6 +1,6 @@
 use Rattle.std.proofs.Common.{ℕ, List, ◌↔◌, sym, subst}
 use Rattle.aig_bench.specs.state.LevelSet.{HasBit}
-use Rattle.aig_bench.proofs.Lengthened.{has_still, filled_longer, words_longer}
+use Rattle.aig_bench.proofs.growing.Lengthened.{has_still, filled_longer, words_longer}
 use Rattle.aig_bench.proofs.level_set.LevelSet.make_room.Goals as goal
 
 pub invariant_of-self : goal.invariant_of-self

@@ -1,9 +1,9 @@
 use Rattle.std.proofs.Common.{ℕ, List, All, get_or, sym, subst}
 use Rattle.std.proofs.lemmas.Option.{slice_get-get_or}
 use Rattle.aig_base.specs.Sections.{IsGate}
-use Rattle.aig_base.proofs.Positions.{Contains-from_slice_get}
-use Rattle.aig_bench.specs.state.Order.{ArePositions}
-use Rattle.aig_bench.proofs.GateLists.{listing}
+use Rattle.aig_base.proofs.lists.Positions.{Contains-from_slice_get}
+use Rattle.aig_bench.specs.state.SweepOrder.{ArePositions}
+use Rattle.aig_bench.proofs.new_frames.GateLists.{listing}
 use Rattle.aig_bench.proofs.order.Order.of.Goals as goal
 
 pub positions_of-requires : goal.positions_of-requires

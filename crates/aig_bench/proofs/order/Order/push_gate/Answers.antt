@@ -1,8 +1,8 @@
 use Rattle.std.proofs.Common.{ℕ, List, sym, subst}
 use Rattle.aig_base.specs.Changes.{with_appended_gate}
 use Rattle.aig_bench.specs.declared.order.Way.{Way}
-use Rattle.aig_bench.specs.state.Order.{AreTaken, IsListing}
-use Rattle.aig_bench.proofs.GateLists.{listing_more, order_more}
+use Rattle.aig_bench.specs.state.SweepOrder.{AreTaken, IsListing}
+use Rattle.aig_bench.proofs.new_frames.GateLists.{listing_more, order_more}
 use Rattle.aig_bench.proofs.order.Order.push_gate.Goals as goal
 
 pub returns-in-Standing : goal.returns-in-Standing

@@ -2,8 +2,8 @@ use Rattle.std.proofs.Common.{ℕ, List, All, sym, subst}
 use Rattle.aig_parts.specs.declared.gate.Gate.{Gate}
 use Rattle.aig_sim.specs.Cells.{HasCells}
 use Rattle.aig_bench.specs.declared.order.Way.{Way}
-use Rattle.aig_bench.specs.state.Order.{AreTaken, gates_at}
-use Rattle.aig_bench.proofs.Swept.{have_cells}
+use Rattle.aig_bench.specs.state.SweepOrder.{AreTaken, gates_at}
+use Rattle.aig_bench.proofs.new_frames.Swept.{have_cells}
 use Rattle.aig_bench.proofs.order.Order.sweep.Goals as goal
 
 pub sweep-requires-clause-gates : goal.sweep-requires-clause-gates

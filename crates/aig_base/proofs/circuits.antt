@@ -1,0 +1,10 @@
+pub mod Circuits
+pub mod Defined
+pub mod EachUse
+pub mod Entering
+pub mod EntryPlaces
+pub mod Gates
+pub mod InOrder
+pub mod Places
+pub mod Roles
+pub mod Tables

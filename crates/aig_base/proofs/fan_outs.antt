@@ -1,0 +1,4 @@
+pub mod ListPlaceLemmas
+pub mod ListedReaders
+pub mod ReaderLists
+pub mod TidyLists

@@ -1,0 +1,4 @@
+pub mod Appended
+pub mod AppendedLevels
+pub mod AppendedReaders
+pub mod Outputs

@@ -1,0 +1,77 @@
+-- The readers of a circuit with one more gate.
+use Rattle.std.proofs.Common.{◌≡◌, ◌↔◌, inl, inr, ℕ, zero, suc, ◌+◌, ◌≤◌, List, [], ◌∷◌, ◌++◌, length, nat_eq, count_by}
+use Rattle.std.proofs.Common.{get_or, Contains, refl, sym, ap, subst, ◌∙◌, arith}
+use Rattle.std.proofs.lemmas.List.{length_push}
+use Rattle.std.proofs.lemmas.Option.{slice_get_within}
+use Rattle.smallvec.specs.SmallVec.{SmallVec}
+use Rattle.aig_parts.specs.declared.raw.Raw.{Raw}
+use Rattle.aig_base.specs.Changes.{next_gate, with_appended_gate}
+use Rattle.aig_base.specs.Circuit.{IsCircuit}
+use Rattle.aig_parts.specs.Literal.{variable}
+use Rattle.aig_base.specs.Readers.{AreReaders, Reads, reader_lists}
+use Rattle.aig_base.specs.state.ReaderSlots.{Appends, AreTallied, Fits, Keeps, ReadsBefore, tally}
+use Rattle.aig_base.specs.Sections.{IsDefined}
+use Rattle.aig_base.proofs.growth.Appended.{gate_cases, more_sound, new_at, old_at}
+use Rattle.aig_base.proofs.circuits.Gates.{sides_in_range}
+use Rattle.aig_base.proofs.fan_outs.ReaderLists.{readers_of, tallied, tallied_all, tallied_more}
+
+-- an empty list behind the last
+push_same : (slots : List (SmallVec ℕ)) (s : SmallVec ℕ) → s.items ≡ [] → (v w : ℕ) → tally (slots ++ s ∷ []) v w
+    ≡ tally slots v w
+push_same [] s e zero w = ap (λ xs. count_by (nat_eq w) xs) e
+push_same [] s e (suc v) w = refl
+push_same (t ∷ ts) s e zero w = refl
+push_same (t ∷ ts) s e (suc v) w = push_same ts s e v w
+
+pub fits_pushed : (slots : List (SmallVec ℕ)) (s : SmallVec ℕ) (v : ℕ) → Fits slots v → Fits (slots ++ s ∷ []) v
+fits_pushed [] s v h = absurd (omega arith)
+fits_pushed (t ∷ ts) s zero h = h
+fits_pushed (t ∷ ts) s (suc v) h = fits_pushed ts s v h
+
+-- lists that did not change are readers still
+pub readers_kept : (raw : Raw) (old new : List (SmallVec ℕ)) → Keeps old new → AreReaders raw (reader_lists old)
+    → AreReaders raw (reader_lists new)
+readers_kept raw old new k r = record {
+  size = ap length k.lists ∙ r.size;
+  each = λ v w le. subst (λ (xs : List (List ℕ)). Contains (get_or xs v []) w ↔ Reads raw w v) (sym k.lists)
+      (r.each v w le);
+  once = λ v w. subst (λ (xs : List (List ℕ)). count_by (nat_eq w) (get_or xs v []) ≤ 1) (sym k.lists) (r.once v w);
+}
+
+module _ (raw : Raw) (r0 r1 : ℕ) (c : IsCircuit raw) (d0 : IsDefined raw (variable r0)) (d1 : IsDefined raw
+    (variable r1)) where
+  still_reads : (v w : ℕ) → Reads raw w v → ReadsBefore (with_appended_gate raw r0 r1) (length raw.gates) w v
+  still_reads v w (q, g, at, is, side) = (q, g, slice_get_within raw.gates q g at, old_at raw r0 r1 q g at, is, side)
+
+  read_before : (v w : ℕ) → ReadsBefore (with_appended_gate raw r0 r1) (length raw.gates) w v → Reads raw w v
+      × (v ≤ raw.max_var)
+  read_before v w (q, g, below, at, is, side) = elim (gate_cases raw r0 r1 q g at) [
+    | inl here ↦
+        (let (in0, in1) = sides_in_range raw c.sound q g here in
+        ((q, g, here, is, side), elim side [ inl e ↦ omega arith | inr e ↦ omega arith ]))
+    | inr e ↦ absurd (omega arith)
+  ]
+
+  tallied_pushed : (slots : List (SmallVec ℕ)) (s : SmallVec ℕ) → s.items ≡ [] → AreTallied (raw.max_var + 1)
+      (Reads raw) slots
+      → AreTallied (raw.max_var + 1 + 1) (ReadsBefore (with_appended_gate raw r0 r1) (length raw.gates)) (slots
+      ++ s ∷ [])
+  tallied_pushed slots s e t = record {
+    size = length_push slots s ∙ ap (λ n. n + 1) t.size;
+    once = λ v w. subst (λ n. n ≤ 1) (sym (push_same slots s e v w)) (t.once v w);
+    only = λ v w h. still_reads v w (t.only v w (subst (λ n. 1 ≤ n) (push_same slots s e v w) h));
+    all = λ v w lt p. let (reads, le) = read_before v w p in
+        subst (λ n. 1 ≤ n) (sym (push_same slots s e v w)) (t.all v w (omega arith) reads);
+  }
+
+  pub more_readers : (slots new : List (SmallVec ℕ)) → AreReaders raw (reader_lists slots)
+      → Appends (variable r0) (variable r1) (variable (next_gate raw r0 r1).lhs) slots new
+      → AreReaders (with_appended_gate raw r0 r1) (reader_lists new)
+  more_readers slots new r a =
+      let more = with_appended_gate raw r0 r1 in
+      let g = next_gate raw r0 r1 in
+      let pushed = slots ++ a.last ∷ [] in
+      readers_of more new
+      (tallied_all more (length raw.gates + 1) new (let long = length_push raw.gates g in omega arith)
+      (tallied_more more (more_sound raw r0 r1 c.sound d0 d1) (length raw.gates) g (new_at raw r0 r1) pushed pushed new
+      (tallied_pushed slots a.last a.empty (tallied raw slots r)) (record { lists = refl; room = λ x h. h }) a.both))

@@ -1,0 +1,7 @@
+pub mod Descents
+pub mod GreatestLemmas
+pub mod Heights
+pub mod LevelBound
+pub mod LevelChainLemmas
+pub mod OneLevel
+pub mod OneOrder

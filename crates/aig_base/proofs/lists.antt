@@ -1,0 +1,7 @@
+pub mod Chains
+pub mod Counting
+pub mod Evens
+pub mod Gets
+pub mod Joined
+pub mod LeastAmong
+pub mod Positions

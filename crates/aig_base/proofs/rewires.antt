@@ -1,0 +1,9 @@
+pub mod BehindLemmas
+pub mod LevelSteps
+pub mod Passes
+pub mod QueueLemmas
+pub mod Renewing
+pub mod RenewingSame
+pub mod Rewiring
+pub mod Searches
+pub mod VisitLemmas

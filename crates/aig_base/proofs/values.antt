@@ -1,0 +1,6 @@
+pub mod NegatedValues
+pub mod OneValue
+pub mod Premises
+pub mod Refined
+pub mod UniqueValue
+pub mod ValueRules

@@ -1,0 +1,4 @@
+pub mod Grown
+pub mod GrownBench
+pub mod Lengthened
+pub mod Outputs

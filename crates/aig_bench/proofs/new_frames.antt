@@ -1,0 +1,2 @@
+pub mod GateLists
+pub mod Swept

@@ -1,0 +1,191 @@
+-- Orders of a circuit's gates, by lists of their positions.
+use Rattle.std.proofs.Common.{◌≡◌, inl, inr, ℕ, suc, ◌+◌, ◌<◌, List, [], ◌∷◌, ◌++◌, All, Contains, length, map, Some, slice_get, refl, sym, ap, ◌∙◌, subst, arith, length-append, option_map}
+use Rattle.std.proofs.lemmas.List.{get_or_append_left, length-map, map_push}
+use Rattle.std.proofs.lemmas.List.Elements.{All-push}
+use Rattle.std.proofs.lemmas.Option.{get_or_from_slice_get, slice_get-map, slice_get_within}
+use Rattle.aig_parts.specs.declared.gate.Gate.{Gate}
+use Rattle.aig_parts.specs.declared.raw.Raw.{Raw}
+use Rattle.aig_parts.specs.declared.ternary.Tern.{Tern}
+use Rattle.aig_base.specs.Changes.{next_gate, restarted, with_appended_gate, with_output, with_reset}
+use Rattle.aig_base.specs.Circuit.{IsCircuit}
+use Rattle.aig_base.specs.Grounded.{IsSource}
+use Rattle.aig_base.specs.Grounded as by
+use Rattle.aig_parts.specs.Literal.{variable}
+use Rattle.aig_base.specs.Order.{IsCanonicalOrder}
+use Rattle.aig_base.specs.Sections.{IsDefined}
+use Rattle.aig_base.proofs.growth.Appended.{new_at, new_variable, old_at}
+use Rattle.aig_base.proofs.lists.Counting.{length-order}
+use Rattle.aig_base.proofs.circuits.Defined.{defined_cases}
+use Rattle.aig_base.proofs.lists.Gets.{slice_get_last, slice_get_left, slice_get_push}
+use Rattle.aig_sim.specs.GateOrder.{AreGatesOf, IsGateOrder, IsReady}
+use Rattle.aig_sim.proofs.GateOrders.{gate_order, gates_more}
+use Rattle.aig_bench.specs.declared.order.Order.{Order}
+use Rattle.aig_bench.specs.declared.order.Way.{Way}
+use Rattle.aig_bench.specs.declared.order.Way.TheVariants.{Standing, Listed, Stale}
+use Rattle.aig_bench.specs.state.SweepOrder.{gate_at, gates_at, ArePositions, AreTaken, IsFullOrder, IsListing, Orders}
+use Rattle.aig_bench.proofs.growing.Grown.{gate_was}
+
+gate_is_at : (gates : List Gate) (q : ℕ) (g : Gate) → slice_get gates q ≡ Some g → gate_at gates q ≡ g
+gate_is_at gates q g at = get_or_from_slice_get gates q g _ at
+
+pub positions_more : (raw : Raw) (variables positions : List ℕ) (v q : ℕ) (g : Gate) → ArePositions raw variables positions
+    → slice_get raw.gates q ≡ Some g → variable g.lhs ≡ v → ArePositions raw (variables ++ v ∷ []) (positions ++ q ∷ [])
+positions_more raw variables positions v q g h at is = record {
+  inside = All-push (λ p. p < length raw.gates) positions q h.inside (slice_get_within raw.gates q g at);
+  gates = subst (AreGatesOf raw (variables ++ v ∷ []))
+      (sym (map_push (gate_at raw.gates) positions q
+      ∙ ap (λ (x : Gate). gates_at raw.gates positions ++ x ∷ []) (gate_is_at raw.gates q g at)))
+      (gates_more v g h.gates (q, at) is);
+}
+
+-- the positions in the canonical order
+pub listing : (raw : Raw) (variables positions : List ℕ) → IsCircuit raw → IsCanonicalOrder raw variables
+    → ArePositions raw variables positions → IsListing raw positions
+listing raw variables positions circuit canonical h = record {
+  inside = h.inside;
+  full = record {
+    order = gate_order raw circuit variables (gates_at raw.gates positions) canonical h.gates;
+    size = sym (length-map (gates_at raw.gates positions) (λ (g : Gate). variable g.lhs))
+        ∙ ap length h.gates.variables_are ∙ length-order raw circuit.sound variables canonical;
+  };
+}
+
+-- one gate more behind the others
+module _ (raw : Raw) (r0 r1 : ℕ) (d0 : IsDefined raw (variable r0)) (d1 : IsDefined raw (variable r1)) where
+  abbrev more : Raw
+  more = with_appended_gate raw r0 r1
+
+  abbrev gate : Gate
+  gate = next_gate raw r0 r1
+
+  source_still : (v : ℕ) → IsSource raw v → IsSource more v
+  source_still v by.IsSource.constant = by.IsSource.constant
+  source_still v (by.IsSource.input p l at) = by.IsSource.input p l at
+  source_still v (by.IsSource.latch p x at) = by.IsSource.latch p x at
+
+  module _ (gates : List Gate) (h : IsGateOrder raw gates) where
+    abbrev longer : List Gate
+    longer = gates ++ gate ∷ []
+
+    ready_still : (q v : ℕ) → IsReady raw gates q v → IsReady more longer q v
+    ready_still q v (inl s) = inl (source_still v s)
+    ready_still q v (inr (r, g, lt, at, is)) = inr (r, g, lt, slice_get_left gates (gate ∷ []) r g at, is)
+
+    defined_ready : (v : ℕ) → IsDefined raw v → IsReady more longer (length gates) v
+    defined_ready v d = elim (defined_cases raw v d) [
+      | inl s ↦ inl (source_still v s)
+      | inr k ↦
+          let (q, g, at, is) = h.complete v k in
+          inr (q, g, slice_get_within gates q g at, slice_get_left gates (gate ∷ []) q g at, is)
+    ]
+
+    pub order_more : IsGateOrder more longer
+    order_more = record {
+      known = λ q g at. elim (slice_get_push gates gate g q at) [
+        | inl was ↦ let (r, stands) = h.known q g was in (r, old_at raw r0 r1 r g stands)
+        | inr e ↦ (length raw.gates, new_at raw r0 r1 ∙ ap Some e.1)
+      ];
+      complete = λ v k. elim (gate_was raw r0 r1 v k) [
+        | inl was ↦
+            let (q, g, at, is) = h.complete v was in
+            (q, g, slice_get_left gates (gate ∷ []) q g at, is)
+        | inr e ↦ (length gates, gate, slice_get_last gates gate, new_variable raw r0 r1 ∙ sym e)
+      ];
+      ready0 = λ q g at. elim (slice_get_push gates gate g q at) [
+        | inl was ↦ ready_still q (variable g.rhs0) (h.ready0 q g was)
+        | inr e ↦ subst (λ (x : Gate). IsReady more longer q (variable x.rhs0)) e.1
+            (subst (λ (n : ℕ). IsReady more longer n (variable r0)) (sym e.0) (defined_ready (variable r0) d0))
+      ];
+      ready1 = λ q g at. elim (slice_get_push gates gate g q at) [
+        | inl was ↦ ready_still q (variable g.rhs1) (h.ready1 q g was)
+        | inr e ↦ subst (λ (x : Gate). IsReady more longer q (variable x.rhs1)) e.1
+            (subst (λ (n : ℕ). IsReady more longer n (variable r1)) (sym e.0) (defined_ready (variable r1) d1))
+      ];
+    }
+
+  still_there : (gates : List Gate) (positions : List ℕ) → All (λ p. p < length gates) positions
+      → gates_at (gates ++ gate ∷ []) positions ≡ gates_at gates positions
+  still_there gates [] all = refl
+  still_there gates (p ∷ positions) all =
+      ap (λ (x : Gate). x ∷ gates_at (gates ++ gate ∷ []) positions)
+      (get_or_append_left gates (gate ∷ []) _ p (all 0 0 (omega arith)))
+      ∙ ap (λ (xs : List Gate). gate_at gates p ∷ xs)
+      (still_there gates positions (λ k d lt. all (suc k) d (omega arith)))
+
+  pub listing_more : (positions : List ℕ) (n : ℕ) → length raw.gates ≡ n → IsListing raw positions
+      → IsListing more (positions ++ n ∷ [])
+  listing_more positions n e h =
+      let size : length more.gates ≡ length raw.gates + 1 = length-append raw.gates (gate ∷ []) in
+      let last : gate_at more.gates n ≡ gate =
+      gate_is_at more.gates n gate (ap (slice_get more.gates) (sym e) ∙ new_at raw r0 r1) in
+      let are : gates_at more.gates (positions ++ n ∷ []) ≡ gates_at raw.gates positions ++ gate ∷ [] =
+      map_push (gate_at more.gates) positions n
+      ∙ ap (λ (xs : List Gate). xs ++ gate_at more.gates n ∷ []) (still_there raw.gates positions h.inside)
+      ∙ ap (λ (x : Gate). gates_at raw.gates positions ++ x ∷ []) last in
+      record {
+        inside = All-push (λ p. p < length more.gates) positions n
+            (λ k d lt. let was = h.inside k d lt in omega (arith, was, size)) (omega (arith, size));
+        full = subst (IsFullOrder more) (sym are) (record {
+          order = order_more (gates_at raw.gates positions) h.full.order;
+          size = length-append (gates_at raw.gates positions) (gate ∷ []) ∙ ap (λ k. k + 1) h.full.size ∙ sym size;
+        });
+      }
+
+-- other resets or outputs
+module _ (raw new : Raw) (same : new.gates ≡ raw.gates) (source : (v : ℕ) → IsSource raw v → IsSource new v) where
+  ready_kept : (gates : List Gate) (q v : ℕ) → IsReady raw gates q v → IsReady new gates q v
+  ready_kept gates q v (inl s) = inl (source v s)
+  ready_kept gates q v (inr x) = inr x
+
+  pub order_kept : (gates : List Gate) → IsGateOrder raw gates → IsGateOrder new gates
+  order_kept gates h = record {
+    known = λ q g at. let (r, stands) = h.known q g at in
+        (r, ap (λ (gs : List Gate). slice_get gs r) same ∙ stands);
+    complete = λ v k. h.complete v (subst (λ (gs : List Gate). Contains (map (λ (g : Gate). variable g.lhs) gs) v) same k);
+    ready0 = λ q g at. ready_kept gates q (variable g.rhs0) (h.ready0 q g at);
+    ready1 = λ q g at. ready_kept gates q (variable g.rhs1) (h.ready1 q g at);
+  }
+
+  pub standing_kept : IsGateOrder raw raw.gates → IsGateOrder new new.gates
+  standing_kept h = subst (IsGateOrder new) (sym same) (order_kept raw.gates h)
+
+  pub listing_kept : (positions : List ℕ) → IsListing raw positions → IsListing new positions
+  listing_kept positions h = record {
+    inside = λ k d lt. let was = h.inside k d lt in omega (arith, was, ap length same);
+    full = subst (λ (gs : List Gate). IsFullOrder new (gates_at gs positions)) (sym same) (record {
+      order = order_kept (gates_at raw.gates positions) h.full.order;
+      size = h.full.size ∙ ap length (sym same);
+    });
+  }
+
+  taken_kept : (w : Way) (positions : List ℕ) → AreTaken raw w positions → AreTaken new w positions
+  taken_kept Standing positions h = standing_kept h
+  taken_kept Listed positions h = listing_kept positions h
+  taken_kept Stale positions h = tt
+
+  orders_kept : (order : Order) → Orders raw order → Orders new order
+  orders_kept order h = taken_kept order.way order.positions.items h
+
+source_restarted : (raw : Raw) (lit : ℕ) (w : Tern) (v : ℕ) → IsSource raw v → IsSource (with_reset raw lit w) v
+source_restarted raw lit w v by.IsSource.constant = by.IsSource.constant
+source_restarted raw lit w v (by.IsSource.input p l at) = by.IsSource.input p l at
+source_restarted raw lit w v (by.IsSource.latch p x at) =
+    by.IsSource.latch p (restarted lit w x)
+    (slice_get-map (restarted lit w) raw.latches p ∙ ap (option_map (restarted lit w)) at)
+
+pub orders_reset : (raw new : Raw) (lit : ℕ) (w : Tern) (order : Order) → new ≡ with_reset raw lit w → Orders raw order
+    → Orders new order
+orders_reset raw new lit w order e h =
+    subst (λ (x : Raw). Orders x order) (sym e)
+    (orders_kept raw (with_reset raw lit w) refl (source_restarted raw lit w) order h)
+
+source_output : (raw : Raw) (position l : ℕ) (v : ℕ) → IsSource raw v → IsSource (with_output raw position l) v
+source_output raw position l v by.IsSource.constant = by.IsSource.constant
+source_output raw position l v (by.IsSource.input p k at) = by.IsSource.input p k at
+source_output raw position l v (by.IsSource.latch p x at) = by.IsSource.latch p x at
+
+pub orders_output : (raw new : Raw) (position l : ℕ) (order : Order) → new ≡ with_output raw position l → Orders raw order
+    → Orders new order
+orders_output raw new position l order e h =
+    subst (λ (x : Raw). Orders x order) (sym e)
+    (orders_kept raw (with_output raw position l) refl (source_output raw position l) order h)

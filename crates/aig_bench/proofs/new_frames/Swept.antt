@@ -1,0 +1,201 @@
+-- A frame that is swept: its sources have their values, and all gates are evaluated in an order.
+use Rattle.std.proofs.Common.{◌≡◌, ◌≢◌, inl, inr, ℕ, zero, suc, ◌+◌, ◌-◌, ◌<◌, ◌≤◌, Bool, List, [], ◌∷◌, ◌++◌, All, fold, length, min, take, drop, get_or, set, Some, slice_get, slice_set, refl, sym, ap, ◌∙◌, subst, arith, length-drop, length-take}
+use Rattle.std.proofs.Math.Seq.{take-add}
+use Rattle.std.proofs.lemmas.Bool.{cases_eq}
+use Rattle.std.proofs.lemmas.List.{get_or-set_other, get_or-set_same, length-set, map-append, set-set, take_all}
+use Rattle.std.proofs.lemmas.List.Elements.{All-drop, All-map, All-take}
+use Rattle.std.proofs.lemmas.List.Sums.{fold_more, fold-append}
+use Rattle.std.proofs.lemmas.Option.{slice_get-get_or}
+use Rattle.aig_parts.specs.declared.gate.Gate.{Gate}
+use Rattle.aig_parts.specs.declared.raw.Raw.{Raw}
+use Rattle.aig_parts.specs.declared.ternary.Tern.{Tern}
+use Rattle.aig_base.specs.Circuit.{IsCircuit}
+use Rattle.aig_base.specs.Grounded as by
+use Rattle.aig_base.specs.Grounded.{IsSource}
+use Rattle.aig_parts.specs.Literal.{variable}
+use Rattle.aig_base.specs.Sound.{IsSound}
+use Rattle.aig_base.specs.Value.{start_of}
+use Rattle.aig_base.proofs.circuits.Circuits.{gate_definition, gate_in_range, gate_is, rhs0_in_range, rhs1_in_range}
+use Rattle.aig_base.proofs.circuits.Gates.{level_in_range}
+use Rattle.aig_sim.specs.Cells.{HasCells, gate_value, with_gate, with_swept_row}
+use Rattle.aig_sim.specs.state.Frame.{HoldsAll, HoldsSources}
+use Rattle.aig_sim.specs.GateOrder.{IsGateOrder}
+use Rattle.aig_sim.specs.InputRows.{row_at, with_cell}
+use Rattle.aig_sim.proofs.Evaluation.{HoldsFirst, all_hold, gate_value_is, items_more, put_value, renews_none}
+use Rattle.aig_sim.proofs.SweepLemmas.{length-swept}
+use Rattle.aig_bench.specs.state.Current.{AreGateFlags, HoldsInputs, HoldsLatches, IsCurrentRow, IsLaidOut}
+use Rattle.aig_bench.specs.declared.setup.Setup.{Setup}
+use Rattle.aig_bench.specs.state.SweepOrder.{gate_at, gates_at, IsFullOrder}
+use Rattle.aig_bench.specs.state.Setup.{IsSetup, pair_of}
+use Rattle.aig_bench.proofs.cells.CellLemmas.{get_set_other, row_written}
+use Rattle.aig_bench.proofs.cells.Values.{sources_hold}
+
+-- the gates of an order can be evaluated
+pub have_cells : (raw : Raw) (flags : List Bool) (gates : List Gate) → IsCircuit raw → AreGateFlags raw flags
+    → IsGateOrder raw gates → All (HasCells flags) gates
+have_cells raw flags gates circuit h order k d lt =
+    let g : Gate = get_or gates k d in
+    let (r, stands) = order.known k g (slice_get-get_or gates k d lt) in
+    let range = gate_in_range raw circuit.sound r g stands in
+    let definition = gate_definition raw circuit.sound r g stands in
+    record {
+      even = omega (arith, definition);
+      gate = h.gates (variable g.lhs) range (gate_is raw r g stands);
+      rhs0 = omega (arith, rhs0_in_range raw circuit.sound r g stands, h.size);
+      rhs1 = omega (arith, rhs1_in_range raw circuit.sound r g stands, h.size);
+    }
+
+-- gates that are swept behind others
+pub swept_then : (rows : List (List Tern)) (t : ℕ) (xs ys : List Gate) → t < length rows
+    → with_swept_row (with_swept_row rows t xs) t ys ≡ with_swept_row rows t (xs ++ ys)
+swept_then rows t xs ys lt =
+    let row : List Tern = fold with_gate (row_at rows t) xs in
+    ap (λ (r : List Tern). set (set rows t row) t (fold with_gate r ys)) (get_or-set_same rows t row [] lt)
+    ∙ set-set rows t row (fold with_gate row ys)
+    ∙ ap (set rows t) (sym (fold-append with_gate (row_at rows t) xs ys))
+
+-- the gates of a batch
+pub batch_is : (batch gates : List Gate) (positions : List ℕ) (done count : ℕ) → done ≤ length positions
+    → count ≡ min (length positions - done) 256
+    → take (length (take (done + count - done) (drop done positions))) batch
+    ≡ gates_at gates (take (done + count - done) (drop done positions))
+    → take count batch ≡ gates_at gates (take count (drop done positions))
+batch_is batch gates positions done count le is e =
+    let same : done + count - done ≡ count = omega arith in
+    let size : length (take (done + count - done) (drop done positions)) ≡ count =
+    omega (arith, length-take (done + count - done) (drop done positions), length-drop done positions) in
+    ap (λ (n : ℕ). take n batch) (sym size) ∙ e ∙ ap (λ (n : ℕ). gates_at gates (take n (drop done positions))) same
+
+-- a batch behind those that are done
+pub batch_more : (rows now : List (List Tern)) (t : ℕ) (gates batch : List Gate) (positions : List ℕ) (done count : ℕ)
+    → t < length rows → now ≡ with_swept_row rows t (gates_at gates (take done positions))
+    → batch ≡ gates_at gates (take count (drop done positions))
+    → with_swept_row now t batch ≡ with_swept_row rows t (gates_at gates (take (done + count) positions))
+batch_more rows now t gates batch positions done count lt e is =
+    ap (λ (c : List (List Tern)). with_swept_row c t batch) e
+    ∙ ap (with_swept_row (with_swept_row rows t (gates_at gates (take done positions))) t) is
+    ∙ swept_then rows t (gates_at gates (take done positions)) (gates_at gates (take count (drop done positions))) lt
+    ∙ ap (with_swept_row rows t)
+    (sym (map-append (gate_at gates) (take done positions) (take count (drop done positions)))
+    ∙ ap (gates_at gates) (sym (take-add done count positions)))
+
+unmapped : (P : Gate → Type 0) (gates : List Gate) (positions : List ℕ) → All P (gates_at gates positions)
+    → All (λ p. P (gate_at gates p)) positions
+unmapped P gates [] all k d lt = absurd (omega arith)
+unmapped P gates (p ∷ positions) all zero d lt = all 0 (gate_at gates p) (omega arith)
+unmapped P gates (p ∷ positions) all (suc k) d lt =
+    unmapped P gates positions (λ j e below. all (suc j) e (omega arith)) k d (omega arith)
+
+-- what holds of all holds of a batch
+pub batch_all : (P : Gate → Type 0) (gates batch : List Gate) (positions : List ℕ) (done count : ℕ)
+    → All P (gates_at gates positions) → batch ≡ gates_at gates (take count (drop done positions)) → All P batch
+batch_all P gates batch positions done count all is =
+    let Q : ℕ → Type 0 = λ p. P (gate_at gates p) in
+    subst (All P) (sym is)
+    (All-map P (gate_at gates) (take count (drop done positions))
+    (All-take Q count (drop done positions) (All-drop Q done positions (unmapped P gates positions all))))
+
+-- sources that have their values, and then all gates in an order
+module _ (raw : Raw) (start : List Tern) (rows : List (List Tern)) (t : ℕ) (sound : IsSound raw) (gates : List Gate)
+    (order : IsGateOrder raw gates) (row : List Tern) (wide : length row ≡ raw.max_var + 1)
+    (sources : HoldsSources raw start rows t row) where
+  abbrev after : ℕ → List Tern
+  after n = fold with_gate row (take n gates)
+
+  swept : (n : ℕ) → n ≤ length gates
+      → HoldsSources raw start rows t (after n) × HoldsFirst raw start rows t gates n (after n)
+  swept zero le = (sources, λ r g lt. absurd (omega arith))
+  swept (suc n) le =
+      let none : Gate = record { lhs = 0; rhs0 = 0; rhs1 = 0 } in
+      let g : Gate = get_or gates n none in
+      let at : slice_get gates n ≡ Some g = slice_get-get_or gates n none (omega arith) in
+      let (r, stands) = order.known n g at in
+      let range = gate_in_range raw sound r g stands in
+      let (held, first) = swept n (omega arith) in
+      let room : variable g.lhs < length (after n) = omega (arith, length-swept row (take n gates), wide, range) in
+      let put = put_value raw start rows t (after n) (after n) (variable g.lhs) (variable g.lhs) (gate_value (after n) g)
+      refl room (gate_value_is raw start rows t gates n g (after n) sound order at held first)
+      (renews_none raw start rows t (after n)) in
+      let one : n + 1 ≡ suc n = omega arith in
+      let next : with_gate (after n) g ≡ after (suc n) =
+      sym (fold_more with_gate row gates n none (omega arith)) ∙ ap after one in (
+        subst (HoldsSources raw start rows t) next (λ v s. put.1.keeps v (held v s)),
+        subst (HoldsFirst raw start rows t gates (suc n)) next
+            (λ i k lt is. items_more
+            (λ x. Rattle.aig_sim.specs.state.Frame.Holds raw start rows t (with_gate (after n) g) (variable x.lhs)) gates n g at
+            (λ j x below here. put.1.keeps (variable x.lhs) (first j x below here)) put.2 i k (omega arith) is),
+      )
+
+  pub swept_holds : HoldsAll raw start rows t (fold with_gate row gates)
+  swept_holds =
+      let (held, first) = swept (length gates) (omega arith) in
+      let all : after (length gates) ≡ fold with_gate row gates =
+      ap (fold with_gate row) (take_all (length gates) gates (omega arith)) in
+      subst (HoldsAll raw start rows t) all (all_hold raw start rows t gates (after (length gates)) order held first)
+
+-- a source that is put in a grid for a setup
+pub row_put : (setup : Setup) (flags : List Bool) (old new : List (List Tern)) (t v : ℕ) (w : Tern) → IsLaidOut setup flags old
+    → t < length setup.stimulus.rows → new ≡ with_cell old t v w → row_at new t ≡ slice_set (row_at old t) v w
+row_put setup flags old new t v w h lt is =
+    ap (λ (rows : List (List Tern)). row_at rows t) is ∙ row_written old t v w (omega (arith, h.rows_are.frames_are))
+
+pub source_inside : (setup : Setup) (flags : List Bool) (cells : List (List Tern)) (t v : ℕ) → IsSetup setup
+    → IsLaidOut setup flags cells → t < length setup.stimulus.rows → IsSource setup.circuit v → v < length (row_at cells t)
+source_inside setup flags cells t v p h lt source =
+    omega (arith, level_in_range setup.circuit p.circuit.sound (by.Level.source v source), h.rows_are.widths t lt)
+
+-- variable 0 is no gate's
+kept_zero : (row : List Tern) (gates : List Gate) → All (λ g. 0 < variable g.lhs) gates
+    → slice_get (fold with_gate row gates) 0 ≡ slice_get row 0
+kept_zero row [] all = refl
+kept_zero row (g ∷ gates) all =
+    kept_zero (with_gate row g) gates (λ k d lt. all (suc k) d (omega arith))
+    ∙ get_set_other row (variable g.lhs) 0 (gate_value row g)
+    (λ e. let positive = all 0 g (omega arith) in absurd (omega arith))
+
+positive_sides : (raw : Raw) (gates : List Gate) → IsSound raw → IsGateOrder raw gates → All (λ g. 0 < variable g.lhs) gates
+positive_sides raw gates sound order k d lt =
+    let (r, stands) = order.known k (get_or gates k d) (slice_get-get_or gates k d lt) in
+    let definition = gate_definition raw sound r (get_or gates k d) stands in
+    omega (arith, definition)
+
+-- a grid for a setup in which all gates were swept at a frame
+module _ (setup : Setup) (flags flags' : List Bool) (old new : List (List Tern)) (t : ℕ) (gates : List Gate) (p : IsSetup setup)
+    (h : IsLaidOut setup flags old) (lt : t < length setup.stimulus.rows) (full : IsFullOrder setup.circuit gates)
+    (e : new ≡ with_swept_row old t gates) where
+  row_is : row_at new t ≡ fold with_gate (row_at old t) gates
+  row_is =
+      ap (λ (rows : List (List Tern)). row_at rows t) e
+      ∙ get_or-set_same old t (fold with_gate (row_at old t) gates) [] (omega (arith, h.rows_are.frames_are))
+
+  pub row_kept : (u : ℕ) → u ≢ t → row_at new u ≡ row_at old u
+  row_kept u ne =
+      ap (λ (rows : List (List Tern)). row_at rows u) e
+      ∙ get_or-set_other old t u (fold with_gate (row_at old t) gates) [] ne
+
+  pub laid_out_swept : flags' ≡ flags → IsLaidOut setup flags' new
+  laid_out_swept same = record {
+    flags_are = subst (AreGateFlags setup.circuit) (sym same) h.flags_are;
+    rows_are = record {
+      frames_are = ap length e ∙ length-set old t _ ∙ h.rows_are.frames_are;
+      widths = λ s below. elim (cases_eq s t) [
+        | inl k ↦ ap (λ (n : ℕ). length (row_at new n)) k ∙ ap length row_is ∙ length-swept (row_at old t) gates
+            ∙ h.rows_are.widths t lt
+        | inr ne ↦ ap length (row_kept s ne) ∙ h.rows_are.widths s below
+      ];
+      constants = λ s below. elim (cases_eq s t) [
+        | inl k ↦ ap (λ (n : ℕ). slice_get (row_at new n) 0) k ∙ ap (λ (row : List Tern). slice_get row 0) row_is
+            ∙ kept_zero (row_at old t) gates (positive_sides setup.circuit gates p.circuit.sound full.order)
+            ∙ h.rows_are.constants t lt
+        | inr ne ↦ ap (λ (row : List Tern). slice_get row 0) (row_kept s ne) ∙ h.rows_are.constants s below
+      ];
+    };
+  }
+
+  pub current_swept : HoldsInputs (pair_of setup) t (row_at old t) → HoldsLatches (pair_of setup) t (row_at old t)
+      → IsCurrentRow (pair_of setup) t (row_at new t)
+  current_swept inputs latches =
+      subst (IsCurrentRow (pair_of setup) t) (sym row_is)
+      (swept_holds setup.circuit (start_of setup.circuit) setup.stimulus.rows t p.circuit.sound gates full.order (row_at old t)
+      (h.rows_are.widths t lt)
+      (sources_hold (pair_of setup) t (row_at old t) (h.rows_are.constants t lt) inputs latches))

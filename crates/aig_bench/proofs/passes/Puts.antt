@@ -1,0 +1,159 @@
+-- What the writing of a source does to grid and buckets.
+use Rattle.std.proofs.Common.{◌≡◌, ◌≢◌, ◌⊎◌, ◌↔◌, inl, inr, ℕ, ◌+◌, ◌*◌, ◌<◌, ◌≤◌, Bool, false, List, length, Option, Some, slice_get, slice_set, Contains, ap, ◌∙◌, subst, arith}
+use Rattle.aig_parts.specs.declared.ternary.Tern.{Tern}
+use Rattle.aig_parts.specs.Formed.{limit}
+use Rattle.aig_base.specs.Grounded as by
+use Rattle.aig_base.specs.Grounded.{IsSource, Level}
+use Rattle.aig_base.specs.Levels.{AreLevels}
+use Rattle.aig_base.specs.Sections.{IsGate}
+use Rattle.aig_base.proofs.circuits.Circuits.{gate_definition, gate_in_range, gate_is}
+use Rattle.aig_base.proofs.circuits.Gates.{level_of_gate, level_in_range}
+use Rattle.aig_sim.specs.InputRows.{row_at, with_cell}
+use Rattle.aig_bench.specs.declared.buckets.Buckets.{Buckets}
+use Rattle.aig_bench.specs.declared.setup.Setup.{Setup}
+use Rattle.aig_bench.specs.declared.settle.Fanouts.{Fanouts}
+use Rattle.aig_bench.specs.state.Buckets.{AreBuckets, Waits, Fits, Links}
+use Rattle.aig_bench.specs.state.Current.{IsLaidOut}
+use Rattle.aig_bench.specs.Pair.{HasValue}
+use Rattle.aig_bench.specs.state.Setup.{IsSetup, pair_of}
+use Rattle.aig_bench.proofs.carries.Carrying.{puts}
+use Rattle.aig_bench.specs.declared.latches.LatchList.{LatchList}
+use Rattle.aig_bench.specs.state.Latches.{Follows, HandsOn, Lists}
+use Rattle.aig_bench.proofs.cells.CellLemmas.{row_written, row_other}
+use Rattle.aig_bench.proofs.carries.Handed.{hands_same, hands_written, set_again}
+use Rattle.aig_bench.specs.state.Entry.{Puts}
+use Rattle.aig_base.specs.Readers.{list_of, Reads, AreReaders}
+use Rattle.aig_bench.specs.state.Sweep.{IsWork}
+use Rattle.aig_bench.proofs.cells.Flags.{source_flag}
+use Rattle.aig_bench.proofs.passes.SweepSteps.{laid_out_written, each_reader}
+use Rattle.aig_bench.proofs.waits.Height.{level_bound}
+
+module _ (setup : Setup) (fanouts : Fanouts) (flags : List Bool) (cells : List (List Tern)) (b : Buckets) (t v : ℕ)
+    (work : IsWork setup fanouts flags cells b) (lt : t < length setup.stimulus.rows) (positive : 0 < v)
+    (source : IsSource setup.circuit v) where
+  pub in_range : v ≤ setup.circuit.max_var
+  in_range = level_in_range setup.circuit work.setup_is.circuit.sound (by.Level.source v source)
+
+  pub inside_flags : v < length flags
+  inside_flags = omega (arith, in_range, work.laid_out.flags_are.size)
+
+  pub inside_readers : v < length fanouts.readers.lists
+  inside_readers = omega (arith, in_range, work.readers.size)
+
+  pub no_gate : slice_get flags v ≡ Some false
+  no_gate = source_flag setup.circuit flags v work.setup_is.circuit.sound work.laid_out.flags_are in_range source
+
+  pub put_work : (flags' : List Bool) (cells' : List (List Tern)) (w : Tern) → cells' ≡ with_cell cells t v w
+      → flags' ≡ flags → IsWork setup fanouts flags' cells' b
+  put_work flags' cells' w is same = record {
+    setup_is = work.setup_is;
+    laid_out = laid_out_written setup t v w flags flags' cells cells' work.laid_out is lt positive same;
+    levels = work.levels;
+    readers = work.readers;
+    buckets = work.buckets;
+    size = work.size;
+    heads = work.heads;
+    gates = work.gates;
+  }
+
+  module _ (cells' : List (List Tern)) (w : Tern) (is : cells' ≡ with_cell cells t v w) where
+    row_is : row_at cells' t ≡ slice_set (row_at cells t) v w
+    row_is = ap (λ (c : List (List Tern)). row_at c t) is
+        ∙ row_written cells t v w (omega (arith, lt, work.laid_out.rows_are.frames_are))
+
+    -- what a change of the cell hands on
+    pub put_hands : (old new : LatchList) → Lists (λ i. Follows setup.circuit i v) old new
+        → HandsOn setup.circuit (row_at cells t) old.marks.items (row_at cells' t) new.marks.items
+    put_hands old new lists = hands_written setup.circuit (row_at cells t) (row_at cells' t) v w old new row_is lists
+
+    pub put_hands_none : (a : Tern) → slice_get (row_at cells t) v ≡ Some a → a ≡ w → (marks : List Bool)
+        → HandsOn setup.circuit (row_at cells t) marks (row_at cells' t) marks
+    put_hands_none a at same marks =
+        hands_same setup.circuit (row_at cells t) (row_at cells' t) marks (λ u. ap (λ (r : List Tern). slice_get r u) row_is
+        ∙ set_again (row_at cells t) v w (at ∙ ap Some same) u)
+
+    pub put_others : (u : ℕ) → u ≢ t → row_at cells' u ≡ row_at cells u
+    put_others u ne = ap (λ (c : List (List Tern)). row_at c u) is ∙ row_other cells t v w u ne
+
+  pub put_moves : (cells' : List (List Tern)) (w : Tern) (b' : Buckets) → cells' ≡ with_cell cells t v w
+      → HasValue (pair_of setup) t (2 * v) w
+      → ((u : ℕ) → Waits b' u ↔ (Waits b u ⊎ (Reads setup.circuit u v × (slice_get (row_at cells t) v ≢ Some w))))
+      → Puts (pair_of setup) t v (row_at cells t) b.marks.items (row_at cells' t) b'.marks.items
+  put_moves cells' w b' is value moved =
+      puts (pair_of setup) t work.setup_is.circuit.sound v w (row_at cells t) (row_at cells' t) b.marks.items b'.marks.items
+      source (omega (arith, in_range, work.laid_out.rows_are.widths t lt)) (row_is cells' w is) value moved
+
+module _ (setup : Setup) (fanouts : Fanouts) (flags : List Bool) (cells : List (List Tern)) (b : Buckets) (v : ℕ) (xs : List ℕ)
+    (work : IsWork setup fanouts flags cells b) (read : xs ≡ list_of fanouts.readers v) (le : v ≤ setup.circuit.max_var) where
+  reads : (u : ℕ) → Contains xs u ↔ Reads setup.circuit u v
+  reads = each_reader setup.circuit fanouts.readers xs v work.readers le read
+
+  gate_reads : (u : ℕ) → Contains xs u → IsGate setup.circuit u
+  gate_reads u i =
+      let (r, x, there, is, side) = (reads u).0 i in
+      subst (IsGate setup.circuit) is (gate_is setup.circuit r x there)
+
+  pub source_readers_fit : (u : ℕ) → Contains xs u → Fits fanouts.levels (length b.head.items) u
+  source_readers_fit u i =
+      let (r, x, there, is, side) = (reads u).0 i in
+      let d = gate_definition setup.circuit work.setup_is.circuit.sound r x there in
+      let k = gate_in_range setup.circuit work.setup_is.circuit.sound r x there in
+      let h = gate_reads u i in
+      record {
+        positive = omega arith;
+        inside = omega (arith, work.levels.size);
+        level = λ m stands. work.heads u m h
+            (level_of_gate setup.circuit fanouts.levels u m work.levels work.setup_is.circuit.acyclic h stands);
+      }
+
+  pub source_linked : (b' : Buckets) → AreBuckets fanouts.levels b' → Links (Contains xs) b b'
+      → IsWork setup fanouts flags cells b'
+  source_linked b' are links = record {
+    setup_is = work.setup_is;
+    laid_out = work.laid_out;
+    levels = work.levels;
+    readers = work.readers;
+    buckets = are;
+    size = omega (arith, work.size, links.heads);
+    heads = λ u n k h. let below = work.heads u n k h in omega (arith, links.heads);
+    gates = λ u k. elim ((links.waits u).0 k) [ inl o ↦ work.gates u o | inr i ↦ gate_reads u i ];
+  }
+
+  pub waits_put : (b' : Buckets) (Q : Type 0) → Q → Links (Contains xs) b b'
+      → (u : ℕ) → Waits b' u ↔ (Waits b u ⊎ (Reads setup.circuit u v × Q))
+  waits_put b' Q holds links u = (
+    λ k. elim ((links.waits u).0 k) [ inl o ↦ inl o | inr i ↦ inr ((reads u).0 i, holds) ],
+    λ k. elim k [
+      | inl o ↦ (links.waits u).1 (inl o)
+      | inr r ↦ (links.waits u).1 (inr ((reads u).1 r.0))
+    ],
+  )
+
+pub not_the_value : (o : Option Tern) (a w : Tern) → o ≡ Some a → a ≢ w → o ≢ Some w
+not_the_value o a w is ne e = ne (cc)
+
+-- new buckets
+pub new_work : (setup : Setup) (fanouts : Fanouts) (b : Buckets) → IsSetup setup → AreLevels setup.circuit fanouts.levels
+    → AreReaders setup.circuit fanouts.readers → length b.head.items ≡ setup.circuit.max_var + 1
+    → ((levels : List ℕ) → length levels ≡ setup.circuit.max_var + 1 → AreBuckets levels b)
+    → ((v : ℕ) → Waits b v → ⊥) → (flags : List Bool) (cells : List (List Tern)) → IsLaidOut setup flags cells
+    → IsWork setup fanouts flags cells b
+new_work setup fanouts b p levels readers size are empty flags cells laid_out = record {
+  setup_is = p;
+  laid_out = laid_out;
+  levels = levels;
+  readers = readers;
+  buckets = are fanouts.levels levels.size;
+  size = omega arith;
+  heads = λ v n g l. let le = level_bound setup.circuit p.circuit.sound l in omega arith;
+  gates = λ v k. absurd (empty v k);
+}
+
+-- a circuit has no more variables than the limit and 0
+pub few_variables : (setup : Setup) → IsSetup setup → setup.circuit.max_var + 1 ≤ limit + 1
+few_variables setup p = let h = p.circuit.formed.counts.max_var in omega arith
+
+-- nothing more waits where the cell has the value already
+pub waits_kept : (b : Buckets) (R : ℕ → ℕ → Type 0) (v : ℕ) (o : Option Tern) (a w : Tern) → o ≡ Some a → a ≡ w → (u : ℕ)
+    → Waits b u ↔ (Waits b u ⊎ (R u v × (o ≢ Some w)))
+waits_kept b R v o a w is e u = (λ m. inl m, λ k. elim k [ inl m ↦ m | inr r ↦ absurd (r.1 (is ∙ ap Some e)) ])

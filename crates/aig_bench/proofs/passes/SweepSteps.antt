@@ -1,0 +1,277 @@
+-- What one evaluation does to grid and buckets.
+use Rattle.std.proofs.Common.{◌≡◌, ◌≢◌, ◌↔◌, inl, inr, ℕ, ◌+◌, ◌<◌, ◌≤◌, Bool, true, List, ◌∷◌, length, get_or, Some, slice_get, slice_set, Contains, refl, sym, ap, ◌∙◌, subst, arith}
+use Rattle.std.proofs.lemmas.Bool.{cases_eq}
+use Rattle.std.proofs.lemmas.List.{length-set}
+use Rattle.aig_parts.specs.declared.ternary.Tern.{Tern}
+use Rattle.aig_parts.specs.declared.ternary.Tern.TheVariants.{X}
+use Rattle.aig_parts.specs.declared.gate.Gate.{Gate}
+use Rattle.aig_base.specs.Grounded.{Level}
+use Rattle.aig_parts.specs.Literal.{variable, IsEven}
+use Rattle.aig_base.specs.Sections.{IsGate}
+use Rattle.aig_base.proofs.circuits.Circuits.{gate_definition, gate_in_range, gate_is, rhs0_in_range, rhs1_in_range}
+use Rattle.aig_base.proofs.circuits.Gates.{level_of_gate}
+use Rattle.aig_sim.specs.Cells.{gate_value}
+use Rattle.aig_sim.specs.InputRows.{row_at, with_cell}
+use Rattle.aig_bench.specs.declared.latches.LatchList.{LatchList}
+use Rattle.aig_bench.specs.state.Latches.{Follows, HandsOn, Lists}
+use Rattle.aig_bench.proofs.carries.Handed.{hands_same, hands_written, set_again}
+use Rattle.aig_bench.specs.declared.buckets.Buckets.{Buckets}
+use Rattle.aig_bench.specs.declared.setup.Setup.{Setup}
+use Rattle.aig_bench.specs.declared.settle.Fanouts.{Fanouts}
+use Rattle.aig_bench.specs.state.Buckets.{AreBuckets, Waits, Fits, Links, Takes}
+use Rattle.aig_bench.specs.state.Current.{AreGateFlags, IsLaidOut}
+use Rattle.aig_bench.specs.state.Setup.{pair_of}
+use Rattle.aig_parts.specs.declared.raw.Raw.{Raw}
+use Rattle.aig_base.specs.Readers.{ReaderLists, list_of, Reads, AreReaders}
+use Rattle.aig_bench.specs.state.Sweep.{IsWork, Sweeps}
+use Rattle.aig_bench.proofs.cells.CellLemmas.{get_set_other, row_written, row_other, frames_written}
+use Rattle.aig_bench.proofs.cells.Flags.{gate_flag}
+use Rattle.aig_bench.proofs.passes.Sweeps.{lower, swept_changed, swept_same, cell_changed, cell_same}
+
+-- the list of a variable has the gates that read it
+pub each_reader : (raw : Raw) (r : ReaderLists) (xs : List ℕ) (v : ℕ) → AreReaders raw r → v ≤ raw.max_var → xs ≡ list_of r v
+    → (u : ℕ) → Contains xs u ↔ Reads raw u v
+each_reader raw r xs v h le e u = rw e (h.each v u le)
+
+-- a grid in which a cell was written is laid out as before
+pub laid_out_written : (setup : Setup) (t u : ℕ) (w : Tern) (flags flags' : List Bool) (old new : List (List Tern))
+    → IsLaidOut setup flags old → new ≡ with_cell old t u w → t < length setup.stimulus.rows → 0 < u → flags' ≡ flags
+    → IsLaidOut setup flags' new
+laid_out_written setup t u w flags flags' old new h is lt positive e = record {
+  flags_are = subst (AreGateFlags setup.circuit) (sym e) h.flags_are;
+  rows_are = record {
+    frames_are = ap length is ∙ frames_written old t u w ∙ h.rows_are.frames_are;
+    widths = λ s below. elim (cases_eq s t) [
+      | inl k ↦ ap length (here s k) ∙ length-set (row_at old t) u w ∙ h.rows_are.widths t lt
+      | inr ne ↦ ap length (there s ne) ∙ h.rows_are.widths s below
+    ];
+    constants = λ s below. elim (cases_eq s t) [
+      | inl k ↦
+          ap (λ (r : List Tern). slice_get r 0) (here s k)
+          ∙ get_set_other (row_at old t) u 0 w (λ z. omega arith) ∙ h.rows_are.constants t lt
+      | inr ne ↦ ap (λ (r : List Tern). slice_get r 0) (there s ne) ∙ h.rows_are.constants s below
+    ];
+  };
+}
+  where
+    inside : t < length old
+    inside = omega (arith, h.rows_are.frames_are)
+
+    here : (s : ℕ) → s ≡ t → row_at new s ≡ slice_set (row_at old t) u w
+    here s k = ap (row_at new) k ∙ ap (λ (c : List (List Tern)). row_at c t) is ∙ row_written old t u w inside
+
+    there : (s : ℕ) → s ≢ t → row_at new s ≡ row_at old s
+    there s ne = ap (λ (c : List (List Tern)). row_at c s) is ∙ row_other old t u w s ne
+
+module _ (setup : Setup) (fanouts : Fanouts) (flags : List Bool) (cells : List (List Tern)) (b b' : Buckets) (t l w q : ℕ) (g : Gate)
+    (work : IsWork setup fanouts flags cells b) (lt : t < length setup.stimulus.rows)
+    (takes : Takes fanouts.levels l b b' (Some w)) (at : slice_get setup.circuit.gates q ≡ Some g) (e : variable g.lhs ≡ w) where
+  abbrev v : ℕ
+  v = variable g.lhs
+
+  taken : Takes fanouts.levels l b b' (Some v)
+  taken = subst (λ (z : ℕ). Takes fanouts.levels l b b' (Some z)) (sym e) takes
+
+  in_range : v ≤ setup.circuit.max_var
+  in_range = gate_in_range setup.circuit work.setup_is.circuit.sound q g at
+
+  pub taken_in_range : w ≤ setup.circuit.max_var
+  taken_in_range = subst (λ (z : ℕ). z ≤ setup.circuit.max_var) e in_range
+
+  positive : 0 < v
+  positive = let d = gate_definition setup.circuit work.setup_is.circuit.sound q g at in omega arith
+
+  pub lhs_even : IsEven g.lhs
+  lhs_even = (gate_definition setup.circuit work.setup_is.circuit.sound q g at).0
+
+  pub lhs_flag : slice_get flags v ≡ Some true
+  lhs_flag = gate_flag setup.circuit flags v work.laid_out.flags_are in_range (gate_is setup.circuit q g at)
+
+  pub rhs0_inside : variable g.rhs0 < length flags
+  rhs0_inside = omega (arith, rhs0_in_range setup.circuit work.setup_is.circuit.sound q g at, work.laid_out.flags_are.size)
+
+  pub rhs1_inside : variable g.rhs1 < length flags
+  rhs1_inside = omega (arith, rhs1_in_range setup.circuit work.setup_is.circuit.sound q g at, work.laid_out.flags_are.size)
+
+  level : Level setup.circuit v l
+  level = level_of_gate setup.circuit fanouts.levels v l work.levels work.setup_is.circuit.acyclic (gate_is setup.circuit q g at)
+      taken.of_level
+
+  wide : length (row_at cells t) ≡ setup.circuit.max_var + 1
+  wide = work.laid_out.rows_are.widths t lt
+
+  pub taken_work : IsWork setup fanouts flags cells b'
+  taken_work = record {
+    setup_is = work.setup_is;
+    laid_out = work.laid_out;
+    levels = work.levels;
+    readers = work.readers;
+    buckets = taken.buckets;
+    size = omega (arith, work.size, taken.heads);
+    heads = λ u n k h. let below = work.heads u n k h in omega (arith, taken.heads);
+    gates = λ u k. work.gates u ((taken.waits u).0 k).0;
+  }
+
+  -- what the others wait for
+  pub waits_less : (u : ℕ) → Waits b' u → Waits b u
+  waits_less u k = ((taken.waits u).0 k).0
+
+  pub waited : Waits b v
+  waited = taken.waited
+
+  pub waits_no_more : Waits b' v → ⊥
+  waits_no_more k = ((taken.waits v).0 k).1 refl
+
+  pub level_is : slice_get fanouts.levels v ≡ Some l
+  level_is = taken.of_level
+
+  module _ (xs : List ℕ) (read : xs ≡ list_of fanouts.readers w) where
+    reads : (u : ℕ) → Contains xs u ↔ Reads setup.circuit u v
+    reads = each_reader setup.circuit fanouts.readers xs v work.readers in_range (read ∙ ap (list_of fanouts.readers) (sym e))
+
+    gate_reads : (u : ℕ) → Contains xs u → IsGate setup.circuit u
+    gate_reads u i =
+        let (r, x, there, is, side) = (reads u).0 i in
+        subst (IsGate setup.circuit) is (gate_is setup.circuit r x there)
+
+    pub readers_fit : (u : ℕ) → Contains xs u → Fits fanouts.levels (length b'.head.items) u
+    readers_fit u i =
+        let (r, x, there, is, side) = (reads u).0 i in
+        let d = gate_definition setup.circuit work.setup_is.circuit.sound r x there in
+        let k = gate_in_range setup.circuit work.setup_is.circuit.sound r x there in
+        let h = gate_reads u i in
+        record {
+          positive = omega arith;
+          inside = omega (arith, work.levels.size);
+          level = λ m stands.
+              let below = work.heads u m h
+              (level_of_gate setup.circuit fanouts.levels u m work.levels work.setup_is.circuit.acyclic h stands) in
+              omega (arith, taken.heads);
+        }
+
+    module _ (b'' : Buckets) (are : AreBuckets fanouts.levels b'') (links : Links (Contains xs) b' b'') where
+      pub linked_work : IsWork setup fanouts flags cells b''
+      linked_work = record {
+        setup_is = work.setup_is;
+        laid_out = work.laid_out;
+        levels = work.levels;
+        readers = work.readers;
+        buckets = are;
+        size = omega (arith, work.size, taken.heads, links.heads);
+        heads = λ u n k h. let below = work.heads u n k h in omega (arith, taken.heads, links.heads);
+        gates = λ u k. elim ((links.waits u).0 k) [
+          | inl o ↦ taken_work.gates u o
+          | inr i ↦ gate_reads u i
+        ];
+      }
+
+      -- a reader has a higher level, so at this level no more wait
+      pub linked_less : (u : ℕ) → slice_get fanouts.levels u ≡ Some l → Waits b'' u → Waits b u
+      linked_less u stands k = elim ((links.waits u).0 k) [
+        | inl o ↦ waits_less u o
+        | inr i ↦ absurd (reader_over u stands i)
+      ]
+        where
+          reader_over : (u : ℕ) → slice_get fanouts.levels u ≡ Some l → Contains xs u → ⊥
+          reader_over u stands i =
+              let (r, x, there, is, side) = (reads u).0 i in
+              let k : Level setup.circuit u l = level_of_gate setup.circuit fanouts.levels u l work.levels
+              work.setup_is.circuit.acyclic (gate_reads u i) stands in
+              let o : l < l = lower (pair_of setup) t work.setup_is.circuit r x v l l there side level
+              (subst (λ (z : ℕ). Level setup.circuit z l) (sym is) k) in
+              omega arith
+
+      pub linked_no_more : Waits b'' v → ⊥
+      linked_no_more k = elim ((links.waits v).0 k) [
+        | inl o ↦ waits_no_more o
+        | inr i ↦
+            let (r, x, there, is, side) = (reads v).0 i in
+            let o : l < l = lower (pair_of setup) t work.setup_is.circuit r x v l l there side level
+            (subst (λ (z : ℕ). Level setup.circuit z l) (sym is) level) in
+            absurd (omega arith)
+      ]
+
+  module _ (cells' : List (List Tern))
+      (is : cells' ≡ with_cell cells t v (gate_value (row_at cells t) g)) where
+    row_is : row_at cells' t ≡ slice_set (row_at cells t) v (gate_value (row_at cells t) g)
+    row_is = ap (λ (c : List (List Tern)). row_at c t) is
+        ∙ row_written cells t v (gate_value (row_at cells t) g) (omega (arith, lt, work.laid_out.rows_are.frames_are))
+
+    -- what a change of the cell hands on
+    pub hands_changed : (old new : LatchList) → Lists (λ i. Follows setup.circuit i w) old new
+        → HandsOn setup.circuit (row_at cells t) old.marks.items (row_at cells' t) new.marks.items
+    hands_changed old new lists =
+        hands_written setup.circuit (row_at cells t) (row_at cells' t) w (gate_value (row_at cells t) g) old new
+        (subst (λ (z : ℕ). row_at cells' t ≡ slice_set (row_at cells t) z (gate_value (row_at cells t) g)) e row_is) lists
+
+    inside_row : v < length (row_at cells t)
+    inside_row = omega (arith, in_range, wide)
+
+    pub other_rows : (u : ℕ) → u ≢ t → row_at cells' u ≡ row_at cells u
+    other_rows u ne = ap (λ (c : List (List Tern)). row_at c u) is
+        ∙ row_other cells t v (gate_value (row_at cells t) g) u ne
+
+    pub written_work : (flags' : List Bool) (x : Buckets) → flags' ≡ flags → IsWork setup fanouts flags cells x → IsWork setup fanouts flags' cells' x
+    written_work flags' x same h = record {
+      setup_is = h.setup_is;
+      laid_out = laid_out_written setup t v (gate_value (row_at cells t) g) flags flags' cells cells' h.laid_out is lt positive same;
+      levels = h.levels;
+      readers = h.readers;
+      buckets = h.buckets;
+      size = h.size;
+      heads = h.heads;
+      gates = h.gates;
+    }
+
+    pub sweeps_changed : (xs : List ℕ) → xs ≡ list_of fanouts.readers w → (b'' : Buckets) → Links (Contains xs) b' b''
+        → get_or (row_at cells' t) v X ≢ get_or (row_at cells t) v X
+        → Sweeps (pair_of setup) t l l (row_at cells t) b.marks.items (row_at cells' t) b''.marks.items 1 1
+    sweeps_changed xs read b'' links ne =
+        let fresh = cell_changed (row_at cells t) (row_at cells' t) v (gate_value (row_at cells t) g) row_is inside_row ne in
+        record {
+          sweep = λ forced old ys zs fits s. record {
+            evaluated_now = v ∷ ys;
+            changed_now = v ∷ zs;
+            sweeping = rw row_is (swept_changed (pair_of setup) t work.setup_is.circuit (Contains forced) old (row_at cells t)
+                b.marks.items b''.marks.items l q g ys zs fits s at waited level wide (λ u. (
+                  λ k. elim ((links.waits u).0 k) [
+                    | inl o ↦ inl ((taken.waits u).0 o)
+                    | inr i ↦ inr ((reads xs read u).0 i, fresh)
+                  ],
+                  λ k. elim k [
+                    | inl o ↦ (links.waits u).1 (inl ((taken.waits u).1 o))
+                    | inr r ↦ (links.waits u).1 (inr ((reads xs read u).1 r.0))
+                  ],
+                )) fresh);
+            evaluated_more = omega arith;
+            changed_more = omega arith;
+          };
+        }
+
+    pub hands_unchanged : (get_or (row_at cells' t) v X ≢ get_or (row_at cells t) v X → ⊥) → (marks : List Bool)
+        → HandsOn setup.circuit (row_at cells t) marks (row_at cells' t) marks
+    hands_unchanged f marks =
+        let same = cell_same (row_at cells t) (row_at cells' t) v (gate_value (row_at cells t) g) row_is inside_row f in
+        hands_same setup.circuit (row_at cells t) (row_at cells' t) marks (λ u. ap (λ (r : List Tern). slice_get r u) row_is
+        ∙ set_again (row_at cells t) v (gate_value (row_at cells t) g) same u)
+
+    pub sweeps_same : (get_or (row_at cells' t) v X ≢ get_or (row_at cells t) v X → ⊥)
+        → Sweeps (pair_of setup) t l l (row_at cells t) b.marks.items (row_at cells' t) b'.marks.items 1 0
+    sweeps_same f =
+        let same = cell_same (row_at cells t) (row_at cells' t) v (gate_value (row_at cells t) g) row_is inside_row f in
+        record {
+          sweep = λ forced old ys zs fits s. record {
+            evaluated_now = v ∷ ys;
+            changed_now = zs;
+            sweeping = rw row_is (swept_same (pair_of setup) t work.setup_is.circuit (Contains forced) old (row_at cells t)
+                b.marks.items b'.marks.items l q g ys zs fits s at waited level wide (λ u. (
+                  λ k. inl ((taken.waits u).0 k),
+                  λ k. elim k [
+                    | inl o ↦ (taken.waits u).1 o
+                    | inr r ↦ absurd (r.1 same)
+                  ],
+                )) same);
+            evaluated_more = omega arith;
+            changed_more = omega arith;
+          };
+        }

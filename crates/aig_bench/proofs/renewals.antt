@@ -1,0 +1,4 @@
+pub mod Changed
+pub mod Engines
+pub mod RenewalLemmas
+pub mod Renewing

@@ -1,0 +1,151 @@
+-- States of an engine, from one call to the next.
+use Rattle.std.proofs.Common.{◌≡◌, ◌≢◌, ℕ, ◌+◌, ◌<◌, ◌≤◌, Bool, List, Some, None, slice_get, length, Contains, refl, sym, ap, ◌∙◌, subst, arith}
+use Rattle.aig_parts.specs.declared.ternary.Tern.{Tern}
+use Rattle.aig_base.specs.Levels.{AreLevels}
+use Rattle.aig_base.specs.state.Marks.{IsMarked}
+use Rattle.aig_sim.specs.InputRows.{row_at}
+use Rattle.aig_bench.specs.declared.edit.EditReport.{EditReport}
+use Rattle.aig_bench.specs.declared.order.Order.{Order}
+use Rattle.aig_bench.specs.declared.setup.Setup.{Setup}
+use Rattle.aig_bench.specs.declared.settle.Fanouts.{Fanouts}
+use Rattle.aig_bench.specs.declared.settle.Pending.{Pending}
+use Rattle.aig_bench.specs.Pair.{Pair}
+use Rattle.aig_bench.specs.state.Setup.{pair_of}
+use Rattle.aig_bench.specs.state.Buckets.{IsClear}
+use Rattle.aig_bench.specs.state.Engine.{EngineState, ChangesRow, IsSettled}
+use Rattle.aig_bench.specs.state.Current.{AreCurrent}
+use Rattle.aig_bench.specs.state.Latches.{HandsOn}
+use Rattle.aig_bench.specs.state.Pending.{IsEngine, IsReady, state_of}
+use Rattle.aig_bench.specs.state.Passing.{IsConsistent}
+use Rattle.aig_bench.specs.state.Renewed.{RenewsAll}
+use Rattle.aig_bench.specs.state.Steps.{report_of, Settles, SettlesLevels}
+use Rattle.aig_bench.specs.state.Sweep.{IsWork, Ends, Starts, Sweeps}
+use Rattle.aig_bench.proofs.edits.Edited.{all_current, working}
+use Rattle.aig_bench.proofs.carries.Handed.{hands_none, hands_then}
+use Rattle.aig_bench.proofs.passes.Sweeps.{sweeps_none, sweeps_then, sweeps_past, sweeps_far}
+use Rattle.aig_bench.proofs.passes.SweepEnds.{ended}
+
+pub row_none : (t : ℕ) (s : EngineState) → ChangesRow t 0 s s
+row_none t s = record {
+  pair = refl;
+  levels = refl;
+  others = λ u ne. refl;
+  hands = hands_none s.pair.circuit (row_at s.cells t) s.ahead;
+  evaluations = omega arith;
+}
+
+pub levels_none : (t n : ℕ) (s : EngineState) → SettlesLevels t n n s s (report_of None)
+levels_none t n s = record {
+  row = row_none t s;
+  here = refl;
+  few = omega arith;
+  sweeps = sweeps_none s.pair t n (row_at s.cells t) s.waits;
+}
+
+-- it is not said which latches are carried into the frame
+pub row_here : (t n : ℕ) (a b : EngineState) (here : List Bool) → ChangesRow t n a b → ChangesRow t n a (record b { here = here })
+row_here t n a b here h = record {
+  pair = h.pair;
+  levels = h.levels;
+  others = h.others;
+  hands = h.hands;
+  evaluations = h.evaluations;
+}
+
+module _ (t : ℕ) (a b c : EngineState) where
+  pub row_then : (n m k : ℕ) → ChangesRow t n a b → ChangesRow t m b c → k ≡ n + m → ChangesRow t k a c
+  row_then n m k x y is = record {
+    pair = y.pair ∙ x.pair;
+    levels = y.levels ∙ x.levels;
+    others = λ u ne. y.others u ne ∙ x.others u ne;
+    hands = hands_then a.pair.circuit _ _ _ _ _ _ x.hands
+        (subst (λ (p : Pair). HandsOn p.circuit (row_at b.cells t) b.ahead (row_at c.cells t) c.ahead) x.pair y.hands);
+    evaluations = omega (arith, x.evaluations, y.evaluations);
+  }
+
+  -- levels that were settled, one behind the other
+  pub levels_then : (n m l : ℕ) (x y r : EditReport) → SettlesLevels t n m a b x → SettlesLevels t m l b c y
+      → r.evaluated ≡ x.evaluated + y.evaluated → r.changed ≡ x.changed + y.changed → SettlesLevels t n l a c r
+  levels_then n m l x y r h k e d = record {
+    row = row_then x.evaluated y.evaluated r.evaluated h.row k.row e;
+    here = k.here ∙ h.here;
+    few = (let few = h.few in let more = k.few in omega arith);
+    sweeps = rw (e, d)
+        (sweeps_then a.pair t n m l (row_at a.cells t) (row_at b.cells t) (row_at c.cells t) a.waits b.waits c.waits _ _ _ _ h.sweeps
+        (subst (λ (p : Pair). Sweeps p t m l (row_at b.cells t) b.waits (row_at c.cells t) c.waits y.evaluated y.changed) h.row.pair k.sweeps));
+  }
+
+  -- behind them nothing of the level waits
+  pub levels_past : (n : ℕ) (x : EditReport) → AreLevels a.pair.circuit a.levels → SettlesLevels t n n a b x
+      → SettlesLevels t n n b c (report_of None) → ((u : ℕ) → IsMarked c.waits u → slice_get b.levels u ≢ Some n)
+      → SettlesLevels t n (n + 1) a c x
+  levels_past n x are h k none = record {
+    row = row_then x.evaluated 0 x.evaluated h.row k.row (omega arith);
+    here = k.here ∙ h.here;
+    few = h.few;
+    sweeps = sweeps_past a.pair t a.levels n n (row_at a.cells t) (row_at b.cells t) (row_at c.cells t) a.waits b.waits c.waits _ _ are h.sweeps
+        (subst (λ (p : Pair). Sweeps p t n n (row_at b.cells t) b.waits (row_at c.cells t) c.waits 0 0) h.row.pair k.sweeps)
+        (subst (λ (xs : List ℕ). (u : ℕ) → IsMarked c.waits u → slice_get xs u ≢ Some n) h.row.levels none);
+  }
+
+module _ (setup : Setup) (fanouts : Fanouts) (pending : Pending) (flags : List Bool) (cells : List (List Tern)) (n t from : ℕ)
+    (a b : EngineState) (x : EditReport) (work : IsWork setup fanouts flags cells pending.buckets)
+    (is : state_of setup fanouts pending cells n ≡ b) (h : SettlesLevels t 0 from a b x) where
+  pair_is : pair_of setup ≡ a.pair
+  pair_is = ap (λ (s : EngineState). s.pair) is ∙ h.row.pair
+
+  levels_are : AreLevels a.pair.circuit a.levels
+  levels_are = subst (λ (p : Pair). AreLevels p.circuit a.levels) h.row.pair
+      (subst (λ (xs : List ℕ). AreLevels b.pair.circuit xs) h.row.levels
+      (subst (λ (s : EngineState). AreLevels s.pair.circuit s.levels) is work.levels))
+
+  -- past levels of which nothing waits
+  pub levels_clear : (end : ℕ) → from ≤ end → IsClear fanouts.levels pending.buckets from end → SettlesLevels t 0 end a b x
+  levels_clear end le clear = record {
+    row = h.row;
+    here = h.here;
+    few = h.few;
+    sweeps = sweeps_far a.pair t a.levels 0 from end (row_at a.cells t) (row_at b.cells t) a.waits b.waits _ _ levels_are h.sweeps le
+        (subst (λ (xs : List ℕ). (u l : ℕ) → IsMarked b.waits u → slice_get xs u ≡ Some l → from ≤ l → l < end → ⊥) h.row.levels
+        (subst (λ (s : EngineState). (u l : ℕ) → IsMarked s.waits u → slice_get s.levels u ≡ Some l → from ≤ l → l < end → ⊥)
+        is clear));
+  }
+
+  -- where nothing waits a pass has ended
+  pub settles : (end : ℕ) → from ≤ end → length pending.buckets.head.items ≤ end
+      → IsClear fanouts.levels pending.buckets from end → Settles t a b x
+  settles end le top clear = record {
+    row = h.row;
+    here = h.here;
+    few = h.few;
+    ends = λ forced old fits start.
+        subst (λ (p : Pair). Ends p t (Contains forced) old (row_at b.cells t) b.waits x.evaluated x.changed) pair_is
+        (subst (λ (s : EngineState). Ends (pair_of setup) t (Contains forced) old (row_at s.cells t) s.waits x.evaluated x.changed) is
+        (ended setup fanouts flags cells pending.buckets t end x.evaluated x.changed forced old (row_at a.cells t) (row_at cells t) a.waits work top
+        (subst (λ (p : Pair). IsConsistent p (Contains forced) old) (sym pair_is) fits)
+        (subst (λ (p : Pair). Starts p t (Contains forced) old (row_at a.cells t) a.waits) (sym pair_is) start)
+        (subst (λ (p : Pair). Sweeps p t 0 end (row_at a.cells t) a.waits (row_at cells t) pending.buckets.marks.items x.evaluated x.changed) (sym pair_is)
+        (subst (λ (s : EngineState). Sweeps a.pair t 0 end (row_at a.cells t) a.waits (row_at s.cells t) s.waits x.evaluated x.changed) (sym is)
+        (levels_clear end le clear).sweeps))));
+  }
+
+-- an engine where nothing is to be looked at is what a bench keeps
+pub held : {setup : Setup} {fanouts : Fanouts} {pending : Pending} {order : Order} {flags : List Bool} {cells : List (List Tern)} {n : ℕ} {s : EngineState}
+    → IsEngine setup fanouts pending order flags cells → state_of setup fanouts pending cells n ≡ s → IsSettled s
+    → IsReady setup fanouts pending flags cells
+held {setup = setup} {fanouts = fanouts} {pending = pending} {flags = flags} {cells = cells} {n = n} e is h =
+    let k : IsSettled (state_of setup fanouts pending cells n) = subst IsSettled (sym is) h in
+    record {
+      working = working setup fanouts pending.buckets flags cells e.work k.idle.waits k.current;
+      lists = e.lists;
+      idle = k.idle;
+    }
+
+-- renewed frames settle
+pub settled_renewed : (forced : List ℕ) (first : ℕ) (old new : EngineState) (report : EditReport)
+    → AreCurrent old.pair first old.cells → RenewsAll forced first old new report → IsSettled new
+settled_renewed forced first old new report now r = record {
+  current = subst (λ (q : Pair). AreCurrent q (length q.rows) new.cells) (sym r.pair)
+      (all_current old.pair forced first (length old.pair.rows) _ _ old.cells new.cells now r.renewed);
+  idle = r.idle;
+}
