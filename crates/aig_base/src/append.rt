@@ -86,7 +86,7 @@ fn append_level(levels: &mut Vec<u32>, visits: &mut Visits, level: u32)
 
 /// Appends a gate with the variable M + 1 at the end of a circuit's gates, and makes M greater by one (our own choice).
 /// The circuit's levels and readers become those of the new circuit. M is below its limit, and the right sides are
-/// defined. Where memory is wanting, circuit, levels and lists stay; room that was made may stay too. Amortised
+/// defined. Where memory runs out, circuit, levels and lists stay; room that was made may stay too. Amortised
 /// constant time and memory.
 pub fn append_gate(
     circuit: &mut Circuit,

@@ -263,7 +263,7 @@ fn tested(alloc: Global, raw: &Raw) -> Result<Kept, Fault>
 
 impl Circuit {
     /// The circuit of these parts, or their first fault in the order of `Fault`, each with its least variable. A reset
-    /// is outside the range test. The caller knows that the parts are formed; want of memory may come in place of any
+    /// is outside the range test. The caller knows that the parts are formed; out of memory may come in place of any
     /// answer. Linear in the parts and the greatest variable.
     pub fn check(alloc: Global, raw: Raw) -> Result<Circuit, Fault>
         requires formed { IsFormed raw }

@@ -76,7 +76,7 @@ NoneApplies P = (f : EditFault) → P f → ⊥
 abbrev pub IsLeastFault : (EditFault → Type 0) → EditFault → Type 0
 IsLeastFault P f = P f × ((g : EditFault) → number_of g < number_of f → P g → ⊥)
 
--- the edits that may want memory
+-- the edits that may take memory
 abbrev pub TakesMemory : Edit → Type 0
 TakesMemory (rewire lhs r0 r1) = Unit {0}
 TakesMemory (set_reset latch w) = ⊥

@@ -132,7 +132,7 @@ impl Order {
         self.positions = Vec::new(alloc);
     }
 
-    /// Finds an order where none is known. Where memory is wanting, it stays unknown.
+    /// Finds an order where none is known. Where memory runs out, it stays unknown.
     pub fn renew(&mut self, circuit: &Circuit, levels: &Levels) -> Result<(), Memory>
         requires levels { AreLevels circuit.now levels.now }
         requires orders { Orders circuit.now self.old }

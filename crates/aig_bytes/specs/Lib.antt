@@ -1,5 +1,6 @@
 pub mod Buffered
 pub mod Bytes
 pub mod Filled
+pub mod Flow
 pub mod Wrapped
 pub mod state

@@ -8,7 +8,7 @@ use Rattle.aig_unroll.specs.declared.fault.UnrollFault.TheVariants as unrollings
 use Rattle.aig_engines.specs.declared.run_fault.RunFault.{RunFault}
 use Rattle.aig_engines.specs.declared.run_fault.RunFault.TheVariants.{Circuit, Stimulus, Witness, Bench, Script, Output, Memory, Unroll}
 
--- 3 where memory was wanting, or a read or a write failed; 1 for any other refusal
+-- 3 where memory ran out, or a read or a write failed; 1 for any other refusal
 abbrev pub status_of : RunFault → ℕ
 status_of (Circuit circuits.Memory) = 3
 status_of (Circuit circuits.Io) = 3

@@ -33,7 +33,7 @@ pub enum RunFault {
 }
 
 impl RunFault {
-    /// The exit status: 3 where memory was wanting, or a read or a write failed; 1 for any other refusal.
+    /// The exit status: 3 where memory ran out, or a read or a write failed; 1 for any other refusal.
     pub fn status(&self) -> u8
         ensures { result ≡ status_of self.now }
     {

@@ -31,7 +31,7 @@ fails_on faults.Memory r f h = tt
 fails_on faults.Io r f h = tt
 fails_on fault r f h = absurd h
 
--- a step that is never refused fails for want of memory or of a read alone
+-- a step that is never refused fails where memory runs out or a read fails, and nowhere else
 pub fails_else : {A B : Type 0} (e : Fault) (r : Result A Refusal) (x : A) (read : Result B Refusal) → r ≡ Ok x
     → Fails e r → Fails e read
 fails_else (faults.Text at) r x read is h = let clash = sym is ∙ h in absurd cc

@@ -15,6 +15,7 @@ use Rattle.aig_sim.specs.declared.witness_fault.WitnessFault.{WitnessFault}
 use Rattle.aig_sim.specs.declared.witness_text.WitnessParts.{WitnessParts}
 use Rattle.aig_sim.specs.Dump.{IsDump, closing}
 use Rattle.aig_sim.specs.DumpHeader.{header}
+use Rattle.aig_bytes.specs.Flow.{flow}
 use Rattle.aig_sim.specs.Replayed.{TellsRun, Replays}
 use Rattle.aig_sim.specs.state.Dumping.{AreDumped, ending}
 use Rattle.aig_sim.specs.state.Checking.{ArePartsOf}
@@ -222,9 +223,9 @@ ready_is {raw} {raw'} {parts} {w} {states} h same circuit is =
 -- the text is refused, or no memory was found
 pub not_replayed : {X : Type 0} (is_text : Telling) (raw : Raw) (text : List ℕ) (written : X → Option (List ℕ)) (failures : X → ℕ)
     (old new : X) (why : WitnessFault) (r : Result (Unit {0}) ReplayFault) → IsErrAnd r (λ f. f ≡ fault.Witness why)
-    → HasWitnessFault raw text why → new ≡ old → Replays is_text raw text written failures old new r
+    → HasWitnessFault raw text why → new ≡ old → Replays is_text raw text (flow written failures old new) r
 not_replayed is_text raw text written failures old new why (Err f) is h same =
-    subst (λ (f : ReplayFault). Replays is_text raw text written failures old new (Err f)) (sym is) (h, same)
+    subst (λ (f : ReplayFault). Replays is_text raw text (flow written failures old new) (Err f)) (sym is) (h, same)
 not_replayed is_text raw text written failures old new why (Ok x) is h same = absurd is
 
 tells : (is_text : Telling) {raw : Raw} {text : List ℕ} (w : Witness) → SpellsWitness raw text w → IsAdmitted raw w
@@ -241,16 +242,16 @@ same_circuit is_text {w} {written} {failures} {old} {new} {r} same h =
 module _ {X E : Type 0} (is_text : Telling) {raw raw' : Raw} {text : List ℕ} {written : X → Option (List ℕ)} {failures : X → ℕ}
     {old new : X} (w : Witness) (spells : SpellsWitness raw text w) (admitted : IsAdmitted raw w) (same : raw' ≡ raw) where
   pub replayed : {x : Unit {0}} → WritesRun {E = E} is_text raw' w written failures old new (Ok x)
-      → Replays is_text raw text written failures old new (Ok tt)
+      → Replays is_text raw text (flow written failures old new) (Ok tt)
   replayed run =
       let h = same_circuit is_text same run in
       (h.told, tells is_text w spells admitted h.told h.told_is, h.writes.ok, omega (arith, h.writes.count))
 
   pub replay_failed : {e : E} (r : Result (Unit {0}) ReplayFault) → IsErrAnd r (λ f. f ≡ fault.Io)
-      → WritesRun is_text raw' w written failures old new (Err e) → Replays is_text raw text written failures old new r
+      → WritesRun is_text raw' w written failures old new (Err e) → Replays is_text raw text (flow written failures old new) r
   replay_failed (Err f) is run =
       let h = same_circuit is_text same run in
       let (done, begins, wrote) = h.writes.err in
-      subst (λ (f : ReplayFault). Replays is_text raw text written failures old new (Err f)) (sym is)
+      subst (λ (f : ReplayFault). Replays is_text raw text (flow written failures old new) (Err f)) (sym is)
       (h.told, done, tells is_text w spells admitted h.told h.told_is, begins, wrote, h.writes.count)
   replay_failed (Ok x) is run = absurd is

@@ -459,7 +459,7 @@ simulates raw old new written written' result h = record {
   ended = h.ended;
 }
 
--- a simulation that has begun does not stop for want of memory
+-- a simulation that has begun does not run out of memory
 stops_for_no_memory : (is_text : Telling) (raw : Raw) (start : Option (List ℕ)) (count : ℕ) (text : List ℕ)
     (written : Option (List ℕ)) (failures : ℕ) (f : StimFault) → f ≡ fault.Memory
     → Stopped is_text raw start count text written failures f → ⊥

@@ -1,8 +1,9 @@
 -- What is written of the run that a witness describes (which runs are shown, and how, is our own choice).
-use Rattle.std.specs.Prelude.{◌≡◌, ℕ, ◌+◌, List, Option, Result, Ok, Err}
+use Rattle.std.specs.Prelude.{◌≡◌, ℕ, ◌+◌, List, Result, Ok, Err}
 use Rattle.aig_parts.specs.declared.ternary.Tern.{Tern}
 use Rattle.aig_parts.specs.declared.raw.Raw.{Raw}
 use Rattle.aig_bytes.specs.Bytes.{after, IsBeginning}
+use Rattle.aig_bytes.specs.Flow.{Flow}
 use Rattle.aig_sim.specs.declared.replay_fault.ReplayFault.{ReplayFault}
 use Rattle.aig_sim.specs.declared.replay_fault.ReplayFault.TheVariants as fault
 use Rattle.aig_sim.specs.WitnessText.{Witness, SpellsWitness, IsAdmitted, HasWitnessFault}
@@ -19,12 +20,12 @@ pub record TellsRun (IsText : Raw → List Tern → List (List Tern) → List �
 -- What the replay of a witness's text wrote. All went well: all that is told of the run. A failing write: a beginning
 -- of it. A witness that is refused, or no memory: nothing.
 abbrev pub Replays : {X : Type 0} → (Raw → List Tern → List (List Tern) → List ℕ → Type 0) → Raw → List ℕ
-    → (X → Option (List ℕ)) → (X → ℕ) → X → X → Result (Unit {0}) ReplayFault → Type 0
-Replays IsText raw text written failures old new (Ok _) =
-    (told : List ℕ) × TellsRun IsText raw text told × (written new ≡ after (written old) told)
-    × (failures new ≡ failures old)
-Replays IsText raw text written failures old new (Err fault.Io) =
+    → Flow X → Result (Unit {0}) ReplayFault → Type 0
+Replays IsText raw text out (Ok _) =
+    (told : List ℕ) × TellsRun IsText raw text told × (out.bytes out.new ≡ after (out.bytes out.old) told)
+    × (out.failures out.new ≡ out.failures out.old)
+Replays IsText raw text out (Err fault.Io) =
     (told : List ℕ) × (done : List ℕ) × TellsRun IsText raw text told × IsBeginning done told
-    × (written new ≡ after (written old) done) × (failures new ≡ failures old + 1)
-Replays IsText raw text written failures old new (Err (fault.Witness why)) =
-    HasWitnessFault raw text why × (new ≡ old)
+    × (out.bytes out.new ≡ after (out.bytes out.old) done) × (out.failures out.new ≡ out.failures out.old + 1)
+Replays IsText raw text out (Err (fault.Witness why)) =
+    HasWitnessFault raw text why × (out.new ≡ out.old)

@@ -26,7 +26,7 @@ pub fn write_end<W: Write>(out: &mut W, frames: u64) -> Result<(), Io>
 /// (`u64::MAX` for more). The header goes out before the first read. It keeps what `simulate` keeps, and for each
 /// signal its literal and two characters, all reserved before the header is written; there is no limit on frames. It
 /// flushes before each read. At a fault in line n the frames of the n - 1 rows before it are written, without the line
-/// that ends a dump; where memory is wanting, nothing was read or written.
+/// that ends a dump; where memory runs out, nothing was read or written.
 pub fn dump<R: Read, W: Write>(
     alloc: Global,
     circuit: &Circuit,

@@ -3,6 +3,7 @@ ghost use Rattle.std.specs.Prelude.{◌≡◌, length, replicate};
 ghost use Rattle.aig_parts.specs.declared.raw.Raw.{Raw};
 ghost use Rattle.aig_parts.specs.declared.ternary.Tern.{Tern};
 ghost use Rattle.aig_sim.specs.Dump.{signals, IsDump};
+ghost use Rattle.aig_bytes.specs.Flow.{flow};
 ghost use Rattle.aig_sim.specs.Replayed.{Replays};
 ghost use Rattle.aig_sim.specs.Trace.{IsTrace};
 ghost use Rattle.aig_sim.specs.WitnessText.{Witness};
@@ -99,8 +100,8 @@ pub fn trace_witness<W: Write>(
     text: &[u8],
     out: &mut W,
 ) -> Result<(), ReplayFault>
-    ensures { Replays (λ raw start rows text. IsTrace raw start rows text) circuit.now text.now W.written W.failures
-        out.old out.new result }
+    ensures { Replays (λ raw start rows text. IsTrace raw start rows text) circuit.now text.now
+        (flow W.written W.failures out.old out.new) result }
 {
     let parts = admitted_parts(circuit, text)?;
     let mut run = WitnessRun::new(alloc, circuit, &parts)?;
@@ -118,8 +119,8 @@ pub fn dump_witness<W: Write>(
     text: &[u8],
     out: &mut W,
 ) -> Result<(), ReplayFault>
-    ensures { Replays (λ raw start rows text. IsDump raw start rows text) circuit.now text.now W.written W.failures
-        out.old out.new result }
+    ensures { Replays (λ raw start rows text. IsDump raw start rows text) circuit.now text.now
+        (flow W.written W.failures out.old out.new) result }
 {
     let parts = admitted_parts(circuit, text)?;
     let mut recorder = DumpRecorder::new(alloc, circuit)?;

@@ -162,7 +162,7 @@ impl<'a, T: Recorder + Drop> Simulation<'a, T> {
 /// a value for each variable and each latch, the gates once more where they do not stand in the order of their
 /// evaluation, and room for 16,384 bytes of the text and 4,096 of a trace line, all reserved before the first read;
 /// there is no limit on frames. It flushes before each read, so that the lines of all rows that were read are handed on
-/// before it waits. At a fault in line n the lines of the n - 1 rows before it are written; where memory is wanting,
+/// before it waits. At a fault in line n the lines of the n - 1 rows before it are written; where memory runs out,
 /// nothing was read. A row's line goes out before the next row is looked at; the contract says what was written at each
 /// end, not when.
 pub fn simulate<R: Read, W: Write>(

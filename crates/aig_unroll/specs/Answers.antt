@@ -13,7 +13,7 @@ number_of faults.Liveness = 12
 number_of faults.Limit = 10
 number_of faults.Memory = 11
 
--- nothing but want of memory can refuse it
+-- nothing but memory that runs out can refuse it
 pub record IsUnrollable (raw : Raw) (k : ℕ) : Type 0 where
   pub frames : 0 < k
   pub no_liveness : HasLiveness raw → ⊥
