@@ -1,6 +1,6 @@
 -- What a circuit file is, and why no bench is made.
 use Rattle.std.proofs.Common.{◌≡◌, ℕ, List, ◌+◌, ◌*◌, ◌<◌, length, Result, Ok, Err, refl, sym, ap, subst}
-use Rattle.std.specs.Prelude.{IfOk, IfErr, OnOk, Option}
+use Rattle.std.specs.Prelude.{IfOk, IfErr, OnOk}
 use Rattle.std.specs.Result.{IsErrAnd}
 use Rattle.aig_parts.specs.declared.raw.Raw.{Raw}
 use Rattle.aig_parts.specs.declared.fault.Fault.{Fault}
@@ -12,6 +12,7 @@ use Rattle.aig_bench.specs.declared.bench_fault.BenchFault.TheVariants as benche
 use Rattle.aig_bench.specs.Pair.{Pair, BenchState}
 use Rattle.aig_engines.specs.declared.script_fault.ScriptFault.{ScriptFault}
 use Rattle.aig_engines.specs.declared.script_fault.ScriptFault.TheVariants as scripts
+use Rattle.aig_engines.specs.Flow.{Flow}
 use Rattle.aig_engines.specs.Engines.{BenchEnds}
 use Rattle.aig_engines.specs.state.Faults.{script_of}
 use Rattle.aig_engines.specs.Ran.{Ran, Failing}
@@ -39,13 +40,12 @@ refuses_circuit bytes (Ok raw) reading io = tt
 refuses_circuit bytes (Err fault) reading io = (reading, λ e. io (ap Err e))
 
 -- a bench of the files, by how its script ends
-module _ {Y X : Type 0} (left : Y → Option (List ℕ)) (read_failures : Y → ℕ) (written : X → Option (List ℕ)) (failures : X → ℕ)
-    (reader reader' : Y) (out out' : X) (circuit stimulus : List ℕ) (old new : BenchState) where
+module _ {Y X : Type 0} (reader : Flow Y) (out : Flow X) (circuit stimulus : List ℕ) (old new : BenchState) where
   pub script_ends : (r : Result (Unit {0}) ScriptFault) → AreBenchFiles circuit stimulus old.pair
-      → OnOk r (Ran left read_failures written failures reader reader' out out' old.pair new.pair)
-      → IfErr r (λ fault. fault ≡ scripts.Io → Failing left read_failures written failures reader reader' out out' old.pair new.pair)
-      → IfErr r (λ fault. fault ≡ scripts.Memory → (reader' ≡ reader) × (out' ≡ out) × (new ≡ old))
-      → BenchEnds left read_failures written failures reader reader' out out' circuit stimulus (script_of r)
+      → OnOk r (Ran reader out old.pair new.pair)
+      → IfErr r (λ fault. fault ≡ scripts.Io → Failing reader out old.pair new.pair)
+      → IfErr r (λ fault. fault ≡ scripts.Memory → (reader.new ≡ reader.old) × (out.new ≡ out.old) × (new ≡ old))
+      → BenchEnds reader out circuit stimulus (script_of r)
   script_ends (Ok done) files ran failing memory = (old.pair, new.pair, files, ran)
   script_ends (Err scripts.Io) files ran failing memory = (old.pair, new.pair, files, failing refl)
   script_ends (Err scripts.Memory) files ran failing memory = let h = memory refl in ((old.pair, files), h.0, h.1)

@@ -1,5 +1,5 @@
 -- How a conversion ends.
-use Rattle.std.proofs.Common.{◌≡◌, ◌≢◌, ℕ, ◌+◌, List, Result, Ok, Err, Some, refl, sym, ◌∙◌, ap, arith}
+use Rattle.std.proofs.Common.{◌≡◌, ◌≢◌, ℕ, ◌+◌, List, [], Result, Ok, Err, Some, refl, sym, ◌∙◌, ap, arith}
 use Rattle.std.specs.Prelude.{Option}
 use Rattle.aig_parts.specs.declared.fault.Fault.{Fault}
 use Rattle.aig_parts.specs.declared.fault.Fault.TheVariants as circuits
@@ -12,42 +12,42 @@ use Rattle.aig_sim.specs.declared.stimulus_fault.StimFault.{StimFault}
 use Rattle.aig_sim.specs.Simulated.{Streams}
 use Rattle.aig_engines.specs.declared.run_fault.RunFault.{RunFault}
 use Rattle.aig_engines.specs.declared.run_fault.RunFault.TheVariants as parts
+use Rattle.aig_engines.specs.Flow.{Flow, flow}
 use Rattle.aig_engines.specs.Engines.{RunEnds}
 use Rattle.aig_engines.specs.Run.{IsFileOf}
-use Rattle.aig_engines.specs.Converted.{IsConverted, IsWritten, ConversionEnds, EndsFrom, reads_failed}
+use Rattle.aig_engines.specs.Converted.{IsConverted, Converts, EndsFrom, reads_failed}
+use Rattle.aig_engines.specs.Told.{EndsTelling, OfFile}
 use Rattle.aig_engines.specs.state.Faults.{output_of}
+use Rattle.aig_engines.proofs.Tellings.{of_file}
 
-module _ {X : Type 0} (written : X → Option (List ℕ)) (failures : X → ℕ) (old new : X) where
+module _ {X : Type 0} (out : Flow X) (to : Format) (raw : Raw) where
   -- a writer's answer, as the output's
-  pub written_so : {E : Type 0} (raw : Raw) (to : Format) (text : List ℕ) (r : Result (Unit {0}) E)
-      → Writes written failures old new text r → IsConverted raw to text → IsWritten written failures old new raw to (output_of r)
-  written_so raw to text (Ok done) w c = (text, c, record { ok = w.ok; err = tt; count = w.count })
-  written_so raw to text (Err fault) w c = (text, c, record { ok = tt; err = w.err; count = w.count })
+  pub written_so : {E : Type 0} (text : List ℕ) (r : Result (Unit {0}) E)
+      → Writes out.bytes out.failures out.old out.new text r → IsConverted raw to text
+      → EndsTelling out (Converts to raw) (output_of r)
+  written_so text (Ok done) w c = (text, c, record { ok = w.ok; err = tt; count = w.count })
+  written_so text (Err fault) w c = (tt, text, c, record { ok = tt; err = w.err; count = w.count })
 
-  pub ends_so : (file : List ℕ) (raw : Raw) (to : Format) (r : Result (Unit {0}) RunFault) → IsFileOf file raw
-      → IsWritten written failures old new raw to r → ConversionEnds written failures old new file to r
-  ends_so file raw to (Ok done) f w = (raw, f, w)
-  ends_so file raw to (Err (parts.Circuit fault)) f w = absurd w
-  ends_so file raw to (Err (parts.Stimulus fault)) f w = (raw, f, w)
-  ends_so file raw to (Err (parts.Witness fault)) f w = (raw, f, w)
-  ends_so file raw to (Err (parts.Bench fault)) f w = (raw, f, w)
-  ends_so file raw to (Err (parts.Script fault)) f w = (raw, f, w)
-  ends_so file raw to (Err parts.Output) f w = (raw, f, w)
-  ends_so file raw to (Err parts.Memory) f w = (raw, f, w)
-  ends_so file raw to (Err (parts.Unroll fault)) f w = (raw, f, w)
+  no_circuit_fault : (fault : Fault) → Converts to raw (Err (parts.Circuit fault)) [] → ⊥
+  no_circuit_fault fault h = h
+
+  -- the circuit is that of a file
+  pub ends_so : (file : List ℕ) (r : Result (Unit {0}) RunFault) → IsFileOf file raw → EndsTelling out (Converts to raw) r
+      → EndsTelling out (OfFile file (Converts to)) r
+  ends_so file r f h = of_file out (Converts to) file raw r no_circuit_fault f h
 
   -- no read failed where the writing went so
-  no_read_failed : (raw : Raw) (to : Format) (r : Result (Unit {0}) RunFault) → IsWritten written failures old new raw to r
+  no_read_failed : (r : Result (Unit {0}) RunFault) → EndsTelling out (Converts to raw) r
       → (reads_failed r ≡ 0) × (r ≢ Err (parts.Circuit circuits.Io))
-  no_read_failed raw to (Ok done) w = (refl, λ e. let no : ⊥ = cc in no)
-  no_read_failed raw to (Err (parts.Circuit fault)) w = absurd w
-  no_read_failed raw to (Err (parts.Stimulus fault)) w = (refl, λ e. let no : ⊥ = cc in no)
-  no_read_failed raw to (Err (parts.Witness fault)) w = (refl, λ e. let no : ⊥ = cc in no)
-  no_read_failed raw to (Err (parts.Bench fault)) w = (refl, λ e. let no : ⊥ = cc in no)
-  no_read_failed raw to (Err (parts.Script fault)) w = (refl, λ e. let no : ⊥ = cc in no)
-  no_read_failed raw to (Err parts.Output) w = (refl, λ e. let no : ⊥ = cc in no)
-  no_read_failed raw to (Err parts.Memory) w = (refl, λ e. let no : ⊥ = cc in no)
-  no_read_failed raw to (Err (parts.Unroll fault)) w = (refl, λ e. let no : ⊥ = cc in no)
+  no_read_failed (Ok done) w = (refl, λ e. let no : ⊥ = cc in no)
+  no_read_failed (Err (parts.Circuit fault)) w = absurd w.0
+  no_read_failed (Err (parts.Stimulus fault)) w = (refl, λ e. let no : ⊥ = cc in no)
+  no_read_failed (Err (parts.Witness fault)) w = (refl, λ e. let no : ⊥ = cc in no)
+  no_read_failed (Err (parts.Bench fault)) w = (refl, λ e. let no : ⊥ = cc in no)
+  no_read_failed (Err (parts.Script fault)) w = (refl, λ e. let no : ⊥ = cc in no)
+  no_read_failed (Err parts.Output) w = (refl, λ e. let no : ⊥ = cc in no)
+  no_read_failed (Err parts.Memory) w = (refl, λ e. let no : ⊥ = cc in no)
+  no_read_failed (Err (parts.Unroll fault)) w = (refl, λ e. let no : ⊥ = cc in no)
 
 -- the answer is not that a read failed
 abbrev pub IsReadWhole : Result Raw Fault → Type 0
@@ -68,66 +68,61 @@ circuit_reads T (circuits.Cycle v) old new e = omega (arith, e)
 circuit_reads T circuits.Memory old new e = omega (arith, e)
 circuit_reads T circuits.Io old new e = omega (arith, e)
 
-module _ {Y X : Type 0} (left : Y → Option (List ℕ)) (read_failures : Y → ℕ) (written : X → Option (List ℕ)) (failures : X → ℕ)
-    (reader reader' : Y) where
+module _ {Y X : Type 0} (circuit : Flow Y) (out : Flow X) where
   -- the circuit was refused, or a read failed
-  pub refused_from : (out : X) (fault : Fault) (to : Format)
-      → ((bytes : List ℕ) → left reader ≡ Some bytes → IsReadWhole (Err fault) → IsReading bytes (Err fault))
-      → Raises {X = Raw} (Err fault) (read_failures reader) (read_failures reader')
-      → EndsFrom {T = Unit {0}} left read_failures reader reader' out out
-      (λ bytes. ConversionEnds written failures out out bytes to (Err (parts.Circuit fault))) (Err (parts.Circuit fault))
-  refused_from out fault to answers count = record {
+  pub refused_from : (fault : Fault) (to : Format) → out.new ≡ out.old
+      → ((bytes : List ℕ) → circuit.bytes circuit.old ≡ Some bytes → IsReadWhole (Err fault) → IsReading bytes (Err fault))
+      → Raises {X = Raw} (Err fault) (circuit.failures circuit.old) (circuit.failures circuit.new)
+      → EndsFrom {T = Unit {0}} circuit out
+      (λ bytes. EndsTelling out (OfFile bytes (Converts to)) (Err (parts.Circuit fault))) (Err (parts.Circuit fault))
+  refused_from fault to same answers count = record {
     ended = λ bytes e ne. let io : fault ≢ circuits.Io = (λ is. ne (ap (λ f. Err (parts.Circuit f)) is)) in
-        ((answers bytes e (λ is. io (let h : fault ≡ circuits.Io = cc in h)), io), refl);
-    count = circuit_reads (Unit {0}) fault (read_failures reader) (read_failures reader') count;
-    unwritten = λ is. refl;
+        ((answers bytes e (λ is. io (let h : fault ≡ circuits.Io = cc in h)), io), same);
+    count = circuit_reads (Unit {0}) fault (circuit.failures circuit.old) (circuit.failures circuit.new) count;
+    unwritten = λ is. same;
   }
 
   -- the circuit was read and written
-  pub converted_from : (out out' : X) (raw : Raw) (to : Format) (r : Result (Unit {0}) RunFault)
-      → ((bytes : List ℕ) → left reader ≡ Some bytes → IsReadWhole (Ok raw) → IsReading bytes (Ok raw))
-      → IsCircuit raw → Raises {X = Raw} (Ok raw) (read_failures reader) (read_failures reader')
-      → IsWritten written failures out out' raw to r
-      → EndsFrom left read_failures reader reader' out out' (λ bytes. ConversionEnds written failures out out' bytes to r) r
-  converted_from out out' raw to r answers circuit count w =
-      let none = no_read_failed written failures out out' raw to r w in
+  pub converted_from : (raw : Raw) (to : Format) (r : Result (Unit {0}) RunFault)
+      → ((bytes : List ℕ) → circuit.bytes circuit.old ≡ Some bytes → IsReadWhole (Ok raw) → IsReading bytes (Ok raw))
+      → IsCircuit raw → Raises {X = Raw} (Ok raw) (circuit.failures circuit.old) (circuit.failures circuit.new)
+      → EndsTelling out (Converts to raw) r
+      → EndsFrom circuit out (λ bytes. EndsTelling out (OfFile bytes (Converts to)) r) r
+  converted_from raw to r answers is_circuit count w =
+      let none = no_read_failed out to raw r w in
       record {
         ended = λ bytes e ne.
             let reading = answers bytes e (λ is. let no : ⊥ = cc in no) in
-            ends_so written failures out out' bytes raw to r (record { spelled = reading.found; circuit = circuit }) w;
+            ends_so out to raw bytes r (record { spelled = reading.found; circuit = is_circuit }) w;
         count = omega (arith, count, none.0);
         unwritten = λ is. absurd (none.1 is);
       }
 
 -- the same of a run on a stimulus, whatever it writes
-module _ {Z Y X : Type 0} (left : Z → Option (List ℕ)) (read_failures : Z → ℕ) (stimulus_left : Y → Option (List ℕ))
-    (stimulus_failures : Y → ℕ) (written : X → Option (List ℕ)) (failures : X → ℕ) (reader reader' : Z)
+module _ {Z Y X : Type 0} (circuit : Flow Z) (stimulus : Flow Y) (out : Flow X)
     (Runs : Raw → Streams → Streams → Option (List ℕ) → Option (List ℕ) → Result ℕ StimFault → Type 0) where
-  pub unread_from : (stimulus : Y) (out : X) (fault : Fault)
-      → ((bytes : List ℕ) → left reader ≡ Some bytes → IsReadWhole (Err fault) → IsReading bytes (Err fault))
-      → Raises {X = Raw} (Err fault) (read_failures reader) (read_failures reader')
-      → EndsFrom {T = ℕ} left read_failures reader reader' out out
-      (λ bytes. RunEnds stimulus_left stimulus_failures written failures Runs stimulus stimulus out out bytes (Err (parts.Circuit fault)))
+  pub unread_from : (fault : Fault) → stimulus.new ≡ stimulus.old → out.new ≡ out.old
+      → ((bytes : List ℕ) → circuit.bytes circuit.old ≡ Some bytes → IsReadWhole (Err fault) → IsReading bytes (Err fault))
+      → Raises {X = Raw} (Err fault) (circuit.failures circuit.old) (circuit.failures circuit.new)
+      → EndsFrom {T = ℕ} circuit out (λ bytes. RunEnds Runs stimulus out bytes (Err (parts.Circuit fault)))
       (Err (parts.Circuit fault))
-  unread_from stimulus out fault answers count = record {
+  unread_from fault unread same answers count = record {
     ended = λ bytes e ne. let io : fault ≢ circuits.Io = (λ is. ne (ap (λ f. Err (parts.Circuit f)) is)) in
-        ((answers bytes e (λ is. io (let h : fault ≡ circuits.Io = cc in h)), io), refl, refl);
-    count = circuit_reads ℕ fault (read_failures reader) (read_failures reader') count;
-    unwritten = λ is. refl;
+        ((answers bytes e (λ is. io (let h : fault ≡ circuits.Io = cc in h)), io), unread, same);
+    count = circuit_reads ℕ fault (circuit.failures circuit.old) (circuit.failures circuit.new) count;
+    unwritten = λ is. same;
   }
 
-  pub run_from : (stimulus stimulus' : Y) (out out' : X) (raw : Raw) (r : Result ℕ RunFault)
-      → ((bytes : List ℕ) → left reader ≡ Some bytes → IsReadWhole (Ok raw) → IsReading bytes (Ok raw))
-      → IsCircuit raw → Raises {X = Raw} (Ok raw) (read_failures reader) (read_failures reader')
-      → ((file : List ℕ) → IsFileOf file raw
-      → RunEnds stimulus_left stimulus_failures written failures Runs stimulus stimulus' out out' file r)
+  pub run_from : (raw : Raw) (r : Result ℕ RunFault)
+      → ((bytes : List ℕ) → circuit.bytes circuit.old ≡ Some bytes → IsReadWhole (Ok raw) → IsReading bytes (Ok raw))
+      → IsCircuit raw → Raises {X = Raw} (Ok raw) (circuit.failures circuit.old) (circuit.failures circuit.new)
+      → ((file : List ℕ) → IsFileOf file raw → RunEnds Runs stimulus out file r)
       → reads_failed r ≡ 0
-      → EndsFrom left read_failures reader reader' out out'
-      (λ bytes. RunEnds stimulus_left stimulus_failures written failures Runs stimulus stimulus' out out' bytes r) r
-  run_from stimulus stimulus' out out' raw r answers circuit count ends none = record {
+      → EndsFrom circuit out (λ bytes. RunEnds Runs stimulus out bytes r) r
+  run_from raw r answers is_circuit count ends none = record {
     ended = λ bytes e ne.
         let reading = answers bytes e (λ is. let no : ⊥ = cc in no) in
-        ends bytes (record { spelled = reading.found; circuit = circuit });
+        ends bytes (record { spelled = reading.found; circuit = is_circuit });
     count = omega (arith, count, none);
     unwritten = λ is. absurd (one_is_not_none (sym (ap reads_failed is) ∙ none));
   }

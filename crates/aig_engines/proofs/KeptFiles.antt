@@ -1,6 +1,6 @@
 -- What is left behind a script, and the files of a pair.
 use Rattle.std.proofs.Common.{◌≡◌, ◌∙◌, ℕ, List, ◌+◌, ◌*◌, ◌≤◌, length, Result, Ok, Err, ap, inl, refl, sym, subst}
-use Rattle.std.specs.Prelude.{IfErr, IsOk, OnOk, Option}
+use Rattle.std.specs.Prelude.{IfErr, IsOk, OnOk}
 use Rattle.std.specs.Result.{IsErrAnd}
 use Rattle.aig_parts.specs.declared.raw.Raw.{Raw}
 use Rattle.aig_parts.specs.declared.ternary.Tern.{Tern}
@@ -14,6 +14,7 @@ use Rattle.aig_sim.specs.StimulusText.{SpellsRows}
 use Rattle.aig_bench.specs.Pair.{Pair, BenchState}
 use Rattle.aig_engines.specs.declared.run_fault.RunFault.{RunFault}
 use Rattle.aig_engines.specs.declared.script_fault.ScriptFault.{ScriptFault}
+use Rattle.aig_engines.specs.Flow.{Flow}
 use Rattle.aig_engines.specs.Engines.{BenchEnds}
 use Rattle.aig_engines.specs.Kept.{BenchLeft, circuit_text, rows_text}
 use Rattle.aig_engines.specs.Ran.{Ran}
@@ -53,19 +54,15 @@ kept_files pair circuit spelled widths frames cells = record {
 }
 
 -- what is left behind a script of the files, by the run's answer
-module _ {Y X : Type 0} (left : Y → Option (List ℕ)) (read_failures : Y → ℕ) (written : X → Option (List ℕ)) (failures : X → ℕ)
-    (reader reader' : Y) (out out' : X) (circuit stimulus : List ℕ) where
+module _ {Y X : Type 0} (reader : Flow Y) (out : Flow X) (circuit stimulus : List ℕ) where
   pub bench_left : (old new : BenchState) (r : Result (Unit {0}) ScriptFault) {x : Unit {0}} → Ok x ≡ script_of r
       → AreBenchFiles circuit stimulus old.pair
-      → OnOk r (Ran left read_failures written failures reader reader' out out' old.pair new.pair)
-      → BenchLeft left read_failures written failures reader reader' out out' circuit stimulus (Ok new)
+      → OnOk r (Ran reader out old.pair new.pair) → BenchLeft reader out circuit stimulus (Ok new)
   bench_left old new (Ok done) e files ran = (old.pair, files, ran)
   bench_left old new (Err fault) e files ran = let no : ⊥ = cc in absurd no
 
   pub none_left : (result : Result BenchState RunFault) (fault : RunFault) → IsErrAnd result (λ f. f ≡ fault)
-      → BenchEnds left read_failures written failures reader reader' out out' circuit stimulus (Err fault)
-      → BenchLeft left read_failures written failures reader reader' out out' circuit stimulus result
+      → BenchEnds reader out circuit stimulus (Err fault) → BenchLeft reader out circuit stimulus result
   none_left (Ok bench) fault h ends = absurd h
   none_left (Err f) fault h ends =
-      subst (λ (g : RunFault). BenchEnds left read_failures written failures reader reader' out out' circuit stimulus (Err g))
-      (sym h) ends
+      subst (λ (g : RunFault). BenchEnds reader out circuit stimulus (Err g)) (sym h) ends

@@ -13,4 +13,5 @@ pub mod RowLines
 pub mod RunLemmas
 pub mod ScriptLines
 pub mod Splits
+pub mod Tellings
 pub mod Unrollings

@@ -1,6 +1,7 @@
--- A trace, and behind it a verdict's line.
-use Rattle.std.proofs.Common.{◌≡◌, ℕ, ◌+◌, List, ◌++◌, Ok, Err, sym, ap, ◌∙◌, append_assoc, arith, refl}
+-- The run of a witness that is told: its dump; its trace, and behind it a verdict's line.
+use Rattle.std.proofs.Common.{◌≡◌, ℕ, ◌+◌, List, [], ◌++◌, Result, Ok, Err, sym, ap, ◌∙◌, append_assoc, arith, refl}
 use Rattle.std.specs.Prelude.{Option}
+use Rattle.aig_parts.specs.declared.fault.Fault.{Fault}
 use Rattle.aig_parts.specs.declared.raw.Raw.{Raw}
 use Rattle.aig_bytes.specs.Bytes.{after, IsBeginning, Writes}
 use Rattle.aig_bytes.proofs.WriteLemmas.{after-append}
@@ -8,35 +9,47 @@ use Rattle.aig_sim.specs.declared.verdict.Verdict.{Verdict}
 use Rattle.aig_engines.specs.declared.run_fault.RunFault.{RunFault}
 use Rattle.aig_engines.specs.declared.run_fault.RunFault.TheVariants as parts
 use Rattle.aig_sim.specs.declared.verdict.Verdict.TheVariants.{Confirmed}
-use Rattle.aig_sim.specs.Replayed.{TellsRun}
-use Rattle.aig_sim.specs.Trace.{IsTrace}
+use Rattle.aig_sim.specs.declared.replay_fault.ReplayFault.{ReplayFault}
+use Rattle.aig_sim.specs.declared.replay_fault.ReplayFault.TheVariants as faults
+use Rattle.aig_sim.specs.Dump.{IsDump}
+use Rattle.aig_sim.specs.Replayed.{Replays}
 use Rattle.aig_sim.specs.Verdict.{IsVerdict, IsConfirmed}
 use Rattle.aig_sim.specs.WitnessText.{Witness, SpellsWitness, IsAdmitted}
-use Rattle.aig_engines.specs.Checked.{verdict_text}
-use Rattle.aig_engines.specs.Replay.{Traces}
+use Rattle.aig_engines.specs.Checked.{Shows}
+use Rattle.aig_engines.specs.Flow.{Flow}
+use Rattle.aig_engines.specs.Replay.{DumpsRun}
 use Rattle.aig_engines.specs.Run.{IsFileOf}
+use Rattle.aig_engines.specs.Told.{EndsTelling, OfFile}
+use Rattle.aig_engines.proofs.Tellings.{of_file}
 
--- what is told of a witness that shows a verdict
-pub traces_so : (file text told : List ℕ) (raw : Raw) (v : Verdict) (w : Witness) → IsFileOf file raw
-    → SpellsWitness raw text w → IsAdmitted raw w → IsVerdict raw w v → (v ≡ Confirmed → IsConfirmed raw w)
-    → TellsRun (λ raw start rows text. IsTrace raw start rows text) raw text told
-    → Traces file text v (told ++ verdict_text v)
-traces_so file text told raw v w is spelled admitted shown confirmed tells = record {
-  shows = record {
-    raw = raw;
-    file_is = is;
-    witness = w;
-    text_is = spelled;
-    admitted = admitted;
-    verdict_is = shown;
-    confirmed = confirmed;
-  };
-  raw = raw;
-  file_is = is;
-  trace = told;
-  trace_is = tells;
-  told_is = refl;
-}
+-- a witness that is admitted shows its verdict
+pub shows_so : (raw : Raw) (text : List ℕ) (v : Verdict) (w : Witness) → SpellsWitness raw text w → IsAdmitted raw w
+    → IsVerdict raw w v → (v ≡ Confirmed → IsConfirmed raw w) → Shows raw text v
+shows_so raw text v w spelled admitted shown confirmed =
+    record { witness = w; text_is = spelled; admitted = admitted; verdict_is = shown; confirmed = confirmed }
+
+-- the dump of a witness's run, by how its replay ended
+abbrev pub dump_answer : Result (Unit {0}) ReplayFault → Result (Unit {0}) RunFault
+dump_answer (Ok done) = Ok done
+dump_answer (Err (faults.Witness why)) = Err (parts.Witness why)
+dump_answer (Err faults.Io) = Err parts.Output
+
+module _ {X : Type 0} (out : Flow X) (raw : Raw) (text : List ℕ) where
+  dumped_so : (r : Result (Unit {0}) ReplayFault)
+      → Replays (λ raw start rows told. IsDump raw start rows told) raw text out.bytes out.failures out.old out.new r
+      → EndsTelling out (DumpsRun text raw) (dump_answer r)
+  dumped_so (Ok done) h = (h.0, h.1, record { ok = h.2; err = tt; count = omega (arith, h.3) })
+  dumped_so (Err (faults.Witness why)) h = h
+  dumped_so (Err faults.Io) h =
+      (tt, h.0, h.2, record { ok = tt; err = (h.1, h.3, h.4); count = h.5 })
+
+  no_circuit_fault : (fault : Fault) → DumpsRun text raw (Err (parts.Circuit fault)) [] → ⊥
+  no_circuit_fault fault h = h
+
+  pub dumped_from : (file : List ℕ) (r : Result (Unit {0}) ReplayFault) → IsFileOf file raw
+      → Replays (λ raw start rows told. IsDump raw start rows told) raw text out.bytes out.failures out.old out.new r
+      → EndsTelling out (OfFile file (DumpsRun text)) (dump_answer r)
+  dumped_from file r f h = of_file out (DumpsRun text) file raw (dump_answer r) no_circuit_fault f (dumped_so r h)
 
 module _ {X : Type 0} (written : X → Option (List ℕ)) (failures : X → ℕ) (old new : X) (told line : List ℕ) where
   -- a write of the trace failed

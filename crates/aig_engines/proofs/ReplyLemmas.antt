@@ -5,6 +5,7 @@ use Rattle.std.proofs.lemmas.List.{append-nil, map-append}
 use Rattle.std.proofs.lemmas.Bool.{false≢true}
 use Rattle.aig_bytes.specs.Bytes.{Writes, before}
 use Rattle.aig_bytes.proofs.WriteLemmas.{writes_then, writes_none}
+use Rattle.aig_engines.specs.Flow.{flow}
 use Rattle.aig_engines.specs.Lines.{Line, whole, lines_from, rest_from, whole_lines}
 use Rattle.aig_bench.specs.Pair.{Pair}
 use Rattle.aig_engines.specs.Replies.{Replies, LineReply}
@@ -55,13 +56,13 @@ replies_one : (old : Pair) (l : Line) (r : List ℕ) (new : Pair) → LineReply 
 replies_one old l r new h = (new, r, [], h, (refl, refl), sym (append-nil r))
 
 module _ {X : Type 0} {written : X → Option (List ℕ)} {failures : X → ℕ} where
-  pub answered_none : {from : X} {old : Pair} → Answered written failures from from [] old old
+  pub answered_none : {from : X} {old : Pair} → Answered (flow written failures from from) [] old old
   answered_none = record { replies = []; ran = (refl, refl); writes = writes_none }
 
   -- one line more
   pub answered_push : {T E : Type 0} {from mid to : X} {lines : List Line} {old n new : Pair} {r : List ℕ} {x : T} (l : Line)
-      → Answered written failures from mid lines old n → LineReply n l r new → Writes {E = E} written failures mid to r (Ok x)
-      → Answered written failures from to (lines ++ l ∷ []) old new
+      → Answered (flow written failures from mid) lines old n → LineReply n l r new → Writes {E = E} written failures mid to r (Ok x)
+      → Answered (flow written failures from to) (lines ++ l ∷ []) old new
   answered_push {lines} {old} {n} {new} {r} l a h w =
       let v = writes_then a.writes w in
       record {
@@ -72,15 +73,15 @@ module _ {X : Type 0} {written : X → Option (List ℕ)} {failures : X → ℕ}
 
   -- more lines
   pub answered_then : {from mid to : X} {lines more : List Line} {old n new : Pair}
-      → Answered written failures from mid lines old n → Answered written failures mid to more n new
-      → Answered written failures from to (lines ++ more) old new
+      → Answered (flow written failures from mid) lines old n → Answered (flow written failures mid to) more n new
+      → Answered (flow written failures from to) (lines ++ more) old new
   answered_then {lines} {more} {old} {n} {new} a b =
       record { replies = a.replies ++ b.replies; ran = replies_append old lines a.replies n more b.replies new a.ran b.ran; writes = writes_then a.writes b.writes }
 
   -- a reply that was not written
   pub stopped_push : {T E : Type 0} {from mid to : X} {lines first : List Line} {old n new : Pair} {r : List ℕ} {e : E} (l : Line) (more : List Line)
-      → Answered written failures from mid first old n → LineReply n l r new → Writes {T = T} written failures mid to r (Err e)
-      → lines ≡ first ++ (l ∷ more) → StoppedAt written failures from to lines old new
+      → Answered (flow written failures from mid) first old n → LineReply n l r new → Writes {T = T} written failures mid to r (Err e)
+      → lines ≡ first ++ (l ∷ more) → StoppedAt (flow written failures from to) lines old new
   stopped_push {mid} {first} {n} {r} l more a h w e = record {
     first = first;
     last = l;
@@ -95,8 +96,8 @@ module _ {X : Type 0} {written : X → Option (List ℕ)} {failures : X → ℕ}
   }
 
   pub stopped_then : {from mid to : X} {lines more : List Line} {old n new : Pair}
-      → Answered written failures from mid lines old n → StoppedAt written failures mid to more n new
-      → StoppedAt written failures from to (lines ++ more) old new
+      → Answered (flow written failures from mid) lines old n → StoppedAt (flow written failures mid to) more n new
+      → StoppedAt (flow written failures from to) (lines ++ more) old new
   stopped_then {lines} a s = record {
     first = lines ++ s.first;
     last = s.last;
@@ -111,20 +112,20 @@ module _ {X : Type 0} {written : X → Option (List ℕ)} {failures : X → ℕ}
   }
 
   pub stopped_same : {from to : X} {lines lines' : List Line} {old new : Pair}
-      → StoppedAt written failures from to lines old new → lines ≡ lines' → StoppedAt written failures from to lines' old new
-  stopped_same {from} {to} {old} {new} s e = subst (λ (ls : List Line). StoppedAt written failures from to ls old new) e s
+      → StoppedAt (flow written failures from to) lines old new → lines ≡ lines' → StoppedAt (flow written failures from to) lines' old new
+  stopped_same {from} {to} {old} {new} s e = subst (λ (ls : List Line). StoppedAt (flow written failures from to) ls old new) e s
 
   pub answered_same : {from to to' : X} {lines lines' : List Line} {old new new' : Pair}
-      → Answered written failures from to lines old new → to ≡ to' → lines ≡ lines' → new ≡ new'
-      → Answered written failures from to' lines' old new'
+      → Answered (flow written failures from to) lines old new → to ≡ to' → lines ≡ lines' → new ≡ new'
+      → Answered (flow written failures from to') lines' old new'
   answered_same {from} {to'} {lines} {lines'} {old} {new} a e f g =
-      subst (λ (n : Pair). Answered written failures from to' lines' old n) g
-      (subst (λ (ls : List Line). Answered written failures from to' ls old new) f
-      (subst (λ (w : X). Answered written failures from w lines old new) e a))
+      subst (λ (n : Pair). Answered (flow written failures from to') lines' old n) g
+      (subst (λ (ls : List Line). Answered (flow written failures from to') ls old new) f
+      (subst (λ (w : X). Answered (flow written failures from w) lines old new) e a))
 
   -- all replies were handed on
-  pub answered_flushed : {from mid to : X} {lines : List Line} {old new : Pair} → Answered written failures from mid lines old new
-      → written to ≡ written mid → failures to ≡ failures mid + 0 → Answered written failures from to lines old new
+  pub answered_flushed : {from mid to : X} {lines : List Line} {old new : Pair} → Answered (flow written failures from mid) lines old new
+      → written to ≡ written mid → failures to ≡ failures mid + 0 → Answered (flow written failures from to) lines old new
   answered_flushed a e f =
       let w = a.writes in
       record { replies = a.replies; ran = a.ran; writes = record { ok = e ∙ w.ok; err = tt; count = omega (arith, w.count, f) } }
@@ -146,17 +147,17 @@ whole_lines-append text bytes =
 
 module _ {Y X : Type 0} {left : Y → Option (List ℕ)} {read_failures : Y → ℕ} {written : X → Option (List ℕ)} {failures : X → ℕ} where
   pub reading_none : {reader : Y} {out : X} {line : ScriptLine} {old : Pair} → KeepsLine [] line
-      → Reading left read_failures written failures reader reader out out line old old
+      → Reading (flow left read_failures reader reader) (flow written failures out out) line old old
   reading_none {reader} k =
       record { script = []; read = sym (before_nil (left reader)); no_failure = refl; rest = k; answered = answered_none }
 
   -- a chunk was read and answered
   pub reading_more : {reader mid to : Y} {out out' out'' : X} {line line' : ScriptLine} {old n new : Pair} (chunk : List ℕ)
-      → Reading left read_failures written failures reader mid out out' line old n
+      → Reading (flow left read_failures reader mid) (flow written failures out out') line old n
       → left mid ≡ before chunk (left to) → read_failures to ≡ read_failures mid + 0
       → ((text : List ℕ) → KeepsLine text line → KeepsLine (rest_from text chunk) line')
-      → ((text : List ℕ) → KeepsLine text line → Answered written failures out' out'' (map whole (lines_from text chunk)) n new)
-      → Reading left read_failures written failures reader to out out'' line' old new
+      → ((text : List ℕ) → KeepsLine text line → Answered (flow written failures out' out'') (map whole (lines_from text chunk)) n new)
+      → Reading (flow left read_failures reader to) (flow written failures out out'') line' old new
   reading_more {to} {line'} chunk r e f g a = record {
     script = r.script ++ chunk;
     read = r.read ∙ ap (before r.script) e ∙ before-before r.script chunk (left to);
@@ -167,9 +168,9 @@ module _ {Y X : Type 0} {left : Y → Option (List ℕ)} {read_failures : Y → 
 
   -- the reader is at its end
   pub reading_end : {reader mid to : Y} {out out' : X} {line : ScriptLine} {old new : Pair}
-      → Reading left read_failures written failures reader mid out out' line old new
+      → Reading (flow left read_failures reader mid) (flow written failures out out') line old new
       → left mid ≡ before [] (left to) → read_failures to ≡ read_failures mid + 0
-      → Reading left read_failures written failures reader to out out' line old new
+      → Reading (flow left read_failures reader to) (flow written failures out out') line old new
   reading_end {to} r e f = record {
     script = r.script;
     read = r.read ∙ ap (before r.script) (e ∙ before_nil (left to));
@@ -180,9 +181,9 @@ module _ {Y X : Type 0} {left : Y → Option (List ℕ)} {read_failures : Y → 
 
   -- a read failed
   pub reading_fails : {reader mid to : Y} {out out' : X} {line : ScriptLine} {old new : Pair}
-      → Reading left read_failures written failures reader mid out out' line old new
+      → Reading (flow left read_failures reader mid) (flow written failures out out') line old new
       → left mid ≡ before [] (left to) → read_failures to ≡ read_failures mid + 1
-      → Failing left read_failures written failures reader to out out' old new
+      → Failing (flow left read_failures reader to) (flow written failures out out') old new
   reading_fails {to} r e f = record {
     script = r.script;
     read = r.read ∙ ap (before r.script) (e ∙ before_nil (left to));
@@ -191,10 +192,10 @@ module _ {Y X : Type 0} {left : Y → Option (List ℕ)} {read_failures : Y → 
 
   -- a write failed
   pub reading_stops : {reader mid to : Y} {out out' out'' : X} {line : ScriptLine} {old n new : Pair} (chunk : List ℕ)
-      → Reading left read_failures written failures reader mid out out' line old n
+      → Reading (flow left read_failures reader mid) (flow written failures out out') line old n
       → left mid ≡ before chunk (left to) → read_failures to ≡ read_failures mid + 0
-      → ((text : List ℕ) → KeepsLine text line → StoppedAt written failures out' out'' (map whole (lines_from text chunk)) n new)
-      → Failing left read_failures written failures reader to out out'' old new
+      → ((text : List ℕ) → KeepsLine text line → StoppedAt (flow written failures out' out'') (map whole (lines_from text chunk)) n new)
+      → Failing (flow left read_failures reader to) (flow written failures out out'') old new
   reading_stops {to} {out} {out''} {old} {new} chunk r e f a = record {
     script = r.script ++ chunk;
     read = r.read ∙ ap (before r.script) e ∙ before-before r.script chunk (left to);
@@ -203,7 +204,7 @@ module _ {Y X : Type 0} {left : Y → Option (List ℕ)} {read_failures : Y → 
       (
         whole_lines (r.script ++ chunk),
         inl refl,
-        inl (subst (λ (ls : List Line). StoppedAt written failures out out'' ls old new) (whole_lines-append r.script chunk)
+        inl (subst (λ (ls : List Line). StoppedAt (flow written failures out out'') ls old new) (whole_lines-append r.script chunk)
             (stopped_then r.answered (a (rest_from [] r.script) r.rest))),
       ),
     );
@@ -211,9 +212,9 @@ module _ {Y X : Type 0} {left : Y → Option (List ℕ)} {read_failures : Y → 
 
   -- the replies were handed on
   pub reading_flushed : {reader to : Y} {out mid out' : X} {line : ScriptLine} {old new : Pair}
-      → Reading left read_failures written failures reader to out mid line old new
+      → Reading (flow left read_failures reader to) (flow written failures out mid) line old new
       → written out' ≡ written mid → failures out' ≡ failures mid + 0
-      → Reading left read_failures written failures reader to out out' line old new
+      → Reading (flow left read_failures reader to) (flow written failures out out') line old new
   reading_flushed r e f = record {
     script = r.script;
     read = r.read;
@@ -224,9 +225,9 @@ module _ {Y X : Type 0} {left : Y → Option (List ℕ)} {read_failures : Y → 
 
   -- a flush failed
   pub reading_unflushed : {reader to : Y} {out mid out' : X} {line : ScriptLine} {old new : Pair}
-      → Reading left read_failures written failures reader to out mid line old new
+      → Reading (flow left read_failures reader to) (flow written failures out mid) line old new
       → written out' ≡ written mid → failures out' ≡ failures mid + 1
-      → Failing left read_failures written failures reader to out out' old new
+      → Failing (flow left read_failures reader to) (flow written failures out out') old new
   reading_unflushed {mid} r e f = record {
     script = r.script;
     read = r.read;

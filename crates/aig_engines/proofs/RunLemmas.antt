@@ -6,6 +6,7 @@ use Rattle.aig_bytes.specs.Bytes.{IsAtEnd, Writes}
 use Rattle.aig_bench.specs.declared.edit.EditFault.{EditFault}
 use Rattle.aig_bench.specs.Pair.{Pair}
 use Rattle.aig_bench.specs.Edit.{Edit, Edits}
+use Rattle.aig_engines.specs.Flow.{flow}
 use Rattle.aig_engines.specs.Lines.{Line, unfinished, rest_from, whole_lines, last_piece, lines_of}
 use Rattle.aig_engines.specs.Replies.{edit_reply, EditReply}
 use Rattle.aig_engines.specs.Ran.{Reading, Ran, Failing}
@@ -34,9 +35,9 @@ piece script some =
 module _ {Y X : Type 0} {left : Y → Option (List ℕ)} {read_failures : Y → ℕ} {written : X → Option (List ℕ)} {failures : X → ℕ} where
   -- nothing is behind the last LF
   pub ran_at_end : {reader reader' : Y} {out out' : X} {line : ScriptLine} {old new : Pair}
-      (r : Reading left read_failures written failures reader reader' out out' line old new) → IsAtEnd (left reader')
+      (r : Reading (flow left read_failures reader reader') (flow written failures out out') line old new) → IsAtEnd (left reader')
       → rest_from [] r.script ≡ []
-      → Ran left read_failures written failures reader reader' out out' old new
+      → Ran (flow left read_failures reader reader') (flow written failures out out') old new
   ran_at_end r end rest = record {
     script = r.script;
     read = r.read;
@@ -47,10 +48,10 @@ module _ {Y X : Type 0} {left : Y → Option (List ℕ)} {read_failures : Y → 
   }
 
   pub ran_with_piece : {T E : Type 0} {reader reader' : Y} {out mid out' : X} {line : ScriptLine} {old new : Pair} {x : T}
-      (r : Reading left read_failures written failures reader reader' out mid line old new) → IsAtEnd (left reader')
+      (r : Reading (flow left read_failures reader reader') (flow written failures out mid) line old new) → IsAtEnd (left reader')
       → (rest_from [] r.script ≡ [] → ⊥)
       → Writes {E = E} written failures mid out' (codes "bad\n") (Ok x)
-      → Ran left read_failures written failures reader reader' out out' old new
+      → Ran (flow left read_failures reader reader') (flow written failures out out') old new
   ran_with_piece r end some w = record {
     script = r.script;
     read = r.read;
@@ -60,10 +61,10 @@ module _ {Y X : Type 0} {left : Y → Option (List ℕ)} {read_failures : Y → 
   }
 
   pub failing_at_piece : {T E : Type 0} {reader reader' : Y} {out mid out' : X} {line : ScriptLine} {old new : Pair} {e : E}
-      (r : Reading left read_failures written failures reader reader' out mid line old new) → IsAtEnd (left reader')
+      (r : Reading (flow left read_failures reader reader') (flow written failures out mid) line old new) → IsAtEnd (left reader')
       → (rest_from [] r.script ≡ [] → ⊥)
       → Writes {T = T} written failures mid out' (codes "bad\n") (Err e)
-      → Failing left read_failures written failures reader reader' out out' old new
+      → Failing (flow left read_failures reader reader') (flow written failures out out') old new
   failing_at_piece r end some w = record {
     script = r.script;
     read = r.read;
@@ -79,9 +80,9 @@ module _ {Y X : Type 0} {left : Y → Option (List ℕ)} {read_failures : Y → 
 
   -- all replies were handed on
   pub ran_flushed : {reader reader' : Y} {out mid out' : X} {old new : Pair}
-      → Ran left read_failures written failures reader reader' out mid old new
+      → Ran (flow left read_failures reader reader') (flow written failures out mid) old new
       → written out' ≡ written mid → failures out' ≡ failures mid + 0
-      → Ran left read_failures written failures reader reader' out out' old new
+      → Ran (flow left read_failures reader reader') (flow written failures out out') old new
   ran_flushed ran e f = record {
     script = ran.script;
     read = ran.read;
@@ -92,9 +93,9 @@ module _ {Y X : Type 0} {left : Y → Option (List ℕ)} {read_failures : Y → 
 
   -- the flush behind all replies failed
   pub ran_unflushed : {reader reader' : Y} {out mid out' : X} {old new : Pair}
-      → Ran left read_failures written failures reader reader' out mid old new
+      → Ran (flow left read_failures reader reader') (flow written failures out mid) old new
       → written out' ≡ written mid → failures out' ≡ failures mid + 1
-      → Failing left read_failures written failures reader reader' out out' old new
+      → Failing (flow left read_failures reader reader') (flow written failures out out') old new
   ran_unflushed {mid} ran e f = record {
     script = ran.script;
     read = ran.read;

@@ -9,49 +9,50 @@ use Rattle.aig_bench.specs.Pair.{Pair}
 use Rattle.aig_engines.specs.declared.run_fault.RunFault.{RunFault}
 use Rattle.aig_engines.specs.declared.run_fault.RunFault.TheVariants.{Circuit, Stimulus, Script}
 use Rattle.aig_engines.specs.declared.script_fault.ScriptFault.TheVariants as scripts
+use Rattle.aig_engines.specs.Flow.{Flow}
 use Rattle.aig_engines.specs.Ran.{Ran, Failing}
 use Rattle.aig_engines.specs.Run.{IsFileOf, AreBenchFiles, RefusesCircuit, RefusesFiles}
 
-module _ {Y X : Type 0} (left : Y → Option (List ℕ)) (read_failures : Y → ℕ) (written : X → Option (List ℕ)) (failures : X → ℕ) where
-  abbrev streams : Y → X → Streams
-  streams reader out = record { left = left reader; reads = read_failures reader; writes = failures out }
+abbrev streams : {Y X : Type 0} → Flow Y → Flow X → Y → X → Streams
+streams reader out y x = record { left = reader.bytes y; reads = reader.failures y; writes = out.failures x }
 
-  -- How a run of a circuit on a stimulus ends, from bytes, where `Runs` says what it reads and writes. The file is
-  -- refused, and nothing was read or written; its circuit was run, to the end or to a fault of the stimulus; or no
-  -- memory was found for that, and nothing was read or written.
-  abbrev pub RunEnds : (Raw → Streams → Streams → Option (List ℕ) → Option (List ℕ) → Result ℕ StimFault → Type 0)
-      → Y → Y → X → X → List ℕ → Result ℕ RunFault → Type 0
-  RunEnds Runs reader reader' out out' file (Ok frames) =
-      (raw : Raw) × IsFileOf file raw
-      × Runs raw (streams reader out) (streams reader' out') (written out) (written out') (Ok frames)
-  RunEnds Runs reader reader' out out' file (Err (Circuit fault)) =
-      RefusesCircuit file fault × (reader' ≡ reader) × (out' ≡ out)
-  RunEnds Runs reader reader' out out' file (Err (Stimulus stimuli.Memory)) =
-      ((raw : Raw) × IsFileOf file raw) × (reader' ≡ reader) × (out' ≡ out)
-  RunEnds Runs reader reader' out out' file (Err (Stimulus fault)) =
-      (raw : Raw) × IsFileOf file raw
-      × Runs raw (streams reader out) (streams reader' out') (written out) (written out') (Err fault)
-  RunEnds Runs reader reader' out out' file (Err _) = ⊥
+-- How a run of a circuit on a stimulus ends, from bytes, where `Runs` says what it reads and writes. The file is refused,
+-- and nothing was read or written; its circuit was run, to the end or to a fault of the stimulus; or no memory was found
+-- for that, and nothing was read or written.
+abbrev pub RunEnds : {Y X : Type 0}
+    → (Raw → Streams → Streams → Option (List ℕ) → Option (List ℕ) → Result ℕ StimFault → Type 0)
+    → Flow Y → Flow X → List ℕ → Result ℕ RunFault → Type 0
+RunEnds Runs reader out file (Ok frames) =
+    (raw : Raw) × IsFileOf file raw
+    × Runs raw (streams reader out reader.old out.old) (streams reader out reader.new out.new) (out.bytes out.old)
+    (out.bytes out.new) (Ok frames)
+RunEnds Runs reader out file (Err (Circuit fault)) =
+    RefusesCircuit file fault × (reader.new ≡ reader.old) × (out.new ≡ out.old)
+RunEnds Runs reader out file (Err (Stimulus stimuli.Memory)) =
+    ((raw : Raw) × IsFileOf file raw) × (reader.new ≡ reader.old) × (out.new ≡ out.old)
+RunEnds Runs reader out file (Err (Stimulus fault)) =
+    (raw : Raw) × IsFileOf file raw
+    × Runs raw (streams reader out reader.old out.old) (streams reader out reader.new out.new) (out.bytes out.old)
+    (out.bytes out.new) (Err fault)
+RunEnds Runs reader out file (Err _) = ⊥
 
-  -- a simulation: the trace is written
-  abbrev pub SimulationEnds : Y → Y → X → X → List ℕ → Result ℕ RunFault → Type 0
-  SimulationEnds = RunEnds Simulates
+-- a simulation: the trace is written
+abbrev pub SimulationEnds : {Y X : Type 0} → Flow Y → Flow X → List ℕ → Result ℕ RunFault → Type 0
+SimulationEnds reader out file result = RunEnds Simulates reader out file result
 
-  -- a dump: the text of the value change dump is written
-  abbrev pub WaveEnds : Y → Y → X → X → List ℕ → Result ℕ RunFault → Type 0
-  WaveEnds = RunEnds Dumps
+-- a dump: the text of the value change dump is written
+abbrev pub WaveEnds : {Y X : Type 0} → Flow Y → Flow X → List ℕ → Result ℕ RunFault → Type 0
+WaveEnds reader out file result = RunEnds Dumps reader out file result
 
-  -- How a bench from bytes ends. Its script was run to the end, and what was written are its replies; it was not, as a
-  -- read, a write or a flush failed; no memory was found for it, or a part is refused for a reason of its own, and then
-  -- nothing was read or written.
-  abbrev pub BenchEnds : Y → Y → X → X → List ℕ → List ℕ → Result (Unit {0}) RunFault → Type 0
-  BenchEnds reader reader' out out' circuit stimulus (Ok done) =
-      (pair new : Pair) × AreBenchFiles circuit stimulus pair
-      × Ran left read_failures written failures reader reader' out out' pair new
-  BenchEnds reader reader' out out' circuit stimulus (Err (Script scripts.Io)) =
-      (pair new : Pair) × AreBenchFiles circuit stimulus pair
-      × Failing left read_failures written failures reader reader' out out' pair new
-  BenchEnds reader reader' out out' circuit stimulus (Err (Script scripts.Memory)) =
-      ((pair : Pair) × AreBenchFiles circuit stimulus pair) × (reader' ≡ reader) × (out' ≡ out)
-  BenchEnds reader reader' out out' circuit stimulus (Err fault) =
-      RefusesFiles circuit stimulus fault × (reader' ≡ reader) × (out' ≡ out)
+-- How a bench from bytes ends. Its script was run to the end, and what was written are its replies; it was not, as a
+-- read, a write or a flush failed; no memory was found for it, or a part is refused for a reason of its own, and then
+-- nothing was read or written.
+abbrev pub BenchEnds : {Y X : Type 0} → Flow Y → Flow X → List ℕ → List ℕ → Result (Unit {0}) RunFault → Type 0
+BenchEnds reader out circuit stimulus (Ok done) =
+    (pair new : Pair) × AreBenchFiles circuit stimulus pair × Ran reader out pair new
+BenchEnds reader out circuit stimulus (Err (Script scripts.Io)) =
+    (pair new : Pair) × AreBenchFiles circuit stimulus pair × Failing reader out pair new
+BenchEnds reader out circuit stimulus (Err (Script scripts.Memory)) =
+    ((pair : Pair) × AreBenchFiles circuit stimulus pair) × (reader.new ≡ reader.old) × (out.new ≡ out.old)
+BenchEnds reader out circuit stimulus (Err fault) =
+    RefusesFiles circuit stimulus fault × (reader.new ≡ reader.old) × (out.new ≡ out.old)

@@ -3,7 +3,6 @@ use Rattle.std.specs.Prelude.{◌≡◌, ◌↔◌, ℕ, Bool, true, false, IsTr
 use Rattle.std.specs.Prelude.{Option, None, Some, Result, Ok, Err}
 use Rattle.std.specs.List.{flat_map}
 use Rattle.std.specs.Fmt.{decimal}
-use Rattle.aig_bytes.specs.Bytes.{Writes}
 use Rattle.aig_parts.specs.declared.latch.Latch.{Latch}
 use Rattle.aig_parts.specs.declared.raw.Raw.{Raw}
 use Rattle.aig_base.specs.Greatest.{IsGreatestFanOut, IsGreatestLevel}
@@ -14,7 +13,6 @@ use Rattle.aig_format.specs.Spells.{SpellsAscii, SpellsBinary}
 use Rattle.aig_engines.specs.declared.info.Facts.{Facts}
 use Rattle.aig_engines.specs.declared.run_fault.RunFault.{RunFault}
 use Rattle.aig_engines.specs.declared.run_fault.RunFault.TheVariants as parts
-use Rattle.aig_engines.specs.Run.{IsFileOf, RefusesCircuit}
 
 abbrev pub format_name : Format → List ℕ
 format_name Ascii = codes "aag"
@@ -69,22 +67,8 @@ info_text raw facts =
     fact_line (codes "format") (format_name facts.format)
     ++ (number_lines raw facts ++ fact_line (codes "ready") (yes_or_no facts.is_ready))
 
--- the text is what is told of the file of a circuit
-pub record IsInfo (file text : List ℕ) : Type 0 where
-  pub raw : Raw
-  pub file_is : IsFileOf file raw
-  pub facts : Facts
-  pub facts_are : AreFacts file raw facts
-  pub text_is : text ≡ info_text raw facts
-
--- How telling ends. The text is written whole; a write failed behind a beginning of it; the file is refused, and nothing
--- was written; no memory was found for levels or fan-outs, and nothing was written.
-abbrev pub InfoEnds : {X : Type 0} → (X → Option (List ℕ)) → (X → ℕ) → X → X → List ℕ → Result (Unit {0}) RunFault → Type 0
-InfoEnds written failures old new file (Ok done) =
-    (text : List ℕ) × IsInfo file text × Writes {T = Unit {0}} {E = RunFault} written failures old new text (Ok done)
-InfoEnds written failures old new file (Err parts.Output) =
-    (text : List ℕ) × IsInfo file text
-    × Writes {T = Unit {0}} {E = RunFault} written failures old new text (Err parts.Output)
-InfoEnds written failures old new file (Err (parts.Circuit fault)) = RefusesCircuit file fault × (new ≡ old)
-InfoEnds written failures old new file (Err parts.Memory) = ((raw : Raw) × IsFileOf file raw) × (new ≡ old)
-InfoEnds written failures old new file (Err _) = ⊥
+-- what is told of the file of this circuit, unless no memory was found for levels or fan-outs
+abbrev pub TellsFacts : List ℕ → Raw → Result (Unit {0}) RunFault → List ℕ → Type 0
+TellsFacts file raw (Ok done) text = (facts : Facts) × AreFacts file raw facts × (text ≡ info_text raw facts)
+TellsFacts file raw (Err parts.Memory) text = Unit {0}
+TellsFacts file raw (Err _) text = ⊥

@@ -3,6 +3,7 @@ pub mod Command
 pub mod Converted
 pub mod Delivered
 pub mod Engines
+pub mod Flow
 pub mod Info
 pub mod Kept
 pub mod Lines
@@ -12,5 +13,6 @@ pub mod Replies
 pub mod Run
 pub mod ScriptLine
 pub mod Status
+pub mod Told
 pub mod Unrolling
 pub mod state

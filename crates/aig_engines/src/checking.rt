@@ -1,7 +1,11 @@
 //! Checks of a witness from bytes to bytes.
-ghost use Rattle.std.specs.Prelude.{IfOk, IfErr};
+ghost use Rattle.std.specs.Prelude.{[], Err, IfOk, IfErr};
+ghost use Rattle.aig_parts.specs.declared.raw.Raw.{Raw};
 ghost use Rattle.aig_bytes.specs.Bytes.{Writes};
-ghost use Rattle.aig_engines.specs.Checked.{verdict_text, CheckEnds, RefusesCheck, Shows};
+ghost use Rattle.aig_engines.specs.Checked.{verdict_text, Checks, Shows};
+ghost use Rattle.aig_engines.specs.Flow.{flow};
+ghost use Rattle.aig_engines.specs.Run.{IsFileOf};
+ghost use Rattle.aig_engines.specs.Told.{EndsTelling, OfFile};
 
 use crate::engine::read_circuit;
 use crate::run_fault::RunFault;
@@ -43,8 +47,8 @@ pub fn write_verdict<W: Write>(verdict: Verdict, out: &mut W) -> Result<(), Io>
 
 /// What the bytes of a witness show of the circuit of a file.
 fn verdict_of(alloc: Global, circuit: &[u8], witness: &[u8]) -> Result<Verdict, RunFault>
-    ensures verdict { IfOk result (Shows circuit.now witness.now) }
-    ensures fault { IfErr result (RefusesCheck circuit.now witness.now) }
+    ensures verdict { IfOk result (λ verdict. (raw : Raw) × IsFileOf circuit.now raw × Shows raw witness.now verdict) }
+    ensures fault { IfErr result (λ fault. OfFile {T = Verdict} circuit.now (Checks witness.now) (Err fault) []) }
 {
     let circuit = read_circuit(alloc, circuit)?;
     Ok(check_witness(alloc, &circuit, witness)?)
@@ -59,7 +63,7 @@ pub fn check_bytes<W: Write>(
     witness: &[u8],
     out: &mut W,
 ) -> Result<Verdict, RunFault>
-    ensures { CheckEnds W.written W.failures out.old out.new circuit.now witness.now result }
+    ensures { EndsTelling (flow W.written W.failures out.old out.new) (OfFile circuit.now (Checks witness.now)) result }
 {
     let verdict = verdict_of(alloc, circuit, witness)?;
     match write_verdict(verdict, out) {

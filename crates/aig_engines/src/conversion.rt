@@ -1,8 +1,10 @@
 //! Conversion of a circuit file, from its bytes or from a reader, to a writer.
 ghost use Rattle.std.specs.Prelude.{◌≡◌};
 ghost use Rattle.aig_format.specs.declared.header.Format.TheVariants.{Binary};
-ghost use Rattle.aig_engines.specs.Converted.{ConversionEnds, EndsFrom, IsWritten};
+ghost use Rattle.aig_engines.specs.Converted.{Converts, EndsFrom};
+ghost use Rattle.aig_engines.specs.Flow.{flow};
 ghost use Rattle.aig_engines.specs.state.Faults.{output_of};
+ghost use Rattle.aig_engines.specs.Told.{EndsTelling, OfFile};
 
 use crate::engine::read_circuit;
 use crate::run_fault::RunFault;
@@ -22,7 +24,7 @@ pub fn as_output(done: Result<(), Fault>) -> Result<(), RunFault>
 
 /// Writes a circuit as a binary file: a ready one as it stands, any other renumbered.
 fn write_ready<W: Write>(alloc: Global, circuit: &Circuit, out: &mut W) -> Result<(), RunFault>
-    ensures { IsWritten W.written W.failures out.old out.new circuit.now Binary result }
+    ensures { EndsTelling (flow W.written W.failures out.old out.new) (Converts Binary circuit.now) result }
 {
     if is_binary_ready(circuit) {
         return as_output(write_binary(circuit, out));
@@ -41,7 +43,7 @@ fn write_converted<W: Write>(
     to: Format,
     out: &mut W,
 ) -> Result<(), RunFault>
-    ensures { IsWritten W.written W.failures out.old out.new circuit.now to result }
+    ensures { EndsTelling (flow W.written W.failures out.old out.new) (Converts to circuit.now) result }
 {
     match to {
         Format::Ascii => as_output(write_ascii(circuit, out)),
@@ -58,7 +60,7 @@ pub fn convert<W: Write>(
     to: Format,
     out: &mut W,
 ) -> Result<(), RunFault>
-    ensures { ConversionEnds W.written W.failures out.old out.new file.now to result }
+    ensures { EndsTelling (flow W.written W.failures out.old out.new) (OfFile file.now (Converts to)) result }
 {
     let circuit = read_circuit(alloc, file)?;
     write_converted(alloc, &circuit, to, out)
@@ -73,8 +75,8 @@ pub fn convert_from<R: Read, W: Write>(
     to: Format,
     out: &mut W,
 ) -> Result<(), RunFault>
-    ensures { EndsFrom R.left R.failures reader.old reader.new out.old out.new
-        (λ bytes. ConversionEnds W.written W.failures out.old out.new bytes to result) result }
+    ensures { EndsFrom (flow R.left R.failures reader.old reader.new) (flow W.written W.failures out.old out.new)
+        (λ bytes. EndsTelling (flow W.written W.failures out.old out.new) (OfFile bytes (Converts to)) result) result }
 {
     match read_from(alloc, reader) {
         Ok(circuit) => write_converted(alloc, &circuit, to, out),

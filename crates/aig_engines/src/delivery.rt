@@ -1,13 +1,15 @@
 //! Engines over a writer that holds bytes back: all that they wrote is handed on, whatever they answer.
 ghost use Rattle.std.specs.Prelude.{◌≡◌};
-ghost use Rattle.aig_engines.specs.Checked.{CheckEnds};
-ghost use Rattle.aig_engines.specs.Converted.{ConversionEnds, EndsFrom};
+ghost use Rattle.aig_engines.specs.Checked.{Checks};
+ghost use Rattle.aig_engines.specs.Converted.{Converts, EndsFrom};
 ghost use Rattle.aig_engines.specs.Delivered.{Delivers, IsHandedOn, all_written, calls_failed};
 ghost use Rattle.aig_engines.specs.Engines.{BenchEnds, SimulationEnds, WaveEnds};
-ghost use Rattle.aig_engines.specs.Info.{InfoEnds};
+ghost use Rattle.aig_engines.specs.Flow.{flow};
+ghost use Rattle.aig_engines.specs.Info.{TellsFacts};
 ghost use Rattle.aig_engines.specs.Kept.{BenchLeft};
-ghost use Rattle.aig_engines.specs.Replay.{ReplayEnds, TracedEnds};
-ghost use Rattle.aig_engines.specs.Unrolling.{UnrollingEnds, UnrollingLeft};
+ghost use Rattle.aig_engines.specs.Replay.{ChecksAndTraces, DumpsRun};
+ghost use Rattle.aig_engines.specs.Told.{EndsTelling, OfFile};
+ghost use Rattle.aig_engines.specs.Unrolling.{Unrolls, UnrollsKept};
 ghost use Rattle.aig_bytes.specs.Bytes.{Writes};
 ghost use Rattle.aig_unroll.specs.InputMap.{map_text};
 
@@ -35,9 +37,10 @@ pub fn deliver_circuit<R: Read, W: Write>(
     out: &mut Buffered<W>,
 ) -> Result<(), RunFault>
     ensures { Delivers W.written RunFault.Output
-        (λ left answer. EndsFrom R.left R.failures circuit.old circuit.new out.old left
-        (λ bytes. ConversionEnds (all_written W.written) calls_failed out.old left bytes to answer) answer) out.new
-        result }
+        (λ left answer. EndsFrom (flow R.left R.failures circuit.old circuit.new)
+        (flow (all_written W.written) calls_failed out.old left)
+        (λ bytes. EndsTelling (flow (all_written W.written) calls_failed out.old left) (OfFile bytes (Converts to)) answer)
+        answer) out.new result }
 {
     let done = convert_from(alloc, circuit, to, out);
     handed_on(done, out, RunFault::Output)
@@ -52,9 +55,10 @@ pub fn deliver_trace<C: Read, R: Read, W: Write>(
     out: &mut Buffered<W>,
 ) -> Result<u64, RunFault>
     ensures { Delivers W.written (RunFault.Stimulus StimFault.Io)
-        (λ left answer. EndsFrom C.left C.failures circuit.old circuit.new out.old left
-        (λ bytes. SimulationEnds R.left R.failures (all_written W.written) calls_failed
-        stimulus.old stimulus.new out.old left bytes answer) answer) out.new result }
+        (λ left answer. EndsFrom (flow C.left C.failures circuit.old circuit.new)
+        (flow (all_written W.written) calls_failed out.old left)
+        (λ bytes. SimulationEnds (flow R.left R.failures stimulus.old stimulus.new)
+        (flow (all_written W.written) calls_failed out.old left) bytes answer) answer) out.new result }
 {
     let done = simulate_from(alloc, circuit, stimulus, out);
     handed_on(done, out, RunFault::Stimulus(StimFault::Io))
@@ -69,9 +73,10 @@ pub fn deliver_wave<C: Read, R: Read, W: Write>(
     out: &mut Buffered<W>,
 ) -> Result<u64, RunFault>
     ensures { Delivers W.written (RunFault.Stimulus StimFault.Io)
-        (λ left answer. EndsFrom C.left C.failures circuit.old circuit.new out.old left
-        (λ bytes. WaveEnds R.left R.failures (all_written W.written) calls_failed
-        stimulus.old stimulus.new out.old left bytes answer) answer) out.new result }
+        (λ left answer. EndsFrom (flow C.left C.failures circuit.old circuit.new)
+        (flow (all_written W.written) calls_failed out.old left)
+        (λ bytes. WaveEnds (flow R.left R.failures stimulus.old stimulus.new)
+        (flow (all_written W.written) calls_failed out.old left) bytes answer) answer) out.new result }
 {
     let done = wave_from(alloc, circuit, stimulus, out);
     handed_on(done, out, RunFault::Stimulus(StimFault::Io))
@@ -86,9 +91,8 @@ pub fn deliver_replies<R: Read, W: Write>(
     out: &mut Buffered<W>,
 ) -> Result<(), RunFault>
     ensures { Delivers W.written (RunFault.Script ScriptFault.Io)
-        (λ left answer. BenchEnds R.left R.failures (all_written W.written) calls_failed script.old script.new out.old
-        left
-        circuit.now stimulus.now answer) out.new result }
+        (λ left answer. BenchEnds (flow R.left R.failures script.old script.new)
+        (flow (all_written W.written) calls_failed out.old left) circuit.now stimulus.now answer) out.new result }
 {
     let done = run_bench::<PlaneGrid, R, Buffered<W>>(alloc, circuit, stimulus, script, out);
     handed_on(done, out, RunFault::Script(ScriptFault::Io))
@@ -104,8 +108,8 @@ pub fn deliver_bench<R: Read, W: Write>(
     out: &mut Buffered<W>,
 ) -> Result<Bench<PlaneGrid>, RunFault>
     ensures { Delivers W.written (RunFault.Script ScriptFault.Io)
-        (λ left answer. BenchLeft R.left R.failures (all_written W.written) calls_failed script.old script.new
-        out.old left circuit.now stimulus.now answer) out.new result }
+        (λ left answer. BenchLeft (flow R.left R.failures script.old script.new)
+        (flow (all_written W.written) calls_failed out.old left) circuit.now stimulus.now answer) out.new result }
 {
     let done = bench_after_script::<PlaneGrid, R, Buffered<W>>(
         alloc, circuit, stimulus, script, out,
@@ -123,8 +127,8 @@ pub fn deliver_unrolled<W: Write>(
     out: &mut Buffered<W>,
 ) -> Result<(), RunFault>
     ensures { Delivers W.written RunFault.Output
-        (λ left answer. UnrollingEnds (all_written W.written) calls_failed out.old left circuit.now frames to answer)
-        out.new result }
+        (λ left answer. EndsTelling (flow (all_written W.written) calls_failed out.old left)
+        (OfFile circuit.now (Unrolls frames to)) answer) out.new result }
 {
     let done = unroll_bytes(alloc, circuit, frames, to, out);
     handed_on(done, out, RunFault::Output)
@@ -140,8 +144,8 @@ pub fn deliver_unrolled_and_keep<W: Write>(
     out: &mut Buffered<W>,
 ) -> Result<Circuit, RunFault>
     ensures { Delivers W.written RunFault.Output
-        (λ left answer. UnrollingLeft (all_written W.written) calls_failed out.old left circuit.now frames to answer)
-        out.new result }
+        (λ left answer. EndsTelling (flow (all_written W.written) calls_failed out.old left)
+        (OfFile circuit.now (UnrollsKept frames to)) answer) out.new result }
 {
     let done = unroll_and_keep(alloc, circuit, frames, to, out);
     handed_on(done, out, RunFault::Output)
@@ -170,8 +174,8 @@ pub fn deliver_verdict<W: Write>(
     out: &mut Buffered<W>,
 ) -> Result<Verdict, RunFault>
     ensures { Delivers W.written RunFault.Output
-        (λ left answer. CheckEnds (all_written W.written) calls_failed out.old left circuit.now witness.now answer)
-        out.new result }
+        (λ left answer. EndsTelling (flow (all_written W.written) calls_failed out.old left)
+        (OfFile circuit.now (Checks witness.now)) answer) out.new result }
 {
     let done = check_bytes(alloc, circuit, witness, out);
     handed_on(done, out, RunFault::Output)
@@ -186,8 +190,8 @@ pub fn deliver_traced_verdict<W: Write>(
     out: &mut Buffered<W>,
 ) -> Result<Verdict, RunFault>
     ensures { Delivers W.written RunFault.Output
-        (λ left answer. TracedEnds (all_written W.written) calls_failed out.old left circuit.now witness.now answer)
-        out.new result }
+        (λ left answer. EndsTelling (flow (all_written W.written) calls_failed out.old left)
+        (OfFile circuit.now (ChecksAndTraces witness.now)) answer) out.new result }
 {
     let done = check_and_trace_bytes(alloc, circuit, witness, out);
     handed_on(done, out, RunFault::Output)
@@ -201,8 +205,8 @@ pub fn deliver_witness_wave<W: Write>(
     out: &mut Buffered<W>,
 ) -> Result<(), RunFault>
     ensures { Delivers W.written RunFault.Output
-        (λ left answer. ReplayEnds (all_written W.written) calls_failed out.old left circuit.now witness.now answer)
-        out.new result }
+        (λ left answer. EndsTelling (flow (all_written W.written) calls_failed out.old left)
+        (OfFile circuit.now (DumpsRun witness.now)) answer) out.new result }
 {
     let done = wave_witness_bytes(alloc, circuit, witness, out);
     handed_on(done, out, RunFault::Output)
@@ -215,8 +219,8 @@ pub fn deliver_info<W: Write>(
     out: &mut Buffered<W>,
 ) -> Result<(), RunFault>
     ensures { Delivers W.written RunFault.Output
-        (λ left answer. InfoEnds (all_written W.written) calls_failed out.old left circuit.now answer)
-        out.new result }
+        (λ left answer. EndsTelling (flow (all_written W.written) calls_failed out.old left)
+        (OfFile circuit.now (TellsFacts circuit.now)) answer) out.new result }
 {
     let done = info_bytes(alloc, circuit, out);
     handed_on(done, out, RunFault::Output)

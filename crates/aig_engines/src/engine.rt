@@ -5,6 +5,7 @@ ghost use Rattle.aig_base.specs.Limits.{frame_limit};
 ghost use Rattle.aig_sim.specs.StimulusText.{SpellsRows};
 ghost use Rattle.aig_engines.specs.Converted.{EndsFrom, reads_failed};
 ghost use Rattle.aig_engines.specs.Engines.{BenchEnds, SimulationEnds};
+ghost use Rattle.aig_engines.specs.Flow.{flow};
 ghost use Rattle.aig_engines.specs.state.Faults.{script_of};
 ghost use Rattle.aig_engines.specs.Run.{IsFileOf, AreBenchFiles, RefusesCircuit, RefusesStimulus, RefusesFiles};
 
@@ -69,7 +70,7 @@ pub fn run_bench<G: Grid, R: Read, W: Write>(
     script: &mut R,
     out: &mut W,
 ) -> Result<(), RunFault>
-    ensures { BenchEnds R.left R.failures W.written W.failures script.old script.new out.old out.new
+    ensures { BenchEnds (flow R.left R.failures script.old script.new) (flow W.written W.failures out.old out.new)
         circuit.now stimulus.now result }
 {
     let mut bench = open_bench::<G>(alloc, circuit, stimulus)?;
@@ -84,7 +85,7 @@ fn run_simulation<R: Read, W: Write>(
     out: &mut W,
 ) -> Result<u64, RunFault>
     ensures ends { (file : List ℕ) → IsFileOf file circuit.now →
-        SimulationEnds R.left R.failures W.written W.failures stimulus.old stimulus.new out.old out.new file result }
+        SimulationEnds (flow R.left R.failures stimulus.old stimulus.new) (flow W.written W.failures out.old out.new) file result }
     ensures read { reads_failed result ≡ 0 }
 {
     match simulate(alloc, circuit, stimulus, out) {
@@ -102,8 +103,8 @@ pub fn simulate_from<C: Read, R: Read, W: Write>(
     stimulus: &mut R,
     out: &mut W,
 ) -> Result<u64, RunFault>
-    ensures ends { EndsFrom C.left C.failures circuit.old circuit.new out.old out.new
-        (λ bytes. SimulationEnds R.left R.failures W.written W.failures stimulus.old stimulus.new out.old out.new
+    ensures ends { EndsFrom (flow C.left C.failures circuit.old circuit.new) (flow W.written W.failures out.old out.new)
+        (λ bytes. SimulationEnds (flow R.left R.failures stimulus.old stimulus.new) (flow W.written W.failures out.old out.new)
         bytes result) result }
     ensures unread { result ≡ Err (RunFault.Circuit Fault.Io) → stimulus.new ≡ stimulus.old }
 {

@@ -5,7 +5,9 @@ ghost use Rattle.aig_bytes.specs.Bytes.{Writes};
 ghost use Rattle.aig_parts.specs.declared.raw.Raw.{Raw};
 ghost use Rattle.aig_base.specs.Greatest.{IsGreatestLevel};
 ghost use Rattle.aig_format.specs.Spells.{Spells};
-ghost use Rattle.aig_engines.specs.Info.{AreFacts, InfoEnds, IsInFormat, comment_size, fact_line, format_name};
+ghost use Rattle.aig_engines.specs.Flow.{flow};
+ghost use Rattle.aig_engines.specs.Told.{EndsTelling, OfFile};
+ghost use Rattle.aig_engines.specs.Info.{AreFacts, TellsFacts, IsInFormat, comment_size, fact_line, format_name};
 ghost use Rattle.aig_engines.specs.Info.{info_text, is_uninitialised, number_line, number_lines, yes_or_no};
 ghost use Rattle.aig_engines.specs.Run.{IsFileOf};
 
@@ -173,7 +175,7 @@ fn tell<W: Write>(
     out: &mut W,
 ) -> Result<(), RunFault>
     requires { IsFileOf file.now circuit.now }
-    ensures { InfoEnds W.written W.failures out.old out.new file.now result }
+    ensures { EndsTelling (flow W.written W.failures out.old out.new) (TellsFacts file.now circuit.now) result }
 {
     let facts = facts_of(alloc, file, circuit)?;
     match write_info(circuit, &facts, out) {
@@ -188,7 +190,7 @@ fn tell<W: Write>(
 /// text is that of its circuit. Where the file is refused, or no memory was found for levels or fan-outs, nothing is
 /// written.
 pub fn info_bytes<W: Write>(alloc: Global, file: &[u8], out: &mut W) -> Result<(), RunFault>
-    ensures { InfoEnds W.written W.failures out.old out.new file.now result }
+    ensures { EndsTelling (flow W.written W.failures out.old out.new) (OfFile file.now (TellsFacts file.now)) result }
 {
     let circuit = read_circuit(alloc, file)?;
     tell(alloc, file, &circuit, out)

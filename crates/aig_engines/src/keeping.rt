@@ -1,6 +1,7 @@
 //! What a script leaves is kept: the bench behind it, and its circuit and stimulus as files.
 ghost use Rattle.std.specs.Prelude.{◌≡◌, IfErr};
 ghost use Rattle.aig_bytes.specs.Bytes.{Writes};
+ghost use Rattle.aig_engines.specs.Flow.{flow};
 ghost use Rattle.aig_engines.specs.Kept.{BenchLeft, circuit_text, rows_text};
 ghost use Rattle.aig_engines.specs.Run.{IsFileOf, AreBenchFiles};
 
@@ -24,7 +25,7 @@ pub fn bench_after_script<G: Grid, R: Read, W: Write>(
     script: &mut R,
     out: &mut W,
 ) -> Result<Bench<G>, RunFault>
-    ensures { BenchLeft R.left R.failures W.written W.failures script.old script.new out.old out.new
+    ensures { BenchLeft (flow R.left R.failures script.old script.new) (flow W.written W.failures out.old out.new)
         circuit.now stimulus.now result }
 {
     let mut bench = open_bench::<G>(alloc, circuit, stimulus)?;

@@ -1,7 +1,7 @@
 //! Runs of witnesses from bytes to bytes.
-ghost use Rattle.std.specs.Prelude.{ℕ, List};
-ghost use Rattle.aig_engines.specs.Replay.{ReplayEnds, TracedEnds};
-ghost use Rattle.aig_engines.specs.Run.{IsFileOf};
+ghost use Rattle.aig_engines.specs.Flow.{flow};
+ghost use Rattle.aig_engines.specs.Replay.{ChecksAndTraces, DumpsRun};
+ghost use Rattle.aig_engines.specs.Told.{EndsTelling, OfFile};
 
 use crate::checking::write_verdict;
 use crate::engine::read_circuit;
@@ -20,7 +20,7 @@ pub fn wave_witness_bytes<W: Write>(
     witness: &[u8],
     out: &mut W,
 ) -> Result<(), RunFault>
-    ensures { ReplayEnds W.written W.failures out.old out.new circuit.now witness.now result }
+    ensures { EndsTelling (flow W.written W.failures out.old out.new) (OfFile circuit.now (DumpsRun witness.now)) result }
 {
     let circuit = read_circuit(alloc, circuit)?;
     match dump_witness(alloc, &circuit, witness, out) {
@@ -30,15 +30,14 @@ pub fn wave_witness_bytes<W: Write>(
     }
 }
 
-// Writes the trace of a witness's run and the verdict on it, and answers the verdict.
+/// Writes the trace of a witness's run and the verdict on it, and answers the verdict.
 fn tell_run<W: Write>(
     alloc: Global,
     circuit: &Circuit,
     witness: &[u8],
     out: &mut W,
 ) -> Result<Verdict, RunFault>
-    ensures { (file : List ℕ) → IsFileOf file circuit.now →
-        TracedEnds W.written W.failures out.old out.new file witness.now result }
+    ensures { EndsTelling (flow W.written W.failures out.old out.new) (ChecksAndTraces witness.now circuit.now) result }
 {
     let verdict = check_witness(alloc, circuit, witness)?;
     match trace_witness(alloc, circuit, witness, out) {
@@ -60,7 +59,7 @@ pub fn check_and_trace_bytes<W: Write>(
     witness: &[u8],
     out: &mut W,
 ) -> Result<Verdict, RunFault>
-    ensures { TracedEnds W.written W.failures out.old out.new circuit.now witness.now result }
+    ensures { EndsTelling (flow W.written W.failures out.old out.new) (OfFile circuit.now (ChecksAndTraces witness.now)) result }
 {
     let circuit = read_circuit(alloc, circuit)?;
     tell_run(alloc, &circuit, witness, out)

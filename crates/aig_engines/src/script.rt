@@ -2,6 +2,7 @@
 ghost use Rattle.std.specs.Prelude.{◌≡◌, ◌<◌, ◌≤◌, ◌↔◌, ◌++◌, ℕ, List, [], map, length, take, slice_get, Some};
 ghost use Rattle.std.specs.Prelude.{IsTrue, OnOk, OnErr, IfOk, IfErr};
 ghost use Rattle.aig_bytes.specs.Bytes.{IsAtEnd, Writes};
+ghost use Rattle.aig_engines.specs.Flow.{flow};
 ghost use Rattle.aig_engines.specs.Lines.{IsPiece, whole, lines_from, rest_from};
 ghost use Rattle.aig_engines.specs.Ran.{Answered, StoppedAt, Reading, Ran, Failing};
 ghost use Rattle.aig_engines.specs.Replies.{WholeReply};
@@ -75,10 +76,10 @@ fn feed_line<G: Grid, W: Write>(
     ensures rest { IfOk result (λ count. (text : List ℕ) → KeepsLine text line.old →
         KeepsLine (rest_from text (take count bytes.now)) line.new) }
     ensures ok { IfOk result (λ count. (text : List ℕ) → KeepsLine text line.old →
-        Answered W.written W.failures out.old out.new (map whole (lines_from text (take count bytes.now)))
+        Answered (flow W.written W.failures out.old out.new) (map whole (lines_from text (take count bytes.now)))
         bench.old.pair bench.new.pair) }
     ensures err { OnErr result ((text : List ℕ) → KeepsLine text line.old →
-        StoppedAt W.written W.failures out.old out.new (map whole (lines_from text bytes.now))
+        StoppedAt (flow W.written W.failures out.old out.new) (map whole (lines_from text bytes.now))
         bench.old.pair bench.new.pair) }
 {
     let length = line_length(bytes);
@@ -104,10 +105,10 @@ fn feed<G: Grid, W: Write>(
     ensures rest { OnOk result ((text : List ℕ) → KeepsLine text line.old →
         KeepsLine (rest_from text chunk.now) line.new) }
     ensures ok { OnOk result ((text : List ℕ) → KeepsLine text line.old →
-        Answered W.written W.failures out.old out.new (map whole (lines_from text chunk.now)) bench.old.pair
+        Answered (flow W.written W.failures out.old out.new) (map whole (lines_from text chunk.now)) bench.old.pair
         bench.new.pair) }
     ensures err { OnErr result ((text : List ℕ) → KeepsLine text line.old →
-        StoppedAt W.written W.failures out.old out.new (map whole (lines_from text chunk.now)) bench.old.pair
+        StoppedAt (flow W.written W.failures out.old out.new) (map whole (lines_from text chunk.now)) bench.old.pair
         bench.new.pair) }
 {
     let mut at = 0;
@@ -127,10 +128,10 @@ fn answer_lines<G: Grid, R: Read, W: Write>(
 ) -> Result<(), Io>
     requires empty { KeepsLine [] line.old }
     requires width { line.old.row.width ≡ length bench.old.pair.circuit.inputs }
-    ensures ok { OnOk result (Reading R.left R.failures W.written W.failures reader.old reader.new out.old out.new
+    ensures ok { OnOk result (Reading (flow R.left R.failures reader.old reader.new) (flow W.written W.failures out.old out.new)
         line.new bench.old.pair bench.new.pair) }
     ensures end { OnOk result (IsAtEnd (R.left reader.new)) }
-    ensures err { OnErr result (Failing R.left R.failures W.written W.failures reader.old reader.new out.old out.new
+    ensures err { OnErr result (Failing (flow R.left R.failures reader.old reader.new) (flow W.written W.failures out.old out.new)
         bench.old.pair bench.new.pair) }
 {
     let mut buffer = [0u8; 4096];
@@ -154,9 +155,9 @@ fn answer_all<G: Grid, R: Read, W: Write>(
 ) -> Result<(), Io>
     requires empty { KeepsLine [] line.old }
     requires width { line.old.row.width ≡ length bench.old.pair.circuit.inputs }
-    ensures ok { OnOk result (Ran R.left R.failures W.written W.failures reader.old reader.new out.old out.new
+    ensures ok { OnOk result (Ran (flow R.left R.failures reader.old reader.new) (flow W.written W.failures out.old out.new)
         bench.old.pair bench.new.pair) }
-    ensures err { OnErr result (Failing R.left R.failures W.written W.failures reader.old reader.new out.old out.new
+    ensures err { OnErr result (Failing (flow R.left R.failures reader.old reader.new) (flow W.written W.failures out.old out.new)
         bench.old.pair bench.new.pair) }
 {
     answer_lines(alloc, bench, line, reader, out)?;
@@ -177,10 +178,10 @@ pub fn run_script<G: Grid, R: Read, W: Write>(
     reader: &mut R,
     out: &mut W,
 ) -> Result<(), ScriptFault>
-    ensures replies { OnOk result (Ran R.left R.failures W.written W.failures reader.old reader.new out.old out.new
+    ensures replies { OnOk result (Ran (flow R.left R.failures reader.old reader.new) (flow W.written W.failures out.old out.new)
         bench.old.pair bench.new.pair) }
     ensures io { IfErr result (λ fault. fault ≡ ScriptFault.Io →
-        Failing R.left R.failures W.written W.failures reader.old reader.new out.old out.new bench.old.pair
+        Failing (flow R.left R.failures reader.old reader.new) (flow W.written W.failures out.old out.new) bench.old.pair
         bench.new.pair) }
     ensures memory { IfErr result (λ fault. fault ≡ ScriptFault.Memory →
         (reader.new ≡ reader.old) × (out.new ≡ out.old) × (bench.new ≡ bench.old)) }

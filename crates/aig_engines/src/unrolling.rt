@@ -3,7 +3,9 @@ ghost use Rattle.std.specs.Prelude.{◌≡◌, IfErr};
 ghost use Rattle.aig_bytes.specs.Bytes.{Writes};
 ghost use Rattle.aig_base.specs.Renumbered.{IsBinaryReady};
 ghost use Rattle.aig_unroll.specs.InputMap.{map_text};
-ghost use Rattle.aig_engines.specs.Unrolling.{UnrolledCircuitEnds, UnrollingEnds, UnrollingLeft, short_spelling};
+ghost use Rattle.aig_engines.specs.Flow.{flow};
+ghost use Rattle.aig_engines.specs.Told.{EndsTelling, OfFile};
+ghost use Rattle.aig_engines.specs.Unrolling.{Unrolls, UnrollsKept, short_spelling};
 
 use crate::conversion::as_output;
 use crate::engine::read_circuit;
@@ -33,7 +35,7 @@ fn unroll_circuit<W: Write>(
     to: Format,
     out: &mut W,
 ) -> Result<(), RunFault>
-    ensures { UnrolledCircuitEnds W.written W.failures out.old out.new circuit.now frames to result }
+    ensures { EndsTelling (flow W.written W.failures out.old out.new) (Unrolls frames to circuit.now) result }
 {
     let levels = Levels::of(alloc, circuit)?;
     let unrolled = unroll(alloc, circuit, &levels, frames)?;
@@ -50,7 +52,7 @@ pub fn unroll_bytes<W: Write>(
     to: Format,
     out: &mut W,
 ) -> Result<(), RunFault>
-    ensures { UnrollingEnds W.written W.failures out.old out.new circuit.now frames to result }
+    ensures { EndsTelling (flow W.written W.failures out.old out.new) (OfFile circuit.now (Unrolls frames to)) result }
 {
     let circuit = read_circuit(alloc, circuit)?;
     unroll_circuit(alloc, &circuit, frames, to, out)
@@ -65,7 +67,7 @@ pub fn unroll_and_keep<W: Write>(
     to: Format,
     out: &mut W,
 ) -> Result<Circuit, RunFault>
-    ensures { UnrollingLeft W.written W.failures out.old out.new circuit.now frames to result }
+    ensures { EndsTelling (flow W.written W.failures out.old out.new) (OfFile circuit.now (UnrollsKept frames to)) result }
 {
     let read = read_circuit(alloc, circuit)?;
     match unroll_circuit(alloc, &read, frames, to, out) {

@@ -2,6 +2,7 @@
 ghost use Rattle.std.specs.Prelude.{◌≡◌, ℕ, List, Err};
 ghost use Rattle.aig_engines.specs.Converted.{EndsFrom, reads_failed};
 ghost use Rattle.aig_engines.specs.Engines.{WaveEnds};
+ghost use Rattle.aig_engines.specs.Flow.{flow};
 ghost use Rattle.aig_engines.specs.Run.{IsFileOf};
 
 use crate::run_fault::RunFault;
@@ -18,7 +19,7 @@ fn run_dump<R: Read, W: Write>(
     out: &mut W,
 ) -> Result<u64, RunFault>
     ensures ends { (file : List ℕ) → IsFileOf file circuit.now →
-        WaveEnds R.left R.failures W.written W.failures stimulus.old stimulus.new out.old out.new file result }
+        WaveEnds (flow R.left R.failures stimulus.old stimulus.new) (flow W.written W.failures out.old out.new) file result }
     ensures read { reads_failed result ≡ 0 }
 {
     match dump(alloc, circuit, stimulus, out) {
@@ -37,8 +38,8 @@ pub fn wave_from<C: Read, R: Read, W: Write>(
     stimulus: &mut R,
     out: &mut W,
 ) -> Result<u64, RunFault>
-    ensures ends { EndsFrom C.left C.failures circuit.old circuit.new out.old out.new
-        (λ bytes. WaveEnds R.left R.failures W.written W.failures stimulus.old stimulus.new out.old out.new
+    ensures ends { EndsFrom (flow C.left C.failures circuit.old circuit.new) (flow W.written W.failures out.old out.new)
+        (λ bytes. WaveEnds (flow R.left R.failures stimulus.old stimulus.new) (flow W.written W.failures out.old out.new)
         bytes result) result }
     ensures unread { result ≡ Err (RunFault.Circuit Fault.Io) → stimulus.new ≡ stimulus.old }
 {

@@ -2,6 +2,7 @@ use Rattle.std.proofs.Common.{sym, subst}
 use Rattle.std.specs.Prelude.{Result}
 use Rattle.aig_engines.specs.declared.run_fault.RunFault.{RunFault}
 use Rattle.aig_engines.specs.Engines.{BenchEnds}
+use Rattle.aig_engines.specs.Flow.{flow}
 use Rattle.aig_engines.proofs.Benches.{script_ends}
 use Rattle.aig_engines.proofs.KeptFiles.{none_left}
 use Rattle.aig_engines.proofs.keeping.bench_after_script.Goals as goal
@@ -9,12 +10,11 @@ use Rattle.aig_engines.proofs.keeping.bench_after_script.Goals as goal
 pub returns-in_err-as_script : goal.returns-in_err-as_script
 returns-in_err-as_script g c =
     let h = c.run_script.ensures in
-    none_left g.R.Read.left g.R.Read.failures g.W.Write.written g.W.Write.failures c.args.script.now c.run_script.new.reader
-    c.args.out.now c.run_script.new.out c.args.circuit.now c.args.stimulus.now
+    let reader = flow g.R.Read.left g.R.Read.failures c.args.script.now c.run_script.new.reader in
+    let out = flow g.W.Write.written g.W.Write.failures c.args.out.now c.run_script.new.out in
+    none_left reader out c.args.circuit.now c.args.stimulus.now
     c.from_residual-in_err-as_script.result c.in_err-as_script.field-0.0 c.from_residual-in_err-as_script.ensures.1
-    (subst (λ (r : Result (Unit {0}) RunFault). BenchEnds g.R.Read.left g.R.Read.failures g.W.Write.written g.W.Write.failures
-    c.args.script.now c.run_script.new.reader c.args.out.now c.run_script.new.out c.args.circuit.now c.args.stimulus.now r)
+    (subst (λ (r : Result (Unit {0}) RunFault). BenchEnds reader out c.args.circuit.now c.args.stimulus.now r)
     (sym c.in_err-as_script.ensures)
-    (script_ends g.R.Read.left g.R.Read.failures g.W.Write.written g.W.Write.failures c.args.script.now c.run_script.new.reader
-    c.args.out.now c.run_script.new.out c.args.circuit.now c.args.stimulus.now c.in_ok-bench.bench c.run_script.new.bench
+    (script_ends reader out c.args.circuit.now c.args.stimulus.now c.in_ok-bench.bench c.run_script.new.bench
     c.run_script.result c.in_ok-bench.ensures.bench h.replies h.io h.memory))

@@ -1,43 +1,52 @@
-use Rattle.std.proofs.Common.{◌++◌}
+use Rattle.std.proofs.Common.{◌++◌, refl}
 use Rattle.aig_engines.specs.Checked.{verdict_text}
-use Rattle.aig_engines.proofs.Replays.{traces_so, trace_stopped, both_written, line_stopped}
+use Rattle.aig_engines.proofs.Replays.{shows_so, trace_stopped, both_written, line_stopped}
 use Rattle.aig_engines.proofs.replaying.tell_run.Goals as goal
 
 pub returns-in-Err-Io : goal.returns-in-Err-Io
-returns-in-Err-Io g c file is =
+returns-in-Err-Io g c =
     let (w, spelled, admitted, shown) = c.in_ok-verdict.ensures.verdict in
     let (told, done, tells, beginning, wrote, count) = rw c.in-Err-Io.field-0-is at c.in-Err-Io.ensures in
     let v = c.in_ok-verdict.verdict in (
       v,
       told ++ verdict_text v,
-      traces_so file c.args.witness.now told c.args.circuit.now v w is spelled admitted shown
-          (λ e. c.in_ok-verdict.ensures.confirmed e w spelled) tells,
+      (
+        shows_so c.args.circuit.now c.args.witness.now v w spelled admitted shown
+            (λ e. c.in_ok-verdict.ensures.confirmed e w spelled),
+        (told, tells, refl),
+      ),
       trace_stopped g.W.Write.written g.W.Write.failures c.args.out.now c.trace_witness.new.out told (verdict_text v)
           done beginning wrote count,
     )
 
 pub returns-in-Ok-write_verdict : goal.returns-in-Ok-write_verdict
-returns-in-Ok-write_verdict g c file is =
+returns-in-Ok-write_verdict g c =
     let (w, spelled, admitted, shown) = c.in_ok-verdict.ensures.verdict in
     let (told, tells, wrote, none) = c.in-Ok.ensures in
     let v = c.in_ok-verdict.verdict in (
       told ++ verdict_text v,
-      traces_so file c.args.witness.now told c.args.circuit.now v w is spelled admitted shown
-          (λ e. c.in_ok-verdict.ensures.confirmed e w spelled) tells,
+      (
+        shows_so c.args.circuit.now c.args.witness.now v w spelled admitted shown
+            (λ e. c.in_ok-verdict.ensures.confirmed e w spelled),
+        (told, tells, refl),
+      ),
       both_written g.W.Write.written g.W.Write.failures c.args.out.now c.write_verdict.new.out told (verdict_text v)
           c.trace_witness.new.out wrote none v c.in-Ok-write_verdict.ensures.ok c.in-Ok-write_verdict.ensures.count,
     )
 
 pub returns-in-Err : goal.returns-in-Err
-returns-in-Err g c file is =
+returns-in-Err g c =
     let (w, spelled, admitted, shown) = c.in_ok-verdict.ensures.verdict in
     let (told, tells, wrote, none) = c.in-Ok.ensures in
     let v = c.in_ok-verdict.verdict in
     let (done, beginning, line) = c.in-Err.ensures.err in (
       v,
       told ++ verdict_text v,
-      traces_so file c.args.witness.now told c.args.circuit.now v w is spelled admitted shown
-          (λ e. c.in_ok-verdict.ensures.confirmed e w spelled) tells,
+      (
+        shows_so c.args.circuit.now c.args.witness.now v w spelled admitted shown
+            (λ e. c.in_ok-verdict.ensures.confirmed e w spelled),
+        (told, tells, refl),
+      ),
       line_stopped g.W.Write.written g.W.Write.failures c.args.out.now c.write_verdict.new.out told (verdict_text v)
           c.trace_witness.new.out wrote none done beginning line c.in-Err.ensures.count,
     )

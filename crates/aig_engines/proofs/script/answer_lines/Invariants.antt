@@ -1,4 +1,5 @@
 use Rattle.std.proofs.Common.{◌≡◌, length}
+use Rattle.aig_engines.specs.Flow.{flow}
 use Rattle.aig_engines.specs.Ran.{Reading}
 use Rattle.aig_engines.proofs.script.answer_lines.Given as goal
 
@@ -6,7 +7,8 @@ abbrev pub invariant-loop-reader : goal.invariant-loop-reader
 invariant-loop-reader g l = record {
   room : length l.buffer ≡ 4096;
   width : l.line.row.width ≡ length l.bench.pair.circuit.inputs;
-  reading : Reading g.R.Read.left g.R.Read.failures g.W.Write.written g.W.Write.failures l.initial.reader l.reader l.initial.out l.out l.line l.initial.bench.pair l.bench.pair;
+  reading : Reading (flow g.R.Read.left g.R.Read.failures l.initial.reader l.reader)
+      (flow g.W.Write.written g.W.Write.failures l.initial.out l.out) l.line l.initial.bench.pair l.bench.pair;
 }
 
 abbrev pub decreases-loop-reader : goal.decreases-loop-reader

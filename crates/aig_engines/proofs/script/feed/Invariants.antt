@@ -1,5 +1,6 @@
 use Rattle.std.proofs.Common.{◌≡◌, ◌-◌, ◌≤◌, ℕ, List, length, map, take}
 use Rattle.aig_engines.specs.Lines.{whole, lines_from, rest_from}
+use Rattle.aig_engines.specs.Flow.{flow}
 use Rattle.aig_engines.specs.Ran.{Answered}
 use Rattle.aig_engines.specs.ScriptLine.{KeepsLine}
 use Rattle.aig_engines.proofs.script.feed.Given as goal
@@ -10,7 +11,7 @@ invariant-loop-at g l = record {
   width : l.line.row.width ≡ length l.bench.pair.circuit.inputs;
   rest : (text : List ℕ) → KeepsLine text l.initial.line → KeepsLine (rest_from text (take l.at l.chunk)) l.line;
   answered : (text : List ℕ) → KeepsLine text l.initial.line
-      → Answered g.W.Write.written g.W.Write.failures l.initial.out l.out (map whole (lines_from text (take l.at l.chunk)))
+      → Answered (flow g.W.Write.written g.W.Write.failures l.initial.out l.out) (map whole (lines_from text (take l.at l.chunk)))
       l.initial.bench.pair l.bench.pair;
 }
 

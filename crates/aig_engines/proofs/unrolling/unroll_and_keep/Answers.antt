@@ -1,8 +1,14 @@
-use Rattle.std.proofs.Common.{Err}
-use Rattle.aig_engines.proofs.Unrollings.{unrolled_from}
+use Rattle.std.proofs.Common.{Ok, Err}
+use Rattle.aig_engines.specs.Flow.{flow}
+use Rattle.aig_engines.proofs.Unrollings.{kept_from}
 use Rattle.aig_engines.proofs.unrolling.unroll_and_keep.Goals as goal
+
+pub returns-in-Ok : goal.returns-in-Ok
+returns-in-Ok g c =
+    kept_from (flow g.W.Write.written g.W.Write.failures c.args.out.now c.unroll_circuit.new.out) c.args.frames c.args.to
+    c.in_ok-read.read c.args.circuit.now (Ok tt) c.in_ok-read.ensures.circuit c.in-Ok.ensures
 
 pub returns-in-Err : goal.returns-in-Err
 returns-in-Err g c =
-    unrolled_from g.W.Write.written g.W.Write.failures c.args.out.now c.unroll_circuit.new.out c.args.circuit.now
-    c.in_ok-read.read c.args.frames c.args.to (Err c.in-Err.fault) c.in_ok-read.ensures.circuit c.in-Err.ensures
+    kept_from (flow g.W.Write.written g.W.Write.failures c.args.out.now c.unroll_circuit.new.out) c.args.frames c.args.to
+    c.in_ok-read.read c.args.circuit.now (Err c.in-Err.fault) c.in_ok-read.ensures.circuit c.in-Err.ensures
