@@ -12,7 +12,7 @@ use Rattle.aig_bench.specs.declared.bench_fault.BenchFault.TheVariants as benche
 use Rattle.aig_bench.specs.Pair.{Pair, BenchState}
 use Rattle.aig_engines.specs.declared.script_fault.ScriptFault.{ScriptFault}
 use Rattle.aig_engines.specs.declared.script_fault.ScriptFault.TheVariants as scripts
-use Rattle.aig_engines.specs.Flow.{Flow}
+use Rattle.aig_bytes.specs.Flow.{Flow}
 use Rattle.aig_engines.specs.Engines.{BenchEnds}
 use Rattle.aig_engines.specs.state.Faults.{script_of}
 use Rattle.aig_engines.specs.Ran.{Ran, Failing}

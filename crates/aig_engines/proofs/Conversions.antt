@@ -12,7 +12,7 @@ use Rattle.aig_sim.specs.declared.stimulus_fault.StimFault.{StimFault}
 use Rattle.aig_sim.specs.Simulated.{Streams}
 use Rattle.aig_engines.specs.declared.run_fault.RunFault.{RunFault}
 use Rattle.aig_engines.specs.declared.run_fault.RunFault.TheVariants as parts
-use Rattle.aig_engines.specs.Flow.{Flow, flow}
+use Rattle.aig_bytes.specs.Flow.{Flow, flow}
 use Rattle.aig_engines.specs.Engines.{RunEnds}
 use Rattle.aig_engines.specs.Run.{IsFileOf}
 use Rattle.aig_engines.specs.Converted.{IsConverted, Converts, EndsFrom, reads_failed}

@@ -14,7 +14,7 @@ use Rattle.aig_sim.specs.StimulusText.{SpellsRows}
 use Rattle.aig_bench.specs.Pair.{Pair, BenchState}
 use Rattle.aig_engines.specs.declared.run_fault.RunFault.{RunFault}
 use Rattle.aig_engines.specs.declared.script_fault.ScriptFault.{ScriptFault}
-use Rattle.aig_engines.specs.Flow.{Flow}
+use Rattle.aig_bytes.specs.Flow.{Flow}
 use Rattle.aig_engines.specs.Engines.{BenchEnds}
 use Rattle.aig_engines.specs.Kept.{BenchLeft, circuit_text, rows_text}
 use Rattle.aig_engines.specs.Ran.{Ran}

@@ -16,7 +16,7 @@ use Rattle.aig_sim.specs.Replayed.{Replays}
 use Rattle.aig_sim.specs.Verdict.{IsVerdict, IsConfirmed}
 use Rattle.aig_sim.specs.WitnessText.{Witness, SpellsWitness, IsAdmitted}
 use Rattle.aig_engines.specs.Checked.{Shows}
-use Rattle.aig_engines.specs.Flow.{Flow}
+use Rattle.aig_bytes.specs.Flow.{Flow}
 use Rattle.aig_engines.specs.Replay.{DumpsRun}
 use Rattle.aig_engines.specs.Run.{IsFileOf}
 use Rattle.aig_engines.specs.Told.{EndsTelling, OfFile}
@@ -36,7 +36,7 @@ dump_answer (Err faults.Io) = Err parts.Output
 
 module _ {X : Type 0} (out : Flow X) (raw : Raw) (text : List ℕ) where
   dumped_so : (r : Result (Unit {0}) ReplayFault)
-      → Replays (λ raw start rows told. IsDump raw start rows told) raw text out.bytes out.failures out.old out.new r
+      → Replays (λ raw start rows told. IsDump raw start rows told) raw text out r
       → EndsTelling out (DumpsRun text raw) (dump_answer r)
   dumped_so (Ok done) h = (h.0, h.1, record { ok = h.2; err = tt; count = omega (arith, h.3) })
   dumped_so (Err (faults.Witness why)) h = h
@@ -47,7 +47,7 @@ module _ {X : Type 0} (out : Flow X) (raw : Raw) (text : List ℕ) where
   no_circuit_fault fault h = h
 
   pub dumped_from : (file : List ℕ) (r : Result (Unit {0}) ReplayFault) → IsFileOf file raw
-      → Replays (λ raw start rows told. IsDump raw start rows told) raw text out.bytes out.failures out.old out.new r
+      → Replays (λ raw start rows told. IsDump raw start rows told) raw text out r
       → EndsTelling out (OfFile file (DumpsRun text)) (dump_answer r)
   dumped_from file r f h = of_file out (DumpsRun text) file raw (dump_answer r) no_circuit_fault f (dumped_so r h)
 

@@ -5,7 +5,7 @@ use Rattle.std.proofs.lemmas.List.{append-nil, map-append}
 use Rattle.std.proofs.lemmas.Bool.{false≢true}
 use Rattle.aig_bytes.specs.Bytes.{Writes, before}
 use Rattle.aig_bytes.proofs.WriteLemmas.{writes_then, writes_none}
-use Rattle.aig_engines.specs.Flow.{flow}
+use Rattle.aig_bytes.specs.Flow.{flow}
 use Rattle.aig_engines.specs.Lines.{Line, whole, lines_from, rest_from, whole_lines}
 use Rattle.aig_bench.specs.Pair.{Pair}
 use Rattle.aig_engines.specs.Replies.{Replies, LineReply}

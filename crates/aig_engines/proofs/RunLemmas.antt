@@ -6,7 +6,7 @@ use Rattle.aig_bytes.specs.Bytes.{IsAtEnd, Writes}
 use Rattle.aig_bench.specs.declared.edit.EditFault.{EditFault}
 use Rattle.aig_bench.specs.Pair.{Pair}
 use Rattle.aig_bench.specs.Edit.{Edit, Edits}
-use Rattle.aig_engines.specs.Flow.{flow}
+use Rattle.aig_bytes.specs.Flow.{flow}
 use Rattle.aig_engines.specs.Lines.{Line, unfinished, rest_from, whole_lines, last_piece, lines_of}
 use Rattle.aig_engines.specs.Replies.{edit_reply, EditReply}
 use Rattle.aig_engines.specs.Ran.{Reading, Ran, Failing}

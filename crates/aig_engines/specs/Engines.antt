@@ -9,7 +9,7 @@ use Rattle.aig_bench.specs.Pair.{Pair}
 use Rattle.aig_engines.specs.declared.run_fault.RunFault.{RunFault}
 use Rattle.aig_engines.specs.declared.run_fault.RunFault.TheVariants.{Circuit, Stimulus, Script}
 use Rattle.aig_engines.specs.declared.script_fault.ScriptFault.TheVariants as scripts
-use Rattle.aig_engines.specs.Flow.{Flow}
+use Rattle.aig_bytes.specs.Flow.{Flow}
 use Rattle.aig_engines.specs.Ran.{Ran, Failing}
 use Rattle.aig_engines.specs.Run.{IsFileOf, AreBenchFiles, RefusesCircuit, RefusesFiles}
 

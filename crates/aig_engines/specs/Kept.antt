@@ -5,7 +5,7 @@ use Rattle.aig_format.specs.Spelling.{short_ascii}
 use Rattle.aig_sim.specs.StimulusText.{row_line}
 use Rattle.aig_bench.specs.Pair.{Pair, BenchState}
 use Rattle.aig_engines.specs.declared.run_fault.RunFault.{RunFault}
-use Rattle.aig_engines.specs.Flow.{Flow}
+use Rattle.aig_bytes.specs.Flow.{Flow}
 use Rattle.aig_engines.specs.Engines.{BenchEnds}
 use Rattle.aig_engines.specs.Ran.{Ran}
 use Rattle.aig_engines.specs.Run.{AreBenchFiles}

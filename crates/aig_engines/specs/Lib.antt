@@ -3,7 +3,6 @@ pub mod Command
 pub mod Converted
 pub mod Delivered
 pub mod Engines
-pub mod Flow
 pub mod Info
 pub mod Kept
 pub mod Lines

@@ -2,7 +2,7 @@
 use Rattle.std.specs.Prelude.{◌≡◌, ◌⊎◌, ℕ, ◌+◌, List, [], ◌∷◌, ◌++◌, Ok, Err}
 use Rattle.aig_bytes.specs.Bytes.{before, IsAtEnd, Writes}
 use Rattle.aig_bench.specs.Pair.{Pair}
-use Rattle.aig_engines.specs.Flow.{Flow, until}
+use Rattle.aig_bytes.specs.Flow.{Flow, until}
 use Rattle.aig_engines.specs.Lines.{Line, rest_from, whole_lines, lines_of}
 use Rattle.aig_engines.specs.Replies.{Replies, LineReply}
 use Rattle.aig_engines.specs.ScriptLine.{ScriptLine, KeepsLine}

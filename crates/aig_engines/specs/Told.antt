@@ -4,7 +4,7 @@ use Rattle.aig_parts.specs.declared.raw.Raw.{Raw}
 use Rattle.aig_bytes.specs.Bytes.{Writes}
 use Rattle.aig_engines.specs.declared.run_fault.RunFault.{RunFault}
 use Rattle.aig_engines.specs.declared.run_fault.RunFault.TheVariants as parts
-use Rattle.aig_engines.specs.Flow.{Flow}
+use Rattle.aig_bytes.specs.Flow.{Flow}
 use Rattle.aig_engines.specs.Run.{IsFileOf, RefusesCircuit}
 
 -- What is answered and told of a file: the file is refused; or what `Tells` says of its circuit.

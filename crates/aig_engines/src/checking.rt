@@ -3,7 +3,7 @@ ghost use Rattle.std.specs.Prelude.{[], Err, IfOk, IfErr};
 ghost use Rattle.aig_parts.specs.declared.raw.Raw.{Raw};
 ghost use Rattle.aig_bytes.specs.Bytes.{Writes};
 ghost use Rattle.aig_engines.specs.Checked.{verdict_text, Checks, Shows};
-ghost use Rattle.aig_engines.specs.Flow.{flow};
+ghost use Rattle.aig_bytes.specs.Flow.{flow};
 ghost use Rattle.aig_engines.specs.Run.{IsFileOf};
 ghost use Rattle.aig_engines.specs.Told.{EndsTelling, OfFile};
 

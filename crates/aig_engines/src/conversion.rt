@@ -2,7 +2,7 @@
 ghost use Rattle.std.specs.Prelude.{◌≡◌};
 ghost use Rattle.aig_format.specs.declared.header.Format.TheVariants.{Binary};
 ghost use Rattle.aig_engines.specs.Converted.{Converts, EndsFrom};
-ghost use Rattle.aig_engines.specs.Flow.{flow};
+ghost use Rattle.aig_bytes.specs.Flow.{flow};
 ghost use Rattle.aig_engines.specs.state.Faults.{output_of};
 ghost use Rattle.aig_engines.specs.Told.{EndsTelling, OfFile};
 

@@ -4,7 +4,7 @@ ghost use Rattle.aig_engines.specs.Checked.{Checks};
 ghost use Rattle.aig_engines.specs.Converted.{Converts, EndsFrom};
 ghost use Rattle.aig_engines.specs.Delivered.{Delivers, IsHandedOn, all_written, calls_failed};
 ghost use Rattle.aig_engines.specs.Engines.{BenchEnds, SimulationEnds, WaveEnds};
-ghost use Rattle.aig_engines.specs.Flow.{flow};
+ghost use Rattle.aig_bytes.specs.Flow.{flow};
 ghost use Rattle.aig_engines.specs.Info.{TellsFacts};
 ghost use Rattle.aig_engines.specs.Kept.{BenchLeft};
 ghost use Rattle.aig_engines.specs.Replay.{ChecksAndTraces, DumpsRun};

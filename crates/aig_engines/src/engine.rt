@@ -5,7 +5,7 @@ ghost use Rattle.aig_base.specs.Limits.{frame_limit};
 ghost use Rattle.aig_sim.specs.StimulusText.{SpellsRows};
 ghost use Rattle.aig_engines.specs.Converted.{EndsFrom, reads_failed};
 ghost use Rattle.aig_engines.specs.Engines.{BenchEnds, SimulationEnds};
-ghost use Rattle.aig_engines.specs.Flow.{flow};
+ghost use Rattle.aig_bytes.specs.Flow.{flow};
 ghost use Rattle.aig_engines.specs.state.Faults.{script_of};
 ghost use Rattle.aig_engines.specs.Run.{IsFileOf, AreBenchFiles, RefusesCircuit, RefusesStimulus, RefusesFiles};
 

@@ -5,7 +5,7 @@ ghost use Rattle.aig_bytes.specs.Bytes.{Writes};
 ghost use Rattle.aig_parts.specs.declared.raw.Raw.{Raw};
 ghost use Rattle.aig_base.specs.Greatest.{IsGreatestLevel};
 ghost use Rattle.aig_format.specs.Spells.{Spells};
-ghost use Rattle.aig_engines.specs.Flow.{flow};
+ghost use Rattle.aig_bytes.specs.Flow.{flow};
 ghost use Rattle.aig_engines.specs.Told.{EndsTelling, OfFile};
 ghost use Rattle.aig_engines.specs.Info.{AreFacts, TellsFacts, IsInFormat, comment_size, fact_line, format_name};
 ghost use Rattle.aig_engines.specs.Info.{info_text, is_uninitialised, number_line, number_lines, yes_or_no};

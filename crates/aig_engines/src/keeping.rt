@@ -1,7 +1,7 @@
 //! What a script leaves is kept: the bench behind it, and its circuit and stimulus as files.
 ghost use Rattle.std.specs.Prelude.{◌≡◌, IfErr};
 ghost use Rattle.aig_bytes.specs.Bytes.{Writes};
-ghost use Rattle.aig_engines.specs.Flow.{flow};
+ghost use Rattle.aig_bytes.specs.Flow.{flow};
 ghost use Rattle.aig_engines.specs.Kept.{BenchLeft, circuit_text, rows_text};
 ghost use Rattle.aig_engines.specs.Run.{IsFileOf, AreBenchFiles};
 

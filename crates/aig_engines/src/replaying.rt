@@ -1,5 +1,5 @@
 //! Runs of witnesses from bytes to bytes.
-ghost use Rattle.aig_engines.specs.Flow.{flow};
+ghost use Rattle.aig_bytes.specs.Flow.{flow};
 ghost use Rattle.aig_engines.specs.Replay.{ChecksAndTraces, DumpsRun};
 ghost use Rattle.aig_engines.specs.Told.{EndsTelling, OfFile};
 

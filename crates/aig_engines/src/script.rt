@@ -2,7 +2,7 @@
 ghost use Rattle.std.specs.Prelude.{◌≡◌, ◌<◌, ◌≤◌, ◌↔◌, ◌++◌, ℕ, List, [], map, length, take, slice_get, Some};
 ghost use Rattle.std.specs.Prelude.{IsTrue, OnOk, OnErr, IfOk, IfErr};
 ghost use Rattle.aig_bytes.specs.Bytes.{IsAtEnd, Writes};
-ghost use Rattle.aig_engines.specs.Flow.{flow};
+ghost use Rattle.aig_bytes.specs.Flow.{flow};
 ghost use Rattle.aig_engines.specs.Lines.{IsPiece, whole, lines_from, rest_from};
 ghost use Rattle.aig_engines.specs.Ran.{Answered, StoppedAt, Reading, Ran, Failing};
 ghost use Rattle.aig_engines.specs.Replies.{WholeReply};

@@ -2,7 +2,7 @@
 ghost use Rattle.std.specs.Prelude.{◌≡◌, ℕ, List, Err};
 ghost use Rattle.aig_engines.specs.Converted.{EndsFrom, reads_failed};
 ghost use Rattle.aig_engines.specs.Engines.{WaveEnds};
-ghost use Rattle.aig_engines.specs.Flow.{flow};
+ghost use Rattle.aig_bytes.specs.Flow.{flow};
 ghost use Rattle.aig_engines.specs.Run.{IsFileOf};
 
 use crate::run_fault::RunFault;

@@ -10,7 +10,7 @@ use Rattle.aig_format.specs.Spells.{Spells, HasWrongCounts}
 use Rattle.aig_format.specs.state.Reading.{text, limit}
 use Rattle.aig_format.specs.state.ReadingFile.{FileRefusal, token, counts, file_at}
 use Rattle.aig_format.specs.state.ReaderAnswers.{FileFails}
-use Rattle.aig_format.specs.FileReading.{Raises, IsOfParts, IsVerdict, IsRefused, IsReading}
+use Rattle.aig_format.specs.FileReading.{Raises, IsOfParts, AnswersParts, IsRefused, IsReading}
 use Rattle.aig_format.proofs.FileLaws.{is_read, file_takes, file_again, wrong_takes, wrong_again, one_reading}
 
 refused : FileRefusal → Result Raw FileRefusal
@@ -34,7 +34,7 @@ failed_by e = Err e
 -- ---- where nothing was read
 
 pub err_only : (bytes : List ℕ) (e : Fault) → FileFails e (file_at bytes) → e ≢ faults.Io → (raw : Raw)
-    → Spells bytes raw → IsVerdict (Err e) raw
+    → Spells bytes raw → AnswersParts (Err e) raw
 unfolding refused
 err_only bytes (faults.Text at) h io raw s =
     absurd (read_is_no_refusal raw (token text) (sym (file_again bytes raw s) ∙ h))
@@ -98,7 +98,7 @@ ok_found bytes raw (Err e) h is = tt
 
 pub ok_only : (bytes : List ℕ) (raw : Raw) (r : Result Raw Fault) → file_at bytes ≡ Ok raw
     → IfOk r (λ circuit. circuit ≡ raw) → IfErr r (λ fault. fault ≢ faults.Memory → IsFirstFault raw fault)
-    → (p : Raw) → Spells bytes p → IsVerdict r p
+    → (p : Raw) → Spells bytes p → AnswersParts r p
 ok_only bytes raw (Ok circuit) h is first p s = is ∙ one_reading bytes raw p (file_takes bytes raw h) s
 ok_only bytes raw (Err e) h is first p s =
     λ other. subst (λ (q : Raw). IsFirstFault q e) (one_reading bytes raw p (file_takes bytes raw h) s) (first other)

@@ -11,9 +11,9 @@ abbrev pub IsOfParts : Fault → Type 0
 IsOfParts fault = (3 < number_of fault) × (number_of fault < 10)
 
 -- the parts themselves or their first fault, or memory ran out
-abbrev pub IsVerdict : Result Raw Fault → Raw → Type 0
-IsVerdict (Ok circuit) raw = circuit ≡ raw
-IsVerdict (Err fault) raw = fault ≢ faults.Memory → IsFirstFault raw fault
+abbrev pub AnswersParts : Result Raw Fault → Raw → Type 0
+AnswersParts (Ok circuit) raw = circuit ≡ raw
+AnswersParts (Err fault) raw = fault ≢ faults.Memory → IsFirstFault raw fault
 
 -- this refusal, or memory ran out
 abbrev pub IsRefused : Result Raw Fault → Fault → Type 0
@@ -25,7 +25,7 @@ pub record IsReading (bytes : List ℕ) (result : Result Raw Fault) : Type 0 whe
   -- what is read is spelled so
   pub found : IfOk result (λ circuit. Spells bytes circuit)
   -- where parts are spelled, they are read, or their first fault is told; so faults of the text come nowhere else
-  pub only : (raw : Raw) → Spells bytes raw → IsVerdict result raw
+  pub only : (raw : Raw) → Spells bytes raw → AnswersParts result raw
   -- a fault of parts is told only of parts that are spelled
   pub of_parts : IfErr result (λ fault. IsOfParts fault → (raw : Raw) × Spells bytes raw × IsFirstFault raw fault)
   -- the fault of the counts comes where the header line is spelled and they do not go together, and only there

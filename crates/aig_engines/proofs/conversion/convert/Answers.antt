@@ -1,4 +1,4 @@
-use Rattle.aig_engines.specs.Flow.{flow}
+use Rattle.aig_bytes.specs.Flow.{flow}
 use Rattle.aig_engines.proofs.Conversions.{ends_so}
 use Rattle.aig_engines.proofs.conversion.convert.Goals as goal
 

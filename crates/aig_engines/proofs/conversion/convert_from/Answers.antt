@@ -1,4 +1,4 @@
-use Rattle.aig_engines.specs.Flow.{flow}
+use Rattle.aig_bytes.specs.Flow.{flow}
 use Rattle.std.proofs.Common.{refl}
 use Rattle.aig_engines.proofs.Conversions.{refused_from, converted_from}
 use Rattle.aig_engines.proofs.conversion.convert_from.Goals as goal

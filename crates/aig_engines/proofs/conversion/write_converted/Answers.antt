@@ -1,7 +1,7 @@
 use Rattle.std.proofs.Common.{refl}
 use Rattle.aig_format.specs.declared.header.Format.TheVariants.{Ascii}
 use Rattle.aig_format.specs.Spelling.{short_ascii}
-use Rattle.aig_engines.specs.Flow.{flow}
+use Rattle.aig_bytes.specs.Flow.{flow}
 use Rattle.aig_engines.proofs.Conversions.{written_so}
 use Rattle.aig_engines.proofs.conversion.write_converted.Goals as goal
 

@@ -2,7 +2,7 @@ use Rattle.std.proofs.Common.{refl, sym, ap, ◌∙◌, inl, inr}
 use Rattle.std.proofs.lemmas.Bool.{false≢true}
 use Rattle.aig_format.specs.declared.header.Format.TheVariants.{Binary}
 use Rattle.aig_format.specs.Spelling.{short_binary}
-use Rattle.aig_engines.specs.Flow.{flow}
+use Rattle.aig_bytes.specs.Flow.{flow}
 use Rattle.aig_engines.proofs.Conversions.{written_so}
 use Rattle.aig_engines.proofs.conversion.write_ready.Goals as goal
 

@@ -1,4 +1,4 @@
-use Rattle.aig_engines.specs.Flow.{flow}
+use Rattle.aig_bytes.specs.Flow.{flow}
 use Rattle.aig_engines.proofs.Benches.{script_ends}
 use Rattle.aig_engines.proofs.engine.run_bench.Goals as goal
 

@@ -1,4 +1,4 @@
-use Rattle.aig_engines.specs.Flow.{flow}
+use Rattle.aig_bytes.specs.Flow.{flow}
 use Rattle.aig_engines.specs.Info.{TellsFacts}
 use Rattle.aig_engines.proofs.Tellings.{of_file}
 use Rattle.aig_engines.proofs.info.info_bytes.Goals as goal

@@ -2,7 +2,7 @@ use Rattle.std.proofs.Common.{sym, subst}
 use Rattle.std.specs.Prelude.{Result}
 use Rattle.aig_engines.specs.declared.run_fault.RunFault.{RunFault}
 use Rattle.aig_engines.specs.Engines.{BenchEnds}
-use Rattle.aig_engines.specs.Flow.{flow}
+use Rattle.aig_bytes.specs.Flow.{flow}
 use Rattle.aig_engines.proofs.Benches.{script_ends}
 use Rattle.aig_engines.proofs.KeptFiles.{none_left}
 use Rattle.aig_engines.proofs.keeping.bench_after_script.Goals as goal

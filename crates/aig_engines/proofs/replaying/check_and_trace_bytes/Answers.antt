@@ -1,4 +1,4 @@
-use Rattle.aig_engines.specs.Flow.{flow}
+use Rattle.aig_bytes.specs.Flow.{flow}
 use Rattle.aig_engines.specs.Replay.{ChecksAndTraces}
 use Rattle.aig_engines.proofs.Tellings.{of_file}
 use Rattle.aig_engines.proofs.replaying.check_and_trace_bytes.Goals as goal

@@ -1,6 +1,6 @@
 use Rattle.std.proofs.Common.{◌≡◌, ◌-◌, ◌≤◌, ℕ, List, length, map, take}
 use Rattle.aig_engines.specs.Lines.{whole, lines_from, rest_from}
-use Rattle.aig_engines.specs.Flow.{flow}
+use Rattle.aig_bytes.specs.Flow.{flow}
 use Rattle.aig_engines.specs.Ran.{Answered}
 use Rattle.aig_engines.specs.ScriptLine.{KeepsLine}
 use Rattle.aig_engines.proofs.script.feed.Given as goal

@@ -1,5 +1,5 @@
 use Rattle.std.proofs.Common.{Ok, Err}
-use Rattle.aig_engines.specs.Flow.{flow}
+use Rattle.aig_bytes.specs.Flow.{flow}
 use Rattle.aig_engines.proofs.Unrollings.{kept_from}
 use Rattle.aig_engines.proofs.unrolling.unroll_and_keep.Goals as goal
 

@@ -1,4 +1,4 @@
-use Rattle.aig_engines.specs.Flow.{flow}
+use Rattle.aig_bytes.specs.Flow.{flow}
 use Rattle.aig_engines.proofs.Unrollings.{unrolled_from}
 use Rattle.aig_engines.proofs.unrolling.unroll_bytes.Goals as goal
 

@@ -1,6 +1,6 @@
 use Rattle.aig_sim.specs.Dumped.{Dumps}
 use Rattle.std.proofs.Common.{refl}
-use Rattle.aig_engines.specs.Flow.{flow}
+use Rattle.aig_bytes.specs.Flow.{flow}
 use Rattle.aig_engines.proofs.Conversions.{unread_from, run_from}
 use Rattle.aig_engines.proofs.wave.wave_from.Goals as goal
 
