@@ -1,11 +1,12 @@
 """Files of more than a block: 100 KB of gates in both formats, a stimulus of 2 MB, a comment of 5 MB, from a file and
-from a pipe. All files are made here, in both spellings and with their traces, without the program: what is written has
-to be these bytes."""
+from a pipe, and a million gates that each read the next one. All files are made here, in both spellings and with their
+traces, without the program: what is written has to be these bytes."""
 
 import random
 
 from large.circuits import characters, fields, random_circuit, shuffled, trace
-from library.plain_reader import in_order, spelled
+from large.deep import reversed_chain
+from library.plain_reader import delta, in_order, spelled
 from library.runs import EXAMPLES, EXPECTED, Ended, contents, write
 
 
@@ -22,6 +23,7 @@ def large_files(program, tally, _):
     runs.both_ways("a comment of 5 MB", random_circuit(rng, 3, 2, 10, 2, comment), 5_000_000)
     ends_with_a_block = random_circuit(rng, 3, 2, 10, 2, bytes(range(256)) * 80)
     runs.both_ways("a comment that ends with a block", ends_with_a_block, 20_000)
+    falling_chain(runs)
     long_stimulus(runs, rng)
     binary_examples(runs)
 
@@ -55,6 +57,18 @@ class Runs:
 def beginning(one, other):
     """How many bytes both begin with."""
     return next((at for at, (a, b) in enumerate(zip(one, other)) if a != b), min(len(one), len(other)))
+
+
+def falling_chain(runs):
+    """A million gates, each of which reads the variable above, so that all levels wait for the last line's."""
+    size = 1_000_001
+    header, lines = reversed_chain(size)
+    text = (header + "".join(lines)).encode()
+    write("falling", text)
+    runs.same("a falling chain, as it stands", text, ["toaig", "--to", "aag", "falling"])
+    deltas = b"".join(delta(2) + delta(2 * variable - 3) for variable in range(2, size + 1))
+    binary = f"aig {size} 1 0 1 {size - 1}\n{2 * size}\n".encode() + deltas
+    runs.same("a falling chain, renumbered", binary, ["toaig", "--to", "aig", "falling"])
 
 
 def long_stimulus(runs, rng):

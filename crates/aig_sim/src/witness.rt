@@ -138,7 +138,10 @@ fn read_start(alloc: Global, text: &[u8], size: usize) -> Result<Vec<Tern>, Memo
 }
 
 /// The parts of the text of a witness that the circuit admits.
-pub fn admitted_parts<'a>(circuit: &Circuit, text: &'a [u8]) -> Result<WitnessParts<'a>, WitnessFault>
+pub fn admitted_parts<'a>(
+    circuit: &Circuit,
+    text: &'a [u8],
+) -> Result<WitnessParts<'a>, WitnessFault>
     ensures parts { IfOk result (λ parts. (w : Witness) × SpellsWitness circuit.now text.now w
         × ArePartsOf circuit.now parts w × IsAdmitted circuit.now w) }
     ensures fault { IfErr result (HasWitnessFault circuit.now text.now) }

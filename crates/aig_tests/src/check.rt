@@ -1,6 +1,6 @@
 //! Which parts are a circuit.
-use crate::parts::{circuit, empty, falling_chain};
-use aig_base::{Bytes, Kind, LIMIT, Levels, List, Lit, canonical_order};
+use crate::parts::empty;
+use aig_base::{Bytes, Kind, LIMIT, List, Lit};
 use std::alloc::{AllocError, Global};
 use std::test::Fail;
 
@@ -32,19 +32,5 @@ fn formed_parts(rt: HostRuntime) -> Result<(), Fail> {
             "M {max_var}, position {position}, {bytes:?}"
         );
     }
-    Ok(())
-}
-
-// A chain of a million gates in which each reads a greater variable is a circuit, with its levels and its order.
-#[test]
-fn a_deep_chain_of_falling_variables(rt: HostRuntime) -> Result<(), Fail> {
-    let mut right = true;
-    let chain = circuit(rt.alloc(), falling_chain(rt.alloc(), 1_000_001)?)?;
-    let levels = Levels::of(rt.alloc(), &chain)?;
-    assert!(rt; chain.max_var() > 0);
-    right &= levels.level(1) == 1_000_000;
-    let order = canonical_order(rt.alloc(), &chain, &levels)?;
-    right &= order.first() == Some(&1_000_000);
-    assert!(rt; right);
     Ok(())
 }

@@ -1,11 +1,10 @@
 //! Circuits that tests use.
-ghost use Rattle.std.specs.Prelude.{◌≤◌, IsTrue};
+ghost use Rattle.std.specs.Prelude.{IsTrue};
 ghost use Rattle.aig_parts.specs.Literal.{variable};
 ghost use Rattle.aig_base.specs.Sections.{IsDefined};
 
-use aig_base::{Circuit, Gate, List, Lit, Raw, Symbols};
+use aig_base::{Circuit, List, Lit, Raw, Symbols};
 use std::alloc::Global;
-use std::test::Fail;
 
 /// One gate over two inputs.
 pub const ONE_GATE: &[u8] = b"aag 3 2 0 1 1\n2\n4\n6\n6 2 4\n";
@@ -34,40 +33,6 @@ pub fn empty(alloc: Global, max_var: u32) -> Raw {
         symbols: Symbols::new(alloc),
         comment: None,
     }
-}
-
-// Puts in an input at the greatest variable, and below it a chain of gates down to variable 1, each the negation of the
-// variable above.
-fn link(raw: &mut Raw, max_var: u32) -> Result<(), Fail>
-    requires { max_var ≤ 4194303 }
-{
-    raw.inputs.push(Lit::new(2 * max_var))?;
-    for variable in 1..max_var {
-        let above = Lit::new(2 * variable + 3);
-        raw.gates.push(Gate {
-            lhs: Lit::new(2 * variable),
-            rhs0: above,
-            rhs1: above,
-        })?;
-    }
-    Ok(())
-}
-
-/// The parts of such a chain.
-pub fn falling_chain(alloc: Global, max_var: u32) -> Result<Raw, Fail>
-    requires { max_var ≤ 4194303 }
-{
-    let mut raw = empty(alloc, max_var);
-    link(&mut raw, max_var)?;
-    Ok(raw)
-}
-
-/// The circuit of parts.
-pub fn circuit(alloc: Global, raw: Raw) -> Result<Circuit, Fail> {
-    if !raw.is_formed() {
-        return Err("not formed".into());
-    }
-    Ok(Circuit::check(alloc, raw)?)
 }
 
 /// Whether the variable of a literal is defined.
