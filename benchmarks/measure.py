@@ -203,21 +203,22 @@ class Job:
         return f"{seconds / (self.bytes if self.unit == 'a byte' else self.units) * 1e9:.2f} ns {self.unit}"
 
 
+def binary(programs, text):
+    """A file in the other format."""
+    if not os.path.exists(text + ".aig"):
+        Run([programs.get("tuned"), "toaig", text], "part")
+        os.rename("part", text + ".aig")
+    return text + ".aig"
+
+
 def conversions(programs):
     """Text and binary files of a million gates, names and comments."""
     goals = {("aag", "aag"): 1.1, ("aag", "aig"): 1.1, ("aig", "aag"): 1.1, ("aig", "aig"): 1.15}
     words = {"aag": "text", "aig": "binary"}
 
-    def binary(text):
-        """The same in the other format."""
-        if not os.path.exists(text + ".aig"):
-            Run([programs.get("tuned"), "toaig", text], "part")
-            os.rename("part", text + ".aig")
-        return text + ".aig"
-
     def job(form, to, *load_words):
         text = load(*load_words)
-        return ["toaig", "--to", to, text if form == "aag" else binary(text)]
+        return ["toaig", "--to", to, text if form == "aag" else binary(programs, text)]
 
     for (form, to), goal in goals.items():
         for shape in ("random", "chain", "wide", "shuffled"):
@@ -329,9 +330,29 @@ def benches(programs, chosen):
 
 
 def sizes(programs, chosen):
-    """How jobs grow with the number of gates."""
-    def toaig(to, *words):
-        return lambda gates: ([["toaig", "--to", to, load("circuit", *words, *SOURCES, gates)]], gates)
+    """How jobs grow with the number of gates, or of names, bytes or lines."""
+    def toaig(to, shape):
+        return lambda gates: ([["toaig", "--to", to, load("circuit", shape, *SOURCES, gates)]], gates)
+
+    def from_binary(to):
+        return lambda gates: ([["toaig", "--to", to, binary(programs, load("circuit", "random", *SOURCES, gates))]],
+                              gates)
+
+    def other(kind):
+        return lambda count: ([["toaig", "--to", "aag", load(kind, count)]], count)
+
+    def loading(shape):
+        return lambda gates: ([["sim", load("circuit", shape, *SOURCES, gates), load("stimulus", 1000, 0)]], gates)
+
+    def lines(count):
+        circuit = load("circuit", "random", 1000, 10, 10, 10)
+        return [["sim", circuit, load("stimulus", 1000, frames)] for frames in (count, 0)], count
+
+    def asked(script_of):
+        def job(count):
+            circuit, rows = load("circuit", "random", 1000, 1000, 1000, 10_000), load("stimulus", 1000, 64)
+            return [["bench", circuit, rows, file] for file in (script_of(count), empty())], count
+        return job
 
     def bench(gates):
         circuit, frames = load("circuit", "random", *SOURCES, gates), 2**25 // gates
@@ -350,13 +371,25 @@ def sizes(programs, chosen):
         "text to text, random": toaig("aag", "random"),
         "text to binary, random": toaig("aig", "random"),
         "text to binary, shuffled": toaig("aig", "shuffled"),
+        "binary to text, random": from_binary("aag"),
+        "binary to binary, random": from_binary("aig"),
+        "names, text to text, a name": other("names"),
+        "comment, text to text, a byte": other("comment"),
+        "sim, loading, random": loading("random"),
+        "sim, loading, shuffled": loading("shuffled"),
+        "sim, lines of 1,000 characters, a line": lines,
+        "bench, `v`, a line": asked(lambda count: load("values", 64, 12_000, count)),
+        "bench, `t`, a line": asked(lambda count: write(f"traces.{count}", "t\n" * count)),
         "sim, a gate of a frame": sim,
         "making a bench, a gate of a frame": bench,
         "new frames (`+`), a gate of a frame": added,
     }
-    head("Growth (processor time, nanoseconds a gate).", "job", "gates", "C++", "aig", "aig / C++")
+    sizes_of = {"comment, text to text, a byte": (2 * MILLION, 20 * MILLION, 80 * MILLION),
+                "sim, lines of 1,000 characters, a line": (5_000, 50_000, 200_000),
+                "bench, `t`, a line": (20, 200, 800)}
+    head("Growth (processor time, nanoseconds a gate, or what the job names).", "job", "size", "C++", "aig", "aig / C++")
     for name, job in jobs.items():
-        for gates in (100_000, MILLION, 4 * MILLION):
+        for gates in sizes_of.get(name, (100_000, MILLION, 4 * MILLION)):
             runs, units = job(gates)
             both = []
             for words in runs:

@@ -192,13 +192,13 @@ def checks_of(crate, rooms, only):
 
 def in_turn(checks, behind):
     """Yields the checks that can be made, the largest first: all, or those whose libraries an `rt ci` that runs has
-    proved, by its output so far."""
+    proved, or kept from an earlier run, by its output so far."""
     left = sorted(checks, key=lambda it: -len(it[2]))
     while left:
         said = behind.read_text() if behind else ""
         if re.search(r"(?m)^rt: .* NOT PROVED$", said):
             sys.exit("a library is not proved")
-        proved = set(re.findall(r"(?m)^rt: (\w+) proved$", said))
+        proved = set(re.findall(r"(?m)^rt: (\w+) (?:proved$|is kept: )", said))
         ready = [it for it in left if not behind or proved.issuperset(below.name for below in it[0].below())]
         yield from ready
         left = [it for it in left if it not in ready]

@@ -1,8 +1,8 @@
 //! The arguments of the command line.
 
-use crate::command_line::matches_of;
 use crate::exit::Exit;
 use crate::task::Task;
+use aig_command_line::matches_of;
 use aig_engines::RunFault;
 use clap::error::ErrorKind;
 use std::env::{self, Env};

@@ -3,7 +3,6 @@
 
 mod arguments;
 mod circuits;
-mod command_line;
 mod exit;
 mod files;
 mod kept;

@@ -4,9 +4,8 @@ use crate::exit::Exit;
 use crate::files::{CIRCUIT, open, output, read_whole};
 use crate::kept::{Kept, keep};
 use aig_base::Std;
-use aig_engines::{
-    RunFault, ScriptFault, deliver_bench, deliver_replies, deliver_trace, deliver_wave,
-};
+use aig_engines::{RunFault, ScriptFault, deliver_trace, deliver_wave};
+use aig_script::{deliver_bench, deliver_replies};
 use aig_sim::StimFault;
 use std::fs::Files;
 use std::io::Read;

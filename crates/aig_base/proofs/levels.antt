@@ -5,3 +5,4 @@ pub mod LevelBound
 pub mod LevelChainLemmas
 pub mod OneLevel
 pub mod OneOrder
+pub mod SortingLemmas

@@ -4,4 +4,5 @@ pub mod RenumberedParts
 pub mod RenumberedReady
 pub mod RenumberedStart
 pub mod RenumberedValueLemmas
+pub mod RenewedGates
 pub mod Renumberings

@@ -12,6 +12,7 @@ pub mod Ranged
 pub mod ReaderSlots
 pub mod Ready
 pub mod Rewires
+pub mod Sorting
 pub mod TriedLevels
 pub mod Visits
 pub mod Walk

@@ -5,7 +5,8 @@ ghost use Rattle.aig_parts.specs.Formed.{limit};
 ghost use Rattle.aig_base.specs.state.Least.{latch_variable};
 ghost use Rattle.aig_base.specs.state.Links.{AreLinks};
 ghost use Rattle.aig_parts.specs.Literal.{variable};
-ghost use Rattle.aig_base.specs.state.Marks.{sides, AreMarks, HasParts, IsGateBelow, AreStarted, AddsMark, Moves, IsMarked};
+ghost use Rattle.aig_base.specs.state.Marks.{sides, AreMarks, HasParts, IsGateBelow};
+ghost use Rattle.aig_base.specs.state.Marks.{AreStarted, AddsMark, Moves, IsMarked};
 ghost use Rattle.aig_base.specs.state.Marks.{IsMarking};
 ghost use Rattle.aig_parts.specs.declared.raw.Raw.{Raw};
 

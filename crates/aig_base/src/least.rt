@@ -1,7 +1,8 @@
 //! The least variable of a section that fails a test.
 ghost use Rattle.std.specs.Prelude.{◌≡◌, ◌+◌, ◌∷◌, ◌<◌, ◌↔◌, [], length, map, All, IsTrue, slice_get};
 ghost use Rattle.std.specs.List.{flat_map};
-ghost use Rattle.aig_base.specs.state.Least.{lesser, IsLeastAmong, IsKnown, IsMarkedGate, gate_variable, latch_variable};
+ghost use Rattle.aig_base.specs.state.Least.{lesser, IsLeastAmong, IsKnown};
+ghost use Rattle.aig_base.specs.state.Least.{IsMarkedGate, gate_variable, latch_variable};
 ghost use Rattle.aig_parts.specs.Literal.{variable};
 ghost use Rattle.aig_base.specs.state.Ranged.{AreInRange};
 ghost use Rattle.aig_base.specs.Sections.{uses};

@@ -1,27 +1,51 @@
 //! Renumbering.
-ghost use Rattle.std.specs.Prelude.{◌≡◌, ℕ, List, IfOk};
-ghost use Rattle.aig_base.specs.Order.{IsCanonicalOrder};
-ghost use Rattle.aig_base.specs.Renumbered.{renumbered, IsBinaryReady};
-ghost use Rattle.aig_base.specs.RenumberingTable.{renumbered_by, AreListed};
+ghost use Rattle.std.specs.Prelude.{◌≡◌, ℕ, List, map, All, IfOk};
+ghost use Rattle.aig_base.specs.Order.{AreSorted, IsCanonicalOrder};
+ghost use Rattle.aig_base.specs.Renumbered.{ordered_gates, renumbered, IsBinaryReady};
+ghost use Rattle.aig_base.specs.RenumberingTable.{renumbered_by, AreListed, IsGateListed, IsRenumbering};
+ghost use Rattle.aig_base.specs.state.Least.{gate_variable};
 
 use crate::circuit::Circuit;
-use crate::order::order_of;
 use crate::renumbering_parts::{
-    copied_comment, copied_symbols, new_gates, new_justice, new_latches, new_literals,
+    copied_comment, copied_symbols, new_justice, new_latches, new_literals, renewed_gates,
 };
 use crate::renumbering_table::renumbered_variables;
+use crate::sorted::sorted_gates;
 use aig_bytes::Memory;
-use aig_parts::Raw;
+use aig_parts::{Gate, Raw};
 use std::alloc::Global;
 
+// The variables of gates.
+fn variables_of(alloc: Global, gates: &[Gate]) -> Result<Vec<u32>, Memory>
+    ensures { IfOk result (λ order. order.items ≡ map gate_variable gates.now) }
+{
+    let mut variables = Vec::with_capacity(alloc, gates.len())?;
+    for gate in gates {
+        variables.push(gate.lhs.var())?;
+    }
+    Ok(variables)
+}
+
+// The table of renumbered variables, by the gates in the canonical order.
+fn table_of(alloc: Global, circuit: &Circuit, gates: &[Gate]) -> Result<Vec<u32>, Memory>
+    requires { AreSorted circuit.now gates.now }
+    ensures { IfOk result (λ table. IsRenumbering circuit.now (map gate_variable gates.now) table.items) }
+{
+    let order = variables_of(alloc, gates)?;
+    renumbered_variables(alloc, circuit, &order)
+}
+
+// The parts by the table and the gates in the canonical order.
 fn renumbered_parts(
     alloc: Global,
     circuit: &Circuit,
-    order: &[u32],
+    gates: Vec<Gate>,
     table: &[u32],
 ) -> Result<Raw, Memory>
-    requires { AreListed circuit.now table.now }
-    ensures { IfOk result (λ new. new ≡ renumbered_by circuit.now order.now table.now) }
+    requires listed { AreListed circuit.now table.now }
+    requires gates { All (IsGateListed table.now) gates.items }
+    requires sorted { ordered_gates circuit.now (map gate_variable gates.items) ≡ gates.items }
+    ensures { IfOk result (λ new. new ≡ renumbered_by circuit.now (map gate_variable gates.items) table.now) }
 {
     // Its contract tells that the parts are a circuit.
     let _max_var = circuit.max_var();
@@ -35,7 +59,7 @@ fn renumbered_parts(
         constraints: new_literals(alloc, table, circuit.constraints())?,
         justice: new_justice(alloc, table, circuit.justice())?,
         fairness: new_literals(alloc, table, circuit.fairness())?,
-        gates: new_gates(alloc, table, circuit, order)?,
+        gates: renewed_gates(table, gates),
         symbols: copied_symbols(circuit.symbols())?,
         comment: copied_comment(alloc, circuit)?,
     })
@@ -51,8 +75,8 @@ pub fn renumber(alloc: Global, circuit: &Circuit) -> Result<Circuit, Memory>
 {
     // Its contract tells that the parts are a circuit.
     let _max_var = circuit.max_var();
-    let order = order_of(alloc, circuit)?;
-    let table = renumbered_variables(alloc, circuit, &order)?;
-    let parts = renumbered_parts(alloc, circuit, &order, &table)?;
+    let gates = sorted_gates(alloc, circuit)?;
+    let table = table_of(alloc, circuit, &gates)?;
+    let parts = renumbered_parts(alloc, circuit, gates, &table)?;
     Ok(Circuit::of_ready(parts))
 }

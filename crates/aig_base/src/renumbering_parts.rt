@@ -1,11 +1,9 @@
 //! The parts of a circuit by a table of variables.
 ghost use Rattle.std.specs.Prelude.{◌≡◌, ◌≤◌, map, All, IfOk};
 ghost use Rattle.aig_parts.specs.Formed.{limit};
-ghost use Rattle.aig_base.specs.Renumbered.{ordered_gates};
 ghost use Rattle.aig_base.specs.RenumberingTable.{literal_by, latch_by, gate_by, IsListed, IsLatchListed, IsGateListed};
 
 use crate::circuit::Circuit;
-use crate::definition::Definition;
 use aig_bytes::Memory;
 use aig_parts::{Bytes, Gate, Latch, List, Lit, Symbols};
 use std::alloc::Global;
@@ -101,24 +99,26 @@ fn new_gate(table: &[u32], gate: Gate) -> Gate
     }
 }
 
-/// The gates in the order, with the literals that stand for theirs, and the greater right side first.
-pub(crate) fn new_gates(
-    alloc: Global,
-    table: &[u32],
-    circuit: &Circuit,
-    order: &[u32],
-) -> Result<List<Gate>, Memory>
+// Writes over the literals of gates those that stand for them, with the greater right side first.
+fn renew_gates(table: &[u32], gates: &mut [Gate])
     requires entries { All (λ v. v ≤ limit) table.now }
-    requires listed { All (IsGateListed table.now) circuit.now.gates }
-    ensures { IfOk result (λ new. new ≡ map (gate_by table.now) (ordered_gates circuit.now order.now)) }
+    requires listed { All (IsGateListed table.now) gates.old }
+    ensures { gates.new ≡ map (gate_by table.now) gates.old }
 {
-    let mut new = List::with_capacity(alloc, order.len())?;
-    for variable in order {
-        if let Some(gate) = circuit.gate_of(*variable) {
-            new.push(new_gate(table, gate))?;
-        }
+    for place in 0..gates.len() {
+        let gate = gates[place];
+        gates[place] = new_gate(table, gate);
     }
-    Ok(new)
+}
+
+/// The gates that stand for these, in their place.
+pub(crate) fn renewed_gates(table: &[u32], mut gates: Vec<Gate>) -> List<Gate>
+    requires entries { All (λ v. v ≤ limit) table.now }
+    requires listed { All (IsGateListed table.now) gates.items }
+    ensures { result ≡ map (gate_by table.now) gates.items }
+{
+    renew_gates(table, &mut gates);
+    List::from_vec(gates)
 }
 
 /// The symbols once more.

@@ -3,7 +3,7 @@ use Rattle.std.specs.Prelude.{ℕ, List}
 use Rattle.aig_parts.specs.declared.raw.Raw.{Raw}
 use Rattle.aig_parts.specs.declared.ternary.Tern.{Tern}
 use Rattle.aig_base.specs.Value.{Value, start_of}
-use Rattle.aig_sim.specs.Trace.{IsTrace}
+use Rattle.aig_values.specs.Trace.{IsTrace}
 
 pub record Pair : Type 0 where
   pub circuit : Raw

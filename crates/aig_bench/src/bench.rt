@@ -20,11 +20,10 @@ ghost use Rattle.aig_bench.specs.state.Pending.{AreFanouts};
 ghost use Rattle.aig_bench.specs.state.Setup.{IsSetup};
 ghost use Rattle.aig_bench.specs.Question.{AnswersValue};
 ghost use Rattle.aig_bench.specs.Touched.{Works};
-ghost use Rattle.aig_sim.specs.StimulusText.{HaveWidth};
+ghost use Rattle.aig_values.specs.InputRows.{HaveWidth};
 ghost use Rattle.aig_unroll.specs.Answers.{AnswersUnrolling};
 
 use crate::allowed::{CELLS, check_append, check_output, check_reset, check_rewire, is_defined};
-use crate::bench_fault::BenchFault;
 use crate::edit::{EditFault, EditReport};
 use crate::engine::Engine;
 use crate::fill::fill;
@@ -35,8 +34,8 @@ use crate::setup::Setup;
 use crate::trace::write_frames;
 use crate::value::literal_at;
 use aig_base::{Circuit, Io, Lit, Tern, Write, append_gate};
-use aig_sim::{FRAMES, Grid, Stimulus};
 use aig_unroll::{UnrollFault, unroll};
+use aig_values::{BenchFault, FRAMES, Grid, Stimulus};
 use std::alloc::Global;
 use std::marker::Model;
 
@@ -86,7 +85,8 @@ fn replace_gate(
     ensures cycle { IfErr result (λ f. f ≡ EditFault.Cycle → IsAcyclic (with_gate setup.old.circuit lhs r0 r1) → ⊥) }
     ensures others { IfErr result (λ f. (f ≡ EditFault.Cycle) ⊎ (f ≡ EditFault.Memory)) }
     ensures memory { IfErr result (λ f. f ≡ EditFault.Memory →
-        (4 ≤ length (list_of fanouts.old.readers (variable r0))) ⊎ (4 ≤ length (list_of fanouts.old.readers (variable r1)))) }
+        (4 ≤ length (list_of fanouts.old.readers (variable r0))) ⊎
+        (4 ≤ length (list_of fanouts.old.readers (variable r1)))) }
 {
     fanouts.readers.make_room(r0, r1)?;
     match fanouts

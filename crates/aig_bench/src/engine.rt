@@ -2,7 +2,7 @@
 use crate::order::Order;
 use crate::settle::{Fanouts, Pending};
 use crate::setup::Setup;
-use aig_sim::Grid;
+use aig_values::Grid;
 use std::marker::Model;
 
 /// Circuit, stimulus and cells, the levels and who reads whom, an order of the gates, and what a propagation has still

@@ -2,9 +2,10 @@
 ghost use Rattle.std.specs.Prelude.{◌≡◌, ◌≢◌, ℕ, ◌+◌, ◌*◌, ◌<◌, length};
 ghost use Rattle.aig_base.specs.Grounded.{IsSource};
 ghost use Rattle.aig_base.specs.Value.{start_of};
-ghost use Rattle.aig_sim.specs.state.Frame.{Renews};
-ghost use Rattle.aig_sim.specs.InputRows.{row_at};
-ghost use Rattle.aig_bench.specs.state.Current.{Holds, HoldsInputs, HoldsLatches, IsCurrentBefore, IsCurrentRow, IsLaidOut};
+ghost use Rattle.aig_values.specs.state.Frame.{Renews};
+ghost use Rattle.aig_values.specs.InputRows.{row_at};
+ghost use Rattle.aig_bench.specs.state.Current.{Holds, HoldsInputs, HoldsLatches};
+ghost use Rattle.aig_bench.specs.state.Current.{IsCurrentBefore, IsCurrentRow, IsLaidOut};
 ghost use Rattle.aig_bench.specs.state.SweepOrder.{IsKnown, Orders};
 ghost use Rattle.aig_bench.specs.Pair.{HasValue};
 ghost use Rattle.aig_bench.specs.state.Setup.{pair_of, IsSetup};
@@ -13,7 +14,7 @@ use crate::order::Order;
 use crate::setup::Setup;
 use crate::value::latch_value;
 use aig_base::Tern;
-use aig_sim::Grid;
+use aig_values::Grid;
 
 // Writes the value of an input or a latch.
 fn fill_source<G: Grid>(grid: &mut G, setup: &Setup, frame: u32, variable: u32, value: Tern)

@@ -3,8 +3,8 @@ ghost use Rattle.std.specs.Prelude.{◌≡◌, ℕ, ◌-◌, ◌+◌, ◌<◌, �
 ghost use Rattle.std.specs.Vec.{vec_capacity};
 ghost use Rattle.aig_parts.specs.Formed.{limit};
 ghost use Rattle.aig_parts.specs.Literal.{variable, IsEven};
-ghost use Rattle.aig_sim.specs.Cells.{gate_value};
-ghost use Rattle.aig_sim.specs.InputRows.{row_at};
+ghost use Rattle.aig_values.specs.Cells.{gate_value};
+ghost use Rattle.aig_values.specs.InputRows.{row_at};
 ghost use Rattle.aig_bench.specs.declared.setup.Setup.{Setup};
 ghost use Rattle.aig_bench.specs.state.Buckets.{FitsOneMore};
 ghost use Rattle.aig_bench.specs.state.Pending.{IsReady};
@@ -12,7 +12,7 @@ ghost use Rattle.aig_bench.specs.state.Pending.{IsReady};
 use crate::edit::EditReport;
 use crate::settle::{Fanouts, Pending};
 use aig_base::{Circuit, Gate, Memory};
-use aig_sim::Grid;
+use aig_values::Grid;
 
 /// Makes room for one more variable; nothing else changes.
 pub fn make_room<G: Grid>(
@@ -21,7 +21,8 @@ pub fn make_room<G: Grid>(
     pending: &mut Pending,
 ) -> Result<(), Memory>
     requires few { length (G.gate_flags grid.old) ≤ limit }
-    requires ready { (setup : Setup) × IsReady setup fanouts.old pending.old (G.gate_flags grid.old) (G.cells grid.old) }
+    requires ready { (setup : Setup) × IsReady setup fanouts.old pending.old (G.gate_flags grid.old)
+        (G.cells grid.old) }
     ensures ready { (setup : Setup) → IsReady setup fanouts.old pending.old (G.gate_flags grid.old) (G.cells grid.old)
         → IsReady setup fanouts.new pending.new (G.gate_flags grid.new) (G.cells grid.new) }
     ensures latches { OnOk result (length fanouts.new.latches.last.items < vec_capacity fanouts.new.latches.last) }

@@ -5,7 +5,7 @@ ghost use Rattle.aig_bench.specs.state.Current.{AreGateFlags, IsLaidOut};
 
 use crate::setup::Setup;
 use aig_base::{Circuit, Memory};
-use aig_sim::Grid;
+use aig_values::Grid;
 use std::alloc::Global;
 
 /// For each variable whether it is one of a gate.

@@ -3,7 +3,6 @@
 
 mod allowed;
 mod bench;
-mod bench_fault;
 mod buckets;
 mod edit;
 mod engine;
@@ -21,7 +20,7 @@ mod setup;
 mod trace;
 mod value;
 
+pub use aig_values::BenchFault;
 pub use bench::Bench;
-pub use bench_fault::BenchFault;
 pub use edit::{EditFault, EditReport};
 pub use laws::law_of_counts;

@@ -9,7 +9,6 @@ ghost use Rattle.aig_bench.specs.state.SweepOrder.{IsKnown, Orders};
 ghost use Rattle.aig_bench.specs.state.Pending.{AreFanouts};
 
 use crate::allowed::CELLS;
-use crate::bench_fault::BenchFault;
 use crate::engine::Engine;
 use crate::fill::fill;
 use crate::latches::LatchReaders;
@@ -18,7 +17,7 @@ use crate::order::Order;
 use crate::settle::{Fanouts, make_pending};
 use crate::setup::Setup;
 use aig_base::{Circuit, Levels, Memory, Readers};
-use aig_sim::{Grid, Stimulus};
+use aig_values::{BenchFault, Grid, Stimulus};
 use std::alloc::Global;
 
 /// The number of cells of so many frames.

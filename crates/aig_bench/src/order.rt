@@ -8,12 +8,12 @@ ghost use Rattle.aig_base.specs.Circuit.{IsCircuit};
 ghost use Rattle.aig_base.specs.Levels.{AreLevels};
 ghost use Rattle.aig_parts.specs.Literal as literal;
 ghost use Rattle.aig_base.specs.Sections.{IsDefined, IsGate};
-ghost use Rattle.aig_sim.specs.Cells.{HasCells, with_swept_row};
+ghost use Rattle.aig_values.specs.Cells.{HasCells, with_swept_row};
 ghost use Rattle.aig_bench.specs.state.Current.{AreGateFlags};
 ghost use Rattle.aig_bench.specs.state.SweepOrder.{gates_at, ArePositions, FitsOneGate, IsFullOrder, IsKnown, Orders};
 
 use aig_base::{Circuit, Definition, Gate, Levels, Lit, Memory, canonical_order};
-use aig_sim::{Grid, stand_in_order};
+use aig_values::{Grid, stand_in_order};
 use std::alloc::Global;
 
 /// How the gates of a circuit are taken, so that each comes behind those that it reads.

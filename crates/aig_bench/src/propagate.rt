@@ -12,7 +12,7 @@ use crate::edit::EditReport;
 use crate::engine::Engine;
 use crate::value::latch_value;
 use aig_base::Latch;
-use aig_sim::Grid;
+use aig_values::Grid;
 use std::mem::swap;
 
 // Adds up two reports.

@@ -21,7 +21,7 @@ use crate::engine::Engine;
 use crate::latches::{LatchList, LatchReaders};
 use crate::setup::Setup;
 use aig_base::{Levels, Memory, Readers, Tern};
-use aig_sim::Grid;
+use aig_values::Grid;
 use std::alloc::Global;
 
 /// Who reads whom, and the levels.

@@ -1,6 +1,6 @@
 //! What a bench simulates.
 use aig_base::Circuit;
-use aig_sim::Stimulus;
+use aig_values::Stimulus;
 
 /// A circuit and a stimulus.
 #[derive(Drop, Debug)]

@@ -7,7 +7,7 @@ ghost use Rattle.aig_bench.specs.state.Setup.{pair_of};
 
 use crate::setup::Setup;
 use aig_base::{Io, Write};
-use aig_sim::{Grid, write_trace};
+use aig_values::{Grid, write_trace};
 
 /// Writes the trace of all frames.
 pub fn write_frames<G: Grid, W: Write>(out: &mut W, grid: &G, setup: &Setup) -> Result<(), Io>

@@ -1,15 +1,15 @@
 //! Values by the cells of a grid.
 ghost use Rattle.std.specs.Prelude.{◌≡◌, ℕ, ◌+◌, ◌<◌, ◌≤◌, length, Some, slice_get};
 ghost use Rattle.aig_parts.specs.Literal.{variable};
-ghost use Rattle.aig_sim.specs.Cells.{literal_value};
-ghost use Rattle.aig_sim.specs.InputRows.{row_at};
+ghost use Rattle.aig_values.specs.Cells.{literal_value};
+ghost use Rattle.aig_values.specs.InputRows.{row_at};
 ghost use Rattle.aig_bench.specs.Pair.{HasValue};
 ghost use Rattle.aig_bench.specs.state.Setup.{pair_of, IsSetup};
 ghost use Rattle.aig_bench.specs.state.Current.{IsLaidOut, IsCurrentBefore};
 
 use crate::setup::Setup;
 use aig_base::{Latch, Lit, Tern};
-use aig_sim::{Grid, first_value};
+use aig_values::{Grid, first_value};
 
 /// The value of a literal by the cell of its variable.
 pub fn literal_at<G: Grid>(grid: &G, frame: u32, literal: Lit) -> Tern

@@ -3,7 +3,6 @@ use aig_bench::Bench;
 use aig_format::read;
 use aig_sim::{Grid, read_stimulus};
 use std::alloc::Global;
-use std::test::Fail;
 
 /// A gate that reads a gate which stands after it.
 pub const TWO_GATES: &[u8] = b"aag 4 2 0 1 2\n2\n4\n8\n8 6 2\n6 2 4\n";
@@ -12,8 +11,8 @@ pub const TWO_GATES: &[u8] = b"aag 4 2 0 1 2\n2\n4\n8\n8 6 2\n6 2 4\n";
 pub const FEEDBACK: &[u8] = b"aag 3 1 1 1 1\n2\n4 6 4\n4\n6 4 2\n";
 
 /// A bench of a circuit file and of a stimulus text.
-pub fn bench<G: Grid>(alloc: Global, file: &[u8], stimulus: &[u8]) -> Result<Bench<G>, Fail> {
-    let circuit = read(alloc, file)?;
-    let stimulus = read_stimulus(alloc, stimulus, circuit.inputs().len() as u32)?;
-    Ok(Bench::new(alloc, circuit, stimulus)?)
+pub fn bench<G: Grid>(alloc: Global, file: &[u8], stimulus: &[u8]) -> Option<Bench<G>> {
+    let circuit = read(alloc, file).ok()?;
+    let stimulus = read_stimulus(alloc, stimulus, circuit.inputs().len() as u32).ok()?;
+    Bench::new(alloc, circuit, stimulus).ok()
 }

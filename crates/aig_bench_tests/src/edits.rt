@@ -7,7 +7,6 @@ use aig_base::{Lit, Tern};
 use aig_bench::{Bench, EditFault, EditReport};
 use aig_sim::{ByteGrid, Grid, PlaneGrid};
 use std::alloc::Global;
-use std::test::Fail;
 
 // An edit, or a question for a value.
 #[derive(Clone, Copy)]
@@ -210,17 +209,21 @@ fn answers<G: Grid>(bench: &mut Bench<G>, steps: &[(Step, Answer)]) -> bool {
     right
 }
 
-fn is_answered<G: Grid>(alloc: Global, row: &Row) -> Result<bool, Fail> {
-    let mut bench = bench::<G>(alloc, row.file, row.stimulus)?;
-    Ok(answers(&mut bench, row.steps))
+fn is_answered<G: Grid>(alloc: Global, row: &Row) -> bool {
+    match bench::<G>(alloc, row.file, row.stimulus) {
+        Some(mut bench) => answers(&mut bench, row.steps),
+        None => false,
+    }
 }
 
 // After any edits the answers are those of the current circuit and stimulus, and an edit counts what it evaluated.
 #[test]
-fn edits(rt: HostRuntime) -> Result<(), Fail> {
+fn edits(rt: HostRuntime) {
     for (index, row) in TABLE.iter().enumerate() {
-        assert!(rt; is_answered::<ByteGrid>(rt.alloc(), row)?, "row {index}");
-        assert!(rt; is_answered::<PlaneGrid>(rt.alloc(), row)?, "row {index}");
+        let bytes = is_answered::<ByteGrid>(rt.alloc(), row);
+        assert!(rt;
+            bytes & is_answered::<PlaneGrid>(rt.alloc(), row),
+            "row {index}"
+        );
     }
-    Ok(())
 }

@@ -1,5 +1,4 @@
-//! Tests of the workbench and the engines through their public calls: values from outside, texts, and that calls can
-//! succeed.
+//! Tests of the workbench through its public calls: values from outside, and that calls can succeed.
 #![tactic(auto)]
 
 #[cfg(test)]
@@ -9,10 +8,4 @@ mod benches;
 #[cfg(test)]
 mod cells;
 #[cfg(test)]
-mod conversions;
-#[cfg(test)]
 mod edits;
-#[cfg(test)]
-mod messages;
-#[cfg(test)]
-mod scripts;

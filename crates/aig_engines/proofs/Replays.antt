@@ -28,28 +28,9 @@ pub shows_so : (raw : Raw) (text : List ℕ) (v : Verdict) (w : Witness) → Spe
 shows_so raw text v w spelled admitted shown confirmed =
     record { witness = w; text_is = spelled; admitted = admitted; verdict_is = shown; confirmed = confirmed }
 
--- the dump of a witness's run, by how its replay ended
-abbrev pub dump_answer : Result (Unit {0}) ReplayFault → Result (Unit {0}) RunFault
-dump_answer (Ok done) = Ok done
-dump_answer (Err (faults.Witness why)) = Err (parts.Witness why)
-dump_answer (Err faults.Io) = Err parts.Output
-
 module _ {X : Type 0} (out : Flow X) (raw : Raw) (text : List ℕ) where
-  dumped_so : (r : Result (Unit {0}) ReplayFault)
-      → Replays (λ raw start rows told. IsDump raw start rows told) raw text out r
-      → EndsTelling out (DumpsRun text raw) (dump_answer r)
-  dumped_so (Ok done) h = (h.0, h.1, record { ok = h.2; err = tt; count = omega (arith, h.3) })
-  dumped_so (Err (faults.Witness why)) h = h
-  dumped_so (Err faults.Io) h =
-      (tt, h.0, h.2, record { ok = tt; err = (h.1, h.3, h.4); count = h.5 })
-
   no_circuit_fault : (fault : Fault) → DumpsRun text raw (Err (parts.Circuit fault)) [] → ⊥
   no_circuit_fault fault h = h
-
-  pub dumped_from : (file : List ℕ) (r : Result (Unit {0}) ReplayFault) → IsFileOf file raw
-      → Replays (λ raw start rows told. IsDump raw start rows told) raw text out r
-      → EndsTelling out (OfFile file (DumpsRun text)) (dump_answer r)
-  dumped_from file r f h = of_file out (DumpsRun text) file raw (dump_answer r) no_circuit_fault f (dumped_so r h)
 
 module _ {X : Type 0} (written : X → Option (List ℕ)) (failures : X → ℕ) (old new : X) (told line : List ℕ) where
   -- a write of the trace failed

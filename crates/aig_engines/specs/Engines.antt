@@ -1,17 +1,14 @@
--- How the engines end that take a circuit's bytes: a simulation, a dump, and a bench that a script drives.
+-- How the engines end that take a circuit's bytes and run it on a stimulus: a simulation, and a dump.
 use Rattle.std.specs.Prelude.{◌≡◌, ℕ, List, Option, Result, Ok, Err}
 use Rattle.aig_parts.specs.declared.raw.Raw.{Raw}
 use Rattle.aig_sim.specs.declared.stimulus_fault.StimFault.{StimFault}
 use Rattle.aig_sim.specs.declared.stimulus_fault.StimFault.TheVariants as stimuli
 use Rattle.aig_sim.specs.Dumped.{Dumps}
 use Rattle.aig_sim.specs.Simulated.{Streams, Simulates}
-use Rattle.aig_bench.specs.Pair.{Pair}
 use Rattle.aig_engines.specs.declared.run_fault.RunFault.{RunFault}
-use Rattle.aig_engines.specs.declared.run_fault.RunFault.TheVariants.{Circuit, Stimulus, Script}
-use Rattle.aig_engines.specs.declared.script_fault.ScriptFault.TheVariants as scripts
+use Rattle.aig_engines.specs.declared.run_fault.RunFault.TheVariants.{Circuit, Stimulus}
 use Rattle.aig_bytes.specs.Flow.{Flow}
-use Rattle.aig_engines.specs.Ran.{Ran, Failing}
-use Rattle.aig_engines.specs.Run.{IsFileOf, AreBenchFiles, RefusesCircuit, RefusesFiles}
+use Rattle.aig_engines.specs.Run.{IsFileOf, RefusesCircuit}
 
 abbrev streams : {Y X : Type 0} → Flow Y → Flow X → Y → X → Streams
 streams reader out y x = record { left = reader.bytes y; reads = reader.failures y; writes = out.failures x }
@@ -43,16 +40,3 @@ SimulationEnds reader out file result = RunEnds Simulates reader out file result
 -- a dump: the text of the value change dump is written
 abbrev pub WaveEnds : {Y X : Type 0} → Flow Y → Flow X → List ℕ → Result ℕ RunFault → Type 0
 WaveEnds reader out file result = RunEnds Dumps reader out file result
-
--- How a bench from bytes ends. Its script was run to the end, and what was written are its replies; it was not, as a
--- read, a write or a flush failed; no memory was found for it, or a part is refused for a reason of its own, and then
--- nothing was read or written.
-abbrev pub BenchEnds : {Y X : Type 0} → Flow Y → Flow X → List ℕ → List ℕ → Result (Unit {0}) RunFault → Type 0
-BenchEnds reader out circuit stimulus (Ok done) =
-    (pair new : Pair) × AreBenchFiles circuit stimulus pair × Ran reader out pair new
-BenchEnds reader out circuit stimulus (Err (Script scripts.Io)) =
-    (pair new : Pair) × AreBenchFiles circuit stimulus pair × Failing reader out pair new
-BenchEnds reader out circuit stimulus (Err (Script scripts.Memory)) =
-    ((pair : Pair) × AreBenchFiles circuit stimulus pair) × (reader.new ≡ reader.old) × (out.new ≡ out.old)
-BenchEnds reader out circuit stimulus (Err fault) =
-    RefusesFiles circuit stimulus fault × (reader.new ≡ reader.old) × (out.new ≡ out.old)

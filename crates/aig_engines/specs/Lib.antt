@@ -1,16 +1,10 @@
 pub mod Checked
-pub mod Command
 pub mod Converted
 pub mod Delivered
 pub mod Engines
 pub mod Info
-pub mod Kept
-pub mod Lines
-pub mod Ran
 pub mod Replay
-pub mod Replies
 pub mod Run
-pub mod ScriptLine
 pub mod Status
 pub mod Told
 pub mod Unrolling

@@ -3,10 +3,9 @@ ghost use Rattle.std.specs.Prelude.{◌≡◌};
 ghost use Rattle.aig_engines.specs.Checked.{Checks};
 ghost use Rattle.aig_engines.specs.Converted.{Converts, EndsFrom};
 ghost use Rattle.aig_engines.specs.Delivered.{Delivers, IsHandedOn, all_written, calls_failed};
-ghost use Rattle.aig_engines.specs.Engines.{BenchEnds, SimulationEnds, WaveEnds};
+ghost use Rattle.aig_engines.specs.Engines.{SimulationEnds, WaveEnds};
 ghost use Rattle.aig_bytes.specs.Flow.{flow};
 ghost use Rattle.aig_engines.specs.Info.{TellsFacts};
-ghost use Rattle.aig_engines.specs.Kept.{BenchLeft};
 ghost use Rattle.aig_engines.specs.Replay.{ChecksAndTraces, DumpsRun};
 ghost use Rattle.aig_engines.specs.Told.{EndsTelling, OfFile};
 ghost use Rattle.aig_engines.specs.Unrolling.{Unrolls, UnrollsKept};
@@ -15,18 +14,15 @@ ghost use Rattle.aig_unroll.specs.InputMap.{map_text};
 
 use crate::checking::check_bytes;
 use crate::conversion::convert_from;
-use crate::engine::{run_bench, simulate_from};
+use crate::engine::simulate_from;
 use crate::info::info_bytes;
-use crate::keeping::bench_after_script;
 use crate::replaying::{check_and_trace_bytes, wave_witness_bytes};
 use crate::run_fault::RunFault;
-use crate::script_fault::ScriptFault;
 use crate::unrolling::{keep_input_map, unroll_and_keep, unroll_bytes};
 use crate::wave::wave_from;
 use aig_base::{Buffered, Circuit, Failed, Read, Write};
-use aig_bench::Bench;
 use aig_format::Format;
-use aig_sim::{PlaneGrid, StimFault, Verdict};
+use aig_sim::{StimFault, Verdict};
 use std::alloc::Global;
 
 /// Writes the circuit of a file in a format. Where the writer below fails, the fault is the output's.
@@ -39,7 +35,8 @@ pub fn deliver_circuit<R: Read, W: Write>(
     ensures { Delivers W.written RunFault.Output
         (λ left answer. EndsFrom (flow R.left R.failures circuit.old circuit.new)
         (flow (all_written W.written) calls_failed out.old left)
-        (λ bytes. EndsTelling (flow (all_written W.written) calls_failed out.old left) (OfFile bytes (Converts to)) answer)
+        (λ bytes. EndsTelling (flow (all_written W.written) calls_failed out.old left)
+        (OfFile bytes (Converts to)) answer)
         answer) out.new result }
 {
     let done = convert_from(alloc, circuit, to, out);
@@ -80,41 +77,6 @@ pub fn deliver_wave<C: Read, R: Read, W: Write>(
 {
     let done = wave_from(alloc, circuit, stimulus, out);
     handed_on(done, out, RunFault::Stimulus(StimFault::Io))
-}
-
-/// Writes the replies to a script. Where the writer below fails, the fault is the script's.
-pub fn deliver_replies<R: Read, W: Write>(
-    alloc: Global,
-    circuit: &[u8],
-    stimulus: &[u8],
-    script: &mut R,
-    out: &mut Buffered<W>,
-) -> Result<(), RunFault>
-    ensures { Delivers W.written (RunFault.Script ScriptFault.Io)
-        (λ left answer. BenchEnds (flow R.left R.failures script.old script.new)
-        (flow (all_written W.written) calls_failed out.old left) circuit.now stimulus.now answer) out.new result }
-{
-    let done = run_bench::<PlaneGrid, R, Buffered<W>>(alloc, circuit, stimulus, script, out);
-    handed_on(done, out, RunFault::Script(ScriptFault::Io))
-}
-
-/// Writes the replies to a script, and answers the bench that it leaves. Where the writer below fails, there is none,
-/// and the fault is the script's.
-pub fn deliver_bench<R: Read, W: Write>(
-    alloc: Global,
-    circuit: &[u8],
-    stimulus: &[u8],
-    script: &mut R,
-    out: &mut Buffered<W>,
-) -> Result<Bench<PlaneGrid>, RunFault>
-    ensures { Delivers W.written (RunFault.Script ScriptFault.Io)
-        (λ left answer. BenchLeft (flow R.left R.failures script.old script.new)
-        (flow (all_written W.written) calls_failed out.old left) circuit.now stimulus.now answer) out.new result }
-{
-    let done = bench_after_script::<PlaneGrid, R, Buffered<W>>(
-        alloc, circuit, stimulus, script, out,
-    );
-    handed_on(done, out, RunFault::Script(ScriptFault::Io))
 }
 
 /// Writes a circuit file unrolled for this many frames in a format. Where the writer below fails, the fault is the
@@ -181,8 +143,8 @@ pub fn deliver_verdict<W: Write>(
     handed_on(done, out, RunFault::Output)
 }
 
-/// Writes the trace of a witness's run and the verdict on it, and answers the verdict. Where the writer below fails, the
-/// fault is the output's.
+/// Writes the trace of a witness's run and the verdict on it, and answers the verdict. Where the writer below fails,
+/// the fault is the output's.
 pub fn deliver_traced_verdict<W: Write>(
     alloc: Global,
     circuit: &[u8],
@@ -227,7 +189,7 @@ pub fn deliver_info<W: Write>(
 }
 
 /// The answer of an engine, once all that it wrote is handed on; where that fails, the fault of the part that writes.
-fn handed_on<T: Drop, W: Write>(
+pub fn handed_on<T: Drop, W: Write>(
     done: Result<T, RunFault>,
     out: &mut Buffered<W>,
     part: RunFault,

@@ -20,7 +20,8 @@ pub fn wave_witness_bytes<W: Write>(
     witness: &[u8],
     out: &mut W,
 ) -> Result<(), RunFault>
-    ensures { EndsTelling (flow W.written W.failures out.old out.new) (OfFile circuit.now (DumpsRun witness.now)) result }
+    ensures { EndsTelling (flow W.written W.failures out.old out.new)
+        (OfFile circuit.now (DumpsRun witness.now)) result }
 {
     let circuit = read_circuit(alloc, circuit)?;
     match dump_witness(alloc, &circuit, witness, out) {
@@ -59,7 +60,8 @@ pub fn check_and_trace_bytes<W: Write>(
     witness: &[u8],
     out: &mut W,
 ) -> Result<Verdict, RunFault>
-    ensures { EndsTelling (flow W.written W.failures out.old out.new) (OfFile circuit.now (ChecksAndTraces witness.now)) result }
+    ensures { EndsTelling (flow W.written W.failures out.old out.new)
+        (OfFile circuit.now (ChecksAndTraces witness.now)) result }
 {
     let circuit = read_circuit(alloc, circuit)?;
     tell_run(alloc, &circuit, witness, out)

@@ -4,9 +4,9 @@ ghost use Rattle.aig_engines.specs.Status.{status_of};
 
 use crate::script_fault::ScriptFault;
 use aig_base::{Fault, Memory};
-use aig_bench::BenchFault;
 use aig_sim::{StimFault, WitnessFault};
 use aig_unroll::UnrollFault;
+use aig_values::BenchFault;
 use thiserror::Error;
 
 /// The part of a run that refused, and its fault.

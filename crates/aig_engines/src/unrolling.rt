@@ -67,7 +67,8 @@ pub fn unroll_and_keep<W: Write>(
     to: Format,
     out: &mut W,
 ) -> Result<Circuit, RunFault>
-    ensures { EndsTelling (flow W.written W.failures out.old out.new) (OfFile circuit.now (UnrollsKept frames to)) result }
+    ensures { EndsTelling (flow W.written W.failures out.old out.new)
+        (OfFile circuit.now (UnrollsKept frames to)) result }
 {
     let read = read_circuit(alloc, circuit)?;
     match unroll_circuit(alloc, &read, frames, to, out) {

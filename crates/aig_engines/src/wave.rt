@@ -19,7 +19,8 @@ fn run_dump<R: Read, W: Write>(
     out: &mut W,
 ) -> Result<u64, RunFault>
     ensures ends { (file : List ℕ) → IsFileOf file circuit.now →
-        WaveEnds (flow R.left R.failures stimulus.old stimulus.new) (flow W.written W.failures out.old out.new) file result }
+        WaveEnds (flow R.left R.failures stimulus.old stimulus.new)
+        (flow W.written W.failures out.old out.new) file result }
     ensures read { reads_failed result ≡ 0 }
 {
     match dump(alloc, circuit, stimulus, out) {
@@ -39,7 +40,8 @@ pub fn wave_from<C: Read, R: Read, W: Write>(
     out: &mut W,
 ) -> Result<u64, RunFault>
     ensures ends { EndsFrom (flow C.left C.failures circuit.old circuit.new) (flow W.written W.failures out.old out.new)
-        (λ bytes. WaveEnds (flow R.left R.failures stimulus.old stimulus.new) (flow W.written W.failures out.old out.new)
+        (λ bytes. WaveEnds (flow R.left R.failures stimulus.old stimulus.new)
+        (flow W.written W.failures out.old out.new)
         bytes result) result }
     ensures unread { result ≡ Err (RunFault.Circuit Fault.Io) → stimulus.new ≡ stimulus.old }
 {

@@ -76,14 +76,3 @@ group_more r at next high bytes rest lt is ge small some h =
     ∙ more_group r (get_or bytes at 0) high (drop (at + 1) bytes) rest ge small some (ap (λ (j : ℕ). groups_at r (drop j bytes)) (sym is) ∙ h)
 
 -- ---- what is read of the bytes at hand is read of all bytes
-
-pub read_of_all : {A : Type 0} (read : List ℕ → Read A) → EndsItself read → (front hand behind all new : List ℕ) (x : A) (n : ℕ)
-    → front ≡ hand → all ≡ hand ++ behind → n ≤ length front → read front ≡ Ok (x, drop n front) → new ≡ drop n all
-    → read all ≡ Ok (x, new)
-read_of_all {A} read ends front hand behind all new x n same split le h is =
-    let e = ends front (drop n front) x h in
-    let whole : all ≡ front ++ behind = split ∙ ap (λ (xs : List ℕ). xs ++ behind) (sym same) in
-    let rest : drop n front ++ behind ≡ new =
-    sym (drop-append-le n front behind le) ∙ ap (drop n) (sym whole) ∙ sym is in
-    ap read (whole ∙ ap (λ (xs : List ℕ). xs ++ behind) e.1 ∙ append_assoc e.0 (drop n front) behind)
-    ∙ e.2 (drop n front ++ behind) ∙ ap (λ (xs : List ℕ). Ok (x, xs)) rest

@@ -9,6 +9,7 @@ use Rattle.aig_format.specs.Delta.{groups, delta}
 use Rattle.aig_format.proofs.Steps.{done, done_is}
 use Rattle.aig_format.proofs.Numbers.{bind_then}
 use Rattle.std.proofs.lemmas.Nat.{mul-le}
+use Rattle.std.specs.Int.{w32, to_le_bytes}
 
 pub pow_more : (k : ℕ) → 128 ^ suc (suc k) ≡ 128 * 128 ^ suc k
 pow_more k = grind arith
@@ -51,6 +52,16 @@ delta_large n le lt =
 -- one group more
 pub delta_more : (n : ℕ) (rest : List ℕ) → 128 ≤ n → n < 2 ^ 28 → delta (n / 128) ≡ rest → delta n ≡ (128 + n % 128) ∷ rest
 delta_more n rest le lt h = delta_large n le lt ∙ ap (λ (t : List ℕ). (128 + n % 128) ∷ t) h
+
+-- four groups in one word
+pub word_bytes : (w a b c d : ℕ) → w ≡ a + 256 * b + 65536 * c + 16777216 * d → a < 256 → b < 256 → c < 256 → d < 256
+    → to_le_bytes w32 w ≡ a ∷ b ∷ c ∷ d ∷ []
+word_bytes w a b c d e la lb lc ld =
+    let first : w % 256 ≡ a = omega (arith, e, la) in
+    let second : w / 256 % 256 ≡ b = omega (arith, e, la, lb) in
+    let third : w / 65536 % 256 ≡ c = omega (arith, e, la, lb, lc) in
+    let fourth : w / 16777216 % 256 ≡ d = omega (arith, e, la, lb, lc, ld) in
+    λ i. first i ∷ second i ∷ third i ∷ fourth i ∷ []
 
 -- ---- reading
 

@@ -1,7 +1,7 @@
 -- Bytes of a circuit that are gathered piece by piece.
-use Rattle.std.proofs.Common.{◌≡◌, ℕ, ◌+◌, ◌-◌, List, [], ◌++◌, length, take, drop, sym, ap, ◌∙◌, Ok, Err, IsErr, refl, Result}
+use Rattle.std.proofs.Common.{◌≡◌, ℕ, ◌+◌, ◌-◌, List, [], ◌++◌, length, take, drop, sym, ap, ◌∙◌, Ok, Err, IsErr, refl, Result, subst}
 use Rattle.std.specs.Prelude.{Option}
-use Rattle.std.proofs.lemmas.List.{take_rest}
+use Rattle.std.proofs.lemmas.List.{take_rest, append-nil}
 use Rattle.std.proofs.Math.Seq.{take-add}
 use Rattle.std.proofs.lemmas.Bool.{false≢true}
 use Rattle.aig_bytes.specs.Bytes.{Writes}
@@ -18,6 +18,19 @@ module _ {X : Type 0} {written : X → Option (List ℕ)} {failures : X → ℕ}
   gathers_more {T} {E} {x} bytes i n done emptied put =
       gathers_same (gathers_then done (gathers_then emptied (gathers_held {S = T} {F = E} {y = x} put)))
       (ap (λ (t : List ℕ). take i bytes ++ take n t) (take_rest bytes i) ∙ sym (take-add i n bytes))
+
+  straight : {S F : Type 0} {old new : X} {bytes : List ℕ} {s : Result S F} → Writes written failures old new bytes s
+      → Gathers written failures old new [] [] bytes s
+  straight {bytes} {s = Ok y} w = record { handed = bytes; wrote = w.ok; ok = sym (append-nil bytes); err = tt; count = w.count }
+  straight {s = Err e} w = record { handed = w.err.0; wrote = w.err.2; ok = tt; err = w.err.1; count = w.count }
+
+  -- bytes that went straight on behind all that waited
+  pub gathers_straight : {T E S F : Type 0} {old mid new : X} {held waiting bytes : List ℕ} {x : T} {s : Result S F}
+      → Gathers {E = E} written failures old mid held waiting [] (Ok x) → waiting ≡ []
+      → Writes written failures mid new bytes s → Gathers written failures old new held waiting bytes s
+  gathers_straight {T} {E} {S} {F} {old} {mid} {new} {held} {waiting} {bytes} {x} {s} g none w =
+      subst (λ (h : List ℕ). Gathers written failures old new held h bytes s) (sym none)
+      (gathers_then (subst (λ (h : List ℕ). Gathers {T = T} {E = E} written failures old mid held h [] (Ok x)) none g) (straight w))
 
   -- the same success as another result
   pub no_more : {T E S F : Type 0} {old new : X} {held held' a : List ℕ} {x : T} {y : S}

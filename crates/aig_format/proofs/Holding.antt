@@ -35,10 +35,6 @@ pub filled : (old new : Option (List ℕ)) (bytes : List ℕ) → old ≡ before
 filled old None bytes is told = absurd (subst IsKnown is told)
 filled old (Some left) bytes is told = rw is refl
 
-pub still_told : (old new : Option (List ℕ)) (bytes : List ℕ) → old ≡ before bytes new → IsKnown old → IsKnown new
-still_told old None bytes is told = absurd (subst IsKnown is told)
-still_told old (Some left) bytes is told = tt
-
 pub none_left : (left : Option (List ℕ)) → IsAtEnd left → known left ≡ []
 none_left None at_end = refl
 none_left (Some left) at_end = at_end

@@ -21,11 +21,6 @@ use Rattle.aig_format.proofs.Keys.{is_named_from, not_named_from}
 use Rattle.aig_format.proofs.Steps.{done, done_is, regroup, fails_else}
 use Rattle.aig_format.specs.state.ReadingSections.{with_front}
 
--- taking a byte is never refused
-pub next_fails : {B : Type 0} (e : Fault) (bytes : List ℕ) (read : Result B Refusal) → Fails e (next_at bytes)
-    → Fails e read
-next_fails e bytes read h = fails_else e (next_at bytes) (first_of bytes, rest_of bytes) read refl h
-
 -- ---- a line
 
 -- bytes of the line that come before more

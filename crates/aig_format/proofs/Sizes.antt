@@ -33,9 +33,6 @@ pub sizes_more : {X : Type 0} (all : List (List X)) (sizes : List ℕ) (i : ℕ)
 sizes_more {X} all sizes i new size lt so_far is at =
     map-append (length {A = X}) all (new ∷ []) ∙ rw (so_far, is, at) (sym (take_more sizes i 0 lt))
 
-pub sizes_sum : {X : Type 0} (all : List (List X)) (sizes : List ℕ) → map length all ≡ sizes → sum_by length all ≡ sum sizes
-sizes_sum {X} all sizes is = sym (sum-map (length {A = X}) all) ∙ ap sum is
-
 -- a fresh entry goes in behind
 pub inserted : (all new : List Entry) (e : Entry) (added : Bool) → (IsTrue added → new ≡ all ++ e ∷ [])
     → (added ≡ false ↔ Contains (keys_of all) e.0) → (Contains (keys_of all) e.0 → ⊥) → new ≡ all ++ e ∷ []

@@ -15,9 +15,6 @@ pub record Front {Y X : Type 0} (written : X → Option (List ℕ)) (failures : 
   pub gathers : Gathers {T = Unit {0}} {E = Unit {0}} written failures old new held held' (flat_map f front) (Ok tt)
 
 module _ {Y X : Type 0} {written : X → Option (List ℕ)} {failures : X → ℕ} {f : Y → List ℕ} where
-  pub front_none : {old : X} {held : List ℕ} (all : List Y) → Front written failures f old old held held all all
-  front_none all = record { front = []; split = refl; gathers = gathers_none }
-
   pub front_more : {T E : Type 0} {old mid new : X} {held held' held'' : List ℕ} {all left left' : List Y} {x : T} (y : Y)
       → Front written failures f old mid held held' all left → left ≡ y ∷ left' → Gathers {E = E} written failures mid new held' held'' (f y) (Ok x)
       → Front written failures f old new held held'' all left'
@@ -36,10 +33,3 @@ module _ {Y X : Type 0} {written : X → Option (List ℕ)} {failures : X → �
   front_stops {left'} y p e g h =
       gathers_same (gathers_then p.gathers (gathers_stop (flat_map f left') h (gathers_failed g h)))
       (sym (flat_map-append f p.front (y ∷ left')) ∙ ap (flat_map f) (ap (λ (ys : List Y). p.front ++ ys) (sym e) ∙ sym p.split))
-
-  pub front_all : {old new : X} {held held' : List ℕ} {all left : List Y} {S F : Type 0} {y : S} → Front written failures f old new held held' all left → left ≡ []
-      → Gathers {E = F} written failures old new held held' (flat_map f all) (Ok y)
-  front_all {all} p e =
-      let g = p.gathers in
-      gathers_same (record { handed = g.handed; wrote = g.wrote; ok = g.ok; err = tt; count = g.count })
-      (ap (flat_map f) (sym (append-nil p.front) ∙ ap (λ (ys : List Y). p.front ++ ys) (sym e) ∙ sym p.split))

@@ -84,13 +84,6 @@ err_reading bytes e h other =
 
 -- ---- where parts were read
 
-formed_of : (bytes : List ℕ) (raw : Raw) → Spells bytes raw → IsFormed raw
-formed_of bytes raw (inl s) = s.parts.formed
-formed_of bytes raw (inr s) = s.parts.formed
-
-pub ok_formed : (bytes : List ℕ) (raw : Raw) → file_at bytes ≡ Ok raw → IsFormed raw
-ok_formed bytes raw h = formed_of bytes raw (file_takes bytes raw h)
-
 pub ok_found : (bytes : List ℕ) (raw : Raw) (r : Result Raw Fault) → file_at bytes ≡ Ok raw
     → IfOk r (λ circuit. circuit ≡ raw) → IfOk r (λ circuit. Spells bytes circuit)
 ok_found bytes raw (Ok circuit) h is = subst (λ (p : Raw). Spells bytes p) (sym is) (file_takes bytes raw h)

@@ -45,10 +45,6 @@ tail_step (n ∷ counts) e =
     ap (λ (b : Bool). cond b (line_end ∷ []) (space ∷ (decimal n ++ tail 0 counts))) (all_zero_is (n ∷ counts) ∙ e)
     ∙ ap (λ (ms : List ℕ). space ∷ (decimal n ++ tail 0 ms)) (sym (take_rest (n ∷ counts) 1))
 
-pub some_from_step : (counts : List ℕ) → list_all (λ n. n == 0) counts ≡ false → 0 < length counts
-some_from_step [] e = cc
-some_from_step (n ∷ counts) e = omega arith
-
 pub small_sizes : (raw : Raw) → IsFormed raw → All (λ p. length p < 2 ^ 32) raw.justice
 small_sizes raw formed k d lt = omega (arith, get_or-le-sum_by length raw.justice k d lt, formed.counts.justice_literals)
 

@@ -1,10 +1,17 @@
 //! Numbers that are all at hand, in one loop over bytes. What is refused here, or goes beyond the bytes at hand, is
 //! left to the readers of tokens, which tell the fault and its place.
-ghost use Rattle.std.specs.Prelude.{◌≡◌, ◌+◌, ◌<◌, ◌≤◌, length, drop, Ok, IfSome};
+ghost use Rattle.std.specs.Prelude.{◌≡◌, ◌+◌, ◌-◌, ◌<◌, ◌≤◌, length, drop, Ok, IfSome};
 ghost use Rattle.aig_format.specs.Spells.{greatest};
 ghost use Rattle.aig_format.specs.state.Reading.{field_at, groups_at, delta_at};
 
 use crate::token::BODY;
+
+/// What a digit counts, and more than 9 for any other byte.
+fn digit_of(byte: u8) -> u32
+    ensures digit { result ≤ 9 → (48 ≤ byte) × (byte ≤ 57) × (result ≡ byte - 48) }
+{
+    (byte as u32).wrapping_sub(b'0' as u32)
+}
 
 /// A number of a body, of seven digits at most, from a place on with the byte that ends it, and the place behind that.
 pub(crate) fn field_in(bytes: &[u8], from: usize, end: u8) -> Option<(u32, usize)>
@@ -13,27 +20,28 @@ pub(crate) fn field_in(bytes: &[u8], from: usize, end: u8) -> Option<(u32, usize
     ensures field { IfSome result (λ f. field_at greatest end (drop from bytes.now) ≡ Ok (f.0, drop f.1 bytes.now)) }
     ensures within { IfSome result (λ f. f.1 ≤ from + 8) }
 {
-    let first = bytes[from];
-    if first < b'0' || first > b'9' {
+    let first = digit_of(bytes[from]);
+    if first > 9 {
         return None;
     }
     // No digit follows a 0.
-    if first == b'0' {
+    if first == 0 {
         if bytes[from + 1] != end {
             return None;
         }
         return Some((0, from + 2));
     }
-    let mut value = (first - b'0') as u32;
+    let mut value = first;
     for count in 1..8 {
         let byte = bytes[from + count];
-        if byte < b'0' || byte > b'9' {
+        let digit = digit_of(byte);
+        if digit > 9 {
             if byte != end {
                 return None;
             }
             return Some((value, from + count + 1));
         }
-        value = value * 10 + (byte - b'0') as u32;
+        value = value * 10 + digit;
         if value > BODY {
             return None;
         }

@@ -14,7 +14,8 @@ use crate::section_writer::{put_names, put_properties, put_reset};
 use aig_base::{Block, Circuit, Fault, Gate, Io, Latch, Write, write_all};
 
 fn put_latch<W: Write>(out: &mut W, block: &mut Block, latch: Latch) -> Result<(), Io>
-    ensures { Gathers W.written W.failures out.old out.new block.old block.new (implicit_latch_line false latch) result }
+    ensures { Gathers W.written W.failures out.old out.new block.old block.new
+        (implicit_latch_line false latch) result }
 {
     put_number(out, block, latch.next.value())?;
     put_reset(out, block, latch.reset)

@@ -1,38 +1,34 @@
 //! Writing numbers in groups of seven bits.
-ghost use Rattle.std.specs.Prelude.{◌≡◌, ◌+◌, ◌%◌, ◌^◌, ◌<◌, ◌≤◌, take};
+ghost use Rattle.std.specs.Prelude.{◌≡◌, ◌^◌, ◌<◌, ◌≤◌, take};
 ghost use Rattle.aig_format.specs.Delta.{delta};
 ghost use Rattle.aig_bytes.specs.state.Gathered.{Gathers};
 
 use crate::gather::put_first;
 use aig_base::{Block, Io, Write};
 
-/// A group that is not the last one.
-#[inline]
-fn group(number: u32) -> u8
-    ensures { result ≡ 128 + number % 128 }
-{
-    128 + (number % 128) as u8
-}
-
-/// The groups of a number below `2^28` in its shortest form, the least first, and how many there are.
+/// The groups of a number below `2^28` in its shortest form, the least first, and how many there are. They are put into
+/// one word, where the seven bits of each group move up to its byte, and all but the last get a mark.
 fn groups(number: u32) -> ([u8; 4], usize)
     requires { number < 2 ^ 28 }
     ensures most { result.1 ≤ 4 }
     ensures groups { take result.1 result.0 ≡ delta number }
 {
     if number < 128 {
-        return ([number as u8, 0, 0, 0], 1);
+        return (number.to_le_bytes(), 1);
     }
     let second = number / 128;
+    let two = number + 128 * second;
     if second < 128 {
-        return ([group(number), second as u8, 0, 0], 2);
+        return ((two + 0x80).to_le_bytes(), 2);
     }
     let third = second / 128;
+    let three = two + 32_768 * third;
     if third < 128 {
-        return ([group(number), group(second), third as u8, 0], 3);
+        return ((three + 0x8080).to_le_bytes(), 3);
     }
-    let fourth = (third / 128) as u8;
-    ([group(number), group(second), group(third), fourth], 4)
+    let fourth = third / 128;
+    let four = three + 8_388_608 * fourth;
+    ((four + 0x80_8080).to_le_bytes(), 4)
 }
 
 /// Puts a number below `2^28` in its shortest form, the least group first (AIGER 1.0, binary format).

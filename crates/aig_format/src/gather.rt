@@ -7,6 +7,9 @@ ghost use Rattle.aig_format.specs.Header.{field};
 use aig_base::{Block, Io, Write, write_all};
 use itoa::Buffer;
 
+/// From how many bytes on a piece is not gathered.
+const LARGE: usize = 4096;
+
 /// Hands on all that waits.
 #[inline(never)]
 fn hand_on<W: Write>(out: &mut W, block: &mut Block) -> Result<(), Io>
@@ -19,10 +22,14 @@ fn hand_on<W: Write>(out: &mut W, block: &mut Block) -> Result<(), Io>
     Ok(())
 }
 
-/// Puts the bytes behind what waits, and hands all on where there is no room.
+/// Puts the bytes behind what waits, and hands all on where there is no room. A large piece goes straight on.
 pub(crate) fn put<W: Write>(out: &mut W, block: &mut Block, bytes: &[u8]) -> Result<(), Io>
     ensures { Gathers W.written W.failures out.old out.new block.old block.new bytes.now result }
 {
+    if bytes.len() >= LARGE {
+        hand_on(out, block)?;
+        return write_all(out, bytes);
+    }
     let mut at = block.append(bytes);
     while at < bytes.len() {
         hand_on(out, block)?;

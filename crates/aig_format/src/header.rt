@@ -136,7 +136,8 @@ fn line_end<S: Source>(s: &mut S, over: bool) -> Result<(), TokenFault>
 
 #[tactic(auto, unfolding(crate::specs::state::ReadingSections::tail_at))]
 fn last_counts<S: Source>(s: &mut S) -> Result<Tail, TokenFault>
-    ensures reads { Reads S.Source s.old s.new (λ t. t.bad ∷ t.constraints ∷ t.justice ∷ t.fairness ∷ []) (of_token result) (tail_at 4 false) }
+    ensures reads { Reads S.Source s.old s.new (λ t. t.bad ∷ t.constraints ∷ t.justice ∷ t.fairness ∷ [])
+        (of_token result) (tail_at 4 false) }
     ensures within { IfOk result (λ t. (t.bad ≤ limit) × (t.constraints ≤ limit) × (t.justice ≤ limit)
         × (t.fairness ≤ limit)) }
 {

@@ -62,7 +62,8 @@ pub(crate) fn put_header<W: Write>(
     format: Format,
     counts: &Counts,
 ) -> Result<(), Io>
-    ensures { Gathers W.written W.failures out.old out.new block.old block.new (header_line format 0 counts.now) result }
+    ensures { Gathers W.written W.failures out.old out.new block.old block.new
+        (header_line format 0 counts.now) result }
 {
     put_word(out, block, format)?;
     put_field(out, block, counts.max_var, b' ')?;

@@ -172,7 +172,8 @@ fn symbols<S: Source>(
     counts: &Counts,
     all: &mut SymbolList,
 ) -> Result<bool, Fault>
-    ensures reads { Reads S.Source s.old s.new (λ comment. (all.new, comment)) result (λ bytes. symbols_at counts.now (length bytes) all.old bytes) }
+    ensures reads { Reads S.Source s.old s.new (λ comment. (all.new, comment)) result
+        (λ bytes. symbols_at counts.now (length bytes) all.old bytes) }
     ensures symbols { AreSymbols counts.now all.old → OnOk result (AreSymbols counts.now all.new) }
 {
     let mut name = Vec::new(alloc);

@@ -1,6 +1,7 @@
 //! The tokens: single bytes and numbers.
 ghost use Rattle.std.specs.Prelude.{◌≡◌, ℕ, ◌+◌, ◌<◌, ◌≤◌, ◌^◌, List, IfOk, IfSome};
-ghost use Rattle.aig_format.specs.state.Reading.{digit_at, is_next_at, byte_at, digits_at, number_at, field_at, more_at};
+ghost use Rattle.aig_format.specs.state.Reading.{digit_at, is_next_at, byte_at, digits_at};
+ghost use Rattle.aig_format.specs.state.Reading.{number_at, field_at, more_at};
 ghost use Rattle.aig_format.specs.state.Reading.{optional_at};
 ghost use Rattle.aig_format.specs.state.Reads.{ReadsToken};
 

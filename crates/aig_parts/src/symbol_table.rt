@@ -1,5 +1,6 @@
 //! Entries of a circuit that have a name, with the places of their names.
-ghost use Rattle.std.specs.Prelude.{◌≡◌, ◌≢◌, ◌∷◌, ◌++◌, ◌≤◌, ◌<◌, ◌↔◌, ℕ, [], length, take, drop, All, AllPairs, Contains};
+ghost use Rattle.std.specs.Prelude.{◌≡◌, ◌≢◌, ◌∷◌, ◌++◌, ◌≤◌, ◌<◌, ◌↔◌, ℕ};
+ghost use Rattle.std.specs.Prelude.{[], length, take, drop, All, AllPairs, Contains};
 ghost use Rattle.std.specs.Prelude.{IsTrue, IfOk, IfSome, IfNone, OnOk, OnErr};
 ghost use Rattle.std.specs.Map.{keys_of};
 ghost use Rattle.aig_parts.specs.state.SymbolTable.{number_of, Ascend};

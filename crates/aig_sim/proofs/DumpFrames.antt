@@ -14,10 +14,10 @@ use Rattle.aig_base.proofs.circuits.Circuits.{input_defined, latch_defined, outp
 use Rattle.aig_base.proofs.lists.Positions.{Contains-from_slice_get}
 use Rattle.aig_sim.specs.Dump.{signals, changed_lines, first_text, next_text, IsFrame, AreFrames}
 use Rattle.aig_sim.specs.state.Dumping.{number_line, dumped_text, characters_of, AreLast, AreDumped}
-use Rattle.aig_sim.specs.state.Frame.{HoldsAll}
-use Rattle.aig_sim.specs.Trace.{AreValues}
+use Rattle.aig_values.specs.state.Frame.{HoldsAll}
+use Rattle.aig_values.specs.Trace.{AreValues}
 use Rattle.aig_sim.proofs.DumpLemmas.{changed_first, later_frame}
-use Rattle.aig_sim.proofs.TraceLemmas.{values_stay, values_text}
+use Rattle.aig_values.proofs.TraceLemmas.{values_stay, values_text}
 use Rattle.aig_sim.proofs.VerdictLemmas.{bad_defined, constraint_defined, bad_in_range, constraint_in_range}
 
 -- ---- signals
@@ -52,22 +52,6 @@ signals_in_range raw sound =
     all_signals (λ l. variable l ≤ raw.max_var) raw (λ i l at. input_in_range raw sound i l at)
     (λ i x at. latch_in_range raw sound i x at) (λ i l at. output_in_range raw sound i l at)
     (λ i l at. bad_in_range raw sound i l at) (λ i l at. constraint_in_range raw sound i l at)
-
-pub few_signals : (raw : Raw) → CountsFit raw → length (signals raw) < 4294967296
-few_signals raw fit =
-    omega (
-      arith,
-      fit.inputs,
-      fit.latches,
-      fit.outputs,
-      fit.bad,
-      fit.constraints,
-      length-append raw.inputs (map (λ (x : Latch). x.lit) raw.latches ++ (raw.outputs ++ (raw.bad ++ raw.constraints))),
-      length-append (map (λ (x : Latch). x.lit) raw.latches) (raw.outputs ++ (raw.bad ++ raw.constraints)),
-      length-append raw.outputs (raw.bad ++ raw.constraints),
-      length-append raw.bad raw.constraints,
-      length-map raw.latches (λ (x : Latch). x.lit),
-    )
 
 -- the characters of a frame by its cells
 pub signals_text : (raw : Raw) (start : List Tern) (rows : List (List Tern)) (t : ℕ) (cells : List Tern) → IsSound raw

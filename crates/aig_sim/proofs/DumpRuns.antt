@@ -10,8 +10,9 @@ use Rattle.aig_parts.specs.declared.raw.Raw.{Raw}
 use Rattle.aig_base.specs.Sound.{IsSound}
 use Rattle.aig_base.specs.Value.{Value}
 use Rattle.aig_base.proofs.values.UniqueValue.{unique}
-use Rattle.aig_sim.specs.StimulusText.{character, IsCharacter}
-use Rattle.aig_sim.specs.Trace.{AreValues}
+use Rattle.aig_values.specs.Characters.{character}
+use Rattle.aig_sim.specs.StimulusText.{IsCharacter}
+use Rattle.aig_values.specs.Trace.{AreValues}
 use Rattle.aig_sim.specs.Dump.{signals, first_text, next_text, AreFrames, closing, IsDump}
 use Rattle.aig_sim.specs.DumpHeader.{header}
 use Rattle.aig_sim.specs.DumpNames.{identifier_code}

@@ -16,7 +16,8 @@ use Rattle.aig_sim.specs.declared.stimulus_fault.StimFault.{StimFault}
 use Rattle.aig_sim.specs.declared.stimulus_fault.StimFault.TheVariants as fault
 use Rattle.aig_sim.specs.declared.line_in_hand.Shape.{Shape}
 use Rattle.aig_sim.specs.declared.line_in_hand.Shape.TheVariants.{Row, Long, Wrong}
-use Rattle.aig_sim.specs.StimulusText.{character, row_line, line_number, IsCharacter, EndsLine, HasFault, HasFaultyLine, SpellsRows}
+use Rattle.aig_values.specs.Characters.{character}
+use Rattle.aig_sim.specs.StimulusText.{row_line, line_number, IsCharacter, EndsLine, HasFault, HasFaultyLine, SpellsRows}
 use Rattle.aig_sim.specs.LineInHand.{Keeps, HasRead}
 
 pub IsCharacter-of_value : (w : Tern) → IsCharacter (character w)
@@ -134,20 +135,6 @@ read_none width = record {
   no_end = All-nil (λ b. b ≢ 10);
   text_is = refl;
   keeps = record { kept = (refl, omega arith) };
-}
-
--- one byte more of a line
-pub read_byte : {width : ℕ} {text : List ℕ} {rows : List (List Tern)} {shape : Shape} {values : List Tern}
-    (shape' : Shape) (values' : List Tern) (b : ℕ)
-    → HasRead width text rows shape values → b ≢ 10
-    → ((line : List ℕ) → Keeps width line shape values → Keeps width (line ++ b ∷ []) shape' values')
-    → HasRead width (text ++ b ∷ []) rows shape' values'
-read_byte {rows} shape' values' b h ne step = record {
-  widths = h.widths;
-  line = h.line ++ b ∷ [];
-  no_end = All-push (λ b. b ≢ 10) h.line b h.no_end ne;
-  text_is = ap (λ (t : List ℕ). t ++ b ∷ []) h.text_is ∙ append_assoc (flat_map row_line rows) h.line (b ∷ []);
-  keeps = step h.line h.keeps;
 }
 
 -- a piece more of a line
@@ -285,13 +272,6 @@ read_same {width} {text'} {rows} {rows'} {shape} {shape'} {values} {values'} h t
 pub fault_same : {T E : Type 0} (r : Result T E) (e : E) (P : E → Type 0) → IsErrAnd r (λ y. y ≡ e) → P e → IfErr r P
 fault_same (Ok x) e P h p = tt
 fault_same (Err y) e P h p = subst P (sym h) p
-
--- the same width, by another name
-pub step_same : {n m : ℕ} (s s' : Shape) (v v' : List Tern) (b : ℕ) → n ≡ m
-    → ((line : List ℕ) → Keeps n line s v → Keeps n (line ++ b ∷ []) s' v')
-    → (line : List ℕ) → Keeps m line s v → Keeps m (line ++ b ∷ []) s' v'
-step_same s s' v v' b e =
-    subst (λ (w : ℕ). (line : List ℕ) → Keeps w line s v → Keeps w (line ++ b ∷ []) s' v') e
 
 -- a fault that is handed on
 pub handed_on : (P : Result ℕ StimFault → Type 0) (r : Result ℕ StimFault) (e : StimFault) → IsErrAnd r (λ f. f ≡ e)

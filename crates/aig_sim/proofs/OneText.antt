@@ -8,7 +8,9 @@ use Rattle.aig_parts.specs.declared.ternary.Tern.TheVariants.{Zero, One, X}
 use Rattle.aig_sim.specs.declared.stimulus_fault.StimFault.{StimFault}
 use Rattle.aig_sim.specs.declared.stimulus_fault.StimFault.TheVariants as fault
 use Rattle.aig_sim.specs.state.Checking.{BeginsWithRow}
-use Rattle.aig_sim.specs.StimulusText.{character, row_line, IsCharacter, HaveWidth, EndsLine, HasFault, HasFaultyLine, SpellsRows}
+use Rattle.aig_values.specs.Characters.{character}
+use Rattle.aig_values.specs.InputRows.{HaveWidth}
+use Rattle.aig_sim.specs.StimulusText.{row_line, IsCharacter, EndsLine, HasFault, HasFaultyLine, SpellsRows}
 use Rattle.aig_sim.proofs.LineLemmas.{characters, no_end_in_character}
 
 -- a line that LF ends begins with the bytes of no other

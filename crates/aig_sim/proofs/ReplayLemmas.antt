@@ -19,16 +19,16 @@ use Rattle.aig_bytes.specs.Flow.{flow}
 use Rattle.aig_sim.specs.Replayed.{TellsRun, Replays}
 use Rattle.aig_sim.specs.state.Dumping.{AreDumped, ending}
 use Rattle.aig_sim.specs.state.Checking.{ArePartsOf}
-use Rattle.aig_sim.specs.state.Frame.{HoldsAll, AreStates}
+use Rattle.aig_values.specs.state.Frame.{HoldsAll, AreStates}
 use Rattle.aig_sim.specs.state.Machine.{Steps}
 use Rattle.aig_sim.specs.state.Replaying.{BeginsRun, NoneTold, HasReplayed, WritesFrames, WritesRun}
 use Rattle.aig_sim.specs.state.Running.{Telling, Recorded}
-use Rattle.aig_sim.specs.StimulusText.{character}
-use Rattle.aig_sim.specs.Trace.{IsTrace}
+use Rattle.aig_values.specs.Characters.{character}
+use Rattle.aig_values.specs.Trace.{IsTrace}
 use Rattle.aig_sim.specs.WitnessText.{Witness, SpellsWitness, IsAdmitted, HasWitnessFault, rows_text}
 use Rattle.aig_sim.proofs.DumpedLemmas.{ending_is}
 use Rattle.aig_sim.proofs.RunTexts.{trace_goes_on, dump_goes_on}
-use Rattle.aig_sim.proofs.TraceLemmas.{first_states}
+use Rattle.aig_values.proofs.TraceLemmas.{first_states}
 use Rattle.aig_sim.proofs.VerdictLemmas.{row_was_read}
 
 module _ {T : Type 0} {is_text : Telling} {recorded : Recorded T} {raw : Raw} {w : Witness} where
@@ -120,20 +120,6 @@ module _ {T : Type 0} {is_text : Telling} {recorded : Recorded T} {raw : Raw} {w
           whole = tt;
         }
     replay_stops {s = Ok x} a b c d k is = absurd (false≢true is)
-
-  -- behind the last frame
-  pub replay_ends : {X E : Type 0} {of_written : X → Option (List ℕ)} {of_failures : X → ℕ} {old new : X} {x : Unit {0}}
-      {t : ℕ} {rest : List ℕ} {states : List Tern} {recorder : T}
-      → HasReplayed is_text recorded raw w t rest states recorder (of_written old) (of_failures old) (of_written new) (of_failures new)
-      → t ≡ length w.rows → WritesFrames {E = E} is_text raw w of_written of_failures old new (Ok x)
-  replay_ends {t} h e = record {
-    frames = t;
-    few = omega (arith, e);
-    told = h.told;
-    told_is = h.told_is;
-    writes = record { ok = h.wrote; err = tt; count = omega (arith, h.no_failure) };
-    whole = e;
-  }
 
 -- a text of the first frames, of which a beginning was written, goes on to one of all frames
 pub run_written : {X E : Type 0} {is_text : Telling} {raw : Raw} {w : Witness} {written : X → Option (List ℕ)} {failures : X → ℕ}

@@ -16,15 +16,15 @@ use Rattle.aig_sim.specs.declared.line_in_hand.Shape.{Shape}
 use Rattle.aig_sim.specs.declared.line_in_hand.Shape.TheVariants.{Row}
 use Rattle.aig_sim.specs.declared.stimulus_fault.StimFault.{StimFault}
 use Rattle.aig_sim.specs.declared.stimulus_fault.StimFault.TheVariants as fault
-use Rattle.aig_sim.specs.state.Frame.{HoldsAll, AreStates}
+use Rattle.aig_values.specs.state.Frame.{HoldsAll, AreStates}
 use Rattle.aig_sim.specs.LineInHand.{Keeps, HasRead, IsOfLine}
 use Rattle.aig_sim.specs.state.Machine.{Machine, Steps}
 use Rattle.aig_sim.specs.state.Running.{Telling, Recorded, Starts, Running, StopsBy, Stopped, GoesOn, Stops, ReadSoFar, Streamed}
 use Rattle.aig_sim.specs.Simulated.{Streams, Simulates}
 use Rattle.aig_sim.specs.StimulusText.{row_line, line_number, EndsLine, HasFault, HasFaultyLine}
-use Rattle.aig_sim.specs.Trace.{IsTrace}
+use Rattle.aig_values.specs.Trace.{IsTrace}
 use Rattle.aig_sim.proofs.LineLemmas.{read_none, read_piece, read_line, read_fault, read_unfinished, read_end, fault_same}
-use Rattle.aig_sim.proofs.TraceLemmas.{first_states}
+use Rattle.aig_values.proofs.TraceLemmas.{first_states}
 
 -- ---- reads
 pub before_nil : (w : Option (List ℕ)) → before [] w ≡ w
@@ -92,11 +92,6 @@ module _ {T : Type 0} {is_text : Telling} {recorded : Recorded T} where
     wrote = r.wrote;
     no_failure = r.no_failure;
   }
-
-  pub nothing_goes_on : (s : Simulation T) (written : Option (List ℕ)) (failures : ℕ)
-      → GoesOn is_text recorded [] s s written written failures failures
-  nothing_goes_on s written failures raw start count text r =
-      subst (λ (t : List ℕ). Running is_text recorded raw start count t s written failures) (sym (append-nil text)) r
 
   pub goes_on_then : (a b : List ℕ) (s mid s' : Simulation T) (w x y : Option (List ℕ)) (f g h : ℕ)
       → GoesOn is_text recorded a s mid w x f g → GoesOn is_text recorded b mid s' x y g h → GoesOn is_text recorded (a ++ b) s s' w y f h

@@ -9,7 +9,9 @@ use Rattle.aig_parts.specs.declared.ternary.Tern.TheVariants.{Zero, One, X}
 use Rattle.aig_parts.specs.declared.raw.Raw.{Raw}
 use Rattle.aig_sim.specs.declared.witness_text.WitnessParts.{WitnessParts}
 use Rattle.aig_sim.specs.state.Checking.{BeginsWithRow, SpellsFrames, ArePartsOf}
-use Rattle.aig_sim.specs.StimulusText.{character, row_line, IsCharacter, HaveWidth}
+use Rattle.aig_values.specs.Characters.{character}
+use Rattle.aig_values.specs.InputRows.{HaveWidth}
+use Rattle.aig_sim.specs.StimulusText.{row_line, IsCharacter}
 use Rattle.aig_sim.specs.WitnessText.{Witness, SpellsWitness, IsDecimal, rows_text}
 use Rattle.std.proofs.lemmas.Bool.{cases_eq}
 use Rattle.std.proofs.lemmas.Bool.Decides.{Decides-eqb}
@@ -46,10 +48,6 @@ front (y ∷ a) rest = ap (λ (t : List ℕ). y ∷ t) (front a rest)
 
 row_length : (row : List Tern) → length (map character row) ≡ length row
 row_length row = length-map row character
-
-pub row_is_short : (width : ℕ) (text : List ℕ) → length text ≤ width → BeginsWithRow width text → ⊥
-row_is_short width text le (row, rest, len, is) =
-    omega (arith, le, len, ap length is ∙ length-append (map character row) (10 ∷ rest), row_length row)
 
 pub row_is_ended : (width : ℕ) (text : List ℕ) → BeginsWithRow width text → get_or text width 0 ≡ 10
 row_is_ended width text (row, rest, len, is) =
@@ -119,12 +117,6 @@ number_more xs (suc i) d p p' lt is low alone start before e =
       omega (arith, e, at),
       λ ne. omega (arith, some),
     )
-
--- all digits of a text
-pub number_all : (xs : List ℕ) (i p : ℕ) → length xs ≤ i
-    → (n : ℕ) × IsDecimal (take i xs) n × (p ≡ min n 4194304) × (get_or xs 0 0 ≢ 48 → 0 < n)
-    → (n : ℕ) × IsDecimal xs n × (p ≡ min n 4194304)
-number_all xs i p le (n, h, e, pos) = (n, subst (λ (t : List ℕ). IsDecimal t n) (take_all i xs le) h, e)
 
 -- ---- rows
 

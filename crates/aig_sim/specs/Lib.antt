@@ -1,17 +1,12 @@
-pub mod Cells
 pub mod Dump
 pub mod DumpHeader
 pub mod DumpNames
 pub mod DumpRead
 pub mod Dumped
-pub mod GateOrder
-pub mod InputRows
 pub mod LineInHand
 pub mod Replayed
 pub mod Simulated
 pub mod StimulusText
-pub mod Trace
-pub mod TraceText
 pub mod Verdict
 pub mod WitnessText
 pub mod state

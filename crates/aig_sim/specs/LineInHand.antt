@@ -6,7 +6,9 @@ use Rattle.aig_sim.specs.declared.stimulus_fault.StimFault.{StimFault}
 use Rattle.aig_sim.specs.declared.stimulus_fault.StimFault.TheVariants as fault
 use Rattle.aig_sim.specs.declared.line_in_hand.Shape.{Shape}
 use Rattle.aig_sim.specs.declared.line_in_hand.Shape.TheVariants.{Row, Long, Wrong}
-use Rattle.aig_sim.specs.StimulusText.{character, row_line, HaveWidth, IsCharacter}
+use Rattle.aig_values.specs.Characters.{character}
+use Rattle.aig_values.specs.InputRows.{HaveWidth}
+use Rattle.aig_sim.specs.StimulusText.{row_line, IsCharacter}
 
 -- the wanted length, the values while the line can still be a row, and for how many there is room
 pub record LineInHand : Type 0 where

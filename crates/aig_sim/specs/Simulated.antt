@@ -7,8 +7,9 @@ use Rattle.aig_bytes.specs.Bytes.{before, after, IsAtEnd, IsBeginning}
 use Rattle.aig_base.specs.Value.{start_of}
 use Rattle.aig_sim.specs.declared.stimulus_fault.StimFault.{StimFault}
 use Rattle.aig_sim.specs.declared.stimulus_fault.StimFault.TheVariants as fault
-use Rattle.aig_sim.specs.StimulusText.{HaveWidth, row_line, SpellsRows, HasFaultyLine, HoldsRows}
-use Rattle.aig_sim.specs.Trace.{IsTrace}
+use Rattle.aig_values.specs.InputRows.{HaveWidth}
+use Rattle.aig_sim.specs.StimulusText.{row_line, SpellsRows, HasFaultyLine, HoldsRows}
+use Rattle.aig_values.specs.Trace.{IsTrace}
 
 -- what the reader has left, and how many reads and writes failed
 pub record Streams : Type 0 where

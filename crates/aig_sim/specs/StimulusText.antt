@@ -2,22 +2,14 @@
 use Rattle.std.specs.Prelude.{◌≡◌, ◌≢◌, ◌⊎◌, ℕ, ◌+◌, ◌-◌, ◌^◌, min, List, [], ◌∷◌, ◌++◌, length, map, All}
 use Rattle.std.specs.List.{flat_map}
 use Rattle.aig_parts.specs.declared.ternary.Tern.{Tern}
-use Rattle.aig_parts.specs.declared.ternary.Tern.TheVariants.{Zero, One, X}
 use Rattle.aig_sim.specs.declared.stimulus_fault.StimFault.{StimFault}
 use Rattle.aig_sim.specs.declared.stimulus_fault.StimFault.TheVariants as fault
 use Rattle.aig_base.specs.Limits.{frame_limit}
-
--- `0`, `1` or `x`
-abbrev pub character : Tern → ℕ
-character Zero = 48
-character One = 49
-character X = 120
+use Rattle.aig_values.specs.Characters.{character}
+use Rattle.aig_values.specs.InputRows.{HaveWidth}
 
 abbrev pub row_line : List Tern → List ℕ
 row_line row = map character row ++ 10 ∷ []
-
-abbrev pub HaveWidth : ℕ → List (List Tern) → Type 0
-HaveWidth width rows = All (λ row. length row ≡ width) rows
 
 -- the text is these rows, a line each
 pub record SpellsRows (width : ℕ) (text : List ℕ) (rows : List (List Tern)) : Type 0 where

@@ -7,8 +7,8 @@ ghost use Rattle.aig_sim.specs.DumpHeader.{signal_line, signal_lines, scope, sco
 ghost use Rattle.aig_sim.specs.DumpNames.{letter, name_byte, without_dollar, name_of};
 
 use crate::dump_text::{put_code, put_number};
-use crate::trace_block::TraceBlock;
 use aig_base::{Circuit, Io, Kind, Write};
+use aig_values::trace_block::TraceBlock;
 
 /// A section of a circuit as a scope: its name there, what its signals are, the number of the first, and how many there
 /// are.
@@ -105,7 +105,8 @@ fn put_signal<W: Write>(
     requires shape { length section.now.shape.now ≤ 4096 }
     requires few { section.now.first + position < 2 ^ 32 }
     ensures { Gathers W.written W.failures out.old out.new block.old block.new
-        (signal_line section.now.shape.now (section.now.first + position) (name_of circuit.now section.now.kind position)) result }
+        (signal_line section.now.shape.now (section.now.first + position)
+        (name_of circuit.now section.now.kind position)) result }
 {
     block.put_all(out, b"$var ")?;
     block.put_all(out, section.shape)?;
@@ -145,7 +146,8 @@ fn put_scope<W: Write>(
     requires shape { length section.now.shape.now ≤ 4096 }
     requires few { section.now.first + section.now.count < 2 ^ 32 }
     ensures { Gathers W.written W.failures out.old out.new block.old block.new
-        (scope circuit.now section.now.kind section.now.name.now section.now.shape.now section.now.first section.now.count) result }
+        (scope circuit.now section.now.kind section.now.name.now section.now.shape.now section.now.first
+        section.now.count) result }
 {
     if section.count == 0 {
         return Ok(());

@@ -5,9 +5,9 @@ ghost use Rattle.aig_sim.specs.Dump.{signals};
 use crate::dump_text::write_frame;
 use crate::machine::Machine;
 use crate::recorder::Recorder;
-use crate::trace_block::TraceBlock;
-use crate::trace_line::spell_literals;
 use aig_base::{Circuit, Io, Latch, Lit, Memory, Write};
+use aig_values::trace_block::TraceBlock;
+use aig_values::trace_line::spell_literals;
 use std::alloc::Global;
 
 /// Writes the values that change from frame to frame: a literal a signal, and its characters at the last frame and at

@@ -6,8 +6,8 @@ ghost use Rattle.aig_sim.specs.Dump.{value_line, changed_lines};
 ghost use Rattle.aig_sim.specs.DumpNames.{identifier_code};
 ghost use Rattle.aig_sim.specs.state.Dumping.{number_line, dumped_text};
 
-use crate::trace_block::TraceBlock;
 use aig_base::{Io, Write};
+use aig_values::trace_block::TraceBlock;
 use itoa::Buffer;
 
 /// How many bytes serve as digits of identifier codes, from `!` to `~`.

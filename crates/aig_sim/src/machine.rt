@@ -2,17 +2,18 @@
 ghost use Rattle.std.specs.Prelude.{◌≡◌, ◌+◌, ◌≤◌, List, length, map, unwrap_or, IfOk, IfSome};
 ghost use Rattle.aig_parts.specs.declared.ternary.Tern.{Tern};
 ghost use Rattle.aig_base.specs.Circuit.{IsCircuit};
-ghost use Rattle.aig_base.specs.Value.{reset_value, start_of};
-ghost use Rattle.aig_sim.specs.state.Frame.{AreStates};
-ghost use Rattle.aig_sim.specs.GateOrder.{IsGateOrder};
+ghost use Rattle.aig_base.specs.Value.{start_of};
+ghost use Rattle.aig_values.specs.state.Frame.{AreStates};
+ghost use Rattle.aig_values.specs.GateOrder.{IsGateOrder};
 ghost use Rattle.aig_sim.specs.state.Machine.{Steps};
-ghost use Rattle.aig_sim.specs.state.Neighbours.{AreNeighbours};
+ghost use Rattle.aig_values.specs.state.Neighbours.{AreNeighbours};
 
-use crate::code::{Code, character_in, spell_in};
 use crate::frame_cells::{evaluate_row, renew_states};
-use crate::gate_order::reordered;
-use crate::row::{Row, first_of_neighbours};
-use aig_base::{Circuit, Gate, Latch, List, Lit, Memory, Tern};
+use aig_base::{Circuit, Gate, List, Lit, Memory, Tern};
+use aig_values::code::{Code, character_in, spell_in};
+use aig_values::first_value;
+use aig_values::gate_order::reordered;
+use aig_values::row::{Row, first_of_neighbours};
 use std::alloc::Global;
 use std::marker::Model;
 
@@ -32,9 +33,9 @@ pub struct Machine<'a> {
 impl<'a> Model for Machine<'a> {
     ghost use Rattle.std.specs.Prelude.{◌≡◌, ◌+◌, length, unwrap_or, vec_len, IfSome};
     ghost use Rattle.aig_base.specs.Circuit.{IsCircuit};
-    ghost use Rattle.aig_sim.specs.GateOrder.{IsGateOrder};
+    ghost use Rattle.aig_values.specs.GateOrder.{IsGateOrder};
     ghost use Rattle.aig_sim.specs.state.Machine.{Machine};
-    ghost use Rattle.aig_sim.specs.state.Neighbours.{AreNeighbours};
+    ghost use Rattle.aig_values.specs.state.Neighbours.{AreNeighbours};
 
     ghost Value = { Machine };
 
@@ -43,17 +44,6 @@ impl<'a> Model for Machine<'a> {
     ghost invariant = { λ m. IsCircuit m.circuit.now × IsGateOrder m.circuit.now (unwrap_or m.order m.circuit.now.gates)
         × (vec_len m.cells ≡ m.circuit.now.max_var + 1) × (vec_len m.states ≡ length m.circuit.now.latches)
         × IfSome m.first (λ v. AreNeighbours v m.circuit.now.inputs) };
-}
-
-/// The value that a latch begins with by its reset; an uninitialised one begins with x (AIGER 1.9, resets).
-pub fn first_value(latch: Latch) -> Tern
-    ensures { result ≡ reset_value latch.reset }
-{
-    match latch.reset.value() {
-        0 => Tern::Zero,
-        1 => Tern::One,
-        _ => Tern::X,
-    }
 }
 
 /// The values that the latches begin with by their resets.

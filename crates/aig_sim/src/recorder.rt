@@ -3,12 +3,12 @@ ghost use Rattle.std.specs.Prelude.{◌≡◌, ℕ, ◌-◌, ◌^◌, min, List,
 ghost use Rattle.aig_parts.specs.declared.ternary.Tern.{Tern};
 ghost use Rattle.aig_parts.specs.declared.raw.Raw.{Raw};
 ghost use Rattle.aig_bytes.specs.Bytes.{Writes};
-ghost use Rattle.aig_sim.specs.state.Frame.{HoldsAll};
+ghost use Rattle.aig_values.specs.state.Frame.{HoldsAll};
 
 use crate::machine::Machine;
-use crate::trace_block::TraceBlock;
-use crate::trace_line::write_line;
 use aig_base::{Io, Write};
+use aig_values::trace_block::TraceBlock;
+use aig_values::trace_line::write_line;
 
 /// Writes what is told of each frame.
 pub trait Recorder {
@@ -60,8 +60,8 @@ impl TraceRecorder {
 }
 
 impl Recorder for TraceRecorder {
-    ghost use Rattle.aig_sim.specs.Trace.{IsTrace};
-    ghost use Rattle.aig_sim.specs.TraceText.{line_text};
+    ghost use Rattle.aig_values.specs.Trace.{IsTrace};
+    ghost use Rattle.aig_values.specs.TraceText.{line_text};
 
     ghost is_text = { λ raw start rows text. IsTrace raw start rows text };
 

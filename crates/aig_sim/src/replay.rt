@@ -5,7 +5,7 @@ ghost use Rattle.aig_parts.specs.declared.ternary.Tern.{Tern};
 ghost use Rattle.aig_sim.specs.Dump.{signals, IsDump};
 ghost use Rattle.aig_bytes.specs.Flow.{flow};
 ghost use Rattle.aig_sim.specs.Replayed.{Replays};
-ghost use Rattle.aig_sim.specs.Trace.{IsTrace};
+ghost use Rattle.aig_values.specs.Trace.{IsTrace};
 ghost use Rattle.aig_sim.specs.WitnessText.{Witness};
 ghost use Rattle.aig_sim.specs.state.Replaying.{BeginsRun, NoneTold, WritesFrames, WritesRun};
 

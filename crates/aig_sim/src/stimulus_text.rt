@@ -7,8 +7,8 @@ ghost use Rattle.aig_sim.specs.declared.line_in_hand.Shape.TheVariants as shapes
 ghost use Rattle.aig_sim.specs.StimulusText.{EndsLine, SpellsRows, HasFault, HasFaultyLine};
 
 use crate::line_in_hand::{LineInHand, line_length};
-use crate::stimulus::{FRAMES, Stimulus};
 use crate::stimulus_fault::StimFault;
+use aig_values::{FRAMES, Stimulus};
 use std::alloc::Global;
 
 // Adds the row that the line in hand is.

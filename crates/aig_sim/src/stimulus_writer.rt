@@ -2,12 +2,13 @@
 ghost use Rattle.std.specs.Prelude.{◌≡◌, length, map, flat_map};
 ghost use Rattle.aig_bytes.specs.Bytes.{Writes};
 ghost use Rattle.aig_bytes.specs.state.Gathered.{Gathers};
-ghost use Rattle.aig_sim.specs.StimulusText.{character, row_line, SpellsRows};
+ghost use Rattle.aig_values.specs.Characters.{character};
+ghost use Rattle.aig_sim.specs.StimulusText.{row_line, SpellsRows};
 
-use crate::code::Code;
-use crate::stimulus::Stimulus;
-use crate::trace_block::TraceBlock;
 use aig_base::{Io, Tern, Write};
+use aig_values::Stimulus;
+use aig_values::code::Code;
+use aig_values::trace_block::TraceBlock;
 
 /// How many characters are put at a time.
 const PIECE: usize = 256;

@@ -1,9 +1,10 @@
 //! Bytes in and out.
 use crate::fakes::{Marked, OneByte, Plain, Short, Stuck};
+use crate::parts::writes;
 use aig_bytes::{
     Block, Buffered, Failed, Io, MemReader, MemWriter, Read, Std, Write, write_all, write_number,
 };
-use std::test::Fail;
+use std::alloc::Global;
 
 // A reader of memory gives all bytes in order, as many as there is room for, and then none.
 #[test]
@@ -53,18 +54,17 @@ fn blocks(rt: HostRuntime) {
     assert!(rt; right);
 }
 
+fn takes_three(out: &mut MemWriter) -> bool {
+    out.write(b"ab") == Ok(2)
+        && out.write(b"cd") == Ok(1)
+        && out.write(b"") == Ok(0)
+        && out.write(b"d") == Err(Failed)
+}
+
 // A writer of memory takes what there is room for, and then fails.
 #[test]
-fn writes_until_full(rt: HostRuntime) -> Result<(), Fail> {
-    let mut right = true;
-    let mut out = MemWriter::new(rt.alloc(), 3)?;
-    right &= out.write(b"ab") == Ok(2);
-    right &= out.write(b"cd") == Ok(1);
-    right &= out.write(b"") == Ok(0);
-    right &= out.write(b"d") == Err(Failed);
-    right &= out.bytes() == b"abc".as_slice();
-    assert!(rt; right);
-    Ok(())
+fn writes_until_full(rt: HostRuntime) {
+    assert!(rt; writes(rt.alloc(), 3, b"abc", takes_three));
 }
 
 static TEXTS: [(u32, &[u8]); 4] = [
@@ -74,48 +74,64 @@ static TEXTS: [(u32, &[u8]); 4] = [
     (4_294_967_295, b"text 4294967295"),
 ];
 
+// Whether a beginning is written at once, and the call fails where something is missing.
+fn begins(alloc: Global, room: usize, number: u32, text: &[u8]) -> bool {
+    writes(alloc, room, text.get(..room).unwrap_or(text), |out| {
+        let done = write_all(out, b"text ").is_ok() && write_number(out, number).is_ok();
+        done == (room >= text.len())
+    })
+}
+
+// And so byte by byte.
+fn begins_slowly(alloc: Global, room: usize, text: &[u8]) -> bool {
+    match MemWriter::new(alloc, room) {
+        Ok(inner) => {
+            let mut slow = OneByte { inner };
+            let done = write_all(&mut slow, text).is_ok();
+            (done == (room >= text.len()))
+                & (slow.inner.bytes() == text.get(..room).unwrap_or(text))
+        }
+        Err(_) => false,
+    }
+}
+
 // With each room what is written is a beginning, and the call fails where something is missing.
 #[test]
-fn writes_a_beginning(rt: HostRuntime) -> Result<(), Fail> {
+fn writes_a_beginning(rt: HostRuntime) {
     let mut right = true;
     for &(number, text) in &TEXTS {
         for room in 0..17usize {
-            let mut out = MemWriter::new(rt.alloc(), room)?;
-            let done = write_all(&mut out, b"text ").is_ok()
-                && write_number(&mut out, number).is_ok();
-            right &= done == (room >= text.len());
-            right &= out.bytes() == text.get(..room).unwrap_or(text);
-
-            let mut slow = OneByte {
-                inner: MemWriter::new(rt.alloc(), room)?,
-            };
-            let done = write_all(&mut slow, text);
-            right &= done.is_ok() == (room >= text.len());
-            right &= slow.inner.bytes() == text.get(..room).unwrap_or(text);
+            right &= begins(rt.alloc(), room, number, text) & begins_slowly(rt.alloc(), room, text);
         }
     }
     assert!(rt; right);
-    Ok(())
+}
+
+fn is_stuck() -> bool {
+    let mut out = Std::new(Stuck);
+    out.write(b"") == Ok(0)
+        && out.write(b"a") == Err(Failed)
+        && write_all(&mut out, b"a") == Err(Io)
+}
+
+fn takes_two(short: &mut Short) -> bool {
+    let mut out = Std::new(short);
+    out.write(b"abc") == Ok(2)
+        && write_all(&mut out, b"cde") == Ok(())
+        && out.flush() == Err(Failed)
+}
+
+fn is_short(alloc: Global) -> bool {
+    let mut short = Short {
+        bytes: Vec::new(alloc),
+    };
+    takes_two(&mut short) & (short.bytes.as_slice() == b"abcde".as_slice())
 }
 
 // A writer of std that takes no byte fails; one that takes few gets them all in turn, and its failing flush is told.
 #[test]
-fn writers_of_the_system(rt: HostRuntime) -> Result<(), Fail> {
-    let mut right = true;
-    let mut out = Std::new(Stuck);
-    right &= out.write(b"") == Ok(0);
-    right &= out.write(b"a") == Err(Failed);
-    right &= write_all(&mut out, b"a") == Err(Io);
-
-    let mut short = Short {
-        bytes: Vec::new(rt.alloc()),
-    };
-    let mut out = Std::new(&mut short);
-    right &= out.write(b"abc") == Ok(2);
-    right &= write_all(&mut out, b"cde") == Ok(());
-    right &= out.flush() == Err(Failed);
-    assert!(rt; right && short.bytes.as_slice() == b"abcde".as_slice());
-    Ok(())
+fn writers_of_the_system(rt: HostRuntime) {
+    assert!(rt; is_stuck() && is_short(rt.alloc()));
 }
 
 // A reader of std gives its bytes, and then none.
@@ -140,51 +156,67 @@ fn flushes_twice<W: Write>(out: &mut W) -> bool {
         && write_all(out, b"e").is_ok()
 }
 
-// A flush of a buffer hands on what is held, and then flushes the writer below.
-#[test]
-fn a_flush_goes_through(rt: HostRuntime) {
+fn is_marked(alloc: Global) -> bool {
     let mut below = Marked {
-        bytes: Vec::new(rt.alloc()),
+        bytes: Vec::new(alloc),
     };
     let mut out = Buffered::new(Std::new(&mut below));
     let flushed = flushes_twice(&mut out);
-    assert!(rt; flushed && below.bytes.as_slice() == b"abc|d|".as_slice());
+    flushed & (below.bytes.as_slice() == b"abc|d|".as_slice())
+}
+
+// A flush of a buffer hands on what is held, and then flushes the writer below.
+#[test]
+fn a_flush_goes_through(rt: HostRuntime) {
+    assert!(rt; is_marked(rt.alloc()));
+}
+
+// Whether a buffer over a writer with room for three bytes takes so many, and refuses each call once that one failed.
+fn breaks<W: Write>(out: &mut W) -> bool {
+    write_all(out, b"abc") == Ok(())
+        && out.flush() == Ok(())
+        && write_all(out, b"d") == Ok(())
+        && out.flush() == Err(Failed)
+        && out.write(b"") == Err(Failed)
+        && out.flush() == Err(Failed)
+}
+
+fn a_buffer_breaks(alloc: Global) -> bool {
+    match MemWriter::new(alloc, 3) {
+        Ok(inner) => breaks(&mut Buffered::new(inner)),
+        Err(_) => false,
+    }
 }
 
 // Once the writer below failed, a buffer refuses each call.
 #[test]
-fn a_broken_buffer_refuses(rt: HostRuntime) -> Result<(), Fail> {
-    let mut right = true;
-    let mut out = Buffered::new(MemWriter::new(rt.alloc(), 3)?);
-    right &= write_all(&mut out, b"abc") == Ok(());
-    right &= out.flush() == Ok(());
-    right &= write_all(&mut out, b"d") == Ok(());
-    right &= out.flush() == Err(Failed);
-    right &= out.write(b"") == Err(Failed);
-    right &= out.flush() == Err(Failed);
-    assert!(rt; right);
-    Ok(())
+fn a_broken_buffer_refuses(rt: HostRuntime) {
+    assert!(rt; a_buffer_breaks(rt.alloc()));
+}
+
+fn takes_a_beginning(plain: &mut Plain) -> bool {
+    write_all(plain, b"ab") == Ok(())
+        && plain.flush() == Ok(())
+        && write_all(plain, b"cd") == Err(Io)
+        && plain.inner.bytes() == b"abc".as_slice()
+}
+
+fn a_plain_writer_serves(alloc: Global) -> bool {
+    match MemWriter::new(alloc, 3) {
+        Ok(inner) => takes_a_beginning(&mut Plain { inner }),
+        Err(_) => false,
+    }
+}
+
+fn a_plain_buffer_breaks(alloc: Global) -> bool {
+    match MemWriter::new(alloc, 3) {
+        Ok(inner) => breaks(&mut Buffered::new(Plain { inner })),
+        Err(_) => false,
+    }
 }
 
 // A writer without a flush of its own serves `write_all` and a buffer.
 #[test]
-fn a_writer_needs_no_flush(rt: HostRuntime) -> Result<(), Fail> {
-    let mut right = true;
-    let mut plain = Plain {
-        inner: MemWriter::new(rt.alloc(), 3)?,
-    };
-    right &= write_all(&mut plain, b"ab") == Ok(());
-    right &= plain.flush() == Ok(());
-    right &= write_all(&mut plain, b"cd") == Err(Io);
-    right &= plain.inner.bytes() == b"abc".as_slice();
-
-    let mut out = Buffered::new(Plain {
-        inner: MemWriter::new(rt.alloc(), 3)?,
-    });
-    right &= write_all(&mut out, b"abc") == Ok(());
-    right &= out.flush() == Ok(());
-    right &= write_all(&mut out, b"d") == Ok(());
-    right &= out.flush() == Err(Failed);
-    assert!(rt; right);
-    Ok(())
+fn a_writer_needs_no_flush(rt: HostRuntime) {
+    assert!(rt; a_plain_writer_serves(rt.alloc()) && a_plain_buffer_breaks(rt.alloc()));
 }

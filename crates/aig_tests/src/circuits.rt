@@ -1,149 +1,103 @@
 //! What a circuit is made of, and its changes.
 ghost use Rattle.std.specs.Prelude.{IfSome};
+ghost use Rattle.aig_base.specs.Levels.{AreLevels};
+ghost use Rattle.aig_base.specs.Readers.{AreReaders};
 ghost use Rattle.aig_base.specs.Sections.{IsLatchLiteral};
 
-use crate::check::name;
-use crate::parts::{FEEDBACK, TWO_GATES, UNUSED, is_defined};
+use crate::parts::{FEEDBACK, TWO_GATES, UNUSED, is_defined, of_file, writes};
 use aig_base::{
-    Circuit, Kind, LIMIT, Latch, Levels, List, Lit, MemWriter, Readers, SymbolList, Symbols, Tern,
-    append_gate, is_binary_ready, renumber,
+    Circuit, LIMIT, Latch, Levels, List, Lit, Readers, Tern, append_gate, is_binary_ready, renumber,
 };
-use aig_format::{read, write_ascii};
+use aig_format::write_ascii;
 use std::alloc::Global;
-use std::test::Fail;
+
+fn is_filled(list: &mut List<u32>) -> bool {
+    list.push(7).is_ok() && list.push(8).is_ok() && list.as_slice() == [7, 8].as_slice()
+}
+
+fn is_copied(list: &List<u32>) -> bool {
+    match list.clone() {
+        Ok(copy) => copy.as_slice() == list.as_slice(),
+        Err(_) => false,
+    }
+}
+
+fn goes_through(list: &List<u32>) -> bool {
+    let mut sum = 0u32;
+    for item in list.iter() {
+        sum = sum.wrapping_add(*item);
+    }
+    sum == 15
+}
+
+fn is_list(alloc: Global) -> bool {
+    let mut list = List::new(alloc);
+    is_filled(&mut list) & is_copied(&list) & goes_through(&list)
+}
 
 // A list has its items in order, and a copy of it has the same.
 #[test]
-fn lists(rt: HostRuntime) -> Result<(), Fail> {
-    let mut right = true;
-    let mut list = List::new(rt.alloc());
-    right &= list.is_empty();
-    list.push(7)?;
-    list.push(8)?;
-    right &= list.len() == 2;
-    right &= list.get(1) == Some(&8);
-    right &= list.get(2) == None;
-    list.set(0, 9);
-    right &= list[0] == 9;
-    let copy = list.clone()?;
-    right &= copy.as_slice() == [9, 8].as_slice();
-    let mut sum = 0u64;
-    for item in copy.iter() {
-        sum = sum.wrapping_add(*item);
-    }
-    right &= sum == 17;
-    right &= List::from_vec([9, 8].to_vec(rt.alloc())?).as_slice() == copy.as_slice();
-    assert!(rt; right);
-    Ok(())
+fn lists(rt: HostRuntime) {
+    assert!(rt; is_list(rt.alloc()));
 }
 
-// A second name of an entry changes nothing, and the names stand in the order in which they came.
-#[test]
-fn symbols_in_order(rt: HostRuntime) -> Result<(), Fail> {
-    let mut right = true;
-    let mut symbols = Symbols::new(rt.alloc());
-    let names: [(Kind, u32, &[u8], bool); 4] = [
-        (Kind::Output, 1, b"out", true),
-        (Kind::Input, 1, b"in", true),
-        (Kind::Output, 1, b"again", false),
-        (Kind::Input, 0, b"first", true),
-    ];
-    for (kind, position, bytes, fresh) in names {
-        let bytes = name(rt.alloc(), bytes)?;
-        right &= symbols.insert(kind, position, bytes)? == fresh;
-    }
-    right &= symbols.len() == 3;
-    right &= symbols.contains(Kind::Input, 1) && !symbols.contains(Kind::Output, 0);
-    let wanted: [&[u8]; 3] = [b"out", b"in", b"first"];
-    for ((_, bytes), wanted_bytes) in symbols.iter().zip(wanted) {
-        right &= bytes == wanted_bytes;
-    }
-    assert!(rt; right);
-    Ok(())
-}
-
-// Symbols that are listed in any order become a table in that order, and so does a copy. Entries far apart, at both
-// ends of a page of bits and of one position in other sections are told apart.
-#[test]
-fn listed_symbols(rt: HostRuntime) -> Result<(), Fail> {
-    let mut right = true;
-    let mut list = SymbolList::new(rt.alloc());
-    let entries = [
-        (Kind::Input, 4_194_302),
-        (Kind::Output, 16_383),
-        (Kind::Output, 16_384),
-        (Kind::Fairness, 16_383),
-        (Kind::Input, 0),
-    ];
-    for (kind, position) in entries {
-        if list.contains(kind, position) {
-            right = false;
-        } else {
-            list.push(kind, position, b"name")?;
-        }
-        right &= list.contains(kind, position);
-    }
-    right &= !list.contains(Kind::Output, 0) && !list.contains(Kind::Bad, 16_383);
-    let symbols = list.into_symbols()?.clone()?;
-    for ((entry, bytes), wanted) in symbols.iter().zip(entries) {
-        right &= *entry == wanted && bytes == b"name".as_slice();
-    }
-    right &= symbols.len() == 5 && symbols.contains(Kind::Fairness, 16_383);
-    right &= symbols.contains(Kind::Input, 0) && !symbols.contains(Kind::Input, 1);
-    assert!(rt; right);
-    Ok(())
-}
-
-// The level of a gate with these right sides once it is appended, and whether it reads them then.
-fn appended(
-    alloc: Global,
-    circuit: &mut Circuit,
-    r0: Lit,
-    r1: Lit,
-) -> Result<(u32, bool, bool), Fail> {
-    let mut levels = Levels::of(alloc, circuit)?;
-    let mut readers = Readers::of(alloc, circuit)?;
-    if circuit.max_var() as usize >= LIMIT || !is_defined(circuit, r0) || !is_defined(circuit, r1) {
-        return Err("not allowed".into());
-    }
-    append_gate(circuit, &mut levels, &mut readers, r0, r1)?;
+// Whether the last gate, of 9 and 2, has its level, and is a reader of both sides.
+fn is_last(circuit: &Circuit, levels: &Levels, readers: &Readers) -> bool
+    requires levels { AreLevels circuit.now levels.now }
+    requires readers { AreReaders circuit.now readers.now }
+{
     let last = circuit.max_var();
-    let first = r0.var();
-    let second = r1.var();
-    if first > last || second > last {
-        return Err("out of range".into());
+    last == 5
+        && circuit.gates().len() == 3
+        && levels.level(last) == 3
+        && readers.list(4).contains(&last)
+        && readers.list(1).contains(&last)
+}
+
+fn appends(circuit: &mut Circuit, levels: &mut Levels, readers: &mut Readers) -> bool
+    requires levels { AreLevels circuit.old levels.old }
+    requires readers { AreReaders circuit.old readers.old }
+{
+    let r0 = Lit::new(9);
+    let r1 = Lit::new(2);
+    if circuit.max_var() as usize >= LIMIT || !is_defined(circuit, r0) || !is_defined(circuit, r1) {
+        return false;
     }
-    Ok((
-        levels.level(last),
-        readers.list(first).contains(&last),
-        readers.list(second).contains(&last),
-    ))
+    match append_gate(circuit, levels, readers, r0, r1) {
+        Ok(()) => is_last(circuit, levels, readers),
+        Err(_) => false,
+    }
+}
+
+fn is_appended(alloc: Global, circuit: &mut Circuit) -> bool {
+    let Ok(mut levels) = Levels::of(alloc, circuit) else {
+        return false;
+    };
+    match Readers::of(alloc, circuit) {
+        Ok(mut readers) => appends(circuit, &mut levels, &mut readers),
+        Err(_) => false,
+    }
 }
 
 // An appended gate has the next variable, its level, and is a reader of both sides.
 #[test]
-fn a_gate_is_appended(rt: HostRuntime) -> Result<(), Fail> {
-    let mut right = true;
-    let mut circuit = read(rt.alloc(), TWO_GATES)?;
-    let found = appended(rt.alloc(), &mut circuit, Lit::new(9), Lit::new(2))?;
-    right &= found == (3, true, true);
-    right &= circuit.max_var() == 5;
-    right &= circuit.gates().len() == 3;
-    assert!(rt; right);
-    Ok(())
+fn a_gate_is_appended(rt: HostRuntime) {
+    assert!(rt; of_file(rt.alloc(), TWO_GATES, is_appended));
+}
+
+fn replaces_output(_alloc: Global, circuit: &mut Circuit) -> bool {
+    let literal = Lit::new(3);
+    if circuit.outputs().len() != 1 || !is_defined(circuit, literal) {
+        return false;
+    }
+    circuit.replace_output(0, literal);
+    circuit.outputs() == [literal].as_slice()
 }
 
 // A replaced output is the literal that was given.
 #[test]
-fn an_output_is_replaced(rt: HostRuntime) -> Result<(), Fail> {
-    let mut circuit = read(rt.alloc(), TWO_GATES)?;
-    let literal = Lit::new(3);
-    if circuit.outputs().len() != 1 || !is_defined(&circuit, literal) {
-        return Err("not allowed".into());
-    }
-    circuit.replace_output(0, literal);
-    assert_eq!(rt; circuit.outputs(), [literal].as_slice());
-    Ok(())
+fn an_output_is_replaced(rt: HostRuntime) {
+    assert!(rt; of_file(rt.alloc(), TWO_GATES, replaces_output));
 }
 
 // The literal of the first latch.
@@ -156,12 +110,12 @@ fn first_latch(circuit: &Circuit) -> Option<Lit>
     }
 }
 
-// A latch starts at 0, at 1 or, for x, at its own literal, and keeps its next literal.
-#[test]
-fn a_reset_is_replaced(rt: HostRuntime) -> Result<(), Fail> {
-    let mut circuit = read(rt.alloc(), FEEDBACK)?;
-    for (value, reset) in [(Tern::One, 1), (Tern::Zero, 0), (Tern::X, 4)] {
-        if let Some(latch) = first_latch(&circuit) {
+static RESETS: [(Tern, u32); 3] = [(Tern::One, 1), (Tern::Zero, 0), (Tern::X, 4)];
+
+fn replaces_resets(_alloc: Global, circuit: &mut Circuit) -> bool {
+    let mut right = true;
+    for &(value, reset) in &RESETS {
+        if let Some(latch) = first_latch(circuit) {
             circuit.replace_reset(latch, value);
         }
         let latch = Latch {
@@ -169,9 +123,15 @@ fn a_reset_is_replaced(rt: HostRuntime) -> Result<(), Fail> {
             next: Lit::new(6),
             reset: Lit::new(reset),
         };
-        assert_eq!(rt; circuit.latches(), [latch].as_slice());
+        right &= circuit.latches() == [latch].as_slice();
     }
-    Ok(())
+    right
+}
+
+// A latch starts at 0, at 1 or, for x, at its own literal, and keeps its next literal.
+#[test]
+fn a_reset_is_replaced(rt: HostRuntime) {
+    assert!(rt; of_file(rt.alloc(), FEEDBACK, replaces_resets));
 }
 
 static RENUMBERED: [(&[u8], bool, &[u8]); 4] = [
@@ -185,23 +145,27 @@ static RENUMBERED: [(&[u8], bool, &[u8]); 4] = [
     ),
 ];
 
-// Whether the renumbered circuit is ready for the binary writer, and has this text.
-fn is_renumbered(alloc: Global, circuit: &Circuit, text: &[u8]) -> Result<bool, Fail> {
-    let renumbered = renumber(alloc, circuit)?;
-    let mut out = MemWriter::new(alloc, 100)?;
-    let written = write_ascii(&renumbered, &mut out).is_ok();
-    Ok(written && is_binary_ready(&renumbered) && out.bytes() == text)
+// Whether the circuit is ready for the binary writer, and has this text.
+fn is_ready(alloc: Global, circuit: &Circuit, text: &[u8]) -> bool {
+    is_binary_ready(circuit) && writes(alloc, 100, text, |out| write_ascii(circuit, out).is_ok())
+}
+
+fn is_renumbered(alloc: Global, circuit: &Circuit, text: &[u8]) -> bool {
+    match renumber(alloc, circuit) {
+        Ok(renumbered) => is_ready(alloc, &renumbered, text),
+        Err(_) => false,
+    }
 }
 
 // A renumbered circuit has its inputs, then its latches, then its gates in the canonical order, and is ready for the
 // binary writer.
 #[test]
-fn circuits_are_renumbered(rt: HostRuntime) -> Result<(), Fail> {
+fn circuits_are_renumbered(rt: HostRuntime) {
+    let mut right = true;
     for &(file, ready, text) in &RENUMBERED {
-        let circuit = read(rt.alloc(), file)?;
-        assert!(rt;
-            is_binary_ready(&circuit) == ready && is_renumbered(rt.alloc(), &circuit, text)?
-        );
+        right &= of_file(rt.alloc(), file, |alloc, circuit| {
+            is_binary_ready(circuit) == ready && is_renumbered(alloc, circuit, text)
+        });
     }
-    Ok(())
+    assert!(rt; right);
 }

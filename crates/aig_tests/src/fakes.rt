@@ -25,11 +25,6 @@ impl<'a> Pieces<'a> {
     pub fn whole(bytes: &'a [u8]) -> Pieces<'a> {
         Pieces::new(bytes, 1, usize::MAX)
     }
-
-    /// A byte a call, with a failure in place of the end.
-    pub fn cut(bytes: &'a [u8]) -> Pieces<'a> {
-        Pieces::new(bytes, 1, bytes.len())
-    }
 }
 
 impl<'a> Read for Pieces<'a> {

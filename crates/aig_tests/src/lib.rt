@@ -5,8 +5,6 @@
 #[cfg(test)]
 mod bytes;
 #[cfg(test)]
-mod check;
-#[cfg(test)]
 mod circuits;
 #[cfg(test)]
 mod fakes;
@@ -24,6 +22,8 @@ mod reader;
 mod rewires;
 #[cfg(test)]
 mod stimulus;
+#[cfg(test)]
+mod symbols;
 #[cfg(test)]
 mod traces;
 #[cfg(test)]

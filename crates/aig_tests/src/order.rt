@@ -1,11 +1,9 @@
 //! Levels, orders and cycles of small circuits.
-ghost use Rattle.std.specs.Prelude.{◌≤◌};
+ghost use Rattle.aig_base.specs.Levels.{AreLevels};
 
-use crate::parts::{TWO_GATES, UNUSED, is_defined};
+use crate::parts::{TWO_GATES, UNUSED, is_defined, of_file};
 use aig_base::{Circuit, Levels, Lit, canonical_order, would_cycle};
-use aig_format::read;
 use std::alloc::Global;
-use std::test::Fail;
 
 static ORDERS: [(&[u8], u32, u32, [u32; 2]); 3] = [
     (TWO_GATES, 4, 2, [3, 4]),
@@ -14,42 +12,55 @@ static ORDERS: [(&[u8], u32, u32, [u32; 2]); 3] = [
 ];
 
 // Whether a variable has this level, and the first two gates of the canonical order are these.
-fn are_ordered(alloc: Global, circuit: &Circuit, variable: u32, level: u32, gates: [u32; 2]) -> bool
-    requires { variable ≤ circuit.now.max_var }
+fn are_ordered(
+    alloc: Global,
+    circuit: &Circuit,
+    levels: &Levels,
+    variable: u32,
+    level: u32,
+    gates: [u32; 2],
+) -> bool
+    requires { AreLevels circuit.now levels.now }
 {
-    let Ok(levels) = Levels::of(alloc, circuit) else {
+    if variable > circuit.max_var() || levels.level(variable) != level {
         return false;
-    };
-    let is_level = levels.level(variable) == level;
-    match canonical_order(alloc, circuit, &levels) {
-        Ok(order) => is_level && order.as_slice() == gates.as_slice(),
+    }
+    match canonical_order(alloc, circuit, levels) {
+        Ok(order) => order.as_slice() == gates.as_slice(),
+        Err(_) => false,
+    }
+}
+
+fn has_order(alloc: Global, circuit: &Circuit, variable: u32, level: u32, gates: [u32; 2]) -> bool {
+    match Levels::of(alloc, circuit) {
+        Ok(levels) => are_ordered(alloc, circuit, &levels, variable, level, gates),
         Err(_) => false,
     }
 }
 
 // The canonical order goes by level, then by variable; a gate is one level over the greater of its sides.
 #[test]
-fn levels_and_orders(rt: HostRuntime) -> Result<(), Fail> {
+fn levels_and_orders(rt: HostRuntime) {
+    let mut right = true;
     for &(file, variable, level, gates) in &ORDERS {
-        let circuit = read(rt.alloc(), file)?;
-        assert!(rt; variable <= circuit.max_var());
-        assert!(rt; are_ordered(rt.alloc(), &circuit, variable, level, gates));
+        right &= of_file(rt.alloc(), file, |alloc, circuit| {
+            has_order(alloc, circuit, variable, level, gates)
+        });
     }
-    Ok(())
+    assert!(rt; right);
 }
 
-// Whether other right sides of the gate of a literal would close a cycle.
-fn closes(alloc: Global, circuit: &Circuit, row: [u32; 3]) -> Result<bool, Fail> {
+// Whether other right sides of the gate of a literal close a cycle, as they should.
+fn closes(alloc: Global, circuit: &Circuit, row: [u32; 3], cycle: bool) -> bool {
     let [gate, r0, r1] = row;
-    let Some(gate) = circuit.gate_of(gate / 2) else {
-        return Err("no gate".into());
-    };
     let first = Lit::new(r0);
     let second = Lit::new(r1);
-    if !is_defined(circuit, first) || !is_defined(circuit, second) {
-        return Err("not defined".into());
+    match circuit.gate_of(gate / 2) {
+        Some(gate) if is_defined(circuit, first) && is_defined(circuit, second) => {
+            would_cycle(alloc, circuit, gate.lhs, first, second) == Ok(cycle)
+        }
+        _ => false,
     }
-    Ok(would_cycle(alloc, circuit, gate.lhs, first, second)?)
 }
 
 static CYCLES: [(&[u8], [u32; 3], bool); 5] = [
@@ -62,10 +73,14 @@ static CYCLES: [(&[u8], [u32; 3], bool); 5] = [
 
 // Right sides close a cycle exactly where a gate would read itself, whatever the levels.
 #[test]
-fn cycles(rt: HostRuntime) -> Result<(), Fail> {
+fn cycles(rt: HostRuntime) {
+    let mut right = true;
     for &(file, row, cycle) in &CYCLES {
-        let circuit = read(rt.alloc(), file)?;
-        assert_eq!(rt; closes(rt.alloc(), &circuit, row)?, cycle);
+        right &= of_file(
+            rt.alloc(),
+            file,
+            |alloc, circuit| closes(alloc, circuit, row, cycle),
+        );
     }
-    Ok(())
+    assert!(rt; right);
 }

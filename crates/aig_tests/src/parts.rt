@@ -3,7 +3,8 @@ ghost use Rattle.std.specs.Prelude.{IsTrue};
 ghost use Rattle.aig_parts.specs.Literal.{variable};
 ghost use Rattle.aig_base.specs.Sections.{IsDefined};
 
-use aig_base::{Circuit, List, Lit, Raw, Symbols};
+use aig_base::{Circuit, Lit, MemWriter};
+use aig_format::read;
 use std::alloc::Global;
 
 /// One gate over two inputs.
@@ -18,20 +19,35 @@ pub const UNUSED: &[u8] = b"aag 7 1 0 1 2\n14\n5\n4 10 14\n10 14 15\n";
 /// An uninitialised latch that keeps what it is while the input is 1.
 pub const FEEDBACK: &[u8] = b"aag 3 1 1 1 1\n2\n4 6 4\n4\n6 4 2\n";
 
-/// Parts without entries.
-pub fn empty(alloc: Global, max_var: u32) -> Raw {
-    Raw {
-        max_var,
-        inputs: List::new(alloc),
-        latches: List::new(alloc),
-        outputs: List::new(alloc),
-        bad: List::new(alloc),
-        constraints: List::new(alloc),
-        justice: List::new(alloc),
-        fairness: List::new(alloc),
-        gates: List::new(alloc),
-        symbols: Symbols::new(alloc),
-        comment: None,
+/// Whether a file is a circuit that passes a look.
+pub fn of_file<F: FnOnce(Global, &mut Circuit) -> bool + Drop>(
+    alloc: Global,
+    file: &[u8],
+    look: F,
+) -> bool
+    requires { F.IsAlwaysCallable look }
+{
+    match read(alloc, file) {
+        Ok(mut circuit) => look(alloc, &mut circuit),
+        Err(_) => false,
+    }
+}
+
+/// Whether a writer with so much room has these bytes behind a write that goes well.
+pub fn writes<F: FnOnce(&mut MemWriter) -> bool + Drop>(
+    alloc: Global,
+    room: usize,
+    bytes: &[u8],
+    write: F,
+) -> bool
+    requires { F.IsAlwaysCallable write }
+{
+    match MemWriter::new(alloc, room) {
+        Ok(mut out) => {
+            let right = write(&mut out);
+            right & (out.bytes() == bytes)
+        }
+        Err(_) => false,
     }
 }
 

@@ -1,19 +1,22 @@
 //! Reading files: what is accepted, which fault of which place is told, and which reads are made.
+ghost use Rattle.aig_base.specs.Renumbered.{IsBinaryReady};
+
 use crate::fakes::Pieces;
-use aig_base::{Circuit, Fault, Gate, Kind, Latch, Lit, MemReader, MemWriter, is_binary_ready};
+use crate::parts::of_file;
+use aig_base::{
+    Circuit, Fault, Gate, Kind, Latch, Lit, MemReader, MemWriter, Read, is_binary_ready,
+};
 use aig_format::{read, read_from, write_binary};
 use std::alloc::Global;
-use std::test::*;
 
-// The fault of a file, if it has one: of its bytes, of a reader of blocks and of a reader of single bytes.
-fn refusals(rt: HostRuntime, bytes: &[u8]) -> [Option<Fault>; 3] {
-    let in_blocks = read_from(rt.alloc(), &mut MemReader::new(bytes));
-    let in_bytes = read_from(rt.alloc(), &mut Pieces::whole(bytes));
-    [
-        read(rt.alloc(), bytes).err(),
-        in_blocks.err(),
-        in_bytes.err(),
-    ]
+// The fault of bytes at hand, if they have one.
+fn fault_of(alloc: Global, bytes: &[u8]) -> Option<Fault> {
+    read(alloc, bytes).err()
+}
+
+// The fault of what a reader gives, if it has one.
+fn fault_from<R: Read>(alloc: Global, reader: &mut R) -> Option<Fault> {
+    read_from(alloc, reader).err()
 }
 
 fn text(at: u64) -> Option<Fault> {
@@ -26,26 +29,43 @@ const DELTAS: &[u8] = b"aig 4194303 4194297 0 0 6\n\
     \x01\x00\x7f\x80\x01\xac\x02\xff\x7f\x80\x80\x01\xff\xff\x7f\
     \x80\x80\x80\x01\x01\xfe\xff\xff\x03\x00";
 
+static GATES: [(u32, u32, u32); 6] = [
+    (8_388_596, 8_388_595, 8_388_595),
+    (8_388_598, 8_388_471, 8_388_343),
+    (8_388_600, 8_388_300, 8_371_917),
+    (8_388_602, 8_372_218, 6_275_067),
+    (8_388_604, 6_291_452, 6_291_451),
+    (8_388_606, 0, 0),
+];
+
+fn are_gates(circuit: &Circuit) -> bool {
+    let mut right = circuit.gates().len() == 6;
+    for (found, (lhs, rhs0, rhs1)) in circuit.gates().iter().zip(GATES) {
+        right &= *found == gate(lhs, rhs0, rhs1);
+    }
+    right
+}
+
+fn is_written(alloc: Global, circuit: &Circuit) -> bool
+    requires { IsBinaryReady circuit.now }
+{
+    match MemWriter::new(alloc, 100) {
+        Ok(mut out) => {
+            let done = write_binary(circuit, &mut out).is_ok();
+            done & (out.bytes() == DELTAS)
+        }
+        Err(_) => false,
+    }
+}
+
+fn has_deltas(alloc: Global, circuit: &mut Circuit) -> bool {
+    are_gates(circuit) && is_binary_ready(circuit) && is_written(alloc, circuit)
+}
+
 // Deltas of each length are read as their numbers, and written as they were.
 #[test]
-fn deltas(rt: HostRuntime) -> Result<(), Fail> {
-    let mut right = true;
-    let circuit = read(rt.alloc(), DELTAS)?;
-    let gates = [
-        gate(8_388_596, 8_388_595, 8_388_595),
-        gate(8_388_598, 8_388_471, 8_388_343),
-        gate(8_388_600, 8_388_300, 8_371_917),
-        gate(8_388_602, 8_372_218, 6_275_067),
-        gate(8_388_604, 6_291_452, 6_291_451),
-        gate(8_388_606, 0, 0),
-    ];
-    right &= circuit.gates() == gates.as_slice();
-    assert!(rt; is_binary_ready(&circuit));
-    let mut out = MemWriter::new(rt.alloc(), 100)?;
-    write_binary(&circuit, &mut out)?;
-    right &= out.bytes() == DELTAS;
-    assert!(rt; right);
-    Ok(())
+fn deltas(rt: HostRuntime) {
+    assert!(rt; of_file(rt.alloc(), DELTAS, has_deltas));
 }
 
 static FILES: [(&[u8], Option<Fault>); 7] = [
@@ -68,7 +88,10 @@ static FILES: [(&[u8], Option<Fault>); 7] = [
 #[test]
 fn files(rt: HostRuntime) {
     for &(bytes, fault) in &FILES {
-        assert_eq!(rt; refusals(rt, bytes), [fault; 3]);
+        let alike = fault_of(rt.alloc(), bytes) == fault
+            && fault_from(rt.alloc(), &mut MemReader::new(bytes)) == fault
+            && fault_from(rt.alloc(), &mut Pieces::whole(bytes)) == fault;
+        assert!(rt; alike);
     }
 }
 
@@ -89,25 +112,25 @@ fn has_names(circuit: &Circuit) -> bool {
         && circuit.comment() == Some(b"hi".as_slice())
 }
 
+fn are_parts(_alloc: Global, circuit: &mut Circuit) -> bool {
+    has_entries(circuit) && has_names(circuit)
+}
+
 // An ASCII file gives each section as it stands.
 #[test]
-fn parts_of_ascii(rt: HostRuntime) -> Result<(), Fail> {
-    let text = b"aag 3 1 1 1 1 0 0 1\n2\n4 6 4\n4\n2\n3\n5\n6 4 2\nj0 go\nc\nhi";
-    let circuit = read(rt.alloc(), text)?;
-    assert!(rt; has_entries(&circuit) && has_names(&circuit));
-    Ok(())
+fn parts_of_ascii(rt: HostRuntime) {
+    let file = b"aag 3 1 1 1 1 0 0 1\n2\n4 6 4\n4\n2\n3\n5\n6 4 2\nj0 go\nc\nhi";
+    assert!(rt; of_file(rt.alloc(), file, are_parts));
+}
+
+fn are_in_order(_alloc: Global, circuit: &mut Circuit) -> bool {
+    circuit.inputs().first() == Some(&Lit::new(2)) && has_entries(circuit)
 }
 
 // A binary file has its inputs, latches and gates in the order of their variables.
 #[test]
-fn parts_of_binary(rt: HostRuntime) -> Result<(), Fail> {
-    let mut right = true;
-    let circuit = read(rt.alloc(), b"aig 3 1 1 0 1\n6 4\n\x02\x02")?;
-    right &= circuit.inputs().first() == Some(&Lit::new(2));
-    right &= circuit.latches().first() == Some(&latch(4, 6, 4));
-    right &= circuit.gates().first() == Some(&gate(6, 4, 2));
-    assert!(rt; right);
-    Ok(())
+fn parts_of_binary(rt: HostRuntime) {
+    assert!(rt; of_file(rt.alloc(), b"aig 3 1 1 0 1\n6 4\n\x02\x02", are_in_order));
 }
 
 fn latch(lit: u32, next: u32, reset: u32) -> Latch {
@@ -139,7 +162,7 @@ static READS: [(&[u8], usize, Option<Fault>); 8] = [
 
 // How reading ends where so many reads of a byte are made before one fails.
 fn fault_behind(alloc: Global, bytes: &[u8], calls: usize) -> Option<Fault> {
-    read_from(alloc, &mut Pieces::new(bytes, 1, calls)).err()
+    fault_from(alloc, &mut Pieces::new(bytes, 1, calls))
 }
 
 // Each read that an answer needs fails in turn, and the answer is `Io`; one behind the last is not made. So many reads
@@ -154,27 +177,47 @@ fn failing_reads(rt: HostRuntime) {
     }
 }
 
-// A name that fills more than one block, and the place of a fault behind it.
-#[test]
-fn blocks(rt: HostRuntime) -> Result<(), Fail> {
-    let mut right = true;
-    let mut bytes = Vec::new(rt.alloc());
-    bytes.extend_from_slice(b"aag 1 1 0 0 0\n2\ni0 ")?;
-    for _ in 0..9_000 {
-        bytes.push(b'a')?;
-    }
-    bytes.push(b'\n')?;
-    for (end, fault) in [(b'c', 9_021), (b'x', 9_020)] {
-        bytes.push(end)?;
-        let answer = read_from(rt.alloc(), &mut MemReader::new(&bytes));
-        right &= answer.err() == text(fault);
-        right &= read(rt.alloc(), &bytes).err() == text(fault);
-        let _ = bytes.pop();
-    }
-    let circuit = read_from(rt.alloc(), &mut MemReader::new(&bytes))?;
+// A name of 9,000 bytes.
+fn is_filled(bytes: &mut Vec<u8>) -> bool {
+    bytes.extend_from_slice(b"aag 1 1 0 0 0\n2\ni0 ").is_ok()
+        && bytes.resize(9_019, b'a').is_ok()
+        && bytes.push(b'\n').is_ok()
+}
+
+// Whether another byte at the end has its fault at this place, from both sources.
+fn ends_at(alloc: Global, bytes: &mut Vec<u8>, end: u8, at: u64) -> bool {
+    let pushed = bytes.push(end).is_ok();
+    let right = fault_from(alloc, &mut MemReader::new(bytes)) == text(at)
+        && fault_of(alloc, bytes) == text(at);
+    let _ = bytes.pop();
+    pushed & right
+}
+
+fn has_long_name(circuit: &Circuit) -> bool {
+    let mut right = circuit.symbols().len() == 1;
     for (_, name) in circuit.symbols().iter() {
         right &= name.len() == 9_000;
     }
-    assert!(rt; right);
-    Ok(())
+    right
+}
+
+fn gets_long_name(alloc: Global, bytes: &[u8]) -> bool {
+    match read_from(alloc, &mut MemReader::new(bytes)) {
+        Ok(circuit) => has_long_name(&circuit),
+        Err(_) => false,
+    }
+}
+
+fn goes_over_blocks(alloc: Global) -> bool {
+    let mut bytes = Vec::new(alloc);
+    is_filled(&mut bytes)
+        & ends_at(alloc, &mut bytes, b'c', 9_021)
+        & ends_at(alloc, &mut bytes, b'x', 9_020)
+        & gets_long_name(alloc, &bytes)
+}
+
+// A name that fills more than one block, and the place of a fault behind it.
+#[test]
+fn blocks(rt: HostRuntime) {
+    assert!(rt; goes_over_blocks(rt.alloc()));
 }

@@ -1,10 +1,9 @@
 //! Traces of stimuli that are read row by row.
 use crate::fakes::Pieces;
-use crate::parts::ONE_GATE;
-use aig_base::MemWriter;
-use aig_format::read;
+use crate::parts::{ONE_GATE, of_file, writes};
+use aig_base::Circuit;
 use aig_sim::{StimFault, dump, simulate};
-use std::test::Fail;
+use std::alloc::Global;
 
 // Two signals, one of which changes.
 const DUMP: &[u8] = b"$version aig $end
@@ -26,35 +25,49 @@ $end
 #2
 ";
 
+// Whether a failure ends a trace behind this text, where so many reads of a byte are made and there is so much room.
+fn stops(
+    alloc: Global,
+    circuit: &Circuit,
+    rows: &[u8],
+    reads: usize,
+    room: usize,
+    text: &[u8],
+) -> bool {
+    writes(alloc, room, text, |out| {
+        simulate(alloc, circuit, &mut Pieces::new(rows, 1, reads), out) == Err(StimFault::Io)
+    })
+}
+
 // A failing read is told behind the lines of all rows that were read.
 #[test]
-fn a_failing_read_ends_a_trace(rt: HostRuntime) -> Result<(), Fail> {
-    let circuit = read(rt.alloc(), ONE_GATE)?;
-    let mut reader = Pieces::cut(b"11\nx0\n1");
-    let mut out = MemWriter::new(rt.alloc(), 100)?;
-    let frames = simulate(rt.alloc(), &circuit, &mut reader, &mut out);
-    assert!(rt; frames == Err(StimFault::Io) && out.bytes() == b" 11 1 \n x0 0 \n".as_slice());
-    Ok(())
+fn a_failing_read_ends_a_trace(rt: HostRuntime) {
+    assert!(rt;
+        of_file(rt.alloc(), ONE_GATE, |alloc, circuit| {
+            stops(alloc, circuit, b"11\nx0\n1", 7, 100, b" 11 1 \n x0 0 \n")
+        })
+    );
 }
 
 // A full writer has a beginning, and is told.
 #[test]
-fn a_full_writer_ends_a_trace(rt: HostRuntime) -> Result<(), Fail> {
-    let circuit = read(rt.alloc(), ONE_GATE)?;
-    let mut reader = Pieces::whole(b"11\n1z\n");
-    let mut out = MemWriter::new(rt.alloc(), 3)?;
-    let frames = simulate(rt.alloc(), &circuit, &mut reader, &mut out);
-    assert!(rt; frames == Err(StimFault::Io) && out.bytes() == b" 11".as_slice());
-    Ok(())
+fn a_full_writer_ends_a_trace(rt: HostRuntime) {
+    assert!(rt;
+        of_file(rt.alloc(), ONE_GATE, |alloc, circuit| {
+            stops(alloc, circuit, b"11\n1z\n", 100, 3, b" 11")
+        })
+    );
+}
+
+fn dumps(alloc: Global, circuit: &mut Circuit) -> bool {
+    writes(alloc, 500, DUMP, |out| {
+        dump(alloc, circuit, &mut Pieces::whole(b"x\n1\n"), out) == Ok(2)
+    })
 }
 
 // All values at frame 0, then those that change, and the end.
 #[test]
-fn a_dump_tells_changes(rt: HostRuntime) -> Result<(), Fail> {
-    let circuit = read(rt.alloc(), b"aag 2 1 1 0 0\n2\n4 4\ni0 en\nl0 $count 0\n")?;
-    let mut reader = Pieces::whole(b"x\n1\n");
-    let mut out = MemWriter::new(rt.alloc(), 500)?;
-    let frames = dump(rt.alloc(), &circuit, &mut reader, &mut out);
-    assert!(rt; frames == Ok(2) && out.bytes() == DUMP);
-    Ok(())
+fn a_dump_tells_changes(rt: HostRuntime) {
+    let file = b"aag 2 1 1 0 0\n2\n4 4\ni0 en\nl0 $count 0\n";
+    assert!(rt; of_file(rt.alloc(), file, dumps));
 }

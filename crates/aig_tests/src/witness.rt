@@ -1,8 +1,8 @@
 //! Witnesses.
-use aig_base::MemWriter;
-use aig_format::read;
+use crate::parts::{of_file, writes};
+use aig_base::Circuit;
 use aig_sim::{ReplayFault, Verdict, WitnessFault, check_witness, dump_witness, trace_witness};
-use std::test::Fail;
+use std::alloc::Global;
 
 // A latch that is 0 and 1 in turn is the bad state.
 const TOGGLE: &[u8] = b"aag 1 0 1 0 0 1\n2 3\n2\n";
@@ -38,45 +38,60 @@ x!
 #2
 ";
 
+fn confirms(alloc: Global, circuit: &mut Circuit) -> bool {
+    check_witness(alloc, circuit, b"1\nb0\n0\n\n\n.\n") == Ok(Verdict::Confirmed)
+}
+
 // A witness that reaches the bad state is confirmed.
 #[test]
-fn a_witness_is_confirmed(rt: HostRuntime) -> Result<(), Fail> {
-    let circuit = read(rt.alloc(), TOGGLE)?;
-    let verdict = check_witness(rt.alloc(), &circuit, b"1\nb0\n0\n\n\n.\n");
-    assert!(rt; verdict == Ok(Verdict::Confirmed));
-    Ok(())
+fn a_witness_is_confirmed(rt: HostRuntime) {
+    assert!(rt; of_file(rt.alloc(), TOGGLE, confirms));
+}
+
+fn traces(alloc: Global, circuit: &mut Circuit) -> bool {
+    writes(alloc, 100, b"1 0  0\n0 x  1\n", |out| {
+        trace_witness(alloc, circuit, FROM_ONE, out) == Ok(())
+    })
 }
 
 // The trace goes from the witness's start.
 #[test]
-fn the_trace_of_a_witness(rt: HostRuntime) -> Result<(), Fail> {
-    let circuit = read(rt.alloc(), UNINITIALISED)?;
-    let mut out = MemWriter::new(rt.alloc(), 100)?;
-    let result = trace_witness(rt.alloc(), &circuit, FROM_ONE, &mut out);
-    assert!(rt; result == Ok(()) && out.bytes() == b"1 0  0\n0 x  1\n".as_slice());
-    Ok(())
+fn the_trace_of_a_witness(rt: HostRuntime) {
+    assert!(rt; of_file(rt.alloc(), UNINITIALISED, traces));
+}
+
+fn dumps(alloc: Global, circuit: &mut Circuit) -> bool {
+    writes(
+        alloc,
+        500,
+        DUMP,
+        |out| dump_witness(alloc, circuit, FROM_ONE, out) == Ok(()),
+    )
 }
 
 // The dump too, and it has an end.
 #[test]
-fn the_dump_of_a_witness(rt: HostRuntime) -> Result<(), Fail> {
-    let circuit = read(rt.alloc(), UNINITIALISED)?;
-    let mut out = MemWriter::new(rt.alloc(), 500)?;
-    let result = dump_witness(rt.alloc(), &circuit, FROM_ONE, &mut out);
-    assert!(rt; result == Ok(()) && out.bytes() == DUMP);
-    Ok(())
+fn the_dump_of_a_witness(rt: HostRuntime) {
+    assert!(rt; of_file(rt.alloc(), UNINITIALISED, dumps));
+}
+
+const NO_PROPERTY: ReplayFault = ReplayFault::Witness(WitnessFault::Property);
+
+fn refuses(alloc: Global, circuit: &mut Circuit) -> bool {
+    writes(alloc, 500, b"", |out| {
+        dump_witness(alloc, circuit, b"1\nb1\n1\n0\n.\n", out) == Err(NO_PROPERTY)
+    })
+}
+
+fn is_cut(alloc: Global, circuit: &mut Circuit) -> bool {
+    writes(alloc, 3, b"1 0", |out| {
+        trace_witness(alloc, circuit, FROM_ONE, out) == Err(ReplayFault::Io)
+    })
 }
 
 // A witness that is refused writes nothing, and a full writer has a beginning.
 #[test]
-fn a_witness_is_not_written(rt: HostRuntime) -> Result<(), Fail> {
-    let circuit = read(rt.alloc(), UNINITIALISED)?;
-    let mut out = MemWriter::new(rt.alloc(), 3)?;
-    let refused = dump_witness(rt.alloc(), &circuit, b"1\nb1\n1\n0\n.\n", &mut out);
-    assert!(rt;
-        refused == Err(ReplayFault::Witness(WitnessFault::Property)) && out.bytes().is_empty()
-    );
-    let cut = trace_witness(rt.alloc(), &circuit, FROM_ONE, &mut out);
-    assert!(rt; cut == Err(ReplayFault::Io) && out.bytes() == b"1 0".as_slice());
-    Ok(())
+fn a_witness_is_not_written(rt: HostRuntime) {
+    let refused = of_file(rt.alloc(), UNINITIALISED, refuses);
+    assert!(rt; refused & of_file(rt.alloc(), UNINITIALISED, is_cut));
 }

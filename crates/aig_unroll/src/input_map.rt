@@ -2,7 +2,8 @@
 ghost use Rattle.std.specs.Prelude.{◌≡◌, ◌+◌, ◌*◌, ◌≤◌, ◌<◌, ◌^◌, decimal, length, IfOk};
 ghost use Rattle.aig_bytes.specs.Bytes.{Writes};
 ghost use Rattle.aig_unroll.specs.InputMap as inputs;
-ghost use Rattle.aig_unroll.specs.InputMap.{field, frame_origins, is_input, is_latch, map_text, origin_line, origin_lines, start_origins, symbol_at};
+ghost use Rattle.aig_unroll.specs.InputMap.{field, frame_origins, is_input, is_latch, map_text};
+ghost use Rattle.aig_unroll.specs.InputMap.{origin_line, origin_lines, start_origins, symbol_at};
 ghost use Rattle.aig_unroll.specs.Unrolled as parts;
 ghost use Rattle.aig_unroll.specs.state.MapLines.{position_behind, start_line};
 

@@ -6,7 +6,8 @@ ghost use Rattle.aig_base.specs.Order.{IsCanonicalOrder};
 ghost use Rattle.aig_base.specs.Renumbered as renumbered;
 ghost use Rattle.aig_base.specs.RenumberingTable.{IsGateListed, AreListed};
 ghost use Rattle.aig_unroll.specs.FrameLiteral as literals;
-ghost use Rattle.aig_unroll.specs.state.FrameTable.{IsWithin, IsPlan, AddsFrame, AddsProperties, AreSections, IsNextFrame};
+ghost use Rattle.aig_unroll.specs.state.FrameTable.{IsWithin, IsPlan, AddsFrame};
+ghost use Rattle.aig_unroll.specs.state.FrameTable.{AddsProperties, AreSections, IsNextFrame};
 ghost use Rattle.aig_unroll.specs.Unrollable.{FitsLimits};
 
 use crate::frame_literals::Frame;

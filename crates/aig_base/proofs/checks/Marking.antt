@@ -119,9 +119,6 @@ module _ {v : ℕ} {marks : List Bool} {pending : List ℕ} {marks' : List Bool}
     );
   }
 
-pub moves_none : (marks : List Bool) (pending : List ℕ) → Moves marks pending marks pending
-moves_none marks pending = record { size = refl; steps = refl; kept = λ u h. h; below = λ h. h }
-
 pub moves_then : {a : List Bool} {p : List ℕ} {b : List Bool} {q : List ℕ} {c : List Bool} {r : List ℕ}
     → Moves a p b q → Moves b q c r → Moves a p c r
 moves_then f g = record {

@@ -67,9 +67,6 @@ IsGate-of_gate raw q g at =
     Contains-from_slice_get (map (λ g. variable g.lhs) raw.gates) q (variable g.lhs)
     (slice_get-map (λ (g : Gate). variable g.lhs) raw.gates q ∙ ap (option_map (λ (g : Gate). variable g.lhs)) at)
 
-pub gate_from_definition : (raw : Raw) (v q : ℕ) → Defines raw v (definition.Gate q) → IsGate raw v
-gate_from_definition raw v q (g, at, is) = subst (IsGate raw) is (IsGate-of_gate raw q g at)
-
 pub input_no_gate : (raw : Raw) → IsSound raw → (v p : ℕ) → Defines raw v (definition.Input p) → IsGate raw v → ⊥
 input_no_gate raw s v p (l, at, is) h =
     let (g, q, here, same) = gate_of raw v h in
@@ -182,12 +179,6 @@ pub found_decides : (raw : Raw) (v : ℕ) (o : Option Gate)
     → IfNone o (IsGate raw v → ⊥) → IsTrue (is_some o) ↔ IsGate raw v
 found_decides raw v None some none = (λ h. absurd (false≢true h), λ h. absurd (none h))
 found_decides raw v (Some g) (q, at, e) none = (λ h. subst (IsGate raw) e (IsGate-of_gate raw q g at), λ h. refl)
-
--- the left side of a gate that was found
-pub left_side_found : (raw : Raw) (v : ℕ) (g : Gate) → (q : ℕ) × (slice_get raw.gates q ≡ Some g) × (variable g.lhs ≡ v)
-    → IsLeftSide raw g.lhs
-left_side_found raw v g (q, at, e) =
-    Contains-map (λ (h : Gate). h.lhs) raw.gates g (Contains-from_slice_get raw.gates q g at)
 
 defined_among : (raw : Raw) (l v : ℕ) → Contains (definitions raw) l → variable l ≡ v → IsDefined raw v
 defined_among raw l v h e =

@@ -395,19 +395,6 @@ tidy_same old new same t = record {
     tally_same : (v w : ℕ) → tally new v w ≡ tally old v w
     tally_same v w = ap (λ xs. count_by (nat_eq w) xs) (same v)
 
-pub kept_pushed : (slots : List (SmallVec ℕ)) (s : SmallVec ℕ) (places : List Places) → s.items ≡ []
-    → s.capacity ≤ short → AreKept slots places → IsCoveredTo (length slots + 1) slots places
-    → AreKept (slots ++ s ∷ []) places
-kept_pushed slots s places e few kept covered = record {
-  one = λ v i w le h. kept.one v i w le (was v i w h);
-  two = λ v x i j w ne li lj h g. kept.two v x i j w ne li lj (was v i w h) (was x j w g);
-  covered = λ v lt. (let c = covered v (capacity_pushed slots s short v few lt) in let l = length_push slots s in
-      omega arith);
-}
-  where
-    was : (v i w : ℕ) → StandsAt (slots ++ s ∷ []) v i w → StandsAt slots v i w
-    was v i w h = subst (λ (xs : List ℕ). slice_get xs i ≡ Some w) (items_pushed slots s e v) h
-
 -- no list is long, and none has an entry
 pub short_pushed : (slots : List (SmallVec ℕ)) (s : SmallVec ℕ) → s.capacity ≤ short
     → ((y : ℕ) → capacity_at slots y ≤ short) → (y : ℕ) → capacity_at (slots ++ s ∷ []) y ≤ short
@@ -468,9 +455,6 @@ follows_removed xs before after i d within size moved first last = elim (cases_l
     })
   ]
 ]
-
-pub follows_none : (xs : List ℕ) (places : List Places) → Follows xs xs places places
-follows_none xs places = inl (record { list = λ i w le h. h; places = refl })
 
 pub count_none : (w : ℕ) (xs : List ℕ) → ((i : ℕ) → slice_get xs i ≢ Some w) → count_by (nat_eq w) xs ≡ 0
 count_none w xs never = elim (cases_eq (count_by (nat_eq w) xs) 0) [

@@ -48,10 +48,6 @@ module _ {X : Type 0} (Good : X → Type 0) (key : X → ℕ) where
         (λ y. key y < v → Good y)),
   )
 
-  -- no item
-  pub least_none : IsLeastAmong Good key [] None
-  least_none = All-nil Good
-
   -- one item on in a loop over the list, over what it maps to, and over the pieces that it gives
   pub least_more : (xs : List X) (i : ℕ) (x : X) (a b : Option ℕ) → i < length xs → x ≡ get_or xs i x
       → IsLeastAmong Good key (take i xs) a → IsLeastAmong Good key (x ∷ []) b → IsLeastAmong Good key (take (i + 1) xs)

@@ -17,8 +17,8 @@ use Rattle.aig_base.proofs.growth.Appended.{new_at, new_variable, old_at}
 use Rattle.aig_base.proofs.lists.Counting.{length-order}
 use Rattle.aig_base.proofs.circuits.Defined.{defined_cases}
 use Rattle.aig_base.proofs.lists.Gets.{slice_get_last, slice_get_left, slice_get_push}
-use Rattle.aig_sim.specs.GateOrder.{AreGatesOf, IsGateOrder, IsReady}
-use Rattle.aig_sim.proofs.GateOrders.{gate_order, gates_more}
+use Rattle.aig_values.specs.GateOrder.{AreGatesOf, IsGateOrder, IsReady}
+use Rattle.aig_values.proofs.GateOrders.{gate_order}
 use Rattle.aig_bench.specs.declared.order.Order.{Order}
 use Rattle.aig_bench.specs.declared.order.Way.{Way}
 use Rattle.aig_bench.specs.declared.order.Way.TheVariants.{Standing, Listed, Stale}
@@ -27,6 +27,16 @@ use Rattle.aig_bench.proofs.growing.Grown.{gate_was}
 
 gate_is_at : (gates : List Gate) (q : ℕ) (g : Gate) → slice_get gates q ≡ Some g → gate_at gates q ≡ g
 gate_is_at gates q g at = get_or_from_slice_get gates q g _ at
+
+-- one gate more
+gates_more : {raw : Raw} {vs : List ℕ} {gates : List Gate} (v : ℕ) (g : Gate) → AreGatesOf raw vs gates
+    → (r : ℕ) × (slice_get raw.gates r ≡ Some g) → variable g.lhs ≡ v → AreGatesOf raw (vs ++ v ∷ []) (gates ++ g ∷ [])
+gates_more {raw} {vs} {gates} v g h at is = record {
+  known = All-push (λ g. (r : ℕ) × (slice_get raw.gates r ≡ Some g)) gates g h.known at;
+  variables_are = map_push (λ (g : Gate). variable g.lhs) gates g
+      ∙ ap (λ (us : List ℕ). us ++ variable g.lhs ∷ []) h.variables_are
+      ∙ ap (λ (u : ℕ). vs ++ u ∷ []) is;
+}
 
 pub positions_more : (raw : Raw) (variables positions : List ℕ) (v q : ℕ) (g : Gate) → ArePositions raw variables positions
     → slice_get raw.gates q ≡ Some g → variable g.lhs ≡ v → ArePositions raw (variables ++ v ∷ []) (positions ++ q ∷ [])

@@ -5,8 +5,8 @@ use Rattle.aig_parts.specs.declared.ternary.Tern.TheVariants.{Zero}
 use Rattle.aig_parts.specs.declared.raw.Raw.{Raw}
 use Rattle.aig_base.specs.Sections.{IsGate}
 use Rattle.aig_base.specs.Value.{start_of}
-use Rattle.aig_sim.specs.state.Frame as frame
-use Rattle.aig_sim.specs.InputRows.{row_at}
+use Rattle.aig_values.specs.state.Frame as frame
+use Rattle.aig_values.specs.InputRows.{row_at}
 use Rattle.aig_bench.specs.declared.setup.Setup.{Setup}
 use Rattle.aig_bench.specs.Pair.{Pair}
 use Rattle.aig_bench.specs.state.Setup.{IsSetup, pair_of}

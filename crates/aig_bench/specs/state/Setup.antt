@@ -2,7 +2,7 @@
 use Rattle.std.specs.Prelude.{◌≡◌, ◌+◌, ◌*◌, ◌≤◌, length}
 use Rattle.aig_base.specs.Circuit.{IsCircuit}
 use Rattle.aig_base.specs.Limits.{cell_limit, frame_limit}
-use Rattle.aig_sim.specs.StimulusText.{HaveWidth}
+use Rattle.aig_values.specs.InputRows.{HaveWidth}
 use Rattle.aig_bench.specs.declared.setup.Setup.{Setup}
 use Rattle.aig_bench.specs.Pair.{Pair}
 

@@ -3,7 +3,7 @@ use Rattle.std.specs.Prelude.{◌≡◌, ◌≢◌, ℕ, ◌<◌, List, All, len
 use Rattle.std.specs.Vec.{vec_capacity}
 use Rattle.aig_parts.specs.declared.gate.Gate.{Gate}
 use Rattle.aig_parts.specs.declared.raw.Raw.{Raw}
-use Rattle.aig_sim.specs.GateOrder.{AreGatesOf, IsGateOrder}
+use Rattle.aig_values.specs.GateOrder.{AreGatesOf, IsGateOrder}
 use Rattle.aig_bench.specs.declared.order.Order.{Order}
 use Rattle.aig_bench.specs.declared.order.Way.{Way}
 use Rattle.aig_bench.specs.declared.order.Way.TheVariants.{Standing, Listed, Stale}

@@ -1,28 +1,9 @@
--- What a fault of one part is for the run, or in a reply.
-use Rattle.std.specs.Prelude.{ℕ, List, Result, Ok, Err, codes}
-use Rattle.aig_sim.specs.declared.stimulus_fault.StimFault.{StimFault}
-use Rattle.aig_sim.specs.declared.stimulus_fault.StimFault.TheVariants as stimuli
-use Rattle.aig_bench.specs.declared.edit.EditFault.TheVariants as faults
+-- What a fault of one part is for the run.
+use Rattle.std.specs.Prelude.{Result, Ok, Err}
 use Rattle.aig_engines.specs.declared.run_fault.RunFault.{RunFault}
 use Rattle.aig_engines.specs.declared.run_fault.RunFault.TheVariants as parts
-use Rattle.aig_engines.specs.declared.script_fault.ScriptFault.{ScriptFault}
-use Rattle.aig_engines.specs.Replies.{refusal}
 
 -- a failing write is the output's
 abbrev pub output_of : {T E : Type 0} → Result T E → Result T RunFault
 output_of (Ok done) = Ok done
 output_of (Err fault) = Err parts.Output
-
--- a fault of a script is the run's
-abbrev pub script_of : Result (Unit {0}) ScriptFault → Result (Unit {0}) RunFault
-script_of (Ok done) = Ok done
-script_of (Err fault) = Err (parts.Script fault)
-
--- the reply to a line that appends a frame, by what is wrong with its row
-abbrev pub row_fault_reply : StimFault → List ℕ
-row_fault_reply (stimuli.Length n) = refusal faults.Length
-row_fault_reply (stimuli.Char n) = codes "bad\n"
-row_fault_reply stimuli.Unfinished = codes "bad\n"
-row_fault_reply stimuli.Limit = codes "bad\n"
-row_fault_reply stimuli.Memory = codes "bad\n"
-row_fault_reply stimuli.Io = codes "bad\n"

@@ -2,7 +2,7 @@
 use Rattle.std.specs.Prelude.{ℕ, ◌+◌, List, [], ◌∷◌, ◌++◌, length}
 use Rattle.aig_parts.specs.declared.ternary.Tern.{Tern}
 use Rattle.aig_parts.specs.declared.raw.Raw.{Raw}
-use Rattle.aig_sim.specs.state.Frame.{HoldsAll, AreStates}
+use Rattle.aig_values.specs.state.Frame.{HoldsAll, AreStates}
 
 -- the circuit, a cell a variable with the values at the last frame, and the latches' values at the next one
 pub record Machine : Type 0 where

@@ -5,7 +5,7 @@ use Rattle.aig_parts.specs.declared.raw.Raw.{Raw}
 use Rattle.aig_bytes.specs.Bytes.{after, Writes}
 use Rattle.aig_base.specs.Circuit.{IsCircuit}
 use Rattle.aig_sim.specs.state.Checking.{SpellsFrames}
-use Rattle.aig_sim.specs.state.Frame.{AreStates}
+use Rattle.aig_values.specs.state.Frame.{AreStates}
 use Rattle.aig_sim.specs.state.Running.{Telling, Recorded}
 use Rattle.aig_sim.specs.WitnessText.{Witness, rows_text}
 

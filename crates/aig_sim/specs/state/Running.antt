@@ -8,7 +8,7 @@ use Rattle.aig_sim.specs.declared.line_in_hand.Shape.TheVariants.{Row}
 use Rattle.aig_sim.specs.declared.simulation.Simulation.{Simulation}
 use Rattle.aig_sim.specs.declared.stimulus_fault.StimFault.{StimFault}
 use Rattle.aig_sim.specs.declared.stimulus_fault.StimFault.TheVariants as fault
-use Rattle.aig_sim.specs.state.Frame.{AreStates}
+use Rattle.aig_values.specs.state.Frame.{AreStates}
 use Rattle.aig_sim.specs.LineInHand.{HasRead}
 use Rattle.aig_sim.specs.Simulated.{Streams, BeginsWithRows, Ends}
 use Rattle.aig_sim.specs.StimulusText.{HasFaultyLine}

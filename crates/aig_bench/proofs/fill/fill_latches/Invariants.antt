@@ -2,8 +2,8 @@ use Rattle.std.proofs.Common.{◌≡◌, ◌≢◌, ℕ, ◌<◌, Some, slice_ge
 use Rattle.aig_parts.specs.declared.latch.Latch.{Latch}
 use Rattle.aig_parts.specs.Literal.{variable}
 use Rattle.aig_base.specs.Value.{start_of}
-use Rattle.aig_sim.specs.state.Frame.{Renews}
-use Rattle.aig_sim.specs.InputRows.{row_at}
+use Rattle.aig_values.specs.state.Frame.{Renews}
+use Rattle.aig_values.specs.InputRows.{row_at}
 use Rattle.aig_bench.specs.state.Current.{Holds, IsLaidOut}
 use Rattle.aig_bench.specs.state.Setup.{pair_of}
 use Rattle.aig_bench.proofs.fill.fill_latches.Given as goal

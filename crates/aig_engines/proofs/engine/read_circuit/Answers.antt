@@ -1,4 +1,4 @@
-use Rattle.aig_engines.proofs.Benches.{is_file, refuses_circuit}
+use Rattle.aig_engines.proofs.CircuitFiles.{is_file, refuses_circuit}
 use Rattle.aig_engines.proofs.engine.read_circuit.Goals as goal
 
 pub returns-clause-circuit : goal.returns-clause-circuit

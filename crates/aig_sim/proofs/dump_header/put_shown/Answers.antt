@@ -2,7 +2,7 @@ use Rattle.std.proofs.Common.{ℕ, ◌∷◌, [], map, ap}
 use Rattle.std.proofs.lemmas.List.{drop_more, drop_all}
 use Rattle.aig_bytes.proofs.GatherLemmas.{gathers_same}
 use Rattle.aig_sim.specs.DumpNames.{name_byte}
-use Rattle.aig_sim.proofs.GatherLemmas.{partly_none, partly_same, partly_more, partly_stops, partly_done}
+use Rattle.aig_values.proofs.GatherLemmas.{partly_none, partly_same, partly_more, partly_stops, partly_done}
 use Rattle.aig_sim.proofs.dump_header.put_shown.Goals as goal
 
 pub loop-place-init : goal.loop-place-init

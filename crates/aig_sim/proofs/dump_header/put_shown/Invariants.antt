@@ -1,6 +1,6 @@
 use Rattle.std.proofs.Common.{map, drop}
 use Rattle.aig_sim.specs.DumpNames.{name_byte}
-use Rattle.aig_sim.proofs.GatherLemmas.{Partly}
+use Rattle.aig_values.proofs.GatherLemmas.{Partly}
 use Rattle.aig_sim.proofs.dump_header.put_shown.Given as goal
 
 abbrev pub invariant-loop-place : goal.invariant-loop-place

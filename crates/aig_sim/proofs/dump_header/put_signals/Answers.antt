@@ -1,7 +1,7 @@
 use Rattle.std.proofs.Common.{sym}
 use Rattle.aig_bytes.proofs.GatherLemmas.{gathers_then, gathers_stop, gathers_failed, gathers_same, gathers_none}
 use Rattle.aig_sim.proofs.DumpNameLemmas.{line_at, line_more, no_line}
-use Rattle.aig_sim.proofs.GatherLemmas.{gathers_ok}
+use Rattle.aig_values.proofs.GatherLemmas.{gathers_ok}
 use Rattle.aig_sim.proofs.dump_header.put_signals.Goals as goal
 
 pub loop-position-init : goal.loop-position-init

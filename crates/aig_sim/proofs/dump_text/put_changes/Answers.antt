@@ -1,6 +1,6 @@
 use Rattle.aig_sim.specs.Dump.{changed_lines}
 use Rattle.aig_sim.proofs.DumpLemmas.{changed_from, changed_none}
-use Rattle.aig_sim.proofs.GatherLemmas.{partly_none, partly_same, partly_more, partly_stops, partly_done}
+use Rattle.aig_values.proofs.GatherLemmas.{partly_none, partly_same, partly_more, partly_stops, partly_done}
 use Rattle.aig_sim.proofs.dump_text.put_changes.Goals as goal
 
 pub loop-signal-init : goal.loop-signal-init

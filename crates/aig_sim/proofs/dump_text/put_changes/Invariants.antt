@@ -1,6 +1,6 @@
 use Rattle.std.proofs.Common.{drop}
 use Rattle.aig_sim.specs.Dump.{changed_lines}
-use Rattle.aig_sim.proofs.GatherLemmas.{Partly}
+use Rattle.aig_values.proofs.GatherLemmas.{Partly}
 use Rattle.aig_sim.proofs.dump_text.put_changes.Given as goal
 
 abbrev pub invariant-loop-signal : goal.invariant-loop-signal

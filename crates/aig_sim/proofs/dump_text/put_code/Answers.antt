@@ -1,6 +1,6 @@
 use Rattle.aig_sim.specs.DumpNames.{identifier_code}
 use Rattle.aig_sim.proofs.DumpLemmas.{code_last, code_more}
-use Rattle.aig_sim.proofs.GatherLemmas.{partly_none, partly_same, partly_more, partly_stops, partly_ends}
+use Rattle.aig_values.proofs.GatherLemmas.{partly_none, partly_same, partly_more, partly_stops, partly_ends}
 use Rattle.aig_sim.proofs.dump_text.put_code.Goals as goal
 
 pub loop-rest-init : goal.loop-rest-init

@@ -1,5 +1,5 @@
 use Rattle.aig_sim.specs.DumpNames.{identifier_code}
-use Rattle.aig_sim.proofs.GatherLemmas.{Partly}
+use Rattle.aig_values.proofs.GatherLemmas.{Partly}
 use Rattle.aig_sim.proofs.dump_text.put_code.Given as goal
 
 abbrev pub invariant-loop-rest : goal.invariant-loop-rest

@@ -2,9 +2,9 @@ use Rattle.std.proofs.Common.{ℕ, List}
 use Rattle.aig_parts.specs.declared.ternary.Tern.{Tern}
 use Rattle.aig_parts.specs.declared.raw.Raw.{Raw}
 use Rattle.aig_base.specs.Sound.{IsSound}
-use Rattle.aig_sim.specs.state.Frame.{HoldsSources}
-use Rattle.aig_sim.specs.GateOrder.{IsGateOrder}
-use Rattle.aig_sim.proofs.Evaluation.{HoldsFirst}
+use Rattle.aig_values.specs.state.Frame.{HoldsSources}
+use Rattle.aig_values.specs.GateOrder.{IsGateOrder}
+use Rattle.aig_values.proofs.Evaluation.{HoldsFirst}
 use Rattle.aig_sim.proofs.frame_cells.evaluate_frame.Given as goal
 
 abbrev pub invariant-loop-gate : goal.invariant-loop-gate

@@ -3,9 +3,9 @@ use Rattle.std.proofs.lemmas.Option.{slice_get-get_or}
 use Rattle.aig_parts.specs.declared.ternary.Tern.{Tern}
 use Rattle.aig_parts.specs.declared.ternary.Tern.TheVariants.{Zero}
 use Rattle.aig_parts.specs.Literal.{variable}
-use Rattle.aig_sim.specs.state.Frame.{Holds}
+use Rattle.aig_values.specs.state.Frame.{Holds}
 use Rattle.aig_base.proofs.circuits.Circuits.{input_in_range}
-use Rattle.aig_sim.proofs.Evaluation.{item_at, items_more, items_all, input_value, put_value}
+use Rattle.aig_values.proofs.Evaluation.{item_at, items_more, items_all, input_value, put_value}
 use Rattle.aig_sim.proofs.frame_cells.put_each_input.Goals as goal
 
 pub loop-position-preserved : goal.loop-position-preserved

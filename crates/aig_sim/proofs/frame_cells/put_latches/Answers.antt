@@ -2,9 +2,9 @@ use Rattle.std.proofs.Common.{◌≡◌, ◌<◌, ℕ, List, Some, slice_get, sl
 use Rattle.aig_parts.specs.declared.ternary.Tern.{Tern}
 use Rattle.aig_parts.specs.declared.latch.Latch.{Latch}
 use Rattle.aig_parts.specs.Literal.{variable}
-use Rattle.aig_sim.specs.state.Frame.{AreStates, Holds}
+use Rattle.aig_values.specs.state.Frame.{AreStates, Holds}
 use Rattle.aig_base.proofs.circuits.Circuits.{latch_in_range}
-use Rattle.aig_sim.proofs.Evaluation.{item_at, items_more, items_all, latch_value, put_value}
+use Rattle.aig_values.proofs.Evaluation.{item_at, items_more, items_all, latch_value, put_value}
 use Rattle.aig_sim.proofs.frame_cells.put_latches.Goals as goal
 
 pub bounds-cells-var : goal.bounds-cells-var

@@ -2,7 +2,7 @@ use Rattle.std.proofs.Common.{◌≡◌, ℕ, ◌<◌, List, Some, slice_get}
 use Rattle.aig_parts.specs.declared.ternary.Tern.{Tern}
 use Rattle.aig_parts.specs.declared.latch.Latch.{Latch}
 use Rattle.aig_parts.specs.Literal.{variable}
-use Rattle.aig_sim.specs.state.Frame.{AreStates, Holds, Renews}
+use Rattle.aig_values.specs.state.Frame.{AreStates, Holds, Renews}
 use Rattle.aig_sim.proofs.frame_cells.put_latches.Given as goal
 
 abbrev pub invariant-loop-position : goal.invariant-loop-position

@@ -3,9 +3,9 @@ use Rattle.std.proofs.lemmas.Option.{slice_get-get_or}
 use Rattle.aig_parts.specs.declared.ternary.Tern.{Tern}
 use Rattle.aig_parts.specs.declared.ternary.Tern.TheVariants.{Zero}
 use Rattle.aig_parts.specs.Literal.{variable}
-use Rattle.aig_sim.specs.state.Frame.{Holds}
+use Rattle.aig_values.specs.state.Frame.{Holds}
 use Rattle.aig_base.proofs.circuits.Circuits.{input_in_range}
-use Rattle.aig_sim.proofs.Evaluation.{items_more, items_all, input_value, put_value}
+use Rattle.aig_values.proofs.Evaluation.{items_more, items_all, input_value, put_value}
 use Rattle.aig_sim.proofs.frame_cells.put_neighbours.Goals as goal
 
 pub bounds-cells-first : goal.bounds-cells-first

@@ -1,7 +1,7 @@
 use Rattle.std.proofs.Common.{◌≡◌, ℕ, ◌<◌, List, Some, slice_get}
 use Rattle.aig_parts.specs.declared.ternary.Tern.{Tern}
 use Rattle.aig_parts.specs.Literal.{variable}
-use Rattle.aig_sim.specs.state.Frame.{Holds, Renews}
+use Rattle.aig_values.specs.state.Frame.{Holds, Renews}
 use Rattle.aig_sim.proofs.frame_cells.put_neighbours.Given as goal
 
 abbrev pub invariant-loop-position : goal.invariant-loop-position

@@ -1,8 +1,8 @@
 use Rattle.std.proofs.Common.{◌<◌, length, slice_set, sym, subst, arith}
 use Rattle.aig_parts.specs.declared.ternary.Tern.{Tern}
 use Rattle.aig_parts.specs.Literal.{variable}
-use Rattle.aig_sim.specs.state.Frame.{Holds}
-use Rattle.aig_sim.proofs.Evaluation.{constant_holds, sources_hold}
+use Rattle.aig_values.specs.state.Frame.{Holds}
+use Rattle.aig_values.proofs.Evaluation.{constant_holds, sources_hold}
 use Rattle.aig_sim.proofs.frame_cells.put_sources.Goals as goal
 
 pub returns : goal.returns

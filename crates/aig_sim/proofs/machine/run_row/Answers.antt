@@ -1,5 +1,6 @@
 use Rattle.std.proofs.Common.{[], ◌∷◌, ◌++◌, length}
-use Rattle.aig_sim.proofs.TraceLemmas.{steps, states_stay, last_row}
+use Rattle.aig_sim.proofs.StepLemmas.{steps}
+use Rattle.aig_values.proofs.TraceLemmas.{states_stay, last_row}
 use Rattle.aig_sim.proofs.machine.run_row.Goals as goal
 
 pub returns : goal.returns

@@ -1,6 +1,6 @@
 use Rattle.std.proofs.Common.{refl}
 use Rattle.aig_sim.specs.declared.witness_fault.WitnessFault.TheVariants.{Memory}
-use Rattle.aig_sim.specs.Trace.{IsTrace}
+use Rattle.aig_values.specs.Trace.{IsTrace}
 use Rattle.aig_sim.proofs.ReplayLemmas.{ready_is, not_replayed, replayed, replay_failed}
 use Rattle.aig_sim.proofs.replay.trace_witness.Goals as goal
 

@@ -2,7 +2,7 @@ use Rattle.std.proofs.Common.{◌≡◌, ℕ, ◌-◌, ◌^◌, min, List, [], �
 use Rattle.aig_parts.specs.declared.ternary.Tern.{Tern}
 use Rattle.aig_parts.specs.declared.raw.Raw.{Raw}
 use Rattle.aig_sim.specs.state.Checking.{BeginsWithRow}
-use Rattle.aig_sim.specs.state.Frame.{HoldsAll, AreStates}
+use Rattle.aig_values.specs.state.Frame.{HoldsAll, AreStates}
 use Rattle.aig_sim.specs.state.Machine.{Steps}
 use Rattle.aig_sim.proofs.ReplayLemmas.{replay_begins, replay_more, replay_stops}
 use Rattle.aig_sim.proofs.VerdictLemmas.{begins_with_row, row_was_read}

@@ -3,7 +3,7 @@ use Rattle.std.specs.Prelude.{ℕ}
 use Rattle.std.proofs.lemmas.Bool.{false≢true}
 use Rattle.aig_parts.specs.declared.raw.Raw.{Raw}
 use Rattle.aig_sim.specs.state.Checking.{ReadsNotOne}
-use Rattle.aig_sim.proofs.Evaluation.{item_at}
+use Rattle.aig_values.proofs.Evaluation.{item_at}
 use Rattle.aig_sim.proofs.VerdictLemmas.{constraint_in_range, right_more, reads_one, no_literal_behind}
 use Rattle.aig_sim.proofs.witness.first_failure.Goals as goal
 

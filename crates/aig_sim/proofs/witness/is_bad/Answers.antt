@@ -2,7 +2,7 @@ use Rattle.std.proofs.Common.{◌≡◌, length, get_or, Some, slice_get, sym, a
 use Rattle.std.specs.Prelude.{ℕ, List}
 use Rattle.std.proofs.lemmas.Bool.{false≢true}
 use Rattle.aig_parts.specs.declared.raw.Raw.{Raw}
-use Rattle.aig_sim.proofs.Evaluation.{item_at}
+use Rattle.aig_values.proofs.Evaluation.{item_at}
 use Rattle.aig_sim.proofs.VerdictLemmas.{bad_in_range, reads_one}
 use Rattle.aig_sim.proofs.witness.is_bad.Goals as goal
 

@@ -3,7 +3,7 @@ use Rattle.aig_parts.specs.declared.ternary.Tern.{Tern}
 use Rattle.aig_parts.specs.declared.raw.Raw.{Raw}
 use Rattle.aig_base.specs.Sound.{IsSound}
 use Rattle.aig_sim.specs.state.Checking.{BeginsWithRow, ReadsNotOne}
-use Rattle.aig_sim.specs.state.Frame.{AreStates}
+use Rattle.aig_values.specs.state.Frame.{AreStates}
 use Rattle.aig_sim.specs.state.Machine.{Steps}
 use Rattle.aig_sim.proofs.VerdictLemmas.{begins_with_row, row_was_read, run_on, run_fails}
 use Rattle.aig_sim.proofs.witness.run_frames.Goals as goal

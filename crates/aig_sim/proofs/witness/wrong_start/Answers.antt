@@ -1,7 +1,7 @@
 use Rattle.std.proofs.Common.{◌≡◌, length, Some, slice_get, sym, ap, ◌∙◌, subst, arith}
 use Rattle.aig_parts.specs.declared.raw.Raw.{Raw}
 use Rattle.aig_sim.specs.Verdict.{Allows, StartsWrong}
-use Rattle.aig_sim.proofs.Evaluation.{item_at}
+use Rattle.aig_values.proofs.Evaluation.{item_at}
 use Rattle.aig_sim.proofs.VerdictLemmas.{right_more, starts_right, no_latch_behind}
 use Rattle.aig_sim.proofs.witness.wrong_start.Goals as goal
 

@@ -1,11 +1,11 @@
 use Rattle.std.proofs.Common.{◌≡◌, ◌≢◌, ◌⊎◌, ◌↔◌, ◌∙◌, ◌-◌, ◌<◌, inl, inr, ℕ, suc, true, Bool, List, Some, slice_get, refl, rules, ap, subst, arith}
 use Rattle.std.proofs.lemmas.Bool.{cases_eq}
 use Rattle.std.proofs.lemmas.Option.{slice_get_within}
-use Rattle.aig_sim.proofs.Evaluation.{item_at}
+use Rattle.aig_values.proofs.Evaluation.{item_at}
 use Rattle.aig_parts.specs.Literal.{variable}
 use Rattle.aig_base.specs.state.Marks.{IsMarked}
 use Rattle.aig_base.specs.Sound.{IsSound}
-use Rattle.aig_sim.specs.InputRows.{row_at}
+use Rattle.aig_values.specs.InputRows.{row_at}
 use Rattle.aig_bench.specs.Pair.{Pair}
 use Rattle.aig_bench.specs.state.Engine.{EngineState}
 use Rattle.aig_bench.specs.state.Entry.{Puts}

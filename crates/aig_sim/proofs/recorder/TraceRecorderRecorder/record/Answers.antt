@@ -1,5 +1,5 @@
 use Rattle.std.proofs.Common.{◌++◌, ◌∷◌, [], length}
-use Rattle.aig_sim.proofs.TraceLemmas.{trace_more, line_is}
+use Rattle.aig_values.proofs.TraceLemmas.{trace_more, line_is}
 use Rattle.aig_sim.proofs.recorder.TraceRecorderRecorder.record.Goals as goal
 
 pub returns-clause-text : goal.returns-clause-text

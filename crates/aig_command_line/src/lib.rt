@@ -1,0 +1,6 @@
+//! The command line of the program `aig`: its subcommands, their arguments and help, over the parser `clap`.
+#![tactic(auto)]
+
+mod command_line;
+
+pub use command_line::{has_flag, matches_of, number_of, subcommand_of, text_of};

@@ -1,0 +1,12 @@
+pub mod Benches
+pub mod Digits
+pub mod Fields
+pub mod FirstBytes
+pub mod Inputs
+pub mod KeptFiles
+pub mod Pieces
+pub mod ReplyLemmas
+pub mod RowLines
+pub mod RunLemmas
+pub mod ScriptLines
+pub mod Splits

@@ -1,0 +1,9 @@
+pub mod BenchRun
+pub mod Command
+pub mod Files
+pub mod Kept
+pub mod Lines
+pub mod Ran
+pub mod Replies
+pub mod ScriptLine
+pub mod state

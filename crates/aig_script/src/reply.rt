@@ -1,0 +1,210 @@
+//! Replies to the lines of a script.
+ghost use Rattle.std.specs.Prelude.{◌≡◌, ℕ, List, ◌∷◌, length, Result, Ok};
+ghost use Rattle.aig_parts.specs.declared.raw.Raw.{Raw};
+ghost use Rattle.aig_bytes.specs.Bytes.{Writes};
+ghost use Rattle.aig_bench.specs.Edit.{number_of};
+ghost use Rattle.aig_sim.specs.LineInHand.{Keeps};
+ghost use Rattle.aig_unroll.specs.declared.fault.UnrollFault.{UnrollFault};
+ghost use Rattle.aig_unroll.specs.Answers as unrolling;
+ghost use Rattle.aig_unroll.specs.Answers.{AnswersUnrolling};
+ghost use Rattle.aig_script.specs.state.CommandMeaning.{meaning};
+ghost use Rattle.aig_script.specs.Replies.{numbered_refusal, refusal, edit_reply, value_reply, unroll_reply};
+ghost use Rattle.aig_script.specs.Replies.{CommandReply, WholeReply};
+ghost use Rattle.aig_script.specs.state.Faults.{row_fault_reply};
+ghost use Rattle.aig_script.specs.ScriptLine.{BeginsRow, KeepsLine};
+
+use crate::command::{Command, parse_command};
+use crate::script_line::ScriptLine;
+use aig_base::{Circuit, Io, Tern, Write, write_all, write_number};
+use aig_bench::{Bench, EditFault, EditReport};
+use aig_format::write_ascii;
+use aig_sim::{Grid, LineInHand, StimFault};
+use aig_unroll::UnrollFault;
+use std::alloc::Global;
+
+/// The number of a fault, as `no N` names it.
+fn number_of_fault(fault: EditFault) -> u32
+    ensures { result ≡ number_of fault }
+{
+    match fault {
+        EditFault::NotAGate => 1,
+        EditFault::NotALatch => 2,
+        EditFault::Range => 3,
+        EditFault::Undefined => 4,
+        EditFault::Cycle => 5,
+        EditFault::NoFrame => 6,
+        EditFault::NoInput => 7,
+        EditFault::Length => 8,
+        EditFault::Empty => 9,
+        EditFault::Limit => 10,
+        EditFault::Memory => 11,
+        EditFault::NoOutput => 13,
+    }
+}
+
+/// The number of a fault of the unroller, as `no N` names it.
+fn number_of_unroll_fault(fault: UnrollFault) -> u32
+    ensures { result ≡ unrolling.number_of fault }
+{
+    match fault {
+        UnrollFault::NoFrames => 9,
+        UnrollFault::Liveness => 12,
+        UnrollFault::Limit => 10,
+        UnrollFault::Memory => 11,
+    }
+}
+
+fn write_number_refused<W: Write>(number: u32, out: &mut W) -> Result<(), Io>
+    ensures { Writes W.written W.failures out.old out.new (numbered_refusal number) result }
+{
+    write_all(out, b"no ")?;
+    write_number(out, number)?;
+    write_all(out, b"\n")
+}
+
+fn write_refusal<W: Write>(fault: EditFault, out: &mut W) -> Result<(), Io>
+    ensures { Writes W.written W.failures out.old out.new (refusal fault) result }
+{
+    write_number_refused(number_of_fault(fault), out)
+}
+
+fn write_edit<W: Write>(answer: Result<EditReport, EditFault>, out: &mut W) -> Result<(), Io>
+    ensures { Writes W.written W.failures out.old out.new (edit_reply answer) result }
+{
+    match answer {
+        Ok(_report) => write_all(out, b"ok\n"),
+        Err(fault) => write_refusal(fault, out),
+    }
+}
+
+fn write_value<W: Write>(answer: Result<Tern, EditFault>, out: &mut W) -> Result<(), Io>
+    ensures { Writes W.written W.failures out.old out.new (value_reply answer) result }
+{
+    match answer {
+        Ok(Tern::Zero) => write_all(out, b"0\n"),
+        Ok(Tern::One) => write_all(out, b"1\n"),
+        Ok(Tern::X) => write_all(out, b"x\n"),
+        Err(fault) => write_refusal(fault, out),
+    }
+}
+
+/// Writes an unrolled circuit as a text file, and a line `.`.
+fn write_unrolled_circuit<W: Write>(circuit: &Circuit, out: &mut W) -> Result<(), Io>
+    ensures { Writes W.written W.failures out.old out.new (unroll_reply (Ok circuit.now)) result }
+{
+    match write_ascii(circuit, out) {
+        Ok(()) => write_all(out, b".\n"),
+        Err(_) => Err(Io),
+    }
+}
+
+/// Writes the circuit unrolled for all frames, or why it is refused.
+fn write_unrolled<G: Grid, W: Write>(alloc: Global, bench: &Bench<G>, out: &mut W) -> Result<(), Io>
+    ensures { (r : Result Raw UnrollFault) × AnswersUnrolling bench.now.pair.circuit (length bench.now.pair.rows) r
+        × Writes W.written W.failures out.old out.new (unroll_reply r) result }
+{
+    match bench.unrolled(alloc) {
+        Ok(circuit) => write_unrolled_circuit(&circuit, out),
+        Err(fault) => write_number_refused(number_of_unroll_fault(fault), out),
+    }
+}
+
+/// Does what the command asks for, and writes its reply.
+fn obey<G: Grid, W: Write>(
+    alloc: Global,
+    bench: &mut Bench<G>,
+    command: Command,
+    out: &mut W,
+) -> Result<(), Io>
+    ensures { (reply : List ℕ) × CommandReply bench.old.pair (meaning command) reply bench.new.pair
+        × Writes W.written W.failures out.old out.new reply result }
+{
+    match command {
+        Command::Rewire {
+            gate,
+            right0,
+            right1,
+        } => write_edit(bench.rewire(gate, right0, right1), out),
+        Command::SetReset { latch, value } => write_edit(bench.set_reset(latch, value), out),
+        Command::SetBit {
+            frame,
+            position,
+            value,
+        } => write_edit(bench.set_bit(frame, position, value), out),
+        Command::DropFrame => write_edit(bench.drop_frame(), out),
+        Command::AppendGate { right0, right1 } => write_edit(
+            bench.append_gate(right0, right1),
+            out,
+        ),
+        Command::SetOutput { position, literal } => {
+            write_edit(bench.set_output(position, literal), out)
+        }
+        Command::Value { frame, literal } => write_value(bench.value(frame, literal), out),
+        Command::Trace => {
+            bench.write_trace(out)?;
+            write_all(out, b".\n")
+        }
+        Command::Unroll => write_unrolled(alloc, bench, out),
+    }
+}
+
+/// Why the values behind `+ ` are no row: there are too few or too many, or another byte is among them.
+fn write_row_fault<W: Write>(fault: StimFault, out: &mut W) -> Result<(), Io>
+    ensures { Writes W.written W.failures out.old out.new (row_fault_reply fault) result }
+{
+    match fault {
+        StimFault::Length(_) => write_refusal(EditFault::Length, out),
+        StimFault::Char(_)
+        | StimFault::Unfinished
+        | StimFault::Limit
+        | StimFault::Memory
+        | StimFault::Io => write_all(out, b"bad\n"),
+    }
+}
+
+/// Appends the frame that a line spells behind `+ `, and writes its reply.
+fn append<G: Grid, W: Write>(bench: &mut Bench<G>, row: &LineInHand, out: &mut W) -> Result<(), Io>
+    requires { row.now.width ≡ length bench.old.pair.circuit.inputs }
+    ensures { (reply : List ℕ) × ((values : List ℕ) → Keeps row.now.width values row.now.shape row.now.values →
+        WholeReply bench.old.pair (43 ∷ 32 ∷ values) reply bench.new.pair)
+        × Writes W.written W.failures out.old out.new reply result }
+{
+    match row.row(1) {
+        Ok(values) => write_edit(bench.add_frame(values), out),
+        Err(fault) => write_row_fault(fault, out),
+    }
+}
+
+/// Answers a line that appends no frame: does what it asks for, and writes its reply, or `bad`.
+pub fn answer_command<G: Grid, W: Write>(
+    alloc: Global,
+    bench: &mut Bench<G>,
+    line: &[u8],
+    out: &mut W,
+) -> Result<(), Io>
+    ensures { (reply : List ℕ) × ((BeginsRow line.now → ⊥) → WholeReply bench.old.pair line.now reply bench.new.pair)
+        × Writes W.written W.failures out.old out.new reply result }
+{
+    match parse_command(line) {
+        Some(command) => obey(alloc, bench, command, out),
+        None => write_all(out, b"bad\n"),
+    }
+}
+
+/// Answers a line that an LF ends: does what it asks for, and writes its reply, or `bad`.
+pub fn answer<G: Grid, W: Write>(
+    alloc: Global,
+    bench: &mut Bench<G>,
+    line: &ScriptLine,
+    out: &mut W,
+) -> Result<(), Io>
+    requires { line.now.row.width ≡ length bench.old.pair.circuit.inputs }
+    ensures { (reply : List ℕ) × ((text : List ℕ) → KeepsLine text line.now →
+        WholeReply bench.old.pair text reply bench.new.pair)
+        × Writes W.written W.failures out.old out.new reply result }
+{
+    if let Some(row) = line.row() {
+        return append(bench, row, out);
+    }
+    answer_command(alloc, bench, line.bytes(), out)
+}

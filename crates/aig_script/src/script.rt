@@ -1,0 +1,202 @@
+//! Scripts: lines that drive a bench, answered one by one.
+ghost use Rattle.std.specs.Prelude.{◌≡◌, ◌<◌, ◌≤◌, ◌↔◌, ◌++◌, ℕ, List, [], map, length, take, slice_get, Some};
+ghost use Rattle.std.specs.Prelude.{IsTrue, OnOk, OnErr, IfOk, IfErr};
+ghost use Rattle.aig_bytes.specs.Bytes.{IsAtEnd, Writes};
+ghost use Rattle.aig_bytes.specs.Flow.{flow};
+ghost use Rattle.aig_script.specs.Lines.{IsPiece, whole, lines_from, rest_from};
+ghost use Rattle.aig_script.specs.Ran.{Answered, StoppedAt, Reading, Ran, Failing};
+ghost use Rattle.aig_script.specs.Replies.{WholeReply};
+ghost use Rattle.aig_script.specs.ScriptLine.{BeginsRow, KeepsLine};
+
+use crate::reply::{answer, answer_command};
+use crate::script_line::ScriptLine;
+use aig_base::{Io, Read, Write, write_all};
+use aig_bench::Bench;
+use aig_engines::ScriptFault;
+use aig_sim::Grid;
+use std::alloc::Global;
+
+/// How many bytes stand before the first LF, or how many there are.
+fn line_length(bytes: &[u8]) -> usize
+    ensures bound { result ≤ length bytes.now }
+    ensures piece { IsPiece (take result bytes.now) }
+    ensures ended { result < length bytes.now → slice_get bytes.now result ≡ Some 10 }
+{
+    match bytes.iter().position(|byte| *byte == b'\n') {
+        Some(place) => place,
+        None => bytes.len(),
+    }
+}
+
+/// Whether a line that begins with these bytes appends a frame.
+fn begins_row(bytes: &[u8]) -> bool
+    ensures { IsTrue result ↔ BeginsRow bytes.now }
+{
+    matches!(bytes, [b'+', b' ', ..])
+}
+
+/// Answers the line that ends with these bytes, and begins the next. A whole command is answered where it stands.
+fn end_line<G: Grid, W: Write>(
+    alloc: Global,
+    bench: &mut Bench<G>,
+    line: &mut ScriptLine,
+    piece: &[u8],
+    out: &mut W,
+) -> Result<(), Io>
+    requires width { line.old.row.width ≡ length bench.old.pair.circuit.inputs }
+    requires kept { (text : List ℕ) × KeepsLine text line.old }
+    ensures width { line.new.row.width ≡ line.old.row.width }
+    ensures empty { OnOk result (KeepsLine [] line.new) }
+    ensures reply { (reply : List ℕ) × ((text : List ℕ) → KeepsLine text line.old →
+        WholeReply bench.old.pair (text ++ piece.now) reply bench.new.pair)
+        × Writes W.written W.failures out.old out.new reply result }
+{
+    if line.is_empty() && !begins_row(piece) {
+        return answer_command(alloc, bench, piece, out);
+    }
+    line.extend(piece);
+    answer(alloc, bench, line, out)?;
+    line.clear();
+    Ok(())
+}
+
+/// Takes bytes up to the end of a line, which is then answered, or keeps all of them. Answers how many it took.
+fn feed_line<G: Grid, W: Write>(
+    alloc: Global,
+    bench: &mut Bench<G>,
+    line: &mut ScriptLine,
+    bytes: &[u8],
+    out: &mut W,
+) -> Result<usize, Io>
+    requires width { line.old.row.width ≡ length bench.old.pair.circuit.inputs }
+    requires kept { (text : List ℕ) × KeepsLine text line.old }
+    ensures width { line.new.row.width ≡ length bench.new.pair.circuit.inputs }
+    ensures bound { IfOk result (λ count. count ≤ length bytes.now) }
+    ensures some { IfOk result (λ count. 0 < length bytes.now → 0 < count) }
+    ensures rest { IfOk result (λ count. (text : List ℕ) → KeepsLine text line.old →
+        KeepsLine (rest_from text (take count bytes.now)) line.new) }
+    ensures ok { IfOk result (λ count. (text : List ℕ) → KeepsLine text line.old →
+        Answered (flow W.written W.failures out.old out.new) (map whole (lines_from text (take count bytes.now)))
+        bench.old.pair bench.new.pair) }
+    ensures err { OnErr result ((text : List ℕ) → KeepsLine text line.old →
+        StoppedAt (flow W.written W.failures out.old out.new) (map whole (lines_from text bytes.now))
+        bench.old.pair bench.new.pair) }
+{
+    let length = line_length(bytes);
+    if length == bytes.len() {
+        line.extend(bytes);
+        return Ok(length);
+    }
+    end_line(alloc, bench, line, &bytes[..length], out)?;
+    Ok(length + 1)
+}
+
+/// Answers each line that the chunk ends, and keeps what is behind the last.
+fn feed<G: Grid, W: Write>(
+    alloc: Global,
+    bench: &mut Bench<G>,
+    line: &mut ScriptLine,
+    chunk: &[u8],
+    out: &mut W,
+) -> Result<(), Io>
+    requires width { line.old.row.width ≡ length bench.old.pair.circuit.inputs }
+    requires kept { (text : List ℕ) × KeepsLine text line.old }
+    ensures width { line.new.row.width ≡ length bench.new.pair.circuit.inputs }
+    ensures rest { OnOk result ((text : List ℕ) → KeepsLine text line.old →
+        KeepsLine (rest_from text chunk.now) line.new) }
+    ensures ok { OnOk result ((text : List ℕ) → KeepsLine text line.old →
+        Answered (flow W.written W.failures out.old out.new) (map whole (lines_from text chunk.now)) bench.old.pair
+        bench.new.pair) }
+    ensures err { OnErr result ((text : List ℕ) → KeepsLine text line.old →
+        StoppedAt (flow W.written W.failures out.old out.new) (map whole (lines_from text chunk.now)) bench.old.pair
+        bench.new.pair) }
+{
+    let mut at = 0;
+    while at < chunk.len() {
+        at += feed_line(alloc, bench, line, &chunk[at..], out)?;
+    }
+    Ok(())
+}
+
+/// Reads to the end. Before it reads on, it answers each line that an LF ends, and hands the replies on.
+fn answer_lines<G: Grid, R: Read, W: Write>(
+    alloc: Global,
+    bench: &mut Bench<G>,
+    line: &mut ScriptLine,
+    reader: &mut R,
+    out: &mut W,
+) -> Result<(), Io>
+    requires empty { KeepsLine [] line.old }
+    requires width { line.old.row.width ≡ length bench.old.pair.circuit.inputs }
+    ensures ok { OnOk result (Reading (flow R.left R.failures reader.old reader.new)
+        (flow W.written W.failures out.old out.new)
+        line.new bench.old.pair bench.new.pair) }
+    ensures end { OnOk result (IsAtEnd (R.left reader.new)) }
+    ensures err { OnErr result (Failing (flow R.left R.failures reader.old reader.new)
+        (flow W.written W.failures out.old out.new)
+        bench.old.pair bench.new.pair) }
+{
+    let mut buffer = [0u8; 4096];
+    loop {
+        out.flush()?;
+        let size = reader.read(&mut buffer)?;
+        if size == 0 {
+            return Ok(());
+        }
+        feed(alloc, bench, line, &buffer[..size], out)?;
+    }
+}
+
+/// Answers all lines; a last piece with bytes and no LF is bad.
+fn answer_all<G: Grid, R: Read, W: Write>(
+    alloc: Global,
+    bench: &mut Bench<G>,
+    line: &mut ScriptLine,
+    reader: &mut R,
+    out: &mut W,
+) -> Result<(), Io>
+    requires empty { KeepsLine [] line.old }
+    requires width { line.old.row.width ≡ length bench.old.pair.circuit.inputs }
+    ensures ok { OnOk result (Ran (flow R.left R.failures reader.old reader.new)
+        (flow W.written W.failures out.old out.new)
+        bench.old.pair bench.new.pair) }
+    ensures err { OnErr result (Failing (flow R.left R.failures reader.old reader.new)
+        (flow W.written W.failures out.old out.new)
+        bench.old.pair bench.new.pair) }
+{
+    answer_lines(alloc, bench, line, reader, out)?;
+    if line.is_empty() {
+        return Ok(());
+    }
+    write_all(out, b"bad\n")?;
+    Ok(out.flush()?)
+}
+
+/// Reads a script to its end and answers its lines one by one, each before it reads on. It flushes before each read, so
+/// that whoever waits for the replies to what was read has them, and behind the last reply. A line of any length is
+/// handled without keeping it; a last piece with bytes and no LF is bad. It takes memory for a row before the first
+/// read, and behind that none but what `w`, `+`, `g` and `u` take for the bench.
+pub fn run_script<G: Grid, R: Read, W: Write>(
+    alloc: Global,
+    bench: &mut Bench<G>,
+    reader: &mut R,
+    out: &mut W,
+) -> Result<(), ScriptFault>
+    ensures replies { OnOk result (Ran (flow R.left R.failures reader.old reader.new)
+        (flow W.written W.failures out.old out.new)
+        bench.old.pair bench.new.pair) }
+    ensures io { IfErr result (λ fault. fault ≡ ScriptFault.Io →
+        Failing (flow R.left R.failures reader.old reader.new)
+        (flow W.written W.failures out.old out.new) bench.old.pair
+        bench.new.pair) }
+    ensures memory { IfErr result (λ fault. fault ≡ ScriptFault.Memory →
+        (reader.new ≡ reader.old) × (out.new ≡ out.old) × (bench.new ≡ bench.old)) }
+{
+    let Ok(mut line) = ScriptLine::new(alloc, bench.width() as usize) else {
+        return Err(ScriptFault::Memory);
+    };
+    match answer_all(alloc, bench, &mut line, reader, out) {
+        Ok(()) => Ok(()),
+        Err(Io) => Err(ScriptFault::Io),
+    }
+}

@@ -1,0 +1,37 @@
+use Rattle.std.proofs.Common.{◌+◌, ◌∷◌, [], ◌≤◌, length, ◌∙◌, arith}
+use Rattle.aig_parts.specs.declared.latch.Latch.{Latch}
+use Rattle.aig_values.specs.TraceText.{literal_character}
+use Rattle.aig_bytes.proofs.GatherLemmas.{gathers_then}
+use Rattle.aig_values.proofs.GatherLemmas.{span_is, same_room, span_more, span_failed, all_gathered}
+use Rattle.aig_values.proofs.trace_line.put_states.Goals as goal
+
+pub returns-in_err-put_all : goal.returns-in_err-put_all
+returns-in_err-put_all g c =
+    let f = λ (x : Latch). literal_character (g.R.Row.cells c.args.row.now) x.lit in
+    let xs = c.args.latches.now in
+    let i = c.loop-at.at in
+    let n = c.min-count.result in
+    let fits : i + n ≤ length xs = omega (arith, c.loop-at.invariant.inside, c.min-count.ensures) in
+    let bytes = span_is f xs i n c.spell_states.new.text c.loop-at.piece fits c.spell_states.ensures in
+    span_failed f xs i n _ (c.args.end ∷ []) c.loop-at.invariant.gathers bytes c.in_err-put_all.ensures c.from_residual.ensures.0
+
+pub loop-at-preserved : goal.loop-at-preserved
+loop-at-preserved g c =
+    let f = λ (x : Latch). literal_character (g.R.Row.cells c.args.row.now) x.lit in
+    let xs = c.args.latches.now in
+    let i = c.loop-at.at in
+    let n = c.min-count.result in
+    let fits : i + n ≤ length xs = omega (arith, c.loop-at.invariant.inside, c.min-count.ensures) in
+    let bytes = span_is f xs i n c.spell_states.new.text c.loop-at.piece fits c.spell_states.ensures in
+    record {
+      inside = fits;
+      room = same_room f xs i n c.spell_states.new.text c.loop-at.piece fits c.spell_states.ensures
+          (omega (arith, c.min-count.ensures, c.loop-at.invariant.room)) ∙ c.loop-at.invariant.room;
+      gathers = span_more f xs i n _ c.loop-at.invariant.gathers bytes c.in_ok-put_all.ensures;
+    }
+
+pub returns : goal.returns
+returns g c =
+    let f = λ (x : Latch). literal_character (g.R.Row.cells c.args.row.now) x.lit in
+    gathers_then (all_gathered f c.args.latches.now c.loop-at.at c.loop-at.invariant.gathers (omega (arith, c.loop-at-test.false)))
+    c.put.ensures

@@ -1,0 +1,180 @@
+//! The lines of a trace, by the values of their frames.
+ghost use Rattle.std.specs.Prelude.{◌≡◌, ℕ, ◌+◌, ◌≤◌, [], ◌∷◌, ◌++◌, length, map, All};
+ghost use Rattle.aig_bytes.specs.Bytes.{Writes};
+ghost use Rattle.aig_base.specs.Circuit.{IsCircuit};
+ghost use Rattle.aig_parts.specs.Literal.{variable};
+ghost use Rattle.aig_bytes.specs.state.Gathered.{Gathers};
+ghost use Rattle.aig_values.specs.TraceText.{literal_character, line_text, trace_text};
+
+use crate::grid::Grid;
+use crate::row::{GridRow, Row};
+use crate::trace_block::TraceBlock;
+use aig_base::{Circuit, Io, Latch, Lit, Write};
+
+/// How many characters are put at a time.
+const PIECE: usize = 256;
+
+/// Writes a character for each literal.
+pub fn spell_literals<R: Row>(text: &mut [u8], row: &R, literals: &[Lit])
+    requires row { All (λ l. R.has row.now (variable l)) literals.now }
+    requires room { length text.old ≡ length literals.now }
+    ensures { text.new ≡ map (literal_character (R.cells row.now)) literals.now }
+{
+    row.spell(text, literals);
+}
+
+// Puts a character for each literal, and the byte that ends the field.
+fn put_literals<R: Row, W: Write>(
+    out: &mut W,
+    block: &mut TraceBlock,
+    row: &R,
+    literals: &[Lit],
+    end: u8,
+) -> Result<(), Io>
+    requires { All (λ l. R.has row.now (variable l)) literals.now }
+    ensures { Gathers W.written W.failures out.old out.new block.old block.new
+        (map (literal_character (R.cells row.now)) literals.now ++ end ∷ []) result }
+{
+    let mut piece = [0u8; PIECE];
+    let mut at = 0;
+    while at < literals.len() {
+        let count = PIECE.min(literals.len() - at);
+        spell_literals(&mut piece[..count], row, &literals[at..at + count]);
+        block.put_all(out, &piece[..count])?;
+        at += count;
+    }
+    block.put(out, end)
+}
+
+// Writes a character for each latch.
+fn spell_states<R: Row>(text: &mut [u8], row: &R, latches: &[Latch])
+    requires row { All (λ x. R.has row.now (variable x.lit)) latches.now }
+    requires room { length text.old ≡ length latches.now }
+    ensures { text.new ≡ map (λ x. literal_character (R.cells row.now) x.lit) latches.now }
+{
+    for (place, latch) in latches.iter().enumerate() {
+        text[place] = row.character(latch.lit);
+    }
+}
+
+// Puts a character for each latch, and the byte that ends the field.
+fn put_states<R: Row, W: Write>(
+    out: &mut W,
+    block: &mut TraceBlock,
+    row: &R,
+    latches: &[Latch],
+    end: u8,
+) -> Result<(), Io>
+    requires { All (λ x. R.has row.now (variable x.lit)) latches.now }
+    ensures { Gathers W.written W.failures out.old out.new block.old block.new
+        (map (λ x. literal_character (R.cells row.now) x.lit) latches.now ++ end ∷ []) result }
+{
+    let mut piece = [0u8; PIECE];
+    let mut at = 0;
+    while at < latches.len() {
+        let count = PIECE.min(latches.len() - at);
+        spell_states(&mut piece[..count], row, &latches[at..at + count]);
+        block.put_all(out, &piece[..count])?;
+        at += count;
+    }
+    block.put(out, end)
+}
+
+// Writes a character for each latch's next literal.
+fn spell_next_states<R: Row>(text: &mut [u8], row: &R, latches: &[Latch])
+    requires row { All (λ x. R.has row.now (variable x.next)) latches.now }
+    requires room { length text.old ≡ length latches.now }
+    ensures { text.new ≡ map (λ x. literal_character (R.cells row.now) x.next) latches.now }
+{
+    for (place, latch) in latches.iter().enumerate() {
+        text[place] = row.character(latch.next);
+    }
+}
+
+// Puts a character for each latch's next literal, and the byte that ends the field.
+fn put_next_states<R: Row, W: Write>(
+    out: &mut W,
+    block: &mut TraceBlock,
+    row: &R,
+    latches: &[Latch],
+    end: u8,
+) -> Result<(), Io>
+    requires { All (λ x. R.has row.now (variable x.next)) latches.now }
+    ensures { Gathers W.written W.failures out.old out.new block.old block.new
+        (map (λ x. literal_character (R.cells row.now) x.next) latches.now ++ end ∷ []) result }
+{
+    let mut piece = [0u8; PIECE];
+    let mut at = 0;
+    while at < latches.len() {
+        let count = PIECE.min(latches.len() - at);
+        spell_next_states(&mut piece[..count], row, &latches[at..at + count]);
+        block.put_all(out, &piece[..count])?;
+        at += count;
+    }
+    block.put(out, end)
+}
+
+// Puts the line of a frame: state, inputs, outputs, next state.
+fn put_line<R: Row, W: Write>(
+    out: &mut W,
+    block: &mut TraceBlock,
+    circuit: &Circuit,
+    row: &R,
+) -> Result<(), Io>
+    requires circuit { IsCircuit circuit.now }
+    requires row { (v : ℕ) → v ≤ circuit.now.max_var → R.has row.now v }
+    ensures { Gathers W.written W.failures out.old out.new block.old block.new
+        (line_text circuit.now (R.cells row.now)) result }
+{
+    put_states(out, block, row, circuit.latches(), b' ')?;
+    put_literals(out, block, row, circuit.inputs(), b' ')?;
+    put_literals(out, block, row, circuit.outputs(), b' ')?;
+    put_next_states(out, block, row, circuit.latches(), b'\n')
+}
+
+/// Writes the trace line of a frame: the characters of state, inputs, outputs and next state (our own choice). The
+/// block is room for them, whatever it holds.
+pub fn write_line<R: Row, W: Write>(
+    out: &mut W,
+    block: &mut TraceBlock,
+    circuit: &Circuit,
+    row: &R,
+) -> Result<(), Io>
+    requires circuit { IsCircuit circuit.now }
+    requires row { (v : ℕ) → v ≤ circuit.now.max_var → R.has row.now v }
+    ensures { Writes W.written W.failures out.old out.new (line_text circuit.now (R.cells row.now)) result }
+{
+    block.clear();
+    put_line(out, block, circuit, row)?;
+    block.hand_on(out)
+}
+
+// Puts the lines of all frames of a grid.
+fn put_lines<G: Grid, W: Write>(
+    out: &mut W,
+    block: &mut TraceBlock,
+    circuit: &Circuit,
+    grid: &G,
+) -> Result<(), Io>
+    requires circuit { IsCircuit circuit.now }
+    requires grid { length (G.gate_flags grid.now) ≡ circuit.now.max_var + 1 }
+    ensures { Gathers W.written W.failures out.old out.new block.old block.new
+        (trace_text circuit.now (G.cells grid.now)) result }
+{
+    for frame in 0..grid.rows() {
+        put_line(out, block, circuit, &GridRow { grid, frame })?;
+    }
+    Ok(())
+}
+
+/// Writes the trace of a grid with a cell for each variable of the circuit: a line a frame, with the characters of
+/// state, inputs, outputs and next state (our own choice). It takes no memory.
+pub fn write_trace<G: Grid, W: Write>(out: &mut W, circuit: &Circuit, grid: &G) -> Result<(), Io>
+    requires circuit { IsCircuit circuit.now }
+    requires grid { length (G.gate_flags grid.now) ≡ circuit.now.max_var + 1 }
+    ensures { Writes W.written W.failures out.old out.new (trace_text circuit.now (G.cells grid.now)) result }
+{
+    let mut block = TraceBlock::new();
+    put_lines(out, &mut block, circuit, grid)?;
+    block.hand_on(out)
+}
