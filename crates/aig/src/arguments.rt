@@ -3,7 +3,7 @@
 use crate::exit::Exit;
 use crate::task::Task;
 use aig_command_line::matches_of;
-use aig_engines::RunFault;
+use aig_run::RunFault;
 use clap::error::ErrorKind;
 use std::env::{self, Env};
 use std::io;

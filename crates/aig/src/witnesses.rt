@@ -2,7 +2,8 @@
 
 use crate::exit::Exit;
 use crate::files::{CIRCUIT, open, output, read_whole};
-use aig_engines::{RunFault, deliver_traced_verdict, deliver_verdict, deliver_witness_wave};
+use aig_engines::{deliver_traced_verdict, deliver_verdict, deliver_witness_wave};
+use aig_run::RunFault;
 use aig_sim::Verdict;
 use std::fs::Files;
 use std::io::Read;

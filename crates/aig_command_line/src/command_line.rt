@@ -1,5 +1,6 @@
 //! What the words of the command line may be.
 
+use aig_format::Format;
 use clap::builder::ValueParser;
 use clap::{Arg, ArgAction, ArgMatches, Command};
 use std::alloc::{AllocError, Global};
@@ -339,6 +340,15 @@ pub fn subcommand_of<'m, 'a>(matches: &'m ArgMatches<'a>) -> Option<(&'a str, &'
 /// The text of an argument.
 pub fn text_of<'a>(matches: &ArgMatches<'a>, name: &str) -> Option<&'a str> {
     matches.get_str(name)
+}
+
+/// The format that is chosen.
+pub fn format_of(matches: &ArgMatches<'_>) -> Option<Format> {
+    match text_of(matches, "FORMAT")? {
+        "aag" => Some(Format::Ascii),
+        "aig" => Some(Format::Binary),
+        _ => None,
+    }
 }
 
 /// The number of an argument.

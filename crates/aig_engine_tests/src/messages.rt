@@ -1,7 +1,7 @@
 //! Texts of messages.
 use aig_base::{Fault, Io, Memory, WouldCycle};
 use aig_bench::BenchFault;
-use aig_engines::{RunFault, ScriptFault};
+use aig_run::{RunFault, ScriptFault};
 use aig_sim::{StimFault, WitnessFault};
 use aig_unroll::UnrollFault;
 use std::alloc::Global;

@@ -10,14 +10,14 @@ use Rattle.aig_bytes.specs.Bytes.{Writes}
 use Rattle.aig_format.specs.declared.header.Format.{Format}
 use Rattle.aig_sim.specs.declared.stimulus_fault.StimFault.{StimFault}
 use Rattle.aig_sim.specs.Simulated.{Streams}
-use Rattle.aig_engines.specs.declared.run_fault.RunFault.{RunFault}
-use Rattle.aig_engines.specs.declared.run_fault.RunFault.TheVariants as parts
+use Rattle.aig_run.specs.declared.run_fault.RunFault.{RunFault}
+use Rattle.aig_run.specs.declared.run_fault.RunFault.TheVariants as parts
 use Rattle.aig_bytes.specs.Flow.{Flow, flow}
 use Rattle.aig_engines.specs.Engines.{RunEnds}
-use Rattle.aig_engines.specs.Run.{IsFileOf}
+use Rattle.aig_run.specs.Run.{IsFileOf}
 use Rattle.aig_engines.specs.Converted.{IsConverted, Converts, EndsFrom, reads_failed}
 use Rattle.aig_engines.specs.Told.{EndsTelling, OfFile}
-use Rattle.aig_engines.specs.state.Faults.{output_of}
+use Rattle.aig_run.specs.Faults.{output_of}
 use Rattle.aig_engines.proofs.Tellings.{of_file}
 
 module _ {X : Type 0} (out : Flow X) (to : Format) (raw : Raw) where

@@ -1,4 +1,3 @@
-pub mod CircuitFiles
 pub mod Conversions
 pub mod InfoLemmas
 pub mod Replays

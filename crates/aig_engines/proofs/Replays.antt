@@ -6,8 +6,8 @@ use Rattle.aig_parts.specs.declared.raw.Raw.{Raw}
 use Rattle.aig_bytes.specs.Bytes.{after, IsBeginning, Writes}
 use Rattle.aig_bytes.proofs.WriteLemmas.{after-append}
 use Rattle.aig_sim.specs.declared.verdict.Verdict.{Verdict}
-use Rattle.aig_engines.specs.declared.run_fault.RunFault.{RunFault}
-use Rattle.aig_engines.specs.declared.run_fault.RunFault.TheVariants as parts
+use Rattle.aig_run.specs.declared.run_fault.RunFault.{RunFault}
+use Rattle.aig_run.specs.declared.run_fault.RunFault.TheVariants as parts
 use Rattle.aig_sim.specs.declared.verdict.Verdict.TheVariants.{Confirmed}
 use Rattle.aig_sim.specs.declared.replay_fault.ReplayFault.{ReplayFault}
 use Rattle.aig_sim.specs.declared.replay_fault.ReplayFault.TheVariants as faults
@@ -18,7 +18,7 @@ use Rattle.aig_sim.specs.WitnessText.{Witness, SpellsWitness, IsAdmitted}
 use Rattle.aig_engines.specs.Checked.{Shows}
 use Rattle.aig_bytes.specs.Flow.{Flow}
 use Rattle.aig_engines.specs.Replay.{DumpsRun}
-use Rattle.aig_engines.specs.Run.{IsFileOf}
+use Rattle.aig_run.specs.Run.{IsFileOf}
 use Rattle.aig_engines.specs.Told.{EndsTelling, OfFile}
 use Rattle.aig_engines.proofs.Tellings.{of_file}
 

@@ -2,10 +2,10 @@
 use Rattle.std.proofs.Common.{◌≡◌, ℕ, List, [], Result, Ok, Err}
 use Rattle.aig_parts.specs.declared.fault.Fault.{Fault}
 use Rattle.aig_parts.specs.declared.raw.Raw.{Raw}
-use Rattle.aig_engines.specs.declared.run_fault.RunFault.{RunFault}
-use Rattle.aig_engines.specs.declared.run_fault.RunFault.TheVariants as parts
+use Rattle.aig_run.specs.declared.run_fault.RunFault.{RunFault}
+use Rattle.aig_run.specs.declared.run_fault.RunFault.TheVariants as parts
 use Rattle.aig_bytes.specs.Flow.{Flow}
-use Rattle.aig_engines.specs.Run.{IsFileOf}
+use Rattle.aig_run.specs.Run.{IsFileOf}
 use Rattle.aig_engines.specs.Told.{EndsTelling, OfFile}
 
 -- of a circuit that was read no fault of a circuit is told

@@ -6,10 +6,10 @@ use Rattle.aig_parts.specs.declared.fault.Fault.{Fault}
 use Rattle.aig_parts.specs.declared.raw.Raw.{Raw}
 use Rattle.aig_format.specs.declared.header.Format.{Format}
 use Rattle.aig_unroll.specs.Answers.{AnswersUnrolling}
-use Rattle.aig_engines.specs.declared.run_fault.RunFault.{RunFault}
-use Rattle.aig_engines.specs.declared.run_fault.RunFault.TheVariants as parts
+use Rattle.aig_run.specs.declared.run_fault.RunFault.{RunFault}
+use Rattle.aig_run.specs.declared.run_fault.RunFault.TheVariants as parts
 use Rattle.aig_bytes.specs.Flow.{Flow}
-use Rattle.aig_engines.specs.Run.{IsFileOf}
+use Rattle.aig_run.specs.Run.{IsFileOf}
 use Rattle.aig_engines.specs.Told.{EndsTelling, OfFile}
 use Rattle.aig_engines.specs.Unrolling.{Unrolls, UnrollsKept, short_spelling}
 use Rattle.aig_engines.proofs.Tellings.{of_file}

@@ -7,8 +7,8 @@ use Rattle.aig_base.specs.Renumbered.{renumbered, IsBinaryReady}
 use Rattle.aig_format.specs.declared.header.Format.{Format}
 use Rattle.aig_format.specs.declared.header.Format.TheVariants.{Ascii, Binary}
 use Rattle.aig_format.specs.Spelling.{short_ascii, short_binary}
-use Rattle.aig_engines.specs.declared.run_fault.RunFault.{RunFault}
-use Rattle.aig_engines.specs.declared.run_fault.RunFault.TheVariants as parts
+use Rattle.aig_run.specs.declared.run_fault.RunFault.{RunFault}
+use Rattle.aig_run.specs.declared.run_fault.RunFault.TheVariants as parts
 use Rattle.aig_bytes.specs.Flow.{Flow}
 
 -- the bytes that a circuit is converted to: as it stands where the format can hold it so, else renumbered

@@ -5,10 +5,10 @@ use Rattle.aig_sim.specs.declared.stimulus_fault.StimFault.{StimFault}
 use Rattle.aig_sim.specs.declared.stimulus_fault.StimFault.TheVariants as stimuli
 use Rattle.aig_sim.specs.Dumped.{Dumps}
 use Rattle.aig_sim.specs.Simulated.{Streams, Simulates}
-use Rattle.aig_engines.specs.declared.run_fault.RunFault.{RunFault}
-use Rattle.aig_engines.specs.declared.run_fault.RunFault.TheVariants.{Circuit, Stimulus}
+use Rattle.aig_run.specs.declared.run_fault.RunFault.{RunFault}
+use Rattle.aig_run.specs.declared.run_fault.RunFault.TheVariants.{Circuit, Stimulus}
 use Rattle.aig_bytes.specs.Flow.{Flow}
-use Rattle.aig_engines.specs.Run.{IsFileOf, RefusesCircuit}
+use Rattle.aig_run.specs.Run.{IsFileOf, RefusesCircuit}
 
 abbrev streams : {Y X : Type 0} → Flow Y → Flow X → Y → X → Streams
 streams reader out y x = record { left = reader.bytes y; reads = reader.failures y; writes = out.failures x }

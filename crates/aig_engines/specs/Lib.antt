@@ -1,11 +1,7 @@
 pub mod Checked
 pub mod Converted
-pub mod Delivered
 pub mod Engines
 pub mod Info
 pub mod Replay
-pub mod Run
-pub mod Status
 pub mod Told
 pub mod Unrolling
-pub mod state

@@ -5,7 +5,7 @@ use Rattle.aig_sim.specs.declared.verdict.Verdict.{Verdict}
 use Rattle.aig_sim.specs.Dump.{IsDump}
 use Rattle.aig_sim.specs.Replayed.{TellsRun}
 use Rattle.aig_values.specs.Trace.{IsTrace}
-use Rattle.aig_engines.specs.declared.run_fault.RunFault.{RunFault}
+use Rattle.aig_run.specs.declared.run_fault.RunFault.{RunFault}
 use Rattle.aig_engines.specs.Checked.{Shows, RefusesWitness, verdict_text}
 
 -- what the dump of a witness of this circuit tells: that of its run

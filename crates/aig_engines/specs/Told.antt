@@ -2,10 +2,10 @@
 use Rattle.std.specs.Prelude.{◌≡◌, ℕ, List, [], Result, Ok, Err}
 use Rattle.aig_parts.specs.declared.raw.Raw.{Raw}
 use Rattle.aig_bytes.specs.Bytes.{Writes}
-use Rattle.aig_engines.specs.declared.run_fault.RunFault.{RunFault}
-use Rattle.aig_engines.specs.declared.run_fault.RunFault.TheVariants as parts
+use Rattle.aig_run.specs.declared.run_fault.RunFault.{RunFault}
+use Rattle.aig_run.specs.declared.run_fault.RunFault.TheVariants as parts
 use Rattle.aig_bytes.specs.Flow.{Flow}
-use Rattle.aig_engines.specs.Run.{IsFileOf, RefusesCircuit}
+use Rattle.aig_run.specs.Run.{IsFileOf, RefusesCircuit}
 
 -- What is answered and told of a file: the file is refused; or what `Tells` says of its circuit.
 abbrev pub OfFile : {T : Type 0} → List ℕ → (Raw → Result T RunFault → List ℕ → Type 0) → Result T RunFault → List ℕ → Type 0

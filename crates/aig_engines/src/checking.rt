@@ -4,12 +4,11 @@ ghost use Rattle.aig_parts.specs.declared.raw.Raw.{Raw};
 ghost use Rattle.aig_bytes.specs.Bytes.{Writes};
 ghost use Rattle.aig_engines.specs.Checked.{verdict_text, Checks, Shows};
 ghost use Rattle.aig_bytes.specs.Flow.{flow};
-ghost use Rattle.aig_engines.specs.Run.{IsFileOf};
+ghost use Rattle.aig_run.specs.Run.{IsFileOf};
 ghost use Rattle.aig_engines.specs.Told.{EndsTelling, OfFile};
 
-use crate::engine::read_circuit;
-use crate::run_fault::RunFault;
 use aig_base::{Io, Write, write_all, write_number};
+use aig_run::{RunFault, read_circuit};
 use aig_sim::{Verdict, check_witness};
 use std::alloc::Global;
 

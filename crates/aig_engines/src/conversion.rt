@@ -1,26 +1,13 @@
 //! Conversion of a circuit file, from its bytes or from a reader, to a writer.
-ghost use Rattle.std.specs.Prelude.{◌≡◌};
 ghost use Rattle.aig_format.specs.declared.header.Format.TheVariants.{Binary};
 ghost use Rattle.aig_engines.specs.Converted.{Converts, EndsFrom};
 ghost use Rattle.aig_bytes.specs.Flow.{flow};
-ghost use Rattle.aig_engines.specs.state.Faults.{output_of};
 ghost use Rattle.aig_engines.specs.Told.{EndsTelling, OfFile};
 
-use crate::engine::read_circuit;
-use crate::run_fault::RunFault;
 use aig_base::{Circuit, Fault, Read, Write, is_binary_ready, renumber};
 use aig_format::{Format, read_from, write_ascii, write_binary};
+use aig_run::{RunFault, as_output, read_circuit};
 use std::alloc::Global;
-
-/// A failing write is the output's.
-pub fn as_output(done: Result<(), Fault>) -> Result<(), RunFault>
-    ensures { result ≡ output_of done }
-{
-    match done {
-        Ok(()) => Ok(()),
-        Err(_) => Err(RunFault::Output),
-    }
-}
 
 /// Writes a circuit as a binary file: a ready one as it stands, any other renumbered.
 fn write_ready<W: Write>(alloc: Global, circuit: &Circuit, out: &mut W) -> Result<(), RunFault>

@@ -2,7 +2,7 @@
 ghost use Rattle.std.specs.Prelude.{◌≡◌};
 ghost use Rattle.aig_engines.specs.Checked.{Checks};
 ghost use Rattle.aig_engines.specs.Converted.{Converts, EndsFrom};
-ghost use Rattle.aig_engines.specs.Delivered.{Delivers, IsHandedOn, all_written, calls_failed};
+ghost use Rattle.aig_run.specs.Delivered.{Delivers, all_written, calls_failed};
 ghost use Rattle.aig_engines.specs.Engines.{SimulationEnds, WaveEnds};
 ghost use Rattle.aig_bytes.specs.Flow.{flow};
 ghost use Rattle.aig_engines.specs.Info.{TellsFacts};
@@ -17,11 +17,11 @@ use crate::conversion::convert_from;
 use crate::engine::simulate_from;
 use crate::info::info_bytes;
 use crate::replaying::{check_and_trace_bytes, wave_witness_bytes};
-use crate::run_fault::RunFault;
 use crate::unrolling::{keep_input_map, unroll_and_keep, unroll_bytes};
 use crate::wave::wave_from;
-use aig_base::{Buffered, Circuit, Failed, Read, Write};
+use aig_base::{Buffered, Circuit, Read, Write};
 use aig_format::Format;
+use aig_run::{RunFault, handed_on};
 use aig_sim::{StimFault, Verdict};
 use std::alloc::Global;
 
@@ -186,18 +186,4 @@ pub fn deliver_info<W: Write>(
 {
     let done = info_bytes(alloc, circuit, out);
     handed_on(done, out, RunFault::Output)
-}
-
-/// The answer of an engine, once all that it wrote is handed on; where that fails, the fault of the part that writes.
-pub fn handed_on<T: Drop, W: Write>(
-    done: Result<T, RunFault>,
-    out: &mut Buffered<W>,
-    part: RunFault,
-) -> Result<T, RunFault>
-    ensures { IsHandedOn W.written part out.old done out.new result }
-{
-    match out.flush() {
-        Ok(()) => done,
-        Err(Failed) => Err(part),
-    }
 }

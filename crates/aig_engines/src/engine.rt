@@ -1,23 +1,15 @@
-//! A circuit's file, and the simulation from bytes to bytes.
-ghost use Rattle.std.specs.Prelude.{◌≡◌, ℕ, List, Err, IfOk, IfErr};
+//! The simulation from bytes to bytes.
+ghost use Rattle.std.specs.Prelude.{◌≡◌, ℕ, List, Err};
 ghost use Rattle.aig_engines.specs.Converted.{EndsFrom, reads_failed};
 ghost use Rattle.aig_engines.specs.Engines.{SimulationEnds};
 ghost use Rattle.aig_bytes.specs.Flow.{flow};
-ghost use Rattle.aig_engines.specs.Run.{IsFileOf, RefusesCircuit};
+ghost use Rattle.aig_run.specs.Run.{IsFileOf};
 
-use crate::run_fault::RunFault;
 use aig_base::{Circuit, Fault, Read, Write};
-use aig_format::{read, read_from};
+use aig_format::read_from;
+use aig_run::RunFault;
 use aig_sim::simulate;
 use std::alloc::Global;
-
-/// Reads a circuit file.
-pub fn read_circuit(alloc: Global, file: &[u8]) -> Result<Circuit, Fault>
-    ensures circuit { IfOk result (IsFileOf file.now) }
-    ensures fault { IfErr result (RefusesCircuit file.now) }
-{
-    read(alloc, file)
-}
 
 /// Simulates a circuit on a stimulus.
 fn run_simulation<R: Read, W: Write>(

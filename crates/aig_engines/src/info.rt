@@ -9,14 +9,13 @@ ghost use Rattle.aig_bytes.specs.Flow.{flow};
 ghost use Rattle.aig_engines.specs.Told.{EndsTelling, OfFile};
 ghost use Rattle.aig_engines.specs.Info.{AreFacts, TellsFacts, IsInFormat, comment_size, fact_line, format_name};
 ghost use Rattle.aig_engines.specs.Info.{info_text, is_uninitialised, number_line, number_lines, yes_or_no};
-ghost use Rattle.aig_engines.specs.Run.{IsFileOf};
+ghost use Rattle.aig_run.specs.Run.{IsFileOf};
 
-use crate::engine::read_circuit;
-use crate::run_fault::RunFault;
 use aig_base::{
     Circuit, Io, Latch, Levels, Memory, Write, greatest_fan_out, is_binary_ready, write_all,
 };
 use aig_format::Format;
+use aig_run::{RunFault, read_circuit};
 use itoa::Buffer;
 use std::alloc::Global;
 

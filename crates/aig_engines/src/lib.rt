@@ -8,8 +8,6 @@ mod delivery;
 mod engine;
 mod info;
 mod replaying;
-mod run_fault;
-mod script_fault;
 mod unrolling;
 mod wave;
 
@@ -18,12 +16,10 @@ pub use conversion::{convert, convert_from};
 pub use delivery::{
     deliver_circuit, deliver_info, deliver_input_map, deliver_trace, deliver_traced_verdict,
     deliver_unrolled, deliver_unrolled_and_keep, deliver_verdict, deliver_wave,
-    deliver_witness_wave, handed_on,
+    deliver_witness_wave,
 };
-pub use engine::{read_circuit, simulate_from};
+pub use engine::simulate_from;
 pub use info::{Facts, info_bytes};
 pub use replaying::{check_and_trace_bytes, wave_witness_bytes};
-pub use run_fault::RunFault;
-pub use script_fault::ScriptFault;
 pub use unrolling::{keep_input_map, unroll_and_keep, unroll_bytes};
 pub use wave::wave_from;

@@ -4,9 +4,8 @@ ghost use Rattle.aig_engines.specs.Replay.{ChecksAndTraces, DumpsRun};
 ghost use Rattle.aig_engines.specs.Told.{EndsTelling, OfFile};
 
 use crate::checking::write_verdict;
-use crate::engine::read_circuit;
-use crate::run_fault::RunFault;
 use aig_base::{Circuit, Io, Write};
+use aig_run::{RunFault, read_circuit};
 use aig_sim::{ReplayFault, Verdict, check_witness, dump_witness, trace_witness};
 use std::alloc::Global;
 

@@ -7,11 +7,9 @@ ghost use Rattle.aig_bytes.specs.Flow.{flow};
 ghost use Rattle.aig_engines.specs.Told.{EndsTelling, OfFile};
 ghost use Rattle.aig_engines.specs.Unrolling.{Unrolls, UnrollsKept, short_spelling};
 
-use crate::conversion::as_output;
-use crate::engine::read_circuit;
-use crate::run_fault::RunFault;
 use aig_base::{Circuit, Io, Levels, Write};
 use aig_format::{Format, write_ascii, write_binary};
+use aig_run::{RunFault, as_output, read_circuit};
 use aig_unroll::{unroll, write_input_map};
 use std::alloc::Global;
 

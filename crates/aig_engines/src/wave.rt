@@ -3,11 +3,11 @@ ghost use Rattle.std.specs.Prelude.{◌≡◌, ℕ, List, Err};
 ghost use Rattle.aig_engines.specs.Converted.{EndsFrom, reads_failed};
 ghost use Rattle.aig_engines.specs.Engines.{WaveEnds};
 ghost use Rattle.aig_bytes.specs.Flow.{flow};
-ghost use Rattle.aig_engines.specs.Run.{IsFileOf};
+ghost use Rattle.aig_run.specs.Run.{IsFileOf};
 
-use crate::run_fault::RunFault;
 use aig_base::{Circuit, Fault, Read, Write};
 use aig_format::read_from;
+use aig_run::RunFault;
 use aig_sim::dump;
 use std::alloc::Global;
 

@@ -6,8 +6,8 @@ use Rattle.aig_bytes.specs.Flow.{Flow}
 use Rattle.aig_values.specs.declared.bench_fault.BenchFault.{BenchFault}
 use Rattle.aig_values.specs.declared.bench_fault.BenchFault.TheVariants as benches
 use Rattle.aig_bench.specs.Pair.{Pair, BenchState}
-use Rattle.aig_engines.specs.declared.script_fault.ScriptFault.{ScriptFault}
-use Rattle.aig_engines.specs.declared.script_fault.ScriptFault.TheVariants as scripts
+use Rattle.aig_run.specs.declared.script_fault.ScriptFault.{ScriptFault}
+use Rattle.aig_run.specs.declared.script_fault.ScriptFault.TheVariants as scripts
 use Rattle.aig_script.specs.BenchRun.{BenchEnds}
 use Rattle.aig_script.specs.Files.{AreBenchFiles, RefusesBench}
 use Rattle.aig_script.specs.state.Faults.{script_of}

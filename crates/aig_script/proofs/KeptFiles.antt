@@ -12,13 +12,13 @@ use Rattle.aig_values.specs.InputRows.{HaveWidth}
 use Rattle.aig_sim.proofs.OneText.{one_list_of_rows}
 use Rattle.aig_sim.specs.StimulusText.{SpellsRows}
 use Rattle.aig_bench.specs.Pair.{Pair, BenchState}
-use Rattle.aig_engines.specs.declared.run_fault.RunFault.{RunFault}
-use Rattle.aig_engines.specs.declared.script_fault.ScriptFault.{ScriptFault}
+use Rattle.aig_run.specs.declared.run_fault.RunFault.{RunFault}
+use Rattle.aig_run.specs.declared.script_fault.ScriptFault.{ScriptFault}
 use Rattle.aig_bytes.specs.Flow.{Flow}
 use Rattle.aig_script.specs.BenchRun.{BenchEnds}
 use Rattle.aig_script.specs.Kept.{BenchLeft, circuit_text, rows_text}
 use Rattle.aig_script.specs.Ran.{Ran}
-use Rattle.aig_engines.specs.Run.{IsFileOf}
+use Rattle.aig_run.specs.Run.{IsFileOf}
 use Rattle.aig_script.specs.Files.{AreFilesOf, AreBenchFiles}
 use Rattle.aig_script.specs.state.Faults.{script_of}
 

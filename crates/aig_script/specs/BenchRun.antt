@@ -2,9 +2,9 @@
 use Rattle.std.specs.Prelude.{◌≡◌, ℕ, List, Result, Ok, Err}
 use Rattle.aig_bytes.specs.Flow.{Flow}
 use Rattle.aig_bench.specs.Pair.{Pair}
-use Rattle.aig_engines.specs.declared.run_fault.RunFault.{RunFault}
-use Rattle.aig_engines.specs.declared.run_fault.RunFault.TheVariants.{Script}
-use Rattle.aig_engines.specs.declared.script_fault.ScriptFault.TheVariants as scripts
+use Rattle.aig_run.specs.declared.run_fault.RunFault.{RunFault}
+use Rattle.aig_run.specs.declared.run_fault.RunFault.TheVariants.{Script}
+use Rattle.aig_run.specs.declared.script_fault.ScriptFault.TheVariants as scripts
 use Rattle.aig_script.specs.Files.{AreBenchFiles, RefusesFiles}
 use Rattle.aig_script.specs.Ran.{Ran, Failing}
 

@@ -9,9 +9,9 @@ use Rattle.aig_sim.specs.StimulusText.{SpellsRows, HasFaultyLine}
 use Rattle.aig_values.specs.declared.bench_fault.BenchFault.{BenchFault}
 use Rattle.aig_values.specs.declared.bench_fault.BenchFault.TheVariants as benches
 use Rattle.aig_bench.specs.Pair.{Pair}
-use Rattle.aig_engines.specs.declared.run_fault.RunFault.{RunFault}
-use Rattle.aig_engines.specs.declared.run_fault.RunFault.TheVariants.{Circuit, Stimulus, Witness, Bench, Script, Output, Memory, Unroll}
-use Rattle.aig_engines.specs.Run.{IsFileOf, RefusesCircuit}
+use Rattle.aig_run.specs.declared.run_fault.RunFault.{RunFault}
+use Rattle.aig_run.specs.declared.run_fault.RunFault.TheVariants.{Circuit, Stimulus, Witness, Bench, Script, Output, Memory, Unroll}
+use Rattle.aig_run.specs.Run.{IsFileOf, RefusesCircuit}
 
 -- the files are this circuit and rows of its width, at most 65,536
 pub record AreFilesOf (circuit stimulus : List ℕ) (pair : Pair) : Type 0 where

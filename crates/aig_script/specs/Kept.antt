@@ -4,7 +4,7 @@ use Rattle.std.specs.List.{flat_map}
 use Rattle.aig_format.specs.Spelling.{short_ascii}
 use Rattle.aig_sim.specs.StimulusText.{row_line}
 use Rattle.aig_bench.specs.Pair.{Pair, BenchState}
-use Rattle.aig_engines.specs.declared.run_fault.RunFault.{RunFault}
+use Rattle.aig_run.specs.declared.run_fault.RunFault.{RunFault}
 use Rattle.aig_bytes.specs.Flow.{Flow}
 use Rattle.aig_script.specs.BenchRun.{BenchEnds}
 use Rattle.aig_script.specs.Ran.{Ran}

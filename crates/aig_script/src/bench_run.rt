@@ -11,7 +11,7 @@ ghost use Rattle.aig_script.specs.state.Faults.{script_of};
 use crate::script::run_script;
 use aig_base::{Circuit, Read, Write};
 use aig_bench::Bench;
-use aig_engines::{RunFault, ScriptFault, read_circuit};
+use aig_run::{RunFault, ScriptFault, read_circuit};
 use aig_sim::{Grid, StimFault, Stimulus, read_stimulus};
 use std::alloc::Global;
 

@@ -1,6 +1,6 @@
 //! Scripts over a writer that holds bytes back: all that was written is handed on, whatever the answer is.
 ghost use Rattle.aig_bytes.specs.Flow.{flow};
-ghost use Rattle.aig_engines.specs.Delivered.{Delivers, all_written, calls_failed};
+ghost use Rattle.aig_run.specs.Delivered.{Delivers, all_written, calls_failed};
 ghost use Rattle.aig_script.specs.BenchRun.{BenchEnds};
 ghost use Rattle.aig_script.specs.Kept.{BenchLeft};
 
@@ -8,7 +8,7 @@ use crate::bench_run::run_bench;
 use crate::keeping::bench_after_script;
 use aig_base::{Buffered, Read, Write};
 use aig_bench::Bench;
-use aig_engines::{RunFault, ScriptFault, handed_on};
+use aig_run::{RunFault, ScriptFault, handed_on};
 use aig_sim::PlaneGrid;
 use std::alloc::Global;
 

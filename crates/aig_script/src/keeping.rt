@@ -3,15 +3,15 @@ ghost use Rattle.std.specs.Prelude.{◌≡◌, IfErr};
 ghost use Rattle.aig_bytes.specs.Bytes.{Writes};
 ghost use Rattle.aig_bytes.specs.Flow.{flow};
 ghost use Rattle.aig_script.specs.Kept.{BenchLeft, circuit_text, rows_text};
-ghost use Rattle.aig_engines.specs.Run.{IsFileOf};
+ghost use Rattle.aig_run.specs.Run.{IsFileOf};
 ghost use Rattle.aig_script.specs.Files.{AreBenchFiles};
 
 use crate::bench_run::{as_script, open_bench};
 use crate::script::run_script;
 use aig_base::{Io, Read, Write};
 use aig_bench::Bench;
-use aig_engines::RunFault;
 use aig_format::{law_of_round_trip, write_ascii};
+use aig_run::{RunFault, as_output};
 use aig_sim::{Grid, write_stimulus};
 use std::alloc::Global;
 
@@ -44,10 +44,7 @@ pub fn keep_circuit<G: Grid, W: Write>(bench: &Bench<G>, out: &mut W) -> Result<
     // Their contracts say that it is a circuit, and what its text spells.
     bench.width();
     law_of_round_trip();
-    match write_ascii(bench.circuit(), out) {
-        Ok(()) => Ok(()),
-        Err(_) => Err(RunFault::Output),
-    }
+    as_output(write_ascii(bench.circuit(), out))
 }
 
 /// Writes the rows of a bench as a stimulus. Where a write fails it has written a beginning. Its contract also says

@@ -1,6 +1,6 @@
 -- The exit status of the program (our own choice).
 use Rattle.std.specs.Prelude.{ℕ}
-use Rattle.aig_engines.specs.Status.{status_of}
+use Rattle.aig_run.specs.Status.{status_of}
 use Rattle.aig.specs.declared.exit.Exit.{Exit}
 use Rattle.aig.specs.declared.exit.Exit.TheVariants as exits
 

@@ -3,9 +3,9 @@ use Rattle.std.specs.Prelude.{ℕ, List, Result, Ok, Err, codes}
 use Rattle.aig_sim.specs.declared.stimulus_fault.StimFault.{StimFault}
 use Rattle.aig_sim.specs.declared.stimulus_fault.StimFault.TheVariants as stimuli
 use Rattle.aig_bench.specs.declared.edit.EditFault.TheVariants as faults
-use Rattle.aig_engines.specs.declared.run_fault.RunFault.{RunFault}
-use Rattle.aig_engines.specs.declared.run_fault.RunFault.TheVariants as parts
-use Rattle.aig_engines.specs.declared.script_fault.ScriptFault.{ScriptFault}
+use Rattle.aig_run.specs.declared.run_fault.RunFault.{RunFault}
+use Rattle.aig_run.specs.declared.run_fault.RunFault.TheVariants as parts
+use Rattle.aig_run.specs.declared.script_fault.ScriptFault.{ScriptFault}
 use Rattle.aig_script.specs.Replies.{refusal}
 
 -- a fault of a script is the run's

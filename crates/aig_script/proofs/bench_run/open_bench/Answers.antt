@@ -1,6 +1,6 @@
 use Rattle.std.proofs.Common.{ap, Err}
 use Rattle.aig_bench.specs.Pair.{Pair}
-use Rattle.aig_engines.specs.declared.run_fault.RunFault.TheVariants as parts
+use Rattle.aig_run.specs.declared.run_fault.RunFault.TheVariants as parts
 use Rattle.aig_script.specs.Files.{RefusesFiles}
 use Rattle.aig_script.proofs.Benches.{refuses_bench, told_as}
 use Rattle.aig_script.proofs.bench_run.open_bench.Goals as goal

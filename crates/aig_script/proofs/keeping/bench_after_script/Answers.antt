@@ -1,6 +1,6 @@
 use Rattle.std.proofs.Common.{sym, subst}
 use Rattle.std.specs.Prelude.{Result}
-use Rattle.aig_engines.specs.declared.run_fault.RunFault.{RunFault}
+use Rattle.aig_run.specs.declared.run_fault.RunFault.{RunFault}
 use Rattle.aig_script.specs.BenchRun.{BenchEnds}
 use Rattle.aig_bytes.specs.Flow.{flow}
 use Rattle.aig_script.proofs.Benches.{script_ends}

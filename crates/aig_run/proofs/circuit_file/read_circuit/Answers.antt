@@ -1,5 +1,5 @@
-use Rattle.aig_engines.proofs.CircuitFiles.{is_file, refuses_circuit}
-use Rattle.aig_engines.proofs.engine.read_circuit.Goals as goal
+use Rattle.aig_run.proofs.CircuitFiles.{is_file, refuses_circuit}
+use Rattle.aig_run.proofs.circuit_file.read_circuit.Goals as goal
 
 pub returns-clause-circuit : goal.returns-clause-circuit
 returns-clause-circuit c = let h = c.read.ensures in is_file c.args.file.now c.read.result h.answers h.circuit

@@ -1,7 +1,7 @@
 -- What a fault of one part is for the run.
 use Rattle.std.specs.Prelude.{Result, Ok, Err}
-use Rattle.aig_engines.specs.declared.run_fault.RunFault.{RunFault}
-use Rattle.aig_engines.specs.declared.run_fault.RunFault.TheVariants as parts
+use Rattle.aig_run.specs.declared.run_fault.RunFault.{RunFault}
+use Rattle.aig_run.specs.declared.run_fault.RunFault.TheVariants as parts
 
 -- a failing write is the output's
 abbrev pub output_of : {T E : Type 0} → Result T E → Result T RunFault

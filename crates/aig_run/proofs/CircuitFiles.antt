@@ -6,7 +6,7 @@ use Rattle.aig_parts.specs.declared.fault.Fault.{Fault}
 use Rattle.aig_parts.specs.declared.fault.Fault.TheVariants as circuits
 use Rattle.aig_base.specs.Circuit.{IsCircuit}
 use Rattle.aig_format.specs.FileReading.{IsReading}
-use Rattle.aig_engines.specs.Run.{IsFileOf, RefusesCircuit}
+use Rattle.aig_run.specs.Run.{IsFileOf, RefusesCircuit}
 
 -- what is read of a file is its circuit
 pub is_file : (bytes : List ℕ) (r : Result Raw Fault) → IsReading bytes r → IfOk r IsCircuit → IfOk r (IsFileOf bytes)

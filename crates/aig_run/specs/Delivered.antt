@@ -2,7 +2,7 @@
 use Rattle.std.specs.Prelude.{◌≡◌, ◌⊎◌, ℕ, List, [], Option, Result, Err, true, false}
 use Rattle.aig_bytes.specs.Buffered.{Holding}
 use Rattle.aig_bytes.specs.Bytes.{after}
-use Rattle.aig_engines.specs.declared.run_fault.RunFault.{RunFault}
+use Rattle.aig_run.specs.declared.run_fault.RunFault.{RunFault}
 
 -- all that was written: what the writer below got, and what it is still to get
 abbrev pub all_written : {W : Type 0} → (W → Option (List ℕ)) → Holding W → Option (List ℕ)

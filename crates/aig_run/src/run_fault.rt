@@ -1,6 +1,6 @@
 //! The part of a run that refused, and why.
 ghost use Rattle.std.specs.Prelude.{◌≡◌};
-ghost use Rattle.aig_engines.specs.Status.{status_of};
+ghost use Rattle.aig_run.specs.Status.{status_of};
 
 use crate::script_fault::ScriptFault;
 use aig_base::{Fault, Memory};
@@ -55,7 +55,7 @@ impl RunFault {
 
 impl From<Fault> for RunFault {
     ghost use Rattle.std.specs.Prelude.{◌≡◌};
-    ghost use Rattle.aig_engines.specs.declared.run_fault.RunFault.TheVariants as parts;
+    ghost use Rattle.aig_run.specs.declared.run_fault.RunFault.TheVariants as parts;
 
     ghost from_gives = { λ fault part. part ≡ parts.Circuit fault };
 
@@ -66,7 +66,7 @@ impl From<Fault> for RunFault {
 
 impl From<StimFault> for RunFault {
     ghost use Rattle.std.specs.Prelude.{◌≡◌};
-    ghost use Rattle.aig_engines.specs.declared.run_fault.RunFault.TheVariants as parts;
+    ghost use Rattle.aig_run.specs.declared.run_fault.RunFault.TheVariants as parts;
 
     ghost from_gives = { λ fault part. part ≡ parts.Stimulus fault };
 
@@ -77,7 +77,7 @@ impl From<StimFault> for RunFault {
 
 impl From<WitnessFault> for RunFault {
     ghost use Rattle.std.specs.Prelude.{◌≡◌};
-    ghost use Rattle.aig_engines.specs.declared.run_fault.RunFault.TheVariants as parts;
+    ghost use Rattle.aig_run.specs.declared.run_fault.RunFault.TheVariants as parts;
 
     ghost from_gives = { λ fault part. part ≡ parts.Witness fault };
 
@@ -88,7 +88,7 @@ impl From<WitnessFault> for RunFault {
 
 impl From<BenchFault> for RunFault {
     ghost use Rattle.std.specs.Prelude.{◌≡◌};
-    ghost use Rattle.aig_engines.specs.declared.run_fault.RunFault.TheVariants as parts;
+    ghost use Rattle.aig_run.specs.declared.run_fault.RunFault.TheVariants as parts;
 
     ghost from_gives = { λ fault part. part ≡ parts.Bench fault };
 
@@ -99,7 +99,7 @@ impl From<BenchFault> for RunFault {
 
 impl From<ScriptFault> for RunFault {
     ghost use Rattle.std.specs.Prelude.{◌≡◌};
-    ghost use Rattle.aig_engines.specs.declared.run_fault.RunFault.TheVariants as parts;
+    ghost use Rattle.aig_run.specs.declared.run_fault.RunFault.TheVariants as parts;
 
     ghost from_gives = { λ fault part. part ≡ parts.Script fault };
 
@@ -110,7 +110,7 @@ impl From<ScriptFault> for RunFault {
 
 impl From<Memory> for RunFault {
     ghost use Rattle.std.specs.Prelude.{◌≡◌};
-    ghost use Rattle.aig_engines.specs.declared.run_fault.RunFault.TheVariants as parts;
+    ghost use Rattle.aig_run.specs.declared.run_fault.RunFault.TheVariants as parts;
 
     ghost from_gives = { λ _ part. part ≡ parts.Memory };
 
@@ -121,7 +121,7 @@ impl From<Memory> for RunFault {
 
 impl From<UnrollFault> for RunFault {
     ghost use Rattle.std.specs.Prelude.{◌≡◌};
-    ghost use Rattle.aig_engines.specs.declared.run_fault.RunFault.TheVariants as parts;
+    ghost use Rattle.aig_run.specs.declared.run_fault.RunFault.TheVariants as parts;
 
     ghost from_gives = { λ fault part. part ≡ parts.Unroll fault };
 

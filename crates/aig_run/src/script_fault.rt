@@ -15,7 +15,7 @@ pub enum ScriptFault {
 
 impl From<Io> for ScriptFault {
     ghost use Rattle.std.specs.Prelude.{◌≡◌};
-    ghost use Rattle.aig_engines.specs.declared.script_fault.ScriptFault.TheVariants as faults;
+    ghost use Rattle.aig_run.specs.declared.script_fault.ScriptFault.TheVariants as faults;
 
     ghost from_gives = { λ _ fault. fault ≡ faults.Io };
 

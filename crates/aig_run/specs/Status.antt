@@ -5,8 +5,8 @@ use Rattle.aig_sim.specs.declared.stimulus_fault.StimFault.TheVariants as stimul
 use Rattle.aig_sim.specs.declared.witness_fault.WitnessFault.TheVariants as witnesses
 use Rattle.aig_values.specs.declared.bench_fault.BenchFault.TheVariants as benches
 use Rattle.aig_unroll.specs.declared.fault.UnrollFault.TheVariants as unrollings
-use Rattle.aig_engines.specs.declared.run_fault.RunFault.{RunFault}
-use Rattle.aig_engines.specs.declared.run_fault.RunFault.TheVariants.{Circuit, Stimulus, Witness, Bench, Script, Output, Memory, Unroll}
+use Rattle.aig_run.specs.declared.run_fault.RunFault.{RunFault}
+use Rattle.aig_run.specs.declared.run_fault.RunFault.TheVariants.{Circuit, Stimulus, Witness, Bench, Script, Output, Memory, Unroll}
 
 -- 3 where memory ran out, or a read or a write failed; 1 for any other refusal
 abbrev pub status_of : RunFault → ℕ

@@ -1,0 +1,4 @@
+pub mod Delivered
+pub mod Faults
+pub mod Run
+pub mod Status
