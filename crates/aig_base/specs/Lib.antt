@@ -7,7 +7,6 @@ pub mod Greatest
 pub mod Grounded
 pub mod Laws
 pub mod Levels
-pub mod Limits
 pub mod Order
 pub mod Readers
 pub mod Renumbered

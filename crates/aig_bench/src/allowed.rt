@@ -3,7 +3,7 @@ ghost use Rattle.std.specs.Prelude.{◌≡◌, ◌↔◌, ◌⊎◌, ◌+◌, �
 ghost use Rattle.std.specs.Prelude.{IsTrue};
 ghost use Rattle.aig_parts.specs.declared.ternary.Tern.{Tern};
 ghost use Rattle.aig_parts.specs.Formed.{limit};
-ghost use Rattle.aig_base.specs.Limits.{cell_limit};
+ghost use Rattle.aig_parts.specs.Limits.{cell_limit};
 ghost use Rattle.aig_parts.specs.Literal.{variable};
 ghost use Rattle.aig_base.specs.Sections.{IsDefined, IsLatchLiteral, IsLeftSide};
 ghost use Rattle.aig_base.specs.Sound.{IsInRange, IsSound};

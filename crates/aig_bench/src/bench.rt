@@ -5,7 +5,7 @@ ghost use Rattle.aig_bytes.specs.Bytes.{Writes};
 ghost use Rattle.aig_base.specs.Changes.{with_gate};
 ghost use Rattle.aig_base.specs.Circuit.{IsCircuit};
 ghost use Rattle.aig_base.specs.Grounded.{IsAcyclic};
-ghost use Rattle.aig_base.specs.Limits.{cell_limit};
+ghost use Rattle.aig_parts.specs.Limits.{cell_limit};
 ghost use Rattle.aig_parts.specs.Literal.{variable};
 ghost use Rattle.aig_base.specs.Readers.{list_of};
 ghost use Rattle.aig_base.specs.Renumbered.{IsBinaryReady};
@@ -20,7 +20,7 @@ ghost use Rattle.aig_bench.specs.state.Pending.{AreFanouts};
 ghost use Rattle.aig_bench.specs.state.Setup.{IsSetup};
 ghost use Rattle.aig_bench.specs.Question.{AnswersValue};
 ghost use Rattle.aig_bench.specs.Touched.{Works};
-ghost use Rattle.aig_values.specs.InputRows.{HaveWidth};
+ghost use Rattle.aig_grids.specs.InputRows.{HaveWidth};
 ghost use Rattle.aig_unroll.specs.Answers.{AnswersUnrolling};
 
 use crate::allowed::{CELLS, check_append, check_output, check_reset, check_rewire, is_defined};

@@ -3,7 +3,7 @@ ghost use Rattle.std.specs.Prelude.{◌≡◌, ◌≢◌, ℕ, ◌+◌, ◌*◌,
 ghost use Rattle.aig_base.specs.Grounded.{IsSource};
 ghost use Rattle.aig_base.specs.Value.{start_of};
 ghost use Rattle.aig_values.specs.state.Frame.{Renews};
-ghost use Rattle.aig_values.specs.InputRows.{row_at};
+ghost use Rattle.aig_grids.specs.InputRows.{row_at};
 ghost use Rattle.aig_bench.specs.state.Current.{Holds, HoldsInputs, HoldsLatches};
 ghost use Rattle.aig_bench.specs.state.Current.{IsCurrentBefore, IsCurrentRow, IsLaidOut};
 ghost use Rattle.aig_bench.specs.state.SweepOrder.{IsKnown, Orders};

@@ -1,7 +1,7 @@
 //! A new engine: the faults of a circuit and a stimulus, and what is made of the two.
 ghost use Rattle.std.specs.Prelude.{◌≡◌, ◌≢◌, ◌+◌, ◌*◌, ◌<◌, ◌↔◌, length, IsErrOf, IfOk, OnOk};
 ghost use Rattle.aig_base.specs.Circuit.{IsCircuit};
-ghost use Rattle.aig_base.specs.Limits.{cell_limit};
+ghost use Rattle.aig_parts.specs.Limits.{cell_limit};
 ghost use Rattle.aig_bench.specs.state.Setup.{IsSetup, pair_of};
 ghost use Rattle.aig_bench.specs.state.Current.{AreCurrent, IsLaidOut};
 ghost use Rattle.aig_bench.specs.state.Engine.{IsSettled};

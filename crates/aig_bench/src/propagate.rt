@@ -1,6 +1,6 @@
 //! Values that an edit changed, carried on through the frames.
 ghost use Rattle.std.specs.Prelude.{◌≡◌, ◌↔◌, ◌⊎◌, ℕ, ◌+◌, ◌*◌, ◌^◌, ◌<◌, ◌≤◌, [], length, Some, slice_get, Contains};
-ghost use Rattle.aig_base.specs.Limits.{frame_limit};
+ghost use Rattle.aig_parts.specs.Limits.{frame_limit};
 ghost use Rattle.aig_parts.specs.Literal.{variable};
 ghost use Rattle.aig_base.specs.Sections.{IsGate};
 ghost use Rattle.aig_base.specs.state.Marks.{IsMarked};

@@ -5,7 +5,7 @@ ghost use Rattle.aig_parts.specs.Formed.{limit};
 ghost use Rattle.aig_parts.specs.declared.ternary.Tern as ternary;
 ghost use Rattle.aig_base.specs.Grounded.{IsSource};
 ghost use Rattle.aig_base.specs.Levels.{AreLevels};
-ghost use Rattle.aig_base.specs.Limits.{cell_limit};
+ghost use Rattle.aig_parts.specs.Limits.{cell_limit};
 ghost use Rattle.aig_base.specs.state.Marks.{IsMarked};
 ghost use Rattle.aig_bench.specs.Pair.{HasValue};
 ghost use Rattle.aig_bench.specs.state.Setup.{IsSetup};

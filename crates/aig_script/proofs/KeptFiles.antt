@@ -5,10 +5,10 @@ use Rattle.std.specs.Result.{IsErrAnd}
 use Rattle.aig_parts.specs.declared.raw.Raw.{Raw}
 use Rattle.aig_parts.specs.declared.ternary.Tern.{Tern}
 use Rattle.aig_base.specs.Circuit.{IsCircuit}
-use Rattle.aig_base.specs.Limits.{cell_limit, frame_limit}
+use Rattle.aig_parts.specs.Limits.{cell_limit, frame_limit}
 use Rattle.aig_format.specs.Spells.{SpellsAscii}
 use Rattle.aig_format.proofs.FileLaws.{one_reading}
-use Rattle.aig_values.specs.InputRows.{HaveWidth}
+use Rattle.aig_grids.specs.InputRows.{HaveWidth}
 use Rattle.aig_sim.proofs.OneText.{one_list_of_rows}
 use Rattle.aig_sim.specs.StimulusText.{SpellsRows}
 use Rattle.aig_bench.specs.Pair.{Pair, BenchState}

@@ -1,7 +1,7 @@
 //! The bench from bytes to bytes.
 ghost use Rattle.std.specs.Prelude.{◌≡◌, ◌≤◌, length, IfOk, IfErr};
 ghost use Rattle.aig_base.specs.Circuit.{IsCircuit};
-ghost use Rattle.aig_base.specs.Limits.{frame_limit};
+ghost use Rattle.aig_parts.specs.Limits.{frame_limit};
 ghost use Rattle.aig_bytes.specs.Flow.{flow};
 ghost use Rattle.aig_sim.specs.StimulusText.{SpellsRows};
 ghost use Rattle.aig_script.specs.BenchRun.{BenchEnds};

@@ -6,7 +6,7 @@ ghost use Rattle.aig_sim.specs.declared.stimulus_fault.StimFault.{StimFault};
 ghost use Rattle.aig_parts.specs.declared.raw.Raw.{Raw};
 ghost use Rattle.aig_parts.specs.declared.symbols.Kind.{Kind};
 ghost use Rattle.aig_parts.specs.Formed.{IsFormed};
-ghost use Rattle.aig_base.specs.Limits.{frame_limit};
+ghost use Rattle.aig_parts.specs.Limits.{frame_limit};
 ghost use Rattle.aig_base.specs.Sound.{IsSound};
 ghost use Rattle.aig_sim.specs.Dump.{AreFrames, IsDump};
 ghost use Rattle.aig_sim.specs.DumpHeader.{header};

@@ -1,7 +1,7 @@
 //! The text of a stimulus.
 ghost use Rattle.std.specs.Prelude.{◌≡◌, ◌≢◌, ℕ, ◌≤◌, List, [], ◌∷◌, ◌++◌, length, IfOk, IfErr, OnOk};
 ghost use Rattle.aig_parts.specs.declared.ternary.Tern.{Tern};
-ghost use Rattle.aig_base.specs.Limits.{frame_limit};
+ghost use Rattle.aig_parts.specs.Limits.{frame_limit};
 ghost use Rattle.aig_sim.specs.LineInHand.{Keeps};
 ghost use Rattle.aig_sim.specs.declared.line_in_hand.Shape.TheVariants as shapes;
 ghost use Rattle.aig_sim.specs.StimulusText.{EndsLine, SpellsRows, HasFault, HasFaultyLine};

@@ -2,7 +2,7 @@
 use Rattle.std.specs.Prelude.{ℕ, ◌+◌, ◌*◌, ◌<◌, ◌≤◌, ◌⊎◌, length}
 use Rattle.aig_parts.specs.declared.raw.Raw.{Raw}
 use Rattle.aig_parts.specs.Formed.{limit}
-use Rattle.aig_base.specs.Limits.{frame_limit}
+use Rattle.aig_parts.specs.Limits.{frame_limit}
 use Rattle.aig_unroll.specs.FrameLiteral.{frame_size, input_count}
 use Rattle.aig_unroll.specs.Unrolled.{kept_constraints}
 

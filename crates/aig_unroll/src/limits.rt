@@ -1,7 +1,7 @@
 //! What can be unrolled.
 ghost use Rattle.std.specs.Prelude.{◌≡◌, ◌≤◌, ◌*◌, ◌↔◌, IsTrue, length};
 ghost use Rattle.aig_parts.specs.Formed.{limit};
-ghost use Rattle.aig_base.specs.Limits.{frame_limit};
+ghost use Rattle.aig_parts.specs.Limits.{frame_limit};
 ghost use Rattle.aig_unroll.specs.Unrollable.{FitsLimits, HasLiveness};
 ghost use Rattle.aig_unroll.specs.Unrolled as parts;
 

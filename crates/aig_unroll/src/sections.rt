@@ -1,7 +1,7 @@
 //! The sections of an unrolled circuit.
 ghost use Rattle.std.specs.Prelude.{◌≡◌, ◌≤◌, ◌<◌, ◌+◌, true, false, OnOk, IfOk, All, length};
 ghost use Rattle.aig_parts.specs.Formed.{limit};
-ghost use Rattle.aig_base.specs.Limits.{frame_limit};
+ghost use Rattle.aig_parts.specs.Limits.{frame_limit};
 ghost use Rattle.aig_base.specs.Order.{IsCanonicalOrder};
 ghost use Rattle.aig_base.specs.Renumbered as renumbered;
 ghost use Rattle.aig_base.specs.RenumberingTable.{IsGateListed, AreListed};

@@ -1,6 +1,2 @@
 -- What proofs alone need: the functions' tables, walks and steps. No contract of an exported function reaches them.
-pub mod Codes
 pub mod Frame
-pub mod Neighbours
-pub mod Padded
-pub mod Words

@@ -1,8 +1,8 @@
 -- What a bench simulates: a circuit and a stimulus (our own choice).
 use Rattle.std.specs.Prelude.{◌≡◌, ◌+◌, ◌*◌, ◌≤◌, length}
 use Rattle.aig_base.specs.Circuit.{IsCircuit}
-use Rattle.aig_base.specs.Limits.{cell_limit, frame_limit}
-use Rattle.aig_values.specs.InputRows.{HaveWidth}
+use Rattle.aig_parts.specs.Limits.{cell_limit, frame_limit}
+use Rattle.aig_grids.specs.InputRows.{HaveWidth}
 use Rattle.aig_bench.specs.declared.setup.Setup.{Setup}
 use Rattle.aig_bench.specs.Pair.{Pair}
 

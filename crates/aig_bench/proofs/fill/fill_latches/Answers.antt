@@ -4,7 +4,7 @@ use Rattle.aig_base.specs.Grounded as by
 use Rattle.aig_parts.specs.Literal.{variable}
 use Rattle.aig_base.specs.Value.{start_of}
 use Rattle.aig_base.proofs.circuits.Circuits.{latch_definition}
-use Rattle.aig_values.specs.InputRows.{row_at}
+use Rattle.aig_grids.specs.InputRows.{row_at}
 use Rattle.aig_values.proofs.Evaluation.{item_at, items_all, items_more, renews_none, renews_then}
 use Rattle.aig_bench.specs.state.Current.{Holds}
 use Rattle.aig_bench.specs.state.Setup.{pair_of}

@@ -3,7 +3,7 @@ use Rattle.aig_parts.specs.declared.latch.Latch.{Latch}
 use Rattle.aig_parts.specs.Literal.{variable}
 use Rattle.aig_base.specs.Value.{start_of}
 use Rattle.aig_values.specs.state.Frame.{Renews}
-use Rattle.aig_values.specs.InputRows.{row_at}
+use Rattle.aig_grids.specs.InputRows.{row_at}
 use Rattle.aig_bench.specs.state.Current.{Holds, IsLaidOut}
 use Rattle.aig_bench.specs.state.Setup.{pair_of}
 use Rattle.aig_bench.proofs.fill.fill_latches.Given as goal

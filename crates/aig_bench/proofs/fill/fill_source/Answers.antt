@@ -4,7 +4,7 @@ use Rattle.aig_base.specs.Grounded as by
 use Rattle.aig_base.specs.Value.{start_of}
 use Rattle.aig_base.proofs.circuits.Gates.{level_in_range}
 use Rattle.aig_values.specs.state.Frame.{Renews}
-use Rattle.aig_values.specs.InputRows.{row_at}
+use Rattle.aig_grids.specs.InputRows.{row_at}
 use Rattle.aig_values.proofs.Evaluation.{holds_new, renews_write}
 use Rattle.aig_bench.specs.state.Current.{Holds}
 use Rattle.aig_bench.specs.state.Setup.{pair_of}

@@ -1,5 +1,5 @@
 use Rattle.std.proofs.Common.{◌+◌, length, arith}
-use Rattle.aig_base.specs.Limits.{cell_limit}
+use Rattle.aig_parts.specs.Limits.{cell_limit}
 use Rattle.aig_bench.proofs.cells.Layouts.{room_for_row}
 use Rattle.aig_bench.proofs.layout.add_rows.Goals as goal
 

@@ -1,6 +1,6 @@
 use Rattle.std.proofs.Common.{◌≡◌, ◌-◌, ◌≤◌, length, take, map, Ok}
 use Rattle.aig_bytes.specs.state.Gathered.{Gathers}
-use Rattle.aig_values.specs.TraceText.{literal_character}
+use Rattle.aig_grids.specs.TraceText.{literal_character}
 use Rattle.aig_values.proofs.trace_line.put_literals.Given as goal
 
 abbrev pub invariant-loop-at : goal.invariant-loop-at

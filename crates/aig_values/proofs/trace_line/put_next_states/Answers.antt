@@ -1,6 +1,6 @@
 use Rattle.std.proofs.Common.{◌+◌, ◌∷◌, [], ◌≤◌, length, ◌∙◌, arith}
 use Rattle.aig_parts.specs.declared.latch.Latch.{Latch}
-use Rattle.aig_values.specs.TraceText.{literal_character}
+use Rattle.aig_grids.specs.TraceText.{literal_character}
 use Rattle.aig_bytes.proofs.GatherLemmas.{gathers_then}
 use Rattle.aig_values.proofs.GatherLemmas.{span_is, same_room, span_more, span_failed, all_gathered}
 use Rattle.aig_values.proofs.trace_line.put_next_states.Goals as goal

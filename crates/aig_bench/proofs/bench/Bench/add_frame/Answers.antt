@@ -1,5 +1,5 @@
 use Rattle.std.proofs.Common.{arith, refl, ◌∙◌, ◌<◌, ◌≤◌, ◌+◌, ◌*◌, length}
-use Rattle.aig_base.specs.Limits.{cell_limit, frame_limit}
+use Rattle.aig_parts.specs.Limits.{cell_limit, frame_limit}
 use Rattle.aig_bench.proofs.renewals.Engines.{held}
 use Rattle.aig_bench.proofs.renewals.Changed.{room_added, setup_added, current_added, laid_out_added}
 use Rattle.aig_bench.proofs.edits.Edited.{work_for, before_first, added_current, added_touched, added_changed, frames_more, lists_for}

@@ -3,7 +3,7 @@ use Rattle.aig_parts.specs.declared.raw.Raw.{Raw}
 use Rattle.aig_base.specs.Changes.{with_gate}
 use Rattle.aig_parts.specs.Literal.{variable}
 use Rattle.aig_base.proofs.circuits.Gates.{defined_in_range}
-use Rattle.aig_values.specs.InputRows.{InputRows}
+use Rattle.aig_grids.specs.InputRows.{InputRows}
 use Rattle.aig_bench.specs.declared.setup.Setup.{Setup}
 use Rattle.aig_bench.specs.Edit.{Edits, rewire}
 use Rattle.aig_bench.specs.Pair.{Pair}
