@@ -1,7 +1,8 @@
 #!/usr/bin/env python3
 """Tries the planted bugs of crates, all of a crate together: each changes the body of a function, and a proof of a
 function rests on the contracts of others alone, so that one check of a copy says of each changed function whether the
-prover refuses it. Bugs that change one function, or one line, come in checks of their own.
+prover refuses it. Bugs that change one function, or one line, come in checks of their own,
+which take from those before them what no bug changed.
 
 A bug is refused where a function that it changes is not proved, and one of that function's goals, or an answer for it
 in proofs/, is refused for another reason than that a proof file names what the bug took away.
@@ -127,19 +128,15 @@ def rounds(crate, edits):
         left = [it for it in left if it not in taken]
 
 
-def tried(tools, crate, texts, edits):
-    """Checks a copy of a crate with these texts, and yields of each planted bug whether it is refused, and why."""
+def tried(tools, crate, room, edits):
+    """Checks the copy of a crate in this folder, and yields of each planted bug whether it is refused, and why. What no
+    bug changed is taken from an earlier check in the same folder."""
     wanted = sorted({it.name for edit in edits for it in edit.functions})
-    with tempfile.TemporaryDirectory(prefix="planted-") as room:
-        for part in tools.rtlib.PARTS:
-            if os.path.isdir(f"{crate.folder}/{part}"):
-                shutil.copytree(f"{crate.folder}/{part}", f"{room}/{part}")
-        for file, text in texts.items():
-            pathlib.Path(room, file).write_text(text)
-        only = [word for name in wanted for word in ("--only", name)]
-        words = [tools.rtlib.RATTLE, "check", *crate.words(["--jobs", "1", *only], keeps=False)]
-        ran = subprocess.run(words, cwd=room, stdin=subprocess.DEVNULL, stdout=subprocess.PIPE,
-                             stderr=subprocess.STDOUT, errors="replace", check=False)
+    only = [word for name in wanted for word in ("--only", name)]
+    flags = ["--jobs", "1", "--incremental", f"{room}/kept", *only]
+    words = [tools.rtlib.RATTLE, "check", *crate.words(flags, keeps=False)]
+    ran = subprocess.run(words, cwd=room, stdin=subprocess.DEVNULL, stdout=subprocess.PIPE, stderr=subprocess.STDOUT,
+                         errors="replace", check=False)
     lines = ran.stdout.split("\n")
     verdicts = dict(re.findall(rf"(?m)^fn {crate.name}::(\S+): (.*)$", ran.stdout))
     for edit in edits:
@@ -170,30 +167,38 @@ def is_of(line, function):
     return at[1].startswith("proofs/" + function.name.replace("::", "/") + "/")
 
 
-def told(tools, crate, texts, edits):
-    """Tries planted bugs, tells of each as soon as they are tried, and returns which are refused."""
-    answers = list(tried(tools, crate, texts, edits))
-    for edit, refused, why in answers:
-        print(f"{crate.name}/{edit.name}: {'refused' if refused else 'FAILED'}: {why}", flush=True)
-    return [refused for _, refused, _ in answers]
+def told(tools, crate, checks):
+    """Tries the planted bugs of a crate, tells of each as soon as its check has ended, and returns which are refused."""
+    refusals = []
+    with tempfile.TemporaryDirectory(prefix="planted-") as room:
+        for texts, edits in checks:
+            for part in tools.rtlib.PARTS:
+                if os.path.isdir(f"{crate.folder}/{part}"):
+                    shutil.copytree(f"{crate.folder}/{part}", f"{room}/{part}", dirs_exist_ok=True)
+            for file, text in texts.items():
+                pathlib.Path(room, file).write_text(text)
+            for edit, refused, why in tried(tools, crate, room, edits):
+                print(f"{crate.name}/{edit.name}: {'refused' if refused else 'FAILED'}: {why}", flush=True)
+                refusals.append(refused)
+    return refusals
 
 
 def checks_of(crate, rooms, only):
-    """Returns the checks that a crate's planted bugs need (crate, texts, bugs), and the bugs that cannot be applied."""
+    """Returns the checks that a crate's planted bugs need (texts, bugs), and the bugs that cannot be applied."""
     folder = pathlib.Path(crate.folder)
     files = [str(it.relative_to(folder)) for it in (folder / "src").rglob("*.rt")]
     homes = types(folder, files)
     known = {file: list(functions(folder, file, homes)) for file in files}
     paths = [it for room in rooms for it in sorted((folder / room).glob("*.edit"))]
     edits = [read(folder, it, known) for it in paths if not only or any(word in it.name for word in only)]
-    checks = [(crate, *some) for some in rounds(folder, [it for it in edits if it.changes])]
+    checks = list(rounds(folder, [it for it in edits if it.changes]))
     return checks, [it for it in edits if not it.changes]
 
 
-def in_turn(checks, behind):
-    """Yields the checks that can be made, the largest first: all, or those whose libraries an `rt ci` that runs has
-    proved, or kept from an earlier run, by its output so far."""
-    left = sorted(checks, key=lambda it: -len(it[2]))
+def in_turn(work, behind):
+    """Yields the crates that can be checked, each with its checks, the most bugs first: all, or those whose libraries
+    an `rt ci` that runs has proved, or kept from an earlier run, by its output so far."""
+    left = sorted(work, key=lambda it: -sum(len(edits) for _, edits in it[1]))
     while left:
         said = behind.read_text() if behind else ""
         if re.search(r"(?m)^rt: .* NOT PROVED$", said):
@@ -230,9 +235,9 @@ def main():
         for below in crate.below() if checks and not words.behind else ():
             if not os.path.isdir(below.rlib) and below.build_rlib(["--jobs", str(words.jobs)], anew=False):
                 sys.exit(f"{below.name} is not proved")
-        work += checks
+        work += [(crate, checks)] if checks else []
     with concurrent.futures.ThreadPoolExecutor(words.jobs) as pool:
-        tries = [pool.submit(told, tools, *check) for check in in_turn(work, words.behind)]
+        tries = [pool.submit(told, tools, crate, checks) for crate, checks in in_turn(work, words.behind)]
     for refusals in (it.result() for it in tries):
         passed, failed = passed + sum(refusals), failed + len(refusals) - sum(refusals)
     print(f"{passed} passed, {failed} failed")
