@@ -1,8 +1,8 @@
 #!/usr/bin/env python3
 """Tries the planted bugs of crates, all of a crate together: each changes the body of a function, and a proof of a
 function rests on the contracts of others alone, so that one check of a copy says of each changed function whether the
-prover refuses it. Bugs that change one function, or one line, come in checks of their own,
-which take from those before them what no bug changed.
+prover refuses it. Bugs that change one function, or one line, come in checks of their own, which take from those
+before them what no bug changed.
 
 A bug is refused where a function that it changes is not proved, and one of that function's goals, or an answer for it
 in proofs/, is refused for another reason than that a proof file names what the bug took away.
