@@ -1,8 +1,9 @@
 //! Levels, orders and cycles of small circuits.
 ghost use Rattle.aig_base.specs.Levels.{AreLevels};
 
-use crate::parts::{TWO_GATES, UNUSED, is_defined, of_file};
+use crate::parts::{FEEDBACK, ONE_GATE, TWO_GATES, UNUSED, is_defined, of_file};
 use aig_base::{Circuit, Levels, Lit, canonical_order, would_cycle};
+use aig_sim::stand_in_order;
 use std::alloc::Global;
 
 static ORDERS: [(&[u8], u32, u32, [u32; 2]); 3] = [
@@ -81,6 +82,26 @@ fn cycles(rt: HostRuntime) {
             file,
             |alloc, circuit| closes(alloc, circuit, row, cycle),
         );
+    }
+    assert!(rt; right);
+}
+
+static IN_ORDER: [(&[u8], bool); 5] = [
+    (ONE_GATE, true),
+    (TWO_GATES, false),
+    (UNUSED, false),
+    (FEEDBACK, true),
+    (b"aag 4 2 0 1 2\n2\n4\n8\n8 2 4\n6 2 4\n", true),
+];
+
+// Gates that stand behind those that they read are seen to. No clause says so: a no is always allowed.
+#[test]
+fn gates_in_order(rt: HostRuntime) {
+    let mut right = true;
+    for &(file, is_in_order) in &IN_ORDER {
+        right &= of_file(rt.alloc(), file, |alloc, circuit| {
+            stand_in_order(alloc, circuit) == Ok(is_in_order)
+        });
     }
     assert!(rt; right);
 }

@@ -1,5 +1,5 @@
-//! The values of a circuit frame by frame: the values that latches begin with, the order of gates, the lines of a trace.
-//! It exports the rows and grids of `aig_grids` again.
+//! The values of a circuit frame by frame: what latches begin with, the order of gates, the lines of a trace. It
+//! exports the grids and stimuli of `aig_grids` again.
 #![tactic(auto)]
 
 mod bench_fault;
