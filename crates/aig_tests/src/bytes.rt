@@ -27,7 +27,7 @@ fn reads_from_memory(rt: HostRuntime) {
     assert!(rt; right);
 }
 
-// A block gives up in front what was put in behind, and holds 4,096 bytes at most.
+// A block gives its bytes back in the order in which they came, and holds at most 32,768 of them.
 #[test]
 fn blocks(rt: HostRuntime) {
     let mut right = true;
