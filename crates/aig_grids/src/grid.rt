@@ -16,8 +16,8 @@ use aig_bytes::Memory;
 use aig_parts::{Gate, Lit, Tern};
 use std::alloc::Global;
 
-/// A row of values a frame, a value a variable. Only `evaluate` changes the cell of a gate in a row that is there, and
-/// each call of it is counted.
+/// A row of values per frame, a value per variable. Only `evaluate` and `sweep` change the cell of a gate in a row that
+/// is there, and the count of evaluations: by one, and by the number of gates.
 pub trait Grid: Sized + Drop {
     /// The values, row by row.
     ghost cells: { Self → List (List Tern) };
