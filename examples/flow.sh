@@ -35,8 +35,10 @@ awk -v property="$property" '
 FILENAME == ARGV[1] && FNR == 1 { inputs = $3; latches = $4 }
 FILENAME == ARGV[1] { if (FNR > 1 + inputs) value[FNR - 1 - inputs] = NF == 2 ? 0 : $3 == $1 ? "free" : $3; next }
 FNR == 1 { next }
-FNR == 2 { for (l = 1; l <= latches; l++) start = start (value[l] == "free" ? substr($0, inputs + ++free, 1) : value[l]) }
-FNR == 2 { print "1\nb" property "\n" start }
+FNR == 2 {
+    for (l = 1; l <= latches; l++) start = start (value[l] == "free" ? substr($0, inputs + ++free, 1) : value[l])
+    print "1\nb" property "\n" start
+}
 { print substr($0, 1, inputs) }
 END { print "." }
 ' "$top.aag" "$top.cex" > "$top.wit"

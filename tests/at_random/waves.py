@@ -12,9 +12,9 @@ from library.reference import Parts, literal, rows_of, values
 from library.runs import write
 
 # Words that follow each other with the next number in place of `#`: most make runs, some only look like it.
-VECTORS = (b"a[#]", b"a[#]", b"b[#]", b"u1.a[#]", b"u1.u2.a[#]", b"u2.a[#]", b"a[1][#]", b"a[#][1]", b"a[0#]", b"[#]",
-           b"a[#]]", b"a[[#]", b"a[#].b", b"a#", b"$a[#]", b"u1.$a[#]", b"a.[#]", b".a[#]", b"a[#].", b"u1..a[#]",
-           b"\xe9[#]", b"a[ #]", b"a[-#]")
+VECTORS = (b"a[#]", b"a[#]", b"b[#]", b"u1.a[#]", b"u1.u2.a[#]", b"u2.a[#]", b"a[1][#]", b"a[#][1]", b"a[0#]",
+           b"[#]", b"a[#]]", b"a[[#]", b"a[#].b", b"a#", b"$a[#]", b"u1.$a[#]", b"a.[#]", b".a[#]", b"a[#].",
+           b"u1..a[#]", b"\xe9[#]", b"a[ #]", b"a[-#]")
 NUMBERS = (0, 0, 0, 1, 2, 8, 9, 98, 999, 4294967294, 18446744073709551614)
 BLANKS = (b" ", b" ", b" ", b"  ", b"   ", b"\t", b"")
 
@@ -36,11 +36,11 @@ def names(rng, count):
     found = []
     while len(found) < count:
         vectors = [(rng.choice(VECTORS), rng.choice(NUMBERS)) for _ in range(rng.choice((1, 1, 2, 3)))]
-        step, front, behind = rng.choice((1, 1, 1, 1, -1, 0)), rng.choice((b"", b"", b" ")), rng.choice((b"", b"", b" "))
-        blank = rng.choice(BLANKS)
+        step, blank = rng.choice((1, 1, 1, 1, -1, 0)), rng.choice(BLANKS)
+        front, end = (rng.choice((b"", b"", b" ")) for _ in range(2))
         for at in range(rng.randrange(1, 6)):
             words = [shape.replace(b"#", b"%d" % max(0, first + step * at)) for shape, first in vectors]
-            found.append(front + blank.join(words) + behind)
+            found.append(front + blank.join(words) + end)
         if rng.randrange(2):
             found.append(rng.choice((None, any_bytes(rng), path(rng), path(rng) + b" " + path(rng), b" ")))
     return found[:count]

@@ -1,34 +1,41 @@
-"""Rows of `aig wave`: stimuli and their dumps, headers, names and codes, refused lines, and which file a failure is told
-of."""
+"""Rows of `aig wave`: stimuli and their dumps, headers, names and codes, refused lines, and which file a failure is
+told of."""
 
 import itertools
 
 from library.circuits import write_all
 from library.dump_reader import Dump
-from library.runs import DESIGNS, EXAMPLES, EXPECTED, contents, write
+from library.runs import DESIGNS, EXAMPLES, EXPECTED, REPOSITORY, contents, write
 from program.rows import Rows
 
 FRONT = "$version aig $end\n$timescale 1 ns $end\n"
 BEHIND = "$enddefinitions $end\n"
 
-# The example that describes the text: a latch that stays at 0, an input that is unknown and then 1.
-DESCRIBED = "aag 3 1 1 0 1\n2\n4 6\n6 4 2\ni0 en\nl0 count[0]\n"
+# The example of docs/FORMATS.md: an input that is unknown and then 1, and two latches with two names each.
+DESCRIBED = "aag 3 1 2 0 0\n2\n4 2\n6 4\ni0 en\nl0 u1.q[0] x[0]\nl1 u1.q[1] x[1]\n"
 DESCRIBED_DUMP = """$version aig $end
 $timescale 1 ns $end
 $scope module inputs $end
 $var wire 1 ! en $end
 $upscope $end
 $scope module latches $end
-$var reg 1 " count[0] $end
+$scope module u1 $end
+$var reg 1 # q[1] $end
+$var reg 1 " q[0] $end
+$upscope $end
+$var reg 1 # x[1] $end
+$var reg 1 " x[0] $end
 $upscope $end
 $enddefinitions $end
 #0
 $dumpvars
 x!
 0"
+0#
 $end
 #1
 1!
+x"
 #2
 """
 
@@ -63,8 +70,8 @@ DUMPS = (
      + '#0\n$dumpvars\n1!\n1"\n$end\n' + "".join(f"#{time}\n" for time in range(1, 65538))),
 )
 
-# Symbols of a circuit's outputs, and the lines of their scope in short: a code and a name, `+` and a scope that is opened,
-# `-` for one that is closed. The codes from the first are ! " # $ % & ' ( ) *.
+# Symbols of a circuit's outputs, and the lines of their scope in short: a code and a name, `+` and a scope that is
+# opened, `-` for one that is closed. The codes from the first are ! " # $ % & ' ( ) *.
 HEADERS = (
     ("bytes that are no visible ASCII", (b"\tx\r", b"\x00\x1f\x7f\x80\xff", "\u00e9t\u00e9".encode(), b"!\"#~", b"#0"),
      ("! _x_", '" _____', "# __t__", '$ !"#~', "% #0")),
@@ -73,8 +80,8 @@ HEADERS = (
     ("words", (b"a b", b" c  d ", b"e", b" ", b"  f   g  h", b"", b"i"),
      ("! a", '" c', "# e", "$ o3", "% f", "& o5", "' i", "! b", '" d', "% g", "% h")),
     ("scopes", (b"u1.q", b"u1.r", b"u2.q", b"u2.v.w.q", b"u2.v.x.q", b"u2.v.q", b"q", b"u1.s"),
-     ("+ u1", "! q", '" r', "-", "+ u2", "# q", "+ v", "+ w", "$ q", "-", "+ x", "% q", "-", "& q", "-", "-", "' q", "+ u1",
-      "( s", "-")),
+     ("+ u1", "! q", '" r', "-", "+ u2", "# q", "+ v", "+ w", "$ q", "-", "+ x", "% q", "-", "& q", "-", "-", "' q",
+      "+ u1", "( s", "-")),
     ("scopes stay open from the first words to the second", (b"u.a u.b", b"u.v.c u.d"),
      ("+ u", "! a", "+ v", '" c', "-", "! b", '" d', "-")),
     ("names with an empty piece", (b".a", b"a.", b"a..b", b".", b"...", b"$.a", b"$..a", b".$a", b"u.a"),
@@ -98,7 +105,8 @@ HEADERS = (
     ("a dot in the brackets", (b"a[0.0]", b"a[0.1]"), ("+ a[0", "! 0]", '" 1]', "-")),
     ("runs of second words", (b"a[0] x[4]", b"a[1] x[5]", b"a[2]", b"c x[6]", b"d x[8]"),
      ("# a[2]", '" a[1]', "! a[0]", "$ c", "% d", "$ x[6]", '" x[5]', "! x[4]", "% x[8]")),
-    ("no run from the first words to the second", (b"a[0] a[2]", b"a[1] a[3]"), ('" a[1]', "! a[0]", '" a[3]', "! a[2]")),
+    ("no run from the first words to the second", (b"a[0] a[2]", b"a[1] a[3]"),
+     ('" a[1]', "! a[0]", '" a[3]', "! a[2]")),
     ("two entries with one name", (b"data[3]", b"data[3]"), ("! data[3]", '" data[3]')),
 )
 
@@ -174,8 +182,10 @@ def shows(rows, design):
 def wave(program, tally, _):
     rows = Rows("wave", program, tally)
     write_all()
-    rows.gives("the example that describes the text", "wave described rows", DESCRIBED_DUMP, described=DESCRIBED,
-               rows="x\n1\n")
+    rows.gives("the example of FORMATS.md", "wave described rows", DESCRIBED_DUMP, described=DESCRIBED, rows="x\n1\n")
+    document = contents(REPOSITORY + "/docs/FORMATS.md").decode()
+    indented = "".join(f"    {line}\n" for line in DESCRIBED_DUMP.splitlines())
+    tally.check("wave: the dump in FORMATS.md", f"\n\n{indented}\n" in document, "another dump")
     for name, circuit, stimulus, dump in DUMPS:
         rows.gives(name, f"wave {circuit} rows", dump, rows=stimulus)
     for number in (93, 94, 8835, 8836, 9000):

@@ -1,5 +1,5 @@
-"""GTKWave itself, on a screen of its own (`xvfb-run`): the signals that it shows for a dump, and their values. It adds each
-signal as its tree of signals does, so neighbouring bits are joined into vectors."""
+"""GTKWave itself, on a screen of its own (`xvfb-run`): the signals that it shows for a dump, and their values. Its
+script adds each signal as the tree of signals does, so neighbouring bits are joined into vectors."""
 
 import re
 import shutil
@@ -32,8 +32,8 @@ def needs(*tools):
 
 
 def shown(dump, frames):
-    """The values of each signal that GTKWave shows, in binary, by its full name; those of a vector begin with the bit that
-    GTKWave takes for the most significant one."""
+    """The values of each signal that GTKWave shows, in binary, by its full name. Those of a vector begin with the bit
+    that GTKWave takes for the most significant one."""
     write("shown.tcl", SCRIPT.replace("FRAMES", str(frames)))
     done = subprocess.run(["xvfb-run", "-a", "gtkwave", "-S", "shown.tcl", dump], stdin=subprocess.DEVNULL,
                           stdout=subprocess.PIPE, stderr=subprocess.STDOUT, timeout=120, check=False)

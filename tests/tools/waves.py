@@ -1,6 +1,6 @@
-"""Dumps beside those of other tools. Icarus Verilog simulates the same circuit, written as Verilog, and its dump has our
-values at every frame. GTKWave's `vcd2fst` takes our dumps, and its own format has the same names and values in it. GTKWave
-itself shows them: each vector has its highest bit first, and the values are those of library/reference.py."""
+"""Dumps beside those of other tools. Icarus Verilog simulates the same circuit, written as Verilog, and its dump has
+our values at every frame. GTKWave's `vcd2fst` takes our dumps, and its own format has the same names and values in it.
+GTKWave itself shows them: each vector has its highest bit first, and the values are those of library/reference.py."""
 
 import random
 import re
@@ -20,6 +20,9 @@ from tools.external import LOGIC, Tools
 CASES = 40
 # The counter of examples/, frame by frame, until an unknown input makes it unknown.
 COUNTED = [0, 0, 1, 2, 3, 4, 0]
+# Designs of Yosys, each with some of the signals that GTKWave has to show for it.
+SHOWN = {f"{DESIGNS}/hier.v": ("latches.u1.q[3:0]", "latches.u2.st[1:0]", "latches.y[3:0]", "outputs.x[3:0]"),
+         f"{EXAMPLES}/queue.v": ("inputs.din[7:0]", "latches.mem[7][7:0]", "latches.full_r")}
 
 
 def waves(program, tally, _):
@@ -70,8 +73,7 @@ def vectors(program, tally):
         counted = [int(value, 2) for value in seen.get(f"{scope}.count[3:0]", [])[:len(COUNTED)] if "x" not in value]
         tally.compare(f"waves: the counter as GTKWave shows it, {scope}", counted, COUNTED)
     tools = Tools()
-    for file, wanted in ((f"{DESIGNS}/hier.v", ("latches.u1.q[3:0]", "latches.u2.st[1:0]", "latches.y[3:0]", "outputs.x[3:0]")),
-                         (f"{EXAMPLES}/queue.v", ("inputs.din[7:0]", "latches.mem[7][7:0]", "latches.full_r"))):
+    for file, wanted in SHOWN.items():
         name = re.search(r"(\w+)\.v$", file)[1]
         if not tools.yosys(f"read_verilog -sv -formal {file}; prep -flatten -top {name}; memory_map; {LOGIC}; "
                            f"write_aiger -ascii -symbols {name}.aag"):
