@@ -24,11 +24,9 @@ def code(number):
 
 def pieces(word):
     """The pieces of a word of a symbol: its scopes, and its last piece."""
-    word = bytes(byte if 33 <= byte <= 126 else ord("_") for byte in word)
-    parts = word.split(b".")
-    if b"" in parts:
-        parts = [word]
-    return [b"_" + part[1:] if part[:1] == b"$" else part for part in parts]
+    parts = re.sub(rb"[^!-~]", b"_", word).split(b".")
+    parts = [b"_" + part[1:] if part[:1] == b"$" else part for part in parts]
+    return [b".".join(parts)] if b"" in parts else parts
 
 
 def names_of(symbol, standard):
@@ -37,17 +35,10 @@ def names_of(symbol, standard):
     return [pieces(word) for word in words] or [[standard]]
 
 
-def index(last):
-    """What stands before the brackets of `X[n]`, and n; None for any other name."""
-    found = re.fullmatch(rb"(.*)\[(0|[1-9][0-9]*)\]", last)
-    return found and (found[1], int(found[2]))
-
-
 def follows(before, after):
-    """Whether a name is the next of a run."""
-    first, second = index(before.last), index(after.last)
-    return bool(before.scopes == after.scopes and first and second and first[0] == second[0]
-                and first[1] + 1 == second[1])
+    """Whether a name is the next of a run: `X[n + 1]` after `X[n]`, where n has at most 19 digits."""
+    found = re.fullmatch(rb"(.*\[)(0|[1-9][0-9]{0,18})\]", before.last)
+    return bool(found) and (before.scopes, b"%s%d]" % (found[1], int(found[2]) + 1)) == (after.scopes, after.last)
 
 
 def declared(section, column):
