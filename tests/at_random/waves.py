@@ -31,19 +31,17 @@ def path(rng):
     return b".".join(rng.choice(pieces) for _ in range(rng.randrange(1, 4))) or b"."
 
 
-def names(rng, count):
-    """Symbols of the entries of a section; None for an entry that has none."""
-    found = []
-    while len(found) < count:
+def names(rng):
+    """Symbols, without end; None for an entry that has none. Their runs go across the ends of sections."""
+    while True:
         vectors = [(rng.choice(VECTORS), rng.choice(NUMBERS)) for _ in range(rng.choice((1, 1, 2, 3)))]
         step, blank = rng.choice((1, 1, 1, 1, -1, 0)), rng.choice(BLANKS)
         front, end = (rng.choice((b"", b"", b" ")) for _ in range(2))
         for at in range(rng.randrange(1, 6)):
             words = [shape.replace(b"#", b"%d" % max(0, first + step * at)) for shape, first in vectors]
-            found.append(front + blank.join(words) + end)
+            yield front + blank.join(words) + end
         if rng.randrange(2):
-            found.append(rng.choice((None, any_bytes(rng), path(rng), path(rng) + b" " + path(rng), b" ")))
-    return found[:count]
+            yield rng.choice((None, any_bytes(rng), path(rng), path(rng) + b" " + path(rng), b" "))
 
 
 def wider(rng, literals):
@@ -56,11 +54,8 @@ def renamed(rng, design):
     parts = Reader(design).parts()
     parts = parts._replace(outputs=wider(rng, parts.outputs), bad=wider(rng, parts.bad),
                            constraints=wider(rng, parts.constraints))
-    symbols = {}
-    for letter, entries in zip("ilobcjf", parts[1:8]):
-        for place, name in enumerate(names(rng, len(entries))):
-            if name is not None:
-                symbols[letter, place] = name
+    places = [(letter, place) for letter, entries in zip("ilobcjf", parts[1:8]) for place in range(len(entries))]
+    symbols = {entry: name for entry, name in zip(places, names(rng)) if name is not None}
     lines = [(letter.encode(), place, name) for (letter, place), name in symbols.items()]
     rng.shuffle(lines)
     return spelled(parts._replace(names=lines), "aag"), symbols
