@@ -1,8 +1,7 @@
 #!/usr/bin/env python3
 """Runs the built program beside Yosys and ABC, on files that these write and on runs that they find, its dumps beside
 those of Icarus Verilog and in GTKWave, and `examples/flow.sh`. It is no part of the gate: the tools are Debian's
-packages `yosys`, `berkeley-abc`, `iverilog`, `gtkwave`, `xvfb` and `xauth`, and a run takes
-a minute and a half."""
+packages `yosys`, `berkeley-abc`, `iverilog`, `gtkwave`, `xvfb` and `xauth`, and a run takes a minute and a half."""
 
 from library import runs
 from tools.conversions import conversions
