@@ -1,13 +1,35 @@
-"""The recipe of docs/FORMATS.md that makes a witness of a row for an unrolled circuit, as it stands there."""
+"""The scripts of docs/FORMATS.md that make witnesses, as they stand there."""
 
+import os
 import re
 import subprocess
 
-from library.runs import REPOSITORY, contents
+from library.runs import REPOSITORY, contents, write
+
+
+def script(start):
+    """The block of shell that begins with these bytes."""
+    document = contents(REPOSITORY + "/docs/FORMATS.md").decode()
+    return re.search(rf"(?ms)^```sh\n({re.escape(start)}.*?)^```$", document)[1]
+
+
+def shell(program, text):
+    """Runs a script in which `aig` is the program; what it says."""
+    write("aig", f'#!/bin/sh\nexec {program.path} "$@"\n')
+    os.chmod("aig", 0o755)
+    settings = {**os.environ, "PATH": f"{os.getcwd()}:{os.environ['PATH']}"}
+    done = subprocess.run(["sh", "-c", text], env=settings, stdin=subprocess.DEVNULL, stdout=subprocess.PIPE,
+                          stderr=subprocess.STDOUT, check=False)
+    return done.stdout.decode(errors="replace")
 
 
 def make_witness(last):
     """Makes `run.wit` of `row`, `map` and `old.aag`, for property 0 at frame `last`."""
-    document = contents(REPOSITORY + "/docs/FORMATS.md").decode()
-    script = re.search(r"(?ms)^```sh\n(awk -v property=.*?)^```$", document)[1]
-    subprocess.run(["sh", "-c", script.replace("last=4", f"last={last}")], check=True)
+    text = script("awk -v property=")
+    subprocess.run(["sh", "-c", text.replace("last=4", f"last={last}")], check=True)
+
+
+def find_witness(program, abc, number):
+    """Makes `run.wit` of `old.aig`, a run to this property that ABC finds; what the script says."""
+    text = script("property=0\n").replace("property=0\n", f"property={number}\n", 1)
+    return shell(program, text.replace("berkeley-abc ", f"{abc} "))

@@ -1,10 +1,9 @@
 """Rows of `aig check`: witnesses and their verdicts, refused ones, and which file a failure is told of."""
 
-import os
 import re
-import subprocess
 
 from library.circuits import write_all
+from library.recipes import shell
 from library.runs import EXAMPLES, REPOSITORY, contents, write
 from program.rows import Rows
 
@@ -130,10 +129,3 @@ def recipes(rows):
     shell(rows.program, outputs_as_bad)
     rows.gives("outputs that are taken for bad states", "check bad.aag witness", "confirmed\n",
                witness="1\nb1\n0000\n10\n10\n00\n.\n")
-
-
-def shell(program, line):
-    """Runs a line of shell in which `aig` is the program."""
-    write("aig", f'#!/bin/sh\nexec {program.path} "$@"\n')
-    os.chmod("aig", 0o755)
-    subprocess.run(["sh", "-c", line], env={**os.environ, "PATH": f".:{os.environ['PATH']}"}, check=True)

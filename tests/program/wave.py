@@ -1,33 +1,41 @@
-"""Rows of `aig wave`: stimuli and their dumps, names and codes, refused lines, and which file a failure is told of."""
+"""Rows of `aig wave`: stimuli and their dumps, headers, names and codes, refused lines, and which file a failure is
+told of."""
 
 import itertools
 
 from library.circuits import write_all
 from library.dump_reader import Dump
-from library.runs import EXAMPLES, EXPECTED, contents, write
+from library.runs import DESIGNS, EXAMPLES, EXPECTED, REPOSITORY, contents, write
 from program.rows import Rows
 
 FRONT = "$version aig $end\n$timescale 1 ns $end\n"
 BEHIND = "$enddefinitions $end\n"
 
-# The example that describes the text: a latch that stays at 0, an input that is unknown and then 1.
-DESCRIBED = "aag 3 1 1 0 1\n2\n4 6\n6 4 2\ni0 en\nl0 count[0]\n"
+# The example of docs/FORMATS.md: an input that is unknown and then 1, and two latches with two names each.
+DESCRIBED = "aag 3 1 2 0 0\n2\n4 2\n6 4\ni0 en\nl0 u1.q[0] x[0]\nl1 u1.q[1] x[1]\n"
 DESCRIBED_DUMP = """$version aig $end
 $timescale 1 ns $end
 $scope module inputs $end
 $var wire 1 ! en $end
 $upscope $end
 $scope module latches $end
-$var reg 1 " count[0] $end
+$scope module u1 $end
+$var reg 1 # q[1] $end
+$var reg 1 " q[0] $end
+$upscope $end
+$var reg 1 # x[1] $end
+$var reg 1 " x[0] $end
 $upscope $end
 $enddefinitions $end
 #0
 $dumpvars
 x!
 0"
+0#
 $end
 #1
 1!
+x"
 #2
 """
 
@@ -62,21 +70,48 @@ DUMPS = (
      + '#0\n$dumpvars\n1!\n1"\n$end\n' + "".join(f"#{time}\n" for time in range(1, 65538))),
 )
 
-# Symbols and the names by them: what is no visible ASCII becomes _, and a $ in front too.
-NAMES = (
-    (b"a b", b"a_b"),
-    (b" ", b"_"),
-    (b"\tx\r", b"_x_"),
-    (b"$end", b"_end"),
-    (b"$$", b"_$"),
-    (b" $end", b"_$end"),
-    (b"a $end b", b"a_$end_b"),
-    (b"data[3]", b"data[3]"),
-    (b"data[3]", b"data[3]"),
-    (b"!\"#~", b"!\"#~"),
-    (b"#0", b"#0"),
-    (b"\x00\x1f \x7f\x80\xff", b"______"),
-    ("\u00e9t\u00e9".encode(), b"__t__"),
+# Symbols of a circuit's outputs, and the lines of their scope in short: a code and a name, `+` and a scope that is
+# opened, `-` for one that is closed. The codes from the first are ! " # $ % & ' ( ) *.
+HEADERS = (
+    ("bytes that are no visible ASCII", (b"\tx\r", b"\x00\x1f\x7f\x80\xff", "\u00e9t\u00e9".encode(), b"!\"#~", b"#0"),
+     ("! _x_", '" _____', "# __t__", '$ !"#~', "% #0")),
+    ("a $ at the front of a piece", (b"$end", b"$$", b"a$", b"$u.$q", b"$u", b"$scope $end"),
+     ("! _end", '" _$', "# a$", "+ _u", "$ _q", "-", "% _u", "& _scope", "& _end")),
+    ("words", (b"a b", b" c  d ", b"e", b" ", b"  f   g  h", b"", b"i"),
+     ("! a", '" c', "# e", "$ o3", "% f", "& o5", "' i", "! b", '" d', "% g", "% h")),
+    ("scopes", (b"u1.q", b"u1.r", b"u2.q", b"u2.v.w.q", b"u2.v.x.q", b"u2.v.q", b"q", b"u1.s"),
+     ("+ u1", "! q", '" r', "-", "+ u2", "# q", "+ v", "+ w", "$ q", "-", "+ x", "% q", "-", "& q", "-", "-", "' q",
+      "+ u1", "( s", "-")),
+    ("scopes stay open from the first words to the second", (b"u.a u.b", b"u.v.c u.d"),
+     ("+ u", "! a", "+ v", '" c', "-", "! b", '" d', "-")),
+    ("names with an empty piece", (b".a", b"a.", b"a..b", b".", b"...", b"$.a", b"$..a", b".$a", b"u.a"),
+     ("! .a", '" a.', "# a..b", "$ .", "% ...", "+ _", "& a", "-", "' _..a", "( ._a", "+ u", ") a", "-")),
+    ("a run", (b"a[0]", b"a[1]", b"a[2]", b"a[3]"), ("$ a[3]", "# a[2]", '" a[1]', "! a[0]")),
+    ("a run between other names", (b"a", b"a[7]", b"a[8]", b"a[9]", b"a[10]", b"b"),
+     ("! a", "% a[10]", "$ a[9]", "# a[8]", '" a[7]', "& b")),
+    ("a run downwards", (b"a[2]", b"a[1]", b"a[0]"), ("! a[2]", '" a[1]', "# a[0]")),
+    ("runs that break", (b"a[0]", b"a[1]", b"a[3]", b"a[4]", b"a[4]", b"b[5]", b"b[6]"),
+     ('" a[1]', "! a[0]", "$ a[4]", "# a[3]", "% a[4]", "' b[6]", "& b[5]")),
+    ("a run that an entry without a symbol breaks", (b"a[0]", b"a[1]", b"", b"a[2]", b"a[3]"),
+     ('" a[1]', "! a[0]", "# o2", "% a[3]", "$ a[2]")),
+    ("numbers of many digits",
+     (*(b"a[%d]" % (10 ** 19 + n) for n in (-2, -1, 0, 1)), b"b[4294967295]", b"b[4294967296]"),
+     ("# a[10000000000000000000]", '" a[9999999999999999999]', "! a[9999999999999999998]", "$ a[10000000000000000001]",
+      "& b[4294967296]", "% b[4294967295]")),
+    ("numbers with zeros in front", (b"a[00]", b"a[01]", b"a[02]"), ("! a[00]", '" a[01]', "# a[02]")),
+    ("a zero in front of the last", (b"a[8]", b"a[9]", b"a[010]"), ('" a[9]', "! a[8]", "# a[010]")),
+    ("two pairs of brackets", (b"a[1][0]", b"a[1][1]", b"a[2][2]", b"a[0][0]", b"a[1][0]"),
+     ('" a[1][1]', "! a[1][0]", "# a[2][2]", "$ a[0][0]", "% a[1][0]")),
+    ("what only looks like a run", (b"a[0]x", b"a[1]x", b"a[-1]", b"a[0]]", b"a[1]]", b"a0", b"a1", b"a[]"),
+     ("! a[0]x", '" a[1]x', "# a[-1]", "$ a[0]]", "% a[1]]", "& a0", "' a1", "( a[]")),
+    ("runs in scopes", (b"u1.a[0]", b"u1.a[1]", b"u2.a[2]", b"u2.a[3]", b"a[4]", b"a[5]"),
+     ("+ u1", '" a[1]', "! a[0]", "-", "+ u2", "$ a[3]", "# a[2]", "-", "& a[5]", "% a[4]")),
+    ("a dot in the brackets", (b"a[0.0]", b"a[0.1]"), ("+ a[0", "! 0]", '" 1]', "-")),
+    ("runs of second words", (b"a[0] x[4]", b"a[1] x[5]", b"a[2]", b"c x[6]", b"d x[8]"),
+     ("# a[2]", '" a[1]', "! a[0]", "$ c", "% d", "$ x[6]", '" x[5]', "! x[4]", "% x[8]")),
+    ("no run from the first words to the second", (b"a[0] a[2]", b"a[1] a[3]"),
+     ('" a[1]', "! a[0]", '" a[3]', "! a[2]")),
+    ("two entries with one name", (b"data[3]", b"data[3]"), ("! data[3]", '" data[3]')),
 )
 
 # What is run, the third line of the stimulus and the refusal; the dump of the first two was written.
@@ -112,14 +147,30 @@ def of_many(number):
     return circuit, dump + "#1\n" + "".join(f"0{code}\n" for code in all_codes) + "#2\n"
 
 
-def named():
-    """A circuit with an output for each symbol, and its dump without frames."""
-    circuit = b"aag 0 0 0 %d 0\n" % len(NAMES) + b"0\n" * len(NAMES)
-    lines = b""
-    for place, (code, (symbol, name)) in enumerate(zip(codes(), NAMES)):
-        circuit += b"o%d %s\n" % (place, symbol)
-        lines += b"$var wire 1 %s %s $end\n" % (code.encode(), name)
-    return circuit, FRONT.encode() + b"$scope module outputs $end\n" + lines + b"$upscope $end\n" + BEHIND.encode()
+def named(symbols, short):
+    """A circuit with an output for each symbol, without one where it is empty, and its dump without frames."""
+    circuit = b"aag 0 0 0 %d 0\n" % len(symbols) + b"0\n" * len(symbols)
+    circuit += b"".join(b"o%d %s\n" % (place, symbol) for place, symbol in enumerate(symbols) if symbol)
+    lines = ""
+    for line in short:
+        word, *name = line.split(" ")
+        # The codes + and - belong to signals 10 and 12; no circuit here has so many.
+        lines += {"+": f"$scope module {' '.join(name)} $end\n",
+                  "-": "$upscope $end\n"}.get(word, f"$var wire 1 {word} {' '.join(name)} $end\n")
+    return circuit, FRONT + f"$scope module outputs $end\n{lines}$upscope $end\n" + BEHIND
+
+
+def headers(rows):
+    """Headers by the rules for names, and those of two designs to the byte."""
+    for name, symbols, short in HEADERS:
+        circuit, dump = named(symbols, short)
+        rows.gives(f"names: {name}", "wave named rows", dump, named=circuit, rows="")
+    rows.gives("runs do not go from one section to the next", "wave named rows",
+               FRONT + scope("inputs", "wire", ('"', "a[1]"), ("!", "a[0]"))
+               + scope("latches", "reg", ("$", "a[3]"), ("#", "a[2]")) + BEHIND,
+               named="aag 4 2 2 0 0\n2\n4\n6 2\n8 4\ni0 a[0]\ni1 a[1]\nl0 a[2]\nl1 a[3]\n", rows="")
+    for circuit, design in ((f"{EXAMPLES}/counter.aag", "counter"), (f"{DESIGNS}/hier.aag", "hier")):
+        rows.copies(f"the header of {design}", ["wave", circuit, "rows"], f"{EXPECTED}/{design}.header")
 
 
 def shows(rows, design):
@@ -135,15 +186,16 @@ def shows(rows, design):
 def wave(program, tally, _):
     rows = Rows("wave", program, tally)
     write_all()
-    rows.gives("the example that describes the text", "wave described rows", DESCRIBED_DUMP, described=DESCRIBED,
-               rows="x\n1\n")
+    rows.gives("the example of FORMATS.md", "wave described rows", DESCRIBED_DUMP, described=DESCRIBED, rows="x\n1\n")
+    document = contents(REPOSITORY + "/docs/FORMATS.md").decode()
+    indented = "".join(f"    {line}\n" for line in DESCRIBED_DUMP.splitlines())
+    tally.check("wave: the dump in FORMATS.md", f"\n\n{indented}\n" in document, "another dump")
     for name, circuit, stimulus, dump in DUMPS:
         rows.gives(name, f"wave {circuit} rows", dump, rows=stimulus)
     for number in (93, 94, 8835, 8836, 9000):
         circuit, dump = of_many(number)
         rows.gives(f"{number + 1} signals", "wave wide_circuit rows", dump, wide_circuit=circuit, rows="1\n0\n")
-    circuit, dump = named()
-    rows.gives("names", "wave named rows", dump, named=circuit, rows="")
+    headers(rows)
     for name, line, text in REFUSALS:
         rows.refuses(name, "wave one_gate rows", f"stimulus: {text}", BEFORE, rows="11\n10\n" + line)
     rows.refuses("a first line that is refused", "wave one_gate rows", "stimulus: length of line 1", ONE_GATE,

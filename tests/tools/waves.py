@@ -1,21 +1,32 @@
-"""Dumps beside those of other tools: Icarus Verilog simulates the same circuit, written as Verilog, and its dump has
-our values at every frame; GTKWave's `vcd2fst` takes our dumps, and its own format has the same values in it."""
+"""Dumps beside those of other tools. Icarus Verilog simulates the same circuit, written as Verilog, and its dump has
+our values at every frame. GTKWave's `vcd2fst` takes our dumps, and its own format has the same names and values in it.
+GTKWave itself shows them: each vector has its highest bit first, and the values are those of library/reference.py."""
 
 import random
-import shutil
+import re
 import subprocess
 
+from library import wave_names
 from library.broken import circuit, stimulus
+from library.dump_reader import Dump
+from library.plain_reader import Reader
 from library.reference import Parts, rows_of
-from library.runs import EXAMPLES, LeftOut, contents, write
+from library.reference import literal as value_of
+from library.reference import values as values_of
+from library.runs import DESIGNS, EXAMPLES, contents, write
+from tools import viewer
+from tools.external import LOGIC, Tools
 
 CASES = 40
+# The counter of examples/, frame by frame, until an unknown input makes it unknown.
+COUNTED = [0, 0, 1, 2, 3, 4, 0]
+# Designs of Yosys, each with some of the signals that GTKWave has to show for it.
+SHOWN = {f"{DESIGNS}/hier.v": ("latches.u1.q[3:0]", "latches.u2.st[1:0]", "latches.y[3:0]", "outputs.x[3:0]"),
+         f"{EXAMPLES}/queue.v": ("inputs.din[7:0]", "latches.mem[7][7:0]", "latches.full_r")}
 
 
 def waves(program, tally, _):
-    for tool in ("iverilog", "vvp", "vcd2fst", "fst2vcd"):
-        if not shutil.which(tool):
-            raise LeftOut(f"{tool} is missing: apt-get install iverilog gtkwave")
+    viewer.needs("iverilog", "vvp", *viewer.TOOLS)
     for design in ("two_gates", "counter", "fifo"):
         each(program, tally, design, *(contents(f"{EXAMPLES}/{design}.{ending}") for ending in ("aag", "stim")))
     for case in range(CASES):
@@ -24,6 +35,7 @@ def waves(program, tally, _):
         rows = stimulus(rng, len(Parts(design.decode()).inputs))
         if rows:
             each(program, tally, f"case {case}", design, rows)
+    vectors(program, tally)
 
 
 def each(program, tally, name, design, rows):
@@ -33,22 +45,85 @@ def each(program, tally, name, design, rows):
     write("ours.vcd", program.run("wave", "circuit", "rows").out)
     parts, frames = Parts(design.decode()), rows_of(rows.decode())
     lists = (parts.inputs, parts.latches, parts.outputs, parts.bad, parts.constraints)
-    # In our dump the signals stand in this order.
     signals = [f"{letter}{place}" for letter, entries in zip("ilobc", lists) for place in range(len(entries))]
-    codes, at = changes("ours.vcd")
-    ours = values(codes, at, len(frames))
+    # A reader of our dumps puts the signals into this order, that of their codes.
+    ours = Dump(contents("ours.vcd"))
     write("circuit.v", verilog(parts, frames, signals))
     run("iverilog", "-o", "circuit.vvp", "circuit.v")
     run("vvp", "-n", "circuit.vvp")
     named, at = changes("theirs.vcd")
-    place = {said[1]: code for said, code in named}
-    theirs = values([(None, place[signal]) for signal in signals], at, len(frames))
-    tally.compare(f"waves: {name}, Icarus Verilog", ours, theirs)
+    place = {said[-1]: code for said, code in named}
+    theirs = values([place[signal] for signal in signals], at, len(frames))
+    tally.compare(f"waves: {name}, Icarus Verilog", ours.frames, theirs)
     run("vcd2fst", "ours.vcd", "ours.fst")
     write("again.vcd", run("fst2vcd", "ours.fst"))
     again, at = changes("again.vcd")
-    tally.check(f"waves: {name}, the signals of vcd2fst", [said for said, _ in again] == [said for said, _ in codes])
-    tally.compare(f"waves: {name}, vcd2fst", values(again, at, len(frames)), ours)
+    names, _ = changes("ours.vcd")
+    tally.compare(f"waves: {name}, the names of vcd2fst", [said for said, _ in again], [said for said, _ in names])
+    # Each name with the values of its signal.
+    codes = {said.code: place for place, said in enumerate(ours.signals)}
+    wanted = ["".join(frame[codes[code.encode()]] for _, code in names) for frame in ours.frames]
+    tally.compare(f"waves: {name}, vcd2fst", values([code for _, code in again], at, len(frames)), wanted)
+
+
+def vectors(program, tally):
+    """GTKWave shows the counter, and designs of Yosys: one with two instances, and a queue with a memory."""
+    seen = shows(program, tally, "counter", *(contents(f"{EXAMPLES}/counter.{ending}") for ending in ("aag", "stim")))
+    for scope in ("latches", "outputs"):
+        counted = [int(value, 2) for value in seen.get(f"{scope}.count[3:0]", [])[:len(COUNTED)] if "x" not in value]
+        tally.compare(f"waves: the counter as GTKWave shows it, {scope}", counted, COUNTED)
+    tools = Tools()
+    for file, wanted in SHOWN.items():
+        name = re.search(r"(\w+)\.v$", file)[1]
+        if not tools.yosys(f"read_verilog -sv -formal {file}; prep -flatten -top {name}; memory_map; {LOGIC}; "
+                           f"write_aiger -ascii -symbols {name}.aag"):
+            tally.check(f"waves: yosys {name}", False, tools.last_lines())
+            continue
+        design = contents(f"{name}.aag")
+        rng, width = random.Random(f"waves {name}"), len(Parts(design.decode()).inputs)
+        rows = "".join("".join(rng.choices("01", k=width)) + "\n" for _ in range(12))
+        seen = shows(program, tally, name, design, rows.encode())
+        for signal in wanted:
+            tally.check(f"waves: {name}, {signal} in GTKWave", signal in seen, sorted(seen))
+
+
+def shows(program, tally, name, design, rows):
+    """Compares what GTKWave shows of a dump with the values of the plain simulator; what it shows."""
+    write("circuit", design)
+    write("rows", rows)
+    write("ours.vcd", program.run("wave", "circuit", "rows").out)
+    frames = rows_of(rows.decode())
+    bits = named_bits(design, frames)
+    seen = viewer.shown("ours.vcd", len(frames))
+    left = set(bits)
+    for signal, got in seen.items():
+        joined = re.fullmatch(r"(.*)\[(\d+):(\d+)\]", signal)
+        if not joined:
+            left.discard(signal)
+            tally.compare(f"waves: {name}, {signal} in GTKWave", got, bits.get(signal))
+            continue
+        first, last = int(joined[2]), int(joined[3])
+        names = [f"{joined[1]}[{number}]" for number in range(first, last - 1, -1)]
+        left.difference_update(names)
+        wanted = ["".join(each) for each in zip(*(bits.get(bit, ["?"] * len(frames)) for bit in names))]
+        tally.check(f"waves: {name}, {signal} in GTKWave: its highest bit first", first > last, got)
+        tally.compare(f"waves: {name}, {signal} in GTKWave", got, wanted)
+    tally.check(f"waves: {name}, all signals in GTKWave", not left, sorted(left))
+    return seen
+
+
+def named_bits(design, frames):
+    """The values of each entry by the plain simulator, frame by frame, under each full name of the entry."""
+    parts, known = Parts(design.decode()), values_of(Parts(design.decode()), frames)
+    symbols = {(letter.decode(), place): said for letter, place, said in Reader(design).parts().names}
+    lists = (parts.inputs, [latch[0] for latch in parts.latches], parts.outputs, parts.bad, parts.constraints)
+    bits = {}
+    for (section, letter, _), entries in zip(wave_names.SECTIONS, lists):
+        for place, lit in enumerate(entries):
+            for pieces in wave_names.names_of(symbols.get((letter, place)), f"{letter}{place}".encode()):
+                full = ".".join([section, *(piece.decode() for piece in pieces)])
+                bits[full] = [value_of(now, lit) for now in known]
+    return bits
 
 
 def run(*words):
@@ -57,7 +132,7 @@ def run(*words):
 
 
 def changes(file):
-    """The signals of a dump, each its scope and name with its code, and for each code the values by time."""
+    """The names of a dump, each with its scopes and its code, and for each code the values by time."""
     words = iter(contents(file).decode("latin-1").split())
     scopes, signals, at, time = [], [], {}, 0
     for word in words:
@@ -68,7 +143,7 @@ def changes(file):
             elif word == "$upscope":
                 scopes.pop()
             elif word == "$var":
-                signals.append(((scopes[-1], "".join(inside[3:])), inside[2]))
+                signals.append(((*scopes, "".join(inside[3:])), inside[2]))
         elif word[0] == "#":
             time = int(word[1:])
         elif word[0] in "01xz" and word[1:]:
@@ -76,13 +151,13 @@ def changes(file):
     return signals, at
 
 
-def values(signals, at, frames):
-    """The values of the signals at each frame."""
+def values(codes, at, frames):
+    """The values of these codes at each frame."""
     now, rows = {}, []
     for time in range(frames):
-        for _, code in signals:
+        for code in codes:
             now[code] = at[code].get(time, now.get(code))
-        rows.append("".join(now[code] for _, code in signals))
+        rows.append("".join(now[code] for code in codes))
     return rows
 
 

@@ -1,18 +1,23 @@
-"""Runs of Yosys designs to bad states that ABC finds, each brought into the form of a witness: each is confirmed. Then
-the same with one input value turned at a time: where the plain simulator of library/reference.py finds the constraints
-and the bad state at 1 in that run too, it is confirmed, else it is not."""
+"""Runs of Yosys designs to bad states that ABC finds, each made a witness by the recipe of docs/FORMATS.md: each is
+confirmed. Then the same with one input value turned at a time: where the plain simulator of library/reference.py finds
+the constraints and the bad state at 1 in that run too, it is confirmed, else it is not. Other designs have
+uninitialised latches: a queue that overflows, and a memory whose bad states need some of them at 1 and some at 0."""
 
 import os
 
 from library import reference
 from library.plain_reader import in_order, spelled
-from library.runs import Ended, contents, write
-from tools.external import FORMAL, Tools, with_bad
+from library.recipes import find_witness
+from library.runs import DESIGNS, EXAMPLES, Ended, contents, write
+from tools.external import FORMAL, LOGIC, Tools, parts_of, with_bad
+
+# Designs with uninitialised latches, their bad states, and those that no run reaches.
+FREE = ((f"{EXAMPLES}/queue.v", 2, {1}), (f"{DESIGNS}/unwritten.v", 4, set()))
 
 
 def witnesses(program, tally, _):
     tools = Tools()
-    counts = {"found": 0, "turned": 0, "still": 0}
+    counts = {"found": 0, "turned": 0, "still": 0, "free": 0}
     for design in FORMAL:
         parts = tools.formal_text(design)
         if parts is None:
@@ -21,21 +26,30 @@ def witnesses(program, tally, _):
         for place in range(len(parts.outputs)):
             of_output(program, tally, tools, counts, f"{design}, output {place}", with_bad(parts, place))
     tally.check("witnesses: values that are turned", counts["found"] > 0 and counts["still"] < counts["turned"], counts)
+    for file, bad, unreached in FREE:
+        uninitialised(program, tally, tools, counts, file, bad, unreached)
     return (f"{counts['found']} witnesses; of {counts['turned']} with one value turned {counts['still']} still reach "
-            "the bad state: ")
+            f"the bad state; {counts['free']} witnesses of designs with uninitialised latches: ")
+
+
+def found(program, tools, number):
+    """Whether ABC finds a run of `old.aig` to this property; the recipe makes `run.wit` of it. What the recipe says."""
+    for file in ("cex.txt", "run.wit"):
+        if os.path.exists(file):
+            os.remove(file)
+    said = find_witness(program, tools.abc_path, number)
+    return os.path.exists("cex.txt"), said
 
 
 def of_output(program, tally, tools, counts, name, parts):
     write("bad.aag", spelled(parts, "aag"))
-    write("bad.aig", spelled(in_order(parts), "aig"))
-    if os.path.exists("cex"):
-        os.remove("cex")
-    tools.abc("read_aiger bad.aig; fold; bmc3 -F 40 -T 20; write_cex -a cex")
-    if not os.path.exists("cex"):
+    write("old.aig", spelled(in_order(parts), "aig"))
+    is_found, _ = found(program, tools, 0)
+    if not is_found:
         print(f"{name}: no run to a bad state was found")
         return
-    start, rows = run_of(parts)
-    for circuit in ("bad.aag", "bad.aig"):
+    start, *rows = contents("run.wit").decode().splitlines()[2:-1]
+    for circuit in ("bad.aag", "old.aig"):
         counts["found"] += 1
         tally.compare(f"witnesses: {name}, {circuit}", verdict(program, circuit, start, rows), "confirmed")
     watched = reference.Parts(spelled(parts._replace(outputs=[*parts.bad, *parts.constraints], bad=[], constraints=[]),
@@ -52,11 +66,23 @@ def of_output(program, tally, tools, counts, name, parts):
             tally.check(f"witnesses: {name}, value {place} of frame {frame} turned", is_right, got)
 
 
-def run_of(parts):
-    """The run that ABC wrote: the latches at the start and the inputs a frame, `# DONE` behind the last. Where it
-    folded constraints it has left latches out, so the start is taken from the resets, which ABC starts at."""
-    start = "".join("x" if reset == state else str(reset) for state, _, reset in parts.latches)
-    return start, [line.removesuffix("# DONE") for line in contents("cex").decode().splitlines()[1:]]
+def uninitialised(program, tally, tools, counts, file, bad, unreached):
+    """A design that keeps its uninitialised latches: the recipe gives a confirmed witness of each bad state."""
+    name = os.path.basename(file).removesuffix(".v")
+    if not tools.yosys(f"read_verilog -sv -formal {file}; prep -flatten -top {name}; memory_map; {LOGIC}; "
+                       "write_aiger -symbols old.aig"):
+        tally.check(f"witnesses: yosys {name}", False, tools.last_lines())
+        return
+    parts = parts_of("old.aig")
+    is_free = any(state == reset for state, _, reset in parts.latches)
+    tally.check(f"witnesses: {name} has uninitialised latches", is_free and len(parts.bad) == bad, len(parts.bad))
+    for number in range(bad):
+        is_found, said = found(program, tools, number)
+        tally.check(f"witnesses: {name}, property {number}: found or not", is_found == (number not in unreached), said)
+        if is_found:
+            counts["free"] += 1
+            tally.compare(f"witnesses: {name}, property {number}", program.run("check", "old.aig", "run.wit"),
+                          Ended(0, b"confirmed\n", b""))
 
 
 def verdict(program, circuit, start, rows):
