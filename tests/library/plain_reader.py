@@ -7,6 +7,8 @@ import re
 
 HEAD, BODY = 4194303, 8388607
 LETTERS = "ilobcjf"
+DIGITS = re.compile(rb"[0-9]*")
+GROUPS = re.compile(rb"[\x80-\xff]{0,3}[\x00-\x7f]")
 
 Parts = collections.namedtuple(
     "Parts", "most inputs latches outputs bad constraints justice fairness gates names comment")
@@ -29,7 +31,7 @@ class Reader:
         return self.data[self.at:self.at + 1]
 
     def number(self, most):
-        digits = re.compile(rb"[0-9]*").match(self.data, self.at)[0]
+        digits = DIGITS.match(self.data, self.at)[0]
         if digits != b"0" and (not digits or digits.startswith(b"0")):
             raise self.text()
         if int(digits) > most:
@@ -73,7 +75,7 @@ class Reader:
         return [self.field(b"\n") for _ in range(number)]
 
     def delta(self, least, most):
-        groups = re.compile(rb"[\x80-\xff]{0,3}[\x00-\x7f]").match(self.data, self.at)
+        groups = GROUPS.match(self.data, self.at)
         if not groups or (len(groups[0]) > 1 and groups[0].endswith(b"\0")):
             raise self.text()
         number = sum((byte & 127) << 7 * place for place, byte in enumerate(groups[0]))
