@@ -92,13 +92,14 @@ def is_proved(record, now, program):
 
 
 def refusal(record, now, program):
-    """Why there is no release of the repository in this state, with a program of this sum; nothing where there is one."""
+    """Returns why there is no release in this state with a program of this sum, or nothing where there is one."""
     if now["clean"] != "yes":
         return "the tree is not clean: `git status` lists what is not committed"
     if record is None:
         return "no gate has passed here: run `make prove`"
     if record["commit"] != now["commit"]:
-        return f"the last gate passed commit {record['commit'][:12]}, and this is {now['commit'][:12]}: run `make prove`"
+        passed, this = record["commit"][:12], now["commit"][:12]
+        return f"the last gate passed commit {passed}, and this is {this}: run `make prove`"
     if record["clean"] != "yes":
         return "the last gate passed files that were not committed: run `make prove`"
     if record["program"] != program:

@@ -1,7 +1,9 @@
 #!/usr/bin/env python3
-"""Packs a release into build/dist: an archive, a Debian package, and their sums in SHA256SUMS. There is a release only of
-a commit whose gate has passed, from a clean tree, and with the program that the gate proved. What is packed is what
-`make install` installs. The same commit and program give the same archive, byte for byte."""
+"""Packs a release into build/dist: an archive, a Debian package, and their sums in SHA256SUMS. Both have what
+`make install` installs.
+
+It refuses unless the tree is clean and the gate has passed this commit. The program is the one that the gate proved.
+The same commit and program give the same files, byte for byte."""
 
 import gzip
 import os
@@ -36,7 +38,8 @@ this folder: LICENSE-APACHE and LICENSE-MIT.
 
 def version_of(program):
     """Returns the version that a program names, as 0.1.0."""
-    return re.match(rb"aig (\S+)", subprocess.run([program, "--version"], capture_output=True, check=False).stderr)[1].decode()
+    said = subprocess.run([program, "--version"], capture_output=True, text=True, check=False).stderr
+    return re.match(r"aig (\S+)", said)[1]
 
 
 def libc_of(program):
@@ -47,7 +50,7 @@ def libc_of(program):
 
 def install(program, root, prefix, provenance):
     """Installs a program below `root`, as `make install` does, and beside its documents what it was made from."""
-    words = ["make", "--silent", "-C", gate.ROOT, "install", f"DESTDIR={root}", f"PREFIX={prefix}", f"PROGRAM={program}"]
+    words = ["make", "-sC", gate.ROOT, "install", f"DESTDIR={root}", f"PREFIX={prefix}", f"PROGRAM={program}"]
     settings = {name: text for name, text in os.environ.items() if not name.startswith("MAKE")}
     made = subprocess.run(words, env=settings, stdin=subprocess.DEVNULL, capture_output=True, text=True, check=False)
     if made.returncode:
@@ -67,8 +70,8 @@ def make_archive(program, provenance, seconds, folder):
     name = f"aig-{version_of(program)}-x86_64-linux"
     with tempfile.TemporaryDirectory() as root:
         install(program, root, f"/{name}", provenance)
-        words = ["tar", "--sort=name", "--owner=0", "--group=0", "--numeric-owner", f"--mtime=@{seconds}", "--format=ustar",
-                 "-C", root, "-c", name]
+        words = ["tar", "--sort=name", "--owner=0", "--group=0", "--numeric-owner", f"--mtime=@{seconds}",
+                 "--format=ustar", "-C", root, "-c", name]
         packed = subprocess.run(words, capture_output=True, check=True).stdout
     with open(f"{folder}/{name}.tar.gz", "wb") as file:
         file.write(subprocess.run(["gzip", "-9n"], input=packed, capture_output=True, check=True).stdout)

@@ -1,7 +1,8 @@
 #!/usr/bin/env python3
-"""Runs every script of tests/ on a program, and counts all checks in the last line. With --crates it also runs the tests
-of the crates, side by side with the scripts. It runs them by `rt try --test`, which proves nothing; in the gate `rt ci`
-proves and runs them. What a failing script prints is shown whole."""
+"""Runs every script of tests/ on a program, and counts all checks in the last line.
+
+With --crates it also runs the tests of the crates, side by side with the scripts. It runs them by `rt try --test`,
+which proves nothing; in the gate `rt ci` proves and runs them. Of a script that fails, all output is shown."""
 
 import argparse
 import concurrent.futures
@@ -13,7 +14,7 @@ import time
 
 from library.runs import REPOSITORY, TESTS
 
-SCRIPTS = ("run_large.py", "run_program.py", "run_faults.py", "run_random.py", "run_dist.py", "tour.py", "definitions.py")
+SCRIPTS = ("run_large.py", "run_program.py", "run_faults.py", "run_random.py", "run_dist.py", "tour.py")
 CRATES = ("aig_tests", "aig_engine_tests", "aig_bench_tests")
 COUNTS = re.compile(r"(\d+) passed[,;] (\d+) failed")
 SHOWN = re.compile(r"(?m)^.*(?: passed[,;] |left out|to believe).*\n")
@@ -39,7 +40,8 @@ def main():
     parser.add_argument("program", nargs="?", help="the program that is tested (else the one that the gate built)")
     chosen = parser.parse_args()
     program = [os.path.abspath(chosen.program)] if chosen.program else []
-    lanes = [[(name, [f"{TESTS}/{name}", *(program if name != "definitions.py" else [])], REPOSITORY) for name in SCRIPTS]]
+    lanes = [[(name, [f"{TESTS}/{name}", *program], REPOSITORY) for name in SCRIPTS]]
+    lanes[0].append(("definitions.py", [f"{TESTS}/definitions.py"], REPOSITORY))
     if chosen.crates:
         lanes.append([(name, ["rt", "try", "--test"], f"{REPOSITORY}/crates/{name}") for name in CRATES])
     with concurrent.futures.ThreadPoolExecutor() as pool:

@@ -1,8 +1,9 @@
 #!/usr/bin/env python3
-"""Installs the program in each way into an empty folder: by `make install`, from the archive and from the Debian package
-of a release. The tour of README.md has to run from there, and all pages, completions and documents have to be there. The
-releases of this test are of no gate, and their PROVENANCE says so. `make dist` itself needs a gate; what it refuses is
-tested by the function that decides it."""
+"""Installs the program into empty folders: by `make install`, from the archive of a release, and from its Debian
+package. The tour of README.md has to run from there, and all pages, completions and documents have to be there.
+
+These releases are of no gate, and their PROVENANCE says so. `make dist` itself needs a gate, so a test calls the
+function that decides what it refuses."""
 
 import glob
 import gzip
@@ -20,6 +21,7 @@ sys.path.insert(0, REPOSITORY + "/release")
 import gate  # noqa: E402
 import pack  # noqa: E402
 
+DOCUMENTS = ("LICENSE-APACHE", "LICENSE-MIT", "docs/BEHAVIOUR.md", "docs/FORMATS.md", "docs/PROVED.md", "docs/wave.png")
 PROVENANCE = "This is a test. No gate has passed.\n"
 SECONDS = 1_764_000_000
 STATE = {"commit": "a" * 40, "clean": "yes", "sources": "b" * 64}
@@ -48,12 +50,12 @@ def look(program, tally, way, root, functions="zsh/site-functions"):
         found = contents(page) if os.path.exists(page) else gzip.decompress(contents(f"{page}.gz"))
         tally.check(f"{way}: the page {name}", found == text, page)
     bash = f"{share}/bash-completion/completions/aig"
-    asked = subprocess.run(["bash", "-c", 'source "$1" && complete -p aig', "bash", bash], capture_output=True, text=True,
-                           check=False)
+    asked = subprocess.run(["bash", "-c", 'source "$1" && complete -p aig', "bash", bash], capture_output=True,
+                           text=True, check=False)
     tally.check(f"{way}: bash takes the completion", asked.returncode == 0 and asked.stdout.endswith(" aig\n"), asked)
     zsh = contents(f"{share}/{functions}/_aig")
     tally.check(f"{way}: the completion for zsh", zsh == contents(f"{REPOSITORY}/completions/_aig"), zsh[:80])
-    for name in ("LICENSE-APACHE", "LICENSE-MIT", "docs/BEHAVIOUR.md", "docs/FORMATS.md", "docs/PROVED.md", "docs/wave.png"):
+    for name in DOCUMENTS:
         tally.check(f"{way}: {name}", contents(f"{documents}/{name}") == contents(f"{REPOSITORY}/{name}"), documents)
     for link in re.findall(r"\]\(([^):]+)\)", contents(f"{documents}/README.md").decode()):
         tally.check(f"{way}: what README links to", os.path.exists(f"{documents}/{link}"), link)
@@ -76,7 +78,7 @@ def archive(program, tally, _):
     subprocess.run(["tar", "-xzf", f"one/{name}"], check=True)
     look(program, tally, "archive", top)
     tally.compare("archive: PROVENANCE", contents(f"{top}/share/doc/aig/PROVENANCE").decode(), PROVENANCE)
-    sums = subprocess.run(["sha256sum", "--check", "SHA256SUMS"], cwd="one", capture_output=True, text=True, check=False)
+    sums = subprocess.run(["sha256sum", "-c", "SHA256SUMS"], cwd="one", capture_output=True, text=True, check=False)
     tally.check("archive: SHA256SUMS", sums.returncode == 0 and f"{name}: OK" in sums.stdout, sums)
     for made in release(program, "two"):
         tally.check("archive: a second one is the same", contents(f"one/{made}") == contents(f"two/{made}"), made)
@@ -87,10 +89,10 @@ def archive(program, tally, _):
 def package(program, tally, _):
     need("make", "bash", "objdump", "dpkg-deb")
     name = release(program, "made")[1]
-    version = pack.version_of(program.path)
+    version, libc = pack.version_of(program.path), pack.libc_of(program.path)
     fields = subprocess.run(["dpkg-deb", "-f", f"made/{name}", "Package", "Version", "Architecture", "Depends"],
                             capture_output=True, text=True, check=True).stdout
-    wanted = f"Package: aig\nVersion: {version}\nArchitecture: amd64\nDepends: libc6 (>= {pack.libc_of(program.path)})\n"
+    wanted = f"Package: aig\nVersion: {version}\nArchitecture: amd64\nDepends: libc6 (>= {libc})\n"
     tally.compare("package: its fields", fields, wanted)
     subprocess.run(["dpkg-deb", "-x", f"made/{name}", "root"], check=True)
     look(program, tally, "package", "root/usr", "zsh/vendor-completions")
@@ -99,22 +101,22 @@ def package(program, tally, _):
 
 def refusals(_, tally, __):
     """What `make dist` refuses to pack, and when `make install` takes the proved program."""
-    sum_ = RECORD["program"]
-    tally.compare("a release", gate.refusal(RECORD, STATE, sum_), None)
+    proved = RECORD["program"]
+    tally.compare("a release", gate.refusal(RECORD, STATE, proved), None)
     for why, record, state, program in (
-        ("not clean", RECORD, {**STATE, "clean": "no"}, sum_),
-        ("no gate has passed here", None, STATE, sum_),
-        ("the last gate passed commit aaaaaaaaaaaa, and this is dddddddddddd", RECORD, {**STATE, "commit": "d" * 40}, sum_),
-        ("files that were not committed", {**RECORD, "clean": "no"}, STATE, sum_),
+        ("not clean", RECORD, {**STATE, "clean": "no"}, proved),
+        ("no gate has passed here", None, STATE, proved),
+        ("passed commit aaaaaaaaaaaa, and this is dddddddddddd", RECORD, {**STATE, "commit": "d" * 40}, proved),
+        ("files that were not committed", {**RECORD, "clean": "no"}, STATE, proved),
         ("is not the program that the gate proved", RECORD, STATE, "e" * 64),
         ("is not the program that the gate proved", RECORD, STATE, None),
     ):
         told = gate.refusal(record, state, program)
         tally.check(f"no release: {why}", told is not None and why in told, told)
-    tally.check("the proved program", gate.is_proved(RECORD, STATE["sources"], sum_))
+    tally.check("the proved program", gate.is_proved(RECORD, STATE["sources"], proved))
     for name, told in (
-        ("no gate", gate.is_proved(None, STATE["sources"], sum_)),
-        ("other sources", gate.is_proved(RECORD, "f" * 64, sum_)),
+        ("no gate", gate.is_proved(None, STATE["sources"], proved)),
+        ("other sources", gate.is_proved(RECORD, "f" * 64, proved)),
         ("another program", gate.is_proved(RECORD, STATE["sources"], "f" * 64)),
         ("no program", gate.is_proved({**RECORD, "program": "None"}, STATE["sources"], None)),
     ):

@@ -7,6 +7,7 @@ import re
 
 HEAD, BODY = 4194303, 8388607
 LETTERS = "ilobcjf"
+SHORT = rb"(?:0|[1-9][0-9]{0,5})"
 DIGITS = re.compile(rb"[0-9]*")
 GROUPS = re.compile(rb"[\x80-\xff]{0,3}[\x00-\x7f]")
 
@@ -64,15 +65,19 @@ class Reader:
             self.separator(b"\n")
         return counts + [0] * (9 - len(counts))
 
+    def short_lines(self, most, words):
+        """Takes lines of so many short numbers at once, as far as there are, and gives the numbers of each."""
+        line = rb"(?:%s\n){0,%d}" % (b" ".join([SHORT] * words), min(most, 65535))
+        found = re.compile(line).match(self.data, self.at)[0]
+        self.at += len(found)
+        return list(zip(*[map(int, found.split())] * words))
+
     def reset(self):
         return self.field(b"\n") if self.separator(b" ", b"\n") == b" " else 0
 
     def literals(self, number):
-        plain = re.compile(rb"((0|[1-9][0-9]{0,5})\n){%d}" % min(number, 65535)).match(self.data, self.at)
-        if plain and number:
-            self.at += len(plain[0])
-            return [int(each) for each in plain[0].split()]
-        return [self.field(b"\n") for _ in range(number)]
+        found = [literal for literal, in self.short_lines(number, 1)]
+        return found + [self.field(b"\n") for _ in range(number - len(found))]
 
     def delta(self, least, most):
         groups = GROUPS.match(self.data, self.at)
@@ -129,16 +134,20 @@ class Reader:
             raise Fault("counts")
         if is_text:
             listed = self.literals(inputs)
-            states = [(self.field(b" "), self.number(BODY), self.reset()) for _ in range(latches)]
+            states = [(lit, after, 0) for lit, after in self.short_lines(latches, 2)]
+            states += [(self.field(b" "), self.number(BODY), self.reset()) for _ in range(latches - len(states))]
         else:
             listed = range(2, 2 * inputs + 2, 2)
-            states = [(2 * (inputs + at + 1), self.number(BODY), self.reset()) for at in range(latches)]
+            short = self.short_lines(latches, 1)
+            states = [(2 * at, after, 0) for at, (after,) in enumerate(short, inputs + 1)]
+            states += [(2 * (inputs + at + 1), self.number(BODY), self.reset()) for at in range(len(states), latches)]
         lists = [self.literals(number) for number in (outputs, bad, constraints)]
         sizes = self.sizes(justice)
         live = [self.literals(size) for size in sizes]
         fair = self.literals(fairness)
         if is_text:
-            ands = [(self.field(b" "), self.field(b" "), self.field(b"\n")) for _ in range(gates)]
+            ands = self.short_lines(gates, 3)
+            ands += [(self.field(b" "), self.field(b" "), self.field(b"\n")) for _ in range(gates - len(ands))]
         else:
             ands = [self.gate(2 * (inputs + latches + at + 1)) for at in range(gates)]
         numbers = (inputs, latches, outputs, bad, constraints, justice, fairness)
