@@ -20,7 +20,7 @@ aig: build/aig
 	@echo "build/aig is ready. Nothing of it is proved; 'make prove' proves it, in about an hour."
 
 build/aig: $(SOURCES)
-	@echo "Building build/aig without its proofs: about two minutes."
+	@echo "Building build/aig without its proofs: about three minutes."
 	@mkdir -p build
 	@tests/build_unproved.sh "$(CURDIR)" aig build/aig
 
