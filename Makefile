@@ -20,6 +20,7 @@ aig: build/aig
 	@echo "build/aig is ready. Nothing of it is proved; 'make prove' proves it, in about an hour."
 
 build/aig: $(SOURCES)
+	@for tool in rt cc python3; do command -v $$tool > /dev/null || { echo "make: there is no $$tool" >&2; exit 1; }; done
 	@echo "Building build/aig without its proofs: about three minutes."
 	@mkdir -p build
 	@tests/build_unproved.sh "$(CURDIR)" aig build/aig
@@ -28,6 +29,7 @@ demo: build/aig
 	@tests/tour.py build/aig
 
 test: build/aig
+	@echo "Running all tests on build/aig: about five minutes."
 	@tests/all.py --crates build/aig
 
 prove:
