@@ -40,7 +40,7 @@ def release(program, folder):
 
 
 def look(program, tally, way, root, functions="zsh/site-functions"):
-    """Looks at what stands below `root`, the folder that has bin/ and share/."""
+    """Checks an installed copy. `root` is the folder that has bin/ and share/."""
     share = f"{root}/share"
     documents = f"{share}/doc/aig"
     tally.check(f"{way}: the program", contents(f"{root}/bin/aig") == contents(program.path), root)
@@ -111,16 +111,16 @@ def refusals(_, tally, __):
         ("is not the program that the gate proved", RECORD, STATE, "e" * 64),
         ("is not the program that the gate proved", RECORD, STATE, None),
     ):
-        told = gate.refusal(record, state, program)
-        tally.check(f"no release: {why}", told is not None and why in told, told)
+        reason = gate.refusal(record, state, program)
+        tally.check(f"no release: {why}", reason is not None and why in reason, reason)
     tally.check("the proved program", gate.is_proved(RECORD, STATE["sources"], proved))
-    for name, told in (
+    for name, is_proved in (
         ("no gate", gate.is_proved(None, STATE["sources"], proved)),
         ("other sources", gate.is_proved(RECORD, "f" * 64, proved)),
         ("another program", gate.is_proved(RECORD, STATE["sources"], "f" * 64)),
         ("no program", gate.is_proved({**RECORD, "program": "None"}, STATE["sources"], None)),
     ):
-        tally.check(f"the unproved program: {name}", not told)
+        tally.check(f"the unproved program: {name}", not is_proved)
 
 
 PARTS = {"install": install, "archive": archive, "package": package, "refusals": refusals}
