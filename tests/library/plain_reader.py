@@ -7,6 +7,9 @@ import re
 
 HEAD, BODY = 4194303, 8388607
 LETTERS = "ilobcjf"
+SHORT = rb"(?:0|[1-9][0-9]{0,5})"
+DIGITS = re.compile(rb"[0-9]*")
+GROUPS = re.compile(rb"[\x80-\xff]{0,3}[\x00-\x7f]")
 
 Parts = collections.namedtuple(
     "Parts", "most inputs latches outputs bad constraints justice fairness gates names comment")
@@ -29,7 +32,7 @@ class Reader:
         return self.data[self.at:self.at + 1]
 
     def number(self, most):
-        digits = re.compile(rb"[0-9]*").match(self.data, self.at)[0]
+        digits = DIGITS.match(self.data, self.at)[0]
         if digits != b"0" and (not digits or digits.startswith(b"0")):
             raise self.text()
         if int(digits) > most:
@@ -62,18 +65,22 @@ class Reader:
             self.separator(b"\n")
         return counts + [0] * (9 - len(counts))
 
+    def short_lines(self, most, words):
+        """Takes lines of so many short numbers at once, as far as there are, and gives the numbers of each."""
+        line = rb"(?:%s\n){0,%d}" % (b" ".join([SHORT] * words), min(most, 65535))
+        found = re.compile(line).match(self.data, self.at)[0]
+        self.at += len(found)
+        return list(zip(*[map(int, found.split())] * words))
+
     def reset(self):
         return self.field(b"\n") if self.separator(b" ", b"\n") == b" " else 0
 
     def literals(self, number):
-        plain = re.compile(rb"((0|[1-9][0-9]{0,5})\n){%d}" % min(number, 65535)).match(self.data, self.at)
-        if plain and number:
-            self.at += len(plain[0])
-            return [int(each) for each in plain[0].split()]
-        return [self.field(b"\n") for _ in range(number)]
+        found = [literal for literal, in self.short_lines(number, 1)]
+        return found + [self.field(b"\n") for _ in range(number - len(found))]
 
     def delta(self, least, most):
-        groups = re.compile(rb"[\x80-\xff]{0,3}[\x00-\x7f]").match(self.data, self.at)
+        groups = GROUPS.match(self.data, self.at)
         if not groups or (len(groups[0]) > 1 and groups[0].endswith(b"\0")):
             raise self.text()
         number = sum((byte & 127) << 7 * place for place, byte in enumerate(groups[0]))
@@ -127,16 +134,20 @@ class Reader:
             raise Fault("counts")
         if is_text:
             listed = self.literals(inputs)
-            states = [(self.field(b" "), self.number(BODY), self.reset()) for _ in range(latches)]
+            states = [(lit, after, 0) for lit, after in self.short_lines(latches, 2)]
+            states += [(self.field(b" "), self.number(BODY), self.reset()) for _ in range(latches - len(states))]
         else:
             listed = range(2, 2 * inputs + 2, 2)
-            states = [(2 * (inputs + at + 1), self.number(BODY), self.reset()) for at in range(latches)]
+            short = self.short_lines(latches, 1)
+            states = [(2 * at, after, 0) for at, (after,) in enumerate(short, inputs + 1)]
+            states += [(2 * (inputs + at + 1), self.number(BODY), self.reset()) for at in range(len(states), latches)]
         lists = [self.literals(number) for number in (outputs, bad, constraints)]
         sizes = self.sizes(justice)
         live = [self.literals(size) for size in sizes]
         fair = self.literals(fairness)
         if is_text:
-            ands = [(self.field(b" "), self.field(b" "), self.field(b"\n")) for _ in range(gates)]
+            ands = self.short_lines(gates, 3)
+            ands += [(self.field(b" "), self.field(b" "), self.field(b"\n")) for _ in range(gates - len(ands))]
         else:
             ands = [self.gate(2 * (inputs + latches + at + 1)) for at in range(gates)]
         numbers = (inputs, latches, outputs, bad, constraints, justice, fairness)

@@ -1,0 +1,57 @@
+# What there is to make, from the top of the repository:
+#
+#   make            builds the program without its proofs, as build/aig
+#   make demo       runs the tour of README.md with it
+#   make test       runs all tests with it; nothing is proved
+#   make prove      the gate: proves every function, runs the tests, tries the planted bugs
+#   make install    installs the program that the gate proved, else build/aig with a warning
+#   make dist       packs a release of a commit whose gate has passed, into build/dist
+#   make clean      removes build/aig and build/dist
+#
+# `make install` takes PREFIX and DESTDIR, and PROGRAM for another program than the one that it would choose.
+
+PREFIX ?= /usr/local
+PROGRAM ?= $(shell release/gate.py program)
+ROOT = $(DESTDIR)$(PREFIX)
+DOCUMENTS = $(ROOT)/share/doc/aig
+SOURCES := $(shell find crates -name out -prune -o -name '*.rt' -print) crates.txt tests/build_unproved.sh
+
+aig: build/aig
+	@echo "build/aig is ready. Nothing of it is proved; 'make prove' proves it, in about an hour."
+
+build/aig: $(SOURCES)
+	@for tool in rt cc python3; do command -v $$tool > /dev/null || { echo "make: there is no $$tool" >&2; exit 1; }; done
+	@echo "Building build/aig without its proofs: about three minutes."
+	@mkdir -p build
+	@tests/build_unproved.sh "$(CURDIR)" aig build/aig
+
+demo: build/aig
+	@tests/tour.py build/aig
+
+test: build/aig
+	@echo "Running all tests on build/aig: about five minutes."
+	@tests/all.py --crates build/aig
+
+prove:
+	@.ci/run
+
+install: $(PROGRAM)
+	@[ "$(PROGRAM)" != build/aig ] || echo "make install: warning: nothing of this program is proved" >&2
+	install -D "$(PROGRAM)" "$(ROOT)/bin/aig"
+	for page in man/*.[15]; do \
+	    install -D -m 644 "$$page" "$(ROOT)/share/man/man$${page##*.}/$${page#man/}"; \
+	done
+	install -D -m 644 completions/aig.bash "$(ROOT)/share/bash-completion/completions/aig"
+	install -D -m 644 completions/_aig "$(ROOT)/share/zsh/site-functions/_aig"
+	install -D -m 644 -t "$(DOCUMENTS)" *.md LICENSE-*
+	cp -R docs examples "$(DOCUMENTS)"
+	chmod -R u=rwX,go=rX "$(DOCUMENTS)"
+
+dist:
+	@release/pack.py
+
+clean:
+	rm -rf build/aig build/dist
+
+.PHONY: aig demo test prove install dist clean
+.DELETE_ON_ERROR:

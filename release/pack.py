@@ -1,0 +1,139 @@
+#!/usr/bin/env python3
+"""Packs a release into build/dist: an archive, a Debian package, and their sums in SHA256SUMS. Both have what
+`make install` installs.
+
+It refuses unless the tree is clean and the gate has passed this commit. The program is the one that the gate proved.
+The same commit and program give the same files, byte for byte."""
+
+import gzip
+import os
+import re
+import shutil
+import subprocess
+import sys
+import tempfile
+
+import gate
+
+CONTROL = """\
+Package: aig
+Version: {version}
+Section: electronics
+Priority: optional
+Architecture: amd64
+Maintainer: Vollirka maintainers <maintainers@users.noreply.vollirka.example>
+Installed-Size: {size}
+Depends: libc6 (>= {libc})
+Description: verified AIGER toolkit
+ Converts, simulates, edits, unrolls and checks and-inverter graphs in the
+ AIGER formats, and writes their runs as waves. It is for people who run
+ hardware model checkers and have to trust a verdict.
+"""
+
+COPYRIGHT = """\
+aig is licensed under either of the Apache License, Version 2.0, or the MIT license, at your option. Both texts are in
+this folder: LICENSE-APACHE and LICENSE-MIT.
+"""
+
+
+def version_of(program):
+    """Returns the version that a program names, as 0.1.0."""
+    said = subprocess.run([program, "--version"], capture_output=True, text=True, check=False).stderr
+    return re.match(r"aig (\S+)", said)[1]
+
+
+def libc_of(program):
+    """Returns the least version of the C library that a program runs with."""
+    symbols = subprocess.run(["objdump", "-T", program], capture_output=True, text=True, check=True).stdout
+    return ".".join(map(str, max(tuple(map(int, it.split("."))) for it in re.findall(r"GLIBC_([0-9.]+)", symbols))))
+
+
+def install(program, root, prefix, provenance):
+    """Installs a program below `root`, as `make install` does, and beside its documents what it was made from."""
+    words = ["make", "-sC", gate.ROOT, "install", f"DESTDIR={root}", f"PREFIX={prefix}", f"PROGRAM={program}"]
+    settings = {name: text for name, text in os.environ.items() if not name.startswith("MAKE")}
+    made = subprocess.run(words, env=settings, stdin=subprocess.DEVNULL, capture_output=True, text=True, check=False)
+    if made.returncode:
+        sys.exit(f"make install failed: {made.stderr}")
+    with open(f"{root}{prefix}/share/doc/aig/PROVENANCE", "w", encoding="utf-8") as file:
+        file.write(provenance)
+
+
+def files_below(root):
+    """Returns the files below a folder, by their paths in it."""
+    found = (os.path.relpath(f"{folder}/{name}", root) for folder, _, names in os.walk(root) for name in names)
+    return sorted(found)
+
+
+def make_archive(program, provenance, seconds, folder):
+    """Writes the archive, whose files all have this time, in seconds since 1970."""
+    name = f"aig-{version_of(program)}-x86_64-linux"
+    with tempfile.TemporaryDirectory() as root:
+        install(program, root, f"/{name}", provenance)
+        words = ["tar", "--sort=name", "--owner=0", "--group=0", "--numeric-owner", f"--mtime=@{seconds}",
+                 "--format=ustar", "-C", root, "-c", name]
+        packed = subprocess.run(words, capture_output=True, check=True).stdout
+    with open(f"{folder}/{name}.tar.gz", "wb") as file:
+        file.write(subprocess.run(["gzip", "-9n"], input=packed, capture_output=True, check=True).stdout)
+    return f"{name}.tar.gz"
+
+
+def make_package(program, provenance, seconds, folder):
+    """Writes the Debian package: the same files, where Debian has them."""
+    version = version_of(program)
+    name = f"aig_{version}_amd64.deb"
+    with tempfile.TemporaryDirectory() as root:
+        install(program, root, "/usr", provenance)
+        share = f"{root}/usr/share"
+        for page in files_below(f"{share}/man"):
+            with open(f"{share}/man/{page}", "rb") as plain, open(f"{share}/man/{page}.gz", "wb") as packed:
+                packed.write(gzip.compress(plain.read(), 9, mtime=0))
+            os.remove(f"{share}/man/{page}")
+        os.rename(f"{share}/zsh/site-functions", f"{share}/zsh/vendor-completions")
+        with open(f"{share}/doc/aig/copyright", "w", encoding="utf-8") as file:
+            file.write(COPYRIGHT)
+        size = sum(os.path.getsize(f"{root}/{it}") for it in files_below(root)) // 1024
+        os.mkdir(f"{root}/DEBIAN")
+        with open(f"{root}/DEBIAN/control", "w", encoding="utf-8") as file:
+            file.write(CONTROL.format(version=version, size=size, libc=libc_of(program)))
+        os.chmod(root, 0o755)
+        subprocess.run(["dpkg-deb", "--root-owner-group", "--build", root, f"{folder}/{name}"], capture_output=True,
+                       env={**os.environ, "SOURCE_DATE_EPOCH": str(seconds)}, check=True)
+    return name
+
+
+def pack(program, provenance, seconds, folder):
+    """Writes the release of a program into an empty folder, and returns the names of its files."""
+    os.umask(0o022)
+    names = [make_archive(program, provenance, seconds, folder)]
+    if shutil.which("dpkg-deb"):
+        names.append(make_package(program, provenance, seconds, folder))
+    with open(f"{folder}/SHA256SUMS", "w", encoding="utf-8") as file:
+        file.writelines(f"{gate.sum_of(f'{folder}/{name}')}  {name}\n" for name in names)
+    return [*names, "SHA256SUMS"]
+
+
+def provenance_of(record):
+    """Returns what PROVENANCE says of a program that the gate of this record proved."""
+    lines = "".join(f"{name:10}{text}\n" for name, text in record.items() if name != "clean")
+    return f"The gate (.ci/run) built and proved bin/aig at this commit, and passed its tests.\n\n{lines}"
+
+
+def main():
+    program = f"{gate.ROOT}/{gate.PROVED}"
+    record = gate.read(gate.RECORD)
+    why = gate.refusal(record, gate.state(), gate.sum_of(program))
+    if why:
+        sys.exit(f"make dist: no release: {why}")
+    if not shutil.which("dpkg-deb"):
+        print("make dist: no Debian package: there is no dpkg-deb", file=sys.stderr)
+    folder = f"{gate.ROOT}/build/dist"
+    shutil.rmtree(folder, ignore_errors=True)
+    os.makedirs(folder)
+    seconds = int(gate.asked("git", "log", "-1", "--format=%ct"))
+    for name in pack(program, provenance_of(record), seconds, folder):
+        print(f"build/dist/{name}")
+
+
+if __name__ == "__main__":
+    main()

@@ -1,0 +1,55 @@
+#!/usr/bin/env python3
+"""Runs every script of tests/ on a program, and counts all checks in the last line.
+
+With --crates it also runs the tests of the crates, side by side with the scripts. It runs them by `rt try --test`,
+which proves nothing; in the gate `rt ci` proves and runs them. Of a script that fails, all output is shown."""
+
+import argparse
+import concurrent.futures
+import os
+import re
+import subprocess
+import sys
+import time
+
+from library.runs import REPOSITORY, TESTS
+
+SCRIPTS = ("run_large.py", "run_program.py", "run_faults.py", "run_random.py", "run_dist.py", "tour.py")
+CRATES = ("aig_tests", "aig_engine_tests", "aig_bench_tests")
+COUNTS = re.compile(r"(\d+) passed[,;] (\d+) failed")
+SHOWN = re.compile(r"(?m)^.*(?: passed[,;] |left out|to believe).*\n")
+
+
+def ended(name, words, folder):
+    """Runs a script, prints what it says, and returns how many of its checks passed and failed. One that counts none is
+    one check."""
+    began = time.monotonic()
+    ran = subprocess.run(words, cwd=folder, stdin=subprocess.DEVNULL, stdout=subprocess.PIPE, stderr=subprocess.STDOUT,
+                         errors="replace", text=True, check=False)
+    counts = [(int(passed), int(failed)) for passed, failed in COUNTS.findall(ran.stdout)]
+    passed, failed = (sum(column) for column in zip(*counts)) if counts else (int(ran.returncode == 0), 0)
+    failed += ran.returncode != 0 and failed == 0
+    shown = ran.stdout if failed else "".join(SHOWN.findall(ran.stdout))
+    print(f"== {name}: {time.monotonic() - began:.0f} s\n{shown}", end="", flush=True)
+    return passed, failed
+
+
+def main():
+    parser = argparse.ArgumentParser(description=__doc__, formatter_class=argparse.RawDescriptionHelpFormatter)
+    parser.add_argument("--crates", action="store_true", help="also the tests of the crates, without a proof")
+    parser.add_argument("program", nargs="?", help="the program that is tested (else the one that the gate built)")
+    chosen = parser.parse_args()
+    program = [os.path.abspath(chosen.program)] if chosen.program else []
+    lanes = [[(name, [f"{TESTS}/{name}", *program], REPOSITORY) for name in SCRIPTS]]
+    lanes[0].append(("definitions.py", [f"{TESTS}/definitions.py"], REPOSITORY))
+    if chosen.crates:
+        lanes.append([(name, ["rt", "try", "--test"], f"{REPOSITORY}/crates/{name}") for name in CRATES])
+    with concurrent.futures.ThreadPoolExecutor() as pool:
+        counts = [*pool.map(lambda lane: [ended(*task) for task in lane], lanes)]
+    passed, failed = (sum(column) for column in zip(*(each for lane in counts for each in lane)))
+    print(f"{passed} passed, {failed} failed")
+    return 1 if failed else 0
+
+
+if __name__ == "__main__":
+    sys.exit(main())

@@ -1,0 +1,129 @@
+#!/usr/bin/env python3
+"""Installs the program into empty folders: by `make install`, from the archive of a release, and from its Debian
+package. The tour of README.md has to run from there, and all pages, completions and documents have to be there.
+
+These releases are of no gate, and their PROVENANCE says so. `make dist` itself needs a gate, so a test calls the
+function that decides what it refuses."""
+
+import glob
+import gzip
+import os
+import re
+import shutil
+import subprocess
+import sys
+
+from library import runs
+from library.runs import REPOSITORY, LeftOut, contents
+from library.tour import take
+
+sys.path.insert(0, REPOSITORY + "/release")
+import gate  # noqa: E402
+import pack  # noqa: E402
+
+DOCUMENTS = ("LICENSE-APACHE", "LICENSE-MIT", "docs/BEHAVIOUR.md", "docs/FORMATS.md", "docs/PROVED.md", "docs/wave.png")
+PROVENANCE = "This is a test. No gate has passed.\n"
+SECONDS = 1_764_000_000
+STATE = {"commit": "a" * 40, "clean": "yes", "sources": "b" * 64}
+RECORD = {**STATE, "program": "c" * 64}
+
+
+def need(*commands):
+    for name in commands:
+        if not shutil.which(name):
+            raise LeftOut(f"there is no {name}")
+
+
+def release(program, folder):
+    os.mkdir(folder)
+    return pack.pack(program.path, PROVENANCE, SECONDS, folder)
+
+
+def look(program, tally, way, root, functions="zsh/site-functions"):
+    """Checks an installed copy. `root` is the folder that has bin/ and share/."""
+    share = f"{root}/share"
+    documents = f"{share}/doc/aig"
+    tally.check(f"{way}: the program", contents(f"{root}/bin/aig") == contents(program.path), root)
+    pages = {os.path.basename(page): contents(page) for page in glob.glob(f"{REPOSITORY}/man/*.[15]")}
+    for name, text in pages.items():
+        page = f"{share}/man/man{name[-1]}/{name}"
+        found = contents(page) if os.path.exists(page) else gzip.decompress(contents(f"{page}.gz"))
+        tally.check(f"{way}: the page {name}", found == text, page)
+    bash = f"{share}/bash-completion/completions/aig"
+    asked = subprocess.run(["bash", "-c", 'source "$1" && complete -p aig', "bash", bash], capture_output=True,
+                           text=True, check=False)
+    tally.check(f"{way}: bash takes the completion", asked.returncode == 0 and asked.stdout.endswith(" aig\n"), asked)
+    zsh = contents(f"{share}/{functions}/_aig")
+    tally.check(f"{way}: the completion for zsh", zsh == contents(f"{REPOSITORY}/completions/_aig"), zsh[:80])
+    for name in DOCUMENTS:
+        tally.check(f"{way}: {name}", contents(f"{documents}/{name}") == contents(f"{REPOSITORY}/{name}"), documents)
+    for link in re.findall(r"\]\(([^):]+)\)", contents(f"{documents}/README.md").decode()):
+        tally.check(f"{way}: what README links to", os.path.exists(f"{documents}/{link}"), link)
+    modes = {oct(os.stat(it).st_mode & 0o7777) for it in (root, f"{root}/bin/aig", documents)}
+    tally.compare(f"{way}: who may read it", modes, {"0o755"})
+    take(runs.Program(f"{root}/bin/aig", True), f"{documents}/examples", tally)
+
+
+def install(program, tally, _):
+    need("make", "bash")
+    pack.install(program.path, os.path.abspath("root"), "/usr/local", PROVENANCE)
+    look(program, tally, "install", "root/usr/local")
+
+
+def archive(program, tally, _):
+    need("make", "bash", "tar", "gzip")
+    name = release(program, "one")[0]
+    top = name.removesuffix(".tar.gz")
+    tally.compare("archive: its name", top, f"aig-{pack.version_of(program.path)}-x86_64-linux")
+    subprocess.run(["tar", "-xzf", f"one/{name}"], check=True)
+    look(program, tally, "archive", top)
+    tally.compare("archive: PROVENANCE", contents(f"{top}/share/doc/aig/PROVENANCE").decode(), PROVENANCE)
+    sums = subprocess.run(["sha256sum", "-c", "SHA256SUMS"], cwd="one", capture_output=True, text=True, check=False)
+    tally.check("archive: SHA256SUMS", sums.returncode == 0 and f"{name}: OK" in sums.stdout, sums)
+    for made in release(program, "two"):
+        tally.check("archive: a second one is the same", contents(f"one/{made}") == contents(f"two/{made}"), made)
+    versions = re.findall(r"(?m)^## (.*) \(\d{4}-\d\d-\d\d\)$", contents(f"{REPOSITORY}/CHANGELOG.md").decode())
+    tally.compare("archive: the version of CHANGELOG", versions[:1], [pack.version_of(program.path)])
+
+
+def package(program, tally, _):
+    need("make", "bash", "objdump", "dpkg-deb")
+    name = release(program, "made")[1]
+    version, libc = pack.version_of(program.path), pack.libc_of(program.path)
+    fields = subprocess.run(["dpkg-deb", "-f", f"made/{name}", "Package", "Version", "Architecture", "Depends"],
+                            capture_output=True, text=True, check=True).stdout
+    wanted = f"Package: aig\nVersion: {version}\nArchitecture: amd64\nDepends: libc6 (>= {libc})\n"
+    tally.compare("package: its fields", fields, wanted)
+    subprocess.run(["dpkg-deb", "-x", f"made/{name}", "root"], check=True)
+    look(program, tally, "package", "root/usr", "zsh/vendor-completions")
+    tally.compare("package: PROVENANCE", contents("root/usr/share/doc/aig/PROVENANCE").decode(), PROVENANCE)
+
+
+def refusals(_, tally, __):
+    """What `make dist` refuses to pack, and when `make install` takes the proved program."""
+    proved = RECORD["program"]
+    tally.compare("a release", gate.refusal(RECORD, STATE, proved), None)
+    for why, record, state, program in (
+        ("not clean", RECORD, {**STATE, "clean": "no"}, proved),
+        ("no gate has passed here", None, STATE, proved),
+        ("passed commit aaaaaaaaaaaa, and this is dddddddddddd", RECORD, {**STATE, "commit": "d" * 40}, proved),
+        ("files that were not committed", {**RECORD, "clean": "no"}, STATE, proved),
+        ("is not the program that the gate proved", RECORD, STATE, "e" * 64),
+        ("is not the program that the gate proved", RECORD, STATE, None),
+    ):
+        reason = gate.refusal(record, state, program)
+        tally.check(f"no release: {why}", reason is not None and why in reason, reason)
+    tally.check("the proved program", gate.is_proved(RECORD, STATE["sources"], proved))
+    for name, is_proved in (
+        ("no gate", gate.is_proved(None, STATE["sources"], proved)),
+        ("other sources", gate.is_proved(RECORD, "f" * 64, proved)),
+        ("another program", gate.is_proved(RECORD, STATE["sources"], "f" * 64)),
+        ("no program", gate.is_proved({**RECORD, "program": "None"}, STATE["sources"], None)),
+    ):
+        tally.check(f"the unproved program: {name}", not is_proved)
+
+
+PARTS = {"install": install, "archive": archive, "package": package, "refusals": refusals}
+
+if __name__ == "__main__":
+    runs.main(__doc__, PARTS)

@@ -1,0 +1,13 @@
+#!/usr/bin/env python3
+"""Runs the tour of README.md in an empty folder, and prints it. Each command has to print what README shows."""
+
+from library import runs
+from library.tour import take
+
+
+def tour(program, tally, _):
+    take(program, runs.EXAMPLES, tally, prints=True)
+
+
+if __name__ == "__main__":
+    runs.main(__doc__, {"tour": tour})
