@@ -5,7 +5,7 @@ use crate::exit::Exit;
 use crate::kept::Kept;
 use crate::simulations::{bench, simulate, wave};
 use crate::witnesses::{check, wave_witness};
-use aig_command_line::{format_of, has_flag, number_of, subcommand_of, text_of};
+use aig_command_line::{has_flag, number_of, subcommand_of, text_of};
 use aig_format::Format;
 use clap::ArgMatches;
 use std::fs::Files;
@@ -93,6 +93,15 @@ impl<'a> Task<'a> {
             } => check(rt, circuit, witness, with_trace),
             Task::Info { circuit } => info(rt, circuit),
         }
+    }
+}
+
+/// The format to write.
+fn format_of(matches: &ArgMatches<'_>) -> Option<Format> {
+    match text_of(matches, "FORMAT")? {
+        "aag" => Some(Format::Ascii),
+        "aig" => Some(Format::Binary),
+        _ => None,
     }
 }
 
