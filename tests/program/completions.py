@@ -1,0 +1,145 @@
+"""What bash and zsh complete: in shells on a terminal, as one types it, and by bash's function for words as bash splits
+them."""
+
+import os
+import pty
+import select
+import shutil
+import signal
+import subprocess
+import time
+
+from library.runs import REPOSITORY, LeftOut, write
+
+FOLDER = REPOSITORY + "/completions"
+SECONDS = 20
+FILES = ("b.aig", "a.aag", "notes", "rows.stim", "with space.aag")
+
+# The words that bash splits a line into, the last of which is completed, and the answer.
+SPLIT = (
+    (["to"], ["toaig"]),
+    (["--v"], ["--version"]),
+    (["help", "un"], ["unroll"]),
+    (["toaig", "--"], ["--help", "--to"]),
+    (["toaig", "--to", ""], ["aag", "aig"]),
+    (["toaig", "--to", "aa"], ["aag"]),
+    (["toaig", "--to", "="], ["aag", "aig"]),
+    (["toaig", "--to", "=", "a"], ["aag", "aig"]),
+    (["toaig", "--to", "=", "ai"], ["aig"]),
+    (["toaig", "--to", "=", "aag", ""], ["a.aag", "b.aig", "sub", "with space.aag"]),
+    (["toaig", "--to", "aag", ""], ["a.aag", "b.aig", "sub", "with space.aag"]),
+    (["unroll", "--frames", "3", "--to", "=", "a"], ["aag", "aig"]),
+    (["unroll", "--frames", "="], []),
+    (["unroll", "--frames", "=", "3", "a"], ["a.aag"]),
+    (["unroll", "--map", "=", "n"], ["notes"]),
+    (["unroll", "--map", "n"], ["notes"]),
+    (["info", "w"], ["with space.aag"]),
+    (["info", "n"], ["notes"]),
+    (["sim", "a.aag", ""], ["a.aag", "b.aig", "notes", "rows.stim", "sub", "with space.aag"]),
+    (["wave", "--witness", "a"], ["a.aag"]),
+    (["check", "--trace", "a.aag", "ro"], ["rows.stim"]),
+)
+
+# Where `=` does not split words, the answer replaces the whole word.
+WHOLE = ((["toaig", "--to=a"], ["--to=aag", "--to=aig"]), (["unroll", "--map=n"], ["--map=notes"]))
+
+# What is typed on a terminal, with a tab at its end, and the arguments that the command then gets.
+TYPED = (
+    ("aig toai", ["toaig"]),
+    ("aig toaig --to=aa", ["toaig", "--to=aag"]),
+    ("aig toaig --to=ai", ["toaig", "--to=aig"]),
+    ("aig toaig --to ai", ["toaig", "--to", "aig"]),
+    ("aig unroll --frames=2 --to=aa", ["unroll", "--frames=2", "--to=aag"]),
+    ("aig unroll --map=no", ["unroll", "--map=notes"]),
+    ("aig info b", ["info", "b.aig"]),
+    ("aig info w", ["info", "with space.aag"]),
+    ("aig info no", ["info", "notes"]),
+    ("aig sim a.aag ro", ["sim", "a.aag", "rows.stim"]),
+)
+
+SHELLS = {
+    "bash": (["bash", "--norc", "--noprofile", "-i"], f"source '{FOLDER}/aig.bash'\n"),
+    "zsh": (["zsh", "-f", "-i"], f"fpath=('{FOLDER}' $fpath); autoload -Uz compinit; compinit -u -D\n"),
+}
+
+
+def completions(_, tally, __):
+    for name in FILES:
+        write(name, "")
+    os.mkdir("sub")
+    if not shutil.which("bash"):
+        raise LeftOut("there is no bash")
+    for breaks, cases in ((" \t\n\"'><=;|&(:", SPLIT), (" \t\n\"'><;|&(:", WHOLE)):
+        for words, wanted in cases:
+            tally.compare(f"completions: bash: {words}", replies(words, breaks), wanted)
+    left_out = ""
+    for name, (command, setup) in SHELLS.items():
+        if not shutil.which(name):
+            left_out += f"{name} left out, it is not here: "
+            continue
+        with Shell(command, setup) as shell:
+            for typed, wanted in TYPED:
+                tally.compare(f"completions: {name}: {typed!r}", shell.arguments(typed + "\t"), wanted)
+            shown = shell.shown("aig toaig --to=\t\t")
+            tally.check(f"completions: {name}: the formats", "aag" in shown and "aig" in shown, shown)
+            shown = shell.shown("aig info \t\t")
+            tally.check(f"completions: {name}: circuits first", "a.aag" in shown and "notes" not in shown, shown)
+    return left_out
+
+
+def replies(words, breaks):
+    """What bash's function answers to the words of a line, of which the last is completed."""
+    script = """source "$1"; COMP_WORDBREAKS=$2; shift 2
+COMP_WORDS=(aig "$@"); COMP_CWORD=$#; COMP_LINE="${COMP_WORDS[*]}"; COMP_POINT=${#COMP_LINE}
+_aig aig "${COMP_WORDS[-1]}" "${COMP_WORDS[-2]}"; ((${#COMPREPLY[@]})) && printf '%s\\n' "${COMPREPLY[@]}" """
+    done = subprocess.run(["bash", "--norc", "-c", script, "bash", f"{FOLDER}/aig.bash", breaks, *words],
+                          stdin=subprocess.DEVNULL, capture_output=True, text=True, check=False)
+    return sorted(set(done.stdout.splitlines())) if not done.stderr else done.stderr
+
+
+class Shell:
+    """A shell on a terminal, in which `aig` is a function that prints its arguments."""
+
+    def __init__(self, command, setup):
+        self.command, self.setup = command, setup
+
+    def __enter__(self):
+        self.child, self.terminal = pty.fork()
+        if self.child == 0:
+            os.environ.update(TERM="dumb", PS1="", INPUTRC="/dev/null", HISTFILE="", LC_ALL="C", ZDOTDIR="/nonexistent")
+            os.execvp(self.command[0], self.command)
+        self.talk(self.setup + "PS1=; PROMPT=; RPS1=\naig() { printf '<%s>' \"$@\"; echo '<'E'ND>'; }\naig ready\n")
+        return self
+
+    def __exit__(self, *_):
+        os.kill(self.child, signal.SIGKILL)
+        os.close(self.terminal)
+        os.waitpid(self.child, 0)
+
+    def talk(self, text):
+        """Types this, and returns what is on the terminal up to the end of a command `aig`."""
+        os.write(self.terminal, text.encode())
+        seen, end = b"", time.monotonic() + SECONDS
+        while b"<END>" not in seen and time.monotonic() < end:
+            if select.select([self.terminal], [], [], 0.2)[0]:
+                seen += os.read(self.terminal, 65536)
+        return seen.decode(errors="replace")
+
+    def wait(self, text):
+        """Types this, and waits until nothing more comes."""
+        os.write(self.terminal, text.encode())
+        seen = ""
+        while select.select([self.terminal], [], [], 0.5)[0]:
+            seen += os.read(self.terminal, 65536).decode(errors="replace")
+        return seen
+
+    def arguments(self, typed):
+        self.wait(typed)
+        told = self.talk("\n").rsplit("<END>", 1)[0].replace("\r", "")
+        return told[told.index("<") + 1:told.rindex(">")].split("><") if ">" in told else told
+
+    def shown(self, typed):
+        """What the terminal shows when this is typed; the line is then given up."""
+        seen = self.wait(typed)
+        self.talk("\x03aig again\n")
+        return seen
