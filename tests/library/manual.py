@@ -5,7 +5,7 @@ import re
 import subprocess
 
 from library.helptext import commands, examples
-from library.roff import Markdown, lines, literal, prose, sections
+from library.roff import Markdown, code_block, filled, lines, literal, prose, sections
 from library.runs import REPOSITORY, contents
 
 DATE = "2026-11-25"
@@ -50,14 +50,25 @@ def entries(items):
     return "".join(f".TP\n.B {lines(literal(name))}{lines(prose(said))}" for name, said in items.items())
 
 
-def kept(text):
-    """Text as the help has it, line by line."""
-    return f".PP\n.nf\n{lines(literal(text))}.fi\n" if text else ""
+def flowing(text):
+    """The text of a help, whose lines the page breaks anew: paragraphs, and lists of terms with what is said of them."""
+    page = ""
+    for block in re.findall(r"(?m)(?:^  .*\n?)+|(?:^(?!  ).+\n?)+", text):
+        page += terms(block) if block.startswith("  ") else f".PP\n{filled(prose(block))}"
+    return page
+
+
+def terms(block):
+    """A list of the help, `  TERM  TEXT`; the lines of a text that follow are set in further."""
+    rows = [re.split(r" {2,}|\n +", row.strip(), maxsplit=1) for row in re.split(r"(?m)^ {2}(?=\S)", block)[1:]]
+    width = max(len(term) for term, *_ in rows if len(term) <= 16) + 2
+    page = "".join(f".TP {width}\n.B {lines(literal(term))}{filled(prose(' '.join(told)))}" for term, *told in rows)
+    return f".RS 2\n.PD 0\n{page}.PD\n.RE\n"
 
 
 def said(one):
     """What the help of a command says after its options, without what the page has in sections of its own."""
-    text = re.sub(r"(?m)^(Example: (.*\\\n)*.*|See also: .*)\n?", "", one.after + "\n")
+    text = re.sub(r"(?m)^(Example|See also): .*\n?", "", one.after + "\n")
     return text.strip("\n")
 
 
@@ -69,25 +80,15 @@ def aig_page(ask, version):
     text += f".SH DESCRIPTION\n{lines(prose(overview.about + '.'))}.SH COMMANDS\n"
     for name, one in each.items():
         text += f".SS aig {name}\n{lines(prose(one.about + '.'))}" + entries(one.arguments) + entries(one.options)
-        text += kept(said(one))
+        text += flowing(said(one))
     text += ".SH OPTIONS\n" + entries(overview.options)
-    text += ".SH EXIT STATUS\n" + kept(re.sub(r"^Exit status:\n", "", said(overview)))
+    text += ".SH EXIT STATUS\n" + flowing(re.sub(r"^Exit status:\n", "", said(overview)))
     markdown = Markdown({"FORMATS.md": "\\fBaig\\-formats\\fP(5)"})
     behaviour = sections(document("BEHAVIOUR.md"))
     for name in ("Diagnostics", "Rejected circuits", "Limits"):
         text += f".SH {name.upper()}\n" + markdown.page(behaviour[name])
-    text += ".SH EXAMPLES\nThe folder\n.B examples\nof the toolkit has these files.\n"
+    text += ".SH EXAMPLES\nThese commands use files of the folder\n.BR examples ,\nwhich comes with the program.\n"
     for one in each.values():
-        shown = examples(one)
-        text += f".PP\n{lines(prose(one.about + ':'))}" + "".join(f".PP\n.EX\n{lines(literal(folded(it)))}.EE\n"
-                                                                 for it in shown)
+        text += f".PP\n{lines(prose(one.about + ':'))}" + "".join(code_block(it) for it in examples(one))
     return text + ".SH SEE ALSO\n\\fBaig\\-formats\\fP(5), " + ", ".join(
         f"\\fB{name}\\fP(1)" for name in SEE_ALSO) + "\n"
-
-
-def folded(command):
-    """A long command in two lines."""
-    if len(command) <= 72:
-        return command
-    at = command.rindex(" ", 0, 70)
-    return f"{command[:at]} \\\n    {command[at + 1:]}"

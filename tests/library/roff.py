@@ -33,7 +33,7 @@ def filled(text):
 
 
 def code_block(text):
-    return f".PP\n.EX\n{lines(literal(text))}.EE\n"
+    return f".PP\n.nf\n{lines(literal(text))}.fi\n"
 
 
 class Markdown:
@@ -66,8 +66,9 @@ class Markdown:
             return code_block(text.split("\n", 1)[1].rsplit("\n", 1)[0])
         if text.startswith("    "):
             return code_block("\n".join(line[4:] for line in text.split("\n")))
-        if text.startswith("!["):
-            return ""
+        picture = re.fullmatch(r"!\[(.*)\]\(.*\)", text)
+        if picture:
+            return f".PP\n{filled(prose(picture[1] + '.'))}"
         if text.startswith("#"):
             head = prose(text.lstrip("# "))
             return f".SS {head}\n" if text.startswith("###") else f".SH {head.upper()}\n"

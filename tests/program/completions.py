@@ -57,9 +57,19 @@ TYPED = (
     ("aig sim a.aag ro", ["sim", "a.aag", "rows.stim"]),
 )
 
+# The same, where each tab brings the next of what fits.
+IN_TURN = (
+    ("aig toaig --to=\t", ["toaig", "--to=aag"]),
+    ("aig toaig --to=\t\t", ["toaig", "--to=aig"]),
+    ("aig toaig --to \t\t", ["toaig", "--to", "aig"]),
+    ("aig info \t", ["info", "a.aag"]),
+    ("aig info \t\t", ["info", "b.aig"]),
+)
+
 SHELLS = {
-    "bash": (["bash", "--norc", "--noprofile", "-i"], f"source '{FOLDER}/aig.bash'\n"),
-    "zsh": (["zsh", "-f", "-i"], f"fpath=('{FOLDER}' $fpath); autoload -Uz compinit; compinit -u -D\n"),
+    "bash": (["bash", "--norc", "--noprofile", "-i"], f"source '{FOLDER}/aig.bash'\n", "bind 'TAB: menu-complete'\n"),
+    "zsh": (["zsh", "-f", "-i"], f"fpath=('{FOLDER}' $fpath); autoload -Uz compinit; compinit -u -D\n",
+            "setopt menu_complete\n"),
 }
 
 
@@ -73,17 +83,16 @@ def completions(_, tally, __):
         for words, wanted in cases:
             tally.compare(f"completions: bash: {words}", replies(words, breaks), wanted)
     left_out = ""
-    for name, (command, setup) in SHELLS.items():
+    for name, (command, setup, in_turn) in SHELLS.items():
         if not shutil.which(name):
             left_out += f"{name} left out, it is not here: "
             continue
         with Shell(command, setup) as shell:
             for typed, wanted in TYPED:
                 tally.compare(f"completions: {name}: {typed!r}", shell.arguments(typed + "\t"), wanted)
-            shown = shell.shown("aig toaig --to=\t\t")
-            tally.check(f"completions: {name}: the formats", "aag" in shown and "aig" in shown, shown)
-            shown = shell.shown("aig info \t\t")
-            tally.check(f"completions: {name}: circuits first", "a.aag" in shown and "notes" not in shown, shown)
+            shell.talk(in_turn + "aig ready\n")
+            for typed, wanted in IN_TURN:
+                tally.compare(f"completions: {name}: {typed!r}", shell.arguments(typed), wanted)
     return left_out
 
 
@@ -125,21 +134,7 @@ class Shell:
                 seen += os.read(self.terminal, 65536)
         return seen.decode(errors="replace")
 
-    def wait(self, text):
-        """Types this, and waits until nothing more comes."""
-        os.write(self.terminal, text.encode())
-        seen = ""
-        while select.select([self.terminal], [], [], 0.5)[0]:
-            seen += os.read(self.terminal, 65536).decode(errors="replace")
-        return seen
-
     def arguments(self, typed):
-        self.wait(typed)
-        told = self.talk("\n").rsplit("<END>", 1)[0].replace("\r", "")
+        """The arguments that the command gets of a line that is typed with these keys."""
+        told = self.talk(typed + "\n").rsplit("<END>", 1)[0].replace("\r", "")
         return told[told.index("<") + 1:told.rindex(">")].split("><") if ">" in told else told
-
-    def shown(self, typed):
-        """What the terminal shows when this is typed; the line is then given up."""
-        seen = self.wait(typed)
-        self.talk("\x03aig again\n")
-        return seen

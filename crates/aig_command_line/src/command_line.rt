@@ -27,7 +27,7 @@ See also: man aig, man 5 aig-formats";
 static AFTER_WAVE: &str =
     "Waveform viewers such as GTKWave and Surfer read the dump (IEEE 1364). It shows
 inputs, latches, outputs, bad state properties and constraints by name. An entry
-without a name is shown by letter and position, such as i0 or l3. Frame T is
+without a name appears as a letter and a position, such as i0 or l3. Frame T is
 time T.
 
 With --witness, STIM is the file of a witness. The dump then shows the run from
@@ -40,12 +40,12 @@ See also: man aig, man 5 aig-formats";
 static AFTER_BENCH: &str =
     "Each line of the script is one command. Frames, inputs and outputs count from 0,
 values are 0, 1 or x:
-  w G R0 R1  set the right-hand sides of the gate of literal G to R0 and R1
+  w G R0 R1  set the right sides of the gate of literal G to R0 and R1
   r L V      set the initial value of the latch of literal L to V (x: any value)
   s T P V    set input P of frame T to V
   + BITS     append a frame, with one value per input
   -          remove the last frame
-  g R0 R1    append a gate with the right-hand sides R0 and R1, variable M + 1
+  g R0 R1    append a gate with the right sides R0 and R1, variable M + 1
   o P L      set output P to literal L
   v T L      print the value of literal L at frame T
   t          print the trace of all frames, then a line with a dot
@@ -74,8 +74,7 @@ FILE may be CIRCUIT, STIM or SCRIPT. bench writes the text to FILE.new, which
 must not exist, and then renames it to FILE. It writes to a device or a pipe
 directly.
 
-Example: aig bench examples/two_gates.aag examples/two_gates.stim \
-             examples/two_gates.script
+Example: aig bench examples/fifo.aag examples/fifo.stim examples/fifo.script
 See also: man aig, man 5 aig-formats";
 
 static AFTER_UNROLL: &str =
@@ -122,7 +121,7 @@ static AFTER_INFO: &str = "A line has a name, one space and a value. The names, 
                  number of entries of each kind
   uninitialised  number of latches that start at any value
   levels         greatest level: inputs and latches have level 0, and a gate is
-                 one level above the higher of its two right-hand sides
+                 one level above the higher of its right sides
   fanout         largest fan-out of any variable
   symbols        number of entries with a name
   comment        length of the comment in bytes
