@@ -9,7 +9,6 @@ from library.roff import Markdown, code_block, filled, lines, literal, prose, se
 from library.runs import REPOSITORY, contents
 
 DATE = "2026-11-25"
-PAGES = ("aig.1", "aig-formats.5")
 SEE_ALSO = ("abc", "gtkwave", "yosys")
 
 
