@@ -84,7 +84,7 @@ def aig_page(ask, version):
     text += ".SH EXIT STATUS\n" + flowing(re.sub(r"^Exit status:\n", "", said(overview)))
     markdown = Markdown({"FORMATS.md": "\\fBaig\\-formats\\fP(5)"})
     behaviour = sections(document("BEHAVIOUR.md"))
-    for name in ("Diagnostics", "Rejected circuits", "Limits"):
+    for name in ("Pipes, full devices and closed outputs", "Diagnostics", "Rejected circuits", "Limits"):
         text += f".SH {name.upper()}\n" + markdown.page(behaviour[name])
     text += ".SH EXAMPLES\nThese commands use files of the folder\n.BR examples ,\nwhich comes with the program.\n"
     for one in each.values():
