@@ -49,11 +49,11 @@ def pages(program, tally, _):
 
 def is_shown(tally, name, file):
     """A terminal of 80 columns shows each line of a manual page whole, and groff has nothing to say of its source."""
-    shown = subprocess.run(["groff", "-man", "-Tascii", "-P-cbou", "-ww", "-rLL=80n", file], capture_output=True,
+    shown = subprocess.run(["groff", "-man", "-Tutf8", "-P-cbou", "-ww", "-rLL=80n", file], capture_output=True,
                            text=True, check=False)
     tally.compare(f"pages: man/{name}: warnings", shown.stderr, "")
     rows = shown.stdout.splitlines()
-    code = contents(f"{REPOSITORY}/docs/FORMATS.md").decode().splitlines()
+    code = {line.strip() for line in contents(f"{REPOSITORY}/docs/FORMATS.md").decode().splitlines()}
     tally.compare(f"pages: man/{name}: lines over 80 columns",
                   [row for row in rows if len(row) > 80 and row.strip() not in code], [])
     tally.check(f"pages: man/{name}: its length", len(rows) > 100, len(rows))
