@@ -61,6 +61,7 @@ _aig() {
     elif [[ -n $option && ${values[$option]} == file ]]; then
         _aig_reply "$before" -f -- "$word"
     elif [[ -n $option ]]; then
+        compopt +o bashdefault +o default 2> /dev/null
         _aig_reply "$before" -W "${values[$option]}" -- "$word"
     elif [[ $word == -* ]]; then
         _aig_reply "" -W "${options[$command]}" -- "$word"
@@ -84,4 +85,5 @@ _aig_reply() {
     done < <(compgen "$@")
 }
 
-complete -o filenames -F _aig aig
+# Where the function finds nothing, bash completes names by itself: those in quotes, and those with `~` or `$`.
+complete -o filenames -o bashdefault -o default -F _aig aig

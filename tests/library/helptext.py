@@ -6,8 +6,8 @@ import re
 # The help of a command: what it does, its usage, its arguments and options with their texts, and the text after them.
 Help = collections.namedtuple("Help", "about usage arguments options after")
 
-# An entry below a heading, `  NAME  TEXT`. An option without a short name has four spaces more. The lines of its text
-# that follow are set in further.
+# The start of an entry below a heading, `  NAME  TEXT`. An option without a short name has four spaces more. Further
+# lines of its text are indented more.
 ENTRY = r"(?m)^(?: {2}| {6}(?=--))(?=\S)"
 
 
@@ -43,6 +43,6 @@ def examples(help_text):
 
 
 def listed(text, above):
-    """The lines that are set in below a line of the help, each up to two spaces or its end."""
+    """The terms of the list below a line of the help that ends with these words."""
     rows = re.search(rf"(?m)^(?:.*\s)?{re.escape(above)}\n((?:  .*\n?)+)", text)[1]
     return [row[2:].split("  ")[0] for row in rows.splitlines() if not row.startswith("   ")]

@@ -13,7 +13,7 @@ SEE_ALSO = ("abc", "gtkwave", "yosys")
 
 
 def asker(program):
-    """A function that runs the program with some words under the name `aig`, and returns the text that it is told."""
+    """A function that runs the program under the name `aig`, and returns what it prints on standard error."""
     def ask(*words):
         return subprocess.run(["aig", *words], executable=os.path.abspath(program), stdin=subprocess.DEVNULL,
                               capture_output=True, check=False).stderr.decode()
@@ -51,7 +51,7 @@ def entries(items):
 
 
 def flowing(text):
-    """The text of a help, whose lines the page breaks anew: paragraphs, and lists of terms with what is said of them."""
+    """The text of a help, whose lines the page breaks anew: paragraphs, and lists of terms with their descriptions."""
     page = ""
     for block in re.findall(r"(?m)(?:^  .*\n?)+|(?:^(?!  ).+\n?)+", text):
         page += terms(block) if block.startswith("  ") else f".PP\n{filled(prose(block))}"
@@ -59,7 +59,7 @@ def flowing(text):
 
 
 def terms(block):
-    """A list of the help, `  TERM  TEXT`; the lines of a text that follow are set in further."""
+    """A list of the help, `  TERM  TEXT`. Further lines of a text are indented more."""
     rows = [re.split(r" {2,}|\n +", row.strip(), maxsplit=1) for row in re.split(r"(?m)^ {2}(?=\S)", block)[1:]]
     width = max(len(term) for term, *_ in rows if len(term) <= 16) + 2
     page = "".join(f".TP {width}\n.B {lines(literal(term))}{filled(prose(' '.join(told)))}" for term, *told in rows)
@@ -67,13 +67,13 @@ def terms(block):
 
 
 def said(one):
-    """What the help of a command says after its options, without what the page has in sections of its own."""
+    """The help's text after the options, without the examples and references: the page has sections for these."""
     text = re.sub(r"(?m)^(Example|See also): .*\n?", "", one.after + "\n")
     return text.strip("\n")
 
 
 def aig_page(ask, version):
-    """aig(1): a part for each command, with all that its help says, and the messages of BEHAVIOUR.md."""
+    """aig(1): the help of each command, and sections of BEHAVIOUR.md."""
     overview, each = commands(ask)
     text = head("aig", 1, version, "User Commands", "verified toolkit for circuits in the AIGER formats")
     text += ".SH SYNOPSIS\n.nf\n" + "".join(lines(literal(one.usage)) for one in each.values()) + ".fi\n"

@@ -8,17 +8,17 @@ WIDTH = 100
 
 
 def literal(text):
-    """Text of which each character stays, as a reader copies it."""
+    """Text whose characters a reader can copy from the page as they are."""
     return "".join(ESCAPES.get(it, it if ord(it) < 128 else f"\\[u{ord(it):04X}]") for it in text)
 
 
 def prose(text):
-    """Text of a sentence. Its hyphens are hyphens, and its lines may break there."""
+    """Text of a sentence: its lines may break at hyphens."""
     return literal(text).replace("\\-", "-").replace("\\(aq", "'")
 
 
 def lines(text):
-    """Lines of the source: none of them is a macro."""
+    """Lines of the source, none of which is a macro."""
     return "".join(f"\\&{line}\n" if line[:1] in (".", "'") else f"{line}\n" for line in text.split("\n"))
 
 
@@ -37,7 +37,7 @@ def code_block(text):
 
 
 class Markdown:
-    """Turns Markdown into the source of a page. `pages` has the words that stand in place of a link, by its target."""
+    """Turns Markdown into the source of a page. `pages` has the text for a link to another document, by its target."""
 
     def __init__(self, pages):
         self.pages = pages
@@ -54,7 +54,7 @@ class Markdown:
             return f"\\fB{prose(part[2:-2].replace('`', ''))}\\fP"
         link = re.fullmatch(r"\[([^]]*)\]\(([^)]*)\)", part)
         if link:
-            return self.pages.get(link[2], prose(link[1]))
+            return self.pages.get(link[2], prose(link[1] + " in the documentation" * link[2].endswith(".md")))
         return re.sub(r"(?<!\w)\*([^*\s][^*]*?)\*(?!\w)", r"\\fI\1\\fP", prose(part))
 
     def page(self, text):
@@ -70,8 +70,8 @@ class Markdown:
         if picture:
             return f".PP\n{filled(prose(picture[1] + '.'))}"
         if text.startswith("#"):
-            head = prose(text.lstrip("# "))
-            return f".SS {head}\n" if text.startswith("###") else f".SH {head.upper()}\n"
+            head = text.lstrip("# ")
+            return f".SS {prose(head)}\n" if text.startswith("###") else f".SH {prose(head.upper())}\n"
         if text.startswith("|"):
             return self.table(text)
         if re.match(r"(- |\d+\. )", text):
@@ -91,20 +91,17 @@ class Markdown:
         return page
 
     def table(self, text):
-        """A table as a list: its first column has the terms, and what the others hold comes below. Their heads stand
-        before them where there are several. Rows that begin alike share their term."""
+        """A table as a list of terms, which are its first column. Below a term come the other cells of the row, each with
+        the head of its column if there are several. Rows that begin alike share their term."""
         head, _, *rows = [cells(row) for row in text.split("\n")]
         page, last = "", None
         for term, *rest in rows:
-            page += ".IP\n" if term == last else f".TP\n{self.term(term)}"
+            page += ".IP\n" if term == last else f".TP\n{filled(self.inline(term))}"
             last = term
             names = [f"{name[:1].upper()}{name[1:]}: " for name in head[1:]] if len(rest) > 1 else [""]
             page += ".br\n".join(filled(f"\\fI{prose(name)}\\fP{self.inline(cell)}" if name else self.inline(cell))
                                  for name, cell in zip(names, rest) if cell)
         return page
-
-    def term(self, text):
-        return filled(self.inline(text))
 
 
 def cells(row):
@@ -133,6 +130,6 @@ def blocks(text):
 
 
 def sections(text):
-    """The sections of a page by their heads: what stands between two lines `## HEAD`."""
+    """The sections of a page by their heads: the text between two lines `## HEAD`."""
     parts = re.split(r"(?m)^## (.*)\n", text)
     return dict(zip(parts[1::2], parts[2::2]))

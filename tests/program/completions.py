@@ -1,5 +1,4 @@
-"""What bash and zsh complete: in shells on a terminal, as one types it, and by bash's function for words as bash splits
-them."""
+"""What bash and zsh complete: on a terminal, as a user types it; and in bash's function, for words that bash split."""
 
 import os
 import pty
@@ -55,6 +54,10 @@ TYPED = (
     ("aig info w", ["info", "with space.aag"]),
     ("aig info no", ["info", "notes"]),
     ("aig sim a.aag ro", ["sim", "a.aag", "rows.stim"]),
+    ("aig info \"with", ["info", "with space.aag"]),
+    ("aig info $PWD/no", ["info", "{here}/notes"]),
+    ("aig unroll --frames no", ["unroll", "--frames", "no"]),
+    ("aig unroll --frames=no", ["unroll", "--frames=no"]),
 )
 
 # The same, where each tab brings the next of what fits.
@@ -89,6 +92,7 @@ def completions(_, tally, __):
             continue
         with Shell(command, setup) as shell:
             for typed, wanted in TYPED:
+                wanted = [word.format(here=os.getcwd()) for word in wanted]
                 tally.compare(f"completions: {name}: {typed!r}", shell.arguments(typed + "\t"), wanted)
             shell.talk(in_turn + "aig ready\n")
             for typed, wanted in IN_TURN:
