@@ -1,4 +1,4 @@
-//! What the words of the command line choose.
+//! The tasks that the arguments choose.
 
 use crate::circuits::{convert, info, unroll};
 use crate::exit::Exit;
@@ -10,7 +10,7 @@ use aig_format::Format;
 use clap::ArgMatches;
 use std::fs::Files;
 
-/// What is to be done, and with which files.
+/// A task, with its files and options.
 #[derive(Clone, Copy)]
 pub enum Task<'a> {
     Convert {
@@ -52,7 +52,7 @@ pub enum Task<'a> {
 }
 
 impl<'a> Task<'a> {
-    /// The task of a command line that matched. Each has one.
+    /// Returns the task of arguments that the parser accepts. There always is one.
     pub fn of(matches: &ArgMatches<'a>) -> Option<Task<'a>> {
         let (name, matches) = subcommand_of(matches)?;
         match name {
@@ -67,7 +67,7 @@ impl<'a> Task<'a> {
         }
     }
 
-    /// Opens the files, does the task, and hands its results to standard output.
+    /// Opens the files, runs the task, and writes its results to standard output.
     pub fn run<R: Files + AllocGlobal + Print>(&self, rt: &R) -> Result<(), Exit> {
         match *self {
             Task::Convert { to, circuit } => convert(rt, to, circuit),
@@ -96,7 +96,7 @@ impl<'a> Task<'a> {
     }
 }
 
-/// The format to write.
+/// Returns the format to write.
 fn format_of(matches: &ArgMatches<'_>) -> Option<Format> {
     match text_of(matches, "FORMAT")? {
         "aag" => Some(Format::Ascii),
