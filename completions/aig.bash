@@ -1,10 +1,10 @@
-# Completion of `aig` for bash: put it where bash-completion looks, or `source` it.
-# A command is a line of `commands`, its options a line of `options`, and an option's values a line of `values`.
+# Completion of `aig` for bash: put it where bash-completion looks, or `source` it. It works without bash-completion.
+# A command is a word of `commands`, its options a line of `options`, and an option with a value a line of `values`:
+# the words that it takes, `file`, or nothing.
 
 _aig() {
-    local word=${COMP_WORDS[COMP_CWORD]} before=${COMP_WORDS[COMP_CWORD - 1]}
     local commands="toaig sim wave bench unroll check info help"
-    declare -A options=(
+    local -A options=(
         [toaig]="--to --help"
         [sim]="--help"
         [wave]="--witness --help"
@@ -13,22 +13,77 @@ _aig() {
         [check]="--trace --help"
         [info]="--help"
     )
-    declare -A values=(
+    local -A values=(
         [--to]="aag aig"
         [--frames]=""
+        [--map]="file"
+        [--circuit-out]="file"
+        [--stimulus-out]="file"
     )
-    local command=${COMP_WORDS[1]}
+    local command=${COMP_WORDS[1]} words=("") joins="" i
+    COMPREPLY=()
+
+    # The words after the command. Bash splits `--to=aag` at `=`, if `=` is in COMP_WORDBREAKS.
+    for ((i = 2; i <= COMP_CWORD; i++)); do
+        if [[ ${COMP_WORDS[i]} == = && ${words[-1]} == --* ]]; then
+            words[-1]+="="
+            joins=yes
+        elif [[ -n $joins ]]; then
+            words[-1]+=${COMP_WORDS[i]}
+            joins=""
+        else
+            words+=("${COMP_WORDS[i]}")
+        fi
+    done
+
+    # The option whose value is completed, and how many files come before it.
+    local word=${words[-1]} option="" files=0
+    for ((i = 1; i < ${#words[@]} - 1; i++)); do
+        if [[ -n $option ]]; then
+            option=""
+        elif [[ ${words[i]} == -* ]]; then
+            [[ -v "values[${words[i]}]" ]] && option=${words[i]}
+        else
+            ((files++))
+        fi
+    done
+
+    local before=""
+    if [[ -z $option && $word == --*=* ]]; then
+        option=${word%%=*}
+        [[ $COMP_WORDBREAKS == *=* ]] || before="$option="
+        word=${word#*=}
+    fi
     if ((COMP_CWORD == 1)); then
-        mapfile -t COMPREPLY < <(compgen -W "$commands --help --version" -- "$word")
+        _aig_reply "" -W "$commands --help --version" -- "$command"
     elif [[ $command == help ]]; then
-        mapfile -t COMPREPLY < <(compgen -W "$commands" -- "$word")
-    elif [[ $before == --* && -v "values[$before]" ]]; then
-        mapfile -t COMPREPLY < <(compgen -W "${values[$before]}" -- "$word")
+        _aig_reply "" -W "$commands" -- "$word"
+    elif [[ -n $option && ${values[$option]} == file ]]; then
+        _aig_reply "$before" -f -- "$word"
+    elif [[ -n $option ]]; then
+        compopt +o bashdefault +o default 2> /dev/null
+        _aig_reply "$before" -W "${values[$option]}" -- "$word"
     elif [[ $word == -* ]]; then
-        mapfile -t COMPREPLY < <(compgen -W "${options[$command]}" -- "$word")
+        _aig_reply "" -W "${options[$command]}" -- "$word"
+    elif ((files == 0)); then
+        # The first file is a circuit. If no name ends like one, each file may be.
+        _aig_reply "" -f -X '!*.aag' -- "$word"
+        _aig_reply "" -f -X '!*.aig' -- "$word"
+        _aig_reply "" -d -- "$word"
+        ((${#COMPREPLY[@]})) || _aig_reply "" -f -- "$word"
     else
-        mapfile -t COMPREPLY < <(compgen -f -- "$word")
+        _aig_reply "" -f -- "$word"
     fi
 }
 
-complete -o filenames -F _aig aig
+# Adds what `compgen` finds, each with this text before it.
+_aig_reply() {
+    local before=$1 found
+    shift
+    while IFS= read -r found; do
+        COMPREPLY+=("$before$found")
+    done < <(compgen "$@")
+}
+
+# Where the function finds nothing, bash completes names by itself: those in quotes, and those with `~` or `$`.
+complete -o filenames -o bashdefault -o default -F _aig aig

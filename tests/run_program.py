@@ -1,11 +1,13 @@
 #!/usr/bin/env python3
-"""Runs the built program as a user does: each subcommand on small files, the words of the command line, the help beside
-docs/BEHAVIOUR.md, and talks through pipes. Output, error text and exit status have to be those that stand here: from
+"""Runs the built program as a user does: each subcommand on small files, the words of the command line, the help and the
+causes of messages beside docs/BEHAVIOUR.md, manual pages and completions, and talks through pipes. Output, error text and exit status have to be those that stand here: from
 the standard, from worked examples, and from library/reference.py, a plain simulator and workbench."""
 
 from library import runs
 from program.bench import bench
 from program.check import check
+from program.completions import completions
+from program.diagnostics import diagnostics
 from program.helps import helps
 from program.info import info
 from program.kept import kept
@@ -19,7 +21,8 @@ from program.wave import wave
 from program.words import words
 
 PARTS = {"bench": bench, "kept": kept, "words": words, "sim": sim, "wave": wave, "check": check, "replays": replays,
-         "toaig": toaig, "unroll": unroll, "info": info, "help": helps, "pages": pages, "talks": talks}
+         "toaig": toaig, "unroll": unroll, "info": info, "help": helps, "pages": pages, "completions": completions,
+         "diagnostics": diagnostics, "talks": talks}
 
 if __name__ == "__main__":
     runs.main(__doc__, PARTS)

@@ -120,7 +120,8 @@ def limits(rows):
 def recipes(rows):
     """The lines of docs/FORMATS.md that bring files of model checkers into form, as they stand there."""
     document = contents(REPOSITORY + "/docs/FORMATS.md").decode()
-    one_witness, outputs_as_bad = (re.search(f"(?m)^.*> {file}$", document)[0] for file in ("w.wit", "bad.aag"))
+    one_witness, outputs_as_bad = (re.search(rf"```sh\n((?:(?!```)[^\0])*> {file})\n```", document)[1]
+                                   for file in ("w.wit", "bad.aag"))
     write("w.txt", FOUND)
     shell(rows.program, one_witness)
     words = ["check", f"{EXAMPLES}/wraps.aag", "w.wit"]

@@ -1,10 +1,13 @@
-"""What the help lists, beside the tables of docs/BEHAVIOUR.md and what the program takes."""
+"""What the help lists, beside the tables of docs/BEHAVIOUR.md and what the program takes; its lines and its examples."""
 
-import itertools
-import re
+import os
+import subprocess
 
-from library.runs import REPOSITORY, contents, write
+from library.helptext import commands, examples, listed
+from library.manual import asker
+from library.runs import EXAMPLES, REPOSITORY, contents, write
 
+COLUMNS = 80
 CIRCUIT = "aag 4 2 1 1 1\n2\n4\n6 8\n8\n8 6 2\n"
 # What stands for the names in a line of a script, for this circuit.
 FIELDS = {"G": "8", "R0": "2", "R1": "4", "L": "6", "V": "1", "T": "0", "P": "0", "BITS": "01"}
@@ -12,34 +15,55 @@ FIELDS = {"G": "8", "R0": "2", "R1": "4", "L": "6", "V": "1", "T": "0", "P": "0"
 
 def helps(program, tally, _):
     behaviour = contents(REPOSITORY + "/docs/BEHAVIOUR.md").decode()
-    overview, verdicts, bench = (program.run(*words, "--help").err.decode() for words in ([], ["check"], ["bench"]))
-    wanted = dict.fromkeys(words.split(" ")[1] for words in table(behaviour, "| words | does |"))
+    ask = asker(program.path)
+    texts = {name: ask(*words) for name, words in asked(ask).items()}
+    for name, text in texts.items():
+        tally.compare(f"help: {name}: lines over {COLUMNS} columns",
+                      [row for row in text.splitlines() if len(row) > COLUMNS], [])
+        tally.check(f"help: {name}: files that an installed copy does not have", "docs/" not in text, text)
+    overview, verdicts, bench = texts["aig"], texts["check"], texts["bench"]
+    wanted = dict.fromkeys(words.split(" ")[1] for words in table(behaviour, "| command | does |"))
     tally.compare("help: subcommands", sorted(listed(overview, "Commands:")), sorted([*wanted, "help"]))
-    status = re.search(r"Exit status:(.*?)\.\n", overview, re.DOTALL).group(1)
-    tally.compare("help: exit statuses", re.findall(r"(?:^|,)\s(\d+) ", status), table(behaviour, "| status | means |"))
+    tally.compare("help: exit statuses", listed(overview, "Exit status:"), table(behaviour, "| status | means |"))
     tally.compare("help: verdicts", listed(verdicts, "count from 0:"), table(behaviour, "| line | means |"))
     lines = listed(bench, "values are 0, 1 or x:")
     tally.compare("help: lines of a script", lines, table(behaviour, "| line | does | reply |"))
-    told = re.search(r"answered no and a number: (.*?)\.", bench, re.DOTALL).group(1)
-    numbers = re.findall(r"(?:^|,\s)(\d+) ", told)
-    tally.compare("help: numbers of refusals", numbers, table(behaviour, "| N | means |"))
+    tally.compare("help: numbers of refusals", listed(bench, "number:"), table(behaviour, "| N | means |"))
+    facts = [name for row in listed(texts["info"], "in this order:") for name in row.split(", ")]
+    rows = [name.strip("`") for row in table(behaviour, "| name | value |") for name in row.split(", ")]
+    tally.compare("help: facts", facts, rows)
     for line in lines:
         words = filled(line)
         is_taken = replies(program, f"{words}\n".encode()).endswith((b"ok\n", b"0\n", b".\n"))
         tally.check(f"help: the line {words!r}", is_taken, "it is no command")
     tally.compare("help: first bytes of commands", first_bytes(program, lines), sorted(line[0] for line in lines))
+    run_examples(ask, program, tally)
+
+
+def asked(ask):
+    """The words that ask for each help, by its name."""
+    return {"aig": ["--help"], "help": ["help", "help"], **{name: [name, "--help"] for name in commands(ask)[1]}}
+
+
+def run_examples(ask, program, tally):
+    """Each example of a help is done, in a folder that has the examples."""
+    os.symlink(EXAMPLES, "examples")
+    os.mkdir("bin")
+    os.symlink(program.path, "bin/aig")
+    overview, each = commands(ask)
+    for name, one in {"aig": overview, **each}.items():
+        shown = examples(one)
+        tally.check(f"help: {name}: an example", shown != [], one.after)
+        for command in shown:
+            ended = subprocess.run(["/bin/sh", "-c", command], env={"PATH": os.path.abspath("bin")},
+                                   stdin=subprocess.DEVNULL, capture_output=True, check=False)
+            tally.compare(f"help: {command}", (ended.returncode, ended.stderr), (0, b""))
 
 
 def table(document, head):
     """The first column of the table of a document with this head."""
     rows = document.split(head + "\n", 1)[1].split("\n\n", 1)[0].split("\n")[1:]
     return [row.split("|")[1].strip().strip("`") for row in rows]
-
-
-def listed(text, above):
-    """The lines that are set in below a line of the help, each up to two spaces or its end."""
-    rows = text.split(above + "\n", 1)[1].split("\n")
-    return [row[2:].split("  ")[0] for row in itertools.takewhile(lambda row: row.startswith("  "), rows)]
 
 
 def filled(line):

@@ -23,6 +23,7 @@ REFUSALS = (
     ("an unknown format", ["toaig", "--to", "dot", "two_gates"]),
     ("no number of frames", ["unroll", "--to", "aag", "two_gates"]),
     ("a number of frames over its limit", ["unroll", "--frames", "4294967296", "--to", "aag", "two_gates"]),
+    ("a number of frames with a letter", ["unroll", "--frames", "2k", "--to", "aag", "two_gates"]),
     ("no format to unroll to", ["unroll", "--frames", "2", "two_gates"]),
 )
 
@@ -42,6 +43,13 @@ def words(program, tally, _):
         ended = program.run(*refused)
         is_refused = (ended.status, ended.out) == (2, b"") and ended.err != b""
         tally.check(f"words: {name}", is_refused, ended)
+    for asked in (["--frames", "-1"], ["--frames=-1"]):
+        ended = program.run("unroll", *asked, "--to", "aag", "two_gates")
+        tally.check(f"words: {asked}", ended.status == 2 and ended.err.startswith(NEGATIVE), ended)
+
+
+# A number of frames that is refused is told with its range.
+NEGATIVE = b"error: invalid value '-1' for '--frames <K>': -1 is not in 0..=4294967295\n"
 
 
 def tells(rows, asked, text):
@@ -53,9 +61,7 @@ def tells(rows, asked, text):
 
 
 def version(program):
-    """What the version has to be: it names the toolchain that is here. The program that the gate built says that it is
-    proved; one that was named may say that it is not (tests/build_unproved.sh)."""
-    toolchain = subprocess.run(["rt", "version"], capture_output=True, text=True, check=True).stdout.strip()
+    """What the version has to be. The program that the gate built says that it is proved; one that was named may say
+    that it is not (tests/build_unproved.sh)."""
     is_unproved = program.is_named and b"not proved" in program.run("--version").err
-    proved = "built by rt try, not proved" if is_unproved else "proved where rt ci built it"
-    return f"aig 0.1.0 ({toolchain}, {proved})\n".encode()
+    return b"aig 0.1.0 (built by rt try, not proved)\n" if is_unproved else b"aig 0.1.0 (proved where rt ci built it)\n"

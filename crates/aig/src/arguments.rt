@@ -8,7 +8,7 @@ use clap::error::ErrorKind;
 use std::env::{self, Env};
 use std::io;
 
-/// All arguments, the program's name first.
+/// Returns all arguments, the program's name first.
 pub fn all<R: Env + AllocGlobal>(rt: &R) -> Result<Vec<String>, Exit> {
     match env::args(rt) {
         Ok(words) => match words.collect(rt.alloc()) {
@@ -22,7 +22,7 @@ pub fn all<R: Env + AllocGlobal>(rt: &R) -> Result<Vec<String>, Exit> {
     }
 }
 
-/// The task that the arguments choose. Where they choose none, clap's text goes to standard error.
+/// Returns the task that the arguments choose. If they are wrong, prints clap's text on standard error.
 pub fn task_of<'a, R: AllocGlobal + Eprint>(rt: &R, words: &'a [String]) -> Result<Task<'a>, Exit> {
     match matches_of(rt.alloc(), words) {
         Ok(matches) => match Task::of(&matches) {
@@ -37,7 +37,7 @@ fn refused(rt: &impl Eprint, error: &clap::Error) -> Exit {
     if error.kind() == ErrorKind::OutOfMemory {
         return Exit::Run(RunFault::Memory);
     }
-    // Nobody is left to tell of a failing write to standard error.
+    // There is no place left to report that standard error fails.
     let _ = rt.eprint(error);
     Exit::Told
 }

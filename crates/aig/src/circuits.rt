@@ -1,4 +1,4 @@
-//! The tasks that read a circuit alone: conversion, unrolling, and what it is.
+//! The tasks on a circuit alone: conversion, unrolling, and facts about it.
 
 use crate::exit::Exit;
 use crate::files::{CIRCUIT, open, output, read_whole};
@@ -30,7 +30,7 @@ fn convert_file<R: AllocGlobal + Print, F: Read + Drop>(
     Ok(())
 }
 
-/// Writes a circuit unrolled for so many frames, and what its inputs are to the file of this name, if there is one.
+/// Writes a circuit unrolled for `frames` frames, and to the file `map`, if there is one, what its inputs are.
 pub fn unroll<R: Files + AllocGlobal + Print>(
     rt: &R,
     frames: u32,
@@ -79,7 +79,7 @@ fn write_unrolled_and_keep<R: Files + AllocGlobal + Print>(
     keep_inputs(rt, &circuit, frames, map)
 }
 
-/// Writes what a circuit is.
+/// Writes facts about a circuit.
 pub fn info<R: Files + AllocGlobal + Print>(rt: &R, circuit: &str) -> Result<(), Exit> {
     let circuit = open(rt, circuit, CIRCUIT)?;
     info_file(rt, circuit)

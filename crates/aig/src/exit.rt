@@ -8,17 +8,17 @@ use std::io;
 /// Why the program ends before it is done.
 #[derive(Clone, Copy)]
 pub enum Exit {
-    /// The arguments are wrong, or ask for help or the version, and the user was told.
+    /// The arguments are wrong, or ask for help or for the version; the text is printed already.
     Told,
     /// The arguments choose no task.
     NoTask,
-    /// A word is not UTF-8.
+    /// An argument is not UTF-8.
     NotText,
-    /// A run was refused.
+    /// A run failed, or its input was rejected.
     Run(RunFault),
     /// A witness's file cannot be opened or read.
     Witness,
-    /// A witness was checked, and its verdict, which was written, is not that it is confirmed.
+    /// The verdict on a witness is printed, and is not `confirmed`.
     NotConfirmed,
 }
 
@@ -29,7 +29,7 @@ impl From<RunFault> for Exit {
 }
 
 impl Exit {
-    /// Says why on standard error, where that was not said yet.
+    /// Prints the reason on standard error, unless it is printed already.
     pub fn tell(&self, rt: &impl Eprint) -> io::Result<()> {
         match self {
             Exit::Told | Exit::NotConfirmed => Ok(()),
@@ -40,7 +40,7 @@ impl Exit {
         }
     }
 
-    /// The exit status: 2 where the words are wrong, 1 for a verdict, else that of the fault.
+    /// Returns the exit status: 2 for wrong arguments, 1 for a verdict, else that of the fault.
     pub fn status(&self) -> u8
         ensures { result ≡ status_of_exit self.now }
     {

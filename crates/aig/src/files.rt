@@ -1,4 +1,4 @@
-//! The files that the words name.
+//! The files that the arguments name.
 
 use crate::exit::Exit;
 use aig_base::{Buffered, Fault, Std};
@@ -10,7 +10,7 @@ use std::io::{self, ErrorKind, Printer, Read};
 /// A circuit's file cannot be opened or read.
 pub const CIRCUIT: Exit = Exit::Run(RunFault::Circuit(Fault::Io));
 
-/// Opens a file. One that cannot be opened ends the program with `part`.
+/// Opens a file. If that fails, the program ends with `part`.
 pub fn open<R: Files>(rt: &R, name: &str, part: Exit) -> Result<R::File, Exit> {
     match fs::open(rt, name) {
         Ok(file) => Ok(file),
@@ -18,7 +18,7 @@ pub fn open<R: Files>(rt: &R, name: &str, part: Exit) -> Result<R::File, Exit> {
     }
 }
 
-/// Reads all bytes of an open file. A failing read ends the program with `part`.
+/// Reads all bytes of an open file. If a read fails, the program ends with `part`.
 pub fn read_whole<F: Read + Drop>(alloc: Global, mut file: F, part: Exit) -> Result<Vec<u8>, Exit> {
     let mut bytes = Vec::new(alloc);
     match file.read_to_end(&mut bytes) {
@@ -30,7 +30,7 @@ pub fn read_whole<F: Read + Drop>(alloc: Global, mut file: F, part: Exit) -> Res
     }
 }
 
-/// Standard output, whose bytes are handed on in pieces.
+/// Returns standard output, buffered in blocks.
 pub fn output<P: Print>(rt: &P) -> Buffered<Std<Printer<'_, P>>> {
     Buffered::new(Std::new(io::writer(rt)))
 }

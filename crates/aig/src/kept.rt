@@ -1,4 +1,4 @@
-//! The files that keep what a script leaves, and what tells the inputs of an unrolled circuit.
+//! The files of `--circuit-out`, `--stimulus-out` and `--map`.
 
 use crate::exit::Exit;
 use crate::new_file::{NewFile, OUTPUT, begin};
@@ -11,7 +11,7 @@ use aig_sim::PlaneGrid;
 use std::fs::{Files, OpenFile};
 use std::io;
 
-/// The names of the files that are asked for.
+/// The names of the files of `--circuit-out` and `--stimulus-out`.
 #[derive(Clone, Copy)]
 pub struct Kept<'a> {
     pub circuit: Option<&'a str>,
@@ -19,13 +19,13 @@ pub struct Kept<'a> {
 }
 
 impl Kept<'_> {
-    /// Whether none is asked for.
+    /// Whether both options are missing.
     pub fn is_empty(&self) -> bool {
         self.circuit.is_none() && self.stimulus.is_none()
     }
 }
 
-/// What a file keeps: the circuit or the rows of a bench, or the inputs of a circuit unrolled for so many frames.
+/// What a file contains: the circuit or the rows of a bench, or the inputs of a circuit unrolled for some frames.
 #[derive(Clone, Copy)]
 enum Part<'a> {
     Circuit(&'a Bench<PlaneGrid>),
@@ -33,7 +33,7 @@ enum Part<'a> {
     Inputs(&'a Circuit, u32),
 }
 
-/// Writes what a bench has to the files that are asked for. Each text is whole on its disk before one takes its name.
+/// Writes a bench to the files of the options. All texts are on disk before the first file is renamed.
 pub fn keep<R: Files + AllocGlobal>(
     rt: &R,
     bench: &Bench<PlaneGrid>,
@@ -49,7 +49,7 @@ pub fn keep<R: Files + AllocGlobal>(
     }
 }
 
-/// Writes what each input of the circuit unrolled for so many frames is to a file.
+/// Writes to a file what each input of the unrolled circuit is.
 pub fn keep_inputs<R: Files + AllocGlobal>(
     rt: &R,
     circuit: &Circuit,
@@ -60,7 +60,7 @@ pub fn keep_inputs<R: Files + AllocGlobal>(
     take_name(rt, &new)
 }
 
-/// Writes a part where it is asked for.
+/// Writes a part if its option is given.
 fn write_asked<R: Files + AllocGlobal>(
     rt: &R,
     part: Part<'_>,
@@ -72,7 +72,7 @@ fn write_asked<R: Files + AllocGlobal>(
     }
 }
 
-/// Writes a part, and answers the new file that it is in; none where a device or a pipe got it.
+/// Writes a part, and returns its new file. There is none if the part went to a device or a pipe.
 fn write_part<R: Files + AllocGlobal>(
     rt: &R,
     part: Part<'_>,
@@ -87,7 +87,7 @@ fn write_part<R: Files + AllocGlobal>(
     Ok(new)
 }
 
-/// Writes a part to an open file, and to its disk where that is wanted.
+/// Writes a part to an open file, and syncs the file if `is_synced`.
 fn write_file<F: io::Write + OpenFile>(
     part: Part<'_>,
     file: &mut F,
@@ -117,7 +117,7 @@ fn write_inputs<F: io::Write>(
     deliver_input_map(circuit, frames, &mut out)
 }
 
-/// Gives the new files their names.
+/// Renames the new files.
 fn take_names<R: Files>(
     rt: &R,
     circuit: &Option<NewFile>,
@@ -131,7 +131,7 @@ fn take_names<R: Files>(
     take_name(rt, stimulus)
 }
 
-/// Gives a new file its name, or takes it away.
+/// Renames a new file, or removes it if that fails.
 fn take_name<R: Files>(rt: &R, new: &Option<NewFile>) -> Result<(), Exit> {
     let Some(file) = new else {
         return Ok(());

@@ -1,4 +1,4 @@
-//! The program `aig`: converts, simulates and unrolls and-inverter graphs, checks witnesses and answers scripts.
+//! The program `aig`: converts, simulates and unrolls and-inverter graphs, checks witnesses and runs scripts.
 #![tactic(auto)]
 
 mod arguments;
@@ -20,14 +20,14 @@ fn main(rt: HostRuntime) -> ExitCode {
     match run(&rt) {
         Ok(()) => ExitCode::from(0),
         Err(exit) => {
-            // Nobody is left to tell of a failing write to standard error.
+            // There is no place left to report that standard error fails.
             let _ = exit.tell(&rt);
             ExitCode::from(exit.status())
         }
     }
 }
 
-/// Reads the words of the command line, and does what they choose.
+/// Reads the arguments, and runs the task that they choose.
 fn run<R: Env + Files + AllocGlobal + Print + Eprint>(rt: &R) -> Result<(), Exit> {
     let words = arguments::all(rt)?;
     run_words(rt, words.as_slice())

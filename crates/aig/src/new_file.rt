@@ -1,4 +1,4 @@
-//! Files that take their names only once they are whole.
+//! Files that take their names only once they are complete.
 
 use crate::exit::Exit;
 use aig_run::RunFault;
@@ -7,23 +7,23 @@ use std::fs::{self, Files, Metadata, OpenFile, OpenOptions, Permissions};
 use std::io::ErrorKind;
 use std::os::unix::fs::{MetadataExt, PermissionsExt};
 
-/// What the name of a new file has behind that of the file that it is to become.
+/// The ending of a new file's name.
 const BEHIND: &str = ".new";
 
-/// What a failing call for an output ends the program with.
+/// How the program ends if it cannot write an output file.
 pub const OUTPUT: Exit = Exit::Run(RunFault::Output);
 
-/// A new file beside another one, whose name it is to take.
+/// A new file that is to take the name of another file in the same folder.
 #[derive(Drop)]
 pub struct NewFile {
     name: String,
     new_name: String,
-    // Whether a file of that name was there.
+    // Whether a file of that name existed.
     replaces: bool,
 }
 
 impl NewFile {
-    /// Takes its name, in place of what stands there; what came there meanwhile stays.
+    /// Renames the file over the one that existed. A file that was created meanwhile stays.
     pub fn take_name<R: Files>(&self, rt: &R) -> Result<(), Exit> {
         let name = self.name.as_str();
         if !self.replaces && !is_free(rt, name) {
@@ -35,14 +35,14 @@ impl NewFile {
         }
     }
 
-    /// Takes it away again.
+    /// Removes the new file.
     pub fn remove<R: Files>(&self, rt: &R) {
-        // The fault that this follows is told, and nothing more can be done.
+        // The program reports the fault that led here, and can do no more.
         let _ = fs::remove_file(rt, self.new_name.as_str());
     }
 }
 
-/// Opens what a text is to be written to: a new file beside the one that is named, or the device or pipe itself.
+/// Opens the file for a text: a new file in the folder of the named one, or the named device or pipe itself.
 pub fn begin<R: Files + AllocGlobal>(
     rt: &R,
     name: &str,
@@ -57,7 +57,7 @@ pub fn begin<R: Files + AllocGlobal>(
     }
 }
 
-/// The same, where the name is one of something that is there.
+/// The same, for a name that exists.
 fn begin_over<R: Files + AllocGlobal>(
     rt: &R,
     name: &str,
@@ -76,7 +76,7 @@ fn begin_over<R: Files + AllocGlobal>(
     create(rt, names, Some(permissions_of(&metadata)))
 }
 
-/// Makes the new file, with the permissions of the one that it replaces.
+/// Creates the new file, with the permissions of the one that it replaces.
 fn create<R: Files>(
     rt: &R,
     names: NewFile,
@@ -98,12 +98,12 @@ fn create<R: Files>(
     Ok((file, Some(names)))
 }
 
-/// Who may read, write and run a file. The new one may have another owner, as whom nobody else is to run it.
+/// The permissions to read, write and run a file, without setuid and setgid: the new file may have another owner.
 fn permissions_of(metadata: &Metadata) -> Permissions {
     Permissions::from_mode(metadata.permissions().mode() & 0o777)
 }
 
-/// The names of a new file beside that which a name leads to, so that a link stays one.
+/// The names of a new file for the target of a link, so that the link stays.
 fn beside_target<R: Files + AllocGlobal>(rt: &R, name: &str) -> Result<NewFile, Exit> {
     match fs::canonicalize(rt, name) {
         Ok(path) => beside(rt.alloc(), path.as_path().as_str(), true),
@@ -112,7 +112,7 @@ fn beside_target<R: Files + AllocGlobal>(rt: &R, name: &str) -> Result<NewFile, 
     }
 }
 
-/// The names of a new file beside another.
+/// The names of a new file in the folder of another.
 fn beside(alloc: Global, name: &str, replaces: bool) -> Result<NewFile, Exit> {
     match names_of(alloc, name, replaces) {
         Ok(names) => Ok(names),
@@ -130,7 +130,7 @@ fn names_of(alloc: Global, name: &str, replaces: bool) -> Result<NewFile, AllocE
     })
 }
 
-/// Whether nothing has the name.
+/// Whether no file has this name.
 fn is_free<R: Files>(rt: &R, name: &str) -> bool {
     match fs::symlink_metadata(rt, name) {
         Ok(_) => false,
@@ -138,12 +138,12 @@ fn is_free<R: Files>(rt: &R, name: &str) -> bool {
     }
 }
 
-/// Whether a file is the one that standard output or standard error goes to, which has what was said before.
+/// Whether a file is standard output or standard error, and so has output of this run.
 fn is_standard<R: Files>(rt: &R, metadata: &Metadata) -> bool {
     is_at(rt, "/dev/stdout", metadata) || is_at(rt, "/dev/stderr", metadata)
 }
 
-/// Whether a name leads to this file.
+/// Whether a name is one of this file.
 fn is_at<R: Files>(rt: &R, name: &str, metadata: &Metadata) -> bool {
     match fs::metadata(rt, name) {
         Ok(other) => other.dev() == metadata.dev() && other.ino() == metadata.ino(),

@@ -1,4 +1,4 @@
-//! The tasks that read a circuit and a stimulus: its trace, its dump, and a script on it.
+//! The tasks on a circuit and a stimulus: traces, dumps and scripts.
 
 use crate::exit::Exit;
 use crate::files::{CIRCUIT, open, output, read_whole};
@@ -61,7 +61,7 @@ fn wave_files<R: AllocGlobal + Print, F: Read + Drop>(
     Ok(())
 }
 
-/// Writes the replies to a script, and keeps what is asked for.
+/// Writes the replies to a script, and the files of `--circuit-out` and `--stimulus-out`.
 pub fn bench<R: Files + AllocGlobal + Print>(
     rt: &R,
     circuit: &str,

@@ -1,16 +1,16 @@
-//! What the words of the command line choose.
+//! The tasks that the arguments choose.
 
 use crate::circuits::{convert, info, unroll};
 use crate::exit::Exit;
 use crate::kept::Kept;
 use crate::simulations::{bench, simulate, wave};
 use crate::witnesses::{check, wave_witness};
-use aig_command_line::{format_of, has_flag, number_of, subcommand_of, text_of};
+use aig_command_line::{has_flag, number_of, subcommand_of, text_of};
 use aig_format::Format;
 use clap::ArgMatches;
 use std::fs::Files;
 
-/// What is to be done, and with which files.
+/// A task, with its files and options.
 #[derive(Clone, Copy)]
 pub enum Task<'a> {
     Convert {
@@ -52,7 +52,7 @@ pub enum Task<'a> {
 }
 
 impl<'a> Task<'a> {
-    /// The task of a command line that matched. Each has one.
+    /// Returns the task of arguments that the parser accepts. There always is one.
     pub fn of(matches: &ArgMatches<'a>) -> Option<Task<'a>> {
         let (name, matches) = subcommand_of(matches)?;
         match name {
@@ -67,7 +67,7 @@ impl<'a> Task<'a> {
         }
     }
 
-    /// Opens the files, does the task, and hands its results to standard output.
+    /// Opens the files, runs the task, and writes its results to standard output.
     pub fn run<R: Files + AllocGlobal + Print>(&self, rt: &R) -> Result<(), Exit> {
         match *self {
             Task::Convert { to, circuit } => convert(rt, to, circuit),
@@ -93,6 +93,15 @@ impl<'a> Task<'a> {
             } => check(rt, circuit, witness, with_trace),
             Task::Info { circuit } => info(rt, circuit),
         }
+    }
+}
+
+/// Returns the format to write.
+fn format_of(matches: &ArgMatches<'_>) -> Option<Format> {
+    match text_of(matches, "FORMAT")? {
+        "aag" => Some(Format::Ascii),
+        "aig" => Some(Format::Binary),
+        _ => None,
     }
 }
 

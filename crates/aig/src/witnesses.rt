@@ -1,4 +1,4 @@
-//! The tasks that read a circuit and a witness: its check, and the dump of its run.
+//! The tasks on a circuit and a witness: its check, and the dump of its run.
 
 use crate::exit::Exit;
 use crate::files::{CIRCUIT, open, output, read_whole};
@@ -10,7 +10,7 @@ use std::io::Read;
 
 const WITNESS: Exit = Exit::Witness;
 
-/// Writes the verdict on a witness, and before it the trace of its run where that is wanted.
+/// Writes the verdict on a witness, and before it the trace of its run if `with_trace`.
 pub fn check<R: Files + AllocGlobal + Print>(
     rt: &R,
     circuit: &str,
@@ -48,7 +48,7 @@ fn write_verdict<R: AllocGlobal + Print>(
     }
 }
 
-/// A verdict other than that the witness is confirmed ends the program with a status of its own.
+/// For a verdict other than `confirmed`, the program ends with another status.
 fn confirmation(verdict: Verdict) -> Result<(), Exit> {
     match verdict {
         Verdict::Confirmed => Ok(()),

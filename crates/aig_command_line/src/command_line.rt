@@ -1,127 +1,157 @@
-//! What the words of the command line may be.
+//! The subcommands, their arguments and options, and the help.
 
-use aig_format::Format;
 use clap::builder::ValueParser;
 use clap::{Arg, ArgAction, ArgMatches, Command};
 use std::alloc::{AllocError, Global};
 
-/// The program's version, and the toolchain that it is written for, as `rt version` names it. A program cannot tell how
-/// it was built: `rt ci` proves what it builds, and `tests/build_unproved.sh` says so here where nothing was proved.
-static VERSION: &str = "0.1.0 (rattle-kit-13f logic dac8208d650f15bf, proved where rt ci built it)";
+/// The program's version. A program cannot tell how it was built: `rt ci` proves what it builds, and
+/// `tests/build_unproved.sh` replaces this text in a program that was not proved.
+static VERSION: &str = "0.1.0 (proved where rt ci built it)";
 
 static FORMATS: [&str; 2] = ["aag", "aig"];
 
 static AFTER_TOAIG: &str =
-    "A circuit that the format aig does not hold as it stands is renumbered for it; names and comment stay.
+    "The aig format numbers its variables in a fixed order. If the circuit does not
+have this order, toaig renumbers the variables; names and comment stay.
 
 Example: aig toaig --to aig examples/two_gates.aag > two_gates.aig
-The formats are described in docs/FORMATS.md.";
+See also: man aig, man 5 aig-formats";
 
 static AFTER_SIM: &str =
-    "A line holds the state, the inputs, the outputs and the next state, with one space between them.
+    "A line has four fields, with one space between them: the state, the inputs, the
+outputs and the next state.
 
 Example: aig sim examples/counter.aag examples/counter.stim
-The formats are described in docs/FORMATS.md.";
+See also: man aig, man 5 aig-formats";
 
 static AFTER_WAVE: &str =
-    "The dump (IEEE 1364) is read by waveform viewers, as GTKWave and Surfer. It shows inputs, latches, outputs, bad
-state properties and constraints by their names, or without one by letter and position, as i0 or l3. Frame T is
+    "Waveform viewers such as GTKWave and Surfer read the dump (IEEE 1364). It shows
+inputs, latches, outputs, bad state properties and constraints by name. An entry
+without a name appears as a letter and a position, such as i0 or l3. Frame T is
 time T.
 
-With --witness STIM is the file of a witness, and the dump shows its run: from its own values of the latches, and
-whatever its verdict would be.
+With --witness, STIM is the file of a witness. The dump then shows the run from
+the latch values of the witness, and prints no verdict.
 
-Examples: aig wave examples/counter.aag examples/counter.stim > counter.vcd
-          aig wave --witness examples/wraps.aag examples/wraps.wit > wraps.vcd
-The formats are described in docs/FORMATS.md.";
+Example: aig wave examples/counter.aag examples/counter.stim > counter.vcd
+Example: aig wave --witness examples/wraps.aag examples/wraps.wit > wraps.vcd
+See also: man aig, man 5 aig-formats";
 
 static AFTER_BENCH: &str =
-    "Lines of a script; frames, inputs and outputs count from 0, values are 0, 1 or x:
-  w G R0 R1  gives the gate of literal G the right sides R0 and R1
-  r L V      lets the latch of literal L start at V, where x is uninitialised
-  s T P V    sets input P of frame T to V
-  + BITS     appends a frame with a value for each input
-  -          takes the last frame off
-  g R0 R1    appends a gate with the right sides R0 and R1; its variable is the new greatest
-  o P L      makes output P the literal L
-  v T L      asks for literal L at frame T; the reply is 0, 1 or x
-  t          asks for the trace of all frames; the reply ends with a line .
-  u          asks for the circuit unrolled for all frames, as text; the reply ends with a line .
-The reply to an edit that is done is ok. A literal is twice its variable, and one more where it is negated. A line
-that cannot be done is answered no and a number: 1 no gate, 2 no latch, 3 a literal out of range, 4 an undefined
-variable, 5 a cycle, 6 no such frame, 7 no such input, 8 not a value for each input, 9 no frame, 10 over a limit,
-11 no memory, 12 justice or fairness, 13 no such output. A line that is none of these is answered bad.
+    "Each line of the script is one command. Frames, inputs and outputs count from 0,
+values are 0, 1 or x:
+  w G R0 R1  set the right sides of the gate of literal G to R0 and R1
+  r L V      set the initial value of the latch of literal L to V (x: any value)
+  s T P V    set input P of frame T to V
+  + BITS     append a frame, with one value per input
+  -          remove the last frame
+  g R0 R1    append a gate with the right sides R0 and R1, variable M + 1
+  o P L      set output P to literal L
+  v T L      print the value of literal L at frame T
+  t          print the trace of all frames, then a line with a dot
+  u          print the circuit, unrolled for all frames, then a line with a dot
+A literal is twice its variable, plus one if it is negated.
 
-A file is written once the script has been run to its end, whatever the replies; it may be CIRCUIT or STIM. The text is
-written to FILE.new, which must not be there, and takes FILE's name when it is whole; a device or a pipe is written
+The reply to an edit is ok. If a command is not possible, the reply is no and a
+number:
+  1   not the literal of a gate
+  2   not the literal of a latch
+  3   literal out of range
+  4   undefined variable
+  5   the gates would form a cycle
+  6   no such frame
+  7   no such input
+  8   not one value per input
+  9   no frame to remove or to unroll
+  10  over a limit
+  11  out of memory
+  12  justice properties or fairness constraints, which unroll does not support
+  13  no such output
+The reply to any other line is bad.
+
+bench writes each FILE after the end of the script, whatever the replies were.
+FILE may be CIRCUIT, STIM or SCRIPT. bench writes the text to FILE.new, which
+must not exist, and then renames it to FILE. It writes to a device or a pipe
 directly.
 
-Example: aig bench examples/two_gates.aag examples/two_gates.stim examples/two_gates.script
-Scripts and numbers are described in docs/BEHAVIOUR.md.";
+Example: aig bench examples/fifo.aag examples/fifo.stim examples/fifo.script
+See also: man aig, man 5 aig-formats";
 
 static AFTER_UNROLL: &str =
-    "The unrolled circuit has no latches: its inputs are those of each frame in turn, and then the latches that start
-at any value; outputs, bad state properties and constraints are those of each frame in turn. Where there are both bad
-state properties and constraints, each bad state property holds only where all constraints held so far, and no
-constraints are left.
+    "The unrolled circuit has no latches. Its inputs are the inputs of frame 0, frame
+1 and so on, then one input for each uninitialised latch. Its outputs, bad state
+properties and constraints are those of frame 0, frame 1 and so on. If a circuit
+has both bad state properties and constraints, the unrolled circuit has no
+constraints: each of its bad state properties is 1 only if all constraints are 1
+at all frames up to its own.
 
-A line of FILE is one of these, for the input at position N of the unrolled circuit; all numbers count from 0:
-  i N T P NAME  it is input P at frame T
-  l N P NAME    it is the start of latch P
-NAME is the symbol, if there is one. FILE is written once the unrolled circuit is, as bench writes its files.
+With --map, FILE has one line per input of the unrolled circuit. N is the
+position of the input, and all numbers count from 0:
+  i N T P NAME  the input is input P at frame T
+  l N P NAME    the input is the initial value of latch P
+NAME is the symbol, if there is one. unroll writes FILE after the circuit, in
+the same way as bench writes its files.
 
 Example: aig unroll --frames 3 --to aag examples/counter.aag
-The formats are described in docs/FORMATS.md.";
+See also: man aig, man 5 aig-formats";
 
 static AFTER_CHECK: &str =
-    "The verdict is the first that applies; latches, frames and constraints count from 0:
-  initial P       latch P starts at a value that its reset does not allow
+    "The verdict is the first of these that applies. Latches, frames and constraints
+count from 0:
+  initial P       the reset of latch P does not allow its value in the witness
   constraint T P  constraint P is not 1 at frame T
   not bad         the bad state property is not 1 at the last frame
-  confirmed       the run reaches the bad state, whatever the x of the witness turn out to be
-The status is 0 for confirmed, and 1 for any other verdict.
+  confirmed       the run reaches the bad state, whatever value each x takes
+The exit status is 0 for confirmed, and 1 for any other verdict.
 
-With --trace a line for each frame of the run comes first, as sim writes it, whatever the verdict.
+With --trace, check prints the run before the verdict, one line per frame as sim
+does, whatever the verdict is.
 
-A witness has the line 1, the line b and a position (as b0), a line of the latches' values, a line of the inputs' values
-for each frame, and the line . at its end.
+A witness has the line 1, a line b with a position (such as b0), a line with the
+latch values, a line with the input values for each frame, and a last line with
+a dot.
 
 Example: aig check examples/wraps.aag examples/wraps.wit
-Witnesses, and those of model checkers, are described in docs/FORMATS.md.";
+See also: man aig, man 5 aig-formats";
 
-static AFTER_INFO: &str = "A line holds a name, a space and a value; the names, in this order:
-  format         the format of the file, aag or aig
-  variables      the greatest variable
+static AFTER_INFO: &str = "A line has a name, one space and a value. The names, in this order:
+  format         format of the file, aag or aig
+  variables      maximum variable index (M)
   inputs, latches, outputs, gates, bad, constraints, justice, fairness
-                 how many there are of each
-  uninitialised  how many latches start at any value
-  levels         the greatest level: 0 for a source, one more than the greater right side's for a gate
-  fanout         how many gates read the variable that most gates read
-  symbols        how many entries have a name
-  comment        how many bytes the comment has
-  ready          yes where the format aig can hold the circuit as it stands, else no
+                 number of entries of each kind
+  uninitialised  number of latches that start at any value
+  levels         greatest level: inputs and latches have level 0, and a gate is
+                 one level above the higher of its right sides
+  fanout         largest fan-out of any variable
+  symbols        number of entries with a name
+  comment        length of the comment in bytes
+  ready          yes if the aig format can hold the circuit as it is, else no
 
 Example: aig info examples/counter.aag
-The lines are described in docs/BEHAVIOUR.md.";
+See also: man aig, man 5 aig-formats";
 
-static AFTER_ALL: &str =
-    "Exit status: 0 done, 1 refused input or a verdict other than confirmed, 2 wrong words, or words that ask for help
-or the version, 3 memory, input or output.
+static AFTER_ALL: &str = "Exit status:
+  0  done
+  1  the input was rejected, or the verdict is not confirmed
+  2  wrong arguments, or a request for help or for the version
+  3  out of memory, or an input or output error
 
 Example: aig sim examples/counter.aag examples/counter.stim
-What runs is described in docs/BEHAVIOUR.md, the formats in docs/FORMATS.md.";
+See also: man aig, man 5 aig-formats";
 
 fn format_argument<'a>(alloc: Global) -> Arg<'a> {
     let format = argument(
         alloc,
         "FORMAT",
-        "The format to write: aag is text, aig is binary",
+        "Format to write: aag (text) or aig (binary)",
     );
     one_of(format.long("to"))
 }
 
 fn one_of<'a>(argument: Arg<'a>) -> Arg<'a> {
-    argument.value_parser(ValueParser::Names(FORMATS.as_slice()))
+    argument
+        .value_parser(ValueParser::Names(FORMATS.as_slice()))
+        .hide_possible_values(true)
 }
 
 fn argument<'a>(alloc: Global, name: &'a str, help: &'a str) -> Arg<'a> {
@@ -132,7 +162,7 @@ fn circuit_argument<'a>(alloc: Global) -> Arg<'a> {
     argument(
         alloc,
         "CIRCUIT",
-        "The file of the circuit, in the format aag or aig",
+        "File of the circuit, in the format aag or aig",
     )
 }
 
@@ -140,7 +170,7 @@ fn stimulus_argument<'a>(alloc: Global) -> Arg<'a> {
     argument(
         alloc,
         "STIM",
-        "The file of the stimulus: a line for each frame, with a 0, 1 or x (unknown) for each input",
+        "File of the stimulus: one line per frame,\none 0, 1 or x (unknown) per input",
     )
 }
 
@@ -148,36 +178,35 @@ fn script_argument<'a>(alloc: Global) -> Arg<'a> {
     argument(
         alloc,
         "SCRIPT",
-        "The file of the script: a line for each edit or question",
+        "File of the script: one edit or query per line",
     )
 }
 
 fn frames_argument<'a>(alloc: Global) -> Arg<'a> {
-    let frames = argument(
-        alloc,
-        "K",
-        "The number of frames, at least 1 and at most 65536",
-    );
-    any_number(frames.long("frames"))
+    let frames = argument(alloc, "K", "Number of frames, from 1 to 65536");
+    number(frames.long("frames"))
 }
 
 fn map_argument<'a>(alloc: Global) -> Arg<'a> {
     kept_argument(
         alloc,
         "map",
-        "Writes what each input of the unrolled circuit is to FILE, a line each",
+        "Write to FILE what each input of the\nunrolled circuit is, one line per input",
     )
 }
 
-fn any_number<'a>(argument: Arg<'a>) -> Arg<'a> {
-    argument.value_parser(ValueParser::Unsigned(0, 4_294_967_295))
+// A negative number is a value, so that the message says what is wrong with it.
+fn number<'a>(argument: Arg<'a>) -> Arg<'a> {
+    argument
+        .value_parser(ValueParser::Signed(0, 4_294_967_295))
+        .allow_negative_numbers(true)
 }
 
 fn witness_argument<'a>(alloc: Global) -> Arg<'a> {
     argument(
         alloc,
         "WITNESS",
-        "The file of the witness: a run that is to reach a bad state",
+        "File of the witness: a run that should reach a bad state",
     )
 }
 
@@ -185,7 +214,7 @@ fn run_argument<'a>(alloc: Global) -> Arg<'a> {
     argument(
         alloc,
         "STIM",
-        "The file of the stimulus: a line a frame, a 0, 1 or x for each input; with --witness, that of the witness",
+        "File of the stimulus: one line per frame,\none 0, 1 or x (unknown) per input;\nwith --witness, file of the witness",
     )
 }
 
@@ -200,7 +229,7 @@ fn witness_flag<'a>(alloc: Global) -> Arg<'a> {
     flag(
         alloc,
         "witness",
-        "Writes the run of a witness, whose file stands in place of the stimulus",
+        "Dump the run of a witness instead of a stimulus",
     )
 }
 
@@ -208,13 +237,13 @@ fn trace_flag<'a>(alloc: Global) -> Arg<'a> {
     flag(
         alloc,
         "trace",
-        "Writes the trace of the witness's run, and then the verdict",
+        "Print the trace of the run before the verdict",
     )
 }
 
 fn toaig_command<'a>(alloc: Global) -> Result<Command<'a>, AllocError> {
     Command::new(alloc, "toaig")
-        .about("Writes a circuit in another format")
+        .about("Convert a circuit between the text and the binary format")
         .after_help(AFTER_TOAIG)
         .arg(format_argument(alloc))?
         .arg(circuit_argument(alloc))
@@ -222,7 +251,7 @@ fn toaig_command<'a>(alloc: Global) -> Result<Command<'a>, AllocError> {
 
 fn sim_command<'a>(alloc: Global) -> Result<Command<'a>, AllocError> {
     Command::new(alloc, "sim")
-        .about("Simulates a circuit, and writes a line for each frame")
+        .about("Simulate a circuit and print one line per frame")
         .after_help(AFTER_SIM)
         .arg(circuit_argument(alloc))?
         .arg(stimulus_argument(alloc))
@@ -230,7 +259,7 @@ fn sim_command<'a>(alloc: Global) -> Result<Command<'a>, AllocError> {
 
 fn wave_command<'a>(alloc: Global) -> Result<Command<'a>, AllocError> {
     Command::new(alloc, "wave")
-        .about("Simulates a circuit, and writes a value change dump for waveform viewers")
+        .about("Simulate a circuit and print a value change dump for waveform viewers")
         .after_help(AFTER_WAVE)
         .arg(witness_flag(alloc))?
         .arg(circuit_argument(alloc))?
@@ -248,7 +277,7 @@ fn circuit_out_argument<'a>(alloc: Global) -> Arg<'a> {
     kept_argument(
         alloc,
         "circuit-out",
-        "Writes the circuit that the script leaves to FILE, as text",
+        "Write the edited circuit to FILE, as text",
     )
 }
 
@@ -256,15 +285,13 @@ fn stimulus_out_argument<'a>(alloc: Global) -> Arg<'a> {
     kept_argument(
         alloc,
         "stimulus-out",
-        "Writes the rows that the script leaves to FILE, as a stimulus",
+        "Write the edited rows to FILE, as a stimulus",
     )
 }
 
 fn bench_command<'a>(alloc: Global) -> Result<Command<'a>, AllocError> {
     Command::new(alloc, "bench")
-        .about(
-            "Runs a script of edits and questions on a simulation, and writes a reply to each line",
-        )
+        .about("Run a script of edits and queries on a simulation")
         .after_help(AFTER_BENCH)
         .arg(circuit_out_argument(alloc))?
         .arg(stimulus_out_argument(alloc))?
@@ -275,7 +302,7 @@ fn bench_command<'a>(alloc: Global) -> Result<Command<'a>, AllocError> {
 
 fn unroll_command<'a>(alloc: Global) -> Result<Command<'a>, AllocError> {
     Command::new(alloc, "unroll")
-        .about("Unrolls a circuit for some frames, and writes the circuit without latches")
+        .about("Unroll a circuit for K frames into a circuit without latches")
         .after_help(AFTER_UNROLL)
         .arg(frames_argument(alloc))?
         .arg(format_argument(alloc))?
@@ -285,7 +312,7 @@ fn unroll_command<'a>(alloc: Global) -> Result<Command<'a>, AllocError> {
 
 fn check_command<'a>(alloc: Global) -> Result<Command<'a>, AllocError> {
     Command::new(alloc, "check")
-        .about("Checks that a witness reaches a bad state of a circuit, and writes the verdict")
+        .about("Check that a witness reaches a bad state, and print the verdict")
         .after_help(AFTER_CHECK)
         .arg(trace_flag(alloc))?
         .arg(circuit_argument(alloc))?
@@ -294,7 +321,7 @@ fn check_command<'a>(alloc: Global) -> Result<Command<'a>, AllocError> {
 
 fn info_command<'a>(alloc: Global) -> Result<Command<'a>, AllocError> {
     Command::new(alloc, "info")
-        .about("Tells what a circuit is, a line for each fact")
+        .about("Print facts about a circuit, one per line")
         .after_help(AFTER_INFO)
         .arg(circuit_argument(alloc))
 }
@@ -302,9 +329,7 @@ fn info_command<'a>(alloc: Global) -> Result<Command<'a>, AllocError> {
 fn program<'a>(alloc: Global) -> Command<'a> {
     Command::new(alloc, "aig")
         .version(VERSION)
-        .about(
-            "Converts, simulates and unrolls circuits in the AIGER formats (and-inverter graphs), checks witnesses and answers scripts",
-        )
+        .about("Convert, simulate, unroll and check circuits in the AIGER formats")
         .after_help(AFTER_ALL)
         .subcommand_required(true)
 }
@@ -327,36 +352,27 @@ fn command_line<'a>(alloc: Global) -> Result<Command<'a>, AllocError> {
     with_subcommand(checks, info_command(alloc))
 }
 
-/// Matches the words, of which the first is the program's name.
+/// Parses the arguments; the first is the program's name.
 pub fn matches_of<'a>(alloc: Global, words: &'a [String]) -> Result<ArgMatches<'a>, clap::Error> {
     command_line(alloc)?.try_get_matches_from(words)
 }
 
-/// The subcommand that was met, with its matches.
+/// Returns the subcommand with its own matches.
 pub fn subcommand_of<'m, 'a>(matches: &'m ArgMatches<'a>) -> Option<(&'a str, &'m ArgMatches<'a>)> {
     matches.subcommand()
 }
 
-/// The text of an argument.
+/// Returns the text of an argument.
 pub fn text_of<'a>(matches: &ArgMatches<'a>, name: &str) -> Option<&'a str> {
     matches.get_str(name)
 }
 
-/// The format that is chosen.
-pub fn format_of(matches: &ArgMatches<'_>) -> Option<Format> {
-    match text_of(matches, "FORMAT")? {
-        "aag" => Some(Format::Ascii),
-        "aig" => Some(Format::Binary),
-        _ => None,
-    }
-}
-
-/// The number of an argument.
+/// Returns the number of an argument.
 pub fn number_of(matches: &ArgMatches<'_>, name: &str) -> Option<u32> {
     matches.get_one::<u32>(name)
 }
 
-/// Whether a flag was met.
+/// Returns whether a flag was given.
 pub fn has_flag(matches: &ArgMatches<'_>, name: &str) -> bool {
     matches.get_flag(name)
 }

@@ -1,0 +1,94 @@
+"""The two manual pages, made from what the program's help says, from docs/BEHAVIOUR.md and from docs/FORMATS.md."""
+
+import os
+import re
+import subprocess
+
+from library.helptext import commands, examples
+from library.roff import Markdown, code_block, filled, lines, literal, prose, sections
+from library.runs import REPOSITORY, contents
+
+DATE = "2026-11-25"
+SEE_ALSO = ("abc", "gtkwave", "yosys")
+
+
+def asker(program):
+    """A function that runs the program under the name `aig`, and returns what it prints on standard error."""
+    def ask(*words):
+        return subprocess.run(["aig", *words], executable=os.path.abspath(program), stdin=subprocess.DEVNULL,
+                              capture_output=True, check=False).stderr.decode()
+    return ask
+
+
+def pages(ask):
+    """The texts of the manual pages by their names."""
+    version = ask("--version").split(" ")[1].strip()
+    return {"aig.1": aig_page(ask, version), "aig-formats.5": formats_page(version)}
+
+
+def document(name):
+    return contents(f"{REPOSITORY}/docs/{name}").decode()
+
+
+def head(name, section, version, kind, about):
+    """The head of a page. Its lines are neither stretched nor hyphenated, so that words can be found and copied, and a
+    sentence ends with one space wherever the source breaks its lines."""
+    return (f'.\\" man/make.py writes this page.\n.TH {name.upper()} {section} {DATE} "aig {version}" "{kind}"\n'
+            f".nh\n.ad l\n.ss 12 0\n.SH NAME\n{name.lower().replace('-', chr(92) + '-')} \\- {about}\n")
+
+
+def formats_page(version):
+    """aig-formats(5): all of FORMATS.md."""
+    text = document("FORMATS.md").split("\n", 1)[1]
+    intro, rest = re.split(r"(?m)^(?=## )", text, maxsplit=1)
+    markdown = Markdown({"BEHAVIOUR.md": "\\fBaig\\fP(1)"})
+    return (head("aig-formats", 5, version, "File Formats", "files that aig reads and writes")
+            + ".SH DESCRIPTION\n" + markdown.page(intro) + markdown.page(rest) + ".SH SEE ALSO\n\\fBaig\\fP(1)\n")
+
+
+def entries(items):
+    return "".join(f".TP\n.B {lines(literal(name))}{lines(prose(said))}" for name, said in items.items())
+
+
+def flowing(text):
+    """The text of a help, whose lines the page breaks anew: paragraphs, and lists of terms with their descriptions."""
+    page = ""
+    for block in re.findall(r"(?m)(?:^  .*\n?)+|(?:^(?!  ).+\n?)+", text):
+        page += terms(block) if block.startswith("  ") else f".PP\n{filled(prose(block))}"
+    return page
+
+
+def terms(block):
+    """A list of the help, `  TERM  TEXT`. Further lines of a text are indented more."""
+    rows = [re.split(r" {2,}|\n +", row.strip(), maxsplit=1) for row in re.split(r"(?m)^ {2}(?=\S)", block)[1:]]
+    width = max(len(term) for term, *_ in rows if len(term) <= 16) + 2
+    page = "".join(f".TP {width}\n.B {lines(literal(term))}{filled(prose(' '.join(told)))}" for term, *told in rows)
+    return f".RS 2\n.PD 0\n{page}.PD\n.RE\n"
+
+
+def said(one):
+    """The help's text after the options, without the examples and references: the page has sections for these."""
+    text = re.sub(r"(?m)^(Example|See also): .*\n?", "", one.after + "\n")
+    return text.strip("\n")
+
+
+def aig_page(ask, version):
+    """aig(1): the help of each command, and sections of BEHAVIOUR.md."""
+    overview, each = commands(ask)
+    text = head("aig", 1, version, "User Commands", "verified toolkit for circuits in the AIGER formats")
+    text += ".SH SYNOPSIS\n.nf\n" + "".join(lines(literal(one.usage)) for one in each.values()) + ".fi\n"
+    text += f".SH DESCRIPTION\n{lines(prose(overview.about + '.'))}.SH COMMANDS\n"
+    for name, one in each.items():
+        text += f".SS aig {name}\n{lines(prose(one.about + '.'))}" + entries(one.arguments) + entries(one.options)
+        text += flowing(said(one))
+    text += ".SH OPTIONS\n" + entries(overview.options)
+    text += ".SH EXIT STATUS\n" + flowing(re.sub(r"^Exit status:\n", "", said(overview)))
+    markdown = Markdown({"FORMATS.md": "\\fBaig\\-formats\\fP(5)"})
+    behaviour = sections(document("BEHAVIOUR.md"))
+    for name in ("Pipes, full devices and closed outputs", "Diagnostics", "Rejected circuits", "Limits"):
+        text += f".SH {name.upper()}\n" + markdown.page(behaviour[name])
+    text += ".SH EXAMPLES\nThese commands use files of the folder\n.BR examples ,\nwhich comes with the program.\n"
+    for one in each.values():
+        text += f".PP\n{lines(prose(one.about + ':'))}" + "".join(code_block(it) for it in examples(one))
+    return text + ".SH SEE ALSO\n\\fBaig\\-formats\\fP(5), " + ", ".join(
+        f"\\fB{name}\\fP(1)" for name in SEE_ALSO) + "\n"

@@ -1,0 +1,149 @@
+"""What bash and zsh complete: on a terminal, as a user types it; and in bash's function, for words that bash split."""
+
+import os
+import pty
+import select
+import shutil
+import signal
+import subprocess
+import time
+
+from library.runs import REPOSITORY, LeftOut, write
+
+FOLDER = REPOSITORY + "/completions"
+SECONDS = 20
+FILES = ("b.aig", "a.aag", "notes", "rows.stim", "with space.aag")
+
+# The words that bash splits a line into, the last of which is completed, and the answer.
+SPLIT = (
+    (["to"], ["toaig"]),
+    (["--v"], ["--version"]),
+    (["help", "un"], ["unroll"]),
+    (["toaig", "--"], ["--help", "--to"]),
+    (["toaig", "--to", ""], ["aag", "aig"]),
+    (["toaig", "--to", "aa"], ["aag"]),
+    (["toaig", "--to", "="], ["aag", "aig"]),
+    (["toaig", "--to", "=", "a"], ["aag", "aig"]),
+    (["toaig", "--to", "=", "ai"], ["aig"]),
+    (["toaig", "--to", "=", "aag", ""], ["a.aag", "b.aig", "sub", "with space.aag"]),
+    (["toaig", "--to", "aag", ""], ["a.aag", "b.aig", "sub", "with space.aag"]),
+    (["unroll", "--frames", "3", "--to", "=", "a"], ["aag", "aig"]),
+    (["unroll", "--frames", "="], []),
+    (["unroll", "--frames", "=", "3", "a"], ["a.aag"]),
+    (["unroll", "--map", "=", "n"], ["notes"]),
+    (["unroll", "--map", "n"], ["notes"]),
+    (["info", "w"], ["with space.aag"]),
+    (["info", "n"], ["notes"]),
+    (["sim", "a.aag", ""], ["a.aag", "b.aig", "notes", "rows.stim", "sub", "with space.aag"]),
+    (["wave", "--witness", "a"], ["a.aag"]),
+    (["check", "--trace", "a.aag", "ro"], ["rows.stim"]),
+)
+
+# Where `=` does not split words, the answer replaces the whole word.
+WHOLE = ((["toaig", "--to=a"], ["--to=aag", "--to=aig"]), (["unroll", "--map=n"], ["--map=notes"]))
+
+# What is typed on a terminal, with a tab at its end, and the arguments that the command then gets.
+TYPED = (
+    ("aig toai", ["toaig"]),
+    ("aig toaig --to=aa", ["toaig", "--to=aag"]),
+    ("aig toaig --to=ai", ["toaig", "--to=aig"]),
+    ("aig toaig --to ai", ["toaig", "--to", "aig"]),
+    ("aig unroll --frames=2 --to=aa", ["unroll", "--frames=2", "--to=aag"]),
+    ("aig unroll --map=no", ["unroll", "--map=notes"]),
+    ("aig info b", ["info", "b.aig"]),
+    ("aig info w", ["info", "with space.aag"]),
+    ("aig info no", ["info", "notes"]),
+    ("aig sim a.aag ro", ["sim", "a.aag", "rows.stim"]),
+    ("aig info \"with", ["info", "with space.aag"]),
+    ("aig info $PWD/no", ["info", "{here}/notes"]),
+    ("aig unroll --frames no", ["unroll", "--frames", "no"]),
+    ("aig unroll --frames=no", ["unroll", "--frames=no"]),
+)
+
+# The same, where each tab brings the next of what fits.
+IN_TURN = (
+    ("aig toaig --to=\t", ["toaig", "--to=aag"]),
+    ("aig toaig --to=\t\t", ["toaig", "--to=aig"]),
+    ("aig toaig --to \t\t", ["toaig", "--to", "aig"]),
+    ("aig info \t", ["info", "a.aag"]),
+    ("aig info \t\t", ["info", "b.aig"]),
+)
+
+SHELLS = {
+    "bash": (["bash", "--norc", "--noprofile", "-i"], f"source '{FOLDER}/aig.bash'\n", "bind 'TAB: menu-complete'\n"),
+    "zsh": (["zsh", "-f", "-i"], f"fpath=('{FOLDER}' $fpath); autoload -Uz compinit; compinit -u -D\n",
+            "setopt menu_complete\n"),
+}
+
+
+def completions(_, tally, __):
+    for name in FILES:
+        write(name, "")
+    os.mkdir("sub")
+    if not shutil.which("bash"):
+        raise LeftOut("there is no bash")
+    for breaks, cases in ((" \t\n\"'><=;|&(:", SPLIT), (" \t\n\"'><;|&(:", WHOLE)):
+        for words, wanted in cases:
+            tally.compare(f"completions: bash: {words}", replies(words, breaks), wanted)
+    try:
+        for end in pty.openpty():
+            os.close(end)
+    except OSError:
+        return "terminals left out, there are none: "
+    left_out = ""
+    for name, (command, setup, in_turn) in SHELLS.items():
+        if not shutil.which(name):
+            left_out += f"{name} left out, it is not here: "
+            continue
+        with Shell(command, setup) as shell:
+            for typed, wanted in TYPED:
+                wanted = [word.format(here=os.getcwd()) for word in wanted]
+                tally.compare(f"completions: {name}: {typed!r}", shell.arguments(typed + "\t"), wanted)
+            shell.talk(in_turn + "aig ready\n")
+            for typed, wanted in IN_TURN:
+                tally.compare(f"completions: {name}: {typed!r}", shell.arguments(typed), wanted)
+    return left_out
+
+
+def replies(words, breaks):
+    """What bash's function answers to the words of a line, of which the last is completed."""
+    script = """source "$1"; COMP_WORDBREAKS=$2; shift 2
+COMP_WORDS=(aig "$@"); COMP_CWORD=$#; COMP_LINE="${COMP_WORDS[*]}"; COMP_POINT=${#COMP_LINE}
+_aig aig "${COMP_WORDS[-1]}" "${COMP_WORDS[-2]}"; ((${#COMPREPLY[@]})) && printf '%s\\n' "${COMPREPLY[@]}" """
+    done = subprocess.run(["bash", "--norc", "-c", script, "bash", f"{FOLDER}/aig.bash", breaks, *words],
+                          stdin=subprocess.DEVNULL, capture_output=True, text=True, check=False)
+    return sorted(set(done.stdout.splitlines())) if not done.stderr else done.stderr
+
+
+class Shell:
+    """A shell on a terminal, in which `aig` is a function that prints its arguments."""
+
+    def __init__(self, command, setup):
+        self.command, self.setup = command, setup
+
+    def __enter__(self):
+        self.child, self.terminal = pty.fork()
+        if self.child == 0:
+            os.environ.update(TERM="dumb", PS1="", INPUTRC="/dev/null", HISTFILE="", LC_ALL="C", ZDOTDIR="/nonexistent")
+            os.execvp(self.command[0], self.command)
+        self.talk(self.setup + "PS1=; PROMPT=; RPS1=\naig() { printf '<%s>' \"$@\"; echo '<'E'ND>'; }\naig ready\n")
+        return self
+
+    def __exit__(self, *_):
+        os.kill(self.child, signal.SIGKILL)
+        os.close(self.terminal)
+        os.waitpid(self.child, 0)
+
+    def talk(self, text):
+        """Types this, and returns what is on the terminal up to the end of a command `aig`."""
+        os.write(self.terminal, text.encode())
+        seen, end = b"", time.monotonic() + SECONDS
+        while b"<END>" not in seen and time.monotonic() < end:
+            if select.select([self.terminal], [], [], 0.2)[0]:
+                seen += os.read(self.terminal, 65536)
+        return seen.decode(errors="replace")
+
+    def arguments(self, typed):
+        """The arguments that the command gets of a line that is typed with these keys."""
+        told = self.talk(typed + "\n").rsplit("<END>", 1)[0].replace("\r", "")
+        return told[told.index("<") + 1:told.rindex(">")].split("><") if ">" in told else told
