@@ -1,6 +1,5 @@
 """The manual pages and the completions, beside what the program's help says: every command and option stands in each,
-and none more. The manual pages are what man/make.py writes, and a terminal of 80 columns shows them whole, except for
-the longest lines of code in docs/FORMATS.md."""
+and none more. The manual pages are what man/make.py writes, and a terminal of 80 columns shows them whole."""
 
 import re
 import shutil
@@ -53,7 +52,6 @@ def is_shown(tally, name, file):
                            text=True, check=False)
     tally.compare(f"pages: man/{name}: warnings", shown.stderr, "")
     rows = shown.stdout.splitlines()
-    code = {line.strip() for line in contents(f"{REPOSITORY}/docs/FORMATS.md").decode().splitlines()}
-    tally.compare(f"pages: man/{name}: lines over 80 columns",
-                  [row for row in rows if len(row) > 80 and row.strip() not in code], [])
+    tally.compare(f"pages: man/{name}: lines over 80 columns (of code, 73 in docs/FORMATS.md)",
+                  [row for row in rows if len(row) > 80], [])
     tally.check(f"pages: man/{name}: its length", len(rows) > 100, len(rows))

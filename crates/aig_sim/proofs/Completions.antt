@@ -15,8 +15,8 @@ use Rattle.aig_base.proofs.values.OneValue.{have_one_value}
 use Rattle.aig_base.proofs.values.Refined.{AllZip-slice_get, kept}
 use Rattle.aig_sim.specs.declared.verdict.Verdict.TheVariants as verdict
 use Rattle.aig_grids.specs.InputRows.{HaveWidth}
-use Rattle.aig_sim.specs.Verdict.{Allows, StartsWrong, IsNotOne, IsVerdict, ReachesBad, IsConfirmed}
-use Rattle.aig_sim.specs.WitnessText.{Witness, IsAdmitted, SpellsWitness}
+use Rattle.aig_sim.specs.Verdict.{Allows, StartsWrong, IsNotOne, IsVerdict, IsConfirmed}
+use Rattle.aig_sim.specs.WitnessText.{Witness}
 use Rattle.aig_values.proofs.TraceLemmas.{all_zip_from}
 use Rattle.aig_sim.proofs.VerdictLemmas.{bad_defined, constraint_defined}
 use Rattle.aig_sim.proofs.WitnessLemmas.{no_rows}

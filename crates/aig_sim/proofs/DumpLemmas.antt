@@ -1,13 +1,12 @@
 -- The text of a value change dump.
-use Rattle.std.proofs.Common.{◌≡◌, ◌≢◌, ℕ, zero, suc, ◌+◌, ◌/◌, ◌%◌, ◌<◌, ◌≤◌, Bool, true, false, nat_lt, List, [], ◌∷◌, ◌++◌, length, map, replicate, drop, get_or, refl, sym, ap, ◌∙◌, arith}
+use Rattle.std.proofs.Common.{◌≡◌, ◌≢◌, ℕ, zero, suc, ◌+◌, ◌<◌, ◌≤◌, Bool, true, false, List, [], ◌∷◌, ◌++◌, length, map, replicate, drop, get_or, refl, ap, ◌∙◌, arith}
 use Rattle.std.specs.Prelude.{◌==◌, if◌then◌else◌, codes}
-use Rattle.std.proofs.lemmas.Bool.{le-ltb, lt-ltb, ltb-false, eqb-true}
+use Rattle.std.proofs.lemmas.Bool.{eqb-true}
 use Rattle.std.proofs.lemmas.List.{drop_more, drop_all}
 use Rattle.aig_parts.specs.declared.ternary.Tern.{Tern}
 use Rattle.aig_parts.specs.declared.ternary.Tern.TheVariants.{Zero, One, X}
 use Rattle.aig_grids.specs.Cells.{literal_value}
 use Rattle.aig_sim.specs.Dump.{value_line, all_lines, changed_lines}
-use Rattle.aig_sim.specs.DumpNames.{code_digits, identifier_code}
 use Rattle.aig_sim.specs.state.Dumping.{number_line, dumped_text}
 use Rattle.aig_grids.specs.Characters.{character}
 use Rattle.aig_grids.specs.TraceText.{literal_character}
@@ -24,40 +23,6 @@ eqb_cases a b false e ne = e
 
 pub eqb_no : (a b : ℕ) → a ≢ b → (a == b) ≡ false
 eqb_no a b ne = eqb_cases a b (a == b) refl ne
-
--- ---- identifier codes
-digits_step : (j k n : ℕ) (b : Bool) → nat_lt n 94 ≡ b → n < suc j → n < suc k
-    → (n / 94 < j → n / 94 < k → code_digits j (n / 94) ≡ code_digits k (n / 94)) → code_digits (suc j) n ≡ code_digits (suc k) n
-unfolding code_digits
-digits_step j k n true e p q h =
-    ap (λ (ds : List ℕ). (33 + n % 94) ∷ ds)
-    (if_true (nat_lt n 94) [] (code_digits j (n / 94)) e ∙ sym (if_true (nat_lt n 94) [] (code_digits k (n / 94)) e))
-digits_step j k n false e p q h =
-    let le = ltb-false n 94 e in
-    ap (λ (ds : List ℕ). (33 + n % 94) ∷ ds)
-    (if_false (nat_lt n 94) [] (code_digits j (n / 94)) e ∙ h (omega (arith, le, p)) (omega (arith, le, q))
-    ∙ sym (if_false (nat_lt n 94) [] (code_digits k (n / 94)) e))
-
-digits_enough : (j k n : ℕ) → n < j → n < k → code_digits j n ≡ code_digits k n
-digits_enough zero k n p q = absurd (omega (arith, p))
-digits_enough (suc j) zero n p q = absurd (omega (arith, q))
-digits_enough (suc j) (suc k) n p q = digits_step j k n (nat_lt n 94) refl p q (λ a b. digits_enough j k (n / 94) a b)
-
--- a code of one digit
-pub code_last : (n : ℕ) → n < 94 → identifier_code n ≡ (33 + n) ∷ []
-unfolding code_digits
-code_last n lt =
-    let same : n % 94 ≡ n = omega (arith, lt) in
-    let none = if_true (nat_lt n 94) [] (code_digits n (n / 94)) (lt-ltb n 94 lt) in
-    λ i. (33 + same i) ∷ none i
-
--- a code of more
-pub code_more : (n : ℕ) → 94 ≤ n → identifier_code n ≡ (33 + n % 94) ∷ identifier_code (n / 94)
-unfolding code_digits
-code_more n le =
-    ap (λ (ds : List ℕ). (33 + n % 94) ∷ ds)
-    (if_false (nat_lt n 94) [] (code_digits n (n / 94)) (le-ltb n 94 le)
-    ∙ digits_enough n (suc (n / 94)) (n / 94) (omega (arith, le)) (omega arith))
 
 -- ---- values
 no_zero : (w : Tern) → (0 == character w) ≡ false

@@ -1,17 +1,15 @@
 -- The lines of a dump's text, and those of its header.
-use Rattle.std.proofs.Common.{◌≡◌, ◌≢◌, ℕ, zero, suc, ◌+◌, eqb, Bool, false, List, [], ◌∷◌, ◌++◌, slice_get, Some, All, refl, sym, ap, ◌∙◌, subst, arith, append_assoc}
-use Rattle.std.specs.Prelude.{◌==◌, ◌||◌, codes}
+use Rattle.std.proofs.Common.{◌≡◌, ◌≢◌, ℕ, eqb, Bool, false, List, [], ◌∷◌, ◌++◌, slice_get, Some, All, refl, sym, ap, ◌∙◌, subst, arith, append_assoc}
+use Rattle.std.specs.Prelude.{◌==◌, ◌||◌}
+use Rattle.std.specs.List.{flat_map}
 use Rattle.std.proofs.lemmas.Bool.{ne_eqb, eqb-false, or_parts}
 use Rattle.std.proofs.lemmas.List.{append-nil}
 use Rattle.std.proofs.lemmas.List.Elements.{All-nil, All-cons, All-head, All-tail, All-append}
 use Rattle.aig_parts.specs.declared.raw.Raw.{Raw}
-use Rattle.aig_parts.specs.declared.symbols.Kind.{Kind}
-use Rattle.aig_parts.specs.declared.symbols.Kind.TheVariants.{Input, Latch, Output, Bad, Constraint}
-use Rattle.aig_sim.specs.DumpHeader.{signal_line, signal_lines, scope, scopes, header}
-use Rattle.aig_sim.specs.DumpNames.{identifier_code, name_of}
+use Rattle.aig_sim.specs.DumpHeader.{signal_counts, header}
 use Rattle.aig_sim.specs.DumpRead.{lines_behind, lines}
-use Rattle.aig_sim.proofs.DumpCodes.{IsVisible, visible_code}
-use Rattle.aig_sim.proofs.VisibleNames.{visible_name}
+use Rattle.aig_dump_header.proofs.Codes.{IsVisible}
+use Rattle.aig_dump_header.proofs.HeaderLines.{lines_of_header}
 
 -- ---- one line
 abbrev pub HasNoEnd : List ℕ → Type 0
@@ -74,75 +72,20 @@ directives_then a b h k = record {
 }
 
 -- ---- the header
-no_end_then : (a b : List ℕ) → HasNoEnd a → HasNoEnd b → HasNoEnd (a ++ b)
-no_end_then a b h k = All-append (λ b. b ≢ 10) a b h k
-
-words_then : (a b : List ℕ) → has_end a ≡ false → HasNoEnd b → HasNoEnd (a ++ b)
-words_then a b h k = no_end_then a b (no_end_by_test a h) k
-
-signal_directive : (type : List ℕ) (n : ℕ) (name : List ℕ) → HasNoEnd type → HasNoEnd name
-    → AreDirectives (signal_line type n name)
-signal_directive type n name h k =
-    let end : List ℕ = codes " $end" in
-    let line : List ℕ = codes "$var " ++ (type ++ (codes " 1 " ++ (identifier_code n ++ (32 ∷ (name ++ end))))) in
-    let no_end : HasNoEnd line =
-    words_then (codes "$var ") _ refl
-    (no_end_then type _ h
-    (words_then (codes " 1 ") _ refl
-    (no_end_then (identifier_code n) _ (no_end_visible (identifier_code n) (visible_code n))
-    (words_then (codes " ") _ refl (no_end_then name end k (no_end_by_test end refl)))))) in
-    let same : line ++ (10 ∷ []) ≡ signal_line type n name = simp append_assoc in
-    subst AreDirectives same (directive_then line [] refl no_end no_directive)
-
-signals_directives : (raw : Raw) (kind : Kind) (type : List ℕ) (n p : ℕ) → HasNoEnd type
-    → AreDirectives (signal_lines raw kind type n p)
-unfolding signal_lines
-signals_directives raw kind type n zero h = no_directive
-signals_directives raw kind type n (suc p) h =
-    let name : List ℕ = name_of raw kind p in
-    directives_then (signal_lines raw kind type n p) (signal_line type (n + p) name)
-    (signals_directives raw kind type n p h)
-    (signal_directive type (n + p) name h (no_end_visible name (visible_name raw kind p)))
-
-scope_directives : (raw : Raw) (kind : Kind) (module_name type : List ℕ) (n p : ℕ) → HasNoEnd module_name
-    → HasNoEnd type → AreDirectives (scope raw kind module_name type n p)
-unfolding scope
-scope_directives raw kind module_name type n zero h k = no_directive
-scope_directives raw kind module_name type n (suc p) h k =
-    let end : List ℕ = codes " $end" in
-    let signals : List ℕ = signal_lines raw kind type n (suc p) in
-    let last : List ℕ = codes "$upscope $end" ++ 10 ∷ [] in
-    let line : List ℕ = codes "$scope module " ++ (module_name ++ end) in
-    let no_end : HasNoEnd line =
-    words_then (codes "$scope module ") _ refl (no_end_then module_name end h (no_end_by_test end refl)) in
-    let same : line ++ (10 ∷ (signals ++ last)) ≡ scope raw kind module_name type n (suc p) = simp append_assoc in
-    subst AreDirectives same
-    (directive_then line (signals ++ last) refl no_end
-    (directives_then signals last (signals_directives raw kind type n (suc p) k)
-    (directive_then (codes "$upscope $end") [] refl (no_end_by_test (codes "$upscope $end") refl) no_directive)))
-
-scopes_directives : (raw : Raw) → AreDirectives (scopes raw)
-unfolding scopes
-scopes_directives raw =
-    let wire : HasNoEnd (codes "wire") = no_end_by_test (codes "wire") refl in
-    let reg : HasNoEnd (codes "reg") = no_end_by_test (codes "reg") refl in
-    directives_then _ _ (scope_directives raw Input _ _ _ _ (no_end_by_test (codes "inputs") refl) wire)
-    (directives_then _ _ (scope_directives raw Latch _ _ _ _ (no_end_by_test (codes "latches") refl) reg)
-    (directives_then _ _ (scope_directives raw Output _ _ _ _ (no_end_by_test (codes "outputs") refl) wire)
-    (directives_then _ _ (scope_directives raw Bad _ _ _ _ (no_end_by_test (codes "bad") refl) wire)
-    (scope_directives raw Constraint _ _ _ _ (no_end_by_test (codes "constraints") refl) wire))))
-
-directive_words : (line rest : List ℕ) → IsDirective line → has_end line ≡ false → AreDirectives rest
-    → AreDirectives (line ++ (10 ∷ rest))
-directive_words line rest is no_end h = directive_then line rest is (no_end_by_test line no_end) h
+lines_directives : (each : List (List ℕ)) → All (λ line. HasNoEnd line × IsDirective line) each
+    → AreDirectives (flat_map (λ line. line ++ 10 ∷ []) each)
+lines_directives [] h = no_directive
+lines_directives (line ∷ each) h =
+    let (no_end, is) = All-head (λ line. HasNoEnd line × IsDirective line) line each h in
+    subst AreDirectives (sym (append_assoc line (10 ∷ []) (flat_map (λ line. line ++ 10 ∷ []) each)))
+    (directive_then line (flat_map (λ line. line ++ 10 ∷ []) each) is no_end
+    (lines_directives each (All-tail (λ line. HasNoEnd line × IsDirective line) line each h)))
 
 pub header_directives : (raw : Raw) → AreDirectives (header raw)
 unfolding header
 header_directives raw =
-    directive_words (codes "$version aig $end") _ refl refl
-    (directive_words (codes "$timescale 1 ns $end") _ refl refl
-    (directives_then (scopes raw) _ (scopes_directives raw)
-    (directive_words (codes "$enddefinitions $end") [] refl refl no_directive)))
+    let (each, text_is, all) = lines_of_header raw.symbols (signal_counts raw) in
+    subst AreDirectives (sym text_is) (lines_directives each all)
 
 pub header_lines : (raw : Raw) → All IsDirective (lines (header raw))
 unfolding lines_behind

@@ -1,9 +1,7 @@
 pub mod Completions
-pub mod DumpCodes
 pub mod DumpFrames
 pub mod DumpLemmas
 pub mod DumpLines
-pub mod DumpNameLemmas
 pub mod DumpReading
 pub mod DumpRuns
 pub mod DumpedLemmas
@@ -14,5 +12,4 @@ pub mod RunTexts
 pub mod SimulationLemmas
 pub mod StepLemmas
 pub mod VerdictLemmas
-pub mod VisibleNames
 pub mod WitnessLemmas

@@ -1,12 +1,10 @@
 -- What a run shows of a witness.
-use Rattle.std.proofs.Common.{◌≡◌, ◌≢◌, ◌⊎◌, inl, inr, ℕ, zero, suc, ◌+◌, ◌-◌, ◌*◌, ◌<◌, ◌≤◌, List, [], ◌∷◌, ◌++◌, length, map, flat_map, take, drop, get_or, Some, slice_get, Contains, All, refl, sym, ap, ◌∙◌, subst, arith, append_assoc}
-use Rattle.std.specs.Prelude.{min}
-use Rattle.std.specs.List.{AllZip}
+use Rattle.std.proofs.Common.{◌≡◌, ◌≢◌, inl, inr, ℕ, ◌+◌, ◌-◌, ◌<◌, ◌≤◌, List, [], ◌∷◌, ◌++◌, length, map, flat_map, take, drop, get_or, Some, slice_get, Contains, sym, ap, ◌∙◌, subst, arith, append_assoc}
 use Rattle.std.proofs.lemmas.Bool.{cases_eq}
 use Rattle.std.proofs.lemmas.List.Elements.{All-contains, Contains-append_left, Contains-append_right}
-use Rattle.std.proofs.lemmas.Option.{slice_get-get_or, slice_get_within}
+use Rattle.std.proofs.lemmas.Option.{slice_get_within}
 use Rattle.aig_parts.specs.declared.ternary.Tern.{Tern}
-use Rattle.aig_parts.specs.declared.ternary.Tern.TheVariants.{Zero, One, X}
+use Rattle.aig_parts.specs.declared.ternary.Tern.TheVariants.{One}
 use Rattle.aig_parts.specs.declared.latch.Latch.{Latch}
 use Rattle.aig_parts.specs.declared.raw.Raw.{Raw}
 use Rattle.aig_base.specs.Circuit.{IsCircuit}
@@ -21,7 +19,7 @@ use Rattle.aig_sim.specs.declared.verdict.Verdict.{Verdict}
 use Rattle.aig_sim.specs.declared.verdict.Verdict.TheVariants as verdict
 use Rattle.aig_sim.specs.declared.witness_text.WitnessParts.{WitnessParts}
 use Rattle.aig_sim.specs.state.Checking.{ArePartsOf, BeginsWithRow, ReadsNotOne, HasRun, HoldConstraints, IsFirstFailure}
-use Rattle.aig_values.specs.state.Frame.{Holds, HoldsAll, AreStates}
+use Rattle.aig_values.specs.state.Frame.{HoldsAll, AreStates}
 use Rattle.aig_sim.specs.state.Machine.{Steps}
 use Rattle.aig_grids.specs.Characters.{character}
 use Rattle.aig_grids.specs.InputRows.{HaveWidth}

@@ -1,6 +1,5 @@
 pub mod Dump
 pub mod DumpHeader
-pub mod DumpNames
 pub mod DumpRead
 pub mod Dumped
 pub mod LineInHand

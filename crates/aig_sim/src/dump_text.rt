@@ -3,7 +3,7 @@ ghost use Rattle.std.specs.Prelude.{◌≡◌, ◌<◌, ◌^◌, ◌==◌, if◌
 ghost use Rattle.aig_bytes.specs.Bytes.{Writes};
 ghost use Rattle.aig_bytes.specs.state.Gathered.{Gathers};
 ghost use Rattle.aig_sim.specs.Dump.{value_line, changed_lines};
-ghost use Rattle.aig_sim.specs.DumpNames.{identifier_code};
+ghost use Rattle.aig_dump_header.specs.Names.{identifier_code};
 ghost use Rattle.aig_sim.specs.state.Dumping.{number_line, dumped_text};
 
 use aig_base::{Io, Write};

@@ -4,12 +4,12 @@ ghost use Rattle.aig_bytes.specs.Bytes.{Writes};
 ghost use Rattle.aig_sim.specs.Dumped.{Dumps};
 ghost use Rattle.aig_sim.specs.state.Dumping.{ending};
 
-use crate::dump_header::write_header;
+use crate::dump_header::circuit_header;
 use crate::dump_recorder::DumpRecorder;
 use crate::dump_text::write_time;
 use crate::simulation::Simulation;
 use crate::stimulus_fault::StimFault;
-use aig_base::{Circuit, Io, Read, Write};
+use aig_base::{Circuit, Io, Read, Write, write_all};
 use std::alloc::Global;
 
 /// Writes the end behind so many frames.
@@ -23,8 +23,8 @@ pub fn write_end<W: Write>(out: &mut W, frames: u64) -> Result<(), Io>
 }
 
 /// Reads rows to the end, writes a value change dump of their frames (IEEE 1364), and answers how many there were
-/// (`u64::MAX` for more). The header goes out before the first read. It keeps what `simulate` keeps, and for each
-/// signal its literal and two characters, all reserved before the header is written; there is no limit on frames. It
+/// (`u64::MAX` for more). The header goes out before the first read. It keeps what `simulate` keeps, the header, and
+/// for each signal its literal and two characters, all reserved before the header is written; there is no limit on frames. It
 /// flushes before each read. At a fault in line n the frames of the n - 1 rows before it are written, without the line
 /// that ends a dump; where memory runs out, nothing was read or written.
 pub fn dump<R: Read, W: Write>(
@@ -40,9 +40,10 @@ pub fn dump<R: Read, W: Write>(
     ensures memory { IfErr result (λ fault. fault ≡ StimFault.Memory → (reader.new ≡ reader.old)
         × (out.new ≡ out.old)) }
 {
+    let header = circuit_header(alloc, circuit)?;
     let recorder = DumpRecorder::new(alloc, circuit)?;
     let mut simulation = Simulation::new(alloc, circuit, recorder)?;
-    write_header(out, circuit)?;
+    write_all(out, header.as_slice())?;
     let frames = simulation.run(reader, out)?;
     write_end(out, frames)?;
     Ok(frames)

@@ -1,16 +1,15 @@
 //! What holds of all texts of stimuli, witnesses and dumps. Each law is a function that does nothing: its contract is
 //! the law.
-ghost use Rattle.std.specs.Prelude.{◌≡◌, ◌≢◌, ℕ, ◌<◌, ◌≤◌, ◌^◌, List, ◌++◌, length, slice_get, Some, All};
+ghost use Rattle.std.specs.Prelude.{◌≡◌, ◌↔◌, ℕ, ◌<◌, ◌≤◌, ◌^◌, List, ◌++◌, length, slice_get, Some, All, Contains};
 ghost use Rattle.aig_parts.specs.declared.ternary.Tern.{Tern};
 ghost use Rattle.aig_sim.specs.declared.stimulus_fault.StimFault.{StimFault};
 ghost use Rattle.aig_parts.specs.declared.raw.Raw.{Raw};
-ghost use Rattle.aig_parts.specs.declared.symbols.Kind.{Kind};
-ghost use Rattle.aig_parts.specs.Formed.{IsFormed};
 ghost use Rattle.aig_parts.specs.Limits.{frame_limit};
 ghost use Rattle.aig_base.specs.Sound.{IsSound};
 ghost use Rattle.aig_sim.specs.Dump.{AreFrames, IsDump};
-ghost use Rattle.aig_sim.specs.DumpHeader.{header};
-ghost use Rattle.aig_sim.specs.DumpNames.{identifier_code, name_of};
+ghost use Rattle.aig_dump_header.specs.HeaderRead.{read_names, NamesSignal};
+ghost use Rattle.aig_sim.specs.DumpHeader.{signal_counts, header};
+ghost use Rattle.aig_dump_header.specs.Names.{identifier_code};
 ghost use Rattle.aig_sim.specs.DumpRead.{lines, ShowsFrames};
 ghost use Rattle.aig_sim.specs.StimulusText.{SpellsRows, HasFaultyLine};
 ghost use Rattle.aig_sim.specs.WitnessText.{Witness, SpellsWitness};
@@ -35,9 +34,10 @@ pub fn law_of_witness_text()
 {}
 
 /// A viewer of a dump sees the run: in sound parts, the last value that stands for a signal's code at a time at most t
-/// is the signal's value at frame t, also where the dump breaks off behind one of its frames. Two signals have two
-/// codes; codes and names have visible bytes alone, no name begins with `$`, in formed parts none is empty, and each
-/// line of the header begins with `$`, so that none is taken for a time or a value (IEEE 1364, value change dump).
+/// is the signal's value at frame t, also where the dump breaks off after one of its frames. Two signals have two
+/// codes, which have visible bytes alone. A reader of the header finds exactly the names of each entry, in the scope of
+/// its section and in its own scopes, each with the code of that entry. Each line of the header begins with `$`, so that
+/// none is taken for a time or a value (IEEE 1364, value change dump). `law_of_dump_header` says more of names.
 pub fn law_of_dump()
     ensures shows { (raw : Raw) (start : List Tern) (rows : List (List Tern)) (text : List ℕ) →
         IsSound raw → length rows < 2 ^ 64 → IsDump raw start rows text →
@@ -47,8 +47,7 @@ pub fn law_of_dump()
         ShowsFrames raw start rows k (header raw ++ frames) }
     ensures one_code { (m n : ℕ) → identifier_code m ≡ identifier_code n → m ≡ n }
     ensures code { (n : ℕ) → All (λ b. (33 ≤ b) × (b ≤ 126)) (identifier_code n) }
-    ensures name { (raw : Raw) (kind : Kind) (p : ℕ) → All (λ b. (33 ≤ b) × (b ≤ 126)) (name_of raw kind p) }
-    ensures no_keyword { (raw : Raw) (kind : Kind) (p : ℕ) → slice_get (name_of raw kind p) 0 ≢ Some 36 }
-    ensures some_name { (raw : Raw) (kind : Kind) (p : ℕ) → IsFormed raw → 0 < length (name_of raw kind p) }
+    ensures names { (raw : Raw) (path : List (List ℕ)) (code : List ℕ) →
+        Contains (read_names (header raw)) (path, code) ↔ NamesSignal raw.symbols (signal_counts raw) path code }
     ensures directives { (raw : Raw) → All (λ line. slice_get line 0 ≡ Some 36) (lines (header raw)) }
 {}

@@ -21,6 +21,7 @@ mod witness;
 mod witness_fault;
 mod witness_text;
 
+pub use aig_dump_header::law_of_dump_header;
 pub use aig_values::{
     ByteGrid, FRAMES, Grid, PlaneGrid, Stimulus, first_value, stand_in_order, write_trace,
 };

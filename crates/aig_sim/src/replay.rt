@@ -3,20 +3,21 @@ ghost use Rattle.std.specs.Prelude.{◌≡◌, length, replicate};
 ghost use Rattle.aig_parts.specs.declared.raw.Raw.{Raw};
 ghost use Rattle.aig_parts.specs.declared.ternary.Tern.{Tern};
 ghost use Rattle.aig_sim.specs.Dump.{signals, IsDump};
+ghost use Rattle.aig_sim.specs.DumpHeader.{header};
 ghost use Rattle.aig_bytes.specs.Flow.{flow};
 ghost use Rattle.aig_sim.specs.Replayed.{Replays};
 ghost use Rattle.aig_values.specs.Trace.{IsTrace};
 ghost use Rattle.aig_sim.specs.WitnessText.{Witness};
 ghost use Rattle.aig_sim.specs.state.Replaying.{BeginsRun, NoneTold, WritesFrames, WritesRun};
 
-use crate::dump_header::write_header;
+use crate::dump_header::circuit_header;
 use crate::dump_recorder::DumpRecorder;
 use crate::dumping::write_end;
 use crate::machine::Machine;
 use crate::recorder::{Recorder, TraceRecorder};
 use crate::replay_fault::ReplayFault;
 use crate::witness::{WitnessRun, admitted_parts, read_values};
-use aig_base::{Circuit, Io, Tern, Write};
+use aig_base::{Circuit, Io, Tern, Write, write_all};
 use std::alloc::Global;
 
 // Simulates so many frames, and writes what is told of each.
@@ -72,6 +73,7 @@ fn write_trace<W: Write>(
 fn write_dump<W: Write>(
     run: &mut WitnessRun<'_>,
     recorder: &mut DumpRecorder,
+    head: &[u8],
     rows: &[u8],
     frames: u32,
     out: &mut W,
@@ -81,11 +83,12 @@ fn write_dump<W: Write>(
     requires literals { recorder.old.literals.items ≡ signals run.old.machine.circuit }
     requires last { recorder.old.last.items ≡ replicate (length (signals run.old.machine.circuit)) 0 }
     requires size { length recorder.old.characters.items ≡ length (signals run.old.machine.circuit) }
+    requires head { head.now ≡ header run.old.machine.circuit }
     ensures { (w : Witness) → BeginsRun run.old.machine.circuit w run.old.machine.states rows.now frames →
         WritesRun (λ raw start rows text. IsDump raw start rows text) run.old.machine.circuit w W.written W.failures
         out.old out.new result }
 {
-    write_header(out, run.machine.circuit())?;
+    write_all(out, head)?;
     write_frames(&mut run.machine, &mut run.row, recorder, rows, frames, out)?;
     write_end(out, frames as u64)
 }
@@ -111,8 +114,8 @@ pub fn trace_witness<W: Write>(
 
 /// Writes a value change dump (IEEE 1364) of the run that a witness describes, as `dump` writes dumps: from the
 /// witness's own start, over all its rows, whatever its verdict. What is refused is what `check_witness` refuses, and
-/// then nothing is written. It keeps what `check_witness` keeps, and for each signal its literal and two characters,
-/// all reserved before the first byte is written.
+/// then nothing is written. It keeps what `check_witness` keeps, the header, and for each signal its literal and two
+/// characters, all reserved before the first byte is written.
 pub fn dump_witness<W: Write>(
     alloc: Global,
     circuit: &Circuit,
@@ -123,11 +126,13 @@ pub fn dump_witness<W: Write>(
         (flow W.written W.failures out.old out.new) result }
 {
     let parts = admitted_parts(circuit, text)?;
+    let header = circuit_header(alloc, circuit)?;
     let mut recorder = DumpRecorder::new(alloc, circuit)?;
     let mut run = WitnessRun::new(alloc, circuit, &parts)?;
     write_dump(
         &mut run,
         &mut recorder,
+        header.as_slice(),
         parts.rows,
         parts.frames as u32,
         out,

@@ -1,4 +1,4 @@
-use Rattle.aig_sim.specs.DumpNames.{identifier_code}
+use Rattle.aig_dump_header.specs.Names.{identifier_code}
 use Rattle.aig_values.proofs.GatherLemmas.{Partly}
 use Rattle.aig_sim.proofs.dump_text.put_code.Given as goal
 

@@ -10,6 +10,12 @@ returns-in_err-parts g c =
     g.W.Write.failures c.args.out.now c.args.out.now c.in_err-parts.field-0.0 c.from_residual.result
     c.from_residual.ensures.1 c.in_err-parts.ensures.fault refl
 
+pub returns-in_err-header : goal.returns-in_err-header
+returns-in_err-header g c =
+    not_replayed (λ raw start rows text. IsDump raw start rows text) c.args.circuit.now c.args.text.now g.W.Write.written
+    g.W.Write.failures c.args.out.now c.args.out.now Memory c.from_residual-in_err-header.result
+    c.from_residual-in_err-header.ensures.1 tt refl
+
 pub returns-in_err-recorder : goal.returns-in_err-recorder
 returns-in_err-recorder g c =
     not_replayed (λ raw start rows text. IsDump raw start rows text) c.args.circuit.now c.args.text.now g.W.Write.written

@@ -1,5 +1,4 @@
-use Rattle.std.proofs.Common.{◌≡◌, get_or, take, length, subst, sym, ◌∙◌, arith}
-use Rattle.std.specs.Prelude.{List, ℕ}
+use Rattle.std.proofs.Common.{length, subst, arith}
 use Rattle.std.proofs.lemmas.List.{get_or-take, length-take}
 use Rattle.aig_sim.specs.StimulusText.{IsCharacter}
 use Rattle.aig_sim.proofs.WitnessLemmas.{row_is_characters, row_is_long}

@@ -1,4 +1,4 @@
-use Rattle.std.proofs.Common.{◌≡◌, ℕ, List, length, drop}
+use Rattle.std.proofs.Common.{◌≡◌, List, length, drop}
 use Rattle.aig_parts.specs.declared.ternary.Tern.{Tern}
 use Rattle.aig_sim.specs.state.Checking.{HasRun}
 use Rattle.aig_grids.specs.InputRows.{HaveWidth}

@@ -1,6 +1,4 @@
-use Rattle.std.proofs.Common.{◌≡◌, [], sym, ap, ◌∙◌, length, arith, subst}
-use Rattle.std.specs.Prelude.{List, ℕ}
-use Rattle.aig_parts.specs.declared.ternary.Tern.{Tern}
+use Rattle.std.proofs.Common.{sym, ap, ◌∙◌, length}
 use Rattle.aig_sim.specs.WitnessText.{rows_text}
 use Rattle.aig_sim.proofs.WitnessLemmas.{if_none, same_line, no_rows, one_rows}
 use Rattle.aig_sim.proofs.witness_text.body_of.Goals as goal

@@ -2,7 +2,7 @@ use Rattle.std.specs.Prelude.{List, ℕ, not}
 use lib.Pointwise.{pointwise}
 use lib.Dec.{eqb}
 use Rattle.std.proofs.lemmas.Bool.{false≢true}
-use Rattle.std.proofs.Common.{◌≡◌, [], sym, ◌∷◌, length, map, ap, ◌∙◌, arith}
+use Rattle.std.proofs.Common.{[], sym, ◌∷◌, length, map, ap, ◌∙◌, arith}
 use Rattle.std.proofs.lemmas.List.{length-append}
 use Rattle.aig_grids.specs.Characters.{character}
 use Rattle.aig_sim.proofs.WitnessLemmas.{if_none, no_frames, rows_more}

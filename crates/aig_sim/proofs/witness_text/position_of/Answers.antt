@@ -1,7 +1,5 @@
-use Rattle.std.proofs.Common.{◌≡◌, ◌+◌, ◌*◌, ◌<◌, ◌∷◌, arith, sym, ap, ◌∙◌, refl, subst, get_or, length}
-use Rattle.std.specs.Prelude.{List, ℕ, min}
+use Rattle.std.proofs.Common.{arith, sym, ◌∙◌}
 use Rattle.std.proofs.lemmas.Bool.{false≢true}
-use Rattle.aig_sim.specs.WitnessText.{IsDecimal}
 use Rattle.aig_sim.proofs.WitnessLemmas.{zero_is_alone, digits_are, number_more}
 use Rattle.aig_sim.proofs.witness_text.position_of.Goals as goal
 

@@ -1,4 +1,4 @@
-use Rattle.std.proofs.Common.{◌≡◌, ◌≢◌, ◌≤◌, ◌<◌, ℕ, take, All, get_or}
+use Rattle.std.proofs.Common.{◌≡◌, ◌≢◌, ◌≤◌, ◌<◌, ℕ, take, get_or}
 use Rattle.std.specs.Prelude.{min}
 use Rattle.aig_sim.specs.WitnessText.{IsDecimal}
 use Rattle.aig_sim.proofs.witness_text.position_of.Given as goal

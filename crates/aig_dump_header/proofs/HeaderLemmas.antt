@@ -1,0 +1,76 @@
+-- Sections and their names.
+use Rattle.std.proofs.Common.{◌≡◌, ℕ, zero, suc, ◌+◌, ◌<◌, ◌≤◌, List, [], ◌∷◌, ◌++◌, length, map, drop, get_or, refl, sym, ap, ◌∙◌, arith, append_assoc, add-one}
+use Rattle.std.proofs.lemmas.List.{drop_more, drop_all, map-append}
+use Rattle.aig_parts.specs.declared.symbols.Kind.{Kind}
+use Rattle.aig_parts.specs.SymbolPlaces.{Key}
+use Rattle.aig_dump_header.specs.declared.signals.Entry.{Entry}
+use Rattle.aig_dump_header.specs.declared.signals.Signal.{Signal}
+use Rattle.aig_dump_header.specs.Header.{name_lines, signal_line, moves, scope_line, closings, section_scope}
+use Rattle.aig_dump_header.specs.Names.{names_of}
+use Rattle.aig_dump_header.specs.Paths.{path_of, scopes_of, leaf_of}
+use Rattle.aig_dump_header.specs.Signals.{entries, columns, section_names}
+use Rattle.aig_dump_header.specs.state.Naming.{named, name_text, entry_names}
+
+-- ---- entries
+pub no_entries : (symbols : List (Key × List ℕ)) (kind : Kind) (n : ℕ) → [] ≡ entries symbols kind n 0
+unfolding entries
+no_entries symbols kind n = refl
+
+pub entries_more : (symbols : List (Key × List ℕ)) (kind : Kind) (n p : ℕ) (old new : List Entry) (entry : Entry)
+    → new ≡ old ++ entry ∷ [] → entry_names entry ≡ (n + p, names_of symbols kind p)
+    → map entry_names old ≡ entries symbols kind n p → map entry_names new ≡ entries symbols kind n (p + 1)
+unfolding entries
+entries_more symbols kind n p old new entry is names h =
+    ap (map entry_names) is ∙ map-append entry_names old (entry ∷ [])
+    ∙ ap (λ (x : ℕ × List (List ℕ)). map entry_names old ++ x ∷ []) names
+    ∙ ap (λ (xs : List (ℕ × List (List ℕ))). xs ++ (n + p, names_of symbols kind p) ∷ []) h
+    ∙ ap (entries symbols kind n) (sym (add-one p))
+
+-- ---- columns
+pub no_columns : columns [] ≡ []
+unfolding columns
+no_columns = refl
+
+-- ---- lines
+pub no_scopes_at_first : scopes_of [] ≡ []
+unfolding path_of
+no_scopes_at_first = refl
+
+-- the line of one name more
+pub lines_more : (shape before name : List ℕ) (xs : List Signal) (i : ℕ) (d : Signal) (text new all : List ℕ) → i < length xs
+    → name ≡ name_text (get_or xs i d).name
+    → new ≡ text ++ (moves (scopes_of before) (scopes_of name) ++ signal_line shape (get_or xs i d).number (leaf_of name))
+    → text ++ name_lines shape (scopes_of before) (map named (drop i xs)) ≡ all
+    → new ++ name_lines shape (scopes_of name) (map named (drop (i + 1) xs)) ≡ all
+unfolding name_lines
+lines_more shape before name xs i d text new all lt is more h =
+    let rest : List (ℕ × List ℕ) = map named (drop (i + 1) xs) in
+    let n : ℕ = (get_or xs i d).number in
+    let leads : List ℕ = moves (scopes_of before) (scopes_of name) in
+    let line : List ℕ = signal_line shape n (leaf_of name) in
+    ap (λ (t : List ℕ). t ++ name_lines shape (scopes_of name) rest) more
+    ∙ append_assoc text (leads ++ line) (name_lines shape (scopes_of name) rest)
+    ∙ ap (λ (t : List ℕ). text ++ t) (append_assoc leads line (name_lines shape (scopes_of name) rest))
+    ∙ ap (λ (w : List ℕ). text ++ name_lines shape (scopes_of before) ((n, w) ∷ rest)) is
+    ∙ ap (λ (ys : List Signal). text ++ name_lines shape (scopes_of before) (map named ys)) (sym (drop_more xs i d lt)) ∙ h
+
+-- the lines behind the last name
+pub lines_done : (shape before : List ℕ) (xs : List Signal) (i n : ℕ) (text new all : List ℕ) → length xs ≤ i → n ≡ length (scopes_of before)
+    → new ≡ text ++ closings n → text ++ name_lines shape (scopes_of before) (map named (drop i xs)) ≡ all → new ≡ all
+unfolding name_lines
+lines_done shape before xs i n text new all le is done h =
+    done ∙ ap (λ (k : ℕ). text ++ closings k) is
+    ∙ ap (λ (ys : List Signal). text ++ name_lines shape (scopes_of before) (map named ys)) (sym (drop_all i xs le)) ∙ h
+
+-- ---- sections
+pub section_of : (symbols : List (Key × List ℕ)) (kind : Kind) (scope type : List ℕ) (n count : ℕ) → 0 < count
+    → scope_line scope ++ (name_lines type [] (section_names symbols kind n count) ++ closings 1)
+    ≡ section_scope symbols kind scope type n count
+unfolding section_scope
+section_of symbols kind scope type n zero lt = absurd (omega (arith, lt))
+section_of symbols kind scope type n (suc p) lt = refl
+
+pub no_section : (symbols : List (Key × List ℕ)) (kind : Kind) (scope type : List ℕ) (n count : ℕ) → count ≡ 0
+    → [] ≡ section_scope symbols kind scope type n count
+unfolding section_scope
+no_section symbols kind scope type n count e = ap (section_scope symbols kind scope type n) (sym e)

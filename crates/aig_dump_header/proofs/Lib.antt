@@ -1,0 +1,14 @@
+pub mod Codes
+pub mod Columns
+pub mod DeclaredNames
+pub mod FoundNames
+pub mod HeaderLemmas
+pub mod HeaderLines
+pub mod HeaderNames
+pub mod Indices
+pub mod NamePieces
+pub mod NextNames
+pub mod PathLemmas
+pub mod Runs
+pub mod SymbolLemmas
+pub mod Words

@@ -1,0 +1,188 @@
+//! The lines of the header.
+ghost use Rattle.std.specs.Prelude.{◌≡◌, ◌≢◌, ◌++◌, ◌+◌, ◌<◌, ◌^◌, [], map, IfOk, OnOk, AllPairs};
+ghost use Rattle.std.specs.Map.{keys_of};
+ghost use Rattle.aig_dump_header.specs.Header.{signal_line, moves, name_lines, section_scope, sections, header};
+ghost use Rattle.aig_dump_header.specs.Names.{identifier_code};
+ghost use Rattle.aig_dump_header.specs.Paths.{scopes_of, leaf_of};
+ghost use Rattle.aig_dump_header.specs.state.Naming.{named};
+
+use crate::names::show;
+use crate::paths::{Path, push_closings, push_moves, push_scope};
+use crate::signals::{Section, Signal, signals_of};
+use aig_bytes::Memory;
+use aig_parts::{Kind, Symbols};
+use std::alloc::Global;
+use std::mem::swap;
+
+/// How many bytes serve as digits of identifier codes, from `!` to `~`.
+const BASE: u32 = 94;
+
+/// How many signals a dump shows of each section.
+#[derive(Clone, Copy, Drop)]
+pub struct SignalCounts {
+    pub inputs: u32,
+    pub latches: u32,
+    pub outputs: u32,
+    pub bad: u32,
+    pub constraints: u32,
+}
+
+// Adds the identifier code of a signal.
+fn push_code(text: &mut Vec<u8>, signal: u32) -> Result<(), Memory>
+    ensures { OnOk result (text.new.items ≡ text.old.items ++ identifier_code signal) }
+{
+    let mut rest = signal;
+    while rest >= BASE {
+        text.push(b'!' + (rest % BASE) as u8)?;
+        rest /= BASE;
+    }
+    text.push(b'!' + rest as u8)?;
+    Ok(())
+}
+
+// Adds the line that gives a signal a name.
+fn push_signal(text: &mut Vec<u8>, shape: &[u8], number: u32, name: &[u8]) -> Result<(), Memory>
+    ensures { OnOk result (text.new.items ≡ text.old.items ++ signal_line shape.now number name.now) }
+{
+    text.extend_from_slice(b"$var ")?;
+    text.extend_from_slice(shape)?;
+    text.extend_from_slice(b" 1 ")?;
+    push_code(text, number)?;
+    text.push(b' ')?;
+    text.extend_from_slice(name)?;
+    text.extend_from_slice(b" $end\n")?;
+    Ok(())
+}
+
+// Adds the line of a name and those that lead to its scopes from the ones of the name before it.
+fn push_name(
+    alloc: Global,
+    text: &mut Vec<u8>,
+    shape: &[u8],
+    before: &[u8],
+    number: u32,
+    name: &[u8],
+) -> Result<(), Memory>
+    ensures { OnOk result (text.new.items ≡ text.old.items ++ (moves (scopes_of before.now) (scopes_of name.now)
+        ++ signal_line shape.now number (leaf_of name.now))) }
+{
+    let open = Path::of(alloc, before)?;
+    let path = Path::of(alloc, name)?;
+    push_moves(text, &open.scopes, &path.scopes)?;
+    push_signal(text, shape, number, path.leaf)
+}
+
+// Adds the lines of signals in their scopes.
+fn push_signals(
+    alloc: Global,
+    text: &mut Vec<u8>,
+    shape: &[u8],
+    signals: &[Signal<'_>],
+) -> Result<(), Memory>
+    ensures { OnOk result (text.new.items ≡ text.old.items ++ name_lines shape.now [] (map named signals.now)) }
+{
+    let mut before = Vec::new(alloc);
+    let mut name = Vec::new(alloc);
+    for signal in signals {
+        show(&mut name, signal.name)?;
+        push_name(alloc, text, shape, &before, signal.number, &name)?;
+        swap(&mut before, &mut name);
+    }
+    let open = Path::of(alloc, &before)?;
+    push_closings(text, open.scopes.len())
+}
+
+// Adds the scope of a section; none where it has no entries.
+fn push_section(
+    alloc: Global,
+    text: &mut Vec<u8>,
+    symbols: &Symbols,
+    section: &Section,
+    scope: &[u8],
+    shape: &[u8],
+) -> Result<(), Memory>
+    requires once { AllPairs (λ x y. x ≢ y) (keys_of symbols.now) }
+    requires few { section.now.first + section.now.count < 2 ^ 32 }
+    ensures { OnOk result (text.new.items ≡ text.old.items ++ section_scope symbols.now section.now.kind scope.now shape.now
+        section.now.first section.now.count) }
+{
+    if section.count == 0 {
+        return Ok(());
+    }
+    let signals = signals_of(alloc, symbols, section)?;
+    push_scope(text, scope)?;
+    push_signals(alloc, text, shape, &signals)?;
+    push_closings(text, 1)
+}
+
+// Adds the scopes of all sections.
+fn push_sections(
+    alloc: Global,
+    text: &mut Vec<u8>,
+    symbols: &Symbols,
+    counts: &SignalCounts,
+) -> Result<(), Memory>
+    requires once { AllPairs (λ x y. x ≢ y) (keys_of symbols.now) }
+    requires few { counts.now.inputs + counts.now.latches + counts.now.outputs + counts.now.bad + counts.now.constraints
+        < 2 ^ 32 }
+    ensures { OnOk result (text.new.items ≡ text.old.items ++ sections symbols.now counts.now) }
+{
+    let outputs = counts.inputs + counts.latches;
+    let bad = outputs + counts.outputs;
+    let constraints = bad + counts.bad;
+    let of_inputs = Section {
+        kind: Kind::Input,
+        first: 0,
+        count: counts.inputs,
+    };
+    let of_latches = Section {
+        kind: Kind::Latch,
+        first: counts.inputs,
+        count: counts.latches,
+    };
+    let of_outputs = Section {
+        kind: Kind::Output,
+        first: outputs,
+        count: counts.outputs,
+    };
+    let of_bad = Section {
+        kind: Kind::Bad,
+        first: bad,
+        count: counts.bad,
+    };
+    let of_constraints = Section {
+        kind: Kind::Constraint,
+        first: constraints,
+        count: counts.constraints,
+    };
+    push_section(alloc, text, symbols, &of_inputs, b"inputs", b"wire")?;
+    push_section(alloc, text, symbols, &of_latches, b"latches", b"reg")?;
+    push_section(alloc, text, symbols, &of_outputs, b"outputs", b"wire")?;
+    push_section(alloc, text, symbols, &of_bad, b"bad", b"wire")?;
+    push_section(
+        alloc,
+        text,
+        symbols,
+        &of_constraints,
+        b"constraints",
+        b"wire",
+    )
+}
+
+/// The text of a value change dump up to its first frame, for a circuit with these symbols and so many signals, of
+/// which there are fewer than 2^32: names and scopes as docs/FORMATS.md has them (IEEE 1364). It refuses for memory alone.
+pub fn dump_header(
+    alloc: Global,
+    symbols: &Symbols,
+    counts: &SignalCounts,
+) -> Result<Vec<u8>, Memory>
+    requires once { AllPairs (λ x y. x ≢ y) (keys_of symbols.now) }
+    requires few { counts.now.inputs + counts.now.latches + counts.now.outputs + counts.now.bad + counts.now.constraints
+        < 2 ^ 32 }
+    ensures { IfOk result (λ text. text.items ≡ header symbols.now counts.now) }
+{
+    let mut text = Vec::from_slice(alloc, b"$version aig $end\n$timescale 1 ns $end\n")?;
+    push_sections(alloc, &mut text, symbols, counts)?;
+    text.extend_from_slice(b"$enddefinitions $end\n")?;
+    Ok(text)
+}

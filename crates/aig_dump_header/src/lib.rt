@@ -1,0 +1,12 @@
+//! The header of a value change dump: identifier codes, the names of signals, vectors and scopes. It knows no circuit.
+#![tactic(auto)]
+
+mod header;
+mod laws;
+mod names;
+mod paths;
+mod signals;
+mod vectors;
+
+pub use header::{SignalCounts, dump_header};
+pub use laws::law_of_dump_header;
