@@ -5,14 +5,15 @@ use aig_base::Circuit;
 use aig_sim::{StimFault, dump, simulate};
 use std::alloc::Global;
 
-// Two signals, one of which changes.
+// Two signals, one of which changes; the second has two names.
 const DUMP: &[u8] = b"$version aig $end
 $timescale 1 ns $end
 $scope module inputs $end
 $var wire 1 ! en $end
 $upscope $end
 $scope module latches $end
-$var reg 1 \" _count_0 $end
+$var reg 1 \" _count $end
+$var reg 1 \" 0 $end
 $upscope $end
 $enddefinitions $end
 #0
