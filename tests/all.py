@@ -15,9 +15,11 @@ import time
 from library.runs import REPOSITORY, TESTS
 
 SCRIPTS = ("run_large.py", "run_program.py", "run_faults.py", "run_random.py", "run_dist.py", "tour.py")
+# these read the sources alone
+READERS = ("definitions.py", "contracts.py")
 CRATES = ("aig_tests", "aig_engine_tests", "aig_bench_tests")
 COUNTS = re.compile(r"(\d+) passed[,;] (\d+) failed")
-SHOWN = re.compile(r"(?m)^.*(?: passed[,;] |left out|to believe).*\n")
+SHOWN = re.compile(r"(?m)^.*(?: passed[,;] |left out|to believe|as the sources).*\n")
 
 
 def ended(name, words, folder):
@@ -41,7 +43,7 @@ def main():
     chosen = parser.parse_args()
     program = [os.path.abspath(chosen.program)] if chosen.program else []
     lanes = [[(name, [f"{TESTS}/{name}", *program], REPOSITORY) for name in SCRIPTS]]
-    lanes[0].append(("definitions.py", [f"{TESTS}/definitions.py"], REPOSITORY))
+    lanes[0] += [(name, [f"{TESTS}/{name}"], REPOSITORY) for name in READERS]
     if chosen.crates:
         lanes.append([(name, ["rt", "try", "--test"], f"{REPOSITORY}/crates/{name}") for name in CRATES])
     with concurrent.futures.ThreadPoolExecutor() as pool:

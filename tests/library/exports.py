@@ -1,0 +1,180 @@
+"""What the crates export, with its contracts, read from their sources.
+
+A crate exports what `pub use` in its lib.rt names, and the type that an exported alias names. With a type come its
+public methods, and the implementations of traits for it, where they have clauses or say what contracts see. What a
+public module shows beside these is marked: its `listed` is false."""
+
+import collections
+import re
+
+from library.specs import ROOT, imports
+
+# A function, method or law with its clauses, or a type, a trait or an implementation with what contracts see of it.
+# Each clause is a pair: its head, as `ensures kept`, and its text in braces. `bound` are the names of the parameters,
+# `types` are all names in the signature, and `known` says what the imports of the file mean.
+Export = collections.namedtuple("Export", "crate module name listed doc block head clauses bound types known")
+
+# An `impl` or a `trait`, up to its brace.
+Block = collections.namedtuple("Block", "head kind owner trait")
+
+BLOCK = re.compile(r"(?:unsafe )?(impl|pub trait)\b(?:<.*?>)?\s+(.*)$")
+FUNCTION = re.compile(r"(\s*)(pub )?(?:const |unsafe )*fn (\w+)")
+GHOST = re.compile(r"\n {4}((?:pub )?ghost (\w+)\s*[=:])\s*\{")
+PLAIN = re.compile(r"pub (?:const|type) (\w+)")
+NAMED = re.compile(r"(?m)^pub (?:struct|enum|trait|const|type|fn) (\w+)")
+USED = re.compile(r"pub use (?:crate::)?(\w+)::(?:\{([\w\s,]*)\}|(\w+));")
+CLAUSE = re.compile(r"\s*\b((?:requires|ensures)\b[^{;]*?)\s*\{")
+
+# What a block says for its own proofs.
+UNSEEN = ("invariant", "inverse_ok", "also_owns")
+
+
+def crates():
+    """Returns the names of the libraries in the order of crates.txt: neither the crates of tests nor the program."""
+    lines = [line for line in (ROOT / "crates.txt").read_text(encoding="utf-8").split("\n") if line and line[0] != "#"]
+    names = [line.partition(":")[0] for line in lines]
+    return [name for name in names if name != "aig" and not name.endswith("_tests")]
+
+
+def braces(text, at):
+    """Returns the text from a brace to the one that closes it."""
+    depth = 0
+    for end in range(at, len(text)):
+        depth += (text[end] == "{") - (text[end] == "}")
+        if not depth:
+            return text[at : end + 1]
+    return text[at:]
+
+
+def stripped(text):
+    """Returns a text without the blanks at the edges of its lines."""
+    return "\n".join(line.strip() for line in text.split("\n") if line.strip())
+
+
+def sentence(lines):
+    """Returns the first sentence of a comment."""
+    text = " ".join(lines)
+    return re.split(r"(?<=[.?!])\s+(?=[^a-z])", text, maxsplit=1)[0]
+
+
+def doc_above(lines, number):
+    """Returns the first sentence of the comment above a line."""
+    found = []
+    for line in reversed(lines[:number]):
+        line = line.strip()
+        if line.startswith("///"):
+            found.append(line[3:].strip())
+        elif not line.startswith("#["):
+            break
+    found.reverse()
+    return sentence(found[: found.index("")] if "" in found else found)
+
+
+def signature(text, start):
+    """Returns the head of the function that begins at a place, and its clauses."""
+    depth, at = 0, start
+    stop = re.compile(r"\s*(?:[{;]|\b(?:requires|ensures)\b)")
+    while depth or not stop.match(text, at):
+        depth += (text[at] in "([") - (text[at] in ")]")
+        at += 1
+    indent = start - text.rindex("\n", 0, start) - 1
+    head, clauses = text[start:at].replace("\n" + " " * indent, "\n"), []
+    while True:
+        found = CLAUSE.match(text, at)
+        if not found:
+            return head, clauses
+        clause = braces(text, found.end() - 1)
+        clauses.append((found[1], stripped(clause)))
+        at = found.end() - 1 + len(clause)
+
+
+def seen(text, start):
+    """Returns what the block that begins at a place says that contracts see."""
+    body = text[start : text.index("\n}", start)]
+    return [(at[1], stripped(braces(body, at.end() - 1))) for at in GHOST.finditer(body) if at[2] not in UNSEEN]
+
+
+def block_at(text, start):
+    """Returns the block that begins at a place, or nothing."""
+    head = " ".join(text[start : text.find("{", start)].split())
+    found = BLOCK.match(head)
+    if not found or text[start].isspace():
+        return None
+    kind, rest = found.groups()
+    owner = re.search(r"\bfor\s+(\w+)", rest) or re.match(r"(\w+)", rest)
+    trait = re.match(r"([\w:]+(?:<.*?>)?)\s+for\b", rest)
+    return Block(head, kind, owner[1] if owner else None, trait[1] if trait else None)
+
+
+class Crate:
+    """What the sources of a crate say."""
+
+    def __init__(self, name):
+        self.name = name
+        self.folder = ROOT / "crates" / name / "src"
+        lib = (self.folder / "lib.rt").read_text(encoding="utf-8")
+        self.doc = sentence([line[3:].strip() for line in lib.split("\n") if line.startswith("//!")])
+        self.public_modules = set(re.findall(r"(?m)^pub mod (\w+);", lib))
+        self.texts = {path.stem: path.read_text(encoding="utf-8") for path in sorted(self.folder.glob("*.rt"))}
+        self.names, self.passed_on = set(), {}
+        for module, names, one in USED.findall(lib):
+            here = {it.strip() for it in (names or one).split(",")} - {""}
+            if module in self.texts:
+                self.names |= here
+            else:
+                self.passed_on[module] = sorted(here)
+        lost = self.names.difference(*(NAMED.findall(text) for text in self.texts.values()))
+        if lost or len(USED.findall(lib)) != lib.count("pub use "):
+            raise ValueError(f"{self.folder}/lib.rt: not all that it exports was found: {lost}")
+        for text in self.texts.values():
+            for name, target in re.findall(r"(?m)^pub type (\w+)\b[^=]*=\s*(\w+)", text):
+                self.names |= {target} if name in self.names else set()
+
+    def exports(self):
+        """Yields what the crate exports, in the order of its files."""
+        for module, text in self.texts.items():
+            yield from self.of_module(module, text)
+
+    def of_module(self, module, raw):
+        # a comment becomes blanks, which keeps the places
+        text = re.sub(r"(?m)//.*$", lambda at: " " * len(at[0]), raw)
+        lines, known, block = raw.split("\n"), imports(text), None
+        is_public = module in self.public_modules
+        shown = self.names | set(NAMED.findall(text) if is_public else ())
+
+        def export(name, head, clauses, of=None, line=None):
+            owner = of.owner if of else name
+            types = set(re.findall(r"\w+", f"{of.head if of else ''} {head}"))
+            bound = set(re.findall(r"(\w+):\s", head.partition("(")[2]))
+            return Export(self.name, module, name, owner in self.names, doc_above(lines, line), of, head, clauses,
+                          bound, types, known)
+
+        for number, at in enumerate(re.finditer(r"(?m)^.*$", text)):
+            line = at[0].rstrip()
+            if line == "}":
+                block = None
+            began = block_at(text, at.start())
+            if began and began.owner in shown:
+                block = began
+                members = seen(text, at.start())
+                if block.trait == "Model":
+                    # the entry of the type, with its comment and the fields that contracts alone see
+                    declared = re.search(rf"(?m)^pub struct {block.owner}\b", text).start()
+                    members = seen(text, declared) + members
+                    yield export(block.owner, block.head, members, block, text.count("\n", 0, declared))
+                elif members:
+                    name = f"{block.owner} as {block.trait}" if block.trait else block.owner
+                    yield export(name, block.head, members, block, number)
+            found = PLAIN.match(line)
+            if found and found[1] in shown:
+                yield export(found[1], line.rstrip(";"), [], None, number)
+            found = FUNCTION.match(line)
+            if not found or (found[1] and not block) or (not found[1] and found[3] not in shown):
+                continue
+            inside, public, name = found.groups()
+            by_trait = block is not None and (block.kind == "pub trait" or block.trait is not None)
+            if not (public or by_trait):
+                continue
+            head, clauses = signature(text, at.start() + len(inside))
+            if clauses or not (block and block.trait):
+                yield export(f"{block.owner}::{name}" if block else name, head, clauses, block, number)
