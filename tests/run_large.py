@@ -9,11 +9,12 @@ from large.crowded_names import NAMES, crowded_names
 from large.deep import deep
 from large.files import large_files
 from large.hubs import hubs
+from large.limits import limits
 from large.long_run import long_run
 from library import runs
 
 PARTS = {"block_edges": block_edges, "files": large_files, "long_run": long_run, "names": crowded_names, "hubs": hubs,
-         "deep": deep, "claims": claims}
+         "limits": limits, "deep": deep, "claims": claims}
 
 
 def options(parser):

@@ -11,6 +11,8 @@ TRACES = (
     ("unknown inputs", "one_gate", "x0\nx1\n", " x0 0 \n x1 x \n"),
     ("nothing is folded", "a_and_not_a", "x\n", " x x \n"),
     ("no frames", "one_gate", "", ""),
+    ("an empty circuit", "empty", "\n\n", "   \n   \n"),
+    ("an empty circuit and no frames", "empty", "", ""),
     ("more frames than a bench may have", "one_gate", "11\n" * 65537, " 11 1 \n" * 65537),
 )
 
@@ -21,6 +23,7 @@ REFUSALS = (
     ("a wrong character in a line that is too long", "1z1\n", "character in line 2"),
     ("a short line", "1\n", "length of line 2"),
     ("an unfinished line", "1z1111", "unfinished"),
+    ("an empty line", "\n", "length of line 2"),
 )
 
 # Files that are missing or are directories, by the part that is told.
