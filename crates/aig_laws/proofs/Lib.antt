@@ -1,0 +1,10 @@
+pub mod ConvertedDumps
+pub mod ConvertedTraces
+pub mod ConvertedVerdicts
+pub mod ConvertedWitnesses
+pub mod Examples
+pub mod Premises
+pub mod Reached
+pub mod RowValues
+pub mod UnrolledRows
+pub mod UnrolledWitnesses
