@@ -7,10 +7,12 @@ from library import runs
 from program.bench import bench
 from program.check import check
 from program.completions import completions
+from program.descriptors import descriptors
 from program.diagnostics import diagnostics
 from program.helps import helps
 from program.info import info
 from program.kept import kept
+from program.owners import owners
 from program.pages import pages
 from program.replays import replays
 from program.sim import sim
@@ -20,9 +22,9 @@ from program.unroll import unroll
 from program.wave import wave
 from program.words import words
 
-PARTS = {"bench": bench, "kept": kept, "words": words, "sim": sim, "wave": wave, "check": check, "replays": replays,
-         "toaig": toaig, "unroll": unroll, "info": info, "help": helps, "pages": pages, "completions": completions,
-         "diagnostics": diagnostics, "talks": talks}
+PARTS = {"bench": bench, "kept": kept, "owners": owners, "descriptors": descriptors, "words": words, "sim": sim,
+         "wave": wave, "check": check, "replays": replays, "toaig": toaig, "unroll": unroll, "info": info, "help": helps,
+         "pages": pages, "completions": completions, "diagnostics": diagnostics, "talks": talks}
 
 if __name__ == "__main__":
     runs.main(__doc__, PARTS)

@@ -1,49 +1,265 @@
-"""Files that keep what a script leaves, where a call for them fails: each write, sync and rename in turn. Then both files
-are as they were and the new ones are gone, but that the circuit's has its name where the second rename fails; the
-replies stand, and the failure is told."""
+"""Files that keep what a script leaves, or what the inputs of an unrolled circuit are. A call for them fails, each one in
+turn: they are as they were and the new ones are gone, but that the circuit's has its name where the second file does
+not get its own. Runs are killed before each of their calls: each file has its old text or the whole new one, and a new
+one that is left makes the next run fail. Runs are stopped before each of their calls: whoever may open a new file there
+never sees a text that others may not read."""
 
 import os
+import signal
+import subprocess
 
 from faults.refusing import Refusing
 from library.circuits import write_all
 from library.runs import Ended, LeftOut, contents, input_or_output, write
 
-WORDS = ("bench", "--circuit-out", "design", "--stimulus-out", "rows", "design", "rows", "script")
 DESIGN, ROWS = b"aag 3 2 0 1 1\n2\n4\n6\n6 2 4\n", b"11\n"
 NEW_DESIGN, NEW_ROWS = b"aag 3 2 0 1 1\n2\n4\n6\n6 3 4\n", b"11\n0x\n"
+UNROLLED, MAP = b"aag 3 2 0 1 1\n2\n4\n6\n6 4 2\n", b"i 0 0 0 \ni 1 0 1 \n"
 REPLIES = b"ok\nok\n"
-# The calls, and how many there are; a write moves one byte.
-CALLS = (("file", len(NEW_DESIGN) + len(NEW_ROWS)), ("fsync", 2), ("fchmod", 2), ("rename", 2))
+NOT_BEGUN = input_or_output("output")
+# A user and a group that root gives files to.
+USER, GROUP = 61001, 61002
+
+
+class Case:
+    """A run that writes files, the names of these, and what they hold before it (None: they are not there) and behind
+    it."""
+
+    def __init__(self, name, words, out, names, old, new):
+        self.name, self.words, self.names, self.old, self.new = name, words, names, old, new
+        self.done, self.failed = Ended(0, out, b""), input_or_output("output", out)
+
+    def prepare(self):
+        for name in new_files():
+            os.remove(name)
+        for name, content in (("design", DESIGN), ("rows", ROWS), ("script", b"w 6 3 4\n+ 0x\n"),
+                              *zip(self.names, self.old)):
+            if content is not None:
+                write(name, content)
+            elif os.path.exists(name):
+                os.remove(name)
+
+    def left(self):
+        """What the files hold, and which new ones are there."""
+        return [contents(name) if os.path.exists(name) else None for name in self.names], new_files()
+
+
+def new_files():
+    return sorted(name for name in os.listdir() if name.endswith(".new"))
+
+
+def keeping(name, circuit, stimulus, old):
+    words = ("bench", "--circuit-out", circuit, "--stimulus-out", stimulus, "design", "rows", "script")
+    names = [file.replace("_link", "") for file in (circuit, stimulus)]
+    return Case(name, words, REPLIES, names, old, [NEW_DESIGN, NEW_ROWS])
+
+
+OVER = keeping("over files", "design", "rows", [DESIGN, ROWS])
+LINKED = keeping("over links", "design_link", "rows_link", [DESIGN, ROWS])
+FRESH = keeping("new files", "new_design", "new_rows", [None, None])
+MAPPED = Case("a map", ("unroll", "--frames", "1", "--to", "aag", "--map", "rows", "design"), UNROLLED, ["rows"],
+              [ROWS], [MAP])
+
+# The calls of a run, how many there are, and how many of them come before its work; a write moves one byte.
+CALLS = (
+    (OVER, "file", len(NEW_DESIGN) + len(NEW_ROWS), 0), (OVER, "fsync", 2, 0), (OVER, "fchmod", 2, 0),
+    (OVER, "rename", 2, 0), (OVER, "statx", 14, 12), (LINKED, "realpath", 2, 2), (LINKED, "statx", 14, 12),
+    (FRESH, "file", len(NEW_DESIGN) + len(NEW_ROWS), 0), (FRESH, "fsync", 2, 0), (FRESH, "fchmod", 2, 0),
+    (FRESH, "rename", 2, 0), (FRESH, "statx", 11, 7), (MAPPED, "file", len(MAP), 0), (MAPPED, "fsync", 1, 0),
+    (MAPPED, "fchmod", 1, 0), (MAPPED, "rename", 1, 0),
+)
+
+
+# The calls that fail once the circuit's file has its name: the second rename, and the look whether its name is free.
+HALF_DONE = ((OVER, "rename", 2), (FRESH, "rename", 2), (FRESH, "statx", 11))
 
 
 def kept(program, tally, _):
     write_all()
     beneath = Refusing(program, "refuse_call")
-    if run(beneath, CALL="file", REFUSE=1).status == 0:
-        raise LeftOut("no library can stand before write here")
-    for call, wanted in CALLS:
-        before()
-        write("calls", "0")
-        ended = run(beneath, STEP=1, CALL=call, COUNTED=os.path.abspath("calls"))
-        tally.compare(f"kept: calls of {call}", (ended, int(contents("calls"))), (Ended(0, REPLIES, b""), wanted))
-        tally.compare(f"kept: calls of {call}, the files", left(), (NEW_DESIGN, NEW_ROWS, False, False))
-        for number in range(1, wanted + 1):
-            before()
-            ended = run(beneath, STEP=1, CALL=call, REFUSE=number)
-            design = NEW_DESIGN if (call, number) == ("rename", 2) else DESIGN
-            tally.compare(f"kept: {call} {number} fails", ended, input_or_output("output", REPLIES))
-            tally.compare(f"kept: {call} {number} fails, the files", left(), (design, ROWS, False, False))
+    OVER.prepare()
+    if beneath.run(*OVER.words, CALL="rename", REFUSE=1).status == 0:
+        raise LeftOut("no library can stand before rename here")
+    for name in ("design", "rows"):
+        os.symlink(name, f"{name}_link")
+    for case, call, most, early in CALLS:
+        fails(beneath, tally, case, call, most, early)
+    opens(beneath, tally)
+    looks(beneath, tally)
+    closes(beneath, tally)
+    removals(beneath, tally)
+    owners(beneath, tally)
+    for case in (OVER, FRESH, MAPPED):
+        kills(beneath, tally, case)
+    for case in (OVER, FRESH):
+        stops(beneath, tally, case)
 
 
-def run(beneath, **settings):
-    return beneath.run(*WORDS, **settings)
+def fails(beneath, tally, case, call, most, early):
+    """Each call of this name in turn."""
+    name = f"kept: {case.name}, {call}"
+    case.prepare()
+    tally.compare(f"{name}, how many", beneath.counted(*case.words, STEP=1, CALL=call), (case.done, most))
+    tally.compare(f"{name}, the files", case.left(), (case.new, []))
+    for number in range(1, most + 1):
+        case.prepare()
+        ended = beneath.run(*case.words, STEP=1, CALL=call, REFUSE=number)
+        files = [case.new[0], case.old[1]] if (case, call, number) in HALF_DONE else case.old
+        tally.compare(f"{name} {number} fails", ended, NOT_BEGUN if number <= early else case.failed)
+        tally.compare(f"{name} {number} fails, the files", case.left(), (files, []))
 
 
-def before():
-    for name, content in (("design", DESIGN), ("rows", ROWS), ("script", b"w 6 3 4\n+ 0x\n")):
-        write(name, content)
+def opens(beneath, tally):
+    """Descriptors are held by a folder where there is no device. Then come the files that are read, those that are
+    written, and the new ones: twice where their permissions are found out first."""
+    for case in (OVER, FRESH):
+        parts = [None] * 3 + ["circuit", "stimulus", "script"] + ["output"] * 4
+        case.prepare()
+        tally.compare(f"kept: {case.name}, open, how many", beneath.counted(*case.words, CALL="open"),
+                      (case.done, len(parts)))
+        for number, part in enumerate(parts, 1):
+            case.prepare()
+            ended = beneath.run(*case.words, CALL="open", REFUSE=number)
+            tally.compare(f"kept: {case.name}, open {number} fails", (ended, case.left()),
+                          (input_or_output(part), (case.old, [])) if part else (case.done, (case.new, [])))
 
 
-def left():
-    """What the files hold, and whether the new ones are there."""
-    return (contents("design"), contents("rows"), os.path.exists("design.new"), os.path.exists("rows.new"))
+def looks(beneath, tally):
+    """A circuit that cannot be looked at is one that cannot be read; then come looks at the map."""
+    parts = ["circuit"] + ["output"] * 7
+    for number, part in enumerate(parts, 1):
+        MAPPED.prepare()
+        ended = beneath.run(*MAPPED.words, CALL="statx", REFUSE=number)
+        out = UNROLLED if number == len(parts) else b""
+        tally.compare(f"kept: a map, statx {number} fails", (ended, MAPPED.left()),
+                      (input_or_output(part, out), (MAPPED.old, [])))
+
+
+def closes(beneath, tally):
+    """A close that fails changes nothing: what was written is on disk by then."""
+    OVER.prepare()
+    ended, most = beneath.counted(*OVER.words, CALL="close")
+    tally.check("kept: over files, close, how many", ended == OVER.done and most >= 10, (ended, most))
+    for number in range(1, most + 1):
+        OVER.prepare()
+        ended = beneath.run(*OVER.words, CALL="close", REFUSE=number)
+        tally.compare(f"kept: over files, close {number} fails", (ended, OVER.left()), (OVER.done, (OVER.new, [])))
+
+
+def removals(beneath, tally):
+    """A new file that cannot be removed stays, and the run says what it would have said."""
+    for number, left in ((1, ["new_design.new"]), (2, ["new_rows.new"])):
+        FRESH.prepare()
+        ended = beneath.run(*FRESH.words, CALL="unlink", REFUSE=number)
+        tally.compare(f"kept: new files, unlink {number} fails", (ended, FRESH.left()), (NOT_BEGUN, (FRESH.old, left)))
+    OVER.prepare()
+    write("design", "aag 1 0 0 0 1\n2 2 2\n")
+    ended = beneath.run(*OVER.words, CALL="unlink", REFUSE=1)
+    tally.compare("kept: a refused circuit, unlink fails", (ended, new_files()),
+                  (Ended(1, b"", b"aig: circuit: cycle 1\n"), ["design.new"]))
+
+
+def owners(beneath, tally):
+    """Another's files, where the owner or the group cannot be kept. They get no permissions before they have both."""
+    if os.geteuid() != 0:
+        print("kept: files of other owners are left out: only root can make them")
+        return
+    old = f"{USER}:{GROUP} 664"
+    lost = f"{USER}:{os.getegid()} 604"
+    for number, ended, owned in ((0, OVER.done, [old, old]), (1, NOT_BEGUN, [old, old]), (2, OVER.done, [lost, old]),
+                                 (3, NOT_BEGUN, [old, old]), (4, OVER.done, [old, lost])):
+        give()
+        got = beneath.run(*OVER.words, CALL="fchown", REFUSE=number)
+        tally.compare(f"kept: others' files, fchown {number} fails", (got, [shown(name) for name in OVER.names]),
+                      (ended, owned))
+        tally.compare(f"kept: others' files, fchown {number} fails, the files", OVER.left(),
+                      (OVER.new if ended is OVER.done else OVER.old, []))
+    for number in range(1, calls_of(beneath, OVER) + 1):
+        give()
+        seen = []
+        ended = stopped(beneath, OVER, number, lambda seen=seen: seen.extend(map(shown, new_files())))
+        right = {f"0:{os.getegid()} 600", f"{USER}:{os.getegid()} 600", f"{USER}:{GROUP} 600", old}
+        tally.check(f"kept: others' files, before call {number}", ended == OVER.done and set(seen) <= right, seen)
+    OVER.prepare()
+    for name in OVER.names:
+        os.chown(name, 0, 0)
+        os.chmod(name, 0o644)
+
+
+def give():
+    """Makes the files another's."""
+    OVER.prepare()
+    for name in OVER.names:
+        os.chown(name, USER, GROUP)
+        os.chmod(name, 0o664)
+
+
+def shown(name):
+    status = os.stat(name)
+    return f"{status.st_uid}:{status.st_gid} {status.st_mode & 0o7777:o}"
+
+
+def calls_of(beneath, case):
+    """How many calls there are in a whole run."""
+    case.prepare()
+    return beneath.counted(*case.words, CALL="any")[1]
+
+
+def kills(beneath, tally, case):
+    seen = set()
+    for number in range(1, calls_of(beneath, case) + 1):
+        name = f"kept: {case.name}, killed before call {number}"
+        case.prepare()
+        ended = beneath.run(*case.words, CALL="any", REFUSE=number, KILL=1)
+        files, new = case.left()
+        tally.compare(name, (ended.status, ended.err), (-signal.SIGKILL, b""))
+        changed = [file != old for file, old in zip(files, case.old)]
+        tally.check(f"{name}, the files", changed == sorted(changed, reverse=True) and
+                    all(file in texts for file, *texts in zip(files, case.old, case.new)), files)
+        for file in new:
+            text = case.new[case.names.index(file[:-4])]
+            is_private = os.stat(file).st_mode & 0o77 == 0
+            tally.check(f"{name}, {file}", text.startswith(contents(file)) and
+                        (is_private or contents(file) in (b"", text)), contents(file))
+        seen.add((tuple(changed), tuple(contents(file) == case.new[case.names.index(file[:-4])] for file in new)))
+        if new:
+            tally.compare(f"{name}, the next run", (beneath.run(*case.words), case.left()), (NOT_BEGUN, (files, new)))
+    if len(case.names) == 2:
+        tally.check(f"kept: {case.name}, killed between two renames", ((True, False), (True, )) in seen, seen)
+
+
+def stops(beneath, tally, case):
+    """The first file is not for others where it is there, and for all where it is new."""
+    for number in range(1, calls_of(beneath, case) + 1):
+        case.prepare()
+        if case.old[0] is not None:
+            os.chmod(case.names[0], 0o640)
+        held = []
+
+        def look(held=held):
+            name = f"{case.names[0]}.new"
+            if os.path.exists(name) and os.stat(name).st_mode & 0o7 and contents(name) != case.new[0]:
+                held.append(open(name, "rb"))
+
+        ended = stopped(beneath, case, number, look)
+        tally.compare(f"kept: {case.name}, stopped before call {number}", (ended, case.left()),
+                      (case.done, (case.new, [])))
+        for file in held:
+            tally.compare(f"kept: {case.name}, opened before call {number}", file.read(), b"")
+            file.close()
+        if case.old[0] is not None:
+            tally.compare(f"kept: {case.name}, open to others before call {number}", len(held), 0)
+            os.chmod(case.names[0], 0o644)
+
+
+def stopped(beneath, case, number, look):
+    """How a run ended that was stopped before the call of this number, to look at the files."""
+    environment = beneath.environment(CALL="any", REFUSE=number, STOP=1)
+    with subprocess.Popen([beneath.program.path, *case.words], env=environment, umask=0, stdin=subprocess.DEVNULL,
+                          stdout=subprocess.PIPE, stderr=subprocess.PIPE) as run:
+        if not os.WIFSTOPPED(os.waitpid(run.pid, os.WUNTRACED)[1]):
+            return Ended(None, b"", b"")
+        look()
+        os.kill(run.pid, signal.SIGCONT)
+        out, err = run.communicate()
+        return Ended(run.returncode, out, err)

@@ -20,10 +20,14 @@ class Refusing:
         if not is_built:
             raise LeftOut("no C compiler for the runs whose calls fail")
 
+    def environment(self, **settings):
+        """The environment of a run where the library has these settings."""
+        settings = {name: str(value) for name, value in settings.items()}
+        return {**os.environ, "LD_PRELOAD": self.library, **settings}
+
     def run(self, *words, **settings):
         """How the run ended where the library has these settings."""
-        settings = {name: str(value) for name, value in settings.items()}
-        return self.program.run(*words, env={**os.environ, "LD_PRELOAD": self.library, **settings})
+        return self.program.run(*words, env=self.environment(**settings))
 
     def counted(self, *words, **settings):
         """The same, and how many calls there were that could have failed."""

@@ -44,6 +44,10 @@ CASES = (
     ("too large for so many rows", ["bench", "many", "empty.stim", "script"]),
     ("was killed", BENCH),
     ("is also the standard output", ["bench", "--circuit-out", "/dev/full", "two_gates", "rows", "script"]),
+    ("is also the standard output", ["bench", "--circuit-out", "nowhere/out", "two_gates", "rows", "script"]),
+    ("is a link to a file", ["bench", "--circuit-out", "dangling", "two_gates", "rows", "script"]),
+    ("files are the same", ["bench", "--circuit-out", "one", "--stimulus-out", "./one", "two_gates", "rows", "script"]),
+    ("files are the same", ["unroll", "--frames", "2", "--to", "aag", "--map", "two_gates", "two_gates"]),
 )
 
 
@@ -79,6 +83,7 @@ def is_met(tally, rows, met, word, said):
 
 def write_files():
     os.symlink(EXAMPLES, "examples")
+    os.symlink("nowhere", "dangling")
     counter = contents(COUNTER)
     witness = contents("examples/wraps.wit").decode()
     for name, data in {

@@ -1,9 +1,12 @@
-"""Rows of `aig bench` with files that keep what a script leaves: which texts they have, where they go, and that they are
-as they were where a run fails."""
+"""Rows of `aig bench` with files that keep what a script leaves: which texts they have, where they go, who may read them,
+and that they are as they were where a run fails."""
 
+import contextlib
 import os
 import resource
+import shutil
 import signal
+import struct
 import subprocess
 import threading
 
@@ -20,7 +23,9 @@ NEW_ROWS = b"10\n01\n0x\n"
 # What keeps a circuit and a stimulus.
 BOTH = ("--circuit-out", "new_circuit", "--stimulus-out", "new_rows")
 DONE = Ended(0, REPLIES, b"")
+# The run ends after the script, or before it is read.
 FAILED = input_or_output("output", REPLIES)
+NOT_BEGUN = input_or_output("output")
 NOT_RUN = (
     ("a refused circuit", {"design": b"aag 1 0 0 0 1\n2 2 2\n"}, refused("circuit: cycle 1")),
     ("a refused stimulus", {"rows": b"1\n"}, refused("stimulus: length of line 1")),
@@ -44,15 +49,25 @@ class Keeping:
         self.tally.compare(f"kept: {name}", self.run(*words, **settings), wanted)
         self.leaves(name, files)
 
+    def have_modes(self, name, mode):
+        """Both files have this mode. They are removed."""
+        self.tally.compare(f"kept: the modes of {name}", [mode_of(file) for file in BOTH[1::2]], [oct(mode)] * 2)
+        for file in BOTH[1::2]:
+            os.remove(file)
+
     def leaves(self, name, files):
         for file, content in files.items():
             got = contents(file) if os.path.exists(file) else None
             self.tally.compare(f"kept: {name}, {file}", got, content)
-            if f"{file}.new" not in files:
-                self.tally.check(f"kept: {name}, {file}.new", not os.path.exists(f"{file}.new"), "it is there still")
+        new = [file for file in os.listdir() if file.endswith(".new") and file not in files]
+        self.tally.compare(f"kept: {name}, new files that are left", new, [])
         for file in files:
             if os.path.exists(file):
                 os.remove(file)
+
+
+def mode_of(file):
+    return oct(os.stat(file).st_mode & 0o7777) if os.path.exists(file) else None
 
 
 def kept(program, tally, _):
@@ -60,7 +75,12 @@ def kept(program, tally, _):
     keeping = Keeping(program, tally)
     texts(keeping)
     places(keeping)
+    names(keeping)
+    modes(keeping)
+    default_list(keeping)
     devices(keeping)
+    disks(keeping)
+    before_the_script(keeping)
     failures(keeping)
 
 
@@ -89,22 +109,119 @@ def texts(keeping):
 
 
 def places(keeping):
-    """Names that are links, the permissions of files that are replaced, and names that meet."""
+    """Names that are links, and names that meet."""
     write("target", b"old")
     os.chmod("target", 0o640)
     os.symlink("target", "link")
-    keeping.row("a link", ("--circuit-out", "link"), DONE, {})
-    mode = os.stat("target").st_mode & 0o777
-    keeping.tally.check("kept: a link stays one, with the permissions of its file",
-                        os.path.islink("link") and mode == 0o640, oct(mode))
-    keeping.leaves("a link", {"link": NEW_CIRCUIT, "target": NEW_CIRCUIT})
-    keeping.row("one file for both", ("--circuit-out", "one", "--stimulus-out", "./one"), FAILED, {"one": None})
-    keeping.row("one file for both, which is there", ("--circuit-out", "one", "--stimulus-out", "./one"), FAILED,
-                {"one": b"old"}, (("one", b"old"), ))
+    os.symlink("link", "link_to_link")
+    for link in ("link", "link_to_link"):
+        keeping.row(f"a {link}", ("--circuit-out", link), DONE, {})
+        keeping.tally.compare(f"kept: a {link} stays one, with the permissions of its file",
+                              (os.path.islink(link), mode_of("target")), (True, "0o640"))
+    keeping.leaves("a link", {"link_to_link": NEW_CIRCUIT, "link": NEW_CIRCUIT, "target": NEW_CIRCUIT})
+    os.symlink("nowhere", "dangling")
+    keeping.row("a dangling link", ("--circuit-out", "dangling"), NOT_BEGUN, {"nowhere": None, "dangling.new": None})
+    keeping.tally.check("kept: a dangling link stays one", os.readlink("dangling") == "nowhere")
+    write("first_name", b"old")
+    os.link("first_name", "second_name")
+    keeping.row("a file with a second name", ("--circuit-out", "first_name"), DONE,
+                {"first_name": NEW_CIRCUIT, "second_name": b"old"})
+    one = ("--circuit-out", "one", "--stimulus-out", "./one")
+    keeping.row("one file for both", one, NOT_BEGUN, {"one": None})
+    keeping.row("one file for both, which is there", one, NOT_BEGUN, {"one": b"old"}, (("one", b"old"), ))
+    for name, link in (("a link", os.symlink), ("a second name", os.link)):
+        write("one", b"old")
+        link("one", "other")
+        keeping.row(f"one file for both, by {name}", ("--circuit-out", "one", "--stimulus-out", "other"), NOT_BEGUN,
+                    {"other": b"old", "one": b"old"})
     keeping.row("a file that the other's new one would replace", ("--circuit-out", "a.new", "--stimulus-out", "a"),
-                FAILED, {"a": None, "a.new": None})
-    keeping.row("a file beside the other", ("--circuit-out", "a", "--stimulus-out", "a.new"), DONE,
-                {"a": NEW_CIRCUIT, "a.new": NEW_ROWS})
+                NOT_BEGUN, {"a": None, "a.new": None, "a.new.new": None})
+    beside = ("--circuit-out", "a", "--stimulus-out", "a.new")
+    keeping.tally.compare("kept: a file beside the other", keeping.run(*beside, umask=0o27), DONE)
+    keeping.tally.compare("kept: the mode of a file beside the other", mode_of("a.new"), "0o640")
+    keeping.leaves("a file beside the other", {"a": NEW_CIRCUIT, "a.new": NEW_ROWS, "a.new.new": None})
+    keeping.row("a file beside the other, which is there", beside, NOT_BEGUN, {"a": None, "a.new": b"old"},
+                (("a.new", b"old"), ))
+
+
+def names(keeping):
+    """Names that are long, and folders that have no text for a name or may not be searched."""
+    for name in ("n" * 251, "n" * 252, "n" * 255, "n" * 251 + ".new", "\u00e9" * 126, "n" + "\u00e9" * 127):
+        for before in ((), ((name, b"old"), )):
+            title = f"a name of {len(name.encode())} bytes, {name[:1]}..{name[-4:]}"
+            here = os.path.basename(os.getcwd())
+            for path in (name, f"../{here}/{name}", os.path.abspath(name)):
+                keeping.row(title, ("--circuit-out", path), DONE, {name: NEW_CIRCUIT}, before)
+    for name, shorter in (("n" * 252, "n" * 247), ("\u00e9" * 126, "\u00e9" * 123), ("n" * 251, "n" * 251)):
+        keeping.row(f"the new file of a name of {len(name.encode())} bytes is there", ("--stimulus-out", name),
+                    NOT_BEGUN, {name: b"old", f"{shorter}.new": b"mine"}, ((name, b"old"), (f"{shorter}.new", b"mine")))
+    with folder(keeping, b"caf\xe9"):
+        for before in ((), (("new_circuit", b"old"), )):
+            keeping.row("below a folder whose name is no text", BOTH, DONE,
+                        {"new_circuit": NEW_CIRCUIT, "new_rows": NEW_ROWS}, before)
+    if os.geteuid() != 0:
+        with folder(keeping, b"closed"):
+            os.chmod("..", 0)
+            keeping.row("below a folder that may not be searched", BOTH, DONE,
+                        {"new_circuit": NEW_CIRCUIT, "new_rows": NEW_ROWS}, (("new_circuit", b"old"), ))
+            os.chmod("..", 0o700)
+
+
+def default_list(keeping):
+    """A new file gets what a folder's access control list says of new files, as any other new file does."""
+    os.mkdir("listed")
+    # The owner may do all, user 61005 too, the group may read and enter; the mask is all, and others have nothing.
+    entries = ((1, 7, -1), (2, 7, 61005), (4, 5, -1), (16, 7, -1), (32, 0, -1))
+    try:
+        os.setxattr("listed", "system.posix_acl_default",
+                    struct.pack("<I", 2) + b"".join(struct.pack("<HHi", *entry) for entry in entries))
+    except OSError:
+        print("kept: a folder with an access control list is left out: there are none here")
+        return
+    write("listed/plain", b"")
+    keeping.row("in a folder with an access control list", ("--circuit-out", "listed/file"), DONE, {})
+    got, wanted = ((mode_of(file), os.getxattr(file, "system.posix_acl_access"))
+                   for file in ("listed/file", "listed/plain"))
+    keeping.tally.compare("kept: the mode and the list of a file in such a folder", got, wanted)
+
+
+@contextlib.contextmanager
+def folder(keeping, name):
+    """A folder of this name, in which there is a folder to work in."""
+    here = os.getcwd()
+    os.makedirs(name + b"/inner")
+    os.chdir(name + b"/inner")
+    try:
+        yield
+    finally:
+        os.chdir(here)
+        shutil.rmtree(name)
+
+
+def modes(keeping):
+    """The permissions of a file, and of its new one while the text is not whole. (owners.py has those of files of
+    others.)"""
+    for mask in (0, 0o22, 0o27, 0o77, 0o277, 0o777):
+        keeping.row(f"a mask of {mask:o}", BOTH, DONE, {}, umask=mask)
+        keeping.have_modes(f"a mask of {mask:o}", 0o666 & ~mask)
+    for mode in (0o644, 0o600, 0o664, 0o4755, 0o2755, 0o6777, 0o1640, 0o200):
+        for file in BOTH[1::2]:
+            write(file, b"old")
+            os.chmod(file, mode)
+        keeping.row(f"files of mode {mode:o}", BOTH, DONE, {}, umask=0o27)
+        keeping.have_modes(f"files of mode {mode:o}", mode & 0o777)
+    for before in ((), (("new_circuit", b"old"), ("new_rows", b"old"))):
+        for file, content in (("design", CIRCUIT), ("rows", ROWS), *before):
+            write(file, content)
+        words = [keeping.program.path, "bench", *BOTH, "design", "rows", "/dev/stdin"]
+        with subprocess.Popen(words, stdin=subprocess.PIPE, stdout=subprocess.PIPE, umask=0) as run:
+            run.stdin.write(b"v 0 8\n")
+            run.stdin.flush()
+            run.stdout.readline()
+            got = [mode_of(f"{file}.new") for file in BOTH[1::2]]
+            keeping.tally.compare("kept: the modes of new files during the script", got, ["0o600"] * 2)
+            run.stdin.close()
+        keeping.leaves("a script from a pipe", {"new_circuit": CIRCUIT, "new_rows": ROWS})
 
 
 def devices(keeping):
@@ -122,16 +239,70 @@ def devices(keeping):
         words = [*BOTH[:at + 1], "/dev/full", *BOTH[at + 2:]]
         keeping.row(f"a full device, {BOTH[at]}", words, FAILED, {other: b"old"}, ((other, b"old"), ))
     with open("replies", "wb") as file:
-        keeping.row("standard output's own file", ("--circuit-out", "replies"), FAILED._replace(out=None), {},
+        keeping.row("standard output's own file", ("--circuit-out", "replies"), NOT_BEGUN._replace(out=None), {},
                     stdout=file)
-    keeping.leaves("standard output's own file", {"replies": REPLIES})
+    keeping.leaves("standard output's own file", {"replies": b""})
     for file, content in (("design", CIRCUIT), ("rows", ROWS), ("script", SCRIPT)):
         write(file, content)
     words = [keeping.program.path, "bench", "--circuit-out", "said", "design", "rows", "script"]
     with open("said", "wb") as file:
         status = subprocess.run(words, stdout=subprocess.DEVNULL, stderr=file, check=False).returncode
-    keeping.tally.compare("kept: standard error's own file", status, FAILED.status)
-    keeping.leaves("standard error's own file", {"said": FAILED.err})
+    keeping.tally.compare("kept: standard error's own file", status, NOT_BEGUN.status)
+    keeping.leaves("standard error's own file", {"said": NOT_BEGUN.err})
+
+
+# Two disks with a file of the same number each. One of them is standard output, and the other one is replaced.
+DISKS = """
+mkdir one two && mount -t tmpfs disk one && mount -t tmpfs disk two || exit 77
+echo old > one/file && echo old > two/file || exit 77
+test $(stat -c %i one/file) = $(stat -c %i two/file) || exit 77
+"$0" bench --circuit-out one/file design rows script > two/file && cat one/file
+"""
+
+
+def disks(keeping):
+    for file, content in (("design", CIRCUIT), ("rows", ROWS), ("script", SCRIPT)):
+        write(file, content)
+    user = [] if os.geteuid() == 0 else ["--map-root-user"]
+    try:
+        ended = subprocess.run(["unshare", "--mount", *user, "sh", "-c", DISKS, keeping.program.path],
+                               capture_output=True, check=False)
+    except FileNotFoundError:
+        ended = None
+    if ended is None or ended.returncode not in (0, 3):
+        print("kept: two disks with a file of the same number are left out: they cannot be mounted here")
+        return
+    keeping.tally.compare("kept: a file with the number of standard output's file on another disk",
+                          (ended.returncode, ended.stdout, ended.stderr), (0, NEW_CIRCUIT, b""))
+
+
+def before_the_script(keeping):
+    """A file that cannot be written is told before a script is read that has no end yet."""
+    write("new_rows.new", b"mine")
+    for name, words in (("a new file is there", BOTH), ("no folder", ("--circuit-out", "nowhere/file")),
+                        ("a folder", ("--circuit-out", ".")), ("a dangling link", ("--circuit-out", "dangling"))):
+        for file, content in (("design", CIRCUIT), ("rows", ROWS)):
+            write(file, content)
+        words = [keeping.program.path, "bench", *words, "design", "rows", "/dev/stdin"]
+        with subprocess.Popen(words, stdin=subprocess.PIPE, stdout=subprocess.PIPE, stderr=subprocess.PIPE) as run:
+            try:
+                status = run.wait(timeout=20)
+            except subprocess.TimeoutExpired:
+                run.kill()
+                status = None
+            keeping.tally.compare(f"kept: before the script, {name}", (status, run.stdout.read(), run.stderr.read()),
+                                  tuple(NOT_BEGUN))
+    keeping.leaves("before the script", {"new_circuit": None, "new_rows": None, "new_rows.new": b"mine"})
+    # A pipe is opened when its text is there: before that, nobody has to read it.
+    os.mkfifo("pipe")
+    words = [keeping.program.path, "bench", "--circuit-out", "pipe", "design", "rows", "/dev/stdin"]
+    with subprocess.Popen(words, stdin=subprocess.PIPE, stdout=subprocess.PIPE) as run:
+        run.stdin.write(b"v 0 8\n")
+        run.stdin.flush()
+        keeping.tally.compare("kept: a reply before a pipe is read", run.stdout.readline(), b"1\n")
+        run.stdin.close()
+        keeping.tally.compare("kept: a pipe after the script", contents("pipe"), CIRCUIT)
+    os.remove("pipe")
 
 
 def failures(keeping):
@@ -145,11 +316,14 @@ def failures(keeping):
             keeping.tally.compare(f"kept: {name}", keeping.program.run("bench", *words), wanted)
             keeping.leaves(name, {"new_circuit": None, "new_rows": None, **dict(before)})
     for file in ("new_circuit", "new_rows"):
-        keeping.row(f"{file}.new is there", BOTH, FAILED, {**dict(old), f"{file}.new": b"mine"},
+        keeping.row(f"{file}.new is there", BOTH, NOT_BEGUN, {**dict(old), f"{file}.new": b"mine"},
                     (*old, (f"{file}.new", b"mine")))
-    keeping.row("a folder that is not there", ("--circuit-out", "nowhere/file"), FAILED, {})
-    keeping.row("a folder", ("--stimulus-out", "."), FAILED, {})
-    keeping.row("a name of no bytes", ("--circuit-out", ""), FAILED, {".new": None})
+    keeping.row("a folder that is not there", ("--circuit-out", "nowhere/file"), NOT_BEGUN, {})
+    keeping.row("a folder", ("--stimulus-out", "."), NOT_BEGUN, {})
+    keeping.row("a name of no bytes", ("--circuit-out", ""), NOT_BEGUN, {".new": None})
+    keeping.row("a name that ends with a slash", ("--circuit-out", "nowhere/"), NOT_BEGUN, {"nowhere": None})
+    keeping.row("a refused circuit and a folder that is not there", ("--circuit-out", "nowhere/file"), NOT_BEGUN, {},
+                (("design", b"aag 1 0 0 0 1\n2 2 2\n"), ))
     for most in (0, 1, len(NEW_ROWS), len(NEW_CIRCUIT) - 1):
         keeping.row(f"no room behind {most} bytes", BOTH, FAILED, dict(old), old, preexec_fn=lambda most=most: room(most),
                     restore_signals=False)

@@ -73,7 +73,8 @@ def maps(rows):
             rows.tally.compare(f"unroll: map: {name}, lines", contents("map"), text.encode())
             os.remove("map")
     rows.ends("map: a folder that is not there", "unroll --frames 2 --to aag --map nowhere/map feedback",
-              input_or_output("output", UNROLLED[1][2].encode()))
+              input_or_output("output"))
+    over_its_circuit(rows)
     with open("/dev/full", "wb") as full:
         rows.tally.compare("unroll: map: a full device, no map", rows.program.run(
             "unroll", "--frames", "2", "--to", "aag", "--map", "map", "feedback", stdout=full),
@@ -81,6 +82,27 @@ def maps(rows):
     rows.tally.check("unroll: map: a full device, no map", not os.path.exists("map"))
     rows.ends("map: on a full device", "unroll --frames 2 --to aag --map /dev/full feedback",
               input_or_output("output", UNROLLED[1][2].encode()))
+
+
+def over_its_circuit(rows):
+    """A map that would replace its circuit is refused, under whatever name, and nothing is written."""
+    circuit = write("own", UNROLLED[1][2])
+    os.link("own", "second_name")
+    os.symlink("own", "link")
+    for name in ("own", "./own", "second_name", "link"):
+        rows.ends(f"map: over its circuit, {name}", f"unroll --frames 2 --to aag --map {name} {circuit}",
+                  input_or_output("output"))
+    with open("own", "rb") as file:
+        ended = rows.program.run("unroll", "--frames", "2", "--to", "aag", "--map", "own", "/dev/stdin", stdin=file)
+    rows.tally.compare("unroll: map: over its circuit, which is standard input", ended, input_or_output("output"))
+    left = (contents("own"), os.path.islink("link"), [name for name in os.listdir() if name.endswith(".new")])
+    rows.tally.compare("unroll: map: over its circuit, which stays", left, (UNROLLED[1][2].encode(), True, []))
+    words = ["unroll", "--frames", "2", "--to", "aag"]
+    wanted = rows.program.run(*words, "own")
+    write("copy", contents("own"))
+    ended = rows.program.run(*words, "--map", "copy", "own")
+    rows.tally.compare("unroll: map: over a copy of its circuit", ended, wanted)
+    rows.tally.check("unroll: map: over a copy of its circuit, which is replaced", contents("copy") != contents("own"))
 
 
 def recipe(rows):

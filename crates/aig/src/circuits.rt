@@ -2,12 +2,14 @@
 
 use crate::exit::Exit;
 use crate::files::{CIRCUIT, open, output, read_whole};
-use crate::kept::keep_inputs;
+use crate::kept::{begin_map, write_map};
+use crate::output_file::OutputFile;
 use aig_base::Std;
 use aig_engines::{deliver_circuit, deliver_info, deliver_unrolled, deliver_unrolled_and_keep};
 use aig_format::Format;
-use std::fs::Files;
+use std::fs::{Files, OpenFile};
 use std::io::Read;
+use std::os::fd::AsFd;
 
 /// Writes a circuit in a format.
 pub fn convert<R: Files + AllocGlobal + Print>(
@@ -37,46 +39,64 @@ pub fn unroll<R: Files + AllocGlobal + Print>(
     to: Format,
     circuit: &str,
     map: Option<&str>,
-) -> Result<(), Exit> {
+) -> Result<(), Exit>
+where
+    R::File: AsFd,
+{
     let circuit = open(rt, circuit, CIRCUIT)?;
-    unroll_file(rt, frames, to, circuit, map)
+    match map {
+        Some(map) => unroll_and_map(rt, frames, to, circuit, map),
+        None => unroll_file(rt, frames, to, circuit),
+    }
 }
 
-fn unroll_file<R: Files + AllocGlobal + Print, F: Read + Drop>(
+fn unroll_file<R: AllocGlobal + Print, F: Read + Drop>(
     rt: &R,
     frames: u32,
     to: Format,
     circuit: F,
-    map: Option<&str>,
 ) -> Result<(), Exit> {
     let circuit = read_whole(rt.alloc(), circuit, CIRCUIT)?;
-    match map {
-        Some(name) => write_unrolled_and_keep(rt, frames, to, circuit.as_slice(), name),
-        None => write_unrolled(rt, frames, to, circuit.as_slice()),
-    }
-}
-
-fn write_unrolled<R: AllocGlobal + Print>(
-    rt: &R,
-    frames: u32,
-    to: Format,
-    circuit: &[u8],
-) -> Result<(), Exit> {
     let mut out = output(rt);
-    deliver_unrolled(rt.alloc(), circuit, frames, to, &mut out)?;
+    deliver_unrolled(rt.alloc(), circuit.as_slice(), frames, to, &mut out)?;
     Ok(())
 }
 
-fn write_unrolled_and_keep<R: Files + AllocGlobal + Print>(
+fn unroll_and_map<R: Files + AllocGlobal + Print>(
+    rt: &R,
+    frames: u32,
+    to: Format,
+    circuit: R::File,
+    map: &str,
+) -> Result<(), Exit>
+where
+    R::File: AsFd,
+{
+    let Ok(metadata) = circuit.metadata() else {
+        return Err(CIRCUIT);
+    };
+    let circuit = read_whole(rt.alloc(), circuit, CIRCUIT)?;
+    let mut map = begin_map(rt, map, &metadata)?;
+    let done = write_unrolled_and_map(rt, frames, to, circuit.as_slice(), &mut map);
+    if done.is_err() {
+        map.remove(rt);
+    }
+    done
+}
+
+fn write_unrolled_and_map<R: Files + AllocGlobal + Print>(
     rt: &R,
     frames: u32,
     to: Format,
     circuit: &[u8],
-    map: &str,
-) -> Result<(), Exit> {
+    map: &mut OutputFile<'_, R::File>,
+) -> Result<(), Exit>
+where
+    R::File: AsFd,
+{
     let mut out = output(rt);
     let circuit = deliver_unrolled_and_keep(rt.alloc(), circuit, frames, to, &mut out)?;
-    keep_inputs(rt, &circuit, frames, map)
+    write_map(rt, &circuit, frames, map)
 }
 
 /// Writes facts about a circuit.

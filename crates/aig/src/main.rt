@@ -7,13 +7,17 @@ mod exit;
 mod files;
 mod kept;
 mod new_file;
+mod output_file;
+mod reserved;
 mod simulations;
 mod task;
 mod witnesses;
 
 use exit::Exit;
+use reserved::reserve;
 use std::env::Env;
 use std::fs::Files;
+use std::os::fd::AsFd;
 use std::process::ExitCode;
 
 fn main(rt: HostRuntime) -> ExitCode {
@@ -28,14 +32,18 @@ fn main(rt: HostRuntime) -> ExitCode {
 }
 
 /// Reads the arguments, and runs the task that they choose.
-fn run<R: Env + Files + AllocGlobal + Print + Eprint>(rt: &R) -> Result<(), Exit> {
+fn run<R: Env + Files + AllocGlobal + Print + Eprint>(rt: &R) -> Result<(), Exit>
+where
+    R::File: AsFd,
+{
+    let _reserved = reserve(rt)?;
     let words = arguments::all(rt)?;
     run_words(rt, words.as_slice())
 }
 
-fn run_words<R: Files + AllocGlobal + Print + Eprint>(
-    rt: &R,
-    words: &[String],
-) -> Result<(), Exit> {
+fn run_words<R: Files + AllocGlobal + Print + Eprint>(rt: &R, words: &[String]) -> Result<(), Exit>
+where
+    R::File: AsFd,
+{
     arguments::task_of(rt, words)?.run(rt)
 }

@@ -2,7 +2,7 @@
 
 use crate::exit::Exit;
 use crate::files::{CIRCUIT, open, output, read_whole};
-use crate::kept::{Kept, keep};
+use crate::kept::{BenchFiles, Kept};
 use aig_base::Std;
 use aig_engines::{deliver_trace, deliver_wave};
 use aig_run::{RunFault, ScriptFault};
@@ -10,6 +10,7 @@ use aig_script::{deliver_bench, deliver_replies};
 use aig_sim::StimFault;
 use std::fs::Files;
 use std::io::Read;
+use std::os::fd::AsFd;
 
 const STIMULUS: Exit = Exit::Run(RunFault::Stimulus(StimFault::Io));
 
@@ -68,7 +69,10 @@ pub fn bench<R: Files + AllocGlobal + Print>(
     stimulus: &str,
     script: &str,
     kept: Kept<'_>,
-) -> Result<(), Exit> {
+) -> Result<(), Exit>
+where
+    R::File: AsFd,
+{
     let circuit = open(rt, circuit, CIRCUIT)?;
     let stimulus = open(rt, stimulus, STIMULUS)?;
     let script = open(rt, script, SCRIPT)?;
@@ -81,7 +85,10 @@ fn bench_files<R: Files + AllocGlobal + Print, F: Read + Drop>(
     stimulus: F,
     script: F,
     kept: Kept<'_>,
-) -> Result<(), Exit> {
+) -> Result<(), Exit>
+where
+    R::File: AsFd,
+{
     let circuit = read_whole(rt.alloc(), circuit, CIRCUIT)?;
     let stimulus = read_whole(rt.alloc(), stimulus, STIMULUS)?;
     if kept.is_empty() {
@@ -109,9 +116,30 @@ fn write_replies_and_keep<R: Files + AllocGlobal + Print, F: Read + Drop>(
     stimulus: &[u8],
     script: F,
     kept: Kept<'_>,
-) -> Result<(), Exit> {
+) -> Result<(), Exit>
+where
+    R::File: AsFd,
+{
+    let mut files = BenchFiles::begin(rt, kept)?;
+    let done = write_replies_and_files(rt, circuit, stimulus, script, &mut files);
+    if done.is_err() {
+        files.remove(rt);
+    }
+    done
+}
+
+fn write_replies_and_files<R: Files + AllocGlobal + Print, F: Read + Drop>(
+    rt: &R,
+    circuit: &[u8],
+    stimulus: &[u8],
+    script: F,
+    files: &mut BenchFiles<'_, R::File>,
+) -> Result<(), Exit>
+where
+    R::File: AsFd,
+{
     let mut script = Std::new(script);
     let mut out = output(rt);
     let bench = deliver_bench(rt.alloc(), circuit, stimulus, &mut script, &mut out)?;
-    keep(rt, &bench, kept)
+    files.write(rt, &bench)
 }

@@ -9,6 +9,7 @@ use aig_command_line::{has_flag, number_of, subcommand_of, text_of};
 use aig_format::Format;
 use clap::ArgMatches;
 use std::fs::Files;
+use std::os::fd::AsFd;
 
 /// A task, with its files and options.
 #[derive(Clone, Copy)]
@@ -68,7 +69,10 @@ impl<'a> Task<'a> {
     }
 
     /// Opens the files, runs the task, and writes its results to standard output.
-    pub fn run<R: Files + AllocGlobal + Print>(&self, rt: &R) -> Result<(), Exit> {
+    pub fn run<R: Files + AllocGlobal + Print>(&self, rt: &R) -> Result<(), Exit>
+    where
+        R::File: AsFd,
+    {
         match *self {
             Task::Convert { to, circuit } => convert(rt, to, circuit),
             Task::Simulate { circuit, stimulus } => simulate(rt, circuit, stimulus),
