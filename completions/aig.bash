@@ -5,13 +5,13 @@
 _aig() {
     local commands="toaig sim wave bench unroll check info help"
     local -A options=(
-        [toaig]="--to --help"
-        [sim]="--help"
-        [wave]="--witness --help"
-        [bench]="--circuit-out --stimulus-out --help"
-        [unroll]="--frames --to --map --help"
-        [check]="--trace --help"
-        [info]="--help"
+        [toaig]="--to --explain --help"
+        [sim]="--explain --help"
+        [wave]="--witness --explain --help"
+        [bench]="--circuit-out --stimulus-out --explain --help"
+        [unroll]="--frames --to --map --explain --help"
+        [check]="--trace --explain --help"
+        [info]="--explain --help"
     )
     local -A values=(
         [--to]="aag aig"
@@ -20,11 +20,15 @@ _aig() {
         [--circuit-out]="file"
         [--stimulus-out]="file"
     )
-    local command=${COMP_WORDS[1]} words=("") joins="" i
+    local first=1 words=("") joins="" i
     COMPREPLY=()
 
+    # The command, which --explain may precede.
+    ((COMP_CWORD > 1)) && [[ ${COMP_WORDS[1]} == --explain ]] && first=2
+    local command=${COMP_WORDS[first]}
+
     # The words after the command. Bash splits `--to=aag` at `=`, if `=` is in COMP_WORDBREAKS.
-    for ((i = 2; i <= COMP_CWORD; i++)); do
+    for ((i = first + 1; i <= COMP_CWORD; i++)); do
         if [[ ${COMP_WORDS[i]} == = && ${words[-1]} == --* ]]; then
             words[-1]+="="
             joins=yes
@@ -54,8 +58,8 @@ _aig() {
         [[ $COMP_WORDBREAKS == *=* ]] || before="$option="
         word=${word#*=}
     fi
-    if ((COMP_CWORD == 1)); then
-        _aig_reply "" -W "$commands --help --version" -- "$command"
+    if ((COMP_CWORD == first)); then
+        _aig_reply "" -W "$commands --explain --help --version" -- "$command"
     elif [[ $command == help ]]; then
         _aig_reply "" -W "$commands" -- "$word"
     elif [[ -n $option && ${values[$option]} == file ]]; then

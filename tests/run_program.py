@@ -1,7 +1,8 @@
 #!/usr/bin/env python3
-"""Runs the built program as a user does: each subcommand on small files, the words of the command line, the help and the
-causes of messages beside docs/BEHAVIOUR.md, manual pages and completions, and talks through pipes. Output, error text and exit status have to be those that stand here: from
-the standard, from worked examples, and from library/reference.py, a plain simulator and workbench."""
+"""Runs the built program as a user does: each subcommand on small files, the words of the command line, the help and
+the causes of messages beside docs/BEHAVIOUR.md, what --explain says, manual pages and completions, what a run needs, and
+talks through pipes. Output, error text and exit status have to be those that stand here: from the standard, from worked
+examples, and from library/reference.py, a plain simulator and workbench."""
 
 from library import runs
 from program.bench import bench
@@ -9,9 +10,12 @@ from program.check import check
 from program.completions import completions
 from program.descriptors import descriptors
 from program.diagnostics import diagnostics
+from program.explain import explain
+from program.explain_option import explain_option
 from program.helps import helps
 from program.info import info
 from program.kept import kept
+from program.needs import needs
 from program.owners import owners
 from program.pages import pages
 from program.replays import replays
@@ -23,8 +27,9 @@ from program.wave import wave
 from program.words import words
 
 PARTS = {"bench": bench, "kept": kept, "owners": owners, "descriptors": descriptors, "words": words, "sim": sim,
-         "wave": wave, "check": check, "replays": replays, "toaig": toaig, "unroll": unroll, "info": info, "help": helps,
-         "pages": pages, "completions": completions, "diagnostics": diagnostics, "talks": talks}
+         "wave": wave, "check": check, "replays": replays, "toaig": toaig, "unroll": unroll, "info": info,
+         "help": helps, "pages": pages, "completions": completions, "diagnostics": diagnostics, "explain": explain,
+         "explain_option": explain_option, "needs": needs, "talks": talks}
 
 if __name__ == "__main__":
     runs.main(__doc__, PARTS)

@@ -1,10 +1,11 @@
 /* Stands before the C library's calls for files: open, read, write, fsync, fchmod, fchown, statx, realpath, rename,
    unlink and close. CALL is the name of one of them, but that `write` is a write to standard output, and `file` one to
    another file than standard error; or it is `any`, for all of them. The call of that name whose number (from 1) is in
-   REFUSE fails, or where NONE is set takes no byte. Where KILL is set, the program is killed before it; where STOP is
-   set, the program is stopped there, and the call is let through once it goes on. All other calls are let through. A
-   close that fails has closed its file. Where STEP is set, each read and write moves one byte at most. It says on the
-   file COUNTED how many such calls there were. A read or write that is to move no bytes is no such call. */
+   REFUSE fails, or where NONE is set takes no byte; where INTERRUPT is set, it fails as if a signal came. Where KILL is
+   set, the program is killed before it; where STOP is set, the program is stopped there, and the call is let through
+   once it goes on. All other calls are let through. A close that fails has closed its file. Where STEP is set, each
+   read and write moves one byte at most. It says on the file COUNTED how many such calls there were. A read or write
+   that is to move no bytes is no such call. */
 #define _GNU_SOURCE
 #include <dlfcn.h>
 #include <errno.h>
@@ -47,7 +48,7 @@ static ssize_t refusal(void)
 {
     if (getenv("NONE"))
         return 0;
-    errno = EIO;
+    errno = getenv("INTERRUPT") ? EINTR : EIO;
     return -1;
 }
 

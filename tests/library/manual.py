@@ -82,10 +82,12 @@ def aig_page(ask, version):
         text += f".SS aig {name}\n{lines(prose(one.about + '.'))}" + entries(one.arguments) + entries(one.options)
         text += flowing(said(one))
     text += ".SH OPTIONS\n" + entries(overview.options)
-    text += ".SH EXIT STATUS\n" + flowing(re.sub(r"^Exit status:\n", "", said(overview)))
+    for name, list_of_terms in re.findall(r"(?m)^(.*):\n((?:  .*\n?)+)", said(overview)):
+        text += f".SH {name.upper()}\n{flowing(list_of_terms)}"
     markdown = Markdown({"FORMATS.md": "\\fBaig\\-formats\\fP(5)"})
     behaviour = sections(document("BEHAVIOUR.md"))
-    for name in ("Pipes, full devices and closed outputs", "Diagnostics", "Rejected circuits", "Limits"):
+    for name in ("Pipes, full devices and closed outputs", "Explanations", "Diagnostics", "Rejected circuits",
+                 "What a run needs", "Limits"):
         text += f".SH {name.upper()}\n" + markdown.page(behaviour[name])
     text += ".SH EXAMPLES\nThese commands use files of the folder\n.BR examples ,\nwhich comes with the program.\n"
     for one in each.values():

@@ -15,39 +15,62 @@ COUNTER = "examples/counter.aag"
 WRAPS = "examples/wraps.aag"
 BENCH = ["bench", "--circuit-out", "out", "two_gates", "rows", "script"]
 
-# A word of the cause in a row of the table, and the words of a command that meets it.
+# A word of the cause in a row of the table, the words of a command that meets it, and what --explain says of it.
 CASES = (
-    ("is missing, or", ["info", "missing"]),
-    ("is missing, or", ["info", "examples"]),
-    ("is empty", ["info", "nothing"]),
-    ("byte-order mark", ["info", "bom"]),
-    ("gzip", ["info", "counter.aag.gz"]),
-    ("Verilog", ["info", "verilog"]),
-    ("end with CR LF, and A", ["info", "crlf"]),
-    ("cut off", ["info", "cut"]),
-    ("over 4,194,303", ["info", "large"]),
-    ("do not fit together", ["info", "counts"]),
-    ("no input, latch or gate defines it", ["info", "undefined"]),
-    ("loop without a latch", ["info", "cycle"]),
-    ("end with CR LF, or the file is not a stimulus", ["sim", "two_gates", "crlf.stim"]),
-    ("end with CR LF, or the file is not a stimulus", ["sim", "two_gates", "two_gates"]),
-    ("`--witness` is missing", ["wave", WRAPS, "examples/wraps.wit"]),
-    ("one character per input", ["sim", "two_gates", "short"]),
-    ("does not end with a newline", ["sim", "two_gates", "unfinished"]),
-    ("comments or several witnesses", ["check", WRAPS, "crlf.wit"]),
-    ("comments or several witnesses", ["check", WRAPS, "comment.wit"]),
-    ("for another circuit", ["check", COUNTER, "examples/wraps.wit"]),
-    ("does not have this bad state property", ["check", WRAPS, "other.wit"]),
-    ("has justice properties", ["unroll", "--frames", "2", "--to", "aag", "live"]),
-    ("K is over 65,536", ["unroll", "--frames", "65537", "--to", "aag", "two_gates"]),
-    ("more than 65,536 rows", ["bench", "two_gates", "many.stim", "script"]),
-    ("too large for so many rows", ["bench", "many", "empty.stim", "script"]),
-    ("was killed", BENCH),
-    ("is also the standard output", ["bench", "--circuit-out", "/dev/full", "two_gates", "rows", "script"]),
-    ("is also the standard output", ["bench", "--circuit-out", "nowhere/out", "two_gates", "rows", "script"]),
-    ("is a link to a file", ["bench", "--circuit-out", "dangling", "two_gates", "rows", "script"]),
-    ("files are the same", ["bench", "--circuit-out", "one", "--stimulus-out", "./one", "two_gates", "rows", "script"]),
-    ("files are the same", ["unroll", "--frames", "2", "--to", "aag", "--map", "two_gates", "two_gates"]),
+    ("is missing, or", ["info", "missing"], "No such file"),
+    ("is missing, or", ["info", "examples"], "it is a folder"),
+    ("is empty", ["info", "nothing"], "the file is empty"),
+    ("byte-order mark", ["info", "bom"], "byte-order mark"),
+    ("gzip", ["info", "counter.aag.gz"], "zcat"),
+    ("Verilog", ["info", "verilog"], "write_aiger of yosys or ABC"),
+    ("Verilog", ["info", "blif"], "write_aiger of yosys or ABC"),
+    ("begins with `aig2`", ["info", "aig2"], "without -c"),
+    ("is a witness or a stimulus", ["check", "examples/wraps.wit", WRAPS], "aig check CIRCUIT WITNESS"),
+    ("is a witness or a stimulus", ["sim", "rows", "two_gates"], "aig sim CIRCUIT STIM"),
+    ("end with CR LF, and A", ["info", "crlf"], "tr -d '\\r'"),
+    ("cut off", ["info", "cut"], "cut off"),
+    ("ends with `c` and no newline", ["info", "unended"], "echo >> FILE"),
+    ("Records follow `c`", ["info", "records"], "write_xaiger"),
+    ("over 4,194,303", ["info", "large"], "at most 4,194,303"),
+    ("do not fit together", ["info", "counts"], "M = I + L + A"),
+    ("is greater than 2M + 1", ["info", "range"], "2M + 1 = 3"),
+    ("has an odd literal, or 0", ["info", "odd"], "an even literal greater than 0"),
+    ("define variable V", ["info", "twice"], "two definitions"),
+    ("a reset other than", ["info", "reset"], "wanted: 0, 1, or its own literal 2"),
+    ("no input, latch or gate defines it", ["info", "undefined"], "no input, latch or gate defines it"),
+    ("loop without a latch", ["info", "cycle"], "a latch"),
+    ("end with CR LF, or the file is not a stimulus", ["sim", "two_gates", "crlf.stim"], "tr -d '\\r'"),
+    ("end with CR LF, or the file is not a stimulus", ["sim", "two_gates", "two_gates"], "the file is a circuit"),
+    ("`--witness` is missing", ["wave", WRAPS, "examples/wraps.wit"], "aig wave --witness CIRCUIT WITNESS"),
+    ("one character per input", ["sim", "two_gates", "short"], "one for each input of the circuit"),
+    ("does not end with a newline", ["sim", "two_gates", "unfinished"], "echo >> FILE"),
+    ("output of a solver", ["check", WRAPS, "sat.wit"], "verdict"),
+    ("output of a solver", ["check", WRAPS, "unsat.wit"], "0 and 2 say that no run was found"),
+    ("output of a solver", ["check", WRAPS, "row.wit"], "a run of ABC"),
+    ("output of a solver", ["check", WRAPS, "values.wit"], "values by name"),
+    ("comments or several witnesses", ["check", WRAPS, "crlf.wit"], "tr -d '\\r'"),
+    ("comments or several witnesses", ["check", WRAPS, "comment.wit"], "no comments"),
+    ("comments or several witnesses", ["check", WRAPS, "several.wit"], "several witnesses"),
+    ("for another circuit", ["check", COUNTER, "examples/wraps.wit"], "aig info CIRCUIT"),
+    ("does not have this bad state property", ["check", WRAPS, "other.wit"], "b7"),
+    ("more than 65,536 frames", ["check", "bad_input", "many.wit"], "at most 65,536 frames"),
+    ("K is 0", ["unroll", "--frames", "0", "--to", "aag", "two_gates"], "K is 0"),
+    ("has justice properties", ["unroll", "--frames", "2", "--to", "aag", "live"], "justice properties: 1"),
+    ("K is over 65,536", ["unroll", "--frames", "65537", "--to", "aag", "two_gates"], "K is 65537"),
+    ("K is over 65,536", ["unroll", "--frames", "65536", "--to", "aag", "inputs"], "M = 4194304"),
+    ("more than 65,536 rows", ["bench", "two_gates", "many.stim", "script"], "at most 65,536 rows"),
+    ("too large for so many rows", ["bench", "many", "empty.stim", "script"], "at most 67,108,864"),
+    ("was killed", BENCH, "rename it or remove it"),
+    ("is also the standard output", ["bench", "--circuit-out", "/dev/full", "two_gates", "rows", "script"],
+     "may be full"),
+    ("is also the standard output", ["bench", "--circuit-out", "nowhere/out", "two_gates", "rows", "script"],
+     "No such file"),
+    ("is a link to a file", ["bench", "--circuit-out", "dangling", "two_gates", "rows", "script"],
+     "a link to a file that does not exist"),
+    ("files are the same", ["bench", "--circuit-out", "one", "--stimulus-out", "./one", "two_gates", "rows", "script"],
+     "two arguments name this file"),
+    ("files are the same", ["unroll", "--frames", "2", "--to", "aag", "--map", "two_gates", "two_gates"],
+     "two arguments name this file"),
 )
 
 
@@ -57,8 +80,10 @@ def diagnostics(program, tally, _):
     text = sections(contents(f"{REPOSITORY}/docs/BEHAVIOUR.md").decode())["Diagnostics"]
     rows = [cells(row) for row in text.split(HEAD, 1)[1].strip().split("\n")[1:]]
     met = set()
-    for word, words in CASES:
+    for word, words, explained in CASES:
         is_met(tally, rows, met, word, program.run(*words).err)
+        said = program.run("--explain", *words).err.decode()
+        tally.check(f"diagnostics: {words}, explained", explained in said.split("\n", 1)[1], said)
     is_met(tally, rows, met, "pipe was closed", closed_pipe(program))
     with open("/dev/full", "wb") as full:
         is_met(tally, rows, met, "disk is full", program.run("info", "two_gates", stdout=full).err)
@@ -88,11 +113,16 @@ def write_files():
     witness = contents("examples/wraps.wit").decode()
     for name, data in {
             "nothing": "", "bom": b"\xef\xbb\xbf" + counter, "counter.aag.gz": gzip.compress(counter),
-            "verilog": "module m(input a, output b); endmodule\n", "crlf": counter.replace(b"\n", b"\r\n"),
+            "verilog": "module m(input a, output b); endmodule\n", "blif": ".model m\n.inputs a\n.end\n",
+            "aig2": "aig2 0 0 0 0 0\n", "unended": "aag 0 0 0 0 0\nc", "records": "aag 0 0 0 0 0\ncn\0\0",
+            "range": "aag 1 1 0 1 0\n2\n4\n", "odd": "aag 1 1 0 0 0\n3\n", "twice": "aag 2 2 0 0 0\n2\n2\n",
+            "reset": "aag 1 0 1 0 0\n2 2 3\n", "crlf": counter.replace(b"\n", b"\r\n"),
             "cut": counter[:20], "large": "aag 4194304 0 0 0 0\n", "counts": "aig 5 1 1 1 1\n",
             "undefined": "aag 1 0 0 1 0\n2\n", "crlf.stim": "00\r\n", "short": "0\n", "unfinished": "01",
             "crlf.wit": witness.replace("\n", "\r\n"), "comment.wit": "c found by a solver\n" + witness,
-            "other.wit": witness.replace("b0", "b7"), "rows": "01\n", "script": "v 0 8\n", "out.new": "",
+            "other.wit": witness.replace("b0", "b7"), "several.wit": witness * 2, "sat.wit": "sat\n" + witness,
+            "unsat.wit": "0\nb0\n.\n", "row.wit": "0101\n", "values.wit": "i0=1 i1=0\n",
+            "many.wit": "1\nb0\n\n" + "1\n" * 65537 + ".\n", "rows": "01\n", "script": "v 0 8\n", "out.new": "",
             "many.stim": "01\n" * 65537, "empty.stim": "\n" * 17, "crlf.script": "v 0 8\r\nt\r\n"}.items():
         write(name, data)
 

@@ -33,7 +33,9 @@ def pages(program, tally, _):
     zsh = contents(f"{REPOSITORY}/completions/_aig").decode()
     described = re.findall(r"(?m)^        '([a-z]+):", zsh)
     tally.compare("pages: commands of _aig", sorted(described), sorted([*each, "help"]))
-    cases = dict(re.findall(r"(?ms)^        ([a-z]+)\)(.*?);;", zsh))
+    shared = re.search(r"general=\((.*)\)", zsh)[1]
+    cases = {name: text.replace("$general", shared)
+             for name, text in re.findall(r"(?ms)^        ([a-z]+)\)(.*?);;", zsh)}
     found = {name: sorted(re.findall(r"'(--[a-z-]+)", text)) for name, text in cases.items() if name != "help"}
     tally.compare("pages: options of _aig", found, wanted)
     tally.compare("pages: options with values of _aig", set(re.findall(r"'(--[a-z-]+)=\[", zsh)), with_values)

@@ -1,5 +1,8 @@
 """Rows: runs on small files, and what each of them writes and says."""
 
+import os
+import re
+
 from library.runs import Ended, contents, input_or_output, refused, write
 
 
@@ -18,7 +21,11 @@ class Rows:
         for file, content in files.items():
             write(file, content)
         words = words.split(" ") if isinstance(words, str) else words
-        self.tally.compare(f"{self.name}: {name}", self.program.run(*words), wanted)
+        ended = self.program.run(*words)
+        self.tally.compare(f"{self.name}: {name}", ended, wanted)
+        if ended.err:
+            again = self.program.run(*words, env={**os.environ, "AIG_EXPLAIN": "1"})
+            self.tally.check(f"{self.name}: {name}, explained", explains(again, ended), again)
 
     def gives(self, name, words, out, status=0, **files):
         self.ends(name, words, Ended(status, data(out), b""), **files)
@@ -34,3 +41,10 @@ class Rows:
     def fails(self, name, words, part):
         """A file of this part is not there, or cannot be read."""
         self.ends(name, words, input_or_output(part))
+
+
+def explains(again, ended):
+    """Whether a run ends like another one, and lines of an explanation follow its message: each begins with two spaces,
+    and a terminal shows each of their bytes as it is."""
+    return ((again.status, again.out) == (ended.status, ended.out) and again.err.startswith(ended.err)
+            and re.fullmatch(rb"(?:  [ -~]+\n)+", again.err[len(ended.err):]) is not None)

@@ -2,9 +2,12 @@
 
 use crate::exit::Exit;
 use crate::task::Task;
-use aig_command_line::matches_of;
+use aig_base::Memory;
+use aig_command_line::{has_flag, matches_of};
+use aig_explain::escaped;
 use aig_run::RunFault;
 use clap::error::ErrorKind;
+use std::alloc::Global;
 use std::env::{self, Env};
 use std::io;
 
@@ -22,22 +25,73 @@ pub fn all<R: Env + AllocGlobal>(rt: &R) -> Result<Vec<String>, Exit> {
     }
 }
 
-/// Returns the task that the arguments choose. If they are wrong, prints clap's text on standard error.
-pub fn task_of<'a, R: AllocGlobal + Eprint>(rt: &R, words: &'a [String]) -> Result<Task<'a>, Exit> {
+/// What the arguments ask for.
+#[derive(Clone, Copy)]
+pub struct Request<'a> {
+    pub task: Task<'a>,
+    /// Whether to explain why the task fails.
+    pub is_explained: bool,
+}
+
+/// Returns what the arguments ask for. If they are wrong, prints clap's text on standard error.
+pub fn request_of<'a, R: AllocGlobal + Eprint>(
+    rt: &R,
+    words: &'a [String],
+) -> Result<Request<'a>, Exit> {
     match matches_of(rt.alloc(), words) {
         Ok(matches) => match Task::of(&matches) {
-            Some(task) => Ok(task),
+            Some(task) => Ok(Request {
+                task,
+                is_explained: has_flag(&matches, "explain"),
+            }),
             None => Err(Exit::NoTask),
         },
-        Err(error) => Err(refused(rt, &error)),
+        Err(error) => Err(refused(rt, words, &error)),
     }
 }
 
-fn refused(rt: &impl Eprint, error: &clap::Error) -> Exit {
+/// Prints clap's text. It names arguments, which may have bytes that a terminal obeys. It is then the text for the
+/// escaped arguments. They have the same fault, because no name of a command or an option and no number has such bytes.
+fn refused<R: AllocGlobal + Eprint>(rt: &R, words: &[String], error: &clap::Error) -> Exit {
+    let is_memory = error.kind() == ErrorKind::OutOfMemory;
+    if is_memory || words.iter().all(|word| is_shown(word.as_str())) {
+        return print(rt, error);
+    }
+    match all_escaped(rt.alloc(), words) {
+        Ok(shown) => refused_escaped(rt, shown.as_slice(), error.kind()),
+        Err(Memory) => Exit::Run(RunFault::Memory),
+    }
+}
+
+fn refused_escaped<R: AllocGlobal + Eprint>(rt: &R, words: &[String], kind: ErrorKind) -> Exit {
+    match matches_of(rt.alloc(), words) {
+        Ok(_) => {
+            let _ = eprintln!(rt; "error: {kind}");
+            Exit::Told
+        }
+        Err(error) => print(rt, &error),
+    }
+}
+
+/// Prints clap's text, and returns how the program ends.
+fn print(rt: &impl Eprint, error: &clap::Error) -> Exit {
     if error.kind() == ErrorKind::OutOfMemory {
         return Exit::Run(RunFault::Memory);
     }
     // There is no place left to report that standard error fails.
     let _ = rt.eprint(error);
     Exit::Told
+}
+
+/// Whether a terminal shows each byte of the text as it is.
+fn is_shown(text: &str) -> bool {
+    text.as_bytes().iter().all(|byte| (32..=126).contains(byte))
+}
+
+fn all_escaped(alloc: Global, words: &[String]) -> Result<Vec<String>, Memory> {
+    let mut all = Vec::new(alloc);
+    for word in words {
+        all.push(escaped(alloc, word.as_str().as_bytes())?)?;
+    }
+    Ok(all)
 }

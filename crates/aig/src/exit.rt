@@ -29,8 +29,14 @@ impl From<RunFault> for Exit {
 }
 
 impl Exit {
-    /// Prints the reason on standard error, unless it is printed already.
-    pub fn tell(&self, rt: &impl Eprint) -> io::Result<()> {
+    /// Prints the reason on standard error, unless it is printed already, and returns the exit.
+    pub fn tell(self, rt: &impl Eprint) -> Exit {
+        // There is no place left to report that standard error fails.
+        let _ = self.print(rt);
+        self
+    }
+
+    fn print(&self, rt: &impl Eprint) -> io::Result<()> {
         match self {
             Exit::Told | Exit::NotConfirmed => Ok(()),
             Exit::NoTask => eprintln!(rt; "error: the words choose no task"),

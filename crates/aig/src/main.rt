@@ -4,16 +4,21 @@
 mod arguments;
 mod circuits;
 mod exit;
+mod explain;
 mod files;
 mod kept;
+mod look;
 mod new_file;
 mod output_file;
+mod output_look;
 mod reserved;
 mod simulations;
 mod task;
 mod witnesses;
 
+use arguments::{Request, request_of};
 use exit::Exit;
+use explain::{explain, is_asked_for};
 use reserved::reserve;
 use std::env::Env;
 use std::fs::Files;
@@ -23,27 +28,57 @@ use std::process::ExitCode;
 fn main(rt: HostRuntime) -> ExitCode {
     match run(&rt) {
         Ok(()) => ExitCode::from(0),
-        Err(exit) => {
-            // There is no place left to report that standard error fails.
-            let _ = exit.tell(&rt);
-            ExitCode::from(exit.status())
-        }
+        Err(exit) => ExitCode::from(exit.status()),
     }
 }
 
-/// Reads the arguments, and runs the task that they choose.
+/// Runs what the arguments ask for. If that fails, the reason is printed already.
 fn run<R: Env + Files + AllocGlobal + Print + Eprint>(rt: &R) -> Result<(), Exit>
 where
     R::File: AsFd,
 {
-    let _reserved = reserve(rt)?;
-    let words = arguments::all(rt)?;
-    run_words(rt, words.as_slice())
+    match reserve(rt) {
+        Ok(_reserved) => run_arguments(rt),
+        Err(exit) => Err(exit.tell(rt)),
+    }
 }
 
-fn run_words<R: Files + AllocGlobal + Print + Eprint>(rt: &R, words: &[String]) -> Result<(), Exit>
+fn run_arguments<R: Env + Files + AllocGlobal + Print + Eprint>(rt: &R) -> Result<(), Exit>
 where
     R::File: AsFd,
 {
-    arguments::task_of(rt, words)?.run(rt)
+    match arguments::all(rt) {
+        Ok(words) => run_words(rt, words.as_slice()),
+        Err(exit) => Err(exit.tell(rt)),
+    }
+}
+
+fn run_words<R: Env + Files + AllocGlobal + Print + Eprint>(
+    rt: &R,
+    words: &[String],
+) -> Result<(), Exit>
+where
+    R::File: AsFd,
+{
+    match request_of(rt, words) {
+        Ok(request) => run_request(rt, &request),
+        Err(exit) => Err(exit.tell(rt)),
+    }
+}
+
+fn run_request<R: Env + Files + AllocGlobal + Print + Eprint>(
+    rt: &R,
+    request: &Request<'_>,
+) -> Result<(), Exit>
+where
+    R::File: AsFd,
+{
+    let done = request.task.run(rt);
+    if let Err(exit) = done {
+        let exit = exit.tell(rt);
+        if request.is_explained || is_asked_for(rt) {
+            explain(rt, request.task, exit);
+        }
+    }
+    done
 }

@@ -130,7 +130,10 @@ static AFTER_INFO: &str = "A line has a name, one space and a value. The names, 
 Example: aig info examples/counter.aag
 See also: man aig, man 5 aig-formats";
 
-static AFTER_ALL: &str = "Exit status:
+static AFTER_ALL: &str = "Environment:
+  AIG_EXPLAIN  if it is 1, every command has the option --explain
+
+Exit status:
   0  done
   1  the input was rejected, or the verdict is not confirmed
   2  wrong arguments, or a request for help or for the version
@@ -241,6 +244,20 @@ fn trace_flag<'a>(alloc: Global) -> Arg<'a> {
     )
 }
 
+/// The place in a help of an option that every command has: after its own options.
+const LAST: usize = 90;
+
+// Global: it may be before the command or after it.
+fn explain_flag<'a>(alloc: Global) -> Arg<'a> {
+    flag(
+        alloc,
+        "explain",
+        "If the run fails, explain why, and what to do",
+    )
+    .global(true)
+    .display_order(LAST)
+}
+
 fn toaig_command<'a>(alloc: Global) -> Result<Command<'a>, AllocError> {
     Command::new(alloc, "toaig")
         .about("Convert a circuit between the text and the binary format")
@@ -326,12 +343,13 @@ fn info_command<'a>(alloc: Global) -> Result<Command<'a>, AllocError> {
         .arg(circuit_argument(alloc))
 }
 
-fn program<'a>(alloc: Global) -> Command<'a> {
+fn program<'a>(alloc: Global) -> Result<Command<'a>, AllocError> {
     Command::new(alloc, "aig")
         .version(VERSION)
         .about("Convert, simulate, unroll and check circuits in the AIGER formats")
         .after_help(AFTER_ALL)
         .subcommand_required(true)
+        .arg(explain_flag(alloc))
 }
 
 // Alone here, where a failure drops the program's command.
@@ -343,7 +361,7 @@ fn with_subcommand<'a>(
 }
 
 fn command_line<'a>(alloc: Global) -> Result<Command<'a>, AllocError> {
-    let start = with_subcommand(program(alloc), toaig_command(alloc))?;
+    let start = with_subcommand(program(alloc)?, toaig_command(alloc))?;
     let next = with_subcommand(start, sim_command(alloc))?;
     let wave = with_subcommand(next, wave_command(alloc))?;
     let last = with_subcommand(wave, bench_command(alloc))?;

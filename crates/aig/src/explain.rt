@@ -1,0 +1,280 @@
+//! What `--explain` prints after the reason why a run failed: its files, and what a second look at them shows.
+
+use crate::exit::Exit;
+use crate::kept::Kept;
+use crate::look::{Obstacle, explain_reading, note, note_name, read_again};
+use crate::output_look::{explain_output, explain_standard_output};
+use crate::task::Task;
+use aig_base::{Fault, Memory};
+use aig_bench::BenchFault;
+use aig_explain::{
+    Explanation, explain_bench, explain_circuit, explain_stimulus, explain_unroll, explain_witness,
+};
+use aig_run::{RunFault, ScriptFault};
+use aig_sim::{StimFault, WitnessFault};
+use aig_unroll::UnrollFault;
+use std::alloc::Global;
+use std::env::{self, Env, VarError};
+use std::fs::Files;
+
+/// The variable of the environment that asks for explanations.
+const VARIABLE: &str = "AIG_EXPLAIN";
+
+/// The values of the variable that mean no, in small or capital letters.
+const NO: [&str; 5] = ["", "0", "no", "off", "false"];
+
+/// What to do if memory runs out.
+const MORE_MEMORY: &str =
+    "out of memory: raise the memory limit (ulimit -v), or use a machine with more memory";
+
+/// Returns whether the environment asks for explanations.
+pub fn is_asked_for<R: Env + AllocGlobal>(rt: &R) -> bool {
+    match env::var(rt, VARIABLE) {
+        Ok(value) => !is_no(value.as_str()),
+        Err(VarError::NotUnicode) => true,
+        Err(VarError::NotPresent | VarError::OutOfMemory) => false,
+    }
+}
+
+fn is_no(value: &str) -> bool {
+    NO.iter().any(|no| value.eq_ignore_ascii_case(no))
+}
+
+/// The files of a task, and its number of frames.
+#[derive(Clone, Copy)]
+struct TaskFiles<'a> {
+    circuit: &'a str,
+    // The stimulus or the witness.
+    run: Option<&'a str>,
+    script: Option<&'a str>,
+    kept: Kept<'a>,
+    map: Option<&'a str>,
+    frames: u32,
+}
+
+impl<'a> TaskFiles<'a> {
+    fn of(task: Task<'a>) -> TaskFiles<'a> {
+        match task {
+            Task::Convert { circuit, .. } | Task::Info { circuit } => TaskFiles::new(circuit, None),
+            Task::Simulate { circuit, stimulus } | Task::Wave { circuit, stimulus } => {
+                TaskFiles::new(circuit, Some(stimulus))
+            }
+            Task::WaveWitness { circuit, witness }
+            | Task::Check {
+                circuit,
+                witness,
+                ..
+            } => { TaskFiles::new(circuit, Some(witness)) }
+            Task::Bench {
+                circuit,
+                stimulus,
+                script,
+                kept,
+            } => TaskFiles {
+                script: Some(script),
+                kept,
+                ..TaskFiles::new(circuit, Some(stimulus))
+            },
+            Task::Unroll {
+                frames,
+                circuit,
+                map,
+                ..
+            } => TaskFiles {
+                map,
+                frames,
+                ..TaskFiles::new(circuit, None)
+            },
+        }
+    }
+
+    fn new(circuit: &'a str, run: Option<&'a str>) -> TaskFiles<'a> {
+        TaskFiles {
+            circuit,
+            run,
+            script: None,
+            kept: Kept {
+                circuit: None,
+                stimulus: None,
+            },
+            map: None,
+            frames: 0,
+        }
+    }
+}
+
+/// Explains on standard error why the task ended, after its reason is printed.
+pub fn explain<R: Files + AllocGlobal + Print + Eprint>(rt: &R, task: Task<'_>, exit: Exit) {
+    let files = TaskFiles::of(task);
+    match exit {
+        Exit::Run(fault) => explain_fault(rt, &files, fault),
+        Exit::Witness => of_file(rt, files.run),
+        Exit::Told | Exit::NoTask | Exit::NotText | Exit::NotConfirmed => {}
+    }
+}
+
+fn explain_fault<R: Files + AllocGlobal + Print + Eprint>(
+    rt: &R,
+    files: &TaskFiles<'_>,
+    fault: RunFault,
+) {
+    match fault {
+        RunFault::Circuit(fault) => of_circuit(rt, files, fault),
+        RunFault::Stimulus(fault) => of_stimulus(rt, files, fault),
+        RunFault::Witness(fault) => of_witness(rt, files, fault),
+        RunFault::Bench(fault) => of_bench(rt, files, fault),
+        RunFault::Script(fault) => of_script(rt, files, fault),
+        RunFault::Unroll(fault) => of_unroll(rt, files, fault),
+        RunFault::Output => of_output(rt, files),
+        RunFault::Memory => note(rt, MORE_MEMORY),
+    }
+}
+
+fn of_circuit<R: Files + AllocGlobal + Eprint>(rt: &R, files: &TaskFiles<'_>, fault: Fault) {
+    match fault {
+        Fault::Memory => note(rt, MORE_MEMORY),
+        Fault::Io => of_file(rt, Some(files.circuit)),
+        _ => of_circuit_text(rt, files.circuit, fault),
+    }
+}
+
+fn of_circuit_text<R: Files + AllocGlobal + Eprint>(rt: &R, name: &str, fault: Fault) {
+    note_name(rt, name);
+    match read_again(rt, name) {
+        Ok(file) => print(rt, explain_circuit(rt.alloc(), file.as_slice(), fault)),
+        Err(obstacle) => obstacle.explain(rt),
+    }
+}
+
+fn of_stimulus<R: Files + AllocGlobal + Print + Eprint>(
+    rt: &R,
+    files: &TaskFiles<'_>,
+    fault: StimFault,
+) {
+    match fault {
+        StimFault::Memory => note(rt, MORE_MEMORY),
+        StimFault::Io => of_stream(rt, files.run),
+        _ => of_two_files(rt, files, RunFault::Stimulus(fault)),
+    }
+}
+
+fn of_witness<R: Files + AllocGlobal + Eprint>(rt: &R, files: &TaskFiles<'_>, fault: WitnessFault) {
+    match fault {
+        WitnessFault::Memory => note(rt, MORE_MEMORY),
+        _ => of_two_files(rt, files, RunFault::Witness(fault)),
+    }
+}
+
+fn of_bench<R: Files + AllocGlobal + Eprint>(rt: &R, files: &TaskFiles<'_>, fault: BenchFault) {
+    match fault {
+        BenchFault::Memory => note(rt, MORE_MEMORY),
+        _ => of_two_files(rt, files, RunFault::Bench(fault)),
+    }
+}
+
+/// A stimulus or a witness, which depends on the circuit.
+fn of_two_files<R: Files + AllocGlobal + Eprint>(rt: &R, files: &TaskFiles<'_>, fault: RunFault) {
+    let Some(name) = files.run else {
+        return;
+    };
+    note_name(rt, name);
+    let circuit = read_again(rt, files.circuit);
+    match read_again(rt, name) {
+        Ok(file) => print(
+            rt,
+            explanation_of(rt.alloc(), bytes_of(&circuit), file.as_slice(), fault),
+        ),
+        Err(obstacle) => obstacle.explain(rt),
+    }
+    if let Err(obstacle) = &circuit {
+        note_name(rt, files.circuit);
+        obstacle.explain(rt);
+    }
+}
+
+/// The bytes of a file, or none if there was no second look.
+fn bytes_of(file: &Result<Vec<u8>, Obstacle>) -> &[u8] {
+    match file {
+        Ok(bytes) => bytes.as_slice(),
+        Err(_) => &[],
+    }
+}
+
+fn explanation_of(
+    alloc: Global,
+    circuit: &[u8],
+    file: &[u8],
+    fault: RunFault,
+) -> Result<Explanation, Memory> {
+    match fault {
+        RunFault::Stimulus(fault) => explain_stimulus(alloc, circuit, file, fault),
+        RunFault::Witness(fault) => explain_witness(alloc, circuit, file, fault),
+        RunFault::Bench(fault) => explain_bench(alloc, circuit, file, fault),
+        _ => Ok(Explanation::new(alloc)),
+    }
+}
+
+fn of_script<R: Files + AllocGlobal + Print + Eprint>(
+    rt: &R,
+    files: &TaskFiles<'_>,
+    fault: ScriptFault,
+) {
+    match fault {
+        ScriptFault::Memory => note(rt, MORE_MEMORY),
+        ScriptFault::Io => of_stream(rt, files.script),
+    }
+}
+
+/// A file that could not be opened or read.
+fn of_file<R: Files + AllocGlobal + Eprint>(rt: &R, name: Option<&str>) {
+    let _is_explained = explain_reading(rt, name);
+}
+
+/// Either the file could not be read, or standard output could not be written to. The second look at the file tells.
+fn of_stream<R: Files + AllocGlobal + Print + Eprint>(rt: &R, name: Option<&str>) {
+    if !explain_reading(rt, name) {
+        explain_standard_output(rt);
+    }
+}
+
+fn of_unroll<R: Files + AllocGlobal + Eprint>(rt: &R, files: &TaskFiles<'_>, fault: UnrollFault) {
+    match fault {
+        UnrollFault::Memory => note(rt, MORE_MEMORY),
+        _ => of_unroll_text(rt, files, fault),
+    }
+}
+
+fn of_unroll_text<R: Files + AllocGlobal + Eprint>(
+    rt: &R,
+    files: &TaskFiles<'_>,
+    fault: UnrollFault,
+) {
+    note_name(rt, files.circuit);
+    match read_again(rt, files.circuit) {
+        Ok(file) => print(
+            rt,
+            explain_unroll(rt.alloc(), file.as_slice(), files.frames, fault),
+        ),
+        Err(obstacle) => obstacle.explain(rt),
+    }
+}
+
+/// A file of an option, or standard output, could not be written to. In bench, standard output is the script's part.
+fn of_output<R: Files + AllocGlobal + Print + Eprint>(rt: &R, files: &TaskFiles<'_>) {
+    explain_output(rt, files.kept.circuit, files.kept.stimulus);
+    explain_output(rt, files.kept.stimulus, files.kept.circuit);
+    explain_output(rt, files.map, Some(files.circuit));
+    if files.kept.is_empty() {
+        explain_standard_output(rt);
+    }
+}
+
+fn print(rt: &impl Eprint, explanation: Result<Explanation, Memory>) {
+    match explanation {
+        Ok(lines) => {
+            // There is no place left to report that standard error fails.
+            let _ = eprint!(rt; "{}", lines.as_str());
+        }
+        Err(Memory) => note(rt, MORE_MEMORY),
+    }
+}

@@ -1,0 +1,138 @@
+//! Why a circuit is not unrolled.
+ghost use Rattle.std.specs.Prelude.{◌≡◌, ◌≢◌, [], IfOk};
+
+use crate::explanation::Explanation;
+use crate::header::Header;
+use crate::parts::{Parts, Sought};
+use aig_bytes::Memory;
+use aig_unroll::UnrollFault;
+use std::alloc::Global;
+
+/// The greatest number of frames.
+const FRAMES: u32 = 65_536;
+
+/// The greatest M, and the greatest count of a section.
+const LIMIT: u64 = 4_194_303;
+
+// The counts of an unrolled circuit.
+#[derive(Clone, Copy)]
+struct Unrolled {
+    max_var: u64,
+    outputs: u64,
+    bad: u64,
+    constraints: u64,
+}
+
+impl Unrolled {
+    // The counts of a circuit of these parts in so many frames.
+    fn of(parts: &Parts<'_>, frames: u32) -> Unrolled {
+        let Header {
+            inputs,
+            outputs,
+            gates,
+            bad,
+            constraints,
+            ..
+        } = parts.header;
+        let in_frames = |count: u32| u64::from(count).saturating_mul(u64::from(frames));
+        let has_guards = bad > 0 && constraints > 0;
+        let guards = if has_guards {
+            in_frames(bad).saturating_add(in_frames(constraints))
+        } else {
+            0
+        };
+        Unrolled {
+            max_var: in_frames(inputs)
+                .saturating_add(parts.count(Sought::Uninitialised))
+                .saturating_add(in_frames(gates))
+                .saturating_add(guards),
+            outputs: in_frames(outputs),
+            bad: in_frames(bad),
+            constraints: if has_guards {
+                0
+            } else {
+                in_frames(constraints)
+            },
+        }
+    }
+}
+
+// Adds a count that is over its limit.
+fn push_count(lines: &mut Explanation, name: &str, count: u64) -> Result<(), Memory> {
+    if count <= LIMIT {
+        return Ok(());
+    }
+    lines.add(format_args!("the unrolled circuit would have {name} {count}"))
+}
+
+fn push_limit(lines: &mut Explanation, circuit: &[u8], frames: u32) -> Result<(), Memory> {
+    if frames > FRAMES {
+        lines.add(format_args!("K is {frames}"))?;
+        return lines.add("wanted: at most 65,536 frames");
+    }
+    let Some(parts) = Parts::of(circuit) else {
+        return Ok(());
+    };
+    let unrolled = Unrolled::of(&parts, frames);
+    push_count(lines, "M =", unrolled.max_var)?;
+    push_count(lines, "outputs:", unrolled.outputs)?;
+    push_count(lines, "bad state properties:", unrolled.bad)?;
+    push_count(lines, "constraints:", unrolled.constraints)?;
+    lines.add("wanted: M and each count of at most 4,194,303; unroll for fewer frames")
+}
+
+fn push_liveness(lines: &mut Explanation, circuit: &[u8]) -> Result<(), Memory> {
+    let Some(Parts { header, .. }) = Parts::of(circuit) else {
+        return Ok(());
+    };
+    let Header {
+        justice,
+        fairness,
+        ..
+    } = header;
+    lines.add(format_args!(
+        "the circuit has justice properties: {justice}, fairness constraints: {fairness}"
+    ))?;
+    lines.add("wanted: none of them; remove these sections")
+}
+
+fn push_no_frames(lines: &mut Explanation, frames: u32) -> Result<(), Memory> {
+    lines.add(format_args!("K is {frames}"))?;
+    lines.add("wanted: at least one frame")
+}
+
+// Lines for what is wrong, and what to do.
+fn push_fault(
+    lines: &mut Explanation,
+    circuit: &[u8],
+    frames: u32,
+    fault: UnrollFault,
+) -> Result<(), Memory> {
+    match fault {
+        UnrollFault::Memory => Ok(()),
+        UnrollFault::NoFrames => push_no_frames(lines, frames),
+        UnrollFault::Liveness => push_liveness(lines, circuit),
+        UnrollFault::Limit => push_limit(lines, circuit, frames),
+    }
+}
+
+/// Explains why the circuit, whose file is not rejected, is not unrolled for so many frames. Out of memory has no
+/// explanation. Linear in the file.
+pub fn explain_unroll(
+    alloc: Global,
+    circuit: &[u8],
+    frames: u32,
+    fault: UnrollFault,
+) -> Result<Explanation, Memory>
+    ensures memory { fault ≡ UnrollFault.Memory → IfOk result (λ lines. lines ≡ []) }
+    ensures explained { fault ≢ UnrollFault.Memory → IfOk result (λ lines. lines ≢ []) }
+{
+    let mut lines = Explanation::new(alloc);
+    match fault {
+        UnrollFault::Memory => Ok(lines),
+        _ => {
+            push_fault(&mut lines, circuit, frames, fault)?;
+            lines.or_nothing_found()
+        }
+    }
+}

@@ -1,0 +1,382 @@
+"""What --explain says of a circuit, a stimulus, a witness, an unrolling and a bench: a row for each cause, with the
+lines after the first line and the line with the file's name. Files that are broken at random put no control byte on
+standard error."""
+
+import gzip
+import random
+import re
+
+from library import broken
+from library.circuits import write_all
+from library.runs import EXAMPLES, contents, write
+
+COUNTER = contents(f"{EXAMPLES}/counter.aag")
+WRAPS = contents(f"{EXAMPLES}/wraps.aag")
+WITNESS = contents(f"{EXAMPLES}/wraps.wit")
+CR_LF = "lines end with CR LF"
+WRITE_AGAIN = "write the file again: the command that should write it may have failed"
+CUT = ("something is missing at the end", "write or copy the file again: it may be cut off")
+FORMAT = "wanted: `aag` or `aig`, and a space (in the first word)"
+CONVERT = "convert it to AIGER, with write_aiger of yosys or ABC"
+OTHER = "the witness may be for another circuit: compare it with aig info CIRCUIT"
+
+# How lines begin that are the program's: of all explanations, and of a circuit that comes from a pipe.
+BY_THE_PROGRAM = ("  file: ", "  it is a pipe or a device")
+
+# The inputs and latches of a binary file with two gates: 8 = 6 AND 4, 10 = 8 AND 2.
+BINARY = b"aig 5 2 1 1 2\n10\n10\n"
+
+
+def ring(count):
+    """A circuit of so many gates, of which each reads the next one, and the last the first."""
+    return f"aag {count} 0 0 0 {count}\n" + "".join(f"{2 * v} {2 * (v % count + 1)} 1\n" for v in range(1, count + 1))
+
+
+# A circuit; the text of the refusal; the lines that explain it.
+CIRCUITS = (
+    ("an empty file", "", "text at 0",
+     "line 1, column 1: the file ends here", FORMAT, "the file is empty", WRITE_AGAIN),
+    ("a byte-order mark", b"\xef\xbb\xbf" + COUNTER, "text at 0",
+     "line 1, column 1: found \\xef",
+     FORMAT, "the file begins with a byte-order mark, three bytes that an editor added",
+     "save the file without it, or: tail -c +4 FILE > NEW"),
+    ("gzip", gzip.compress(COUNTER), "text at 0",
+     "line 1, column 1: found \\x1f", FORMAT, "the file is compressed with gzip",
+     "zcat FILE | aig COMMAND .. /dev/stdin"),
+    ("Verilog", "module m(input a, output b); endmodule\n", "text at 0",
+     "line 1, column 1: found 'm'", FORMAT, "the file is Verilog", CONVERT),
+    ("BLIF", ".model m\n.inputs a\n.end\n", "text at 0",
+     "line 1, column 1: found '.'", FORMAT, "the file is BLIF", CONVERT),
+    ("a format of ABC", "aig2 1 0 0 0 1\n", "text at 0",
+     "line 1, column 1: found 'a'", FORMAT, "the file is in a format of ABC's own (write_aiger -c)",
+     "write it with write_aiger, without -c"),
+    ("a witness", WITNESS, "text at 0",
+     "line 1, column 1: found '1'", FORMAT, "the file is a witness",
+     "the circuit comes first: aig check CIRCUIT WITNESS"),
+    ("a stimulus", "01\n0x\n", "text at 0",
+     "line 1, column 1: found '0'", FORMAT, "the file is a stimulus", "the circuit comes first: aig sim CIRCUIT STIM"),
+    ("a part of the first word", "aa", "text at 2", "line 1, column 3: the file ends here", FORMAT, *CUT),
+    ("CR LF", "aag 1 1 0 0 0\r\n2\r\n", "text at 13",
+     "line 1, column 14: found \\x0d (CR)", "wanted: a space or a newline (in the header, at the number of gates A)",
+     CR_LF,
+     "only LF ends a line: tr -d '\\r' < FILE > NEW"),
+    ("CR LF in a line", "aag 1 1 0 0 0\n2\r\n", "text at 15",
+     "line 2, column 2: found \\x0d (CR)", "wanted: a newline (in input 0)", CR_LF,
+     "only LF ends a line: tr -d '\\r' < FILE > NEW"),
+    ("CR LF in a binary file", "aig 0 0 0 0 0\r\n", "text at 13",
+     "line 1, column 14: found \\x0d (CR)", "wanted: a space or a newline (in the header, at the number of gates A)",
+     CR_LF,
+     "copy the file again, as it is: a program has changed its newlines"),
+    ("a letter in the header", "aag x 1 0 0 0\n", "text at 4",
+     "line 1, column 5: found 'x'", "wanted: a number (in the header, at the maximum variable index M)"),
+    ("a header that is short", "aag 1 1 0\n", "text at 9",
+     "line 1, column 10: found a newline", "wanted: a space (in the header, at the number of latches L)"),
+    ("a header that is long", "aag 1 1 0 0 0 0 0 0 0 0\n", "text at 21",
+     "line 1, column 22: found ' '", "wanted: a newline (in the header, at the number of fairness constraints F)"),
+    ("two spaces", "aag 1  1 0 0 0\n", "text at 6",
+     "line 1, column 7: found ' '", "wanted: a number (in the header, at the number of inputs I)"),
+    ("a tab", "aag 1 1 0 0\t0\n", "text at 11",
+     "line 1, column 12: found \\x09 (a tab)", "wanted: a space (in the header, at the number of outputs O)"),
+    ("a leading zero", "aag 1 1 0 0 0\n02\n", "text at 14",
+     "line 2, column 1: found '0'", "wanted: a number without leading zeros (in input 0)"),
+    ("a file that is cut off", "aag 2 1 1 0 0\n2\n4 ", "text at 18",
+     "line 3, column 3: the file ends here", "wanted: a number (in latch 0)", *CUT),
+    ("a byte in place of a symbol", "aag 1 1 0 0 0\n2\nx0 a\n", "text at 16",
+     "line 3, column 1: found 'x'",
+     "wanted: a symbol (i l o b c j f), a comment (c), or the end of the file (in the symbols)"),
+    ("a position that is not there", "aag 1 1 0 0 0\n2\ni1 a\n", "text at 17",
+     "line 3, column 2: found '1'", "wanted: a position below 1 (in the symbols)"),
+    ("a symbol of an empty section", "aag 1 1 0 0 0\n2\nl0 a\n", "text at 17",
+     "line 3, column 2: found '0'", "wanted: no symbol of this section, which is empty (in the symbols)"),
+    ("a second name", "aag 2 2 0 0 0\n2\n4\ni1 a\ni0 b\ni1 c\n", "text at 29",
+     "line 6, column 2: found '1'", "wanted: the position of an entry that has no name yet (in the symbols)",
+     "line 4 names it already"),
+    ("an empty name", "aag 1 1 0 0 0\n2\ni0 \n", "text at 19",
+     "line 3, column 4: found a newline", "wanted: a name of at least one byte (in the symbols)"),
+    ("a name without a newline", "aag 1 1 0 0 0\n2\ni0 a", "text at 20",
+     "line 3, column 5: the file ends here", "wanted: a newline after the name (in the symbols)", *CUT),
+    ("c without a newline", "aag 1 1 0 0 0\n2\nc", "text at 17",
+     "line 3, column 2: the file ends here",
+     "wanted: a newline, which begins the comment, or the position of a constraint (in the symbols)",
+     "the file ends with `c` and no newline, as ABC writes it with -u",
+     "echo >> FILE; or write it without -u of ABC's write_aiger"),
+    ("records of ABC after c", "aag 1 1 0 0 0\n2\ncn\x00\x00", "text at 17",
+     "line 3, column 2: found 'n'",
+     "wanted: a newline, which begins the comment, or the position of a constraint (in the symbols)",
+     "ABC's &w and write_xaiger of yosys write records of their own after `c`",
+     "write the file with write_aiger, or with -n of ABC's &w"),
+    ("an escape", "aag 1 1 0 0 0\n\x1b[31m\n", "text at 14",
+     "line 2, column 1: found \\x1b", "wanted: a number (in input 0)"),
+    ("a line of a binary file", BINARY[:-1] + b" ", "text at 19",
+     "line 3, column 3: found ' '", "wanted: a newline (in output 0)"),
+    ("a delta that is too large", BINARY + b"\x02\x07\x02\x06", "text at 21",
+     "byte 21: found \\x07", "wanted: a delta from 0 to 6 (in gate 0, which has variable 4)"),
+    ("a delta of 0", BINARY + b"\x02\x02\x00\x06", "text at 22",
+     "byte 22: found \\x00", "wanted: a delta from 1 to 10 (in gate 1, which has variable 5)"),
+    ("a long delta", BINARY + b"\x82\x00\x02\x02\x06", "text at 20",
+     "byte 20: found \\x82",
+     "wanted: the shortest form of a delta, of at most four bytes (in gate 0, which has variable 4)"),
+    ("a delta that is cut off", BINARY + b"\x02\x02\x02\x86", "text at 23",
+     "byte 23: found \\x86", "wanted: a delta that ends before the file does (in gate 1, which has variable 5)", *CUT),
+    ("gates that are missing", BINARY + b"\x02\x02", "text at 22",
+     "byte 22: the file ends here",
+     "wanted: a delta that ends before the file does (in gate 1, which has variable 5)", *CUT),
+    ("a symbol after binary gates", BINARY + b"\x02\x02\x02\x06i0 a\ni2 b\n", "text at 30",
+     "after the gates, line 2, column 2: found '2'", "wanted: a position below 2 (in the symbols)"),
+    ("M over its limit", "aag 4194304 0 0 0 0\n", "limit",
+     "line 1, column 5: 4194304", "wanted: at most 4,194,303 (in the header, at the maximum variable index M)"),
+    ("a count over its limit", "aag 1 0 0 " + "9" * 70 + " 0\n", "limit",
+     "line 1, column 11: " + "9" * 60 + "..", "wanted: at most 4,194,303 (in the header, at the number of outputs O)"),
+    ("a number over its limit", "aag 1 1 0 1 0\n2\n8388608\n", "limit",
+     "line 3, column 1: 8388608", "wanted: at most 8,388,607 (in output 0)"),
+    ("sizes over their limit", "aag 0 0 0 0 0 0 0 2\n4194300\n4\n", "limit",
+     "line 3, column 1: 4",
+     "wanted: sizes with a sum of at most 4,194,303 (in the size of justice property 1)"),
+    ("counts of a text file", "aag 2 1 1 0 1\n", "counts",
+     "line 1: M = 2, I = 1, L = 1, A = 1; I + L + A = 3", "wanted: M of at least I + L + A"),
+    ("counts of a binary file", "aig 1 1 1 0 0\n", "counts",
+     "line 1: M = 1, I = 1, L = 1, A = 0; I + L + A = 2", "wanted: M = I + L + A, in the binary format"),
+    ("unused variables in a binary file", "aig 5 1 1 0 1\n", "counts",
+     "line 1: M = 5, I = 1, L = 1, A = 1; I + L + A = 3", "wanted: M = I + L + A, in the binary format",
+     "some variables are unused: the text format (aag) allows this"),
+    ("range", "aag 1 1 0 2 0\n2\n2\n4\no1 far\n", "range",
+     "output 1 `far` (line 4): literal 4", "wanted: literals of at most 2M + 1 = 3, because M = 1"),
+    ("range in a binary file", "aig 1 1 0 1 0\n4\n", "range",
+     "output 0 (line 2): literal 4", "wanted: literals of at most 2M + 1 = 3, because M = 1"),
+    ("range in a gate", "aag 2 1 0 0 1\n2\n4 2 7\n", "range",
+     "gate 0 (line 3): literal 7", "wanted: literals of at most 2M + 1 = 5, because M = 2"),
+    ("an odd definition", "aag 2 1 1 0 0\n3\n4 2\n", "definition",
+     "input 0 (line 2): it defines literal 3", "wanted: an even literal greater than 0"),
+    ("a definition of 0", "aag 2 1 1 0 0\n2\n0 2\nl0 q\n", "definition",
+     "latch 0 `q` (line 3): it defines literal 0", "wanted: an even literal greater than 0"),
+    ("two definitions", "aag 3 2 0 0 1\n2\n4\n4 2 2\ni1 b\n", "redefined 2",
+     "variable 2 (literal 4) has two definitions:", "input 1 `b` (line 3)", "gate 0 (line 4)"),
+    ("no definition", "aag 3 1 0 1 1\n2\n7\n4 6 2\no0 y\n", "undefined 3",
+     "output 0 `y` (line 3) uses variable 3 (literal 6)", "no input, latch or gate defines it"),
+    ("a wrong reset", "aag 2 1 1 0 0\n2\n4 2 2\nl0 q\n", "reset 2",
+     "latch 0 `q` (line 3) has the reset 2", "wanted: 0, 1, or its own literal 4, which means uninitialised"),
+    ("a wrong reset in a binary file", "aig 1 0 1 0 0\n2 7\n", "reset 1",
+     "latch 0 (line 2) has the reset 7", "wanted: 0, 1, or its own literal 2, which means uninitialised"),
+    ("a cycle", "aag 3 1 0 1 2\n2\n4\n4 6 2\n6 4 2\n", "cycle 2",
+     "gate 0 (line 4), of variable 2, is on a cycle", "each of these gates reads the next: 4 -> 6 -> 4",
+     "a cycle has to go through a latch"),
+    ("a gate that reads itself", "aag 2 1 0 1 1\n2\n4\n4 2 4\n", "cycle 2",
+     "gate 0 (line 4), of variable 2, is on a cycle", "each of these gates reads the next: 4 -> 4",
+     "a cycle has to go through a latch"),
+    ("a gate that reads from a cycle", "aag 4 1 0 0 3\n2\n4 2 9\n6 9 2\n8 7 2\n", "cycle 2",
+     "gate 0 (line 3), of variable 2, reads from a cycle", "each of these gates reads the next: 8 -> 6 -> 8",
+     "a cycle has to go through a latch"),
+    ("a cycle of seven gates", ring(7), "cycle 1",
+     "gate 0 (line 2), of variable 1, is on a cycle",
+     "each of these gates reads the next: 2 -> 4 -> 6 -> 8 -> 10 -> 12 -> 14 -> 2",
+     "a cycle has to go through a latch"),
+    ("a cycle of eight gates", ring(8), "cycle 1",
+     "gate 0 (line 2), of variable 1, is on a cycle",
+     "each of these gates reads the next: 2 -> 4 -> 6 -> 8 -> 10 -> 12 -> 14 -> 16 -> ..",
+     "a cycle has to go through a latch"),
+    ("a name of any bytes", b"aag 2 1 1 0 0\n2\n4 2 3\nl0 \x1b[31m\xc3\xa9\x7f\\x\r\n", "reset 2",
+     "latch 0 `\\x1b[31m\\xc3\\xa9\\x7f\\x\\x0d` (line 3) has the reset 3",
+     "wanted: 0, 1, or its own literal 4, which means uninitialised"),
+    ("a long name", "aag 2 1 1 0 0\n2\n4 2 3\nl0 " + "n" * 61 + "\n", "reset 2",
+     "latch 0 `" + "n" * 60 + "..` (line 3) has the reset 3",
+     "wanted: 0, 1, or its own literal 4, which means uninitialised"),
+    ("a name in the comment", "aag 2 1 1 0 0\n2\n4 2 3\nc\nl0 q\n", "reset 2",
+     "latch 0 (line 3) has the reset 3", "wanted: 0, 1, or its own literal 4, which means uninitialised"),
+)
+
+# A stimulus of two_gates, which has two inputs.
+STIMULI = (
+    ("another character", "01\n0b\n", "character in line 2",
+     "line 2, column 2: found 'b'", "wanted: 2 of 0, 1 and x, one for each input of the circuit"),
+    ("an escape", "01\n\x1b\n", "character in line 2",
+     "line 2, column 1: found \\x1b", "wanted: 2 of 0, 1 and x, one for each input of the circuit"),
+    ("CR LF", "00\r\n", "character in line 1",
+     "line 1, column 3: found \\x0d (CR)", "wanted: 2 of 0, 1 and x, one for each input of the circuit",
+     "lines end with CR LF, and only LF ends a line: tr -d '\\r' < FILE > NEW"),
+    ("a short line", "01\n1\n", "length of line 2",
+     "line 2 has the length 1", "wanted: 2 of 0, 1 and x, one for each input of the circuit"),
+    ("an empty line", "\n", "length of line 1",
+     "line 1 has the length 0", "wanted: 2 of 0, 1 and x, one for each input of the circuit"),
+    ("a witness", WITNESS, "length of line 1",
+     "line 1 has the length 1", "wanted: 2 of 0, 1 and x, one for each input of the circuit",
+     "the file is a witness: aig wave --witness CIRCUIT WITNESS, or aig check CIRCUIT WITNESS"),
+    ("a circuit", COUNTER, "character in line 1",
+     "line 1, column 1: found 'a'", "wanted: 2 of 0, 1 and x, one for each input of the circuit",
+     "the file is a circuit, and CIRCUIT comes before STIM"),
+    ("no newline at the end", "01\n0", "unfinished",
+     "line 2, the last one, has the length 1 and no newline", "add the newline, if the line is whole: echo >> FILE"),
+)
+
+# A witness of examples/wraps.aag, which has one input, two latches and one bad state property.
+WITNESSES = (
+    ("an empty file", "", "the file is empty", WRITE_AGAIN),
+    ("CR LF", WITNESS.replace(b"\n", b"\r\n"),
+     "line 1 is `1\\x0d`", "wanted: the line `1`",
+     "lines end with CR LF, and only LF ends a line: tr -d '\\r' < FILE > NEW"),
+    ("a comment", b"c found by a solver\n" + WITNESS,
+     "line 1 is `c found by a solver`", "wanted: the line `1`", "a witness has no comments: sed '/^c/d' FILE > NEW"),
+    ("a verdict", b"sat\n" + WITNESS[2:],
+     "line 1 is `sat`", "wanted: the line `1`",
+     "this is a solver's verdict; the witness begins with the line `1` after it"),
+    ("no run", "0\nb0\n.\n",
+     "line 1 is `0`", "wanted: the line `1`", "0 and 2 say that no run was found, so there is nothing to check"),
+    ("no answer", "2\nb0\n.\n",
+     "line 1 is `2`", "wanted: the line `1`", "0 and 2 say that no run was found, so there is nothing to check"),
+    ("a run of ABC", "00\n1\n1\n",
+     "line 1 is `00`", "wanted: the line `1`",
+     "it may be a run of ABC's write_cex -a: see \"Witness\" in man aig-formats"),
+    ("values by name", "en@0=1\n",
+     "line 1 is `en@0=1`", "wanted: the line `1`",
+     "these may be values by name of ABC's write_cex: see \"Witness\" in man aig-formats"),
+    ("a circuit", WRAPS,
+     "line 1 is `aag 9 1 2 0 6 1`", "wanted: the line `1`", "the file is a circuit, and CIRCUIT comes before WITNESS"),
+    ("a long line", "\x1b" + "y" * 70 + "\n",
+     "line 1 is `\\x1b" + "y" * 59 + "..`", "wanted: the line `1`"),
+    ("justice", "1\nj0\n",
+     "line 2 is `j0`", "wanted: `b` and the position of a bad state property, as in `b0`",
+     "check has no justice properties (j)"),
+    ("several properties", "1\nb0b1\n",
+     "line 2 is `b0b1`", "wanted: `b` and the position of a bad state property, as in `b0`",
+     "the witness names several properties: keep one of them"),
+    ("a leading zero", "1\nb00\n",
+     "line 2 is `b00`", "wanted: `b` and the position of a bad state property, as in `b0`",
+     "a position has no leading zeros"),
+    ("another latch", "1\nb0\n000\n1\n.\n",
+     "line 3 has the length 3", "wanted: the values of the latches, 2 of 0, 1 and x", OTHER),
+    ("a character of a latch", "1\nb0\n0-\n1\n.\n",
+     "line 3, column 2: found '-'", "wanted: the values of the latches, 2 of 0, 1 and x"),
+    ("no frame", "1\nb0\n00\n.\n",
+     "line 4, column 1: found '.'", "wanted: the values of the inputs in the first frame, 1 of 0, 1 and x"),
+    ("another input", "1\nb0\n00\n1\n10\n.\n",
+     "line 5 has the length 2", "wanted: the values of the inputs in a frame, 1 of 0, 1 and x; or the last line, `.`",
+     OTHER),
+    ("a comment among the frames", "1\nb0\n00\n1\nc1\n.\n",
+     "line 5, column 1: found 'c'",
+     "wanted: the values of the inputs in a frame, 1 of 0, 1 and x; or the last line, `.`",
+     "a witness has no comments: sed '/^c/d' FILE > NEW"),
+    ("no end", "1\nb0\n00\n1\n",
+     "line 5: the file ends here",
+     "wanted: the values of the inputs in a frame, 1 of 0, 1 and x; or the last line, `.`",
+     "the last line of a witness is `.`: the file may be cut off"),
+    ("a line that is cut off", "1\nb0\n00\n1\n1",
+     "line 5: the file ends here, without a newline",
+     "wanted: the values of the inputs in a frame, 1 of 0, 1 and x; or the last line, `.`",
+     "the last line of a witness is `.`: the file may be cut off"),
+    ("no newline at the end", "1\nb0\n00\n1\n.",
+     "line 5: the file ends here, without a newline", "add the newline: echo >> FILE"),
+    ("several witnesses", WITNESS + WITNESS,
+     "line 9 is `1`", "wanted: nothing after the line `.`",
+     "the file has several witnesses: keep one, for example: sed '/^\\.$/q' FILE > NEW"),
+    ("a comment at the end", WITNESS + b"c found by a solver\n",
+     "line 9 is `c found by a solver`", "wanted: nothing after the line `.`",
+     "a witness has no comments: sed '/^c/d' FILE > NEW"),
+)
+
+
+def explain(program, tally, _):
+    write_all()
+    write("wraps", WRAPS)
+    rows = Explained(program, tally)
+    for name, circuit, text, *lines in CIRCUITS:
+        rows.row(f"a circuit, {name}", ["info", write("f", circuit)], f"circuit: {text}", lines)
+    for name, stimulus, text, *lines in STIMULI:
+        rows.row(f"a stimulus, {name}", ["sim", "two_gates", write("f", stimulus)], f"stimulus: {text}", lines)
+    for name, witness, *lines in WITNESSES:
+        rows.row(f"a witness, {name}", ["check", "wraps", write("f", witness)], "witness: text", lines)
+    explanations = [tuple(lines) for _, _, *lines in WITNESSES]
+    tally.compare("explain: witnesses with one explanation", len(set(explanations)), len(explanations))
+    others(rows)
+    unknown(rows)
+    hostile(program, tally)
+
+
+def others(rows):
+    """Rows whose circuits or commands differ."""
+    rows.row("a stimulus without inputs", ["sim", "empty", write("f", "0\n")], "stimulus: length of line 1",
+             ["line 1 has the length 1", "wanted: empty lines, because the circuit has no inputs"])
+    rows.row("a stimulus with too many rows", ["bench", "two_gates", write("f", "01\n" * 65537), write("s", "")],
+             "stimulus: limit", ["the stimulus has 65537 rows",
+                                 "wanted: at most 65,536 rows for bench; sim and wave take any number"])
+    rows.row("a witness of another property", ["check", "wraps", write("f", WITNESS.replace(b"b0", b"b7"))],
+             "witness: property", ["line 2 names the bad state property b7, counted from b0",
+                                   "the circuit has bad state properties: 1, outputs: 0"])
+    rows.row("a witness of an output", ["check", "toggle", write("f", "1\nb0\n0\n\n.\n")], "witness: property",
+             ["line 2 names the bad state property b0, counted from b0",
+              "the circuit has bad state properties: 0, outputs: 2",
+              "a circuit of AIGER 1.0 has only outputs: see \"Witness\" in man aig-formats"])
+    rows.row("a witness with too many frames", ["check", "wraps", write("f", b"1\nb0\n00\n" + b"1\n" * 65537 + b".\n")],
+             "witness: limit", ["the witness has 65537 frames", "wanted: at most 65,536 frames"])
+    rows.row("no frames", ["unroll", "--frames", "0", "--to", "aag", "two_gates"], "unroll: no frames",
+             ["K is 0", "wanted: at least one frame"])
+    rows.row("liveness", ["unroll", "--frames", "1", "--to", "aag", "live"], "unroll: liveness",
+             ["the circuit has justice properties: 1, fairness constraints: 1",
+              "wanted: none of them; remove these sections"])
+    rows.row("too many frames", ["unroll", "--frames", "65537", "--to", "aag", "two_gates"], "unroll: limit",
+             ["K is 65537", "wanted: at most 65,536 frames"])
+    rows.row("M of the unrolled circuit", ["unroll", "--frames", "65536", "--to", "aag", "inputs"], "unroll: limit",
+             ["the unrolled circuit would have M = 4194304",
+              "wanted: M and each count of at most 4,194,303; unroll for fewer frames"])
+    outputs = "aag 0 0 0 65 0 65 65\n" + "0\n" * 195
+    rows.row("counts of the unrolled circuit", ["unroll", "--frames", "65000", "--to", "aag", write("f", outputs)],
+             "unroll: limit", ["the unrolled circuit would have M = 8450000",
+                               "the unrolled circuit would have outputs: 4225000",
+                               "the unrolled circuit would have bad state properties: 4225000",
+                               "wanted: M and each count of at most 4,194,303; unroll for fewer frames"])
+    rows.row("cells of a bench", ["bench", "many", write("f", "\n" * 17), write("s", "")], "bench: limit",
+             ["M = 4194303 and 17 rows: (M + 1) * rows = 71303168", "wanted: at most 67,108,864; use fewer rows"])
+
+
+def unknown(rows):
+    """Rows whose circuit comes from a pipe, and so cannot be looked at again."""
+    rows.row("a stimulus, and a circuit from a pipe", ["sim", "/dev/stdin", write("f", "01\n")],
+             "stimulus: length of line 1",
+             ["line 1 has the length 2", "wanted: one of 0, 1 and x for each input of the circuit"], input=WRAPS)
+    rows.row("a witness, and a circuit from a pipe", ["check", "/dev/stdin", write("f", "1\nb0\n000\n1\n.\n")],
+             "witness: text",
+             ["wanted: in line 3 one value for each latch, and in the lines after it one for each input", OTHER],
+             input=WRAPS)
+    rows.row("a verdict, and a circuit from a pipe", ["check", "/dev/stdin", write("f", "sat\n")], "witness: text",
+             ["line 1 is `sat`", "wanted: the line `1`",
+              "this is a solver's verdict; the witness begins with the line `1` after it"], input=WRAPS)
+    rows.row("a property, and a circuit from a pipe",
+             ["check", "/dev/stdin", write("f", WITNESS.replace(b"b0", b"b7"))],
+             "witness: property", ["line 2 names the bad state property b7, counted from b0",
+             "the circuit has fewer of them"],
+             input=WRAPS)
+
+
+class Explained:
+    """Rows: runs that are refused, and what explains it."""
+
+    def __init__(self, program, tally):
+        self.program, self.tally = program, tally
+
+    def row(self, name, words, text, lines, **settings):
+        """The run is refused with this text, and explained by these lines after the one of the file's name."""
+        plain = self.program.run(*words, **settings)
+        explained = self.program.run("--explain", *words, **settings)
+        self.tally.compare(f"explain: {name}", plain.err, f"aig: {text}\n".encode())
+        self.tally.compare(f"explain: {name}: the status", explained.status, plain.status)
+        first, *said = explained.err.decode("ascii").split("\n")
+        self.tally.compare(f"explain: {name}: the first line", first, f"aig: {text}")
+        said = [line for line in said if not line.startswith(BY_THE_PROGRAM)]
+        self.tally.compare(f"explain: {name}: the lines", said, [f"  {line}" for line in lines] + [""])
+
+
+def hostile(program, tally):
+    """Files that are broken at random: all that is said is lines of printable bytes, and each refusal is explained."""
+    rng = random.Random(40)
+    for case in range(150):
+        circuit = broken.circuit(rng)
+        write("whole", circuit)
+        binary = program.run("toaig", "--to", "aig", "whole").out
+        write("f", broken.changed(rng, circuit, broken.circuit(rng)))
+        write("g", broken.changed(rng, binary, circuit))
+        write("h", broken.changed(rng, rng.choice((broken.stimulus(rng, 2), broken.witness(rng, 1, 2))), circuit))
+        for words in (["info", "f"], ["info", "g"], ["sim", "two_gates", "h"], ["check", "wraps", "h"]):
+            run = program.run("--explain", *words)
+            name = f"explain: case {case}, {' '.join(words)}"
+            tally.check(f"{name}: printable lines", re.fullmatch(rb"([\x20-\x7e]*\n)*", run.err), run.err)
+            if run.err:
+                tally.check(f"{name}: explained", re.fullmatch(rb"aig: .*\n  file: .*\n(  .+\n)+", run.err), run.err)
+                tally.check(f"{name}: the fault is found again", b"nothing wrong" not in run.err, run.err)
