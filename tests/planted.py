@@ -106,6 +106,9 @@ def read(crate, path, known):
             at = before[: before.index(old)].count("\n")
             changes.append((file, at, old, text))
             changed += [it for it in known[file] if it.first <= at + 1 <= it.last]
+            # a function that the bug adds
+            changed += [Function(module_of(file) + name, file, at + 1, at + 1)
+                        for name in re.findall(r"^fn (\w+)", text) if f"fn {name}" not in old]
             texts[file] = before.replace(old, text)
     # a constant is every function's of its file
     changed = changed or [it for file, *_ in changes for it in known[file]]

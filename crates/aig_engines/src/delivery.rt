@@ -1,5 +1,5 @@
 //! Engines over a writer that holds bytes back: all that they wrote is handed on, whatever they answer.
-ghost use Rattle.std.specs.Prelude.{◌≡◌};
+ghost use Rattle.std.specs.Prelude.{◌≡◌, Err, IfErr};
 ghost use Rattle.aig_engines.specs.Checked.{Checks};
 ghost use Rattle.aig_engines.specs.Converted.{Converts, EndsFrom};
 ghost use Rattle.aig_run.specs.Delivered.{Delivers, all_written, calls_failed};
@@ -19,7 +19,7 @@ use crate::info::info_bytes;
 use crate::replaying::{check_and_trace_bytes, wave_witness_bytes};
 use crate::unrolling::{keep_input_map, unroll_and_keep, unroll_bytes};
 use crate::wave::wave_from;
-use aig_base::{Buffered, Circuit, Read, Write};
+use aig_base::{Buffered, Circuit, Fault, Read, Write};
 use aig_format::Format;
 use aig_run::{RunFault, handed_on};
 use aig_sim::{StimFault, Verdict};
@@ -32,7 +32,7 @@ pub fn deliver_circuit<R: Read, W: Write>(
     to: Format,
     out: &mut Buffered<W>,
 ) -> Result<(), RunFault>
-    ensures { Delivers W.written RunFault.Output
+    ensures delivers { Delivers W.written RunFault.Output
         (λ left answer. EndsFrom (flow R.left R.failures circuit.old circuit.new)
         (flow (all_written W.written) calls_failed out.old left)
         (λ bytes. EndsTelling (flow (all_written W.written) calls_failed out.old left)
@@ -44,36 +44,38 @@ pub fn deliver_circuit<R: Read, W: Write>(
 }
 
 /// Writes the trace of a stimulus, and answers how many frames there were. Where the writer below fails, the fault is
-/// the stimulus's.
+/// the stimulus's. Where a read of the circuit fails, no stimulus was read.
 pub fn deliver_trace<C: Read, R: Read, W: Write>(
     alloc: Global,
     circuit: &mut C,
     stimulus: &mut R,
     out: &mut Buffered<W>,
 ) -> Result<u64, RunFault>
-    ensures { Delivers W.written (RunFault.Stimulus StimFault.Io)
+    ensures delivers { Delivers W.written (RunFault.Stimulus StimFault.Io)
         (λ left answer. EndsFrom (flow C.left C.failures circuit.old circuit.new)
         (flow (all_written W.written) calls_failed out.old left)
         (λ bytes. SimulationEnds (flow R.left R.failures stimulus.old stimulus.new)
         (flow (all_written W.written) calls_failed out.old left) bytes answer) answer) out.new result }
+    ensures unread { result ≡ Err (RunFault.Circuit Fault.Io) → stimulus.new ≡ stimulus.old }
 {
     let done = simulate_from(alloc, circuit, stimulus, out);
     handed_on(done, out, RunFault::Stimulus(StimFault::Io))
 }
 
 /// Writes the value change dump of a run, and answers how many frames there were. Where the writer below fails, the
-/// fault is the stimulus's.
+/// fault is the stimulus's. Where a read of the circuit fails, no stimulus was read.
 pub fn deliver_wave<C: Read, R: Read, W: Write>(
     alloc: Global,
     circuit: &mut C,
     stimulus: &mut R,
     out: &mut Buffered<W>,
 ) -> Result<u64, RunFault>
-    ensures { Delivers W.written (RunFault.Stimulus StimFault.Io)
+    ensures delivers { Delivers W.written (RunFault.Stimulus StimFault.Io)
         (λ left answer. EndsFrom (flow C.left C.failures circuit.old circuit.new)
         (flow (all_written W.written) calls_failed out.old left)
         (λ bytes. WaveEnds (flow R.left R.failures stimulus.old stimulus.new)
         (flow (all_written W.written) calls_failed out.old left) bytes answer) answer) out.new result }
+    ensures unread { result ≡ Err (RunFault.Circuit Fault.Io) → stimulus.new ≡ stimulus.old }
 {
     let done = wave_from(alloc, circuit, stimulus, out);
     handed_on(done, out, RunFault::Stimulus(StimFault::Io))
@@ -88,7 +90,7 @@ pub fn deliver_unrolled<W: Write>(
     to: Format,
     out: &mut Buffered<W>,
 ) -> Result<(), RunFault>
-    ensures { Delivers W.written RunFault.Output
+    ensures delivers { Delivers W.written RunFault.Output
         (λ left answer. EndsTelling (flow (all_written W.written) calls_failed out.old left)
         (OfFile circuit.now (Unrolls frames to)) answer) out.new result }
 {
@@ -105,7 +107,7 @@ pub fn deliver_unrolled_and_keep<W: Write>(
     to: Format,
     out: &mut Buffered<W>,
 ) -> Result<Circuit, RunFault>
-    ensures { Delivers W.written RunFault.Output
+    ensures delivers { Delivers W.written RunFault.Output
         (λ left answer. EndsTelling (flow (all_written W.written) calls_failed out.old left)
         (OfFile circuit.now (UnrollsKept frames to)) answer) out.new result }
 {
@@ -120,9 +122,10 @@ pub fn deliver_input_map<W: Write>(
     frames: u32,
     out: &mut Buffered<W>,
 ) -> Result<(), RunFault>
-    ensures { Delivers W.written RunFault.Output
+    ensures delivers { Delivers W.written RunFault.Output
         (λ left answer. Writes (all_written W.written) calls_failed out.old left (map_text circuit.now frames) answer)
         out.new result }
+    ensures output { IfErr result (λ fault. fault ≡ RunFault.Output) }
 {
     let done = keep_input_map(circuit, frames, out);
     handed_on(done, out, RunFault::Output)
@@ -135,7 +138,7 @@ pub fn deliver_verdict<W: Write>(
     witness: &[u8],
     out: &mut Buffered<W>,
 ) -> Result<Verdict, RunFault>
-    ensures { Delivers W.written RunFault.Output
+    ensures delivers { Delivers W.written RunFault.Output
         (λ left answer. EndsTelling (flow (all_written W.written) calls_failed out.old left)
         (OfFile circuit.now (Checks witness.now)) answer) out.new result }
 {
@@ -151,7 +154,7 @@ pub fn deliver_traced_verdict<W: Write>(
     witness: &[u8],
     out: &mut Buffered<W>,
 ) -> Result<Verdict, RunFault>
-    ensures { Delivers W.written RunFault.Output
+    ensures delivers { Delivers W.written RunFault.Output
         (λ left answer. EndsTelling (flow (all_written W.written) calls_failed out.old left)
         (OfFile circuit.now (ChecksAndTraces witness.now)) answer) out.new result }
 {
@@ -166,7 +169,7 @@ pub fn deliver_witness_wave<W: Write>(
     witness: &[u8],
     out: &mut Buffered<W>,
 ) -> Result<(), RunFault>
-    ensures { Delivers W.written RunFault.Output
+    ensures delivers { Delivers W.written RunFault.Output
         (λ left answer. EndsTelling (flow (all_written W.written) calls_failed out.old left)
         (OfFile circuit.now (DumpsRun witness.now)) answer) out.new result }
 {
@@ -180,7 +183,7 @@ pub fn deliver_info<W: Write>(
     circuit: &[u8],
     out: &mut Buffered<W>,
 ) -> Result<(), RunFault>
-    ensures { Delivers W.written RunFault.Output
+    ensures delivers { Delivers W.written RunFault.Output
         (λ left answer. EndsTelling (flow (all_written W.written) calls_failed out.old left)
         (OfFile circuit.now (TellsFacts circuit.now)) answer) out.new result }
 {

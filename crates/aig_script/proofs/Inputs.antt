@@ -23,7 +23,7 @@ same_after old e (Err f) new h = ap (λ (p : Pair). length p.circuit.inputs) h.1
 
 pub same_inputs : (old : Pair) (line reply : List ℕ) (new : Pair) → WholeReply old line reply new
     → length new.circuit.inputs ≡ length old.circuit.inputs
-same_inputs old line reply new (inl (edit e, is, text, (r, h, said))) = same_after old e r new h
+same_inputs old line reply new (inl (edit e, is, text, (r, h, said))) = same_after old e r new h.0
 same_inputs old line reply new (inl (value t l, is, text, (r, h, said, stays))) =
     ap (λ (p : Pair). length p.circuit.inputs) stays
 same_inputs old line reply new (inl (trace, is, text, (bytes, h, said, stays))) =

@@ -3,7 +3,11 @@ pub mod Digits
 pub mod Fields
 pub mod FirstBytes
 pub mod Inputs
+pub mod KeptCircuits
 pub mod KeptFiles
+pub mod Meanings
+pub mod OneCommand
+pub mod OneReply
 pub mod Pieces
 pub mod ReplyLemmas
 pub mod RowLines

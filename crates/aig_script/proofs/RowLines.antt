@@ -94,7 +94,7 @@ wrong_row_reply p width before text rest (stimuli.Char n) is of_line h = inr (wr
 wrong_row_reply p width before text rest (stimuli.Length n) is of_line h =
     let (row, e) = values_of text h.2 in
     let ne : length row ≢ length p.circuit.inputs = (λ k. h.3 (ap length e ∙ length-map row character ∙ k ∙ sym is)) in
-    inl (edit (edits.add_frame row), tt, ap (λ (t : List ℕ). 43 ∷ (32 ∷ t)) e, (Err faults.Length, (inl (wrong_length p row ne), refl), refl))
+    inl (edit (edits.add_frame row), tt, ap (λ (t : List ℕ). 43 ∷ (32 ∷ t)) e, (Err faults.Length, ((inl (wrong_length p row ne), refl), λ is. tt), refl))
 wrong_row_reply p width before text rest stimuli.Unfinished is of_line h = absurd of_line
 wrong_row_reply p width before text rest stimuli.Limit is of_line h = absurd of_line
 wrong_row_reply p width before text rest stimuli.Memory is of_line h = absurd of_line

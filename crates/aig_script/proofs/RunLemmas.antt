@@ -1,22 +1,28 @@
 -- The end of a script.
 use Rattle.std.proofs.Common.{◌≡◌, ◌⊎◌, inl, inr, ℕ, ◌+◌, List, [], ◌∷◌, ◌++◌, refl, sym, ap, ◌∙◌, Ok, Err, Result}
-use Rattle.std.specs.Prelude.{Option, codes}
+use Rattle.std.specs.Prelude.{Option, IfErr, codes}
 use Rattle.std.proofs.lemmas.List.{append-nil}
 use Rattle.aig_bytes.specs.Bytes.{IsAtEnd, Writes}
 use Rattle.aig_bench.specs.declared.edit.EditFault.{EditFault}
+use Rattle.aig_bench.specs.declared.edit.EditFault.TheVariants as faults
 use Rattle.aig_bench.specs.Pair.{Pair}
-use Rattle.aig_bench.specs.Edit.{Edit, Edits}
+use Rattle.aig_bench.specs.Edit.{Edit}
 use Rattle.aig_bytes.specs.Flow.{flow}
 use Rattle.aig_script.specs.Lines.{Line, unfinished, rest_from, whole_lines, last_piece, lines_of}
-use Rattle.aig_script.specs.Replies.{edit_reply, EditReply}
+use Rattle.aig_script.specs.Replies.{edit_reply, AnswersEdit, EditReply}
 use Rattle.aig_script.specs.Ran.{Reading, Ran, Failing}
 use Rattle.aig_script.specs.ScriptLine.{ScriptLine}
 use Rattle.aig_script.proofs.ReplyLemmas.{answered_push, answered_same, answered_flushed, stopped_push}
 
 -- an answer of an edit, without its report
-pub edit_reply_of : {A : Type 0} (old : Pair) (e : Edit) (r : Result A EditFault) (new : Pair) → Edits old e r new → EditReply old e (edit_reply r) new
+pub edit_reply_of : {A : Type 0} (old : Pair) (e : Edit) (r : Result A EditFault) (new : Pair) → AnswersEdit old e r new → EditReply old e (edit_reply r) new
 edit_reply_of old e (Ok x) new h = (Ok tt, h, refl)
 edit_reply_of old e (Err f) new h = (Err f, h, refl)
+
+-- the answer of an edit that may find no memory on every pair
+pub excused : {A : Type 0} (r : Result A EditFault) → IfErr r (λ f. f ≡ faults.Memory → Unit {0})
+excused (Ok x) = tt
+excused (Err f) = λ is. tt
 
 -- what is behind the last LF is a piece, or nothing
 last_cases : (line : List ℕ) → (line ≡ []) ⊎ (last_piece line ≡ unfinished line ∷ [])

@@ -3,6 +3,7 @@ pub mod Command
 pub mod Files
 pub mod Kept
 pub mod Lines
+pub mod Meaning
 pub mod Ran
 pub mod Replies
 pub mod ScriptLine

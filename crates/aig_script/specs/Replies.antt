@@ -1,16 +1,19 @@
 -- The meaning of a script: its lines in turn, from one circuit and rows to another, and their replies (our own choice).
-use Rattle.std.specs.Prelude.{◌≡◌, ◌⊎◌, ℕ, List, length, [], ◌∷◌, ◌++◌, Result, Ok, Err, codes}
+use Rattle.std.specs.Prelude.{◌≡◌, ◌⊎◌, ℕ, List, length, [], ◌∷◌, ◌++◌, Result, Ok, Err, IfErr, codes}
 use Rattle.std.specs.Fmt.{decimal}
 use Rattle.aig_parts.specs.declared.raw.Raw.{Raw}
 use Rattle.aig_parts.specs.declared.ternary.Tern.{Tern}
+use Rattle.aig_parts.specs.Literal.{variable}
 use Rattle.aig_format.specs.Spelling.{short_ascii}
 use Rattle.aig_grids.specs.Characters.{character}
 use Rattle.aig_unroll.specs.declared.fault.UnrollFault.{UnrollFault}
 use Rattle.aig_unroll.specs.Answers as unrolling
 use Rattle.aig_unroll.specs.Answers.{AnswersUnrolling}
 use Rattle.aig_bench.specs.declared.edit.EditFault.{EditFault}
+use Rattle.aig_bench.specs.declared.edit.EditFault.TheVariants as faults
 use Rattle.aig_bench.specs.Pair.{Pair, HasTrace}
-use Rattle.aig_bench.specs.Edit.{Edit, Edits, number_of}
+use Rattle.aig_bench.specs.Edit.{Edit, rewire, Edits, number_of}
+use Rattle.aig_bench.specs.Fanout.{HasFourReaders}
 use Rattle.aig_bench.specs.Question.{AnswersValue}
 use Rattle.aig_script.specs.Command.{Command, edit, value, trace, unroll, command_text, IsCommand, IsNoCommand}
 use Rattle.aig_script.specs.Lines.{Line, whole, unfinished}
@@ -35,9 +38,19 @@ abbrev pub unroll_reply : Result Raw UnrollFault → List ℕ
 unroll_reply (Ok circuit) = short_ascii circuit ++ codes ".\n"
 unroll_reply (Err f) = numbered_refusal (unrolling.number_of f)
 
--- an edit, from one pair to another
+-- The pairs for which an edit may find no memory. For a rewire, four gates or more already read the variable of a new
+-- right side.
+abbrev pub MayLackMemory : Pair → Edit → Type 0
+MayLackMemory old (rewire lhs r0 r1) = HasFourReaders old.circuit (variable r0) ⊎ HasFourReaders old.circuit (variable r1)
+MayLackMemory old _ = Unit {0}
+
+-- an edit takes the pair to the other with this answer, and finds no memory only where it may
+abbrev pub AnswersEdit : {A : Type 0} → Pair → Edit → Result A EditFault → Pair → Type 0
+AnswersEdit old e r new = Edits old e r new × IfErr r (λ f. f ≡ faults.Memory → MayLackMemory old e)
+
+-- the reply to an edit, from one pair to another
 abbrev pub EditReply : Pair → Edit → List ℕ → Pair → Type 0
-EditReply old e reply new = (r : Result (Unit {0}) EditFault) × Edits old e r new × (reply ≡ edit_reply r)
+EditReply old e reply new = (r : Result (Unit {0}) EditFault) × AnswersEdit old e r new × (reply ≡ edit_reply r)
 
 abbrev pub CommandReply : Pair → Command → List ℕ → Pair → Type 0
 CommandReply old (edit e) reply new = EditReply old e reply new

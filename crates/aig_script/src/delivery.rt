@@ -20,7 +20,7 @@ pub fn deliver_replies<R: Read, W: Write>(
     script: &mut R,
     out: &mut Buffered<W>,
 ) -> Result<(), RunFault>
-    ensures { Delivers W.written (RunFault.Script ScriptFault.Io)
+    ensures delivers { Delivers W.written (RunFault.Script ScriptFault.Io)
         (λ left answer. BenchEnds (flow R.left R.failures script.old script.new)
         (flow (all_written W.written) calls_failed out.old left) circuit.now stimulus.now answer) out.new result }
 {
@@ -37,7 +37,7 @@ pub fn deliver_bench<R: Read, W: Write>(
     script: &mut R,
     out: &mut Buffered<W>,
 ) -> Result<Bench<PlaneGrid>, RunFault>
-    ensures { Delivers W.written (RunFault.Script ScriptFault.Io)
+    ensures delivers { Delivers W.written (RunFault.Script ScriptFault.Io)
         (λ left answer. BenchLeft (flow R.left R.failures script.old script.new)
         (flow (all_written W.written) calls_failed out.old left) circuit.now stimulus.now answer) out.new result }
 {

@@ -13,5 +13,5 @@ mod script_line;
 pub use bench_run::run_bench;
 pub use delivery::{deliver_bench, deliver_replies};
 pub use keeping::{bench_after_script, keep_circuit, keep_stimulus};
-pub use laws::{law_of_kept_files, law_of_lines};
+pub use laws::{law_of_kept_files, law_of_lines, law_of_one_meaning};
 pub use script::run_script;

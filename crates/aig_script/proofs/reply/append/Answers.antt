@@ -5,7 +5,7 @@ use Rattle.aig_script.specs.Command.{edit}
 use Rattle.aig_script.specs.Replies.{edit_reply}
 use Rattle.aig_script.specs.state.Faults.{row_fault_reply}
 use Rattle.aig_script.proofs.RowLines.{row_line, wrong_row_reply}
-use Rattle.aig_script.proofs.RunLemmas.{edit_reply_of}
+use Rattle.aig_script.proofs.RunLemmas.{edit_reply_of, excused}
 use Rattle.aig_script.proofs.reply.append.Goals as goal
 
 pub returns-in-Ok : goal.returns-in-Ok
@@ -18,7 +18,7 @@ returns-in-Ok g c =
         edit (add_frame c.in-Ok.values.now),
         tt,
         row_line row.width text row.shape row.values c.in-Ok.values.now is.0 is.1 k,
-        edit_reply_of p (add_frame c.in-Ok.values.now) c.add_frame.result c.add_frame.new.self.pair c.add_frame.ensures.edits,
+        edit_reply_of p (add_frame c.in-Ok.values.now) c.add_frame.result c.add_frame.new.self.pair (c.add_frame.ensures.edits, excused c.add_frame.result),
       ),
       c.write_edit.ensures,
     )

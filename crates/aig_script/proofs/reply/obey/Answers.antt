@@ -3,7 +3,7 @@ use Rattle.std.specs.Prelude.{codes}
 use Rattle.aig_bytes.proofs.WriteLemmas.{writes_then, writes_stop}
 use Rattle.aig_bench.specs.Edit.{rewire, set_reset, set_bit, drop_frame, append_gate, set_output}
 use Rattle.aig_script.specs.Replies.{edit_reply, unroll_reply}
-use Rattle.aig_script.proofs.RunLemmas.{edit_reply_of}
+use Rattle.aig_script.proofs.RunLemmas.{edit_reply_of, excused}
 use Rattle.aig_script.proofs.reply.obey.Goals as goal
 
 pub returns-in_err-write_trace-in-Trace : goal.returns-in_err-write_trace-in-Trace
@@ -15,7 +15,7 @@ pub returns-in-Rewire : goal.returns-in-Rewire
 returns-in-Rewire g c = (
   edit_reply c.rewire.result,
   rw c.in-Rewire.is (edit_reply_of c.args.bench.now.pair (rewire c.in-Rewire.gate c.in-Rewire.right0 c.in-Rewire.right1)
-      c.rewire.result c.rewire.new.self.pair c.rewire.ensures.edits),
+      c.rewire.result c.rewire.new.self.pair (c.rewire.ensures.edits, c.rewire.ensures.memory)),
   c.write_edit.ensures,
 )
 
@@ -23,7 +23,7 @@ pub returns-in-SetReset : goal.returns-in-SetReset
 returns-in-SetReset g c = (
   edit_reply c.set_reset.result,
   rw c.in-SetReset.is (edit_reply_of c.args.bench.now.pair (set_reset c.in-SetReset.latch c.in-SetReset.value)
-      c.set_reset.result c.set_reset.new.self.pair c.set_reset.ensures.edits),
+      c.set_reset.result c.set_reset.new.self.pair (c.set_reset.ensures.edits, excused c.set_reset.result)),
   c.write_edit-in-SetReset.ensures,
 )
 
@@ -31,7 +31,7 @@ pub returns-in-SetBit : goal.returns-in-SetBit
 returns-in-SetBit g c = (
   edit_reply c.set_bit.result,
   rw c.in-SetBit.is (edit_reply_of c.args.bench.now.pair (set_bit c.in-SetBit.frame c.in-SetBit.position c.in-SetBit.value)
-      c.set_bit.result c.set_bit.new.self.pair c.set_bit.ensures.edits),
+      c.set_bit.result c.set_bit.new.self.pair (c.set_bit.ensures.edits, excused c.set_bit.result)),
   c.write_edit-in-SetBit.ensures,
 )
 
@@ -39,7 +39,7 @@ pub returns-in-DropFrame : goal.returns-in-DropFrame
 returns-in-DropFrame g c = (
   edit_reply c.drop_frame.result,
   rw c.in-DropFrame.is (edit_reply_of c.args.bench.now.pair drop_frame c.drop_frame.result c.drop_frame.new.self.pair
-      c.drop_frame.ensures.edits),
+      (c.drop_frame.ensures.edits, excused c.drop_frame.result)),
   c.write_edit-in-DropFrame.ensures,
 )
 
@@ -47,7 +47,7 @@ pub returns-in-AppendGate : goal.returns-in-AppendGate
 returns-in-AppendGate g c = (
   edit_reply c.append_gate.result,
   rw c.in-AppendGate.is (edit_reply_of c.args.bench.now.pair (append_gate c.in-AppendGate.right0 c.in-AppendGate.right1)
-      c.append_gate.result c.append_gate.new.self.pair c.append_gate.ensures.edits),
+      c.append_gate.result c.append_gate.new.self.pair (c.append_gate.ensures.edits, excused c.append_gate.result)),
   c.write_edit-in-AppendGate.ensures,
 )
 
@@ -55,7 +55,7 @@ pub returns-in-SetOutput : goal.returns-in-SetOutput
 returns-in-SetOutput g c = (
   edit_reply c.set_output.result,
   rw c.in-SetOutput.is (edit_reply_of c.args.bench.now.pair (set_output c.in-SetOutput.position c.in-SetOutput.literal)
-      c.set_output.result c.set_output.new.self.pair c.set_output.ensures.edits),
+      c.set_output.result c.set_output.new.self.pair (c.set_output.ensures.edits, excused c.set_output.result)),
   c.write_edit-in-SetOutput.ensures,
 )
 
