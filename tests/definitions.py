@@ -5,9 +5,11 @@ Each file of a crate's specs/ has a line: how many of its lines are reached, and
 definitions themselves are listed. It fails where one that is reached is in specs/state/, which is for what proofs alone
 need. `--of NAME` prints the same for one call, as `convert` or `Bench::rewire`: its definitions and their lines.
 
-It reads text and proves nothing: library/specs.py says how it goes by names. Not counted are: what public modules show
-beside the names that lib.rt exports, types and functions of std and of the toolchain's crates, and the structs and
-enums of the sources, which contracts cite as they are."""
+What public modules show counts as exported too. A definition in specs/state/ that they alone reach is named, and does
+not fail: they are for the crates above.
+
+It reads text and proves nothing: library/specs.py says how it goes by names. Not counted are types and functions of std
+and of the toolchain's crates, and the structs and enums of the sources, which contracts cite as they are."""
 
 import argparse
 import collections
@@ -54,18 +56,19 @@ def by_file(specs, keys):
     return files
 
 
-def print_files(specs, reached, show):
-    """Prints a line for each file, and returns how many definitions are in the wrong folder."""
+def print_files(specs, reached, listed, show):
+    """Prints a line for each file, and returns how many of the listed definitions are in the wrong folder."""
     wrong = 0
     for path, keys in by_file(specs, specs.table).items():
         here = [key for key in keys if key in reached]
         print(f"{specs.lines(here):5} of {specs.lines(keys):4}  {path}")
-        for _, _, name in here:
+        for key in here:
             if show:
-                print(f"               {name}")
+                print(f"               {key[2]}")
             if "state" in path.parts:
-                wrong += 1
-                print(f"{path}: {name} is reached by a contract, and is among what proofs alone need")
+                wrong += key in listed
+                how = "by a contract" if key in listed else "through a public module alone"
+                print(f"{path}: {key[2]} is reached {how}, and is among what proofs alone need")
     return wrong
 
 
@@ -92,8 +95,9 @@ def main():
     if chosen.of:
         return print_of(promises, chosen.of)
     specs = promises.specs
-    reached = set().union(*(promises.believed(it) for it in promises.exports if it.listed))
-    wrong = print_files(specs, reached, chosen.names)
+    reached = set().union(*(promises.believed(it) for it in promises.exports))
+    listed = set().union(*(promises.believed(it) for it in promises.exports if it.listed))
+    wrong = print_files(specs, reached, listed, chosen.names)
     print(f"{specs.lines(reached)} lines of {specs.lines(specs.table)} to believe, of {len(reached)} definitions; "
           f"{wrong} in the wrong folder")
     return 1 if wrong else 0

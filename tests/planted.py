@@ -1,11 +1,21 @@
 #!/usr/bin/env python3
-"""Tries the planted bugs of crates, all of a crate together: each changes the body of a function, and a proof of a
+"""Tries the planted bugs of crates, many of a crate together: each changes the body of a function, and a proof of a
 function rests on the contracts of others alone, so that one check of a copy says of each changed function whether the
-prover refuses it. Bugs that change one function, or one line, come in checks of their own, which take from those
-before them what no bug changed.
+prover refuses it. A check takes what no bug changed from those before it, as the proofs of the functions that a changed
+one calls. So a crate's first check has most to do, and is shared by two processes. Bugs that change one function come
+in different checks, and those after the first run in two folders side by side.
 
-A bug is refused where a function that it changes is not proved, and one of that function's goals, or an answer for it
-in proofs/, is refused for another reason than that a proof file names what the bug took away.
+Each planted bug names the clause that it breaks. It is refused where a goal of that clause is open in a function that
+it changes; one of planted/more/ that names none, where any goal is. The script prints all goals that are open, and of
+each why:
+
+  false     values are known at which the goal is false
+  no proof  none was found
+  limit     the prover stopped at a limit before it found one
+  answer    an answer in proofs/ no longer fits the goal
+  name      an answer in proofs/ names what the bug took away: this says nothing of the goal, and does not count
+
+Only the first shows by itself that the body is wrong.
 
 It tries those of the gate (crates/NAME/planted) and with --more all others too (crates/NAME/planted/more), over what
 `rt ci` or `rt check` left of the libraries below a crate; where there is nothing, they are built first."""
@@ -24,21 +34,52 @@ import sys
 import tempfile
 import time
 
+from library.exports import signature
+
 ROOT = pathlib.Path(__file__).resolve().parent.parent
+
+# How many processors a crate takes: processes of its first check, and folders for those after it.
+SHARE = 2
+
+# Why a goal is open, what shows most of the body first.
+KINDS = ("false", "no proof", "limit", "answer", "name")
+FALSE, UNPROVED, LIMIT, ANSWER, NAME = KINDS
+
+# What the prover says of an answer that names something which is not there.
 NAMES = r"has no field|is not in scope|has no `|was not admitted"
 
-Edit = collections.namedtuple("Edit", "name changes functions")
-Function = collections.namedtuple("Function", "name file first last")
+Crate = collections.namedtuple("Crate", "name folder parts below check build")
+Edit = collections.namedtuple("Edit", "name clause changes functions")
+Function = collections.namedtuple("Function", "name file first last clauses")
+Goal = collections.namedtuple("Goal", "name kind")
 
 
-def toolchain():
-    """The toolchain's command as a module: it knows which libraries a crate's check is given."""
+def toolchain(jobs):
+    """Returns the crates, lowest first, each with the parts of its folder that a check reads, the libraries below it,
+    the command that checks it with so many jobs, and how to build those libraries. All that the script takes from
+    inside the toolchain's command `rt` is here."""
     path = os.path.realpath(shutil.which("rt") or sys.exit("rt is not on the path"))
     sys.path.insert(0, os.path.dirname(path))
     loader = importlib.machinery.SourceFileLoader("toolchain_rt", path)
     module = importlib.util.module_from_spec(importlib.util.spec_from_loader("toolchain_rt", loader))
     loader.exec_module(module)
-    return module
+    rtlib = module.rtlib
+    # with these words in front, a check ends where the script ends
+    guarded = rtlib.guarded()
+
+    def build(crate):
+        for below in crate.below():
+            if not os.path.isdir(below.rlib) and below.build_rlib(["--jobs", str(jobs)], anew=False):
+                sys.exit(f"{below.name} is not proved")
+
+    def read(crate):
+        def check(count):
+            return [*guarded, rtlib.RATTLE, "check", *crate.words(["--jobs", str(count)], keeps=False)]
+
+        below = {it.name for it in crate.below()}
+        return Crate(crate.name, pathlib.Path(crate.folder), rtlib.PARTS, below, check, lambda: build(crate))
+
+    return [read(it) for it in rtlib.crates_below(str(ROOT))]
 
 
 def camel(text):
@@ -58,6 +99,14 @@ def types(crate, files):
         for name in re.findall(r"(?m)^(?:pub(?:\(crate\))? )?(?:struct|enum) (\w+)", (crate / file).read_text()):
             found[name] = module_of(file)
     return found
+
+
+def clauses_at(lines, number):
+    """The names of what the function at a line ensures. A clause without a name goes by `ensures`."""
+    text = "\n" + re.sub(r"(?m)//.*$", "", "\n".join(lines[number:]))
+    _, clauses = signature(text, len(text) - len(text.lstrip()))
+    heads = [head.split() for head, _ in clauses]
+    return [head[-1] for head in heads if head[0] == "ensures"]
 
 
 def functions(crate, file, homes):
@@ -85,34 +134,40 @@ def functions(crate, file, homes):
                 body += 1
             if not lines[body].endswith(";"):
                 end = body if lines[body].endswith("{}") else lines.index(at[1] + "}", body)
-                yield Function((module + owner if at[1] else module_of(file)) + at[2], file, number + 1, end + 1)
+                name = (module + owner if at[1] else module_of(file)) + at[2]
+                yield Function(name, file, number + 1, end + 1, clauses_at(lines, number))
 
 
 def read(crate, path, known):
-    """A planted bug: its changes, each a piece of one line, and the functions whose bodies it changes. There are none
-    where a piece is not in its file exactly once, as the changes before it left it."""
+    """A planted bug: the clause that it breaks, its changes, each a piece of one line, and the functions whose bodies
+    it changes. There are no changes where a piece is not in its file exactly once, as those before it left it."""
+    name, clause = f"{path.parent.relative_to(crate)}/{path.name}", None
     changes, changed, texts, file, old = [], [], {}, None, None
     for line in path.read_text().split("\n"):
         word, _, text = line.partition(":")
         text = text[1:] if text.startswith(" ") else text
-        if word == "file":
+        if word == "clause":
+            clause = text.strip()
+        elif word == "file":
             file = text.strip()
         elif word == "old":
             old = text
         elif word == "new":
             before = texts.get(file) or (crate / file).read_text()
             if before.count(old) != 1:
-                return Edit(f"{path.parent.name}/{path.name}", [], [])
+                return Edit(name, clause, [], [])
             at = before[: before.index(old)].count("\n")
             changes.append((file, at, old, text))
             changed += [it for it in known[file] if it.first <= at + 1 <= it.last]
             # a function that the bug adds
-            changed += [Function(module_of(file) + name, file, at + 1, at + 1)
-                        for name in re.findall(r"^fn (\w+)", text) if f"fn {name}" not in old]
+            added = re.match(r"fn (\w+)", text)
+            if added and f"fn {added[1]}" not in old:
+                clauses = [it or "ensures" for it in re.findall(r"\bensures (?:(\w+) )?\{", text)]
+                changed.append(Function(module_of(file) + added[1], file, at + 1, at + 1, clauses))
             texts[file] = before.replace(old, text)
     # a constant is every function's of its file
     changed = changed or [it for file, *_ in changes for it in known[file]]
-    return Edit(f"{path.parent.name}/{path.name}", changes, list(dict.fromkeys(changed)))
+    return Edit(name, clause, changes, sorted({it.name: it for it in changed}.values()))
 
 
 def rounds(crate, edits):
@@ -131,83 +186,128 @@ def rounds(crate, edits):
         left = [it for it in left if it not in taken]
 
 
-def tried(tools, crate, room, edits):
-    """Checks the copy of a crate in this folder, and yields of each planted bug whether it is refused, and why. What no
-    bug changed is taken from an earlier check in the same folder."""
+def open_goals(name, output):
+    """Returns what a check says of each function of a crate, and the goals that it left open. The notes on a function's
+    goals come before the line of its verdict; an answer that no longer fits is told by its file."""
+    verdicts, found, notes = {}, collections.defaultdict(list), []
+    for line in output.split("\n"):
+        note = re.match(r"note: [^:]+:\d+:\d+: it is not proved .*?\(`([^`]+)`\)(.*)", line)
+        error = re.match(r"(?:\./)?proofs/(.+?)/\w+\.antt:\d+:\d+: error: (?:`([^`]+)`: )?(.*)", line)
+        verdict = re.match(rf"fn {name}::(\S+): (.*)", line)
+        if note:
+            kind = FALSE if "goal is false" in note[2] else LIMIT if "gave up" in note[2] else UNPROVED
+            notes.append(Goal(note[1], kind))
+        elif error:
+            kind = NAME if re.search(NAMES, error[3]) else ANSWER
+            found[error[1].replace("/", "::")].append(Goal(error[2] or "its file", kind))
+        elif verdict:
+            verdicts[verdict[1]] = verdict[2]
+            listed = re.search(r"did not prove ((?:`[^`]+`(?:, )?)+)", verdict[2])
+            names = re.findall(r"`([^`]+)`", listed[1]) if listed else []
+            notes += [Goal(it, UNPROVED) for it in names if it not in {goal.name for goal in notes}]
+            found[verdict[1]] += notes
+            notes = []
+    return verdicts, found
+
+
+def clauses_of(goal, function):
+    """Returns the clauses that a goal is of: some that the function ensures, or an invariant of a type or of a loop.
+    What a call requires, the bounds of numbers and the like are of none."""
+    if re.match(r"invariant_of-", goal) or re.search(r"-(init|preserved)(-|$)", goal):
+        return {"invariant"}
+    if not goal.startswith("returns"):
+        return set()
+    # a goal that names no clause is of them all
+    _, of_one, name = goal.rpartition("-clause-")
+    return {name} if of_one else set(function.clauses or ["ensures"])
+
+
+def counts(goal, function, edit):
+    """Whether an open goal of a function shows that a planted bug is refused."""
+    if goal.kind == NAME:
+        return False
+    if edit.clause:
+        return edit.clause in clauses_of(goal.name, function)
+    return edit.name.startswith("planted/more/")
+
+
+def judged(edit, verdicts, found):
+    """Returns of which kind the refusal of a planted bug at its clause is, or nothing, and what to print of it."""
+    if not edit.functions:
+        return None, "no function of the crate is changed"
+    goals = [(it, goal) for it in edit.functions for goal in dict.fromkeys(found[it.name])]
+    silent = [it.name for it in edit.functions if it.name not in verdicts]
+    if silent:
+        return None, f"nothing is said of {silent[0]}"
+    shown = ", ".join(f"{goal.name} ({goal.kind})" for _, goal in goals)
+    if not shown:
+        return None, "; ".join(f"{it.name}: {verdicts[it.name]}" for it in edit.functions)
+    kinds = [goal.kind for it, goal in goals if counts(goal, it, edit)]
+    return min(kinds, key=KINDS.index, default=None), shown
+
+
+def tried(crate, room, texts, edits, jobs):
+    """Checks a copy of a crate with planted bugs in this folder, tells of each bug, and returns how each is refused.
+    What no bug changed is taken from an earlier check in the same folder."""
+    for part in crate.parts:
+        if (crate.folder / part).is_dir():
+            shutil.copytree(crate.folder / part, room / part, dirs_exist_ok=True)
+    for file, text in texts.items():
+        (room / file).write_text(text)
     wanted = sorted({it.name for edit in edits for it in edit.functions})
     only = [word for name in wanted for word in ("--only", name)]
-    flags = ["--jobs", "1", "--incremental", f"{room}/kept", *only]
-    words = [tools.rtlib.RATTLE, "check", *crate.words(flags, keeps=False)]
-    ran = subprocess.run(words, cwd=room, stdin=subprocess.DEVNULL, stdout=subprocess.PIPE, stderr=subprocess.STDOUT,
-                         errors="replace", check=False)
-    lines = ran.stdout.split("\n")
-    verdicts = dict(re.findall(rf"(?m)^fn {crate.name}::(\S+): (.*)$", ran.stdout))
+    ran = subprocess.run([*crate.check(jobs), "--incremental", f"{room}/kept", *only], cwd=room, check=False,
+                         stdin=subprocess.DEVNULL, stdout=subprocess.PIPE, stderr=subprocess.STDOUT, errors="replace")
+    verdicts, found = open_goals(crate.name, ran.stdout)
+    if not verdicts:
+        print(f"{crate.name}: the check failed: {ran.stdout[-2000:]}", flush=True)
+    kinds = []
     for edit in edits:
-        refused, why = False, "no function of the crate is changed" if not edit.functions else ""
-        for function in edit.functions:
-            verdict = verdicts.get(function.name)
-            if verdict is None:
-                why = why or f"nothing is said of {function.name}: {lines[-2][:200] if len(lines) > 1 else ''}"
-            elif verdict == "proved":
-                why = why or f"{function.name} is still proved"
-            else:
-                goals = [it for it in lines if is_of(it, function)]
-                reasons = [it for it in goals if not re.search(rf"proofs/.*({NAMES})", it)]
-                # a goal that is left to a proof file which is not there
-                reasons += [verdict] * ("did not prove" in verdict)
-                refused = refused or bool(reasons)
-                why = (reasons or goals or [f"{function.name}: {verdict}, and no goal is told"])[0][:180]
-        yield edit, refused, why
+        kind, why = judged(edit, verdicts, found)
+        how = f"refused at {edit.clause or 'no named clause'}: {kind}" if kind else f"FAILED: {edit.clause} is not open"
+        print(f"{crate.name}/{edit.name}: {how}: {why}", flush=True)
+        kinds.append(kind)
+    return kinds
 
 
-def is_of(line, function):
-    """Whether a line tells of a refusal in a function: at its lines, or in a proof file of it."""
-    at = re.match(r"(?:note: )?(?:\./)?(\S+?):(\d+):\d+:", line)
-    if not at or ": note:" in line:
-        return False
-    if at[1] == function.file:
-        return function.first <= int(at[2]) <= function.last
-    return at[1].startswith("proofs/" + function.name.replace("::", "/") + "/")
+def told(crate, edits, jobs):
+    """Tries the planted bugs of a crate, and returns how each is refused. The folders begin with what the first check
+    kept."""
+    (texts, taken), *later = rounds(crate.folder, edits)
+    with tempfile.TemporaryDirectory(prefix="planted-") as name:
+        rooms = [pathlib.Path(name, str(number)) for number in range(min(jobs, len(later) or 1))]
+        rooms[0].mkdir()
+        kinds = tried(crate, rooms[0], texts, taken, jobs)
+        for room in rooms[1:]:
+            shutil.copytree(rooms[0], room)
+
+        def rest(number):
+            return [kind for check in later[number :: len(rooms)] for kind in tried(crate, rooms[number], *check, 1)]
+
+        with concurrent.futures.ThreadPoolExecutor(len(rooms)) as pool:
+            return kinds + [kind for more in pool.map(rest, range(len(rooms))) for kind in more]
 
 
-def told(tools, crate, checks):
-    """Tries the planted bugs of a crate, tells of each as soon as its check has ended, and returns which are refused."""
-    refusals = []
-    with tempfile.TemporaryDirectory(prefix="planted-") as room:
-        for texts, edits in checks:
-            for part in tools.rtlib.PARTS:
-                if os.path.isdir(f"{crate.folder}/{part}"):
-                    shutil.copytree(f"{crate.folder}/{part}", f"{room}/{part}", dirs_exist_ok=True)
-            for file, text in texts.items():
-                pathlib.Path(room, file).write_text(text)
-            for edit, refused, why in tried(tools, crate, room, edits):
-                print(f"{crate.name}/{edit.name}: {'refused' if refused else 'FAILED'}: {why}", flush=True)
-                refusals.append(refused)
-    return refusals
-
-
-def checks_of(crate, rooms, only):
-    """Returns the checks that a crate's planted bugs need (texts, bugs), and the bugs that cannot be applied."""
-    folder = pathlib.Path(crate.folder)
-    files = [str(it.relative_to(folder)) for it in (folder / "src").rglob("*.rt")]
-    homes = types(folder, files)
-    known = {file: list(functions(folder, file, homes)) for file in files}
-    paths = [it for room in rooms for it in sorted((folder / room).glob("*.edit"))]
-    edits = [read(folder, it, known) for it in paths if not only or any(word in it.name for word in only)]
-    checks = list(rounds(folder, [it for it in edits if it.changes]))
-    return checks, [it for it in edits if not it.changes]
+def edits_of(crate, rooms, only):
+    """Returns the planted bugs of a crate, and those that cannot be applied."""
+    files = [str(it.relative_to(crate.folder)) for it in (crate.folder / "src").rglob("*.rt")]
+    homes = types(crate.folder, files)
+    known = {file: list(functions(crate.folder, file, homes)) for file in files}
+    paths = [it for room in rooms for it in sorted((crate.folder / room).glob("*.edit"))]
+    edits = [read(crate.folder, it, known) for it in paths if not only or any(word in it.name for word in only)]
+    return [it for it in edits if it.changes], [it for it in edits if not it.changes]
 
 
 def in_turn(work, behind):
-    """Yields the crates that can be checked, each with its checks, the most bugs first: all, or those whose libraries
-    an `rt ci` that runs has proved, or kept from an earlier run, by its output so far."""
-    left = sorted(work, key=lambda it: -sum(len(edits) for _, edits in it[1]))
+    """Yields the crates that can be checked, each with its planted bugs, the most bugs first: all, or those whose
+    libraries an `rt ci` that runs has proved, or kept from an earlier run, by its output so far."""
+    left = sorted(work, key=lambda it: -len(it[1]))
     while left:
         said = behind.read_text() if behind else ""
         if re.search(r"(?m)^rt: .* NOT PROVED$", said):
             sys.exit("a library is not proved")
         proved = set(re.findall(r"(?m)^rt: (\w+) (?:proved$|is kept: )", said))
-        ready = [it for it in left if not behind or proved.issuperset(below.name for below in it[0].below())]
+        ready = [it for it in left if not behind or proved >= it[0].below]
         yield from ready
         left = [it for it in left if it not in ready]
         time.sleep(2 if left else 0)
@@ -216,33 +316,32 @@ def in_turn(work, behind):
 def main():
     parser = argparse.ArgumentParser(description=__doc__, formatter_class=argparse.RawDescriptionHelpFormatter)
     processors = len(os.sched_getaffinity(0))
-    parser.add_argument("--jobs", type=int, default=processors, help="how many checks run side by side")
+    parser.add_argument("--jobs", type=int, default=processors, help="how many processors it takes")
     parser.add_argument("--only", action="append", help="the planted bugs whose names hold this; may be given again")
     parser.add_argument("--more", action="store_true", help="those of planted/more/ too")
     parser.add_argument("--behind", type=pathlib.Path, metavar="FILE",
                         help="the output of an `rt ci` that runs: a crate waits for the libraries below it")
     parser.add_argument("crates", nargs="*", help="the crates whose planted bugs are tried (else all)")
     words = parser.parse_args()
-    tools = toolchain()
     os.chdir(ROOT)
-    tools.rtlib.guarded()
     rooms = ("planted", "planted/more") if words.more else ("planted",)
-    work, failed, passed = [], 0, 0
-    for crate in tools.rtlib.crates_below(str(ROOT)):
+    work, failed = [], 0
+    for crate in toolchain(words.jobs):
         if words.crates and crate.name not in words.crates:
             continue
-        checks, wrong = checks_of(crate, rooms, words.only)
+        edits, wrong = edits_of(crate, rooms, words.only)
         for edit in wrong:
             print(f"{crate.name}/{edit.name}: FAILED: it cannot be applied")
             failed += 1
-        for below in crate.below() if checks and not words.behind else ():
-            if not os.path.isdir(below.rlib) and below.build_rlib(["--jobs", str(words.jobs)], anew=False):
-                sys.exit(f"{below.name} is not proved")
-        work += [(crate, checks)] if checks else []
-    with concurrent.futures.ThreadPoolExecutor(words.jobs) as pool:
-        tries = [pool.submit(told, tools, crate, checks) for crate, checks in in_turn(work, words.behind)]
-    for refusals in (it.result() for it in tries):
-        passed, failed = passed + sum(refusals), failed + len(refusals) - sum(refusals)
+        if edits and not words.behind:
+            crate.build()
+        work += [(crate, edits)] if edits else []
+    share = min(SHARE, words.jobs)
+    with concurrent.futures.ThreadPoolExecutor(words.jobs // share) as pool:
+        tries = [pool.submit(told, crate, edits, share) for crate, edits in in_turn(work, words.behind)]
+    kinds = collections.Counter(kind for it in tries for kind in it.result())
+    print("refused: " + ", ".join(f"{kinds[kind]} {kind}" for kind in KINDS[:-1]))
+    passed, failed = sum(kinds[kind] for kind in KINDS), failed + kinds[None]
     print(f"{passed} passed, {failed} failed")
     return 1 if failed else 0
 
