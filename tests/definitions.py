@@ -5,8 +5,7 @@ Each file of a crate's specs/ has a line: how many of its lines are reached, and
 definitions themselves are listed. It fails where one that is reached is in specs/state/, which is for what proofs alone
 need. `--of NAME` prints the same for one call, as `convert` or `Bench::rewire`: its definitions and their lines.
 
-What public modules show counts as exported too. A definition in specs/state/ that they alone reach is named, and does
-not fail: they are for the crates above.
+What public modules show counts as exported too: crates above use it.
 
 It reads text and proves nothing: library/specs.py says how it goes by names. Not counted are types and functions of std
 and of the toolchain's crates, and the structs and enums of the sources, which contracts cite as they are."""
@@ -56,8 +55,8 @@ def by_file(specs, keys):
     return files
 
 
-def print_files(specs, reached, listed, show):
-    """Prints a line for each file, and returns how many of the listed definitions are in the wrong folder."""
+def print_files(specs, reached, show):
+    """Prints a line for each file, and returns how many of the reached definitions are in the wrong folder."""
     wrong = 0
     for path, keys in by_file(specs, specs.table).items():
         here = [key for key in keys if key in reached]
@@ -66,9 +65,8 @@ def print_files(specs, reached, listed, show):
             if show:
                 print(f"               {key[2]}")
             if "state" in path.parts:
-                wrong += key in listed
-                how = "by a contract" if key in listed else "through a public module alone"
-                print(f"{path}: {key[2]} is reached {how}, and is among what proofs alone need")
+                wrong += 1
+                print(f"{path}: {key[2]} is reached by a contract, and is among what proofs alone need")
     return wrong
 
 
@@ -96,8 +94,7 @@ def main():
         return print_of(promises, chosen.of)
     specs = promises.specs
     reached = set().union(*(promises.believed(it) for it in promises.exports))
-    listed = set().union(*(promises.believed(it) for it in promises.exports if it.listed))
-    wrong = print_files(specs, reached, listed, chosen.names)
+    wrong = print_files(specs, reached, chosen.names)
     print(f"{specs.lines(reached)} lines of {specs.lines(specs.table)} to believe, of {len(reached)} definitions; "
           f"{wrong} in the wrong folder")
     return 1 if wrong else 0

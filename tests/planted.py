@@ -1,6 +1,6 @@
 #!/usr/bin/env python3
-"""Tries the planted bugs of crates, many of a crate together: each changes the body of a function, and a proof of a
-function rests on the contracts of others alone, so that one check of a copy says of each changed function whether the
+"""Tries the planted bugs of crates, many of a crate together. Each changes the body of a function, and a proof of a
+function rests on the contracts of others alone. So one check of a copy says of each changed function whether the
 prover refuses it. A check takes what no bug changed from those before it, as the proofs of the functions that a changed
 one calls. So a crate's first check has most to do, and is shared by two processes. Bugs that change one function come
 in different checks, and those after the first run in two folders side by side.
@@ -188,7 +188,7 @@ def rounds(crate, edits):
 
 def open_goals(name, output):
     """Returns what a check says of each function of a crate, and the goals that it left open. The notes on a function's
-    goals come before the line of its verdict; an answer that no longer fits is told by its file."""
+    goals come before the line of its verdict; an answer that no longer fits is named by its file."""
     verdicts, found, notes = {}, collections.defaultdict(list), []
     for line in output.split("\n"):
         note = re.match(r"note: [^:]+:\d+:\d+: it is not proved .*?\(`([^`]+)`\)(.*)", line)
@@ -247,7 +247,7 @@ def judged(edit, verdicts, found):
 
 
 def tried(crate, room, texts, edits, jobs):
-    """Checks a copy of a crate with planted bugs in this folder, tells of each bug, and returns how each is refused.
+    """Checks a copy of a crate with planted bugs in this folder, prints each bug, and returns how each is refused.
     What no bug changed is taken from an earlier check in the same folder."""
     for part in crate.parts:
         if (crate.folder / part).is_dir():
@@ -298,6 +298,14 @@ def edits_of(crate, rooms, only):
     return [it for it in edits if it.changes], [it for it in edits if not it.changes]
 
 
+def copies(crate):
+    """Yields the edits in must-fail/, which `rt ci` tries, that are not those of planted/ with their names."""
+    for path in sorted((crate.folder / "must-fail").glob("*.edit")):
+        planted = crate.folder / "planted" / path.name
+        if not planted.exists() or planted.read_bytes() != path.read_bytes():
+            yield path.name
+
+
 def in_turn(work, behind):
     """Yields the crates that can be checked, each with its planted bugs, the most bugs first: all, or those whose
     libraries an `rt ci` that runs has proved, or kept from an earlier run, by its output so far."""
@@ -332,6 +340,9 @@ def main():
         edits, wrong = edits_of(crate, rooms, words.only)
         for edit in wrong:
             print(f"{crate.name}/{edit.name}: FAILED: it cannot be applied")
+            failed += 1
+        for name in copies(crate):
+            print(f"{crate.name}/must-fail/{name}: FAILED: it differs from that of planted/")
             failed += 1
         if edits and not words.behind:
             crate.build()

@@ -1,12 +1,12 @@
-"""Circuit files in which a token, whole or broken, stands across the edge of a block: the program reads 32,768 bytes at
+"""Circuit files in which a token, whole or broken, is across the edge of a block. The program reads 32,768 bytes at
 once, and each token is put at every place where it has one of the bytes 32,767 to 32,769. The same files come through a
 pipe that gives the bytes of the token one at a time, so that there is an edge at each of them; so do headers. Lines
-that are all at hand are read in one loop, and the one at the edge token by token: so the two meet at every kind.
+that are buffered whole are read in one loop, and the one at the edge token by token: so the two meet at every kind.
 
-What is to come out is told by the plain reader, which knows no blocks: the circuit's normal text and its binary file,
-each of which is read again; or the message of the first fault, with its place.
+The plain reader, which knows no blocks, says what is to come out: the circuit's normal text and its binary file, each
+of which is read again; or the message of the first fault, with its place.
 
-Last, files come from a terminal, which tells the end once: a program that has seen it is not to read on."""
+Last, files come from a terminal, which reports the end once: a program that has seen it is not to read on."""
 
 import concurrent.futures
 import fcntl
@@ -100,7 +100,7 @@ def gates(word, *numbers):
 
 
 def behind_latches(word):
-    """Latches, behind others."""
+    """Latches, after others."""
     lines = 4400 if word == b"aag" else 13080
     first = join(header(word, lines + 8, 6, lines + 2, 0, 0)) + (b"2\n4\n6\n8\n10\n12\n" if word == b"aag" else b"")
     lefts = [b"%d " % (2 * at) if word == b"aag" else b"" for at in range(7, lines + 9)]
@@ -118,7 +118,7 @@ def behind_latches(word):
 
 
 def behind_inputs():
-    """Files with an input and a name behind other inputs, in text; zeros at the end of the header say nothing, and one
+    """Files with an input and a name after other inputs, in text; zeros at the end of the header say nothing, and one
     variable, of one digit or of two, is no input."""
     found = {}
     for lines, zeros, other in itertools.product(range(6370, 6396), range(5), (4, 40)):
@@ -131,7 +131,7 @@ def behind_inputs():
 
 
 def behind_a_name(word, length):
-    """Names and the comment, behind a long name."""
+    """Names and the comment, after a long name."""
     first = header(word, 3, 3, 0, 0, 0)
     start = join(first) + (b"2\n4\n6\n" if word == b"aag" else b"") + b"i0 "
     return start + b"n" * (length - len(start))
@@ -265,8 +265,8 @@ def tested(program, number, data, place, by_packets):
 
 
 def on_a_terminal(program, data):
-    """How the conversion of a file ends that comes from a terminal, on which the end is told once. Of a program that
-    reads on after it, what is wrong is told."""
+    """How the conversion of a file ends that comes from a terminal, which reports the end once. If a program reads
+    on after it, the test says what is wrong."""
     master, terminal = pty.openpty()
     words = [program.path, "toaig", "--to", "aag", "/dev/stdin"]
     with subprocess.Popen(words, stdin=terminal, stdout=subprocess.PIPE, stderr=subprocess.PIPE) as child:

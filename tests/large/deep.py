@@ -1,6 +1,6 @@
 """The deepest and the widest circuits that the limits allow, through every subcommand, and ones of an eighth of their
-size: results that are known, no signal (a recursion that grows with its input would end in one), and at most so many
-times as long and as much memory for eight times as much."""
+size. The results are known, and no signal ends a run (a recursion that grows with its input would end in one). A run
+takes at most so many times as long and as much memory for eight times as much."""
 
 import filecmp
 import os
@@ -18,7 +18,7 @@ GROWTH = {"seconds": 30, "memory": 10}
 LEAST = {"seconds": 0.05, "memory": 20}
 
 
-# ---- shapes: for a size, a header and the lines behind it; all in the short spelling
+# ---- shapes: for a size, a header and the lines after it; all in the short spelling
 
 def chain(n):
     """One input, and each gate reads the variable before it and 1: as deep as can be, and each value is the input's."""
@@ -27,7 +27,7 @@ def chain(n):
 
 def reversed_chain(n):
     """The same with the last variable as the input and the lines in reverse: each gate reads a greater variable that is
-    defined behind it."""
+    defined after it."""
     return f"aag {n} 1 0 1 {n - 1}\n{2 * n}\n2\n", (f"{2 * v} {2 * v + 2} 1\n" for v in range(1, n))
 
 
@@ -126,7 +126,7 @@ class Runs:
         write("script", f"v 0 {end}\ns 0 0 0\nv 0 {end}\ns 0 0 1\n")
         self.run("bench", "bench", "text", "row", "script", text=b"1\nok\n%d\nok\n" % (self.shape is latches))
         if self.shape in (chain, comb):
-            # A gate in the middle reads the input twice: the levels of all that is behind it change. Then it would read
+            # A gate in the middle reads the input twice: the levels of its whole fan-out change. Then it would read
             # the last.
             middle = self.size & ~1
             write("script", f"w {middle} 2 2\nv 0 {end}\nw {middle} {end} 1\nv 0 {end}\n")

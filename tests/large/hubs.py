@@ -1,6 +1,6 @@
-"""Rewires of gates away from a hub, a net that very many gates read, as a reset or an enable is, and back to it. Where a
-list of readers is long, the place of each gate in it is kept; so a rewire takes the same time away from a hub as away
-from a net with one reader. First the values behind a hub are held against those that the lines of the script ask for.
+"""Rewires of gates away from a hub, a net that very many gates read, as a reset or an enable is, and back to it. In a
+long list of fan-outs the place of each gate is kept, and so a rewire takes the same time away from a hub as away from a
+net that one gate reads. First the values after a hub are compared with those that the lines of the script ask for.
 
 The circuit has many gates that read the hub (`--readers`; 200,000), and as many that read a net of few readers in its
 place; beside it each reads another such net. The same lines are asked for gates of either kind, chosen at random: away

@@ -1,6 +1,6 @@
-"""Work up to the limits of a bench, with results that are computed here or by `reference.py`: a circuit of 20,000 gates
-that a script unrolls for 60 frames, so for over a million gates; 65,536 frames that a script appends one by one, and one
-more, which is over the limit; and rewires at nets of exactly 3, 4 and 5 gates, where a list of fan-outs grows."""
+"""Work up to the limits of a bench, with results that are computed here or by `reference.py`. A script unrolls a
+circuit of 20,000 gates for 60 frames, so for over a million gates. A script appends 65,536 frames one by one, and one
+more is over the limit. Rewires are at nets of exactly 3, 4 and 5 gates, where a list of fan-outs grows."""
 
 import random
 

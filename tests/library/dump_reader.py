@@ -1,6 +1,6 @@
 """A plain reader of value change dumps (IEEE 1364, four-state), apart from the toolkit: the names that the header
-declares, and the value of each signal at each time. It takes words between white space, as any reader of dumps does,
-and is strict about what a dump of `aig wave` has to be: one bit per signal, codes that count from 0, each code in one
+declares, and the value of each signal at each time. It takes words between white space, as any reader of dumps does.
+It is strict about what a dump of `aig wave` has to be: one bit per signal, codes that count from 0, each code in one
 section, every value at time 0, and from then on changes alone."""
 
 import collections

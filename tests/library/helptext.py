@@ -26,7 +26,7 @@ def parsed(text):
 
 
 def commands(ask):
-    """The help of the whole program, and that of each command by name; `ask` runs the program with these words."""
+    """The help of the whole program, and that of each command by name; `ask` runs the program with these arguments."""
     overview = ask("--help")
     names = [name for name in section(overview, "Commands") if name != "help"]
     return parsed(overview), {name: parsed(ask(name, "--help")) for name in names}

@@ -91,8 +91,8 @@ class Markdown:
         return page
 
     def table(self, text):
-        """A table as a list of terms, which are its first column. Below a term come the other cells of the row, each with
-        the head of its column if there are several. Rows that begin alike share their term."""
+        """A table as a list of terms, which are its first column. Below a term come the other cells of the row, each
+        with the head of its column if there are several. Rows that begin alike share their term."""
         head, _, *rows = [cells(row) for row in text.split("\n")]
         page, last = "", None
         for term, *rest in rows:

@@ -49,7 +49,7 @@ class Program:
 
 
 class Tally:
-    """How many checks of a part passed and failed; each that failed is told."""
+    """How many checks of a part passed and failed; it prints each that failed."""
 
     MOST_TOLD = 20
 

@@ -2,7 +2,7 @@
 
 It goes by names. A word cites the definition of that name, or the type whose constructor it is, if the module has it or
 a line `use` imports it. The field of a record cites nothing: a value of a record comes from a definition or a binder
-whose type names the record. So two records that have a field of one name are told apart. A name that is bound, as in
+whose type names the record. So two records that have a field of one name are distinguished. A name that is bound, as in
 `(rows : List ℕ)`, is taken for a definition of that name, if the module knows one."""
 
 import collections
@@ -74,7 +74,7 @@ def definitions(path):
             if at:
                 inner |= {last} - {None}
                 last = at[1]
-            # behind its line a field's name means the field
+            # after its line a field's name means the field
             more = words(line[at.end():] if at else line)
             said |= {it for it in more if it.partition(".")[0] not in inner} if kind == "record" else more
         inner |= {last} - {None}

@@ -1,4 +1,4 @@
-pub mod Descents
+pub mod FirstLevels
 pub mod GreatestLemmas
 pub mod Heights
 pub mod LevelBound

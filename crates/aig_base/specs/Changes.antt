@@ -38,7 +38,7 @@ with_reset raw lit w = record raw { latches = map (restarted lit w) raw.latches 
 abbrev pub with_output : Raw → ℕ → ℕ → Raw
 with_output raw position lit = record raw { outputs = slice_set raw.outputs position lit }
 
--- the gate of the variable behind the greatest, with these right sides
+-- the gate of the variable after the greatest, with these right sides
 abbrev pub next_gate : Raw → ℕ → ℕ → Gate
 next_gate raw r0 r1 = record { lhs = 2 * (raw.max_var + 1); rhs0 = r0; rhs1 = r1 }
 

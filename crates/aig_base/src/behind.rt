@@ -1,4 +1,4 @@
-//! Which variables are behind a gate: its transitive fan-out.
+//! The transitive fan-out of a gate: the variables behind it.
 ghost use Rattle.std.specs.Prelude.{◌≡◌, ◌⊎◌, ◌<◌, length, All, Contains};
 ghost use Rattle.std.specs.Vec.{vec_capacity};
 ghost use Rattle.std.specs.Bool.{OnTrue, OnFalse};

@@ -12,18 +12,17 @@ ghost use Rattle.aig_base.specs.state.Least.{IsLeastAmong, IsKnown, IsGroundedGa
 ghost use Rattle.aig_parts.specs.Literal.{variable};
 ghost use Rattle.aig_base.specs.state.Ranged.{AreInRange, AreSectionsInRange, AreDefinedOnce, AreDefinitions};
 ghost use Rattle.aig_base.specs.Sections.{definitions, uses, IsDefined};
-ghost use Rattle.aig_base.specs.Sound.{IsDefinition};
-ghost use Rattle.aig_base.specs.state.TriedLevels.{AreStepped};
+ghost use Rattle.aig_base.specs.Sound.{IsDefinition, IsSound};
 
 use crate::circuit::Circuit;
 use crate::definition::Definition;
 use crate::definitions::Definitions;
 use crate::entries::Entries;
-use crate::grounded::grounded_marks;
+use crate::grounded::grounded_levels;
 use crate::least::{least_bad_reset, least_undefined, least_unmarked};
 use crate::ordered::{is_ascending, test_ascending};
 use crate::ready::definitions_in_order;
-use crate::tried_levels::{are_levels, tried_levels};
+use crate::tried_levels::found_levels;
 use aig_bytes::Memory;
 use aig_parts::{Fault, Gate, Latch, List, Lit, Raw};
 use std::alloc::Global;
@@ -115,34 +114,15 @@ fn are_ascending(gates: &[Gate]) -> bool
     gates.iter().all(|gate| reads_smaller(*gate))
 }
 
-// The levels of the variables, where they are found.
-fn found_levels(alloc: Global, raw: &Raw) -> Result<Option<Vec<u32>>, Memory>
-    requires counts { CountsFit raw.now }
-    requires range { AreInRange raw.now }
-    ensures { IfOk result (λ found. IfSome found (λ levels. AreStepped raw.now levels.items)) }
-{
-    let levels = tried_levels(alloc, raw)?;
-    if are_levels(&levels, raw) {
-        return Ok(Some(levels));
-    }
-    Ok(None)
-}
-
 // The least gate variable that is not grounded.
 fn least_ungrounded(alloc: Global, raw: &Raw) -> Result<Option<u32>, Memory>
     requires counts { CountsFit raw.now }
     requires range { AreInRange raw.now }
+    requires sound { IsSound raw.now }
     ensures { IfOk result (IsLeastAmong (IsGroundedGate raw.now) gate_variable raw.now.gates) }
 {
-    let gates = raw.gates.as_slice();
-    let marks = grounded_marks(
-        alloc,
-        raw.max_var,
-        raw.inputs.as_slice(),
-        raw.latches.as_slice(),
-        gates,
-    )?;
-    Ok(least_unmarked(marks.as_slice(), gates))
+    let found = grounded_levels(alloc, raw)?;
+    Ok(least_unmarked(found.marks.as_slice(), raw.gates.as_slice()))
 }
 
 // Whether the definitions are in order the literals 2, 4, .., 2M.

@@ -71,7 +71,7 @@ impl Definitions {
         Ok(())
     }
 
-    /// Adds the definition of a gate at this position, behind the others.
+    /// Adds the definition of a gate at this position, after the others.
     pub(crate) fn append_gate(&mut self, position: u32)
         requires room { FitsOneDefinition self.old }
         ensures { (raw : Raw) (r0 r1 : ℕ) → length raw.gates ≡ position → Tells raw self.old

@@ -1,19 +1,22 @@
-//! Which variables are grounded: their transitive fan-in ends at inputs, latches and the constant.
+//! Which variables are grounded: their transitive fan-in ends at inputs, latches and the constant. And their levels.
 ghost use Rattle.std.specs.Prelude.{◌≡◌, ◌↔◌, IsTrue, ◌+◌, ◌/◌, ◌∷◌, ◌++◌, ◌<◌, ◌≤◌, List, [], ℕ, suc, Some, length};
 ghost use Rattle.std.specs.Prelude.{map, All, slice_get, IfOk, OnOk};
-ghost use Rattle.aig_parts.specs.Formed.{limit};
+ghost use Rattle.aig_parts.specs.Formed.{CountsFit, limit};
+ghost use Rattle.aig_base.specs.Levels.{AreLevels};
+ghost use Rattle.aig_base.specs.Sound.{IsSound};
 ghost use Rattle.aig_base.specs.state.Least.{latch_variable};
 ghost use Rattle.aig_base.specs.state.Links.{AreLinks};
 ghost use Rattle.aig_parts.specs.Literal.{variable};
-ghost use Rattle.aig_base.specs.state.Marks.{sides, AreMarks, HasParts, IsGateBelow};
+ghost use Rattle.aig_base.specs.state.Marks.{sides, AreMarks, IsGateBelow};
 ghost use Rattle.aig_base.specs.state.Marks.{AreStarted, AddsMark, Moves, IsMarked};
 ghost use Rattle.aig_base.specs.state.Marks.{IsMarking};
+ghost use Rattle.aig_base.specs.state.Ranged.{AreInRange};
 ghost use Rattle.aig_parts.specs.declared.raw.Raw.{Raw};
 
 use crate::links::Links;
 use crate::walk::Walk;
 use aig_bytes::Memory;
-use aig_parts::{Gate, Latch, Lit};
+use aig_parts::{Gate, Latch, Lit, Raw};
 use std::alloc::Global;
 
 /// A walk that meets the variables which are known to be grounded; pending are those whose readers are still to be
@@ -77,82 +80,104 @@ impl Marking {
         Ok(marking)
     }
 
-    // Marks the left side of a gate if both right sides are marked. `IsMarking` goes on from a position of this gate to
-    // the link that follows.
-    fn visit(&mut self, gate: Gate) -> Result<(), Memory>
-        requires { IsGateBelow (length self.old.walk.met.items) gate }
+    // Marks the left side of a gate, with its level, if both right sides are marked. `IsMarking` goes on from a
+    // position of this gate to the link that follows. No level wraps.
+    fn visit(&mut self, levels: &mut [u32], gate: Gate) -> Result<(), Memory>
+        requires gate { IsGateBelow (length self.old.walk.met.items) gate }
+        requires levels { length levels.old ≡ length self.old.walk.met.items }
         ensures moves { OnOk result (Moves self.old.walk.met.items self.old.walk.pending.items
             self.new.walk.met.items self.new.walk.pending.items) }
         ensures marking { OnOk result ((raw : Raw) (next : List ℕ) (p link : ℕ)
             → slice_get raw.gates (p / 2) ≡ Some gate → slice_get next p ≡ Some link
-            → IsMarking raw next (suc p) self.old.walk.met.items self.old.walk.pending.items
-            → IsMarking raw next link self.new.walk.met.items self.new.walk.pending.items) }
+            → IsMarking raw next (suc p) self.old.walk.met.items self.old.walk.pending.items levels.old
+            → IsMarking raw next link self.new.walk.met.items self.new.walk.pending.items levels.new) }
     {
         if self.is_marked(gate.rhs0.var()) && self.is_marked(gate.rhs1.var()) {
+            let first = levels[gate.rhs0.var() as usize];
+            let second = levels[gate.rhs1.var() as usize];
+            levels[gate.lhs.var() as usize] = first.max(second).wrapping_add(1);
             self.mark(gate.lhs.var())?;
         }
         Ok(())
     }
 
     // Visits the gates of a chain, from this link on.
-    fn visit_chain(&mut self, readers: &Links, gates: &[Gate], mut link: u32) -> Result<(), Memory>
+    fn visit_chain(
+        &mut self,
+        readers: &Links,
+        gates: &[Gate],
+        levels: &mut [u32],
+        mut link: u32,
+    ) -> Result<(), Memory>
         requires readers { AreLinks (sides gates.now) readers.now.first.items readers.now.next.items }
         requires gates { All (IsGateBelow (length self.old.walk.met.items)) gates.now }
+        requires levels { length levels.old ≡ length self.old.walk.met.items }
         requires link { link ≤ length readers.now.next.items }
         ensures moves { OnOk result (Moves self.old.walk.met.items self.old.walk.pending.items
             self.new.walk.met.items self.new.walk.pending.items) }
         ensures marking { OnOk result ((raw : Raw) → raw.gates ≡ gates.now
-            → IsMarking raw readers.now.next.items link self.old.walk.met.items self.old.walk.pending.items
-            → IsMarking raw readers.now.next.items 0 self.new.walk.met.items self.new.walk.pending.items) }
+            → IsMarking raw readers.now.next.items link self.old.walk.met.items self.old.walk.pending.items levels.old
+            → IsMarking raw readers.now.next.items 0 self.new.walk.met.items self.new.walk.pending.items levels.new) }
     {
         while link != 0 {
             let position = link as usize - 1;
-            self.visit(gates[position / 2])?;
+            self.visit(levels, gates[position / 2])?;
             link = readers.next(position);
         }
         Ok(())
     }
 
     // Visits the readers of each variable that waits, until none does.
-    fn close(&mut self, readers: &Links, gates: &[Gate]) -> Result<(), Memory>
+    fn close(&mut self, readers: &Links, gates: &[Gate], levels: &mut [u32]) -> Result<(), Memory>
         requires readers { AreLinks (sides gates.now) readers.now.first.items readers.now.next.items }
         requires size { length readers.now.first.items ≡ length self.old.walk.met.items }
         requires gates { All (IsGateBelow (length self.old.walk.met.items)) gates.now }
+        requires levels { length levels.old ≡ length self.old.walk.met.items }
         requires below { All (λ v. v < length self.old.walk.met.items) self.old.walk.pending.items }
         ensures size { OnOk result (length self.new.walk.met.items ≡ length self.old.walk.met.items) }
         ensures done { OnOk result (self.new.walk.pending.items ≡ []) }
         ensures marking { OnOk result ((raw : Raw) → raw.gates ≡ gates.now
-            → IsMarking raw readers.now.next.items 0 self.old.walk.met.items self.old.walk.pending.items
-            → IsMarking raw readers.now.next.items 0 self.new.walk.met.items self.new.walk.pending.items) }
+            → IsMarking raw readers.now.next.items 0 self.old.walk.met.items self.old.walk.pending.items levels.old
+            → IsMarking raw readers.now.next.items 0 self.new.walk.met.items self.new.walk.pending.items levels.new) }
         ensures kept { OnOk result ((v : ℕ) → IsMarked self.old.walk.met.items v → IsMarked self.new.walk.met.items v) }
     {
         while let Some(variable) = self.walk.pending.pop() {
             let link = readers.first(variable);
-            self.visit_chain(readers, gates, link)?;
+            self.visit_chain(readers, gates, levels, link)?;
         }
         Ok(())
     }
 }
 
-/// A mark for each variable from 0 to `max_var`: whether it rests on variable 0, the inputs and the latches alone. The
-/// parts need not be sound. Linear in the parts and `max_var`.
-pub(crate) fn grounded_marks(
-    alloc: Global,
-    max_var: u32,
-    inputs: &[Lit],
-    latches: &[Latch],
-    gates: &[Gate],
-) -> Result<Vec<bool>, Memory>
-    requires max_var { max_var ≤ limit }
-    requires count { length gates.now ≤ limit }
-    requires inputs { All (λ l. variable l < max_var + 1) inputs.now }
-    requires latches { All (λ x. variable x.lit < max_var + 1) latches.now }
-    requires gates { All (IsGateBelow (max_var + 1)) gates.now }
-    ensures { IfOk result (λ marks. (raw : Raw) → HasParts raw inputs.now latches.now gates.now
-        → AreMarks raw max_var marks.items) }
+/// A mark for each variable, and the levels of those that are marked.
+#[derive(Drop)]
+pub(crate) struct GroundedLevels {
+    pub(crate) marks: Vec<bool>,
+    pub(crate) levels: Vec<u32>,
+}
+
+/// For each variable of sound parts whether it rests on variable 0, the inputs and the latches alone, and then its
+/// level. Linear in the parts and M.
+pub(crate) fn grounded_levels(alloc: Global, raw: &Raw) -> Result<GroundedLevels, Memory>
+    requires counts { CountsFit raw.now }
+    requires range { AreInRange raw.now }
+    requires sound { IsSound raw.now }
+    ensures marks { IfOk result (λ found. AreMarks raw.now found.marks.items) }
+    ensures levels { IfOk result (λ found. AreLevels raw.now found.levels.items) }
 {
+    let max_var = raw.max_var;
+    let gates = raw.gates.as_slice();
     let readers = Links::of_sides(alloc, max_var, gates)?;
-    let mut marking = Marking::of_sources(alloc, max_var, inputs, latches)?;
-    marking.close(&readers, gates)?;
-    Ok(marking.walk.met)
+    let mut levels = vec![in alloc; 0; max_var as usize + 1]?;
+    let mut marking = Marking::of_sources(
+        alloc,
+        max_var,
+        raw.inputs.as_slice(),
+        raw.latches.as_slice(),
+    )?;
+    marking.close(&readers, gates, &mut levels)?;
+    Ok(GroundedLevels {
+        marks: marking.walk.met,
+        levels,
+    })
 }

@@ -1,13 +1,15 @@
 //! Levels of variables: the longest way down the fan-ins to an input, a latch or the constant.
-ghost use Rattle.std.specs.Prelude.{◌≡◌, ◌⊎◌, ◌<◌, ◌^◌, length, Some, slice_get, IfNone, IfOk, IfSome, OnOk};
-ghost use Rattle.aig_base.specs.state.Descent.{level_above, IsDescent, IsMet, Settles};
+ghost use Rattle.std.specs.Prelude.{◌≡◌, ◌<◌, ◌^◌, [], ◌∷◌, ◌++◌, length, Some, slice_get, IfOk, IfSome};
+ghost use Rattle.aig_base.specs.state.Descent.{level_above, AreFirstLevels};
 ghost use Rattle.aig_base.specs.Levels.{AreLevels};
 ghost use Rattle.aig_parts.specs.Literal.{variable};
 
+use crate::check::reads_smaller;
 use crate::circuit::Circuit;
+use crate::grounded::grounded_levels;
 use crate::queue::Queue;
+use crate::tried_levels::found_levels;
 use crate::visits::Visits;
-use crate::walk::Walk;
 use aig_bytes::Memory;
 use aig_parts::Gate;
 use std::alloc::Global;
@@ -38,25 +40,6 @@ impl Model for Levels {
         AreNoVisits (length a.levels.items) a.visits × IsEmptyQueue (length a.levels.items) a.queue };
 }
 
-// The variable of a right side that was not met.
-fn unmet_side(met: &[bool], gate: &Gate) -> Option<u32>
-    requires first { variable gate.now.rhs0 < length met.now }
-    requires second { variable gate.now.rhs1 < length met.now }
-    ensures side { IfSome result (λ v. (v ≡ variable gate.now.rhs0) ⊎ (v ≡ variable gate.now.rhs1)) }
-    ensures unmet { IfSome result (λ v. IsMet met.now v → ⊥) }
-    ensures met { IfNone result (IsMet met.now (variable gate.now.rhs0) × IsMet met.now (variable gate.now.rhs1)) }
-{
-    let first = gate.rhs0.var();
-    if !met[first as usize] {
-        return Some(first);
-    }
-    let second = gate.rhs1.var();
-    if !met[second as usize] {
-        return Some(second);
-    }
-    None
-}
-
 /// One more than the greater level of the right sides.
 pub(crate) fn level_over(levels: &[u32], gate: &Gate) -> u32
     requires first { variable gate.now.rhs0 < length levels.now }
@@ -69,40 +52,52 @@ pub(crate) fn level_over(levels: &[u32], gate: &Gate) -> u32
     levels[first].max(levels[second]) + 1
 }
 
-// Goes down right sides from the pending variables until all that was met has its level.
-fn settle(circuit: &Circuit, walk: &mut Walk, levels: &mut [u32]) -> Result<(), Memory>
-    requires { IsDescent circuit.now walk.old.met.items walk.old.pending.items levels.old }
-    ensures { OnOk result
-        (Settles circuit.now walk.old.met.items walk.new.met.items walk.new.pending.items levels.new) }
+// The level of the variable after those whose levels are known, unless its gate reads one after them.
+fn next_level(circuit: &Circuit, levels: &[u32], variable: u32) -> Option<u32>
+    requires size { variable ≡ length levels.now }
+    requires levels { AreFirstLevels circuit.now levels.now }
+    ensures { IfSome result (λ level. AreFirstLevels circuit.now (levels.now ++ level ∷ [])) }
 {
-    let _ = circuit.max_var();
-    while let Some(top) = walk.pending.last().copied() {
-        let mut level = 0;
-        if let Some(gate) = circuit.gate_of(top) {
-            if let Some(side) = unmet_side(&walk.met, &gate) {
-                walk.meet(side)?;
-                continue;
-            }
-            level = level_over(levels, &gate);
-        }
-        levels[top as usize] = level;
-        let _ = walk.pending.pop();
+    // Its contract tells that the parts are a circuit.
+    let _max_var = circuit.max_var();
+    let Some(gate) = circuit.gate_of(variable) else {
+        return Some(0);
+    };
+    if !reads_smaller(gate) {
+        return None;
     }
-    Ok(())
+    Some(level_over(levels, &gate))
 }
 
-/// The levels of a circuit, found by a walk.
-pub(crate) fn walked_levels(alloc: Global, circuit: &Circuit) -> Result<Vec<u32>, Memory>
-    ensures { IfOk result (λ levels. AreLevels circuit.now levels.items) }
+// The levels of a circuit where each gate reads smaller variables alone. One pass.
+fn ascending_levels(alloc: Global, circuit: &Circuit) -> Result<Option<Vec<u32>>, Memory>
+    ensures { IfOk result (λ found. IfSome found (λ levels. AreLevels circuit.now levels.items)) }
 {
     let max_var = circuit.max_var();
-    let mut walk = Walk::new(alloc, max_var)?;
-    let mut levels = vec![in alloc; 0; max_var as usize + 1]?;
+    let mut levels = Vec::with_capacity(alloc, max_var as usize + 1)?;
     for variable in 0..max_var + 1 {
-        walk.meet(variable)?;
-        settle(circuit, &mut walk, &mut levels)?;
+        let Some(level) = next_level(circuit, &levels, variable) else {
+            return Ok(None);
+        };
+        levels.push(level)?;
     }
-    Ok(levels)
+    Ok(Some(levels))
+}
+
+/// The levels of a circuit that keeps none: by one pass where the gates ascend, else found, else by the fan-outs.
+pub(crate) fn new_levels(alloc: Global, circuit: &Circuit) -> Result<Vec<u32>, Memory>
+    ensures { IfOk result (λ levels. AreLevels circuit.now levels.items) }
+{
+    // Its contract tells that the parts are a circuit.
+    let _max_var = circuit.max_var();
+    if let Some(levels) = ascending_levels(alloc, circuit)? {
+        return Ok(levels);
+    }
+    if let Some(levels) = found_levels(alloc, &circuit.raw)? {
+        return Ok(levels);
+    }
+    let found = grounded_levels(alloc, &circuit.raw)?;
+    Ok(found.levels)
 }
 
 // The levels of a circuit: those that it keeps, or else found.
@@ -111,7 +106,7 @@ fn level_list(alloc: Global, circuit: &Circuit) -> Result<Vec<u32>, Memory>
 {
     match circuit.kept_levels() {
         Some(levels) => Ok(Vec::from_slice(alloc, levels)?),
-        None => walked_levels(alloc, circuit),
+        None => new_levels(alloc, circuit),
     }
 }
 

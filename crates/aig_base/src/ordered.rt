@@ -1,4 +1,4 @@
-//! The test of parts whose definitions are in order, each gate behind all that it reads, as in every binary file.
+//! The test of parts whose definitions are in order, each gate after all that it reads, as in every binary file.
 ghost use Rattle.std.specs.Prelude.{◌≡◌, ◌≢◌, ◌+◌, ◌^◌, ◌<◌, length, map, All, IsTrue, IfErr, OnOk};
 ghost use Rattle.aig_base.specs.Circuit.{IsCircuit};
 ghost use Rattle.aig_base.specs.Definition.{IsInOrder};

@@ -35,7 +35,7 @@ fn source_table(alloc: Global, circuit: &Circuit) -> Result<Vec<u32>, Memory>
     Ok(table)
 }
 
-// Numbers the gates, behind the latches.
+// Numbers the gates, after the latches.
 fn number_gates(circuit: &Circuit, order: &[u32], table: &mut [u32])
     requires order { IsCanonicalOrder circuit.now order.now }
     requires sources { IsRenumbering circuit.now [] table.old }

@@ -1,5 +1,6 @@
 //! Levels that are tried: a walk finds them, of which nothing is proved, and one pass tests them.
-ghost use Rattle.std.specs.Prelude.{◌≡◌, ◌↔◌, ◌+◌, ◌<◌, ◌≤◌, [], ℕ, length, slice_get, All, IfOk, IsTrue, OnOk, Some};
+ghost use Rattle.std.specs.Prelude.{◌≡◌, ◌↔◌, ◌+◌, ◌<◌, ◌≤◌, [], ℕ, length, slice_get, All, Some};
+ghost use Rattle.std.specs.Prelude.{IfOk, IfSome, IsTrue, OnOk};
 ghost use Rattle.std.specs.Bool.{OnTrue};
 ghost use Rattle.aig_parts.specs.Formed.{CountsFit, limit};
 ghost use Rattle.aig_parts.specs.Literal.{variable};
@@ -60,7 +61,7 @@ fn push_unmet(nodes: &[Node], pending: &mut Vec<u32>, variable: u32) -> Result<(
     Ok(())
 }
 
-// Finds the levels of what waits, each behind those of what it reads. Tells whether nothing was met that rests on
+// Finds the levels of what waits, each after those of what it reads. Tells whether nothing was met that rests on
 // itself.
 fn find_pending(nodes: &mut [Node], pending: &mut Vec<u32>) -> Result<bool, Memory>
     requires nodes { All (ReadsBelow (length nodes.old)) nodes.old }
@@ -110,9 +111,9 @@ fn find_levels(alloc: Global, nodes: &mut [Node]) -> Result<(), Memory>
     Ok(())
 }
 
-/// A number for each variable, 0 to M, of parts in range. It is tried that they are its levels: no more is said of
-/// them, and `are_levels` tells whether it is so. Linear in the parts and M.
-pub(crate) fn tried_levels(alloc: Global, raw: &Raw) -> Result<Vec<u32>, Memory>
+// A number for each variable, 0 to M. It is tried that they are its levels: no more is said of them, and `are_levels`
+// tells whether it is so.
+fn tried_levels(alloc: Global, raw: &Raw) -> Result<Vec<u32>, Memory>
     requires counts { CountsFit raw.now }
     requires range { AreInRange raw.now }
     ensures { IfOk result (λ levels. length levels.items ≡ raw.now.max_var + 1) }
@@ -155,9 +156,9 @@ fn are_steps(levels: &[u32], gates: &[Gate]) -> bool
     true
 }
 
-/// Whether numbers are the levels of these parts, if those are a circuit: 0 for a source, and one more than the greater
-/// level of the right sides for a gate.
-pub(crate) fn are_levels(levels: &[u32], raw: &Raw) -> bool
+// Whether numbers are the levels of these parts, if those are a circuit: 0 for a source, and one more than the greater
+// level of the right sides for a gate.
+fn are_levels(levels: &[u32], raw: &Raw) -> bool
     requires size { length levels.now ≡ raw.now.max_var + 1 }
     requires range { AreInRange raw.now }
     ensures { IsTrue result → AreStepped raw.now levels.now }
@@ -172,4 +173,17 @@ pub(crate) fn are_levels(levels: &[u32], raw: &Raw) -> bool
             .iter()
             .all(|latch| has_level_0(levels, latch.lit))
         && are_steps(levels, raw.gates.as_slice())
+}
+
+/// The levels of the variables, where they are found. Linear in the parts and M.
+pub(crate) fn found_levels(alloc: Global, raw: &Raw) -> Result<Option<Vec<u32>>, Memory>
+    requires counts { CountsFit raw.now }
+    requires range { AreInRange raw.now }
+    ensures { IfOk result (λ found. IfSome found (λ levels. AreStepped raw.now levels.items)) }
+{
+    let levels = tried_levels(alloc, raw)?;
+    if are_levels(&levels, raw) {
+        return Ok(Some(levels));
+    }
+    Ok(None)
 }

@@ -12,7 +12,7 @@ use borrow.Rule.Slice.PartMut.{put_mid}
 use Rattle.aig_bytes.specs.Bytes.{after}
 use Rattle.aig_bytes.proofs.WriteLemmas.{after-append}
 
--- bytes that are put in behind
+-- bytes that are put in at the end
 pub put_in : (start end n : ℕ) (place place' new : List ℕ) → start ≤ end → end ≤ length place → take n place' ≡ take end place ++ new
     → drop start (take n place') ≡ drop start (take end place) ++ new
 put_in start end n place place' new front fits e =
@@ -27,7 +27,7 @@ put_in_first start end k n place new front fits le = put_in start end (end + n) 
     ∙ ap (λ (j : ℕ). take (j + n) (take end place ++ new)) (sym (length-take-le end place fits))
     ∙ take-append-add (take end place) new n)
 
--- a number's digits, which were put in at the end of what waits, and a byte behind them
+-- a number's digits, which were put in at the end of what waits, and a byte after them
 pub put_in_field : (start end at last e : ℕ) (place place' ds : List ℕ) → start ≤ end → end ≤ length place
     → last ≡ end + length ds → at + length ds ≡ last → last < length place' → drop at place' ≡ ds ++ drop last place
     → take at place' ≡ take at place
@@ -59,13 +59,13 @@ digits_of_more (suc k) n lo hi small =
     let size = digits_of_more k (n / 10) (omega arith) (omega arith) (omega arith) in
     ap length (decimal_step n (omega arith) small) ∙ omega (arith, length-append (decimal (n / 10)) ((48 + n % 10) ∷ []))
 
--- what is handed on behind all that was held
+-- what is passed on after all that was held
 pub straight_on : (held front none taken : List ℕ) → held ++ [] ≡ front ++ none → none ≡ [] → held ++ taken ≡ (front ++ taken) ++ none
 straight_on held front none taken e empty =
     let same : held ≡ front = sym (append-nil held) ∙ e ∙ ap (λ (xs : List ℕ). front ++ xs) empty ∙ append-nil front in
     ap (λ (xs : List ℕ). xs ++ taken) same ∙ sym (append-nil (front ++ taken)) ∙ ap (λ (xs : List ℕ). (front ++ taken) ++ xs) (sym empty)
 
--- what is handed on next leaves the front of what waits
+-- what is passed on next leaves the front of what waits
 pub split_more : (all front rest : List ℕ) (n : ℕ) → all ≡ front ++ rest → all ≡ (front ++ take n rest) ++ drop n rest
 split_more all front rest n e = e ∙ ap (λ (xs : List ℕ). front ++ xs) (sym (take-append-drop n rest)) ∙ sym (append_assoc front (take n rest) (drop n rest))
 

@@ -1,12 +1,13 @@
 -- Bytes that are gathered piece by piece.
-use Rattle.std.proofs.Common.{◌≡◌, ℕ, ◌+◌, ◌<◌, get_or, List, [], ◌∷◌, ◌++◌, length, take, drop, sym, ap, ◌∙◌, append_assoc, Ok, Err, IsErr, subst, Result, arith}
+use Rattle.std.proofs.Common.{◌≡◌, ℕ, ◌+◌, ◌-◌, ◌<◌, get_or, List, [], ◌∷◌, ◌++◌, length, take, drop, refl, sym, ap, ◌∙◌, append_assoc, Ok, Err, IsErr, subst, Result, arith}
 use Rattle.std.specs.Prelude.{Option}
 use Rattle.std.specs.List.{flat_map}
-use Rattle.std.proofs.lemmas.List.{append-nil, take-append-drop, take_more, drop_more}
+use Rattle.std.proofs.lemmas.List.{append-nil, take-append-drop, take_more, take_rest, drop_more}
+use Rattle.std.proofs.Math.Seq.{take-add}
 use Rattle.std.proofs.lemmas.List.Concat.{flat_map-append}
 use Rattle.std.proofs.lemmas.Bool.{false≢true}
 use Rattle.aig_bytes.specs.Bytes.{after, Writes}
-use Rattle.aig_bytes.specs.state.Gathered.{Gathers}
+use Rattle.aig_bytes.specs.Gathered.{Gathers}
 use Rattle.aig_bytes.proofs.WriteLemmas.{after-append, after-nil, writes_then, writes_same}
 
 -- parts that join
@@ -78,6 +79,55 @@ module _ {X : Type 0} {written : X → Option (List ℕ)} {failures : X → ℕ}
     count = omega arith;
   }
 
+  -- the same success as another result
+  pub gathers_ok : {T E S F : Type 0} {old new : X} {held held' a : List ℕ} {x : T} {y : S}
+      → Gathers {E = E} written failures old new held held' a (Ok x)
+      → Gathers {E = F} written failures old new held held' a (Ok y)
+  gathers_ok g = record { handed = g.handed; wrote = g.wrote; ok = g.ok; err = tt; count = g.count }
+
+  -- what waited was written, and the piece waits
+  pub gathers_handed : {T E S F : Type 0} {old new : X} {held held' a : List ℕ} {x : T} {y : S}
+      → Writes {E = E} written failures old new held (Ok x) → held' ≡ a
+      → Gathers {E = F} written failures old new held held' a (Ok y)
+  gathers_handed {held} w e =
+      record { handed = held; wrote = w.ok; ok = ap (λ (xs : List ℕ). held ++ xs) (sym e); err = tt; count = w.count }
+
+  -- what waited could not be written
+  pub gathers_not_handed : {T E S F : Type 0} {old new : X} {held held' a : List ℕ} {d : E} {s : Result S F}
+      → Writes {T = T} written failures old new held (Err d) → IsErr s → Gathers written failures old new held held' a s
+  gathers_not_handed {a} {s = Err d} w h = record {
+    handed = w.err.0;
+    wrote = w.err.2;
+    ok = tt;
+    err = (w.err.1.0 ++ a, ap (λ (xs : List ℕ). xs ++ a) w.err.1.1 ∙ append_assoc w.err.0 w.err.1.0 a);
+    count = w.count;
+  }
+  gathers_not_handed {s = Ok d} w h = absurd (false≢true h)
+
+  -- bytes from i on that went into the emptied block
+  pub gathers_more : {T E S F : Type 0} {old mid new : X} {held waiting emptied waiting' : List ℕ} {x : T} {y : S}
+      (bytes : List ℕ) (i n : ℕ) → Gathers {E = E} written failures old mid held waiting (take i bytes) (Ok x)
+      → Writes {E = F} written failures mid new waiting (Ok y) → emptied ≡ []
+      → waiting' ≡ emptied ++ take n (take (length bytes - i) (drop i bytes))
+      → Gathers {T = T} {E = E} written failures old new held waiting' (take (i + n) bytes) (Ok x)
+  gathers_more {T} {E} {x} bytes i n done w none put =
+      gathers_same (gathers_then done (gathers_handed {S = T} {F = E} {y = x} w
+      (put ∙ ap (λ (xs : List ℕ). xs ++ take n (take (length bytes - i) (drop i bytes))) none)))
+      (ap (λ (t : List ℕ). take i bytes ++ take n t) (take_rest bytes i) ∙ sym (take-add i n bytes))
+
+  straight : {S F : Type 0} {old new : X} {bytes : List ℕ} {s : Result S F} → Writes written failures old new bytes s
+      → Gathers written failures old new [] [] bytes s
+  straight {bytes} {s = Ok y} w = record { handed = bytes; wrote = w.ok; ok = sym (append-nil bytes); err = tt; count = w.count }
+  straight {s = Err e} w = record { handed = w.err.0; wrote = w.err.2; ok = tt; err = w.err.1; count = w.count }
+
+  -- bytes that went straight to the writer after all that waited
+  pub gathers_straight : {T E S F : Type 0} {old mid new : X} {held waiting bytes : List ℕ} {x : T} {s : Result S F}
+      → Writes {E = E} written failures old mid held (Ok x) → waiting ≡ []
+      → Writes written failures mid new bytes s → Gathers written failures old new held waiting bytes s
+  gathers_straight {T} {E} {S} {F} {old} {mid} {new} {held} {waiting} {bytes} {x} {s} w none more =
+      let first : Gathers {T = T} {E = E} written failures old mid held [] [] (Ok x) = gathers_handed w refl in
+      subst (λ (h : List ℕ). Gathers written failures old new held h bytes s) (sym none) (gathers_then first (straight more))
+
   -- in a loop over items, the piece that failed
   pub piece_failed : {Y T E V D S F : Type 0} {old mid new : X} {held held' held'' held''' : List ℕ} {v : V} {e : E} {s : Result S F}
       (f : Y → List ℕ) (xs : List Y) (i : ℕ) (d : Y)
@@ -101,7 +151,7 @@ module _ {X : Type 0} {written : X → Option (List ℕ)} {failures : X → ℕ}
       (ap (λ (bs : List ℕ). flat_map f (take i xs) ++ bs) (sym (append-nil (f (get_or xs i d))))
       ∙ sym (flat_map-append f (take i xs) (get_or xs i d ∷ [])) ∙ ap (flat_map f) (sym (take_more xs i d l)))
 
-  -- the bytes of a whole text, handed on at its end
+  -- the bytes of a whole text, whose last ones are written at its end
   pub written_whole : {T E S F : Type 0} {old mid new : X} {none held a : List ℕ} {x : T} {s : Result S F} → none ≡ []
       → Gathers {E = E} written failures old mid none held a (Ok x) → Writes written failures mid new held s
       → Writes written failures old new a s

@@ -2,5 +2,5 @@ pub mod Buffered
 pub mod Bytes
 pub mod Filled
 pub mod Flow
+pub mod Gathered
 pub mod Wrapped
-pub mod state

@@ -1,35 +1,43 @@
-//! Bytes that wait to be handed on.
-ghost use Rattle.std.specs.Prelude.{◌≡◌, ◌+◌, ◌<◌, ◌≤◌, ◌↔◌, [], ◌∷◌, ◌++◌, length, take, drop, false, IsTrue};
+//! Bytes that wait to be written.
+ghost use Rattle.std.specs.Prelude.{◌≡◌, ◌+◌, ◌<◌, ◌≤◌, ◌↔◌, [], ◌∷◌, ◌++◌, length, take, drop, false, IsTrue, OnOk};
 ghost use Rattle.std.specs.Fmt.{decimal};
+ghost use Rattle.aig_bytes.specs.Bytes.{Writes};
+ghost use Rattle.aig_bytes.specs.Gathered.{Gathers};
 
+use crate::bytes::Write;
+use crate::fault::Io;
+use crate::write::write_all;
 use itoa::write_digits;
 use std::marker::Model;
-
-/// How many bytes a block has room for.
-const ROOM: usize = 32_768;
 
 /// How many bytes the longest number takes.
 const DIGITS: usize = 10;
 
-/// Bytes that wait in a plain array, 32,768 at most. They are taken out in front and put in behind. No byte is moved,
-/// so the room of those that were taken out serves again only once none waits.
+/// From how many bytes on a piece does not wait.
+const LARGE: usize = 4096;
+
+/// Bytes that wait in a plain array, `ROOM` at most. They are taken out at the front and put in at the end. No byte is
+/// moved, so the room of those that were taken out serves again only once none waits.
 #[derive(Drop)]
-pub struct Block {
+pub struct ByteBlock<const ROOM: usize> {
     bytes: [u8; ROOM],
     // The bytes from `start` to `end` wait.
     start: usize,
     end: usize,
 }
 
-impl Model for Block {
-    ghost use Rattle.std.specs.Prelude.{List, ℕ, drop, take, ◌≤◌, ◌≡◌};
+/// A block for whole files.
+pub type Block = ByteBlock<32_768>;
+
+impl<const ROOM: usize> Model for ByteBlock<ROOM> {
+    ghost use Rattle.std.specs.Prelude.{List, ℕ, drop, take, ◌<◌, ◌≤◌, ◌≡◌};
 
     ghost Value = { List ℕ };
 
     ghost view = { λ b. drop b.start (take b.end b.bytes) };
 
-    // With none waiting there is all the room.
-    ghost invariant = { λ b. (b.start ≤ b.end) × (b.end ≤ 32768) × (b.start ≡ b.end → b.end ≡ 0) };
+    // If none waits there is all the room, and a number fits in it.
+    ghost invariant = { λ b. (b.start ≤ b.end) × (b.end ≤ ROOM) × (b.start ≡ b.end → b.end ≡ 0) × (10 < ROOM) };
 }
 
 /// How many digits a number has.
@@ -51,12 +59,13 @@ fn digit_count(number: u32) -> usize
     }
 }
 
-impl Block {
+impl<const ROOM: usize> ByteBlock<ROOM> {
     /// No bytes.
-    pub fn new() -> Block
+    pub fn new() -> Self
+        requires { 10 < ROOM }
         ensures { result ≡ [] }
     {
-        Block {
+        ByteBlock {
             bytes: [0; ROOM],
             start: 0,
             end: 0,
@@ -77,19 +86,28 @@ impl Block {
         self.as_slice().is_empty()
     }
 
-    /// Takes bytes out in front. The caller knows that so many wait.
+    /// Forgets the bytes.
+    pub fn clear(&mut self)
+        ensures { self.new ≡ [] }
+    {
+        self.start = 0;
+        self.end = 0;
+    }
+
+    /// Takes bytes out at the front. The caller knows that so many wait.
     pub fn skip(&mut self, count: usize)
         requires { count ≤ length self.old }
         ensures { self.new ≡ drop count self.old }
     {
-        self.start += count;
-        if self.start == self.end {
-            self.start = 0;
-            self.end = 0;
+        let start = self.start + count;
+        if start == self.end {
+            self.clear();
+        } else {
+            self.start = start;
         }
     }
 
-    /// Puts in one byte behind those that wait, and answers whether there was room for it there. Where there was none
+    /// Puts in one byte after those that wait, and answers whether there was room for it there. Where there was none
     /// nothing changes.
     #[inline]
     pub fn push(&mut self, byte: u8) -> bool
@@ -97,34 +115,34 @@ impl Block {
         ensures full { result ≡ false → self.new ≡ self.old }
         ensures some { self.old ≡ [] → IsTrue result }
     {
-        let behind = self.end;
-        if behind == ROOM {
+        let after = self.end;
+        if after == ROOM {
             return false;
         }
-        self.bytes[behind] = byte;
-        self.end = behind + 1;
+        self.bytes[after] = byte;
+        self.end = after + 1;
         true
     }
 
-    /// Puts in a number's digits and the byte that ends it behind those that wait, where there is room for the longest
+    /// Puts in a number's digits and the byte that ends it after those that wait, where there is room for the longest
     /// number there, and answers whether there was. Where there was none nothing changes.
     pub fn push_field(&mut self, number: u32, end: u8) -> bool
         ensures pushed { IsTrue result → self.new ≡ self.old ++ (decimal number ++ end ∷ []) }
         ensures full { result ≡ false → self.new ≡ self.old }
         ensures some { self.old ≡ [] → IsTrue result }
     {
-        let behind = self.end;
-        if ROOM - behind <= DIGITS {
+        let after = self.end;
+        if ROOM - after <= DIGITS {
             return false;
         }
-        let last = behind + digit_count(number);
+        let last = after + digit_count(number);
         write_digits(number as u64, &mut self.bytes, last);
         self.bytes[last] = end;
         self.end = last + 1;
         true
     }
 
-    /// Puts in the first of four bytes behind those that wait, where there is room for all four there, and answers
+    /// Puts in the first of four bytes after those that wait, where there is room for all four there, and answers
     /// whether there was. Where there was none nothing changes.
     pub fn push_first(&mut self, bytes: [u8; 4], count: usize) -> bool
         requires { count ≤ 4 }
@@ -132,26 +150,68 @@ impl Block {
         ensures full { result ≡ false → self.new ≡ self.old }
         ensures some { self.old ≡ [] → IsTrue result }
     {
-        let behind = self.end;
-        if ROOM - behind < 4 {
+        let after = self.end;
+        if ROOM - after < 4 {
             return false;
         }
-        self.bytes[behind..behind + 4].copy_from_slice(&bytes);
-        self.end = behind + count;
+        let room = &mut self.bytes[..];
+        room[after..after + 4].copy_from_slice(&bytes);
+        self.end = after + count;
         true
     }
 
-    /// Puts in the first of these bytes, as many as there is room for behind those that wait, and answers how many.
+    /// Puts in the first of these bytes, as many as there is room for after those that wait, and answers how many.
     /// That is at least one where none waits.
     pub fn append(&mut self, bytes: &[u8]) -> usize
         ensures appended { self.new ≡ self.old ++ take result bytes.now }
         ensures bound { result ≤ length bytes.now }
         ensures some { self.old ≡ [] → 0 < length bytes.now → 0 < result }
     {
-        let behind = self.end;
-        let count = bytes.len().min(ROOM - behind);
-        self.end = behind + count;
-        self.bytes[behind..behind + count].copy_from_slice(&bytes[..count]);
+        let after = self.end;
+        let count = bytes.len().min(ROOM - after);
+        self.end = after + count;
+        let room = &mut self.bytes[..];
+        room[after..after + count].copy_from_slice(&bytes[..count]);
         count
+    }
+
+    /// Writes all bytes that wait.
+    #[inline(never)]
+    pub fn hand_on<W: Write>(&mut self, out: &mut W) -> Result<(), Io>
+        ensures written { Writes W.written W.failures out.old out.new self.old result }
+        ensures none_waits { OnOk result (self.new ≡ []) }
+    {
+        write_all(out, self.as_slice())?;
+        self.clear();
+        Ok(())
+    }
+
+    /// Puts a byte in, and writes what waits if there is no room.
+    pub fn put<W: Write>(&mut self, out: &mut W, byte: u8) -> Result<(), Io>
+        ensures { Gathers W.written W.failures out.old out.new self.old self.new (byte ∷ []) result }
+    {
+        if self.push(byte) {
+            return Ok(());
+        }
+        self.hand_on(out)?;
+        self.push(byte);
+        Ok(())
+    }
+
+    /// Puts some bytes in, and writes what waits if there is no room. A piece of 4,096 bytes or more goes straight to
+    /// the writer.
+    pub fn put_all<W: Write>(&mut self, out: &mut W, bytes: &[u8]) -> Result<(), Io>
+        ensures { Gathers W.written W.failures out.old out.new self.old self.new bytes.now result }
+    {
+        if bytes.len() >= LARGE {
+            self.hand_on(out)?;
+            return write_all(out, bytes);
+        }
+        let mut at = self.append(bytes);
+        while at < bytes.len() {
+            self.hand_on(out)?;
+            at += self.append(&bytes[at..]);
+        }
+        Ok(())
     }
 }

@@ -74,7 +74,7 @@ impl<W: Write> Buffered<W> {
         Ok(())
     }
 
-    // Takes bytes from the front: large pieces go straight on, behind what is held, and others are held.
+    // Takes bytes from the front: large pieces go straight on, after what is held, and others are held.
     fn take(&mut self, bytes: &[u8]) -> Result<usize, Failed>
         ensures bound { IfOk result (λ n. n ≤ length bytes.now) }
         ensures some { IfOk result (λ n. 0 < length bytes.now → 0 < n) }
@@ -100,6 +100,8 @@ impl<W: Write> Write for Buffered<W> {
     ghost use Rattle.aig_bytes.specs.Bytes.{after};
 
     ghost written = { λ b. after (W.written b.inner) b.held };
+
+    ghost is_flushed = { λ b. (b.held ≡ []) × W.is_flushed b.inner };
 
     ghost failures = { λ b. b.failures };
 
@@ -127,9 +129,11 @@ impl<W: Write> Write for Buffered<W> {
     fn flush(&mut self) -> Result<(), Failed>
         // The trait's clauses.
         ensures kept { after (W.written self.new.inner) self.new.held ≡ after (W.written self.old.inner) self.old.held }
+        ensures flushed { OnOk result ((self.new.held ≡ []) × W.is_flushed self.new.inner) }
         ensures count { self.new.failures ≡ self.old.failures + failed result }
 
-        // All that was held is handed on, in order; what a failing call did not hand on is held still.
+        // All that was held is handed on, in order; what a failing call did not hand on is held still. The writer below
+        // is flushed after it got all (`flushed`).
         ensures handed { HandsOn W.written self.old self.new [] }
         ensures all { OnOk result (self.new.held ≡ []) }
         ensures breaks { Breaks W.failures self.old self.new result }

@@ -1,5 +1,5 @@
 //! Readers and writers as contracts see them: their bytes, where they tell them, and how many calls failed.
-ghost use Rattle.std.specs.Prelude.{◌≡◌, ℕ, ◌+◌, ◌<◌, ◌≤◌, List, length, IfOk, Option};
+ghost use Rattle.std.specs.Prelude.{◌≡◌, ℕ, ◌+◌, ◌<◌, ◌≤◌, List, length, IfOk, OnOk, Option};
 ghost use Rattle.aig_bytes.specs.Bytes.{after, before, failed, moved, IsAtEnd};
 
 /// A read, a write or a flush failed.
@@ -32,6 +32,9 @@ pub trait Write {
     // The bytes written so far, where the value tells them.
     ghost written: { Self → Option (List ℕ) };
 
+    // Neither it nor a writer below it holds back a byte that was written.
+    ghost is_flushed: { Self → Type 0 };
+
     // How many calls failed.
     ghost failures: { Self → ℕ };
 
@@ -42,11 +45,10 @@ pub trait Write {
         ensures taken { written self.new ≡ after (written self.old) (moved result bytes.now) }
         ensures count { failures self.new ≡ failures self.old + failed result };
 
-    /// Hands on what is held back. It writes no byte of its own. A writer that holds nothing back has nothing to do.
+    /// Passes on all bytes that are held back, and then flushes the writer below. It writes no byte of its own. A writer
+    /// that holds nothing back and has none below has nothing to do.
     fn flush(&mut self) -> Result<(), Failed>
         ensures kept { written self.new ≡ written self.old }
-        ensures count { failures self.new ≡ failures self.old + failed result }
-    {
-        Ok(())
-    }
+        ensures flushed { OnOk result (is_flushed self.new) }
+        ensures count { failures self.new ≡ failures self.old + failed result };
 }

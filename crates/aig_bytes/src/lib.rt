@@ -10,7 +10,7 @@ mod memory_bytes;
 mod std_bytes;
 mod write;
 
-pub use block::Block;
+pub use block::{Block, ByteBlock};
 pub use buffered::Buffered;
 pub use bytes::{Failed, Read, Write};
 pub use count::Count;

@@ -103,6 +103,8 @@ impl MemWriter {
 impl Write for MemWriter {
     ghost written = { λ w. Some w.bytes };
 
+    ghost is_flushed = { λ _. Unit {0} };
+
     ghost failures = { λ w. w.failures };
 
     fn write(&mut self, bytes: &[u8]) -> Result<usize, Failed>

@@ -77,6 +77,8 @@ impl<T: io::Read> Read for Std<T> {
 impl<T: io::Write> Write for Std<T> {
     ghost written = { λ _. None };
 
+    ghost is_flushed = { λ _. Unit {0} };
+
     ghost failures = { λ s. s.failures };
 
     fn write(&mut self, bytes: &[u8]) -> Result<usize, Failed>

@@ -7,7 +7,7 @@ use Rattle.aig_parts.specs.declared.ternary.Tern.TheVariants.{X}
 use Rattle.aig_parts.specs.Literal.{variable}
 use Rattle.aig_grids.specs.Characters.{character}
 use Rattle.aig_grids.specs.TraceText.{literal_character}
-use Rattle.aig_grids.specs.state.Neighbours.{AreNeighbours}
+use Rattle.aig_grids.specs.Neighbours.{AreNeighbours}
 
 -- where the last one has a cell, all have
 pub neighbours_fit : (first n : ℕ) (literals : List ℕ) → AreNeighbours first literals → 0 < length literals

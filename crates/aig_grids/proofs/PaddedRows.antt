@@ -61,7 +61,7 @@ module _ {n : ℕ} {rows : List (List Tern)} {grid : Cells} {t : ℕ} {row : Lis
   padded_of : (room : ℕ) → All (IsPadded n room) rows → IsPadded n room row
   padded_of room padded = subst (IsPadded n room) (sym r.row_is) (padded t row r.frame)
 
-  -- a cell of the row is there, also behind the variables
+  -- a cell of the row is there, also after the variables
   pub row_within : (room : ℕ) (flags : List Bool) → ArePadded n room flags rows → n ≤ length row
   row_within room flags are = let p = padded_of room are.each in let fits = are.fits in omega arith
 
@@ -297,14 +297,14 @@ module _ (n room : ℕ) (flags : List Bool) (old new : List (List Tern)) (are : 
       let more = longer_length (row_at old t) (row_at new t) (long.each t) in
       subst (λ (xs : List Tern). room ≤ length xs) (get_or_default new t [] d lt) (omega arith))
 
--- the cell behind the last variable becomes that of a variable
+-- the cell after the last variable becomes that of a variable
 lt_tested : (a b : ℕ) → nat_lt a b ≡ true → a + 1 ≤ b
 lt_tested a b h = grind (arith, nat_tests)
 
 module _ (n room : ℕ) (flags : List Bool) (rows : List (List Tern)) (are : ArePadded n room flags rows)
     (spare : nat_lt n room ≡ true) where
-  behind : (row : List Tern) → IsPadded n room row → get_or row n X ≡ X
-  behind row p = from_drop n row (length row - n) p.1
+  later : (row : List Tern) → IsPadded n room row → get_or row n X ≡ X
+  later row p = from_drop n row (length row - n) p.1
     where
       from_drop : (k : ℕ) (xs : List Tern) (m : ℕ) → drop k xs ≡ replicate m X → get_or xs k X ≡ X
       from_drop k [] m e = refl
@@ -315,7 +315,7 @@ module _ (n room : ℕ) (flags : List Bool) (rows : List (List Tern)) (are : Are
   one_behind : (row : List Tern) → IsPadded n room row → take (n + 1) row ≡ with_new_cell (take n row)
   one_behind row p =
       let wide = lt_tested n room spare in
-      take_more row n X (omega arith) ∙ ap (λ (x : Tern). take n row ++ x ∷ []) (behind row p)
+      take_more row n X (omega arith) ∙ ap (λ (x : Tern). take n row ++ x ∷ []) (later row p)
 
   none : (m : ℕ) → [] ≡ replicate m X → replicate (m - 1) X ≡ []
   none m e =

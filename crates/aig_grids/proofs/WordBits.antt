@@ -7,7 +7,7 @@ use Rattle.std.proofs.lemmas.Nat.Bits.{bit_at_and, bit_at_or, bit_at_not, bit_at
 use Rattle.std.specs.Int.{bit_at}
 use Rattle.aig_parts.specs.declared.ternary.Tern.{Tern}
 use Rattle.aig_parts.specs.declared.ternary.Tern.TheVariants.{Zero, One, X}
-use Rattle.aig_grids.specs.state.Codes.{code_value, bits_of, IsCode}
+use Rattle.aig_grids.specs.Codes.{code_value, bits_of, IsCode}
 use Rattle.aig_grids.specs.state.Words.{bits_at, value_in, IsWhole}
 
 two_bits : (n place : ℕ) → bits_at n place ≡ bit_at n (2 * place) + 2 * bit_at n (2 * place + 1)

@@ -1,5 +1,3 @@
 -- What proofs alone need: the functions' tables, walks and steps. No contract of an exported function reaches them.
-pub mod Codes
-pub mod Neighbours
 pub mod Padded
 pub mod Words

@@ -3,7 +3,7 @@ ghost use Rattle.std.specs.Prelude.{◌≡◌, ◌≢◌, ◌<◌, ◌↔◌, Is
 ghost use Rattle.aig_parts.specs.Literal.{variable};
 ghost use Rattle.aig_parts.specs.Ternary.{kleene_and, kleene_not};
 ghost use Rattle.aig_grids.specs.Cells.{literal_value};
-ghost use Rattle.aig_grids.specs.state.Codes.{code_value, bits_of, IsCode};
+ghost use Rattle.aig_grids.specs.Codes.{code_value, bits_of, IsCode};
 ghost use Rattle.aig_grids.specs.Characters.{character};
 ghost use Rattle.aig_grids.specs.TraceText.{literal_character};
 
@@ -21,7 +21,7 @@ pub struct Code {
 impl Model for Code {
     ghost use Rattle.std.proofs.Common.{ap};
     ghost use Rattle.aig_parts.specs.declared.ternary.Tern.{Tern};
-    ghost use Rattle.aig_grids.specs.state.Codes.{code_value, bits_of, IsCode};
+    ghost use Rattle.aig_grids.specs.Codes.{code_value, bits_of, IsCode};
 
     ghost Value = { Tern };
 
@@ -34,10 +34,10 @@ impl Model for Code {
     ghost invariant = { λ a. IsCode a.bits };
 }
 
-/// The bits of a value by its own bits, and behind the fourth those of its negation. None are 10.
+/// The bits of a value by its own bits, and after the fourth those of its negation. None are 10.
 const SIGNED: [u8; 8] = [0b00, 0b01, 0b00, 0b11, 0b11, 0b01, 0b00, 0b00];
 
-/// The character of a value by its bits, and behind the fourth that of its negation.
+/// The character of a value by its bits, and after the fourth that of its negation.
 const CHARACTERS: [u8; 8] = [b'0', b'x', b'x', b'1', b'1', b'x', b'x', b'0'];
 
 impl Code {
@@ -51,7 +51,7 @@ impl Code {
     }
 
     /// The code that has these bits.
-    pub fn of_bits(bits: u8) -> Code
+    pub(crate) fn of_bits(bits: u8) -> Code
         requires { IsCode bits }
         ensures { result ≡ code_value bits }
     {
@@ -59,7 +59,7 @@ impl Code {
     }
 
     /// The bits of the code.
-    pub fn bits(self) -> u8
+    pub(crate) fn bits(self) -> u8
         ensures { result ≡ bits_of self }
     {
         self.bits

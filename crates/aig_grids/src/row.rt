@@ -3,7 +3,7 @@ ghost use Rattle.std.specs.Prelude.{◌≡◌, ℕ, ◌+◌, ◌<◌, ◌≤◌,
 ghost use Rattle.aig_parts.specs.declared.ternary.Tern.{Tern};
 ghost use Rattle.aig_parts.specs.Literal.{variable};
 ghost use Rattle.aig_grids.specs.Cells.{literal_value};
-ghost use Rattle.aig_grids.specs.state.Neighbours.{AreNeighbours};
+ghost use Rattle.aig_grids.specs.Neighbours.{AreNeighbours};
 ghost use Rattle.aig_grids.specs.TraceText.{literal_character};
 
 use crate::grid::Grid;

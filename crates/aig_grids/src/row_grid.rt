@@ -19,7 +19,7 @@ use aig_parts::{Gate, Lit, Tern};
 use std::alloc::{AllocError, Global};
 use std::marker::Model;
 
-/// A grid of rows of one kind, each in memory of its own. Cells behind the last variable are x, as that of a variable
+/// A grid of rows of one kind, each in memory of its own. Cells after the last variable are x, as that of a variable
 /// that comes later has to be.
 #[derive(Drop)]
 pub struct RowGrid<R: CellRow> {

@@ -10,7 +10,7 @@ use Rattle.aig_parts.specs.state.Bits.{HasBit}
 differ : (n : ℕ) → n ≡ 0 → n ≡ 1 → ⊥
 differ n a b = omega arith
 
--- a number behind all words
+-- a number after all words
 pub past : (words : List ℕ) (n : ℕ) → length words ≤ n / 64 → HasBit words n → ⊥
 unfolding HasBit
 past words n le is =

@@ -51,7 +51,7 @@ same_entry j k e m =
     let kind : j.0 ≡ k.0 = sym (section_back j.0) ∙ ap section_at number ∙ section_back k.0 in
     λ i. (kind i, position i)
 
--- a page of no words, or behind the last, has no entry
+-- a page of no words, or after the last, has no entry
 pub no_page : (pages : List (List ℕ)) (k : Key) → length pages ≤ page_of k → IsMarked pages k → ⊥
 unfolding IsMarked
 no_page pages k le h =

@@ -19,7 +19,7 @@ pub keys_in : (text : List ℕ) (es : List (Key × Place)) → keys_of (symbols_
 keys_in text [] = refl
 keys_in text (e ∷ es) = ap (λ (ks : List Key). e.0 ∷ ks) (keys_in text es)
 
--- a name that stands in the list, whatever comes behind
+-- a name that stands in the list, whatever comes after
 name_stays : (text more : List ℕ) (a b : ℕ) → a ≤ b → b ≤ length text → slice_range (text ++ more) a b ≡ slice_range text a b
 name_stays text more a b le within =
     let n = length-drop a text in
@@ -33,7 +33,7 @@ name_last text name a b start end =
     let rest : drop a (text ++ name) ≡ name = ap (λ (k : ℕ). drop k (text ++ name)) start ∙ drop_at text name (length text) refl in
     (λ i. take (size i) (rest i)) ∙ take-length name
 
--- names that come behind leave these
+-- names that come after leave these
 pub symbols_stay : (text more : List ℕ) (es : List (Key × Place)) → All (IsPlaceIn text) es
     → symbols_in (text ++ more) es ≡ symbols_in text es
 symbols_stay text more [] within = refl

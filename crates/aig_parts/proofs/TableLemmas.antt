@@ -1,4 +1,4 @@
--- Entries in a list so far as they ascend, and behind it in a table.
+-- Entries in a list so far as they ascend, and after it in a table.
 use Rattle.std.proofs.Common.{◌≡◌, ◌≢◌, ◌⊎◌, inl, inr, ℕ, ◌+◌, ◌-◌, ◌<◌, ◌≤◌, List, [], ◌∷◌, ◌++◌, length, take, drop, get_or, Contains, AllPairs, Ok, Err, sym, ap, subst, ◌∙◌, arith}
 use Rattle.std.specs.Prelude.{All, Some, slice_get}
 use Rattle.std.specs.List.Sorted.{IsBinarySearchResult, IsNonDecreasingBy}
@@ -11,11 +11,14 @@ use Rattle.std.proofs.lemmas.List.{map-append, append_assoc, append-nil, nil_fro
 use Rattle.std.proofs.lemmas.List.Elements.{Contains-get_or, Contains-append_right, Contains-append_cases}
 use Rattle.std.proofs.lemmas.List.Quantifiers.{all_pairs_push}
 use Rattle.std.proofs.lemmas.Map.Entries.{length-keys_of, place_from_lookup}
+use Rattle.std.proofs.lemmas.List.Sums.{fold_push}
 use Rattle.std.proofs.lemmas.Option.{slice_get_within, get_or_from_slice_get}
 use Rattle.aig_parts.proofs.SymbolKeys.{key_eq, key_same}
 use Rattle.aig_parts.specs.declared.symbol_places.Place.{Place}
 use Rattle.aig_parts.specs.declared.symbols.Kind.TheVariants.{Input}
 use Rattle.aig_parts.specs.SymbolPlaces.{Key}
+use Rattle.std.specs.Hash.DefaultHasher as sip
+use Rattle.aig_parts.specs.state.SymbolHash.{mix, mixed_of}
 use Rattle.aig_parts.specs.state.SymbolTable.{number_of, Ascend, IsTable}
 
 -- an entry to read where there is none
@@ -92,7 +95,7 @@ module _ (es : List (Key × Place)) (ascend : Ascend es) (k : Key) where
         ]
       ]
 
--- an entry behind the last one comes behind all
+-- an entry after the last one comes after all
 pub comes_last : (es : List (Key × Place)) (n : ℕ) (d : Key × Place) → Ascend es → number_of (get_or es (length es - 1) d).0 < n
     → All (λ x. number_of x.0 < n) es
 comes_last es n d ascend up k e lt =
@@ -134,11 +137,19 @@ parted es n ascend once = record {
   once = subst (λ (xs : List (Key × Place)). AllPairs (λ x y. x ≢ y) (keys_of xs)) (sym (take-append-drop n es)) once;
 }
 
+-- the number of one more entry is mixed in
+pub mixed_more : (es : List (Key × Place)) (i : ℕ) (d : Key × Place) → i < length es
+    → mix (mixed_of (keys_of (take i es))) (get_or es i d).0 ≡ mixed_of (keys_of (take (i + 1) es))
+mixed_more es i d lt =
+    sym (ap (λ (xs : List (Key × Place)). mixed_of (keys_of xs)) (take_more es i d lt)
+    ∙ ap mixed_of (map-append (λ (e : Key × Place). e.0) (take i es) (get_or es i d ∷ []))
+    ∙ fold_push mix sip.initial (keys_of (take i es)) (get_or es i d).0)
+
 -- ---- one more entry of a table
 
 module _ (ascending others : List (Key × Place)) (k : Key) (p : Place) (table : IsTable ascending others)
     (fresh : Contains (keys_of (ascending ++ others)) k → ⊥) where
-  -- behind the others
+  -- after the others
   pub behind : ascending ++ (others ++ (k, p) ∷ []) ≡ (ascending ++ others) ++ (k, p) ∷ []
   behind = sym (append_assoc ascending others ((k, p) ∷ []))
 
@@ -149,7 +160,7 @@ module _ (ascending others : List (Key × Place)) (k : Key) (p : Place) (table :
         (once_more (ascending ++ others) k p table.once fresh);
   }
 
-  -- behind those that ascend, where there are no others
+  -- after those that ascend, where there are no others
   module _ (none : length others ≡ 0) where
     whole : ascending ++ others ≡ ascending
     whole = ap (λ (es : List (Key × Place)). ascending ++ es) (nil_from_length others none) ∙ append-nil ascending

@@ -1,4 +1,5 @@
 -- What proofs alone need: the functions' tables, walks and steps. No contract of an exported function reaches them.
 pub mod Bits
 pub mod NamedEntries
+pub mod SymbolHash
 pub mod SymbolTable

@@ -1,12 +1,13 @@
 //! How the table of symbols hashes.
+ghost use Rattle.std.specs.Prelude.{◌≡◌, []};
 ghost use Rattle.std.specs.List.{fold};
 ghost use Rattle.std.specs.Hash as fed;
 ghost use Rattle.std.specs.Hash.FoldHasher as folding;
+ghost use Rattle.aig_parts.specs.state.SymbolHash.{hash_by, hash_of_entries};
 
-use crate::symbols::Kind;
 use std::hash::{BuildHasher, DefaultHasher, FoldHasher, Hasher};
 
-/// A hash by two keys, one taken in before the entry and one behind it.
+/// A hash by two keys, one taken in before the entry and one after it.
 #[derive(Clone, Copy)]
 pub(crate) struct SymbolHasher {
     state: FoldHasher,
@@ -29,9 +30,8 @@ impl Hasher for SymbolHasher {
     }
 }
 
-/// Makes the hashers of a table of symbols. Its keys are made from entries by SipHash: from all of them where the table
-/// is made behind the last name of a file, so that no choice of positions can crowd it. Whoever chooses the last one
-/// has chosen the keys.
+/// Makes the hashers of a table of symbols. SipHash makes its keys from entries: from all of them where the table is made
+/// after the last name of a file, so that no choice of positions can crowd it. Another last position gives other keys.
 #[derive(Clone, Copy)]
 pub(crate) struct SymbolHash {
     hasher: SymbolHasher,
@@ -39,7 +39,9 @@ pub(crate) struct SymbolHash {
 
 impl SymbolHash {
     /// Hashers by keys that are made from what was mixed.
-    pub(crate) fn by(mixed: DefaultHasher) -> SymbolHash {
+    pub(crate) fn by(mixed: DefaultHasher) -> SymbolHash
+        ensures keys { result ≡ hash_by mixed }
+    {
         let mut mixed = mixed;
         let mut state = FoldHasher::default();
         state.write_u64(mixed.finish());
@@ -52,15 +54,12 @@ impl SymbolHash {
         }
     }
 
-    /// Hashers by fixed keys.
-    pub(crate) fn fixed() -> SymbolHash {
+    /// Hashers by fixed keys, as of no entry.
+    pub(crate) fn fixed() -> SymbolHash
+        ensures { result ≡ hash_of_entries [] }
+    {
         SymbolHash::by(DefaultHasher::new())
     }
-}
-
-/// Mixes an entry into what the keys are made from.
-pub(crate) fn mix(mixed: &mut DefaultHasher, kind: Kind, position: u32) {
-    mixed.write_u64((kind as u64) << 32 | position as u64);
 }
 
 impl BuildHasher for SymbolHash {

@@ -9,7 +9,7 @@ use std::alloc::{AllocError, Global};
 use std::marker::Model;
 
 /// Symbols as they are read, in the order of the file. A bit tells whether an entry has a name; the table that looks
-/// names up is made behind the last one.
+/// names up is made after the last one.
 #[derive(Drop, Debug)]
 pub struct SymbolList {
     named: NamedEntries,

@@ -1,4 +1,4 @@
-//! Names that lie behind one another in one list of bytes.
+//! Names that lie one after another in one list of bytes.
 ghost use Rattle.std.specs.Prelude.{◌≡◌, ◌++◌, ◌≤◌, length, slice_range, IfOk, OnOk, OnErr};
 
 use std::alloc::AllocError;
@@ -10,7 +10,7 @@ pub(crate) struct Place {
     end: usize,
 }
 
-/// Puts a name behind the others. Where memory is refused nothing changes.
+/// Puts a name after the others. Where memory is refused nothing changes.
 pub(crate) fn put_name(text: &mut Vec<u8>, name: &[u8]) -> Result<Place, AllocError>
     ensures place { IfOk result (λ p. (p.start ≡ length text.old.items) × (p.end ≡ length text.new.items)) }
     ensures ok { OnOk result (text.new.items ≡ text.old.items ++ name.now) }

@@ -3,15 +3,17 @@ ghost use Rattle.std.specs.Prelude.{◌≡◌, ◌≢◌, ◌∷◌, ◌++◌, �
 ghost use Rattle.std.specs.Prelude.{[], length, take, drop, All, AllPairs, Contains};
 ghost use Rattle.std.specs.Prelude.{IsTrue, IfOk, IfSome, IfNone, OnOk, OnErr};
 ghost use Rattle.std.specs.Map.{keys_of};
+ghost use Rattle.indexmap.specs.IndexMap.{hasher_of};
+ghost use Rattle.aig_parts.specs.state.SymbolHash.{mix, hash_of_entries};
 ghost use Rattle.aig_parts.specs.state.SymbolTable.{number_of, Ascend};
 
 use crate::named::section_number;
-use crate::symbol_hash::{SymbolHash, mix};
+use crate::symbol_hash::SymbolHash;
 use crate::symbol_places::Place;
 use crate::symbols::Kind;
 use indexmap::{IndexMap, map};
 use std::alloc::{AllocError, Global};
-use std::hash::DefaultHasher;
+use std::hash::{DefaultHasher, Hasher};
 use std::marker::Model;
 
 /// How far sections are apart.
@@ -58,7 +60,25 @@ fn ascending_count(entries: &[((Kind, u32), Place)]) -> usize
     entries.len()
 }
 
-// The table of the entries from a place on, with a key that is made from all.
+// Mixes an entry's number into what keys are made from.
+fn mix(mixed: &mut DefaultHasher, entry: (Kind, u32))
+    ensures number { mixed.new ≡ mix mixed.old entry }
+{
+    mixed.write_u64(number_of(entry));
+}
+
+// Hashers by keys that are made from all these entries.
+fn hash_of(entries: &[((Kind, u32), Place)]) -> SymbolHash
+    ensures all { result ≡ hash_of_entries (keys_of entries.now) }
+{
+    let mut mixed = DefaultHasher::new();
+    for (entry, _) in entries {
+        mix(&mut mixed, *entry);
+    }
+    SymbolHash::by(mixed)
+}
+
+// The table of the entries from a place on. Where there is one, its keys are made from all entries.
 fn others_of(
     alloc: Global,
     entries: &[((Kind, u32), Place)],
@@ -66,24 +86,21 @@ fn others_of(
 ) -> Result<IndexMap<(Kind, u32), Place, SymbolHash>, AllocError>
     requires from { from ≤ length entries.now }
     requires once { AllPairs (λ x y. x ≢ y) (keys_of entries.now) }
-    ensures { IfOk result (λ others. others.entries ≡ drop from entries.now) }
+    ensures entries { IfOk result (λ others. others.entries ≡ drop from entries.now) }
+    ensures hash { IfOk result (λ others. from < length entries.now → hasher_of others ≡ hash_of_entries (keys_of entries.now)) }
 {
     if from == entries.len() {
         return Ok(IndexMap::with_hasher(alloc, SymbolHash::fixed()));
     }
-    let mut mixed = DefaultHasher::new();
-    for ((kind, position), _) in entries {
-        mix(&mut mixed, *kind, *position);
-    }
     let count = entries.len() - from;
-    let mut others = IndexMap::with_capacity_and_hasher(alloc, count, SymbolHash::by(mixed))?;
+    let mut others = IndexMap::with_capacity_and_hasher(alloc, count, hash_of(entries))?;
     for (entry, place) in &entries[from..] {
         others.insert(*entry, *place)?;
     }
     Ok(others)
 }
 
-// Whether an entry comes behind all of these, which ascend.
+// Whether an entry comes after all of these, which ascend.
 fn comes_behind(entries: &[((Kind, u32), Place)], entry: (Kind, u32)) -> bool
     requires { Ascend entries.now }
     ensures { IsTrue result → All (λ x. number_of x.0 < number_of entry) entries.now }

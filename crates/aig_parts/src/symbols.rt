@@ -26,7 +26,7 @@ pub enum Kind {
     Fairness,
 }
 
-/// The names of entries, in the order of the file. No entry has two names. The names lie behind one another in one list
+/// The names of entries, in the order of the file. No entry has two names. The names lie one after another in one list
 /// of bytes.
 #[derive(Drop, Debug)]
 pub struct Symbols {

@@ -1,5 +1,5 @@
 //! Bytes in and out.
-use crate::fakes::{Marked, OneByte, Plain, Short, Stuck};
+use crate::fakes::{Late, Marked, OneByte, Plain, Short, Stuck};
 use crate::parts::writes;
 use aig_bytes::{
     Block, Buffered, Failed, Io, MemReader, MemWriter, Read, Std, Write, write_all, write_number,
@@ -171,6 +171,37 @@ fn a_flush_goes_through(rt: HostRuntime) {
     assert!(rt; is_marked(rt.alloc()));
 }
 
+// Whether a writer takes three bytes, in two pieces, and is flushed after them.
+fn flushes_three<W: Write>(out: &mut W) -> bool {
+    write_all(out, b"ab").is_ok() && write_all(out, b"c").is_ok() && out.flush().is_ok()
+}
+
+// Whether a flush leaves no byte in a writer below, which holds all until it is flushed itself.
+fn leaves_none_held(alloc: Global) -> bool {
+    let mut below = Late {
+        held: Vec::new(alloc),
+        bytes: Vec::new(alloc),
+    };
+    let flushed = flushes_three(&mut Buffered::new(Std::new(&mut below)));
+    flushed & below.held.is_empty() & (below.bytes.as_slice() == b"abc".as_slice())
+}
+
+// The same where two buffers are above that writer.
+fn two_leave_none_held(alloc: Global) -> bool {
+    let mut below = Late {
+        held: Vec::new(alloc),
+        bytes: Vec::new(alloc),
+    };
+    let flushed = flushes_three(&mut Buffered::new(Buffered::new(Std::new(&mut below))));
+    flushed & below.held.is_empty() & (below.bytes.as_slice() == b"abc".as_slice())
+}
+
+// A buffer flushes the writer below after it passed on all bytes, so that none is held anywhere.
+#[test]
+fn a_flush_leaves_no_byte_held(rt: HostRuntime) {
+    assert!(rt; leaves_none_held(rt.alloc()) && two_leave_none_held(rt.alloc()));
+}
+
 // Whether a buffer over a writer with room for three bytes takes so many, and refuses each call once that one failed.
 fn breaks<W: Write>(out: &mut W) -> bool {
     write_all(out, b"abc") == Ok(())
@@ -215,8 +246,8 @@ fn a_plain_buffer_breaks(alloc: Global) -> bool {
     }
 }
 
-// A writer without a flush of its own serves `write_all` and a buffer.
+// A writer that holds nothing back, and whose flush does nothing, serves `write_all` and a buffer.
 #[test]
-fn a_writer_needs_no_flush(rt: HostRuntime) {
+fn a_writer_may_hold_nothing(rt: HostRuntime) {
     assert!(rt; a_plain_writer_serves(rt.alloc()) && a_plain_buffer_breaks(rt.alloc()));
 }

@@ -47,7 +47,7 @@ impl<'a> Read for Pieces<'a> {
     }
 }
 
-/// A writer with the one method that each has to have.
+/// A writer that holds nothing back: its flush does nothing.
 #[derive(Drop)]
 pub struct Plain {
     pub inner: MemWriter,
@@ -58,10 +58,16 @@ impl Write for Plain {
 
     ghost written = { λ w. Some w.inner.bytes };
 
+    ghost is_flushed = { λ _. Unit {0} };
+
     ghost failures = { λ w. w.inner.failures };
 
     fn write(&mut self, bytes: &[u8]) -> Result<usize, Failed> {
         self.inner.write(bytes)
+    }
+
+    fn flush(&mut self) -> Result<(), Failed> {
+        Ok(())
     }
 }
 
@@ -73,6 +79,8 @@ pub struct OneByte<W> {
 
 impl<W: Write> Write for OneByte<W> {
     ghost written = { λ w. W.written w.inner };
+
+    ghost is_flushed = { λ w. W.is_flushed w.inner };
 
     ghost failures = { λ w. W.failures w.inner };
 
@@ -128,5 +136,24 @@ impl io::Write for Marked {
 
     fn flush(&mut self) -> io::Result<()> {
         self.bytes.write_all(b"|")
+    }
+}
+
+/// A writer of std that holds what it gets until it is flushed.
+#[derive(Drop)]
+pub struct Late {
+    pub held: Vec<u8>,
+    pub bytes: Vec<u8>,
+}
+
+impl io::Write for Late {
+    fn write(&mut self, bytes: &[u8]) -> io::Result<usize> {
+        self.held.write(bytes)
+    }
+
+    fn flush(&mut self) -> io::Result<()> {
+        self.bytes.write_all(&self.held)?;
+        self.held.clear();
+        Ok(())
     }
 }

@@ -174,7 +174,7 @@ module _ (raw : Raw) (start : List Tern) (rows : List (List Tern)) (t : ℕ) whe
   ready_holds gates q v cells sources first (inr (r, g, lt, at, is)) =
       subst (Holds raw start rows t cells) is (first r g lt at)
 
-  -- a gate is evaluated behind those that it reads
+  -- a gate is evaluated after those that it reads
   pub gate_value_is : (gates : List Gate) (q : ℕ) (g : Gate) (cells : List Tern) → IsSound raw → IsGateOrder raw gates
       → slice_get gates q ≡ Some g → HoldsSources raw start rows t cells → HoldsFirst gates q cells
       → Value raw start rows t (2 * variable g.lhs) (gate_value cells g)

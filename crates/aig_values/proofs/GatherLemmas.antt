@@ -3,31 +3,10 @@ use Rattle.std.proofs.Common.{◌≡◌, ℕ, ◌+◌, ◌-◌, ◌≤◌, lengt
 use Rattle.std.specs.Prelude.{Option}
 use Rattle.std.proofs.lemmas.List.{append-nil, take-append-drop, take_all, take_at, length-take-le, length-map, length-append, map-append}
 use Rattle.std.proofs.Math.Seq.{take-add}
-use Rattle.std.proofs.lemmas.Bool.{false≢true}
-use Rattle.aig_bytes.specs.Bytes.{Writes}
-use Rattle.aig_bytes.specs.state.Gathered.{Gathers}
+use Rattle.aig_bytes.specs.Gathered.{Gathers}
 use Rattle.aig_bytes.proofs.GatherLemmas.{gathers_then, gathers_stop, gathers_failed, gathers_same, gathers_none}
 
 module _ {X : Type 0} {written : X → Option (List ℕ)} {failures : X → ℕ} where
-  -- what waited was handed on, and the piece waits
-  pub gathers_handed : {T E S F : Type 0} {old new : X} {held held' a : List ℕ} {x : T} {y : S}
-      → Writes {E = E} written failures old new held (Ok x) → held' ≡ a
-      → Gathers {E = F} written failures old new held held' a (Ok y)
-  gathers_handed {held} w e =
-      record { handed = held; wrote = w.ok; ok = ap (λ (xs : List ℕ). held ++ xs) (sym e); err = tt; count = w.count }
-
-  -- what waited could not be handed on
-  pub gathers_not_handed : {T E S F : Type 0} {old new : X} {held held' a : List ℕ} {d : E} {s : Result S F}
-      → Writes {T = T} written failures old new held (Err d) → IsErr s → Gathers written failures old new held held' a s
-  gathers_not_handed {a} {s = Err d} w h = record {
-    handed = w.err.0;
-    wrote = w.err.2;
-    ok = tt;
-    err = (w.err.1.0 ++ a, ap (λ (xs : List ℕ). xs ++ a) w.err.1.1 ∙ append_assoc w.err.0 w.err.1.0 a);
-    count = w.count;
-  }
-  gathers_not_handed {s = Ok d} w h = absurd (false≢true h)
-
   -- in a loop over items, one byte an item: the piece that failed
   pub span_failed : {Y T E V D S F : Type 0} {old mid new : X} {held held' held'' held''' : List ℕ} {v : V} {e : E} {s : Result S F}
       (f : Y → ℕ) (xs : List Y) (i n : ℕ) (bytes rest : List ℕ)
@@ -61,12 +40,6 @@ module _ {X : Type 0} {written : X → Option (List ℕ)} {failures : X → ℕ}
       (f : Y → ℕ) (xs : List Y) (i : ℕ) → Gathers {E = D} written failures old mid held held' (map f (take i xs)) (Ok v)
       → length xs ≤ i → Gathers {E = D} written failures old mid held held' (map f xs) (Ok v)
   all_gathered f xs i g le = gathers_same g (ap (map f) (take_all i xs le))
-
--- the same success as another result
-pub gathers_ok : {X T E S F : Type 0} {written : X → Option (List ℕ)} {failures : X → ℕ} {old new : X} {held held' a : List ℕ}
-    {x : T} {y : S} → Gathers {E = E} written failures old new held held' a (Ok x)
-    → Gathers {E = F} written failures old new held held' a (Ok y)
-gathers_ok g = record { handed = g.handed; wrote = g.wrote; ok = g.ok; err = tt; count = g.count }
 
 -- of a whole text, all but this rest was gathered
 pub record Partly {X : Type 0} (written : X → Option (List ℕ)) (failures : X → ℕ) (old new : X) (held held' whole rest : List ℕ)

@@ -78,7 +78,7 @@ last_row [] row = refl
 last_row (r ∷ rows) row = last_row rows row
 
 module _ (raw : Raw) (start : List Tern) (rows : List (List Tern)) (t : ℕ) (sound : IsSound raw) where
-  -- the latches' values behind a frame
+  -- the latches' values after a frame
   pub next_states : (cells : List Tern) → HoldsAll raw start rows t cells
       → AreStates raw start rows (suc t) (map (λ x. literal_value cells x.next) raw.latches)
   next_states cells h = record {

@@ -11,7 +11,7 @@ abbrev pub IsReady : Raw → List Gate → ℕ → ℕ → Type 0
 IsReady raw gates q v =
     IsSource raw v ⊎ ((r : ℕ) × (g : Gate) × (r < q) × (slice_get gates r ≡ Some g) × (variable g.lhs ≡ v))
 
--- all gates of the circuit, each behind the gates that it reads; a gate may stand more than once
+-- all gates of the circuit, each after the gates that it reads; a gate may be there more than once
 pub record IsGateOrder (raw : Raw) (gates : List Gate) : Type 0 where
   pub known : (q : ℕ) (g : Gate) → slice_get gates q ≡ Some g → (r : ℕ) × (slice_get raw.gates r ≡ Some g)
   pub complete : (v : ℕ) → IsGate raw v → (q : ℕ) × (g : Gate) × (slice_get gates q ≡ Some g) × (variable g.lhs ≡ v)

@@ -6,7 +6,6 @@ mod bench_fault;
 // What is public here and not exported below is for the crate that simulates row by row.
 pub mod gate_order;
 mod reset;
-pub mod trace_block;
 pub mod trace_line;
 
 pub use aig_grids::{ByteGrid, FRAMES, Grid, PlaneGrid, Stimulus};

@@ -3,16 +3,20 @@ ghost use Rattle.std.specs.Prelude.{◌≡◌, ℕ, ◌+◌, ◌≤◌, [], ◌�
 ghost use Rattle.aig_bytes.specs.Bytes.{Writes};
 ghost use Rattle.aig_base.specs.Circuit.{IsCircuit};
 ghost use Rattle.aig_parts.specs.Literal.{variable};
-ghost use Rattle.aig_bytes.specs.state.Gathered.{Gathers};
+ghost use Rattle.aig_bytes.specs.Gathered.{Gathers};
 ghost use Rattle.aig_grids.specs.TraceText.{literal_character, line_text, trace_text};
 
-use crate::trace_block::TraceBlock;
 use aig_base::{Circuit, Io, Latch, Lit, Write};
+use aig_bytes::ByteBlock;
 use aig_grids::Grid;
 use aig_grids::row::{GridRow, Row};
 
 /// How many characters are put at a time.
 const PIECE: usize = 256;
+
+/// The bytes of a trace or a dump that wait, 4,096 at most: a new one costs little, and a script makes one for each
+/// trace that it asks for.
+pub type TraceBlock = ByteBlock<4_096>;
 
 /// Writes a character for each literal.
 pub fn spell_literals<R: Row>(text: &mut [u8], row: &R, literals: &[Lit])

@@ -21,7 +21,7 @@ use Rattle.aig_base.specs.state.Least.{IsLeastAmong, IsKnown, IsGroundedGate, ga
 use Rattle.aig_parts.specs.Literal.{variable}
 use Rattle.aig_base.specs.state.Ranged.{AreInRange, AreDefinedOnce, AreDefinitions}
 use Rattle.aig_base.specs.Sections.{definitions, uses, IsDefined}
-use Rattle.aig_base.specs.Sound.{IsInRange, IsDefinition, IsRedefined, IsUndefined, IsReset}
+use Rattle.aig_base.specs.Sound.{IsInRange, IsDefinition, IsRedefined, IsUndefined, IsReset, IsSound}
 use Rattle.aig_base.proofs.lists.Counting.{all_defined}
 use Rattle.aig_base.proofs.circuits.Entering.{same_or_not}
 use Rattle.aig_base.proofs.lists.Gets.{Contains-from_get, get_from_Contains, All-at}
@@ -348,17 +348,20 @@ module _ (raw : Raw) where
           (λ l. o.defined) (λ l. resets);
     }
 
+    pub sound_from_tests : IsLeastAmong IsReset latch_variable raw.latches None → IsSound raw
+    sound_from_tests resets = record {
+      in_range = in_range_joined r;
+      definitions = o.definitions_are;
+      once = o.once;
+      defined = o.defined;
+      resets = resets;
+    }
+
     -- no fault is left
     pub circuit_from_tests : IsFormed raw → IsLeastAmong IsReset latch_variable raw.latches None
         → IsLeastAmong (IsGroundedGate raw) gate_variable raw.gates None → IsCircuit raw
     circuit_from_tests formed resets grounded = record {
       formed = formed;
-      sound = record {
-        in_range = in_range_joined r;
-        definitions = o.definitions_are;
-        once = o.once;
-        defined = o.defined;
-        resets = resets;
-      };
+      sound = sound_from_tests resets;
       acyclic = acyclic_from_grounded grounded;
     }

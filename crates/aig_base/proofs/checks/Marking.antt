@@ -1,8 +1,9 @@
 -- The search for the grounded variables: one more mark, one more gate, one more variable whose readers are visited.
 use Rattle.std.proofs.Common.{◌≡◌, ℕ, zero, suc, ◌+◌, ◌*◌, ◌/◌, ◌<◌, ◌⊎◌, inl, inr, List, [], ◌∷◌, ◌++◌, length, set}
 use Rattle.std.proofs.Common.{map, get_or, Bool, true, false, not, cond, Some, option_map, refl, sym, ap, subst, ◌∙◌}
-use Rattle.std.proofs.Common.{arith, slice_get, Contains, Result, Ok, Err, OnOk}
-use Rattle.std.proofs.lemmas.List.{length-set, length_push, set-get_or}
+use Rattle.std.proofs.Common.{arith, slice_get, Contains, Result, Ok, Err, OnOk, ◌≤◌, ◌%◌, replicate}
+use Rattle.std.proofs.Common.{get_or-set_other, get_or-set_same}
+use Rattle.std.proofs.lemmas.List.{length-set, length_push, set-get_or, length-replicate, get_or-replicate}
 use Rattle.std.proofs.lemmas.Bool.{cases_Bool}
 use Rattle.std.proofs.lemmas.List.Elements.{Contains-push, Contains-push_cases, Contains-append_left}
 use Rattle.std.proofs.lemmas.List.Elements.{Contains-append_right, Contains-append_cases, All-contains}
@@ -12,14 +13,20 @@ use Rattle.std.proofs.lemmas.Option.{slice_get-map, none-some}
 use Rattle.aig_parts.specs.declared.gate.Gate.{Gate}
 use Rattle.aig_parts.specs.declared.raw.Raw.{Raw}
 use Rattle.aig_base.specs.Grounded as grounded
-use Rattle.aig_base.specs.Grounded.{IsSource, Grounded}
+use Rattle.aig_base.specs.Grounded.{IsSource, Grounded, Level}
+use Rattle.aig_base.specs.Levels.{AreLevels}
+use Rattle.aig_base.specs.Sound.{IsSound}
+use Rattle.aig_base.specs.state.Descent.{level_above}
 use Rattle.aig_base.specs.state.Least.{latch_variable}
 use Rattle.aig_base.specs.state.Links.{Leads, AreLinks}
+use Rattle.aig_parts.specs.Formed.{limit}
 use Rattle.aig_parts.specs.Literal.{variable}
 use Rattle.aig_base.specs.state.Marks.{IsMarked, AreMarks, sides, AreStarted, AddsMark, Moves, Waits, IsMarking}
 use Rattle.aig_base.specs.state.Walk.{Meets}
 use Rattle.aig_base.proofs.lists.Chains.{leads_cases, leads_nowhere, side_first, side_second}
 use Rattle.aig_base.proofs.circuits.Entering.{same_or_not}
+use Rattle.aig_base.proofs.levels.LevelBound.{level_bound}
+use Rattle.aig_base.proofs.levels.OneLevel.{Grounded-of_level, same_level}
 use Rattle.aig_base.proofs.lists.Gets.{slice_get-set_same, slice_get-set_other, Contains-from_get, get_from_Contains}
 use Rattle.aig_base.proofs.lists.Gets.{All-by_get, same_element}
 
@@ -140,11 +147,13 @@ module _ (raw : Raw) (next : List ℕ) (p link : ℕ) (gate : Gate) (at : slice_
   ]
 
   -- a gate with a side that is not marked
-  pub visit_none : (marks : List Bool) (pending : List ℕ) → (IsMarked marks (variable gate.rhs0)
+  pub visit_none : (marks : List Bool) (pending levels : List ℕ) → (IsMarked marks (variable gate.rhs0)
       → IsMarked marks (variable gate.rhs1) → ⊥)
-      → IsMarking raw next (suc p) marks pending → IsMarking raw next link marks pending
-  visit_none marks pending unmarked i = record {
-    grounded = i.grounded;
+      → IsMarking raw next (suc p) marks pending levels → IsMarking raw next link marks pending levels
+  visit_none marks pending levels unmarked i = record {
+    low = i.low;
+    size = i.size;
+    each = i.each;
     marked = i.marked;
     closed = λ q g is a b. elim (i.closed q g is a b) [
       | inl h ↦ inl h
@@ -163,15 +172,21 @@ module _ (raw : Raw) (next : List ℕ) (p link : ℕ) (gate : Gate) (at : slice_
   }
 
   -- a gate whose two sides are marked
-  pub visit_both : (marks : List Bool) (pending : List ℕ) (marks' : List Bool) (pending' : List ℕ)
+  pub visit_both : (marks : List Bool) (pending : List ℕ) (marks' : List Bool) (pending' levels : List ℕ) (n : ℕ)
+      → n ≡ level_above levels gate % 4294967296
       → IsMarked marks (variable gate.rhs0) → IsMarked marks (variable gate.rhs1)
       → AddsMark (variable gate.lhs) marks pending marks' pending'
-      → IsMarking raw next (suc p) marks pending → IsMarking raw next link marks' pending'
-  visit_both marks pending marks' pending' m0 m1 d i = record {
-    grounded = λ u h. elim (d.new u h) [
-      | inl old ↦ i.grounded u old
-      | inr new ↦ subst (λ w. Grounded raw w) (sym new.0) (grounded.gate (p / 2) gate at (i.grounded _ m0)
-          (i.grounded _ m1))
+      → IsMarking raw next (suc p) marks pending levels
+      → IsMarking raw next link marks' pending' (set levels (variable gate.lhs) n)
+  visit_both marks pending marks' pending' levels n is m0 m1 d i = record {
+    low = i.low;
+    size = length-set levels (variable gate.lhs) n ∙ i.size ∙ sym d.size;
+    each = λ u h. elim (same_or_not u (variable gate.lhs)) [
+      | inl e ↦ rw (e, get_or-set_same levels (variable gate.lhs) n 0 within, fits) level
+      | inr ne ↦ elim (d.new u h) [
+        | inl old ↦ rw (get_or-set_other levels (variable gate.lhs) u n 0 ne) (i.each u old)
+        | inr new ↦ absurd (ne new.0)
+      ]
     ];
     marked = λ u h. elim (d.new_waiting u h) [
       | inl old ↦ d.kept u (i.marked u old)
@@ -197,17 +212,28 @@ module _ (raw : Raw) (next : List ℕ) (p link : ℕ) (gate : Gate) (at : slice_
       ]
     ];
   }
+    where
+      level : Level raw (variable gate.lhs) (level_above levels gate)
+      level = grounded.Level.gate (p / 2) gate _ _ at (i.each (variable gate.rhs0) m0) (i.each (variable gate.rhs1) m1)
+
+      fits : n ≡ level_above levels gate
+      fits = let low = i.low (variable gate.lhs) (level_above levels gate) level in omega arith
+
+      within : variable gate.lhs < length levels
+      within = omega (arith, slice_get_within marks' (variable gate.lhs) true d.marked, d.size, i.size)
 
 -- a variable is taken, and its readers wait at its first link
 pub take_pending : (raw : Raw) (gates : List Gate) (first next : List ℕ) (v link : ℕ) (marks : List Bool)
-    (pending rest : List ℕ)
+    (pending rest levels : List ℕ)
     → AreLinks (sides gates) first next → raw.gates ≡ gates → slice_get first v ≡ Some link → pending ≡ rest ++ v ∷ []
-    → IsMarking raw next 0 marks pending → IsMarking raw next link marks rest
-take_pending raw gates first next v link marks pending rest links same at is i =
+    → IsMarking raw next 0 marks pending levels → IsMarking raw next link marks rest levels
+take_pending raw gates first next v link marks pending rest levels links same at is i =
     let back = λ (u : ℕ) (h : Contains pending u). Contains-push_cases rest v u (subst (λ l. Contains l u) is h) in
     let here = λ (u : ℕ) (e : v ≡ u). subst (λ w. slice_get first w ≡ Some link) e at in
     record {
-      grounded = i.grounded;
+      low = i.low;
+      size = i.size;
+      each = i.each;
       marked = λ u h. i.marked u (subst (λ l. Contains l u) (sym is) (Contains-append_left rest (v ∷ []) u h));
       closed = λ q g on a b.
           let on' = subst (λ gs. slice_get gs q ≡ Some g) same on in
@@ -240,12 +266,13 @@ take_pending raw gates first next v link marks pending rest links same at is i =
     }
 
 -- at the end each grounded variable is marked
-pub marked_from_grounded : (raw : Raw) (next : List ℕ) (marks : List Bool) → IsMarking raw next 0 marks []
+pub marked_from_grounded : (raw : Raw) (next : List ℕ) (marks : List Bool) (levels : List ℕ)
+    → IsMarking raw next 0 marks [] levels
     → ((v : ℕ) → IsSource raw v → IsMarked marks v) → (v : ℕ) → Grounded raw v → IsMarked marks v
-marked_from_grounded raw next marks i sources v (grounded.source _ s) = sources v s
-marked_from_grounded raw next marks i sources v (grounded.gate q g at a b) =
-    elim (i.closed q g at (marked_from_grounded raw next marks i sources _ a)
-    (marked_from_grounded raw next marks i sources _ b)) [
+marked_from_grounded raw next marks levels i sources v (grounded.source _ s) = sources v s
+marked_from_grounded raw next marks levels i sources v (grounded.gate q g at a b) =
+    elim (i.closed q g at (marked_from_grounded raw next marks levels i sources _ a)
+    (marked_from_grounded raw next marks levels i sources _ b)) [
       | inl h ↦ h
       | inr r ↦ elim r [
         | inl h ↦ absurd (omega (arith, h.1))
@@ -290,26 +317,44 @@ source_listed raw v h = elim (Contains-append_cases (0 ∷ map variable raw.inpu
         let x = slice_get_unmap variable raw.inputs k v e in
         subst (λ w. IsSource raw w) x.2 (grounded.input k x.0 x.1)
 
-module _ (raw : Raw) (next : List ℕ) (marks : List Bool) (pending : List ℕ) (s : AreStarted
+module _ (raw : Raw) (sound : IsSound raw) (next : List ℕ) (marks : List Bool) (pending : List ℕ) (s : AreStarted
     (source_variables raw) marks pending) where
   -- the search begins
-  pub marking_starts : IsMarking raw next 0 marks pending
-  marking_starts = record {
-    grounded = λ v h. grounded.source v (source_listed raw v ((s.each v).0 h));
+  marking_starts : (levels : List ℕ) → raw.max_var ≤ limit → levels ≡ replicate (raw.max_var + 1) 0
+      → length marks ≡ raw.max_var + 1 → IsMarking raw next 0 marks pending levels
+  marking_starts levels fits zeros size = record {
+    low = λ v n known. let le = level_bound raw sound known in omega arith;
+    size = ap length zeros ∙ length-replicate (raw.max_var + 1) 0 ∙ sym size;
+    each = λ v h. rw (
+      zeros,
+      get_or-replicate {A = ℕ} (raw.max_var + 1) v 0 0 (let lt = slice_get_within marks v true h
+          in omega arith),
+    ) (grounded.Level.source v (source_listed raw v ((s.each v).0 h)));
     marked = λ v h. (s.waiting v).1 h;
     closed = λ q g at a b. inr (inl ((s.waiting _).0 a));
   }
 
-  -- the search ends: the marks are those of the grounded variables
-  pub marking_ends : (max_var : ℕ) (marks' : List Bool) → length marks' ≡ max_var + 1 → IsMarking raw next 0 marks' []
-      → ((v : ℕ) → IsMarked marks v → IsMarked marks' v) → AreMarks raw max_var marks'
-  marking_ends max_var marks' size i kept = record {
-    size = size;
-    each = λ v. (
-      i.grounded v,
-      marked_from_grounded raw next marks' i (λ u h. kept u ((s.each u).1 (listed_source raw u h))) v,
-    );
-  }
+  -- the search ends: the marks are those of the grounded variables, and the levels are theirs
+  pub marking_ends : (levels : List ℕ) (marks' : List Bool) (levels' : List ℕ) → raw.max_var ≤ limit
+      → levels ≡ replicate (raw.max_var + 1) 0 → length marks ≡ raw.max_var + 1 → length marks' ≡ length marks
+      → (IsMarking raw next 0 marks pending levels → IsMarking raw next 0 marks' [] levels')
+      → ((v : ℕ) → IsMarked marks v → IsMarked marks' v) → AreMarks raw marks' × AreLevels raw levels'
+  marking_ends levels marks' levels' fits zeros size size' moves kept = (
+    record { size = size' ∙ size; each = λ v. (λ h. Grounded-of_level (i.each v h), found v) },
+    record {
+      size = i.size ∙ size' ∙ size;
+      each = λ v n known.
+          let h = found v (Grounded-of_level known) in
+          slice_get-get_or levels' v 0 (omega (arith, slice_get_within marks' v true h, i.size))
+          ∙ ap Some (same_level sound (i.each v h) known);
+    },
+  )
+    where
+      i : IsMarking raw next 0 marks' [] levels'
+      i = moves (marking_starts levels fits zeros size)
+
+      found : (v : ℕ) → Grounded raw v → IsMarked marks' v
+      found = marked_from_grounded raw next marks' levels' i (λ u h. kept u ((s.each u).1 (listed_source raw u h)))
 
 -- the first sources, before a loop and one input or latch on
 pub started_same : (xs ys : List ℕ) (marks : List Bool) (pending : List ℕ) → xs ≡ ys → AreStarted xs marks pending

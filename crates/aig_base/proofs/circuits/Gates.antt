@@ -12,7 +12,7 @@ use Rattle.aig_base.specs.declared.definition.Definition.{Definition}
 use Rattle.aig_base.specs.declared.definition.Definition.TheVariants as definition
 use Rattle.aig_base.specs.Definition.{Defines, IsFree}
 use Rattle.aig_parts.specs.Literal.{variable}
-use Rattle.aig_base.specs.Sections.{definitions, uses, IsDefined, IsGate, IsLeftSide}
+use Rattle.aig_base.specs.Sections.{definitions, uses, IsDefined, IsGate}
 use Rattle.aig_base.specs.Grounded.{IsSource, Grounded, IsAcyclic, Level}
 use Rattle.aig_base.specs.Grounded as by
 use Rattle.aig_base.specs.Levels.{AreLevels}

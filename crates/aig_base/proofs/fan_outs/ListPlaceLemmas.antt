@@ -3,12 +3,12 @@ use Rattle.std.proofs.Common.{◌≡◌, ◌≢◌, ◌⊎◌, inl, inr, ℕ, ze
 use Rattle.std.proofs.Common.{length, get_or, set, take, nat_eq, count_by, slice_get, Some, refl, sym, ◌∙◌}
 use Rattle.std.proofs.Common.{ap, subst, arith, swap_remove, length-set}
 use Rattle.std.proofs.lemmas.Bool.{cases_eq, cases_lt}
-use Rattle.std.proofs.lemmas.List.{get_or_default, length_push}
+use Rattle.std.proofs.lemmas.List.{get_or_default}
 use Rattle.std.proofs.lemmas.Option.{slice_get_within, slice_get-get_or, none-some, same_Some}
 use Rattle.smallvec.specs.SmallVec.{SmallVec}
 use Rattle.aig_base.specs.declared.list_places.Places.{Places}
 use Rattle.aig_base.specs.state.ListPlaces.{short, StandsAt, capacity_at, HasPlace, HasPlaces, AreKept, AreTidy, Extends}
-use Rattle.aig_base.specs.state.ListPlaces.{IsCoveredTo, Renews, Writes, Stays, Shifts, Follows, StandsNew}
+use Rattle.aig_base.specs.state.ListPlaces.{Renews, Writes, Stays, Shifts, Follows, StandsNew}
 use Rattle.aig_base.specs.state.ReaderSlots.{items_at, tally, Keeps, Loses}
 use Rattle.aig_base.proofs.lists.Gets.{slice_get-set_same, slice_get-set_other}
 use Rattle.aig_base.proofs.fan_outs.ReaderLists.{Contains-of_count, count-of_get, count-cons, empty, here_is, kept_items, one_same, other_is}

@@ -15,7 +15,7 @@ use Rattle.aig_base.proofs.growth.Appended.{gate_cases, more_sound, new_at, old_
 use Rattle.aig_base.proofs.circuits.Gates.{sides_in_range}
 use Rattle.aig_base.proofs.fan_outs.ReaderLists.{readers_of, tallied, tallied_all, tallied_more}
 
--- an empty list behind the last
+-- an empty list after the last
 push_same : (slots : List (SmallVec ℕ)) (s : SmallVec ℕ) → s.items ≡ [] → (v w : ℕ) → tally (slots ++ s ∷ []) v w
     ≡ tally slots v w
 push_same [] s e zero w = ap (λ xs. count_by (nat_eq w) xs) e

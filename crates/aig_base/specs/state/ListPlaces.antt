@@ -28,15 +28,15 @@ pub record HasPlaces (places : List Places) (w i j : ℕ) : Type 0 where
   pub at : slice_get places w ≡ Some kept
   pub are : ((kept.first ≡ i) × (kept.second ≡ j)) ⊎ ((kept.first ≡ j) × (kept.second ≡ i))
 
--- of each entry behind the first ones the place is kept, at its gate; and there is a place for each variable, where a
--- list has room behind the first ones
+-- of each entry after the first ones the place is kept, at its gate; and there is a place for each variable, where a
+-- list has room after the first ones
 pub record AreKept (slots : List (SmallVec ℕ)) (places : List Places) : Type 0 where
   pub one : (v i w : ℕ) → short ≤ i → StandsAt slots v i w → HasPlace places w i
   pub two : (v x i j w : ℕ) → v ≢ x → short ≤ i → short ≤ j → StandsAt slots v i w → StandsAt slots x j w
       → HasPlaces places w i j
   pub covered : (v : ℕ) → short < capacity_at slots v → length slots ≤ length places
 
--- the table has an entry for each of n variables, where a list has room behind the first ones
+-- the table has an entry for each of n variables, where a list has room after the first ones
 abbrev pub IsCoveredTo : ℕ → List (SmallVec ℕ) → List Places → Type 0
 IsCoveredTo n slots places = (v : ℕ) → short < capacity_at slots v → n ≤ length places
 
@@ -67,7 +67,7 @@ pub record Writes (u : ℕ) (p : Places) (old new : List Places) : Type 0 where
   pub others : (x : ℕ) → x ≢ u → slice_get new x ≡ slice_get old x
   pub here : (short ≤ p.first) ⊎ (short ≤ p.second) → slice_get new u ≡ Some p
 
--- in a list that lost an entry no other has moved behind the first ones
+-- in a list that lost an entry no other has moved after the first ones
 pub record Stays (old new : List ℕ) (before after : List Places) : Type 0 where
   pub list : (i w : ℕ) → short ≤ i → slice_get new i ≡ Some w → slice_get old i ≡ Some w
   pub places : after ≡ before

@@ -1,27 +1,21 @@
 -- The search for the grounded variables, by marks.
 use Rattle.std.specs.Prelude.{◌≡◌, ◌↔◌, ◌⊎◌, ℕ, ◌+◌, ◌/◌, ◌<◌, List, [], ◌∷◌, length, Bool, true, not, count_by, All}
-use Rattle.std.specs.Prelude.{Some, Contains, slice_get}
+use Rattle.std.specs.Prelude.{◌≤◌, Some, Contains, slice_get, slice_index}
 use Rattle.std.specs.List.{flat_map}
 use Rattle.aig_parts.specs.declared.gate.Gate.{Gate}
-use Rattle.aig_parts.specs.declared.latch.Latch.{Latch}
 use Rattle.aig_parts.specs.declared.raw.Raw.{Raw}
+use Rattle.aig_parts.specs.Formed.{limit}
 use Rattle.aig_parts.specs.Literal.{variable}
-use Rattle.aig_base.specs.Grounded.{Grounded}
+use Rattle.aig_base.specs.Grounded.{Grounded, Level}
 use Rattle.aig_base.specs.state.Links.{Leads}
 
 abbrev pub IsMarked : List Bool → ℕ → Type 0
 IsMarked marks v = slice_get marks v ≡ Some true
 
 -- a mark for each variable: whether it is grounded
-pub record AreMarks (raw : Raw) (max_var : ℕ) (marks : List Bool) : Type 0 where
-  pub size : length marks ≡ max_var + 1
+pub record AreMarks (raw : Raw) (marks : List Bool) : Type 0 where
+  pub size : length marks ≡ raw.max_var + 1
   pub each : (v : ℕ) → IsMarked marks v ↔ Grounded raw v
-
--- the parts whose inputs, latches and gates these are
-pub record HasParts (raw : Raw) (inputs : List ℕ) (latches : List Latch) (gates : List Gate) : Type 0 where
-  pub of_inputs : raw.inputs ≡ inputs
-  pub of_latches : raw.latches ≡ latches
-  pub of_gates : raw.gates ≡ gates
 
 -- the three variables of a gate are below a number
 pub record IsGateBelow (n : ℕ) (g : Gate) : Type 0 where
@@ -64,10 +58,13 @@ pub record Moves (marks : List Bool) (pending : List ℕ) (marks' : List Bool) (
 abbrev pub Waits : List ℕ → ℕ → ℕ → Type 0
 Waits next link q = (o : ℕ) × Leads next link o × (o / 2 ≡ q)
 
--- Marked variables are grounded and pending ones are marked. A gate whose two right sides are marked is marked, unless
--- one of them is pending or the gate waits at this link.
-pub record IsMarking (raw : Raw) (next : List ℕ) (link : ℕ) (marks : List Bool) (pending : List ℕ) : Type 0 where
-  pub grounded : (v : ℕ) → IsMarked marks v → Grounded raw v
+-- Marked variables have their level, and pending ones are marked. A gate whose two right sides are marked is marked,
+-- unless one of them is pending or the gate waits at this link.
+pub record IsMarking (raw : Raw) (next : List ℕ) (link : ℕ) (marks : List Bool)
+    (pending levels : List ℕ) : Type 0 where
+  pub low : (v n : ℕ) → Level raw v n → n ≤ limit
+  pub size : length levels ≡ length marks
+  pub each : (v : ℕ) → IsMarked marks v → Level raw v (slice_index levels v)
   pub marked : (v : ℕ) → Contains pending v → IsMarked marks v
   pub closed : (q : ℕ) (g : Gate) → slice_get raw.gates q ≡ Some g
       → IsMarked marks (variable g.rhs0) → IsMarked marks (variable g.rhs1)

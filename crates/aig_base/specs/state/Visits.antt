@@ -8,7 +8,7 @@ use Rattle.aig_base.specs.state.Descent.{IsMet}
 abbrev pub IsVisited : Visits → ℕ → Type 0
 IsVisited s v = IsMet s.met.items v
 
--- the variable stands in the list, at position n or behind it
+-- the variable stands in the list, at position n or after it
 abbrev pub IsFrom : List ℕ → ℕ → ℕ → Type 0
 IsFrom list n v = (k : ℕ) × (n ≤ k) × (slice_get list k ≡ Some v)
 

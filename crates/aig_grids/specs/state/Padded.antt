@@ -1,4 +1,4 @@
--- Rows with cells behind those of their variables: room for variables that come later.
+-- Rows with cells after those of their variables: room for variables that come later.
 use Rattle.std.specs.Prelude.{◌≡◌, ℕ, ◌+◌, ◌-◌, ◌<◌, ◌≤◌, Bool, List, ◌++◌, length, drop, replicate, All}
 use Rattle.aig_parts.specs.Formed.{limit}
 use Rattle.aig_parts.specs.declared.ternary.Tern.{Tern}
@@ -6,7 +6,7 @@ use Rattle.aig_parts.specs.declared.ternary.Tern.TheVariants.{X}
 use Rattle.aig_parts.specs.Limits.{frame_limit}
 use Rattle.aig_grids.specs.InputRows.{row_at}
 
--- a row for n variables with cells for as many as the room says; all cells behind the n are x, as a cell that comes
+-- a row for n variables with cells for as many as the room says; all cells after the n are x, as a cell that comes
 -- later has to be
 abbrev pub IsPadded : ℕ → ℕ → List Tern → Type 0
 IsPadded n room row = (room ≤ length row) × (drop n row ≡ replicate (length row - n) X)

@@ -3,7 +3,7 @@ use Rattle.std.specs.Prelude.{ℕ, ◌*◌, ◌/◌, ◌^◌, ◌<◌, List, [],
 use Rattle.std.specs.Int.Bits.{bit_and}
 use Rattle.std.specs.List.{range_with_len}
 use Rattle.aig_parts.specs.declared.ternary.Tern.{Tern}
-use Rattle.aig_grids.specs.state.Codes.{code_value, IsCode}
+use Rattle.aig_grids.specs.Codes.{code_value, IsCode}
 
 -- the two bits at a place of a word
 unfoldable pub bits_at : ℕ → ℕ → ℕ

@@ -2,23 +2,16 @@ use Rattle.std.proofs.Common.{◌≡◌, ◌+◌, ◌<◌, ◌≤◌, ◌*◌, B
 use Rattle.aig_parts.specs.declared.gate.Gate.{Gate}
 use Rattle.aig_base.specs.state.Least.{IsLeastAmong, IsMarkedGate, IsGroundedGate, gate_variable}
 use Rattle.aig_parts.specs.Literal.{variable}
-use Rattle.aig_base.specs.state.Marks.{HasParts}
 use Rattle.aig_base.proofs.lists.LeastAmong.{least_same}
 use Rattle.aig_base.proofs.check.least_ungrounded.Goals as goal
 
 pub least_unmarked-requires : goal.least_unmarked-requires
 least_unmarked-requires c =
     let raw = c.args.raw.now in
-    let has : HasParts raw c.as_slice.result.now c.as_slice-2.result.now c.as_slice-gates.result.now = record {
-      of_inputs = sym c.as_slice.ensures;
-      of_latches = sym c.as_slice-2.ensures;
-      of_gates = sym
-          c.as_slice-gates.ensures;
-    } in
-    let marks = c.in_ok-marks.ensures raw has in
-    let n = length c.as_slice-3.result.now in
-    let size : n ≡ raw.max_var + 1 = ap length c.as_slice-3.ensures.value ∙ marks.size in
-    subst (λ (gs : List Gate). All (λ g. variable g.lhs < n) gs) (sym c.as_slice-gates.ensures)
+    let marks = c.in_ok-found.ensures.marks in
+    let n = length c.as_slice.result.now in
+    let size : n ≡ raw.max_var + 1 = ap length c.as_slice.ensures.value ∙ marks.size in
+    subst (λ (gs : List Gate). All (λ g. variable g.lhs < n) gs) (sym c.as_slice-2.ensures)
     (λ k d l. let h : (get_or raw.gates k d).lhs ≤ 2 * raw.max_var + 1 = (c.requires.range.gates k d l).0 in
     omega arith)
 
@@ -26,16 +19,10 @@ pub returns : goal.returns
 returns c =
     let raw = c.args.raw.now in
     let r = c.least_unmarked.result in
-    let has : HasParts raw c.as_slice.result.now c.as_slice-2.result.now c.as_slice-gates.result.now = record {
-      of_inputs = sym c.as_slice.ensures;
-      of_latches = sym c.as_slice-2.ensures;
-      of_gates = sym
-          c.as_slice-gates.ensures;
-    } in
-    let marks = c.in_ok-marks.ensures raw has in
-    let found = subst (λ (gs : List Gate). IsLeastAmong (IsMarkedGate c.as_slice-3.result.now) gate_variable gs r)
-    c.as_slice-gates.ensures c.least_unmarked.ensures in
+    let marks = c.in_ok-found.ensures.marks in
+    let found = subst (λ (gs : List Gate). IsLeastAmong (IsMarkedGate c.as_slice.result.now) gate_variable gs r)
+    c.as_slice-2.ensures c.least_unmarked.ensures in
     let here = subst (λ (ms : List Bool). IsLeastAmong (IsMarkedGate ms) gate_variable raw.gates r)
-    c.as_slice-3.ensures.value found in
-    least_same (IsMarkedGate c.in_ok-marks.marks.items) (IsGroundedGate raw) gate_variable raw.gates r (λ g. marks.each
+    c.as_slice.ensures.value found in
+    least_same (IsMarkedGate c.in_ok-found.found.marks.items) (IsGroundedGate raw) gate_variable raw.gates r (λ g. marks.each
     (variable g.lhs)) here

@@ -4,7 +4,7 @@ use Rattle.aig_parts.specs.declared.latch.Latch.{Latch}
 use Rattle.aig_base.specs.state.Least.{IsLeastAmong, IsGroundedGate, ReadsSmaller, gate_variable, latch_variable}
 use Rattle.aig_base.specs.Sound.{IsReset}
 use Rattle.aig_base.proofs.checks.Ascending.{all_grounded}
-use Rattle.aig_base.proofs.checks.Faults.{first_reset, first_cycle, circuit_from_tests}
+use Rattle.aig_base.proofs.checks.Faults.{first_reset, first_cycle, sound_from_tests, circuit_from_tests}
 use Rattle.aig_base.proofs.checks.TriedLevelLemmas.{tried_are_levels, tried_grounded}
 use Rattle.aig_base.proofs.check.test_resets_and_cycles.Goals as goal
 
@@ -38,10 +38,13 @@ returns-in-Some-2-clause-levels c =
     let raw = c.args.raw.now in
     let resets = subst (λ (xs : List Latch). IsLeastAmong IsReset latch_variable xs None) c.as_slice.ensures
     c.in_default.ensures in
-    let fits = rw c.in-Some-2.is at c.in_ok-levels.ensures in
-    let is = circuit_from_tests raw c.requires.range c.requires.once c.requires.formed resets
-    (tried_grounded raw c.in-Some-2.levels.items fits c.requires.once.defined) in
-    tried_are_levels raw c.in-Some-2.levels.items fits is.sound
+    tried_are_levels raw c.in-Some-2.levels.items (rw c.in-Some-2.is at c.in_ok-levels.ensures)
+    (sound_from_tests raw c.requires.range c.requires.once resets)
+
+pub least_ungrounded-requires-clause-sound : goal.least_ungrounded-requires-clause-sound
+least_ungrounded-requires-clause-sound c =
+    sound_from_tests c.args.raw.now c.requires.range c.requires.once
+    (subst (λ (xs : List Latch). IsLeastAmong IsReset latch_variable xs None) c.as_slice.ensures c.in_default.ensures)
 
 pub returns-in-Some-3-clause-fault : goal.returns-in-Some-3-clause-fault
 returns-in-Some-3-clause-fault c = λ other.

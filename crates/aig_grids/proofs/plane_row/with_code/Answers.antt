@@ -1,5 +1,5 @@
 use Rattle.std.proofs.Common.{◌<◌, ap, ◌∙◌, subst, sym}
-use Rattle.aig_grids.specs.state.Codes.{code_value, IsCode}
+use Rattle.aig_grids.specs.Codes.{code_value, IsCode}
 use Rattle.aig_grids.proofs.WordBits.{bits_small, value_back, is_code, written_there, written_elsewhere, written_whole}
 use Rattle.aig_grids.proofs.plane_row.with_code.Goals as goal
 

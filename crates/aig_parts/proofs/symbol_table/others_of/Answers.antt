@@ -16,6 +16,10 @@ loop-entry-preserved c =
     let whole = take_all (length es - c.args.from) rest (omega (arith, length-drop c.args.from es)) in
     let once = subst (λ (xs : List (Key × Place)). AllPairs (λ x y. x ≢ y) (keys_of xs)) (sym whole)
     (once_behind es c.args.from c.requires.once) in
-    c.in_ok-insert.ensures.entries
-    ∙ entry_more c.loop-entry.others part c.loop-entry.entry-index _
-    (get_or_default part c.loop-entry.entry-index _ _ c.loop-entry-test.true) c.loop-entry-test.true once c.loop-entry.invariant
+    record {
+      entries = c.in_ok-insert.ensures.entries
+          ∙ entry_more c.loop-entry.others part c.loop-entry.entry-index _
+          (get_or_default part c.loop-entry.entry-index _ _ c.loop-entry-test.true) c.loop-entry-test.true once
+          c.loop-entry.invariant.entries;
+      hasher = c.in_ok-insert.ensures.hasher ∙ c.loop-entry.invariant.hasher;
+    }

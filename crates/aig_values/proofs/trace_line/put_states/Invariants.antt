@@ -1,6 +1,6 @@
 use Rattle.std.proofs.Common.{◌≡◌, ◌-◌, ◌≤◌, length, take, map, Ok}
 use Rattle.aig_parts.specs.declared.latch.Latch.{Latch}
-use Rattle.aig_bytes.specs.state.Gathered.{Gathers}
+use Rattle.aig_bytes.specs.Gathered.{Gathers}
 use Rattle.aig_grids.specs.TraceText.{literal_character}
 use Rattle.aig_values.proofs.trace_line.put_states.Given as goal
 

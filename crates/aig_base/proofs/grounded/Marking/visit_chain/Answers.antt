@@ -1,4 +1,4 @@
-use Rattle.std.proofs.Common.{◌≡◌, ◌-◌, ◌/◌, ◌<◌, suc, ℕ, Some, length, slice_get, refl, sym, subst, arith}
+use Rattle.std.proofs.Common.{◌≡◌, ◌-◌, ◌/◌, ◌<◌, suc, ℕ, Some, length, slice_get, refl, sym, subst, arith, rules}
 use Rattle.std.proofs.lemmas.Option.{slice_get_read}
 use Rattle.aig_parts.specs.declared.gate.Gate.{Gate}
 use Rattle.aig_base.specs.state.Marks.{IsGateBelow, IsMarking}
@@ -16,8 +16,8 @@ bounds-gates-position c =
       c.loop-link-test.true,
     )
 
-pub visit-requires : goal.visit-requires
-visit-requires c =
+pub visit-requires-clause-gate : goal.visit-requires-clause-gate
+visit-requires-clause-gate c =
     let gates = c.args.gates.now in
     let q = (c.loop-link.link - 1) / 2 in
     let within : q < length gates =
@@ -52,10 +52,18 @@ loop-link-preserved c =
     let link : c.loop-link.link ≡ suc p = omega (arith, c.loop-link-test.true) in
     record {
       moves = moves_then i.moves c.in_ok-visit.ensures.moves;
+      levels = search rules;
       within = omega (arith, c.requires.readers.falls p c.next-link.result c.next-link.ensures, i.within);
       marking = λ raw same begun.
           c.in_ok-visit.ensures.marking raw next p c.next-link.result
           (subst (λ gs. slice_get gs (p / 2) ≡ Some gate) (sym same) at) c.next-link.ensures
-          (subst (λ n. IsMarking raw next n c.loop-link.self.walk.met.items c.loop-link.self.walk.pending.items) link
+          (subst (λ n. IsMarking raw next n c.loop-link.self.walk.met.items c.loop-link.self.walk.pending.items
+          c.loop-link.levels) link
           (i.marking raw same begun));
     }
+
+pub returns-clause-marking : goal.returns-clause-marking
+returns-clause-marking c = λ raw same begun.
+    let none : c.loop-link.link ≡ 0 = omega (arith, c.loop-link-test.false) in
+    subst (λ n. IsMarking raw c.args.readers.now.next.items n c.loop-link.self.walk.met.items
+    c.loop-link.self.walk.pending.items c.loop-link.levels) none (c.loop-link.invariant.marking raw same begun)

@@ -11,6 +11,6 @@ invariant_of-result c =
     let es = c.args.entries.items in
     let ascend = subst (λ (xs : List (Key × Place)). Ascend (take n xs)) c.deref.ensures.value
     c.ascending_count-count.ensures.ascend in
-    let others = c.in_ok-others.ensures ∙ ap (λ (xs : List (Key × Place)). drop n xs) c.deref-2.ensures.value in
+    let others = c.in_ok-others.ensures.entries ∙ ap (λ (xs : List (Key × Place)). drop n xs) c.deref-2.ensures.value in
     subst (λ (xs : List (Key × Place)). IsTable xs c.in_ok-others.others.entries) (sym c.truncate.ensures.items)
     (subst (λ (xs : List (Key × Place)). IsTable (take n es) xs) (sym others) (parted es n ascend c.requires))
