@@ -9,14 +9,12 @@ ghost use Rattle.aig_base.specs.Sections.{IsDefined, IsLatchLiteral, IsLeftSide}
 ghost use Rattle.aig_base.specs.Sound.{IsInRange, IsSound};
 ghost use Rattle.aig_bench.specs.Edit.{Forbids, IsLeastFault, NoneApplies, append_gate, rewire, set_output, set_reset};
 ghost use Rattle.aig_bench.specs.state.Latches.{IsLatchAt};
-ghost use Rattle.aig_bench.specs.state.Setup.{IsSetup, pair_of};
+ghost use Rattle.aig_bench.specs.state.DrivenCircuit.{IsDriven, pair_of};
 
+use crate::driven_circuit::DrivenCircuit;
 use crate::edit::EditFault;
-use crate::setup::Setup;
+use crate::sizes::CELLS;
 use aig_base::{Circuit, Definition, LIMIT, Lit};
-
-/// The greatest number of cells of a bench: variables times frames.
-pub const CELLS: u64 = 67_108_864;
 
 /// Whether a variable is 0 or defined.
 pub fn is_defined(circuit: &Circuit, variable: u32) -> bool
@@ -88,25 +86,25 @@ fn check_sides(circuit: &Circuit, r0: Lit, r1: Lit) -> Result<(), EditFault>
 }
 
 /// Whether one more variable, and a cell of it at each frame, are within the limits.
-fn has_room_for_variable(setup: &Setup) -> bool
-    ensures { IsTrue result ↔ ((setup.now.circuit.max_var < limit)
-        × ((setup.now.circuit.max_var + 2) * length setup.now.stimulus.rows ≤ cell_limit)) }
+fn has_room_for_variable(driven: &DrivenCircuit) -> bool
+    ensures { IsTrue result ↔ ((driven.now.circuit.max_var < limit)
+        × ((driven.now.circuit.max_var + 2) * length driven.now.stimulus.rows ≤ cell_limit)) }
 {
-    let max_var = setup.circuit.max_var();
-    let frames = u64::from(setup.stimulus.frames());
+    let max_var = driven.circuit.max_var();
+    let frames = u64::from(driven.stimulus.frames());
     (max_var as usize) < LIMIT && (u64::from(max_var) + 2) * frames <= CELLS
 }
 
 /// The fault of a rewire, but for a cycle: no gate, then right sides out of range, then undefined ones.
-pub fn check_rewire(setup: &Setup, lhs: Lit, r0: Lit, r1: Lit) -> Result<(), EditFault>
-    requires { IsSetup setup.now }
-    ensures gate { OnOk result (IsLeftSide setup.now.circuit lhs) }
-    ensures range { OnOk result (IsInRange setup.now.circuit r0 × IsInRange setup.now.circuit r1) }
-    ensures defined { OnOk result (IsDefined setup.now.circuit (variable r0)
-        × IsDefined setup.now.circuit (variable r1)) }
-    ensures fault { IfErr result (IsLeastFault (Forbids (pair_of setup.now) (rewire lhs r0 r1))) }
+pub fn check_rewire(driven: &DrivenCircuit, lhs: Lit, r0: Lit, r1: Lit) -> Result<(), EditFault>
+    requires { IsDriven driven.now }
+    ensures gate { OnOk result (IsLeftSide driven.now.circuit lhs) }
+    ensures range { OnOk result (IsInRange driven.now.circuit r0 × IsInRange driven.now.circuit r1) }
+    ensures defined { OnOk result (IsDefined driven.now.circuit (variable r0)
+        × IsDefined driven.now.circuit (variable r1)) }
+    ensures fault { IfErr result (IsLeastFault (Forbids (pair_of driven.now) (rewire lhs r0 r1))) }
 {
-    let circuit = &setup.circuit;
+    let circuit = &driven.circuit;
     if !is_left_side(circuit, lhs) {
         return Err(EditFault::NotAGate);
     }
@@ -114,39 +112,40 @@ pub fn check_rewire(setup: &Setup, lhs: Lit, r0: Lit, r1: Lit) -> Result<(), Edi
 }
 
 /// The latch of a reset, or the fault: no latch.
-pub fn check_reset(setup: &Setup, latch: Lit) -> Result<u32, EditFault>
-    requires { IsSetup setup.now }
-    ensures latch { IfOk result (λ i. IsLatchAt setup.now.circuit latch i) }
-    ensures fault { (value : Tern) → IfErr result (IsLeastFault (Forbids (pair_of setup.now) (set_reset latch value))) }
+pub fn check_reset(driven: &DrivenCircuit, latch: Lit) -> Result<u32, EditFault>
+    requires { IsDriven driven.now }
+    ensures latch { IfOk result (λ i. IsLatchAt driven.now.circuit latch i) }
+    ensures fault { (value : Tern) →
+        IfErr result (IsLeastFault (Forbids (pair_of driven.now) (set_reset latch value))) }
 {
-    latch_position(&setup.circuit, latch).ok_or(EditFault::NotALatch)
+    latch_position(&driven.circuit, latch).ok_or(EditFault::NotALatch)
 }
 
 /// The fault of an appended gate, but for out of memory: right sides out of range, then undefined ones, then a
 /// variable or cells too many.
-pub fn check_append(setup: &Setup, r0: Lit, r1: Lit) -> Result<(), EditFault>
-    ensures defined { OnOk result (IsDefined setup.now.circuit (variable r0)
-        × IsDefined setup.now.circuit (variable r1)) }
-    ensures max_var { OnOk result (setup.now.circuit.max_var < limit) }
-    ensures cells { OnOk result ((setup.now.circuit.max_var + 2) * length setup.now.stimulus.rows ≤ cell_limit) }
-    ensures allowed { OnOk result (NoneApplies (Forbids (pair_of setup.now) (append_gate r0 r1))) }
-    ensures fault { IfErr result (IsLeastFault (Forbids (pair_of setup.now) (append_gate r0 r1))) }
+pub fn check_append(driven: &DrivenCircuit, r0: Lit, r1: Lit) -> Result<(), EditFault>
+    ensures defined { OnOk result (IsDefined driven.now.circuit (variable r0)
+        × IsDefined driven.now.circuit (variable r1)) }
+    ensures max_var { OnOk result (driven.now.circuit.max_var < limit) }
+    ensures cells { OnOk result ((driven.now.circuit.max_var + 2) * length driven.now.stimulus.rows ≤ cell_limit) }
+    ensures allowed { OnOk result (NoneApplies (Forbids (pair_of driven.now) (append_gate r0 r1))) }
+    ensures fault { IfErr result (IsLeastFault (Forbids (pair_of driven.now) (append_gate r0 r1))) }
 {
-    check_sides(&setup.circuit, r0, r1)?;
-    if !has_room_for_variable(setup) {
+    check_sides(&driven.circuit, r0, r1)?;
+    if !has_room_for_variable(driven) {
         return Err(EditFault::Limit);
     }
     Ok(())
 }
 
 /// The fault of a replaced output: a literal out of range, then an undefined one, then no output.
-pub fn check_output(setup: &Setup, position: u32, literal: Lit) -> Result<(), EditFault>
-    ensures defined { OnOk result (IsDefined setup.now.circuit (variable literal)) }
-    ensures position { OnOk result (position < length setup.now.circuit.outputs) }
-    ensures allowed { OnOk result (NoneApplies (Forbids (pair_of setup.now) (set_output position literal))) }
-    ensures fault { IfErr result (IsLeastFault (Forbids (pair_of setup.now) (set_output position literal))) }
+pub fn check_output(driven: &DrivenCircuit, position: u32, literal: Lit) -> Result<(), EditFault>
+    ensures defined { OnOk result (IsDefined driven.now.circuit (variable literal)) }
+    ensures position { OnOk result (position < length driven.now.circuit.outputs) }
+    ensures allowed { OnOk result (NoneApplies (Forbids (pair_of driven.now) (set_output position literal))) }
+    ensures fault { IfErr result (IsLeastFault (Forbids (pair_of driven.now) (set_output position literal))) }
 {
-    let circuit = &setup.circuit;
+    let circuit = &driven.circuit;
     check_sides(circuit, literal, literal)?;
     if position as usize >= circuit.outputs().len() {
         return Err(EditFault::NoOutput);

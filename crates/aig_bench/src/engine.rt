@@ -1,15 +1,16 @@
 //! A circuit and a stimulus on a grid of cells, with what it takes to keep the cells current.
+use crate::driven_circuit::DrivenCircuit;
+use crate::fanouts::Fanouts;
 use crate::order::Order;
-use crate::settle::{Fanouts, Pending};
-use crate::setup::Setup;
+use crate::pending::Pending;
 use aig_values::Grid;
 use std::marker::Model;
 
-/// Circuit, stimulus and cells, the levels and who reads whom, an order of the gates, and what a propagation has still
-/// to look at. Contracts see the pair, the cells and what is still to be looked at.
+/// Circuit, stimulus and cells, the levels and the fan-outs, an order of the gates, and what a propagation has still to
+/// look at. Contracts see the pair, the cells and what is still to be looked at.
 #[derive(Drop)]
 pub struct Engine<G: Grid> {
-    pub setup: Setup,
+    pub driven: DrivenCircuit,
     pub fanouts: Fanouts,
     pub pending: Pending,
     pub order: Order,
@@ -23,7 +24,7 @@ impl<G: Grid> Model for Engine<G> {
 
     ghost use Rattle.aig_bench.specs.state.Pending.{IsEngine, state_of};
 
-    ghost view = { λ e. state_of e.setup e.fanouts e.pending (G.cells e.grid) (G.evaluations e.grid) };
+    ghost view = { λ e. state_of e.driven e.fanouts e.pending e.order (G.cells e.grid) (G.evaluations e.grid) };
 
-    ghost invariant = { λ e. IsEngine e.setup e.fanouts e.pending e.order (G.gate_flags e.grid) (G.cells e.grid) };
+    ghost invariant = { λ e. IsEngine e.driven e.fanouts e.pending e.order (G.gate_flags e.grid) (G.cells e.grid) };
 }

@@ -1,9 +1,9 @@
-//! A new grid for a setup.
+//! A new grid for a driven circuit.
 ghost use Rattle.std.specs.Prelude.{◌≡◌, ◌+◌, ◌*◌, ◌<◌, ◌≤◌, length, IfOk, OnOk, []};
-ghost use Rattle.aig_bench.specs.state.Setup.{IsSetup};
+ghost use Rattle.aig_bench.specs.state.DrivenCircuit.{IsDriven};
 ghost use Rattle.aig_bench.specs.state.Current.{AreGateFlags, IsLaidOut};
 
-use crate::setup::Setup;
+use crate::driven_circuit::DrivenCircuit;
 use aig_base::{Circuit, Memory};
 use aig_values::Grid;
 use std::alloc::Global;
@@ -20,27 +20,27 @@ fn gate_flags(alloc: Global, circuit: &Circuit) -> Result<Vec<bool>, Memory>
 }
 
 /// Appends a row a frame to a grid without rows.
-fn add_rows<G: Grid>(grid: &mut G, setup: &Setup) -> Result<(), Memory>
-    requires setup { IsSetup setup.now }
-    requires flags { AreGateFlags setup.now.circuit (G.gate_flags grid.old) }
+fn add_rows<G: Grid>(grid: &mut G, driven: &DrivenCircuit) -> Result<(), Memory>
+    requires driven { IsDriven driven.now }
+    requires flags { AreGateFlags driven.now.circuit (G.gate_flags grid.old) }
     requires empty { G.cells grid.old ≡ [] }
-    ensures laid_out { OnOk result (IsLaidOut setup.now (G.gate_flags grid.new) (G.cells grid.new)) }
+    ensures laid_out { OnOk result (IsLaidOut driven.now (G.gate_flags grid.new) (G.cells grid.new)) }
     ensures count { G.evaluations grid.new ≡ G.evaluations grid.old }
 {
-    for _ in 0..setup.stimulus.frames() {
+    for _ in 0..driven.stimulus.frames() {
         grid.add_row()?;
     }
     Ok(())
 }
 
 /// A grid with a row a frame.
-pub fn lay_out<G: Grid>(alloc: Global, setup: &Setup) -> Result<G, Memory>
-    requires { IsSetup setup.now }
-    ensures laid_out { IfOk result (λ grid. IsLaidOut setup.now (G.gate_flags grid) (G.cells grid)) }
+pub fn lay_out<G: Grid>(alloc: Global, driven: &DrivenCircuit) -> Result<G, Memory>
+    requires { IsDriven driven.now }
+    ensures laid_out { IfOk result (λ grid. IsLaidOut driven.now (G.gate_flags grid) (G.cells grid)) }
     ensures count { IfOk result (λ grid. G.evaluations grid ≡ 0) }
 {
-    let flags = gate_flags(alloc, &setup.circuit)?;
+    let flags = gate_flags(alloc, &driven.circuit)?;
     let mut grid = G::new(alloc, flags.as_slice())?;
-    add_rows(&mut grid, setup)?;
+    add_rows(&mut grid, driven)?;
     Ok(grid)
 }

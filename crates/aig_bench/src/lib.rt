@@ -3,20 +3,26 @@
 
 mod allowed;
 mod bench;
+mod bench_edits;
 mod buckets;
+mod driven_circuit;
 mod edit;
 mod engine;
-mod fill;
-mod grow;
-mod latches;
+mod fanouts;
+mod latch_list;
+mod latch_readers;
 mod laws;
 mod layout;
 mod level_set;
 mod new_engine;
+mod new_frame;
+mod new_gate;
 mod order;
+mod pending;
 mod propagate;
+mod replace_gate;
 mod settle;
-mod setup;
+mod sizes;
 mod trace;
 mod value;
 

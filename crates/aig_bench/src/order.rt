@@ -16,7 +16,7 @@ use aig_base::{Circuit, Definition, Gate, Levels, Lit, Memory, canonical_order};
 use aig_values::{Grid, stand_in_order};
 use std::alloc::Global;
 
-/// How the gates of a circuit are taken, so that each comes behind those that it reads.
+/// How the gates of a circuit are taken, so that each comes after those that it reads.
 #[derive(Clone, Copy, PartialEq, Eq, Debug)]
 pub enum Way {
     /// As they stand.
@@ -27,7 +27,7 @@ pub enum Way {
     Stale,
 }
 
-/// An order of a circuit's gates in which each comes behind those that it reads. It takes no memory where the gates
+/// An order of a circuit's gates in which each comes after those that it reads. It takes no memory where the gates
 /// stand in one.
 #[derive(Drop, Debug)]
 pub struct Order {
@@ -106,7 +106,7 @@ impl Order {
     pub fn of(alloc: Global, circuit: &Circuit, levels: &Levels) -> Result<Order, Memory>
         requires { AreLevels circuit.now levels.now }
         ensures orders { IfOk result (Orders circuit.now) }
-        ensures known { IfOk result IsKnown }
+        ensures known { IfOk result (λ order. IsKnown order.way) }
     {
         let _max_var = circuit.max_var();
         if stand_in_order(alloc, circuit)? {
@@ -137,7 +137,7 @@ impl Order {
         requires levels { AreLevels circuit.now levels.now }
         requires orders { Orders circuit.now self.old }
         ensures orders { Orders circuit.now self.new }
-        ensures known { OnOk result (IsKnown self.new) }
+        ensures known { OnOk result (IsKnown self.new.way) }
     {
         match self.way {
             Way::Standing => Ok(()),
@@ -165,7 +165,7 @@ impl Order {
         }
     }
 
-    /// One more gate behind the others, where there is room. `gates` is how many there were.
+    /// One more gate after the others, where there is room. `gates` is how many there were.
     pub fn push_gate(&mut self, gates: u32)
         requires { FitsOneGate self.old }
         ensures { (raw : Raw) (r0 r1 : ℕ) → length raw.gates ≡ gates → IsCircuit raw
@@ -182,7 +182,7 @@ impl Order {
     /// Evaluates each gate of the circuit once at a frame, in this order.
     pub fn sweep<G: Grid>(&self, grid: &mut G, circuit: &Circuit, frame: u32)
         requires orders { Orders circuit.now self.now }
-        requires known { IsKnown self.now }
+        requires known { IsKnown self.now.way }
         requires frame { frame < length (G.cells grid.old) }
         requires flags { AreGateFlags circuit.now (G.gate_flags grid.old) }
         ensures cells { (gates : List gate.Gate) × IsFullOrder circuit.now gates

@@ -10,7 +10,6 @@ ghost use Rattle.aig_bench.specs.state.Steps.{frame_work, PassesOver, PutsLatche
 
 use crate::edit::EditReport;
 use crate::engine::Engine;
-use crate::value::latch_value;
 use aig_base::Latch;
 use aig_values::Grid;
 use std::mem::swap;
@@ -37,7 +36,7 @@ impl<G: Grid> Engine<G> {
         ensures { PutsSource frame (variable latch.lit) self.old self.new }
     {
         let variable = latch.lit.var();
-        let value = latch_value(&self.grid, &self.setup, frame, latch);
+        let value = self.latch_value(frame, latch);
         self.put(frame, variable, value);
     }
 
@@ -48,7 +47,7 @@ impl<G: Grid> Engine<G> {
         ensures { PutsLatches frame self.old self.new }
     {
         while let Some(number) = self.pending.here.take() {
-            let latch = self.setup.circuit.latches()[number as usize - 1];
+            let latch = self.driven.circuit.latches()[number as usize - 1];
             self.put_latch(frame, latch);
         }
     }
@@ -63,7 +62,7 @@ impl<G: Grid> Engine<G> {
         ensures evaluated { result.evaluated ≤ frame_work }
     {
         // Its invariant tells that the pair's circuit is one.
-        let _setup = &self.setup;
+        let _driven = &self.driven;
         self.carry(frame);
         self.settle(frame)
     }
@@ -95,7 +94,7 @@ impl<G: Grid> Engine<G> {
             evaluated: 0,
             changed: 0,
         };
-        for frame in first..self.setup.stimulus.frames() {
+        for frame in first..self.driven.stimulus.frames() {
             if forced.is_empty() && self.pending.here.is_empty() {
                 return report;
             }
@@ -115,8 +114,8 @@ impl<G: Grid> Engine<G> {
         requires behind { IsBehindBit self.old frame position }
         ensures { RenewsAll [] frame self.old self.new result }
     {
-        let input = self.setup.circuit.inputs()[position as usize];
-        let value = self.setup.stimulus.get(frame, position);
+        let input = self.driven.circuit.inputs()[position as usize];
+        let value = self.driven.stimulus.get(frame, position);
         self.put(frame, input.var(), value);
         let first = self.pass(frame);
         self.advance();

@@ -1,49 +1,19 @@
 //! The evaluation of what waits at a frame, level by level: event-driven and levelized.
-ghost use Rattle.std.specs.Prelude.{IfOk, Bool, ◌≡◌, ◌≢◌, ℕ, ◌*◌, ◌+◌, ◌<◌, ◌≤◌, List, length, Some, slice_get};
+ghost use Rattle.std.specs.Prelude.{◌≡◌, ◌≢◌, ℕ, ◌*◌, ◌+◌, ◌<◌, ◌≤◌, length, Some, slice_get};
 ghost use Rattle.std.specs.Prelude.{IfSome, IfNone};
 ghost use Rattle.aig_parts.specs.Formed.{limit};
-ghost use Rattle.aig_parts.specs.declared.ternary.Tern as ternary;
 ghost use Rattle.aig_base.specs.Grounded.{IsSource};
 ghost use Rattle.aig_base.specs.Levels.{AreLevels};
 ghost use Rattle.aig_parts.specs.Limits.{cell_limit};
 ghost use Rattle.aig_base.specs.state.Marks.{IsMarked};
 ghost use Rattle.aig_bench.specs.Pair.{HasValue};
-ghost use Rattle.aig_bench.specs.state.Setup.{IsSetup};
-ghost use Rattle.aig_bench.specs.state.Current.{IsLaidOut};
-ghost use Rattle.aig_bench.specs.state.Engine.{IsIdle};
-ghost use Rattle.aig_bench.specs.state.Pending.{HasLists, AreFanouts};
 ghost use Rattle.aig_bench.specs.state.Steps.{frame_work, report_of, PutsSource, Settles, SettlesLevels};
-ghost use Rattle.aig_bench.specs.state.Sweep.{IsWork, waiting};
+ghost use Rattle.aig_bench.specs.state.Sweep.{waiting};
 
-use crate::buckets::Buckets;
 use crate::edit::EditReport;
 use crate::engine::Engine;
-use crate::latches::{LatchList, LatchReaders};
-use crate::setup::Setup;
-use aig_base::{Levels, Memory, Readers, Tern};
+use aig_base::Tern;
 use aig_values::Grid;
-use std::alloc::Global;
-
-/// Who reads whom, and the levels.
-#[derive(Drop)]
-pub struct Fanouts {
-    pub levels: Levels,
-    /// For each variable the gates that read it.
-    pub readers: Readers,
-    /// For each variable the latches that read it.
-    pub latches: LatchReaders,
-}
-
-/// What a propagation has still to look at. It takes memory when it is made and when the circuit grows, and else none.
-#[derive(Drop)]
-pub struct Pending {
-    /// The gates of the frame in hand that wait for their evaluation.
-    pub buckets: Buckets,
-    /// The latches that are carried into the frame in hand.
-    pub here: LatchList,
-    /// The latches that are carried into the next frame.
-    pub ahead: LatchList,
-}
 
 /// Counts one more evaluation.
 fn count(report: &mut EditReport, changed: bool)
@@ -70,7 +40,7 @@ impl<G: Grid> Engine<G> {
         ensures settles { SettlesLevels frame level level self.old self.new (report_of result) }
     {
         let variable = self.pending.buckets.take(level)?;
-        let gate = self.setup.circuit.gate_of(variable)?;
+        let gate = self.driven.circuit.gate_of(variable)?;
         let changed = self.grid.evaluate(frame, gate);
         if changed {
             let readers = self.fanouts.readers.list(variable);
@@ -141,25 +111,4 @@ impl<G: Grid> Engine<G> {
                 .list_all(variable, &mut self.pending.ahead);
         }
     }
-}
-
-/// What a propagation works on, for a setup, where nothing is to be looked at.
-pub fn make_pending(alloc: Global, setup: &Setup, fanouts: &Fanouts) -> Result<Pending, Memory>
-    requires setup { IsSetup setup.now }
-    requires fanouts { AreFanouts setup.now.circuit fanouts.now }
-    ensures work { IfOk result (λ w. (flags : List Bool) (cells : List (List ternary.Tern))
-        → IsLaidOut setup.now flags cells
-        → IsWork setup.now fanouts.now flags cells w.buckets) }
-    ensures lists { IfOk result (λ w. HasLists setup.now fanouts.now w) }
-    ensures quiet { IfOk result (λ w. IsIdle w.buckets.marks.items w.here.marks.items w.ahead.marks.items) }
-{
-    let latches = setup.circuit.latches().len();
-    let buckets = Buckets::new(alloc, setup.circuit.max_var())?;
-    let here = LatchList::new(alloc, latches)?;
-    let ahead = LatchList::new(alloc, latches)?;
-    Ok(Pending {
-        buckets,
-        here,
-        ahead,
-    })
 }

@@ -1,13 +1,12 @@
 //! Values by the cells of a grid.
-ghost use Rattle.std.specs.Prelude.{◌≡◌, ℕ, ◌+◌, ◌<◌, ◌≤◌, length, Some, slice_get};
+ghost use Rattle.std.specs.Prelude.{◌≡◌, ℕ, ◌*◌, ◌<◌, length, Some, slice_get};
 ghost use Rattle.aig_parts.specs.Literal.{variable};
 ghost use Rattle.aig_grids.specs.Cells.{literal_value};
 ghost use Rattle.aig_grids.specs.InputRows.{row_at};
 ghost use Rattle.aig_bench.specs.Pair.{HasValue};
-ghost use Rattle.aig_bench.specs.state.Setup.{pair_of, IsSetup};
-ghost use Rattle.aig_bench.specs.state.Current.{IsLaidOut, IsCurrentBefore};
+ghost use Rattle.aig_bench.specs.state.Current.{IsCurrentBefore};
 
-use crate::setup::Setup;
+use crate::engine::Engine;
 use aig_base::{Latch, Lit, Tern};
 use aig_values::{Grid, first_value};
 
@@ -21,18 +20,19 @@ pub fn literal_at<G: Grid>(grid: &G, frame: u32, literal: Lit) -> Tern
     if literal.is_neg() { cell.not() } else { cell }
 }
 
-/// The value of a latch at a frame, by its reset or by the frame before.
-pub fn latch_value<G: Grid>(grid: &G, setup: &Setup, frame: u32, latch: Latch) -> Tern
-    requires setup { IsSetup setup.now }
-    requires grid { IsLaidOut setup.now (G.gate_flags grid.now) (G.cells grid.now) }
-    requires frame { frame < length setup.now.stimulus.rows }
-    requires before { IsCurrentBefore (pair_of setup.now) frame (G.cells grid.now) }
-    requires latch { (i : ℕ) × (slice_get setup.now.circuit.latches i ≡ Some latch) }
-    ensures { HasValue (pair_of setup.now) frame latch.lit result }
-{
-    if frame == 0 {
-        first_value(latch)
-    } else {
-        literal_at(grid, frame - 1, latch.next)
+impl<G: Grid> Engine<G> {
+    /// The value of a latch at a frame, by its reset or by the frame before.
+    pub fn latch_value(&self, frame: u32, latch: Latch) -> Tern
+        requires frame { frame < length self.now.pair.rows }
+        requires before { IsCurrentBefore self.now.pair frame self.now.cells }
+        requires latch { (i : ℕ) × (slice_get self.now.pair.circuit.latches i ≡ Some latch) }
+        ensures value { HasValue self.now.pair frame (2 * variable latch.lit) result }
+        ensures positive { 0 < variable latch.lit }
+    {
+        if frame == 0 {
+            first_value(latch)
+        } else {
+            literal_at(&self.grid, frame - 1, latch.next)
+        }
     }
 }

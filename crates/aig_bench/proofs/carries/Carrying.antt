@@ -15,8 +15,8 @@ use Rattle.aig_base.proofs.circuits.Circuits.{gate_definition, gate_in_range}
 use Rattle.aig_base.proofs.circuits.Gates.{gate_of, level_of_gate}
 use Rattle.aig_grids.specs.InputRows.{row_at}
 use Rattle.aig_bench.specs.declared.buckets.Buckets.{Buckets}
-use Rattle.aig_bench.specs.declared.setup.Setup.{Setup}
-use Rattle.aig_bench.specs.declared.settle.Fanouts.{Fanouts}
+use Rattle.aig_bench.specs.declared.driven_circuit.DrivenCircuit.{DrivenCircuit}
+use Rattle.aig_bench.specs.declared.fanouts.Fanouts.{Fanouts}
 use Rattle.aig_bench.specs.state.Buckets.{AreBuckets, Fits, Links}
 use Rattle.aig_bench.specs.state.Renewed.{Renewed}
 use Rattle.aig_bench.specs.Pair.{Pair, HasValue}
@@ -95,7 +95,7 @@ pub before_kept : (p : Pair) (t : ℕ) (cells cells' : List (List Tern)) → IsC
 before_kept p t cells cells' h others u e =
     let ne : u ≢ t = λ k. omega arith in subst (IsCurrentRow p u) (sym (others u ne)) (h u e)
 
--- behind renewed frames the row before is current
+-- after renewed frames the row before is current
 pub before_here : (p : Pair) (forced : List ℕ) (first t e c : ℕ) (old new : List (List Tern))
     → Renewed p forced first t old new e c → first ≤ t → IsCurrentBefore p first old → IsCurrentBefore p t new
 before_here p forced first t e c old new h le before u is = elim (cases_eq t first) [
@@ -113,24 +113,24 @@ entering_forced p t forced row sound marks marks' clear waits =
       λ k. (waits u).1 (inr k),
     ))
 
-module _ (setup : Setup) (fanouts : Fanouts) (flags : List Bool) (cells : List (List Tern)) (b : Buckets) (work : IsWork setup fanouts flags cells b) where
+module _ (driven : DrivenCircuit) (fanouts : Fanouts) (flags : List Bool) (cells : List (List Tern)) (b : Buckets) (work : IsWork driven fanouts flags cells b) where
   -- a gate can wait
-  pub gate_fits : (v : ℕ) → IsGate setup.circuit v → Fits fanouts.levels (length b.head.items) v
+  pub gate_fits : (v : ℕ) → IsGate driven.circuit v → Fits fanouts.levels (length b.head.items) v
   gate_fits v h =
-      let (g, q, at, is) = gate_of setup.circuit v h in
-      let d = gate_definition setup.circuit work.setup_is.circuit.sound q g at in
-      let k = gate_in_range setup.circuit work.setup_is.circuit.sound q g at in
+      let (g, q, at, is) = gate_of driven.circuit v h in
+      let d = gate_definition driven.circuit work.driven_is.circuit.sound q g at in
+      let k = gate_in_range driven.circuit work.driven_is.circuit.sound q g at in
       record {
         positive = omega arith;
         inside = omega (arith, work.levels.size);
         level = λ m stands. work.heads v m h
-            (level_of_gate setup.circuit fanouts.levels v m work.levels work.setup_is.circuit.acyclic h stands);
+            (level_of_gate driven.circuit fanouts.levels v m work.levels work.driven_is.circuit.acyclic h stands);
       }
 
-  pub gates_linked : (xs : List ℕ) → ((v : ℕ) → Contains xs v → IsGate setup.circuit v) → (b' : Buckets)
-      → AreBuckets fanouts.levels b' → Links (Contains xs) b b' → IsWork setup fanouts flags cells b'
+  pub gates_linked : (xs : List ℕ) → ((v : ℕ) → Contains xs v → IsGate driven.circuit v) → (b' : Buckets)
+      → AreBuckets fanouts.levels b' → Links (Contains xs) b b' → IsWork driven fanouts flags cells b'
   gates_linked xs are_gates b' are links = record {
-    setup_is = work.setup_is;
+    driven_is = work.driven_is;
     laid_out = work.laid_out;
     levels = work.levels;
     readers = work.readers;

@@ -4,14 +4,14 @@ use Rattle.aig_parts.specs.declared.ternary.Tern.{Tern}
 use Rattle.aig_parts.specs.Literal.{variable}
 use Rattle.aig_grids.specs.InputRows.{row_at}
 use Rattle.aig_bench.specs.declared.buckets.Buckets.{Buckets}
-use Rattle.aig_bench.specs.declared.setup.Setup.{Setup}
-use Rattle.aig_bench.specs.declared.settle.Fanouts.{Fanouts}
+use Rattle.aig_bench.specs.declared.driven_circuit.DrivenCircuit.{DrivenCircuit}
+use Rattle.aig_bench.specs.declared.fanouts.Fanouts.{Fanouts}
 use Rattle.aig_bench.specs.state.Buckets.{Waits}
 use Rattle.aig_bench.specs.state.Current.{Holds, HoldsLatches}
 use Rattle.aig_bench.specs.state.Entry.{Rests}
 use Rattle.aig_bench.specs.state.Passing.{IsConsistent}
 use Rattle.aig_bench.specs.state.Pending.{IsNextRow}
-use Rattle.aig_bench.specs.state.Setup.{pair_of}
+use Rattle.aig_bench.specs.state.DrivenCircuit.{pair_of}
 use Rattle.aig_bench.specs.state.Renewed.{Renewed}
 use Rattle.aig_bench.specs.state.Sweep.{IsWork, Ends}
 use Rattle.aig_bench.proofs.carries.Carrying.{carries_none, started}
@@ -21,14 +21,14 @@ use Rattle.aig_bench.proofs.renewals.RenewalLemmas.{renewed_none, renewed_one, r
 use Rattle.aig_bench.proofs.passes.SweepEnds.{ended}
 use Rattle.aig_bench.proofs.passes.Sweeps.{sweeps_none, sweeps_far}
 
-module _ (setup : Setup) (fanouts : Fanouts) (flags : List Bool) (cells : List (List Tern)) (b : Buckets)
-    (work : IsWork setup fanouts flags cells b) (empty : (v : ℕ) → Waits b v → ⊥) where
+module _ (driven : DrivenCircuit) (fanouts : Fanouts) (flags : List Bool) (cells : List (List Tern)) (b : Buckets)
+    (work : IsWork driven fanouts flags cells b) (empty : (v : ℕ) → Waits b v → ⊥) where
   -- where all sources have their values and nothing waits, a pass has ended
-  quiet_frame : (t : ℕ) (row : List Tern) → IsConsistent (pair_of setup) (Contains []) row → Rests (pair_of setup) t row []
-      → HoldsLatches (pair_of setup) t row → Ends (pair_of setup) t (Contains []) row row b.marks.items 0 0
+  quiet_frame : (t : ℕ) (row : List Tern) → IsConsistent (pair_of driven) (Contains []) row → Rests (pair_of driven) t row []
+      → HoldsLatches (pair_of driven) t row → Ends (pair_of driven) t (Contains []) row row b.marks.items 0 0
   quiet_frame t row fits rest latches =
-      let p = pair_of setup in
-      let sound = work.setup_is.circuit.sound in
+      let p = pair_of driven in
+      let sound = work.driven_is.circuit.sound in
       let marks = b.marks.items in
       let none : ℕ → Type 0 = λ i. ⊥ in
       let entering = entering_none p t (Contains []) row sound marks (λ u. (
@@ -37,47 +37,47 @@ module _ (setup : Setup) (fanouts : Fanouts) (flags : List Bool) (cells : List (
       )) in
       let start = started p t sound none [] row row row marks marks [] (λ i x at. inr (latches i x at))
       (carries_none p t sound none row marks (λ i k. k)) entering rest in
-      ended setup fanouts flags cells b t (length b.head.items) 0 0 [] row row row marks work (omega arith) fits start
+      ended driven fanouts flags cells b t (length b.head.items) 0 0 [] row row row marks work (omega arith) fits start
       (sweeps_far p t fanouts.levels 0 0 (length b.head.items) row row marks marks 0 0 work.levels (sweeps_none p t 0 row marks)
       (omega arith) (λ u l m at ge lt. empty u m))
 
   module _ (n : ℕ) (rows : List (List Tern)) (first : ℕ)
-      (fits : (t : ℕ) → first ≤ t → t < n → IsConsistent (pair_of setup) (Contains []) (row_at rows t)
-      × Rests (pair_of setup) t (row_at rows t) [])
-      (next : (t : ℕ) → first ≤ t → suc t < n → IsNextRow setup.circuit (row_at rows t) (row_at rows (suc t))) where
+      (fits : (t : ℕ) → first ≤ t → t < n → IsConsistent (pair_of driven) (Contains []) (row_at rows t)
+      × Rests (pair_of driven) t (row_at rows t) [])
+      (next : (t : ℕ) → first ≤ t → suc t < n → IsNextRow driven.circuit (row_at rows t) (row_at rows (suc t))) where
     -- from a frame on at which all latches have their values
-    pub quiet : (k t : ℕ) → t + k ≡ n → first ≤ t → (t < n → HoldsLatches (pair_of setup) t (row_at rows t))
-        → Renewed (pair_of setup) [] t n rows rows 0 0
+    pub quiet : (k t : ℕ) → t + k ≡ n → first ≤ t → (t < n → HoldsLatches (pair_of driven) t (row_at rows t))
+        → Renewed (pair_of driven) [] t n rows rows 0 0
     quiet zero t e le latches =
         let same : t ≡ n = omega arith in
-        subst (λ (m : ℕ). Renewed (pair_of setup) [] t m rows rows 0 0) same (renewed_none (pair_of setup) [] t rows)
+        subst (λ (m : ℕ). Renewed (pair_of driven) [] t m rows rows 0 0) same (renewed_none (pair_of driven) [] t rows)
     quiet (suc k) t e le latches =
         let lt : t < n = omega arith in
         let f = fits t le lt in
         let ends = quiet_frame t (row_at rows t) f.0 f.1 (latches lt) in
-        let one = renewed_one (pair_of setup) [] t 0 0 rows rows b.marks.items (λ u ne. refl) ends in
+        let one = renewed_one (pair_of driven) [] t 0 0 rows rows b.marks.items (λ u ne. refl) ends in
         let rest = quiet k (t + 1) (omega arith) (omega arith) (λ more i x at.
         let less : suc t < n = omega arith in
         let is : suc t ≡ t + 1 = omega arith in
-        subst (λ (m : ℕ). Holds (pair_of setup) m (row_at rows m) (variable x.lit)) is
-        (latch_next_holds (pair_of setup) t work.setup_is.circuit.sound (row_at rows t) (row_at rows (suc t)) i x at
+        subst (λ (m : ℕ). Holds (pair_of driven) m (row_at rows m) (variable x.lit)) is
+        (latch_next_holds (pair_of driven) t work.driven_is.circuit.sound (row_at rows t) (row_at rows (suc t)) i x at
         ends.current (next t le less i x at))) in
-        renewed_join (pair_of setup) [] t (t + 1) n 0 0 0 0 rows rows rows (omega arith) (omega arith) one rest
+        renewed_join (pair_of driven) [] t (t + 1) n 0 0 0 0 rows rows rows (omega arith) (omega arith) one rest
 
   -- frames were renewed, and nothing is carried into the next one: all that are left stay
   pub stopped : (n first t e c : ℕ) (forced : List ℕ) (old new : List (List Tern)) → length forced ≡ 0
-      → Renewed (pair_of setup) forced first t old new e c → first ≤ t → t ≤ n
-      → ((u : ℕ) → first ≤ u → u < n → IsConsistent (pair_of setup) (Contains forced) (row_at old u)
-      × Rests (pair_of setup) u (row_at old u) [])
-      → ((u : ℕ) → first ≤ u → suc u < n → IsNextRow setup.circuit (row_at old u) (row_at old (suc u)))
-      → (t < n → HoldsLatches (pair_of setup) t (row_at new t)) → Renewed (pair_of setup) forced first n old new e c
+      → Renewed (pair_of driven) forced first t old new e c → first ≤ t → t ≤ n
+      → ((u : ℕ) → first ≤ u → u < n → IsConsistent (pair_of driven) (Contains forced) (row_at old u)
+      × Rests (pair_of driven) u (row_at old u) [])
+      → ((u : ℕ) → first ≤ u → suc u < n → IsNextRow driven.circuit (row_at old u) (row_at old (suc u)))
+      → (t < n → HoldsLatches (pair_of driven) t (row_at new t)) → Renewed (pair_of driven) forced first n old new e c
   stopped n first t e c [] old new size r le end fits next latches =
-      let p = pair_of setup in
+      let p = pair_of driven in
       let kept : (u : ℕ) → t ≤ u → row_at old u ≡ row_at new u = λ u over. sym (r.others u (inr over)) in
       let rest = quiet n new t (λ u over lt. subst (λ (row : List Tern). IsConsistent p (Contains []) row × Rests p u row [])
       (kept u over) (fits u (omega arith) lt))
-      (λ u over lt. subst (λ (row : List Tern). IsNextRow setup.circuit row (row_at new (suc u))) (kept u over)
-      (subst (λ (row : List Tern). IsNextRow setup.circuit (row_at old u) row) (kept (suc u) (omega arith))
+      (λ u over lt. subst (λ (row : List Tern). IsNextRow driven.circuit row (row_at new (suc u))) (kept u over)
+      (subst (λ (row : List Tern). IsNextRow driven.circuit (row_at old u) row) (kept (suc u) (omega arith))
       (next u (omega arith) lt))) (n - t) t (omega arith) (omega arith) latches in
       let e0 : e + 0 ≡ e = omega arith in
       let c0 : c + 0 ≡ c = omega arith in

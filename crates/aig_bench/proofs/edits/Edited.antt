@@ -25,19 +25,19 @@ use Rattle.aig_base.proofs.lists.Positions.{Contains-cons}
 use Rattle.aig_base.proofs.values.UniqueValue.{unique}
 use Rattle.aig_grids.specs.InputRows.{InputRows, row_at, with_cell, HaveWidth}
 use Rattle.aig_bench.specs.declared.buckets.Buckets.{Buckets}
-use Rattle.aig_bench.specs.declared.setup.Setup.{Setup}
-use Rattle.aig_bench.specs.declared.settle.Fanouts.{Fanouts}
+use Rattle.aig_bench.specs.declared.driven_circuit.DrivenCircuit.{DrivenCircuit}
+use Rattle.aig_bench.specs.declared.fanouts.Fanouts.{Fanouts}
 use Rattle.aig_bench.specs.state.Buckets.{AreBuckets, IsChain, HasChain, Waits}
 use Rattle.aig_grids.specs.Cells.{literal_value}
 use Rattle.aig_bench.specs.state.Current.{IsLaidOut, Holds, HoldsLatches, IsCurrentRow, IsCurrentBefore, AreCurrent, IsBench}
 use Rattle.aig_bench.specs.Edit.{Edit, edited, set_bit, rewire, set_reset, add_frame, drop_frame}
-use Rattle.aig_bench.specs.declared.settle.Pending.{Pending}
+use Rattle.aig_bench.specs.declared.pending.Pending.{Pending}
 use Rattle.aig_bench.specs.state.Latches.{AreLatchReaders, IsLatchAt}
 use Rattle.aig_bench.specs.state.Pending.{HasLists, IsNextRow}
 use Rattle.aig_bench.specs.state.Entry.{LatchesRest, Rests}
 use Rattle.aig_bench.specs.Pair.{Pair, HasValue}
 use Rattle.aig_bench.specs.state.Passing.{Differs, IsConsistent}
-use Rattle.aig_bench.specs.state.Setup.{IsSetup, pair_of}
+use Rattle.aig_bench.specs.state.DrivenCircuit.{IsDriven, pair_of}
 use Rattle.aig_bench.specs.state.Renewed.{IsBetween, IsTouchedCell, IsChangedCell, Renewed}
 use Rattle.aig_bench.specs.state.Sweep.{IsWork, IsWorking}
 use Rattle.aig_bench.specs.Touched.{HasOther, IsForced, Touches, Changes, AreCells}
@@ -80,13 +80,13 @@ buckets_empty levels levels' b h size empty = record {
   occupied = h.occupied;
 }
 
--- empty buckets serve another setup of the same size
-pub work_for : (setup new : Setup) (fanouts fanouts' : Fanouts) (flags flags' : List Bool) (cells cells' : List (List Tern)) (b : Buckets)
-    → IsWork setup fanouts flags cells b → ((v : ℕ) → Waits b v → ⊥) → new.circuit.max_var ≡ setup.circuit.max_var → IsSetup new
+-- empty buckets serve another driven of the same size
+pub work_for : (driven new : DrivenCircuit) (fanouts fanouts' : Fanouts) (flags flags' : List Bool) (cells cells' : List (List Tern)) (b : Buckets)
+    → IsWork driven fanouts flags cells b → ((v : ℕ) → Waits b v → ⊥) → new.circuit.max_var ≡ driven.circuit.max_var → IsDriven new
     → IsLaidOut new flags' cells' → AreLevels new.circuit fanouts'.levels → AreReaders new.circuit fanouts'.readers
     → IsWork new fanouts' flags' cells' b
-work_for setup new fanouts fanouts' flags flags' cells cells' b w empty size p laid_out levels readers = record {
-  setup_is = p;
+work_for driven new fanouts fanouts' flags flags' cells cells' b w empty size p laid_out levels readers = record {
+  driven_is = p;
   laid_out = laid_out;
   levels = levels;
   readers = readers;
@@ -337,49 +337,49 @@ current_more p n old new h row others = record {
 pub none_current : (p : Pair) (cells : List (List Tern)) → AreCurrent p 0 cells
 none_current p cells = record { each = λ t lt. absurd (omega arith) }
 
-pub working : (setup : Setup) (fanouts : Fanouts) (b : Buckets) (flags : List Bool) (cells : List (List Tern))
-    → IsWork setup fanouts flags cells b → ((v : ℕ) → Waits b v → ⊥) → AreCurrent (pair_of setup) (length setup.stimulus.rows) cells
-    → IsWorking setup fanouts b flags cells
-working setup fanouts b flags cells w empty now = record {
-  bench = record { setup_is = w.setup_is; laid_out = w.laid_out; current = now };
+pub working : (driven : DrivenCircuit) (fanouts : Fanouts) (b : Buckets) (flags : List Bool) (cells : List (List Tern))
+    → IsWork driven fanouts flags cells b → ((v : ℕ) → Waits b v → ⊥) → AreCurrent (pair_of driven) (length driven.stimulus.rows) cells
+    → IsWorking driven fanouts b flags cells
+working driven fanouts b flags cells w empty now = record {
+  bench = record { driven_is = w.driven_is; laid_out = w.laid_out; current = now };
   work = w;
   empty = empty;
 }
 
 -- a bit that is replaced
-module _ (setup : Setup) (fanouts : Fanouts) (b : Buckets) (flags : List Bool) (cells : List (List Tern)) (s : InputRows)
-    (f i : ℕ) (w : Tern) (h : IsWorking setup fanouts b flags cells)
-    (e : s ≡ record setup.stimulus { rows = with_cell setup.stimulus.rows f i w })
-    (frame : f < length setup.stimulus.rows) where
+module _ (driven : DrivenCircuit) (fanouts : Fanouts) (b : Buckets) (flags : List Bool) (cells : List (List Tern)) (s : InputRows)
+    (f i : ℕ) (w : Tern) (h : IsWorking driven fanouts b flags cells)
+    (e : s ≡ record driven.stimulus { rows = with_cell driven.stimulus.rows f i w })
+    (frame : f < length driven.stimulus.rows) where
   abbrev p : Pair
-  p = pair_of setup
+  p = pair_of driven
 
-  abbrev new : Setup
-  new = record setup { stimulus = s }
+  abbrev new : DrivenCircuit
+  new = record driven { stimulus = s }
 
   abbrev p' : Pair
   p' = pair_of new
 
-  sound : IsSound setup.circuit
-  sound = h.work.setup_is.circuit.sound
+  sound : IsSound driven.circuit
+  sound = h.work.driven_is.circuit.sound
 
-  rows_are : s.rows ≡ with_cell setup.stimulus.rows f i w
+  rows_are : s.rows ≡ with_cell driven.stimulus.rows f i w
   rows_are = ap (λ (x : InputRows). x.rows) e
 
-  pub bit_frames : length s.rows ≡ length setup.stimulus.rows
-  bit_frames = ap length rows_are ∙ frames_written setup.stimulus.rows f i w
+  pub bit_frames : length s.rows ≡ length driven.stimulus.rows
+  bit_frames = ap length rows_are ∙ frames_written driven.stimulus.rows f i w
 
-  row_kept : (t : ℕ) → t ≢ f → row_at s.rows t ≡ row_at setup.stimulus.rows t
-  row_kept t ne = ap (λ (rows : List (List Tern)). row_at rows t) rows_are ∙ row_other setup.stimulus.rows f i w t ne
+  row_kept : (t : ℕ) → t ≢ f → row_at s.rows t ≡ row_at driven.stimulus.rows t
+  row_kept t ne = ap (λ (rows : List (List Tern)). row_at rows t) rows_are ∙ row_other driven.stimulus.rows f i w t ne
 
-  get_kept : (t : ℕ) → t < f → slice_get s.rows t ≡ slice_get setup.stimulus.rows t
+  get_kept : (t : ℕ) → t < f → slice_get s.rows t ≡ slice_get driven.stimulus.rows t
   get_kept t lt = ap (λ (rows : List (List Tern)). slice_get rows t) rows_are
-      ∙ get_set_other setup.stimulus.rows f t _ (λ k. omega arith)
+      ∙ get_set_other driven.stimulus.rows f t _ (λ k. omega arith)
 
-  bit_kept : (j : ℕ) → j ≢ i → slice_get (row_at s.rows f) j ≡ slice_get (row_at setup.stimulus.rows f) j
+  bit_kept : (j : ℕ) → j ≢ i → slice_get (row_at s.rows f) j ≡ slice_get (row_at driven.stimulus.rows f) j
   bit_kept j ne = ap (λ (rows : List (List Tern)). slice_get (row_at rows f) j) rows_are
-      ∙ ap (λ (row : List Tern). slice_get row j) (row_written setup.stimulus.rows f i w frame)
-      ∙ get_set_other (row_at setup.stimulus.rows f) i j w ne
+      ∙ ap (λ (row : List Tern). slice_get row j) (row_written driven.stimulus.rows f i w frame)
+      ∙ get_set_other (row_at driven.stimulus.rows f) i j w ne
 
   follows : Follows p p' []
   follows = record {
@@ -392,12 +392,12 @@ module _ (setup : Setup) (fanouts : Fanouts) (b : Buckets) (flags : List Bool) (
     latches = λ j x at. (x, at, refl, refl);
   }
 
-  widths : HaveWidth (length setup.circuit.inputs) setup.stimulus.rows
-  widths = subst (λ (n : ℕ). HaveWidth n setup.stimulus.rows) h.work.setup_is.width h.work.setup_is.widths
+  widths : HaveWidth (length driven.circuit.inputs) driven.stimulus.rows
+  widths = subst (λ (n : ℕ). HaveWidth n driven.stimulus.rows) h.work.driven_is.width h.work.driven_is.widths
 
   -- the rows before the frame of the bit
   pub bit_below : AreCurrent p' f cells
-  bit_below = current_below p (length setup.stimulus.rows) f s.rows cells cells h.bench.current (omega arith) get_kept (λ t lt. refl)
+  bit_below = current_below p (length driven.stimulus.rows) f s.rows cells cells h.bench.current (omega arith) get_kept (λ t lt. refl)
 
   pub bit_before : IsCurrentBefore p' f cells
   bit_before = before_first p' f cells bit_below
@@ -405,7 +405,7 @@ module _ (setup : Setup) (fanouts : Fanouts) (b : Buckets) (flags : List Bool) (
   pub bit_consistent : (t : ℕ) → f ≤ t → t < length s.rows → IsConsistent p' (Contains []) (row_at cells t)
   bit_consistent t le lt = consistent_at p p' [] follows sound sound widths cells h.bench.current t (omega (arith, bit_frames))
 
-  pub bit_next : (t : ℕ) → f ≤ t → suc t < length s.rows → IsNextRow setup.circuit (row_at cells t) (row_at cells (suc t))
+  pub bit_next : (t : ℕ) → f ≤ t → suc t < length s.rows → IsNextRow driven.circuit (row_at cells t) (row_at cells (suc t))
   bit_next t le lt = next_rows p p' [] follows sound sound widths cells h.bench.current t (omega (arith, bit_frames))
 
   -- no latch has another value at the frame of the bit
@@ -418,14 +418,14 @@ module _ (setup : Setup) (fanouts : Fanouts) (b : Buckets) (flags : List Bool) (
           latch_next_holds p' u sound (row_at cells u) (row_at cells (suc u)) j x at (bit_before u (sym e))
           (next_rows p p' [] follows sound sound widths cells h.bench.current u (omega arith) j x at)
 
-  pub bit_here : (l : ℕ) → slice_get setup.circuit.inputs i ≡ Some l → Rests p' f (row_at cells f) (variable l ∷ [])
+  pub bit_here : (l : ℕ) → slice_get driven.circuit.inputs i ≡ Some l → Rests p' f (row_at cells f) (variable l ∷ [])
   bit_here l at = rests p p' [] follows sound sound widths cells h.bench.current f (variable l ∷ []) frame
       (h.work.laid_out.rows_are.constants f frame)
       (λ j m stands out. bit_kept j (λ k. out (head_is j m stands k)))
     where
-      head_is : (j m : ℕ) → slice_get setup.circuit.inputs j ≡ Some m → j ≡ i → Contains (variable l ∷ []) (variable m)
+      head_is : (j m : ℕ) → slice_get driven.circuit.inputs j ≡ Some m → j ≡ i → Contains (variable l ∷ []) (variable m)
       head_is j m stands k =
-          let same : m ≡ l = same_Some m l (sym stands ∙ ap (slice_get setup.circuit.inputs) k ∙ at) in
+          let same : m ≡ l = same_Some m l (sym stands ∙ ap (slice_get driven.circuit.inputs) k ∙ at) in
           subst (λ (n : ℕ). Contains (variable l ∷ []) (variable n)) (sym same) (head_in (variable l) [])
 
   pub bit_behind : (t : ℕ) → f < t → t < length s.rows → Rests p' t (row_at cells t) []
@@ -452,60 +452,60 @@ module _ (setup : Setup) (fanouts : Fanouts) (b : Buckets) (flags : List Bool) (
         (no_other p s.rows f sound get_kept) cells' ev ch r
 
 -- another circuit for the same rows
-module _ (setup new : Setup) (fanouts : Fanouts) (b : Buckets) (flags : List Bool) (cells : List (List Tern)) (forced : List ℕ)
-    (h : IsWorking setup fanouts b flags cells) (follows : Follows (pair_of setup) (pair_of new) forced)
-    (sound' : IsSound new.circuit) (rows : new.stimulus.rows ≡ setup.stimulus.rows) where
+module _ (driven new : DrivenCircuit) (fanouts : Fanouts) (b : Buckets) (flags : List Bool) (cells : List (List Tern)) (forced : List ℕ)
+    (h : IsWorking driven fanouts b flags cells) (follows : Follows (pair_of driven) (pair_of new) forced)
+    (sound' : IsSound new.circuit) (rows : new.stimulus.rows ≡ driven.stimulus.rows) where
   abbrev n : ℕ
   n = length new.stimulus.rows
 
-  size : n ≡ length setup.stimulus.rows
+  size : n ≡ length driven.stimulus.rows
   size = ap length rows
 
-  wide : HaveWidth (length setup.circuit.inputs) setup.stimulus.rows
-  wide = subst (λ (k : ℕ). HaveWidth k setup.stimulus.rows) h.work.setup_is.width h.work.setup_is.widths
+  wide : HaveWidth (length driven.circuit.inputs) driven.stimulus.rows
+  wide = subst (λ (k : ℕ). HaveWidth k driven.stimulus.rows) h.work.driven_is.width h.work.driven_is.widths
 
   pub all_consistent : (t : ℕ) → 0 ≤ t → t < n
       → IsConsistent (pair_of new) (Contains forced) (row_at cells t) × Rests (pair_of new) t (row_at cells t) []
   all_consistent t le lt =
-      let inside : t < length setup.stimulus.rows = omega (arith, size) in
-      let sound = h.work.setup_is.circuit.sound in (
-        consistent_at (pair_of setup) (pair_of new) forced follows sound sound' wide cells h.bench.current t inside,
-        rests (pair_of setup) (pair_of new) forced follows sound sound' wide cells h.bench.current t [] inside
+      let inside : t < length driven.stimulus.rows = omega (arith, size) in
+      let sound = h.work.driven_is.circuit.sound in (
+        consistent_at (pair_of driven) (pair_of new) forced follows sound sound' wide cells h.bench.current t inside,
+        rests (pair_of driven) (pair_of new) forced follows sound sound' wide cells h.bench.current t [] inside
             (h.work.laid_out.rows_are.constants t inside)
             (λ i l at out. ap (λ (rs : List (List Tern)). slice_get (row_at rs t) i) rows),
       )
 
   pub all_next : (t : ℕ) → 0 ≤ t → suc t < n → IsNextRow new.circuit (row_at cells t) (row_at cells (suc t))
   all_next t le lt =
-      next_rows (pair_of setup) (pair_of new) forced follows h.work.setup_is.circuit.sound sound' wide cells h.bench.current t
+      next_rows (pair_of driven) (pair_of new) forced follows h.work.driven_is.circuit.sound sound' wide cells h.bench.current t
       (omega (arith, size))
 
   -- latches that start as before are not carried into the first frame
   pub all_latches : (marks : List Bool) → ((i : ℕ) (x : Latch) → slice_get new.circuit.latches i ≡ Some x
       → (IsMarked marks (suc i) → ⊥)
-      → (y : Latch) × (slice_get setup.circuit.latches i ≡ Some y) × (y.lit ≡ x.lit) × (y.reset ≡ x.reset))
+      → (y : Latch) × (slice_get driven.circuit.latches i ≡ Some y) × (y.lit ≡ x.lit) × (y.reset ≡ x.reset))
       → 0 < n → LatchesRest (pair_of new) 0 (row_at cells 0) marks
   all_latches marks same lt i x at out =
       let (y, was, lit, reset) = same i x at out in
-      first_holds (pair_of setup) (pair_of new) forced follows h.work.setup_is.circuit.sound sound' wide cells h.bench.current i x y
+      first_holds (pair_of driven) (pair_of new) forced follows h.work.driven_is.circuit.sound sound' wide cells h.bench.current i x y
       at was lit reset (omega (arith, size))
 
-  module _ (e : Edit) (is : pair_of new ≡ edited (pair_of setup) e)
-      (forces : (t v : ℕ) → IsForced (pair_of setup) e t v ↔ ((t < length setup.stimulus.rows) × Contains forced v))
+  module _ (e : Edit) (is : pair_of new ≡ edited (pair_of driven) e)
+      (forces : (t v : ℕ) → IsForced (pair_of driven) e t v ↔ ((t < length driven.stimulus.rows) × Contains forced v))
       (gates : (v : ℕ) → Contains forced v → IsGate new.circuit v) (ev ch : ℕ) (cells' : List (List Tern))
       (r : Renewed (pair_of new) forced 0 n cells cells' ev ch) where
-    forces_all : (t v : ℕ) → IsForced (pair_of setup) e t v ↔ (IsBetween 0 n t × Contains forced v)
+    forces_all : (t v : ℕ) → IsForced (pair_of driven) e t v ↔ (IsBetween 0 n t × Contains forced v)
     forces_all t v = (
       λ k. let (lt, i) = (forces t v).0 k in ((omega arith, omega (arith, size)), i),
       λ k. (forces t v).1 (omega (arith, size, k.0.1), k.1),
     )
 
-    pub all_touched : AreCells (Touches (pair_of setup) e) ev
-    all_touched = touched_cells (pair_of setup) (pair_of new) forced follows h.work.setup_is.circuit.sound sound' wide cells
+    pub all_touched : AreCells (Touches (pair_of driven) e) ev
+    all_touched = touched_cells (pair_of driven) (pair_of new) forced follows h.work.driven_is.circuit.sound sound' wide cells
         h.bench.current e is 0 n size forces_all gates (λ t v lt. absurd (omega arith)) cells' ev ch r
 
-    pub all_changed : AreCells (Changes (pair_of setup) e) ch
-    all_changed = changed_cells (pair_of setup) (pair_of new) forced follows h.work.setup_is.circuit.sound sound' wide cells
+    pub all_changed : AreCells (Changes (pair_of driven) e) ch
+    all_changed = changed_cells (pair_of driven) (pair_of new) forced follows h.work.driven_is.circuit.sound sound' wide cells
         h.bench.current e is 0 n size forces_all gates (λ t v lt. absurd (omega arith)) cells' ev ch r
 
 same_lit : (lit : ℕ) (w : Tern) (xs : List Latch) → map (λ x. x.lit) (map (restarted lit w) xs) ≡ map (λ x. x.lit) xs
@@ -520,19 +520,19 @@ same_latch : (raw : Raw) → IsSound raw → (i k : ℕ) (y z : Latch) → slice
 same_latch raw s i k y z at stands e =
     let same = places.same_place raw s (places.latch i) (places.latch k) y.lit (y, at, refl) (z, stands, sym e) in cc
 
-pub follows_reset : (setup : Setup) (c : Raw) (lit : ℕ) (w : Tern) → c ≡ with_reset setup.circuit lit w
-    → Follows (pair_of setup) (pair_of (record setup { circuit = c })) []
-follows_reset setup c lit w e =
-    subst (λ (x : Raw). Follows (pair_of setup) (pair_of (record setup { circuit = x })) []) (sym e)
+pub follows_reset : (driven : DrivenCircuit) (c : Raw) (lit : ℕ) (w : Tern) → c ≡ with_reset driven.circuit lit w
+    → Follows (pair_of driven) (pair_of (record driven { circuit = c })) []
+follows_reset driven c lit w e =
+    subst (λ (x : Raw). Follows (pair_of driven) (pair_of (record driven { circuit = x })) []) (sym e)
     (record {
       frames = refl;
       inputs = refl;
       gates = λ q g at. inr at;
-      defined = λ v d. subst (λ ls. Contains (0 ∷ map variable ls) v) (reset_definitions setup.circuit lit w) d;
+      defined = λ v d. subst (λ ls. Contains (0 ∷ map variable ls) v) (reset_definitions driven.circuit lit w) d;
       gate_was = λ v d. d;
       gate_now = λ v d. d;
       latches = λ i x at.
-          let (y, here, is) = latch_unmapped (restarted lit w) setup.circuit.latches i x at in
+          let (y, here, is) = latch_unmapped (restarted lit w) driven.circuit.latches i x at in
           (y, here, ap (λ (z : Latch). z.lit) is, ap (λ (z : Latch). z.next) is);
     })
 
@@ -573,21 +573,21 @@ gate_at lhs r0 r1 (z ∷ gs) zero g at = of (nat_eq z.lhs lhs) refl
     of false e = inr (sym (rw e refl) ∙ at)
 gate_at lhs r0 r1 (z ∷ gs) (suc q) g at = gate_at lhs r0 r1 gs q g at
 
-pub follows_rewire : (setup new : Setup) (lhs r0 r1 x : ℕ) → x ≡ variable lhs
-    → new.circuit ≡ with_gate setup.circuit lhs r0 r1 → new.stimulus ≡ setup.stimulus
-    → Follows (pair_of setup) (pair_of new) (x ∷ [])
-follows_rewire setup new lhs r0 r1 x ex e f =
-    let rows : new.stimulus.rows ≡ setup.stimulus.rows = ap (λ (s : InputRows). s.rows) f in
+pub follows_rewire : (driven new : DrivenCircuit) (lhs r0 r1 x : ℕ) → x ≡ variable lhs
+    → new.circuit ≡ with_gate driven.circuit lhs r0 r1 → new.stimulus ≡ driven.stimulus
+    → Follows (pair_of driven) (pair_of new) (x ∷ [])
+follows_rewire driven new lhs r0 r1 x ex e f =
+    let rows : new.stimulus.rows ≡ driven.stimulus.rows = ap (λ (s : InputRows). s.rows) f in
     record {
       frames = ap length rows;
       inputs = ap (λ (c : Raw). c.inputs) e;
-      gates = λ q g at. elim (gate_at lhs r0 r1 setup.circuit.gates q g (subst (λ (c : Raw). slice_get c.gates q ≡ Some g) e at)) [
+      gates = λ q g at. elim (gate_at lhs r0 r1 driven.circuit.gates q g (subst (λ (c : Raw). slice_get c.gates q ≡ Some g) e at)) [
         | inl k ↦ inl (subst (Contains (x ∷ [])) (ex ∙ ap variable (sym k)) (head_in x []))
         | inr k ↦ inr k
       ];
-      defined = λ v d. defined_was lhs r0 r1 setup.circuit v (subst (λ (c : Raw). IsDefined c v) e d);
-      gate_was = λ v d. gate_was lhs r0 r1 setup.circuit v (subst (λ (c : Raw). IsGate c v) e d);
-      gate_now = λ v d. subst (λ (c : Raw). IsGate c v) (sym e) (gate_kept lhs r0 r1 setup.circuit v d);
+      defined = λ v d. defined_was lhs r0 r1 driven.circuit v (subst (λ (c : Raw). IsDefined c v) e d);
+      gate_was = λ v d. gate_was lhs r0 r1 driven.circuit v (subst (λ (c : Raw). IsGate c v) e d);
+      gate_now = λ v d. subst (λ (c : Raw). IsGate c v) (sym e) (gate_kept lhs r0 r1 driven.circuit v d);
       latches = λ i y at. (y, subst (λ (c : Raw). slice_get c.latches i ≡ Some y) e at, refl, refl);
     }
 
@@ -606,43 +606,43 @@ gate_forced raw new lhs r0 r1 x v named ex e k =
     (subst (λ (c : Raw). IsGate c (variable lhs)) (sym e) (gate_kept lhs r0 r1 raw (variable lhs) g))
 
 -- a frame that is added
-module _ (setup : Setup) (s : InputRows) (row : List Tern) (cells mid new : List (List Tern))
-    (sound : IsSound setup.circuit) (now : AreCurrent (pair_of setup) (length setup.stimulus.rows) cells)
-    (e : s ≡ record setup.stimulus { rows = setup.stimulus.rows ++ row ∷ [] }) where
+module _ (driven : DrivenCircuit) (s : InputRows) (row : List Tern) (cells mid new : List (List Tern))
+    (sound : IsSound driven.circuit) (now : AreCurrent (pair_of driven) (length driven.stimulus.rows) cells)
+    (e : s ≡ record driven.stimulus { rows = driven.stimulus.rows ++ row ∷ [] }) where
   abbrev m : ℕ
-  m = length setup.stimulus.rows
+  m = length driven.stimulus.rows
 
   abbrev after : Pair
-  after = pair_of (record setup { stimulus = s })
+  after = pair_of (record driven { stimulus = s })
 
   abbrev all : List ℕ
-  all = map (λ (g : Gate). variable g.lhs) setup.circuit.gates
+  all = map (λ (g : Gate). variable g.lhs) driven.circuit.gates
 
-  rows_more : s.rows ≡ setup.stimulus.rows ++ row ∷ []
+  rows_more : s.rows ≡ driven.stimulus.rows ++ row ∷ []
   rows_more = ap (λ (x : InputRows). x.rows) e
 
   pub frames_more : length s.rows ≡ m + 1
-  frames_more = ap length rows_more ∙ length-append setup.stimulus.rows (row ∷ [])
+  frames_more = ap length rows_more ∙ length-append driven.stimulus.rows (row ∷ [])
 
-  rows_kept : (t : ℕ) → t < m → slice_get s.rows t ≡ slice_get setup.stimulus.rows t
+  rows_kept : (t : ℕ) → t < m → slice_get s.rows t ≡ slice_get driven.stimulus.rows t
   rows_kept t lt = ap (λ (rows : List (List Tern)). slice_get rows t) rows_more
-      ∙ slice_get_append setup.stimulus.rows (row ∷ []) t [] lt
+      ∙ slice_get_append driven.stimulus.rows (row ∷ []) t [] lt
 
-  none_before : (t v : ℕ) → t < m → HasOther (pair_of setup) after t v → ⊥
-  none_before = no_other (pair_of setup) s.rows m sound rows_kept
+  none_before : (t v : ℕ) → t < m → HasOther (pair_of driven) after t v → ⊥
+  none_before = no_other (pair_of driven) s.rows m sound rows_kept
 
-  is_edited : after ≡ edited (pair_of setup) (add_frame row)
-  is_edited = ap (λ (rows : List (List Tern)). let x : Pair = record (pair_of setup) { rows = rows } in x) rows_more
+  is_edited : after ≡ edited (pair_of driven) (add_frame row)
+  is_edited = ap (λ (rows : List (List Tern)). let x : Pair = record (pair_of driven) { rows = rows } in x) rows_more
 
   pub added_current : (now_row : IsCurrentRow after m (row_at new m)) → ((u : ℕ) → u ≢ m → row_at new u ≡ row_at mid u)
       → AreCurrent after m mid → AreCurrent after (length s.rows) new
   added_current now_row others before =
       subst (λ (k : ℕ). AreCurrent after k new) (sym frames_more) (current_more after m mid new before now_row others)
 
-  pub added_touched : (n : ℕ) → n ≡ length setup.circuit.gates → AreCells (Touches (pair_of setup) (add_frame row)) n
+  pub added_touched : (n : ℕ) → n ≡ length driven.circuit.gates → AreCells (Touches (pair_of driven) (add_frame row)) n
   added_touched n is =
-      let once = never_once all (gates_once setup.circuit sound) in
-      let size : length all ≡ n = length-map setup.circuit.gates (λ (g : Gate). variable g.lhs) ∙ sym is in
+      let once = never_once all (gates_once driven.circuit sound) in
+      let size : length all ≡ n = length-map driven.circuit.gates (λ (g : Gate). variable g.lhs) ∙ sym is in
       cells_same _ _ n (subst (AreCells (λ t v. (t ≡ m) × Contains all v)) size (frame_cells m all once)) (λ t v. rw (← is_edited) (
         λ k. elim k [
           | inl f ↦ f
@@ -654,7 +654,7 @@ module _ (setup : Setup) (s : InputRows) (row : List Tern) (cells mid new : List
         λ k. inl k,
       ))
 
-  pub added_changed : AreCells (Changes (pair_of setup) (add_frame row)) 0
+  pub added_changed : AreCells (Changes (pair_of driven) (add_frame row)) 0
   added_changed = cells_none _ (λ t v. rw (← is_edited) (λ k. none_before t v k.1.0 k.2))
 
 -- the last frame taken off changes nothing before it
@@ -683,35 +683,35 @@ module _ (p : Pair) (sound : IsSound p.circuit) where
 pub fewer_current : (p : Pair) (n m : ℕ) (cells : List (List Tern)) → n ≤ m → AreCurrent p m cells → AreCurrent p n cells
 fewer_current p n m cells le h = record { each = λ t lt. h.each t (omega arith) }
 
--- a setup that stayed as it was
-pub setup_same : (setup new : Setup) → new.circuit ≡ setup.circuit → new.stimulus ≡ setup.stimulus → new ≡ setup
-setup_same setup new e f =
-    ap (λ (c : Raw). let x : Setup = record { circuit = c; stimulus = new.stimulus } in x) e
-    ∙ ap (λ (s : InputRows). let x : Setup = record { circuit = setup.circuit; stimulus = s } in x) f
+-- a driven circuit that stayed as it was
+pub driven_same : (driven new : DrivenCircuit) → new.circuit ≡ driven.circuit → new.stimulus ≡ driven.stimulus → new ≡ driven
+driven_same driven new e f =
+    ap (λ (c : Raw). let x : DrivenCircuit = record { circuit = c; stimulus = new.stimulus } in x) e
+    ∙ ap (λ (s : InputRows). let x : DrivenCircuit = record { circuit = driven.circuit; stimulus = s } in x) f
 
-pub work_kept : (setup new : Setup) (fanouts fanouts' : Fanouts) (b : Buckets) (flags : List Bool) (cells : List (List Tern))
-    → IsWorking setup fanouts b flags cells → new.circuit ≡ setup.circuit → new.stimulus ≡ setup.stimulus
+pub work_kept : (driven new : DrivenCircuit) (fanouts fanouts' : Fanouts) (b : Buckets) (flags : List Bool) (cells : List (List Tern))
+    → IsWorking driven fanouts b flags cells → new.circuit ≡ driven.circuit → new.stimulus ≡ driven.stimulus
     → AreLevels new.circuit fanouts'.levels → AreReaders new.circuit fanouts'.readers → IsWorking new fanouts' b flags cells
-work_kept setup new fanouts fanouts' b flags cells h e f levels readers =
-    let bench = subst (λ (x : Setup). IsBench x flags cells) (sym (setup_same setup new e f)) h.bench in
+work_kept driven new fanouts fanouts' b flags cells h e f levels readers =
+    let bench = subst (λ (x : DrivenCircuit). IsBench x flags cells) (sym (driven_same driven new e f)) h.bench in
     record {
       bench = bench;
-      work = work_for setup new fanouts fanouts' flags flags cells cells b h.work h.empty (ap (λ (c : Raw). c.max_var) e) bench.setup_is
+      work = work_for driven new fanouts fanouts' flags flags cells cells b h.work h.empty (ap (λ (c : Raw). c.max_var) e) bench.driven_is
           bench.laid_out levels readers;
       empty = h.empty;
     }
 
-pub pair_rewired : (setup new : Setup) (c : Raw) → new.circuit ≡ c → new.stimulus ≡ setup.stimulus
-    → pair_of new ≡ record { circuit = c; rows = setup.stimulus.rows }
-pair_rewired setup new c e f =
+pub pair_rewired : (driven new : DrivenCircuit) (c : Raw) → new.circuit ≡ c → new.stimulus ≡ driven.stimulus
+    → pair_of new ≡ record { circuit = c; rows = driven.stimulus.rows }
+pair_rewired driven new c e f =
     ap (λ (x : Raw). let p : Pair = record { circuit = x; rows = new.stimulus.rows } in p) e
     ∙ ap (λ (s : InputRows). let p : Pair = record { circuit = c; rows = s.rows } in p) f
 
--- the lists serve another setup with as many latches
-pub lists_for : (setup new : Setup) (fanouts fanouts' : Fanouts) (pending : Pending) → HasLists setup fanouts pending
-    → length new.circuit.latches ≡ length setup.circuit.latches → AreLatchReaders new.circuit fanouts'.latches
+-- the lists serve another driven with as many latches
+pub lists_for : (driven new : DrivenCircuit) (fanouts fanouts' : Fanouts) (pending : Pending) → HasLists driven fanouts pending
+    → length new.circuit.latches ≡ length driven.circuit.latches → AreLatchReaders new.circuit fanouts'.latches
     → HasLists new fanouts' pending
-lists_for setup new fanouts fanouts' pending h size readers = record {
+lists_for driven new fanouts fanouts' pending h size readers = record {
   readers = readers;
   here = rw size h.here;
   ahead = rw size h.ahead;

@@ -1,5 +1,5 @@
 -- Variables that at least four gates read.
-use Rattle.std.proofs.Common.{◌≡◌, ◌⊎◌, inl, inr, ℕ, ◌+◌, ◌≤◌, List, [], ◌∷◌, length, nat_eq, count_by, Result, Ok, Err, IfErr, IsErrAnd, refl, sym, subst, arith}
+use Rattle.std.proofs.Common.{◌≡◌, ◌⊎◌, inl, inr, ℕ, ◌≤◌, List, [], ◌∷◌, length, nat_eq, count_by, Result, Ok, Err, IfErr, IsErrAnd, sym, subst, arith}
 use Rattle.aig_parts.specs.declared.raw.Raw.{Raw}
 use Rattle.aig_base.specs.Readers.{AreReaders, ReaderLists, list_of}
 use Rattle.aig_base.proofs.fan_outs.ReaderLists.{count-cons, count-of_Contains, one_same}
@@ -46,6 +46,11 @@ pub handed_fault : {A : Type 0} (P : EditFault → Type 0) (r : Result A EditFau
     → IsErrAnd r (λ f. f ≡ x) → P x → IfErr r P
 handed_fault P (Ok a) x h k = tt
 handed_fault P (Err f) x h k = subst P (sym h) k
+
+-- what holds of each fault
+pub any_fault : {A : Type 0} (P : EditFault → Type 0) (r : Result A EditFault) → ((f : EditFault) → P f) → IfErr r P
+any_fault P (Ok a) h = tt
+any_fault P (Err f) h = h f
 
 -- out of memory is no fault of a rewire's own
 pub no_memory : (p : Pair) (lhs r0 r1 : ℕ) (x : EditFault) → IsLeastFault (Forbids p (rewire lhs r0 r1)) x

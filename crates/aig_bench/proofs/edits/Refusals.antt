@@ -62,7 +62,7 @@ module _ (p : Pair) (lhs r0 r1 : ℕ) where
             others fault.Cycle ne f = ne refl
             others _ ne f = f
 
-        -- what a rewire answers that is not done, behind its first faults
+        -- what a rewire answers that is not done, after its first faults
         pub rewire_refused : (f : EditFault) → (f ≡ fault.Cycle) ⊎ (f ≡ fault.Memory)
             → (f ≡ fault.Cycle → IsAcyclic (with_gate p.circuit lhs r0 r1) → ⊥)
             → IsLeastFault (Forbids p (rewire lhs r0 r1)) f ⊎ LacksMemory p (rewire lhs r0 r1) f

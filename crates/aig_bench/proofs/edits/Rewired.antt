@@ -13,10 +13,10 @@ use Rattle.aig_base.proofs.rewires.Rewiring.{with_gate-circuit}
 use Rattle.aig_base.proofs.lists.Gets.{get_from_Contains}
 use Rattle.aig_base.proofs.checks.Marking.{slice_get_unmap}
 use Rattle.aig_base.proofs.circuits.Circuits.{gate_is}
-use Rattle.aig_bench.specs.declared.setup.Setup.{Setup}
+use Rattle.aig_bench.specs.declared.driven_circuit.DrivenCircuit.{DrivenCircuit}
 use Rattle.aig_bench.specs.state.Current.{AreGateFlags, IsLaidOut}
 use Rattle.aig_bench.specs.Pair.{Pair}
-use Rattle.aig_bench.specs.state.Setup.{IsSetup, pair_of}
+use Rattle.aig_bench.specs.state.DrivenCircuit.{IsDriven, pair_of}
 
 pub left_side_gate : (raw : Raw) (l : ℕ) → IsLeftSide raw l → IsGate raw (variable l)
 left_side_gate raw l h =
@@ -41,30 +41,30 @@ module _ (lhs r0 r1 : ℕ) where
   pub defined_was : (raw : Raw) (v : ℕ) → IsDefined (with_gate raw lhs r0 r1) v → IsDefined raw v
   defined_was raw v h = subst (λ ls. Contains (0 ∷ map variable ls) v) (sym (same_definitions raw)) h
 
--- a setup whose gate was rewired
-pub setup_rewired : (setup new : Setup) (lhs r0 r1 : ℕ) → IsSetup setup → new.circuit ≡ with_gate setup.circuit lhs r0 r1
-    → new.stimulus ≡ setup.stimulus → IsDefined setup.circuit (variable r0) → IsDefined setup.circuit (variable r1)
-    → IsAcyclic (with_gate setup.circuit lhs r0 r1) → IsSetup new
-setup_rewired setup new lhs r0 r1 p e f d0 d1 acyclic = record {
-  circuit = subst IsCircuit (sym e) (with_gate-circuit lhs r0 r1 setup.circuit p.circuit d0 d1 acyclic);
+-- a driven circuit whose gate was rewired
+pub driven_rewired : (driven new : DrivenCircuit) (lhs r0 r1 : ℕ) → IsDriven driven → new.circuit ≡ with_gate driven.circuit lhs r0 r1
+    → new.stimulus ≡ driven.stimulus → IsDefined driven.circuit (variable r0) → IsDefined driven.circuit (variable r1)
+    → IsAcyclic (with_gate driven.circuit lhs r0 r1) → IsDriven new
+driven_rewired driven new lhs r0 r1 p e f d0 d1 acyclic = record {
+  circuit = subst IsCircuit (sym e) (with_gate-circuit lhs r0 r1 driven.circuit p.circuit d0 d1 acyclic);
   width = rw (e, f) p.width;
   widths = rw f p.widths;
   frames = rw f p.frames;
   cells = rw (e, f) p.cells;
 }
 
-pub laid_out_rewired : (setup new : Setup) (lhs r0 r1 : ℕ) (flags : List Bool) (cells : List (List Tern))
-    → IsLaidOut setup flags cells → pair_of new ≡ record { circuit = with_gate setup.circuit lhs r0 r1; rows = setup.stimulus.rows }
+pub laid_out_rewired : (driven new : DrivenCircuit) (lhs r0 r1 : ℕ) (flags : List Bool) (cells : List (List Tern))
+    → IsLaidOut driven flags cells → pair_of new ≡ record { circuit = with_gate driven.circuit lhs r0 r1; rows = driven.stimulus.rows }
     → IsLaidOut new flags cells
-laid_out_rewired setup new lhs r0 r1 flags cells h e =
-    let c : new.circuit ≡ with_gate setup.circuit lhs r0 r1 = ap (λ (p : Pair). p.circuit) e in
-    let r : new.stimulus.rows ≡ setup.stimulus.rows = ap (λ (p : Pair). p.rows) e in
-    let m : new.circuit.max_var ≡ setup.circuit.max_var = ap (λ (x : Raw). x.max_var) c in
+laid_out_rewired driven new lhs r0 r1 flags cells h e =
+    let c : new.circuit ≡ with_gate driven.circuit lhs r0 r1 = ap (λ (p : Pair). p.circuit) e in
+    let r : new.stimulus.rows ≡ driven.stimulus.rows = ap (λ (p : Pair). p.rows) e in
+    let m : new.circuit.max_var ≡ driven.circuit.max_var = ap (λ (x : Raw). x.max_var) c in
     record {
       flags_are = subst (λ (x : Raw). AreGateFlags x flags) (sym c) (record {
         size = h.flags_are.size;
-        gates = λ v le k. h.flags_are.gates v le (gate_was lhs r0 r1 setup.circuit v k);
-        others = λ v le k. h.flags_are.others v le (λ i. k (gate_kept lhs r0 r1 setup.circuit v i));
+        gates = λ v le k. h.flags_are.gates v le (gate_was lhs r0 r1 driven.circuit v k);
+        others = λ v le k. h.flags_are.others v le (λ i. k (gate_kept lhs r0 r1 driven.circuit v i));
       });
       rows_are = record {
         frames_are = h.rows_are.frames_are ∙ ap length (sym r);

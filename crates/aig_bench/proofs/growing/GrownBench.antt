@@ -16,16 +16,16 @@ use Rattle.aig_grids.specs.InputRows.{row_at}
 use Rattle.aig_parts.specs.Limits.{cell_limit}
 use Rattle.aig_parts.specs.Formed.{limit}
 use Rattle.aig_bench.specs.declared.buckets.Buckets.{Buckets}
-use Rattle.aig_bench.specs.declared.latches.LatchReaders.{LatchReaders}
-use Rattle.aig_bench.specs.declared.setup.Setup.{Setup}
-use Rattle.aig_bench.specs.declared.settle.Fanouts.{Fanouts}
-use Rattle.aig_bench.specs.declared.settle.Pending.{Pending}
+use Rattle.aig_bench.specs.declared.latch_readers.LatchReaders.{LatchReaders}
+use Rattle.aig_bench.specs.declared.driven_circuit.DrivenCircuit.{DrivenCircuit}
+use Rattle.aig_bench.specs.declared.fanouts.Fanouts.{Fanouts}
+use Rattle.aig_bench.specs.declared.pending.Pending.{Pending}
 use Rattle.aig_bench.specs.state.Buckets.{AreBuckets, Waits}
 use Rattle.aig_bench.specs.state.Current.{AreCurrent, AreRows, IsCurrentRow, IsLaidOut}
 use Rattle.aig_bench.specs.Edit.{append_gate}
 use Rattle.aig_bench.specs.state.Latches.{AreLatchReaders}
 use Rattle.aig_bench.specs.state.Pending.{IsReady}
-use Rattle.aig_bench.specs.state.Setup.{IsSetup, pair_of}
+use Rattle.aig_bench.specs.state.DrivenCircuit.{IsDriven, pair_of}
 use Rattle.aig_bench.specs.state.Sweep.{IsWork}
 use Rattle.aig_bench.specs.Touched.{HasOther, Touches, Changes, AreCells}
 use Rattle.aig_bench.proofs.renewals.Changed.{readers_kept}
@@ -54,44 +54,44 @@ row_mapped [] t lt = absurd (omega arith)
 row_mapped (row ∷ cells) zero lt = refl
 row_mapped (row ∷ cells) (suc t) lt = row_mapped cells t (omega arith)
 
-module _ (setup : Setup) (fanouts : Fanouts) (pending : Pending) (flags : List Bool) (cells : List (List Tern))
-    (r : IsReady setup fanouts pending flags cells) where
+module _ (driven : DrivenCircuit) (fanouts : Fanouts) (pending : Pending) (flags : List Bool) (cells : List (List Tern))
+    (r : IsReady driven fanouts pending flags cells) where
   -- a bench whose lists of readers have other room
-  pub ready_still : (c : Raw) (levels : List ℕ) (readers : ReaderLists) → c ≡ setup.circuit → levels ≡ fanouts.levels
+  pub ready_still : (c : Raw) (levels : List ℕ) (readers : ReaderLists) → c ≡ driven.circuit → levels ≡ fanouts.levels
       → readers.lists ≡ fanouts.readers.lists
-      → IsReady (record setup { circuit = c }) (record { levels = levels; readers = readers; latches = fanouts.latches })
+      → IsReady (record driven { circuit = c }) (record { levels = levels; readers = readers; latches = fanouts.latches })
       pending flags cells
   ready_still c levels readers e f same =
       let w = r.working.work in
       let fanouts' : Fanouts = record { levels = levels; readers = readers; latches = fanouts.latches } in
-      let are = readers_kept setup.circuit fanouts.readers readers w.readers same in
-      subst (λ (x : Raw). IsReady (record setup { circuit = x }) fanouts' pending flags cells)
+      let are = readers_kept driven.circuit fanouts.readers readers w.readers same in
+      subst (λ (x : Raw). IsReady (record driven { circuit = x }) fanouts' pending flags cells)
       (sym e)
       (record {
-        working = work_kept setup setup fanouts _ pending.buckets flags cells r.working refl refl
-            (subst (AreLevels setup.circuit) (sym f) w.levels) are;
-        lists = lists_for setup setup fanouts _ pending r.lists refl r.lists.readers;
+        working = work_kept driven driven fanouts _ pending.buckets flags cells r.working refl refl
+            (subst (AreLevels driven.circuit) (sym f) w.levels) are;
+        lists = lists_for driven driven fanouts _ pending r.lists refl r.lists.readers;
         idle = r.idle;
       })
 
-  module _ (r0 r1 : ℕ) (d : IsDefined setup.circuit (variable r0) × IsDefined setup.circuit (variable r1))
-      (below : setup.circuit.max_var < limit)
-      (few : (setup.circuit.max_var + 2) * length setup.stimulus.rows ≤ cell_limit) where
+  module _ (r0 r1 : ℕ) (d : IsDefined driven.circuit (variable r0) × IsDefined driven.circuit (variable r1))
+      (below : driven.circuit.max_var < limit)
+      (few : (driven.circuit.max_var + 2) * length driven.stimulus.rows ≤ cell_limit) where
     abbrev more : Raw
-    more = with_appended_gate setup.circuit r0 r1
+    more = with_appended_gate driven.circuit r0 r1
 
-    abbrev after : Setup
-    after = record setup { circuit = more }
+    abbrev after : DrivenCircuit
+    after = record driven { circuit = more }
 
     abbrev gate : Gate
-    gate = next_gate setup.circuit r0 r1
+    gate = next_gate driven.circuit r0 r1
 
-    setup_grown : IsSetup after
-    setup_grown =
-        let p = r.working.bench.setup_is in
-        let same : setup.circuit.max_var + 1 + 1 ≡ setup.circuit.max_var + 2 = omega arith in
+    driven_grown : IsDriven after
+    driven_grown =
+        let p = r.working.bench.driven_is in
+        let same : driven.circuit.max_var + 1 + 1 ≡ driven.circuit.max_var + 2 = omega arith in
         record {
-          circuit = more_circuit setup.circuit r0 r1 p.circuit below d.0 d.1;
+          circuit = more_circuit driven.circuit r0 r1 p.circuit below d.0 d.1;
           width = p.width;
           widths = p.widths;
           frames = p.frames;
@@ -103,7 +103,7 @@ module _ (setup : Setup) (fanouts : Fanouts) (pending : Pending) (flags : List B
         (rows : (t : ℕ) → t < length mid
         → row_at new t ≡ slice_set (row_at mid t) (variable g.lhs) (gate_value (row_at mid t) g)) where
       abbrev frames : ℕ
-      frames = length setup.stimulus.rows
+      frames = length driven.stimulus.rows
 
       mid_size : length mid ≡ frames
       mid_size = ap length e ∙ length-map cells with_new_cell ∙ r.working.bench.laid_out.rows_are.frames_are
@@ -119,13 +119,13 @@ module _ (setup : Setup) (fanouts : Fanouts) (pending : Pending) (flags : List B
           ∙ ap (λ (x : Gate). slice_set (row_at mid t) (variable x.lhs) (gate_value (row_at mid t) x)) is
           ∙ ap (λ (row : List Tern). slice_set row (variable gate.lhs) (gate_value row gate)) at
 
-      wide : (t : ℕ) → t < frames → length (row_at cells t) ≡ setup.circuit.max_var + 1
+      wide : (t : ℕ) → t < frames → length (row_at cells t) ≡ driven.circuit.max_var + 1
       wide t lt = r.working.bench.laid_out.rows_are.widths t lt
 
       current : AreCurrent (pair_of after) frames new
       current = record {
         each = λ t lt. subst (IsCurrentRow (pair_of after) t) (sym (row_is t lt))
-            (grown_current (pair_of setup) r0 r1 r.working.bench.setup_is.circuit.sound d.0 d.1 t (row_at cells t)
+            (grown_current (pair_of driven) r0 r1 r.working.bench.driven_is.circuit.sound d.0 d.1 t (row_at cells t)
             (wide t lt)
             (r.working.bench.current.each t lt));
       }
@@ -133,9 +133,9 @@ module _ (setup : Setup) (fanouts : Fanouts) (pending : Pending) (flags : List B
       rows_grown : AreRows more frames new
       rows_grown = record {
         frames_are = size ∙ mid_size;
-        widths = λ t lt. ap length (row_is t lt) ∙ grown_width setup.circuit r0 r1 (row_at cells t) _ (wide t lt);
+        widths = λ t lt. ap length (row_is t lt) ∙ grown_width driven.circuit r0 r1 (row_at cells t) _ (wide t lt);
         constants = λ t lt. ap (λ (row : List Tern). slice_get row 0) (row_is t lt)
-            ∙ grown_old setup.circuit r0 r1 (row_at cells t) _ (wide t lt) 0 (omega arith)
+            ∙ grown_old driven.circuit r0 r1 (row_at cells t) _ (wide t lt) 0 (omega arith)
             ∙ r.working.bench.laid_out.rows_are.constants t lt;
       }
 
@@ -145,7 +145,7 @@ module _ (setup : Setup) (fanouts : Fanouts) (pending : Pending) (flags : List B
           → AreBuckets levels b → ((v : ℕ) → Waits b v → ⊥)
           → length b.head.items ≡ length pending.buckets.head.items + 1
           → flags' ≡ flags ++ true ∷ []
-          → IsReady (record setup { circuit = c }) (record { levels = levels; readers = readers; latches = latches })
+          → IsReady (record driven { circuit = c }) (record { levels = levels; readers = readers; latches = latches })
           (record { buckets = b; here = pending.here; ahead = pending.ahead }) flags' new
       ready_grown c levels readers latches b flags' same l rs ls bs empty heads fs =
           let w = r.working.work in
@@ -153,22 +153,22 @@ module _ (setup : Setup) (fanouts : Fanouts) (pending : Pending) (flags : List B
           let pending' : Pending = record { buckets = b; here = pending.here; ahead = pending.ahead } in
           let out : IsLaidOut after flags' new =
           record {
-            flags_are = flags_grown setup.circuit r0 r1 flags flags' w.laid_out.flags_are fs;
+            flags_are = flags_grown driven.circuit r0 r1 flags flags' w.laid_out.flags_are fs;
             rows_are = rows_grown;
           } in
           let work : IsWork after fanouts' flags' new b =
           record {
-            setup_is = setup_grown;
+            driven_is = driven_grown;
             laid_out = out;
             levels = l;
             readers = rs;
             buckets = bs;
             size = heads ∙ ap (λ n. n + 1) w.size;
             heads = λ v n k level.
-                let le = level_bound more setup_grown.circuit.sound level in omega (arith, heads, w.size);
+                let le = level_bound more driven_grown.circuit.sound level in omega (arith, heads, w.size);
             gates = λ v k. absurd (empty v k);
           } in
-          subst (λ (x : Raw). IsReady (record setup { circuit = x }) fanouts' pending' flags' new) (sym same)
+          subst (λ (x : Raw). IsReady (record driven { circuit = x }) fanouts' pending' flags' new) (sym same)
           (record {
             working = working after fanouts' b flags' new work empty current;
             lists = record { readers = ls; here = r.lists.here; ahead = r.lists.ahead };
@@ -176,12 +176,12 @@ module _ (setup : Setup) (fanouts : Fanouts) (pending : Pending) (flags : List B
           })
 
     -- no value changes, and the new gate's cells are touched
-    no_other : (t v : ℕ) → HasOther (pair_of setup) (pair_of after) t v → ⊥
-    no_other = none_other (pair_of setup) more (has_all setup.circuit r0 r1) setup_grown.circuit.sound
+    no_other : (t v : ℕ) → HasOther (pair_of driven) (pair_of after) t v → ⊥
+    no_other = none_other (pair_of driven) more (has_all driven.circuit r0 r1) driven_grown.circuit.sound
 
-    pub grown_touched : (n : ℕ) → n ≡ length setup.stimulus.rows
-        → AreCells (Touches (pair_of setup) (append_gate r0 r1)) n
-    grown_touched n e = cells_same _ _ n (column_cells (setup.circuit.max_var + 1) n) (λ t v. (
+    pub grown_touched : (n : ℕ) → n ≡ length driven.stimulus.rows
+        → AreCells (Touches (pair_of driven) (append_gate r0 r1)) n
+    grown_touched n e = cells_same _ _ n (column_cells (driven.circuit.max_var + 1) n) (λ t v. (
       λ k. elim k [
         | inl f ↦ (omega (arith, f.0), f.1)
         | inr o ↦ elim o.1.4 [ inl a ↦ absurd (no_other t _ a) | inr a ↦ absurd (no_other t _ a) ]
@@ -189,6 +189,6 @@ module _ (setup : Setup) (fanouts : Fanouts) (pending : Pending) (flags : List B
       λ k. inl (omega (arith, k.0), k.1),
     ))
 
-    pub grown_changed : (n : ℕ) → n ≡ 0 → AreCells (Changes (pair_of setup) (append_gate r0 r1)) n
+    pub grown_changed : (n : ℕ) → n ≡ 0 → AreCells (Changes (pair_of driven) (append_gate r0 r1)) n
     grown_changed n e =
-        subst (AreCells (Changes (pair_of setup) (append_gate r0 r1))) (sym e) (cells_none _ (λ t v k. no_other t v k.2))
+        subst (AreCells (Changes (pair_of driven) (append_gate r0 r1))) (sym e) (cells_none _ (λ t v k. no_other t v k.2))

@@ -10,7 +10,7 @@ use Rattle.aig_parts.specs.Literal.{variable}
 use Rattle.aig_base.specs.Sound.{IsSound}
 use Rattle.aig_base.proofs.circuits.Circuits.{next_in_range}
 use Rattle.aig_bench.specs.declared.buckets.Buckets.{Buckets}
-use Rattle.aig_bench.specs.declared.latches.LatchReaders.{LatchReaders}
+use Rattle.aig_bench.specs.declared.latch_readers.LatchReaders.{LatchReaders}
 use Rattle.aig_bench.specs.state.Buckets.{AreBuckets, IsChain, Waits}
 use Rattle.aig_bench.specs.state.Latches.{AreLatchReaders, Follows, IsLast}
 use Rattle.aig_parts.specs.Formed.{limit}

@@ -10,13 +10,13 @@ use Rattle.aig_parts.specs.Literal.{variable}
 use Rattle.aig_base.specs.Readers.{AreReaders}
 use Rattle.aig_base.specs.Sections.{IsDefined}
 use Rattle.aig_base.proofs.growth.Outputs.{with_output-circuit}
-use Rattle.aig_bench.specs.declared.setup.Setup.{Setup}
-use Rattle.aig_bench.specs.declared.settle.Fanouts.{Fanouts}
-use Rattle.aig_bench.specs.declared.settle.Pending.{Pending}
+use Rattle.aig_bench.specs.declared.driven_circuit.DrivenCircuit.{DrivenCircuit}
+use Rattle.aig_bench.specs.declared.fanouts.Fanouts.{Fanouts}
+use Rattle.aig_bench.specs.declared.pending.Pending.{Pending}
 use Rattle.aig_bench.specs.state.Current.{IsLaidOut, AreCurrent}
 use Rattle.aig_bench.specs.Edit.{set_output}
 use Rattle.aig_bench.specs.state.Pending.{IsReady}
-use Rattle.aig_bench.specs.state.Setup.{IsSetup, pair_of}
+use Rattle.aig_bench.specs.state.DrivenCircuit.{IsDriven, pair_of}
 use Rattle.aig_bench.specs.Touched.{HasOther, Touches, Changes, AreCells}
 use Rattle.aig_bench.proofs.edits.Edited.{lists_for, work_for, working}
 use Rattle.aig_bench.proofs.cells.Kept.{HasAll, holds_still, none_other}
@@ -36,20 +36,20 @@ module _ (raw : Raw) (i l : ℕ) where
   same_parts : HasAll raw (with_output raw i l)
   same_parts = record { inputs = refl; latches = refl; gates = λ q g at. at }
 
-module _ (setup : Setup) (i l : ℕ) where
-  abbrev after : Setup
-  after = record setup { circuit = with_output setup.circuit i l }
+module _ (driven : DrivenCircuit) (i l : ℕ) where
+  abbrev after : DrivenCircuit
+  after = record driven { circuit = with_output driven.circuit i l }
 
-  setup_is : IsSetup setup → IsDefined setup.circuit (variable l) → IsSetup after
-  setup_is p d = record {
-    circuit = with_output-circuit setup.circuit i l p.circuit d;
+  driven_is : IsDriven driven → IsDefined driven.circuit (variable l) → IsDriven after
+  driven_is p d = record {
+    circuit = with_output-circuit driven.circuit i l p.circuit d;
     width = p.width;
     widths = p.widths;
     frames = p.frames;
     cells = p.cells;
   }
 
-  laid_out : (flags : List Bool) (cells : List (List Tern)) → IsLaidOut setup flags cells → IsLaidOut after flags cells
+  laid_out : (flags : List Bool) (cells : List (List Tern)) → IsLaidOut driven flags cells → IsLaidOut after flags cells
   laid_out flags cells h = record {
     flags_are = record { size = h.flags_are.size; gates = h.flags_are.gates; others = h.flags_are.others };
     rows_are = record {
@@ -59,47 +59,47 @@ module _ (setup : Setup) (i l : ℕ) where
     };
   }
 
-  current : (n : ℕ) (cells : List (List Tern)) → AreCurrent (pair_of setup) n cells → AreCurrent (pair_of after) n cells
+  current : (n : ℕ) (cells : List (List Tern)) → AreCurrent (pair_of driven) n cells → AreCurrent (pair_of after) n cells
   current n cells h = record {
-    each = λ t lt v d. holds_still (pair_of setup) (with_output setup.circuit i l) (same_parts setup.circuit i l) t v _ _
+    each = λ t lt v d. holds_still (pair_of driven) (with_output driven.circuit i l) (same_parts driven.circuit i l) t v _ _
         refl (h.each t lt v d);
   }
 
   -- a bench with the other output is ready
   pub ready_set : (c : Raw) (fanouts : Fanouts) (pending : Pending) (flags : List Bool) (cells : List (List Tern))
-      → c ≡ with_output setup.circuit i l → IsDefined setup.circuit (variable l) → IsReady setup fanouts pending flags cells
-      → IsReady (record setup { circuit = c }) fanouts pending flags cells
+      → c ≡ with_output driven.circuit i l → IsDefined driven.circuit (variable l) → IsReady driven fanouts pending flags cells
+      → IsReady (record driven { circuit = c }) fanouts pending flags cells
   ready_set c fanouts pending flags cells e d r =
       let w = r.working.work in
-      let p = setup_is w.setup_is d in
+      let p = driven_is w.driven_is d in
       let out = laid_out flags cells w.laid_out in
-      let readers : AreReaders (with_output setup.circuit i l) fanouts.readers =
+      let readers : AreReaders (with_output driven.circuit i l) fanouts.readers =
       record { size = w.readers.size; each = w.readers.each; once = w.readers.once } in
-      let levels : AreLevels (with_output setup.circuit i l) fanouts.levels =
-      record { size = w.levels.size; each = λ v n k. w.levels.each v n (level_was setup.circuit i l k) } in
-      subst (λ (x : Raw). IsReady (record setup { circuit = x }) fanouts pending flags cells) (sym e)
+      let levels : AreLevels (with_output driven.circuit i l) fanouts.levels =
+      record { size = w.levels.size; each = λ v n k. w.levels.each v n (level_was driven.circuit i l k) } in
+      subst (λ (x : Raw). IsReady (record driven { circuit = x }) fanouts pending flags cells) (sym e)
       (record {
         working = working after fanouts pending.buckets flags cells
-            (work_for setup after fanouts fanouts flags flags cells cells pending.buckets w r.working.empty refl p out levels
+            (work_for driven after fanouts fanouts flags flags cells cells pending.buckets w r.working.empty refl p out levels
             readers)
             r.working.empty (current _ cells r.working.bench.current);
-        lists = lists_for setup after fanouts fanouts pending r.lists refl
-            (readers_same setup.circuit (with_output setup.circuit i l) fanouts.latches r.lists.readers refl refl
+        lists = lists_for driven after fanouts fanouts pending r.lists refl
+            (readers_same driven.circuit (with_output driven.circuit i l) fanouts.latches r.lists.readers refl refl
             (λ p x at. (x, at, refl)) (λ p y at. (y, at, refl)));
         idle = r.idle;
       })
 
 -- no value changes
-module _ (setup : Setup) (i l : ℕ) (p : IsSetup setup) (d : IsDefined setup.circuit (variable l)) where
-  no_other : (t v : ℕ) → HasOther (pair_of setup) (pair_of (after setup i l)) t v → ⊥
-  no_other = none_other (pair_of setup) (with_output setup.circuit i l) (same_parts setup.circuit i l)
-      (with_output-circuit setup.circuit i l p.circuit d).sound
+module _ (driven : DrivenCircuit) (i l : ℕ) (p : IsDriven driven) (d : IsDefined driven.circuit (variable l)) where
+  no_other : (t v : ℕ) → HasOther (pair_of driven) (pair_of (after driven i l)) t v → ⊥
+  no_other = none_other (pair_of driven) (with_output driven.circuit i l) (same_parts driven.circuit i l)
+      (with_output-circuit driven.circuit i l p.circuit d).sound
 
-  pub set_touched : AreCells (Touches (pair_of setup) (set_output i l)) 0
+  pub set_touched : AreCells (Touches (pair_of driven) (set_output i l)) 0
   set_touched = cells_none _ (λ t v k. elim k [
     | inl f ↦ absurd f
     | inr r ↦ elim r.1.4 [ inl o ↦ no_other t _ o | inr o ↦ no_other t _ o ]
   ])
 
-  pub set_changed : AreCells (Changes (pair_of setup) (set_output i l)) 0
+  pub set_changed : AreCells (Changes (pair_of driven) (set_output i l)) 0
   set_changed = cells_none _ (λ t v k. no_other t v k.2)

@@ -60,7 +60,7 @@ listing raw variables positions circuit canonical h = record {
   };
 }
 
--- one gate more behind the others
+-- one gate more after the others
 module _ (raw : Raw) (r0 r1 : ℕ) (d0 : IsDefined raw (variable r0)) (d1 : IsDefined raw (variable r1)) where
   abbrev more : Raw
   more = with_appended_gate raw r0 r1

@@ -24,9 +24,9 @@ use Rattle.aig_grids.specs.InputRows.{row_at, with_cell}
 use Rattle.aig_values.proofs.Evaluation.{HoldsFirst, all_hold, gate_value_is, items_more, put_value, renews_none}
 use Rattle.aig_grids.proofs.SweepLemmas.{length-swept}
 use Rattle.aig_bench.specs.state.Current.{AreGateFlags, HoldsInputs, HoldsLatches, IsCurrentRow, IsLaidOut}
-use Rattle.aig_bench.specs.declared.setup.Setup.{Setup}
+use Rattle.aig_bench.specs.declared.driven_circuit.DrivenCircuit.{DrivenCircuit}
 use Rattle.aig_bench.specs.state.SweepOrder.{gate_at, gates_at, IsFullOrder}
-use Rattle.aig_bench.specs.state.Setup.{IsSetup, pair_of}
+use Rattle.aig_bench.specs.state.DrivenCircuit.{IsDriven, pair_of}
 use Rattle.aig_bench.proofs.cells.CellLemmas.{get_set_other, row_written}
 use Rattle.aig_bench.proofs.cells.Values.{sources_hold}
 
@@ -45,7 +45,7 @@ have_cells raw flags gates circuit h order k d lt =
       rhs1 = omega (arith, rhs1_in_range raw circuit.sound r g stands, h.size);
     }
 
--- gates that are swept behind others
+-- gates that are swept after others
 pub swept_then : (rows : List (List Tern)) (t : ℕ) (xs ys : List Gate) → t < length rows
     → with_swept_row (with_swept_row rows t xs) t ys ≡ with_swept_row rows t (xs ++ ys)
 swept_then rows t xs ys lt =
@@ -66,7 +66,7 @@ batch_is batch gates positions done count le is e =
     omega (arith, length-take (done + count - done) (drop done positions), length-drop done positions) in
     ap (λ (n : ℕ). take n batch) (sym size) ∙ e ∙ ap (λ (n : ℕ). gates_at gates (take n (drop done positions))) same
 
--- a batch behind those that are done
+-- a batch after those that are done
 pub batch_more : (rows now : List (List Tern)) (t : ℕ) (gates batch : List Gate) (positions : List ℕ) (done count : ℕ)
     → t < length rows → now ≡ with_swept_row rows t (gates_at gates (take done positions))
     → batch ≡ gates_at gates (take count (drop done positions))
@@ -133,16 +133,16 @@ module _ (raw : Raw) (start : List Tern) (rows : List (List Tern)) (t : ℕ) (so
       ap (fold with_gate row) (take_all (length gates) gates (omega arith)) in
       subst (HoldsAll raw start rows t) all (all_hold raw start rows t gates (after (length gates)) order held first)
 
--- a source that is put in a grid for a setup
-pub row_put : (setup : Setup) (flags : List Bool) (old new : List (List Tern)) (t v : ℕ) (w : Tern) → IsLaidOut setup flags old
-    → t < length setup.stimulus.rows → new ≡ with_cell old t v w → row_at new t ≡ slice_set (row_at old t) v w
-row_put setup flags old new t v w h lt is =
+-- a source that is put in a grid for a driven circuit
+pub row_put : (driven : DrivenCircuit) (flags : List Bool) (old new : List (List Tern)) (t v : ℕ) (w : Tern) → IsLaidOut driven flags old
+    → t < length driven.stimulus.rows → new ≡ with_cell old t v w → row_at new t ≡ slice_set (row_at old t) v w
+row_put driven flags old new t v w h lt is =
     ap (λ (rows : List (List Tern)). row_at rows t) is ∙ row_written old t v w (omega (arith, h.rows_are.frames_are))
 
-pub source_inside : (setup : Setup) (flags : List Bool) (cells : List (List Tern)) (t v : ℕ) → IsSetup setup
-    → IsLaidOut setup flags cells → t < length setup.stimulus.rows → IsSource setup.circuit v → v < length (row_at cells t)
-source_inside setup flags cells t v p h lt source =
-    omega (arith, level_in_range setup.circuit p.circuit.sound (by.Level.source v source), h.rows_are.widths t lt)
+pub source_inside : (driven : DrivenCircuit) (flags : List Bool) (cells : List (List Tern)) (t v : ℕ) → IsDriven driven
+    → IsLaidOut driven flags cells → t < length driven.stimulus.rows → IsSource driven.circuit v → v < length (row_at cells t)
+source_inside driven flags cells t v p h lt source =
+    omega (arith, level_in_range driven.circuit p.circuit.sound (by.Level.source v source), h.rows_are.widths t lt)
 
 -- variable 0 is no gate's
 kept_zero : (row : List Tern) (gates : List Gate) → All (λ g. 0 < variable g.lhs) gates
@@ -159,9 +159,9 @@ positive_sides raw gates sound order k d lt =
     let definition = gate_definition raw sound r (get_or gates k d) stands in
     omega (arith, definition)
 
--- a grid for a setup in which all gates were swept at a frame
-module _ (setup : Setup) (flags flags' : List Bool) (old new : List (List Tern)) (t : ℕ) (gates : List Gate) (p : IsSetup setup)
-    (h : IsLaidOut setup flags old) (lt : t < length setup.stimulus.rows) (full : IsFullOrder setup.circuit gates)
+-- a grid for a driven circuit in which all gates were swept at a frame
+module _ (driven : DrivenCircuit) (flags flags' : List Bool) (old new : List (List Tern)) (t : ℕ) (gates : List Gate) (p : IsDriven driven)
+    (h : IsLaidOut driven flags old) (lt : t < length driven.stimulus.rows) (full : IsFullOrder driven.circuit gates)
     (e : new ≡ with_swept_row old t gates) where
   row_is : row_at new t ≡ fold with_gate (row_at old t) gates
   row_is =
@@ -173,9 +173,9 @@ module _ (setup : Setup) (flags flags' : List Bool) (old new : List (List Tern))
       ap (λ (rows : List (List Tern)). row_at rows u) e
       ∙ get_or-set_other old t u (fold with_gate (row_at old t) gates) [] ne
 
-  pub laid_out_swept : flags' ≡ flags → IsLaidOut setup flags' new
+  pub laid_out_swept : flags' ≡ flags → IsLaidOut driven flags' new
   laid_out_swept same = record {
-    flags_are = subst (AreGateFlags setup.circuit) (sym same) h.flags_are;
+    flags_are = subst (AreGateFlags driven.circuit) (sym same) h.flags_are;
     rows_are = record {
       frames_are = ap length e ∙ length-set old t _ ∙ h.rows_are.frames_are;
       widths = λ s below. elim (cases_eq s t) [
@@ -185,17 +185,17 @@ module _ (setup : Setup) (flags flags' : List Bool) (old new : List (List Tern))
       ];
       constants = λ s below. elim (cases_eq s t) [
         | inl k ↦ ap (λ (n : ℕ). slice_get (row_at new n) 0) k ∙ ap (λ (row : List Tern). slice_get row 0) row_is
-            ∙ kept_zero (row_at old t) gates (positive_sides setup.circuit gates p.circuit.sound full.order)
+            ∙ kept_zero (row_at old t) gates (positive_sides driven.circuit gates p.circuit.sound full.order)
             ∙ h.rows_are.constants t lt
         | inr ne ↦ ap (λ (row : List Tern). slice_get row 0) (row_kept s ne) ∙ h.rows_are.constants s below
       ];
     };
   }
 
-  pub current_swept : HoldsInputs (pair_of setup) t (row_at old t) → HoldsLatches (pair_of setup) t (row_at old t)
-      → IsCurrentRow (pair_of setup) t (row_at new t)
+  pub current_swept : HoldsInputs (pair_of driven) t (row_at old t) → HoldsLatches (pair_of driven) t (row_at old t)
+      → IsCurrentRow (pair_of driven) t (row_at new t)
   current_swept inputs latches =
-      subst (IsCurrentRow (pair_of setup) t) (sym row_is)
-      (swept_holds setup.circuit (start_of setup.circuit) setup.stimulus.rows t p.circuit.sound gates full.order (row_at old t)
+      subst (IsCurrentRow (pair_of driven) t) (sym row_is)
+      (swept_holds driven.circuit (start_of driven.circuit) driven.stimulus.rows t p.circuit.sound gates full.order (row_at old t)
       (h.rows_are.widths t lt)
-      (sources_hold (pair_of setup) t (row_at old t) (h.rows_are.constants t lt) inputs latches))
+      (sources_hold (pair_of driven) t (row_at old t) (h.rows_are.constants t lt) inputs latches))

@@ -10,14 +10,14 @@ use Rattle.aig_base.proofs.circuits.Circuits.{gate_definition, gate_in_range, ga
 use Rattle.aig_base.proofs.circuits.Gates.{level_of_gate, level_in_range}
 use Rattle.aig_grids.specs.InputRows.{row_at, with_cell}
 use Rattle.aig_bench.specs.declared.buckets.Buckets.{Buckets}
-use Rattle.aig_bench.specs.declared.setup.Setup.{Setup}
-use Rattle.aig_bench.specs.declared.settle.Fanouts.{Fanouts}
+use Rattle.aig_bench.specs.declared.driven_circuit.DrivenCircuit.{DrivenCircuit}
+use Rattle.aig_bench.specs.declared.fanouts.Fanouts.{Fanouts}
 use Rattle.aig_bench.specs.state.Buckets.{AreBuckets, Waits, Fits, Links}
 use Rattle.aig_bench.specs.state.Current.{IsLaidOut}
 use Rattle.aig_bench.specs.Pair.{HasValue}
-use Rattle.aig_bench.specs.state.Setup.{IsSetup, pair_of}
+use Rattle.aig_bench.specs.state.DrivenCircuit.{IsDriven, pair_of}
 use Rattle.aig_bench.proofs.carries.Carrying.{puts}
-use Rattle.aig_bench.specs.declared.latches.LatchList.{LatchList}
+use Rattle.aig_bench.specs.declared.latch_list.LatchList.{LatchList}
 use Rattle.aig_bench.specs.state.Latches.{Follows, HandsOn, Lists}
 use Rattle.aig_bench.proofs.cells.CellLemmas.{row_written, row_other}
 use Rattle.aig_bench.proofs.carries.Handed.{hands_same, hands_written, set_again}
@@ -28,11 +28,11 @@ use Rattle.aig_bench.proofs.cells.Flags.{source_flag}
 use Rattle.aig_bench.proofs.passes.SweepSteps.{laid_out_written, each_reader}
 use Rattle.aig_bench.proofs.waits.Height.{level_bound}
 
-module _ (setup : Setup) (fanouts : Fanouts) (flags : List Bool) (cells : List (List Tern)) (b : Buckets) (t v : ℕ)
-    (work : IsWork setup fanouts flags cells b) (lt : t < length setup.stimulus.rows) (positive : 0 < v)
-    (source : IsSource setup.circuit v) where
-  pub in_range : v ≤ setup.circuit.max_var
-  in_range = level_in_range setup.circuit work.setup_is.circuit.sound (by.Level.source v source)
+module _ (driven : DrivenCircuit) (fanouts : Fanouts) (flags : List Bool) (cells : List (List Tern)) (b : Buckets) (t v : ℕ)
+    (work : IsWork driven fanouts flags cells b) (lt : t < length driven.stimulus.rows) (positive : 0 < v)
+    (source : IsSource driven.circuit v) where
+  pub in_range : v ≤ driven.circuit.max_var
+  in_range = level_in_range driven.circuit work.driven_is.circuit.sound (by.Level.source v source)
 
   pub inside_flags : v < length flags
   inside_flags = omega (arith, in_range, work.laid_out.flags_are.size)
@@ -41,13 +41,13 @@ module _ (setup : Setup) (fanouts : Fanouts) (flags : List Bool) (cells : List (
   inside_readers = omega (arith, in_range, work.readers.size)
 
   pub no_gate : slice_get flags v ≡ Some false
-  no_gate = source_flag setup.circuit flags v work.setup_is.circuit.sound work.laid_out.flags_are in_range source
+  no_gate = source_flag driven.circuit flags v work.driven_is.circuit.sound work.laid_out.flags_are in_range source
 
   pub put_work : (flags' : List Bool) (cells' : List (List Tern)) (w : Tern) → cells' ≡ with_cell cells t v w
-      → flags' ≡ flags → IsWork setup fanouts flags' cells' b
+      → flags' ≡ flags → IsWork driven fanouts flags' cells' b
   put_work flags' cells' w is same = record {
-    setup_is = work.setup_is;
-    laid_out = laid_out_written setup t v w flags flags' cells cells' work.laid_out is lt positive same;
+    driven_is = work.driven_is;
+    laid_out = laid_out_written driven t v w flags flags' cells cells' work.laid_out is lt positive same;
     levels = work.levels;
     readers = work.readers;
     buckets = work.buckets;
@@ -62,54 +62,54 @@ module _ (setup : Setup) (fanouts : Fanouts) (flags : List Bool) (cells : List (
         ∙ row_written cells t v w (omega (arith, lt, work.laid_out.rows_are.frames_are))
 
     -- what a change of the cell hands on
-    pub put_hands : (old new : LatchList) → Lists (λ i. Follows setup.circuit i v) old new
-        → HandsOn setup.circuit (row_at cells t) old.marks.items (row_at cells' t) new.marks.items
-    put_hands old new lists = hands_written setup.circuit (row_at cells t) (row_at cells' t) v w old new row_is lists
+    pub put_hands : (old new : LatchList) → Lists (λ i. Follows driven.circuit i v) old new
+        → HandsOn driven.circuit (row_at cells t) old.marks.items (row_at cells' t) new.marks.items
+    put_hands old new lists = hands_written driven.circuit (row_at cells t) (row_at cells' t) v w old new row_is lists
 
     pub put_hands_none : (a : Tern) → slice_get (row_at cells t) v ≡ Some a → a ≡ w → (marks : List Bool)
-        → HandsOn setup.circuit (row_at cells t) marks (row_at cells' t) marks
+        → HandsOn driven.circuit (row_at cells t) marks (row_at cells' t) marks
     put_hands_none a at same marks =
-        hands_same setup.circuit (row_at cells t) (row_at cells' t) marks (λ u. ap (λ (r : List Tern). slice_get r u) row_is
+        hands_same driven.circuit (row_at cells t) (row_at cells' t) marks (λ u. ap (λ (r : List Tern). slice_get r u) row_is
         ∙ set_again (row_at cells t) v w (at ∙ ap Some same) u)
 
     pub put_others : (u : ℕ) → u ≢ t → row_at cells' u ≡ row_at cells u
     put_others u ne = ap (λ (c : List (List Tern)). row_at c u) is ∙ row_other cells t v w u ne
 
   pub put_moves : (cells' : List (List Tern)) (w : Tern) (b' : Buckets) → cells' ≡ with_cell cells t v w
-      → HasValue (pair_of setup) t (2 * v) w
-      → ((u : ℕ) → Waits b' u ↔ (Waits b u ⊎ (Reads setup.circuit u v × (slice_get (row_at cells t) v ≢ Some w))))
-      → Puts (pair_of setup) t v (row_at cells t) b.marks.items (row_at cells' t) b'.marks.items
+      → HasValue (pair_of driven) t (2 * v) w
+      → ((u : ℕ) → Waits b' u ↔ (Waits b u ⊎ (Reads driven.circuit u v × (slice_get (row_at cells t) v ≢ Some w))))
+      → Puts (pair_of driven) t v (row_at cells t) b.marks.items (row_at cells' t) b'.marks.items
   put_moves cells' w b' is value moved =
-      puts (pair_of setup) t work.setup_is.circuit.sound v w (row_at cells t) (row_at cells' t) b.marks.items b'.marks.items
+      puts (pair_of driven) t work.driven_is.circuit.sound v w (row_at cells t) (row_at cells' t) b.marks.items b'.marks.items
       source (omega (arith, in_range, work.laid_out.rows_are.widths t lt)) (row_is cells' w is) value moved
 
-module _ (setup : Setup) (fanouts : Fanouts) (flags : List Bool) (cells : List (List Tern)) (b : Buckets) (v : ℕ) (xs : List ℕ)
-    (work : IsWork setup fanouts flags cells b) (read : xs ≡ list_of fanouts.readers v) (le : v ≤ setup.circuit.max_var) where
-  reads : (u : ℕ) → Contains xs u ↔ Reads setup.circuit u v
-  reads = each_reader setup.circuit fanouts.readers xs v work.readers le read
+module _ (driven : DrivenCircuit) (fanouts : Fanouts) (flags : List Bool) (cells : List (List Tern)) (b : Buckets) (v : ℕ) (xs : List ℕ)
+    (work : IsWork driven fanouts flags cells b) (read : xs ≡ list_of fanouts.readers v) (le : v ≤ driven.circuit.max_var) where
+  reads : (u : ℕ) → Contains xs u ↔ Reads driven.circuit u v
+  reads = each_reader driven.circuit fanouts.readers xs v work.readers le read
 
-  gate_reads : (u : ℕ) → Contains xs u → IsGate setup.circuit u
+  gate_reads : (u : ℕ) → Contains xs u → IsGate driven.circuit u
   gate_reads u i =
       let (r, x, there, is, side) = (reads u).0 i in
-      subst (IsGate setup.circuit) is (gate_is setup.circuit r x there)
+      subst (IsGate driven.circuit) is (gate_is driven.circuit r x there)
 
   pub source_readers_fit : (u : ℕ) → Contains xs u → Fits fanouts.levels (length b.head.items) u
   source_readers_fit u i =
       let (r, x, there, is, side) = (reads u).0 i in
-      let d = gate_definition setup.circuit work.setup_is.circuit.sound r x there in
-      let k = gate_in_range setup.circuit work.setup_is.circuit.sound r x there in
+      let d = gate_definition driven.circuit work.driven_is.circuit.sound r x there in
+      let k = gate_in_range driven.circuit work.driven_is.circuit.sound r x there in
       let h = gate_reads u i in
       record {
         positive = omega arith;
         inside = omega (arith, work.levels.size);
         level = λ m stands. work.heads u m h
-            (level_of_gate setup.circuit fanouts.levels u m work.levels work.setup_is.circuit.acyclic h stands);
+            (level_of_gate driven.circuit fanouts.levels u m work.levels work.driven_is.circuit.acyclic h stands);
       }
 
   pub source_linked : (b' : Buckets) → AreBuckets fanouts.levels b' → Links (Contains xs) b b'
-      → IsWork setup fanouts flags cells b'
+      → IsWork driven fanouts flags cells b'
   source_linked b' are links = record {
-    setup_is = work.setup_is;
+    driven_is = work.driven_is;
     laid_out = work.laid_out;
     levels = work.levels;
     readers = work.readers;
@@ -120,7 +120,7 @@ module _ (setup : Setup) (fanouts : Fanouts) (flags : List Bool) (cells : List (
   }
 
   pub waits_put : (b' : Buckets) (Q : Type 0) → Q → Links (Contains xs) b b'
-      → (u : ℕ) → Waits b' u ↔ (Waits b u ⊎ (Reads setup.circuit u v × Q))
+      → (u : ℕ) → Waits b' u ↔ (Waits b u ⊎ (Reads driven.circuit u v × Q))
   waits_put b' Q holds links u = (
     λ k. elim ((links.waits u).0 k) [ inl o ↦ inl o | inr i ↦ inr ((reads u).0 i, holds) ],
     λ k. elim k [
@@ -133,25 +133,25 @@ pub not_the_value : (o : Option Tern) (a w : Tern) → o ≡ Some a → a ≢ w 
 not_the_value o a w is ne e = ne (cc)
 
 -- new buckets
-pub new_work : (setup : Setup) (fanouts : Fanouts) (b : Buckets) → IsSetup setup → AreLevels setup.circuit fanouts.levels
-    → AreReaders setup.circuit fanouts.readers → length b.head.items ≡ setup.circuit.max_var + 1
-    → ((levels : List ℕ) → length levels ≡ setup.circuit.max_var + 1 → AreBuckets levels b)
-    → ((v : ℕ) → Waits b v → ⊥) → (flags : List Bool) (cells : List (List Tern)) → IsLaidOut setup flags cells
-    → IsWork setup fanouts flags cells b
-new_work setup fanouts b p levels readers size are empty flags cells laid_out = record {
-  setup_is = p;
+pub new_work : (driven : DrivenCircuit) (fanouts : Fanouts) (b : Buckets) → IsDriven driven → AreLevels driven.circuit fanouts.levels
+    → AreReaders driven.circuit fanouts.readers → length b.head.items ≡ driven.circuit.max_var + 1
+    → ((levels : List ℕ) → length levels ≡ driven.circuit.max_var + 1 → AreBuckets levels b)
+    → ((v : ℕ) → Waits b v → ⊥) → (flags : List Bool) (cells : List (List Tern)) → IsLaidOut driven flags cells
+    → IsWork driven fanouts flags cells b
+new_work driven fanouts b p levels readers size are empty flags cells laid_out = record {
+  driven_is = p;
   laid_out = laid_out;
   levels = levels;
   readers = readers;
   buckets = are fanouts.levels levels.size;
   size = omega arith;
-  heads = λ v n g l. let le = level_bound setup.circuit p.circuit.sound l in omega arith;
+  heads = λ v n g l. let le = level_bound driven.circuit p.circuit.sound l in omega arith;
   gates = λ v k. absurd (empty v k);
 }
 
 -- a circuit has no more variables than the limit and 0
-pub few_variables : (setup : Setup) → IsSetup setup → setup.circuit.max_var + 1 ≤ limit + 1
-few_variables setup p = let h = p.circuit.formed.counts.max_var in omega arith
+pub few_variables : (driven : DrivenCircuit) → IsDriven driven → driven.circuit.max_var + 1 ≤ limit + 1
+few_variables driven p = let h = p.circuit.formed.counts.max_var in omega arith
 
 -- nothing more waits where the cell has the value already
 pub waits_kept : (b : Buckets) (R : ℕ → ℕ → Type 0) (v : ℕ) (o : Option Tern) (a w : Tern) → o ≡ Some a → a ≡ w → (u : ℕ)

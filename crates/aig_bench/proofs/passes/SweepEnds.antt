@@ -11,12 +11,12 @@ use Rattle.aig_base.proofs.circuits.Gates.{gate_of}
 use Rattle.aig_base.proofs.levels.OneLevel.{level_of}
 use Rattle.aig_base.proofs.values.UniqueValue.{unique}
 use Rattle.aig_bench.specs.declared.buckets.Buckets.{Buckets}
-use Rattle.aig_bench.specs.declared.setup.Setup.{Setup}
-use Rattle.aig_bench.specs.declared.settle.Fanouts.{Fanouts}
+use Rattle.aig_bench.specs.declared.driven_circuit.DrivenCircuit.{DrivenCircuit}
+use Rattle.aig_bench.specs.declared.fanouts.Fanouts.{Fanouts}
 use Rattle.aig_bench.specs.state.Current.{Holds, IsCurrentRow}
 use Rattle.aig_bench.specs.Pair.{Pair}
 use Rattle.aig_bench.specs.state.Passing.{Differs, IsTouched, IsConsistent}
-use Rattle.aig_bench.specs.state.Setup.{pair_of}
+use Rattle.aig_bench.specs.state.DrivenCircuit.{pair_of}
 use Rattle.aig_bench.specs.state.Sweep.{IsWork, Sweeping, Swept, Sweeps, Starts, Ends}
 use Rattle.aig_bench.proofs.passes.PassLemmas.{marked_or_not, ended_current, ended_touched}
 
@@ -39,14 +39,14 @@ begun p t forced old row marks h = record {
   changed_each = λ v. (λ i. absurd (no_element v i), λ k. absurd (h.none v k.0));
 }
 
-module _ (setup : Setup) (fanouts : Fanouts) (flags : List Bool) (cells : List (List Tern)) (b : Buckets) (t n e c : ℕ)
+module _ (driven : DrivenCircuit) (fanouts : Fanouts) (flags : List Bool) (cells : List (List Tern)) (b : Buckets) (t n e c : ℕ)
     (forced : List ℕ) (old row0 row : List Tern) (marks : List Bool)
-    (work : IsWork setup fanouts flags cells b) (top : length b.head.items ≤ n)
-    (fits : IsConsistent (pair_of setup) (Contains forced) old)
-    (start : Starts (pair_of setup) t (Contains forced) old row0 marks)
-    (h : Sweeps (pair_of setup) t 0 n row0 marks row b.marks.items e c) where
+    (work : IsWork driven fanouts flags cells b) (top : length b.head.items ≤ n)
+    (fits : IsConsistent (pair_of driven) (Contains forced) old)
+    (start : Starts (pair_of driven) t (Contains forced) old row0 marks)
+    (h : Sweeps (pair_of driven) t 0 n row0 marks row b.marks.items e c) where
   abbrev p : Pair
-  p = pair_of setup
+  p = pair_of driven
 
   swept : Swept p t (Contains forced) old n row b.marks.items [] [] e c
   swept = h.sweep forced old [] [] fits (begun p t (Contains forced) old row0 marks start)
@@ -57,19 +57,19 @@ module _ (setup : Setup) (fanouts : Fanouts) (flags : List Bool) (cells : List (
   none : (v : ℕ) → IsMarked b.marks.items v → ⊥
   none v k =
       let g = work.gates v k in
-      let (m, l) = level_of (work.setup_is.circuit.acyclic v g) in
+      let (m, l) = level_of (work.driven_is.circuit.acyclic v g) in
       let below = work.heads v m g l in
       let over = s.high v m k l in
       omega arith
 
   current : IsCurrentRow p t row
-  current = ended_current p t (Contains forced) old row b.marks.items s.done work.setup_is.circuit.sound s.passing
-      work.setup_is.circuit.acyclic fits none
+  current = ended_current p t (Contains forced) old row b.marks.items s.done work.driven_is.circuit.sound s.passing
+      work.driven_is.circuit.acyclic fits none
 
   done_touched : (q : ℕ) (g : Gate) → slice_get p.circuit.gates q ≡ Some g → IsTouched p t (Contains forced) old g
       → IsMarked s.done (variable g.lhs)
-  done_touched = ended_touched p t (Contains forced) old row b.marks.items s.done work.setup_is.circuit.sound s.passing
-      work.setup_is.circuit.acyclic fits none
+  done_touched = ended_touched p t (Contains forced) old row b.marks.items s.done work.driven_is.circuit.sound s.passing
+      work.driven_is.circuit.acyclic fits none
 
   -- a gate that differs was evaluated
   done_differs : (v : ℕ) → IsGate p.circuit v → Differs p t old v → IsMarked s.done v
@@ -81,7 +81,7 @@ module _ (setup : Setup) (fanouts : Fanouts) (flags : List Bool) (cells : List (
         subst (λ (u : ℕ). slice_get row u ≡ slice_get old u) is
         (s.passing.others q g at (λ m. nd (subst (IsMarked s.done) is m))) in
         let h : Holds p t row v = subst (Holds p t row) is (current (variable g.lhs) (gate_defined p.circuit q g at)) in
-        let w : h.cell ≡ d.value = unique p.circuit (start_of p.circuit) p.rows work.setup_is.circuit.sound h.value_is d.value_is in
+        let w : h.cell ≡ d.value = unique p.circuit (start_of p.circuit) p.rows work.driven_is.circuit.sound h.value_is d.value_is in
         absurd (d.other (sym row_is ∙ h.cell_is ∙ ap Some w))
   ]
 

@@ -12,15 +12,15 @@ use Rattle.aig_base.proofs.circuits.Circuits.{gate_definition, gate_in_range, ga
 use Rattle.aig_base.proofs.circuits.Gates.{level_of_gate}
 use Rattle.aig_grids.specs.Cells.{gate_value}
 use Rattle.aig_grids.specs.InputRows.{row_at, with_cell}
-use Rattle.aig_bench.specs.declared.latches.LatchList.{LatchList}
+use Rattle.aig_bench.specs.declared.latch_list.LatchList.{LatchList}
 use Rattle.aig_bench.specs.state.Latches.{Follows, HandsOn, Lists}
 use Rattle.aig_bench.proofs.carries.Handed.{hands_same, hands_written, set_again}
 use Rattle.aig_bench.specs.declared.buckets.Buckets.{Buckets}
-use Rattle.aig_bench.specs.declared.setup.Setup.{Setup}
-use Rattle.aig_bench.specs.declared.settle.Fanouts.{Fanouts}
+use Rattle.aig_bench.specs.declared.driven_circuit.DrivenCircuit.{DrivenCircuit}
+use Rattle.aig_bench.specs.declared.fanouts.Fanouts.{Fanouts}
 use Rattle.aig_bench.specs.state.Buckets.{AreBuckets, Waits, Fits, Links, Takes}
 use Rattle.aig_bench.specs.state.Current.{AreGateFlags, IsLaidOut}
-use Rattle.aig_bench.specs.state.Setup.{pair_of}
+use Rattle.aig_bench.specs.state.DrivenCircuit.{pair_of}
 use Rattle.aig_parts.specs.declared.raw.Raw.{Raw}
 use Rattle.aig_base.specs.Readers.{ReaderLists, list_of, Reads, AreReaders}
 use Rattle.aig_bench.specs.state.Sweep.{IsWork, Sweeps}
@@ -34,11 +34,11 @@ pub each_reader : (raw : Raw) (r : ReaderLists) (xs : List ℕ) (v : ℕ) → Ar
 each_reader raw r xs v h le e u = rw e (h.each v u le)
 
 -- a grid in which a cell was written is laid out as before
-pub laid_out_written : (setup : Setup) (t u : ℕ) (w : Tern) (flags flags' : List Bool) (old new : List (List Tern))
-    → IsLaidOut setup flags old → new ≡ with_cell old t u w → t < length setup.stimulus.rows → 0 < u → flags' ≡ flags
-    → IsLaidOut setup flags' new
-laid_out_written setup t u w flags flags' old new h is lt positive e = record {
-  flags_are = subst (AreGateFlags setup.circuit) (sym e) h.flags_are;
+pub laid_out_written : (driven : DrivenCircuit) (t u : ℕ) (w : Tern) (flags flags' : List Bool) (old new : List (List Tern))
+    → IsLaidOut driven flags old → new ≡ with_cell old t u w → t < length driven.stimulus.rows → 0 < u → flags' ≡ flags
+    → IsLaidOut driven flags' new
+laid_out_written driven t u w flags flags' old new h is lt positive e = record {
+  flags_are = subst (AreGateFlags driven.circuit) (sym e) h.flags_are;
   rows_are = record {
     frames_are = ap length is ∙ frames_written old t u w ∙ h.rows_are.frames_are;
     widths = λ s below. elim (cases_eq s t) [
@@ -63,46 +63,46 @@ laid_out_written setup t u w flags flags' old new h is lt positive e = record {
     there : (s : ℕ) → s ≢ t → row_at new s ≡ row_at old s
     there s ne = ap (λ (c : List (List Tern)). row_at c s) is ∙ row_other old t u w s ne
 
-module _ (setup : Setup) (fanouts : Fanouts) (flags : List Bool) (cells : List (List Tern)) (b b' : Buckets) (t l w q : ℕ) (g : Gate)
-    (work : IsWork setup fanouts flags cells b) (lt : t < length setup.stimulus.rows)
-    (takes : Takes fanouts.levels l b b' (Some w)) (at : slice_get setup.circuit.gates q ≡ Some g) (e : variable g.lhs ≡ w) where
+module _ (driven : DrivenCircuit) (fanouts : Fanouts) (flags : List Bool) (cells : List (List Tern)) (b b' : Buckets) (t l w q : ℕ) (g : Gate)
+    (work : IsWork driven fanouts flags cells b) (lt : t < length driven.stimulus.rows)
+    (takes : Takes fanouts.levels l b b' (Some w)) (at : slice_get driven.circuit.gates q ≡ Some g) (e : variable g.lhs ≡ w) where
   abbrev v : ℕ
   v = variable g.lhs
 
   taken : Takes fanouts.levels l b b' (Some v)
   taken = subst (λ (z : ℕ). Takes fanouts.levels l b b' (Some z)) (sym e) takes
 
-  in_range : v ≤ setup.circuit.max_var
-  in_range = gate_in_range setup.circuit work.setup_is.circuit.sound q g at
+  in_range : v ≤ driven.circuit.max_var
+  in_range = gate_in_range driven.circuit work.driven_is.circuit.sound q g at
 
-  pub taken_in_range : w ≤ setup.circuit.max_var
-  taken_in_range = subst (λ (z : ℕ). z ≤ setup.circuit.max_var) e in_range
+  pub taken_in_range : w ≤ driven.circuit.max_var
+  taken_in_range = subst (λ (z : ℕ). z ≤ driven.circuit.max_var) e in_range
 
   positive : 0 < v
-  positive = let d = gate_definition setup.circuit work.setup_is.circuit.sound q g at in omega arith
+  positive = let d = gate_definition driven.circuit work.driven_is.circuit.sound q g at in omega arith
 
   pub lhs_even : IsEven g.lhs
-  lhs_even = (gate_definition setup.circuit work.setup_is.circuit.sound q g at).0
+  lhs_even = (gate_definition driven.circuit work.driven_is.circuit.sound q g at).0
 
   pub lhs_flag : slice_get flags v ≡ Some true
-  lhs_flag = gate_flag setup.circuit flags v work.laid_out.flags_are in_range (gate_is setup.circuit q g at)
+  lhs_flag = gate_flag driven.circuit flags v work.laid_out.flags_are in_range (gate_is driven.circuit q g at)
 
   pub rhs0_inside : variable g.rhs0 < length flags
-  rhs0_inside = omega (arith, rhs0_in_range setup.circuit work.setup_is.circuit.sound q g at, work.laid_out.flags_are.size)
+  rhs0_inside = omega (arith, rhs0_in_range driven.circuit work.driven_is.circuit.sound q g at, work.laid_out.flags_are.size)
 
   pub rhs1_inside : variable g.rhs1 < length flags
-  rhs1_inside = omega (arith, rhs1_in_range setup.circuit work.setup_is.circuit.sound q g at, work.laid_out.flags_are.size)
+  rhs1_inside = omega (arith, rhs1_in_range driven.circuit work.driven_is.circuit.sound q g at, work.laid_out.flags_are.size)
 
-  level : Level setup.circuit v l
-  level = level_of_gate setup.circuit fanouts.levels v l work.levels work.setup_is.circuit.acyclic (gate_is setup.circuit q g at)
+  level : Level driven.circuit v l
+  level = level_of_gate driven.circuit fanouts.levels v l work.levels work.driven_is.circuit.acyclic (gate_is driven.circuit q g at)
       taken.of_level
 
-  wide : length (row_at cells t) ≡ setup.circuit.max_var + 1
+  wide : length (row_at cells t) ≡ driven.circuit.max_var + 1
   wide = work.laid_out.rows_are.widths t lt
 
-  pub taken_work : IsWork setup fanouts flags cells b'
+  pub taken_work : IsWork driven fanouts flags cells b'
   taken_work = record {
-    setup_is = work.setup_is;
+    driven_is = work.driven_is;
     laid_out = work.laid_out;
     levels = work.levels;
     readers = work.readers;
@@ -126,33 +126,33 @@ module _ (setup : Setup) (fanouts : Fanouts) (flags : List Bool) (cells : List (
   level_is = taken.of_level
 
   module _ (xs : List ℕ) (read : xs ≡ list_of fanouts.readers w) where
-    reads : (u : ℕ) → Contains xs u ↔ Reads setup.circuit u v
-    reads = each_reader setup.circuit fanouts.readers xs v work.readers in_range (read ∙ ap (list_of fanouts.readers) (sym e))
+    reads : (u : ℕ) → Contains xs u ↔ Reads driven.circuit u v
+    reads = each_reader driven.circuit fanouts.readers xs v work.readers in_range (read ∙ ap (list_of fanouts.readers) (sym e))
 
-    gate_reads : (u : ℕ) → Contains xs u → IsGate setup.circuit u
+    gate_reads : (u : ℕ) → Contains xs u → IsGate driven.circuit u
     gate_reads u i =
         let (r, x, there, is, side) = (reads u).0 i in
-        subst (IsGate setup.circuit) is (gate_is setup.circuit r x there)
+        subst (IsGate driven.circuit) is (gate_is driven.circuit r x there)
 
     pub readers_fit : (u : ℕ) → Contains xs u → Fits fanouts.levels (length b'.head.items) u
     readers_fit u i =
         let (r, x, there, is, side) = (reads u).0 i in
-        let d = gate_definition setup.circuit work.setup_is.circuit.sound r x there in
-        let k = gate_in_range setup.circuit work.setup_is.circuit.sound r x there in
+        let d = gate_definition driven.circuit work.driven_is.circuit.sound r x there in
+        let k = gate_in_range driven.circuit work.driven_is.circuit.sound r x there in
         let h = gate_reads u i in
         record {
           positive = omega arith;
           inside = omega (arith, work.levels.size);
           level = λ m stands.
               let below = work.heads u m h
-              (level_of_gate setup.circuit fanouts.levels u m work.levels work.setup_is.circuit.acyclic h stands) in
+              (level_of_gate driven.circuit fanouts.levels u m work.levels work.driven_is.circuit.acyclic h stands) in
               omega (arith, taken.heads);
         }
 
     module _ (b'' : Buckets) (are : AreBuckets fanouts.levels b'') (links : Links (Contains xs) b' b'') where
-      pub linked_work : IsWork setup fanouts flags cells b''
+      pub linked_work : IsWork driven fanouts flags cells b''
       linked_work = record {
-        setup_is = work.setup_is;
+        driven_is = work.driven_is;
         laid_out = work.laid_out;
         levels = work.levels;
         readers = work.readers;
@@ -175,10 +175,10 @@ module _ (setup : Setup) (fanouts : Fanouts) (flags : List Bool) (cells : List (
           reader_over : (u : ℕ) → slice_get fanouts.levels u ≡ Some l → Contains xs u → ⊥
           reader_over u stands i =
               let (r, x, there, is, side) = (reads u).0 i in
-              let k : Level setup.circuit u l = level_of_gate setup.circuit fanouts.levels u l work.levels
-              work.setup_is.circuit.acyclic (gate_reads u i) stands in
-              let o : l < l = lower (pair_of setup) t work.setup_is.circuit r x v l l there side level
-              (subst (λ (z : ℕ). Level setup.circuit z l) (sym is) k) in
+              let k : Level driven.circuit u l = level_of_gate driven.circuit fanouts.levels u l work.levels
+              work.driven_is.circuit.acyclic (gate_reads u i) stands in
+              let o : l < l = lower (pair_of driven) t work.driven_is.circuit r x v l l there side level
+              (subst (λ (z : ℕ). Level driven.circuit z l) (sym is) k) in
               omega arith
 
       pub linked_no_more : Waits b'' v → ⊥
@@ -186,8 +186,8 @@ module _ (setup : Setup) (fanouts : Fanouts) (flags : List Bool) (cells : List (
         | inl o ↦ waits_no_more o
         | inr i ↦
             let (r, x, there, is, side) = (reads v).0 i in
-            let o : l < l = lower (pair_of setup) t work.setup_is.circuit r x v l l there side level
-            (subst (λ (z : ℕ). Level setup.circuit z l) (sym is) level) in
+            let o : l < l = lower (pair_of driven) t work.driven_is.circuit r x v l l there side level
+            (subst (λ (z : ℕ). Level driven.circuit z l) (sym is) level) in
             absurd (omega arith)
       ]
 
@@ -198,10 +198,10 @@ module _ (setup : Setup) (fanouts : Fanouts) (flags : List Bool) (cells : List (
         ∙ row_written cells t v (gate_value (row_at cells t) g) (omega (arith, lt, work.laid_out.rows_are.frames_are))
 
     -- what a change of the cell hands on
-    pub hands_changed : (old new : LatchList) → Lists (λ i. Follows setup.circuit i w) old new
-        → HandsOn setup.circuit (row_at cells t) old.marks.items (row_at cells' t) new.marks.items
+    pub hands_changed : (old new : LatchList) → Lists (λ i. Follows driven.circuit i w) old new
+        → HandsOn driven.circuit (row_at cells t) old.marks.items (row_at cells' t) new.marks.items
     hands_changed old new lists =
-        hands_written setup.circuit (row_at cells t) (row_at cells' t) w (gate_value (row_at cells t) g) old new
+        hands_written driven.circuit (row_at cells t) (row_at cells' t) w (gate_value (row_at cells t) g) old new
         (subst (λ (z : ℕ). row_at cells' t ≡ slice_set (row_at cells t) z (gate_value (row_at cells t) g)) e row_is) lists
 
     inside_row : v < length (row_at cells t)
@@ -211,10 +211,10 @@ module _ (setup : Setup) (fanouts : Fanouts) (flags : List Bool) (cells : List (
     other_rows u ne = ap (λ (c : List (List Tern)). row_at c u) is
         ∙ row_other cells t v (gate_value (row_at cells t) g) u ne
 
-    pub written_work : (flags' : List Bool) (x : Buckets) → flags' ≡ flags → IsWork setup fanouts flags cells x → IsWork setup fanouts flags' cells' x
+    pub written_work : (flags' : List Bool) (x : Buckets) → flags' ≡ flags → IsWork driven fanouts flags cells x → IsWork driven fanouts flags' cells' x
     written_work flags' x same h = record {
-      setup_is = h.setup_is;
-      laid_out = laid_out_written setup t v (gate_value (row_at cells t) g) flags flags' cells cells' h.laid_out is lt positive same;
+      driven_is = h.driven_is;
+      laid_out = laid_out_written driven t v (gate_value (row_at cells t) g) flags flags' cells cells' h.laid_out is lt positive same;
       levels = h.levels;
       readers = h.readers;
       buckets = h.buckets;
@@ -225,14 +225,14 @@ module _ (setup : Setup) (fanouts : Fanouts) (flags : List Bool) (cells : List (
 
     pub sweeps_changed : (xs : List ℕ) → xs ≡ list_of fanouts.readers w → (b'' : Buckets) → Links (Contains xs) b' b''
         → get_or (row_at cells' t) v X ≢ get_or (row_at cells t) v X
-        → Sweeps (pair_of setup) t l l (row_at cells t) b.marks.items (row_at cells' t) b''.marks.items 1 1
+        → Sweeps (pair_of driven) t l l (row_at cells t) b.marks.items (row_at cells' t) b''.marks.items 1 1
     sweeps_changed xs read b'' links ne =
         let fresh = cell_changed (row_at cells t) (row_at cells' t) v (gate_value (row_at cells t) g) row_is inside_row ne in
         record {
           sweep = λ forced old ys zs fits s. record {
             evaluated_now = v ∷ ys;
             changed_now = v ∷ zs;
-            sweeping = rw row_is (swept_changed (pair_of setup) t work.setup_is.circuit (Contains forced) old (row_at cells t)
+            sweeping = rw row_is (swept_changed (pair_of driven) t work.driven_is.circuit (Contains forced) old (row_at cells t)
                 b.marks.items b''.marks.items l q g ys zs fits s at waited level wide (λ u. (
                   λ k. elim ((links.waits u).0 k) [
                     | inl o ↦ inl ((taken.waits u).0 o)
@@ -249,21 +249,21 @@ module _ (setup : Setup) (fanouts : Fanouts) (flags : List Bool) (cells : List (
         }
 
     pub hands_unchanged : (get_or (row_at cells' t) v X ≢ get_or (row_at cells t) v X → ⊥) → (marks : List Bool)
-        → HandsOn setup.circuit (row_at cells t) marks (row_at cells' t) marks
+        → HandsOn driven.circuit (row_at cells t) marks (row_at cells' t) marks
     hands_unchanged f marks =
         let same = cell_same (row_at cells t) (row_at cells' t) v (gate_value (row_at cells t) g) row_is inside_row f in
-        hands_same setup.circuit (row_at cells t) (row_at cells' t) marks (λ u. ap (λ (r : List Tern). slice_get r u) row_is
+        hands_same driven.circuit (row_at cells t) (row_at cells' t) marks (λ u. ap (λ (r : List Tern). slice_get r u) row_is
         ∙ set_again (row_at cells t) v (gate_value (row_at cells t) g) same u)
 
     pub sweeps_same : (get_or (row_at cells' t) v X ≢ get_or (row_at cells t) v X → ⊥)
-        → Sweeps (pair_of setup) t l l (row_at cells t) b.marks.items (row_at cells' t) b'.marks.items 1 0
+        → Sweeps (pair_of driven) t l l (row_at cells t) b.marks.items (row_at cells' t) b'.marks.items 1 0
     sweeps_same f =
         let same = cell_same (row_at cells t) (row_at cells' t) v (gate_value (row_at cells t) g) row_is inside_row f in
         record {
           sweep = λ forced old ys zs fits s. record {
             evaluated_now = v ∷ ys;
             changed_now = zs;
-            sweeping = rw row_is (swept_same (pair_of setup) t work.setup_is.circuit (Contains forced) old (row_at cells t)
+            sweeping = rw row_is (swept_same (pair_of driven) t work.driven_is.circuit (Contains forced) old (row_at cells t)
                 b.marks.items b'.marks.items l q g ys zs fits s at waited level wide (λ u. (
                   λ k. inl ((taken.waits u).0 k),
                   λ k. elim k [

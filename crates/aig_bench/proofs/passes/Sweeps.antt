@@ -225,7 +225,7 @@ module _ (row row' : List Tern) (v : ℕ) (w : Tern) (is : row' ≡ slice_set ro
     | inr ne ↦ absurd (f (λ e. ne (slice_get-get_or row v X lt ∙ ap Some (sym e ∙ written_now))))
   ]
 
--- sweeps one behind the other
+-- sweeps one after the other
 module _ (p : Pair) (t : ℕ) where
   pub sweeps_none : (n : ℕ) (row : List Tern) (marks : List Bool) → Sweeps p t n n row marks row marks 0 0
   sweeps_none n row marks = record {

@@ -1,4 +1,4 @@
--- Setups and grids after an edit.
+-- DrivenCircuit and grids after an edit.
 use Rattle.std.proofs.Common.{◌≡◌, ◌↔◌, ℕ, zero, suc, ◌+◌, ◌-◌, ◌*◌, ◌<◌, ◌≤◌, Bool, nat_eq, List, [], ◌∷◌, ◌++◌, length, map, get_or, count_by, take, Some, slice_get, Contains, refl, sym, ap, ◌∙◌, subst, arith, length-append, length-take}
 use Rattle.std.proofs.lemmas.List.{get_or-take, get_or_append_left}
 use Rattle.std.proofs.lemmas.List.Elements.{All-take, All-append}
@@ -17,12 +17,12 @@ use Rattle.aig_base.specs.Value.{start_of}
 use Rattle.aig_base.proofs.rewires.Rewiring.{with_reset-circuit}
 use Rattle.aig_grids.specs.InputRows.{InputRows, row_at, HaveWidth}
 use Rattle.aig_parts.specs.Limits.{cell_limit, frame_limit}
-use Rattle.aig_bench.specs.declared.setup.Setup.{Setup}
+use Rattle.aig_bench.specs.declared.driven_circuit.DrivenCircuit.{DrivenCircuit}
 use Rattle.aig_bench.specs.Pair.{Pair}
 use Rattle.aig_bench.specs.state.Current.{AreGateFlags, AreRows, IsLaidOut, Holds, AreCurrent, IsBench}
 use Rattle.aig_grids.specs.Cells.{fresh_row}
 use Rattle.aig_bench.proofs.cells.Layouts.{rows_more}
-use Rattle.aig_bench.specs.state.Setup.{IsSetup, pair_of}
+use Rattle.aig_bench.specs.state.DrivenCircuit.{IsDriven, pair_of}
 use Rattle.aig_bench.proofs.cells.Earlier.{value_before}
 
 -- rows and cells that agree below a frame: cells that are values stay values
@@ -41,12 +41,12 @@ current_below p n m rows cells cells' h le same rest = record {
       value_is = value_before p.circuit (start_of p.circuit) p.rows rows m same lt k.value_is;
     }
 
--- a setup with other rows
-pub setup_with_rows : (setup : Setup) (s : InputRows) (rows : List (List Tern)) → IsSetup setup
-    → s ≡ record setup.stimulus { rows = rows } → HaveWidth setup.stimulus.width rows → length rows ≤ frame_limit
-    → (setup.circuit.max_var + 1) * length rows ≤ cell_limit → IsSetup (record setup { stimulus = s })
-setup_with_rows setup s rows p e widths frames cells =
-    subst (λ (x : InputRows). IsSetup (record setup { stimulus = x })) (sym e)
+-- a driven circuit with other rows
+pub driven_with_rows : (driven : DrivenCircuit) (s : InputRows) (rows : List (List Tern)) → IsDriven driven
+    → s ≡ record driven.stimulus { rows = rows } → HaveWidth driven.stimulus.width rows → length rows ≤ frame_limit
+    → (driven.circuit.max_var + 1) * length rows ≤ cell_limit → IsDriven (record driven { stimulus = s })
+driven_with_rows driven s rows p e widths frames cells =
+    subst (λ (x : InputRows). IsDriven (record driven { stimulus = x })) (sym e)
     (record { circuit = p.circuit; width = p.width; widths = widths; frames = frames; cells = cells })
 
 pub slice_get_take : {X : Type 0} (n : ℕ) (xs : List X) (t : ℕ) (d : X) → n ≤ length xs → t < n → slice_get (take n xs) t ≡ slice_get xs t
@@ -63,26 +63,26 @@ fewer_cells : (a n : ℕ) → a * n ≤ cell_limit → a * (n - 1) ≤ cell_limi
 fewer_cells a n le = omega (arith, mul-le-mul_left a (let k : n - 1 ≤ n = omega arith in k))
 
 -- the last frame taken off
-pub bench_dropped : (setup : Setup) (s : InputRows) (flags flags' : List Bool) (cells cells' : List (List Tern))
-    → IsBench setup flags cells → s ≡ record setup.stimulus { rows = take (length setup.stimulus.rows - 1) setup.stimulus.rows }
+pub bench_dropped : (driven : DrivenCircuit) (s : InputRows) (flags flags' : List Bool) (cells cells' : List (List Tern))
+    → IsBench driven flags cells → s ≡ record driven.stimulus { rows = take (length driven.stimulus.rows - 1) driven.stimulus.rows }
     → cells' ≡ take (length cells - 1) cells → flags' ≡ flags
-    → IsBench (record setup { stimulus = s }) flags' cells'
-bench_dropped setup s flags flags' cells cells' b e is same =
-    let n = length setup.stimulus.rows in
-    let rows = take (n - 1) setup.stimulus.rows in
-    let size : length rows ≡ n - 1 = omega (arith, length-take (n - 1) setup.stimulus.rows) in
+    → IsBench (record driven { stimulus = s }) flags' cells'
+bench_dropped driven s flags flags' cells cells' b e is same =
+    let n = length driven.stimulus.rows in
+    let rows = take (n - 1) driven.stimulus.rows in
+    let size : length rows ≡ n - 1 = omega (arith, length-take (n - 1) driven.stimulus.rows) in
     let frames = b.laid_out.rows_are.frames_are in
     let cell_size : length cells' ≡ n - 1 = ap length is ∙ omega (arith, length-take (length cells - 1) cells, frames) in
     let row_is : (t : ℕ) → t < n - 1 → row_at cells' t ≡ row_at cells t =
     λ t lt. ap (λ (c : List (List Tern)). row_at c t) is ∙ get_or-take (length cells - 1) cells t [] (omega (arith, frames)) in
-    subst (λ (x : InputRows). IsBench (record setup { stimulus = x }) flags' cells') (sym e)
+    subst (λ (x : InputRows). IsBench (record driven { stimulus = x }) flags' cells') (sym e)
     (record {
-      setup_is = setup_with_rows setup _ rows b.setup_is refl
-          (All-take (λ row. length row ≡ setup.stimulus.width) (n - 1) setup.stimulus.rows b.setup_is.widths)
-          (omega (arith, b.setup_is.frames))
-          (rw size (fewer_cells (setup.circuit.max_var + 1) n b.setup_is.cells));
+      driven_is = driven_with_rows driven _ rows b.driven_is refl
+          (All-take (λ row. length row ≡ driven.stimulus.width) (n - 1) driven.stimulus.rows b.driven_is.widths)
+          (omega (arith, b.driven_is.frames))
+          (rw size (fewer_cells (driven.circuit.max_var + 1) n b.driven_is.cells));
       laid_out = record {
-        flags_are = subst (AreGateFlags setup.circuit) (sym same) b.laid_out.flags_are;
+        flags_are = subst (AreGateFlags driven.circuit) (sym same) b.laid_out.flags_are;
         rows_are = record {
           frames_are = cell_size ∙ sym size;
           widths = λ t lt. ap length (row_is t (omega arith)) ∙ b.laid_out.rows_are.widths t (omega arith);
@@ -90,8 +90,8 @@ bench_dropped setup s flags flags' cells cells' b e is same =
               ∙ b.laid_out.rows_are.constants t (omega arith);
         };
       };
-      current = current_below (pair_of setup) n (length rows) rows cells cells' b.current (omega arith)
-          (λ t lt. slice_get_take (n - 1) setup.stimulus.rows t [] (omega arith) (omega arith))
+      current = current_below (pair_of driven) n (length rows) rows cells cells' b.current (omega arith)
+          (λ t lt. slice_get_take (n - 1) driven.stimulus.rows t [] (omega arith) (omega arith))
           (λ t lt. row_is t (omega arith));
     })
 
@@ -99,58 +99,58 @@ swapped : (m n k : ℕ) → (m + 1) * k ≤ n → k * (m + 1) ≤ n
 swapped m n k le = grind arith
 
 -- a row that is added has room
-pub room_added : (setup : Setup) (flags : List Bool) (cells : List (List Tern)) → IsLaidOut setup flags cells
-    → (setup.circuit.max_var + 1) * (length setup.stimulus.rows + 1) ≤ cell_limit
+pub room_added : (driven : DrivenCircuit) (flags : List Bool) (cells : List (List Tern)) → IsLaidOut driven flags cells
+    → (driven.circuit.max_var + 1) * (length driven.stimulus.rows + 1) ≤ cell_limit
     → (length cells + 1) * length flags ≤ cell_limit
-room_added setup flags cells h le =
-    let e : length flags ≡ setup.circuit.max_var + 1 = h.flags_are.size in
-    let f : length cells ≡ length setup.stimulus.rows = h.rows_are.frames_are in
-    rw (e, f) (swapped setup.circuit.max_var cell_limit (length setup.stimulus.rows + 1) le)
+room_added driven flags cells h le =
+    let e : length flags ≡ driven.circuit.max_var + 1 = h.flags_are.size in
+    let f : length cells ≡ length driven.stimulus.rows = h.rows_are.frames_are in
+    rw (e, f) (swapped driven.circuit.max_var cell_limit (length driven.stimulus.rows + 1) le)
 
 one_row : (width : ℕ) (row : List Tern) → length row ≡ width → HaveWidth width (row ∷ [])
 one_row width row e zero d lt = e
 one_row width row e (suc k) d lt = absurd (omega arith)
 
-module _ (setup : Setup) (s : InputRows) (row : List Tern) (p : IsSetup setup)
-    (e : s ≡ record setup.stimulus { rows = setup.stimulus.rows ++ row ∷ [] }) (wide : length row ≡ setup.stimulus.width)
-    (few : length setup.stimulus.rows < frame_limit)
-    (limit : (setup.circuit.max_var + 1) * (length setup.stimulus.rows + 1) ≤ cell_limit) where
-  more : length (setup.stimulus.rows ++ row ∷ []) ≡ length setup.stimulus.rows + 1
-  more = length-append setup.stimulus.rows (row ∷ [])
+module _ (driven : DrivenCircuit) (s : InputRows) (row : List Tern) (p : IsDriven driven)
+    (e : s ≡ record driven.stimulus { rows = driven.stimulus.rows ++ row ∷ [] }) (wide : length row ≡ driven.stimulus.width)
+    (few : length driven.stimulus.rows < frame_limit)
+    (limit : (driven.circuit.max_var + 1) * (length driven.stimulus.rows + 1) ≤ cell_limit) where
+  more : length (driven.stimulus.rows ++ row ∷ []) ≡ length driven.stimulus.rows + 1
+  more = length-append driven.stimulus.rows (row ∷ [])
 
-  pub setup_added : IsSetup (record setup { stimulus = s })
-  setup_added = setup_with_rows setup s (setup.stimulus.rows ++ row ∷ []) p e
-      (All-append (λ row. length row ≡ setup.stimulus.width) setup.stimulus.rows (row ∷ []) p.widths
-      (one_row setup.stimulus.width row wide))
+  pub driven_added : IsDriven (record driven { stimulus = s })
+  driven_added = driven_with_rows driven s (driven.stimulus.rows ++ row ∷ []) p e
+      (All-append (λ row. length row ≡ driven.stimulus.width) driven.stimulus.rows (row ∷ []) p.widths
+      (one_row driven.stimulus.width row wide))
       (omega (arith, more)) (rw more limit)
 
-  pub current_added : (cells cells' more_cells : List (List Tern)) → AreCurrent (pair_of setup) (length setup.stimulus.rows) cells
-      → length cells ≡ length setup.stimulus.rows → cells' ≡ cells ++ more_cells
-      → AreCurrent (pair_of (record setup { stimulus = s })) (length setup.stimulus.rows) cells'
+  pub current_added : (cells cells' more_cells : List (List Tern)) → AreCurrent (pair_of driven) (length driven.stimulus.rows) cells
+      → length cells ≡ length driven.stimulus.rows → cells' ≡ cells ++ more_cells
+      → AreCurrent (pair_of (record driven { stimulus = s })) (length driven.stimulus.rows) cells'
   current_added cells cells' more_cells h size is =
-      subst (λ (x : InputRows). AreCurrent (pair_of (record setup { stimulus = x })) (length setup.stimulus.rows) cells') (sym e)
-      (current_below (pair_of setup) (length setup.stimulus.rows) (length setup.stimulus.rows)
-      (setup.stimulus.rows ++ row ∷ []) cells cells' h (omega arith)
-      (λ t lt. slice_get_append setup.stimulus.rows (row ∷ []) t [] lt)
+      subst (λ (x : InputRows). AreCurrent (pair_of (record driven { stimulus = x })) (length driven.stimulus.rows) cells') (sym e)
+      (current_below (pair_of driven) (length driven.stimulus.rows) (length driven.stimulus.rows)
+      (driven.stimulus.rows ++ row ∷ []) cells cells' h (omega arith)
+      (λ t lt. slice_get_append driven.stimulus.rows (row ∷ []) t [] lt)
       (λ t lt. ap (λ (c : List (List Tern)). row_at c t) is ∙ get_or_append_left cells more_cells [] t (omega (arith, size))))
 
--- a setup whose latch starts otherwise
-pub setup_restarted : (setup : Setup) (c : Raw) (lit : ℕ) (w : Tern) → IsSetup setup → c ≡ with_reset setup.circuit lit w
-    → IsSetup (record setup { circuit = c })
-setup_restarted setup c lit w p e =
-    subst (λ (x : Raw). IsSetup (record setup { circuit = x })) (sym e)
+-- a driven circuit whose latch starts otherwise
+pub driven_restarted : (driven : DrivenCircuit) (c : Raw) (lit : ℕ) (w : Tern) → IsDriven driven → c ≡ with_reset driven.circuit lit w
+    → IsDriven (record driven { circuit = c })
+driven_restarted driven c lit w p e =
+    subst (λ (x : Raw). IsDriven (record driven { circuit = x })) (sym e)
     (record {
-      circuit = with_reset-circuit lit w setup.circuit p.circuit;
+      circuit = with_reset-circuit lit w driven.circuit p.circuit;
       width = p.width;
       widths = p.widths;
       frames = p.frames;
       cells = p.cells;
     })
 
-pub laid_out_restarted : (setup : Setup) (c : Raw) (lit : ℕ) (w : Tern) (flags : List Bool) (cells : List (List Tern))
-    → IsLaidOut setup flags cells → c ≡ with_reset setup.circuit lit w → IsLaidOut (record setup { circuit = c }) flags cells
-laid_out_restarted setup c lit w flags cells h e =
-    subst (λ (x : Raw). IsLaidOut (record setup { circuit = x }) flags cells) (sym e)
+pub laid_out_restarted : (driven : DrivenCircuit) (c : Raw) (lit : ℕ) (w : Tern) (flags : List Bool) (cells : List (List Tern))
+    → IsLaidOut driven flags cells → c ≡ with_reset driven.circuit lit w → IsLaidOut (record driven { circuit = c }) flags cells
+laid_out_restarted driven c lit w flags cells h e =
+    subst (λ (x : Raw). IsLaidOut (record driven { circuit = x }) flags cells) (sym e)
     (record {
       flags_are = record { size = h.flags_are.size; gates = h.flags_are.gates; others = h.flags_are.others };
       rows_are = record {
@@ -198,14 +198,14 @@ readers_kept raw old new h e = record {
   once = λ v w. subst (λ (ls : List (List ℕ)). count_by (nat_eq w) (get_or ls v []) ≤ 1) (sym e) (h.once v w);
 }
 
--- a grid with one row more, for a setup with one frame more
-pub laid_out_added : (setup : Setup) (s : InputRows) (row : List Tern) (flags flags' : List Bool) (cells cells' : List (List Tern))
-    → IsLaidOut setup flags cells → s ≡ record setup.stimulus { rows = setup.stimulus.rows ++ row ∷ [] }
-    → cells' ≡ cells ++ fresh_row (length flags) ∷ [] → flags' ≡ flags → IsLaidOut (record setup { stimulus = s }) flags' cells'
-laid_out_added setup s row flags flags' cells cells' h e is same =
-    subst (λ (x : InputRows). IsLaidOut (record setup { stimulus = x }) flags' cells') (sym e)
+-- a grid with one row more, for a driven circuit with one frame more
+pub laid_out_added : (driven : DrivenCircuit) (s : InputRows) (row : List Tern) (flags flags' : List Bool) (cells cells' : List (List Tern))
+    → IsLaidOut driven flags cells → s ≡ record driven.stimulus { rows = driven.stimulus.rows ++ row ∷ [] }
+    → cells' ≡ cells ++ fresh_row (length flags) ∷ [] → flags' ≡ flags → IsLaidOut (record driven { stimulus = s }) flags' cells'
+laid_out_added driven s row flags flags' cells cells' h e is same =
+    subst (λ (x : InputRows). IsLaidOut (record driven { stimulus = x }) flags' cells') (sym e)
     (record {
-      flags_are = subst (AreGateFlags setup.circuit) (sym same) h.flags_are;
-      rows_are = subst (λ (n : ℕ). AreRows setup.circuit n cells') (sym (length-append setup.stimulus.rows (row ∷ [])))
-          (rows_more setup.circuit (length setup.stimulus.rows) flags cells cells' h.rows_are h.flags_are.size is);
+      flags_are = subst (AreGateFlags driven.circuit) (sym same) h.flags_are;
+      rows_are = subst (λ (n : ℕ). AreRows driven.circuit n cells') (sym (length-append driven.stimulus.rows (row ∷ [])))
+          (rows_more driven.circuit (length driven.stimulus.rows) flags cells cells' h.rows_are h.flags_are.size is);
     })

@@ -6,11 +6,11 @@ use Rattle.aig_base.specs.state.Marks.{IsMarked}
 use Rattle.aig_grids.specs.InputRows.{row_at}
 use Rattle.aig_bench.specs.declared.edit.EditReport.{EditReport}
 use Rattle.aig_bench.specs.declared.order.Order.{Order}
-use Rattle.aig_bench.specs.declared.setup.Setup.{Setup}
-use Rattle.aig_bench.specs.declared.settle.Fanouts.{Fanouts}
-use Rattle.aig_bench.specs.declared.settle.Pending.{Pending}
+use Rattle.aig_bench.specs.declared.driven_circuit.DrivenCircuit.{DrivenCircuit}
+use Rattle.aig_bench.specs.declared.fanouts.Fanouts.{Fanouts}
+use Rattle.aig_bench.specs.declared.pending.Pending.{Pending}
 use Rattle.aig_bench.specs.Pair.{Pair}
-use Rattle.aig_bench.specs.state.Setup.{pair_of}
+use Rattle.aig_bench.specs.state.DrivenCircuit.{pair_of}
 use Rattle.aig_bench.specs.state.Buckets.{IsClear}
 use Rattle.aig_bench.specs.state.Engine.{EngineState, ChangesRow, IsSettled}
 use Rattle.aig_bench.specs.state.Current.{AreCurrent}
@@ -63,7 +63,7 @@ module _ (t : ℕ) (a b c : EngineState) where
     evaluations = omega (arith, x.evaluations, y.evaluations);
   }
 
-  -- levels that were settled, one behind the other
+  -- levels that were settled, one after the other
   pub levels_then : (n m l : ℕ) (x y r : EditReport) → SettlesLevels t n m a b x → SettlesLevels t m l b c y
       → r.evaluated ≡ x.evaluated + y.evaluated → r.changed ≡ x.changed + y.changed → SettlesLevels t n l a c r
   levels_then n m l x y r h k e d = record {
@@ -75,7 +75,7 @@ module _ (t : ℕ) (a b c : EngineState) where
         (subst (λ (p : Pair). Sweeps p t m l (row_at b.cells t) b.waits (row_at c.cells t) c.waits y.evaluated y.changed) h.row.pair k.sweeps));
   }
 
-  -- behind them nothing of the level waits
+  -- after them nothing of the level waits
   pub levels_past : (n : ℕ) (x : EditReport) → AreLevels a.pair.circuit a.levels → SettlesLevels t n n a b x
       → SettlesLevels t n n b c (report_of None) → ((u : ℕ) → IsMarked c.waits u → slice_get b.levels u ≢ Some n)
       → SettlesLevels t n (n + 1) a c x
@@ -88,10 +88,10 @@ module _ (t : ℕ) (a b c : EngineState) where
         (subst (λ (xs : List ℕ). (u : ℕ) → IsMarked c.waits u → slice_get xs u ≢ Some n) h.row.levels none);
   }
 
-module _ (setup : Setup) (fanouts : Fanouts) (pending : Pending) (flags : List Bool) (cells : List (List Tern)) (n t from : ℕ)
-    (a b : EngineState) (x : EditReport) (work : IsWork setup fanouts flags cells pending.buckets)
-    (is : state_of setup fanouts pending cells n ≡ b) (h : SettlesLevels t 0 from a b x) where
-  pair_is : pair_of setup ≡ a.pair
+module _ (driven : DrivenCircuit) (fanouts : Fanouts) (pending : Pending) (order : Order) (flags : List Bool) (cells : List (List Tern)) (n t from : ℕ)
+    (a b : EngineState) (x : EditReport) (work : IsWork driven fanouts flags cells pending.buckets)
+    (is : state_of driven fanouts pending order cells n ≡ b) (h : SettlesLevels t 0 from a b x) where
+  pair_is : pair_of driven ≡ a.pair
   pair_is = ap (λ (s : EngineState). s.pair) is ∙ h.row.pair
 
   levels_are : AreLevels a.pair.circuit a.levels
@@ -120,8 +120,8 @@ module _ (setup : Setup) (fanouts : Fanouts) (pending : Pending) (flags : List B
     few = h.few;
     ends = λ forced old fits start.
         subst (λ (p : Pair). Ends p t (Contains forced) old (row_at b.cells t) b.waits x.evaluated x.changed) pair_is
-        (subst (λ (s : EngineState). Ends (pair_of setup) t (Contains forced) old (row_at s.cells t) s.waits x.evaluated x.changed) is
-        (ended setup fanouts flags cells pending.buckets t end x.evaluated x.changed forced old (row_at a.cells t) (row_at cells t) a.waits work top
+        (subst (λ (s : EngineState). Ends (pair_of driven) t (Contains forced) old (row_at s.cells t) s.waits x.evaluated x.changed) is
+        (ended driven fanouts flags cells pending.buckets t end x.evaluated x.changed forced old (row_at a.cells t) (row_at cells t) a.waits work top
         (subst (λ (p : Pair). IsConsistent p (Contains forced) old) (sym pair_is) fits)
         (subst (λ (p : Pair). Starts p t (Contains forced) old (row_at a.cells t) a.waits) (sym pair_is) start)
         (subst (λ (p : Pair). Sweeps p t 0 end (row_at a.cells t) a.waits (row_at cells t) pending.buckets.marks.items x.evaluated x.changed) (sym pair_is)
@@ -130,13 +130,13 @@ module _ (setup : Setup) (fanouts : Fanouts) (pending : Pending) (flags : List B
   }
 
 -- an engine where nothing is to be looked at is what a bench keeps
-pub held : {setup : Setup} {fanouts : Fanouts} {pending : Pending} {order : Order} {flags : List Bool} {cells : List (List Tern)} {n : ℕ} {s : EngineState}
-    → IsEngine setup fanouts pending order flags cells → state_of setup fanouts pending cells n ≡ s → IsSettled s
-    → IsReady setup fanouts pending flags cells
-held {setup = setup} {fanouts = fanouts} {pending = pending} {flags = flags} {cells = cells} {n = n} e is h =
-    let k : IsSettled (state_of setup fanouts pending cells n) = subst IsSettled (sym is) h in
+pub held : {driven : DrivenCircuit} {fanouts : Fanouts} {pending : Pending} {order : Order} {flags : List Bool} {cells : List (List Tern)} {n : ℕ} {s : EngineState}
+    → IsEngine driven fanouts pending order flags cells → state_of driven fanouts pending order cells n ≡ s → IsSettled s
+    → IsReady driven fanouts pending flags cells
+held {driven = driven} {fanouts = fanouts} {pending = pending} {order = order} {flags = flags} {cells = cells} {n = n} e is h =
+    let k : IsSettled (state_of driven fanouts pending order cells n) = subst IsSettled (sym is) h in
     record {
-      working = working setup fanouts pending.buckets flags cells e.work k.idle.waits k.current;
+      working = working driven fanouts pending.buckets flags cells e.work k.idle.waits k.current;
       lists = e.lists;
       idle = k.idle;
     }

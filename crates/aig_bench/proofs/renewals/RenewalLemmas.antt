@@ -1,4 +1,4 @@
--- Frames passed over, joined: lists of cells, one behind the other.
+-- Frames passed over, joined: lists of cells, one after the other.
 use Rattle.std.proofs.Common.{◌≡◌, ◌≢◌, ◌⊎◌, ◌↔◌, inl, inr, ℕ, zero, suc, ◌+◌, ◌<◌, ◌≤◌, Bool, List, [], ◌∷◌, ◌++◌, length, Contains, refl, sym, ap, ◌∙◌, subst, arith, length-append}
 use Rattle.aig_parts.specs.declared.ternary.Tern.{Tern}
 use Rattle.aig_base.proofs.lists.Positions.{Contains-cons}
@@ -225,7 +225,7 @@ module _ (p : Pair) (forced : List ℕ) where
       };
     }
 
-  -- frames behind frames
+  -- frames after frames
   module _ (a b n e f c d : ℕ) (old mid new : List (List Tern)) (le : a ≤ b) (more : b ≤ n)
       (x : Renewed p forced a b old mid e c) (y : Renewed p forced b n mid new f d) where
     before : (t : ℕ) → IsBetween a b t → row_at new t ≡ row_at mid t

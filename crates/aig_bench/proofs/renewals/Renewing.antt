@@ -6,9 +6,10 @@ use Rattle.aig_base.specs.state.Marks.{IsMarked}
 use Rattle.aig_base.specs.Sound.{IsSound}
 use Rattle.aig_grids.specs.InputRows.{row_at}
 use Rattle.aig_bench.specs.declared.edit.EditReport.{EditReport}
-use Rattle.aig_bench.specs.declared.setup.Setup.{Setup}
-use Rattle.aig_bench.specs.declared.settle.Fanouts.{Fanouts}
-use Rattle.aig_bench.specs.declared.settle.Pending.{Pending}
+use Rattle.aig_bench.specs.declared.order.Order.{Order}
+use Rattle.aig_bench.specs.declared.driven_circuit.DrivenCircuit.{DrivenCircuit}
+use Rattle.aig_bench.specs.declared.fanouts.Fanouts.{Fanouts}
+use Rattle.aig_bench.specs.declared.pending.Pending.{Pending}
 use Rattle.aig_bench.specs.Pair.{Pair}
 use Rattle.aig_bench.specs.state.Current.{Holds, HoldsLatches, IsCurrentBefore, IsCurrentRow}
 use Rattle.aig_bench.specs.state.Engine.{EngineState, IsClear}
@@ -140,11 +141,11 @@ renews_all forced first t a s r here h e none = record {
 }
 
 -- nothing is carried into the frame, and no gates are forced: all frames that are left stay
-pub renews_stopped : (setup : Setup) (fanouts : Fanouts) (pending : Pending) (flags : List Bool) (now : List (List Tern)) (n : ℕ) (a s : EngineState)
-    → IsWork setup fanouts flags now pending.buckets → state_of setup fanouts pending now n ≡ s
+pub renews_stopped : (driven : DrivenCircuit) (fanouts : Fanouts) (pending : Pending) (order : Order) (flags : List Bool) (now : List (List Tern)) (n : ℕ) (a s : EngineState)
+    → IsWork driven fanouts flags now pending.buckets → state_of driven fanouts pending order now n ≡ s
     → (forced : List ℕ) (first t : ℕ) (r : EditReport) → length forced ≡ 0 → first ≤ t → t ≤ length a.pair.rows
     → IsBehind a forced first → RenewsUpTo forced first t a s r → IsClear s.here → RenewsAll forced first a s r
-renews_stopped setup fanouts pending flags now n a s work is forced first t r size le end behind h none = record {
+renews_stopped driven fanouts pending order flags now n a s work is forced first t r size le end behind h none = record {
   pair = h.pair;
   idle = record { waits = h.waits; here = none; ahead = h.ahead };
   count = h.count;
@@ -153,8 +154,8 @@ renews_stopped setup fanouts pending flags now n a s work is forced first t r si
       → Renewed q forced first t a.cells s.cells r.evaluated r.changed → (t < length q.rows → HoldsLatches q t (row_at s.cells t))
       → Renewed q forced first (length q.rows) a.cells s.cells r.evaluated r.changed)
       (ap (λ (x : EngineState). x.pair) is ∙ h.pair)
-      (λ end behind renewed latches. stopped setup fanouts flags now pending.buckets work
-      (subst (λ (x : EngineState). IsClear x.waits) (sym is) h.waits) (length setup.stimulus.rows) first t _ _ forced a.cells s.cells size
+      (λ end behind renewed latches. stopped driven fanouts flags now pending.buckets work
+      (subst (λ (x : EngineState). IsClear x.waits) (sym is) h.waits) (length driven.stimulus.rows) first t _ _ forced a.cells s.cells size
       renewed le end behind.consistent behind.next latches)) end behind.cells h.renewed (λ lt j x at. h.carried lt j x at (none (suc j)));
 }
 
@@ -202,7 +203,7 @@ module _ (s f : EngineState) (sound : IsSound s.pair.circuit) (t i l : ℕ) (beh
         (subst (λ (q : Pair). HandsOn q.circuit (row_at f.cells t) f.ahead (row_at m.cells t) m.ahead) put.row.pair pass.row.hands))
         (subst (IsNextRow s.pair.circuit (row_at s.cells t)) (over (suc t) (omega arith)) (behind.next t (omega arith) (omega arith)))
 
-    -- the frames behind it are left
+    -- the frames after it are left
     pub behind_bit : IsBehind (advanced m) [] (t + 1)
     behind_bit = record {
       waits = ends_bit.empty;

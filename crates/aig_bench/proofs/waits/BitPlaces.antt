@@ -66,7 +66,7 @@ whole_word word from none e =
     let one : word / 2 ^ 0 ≡ word = omega arith in
     sym one ∙ ap (λ (k : ℕ). word / 2 ^ k) (sym e) ∙ none
 
--- a number behind all words
+-- a number after all words
 pub past : (words : List ℕ) (n : ℕ) → length words ≤ n / 64 → HasBit words n → ⊥
 unfolding HasBit
 past words n le is = nothing_set (get_or words (n / 64) 0) (n % 64) (get_or_past words (n / 64) 0 le) is
@@ -197,7 +197,7 @@ module _ (words filled : List ℕ) (set : IsLevelSet words filled) where
   filled_of : (n : ℕ) → HasBit words n → HasBit filled (n / 64)
   filled_of n has = (set.each (n / 64)).1 (λ z. none_of_zero words n z has)
 
-  -- no word behind this one has a number
+  -- no word after this one has a number
   pub none_filled : (from : ℕ) → HasNone words from ((from / 64 + 1) * 64) → IsFirstFrom filled (from / 64 + 1) None
       → IsFirstFrom words from None
   none_filled from h k n le has = elim (less_or n ((from / 64 + 1) * 64)) [
@@ -205,7 +205,7 @@ module _ (words filled : List ℕ) (set : IsLevelSet words filled) where
     | inr above ↦ k (n / 64) (omega arith) (filled_of n has)
   ]
 
-  -- the first word behind this one that has a number
+  -- the first word after this one that has a number
   pub next_filled : (from w n : ℕ) → HasNone words from ((from / 64 + 1) * 64)
       → IsFirstFrom filled (from / 64 + 1) (Some w) → IsFirstInWord words (w * 64) (Some n) → IsFirstFrom words from (Some n)
   next_filled from w n h (above, has, least) k = first_then words from w n (omega arith) before k

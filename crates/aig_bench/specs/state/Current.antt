@@ -7,9 +7,9 @@ use Rattle.aig_base.specs.Sections.{IsGate}
 use Rattle.aig_base.specs.Value.{start_of}
 use Rattle.aig_values.specs.state.Frame as frame
 use Rattle.aig_grids.specs.InputRows.{row_at}
-use Rattle.aig_bench.specs.declared.setup.Setup.{Setup}
+use Rattle.aig_bench.specs.declared.driven_circuit.DrivenCircuit.{DrivenCircuit}
 use Rattle.aig_bench.specs.Pair.{Pair}
-use Rattle.aig_bench.specs.state.Setup.{IsSetup, pair_of}
+use Rattle.aig_bench.specs.state.DrivenCircuit.{IsDriven, pair_of}
 
 -- a flag for each variable, true for those of gates
 pub record AreGateFlags (raw : Raw) (flags : List Bool) : Type 0 where
@@ -23,10 +23,10 @@ pub record AreRows (raw : Raw) (frames : ℕ) (cells : List (List Tern)) : Type 
   pub widths : (t : ℕ) → t < frames → length (row_at cells t) ≡ raw.max_var + 1
   pub constants : (t : ℕ) → t < frames → slice_get (row_at cells t) 0 ≡ Some Zero
 
--- a grid for the setup, whatever its values
-pub record IsLaidOut (setup : Setup) (flags : List Bool) (cells : List (List Tern)) : Type 0 where
-  pub flags_are : AreGateFlags setup.circuit flags
-  pub rows_are : AreRows setup.circuit (length setup.stimulus.rows) cells
+-- a grid for the driven circuit, whatever its values
+pub record IsLaidOut (driven : DrivenCircuit) (flags : List Bool) (cells : List (List Tern)) : Type 0 where
+  pub flags_are : AreGateFlags driven.circuit flags
+  pub rows_are : AreRows driven.circuit (length driven.stimulus.rows) cells
 
 -- in the row of a frame the cell of the variable is its value
 abbrev pub Holds : Pair → ℕ → List Tern → ℕ → Type 0
@@ -53,8 +53,8 @@ pub record AreCurrent (p : Pair) (n : ℕ) (cells : List (List Tern)) : Type 0 w
 abbrev pub IsCurrentBefore : Pair → ℕ → List (List Tern) → Type 0
 IsCurrentBefore p t cells = (u : ℕ) → t ≡ suc u → IsCurrentRow p u (row_at cells u)
 
--- what a bench keeps: a grid for its setup, with the values of all frames
-pub record IsBench (setup : Setup) (flags : List Bool) (cells : List (List Tern)) : Type 0 where
-  pub setup_is : IsSetup setup
-  pub laid_out : IsLaidOut setup flags cells
-  pub current : AreCurrent (pair_of setup) (length setup.stimulus.rows) cells
+-- what a bench keeps: a grid for its driven circuit, with the values of all frames
+pub record IsBench (driven : DrivenCircuit) (flags : List Bool) (cells : List (List Tern)) : Type 0 where
+  pub driven_is : IsDriven driven
+  pub laid_out : IsLaidOut driven flags cells
+  pub current : AreCurrent (pair_of driven) (length driven.stimulus.rows) cells

@@ -3,16 +3,18 @@ use Rattle.std.specs.Prelude.{◌≡◌, ◌≢◌, ℕ, ◌+◌, Bool, List, le
 use Rattle.aig_parts.specs.declared.ternary.Tern.{Tern}
 use Rattle.aig_base.specs.state.Marks.{IsMarked}
 use Rattle.aig_grids.specs.InputRows.{row_at}
+use Rattle.aig_bench.specs.declared.order.Way.{Way}
 use Rattle.aig_bench.specs.Pair.{Pair}
 use Rattle.aig_bench.specs.state.Current.{AreCurrent}
 use Rattle.aig_bench.specs.state.Latches.{HandsOn}
 
--- the gates that wait, by variable, and the latches that are carried into the frame in hand and into the next one, by
--- number
+-- how the gates are taken at a new frame, the gates that wait, by variable, and the latches that are carried into the
+-- current frame and into the next one, by number
 pub record EngineState : Type 0 where
   pub pair : Pair
   pub cells : List (List Tern)
   pub levels : List ℕ
+  pub way : Way
   pub waits : List Bool
   pub here : List Bool
   pub ahead : List Bool

@@ -5,8 +5,8 @@ use Rattle.aig_parts.specs.declared.raw.Raw.{Raw}
 use Rattle.aig_parts.specs.declared.ternary.Tern.{Tern}
 use Rattle.aig_parts.specs.Literal.{variable}
 use Rattle.aig_base.specs.state.Marks.{IsMarked}
-use Rattle.aig_bench.specs.declared.latches.LatchList.{LatchList}
-use Rattle.aig_bench.specs.declared.latches.LatchReaders.{LatchReaders}
+use Rattle.aig_bench.specs.declared.latch_list.LatchList.{LatchList}
+use Rattle.aig_bench.specs.declared.latch_readers.LatchReaders.{LatchReaders}
 use Rattle.aig_bench.specs.state.Buckets.{AreChained}
 
 -- the latch of this number takes its next value from the variable

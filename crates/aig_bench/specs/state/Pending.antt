@@ -8,10 +8,10 @@ use Rattle.aig_parts.specs.Literal.{variable}
 use Rattle.aig_base.specs.Readers.{AreReaders}
 use Rattle.aig_grids.specs.Cells.{literal_value}
 use Rattle.aig_bench.specs.declared.order.Order.{Order}
-use Rattle.aig_bench.specs.declared.setup.Setup.{Setup}
-use Rattle.aig_bench.specs.declared.settle.Fanouts.{Fanouts}
-use Rattle.aig_bench.specs.declared.settle.Pending.{Pending}
-use Rattle.aig_bench.specs.state.Setup.{pair_of}
+use Rattle.aig_bench.specs.declared.driven_circuit.DrivenCircuit.{DrivenCircuit}
+use Rattle.aig_bench.specs.declared.fanouts.Fanouts.{Fanouts}
+use Rattle.aig_bench.specs.declared.pending.Pending.{Pending}
+use Rattle.aig_bench.specs.state.DrivenCircuit.{pair_of}
 use Rattle.aig_bench.specs.state.Engine.{EngineState, IsIdle}
 use Rattle.aig_bench.specs.state.Latches.{AreLatchReaders, IsLatchList}
 use Rattle.aig_bench.specs.state.SweepOrder.{Orders}
@@ -24,23 +24,25 @@ pub record AreFanouts (raw : Raw) (fanouts : Fanouts) : Type 0 where
   pub latches : AreLatchReaders raw fanouts.latches
 
 -- who reads whom, and two lists of the circuit's latches
-pub record HasLists (setup : Setup) (fanouts : Fanouts) (pending : Pending) : Type 0 where
-  pub readers : AreLatchReaders setup.circuit fanouts.latches
-  pub here : IsLatchList (length setup.circuit.latches) pending.here
-  pub ahead : IsLatchList (length setup.circuit.latches) pending.ahead
+pub record HasLists (driven : DrivenCircuit) (fanouts : Fanouts) (pending : Pending) : Type 0 where
+  pub readers : AreLatchReaders driven.circuit fanouts.latches
+  pub here : IsLatchList (length driven.circuit.latches) pending.here
+  pub ahead : IsLatchList (length driven.circuit.latches) pending.ahead
 
--- what an engine keeps: a grid for its setup, buckets in which gates alone wait, lists, and an order of its gates or none
-pub record IsEngine (setup : Setup) (fanouts : Fanouts) (pending : Pending) (order : Order) (flags : List Bool) (cells : List (List Tern)) : Type 0 where
-  pub work : IsWork setup fanouts flags cells pending.buckets
-  pub lists : HasLists setup fanouts pending
-  pub orders : Orders setup.circuit order
+-- what an engine keeps: a grid for its driven circuit, buckets in which gates alone wait, lists, and an order of its
+-- gates or none
+pub record IsEngine (driven : DrivenCircuit) (fanouts : Fanouts) (pending : Pending) (order : Order) (flags : List Bool) (cells : List (List Tern)) : Type 0 where
+  pub work : IsWork driven fanouts flags cells pending.buckets
+  pub lists : HasLists driven fanouts pending
+  pub orders : Orders driven.circuit order
 
 -- what contracts see of it
-abbrev pub state_of : Setup → Fanouts → Pending → List (List Tern) → ℕ → EngineState
-state_of setup fanouts pending cells n = record {
-  pair = pair_of setup;
+abbrev pub state_of : DrivenCircuit → Fanouts → Pending → Order → List (List Tern) → ℕ → EngineState
+state_of driven fanouts pending order cells n = record {
+  pair = pair_of driven;
   cells = cells;
   levels = fanouts.levels;
+  way = order.way;
   waits = pending.buckets.marks.items;
   here = pending.here.marks.items;
   ahead = pending.ahead.marks.items;
@@ -48,9 +50,9 @@ state_of setup fanouts pending cells n = record {
 }
 
 -- what a bench keeps: the cells are the values of all frames, and there is nothing to be looked at
-pub record IsReady (setup : Setup) (fanouts : Fanouts) (pending : Pending) (flags : List Bool) (cells : List (List Tern)) : Type 0 where
-  pub working : IsWorking setup fanouts pending.buckets flags cells
-  pub lists : HasLists setup fanouts pending
+pub record IsReady (driven : DrivenCircuit) (fanouts : Fanouts) (pending : Pending) (flags : List Bool) (cells : List (List Tern)) : Type 0 where
+  pub working : IsWorking driven fanouts pending.buckets flags cells
+  pub lists : HasLists driven fanouts pending
   pub idle : IsIdle pending.buckets.marks.items pending.here.marks.items pending.ahead.marks.items
 
 -- the latches' cells in a row are the values of their next literals in the row before

@@ -9,30 +9,30 @@ use Rattle.aig_base.specs.state.Marks.{IsMarked}
 use Rattle.aig_base.specs.Readers.{AreReaders}
 use Rattle.aig_base.specs.Sections.{IsGate}
 use Rattle.aig_bench.specs.declared.buckets.Buckets.{Buckets}
-use Rattle.aig_bench.specs.declared.setup.Setup.{Setup}
-use Rattle.aig_bench.specs.declared.settle.Fanouts.{Fanouts}
+use Rattle.aig_bench.specs.declared.driven_circuit.DrivenCircuit.{DrivenCircuit}
+use Rattle.aig_bench.specs.declared.fanouts.Fanouts.{Fanouts}
 use Rattle.aig_bench.specs.state.Buckets.{AreBuckets, Waits}
 use Rattle.aig_bench.specs.state.Current.{IsLaidOut, IsCurrentRow, IsBench}
 use Rattle.aig_bench.specs.Pair.{Pair}
 use Rattle.aig_bench.specs.state.Passing.{Differs, IsTouched, Passing, IsConsistent}
-use Rattle.aig_bench.specs.state.Setup.{IsSetup}
+use Rattle.aig_bench.specs.state.DrivenCircuit.{IsDriven}
 use Rattle.aig_bench.specs.Touched.{IsOnce}
 
--- what a sweep works on: a grid for the setup, and buckets in which gates alone wait
-pub record IsWork (setup : Setup) (fanouts : Fanouts) (flags : List Bool) (cells : List (List Tern)) (b : Buckets) : Type 0 where
-  pub setup_is : IsSetup setup
-  pub laid_out : IsLaidOut setup flags cells
-  pub levels : AreLevels setup.circuit fanouts.levels
-  pub readers : AreReaders setup.circuit fanouts.readers
+-- what a sweep works on: a grid for the driven circuit, and buckets in which gates alone wait
+pub record IsWork (driven : DrivenCircuit) (fanouts : Fanouts) (flags : List Bool) (cells : List (List Tern)) (b : Buckets) : Type 0 where
+  pub driven_is : IsDriven driven
+  pub laid_out : IsLaidOut driven flags cells
+  pub levels : AreLevels driven.circuit fanouts.levels
+  pub readers : AreReaders driven.circuit fanouts.readers
   pub buckets : AreBuckets fanouts.levels b
-  pub size : length b.head.items ≡ setup.circuit.max_var + 1
-  pub heads : (v n : ℕ) → IsGate setup.circuit v → Level setup.circuit v n → n < length b.head.items
-  pub gates : (v : ℕ) → Waits b v → IsGate setup.circuit v
+  pub size : length b.head.items ≡ driven.circuit.max_var + 1
+  pub heads : (v n : ℕ) → IsGate driven.circuit v → Level driven.circuit v n → n < length b.head.items
+  pub gates : (v : ℕ) → Waits b v → IsGate driven.circuit v
 
 -- what a bench keeps: the cells are the values of all frames, and nothing waits
-pub record IsWorking (setup : Setup) (fanouts : Fanouts) (b : Buckets) (flags : List Bool) (cells : List (List Tern)) : Type 0 where
-  pub bench : IsBench setup flags cells
-  pub work : IsWork setup fanouts flags cells b
+pub record IsWorking (driven : DrivenCircuit) (fanouts : Fanouts) (b : Buckets) (flags : List Bool) (cells : List (List Tern)) : Type 0 where
+  pub bench : IsBench driven flags cells
+  pub work : IsWork driven fanouts flags cells b
   pub empty : (v : ℕ) → Waits b v → ⊥
 
 -- how many variables of a level are marked

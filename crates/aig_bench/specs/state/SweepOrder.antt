@@ -16,7 +16,7 @@ gate_at gates p = slice_index_or gates p (record { lhs = 0; rhs0 = 0; rhs1 = 0 }
 abbrev pub gates_at : List Gate → List ℕ → List Gate
 gates_at gates positions = map (gate_at gates) positions
 
--- all gates of the circuit, each once and behind those that it reads
+-- all gates of the circuit, each once and after those that it reads
 pub record IsFullOrder (raw : Raw) (gates : List Gate) : Type 0 where
   pub order : IsGateOrder raw gates
   pub size : length gates ≡ length raw.gates
@@ -36,8 +36,8 @@ abbrev pub Orders : Raw → Order → Type 0
 Orders raw order = AreTaken raw order.way order.positions.items
 
 -- the order is known
-abbrev pub IsKnown : Order → Type 0
-IsKnown order = order.way ≢ Stale
+abbrev pub IsKnown : Way → Type 0
+IsKnown way = way ≢ Stale
 
 -- one more position fits without memory, where they are listed
 abbrev pub HasRoom : Way → List ℕ → ℕ → Type 0

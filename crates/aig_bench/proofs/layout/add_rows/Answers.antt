@@ -5,7 +5,7 @@ use Rattle.aig_bench.proofs.layout.add_rows.Goals as goal
 
 pub add_row-requires-clause-limit : goal.add_row-requires-clause-limit
 add_row-requires-clause-limit g c =
-    let setup = c.args.setup.now in
+    let driven = c.args.driven.now in
     rw (c.loop.invariant.rows.frames_are, c.loop.invariant.flags.size)
-    (room_for_row (setup.circuit.max_var + 1) c.loop.counter (length setup.stimulus.rows) cell_limit
-    (omega (arith, c.loop-test.true, c.frames-end.ensures.frames)) c.requires.setup.cells)
+    (room_for_row (driven.circuit.max_var + 1) c.loop.counter (length driven.stimulus.rows) cell_limit
+    (omega (arith, c.loop-test.true, c.frames-end.ensures.frames)) c.requires.driven.cells)

@@ -6,4 +6,4 @@ use Rattle.aig_bench.proofs.layout.lay_out.Goals as goal
 pub new-requires-clause-constant : goal.new-requires-clause-constant
 new-requires-clause-constant g c =
     rw c.as_slice.ensures.value (c.in_ok-flags.ensures.others 0 (omega arith)
-    (source-gate c.args.setup.now.circuit c.requires.circuit.sound 0 grounded.IsSource.constant))
+    (source-gate c.args.driven.now.circuit c.requires.circuit.sound 0 grounded.IsSource.constant))

@@ -1,111 +1,93 @@
 use Rattle.std.proofs.Common.{arith, refl, ◌∙◌, ◌<◌, ◌≤◌, ◌+◌, ◌*◌, length}
 use Rattle.aig_parts.specs.Limits.{cell_limit, frame_limit}
 use Rattle.aig_bench.proofs.renewals.Engines.{held}
-use Rattle.aig_bench.proofs.renewals.Changed.{room_added, setup_added, current_added, laid_out_added}
+use Rattle.aig_bench.proofs.renewals.Changed.{room_added, driven_added, current_added, laid_out_added}
 use Rattle.aig_bench.proofs.edits.Edited.{work_for, before_first, added_current, added_touched, added_changed, frames_more, lists_for}
 use Rattle.aig_bench.proofs.bench.Bench.add_frame.Goals as goal
 
 pub add_row-requires-clause-limit : goal.add_row-requires-clause-limit
 add_row-requires-clause-limit g c =
     let k = held c.engine.invariant c.engine.view_is c.self.invariant in
-    let setup = c.engine.inside.setup in
-    let limit : (setup.circuit.max_var + 1) * (length setup.stimulus.rows + 1) ≤ cell_limit =
+    let driven = c.engine.inside.driven in
+    let limit : (driven.circuit.max_var + 1) * (length driven.stimulus.rows + 1) ≤ cell_limit =
     rw (c.cells.ensures.count, c.frames-frames.ensures.frames) at c.if-cells-gt-CELLS.false in
-    room_added setup _ _ k.working.work.laid_out limit
-
-pub fill-requires-clause-setup : goal.fill-requires-clause-setup
-fill-requires-clause-setup g c =
-    let k = held c.engine.invariant c.engine.view_is c.self.invariant in
-    let setup = c.engine.inside.setup in
-    let w = k.working.work in
-    let limit : (setup.circuit.max_var + 1) * (length setup.stimulus.rows + 1) ≤ cell_limit =
-    rw (c.cells.ensures.count, c.frames-frames.ensures.frames) at c.if-cells-gt-CELLS.false in
-    let few : length setup.stimulus.rows < frame_limit = omega (arith, c.frames-frames.ensures.frames) in
-    let wide = c.if-row-width.false ∙ c.width.ensures.width in
-    setup_added setup c.push.new.self c.args.row.now w.setup_is c.in-Ok.ensures.ok wide few limit
-
-pub fill-requires-clause-grid : goal.fill-requires-clause-grid
-fill-requires-clause-grid g c =
-    let k = held c.engine.invariant c.engine.view_is c.self.invariant in
-    let setup = c.engine.inside.setup in
-    let w = k.working.work in
-    laid_out_added setup c.push.new.self c.args.row.now _ _ _ _ w.laid_out c.in-Ok.ensures.ok c.in_ok-add_row.ensures.ok
-    c.in_ok-add_row.ensures.gates
+    room_added driven _ _ k.working.work.laid_out limit
 
 pub fill-requires-clause-frame : goal.fill-requires-clause-frame
 fill-requires-clause-frame g c =
     let k = held c.engine.invariant c.engine.view_is c.self.invariant in
-    let setup = c.engine.inside.setup in
+    let driven = c.engine.inside.driven in
     let w = k.working.work in
-    let more = frames_more setup c.push.new.self c.args.row.now (g.G.Grid.cells c.engine.inside.grid)
-    (g.G.Grid.cells c.engine.inside.grid) (g.G.Grid.cells c.engine.inside.grid) w.setup_is.circuit.sound
+    let more = frames_more driven c.push.new.self c.args.row.now (g.G.Grid.cells c.engine.inside.grid)
+    (g.G.Grid.cells c.engine.inside.grid) (g.G.Grid.cells c.engine.inside.grid) w.driven_is.circuit.sound
     k.working.bench.current c.in-Ok.ensures.ok in
     omega (arith, more, c.frames-frames.ensures.frames)
 
 pub fill-requires-clause-before : goal.fill-requires-clause-before
 fill-requires-clause-before g c =
     let k = held c.engine.invariant c.engine.view_is c.self.invariant in
-    let setup = c.engine.inside.setup in
+    let driven = c.engine.inside.driven in
     let w = k.working.work in
-    let limit : (setup.circuit.max_var + 1) * (length setup.stimulus.rows + 1) ≤ cell_limit =
+    let limit : (driven.circuit.max_var + 1) * (length driven.stimulus.rows + 1) ≤ cell_limit =
     rw (c.cells.ensures.count, c.frames-frames.ensures.frames) at c.if-cells-gt-CELLS.false in
-    let few : length setup.stimulus.rows < frame_limit = omega (arith, c.frames-frames.ensures.frames) in
+    let few : length driven.stimulus.rows < frame_limit = omega (arith, c.frames-frames.ensures.frames) in
     let wide = c.if-row-width.false ∙ c.width.ensures.width in
     rw c.frames-frames.ensures.frames
-    (before_first _ _ _ (current_added setup c.push.new.self c.args.row.now w.setup_is c.in-Ok.ensures.ok wide few limit _ _ _
+    (before_first _ _ _ (current_added driven c.push.new.self c.args.row.now w.driven_is c.in-Ok.ensures.ok wide few limit _ _ _
     k.working.bench.current w.laid_out.rows_are.frames_are c.in_ok-add_row.ensures.ok))
 
 pub invariant_of-engine-2 : goal.invariant_of-engine-2
 invariant_of-engine-2 g c =
     let k = held c.engine.invariant c.engine.view_is c.self.invariant in
-    let setup = c.engine.inside.setup in
+    let driven = c.engine.inside.driven in
     let fanouts = c.engine.inside.fanouts in
     let pending = c.engine.inside.pending in
     let w = k.working.work in
-    let limit : (setup.circuit.max_var + 1) * (length setup.stimulus.rows + 1) ≤ cell_limit =
+    let limit : (driven.circuit.max_var + 1) * (length driven.stimulus.rows + 1) ≤ cell_limit =
     rw (c.cells.ensures.count, c.frames-frames.ensures.frames) at c.if-cells-gt-CELLS.false in
-    let few : length setup.stimulus.rows < frame_limit = omega (arith, c.frames-frames.ensures.frames) in
+    let few : length driven.stimulus.rows < frame_limit = omega (arith, c.frames-frames.ensures.frames) in
     let wide = c.if-row-width.false ∙ c.width.ensures.width in
     record {
-      work = work_for setup _ fanouts fanouts _ _ _ _ pending.buckets w k.working.empty refl
-          (setup_added setup c.push.new.self c.args.row.now w.setup_is c.in-Ok.ensures.ok wide few limit) c.fill.ensures.grid w.levels w.readers;
-      lists = lists_for setup _ fanouts fanouts pending k.lists refl k.lists.readers;
+      work = work_for driven _ fanouts fanouts _ _ _ _ pending.buckets w k.working.empty refl
+          (driven_added driven c.push.new.self c.args.row.now w.driven_is c.in-Ok.ensures.ok wide few limit)
+          (laid_out_added driven c.push.new.self c.args.row.now _ _ _ _ w.laid_out c.in-Ok.ensures.ok c.in_ok-add_row.ensures.ok
+          c.in_ok-add_row.ensures.gates)
+          w.levels w.readers;
+      lists = lists_for driven _ fanouts fanouts pending k.lists refl k.lists.readers;
       orders = c.in_ok-renew.ensures.orders;
     }
 
 pub invariant_of-self-2 : goal.invariant_of-self-2
 invariant_of-self-2 g c =
     let k = held c.engine.invariant c.engine.view_is c.self.invariant in
-    let setup = c.engine.inside.setup in
-    let fanouts = c.engine.inside.fanouts in
-    let pending = c.engine.inside.pending in
+    let driven = c.engine.inside.driven in
     let w = k.working.work in
-    let limit : (setup.circuit.max_var + 1) * (length setup.stimulus.rows + 1) ≤ cell_limit =
+    let limit : (driven.circuit.max_var + 1) * (length driven.stimulus.rows + 1) ≤ cell_limit =
     rw (c.cells.ensures.count, c.frames-frames.ensures.frames) at c.if-cells-gt-CELLS.false in
-    let few : length setup.stimulus.rows < frame_limit = omega (arith, c.frames-frames.ensures.frames) in
+    let few : length driven.stimulus.rows < frame_limit = omega (arith, c.frames-frames.ensures.frames) in
     let wide = c.if-row-width.false ∙ c.width.ensures.width in
     let t = c.frames-frames.ensures.frames in
     let now = rw t at c.fill.ensures.current in
-    let others = rw t at c.fill.ensures.others in
-    let before = current_added setup c.push.new.self c.args.row.now w.setup_is c.in-Ok.ensures.ok wide few limit _ _ _
+    let others = rw t at c.fill.ensures.fills.others in
+    let before = current_added driven c.push.new.self c.args.row.now w.driven_is c.in-Ok.ensures.ok wide few limit _ _ _
     k.working.bench.current w.laid_out.rows_are.frames_are c.in_ok-add_row.ensures.ok in
-    record {
-      current = added_current setup c.push.new.self c.args.row.now (g.G.Grid.cells c.engine.inside.grid) _ _ w.setup_is.circuit.sound
+    rw c.fill.ensures.fills.same (record {
+      current = added_current driven c.push.new.self c.args.row.now (g.G.Grid.cells c.engine.inside.grid) _ _ w.driven_is.circuit.sound
           k.working.bench.current c.in-Ok.ensures.ok now others before;
       idle = k.idle;
-    }
+    })
 
 pub returns-clause-works : goal.returns-clause-works
 returns-clause-works g c =
     let k = held c.engine.invariant c.engine.view_is c.self.invariant in
-    let setup = c.engine.inside.setup in
+    let driven = c.engine.inside.driven in
     let w = k.working.work in
     let cells = g.G.Grid.cells c.engine.inside.grid in
-    let size = c.from.ensures ∙ c.gate_count.ensures in
+    let size = c.from-evaluated.ensures ∙ c.gate_count.ensures in
     rw (← c.self.view_is, ← c.engine.view_is) (
-      added_touched setup c.push.new.self c.args.row.now cells cells cells w.setup_is.circuit.sound
+      added_touched driven c.push.new.self c.args.row.now cells cells cells w.driven_is.circuit.sound
           k.working.bench.current c.in-Ok.ensures.ok _ size,
-      added_changed setup c.push.new.self c.args.row.now cells cells cells w.setup_is.circuit.sound
+      added_changed driven c.push.new.self c.args.row.now cells cells cells w.driven_is.circuit.sound
           k.working.bench.current c.in-Ok.ensures.ok,
-      omega (arith, c.fill.ensures.count, c.in_ok-add_row.ensures.count, c.add_row.ensures.count, size),
+      omega (arith, c.fill.ensures.fills.count, c.in_ok-add_row.ensures.count, c.add_row.ensures.count, size),
     )

@@ -1,7 +1,6 @@
-use Rattle.std.proofs.Common.{◌≡◌, ◌+◌, length, true, Some, slice_get, sym, ap, ◌∙◌, subst, arith}
+use Rattle.std.proofs.Common.{◌+◌, length, sym, ap, ◌∙◌, subst, arith}
 use Rattle.std.proofs.lemmas.List.{length-append, length-map}
-use Rattle.aig_parts.specs.declared.gate.Gate.{Gate}
-use Rattle.aig_parts.specs.Literal.{variable, IsEven}
+use Rattle.aig_parts.specs.Literal.{variable}
 use Rattle.aig_base.proofs.circuits.Gates.{defined_in_range}
 use Rattle.aig_bench.proofs.renewals.Engines.{held}
 use Rattle.aig_bench.proofs.growing.Grown.{new_flag}
@@ -14,127 +13,108 @@ use Rattle.aig_bench.proofs.bench.Bench.append_gate.Goals as goal
 pub make_room-requires-clause-ready : goal.make_room-requires-clause-ready
 make_room-requires-clause-ready g c =
     let k = held c.engine.invariant c.engine.view_is c.self.invariant in
-    (c.engine.inside.setup, k)
+    (c.engine.inside.driven, k)
 
 pub invariant_of-engine : goal.invariant_of-engine
 invariant_of-engine g c =
     let k = held c.engine.invariant c.engine.view_is c.self.invariant in
-    let r = c.make_room.ensures.ready c.engine.inside.setup k in
+    let r = c.make_room.ensures.ready c.engine.inside.driven k in
     record { work = r.working.work; lists = r.lists; orders = c.engine.invariant.orders }
 
 pub invariant_of-self-in_err-make_room : goal.invariant_of-self-in_err-make_room
 invariant_of-self-in_err-make_room g c =
     let k = held c.engine.invariant c.engine.view_is c.self.invariant in
-    let r = c.make_room.ensures.ready c.engine.inside.setup k in
+    let r = c.make_room.ensures.ready c.engine.inside.driven k in
     record { current = r.working.bench.current; idle = r.idle }
 
 pub invariant_of-engine-in-Break-branch-3 : goal.invariant_of-engine-in-Break-branch-3
 invariant_of-engine-in-Break-branch-3 g c =
     let k = held c.engine.invariant c.engine.view_is c.self.invariant in
-    let r = c.make_room.ensures.ready c.engine.inside.setup k in
-    record { work = r.working.work; lists = r.lists; orders = c.reserve_gate.ensures.orders c.engine.inside.setup.circuit c.engine.invariant.orders }
+    let r = c.make_room.ensures.ready c.engine.inside.driven k in
+    record { work = r.working.work; lists = r.lists; orders = c.reserve_gate.ensures.orders c.engine.inside.driven.circuit c.engine.invariant.orders }
 
 pub invariant_of-self-in_err-reserve_gate : goal.invariant_of-self-in_err-reserve_gate
 invariant_of-self-in_err-reserve_gate g c =
     let k = held c.engine.invariant c.engine.view_is c.self.invariant in
-    let r = c.make_room.ensures.ready c.engine.inside.setup k in
+    let r = c.make_room.ensures.ready c.engine.inside.driven k in
     record { current = r.working.bench.current; idle = r.idle }
 
 pub append_gate-requires-clause-levels : goal.append_gate-requires-clause-levels
 append_gate-requires-clause-levels g c =
     let k = held c.engine.invariant c.engine.view_is c.self.invariant in
-    let r = c.make_room.ensures.ready c.engine.inside.setup k in
+    let r = c.make_room.ensures.ready c.engine.inside.driven k in
     r.working.work.levels
 
 pub append_gate-requires-clause-readers : goal.append_gate-requires-clause-readers
 append_gate-requires-clause-readers g c =
     let k = held c.engine.invariant c.engine.view_is c.self.invariant in
-    let r = c.make_room.ensures.ready c.engine.inside.setup k in
+    let r = c.make_room.ensures.ready c.engine.inside.driven k in
     r.working.work.readers
 
 pub add_variable-requires-2-clause-empty : goal.add_variable-requires-2-clause-empty
 add_variable-requires-2-clause-empty g c =
     let k = held c.engine.invariant c.engine.view_is c.self.invariant in
-    let r = c.make_room.ensures.ready c.engine.inside.setup k in
+    let r = c.make_room.ensures.ready c.engine.inside.driven k in
     r.idle.waits
 
 pub invariant_of-engine-in-Break-branch-4 : goal.invariant_of-engine-in-Break-branch-4
 invariant_of-engine-in-Break-branch-4 g c =
     let k = held c.engine.invariant c.engine.view_is c.self.invariant in
     let e = c.in_err-append_gate.ensures in
-    let r = ready_still c.engine.inside.setup c.make_room.new.fanouts c.make_room.new.pending _ _
-    (c.make_room.ensures.ready c.engine.inside.setup k) c.append_gate.new.circuit c.append_gate.new.levels c.append_gate.new.readers
+    let r = ready_still c.engine.inside.driven c.make_room.new.fanouts c.make_room.new.pending _ _
+    (c.make_room.ensures.ready c.engine.inside.driven k) c.append_gate.new.circuit c.append_gate.new.levels c.append_gate.new.readers
     e.same_circuit e.same_levels e.same_lists in
     record {
       work = r.working.work;
       lists = r.lists;
       orders = subst (λ (raw : Raw). Orders raw c.reserve_gate.new.self) (sym e.same_circuit)
-          (c.reserve_gate.ensures.orders c.engine.inside.setup.circuit c.engine.invariant.orders);
+          (c.reserve_gate.ensures.orders c.engine.inside.driven.circuit c.engine.invariant.orders);
     }
 
 pub invariant_of-self-in_err-append_gate : goal.invariant_of-self-in_err-append_gate
 invariant_of-self-in_err-append_gate g c =
     let k = held c.engine.invariant c.engine.view_is c.self.invariant in
     let e = c.in_err-append_gate.ensures in
-    let r = ready_still c.engine.inside.setup c.make_room.new.fanouts c.make_room.new.pending _ _
-    (c.make_room.ensures.ready c.engine.inside.setup k) c.append_gate.new.circuit c.append_gate.new.levels c.append_gate.new.readers
+    let r = ready_still c.engine.inside.driven c.make_room.new.fanouts c.make_room.new.pending _ _
+    (c.make_room.ensures.ready c.engine.inside.driven k) c.append_gate.new.circuit c.append_gate.new.levels c.append_gate.new.readers
     e.same_circuit e.same_levels e.same_lists in
     record { current = r.working.bench.current; idle = r.idle }
 
-pub evaluate_new-requires-clause-even : goal.evaluate_new-requires-clause-even
-evaluate_new-requires-clause-even g c =
-    let raw = c.engine.inside.setup.circuit in
-    let is = last_is raw _ c.args.r0 c.args.r1 _ c.in_ok-append_gate.ensures.circuit c.last_gate-gate.ensures in
-    subst (λ (x : Gate). IsEven x.lhs) (sym is) (even_new raw c.args.r0 c.args.r1)
-
-pub evaluate_new-requires-clause-gate : goal.evaluate_new-requires-clause-gate
-evaluate_new-requires-clause-gate g c =
+pub evaluate_new-requires : goal.evaluate_new-requires
+evaluate_new-requires g c =
     let k = held c.engine.invariant c.engine.view_is c.self.invariant in
-    let raw = c.engine.inside.setup.circuit in
+    let raw = c.engine.inside.driven.circuit in
     let is = last_is raw _ c.args.r0 c.args.r1 _ c.in_ok-append_gate.ensures.circuit c.last_gate-gate.ensures in
-    let r = c.make_room.ensures.ready c.engine.inside.setup k in
+    let r = c.make_room.ensures.ready c.engine.inside.driven k in
     let flags = g.G.Grid.gate_flags c.add_gate.new.self in
-    subst (λ (x : Gate). slice_get flags (variable x.lhs) ≡ Some true) (sym is)
-    (new_flag raw c.args.r0 c.args.r1 _ flags r.working.work.laid_out.flags_are.size c.add_gate.ensures.gates)
-
-pub evaluate_new-requires-clause-rhs0 : goal.evaluate_new-requires-clause-rhs0
-evaluate_new-requires-clause-rhs0 g c =
-    let k = held c.engine.invariant c.engine.view_is c.self.invariant in
-    let raw = c.engine.inside.setup.circuit in
-    let is = last_is raw _ c.args.r0 c.args.r1 _ c.in_ok-append_gate.ensures.circuit c.last_gate-gate.ensures in
-    let r = c.make_room.ensures.ready c.engine.inside.setup k in
-    let low = defined_in_range raw r.working.bench.setup_is.circuit.sound (variable c.args.r0)
-    c.in_ok-check_append.ensures.defined.0 in
     let size = r.working.work.laid_out.flags_are.size in
-    rw (is, c.add_gate.ensures.gates, length-append) (omega arith)
-
-pub evaluate_new-requires-clause-rhs1 : goal.evaluate_new-requires-clause-rhs1
-evaluate_new-requires-clause-rhs1 g c =
-    let k = held c.engine.invariant c.engine.view_is c.self.invariant in
-    let raw = c.engine.inside.setup.circuit in
-    let is = last_is raw _ c.args.r0 c.args.r1 _ c.in_ok-append_gate.ensures.circuit c.last_gate-gate.ensures in
-    let r = c.make_room.ensures.ready c.engine.inside.setup k in
-    let low = defined_in_range raw r.working.bench.setup_is.circuit.sound (variable c.args.r1)
-    c.in_ok-check_append.ensures.defined.1 in
-    let size = r.working.work.laid_out.flags_are.size in
-    rw (is, c.add_gate.ensures.gates, length-append) (omega arith)
+    let sound = r.working.bench.driven_is.circuit.sound in
+    let d = c.in_ok-check_append.ensures.defined in
+    let low0 = defined_in_range raw sound (variable c.args.r0) d.0 in
+    let low1 = defined_in_range raw sound (variable c.args.r1) d.1 in
+    rw is (record {
+      even = even_new raw c.args.r0 c.args.r1;
+      gate = new_flag raw c.args.r0 c.args.r1 _ flags size c.add_gate.ensures.gates;
+      rhs0 = rw (c.add_gate.ensures.gates, length-append) (omega arith);
+      rhs1 = rw (c.add_gate.ensures.gates, length-append) (omega arith);
+    })
 
 pub invariant_of-engine-2 : goal.invariant_of-engine-2
 invariant_of-engine-2 g c =
     let k = held c.engine.invariant c.engine.view_is c.self.invariant in
-    let setup = c.engine.inside.setup in
-    let raw = setup.circuit in
-    let r = c.make_room.ensures.ready setup k in
+    let driven = c.engine.inside.driven in
+    let raw = driven.circuit in
+    let r = c.make_room.ensures.ready driven k in
     let a = c.in_ok-check_append.ensures in
     let e = c.in_ok-append_gate.ensures.circuit in
     let more = c.evaluate_new.ensures in
     let is = last_is raw _ c.args.r0 c.args.r1 _ e c.last_gate-gate.ensures in
     let levels = c.in_ok-append_gate.ensures.levels in
-    let now = ready_grown setup c.make_room.new.fanouts c.make_room.new.pending _ _ r c.args.r0 c.args.r1 a.defined a.max_var a.cells
+    let now = ready_grown driven c.make_room.new.fanouts c.make_room.new.pending _ _ r c.args.r0 c.args.r1 a.defined a.max_var a.cells
     (g.G.Grid.cells c.add_gate.new.self) (g.G.Grid.cells c.evaluate_new.new.grid) c.last_gate-gate.result is
     c.add_gate.ensures.cells
     more.frames more.rows c.append_gate.new.circuit _ _ _ _ _ e levels c.in_ok-append_gate.ensures.readers
-    (readers_longer raw c.args.r0 c.args.r1 r.working.bench.setup_is.circuit.sound _ c.add_variable.new.self
+    (readers_longer raw c.args.r0 c.args.r1 r.working.bench.driven_is.circuit.sound _ c.add_variable.new.self
     r.lists.readers
     c.add_variable.ensures.last c.add_variable.ensures.before)
     (c.add_variable-2.ensures.buckets _ _ r.working.work.buckets
@@ -144,26 +124,26 @@ invariant_of-engine-2 g c =
       work = now.working.work;
       lists = now.lists;
       orders = subst (λ (raw : Raw). Orders raw c.push_gate.new.self) (sym e)
-          (c.push_gate.ensures raw c.args.r0 c.args.r1 (sym c.gate_count-gates.ensures) r.working.bench.setup_is.circuit
+          (c.push_gate.ensures raw c.args.r0 c.args.r1 (sym c.gate_count-gates.ensures) r.working.bench.driven_is.circuit
           a.defined.0 a.defined.1 (c.reserve_gate.ensures.orders raw c.engine.invariant.orders));
     }
 
 pub invariant_of-self-2 : goal.invariant_of-self-2
 invariant_of-self-2 g c =
     let k = held c.engine.invariant c.engine.view_is c.self.invariant in
-    let setup = c.engine.inside.setup in
-    let raw = setup.circuit in
-    let r = c.make_room.ensures.ready setup k in
+    let driven = c.engine.inside.driven in
+    let raw = driven.circuit in
+    let r = c.make_room.ensures.ready driven k in
     let a = c.in_ok-check_append.ensures in
     let e = c.in_ok-append_gate.ensures.circuit in
     let more = c.evaluate_new.ensures in
     let is = last_is raw _ c.args.r0 c.args.r1 _ e c.last_gate-gate.ensures in
     let levels = c.in_ok-append_gate.ensures.levels in
-    let now = ready_grown setup c.make_room.new.fanouts c.make_room.new.pending _ _ r c.args.r0 c.args.r1 a.defined a.max_var a.cells
+    let now = ready_grown driven c.make_room.new.fanouts c.make_room.new.pending _ _ r c.args.r0 c.args.r1 a.defined a.max_var a.cells
     (g.G.Grid.cells c.add_gate.new.self) (g.G.Grid.cells c.evaluate_new.new.grid) c.last_gate-gate.result is
     c.add_gate.ensures.cells
     more.frames more.rows c.append_gate.new.circuit _ _ _ _ _ e levels c.in_ok-append_gate.ensures.readers
-    (readers_longer raw c.args.r0 c.args.r1 r.working.bench.setup_is.circuit.sound _ c.add_variable.new.self
+    (readers_longer raw c.args.r0 c.args.r1 r.working.bench.driven_is.circuit.sound _ c.add_variable.new.self
     r.lists.readers
     c.add_variable.ensures.last c.add_variable.ensures.before)
     (c.add_variable-2.ensures.buckets _ _ r.working.work.buckets
@@ -174,14 +154,14 @@ invariant_of-self-2 g c =
 pub returns-clause-works : goal.returns-clause-works
 returns-clause-works g c =
     let k = held c.engine.invariant c.engine.view_is c.self.invariant in
-    let setup = c.engine.inside.setup in
-    let r = c.make_room.ensures.ready setup k in
+    let driven = c.engine.inside.driven in
+    let r = c.make_room.ensures.ready driven k in
     let a = c.in_ok-check_append.ensures in
     let more = c.evaluate_new.ensures in
     let rows = r.working.bench.laid_out.rows_are.frames_are in
     let mid = ap length c.add_gate.ensures.cells ∙ length-map _ _ ∙ rows in
     rw (← c.self.view_is, ← c.engine.view_is) (
-      grown_touched setup _ _ _ _ r c.args.r0 c.args.r1 a.defined a.max_var a.cells _ (more.evaluated ∙ mid),
-      grown_changed setup _ _ _ _ r c.args.r0 c.args.r1 a.defined a.max_var a.cells _ more.changed,
+      grown_touched driven _ _ _ _ r c.args.r0 c.args.r1 a.defined a.max_var a.cells _ (more.evaluated ∙ mid),
+      grown_changed driven _ _ _ _ r c.args.r0 c.args.r1 a.defined a.max_var a.cells _ more.changed,
       omega (arith, more.count, c.add_gate.ensures.count, c.make_room.ensures.count),
     )

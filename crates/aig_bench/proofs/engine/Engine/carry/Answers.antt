@@ -10,7 +10,7 @@ use Rattle.aig_bench.specs.Pair.{Pair}
 use Rattle.aig_bench.specs.state.Engine.{EngineState}
 use Rattle.aig_bench.specs.state.Entry.{Puts}
 use Rattle.aig_bench.proofs.renewals.Engines.{row_here, row_then}
-use Rattle.aig_bench.specs.state.Setup.{pair_of}
+use Rattle.aig_bench.specs.state.DrivenCircuit.{pair_of}
 use Rattle.aig_bench.proofs.carries.Carrying.{before_kept, carries_more, carries_fewer}
 use Rattle.aig_bench.proofs.carries.LatchLists.{listed_less}
 use Rattle.aig_bench.proofs.engine.Engine.carry.Goals as goal
@@ -42,17 +42,17 @@ loop-number-preserved g c =
     let positive = c.in-Some.ensures.positive in
     let p = c.args.self.now.pair in
     let s = c.self.inside in
-    let same : pair_of s.setup ≡ p = ap (λ (x : EngineState). x.pair) c.self.view_is ∙ i.row.pair in
-    let at : slice_get s.setup.circuit.latches (number - 1) ≡ Some x =
+    let same : pair_of s.driven ≡ p = ap (λ (x : EngineState). x.pair) c.self.view_is ∙ i.row.pair in
+    let at : slice_get s.driven.circuit.latches (number - 1) ≡ Some x =
     item_at _ _ (number - 1) x c.latches.ensures (rw c.latches.ensures (omega arith)) c.index-latches-number.is in
     let rows = rw (← c.self.view_is) at i.row in
     let carries = rw (← c.self.view_is) at i.carries in
     record {
       frame = rw k.row.pair (rw (← c.self.view_is) at i.frame);
-      before = rw k.row.pair (before_kept (pair_of s.setup) c.args.frame _ _ (rw (← c.self.view_is) at i.before) k.row.others);
+      before = rw k.row.pair (before_kept (pair_of s.driven) c.args.frame _ _ (rw (← c.self.view_is) at i.before) k.row.others);
       row = row_then c.args.frame _ _ _ _ _ _ (row_here c.args.frame 0 _ _ c.take.new.self.marks.items rows) k.row refl;
       carries = rw k.here (carries_more p c.args.frame
-          (subst (λ (q : Pair). IsSound q.circuit) same c.self.invariant.work.setup_is.circuit.sound)
+          (subst (λ (q : Pair). IsSound q.circuit) same c.self.invariant.work.driven_is.circuit.sound)
           (λ j. IsMarked c.args.self.now.here (suc j) × (IsMarked s.pending.here.marks.items (suc j) → ⊥))
           (λ j. IsMarked c.args.self.now.here (suc j) × (IsMarked c.take.new.self.marks.items (suc j) → ⊥))
           (number - 1) x _ _ _ _ _ _

@@ -20,7 +20,7 @@ returns-clause-passes g c =
     let first = c.carry.ensures in
     let last = c.settle.ensures.settles in
     let same : mid.pair ≡ s.pair = first.row.pair in
-    let sound = subst (λ (x : EngineState). IsSound x.pair.circuit) c.self.view_is c.self.invariant.work.setup_is.circuit.sound in
+    let sound = subst (λ (x : EngineState). IsSound x.pair.circuit) c.self.view_is c.self.invariant.work.driven_is.circuit.sound in
     record {
       row = row_then t s mid new 0 c.settle.result.evaluated c.settle.result.evaluated first.row last.row (omega arith);
       none = subst IsClear (sym last.here) first.none;

@@ -39,7 +39,7 @@ list_all-requires g c =
     let w = c.self.invariant.work in
     let lt = subst (λ (s : EngineState). c.args.frame < length s.pair.rows) (sym c.self.view_is) c.requires.frame in
     let source = subst (λ (s : EngineState). IsSource s.pair.circuit c.args.variable) (sym c.self.view_is) c.requires.source in
-    (c.self.inside.setup.circuit, c.self.invariant.lists.readers, in_range _ _ _ _ _ _ _ w lt c.requires.positive source, c.self.invariant.lists.ahead)
+    (c.self.inside.driven.circuit, c.self.invariant.lists.readers, in_range _ _ _ _ _ _ _ w lt c.requires.positive source, c.self.invariant.lists.ahead)
 
 pub invariant_of-self : goal.invariant_of-self
 invariant_of-self g c =
@@ -87,7 +87,7 @@ returns-then-ne g c =
         levels = refl;
         others = put_others _ _ _ _ _ _ _ w lt c.requires.positive source _ c.args.value c.put_source.ensures.cells;
         hands = put_hands _ _ _ _ _ _ _ w lt c.requires.positive source _ c.args.value c.put_source.ensures.cells c.self.inside.pending.ahead c.list_all.new.list
-            (c.list_all.ensures.lists c.self.inside.setup.circuit c.self.invariant.lists.readers inside);
+            (c.list_all.ensures.lists c.self.inside.driven.circuit c.self.invariant.lists.readers inside);
         evaluations = search rules;
       };
       here = refl;
@@ -111,6 +111,6 @@ returns-else-ne g c =
       };
       here = refl;
       puts = put_moves _ _ _ _ _ _ _ w lt c.requires.positive source _ c.args.value c.self.inside.pending.buckets c.put_source.ensures.cells value
-          (waits_kept c.self.inside.pending.buckets (Reads c.self.inside.setup.circuit) c.args.variable _ c.get-before.result c.args.value
+          (waits_kept c.self.inside.pending.buckets (Reads c.self.inside.driven.circuit) c.args.variable _ c.get-before.result c.args.value
           c.get-before.ensures (search rules));
     })

@@ -21,8 +21,8 @@ force-requires g c v k =
 pub pass-more-requires-clause-before : goal.pass-more-requires-clause-before
 pass-more-requires-clause-before g c =
     let a = c.args.self.now in
-    let sound = subst (λ (x : EngineState). IsSound x.pair.circuit) c.self.view_is c.self.invariant.work.setup_is.circuit.sound in
-    let size : length c.self.inside.setup.stimulus.rows ≡ length a.pair.rows = ap (λ (x : EngineState). length x.pair.rows) c.self.view_is in
+    let sound = subst (λ (x : EngineState). IsSound x.pair.circuit) c.self.view_is c.self.invariant.work.driven_is.circuit.sound in
+    let size : length c.self.inside.driven.stimulus.rows ≡ length a.pair.rows = ap (λ (x : EngineState). length x.pair.rows) c.self.view_is in
     let lt : c.loop-frame.frame < length a.pair.rows = omega (arith, c.frames-frame-end.ensures.frames) in
     before_pass c.args.forced.now c.args.first c.loop-frame.frame a c.loop-frame.self c.force.new.self _ sound c.requires (omega arith) lt
     c.loop-frame.invariant.renews c.force.ensures.same c.force.ensures.waits
@@ -33,8 +33,8 @@ loop-frame-preserved g c =
     let i = c.loop-frame.invariant in
     let m = c.pass-more.ensures in
     let r = c.total-report.ensures in
-    let sound = subst (λ (x : EngineState). IsSound x.pair.circuit) c.self.view_is c.self.invariant.work.setup_is.circuit.sound in
-    let size : length c.self.inside.setup.stimulus.rows ≡ length a.pair.rows = ap (λ (x : EngineState). length x.pair.rows) c.self.view_is in
+    let sound = subst (λ (x : EngineState). IsSound x.pair.circuit) c.self.view_is c.self.invariant.work.driven_is.circuit.sound in
+    let size : length c.self.inside.driven.stimulus.rows ≡ length a.pair.rows = ap (λ (x : EngineState). length x.pair.rows) c.self.view_is in
     let lt : c.loop-frame.frame < length a.pair.rows = omega (arith, c.frames-frame-end.ensures.frames) in
     let sum = r.evaluated in
     let more = m.evaluated in
@@ -48,7 +48,7 @@ loop-frame-preserved g c =
 pub returns-clause-renews : goal.returns-clause-renews
 returns-clause-renews g c =
     let a = c.args.self.now in
-    let size : length c.self.inside.setup.stimulus.rows ≡ length a.pair.rows = ap (λ (x : EngineState). length x.pair.rows) c.self.view_is in
+    let size : length c.self.inside.driven.stimulus.rows ≡ length a.pair.rows = ap (λ (x : EngineState). length x.pair.rows) c.self.view_is in
     let first = c.requires.cells.first_is in
     subst (λ (x : EngineState). RenewsAll c.args.forced.now c.args.first a (record x { here = c.clear.new.self.marks.items }) c.loop-frame.report)
     (sym c.self-2.view_is)
@@ -60,9 +60,9 @@ returns-then-is_empty-2-clause-renews g c =
     let a = c.args.self.now in
     let i = c.loop-frame.invariant in
     let s = c.self-in-loop-frame.inside in
-    let size : length c.self.inside.setup.stimulus.rows ≡ length a.pair.rows = ap (λ (x : EngineState). length x.pair.rows) c.self.view_is in
+    let size : length c.self.inside.driven.stimulus.rows ≡ length a.pair.rows = ap (λ (x : EngineState). length x.pair.rows) c.self.view_is in
     let none = (c.is_empty-then-is_empty.ensures _ c.self-in-loop-frame.invariant.lists.here).0 c.if-is_empty-2.true in
-    renews_stopped s.setup s.fanouts s.pending _ _ _ a c.loop-frame.self c.self-in-loop-frame.invariant.work c.self-in-loop-frame.view_is
+    renews_stopped s.driven s.fanouts s.pending s.order _ _ _ a c.loop-frame.self c.self-in-loop-frame.invariant.work c.self-in-loop-frame.view_is
     c.args.forced.now c.args.first c.loop-frame.frame _
     (eqb-true (length c.args.forced.now) 0 (rw (← c.is_empty.ensures) c.if-is_empty.true)) (omega arith)
     (omega (arith, c.loop-frame-test.true, c.frames-frame-end.ensures.frames)) c.requires i.renews

@@ -27,7 +27,7 @@ pub settle_level-more-requires-clause-few : goal.settle_level-more-requires-clau
 settle_level-more-requires-clause-few g c =
     let w = c.self.invariant.work in
     let size = w.levels.size in
-    let few = few_variables c.self.inside.setup w.setup_is in
+    let few = few_variables c.self.inside.driven w.driven_is in
     rw (← c.self.view_is) (omega arith)
 
 pub loop-level-preserved : goal.loop-level-preserved
@@ -49,7 +49,7 @@ loop-level-preserved g c =
       from = omega arith;
       bound = omega arith;
       settles = levels_then c.args.frame c.args.self.now c.loop-level.self c.settle_level-more.new.self 0 c.in-Some.level (c.in-Some.level + 1)
-          _ _ _ (levels_clear e.setup e.fanouts e.pending _ _ _ c.args.frame c.loop-level.from _ _ _ w c.self.view_is i.settles c.in-Some.level le clear)
+          _ _ _ (levels_clear e.driven e.fanouts e.pending e.order _ _ _ c.args.frame c.loop-level.from _ _ _ w c.self.view_is i.settles c.in-Some.level le clear)
           s.settles refl refl;
     }
 
@@ -63,5 +63,5 @@ returns-clause-settles g c =
     let from = i.from in
     let same : length e.fanouts.levels ≡ length c.args.self.now.levels =
     ap (λ (x : EngineState). length x.levels) c.self.view_is ∙ ap length i.settles.row.levels in
-    settles e.setup e.fanouts e.pending _ _ _ c.args.frame c.loop-level.from _ _ _ w c.self.view_is i.settles (length e.pending.buckets.head.items)
+    settles e.driven e.fanouts e.pending e.order _ _ _ c.args.frame c.loop-level.from _ _ _ w c.self.view_is i.settles (length e.pending.buckets.head.items)
     (omega arith) (omega arith) (c.in_default.ensures.least e.fanouts.levels w.buckets)

@@ -65,7 +65,7 @@ list_all-requires g c =
     let takes = c.in_ok-variable.ensures c.self.inside.fanouts.levels w.buckets in
     let (q, at, e) = c.in_ok-gate.ensures.found in
     let lt = subst (λ (s : EngineState). c.args.frame < length s.pair.rows) (sym c.self.view_is) c.requires.frame in
-    (c.self.inside.setup.circuit, c.self.invariant.lists.readers, taken_in_range _ _ _ _ _ _ _ _ _ q _ w lt takes at e, c.self.invariant.lists.ahead)
+    (c.self.inside.driven.circuit, c.self.invariant.lists.readers, taken_in_range _ _ _ _ _ _ _ _ _ q _ w lt takes at e, c.self.invariant.lists.ahead)
 
 pub invariant_of-self-then-changed : goal.invariant_of-self-then-changed
 invariant_of-self-then-changed g c =
@@ -131,7 +131,7 @@ returns-then-changed-clause-settles g c =
         pair = refl;
         levels = refl;
         others = other_rows _ _ _ _ _ _ _ _ _ q _ w lt takes at e _ c.if-changed.ensures.cells;
-        hands = hands_changed _ _ _ _ _ _ _ _ _ q _ w lt takes at e _ c.if-changed.ensures.cells c.self.inside.pending.ahead c.list_all.new.list (c.list_all.ensures.lists c.self.inside.setup.circuit
+        hands = hands_changed _ _ _ _ _ _ _ _ _ q _ w lt takes at e _ c.if-changed.ensures.cells c.self.inside.pending.ahead c.list_all.new.list (c.list_all.ensures.lists c.self.inside.driven.circuit
             c.self.invariant.lists.readers (taken_in_range _ _ _ _ _ _ _ _ _ q _ w lt takes at e));
         evaluations = c.if-changed.ensures.count;
       };
