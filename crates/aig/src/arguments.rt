@@ -5,7 +5,7 @@ use crate::task::Task;
 use aig_base::Memory;
 use aig_command_line::{has_flag, matches_of};
 use aig_explain::escaped;
-use aig_run::RunFault;
+use aig_fault::RunFault;
 use clap::error::ErrorKind;
 use std::alloc::Global;
 use std::env::{self, Env};

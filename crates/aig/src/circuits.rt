@@ -5,7 +5,7 @@ use crate::files::{CIRCUIT, open, output, read_whole};
 use crate::kept::{begin_map, write_map};
 use crate::output_file::OutputFile;
 use aig_base::Std;
-use aig_engines::{deliver_circuit, deliver_info, deliver_unrolled, deliver_unrolled_and_keep};
+use aig_commands::{info, toaig, unroll};
 use aig_format::Format;
 use std::fs::{Files, OpenFile};
 use std::io::Read;
@@ -28,7 +28,7 @@ fn convert_file<R: AllocGlobal + Print, F: Read + Drop>(
 ) -> Result<(), Exit> {
     let mut circuit = Std::new(circuit);
     let mut out = output(rt);
-    deliver_circuit(rt.alloc(), &mut circuit, to, &mut out)?;
+    toaig::toaig(rt.alloc(), &mut circuit, to, &mut out)?;
     Ok(())
 }
 
@@ -58,7 +58,7 @@ fn unroll_file<R: AllocGlobal + Print, F: Read + Drop>(
 ) -> Result<(), Exit> {
     let circuit = read_whole(rt.alloc(), circuit, CIRCUIT)?;
     let mut out = output(rt);
-    deliver_unrolled(rt.alloc(), circuit.as_slice(), frames, to, &mut out)?;
+    let _circuit = unroll::unroll(rt.alloc(), circuit.as_slice(), frames, to, &mut out)?;
     Ok(())
 }
 
@@ -95,7 +95,7 @@ where
     R::File: AsFd,
 {
     let mut out = output(rt);
-    let circuit = deliver_unrolled_and_keep(rt.alloc(), circuit, frames, to, &mut out)?;
+    let circuit = unroll::unroll(rt.alloc(), circuit, frames, to, &mut out)?;
     write_map(rt, &circuit, frames, map)
 }
 
@@ -108,6 +108,6 @@ pub fn info<R: Files + AllocGlobal + Print>(rt: &R, circuit: &str) -> Result<(),
 fn info_file<R: AllocGlobal + Print, F: Read + Drop>(rt: &R, circuit: F) -> Result<(), Exit> {
     let circuit = read_whole(rt.alloc(), circuit, CIRCUIT)?;
     let mut out = output(rt);
-    deliver_info(rt.alloc(), circuit.as_slice(), &mut out)?;
+    info::info(rt.alloc(), circuit.as_slice(), &mut out)?;
     Ok(())
 }

@@ -2,7 +2,7 @@
 ghost use Rattle.std.specs.Prelude.{◌≡◌};
 ghost use Rattle.aig.specs.state.ExitStatus.{status_of_exit};
 
-use aig_run::RunFault;
+use aig_fault::RunFault;
 use std::io;
 
 /// Why the program ends before it is done.

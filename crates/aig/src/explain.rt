@@ -10,7 +10,7 @@ use aig_bench::BenchFault;
 use aig_explain::{
     Explanation, explain_bench, explain_circuit, explain_stimulus, explain_unroll, explain_witness,
 };
-use aig_run::{RunFault, ScriptFault};
+use aig_fault::{RunFault, ScriptFault};
 use aig_sim::{StimFault, WitnessFault};
 use aig_unroll::UnrollFault;
 use std::alloc::Global;
@@ -230,7 +230,8 @@ fn of_file<R: Files + AllocGlobal + Eprint>(rt: &R, name: Option<&str>) {
     let _is_explained = explain_reading(rt, name);
 }
 
-/// Either the file could not be read, or standard output could not be written to. The second look at the file tells.
+/// Either the file could not be read, or standard output could not be written to. The second look at the file says
+/// which.
 fn of_stream<R: Files + AllocGlobal + Print + Eprint>(rt: &R, name: Option<&str>) {
     if !explain_reading(rt, name) {
         explain_standard_output(rt);

@@ -5,9 +5,9 @@ use crate::new_file::{NewFile, OUTPUT};
 use crate::output_file::{OutputFile, find, open_pipe};
 use aig_base::{Buffered, Circuit, Std};
 use aig_bench::Bench;
-use aig_engines::deliver_input_map;
-use aig_run::RunFault;
-use aig_script::{keep_circuit, keep_stimulus};
+use aig_commands::unroll::unroll_map;
+use aig_commands::{keep_circuit, keep_stimulus};
+use aig_fault::RunFault;
 use aig_sim::PlaneGrid;
 use std::fs::{Files, Metadata, OpenFile};
 use std::io;
@@ -186,5 +186,5 @@ fn write_inputs<F: io::Write>(
     file: &mut F,
 ) -> Result<(), RunFault> {
     let mut out = Buffered::new(Std::new(file));
-    deliver_input_map(circuit, frames, &mut out)
+    unroll_map(circuit, frames, &mut out)
 }

@@ -4,9 +4,8 @@ use crate::exit::Exit;
 use crate::files::{CIRCUIT, open, output, read_whole};
 use crate::kept::{BenchFiles, Kept};
 use aig_base::Std;
-use aig_engines::{deliver_trace, deliver_wave};
-use aig_run::{RunFault, ScriptFault};
-use aig_script::{deliver_bench, deliver_replies};
+use aig_commands::{bench, sim, wave};
+use aig_fault::{RunFault, ScriptFault};
 use aig_sim::StimFault;
 use std::fs::Files;
 use std::io::Read;
@@ -35,7 +34,7 @@ fn simulate_files<R: AllocGlobal + Print, F: Read + Drop>(
     let mut circuit = Std::new(circuit);
     let mut stimulus = Std::new(stimulus);
     let mut out = output(rt);
-    let _frames = deliver_trace(rt.alloc(), &mut circuit, &mut stimulus, &mut out)?;
+    let _frames = sim::sim(rt.alloc(), &mut circuit, &mut stimulus, &mut out)?;
     Ok(())
 }
 
@@ -58,7 +57,7 @@ fn wave_files<R: AllocGlobal + Print, F: Read + Drop>(
     let mut circuit = Std::new(circuit);
     let mut stimulus = Std::new(stimulus);
     let mut out = output(rt);
-    let _frames = deliver_wave(rt.alloc(), &mut circuit, &mut stimulus, &mut out)?;
+    let _frames = wave::wave(rt.alloc(), &mut circuit, &mut stimulus, &mut out)?;
     Ok(())
 }
 
@@ -106,7 +105,7 @@ fn write_replies<R: AllocGlobal + Print, F: Read + Drop>(
 ) -> Result<(), Exit> {
     let mut script = Std::new(script);
     let mut out = output(rt);
-    deliver_replies(rt.alloc(), circuit, stimulus, &mut script, &mut out)?;
+    let _bench = bench::bench(rt.alloc(), circuit, stimulus, &mut script, &mut out)?;
     Ok(())
 }
 
@@ -140,6 +139,6 @@ where
 {
     let mut script = Std::new(script);
     let mut out = output(rt);
-    let bench = deliver_bench(rt.alloc(), circuit, stimulus, &mut script, &mut out)?;
+    let bench = bench::bench(rt.alloc(), circuit, stimulus, &mut script, &mut out)?;
     files.write(rt, &bench)
 }

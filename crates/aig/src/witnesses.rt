@@ -2,8 +2,8 @@
 
 use crate::exit::Exit;
 use crate::files::{CIRCUIT, open, output, read_whole};
-use aig_engines::{deliver_traced_verdict, deliver_verdict, deliver_witness_wave};
-use aig_run::RunFault;
+use aig_commands::{check, wave};
+use aig_fault::RunFault;
 use aig_sim::Verdict;
 use std::fs::Files;
 use std::io::Read;
@@ -42,9 +42,9 @@ fn write_verdict<R: AllocGlobal + Print>(
 ) -> Result<Verdict, RunFault> {
     let mut out = output(rt);
     if with_trace {
-        deliver_traced_verdict(rt.alloc(), circuit, witness, &mut out)
+        check::check_and_trace(rt.alloc(), circuit, witness, &mut out)
     } else {
-        deliver_verdict(rt.alloc(), circuit, witness, &mut out)
+        check::check(rt.alloc(), circuit, witness, &mut out)
     }
 }
 
@@ -75,6 +75,6 @@ fn wave_files<R: AllocGlobal + Print, F: Read + Drop>(
     let circuit = read_whole(rt.alloc(), circuit, CIRCUIT)?;
     let witness = read_whole(rt.alloc(), witness, WITNESS)?;
     let mut out = output(rt);
-    deliver_witness_wave(rt.alloc(), circuit.as_slice(), witness.as_slice(), &mut out)?;
+    wave::wave_witness(rt.alloc(), circuit.as_slice(), witness.as_slice(), &mut out)?;
     Ok(())
 }

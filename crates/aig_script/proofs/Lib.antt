@@ -1,10 +1,8 @@
-pub mod Benches
 pub mod Digits
 pub mod Fields
 pub mod FirstBytes
 pub mod Inputs
 pub mod KeptCircuits
-pub mod KeptFiles
 pub mod Meanings
 pub mod OneCommand
 pub mod OneReply

@@ -52,7 +52,7 @@ replies_append old [] rs mid ms ss new h k =
 replies_append old (x ∷ ls) rs mid ms ss new h k =
     (h.0, h.1, h.2 ++ ss, h.3, replies_append h.0 ls h.2 mid ms ss new h.4 k, ap (λ (xs : List ℕ). xs ++ ss) h.5 ∙ append_assoc h.1 h.2 ss)
 
-replies_one : (old : Pair) (l : Line) (r : List ℕ) (new : Pair) → LineReply old l r new → Replies old (l ∷ []) r new
+pub replies_one : (old : Pair) (l : Line) (r : List ℕ) (new : Pair) → LineReply old l r new → Replies old (l ∷ []) r new
 replies_one old l r new h = (new, r, [], h, (refl, refl), sym (append-nil r))
 
 module _ {X : Type 0} {written : X → Option (List ℕ)} {failures : X → ℕ} where

@@ -1,7 +1,4 @@
-pub mod BenchRun
 pub mod Command
-pub mod Files
-pub mod Kept
 pub mod Lines
 pub mod Meaning
 pub mod Ran

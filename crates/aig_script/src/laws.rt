@@ -5,7 +5,6 @@ ghost use Rattle.aig_bench.specs.Pair.{Pair};
 ghost use Rattle.aig_script.specs.Lines.{Line, lines_from, rest_from, lines_of, IsSplit};
 ghost use Rattle.aig_script.specs.Meaning.{HasOneMeaning, RepliesInTurn};
 ghost use Rattle.aig_script.specs.Replies.{Replies};
-ghost use Rattle.aig_script.specs.Files.{AreFilesOf};
 
 /// The lines of a script are the pieces that LF ends, and what stands behind the last LF; no script can be split so in
 /// two ways (our own choice).
@@ -25,11 +24,4 @@ pub fn law_of_one_meaning()
         Replies old (first ++ second) replies new ↔ RepliesInTurn old first second replies new }
     ensures lines { (first second : List ℕ) → rest_from [] first ≡ [] →
         lines_of (first ++ second) ≡ lines_of first ++ lines_of second }
-{}
-
-/// Files are of one circuit and one list of rows, so that a run on the files of a pair begins with that pair (our own
-/// choice).
-pub fn law_of_kept_files()
-    ensures { (circuit stimulus : List ℕ) (p q : Pair) → AreFilesOf circuit stimulus p → AreFilesOf circuit stimulus q
-        → p ≡ q }
 {}

@@ -1,10 +1,11 @@
--- The exit status of the program (our own choice).
+-- The exit status of the program. Where the standard is silent, it is our own choice.
 use Rattle.std.specs.Prelude.{ℕ}
-use Rattle.aig_run.specs.Status.{status_of}
+use Rattle.aig_fault.specs.Status.{status_of}
 use Rattle.aig.specs.declared.exit.Exit.{Exit}
 use Rattle.aig.specs.declared.exit.Exit.TheVariants as exits
 
--- 2 where the words are wrong or ask for a text; 3 for a witness's file that is not read; 1 for a verdict other than confirmed; else the run's
+-- 2 where the arguments are wrong or ask for a text; 3 for a witness's file that is not read; 1 for a verdict other
+-- than confirmed; else the run's
 abbrev pub status_of_exit : Exit → ℕ
 status_of_exit exits.Told = 2
 status_of_exit exits.NoTask = 2

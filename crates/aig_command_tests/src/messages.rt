@@ -1,0 +1,92 @@
+//! Texts of messages.
+use aig_base::{Fault, Io, Memory, WouldCycle};
+use aig_bench::BenchFault;
+use aig_fault::{RunFault, ScriptFault};
+use aig_sim::{StimFault, WitnessFault};
+use aig_unroll::UnrollFault;
+use std::alloc::Global;
+use std::fmt::Display;
+
+static MESSAGES: [(RunFault, &str); 23] = [
+    (RunFault::Circuit(Fault::Cycle(2)), "circuit: cycle 2"),
+    (RunFault::Circuit(Fault::Memory), "circuit: memory"),
+    (
+        RunFault::Stimulus(StimFault::Char(2)),
+        "stimulus: character in line 2",
+    ),
+    (
+        RunFault::Stimulus(StimFault::Length(2)),
+        "stimulus: length of line 2",
+    ),
+    (
+        RunFault::Stimulus(StimFault::Unfinished),
+        "stimulus: unfinished",
+    ),
+    (RunFault::Stimulus(StimFault::Limit), "stimulus: limit"),
+    (RunFault::Stimulus(StimFault::Memory), "stimulus: memory"),
+    (
+        RunFault::Stimulus(StimFault::Io),
+        "stimulus: input or output",
+    ),
+    (RunFault::Witness(WitnessFault::Text), "witness: text"),
+    (
+        RunFault::Witness(WitnessFault::Property),
+        "witness: property",
+    ),
+    (RunFault::Witness(WitnessFault::Limit), "witness: limit"),
+    (RunFault::Witness(WitnessFault::Memory), "witness: memory"),
+    (RunFault::Bench(BenchFault::Width), "bench: width"),
+    (RunFault::Bench(BenchFault::Limit), "bench: limit"),
+    (RunFault::Bench(BenchFault::Memory), "bench: memory"),
+    (RunFault::Script(ScriptFault::Io), "script: input or output"),
+    (RunFault::Script(ScriptFault::Memory), "script: memory"),
+    (RunFault::Output, "output: input or output"),
+    (RunFault::Memory, "memory"),
+    (RunFault::Unroll(UnrollFault::NoFrames), "unroll: no frames"),
+    (RunFault::Unroll(UnrollFault::Liveness), "unroll: liveness"),
+    (RunFault::Unroll(UnrollFault::Limit), "unroll: limit"),
+    (RunFault::Unroll(UnrollFault::Memory), "unroll: memory"),
+];
+
+// Whether this is the text of a value.
+fn says<T: Display>(alloc: Global, value: &T, text: &str) -> bool {
+    match value.to_string(alloc) {
+        Ok(said) => said.as_str() == text,
+        Err(_) => false,
+    }
+}
+
+// A message names the part and its fault.
+#[test]
+fn parts_and_texts(rt: HostRuntime) {
+    for (fault, text) in &MESSAGES {
+        assert!(rt; says(rt.alloc(), fault, text), "{text}");
+    }
+}
+
+static FAULTS: [(Fault, &str); 11] = [
+    (Fault::Text { at: u64::MAX }, "text at 18446744073709551615"),
+    (Fault::Limit, "limit"),
+    (Fault::Counts, "counts"),
+    (Fault::Range, "range"),
+    (Fault::Definition, "definition"),
+    (Fault::Redefined(3), "redefined 3"),
+    (Fault::Undefined(3), "undefined 3"),
+    (Fault::Reset(3), "reset 3"),
+    (Fault::Cycle(3), "cycle 3"),
+    (Fault::Memory, "memory"),
+    (Fault::Io, "input or output"),
+];
+
+// A fault has its words, and its place or variable.
+#[test]
+fn fault_texts(rt: HostRuntime) {
+    let mut right = true;
+    for (fault, text) in &FAULTS {
+        right &= says(rt.alloc(), fault, text);
+    }
+    right &= says(rt.alloc(), &Memory, "memory");
+    right &= says(rt.alloc(), &Io, "input or output");
+    right &= says(rt.alloc(), &WouldCycle, "cycle");
+    assert!(rt; right);
+}

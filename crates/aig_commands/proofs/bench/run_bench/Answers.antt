@@ -1,0 +1,17 @@
+use Rattle.std.proofs.Common.{Err}
+use Rattle.aig_bytes.specs.Flow.{flow}
+use Rattle.aig_fault.proofs.Files.{answered}
+use Rattle.aig_fault.specs.Command.{EndsReading}
+use Rattle.aig_commands.specs.Bench.{RunsScript}
+use Rattle.aig_commands.proofs.BenchEnds.{script_io, ends_without}
+use Rattle.aig_commands.proofs.bench.run_bench.Goals as goal
+
+pub returns-in_err-_left-clause-ends : goal.returns-in_err-_left-clause-ends
+returns-in_err-_left-clause-ends g c =
+    let reader = flow g.R.Read.left g.R.Read.failures c.args.script.now c.bench_after.new.script in
+    let out = flow g.W.Write.written g.W.Write.failures c.args.out.now c.bench_after.new.out in
+    let circuit = c.args.circuit.now in
+    let stimulus = c.args.stimulus.now in
+    let fault = c.in_err-_left.field-0.0 in
+    answered c.from_residual.result fault (EndsReading reader out script_io (RunsScript circuit stimulus)) c.from_residual.ensures.1
+    (ends_without reader out circuit stimulus script_io (Err fault) c.in_err-_left.ensures.ends)

@@ -1,0 +1,18 @@
+use Rattle.aig_bytes.specs.Flow.{flow}
+use Rattle.aig_commands.specs.Toaig.{Converts}
+use Rattle.aig_commands.proofs.toaig.convert_from.Goals as goal
+use Rattle.aig_fault.proofs.Files.{ends_of_reader, reader_refused}
+use Rattle.aig_fault.specs.declared.run_fault.RunFault.TheVariants as parts
+
+pub returns-in-Ok-clause-ends : goal.returns-in-Ok-clause-ends
+returns-in-Ok-clause-ends g c =
+    let h = c.in-Ok.ensures in
+    ends_of_reader (flow g.R.Read.left g.R.Read.failures c.args.reader.now c.read_from.new.reader)
+    (flow g.W.Write.written g.W.Write.failures c.args.out.now c.write_converted.new.out) parts.Output (Converts c.args.to) c.in-Ok.circuit (λ fault bytes h. h)
+    h.answers h.circuit h.io c.write_converted.result c.write_converted.ensures.ends
+
+pub returns-in-Err-clause-ends : goal.returns-in-Err-clause-ends
+returns-in-Err-clause-ends g c =
+    let h = c.in-Err.ensures in
+    reader_refused (flow g.R.Read.left g.R.Read.failures c.args.reader.now c.read_from.new.reader)
+    g.W.Write.written g.W.Write.failures c.args.out.now parts.Output (Converts c.args.to) c.in-Err.fault h.answers h.io

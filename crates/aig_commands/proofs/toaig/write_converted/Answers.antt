@@ -1,0 +1,13 @@
+use Rattle.std.proofs.Common.{refl}
+use Rattle.aig_format.specs.declared.header.Format.TheVariants.{Ascii}
+use Rattle.aig_format.specs.Spelling.{short_ascii}
+use Rattle.aig_commands.specs.Toaig.{Converts}
+use Rattle.aig_commands.proofs.toaig.write_converted.Goals as goal
+use Rattle.aig_fault.proofs.Written.{written_ends, one_at_most}
+
+pub returns-in-Ascii-clause-ends : goal.returns-in-Ascii-clause-ends
+returns-in-Ascii-clause-ends g c =
+    let raw = c.args.circuit.now in
+    rw (c.in-Ascii.is, c.as_output.ensures)
+    (written_ends g.W.Write.written g.W.Write.failures c.args.out.now c.write_ascii.new.out (Converts Ascii raw) (short_ascii raw)
+    c.write_ascii.result c.write_ascii.ensures.written refl)

@@ -1,0 +1,47 @@
+-- What `check` answers and writes. How a verdict is written is our own choice.
+use Rattle.std.specs.Prelude.{◌≡◌, ℕ, List, [], ◌++◌, Result, Ok, Err, codes}
+use Rattle.std.specs.Fmt.{decimal}
+use Rattle.aig_parts.specs.declared.raw.Raw.{Raw}
+use Rattle.aig_sim.specs.declared.verdict.Verdict.{Verdict}
+use Rattle.aig_sim.specs.declared.verdict.Verdict.TheVariants.{Initial, Constraint, NotBad, Confirmed}
+use Rattle.aig_sim.specs.Replayed.{TellsRun}
+use Rattle.aig_sim.specs.Verdict.{IsVerdict, IsConfirmed}
+use Rattle.aig_sim.specs.WitnessText.{Witness, SpellsWitness, IsAdmitted, HasWitnessFault}
+use Rattle.aig_values.specs.Trace.{IsTrace}
+use Rattle.aig_fault.specs.declared.run_fault.RunFault.{RunFault}
+use Rattle.aig_fault.specs.declared.run_fault.RunFault.TheVariants as parts
+
+-- a verdict's line
+abbrev pub verdict_text : Verdict → List ℕ
+verdict_text (Initial latch) = codes "initial " ++ (decimal latch ++ codes "\n")
+verdict_text (Constraint frame constraint) =
+    codes "constraint " ++ (decimal frame ++ (codes " " ++ (decimal constraint ++ codes "\n")))
+verdict_text NotBad = codes "not bad\n"
+verdict_text Confirmed = codes "confirmed\n"
+
+-- The text is an admitted witness of the circuit, which shows this verdict. One that is confirmed reaches the bad state
+-- whatever its x turn out to be.
+pub record Shows (raw : Raw) (text : List ℕ) (verdict : Verdict) : Type 0 where
+  pub witness : Witness
+  pub text_is : SpellsWitness raw text witness
+  pub admitted : IsAdmitted raw witness
+  pub verdict_is : IsVerdict raw witness verdict
+  pub confirmed : verdict ≡ Confirmed → IsConfirmed raw witness
+
+-- a witness of a circuit is refused with this fault, and nothing is written
+abbrev pub RefusesWitness : List ℕ → Raw → RunFault → List ℕ → Type 0
+RefusesWitness text raw (parts.Witness fault) written = HasWitnessFault raw text fault × (written ≡ [])
+RefusesWitness text raw _ written = ⊥
+
+-- what `check` answers and writes for a witness of a circuit
+abbrev pub Checks : List ℕ → Raw → Result Verdict RunFault → List ℕ → Type 0
+Checks text raw (Ok verdict) written = Shows raw text verdict × (written ≡ verdict_text verdict)
+Checks text raw (Err fault) written = RefusesWitness text raw fault written
+
+-- what `check --trace` answers and writes: the trace of the witness's run, and then the verdict's line
+abbrev pub ChecksAndTraces : List ℕ → Raw → Result Verdict RunFault → List ℕ → Type 0
+ChecksAndTraces text raw (Ok verdict) written =
+    Shows raw text verdict
+    × ((trace : List ℕ) × TellsRun (λ raw start rows told. IsTrace raw start rows told) raw text trace
+    × (written ≡ trace ++ verdict_text verdict))
+ChecksAndTraces text raw (Err fault) written = RefusesWitness text raw fault written

@@ -1,0 +1,74 @@
+-- What `info` writes: a line for each fact about a circuit file, its name and its value. Which they are is our own choice.
+use Rattle.std.specs.Prelude.{◌≡◌, ◌↔◌, ℕ, Bool, true, false, IsTrue, List, [], ◌∷◌, ◌++◌, length, codes, count_by, ◌==◌}
+use Rattle.std.specs.Prelude.{Option, None, Some, Result, Ok, Err}
+use Rattle.std.specs.List.{flat_map}
+use Rattle.std.specs.Fmt.{decimal}
+use Rattle.aig_parts.specs.declared.latch.Latch.{Latch}
+use Rattle.aig_parts.specs.declared.raw.Raw.{Raw}
+use Rattle.aig_base.specs.Greatest.{IsGreatestFanOut, IsGreatestLevel}
+use Rattle.aig_base.specs.Renumbered.{IsBinaryReady}
+use Rattle.aig_format.specs.declared.header.Format.{Format}
+use Rattle.aig_format.specs.declared.header.Format.TheVariants.{Ascii, Binary}
+use Rattle.aig_format.specs.Spells.{SpellsAscii, SpellsBinary}
+use Rattle.aig_commands.specs.declared.info.Facts.{Facts}
+use Rattle.aig_fault.specs.declared.run_fault.RunFault.{RunFault}
+use Rattle.aig_fault.specs.declared.run_fault.RunFault.TheVariants as parts
+
+abbrev pub format_name : Format → List ℕ
+format_name Ascii = codes "aag"
+format_name Binary = codes "aig"
+
+abbrev pub yes_or_no : Bool → List ℕ
+yes_or_no true = codes "yes"
+yes_or_no false = codes "no"
+
+-- the bytes are a file of the parts in this format
+abbrev pub IsInFormat : Format → List ℕ → Raw → Type 0
+IsInFormat Ascii bytes raw = SpellsAscii bytes raw
+IsInFormat Binary bytes raw = SpellsBinary bytes raw
+
+-- the latch starts at no known value (AIGER 1.9, resets)
+abbrev pub is_uninitialised : Latch → Bool
+is_uninitialised x = x.reset == x.lit
+
+-- how many bytes a comment has; 0 where there is none
+abbrev pub comment_size : Option (List ℕ) → ℕ
+comment_size None = 0
+comment_size (Some bytes) = length bytes
+
+-- the facts that no part has by itself
+pub record AreFacts (bytes : List ℕ) (raw : Raw) (facts : Facts) : Type 0 where
+  pub format : IsInFormat facts.format bytes raw
+  pub levels : IsGreatestLevel raw facts.levels
+  pub fan_out : IsGreatestFanOut raw facts.fan_out
+  pub ready : IsTrue facts.is_ready ↔ IsBinaryReady raw
+
+abbrev pub fact_line : List ℕ → List ℕ → List ℕ
+fact_line name value = name ++ (codes " " ++ (value ++ codes "\n"))
+
+abbrev pub number_line : List ℕ → ℕ → List ℕ
+number_line name number = fact_line name (decimal number)
+
+-- the numbers with their names, in the order of their lines
+abbrev pub numbers : Raw → Facts → List (List ℕ × ℕ)
+numbers raw facts =
+    (codes "variables", raw.max_var) ∷ (codes "inputs", length raw.inputs) ∷ (codes "latches", length raw.latches)
+    ∷ (codes "outputs", length raw.outputs) ∷ (codes "gates", length raw.gates) ∷ (codes "bad", length raw.bad)
+    ∷ (codes "constraints", length raw.constraints) ∷ (codes "justice", length raw.justice)
+    ∷ (codes "fairness", length raw.fairness) ∷ (codes "uninitialised", count_by is_uninitialised raw.latches)
+    ∷ (codes "levels", facts.levels) ∷ (codes "fanout", facts.fan_out) ∷ (codes "symbols", length raw.symbols)
+    ∷ (codes "comment", comment_size raw.comment) ∷ []
+
+unfoldable pub number_lines : Raw → Facts → List ℕ
+number_lines raw facts = flat_map (λ n. number_line n.0 n.1) (numbers raw facts)
+
+abbrev pub info_text : Raw → Facts → List ℕ
+info_text raw facts =
+    fact_line (codes "format") (format_name facts.format)
+    ++ (number_lines raw facts ++ fact_line (codes "ready") (yes_or_no facts.is_ready))
+
+-- what `info` writes for the file of a circuit; nothing where no memory was found for levels or fan-outs
+abbrev pub ListsFacts : List ℕ → Raw → Result (Unit {0}) RunFault → List ℕ → Type 0
+ListsFacts file raw (Ok done) text = (facts : Facts) × AreFacts file raw facts × (text ≡ info_text raw facts)
+ListsFacts file raw (Err parts.Memory) text = text ≡ []
+ListsFacts file raw (Err _) text = ⊥

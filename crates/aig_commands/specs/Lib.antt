@@ -1,0 +1,9 @@
+pub mod Bench
+pub mod BenchFiles
+pub mod Check
+pub mod Info
+pub mod Sim
+pub mod Toaig
+pub mod Unroll
+pub mod Wave
+pub mod state

@@ -1,0 +1,147 @@
+//! `check`: the verdict on a witness.
+ghost use Rattle.std.specs.Prelude.{◌≡◌, ◌≢◌, ℕ, ◌+◌, ◌≤◌, IfErr};
+ghost use Rattle.aig_bytes.specs.Bytes.{Writes};
+ghost use Rattle.aig_bytes.specs.Flow.{flow};
+ghost use Rattle.aig_fault.specs.Command.{OfFile};
+ghost use Rattle.aig_fault.specs.Command.{Ends};
+ghost use Rattle.aig_commands.specs.Check.{verdict_text, Checks, ChecksAndTraces};
+
+use aig_base::{Circuit, Io, Write, write_all, write_number};
+use aig_fault::{RunFault, flushed, read_circuit};
+use aig_sim::{ReplayFault, Verdict, check_witness, trace_witness};
+use std::alloc::Global;
+
+/// Writes the line of a latch that starts at a wrong value.
+fn write_initial<W: Write>(latch: u32, out: &mut W) -> Result<(), Io>
+    ensures { Writes W.written W.failures out.old out.new (verdict_text (Verdict.Initial latch)) result }
+{
+    write_all(out, b"initial ")?;
+    write_number(out, latch)?;
+    write_all(out, b"\n")
+}
+
+/// Writes the line of a constraint that is not 1 at a frame.
+fn write_constraint<W: Write>(frame: u32, constraint: u32, out: &mut W) -> Result<(), Io>
+    ensures { Writes W.written W.failures out.old out.new (verdict_text (Verdict.Constraint frame constraint)) result }
+{
+    write_all(out, b"constraint ")?;
+    write_number(out, frame)?;
+    write_all(out, b" ")?;
+    write_number(out, constraint)?;
+    write_all(out, b"\n")
+}
+
+/// Writes the line of a verdict.
+fn write_verdict<W: Write>(verdict: Verdict, out: &mut W) -> Result<(), Io>
+    ensures { Writes W.written W.failures out.old out.new (verdict_text verdict) result }
+{
+    match verdict {
+        Verdict::Initial(latch) => write_initial(latch, out),
+        Verdict::Constraint(frame, constraint) => write_constraint(frame, constraint, out),
+        Verdict::NotBad => write_all(out, b"not bad\n"),
+        Verdict::Confirmed => write_all(out, b"confirmed\n"),
+    }
+}
+
+/// Checks a witness of a circuit, and writes its verdict's line.
+fn check_circuit<W: Write>(
+    alloc: Global,
+    circuit: &Circuit,
+    witness: &[u8],
+    out: &mut W,
+) -> Result<Verdict, RunFault>
+    ensures ends { Ends (flow W.written W.failures out.old out.new) RunFault.Output (Checks witness.now circuit.now) result }
+    ensures count { W.failures out.new ≤ W.failures out.old + 1 }
+    ensures refused { IfErr result (λ fault. fault ≢ RunFault.Output → out.new ≡ out.old) }
+{
+    let verdict = check_witness(alloc, circuit, witness)?;
+    match write_verdict(verdict, out) {
+        Ok(()) => Ok(verdict),
+        Err(Io) => Err(RunFault::Output),
+    }
+}
+
+/// Checks a witness against the circuit of a file (AIGER 1.9, witnesses), writes the verdict's line (`confirmed`,
+/// `initial P`, `constraint T P` or `not bad`) and answers the verdict: for every circuit file that is accepted and
+/// every witness for it. A circuit that is refused wins over the witness; at a refusal nothing is written. It does not
+/// flush.
+pub fn check_bytes<W: Write>(
+    alloc: Global,
+    circuit: &[u8],
+    witness: &[u8],
+    out: &mut W,
+) -> Result<Verdict, RunFault>
+    ensures ends { Ends (flow W.written W.failures out.old out.new) RunFault.Output
+        (OfFile circuit.now (Checks witness.now)) result }
+    ensures count { W.failures out.new ≤ W.failures out.old + 1 }
+    ensures refused { IfErr result (λ fault. fault ≢ RunFault.Output → out.new ≡ out.old) }
+{
+    let circuit = read_circuit(alloc, circuit)?;
+    check_circuit(alloc, &circuit, witness, out)
+}
+
+/// The command `check`: checks as `check_bytes` does, and flushes the writer before it answers.
+pub fn check<W: Write>(
+    alloc: Global,
+    circuit: &[u8],
+    witness: &[u8],
+    out: &mut W,
+) -> Result<Verdict, RunFault>
+    ensures ends { Ends (flow W.written W.failures out.old out.new) RunFault.Output
+        (OfFile circuit.now (Checks witness.now)) result }
+    ensures flushed { W.failures out.new ≡ W.failures out.old → W.is_flushed out.new }
+{
+    let done = check_bytes(alloc, circuit, witness, out);
+    flushed(done, out, RunFault::Output)
+}
+
+/// Writes the trace of a witness's run, and then the line of its verdict, which is known.
+fn write_run<W: Write>(
+    alloc: Global,
+    circuit: &Circuit,
+    witness: &[u8],
+    out: &mut W,
+) -> Result<Verdict, RunFault>
+    ensures { Ends (flow W.written W.failures out.old out.new) RunFault.Output (ChecksAndTraces witness.now circuit.now) result }
+{
+    let verdict = check_witness(alloc, circuit, witness)?;
+    match trace_witness(alloc, circuit, witness, out) {
+        Ok(()) => {}
+        Err(ReplayFault::Witness(why)) => return Err(RunFault::Witness(why)),
+        Err(ReplayFault::Io) => return Err(RunFault::Output),
+    }
+    match write_verdict(verdict, out) {
+        Ok(()) => Ok(verdict),
+        Err(Io) => Err(RunFault::Output),
+    }
+}
+
+/// Reads the circuit, checks its witness, and writes the run and the verdict without a flush at the end.
+fn check_and_write_run<W: Write>(
+    alloc: Global,
+    circuit: &[u8],
+    witness: &[u8],
+    out: &mut W,
+) -> Result<Verdict, RunFault>
+    ensures { Ends (flow W.written W.failures out.old out.new) RunFault.Output
+        (OfFile circuit.now (ChecksAndTraces witness.now)) result }
+{
+    let circuit = read_circuit(alloc, circuit)?;
+    write_run(alloc, &circuit, witness, out)
+}
+
+/// The command `check --trace`: checks a witness as `check` does, and writes the trace of its run before the verdict's
+/// line. At a refusal nothing is written. It flushes the writer before it answers.
+pub fn check_and_trace<W: Write>(
+    alloc: Global,
+    circuit: &[u8],
+    witness: &[u8],
+    out: &mut W,
+) -> Result<Verdict, RunFault>
+    ensures ends { Ends (flow W.written W.failures out.old out.new) RunFault.Output
+        (OfFile circuit.now (ChecksAndTraces witness.now)) result }
+    ensures flushed { W.failures out.new ≡ W.failures out.old → W.is_flushed out.new }
+{
+    let done = check_and_write_run(alloc, circuit, witness, out);
+    flushed(done, out, RunFault::Output)
+}

@@ -1,0 +1,207 @@
+//! `info`: facts about a circuit file.
+ghost use Rattle.std.specs.Prelude.{◌≡◌, ℕ, ◌==◌, count_by, slice_index, if◌then◌else◌, IfOk};
+ghost use Rattle.std.specs.List.{flat_map};
+ghost use Rattle.aig_bytes.specs.Bytes.{Writes};
+ghost use Rattle.aig_parts.specs.declared.raw.Raw.{Raw};
+ghost use Rattle.aig_base.specs.Greatest.{IsGreatestLevel};
+ghost use Rattle.aig_format.specs.Spells.{Spells};
+ghost use Rattle.aig_bytes.specs.Flow.{flow};
+ghost use Rattle.aig_fault.specs.Command.{Ends};
+ghost use Rattle.aig_commands.specs.Info.{AreFacts, ListsFacts, IsInFormat, comment_size, fact_line, format_name};
+ghost use Rattle.aig_commands.specs.Info.{info_text, is_uninitialised, number_line, number_lines, yes_or_no};
+ghost use Rattle.aig_fault.specs.Command.{IsFileOf, OfFile};
+
+use aig_base::{
+    Circuit, Io, Latch, Levels, Memory, Write, greatest_fan_out, is_binary_ready, write_all,
+};
+use aig_fault::{RunFault, flushed, read_circuit};
+use aig_format::Format;
+use itoa::Buffer;
+use std::alloc::Global;
+
+/// Facts about a circuit beside the counts of its parts.
+#[derive(Clone, Copy)]
+pub struct Facts {
+    pub format: Format,
+    pub levels: u32,
+    pub fan_out: u32,
+    pub is_ready: bool,
+}
+
+/// The second byte of a file; 0 where there is none.
+fn second_byte(file: &[u8]) -> u8
+    ensures { result ≡ slice_index file.now 1 }
+{
+    if file.len() > 1 { file[1] } else { 0 }
+}
+
+/// The format of the circuit files that have this second byte.
+fn format_by(second: u8) -> Format
+    ensures { result ≡ (if second == 105 then Format.Binary else Format.Ascii) }
+{
+    if second == b'i' {
+        Format::Binary
+    } else {
+        Format::Ascii
+    }
+}
+
+/// The format of a circuit file.
+fn format_of(file: &[u8]) -> Format
+    ensures { (raw : Raw) → Spells file.now raw → IsInFormat result file.now raw }
+{
+    format_by(second_byte(file))
+}
+
+/// The name of a format, as the first word of a file has it.
+fn format_name(format: Format) -> &'static str
+    ensures { result.now ≡ format_name format }
+{
+    match format {
+        Format::Ascii => "aag",
+        Format::Binary => "aig",
+    }
+}
+
+fn yes_or_no(answer: bool) -> &'static str
+    ensures { result.now ≡ yes_or_no answer }
+{
+    if answer { "yes" } else { "no" }
+}
+
+/// The greatest level of a circuit.
+fn greatest_level(alloc: Global, circuit: &Circuit) -> Result<u32, Memory>
+    ensures { IfOk result (IsGreatestLevel circuit.now) }
+{
+    let levels = Levels::of(alloc, circuit)?;
+    Ok(levels.greatest(circuit))
+}
+
+/// The facts of a file and its circuit. Memory is taken for the levels, and then for the fan-outs.
+fn facts_of(alloc: Global, file: &[u8], circuit: &Circuit) -> Result<Facts, Memory>
+    requires { IsFileOf file.now circuit.now }
+    ensures { IfOk result (AreFacts file.now circuit.now) }
+{
+    Ok(Facts {
+        format: format_of(file),
+        levels: greatest_level(alloc, circuit)?,
+        fan_out: greatest_fan_out(alloc, circuit)?,
+        is_ready: is_binary_ready(circuit),
+    })
+}
+
+/// How many latches start at no known value.
+fn uninitialised(latches: &[Latch]) -> usize
+    ensures { result ≡ count_by is_uninitialised latches.now }
+{
+    latches
+        .iter()
+        .filter(|latch| latch.reset.value() == latch.lit.value())
+        .count()
+}
+
+/// How many bytes the comment has.
+fn comment_size(circuit: &Circuit) -> usize
+    ensures { result ≡ comment_size circuit.now.comment }
+{
+    match circuit.comment() {
+        Some(bytes) => bytes.len(),
+        None => 0,
+    }
+}
+
+/// Writes a line with a name and a value.
+fn write_fact<W: Write>(name: &str, value: &str, out: &mut W) -> Result<(), Io>
+    ensures { Writes W.written W.failures out.old out.new (fact_line name.now value.now) result }
+{
+    write_all(out, name.as_bytes())?;
+    write_all(out, b" ")?;
+    write_all(out, value.as_bytes())?;
+    write_all(out, b"\n")
+}
+
+/// Writes a line for each number.
+fn write_numbers<W: Write>(numbers: &[(&str, usize)], out: &mut W) -> Result<(), Io>
+    ensures { Writes W.written W.failures out.old out.new
+        (flat_map (λ n. number_line n.0.now n.1) numbers.now) result }
+{
+    for (name, number) in numbers {
+        let mut buffer = Buffer::new();
+        write_fact(name, buffer.format(*number), out)?;
+    }
+    Ok(())
+}
+
+/// Writes the lines of the numbers.
+fn write_counts<W: Write>(circuit: &Circuit, facts: &Facts, out: &mut W) -> Result<(), Io>
+    ensures { Writes W.written W.failures out.old out.new (number_lines circuit.now facts.now) result }
+{
+    write_numbers(
+        &[
+            ("variables", circuit.max_var() as usize),
+            ("inputs", circuit.inputs().len()),
+            ("latches", circuit.latches().len()),
+            ("outputs", circuit.outputs().len()),
+            ("gates", circuit.gates().len()),
+            ("bad", circuit.bad().len()),
+            ("constraints", circuit.constraints().len()),
+            ("justice", circuit.justice().len()),
+            ("fairness", circuit.fairness().len()),
+            ("uninitialised", uninitialised(circuit.latches())),
+            ("levels", facts.levels as usize),
+            ("fanout", facts.fan_out as usize),
+            ("symbols", circuit.symbols().len()),
+            ("comment", comment_size(circuit)),
+        ],
+        out,
+    )
+}
+
+/// Writes all lines.
+fn write_info<W: Write>(circuit: &Circuit, facts: &Facts, out: &mut W) -> Result<(), Io>
+    ensures { Writes W.written W.failures out.old out.new (info_text circuit.now facts.now) result }
+{
+    write_fact("format", format_name(facts.format), out)?;
+    write_counts(circuit, facts, out)?;
+    write_fact("ready", yes_or_no(facts.is_ready), out)
+}
+
+/// Finds the facts of a circuit and writes all lines.
+fn list_facts<W: Write>(
+    alloc: Global,
+    file: &[u8],
+    circuit: &Circuit,
+    out: &mut W,
+) -> Result<(), RunFault>
+    requires { IsFileOf file.now circuit.now }
+    ensures { Ends (flow W.written W.failures out.old out.new) RunFault.Output (ListsFacts file.now circuit.now) result }
+{
+    let facts = facts_of(alloc, file, circuit)?;
+    match write_info(circuit, &facts, out) {
+        Ok(()) => Ok(()),
+        Err(Io) => Err(RunFault::Output),
+    }
+}
+
+/// Reads a circuit and writes what it is, without a flush at the end.
+fn read_and_list<W: Write>(alloc: Global, file: &[u8], out: &mut W) -> Result<(), RunFault>
+    ensures { Ends (flow W.written W.failures out.old out.new) RunFault.Output
+        (OfFile file.now (ListsFacts file.now)) result }
+{
+    let circuit = read_circuit(alloc, file)?;
+    list_facts(alloc, file, &circuit, out)
+}
+
+/// The command `info`: reads a circuit and writes what it is, a line for each fact, `name value`: its format and the
+/// counts of its parts, the latches that start at no known value, its greatest level and fan-out, its names, the bytes
+/// of its comment, and whether the binary format can hold it as it stands. For every circuit file that is accepted, the
+/// text is that of its circuit. Where the file is refused, or no memory was found for levels or fan-outs, nothing is
+/// written. It flushes the writer before it answers.
+pub fn info<W: Write>(alloc: Global, file: &[u8], out: &mut W) -> Result<(), RunFault>
+    ensures ends { Ends (flow W.written W.failures out.old out.new) RunFault.Output
+        (OfFile file.now (ListsFacts file.now)) result }
+    ensures flushed { W.failures out.new ≡ W.failures out.old → W.is_flushed out.new }
+{
+    let done = read_and_list(alloc, file, out);
+    flushed(done, out, RunFault::Output)
+}

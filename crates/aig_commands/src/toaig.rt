@@ -1,0 +1,97 @@
+//! `toaig`: a circuit file in another format.
+ghost use Rattle.std.specs.Prelude.{◌≡◌, ◌≢◌, ℕ, ◌+◌, ◌≤◌, IfErr};
+ghost use Rattle.aig_format.specs.declared.header.Format.TheVariants.{Binary};
+ghost use Rattle.aig_bytes.specs.Flow.{flow};
+ghost use Rattle.aig_fault.specs.Command.{OfFile, OfReader};
+ghost use Rattle.aig_fault.specs.Command.{Ends};
+ghost use Rattle.aig_commands.specs.Toaig.{Converts};
+
+use aig_base::{Circuit, Read, Write, is_binary_ready, renumber};
+use aig_fault::{RunFault, as_output, flushed, read_circuit};
+use aig_format::{Format, read_from, write_ascii, write_binary};
+use std::alloc::Global;
+
+/// Writes a circuit as a binary file: a ready one as it stands, any other renumbered.
+fn write_ready<W: Write>(alloc: Global, circuit: &Circuit, out: &mut W) -> Result<(), RunFault>
+    ensures ends { Ends (flow W.written W.failures out.old out.new) RunFault.Output (Converts Binary circuit.now) result }
+    ensures count { W.failures out.new ≤ W.failures out.old + 1 }
+    ensures refused { IfErr result (λ fault. fault ≢ RunFault.Output → out.new ≡ out.old) }
+{
+    if is_binary_ready(circuit) {
+        return as_output(write_binary(circuit, out));
+    }
+    let Ok(renumbered) = renumber(alloc, circuit) else {
+        return Err(RunFault::Memory);
+    };
+    as_output(write_binary(&renumbered, out))
+}
+
+/// Writes a circuit in a format: to text as it stands, to binary as it stands where it is ready for that, else
+/// renumbered.
+fn write_converted<W: Write>(
+    alloc: Global,
+    circuit: &Circuit,
+    to: Format,
+    out: &mut W,
+) -> Result<(), RunFault>
+    ensures ends { Ends (flow W.written W.failures out.old out.new) RunFault.Output (Converts to circuit.now) result }
+    ensures count { W.failures out.new ≤ W.failures out.old + 1 }
+    ensures refused { IfErr result (λ fault. fault ≢ RunFault.Output → out.new ≡ out.old) }
+{
+    match to {
+        Format::Ascii => as_output(write_ascii(circuit, out)),
+        Format::Binary => write_ready(alloc, circuit, out),
+    }
+}
+
+/// Writes the circuit of a file in a format: to text as it stands, to binary as it stands where it is ready for that,
+/// else renumbered. Counts and resets of 0 that may be left out are left out. Where the file is refused, or no memory
+/// was found to renumber its circuit, nothing is written. It does not flush.
+pub fn convert<W: Write>(
+    alloc: Global,
+    file: &[u8],
+    to: Format,
+    out: &mut W,
+) -> Result<(), RunFault>
+    ensures ends { Ends (flow W.written W.failures out.old out.new) RunFault.Output (OfFile file.now (Converts to)) result }
+    ensures count { W.failures out.new ≤ W.failures out.old + 1 }
+    ensures refused { IfErr result (λ fault. fault ≢ RunFault.Output → out.new ≡ out.old) }
+{
+    let circuit = read_circuit(alloc, file)?;
+    write_converted(alloc, &circuit, to, out)
+}
+
+/// Writes the circuit that a reader holds in a format: as `convert` does for the bytes that the reader holds, or a read
+/// failed and nothing is written. The file is never held whole: memory is taken for its circuit, and where that is
+/// renumbered for the renumbered one. It does not flush.
+pub fn convert_from<R: Read, W: Write>(
+    alloc: Global,
+    reader: &mut R,
+    to: Format,
+    out: &mut W,
+) -> Result<(), RunFault>
+    ensures ends { Ends (flow W.written W.failures out.old out.new) RunFault.Output
+        (OfReader (flow R.left R.failures reader.old reader.new) (Converts to)) result }
+    ensures count { W.failures out.new ≤ W.failures out.old + 1 }
+    ensures refused { IfErr result (λ fault. fault ≢ RunFault.Output → out.new ≡ out.old) }
+{
+    match read_from(alloc, reader) {
+        Ok(circuit) => write_converted(alloc, &circuit, to, out),
+        Err(fault) => Err(RunFault::Circuit(fault)),
+    }
+}
+
+/// The command `toaig`: converts as `convert_from` does, and flushes the writer before it answers.
+pub fn toaig<R: Read, W: Write>(
+    alloc: Global,
+    circuit: &mut R,
+    to: Format,
+    out: &mut W,
+) -> Result<(), RunFault>
+    ensures ends { Ends (flow W.written W.failures out.old out.new) RunFault.Output
+        (OfReader (flow R.left R.failures circuit.old circuit.new) (Converts to)) result }
+    ensures flushed { W.failures out.new ≡ W.failures out.old → W.is_flushed out.new }
+{
+    let done = convert_from(alloc, circuit, to, out);
+    flushed(done, out, RunFault::Output)
+}

@@ -1,0 +1,118 @@
+//! `unroll`: a circuit unrolled for some frames, and the map of its inputs.
+ghost use Rattle.std.specs.Prelude.{◌≡◌, ◌≢◌, ℕ, ◌+◌, ◌≤◌, IfErr};
+ghost use Rattle.aig_base.specs.Renumbered.{IsBinaryReady};
+ghost use Rattle.aig_bytes.specs.Bytes.{Writes};
+ghost use Rattle.aig_bytes.specs.Flow.{flow};
+ghost use Rattle.aig_unroll.specs.InputMap.{map_text};
+ghost use Rattle.aig_fault.specs.Command.{OfFile};
+ghost use Rattle.aig_fault.specs.Command.{Ends};
+ghost use Rattle.aig_commands.specs.Unroll.{IsMap, Unrolls, UnrollsKept, short_spelling};
+
+use aig_base::{Circuit, Io, Levels, Write};
+use aig_fault::{RunFault, as_output, flushed, read_circuit};
+use aig_format::{Format, write_ascii, write_binary};
+use aig_unroll::write_input_map;
+use std::alloc::Global;
+
+/// Writes a circuit that a binary file can hold in a format, as it stands.
+fn write_short<W: Write>(circuit: &Circuit, to: Format, out: &mut W) -> Result<(), RunFault>
+    requires { IsBinaryReady circuit.now }
+    ensures written { Writes W.written W.failures out.old out.new (short_spelling to circuit.now) result }
+    ensures output { IfErr result (λ fault. fault ≡ RunFault.Output) }
+{
+    match to {
+        Format::Ascii => as_output(write_ascii(circuit, out)),
+        Format::Binary => as_output(write_binary(circuit, out)),
+    }
+}
+
+/// Unrolls a circuit for this many frames, and writes it in a format.
+fn unroll_circuit<W: Write>(
+    alloc: Global,
+    circuit: &Circuit,
+    frames: u32,
+    to: Format,
+    out: &mut W,
+) -> Result<(), RunFault>
+    ensures ends { Ends (flow W.written W.failures out.old out.new) RunFault.Output (Unrolls frames to circuit.now) result }
+    ensures count { W.failures out.new ≤ W.failures out.old + 1 }
+    ensures refused { IfErr result (λ fault. fault ≢ RunFault.Output → out.new ≡ out.old) }
+{
+    let levels = Levels::of(alloc, circuit)?;
+    let unrolled = aig_unroll::unroll(alloc, circuit, &levels, frames)?;
+    write_short(&unrolled, to, out)
+}
+
+/// Reads a circuit, unrolls it for this many frames, and writes the unrolled circuit in a format: for every circuit
+/// file that is accepted, the bytes that are written are the short spelling of the unrolled circuit. Where the circuit
+/// is not unrolled, or no memory was found for its levels, nothing is written. It does not flush.
+pub fn unroll_bytes<W: Write>(
+    alloc: Global,
+    circuit: &[u8],
+    frames: u32,
+    to: Format,
+    out: &mut W,
+) -> Result<(), RunFault>
+    ensures ends { Ends (flow W.written W.failures out.old out.new) RunFault.Output
+        (OfFile circuit.now (Unrolls frames to)) result }
+    ensures count { W.failures out.new ≤ W.failures out.old + 1 }
+    ensures refused { IfErr result (λ fault. fault ≢ RunFault.Output → out.new ≡ out.old) }
+{
+    let circuit = read_circuit(alloc, circuit)?;
+    unroll_circuit(alloc, &circuit, frames, to, out)
+}
+
+/// Unrolls the circuit of a file, and answers the circuit that was read, without a flush at the end.
+fn unroll_and_keep<W: Write>(
+    alloc: Global,
+    circuit: &[u8],
+    frames: u32,
+    to: Format,
+    out: &mut W,
+) -> Result<Circuit, RunFault>
+    ensures { Ends (flow W.written W.failures out.old out.new) RunFault.Output
+        (OfFile circuit.now (UnrollsKept frames to)) result }
+{
+    let circuit = read_circuit(alloc, circuit)?;
+    match unroll_circuit(alloc, &circuit, frames, to, out) {
+        Ok(()) => Ok(circuit),
+        Err(fault) => Err(fault),
+    }
+}
+
+/// The command `unroll`: unrolls as `unroll_bytes` does, and flushes the writer before it answers. The answer is the
+/// circuit that was read, for `unroll_map`.
+pub fn unroll<W: Write>(
+    alloc: Global,
+    circuit: &[u8],
+    frames: u32,
+    to: Format,
+    out: &mut W,
+) -> Result<Circuit, RunFault>
+    ensures ends { Ends (flow W.written W.failures out.old out.new) RunFault.Output
+        (OfFile circuit.now (UnrollsKept frames to)) result }
+    ensures flushed { W.failures out.new ≡ W.failures out.old → W.is_flushed out.new }
+{
+    let done = unroll_and_keep(alloc, circuit, frames, to, out);
+    flushed(done, out, RunFault::Output)
+}
+
+/// Writes the map of the inputs, without a flush at the end.
+fn write_map<W: Write>(circuit: &Circuit, frames: u32, out: &mut W) -> Result<(), RunFault>
+    ensures { Ends (flow W.written W.failures out.old out.new) RunFault.Output (IsMap frames circuit.now) result }
+{
+    match write_input_map(circuit, frames, out) {
+        Ok(()) => Ok(()),
+        Err(Io) => Err(RunFault::Output),
+    }
+}
+
+/// The map of `unroll --map`: writes what each input of the circuit unrolled for this many frames is, a line each, and
+/// flushes the writer before it answers. Only a write can fail.
+pub fn unroll_map<W: Write>(circuit: &Circuit, frames: u32, out: &mut W) -> Result<(), RunFault>
+    ensures ends { Ends (flow W.written W.failures out.old out.new) RunFault.Output (IsMap frames circuit.now) result }
+    ensures flushed { W.failures out.new ≡ W.failures out.old → W.is_flushed out.new }
+{
+    let done = write_map(circuit, frames, out);
+    flushed(done, out, RunFault::Output)
+}

@@ -1,5 +1,0 @@
-pub mod Conversions
-pub mod InfoLemmas
-pub mod Replays
-pub mod Tellings
-pub mod Unrollings

@@ -1,5 +1,0 @@
-use Rattle.aig_engines.proofs.InfoLemmas.{format_told}
-use Rattle.aig_engines.proofs.info.format_of.Goals as goal
-
-pub returns : goal.returns
-returns c = λ raw s. format_told c.args.file.now raw _ _ c.second_byte.ensures c.format_by.ensures s

@@ -1,0 +1,4 @@
+pub mod CircuitFiles
+pub mod Files
+pub mod Flushes
+pub mod Written

@@ -1,0 +1,27 @@
+-- The exit status of a refused run (our own choice).
+use Rattle.std.specs.Prelude.{ℕ}
+use Rattle.aig_parts.specs.declared.fault.Fault.TheVariants as circuits
+use Rattle.aig_sim.specs.declared.stimulus_fault.StimFault.TheVariants as stimuli
+use Rattle.aig_sim.specs.declared.witness_fault.WitnessFault.TheVariants as witnesses
+use Rattle.aig_values.specs.declared.bench_fault.BenchFault.TheVariants as benches
+use Rattle.aig_unroll.specs.declared.fault.UnrollFault.TheVariants as unrollings
+use Rattle.aig_fault.specs.declared.run_fault.RunFault.{RunFault}
+use Rattle.aig_fault.specs.declared.run_fault.RunFault.TheVariants.{Circuit, Stimulus, Witness, Bench, Script, Output, Memory, Unroll}
+
+-- 3 where memory ran out, or a read or a write failed; 1 for any other refusal
+abbrev pub status_of : RunFault → ℕ
+status_of (Circuit circuits.Memory) = 3
+status_of (Circuit circuits.Io) = 3
+status_of (Circuit _) = 1
+status_of (Stimulus stimuli.Memory) = 3
+status_of (Stimulus stimuli.Io) = 3
+status_of (Stimulus _) = 1
+status_of (Witness witnesses.Memory) = 3
+status_of (Witness _) = 1
+status_of (Bench benches.Memory) = 3
+status_of (Bench _) = 1
+status_of (Script _) = 3
+status_of Output = 3
+status_of Memory = 3
+status_of (Unroll unrollings.Memory) = 3
+status_of (Unroll _) = 1

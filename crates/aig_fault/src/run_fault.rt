@@ -1,0 +1,131 @@
+//! The part of a run that refused, and why.
+ghost use Rattle.std.specs.Prelude.{◌≡◌};
+ghost use Rattle.aig_fault.specs.Status.{status_of};
+
+use crate::script_fault::ScriptFault;
+use aig_base::{Fault, Memory};
+use aig_sim::{StimFault, WitnessFault};
+use aig_unroll::UnrollFault;
+use aig_values::BenchFault;
+use thiserror::Error;
+
+/// The part of a run that refused, and its fault.
+#[derive(Clone, Copy, PartialEq, Eq, Debug, Error)]
+pub enum RunFault {
+    #[error("circuit: {0}")]
+    Circuit(Fault),
+    #[error("stimulus: {0}")]
+    Stimulus(StimFault),
+    #[error("witness: {0}")]
+    Witness(WitnessFault),
+    #[error("bench: {0}")]
+    Bench(BenchFault),
+    #[error("script: {0}")]
+    Script(ScriptFault),
+    /// A write of results failed.
+    #[error("output: input or output")]
+    Output,
+    /// No memory was found, outside these parts.
+    #[error("memory")]
+    Memory,
+    #[error("unroll: {0}")]
+    Unroll(UnrollFault),
+}
+
+impl RunFault {
+    /// The exit status: 3 where memory ran out, or a read or a write failed; 1 for any other refusal.
+    pub fn status(&self) -> u8
+        ensures { result ≡ status_of self.now }
+    {
+        match self {
+            RunFault::Circuit(Fault::Memory | Fault::Io) => 3,
+            RunFault::Stimulus(StimFault::Memory | StimFault::Io) => 3,
+            RunFault::Witness(WitnessFault::Memory) => 3,
+            RunFault::Bench(BenchFault::Memory) => 3,
+            RunFault::Script(_) | RunFault::Output | RunFault::Memory => 3,
+            RunFault::Unroll(UnrollFault::Memory) => 3,
+            RunFault::Circuit(_)
+            | RunFault::Stimulus(_)
+            | RunFault::Witness(_)
+            | RunFault::Bench(_)
+            | RunFault::Unroll(_) => 1,
+        }
+    }
+}
+
+impl From<Fault> for RunFault {
+    ghost use Rattle.std.specs.Prelude.{◌≡◌};
+    ghost use Rattle.aig_fault.specs.declared.run_fault.RunFault.TheVariants as parts;
+
+    ghost from_gives = { λ fault part. part ≡ parts.Circuit fault };
+
+    fn from(fault: Fault) -> RunFault {
+        RunFault::Circuit(fault)
+    }
+}
+
+impl From<StimFault> for RunFault {
+    ghost use Rattle.std.specs.Prelude.{◌≡◌};
+    ghost use Rattle.aig_fault.specs.declared.run_fault.RunFault.TheVariants as parts;
+
+    ghost from_gives = { λ fault part. part ≡ parts.Stimulus fault };
+
+    fn from(fault: StimFault) -> RunFault {
+        RunFault::Stimulus(fault)
+    }
+}
+
+impl From<WitnessFault> for RunFault {
+    ghost use Rattle.std.specs.Prelude.{◌≡◌};
+    ghost use Rattle.aig_fault.specs.declared.run_fault.RunFault.TheVariants as parts;
+
+    ghost from_gives = { λ fault part. part ≡ parts.Witness fault };
+
+    fn from(fault: WitnessFault) -> RunFault {
+        RunFault::Witness(fault)
+    }
+}
+
+impl From<BenchFault> for RunFault {
+    ghost use Rattle.std.specs.Prelude.{◌≡◌};
+    ghost use Rattle.aig_fault.specs.declared.run_fault.RunFault.TheVariants as parts;
+
+    ghost from_gives = { λ fault part. part ≡ parts.Bench fault };
+
+    fn from(fault: BenchFault) -> RunFault {
+        RunFault::Bench(fault)
+    }
+}
+
+impl From<ScriptFault> for RunFault {
+    ghost use Rattle.std.specs.Prelude.{◌≡◌};
+    ghost use Rattle.aig_fault.specs.declared.run_fault.RunFault.TheVariants as parts;
+
+    ghost from_gives = { λ fault part. part ≡ parts.Script fault };
+
+    fn from(fault: ScriptFault) -> RunFault {
+        RunFault::Script(fault)
+    }
+}
+
+impl From<Memory> for RunFault {
+    ghost use Rattle.std.specs.Prelude.{◌≡◌};
+    ghost use Rattle.aig_fault.specs.declared.run_fault.RunFault.TheVariants as parts;
+
+    ghost from_gives = { λ _ part. part ≡ parts.Memory };
+
+    fn from(_memory: Memory) -> RunFault {
+        RunFault::Memory
+    }
+}
+
+impl From<UnrollFault> for RunFault {
+    ghost use Rattle.std.specs.Prelude.{◌≡◌};
+    ghost use Rattle.aig_fault.specs.declared.run_fault.RunFault.TheVariants as parts;
+
+    ghost from_gives = { λ fault part. part ≡ parts.Unroll fault };
+
+    fn from(fault: UnrollFault) -> RunFault {
+        RunFault::Unroll(fault)
+    }
+}

@@ -1,4 +1,0 @@
-pub mod Delivered
-pub mod Faults
-pub mod Run
-pub mod Status
