@@ -17,7 +17,7 @@ from library.runs import REPOSITORY, TESTS
 SCRIPTS = ("run_large.py", "run_program.py", "run_faults.py", "run_random.py", "run_dist.py", "tour.py")
 # these read the sources alone
 READERS = ("definitions.py", "contracts.py")
-CRATES = ("aig_tests", "aig_engine_tests", "aig_bench_tests")
+CRATES = ("aig_tests", "aig_command_tests", "aig_bench_tests")
 COUNTS = re.compile(r"(\d+) passed[,;] (\d+) failed")
 SHOWN = re.compile(r"(?m)^.*(?: passed[,;] |left out|to believe|as the sources).*\n")
 

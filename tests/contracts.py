@@ -109,7 +109,7 @@ def differences(old, new):
 
 
 def wrong_numbers(promises):
-    """Yields what README says wrong of the lines to believe, as in `read 868 lines (.. --of deliver_bench ..)`."""
+    """Yields what README says wrong of the lines to believe, as in `read 868 lines (.. --of bench ..)`."""
     said = re.findall(r"(\d[\d,]*)[^(\d]*\([^)]*--of ([\w:]+)", README.read_text(encoding="utf-8"))
     for number, name in said:
         lines = [promises.specs.lines(promises.believed(it)) for it in promises.exports if it.name == name]

@@ -1,7 +1,7 @@
 #!/usr/bin/env python3
 """Runs the built program where the system fails it: each allocation refused in turn, results that cannot be written,
-each read and each write failing in turn. The failure is told, nothing is written behind it, and edits that need no
-memory go on. Parts that need a C compiler (`cc`) are left out where there is none."""
+each read and each write failing in turn. The program reports the failure and writes nothing after it. Edits that need
+no memory go on. Parts that need a C compiler (`cc`) are left out where there is none."""
 
 from faults.allocations import allocations
 from faults.calls import calls

@@ -1,7 +1,7 @@
 #!/usr/bin/env python3
 """Runs the built program on files of more than its blocks, on long scripts, and on files that were chosen to be slow.
-Two parts run only where they are asked for: `deep`, of circuits as deep and as wide as the limits allow (minutes, 1 GB
-of memory, 500 MB of files), and `claims`, of the memory for small files that claim millions of entries."""
+Two parts run only where they are asked for. `deep` has circuits as deep and as wide as the limits allow (minutes, 1 GB
+of memory, 500 MB of files). `claims` measures the memory for small files that claim millions of entries."""
 
 from large.block_edges import block_edges
 from large.claims import claims

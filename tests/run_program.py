@@ -1,7 +1,7 @@
 #!/usr/bin/env python3
-"""Runs the built program as a user does: each subcommand on small files, the words of the command line, the help and
-the causes of messages beside docs/BEHAVIOUR.md, what --explain says, manual pages and completions, what a run needs, and
-talks through pipes. Output, error text and exit status have to be those that stand here: from the standard, from worked
+"""Runs the built program as a user does: each subcommand on small files, the arguments, the help and the causes of
+messages beside docs/BEHAVIOUR.md, what --explain says, manual pages and completions, what a run needs, and talks
+through pipes. Output, error text and exit status have to be those that stand here: from the standard, from worked
 examples, and from library/reference.py, a plain simulator and workbench."""
 
 from library import runs

@@ -1,7 +1,7 @@
 #!/usr/bin/env python3
 """Runs the built program on files made at random: broken ones through every subcommand; scripts, whose replies have to
-be those of a plain workbench; dumps, in which a plain reader has to find the trace; and runs of witnesses. The gate runs
-a few hundred cases of each; --count and --seed choose others."""
+be those of a plain workbench; dumps, in which a plain reader has to find the trace; and runs of witnesses. The gate
+runs a few hundred cases of each; --count and --seed choose others."""
 
 from at_random import cases
 from at_random.hostile import hostile

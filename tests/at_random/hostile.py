@@ -2,8 +2,8 @@
 circuits are changed, and every subcommand runs on what comes out.
 
 A run ends with status 0, and then nothing on standard error, or with status 1, and then one line there that is one of
-those of docs/BEHAVIOUR.md; without a signal, and within a time and a memory that are linear in its files and in the M
-and the cells that they ask for. (Status 2 and 3 are not to come: the words are right, and there are files and memory.)
+those of docs/BEHAVIOUR.md. No signal ends it. Its time and memory are linear in its files and in the M and the cells
+that they ask for. (Status 2 and 3 are not to come: the arguments are right, and there are files and memory.)
 What a circuit is converted to is written back as it stands, converts both ways, and has the circuit's traces. Not that
 a broken file gets the right answer."""
 
@@ -103,7 +103,7 @@ class Runs:
 
     def replays(self, work):
         """The trace and the dump of a witness's run are refused where its check is, and nothing of them is written
-        then; behind the trace stands the verdict."""
+        then. The verdict comes after the trace."""
         status, verdict = self.run(work, "check", "circuit", "witness")
         told = contents("err")
         traced, trace = self.run(work, "check", "--trace", "circuit", "witness")
@@ -116,7 +116,7 @@ class Runs:
             raise Wrong("a witness is refused, and something is written")
 
     def asks(self, work, name, rows):
-        """The workbench tells the trace that the simulator writes."""
+        """The workbench prints the trace that the simulator writes."""
         write("script", "t\n")
         status, got = self.run(work, "bench", name, "rows", "script")
         trace_status, trace = self.run(work, "sim", name, "rows")

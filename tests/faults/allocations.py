@@ -1,7 +1,7 @@
-"""Allocations that are refused, one in each run: it writes a beginning of what the whole run writes, says that memory
-is wanting, and ends with status 3; or it does without, and ends as the whole run does. A script may also answer `no
-11` to a line that takes memory, and go on. Then scripts with no memory at all behind their beginning: edits take none,
-but for a fifth gate that reads a variable and for a gate that is appended."""
+"""Allocations that are refused, one in each run. The run writes a prefix of what the whole run writes, says that it is
+out of memory, and ends with status 3; or it does without, and ends as the whole run does. A script may also answer `no
+11` to a line that takes memory, and go on. Then scripts with no memory at all after their beginning: edits take none,
+except a fifth gate that reads a variable and a gate that is appended."""
 
 import re
 
@@ -31,7 +31,7 @@ RUNS = (
     ("info of all sections", ["info", "sections"]),
 )
 
-# Four gates read an input without memory, so that the fifth takes some: where that is refused, the edits behind it see
+# Four gates read an input without memory, so that the fifth takes some: where that is refused, the edits after it see
 # the gate as it was, with the levels and the fan-outs of the circuit as it was.
 FAN_OUT = "aag 8 2 0 1 6\n2\n4\n16\n6 4 4\n8 4 4\n10 4 4\n12 4 4\n14 4 4\n16 14 6\n"
 FIFTH_READER = "".join(f"w {gate} 2 2\n" for gate in (6, 8, 10, 12, 14))
@@ -82,14 +82,14 @@ def allocations(program, tally, _):
     for name, circuit, stimulus, script, wanted, others in SCRIPTS:
         each_of(beneath, tally, name, wanted, others, files(circuit, stimulus, script))
     for name, circuit, stimulus, script, replies in WITHOUT_MEMORY:
-        # A run without a script tells how many allocations come before its first line; all behind them are refused.
+        # A run without a script shows how many allocations come before its first line; all after them are refused.
         before = beneath.counted(*files(circuit, stimulus, ""), REFUSE=0)[1]
         ended = beneath.run(*files(circuit, stimulus, script), REFUSE=before + 1, AFTER=1)
         tally.compare(f"allocations: {name}, without memory", ended, Ended(0, replies.encode(), b""))
 
 
 def files(circuit, stimulus, script):
-    """The words of a run on these files."""
+    """The arguments of a run on these files."""
     for name, text in (("circuit", circuit), ("rows", stimulus), ("script", script)):
         write(name, text)
     return ["bench", "circuit", "rows", "script"]

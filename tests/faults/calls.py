@@ -1,6 +1,6 @@
 """Reads and writes that fail, one in each run, where each call moves one byte: so a run fails at each place of its
-files and of its results. A write may also take no byte. Each such run ends with status 3 and tells the part whose call
-failed. Behind a failing write exactly the bytes before it were written; before a failing read of a script or a
+files and of its results. A write may also take no byte. Each such run ends with status 3 and names the part whose call
+failed. After a failed write exactly the bytes before it were written; before a failing read of a script or a
 stimulus all lines that were read are answered."""
 
 from faults.refusing import Refusing
@@ -36,10 +36,10 @@ $upscope $end
 $enddefinitions $end
 """
 
-# A run: its words, its files in the order in which they are read, each with the part that a failing read of it is told
-# as, the part of a failing write, the status and the fault of the run where no call fails, and its results in pieces:
-# one for each line of the last file where that is streamed, and one for its end, else one; and what is written before a
-# line is read.
+# A run: its arguments, and its files in the order in which they are read, each with the part that the message names if
+# a read of it fails. Then come the part of a failed write, the status and the fault of the run where no call fails, and
+# its results in pieces. There is one for each line of the last file where that is streamed, and one for its end, else
+# one. Last comes what is written before a line is read.
 RUNS = (
     ("bench", [("circuit", TWO_GATES), ("stimulus", b"11\n01\n"), ("script", b"v 0 8\ns 0 1 0\nv 0 8\n")],
      "script", 0, b"", [b"1\n", b"ok\n", b"0\n"]),

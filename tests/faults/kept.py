@@ -1,8 +1,8 @@
-"""Files that keep what a script leaves, or what the inputs of an unrolled circuit are. A call for them fails, each one in
-turn: they are as they were and the new ones are gone, but that the circuit's has its name where the second file does
-not get its own. Runs are killed before each of their calls: each file has its old text or the whole new one, and a new
-one that is left makes the next run fail. Runs are stopped before each of their calls: whoever may open a new file there
-never sees a text that others may not read."""
+"""Files that keep what a script leaves, or what the inputs of an unrolled circuit are. A call for them fails, each one
+in turn: they are as they were and the new ones are gone, except that the circuit's has its name where the second file
+does not get its own. Runs are killed before each of their calls: each file has its old text or the whole new one, and a
+new one that is left makes the next run fail. Runs are stopped before each of their calls: whoever may open a new file
+there never sees a text that others may not read."""
 
 import os
 import signal
@@ -22,7 +22,7 @@ USER, GROUP = 61001, 61002
 
 
 class Case:
-    """A run that writes files, the names of these, and what they hold before it (None: they are not there) and behind
+    """A run that writes files, the names of these, and what they hold before it (None: they are not there) and after
     it."""
 
     def __init__(self, name, words, out, names, old, new):

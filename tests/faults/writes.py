@@ -1,6 +1,6 @@
 """Runs that cannot write their results: on a full device, on a closed output, and where the first write fails and all
-later ones would be taken. Each says so, ends with status 3, and writes nothing behind the failure; where a run is
-refused before it writes, its own fault is told."""
+later ones would be taken. Each says so, ends with status 3, and writes nothing after the failure. A run that is
+rejected before it writes reports that fault."""
 
 import os
 
@@ -13,7 +13,7 @@ MANY_FRAMES = "1\nb0\n\n" + "0\n1\n" * 5000 + ".\n"
 OUTPUT, STIMULUS, SCRIPT = (input_or_output(part) for part in ("output", "stimulus", "script"))
 CYCLE = refused("circuit: cycle 2")
 
-# What is run, its words, the files that they name beside the small circuits, and how the run ends.
+# What is run, its arguments, the files that they name beside the small circuits, and how the run ends.
 RUNS = (
     ("toaig", "toaig --to aag one_gate", {}, OUTPUT),
     ("toaig to binary", "toaig --to aig one_gate", {}, OUTPUT),

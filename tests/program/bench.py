@@ -1,4 +1,4 @@
-"""Rows of `aig bench`: lines of a script and their replies, refusals, and which file a failure is told of."""
+"""Rows of `aig bench`: lines of a script and their replies, refusals, and which file a failure names."""
 
 from library.circuits import write_all
 from library.runs import EXAMPLES, EXPECTED
@@ -95,8 +95,8 @@ REFUSALS = (
     ("more rows than a stimulus may have", "empty", "\n" * 65537, "stimulus: limit"),
 )
 
-# Files that are missing or are directories, by the part that is told: files are opened in the order of the words, and
-# read in that order when all are open.
+# Files that are missing or are directories, by the part that the message names. The program opens files in argument
+# order, and reads them in that order when all are open.
 FAILURES = (
     ("circuit", ("nowhere rows script", "nowhere nowhere script", "nowhere rows nowhere", "nowhere nowhere nowhere",
                  "nowhere . script", "nowhere rows .", ". rows script", ". . script", ". rows .", ". . .",

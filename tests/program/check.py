@@ -1,4 +1,4 @@
-"""Rows of `aig check`: witnesses and their verdicts, refused ones, and which file a failure is told of."""
+"""Rows of `aig check`: witnesses and their verdicts, refused ones, and which file a failure names."""
 
 import re
 
@@ -66,7 +66,7 @@ REFUSALS = (
     *(("1/b0/0///./"[:cut], "text") for cut in range(11)),
 )
 
-# Files that are missing or are directories, by the part that is told.
+# Files that are missing or are directories, by the part that the message names.
 FAILURES = (
     ("circuit", ("nowhere witness", "nowhere nowhere", "nowhere .", ". witness", ". .")),
     ("witness", ("bad_input nowhere", "bad_input .", "cycle nowhere", ". nowhere", "cycle .")),

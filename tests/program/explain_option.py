@@ -72,7 +72,7 @@ def explain_option(program, tally, _):
 
 
 def places(program, tally):
-    """The option before the command, behind it or both, and the values of the variable, with the same result."""
+    """The option before the command, after it or both, and the values of the variable, with the same result."""
     plain = program.run("check", "two_gates", "missing")
     wanted = program.run("check", "--explain", "two_gates", "missing")
     tally.check("explain: behind the command", explains(wanted, plain), wanted)

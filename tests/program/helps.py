@@ -1,4 +1,4 @@
-"""What the help lists, beside the tables of docs/BEHAVIOUR.md and what the program takes; its lines and its examples."""
+"""What the help lists, beside the tables of docs/BEHAVIOUR.md and what the program takes; its lines and examples."""
 
 import os
 import subprocess
@@ -41,7 +41,7 @@ def helps(program, tally, _):
 
 
 def asked(ask):
-    """The words that ask for each help, by its name."""
+    """The arguments that ask for each help, by its name."""
     return {"aig": ["--help"], "help": ["help", "help"], **{name: [name, "--help"] for name in commands(ask)[1]}}
 
 

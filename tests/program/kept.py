@@ -1,5 +1,5 @@
-"""Rows of `aig bench` with files that keep what a script leaves: which texts they have, where they go, who may read them,
-and that they are as they were where a run fails."""
+"""Rows of `aig bench` with files that keep what a script leaves: which texts they have, where they go, who may read
+them, and that they are as they were where a run fails."""
 
 import contextlib
 import os
@@ -277,7 +277,7 @@ def disks(keeping):
 
 
 def before_the_script(keeping):
-    """A file that cannot be written is told before a script is read that has no end yet."""
+    """A file that cannot be written is reported before a script is read that has no end yet."""
     write("new_rows.new", b"mine")
     for name, words in (("a new file is there", BOTH), ("no folder", ("--circuit-out", "nowhere/file")),
                         ("a folder", ("--circuit-out", ".")), ("a dangling link", ("--circuit-out", "dangling"))):

@@ -13,7 +13,7 @@ USER = 61000
 OWN, SHARED, OTHER = 61001, 61002, 61003
 
 # Who runs the program (None: root), in which further groups; the owner, the group and the mode of the file before; how
-# the run ends, and the owner, the group and the mode behind it.
+# the run ends, and the owner, the group and the mode after it.
 ROWS = (
     ("an own file", USER, (), (USER, OWN, 0o640), DONE, (USER, OWN, 0o640)),
     ("a shared file", USER, (SHARED, ), (USER, SHARED, 0o660), DONE, (USER, SHARED, 0o660)),

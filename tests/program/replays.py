@@ -1,5 +1,5 @@
 """Rows of `aig check --trace` and `aig wave --witness`: the runs of witnesses, whatever their verdicts, as traces and
-as dumps; refused witnesses, of which nothing is written; and which file a failure is told of."""
+as dumps; refused witnesses, of which nothing is written; and which file a failure names."""
 
 from library.circuits import write_all
 from library.dump_reader import Dump
@@ -21,7 +21,7 @@ GUARDED = (FRONT + scope("inputs", "wire", ("!", "i0"), ('"', "i1")) + scope("ba
            + scope("constraints", "wire", ("$", "c0")) + BEHIND)
 CONSTRAINED = "aag 2 2 0 0 0 1 1\n2\n4\n2\n4\n"
 
-# What is run, the circuit, the lines of the witness behind its property, its trace, its verdict and its dump.
+# What is run, the circuit, the lines of the witness after its property, its trace, its verdict and its dump.
 REPLAYS = (
     ("a free latch that starts at 1", FREE, "1\n\n\n\n", "1  0 0\n0  1 1\n1  0 0\n", "confirmed",
      TOGGLES + TOGGLED + '1!\n0"\n1#\n#3\n'),
@@ -43,7 +43,7 @@ REFUSALS = (
     ("1\nb0\n\n" + "11\n" * 65537 + ".\n", "limit"),
 )
 
-# Files that are missing or are directories, by the part that is told.
+# Files that are missing or are directories, by the part that the message names.
 FAILURES = (
     ("circuit", ("nowhere witness", "nowhere nowhere", ". witness", ". .")),
     ("witness", ("circuit nowhere", "circuit .", "cycle nowhere", ". nowhere")),
@@ -72,7 +72,7 @@ def replays(program, tally, _):
 
 
 def agrees(rows, name, files):
-    """The dump of a run, read back, has the values of its trace, and ends behind it."""
+    """The dump of a run, read back, has the values of its trace, and ends after it."""
     traced, ended = (rows.program.run(*command.split(" "), *files) for command in COMMANDS)
     lines = traced.out.decode().splitlines()[:-1]
     dump = Dump(ended.out)

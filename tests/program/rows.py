@@ -17,7 +17,7 @@ class Rows:
         self.name, self.program, self.tally = name, program, tally
 
     def ends(self, name, words, wanted, **files):
-        """A row: the run of these words, with these files."""
+        """A row: the run of these arguments, with these files."""
         for file, content in files.items():
             write(file, content)
         words = words.split(" ") if isinstance(words, str) else words
@@ -35,7 +35,7 @@ class Rows:
         self.gives(name, words, contents(file), **files)
 
     def refuses(self, name, words, text, out="", **files):
-        """The run is refused with this text, behind what it has written."""
+        """The run is refused with this text, after what it has written."""
         self.ends(name, words, refused(text, data(out)), **files)
 
     def fails(self, name, words, part):

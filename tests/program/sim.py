@@ -1,4 +1,4 @@
-"""Rows of `aig sim`: stimuli and their traces, refused lines, and which file a failure is told of."""
+"""Rows of `aig sim`: stimuli and their traces, refused lines, and which file a failure names."""
 
 from library.circuits import write_all
 from library.runs import EXAMPLES, EXPECTED
@@ -26,7 +26,7 @@ REFUSALS = (
     ("an empty line", "\n", "length of line 2"),
 )
 
-# Files that are missing or are directories, by the part that is told.
+# Files that are missing or are directories, by the part that the message names.
 FAILURES = (
     ("circuit", ("nowhere rows", "nowhere nowhere", "nowhere .", ". rows", ". .")),
     ("stimulus", ("one_gate nowhere", "one_gate .", "cycle nowhere", ". nowhere")),

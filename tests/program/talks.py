@@ -102,7 +102,7 @@ $enddefinitions $end
 
 
 def closed(program, words, text, part):
-    """Nobody reads what the program writes: a failing write, which the program tells."""
+    """Nobody reads what the program writes: a failed write, which the program reports."""
     talk = Talk(program, *words.split(" "))
     talk.run.stdout.close()
     try:

@@ -31,7 +31,7 @@ REFUSALS = (
     ("a refused circuit before a refused number", "0 --to aag cycle", "circuit: cycle 2"),
 )
 
-# What a map tells: frames, circuit, and its lines.
+# What a map says: frames, circuit, and its lines.
 MAPS = (
     ("an uninitialised latch", 2, "feedback", "i 0 0 0 \ni 1 1 0 \nl 2 0 \n"),
     ("names", 1, "sections", None),

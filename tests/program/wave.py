@@ -1,5 +1,5 @@
-"""Rows of `aig wave`: stimuli and their dumps, headers, names and codes, refused lines, and which file a failure is
-told of."""
+"""Rows of `aig wave`: stimuli and their dumps, headers, names and codes, refused lines, and which file a failure
+names."""
 
 import itertools
 
@@ -122,7 +122,7 @@ REFUSALS = (
 )
 BEFORE = ONE_GATE + '#0\n$dumpvars\n1!\n1"\n1#\n$end\n#1\n0"\n0#\n'
 
-# Files that are missing or are directories, by the part that is told.
+# Files that are missing or are directories, by the part that the message names.
 FAILURES = (
     ("circuit", ("nowhere rows", "nowhere nowhere", "nowhere .", ". rows", ". .")),
     ("stimulus", ("one_gate nowhere", "cycle nowhere", ". nowhere")),

@@ -1,4 +1,4 @@
-"""Rows of the command line: help texts, the version, and words that are refused."""
+"""Rows of the command line: help texts, the version, and arguments that are refused."""
 
 import subprocess
 
@@ -48,12 +48,12 @@ def words(program, tally, _):
         tally.check(f"words: {asked}", ended.status == 2 and ended.err.startswith(NEGATIVE), ended)
 
 
-# A number of frames that is refused is told with its range.
+# A message about a number of frames that is refused says its range.
 NEGATIVE = b"error: invalid value '-1' for '--frames <K>': -1 is not in 0..=4294967295\n"
 
 
 def tells(rows, asked, text):
-    """These words ask for a text, which goes to standard error alone. It names the program, so that is called `aig`."""
+    """These arguments ask for a text, which goes to standard error alone. It names the program, called `aig`."""
     done = subprocess.run(["aig", *asked], executable=rows.program.path, stdin=subprocess.DEVNULL, capture_output=True,
                           check=False)
     ended = Ended(done.returncode, done.stdout, done.stderr)

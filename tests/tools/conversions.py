@@ -128,7 +128,7 @@ class Files:
         self.binary_file("abc fifo, with constraints", "fifo.e.aig")
 
     def controls(self):
-        """ABC tells a circuit that was changed at one place, so that the proofs are not idle."""
+        """ABC finds a circuit that was changed at one place, so that the proofs are not idle."""
         register, adder = parts_of("shift_register.0.aag"), parts_of("adder.0.aag")
         states = register.latches
         place = next(place for place, (_, _, reset) in enumerate(states) if reset == 1)

@@ -95,6 +95,6 @@ def verdict(program, circuit, start, rows):
 
 
 def reaches(parts, rows):
-    """Whether by the plain simulator the outputs behind the first are 1 in all frames, and the first in the last."""
+    """Whether by the plain simulator the outputs after the first are 1 in all frames, and the first in the last."""
     outputs = [line.split(" ")[2] for line in reference.trace(parts, [list(row) for row in rows]).splitlines()]
     return all(set(line[1:]) <= {"1"} for line in outputs) and outputs[-1][0] == "1"

@@ -4,7 +4,7 @@ use clap::builder::ValueParser;
 use clap::{Arg, ArgAction, ArgMatches, Command};
 use std::alloc::{AllocError, Global};
 
-/// The program's version. A program cannot tell how it was built: `rt ci` proves what it builds, and
+/// The program's version. A program does not know how it was built: `rt ci` proves what it builds, and
 /// `tests/build_unproved.sh` replaces this text in a program that was not proved.
 static VERSION: &str = "0.1.0 (proved where rt ci built it)";
 

@@ -5,7 +5,7 @@ use Rattle.std.proofs.lemmas.Bool.{cases_lt, lt-ltb, le-ltb, ltb-false}
 use Rattle.std.proofs.lemmas.List.Elements.{All-nil, All-cons}
 use Rattle.aig_dump_header.specs.Names.{code_digits, identifier_code}
 
--- the last digit of a number, and one behind which there are more
+-- the last digit of a number, and one after which there are more
 one_digit : (most n : ℕ) → n < 94 → code_digits (suc most) n ≡ (33 + n % 94) ∷ []
 unfolding code_digits
 one_digit most n small = rw (lt-ltb n 94 small)

@@ -54,7 +54,7 @@ lines_more shape before name xs i d text new all lt is more h =
     ∙ ap (λ (w : List ℕ). text ++ name_lines shape (scopes_of before) ((n, w) ∷ rest)) is
     ∙ ap (λ (ys : List Signal). text ++ name_lines shape (scopes_of before) (map named ys)) (sym (drop_more xs i d lt)) ∙ h
 
--- the lines behind the last name
+-- the lines after the last name
 pub lines_done : (shape before : List ℕ) (xs : List Signal) (i n : ℕ) (text new all : List ℕ) → length xs ≤ i → n ≡ length (scopes_of before)
     → new ≡ text ++ closings n → text ++ name_lines shape (scopes_of before) (map named (drop i xs)) ≡ all → new ≡ all
 unfolding name_lines

@@ -365,7 +365,7 @@ words_of_lines (ws ∷ wss) h =
     let rest : map (cut_at 32) (map line_of wss) ≡ map whole wss = words_of_lines wss (All-tail IsLine ws wss h) in
     λ i. first i ∷ rest i
 
--- the words of each line of a header, and behind the last line end an empty word
+-- the words of each line of a header, and after the last line end an empty word
 pub header_cut : (symbols : List (Key × List ℕ)) (counts : SignalCounts)
     → map (cut_at 32) (cut_at 10 (header symbols counts)) ≡ map whole (header_words symbols counts) ++ ([] ∷ []) ∷ []
 header_cut symbols counts =

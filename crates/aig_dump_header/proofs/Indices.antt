@@ -13,7 +13,7 @@ use Rattle.aig_dump_header.specs.Vectors.{is_index}
 own : IsNumeralModel (λ ds. all_ascii_digits ds ≡ true) (digits_value 10)
 own = numerals_by_value _ tells_all_ascii_digits
 
--- what a test of an index tells
+-- what a test of an index says
 pub index_parts : (digits : List ℕ) → IsTrue (is_index digits) → (all_ascii_digits digits ≡ true) × (0 < length digits) × (length digits ≤ 19)
 index_parts digits h =
     let a = and_parts _ _ h in

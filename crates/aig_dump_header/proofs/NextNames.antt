@@ -78,7 +78,7 @@ parted name k lt e =
     sym (take-append-drop k name) ∙ ap (λ (t : List ℕ). take k name ++ t) (drop_more name k 0 lt)
     ∙ ap (λ (b : ℕ). take k name ++ b ∷ drop (k + 1) name) e
 
--- the place behind the last bracket
+-- the place after the last bracket
 pub next_at : (name rest digits : List ℕ) (k place : ℕ) → place ≡ k + 1 → place ≤ length name → get_or name k 0 ≡ 91
     → rest ≡ take (length name - place) (drop place name) → is_index_end rest ≡ true → digits ≡ take (length rest - 1) rest
     → next_name name ≡ (take place name ++ decimal (digits_value 10 digits + 1)) ++ 93 ∷ []

@@ -65,7 +65,7 @@ words_first text n some le h e =
 pub rest_is : (n : ℕ) (xs : List ℕ) → n ≤ length xs → take (length xs - n) (drop n xs) ≡ drop n xs
 rest_is n xs le = take_all (length xs - n) (drop n xs) (omega (arith, length-drop n xs))
 
--- the first word behind blanks
+-- the first word after blanks
 pub first_word_is : (text word rest : List ℕ) (n m : ℕ) → n ≤ length text → ((k : ℕ) → k < n → get_or text k 0 ≡ 32)
     → word ≡ drop n text → 0 < m → m ≤ length word → ((k : ℕ) → k < m → get_or word k 0 ≢ 32)
     → (m < length word → get_or word m 0 ≡ 32) → rest ≡ drop m word
@@ -81,7 +81,7 @@ pub no_word : (text word : List ℕ) (n : ℕ) → n ≤ length text → ((k : �
 no_word text [] n le blank is none = words_blanks text n le blank ∙ ap words (sym is) ∙ words_none
 no_word text (b ∷ word) n le blank is none = absurd (omega arith)
 
--- a text behind all its blanks that has no word before its first blank has no byte
+-- a text after all its blanks that has no word before its first blank has no byte
 pub no_bytes : (text word : List ℕ) (n m : ℕ) → word ≡ drop n text → m ≡ 0 → (n < length text → get_or text n 0 ≢ 32)
     → (m < length word → get_or word m 0 ≡ 32) → length word ≡ 0
 no_bytes text word n m is zero_is first end = elim (cases_lt 0 (length word)) [

@@ -1,5 +1,5 @@
 -- What a reader of headers finds in a value change dump: names in their scopes, each with a code (IEEE 1364, `$scope`,
--- `$upscope` and `$var`; that it reads line by line, words between blanks, is our own choice).
+-- `$upscope` and `$var`). Where the standard is silent, reading line by line, words between blanks, is our own choice.
 use Rattle.std.specs.Prelude.{◌≡◌, ℕ, ◌+◌, ◌-◌, ◌<◌, if◌then◌else◌, List, [], ◌∷◌, ◌++◌, length, map, take, slice_index_or, codes, Contains}
 use Rattle.std.specs.Str.{bytes_eq}
 use Rattle.aig_parts.specs.declared.symbols.Kind.{Kind}

@@ -1,5 +1,5 @@
--- A name in scopes (IEEE 1364, value change dump: `$scope`, `$var`). That dots part scopes is our own choice, after the
--- names that yosys writes.
+-- A name in scopes (IEEE 1364, value change dump: `$scope`, `$var`). Where the standard is silent, dots that
+-- separate scopes are our own choice, after the names that yosys writes.
 use Rattle.std.specs.Prelude.{ℕ, ◌-◌, ◌==◌, if◌then◌else◌, List, [], ◌∷◌, length, take, slice_index_or}
 use Rattle.std.specs.List.{list_any}
 use Rattle.aig_dump_header.specs.Names.{cut_at}

@@ -1,5 +1,5 @@
--- Bits of vectors: viewers join neighbouring lines X[n], X[n+1], .. and take the first as the most significant bit, so
--- that a run of such names is declared from its last to its first (our own choice).
+-- Bits of vectors: viewers join neighbouring lines X[n], X[n+1], .. and take the first as the most significant bit. So
+-- a run of such names is declared from its last to its first. Where the standard is silent, this is our own choice.
 use Rattle.std.specs.Prelude.{ℕ, ◌+◌, ◌-◌, ◌==◌, ◌&&◌, ◌||◌, not, Bool, false, nat_lt, nat_le, if◌then◌else◌, List, [], ◌∷◌, ◌++◌, length, take, slice_index_or, decimal}
 use Rattle.std.specs.Str.{all_ascii_digits, bytes_eq}
 use Rattle.std.specs.Str.Parse.{digits_value}

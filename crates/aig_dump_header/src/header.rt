@@ -170,7 +170,8 @@ fn push_sections(
 }
 
 /// The text of a value change dump up to its first frame, for a circuit with these symbols and so many signals, of
-/// which there are fewer than 2^32: names and scopes as docs/FORMATS.md has them (IEEE 1364). It refuses for memory alone.
+/// which there are fewer than 2^32. Names and scopes are as docs/FORMATS.md has them (IEEE 1364). It refuses for memory
+/// alone.
 pub fn dump_header(
     alloc: Global,
     symbols: &Symbols,

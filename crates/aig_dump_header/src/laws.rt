@@ -9,8 +9,8 @@ ghost use Rattle.aig_dump_header.specs.Names.{names_of};
 ghost use Rattle.aig_dump_header.specs.Paths.{path_of};
 
 /// A reader of a header finds exactly the names of each entry, in the scope of its section and in its own scopes, each
-/// with the code of that entry. The pieces of a name have visible bytes alone, none is empty, and none begins with `$`, so
-/// that none is taken for a keyword (IEEE 1364, value change dump).
+/// with the code of that entry. The pieces of a name have visible bytes alone. None is empty, and none begins with `$`,
+/// so that none is taken for a keyword (IEEE 1364, value change dump).
 pub fn law_of_dump_header()
     ensures names { (symbols : List (Key × List ℕ)) (counts : SignalCounts) (path : List (List ℕ)) (code : List ℕ) →
         Contains (read_names (header symbols counts)) (path, code) ↔ NamesSignal symbols counts path code }

@@ -26,7 +26,7 @@ enum Progress {
     Halfway,
     // Both are.
     Leaving,
-    // No cycle is behind it.
+    // It leads to no cycle.
     Done,
 }
 

@@ -1,7 +1,8 @@
 //! Lines that explain a refusal.
 ghost use Rattle.std.specs.Prelude.{◌≡◌, ◌≢◌, ℕ, List, ◌++◌, ◌∷◌, ◌↔◌, ◌<◌, ◌/◌, ◌%◌, [], IsTrue, IfOk, OnOk, OnErr};
 ghost use Rattle.std.specs.String.{string_bytes};
-ghost use Rattle.aig_explain.specs.Shown.{is_printable, ArePrintable, hexadecimal, escaped_byte, escaped, shown_line, IsShown};
+ghost use Rattle.aig_explain.specs.Shown.{is_printable, ArePrintable, hexadecimal, escaped_byte, escaped};
+ghost use Rattle.aig_explain.specs.Shown.{shown_line, IsShown};
 
 use aig_bytes::Memory;
 use std::alloc::Global;

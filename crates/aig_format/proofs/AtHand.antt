@@ -1,4 +1,4 @@
--- Numbers that are read from the bytes at hand.
+-- Numbers that are read from the buffered bytes.
 use Rattle.std.proofs.Common.{◌≡◌, ℕ, zero, suc, ◌+◌, ◌-◌, ◌*◌, ◌<◌, ◌≤◌, true, false, List, ◌∷◌, ◌++◌, length, get_or, drop}
 use Rattle.std.proofs.Common.{Some, None, Ok, refl, sym, ap, ◌∙◌, append_assoc, arith}
 use Rattle.std.proofs.lemmas.Bool.Decides.{nat_tests}
@@ -32,7 +32,7 @@ pub number_starts : (bound at : ℕ) (bytes : List ℕ) → at < length bytes �
 unfolding number_at
 number_starts bound at bytes lt ge le = rw (drop_more bytes at 0 lt, digit_found (get_or bytes at 0) (drop (at + 1) bytes) ge le) refl
 
--- one more digit behind those of n
+-- one more digit after those of n
 pub number_goes : (bound n at next : ℕ) (bytes : List ℕ) → 0 < n → at < length bytes → next ≡ at + 1 → 48 ≤ get_or bytes at 0
     → get_or bytes at 0 ≤ 57 → n * 10 + (get_or bytes at 0 - 48) ≤ bound
     → number_then bound (Some n) (drop at bytes) ≡ number_then bound (Some (n * 10 + (get_or bytes at 0 - 48))) (drop next bytes)
@@ -48,7 +48,7 @@ unfolding number_then
 number_ends bound zero x rest other = rw (none_found x rest other) refl
 number_ends bound (suc n) x rest other = digits_done bound (suc n) (x ∷ rest) (x ∷ rest) (none_found x rest other)
 
--- the end of the field behind the digits of n
+-- the end of the field after the digits of n
 pub field_ends : (bound end n at next : ℕ) (all bytes : List ℕ) → at < length bytes → next ≡ at + 1 → get_or bytes at 0 ≡ end → end < 48
     → number_at bound all ≡ number_then bound (Some n) (drop at bytes) → field_at bound end all ≡ Ok (n, drop next bytes)
 unfolding field_at
@@ -75,4 +75,4 @@ group_more r at next high bytes rest lt is ge small some h =
     ap (groups_at (suc r)) (drop_more bytes at 0 lt)
     ∙ more_group r (get_or bytes at 0) high (drop (at + 1) bytes) rest ge small some (ap (λ (j : ℕ). groups_at r (drop j bytes)) (sym is) ∙ h)
 
--- ---- what is read of the bytes at hand is read of all bytes
+-- ---- what is read of the buffered bytes is read of all bytes

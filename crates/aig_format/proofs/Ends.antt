@@ -1,4 +1,4 @@
--- What is read of a line or an entry is told by the bytes that it takes.
+-- The bytes that a line or an entry takes determine what is read of it.
 use Rattle.std.proofs.Common.{ℕ, ◌-◌, ◌*◌, List, ◌++◌, Bool, refl, ap, ◌∙◌, append_assoc}
 use Rattle.aig_parts.specs.declared.gate.Gate.{Gate}
 use Rattle.aig_format.specs.Delta.{delta}

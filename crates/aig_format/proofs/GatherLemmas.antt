@@ -5,7 +5,7 @@ use Rattle.std.proofs.lemmas.List.{take_rest, append-nil}
 use Rattle.std.proofs.Math.Seq.{take-add}
 use Rattle.std.proofs.lemmas.Bool.{false≢true}
 use Rattle.aig_bytes.specs.Bytes.{Writes}
-use Rattle.aig_bytes.specs.state.Gathered.{Gathers}
+use Rattle.aig_bytes.specs.Gathered.{Gathers}
 use Rattle.aig_bytes.proofs.GatherLemmas.{gathers_then, gathers_held, gathers_same, written_whole}
 
 module _ {X : Type 0} {written : X → Option (List ℕ)} {failures : X → ℕ} where
@@ -24,7 +24,7 @@ module _ {X : Type 0} {written : X → Option (List ℕ)} {failures : X → ℕ}
   straight {bytes} {s = Ok y} w = record { handed = bytes; wrote = w.ok; ok = sym (append-nil bytes); err = tt; count = w.count }
   straight {s = Err e} w = record { handed = w.err.0; wrote = w.err.2; ok = tt; err = w.err.1; count = w.count }
 
-  -- bytes that went straight on behind all that waited
+  -- bytes that bypass the block, after all that it held
   pub gathers_straight : {T E S F : Type 0} {old mid new : X} {held waiting bytes : List ℕ} {x : T} {s : Result S F}
       → Gathers {E = E} written failures old mid held waiting [] (Ok x) → waiting ≡ []
       → Writes written failures mid new bytes s → Gathers written failures old new held waiting bytes s
@@ -38,7 +38,7 @@ module _ {X : Type 0} {written : X → Option (List ℕ)} {failures : X → ℕ}
       → Gathers {E = F} written failures old new held held' a (Ok y)
   no_more g = record { handed = g.handed; wrote = g.wrote; ok = g.ok; err = tt; count = g.count }
 
-  -- the same, where the last bytes could not be handed on
+  -- the same, where the last bytes could not be written
   pub whole_failed : {T E U D S F : Type 0} {old mid new : X} {held a : List ℕ} {x : T} {d : D} {s : Result S F}
       → Gathers {E = E} written failures old mid [] held a (Ok x) → Writes {T = U} written failures mid new held (Err d) → IsErr s
       → Writes written failures old new a s

@@ -28,7 +28,7 @@ nine = omega arith
 
 -- ---- the word
 
--- the letter that tells the format
+-- the letter that says the format
 abbrev second : Format → ℕ
 second Ascii = 97
 second Binary = 105

@@ -1,4 +1,4 @@
--- What a symbol names: its letter and its position tell it.
+-- What a symbol names, by its letter and its position.
 use Rattle.std.proofs.Common.{◌≡◌, ℕ, Bool, true, false, ◌&&◌, ◌==◌, eqb, eq-eqb, List, Option, Some}
 use Rattle.std.proofs.Common.{None, refl, sym, ap, ◌∙◌, Contains}
 use Rattle.std.proofs.lemmas.Bool.{eqb-true}

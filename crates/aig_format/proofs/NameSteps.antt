@@ -41,7 +41,7 @@ line_piece front (x ∷ part) more whole other so_far =
 seen : (left mid : List ℕ) (o : Option ℕ) → peek_at left ≡ Ok (o, mid) → left ≡ mid
 seen left mid o h = (done_is (first_of left) o left mid h).1
 
--- what is at hand is in the line, and so is what comes behind
+-- the buffered bytes are in the line, and so are those after them
 pub line_on : (front left mid new hand behind : List ℕ) (n : ℕ) (o : Option ℕ) (whole : Read (List ℕ))
     → peek_at left ≡ Ok (o, mid) → mid ≡ hand ++ behind → n ≤ length hand → length hand ≤ n
     → All (λ b. b ≢ line_end) (take n hand) → new ≡ drop n mid
@@ -55,7 +55,7 @@ line_on front left mid new hand behind n o whole h split le ge other is so_far =
     line_piece front (take n hand) new whole other
     (ap (λ (t : List ℕ). with_front front (line_at t)) (sym all) ∙ so_far)
 
--- the line ends in what is at hand
+-- the line ends in the buffered bytes
 pub line_ends : (front left mid new hand behind : List ℕ) (n : ℕ) (o : Option ℕ) (whole : Read (List ℕ))
     → peek_at left ≡ Ok (o, mid) → mid ≡ hand ++ behind → n < length hand → slice_index hand n ≡ line_end
     → All (λ b. b ≢ line_end) (take n hand) → new ≡ drop (n + 1) mid

@@ -33,7 +33,7 @@ pub sizes_more : {X : Type 0} (all : List (List X)) (sizes : List ℕ) (i : ℕ)
 sizes_more {X} all sizes i new size lt so_far is at =
     map-append (length {A = X}) all (new ∷ []) ∙ rw (so_far, is, at) (sym (take_more sizes i 0 lt))
 
--- a fresh entry goes in behind
+-- a fresh entry is added at the end
 pub inserted : (all new : List Entry) (e : Entry) (added : Bool) → (IsTrue added → new ≡ all ++ e ∷ [])
     → (added ≡ false ↔ Contains (keys_of all) e.0) → (Contains (keys_of all) e.0 → ⊥) → new ≡ all ++ e ∷ []
 inserted all new e true behind when free = behind refl

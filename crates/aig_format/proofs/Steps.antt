@@ -126,7 +126,7 @@ module _ {X : Type 0} (line : ℕ → List ℕ → Read X) where
       rw (k, h) (regroup front x (lines_at line (count - (i + 1)) (suc v) after)) in
       ap (λ (u : ℕ). with_front (front ++ x ∷ []) (lines_at line (count - (i + 1)) u after)) is ∙ sym one ∙ so_far
 
-  -- the first one stands at the front of bytes, whatever comes behind these
+  -- the first one is at the front of bytes, whatever comes after these
   pub lines_next : (front : List X) (v : ℕ) (bytes after : List ℕ) (x : X) → EndsItself (line v) → line v bytes ≡ Ok (x, after)
       → (rest : ℕ) (more : List ℕ) → with_front (front ++ x ∷ []) (lines_at line rest (suc v) (after ++ more))
       ≡ with_front front (lines_at line (suc rest) v (bytes ++ more))
@@ -148,7 +148,7 @@ module _ {X : Type 0} (line : ℕ → List ℕ → Read X) where
         ∙ ap (λ (n : ℕ). with_front all (lines_at line n first (hand ++ more))) k;
   }
 
-  -- one more that is at hand
+  -- one more that is buffered
   pub adds_more : (first taken size more : ℕ) (hand shown : List ℕ) (old all new : List X) (x : X)
       → Adds line first taken size hand old all → shown ≡ drop size hand → EndsItself (line (first + taken))
       → more ≤ length shown → line (first + taken) shown ≡ Ok (x, drop more shown) → new ≡ all ++ x ∷ []
@@ -169,7 +169,7 @@ module _ {X : Type 0} (line : ℕ → List ℕ → Read X) where
         ∙ ap (λ (n : ℕ). with_front old (lines_at line n first (hand ++ behind))) k;
   }
 
-  -- those that were at hand are read
+  -- those that were buffered are read
   pub lines_taken : (all new : List X) (count i first taken size : ℕ) (shown hand behind bytes after : List ℕ)
       (total : Read (List X)) → i + taken ≤ count → shown ≡ hand → bytes ≡ hand ++ behind → after ≡ drop size bytes
       → Adds line (first + i) taken size shown all new

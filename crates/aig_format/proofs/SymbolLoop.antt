@@ -4,7 +4,7 @@ use Rattle.std.specs.Prelude.{Option}
 use Rattle.std.specs.List.{flat_map}
 use Rattle.std.proofs.lemmas.List.{append-nil}
 use Rattle.std.proofs.lemmas.List.Concat.{flat_map-append}
-use Rattle.aig_bytes.specs.state.Gathered.{Gathers}
+use Rattle.aig_bytes.specs.Gathered.{Gathers}
 use Rattle.aig_bytes.proofs.GatherLemmas.{gathers_then, gathers_stop, gathers_failed, gathers_same, gathers_none}
 
 -- the items in front were written, and the others are left

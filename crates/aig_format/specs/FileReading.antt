@@ -24,9 +24,9 @@ IsRefused (Err fault) why = fault ≢ faults.Memory → fault ≡ why
 pub record IsReading (bytes : List ℕ) (result : Result Raw Fault) : Type 0 where
   -- what is read is spelled so
   pub found : IfOk result (λ circuit. Spells bytes circuit)
-  -- where parts are spelled, they are read, or their first fault is told; so faults of the text come nowhere else
+  -- where parts are spelled, they are read, or their first fault is reported; so faults of the text come nowhere else
   pub only : (raw : Raw) → Spells bytes raw → AnswersParts result raw
-  -- a fault of parts is told only of parts that are spelled
+  -- a fault of parts is reported only of parts that are spelled
   pub of_parts : IfErr result (λ fault. IsOfParts fault → (raw : Raw) × Spells bytes raw × IsFirstFault raw fault)
   -- the fault of the counts comes where the header line is spelled and they do not go together, and only there
   pub counts : result ≡ Err faults.Counts → HasWrongCounts bytes

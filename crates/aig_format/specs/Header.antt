@@ -1,4 +1,5 @@
--- The header line (AIGER 1.0, header; AIGER 1.9 adds four counts).
+-- The header line (AIGER 1.0, header; AIGER 1.9 adds four counts). Where the standard is silent, as about limits, this
+-- is our own choice.
 use Rattle.std.specs.Prelude.{ℕ, ◌+◌, ◌-◌, ◌≤◌, Bool, true, List, [], ◌∷◌, ◌++◌, length, ◌==◌, ◌&&◌, not}
 use Rattle.std.specs.Prelude.{if◌then◌else◌, nat_lt}
 use Rattle.std.specs.Fmt.{decimal}
@@ -56,7 +57,7 @@ counts_of raw = record {
   fairness = length raw.fairness;
 }
 
--- each count is within its limit (our own choice)
+-- each count is within its limit
 pub record AreWithin (c : Counts) : Type 0 where
   pub max_var : c.max_var ≤ limit
   pub inputs : c.inputs ≤ limit

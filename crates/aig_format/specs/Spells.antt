@@ -1,5 +1,5 @@
 -- What bytes spell. What makes parts a circuit, such as the range of literals and what a reset may be, is no part of
--- it.
+-- it. Where the standard is silent, the greatest number is our own choice.
 use Rattle.std.specs.Prelude.{◌≡◌, ◌⊎◌, ℕ, ◌+◌, ◌≤◌, List, ◌++◌, length, true, All}
 use Rattle.aig_parts.specs.declared.raw.Raw.{Raw}
 use Rattle.aig_parts.specs.Formed.{IsFormed}
@@ -9,7 +9,7 @@ use Rattle.aig_format.specs.declared.header.Counts.{Counts}
 use Rattle.aig_format.specs.Header.{AreWithin, are_wrong, header_line}
 use Rattle.aig_format.specs.Spelling.{Zeros, ascii, binary}
 
--- the greatest number of a circuit's body (our own choice)
+-- the greatest number of a circuit's body
 abbrev pub greatest : ℕ
 greatest = 8388607
 

@@ -2,7 +2,7 @@
 ghost use Rattle.std.specs.Prelude.{◌≡◌, [], false, IfErr};
 ghost use Rattle.std.specs.List.{flat_map};
 ghost use Rattle.aig_bytes.specs.Bytes.{Writes};
-ghost use Rattle.aig_bytes.specs.state.Gathered.{Gathers};
+ghost use Rattle.aig_bytes.specs.Gathered.{Gathers};
 ghost use Rattle.aig_format.specs.Spelling.{latch_line, gate_line, lines, short_ascii};
 
 use crate::gather::{put_field, put_number};

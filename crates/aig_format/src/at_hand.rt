@@ -1,5 +1,5 @@
-//! Numbers that are all at hand, in one loop over bytes. What is refused here, or goes beyond the bytes at hand, is
-//! left to the readers of tokens, which tell the fault and its place.
+//! Numbers that are buffered whole, in one loop over bytes. What is refused here, or goes beyond the buffered bytes, is
+//! left to the readers of tokens, which report the fault and its place.
 ghost use Rattle.std.specs.Prelude.{◌≡◌, ◌+◌, ◌-◌, ◌<◌, ◌≤◌, length, drop, Ok, IfSome};
 ghost use Rattle.aig_format.specs.Spells.{greatest};
 ghost use Rattle.aig_format.specs.state.Reading.{field_at, groups_at, delta_at};
@@ -13,7 +13,7 @@ fn digit_of(byte: u8) -> u32
     (byte as u32).wrapping_sub(b'0' as u32)
 }
 
-/// A number of a body, of seven digits at most, from a place on with the byte that ends it, and the place behind that.
+/// A number of a body, of seven digits at most, from a place on with the byte that ends it, and the place after that.
 pub(crate) fn field_in(bytes: &[u8], from: usize, end: u8) -> Option<(u32, usize)>
     requires room { from + 8 ≤ length bytes.now }
     requires end { end < 48 }
@@ -49,7 +49,7 @@ pub(crate) fn field_in(bytes: &[u8], from: usize, end: u8) -> Option<(u32, usize
     None
 }
 
-/// A number of at most four groups of seven bits from a place on, and the place behind it.
+/// A number of at most four groups of seven bits from a place on, and the place after it.
 fn groups_in(bytes: &[u8], from: usize) -> Option<(u32, usize)>
     requires { from + 4 ≤ length bytes.now }
     ensures groups { IfSome result (λ g. groups_at 3 (drop from bytes.now) ≡ Ok (g.0, drop g.1 bytes.now)) }
@@ -82,7 +82,7 @@ fn groups_in(bytes: &[u8], from: usize) -> Option<(u32, usize)>
     Some((first - 128 + 128 * high, from + 4))
 }
 
-/// A delta from `low` to `high` from a place on, and the place behind it.
+/// A delta from `low` to `high` from a place on, and the place after it.
 #[tactic(auto, unfolding(crate::specs::state::Reading::delta_at))]
 pub(crate) fn delta_in(bytes: &[u8], from: usize, low: u32, high: u32) -> Option<(u32, usize)>
     requires { from + 4 ≤ length bytes.now }

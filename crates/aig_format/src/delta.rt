@@ -6,7 +6,7 @@ ghost use Rattle.aig_format.specs.state.Reads.{ReadsToken};
 use crate::source::Source;
 use crate::token_fault::TokenFault;
 
-/// Whether the last group, behind `k` others, is one more than the number needs.
+/// Whether the last group, after `k` others, is one more than the number needs.
 #[inline]
 fn is_spare(k: u32, byte: u8) -> bool
     ensures { result ≡ (byte == 0 && nat_lt 0 k) }

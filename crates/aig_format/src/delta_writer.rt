@@ -1,7 +1,7 @@
 //! Writing numbers in groups of seven bits.
 ghost use Rattle.std.specs.Prelude.{◌≡◌, ◌^◌, ◌<◌, ◌≤◌, take};
 ghost use Rattle.aig_format.specs.Delta.{delta};
-ghost use Rattle.aig_bytes.specs.state.Gathered.{Gathers};
+ghost use Rattle.aig_bytes.specs.Gathered.{Gathers};
 
 use crate::gather::put_first;
 use aig_base::{Block, Io, Write};

@@ -1,16 +1,16 @@
 //! Bytes that are gathered in a block before they go to a writer, so that a file costs few calls.
 ghost use Rattle.std.specs.Fmt.{decimal};
 ghost use Rattle.std.specs.Prelude.{◌≡◌, ◌≤◌, [], take, OnOk};
-ghost use Rattle.aig_bytes.specs.state.Gathered.{Gathers};
+ghost use Rattle.aig_bytes.specs.Gathered.{Gathers};
 ghost use Rattle.aig_format.specs.Header.{field};
 
 use aig_base::{Block, Io, Write, write_all};
 use itoa::Buffer;
 
-/// From how many bytes on a piece is not gathered.
+/// From how many bytes on a piece is not buffered.
 const LARGE: usize = 4096;
 
-/// Hands on all that waits.
+/// Flushes the block.
 #[inline(never)]
 fn hand_on<W: Write>(out: &mut W, block: &mut Block) -> Result<(), Io>
     ensures gathers { Gathers W.written W.failures out.old out.new block.old block.new [] result }
@@ -22,7 +22,8 @@ fn hand_on<W: Write>(out: &mut W, block: &mut Block) -> Result<(), Io>
     Ok(())
 }
 
-/// Puts the bytes behind what waits, and hands all on where there is no room. A large piece goes straight on.
+/// Buffers the bytes after those of the block, and flushes the block first if it has no room. A large piece bypasses
+/// it.
 pub(crate) fn put<W: Write>(out: &mut W, block: &mut Block, bytes: &[u8]) -> Result<(), Io>
     ensures { Gathers W.written W.failures out.old out.new block.old block.new bytes.now result }
 {

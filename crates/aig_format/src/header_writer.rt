@@ -2,7 +2,7 @@
 ghost use Rattle.std.specs.Prelude.{◌≡◌, ◌==◌};
 ghost use Rattle.std.specs.List.{list_all};
 ghost use Rattle.aig_base.specs.Circuit.{IsCircuit};
-ghost use Rattle.aig_bytes.specs.state.Gathered.{Gathers};
+ghost use Rattle.aig_bytes.specs.Gathered.{Gathers};
 ghost use Rattle.aig_format.specs.Header.{word, tail, header_line, counts_of as header_counts};
 
 use crate::gather::{put, put_field, put_number};

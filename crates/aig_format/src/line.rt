@@ -31,10 +31,10 @@ pub(crate) trait Line<Spelling>: Sized + Drop {
     fn line<S: Source>(s: &mut S, variable: u32) -> Result<Self, TokenFault>
         requires { fits variable }
         ensures reads { ReadsToken S.Source s.old s.new result (line_at variable) }
-        // What is read does not hang on what comes behind it.
+        // What is read does not depend on what comes after it.
         ensures ends { EndsItself (line_at variable) };
 
-    /// One that is all at hand, and its length.
+    /// One that is buffered whole, and its length.
     fn at_hand(hand: &[u8], variable: u32) -> Option<(Self, usize)>
         requires { fits variable }
         ensures line { IfSome result (λ x. line_at variable hand.now ≡ Ok (x.0, drop x.1 hand.now)) }
@@ -170,7 +170,7 @@ impl Line<Implied> for Gate {
     }
 }
 
-/// Adds those that are all at hand, one behind the other, at most so many: how many, and the length of all of them.
+/// Adds those that are buffered whole, one after the other, at most so many: how many, and the length of all of them.
 fn push_at_hand<F, X: Line<F>>(
     all: &mut List<X>,
     hand: &[u8],
@@ -193,8 +193,8 @@ fn push_at_hand<F, X: Line<F>>(
     Ok((most, size))
 }
 
-/// So many, of the variables from `first` on: those that are at hand, and token by token the one that goes beyond that,
-/// or is refused.
+/// So many, of the variables from `first` on: those that are buffered, and token by token the one that goes beyond the
+/// buffer, or is refused.
 pub(crate) fn lines<S: Source, F, X: Line<F>>(
     alloc: Global,
     s: &mut S,

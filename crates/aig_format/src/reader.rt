@@ -57,10 +57,10 @@ fn circuit<S: Source>(alloc: Global, s: &mut S) -> Result<Circuit, Fault>
 
 /// The circuit of a file, ASCII or binary as its first word says (AIGER 1.0; AIGER 1.9 for resets and properties).
 ///
-/// The faults, in the order in which they are tried: the first token of the header line that is refused (`Text` with
-/// its place, or `Limit`), counts that do not go together, the first token of the body that is refused, then those of
-/// the parts. It never answers `Io`. Lists grow with what was read: no count of the header reserves anything while the
-/// file is read. Linear in the file and its greatest variable.
+/// It tries the faults in this order. First comes the first token of the header line that is refused (`Text` with its
+/// place, or `Limit`), then counts that do not go together. Then come the first token of the body that is refused, and
+/// the faults of the parts. It never answers `Io`. Lists grow with what was read: no count of the header reserves
+/// anything while the file is read. Linear in the file and its greatest variable.
 pub fn read(alloc: Global, bytes: &[u8]) -> Result<Circuit, Fault>
     ensures answers { IsReading bytes.now result }
     ensures circuit { IfOk result IsCircuit }

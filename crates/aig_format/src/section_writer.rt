@@ -2,7 +2,7 @@
 ghost use Rattle.std.specs.Prelude.{◌≡◌, ◌<◌, ◌^◌, false, length, All, option_copied};
 ghost use Rattle.std.specs.List.{flat_map};
 ghost use Rattle.aig_parts.specs.Formed.{IsFormed};
-ghost use Rattle.aig_bytes.specs.state.Gathered.{Gathers};
+ghost use Rattle.aig_bytes.specs.Gathered.{Gathers};
 ghost use Rattle.aig_format.specs.Spelling.{literal_line, reset_text, size_line, properties_of, property_lines};
 ghost use Rattle.aig_format.specs.Spelling.{letter, symbol_line, comment_text, names_text};
 

@@ -8,10 +8,10 @@ use crate::token_fault::TokenFault;
 
 /// Bytes, one after the other.
 pub(crate) trait Source {
-    /// The value tells its bytes.
+    /// The value reports its bytes.
     ghost tells: { Self → Type 0 };
 
-    /// The bytes left, where the value tells them.
+    /// The bytes left, where the value reports them.
     ghost left: { Self → List ℕ };
 
     /// Which reader it reads from: the name of the borrow.
@@ -23,10 +23,10 @@ pub(crate) trait Source {
     /// A number that each call which takes a byte lowers.
     ghost more: { Self → ℕ };
 
-    /// The bytes at hand, which come next.
+    /// The buffered bytes, which come next.
     ghost hand: { Self → List ℕ };
 
-    /// The bytes behind these, where the value tells them.
+    /// The bytes after these, where the value reports them.
     ghost behind: { Self → List ℕ };
 
     /// The end was met and is remembered: nothing is read on.
@@ -35,12 +35,12 @@ pub(crate) trait Source {
     /// How many bytes were taken; `u64`'s greatest value where there were more.
     fn at(&self) -> u64;
 
-    /// The bytes at hand. There may be none though bytes are left; after a `peek` at a byte there are some.
+    /// The buffered bytes. There may be none though bytes are left; after a `peek` at a byte there are some.
     fn front(&self) -> &[u8]
         ensures hand { result.now ≡ hand self.now }
         ensures left { left self.now ≡ hand self.now ++ behind self.now };
 
-    /// Takes so many of the bytes at hand.
+    /// Takes so many of the buffered bytes.
     fn skip(&mut self, count: usize)
         requires { count ≤ length (hand self.old) }
         ensures left { left self.new ≡ drop count (left self.old) }

@@ -1,4 +1,5 @@
--- The run and the witness that a row of input values of an unrolled circuit holds (our own choice).
+-- The run and the witness that a row of input values of an unrolled circuit holds. Where the standard is silent, this
+-- is our own choice.
 use Rattle.std.specs.Prelude.{◌≡◌, ◌≢◌, ◌↔◌, ℕ, zero, suc, ◌+◌, ◌-◌, ◌*◌, ◌<◌, ◌≤◌, if◌then◌else◌, List, [], ◌∷◌}
 use Rattle.std.specs.Prelude.{length, take, drop, Some, slice_get, slice_index_or}
 use Rattle.aig_parts.specs.declared.latch.Latch.{Latch}

@@ -1,4 +1,5 @@
-//! What conversion keeps. A law is a function that does nothing: its contract is the law.
+//! What conversion keeps. A law is a function that does nothing: its contract is the law. Where the standard is silent,
+//! unknown values are our own choice.
 ghost use Rattle.std.specs.Prelude.{◌≢◌, ℕ, List, []};
 ghost use Rattle.aig_parts.specs.declared.raw.Raw.{Raw};
 ghost use Rattle.aig_parts.specs.declared.ternary.Tern.{Tern};
@@ -10,7 +11,7 @@ ghost use Rattle.aig_sim.specs.WitnessText.{Witness};
 ghost use Rattle.aig_laws.specs.Conversion.{HaveSameTraces, HaveSameDumps, HaveSameWitnesses, HaveSameVerdicts};
 
 /// A renumbered circuit has the traces and the dumps of the circuit, from any start and with any rows that fit. It has
-/// the same witnesses, those with unknown values included, and each has the same verdict (our own choice).
+/// the same witnesses, those with unknown values included, and each has the same verdict.
 /// `law_of_renumbering` says that its start by resets is the circuit's.
 pub fn law_of_conversion()
     ensures traces { (raw : Raw) (order : List ℕ) (start : List Tern) (rows : List (List Tern)) →

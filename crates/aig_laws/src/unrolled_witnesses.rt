@@ -1,5 +1,5 @@
 //! From input values of an unrolled circuit to a witness, and back. Each law is a function that does nothing: its
-//! contract is the law.
+//! contract is the law. Where the standard is silent, unrolling is our own choice.
 ghost use Rattle.std.specs.Prelude.{◌≡◌, ℕ, ◌≤◌, List, length};
 ghost use Rattle.aig_parts.specs.Limits.{frame_limit};
 ghost use Rattle.aig_parts.specs.declared.raw.Raw.{Raw};
@@ -12,15 +12,15 @@ ghost use Rattle.aig_unroll.specs.UnrolledValues.{unrolled_row};
 ghost use Rattle.aig_laws.specs.UnrolledWitness.{rows_in, start_in, IsRun, HoldsRun, ConfirmsReached};
 ghost use Rattle.aig_laws.specs.UnrolledWitness.{ReachesInRow, ConfirmsRow, ChecksRow, IsConfirmedWithin, IsInRow};
 
-/// In a run from a start that the resets allow, a bad literal is 1 at a frame, and all constraints are 1 up to it,
-/// exactly where the frames up to that one are a witness whose verdict is confirmed (our own choice).
+/// In a run from a start that the resets allow, a bad literal is reached at a frame exactly where the frames up to that
+/// one are a witness whose verdict is confirmed. It is reached where it is 1 and all constraints are 1 up to there.
 pub fn law_of_reached()
     ensures confirmed { (raw : Raw) (k : ℕ) (start : List Tern) (rows : List (List Tern)) →
         IsCircuit raw → IsRun raw k start rows → ConfirmsReached raw start rows }
 {}
 
-/// Each row with a value for each input of a circuit unrolled for k frames is the row of one run of k frames from a
-/// start that the resets allow, and each such run has one such row (our own choice).
+/// A row with a value for each input of a circuit unrolled for k frames is the row of one run of k frames from a start
+/// that the resets allow. Each such run has one such row.
 pub fn law_of_unrolled_rows()
     ensures run { (raw : Raw) (k : ℕ) (row : List Tern) → length row ≡ input_count raw k →
         IsRun raw k (start_in raw k row) (rows_in raw k row) }
@@ -33,9 +33,9 @@ pub fn law_of_unrolled_rows()
 {}
 
 /// A row makes bad literal p of frame t of the unrolled circuit 1 exactly where the run that is in the row reaches the
-/// property at frame t: bad literal p is 1 there, and all constraints are 1 up to it. That is exactly where the witness
-/// in the row, the frames up to t, is confirmed. `check_witness` confirms a text of this witness, unless memory runs
-/// out. Each confirmed witness of at most k frames is in such a row (our own choice).
+/// property at frame t. Then bad literal p is 1 there, and all constraints are 1 up to it. That is exactly where the
+/// witness in the row, the frames up to t, is confirmed. `check_witness` confirms a text of this witness, unless memory
+/// runs out. Each confirmed witness of at most k frames is in such a row.
 pub fn law_of_unrolled_witnesses()
     ensures reached { (raw : Raw) (order : List ℕ) (k : ℕ) (row : List Tern) →
         IsCircuit raw → IsCanonicalOrder raw order → length row ≡ input_count raw k → ReachesInRow raw order k row }

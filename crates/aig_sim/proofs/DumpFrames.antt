@@ -122,7 +122,7 @@ dumped_more raw start rows row cells last text frame sound dumped kept holds is 
       refl,
     )
 
--- what is kept behind it
+-- what is kept after it
 pub last_more : (raw : Raw) (start : List Tern) (rows : List (List Tern)) (row : List Tern) (cells : List Tern) (last : List ℕ)
     → IsSound raw → HoldsAll raw start (rows ++ row ∷ []) (length rows) cells → last ≡ characters_of raw cells
     → AreLast raw start (rows ++ row ∷ []) (length (rows ++ row ∷ [])) last

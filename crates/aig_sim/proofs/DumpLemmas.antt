@@ -55,7 +55,7 @@ changed_from bs cs i lt size =
     ∙ (λ j. (if get_or bs i 0 == get_or cs i 0 then [] else value_line i (get_or cs i 0))
     ++ changed_lines (next j) (drop (i + 1) bs) (drop (i + 1) cs))
 
--- behind the last place there are none
+-- after the last place there are none
 pub changed_none : (bs cs : List ℕ) (i : ℕ) → length cs ≤ i → length bs ≡ length cs → changed_lines i (drop i bs) (drop i cs) ≡ []
 unfolding changed_lines
 changed_none bs cs i le size =

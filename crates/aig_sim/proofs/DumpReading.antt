@@ -1,4 +1,4 @@
--- What a viewer sees of a signal behind the texts of a dump.
+-- What a viewer sees of a signal after the texts of a dump.
 use Rattle.std.proofs.Common.{◌≡◌, ◌≢◌, ℕ, zero, suc, ◌+◌, ◌-◌, ◌^◌, ◌<◌, ◌≤◌, min, eqb, Bool, true, false, List, [], ◌∷◌, ◌++◌, slice_get, Some, All, inl, inr, refl, ap, ◌∙◌, subst, arith, append_assoc}
 use Rattle.std.specs.Prelude.{if◌then◌else◌, ◌==◌, ◌&&◌, nat_le, codes, Option}
 use Rattle.std.specs.Fmt.{decimal}
@@ -16,7 +16,7 @@ use Rattle.aig_dump_header.proofs.Codes.{one_signal, visible_code}
 use Rattle.aig_sim.proofs.DumpLines.{HasNoEnd, no_end_by_test, no_end_visible, first_line, IsDirective, AreDirectives, no_directive, directive_then}
 use Rattle.aig_dump_header.proofs.NamePieces.{visible_decimal}
 
--- a look at signal m at time t, where a time and a value were seen, sees these behind the text
+-- a look at signal m at time t, where a time and a value were seen, sees these after the text
 pub record Leads (m t now : ℕ) (value : Option ℕ) (text : List ℕ) (now' : ℕ) (value' : Option ℕ) : Type 0 where
   pub at : (more : List ℕ)
       → seen (identifier_code m) t now value (lines (text ++ more))

@@ -43,7 +43,7 @@ module _ (raw : Raw) (start : List Tern) (rows : List (List Tern)) where
       (h.0.0, subst (λ (y : ℕ). Value raw start rows t y h.0.0) same h.0.1, ap Some h.0.2)
   character_at t (x ∷ ls) (c ∷ cs) (suc n) l h e = character_at t ls cs n l h.1 e
 
--- behind this text of frames up to k a look at time t sees a value of frame u
+-- after this text of frames up to k a look at time t sees a value of frame u
 record Shows (raw : Raw) (start : List Tern) (rows : List (List Tern)) (n t l k u : ℕ) (text : List ℕ) : Type 0 where
   pub value : Tern
   pub is_value : Value raw start rows u l value
@@ -81,7 +81,7 @@ module _ (raw : Raw) (start : List Tern) (rows : List (List Tern)) (sound : IsSo
             (are_characters raw start rows (suc k) (signals raw) cs values) d' e));
       }
 
-  -- and those behind it
+  -- and those after it
   late : (k : ℕ) (text : List ℕ) → t ≤ k → k < 2 ^ 64 → AreFrames raw start rows (suc k) text
       → Shows raw start rows n t l k t text
   late zero text le small frames =

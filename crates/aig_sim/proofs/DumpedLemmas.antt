@@ -66,10 +66,10 @@ dumps_no_header raw left reads writes writes' written written' (done, begins, wr
   );
 }
 
--- ---- behind the header
+-- ---- after the header
 module _ (raw : Raw) (left left' : Option (List ℕ)) (reads reads' first second third : ℕ)
     (written told at_end : Option (List ℕ)) (header_is : told ≡ after written (header raw)) (count : second ≡ first + 0) where
-  -- what was written behind the header
+  -- what was written after the header
   all_written : (done : List ℕ) → at_end ≡ after told done → at_end ≡ after written (header raw ++ done)
   all_written done wrote =
       wrote ∙ ap (λ (w : Option (List ℕ)). after w done) header_is ∙ after-append written (header raw) done

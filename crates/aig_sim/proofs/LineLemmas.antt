@@ -151,7 +151,7 @@ read_piece {rows} shape' values' piece h ne step = record {
   keeps = step h.line h.keeps;
 }
 
--- a piece more of a line, of the bytes behind a place
+-- a piece more of a line, of the bytes after a place
 pub read_more : {width n : ℕ} {rows : List (List Tern)} {shape : Shape} {values : List Tern} (xs : List ℕ) (i m : ℕ)
     (shape' : Shape) (values' : List Tern) → n ≡ width → HasRead width (take i xs) rows shape values
     → All (λ b. b ≢ 10) (take m (take (length xs - i) (drop i xs)))
@@ -174,7 +174,7 @@ read_more {width} {n} {rows} {shape} {values} xs i m shape' values' e h none ste
     subst (λ (t : List ℕ). HasRead width t rows shape' values') (sym (take-add i m xs))
     (read_piece shape' values' (take m (drop i xs)) h no_end taken)
 
--- the end of a line in the bytes behind a place
+-- the end of a line in the bytes after a place
 pub end_behind : (xs : List ℕ) (i n : ℕ) → i + n < length xs
     → (n < length (take (length xs - i) (drop i xs)) → slice_get (take (length xs - i) (drop i xs)) n ≡ Some 10)
     → get_or xs (i + n) 0 ≡ 10
@@ -235,7 +235,7 @@ read_unfinished {rows} h some = record {
   fault_is = (refl, some h.line h.keeps);
 }
 
--- the end of a text behind an LF
+-- the end of a text after an LF
 pub read_end : {width : ℕ} {text : List ℕ} {rows : List (List Tern)} {shape : Shape} {values : List Tern}
     → HasRead width text rows shape values → ((line : List ℕ) → Keeps width line shape values → line ≡ [])
     → SpellsRows width text rows
@@ -245,7 +245,7 @@ read_end {rows} h none = record {
       ∙ append-nil (flat_map row_line rows);
 }
 
--- a row behind the last one that is allowed
+-- a row after the last one that is allowed
 pub limit_is_passed : (width before : ℕ) (line rest : List ℕ) (shape : Shape) (values : List Tern)
     → shape ≡ Row → length values ≡ width → before ≡ 65536
     → Keeps width line shape values → EndsLine rest → HasFault width before line rest fault.Limit
@@ -268,12 +268,12 @@ read_same {width} {text'} {rows} {rows'} {shape} {shape'} {values} {values'} h t
     (subst (λ (x : List (List Tern)). HasRead width text' x shape values) r
     (subst (λ (x : List ℕ). HasRead width x rows shape values) t h)))
 
--- a fault that is handed on
+-- a fault that is returned as it is
 pub fault_same : {T E : Type 0} (r : Result T E) (e : E) (P : E → Type 0) → IsErrAnd r (λ y. y ≡ e) → P e → IfErr r P
 fault_same (Ok x) e P h p = tt
 fault_same (Err y) e P h p = subst P (sym h) p
 
--- a fault that is handed on
+-- a fault that is returned as it is
 pub handed_on : (P : Result ℕ StimFault → Type 0) (r : Result ℕ StimFault) (e : StimFault) → IsErrAnd r (λ f. f ≡ e)
     → P (Err e) → P r
 handed_on P r e h p = let (y, is, same) = err_from_is_err_and r h in subst P (ap Err (sym same) ∙ sym is) p

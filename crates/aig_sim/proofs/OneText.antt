@@ -161,7 +161,7 @@ ends_or_not width before line rest fault.Limit h = inr h.1
 ends_or_not width before line rest fault.Memory h = absurd h
 ends_or_not width before line rest fault.Io h = absurd h
 
--- a line that is faulty behind so many rows has one fault
+-- a line that is faulty after so many rows has one fault
 one_fault : (width before : ℕ) (line rest line' rest' : List ℕ) (f f' : StimFault)
     → All (λ x. x ≢ 10) line → All (λ x. x ≢ 10) line' → HasFault width before line rest f
     → HasFault width before line' rest' f'

@@ -240,7 +240,7 @@ module _ {T : Type 0} {is_text : Telling} {recorded : Recorded T} where
       {s : Simulation T}
       {written : Option (List ℕ)} {failures : ℕ}
       (h : ReadSoFar is_text recorded raw left mid reads reads' start count s written failures) where
-    -- what was written was handed on
+    -- what was written was passed on
     pub so_far_flushed : (written' : Option (List ℕ)) (failures' : ℕ) → written' ≡ written → failures' ≡ failures + 0
         → ReadSoFar is_text recorded raw left mid reads reads' start count s written' failures'
     so_far_flushed written' failures' is n =

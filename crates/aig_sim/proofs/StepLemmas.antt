@@ -1,4 +1,4 @@
--- A step of a machine: a frame's values, and the states behind it.
+-- A step of a machine: a frame's values, and the states after it.
 use Rattle.std.proofs.Common.{◌≡◌, ℕ, suc, List, [], ◌∷◌, ◌++◌, length, map, sym, subst, add-one}
 use Rattle.aig_parts.specs.declared.ternary.Tern.{Tern}
 use Rattle.aig_parts.specs.declared.raw.Raw.{Raw}
@@ -8,7 +8,7 @@ use Rattle.aig_values.specs.state.Frame.{HoldsAll, AreStates}
 use Rattle.aig_sim.specs.state.Machine.{Steps}
 use Rattle.aig_values.proofs.TraceLemmas.{next_states}
 
--- a frame's values, and the states behind it
+-- a frame's values, and the states after it
 pub steps : (raw : Raw) (start : List Tern) (rows : List (List Tern)) (row states' cells : List Tern) → IsSound raw
     → HoldsAll raw start (rows ++ row ∷ []) (length rows) cells
     → states' ≡ map (λ x. literal_value cells x.next) raw.latches → Steps raw start rows row cells states'

@@ -124,7 +124,7 @@ reads_one cells literals i l at is h =
     let e : h.literal ≡ l = (let p : Some h.literal ≡ Some l = sym h.literal_is ∙ at in cc) in
     h.not_one (ap (literal_value cells) e ∙ is)
 
--- there is nothing behind the last place
+-- there is nothing after the last place
 pub no_latch_behind : (raw : Raw) (start : List Tern) (i q : ℕ) → length raw.latches ≤ i
     → ((q : ℕ) → q < i → StartsWrong raw start q → ⊥) → StartsWrong raw start q → ⊥
 no_latch_behind raw start i q le before h =
@@ -155,7 +155,7 @@ begins_with_row width rest rows t widths is lt = (
   is ∙ next_row rows t lt ∙ row_ends (get_or rows t []) (rows_text (drop (t + 1) rows)),
 )
 
--- behind a row that was read the others follow
+-- after a row that was read the others follow
 pub row_was_read : (rest rest' : List ℕ) (rows : List (List Tern)) (t : ℕ) (row : List Tern)
     → rest ≡ rows_text (drop t rows) → t < length rows → rest ≡ map character row ++ (10 ∷ rest')
     → (row ≡ get_or rows t []) × (rest' ≡ rows_text (drop (t + 1) rows))
@@ -278,7 +278,7 @@ module _ (raw : Raw) (w : Witness) where
       before verdict.NotBad lt k = bad k
       before verdict.Confirmed no' k = no'
 
-  -- the cells behind the last frame
+  -- the cells after the last frame
   pub last_frame : (rest : List ℕ) (cells states : List Tern) → w.rows ≢ [] → HasRun raw w (length w.rows) rest cells states
       → HoldsAll raw w.start w.rows (length w.rows - 1) cells
   last_frame rest cells states some h = elim (cases_eq (length w.rows) 0) [

@@ -142,7 +142,7 @@ one_rows width text rows rows' h k =
       | inr o ↦ elim o [ inl b ↦ absurd (no_row_at_end width b.1) | inr b ↦ absurd (no_row_at_end width b.1) ]
     ]
 
--- behind rows neither another nor the end
+-- after rows neither another nor the end
 pub no_frames : (width : ℕ) (text rest : List ℕ) (rows rows' : List (List Tern)) → HaveWidth width rows
     → text ≡ flat_map row_line rows ++ rest → rest ≢ (46 ∷ (10 ∷ [])) → (BeginsWithRow width rest → ⊥)
     → SpellsFrames width text rows' → ⊥
@@ -189,7 +189,7 @@ no_rows (row ∷ rows) e = absurd (omega (arith, e))
 no_end_in_digits : {digits : List ℕ} {n : ℕ} → IsDecimal digits n → All (λ b. b ≢ 10) digits
 no_end_in_digits h = λ i d lt. λ e. omega (arith, (digits_are h i d lt).0, e)
 
--- the text behind `1`, LF and `b`
+-- the text after `1`, LF and `b`
 pub head_is : (text : List ℕ) (position : Bor (List ℕ)) → MatchOption (Some position)
     (pointwise eqb (take 3 text) (49 ∷ (10 ∷ (98 ∷ []))) ≡ false)
     (λ x. (pointwise eqb (take 3 text) (49 ∷ (10 ∷ (98 ∷ []))) ≡ true) × (x.now ≡ drop 3 text) × (length x.now + 3 ≡ length text))

@@ -1,4 +1,5 @@
--- The text of a value change dump (IEEE 1364, value change dump, four-state form; which signals is our own choice).
+-- The text of a value change dump (IEEE 1364, value change dump, four-state form). Where the standard is silent, which
+-- signals it has is our own choice.
 use Rattle.std.specs.Prelude.{◌≡◌, ℕ, zero, suc, ◌-◌, ◌^◌, ◌==◌, if◌then◌else◌, min, List, [], ◌∷◌, ◌++◌, length, map, codes, decimal}
 use Rattle.aig_parts.specs.declared.ternary.Tern.{Tern}
 use Rattle.aig_parts.specs.declared.raw.Raw.{Raw}
@@ -52,7 +53,7 @@ AreFrames raw start rows (suc t) text =
     (before : List ℕ) × (frame : List ℕ) × AreFrames raw start rows t before × IsFrame raw start rows t frame
     × (text ≡ before ++ frame)
 
--- behind the last of k frames its end is told; behind none nothing
+-- after the last of k frames the time of its end; after none nothing
 abbrev pub closing : ℕ → List ℕ
 closing zero = []
 closing (suc t) = time_line (suc t)

@@ -1,5 +1,5 @@
--- What a viewer sees of a signal in a value change dump (IEEE 1364, value change dump; that it is read line by line is our
--- own choice).
+-- What a viewer sees of a signal in a value change dump (IEEE 1364, value change dump). Where the standard is silent,
+-- reading line by line is our own choice.
 use Rattle.std.specs.Prelude.{◌≡◌, ℕ, ◌<◌, Bool, ◌&&◌, ◌||◌, ◌==◌, nat_le, if◌then◌else◌, List, [], ◌∷◌, ◌++◌, slice_get, Option, Some, None}
 use Rattle.std.specs.Str.{bytes_eq}
 use Rattle.std.specs.Str.Parse.{digits_value}
@@ -18,7 +18,7 @@ lines_behind line (b ∷ text) = if b == 10 then line ∷ lines_behind [] text e
 abbrev pub lines : List ℕ → List (List ℕ)
 lines text = lines_behind [] text
 
--- the time behind a line, where it was `now` before: `#` and a decimal number tell it
+-- the time after a line, where it was `now` before: `#` and a decimal number give it
 abbrev pub time_behind : ℕ → List ℕ → ℕ
 time_behind now [] = now
 time_behind now (b ∷ rest) = if b == 35 then digits_value 10 rest else now
@@ -27,14 +27,14 @@ time_behind now (b ∷ rest) = if b == 35 then digits_value 10 rest else now
 abbrev pub is_value : ℕ → Bool
 is_value b = b == 48 || (b == 49 || b == 120)
 
--- what a look at time t sees of a code behind a line, where it saw `value` before: a value and the code are its new value,
--- unless it is later than t
+-- what a look at time t sees of a code after a line, where it saw `value` before: a value and the code are its new
+-- value, unless it is later than t
 abbrev pub value_behind : List ℕ → ℕ → ℕ → Option ℕ → List ℕ → Option ℕ
 value_behind code t now value [] = value
 value_behind code t now value (b ∷ rest) =
     if is_value b && (bytes_eq rest code && nat_le now t) then Some b else value
 
--- the same behind these lines; those that begin with `$`, and all others, tell neither time nor value
+-- the same after these lines; those that begin with `$`, and all others, give neither time nor value
 unfoldable pub seen : List ℕ → ℕ → ℕ → Option ℕ → List (List ℕ) → Option ℕ
 seen code t now value [] = value
 seen code t now value (line ∷ more) =

@@ -11,7 +11,7 @@ use Rattle.aig_sim.specs.DumpHeader.{header}
 use Rattle.aig_sim.specs.Simulated.{Streams, NoneFailed, OneReadFailed, OneWriteFailed, BeginsWithRows, ReadsFault}
 use Rattle.aig_sim.specs.StimulusText.{SpellsRows, HoldsRows}
 
--- A write failed behind these rows: a beginning of their dump was written; before the header's end nothing was read.
+-- A write failed after these rows: a prefix of their dump was written; before the header's end nothing was read.
 pub record BreaksOff (width : ℕ) (text : List ℕ) (rows : List (List Tern)) (header frames done : List ℕ) : Type 0 where
   pub rows_are : BeginsWithRows width text rows
   pub beginning : IsBeginning done (header ++ (frames ++ closing (length rows)))

@@ -1,4 +1,5 @@
--- What is written of the run that a witness describes (which runs are shown, and how, is our own choice).
+-- What is written of the run that a witness describes. Where the standard is silent, which runs are shown, and how, is
+-- our own choice.
 use Rattle.std.specs.Prelude.{◌≡◌, ℕ, ◌+◌, List, Result, Ok, Err}
 use Rattle.aig_parts.specs.declared.ternary.Tern.{Tern}
 use Rattle.aig_parts.specs.declared.raw.Raw.{Raw}
@@ -8,7 +9,7 @@ use Rattle.aig_sim.specs.declared.replay_fault.ReplayFault.{ReplayFault}
 use Rattle.aig_sim.specs.declared.replay_fault.ReplayFault.TheVariants as fault
 use Rattle.aig_sim.specs.WitnessText.{Witness, SpellsWitness, IsAdmitted, HasWitnessFault}
 
--- The witness's text spells a witness that is admitted, and what is told is the text of its run: from its own start,
+-- The witness's text spells a witness that is admitted, and `told` is the text of its run: from its own start,
 -- over all its rows, whatever its verdict. `IsText` says which text a run from a start with some rows has.
 pub record TellsRun (IsText : Raw → List Tern → List (List Tern) → List ℕ → Type 0) (raw : Raw) (text told : List ℕ)
     : Type 0 where
@@ -17,8 +18,8 @@ pub record TellsRun (IsText : Raw → List Tern → List (List Tern) → List �
   pub admitted : IsAdmitted raw witness
   pub told_is : IsText raw witness.start witness.rows told
 
--- What the replay of a witness's text wrote. All went well: all that is told of the run. A failing write: a beginning
--- of it. A witness that is refused, or no memory: nothing.
+-- What the replay of a witness's text wrote. All went well: the whole text of the run. A failed write: a prefix of
+-- it. A witness that is refused, or no memory: nothing.
 abbrev pub Replays : {X : Type 0} → (Raw → List Tern → List (List Tern) → List ℕ → Type 0) → Raw → List ℕ
     → Flow X → Result (Unit {0}) ReplayFault → Type 0
 Replays IsText raw text out (Ok _) =

@@ -1,4 +1,5 @@
--- The text of a stimulus: a line a frame, a character an input, each line ended by LF (our own choice).
+-- The text of a stimulus: one line per frame, one character per input, each line ended by LF. Where the standard is
+-- silent, this is our own choice.
 use Rattle.std.specs.Prelude.{◌≡◌, ◌≢◌, ◌⊎◌, ℕ, ◌+◌, ◌-◌, ◌^◌, min, List, [], ◌∷◌, ◌++◌, length, map, All}
 use Rattle.std.specs.List.{flat_map}
 use Rattle.aig_parts.specs.declared.ternary.Tern.{Tern}
@@ -26,7 +27,7 @@ line_number before = min (before + 1) (2 ^ 64 - 1)
 abbrev pub EndsLine : List ℕ → Type 0
 EndsLine rest = (more : List ℕ) × (rest ≡ 10 ∷ more)
 
--- a line with this fault, behind so many good ones: no LF ends it; else a byte other than `0 1 x`; else a wrong length;
+-- a line with this fault, after so many good ones: no LF ends it; else a byte other than `0 1 x`; else a wrong length;
 -- else it is the 65,537th
 abbrev pub HasFault : ℕ → ℕ → List ℕ → List ℕ → StimFault → Type 0
 HasFault width before line rest fault.Unfinished = (rest ≡ []) × (line ≢ [])

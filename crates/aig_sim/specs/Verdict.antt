@@ -1,4 +1,5 @@
--- What a witness shows of a circuit (AIGER 1.9, witnesses and resets; x is our own choice).
+-- What a witness shows of a circuit (AIGER 1.9, witnesses and resets). Where the standard is silent, as about x, this
+-- is our own choice.
 use Rattle.std.specs.Prelude.{◌≡◌, ◌≢◌, ◌⊎◌, ℕ, zero, suc, ◌-◌, ◌<◌, List, length, Some, slice_get}
 use Rattle.std.specs.List.{AllZip}
 use Rattle.aig_parts.specs.declared.ternary.Tern.{Tern}

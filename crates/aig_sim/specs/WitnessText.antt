@@ -1,5 +1,5 @@
--- The text of a witness: the line `1`, the line `b` and a position, a line of latches' values, a line of inputs' values a
--- frame, and the line `.` (our own choice, after the witnesses of AIGER 1.9).
+-- The text of a witness: the line `1`, the line `b` and a position, a line of latches' values, one line of inputs'
+-- values per frame, and the line `.` (AIGER 1.9, witnesses). Where the standard is silent, this is our own choice.
 use Rattle.std.specs.Prelude.{◌≡◌, ◌≢◌, ℕ, ◌+◌, ◌*◌, ◌<◌, ◌≤◌, List, [], ◌∷◌, ◌++◌, length, flat_map}
 use Rattle.aig_parts.specs.declared.ternary.Tern.{Tern}
 use Rattle.aig_parts.specs.declared.raw.Raw.{Raw}
@@ -9,7 +9,8 @@ use Rattle.aig_parts.specs.Limits.{frame_limit}
 use Rattle.aig_grids.specs.InputRows.{HaveWidth}
 use Rattle.aig_sim.specs.StimulusText.{row_line}
 
--- the digits are the number in decimal, of any length and without leading zeros: a digit, or a positive number and a digit
+-- the digits are the number in decimal, of any length and without leading zeros: a digit, or a positive number and a
+-- digit
 pub data IsDecimal : List ℕ → ℕ → Type 0 where
   digit : (d : ℕ) → d < 10 → IsDecimal ((48 + d) ∷ []) d
   more : (digits : List ℕ) (n d : ℕ) → 0 < n → d < 10 → IsDecimal digits n → IsDecimal (digits ++ (48 + d) ∷ []) (n * 10 + d)

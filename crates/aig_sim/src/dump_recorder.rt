@@ -1,4 +1,4 @@
-//! What a dump tells of the frames of a simulation.
+//! What a dump writes of the frames of a simulation.
 ghost use Rattle.std.specs.Prelude.{◌≡◌, ◌++◌, length, map, replicate, IfOk, OnOk};
 ghost use Rattle.aig_sim.specs.Dump.{signals};
 
@@ -6,12 +6,11 @@ use crate::dump_text::write_frame;
 use crate::machine::Machine;
 use crate::recorder::Recorder;
 use aig_base::{Circuit, Io, Latch, Lit, Memory, Write};
-use aig_values::trace_block::TraceBlock;
-use aig_values::trace_line::spell_literals;
+use aig_values::trace_line::{TraceBlock, spell_literals};
 use std::alloc::Global;
 
-/// Writes the values that change from frame to frame: a literal a signal, and its characters at the last frame and at
-/// the one in hand.
+/// Writes the values that change from frame to frame: one literal per signal, and its characters at the last frame and
+/// at the current one.
 #[derive(Drop)]
 pub struct DumpRecorder {
     block: TraceBlock,

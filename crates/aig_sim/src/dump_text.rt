@@ -1,13 +1,13 @@
 //! Numbers, identifier codes and values in a value change dump.
 ghost use Rattle.std.specs.Prelude.{◌≡◌, ◌<◌, ◌^◌, ◌==◌, if◌then◌else◌, [], length, decimal};
 ghost use Rattle.aig_bytes.specs.Bytes.{Writes};
-ghost use Rattle.aig_bytes.specs.state.Gathered.{Gathers};
+ghost use Rattle.aig_bytes.specs.Gathered.{Gathers};
 ghost use Rattle.aig_sim.specs.Dump.{value_line, changed_lines};
 ghost use Rattle.aig_dump_header.specs.Names.{identifier_code};
 ghost use Rattle.aig_sim.specs.state.Dumping.{number_line, dumped_text};
 
 use aig_base::{Io, Write};
-use aig_values::trace_block::TraceBlock;
+use aig_values::trace_line::TraceBlock;
 use itoa::Buffer;
 
 /// How many bytes serve as digits of identifier codes, from `!` to `~`.

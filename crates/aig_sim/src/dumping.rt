@@ -12,7 +12,7 @@ use crate::stimulus_fault::StimFault;
 use aig_base::{Circuit, Io, Read, Write, write_all};
 use std::alloc::Global;
 
-/// Writes the end behind so many frames.
+/// Writes the end after so many frames.
 pub fn write_end<W: Write>(out: &mut W, frames: u64) -> Result<(), Io>
     ensures { Writes W.written W.failures out.old out.new (ending frames) result }
 {
@@ -22,11 +22,11 @@ pub fn write_end<W: Write>(out: &mut W, frames: u64) -> Result<(), Io>
     write_time(out, frames)
 }
 
-/// Reads rows to the end, writes a value change dump of their frames (IEEE 1364), and answers how many there were
+/// Reads rows to the end, writes a value change dump of their frames (IEEE 1364), and returns how many there were
 /// (`u64::MAX` for more). The header goes out before the first read. It keeps what `simulate` keeps, the header, and
-/// for each signal its literal and two characters, all reserved before the header is written; there is no limit on frames. It
-/// flushes before each read. At a fault in line n the frames of the n - 1 rows before it are written, without the line
-/// that ends a dump; where memory runs out, nothing was read or written.
+/// for each signal its literal and two characters. It reserves all this before it writes the header. There is no limit
+/// on frames. It flushes before each read. At a fault in line n the frames of the n - 1 rows before it are written,
+/// without the line that ends a dump; where memory runs out, nothing was read or written.
 pub fn dump<R: Read, W: Write>(
     alloc: Global,
     circuit: &Circuit,

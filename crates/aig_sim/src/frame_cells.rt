@@ -8,7 +8,7 @@ ghost use Rattle.aig_parts.specs.Literal.{variable};
 ghost use Rattle.aig_base.specs.Sound.{IsSound};
 ghost use Rattle.aig_grids.specs.Cells.{literal_value};
 ghost use Rattle.aig_values.specs.state.Frame.{AreStates, Renews, PutsInputs, HoldsLatches, HoldsSources, HoldsAll};
-ghost use Rattle.aig_grids.specs.state.Neighbours.{AreNeighbours};
+ghost use Rattle.aig_grids.specs.Neighbours.{AreNeighbours};
 ghost use Rattle.aig_values.specs.GateOrder.{IsGateOrder};
 
 use aig_base::{Circuit, Gate, Tern};
@@ -92,7 +92,7 @@ fn put_sources(
 }
 
 // Evaluates the gates in turn: the cell of each becomes the AND of its right sides. Where the cells of the sources are
-// values and the gates are those of a circuit, each behind the ones that it reads, all cells become values.
+// values and the gates are those of a circuit, each after the ones that it reads, all cells become values.
 fn evaluate_frame(cells: &mut [Code], gates: &[Gate])
     requires lhs { (q : ℕ) (g : Gate) → slice_get gates.now q ≡ Some g → variable g.lhs < length cells.old }
     requires rhs0 { (q : ℕ) (g : Gate) → slice_get gates.now q ≡ Some g → variable g.rhs0 < length cells.old }

@@ -15,7 +15,7 @@ ghost use Rattle.aig_sim.specs.StimulusText.{SpellsRows, HasFaultyLine};
 ghost use Rattle.aig_sim.specs.WitnessText.{Witness, SpellsWitness};
 
 /// A text spells at most one list of rows of a width. A text that spells rows within the limit has no faulty line, and
-/// behind at most 65,536 rows a text has at most one first faulty line, with one fault (our own choice).
+/// after at most 65,536 rows a text has at most one first faulty line, with one fault.
 pub fn law_of_stimulus_text()
     ensures rows { (width : ℕ) (text : List ℕ) (rows rows' : List (List Tern)) →
         SpellsRows width text rows → SpellsRows width text rows' → rows ≡ rows' }
@@ -27,17 +27,17 @@ pub fn law_of_stimulus_text()
         (rows ≡ rows') × (fault ≡ fault') }
 {}
 
-/// A text spells at most one witness of a circuit (our own choice).
+/// A text spells at most one witness of a circuit.
 pub fn law_of_witness_text()
     ensures one { (raw : Raw) (text : List ℕ) (w v : Witness) →
         SpellsWitness raw text w → SpellsWitness raw text v → w ≡ v }
 {}
 
-/// A viewer of a dump sees the run: in sound parts, the last value that stands for a signal's code at a time at most t
-/// is the signal's value at frame t, also where the dump breaks off after one of its frames. Two signals have two
+/// A viewer of a dump sees the run: in sound parts, the last value of a signal's code at a time at most t is the
+/// signal's value at frame t. That also holds where the dump breaks off after one of its frames. Two signals have two
 /// codes, which have visible bytes alone. A reader of the header finds exactly the names of each entry, in the scope of
-/// its section and in its own scopes, each with the code of that entry. Each line of the header begins with `$`, so that
-/// none is taken for a time or a value (IEEE 1364, value change dump). `law_of_dump_header` says more of names.
+/// its section and in its own scopes, each with the code of that entry. Each line of the header begins with `$`, so
+/// that none is taken for a time or a value (IEEE 1364, value change dump). `law_of_dump_header` says more of names.
 pub fn law_of_dump()
     ensures shows { (raw : Raw) (start : List Tern) (rows : List (List Tern)) (text : List ℕ) →
         IsSound raw → length rows < 2 ^ 64 → IsDump raw start rows text →

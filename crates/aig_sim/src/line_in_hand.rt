@@ -22,7 +22,7 @@ pub enum Shape {
     Wrong,
 }
 
-/// The line in hand: of a line of any length it keeps no more values than a row has.
+/// The current line: of a line of any length it keeps no more values than a row has.
 #[derive(Drop)]
 pub struct LineInHand {
     width: usize,

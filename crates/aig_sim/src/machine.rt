@@ -6,7 +6,7 @@ ghost use Rattle.aig_base.specs.Value.{start_of};
 ghost use Rattle.aig_values.specs.state.Frame.{AreStates};
 ghost use Rattle.aig_values.specs.GateOrder.{IsGateOrder};
 ghost use Rattle.aig_sim.specs.state.Machine.{Steps};
-ghost use Rattle.aig_grids.specs.state.Neighbours.{AreNeighbours};
+ghost use Rattle.aig_grids.specs.Neighbours.{AreNeighbours};
 
 use crate::frame_cells::{evaluate_row, renew_states};
 use aig_base::{Circuit, Gate, List, Lit, Memory, Tern};
@@ -35,7 +35,7 @@ impl<'a> Model for Machine<'a> {
     ghost use Rattle.aig_base.specs.Circuit.{IsCircuit};
     ghost use Rattle.aig_values.specs.GateOrder.{IsGateOrder};
     ghost use Rattle.aig_sim.specs.state.Machine.{Machine};
-    ghost use Rattle.aig_grids.specs.state.Neighbours.{AreNeighbours};
+    ghost use Rattle.aig_grids.specs.Neighbours.{AreNeighbours};
 
     ghost Value = { Machine };
 
@@ -86,7 +86,7 @@ fn gates_in_turn<'a>(circuit: &'a Circuit, order: &'a Option<List<Gate>>) -> &'a
     }
 }
 
-// Gives the cells the values of a frame, and the latches those behind it.
+// Gives the cells the values of a frame, and the latches those after it.
 fn run_row(
     cells: &mut [Code],
     states: &mut [Code],
@@ -145,7 +145,7 @@ impl<'a> Machine<'a> {
         &self.states
     }
 
-    /// Gives the cells the values of the next frame, with this row of input values, and the latches those behind it.
+    /// Gives the cells the values of the next frame, with this row of input values, and the latches those after it.
     pub fn step(&mut self, row: &[Tern])
         requires { length row.now ≡ length self.old.circuit.inputs }
         ensures circuit { self.new.circuit ≡ self.old.circuit }

@@ -7,10 +7,9 @@ ghost use Rattle.aig_values.specs.state.Frame.{HoldsAll};
 
 use crate::machine::Machine;
 use aig_base::{Io, Write};
-use aig_values::trace_block::TraceBlock;
-use aig_values::trace_line::write_line;
+use aig_values::trace_line::{TraceBlock, write_line};
 
-/// Writes what is told of each frame.
+/// Writes the text of each frame.
 pub trait Recorder {
     // The circuit's run from this start with these rows has this text.
     ghost is_text: { Raw → List Tern → List (List Tern) → List ℕ → Type 0 };

@@ -20,7 +20,7 @@ use crate::witness::{WitnessRun, admitted_parts, read_values};
 use aig_base::{Circuit, Io, Tern, Write, write_all};
 use std::alloc::Global;
 
-// Simulates so many frames, and writes what is told of each.
+// Simulates so many frames, and writes the text of each.
 fn write_frames<T: Recorder, W: Write>(
     machine: &mut Machine<'_>,
     row: &mut [Tern],

@@ -17,7 +17,7 @@ use std::alloc::Global;
 /// How many bytes of a stimulus a read asks for; it may give fewer.
 const CHUNK: usize = 16384;
 
-/// A simulation between two pieces of the text: the circuit with its values, the line in hand, what writes the frames,
+/// A simulation between two pieces of the text: the circuit with its values, the current line, what writes the frames,
 /// and how many frames there were (`u64::MAX` for more).
 #[derive(Drop)]
 pub struct Simulation<'a, T> {
@@ -51,7 +51,7 @@ impl<'a, T: Recorder + Drop> Simulation<'a, T> {
         })
     }
 
-    // Simulates the row that the line in hand is, and writes what is told of its frame.
+    // Simulates the row that the current line is, and writes the text of its frame.
     fn end_line<W: Write>(&mut self, out: &mut W) -> Result<(), StimFault>
         requires room { HasRoom T.fits self.old }
         ensures room { HasRoom T.fits self.new }
@@ -119,7 +119,7 @@ impl<'a, T: Recorder + Drop> Simulation<'a, T> {
         Ok(())
     }
 
-    // The number of frames, where the text ends behind an LF.
+    // The number of frames, where the text ends after an LF.
     fn finish(&self) -> Result<u64, StimFault>
         ensures frames { IfOk result (λ frames. frames ≡ self.now.frames) }
         ensures ended { OnOk result ((line : List ℕ) →
@@ -135,7 +135,7 @@ impl<'a, T: Recorder + Drop> Simulation<'a, T> {
         }
     }
 
-    /// Reads rows to the end, writes what is told of each frame, and answers how many there were (`u64::MAX` for
+    /// Reads rows to the end, writes the text of each frame, and returns how many there were (`u64::MAX` for
     /// more). It takes no memory. It flushes before each read.
     pub fn run<R: Read, W: Write>(&mut self, reader: &mut R, out: &mut W) -> Result<u64, StimFault>
         requires room { HasRoom T.fits self.old }
@@ -158,13 +158,13 @@ impl<'a, T: Recorder + Drop> Simulation<'a, T> {
     }
 }
 
-/// Reads rows to the end, writes their trace, and answers how many there were (`u64::MAX` for more). It keeps one row,
-/// a value for each variable and each latch, the gates once more where they do not stand in the order of their
-/// evaluation, and room for 16,384 bytes of the text and 4,096 of a trace line, all reserved before the first read;
-/// there is no limit on frames. It flushes before each read, so that the lines of all rows that were read are handed on
-/// before it waits. At a fault in line n the lines of the n - 1 rows before it are written; where memory runs out,
-/// nothing was read. A row's line goes out before the next row is looked at; the contract says what was written at each
-/// end, not when.
+/// Reads rows to the end, writes their trace, and returns how many there were (`u64::MAX` for more). It keeps one row,
+/// a value for each variable and each latch, and the gates once more where they are not in the order of their
+/// evaluation. It has room for 16,384 bytes of the text and 4,096 of a trace line. It reserves all this before the
+/// first read. There is no limit on frames. It flushes before each read, so that the lines of all rows that were read
+/// are written before it waits. At a fault in line n the lines of the n - 1 rows before it are written; where memory
+/// runs out, nothing was read. A row's line goes out before the next row is looked at; the contract says what was
+/// written at each end, not when.
 pub fn simulate<R: Read, W: Write>(
     alloc: Global,
     circuit: &Circuit,

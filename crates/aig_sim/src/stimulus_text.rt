@@ -11,7 +11,7 @@ use crate::stimulus_fault::StimFault;
 use aig_values::{FRAMES, Stimulus};
 use std::alloc::Global;
 
-// Adds the row that the line in hand is.
+// Adds the row that the current line is.
 fn end_line(stimulus: &mut Stimulus, line: &LineInHand) -> Result<(), StimFault>
     requires { line.now.width ≡ stimulus.old.width }
     ensures width { stimulus.new.width ≡ stimulus.old.width }

@@ -1,14 +1,14 @@
 //! Writing the text of a stimulus.
 ghost use Rattle.std.specs.Prelude.{◌≡◌, length, map, flat_map};
 ghost use Rattle.aig_bytes.specs.Bytes.{Writes};
-ghost use Rattle.aig_bytes.specs.state.Gathered.{Gathers};
+ghost use Rattle.aig_bytes.specs.Gathered.{Gathers};
 ghost use Rattle.aig_grids.specs.Characters.{character};
 ghost use Rattle.aig_sim.specs.StimulusText.{row_line, SpellsRows};
 
 use aig_base::{Io, Tern, Write};
 use aig_grids::code::Code;
 use aig_values::Stimulus;
-use aig_values::trace_block::TraceBlock;
+use aig_values::trace_line::TraceBlock;
 
 /// How many characters are put at a time.
 const PIECE: usize = 256;
@@ -49,8 +49,8 @@ fn put_rows<W: Write>(out: &mut W, block: &mut TraceBlock, stimulus: &Stimulus) 
     Ok(())
 }
 
-/// Writes the text of a stimulus, as `read_stimulus` reads it: a line a frame, a character an input, each line ended by
-/// LF (our own choice). It takes no memory. Its contract also says that this text spells the rows, so that nothing else
+/// Writes the text of a stimulus, as `read_stimulus` reads it: one line per frame, one character per input, each line
+/// ended by LF. It takes no memory. Its contract also says that this text spells the rows, so that nothing else
 /// can be read of it (`law_of_stimulus_text`).
 pub fn write_stimulus<W: Write>(out: &mut W, stimulus: &Stimulus) -> Result<(), Io>
     ensures written { Writes W.written W.failures out.old out.new (flat_map row_line stimulus.now.rows) result }

@@ -1,6 +1,6 @@
-//! What a witness shows.
+//! What a witness shows. Where the standard is silent, the order of the verdicts is our own choice.
 
-/// What a witness shows of a circuit: the first that applies (our own choice). Positions and frames count from 0.
+/// What a witness shows of a circuit: the first that applies. Positions and frames count from 0.
 #[derive(Clone, Copy, PartialEq, Eq, Debug)]
 pub enum Verdict {
     /// The latch at this position starts at a value that its reset does not allow.

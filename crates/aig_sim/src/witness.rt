@@ -1,4 +1,4 @@
-//! Whether a witness shows what it says.
+//! Whether a witness shows what it says. Where the standard (AIGER 1.9, witnesses) is silent, this is our own choice.
 ghost use Rattle.std.specs.Prelude.{◌≡◌, ℕ, ◌<◌, ◌↔◌, false, List, ◌∷◌, ◌++◌, length, map, IfOk, IfErr, IfSome};
 ghost use Rattle.std.specs.Prelude.{IfNone, IsTrue};
 ghost use Rattle.aig_parts.specs.declared.ternary.Tern.{Tern};
@@ -19,7 +19,7 @@ use aig_grids::row::literal_in;
 use aig_values::FRAMES;
 use std::alloc::Global;
 
-/// Reads a value a character, and answers the text behind the line.
+/// Reads a value a character, and returns the text after the line.
 pub fn read_values<'a>(values: &mut [Tern], text: &'a [u8]) -> &'a [u8]
     requires { BeginsWithRow (length values.old) text.now }
     ensures { text.now ≡ map character values.new ++ (10 ∷ result.now) }
@@ -213,10 +213,10 @@ fn judge(alloc: Global, circuit: &Circuit, parts: &WitnessParts<'_>) -> Result<V
     Ok(Verdict::Confirmed)
 }
 
-/// What a witness shows of a circuit (AIGER 1.9, witnesses; our own choice). Its text is the line `1`; the line `b` and
-/// the position of a bad state property; a line of the latches' values, from which the run starts; a line of the
-/// inputs' values a frame, at least one; and the line `.`. Values are `0`, `1` and `x`. Refused are, in this order, any
-/// other text, a property that the circuit has not, and more than 65,536 frames.
+/// What a witness shows of a circuit (AIGER 1.9, witnesses). Its text begins with the line `1` and the line `b` and the
+/// position of a bad state property. Then come a line of the latches' values, from which the run starts, and one line
+/// of the inputs' values per frame, at least one. It ends with the line `.`. Values are `0`, `1` and `x`. Refused are,
+/// in this order, any other text, a property that the circuit has not, and more than 65,536 frames.
 ///
 /// The verdict is the first that applies: a latch that starts at another value than its reset, where that is 0 or 1;
 /// a constraint that is not 1; a property that is not 1 at the last frame. Otherwise the witness is confirmed: its run

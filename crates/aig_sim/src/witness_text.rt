@@ -13,7 +13,7 @@ ghost use Rattle.aig_sim.specs.state.Checking.{BeginsWithRow, SpellsFrames, AreP
 use crate::line_in_hand::are_characters;
 use aig_base::Circuit;
 
-/// No circuit has a property at this position or behind it.
+/// No circuit has a property at this position or after it.
 const NO_PROPERTY: u32 = 4_194_304;
 
 /// The line that ends a witness.
@@ -32,7 +32,7 @@ pub struct WitnessParts<'a> {
     pub frames: usize,
 }
 
-// The text behind a line of so many values.
+// The text after a line of so many values.
 fn after_row(text: &[u8], width: usize) -> Option<&[u8]>
     ensures some { IfSome result (λ rest. (row : List Tern) × (length row ≡ width)
         × (text.now ≡ map character row ++ (10 ∷ rest.now))) }
@@ -118,7 +118,7 @@ fn line_end(text: &[u8]) -> Option<usize>
     None
 }
 
-// The parts of the text behind the position's line.
+// The parts of the text after the position's line.
 fn body_of(text: &[u8], property: u32, latches: usize, inputs: usize) -> Option<WitnessParts<'_>>
     ensures some { IfSome result (λ parts. (parts.property ≡ property) × (parts.start.now ≡ text.now)
         × ((start : List Tern) × (rows : List (List Tern)) × (length start ≡ latches) × (rows ≢ [])

@@ -120,7 +120,7 @@ module _ (raw : Raw) (circuit : IsCircuit raw) (order : List ℕ) (canonical : I
     literals_same ls h = map_same (literal_at plan frame) (frame_literal raw order k t) ls
         (All-weaker (IsListed plan.numbers.items) (λ l. literal_at plan frame l ≡ frame_literal raw order k t l) same ls h)
 
-    -- the frame behind it
+    -- the frame after it
     pub next_frame : (next : Frame) → IsNextFrame raw plan frame next → IsFrame raw order k (suc t) next
     next_frame next is = record {
       number = is.number ∙ ap (λ n. n + 1) is_frame.number ∙ add-one t;

@@ -87,7 +87,7 @@ pub record Decides (A B : Type 0) (w : Tern) : Type 0 where
   pub zero : w ≡ Zero → B
   pub some : B → w ≡ Zero
 
--- the chain literal behind c constraints of frame t
+-- the chain literal after c constraints of frame t
 abbrev pub Linked : Raw → List ℕ → List Tern → List (List Tern) → ℕ → ℕ → Type 0
 Linked raw order start rows t c =
     (w : Tern) × UnrolledValue raw order start rows (link_before raw (length rows) t c) w

@@ -1,4 +1,4 @@
--- What the lines of an input map tell are the inputs of the unrolled circuit.
+-- The lines of an input map name the inputs of the unrolled circuit.
 use Rattle.std.proofs.Common.{◌≡◌, ℕ, zero, suc, ◌+◌, ◌*◌, ◌<◌, Bool, true, false, if◌then◌else◌, List, ◌∷◌, ◌++◌, length, map, take, drop, get_or, Some, slice_get, option_map, refl, sym, ◌∙◌, ap, ap₂, arith, zero-mul}
 use Rattle.std.proofs.lemmas.List.{length-map, map-append, ext_get_or, get_or-map, drop_more, drop_all}
 use Rattle.std.proofs.lemmas.List.FromFn.{length-map-range_with_len, get_or-map-range_with_len}

@@ -41,7 +41,7 @@ both true true h = (refl, refl)
 both true false h = (refl, h)
 both false b h = (h, absurd (cc))
 
--- where the test tells one section
+-- where the test chooses one section
 module _ (test : Kind → Bool) (kind : Kind) (own : test kind ≡ true) (only : (k : Kind) → test k ≡ true → k ≡ kind) where
   abbrev is_entry : Key → ℕ → Bool
   is_entry k p = test k.0 && k.1 == p
@@ -232,7 +232,7 @@ module _ (raw : Raw) where
             ∙ sym (lines_append raw 0 (frames f t) (f t ++ rest)) ∙ ap (origin_lines raw 0) (sym is),
       )
 
-  -- the lines of all frames, and those of the latches behind them
+  -- the lines of all frames, and those of the latches after them
   pub whole_map : (n m : ℕ) → m ≡ n * length raw.inputs
       → origin_lines raw 0 (frames (frame_origins raw) n) ++ origin_lines raw m (start_origins 0 raw.latches)
       ≡ origin_lines raw 0 (frames (frame_origins raw) n ++ start_origins 0 raw.latches)
@@ -267,7 +267,7 @@ module _ (raw : Raw) where
       (drop_more xs p x lt ∙ ap (λ (y : Latch). y ∷ drop (p + 1) xs) (sym is))
       ∙ start_one n p x (drop (p + 1) xs) (is_uninitialised x) refl
 
-  -- the same, where the position behind it is another number
+  -- the same, where the position after it is another number
   pub starts_next : (n m p : ℕ) (x : Latch) (xs : List Latch) → p < length xs → x ≡ get_or xs p x
       → m ≡ position_behind n x → origin_lines raw n (start_origins p (drop p xs))
       ≡ start_line raw n p x ++ origin_lines raw m (start_origins (p + 1) (drop (p + 1) xs))

@@ -1,4 +1,4 @@
--- What unrolling a circuit for k frames answers (our own choice).
+-- What unrolling a circuit for k frames returns. Where the standard is silent, this is our own choice.
 use Rattle.std.specs.Prelude.{◌≡◌, ℕ, ◌<◌, List, Result, Ok, Err}
 use Rattle.aig_parts.specs.declared.raw.Raw.{Raw}
 use Rattle.aig_base.specs.Order.{IsCanonicalOrder}

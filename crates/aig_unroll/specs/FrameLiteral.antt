@@ -1,4 +1,5 @@
--- The literal of the unrolled circuit that stands for a literal at a frame (our own choice).
+-- The literal of the unrolled circuit that represents a literal at a frame. Where the standard is silent, this is our
+-- own choice.
 use Rattle.std.specs.Prelude.{ℕ, zero, suc, ◌+◌, ◌*◌, ◌==◌, nat_lt, Bool, ◌&&◌, if◌then◌else◌, List, length, take, count_by, Option, Some, None, slice_get}
 use Rattle.aig_parts.specs.declared.latch.Latch.{Latch}
 use Rattle.aig_parts.specs.declared.raw.Raw.{Raw}

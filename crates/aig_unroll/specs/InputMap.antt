@@ -1,4 +1,5 @@
--- What the inputs of an unrolled circuit are, and a text that tells it (our own choice).
+-- What the inputs of an unrolled circuit are, and a text that says it. Where the standard is silent, this is our own
+-- choice.
 use Rattle.std.specs.Prelude.{◌≡◌, ℕ, ◌+◌, ◌==◌, Bool, true, false, ◌&&◌, if◌then◌else◌, List, [], ◌∷◌, ◌++◌, length, map, slice_index, codes, decimal}
 use Rattle.std.specs.List.{range_with_len}
 use Rattle.aig_parts.specs.declared.latch.Latch.{Latch}
@@ -42,7 +43,7 @@ abbrev pub is_latch : Kind → Bool
 is_latch kinds.Latch = true
 is_latch _ = false
 
--- the symbol at position p of the section that the test tells, empty where there is none
+-- the symbol at position p of the section that the test chooses, empty where there is none
 unfoldable pub symbol_at : (Kind → Bool) → List (Key × List ℕ) → ℕ → List ℕ
 symbol_at test [] p = []
 symbol_at test (s ∷ symbols) p = if test s.0.0 && s.0.1 == p then s.1 else symbol_at test symbols p
@@ -67,6 +68,6 @@ origin_lines raw n (o ∷ os) = origin_line raw n o ++ origin_lines raw (n + 1) 
 abbrev pub map_text : Raw → ℕ → List ℕ
 map_text raw k = origin_lines raw 0 (origins raw k)
 
--- the literals that the lines tell are the inputs of the unrolled circuit, in order
+-- the literals that the lines name are the inputs of the unrolled circuit, in order
 abbrev pub TellsInputs : Raw → List ℕ → ℕ → List ℕ → Type 0
 TellsInputs raw order k inputs = map (origin_literal raw order k) (origins raw k) ≡ inputs

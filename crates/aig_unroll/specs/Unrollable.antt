@@ -1,4 +1,4 @@
--- What can be unrolled (our own choice).
+-- What can be unrolled. Where the standard is silent, this is our own choice.
 use Rattle.std.specs.Prelude.{ℕ, ◌+◌, ◌*◌, ◌<◌, ◌≤◌, ◌⊎◌, length}
 use Rattle.aig_parts.specs.declared.raw.Raw.{Raw}
 use Rattle.aig_parts.specs.Formed.{limit}

@@ -1,4 +1,4 @@
--- The circuit unrolled for k frames, its time-frame expansion (our own choice).
+-- The circuit unrolled for k frames, its time-frame expansion. Where the standard is silent, this is our own choice.
 use Rattle.std.specs.Prelude.{ℕ, zero, suc, ◌+◌, ◌*◌, ◌-◌, if◌then◌else◌, List, [], ◌++◌, length, map, None, slice_index}
 use Rattle.std.specs.List.{range_with_len}
 use Rattle.aig_parts.specs.declared.gate.Gate.{Gate}

@@ -1,4 +1,4 @@
-//! The text that tells what the inputs of an unrolled circuit are.
+//! The text that says what the inputs of an unrolled circuit are. Where the standard is silent, it is our own choice.
 ghost use Rattle.std.specs.Prelude.{◌≡◌, ◌+◌, ◌*◌, ◌≤◌, ◌<◌, ◌^◌, decimal, length, IfOk};
 ghost use Rattle.aig_bytes.specs.Bytes.{Writes};
 ghost use Rattle.aig_unroll.specs.InputMap as inputs;
@@ -143,7 +143,7 @@ fn write_frames<W: Write>(
     Ok(())
 }
 
-// Writes the line of a latch that is at this position if it is uninitialised, and answers the position behind it.
+// Writes the line of a latch that is at this position if it is uninitialised, and returns the position after it.
 fn write_start_of<W: Write>(
     out: &mut W,
     circuit: &Circuit,
@@ -184,10 +184,10 @@ fn write_starts<W: Write>(
     Ok(())
 }
 
-/// Writes what the inputs of the circuit unrolled for this many frames are, a line each in order: `i POSITION FRAME
-/// INPUT NAME` for an input of the circuit at a frame, `l POSITION LATCH NAME` for the start of an uninitialised latch,
-/// where NAME is the symbol, if there is one (our own choice). All numbers count from 0. It takes no memory, and writes
-/// in small pieces: hand in a writer that gathers them.
+/// Writes what the inputs of the circuit unrolled for this many frames are, one line each, in order. An input of the
+/// circuit at a frame is `i POSITION FRAME INPUT NAME`, the initial value of an uninitialised latch is `l POSITION
+/// LATCH NAME`. NAME is the symbol, if there is one. All numbers count from 0. It takes no memory, and writes in small
+/// pieces: pass a writer that buffers them.
 pub fn write_input_map<W: Write>(circuit: &Circuit, frames: u32, out: &mut W) -> Result<(), Io>
     ensures { Writes W.written W.failures out.old out.new (map_text circuit.now frames) result }
 {

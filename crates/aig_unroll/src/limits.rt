@@ -1,4 +1,4 @@
-//! What can be unrolled.
+//! What can be unrolled. Where the standard is silent, the limits are our own choice.
 ghost use Rattle.std.specs.Prelude.{◌≡◌, ◌≤◌, ◌*◌, ◌↔◌, IsTrue, length};
 ghost use Rattle.aig_parts.specs.Formed.{limit};
 ghost use Rattle.aig_parts.specs.Limits.{frame_limit};
@@ -8,7 +8,7 @@ ghost use Rattle.aig_unroll.specs.Unrolled as parts;
 use crate::plan::{frame_size, has_guards, uninitialised};
 use aig_base::{Circuit, LIMIT};
 
-/// The greatest number of frames (our own choice).
+/// The greatest number of frames.
 const FRAMES: u32 = 65_536;
 
 /// Whether there are justice properties or fairness constraints.
@@ -46,7 +46,7 @@ pub(crate) fn fits_limits(circuit: &Circuit, frames: u32) -> bool
     if frames > FRAMES {
         return false;
     }
-    // Its contract tells that the parts are a circuit.
+    // Its contract says that the parts are a circuit.
     let _max_var = circuit.max_var();
     let frames = frames as usize;
     let inputs = in_frames(frames, circuit.inputs().len()) + uninitialised(circuit);

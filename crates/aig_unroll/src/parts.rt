@@ -58,7 +58,7 @@ pub(crate) fn push_gates(
     Ok(())
 }
 
-/// The latches' literals at the frame behind this one.
+/// The latches' literals at the frame after this one.
 pub(crate) fn next_latches(
     alloc: Global,
     plan: &Plan,
@@ -76,7 +76,7 @@ pub(crate) fn next_latches(
     Ok(new)
 }
 
-/// The latches' literals at the first frame: resets, and inputs behind this variable for uninitialised ones.
+/// The latches' literals at the first frame: resets, and inputs after this variable for uninitialised ones.
 pub(crate) fn first_latches(
     alloc: Global,
     latches: &[Latch],

@@ -105,7 +105,7 @@ fn ordered_gates(alloc: Global, circuit: &Circuit, order: &[u32]) -> Result<List
     Ok(gates)
 }
 
-// The frame behind this one.
+// The frame after this one.
 fn next_frame(alloc: Global, plan: &Plan, frame: &Frame, circuit: &Circuit) -> Result<Frame, Memory>
     requires within { IsWithin plan.now frame.now }
     requires number { frame.now.number < frame_limit }
@@ -131,7 +131,7 @@ pub(crate) fn unrolled_sections(
     requires plan { IsPlan circuit.now order.now frames plan.now }
     ensures { IfOk result (AreSections circuit.now order.now frames frames) }
 {
-    // Its contract tells that the parts are a circuit.
+    // Its contract says that the parts are a circuit.
     let _max_var = circuit.max_var();
     let ordered = ordered_gates(alloc, circuit, order)?;
     let mut sections = Sections {

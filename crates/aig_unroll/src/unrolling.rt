@@ -1,4 +1,4 @@
-//! Unrolling, the time-frame expansion of a circuit.
+//! Unrolling, the time-frame expansion of a circuit. Where the standard is silent, it is our own choice.
 ghost use Rattle.std.specs.Prelude.{◌≡◌, ◌≤◌, IfOk, IfErr, OnOk};
 ghost use Rattle.aig_parts.specs.Formed.{limit};
 ghost use Rattle.aig_base.specs.Levels.{AreLevels};
@@ -72,7 +72,7 @@ fn unrolled_circuit(
     ensures parts { IfOk result (IsUnrolled circuit.now frames) }
     ensures ready { IfOk result IsBinaryReady }
 {
-    // Its contract tells that the parts are a circuit.
+    // Its contract says that the parts are a circuit.
     let _max_var = circuit.max_var();
     let order = canonical_order(alloc, circuit, levels)?;
     let parts = unrolled_parts(alloc, circuit, &order, frames)?;
@@ -96,12 +96,11 @@ fn check_request(circuit: &Circuit, frames: u32) -> Result<(), UnrollFault>
     Ok(())
 }
 
-/// The circuit unrolled for this many frames: a combinational circuit whose inputs are those of the frames in turn and
-/// then the uninitialised latches, and whose sections are those of the frames in turn; the gates of a frame stand in
-/// the canonical order. Where there are both bad literals and constraints, each bad literal is guarded by all
-/// constraints up to its frame (our own choice). Names and comment go. A binary file can hold it. The caller hands in
-/// the circuit's levels. It refuses 0 frames, then justice and fairness, then what is over its limit, and takes no
-/// memory before that.
+/// The circuit unrolled for this many frames: a combinational circuit with the inputs of the frames in turn and then
+/// the uninitialised latches. Its other sections are those of the frames in turn; the gates of a frame are in the
+/// canonical order. Where there are both bad literals and constraints, each bad literal is guarded by all constraints
+/// up to its frame. Names and comment go. A binary file can hold it. The caller passes the circuit's levels. It refuses
+/// 0 frames, then justice and fairness, then what is over its limit, and takes no memory before that.
 pub fn unroll(
     alloc: Global,
     circuit: &Circuit,

@@ -1,4 +1,4 @@
--- What the counts of a header say of the parts that are read behind it.
+-- What the counts of a header say of the parts that are read after it.
 use Rattle.std.specs.Prelude.{◌≡◌, ◌≢◌, ◌<◌, ◌≤◌, List, length, sum_by, All, AllPairs}
 use Rattle.std.specs.Map.{keys_of}
 use Rattle.aig_parts.specs.Formed as formed

@@ -9,7 +9,7 @@ room = 32768
 abbrev pub held : ℕ → ℕ → List ℕ → List ℕ
 held start end buffer = take (end - start) (drop start buffer)
 
--- the reader tells its bytes
+-- the reader reports its bytes
 abbrev pub IsKnown : Option (List ℕ) → Type 0
 IsKnown None = ⊥
 IsKnown (Some bytes) = Unit {0}

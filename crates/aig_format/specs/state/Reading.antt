@@ -11,7 +11,7 @@ pub data Refusal : Type 0 where
 abbrev pub Read : Type 0 → Type 0
 Read A = Result (A × List ℕ) Refusal
 
--- The bytes that are taken tell what is read: it is the same whatever comes behind them.
+-- The bytes that are taken determine what is read: it is the same whatever comes after them.
 abbrev pub EndsItself : {A : Type 0} → (List ℕ → Read A) → Type 0
 EndsItself {A} read = (bytes rest : List ℕ) (x : A) → read bytes ≡ Ok (x, rest)
     → (front : List ℕ) × (bytes ≡ front ++ rest) × ((more : List ℕ) → read (front ++ more) ≡ Ok (x, more))

@@ -21,7 +21,7 @@ pub record SpellsFrames (width : ℕ) (text : List ℕ) (rows : List (List Tern)
   pub widths : HaveWidth width rows
   pub text_is : text ≡ rows_text rows
 
--- the parts of the text of this witness, where positions over the limit of a section count as the one behind it
+-- the parts of the text of this witness, where positions over the limit of a section count as the one after it
 pub record ArePartsOf (raw : Raw) (parts : WitnessParts) (w : Witness) : Type 0 where
   pub latches : length w.start ≡ length raw.latches
   pub some : w.rows ≢ []
@@ -40,7 +40,7 @@ pub record ReadsNotOne (cells : List Tern) (literals : List ℕ) (p : ℕ) : Typ
 abbrev pub HoldConstraints : Raw → Witness → ℕ → Type 0
 HoldConstraints raw w t = (u q : ℕ) → u < t → IsNotOne raw w u raw.constraints q → ⊥
 
--- Behind t frames of the witness: the rest of its text, the latches' values, and the cells at the last of these frames.
+-- After t frames of the witness: the rest of its text, the latches' values, and the cells at the last of these frames.
 pub record HasRun (raw : Raw) (w : Witness) (t : ℕ) (rest : List ℕ) (cells states : List Tern) : Type 0 where
   pub rest_is : rest ≡ rows_text (drop t w.rows)
   pub states_are : AreStates raw w.start (take t w.rows) t states

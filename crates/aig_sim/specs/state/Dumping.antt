@@ -20,7 +20,7 @@ dumped_text (suc t) bs cs = number_line (suc t) ++ changed_lines 0 bs cs
 abbrev pub characters_of : Raw → List Tern → List ℕ
 characters_of raw cells = map (literal_character cells) (signals raw)
 
--- what is kept behind so many frames: at first no characters, then those of the last frame
+-- what is kept after so many frames: at first no characters, then those of the last frame
 abbrev pub AreLast : Raw → List Tern → List (List Tern) → ℕ → List ℕ → Type 0
 AreLast raw start rows zero last = last ≡ replicate (length (signals raw)) 0
 AreLast raw start rows (suc t) last = AreValues raw start rows t (signals raw) last

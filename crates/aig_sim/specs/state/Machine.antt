@@ -10,7 +10,7 @@ pub record Machine : Type 0 where
   pub cells : List Tern
   pub states : List Tern
 
--- behind the rows so far, the cells have the values at the frame of this row, and the latches have these values behind it
+-- after the rows so far, the cells have the values at the frame of this row, and the latches have these values after it
 pub record Steps (raw : Raw) (start : List Tern) (rows : List (List Tern)) (row cells states : List Tern) : Type 0 where
   pub cells_are : HoldsAll raw start (rows ++ row ∷ []) (length rows) cells
   pub states_are : AreStates raw start (rows ++ row ∷ []) (length rows + 1) states

@@ -1,4 +1,4 @@
--- How far the replay of a witness has come, whatever is told of its frames.
+-- How far the replay of a witness has come, whatever is written of its frames.
 use Rattle.std.specs.Prelude.{◌≡◌, ℕ, ◌≤◌, List, [], length, take, drop, Option, Result, OnOk}
 use Rattle.aig_parts.specs.declared.ternary.Tern.{Tern}
 use Rattle.aig_parts.specs.declared.raw.Raw.{Raw}
@@ -17,13 +17,13 @@ pub record BeginsRun (raw : Raw) (w : Witness) (states : List Tern) (rows : List
   pub rows_are : SpellsFrames (length raw.inputs) rows w.rows
   pub frames_are : frames ≡ length w.rows
 
--- no frame was told
+-- nothing was written of any frame
 pub record NoneTold {T : Type 0} (is_text : Telling) (recorded : Recorded T) (raw : Raw) (w : Witness) (recorder : T)
     : Type 0 where
   pub no_text : is_text raw w.start [] []
   pub none_recorded : recorded recorder raw w.start []
 
--- Behind t frames of the witness: the rest of its text, the latches' values, and what was written of these frames.
+-- After t frames of the witness: the rest of its text, the latches' values, and what was written of these frames.
 pub record HasReplayed {T : Type 0} (is_text : Telling) (recorded : Recorded T) (raw : Raw) (w : Witness) (t : ℕ)
     (rest : List ℕ) (states : List Tern) (recorder : T) (start : Option (List ℕ)) (count : ℕ)
     (written : Option (List ℕ)) (failures : ℕ) : Type 0 where

@@ -35,7 +35,7 @@ pub record Starts {T : Type 0} (is_text : Telling) (recorded : Recorded T) (s : 
   pub no_text : is_text s.machine.circuit (start_of s.machine.circuit) [] []
   pub none_recorded : recorded s.recorder s.machine.circuit (start_of s.machine.circuit) []
 
--- The text was read: its rows were simulated, their frames' text was written behind `start`, and no write failed.
+-- The text was read: its rows were simulated, their frames' text was written after `start`, and no write failed.
 pub record Running {T : Type 0} (is_text : Telling) (recorded : Recorded T) (raw : Raw) (start : Option (List ℕ)) (count : ℕ)
     (text : List ℕ) (s : Simulation T) (written : Option (List ℕ)) (failures : ℕ) : Type 0 where
   pub rows : List (List Tern)
@@ -49,7 +49,7 @@ pub record Running {T : Type 0} (is_text : Telling) (recorded : Recorded T) (raw
   pub wrote : written ≡ after start trace
   pub no_failure : failures ≡ count
 
--- why a simulation stopped behind these rows: a write of the last one's text failed, or the next line is faulty
+-- why a simulation stopped after these rows: a write of the last one's text failed, or the next line is faulty
 abbrev pub StopsBy : Raw → ℕ → List ℕ → List (List Tern) → List ℕ → List ℕ → ℕ → StimFault → Type 0
 StopsBy raw count text rows trace done failures fault.Io =
     BeginsWithRows (length raw.inputs) text rows × IsBeginning done trace × (failures ≡ count + 1)

@@ -59,7 +59,7 @@ first_of latches behind p None = 0
 first_of latches behind p (Some x) =
     if is_uninitialised x then 2 * (behind + uninitialised (take p latches) + 1) else x.reset
 
--- the literal of the latch at a position at the first frame, where inputs of uninitialised ones are behind this variable
+-- the literal of the latch at a position at the first frame, where inputs of uninitialised ones are after this variable
 abbrev pub first_at : List Latch → ℕ → ℕ → ℕ
 first_at latches behind p = first_of latches behind p (slice_get latches p)
 
@@ -112,7 +112,7 @@ pub record AddsFrame (raw : Raw) (ordered : List Gate) (plan : Plan) (frame : Fr
   pub constraints : new.constraints ≡ old.constraints ++ map (literal_at plan frame) (kept_constraints raw)
   pub gates : new.gates ≡ old.gates ++ gates_at raw ordered plan frame
 
--- the frame behind another
+-- the frame after another
 pub record IsNextFrame (raw : Raw) (plan : Plan) (frame next : Frame) : Type 0 where
   pub number : next.number ≡ frame.number + 1
   pub latches : next.latches ≡ map (λ x. literal_at plan frame x.next) raw.latches

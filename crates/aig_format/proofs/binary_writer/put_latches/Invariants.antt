@@ -1,6 +1,6 @@
 use Rattle.std.proofs.Common.{take, Ok}
 use Rattle.std.specs.List.{flat_map}
-use Rattle.aig_bytes.specs.state.Gathered.{Gathers}
+use Rattle.aig_bytes.specs.Gathered.{Gathers}
 use Rattle.std.proofs.Common.{false}
 use Rattle.aig_format.specs.Spelling.{implicit_latch_line}
 use Rattle.aig_format.proofs.binary_writer.put_latches.Given as goal

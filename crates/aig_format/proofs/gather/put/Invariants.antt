@@ -1,5 +1,5 @@
 use Rattle.std.proofs.Common.{length, ◌-◌, ◌≤◌, take, Ok}
-use Rattle.aig_bytes.specs.state.Gathered.{Gathers}
+use Rattle.aig_bytes.specs.Gathered.{Gathers}
 use Rattle.aig_format.proofs.gather.put.Given as goal
 
 abbrev pub invariant-loop-at : goal.invariant-loop-at

@@ -1,6 +1,6 @@
 use Rattle.std.proofs.Common.{take, Ok}
 use Rattle.std.specs.List.{flat_map}
-use Rattle.aig_bytes.specs.state.Gathered.{Gathers}
+use Rattle.aig_bytes.specs.Gathered.{Gathers}
 use Rattle.aig_format.specs.Spelling.{size_line}
 use Rattle.aig_format.proofs.section_writer.put_sizes.Given as goal
 

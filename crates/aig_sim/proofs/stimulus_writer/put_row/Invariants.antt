@@ -1,5 +1,5 @@
 use Rattle.std.proofs.Common.{◌≡◌, ◌-◌, ◌≤◌, length, take, map, Ok}
-use Rattle.aig_bytes.specs.state.Gathered.{Gathers}
+use Rattle.aig_bytes.specs.Gathered.{Gathers}
 use Rattle.aig_grids.specs.Characters.{character}
 use Rattle.aig_sim.proofs.stimulus_writer.put_row.Given as goal
 

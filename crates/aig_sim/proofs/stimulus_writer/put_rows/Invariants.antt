@@ -1,5 +1,5 @@
 use Rattle.std.proofs.Common.{take, flat_map, Ok}
-use Rattle.aig_bytes.specs.state.Gathered.{Gathers}
+use Rattle.aig_bytes.specs.Gathered.{Gathers}
 use Rattle.aig_sim.specs.StimulusText.{row_line}
 use Rattle.aig_sim.proofs.stimulus_writer.put_rows.Given as goal
 

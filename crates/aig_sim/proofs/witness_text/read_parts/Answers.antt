@@ -4,7 +4,7 @@ use Rattle.std.proofs.lemmas.List.{length-drop, take_all}
 use Rattle.aig_sim.proofs.WitnessLemmas.{if_none, head_is, no_line, no_position, no_body, parts_are}
 use Rattle.aig_sim.proofs.witness_text.read_parts.Goals as goal
 
--- the bytes behind a place are those to the end
+-- the bytes after a place are those to the end
 to_end : (n : ℕ) (xs : List ℕ) → take (length xs - n) (drop n xs) ≡ drop n xs
 to_end n xs = take_all (length xs - n) (drop n xs) (omega (arith, length-drop n xs))
 
