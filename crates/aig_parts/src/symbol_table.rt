@@ -28,14 +28,13 @@ pub(crate) struct SymbolTable {
 }
 
 impl Model for SymbolTable {
-    ghost use Rattle.std.specs.Prelude.{List, ℕ, ◌++◌};
-    ghost use Rattle.aig_parts.specs.declared.symbol_places.Place.{Place};
-    ghost use Rattle.aig_parts.specs.SymbolPlaces.{Key};
-    ghost use Rattle.aig_parts.specs.state.SymbolTable.{IsTable};
+    ghost use Rattle.std.specs.Prelude.{◌++◌};
+    ghost use Rattle.indexmap.specs.IndexMap.{hasher_of};
+    ghost use Rattle.aig_parts.specs.state.SymbolTable.{Table, IsTable};
 
-    ghost Value = { List (Key × Place) };
+    ghost Value = { Table };
 
-    ghost view = { λ a. a.ascending.items ++ a.others.entries };
+    ghost view = { λ a. record { entries = a.ascending.items ++ a.others.entries; hash = hasher_of a.others } };
 
     ghost invariant = { λ a. IsTable a.ascending.items a.others.entries };
 }
@@ -124,7 +123,7 @@ fn find_ascending(entries: &[((Kind, u32), Place)], entry: (Kind, u32)) -> Optio
 impl SymbolTable {
     /// None. It takes no memory.
     pub(crate) fn new(alloc: Global) -> SymbolTable
-        ensures { result ≡ [] }
+        ensures { result.entries ≡ [] }
     {
         SymbolTable {
             ascending: Vec::new(alloc),
@@ -132,10 +131,13 @@ impl SymbolTable {
         }
     }
 
-    /// These entries, none of which comes twice.
+    /// These entries, none of which comes twice. Where they do not ascend, the keys of the hash are made from all of
+    /// them.
     pub(crate) fn of_entries(entries: Vec<((Kind, u32), Place)>) -> Result<SymbolTable, AllocError>
         requires { AllPairs (λ x y. x ≢ y) (keys_of entries.items) }
-        ensures { IfOk result (λ table. table ≡ entries.items) }
+        ensures entries { IfOk result (λ table. table.entries ≡ entries.items) }
+        ensures keyed { IfOk result (λ table.
+            (Ascend entries.items → ⊥) → table.hash ≡ hash_of_entries (keys_of entries.items)) }
     {
         let mut entries = entries;
         let count = ascending_count(&entries);
@@ -149,15 +151,15 @@ impl SymbolTable {
 
     /// How many there are.
     pub(crate) fn len(&self) -> usize
-        ensures { result ≡ length self.now }
+        ensures { result ≡ length self.now.entries }
     {
         self.ascending.len() + self.others.len()
     }
 
     /// The place of an entry's name.
     pub(crate) fn find(&self, entry: (Kind, u32)) -> Option<Place>
-        ensures some { IfSome result (λ place. Contains self.now (entry, place)) }
-        ensures none { IfNone result (Contains (keys_of self.now) entry → ⊥) }
+        ensures some { IfSome result (λ place. Contains self.now.entries (entry, place)) }
+        ensures none { IfNone result (Contains (keys_of self.now.entries) entry → ⊥) }
     {
         match find_ascending(&self.ascending, entry) {
             Some(place) => Some(place),
@@ -168,11 +170,12 @@ impl SymbolTable {
         }
     }
 
-    /// Adds an entry that is not there.
+    /// Adds an entry that is not there. The keys of the hash stay.
     pub(crate) fn push(&mut self, entry: (Kind, u32), place: Place) -> Result<(), AllocError>
-        requires { Contains (keys_of self.old) entry → ⊥ }
-        ensures ok { OnOk result (self.new ≡ self.old ++ (entry, place) ∷ []) }
-        ensures err { OnErr result (self.new ≡ self.old) }
+        requires { Contains (keys_of self.old.entries) entry → ⊥ }
+        ensures ok { OnOk result (self.new.entries ≡ self.old.entries ++ (entry, place) ∷ []) }
+        ensures err { OnErr result (self.new.entries ≡ self.old.entries) }
+        ensures hash { self.new.hash ≡ self.old.hash }
     {
         if self.others.is_empty() && comes_behind(&self.ascending, entry) {
             self.ascending.push((entry, place))?;
@@ -184,8 +187,8 @@ impl SymbolTable {
 
     /// The entries and their places.
     pub(crate) fn iter(&self) -> TableIter<'_>
-        ensures entries { result ≡ self.now }
-        ensures distinct { AllPairs (λ x y. x ≢ y) (keys_of self.now) }
+        ensures entries { result ≡ self.now.entries }
+        ensures distinct { AllPairs (λ x y. x ≢ y) (keys_of self.now.entries) }
     {
         TableIter {
             ascending: self.ascending.as_slice(),
@@ -195,7 +198,7 @@ impl SymbolTable {
 }
 
 impl Clone for SymbolTable {
-    ghost is_clone = { λ v w. w ≡ v };
+    ghost is_clone = { λ v w. w.entries ≡ v.entries };
 
     fn clone(&self) -> Result<SymbolTable, AllocError> {
         Ok(SymbolTable {

@@ -43,9 +43,9 @@ impl Model for Symbols {
     ghost use Rattle.aig_parts.specs.SymbolPlaces.{symbols_in};
     ghost use Rattle.aig_parts.specs.state.NamedEntries.{IsPlaceIn};
 
-    ghost view = { λ a. symbols_in a.text.items a.places };
+    ghost view = { λ a. symbols_in a.text.items a.places.entries };
 
-    ghost invariant = { λ a. All (IsPlaceIn a.text.items) a.places };
+    ghost invariant = { λ a. All (IsPlaceIn a.text.items) a.places.entries };
 }
 
 impl Symbols {

@@ -3,7 +3,7 @@ use Rattle.std.specs.Map.{keys_of}
 use Rattle.std.specs.Prelude.{All}
 use Rattle.aig_parts.specs.declared.symbol_places.Place.{Place}
 use Rattle.aig_parts.specs.SymbolPlaces.{Key}
-use Rattle.aig_parts.specs.state.SymbolTable.{number_of, Ascend, IsTable}
+use Rattle.aig_parts.specs.state.SymbolTable.{number_of, Ascend, IsTable, Table}
 use Rattle.aig_parts.proofs.SymbolKeys.{insert_at_end}
 use Rattle.aig_parts.proofs.TableLemmas.{pushed, pushed_behind, behind, not_other}
 use Rattle.aig_parts.proofs.symbol_table.SymbolTable.push.Goals as goal
@@ -13,7 +13,7 @@ comes_behind-requires c = subst (λ (es : List (Key × Place)). Ascend es) (sym 
 
 pub invariant_of-self-then-comes_behind : goal.invariant_of-self-then-comes_behind
 invariant_of-self-then-comes_behind c =
-    let fresh = subst (λ (es : List (Key × Place)). Contains (keys_of es) c.args.entry → ⊥) (sym c.self.view_is) c.requires in
+    let fresh = subst (λ (t : Table). Contains (keys_of t.entries) c.args.entry → ⊥) (sym c.self.view_is) c.requires in
     let low = subst (λ (es : List (Key × Place)). All (λ x. number_of x.0 < number_of c.args.entry) es)
     c.deref.ensures.value (c.comes_behind.ensures c.if-comes_behind.true) in
     subst (λ (es : List (Key × Place)). IsTable es c.self.inside.others.entries) (sym c.in_ok-push.ensures.items)
@@ -22,7 +22,7 @@ invariant_of-self-then-comes_behind c =
 
 pub invariant_of-self-in_ok-insert : goal.invariant_of-self-in_ok-insert
 invariant_of-self-in_ok-insert c =
-    let fresh = subst (λ (es : List (Key × Place)). Contains (keys_of es) c.args.entry → ⊥) (sym c.self.view_is) c.requires in
+    let fresh = subst (λ (t : Table). Contains (keys_of t.entries) c.args.entry → ⊥) (sym c.self.view_is) c.requires in
     let ascending = c.self.inside.ascending.items in
     let others = c.self.inside.others in
     let entries = c.in_ok-insert.ensures.entries ∙ insert_at_end others c.args.entry c.args.place
@@ -32,11 +32,11 @@ invariant_of-self-in_ok-insert c =
 
 pub returns-in_ok-insert-clause-ok : goal.returns-in_ok-insert-clause-ok
 returns-in_ok-insert-clause-ok c =
-    let fresh = subst (λ (es : List (Key × Place)). Contains (keys_of es) c.args.entry → ⊥) (sym c.self.view_is) c.requires in
+    let fresh = subst (λ (t : Table). Contains (keys_of t.entries) c.args.entry → ⊥) (sym c.self.view_is) c.requires in
     let ascending = c.self.inside.ascending.items in
     let others = c.self.inside.others in
     let entries = c.in_ok-insert.ensures.entries ∙ insert_at_end others c.args.entry c.args.place
     (not_other ascending others.entries c.args.entry fresh) in
     ap (λ (es : List (Key × Place)). ascending ++ es) entries
     ∙ behind ascending others.entries c.args.entry c.args.place c.self.invariant fresh
-    ∙ ap (λ (es : List (Key × Place)). es ++ (c.args.entry, c.args.place) ∷ []) c.self.view_is
+    ∙ ap (λ (t : Table). t.entries ++ (c.args.entry, c.args.place) ∷ []) c.self.view_is

@@ -9,4 +9,4 @@ returns-clause-runs c = from_front (TakesFirst deref_pair) deref_pair (λ s. s) 
 
 pub returns-clause-distinct : goal.returns-clause-distinct
 returns-clause-distinct c =
-    rw (← c.self.view_is, keys_in c.self.inside.text.items c.self.inside.places) c.iter.ensures.distinct
+    rw (← c.self.view_is, keys_in c.self.inside.text.items c.self.inside.places.entries) c.iter.ensures.distinct
