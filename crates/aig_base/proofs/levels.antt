@@ -1,8 +1,8 @@
 pub mod FirstLevels
 pub mod GreatestLemmas
-pub mod Heights
 pub mod LevelBound
-pub mod LevelChainLemmas
+pub mod LevelFills
+pub mod LevelPlaces
 pub mod OneLevel
 pub mod OneOrder
 pub mod SortingLemmas

@@ -2,8 +2,8 @@
 pub mod Definitions
 pub mod Descent
 pub mod Entries
+pub mod FanOuts
 pub mod Least
-pub mod LevelChains
 pub mod Links
 pub mod ListPlaces
 pub mod Marks
@@ -16,3 +16,4 @@ pub mod Sorting
 pub mod TriedLevels
 pub mod Visits
 pub mod Walk
+pub mod Worklists

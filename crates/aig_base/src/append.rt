@@ -5,17 +5,15 @@ ghost use Rattle.aig_base.specs.Changes.{next_gate, with_appended_gate};
 ghost use Rattle.aig_parts.specs.Formed.{limit};
 ghost use Rattle.aig_base.specs.Levels.{AreLevels};
 ghost use Rattle.aig_parts.specs.Literal.{variable};
-ghost use Rattle.aig_base.specs.state.Queue.{IsEmptyQueue};
 ghost use Rattle.aig_base.specs.Readers.{AreReaders, HasRoom};
 ghost use Rattle.aig_base.specs.Sections.{IsDefined};
-ghost use Rattle.aig_base.specs.state.Visits.{AreNoVisits, FitsOneMore};
+ghost use Rattle.aig_base.specs.state.Worklists.{FitsOneVariable, IsIdle};
 
 use crate::change::forget;
 use crate::circuit::Circuit;
 use crate::level::{Levels, level_over};
-use crate::queue::Queue;
-use crate::readers::{Readers, append_list, make_room_for_list};
-use crate::visits::Visits;
+use crate::readers::Readers;
+use crate::worklist::Worklist;
 use aig_bytes::Memory;
 use aig_parts::{Gate, Lit};
 
@@ -52,36 +50,27 @@ impl Circuit {
 }
 
 // Makes room for one more level.
-fn make_room_for_level(
-    levels: &mut Vec<u32>,
-    visits: &mut Visits,
-    queue: &mut Queue,
-) -> Result<(), Memory>
-    requires unvisited { AreNoVisits (length levels.old.items) visits.old }
-    requires none { IsEmptyQueue (length levels.old.items) queue.old }
+fn make_room_for_level(levels: &mut Vec<u32>, worklist: &mut Worklist) -> Result<(), Memory>
+    requires { IsIdle (length levels.old.items) worklist.old }
     ensures levels { levels.new.items ≡ levels.old.items }
-    ensures unvisited { AreNoVisits (length levels.old.items) visits.new }
-    ensures none { IsEmptyQueue (length levels.old.items) queue.new }
+    ensures idle { IsIdle (length levels.old.items) worklist.new }
     ensures level { OnOk result (length levels.new.items < vec_capacity levels.new) }
-    ensures visit { OnOk result (FitsOneMore visits.new) }
-    ensures wait { OnOk result (IsEmptyQueue (length levels.old.items + 1) queue.new) }
+    ensures fits { OnOk result (FitsOneVariable (length levels.old.items) worklist.new) }
 {
-    let size = levels.len();
     levels.reserve(1)?;
-    visits.make_room()?;
-    queue.make_room(size + 1)
+    worklist.make_room()
 }
 
 // Adds the level of one more variable, where there is room.
-fn append_level(levels: &mut Vec<u32>, visits: &mut Visits, level: u32)
-    requires unvisited { AreNoVisits (length levels.old.items) visits.old }
+fn append_level(levels: &mut Vec<u32>, worklist: &mut Worklist, level: u32)
+    requires idle { IsIdle (length levels.old.items) worklist.old }
     requires level { length levels.old.items < vec_capacity levels.old }
-    requires visit { FitsOneMore visits.old }
+    requires fits { FitsOneVariable (length levels.old.items) worklist.old }
     ensures levels { levels.new.items ≡ levels.old.items ++ level ∷ [] }
-    ensures unvisited { AreNoVisits (length levels.old.items + 1) visits.new }
+    ensures idle { IsIdle (length levels.old.items + 1) worklist.new }
 {
     levels.push_reserved(level);
-    visits.add_variable();
+    worklist.add_variable();
 }
 
 /// Appends a gate with the variable M + 1 at the end of a circuit's gates, and makes M greater by one (our own choice).
@@ -109,18 +98,12 @@ pub fn append_gate(
     ensures room { OnErr result ((v : ℕ) → HasRoom readers.old v → HasRoom readers.new v) }
 {
     let _ = circuit.max_var();
-    make_room_for_list(&mut readers.lists, &mut readers.places, r0.var(), r1.var())?;
-    make_room_for_level(&mut levels.levels, &mut levels.visits, &mut levels.queue)?;
+    readers.fan_outs.make_room_for_list(r0.var(), r1.var())?;
+    make_room_for_level(&mut levels.levels, &mut levels.worklist)?;
     let gate = circuit.next_gate(r0, r1);
     circuit.append_gate(r0, r1)?;
     let level = level_over(&levels.levels, &gate);
-    append_level(&mut levels.levels, &mut levels.visits, level);
-    append_list(
-        &mut readers.lists,
-        &mut readers.places,
-        r0.var(),
-        r1.var(),
-        gate.lhs.var(),
-    );
+    append_level(&mut levels.levels, &mut levels.worklist, level);
+    readers.fan_outs.append_list(&gate);
     Ok(())
 }

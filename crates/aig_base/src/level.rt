@@ -7,9 +7,8 @@ ghost use Rattle.aig_parts.specs.Literal.{variable};
 use crate::check::reads_smaller;
 use crate::circuit::Circuit;
 use crate::grounded::grounded_levels;
-use crate::queue::Queue;
 use crate::tried_levels::found_levels;
-use crate::visits::Visits;
+use crate::worklist::Worklist;
 use aig_bytes::Memory;
 use aig_parts::Gate;
 use std::alloc::Global;
@@ -20,9 +19,8 @@ use std::marker::Model;
 #[derive(Drop)]
 pub struct Levels {
     pub(crate) levels: Vec<u32>,
-    // For `rewire`, with room for all variables: no visits, and nothing in the queue.
-    pub(crate) visits: Visits,
-    pub(crate) queue: Queue,
+    // For `rewire`, idle, with room for all variables.
+    pub(crate) worklist: Worklist,
 }
 
 impl Model for Levels {
@@ -31,13 +29,11 @@ impl Model for Levels {
     ghost Value = { List ℕ };
 
     ghost use Rattle.std.specs.Prelude.{length};
-    ghost use Rattle.aig_base.specs.state.Queue.{IsEmptyQueue};
-    ghost use Rattle.aig_base.specs.state.Visits.{AreNoVisits};
+    ghost use Rattle.aig_base.specs.state.Worklists.{IsIdle};
 
     ghost view = { λ a. a.levels.items };
 
-    ghost invariant = { λ a.
-        AreNoVisits (length a.levels.items) a.visits × IsEmptyQueue (length a.levels.items) a.queue };
+    ghost invariant = { λ a. IsIdle (length a.levels.items) a.worklist };
 }
 
 /// One more than the greater level of the right sides.
@@ -118,8 +114,7 @@ impl Levels {
         let size = circuit.max_var() as usize + 1;
         Ok(Levels {
             levels: level_list(alloc, circuit)?,
-            visits: Visits::new(alloc, size)?,
-            queue: Queue::new(alloc, size)?,
+            worklist: Worklist::new(alloc, size)?,
         })
     }
 

@@ -10,6 +10,7 @@ mod cycle;
 mod definition;
 mod definitions;
 mod entries;
+mod fan_out_lists;
 mod gate_of;
 mod greatest;
 mod grounded;
@@ -29,10 +30,10 @@ mod renumbering_laws;
 mod renumbering_parts;
 mod renumbering_table;
 mod rewire;
-mod sorted;
 mod tried_levels;
 mod visits;
 mod walk;
+mod worklist;
 
 pub use aig_bytes::{
     Block, Buffered, Count, Failed, Io, MemReader, MemWriter, Memory, Read, Std, Write, write_all,
@@ -49,10 +50,9 @@ pub use definition::Definition;
 pub use greatest::greatest_fan_out;
 pub use laws::{law_of_completion, law_of_faults, law_of_levels, law_of_one_value};
 pub use level::Levels;
-pub use order::canonical_order;
+pub use order::{canonical_order, sorted_gates};
 pub use readers::Readers;
 pub use ready::is_binary_ready;
 pub use renumbering::renumber;
 pub use renumbering_laws::law_of_renumbering;
 pub use renumbering_table::renumbered_variables;
-pub use sorted::sorted_gates;

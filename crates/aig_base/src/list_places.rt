@@ -51,7 +51,7 @@ pub(crate) fn cover_for_list(
 /// Makes places for so many variables, if there are any places.
 pub(crate) fn cover_more(places: &mut Vec<Places>, variables: usize) -> Result<(), Memory>
     ensures extends { Extends places.old.items places.new.items }
-    ensures covers { OnOk result (0 < length places.old.items → variables ≤ length places.new.items) }
+    ensures covers { OnOk result (0 < length places.new.items → variables ≤ length places.new.items) }
 {
     if places.is_empty() {
         return Ok(());

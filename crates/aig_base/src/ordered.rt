@@ -1,46 +1,62 @@
 //! The test of parts whose definitions are in order, each gate after all that it reads, as in every binary file.
-ghost use Rattle.std.specs.Prelude.{◌≡◌, ◌≢◌, ◌+◌, ◌^◌, ◌<◌, length, map, All, IsTrue, IfErr, OnOk};
+ghost use Rattle.std.specs.Prelude.{◌≡◌, ◌≢◌, ◌↔◌, ◌+◌, ◌^◌, ◌<◌, ◌≤◌, length, map, All, IsTrue, IfErr, OnOk};
 ghost use Rattle.aig_base.specs.Circuit.{IsCircuit};
 ghost use Rattle.aig_base.specs.Definition.{IsInOrder};
 ghost use Rattle.aig_base.specs.FirstFault.{IsFirstFault};
-ghost use Rattle.aig_parts.specs.Formed.{CountsFit, IsFormed};
+ghost use Rattle.aig_parts.specs.Formed.{CountsFit, IsFormed, limit};
 ghost use Rattle.aig_base.specs.state.Least.{ReadsSmaller};
+ghost use Rattle.aig_base.specs.state.Ready.{SectionsInOrder};
 ghost use Rattle.aig_base.specs.Renumbered.{evens_from};
 
 use crate::check::{reads_smaller, sections_are_in_range};
 use crate::least::least_bad_reset;
 use crate::ready::{inputs_in_order, is_even_of, latches_in_order};
-use aig_parts::{Fault, Gate, Raw};
+use aig_parts::{Fault, Gate, Latch, Lit, Raw};
 
 // Whether the left sides are the even literals from this variable on, and each gate reads smaller variables alone.
 fn gates_ascend(gates: &[Gate], first: usize) -> bool
     requires { first + length gates.now < 2 ^ 32 }
-    ensures order { IsTrue result → map (λ g. g.lhs) gates.now ≡ evens_from first (length gates.now) }
-    ensures smaller { IsTrue result → All ReadsSmaller gates.now }
+    ensures { IsTrue result
+        ↔ (map (λ g. g.lhs) gates.now ≡ evens_from first (length gates.now)) × All ReadsSmaller gates.now }
 {
     for (place, gate) in gates.iter().enumerate() {
-        if !is_even_of(gate.lhs, first + place) || !reads_smaller(*gate) {
+        if !is_even_of(gate.lhs, first + place) {
+            return false;
+        }
+        if !reads_smaller(*gate) {
             return false;
         }
     }
     true
 }
 
+// Whether inputs, latches and left sides are in order the literals of the variables 1 to `max_var`, and each gate reads
+// smaller variables alone.
+fn sections_ascend(inputs: &[Lit], latches: &[Latch], gates: &[Gate], max_var: u32) -> bool
+    requires inputs { length inputs.now ≤ limit }
+    requires latches { length latches.now ≤ limit }
+    requires gates { length gates.now ≤ limit }
+    ensures { IsTrue result
+        ↔ SectionsInOrder inputs.now latches.now gates.now max_var × All ReadsSmaller gates.now }
+{
+    max_var as usize == inputs.len() + latches.len() + gates.len()
+        && inputs_in_order(inputs, 1)
+        && latches_in_order(latches, 1 + inputs.len())
+        && gates_ascend(gates, 1 + inputs.len() + latches.len())
+}
+
 /// Whether the definitions are in order, and each gate reads smaller variables alone. One pass, and no memory.
 pub(crate) fn is_ascending(raw: &Raw) -> bool
     requires { CountsFit raw.now }
-    ensures order { IsTrue result → IsInOrder raw.now }
-    ensures smaller { IsTrue result → All ReadsSmaller raw.now.gates }
+    ensures { IsTrue result ↔ IsInOrder raw.now × All ReadsSmaller raw.now.gates }
 {
-    let first_latch = 1 + raw.inputs.len();
-    let first_gate = first_latch + raw.latches.len();
-    if raw.max_var as usize + 1 != first_gate + raw.gates.len()
-        || !inputs_in_order(raw.inputs.as_slice(), 1)
-        || !latches_in_order(raw.latches.as_slice(), first_latch)
-    {
-        return false;
-    }
-    gates_ascend(raw.gates.as_slice(), first_gate)
+    let gates = raw.gates.as_slice();
+    sections_ascend(
+        raw.inputs.as_slice(),
+        raw.latches.as_slice(),
+        gates,
+        raw.max_var,
+    )
 }
 
 /// The test of such parts, or their first fault. Nothing but the range of what the gates do not read, and the resets,

@@ -6,11 +6,11 @@ ghost use Rattle.aig_base.specs.RenumberingTable.{renumbered_by, AreListed, IsGa
 ghost use Rattle.aig_base.specs.state.Least.{gate_variable};
 
 use crate::circuit::Circuit;
+use crate::order::sorted_gates;
 use crate::renumbering_parts::{
     copied_comment, copied_symbols, new_justice, new_latches, new_literals, renewed_gates,
 };
 use crate::renumbering_table::renumbered_variables;
-use crate::sorted::sorted_gates;
 use aig_bytes::Memory;
 use aig_parts::{Gate, Raw};
 use std::alloc::Global;

@@ -47,7 +47,7 @@ impl Levels {
             circuit,
             readers,
             &self.levels,
-            &mut self.visits,
+            &mut self.worklist.visits,
             gate.var(),
             r0.var(),
             r1.var(),
@@ -59,8 +59,7 @@ impl Levels {
             readers,
             &changed,
             &mut self.levels,
-            &mut self.visits,
-            &mut self.queue,
+            &mut self.worklist,
         );
         Ok(())
     }

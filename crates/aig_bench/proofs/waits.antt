@@ -1,6 +1,6 @@
 pub mod BitPlaces
 pub mod Chained
-pub mod Height
 pub mod Linked
 pub mod Lowest
+pub mod Once
 pub mod Waiting

@@ -3,15 +3,18 @@ use Rattle.std.proofs.Common.{◌≡◌, ◌≢◌, ◌⊎◌, inl, inr, ℕ, ze
 use Rattle.std.proofs.Common.{length, get_or, set, take, nat_eq, count_by, slice_get, Some, refl, sym, ◌∙◌}
 use Rattle.std.proofs.Common.{ap, subst, arith, swap_remove, length-set}
 use Rattle.std.proofs.lemmas.Bool.{cases_eq, cases_lt}
-use Rattle.std.proofs.lemmas.List.{get_or_default}
+use Rattle.std.proofs.lemmas.List.{length_push}
 use Rattle.std.proofs.lemmas.Option.{slice_get_within, slice_get-get_or, none-some, same_Some}
 use Rattle.smallvec.specs.SmallVec.{SmallVec}
 use Rattle.aig_base.specs.declared.list_places.Places.{Places}
-use Rattle.aig_base.specs.state.ListPlaces.{short, StandsAt, capacity_at, HasPlace, HasPlaces, AreKept, AreTidy, Extends}
+use Rattle.aig_parts.specs.Formed.{limit}
+use Rattle.aig_base.specs.state.FanOuts.{AreFanOuts, AreTidy}
+use Rattle.aig_base.specs.state.ListPlaces.{short, StandsAt, capacity_at, HasPlace, HasPlaces, AreKept, Extends}
 use Rattle.aig_base.specs.state.ListPlaces.{Renews, Writes, Stays, Shifts, Follows, StandsNew}
-use Rattle.aig_base.specs.state.ReaderSlots.{items_at, tally, Keeps, Loses}
+use Rattle.aig_base.specs.state.ReaderSlots.{items_at, tally, Fits, Keeps, Loses}
 use Rattle.aig_base.proofs.lists.Gets.{slice_get-set_same, slice_get-set_other}
-use Rattle.aig_base.proofs.fan_outs.ReaderLists.{Contains-of_count, count-of_get, count-cons, empty, here_is, kept_items, one_same, other_is}
+use Rattle.aig_base.proofs.fan_outs.ReaderLists.{Contains-of_count, count-of_get, count-cons, empty, here_is, kept_items, list_here}
+use Rattle.aig_base.proofs.fan_outs.ReaderLists.{one_same, other_is}
 
 get_taken : (xs : List ℕ) (n i x : ℕ) → slice_get (take n xs) i ≡ Some x → slice_get xs i ≡ Some x
 get_taken [] zero i x h = h
@@ -147,11 +150,9 @@ module _ (slots : List (SmallVec ℕ)) (v : ℕ) (new : SmallVec ℕ) (within : 
     once = λ y w. (let a = fewer y w in let b = tidy.once y w in omega arith);
     few = λ x y z w a b c. tidy.few x y z w (let l = fewer x w in omega arith) (let l = fewer y w in omega arith)
         (let l = fewer z w in omega arith);
-    narrow = λ y. elim (cases_eq y v) [
-      | inl e ↦ subst (λ z. length (items_at now z) < 4294967296) (sym e)
-          (let is = ap length items_here in let l = loses.shorter in let n = tidy.narrow v in omega arith)
-      | inr ne ↦ (let is = ap length (items_other y ne) in let n = tidy.narrow y in omega arith)
-    ];
+    within = λ y w a. (let l = fewer y w in let k = tidy.within y w (omega arith) in
+        let long = length-set slots v new in omega arith);
+    size = (let long = length-set slots v new in let few = tidy.size in omega arith);
   }
 
   entry_here : (i w : ℕ) → StandsAt now v i w → slice_get new.items i ≡ Some w
@@ -252,19 +253,36 @@ module _ (slots : List (SmallVec ℕ)) (v : ℕ) (new : SmallVec ℕ) (within : 
   pub kept_taken : AreKept now after
   kept_taken = elim follows [ inl s ↦ kept_stays s | inr m ↦ kept_shifts m.0 m.1 m.2 m.3 ]
 
-pub kept_taken_at : (slots : List (SmallVec ℕ)) (v : ℕ) (new d : SmallVec ℕ) (before after : List Places) (u : ℕ)
-    → v < length slots → AreKept slots before → AreTidy slots → Loses u (get_or slots v d).items new.items
-    → new.capacity ≡ (get_or slots v d).capacity → Follows (get_or slots v d).items new.items before after
-    → AreKept (set slots v new) after × AreTidy (set slots v new)
-kept_taken_at slots v new d before after u within kept tidy loses same follows =
-    let is : get_or slots v d ≡ get_or slots v empty = get_or_default slots v d empty within in
+pub taken_out : (slots : List (SmallVec ℕ)) (v : ℕ) (new d : SmallVec ℕ) (before after : List Places) (u : ℕ)
+    → v < length slots → d ≡ get_or slots v d → AreFanOuts slots before → Loses u d.items new.items
+    → new.capacity ≡ d.capacity → Follows d.items new.items before after → AreFanOuts (set slots v new) after
+taken_out slots v new d before after u within read are loses same follows =
+    let is : d ≡ get_or slots v empty = list_here slots v new within d read in
     let l = subst (λ (s : SmallVec ℕ). Loses u s.items new.items) is loses in
     let c = subst (λ (s : SmallVec ℕ). new.capacity ≡ s.capacity) is same in
-    let f = subst (λ (s : SmallVec ℕ). Follows s.items new.items before after) is follows in (
-      kept_taken slots v new within before after kept tidy u l c f,
-      tidy_taken slots v new within before after kept tidy
-          u l c f,
-    )
+    let f = subst (λ (s : SmallVec ℕ). Follows s.items new.items before after) is follows in
+    record {
+      tidy = tidy_taken slots v new within before after are.kept are.tidy u l c f;
+      kept = kept_taken slots v new within before after are.kept are.tidy u l c f;
+    }
+
+-- of each entry after the first ones of a list the place is kept
+pub kept_here : (slots : List (SmallVec ℕ)) (places : List Places) (v : ℕ) (d : SmallVec ℕ) → v < length slots
+    → d ≡ get_or slots v d → AreKept slots places → (i w : ℕ) → short ≤ i → slice_get d.items i ≡ Some w
+    → HasPlace places w i
+kept_here slots places v d within read kept i w le at =
+    kept.one v i w le
+    (subst (λ (s : SmallVec ℕ). slice_get s.items i ≡ Some w) (list_here slots v d within d read) at)
+
+pub follows_size : (old new : List ℕ) (before after : List Places) → Follows old new before after
+    → length after ≡ length before
+follows_size old new before after f = elim f [ inl s ↦ ap length s.places | inr m ↦ m.3.renews.size ]
+
+-- a gate that comes to the end of a list in which places are kept has a place
+pub place_covered : (slots : List (SmallVec ℕ)) (places : List Places) (v i u : ℕ) → AreKept slots places
+    → Fits slots v → i ≡ length (items_at slots v) → u < length slots → short ≤ i → u < length places
+place_covered slots places v i u kept fits is within long =
+    let all = kept.covered v (omega arith) in omega arith
 
 -- after a gate that stood nowhere came to the ends of two lists
 pub kept_added : (v x u : ℕ) (p : Places) (old new : List (SmallVec ℕ)) (before after : List Places)
@@ -339,15 +357,14 @@ kept_more slots before after e kept = record {
 
 -- where a list got room, and there are places if it may be long
 pub kept_roomy : (slots : List (SmallVec ℕ)) (v : ℕ) (new d : SmallVec ℕ) (before after : List Places)
-    → v < length slots → Keeps slots (set slots v new) → Extends before after
-    → new.capacity ≤ max (get_or slots v d).capacity (2 * length (get_or slots v d).items)
-    → (short < 2 * length (get_or slots v d).items → length slots ≤ length after)
+    → v < length slots → d ≡ get_or slots v d → Keeps slots (set slots v new) → Extends before after
+    → new.capacity ≤ max d.capacity (2 * length d.items) → (short < 2 * length d.items → length slots ≤ length after)
     → AreKept slots before → AreKept (set slots v new) after
-kept_roomy slots v new d before after within k e doubled covers kept =
+kept_roomy slots v new d before after within read k e doubled covers kept =
     kept_extended slots (set slots v new) before after k e covered kept
   where
-    is : get_or slots v d ≡ get_or slots v empty
-    is = get_or_default slots v d empty within
+    is : d ≡ get_or slots v empty
+    is = list_here slots v new within d read
 
     covered : (y : ℕ) → short < capacity_at (set slots v new) y → length (set slots v new) ≤ length after
     covered y lt =
@@ -358,7 +375,7 @@ kept_roomy slots v new d before after within k e doubled covers kept =
               (let cap : capacity_at (set slots v new) y ≡ new.capacity =
               ap (λ z. capacity_at (set slots v new) z) f
               ∙ ap (λ (s : SmallVec ℕ). s.capacity) (here_is slots v new within) in
-              let was : (get_or slots v d).capacity ≡ capacity_at slots v = ap (λ (s : SmallVec ℕ). s.capacity) is in
+              let was : d.capacity ≡ capacity_at slots v = ap (λ (s : SmallVec ℕ). s.capacity) is in
               elim (cases_lt short (capacity_at slots v)) [
                 | inl long ↦ (let c = kept.covered v long in omega arith)
                 | inr le ↦ (let c = covers (omega arith) in omega arith)
@@ -384,12 +401,34 @@ capacity_pushed [] s n (suc y) le h = h
 capacity_pushed (t ∷ ts) s n zero le h = h
 capacity_pushed (t ∷ ts) s n (suc y) le h = capacity_pushed ts s n y le h
 
-pub tidy_same : (old new : List (SmallVec ℕ)) → ((y : ℕ) → items_at new y ≡ items_at old y) → AreTidy old → AreTidy new
-tidy_same old new same t = record {
+-- an empty list with little room, where the table is long enough
+pub kept_pushed : (slots : List (SmallVec ℕ)) (s : SmallVec ℕ) (places : List Places) → s.items ≡ []
+    → s.capacity ≤ short → ((v : ℕ) → short < capacity_at slots v → length slots + 1 ≤ length places)
+    → AreKept slots places → AreKept (slots ++ s ∷ []) places
+kept_pushed slots s places empty_yet small covers kept = record {
+  one = λ v i w le h. kept.one v i w le (was v i w h);
+  two = λ v x i j w ne li lj h g. kept.two v x i j w ne li lj (was v i w h) (was x j w g);
+  covered = λ v lt. (let c = covers v (capacity_pushed slots s short v small lt) in
+      let long = length_push slots s in omega arith);
+}
+  where
+    was : (v i w : ℕ) → StandsAt (slots ++ s ∷ []) v i w → StandsAt slots v i w
+    was v i w h = subst (λ (xs : List ℕ). slice_get xs i ≡ Some w) (items_pushed slots s empty_yet v) h
+
+-- a list with room is there
+pub capacity_within : (slots : List (SmallVec ℕ)) (n v : ℕ) → n < capacity_at slots v → v < length slots
+capacity_within [] n v h = absurd (omega arith)
+capacity_within (s ∷ ss) n zero h = omega arith
+capacity_within (s ∷ ss) n (suc v) h = let lt = capacity_within ss n v h in omega arith
+
+pub tidy_same : (old new : List (SmallVec ℕ)) → ((y : ℕ) → items_at new y ≡ items_at old y)
+    → length old ≤ length new → length new ≤ limit + 1 → AreTidy old → AreTidy new
+tidy_same old new same longer small t = record {
   once = λ v w. subst (λ n. n ≤ 1) (sym (tally_same v w)) (t.once v w);
   few = λ v x y w a b c. t.few v x y w (subst (λ n. 1 ≤ n) (tally_same v w) a) (subst (λ n. 1 ≤ n) (tally_same x w) b)
       (subst (λ n. 1 ≤ n) (tally_same y w) c);
-  narrow = λ v. subst (λ (xs : List ℕ). length xs < 4294967296) (sym (same v)) (t.narrow v);
+  within = λ v w a. (let k = t.within v w (subst (λ n. 1 ≤ n) (tally_same v w) a) in omega arith);
+  size = small;
 }
   where
     tally_same : (v w : ℕ) → tally new v w ≡ tally old v w

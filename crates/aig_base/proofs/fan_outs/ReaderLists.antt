@@ -121,12 +121,11 @@ module _ (slots : List (SmallVec ℕ)) (v : ℕ) (new : SmallVec ℕ) (within : 
     | inr ne ↦ fits_other x ne h
   ]
 
-  taken : (u : ℕ) (old : SmallVec ℕ) → get_or slots v empty ≡ old → Loses u old.items new.items → new.capacity
-      ≡ old.capacity
-      → TakesOut v u slots (set slots v new)
-  taken u old is loses same = record {
+  taken : (u : ℕ) (old : SmallVec ℕ) → get_or slots v empty ≡ old → tally slots v u ≤ 1
+      → Loses u old.items new.items → new.capacity ≡ old.capacity → TakesOut v u slots (set slots v new)
+  taken u old is once loses same = record {
     size = length-set slots v new;
-    here = tally_here u ∙ loses.here ∙ ap (λ s. count_in u s - 1) (sym is);
+    here = tally_here u ∙ loses.here ∙ ap (λ s. count_in u s - 1) (sym is) ∙ omega arith;
     others = λ x w h. elim (cases_eq x v) [
       | inl e ↦
           ap (λ y. tally (set slots v new) y w) e ∙ tally_here w
@@ -137,10 +136,12 @@ module _ (slots : List (SmallVec ℕ)) (v : ℕ) (new : SmallVec ℕ) (within : 
     room = fits_here old is loses.shorter (omega arith);
   }
 
-  pub takes_out : (u : ℕ) (d : SmallVec ℕ) → Loses u (get_or slots v d).items new.items → new.capacity
-      ≡ (get_or slots v d).capacity
-      → TakesOut v u slots (set slots v new)
-  takes_out u d loses same = taken u (get_or slots v d) (get_or_default slots v empty d within) loses same
+  pub list_here : (d : SmallVec ℕ) → d ≡ get_or slots v d → d ≡ get_or slots v empty
+  list_here d read = read ∙ sym (get_or_default slots v empty d within)
+
+  pub takes_out : (u : ℕ) (d : SmallVec ℕ) → d ≡ get_or slots v d → tally slots v u ≤ 1
+      → Loses u d.items new.items → new.capacity ≡ d.capacity → TakesOut v u slots (set slots v new)
+  takes_out u d read once loses same = taken u d (sym (list_here d read)) once loses same
 
   keeps_old : (old : SmallVec ℕ) → get_or slots v empty ≡ old → new.items ≡ old.items → old.capacity ≤ new.capacity
       → Keeps slots (set slots v new)
@@ -149,9 +150,9 @@ module _ (slots : List (SmallVec ℕ)) (v : ℕ) (new : SmallVec ℕ) (within : 
     room = fits_here old is (let e = ap length items in omega arith) more;
   }
 
-  pub keeps : (d : SmallVec ℕ) → new.items ≡ (get_or slots v d).items → (get_or slots v d).capacity ≤ new.capacity
+  pub keeps : (d : SmallVec ℕ) → d ≡ get_or slots v d → new.items ≡ d.items → d.capacity ≤ new.capacity
       → Keeps slots (set slots v new)
-  keeps d items more = keeps_old (get_or slots v d) (get_or_default slots v empty d within) items more
+  keeps d read items more = keeps_old d (sym (list_here d read)) items more
 
 pub list_is : (slots : List (SmallVec ℕ)) (v : ℕ) → list_of (reader_lists slots) v ≡ items_at slots v
 list_is [] v = refl
@@ -246,9 +247,6 @@ adds_once v x u old new e a = record {
   others = λ y w apart. a.others y w (inr apart);
 }
 
-pub moved_size : {a b c d u : ℕ} {old new : List (SmallVec ℕ)} → Moves a b c d u old new → length new ≡ length old
-moved_size m = m.both.size ∙ m.out1.size ∙ m.out0.size
-
 -- a gate stands in the lists of its sides alone
 pub unread : (raw : Raw) → IsSound raw → (q : ℕ) (g : Gate) → slice_get raw.gates q ≡ Some g
     → (old : List (SmallVec ℕ)) → AreTallied (raw.max_var + 1) (Reads raw) old
@@ -266,24 +264,14 @@ unread raw sound q g at old t v n0 n1 = elim (cases_eq (tally old v (variable g.
 
 -- a gate that was taken out of the two lists where it stood stands nowhere
 pub gone_after : (slots mid new : List (SmallVec ℕ)) (a b u : ℕ) → TakesOut a u slots mid → TakesOut b u mid new
-    → ((v w : ℕ) → tally slots v w ≤ 1) → ((v : ℕ) → v ≢ a → v ≢ b → tally slots v u ≡ 0)
-    → (v : ℕ) → tally new v u ≡ 0
-gone_after slots mid new a b u out0 out1 once elsewhere v = elim (cases_eq v a) [
-  | inl e ↦
-      (let o = once a u in
-      let first : tally mid v u ≡ 0 = ap (λ x. tally mid x u) e ∙ out0.here ∙ omega arith in
-      elim (cases_eq v b) [
-        | inl f ↦ ap (λ x. tally new x u) f ∙ out1.here ∙ ap (λ x. tally mid x u - 1) (sym f) ∙ ap (λ n. n - 1) first
-        | inr ne ↦ out1.others v u (inl ne) ∙ first
-      ])
-  | inr n0 ↦
-      (let same : tally mid v u ≡ tally slots v u = out0.others v u (inl n0) in
-      elim (cases_eq v b) [
-        | inl f ↦
-            (let o = once v u in
-            ap (λ x. tally new x u) f ∙ out1.here ∙ ap (λ x. tally mid x u - 1) (sym f) ∙ ap (λ n. n - 1) same
-            ∙ omega arith)
-        | inr n1 ↦ out1.others v u (inl n1) ∙ same ∙ elsewhere v n0 n1
+    → ((v : ℕ) → v ≢ a → v ≢ b → tally slots v u ≡ 0) → (v : ℕ) → tally new v u ≡ 0
+gone_after slots mid new a b u out0 out1 elsewhere v = elim (cases_eq v b) [
+  | inl f ↦ ap (λ x. tally new x u) f ∙ out1.here
+  | inr n1 ↦
+      out1.others v u (inl n1)
+      ∙ (elim (cases_eq v a) [
+        | inl e ↦ ap (λ x. tally mid x u) e ∙ out0.here
+        | inr n0 ↦ out0.others v u (inl n0) ∙ elsewhere v n0 n1
       ])
 ]
 
@@ -299,7 +287,7 @@ module _ (raw : Raw) (sound : IsSound raw) (lhs r0 r1 : ℕ) (is_gate : IsLeftSi
   between v w ne = m.out1.others v w (inr ne) ∙ m.out0.others v w (inr ne)
 
   gone : (v : ℕ) → tally m.second v u ≡ 0
-  gone = gone_after old m.first m.second (variable g.rhs0) (variable g.rhs1) u m.out0 m.out1 t.once
+  gone = gone_after old m.first m.second (variable g.rhs0) (variable g.rhs1) u m.out0 m.out1
       (unread raw sound q g at old t)
 
   tally_kept : (v w : ℕ) → w ≢ u → tally new v w ≡ tally old v w
@@ -527,18 +515,32 @@ pub gate_at : (raw : Raw) (gates : List Gate) (i : ℕ) (g : Gate) → gates ≡
 gate_at raw gates i g same lt at = subst (λ gs. slice_get gs i ≡ Some g) same (slice_get_read gates
     (length gates) i g refl lt at)
 
-pub room_kept : (old now new : List (SmallVec ℕ)) (r : ReaderLists) → reader_lists old ≡ r → now ≡ old → Keeps now new
+pub room_kept : (old new : List (SmallVec ℕ)) (r : ReaderLists) → reader_lists old ≡ r → Keeps old new
     → (v : ℕ) → HasRoom r v → HasRoom (reader_lists new) v
-room_kept old now new r is same k v h =
-    room_of_fits new v (k.room v (fits_of_room now v
-    (subst (λ xs. HasRoom (reader_lists xs) v) (sym same) (subst (λ x. HasRoom x v) (sym is) h))))
+room_kept old new r is k v h =
+    room_of_fits new v (k.room v (fits_of_room old v (subst (λ x. HasRoom x v) (sym is) h)))
 
-pub fits_now : (old now : List (SmallVec ℕ)) (r : ReaderLists) → reader_lists old ≡ r → now ≡ old
-    → (v : ℕ) → HasRoom r v → Fits now v
-fits_now old now r is same v h =
-    fits_of_room now v (subst (λ xs. HasRoom (reader_lists xs) v) (sym same) (subst (λ x. HasRoom x v) (sym is) h))
+pub fits_now : (slots : List (SmallVec ℕ)) (r : ReaderLists) → reader_lists slots ≡ r → (v : ℕ) → HasRoom r v
+    → Fits slots v
+fits_now slots r is v h = fits_of_room slots v (subst (λ x. HasRoom x v) (sym is) h)
+
+pub slots_long : (slots : List (SmallVec ℕ)) (r : ReaderLists) → reader_lists slots ≡ r
+    → length slots ≡ length r.lists
+slots_long slots r is = sym (length-map slots (λ s. s.items)) ∙ ap (λ (x : ReaderLists). length x.lists) is
 
 pub slots_size : (raw : Raw) (slots : List (SmallVec ℕ)) (r : ReaderLists) → reader_lists slots ≡ r → AreReaders raw r
     → length slots ≡ raw.max_var + 1
-slots_size raw slots r is readers =
-    sym (length-map slots (λ s. s.items)) ∙ ap (λ (x : ReaderLists). length x.lists) is ∙ readers.size
+slots_size raw slots r is readers = slots_long slots r is ∙ readers.size
+
+-- an empty list after the last
+pub push_same : (slots : List (SmallVec ℕ)) (s : SmallVec ℕ) → s.items ≡ [] → (v w : ℕ) → tally (slots ++ s ∷ []) v w
+    ≡ tally slots v w
+push_same [] s e zero w = ap (λ xs. count_by (nat_eq w) xs) e
+push_same [] s e (suc v) w = refl
+push_same (t ∷ ts) s e zero w = refl
+push_same (t ∷ ts) s e (suc v) w = push_same ts s e v w
+
+pub fits_pushed : (slots : List (SmallVec ℕ)) (s : SmallVec ℕ) (v : ℕ) → Fits slots v → Fits (slots ++ s ∷ []) v
+fits_pushed [] s v h = absurd (omega arith)
+fits_pushed (t ∷ ts) s zero h = h
+fits_pushed (t ∷ ts) s (suc v) h = fits_pushed ts s v h

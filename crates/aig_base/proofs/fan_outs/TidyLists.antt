@@ -1,21 +1,21 @@
--- The lists of a circuit's readers are tidy.
-use Rattle.std.proofs.Common.{◌≡◌, ◌⊎◌, inl, inr, ℕ, ◌+◌, ◌<◌, ◌≤◌, List, length, Contains, slice_get, Some, sym}
-use Rattle.std.proofs.Common.{◌∙◌, subst, arith}
+-- Lists that are tidy, and the places of their gates.
+use Rattle.std.proofs.Common.{◌≡◌, ◌≢◌, ◌⊎◌, inl, inr, ℕ, ◌+◌, ◌<◌, ◌≤◌, min, List, [], ◌∷◌, ◌++◌, length, Contains}
+use Rattle.std.proofs.Common.{get_or, sym, ◌∙◌, refl, subst, arith}
 use Rattle.std.specs.List.{range_with_len}
-use Rattle.std.proofs.lemmas.Bool.{cases_eq}
+use Rattle.std.proofs.lemmas.Bool.{cases_eq, eq-eqb, ne_eqb}
+use Rattle.std.proofs.lemmas.List.{length_push}
 use Rattle.std.proofs.lemmas.List.FromFn.{length-range_with_len, get_or-range_with_len}
 use Rattle.smallvec.specs.SmallVec.{SmallVec}
-use Rattle.aig_parts.specs.declared.gate.Gate.{Gate}
-use Rattle.aig_parts.specs.declared.raw.Raw.{Raw}
-use Rattle.aig_base.specs.state.ListPlaces.{AreTidy}
-use Rattle.aig_parts.specs.Literal.{variable}
-use Rattle.aig_base.specs.Readers.{Reads}
-use Rattle.aig_base.specs.state.ReaderSlots.{AreTallied, items_at, tally}
-use Rattle.aig_base.specs.Sound.{IsSound, StandsTwice}
+use Rattle.aig_parts.specs.Formed.{limit}
+use Rattle.aig_base.specs.declared.list_places.Places.{Places}
+use Rattle.aig_base.specs.Sound.{StandsTwice}
+use Rattle.aig_base.specs.state.FanOuts.{AreFanOuts, AreTidy, fitting_lists}
+use Rattle.aig_base.specs.state.ListPlaces.{AreKept, StandsNew, Writes, capacity_at, short}
+use Rattle.aig_base.specs.state.ReaderSlots.{AddsBoth, Keeps, items_at, tally}
 use Rattle.aig_base.proofs.lists.Counting.{length_le}
-use Rattle.aig_base.proofs.circuits.Gates.{IsGate-of_gate, gate_in_range, same_gate}
-use Rattle.aig_base.proofs.fan_outs.ListPlaceLemmas.{same_place}
-use Rattle.aig_base.proofs.fan_outs.ReaderLists.{count-of_Contains}
+use Rattle.aig_base.proofs.fan_outs.ListPlaceLemmas.{capacity_within, items_pushed, kept_added, kept_pushed}
+use Rattle.aig_base.proofs.fan_outs.ListPlaceLemmas.{same_place, tidy_same}
+use Rattle.aig_base.proofs.fan_outs.ReaderLists.{count-of_Contains, kept_items, kept_size, list_here}
 
 two_sides : (a b v x y : ℕ) → (a ≡ v) ⊎ (b ≡ v) → (a ≡ x) ⊎ (b ≡ x) → (a ≡ y) ⊎ (b ≡ y)
     → (v ≡ x) ⊎ (v ≡ y) ⊎ (x ≡ y)
@@ -30,60 +30,145 @@ two_sides a b v x y h k l = elim h [
   ]
 ]
 
-module _ (raw : Raw) (sound : IsSound raw) (limit : raw.max_var ≤ 4194303) (P : ℕ → ℕ → Type 0)
-    (slots : List (SmallVec ℕ)) (t : AreTallied (raw.max_var + 1) P slots)
-    (reads : (w v : ℕ) → P w v → Reads raw w v) where
-  sides_of : (q r : ℕ) (g h : Gate) (w v : ℕ) → slice_get raw.gates q ≡ Some g → slice_get raw.gates r ≡ Some h
-      → variable g.lhs ≡ w → variable h.lhs ≡ w → (variable h.rhs0 ≡ v) ⊎ (variable h.rhs1 ≡ v)
-      → (variable g.rhs0 ≡ v) ⊎ (variable g.rhs1 ≡ v)
-  sides_of q r g h w v at here is same side =
-      let one : h ≡ g = same_gate raw sound r q h g here at (same ∙ sym is) in
-      subst (λ (x : Gate). (variable x.rhs0 ≡ v) ⊎ (variable x.rhs1 ≡ v)) one side
+-- no list has more entries than there are variables
+pub narrow_tidy : (slots : List (SmallVec ℕ)) → AreTidy slots → (v : ℕ) → length (items_at slots v) < 4294967296
+narrow_tidy slots t v =
+    let n = length slots in
+    let le = length_le (items_at slots v) (range_with_len 0 n) never inside in
+    let few = t.size in
+    omega (arith, length-range_with_len 0 n)
+  where
+    never : (w : ℕ) → StandsTwice (items_at slots v) w → ⊥
+    never w (i, j, lt, at, here) =
+        let e = same_place w i j (items_at slots v) (t.once v w) at here in
+        omega arith
 
-  few_lists : (v x y w : ℕ) → 1 ≤ tally slots v w → 1 ≤ tally slots x w → 1 ≤ tally slots y w
-      → (v ≡ x) ⊎ (v ≡ y) ⊎ (x ≡ y)
-  few_lists v x y w a b c =
-      let (q, g, at, is, side) = reads w v (t.only v w a) in
-      let (r, h, here, same, other) = reads w x (t.only x w b) in
-      let (s, k, there, equal, third) = reads w y (t.only y w c) in
-      two_sides (variable g.rhs0) (variable g.rhs1) v x y side
-      (sides_of q r g h w x at here is same other) (sides_of q s g k w y at there is equal third)
+    inside : (w : ℕ) → Contains (items_at slots v) w → Contains (range_with_len 0 (length slots)) w
+    inside w h =
+        let lt = t.within v w (count-of_Contains w (items_at slots v) h) in (
+          w,
+          omega (arith, length-range_with_len 0 (length slots)),
+          get_or-range_with_len 0 (length slots) w w lt ∙ omega arith,
+        )
 
-  narrow_list : (v : ℕ) → length (items_at slots v) ≤ raw.max_var + 1
-  narrow_list v =
-      let n = raw.max_var + 1 in
-      let le = length_le (items_at slots v) (range_with_len 0 n) never inside in
-      omega (arith, length-range_with_len 0 n)
-    where
-      never : (w : ℕ) → StandsTwice (items_at slots v) w → ⊥
-      never w (i, j, lt, at, here) =
-          let e = same_place w i j (items_at slots v) (t.once v w) at here in
-          omega arith
+pub narrow_here : (slots : List (SmallVec ℕ)) (v : ℕ) (d : SmallVec ℕ) → v < length slots → d ≡ get_or slots v d
+    → AreTidy slots → length d.items < 4294967296
+narrow_here slots v d within read t =
+    subst (λ (s : SmallVec ℕ). length s.items < 4294967296) (sym (list_here slots v d within d read))
+    (narrow_tidy slots t v)
 
-      inside : (w : ℕ) → Contains (items_at slots v) w → Contains (range_with_len 0 (raw.max_var + 1)) w
-      inside w h =
-          let (q, g, at, is, side) = reads w v (t.only v w (count-of_Contains w (items_at slots v) h)) in
-          let le = gate_in_range raw sound (variable g.lhs) (IsGate-of_gate raw q g at) in
-          let lt : w < raw.max_var + 1 = omega arith in (
-            w,
-            omega (arith, length-range_with_len 0 (raw.max_var + 1)),
-            get_or-range_with_len 0 (raw.max_var + 1) w w lt ∙ omega arith,
-          )
+pub tidy_none : (slots : List (SmallVec ℕ)) → ((v w : ℕ) → tally slots v w ≡ 0) → length slots ≤ limit + 1
+    → AreTidy slots
+tidy_none slots none_yet small = record {
+  once = λ v w. (let z = none_yet v w in omega arith);
+  few = λ v x y w a b c. absurd (let z = none_yet v w in omega arith);
+  within = λ v w a. absurd (let z = none_yet v w in omega arith);
+  size = small;
+}
 
-  pub tidy_tallied : AreTidy slots
-  tidy_tallied = record {
-    once = t.once;
-    few = few_lists;
-    narrow = λ v. (let le = narrow_list v in omega arith);
+-- a gate over all variables is in no list
+pub absent_over : (slots : List (SmallVec ℕ)) → AreTidy slots → (u : ℕ) → length slots ≤ u → (v : ℕ)
+    → tally slots v u ≡ 0
+absent_over slots t u over v = elim (cases_eq (tally slots v u) 0) [
+  | inl e ↦ e
+  | inr ne ↦ absurd (let lt = t.within v u (omega arith) in omega arith)
+]
+
+-- after a gate that was in no list came to two of them
+module _ (a b u : ℕ) (old new : List (SmallVec ℕ)) (adds : AddsBoth a b u old new) (gate : u < length old)
+    (absent : (v : ℕ) → tally old v u ≡ 0) (tidy : AreTidy old) where
+  where_new : (v : ℕ) → 1 ≤ tally new v u → (a ≡ v) ⊎ (b ≡ v)
+  where_new v h = elim (cases_eq v a) [
+    | inl e ↦ inl (sym e)
+    | inr n0 ↦ elim (cases_eq v b) [
+      | inl e ↦ inr (sym e)
+      | inr n1 ↦ absurd (let same = adds.away v n0 n1 in let z = absent v in omega arith)
+    ]
+  ]
+
+  once_new : (v : ℕ) → tally new v u ≤ 1
+  once_new v = elim (cases_eq v a) [
+    | inl e ↦ (let is = adds.here v (inl e) in let z = absent v in omega arith)
+    | inr n0 ↦ elim (cases_eq v b) [
+      | inl e ↦ (let is = adds.here v (inr e) in let z = absent v in omega arith)
+      | inr n1 ↦ (let same = adds.away v n0 n1 in let z = absent v in omega arith)
+    ]
+  ]
+
+  as_new : (v w : ℕ) → w ≡ u → 1 ≤ tally new v w → 1 ≤ tally new v u
+  as_new v w e h = subst (λ z. 1 ≤ tally new v z) e h
+
+  was : (v w : ℕ) → w ≢ u → 1 ≤ tally new v w → 1 ≤ tally old v w
+  was v w ne h = let same = adds.others v w ne in omega arith
+
+  pub tidy_added : AreTidy new
+  tidy_added = record {
+    once = λ v w. elim (cases_eq w u) [
+      | inl e ↦ subst (λ z. tally new v z ≤ 1) (sym e) (once_new v)
+      | inr ne ↦ (let same = adds.others v w ne in let o = tidy.once v w in omega arith)
+    ];
+    few = λ v x y w h k l. elim (cases_eq w u) [
+      | inl e ↦ two_sides a b v x y (where_new v (as_new v w e h)) (where_new x (as_new x w e k))
+          (where_new y (as_new y w e l))
+      | inr ne ↦ tidy.few v x y w (was v w ne h) (was x w ne k) (was y w ne l)
+    ];
+    within = λ v w h. elim (cases_eq w u) [
+      | inl e ↦ (let size = adds.size in omega arith)
+      | inr ne ↦ (let lt = tidy.within v w (was v w ne h) in let size = adds.size in omega arith)
+    ];
+    size = (let size = adds.size in let few = tidy.size in omega arith);
   }
 
--- a variable over M stands in no list
-pub absent_over : (raw : Raw) → IsSound raw → (slots : List (SmallVec ℕ)) → AreTallied (raw.max_var + 1) (Reads raw) slots
-    → (w : ℕ) → raw.max_var < w → (v : ℕ) → tally slots v w ≡ 0
-absent_over raw sound slots t w over v = elim (cases_eq (tally slots v w) 0) [
-  | inl e ↦ e
-  | inr ne ↦
-      (let (q, g, at, is, side) = t.only v w (omega arith) in
-      let le = gate_in_range raw sound (variable g.lhs) (IsGate-of_gate raw q g at) in
-      absurd (omega arith))
+pub added : (a b u : ℕ) (p : Places) (old new : List (SmallVec ℕ)) (before after : List Places)
+    → AddsBoth a b u old new → StandsNew a b u p old new → Writes u p before after → u < length old
+    → ((v : ℕ) → tally old v u ≡ 0) → AreFanOuts old before → AreFanOuts new after
+added a b u p old new before after adds stands writes gate absent are = record {
+  tidy = tidy_added a b u old new adds gate absent are.tidy;
+  kept = kept_added a b u p old new before after stands writes absent adds.size are.kept;
+}
+
+fitting_none : (capacity places : ℕ) → places ≡ 0 → fitting_lists capacity places ≡ capacity
+fitting_none capacity places e = rw (eq-eqb places 0 e) refl
+
+fitting_some : (capacity places : ℕ) → places ≢ 0 → fitting_lists capacity places ≡ min capacity places
+fitting_some capacity places ne = rw (ne_eqb places 0 ne) refl
+
+-- where one more list fits, it fits into the lists and into a table that there is
+pub fitting_capacity : (capacity places n : ℕ) → n < fitting_lists capacity places → n < capacity
+fitting_capacity capacity places n h = elim (cases_eq places 0) [
+  | inl e ↦ (let is = fitting_none capacity places e in omega arith)
+  | inr ne ↦ (let is = fitting_some capacity places ne in omega arith)
 ]
+
+pub fitting_places : (capacity places n : ℕ) → n < fitting_lists capacity places → places ≢ 0 → n < places
+fitting_places capacity places n h ne = let is = fitting_some capacity places ne in omega arith
+
+pub fits_one_more : (capacity places n : ℕ) → n < capacity → (0 < places → n + 1 ≤ places)
+    → n < fitting_lists capacity places
+fits_one_more capacity places n lt covers = elim (cases_eq places 0) [
+  | inl e ↦ (let is = fitting_none capacity places e in omega arith)
+  | inr ne ↦ (let is = fitting_some capacity places ne in let c = covers (omega arith) in omega arith)
+]
+
+pub pushed : (slots : List (SmallVec ℕ)) (s : SmallVec ℕ) (places : List Places) (capacity : ℕ) → s.items ≡ []
+    → s.capacity ≤ short → length slots < fitting_lists capacity (length places) → length slots ≤ limit
+    → AreFanOuts slots places → AreFanOuts (slots ++ s ∷ []) places
+pushed slots s places capacity empty_yet small fits few are = record {
+  tidy = (let long = length_push slots s in
+      tidy_same slots (slots ++ s ∷ []) (items_pushed slots s empty_yet) (omega arith) (omega arith) are.tidy);
+  kept = kept_pushed slots s places empty_yet small (λ v lt.
+      (let within = capacity_within slots short v lt in
+      let c = are.kept.covered v lt in
+      let more = fitting_places capacity (length places) (length slots) fits
+      (λ (e : length places ≡ 0). (let z : ⊥ = omega arith in z)) in
+      omega arith)) are.kept;
+}
+
+-- where no list changes and nothing is lost of the table
+pub roomy : (old new : List (SmallVec ℕ)) (places : List Places) → Keeps old new → AreTidy old → AreKept new places
+    → AreFanOuts new places
+roomy old new places k tidy kept = record {
+  tidy = (let size = kept_size old new k in let few = tidy.size in
+      tidy_same old new (kept_items old new k) (omega arith) (omega arith) tidy);
+  kept = kept;
+}

@@ -13,20 +13,7 @@ use Rattle.aig_base.specs.state.ReaderSlots.{Appends, AreTallied, Fits, Keeps, R
 use Rattle.aig_base.specs.Sections.{IsDefined}
 use Rattle.aig_base.proofs.growth.Appended.{gate_cases, more_sound, new_at, old_at}
 use Rattle.aig_base.proofs.circuits.Gates.{sides_in_range}
-use Rattle.aig_base.proofs.fan_outs.ReaderLists.{readers_of, tallied, tallied_all, tallied_more}
-
--- an empty list after the last
-push_same : (slots : List (SmallVec ℕ)) (s : SmallVec ℕ) → s.items ≡ [] → (v w : ℕ) → tally (slots ++ s ∷ []) v w
-    ≡ tally slots v w
-push_same [] s e zero w = ap (λ xs. count_by (nat_eq w) xs) e
-push_same [] s e (suc v) w = refl
-push_same (t ∷ ts) s e zero w = refl
-push_same (t ∷ ts) s e (suc v) w = push_same ts s e v w
-
-pub fits_pushed : (slots : List (SmallVec ℕ)) (s : SmallVec ℕ) (v : ℕ) → Fits slots v → Fits (slots ++ s ∷ []) v
-fits_pushed [] s v h = absurd (omega arith)
-fits_pushed (t ∷ ts) s zero h = h
-fits_pushed (t ∷ ts) s (suc v) h = fits_pushed ts s v h
+use Rattle.aig_base.proofs.fan_outs.ReaderLists.{push_same, readers_of, tallied, tallied_all, tallied_more}
 
 -- lists that did not change are readers still
 pub readers_kept : (raw : Raw) (old new : List (SmallVec ℕ)) → Keeps old new → AreReaders raw (reader_lists old)

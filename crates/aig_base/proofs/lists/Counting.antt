@@ -1,6 +1,6 @@
 -- How many entries lists without repetition have.
 use Rattle.std.proofs.Common.{◌≡◌, ℕ, ◌+◌, ◌-◌, ◌<◌, ◌≤◌, List, [], ◌∷◌, ◌++◌, inl, inr, suc, length, map, get_or, eqb}
-use Rattle.std.proofs.Common.{false, Some, slice_get, All, AllPairs, Contains, refl, sym, ap, ◌∙◌, arith, subst, length-append}
+use Rattle.std.proofs.Common.{false, Some, slice_get, All, Contains, refl, sym, ap, ◌∙◌, arith, subst, length-append}
 use Rattle.std.specs.List.{IsDistinct, range_with_len}
 use Rattle.std.specs.Set.{is_member}
 use Rattle.std.proofs.lemmas.Bool.{cases_Bool, cases_eq, false≢true}
@@ -15,8 +15,8 @@ use Rattle.aig_parts.specs.declared.gate.Gate.{Gate}
 use Rattle.aig_parts.specs.declared.raw.Raw.{Raw}
 use Rattle.aig_parts.specs.Literal.{variable}
 use Rattle.aig_base.specs.Grounded.{Level}
-use Rattle.aig_base.specs.Order.{ComesBefore, IsCanonicalOrder}
-use Rattle.aig_base.specs.Sections.{definitions, uses, IsDefined, IsGate}
+use Rattle.aig_base.specs.Order.{IsCanonicalOrder}
+use Rattle.aig_base.specs.Sections.{definitions, uses, IsDefined}
 use Rattle.aig_base.specs.Sound.{IsSound, IsInRange, IsDefinition, IsRedefined, StandsTwice}
 use Rattle.aig_base.proofs.lists.Gets.{slice_get_push}
 use Rattle.aig_base.proofs.lists.Joined.{All-left}
@@ -54,19 +54,15 @@ push_once xs once v free x (i, j, lt, at, here) = elim (slice_get_push xs v x j 
   ]
 ]
 
--- no variable stands twice where each comes before the next ones
-pub ordered_once : (raw : Raw) → IsSound raw → (order : List ℕ) → AllPairs (ComesBefore raw) order → (v : ℕ)
+-- no variable stands twice in a canonical order
+pub order_once : (raw : Raw) → IsSound raw → (order : List ℕ) → IsCanonicalOrder raw order → (v : ℕ)
     → StandsTwice order v → ⊥
-ordered_once raw sound order ordered v (i, j, lt, at, here) =
-    let (m, n, lu, lv, before) = ordered i j v lt (slice_get_within order j v here) in
+order_once raw sound order canonical v (i, j, lt, at, here) =
+    let (m, n, lu, lv, before) = canonical.ordered i j v lt (slice_get_within order j v here) in
     let e : get_or order i v ≡ v = get_or_from_slice_get order i v v at in
     let f : get_or order j v ≡ v = get_or_from_slice_get order j v v here in
     let same : m ≡ n = same_level sound (subst (λ u. Level raw u m) e lu) (subst (λ u. Level raw u n) f lv) in
     omega arith
-
-pub order_once : (raw : Raw) → IsSound raw → (order : List ℕ) → IsCanonicalOrder raw order → (v : ℕ)
-    → StandsTwice order v → ⊥
-order_once raw sound order canonical = ordered_once raw sound order canonical.ordered
 
 -- two gates have two variables
 pub gates_once : (raw : Raw) → IsSound raw → (v : ℕ) → StandsTwice (map (λ g. variable g.lhs) raw.gates) v → ⊥
@@ -88,23 +84,6 @@ length-order raw sound order canonical =
     let b = length_le vs order (gates_once raw sound) (λ v. (canonical.gates v).1) in
     let e = length-map raw.gates (λ g. variable g.lhs) in
     omega arith
-
--- an order of gates that has as many entries as there are has each
-pub order_full : (raw : Raw) → IsSound raw → (order : List ℕ) → AllPairs (ComesBefore raw) order
-    → ((v : ℕ) → Contains order v → IsGate raw v) → length order ≡ length raw.gates
-    → (v : ℕ) → IsGate raw v → Contains order v
-order_full raw sound order ordered inside full v g = elim (cases_Bool (is_member eqb order v)) [
-  | inl has ↦ (is_member-Decides Decides-eqb order v).0 has
-  | inr has_not ↦
-      let vs : List ℕ = map (λ g. variable g.lhs) raw.gates in
-      let free : Contains order v → ⊥ =
-      λ h. false≢true (sym has_not ∙ (is_member-Decides Decides-eqb order v).1 h) in
-      let one_more : (x : ℕ) → Contains (order ++ v ∷ []) x → Contains vs x =
-      λ x h. elim (Contains-push_cases order v x h) [ inl was ↦ inside x was | inr e ↦ subst (Contains vs) e g ] in
-      let a = length_le (order ++ v ∷ []) vs
-      (push_once order (ordered_once raw sound order ordered) v free) one_more in
-      absurd (omega (arith, length_push order v, length-map raw.gates (λ g. variable g.lhs)))
-]
 
 module _ (raw : Raw) (defs : All IsDefinition (definitions raw)) (range : All (IsInRange raw) (definitions raw)) where
   vars : List ℕ

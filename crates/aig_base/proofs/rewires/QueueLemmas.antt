@@ -1,16 +1,20 @@
 -- What a variable that is queued does to the visits and the queue.
 use Rattle.std.proofs.Common.{◌≡◌, ◌≢◌, ◌⊎◌, inl, inr, ℕ, ◌+◌, ◌≤◌, List, [], ◌∷◌, ◌++◌, false, not, cond, nat_eq}
-use Rattle.std.proofs.Common.{count_by, get_or, Contains, IsPermutation, refl, sym, ◌∙◌, ap, subst, arith}
+use Rattle.std.proofs.Common.{count_by, length, get_or, Contains, IsPermutation, refl, sym, ◌∙◌, ap, subst, arith}
 use Rattle.std.proofs.lemmas.Bool.{cases_eq, cases_Bool, eq-eqb, ne_eqb, false≢true}
 use Rattle.std.proofs.lemmas.List.Elements.{Contains-append_left, Contains-append_right, Contains-push_cases}
 use Rattle.std.proofs.lemmas.List.Sorted.{Contains-permutation, length_permutation, IsPermutation-sym, sum_by_pushed}
 use Rattle.std.proofs.lemmas.List.Sorted.{sum_by_popped}
+use Rattle.std.proofs.lemmas.List.Sums.{count_by-le-length}
 use Rattle.aig_base.specs.declared.visits.Visits.{Visits}
+use Rattle.aig_base.specs.declared.worklist.Worklist.{Worklist}
 use Rattle.aig_base.specs.state.Queue.{Queued, copies, entry}
 use Rattle.aig_base.specs.state.Rewires.{Queues, mark}
 use Rattle.aig_base.specs.state.Visits.{IsVisited, VisitsAmong}
+use Rattle.aig_base.specs.state.Worklists.{HasRoom, IsIdle}
 use Rattle.aig_base.proofs.lists.Positions.{Contains-cons}
 use Rattle.aig_base.proofs.checks.Walks.{only_element}
+use Rattle.aig_base.proofs.rewires.VisitLemmas.{visits_none}
 
 pub mark_on : (s : Visits) (v : ℕ) → IsVisited s v → mark s v ≡ 1
 mark_on s v h = rw h refl
@@ -119,4 +123,30 @@ queues_more xs levels v s s' s'' q q' q'' among a b = record {
   ];
   left = b.left ∙ a.left;
   capacity = omega (arith, a.capacity, b.capacity);
+}
+
+-- an idle worklist has room for each variable
+pub idle_room : (size : ℕ) (w : Worklist) → IsIdle size w → HasRoom size w
+idle_room size w idle = record {
+  marks = idle.visits.marks;
+  visits = visits_none size w.visits idle.visits;
+  queue = (
+      let none : length w.queue.entries ≡ 0 = ap length idle.queue.empty in
+      let most = count_by-le-length not w.visits.met.items in
+      let marks = idle.visits.marks in
+      let room = idle.queue.room in
+      omega arith);
+}
+
+-- and still after some were queued
+pub room_left : (xs levels : List ℕ) (size : ℕ) (w w' : Worklist) → HasRoom size w
+    → Queues xs levels w.visits w'.visits w.queue w'.queue → HasRoom size w'
+room_left xs levels size w w' room queues = record {
+  marks = queues.among.size ∙ room.marks;
+  visits = queues.among.visits room.visits;
+  queue = (
+      let left = queues.left in
+      let more = queues.capacity in
+      let fits = room.queue in
+      omega arith);
 }

@@ -36,17 +36,6 @@ pub record AreKept (slots : List (SmallVec ℕ)) (places : List Places) : Type 0
       → HasPlaces places w i j
   pub covered : (v : ℕ) → short < capacity_at slots v → length slots ≤ length places
 
--- the table has an entry for each of n variables, where a list has room after the first ones
-abbrev pub IsCoveredTo : ℕ → List (SmallVec ℕ) → List Places → Type 0
-IsCoveredTo n slots places = (v : ℕ) → short < capacity_at slots v → n ≤ length places
-
--- each gate stands in two lists at most and once in each, and lists are not too long for 32 bits
-pub record AreTidy (slots : List (SmallVec ℕ)) : Type 0 where
-  pub once : (v w : ℕ) → tally slots v w ≤ 1
-  pub few : (v x y w : ℕ) → 1 ≤ tally slots v w → 1 ≤ tally slots x w → 1 ≤ tally slots y w
-      → (v ≡ x) ⊎ (v ≡ y) ⊎ (x ≡ y)
-  pub narrow : (v : ℕ) → length (items_at slots v) < 2 ^ 32
-
 -- nothing is lost of the table
 pub record Extends (old new : List Places) : Type 0 where
   pub size : length old ≤ length new

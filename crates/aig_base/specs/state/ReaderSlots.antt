@@ -33,7 +33,7 @@ pub record Loses (u : ℕ) (old new : List ℕ) : Type 0 where
 -- u was taken out of the list of v
 pub record TakesOut (v u : ℕ) (old new : List (SmallVec ℕ)) : Type 0 where
   pub size : length new ≡ length old
-  pub here : tally new v u ≡ tally old v u - 1
+  pub here : tally new v u ≡ 0
   pub others : (x w : ℕ) → (x ≢ v) ⊎ (w ≢ u) → tally new x w ≡ tally old x w
   pub room : (x : ℕ) → Fits old x → Fits new x
 

@@ -8,6 +8,7 @@ use Rattle.aig_base.specs.declared.visits.Visits.{Visits}
 use Rattle.aig_base.specs.Changes.{with_gate}
 use Rattle.aig_base.specs.Grounded.{IsSource, Level}
 use Rattle.aig_parts.specs.Literal.{variable}
+use Rattle.aig_base.specs.Sections.{IsDefined, IsLeftSide}
 use Rattle.aig_base.specs.state.Queue.{Queued, copies, entry}
 use Rattle.aig_base.specs.state.Visits.{IsVisited, VisitsAmong}
 
@@ -20,6 +21,14 @@ pub data IsBehind (raw : Raw) (t : ℕ) : ℕ → Type 0 where
   self : IsBehind raw t t
   reader : (q : ℕ) (g : Gate) (u : ℕ) → slice_get raw.gates q ≡ Some g → IsSide g u → IsBehind raw t u
       → IsBehind raw t (variable g.lhs)
+
+-- a gate of the circuit may get these right sides: they are defined, and not behind the gate
+pub record IsRewire (raw : Raw) (g : Gate) : Type 0 where
+  pub gate : IsLeftSide raw g.lhs
+  pub defined0 : IsDefined raw (variable g.rhs0)
+  pub defined1 : IsDefined raw (variable g.rhs1)
+  pub apart0 : IsBehind raw (variable g.lhs) (variable g.rhs0) → ⊥
+  pub apart1 : IsBehind raw (variable g.lhs) (variable g.rhs1) → ⊥
 
 -- The search up from t for x and y, where only readers whose level is below a bound are met. What was met is behind t;
 -- the readers of a variable that was met and does not wait were looked at: none is x or y, and those below the bound

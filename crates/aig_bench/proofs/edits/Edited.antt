@@ -45,7 +45,8 @@ use Rattle.aig_bench.proofs.cells.CellLemmas.{get_set_other, row_written, row_ot
 use Rattle.aig_bench.proofs.renewals.Changed.{current_below, slice_get_take, slice_get_append}
 use Rattle.aig_bench.proofs.waits.Chained.{head_in}
 use Rattle.aig_bench.proofs.cells.Earlier.{value_before}
-use Rattle.aig_bench.proofs.waits.Height.{level_bound, never_once}
+use Rattle.aig_base.proofs.levels.LevelBound.{level_bound}
+use Rattle.aig_bench.proofs.waits.Once.{never_once}
 use Rattle.aig_bench.proofs.passes.Others.{differs_other, other_differs, consistent}
 use Rattle.aig_bench.proofs.renewals.RenewalLemmas.{cells_same, cells_none, frame_cells}
 use Rattle.aig_bench.proofs.edits.Rewired.{left_side_gate, defined_was, gate_was, gate_kept}

@@ -31,7 +31,7 @@ use Rattle.aig_bench.specs.Touched.{HasOther, Touches, Changes, AreCells}
 use Rattle.aig_bench.proofs.renewals.Changed.{readers_kept}
 use Rattle.aig_bench.proofs.edits.Edited.{lists_for, work_kept, working}
 use Rattle.aig_bench.proofs.growing.Grown.{flags_grown, grown_current, grown_old, grown_width, has_all}
-use Rattle.aig_bench.proofs.waits.Height.{level_bound}
+use Rattle.aig_base.proofs.levels.LevelBound.{level_bound}
 use Rattle.aig_bench.proofs.cells.Kept.{none_other}
 use Rattle.aig_bench.proofs.renewals.RenewalLemmas.{cells_none, cells_same, column_cells}
 

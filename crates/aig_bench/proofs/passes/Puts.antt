@@ -26,7 +26,7 @@ use Rattle.aig_base.specs.Readers.{list_of, Reads, AreReaders}
 use Rattle.aig_bench.specs.state.Sweep.{IsWork}
 use Rattle.aig_bench.proofs.cells.Flags.{source_flag}
 use Rattle.aig_bench.proofs.passes.SweepSteps.{laid_out_written, each_reader}
-use Rattle.aig_bench.proofs.waits.Height.{level_bound}
+use Rattle.aig_base.proofs.levels.LevelBound.{level_bound}
 
 module _ (driven : DrivenCircuit) (fanouts : Fanouts) (flags : List Bool) (cells : List (List Tern)) (b : Buckets) (t v : ℕ)
     (work : IsWork driven fanouts flags cells b) (lt : t < length driven.stimulus.rows) (positive : 0 < v)

@@ -1,50 +1,46 @@
-use Rattle.std.proofs.Common.{◌≡◌, ℕ, [], ◌∷◌, ◌++◌, length, List, refl, sym, ap, subst, ◌∙◌, arith}
+use Rattle.std.proofs.Common.{◌≡◌, ℕ, [], ◌∷◌, ◌++◌, length, List, sym, ap, subst, ◌∙◌, arith}
 use Rattle.aig_parts.specs.declared.gate.Gate.{Gate}
 use Rattle.aig_base.specs.Changes.{next_gate, with_appended_gate}
 use Rattle.aig_base.specs.state.Descent.{level_above}
 use Rattle.aig_base.specs.Levels.{AreLevels}
 use Rattle.aig_parts.specs.Literal.{variable}
-use Rattle.aig_base.specs.Readers.{AreReaders, Reads}
+use Rattle.aig_base.specs.Readers.{AreReaders}
 use Rattle.aig_base.proofs.growth.AppendedLevels.{level_fits, more_levels}
 use Rattle.aig_base.proofs.growth.AppendedReaders.{more_readers, readers_kept}
 use Rattle.aig_base.proofs.circuits.Gates.{defined_in_range}
-use Rattle.aig_base.proofs.fan_outs.ReaderLists.{kept_size, on_err, room_kept, slots_size, tallied}
-use Rattle.aig_base.proofs.fan_outs.TidyLists.{absent_over, tidy_tallied}
+use Rattle.aig_base.proofs.fan_outs.ReaderLists.{kept_size, on_err, room_kept, slots_size}
 use Rattle.aig_base.proofs.append.append_gate.Goals as goal
 
 pub make_room_for_list-requires-clause-within0 : goal.make_room_for_list-requires-clause-within0
 make_room_for_list-requires-clause-within0 c =
     let raw = c.args.circuit.now in
     let low = defined_in_range raw c.max_var.ensures.circuit.sound (variable c.args.r0) c.requires.defined0 in
-    let size = slots_size raw c.readers.inside.lists.items _ c.readers.view_is c.requires.readers in
+    let size = slots_size raw c.readers.inside.fan_outs.slots _ c.readers.view_is c.requires.readers in
     omega (arith, c.var.ensures)
 
 pub make_room_for_list-requires-clause-within1 : goal.make_room_for_list-requires-clause-within1
 make_room_for_list-requires-clause-within1 c =
     let raw = c.args.circuit.now in
     let low = defined_in_range raw c.max_var.ensures.circuit.sound (variable c.args.r1) c.requires.defined1 in
-    let size = slots_size raw c.readers.inside.lists.items _ c.readers.view_is c.requires.readers in
+    let size = slots_size raw c.readers.inside.fan_outs.slots _ c.readers.view_is c.requires.readers in
     omega (arith, c.var-2.ensures)
 
 pub returns-in_err-make_room_for_list-clause-room : goal.returns-in_err-make_room_for_list-clause-room
 returns-in_err-make_room_for_list-clause-room c =
     on_err c.from_residual.result _
-    (room_kept c.readers.inside.lists.items c.readers.inside.lists.items c.make_room_for_list.new.lists.items _
-    c.readers.view_is refl
+    (room_kept c.readers.inside.fan_outs.slots c.make_room_for_list.new.self.slots _ c.readers.view_is
     c.make_room_for_list.ensures.keeps)
 
 pub returns-in_err-make_room_for_level-clause-room : goal.returns-in_err-make_room_for_level-clause-room
 returns-in_err-make_room_for_level-clause-room c =
     on_err c.from_residual-in_err-make_room_for_level.result _
-    (room_kept c.readers.inside.lists.items c.readers.inside.lists.items c.make_room_for_list.new.lists.items _
-    c.readers.view_is refl
+    (room_kept c.readers.inside.fan_outs.slots c.make_room_for_list.new.self.slots _ c.readers.view_is
     c.make_room_for_list.ensures.keeps)
 
 pub returns-in_err-append_gate-clause-room : goal.returns-in_err-append_gate-clause-room
 returns-in_err-append_gate-clause-room c =
     on_err c.from_residual-in_err-append_gate.result _
-    (room_kept c.readers.inside.lists.items c.readers.inside.lists.items c.make_room_for_list.new.lists.items _
-    c.readers.view_is refl
+    (room_kept c.readers.inside.fan_outs.slots c.make_room_for_list.new.self.slots _ c.readers.view_is
     c.make_room_for_list.ensures.keeps)
 
 pub level_over-level-requires-clause-fits : goal.level_over-level-requires-clause-fits
@@ -75,37 +71,28 @@ returns-clause-readers c =
     let raw = c.args.circuit.now in
     let r0 = c.args.r0 in
     let r1 = c.args.r1 in
-    let slots = c.make_room_for_list.new.lists.items in
-    let number : c.var-5.result ≡ variable (next_gate raw r0 r1).lhs =
-    c.var-5.ensures ∙ ap (λ (g : Gate). variable g.lhs) c.next_gate-gate.ensures in
-    let were = readers_kept raw c.readers.inside.lists.items slots c.make_room_for_list.ensures.keeps
+    let slots = c.make_room_for_list.new.self.slots in
+    let were = readers_kept raw c.readers.inside.fan_outs.slots slots c.make_room_for_list.ensures.keeps
     (subst (λ r. AreReaders raw r) (sym c.readers.view_is) c.requires.readers) in
     more_readers raw r0 r1 c.max_var.ensures.circuit c.requires.defined0 c.requires.defined1 slots
-    c.append_list.new.lists.items were
-    (rw (c.var-3.ensures, c.var-4.ensures, number) at c.append_list.ensures.appends)
+    c.append_list.new.self.slots were (rw c.next_gate-gate.ensures at c.append_list.ensures)
 
-pub append_list-requires-clause-absent : goal.append_list-requires-clause-absent
-append_list-requires-clause-absent c =
-    let raw = c.args.circuit.now in
-    let slots = c.make_room_for_list.new.lists.items in
-    let number : c.var-5.result ≡ variable (next_gate raw c.args.r0 c.args.r1).lhs =
-    c.var-5.ensures ∙ ap (λ (g : Gate). variable g.lhs) c.next_gate-gate.ensures in
-    let were = readers_kept raw c.readers.inside.lists.items slots c.make_room_for_list.ensures.keeps
-    (subst (λ r. AreReaders raw r) (sym c.readers.view_is) c.requires.readers) in
-    absent_over raw c.max_var.ensures.circuit.sound slots (tallied raw slots were) c.var-5.result (omega arith)
+pub append_list-requires-clause-few : goal.append_list-requires-clause-few
+append_list-requires-clause-few c =
+    let size = slots_size c.args.circuit.now c.readers.inside.fan_outs.slots _ c.readers.view_is c.requires.readers in
+    let same = kept_size _ _ c.make_room_for_list.ensures.keeps in
+    omega (arith, c.requires.below)
 
-pub append_list-requires-clause-tidy : goal.append_list-requires-clause-tidy
-append_list-requires-clause-tidy c =
-    let raw = c.args.circuit.now in
-    let slots = c.make_room_for_list.new.lists.items in
-    let were = readers_kept raw c.readers.inside.lists.items slots c.make_room_for_list.ensures.keeps
-    (subst (λ r. AreReaders raw r) (sym c.readers.view_is) c.requires.readers) in
-    tidy_tallied raw c.max_var.ensures.circuit.sound c.max_var.ensures.circuit.formed.counts.max_var (Reads raw) slots
-    (tallied raw slots were) (λ w v p. p)
+pub append_list-requires-clause-room0 : goal.append_list-requires-clause-room0
+append_list-requires-clause-room0 c =
+    rw (c.next_gate-gate.ensures, ← c.var.ensures) c.in_ok-make_room_for_list.ensures.room.0
 
-pub append_list-requires-clause-covered : goal.append_list-requires-clause-covered
-append_list-requires-clause-covered c =
-    let old = c.readers.inside.lists.items in
-    let size = kept_size old c.make_room_for_list.new.lists.items c.make_room_for_list.ensures.keeps in
-    let covered = c.in_ok-make_room_for_list.ensures.covered c.readers.invariant in
-    λ v lt. let le = covered v lt in omega (arith, ap length c.deref_mut.ensures.value)
+pub append_list-requires-clause-room1 : goal.append_list-requires-clause-room1
+append_list-requires-clause-room1 c =
+    rw (c.next_gate-gate.ensures, ← c.var-2.ensures) c.in_ok-make_room_for_list.ensures.room.1
+
+pub append_list-requires-clause-gate : goal.append_list-requires-clause-gate
+append_list-requires-clause-gate c =
+    let size = slots_size c.args.circuit.now c.readers.inside.fan_outs.slots _ c.readers.view_is c.requires.readers in
+    let same = kept_size _ _ c.make_room_for_list.ensures.keeps in
+    rw c.next_gate-gate.ensures (omega arith)

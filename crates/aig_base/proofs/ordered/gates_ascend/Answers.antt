@@ -1,9 +1,27 @@
 use Rattle.std.proofs.Common.{◌∙◌, ℕ, get_or, sym, ap, subst, map}
+use Rattle.std.proofs.lemmas.Bool.{false≢true}
 use Rattle.std.proofs.lemmas.List.{length-map, get_or-map, get_or_default}
 use borrow.Author.Count.{below_more}
-use Rattle.aig_base.proofs.lists.Evens.{in_order_more}
+use Rattle.aig_base.proofs.lists.Evens.{in_order_more, in_order_no}
 use Rattle.aig_base.specs.state.Least.{ReadsSmaller}
 use Rattle.aig_base.proofs.ordered.gates_ascend.Goals as goal
+
+pub returns-then-not-is_even_of : goal.returns-then-not-is_even_of
+returns-then-not-is_even_of c =
+    let no = in_order_no (map (λ g. g.lhs) c.args.gates.now) _ c.args.first c.loop-place.place
+    c.index-gates-place.result.lhs c.is_even_of.result (length-map c.args.gates.now (λ g. g.lhs))
+    c.loop-place-test.true
+    (get_or-map (λ g. g.lhs) c.args.gates.now _ c.index-gates-place.result 0 c.loop-place-test.true
+    ∙ ap (λ g. g.lhs) (sym c.index-gates-place.is)) c.is_even_of.ensures c.if-not-is_even_of.true in
+    (λ h. absurd (false≢true h), λ both. no.1 both.0)
+
+pub returns-then-not-reads_smaller : goal.returns-then-not-reads_smaller
+returns-then-not-reads_smaller c = (
+  λ h. absurd (false≢true h),
+  λ both. absurd (false≢true (sym c.if-not-reads_smaller.true
+      ∙ c.reads_smaller.ensures.1 (subst ReadsSmaller (sym c.index-gates-place.is)
+      (both.1 c.loop-place.place c.index-gates-place.result c.loop-place-test.true)))),
+)
 
 pub loop-place-preserved : goal.loop-place-preserved
 loop-place-preserved c = record {

@@ -4,8 +4,8 @@ use Rattle.aig_base.proofs.renewal.renew.Given as goal
 
 abbrev pub invariant-loop-variable : goal.invariant-loop-variable
 invariant-loop-variable l =
-    IsPass l.circuit l.changed.lhs l.changed.rhs0 l.changed.rhs1 l.fn.levels l.levels l.visits l.queue
+    IsPass l.circuit l.changed.lhs l.changed.rhs0 l.changed.rhs1 l.fn.levels l.levels l.worklist.visits l.worklist.queue
 
 -- how many wait, and how many were not visited
 abbrev pub decreases-loop-variable : goal.decreases-loop-variable
-decreases-loop-variable l = length l.queue.entries + count_by not l.visits.met.items
+decreases-loop-variable l = length l.worklist.queue.entries + count_by not l.worklist.visits.met.items

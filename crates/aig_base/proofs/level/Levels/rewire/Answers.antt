@@ -23,3 +23,14 @@ returns-clause-acyclic c =
     acyclic_from_before c.args.circuit.now c.max_var.ensures.circuit.sound c.args.gate c.args.r0 c.args.r1
     c.requires.gate
     c.max_var.ensures.circuit.acyclic c.requires.defined0 c.requires.defined1 apart.0 apart.1
+
+pub renew-requires-clause-changed : goal.renew-requires-clause-changed
+renew-requires-clause-changed c =
+    let apart = rw (c.var.ensures, c.var-2.ensures, c.var-3.ensures) at c.if-is_behind.ensures.none in
+    record {
+      gate = c.requires.gate;
+      defined0 = c.requires.defined0;
+      defined1 = c.requires.defined1;
+      apart0 = apart.0;
+      apart1 = apart.1;
+    }
