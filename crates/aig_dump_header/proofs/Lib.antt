@@ -9,6 +9,7 @@ pub mod Indices
 pub mod NamePieces
 pub mod NextNames
 pub mod PathLemmas
+pub mod RowLemmas
 pub mod Runs
 pub mod SymbolLemmas
 pub mod Words

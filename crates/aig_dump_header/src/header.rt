@@ -5,6 +5,7 @@ ghost use Rattle.aig_dump_header.specs.Header.{signal_line, moves, name_lines, s
 ghost use Rattle.aig_dump_header.specs.Names.{identifier_code};
 ghost use Rattle.aig_dump_header.specs.Paths.{scopes_of, leaf_of};
 ghost use Rattle.aig_dump_header.specs.state.Naming.{named};
+ghost use Rattle.aig_dump_header.specs.state.Rows.{rows_size, rows_text};
 
 use crate::names::show;
 use crate::paths::{Path, push_closings, push_moves, push_scope};
@@ -26,6 +27,10 @@ pub struct SignalCounts {
     pub bad: u32,
     pub constraints: u32,
 }
+
+/// A section in the table of scopes: its kind, how many signals it has, the name of its scope, and the type of its
+/// signals.
+type Row<'a> = (Kind, u32, &'a [u8], &'a [u8]);
 
 // Adds the identifier code of a signal.
 fn push_code(text: &mut Vec<u8>, signal: u32) -> Result<(), Memory>
@@ -115,6 +120,30 @@ fn push_section(
     push_closings(text, 1)
 }
 
+// Adds the scopes of sections, whose signals are numbered from 0.
+fn push_rows(
+    alloc: Global,
+    text: &mut Vec<u8>,
+    symbols: &Symbols,
+    rows: &[Row<'_>],
+) -> Result<(), Memory>
+    requires once { AllPairs (λ x y. x ≢ y) (keys_of symbols.now) }
+    requires few { rows_size rows.now < 2 ^ 32 }
+    ensures { OnOk result (text.new.items ≡ text.old.items ++ rows_text symbols.now 0 rows.now) }
+{
+    let mut first = 0;
+    for (kind, count, scope, shape) in rows {
+        let section = Section {
+            kind: *kind,
+            first,
+            count: *count,
+        };
+        push_section(alloc, text, symbols, &section, scope, shape)?;
+        first += *count;
+    }
+    Ok(())
+}
+
 // Adds the scopes of all sections.
 fn push_sections(
     alloc: Global,
@@ -127,46 +156,19 @@ fn push_sections(
         < 2 ^ 32 }
     ensures { OnOk result (text.new.items ≡ text.old.items ++ sections symbols.now counts.now) }
 {
-    let outputs = counts.inputs + counts.latches;
-    let bad = outputs + counts.outputs;
-    let constraints = bad + counts.bad;
-    let of_inputs = Section {
-        kind: Kind::Input,
-        first: 0,
-        count: counts.inputs,
-    };
-    let of_latches = Section {
-        kind: Kind::Latch,
-        first: counts.inputs,
-        count: counts.latches,
-    };
-    let of_outputs = Section {
-        kind: Kind::Output,
-        first: outputs,
-        count: counts.outputs,
-    };
-    let of_bad = Section {
-        kind: Kind::Bad,
-        first: bad,
-        count: counts.bad,
-    };
-    let of_constraints = Section {
-        kind: Kind::Constraint,
-        first: constraints,
-        count: counts.constraints,
-    };
-    push_section(alloc, text, symbols, &of_inputs, b"inputs", b"wire")?;
-    push_section(alloc, text, symbols, &of_latches, b"latches", b"reg")?;
-    push_section(alloc, text, symbols, &of_outputs, b"outputs", b"wire")?;
-    push_section(alloc, text, symbols, &of_bad, b"bad", b"wire")?;
-    push_section(
-        alloc,
-        text,
-        symbols,
-        &of_constraints,
-        b"constraints",
-        b"wire",
-    )
+    let rows: [Row<'_>; 5] = [
+        (Kind::Input, counts.inputs, b"inputs", b"wire"),
+        (Kind::Latch, counts.latches, b"latches", b"reg"),
+        (Kind::Output, counts.outputs, b"outputs", b"wire"),
+        (Kind::Bad, counts.bad, b"bad", b"wire"),
+        (
+            Kind::Constraint,
+            counts.constraints,
+            b"constraints",
+            b"wire",
+        ),
+    ];
+    push_rows(alloc, text, symbols, &rows)
 }
 
 /// The text of a value change dump up to its first frame, for a circuit with these symbols and so many signals, of

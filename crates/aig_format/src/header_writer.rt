@@ -5,7 +5,7 @@ ghost use Rattle.aig_base.specs.Circuit.{IsCircuit};
 ghost use Rattle.aig_bytes.specs.Gathered.{Gathers};
 ghost use Rattle.aig_format.specs.Header.{word, tail, header_line, counts_of as header_counts};
 
-use crate::gather::{put, put_field, put_number};
+use crate::gather::{put_field, put_number};
 use crate::header::{Counts, Format};
 use aig_base::{Block, Circuit, Io, Write};
 
@@ -31,8 +31,8 @@ fn put_word<W: Write>(out: &mut W, block: &mut Block, format: Format) -> Result<
     ensures { Gathers W.written W.failures out.old out.new block.old block.new (word format) result }
 {
     match format {
-        Format::Ascii => put(out, block, b"aag "),
-        Format::Binary => put(out, block, b"aig "),
+        Format::Ascii => block.put_all(out, b"aag "),
+        Format::Binary => block.put_all(out, b"aig "),
     }
 }
 
@@ -47,9 +47,9 @@ fn put_tail<W: Write>(out: &mut W, block: &mut Block, counts: &[u32]) -> Result<
     ensures { Gathers W.written W.failures out.old out.new block.old block.new (tail 0 counts.now) result }
 {
     if are_zero(counts) {
-        return put(out, block, b"\n");
+        return block.put_all(out, b"\n");
     }
-    put(out, block, b" ")?;
+    block.put_all(out, b" ")?;
     put_number(out, block, counts[0])?;
     put_tail(out, block, &counts[1..])
 }

@@ -6,7 +6,7 @@ ghost use Rattle.aig_bytes.specs.Gathered.{Gathers};
 ghost use Rattle.aig_format.specs.Spelling.{literal_line, reset_text, size_line, properties_of, property_lines};
 ghost use Rattle.aig_format.specs.Spelling.{letter, symbol_line, comment_text, names_text};
 
-use crate::gather::{put, put_field};
+use crate::gather::put_field;
 use aig_base::{Block, Circuit, Io, Kind, List, Lit, Symbols, Write};
 
 /// A line for each literal.
@@ -29,9 +29,9 @@ pub(crate) fn put_reset<W: Write>(out: &mut W, block: &mut Block, reset: Lit) ->
     ensures { Gathers W.written W.failures out.old out.new block.old block.new (reset_text false reset) result }
 {
     if reset.value() == 0 {
-        return put(out, block, b"\n");
+        return block.put_all(out, b"\n");
     }
-    put(out, block, b" ")?;
+    block.put_all(out, b" ")?;
     put_field(out, block, reset.value(), b'\n')
 }
 
@@ -103,10 +103,10 @@ fn put_symbol<W: Write>(
       name.now,
     )) result }
 {
-    put(out, block, &[letter_of(kind)])?;
+    block.put_all(out, &[letter_of(kind)])?;
     put_field(out, block, position, b' ')?;
-    put(out, block, name)?;
-    put(out, block, b"\n")
+    block.put_all(out, name)?;
+    block.put_all(out, b"\n")
 }
 
 fn put_symbols<W: Write>(out: &mut W, block: &mut Block, symbols: &Symbols) -> Result<(), Io>
@@ -126,8 +126,8 @@ fn put_comment<W: Write>(out: &mut W, block: &mut Block, comment: Option<&[u8]>)
     match comment {
         None => Ok(()),
         Some(bytes) => {
-            put(out, block, b"c\n")?;
-            put(out, block, bytes)
+            block.put_all(out, b"c\n")?;
+            block.put_all(out, bytes)
         }
     }
 }

@@ -1,6 +1,7 @@
 //! The text that says what the inputs of an unrolled circuit are. Where the standard is silent, it is our own choice.
 ghost use Rattle.std.specs.Prelude.{◌≡◌, ◌+◌, ◌*◌, ◌≤◌, ◌<◌, ◌^◌, decimal, length, IfOk};
 ghost use Rattle.aig_bytes.specs.Bytes.{Writes};
+ghost use Rattle.aig_parts.specs.Formed.{limit};
 ghost use Rattle.aig_unroll.specs.InputMap as inputs;
 ghost use Rattle.aig_unroll.specs.InputMap.{field, frame_origins, is_input, is_latch, map_text};
 ghost use Rattle.aig_unroll.specs.InputMap.{origin_line, origin_lines, start_origins, symbol_at};
@@ -96,7 +97,7 @@ fn write_frame<W: Write>(
     frame: u32,
 ) -> Result<(), Io>
     requires inputs { inputs ≡ length circuit.now.inputs }
-    requires position { position ≤ 2 ^ 32 * 4194303 }
+    requires position { position ≤ 2 ^ 32 * limit }
     ensures { Writes W.written W.failures out.old out.new
         (origin_lines circuit.now position (frame_origins circuit.now frame)) result }
 {
@@ -109,7 +110,7 @@ fn write_frame<W: Write>(
 // How many inputs there are.
 fn input_count(circuit: &Circuit) -> u32
     ensures value { result ≡ length circuit.now.inputs }
-    ensures few { result ≤ 4194303 }
+    ensures few { result ≤ limit }
 {
     // Its contract says how many there are at most.
     let _max_var = circuit.max_var();
@@ -118,9 +119,9 @@ fn input_count(circuit: &Circuit) -> u32
 
 // How many inputs there are at frames.
 fn in_frames(frames: u32, inputs: u32) -> u64
-    requires { inputs ≤ 4194303 }
+    requires { inputs ≤ limit }
     ensures value { result ≡ frames * inputs }
-    ensures few { result ≤ 2 ^ 32 * 4194303 }
+    ensures few { result ≤ 2 ^ 32 * limit }
 {
     frames as u64 * inputs as u64
 }
@@ -133,7 +134,7 @@ fn write_frames<W: Write>(
     frames: u32,
 ) -> Result<(), Io>
     requires inputs { inputs ≡ length circuit.now.inputs }
-    requires few { inputs ≤ 4194303 }
+    requires few { inputs ≤ limit }
     ensures { Writes W.written W.failures out.old out.new
         (origin_lines circuit.now 0 (parts.frames (frame_origins circuit.now) frames)) result }
 {
@@ -172,8 +173,8 @@ fn write_starts<W: Write>(
     first: u64,
     latches: &[Latch],
 ) -> Result<(), Io>
-    requires first { first ≤ 2 ^ 32 * 4194303 }
-    requires latches { length latches.now ≤ 4194303 }
+    requires first { first ≤ 2 ^ 32 * limit }
+    requires latches { length latches.now ≤ limit }
     ensures { Writes W.written W.failures out.old out.new
         (origin_lines circuit.now first (start_origins 0 latches.now)) result }
 {

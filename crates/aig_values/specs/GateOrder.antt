@@ -1,5 +1,5 @@
 -- Gates in a topological order, in which they can be evaluated (our own choice).
-use Rattle.std.specs.Prelude.{◌≡◌, Bool, true, ◌⊎◌, ℕ, ◌<◌, List, map, All, Some, slice_get}
+use Rattle.std.specs.Prelude.{◌≡◌, ◌↔◌, Bool, true, ◌⊎◌, ℕ, ◌<◌, List, map, All, Contains, Some, slice_get}
 use Rattle.aig_parts.specs.declared.gate.Gate.{Gate}
 use Rattle.aig_parts.specs.declared.raw.Raw.{Raw}
 use Rattle.aig_base.specs.Grounded.{IsSource}
@@ -23,6 +23,14 @@ pub record AreGatesOf (raw : Raw) (variables : List ℕ) (gates : List Gate) : T
   pub known : All (λ g. (r : ℕ) × (slice_get raw.gates r ≡ Some g)) gates
   pub variables_are : map (λ g. variable g.lhs) gates ≡ variables
 
--- the marked variables have this property
+-- the variable is marked
+abbrev pub IsMarked : List Bool → ℕ → Type 0
+IsMarked marks v = slice_get marks v ≡ Some true
+
+-- the marked variables are those that have this property
 abbrev pub AreMarked : (ℕ → Type 0) → List Bool → Type 0
-AreMarked P marks = (v : ℕ) → slice_get marks v ≡ Some true → P v
+AreMarked P marks = (v : ℕ) → IsMarked marks v ↔ P v
+
+-- these variables are marked besides
+abbrev pub AddsMarks : List ℕ → List Bool → List Bool → Type 0
+AddsMarks added old new = (v : ℕ) → IsMarked new v ↔ (IsMarked old v ⊎ Contains added v)

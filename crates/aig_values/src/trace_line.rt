@@ -1,10 +1,11 @@
 //! The lines of a trace, by the values of their frames.
-ghost use Rattle.std.specs.Prelude.{◌≡◌, ℕ, ◌+◌, ◌≤◌, [], ◌∷◌, ◌++◌, length, map, All};
+ghost use Rattle.std.specs.Prelude.{◌≡◌, ℕ, ◌+◌, ◌≤◌, [], ◌∷◌, ◌++◌, length, map, take, drop, All};
 ghost use Rattle.aig_bytes.specs.Bytes.{Writes};
 ghost use Rattle.aig_base.specs.Circuit.{IsCircuit};
 ghost use Rattle.aig_parts.specs.Literal.{variable};
 ghost use Rattle.aig_bytes.specs.Gathered.{Gathers};
 ghost use Rattle.aig_grids.specs.TraceText.{literal_character, line_text, trace_text};
+ghost use Rattle.aig_values.specs.state.Fields.{literals_of};
 
 use aig_base::{Circuit, Io, Latch, Lit, Write};
 use aig_bytes::ByteBlock;
@@ -18,6 +19,17 @@ const PIECE: usize = 256;
 /// trace that it asks for.
 pub type TraceBlock = ByteBlock<4_096>;
 
+/// The literals that a field of a line shows.
+#[derive(Clone, Copy, Drop)]
+enum Field<'a> {
+    /// Those of inputs or outputs.
+    Literals(&'a [Lit]),
+    /// Those that latches define.
+    States(&'a [Latch]),
+    /// Those that latches read.
+    NextStates(&'a [Latch]),
+}
+
 /// Writes a character for each literal.
 pub fn spell_literals<R: Row>(text: &mut [u8], row: &R, literals: &[Lit])
     requires row { All (λ l. R.has row.now (variable l)) literals.now }
@@ -25,29 +37,6 @@ pub fn spell_literals<R: Row>(text: &mut [u8], row: &R, literals: &[Lit])
     ensures { text.new ≡ map (literal_character (R.cells row.now)) literals.now }
 {
     row.spell(text, literals);
-}
-
-// Puts a character for each literal, and the byte that ends the field.
-fn put_literals<R: Row, W: Write>(
-    out: &mut W,
-    block: &mut TraceBlock,
-    row: &R,
-    literals: &[Lit],
-    end: u8,
-) -> Result<(), Io>
-    requires { All (λ l. R.has row.now (variable l)) literals.now }
-    ensures { Gathers W.written W.failures out.old out.new block.old block.new
-        (map (literal_character (R.cells row.now)) literals.now ++ end ∷ []) result }
-{
-    let mut piece = [0u8; PIECE];
-    let mut at = 0;
-    while at < literals.len() {
-        let count = PIECE.min(literals.len() - at);
-        spell_literals(&mut piece[..count], row, &literals[at..at + count]);
-        block.put_all(out, &piece[..count])?;
-        at += count;
-    }
-    block.put(out, end)
 }
 
 // Writes a character for each latch.
@@ -61,29 +50,6 @@ fn spell_states<R: Row>(text: &mut [u8], row: &R, latches: &[Latch])
     }
 }
 
-// Puts a character for each latch, and the byte that ends the field.
-fn put_states<R: Row, W: Write>(
-    out: &mut W,
-    block: &mut TraceBlock,
-    row: &R,
-    latches: &[Latch],
-    end: u8,
-) -> Result<(), Io>
-    requires { All (λ x. R.has row.now (variable x.lit)) latches.now }
-    ensures { Gathers W.written W.failures out.old out.new block.old block.new
-        (map (λ x. literal_character (R.cells row.now) x.lit) latches.now ++ end ∷ []) result }
-{
-    let mut piece = [0u8; PIECE];
-    let mut at = 0;
-    while at < latches.len() {
-        let count = PIECE.min(latches.len() - at);
-        spell_states(&mut piece[..count], row, &latches[at..at + count]);
-        block.put_all(out, &piece[..count])?;
-        at += count;
-    }
-    block.put(out, end)
-}
-
 // Writes a character for each latch's next literal.
 fn spell_next_states<R: Row>(text: &mut [u8], row: &R, latches: &[Latch])
     requires row { All (λ x. R.has row.now (variable x.next)) latches.now }
@@ -95,23 +61,49 @@ fn spell_next_states<R: Row>(text: &mut [u8], row: &R, latches: &[Latch])
     }
 }
 
-// Puts a character for each latch's next literal, and the byte that ends the field.
-fn put_next_states<R: Row, W: Write>(
+// How many literals a field shows.
+fn literal_count(field: Field<'_>) -> usize
+    ensures { result ≡ length (literals_of field.entry) }
+{
+    match field {
+        Field::Literals(literals) => literals.len(),
+        Field::States(latches) | Field::NextStates(latches) => latches.len(),
+    }
+}
+
+// Writes a character for each literal of a field from a place on, as many as there is room for.
+fn spell_field<R: Row>(text: &mut [u8], row: &R, field: Field<'_>, at: usize)
+    requires row { All (λ l. R.has row.now (variable l)) (literals_of field) }
+    requires room { at + length text.old ≤ length (literals_of field) }
+    ensures { text.new ≡ map (literal_character (R.cells row.now))
+        (take (length text.old) (drop at (literals_of field.entry))) }
+{
+    let size = text.len();
+    match field {
+        Field::Literals(literals) => spell_literals(text, row, &literals[at..][..size]),
+        Field::States(latches) => spell_states(text, row, &latches[at..][..size]),
+        Field::NextStates(latches) => spell_next_states(text, row, &latches[at..][..size]),
+    }
+}
+
+// Puts a character for each literal of a field, and the byte that ends it.
+fn put_field<R: Row, W: Write>(
     out: &mut W,
     block: &mut TraceBlock,
     row: &R,
-    latches: &[Latch],
+    field: Field<'_>,
     end: u8,
 ) -> Result<(), Io>
-    requires { All (λ x. R.has row.now (variable x.next)) latches.now }
+    requires { All (λ l. R.has row.now (variable l)) (literals_of field) }
     ensures { Gathers W.written W.failures out.old out.new block.old block.new
-        (map (λ x. literal_character (R.cells row.now) x.next) latches.now ++ end ∷ []) result }
+        (map (literal_character (R.cells row.now)) (literals_of field.entry) ++ end ∷ []) result }
 {
+    let size = literal_count(field);
     let mut piece = [0u8; PIECE];
     let mut at = 0;
-    while at < latches.len() {
-        let count = PIECE.min(latches.len() - at);
-        spell_next_states(&mut piece[..count], row, &latches[at..at + count]);
+    while at < size {
+        let count = PIECE.min(size - at);
+        spell_field(&mut piece[..count], row, field, at);
         block.put_all(out, &piece[..count])?;
         at += count;
     }
@@ -130,10 +122,10 @@ fn put_line<R: Row, W: Write>(
     ensures { Gathers W.written W.failures out.old out.new block.old block.new
         (line_text circuit.now (R.cells row.now)) result }
 {
-    put_states(out, block, row, circuit.latches(), b' ')?;
-    put_literals(out, block, row, circuit.inputs(), b' ')?;
-    put_literals(out, block, row, circuit.outputs(), b' ')?;
-    put_next_states(out, block, row, circuit.latches(), b'\n')
+    put_field(out, block, row, Field::States(circuit.latches()), b' ')?;
+    put_field(out, block, row, Field::Literals(circuit.inputs()), b' ')?;
+    put_field(out, block, row, Field::Literals(circuit.outputs()), b' ')?;
+    put_field(out, block, row, Field::NextStates(circuit.latches()), b'\n')
 }
 
 /// Writes the trace line of a frame: the characters of state, inputs, outputs and next state (our own choice). The
