@@ -1,5 +1,7 @@
 pub mod BenchEnds
 pub mod Benches
+pub mod GoodRuns
+pub mod Headers
 pub mod InfoLemmas
 pub mod KeptFiles
 pub mod Replays

@@ -1,7 +1,9 @@
 -- What `wave` writes: a value change dump (IEEE 1364) of a run. Which runs it shows is our own choice.
-use Rattle.std.specs.Prelude.{◌≡◌, ℕ, List, [], ◌++◌, length, Result, Ok, Err}
+use Rattle.std.specs.Prelude.{◌≡◌, ◌⊎◌, ℕ, List, [], ◌++◌, length, Result, Ok, Err}
 use Rattle.aig_parts.specs.declared.ternary.Tern.{Tern}
 use Rattle.aig_parts.specs.declared.raw.Raw.{Raw}
+use Rattle.aig_bytes.specs.Bytes.{after}
+use Rattle.aig_bytes.specs.Flow.{Flow}
 use Rattle.aig_base.specs.Value.{start_of}
 use Rattle.aig_sim.specs.declared.stimulus_fault.StimFault.TheVariants as stimuli
 use Rattle.aig_sim.specs.Dump.{IsDump, AreFrames, closing}
@@ -27,6 +29,12 @@ pub record Dumps (stimulus : Text) (raw : Raw) (answer : Result ℕ RunFault) (w
   pub rows_are : AreRowsOf (length raw.inputs) stimulus rows answer
   pub frames_are : AreFrames raw (start_of raw) rows (length rows) frames
   pub written_is : written ≡ dump_text raw (length rows) frames answer
+
+-- No byte of the stimulus was read, or the whole header of the circuit was written, and then what follows.
+abbrev pub HeaderFirst : {Y X : Type 0} → Flow Y → Flow X → Raw → Type 0
+HeaderFirst stimulus out raw =
+    (stimulus.bytes stimulus.new ≡ stimulus.bytes stimulus.old)
+    ⊎ ((more : List ℕ) × (out.bytes out.new ≡ after (out.bytes out.old) (header raw ++ more)))
 
 -- what `wave --witness` writes for a witness of a circuit: the dump of its run
 abbrev pub DumpsRun : List ℕ → Raw → Result (Unit {0}) RunFault → List ℕ → Type 0

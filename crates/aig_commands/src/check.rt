@@ -1,9 +1,10 @@
 //! `check`: the verdict on a witness.
-ghost use Rattle.std.specs.Prelude.{◌≡◌, ◌≢◌, ℕ, ◌+◌, ◌≤◌, IfErr};
+ghost use Rattle.std.specs.Prelude.{◌≡◌, ◌≢◌, ℕ, ◌+◌, ◌≤◌, Err, IfErr};
 ghost use Rattle.aig_bytes.specs.Bytes.{Writes};
 ghost use Rattle.aig_bytes.specs.Flow.{flow};
 ghost use Rattle.aig_fault.specs.Command.{OfFile};
 ghost use Rattle.aig_fault.specs.Command.{Ends};
+ghost use Rattle.aig_commands.specs.GoesWell.{GoesWell};
 ghost use Rattle.aig_commands.specs.Check.{verdict_text, Checks, ChecksAndTraces};
 
 use aig_base::{Circuit, Io, Write, write_all, write_number};
@@ -53,6 +54,7 @@ fn check_circuit<W: Write>(
     ensures ends { Ends (flow W.written W.failures out.old out.new) RunFault.Output (Checks witness.now circuit.now) result }
     ensures count { W.failures out.new ≤ W.failures out.old + 1 }
     ensures refused { IfErr result (λ fault. fault ≢ RunFault.Output → out.new ≡ out.old) }
+    ensures output { result ≡ Err RunFault.Output → GoesWell (Checks witness.now circuit.now) }
 {
     let verdict = check_witness(alloc, circuit, witness)?;
     match write_verdict(verdict, out) {
@@ -63,8 +65,8 @@ fn check_circuit<W: Write>(
 
 /// Checks a witness against the circuit of a file (AIGER 1.9, witnesses), writes the verdict's line (`confirmed`,
 /// `initial P`, `constraint T P` or `not bad`) and answers the verdict: for every circuit file that is accepted and
-/// every witness for it. A circuit that is refused wins over the witness; at a refusal nothing is written. It does not
-/// flush.
+/// every witness for it. A circuit that is refused wins over the witness; at a refusal nothing is written. A failed
+/// write is reported only of an admitted witness. It does not flush.
 pub fn check_bytes<W: Write>(
     alloc: Global,
     circuit: &[u8],
@@ -75,6 +77,7 @@ pub fn check_bytes<W: Write>(
         (OfFile circuit.now (Checks witness.now)) result }
     ensures count { W.failures out.new ≤ W.failures out.old + 1 }
     ensures refused { IfErr result (λ fault. fault ≢ RunFault.Output → out.new ≡ out.old) }
+    ensures output { result ≡ Err RunFault.Output → GoesWell (OfFile circuit.now (Checks witness.now)) }
 {
     let circuit = read_circuit(alloc, circuit)?;
     check_circuit(alloc, &circuit, witness, out)

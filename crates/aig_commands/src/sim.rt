@@ -39,7 +39,7 @@ fn read_and_run<C: Read, R: Read, W: Write>(
     ensures ends { EndsReading (flow R.left R.failures stimulus.old stimulus.new) (flow W.written W.failures out.old out.new)
         (RunFault.Stimulus StimFault.Io)
         (λ text. OfReader (flow C.left C.failures circuit.old circuit.new) (Simulates text)) result }
-    ensures unread { result ≡ Err (RunFault.Circuit Fault.Io) → stimulus.new ≡ stimulus.old }
+    ensures unread { (fault : Fault) → result ≡ Err (RunFault.Circuit fault) → stimulus.new ≡ stimulus.old }
 {
     match read_from(alloc, circuit) {
         Ok(circuit) => run(alloc, &circuit, stimulus, out),
@@ -50,7 +50,7 @@ fn read_and_run<C: Read, R: Read, W: Write>(
 /// The command `sim`: reads the circuit and simulates it on a stimulus that is read row by row, from the start by its
 /// resets. For every circuit file that is accepted and every stimulus, the bytes that are written are those of the
 /// trace. It answers how many frames there were (`u64::MAX` for more), and flushes the writer before it answers. Where
-/// a read of the circuit fails, no stimulus was read.
+/// the circuit is refused, or a read of it fails, nothing of the stimulus is read.
 pub fn sim<C: Read, R: Read, W: Write>(
     alloc: Global,
     circuit: &mut C,
@@ -60,7 +60,7 @@ pub fn sim<C: Read, R: Read, W: Write>(
     ensures ends { EndsReading (flow R.left R.failures stimulus.old stimulus.new) (flow W.written W.failures out.old out.new)
         (RunFault.Stimulus StimFault.Io)
         (λ text. OfReader (flow C.left C.failures circuit.old circuit.new) (Simulates text)) result }
-    ensures unread { result ≡ Err (RunFault.Circuit Fault.Io) → stimulus.new ≡ stimulus.old }
+    ensures unread { (fault : Fault) → result ≡ Err (RunFault.Circuit fault) → stimulus.new ≡ stimulus.old }
     ensures flushed { W.failures out.new ≡ W.failures out.old → W.is_flushed out.new }
 {
     let done = read_and_run(alloc, circuit, stimulus, out);

@@ -1,9 +1,10 @@
 //! `toaig`: a circuit file in another format.
-ghost use Rattle.std.specs.Prelude.{◌≡◌, ◌≢◌, ℕ, ◌+◌, ◌≤◌, IfErr};
+ghost use Rattle.std.specs.Prelude.{◌≡◌, ◌≢◌, ℕ, ◌+◌, ◌≤◌, Err, IfErr};
 ghost use Rattle.aig_format.specs.declared.header.Format.TheVariants.{Binary};
 ghost use Rattle.aig_bytes.specs.Flow.{flow};
 ghost use Rattle.aig_fault.specs.Command.{OfFile, OfReader};
 ghost use Rattle.aig_fault.specs.Command.{Ends};
+ghost use Rattle.aig_commands.specs.GoesWell.{GoesWell};
 ghost use Rattle.aig_commands.specs.Toaig.{Converts};
 
 use aig_base::{Circuit, Read, Write, is_binary_ready, renumber};
@@ -16,6 +17,7 @@ fn write_ready<W: Write>(alloc: Global, circuit: &Circuit, out: &mut W) -> Resul
     ensures ends { Ends (flow W.written W.failures out.old out.new) RunFault.Output (Converts Binary circuit.now) result }
     ensures count { W.failures out.new ≤ W.failures out.old + 1 }
     ensures refused { IfErr result (λ fault. fault ≢ RunFault.Output → out.new ≡ out.old) }
+    ensures output { result ≡ Err RunFault.Output → GoesWell (Converts Binary circuit.now) }
 {
     if is_binary_ready(circuit) {
         return as_output(write_binary(circuit, out));
@@ -37,6 +39,7 @@ fn write_converted<W: Write>(
     ensures ends { Ends (flow W.written W.failures out.old out.new) RunFault.Output (Converts to circuit.now) result }
     ensures count { W.failures out.new ≤ W.failures out.old + 1 }
     ensures refused { IfErr result (λ fault. fault ≢ RunFault.Output → out.new ≡ out.old) }
+    ensures output { result ≡ Err RunFault.Output → GoesWell (Converts to circuit.now) }
 {
     match to {
         Format::Ascii => as_output(write_ascii(circuit, out)),
@@ -46,7 +49,8 @@ fn write_converted<W: Write>(
 
 /// Writes the circuit of a file in a format: to text as it stands, to binary as it stands where it is ready for that,
 /// else renumbered. Counts and resets of 0 that may be left out are left out. Where the file is refused, or no memory
-/// was found to renumber its circuit, nothing is written. It does not flush.
+/// was found to renumber its circuit, nothing is written. A failed write is reported only of an accepted file. It does
+/// not flush.
 pub fn convert<W: Write>(
     alloc: Global,
     file: &[u8],
@@ -56,6 +60,7 @@ pub fn convert<W: Write>(
     ensures ends { Ends (flow W.written W.failures out.old out.new) RunFault.Output (OfFile file.now (Converts to)) result }
     ensures count { W.failures out.new ≤ W.failures out.old + 1 }
     ensures refused { IfErr result (λ fault. fault ≢ RunFault.Output → out.new ≡ out.old) }
+    ensures output { result ≡ Err RunFault.Output → GoesWell (OfFile file.now (Converts to)) }
 {
     let circuit = read_circuit(alloc, file)?;
     write_converted(alloc, &circuit, to, out)
@@ -63,7 +68,7 @@ pub fn convert<W: Write>(
 
 /// Writes the circuit that a reader holds in a format: as `convert` does for the bytes that the reader holds, or a read
 /// failed and nothing is written. The file is never held whole: memory is taken for its circuit, and where that is
-/// renumbered for the renumbered one. It does not flush.
+/// renumbered for the renumbered one. A failed write is reported only of an accepted file. It does not flush.
 pub fn convert_from<R: Read, W: Write>(
     alloc: Global,
     reader: &mut R,
@@ -74,6 +79,8 @@ pub fn convert_from<R: Read, W: Write>(
         (OfReader (flow R.left R.failures reader.old reader.new) (Converts to)) result }
     ensures count { W.failures out.new ≤ W.failures out.old + 1 }
     ensures refused { IfErr result (λ fault. fault ≢ RunFault.Output → out.new ≡ out.old) }
+    ensures output { result ≡ Err RunFault.Output
+        → GoesWell (OfReader (flow R.left R.failures reader.old reader.new) (Converts to)) }
 {
     match read_from(alloc, reader) {
         Ok(circuit) => write_converted(alloc, &circuit, to, out),

@@ -1,11 +1,12 @@
 //! `unroll`: a circuit unrolled for some frames, and the map of its inputs.
-ghost use Rattle.std.specs.Prelude.{◌≡◌, ◌≢◌, ℕ, ◌+◌, ◌≤◌, IfErr};
+ghost use Rattle.std.specs.Prelude.{◌≡◌, ◌≢◌, ℕ, ◌+◌, ◌≤◌, Err, IfErr};
 ghost use Rattle.aig_base.specs.Renumbered.{IsBinaryReady};
 ghost use Rattle.aig_bytes.specs.Bytes.{Writes};
 ghost use Rattle.aig_bytes.specs.Flow.{flow};
 ghost use Rattle.aig_unroll.specs.InputMap.{map_text};
 ghost use Rattle.aig_fault.specs.Command.{OfFile};
 ghost use Rattle.aig_fault.specs.Command.{Ends};
+ghost use Rattle.aig_commands.specs.GoesWell.{GoesWell};
 ghost use Rattle.aig_commands.specs.Unroll.{IsMap, Unrolls, UnrollsKept, short_spelling};
 
 use aig_base::{Circuit, Io, Levels, Write};
@@ -37,6 +38,7 @@ fn unroll_circuit<W: Write>(
     ensures ends { Ends (flow W.written W.failures out.old out.new) RunFault.Output (Unrolls frames to circuit.now) result }
     ensures count { W.failures out.new ≤ W.failures out.old + 1 }
     ensures refused { IfErr result (λ fault. fault ≢ RunFault.Output → out.new ≡ out.old) }
+    ensures output { result ≡ Err RunFault.Output → GoesWell (Unrolls frames to circuit.now) }
 {
     let levels = Levels::of(alloc, circuit)?;
     let unrolled = aig_unroll::unroll(alloc, circuit, &levels, frames)?;
@@ -45,7 +47,8 @@ fn unroll_circuit<W: Write>(
 
 /// Reads a circuit, unrolls it for this many frames, and writes the unrolled circuit in a format: for every circuit
 /// file that is accepted, the bytes that are written are the short spelling of the unrolled circuit. Where the circuit
-/// is not unrolled, or no memory was found for its levels, nothing is written. It does not flush.
+/// is not unrolled, or no memory was found for its levels, nothing is written. A failed write is reported only of a
+/// circuit that is unrolled. It does not flush.
 pub fn unroll_bytes<W: Write>(
     alloc: Global,
     circuit: &[u8],
@@ -57,6 +60,7 @@ pub fn unroll_bytes<W: Write>(
         (OfFile circuit.now (Unrolls frames to)) result }
     ensures count { W.failures out.new ≤ W.failures out.old + 1 }
     ensures refused { IfErr result (λ fault. fault ≢ RunFault.Output → out.new ≡ out.old) }
+    ensures output { result ≡ Err RunFault.Output → GoesWell (OfFile circuit.now (Unrolls frames to)) }
 {
     let circuit = read_circuit(alloc, circuit)?;
     unroll_circuit(alloc, &circuit, frames, to, out)

@@ -1,9 +1,10 @@
 //! `wave`: the value change dump of a run, on a stimulus or of a witness.
-ghost use Rattle.std.specs.Prelude.{◌≡◌, Err, IfErr};
+ghost use Rattle.std.specs.Prelude.{◌≡◌, ℕ, List, Some, Err, IfErr};
+ghost use Rattle.aig_parts.specs.declared.raw.Raw.{Raw};
 ghost use Rattle.aig_bytes.specs.Flow.{flow};
-ghost use Rattle.aig_fault.specs.Command.{OfFile, OfReader};
+ghost use Rattle.aig_fault.specs.Command.{IsFileOf, OfFile, OfReader};
 ghost use Rattle.aig_fault.specs.Command.{Ends, EndsReading};
-ghost use Rattle.aig_commands.specs.Wave.{Dumps, DumpsRun};
+ghost use Rattle.aig_commands.specs.Wave.{Dumps, DumpsRun, HeaderFirst};
 ghost use Rattle.aig_commands.specs.state.Parts.{IsOfStimulus};
 
 use aig_base::{Circuit, Fault, Read, Write};
@@ -22,6 +23,8 @@ fn run<R: Read, W: Write>(
     ensures ends { EndsReading (flow R.left R.failures stimulus.old stimulus.new) (flow W.written W.failures out.old out.new)
         (RunFault.Stimulus StimFault.Io) (λ text. Dumps text circuit.now) result }
     ensures part { IfErr result IsOfStimulus }
+    ensures header { HeaderFirst (flow R.left R.failures stimulus.old stimulus.new)
+        (flow W.written W.failures out.old out.new) circuit.now }
 {
     match dump(alloc, circuit, stimulus, out) {
         Ok(frames) => Ok(frames),
@@ -39,7 +42,9 @@ fn read_and_run<C: Read, R: Read, W: Write>(
     ensures ends { EndsReading (flow R.left R.failures stimulus.old stimulus.new) (flow W.written W.failures out.old out.new)
         (RunFault.Stimulus StimFault.Io)
         (λ text. OfReader (flow C.left C.failures circuit.old circuit.new) (Dumps text)) result }
-    ensures unread { result ≡ Err (RunFault.Circuit Fault.Io) → stimulus.new ≡ stimulus.old }
+    ensures unread { (fault : Fault) → result ≡ Err (RunFault.Circuit fault) → stimulus.new ≡ stimulus.old }
+    ensures header { (file : List ℕ) (raw : Raw) → C.left circuit.old ≡ Some file → IsFileOf file raw
+        → HeaderFirst (flow R.left R.failures stimulus.old stimulus.new) (flow W.written W.failures out.old out.new) raw }
 {
     match read_from(alloc, circuit) {
         Ok(circuit) => run(alloc, &circuit, stimulus, out),
@@ -60,7 +65,9 @@ pub fn wave<C: Read, R: Read, W: Write>(
     ensures ends { EndsReading (flow R.left R.failures stimulus.old stimulus.new) (flow W.written W.failures out.old out.new)
         (RunFault.Stimulus StimFault.Io)
         (λ text. OfReader (flow C.left C.failures circuit.old circuit.new) (Dumps text)) result }
-    ensures unread { result ≡ Err (RunFault.Circuit Fault.Io) → stimulus.new ≡ stimulus.old }
+    ensures unread { (fault : Fault) → result ≡ Err (RunFault.Circuit fault) → stimulus.new ≡ stimulus.old }
+    ensures header { (file : List ℕ) (raw : Raw) → C.left circuit.old ≡ Some file → IsFileOf file raw
+        → HeaderFirst (flow R.left R.failures stimulus.old stimulus.new) (flow W.written W.failures out.old out.new) raw }
     ensures flushed { W.failures out.new ≡ W.failures out.old → W.is_flushed out.new }
 {
     let done = read_and_run(alloc, circuit, stimulus, out);

@@ -21,4 +21,6 @@ returns-clause-flushed g c = λ same.
     c.read_and_run-done.result c.flushed.result c.read_and_run-done.ensures.ends c.flushed.ensures.answer same)
 
 pub returns-clause-unread : goal.returns-clause-unread
-returns-clause-unread g c = λ is. c.read_and_run-done.ensures.unread (flushed_circuit (flow g.W.Write.written g.W.Write.failures c.read_and_run-done.new.out c.flushed.new.out) c.flushed.ensures.answer is)
+returns-clause-unread g c = λ fault is.
+    c.read_and_run-done.ensures.unread fault (flushed_circuit (flow g.W.Write.written g.W.Write.failures c.read_and_run-done.new.out c.flushed.new.out)
+    c.flushed.ensures.answer is)

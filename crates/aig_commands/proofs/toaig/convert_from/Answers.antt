@@ -1,5 +1,6 @@
 use Rattle.aig_bytes.specs.Flow.{flow}
 use Rattle.aig_commands.specs.Toaig.{Converts}
+use Rattle.aig_commands.proofs.GoodRuns.{reader_goes_well}
 use Rattle.aig_commands.proofs.toaig.convert_from.Goals as goal
 use Rattle.aig_fault.proofs.Files.{ends_of_reader, reader_refused}
 use Rattle.aig_fault.specs.declared.run_fault.RunFault.TheVariants as parts
@@ -16,3 +17,10 @@ returns-in-Err-clause-ends g c =
     let h = c.in-Err.ensures in
     reader_refused (flow g.R.Read.left g.R.Read.failures c.args.reader.now c.read_from.new.reader)
     g.W.Write.written g.W.Write.failures c.args.out.now parts.Output (Converts c.args.to) c.in-Err.fault h.answers h.io
+
+pub returns-in-Ok-clause-output : goal.returns-in-Ok-clause-output
+returns-in-Ok-clause-output g c = λ is.
+    let h = c.in-Ok.ensures in
+    reader_goes_well (Converts c.args.to) c.in-Ok.circuit
+    (flow g.R.Read.left g.R.Read.failures c.args.reader.now c.read_from.new.reader) (λ fault bytes h. h) h.answers h.circuit h.io
+    (c.write_converted.ensures.output is)

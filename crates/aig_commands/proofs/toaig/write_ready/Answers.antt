@@ -25,3 +25,15 @@ returns-clause-ends g c =
 
 pub returns-clause-refused : goal.returns-clause-refused
 returns-clause-refused g c = rw c.as_output-2.ensures (output_alone _ c.write_binary-2.result)
+
+pub returns-then-is_binary_ready-clause-output : goal.returns-then-is_binary_ready-clause-output
+returns-then-is_binary_ready-clause-output g c = λ is.
+    (tt, short_binary c.args.circuit.now, inl (c.is_binary_ready.ensures.0 c.if-is_binary_ready.true, refl))
+
+pub returns-clause-output : goal.returns-clause-output
+returns-clause-output g c = λ is.
+    let p = c.in-Ok.ensures.parts in (
+      tt,
+      short_binary c.in-Ok.renumbered,
+      inr (λ ready. false≢true (sym c.if-is_binary_ready.false ∙ c.is_binary_ready.ensures.1 ready), (p.0, p.1, ap short_binary p.2)),
+    )

@@ -1,5 +1,6 @@
 use Rattle.aig_bytes.specs.Flow.{flow}
 use Rattle.aig_commands.specs.Unroll.{Unrolls}
+use Rattle.aig_commands.proofs.GoodRuns.{file_goes_well}
 use Rattle.aig_commands.proofs.unroll.unroll_bytes.Goals as goal
 use Rattle.aig_fault.proofs.Files.{answered, ends_of_file, file_refused}
 use Rattle.aig_fault.specs.Command.{OfFile}
@@ -18,3 +19,8 @@ returns-in_err-circuit-clause-ends g c =
     (Ends (flow g.W.Write.written g.W.Write.failures c.args.out.now c.args.out.now) parts.Output (OfFile c.args.circuit.now (Unrolls c.args.frames c.args.to)))
     c.from_residual.ensures.1
     (file_refused g.W.Write.written g.W.Write.failures c.args.out.now parts.Output (Unrolls c.args.frames c.args.to) c.args.circuit.now c.in_err-circuit.field-0.0 c.in_err-circuit.ensures.fault)
+
+pub returns-clause-output : goal.returns-clause-output
+returns-clause-output g c = λ is.
+    file_goes_well (Unrolls c.args.frames c.args.to) c.in_ok-circuit.circuit c.args.circuit.now c.in_ok-circuit.ensures.circuit
+    (c.unroll_circuit.ensures.output is)

@@ -16,3 +16,10 @@ returns-clause-count g c =
 
 pub returns-clause-refused : goal.returns-clause-refused
 returns-clause-refused g c = output_refused _ c.write_short.result c.write_short.ensures.output
+
+pub returns-clause-output : goal.returns-clause-output
+returns-clause-output g c = λ is. (
+  tt,
+  short_spelling c.args.to c.in_ok-unrolled.unrolled,
+  (c.in_ok-unrolled.unrolled, c.in_ok-unrolled.ensures.answers, refl),
+)

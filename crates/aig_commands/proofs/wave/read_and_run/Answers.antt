@@ -1,5 +1,7 @@
+use Rattle.std.proofs.Common.{inl, refl}
 use Rattle.aig_bytes.specs.Flow.{flow}
 use Rattle.aig_commands.specs.Wave.{Dumps}
+use Rattle.aig_commands.proofs.Headers.{header_of_file}
 use Rattle.aig_commands.proofs.Runs.{dumps_no_fault}
 use Rattle.aig_commands.proofs.wave.read_and_run.Goals as goal
 use Rattle.aig_fault.proofs.Files.{reading_of_reader, reading_refused}
@@ -20,3 +22,13 @@ returns-in-Err-clause-ends g c =
     reading_refused (flow g.C.Read.left g.C.Read.failures c.args.circuit.now c.read_from.new.reader)
     g.R.Read.left g.R.Read.failures c.args.stimulus.now g.W.Write.written g.W.Write.failures c.args.out.now (parts.Stimulus stimuli.Io) Dumps c.in-Err.fault
     (λ e. let no : ⊥ = cc in no) h.answers h.io
+
+pub returns-in-Ok-clause-header : goal.returns-in-Ok-clause-header
+returns-in-Ok-clause-header g c = λ file raw is spelled.
+    header_of_file (flow g.C.Read.left g.C.Read.failures c.args.circuit.now c.read_from.new.reader)
+    (flow g.R.Read.left g.R.Read.failures c.args.stimulus.now c.run.new.stimulus)
+    (flow g.W.Write.written g.W.Write.failures c.args.out.now c.run.new.out) c.in-Ok.circuit c.in-Ok.ensures.answers
+    c.run.ensures.header file raw is spelled
+
+pub returns-in-Err-clause-header : goal.returns-in-Err-clause-header
+returns-in-Err-clause-header g c = λ file raw is spelled. inl refl

@@ -1,5 +1,6 @@
 use Rattle.aig_bytes.specs.Flow.{flow}
 use Rattle.aig_commands.specs.Wave.{Dumps}
+use Rattle.aig_commands.proofs.Headers.{header_flushed}
 use Rattle.aig_commands.proofs.wave.wave.Goals as goal
 use Rattle.aig_fault.proofs.Flushes.{flushed_reading, flushed_circuit, reading_unfailed}
 use Rattle.aig_fault.specs.Command.{OfReader}
@@ -21,4 +22,12 @@ returns-clause-flushed g c = λ same.
     c.read_and_run-done.result c.flushed.result c.read_and_run-done.ensures.ends c.flushed.ensures.answer same)
 
 pub returns-clause-unread : goal.returns-clause-unread
-returns-clause-unread g c = λ is. c.read_and_run-done.ensures.unread (flushed_circuit (flow g.W.Write.written g.W.Write.failures c.read_and_run-done.new.out c.flushed.new.out) c.flushed.ensures.answer is)
+returns-clause-unread g c = λ fault is.
+    c.read_and_run-done.ensures.unread fault (flushed_circuit (flow g.W.Write.written g.W.Write.failures c.read_and_run-done.new.out c.flushed.new.out)
+    c.flushed.ensures.answer is)
+
+pub returns-clause-header : goal.returns-clause-header
+returns-clause-header g c = λ file raw is spelled.
+    header_flushed (flow g.R.Read.left g.R.Read.failures c.args.stimulus.now c.read_and_run-done.new.stimulus)
+    g.W.Write.written g.W.Write.failures c.args.out.now c.read_and_run-done.new.out c.flushed.new.out raw
+    c.flushed.ensures.answer.0 (c.read_and_run-done.ensures.header file raw is spelled)
