@@ -1,0 +1,89 @@
+-- The text of a formula, part by part.
+use Rattle.std.proofs.Common.{◌≡◌, ◌⊎◌, inl, inr, ℕ, zero, suc, ◌+◌, ◌*◌, ◌<◌, ◌≤◌, List, [], ◌∷◌, ◌++◌, length, slice_index, get_or, mul-le-mul_right, refl, sym, ◌∙◌, ap, arith}
+use Rattle.std.proofs.Common.{append_assoc, length-append}
+use Rattle.std.specs.List.{flat_map}
+use Rattle.std.proofs.lemmas.List.Concat.{flat_map-append, flat_map-cons}
+use Rattle.std.proofs.lemmas.List.{append-nil, get_or_default}
+use Rattle.aig_parts.specs.declared.gate.Gate.{Gate}
+use Rattle.aig_unroll.specs.Unrolled.{frames}
+use Rattle.aig_parts.specs.declared.raw.Raw.{Raw}
+use Rattle.aig_cnf.specs.Dimacs.{clause_text, formula_text, gate_text, literal_text, problem_line}
+use Rattle.aig_cnf.specs.Formula.{bad_formula, gate_clauses, goals}
+
+-- the clauses of all gates
+pub gates_text : (gates : List Gate) → flat_map clause_text (flat_map gate_clauses gates) ≡ flat_map gate_text gates
+unfolding gate_text
+gates_text [] = refl
+gates_text (g ∷ gates) =
+    ap (flat_map clause_text) (flat_map-cons gate_clauses g gates)
+    ∙ flat_map-append clause_text (gate_clauses g) (flat_map gate_clauses gates)
+    ∙ ap (λ (xs : List ℕ). gate_text g ++ xs) (gates_text gates) ∙ sym (flat_map-cons gate_text g gates)
+
+pub length-clauses : (gates : List Gate) → length (flat_map gate_clauses gates) ≡ 3 * length gates
+length-clauses [] = refl
+length-clauses (g ∷ gates) =
+    ap length (flat_map-cons gate_clauses g gates) ∙ length-append (gate_clauses g) (flat_map gate_clauses gates)
+    ∙ ap (λ n. 3 + n) (length-clauses gates) ∙ omega arith
+
+-- the frames up to t stand first
+pub frames_split : {A : Type 0} (f : ℕ → List A) (t k : ℕ) → t ≤ k → (rest : List A) × (frames f k ≡ frames f t ++ rest)
+frames_split {A = A} f t zero le = ([], let e : t ≡ 0 = omega arith in rw e refl)
+frames_split {A = A} f t (suc k) le = go (below_or t k le) (λ h. frames_split f t k h)
+  where
+    below_or : (t k : ℕ) → t ≤ suc k → (t ≤ k) ⊎ (t ≡ suc k)
+    below_or t k le = grind (arith, le)
+
+    go : (t ≤ k) ⊎ (t ≡ suc k) → (t ≤ k → (rest : List A) × (frames f k ≡ frames f t ++ rest))
+        → (rest : List A) × (frames f (suc k) ≡ frames f t ++ rest)
+    go (inl h) earlier =
+        let (rest, e) = earlier h in
+        (rest ++ f k, ap (λ xs. xs ++ f k) e ∙ append_assoc (frames f t) rest (f k))
+    go (inr e) earlier = ([], rw e (sym (append-nil (frames f (suc k)))))
+
+-- the goals up to the one of frame t, and those up to the last
+pub goals_more : (new : Raw) (n t p : ℕ) → flat_map literal_text (goals new n t p) ++ literal_text (slice_index new.bad (t * n + p))
+    ≡ flat_map literal_text (goals new n (t + 1) p)
+goals_more new n t p =
+    let e : t + 1 ≡ suc t = omega arith in
+    ap (λ (xs : List ℕ). flat_map literal_text (goals new n t p) ++ xs) (sym (append-nil (literal_text (slice_index new.bad (t * n + p)))))
+    ∙ sym (flat_map-append literal_text (goals new n t p) (slice_index new.bad (t * n + p) ∷ []))
+    ∙ ap (λ m. flat_map literal_text (goals new n m p)) (sym e)
+
+pub goals_rest : (new : Raw) (n t k p : ℕ) → t < k → (rest : List ℕ)
+    × ((flat_map literal_text (goals new n t p) ++ literal_text (slice_index new.bad (t * n + p))) ++ rest
+    ≡ flat_map literal_text (goals new n k p))
+goals_rest new n t k p lt =
+    let (rest, e) = frames_split (λ s. slice_index new.bad (s * n + p) ∷ []) (t + 1) k (omega arith) in (
+      flat_map literal_text rest,
+      ap (λ (xs : List ℕ). xs ++ flat_map literal_text rest) (goals_more new n t p)
+          ∙ sym (flat_map-append literal_text (goals new n (t + 1) p) rest) ∙ ap (flat_map literal_text) (sym e),
+    )
+
+-- the literal at the place of frame t
+pub goal_at : (bad : List ℕ) (n t k p l : ℕ) → t < k → p < n → length bad ≡ k * n → l ≡ get_or bad (t * n + p) l
+    → l ≡ slice_index bad (t * n + p)
+goal_at bad n t k p l lt within size is =
+    let up : suc t * n ≤ k * n = mul-le-mul_right {m = suc t} {n = k} n lt in
+    let e : suc t * n ≡ n + t * n = omega arith in
+    is ∙ get_or_default bad (t * n + p) l 0 (omega (arith, up, e, size, within))
+
+formula_is : (v : ℕ) (clauses : List (List ℕ))
+    → formula_text v clauses ≡ problem_line v (length clauses) ++ flat_map clause_text clauses
+unfolding formula_text
+formula_is v clauses = refl
+
+length_formula : (new : Raw) (n k p : ℕ)
+    → 2 + length (flat_map gate_clauses new.gates) ≡ length (bad_formula new n k p)
+length_formula new n k p = omega arith
+
+-- the text of the formula of a bad state, part by part
+pub formula_parts : (new : Raw) (v n k p : ℕ) → problem_line v (2 + 3 * length new.gates) ++ (clause_text (1 ∷ [])
+    ++ (clause_text (goals new n k p) ++ flat_map gate_text new.gates)) ≡ formula_text v (bad_formula new n k p)
+formula_parts new v n k p =
+    ap (λ (m : ℕ). problem_line v (2 + m) ++ (clause_text (1 ∷ []) ++ (clause_text (goals new n k p) ++ flat_map gate_text new.gates)))
+    (sym (length-clauses new.gates))
+    ∙ ap (λ (xs : List ℕ). problem_line v (2 + length (flat_map gate_clauses new.gates))
+    ++ (clause_text (1 ∷ []) ++ (clause_text (goals new n k p) ++ xs))) (sym (gates_text new.gates))
+    ∙ ap (λ (m : ℕ). problem_line v m ++ (clause_text (1 ∷ []) ++ (clause_text (goals new n k p)
+    ++ flat_map clause_text (flat_map gate_clauses new.gates)))) (length_formula new n k p)
+    ∙ sym (formula_is v (bad_formula new n k p))

@@ -1,0 +1,4 @@
+pub mod BadFormula
+pub mod FormulaText
+pub mod SignLemmas
+pub mod Tseitin

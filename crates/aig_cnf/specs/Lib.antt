@@ -1,0 +1,3 @@
+pub mod Dimacs
+pub mod Formula
+pub mod Models

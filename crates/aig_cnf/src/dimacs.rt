@@ -1,0 +1,172 @@
+//! Writing formulas (DIMACS).
+ghost use Rattle.std.specs.Prelude.{◌≡◌, ◌+◌, ◌*◌, ◌<◌, ◌≤◌, [], ◌∷◌, ◌++◌, codes, decimal, length};
+ghost use Rattle.std.specs.List.{flat_map};
+ghost use Rattle.aig_bytes.specs.Bytes.{Writes};
+ghost use Rattle.aig_bytes.specs.Gathered.{Gathers};
+ghost use Rattle.aig_cnf.specs.Dimacs.{clause_text, formula_text, gate_text, literal_text, problem_line, sign_text};
+ghost use Rattle.aig_cnf.specs.Formula.{bad_formula, goals};
+
+use aig_base::{Block, Circuit, Gate, Io, Lit, Write, write_all};
+
+// Puts a number and the byte that ends it.
+fn put_field<W: Write>(out: &mut W, block: &mut Block, number: u32, end: u8) -> Result<(), Io>
+    ensures { Gathers W.written W.failures out.old out.new block.old block.new (decimal number ++ end ∷ []) result }
+{
+    if block.push_field(number, end) {
+        return Ok(());
+    }
+    block.hand_on(out)?;
+    block.push_field(number, end);
+    Ok(())
+}
+
+// Puts a minus where the literal is negated.
+fn put_sign<W: Write>(out: &mut W, block: &mut Block, literal: Lit) -> Result<(), Io>
+    ensures { Gathers W.written W.failures out.old out.new block.old block.new (sign_text literal) result }
+{
+    if literal.is_neg() {
+        return block.put(out, b'-');
+    }
+    Ok(())
+}
+
+// Puts a literal: its variable, from 1, after a minus where it is negated.
+fn put_literal<W: Write>(out: &mut W, block: &mut Block, literal: Lit) -> Result<(), Io>
+    ensures { Gathers W.written W.failures out.old out.new block.old block.new (literal_text literal) result }
+{
+    put_sign(out, block, literal)?;
+    put_field(out, block, literal.var() + 1, b' ')
+}
+
+// Puts a clause of these literals.
+fn put_clause<W: Write>(out: &mut W, block: &mut Block, literals: &[Lit]) -> Result<(), Io>
+    ensures { Gathers W.written W.failures out.old out.new block.old block.new (clause_text literals.now) result }
+{
+    for literal in literals {
+        put_literal(out, block, *literal)?;
+    }
+    block.put_all(out, b"0\n")
+}
+
+// Puts the three clauses of a gate.
+fn put_gate<W: Write>(out: &mut W, block: &mut Block, gate: Gate) -> Result<(), Io>
+    ensures { Gathers W.written W.failures out.old out.new block.old block.new (gate_text gate) result }
+{
+    put_clause(out, block, &[gate.lhs.not(), gate.rhs0])?;
+    put_clause(out, block, &[gate.lhs.not(), gate.rhs1])?;
+    put_clause(out, block, &[gate.lhs, gate.rhs0.not(), gate.rhs1.not()])
+}
+
+// Puts the clauses of all gates.
+fn put_gates<W: Write>(out: &mut W, block: &mut Block, gates: &[Gate]) -> Result<(), Io>
+    ensures { Gathers W.written W.failures out.old out.new block.old block.new (flat_map gate_text gates.now) result }
+{
+    for gate in gates {
+        put_gate(out, block, *gate)?;
+    }
+    Ok(())
+}
+
+// Puts the line that says how many variables and clauses there are.
+fn put_problem<W: Write>(
+    out: &mut W,
+    block: &mut Block,
+    variables: u32,
+    clauses: u32,
+) -> Result<(), Io>
+    ensures { Gathers W.written W.failures out.old out.new block.old block.new
+        (problem_line variables clauses) result }
+{
+    block.put_all(out, b"p cnf ")?;
+    put_field(out, block, variables, b' ')?;
+    put_field(out, block, clauses, b'\n')
+}
+
+// Puts the bad literal of each frame, where a circuit of `bads` bad literals was unrolled.
+fn put_goals<W: Write>(
+    out: &mut W,
+    block: &mut Block,
+    circuit: &Circuit,
+    bads: u32,
+    frames: u32,
+    property: u32,
+) -> Result<(), Io>
+    requires property { property < bads }
+    requires bad { length circuit.now.bad ≡ frames * bads }
+    ensures { Gathers W.written W.failures out.old out.new block.old block.new
+        (flat_map literal_text (goals circuit.now bads frames property)) result }
+{
+    for frame in 0..frames {
+        let place = frame as usize * bads as usize + property as usize;
+        put_literal(out, block, circuit.bad()[place])?;
+    }
+    Ok(())
+}
+
+// Puts the clause of these bad literals.
+fn put_goal_clause<W: Write>(
+    out: &mut W,
+    block: &mut Block,
+    circuit: &Circuit,
+    bads: u32,
+    frames: u32,
+    property: u32,
+) -> Result<(), Io>
+    requires property { property < bads }
+    requires bad { length circuit.now.bad ≡ frames * bads }
+    ensures { Gathers W.written W.failures out.old out.new block.old block.new
+        (clause_text (goals circuit.now bads frames property)) result }
+{
+    put_goals(out, block, circuit, bads, frames, property)?;
+    block.put_all(out, b"0\n")
+}
+
+// How many clauses there are: three for a gate, and two more.
+fn clause_count(circuit: &Circuit) -> u32
+    ensures { result ≡ 2 + 3 * length circuit.now.gates }
+{
+    // Its contract says how many gates there are at most.
+    let _max_var = circuit.max_var();
+    2 + 3 * circuit.gates().len() as u32
+}
+
+// Puts the formula of a bad state.
+fn put_formula<W: Write>(
+    out: &mut W,
+    block: &mut Block,
+    circuit: &Circuit,
+    bads: u32,
+    frames: u32,
+    property: u32,
+) -> Result<(), Io>
+    requires property { property < bads }
+    requires bad { length circuit.now.bad ≡ frames * bads }
+    ensures { Gathers W.written W.failures out.old out.new block.old block.new
+        (formula_text (circuit.now.max_var + 1) (bad_formula circuit.now bads frames property)) result }
+{
+    let variables = circuit.max_var() + 1;
+    put_problem(out, block, variables, clause_count(circuit))?;
+    put_clause(out, block, &[Lit::new(1)])?;
+    put_goal_clause(out, block, circuit, bads, frames, property)?;
+    put_gates(out, block, circuit.gates())
+}
+
+/// Writes the formula that a bad literal is 1 within some frames, in DIMACS: of the circuit that was unrolled for them,
+/// and of the property at this position of the `bads` bad literals that the circuit had before. Variable 1 is false,
+/// and the variable of a literal `l` is `l / 2 + 1`. It takes no memory.
+pub fn write_formula<W: Write>(
+    circuit: &Circuit,
+    bads: u32,
+    frames: u32,
+    property: u32,
+    out: &mut W,
+) -> Result<(), Io>
+    requires property { property < bads }
+    requires bad { length circuit.now.bad ≡ frames * bads }
+    ensures { Writes W.written W.failures out.old out.new
+        (formula_text (circuit.now.max_var + 1) (bad_formula circuit.now bads frames property)) result }
+{
+    let mut block = Block::new();
+    put_formula(out, &mut block, circuit, bads, frames, property)?;
+    write_all(out, block.as_slice())
+}
