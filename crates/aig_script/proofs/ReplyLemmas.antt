@@ -10,7 +10,7 @@ use Rattle.aig_script.specs.Lines.{Line, whole, lines_from, rest_from, whole_lin
 use Rattle.aig_bench.specs.Pair.{Pair}
 use Rattle.aig_script.specs.Replies.{Replies, LineReply}
 use Rattle.aig_script.specs.Ran.{Answered, StoppedAt, Reading, Failing}
-use Rattle.aig_script.specs.ScriptLine.{ScriptLine, KeepsLine}
+use Rattle.aig_script.specs.ScriptLine.{ScriptLine, KeepsScriptLine}
 
 pub lines_from-append : (s xs ys : List ℕ) → lines_from s (xs ++ ys) ≡ lines_from s xs ++ lines_from (rest_from s xs) ys
 lines_from-append s [] ys = refl
@@ -146,7 +146,7 @@ whole_lines-append text bytes =
     ∙ sym (ap (λ (ls : List (List ℕ)). map whole ls) (lines_from-append [] text bytes))
 
 module _ {Y X : Type 0} {left : Y → Option (List ℕ)} {read_failures : Y → ℕ} {written : X → Option (List ℕ)} {failures : X → ℕ} where
-  pub reading_none : {reader : Y} {out : X} {line : ScriptLine} {old : Pair} → KeepsLine [] line
+  pub reading_none : {reader : Y} {out : X} {line : ScriptLine} {old : Pair} → KeepsScriptLine [] line
       → Reading (flow left read_failures reader reader) (flow written failures out out) line old old
   reading_none {reader} k =
       record { script = []; read = sym (before_nil (left reader)); no_failure = refl; rest = k; answered = answered_none }
@@ -155,14 +155,14 @@ module _ {Y X : Type 0} {left : Y → Option (List ℕ)} {read_failures : Y → 
   pub reading_more : {reader mid to : Y} {out out' out'' : X} {line line' : ScriptLine} {old n new : Pair} (chunk : List ℕ)
       → Reading (flow left read_failures reader mid) (flow written failures out out') line old n
       → left mid ≡ before chunk (left to) → read_failures to ≡ read_failures mid + 0
-      → ((text : List ℕ) → KeepsLine text line → KeepsLine (rest_from text chunk) line')
-      → ((text : List ℕ) → KeepsLine text line → Answered (flow written failures out' out'') (map whole (lines_from text chunk)) n new)
+      → ((text : List ℕ) → KeepsScriptLine text line → KeepsScriptLine (rest_from text chunk) line')
+      → ((text : List ℕ) → KeepsScriptLine text line → Answered (flow written failures out' out'') (map whole (lines_from text chunk)) n new)
       → Reading (flow left read_failures reader to) (flow written failures out out'') line' old new
   reading_more {to} {line'} chunk r e f g a = record {
     script = r.script ++ chunk;
     read = r.read ∙ ap (before r.script) e ∙ before-before r.script chunk (left to);
     no_failure = omega (arith, r.no_failure, f);
-    rest = subst (λ (t : List ℕ). KeepsLine t line') (sym (rest_from-append [] r.script chunk)) (g (rest_from [] r.script) r.rest);
+    rest = subst (λ (t : List ℕ). KeepsScriptLine t line') (sym (rest_from-append [] r.script chunk)) (g (rest_from [] r.script) r.rest);
     answered = answered_same (answered_then r.answered (a (rest_from [] r.script) r.rest)) refl (whole_lines-append r.script chunk) refl;
   }
 
@@ -181,7 +181,7 @@ module _ {Y X : Type 0} {left : Y → Option (List ℕ)} {read_failures : Y → 
   pub reading_stops : {reader mid to : Y} {out out' out'' : X} {line : ScriptLine} {old n new : Pair} (chunk : List ℕ)
       → Reading (flow left read_failures reader mid) (flow written failures out out') line old n
       → left mid ≡ before chunk (left to) → read_failures to ≡ read_failures mid + 0
-      → ((text : List ℕ) → KeepsLine text line → StoppedAt (flow written failures out' out'') (map whole (lines_from text chunk)) n new)
+      → ((text : List ℕ) → KeepsScriptLine text line → StoppedAt (flow written failures out' out'') (map whole (lines_from text chunk)) n new)
       → Failing (flow left read_failures reader to) (flow written failures out out'') old new
   reading_stops {to} {out} {out''} {old} {new} chunk r e f a = record {
     script = r.script ++ chunk;

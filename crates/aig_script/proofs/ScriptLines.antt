@@ -2,7 +2,7 @@
 use Rattle.std.proofs.Common.{◌≡◌, ℕ, ◌+◌, ◌<◌, ◌≤◌, List, [], ◌∷◌, ◌++◌, length, take, set, refl, sym, ap, ◌∙◌, subst, arith, length-append}
 use Rattle.std.specs.Prelude.{false}
 use Rattle.std.proofs.lemmas.List.{take_more_set, take_all, take-append-le, length-take}
-use Rattle.aig_script.specs.ScriptLine.{ScriptLine, BeginsRow, KeepsLine, KeepsBy, first_bytes}
+use Rattle.aig_script.specs.ScriptLine.{ScriptLine, BeginsRow, KeepsScriptLine, KeepsBy, first_bytes}
 
 -- a line of which all was kept
 whole : (line bytes : List ℕ) (n : ℕ) → length bytes ≡ 35 → n < 35 → take n bytes ≡ first_bytes line → line ≡ take n bytes
@@ -38,10 +38,10 @@ begins_with (x ∷ y ∷ line) b never other (rest, e) =
     never (line, let h : x ≡ 43 = cc in let k : y ≡ 32 = cc in ap (λ (z : ℕ). z ∷ (y ∷ line)) h ∙ ap (λ (z : ℕ). 43 ∷ (z ∷ line)) k)
 
 -- what is kept of a line that appends no frame
-pub keeps_bytes : (line : List ℕ) (kept : ScriptLine) → kept.is_row ≡ false → KeepsLine line kept
+pub keeps_bytes : (line : List ℕ) (kept : ScriptLine) → kept.is_row ≡ false → KeepsScriptLine line kept
     → (kept.bytes ≡ first_bytes line) × (BeginsRow line → ⊥)
 keeps_bytes line kept e k = subst (KeepsBy line kept) e k.keeps
 
 pub bytes_keep : (line : List ℕ) (kept : ScriptLine) → kept.is_row ≡ false
-    → kept.bytes ≡ first_bytes line → (BeginsRow line → ⊥) → KeepsLine line kept
+    → kept.bytes ≡ first_bytes line → (BeginsRow line → ⊥) → KeepsScriptLine line kept
 bytes_keep line kept e is never = record { keeps = subst (KeepsBy line kept) (sym e) (is, never) }

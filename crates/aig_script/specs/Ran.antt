@@ -5,7 +5,7 @@ use Rattle.aig_bench.specs.Pair.{Pair}
 use Rattle.aig_bytes.specs.Flow.{Flow, until}
 use Rattle.aig_script.specs.Lines.{Line, rest_from, whole_lines, lines_of}
 use Rattle.aig_script.specs.Replies.{Replies, LineReply}
-use Rattle.aig_script.specs.ScriptLine.{ScriptLine, KeepsLine}
+use Rattle.aig_script.specs.ScriptLine.{ScriptLine, KeepsScriptLine}
 
 -- all of the lines were answered
 pub record Answered {X : Type 0} (out : Flow X) (lines : List Line) (old new : Pair) : Type 0 where
@@ -42,7 +42,7 @@ pub record Reading {Y X : Type 0} (reader : Flow Y) (out : Flow X) (line : Scrip
   pub script : List ℕ
   pub read : reader.bytes reader.old ≡ before script (reader.bytes reader.new)
   pub no_failure : reader.failures reader.new ≡ reader.failures reader.old
-  pub rest : KeepsLine (rest_from [] script) line
+  pub rest : KeepsScriptLine (rest_from [] script) line
   pub answered : Answered out (whole_lines script) old new
 
 -- the script was read to its end, and all of its lines were answered

@@ -22,5 +22,5 @@ KeepsBy line kept true =
     (rest : List ℕ) × (line ≡ 43 ∷ 32 ∷ rest) × Keeps kept.row.width rest kept.row.shape kept.row.values
 
 -- this is what is kept of the line
-pub record KeepsLine (line : List ℕ) (kept : ScriptLine) : Type 0 where
+pub record KeepsScriptLine (line : List ℕ) (kept : ScriptLine) : Type 0 where
   pub keeps : KeepsBy line kept kept.is_row

@@ -11,7 +11,7 @@ ghost use Rattle.aig_script.specs.state.CommandMeaning.{meaning};
 ghost use Rattle.aig_script.specs.Replies.{numbered_refusal, refusal, edit_reply, value_reply, unroll_reply};
 ghost use Rattle.aig_script.specs.Replies.{CommandReply, WholeReply};
 ghost use Rattle.aig_script.specs.state.Faults.{row_fault_reply};
-ghost use Rattle.aig_script.specs.ScriptLine.{BeginsRow, KeepsLine};
+ghost use Rattle.aig_script.specs.ScriptLine.{BeginsRow, KeepsScriptLine};
 
 use crate::command::{Command, parse_command};
 use crate::script_line::ScriptLine;
@@ -199,7 +199,7 @@ pub fn answer<G: Grid, W: Write>(
     out: &mut W,
 ) -> Result<(), Io>
     requires { line.now.row.width ≡ length bench.old.pair.circuit.inputs }
-    ensures { (reply : List ℕ) × ((text : List ℕ) → KeepsLine text line.now →
+    ensures { (reply : List ℕ) × ((text : List ℕ) → KeepsScriptLine text line.now →
         WholeReply bench.old.pair text reply bench.new.pair)
         × Writes W.written W.failures out.old out.new reply result }
 {

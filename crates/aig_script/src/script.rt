@@ -6,7 +6,7 @@ ghost use Rattle.aig_bytes.specs.Flow.{flow};
 ghost use Rattle.aig_script.specs.Lines.{IsPiece, whole, lines_from, rest_from};
 ghost use Rattle.aig_script.specs.Ran.{Answered, StoppedAt, Reading, Ran, Failing};
 ghost use Rattle.aig_script.specs.Replies.{WholeReply};
-ghost use Rattle.aig_script.specs.ScriptLine.{BeginsRow, KeepsLine};
+ghost use Rattle.aig_script.specs.ScriptLine.{BeginsRow, KeepsScriptLine};
 
 use crate::reply::{answer, answer_command};
 use crate::script_line::ScriptLine;
@@ -44,10 +44,10 @@ fn end_line<G: Grid, W: Write>(
     out: &mut W,
 ) -> Result<(), Io>
     requires width { line.old.row.width ≡ length bench.old.pair.circuit.inputs }
-    requires kept { (text : List ℕ) × KeepsLine text line.old }
+    requires kept { (text : List ℕ) × KeepsScriptLine text line.old }
     ensures width { line.new.row.width ≡ line.old.row.width }
-    ensures empty { OnOk result (KeepsLine [] line.new) }
-    ensures reply { (reply : List ℕ) × ((text : List ℕ) → KeepsLine text line.old →
+    ensures empty { OnOk result (KeepsScriptLine [] line.new) }
+    ensures reply { (reply : List ℕ) × ((text : List ℕ) → KeepsScriptLine text line.old →
         WholeReply bench.old.pair (text ++ piece.now) reply bench.new.pair)
         × Writes W.written W.failures out.old out.new reply result }
 {
@@ -69,16 +69,16 @@ fn feed_line<G: Grid, W: Write>(
     out: &mut W,
 ) -> Result<usize, Io>
     requires width { line.old.row.width ≡ length bench.old.pair.circuit.inputs }
-    requires kept { (text : List ℕ) × KeepsLine text line.old }
+    requires kept { (text : List ℕ) × KeepsScriptLine text line.old }
     ensures width { line.new.row.width ≡ length bench.new.pair.circuit.inputs }
     ensures bound { IfOk result (λ count. count ≤ length bytes.now) }
     ensures some { IfOk result (λ count. 0 < length bytes.now → 0 < count) }
-    ensures rest { IfOk result (λ count. (text : List ℕ) → KeepsLine text line.old →
-        KeepsLine (rest_from text (take count bytes.now)) line.new) }
-    ensures ok { IfOk result (λ count. (text : List ℕ) → KeepsLine text line.old →
+    ensures rest { IfOk result (λ count. (text : List ℕ) → KeepsScriptLine text line.old →
+        KeepsScriptLine (rest_from text (take count bytes.now)) line.new) }
+    ensures ok { IfOk result (λ count. (text : List ℕ) → KeepsScriptLine text line.old →
         Answered (flow W.written W.failures out.old out.new) (map whole (lines_from text (take count bytes.now)))
         bench.old.pair bench.new.pair) }
-    ensures err { OnErr result ((text : List ℕ) → KeepsLine text line.old →
+    ensures err { OnErr result ((text : List ℕ) → KeepsScriptLine text line.old →
         StoppedAt (flow W.written W.failures out.old out.new) (map whole (lines_from text bytes.now))
         bench.old.pair bench.new.pair) }
 {
@@ -100,14 +100,14 @@ fn feed<G: Grid, W: Write>(
     out: &mut W,
 ) -> Result<(), Io>
     requires width { line.old.row.width ≡ length bench.old.pair.circuit.inputs }
-    requires kept { (text : List ℕ) × KeepsLine text line.old }
+    requires kept { (text : List ℕ) × KeepsScriptLine text line.old }
     ensures width { line.new.row.width ≡ length bench.new.pair.circuit.inputs }
-    ensures rest { OnOk result ((text : List ℕ) → KeepsLine text line.old →
-        KeepsLine (rest_from text chunk.now) line.new) }
-    ensures ok { OnOk result ((text : List ℕ) → KeepsLine text line.old →
+    ensures rest { OnOk result ((text : List ℕ) → KeepsScriptLine text line.old →
+        KeepsScriptLine (rest_from text chunk.now) line.new) }
+    ensures ok { OnOk result ((text : List ℕ) → KeepsScriptLine text line.old →
         Answered (flow W.written W.failures out.old out.new) (map whole (lines_from text chunk.now)) bench.old.pair
         bench.new.pair) }
-    ensures err { OnErr result ((text : List ℕ) → KeepsLine text line.old →
+    ensures err { OnErr result ((text : List ℕ) → KeepsScriptLine text line.old →
         StoppedAt (flow W.written W.failures out.old out.new) (map whole (lines_from text chunk.now)) bench.old.pair
         bench.new.pair) }
 {
@@ -126,7 +126,7 @@ fn answer_lines<G: Grid, R: Read, W: Write>(
     reader: &mut R,
     out: &mut W,
 ) -> Result<(), Io>
-    requires empty { KeepsLine [] line.old }
+    requires empty { KeepsScriptLine [] line.old }
     requires width { line.old.row.width ≡ length bench.old.pair.circuit.inputs }
     ensures ok { OnOk result (Reading (flow R.left R.failures reader.old reader.new)
         (flow W.written W.failures out.old out.new)
@@ -155,7 +155,7 @@ fn answer_all<G: Grid, R: Read, W: Write>(
     reader: &mut R,
     out: &mut W,
 ) -> Result<(), Io>
-    requires empty { KeepsLine [] line.old }
+    requires empty { KeepsScriptLine [] line.old }
     requires width { line.old.row.width ≡ length bench.old.pair.circuit.inputs }
     ensures ok { OnOk result (Ran (flow R.left R.failures reader.old reader.new)
         (flow W.written W.failures out.old out.new)

@@ -1,6 +1,6 @@
 //! The line of a script that is being read.
 ghost use Rattle.std.specs.Prelude.{◌≡◌, ◌↔◌, List, ℕ, [], ◌∷◌, ◌++◌, true, IsTrue, IfOk, IfSome, IfNone, false};
-ghost use Rattle.aig_script.specs.ScriptLine.{BeginsRow, KeepsLine};
+ghost use Rattle.aig_script.specs.ScriptLine.{BeginsRow, KeepsScriptLine};
 
 use aig_base::Memory;
 use aig_sim::LineInHand;
@@ -34,7 +34,7 @@ impl Model for ScriptLine {
 impl ScriptLine {
     /// An empty line, with room for a row of this width.
     pub fn new(alloc: Global, width: usize) -> Result<ScriptLine, Memory>
-        ensures empty { IfOk result (KeepsLine []) }
+        ensures empty { IfOk result (KeepsScriptLine []) }
         ensures width { IfOk result (λ line. line.row.width ≡ width) }
     {
         Ok(ScriptLine {
@@ -47,7 +47,7 @@ impl ScriptLine {
 
     /// Begins the next line, in the same room.
     pub fn clear(&mut self)
-        ensures empty { KeepsLine [] self.new }
+        ensures empty { KeepsScriptLine [] self.new }
         ensures width { self.new.row.width ≡ self.old.row.width }
     {
         self.length = 0;
@@ -58,7 +58,7 @@ impl ScriptLine {
     // The next byte of a line that appends a frame.
     fn push_value(&mut self, byte: u8)
         requires { self.old.is_row ≡ true }
-        ensures keeps { (line : List ℕ) → KeepsLine line self.old → KeepsLine (line ++ byte ∷ []) self.new }
+        ensures keeps { (line : List ℕ) → KeepsScriptLine line self.old → KeepsScriptLine (line ++ byte ∷ []) self.new }
         ensures width { self.new.row.width ≡ self.old.row.width }
     {
         let Ok(()) = self.row.push(byte) else {
@@ -76,7 +76,7 @@ impl ScriptLine {
     // The next byte of any other line.
     fn push_byte(&mut self, byte: u8)
         requires { self.old.is_row ≡ false }
-        ensures keeps { (line : List ℕ) → KeepsLine line self.old → KeepsLine (line ++ byte ∷ []) self.new }
+        ensures keeps { (line : List ℕ) → KeepsScriptLine line self.old → KeepsScriptLine (line ++ byte ∷ []) self.new }
         ensures width { self.new.row.width ≡ self.old.row.width }
     {
         if self.begins_row(byte) {
@@ -90,7 +90,7 @@ impl ScriptLine {
 
     /// Takes the line's next byte.
     pub fn push(&mut self, byte: u8)
-        ensures keeps { (line : List ℕ) → KeepsLine line self.old → KeepsLine (line ++ byte ∷ []) self.new }
+        ensures keeps { (line : List ℕ) → KeepsScriptLine line self.old → KeepsScriptLine (line ++ byte ∷ []) self.new }
         ensures width { self.new.row.width ≡ self.old.row.width }
     {
         if self.is_row {
@@ -102,7 +102,7 @@ impl ScriptLine {
 
     /// Takes the line's next bytes.
     pub fn extend(&mut self, bytes: &[u8])
-        ensures keeps { (line : List ℕ) → KeepsLine line self.old → KeepsLine (line ++ bytes.now) self.new }
+        ensures keeps { (line : List ℕ) → KeepsScriptLine line self.old → KeepsScriptLine (line ++ bytes.now) self.new }
         ensures width { self.new.row.width ≡ self.old.row.width }
     {
         for byte in bytes {
@@ -112,7 +112,7 @@ impl ScriptLine {
 
     /// Whether the line has no byte so far.
     pub fn is_empty(&self) -> bool
-        ensures { (line : List ℕ) → KeepsLine line self.now → IsTrue result ↔ (line ≡ []) }
+        ensures { (line : List ℕ) → KeepsScriptLine line self.now → IsTrue result ↔ (line ≡ []) }
     {
         self.row().is_none() && self.bytes().is_empty()
     }

@@ -9,6 +9,8 @@ mod circuits;
 #[cfg(test)]
 mod fakes;
 #[cfg(test)]
+mod formulas;
+#[cfg(test)]
 mod grids;
 #[cfg(test)]
 mod literals;

@@ -94,7 +94,7 @@ static IN_ORDER: [(&[u8], bool); 5] = [
     (b"aag 4 2 0 1 2\n2\n4\n8\n8 2 4\n6 2 4\n", true),
 ];
 
-// Gates that stand behind those that they read are seen to. No clause says so: a no is always allowed.
+// Whether each gate stands after those that it reads.
 #[test]
 fn gates_in_order(rt: HostRuntime) {
     let mut right = true;

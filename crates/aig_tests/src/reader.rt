@@ -177,10 +177,18 @@ fn failing_reads(rt: HostRuntime) {
     }
 }
 
-// A name of 9,000 bytes.
-fn is_filled(bytes: &mut Vec<u8>) -> bool {
+// Files of a block of 32,768 bytes, of one byte less and more, and of two blocks. One input has a name that fills the
+// file. Each row has the length before the last LF, that of the name, and the places of the bytes after the LF.
+static FILLED: [(usize, usize, u64, u64); 4] = [
+    (32_766, 32_747, 32_767, 32_768),
+    (32_767, 32_748, 32_768, 32_769),
+    (32_768, 32_749, 32_769, 32_770),
+    (65_535, 65_516, 65_536, 65_537),
+];
+
+fn is_filled(bytes: &mut Vec<u8>, length: usize) -> bool {
     bytes.extend_from_slice(b"aag 1 1 0 0 0\n2\ni0 ").is_ok()
-        && bytes.resize(9_019, b'a').is_ok()
+        && bytes.resize(length, b'a').is_ok()
         && bytes.push(b'\n').is_ok()
 }
 
@@ -193,31 +201,33 @@ fn ends_at(alloc: Global, bytes: &mut Vec<u8>, end: u8, at: u64) -> bool {
     pushed & right
 }
 
-fn has_long_name(circuit: &Circuit) -> bool {
+fn has_long_name(circuit: &Circuit, length: usize) -> bool {
     let mut right = circuit.symbols().len() == 1;
     for (_, name) in circuit.symbols().iter() {
-        right &= name.len() == 9_000;
+        right &= name.len() == length;
     }
     right
 }
 
-fn gets_long_name(alloc: Global, bytes: &[u8]) -> bool {
+fn gets_long_name(alloc: Global, bytes: &[u8], length: usize) -> bool {
     match read_from(alloc, &mut MemReader::new(bytes)) {
-        Ok(circuit) => has_long_name(&circuit),
+        Ok(circuit) => has_long_name(&circuit, length),
         Err(_) => false,
     }
 }
 
-fn goes_over_blocks(alloc: Global) -> bool {
+fn goes_over_blocks(alloc: Global, length: usize, name: usize, first: u64, second: u64) -> bool {
     let mut bytes = Vec::new(alloc);
-    is_filled(&mut bytes)
-        & ends_at(alloc, &mut bytes, b'c', 9_021)
-        & ends_at(alloc, &mut bytes, b'x', 9_020)
-        & gets_long_name(alloc, &bytes)
+    is_filled(&mut bytes, length)
+        & ends_at(alloc, &mut bytes, b'x', first)
+        & ends_at(alloc, &mut bytes, b'c', second)
+        & gets_long_name(alloc, &bytes, name)
 }
 
-// A name that fills more than one block, and the place of a fault behind it.
+// The place of a fault after a file of this many bytes, from both sources: a reader gives whole blocks.
 #[test]
 fn blocks(rt: HostRuntime) {
-    assert!(rt; goes_over_blocks(rt.alloc()));
+    for &(length, name, first, second) in &FILLED {
+        assert!(rt; goes_over_blocks(rt.alloc(), length, name, first, second));
+    }
 }

@@ -1,7 +1,7 @@
 use Rattle.std.proofs.Common.{◌≡◌, ℕ, List, [], ◌++◌, subst, sym, ◌∙◌}
 use Rattle.std.proofs.lemmas.Bool.{true≢false}
 use Rattle.aig_script.specs.Replies.{WholeReply}
-use Rattle.aig_script.specs.ScriptLine.{KeepsLine}
+use Rattle.aig_script.specs.ScriptLine.{KeepsScriptLine}
 use Rattle.aig_script.proofs.ReplyLemmas.{on_ok}
 use Rattle.aig_script.proofs.script.end_line.Goals as goal
 use Rattle.aig_bytes.proofs.WriteLemmas.{writes_err}
@@ -10,7 +10,7 @@ pub returns-then-not-begins_row-clause-empty : goal.returns-then-not-begins_row-
 returns-then-not-begins_row-clause-empty g c =
     let (text, k) = c.requires.kept in
     let nothing : text ≡ [] = (c.is_empty.ensures text k).0 c.if-is_empty.true in
-    on_ok c.answer_command.result (subst (λ (t : List ℕ). KeepsLine t c.args.line.now) nothing k)
+    on_ok c.answer_command.result (subst (λ (t : List ℕ). KeepsScriptLine t c.args.line.now) nothing k)
 
 pub returns-then-not-begins_row-clause-reply : goal.returns-then-not-begins_row-clause-reply
 returns-then-not-begins_row-clause-reply g c =

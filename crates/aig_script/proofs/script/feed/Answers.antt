@@ -2,7 +2,7 @@ use Rattle.std.proofs.Common.{◌≡◌, ℕ, ◌+◌, ◌-◌, ◌++◌, List, 
 use Rattle.std.proofs.lemmas.List.{take_all, take-append-drop, length-drop}
 use Rattle.std.proofs.Math.Seq.{take-add}
 use Rattle.aig_script.specs.Lines.{whole, lines_from, rest_from}
-use Rattle.aig_script.specs.ScriptLine.{KeepsLine}
+use Rattle.aig_script.specs.ScriptLine.{KeepsScriptLine}
 use Rattle.aig_script.proofs.ReplyLemmas.{rest_from-append, whole_from-append, on_err, answered_then, answered_same, stopped_then, stopped_same}
 use Rattle.aig_script.proofs.script.feed.Goals as goal
 
@@ -34,7 +34,7 @@ loop-at-preserved g c =
       inside = omega (arith, inv.inside, c.in_ok-at.ensures.bound, ap length rest, length-drop i xs);
       width = c.in_ok-at.ensures.width;
       rest = λ text k.
-          subst (λ (t : List ℕ). KeepsLine t c.feed_line.new.line)
+          subst (λ (t : List ℕ). KeepsScriptLine t c.feed_line.new.line)
           (sym (rest_from-append text (take i xs) piece) ∙ ap (rest_from text) step)
           (c.in_ok-at.ensures.rest (rest_from text (take i xs)) (inv.rest text k));
       answered = λ text k.
@@ -49,7 +49,7 @@ pub returns-clause-rest : goal.returns-clause-rest
 returns-clause-rest g c = λ text k.
     let all : take c.loop-at.at c.args.chunk.now ≡ c.args.chunk.now
     = take_all c.loop-at.at c.args.chunk.now c.loop-at-test.false in
-    subst (λ (t : List ℕ). KeepsLine (rest_from text t) c.loop-at.line) all (c.loop-at.invariant.rest text k)
+    subst (λ (t : List ℕ). KeepsScriptLine (rest_from text t) c.loop-at.line) all (c.loop-at.invariant.rest text k)
 
 pub returns-clause-ok : goal.returns-clause-ok
 returns-clause-ok g c = λ text k.

@@ -1,7 +1,7 @@
 use Rattle.std.proofs.Common.{◌≡◌, ℕ, ◌+◌, ◌++◌, ◌<◌, [], List, length, take, drop, map, ap, refl, sym, subst, ◌∙◌, arith}
 use Rattle.std.proofs.lemmas.List.{take_all}
 use Rattle.aig_script.specs.Lines.{IsPiece, whole, lines_from, rest_from}
-use Rattle.aig_script.specs.ScriptLine.{KeepsLine}
+use Rattle.aig_script.specs.ScriptLine.{KeepsScriptLine}
 use Rattle.aig_script.proofs.Inputs.{same_inputs}
 use Rattle.aig_script.proofs.Pieces.{ended_rest, ended_lines, split_lines}
 use Rattle.aig_script.proofs.Splits.{no_lines, all_rest}
@@ -38,7 +38,7 @@ returns-clause-rest g c =
     let n = c.line_length-length.result in
     let lt : n < length xs = omega arith in
     λ text k.
-    subst (λ (t : List ℕ). KeepsLine t c.end_line.new.line)
+    subst (λ (t : List ℕ). KeepsScriptLine t c.end_line.new.line)
     (sym (ended_rest text xs n lt (c.line_length-length.ensures.ended lt) c.line_length-length.ensures.piece)) c.in_ok-end_line.ensures.empty
 
 pub returns-clause-ok : goal.returns-clause-ok
@@ -58,7 +58,7 @@ returns-then-length-bytes-clause-rest g c =
     let all : take n xs ≡ xs = take_all n xs (omega arith) in
     let piece : IsPiece xs = subst IsPiece all c.line_length-length.ensures.piece in
     λ text k.
-    subst (λ (t : List ℕ). KeepsLine t c.extend.new.self)
+    subst (λ (t : List ℕ). KeepsScriptLine t c.extend.new.self)
     (sym (ap (rest_from text) all ∙ all_rest text xs piece)) (c.extend.ensures.keeps text k)
 
 pub returns-then-length-bytes-clause-ok : goal.returns-then-length-bytes-clause-ok
