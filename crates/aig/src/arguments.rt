@@ -3,7 +3,7 @@
 use crate::exit::Exit;
 use crate::task::Task;
 use aig_base::Memory;
-use aig_command_line::{has_flag, matches_of};
+use aig_cli::{has_flag, matches_of};
 use aig_explain::escaped;
 use aig_fault::RunFault;
 use clap::error::ErrorKind;

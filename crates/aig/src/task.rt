@@ -5,7 +5,7 @@ use crate::exit::Exit;
 use crate::kept::Kept;
 use crate::simulations::{bench, simulate, wave};
 use crate::witnesses::{check, wave_witness};
-use aig_command_line::{has_flag, number_of, subcommand_of, text_of};
+use aig_cli::{has_flag, number_of, subcommand_of, text_of};
 use aig_format::Format;
 use clap::ArgMatches;
 use std::fs::Files;

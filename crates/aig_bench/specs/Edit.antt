@@ -8,7 +8,7 @@ use Rattle.aig_base.specs.Sections.{IsDefined, IsLeftSide, IsLatchLiteral}
 use Rattle.aig_base.specs.Grounded.{IsAcyclic}
 use Rattle.aig_base.specs.Sound.{IsInRange}
 use Rattle.aig_base.specs.Changes.{with_gate, with_reset, with_output, with_appended_gate}
-use Rattle.aig_grids.specs.InputRows.{with_cell}
+use Rattle.aig_values.specs.InputRows.{with_cell}
 use Rattle.aig_bench.specs.declared.edit.EditFault.{EditFault}
 use Rattle.aig_bench.specs.declared.edit.EditFault.TheVariants as fault
 use Rattle.aig_bench.specs.Pair.{Pair}

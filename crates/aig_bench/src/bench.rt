@@ -7,9 +7,10 @@ ghost use Rattle.aig_base.specs.Renumbered.{IsBinaryReady};
 ghost use Rattle.aig_bench.specs.CurrentCells.{HasCurrentCells};
 ghost use Rattle.aig_bench.specs.Pair.{HasTrace};
 ghost use Rattle.aig_bench.specs.Question.{AnswersValue};
-ghost use Rattle.aig_grids.specs.InputRows.{HaveWidth};
+ghost use Rattle.aig_values.specs.InputRows.{HaveWidth};
 ghost use Rattle.aig_unroll.specs.Answers.{AnswersUnrolling};
 
+use crate::bench_fault::BenchFault;
 use crate::allowed::is_defined;
 use crate::driven_circuit::DrivenCircuit;
 use crate::edit::EditFault;
@@ -19,7 +20,7 @@ use crate::trace::write_frames;
 use crate::value::literal_at;
 use aig_base::{Circuit, Io, Lit, Tern, Write};
 use aig_unroll::{UnrollFault, unroll};
-use aig_values::{BenchFault, Grid, Stimulus};
+use aig_values::{Grid, Stimulus};
 use std::alloc::Global;
 use std::marker::Model;
 

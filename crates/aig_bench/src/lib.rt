@@ -4,6 +4,7 @@
 mod allowed;
 mod bench;
 mod bench_edits;
+mod bench_fault;
 mod buckets;
 mod driven_circuit;
 mod edit;
@@ -26,7 +27,7 @@ mod sizes;
 mod trace;
 mod value;
 
-pub use aig_values::BenchFault;
 pub use bench::Bench;
+pub use bench_fault::BenchFault;
 pub use edit::{EditFault, EditReport};
 pub use laws::law_of_counts;

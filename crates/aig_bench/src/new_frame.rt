@@ -2,7 +2,7 @@
 ghost use Rattle.std.specs.Prelude.{◌≡◌, ℕ, ◌*◌, ◌<◌, length, Some, slice_get};
 ghost use Rattle.aig_base.specs.Grounded.{IsSource};
 ghost use Rattle.aig_parts.specs.Literal.{variable};
-ghost use Rattle.aig_grids.specs.InputRows.{row_at};
+ghost use Rattle.aig_values.specs.InputRows.{row_at};
 ghost use Rattle.aig_bench.specs.state.Current.{HoldsInputs, HoldsLatches, IsCurrentBefore, IsCurrentRow};
 ghost use Rattle.aig_bench.specs.state.Filled.{FillsRow, FillsSource, KeepsValues};
 ghost use Rattle.aig_bench.specs.state.SweepOrder.{IsKnown};

@@ -3,8 +3,8 @@ ghost use Rattle.std.specs.Prelude.{◌≡◌, ℕ, ◌-◌, ◌+◌, ◌<◌, �
 ghost use Rattle.std.specs.Vec.{vec_capacity};
 ghost use Rattle.aig_parts.specs.Formed.{limit};
 ghost use Rattle.aig_parts.specs.Literal.{variable};
-ghost use Rattle.aig_grids.specs.Cells.{gate_value, HasCells};
-ghost use Rattle.aig_grids.specs.InputRows.{row_at};
+ghost use Rattle.aig_values.specs.Cells.{gate_value, HasCells};
+ghost use Rattle.aig_values.specs.InputRows.{row_at};
 ghost use Rattle.aig_bench.specs.declared.driven_circuit.DrivenCircuit.{DrivenCircuit};
 ghost use Rattle.aig_bench.specs.state.Buckets.{FitsOneMore};
 ghost use Rattle.aig_bench.specs.state.Pending.{IsReady};

@@ -8,7 +8,7 @@ ghost use Rattle.aig_base.specs.Circuit.{IsCircuit};
 ghost use Rattle.aig_base.specs.Levels.{AreLevels};
 ghost use Rattle.aig_parts.specs.Literal as literal;
 ghost use Rattle.aig_base.specs.Sections.{IsDefined, IsGate};
-ghost use Rattle.aig_grids.specs.Cells.{HasCells, with_swept_row};
+ghost use Rattle.aig_values.specs.Cells.{HasCells, with_swept_row};
 ghost use Rattle.aig_bench.specs.state.Current.{AreGateFlags};
 ghost use Rattle.aig_bench.specs.state.SweepOrder.{gates_at, ArePositions, FitsOneGate, IsFullOrder, IsKnown, Orders};
 

@@ -4,8 +4,9 @@ ghost use Rattle.aig_base.specs.Circuit.{IsCircuit};
 ghost use Rattle.aig_parts.specs.Limits.{cell_limit};
 ghost use Rattle.aig_bench.specs.state.DrivenCircuit.{IsDriven};
 
+use crate::bench_fault::BenchFault;
 use aig_base::Circuit;
-use aig_values::{BenchFault, Stimulus};
+use aig_values::Stimulus;
 
 /// The greatest number of cells of a bench: variables times frames.
 pub const CELLS: u64 = 67_108_864;

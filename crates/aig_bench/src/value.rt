@@ -1,8 +1,8 @@
 //! Values by the cells of a grid.
 ghost use Rattle.std.specs.Prelude.{◌≡◌, ℕ, ◌*◌, ◌<◌, length, Some, slice_get};
 ghost use Rattle.aig_parts.specs.Literal.{variable};
-ghost use Rattle.aig_grids.specs.Cells.{literal_value};
-ghost use Rattle.aig_grids.specs.InputRows.{row_at};
+ghost use Rattle.aig_values.specs.Cells.{literal_value};
+ghost use Rattle.aig_values.specs.InputRows.{row_at};
 ghost use Rattle.aig_bench.specs.Pair.{HasValue};
 ghost use Rattle.aig_bench.specs.state.Current.{IsCurrentBefore};
 

@@ -2,8 +2,8 @@
 use Rattle.std.proofs.Common.{◌≡◌, ◌+◌, ◌*◌, ◌<◌, length, Result, Ok, Err, refl, sym, subst}
 use Rattle.std.specs.Prelude.{IfErr}
 use Rattle.std.specs.Result.{IsErrAnd}
-use Rattle.aig_values.specs.declared.bench_fault.BenchFault.{BenchFault}
-use Rattle.aig_values.specs.declared.bench_fault.BenchFault.TheVariants as benches
+use Rattle.aig_bench.specs.declared.bench_fault.BenchFault.{BenchFault}
+use Rattle.aig_bench.specs.declared.bench_fault.BenchFault.TheVariants as benches
 use Rattle.aig_bench.specs.Pair.{Pair}
 use Rattle.aig_commands.specs.BenchFiles.{RefusesBench}
 

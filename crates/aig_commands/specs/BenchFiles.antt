@@ -8,8 +8,8 @@ use Rattle.aig_format.specs.Spelling.{short_ascii}
 use Rattle.aig_sim.specs.declared.stimulus_fault.StimFault.{StimFault}
 use Rattle.aig_sim.specs.declared.stimulus_fault.StimFault.TheVariants as stimuli
 use Rattle.aig_sim.specs.StimulusText.{SpellsRows, HasFaultyLine, row_line}
-use Rattle.aig_values.specs.declared.bench_fault.BenchFault.{BenchFault}
-use Rattle.aig_values.specs.declared.bench_fault.BenchFault.TheVariants as benches
+use Rattle.aig_bench.specs.declared.bench_fault.BenchFault.{BenchFault}
+use Rattle.aig_bench.specs.declared.bench_fault.BenchFault.TheVariants as benches
 use Rattle.aig_bench.specs.Pair.{Pair}
 use Rattle.aig_fault.specs.declared.run_fault.RunFault.{RunFault}
 use Rattle.aig_fault.specs.declared.run_fault.RunFault.TheVariants.{Circuit, Stimulus, Witness, Bench, Script, Output, Memory, Unroll}

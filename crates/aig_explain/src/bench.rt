@@ -1,12 +1,12 @@
 //! Why a bench is not made.
 ghost use Rattle.std.specs.Prelude.{◌≡◌, ◌≢◌, [], IfOk};
 
+use aig_bench::BenchFault;
 use crate::explanation::Explanation;
 use crate::header::Header;
 use crate::stimulus::header_of;
 use crate::text_lines::TextLines;
 use aig_bytes::Memory;
-use aig_values::BenchFault;
 use std::alloc::Global;
 
 fn push_limit(lines: &mut Explanation, circuit: &[u8], stimulus: &[u8]) -> Result<(), Memory> {

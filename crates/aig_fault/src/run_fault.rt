@@ -2,11 +2,11 @@
 ghost use Rattle.std.specs.Prelude.{◌≡◌};
 ghost use Rattle.aig_fault.specs.Status.{status_of};
 
+use aig_bench::BenchFault;
 use crate::script_fault::ScriptFault;
 use aig_base::{Fault, Memory};
 use aig_sim::{StimFault, WitnessFault};
 use aig_unroll::UnrollFault;
-use aig_values::BenchFault;
 use thiserror::Error;
 
 /// The part of a run that refused, and its fault.

@@ -10,7 +10,7 @@ use Rattle.aig_base.specs.Sound.{IsSound}
 use Rattle.aig_base.specs.Value.{Value, start_of}
 use Rattle.aig_base.proofs.levels.OneOrder.{one_order}
 use Rattle.aig_base.proofs.values.UniqueValue.{unique}
-use Rattle.aig_grids.specs.Characters.{character}
+use Rattle.aig_values.specs.Characters.{character}
 use Rattle.aig_values.specs.Trace.{AreValues, IsLine, AreLines}
 use Rattle.aig_unroll.specs.declared.fault.UnrollFault.{UnrollFault}
 use Rattle.aig_unroll.specs.declared.fault.UnrollFault.TheVariants as unroll_faults

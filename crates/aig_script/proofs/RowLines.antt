@@ -6,7 +6,7 @@ use Rattle.aig_parts.specs.declared.ternary.Tern.{Tern}
 use Rattle.aig_parts.specs.declared.ternary.Tern.TheVariants.{Zero, One, X}
 use Rattle.aig_sim.specs.declared.stimulus_fault.StimFault.{StimFault}
 use Rattle.aig_sim.specs.declared.stimulus_fault.StimFault.TheVariants as stimuli
-use Rattle.aig_grids.specs.Characters.{character}
+use Rattle.aig_values.specs.Characters.{character}
 use Rattle.aig_sim.specs.StimulusText.{IsCharacter, HasFault}
 use Rattle.aig_sim.specs.declared.line_in_hand.Shape.{Shape}
 use Rattle.aig_sim.specs.declared.line_in_hand.Shape.TheVariants.{Row}

@@ -5,7 +5,7 @@ use Rattle.aig_parts.specs.declared.raw.Raw.{Raw}
 use Rattle.aig_parts.specs.declared.ternary.Tern.{Tern}
 use Rattle.aig_parts.specs.Literal.{variable}
 use Rattle.aig_format.specs.Spelling.{short_ascii}
-use Rattle.aig_grids.specs.Characters.{character}
+use Rattle.aig_values.specs.Characters.{character}
 use Rattle.aig_unroll.specs.declared.fault.UnrollFault.{UnrollFault}
 use Rattle.aig_unroll.specs.Answers as unrolling
 use Rattle.aig_unroll.specs.Answers.{AnswersUnrolling}

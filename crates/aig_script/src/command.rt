@@ -2,7 +2,7 @@
 ghost use Rattle.std.specs.Prelude.{◌≡◌, ◌≢◌, ◌<◌, ℕ, List, ◌∷◌, ◌++◌, [], All, codes, IfSome, IfNone};
 ghost use Rattle.std.specs.Fmt.{decimal};
 ghost use Rattle.aig_parts.specs.declared.ternary.Tern.{Tern};
-ghost use Rattle.aig_grids.specs.Characters.{character};
+ghost use Rattle.aig_values.specs.Characters.{character};
 ghost use Rattle.aig_script.specs.Command.{command_text, field, rewire_fields, reset_fields, bit_fields, append_fields};
 ghost use Rattle.aig_script.specs.Command.{output_fields, value_fields, IsCommand, IsNoCommand, IsNumber};
 ghost use Rattle.aig_script.specs.state.CommandMeaning.{meaning};

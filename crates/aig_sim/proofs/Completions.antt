@@ -14,7 +14,7 @@ use Rattle.aig_base.specs.Value.{Value}
 use Rattle.aig_base.proofs.values.OneValue.{have_one_value}
 use Rattle.aig_base.proofs.values.Refined.{AllZip-slice_get, kept}
 use Rattle.aig_sim.specs.declared.verdict.Verdict.TheVariants as verdict
-use Rattle.aig_grids.specs.InputRows.{HaveWidth}
+use Rattle.aig_values.specs.InputRows.{HaveWidth}
 use Rattle.aig_sim.specs.Verdict.{Allows, StartsWrong, IsNotOne, IsVerdict, IsConfirmed}
 use Rattle.aig_sim.specs.WitnessText.{Witness}
 use Rattle.aig_values.proofs.TraceLemmas.{all_zip_from}

@@ -5,11 +5,11 @@ use Rattle.std.proofs.lemmas.Bool.{eqb-true}
 use Rattle.std.proofs.lemmas.List.{drop_more, drop_all}
 use Rattle.aig_parts.specs.declared.ternary.Tern.{Tern}
 use Rattle.aig_parts.specs.declared.ternary.Tern.TheVariants.{Zero, One, X}
-use Rattle.aig_grids.specs.Cells.{literal_value}
+use Rattle.aig_values.specs.Cells.{literal_value}
 use Rattle.aig_sim.specs.Dump.{value_line, all_lines, changed_lines}
 use Rattle.aig_sim.specs.state.Dumping.{number_line, dumped_text}
-use Rattle.aig_grids.specs.Characters.{character}
-use Rattle.aig_grids.specs.TraceText.{literal_character}
+use Rattle.aig_values.specs.Characters.{character}
+use Rattle.aig_values.specs.TraceText.{literal_character}
 
 pub if_true : {A : Type 0} (b : Bool) (x y : A) → b ≡ true → (if b then x else y) ≡ x
 if_true b x y e = ap (λ (t : Bool). if t then x else y) e

@@ -10,7 +10,7 @@ use Rattle.aig_parts.specs.declared.raw.Raw.{Raw}
 use Rattle.aig_base.specs.Sound.{IsSound}
 use Rattle.aig_base.specs.Value.{Value}
 use Rattle.aig_base.proofs.values.UniqueValue.{unique}
-use Rattle.aig_grids.specs.Characters.{character}
+use Rattle.aig_values.specs.Characters.{character}
 use Rattle.aig_sim.specs.StimulusText.{IsCharacter}
 use Rattle.aig_values.specs.Trace.{AreValues}
 use Rattle.aig_sim.specs.Dump.{signals, first_text, next_text, AreFrames, closing, IsDump}

@@ -16,7 +16,7 @@ use Rattle.aig_sim.specs.declared.stimulus_fault.StimFault.{StimFault}
 use Rattle.aig_sim.specs.declared.stimulus_fault.StimFault.TheVariants as fault
 use Rattle.aig_sim.specs.declared.line_in_hand.Shape.{Shape}
 use Rattle.aig_sim.specs.declared.line_in_hand.Shape.TheVariants.{Row, Long, Wrong}
-use Rattle.aig_grids.specs.Characters.{character}
+use Rattle.aig_values.specs.Characters.{character}
 use Rattle.aig_sim.specs.StimulusText.{row_line, line_number, IsCharacter, EndsLine, HasFault, HasFaultyLine, SpellsRows}
 use Rattle.aig_sim.specs.LineInHand.{Keeps, HasRead}
 

@@ -23,7 +23,7 @@ use Rattle.aig_values.specs.state.Frame.{HoldsAll, AreStates}
 use Rattle.aig_sim.specs.state.Machine.{Steps}
 use Rattle.aig_sim.specs.state.Replaying.{BeginsRun, NoneTold, HasReplayed, WritesFrames, WritesRun}
 use Rattle.aig_sim.specs.state.Running.{Telling, Recorded}
-use Rattle.aig_grids.specs.Characters.{character}
+use Rattle.aig_values.specs.Characters.{character}
 use Rattle.aig_values.specs.Trace.{IsTrace}
 use Rattle.aig_sim.specs.WitnessText.{Witness, SpellsWitness, IsAdmitted, HasWitnessFault, rows_text}
 use Rattle.aig_sim.proofs.DumpedLemmas.{ending_is}

@@ -14,7 +14,7 @@ use Rattle.aig_base.proofs.values.OneValue.{exists_value}
 use Rattle.aig_base.proofs.lists.Positions.{Contains-from_slice_get}
 use Rattle.aig_sim.specs.Dump.{signals, first_text, next_text, IsFrame, AreFrames}
 use Rattle.aig_sim.specs.state.Dumping.{AreDumped}
-use Rattle.aig_grids.specs.Characters.{character}
+use Rattle.aig_values.specs.Characters.{character}
 use Rattle.aig_values.specs.Trace.{AreValues, IsLine, AreLines, IsTrace}
 use Rattle.aig_sim.proofs.DumpFrames.{signals_defined, frames_stay}
 use Rattle.aig_values.proofs.TraceLemmas.{lines_stay}

@@ -14,15 +14,15 @@ use Rattle.aig_base.specs.Sound.{IsSound, IsInRange}
 use Rattle.aig_base.specs.Value.{Value}
 use Rattle.aig_base.proofs.lists.Positions.{Contains-from_slice_get}
 use Rattle.aig_base.proofs.values.UniqueValue.{unique}
-use Rattle.aig_grids.specs.Cells.{literal_value}
+use Rattle.aig_values.specs.Cells.{literal_value}
 use Rattle.aig_sim.specs.declared.verdict.Verdict.{Verdict}
 use Rattle.aig_sim.specs.declared.verdict.Verdict.TheVariants as verdict
 use Rattle.aig_sim.specs.declared.witness_text.WitnessParts.{WitnessParts}
 use Rattle.aig_sim.specs.state.Checking.{ArePartsOf, BeginsWithRow, ReadsNotOne, HasRun, HoldConstraints, IsFirstFailure}
 use Rattle.aig_values.specs.state.Frame.{HoldsAll, AreStates}
 use Rattle.aig_sim.specs.state.Machine.{Steps}
-use Rattle.aig_grids.specs.Characters.{character}
-use Rattle.aig_grids.specs.InputRows.{HaveWidth}
+use Rattle.aig_values.specs.Characters.{character}
+use Rattle.aig_values.specs.InputRows.{HaveWidth}
 use Rattle.aig_sim.specs.StimulusText.{row_line}
 use Rattle.aig_sim.specs.Verdict.{Allows, StartsWrong, IsNotOne, Applies, IsBefore, IsVerdict}
 use Rattle.aig_sim.specs.WitnessText.{Witness, IsAdmitted, rows_text}

@@ -9,8 +9,8 @@ use Rattle.aig_parts.specs.declared.ternary.Tern.TheVariants.{Zero, One, X}
 use Rattle.aig_parts.specs.declared.raw.Raw.{Raw}
 use Rattle.aig_sim.specs.declared.witness_text.WitnessParts.{WitnessParts}
 use Rattle.aig_sim.specs.state.Checking.{BeginsWithRow, SpellsFrames, ArePartsOf}
-use Rattle.aig_grids.specs.Characters.{character}
-use Rattle.aig_grids.specs.InputRows.{HaveWidth}
+use Rattle.aig_values.specs.Characters.{character}
+use Rattle.aig_values.specs.InputRows.{HaveWidth}
 use Rattle.aig_sim.specs.StimulusText.{row_line, IsCharacter}
 use Rattle.aig_sim.specs.WitnessText.{Witness, SpellsWitness, IsDecimal, rows_text}
 use Rattle.std.proofs.lemmas.Bool.{cases_eq}

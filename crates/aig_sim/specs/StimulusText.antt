@@ -6,8 +6,8 @@ use Rattle.aig_parts.specs.declared.ternary.Tern.{Tern}
 use Rattle.aig_sim.specs.declared.stimulus_fault.StimFault.{StimFault}
 use Rattle.aig_sim.specs.declared.stimulus_fault.StimFault.TheVariants as fault
 use Rattle.aig_parts.specs.Limits.{frame_limit}
-use Rattle.aig_grids.specs.Characters.{character}
-use Rattle.aig_grids.specs.InputRows.{HaveWidth}
+use Rattle.aig_values.specs.Characters.{character}
+use Rattle.aig_values.specs.InputRows.{HaveWidth}
 
 abbrev pub row_line : List Tern → List ℕ
 row_line row = map character row ++ 10 ∷ []

@@ -6,7 +6,7 @@ use Rattle.aig_parts.specs.declared.raw.Raw.{Raw}
 use Rattle.aig_sim.specs.declared.witness_fault.WitnessFault.{WitnessFault}
 use Rattle.aig_sim.specs.declared.witness_fault.WitnessFault.TheVariants as fault
 use Rattle.aig_parts.specs.Limits.{frame_limit}
-use Rattle.aig_grids.specs.InputRows.{HaveWidth}
+use Rattle.aig_values.specs.InputRows.{HaveWidth}
 use Rattle.aig_sim.specs.StimulusText.{row_line}
 
 -- the digits are the number in decimal, of any length and without leading zeros: a digit, or a positive number and a

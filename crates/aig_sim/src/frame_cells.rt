@@ -6,13 +6,13 @@ ghost use Rattle.aig_parts.specs.declared.raw.Raw.{Raw};
 ghost use Rattle.aig_base.specs.Circuit.{IsCircuit};
 ghost use Rattle.aig_parts.specs.Literal.{variable};
 ghost use Rattle.aig_base.specs.Sound.{IsSound};
-ghost use Rattle.aig_grids.specs.Cells.{literal_value};
+ghost use Rattle.aig_values.specs.Cells.{literal_value};
 ghost use Rattle.aig_values.specs.state.Frame.{AreStates, Renews, PutsInputs, HoldsLatches, HoldsSources, HoldsAll};
-ghost use Rattle.aig_grids.specs.Neighbours.{AreNeighbours};
+ghost use Rattle.aig_values.specs.Neighbours.{AreNeighbours};
 ghost use Rattle.aig_values.specs.GateOrder.{IsGateOrder};
 
 use aig_base::{Circuit, Gate, Tern};
-use aig_grids::code::{Code, code_in};
+use aig_values::code::{Code, code_in};
 
 // Writes the inputs' values, one by one.
 fn put_each_input(cells: &mut [Code], circuit: &Circuit, row: &[Tern])

@@ -1,7 +1,7 @@
 //! The line of a stimulus that is being read.
 ghost use Rattle.std.specs.Prelude.{◌≡◌, ◌≢◌, ℕ, ◌≤◌, ◌<◌, ◌↔◌, List, [], ◌∷◌, ◌++◌, length, map, All, IsTrue};
 ghost use Rattle.std.specs.Prelude.{IfOk, IfErr, OnOk, OnErr, IfSome, IfNone, Some, take, slice_get};
-ghost use Rattle.aig_grids.specs.Characters.{character};
+ghost use Rattle.aig_values.specs.Characters.{character};
 ghost use Rattle.aig_sim.specs.StimulusText.{line_number, IsCharacter, EndsLine, HasFault};
 ghost use Rattle.aig_sim.specs.LineInHand.{Keeps, IsOfLine};
 

@@ -6,12 +6,12 @@ ghost use Rattle.aig_base.specs.Value.{start_of};
 ghost use Rattle.aig_values.specs.state.Frame.{AreStates};
 ghost use Rattle.aig_values.specs.GateOrder.{IsGateOrder};
 ghost use Rattle.aig_sim.specs.state.Machine.{Steps};
-ghost use Rattle.aig_grids.specs.Neighbours.{AreNeighbours};
+ghost use Rattle.aig_values.specs.Neighbours.{AreNeighbours};
 
 use crate::frame_cells::{evaluate_row, renew_states};
 use aig_base::{Circuit, Gate, List, Lit, Memory, Tern};
-use aig_grids::code::{Code, character_in, spell_in};
-use aig_grids::row::{Row, first_of_neighbours};
+use aig_values::code::{Code, character_in, spell_in};
+use aig_values::row::{Row, first_of_neighbours};
 use aig_values::first_value;
 use aig_values::gate_order::reordered;
 use std::alloc::Global;
@@ -35,7 +35,7 @@ impl<'a> Model for Machine<'a> {
     ghost use Rattle.aig_base.specs.Circuit.{IsCircuit};
     ghost use Rattle.aig_values.specs.GateOrder.{IsGateOrder};
     ghost use Rattle.aig_sim.specs.state.Machine.{Machine};
-    ghost use Rattle.aig_grids.specs.Neighbours.{AreNeighbours};
+    ghost use Rattle.aig_values.specs.Neighbours.{AreNeighbours};
 
     ghost Value = { Machine };
 

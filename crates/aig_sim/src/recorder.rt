@@ -60,7 +60,7 @@ impl TraceRecorder {
 
 impl Recorder for TraceRecorder {
     ghost use Rattle.aig_values.specs.Trace.{IsTrace};
-    ghost use Rattle.aig_grids.specs.TraceText.{line_text};
+    ghost use Rattle.aig_values.specs.TraceText.{line_text};
 
     ghost is_text = { λ raw start rows text. IsTrace raw start rows text };
 

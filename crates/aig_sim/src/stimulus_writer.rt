@@ -2,11 +2,11 @@
 ghost use Rattle.std.specs.Prelude.{◌≡◌, length, map, flat_map};
 ghost use Rattle.aig_bytes.specs.Bytes.{Writes};
 ghost use Rattle.aig_bytes.specs.Gathered.{Gathers};
-ghost use Rattle.aig_grids.specs.Characters.{character};
+ghost use Rattle.aig_values.specs.Characters.{character};
 ghost use Rattle.aig_sim.specs.StimulusText.{row_line, SpellsRows};
 
 use aig_base::{Io, Tern, Write};
-use aig_grids::code::Code;
+use aig_values::code::Code;
 use aig_values::Stimulus;
 use aig_values::trace_line::TraceBlock;
 

@@ -5,7 +5,7 @@ ghost use Rattle.aig_parts.specs.declared.ternary.Tern.{Tern};
 ghost use Rattle.aig_base.specs.Circuit.{IsCircuit};
 ghost use Rattle.aig_sim.specs.state.Checking.{BeginsWithRow, SpellsFrames, ArePartsOf};
 ghost use Rattle.aig_sim.specs.state.Checking.{ReadsNotOne, HasRun, IsFirstFailure};
-ghost use Rattle.aig_grids.specs.Characters.{character};
+ghost use Rattle.aig_values.specs.Characters.{character};
 ghost use Rattle.aig_sim.specs.Verdict.{Allows, StartsWrong, IsVerdict, IsConfirmed};
 ghost use Rattle.aig_sim.specs.WitnessText.{Witness, SpellsWitness, IsAdmitted, HasWitnessFault};
 
@@ -15,7 +15,7 @@ use crate::verdict::Verdict;
 use crate::witness_fault::WitnessFault;
 use crate::witness_text::{WitnessParts, read_parts};
 use aig_base::{Circuit, Latch, Memory, Tern};
-use aig_grids::row::literal_in;
+use aig_values::row::literal_in;
 use aig_values::FRAMES;
 use std::alloc::Global;
 

@@ -4,8 +4,8 @@ ghost use Rattle.std.specs.Prelude.{All, IsTrue, IfSome, IfNone, slice_index_or}
 ghost use Rattle.aig_parts.specs.Formed.{limit};
 ghost use Rattle.aig_parts.specs.declared.ternary.Tern.{Tern};
 ghost use Rattle.aig_parts.specs.declared.raw.Raw.{Raw};
-ghost use Rattle.aig_grids.specs.Characters.{character};
-ghost use Rattle.aig_grids.specs.InputRows.{HaveWidth};
+ghost use Rattle.aig_values.specs.Characters.{character};
+ghost use Rattle.aig_values.specs.InputRows.{HaveWidth};
 ghost use Rattle.aig_sim.specs.StimulusText.{row_line, IsCharacter};
 ghost use Rattle.aig_sim.specs.WitnessText.{Witness, SpellsWitness, IsDecimal, rows_text};
 ghost use Rattle.aig_sim.specs.state.Checking.{BeginsWithRow, SpellsFrames, ArePartsOf};

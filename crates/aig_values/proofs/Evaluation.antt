@@ -18,7 +18,7 @@ use Rattle.aig_base.specs.Value.{Value}
 use Rattle.aig_base.proofs.circuits.Defined.{even, defined_cases}
 use Rattle.aig_base.proofs.values.Refined.{AllZip-slice_get}
 use Rattle.aig_base.proofs.values.UniqueValue.{unique}
-use Rattle.aig_grids.specs.Cells.{literal_value, gate_value}
+use Rattle.aig_values.specs.Cells.{literal_value, gate_value}
 use Rattle.aig_values.specs.state.Frame.{Holds, Renews, HoldsInputs, HoldsLatches, HoldsSources, HoldsAll, AreStates}
 use Rattle.aig_values.specs.GateOrder.{IsReady, IsGateOrder}
 use Rattle.aig_base.proofs.circuits.Circuits.{input_definition, latch_definition, gate_definition}

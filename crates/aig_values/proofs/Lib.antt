@@ -2,4 +2,11 @@ pub mod Evaluation
 pub mod FieldLemmas
 pub mod GateOrders
 pub mod GatherLemmas
+pub mod NeighbourLemmas
+pub mod PaddedRows
+pub mod SeenRows
+pub mod SweepLemmas
+pub mod SweptRows
 pub mod TraceLemmas
+pub mod WordBits
+pub mod WordLemmas

@@ -12,11 +12,11 @@ use Rattle.aig_base.specs.Value as value
 use Rattle.aig_base.specs.Value.{Value, start_of, reset_value}
 use Rattle.aig_base.proofs.circuits.Circuits.{input_defined, latch_defined, next_defined, output_defined}
 use Rattle.aig_base.proofs.lists.Positions.{slice_get_left}
-use Rattle.aig_grids.specs.Cells.{literal_value}
+use Rattle.aig_values.specs.Cells.{literal_value}
 use Rattle.aig_values.specs.state.Frame.{Holds, HoldsAll, AreStates}
-use Rattle.aig_grids.specs.InputRows.{row_at}
+use Rattle.aig_values.specs.InputRows.{row_at}
 use Rattle.aig_values.specs.Trace.{AreValues, IsLine, AreLines, IsTrace}
-use Rattle.aig_grids.specs.TraceText.{literal_character, line_text, trace_text}
+use Rattle.aig_values.specs.TraceText.{literal_character, line_text, trace_text}
 use Rattle.aig_values.proofs.Evaluation.{literal_has_value}
 
 all_zip_of_map : {A B : Type 0} (R : A → B → Type 0) (f : A → B) (xs : List A)

@@ -5,7 +5,7 @@ use Rattle.std.specs.List.{AllZip}
 use Rattle.aig_parts.specs.declared.ternary.Tern.{Tern}
 use Rattle.aig_parts.specs.declared.raw.Raw.{Raw}
 use Rattle.aig_base.specs.Value.{Value}
-use Rattle.aig_grids.specs.Characters.{character}
+use Rattle.aig_values.specs.Characters.{character}
 
 -- a character for the value of each literal
 abbrev pub AreValues : Raw → List Tern → List (List Tern) → ℕ → List ℕ → List ℕ → Type 0

@@ -4,13 +4,13 @@ ghost use Rattle.aig_bytes.specs.Bytes.{Writes};
 ghost use Rattle.aig_base.specs.Circuit.{IsCircuit};
 ghost use Rattle.aig_parts.specs.Literal.{variable};
 ghost use Rattle.aig_bytes.specs.Gathered.{Gathers};
-ghost use Rattle.aig_grids.specs.TraceText.{literal_character, line_text, trace_text};
+ghost use Rattle.aig_values.specs.TraceText.{literal_character, line_text, trace_text};
 ghost use Rattle.aig_values.specs.state.Fields.{literals_of};
 
 use aig_base::{Circuit, Io, Latch, Lit, Write};
 use aig_bytes::ByteBlock;
-use aig_grids::Grid;
-use aig_grids::row::{GridRow, Row};
+use crate::grid::Grid;
+use crate::row::{GridRow, Row};
 
 /// How many characters are put at a time.
 const PIECE: usize = 256;

@@ -13,7 +13,7 @@ use Rattle.aig_base.specs.Sound.{IsSound}
 use Rattle.aig_base.specs.Sections.{IsGate}
 use Rattle.aig_base.proofs.circuits.Circuits.{gate_definition, gate_in_range}
 use Rattle.aig_base.proofs.circuits.Gates.{gate_of, level_of_gate}
-use Rattle.aig_grids.specs.InputRows.{row_at}
+use Rattle.aig_values.specs.InputRows.{row_at}
 use Rattle.aig_bench.specs.declared.buckets.Buckets.{Buckets}
 use Rattle.aig_bench.specs.declared.driven_circuit.DrivenCircuit.{DrivenCircuit}
 use Rattle.aig_bench.specs.declared.fanouts.Fanouts.{Fanouts}

@@ -3,7 +3,7 @@ use Rattle.std.proofs.Common.{◌≡◌, ◌≢◌, ℕ, zero, suc, ◌<◌, Lis
 use Rattle.std.proofs.lemmas.Option.{slice_get-get_or}
 use Rattle.std.proofs.lemmas.List.{length-set, get_or-set_same, get_or-set_other}
 use Rattle.aig_parts.specs.declared.ternary.Tern.{Tern}
-use Rattle.aig_grids.specs.InputRows.{row_at, with_cell}
+use Rattle.aig_values.specs.InputRows.{row_at, with_cell}
 
 pub get_set_same : {X : Type 0} (row : List X) (v : ℕ) (w : X) → v < length row
     → slice_get (slice_set row v w) v ≡ Some w

@@ -8,8 +8,8 @@ use Rattle.aig_parts.specs.declared.ternary.Tern.TheVariants.{X}
 use Rattle.aig_parts.specs.declared.raw.Raw.{Raw}
 use Rattle.aig_base.specs.Sections.{IsGate}
 use Rattle.aig_base.proofs.lists.Positions.{slice_get_left, slice_get_right}
-use Rattle.aig_grids.specs.Cells.{fresh_row}
-use Rattle.aig_grids.specs.InputRows.{row_at}
+use Rattle.aig_values.specs.Cells.{fresh_row}
+use Rattle.aig_values.specs.InputRows.{row_at}
 use Rattle.aig_bench.specs.state.Current.{AreGateFlags, AreRows}
 
 -- flags of the first n variables

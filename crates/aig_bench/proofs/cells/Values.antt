@@ -11,8 +11,8 @@ use Rattle.aig_base.specs.Value as value
 use Rattle.aig_base.specs.Value.{start_of, reset_value}
 use Rattle.aig_base.proofs.circuits.Circuits.{latch_definition, next_defined}
 use Rattle.aig_base.proofs.values.ValueRules.{by_latch_next}
-use Rattle.aig_grids.specs.Cells.{literal_value, gate_value}
-use Rattle.aig_grids.specs.InputRows.{row_at}
+use Rattle.aig_values.specs.Cells.{literal_value, gate_value}
+use Rattle.aig_values.specs.InputRows.{row_at}
 use Rattle.aig_values.proofs.Evaluation as cells
 use Rattle.aig_bench.specs.Pair.{Pair, HasValue}
 use Rattle.aig_bench.specs.state.Current.{Holds, HoldsInputs, HoldsLatches, HoldsSources, IsCurrentRow}

@@ -14,7 +14,7 @@ use Rattle.aig_base.specs.Sound.{IsSound}
 use Rattle.aig_base.proofs.growth.Appended.{gate_cases, more_sound, new_at, new_variable, old_at}
 use Rattle.aig_base.proofs.circuits.Gates as gates
 use Rattle.aig_base.proofs.lists.Gets.{slice_get_last}
-use Rattle.aig_grids.specs.Cells.{gate_value, with_new_cell}
+use Rattle.aig_values.specs.Cells.{gate_value, with_new_cell}
 use Rattle.aig_bench.specs.state.Current.{AreGateFlags, IsCurrentRow, Holds}
 use Rattle.aig_bench.specs.Pair.{Pair, HasValue}
 use Rattle.aig_bench.proofs.cells.CellLemmas.{get_set_other, get_set_same}

@@ -11,8 +11,8 @@ use Rattle.aig_parts.specs.Literal.{variable, IsEven}
 use Rattle.aig_base.specs.Readers.{ReaderLists, AreReaders}
 use Rattle.aig_base.specs.Sections.{IsDefined}
 use Rattle.aig_base.proofs.growth.Appended.{more_circuit, new_at}
-use Rattle.aig_grids.specs.Cells.{gate_value, with_new_cell}
-use Rattle.aig_grids.specs.InputRows.{row_at}
+use Rattle.aig_values.specs.Cells.{gate_value, with_new_cell}
+use Rattle.aig_values.specs.InputRows.{row_at}
 use Rattle.aig_parts.specs.Limits.{cell_limit}
 use Rattle.aig_parts.specs.Formed.{limit}
 use Rattle.aig_bench.specs.declared.buckets.Buckets.{Buckets}

@@ -1,7 +1,7 @@
 -- The sources of a new frame, filled one after the other.
 use Rattle.std.proofs.Common.{◌≡◌, ℕ, ◌+◌, refl, sym, ap, ◌∙◌, subst, arith}
 use Rattle.aig_parts.specs.Literal.{variable}
-use Rattle.aig_grids.specs.InputRows.{row_at}
+use Rattle.aig_values.specs.InputRows.{row_at}
 use Rattle.aig_bench.specs.Pair.{Pair}
 use Rattle.aig_bench.specs.state.Current.{Holds, HoldsInputs, HoldsLatches}
 use Rattle.aig_bench.specs.state.Engine.{EngineState}

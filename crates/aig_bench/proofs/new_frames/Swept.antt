@@ -17,12 +17,12 @@ use Rattle.aig_base.specs.Sound.{IsSound}
 use Rattle.aig_base.specs.Value.{start_of}
 use Rattle.aig_base.proofs.circuits.Circuits.{gate_definition, gate_in_range, gate_is, rhs0_in_range, rhs1_in_range}
 use Rattle.aig_base.proofs.circuits.Gates.{level_in_range}
-use Rattle.aig_grids.specs.Cells.{HasCells, gate_value, with_gate, with_swept_row}
+use Rattle.aig_values.specs.Cells.{HasCells, gate_value, with_gate, with_swept_row}
 use Rattle.aig_values.specs.state.Frame.{HoldsAll, HoldsSources}
 use Rattle.aig_values.specs.GateOrder.{IsGateOrder}
-use Rattle.aig_grids.specs.InputRows.{row_at, with_cell}
+use Rattle.aig_values.specs.InputRows.{row_at, with_cell}
 use Rattle.aig_values.proofs.Evaluation.{HoldsFirst, all_hold, gate_value_is, items_more, put_value, renews_none}
-use Rattle.aig_grids.proofs.SweepLemmas.{length-swept}
+use Rattle.aig_values.proofs.SweepLemmas.{length-swept}
 use Rattle.aig_bench.specs.state.Current.{AreGateFlags, HoldsInputs, HoldsLatches, IsCurrentRow, IsLaidOut}
 use Rattle.aig_bench.specs.declared.driven_circuit.DrivenCircuit.{DrivenCircuit}
 use Rattle.aig_bench.specs.state.SweepOrder.{gate_at, gates_at, IsFullOrder}

@@ -14,7 +14,7 @@ use Rattle.aig_base.proofs.circuits.Circuits.{rhs0_defined, rhs1_defined}
 use Rattle.aig_base.proofs.circuits.Defined.{Grounded-of_defined}
 use Rattle.aig_base.proofs.levels.OneLevel.{level_of}
 use Rattle.aig_base.proofs.values.UniqueValue.{unique}
-use Rattle.aig_grids.specs.Cells.{gate_value}
+use Rattle.aig_values.specs.Cells.{gate_value}
 use Rattle.aig_bench.specs.Pair.{Pair}
 use Rattle.aig_bench.specs.state.Current.{Holds, IsCurrentRow}
 use Rattle.aig_bench.specs.state.Passing.{Differs, IsSide, IsTouched, IsReached, Passing, IsConsistent}

@@ -10,7 +10,7 @@ use Rattle.aig_base.specs.Sound.{IsSound}
 use Rattle.aig_base.specs.Value.{start_of}
 use Rattle.aig_base.proofs.levels.OneLevel.{same_level}
 use Rattle.aig_base.proofs.values.UniqueValue.{unique}
-use Rattle.aig_grids.specs.Cells.{gate_value}
+use Rattle.aig_values.specs.Cells.{gate_value}
 use Rattle.aig_bench.specs.Pair.{Pair, HasValue}
 use Rattle.aig_bench.specs.state.Current.{Holds}
 use Rattle.aig_bench.proofs.cells.CellLemmas.{get_set_same, get_set_other}

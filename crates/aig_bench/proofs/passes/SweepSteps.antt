@@ -10,8 +10,8 @@ use Rattle.aig_parts.specs.Literal.{variable, IsEven}
 use Rattle.aig_base.specs.Sections.{IsGate}
 use Rattle.aig_base.proofs.circuits.Circuits.{gate_definition, gate_in_range, gate_is, rhs0_in_range, rhs1_in_range}
 use Rattle.aig_base.proofs.circuits.Gates.{level_of_gate}
-use Rattle.aig_grids.specs.Cells.{gate_value}
-use Rattle.aig_grids.specs.InputRows.{row_at, with_cell}
+use Rattle.aig_values.specs.Cells.{gate_value}
+use Rattle.aig_values.specs.InputRows.{row_at, with_cell}
 use Rattle.aig_bench.specs.declared.latch_list.LatchList.{LatchList}
 use Rattle.aig_bench.specs.state.Latches.{Follows, HandsOn, Lists}
 use Rattle.aig_bench.proofs.carries.Handed.{hands_same, hands_written, set_again}

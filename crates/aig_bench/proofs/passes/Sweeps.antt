@@ -18,7 +18,7 @@ use Rattle.aig_base.proofs.circuits.Defined.{Grounded-of_defined}
 use Rattle.aig_base.proofs.circuits.Gates.{same_gate}
 use Rattle.aig_base.proofs.levels.OneLevel.{level_of, same_level}
 use Rattle.aig_base.proofs.lists.Positions.{Contains-cons}
-use Rattle.aig_grids.specs.Cells.{gate_value}
+use Rattle.aig_values.specs.Cells.{gate_value}
 use Rattle.aig_bench.specs.Pair.{Pair, HasValue}
 use Rattle.aig_bench.specs.state.Current.{Holds}
 use Rattle.aig_bench.specs.state.Passing.{Differs, IsSide, Passing, IsConsistent}

@@ -15,12 +15,12 @@ use Rattle.aig_parts.specs.declared.latch.Latch.{Latch}
 use Rattle.aig_parts.specs.Literal.{variable}
 use Rattle.aig_base.specs.Value.{start_of}
 use Rattle.aig_base.proofs.rewires.Rewiring.{with_reset-circuit}
-use Rattle.aig_grids.specs.InputRows.{InputRows, row_at, HaveWidth}
+use Rattle.aig_values.specs.InputRows.{InputRows, row_at, HaveWidth}
 use Rattle.aig_parts.specs.Limits.{cell_limit, frame_limit}
 use Rattle.aig_bench.specs.declared.driven_circuit.DrivenCircuit.{DrivenCircuit}
 use Rattle.aig_bench.specs.Pair.{Pair}
 use Rattle.aig_bench.specs.state.Current.{AreGateFlags, AreRows, IsLaidOut, Holds, AreCurrent, IsBench}
-use Rattle.aig_grids.specs.Cells.{fresh_row}
+use Rattle.aig_values.specs.Cells.{fresh_row}
 use Rattle.aig_bench.proofs.cells.Layouts.{rows_more}
 use Rattle.aig_bench.specs.state.DrivenCircuit.{IsDriven, pair_of}
 use Rattle.aig_bench.proofs.cells.Earlier.{value_before}

@@ -5,7 +5,7 @@ use Rattle.aig_parts.specs.declared.gate.Gate.{Gate}
 use Rattle.aig_base.specs.Grounded.{IsSource}
 use Rattle.aig_parts.specs.Literal.{variable}
 use Rattle.aig_base.specs.state.Marks.{IsMarked}
-use Rattle.aig_grids.specs.Cells.{gate_value}
+use Rattle.aig_values.specs.Cells.{gate_value}
 use Rattle.aig_bench.specs.Pair.{Pair, HasValue}
 use Rattle.aig_bench.specs.state.Current.{Holds, HoldsSources}
 

@@ -6,7 +6,7 @@ use Rattle.aig_parts.specs.declared.ternary.Tern.{Tern}
 use Rattle.aig_base.specs.Levels.{AreLevels}
 use Rattle.aig_parts.specs.Literal.{variable}
 use Rattle.aig_base.specs.Readers.{AreReaders}
-use Rattle.aig_grids.specs.Cells.{literal_value}
+use Rattle.aig_values.specs.Cells.{literal_value}
 use Rattle.aig_bench.specs.declared.order.Order.{Order}
 use Rattle.aig_bench.specs.declared.driven_circuit.DrivenCircuit.{DrivenCircuit}
 use Rattle.aig_bench.specs.declared.fanouts.Fanouts.{Fanouts}

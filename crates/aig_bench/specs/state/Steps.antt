@@ -3,7 +3,7 @@ use Rattle.std.specs.Prelude.{◌≡◌, ℕ, suc, ◌+◌, ◌*◌, ◌≤◌, 
 use Rattle.aig_parts.specs.declared.ternary.Tern.{Tern}
 use Rattle.aig_parts.specs.Formed.{limit}
 use Rattle.aig_base.specs.state.Marks.{IsMarked}
-use Rattle.aig_grids.specs.InputRows.{row_at}
+use Rattle.aig_values.specs.InputRows.{row_at}
 use Rattle.aig_bench.specs.declared.edit.EditReport.{EditReport}
 use Rattle.aig_bench.specs.state.Engine.{EngineState, ChangesRow, IsClear}
 use Rattle.aig_bench.specs.state.Entry.{Carries, Entering, LatchesRest, Puts, Rests}

@@ -5,10 +5,10 @@ use Rattle.aig_parts.specs.declared.ternary.Tern.{Tern}
 use Rattle.aig_parts.specs.declared.ternary.Tern.TheVariants.{One}
 use Rattle.aig_parts.specs.declared.raw.Raw.{Raw}
 use Rattle.aig_sim.specs.declared.witness_text.WitnessParts.{WitnessParts}
-use Rattle.aig_grids.specs.Cells.{literal_value}
+use Rattle.aig_values.specs.Cells.{literal_value}
 use Rattle.aig_values.specs.state.Frame.{HoldsAll, AreStates}
-use Rattle.aig_grids.specs.Characters.{character}
-use Rattle.aig_grids.specs.InputRows.{HaveWidth}
+use Rattle.aig_values.specs.Characters.{character}
+use Rattle.aig_values.specs.InputRows.{HaveWidth}
 use Rattle.aig_sim.specs.Verdict.{IsNotOne}
 use Rattle.aig_sim.specs.WitnessText.{Witness, rows_text}
 

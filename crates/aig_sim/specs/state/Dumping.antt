@@ -4,7 +4,7 @@ use Rattle.aig_parts.specs.declared.ternary.Tern.{Tern}
 use Rattle.aig_parts.specs.declared.raw.Raw.{Raw}
 use Rattle.aig_sim.specs.Dump.{signals, changed_lines, AreFrames}
 use Rattle.aig_values.specs.Trace.{AreValues}
-use Rattle.aig_grids.specs.TraceText.{literal_character}
+use Rattle.aig_values.specs.TraceText.{literal_character}
 
 -- the line of a time of 64 bits
 abbrev pub number_line : ℕ → List ℕ

@@ -1,7 +1,7 @@
 use Rattle.std.proofs.Common.{◌≡◌, ℕ, ◌+◌, ◌<◌, ◌≤◌, length, slice_set}
 use Rattle.aig_parts.specs.Literal.{variable}
-use Rattle.aig_grids.specs.Cells.{gate_value}
-use Rattle.aig_grids.specs.InputRows.{row_at}
+use Rattle.aig_values.specs.Cells.{gate_value}
+use Rattle.aig_values.specs.InputRows.{row_at}
 use Rattle.aig_bench.proofs.new_gate.evaluate_new.Given as goal
 
 abbrev pub invariant-loop-frame : goal.invariant-loop-frame

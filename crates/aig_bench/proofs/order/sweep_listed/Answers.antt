@@ -1,5 +1,5 @@
 use Rattle.std.proofs.Common.{◌≡◌, ◌∙◌, Bool, List, All, length, take, sym, subst, arith, length-take}
-use Rattle.aig_grids.specs.Cells.{HasCells}
+use Rattle.aig_values.specs.Cells.{HasCells}
 use Rattle.aig_bench.proofs.new_frames.Swept.{batch_all, batch_is, batch_more}
 use Rattle.aig_bench.proofs.order.sweep_listed.Goals as goal
 

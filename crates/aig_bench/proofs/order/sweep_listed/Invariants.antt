@@ -1,5 +1,5 @@
 use Rattle.std.proofs.Common.{◌≡◌, ◌+◌, ◌-◌, ◌≤◌, length, take}
-use Rattle.aig_grids.specs.Cells.{with_swept_row}
+use Rattle.aig_values.specs.Cells.{with_swept_row}
 use Rattle.aig_bench.specs.state.SweepOrder.{gates_at}
 use Rattle.aig_bench.proofs.order.sweep_listed.Given as goal
 

@@ -1,5 +1,5 @@
 use Rattle.aig_base.specs.Value.{start_of}
-use Rattle.aig_grids.specs.TraceText.{trace_text}
+use Rattle.aig_values.specs.TraceText.{trace_text}
 use Rattle.aig_values.proofs.TraceLemmas.{trace_is}
 use Rattle.aig_bench.specs.state.DrivenCircuit.{pair_of}
 use Rattle.aig_bench.proofs.trace.write_frames.Goals as goal

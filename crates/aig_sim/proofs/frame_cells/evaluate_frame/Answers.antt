@@ -6,7 +6,7 @@ use Rattle.aig_parts.specs.Literal.{variable}
 use Rattle.aig_base.specs.Sound.{IsSound}
 use Rattle.aig_parts.specs.Ternary.{kleene_and}
 use Rattle.aig_base.specs.Value.{Value}
-use Rattle.aig_grids.specs.Cells.{gate_value}
+use Rattle.aig_values.specs.Cells.{gate_value}
 use Rattle.aig_values.specs.state.Frame.{Holds, HoldsSources}
 use Rattle.aig_values.specs.GateOrder.{IsGateOrder}
 use Rattle.aig_values.proofs.Evaluation.{item_at, items_more, items_all, renews_none, put_value, gate_value_is, all_hold}

@@ -1,7 +1,7 @@
 use Rattle.std.proofs.Common.{◌≡◌, List, length, drop}
 use Rattle.aig_parts.specs.declared.ternary.Tern.{Tern}
 use Rattle.aig_sim.specs.state.Replaying.{BeginsRun, NoneTold, HasReplayed}
-use Rattle.aig_grids.specs.InputRows.{HaveWidth}
+use Rattle.aig_values.specs.InputRows.{HaveWidth}
 use Rattle.aig_sim.specs.WitnessText.{Witness, rows_text}
 use Rattle.aig_sim.proofs.replay.write_frames.Given as goal
 

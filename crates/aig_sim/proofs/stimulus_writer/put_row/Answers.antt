@@ -1,5 +1,5 @@
 use Rattle.std.proofs.Common.{◌+◌, ◌∷◌, [], ◌≤◌, length, ◌∙◌, arith}
-use Rattle.aig_grids.specs.Characters.{character}
+use Rattle.aig_values.specs.Characters.{character}
 use Rattle.aig_bytes.proofs.GatherLemmas.{gathers_then}
 use Rattle.aig_values.proofs.GatherLemmas.{span_is, same_room, span_more, span_failed, all_gathered}
 use Rattle.aig_sim.proofs.stimulus_writer.put_row.Goals as goal

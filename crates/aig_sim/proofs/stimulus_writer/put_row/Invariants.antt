@@ -1,6 +1,6 @@
 use Rattle.std.proofs.Common.{◌≡◌, ◌-◌, ◌≤◌, length, take, map, Ok}
 use Rattle.aig_bytes.specs.Gathered.{Gathers}
-use Rattle.aig_grids.specs.Characters.{character}
+use Rattle.aig_values.specs.Characters.{character}
 use Rattle.aig_sim.proofs.stimulus_writer.put_row.Given as goal
 
 abbrev pub invariant-loop-at : goal.invariant-loop-at

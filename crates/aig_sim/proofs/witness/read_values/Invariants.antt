@@ -1,5 +1,5 @@
 use Rattle.std.proofs.Common.{◌≡◌, take, map}
-use Rattle.aig_grids.specs.Characters.{character}
+use Rattle.aig_values.specs.Characters.{character}
 use Rattle.aig_sim.proofs.witness.read_values.Given as goal
 
 abbrev pub invariant-loop-place : goal.invariant-loop-place

@@ -4,7 +4,7 @@ use lib.Dec.{eqb}
 use Rattle.std.proofs.lemmas.Bool.{false≢true}
 use Rattle.std.proofs.Common.{[], sym, ◌∷◌, length, map, ap, ◌∙◌, arith}
 use Rattle.std.proofs.lemmas.List.{length-append}
-use Rattle.aig_grids.specs.Characters.{character}
+use Rattle.aig_values.specs.Characters.{character}
 use Rattle.aig_sim.proofs.WitnessLemmas.{if_none, no_frames, rows_more}
 use Rattle.aig_sim.proofs.witness_text.count_rows.Goals as goal
 

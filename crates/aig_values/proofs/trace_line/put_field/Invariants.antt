@@ -1,6 +1,6 @@
 use Rattle.std.proofs.Common.{◌≡◌, ◌-◌, ◌≤◌, length, take, map, Ok}
 use Rattle.aig_bytes.specs.Gathered.{Gathers}
-use Rattle.aig_grids.specs.TraceText.{literal_character}
+use Rattle.aig_values.specs.TraceText.{literal_character}
 use Rattle.aig_values.specs.state.Fields.{literals_of}
 use Rattle.aig_values.proofs.trace_line.put_field.Given as goal
 

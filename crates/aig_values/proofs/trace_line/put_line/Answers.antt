@@ -6,7 +6,7 @@ use Rattle.aig_parts.specs.declared.latch.Latch.{Latch}
 use Rattle.aig_parts.specs.declared.ternary.Tern.{Tern}
 use Rattle.aig_parts.specs.Literal.{variable}
 use Rattle.aig_base.proofs.circuits.Circuits.{input_in_range, latch_in_range, next_in_range, output_in_range}
-use Rattle.aig_grids.specs.TraceText.{literal_character, line_text}
+use Rattle.aig_values.specs.TraceText.{literal_character, line_text}
 use Rattle.aig_bytes.proofs.GatherLemmas.{gathers_then, gathers_stop, gathers_failed, gathers_same}
 use Rattle.aig_values.proofs.trace_line.put_line.Goals as goal
 

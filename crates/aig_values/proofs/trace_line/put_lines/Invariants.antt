@@ -1,6 +1,6 @@
 use Rattle.std.proofs.Common.{take, flat_map, Ok}
 use Rattle.aig_bytes.specs.Gathered.{Gathers}
-use Rattle.aig_grids.specs.TraceText.{line_text}
+use Rattle.aig_values.specs.TraceText.{line_text}
 use Rattle.aig_values.proofs.trace_line.put_lines.Given as goal
 
 abbrev pub invariant-loop-frame : goal.invariant-loop-frame

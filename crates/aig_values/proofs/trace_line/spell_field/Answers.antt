@@ -1,7 +1,7 @@
 use Rattle.std.proofs.Common.{◌≡◌, ℕ, List, length, map, take, drop, All, sym, ap, ◌∙◌, subst}
 use Rattle.aig_parts.specs.declared.latch.Latch.{Latch}
 use Rattle.aig_parts.specs.Literal.{variable}
-use Rattle.aig_grids.specs.TraceText.{literal_character}
+use Rattle.aig_values.specs.TraceText.{literal_character}
 use Rattle.aig_values.specs.declared.trace_line.Field.{Field}
 use Rattle.aig_values.specs.state.Fields.{literals_of}
 use Rattle.aig_values.proofs.FieldLemmas.{piece_all, piece_shown}

@@ -1,6 +1,6 @@
 use Rattle.std.proofs.Common.{◌≡◌, take, map}
 use Rattle.aig_parts.specs.declared.latch.Latch.{Latch}
-use Rattle.aig_grids.specs.TraceText.{literal_character}
+use Rattle.aig_values.specs.TraceText.{literal_character}
 use Rattle.aig_values.proofs.trace_line.spell_states.Given as goal
 
 abbrev pub invariant-loop-place : goal.invariant-loop-place

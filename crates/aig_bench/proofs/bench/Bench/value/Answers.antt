@@ -2,7 +2,7 @@ use Rattle.std.proofs.Common.{refl, subst, arith, ◌<◌, length}
 use Rattle.aig_base.specs.Sections.{IsDefined}
 use Rattle.aig_base.specs.Sound.{IsInRange}
 use Rattle.aig_parts.specs.Literal.{variable}
-use Rattle.aig_grids.specs.InputRows.{row_at}
+use Rattle.aig_values.specs.InputRows.{row_at}
 use Rattle.aig_bench.specs.state.DrivenCircuit.{pair_of}
 use Rattle.aig_bench.proofs.renewals.Engines.{held}
 use Rattle.aig_bench.proofs.edits.Refusals.{value_no_frame, value_allowed}

@@ -1,6 +1,6 @@
 use Rattle.std.proofs.Common.{◌<◌, suc, length}
 use Rattle.aig_base.specs.state.Marks.{IsMarked}
-use Rattle.aig_grids.specs.InputRows.{row_at}
+use Rattle.aig_values.specs.InputRows.{row_at}
 use Rattle.aig_bench.specs.state.Current.{IsCurrentBefore}
 use Rattle.aig_bench.specs.state.Engine.{ChangesRow}
 use Rattle.aig_bench.specs.state.Entry.{Carries}

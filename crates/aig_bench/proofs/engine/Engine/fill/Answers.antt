@@ -1,5 +1,5 @@
 use Rattle.std.proofs.Common.{◌∙◌, ◌<◌, length, ap, sym, subst}
-use Rattle.aig_grids.specs.InputRows.{row_at}
+use Rattle.aig_values.specs.InputRows.{row_at}
 use Rattle.aig_bench.specs.Pair.{Pair}
 use Rattle.aig_bench.specs.state.Current.{HoldsInputs, HoldsLatches, IsCurrentRow}
 use Rattle.aig_bench.specs.state.Engine.{EngineState}

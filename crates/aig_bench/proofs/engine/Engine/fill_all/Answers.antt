@@ -1,5 +1,5 @@
 use Rattle.std.proofs.Common.{◌≡◌, ◌+◌, refl, arith, length, ap, sym, subst}
-use Rattle.aig_grids.specs.InputRows.{row_at}
+use Rattle.aig_values.specs.InputRows.{row_at}
 use Rattle.aig_bench.specs.declared.order.Way.{Way}
 use Rattle.aig_bench.specs.Pair.{Pair}
 use Rattle.aig_bench.specs.state.Current.{IsCurrentBefore, IsCurrentRow}

@@ -2,7 +2,7 @@ use Rattle.std.proofs.Common.{◌≡◌, List, Some, slice_get, length, ap, subs
 use Rattle.aig_parts.specs.declared.latch.Latch.{Latch}
 use Rattle.aig_parts.specs.Literal.{variable}
 use Rattle.aig_base.specs.Value.{start_of}
-use Rattle.aig_grids.specs.InputRows.{row_at}
+use Rattle.aig_values.specs.InputRows.{row_at}
 use Rattle.aig_values.proofs.Evaluation.{item_at, items_all, items_more, renews_then}
 use Rattle.aig_bench.specs.Pair.{Pair}
 use Rattle.aig_bench.specs.state.Current.{Holds}

@@ -1,7 +1,7 @@
 use Rattle.std.proofs.Common.{◌≡◌, ℕ, ◌<◌, Some, slice_get}
 use Rattle.aig_parts.specs.declared.latch.Latch.{Latch}
 use Rattle.aig_parts.specs.Literal.{variable}
-use Rattle.aig_grids.specs.InputRows.{row_at}
+use Rattle.aig_values.specs.InputRows.{row_at}
 use Rattle.aig_bench.specs.state.Current.{Holds}
 use Rattle.aig_bench.specs.state.Filled.{FillsRow, KeepsValues}
 use Rattle.aig_bench.proofs.engine.Engine.fill_latches.Given as goal

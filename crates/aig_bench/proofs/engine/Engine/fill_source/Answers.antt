@@ -2,7 +2,7 @@ use Rattle.std.proofs.Common.{List, ◌<◌, ◌*◌, length, refl, sym, subst, 
 use Rattle.aig_parts.specs.declared.ternary.Tern.{Tern}
 use Rattle.aig_base.specs.Grounded.{IsSource}
 use Rattle.aig_base.specs.Value.{start_of}
-use Rattle.aig_grids.specs.InputRows.{row_at}
+use Rattle.aig_values.specs.InputRows.{row_at}
 use Rattle.aig_values.proofs.Evaluation.{holds_new, renews_write}
 use Rattle.aig_bench.specs.Pair.{HasValue}
 use Rattle.aig_bench.specs.state.Current.{Holds}

@@ -1,7 +1,7 @@
 use Rattle.std.proofs.Common.{◌≡◌, inl, inr, suc, Contains, sym, subst, arith}
 use Rattle.aig_base.specs.state.Marks.{IsMarked}
 use Rattle.aig_base.specs.Sound.{IsSound}
-use Rattle.aig_grids.specs.InputRows.{row_at}
+use Rattle.aig_values.specs.InputRows.{row_at}
 use Rattle.aig_bench.specs.Pair.{Pair}
 use Rattle.aig_bench.specs.state.Engine.{EngineState, IsClear}
 use Rattle.aig_bench.specs.state.Sweep.{Ends, Starts}

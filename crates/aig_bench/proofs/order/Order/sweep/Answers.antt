@@ -1,6 +1,6 @@
 use Rattle.std.proofs.Common.{ℕ, List, All, sym, subst}
 use Rattle.aig_parts.specs.declared.gate.Gate.{Gate}
-use Rattle.aig_grids.specs.Cells.{HasCells}
+use Rattle.aig_values.specs.Cells.{HasCells}
 use Rattle.aig_bench.specs.declared.order.Way.{Way}
 use Rattle.aig_bench.specs.state.SweepOrder.{AreTaken, gates_at}
 use Rattle.aig_bench.proofs.new_frames.Swept.{have_cells}

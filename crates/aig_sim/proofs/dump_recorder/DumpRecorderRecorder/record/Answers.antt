@@ -2,7 +2,7 @@ use Rattle.std.proofs.Common.{◌≡◌, ◌≤◌, ℕ, List, length, map, All,
 use Rattle.std.proofs.lemmas.List.{take_at, length-map}
 use Rattle.aig_parts.specs.Literal.{variable}
 use Rattle.aig_sim.specs.Dump.{signals}
-use Rattle.aig_grids.specs.TraceText.{literal_character}
+use Rattle.aig_values.specs.TraceText.{literal_character}
 use Rattle.aig_sim.proofs.DumpFrames.{signals_in_range, dumped_more, last_more}
 use Rattle.aig_sim.proofs.dump_recorder.DumpRecorderRecorder.record.Goals as goal
 

@@ -1,0 +1,22 @@
+-- The text of a trace by the cells of its frames (our own choice).
+use Rattle.std.specs.Prelude.{ℕ, List, [], ◌∷◌, ◌++◌, map, flat_map}
+use Rattle.aig_parts.specs.declared.ternary.Tern.{Tern}
+use Rattle.aig_parts.specs.declared.raw.Raw.{Raw}
+use Rattle.aig_values.specs.Cells.{literal_value}
+use Rattle.aig_values.specs.Characters.{character}
+
+-- the character of a literal's value
+abbrev pub literal_character : List Tern → ℕ → ℕ
+literal_character cells l = character (literal_value cells l)
+
+-- the line of a frame: state, inputs, outputs, next state
+unfoldable pub line_text : Raw → List Tern → List ℕ
+line_text raw cells =
+    (map (λ x. literal_character cells x.lit) raw.latches ++ 32 ∷ [])
+    ++ ((map (literal_character cells) raw.inputs ++ 32 ∷ [])
+    ++ ((map (literal_character cells) raw.outputs ++ 32 ∷ [])
+    ++ (map (λ x. literal_character cells x.next) raw.latches ++ 10 ∷ [])))
+
+-- a line a row of cells
+abbrev pub trace_text : Raw → List (List Tern) → List ℕ
+trace_text raw rows = flat_map (line_text raw) rows

@@ -1,0 +1,38 @@
+//! Rows of cells, however they are kept.
+ghost use Rattle.std.specs.Prelude.{◌≡◌, ℕ, ◌+◌, ◌<◌, ◌≤◌, List, Some, length, IfOk, OnOk, slice_get, slice_set};
+ghost use Rattle.aig_parts.specs.Formed.{limit};
+ghost use Rattle.aig_parts.specs.declared.ternary.Tern.{Tern};
+ghost use Rattle.aig_values.specs.Cells.{fresh_row};
+ghost use Rattle.aig_values.specs.state.Padded.{IsLengthened};
+
+use crate::code::Code;
+use std::alloc::{AllocError, Global};
+
+/// A row of cells, as many as there is room for.
+pub trait CellRow: Sized + Drop {
+    // The values.
+    ghost cells: { Self → List Tern };
+
+    /// A row with room for this many cells at least: 0 at variable 0, x everywhere else.
+    fn new(alloc: Global, size: usize) -> Result<Self, AllocError>
+        requires positive { 0 < size }
+        requires limit { size ≤ limit + 1 }
+        ensures { IfOk result (λ row. (room : ℕ) × (size ≤ room) × (cells row ≡ fresh_row room)) };
+
+    /// Adds cells, which are x, where there are not so many, at most one more than there are.
+    fn make_room(&mut self, size: usize) -> Result<(), AllocError>
+        requires more { size ≤ length (cells self.old) + 1 }
+        requires limit { size ≤ limit + 1 }
+        ensures cells { IsLengthened (Self.cells self.old) (Self.cells self.new) }
+        ensures ok { OnOk result (size ≤ length (Self.cells self.new)) };
+
+    /// The code of a variable.
+    fn get(&self, variable: usize) -> Code
+        requires { variable < length (cells self.now) }
+        ensures { slice_get (cells self.now) variable ≡ Some result };
+
+    /// Writes the code of a variable.
+    fn set(&mut self, variable: usize, code: Code)
+        requires { variable < length (cells self.old) }
+        ensures { cells self.new ≡ slice_set (cells self.old) variable code };
+}

@@ -1,0 +1,89 @@
+//! Rows of two bits a cell, thirty-two cells a word.
+ghost use Rattle.std.specs.Prelude.{◌≡◌, ◌≢◌, ℕ, ◌<◌};
+ghost use Rattle.aig_parts.specs.declared.ternary.Tern.TheVariants.{X};
+ghost use Rattle.aig_values.specs.state.Words.{value_in, IsWhole};
+
+use crate::cell_row::CellRow;
+use crate::code::Code;
+use aig_parts::Tern;
+use std::alloc::{AllocError, Global};
+use std::marker::Model;
+
+/// How many cells a word has.
+const CELLS: usize = 32;
+
+// A word whose cells are all x: 01, 32 times.
+fn unknown() -> u64
+    ensures whole { IsWhole result }
+    ensures x { (place : ℕ) → place < 32 → value_in result place ≡ X }
+{
+    0x5555_5555_5555_5555
+}
+
+// The code of the cell at a place.
+fn code_at(word: u64, place: usize) -> Code
+    requires place { place < 32 }
+    requires whole { IsWhole word }
+    ensures { result ≡ value_in word place }
+{
+    Code::of_bits(((word >> (2 * place)) & 3) as u8)
+}
+
+// The word with this code at a place.
+fn with_code(word: u64, place: usize, code: Code) -> u64
+    requires place { place < 32 }
+    requires whole { IsWhole word }
+    ensures whole { IsWhole result }
+    ensures there { value_in result place ≡ code }
+    ensures elsewhere { (other : ℕ) → other < 32 → other ≢ place → value_in result other ≡ value_in word other }
+{
+    (word & !(3 << (2 * place))) | ((code.bits() as u64) << (2 * place))
+}
+
+/// A row of cells, as many as its words have room for. The two bits of a cell stand side by side, so that a look at a
+/// cell is one at a word. Contracts see the values.
+#[derive(Drop)]
+pub struct PlaneRow {
+    words: Vec<u64>,
+}
+
+impl Model for PlaneRow {
+    ghost use Rattle.std.specs.Prelude.{List, All};
+    ghost use Rattle.aig_parts.specs.declared.ternary.Tern.{Tern};
+
+    ghost Value = { List Tern };
+
+    ghost use Rattle.aig_values.specs.state.Words.{spelled, IsWhole};
+
+    ghost view = { λ row. spelled row.words.items };
+
+    ghost invariant = { λ row. All IsWhole row.words.items };
+}
+
+impl CellRow for PlaneRow {
+    ghost cells = { λ row. row };
+
+    fn new(alloc: Global, size: usize) -> Result<PlaneRow, AllocError> {
+        let count = (size + (CELLS - 1)) / CELLS;
+        let mut words = Vec::with_capacity(alloc, count)?;
+        words.resize(count, unknown())?;
+        words[0] = with_code(words[0], 0, Code::of(Tern::Zero));
+        Ok(PlaneRow { words })
+    }
+
+    fn make_room(&mut self, size: usize) -> Result<(), AllocError> {
+        if self.words.len() < (size + (CELLS - 1)) / CELLS {
+            self.words.push(unknown())?;
+        }
+        Ok(())
+    }
+
+    fn get(&self, variable: usize) -> Code {
+        code_at(self.words[variable / CELLS], variable % CELLS)
+    }
+
+    fn set(&mut self, variable: usize, code: Code) {
+        let word = &mut self.words[variable / CELLS];
+        *word = with_code(*word, variable % CELLS, code);
+    }
+}
