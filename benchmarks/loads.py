@@ -150,7 +150,7 @@ class Ciphers:
         return 2 * (1 + self.inputs + 2 * copy * self.half + bit)
 
     def copy(self, copy):
-        """The right sides of a copy's gates, and its state behind the last round."""
+        """The right sides of a copy's gates, and its state after the last round."""
         half, first = self.half, self.first_gate(copy)
         sides = []
 

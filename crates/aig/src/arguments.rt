@@ -67,7 +67,7 @@ fn refused_escaped<R: AllocGlobal + Eprint>(rt: &R, words: &[String], kind: Erro
     match matches_of(rt.alloc(), words) {
         Ok(_) => {
             let _ = eprintln!(rt; "error: {kind}");
-            Exit::Told
+            Exit::Reported
         }
         Err(error) => print(rt, &error),
     }
@@ -80,7 +80,7 @@ fn print(rt: &impl Eprint, error: &clap::Error) -> Exit {
     }
     // There is no place left to report that standard error fails.
     let _ = rt.eprint(error);
-    Exit::Told
+    Exit::Reported
 }
 
 /// Whether a terminal shows each byte of the text as it is.

@@ -9,7 +9,7 @@ use std::io;
 #[derive(Clone, Copy)]
 pub enum Exit {
     /// The arguments are wrong, or ask for help or for the version; the text is printed already.
-    Told,
+    Reported,
     /// The arguments choose no task.
     NoTask,
     /// An argument is not UTF-8.
@@ -30,7 +30,7 @@ impl From<RunFault> for Exit {
 
 impl Exit {
     /// Prints the reason on standard error, unless it is printed already, and returns the exit.
-    pub fn tell(self, rt: &impl Eprint) -> Exit {
+    pub fn report(self, rt: &impl Eprint) -> Exit {
         // There is no place left to report that standard error fails.
         let _ = self.print(rt);
         self
@@ -38,7 +38,7 @@ impl Exit {
 
     fn print(&self, rt: &impl Eprint) -> io::Result<()> {
         match self {
-            Exit::Told | Exit::NotConfirmed => Ok(()),
+            Exit::Reported | Exit::NotConfirmed => Ok(()),
             Exit::NoTask => eprintln!(rt; "error: the words choose no task"),
             Exit::NotText => eprintln!(rt; "error: a word of the command line is not UTF-8"),
             Exit::Run(fault) => eprintln!(rt; "aig: {fault}"),
@@ -51,7 +51,7 @@ impl Exit {
         ensures { result ≡ status_of_exit self.now }
     {
         match self {
-            Exit::Told | Exit::NoTask | Exit::NotText => 2,
+            Exit::Reported | Exit::NoTask | Exit::NotText => 2,
             Exit::Run(fault) => fault.status(),
             Exit::Witness => 3,
             Exit::NotConfirmed => 1,

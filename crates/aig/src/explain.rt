@@ -109,7 +109,7 @@ pub fn explain<R: Files + AllocGlobal + Print + Eprint>(rt: &R, task: Task<'_>, 
     match exit {
         Exit::Run(fault) => explain_fault(rt, &files, fault),
         Exit::Witness => of_file(rt, files.run),
-        Exit::Told | Exit::NoTask | Exit::NotText | Exit::NotConfirmed => {}
+        Exit::Reported | Exit::NoTask | Exit::NotText | Exit::NotConfirmed => {}
     }
 }
 

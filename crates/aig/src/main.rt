@@ -39,7 +39,7 @@ where
 {
     match reserve(rt) {
         Ok(_reserved) => run_arguments(rt),
-        Err(exit) => Err(exit.tell(rt)),
+        Err(exit) => Err(exit.report(rt)),
     }
 }
 
@@ -49,7 +49,7 @@ where
 {
     match arguments::all(rt) {
         Ok(words) => run_words(rt, words.as_slice()),
-        Err(exit) => Err(exit.tell(rt)),
+        Err(exit) => Err(exit.report(rt)),
     }
 }
 
@@ -62,7 +62,7 @@ where
 {
     match request_of(rt, words) {
         Ok(request) => run_request(rt, &request),
-        Err(exit) => Err(exit.tell(rt)),
+        Err(exit) => Err(exit.report(rt)),
     }
 }
 
@@ -75,7 +75,7 @@ where
 {
     let done = request.task.run(rt);
     if let Err(exit) = done {
-        let exit = exit.tell(rt);
+        let exit = exit.report(rt);
         if request.is_explained || is_asked_for(rt) {
             explain(rt, request.task, exit);
         }

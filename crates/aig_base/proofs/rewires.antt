@@ -1,4 +1,4 @@
-pub mod BehindLemmas
+pub mod FanOutLemmas
 pub mod LevelSteps
 pub mod Passes
 pub mod QueueLemmas

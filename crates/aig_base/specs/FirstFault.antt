@@ -22,18 +22,18 @@ abbrev pub IsUngrounded : Raw → ℕ → Type 0
 IsUngrounded raw v = IsGate raw v × (Grounded raw v → ⊥)
 
 -- the fault is one of these parts; faults of a file's text are none of its parts
-abbrev pub Applies : Raw → Fault → Type 0
-Applies raw fault.Range = Any (λ l. 2 * raw.max_var + 1 < l) (definitions raw ++ uses raw)
-Applies raw fault.Definition = Any (λ l. IsDefinition l → ⊥) (definitions raw)
-Applies raw (fault.Redefined v) = IsLeast (IsRedefined raw) v
-Applies raw (fault.Undefined v) = IsLeast (IsUndefined raw) v
-Applies raw (fault.Reset v) = IsLeast (HasBadReset raw) v
-Applies raw (fault.Cycle v) = IsLeast (IsUngrounded raw) v
-Applies raw (fault.Text at) = ⊥
-Applies raw fault.Limit = ⊥
-Applies raw fault.Counts = ⊥
-Applies raw fault.Memory = ⊥
-Applies raw fault.Io = ⊥
+abbrev pub FaultApplies : Raw → Fault → Type 0
+FaultApplies raw fault.Range = Any (λ l. 2 * raw.max_var + 1 < l) (definitions raw ++ uses raw)
+FaultApplies raw fault.Definition = Any (λ l. IsDefinition l → ⊥) (definitions raw)
+FaultApplies raw (fault.Redefined v) = IsLeast (IsRedefined raw) v
+FaultApplies raw (fault.Undefined v) = IsLeast (IsUndefined raw) v
+FaultApplies raw (fault.Reset v) = IsLeast (HasBadReset raw) v
+FaultApplies raw (fault.Cycle v) = IsLeast (IsUngrounded raw) v
+FaultApplies raw (fault.Text at) = ⊥
+FaultApplies raw fault.Limit = ⊥
+FaultApplies raw fault.Counts = ⊥
+FaultApplies raw fault.Memory = ⊥
+FaultApplies raw fault.Io = ⊥
 
 -- the numbers of the faults, in the order in which they are tried
 abbrev pub number_of : Fault → ℕ
@@ -51,5 +51,5 @@ number_of fault.Io = 11
 
 -- the fault is the first that applies
 pub record IsFirstFault (raw : Raw) (f : Fault) : Type 0 where
-  pub applies : Applies raw f
-  pub first : (g : Fault) → number_of g < number_of f → Applies raw g → ⊥
+  pub applies : FaultApplies raw f
+  pub first : (g : Fault) → number_of g < number_of f → FaultApplies raw g → ⊥

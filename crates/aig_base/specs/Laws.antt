@@ -4,7 +4,7 @@ use Rattle.aig_parts.specs.declared.fault.Fault.{Fault}
 use Rattle.aig_parts.specs.declared.raw.Raw.{Raw}
 use Rattle.aig_parts.specs.declared.ternary.Tern.{Tern}
 use Rattle.aig_parts.specs.declared.ternary.Tern.TheVariants.{X}
-use Rattle.aig_base.specs.FirstFault.{Applies}
+use Rattle.aig_base.specs.FirstFault.{FaultApplies}
 use Rattle.aig_base.specs.Value.{Value}
 
 -- what a literal is under the first start and rows it is under the others too, unless it is x
@@ -13,4 +13,4 @@ KnownValuesStay raw start rows start' rows' =
     (t l : ℕ) (w : Tern) → w ≢ X → Value raw start rows t l w → Value raw start' rows' t l w
 
 abbrev pub HasNoFault : Raw → Type 0
-HasNoFault raw = (f : Fault) → Applies raw f → ⊥
+HasNoFault raw = (f : Fault) → FaultApplies raw f → ⊥

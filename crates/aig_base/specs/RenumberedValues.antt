@@ -8,13 +8,13 @@ use Rattle.aig_base.specs.Sections.{IsDefined}
 use Rattle.aig_base.specs.Value.{Value}
 
 -- the literal that stands for another has its value
-abbrev pub KeepsValues : Raw → List ℕ → List Tern → List (List Tern) → Type 0
-KeepsValues raw order start rows =
+abbrev pub RenumberingKeepsValues : Raw → List ℕ → List Tern → List (List Tern) → Type 0
+RenumberingKeepsValues raw order start rows =
     (t l : ℕ) (w : Tern) → Value raw start rows t l w
     → Value (renumbered raw order) start rows t (renumbered_literal raw order l) w
 
 -- the literal that stands for a defined one has no other value, at each frame that has a row
-abbrev pub AddsNoValues : Raw → List ℕ → List Tern → List (List Tern) → Type 0
-AddsNoValues raw order start rows =
+abbrev pub RenumberingAddsNoValues : Raw → List ℕ → List Tern → List (List Tern) → Type 0
+RenumberingAddsNoValues raw order start rows =
     (t l : ℕ) (w : Tern) → t < length rows → IsDefined raw (variable l)
     → Value (renumbered raw order) start rows t (renumbered_literal raw order l) w → Value raw start rows t l w

@@ -5,7 +5,7 @@ ghost use Rattle.aig_base.specs.Changes.{next_gate, with_appended_gate};
 ghost use Rattle.aig_parts.specs.Formed.{limit};
 ghost use Rattle.aig_base.specs.Levels.{AreLevels};
 ghost use Rattle.aig_parts.specs.Literal.{variable};
-ghost use Rattle.aig_base.specs.Readers.{AreReaders, HasRoom};
+ghost use Rattle.aig_base.specs.Readers.{AreReaders, HasReaderRoom};
 ghost use Rattle.aig_base.specs.Sections.{IsDefined};
 ghost use Rattle.aig_base.specs.state.Worklists.{FitsOneVariable, IsIdle};
 
@@ -95,7 +95,7 @@ pub fn append_gate(
     ensures same_circuit { OnErr result (circuit.new ≡ circuit.old) }
     ensures same_levels { OnErr result (levels.new ≡ levels.old) }
     ensures same_lists { OnErr result (readers.new.lists ≡ readers.old.lists) }
-    ensures room { OnErr result ((v : ℕ) → HasRoom readers.old v → HasRoom readers.new v) }
+    ensures room { OnErr result ((v : ℕ) → HasReaderRoom readers.old v → HasReaderRoom readers.new v) }
 {
     let _ = circuit.max_var();
     readers.fan_outs.make_room_for_list(r0.var(), r1.var())?;

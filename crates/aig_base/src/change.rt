@@ -29,7 +29,7 @@ pub(crate) fn forget(levels: &mut Option<Vec<u32>>)
 
 impl Circuit {
     /// Gives a gate, named by its left side, two other right sides (our own choice). They are defined, and close no
-    /// cycle, as `would_cycle` tells. Constant time, no memory.
+    /// cycle, as `would_cycle` finds out. Constant time, no memory.
     pub fn replace_gate(&mut self, gate: Lit, r0: Lit, r1: Lit)
         requires gate { IsLeftSide self.old gate }
         requires defined0 { IsDefined self.old (variable r0) }

@@ -2,26 +2,26 @@
 ghost use Rattle.std.specs.Prelude.{◌≡◌, ◌≢◌, ◌≤◌, ◌↔◌, None, map, All, IsTrue, IfOk, IfErr, IfSome, OnOk};
 ghost use Rattle.aig_base.specs.Circuit.{IsCircuit};
 ghost use Rattle.aig_base.specs.Definition.{IsInOrder};
-ghost use Rattle.aig_base.specs.state.Definitions.{IsTable};
-ghost use Rattle.aig_base.specs.state.Definitions.{Tells};
+ghost use Rattle.aig_base.specs.state.Definitions.{IsDefinitionTable};
+ghost use Rattle.aig_base.specs.state.Definitions.{AreDefinitionsOf};
 ghost use Rattle.aig_base.specs.state.Entries.{AreEntries};
 ghost use Rattle.aig_base.specs.FirstFault.{IsFirstFault};
 ghost use Rattle.aig_parts.specs.Formed.{IsFormed, CountsFit};
 ghost use Rattle.aig_base.specs.Levels.{AreLevels};
-ghost use Rattle.aig_base.specs.state.Least.{IsLeastAmong, IsKnown, IsGroundedGate, ReadsSmaller, gate_variable};
+ghost use Rattle.aig_base.specs.state.LeastFaulty.{IsLeastAmong, IsKnownLiteral, IsGroundedGate, ReadsSmaller, gate_variable};
 ghost use Rattle.aig_parts.specs.Literal.{variable};
 ghost use Rattle.aig_base.specs.state.Ranged.{AreInRange, AreSectionsInRange, AreDefinedOnce, AreDefinitions};
 ghost use Rattle.aig_base.specs.Sections.{definitions, uses, IsDefined};
 ghost use Rattle.aig_base.specs.Sound.{IsDefinition, IsSound};
 
+use crate::binary_ready::definitions_in_order;
 use crate::circuit::Circuit;
 use crate::definition::Definition;
 use crate::definitions::Definitions;
 use crate::entries::Entries;
 use crate::grounded::grounded_levels;
-use crate::least::{least_bad_reset, least_undefined, least_unmarked};
+use crate::least_faulty::{least_bad_reset, least_undefined, least_unmarked};
 use crate::ordered::{is_ascending, test_ascending};
-use crate::ready::definitions_in_order;
 use crate::tried_levels::found_levels;
 use aig_bytes::Memory;
 use aig_parts::{Fault, Gate, Latch, List, Lit, Raw};
@@ -145,7 +145,7 @@ fn least_missing(table: &[Option<Definition>], raw: &Raw) -> Option<u32>
     requires range { AreInRange raw.now }
     requires definitions { AreDefinitions raw.now }
     requires entries { AreEntries raw.now (map variable (definitions raw.now)) table.now None }
-    ensures { IsLeastAmong (IsKnown table.now) variable (uses raw.now) result }
+    ensures { IsLeastAmong (IsKnownLiteral table.now) variable (uses raw.now) result }
 {
     if raw.inputs.len() + raw.latches.len() + raw.gates.len() == raw.max_var as usize {
         return None;
@@ -157,7 +157,7 @@ fn least_missing(table: &[Option<Definition>], raw: &Raw) -> Option<u32>
 fn listed_definitions(alloc: Global, raw: &Raw) -> Result<Vec<Option<Definition>>, Fault>
     requires counts { CountsFit raw.now }
     requires range { AreInRange raw.now }
-    ensures table { IfOk result (λ table. IsTable raw.now table.items) }
+    ensures table { IfOk result (λ table. IsDefinitionTable raw.now table.items) }
     ensures once { OnOk result (AreDefinedOnce raw.now) }
     ensures fault { IfErr result (λ fault. fault ≢ Fault.Memory → IsFirstFault raw.now fault) }
 {
@@ -179,7 +179,7 @@ fn listed_definitions(alloc: Global, raw: &Raw) -> Result<Vec<Option<Definition>
 fn tested_definitions(alloc: Global, raw: &Raw) -> Result<Definitions, Fault>
     requires counts { CountsFit raw.now }
     requires range { AreInRange raw.now }
-    ensures tells { IfOk result (Tells raw.now) }
+    ensures describes { IfOk result (AreDefinitionsOf raw.now) }
     ensures once { OnOk result (AreDefinedOnce raw.now) }
     ensures fault { IfErr result (λ fault. fault ≢ Fault.Memory → IsFirstFault raw.now fault) }
 {
@@ -219,7 +219,7 @@ fn test_resets_and_cycles(alloc: Global, raw: &Raw) -> Result<Option<Vec<u32>>, 
 fn tested(alloc: Global, raw: &Raw) -> Result<Kept, Fault>
     requires { IsFormed raw.now }
     ensures circuit { OnOk result (IsCircuit raw.now) }
-    ensures tells { IfOk result (λ kept. Tells raw.now kept.definitions) }
+    ensures describes { IfOk result (λ kept. AreDefinitionsOf raw.now kept.definitions) }
     ensures levels { IfOk result (λ kept. IfSome kept.levels (λ levels. AreLevels raw.now levels.items)) }
     ensures fault { IfErr result (λ fault. fault ≢ Fault.Memory → IsFirstFault raw.now fault) }
 {

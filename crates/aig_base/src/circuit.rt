@@ -28,12 +28,12 @@ impl Model for Circuit {
     ghost use Rattle.std.specs.Prelude.{IfSome};
     ghost use Rattle.aig_base.specs.Circuit.{IsCircuit};
     ghost use Rattle.aig_base.specs.Levels.{AreLevels};
-    ghost use Rattle.aig_base.specs.state.Definitions.{Tells};
+    ghost use Rattle.aig_base.specs.state.Definitions.{AreDefinitionsOf};
 
     ghost view = { λ a. a.raw };
 
     ghost invariant = { λ a.
-        IsCircuit a.raw × Tells a.raw a.definitions × IfSome a.levels (λ l. AreLevels a.raw l.items) };
+        IsCircuit a.raw × AreDefinitionsOf a.raw a.definitions × IfSome a.levels (λ l. AreLevels a.raw l.items) };
 }
 
 impl Circuit {

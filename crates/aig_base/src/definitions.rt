@@ -3,7 +3,7 @@ ghost use Rattle.std.specs.Prelude.{ℕ, ◌≡◌, length, IfNone, IfSome, OnOk
 ghost use Rattle.aig_base.specs.Changes.{with_appended_gate};
 ghost use Rattle.aig_base.specs.Circuit.{IsCircuit};
 ghost use Rattle.aig_base.specs.Definition.{Defines, IsFree, IsInOrder};
-ghost use Rattle.aig_base.specs.state.Definitions.{FitsOneDefinition, Tells};
+ghost use Rattle.aig_base.specs.state.Definitions.{FitsOneDefinition, AreDefinitionsOf};
 ghost use Rattle.aig_parts.specs.Formed.{CountsFit};
 ghost use Rattle.aig_parts.specs.declared.raw.Raw.{Raw};
 
@@ -47,7 +47,7 @@ impl Definitions {
     /// What defines a variable of these parts.
     pub(crate) fn get(&self, raw: &Raw, variable: u32) -> Option<Definition>
         requires circuit { IsCircuit raw.now }
-        requires tells { Tells raw.now self.now }
+        requires describes { AreDefinitionsOf raw.now self.now }
         ensures found { IfSome result (Defines raw.now variable) }
         ensures none { IfNone result (IsFree raw.now variable) }
     {
@@ -62,7 +62,7 @@ impl Definitions {
 
     /// Makes room for one more definition.
     pub(crate) fn make_room(&mut self) -> Result<(), Memory>
-        ensures tells { (raw : Raw) → Tells raw self.old → Tells raw self.new }
+        ensures describes { (raw : Raw) → AreDefinitionsOf raw self.old → AreDefinitionsOf raw self.new }
         ensures room { OnOk result (FitsOneDefinition self.new) }
     {
         if let Definitions::Listed(table) = self {
@@ -74,8 +74,8 @@ impl Definitions {
     /// Adds the definition of a gate at this position, after the others.
     pub(crate) fn append_gate(&mut self, position: u32)
         requires room { FitsOneDefinition self.old }
-        ensures { (raw : Raw) (r0 r1 : ℕ) → length raw.gates ≡ position → Tells raw self.old
-            → Tells (with_appended_gate raw r0 r1) self.new }
+        ensures { (raw : Raw) (r0 r1 : ℕ) → length raw.gates ≡ position → AreDefinitionsOf raw self.old
+            → AreDefinitionsOf (with_appended_gate raw r0 r1) self.new }
     {
         match self {
             Definitions::InOrder => {}

@@ -3,14 +3,14 @@ ghost use Rattle.std.specs.Prelude.{◌≡◌, ◌∷◌, ◌++◌, ◌<◌, ◌
 ghost use Rattle.aig_base.specs.Definition.{Defines};
 ghost use Rattle.aig_base.specs.state.Entries.{AreEntries};
 ghost use Rattle.aig_parts.specs.Formed.{CountsFit, limit};
-ghost use Rattle.aig_base.specs.state.Least.{gate_variable, latch_variable};
+ghost use Rattle.aig_base.specs.state.LeastFaulty.{gate_variable, latch_variable};
 ghost use Rattle.aig_parts.specs.Literal.{variable};
 ghost use Rattle.aig_base.specs.state.Ranged.{AreInRange};
 ghost use Rattle.aig_base.specs.Sections.{definitions};
 ghost use Rattle.aig_parts.specs.declared.raw.Raw.{Raw};
 
 use crate::definition::Definition;
-use crate::least::lesser;
+use crate::least_faulty::lesser;
 use aig_parts::Raw;
 use std::alloc::{AllocError, Global};
 

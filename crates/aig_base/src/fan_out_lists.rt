@@ -2,11 +2,11 @@
 ghost use Rattle.std.specs.Prelude.{◌≡◌, ◌≢◌, ◌⊎◌, ℕ, ◌+◌, ◌*◌, ◌^◌, ◌<◌, ◌≤◌, max, length, Some, IfOk, OnOk, OnErr};
 ghost use Rattle.std.specs.Prelude.{slice_get};
 ghost use Rattle.smallvec.specs.SmallVec.{HasRoomFor};
-ghost use Rattle.aig_base.specs.state.ListPlaces.{Follows, HasPlace, StandsNew, short};
+ghost use Rattle.aig_base.specs.state.ListPlaces.{StaysOrShifts, HasPlace, StandsNew, short};
 ghost use Rattle.aig_parts.specs.Formed.{limit};
 ghost use Rattle.aig_parts.specs.Literal.{variable};
-ghost use Rattle.aig_base.specs.state.ReaderSlots.{Adds, AddsBoth, Appends, Enters, Fits, Keeps, Loses};
-ghost use Rattle.aig_base.specs.state.ReaderSlots.{Moves, TakesOut, items_at, tally};
+ghost use Rattle.aig_base.specs.state.ReaderSlots.{AddsReader, AddsBoth, Appends, Enters, FitsOneReader, KeepsLists, Loses};
+ghost use Rattle.aig_base.specs.state.ReaderSlots.{MovesReader, TakesOut, items_at, tally};
 
 use crate::list_places::{Places, cover_for_list, cover_more, place_of, renew_moved, write_places};
 use aig_bytes::Memory;
@@ -44,7 +44,7 @@ fn take_out_of(list: &mut SmallVec<u32, 4>, places: &mut [Places], gate: u32)
     requires narrow { length list.old.items < 2 ^ 32 }
     ensures items { Loses gate list.old.items list.new.items }
     ensures capacity { list.new.capacity ≡ list.old.capacity }
-    ensures follows { Follows list.old.items list.new.items places.old places.new }
+    ensures follows { StaysOrShifts list.old.items list.new.items places.old places.new }
 {
     if let Some(place) = place_of(list.as_slice(), places, gate) {
         let _ = list.swap_remove(place);
@@ -55,9 +55,9 @@ fn take_out_of(list: &mut SmallVec<u32, 4>, places: &mut [Places], gate: u32)
 // Adds a gate to the list of a variable that has room, and returns its place there.
 fn add(lists: &mut [SmallVec<u32, 4>], variable: u32, gate: u32) -> u32
     requires within { variable < length lists.old }
-    requires room { Fits lists.old variable }
+    requires room { FitsOneReader lists.old variable }
     requires narrow { length (items_at lists.old variable) < 2 ^ 32 }
-    ensures adds { Adds variable gate lists.old lists.new }
+    ensures adds { AddsReader variable gate lists.old lists.new }
     ensures stands { StandsNew variable variable gate (record { first = result; second = result }) lists.old lists.new }
 {
     let list = &mut lists[variable as usize];
@@ -68,8 +68,8 @@ fn add(lists: &mut [SmallVec<u32, 4>], variable: u32, gate: u32) -> u32
 
 // Adds a gate to the lists of both variables, which have room, once where the two are one, and returns its places.
 fn add_to_lists(lists: &mut [SmallVec<u32, 4>], first: u32, second: u32, gate: u32) -> Places
-    requires room0 { Fits lists.old first }
-    requires room1 { Fits lists.old second }
+    requires room0 { FitsOneReader lists.old first }
+    requires room1 { FitsOneReader lists.old second }
     requires narrow { (v : ℕ) → length (items_at lists.old v) < 2 ^ 32 }
     ensures adds { AddsBoth first second gate lists.old lists.new }
     ensures stands { StandsNew first second gate result lists.old lists.new }
@@ -138,8 +138,8 @@ impl FanOuts {
 
     // Adds a gate that is in no list to the lists of both variables, which have room; once where the two are one.
     fn add_to_both(&mut self, first: u32, second: u32, gate: u32)
-        requires room0 { Fits self.old.slots first }
-        requires room1 { Fits self.old.slots second }
+        requires room0 { FitsOneReader self.old.slots first }
+        requires room1 { FitsOneReader self.old.slots second }
         requires gate { gate < length self.old.slots }
         requires absent { (v : ℕ) → tally self.old.slots v gate ≡ 0 }
         ensures { AddsBoth first second gate self.old.slots self.new.slots }
@@ -153,11 +153,11 @@ impl FanOuts {
         requires gate { variable before.now.lhs < length self.old.slots }
         requires side0 { variable before.now.rhs0 < length self.old.slots }
         requires side1 { variable before.now.rhs1 < length self.old.slots }
-        requires room0 { Fits self.old.slots first }
-        requires room1 { Fits self.old.slots second }
+        requires room0 { FitsOneReader self.old.slots first }
+        requires room1 { FitsOneReader self.old.slots second }
         requires elsewhere { (v : ℕ) → v ≢ variable before.now.rhs0 → v ≢ variable before.now.rhs1
             → tally self.old.slots v (variable before.now.lhs) ≡ 0 }
-        ensures { Moves (variable before.now.rhs0) (variable before.now.rhs1) first second (variable before.now.lhs)
+        ensures { MovesReader (variable before.now.rhs0) (variable before.now.rhs1) first second (variable before.now.lhs)
             self.old.slots self.new.slots }
     {
         let number = before.lhs.var();
@@ -169,8 +169,8 @@ impl FanOuts {
     // Makes room for one more in the list of a variable, and places for all gates where it may get long.
     fn make_room_at(&mut self, variable: u32) -> Result<(), Memory>
         requires { variable < length self.old.slots }
-        ensures keeps { Keeps self.old.slots self.new.slots }
-        ensures ok { OnOk result (Fits self.new.slots variable) }
+        ensures keeps { KeepsLists self.old.slots self.new.slots }
+        ensures ok { OnOk result (FitsOneReader self.new.slots variable) }
         ensures refused { OnErr result (4 ≤ length (items_at self.old.slots variable)) }
     {
         let len = self.lists[variable as usize].len();
@@ -182,8 +182,8 @@ impl FanOuts {
     pub(crate) fn make_room_at_both(&mut self, first: u32, second: u32) -> Result<(), Memory>
         requires within0 { first < length self.old.slots }
         requires within1 { second < length self.old.slots }
-        ensures keeps { Keeps self.old.slots self.new.slots }
-        ensures ok { OnOk result (Fits self.new.slots first × Fits self.new.slots second) }
+        ensures keeps { KeepsLists self.old.slots self.new.slots }
+        ensures ok { OnOk result (FitsOneReader self.new.slots first × FitsOneReader self.new.slots second) }
         ensures refused { OnErr result
             ((4 ≤ length (items_at self.old.slots first)) ⊎ (4 ≤ length (items_at self.old.slots second))) }
     {
@@ -196,9 +196,9 @@ impl FanOuts {
     pub(crate) fn make_room_for_list(&mut self, first: u32, second: u32) -> Result<(), Memory>
         requires within0 { first < length self.old.slots }
         requires within1 { second < length self.old.slots }
-        ensures keeps { Keeps self.old.slots self.new.slots }
+        ensures keeps { KeepsLists self.old.slots self.new.slots }
         ensures list { OnOk result (length self.new.slots < self.new.fitting) }
-        ensures room { OnOk result (Fits self.new.slots first × Fits self.new.slots second) }
+        ensures room { OnOk result (FitsOneReader self.new.slots first × FitsOneReader self.new.slots second) }
     {
         self.make_room_at_both(first, second)?;
         self.lists.reserve(1)?;
@@ -209,8 +209,8 @@ impl FanOuts {
     pub(crate) fn append_list(&mut self, gate: &Gate)
         requires few { length self.old.slots ≤ limit }
         requires list { length self.old.slots < self.old.fitting }
-        requires room0 { Fits self.old.slots (variable gate.now.rhs0) }
-        requires room1 { Fits self.old.slots (variable gate.now.rhs1) }
+        requires room0 { FitsOneReader self.old.slots (variable gate.now.rhs0) }
+        requires room1 { FitsOneReader self.old.slots (variable gate.now.rhs1) }
         requires gate { variable gate.now.lhs ≡ length self.old.slots }
         ensures { Appends (variable gate.now.rhs0) (variable gate.now.rhs1) (variable gate.now.lhs)
             self.old.slots self.new.slots }

@@ -16,7 +16,7 @@ fn greatest_level(circuit: &Circuit, levels: &[u32]) -> u32
     requires { AreLevels circuit.now levels.now }
     ensures { IsGreatestLevel circuit.now result }
 {
-    // Its contract tells that the parts are a circuit.
+    // Its contract says that the parts are a circuit.
     let _max_var = circuit.max_var();
     let mut greatest = 0;
     for gate in circuit.gates() {

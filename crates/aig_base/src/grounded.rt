@@ -4,16 +4,16 @@ ghost use Rattle.std.specs.Prelude.{map, All, slice_get, IfOk, OnOk};
 ghost use Rattle.aig_parts.specs.Formed.{CountsFit, limit};
 ghost use Rattle.aig_base.specs.Levels.{AreLevels};
 ghost use Rattle.aig_base.specs.Sound.{IsSound};
-ghost use Rattle.aig_base.specs.state.Least.{latch_variable};
-ghost use Rattle.aig_base.specs.state.Links.{AreLinks};
+ghost use Rattle.aig_base.specs.state.LeastFaulty.{latch_variable};
+ghost use Rattle.aig_base.specs.state.KeyChains.{AreKeyChains};
 ghost use Rattle.aig_parts.specs.Literal.{variable};
-ghost use Rattle.aig_base.specs.state.Marks.{sides, AreMarks, IsGateBelow};
-ghost use Rattle.aig_base.specs.state.Marks.{AreStarted, AddsMark, Moves, IsMarked};
+ghost use Rattle.aig_base.specs.state.Marks.{sides, AreGroundedMarks, IsGateBelow};
+ghost use Rattle.aig_base.specs.state.Marks.{AreStarted, AddsMark, AddsMarks, IsMarked};
 ghost use Rattle.aig_base.specs.state.Marks.{IsMarking};
 ghost use Rattle.aig_base.specs.state.Ranged.{AreInRange};
 ghost use Rattle.aig_parts.specs.declared.raw.Raw.{Raw};
 
-use crate::links::Links;
+use crate::key_chains::KeyChains;
 use crate::walk::Walk;
 use aig_bytes::Memory;
 use aig_parts::{Gate, Latch, Lit, Raw};
@@ -44,7 +44,7 @@ impl Marking {
         self.walk.met[variable as usize]
     }
 
-    // Marks a variable, and lets it wait unless it was marked.
+    // Marks a variable, and queues it unless it was marked.
     fn mark(&mut self, variable: u32) -> Result<(), Memory>
         requires { variable < length self.old.walk.met.items }
         ensures { OnOk result (AddsMark variable self.old.walk.met.items self.old.walk.pending.items
@@ -85,7 +85,7 @@ impl Marking {
     fn visit(&mut self, levels: &mut [u32], gate: Gate) -> Result<(), Memory>
         requires gate { IsGateBelow (length self.old.walk.met.items) gate }
         requires levels { length levels.old ≡ length self.old.walk.met.items }
-        ensures moves { OnOk result (Moves self.old.walk.met.items self.old.walk.pending.items
+        ensures moves { OnOk result (AddsMarks self.old.walk.met.items self.old.walk.pending.items
             self.new.walk.met.items self.new.walk.pending.items) }
         ensures marking { OnOk result ((raw : Raw) (next : List ℕ) (p link : ℕ)
             → slice_get raw.gates (p / 2) ≡ Some gate → slice_get next p ≡ Some link
@@ -104,16 +104,16 @@ impl Marking {
     // Visits the gates of a chain, from this link on.
     fn visit_chain(
         &mut self,
-        readers: &Links,
+        readers: &KeyChains,
         gates: &[Gate],
         levels: &mut [u32],
         mut link: u32,
     ) -> Result<(), Memory>
-        requires readers { AreLinks (sides gates.now) readers.now.first.items readers.now.next.items }
+        requires readers { AreKeyChains (sides gates.now) readers.now.first.items readers.now.next.items }
         requires gates { All (IsGateBelow (length self.old.walk.met.items)) gates.now }
         requires levels { length levels.old ≡ length self.old.walk.met.items }
         requires link { link ≤ length readers.now.next.items }
-        ensures moves { OnOk result (Moves self.old.walk.met.items self.old.walk.pending.items
+        ensures moves { OnOk result (AddsMarks self.old.walk.met.items self.old.walk.pending.items
             self.new.walk.met.items self.new.walk.pending.items) }
         ensures marking { OnOk result ((raw : Raw) → raw.gates ≡ gates.now
             → IsMarking raw readers.now.next.items link self.old.walk.met.items self.old.walk.pending.items levels.old
@@ -128,8 +128,13 @@ impl Marking {
     }
 
     // Visits the readers of each variable that waits, until none does.
-    fn close(&mut self, readers: &Links, gates: &[Gate], levels: &mut [u32]) -> Result<(), Memory>
-        requires readers { AreLinks (sides gates.now) readers.now.first.items readers.now.next.items }
+    fn close(
+        &mut self,
+        readers: &KeyChains,
+        gates: &[Gate],
+        levels: &mut [u32],
+    ) -> Result<(), Memory>
+        requires readers { AreKeyChains (sides gates.now) readers.now.first.items readers.now.next.items }
         requires size { length readers.now.first.items ≡ length self.old.walk.met.items }
         requires gates { All (IsGateBelow (length self.old.walk.met.items)) gates.now }
         requires levels { length levels.old ≡ length self.old.walk.met.items }
@@ -162,12 +167,12 @@ pub(crate) fn grounded_levels(alloc: Global, raw: &Raw) -> Result<GroundedLevels
     requires counts { CountsFit raw.now }
     requires range { AreInRange raw.now }
     requires sound { IsSound raw.now }
-    ensures marks { IfOk result (λ found. AreMarks raw.now found.marks.items) }
+    ensures marks { IfOk result (λ found. AreGroundedMarks raw.now found.marks.items) }
     ensures levels { IfOk result (λ found. AreLevels raw.now found.levels.items) }
 {
     let max_var = raw.max_var;
     let gates = raw.gates.as_slice();
-    let readers = Links::of_sides(alloc, max_var, gates)?;
+    let readers = KeyChains::of_sides(alloc, max_var, gates)?;
     let mut levels = vec![in alloc; 0; max_var as usize + 1]?;
     let mut marking = Marking::of_sources(
         alloc,

@@ -2,10 +2,11 @@
 #![tactic(auto)]
 
 mod append;
-mod behind;
+mod binary_ready;
 mod change;
 mod check;
 mod circuit;
+mod circuit_laws;
 mod cycle;
 mod definition;
 mod definitions;
@@ -14,22 +15,21 @@ mod fan_out_lists;
 mod gate_of;
 mod greatest;
 mod grounded;
-mod laws;
-mod least;
+mod key_chains;
+mod least_faulty;
 mod level;
-mod links;
+mod level_order;
 mod list_places;
-mod order;
 mod ordered;
 mod queue;
 mod readers;
-mod ready;
 mod renewal;
 mod renumbering;
 mod renumbering_laws;
 mod renumbering_parts;
 mod renumbering_table;
 mod rewire;
+mod transitive_fan_out;
 mod tried_levels;
 mod visits;
 mod walk;
@@ -44,15 +44,15 @@ pub use aig_parts::{
     WouldCycle,
 };
 pub use append::append_gate;
+pub use binary_ready::is_binary_ready;
 pub use circuit::Circuit;
+pub use circuit_laws::{law_of_completion, law_of_faults, law_of_levels, law_of_one_value};
 pub use cycle::would_cycle;
 pub use definition::Definition;
 pub use greatest::greatest_fan_out;
-pub use laws::{law_of_completion, law_of_faults, law_of_levels, law_of_one_value};
 pub use level::Levels;
-pub use order::{canonical_order, sorted_gates};
+pub use level_order::{canonical_order, sorted_gates};
 pub use readers::Readers;
-pub use ready::is_binary_ready;
 pub use renumbering::renumber;
 pub use renumbering_laws::law_of_renumbering;
 pub use renumbering_table::renumbered_variables;

@@ -1,7 +1,7 @@
 //! Where gates stand in long lists.
 ghost use Rattle.std.specs.Prelude.{◌≡◌, ◌≢◌, ◌⊎◌, ◌↔◌, ℕ, ◌*◌, ◌^◌, ◌<◌, ◌≤◌, length, Some, slice_get};
 ghost use Rattle.std.specs.Prelude.{slice_index_or, IsTrue, IfNone, IfSome, OnErr, OnOk};
-ghost use Rattle.aig_base.specs.state.ListPlaces.{Extends, HasPlace, Renews, Writes, short};
+ghost use Rattle.aig_base.specs.state.ListPlaces.{Extends, HasPlace, RenewsPlace, WritesPlaces, short};
 
 use aig_bytes::Memory;
 
@@ -63,7 +63,7 @@ pub(crate) fn cover_more(places: &mut Vec<Places>, variables: usize) -> Result<(
 pub(crate) fn write_places(places: &mut [Places], gate: u32, new: Places)
     requires first { short ≤ new.first → gate < length places.old }
     requires second { short ≤ new.second → gate < length places.old }
-    ensures { Writes gate new places.old places.new }
+    ensures { WritesPlaces gate new places.old places.new }
 {
     if new.first >= SHORT || new.second >= SHORT {
         places[gate as usize] = new;
@@ -73,7 +73,7 @@ pub(crate) fn write_places(places: &mut [Places], gate: u32, new: Places)
 // Replaces one of the places of a gate.
 fn renew(places: &mut [Places], gate: u32, from: u32, to: u32)
     requires { gate < length places.old }
-    ensures { Renews gate from to places.old places.new }
+    ensures { RenewsPlace gate from to places.old places.new }
 {
     let old = places[gate as usize];
     places[gate as usize] = if old.first == from {
@@ -94,7 +94,7 @@ pub(crate) fn renew_moved(list: &[u32], places: &mut [Places], place: usize)
     requires narrow { length list.now < 2 ^ 32 }
     requires within { short ≤ place → place < length list.now → slice_index_or list.now place 0 < length places.old }
     ensures moved { short ≤ place → place < length list.now
-        → Renews (slice_index_or list.now place 0) (length list.now) place places.old places.new }
+        → RenewsPlace (slice_index_or list.now place 0) (length list.now) place places.old places.new }
     ensures first { place < short → places.new ≡ places.old }
     ensures last { length list.now ≤ place → places.new ≡ places.old }
 {

@@ -4,13 +4,13 @@ ghost use Rattle.aig_base.specs.Circuit.{IsCircuit};
 ghost use Rattle.aig_base.specs.Definition.{IsInOrder};
 ghost use Rattle.aig_base.specs.FirstFault.{IsFirstFault};
 ghost use Rattle.aig_parts.specs.Formed.{CountsFit, IsFormed, limit};
-ghost use Rattle.aig_base.specs.state.Least.{ReadsSmaller};
-ghost use Rattle.aig_base.specs.state.Ready.{SectionsInOrder};
+ghost use Rattle.aig_base.specs.state.LeastFaulty.{ReadsSmaller};
+ghost use Rattle.aig_base.specs.state.BinaryReady.{SectionsInOrder};
 ghost use Rattle.aig_base.specs.Renumbered.{evens_from};
 
+use crate::binary_ready::{inputs_in_order, is_even_of, latches_in_order};
 use crate::check::{reads_smaller, sections_are_in_range};
-use crate::least::least_bad_reset;
-use crate::ready::{inputs_in_order, is_even_of, latches_in_order};
+use crate::least_faulty::least_bad_reset;
 use aig_parts::{Fault, Gate, Latch, Lit, Raw};
 
 // Whether the left sides are the even literals from this variable on, and each gate reads smaller variables alone.

@@ -33,7 +33,7 @@ fn set_level(
     }
 }
 
-/// Makes the levels of a circuit those of the circuit with a changed gate, whose new right sides are not behind it.
+/// Makes the levels of a circuit those of the circuit with a changed gate, whose new sides are not in its fan-out.
 /// Only gates that read a changed level are looked at, each once, in the order of their old levels. No memory.
 pub(crate) fn renew(
     circuit: &Circuit,

@@ -2,11 +2,11 @@
 ghost use Rattle.std.specs.Prelude.{◌≡◌, ℕ, List, map, All, IfOk};
 ghost use Rattle.aig_base.specs.Order.{AreSorted, IsCanonicalOrder};
 ghost use Rattle.aig_base.specs.Renumbered.{ordered_gates, renumbered, IsBinaryReady};
-ghost use Rattle.aig_base.specs.RenumberingTable.{renumbered_by, AreListed, IsGateListed, IsRenumbering};
-ghost use Rattle.aig_base.specs.state.Least.{gate_variable};
+ghost use Rattle.aig_base.specs.RenumberingTable.{renumbered_by, HasAllEntries, IsGateListed, IsRenumbering};
+ghost use Rattle.aig_base.specs.state.LeastFaulty.{gate_variable};
 
 use crate::circuit::Circuit;
-use crate::order::sorted_gates;
+use crate::level_order::sorted_gates;
 use crate::renumbering_parts::{
     copied_comment, copied_symbols, new_justice, new_latches, new_literals, renewed_gates,
 };
@@ -42,12 +42,12 @@ fn renumbered_parts(
     gates: Vec<Gate>,
     table: &[u32],
 ) -> Result<Raw, Memory>
-    requires listed { AreListed circuit.now table.now }
+    requires listed { HasAllEntries circuit.now table.now }
     requires gates { All (IsGateListed table.now) gates.items }
     requires sorted { ordered_gates circuit.now (map gate_variable gates.items) ≡ gates.items }
     ensures { IfOk result (λ new. new ≡ renumbered_by circuit.now (map gate_variable gates.items) table.now) }
 {
-    // Its contract tells that the parts are a circuit.
+    // Its contract says that the parts are a circuit.
     let _max_var = circuit.max_var();
     let defined = circuit.inputs().len() + circuit.latches().len() + circuit.gates().len();
     Ok(Raw {
@@ -73,7 +73,7 @@ pub fn renumber(alloc: Global, circuit: &Circuit) -> Result<Circuit, Memory>
         (order : List ℕ) × IsCanonicalOrder circuit.now order × (new ≡ renumbered circuit.now order)) }
     ensures ready { IfOk result IsBinaryReady }
 {
-    // Its contract tells that the parts are a circuit.
+    // Its contract says that the parts are a circuit.
     let _max_var = circuit.max_var();
     let gates = sorted_gates(alloc, circuit)?;
     let table = table_of(alloc, circuit, &gates)?;

@@ -5,7 +5,7 @@ ghost use Rattle.aig_parts.specs.declared.ternary.Tern.{Tern};
 ghost use Rattle.aig_base.specs.Circuit.{IsCircuit};
 ghost use Rattle.aig_base.specs.Order.{IsCanonicalOrder};
 ghost use Rattle.aig_base.specs.Renumbered.{renumbered, IsBinaryReady};
-ghost use Rattle.aig_base.specs.RenumberedValues.{KeepsValues, AddsNoValues};
+ghost use Rattle.aig_base.specs.RenumberedValues.{RenumberingKeepsValues, RenumberingAddsNoValues};
 ghost use Rattle.aig_base.specs.Sound.{IsSound};
 ghost use Rattle.aig_base.specs.Value.{Fits, start_of};
 
@@ -17,9 +17,9 @@ pub fn law_of_renumbering()
     ensures ready { (raw : Raw) (order : List ℕ) →
         IsCircuit raw → IsCanonicalOrder raw order → IsBinaryReady (renumbered raw order) }
     ensures values { (raw : Raw) (order : List ℕ) (start : List Tern) (rows : List (List Tern)) →
-        IsSound raw → IsCanonicalOrder raw order → KeepsValues raw order start rows }
+        IsSound raw → IsCanonicalOrder raw order → RenumberingKeepsValues raw order start rows }
     ensures no_other { (raw : Raw) (order : List ℕ) (start : List Tern) (rows : List (List Tern)) →
-        IsCircuit raw → IsCanonicalOrder raw order → Fits raw start rows → AddsNoValues raw order start rows }
+        IsCircuit raw → IsCanonicalOrder raw order → Fits raw start rows → RenumberingAddsNoValues raw order start rows }
     ensures start { (raw : Raw) (order : List ℕ) →
         IsCircuit raw → IsCanonicalOrder raw order → start_of (renumbered raw order) ≡ start_of raw }
 {}

@@ -1,7 +1,7 @@
 //! The parts of a circuit by a table of variables.
 ghost use Rattle.std.specs.Prelude.{◌≡◌, ◌≤◌, map, All, IfOk};
 ghost use Rattle.aig_parts.specs.Formed.{limit};
-ghost use Rattle.aig_base.specs.RenumberingTable.{literal_by, latch_by, gate_by, IsListed, IsLatchListed, IsGateListed};
+ghost use Rattle.aig_base.specs.RenumberingTable.{literal_by, latch_by, gate_by, IsInTable, IsLatchListed, IsGateListed};
 
 use crate::circuit::Circuit;
 use aig_bytes::Memory;
@@ -10,7 +10,7 @@ use std::alloc::Global;
 
 fn new_literal(table: &[u32], literal: Lit) -> Lit
     requires entries { All (λ v. v ≤ limit) table.now }
-    requires listed { IsListed table.now literal }
+    requires listed { IsInTable table.now literal }
     ensures { result ≡ literal_by table.now literal }
 {
     let positive = Lit::new(2 * table[literal.var() as usize]);
@@ -28,7 +28,7 @@ pub(crate) fn new_literals(
     literals: &[Lit],
 ) -> Result<List<Lit>, Memory>
     requires entries { All (λ v. v ≤ limit) table.now }
-    requires listed { All (IsListed table.now) literals.now }
+    requires listed { All (IsInTable table.now) literals.now }
     ensures { IfOk result (λ new. new ≡ map (literal_by table.now) literals.now) }
 {
     let mut new = List::with_capacity(alloc, literals.len())?;
@@ -45,7 +45,7 @@ pub(crate) fn new_justice(
     justice: &[List<Lit>],
 ) -> Result<List<List<Lit>>, Memory>
     requires entries { All (λ v. v ≤ limit) table.now }
-    requires listed { All (All (IsListed table.now)) justice.now }
+    requires listed { All (All (IsInTable table.now)) justice.now }
     ensures { IfOk result (λ new. new ≡ map (map (literal_by table.now)) justice.now) }
 {
     let mut new = List::with_capacity(alloc, justice.len())?;

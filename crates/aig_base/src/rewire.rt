@@ -7,17 +7,17 @@ ghost use Rattle.aig_parts.specs.Literal.{variable};
 ghost use Rattle.aig_base.specs.Readers.{AreReaders};
 ghost use Rattle.aig_base.specs.Sections.{IsDefined, IsLeftSide};
 
-use crate::behind::is_behind;
 use crate::circuit::Circuit;
 use crate::level::Levels;
 use crate::readers::Readers;
 use crate::renewal::renew;
+use crate::transitive_fan_out::is_in_fan_out;
 use aig_parts::{Gate, Lit, WouldCycle};
 
 impl Levels {
     /// Makes these the levels of the circuit with other right sides at a gate, and refuses that where it would close a
     /// cycle. `circuit` is the circuit before that, with its levels and readers; `gate` is the gate's even literal, and
-    /// the right sides are defined. It looks at gates behind `gate` alone: for a cycle only at those whose level is
+    /// the right sides are defined. It looks at the fan-out of `gate` alone: for a cycle only at gates whose level is
     /// below that of a new right side, and then at those that read a level that changed. No memory.
     pub fn rewire(
         &mut self,
@@ -43,7 +43,7 @@ impl Levels {
             rhs0: r0,
             rhs1: r1,
         };
-        if is_behind(
+        if is_in_fan_out(
             circuit,
             readers,
             &self.levels,

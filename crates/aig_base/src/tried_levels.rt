@@ -61,7 +61,7 @@ fn push_unmet(nodes: &[Node], pending: &mut Vec<u32>, variable: u32) -> Result<(
     Ok(())
 }
 
-// Finds the levels of what waits, each after those of what it reads. Tells whether nothing was met that rests on
+// Finds the levels of what waits, each after those of what it reads. Returns whether nothing was met that rests on
 // itself.
 fn find_pending(nodes: &mut [Node], pending: &mut Vec<u32>) -> Result<bool, Memory>
     requires nodes { All (ReadsBelow (length nodes.old)) nodes.old }
@@ -112,7 +112,7 @@ fn find_levels(alloc: Global, nodes: &mut [Node]) -> Result<(), Memory>
 }
 
 // A number for each variable, 0 to M. It is tried that they are its levels: no more is said of them, and `are_levels`
-// tells whether it is so.
+// returns whether it is so.
 fn tried_levels(alloc: Global, raw: &Raw) -> Result<Vec<u32>, Memory>
     requires counts { CountsFit raw.now }
     requires range { AreInRange raw.now }

@@ -2,7 +2,7 @@
 ghost use Rattle.std.specs.Prelude.{ℕ, ◌<◌, ◌≤◌, ◌∷◌, [], length, All, IfOk, OnOk, ◌≡◌, ◌+◌, not, count_by};
 ghost use Rattle.std.specs.Vec.{vec_capacity};
 ghost use Rattle.aig_base.specs.state.Descent.{IsMet};
-ghost use Rattle.aig_base.specs.state.Visits.{AreNoVisits, AreVisits, FitsOneMore, IsFrom, IsVisited, VisitsAmong};
+ghost use Rattle.aig_base.specs.state.Visits.{AreNoVisits, AreVisits, FitsOneVisit, IsFrom, IsVisited, VisitsAmong};
 
 use aig_bytes::Memory;
 use std::alloc::Global;
@@ -66,7 +66,7 @@ impl Visits {
     /// Makes room for one more variable, where nothing is visited.
     pub(crate) fn make_room(&mut self) -> Result<(), Memory>
         requires { AreNoVisits (length self.old.met.items) self.old }
-        ensures ok { OnOk result (FitsOneMore self.new) }
+        ensures ok { OnOk result (FitsOneVisit self.new) }
         ensures unvisited { AreNoVisits (length self.old.met.items) self.new }
     {
         self.met.reserve(1)?;
@@ -77,7 +77,7 @@ impl Visits {
     /// One more variable, where there is room.
     pub(crate) fn add_variable(&mut self)
         requires unvisited { AreNoVisits (length self.old.met.items) self.old }
-        requires room { FitsOneMore self.old }
+        requires room { FitsOneVisit self.old }
         ensures { AreNoVisits (length self.old.met.items + 1) self.new }
     {
         self.met.push_reserved(false);

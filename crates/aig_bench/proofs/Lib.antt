@@ -4,5 +4,5 @@ pub mod edits
 pub mod growing
 pub mod new_frames
 pub mod passes
+pub mod queues
 pub mod renewals
-pub mod waits

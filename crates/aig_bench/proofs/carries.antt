@@ -1,6 +1,6 @@
 pub mod Carrying
 pub mod Entries
-pub mod Handed
 pub mod LatchChains
 pub mod LatchLists
+pub mod NextLatches
 pub mod Quiet

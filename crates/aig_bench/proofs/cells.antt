@@ -3,5 +3,5 @@ pub mod Definitions
 pub mod Earlier
 pub mod Flags
 pub mod Kept
-pub mod Layouts
+pub mod NewGrids
 pub mod Values

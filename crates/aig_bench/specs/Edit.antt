@@ -11,7 +11,7 @@ use Rattle.aig_base.specs.Changes.{with_gate, with_reset, with_output, with_appe
 use Rattle.aig_values.specs.InputRows.{with_cell}
 use Rattle.aig_bench.specs.declared.edit.EditFault.{EditFault}
 use Rattle.aig_bench.specs.declared.edit.EditFault.TheVariants as fault
-use Rattle.aig_bench.specs.Pair.{Pair}
+use Rattle.aig_bench.specs.BenchState.{CircuitAndRows}
 
 pub data Edit : Type 0 where
   rewire : (lhs r0 r1 : ℕ) → Edit
@@ -23,7 +23,7 @@ pub data Edit : Type 0 where
   set_output : (position literal : ℕ) → Edit
 
 -- what the edit makes of the pair, where it is accepted
-abbrev pub edited : Pair → Edit → Pair
+abbrev pub edited : CircuitAndRows → Edit → CircuitAndRows
 edited p (rewire lhs r0 r1) = record p { circuit = with_gate p.circuit lhs r0 r1 }
 edited p (set_reset latch w) = record p { circuit = with_reset p.circuit latch w }
 edited p (set_bit t i w) = record p { rows = with_cell p.rows t i w }
@@ -33,7 +33,7 @@ edited p (append_gate r0 r1) = record p { circuit = with_appended_gate p.circuit
 edited p (set_output i l) = record p { circuit = with_output p.circuit i l }
 
 -- the fault applies to the edit; out of memory is none of an edit's own
-abbrev pub Forbids : Pair → Edit → EditFault → Type 0
+abbrev pub Forbids : CircuitAndRows → Edit → EditFault → Type 0
 Forbids p (rewire lhs r0 r1) fault.NotAGate = IsLeftSide p.circuit lhs → ⊥
 Forbids p (rewire lhs r0 r1) fault.Range = IsInRange p.circuit r0 × IsInRange p.circuit r1 → ⊥
 Forbids p (rewire lhs r0 r1) fault.Undefined = IsDefined p.circuit (variable r0) × IsDefined p.circuit (variable r1) → ⊥
@@ -87,11 +87,11 @@ TakesMemory (append_gate r0 r1) = Unit {0}
 TakesMemory (set_output i l) = ⊥
 
 -- such an edit found no memory; whether gates would close a cycle is looked for after that, and no other fault applies
-abbrev pub LacksMemory : Pair → Edit → EditFault → Type 0
+abbrev pub LacksMemory : CircuitAndRows → Edit → EditFault → Type 0
 LacksMemory p e f =
     (f ≡ fault.Memory) × TakesMemory e × ((g : EditFault) → g ≢ fault.Cycle → Forbids p e g → ⊥)
 
 -- the edit takes the pair to the other with this answer; a refused one leaves it
-abbrev pub Edits : {A : Type 0} → Pair → Edit → Result A EditFault → Pair → Type 0
+abbrev pub Edits : {A : Type 0} → CircuitAndRows → Edit → Result A EditFault → CircuitAndRows → Type 0
 Edits p e (Ok _) new = NoneApplies (Forbids p e) × (new ≡ edited p e)
 Edits p e (Err f) new = (IsLeastFault (Forbids p e) f ⊎ LacksMemory p e f) × (new ≡ p)

@@ -7,10 +7,10 @@ use Rattle.aig_base.specs.Sections.{IsGate}
 use Rattle.aig_bench.specs.Edit.{Edit, rewire, add_frame, append_gate, edited}
 use Rattle.aig_bench.specs.declared.edit.EditFault.{EditFault}
 use Rattle.aig_bench.specs.declared.edit.EditReport.{EditReport}
-use Rattle.aig_bench.specs.Pair.{Pair, BenchState, HasValue}
+use Rattle.aig_bench.specs.BenchState.{CircuitAndRows, BenchState, HasValue}
 
 -- the variable has another value at the frame after than before
-pub record HasOther (p p' : Pair) (t v : ℕ) : Type 0 where
+pub record HasOther (p p' : CircuitAndRows) (t v : ℕ) : Type 0 where
   pub before : Tern
   pub after : Tern
   pub before_is : HasValue p t (2 * v) before
@@ -18,26 +18,26 @@ pub record HasOther (p p' : Pair) (t v : ℕ) : Type 0 where
   pub other : after ≢ before
 
 -- the frame is there before and after
-abbrev pub IsThere : Pair → Pair → ℕ → Type 0
+abbrev pub IsThere : CircuitAndRows → CircuitAndRows → ℕ → Type 0
 IsThere p p' t = (t < length p.rows) × (t < length p'.rows)
 
 -- the gate of the variable reads one that has another value
-abbrev pub ReadsOther : Pair → Pair → ℕ → ℕ → Type 0
+abbrev pub ReadsOther : CircuitAndRows → CircuitAndRows → ℕ → ℕ → Type 0
 ReadsOther p p' t v =
     (q : ℕ) × (g : Gate) × (slice_get p'.circuit.gates q ≡ Some g) × (variable g.lhs ≡ v)
     × (HasOther p p' t (variable g.rhs0) ⊎ HasOther p p' t (variable g.rhs1))
 
 -- the cell is touched whatever its sides' values
-abbrev pub IsForced : Pair → Edit → ℕ → ℕ → Type 0
+abbrev pub IsForced : CircuitAndRows → Edit → ℕ → ℕ → Type 0
 IsForced p (rewire lhs r0 r1) t v = (t < length p.rows) × (v ≡ variable lhs)
 IsForced p (add_frame row) t v = (t ≡ length p.rows) × IsGate p.circuit v
 IsForced p (append_gate r0 r1) t v = (t < length p.rows) × (v ≡ p.circuit.max_var + 1)
 IsForced p _ t v = ⊥
 
-abbrev pub Touches : Pair → Edit → ℕ → ℕ → Type 0
+abbrev pub Touches : CircuitAndRows → Edit → ℕ → ℕ → Type 0
 Touches p e t v = IsForced p e t v ⊎ (IsThere p (edited p e) t × ReadsOther p (edited p e) t v)
 
-abbrev pub Changes : Pair → Edit → ℕ → ℕ → Type 0
+abbrev pub Changes : CircuitAndRows → Edit → ℕ → ℕ → Type 0
 Changes p e t v = IsGate p.circuit v × IsThere p (edited p e) t × HasOther p (edited p e) t v
 
 -- each stands once

@@ -5,13 +5,13 @@ ghost use Rattle.aig_base.specs.Circuit.{IsCircuit};
 ghost use Rattle.aig_parts.specs.Limits.{cell_limit};
 ghost use Rattle.aig_base.specs.Renumbered.{IsBinaryReady};
 ghost use Rattle.aig_bench.specs.CurrentCells.{HasCurrentCells};
-ghost use Rattle.aig_bench.specs.Pair.{HasTrace};
+ghost use Rattle.aig_bench.specs.BenchState.{HasTrace};
 ghost use Rattle.aig_bench.specs.Question.{AnswersValue};
 ghost use Rattle.aig_values.specs.InputRows.{HaveWidth};
 ghost use Rattle.aig_unroll.specs.Answers.{AnswersUnrolling};
 
-use crate::bench_fault::BenchFault;
 use crate::allowed::is_defined;
+use crate::bench_fault::BenchFault;
 use crate::driven_circuit::DrivenCircuit;
 use crate::edit::EditFault;
 use crate::engine::Engine;
@@ -24,7 +24,7 @@ use aig_values::{Grid, Stimulus};
 use std::alloc::Global;
 use std::marker::Model;
 
-/// A circuit and a stimulus whose values are at hand, also after edits. Contracts see the pair, and how many gates were
+/// A circuit and a stimulus whose values are current, also after edits. Contracts see the pair, and how many gates were
 /// evaluated.
 #[derive(Drop)]
 pub struct Bench<G: Grid> {
@@ -32,7 +32,7 @@ pub struct Bench<G: Grid> {
 }
 
 impl<G: Grid> Model for Bench<G> {
-    ghost use Rattle.aig_bench.specs.Pair.{BenchState};
+    ghost use Rattle.aig_bench.specs.BenchState.{BenchState};
 
     ghost Value = { BenchState };
 

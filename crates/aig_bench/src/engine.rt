@@ -1,8 +1,8 @@
 //! A circuit and a stimulus on a grid of cells, with what it takes to keep the cells current.
 use crate::driven_circuit::DrivenCircuit;
 use crate::fanouts::Fanouts;
-use crate::order::Order;
 use crate::pending::Pending;
+use crate::sweep_order::Order;
 use aig_values::Grid;
 use std::marker::Model;
 

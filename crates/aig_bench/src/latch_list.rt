@@ -1,7 +1,7 @@
 //! Lists of latches, which take no memory once they are made. A latch's number here is one more than its position.
 ghost use Rattle.std.specs.Prelude.{◌≡◌, ◌≢◌, ◌↔◌, ℕ, ◌+◌, ◌<◌, ◌≤◌, length, IfOk, IfSome, IfNone, IsTrue};
 ghost use Rattle.aig_parts.specs.Formed.{limit};
-ghost use Rattle.aig_bench.specs.state.Latches.{IsLatchList, IsListed, Lists};
+ghost use Rattle.aig_bench.specs.state.Latches.{IsLatchList, IsInLatchList, Lists};
 
 use aig_base::Memory;
 use std::alloc::Global;
@@ -22,7 +22,7 @@ impl LatchList {
     pub fn new(alloc: Global, latches: usize) -> Result<LatchList, Memory>
         requires { latches ≤ limit }
         ensures list { IfOk result (IsLatchList latches) }
-        ensures empty { IfOk result (λ l. (i : ℕ) → IsListed l i → ⊥) }
+        ensures empty { IfOk result (λ l. (i : ℕ) → IsInLatchList l i → ⊥) }
     {
         let size = latches + 1;
         let next = vec![in alloc; 0; size]?;
@@ -36,7 +36,7 @@ impl LatchList {
 
     /// Whether no latch is in the list.
     pub fn is_empty(&self) -> bool
-        ensures { (n : ℕ) → IsLatchList n self.now → IsTrue result ↔ ((i : ℕ) → IsListed self.now i → ⊥) }
+        ensures { (n : ℕ) → IsLatchList n self.now → IsTrue result ↔ ((i : ℕ) → IsInLatchList self.now i → ⊥) }
     {
         self.first == 0
     }
@@ -62,9 +62,9 @@ impl LatchList {
         requires list { (n : ℕ) × IsLatchList n self.old }
         ensures list { (n : ℕ) → IsLatchList n self.old → IsLatchList n self.new }
         ensures positive { IfSome result (λ i. 0 < i) }
-        ensures listed { IfSome result (λ i. IsListed self.old i) }
-        ensures left { IfSome result (λ i. (j : ℕ) → IsListed self.new j ↔ (IsListed self.old j × (j ≢ i))) }
-        ensures none { IfNone result ((i : ℕ) → IsListed self.old i → ⊥) }
+        ensures listed { IfSome result (λ i. IsInLatchList self.old i) }
+        ensures left { IfSome result (λ i. (j : ℕ) → IsInLatchList self.new j ↔ (IsInLatchList self.old j × (j ≢ i))) }
+        ensures none { IfNone result ((i : ℕ) → IsInLatchList self.old i → ⊥) }
         ensures same { IfNone result (self.new ≡ self.old) }
     {
         let first = self.first;
@@ -80,7 +80,7 @@ impl LatchList {
     pub fn clear(&mut self)
         requires list { (n : ℕ) × IsLatchList n self.old }
         ensures list { (n : ℕ) → IsLatchList n self.old → IsLatchList n self.new }
-        ensures empty { (i : ℕ) → IsListed self.new i → ⊥ }
+        ensures empty { (i : ℕ) → IsInLatchList self.new i → ⊥ }
     {
         while self.take().is_some() {}
     }

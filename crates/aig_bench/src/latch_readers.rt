@@ -2,7 +2,7 @@
 ghost use Rattle.std.specs.Prelude.{◌≡◌, ℕ, ◌<◌, ◌≤◌, [], ◌∷◌, ◌++◌, length, IfOk, OnOk};
 ghost use Rattle.std.specs.Vec.{vec_capacity};
 ghost use Rattle.aig_parts.specs.declared.raw.Raw.{Raw};
-ghost use Rattle.aig_bench.specs.state.Latches.{AreLatchReaders, Follows, IsLatchList, Lists};
+ghost use Rattle.aig_bench.specs.state.Latches.{AreLatchReaders, TakesNextFrom, IsLatchList, Lists};
 
 use crate::latch_list::LatchList;
 use aig_base::{Circuit, Memory};
@@ -57,7 +57,7 @@ impl LatchReaders {
             × IsLatchList (length raw.latches) list.old }
         ensures list { (n : ℕ) → IsLatchList n list.old → IsLatchList n list.new }
         ensures lists { (raw : Raw) → AreLatchReaders raw self.now → variable ≤ raw.max_var
-            → Lists (λ i. Follows raw i variable) list.old list.new }
+            → Lists (λ i. TakesNextFrom raw i variable) list.old list.new }
     {
         let mut latch = self.last[variable as usize];
         while latch != 0 {

@@ -4,14 +4,14 @@ ghost use Rattle.aig_bench.specs.state.Current.{AreCurrent};
 ghost use Rattle.aig_bench.specs.state.DrivenCircuit.{IsDriven, pair_of};
 ghost use Rattle.aig_bench.specs.state.Engine.{IsSettled};
 ghost use Rattle.aig_bench.specs.state.Filled.{FillsCells};
-ghost use Rattle.aig_bench.specs.state.SweepOrder.{IsKnown};
+ghost use Rattle.aig_bench.specs.state.SweepOrder.{IsKnownOrder};
 
 use crate::driven_circuit::DrivenCircuit;
 use crate::engine::Engine;
 use crate::fanouts::Fanouts;
-use crate::layout::lay_out;
-use crate::order::Order;
+use crate::new_grid::lay_out;
 use crate::pending::Pending;
+use crate::sweep_order::Order;
 use aig_base::Memory;
 use aig_values::Grid;
 use std::alloc::Global;
@@ -19,7 +19,7 @@ use std::alloc::Global;
 impl<G: Grid> Engine<G> {
     // Writes the values of all frames.
     fn fill_all(&mut self)
-        requires known { IsKnown self.old.way }
+        requires known { IsKnownOrder self.old.way }
         ensures fills { FillsCells self.old self.new }
         ensures current { AreCurrent self.old.pair (length self.old.pair.rows) self.new.cells }
         ensures count { self.new.evaluations

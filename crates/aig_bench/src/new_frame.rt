@@ -3,10 +3,10 @@ ghost use Rattle.std.specs.Prelude.{◌≡◌, ℕ, ◌*◌, ◌<◌, length, So
 ghost use Rattle.aig_base.specs.Grounded.{IsSource};
 ghost use Rattle.aig_parts.specs.Literal.{variable};
 ghost use Rattle.aig_values.specs.InputRows.{row_at};
-ghost use Rattle.aig_bench.specs.state.Current.{HoldsInputs, HoldsLatches, IsCurrentBefore, IsCurrentRow};
-ghost use Rattle.aig_bench.specs.state.Filled.{FillsRow, FillsSource, KeepsValues};
-ghost use Rattle.aig_bench.specs.state.SweepOrder.{IsKnown};
-ghost use Rattle.aig_bench.specs.Pair.{HasValue};
+ghost use Rattle.aig_bench.specs.state.Current.{HoldsInputsInPair, HoldsLatchesInPair, IsCurrentBefore, IsCurrentRow};
+ghost use Rattle.aig_bench.specs.state.Filled.{FillsRow, FillsSource, KeepsRowValues};
+ghost use Rattle.aig_bench.specs.state.SweepOrder.{IsKnownOrder};
+ghost use Rattle.aig_bench.specs.BenchState.{HasValue};
 
 use crate::engine::Engine;
 use aig_base::{Latch, Tern};
@@ -52,7 +52,7 @@ impl<G: Grid> Engine<G> {
     fn fill_inputs(&mut self, frame: u32)
         requires { frame < length self.old.pair.rows }
         ensures fills { FillsRow frame 0 self.old self.new }
-        ensures inputs { HoldsInputs self.old.pair frame (row_at self.new.cells frame) }
+        ensures inputs { HoldsInputsInPair self.old.pair frame (row_at self.new.cells frame) }
     {
         for position in 0..self.driven.stimulus.width() {
             self.fill_input(frame, position);
@@ -64,8 +64,8 @@ impl<G: Grid> Engine<G> {
         requires frame { frame < length self.old.pair.rows }
         requires before { IsCurrentBefore self.old.pair frame self.old.cells }
         ensures fills { FillsRow frame 0 self.old self.new }
-        ensures keeps { KeepsValues self.old.pair frame (row_at self.old.cells frame) (row_at self.new.cells frame) }
-        ensures latches { HoldsLatches self.old.pair frame (row_at self.new.cells frame) }
+        ensures keeps { KeepsRowValues self.old.pair frame (row_at self.old.cells frame) (row_at self.new.cells frame) }
+        ensures latches { HoldsLatchesInPair self.old.pair frame (row_at self.new.cells frame) }
     {
         for position in 0..self.driven.circuit.latches().len() {
             let latch = self.driven.circuit.latches()[position];
@@ -76,7 +76,7 @@ impl<G: Grid> Engine<G> {
     /// Writes all values of a frame, by the frame before: each gate is evaluated once, and nothing is queued.
     pub fn fill(&mut self, frame: u32)
         requires frame { frame < length self.old.pair.rows }
-        requires known { IsKnown self.old.way }
+        requires known { IsKnownOrder self.old.way }
         requires before { IsCurrentBefore self.old.pair frame self.old.cells }
         ensures fills { FillsRow frame (length self.old.pair.circuit.gates) self.old self.new }
         ensures current { IsCurrentRow self.old.pair frame (row_at self.new.cells frame) }

@@ -6,8 +6,8 @@ ghost use Rattle.aig_parts.specs.Literal.{variable};
 ghost use Rattle.aig_values.specs.Cells.{gate_value, HasCells};
 ghost use Rattle.aig_values.specs.InputRows.{row_at};
 ghost use Rattle.aig_bench.specs.declared.driven_circuit.DrivenCircuit.{DrivenCircuit};
-ghost use Rattle.aig_bench.specs.state.Buckets.{FitsOneMore};
-ghost use Rattle.aig_bench.specs.state.Pending.{IsReady};
+ghost use Rattle.aig_bench.specs.state.Buckets.{FitsOneVariable};
+ghost use Rattle.aig_bench.specs.state.Pending.{IsSettledBench};
 
 use crate::edit::EditReport;
 use crate::fanouts::Fanouts;
@@ -22,13 +22,13 @@ pub fn make_room<G: Grid>(
     pending: &mut Pending,
 ) -> Result<(), Memory>
     requires few { length (G.gate_flags grid.old) ≤ limit }
-    requires ready { (driven : DrivenCircuit) × IsReady driven fanouts.old pending.old (G.gate_flags grid.old)
+    requires ready { (driven : DrivenCircuit) × IsSettledBench driven fanouts.old pending.old (G.gate_flags grid.old)
         (G.cells grid.old) }
     ensures ready { (driven : DrivenCircuit)
-        → IsReady driven fanouts.old pending.old (G.gate_flags grid.old) (G.cells grid.old)
-        → IsReady driven fanouts.new pending.new (G.gate_flags grid.new) (G.cells grid.new) }
+        → IsSettledBench driven fanouts.old pending.old (G.gate_flags grid.old) (G.cells grid.old)
+        → IsSettledBench driven fanouts.new pending.new (G.gate_flags grid.new) (G.cells grid.new) }
     ensures latches { OnOk result (length fanouts.new.latches.last.items < vec_capacity fanouts.new.latches.last) }
-    ensures buckets { OnOk result (FitsOneMore pending.new.buckets) }
+    ensures buckets { OnOk result (FitsOneVariable pending.new.buckets) }
     ensures grid { OnOk result (IsTrue (G.has_room grid.new)) }
     ensures count { G.evaluations grid.new ≡ G.evaluations grid.old }
 {
@@ -41,7 +41,7 @@ pub fn make_room<G: Grid>(
 pub fn gate_count(circuit: &Circuit) -> u32
     ensures { result ≡ length circuit.now.gates }
 {
-    // Its contract tells that the parts are a circuit.
+    // Its contract says that the parts are a circuit.
     let _max_var = circuit.max_var();
     circuit.gates().len() as u32
 }

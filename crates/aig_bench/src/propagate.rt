@@ -5,7 +5,7 @@ ghost use Rattle.aig_parts.specs.Literal.{variable};
 ghost use Rattle.aig_base.specs.Sections.{IsGate};
 ghost use Rattle.aig_base.specs.state.Marks.{IsMarked};
 ghost use Rattle.aig_bench.specs.state.Current.{IsCurrentBefore};
-ghost use Rattle.aig_bench.specs.state.Renewed.{IsBehind, IsBehindBit, RenewsAll};
+ghost use Rattle.aig_bench.specs.state.Renewed.{IsStaleFrom, IsStaleFromBit, RenewsAll};
 ghost use Rattle.aig_bench.specs.state.Steps.{frame_work, PassesOver, PutsLatches, PutsSource};
 
 use crate::edit::EditReport;
@@ -61,7 +61,7 @@ impl<G: Grid> Engine<G> {
         ensures passes { PassesOver frame self.old self.new result }
         ensures evaluated { result.evaluated ≤ frame_work }
     {
-        // Its invariant tells that the pair's circuit is one.
+        // Its invariant says that the pair's circuit is one.
         let _driven = &self.driven;
         self.carry(frame);
         self.settle(frame)
@@ -77,8 +77,8 @@ impl<G: Grid> Engine<G> {
     // Lets these gates wait.
     fn force(&mut self, gates: &[u32])
         requires { (v : ℕ) → Contains gates.now v → IsGate self.old.pair.circuit v }
-        ensures same { self.new ≡ record self.old { waits = self.new.waits } }
-        ensures waits { (v : ℕ) → IsMarked self.new.waits v ↔ (IsMarked self.old.waits v ⊎ Contains gates.now v) }
+        ensures same { self.new ≡ record self.old { queued = self.new.queued } }
+        ensures queued { (v : ℕ) → IsMarked self.new.queued v ↔ (IsMarked self.old.queued v ⊎ Contains gates.now v) }
     {
         self.pending.buckets.link_all(&self.fanouts.levels, gates);
     }
@@ -86,7 +86,7 @@ impl<G: Grid> Engine<G> {
     /// Renews the frames from one on: evaluates these gates at each, and whatever is touched by them and by the latches
     /// that are carried into it. It ends at the first frame into which nothing is carried, if no gates are given.
     pub fn renew_from(&mut self, first: u32, forced: &[u32]) -> EditReport
-        requires { IsBehind self.old forced.now first }
+        requires { IsStaleFrom self.old forced.now first }
         ensures renews { RenewsAll forced.now first self.old self.new result }
         ensures evaluated { result.evaluated ≤ frame_limit * frame_work }
     {
@@ -111,7 +111,7 @@ impl<G: Grid> Engine<G> {
     pub fn renew_input(&mut self, frame: u32, position: u32) -> EditReport
         requires position { position < length self.old.pair.circuit.inputs }
         requires frame { frame < length self.old.pair.rows }
-        requires behind { IsBehindBit self.old frame position }
+        requires stale { IsStaleFromBit self.old frame position }
         ensures { RenewsAll [] frame self.old self.new result }
     {
         let input = self.driven.circuit.inputs()[position as usize];

@@ -6,9 +6,9 @@ ghost use Rattle.aig_base.specs.Grounded.{IsSource};
 ghost use Rattle.aig_base.specs.Levels.{AreLevels};
 ghost use Rattle.aig_parts.specs.Limits.{cell_limit};
 ghost use Rattle.aig_base.specs.state.Marks.{IsMarked};
-ghost use Rattle.aig_bench.specs.Pair.{HasValue};
+ghost use Rattle.aig_bench.specs.BenchState.{HasValue};
 ghost use Rattle.aig_bench.specs.state.Steps.{frame_work, report_of, PutsSource, Settles, SettlesLevels};
-ghost use Rattle.aig_bench.specs.state.Sweep.{waiting};
+ghost use Rattle.aig_bench.specs.state.Sweep.{queued_count};
 
 use crate::edit::EditReport;
 use crate::engine::Engine;
@@ -34,9 +34,9 @@ impl<G: Grid> Engine<G> {
     fn settle_next(&mut self, frame: u32, level: u32) -> Option<bool>
         requires frame { frame < length self.old.pair.rows }
         requires level { level < length self.old.levels }
-        ensures fewer { IfSome result (λ c. waiting self.old.levels self.new.waits level
-            < waiting self.old.levels self.old.waits level) }
-        ensures none { IfNone result ((u : ℕ) → IsMarked self.new.waits u → slice_get self.old.levels u ≢ Some level) }
+        ensures fewer { IfSome result (λ c. queued_count self.old.levels self.new.queued level
+            < queued_count self.old.levels self.old.queued level) }
+        ensures none { IfNone result ((u : ℕ) → IsMarked self.new.queued u → slice_get self.old.levels u ≢ Some level) }
         ensures settles { SettlesLevels frame level level self.old self.new (report_of result) }
     {
         let variable = self.pending.buckets.take(level)?;

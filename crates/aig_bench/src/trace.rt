@@ -2,7 +2,7 @@
 ghost use Rattle.std.specs.Prelude.{ℕ, List};
 ghost use Rattle.aig_bytes.specs.Bytes.{Writes};
 ghost use Rattle.aig_bench.specs.state.Current.{IsBench};
-ghost use Rattle.aig_bench.specs.Pair.{HasTrace};
+ghost use Rattle.aig_bench.specs.BenchState.{HasTrace};
 ghost use Rattle.aig_bench.specs.state.DrivenCircuit.{pair_of};
 
 use crate::driven_circuit::DrivenCircuit;

@@ -3,7 +3,7 @@ ghost use Rattle.std.specs.Prelude.{◌≡◌, ℕ, ◌*◌, ◌<◌, length, So
 ghost use Rattle.aig_parts.specs.Literal.{variable};
 ghost use Rattle.aig_values.specs.Cells.{literal_value};
 ghost use Rattle.aig_values.specs.InputRows.{row_at};
-ghost use Rattle.aig_bench.specs.Pair.{HasValue};
+ghost use Rattle.aig_bench.specs.BenchState.{HasValue};
 ghost use Rattle.aig_bench.specs.state.Current.{IsCurrentBefore};
 
 use crate::engine::Engine;

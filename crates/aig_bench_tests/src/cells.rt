@@ -1,4 +1,4 @@
-//! The cells that a bench lends, behind edits that are done and edits that are refused.
+//! The cells that a bench lends, after edits that are done and edits that are refused.
 use crate::bare::Bare;
 use crate::benches::{TWO_GATES, bench};
 use crate::edits::{Step, answer_of};
@@ -25,13 +25,13 @@ fn are<G: Grid>(bench: &Bench<G>, rows: [&[Tern]; 2]) -> bool {
             same &= cell(bench, frame, Lit::new(literal)) == Some(*value);
             literal = literal.wrapping_add(2);
         }
-        // No variable is behind the last.
+        // No variable is after the last.
         same &= cell(bench, frame, Lit::new(literal)).is_none();
     }
     same
 }
 
-// Edits of two gates, 3 = 1 AND 2 and 4 = 3 AND 1, some of them refused, and the cells behind each.
+// Edits of two gates, 3 = 1 AND 2 and 4 = 3 AND 1, some of them refused, and the cells after each.
 static STEPS: [(Step, [&[Tern]; 2]); 8] = [
     (
         Step::At(0, 0),
@@ -66,7 +66,7 @@ static STEPS: [(Step, [&[Tern]; 2]); 8] = [
 
 const ZEROS: &[Tern] = &[Zero, One, Zero, Zero, Zero];
 
-// Whether the cells are right behind each edit.
+// Whether the cells are right after each edit.
 fn stay_right<G: Grid>(bench: &mut Bench<G>) -> bool {
     let mut same = true;
     for (step, rows) in &STEPS {
@@ -83,7 +83,7 @@ fn follow<G: Grid>(alloc: Global) -> bool {
     }
 }
 
-// Every cell is the value of the current circuit and stimulus, behind edits that are done and ones that are refused, in
+// Every cell is the value of the current circuit and stimulus, after edits that are done and ones that are refused, in
 // each grid, and in one that has the calls alone that a grid has to have.
 #[test]
 fn cells_are_current(rt: HostRuntime) {

@@ -32,12 +32,12 @@ pub put_in_field : (start end at last e : ℕ) (place place' ds : List ℕ) → 
     → last ≡ end + length ds → at + length ds ≡ last → last < length place' → drop at place' ≡ ds ++ drop last place
     → take at place' ≡ take at place
     → drop start (take (last + 1) (set place' last e)) ≡ drop start (take end place) ++ (ds ++ e ∷ [])
-put_in_field start end at last e place place' ds front fits size there room behind before =
+put_in_field start end at last e place place' ds front fits size there room suffix before =
     let same : at ≡ end = omega arith in
-    let behind : drop end place' ≡ ds ++ drop last place = subst (λ (j : ℕ). drop j place' ≡ ds ++ drop last place) same behind in
+    let suffix : drop end place' ≡ ds ++ drop last place = subst (λ (j : ℕ). drop j place' ≡ ds ++ drop last place) same suffix in
     let before : take end place' ≡ take end place = subst (λ (j : ℕ). take j place' ≡ take j place) same before in
     let all : place' ≡ take end place ++ (ds ++ drop last place) =
-    sym (take-append-drop end place') ∙ ap (λ (xs : List ℕ). xs ++ drop end place') before ∙ ap (λ (xs : List ℕ). take end place ++ xs) behind in
+    sym (take-append-drop end place') ∙ ap (λ (xs : List ℕ). xs ++ drop end place') before ∙ ap (λ (xs : List ℕ). take end place ++ xs) suffix in
     let size : last ≡ length (take end place) + length ds = omega (arith, size, length-take-le end place fits) in
     let digits : take last place' ≡ take end place ++ ds =
     ap (take last) all ∙ ap (λ (j : ℕ). take j (take end place ++ (ds ++ drop last place))) size
@@ -69,5 +69,5 @@ straight_on held front none taken e empty =
 pub split_more : (all front rest : List ℕ) (n : ℕ) → all ≡ front ++ rest → all ≡ (front ++ take n rest) ++ drop n rest
 split_more all front rest n e = e ∙ ap (λ (xs : List ℕ). front ++ xs) (sym (take-append-drop n rest)) ∙ sym (append_assoc front (take n rest) (drop n rest))
 
-pub handed_more : (start mid new : Option (List ℕ)) (front more : List ℕ) → mid ≡ after start front → new ≡ after mid more → new ≡ after start (front ++ more)
-handed_more start mid new front more e f = f ∙ ap (λ (w : Option (List ℕ)). after w more) e ∙ after-append start front more
+pub forwarded_more : (start mid new : Option (List ℕ)) (front more : List ℕ) → mid ≡ after start front → new ≡ after mid more → new ≡ after start (front ++ more)
+forwarded_more start mid new front more e f = f ∙ ap (λ (w : Option (List ℕ)). after w more) e ∙ after-append start front more

@@ -44,7 +44,7 @@ module _ {X : Type 0} {written : X → Option (List ℕ)} {failures : X → ℕ}
     count = omega (arith, first.count, second.count);
   }
 
-  -- an error is handed on
+  -- an error is passed on
   pub writes_err : {T E S F : Type 0} {old new : X} {a : List ℕ} {e : E} {s : Result S F}
       → Writes {T = T} written failures old new a (Err e) → IsErr s → Writes written failures old new a s
   writes_err {s = Err d} w h = record { ok = tt; err = w.err; count = w.count }

@@ -10,11 +10,11 @@ pub record Holding (W : Type 0) : Type 0 where
   pub is_broken : Bool
   pub failures : ℕ
 
--- what was held and what was taken was handed on, in order, up to what is held now
-pub record HandsOn {W : Type 0} (written : W → Option (List ℕ)) (old new : Holding W) (taken : List ℕ) : Type 0 where
+-- what was held and what was taken was forwarded, in order, up to what is held now
+pub record Forwards {W : Type 0} (written : W → Option (List ℕ)) (old new : Holding W) (taken : List ℕ) : Type 0 where
   pub front : List ℕ
   pub all : old.held ++ taken ≡ front ++ new.held
-  pub handed : written new.inner ≡ after (written old.inner) front
+  pub forwarded : written new.inner ≡ after (written old.inner) front
 
 -- A broken writer refuses, and leaves the writer below and what is held as they are. Any other is broken by the call
 -- that fails, and by no other; the writer below failed once in that call.

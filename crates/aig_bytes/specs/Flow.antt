@@ -1,7 +1,7 @@
 -- What passes through a reader or a writer between two moments.
 use Rattle.std.specs.Prelude.{ℕ, List, Option}
 
--- how it tells its bytes (those that are left, or those that were written) and how many calls failed, what it was, and
+-- how it gives its bytes (those that are left, or those that were written) and how many calls failed, what it was, and
 -- what it is
 pub record Flow (X : Type 0) : Type 0 where
   pub bytes : X → Option (List ℕ)

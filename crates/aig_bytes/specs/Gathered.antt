@@ -5,8 +5,8 @@ use Rattle.aig_bytes.specs.Bytes.{after, failed, IsBeginning}
 -- The writer got a part of what waited and of the bytes, and the rest waits. If the call failed it got a prefix.
 pub record Gathers {X T E : Type 0} (written : X → Option (List ℕ)) (failures : X → ℕ) (old new : X) (held held' bytes : List ℕ)
     (r : Result T E) : Type 0 where
-  pub handed : List ℕ
-  pub wrote : written new ≡ after (written old) handed
-  pub ok : OnOk r (held ++ bytes ≡ handed ++ held')
-  pub err : OnErr r (IsBeginning handed (held ++ bytes))
+  pub forwarded : List ℕ
+  pub wrote : written new ≡ after (written old) forwarded
+  pub ok : OnOk r (held ++ bytes ≡ forwarded ++ held')
+  pub err : OnErr r (IsBeginning forwarded (held ++ bytes))
   pub count : failures new ≡ failures old + failed r

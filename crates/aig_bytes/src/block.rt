@@ -177,9 +177,9 @@ impl<const ROOM: usize> ByteBlock<ROOM> {
 
     /// Writes all bytes that wait.
     #[inline(never)]
-    pub fn hand_on<W: Write>(&mut self, out: &mut W) -> Result<(), Io>
+    pub fn forward<W: Write>(&mut self, out: &mut W) -> Result<(), Io>
         ensures written { Writes W.written W.failures out.old out.new self.old result }
-        ensures none_waits { OnOk result (self.new ≡ []) }
+        ensures none_buffered { OnOk result (self.new ≡ []) }
     {
         write_all(out, self.as_slice())?;
         self.clear();
@@ -193,7 +193,7 @@ impl<const ROOM: usize> ByteBlock<ROOM> {
         if self.push(byte) {
             return Ok(());
         }
-        self.hand_on(out)?;
+        self.forward(out)?;
         self.push(byte);
         Ok(())
     }
@@ -204,12 +204,12 @@ impl<const ROOM: usize> ByteBlock<ROOM> {
         ensures { Gathers W.written W.failures out.old out.new self.old self.new bytes.now result }
     {
         if bytes.len() >= LARGE {
-            self.hand_on(out)?;
+            self.forward(out)?;
             return write_all(out, bytes);
         }
         let mut at = self.append(bytes);
         while at < bytes.len() {
-            self.hand_on(out)?;
+            self.forward(out)?;
             at += self.append(&bytes[at..]);
         }
         Ok(())

@@ -1,6 +1,6 @@
 //! A writer that gathers small pieces.
 ghost use Rattle.std.specs.Prelude.{◌≡◌, ℕ, ◌+◌, ◌<◌, ◌≤◌, List, [], ◌++◌, length, true, false, IfOk, OnOk};
-ghost use Rattle.aig_bytes.specs.Buffered.{HandsOn, Breaks};
+ghost use Rattle.aig_bytes.specs.Buffered.{Forwards, Breaks};
 ghost use Rattle.aig_bytes.specs.Bytes.{after, failed, moved};
 
 use crate::block::Block;
@@ -11,7 +11,7 @@ use std::marker::Model;
 /// From how many bytes on a piece is not held back.
 const LARGE: usize = 4096;
 
-/// Holds back small pieces, 32,768 bytes at most, and hands them on to another writer where a write finds no room,
+/// Holds back small pieces, 32,768 bytes at most, and forwards them to another writer where a write finds no room,
 /// before a piece of 4,096 bytes or more, which goes straight on, and at a flush. What it holds when it is dropped is
 /// lost. Once the other writer failed, this one is broken: it never calls the other again, and refuses each call.
 #[derive(Drop)]
@@ -59,9 +59,9 @@ impl<W> Buffered<W> {
 }
 
 impl<W: Write> Buffered<W> {
-    // Hands on what is held, as far as the other writer takes it.
-    fn hand_on(&mut self) -> Result<(), Failed>
-        ensures handed { HandsOn W.written self.old self.new [] }
+    // Forwards what is held, as far as the other writer takes it.
+    fn forward(&mut self) -> Result<(), Failed>
+        ensures forwarded { Forwards W.written self.old self.new [] }
         ensures all { OnOk result (self.new.held ≡ []) }
         ensures count { W.failures self.new.inner ≡ W.failures self.old.inner + failed result }
         ensures broken { self.new.is_broken ≡ self.old.is_broken }
@@ -78,20 +78,20 @@ impl<W: Write> Buffered<W> {
     fn take(&mut self, bytes: &[u8]) -> Result<usize, Failed>
         ensures bound { IfOk result (λ n. n ≤ length bytes.now) }
         ensures some { IfOk result (λ n. 0 < length bytes.now → 0 < n) }
-        ensures handed { HandsOn W.written self.old self.new (moved result bytes.now) }
+        ensures forwarded { Forwards W.written self.old self.new (moved result bytes.now) }
         ensures count { W.failures self.new.inner ≡ W.failures self.old.inner + failed result }
         ensures broken { self.new.is_broken ≡ self.old.is_broken }
         ensures failures { self.new.failures ≡ self.old.failures }
     {
         if bytes.len() >= LARGE {
-            self.hand_on()?;
+            self.forward()?;
             return self.inner.write(bytes);
         }
         let count = self.held.append(bytes);
         if count > 0 || bytes.is_empty() {
             return Ok(count);
         }
-        self.hand_on()?;
+        self.forward()?;
         Ok(self.held.append(bytes))
     }
 }
@@ -113,8 +113,8 @@ impl<W: Write> Write for Buffered<W> {
             ≡ after (after (W.written self.old.inner) self.old.held) (moved result bytes.now) }
         ensures count { self.new.failures ≡ self.old.failures + failed result }
 
-        // What was taken and is not held was handed on, in order.
-        ensures handed { HandsOn W.written self.old self.new (moved result bytes.now) }
+        // What was taken and is not held was forwarded, in order.
+        ensures forwarded { Forwards W.written self.old self.new (moved result bytes.now) }
         ensures breaks { Breaks W.failures self.old self.new result }
     {
         if self.is_broken {
@@ -132,13 +132,13 @@ impl<W: Write> Write for Buffered<W> {
         ensures flushed { OnOk result ((self.new.held ≡ []) × W.is_flushed self.new.inner) }
         ensures count { self.new.failures ≡ self.old.failures + failed result }
 
-        // All that was held is handed on, in order; what a failing call did not hand on is held still. The writer below
+        // All that was held is forwarded, in order; what a failing call did not forward is held still. The writer below
         // is flushed after it got all (`flushed`).
-        ensures handed { HandsOn W.written self.old self.new [] }
+        ensures forwarded { Forwards W.written self.old self.new [] }
         ensures all { OnOk result (self.new.held ≡ []) }
         ensures breaks { Breaks W.failures self.old self.new result }
     {
-        if self.is_broken || self.hand_on().is_err() || self.inner.flush().is_err() {
+        if self.is_broken || self.forward().is_err() || self.inner.flush().is_err() {
             return Err(self.fail());
         }
         Ok(())

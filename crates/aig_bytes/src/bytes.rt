@@ -8,7 +8,7 @@ pub struct Failed;
 
 /// A source of bytes.
 pub trait Read {
-    // The bytes that are left, where the value tells them.
+    // The bytes that are left, where the value knows them.
     ghost left: { Self → Option (List ℕ) };
 
     // How many calls failed.
@@ -29,7 +29,7 @@ pub trait Read {
 
 /// A sink of bytes.
 pub trait Write {
-    // The bytes written so far, where the value tells them.
+    // The bytes written so far, where the value knows them.
     ghost written: { Self → Option (List ℕ) };
 
     // Neither it nor a writer below it holds back a byte that was written.

@@ -8,7 +8,7 @@ use crate::count::Count;
 use std::io;
 use std::marker::Model;
 
-/// A reader or a writer of `std::io`. It tells none of its bytes, and tries no failure again. It fails also where a
+/// A reader or a writer of `std::io`. It knows none of its bytes, and tries no failure again. It fails also where a
 /// write takes none of the bytes that there are, and where `u64::MAX` reads have given bytes.
 #[derive(Drop)]
 pub struct Std<T> {
@@ -101,7 +101,7 @@ impl<T: io::Write> Write for Std<T> {
     }
 
     fn flush(&mut self) -> Result<(), Failed>
-        // The trait's clause on failures; no byte is told.
+        // The trait's clause on failures; no byte is known.
         ensures count { self.new.failures ≡ self.old.failures + failed result }
 
         // The writer of std gets no byte.

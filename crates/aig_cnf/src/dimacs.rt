@@ -15,7 +15,7 @@ fn put_field<W: Write>(out: &mut W, block: &mut Block, number: u32, end: u8) -> 
     if block.push_field(number, end) {
         return Ok(());
     }
-    block.hand_on(out)?;
+    block.forward(out)?;
     block.push_field(number, end);
     Ok(())
 }

@@ -7,7 +7,7 @@ use aig_format::Format;
 // What the two gates are in a binary file.
 const RENUMBERED: &[u8] = b"aig 4 2 0 1 2\n8\n\x02\x02\x02\x04";
 
-// A file of bytes at hand is renumbered where it is written as a binary one.
+// A file of known bytes is renumbered where it is written as a binary one.
 #[test]
 fn bytes_are_converted(rt: HostRuntime) {
     let alloc = rt.alloc();

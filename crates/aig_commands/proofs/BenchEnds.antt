@@ -7,10 +7,10 @@ use Rattle.std.proofs.lemmas.List.{append-nil}
 use Rattle.aig_bytes.specs.Bytes.{before, after, IsAtEnd}
 use Rattle.aig_bytes.specs.Flow.{Flow}
 use Rattle.aig_bytes.proofs.WriteLemmas.{after-append, after-nil}
-use Rattle.aig_bench.specs.Pair.{Pair, BenchState}
+use Rattle.aig_bench.specs.BenchState.{CircuitAndRows, BenchState}
 use Rattle.aig_fault.specs.Command.{Got, BreaksOff, Text, Gave, WritesAll, WritesPart, EndsReading}
 use Rattle.aig_fault.specs.declared.run_fault.RunFault.{RunFault}
-use Rattle.aig_fault.specs.declared.run_fault.RunFault.TheVariants as parts
+use Rattle.aig_fault.specs.declared.run_fault.RunFault.TheVariants as run_faults
 use Rattle.aig_fault.specs.declared.script_fault.ScriptFault.{ScriptFault}
 use Rattle.aig_fault.specs.declared.script_fault.ScriptFault.TheVariants as scripts
 use Rattle.aig_script.specs.Lines.{Line, rest_from, whole_lines, lines_of}
@@ -22,10 +22,10 @@ use Rattle.aig_commands.specs.BenchFiles.{AreBenchFiles, RefusesFiles}
 use Rattle.aig_commands.proofs.ScriptParts.{Part, part_of, ended_before}
 
 abbrev pub script_io : RunFault
-script_io = parts.Script scripts.Io
+script_io = run_faults.Script scripts.Io
 
 -- why a script is not run to its end, as `Failing` says it
-abbrev Why : {Y X : Type 0} → Flow Y → Flow X → List ℕ → Pair → Pair → Type 0
+abbrev Why : {Y X : Type 0} → Flow Y → Flow X → List ℕ → CircuitAndRows → CircuitAndRows → Type 0
 Why reader out script old new =
     ((reader.failures reader.new ≡ reader.failures reader.old + 1) × Answered out (whole_lines script) old new)
     ⊎ ((reader.failures reader.new ≡ reader.failures reader.old) × ((lines : List Line)
@@ -33,11 +33,11 @@ Why reader out script old new =
     × FailsToWrite out lines old new))
 
 -- all was written
-got_all : {X : Type 0} (out : Flow X) (lines : List Line) (old new : Pair) (a : Answered out lines old new) → Got out a.replies
+got_all : {X : Type 0} (out : Flow X) (lines : List Line) (old new : CircuitAndRows) (a : Answered out lines old new) → Got out a.replies
 got_all out lines old new a = record { got = a.writes.ok; count = omega (arith, a.writes.count) }
 
 -- a write of the last reply failed
-breaks_off : {X : Type 0} (out : Flow X) (lines : List Line) (old new : Pair) (s : StoppedAt out lines old new)
+breaks_off : {X : Type 0} (out : Flow X) (lines : List Line) (old new : CircuitAndRows) (s : StoppedAt out lines old new)
     → BreaksOff out (s.before_it.replies ++ s.reply)
 breaks_off out lines old new s =
     let replies : List ℕ = s.before_it.replies in
@@ -50,14 +50,14 @@ breaks_off out lines old new s =
     }
 
 -- the replies up to the one that was not written whole
-answered_with_last : {X : Type 0} (out : Flow X) (lines : List Line) (old new : Pair) (s : StoppedAt out lines old new)
+answered_with_last : {X : Type 0} (out : Flow X) (lines : List Line) (old new : CircuitAndRows) (s : StoppedAt out lines old new)
     → Replies old (s.first ++ s.last ∷ []) (s.before_it.replies ++ s.reply) new
 answered_with_last out lines old new s =
     replies_append old s.first s.before_it.replies s.state (s.last ∷ []) s.reply new s.before_it.ran
     (replies_one s.state s.last s.reply new s.stepped)
 
 -- all was written, and then a flush failed
-unflushed : {X : Type 0} (out : Flow X) (lines : List Line) (old new : Pair) (u : Unflushed out lines old new)
+unflushed : {X : Type 0} (out : Flow X) (lines : List Line) (old new : CircuitAndRows) (u : Unflushed out lines old new)
     → BreaksOff out u.answered.replies
 unflushed out lines old new u =
     let replies : List ℕ = u.answered.replies in
@@ -70,7 +70,7 @@ unflushed out lines old new u =
 
 -- ---- a script on a bench of the files
 
-module _ {Y X : Type 0} (reader : Flow Y) (out : Flow X) (circuit stimulus : List ℕ) (old : Pair) (left : BenchState)
+module _ {Y X : Type 0} (reader : Flow Y) (out : Flow X) (circuit stimulus : List ℕ) (old : CircuitAndRows) (left : BenchState)
     (files : AreBenchFiles circuit stimulus old) where
   gives : (script : List ℕ) (failed : ℕ) → reader.bytes reader.old ≡ before script (reader.bytes reader.new)
       → reader.failures reader.new ≡ reader.failures reader.old + failed
@@ -227,28 +227,28 @@ none_ends reader out circuit stimulus fault other unread unwritten means = inl (
 pub refused_ends : {Y X : Type 0} (reader : Flow Y) (out : Flow X) (circuit stimulus : List ℕ) (fault : RunFault)
     → RefusesFiles circuit stimulus fault → reader.new ≡ reader.old → out.new ≡ out.old
     → EndsReading reader out script_io (LeavesBench circuit stimulus) (Err fault)
-refused_ends reader out circuit stimulus (parts.Circuit f) h unread unwritten =
-    none_ends reader out circuit stimulus (parts.Circuit f) (λ e. let no : ⊥ = cc in no) unread unwritten (h, refl, refl)
-refused_ends reader out circuit stimulus (parts.Stimulus f) h unread unwritten =
-    none_ends reader out circuit stimulus (parts.Stimulus f) (λ e. let no : ⊥ = cc in no) unread unwritten (h, refl, refl)
-refused_ends reader out circuit stimulus (parts.Witness f) h unread unwritten = absurd h
-refused_ends reader out circuit stimulus (parts.Bench f) h unread unwritten =
-    none_ends reader out circuit stimulus (parts.Bench f) (λ e. let no : ⊥ = cc in no) unread unwritten (h, refl, refl)
-refused_ends reader out circuit stimulus (parts.Script f) h unread unwritten = absurd h
-refused_ends reader out circuit stimulus parts.Output h unread unwritten = absurd h
-refused_ends reader out circuit stimulus parts.Memory h unread unwritten = absurd h
-refused_ends reader out circuit stimulus (parts.Unroll f) h unread unwritten = absurd h
+refused_ends reader out circuit stimulus (run_faults.Circuit f) h unread unwritten =
+    none_ends reader out circuit stimulus (run_faults.Circuit f) (λ e. let no : ⊥ = cc in no) unread unwritten (h, refl, refl)
+refused_ends reader out circuit stimulus (run_faults.Stimulus f) h unread unwritten =
+    none_ends reader out circuit stimulus (run_faults.Stimulus f) (λ e. let no : ⊥ = cc in no) unread unwritten (h, refl, refl)
+refused_ends reader out circuit stimulus (run_faults.Witness f) h unread unwritten = absurd h
+refused_ends reader out circuit stimulus (run_faults.Bench f) h unread unwritten =
+    none_ends reader out circuit stimulus (run_faults.Bench f) (λ e. let no : ⊥ = cc in no) unread unwritten (h, refl, refl)
+refused_ends reader out circuit stimulus (run_faults.Script f) h unread unwritten = absurd h
+refused_ends reader out circuit stimulus run_faults.Output h unread unwritten = absurd h
+refused_ends reader out circuit stimulus run_faults.Memory h unread unwritten = absurd h
+refused_ends reader out circuit stimulus (run_faults.Unroll f) h unread unwritten = absurd h
 
 -- the script is not run to its end
-pub fault_ends : {Y X : Type 0} (reader : Flow Y) (out : Flow X) (circuit stimulus : List ℕ) (old : Pair) (left : BenchState)
+pub fault_ends : {Y X : Type 0} (reader : Flow Y) (out : Flow X) (circuit stimulus : List ℕ) (old : CircuitAndRows) (left : BenchState)
     → AreBenchFiles circuit stimulus old → (fault : ScriptFault)
     → (fault ≡ scripts.Io → Failing reader out old left.pair)
     → (fault ≡ scripts.Memory → (reader.new ≡ reader.old) × (out.new ≡ out.old))
-    → EndsReading reader out script_io (LeavesBench circuit stimulus) (Err (parts.Script fault))
+    → EndsReading reader out script_io (LeavesBench circuit stimulus) (Err (run_faults.Script fault))
 fault_ends reader out circuit stimulus old left files scripts.Io failing memory =
     failing_ends reader out circuit stimulus old left files (failing refl)
 fault_ends reader out circuit stimulus old left files scripts.Memory failing memory =
-    none_ends reader out circuit stimulus (parts.Script scripts.Memory) (λ e. let no : ⊥ = cc in no)
+    none_ends reader out circuit stimulus (run_faults.Script scripts.Memory) (λ e. let no : ⊥ = cc in no)
     (memory refl).0 (memory refl).1 ((old, files), refl, refl)
 
 -- ---- the same run without its bench
@@ -306,7 +306,7 @@ module _ {Y X : Type 0} (reader : Flow Y) (out : Flow X) (circuit stimulus : Lis
 -- ---- what a fault says
 
 -- a script that found no memory changed nothing
-pub unchanged : {A : Type 0} (r : Result A RunFault) (fault : ScriptFault) (P : Type 0) → IsErrAnd r (λ f. f ≡ parts.Script fault)
+pub unchanged : {A : Type 0} (r : Result A RunFault) (fault : ScriptFault) (P : Type 0) → IsErrAnd r (λ f. f ≡ run_faults.Script fault)
     → (fault ≡ scripts.Memory → P) → IfErr r (λ f. f ≢ script_io → P)
 unchanged (Ok x) fault P is memory = tt
 unchanged (Err f) scripts.Io P is memory = λ other. absurd (other is)

@@ -18,15 +18,15 @@ use Rattle.aig_sim.specs.Simulated as simulated
 use Rattle.aig_sim.specs.Simulated.{Streams, BeginsWithRows, NoneFailed, OneReadFailed, OneWriteFailed}
 use Rattle.aig_sim.specs.StimulusText.{row_line, HoldsRows, SpellsRows}
 use Rattle.aig_fault.specs.declared.run_fault.RunFault.{RunFault}
-use Rattle.aig_fault.specs.declared.run_fault.RunFault.TheVariants as parts
+use Rattle.aig_fault.specs.declared.run_fault.RunFault.TheVariants as run_faults
 use Rattle.aig_fault.specs.Command.{Got, BreaksOff, Text, Gave, WritesAll, WritesPart, EndsReading}
-use Rattle.aig_commands.specs.Sim.{AreRowsOf, Simulates}
-use Rattle.aig_commands.specs.Wave.{Dumps, dump_text}
+use Rattle.aig_commands.specs.Sim.{AreRowsOf, WritesSimulation}
+use Rattle.aig_commands.specs.Wave.{WritesWave, dump_text}
 
 -- a fault of the simulator is the stimulus's
 abbrev pub stimulus_of : Result ℕ StimFault → Result ℕ RunFault
 stimulus_of (Ok n) = Ok n
-stimulus_of (Err fault) = Err (parts.Stimulus fault)
+stimulus_of (Err fault) = Err (run_faults.Stimulus fault)
 
 module _ {Y X : Type 0} (reader : Flow Y) (out : Flow X) where
   abbrev pub streams : Y → X → Streams
@@ -61,15 +61,15 @@ module _ {Y X : Type 0} (reader : Flow Y) (out : Flow X) where
         dumped.Dumps raw (streams reader.old out.old) (streams reader.new out.new) (out.bytes out.old) (out.bytes out.new) r
 
     abbrev pub Trace : Text → Result ℕ RunFault → List ℕ → Type 0
-    Trace text answer bytes = Simulates text raw answer bytes
+    Trace text answer bytes = WritesSimulation text raw answer bytes
 
     abbrev pub Dump : Text → Result ℕ RunFault → List ℕ → Type 0
-    Dump text answer bytes = Dumps text raw answer bytes
+    Dump text answer bytes = WritesWave text raw answer bytes
 
     -- a fault of a line, or no memory
     simulated_fault : (fault : StimFault) (whole : Text) → (s : Simulated (Err fault)) → Gave reader whole 0
-        → AreRowsOf (length raw.inputs) whole s.rows (Err (parts.Stimulus fault)) → s.done ≡ s.trace
-        → out.failures out.new ≡ out.failures out.old → WritesAll reader out 0 Trace (Err (parts.Stimulus fault))
+        → AreRowsOf (length raw.inputs) whole s.rows (Err (run_faults.Stimulus fault)) → s.done ≡ s.trace
+        → out.failures out.new ≡ out.failures out.old → WritesAll reader out 0 Trace (Err (run_faults.Stimulus fault))
     simulated_fault fault whole s gave rows is count = record {
       text = whole;
       bytes = s.trace;
@@ -80,7 +80,7 @@ module _ {Y X : Type 0} (reader : Flow Y) (out : Flow X) where
     }
 
     pub simulates_ends : (r : Result ℕ StimFault) → Simulated r
-        → EndsReading reader out (parts.Stimulus stimuli.Io) Trace (stimulus_of r)
+        → EndsReading reader out (run_faults.Stimulus stimuli.Io) Trace (stimulus_of r)
     simulates_ends (Ok n) s =
         let (spells, end, is, number, none) = s.ended in
         inl (
@@ -113,7 +113,7 @@ module _ {Y X : Type 0} (reader : Flow Y) (out : Flow X) where
           part = record { bytes = flat_map row_line s.rows; is_whole = false };
           beginning = (begins.rest, begins.text_is);
           whole = λ is. let no : ⊥ = cc is in absurd no;
-          answer = Err (parts.Stimulus stimuli.Io);
+          answer = Err (run_faults.Stimulus stimuli.Io);
           bytes = s.trace;
           means = record {
             rows = s.rows;
@@ -139,20 +139,20 @@ module _ {Y X : Type 0} (reader : Flow Y) (out : Flow X) where
         inl ((λ e. let no : ⊥ = cc in no), simulated_fault stimuli.Memory (record { bytes = s.text; is_whole = false }) s (gave_so s.text 0 s.read (omega (arith, none.0))) fault is none.1)
 
     dumped_fault : (fault : StimFault) (whole : Text) → (s : Dumped (Err fault)) → Gave reader whole 0
-        → AreRowsOf (length raw.inputs) whole s.rows (Err (parts.Stimulus fault))
-        → s.done ≡ dump_text raw (length s.rows) s.frames (Err (parts.Stimulus fault))
-        → out.failures out.new ≡ out.failures out.old → WritesAll reader out 0 Dump (Err (parts.Stimulus fault))
+        → AreRowsOf (length raw.inputs) whole s.rows (Err (run_faults.Stimulus fault))
+        → s.done ≡ dump_text raw (length s.rows) s.frames (Err (run_faults.Stimulus fault))
+        → out.failures out.new ≡ out.failures out.old → WritesAll reader out 0 Dump (Err (run_faults.Stimulus fault))
     dumped_fault fault whole s gave rows is count = record {
       text = whole;
-      bytes = dump_text raw (length s.rows) s.frames (Err (parts.Stimulus fault));
+      bytes = dump_text raw (length s.rows) s.frames (Err (run_faults.Stimulus fault));
       gave = gave;
       means = record { rows = s.rows; frames = s.frames; rows_are = rows; frames_are = s.frames_are; written_is = refl };
       whole = tt;
-      got = got_so s.done (dump_text raw (length s.rows) s.frames (Err (parts.Stimulus fault))) s.wrote is count;
+      got = got_so s.done (dump_text raw (length s.rows) s.frames (Err (run_faults.Stimulus fault))) s.wrote is count;
     }
 
     pub dumps_ends : (r : Result ℕ StimFault) → Dumped r
-        → EndsReading reader out (parts.Stimulus stimuli.Io) Dump (stimulus_of r)
+        → EndsReading reader out (run_faults.Stimulus stimuli.Io) Dump (stimulus_of r)
     dumps_ends (Ok n) s =
         let (spells, end, is, number, none) = s.ended in
         inl (
@@ -220,9 +220,9 @@ module _ {Y X : Type 0} (reader : Flow Y) (out : Flow X) where
 
 -- no fault of a circuit
 pub simulates_no_fault : (raw : Raw) (text : Text) (fault : Fault) (bytes : List ℕ)
-    → Simulates text raw (Err (parts.Circuit fault)) bytes → ⊥
+    → WritesSimulation text raw (Err (run_faults.Circuit fault)) bytes → ⊥
 simulates_no_fault raw text fault bytes s = s.rows_are
 
 pub dumps_no_fault : (raw : Raw) (text : Text) (fault : Fault) (bytes : List ℕ)
-    → Dumps text raw (Err (parts.Circuit fault)) bytes → ⊥
+    → WritesWave text raw (Err (run_faults.Circuit fault)) bytes → ⊥
 dumps_no_fault raw text fault bytes s = s.rows_are

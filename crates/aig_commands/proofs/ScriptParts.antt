@@ -3,7 +3,7 @@ use Rattle.std.proofs.Common.{◌≡◌, ℕ, ◌≤◌, Bool, true, false, cond
 use Rattle.aig_bytes.specs.Bytes.{IsBeginning}
 use Rattle.aig_script.specs.Lines.{Line, whole, lines_from, whole_lines, last_piece}
 
--- with the first bytes of a line in hand, the lines that an LF ends in a beginning of the bytes that follow
+-- with the first bytes of a line, the lines that an LF ends in a beginning of the bytes that follow
 pub record Part (line bytes : List ℕ) (first : List Line) : Type 0 where
   pub part : List ℕ
   pub beginning : IsBeginning part bytes

@@ -4,8 +4,8 @@ use Rattle.aig_parts.specs.declared.raw.Raw.{Raw}
 use Rattle.aig_bytes.specs.Flow.{Flow}
 use Rattle.aig_format.specs.declared.header.Format.{Format}
 use Rattle.aig_fault.specs.declared.run_fault.RunFault.{RunFault}
-use Rattle.aig_fault.specs.declared.run_fault.RunFault.TheVariants as parts
-use Rattle.aig_fault.specs.Command.{Ends}
+use Rattle.aig_fault.specs.declared.run_fault.RunFault.TheVariants as run_faults
+use Rattle.aig_fault.specs.Command.{CommandEnds}
 use Rattle.aig_commands.specs.Unroll.{Unrolls, UnrollsKept}
 
 -- the answer with the circuit that was read
@@ -19,8 +19,8 @@ module _ {X : Type 0} (out : Flow X) (k : ℕ) (to : Format) (raw : Raw) where
   kept_means (Ok done) bytes m = (refl, m)
   kept_means (Err fault) bytes m = m
 
-  pub kept_ends : (r : Result (Unit {0}) RunFault) → Ends out parts.Output (Unrolls k to raw) r
-      → Ends out parts.Output (UnrollsKept k to raw) (kept_by raw r)
+  pub kept_ends : (r : Result (Unit {0}) RunFault) → CommandEnds out run_faults.Output (Unrolls k to raw) r
+      → CommandEnds out run_faults.Output (UnrollsKept k to raw) (kept_by raw r)
   kept_ends r (inl (bytes, means, got)) = inl (bytes, kept_means r bytes means, got)
   kept_ends r (inr (is, (answer, bytes, means, b))) =
       inr (ap (kept_by raw) is, (kept_by raw answer, bytes, kept_means answer bytes means, b))

@@ -1,6 +1,6 @@
 -- What a script on a bench means, from bytes to bytes (our own choice).
 use Rattle.std.specs.Prelude.{◌≡◌, ℕ, List, [], IsTrue, Result, Ok, Err}
-use Rattle.aig_bench.specs.Pair.{Pair, BenchState}
+use Rattle.aig_bench.specs.BenchState.{CircuitAndRows, BenchState}
 use Rattle.aig_script.specs.Lines.{whole_lines, lines_of}
 use Rattle.aig_script.specs.Replies.{Replies}
 use Rattle.aig_fault.specs.Command.{Text}
@@ -14,12 +14,12 @@ use Rattle.aig_commands.specs.BenchFiles.{AreBenchFiles, RefusesFiles}
 -- read or written.
 abbrev pub RunsScript : List ℕ → List ℕ → Text → Result (Unit {0}) RunFault → List ℕ → Type 0
 RunsScript circuit stimulus script (Ok done) bytes =
-    (pair new : Pair) × AreBenchFiles circuit stimulus pair × IsTrue script.is_whole
+    (pair new : CircuitAndRows) × AreBenchFiles circuit stimulus pair × IsTrue script.is_whole
     × Replies pair (lines_of script.bytes) bytes new
 RunsScript circuit stimulus script (Err (Script scripts.Io)) bytes =
-    (pair new : Pair) × AreBenchFiles circuit stimulus pair × Replies pair (whole_lines script.bytes) bytes new
+    (pair new : CircuitAndRows) × AreBenchFiles circuit stimulus pair × Replies pair (whole_lines script.bytes) bytes new
 RunsScript circuit stimulus script (Err (Script scripts.Memory)) bytes =
-    ((pair : Pair) × AreBenchFiles circuit stimulus pair) × (script.bytes ≡ []) × (bytes ≡ [])
+    ((pair : CircuitAndRows) × AreBenchFiles circuit stimulus pair) × (script.bytes ≡ []) × (bytes ≡ [])
 RunsScript circuit stimulus script (Err fault) bytes =
     RefusesFiles circuit stimulus fault × (script.bytes ≡ []) × (bytes ≡ [])
 
@@ -27,6 +27,6 @@ RunsScript circuit stimulus script (Err fault) bytes =
 -- no bench.
 abbrev pub LeavesBench : List ℕ → List ℕ → Text → Result BenchState RunFault → List ℕ → Type 0
 LeavesBench circuit stimulus script (Ok bench) bytes =
-    (pair : Pair) × AreBenchFiles circuit stimulus pair × IsTrue script.is_whole
+    (pair : CircuitAndRows) × AreBenchFiles circuit stimulus pair × IsTrue script.is_whole
     × Replies pair (lines_of script.bytes) bytes bench.pair
 LeavesBench circuit stimulus script (Err fault) bytes = RunsScript circuit stimulus script (Err fault) bytes

@@ -10,19 +10,19 @@ use Rattle.aig_sim.specs.declared.stimulus_fault.StimFault.TheVariants as stimul
 use Rattle.aig_sim.specs.StimulusText.{SpellsRows, HasFaultyLine, row_line}
 use Rattle.aig_bench.specs.declared.bench_fault.BenchFault.{BenchFault}
 use Rattle.aig_bench.specs.declared.bench_fault.BenchFault.TheVariants as benches
-use Rattle.aig_bench.specs.Pair.{Pair}
+use Rattle.aig_bench.specs.BenchState.{CircuitAndRows}
 use Rattle.aig_fault.specs.declared.run_fault.RunFault.{RunFault}
 use Rattle.aig_fault.specs.declared.run_fault.RunFault.TheVariants.{Circuit, Stimulus, Witness, Bench, Script, Output, Memory, Unroll}
 use Rattle.aig_fault.specs.Command.{IsFileOf, RefusesCircuit}
 
 -- the files are this circuit and rows of its width, at most 65,536
-pub record AreFilesOf (circuit stimulus : List ℕ) (pair : Pair) : Type 0 where
+pub record AreFilesOf (circuit stimulus : List ℕ) (pair : CircuitAndRows) : Type 0 where
   pub circuit_is : IsFileOf circuit pair.circuit
   pub rows_are : SpellsRows (length pair.circuit.inputs) stimulus pair.rows
   pub frames : length pair.rows ≤ frame_limit
 
 -- the same, and a bench has room for the cells
-pub record AreBenchFiles (circuit stimulus : List ℕ) (pair : Pair) : Type 0 where
+pub record AreBenchFiles (circuit stimulus : List ℕ) (pair : CircuitAndRows) : Type 0 where
   pub files_are : AreFilesOf circuit stimulus pair
   pub cells : (pair.circuit.max_var + 1) * length pair.rows ≤ cell_limit
 
@@ -32,7 +32,7 @@ RefusesStimulus width text fault =
     fault ≢ stimuli.Memory → (rows : List (List Tern)) × (length rows ≤ frame_limit) × HasFaultyLine width text rows fault
 
 -- why no bench is made of a circuit and rows of its width: too many cells
-abbrev pub RefusesBench : Pair → BenchFault → Type 0
+abbrev pub RefusesBench : CircuitAndRows → BenchFault → Type 0
 RefusesBench pair benches.Width = ⊥
 RefusesBench pair benches.Limit = cell_limit < (pair.circuit.max_var + 1) * length pair.rows
 RefusesBench pair benches.Memory = Unit {0}
@@ -43,7 +43,7 @@ RefusesFiles circuit stimulus (Circuit fault) = RefusesCircuit circuit fault
 RefusesFiles circuit stimulus (Stimulus fault) =
     (raw : Raw) × IsFileOf circuit raw × RefusesStimulus (length raw.inputs) stimulus fault
 RefusesFiles circuit stimulus (Witness fault) = ⊥
-RefusesFiles circuit stimulus (Bench fault) = (pair : Pair) × AreFilesOf circuit stimulus pair × RefusesBench pair fault
+RefusesFiles circuit stimulus (Bench fault) = (pair : CircuitAndRows) × AreFilesOf circuit stimulus pair × RefusesBench pair fault
 RefusesFiles circuit stimulus (Script fault) = ⊥
 RefusesFiles circuit stimulus Output = ⊥
 RefusesFiles circuit stimulus Memory = ⊥
@@ -52,9 +52,9 @@ RefusesFiles circuit stimulus (Unroll fault) = ⊥
 -- ---- as they are kept (our own choice)
 
 -- the circuit as text, as it stands: gates and symbols in their order, and the comment
-abbrev pub circuit_text : Pair → List ℕ
+abbrev pub circuit_text : CircuitAndRows → List ℕ
 circuit_text pair = short_ascii pair.circuit
 
 -- the rows, a line each
-abbrev pub rows_text : Pair → List ℕ
-rows_text pair = flat_map row_line pair.rows
+abbrev pub stimulus_rows_text : CircuitAndRows → List ℕ
+stimulus_rows_text pair = flat_map row_line pair.rows

@@ -4,12 +4,12 @@ use Rattle.std.specs.Fmt.{decimal}
 use Rattle.aig_parts.specs.declared.raw.Raw.{Raw}
 use Rattle.aig_sim.specs.declared.verdict.Verdict.{Verdict}
 use Rattle.aig_sim.specs.declared.verdict.Verdict.TheVariants.{Initial, Constraint, NotBad, Confirmed}
-use Rattle.aig_sim.specs.Replayed.{TellsRun}
+use Rattle.aig_sim.specs.Replayed.{ReportsRun}
 use Rattle.aig_sim.specs.Verdict.{IsVerdict, IsConfirmed}
 use Rattle.aig_sim.specs.WitnessText.{Witness, SpellsWitness, IsAdmitted, HasWitnessFault}
 use Rattle.aig_values.specs.Trace.{IsTrace}
 use Rattle.aig_fault.specs.declared.run_fault.RunFault.{RunFault}
-use Rattle.aig_fault.specs.declared.run_fault.RunFault.TheVariants as parts
+use Rattle.aig_fault.specs.declared.run_fault.RunFault.TheVariants as run_faults
 
 -- a verdict's line
 abbrev pub verdict_text : Verdict → List ℕ
@@ -21,7 +21,7 @@ verdict_text Confirmed = codes "confirmed\n"
 
 -- The text is an admitted witness of the circuit, which shows this verdict. One that is confirmed reaches the bad state
 -- whatever its x turn out to be.
-pub record Shows (raw : Raw) (text : List ℕ) (verdict : Verdict) : Type 0 where
+pub record ShowsVerdict (raw : Raw) (text : List ℕ) (verdict : Verdict) : Type 0 where
   pub witness : Witness
   pub text_is : SpellsWitness raw text witness
   pub admitted : IsAdmitted raw witness
@@ -30,18 +30,18 @@ pub record Shows (raw : Raw) (text : List ℕ) (verdict : Verdict) : Type 0 wher
 
 -- a witness of a circuit is refused with this fault, and nothing is written
 abbrev pub RefusesWitness : List ℕ → Raw → RunFault → List ℕ → Type 0
-RefusesWitness text raw (parts.Witness fault) written = HasWitnessFault raw text fault × (written ≡ [])
+RefusesWitness text raw (run_faults.Witness fault) written = HasWitnessFault raw text fault × (written ≡ [])
 RefusesWitness text raw _ written = ⊥
 
 -- what `check` answers and writes for a witness of a circuit
 abbrev pub Checks : List ℕ → Raw → Result Verdict RunFault → List ℕ → Type 0
-Checks text raw (Ok verdict) written = Shows raw text verdict × (written ≡ verdict_text verdict)
+Checks text raw (Ok verdict) written = ShowsVerdict raw text verdict × (written ≡ verdict_text verdict)
 Checks text raw (Err fault) written = RefusesWitness text raw fault written
 
 -- what `check --trace` answers and writes: the trace of the witness's run, and then the verdict's line
 abbrev pub ChecksAndTraces : List ℕ → Raw → Result Verdict RunFault → List ℕ → Type 0
 ChecksAndTraces text raw (Ok verdict) written =
-    Shows raw text verdict
-    × ((trace : List ℕ) × TellsRun (λ raw start rows told. IsTrace raw start rows told) raw text trace
+    ShowsVerdict raw text verdict
+    × ((trace : List ℕ) × ReportsRun (λ raw start rows reported. IsTrace raw start rows reported) raw text trace
     × (written ≡ trace ++ verdict_text verdict))
 ChecksAndTraces text raw (Err fault) written = RefusesWitness text raw fault written

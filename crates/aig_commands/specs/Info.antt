@@ -12,7 +12,7 @@ use Rattle.aig_format.specs.declared.header.Format.TheVariants.{Ascii, Binary}
 use Rattle.aig_format.specs.Spells.{SpellsAscii, SpellsBinary}
 use Rattle.aig_commands.specs.declared.info.Facts.{Facts}
 use Rattle.aig_fault.specs.declared.run_fault.RunFault.{RunFault}
-use Rattle.aig_fault.specs.declared.run_fault.RunFault.TheVariants as parts
+use Rattle.aig_fault.specs.declared.run_fault.RunFault.TheVariants as run_faults
 
 abbrev pub format_name : Format → List ℕ
 format_name Ascii = codes "aag"
@@ -46,8 +46,8 @@ pub record AreFacts (bytes : List ℕ) (raw : Raw) (facts : Facts) : Type 0 wher
 abbrev pub fact_line : List ℕ → List ℕ → List ℕ
 fact_line name value = name ++ (codes " " ++ (value ++ codes "\n"))
 
-abbrev pub number_line : List ℕ → ℕ → List ℕ
-number_line name number = fact_line name (decimal number)
+abbrev pub fact_number_line : List ℕ → ℕ → List ℕ
+fact_number_line name number = fact_line name (decimal number)
 
 -- the numbers with their names, in the order of their lines
 abbrev pub numbers : Raw → Facts → List (List ℕ × ℕ)
@@ -60,7 +60,7 @@ numbers raw facts =
     ∷ (codes "comment", comment_size raw.comment) ∷ []
 
 unfoldable pub number_lines : Raw → Facts → List ℕ
-number_lines raw facts = flat_map (λ n. number_line n.0 n.1) (numbers raw facts)
+number_lines raw facts = flat_map (λ n. fact_number_line n.0 n.1) (numbers raw facts)
 
 abbrev pub info_text : Raw → Facts → List ℕ
 info_text raw facts =
@@ -70,5 +70,5 @@ info_text raw facts =
 -- what `info` writes for the file of a circuit; nothing where no memory was found for levels or fan-outs
 abbrev pub ListsFacts : List ℕ → Raw → Result (Unit {0}) RunFault → List ℕ → Type 0
 ListsFacts file raw (Ok done) text = (facts : Facts) × AreFacts file raw facts × (text ≡ info_text raw facts)
-ListsFacts file raw (Err parts.Memory) text = text ≡ []
+ListsFacts file raw (Err run_faults.Memory) text = text ≡ []
 ListsFacts file raw (Err _) text = ⊥

@@ -25,7 +25,7 @@ AreRowsOf width text rows (Err (Stimulus fault)) = HasFaultyLine width text.byte
 AreRowsOf width text rows (Err _) = ⊥
 
 -- what `sim` answers and writes for what was read of a stimulus of a circuit
-pub record Simulates (stimulus : Text) (raw : Raw) (answer : Result ℕ RunFault) (written : List ℕ) : Type 0 where
+pub record WritesSimulation (stimulus : Text) (raw : Raw) (answer : Result ℕ RunFault) (written : List ℕ) : Type 0 where
   pub rows : List (List Tern)
   pub rows_are : AreRowsOf (length raw.inputs) stimulus rows answer
   pub trace_is : IsTrace raw (start_of raw) rows written

@@ -7,7 +7,7 @@ use Rattle.aig_format.specs.declared.header.Format.{Format}
 use Rattle.aig_format.specs.declared.header.Format.TheVariants.{Ascii, Binary}
 use Rattle.aig_format.specs.Spelling.{short_ascii, short_binary}
 use Rattle.aig_fault.specs.declared.run_fault.RunFault.{RunFault}
-use Rattle.aig_fault.specs.declared.run_fault.RunFault.TheVariants as parts
+use Rattle.aig_fault.specs.declared.run_fault.RunFault.TheVariants as run_faults
 
 -- the bytes that a circuit is converted to: as it stands where the format can hold it so, else renumbered
 abbrev pub IsConverted : Raw → Format → List ℕ → Type 0
@@ -24,5 +24,5 @@ HasToBeRenumbered Binary raw = IsBinaryReady raw → ⊥
 -- what `toaig` writes for a circuit; it needs memory only where the circuit has to be renumbered
 abbrev pub Converts : Format → Raw → Result (Unit {0}) RunFault → List ℕ → Type 0
 Converts to raw (Ok done) text = IsConverted raw to text
-Converts to raw (Err parts.Memory) text = HasToBeRenumbered to raw × (text ≡ [])
+Converts to raw (Err run_faults.Memory) text = HasToBeRenumbered to raw × (text ≡ [])
 Converts to raw (Err _) text = ⊥

@@ -7,7 +7,7 @@ use Rattle.aig_format.specs.Spelling.{short_ascii, short_binary}
 use Rattle.aig_unroll.specs.Answers.{AnswersUnrolling}
 use Rattle.aig_unroll.specs.InputMap.{map_text}
 use Rattle.aig_fault.specs.declared.run_fault.RunFault.{RunFault}
-use Rattle.aig_fault.specs.declared.run_fault.RunFault.TheVariants as parts
+use Rattle.aig_fault.specs.declared.run_fault.RunFault.TheVariants as run_faults
 
 -- the short spelling of a circuit in a format
 abbrev pub short_spelling : Format → Raw → List ℕ
@@ -23,8 +23,8 @@ IsUnrolledText raw k to text =
 -- levels
 abbrev pub Unrolls : ℕ → Format → Raw → Result (Unit {0}) RunFault → List ℕ → Type 0
 Unrolls k to raw (Ok done) text = IsUnrolledText raw k to text
-Unrolls k to raw (Err (parts.Unroll fault)) text = AnswersUnrolling raw k (Err fault) × (text ≡ [])
-Unrolls k to raw (Err parts.Memory) text = text ≡ []
+Unrolls k to raw (Err (run_faults.Unroll fault)) text = AnswersUnrolling raw k (Err fault) × (text ≡ [])
+Unrolls k to raw (Err run_faults.Memory) text = text ≡ []
 Unrolls k to raw (Err _) text = ⊥
 
 -- the same, where the circuit is the answer

@@ -8,7 +8,7 @@ use Rattle.aig_base.specs.Value.{start_of}
 use Rattle.aig_sim.specs.declared.stimulus_fault.StimFault.TheVariants as stimuli
 use Rattle.aig_sim.specs.Dump.{IsDump, AreFrames, closing}
 use Rattle.aig_sim.specs.DumpHeader.{header}
-use Rattle.aig_sim.specs.Replayed.{TellsRun}
+use Rattle.aig_sim.specs.Replayed.{ReportsRun}
 use Rattle.aig_fault.specs.declared.run_fault.RunFault.{RunFault}
 use Rattle.aig_fault.specs.declared.run_fault.RunFault.TheVariants.{Stimulus}
 use Rattle.aig_fault.specs.Command.{Text}
@@ -23,7 +23,7 @@ dump_text raw n frames (Err (Stimulus stimuli.Memory)) = []
 dump_text raw n frames (Err fault) = header raw ++ frames
 
 -- what `wave` answers and writes for what was read of a stimulus of a circuit
-pub record Dumps (stimulus : Text) (raw : Raw) (answer : Result ℕ RunFault) (written : List ℕ) : Type 0 where
+pub record WritesWave (stimulus : Text) (raw : Raw) (answer : Result ℕ RunFault) (written : List ℕ) : Type 0 where
   pub rows : List (List Tern)
   pub frames : List ℕ
   pub rows_are : AreRowsOf (length raw.inputs) stimulus rows answer
@@ -38,5 +38,5 @@ HeaderFirst stimulus out raw =
 
 -- what `wave --witness` writes for a witness of a circuit: the dump of its run
 abbrev pub DumpsRun : List ℕ → Raw → Result (Unit {0}) RunFault → List ℕ → Type 0
-DumpsRun text raw (Ok done) written = TellsRun (λ raw start rows told. IsDump raw start rows told) raw text written
+DumpsRun text raw (Ok done) written = ReportsRun (λ raw start rows reported. IsDump raw start rows reported) raw text written
 DumpsRun text raw (Err fault) written = RefusesWitness text raw fault written

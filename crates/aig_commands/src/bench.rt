@@ -5,11 +5,11 @@ ghost use Rattle.aig_parts.specs.Limits.{frame_limit};
 ghost use Rattle.aig_bytes.specs.Bytes.{Writes};
 ghost use Rattle.aig_bytes.specs.Flow.{flow};
 ghost use Rattle.aig_sim.specs.StimulusText.{SpellsRows};
-ghost use Rattle.aig_bench.specs.Pair.{Pair};
+ghost use Rattle.aig_bench.specs.BenchState.{CircuitAndRows};
 ghost use Rattle.aig_fault.specs.Command.{IsFileOf, EndsReading};
 ghost use Rattle.aig_commands.specs.Bench.{RunsScript, LeavesBench};
 ghost use Rattle.aig_commands.specs.BenchFiles.{AreFilesOf, AreBenchFiles, RefusesStimulus, RefusesFiles};
-ghost use Rattle.aig_commands.specs.BenchFiles.{circuit_text, rows_text};
+ghost use Rattle.aig_commands.specs.BenchFiles.{circuit_text, stimulus_rows_text};
 
 use aig_base::{Circuit, Io, Read, Write};
 use aig_bench::Bench;
@@ -118,9 +118,9 @@ pub fn keep_circuit<G: Grid, W: Write>(bench: &Bench<G>, out: &mut W) -> Result<
 /// that this text and that of the circuit are files of which a bench with the same circuit and rows can be made. It
 /// takes no memory.
 pub fn keep_stimulus<G: Grid, W: Write>(bench: &Bench<G>, out: &mut W) -> Result<(), RunFault>
-    ensures written { Writes W.written W.failures out.old out.new (rows_text bench.now.pair) result }
+    ensures written { Writes W.written W.failures out.old out.new (stimulus_rows_text bench.now.pair) result }
     ensures output { IfErr result (λ fault. fault ≡ RunFault.Output) }
-    ensures files { AreBenchFiles (circuit_text bench.now.pair) (rows_text bench.now.pair) bench.now.pair }
+    ensures files { AreBenchFiles (circuit_text bench.now.pair) (stimulus_rows_text bench.now.pair) bench.now.pair }
 {
     // Their contracts say that it is a circuit, and what its text spells.
     bench.width();
@@ -137,6 +137,6 @@ pub fn keep_stimulus<G: Grid, W: Write>(bench: &Bench<G>, out: &mut W) -> Result
 /// Files are of one circuit and one list of rows, so that a run on the files of a pair begins with that pair (our own
 /// choice).
 pub fn law_of_kept_files()
-    ensures { (circuit stimulus : List ℕ) (p q : Pair) → AreFilesOf circuit stimulus p → AreFilesOf circuit stimulus q
+    ensures { (circuit stimulus : List ℕ) (p q : CircuitAndRows) → AreFilesOf circuit stimulus p → AreFilesOf circuit stimulus q
         → p ≡ q }
 {}

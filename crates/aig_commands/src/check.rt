@@ -3,7 +3,7 @@ ghost use Rattle.std.specs.Prelude.{◌≡◌, ◌≢◌, ℕ, ◌+◌, ◌≤�
 ghost use Rattle.aig_bytes.specs.Bytes.{Writes};
 ghost use Rattle.aig_bytes.specs.Flow.{flow};
 ghost use Rattle.aig_fault.specs.Command.{OfFile};
-ghost use Rattle.aig_fault.specs.Command.{Ends};
+ghost use Rattle.aig_fault.specs.Command.{CommandEnds};
 ghost use Rattle.aig_commands.specs.GoesWell.{GoesWell};
 ghost use Rattle.aig_commands.specs.Check.{verdict_text, Checks, ChecksAndTraces};
 
@@ -51,7 +51,7 @@ fn check_circuit<W: Write>(
     witness: &[u8],
     out: &mut W,
 ) -> Result<Verdict, RunFault>
-    ensures ends { Ends (flow W.written W.failures out.old out.new) RunFault.Output (Checks witness.now circuit.now) result }
+    ensures ends { CommandEnds (flow W.written W.failures out.old out.new) RunFault.Output (Checks witness.now circuit.now) result }
     ensures count { W.failures out.new ≤ W.failures out.old + 1 }
     ensures refused { IfErr result (λ fault. fault ≢ RunFault.Output → out.new ≡ out.old) }
     ensures output { result ≡ Err RunFault.Output → GoesWell (Checks witness.now circuit.now) }
@@ -63,8 +63,8 @@ fn check_circuit<W: Write>(
     }
 }
 
-/// Checks a witness against the circuit of a file (AIGER 1.9, witnesses), writes the verdict's line (`confirmed`,
-/// `initial P`, `constraint T P` or `not bad`) and answers the verdict: for every circuit file that is accepted and
+/// Checks a witness against the circuit of a file (AIGER 1.9, witnesses). It writes the verdict's line (`confirmed`,
+/// `initial P`, `constraint T P` or `not bad`) and answers the verdict, for every circuit file that is accepted and
 /// every witness for it. A circuit that is refused wins over the witness; at a refusal nothing is written. A failed
 /// write is reported only of an admitted witness. It does not flush.
 pub fn check_bytes<W: Write>(
@@ -73,7 +73,7 @@ pub fn check_bytes<W: Write>(
     witness: &[u8],
     out: &mut W,
 ) -> Result<Verdict, RunFault>
-    ensures ends { Ends (flow W.written W.failures out.old out.new) RunFault.Output
+    ensures ends { CommandEnds (flow W.written W.failures out.old out.new) RunFault.Output
         (OfFile circuit.now (Checks witness.now)) result }
     ensures count { W.failures out.new ≤ W.failures out.old + 1 }
     ensures refused { IfErr result (λ fault. fault ≢ RunFault.Output → out.new ≡ out.old) }
@@ -90,7 +90,7 @@ pub fn check<W: Write>(
     witness: &[u8],
     out: &mut W,
 ) -> Result<Verdict, RunFault>
-    ensures ends { Ends (flow W.written W.failures out.old out.new) RunFault.Output
+    ensures ends { CommandEnds (flow W.written W.failures out.old out.new) RunFault.Output
         (OfFile circuit.now (Checks witness.now)) result }
     ensures flushed { W.failures out.new ≡ W.failures out.old → W.is_flushed out.new }
 {
@@ -105,7 +105,7 @@ fn write_run<W: Write>(
     witness: &[u8],
     out: &mut W,
 ) -> Result<Verdict, RunFault>
-    ensures { Ends (flow W.written W.failures out.old out.new) RunFault.Output (ChecksAndTraces witness.now circuit.now) result }
+    ensures { CommandEnds (flow W.written W.failures out.old out.new) RunFault.Output (ChecksAndTraces witness.now circuit.now) result }
 {
     let verdict = check_witness(alloc, circuit, witness)?;
     match trace_witness(alloc, circuit, witness, out) {
@@ -126,7 +126,7 @@ fn check_and_write_run<W: Write>(
     witness: &[u8],
     out: &mut W,
 ) -> Result<Verdict, RunFault>
-    ensures { Ends (flow W.written W.failures out.old out.new) RunFault.Output
+    ensures { CommandEnds (flow W.written W.failures out.old out.new) RunFault.Output
         (OfFile circuit.now (ChecksAndTraces witness.now)) result }
 {
     let circuit = read_circuit(alloc, circuit)?;
@@ -141,7 +141,7 @@ pub fn check_and_trace<W: Write>(
     witness: &[u8],
     out: &mut W,
 ) -> Result<Verdict, RunFault>
-    ensures ends { Ends (flow W.written W.failures out.old out.new) RunFault.Output
+    ensures ends { CommandEnds (flow W.written W.failures out.old out.new) RunFault.Output
         (OfFile circuit.now (ChecksAndTraces witness.now)) result }
     ensures flushed { W.failures out.new ≡ W.failures out.old → W.is_flushed out.new }
 {

@@ -6,9 +6,9 @@ ghost use Rattle.aig_parts.specs.declared.raw.Raw.{Raw};
 ghost use Rattle.aig_base.specs.Greatest.{IsGreatestLevel};
 ghost use Rattle.aig_format.specs.Spells.{Spells};
 ghost use Rattle.aig_bytes.specs.Flow.{flow};
-ghost use Rattle.aig_fault.specs.Command.{Ends};
+ghost use Rattle.aig_fault.specs.Command.{CommandEnds};
 ghost use Rattle.aig_commands.specs.Info.{AreFacts, ListsFacts, IsInFormat, comment_size, fact_line, format_name};
-ghost use Rattle.aig_commands.specs.Info.{info_text, is_uninitialised, number_line, number_lines, yes_or_no};
+ghost use Rattle.aig_commands.specs.Info.{info_text, is_uninitialised, fact_number_line, number_lines, yes_or_no};
 ghost use Rattle.aig_fault.specs.Command.{IsFileOf, OfFile};
 
 use aig_base::{
@@ -123,7 +123,7 @@ fn write_fact<W: Write>(name: &str, value: &str, out: &mut W) -> Result<(), Io>
 /// Writes a line for each number.
 fn write_numbers<W: Write>(numbers: &[(&str, usize)], out: &mut W) -> Result<(), Io>
     ensures { Writes W.written W.failures out.old out.new
-        (flat_map (λ n. number_line n.0.now n.1) numbers.now) result }
+        (flat_map (λ n. fact_number_line n.0.now n.1) numbers.now) result }
 {
     for (name, number) in numbers {
         let mut buffer = Buffer::new();
@@ -174,7 +174,7 @@ fn list_facts<W: Write>(
     out: &mut W,
 ) -> Result<(), RunFault>
     requires { IsFileOf file.now circuit.now }
-    ensures { Ends (flow W.written W.failures out.old out.new) RunFault.Output (ListsFacts file.now circuit.now) result }
+    ensures { CommandEnds (flow W.written W.failures out.old out.new) RunFault.Output (ListsFacts file.now circuit.now) result }
 {
     let facts = facts_of(alloc, file, circuit)?;
     match write_info(circuit, &facts, out) {
@@ -185,20 +185,20 @@ fn list_facts<W: Write>(
 
 /// Reads a circuit and writes what it is, without a flush at the end.
 fn read_and_list<W: Write>(alloc: Global, file: &[u8], out: &mut W) -> Result<(), RunFault>
-    ensures { Ends (flow W.written W.failures out.old out.new) RunFault.Output
+    ensures { CommandEnds (flow W.written W.failures out.old out.new) RunFault.Output
         (OfFile file.now (ListsFacts file.now)) result }
 {
     let circuit = read_circuit(alloc, file)?;
     list_facts(alloc, file, &circuit, out)
 }
 
-/// The command `info`: reads a circuit and writes what it is, a line for each fact, `name value`: its format and the
-/// counts of its parts, the latches that start at no known value, its greatest level and fan-out, its names, the bytes
-/// of its comment, and whether the binary format can hold it as it stands. For every circuit file that is accepted, the
-/// text is that of its circuit. Where the file is refused, or no memory was found for levels or fan-outs, nothing is
-/// written. It flushes the writer before it answers.
+/// The command `info`: reads a circuit and writes what it is, a line for each fact, `name value`. The facts are its
+/// format and the counts of its parts, the latches that start at no known value, its greatest level and fan-out, its
+/// names and the bytes of its comment. The last one is whether the binary format can hold it as it stands. For every
+/// circuit file that is accepted, the text is that of its circuit. Where the file is refused, or no memory was found
+/// for levels or fan-outs, nothing is written. It flushes the writer before it answers.
 pub fn info<W: Write>(alloc: Global, file: &[u8], out: &mut W) -> Result<(), RunFault>
-    ensures ends { Ends (flow W.written W.failures out.old out.new) RunFault.Output
+    ensures ends { CommandEnds (flow W.written W.failures out.old out.new) RunFault.Output
         (OfFile file.now (ListsFacts file.now)) result }
     ensures flushed { W.failures out.new ≡ W.failures out.old → W.is_flushed out.new }
 {

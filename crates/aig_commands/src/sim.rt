@@ -3,7 +3,7 @@ ghost use Rattle.std.specs.Prelude.{◌≡◌, Err, IfErr};
 ghost use Rattle.aig_bytes.specs.Flow.{flow};
 ghost use Rattle.aig_fault.specs.Command.{OfReader};
 ghost use Rattle.aig_fault.specs.Command.{EndsReading};
-ghost use Rattle.aig_commands.specs.Sim.{Simulates};
+ghost use Rattle.aig_commands.specs.Sim.{WritesSimulation};
 ghost use Rattle.aig_commands.specs.state.Parts.{IsOfStimulus};
 
 use aig_base::{Circuit, Fault, Read, Write};
@@ -20,7 +20,7 @@ fn run<R: Read, W: Write>(
     out: &mut W,
 ) -> Result<u64, RunFault>
     ensures ends { EndsReading (flow R.left R.failures stimulus.old stimulus.new) (flow W.written W.failures out.old out.new)
-        (RunFault.Stimulus StimFault.Io) (λ text. Simulates text circuit.now) result }
+        (RunFault.Stimulus StimFault.Io) (λ text. WritesSimulation text circuit.now) result }
     ensures part { IfErr result IsOfStimulus }
 {
     match simulate(alloc, circuit, stimulus, out) {
@@ -38,7 +38,7 @@ fn read_and_run<C: Read, R: Read, W: Write>(
 ) -> Result<u64, RunFault>
     ensures ends { EndsReading (flow R.left R.failures stimulus.old stimulus.new) (flow W.written W.failures out.old out.new)
         (RunFault.Stimulus StimFault.Io)
-        (λ text. OfReader (flow C.left C.failures circuit.old circuit.new) (Simulates text)) result }
+        (λ text. OfReader (flow C.left C.failures circuit.old circuit.new) (WritesSimulation text)) result }
     ensures unread { (fault : Fault) → result ≡ Err (RunFault.Circuit fault) → stimulus.new ≡ stimulus.old }
 {
     match read_from(alloc, circuit) {
@@ -59,7 +59,7 @@ pub fn sim<C: Read, R: Read, W: Write>(
 ) -> Result<u64, RunFault>
     ensures ends { EndsReading (flow R.left R.failures stimulus.old stimulus.new) (flow W.written W.failures out.old out.new)
         (RunFault.Stimulus StimFault.Io)
-        (λ text. OfReader (flow C.left C.failures circuit.old circuit.new) (Simulates text)) result }
+        (λ text. OfReader (flow C.left C.failures circuit.old circuit.new) (WritesSimulation text)) result }
     ensures unread { (fault : Fault) → result ≡ Err (RunFault.Circuit fault) → stimulus.new ≡ stimulus.old }
     ensures flushed { W.failures out.new ≡ W.failures out.old → W.is_flushed out.new }
 {

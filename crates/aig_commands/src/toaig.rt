@@ -3,7 +3,7 @@ ghost use Rattle.std.specs.Prelude.{◌≡◌, ◌≢◌, ℕ, ◌+◌, ◌≤�
 ghost use Rattle.aig_format.specs.declared.header.Format.TheVariants.{Binary};
 ghost use Rattle.aig_bytes.specs.Flow.{flow};
 ghost use Rattle.aig_fault.specs.Command.{OfFile, OfReader};
-ghost use Rattle.aig_fault.specs.Command.{Ends};
+ghost use Rattle.aig_fault.specs.Command.{CommandEnds};
 ghost use Rattle.aig_commands.specs.GoesWell.{GoesWell};
 ghost use Rattle.aig_commands.specs.Toaig.{Converts};
 
@@ -14,7 +14,7 @@ use std::alloc::Global;
 
 /// Writes a circuit as a binary file: a ready one as it stands, any other renumbered.
 fn write_ready<W: Write>(alloc: Global, circuit: &Circuit, out: &mut W) -> Result<(), RunFault>
-    ensures ends { Ends (flow W.written W.failures out.old out.new) RunFault.Output (Converts Binary circuit.now) result }
+    ensures ends { CommandEnds (flow W.written W.failures out.old out.new) RunFault.Output (Converts Binary circuit.now) result }
     ensures count { W.failures out.new ≤ W.failures out.old + 1 }
     ensures refused { IfErr result (λ fault. fault ≢ RunFault.Output → out.new ≡ out.old) }
     ensures output { result ≡ Err RunFault.Output → GoesWell (Converts Binary circuit.now) }
@@ -36,7 +36,7 @@ fn write_converted<W: Write>(
     to: Format,
     out: &mut W,
 ) -> Result<(), RunFault>
-    ensures ends { Ends (flow W.written W.failures out.old out.new) RunFault.Output (Converts to circuit.now) result }
+    ensures ends { CommandEnds (flow W.written W.failures out.old out.new) RunFault.Output (Converts to circuit.now) result }
     ensures count { W.failures out.new ≤ W.failures out.old + 1 }
     ensures refused { IfErr result (λ fault. fault ≢ RunFault.Output → out.new ≡ out.old) }
     ensures output { result ≡ Err RunFault.Output → GoesWell (Converts to circuit.now) }
@@ -57,7 +57,7 @@ pub fn convert<W: Write>(
     to: Format,
     out: &mut W,
 ) -> Result<(), RunFault>
-    ensures ends { Ends (flow W.written W.failures out.old out.new) RunFault.Output (OfFile file.now (Converts to)) result }
+    ensures ends { CommandEnds (flow W.written W.failures out.old out.new) RunFault.Output (OfFile file.now (Converts to)) result }
     ensures count { W.failures out.new ≤ W.failures out.old + 1 }
     ensures refused { IfErr result (λ fault. fault ≢ RunFault.Output → out.new ≡ out.old) }
     ensures output { result ≡ Err RunFault.Output → GoesWell (OfFile file.now (Converts to)) }
@@ -75,7 +75,7 @@ pub fn convert_from<R: Read, W: Write>(
     to: Format,
     out: &mut W,
 ) -> Result<(), RunFault>
-    ensures ends { Ends (flow W.written W.failures out.old out.new) RunFault.Output
+    ensures ends { CommandEnds (flow W.written W.failures out.old out.new) RunFault.Output
         (OfReader (flow R.left R.failures reader.old reader.new) (Converts to)) result }
     ensures count { W.failures out.new ≤ W.failures out.old + 1 }
     ensures refused { IfErr result (λ fault. fault ≢ RunFault.Output → out.new ≡ out.old) }
@@ -95,7 +95,7 @@ pub fn toaig<R: Read, W: Write>(
     to: Format,
     out: &mut W,
 ) -> Result<(), RunFault>
-    ensures ends { Ends (flow W.written W.failures out.old out.new) RunFault.Output
+    ensures ends { CommandEnds (flow W.written W.failures out.old out.new) RunFault.Output
         (OfReader (flow R.left R.failures circuit.old circuit.new) (Converts to)) result }
     ensures flushed { W.failures out.new ≡ W.failures out.old → W.is_flushed out.new }
 {

@@ -5,7 +5,7 @@ ghost use Rattle.aig_bytes.specs.Bytes.{Writes};
 ghost use Rattle.aig_bytes.specs.Flow.{flow};
 ghost use Rattle.aig_unroll.specs.InputMap.{map_text};
 ghost use Rattle.aig_fault.specs.Command.{OfFile};
-ghost use Rattle.aig_fault.specs.Command.{Ends};
+ghost use Rattle.aig_fault.specs.Command.{CommandEnds};
 ghost use Rattle.aig_commands.specs.GoesWell.{GoesWell};
 ghost use Rattle.aig_commands.specs.Unroll.{IsMap, Unrolls, UnrollsKept, short_spelling};
 
@@ -35,7 +35,7 @@ fn unroll_circuit<W: Write>(
     to: Format,
     out: &mut W,
 ) -> Result<(), RunFault>
-    ensures ends { Ends (flow W.written W.failures out.old out.new) RunFault.Output (Unrolls frames to circuit.now) result }
+    ensures ends { CommandEnds (flow W.written W.failures out.old out.new) RunFault.Output (Unrolls frames to circuit.now) result }
     ensures count { W.failures out.new ≤ W.failures out.old + 1 }
     ensures refused { IfErr result (λ fault. fault ≢ RunFault.Output → out.new ≡ out.old) }
     ensures output { result ≡ Err RunFault.Output → GoesWell (Unrolls frames to circuit.now) }
@@ -56,7 +56,7 @@ pub fn unroll_bytes<W: Write>(
     to: Format,
     out: &mut W,
 ) -> Result<(), RunFault>
-    ensures ends { Ends (flow W.written W.failures out.old out.new) RunFault.Output
+    ensures ends { CommandEnds (flow W.written W.failures out.old out.new) RunFault.Output
         (OfFile circuit.now (Unrolls frames to)) result }
     ensures count { W.failures out.new ≤ W.failures out.old + 1 }
     ensures refused { IfErr result (λ fault. fault ≢ RunFault.Output → out.new ≡ out.old) }
@@ -74,7 +74,7 @@ fn unroll_and_keep<W: Write>(
     to: Format,
     out: &mut W,
 ) -> Result<Circuit, RunFault>
-    ensures { Ends (flow W.written W.failures out.old out.new) RunFault.Output
+    ensures { CommandEnds (flow W.written W.failures out.old out.new) RunFault.Output
         (OfFile circuit.now (UnrollsKept frames to)) result }
 {
     let circuit = read_circuit(alloc, circuit)?;
@@ -93,7 +93,7 @@ pub fn unroll<W: Write>(
     to: Format,
     out: &mut W,
 ) -> Result<Circuit, RunFault>
-    ensures ends { Ends (flow W.written W.failures out.old out.new) RunFault.Output
+    ensures ends { CommandEnds (flow W.written W.failures out.old out.new) RunFault.Output
         (OfFile circuit.now (UnrollsKept frames to)) result }
     ensures flushed { W.failures out.new ≡ W.failures out.old → W.is_flushed out.new }
 {
@@ -103,7 +103,7 @@ pub fn unroll<W: Write>(
 
 /// Writes the map of the inputs, without a flush at the end.
 fn write_map<W: Write>(circuit: &Circuit, frames: u32, out: &mut W) -> Result<(), RunFault>
-    ensures { Ends (flow W.written W.failures out.old out.new) RunFault.Output (IsMap frames circuit.now) result }
+    ensures { CommandEnds (flow W.written W.failures out.old out.new) RunFault.Output (IsMap frames circuit.now) result }
 {
     match write_input_map(circuit, frames, out) {
         Ok(()) => Ok(()),
@@ -114,7 +114,7 @@ fn write_map<W: Write>(circuit: &Circuit, frames: u32, out: &mut W) -> Result<()
 /// The map of `unroll --map`: writes what each input of the circuit unrolled for this many frames is, a line each, and
 /// flushes the writer before it answers. Only a write can fail.
 pub fn unroll_map<W: Write>(circuit: &Circuit, frames: u32, out: &mut W) -> Result<(), RunFault>
-    ensures ends { Ends (flow W.written W.failures out.old out.new) RunFault.Output (IsMap frames circuit.now) result }
+    ensures ends { CommandEnds (flow W.written W.failures out.old out.new) RunFault.Output (IsMap frames circuit.now) result }
     ensures flushed { W.failures out.new ≡ W.failures out.old → W.is_flushed out.new }
 {
     let done = write_map(circuit, frames, out);

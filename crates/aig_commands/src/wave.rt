@@ -3,8 +3,8 @@ ghost use Rattle.std.specs.Prelude.{◌≡◌, ℕ, List, Some, Err, IfErr};
 ghost use Rattle.aig_parts.specs.declared.raw.Raw.{Raw};
 ghost use Rattle.aig_bytes.specs.Flow.{flow};
 ghost use Rattle.aig_fault.specs.Command.{IsFileOf, OfFile, OfReader};
-ghost use Rattle.aig_fault.specs.Command.{Ends, EndsReading};
-ghost use Rattle.aig_commands.specs.Wave.{Dumps, DumpsRun, HeaderFirst};
+ghost use Rattle.aig_fault.specs.Command.{CommandEnds, EndsReading};
+ghost use Rattle.aig_commands.specs.Wave.{WritesWave, DumpsRun, HeaderFirst};
 ghost use Rattle.aig_commands.specs.state.Parts.{IsOfStimulus};
 
 use aig_base::{Circuit, Fault, Read, Write};
@@ -21,7 +21,7 @@ fn run<R: Read, W: Write>(
     out: &mut W,
 ) -> Result<u64, RunFault>
     ensures ends { EndsReading (flow R.left R.failures stimulus.old stimulus.new) (flow W.written W.failures out.old out.new)
-        (RunFault.Stimulus StimFault.Io) (λ text. Dumps text circuit.now) result }
+        (RunFault.Stimulus StimFault.Io) (λ text. WritesWave text circuit.now) result }
     ensures part { IfErr result IsOfStimulus }
     ensures header { HeaderFirst (flow R.left R.failures stimulus.old stimulus.new)
         (flow W.written W.failures out.old out.new) circuit.now }
@@ -41,7 +41,7 @@ fn read_and_run<C: Read, R: Read, W: Write>(
 ) -> Result<u64, RunFault>
     ensures ends { EndsReading (flow R.left R.failures stimulus.old stimulus.new) (flow W.written W.failures out.old out.new)
         (RunFault.Stimulus StimFault.Io)
-        (λ text. OfReader (flow C.left C.failures circuit.old circuit.new) (Dumps text)) result }
+        (λ text. OfReader (flow C.left C.failures circuit.old circuit.new) (WritesWave text)) result }
     ensures unread { (fault : Fault) → result ≡ Err (RunFault.Circuit fault) → stimulus.new ≡ stimulus.old }
     ensures header { (file : List ℕ) (raw : Raw) → C.left circuit.old ≡ Some file → IsFileOf file raw
         → HeaderFirst (flow R.left R.failures stimulus.old stimulus.new) (flow W.written W.failures out.old out.new) raw }
@@ -64,7 +64,7 @@ pub fn wave<C: Read, R: Read, W: Write>(
 ) -> Result<u64, RunFault>
     ensures ends { EndsReading (flow R.left R.failures stimulus.old stimulus.new) (flow W.written W.failures out.old out.new)
         (RunFault.Stimulus StimFault.Io)
-        (λ text. OfReader (flow C.left C.failures circuit.old circuit.new) (Dumps text)) result }
+        (λ text. OfReader (flow C.left C.failures circuit.old circuit.new) (WritesWave text)) result }
     ensures unread { (fault : Fault) → result ≡ Err (RunFault.Circuit fault) → stimulus.new ≡ stimulus.old }
     ensures header { (file : List ℕ) (raw : Raw) → C.left circuit.old ≡ Some file → IsFileOf file raw
         → HeaderFirst (flow R.left R.failures stimulus.old stimulus.new) (flow W.written W.failures out.old out.new) raw }
@@ -81,7 +81,7 @@ fn replay<W: Write>(
     witness: &[u8],
     out: &mut W,
 ) -> Result<(), RunFault>
-    ensures { Ends (flow W.written W.failures out.old out.new) RunFault.Output (DumpsRun witness.now circuit.now) result }
+    ensures { CommandEnds (flow W.written W.failures out.old out.new) RunFault.Output (DumpsRun witness.now circuit.now) result }
 {
     match dump_witness(alloc, circuit, witness, out) {
         Ok(()) => Ok(()),
@@ -97,7 +97,7 @@ fn read_and_replay<W: Write>(
     witness: &[u8],
     out: &mut W,
 ) -> Result<(), RunFault>
-    ensures { Ends (flow W.written W.failures out.old out.new) RunFault.Output
+    ensures { CommandEnds (flow W.written W.failures out.old out.new) RunFault.Output
         (OfFile circuit.now (DumpsRun witness.now)) result }
 {
     let circuit = read_circuit(alloc, circuit)?;
@@ -114,7 +114,7 @@ pub fn wave_witness<W: Write>(
     witness: &[u8],
     out: &mut W,
 ) -> Result<(), RunFault>
-    ensures ends { Ends (flow W.written W.failures out.old out.new) RunFault.Output
+    ensures ends { CommandEnds (flow W.written W.failures out.old out.new) RunFault.Output
         (OfFile circuit.now (DumpsRun witness.now)) result }
     ensures flushed { W.failures out.new ≡ W.failures out.old → W.is_flushed out.new }
 {

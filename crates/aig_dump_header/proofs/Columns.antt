@@ -62,10 +62,10 @@ no_column : columns [] ≡ []
 unfolding columns
 no_column = refl
 
-columns_behind : (column : List (ℕ × List ℕ)) (rest : List (ℕ × List (List ℕ))) → (column ≡ [] → columns rest ≡ [])
+columns_after : (column : List (ℕ × List ℕ)) (rest : List (ℕ × List (List ℕ))) → (column ≡ [] → columns rest ≡ [])
     → flat_map turned (column_then column (columns rest)) ≡ turned column ++ flat_map turned (columns rest)
-columns_behind [] rest none = sym (ap (λ (t : List (ℕ × List ℕ)). t ++ flat_map turned (columns rest)) turned_none ∙ ap (flat_map turned) (none refl))
-columns_behind (x ∷ column) rest none = refl
+columns_after [] rest none = sym (ap (λ (t : List (ℕ × List ℕ)). t ++ flat_map turned (columns rest)) turned_none ∙ ap (flat_map turned) (none refl))
+columns_after (x ∷ column) rest none = refl
 
 -- what a column and the columns after it come to
 pub turned_more : (es : List (ℕ × List (List ℕ))) (column : List (ℕ × List ℕ)) (rest : List (ℕ × List (List ℕ))) (old new all : List (ℕ × List ℕ))
@@ -74,7 +74,7 @@ pub turned_more : (es : List (ℕ × List (List ℕ))) (column : List (ℕ × Li
 turned_more es column rest old new all is none more h =
     ap (λ (t : List (ℕ × List ℕ)). t ++ flat_map turned (columns rest)) more
     ∙ append_assoc old (turned column) (flat_map turned (columns rest))
-    ∙ ap (λ (t : List (ℕ × List ℕ)). old ++ t) (sym (columns_behind column rest none) ∙ ap (flat_map turned) (sym is)) ∙ h
+    ∙ ap (λ (t : List (ℕ × List ℕ)). old ++ t) (sym (columns_after column rest none) ∙ ap (flat_map turned) (sym is)) ∙ h
 
 pub turned_all : (es : List (ℕ × List (List ℕ))) (old all : List (ℕ × List ℕ)) → es ≡ []
     → old ++ flat_map turned (columns es) ≡ all → old ≡ all

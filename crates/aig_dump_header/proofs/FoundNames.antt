@@ -162,22 +162,22 @@ sections_read symbols counts =
     ++ section_read symbols Constraint (codes "constraints") constraints counts.constraints)))
 
 -- lines whose names are read, before others
-record Reads (wss : List (List (List ℕ))) (names : List (List (List ℕ) × List ℕ)) : Type 0 where
+record ReadsNames (wss : List (List (List ℕ))) (names : List (List (List ℕ) × List ℕ)) : Type 0 where
   is : (more : List (List (List ℕ))) → found [] (before wss more) ≡ names ++ found [] more
 
-reads_then : (wss vss : List (List (List ℕ))) (ns ms : List (List (List ℕ) × List ℕ)) → Reads wss ns → Reads vss ms
-    → Reads (wss ++ vss) (ns ++ ms)
+reads_then : (wss vss : List (List (List ℕ))) (ns ms : List (List (List ℕ) × List ℕ)) → ReadsNames wss ns → ReadsNames vss ms
+    → ReadsNames (wss ++ vss) (ns ++ ms)
 reads_then wss vss ns ms h k = record {
   is = λ more. ap (found []) (before_append wss vss more) ∙ h.is (before vss more)
       ∙ ap (λ (l : List (List (List ℕ) × List ℕ)). ns ++ l) (k.is more) ∙ sym (append_assoc ns ms (found [] more));
 }
 
 reads_section : (symbols : List (Key × List ℕ)) (kind : Kind) (scope type : List ℕ) (n count : ℕ)
-    → Reads (section_words symbols kind scope type n count) (section_read symbols kind scope n count)
+    → ReadsNames (section_words symbols kind scope type n count) (section_read symbols kind scope n count)
 reads_section symbols kind scope type n count = record { is = found_section symbols kind scope type n count }
 
 reads_sections : (symbols : List (Key × List ℕ)) (counts : SignalCounts)
-    → Reads (sections_words symbols counts) (sections_read symbols counts)
+    → ReadsNames (sections_words symbols counts) (sections_read symbols counts)
 unfolding sections_words
 reads_sections symbols counts =
     reads_then _ _ _ _ (reads_section symbols Input (codes "inputs") (codes "wire") _ _)

@@ -16,7 +16,7 @@ use Rattle.aig_dump_header.specs.Paths.{path_of, scopes_of, leaf_of}
 use Rattle.aig_dump_header.specs.Signals.{section_names}
 use Rattle.aig_dump_header.proofs.DeclaredNames.{named_of_section}
 use Rattle.aig_dump_header.proofs.Codes.{IsVisible, visible_code}
-use Rattle.aig_dump_header.proofs.NamePieces.{IsName, all_names, visible_path, path_some}
+use Rattle.aig_dump_header.proofs.NamePieces.{IsSignalName, all_names, visible_path, path_some}
 
 -- ---- texts that are cut
 -- no byte is this one
@@ -229,7 +229,7 @@ header_text symbols counts =
 
 -- ---- what holds of each line
 -- words with visible bytes alone, of a line that begins with `$`
-pub record IsLine (ws : List (List ℕ)) : Type 0 where
+pub record IsHeaderLine (ws : List (List ℕ)) : Type 0 where
   pub visible : AreVisible ws
   pub directive : slice_get (line_of ws) 0 ≡ Some 36
 
@@ -244,13 +244,13 @@ visible_words (w ∷ ws) e =
     All-cons (All IsVisible) w ws (visible_by_test w parts.0) (visible_words ws parts.1)
 
 -- a line with no name
-is_fixed : (ws : List (List ℕ)) → all_seen ws ≡ true → slice_get (line_of ws) 0 ≡ Some 36 → IsLine ws
+is_fixed : (ws : List (List ℕ)) → all_seen ws ≡ true → slice_get (line_of ws) 0 ≡ Some 36 → IsHeaderLine ws
 is_fixed ws h k = record { visible = visible_words ws h; directive = k }
 
-is_up : IsLine up_words
+is_up : IsHeaderLine up_words
 is_up = is_fixed up_words refl refl
 
-is_scope : (name : List ℕ) → All IsVisible name → IsLine (scope_words name)
+is_scope : (name : List ℕ) → All IsVisible name → IsHeaderLine (scope_words name)
 is_scope name h = record {
   visible = All-from_recursion (All IsVisible) (scope_words name)
       (visible_by_test (codes "$scope") refl, (visible_by_test (codes "module") refl, (h, tt)));
@@ -258,93 +258,93 @@ is_scope name h = record {
 }
 
 is_signal : (type : List ℕ) (n : ℕ) (name : List ℕ) → All IsVisible type → All IsVisible name
-    → IsLine (signal_words type n name)
+    → IsHeaderLine (signal_words type n name)
 is_signal type n name h k = record {
   visible = All-from_recursion (All IsVisible) (signal_words type n name)
       (visible_by_test (codes "$var") refl, (h, (visible_by_test (codes "1") refl, (visible_code n, (k, tt)))));
   directive = refl;
 }
 
-closing_all : (n : ℕ) → All IsLine (closing_words n)
+closing_all : (n : ℕ) → All IsHeaderLine (closing_words n)
 unfolding closing_words
-closing_all zero = All-nil IsLine
-closing_all (suc n) = All-cons IsLine up_words (closing_words n) is_up (closing_all n)
+closing_all zero = All-nil IsHeaderLine
+closing_all (suc n) = All-cons IsHeaderLine up_words (closing_words n) is_up (closing_all n)
 
-move_all : (opened scopes : List (List ℕ)) → AreVisible scopes → All IsLine (move_words opened scopes)
+move_all : (opened scopes : List (List ℕ)) → AreVisible scopes → All IsHeaderLine (move_words opened scopes)
 move_all opened scopes h =
     let new : List (List ℕ) = drop (shared opened scopes) scopes in
-    All-append IsLine (closing_words (length opened - shared opened scopes)) (map scope_words new)
+    All-append IsHeaderLine (closing_words (length opened - shared opened scopes)) (map scope_words new)
     (closing_all (length opened - shared opened scopes))
-    (All-map IsLine scope_words new
-    (All-weaker (All IsVisible) (λ name. IsLine (scope_words name)) is_scope new
+    (All-map IsHeaderLine scope_words new
+    (All-weaker (All IsVisible) (λ name. IsHeaderLine (scope_words name)) is_scope new
     (All-drop (All IsVisible) (shared opened scopes) scopes h)))
 
 name_all : (type : List ℕ) (opened : List (List ℕ)) (names : List (ℕ × List ℕ)) → All IsVisible type
-    → All (λ x. IsName x.1) names
-    → All IsLine (name_words type opened names)
+    → All (λ x. IsSignalName x.1) names
+    → All IsHeaderLine (name_words type opened names)
 unfolding name_words
 name_all type opened [] h k = closing_all (length opened)
 name_all type opened (x ∷ names) h k =
-    let name : IsName x.1 = All-head (λ (x : ℕ × List ℕ). IsName x.1) x names k in
+    let name : IsSignalName x.1 = All-head (λ (x : ℕ × List ℕ). IsSignalName x.1) x names k in
     let path : AreVisible (path_of x.1) = visible_path x.1 name.visible in
     let leaf : All IsVisible (leaf_of x.1) =
     All-get_or (All IsVisible) (path_of x.1) (length (path_of x.1) - 1) [] (omega (arith, path_some x.1)) path in
     let more : List (List (List ℕ)) = name_words type (scopes_of x.1) names in
-    All-append IsLine (move_words opened (scopes_of x.1)) (signal_words type x.0 (leaf_of x.1) ∷ more)
+    All-append IsHeaderLine (move_words opened (scopes_of x.1)) (signal_words type x.0 (leaf_of x.1) ∷ more)
     (move_all opened (scopes_of x.1) (All-take (All IsVisible) (length (path_of x.1) - 1) (path_of x.1) path))
-    (All-cons IsLine (signal_words type x.0 (leaf_of x.1)) more (is_signal type x.0 (leaf_of x.1) h leaf)
-    (name_all type (scopes_of x.1) names h (All-tail (λ (x : ℕ × List ℕ). IsName x.1) x names k)))
+    (All-cons IsHeaderLine (signal_words type x.0 (leaf_of x.1)) more (is_signal type x.0 (leaf_of x.1) h leaf)
+    (name_all type (scopes_of x.1) names h (All-tail (λ (x : ℕ × List ℕ). IsSignalName x.1) x names k)))
 
 section_names_all : (symbols : List (Key × List ℕ)) (kind : Kind) (n count : ℕ)
-    → All (λ x. IsName x.1) (section_names symbols kind n count)
+    → All (λ x. IsSignalName x.1) (section_names symbols kind n count)
 section_names_all symbols kind n count k d lt =
     let names : List (ℕ × List ℕ) = section_names symbols kind n count in
     let h = named_of_section symbols kind n count (get_or names k d) (Contains-get_or names k d lt) in
-    subst (λ (x : ℕ × List ℕ). IsName x.1) h.is
-    (All-contains IsName (names_of symbols kind h.position) h.name (all_names symbols kind h.position) h.name_is)
+    subst (λ (x : ℕ × List ℕ). IsSignalName x.1) h.is
+    (All-contains IsSignalName (names_of symbols kind h.position) h.name (all_names symbols kind h.position) h.name_is)
 
 section_all : (symbols : List (Key × List ℕ)) (kind : Kind) (scope type : List ℕ) (n count : ℕ)
-    → All IsVisible scope → All IsVisible type → All IsLine (section_words symbols kind scope type n count)
+    → All IsVisible scope → All IsVisible type → All IsHeaderLine (section_words symbols kind scope type n count)
 unfolding section_words
-section_all symbols kind scope type n zero h k = All-nil IsLine
+section_all symbols kind scope type n zero h k = All-nil IsHeaderLine
 section_all symbols kind scope type n (suc p) h k =
     let names : List (ℕ × List ℕ) = section_names symbols kind n (suc p) in
-    All-cons IsLine (scope_words scope) (name_words type [] names ++ up_words ∷ []) (is_scope scope h)
-    (All-push IsLine (name_words type [] names) up_words
+    All-cons IsHeaderLine (scope_words scope) (name_words type [] names ++ up_words ∷ []) (is_scope scope h)
+    (All-push IsHeaderLine (name_words type [] names) up_words
     (name_all type [] names k (section_names_all symbols kind n (suc p))) is_up)
 
 section_by_test : (symbols : List (Key × List ℕ)) (kind : Kind) (scope type : List ℕ) (n count : ℕ)
-    → seen scope ≡ true → seen type ≡ true → All IsLine (section_words symbols kind scope type n count)
+    → seen scope ≡ true → seen type ≡ true → All IsHeaderLine (section_words symbols kind scope type n count)
 section_by_test symbols kind scope type n count h k =
     section_all symbols kind scope type n count (visible_by_test scope h) (visible_by_test type k)
 
-sections_all : (symbols : List (Key × List ℕ)) (counts : SignalCounts) → All IsLine (sections_words symbols counts)
+sections_all : (symbols : List (Key × List ℕ)) (counts : SignalCounts) → All IsHeaderLine (sections_words symbols counts)
 unfolding sections_words
 sections_all symbols counts =
-    All-append IsLine (section_words symbols Input _ _ _ _) _
+    All-append IsHeaderLine (section_words symbols Input _ _ _ _) _
     (section_by_test symbols Input (codes "inputs") (codes "wire") _ _ refl refl)
-    (All-append IsLine _ _ (section_by_test symbols Latch (codes "latches") (codes "reg") _ _ refl refl)
-    (All-append IsLine _ _ (section_by_test symbols Output (codes "outputs") (codes "wire") _ _ refl refl)
-    (All-append IsLine _ _ (section_by_test symbols Bad (codes "bad") (codes "wire") _ _ refl refl)
+    (All-append IsHeaderLine _ _ (section_by_test symbols Latch (codes "latches") (codes "reg") _ _ refl refl)
+    (All-append IsHeaderLine _ _ (section_by_test symbols Output (codes "outputs") (codes "wire") _ _ refl refl)
+    (All-append IsHeaderLine _ _ (section_by_test symbols Bad (codes "bad") (codes "wire") _ _ refl refl)
     (section_by_test symbols Constraint (codes "constraints") (codes "wire") _ _ refl refl))))
 
-header_all : (symbols : List (Key × List ℕ)) (counts : SignalCounts) → All IsLine (header_words symbols counts)
+header_all : (symbols : List (Key × List ℕ)) (counts : SignalCounts) → All IsHeaderLine (header_words symbols counts)
 unfolding header_words
 header_all symbols counts =
     let rest : List (List (List ℕ)) = sections_words symbols counts ++ last_words ∷ [] in
-    All-cons IsLine version_words (timescale_words ∷ rest) (is_fixed version_words refl refl)
-    (All-cons IsLine timescale_words rest (is_fixed timescale_words refl refl)
-    (All-push IsLine (sections_words symbols counts) last_words (sections_all symbols counts)
+    All-cons IsHeaderLine version_words (timescale_words ∷ rest) (is_fixed version_words refl refl)
+    (All-cons IsHeaderLine timescale_words rest (is_fixed timescale_words refl refl)
+    (All-push IsHeaderLine (sections_words symbols counts) last_words (sections_all symbols counts)
     (is_fixed last_words refl refl)))
 
 -- ---- the lines of a header
 abbrev pub IsDirective : List ℕ → Type 0
 IsDirective line = (All (λ b. b ≢ 10) line) × (slice_get line 0 ≡ Some 36)
 
-directives : (wss : List (List (List ℕ))) → All IsLine wss → All IsDirective (map line_of wss)
+directives : (wss : List (List (List ℕ))) → All IsHeaderLine wss → All IsDirective (map line_of wss)
 directives wss h =
     All-map IsDirective line_of wss
-    (All-weaker IsLine (λ ws. IsDirective (line_of ws)) (λ ws is. (no_end ws is.visible, is.directive)) wss h)
+    (All-weaker IsHeaderLine (λ ws. IsDirective (line_of ws)) (λ ws is. (no_end ws is.visible, is.directive)) wss h)
 
 -- the lines of a header: none has a line end, and each begins with `$`
 pub lines_of_header : (symbols : List (Key × List ℕ)) (counts : SignalCounts)
@@ -358,11 +358,11 @@ lines_of_header symbols counts = (
 )
 
 -- ---- a header cut into lines and words
-words_of_lines : (wss : List (List (List ℕ))) → All IsLine wss → map (cut_at 32) (map line_of wss) ≡ map whole wss
+words_of_lines : (wss : List (List (List ℕ))) → All IsHeaderLine wss → map (cut_at 32) (map line_of wss) ≡ map whole wss
 words_of_lines [] h = refl
 words_of_lines (ws ∷ wss) h =
-    let first : cut_at 32 (line_of ws) ≡ whole ws = words_of_line ws (All-head IsLine ws wss h).visible in
-    let rest : map (cut_at 32) (map line_of wss) ≡ map whole wss = words_of_lines wss (All-tail IsLine ws wss h) in
+    let first : cut_at 32 (line_of ws) ≡ whole ws = words_of_line ws (All-head IsHeaderLine ws wss h).visible in
+    let rest : map (cut_at 32) (map line_of wss) ≡ map whole wss = words_of_lines wss (All-tail IsHeaderLine ws wss h) in
     λ i. first i ∷ rest i
 
 -- the words of each line of a header, and after the last line end an empty word

@@ -210,7 +210,7 @@ path_parts name =
 
 -- ---- names
 -- a name of a signal
-pub record IsName (name : List ℕ) : Type 0 where
+pub record IsSignalName (name : List ℕ) : Type 0 where
   pub visible : All IsVisible name
   pub some : 0 < length name
   pub no_keyword : All NoDollar (path_of name)
@@ -220,7 +220,7 @@ digits_no_dollar [] h = no_dollar_nil
 digits_no_dollar (b ∷ piece) h =
     let digit = All-head IsDigit b piece h in no_dollar_cons b piece (λ e. omega arith)
 
-name_by_letter : (kind : Kind) (p : ℕ) → IsName (letter kind ∷ decimal p)
+name_by_letter : (kind : Kind) (p : ℕ) → IsSignalName (letter kind ∷ decimal p)
 name_by_letter kind p =
     let name : List ℕ = letter kind ∷ decimal p in
     let digits : All IsDigit name = All-cons IsDigit (letter kind) (decimal p) (digit_letter kind) (digit_decimal p) in
@@ -231,7 +231,7 @@ name_by_letter kind p =
           (All-weaker (All IsDigit) NoDollar digits_no_dollar (cut_at 46 name) (cut_all IsDigit 46 name digits));
     }
 
-name_by_word : (word : List ℕ) → nat_lt 0 (length word) ≡ true → IsName (shown word)
+name_by_word : (word : List ℕ) → nat_lt 0 (length word) ≡ true → IsSignalName (shown word)
 name_by_word word h = record {
   visible = visible_after 46 word;
   some = omega (arith, length_after 46 word, ltb-true 0 (length word) h);
@@ -240,17 +240,17 @@ name_by_word word h = record {
 }
 
 names_by_all : (kind : Kind) (p : ℕ) (ws : List (List ℕ)) → All (λ word. nat_lt 0 (length word) ≡ true) ws
-    → All IsName (names_by kind p ws)
-names_by_all kind p [] h = All-cons IsName (letter kind ∷ decimal p) [] (name_by_letter kind p) (All-nil IsName)
+    → All IsSignalName (names_by kind p ws)
+names_by_all kind p [] h = All-cons IsSignalName (letter kind ∷ decimal p) [] (name_by_letter kind p) (All-nil IsSignalName)
 names_by_all kind p (word ∷ more) h =
-    All-map IsName shown (word ∷ more)
-    (All-weaker (λ word. nat_lt 0 (length word) ≡ true) (λ word. IsName (shown word)) name_by_word (word ∷ more) h)
+    All-map IsSignalName shown (word ∷ more)
+    (All-weaker (λ word. nat_lt 0 (length word) ≡ true) (λ word. IsSignalName (shown word)) name_by_word (word ∷ more) h)
 
 words_some : (symbol : List ℕ) → All (λ word. nat_lt 0 (length word) ≡ true) (words symbol)
 unfolding words
 words_some symbol = filter_passes (λ word. nat_lt 0 (length word)) (cut_at 32 symbol)
 
-pub all_names : (symbols : List (Key × List ℕ)) (kind : Kind) (p : ℕ) → All IsName (names_of symbols kind p)
+pub all_names : (symbols : List (Key × List ℕ)) (kind : Kind) (p : ℕ) → All IsSignalName (names_of symbols kind p)
 all_names symbols kind p =
     names_by_all kind p (words (symbol_of symbols kind p)) (words_some (symbol_of symbols kind p))
 
@@ -258,19 +258,19 @@ all_names symbols kind p =
 pub visible_piece : (symbols : List (Key × List ℕ)) (kind : Kind) (p : ℕ) (name piece : List ℕ)
     → Contains (names_of symbols kind p) name → Contains (path_of name) piece → All IsVisible piece
 visible_piece symbols kind p name piece in_names in_path =
-    let is = All-contains IsName (names_of symbols kind p) name (all_names symbols kind p) in_names in
+    let is = All-contains IsSignalName (names_of symbols kind p) name (all_names symbols kind p) in_names in
     All-contains (All IsVisible) (path_of name) piece (visible_path name is.visible) in_path
 
 pub some_piece : (symbols : List (Key × List ℕ)) (kind : Kind) (p : ℕ) (name piece : List ℕ)
     → Contains (names_of symbols kind p) name → Contains (path_of name) piece → 0 < length piece
 some_piece symbols kind p name piece in_names in_path =
-    let is = All-contains IsName (names_of symbols kind p) name (all_names symbols kind p) in_names in
+    let is = All-contains IsSignalName (names_of symbols kind p) name (all_names symbols kind p) in_names in
     All-contains (λ piece. 0 < length piece) (path_of name) piece (some_path name is.some) in_path
 
 pub no_keyword : (symbols : List (Key × List ℕ)) (kind : Kind) (p : ℕ) (name piece : List ℕ)
     → Contains (names_of symbols kind p) name → Contains (path_of name) piece → slice_get piece 0 ≢ Some 36
 no_keyword symbols kind p name piece in_names in_path =
-    let is = All-contains IsName (names_of symbols kind p) name (all_names symbols kind p) in_names in
+    let is = All-contains IsSignalName (names_of symbols kind p) name (all_names symbols kind p) in_names in
     All-contains NoDollar (path_of name) piece is.no_keyword in_path
 
 -- ---- numbers

@@ -49,9 +49,9 @@ next_none (b ∷ text) h =
     let other : (b == 91 && is_index_end text) ≡ false = and_left _ _ (ne_eqb b 91 (All-head (λ b. b ≢ 91) b text h)) in
     rw other (ap (put_before b) (next_none text (All-tail (λ b. b ≢ 91) b text h)))
 
-next_behind : (b : ℕ) (x tail : List ℕ) → next_name (b ∷ (x ++ 91 ∷ tail)) ≡ put_before b (next_name (x ++ 91 ∷ tail))
+next_after : (b : ℕ) (x tail : List ℕ) → next_name (b ∷ (x ++ 91 ∷ tail)) ≡ put_before b (next_name (x ++ 91 ∷ tail))
 unfolding next_name
-next_behind b x tail = rw (and_right (b == 91) _ (no_end x tail)) refl
+next_after b x tail = rw (and_right (b == 91) _ (no_end x tail)) refl
 
 put_first : (b : ℕ) (x rest : List ℕ) → put_before b (x ++ 91 ∷ rest) ≡ b ∷ (x ++ 91 ∷ rest)
 put_first b [] rest = refl
@@ -62,13 +62,13 @@ next_some : (x tail : List ℕ) → is_index_end tail ≡ true
 unfolding next_name
 next_some [] tail h = rw h refl
 next_some (b ∷ x) tail h =
-    next_behind b x tail ∙ ap (put_before b) (next_some x tail h)
+    next_after b x tail ∙ ap (put_before b) (next_some x tail h)
     ∙ put_first b x (decimal (digits_value 10 (take (length tail - 1) tail) + 1) ++ 93 ∷ [])
 
 next_not : (x tail : List ℕ) → All (λ b. b ≢ 91) tail → is_index_end tail ≡ false → next_name (x ++ 91 ∷ tail) ≡ []
 unfolding next_name
 next_not [] tail none h = rw h (ap (put_before 91) (next_none tail none))
-next_not (b ∷ x) tail none h = next_behind b x tail ∙ ap (put_before b) (next_not x tail none h)
+next_not (b ∷ x) tail none h = next_after b x tail ∙ ap (put_before b) (next_not x tail none h)
 
 all_left : (name : List ℕ) (place : ℕ) → take (length name - place) (drop place name) ≡ drop place name
 all_left name place = take_all (length name - place) (drop place name) (omega (arith, length-drop place name))

@@ -21,10 +21,10 @@ piece_cut name start place le lt none dot =
     let m : ℕ = place - start in
     let rest : List ℕ = drop start name in
     let piece : List ℕ = take m rest in
-    let behind : drop m rest ≡ 46 ∷ drop (place + 1) name =
+    let rest_is : drop m rest ≡ 46 ∷ drop (place + 1) name =
     drop-drop m start name ∙ ap (λ (n : ℕ). drop n name) (omega arith) ∙ drop_more name place 0 lt
     ∙ ap (λ (b : ℕ). b ∷ drop (place + 1) name) dot in
-    ap (cut_at 46) (sym (take-append-drop m rest) ∙ ap (λ (xs : List ℕ). piece ++ xs) behind)
+    ap (cut_at 46) (sym (take-append-drop m rest) ∙ ap (λ (xs : List ℕ). piece ++ xs) rest_is)
     ∙ slice_split_at (λ b. b == 46) piece 46 (drop (place + 1) name)
     (no_dot piece (λ k l e. none (start + k) (omega arith) (omega (arith, length-take m rest))
     (sym (get_or-take m rest k 0 (omega (arith, length-take m rest)) ∙ get_or-drop start name k 0) ∙ e))) refl

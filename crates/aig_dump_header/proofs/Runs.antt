@@ -51,10 +51,10 @@ goes_on_at done done' run between run' column i d next name lt of is e s b r =
     let x : Signal = get_or column i d in
     let rest : List (ℕ × List ℕ) = map named (drop (i + 1) column) in
     let same : run' ≡ run ++ x ∷ [] = r ∙ ap (λ (t : List Signal). t ++ x ∷ []) b in
-    let told : bytes_eq next (name_text x.name) ≡ true = rw is at e in
+    let answer : bytes_eq next (name_text x.name) ≡ true = rw is at e in
     (λ j. map named (s j) ++ turned_after (map named (reverse (same j))) rest)
     ∙ sym (ap (λ (t : List (ℕ × List ℕ)). map named done ++ t)
-    (next_signal (map named (reverse run)) column i d lt ∙ run_goes_on (map named (reverse run)) rest (named x) next of told
+    (next_signal (map named (reverse run)) column i d lt ∙ run_goes_on (map named (reverse run)) rest (named x) next of answer
     ∙ ap (λ (t : List (ℕ × List ℕ)). turned_after t rest) (sym (last_first run x))))
 
 pub ends_at : (done done' run between run' column : List Signal) (i : ℕ) (d : Signal) (next name : List ℕ) → i < length column
@@ -66,12 +66,12 @@ ends_at done done' run between run' column i d next name lt of is e s b r =
     let x : Signal = get_or column i d in
     let rest : List (ℕ × List ℕ) = map named (drop (i + 1) column) in
     let same : run' ≡ x ∷ [] = r ∙ ap (λ (t : List Signal). t ++ x ∷ []) b in
-    let told : bytes_eq next (name_text x.name) ≡ false = rw is at e in
+    let answer : bytes_eq next (name_text x.name) ≡ false = rw is at e in
     (λ j. map named (s j) ++ turned_after (map named (reverse (same j))) rest)
     ∙ ap (λ (t : List (ℕ × List ℕ)). t ++ turned_after (named x ∷ []) rest) (map-append named done (reverse run))
     ∙ append_assoc (map named done) (map named (reverse run)) (turned_after (named x ∷ []) rest)
     ∙ sym (ap (λ (t : List (ℕ × List ℕ)). map named done ++ t)
-    (next_signal (map named (reverse run)) column i d lt ∙ run_ends (map named (reverse run)) rest (named x) next of told))
+    (next_signal (map named (reverse run)) column i d lt ∙ run_ends (map named (reverse run)) rest (named x) next of answer))
 
 pub all_done : (done run column : List Signal) (i : ℕ) → length column ≤ i
     → map named (done ++ reverse run) ≡ map named done ++ turned_after (map named (reverse run)) (map named (drop i column))

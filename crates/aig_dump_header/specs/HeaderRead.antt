@@ -10,17 +10,17 @@ use Rattle.aig_dump_header.specs.Names.{cut_at, names_of, identifier_code}
 use Rattle.aig_dump_header.specs.Paths.{path_of}
 
 -- the word at a place of a line
-abbrev pub word_at : List (List ℕ) → ℕ → List ℕ
-word_at line k = slice_index_or line k []
+abbrev pub line_word_at : List (List ℕ) → ℕ → List ℕ
+line_word_at line k = slice_index_or line k []
 
 -- the names that lines declare, with their codes, where these scopes are open, the innermost last
 unfoldable pub found : List (List ℕ) → List (List (List ℕ)) → List (List (List ℕ) × List ℕ)
 found opened [] = []
 found opened (line ∷ more) =
-    if bytes_eq (word_at line 0) (codes "$scope") then found (opened ++ word_at line 2 ∷ []) more
-    else (if bytes_eq (word_at line 0) (codes "$upscope") then found (take (length opened - 1) opened) more
-    else (if bytes_eq (word_at line 0) (codes "$var")
-    then (opened ++ word_at line 4 ∷ [], word_at line 3) ∷ found opened more else found opened more))
+    if bytes_eq (line_word_at line 0) (codes "$scope") then found (opened ++ line_word_at line 2 ∷ []) more
+    else (if bytes_eq (line_word_at line 0) (codes "$upscope") then found (take (length opened - 1) opened) more
+    else (if bytes_eq (line_word_at line 0) (codes "$var")
+    then (opened ++ line_word_at line 4 ∷ [], line_word_at line 3) ∷ found opened more else found opened more))
 
 -- the names that a text declares
 abbrev pub read_names : List ℕ → List (List (List ℕ) × List ℕ)

@@ -2,11 +2,11 @@
 #![tactic(auto)]
 
 mod header;
-mod laws;
+mod header_laws;
 mod names;
 mod paths;
 mod signals;
 mod vectors;
 
 pub use header::{SignalCounts, dump_header};
-pub use laws::law_of_dump_header;
+pub use header_laws::law_of_dump_header;

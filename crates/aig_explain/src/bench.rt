@@ -1,11 +1,11 @@
 //! Why a bench is not made.
 ghost use Rattle.std.specs.Prelude.{◌≡◌, ◌≢◌, [], IfOk};
 
-use aig_bench::BenchFault;
 use crate::explanation::Explanation;
 use crate::header::Header;
 use crate::stimulus::header_of;
 use crate::text_lines::TextLines;
+use aig_bench::BenchFault;
 use aig_bytes::Memory;
 use std::alloc::Global;
 

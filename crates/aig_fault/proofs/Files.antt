@@ -9,43 +9,43 @@ use Rattle.aig_base.specs.Circuit.{IsCircuit}
 use Rattle.aig_bytes.specs.Flow.{Flow, flow}
 use Rattle.aig_format.specs.FileReading.{IsReading, Raises, FaultRaises}
 use Rattle.aig_fault.specs.declared.run_fault.RunFault.{RunFault}
-use Rattle.aig_fault.specs.declared.run_fault.RunFault.TheVariants as parts
+use Rattle.aig_fault.specs.declared.run_fault.RunFault.TheVariants as run_faults
 use Rattle.aig_fault.specs.Command.{IsFileOf, RefusesCircuit, OfFile, OfReader, reads_failed}
-use Rattle.aig_fault.specs.Command.{Ends, Text, EndsReading}
+use Rattle.aig_fault.specs.Command.{CommandEnds, Text, EndsReading}
 use Rattle.aig_fault.proofs.Written.{got_none, gave_none, ends_map, reading_map}
 
 -- nothing is meant for a circuit with a circuit's fault
 abbrev pub MeansNoFault : {T : Type 0} → (Raw → Result T RunFault → List ℕ → Type 0) → Raw → Type 0
-MeansNoFault Means raw = (fault : Fault) (bytes : List ℕ) → Means raw (Err (parts.Circuit fault)) bytes → ⊥
+MeansNoFault Means raw = (fault : Fault) (bytes : List ℕ) → Means raw (Err (run_faults.Circuit fault)) bytes → ⊥
 
 module _ {T : Type 0} (Means : Raw → Result T RunFault → List ℕ → Type 0) (raw : Raw) (none : MeansNoFault Means raw) where
   pub of_file : (file : List ℕ) → IsFileOf file raw → (answer : Result T RunFault) (bytes : List ℕ) → Means raw answer bytes
       → OfFile file Means answer bytes
   of_file file f (Ok value) bytes m = (raw, f, m)
-  of_file file f (Err (parts.Circuit fault)) bytes m = absurd (none fault bytes m)
-  of_file file f (Err (parts.Stimulus fault)) bytes m = (raw, f, m)
-  of_file file f (Err (parts.Witness fault)) bytes m = (raw, f, m)
-  of_file file f (Err (parts.Bench fault)) bytes m = (raw, f, m)
-  of_file file f (Err (parts.Script fault)) bytes m = (raw, f, m)
-  of_file file f (Err parts.Output) bytes m = (raw, f, m)
-  of_file file f (Err parts.Memory) bytes m = (raw, f, m)
-  of_file file f (Err (parts.Unroll fault)) bytes m = (raw, f, m)
+  of_file file f (Err (run_faults.Circuit fault)) bytes m = absurd (none fault bytes m)
+  of_file file f (Err (run_faults.Stimulus fault)) bytes m = (raw, f, m)
+  of_file file f (Err (run_faults.Witness fault)) bytes m = (raw, f, m)
+  of_file file f (Err (run_faults.Bench fault)) bytes m = (raw, f, m)
+  of_file file f (Err (run_faults.Script fault)) bytes m = (raw, f, m)
+  of_file file f (Err run_faults.Output) bytes m = (raw, f, m)
+  of_file file f (Err run_faults.Memory) bytes m = (raw, f, m)
+  of_file file f (Err (run_faults.Unroll fault)) bytes m = (raw, f, m)
 
   -- no read of the circuit failed
   no_read : (answer : Result T RunFault) (bytes : List ℕ) → Means raw answer bytes
-      → (reads_failed answer ≡ 0) × (answer ≢ Err (parts.Circuit circuits.Io))
+      → (reads_failed answer ≡ 0) × (answer ≢ Err (run_faults.Circuit circuits.Io))
   no_read (Ok value) bytes m = (refl, λ e. let no : ⊥ = cc in no)
-  no_read (Err (parts.Circuit fault)) bytes m = absurd (none fault bytes m)
-  no_read (Err (parts.Stimulus fault)) bytes m = (refl, λ e. let no : ⊥ = cc in no)
-  no_read (Err (parts.Witness fault)) bytes m = (refl, λ e. let no : ⊥ = cc in no)
-  no_read (Err (parts.Bench fault)) bytes m = (refl, λ e. let no : ⊥ = cc in no)
-  no_read (Err (parts.Script fault)) bytes m = (refl, λ e. let no : ⊥ = cc in no)
-  no_read (Err parts.Output) bytes m = (refl, λ e. let no : ⊥ = cc in no)
-  no_read (Err parts.Memory) bytes m = (refl, λ e. let no : ⊥ = cc in no)
-  no_read (Err (parts.Unroll fault)) bytes m = (refl, λ e. let no : ⊥ = cc in no)
+  no_read (Err (run_faults.Circuit fault)) bytes m = absurd (none fault bytes m)
+  no_read (Err (run_faults.Stimulus fault)) bytes m = (refl, λ e. let no : ⊥ = cc in no)
+  no_read (Err (run_faults.Witness fault)) bytes m = (refl, λ e. let no : ⊥ = cc in no)
+  no_read (Err (run_faults.Bench fault)) bytes m = (refl, λ e. let no : ⊥ = cc in no)
+  no_read (Err (run_faults.Script fault)) bytes m = (refl, λ e. let no : ⊥ = cc in no)
+  no_read (Err run_faults.Output) bytes m = (refl, λ e. let no : ⊥ = cc in no)
+  no_read (Err run_faults.Memory) bytes m = (refl, λ e. let no : ⊥ = cc in no)
+  no_read (Err (run_faults.Unroll fault)) bytes m = (refl, λ e. let no : ⊥ = cc in no)
 
   pub ends_of_file : {X : Type 0} (out : Flow X) (fault : RunFault) (file : List ℕ) → IsFileOf file raw → (r : Result T RunFault)
-      → Ends out fault (Means raw) r → Ends out fault (OfFile file Means) r
+      → CommandEnds out fault (Means raw) r → CommandEnds out fault (OfFile file Means) r
   ends_of_file out fault file f r e = ends_map out fault (Means raw) (OfFile file Means) (of_file file f) r e
 
 -- the answer is not that a read failed
@@ -58,7 +58,7 @@ Answers circuit r = (bytes : List ℕ) → circuit.bytes circuit.old ≡ Some by
 
 -- how many reads failed, by the fault of the circuit
 circuit_reads : (T : Type 0) (fault : Fault) (old new : ℕ) → FaultRaises fault old new
-    → new ≡ old + reads_failed {T = T} (Err (parts.Circuit fault))
+    → new ≡ old + reads_failed {T = T} (Err (run_faults.Circuit fault))
 circuit_reads T (circuits.Text at) old new e = omega (arith, e)
 circuit_reads T circuits.Limit old new e = omega (arith, e)
 circuit_reads T circuits.Counts old new e = omega (arith, e)
@@ -89,9 +89,9 @@ module _ {Y T : Type 0} (circuit : Flow Y) (Means : Raw → Result T RunFault �
   -- the circuit is refused, or a read failed
   pub refused_reader : (fault : Fault) → Answers circuit (Err fault)
       → FaultRaises fault (circuit.failures circuit.old) (circuit.failures circuit.new)
-      → OfReader circuit Means (Err (parts.Circuit fault)) []
+      → OfReader circuit Means (Err (run_faults.Circuit fault)) []
   refused_reader fault answers count = record {
-    of_file = λ file e ne. let io : fault ≢ circuits.Io = (λ is. ne (ap (λ f. Err (parts.Circuit f)) is)) in
+    of_file = λ file e ne. let io : fault ≢ circuits.Io = (λ is. ne (ap (λ f. Err (run_faults.Circuit f)) is)) in
         ((answers file e (λ is. io (let h : fault ≡ circuits.Io = cc in h)), io), refl);
     unwritten = λ is. refl;
     count = circuit_reads T fault (circuit.failures circuit.old) (circuit.failures circuit.new) count;
@@ -100,21 +100,21 @@ module _ {Y T : Type 0} (circuit : Flow Y) (Means : Raw → Result T RunFault �
 -- the file is refused, and nothing is written
 pub file_refused : {X T : Type 0} (written : X → Option (List ℕ)) (failures : X → ℕ) (old : X) (part : RunFault)
     (Means : Raw → Result T RunFault → List ℕ → Type 0) (file : List ℕ) (fault : Fault) → RefusesCircuit file fault
-    → Ends (flow written failures old old) part (OfFile file Means) (Err (parts.Circuit fault))
+    → CommandEnds (flow written failures old old) part (OfFile file Means) (Err (run_faults.Circuit fault))
 file_refused written failures old part Means file fault h = inl ([], (h, refl), got_none written failures old)
 
 -- the same of a file that a reader holds
 pub reader_refused : {Y X T : Type 0} (circuit : Flow Y) (written : X → Option (List ℕ)) (failures : X → ℕ) (old : X)
     (part : RunFault) (Means : Raw → Result T RunFault → List ℕ → Type 0) (fault : Fault) → Answers circuit (Err fault)
     → Raises {X = Raw} (Err fault) (circuit.failures circuit.old) (circuit.failures circuit.new)
-    → Ends (flow written failures old old) part (OfReader circuit Means) (Err (parts.Circuit fault))
+    → CommandEnds (flow written failures old old) part (OfReader circuit Means) (Err (run_faults.Circuit fault))
 reader_refused circuit written failures old part Means fault answers count =
     inl ([], refused_reader circuit Means fault answers count, got_none written failures old)
 
 pub ends_of_reader : {Y X T : Type 0} (circuit : Flow Y) (out : Flow X) (part : RunFault)
     (Means : Raw → Result T RunFault → List ℕ → Type 0) (raw : Raw) → MeansNoFault Means raw → Answers circuit (Ok raw)
     → IsCircuit raw → Raises {X = Raw} (Ok raw) (circuit.failures circuit.old) (circuit.failures circuit.new)
-    → (r : Result T RunFault) → Ends out part (Means raw) r → Ends out part (OfReader circuit Means) r
+    → (r : Result T RunFault) → CommandEnds out part (Means raw) r → CommandEnds out part (OfReader circuit Means) r
 ends_of_reader circuit out part Means raw none answers is_circuit count r e =
     ends_map out part (Means raw) (OfReader circuit Means) (of_reader circuit Means raw none answers is_circuit count) r e
 
@@ -122,10 +122,10 @@ ends_of_reader circuit out part Means raw none answers is_circuit count r e =
 pub reading_refused : {Z Y X T : Type 0} (circuit : Flow Z) (left : Y → Option (List ℕ)) (reads : Y → ℕ) (reader : Y)
     (written : X → Option (List ℕ)) (failures : X → ℕ) (old : X) (part : RunFault)
     (Means : Text → Raw → Result T RunFault → List ℕ → Type 0) (fault : Fault)
-    → ◌≢◌ {A = Result T RunFault} (Err (parts.Circuit fault)) (Err part) → Answers circuit (Err fault)
+    → ◌≢◌ {A = Result T RunFault} (Err (run_faults.Circuit fault)) (Err part) → Answers circuit (Err fault)
     → Raises {X = Raw} (Err fault) (circuit.failures circuit.old) (circuit.failures circuit.new)
     → EndsReading (flow left reads reader reader) (flow written failures old old) part (λ text. OfReader circuit (Means text))
-    (Err (parts.Circuit fault))
+    (Err (run_faults.Circuit fault))
 reading_refused circuit left reads reader written failures old part Means fault ne answers count =
     inl (
       ne,

@@ -7,8 +7,8 @@ use Rattle.aig_bytes.specs.Flow.{Flow, flow}
 use Rattle.aig_parts.specs.declared.fault.Fault.{Fault}
 use Rattle.aig_sim.specs.declared.stimulus_fault.StimFault.{StimFault}
 use Rattle.aig_fault.specs.declared.run_fault.RunFault.{RunFault}
-use Rattle.aig_fault.specs.declared.run_fault.RunFault.TheVariants as parts
-use Rattle.aig_fault.specs.Command.{Got, BreaksOff, Ends, Text, WritesAll, WritesPart, EndsReading}
+use Rattle.aig_fault.specs.declared.run_fault.RunFault.TheVariants as run_faults
+use Rattle.aig_fault.specs.Command.{Got, BreaksOff, CommandEnds, Text, WritesAll, WritesPart, EndsReading}
 use Rattle.aig_fault.specs.Flushed.{IsFlushed}
 
 all_begins : (bytes : List ℕ) → IsBeginning bytes bytes
@@ -43,9 +43,9 @@ module _ {X : Type 0} (written : X → Option (List ℕ)) (failures : X → ℕ)
 -- one text was written
 pub flushed_ends : {X T : Type 0} (written : X → Option (List ℕ)) (failures : X → ℕ) (old mid new : X) (fault : RunFault)
     (Means : Result T RunFault → List ℕ → Type 0) (answer result : Result T RunFault)
-    → Ends (flow written failures old mid) fault Means answer
+    → CommandEnds (flow written failures old mid) fault Means answer
     → IsFlushed (flow written failures mid new) fault answer result
-    → Ends (flow written failures old new) fault Means result
+    → CommandEnds (flow written failures old new) fault Means result
 flushed_ends written failures old mid new fault Means answer result (inl (bytes, means, got)) (kept, inl (same, count)) =
     inl (bytes, subst (λ r. Means r bytes) (sym same) means, got_on written failures old mid new kept bytes got count)
 flushed_ends written failures old mid new fault Means answer result (inl (bytes, means, got)) (kept, inr (is, count)) =
@@ -130,14 +130,14 @@ flushed_reading reader written failures old mid new fault Means answer result (i
 
 -- the flush of a stimulus's writer answers no fault of a circuit that the run did not
 pub flushed_circuit : {X T : Type 0} (out : Flow X) {answer result : Result T RunFault} {why : StimFault} {fault : Fault}
-    → IsFlushed out (parts.Stimulus why) answer result → result ≡ Err (parts.Circuit fault) → answer ≡ Err (parts.Circuit fault)
+    → IsFlushed out (run_faults.Stimulus why) answer result → result ≡ Err (run_faults.Circuit fault) → answer ≡ Err (run_faults.Circuit fault)
 flushed_circuit out (kept, inl (same, count)) is = sym same ∙ is
 flushed_circuit out (kept, inr (failed, count)) is = let no : ⊥ = cc in absurd no
 
 -- where no call failed in all, the flush did not
 pub ends_unfailed : {X T : Type 0} (written : X → Option (List ℕ)) (failures : X → ℕ) (old mid new : X) (fault : RunFault)
     (Means : Result T RunFault → List ℕ → Type 0) (answer result : Result T RunFault)
-    → Ends (flow written failures old mid) fault Means answer
+    → CommandEnds (flow written failures old mid) fault Means answer
     → IsFlushed (flow written failures mid new) fault answer result → failures new ≡ failures old
     → failures new ≡ failures mid
 ends_unfailed written failures old mid new fault Means answer result (inl (bytes, means, got)) (kept, inl (is, count)) same =

@@ -5,8 +5,8 @@ use Rattle.aig_bytes.specs.Bytes.{before, after, IsBeginning, Writes}
 use Rattle.aig_bytes.specs.Flow.{Flow, flow}
 use Rattle.aig_bytes.proofs.WriteLemmas.{after-nil}
 use Rattle.aig_fault.specs.declared.run_fault.RunFault.{RunFault}
-use Rattle.aig_fault.specs.declared.run_fault.RunFault.TheVariants as parts
-use Rattle.aig_fault.specs.Command.{Got, BreaksOff, Ends, Text, Gave, WritesAll, WritesPart, EndsReading}
+use Rattle.aig_fault.specs.declared.run_fault.RunFault.TheVariants as run_faults
+use Rattle.aig_fault.specs.Command.{Got, BreaksOff, CommandEnds, Text, Gave, WritesAll, WritesPart, EndsReading}
 use Rattle.aig_fault.specs.Faults.{output_of}
 
 before-nil : (w : Option (List ℕ)) → before [] w ≡ w
@@ -30,7 +30,7 @@ module _ {X : Type 0} (written : X → Option (List ℕ)) (failures : X → ℕ)
   -- one text is written
   pub written_ends : {F : Type 0} (Means : Result (Unit {0}) RunFault → List ℕ → Type 0) (bytes : List ℕ) (r : Result (Unit {0}) F)
       → Writes written failures old new bytes r → Means (Ok tt) bytes
-      → Ends (flow written failures old new) parts.Output Means (output_of r)
+      → CommandEnds (flow written failures old new) run_faults.Output Means (output_of r)
   written_ends Means bytes (Ok done) w means = inl (bytes, means, got_all bytes done w)
   written_ends Means bytes (Err why) w means = inr (refl, (Ok tt, bytes, means, got_part bytes why w))
 
@@ -56,7 +56,7 @@ gave_none left failures old = record {
 -- what the bytes mean for one text, they mean for the other
 pub ends_map : {X T : Type 0} (out : Flow X) (fault : RunFault) (M N : Result T RunFault → List ℕ → Type 0)
     → ((answer : Result T RunFault) (bytes : List ℕ) → M answer bytes → N answer bytes) → (r : Result T RunFault)
-    → Ends out fault M r → Ends out fault N r
+    → CommandEnds out fault M r → CommandEnds out fault N r
 ends_map out fault M N map r (inl (bytes, means, got)) = inl (bytes, map r bytes means, got)
 ends_map out fault M N map r (inr (is, (answer, bytes, means, b))) = inr (is, (answer, bytes, map answer bytes means, b))
 
@@ -88,20 +88,20 @@ module _ {Y X T : Type 0} (reader : Flow Y) (out : Flow X) (M N : Text → Resul
 
 -- a fault is the output's alone
 pub output_alone : {F : Type 0} (Same : Type 0) (r : Result (Unit {0}) F)
-    → IfErr (output_of r) (λ fault. fault ≢ parts.Output → Same)
+    → IfErr (output_of r) (λ fault. fault ≢ run_faults.Output → Same)
 output_alone Same (Ok done) = tt
 output_alone Same (Err why) = λ ne. absurd (ne refl)
 
-pub output_refused : {T : Type 0} (Same : Type 0) (r : Result T RunFault) → IfErr r (λ fault. fault ≡ parts.Output)
-    → IfErr r (λ fault. fault ≢ parts.Output → Same)
+pub output_refused : {T : Type 0} (Same : Type 0) (r : Result T RunFault) → IfErr r (λ fault. fault ≡ run_faults.Output)
+    → IfErr r (λ fault. fault ≢ run_faults.Output → Same)
 output_refused Same (Ok value) is = tt
 output_refused Same (Err fault) is = λ ne. absurd (ne is)
 
 -- one text is written, and a fault is the output's
 pub output_ends : {X : Type 0} (written : X → Option (List ℕ)) (failures : X → ℕ) (old new : X)
     (Means : Result (Unit {0}) RunFault → List ℕ → Type 0) (bytes : List ℕ) (r : Result (Unit {0}) RunFault)
-    → Writes written failures old new bytes r → IfErr r (λ fault. fault ≡ parts.Output) → Means (Ok tt) bytes
-    → Ends (flow written failures old new) parts.Output Means r
+    → Writes written failures old new bytes r → IfErr r (λ fault. fault ≡ run_faults.Output) → Means (Ok tt) bytes
+    → CommandEnds (flow written failures old new) run_faults.Output Means r
 output_ends written failures old new Means bytes (Ok done) w is means = inl (bytes, means, got_all written failures old new bytes done w)
 output_ends written failures old new Means bytes (Err fault) w is means =
     inr (ap Err is, (Ok tt, bytes, means, got_part written failures old new bytes fault w))

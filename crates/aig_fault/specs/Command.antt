@@ -9,7 +9,7 @@ use Rattle.aig_base.specs.Circuit.{IsCircuit}
 use Rattle.aig_format.specs.Spells.{Spells}
 use Rattle.aig_format.specs.FileReading.{IsReading}
 use Rattle.aig_fault.specs.declared.run_fault.RunFault.{RunFault}
-use Rattle.aig_fault.specs.declared.run_fault.RunFault.TheVariants as parts
+use Rattle.aig_fault.specs.declared.run_fault.RunFault.TheVariants as run_faults
 
 -- the bytes are a file of this circuit
 pub record IsFileOf (bytes : List ℕ) (raw : Raw) : Type 0 where
@@ -23,21 +23,21 @@ RefusesCircuit bytes fault = IsReading bytes (Err fault) × (fault ≢ circuits.
 -- Which bytes a command writes for a circuit file, with which answer: none where the file is refused, else what `Means`
 -- says of its circuit.
 abbrev pub OfFile : {T : Type 0} → List ℕ → (Raw → Result T RunFault → List ℕ → Type 0) → Result T RunFault → List ℕ → Type 0
-OfFile file Means (Err (parts.Circuit fault)) bytes = RefusesCircuit file fault × (bytes ≡ [])
+OfFile file Means (Err (run_faults.Circuit fault)) bytes = RefusesCircuit file fault × (bytes ≡ [])
 OfFile file Means answer bytes = (raw : Raw) × IsFileOf file raw × Means raw answer bytes
 
 -- how many reads of the circuit failed, by the answer
 abbrev pub reads_failed : {T : Type 0} → Result T RunFault → ℕ
 reads_failed (Ok done) = 0
-reads_failed (Err (parts.Circuit circuits.Io)) = 1
+reads_failed (Err (run_faults.Circuit circuits.Io)) = 1
 reads_failed (Err fault) = 0
 
 -- The same of the circuit file that a reader holds; a read may fail, one, and nothing is written then.
 pub record OfReader {Y T : Type 0} (circuit : Flow Y) (Means : Raw → Result T RunFault → List ℕ → Type 0)
     (answer : Result T RunFault) (bytes : List ℕ) : Type 0 where
-  pub of_file : (file : List ℕ) → circuit.bytes circuit.old ≡ Some file → answer ≢ Err (parts.Circuit circuits.Io)
+  pub of_file : (file : List ℕ) → circuit.bytes circuit.old ≡ Some file → answer ≢ Err (run_faults.Circuit circuits.Io)
       → OfFile file Means answer bytes
-  pub unwritten : answer ≡ Err (parts.Circuit circuits.Io) → bytes ≡ []
+  pub unwritten : answer ≡ Err (run_faults.Circuit circuits.Io) → bytes ≡ []
   pub count : circuit.failures circuit.new ≡ circuit.failures circuit.old + reads_failed answer
 
 -- the writer got these bytes, and no call failed
@@ -54,8 +54,8 @@ pub record BreaksOff {X : Type 0} (out : Flow X) (bytes : List ℕ) : Type 0 whe
 
 -- `Means` says which bytes are written with which answer. They are written whole; or a write failed, the answer is
 -- `fault`, and a beginning is written of the bytes of some answer.
-abbrev pub Ends : {X T : Type 0} → Flow X → RunFault → (Result T RunFault → List ℕ → Type 0) → Result T RunFault → Type 0
-Ends {T = T} out fault Means result =
+abbrev pub CommandEnds : {X T : Type 0} → Flow X → RunFault → (Result T RunFault → List ℕ → Type 0) → Result T RunFault → Type 0
+CommandEnds {T = T} out fault Means result =
     ((bytes : List ℕ) × Means result bytes × Got out bytes)
     ⊎ ((result ≡ Err fault) × ((answer : Result T RunFault) × (bytes : List ℕ) × Means answer bytes × BreaksOff out bytes))
 

@@ -2,9 +2,9 @@
 ghost use Rattle.std.specs.Prelude.{◌≡◌};
 ghost use Rattle.aig_fault.specs.Status.{status_of};
 
-use aig_bench::BenchFault;
 use crate::script_fault::ScriptFault;
 use aig_base::{Fault, Memory};
+use aig_bench::BenchFault;
 use aig_sim::{StimFault, WitnessFault};
 use aig_unroll::UnrollFault;
 use thiserror::Error;
@@ -55,9 +55,9 @@ impl RunFault {
 
 impl From<Fault> for RunFault {
     ghost use Rattle.std.specs.Prelude.{◌≡◌};
-    ghost use Rattle.aig_fault.specs.declared.run_fault.RunFault.TheVariants as parts;
+    ghost use Rattle.aig_fault.specs.declared.run_fault.RunFault.TheVariants as run_faults;
 
-    ghost from_gives = { λ fault part. part ≡ parts.Circuit fault };
+    ghost from_gives = { λ fault part. part ≡ run_faults.Circuit fault };
 
     fn from(fault: Fault) -> RunFault {
         RunFault::Circuit(fault)
@@ -66,9 +66,9 @@ impl From<Fault> for RunFault {
 
 impl From<StimFault> for RunFault {
     ghost use Rattle.std.specs.Prelude.{◌≡◌};
-    ghost use Rattle.aig_fault.specs.declared.run_fault.RunFault.TheVariants as parts;
+    ghost use Rattle.aig_fault.specs.declared.run_fault.RunFault.TheVariants as run_faults;
 
-    ghost from_gives = { λ fault part. part ≡ parts.Stimulus fault };
+    ghost from_gives = { λ fault part. part ≡ run_faults.Stimulus fault };
 
     fn from(fault: StimFault) -> RunFault {
         RunFault::Stimulus(fault)
@@ -77,9 +77,9 @@ impl From<StimFault> for RunFault {
 
 impl From<WitnessFault> for RunFault {
     ghost use Rattle.std.specs.Prelude.{◌≡◌};
-    ghost use Rattle.aig_fault.specs.declared.run_fault.RunFault.TheVariants as parts;
+    ghost use Rattle.aig_fault.specs.declared.run_fault.RunFault.TheVariants as run_faults;
 
-    ghost from_gives = { λ fault part. part ≡ parts.Witness fault };
+    ghost from_gives = { λ fault part. part ≡ run_faults.Witness fault };
 
     fn from(fault: WitnessFault) -> RunFault {
         RunFault::Witness(fault)
@@ -88,9 +88,9 @@ impl From<WitnessFault> for RunFault {
 
 impl From<BenchFault> for RunFault {
     ghost use Rattle.std.specs.Prelude.{◌≡◌};
-    ghost use Rattle.aig_fault.specs.declared.run_fault.RunFault.TheVariants as parts;
+    ghost use Rattle.aig_fault.specs.declared.run_fault.RunFault.TheVariants as run_faults;
 
-    ghost from_gives = { λ fault part. part ≡ parts.Bench fault };
+    ghost from_gives = { λ fault part. part ≡ run_faults.Bench fault };
 
     fn from(fault: BenchFault) -> RunFault {
         RunFault::Bench(fault)
@@ -99,9 +99,9 @@ impl From<BenchFault> for RunFault {
 
 impl From<ScriptFault> for RunFault {
     ghost use Rattle.std.specs.Prelude.{◌≡◌};
-    ghost use Rattle.aig_fault.specs.declared.run_fault.RunFault.TheVariants as parts;
+    ghost use Rattle.aig_fault.specs.declared.run_fault.RunFault.TheVariants as run_faults;
 
-    ghost from_gives = { λ fault part. part ≡ parts.Script fault };
+    ghost from_gives = { λ fault part. part ≡ run_faults.Script fault };
 
     fn from(fault: ScriptFault) -> RunFault {
         RunFault::Script(fault)
@@ -110,9 +110,9 @@ impl From<ScriptFault> for RunFault {
 
 impl From<Memory> for RunFault {
     ghost use Rattle.std.specs.Prelude.{◌≡◌};
-    ghost use Rattle.aig_fault.specs.declared.run_fault.RunFault.TheVariants as parts;
+    ghost use Rattle.aig_fault.specs.declared.run_fault.RunFault.TheVariants as run_faults;
 
-    ghost from_gives = { λ _ part. part ≡ parts.Memory };
+    ghost from_gives = { λ _ part. part ≡ run_faults.Memory };
 
     fn from(_memory: Memory) -> RunFault {
         RunFault::Memory
@@ -121,9 +121,9 @@ impl From<Memory> for RunFault {
 
 impl From<UnrollFault> for RunFault {
     ghost use Rattle.std.specs.Prelude.{◌≡◌};
-    ghost use Rattle.aig_fault.specs.declared.run_fault.RunFault.TheVariants as parts;
+    ghost use Rattle.aig_fault.specs.declared.run_fault.RunFault.TheVariants as run_faults;
 
-    ghost from_gives = { λ fault part. part ≡ parts.Unroll fault };
+    ghost from_gives = { λ fault part. part ≡ run_faults.Unroll fault };
 
     fn from(fault: UnrollFault) -> RunFault {
         RunFault::Unroll(fault)

@@ -16,28 +16,28 @@ use Rattle.aig_format.proofs.Steps.{done_is}
 use Rattle.aig_format.proofs.Joins.{join2, join_end}
 use Rattle.aig_format.proofs.Numbers.{bind_then}
 use Rattle.aig_format.proofs.Lines.{lines_take, lines_again, plain_lines, all_from_fits, fits_from_all}
-use Rattle.aig_format.proofs.Lines.{IsLatch, IsGate, latch_takes, latch_again, gate_takes, gate_again}
-use Rattle.aig_format.proofs.Names.{IsEntry}
+use Rattle.aig_format.proofs.Lines.{IsLatch, IsGateWithin, latch_takes, latch_again, gate_takes, gate_again}
+use Rattle.aig_format.proofs.Names.{IsSymbolEntry}
 use Rattle.aig_format.proofs.SectionLaws.{literals_take, literals_again, properties_take, properties_again, text_of}
 use Rattle.aig_format.proofs.SymbolLaws.{AreOnce, names_take, names_again}
 use Rattle.aig_format.proofs.Parts.{properties_in, names_in, within_from, small_counts, entries_from, fits_properties}
 use Rattle.aig_format.proofs.Parts.{counted_properties}
 
 gates_take : (n : ℕ) (bytes : List ℕ) (xs : List Gate) (rest : List ℕ) → lines_at (λ v. gate_at) n 0 bytes
-    ≡ Ok (xs, rest) → (bytes ≡ flat_map gate_line xs ++ rest) × (length xs ≡ n) × All IsGate xs
+    ≡ Ok (xs, rest) → (bytes ≡ flat_map gate_line xs ++ rest) × (length xs ≡ n) × All IsGateWithin xs
 gates_take n bytes xs rest h =
-    let t = lines_take (λ v. gate_at) (λ w. gate_line) (λ v. IsGate) gate_takes n 0 bytes xs rest h in (
+    let t = lines_take (λ v. gate_at) (λ w. gate_line) (λ v. IsGateWithin) gate_takes n 0 bytes xs rest h in (
       t.spelled ∙ ap (λ (s : List ℕ). s ++ rest) (plain_lines gate_line t.written xs),
       t.count,
-      all_from_fits IsGate 0 xs t.fits,
+      all_from_fits IsGateWithin 0 xs t.fits,
     )
 
-gates_again : (xs : List Gate) (rest : List ℕ) → All IsGate xs
+gates_again : (xs : List Gate) (rest : List ℕ) → All IsGateWithin xs
     → lines_at (λ v. gate_at) (length xs) 0 (flat_map gate_line xs ++ rest) ≡ Ok (xs, rest)
 gates_again xs rest small =
     ap (λ (s : List ℕ). lines_at (λ v. gate_at) (length xs) 0 (s ++ rest)) (sym (plain_lines gate_line [] xs))
-    ∙ lines_again (λ v. gate_at) (λ w. gate_line) (λ v. IsGate) gate_again 0 [] xs rest
-    (fits_from_all IsGate 0 xs small)
+    ∙ lines_again (λ v. gate_at) (λ w. gate_line) (λ v. IsGateWithin) gate_again 0 [] xs rest
+    (fits_from_all IsGateWithin 0 xs small)
 
 -- the text after the header line, in pieces
 abbrev pub ascii_after : List ℕ → List Bool → Raw → List ℕ
@@ -53,7 +53,7 @@ pub record AsciiRead (c : Counts) (bytes : List ℕ) (raw : Raw) : Type 0 where
   pub counted : counts_of raw ≡ c
   pub numbers : HasSmallNumbers raw
   pub sum : sum_by length raw.justice ≤ formed.limit
-  pub entries : All (IsEntry c) raw.symbols
+  pub entries : All (IsSymbolEntry c) raw.symbols
   pub once : AreOnce raw.symbols
 
 pub ascii_take : (c : Counts) (bytes : List ℕ) (raw : Raw) (rest : List ℕ) → ascii_at c bytes ≡ Ok (raw, rest)

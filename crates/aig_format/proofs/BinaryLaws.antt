@@ -20,10 +20,10 @@ use Rattle.aig_format.specs.state.ReadingFile.{binary_at}
 use Rattle.aig_format.proofs.Steps.{done, done_is}
 use Rattle.aig_format.proofs.Joins.{join2, join_end}
 use Rattle.aig_format.proofs.Numbers.{bind_then}
-use Rattle.aig_format.proofs.Lines.{FitsFrom, lines_take, lines_again, plain_lines, IsLatch, IsGate}
+use Rattle.aig_format.proofs.Lines.{FitsFrom, lines_take, lines_again, plain_lines, IsLatch, IsGateWithin}
 use Rattle.aig_format.proofs.Lines.{IsImplicitLatch, IsImplicitGate, IsWrittenGate, implicit_latch_takes}
 use Rattle.aig_format.proofs.Lines.{implicit_latch_again, implicit_gate_takes, implicit_gate_again}
-use Rattle.aig_format.proofs.Names.{IsEntry}
+use Rattle.aig_format.proofs.Names.{IsSymbolEntry}
 use Rattle.aig_format.proofs.SectionLaws.{FitsProperties, properties_take, properties_again, text_of}
 use Rattle.aig_format.proofs.SymbolLaws.{AreOnce, names_take, names_again}
 use Rattle.aig_format.proofs.Parts.{properties_in, names_in, within_from, small_counts, entries_from, fits_properties}
@@ -147,7 +147,7 @@ pub record BinaryRead (c : Counts) (bytes : List ℕ) (raw : Raw) : Type 0 where
   pub latches : FitsFrom IsImplicitLatch (c.inputs + 1) raw.latches
   pub gates : FitsFrom IsImplicitGate (c.inputs + c.latches + 1) raw.gates
   pub fits : FitsProperties (properties_in raw)
-  pub entries : All (IsEntry c) raw.symbols
+  pub entries : All (IsSymbolEntry c) raw.symbols
   pub once : AreOnce raw.symbols
 
 pub binary_take : (c : Counts) (bytes : List ℕ) (raw : Raw) (rest : List ℕ) → binary_at c bytes ≡ Ok (raw, rest)
@@ -242,7 +242,7 @@ binary_numbers bytes raw r w exact =
         constraints = r.fits.constraints;
         justice = r.fits.justice;
         fairness = r.fits.fairness;
-        gates = all_from (λ v g. (v ≤ formed.limit) × IsImplicitGate v g) IsGate
+        gates = all_from (λ v g. (v ≤ formed.limit) × IsImplicitGate v g) IsGateWithin
             (λ v g f. (
               omega (arith, f.0, f.1.0),
               omega (arith, f.0, f.1.0, f.1.1),

@@ -202,11 +202,11 @@ groups_left zero bytes = Err text
 groups_left (suc more) bytes = groups_at more bytes
 
 -- the number, by the value of the k groups before, and what one of the next is worth
-abbrev pub number_of : ℕ → ℕ → ℕ → Read ℕ → Read ℕ
-number_of k value worth read =
+abbrev pub delta_number : ℕ → ℕ → ℕ → Read ℕ → Read ℕ
+delta_number k value worth read =
     read >>= λ high. cond (eqb high.0 0 && ltb 0 k) (Err text) (done (value + worth * high.0) high.1)
 
-pub number_first : (read : Read ℕ) → number_of 0 0 1 read ≡ read
+pub number_first : (read : Read ℕ) → delta_number 0 0 1 read ≡ read
 number_first (Err e) = refl
 number_first (Ok (n, rest)) =
     let same : 0 + 1 * n ≡ n = omega arith in
@@ -217,7 +217,7 @@ number_first (Ok (n, rest)) =
     by_test false read = refl
 
 pub number_cut : (r k value worth : ℕ) (bytes rest : List ℕ) (whole : Read ℕ) → next_at bytes ≡ Ok (None, rest)
-    → number_of k value worth (groups_left r bytes) ≡ whole → whole ≡ Err text
+    → delta_number k value worth (groups_left r bytes) ≡ whole → whole ≡ Err text
 unfolding groups_at
 number_cut zero k value worth bytes rest whole h so_far = sym so_far
 number_cut (suc zero) k value worth [] rest whole h so_far = sym so_far
@@ -242,7 +242,7 @@ more_group more b high bytes rest ge lt some h =
 -- the last group
 pub number_last : (r k value worth b : ℕ) (bytes rest : List ℕ) (whole : Read ℕ) (spare : Bool) → 0 < r
     → next_at bytes ≡ Ok (Some b, rest) → b < 128 → (eqb b 0 && ltb 0 k) ≡ spare
-    → number_of k value worth (groups_left r bytes) ≡ whole
+    → delta_number k value worth (groups_left r bytes) ≡ whole
     → whole ≡ cond spare (Err text) (done (value + worth * b) rest)
 number_last zero k value worth b bytes rest whole spare some h lt test so_far = absurd (omega (arith, some))
 number_last (suc r) k value worth b [] rest whole spare some h lt test so_far =
@@ -253,14 +253,14 @@ number_last (suc r) k value worth b (x ∷ bytes) rest whole spare some h lt tes
     let same : x ≡ b = cc in
     let one : groups_at r (x ∷ bytes) ≡ Ok (b, rest) =
     ap (λ (y : ℕ). groups_at r (y ∷ bytes)) same ∙ last_group r b bytes lt ∙ ap (done b) p.1 in
-    sym so_far ∙ ap (number_of k value worth) one
+    sym so_far ∙ ap (delta_number k value worth) one
     ∙ ap (λ (t : Bool). cond t (Err text) (done (value + worth * b) rest)) test
 
 -- a group that is followed by another
 pub number_more : (r k value worth b : ℕ) (bytes rest : List ℕ) (whole : Read ℕ) → 0 < r
     → next_at bytes ≡ Ok (Some b, rest) → 128 ≤ b → b < 256
-    → number_of k value worth (groups_left r bytes) ≡ whole
-    → number_of (k + 1) (value + worth * (b - 128)) (worth * 128) (groups_left (r - 1) rest) ≡ whole
+    → delta_number k value worth (groups_left r bytes) ≡ whole
+    → delta_number (k + 1) (value + worth * (b - 128)) (worth * 128) (groups_left (r - 1) rest) ≡ whole
 unfolding groups_at
 number_more zero k value worth b bytes rest whole some h ge lt so_far = absurd (omega (arith, some))
 number_more (suc r) k value worth b [] rest whole some h ge lt so_far =
@@ -270,16 +270,16 @@ number_more (suc r) k value worth b (x ∷ bytes) rest whole some h ge lt so_far
     let e = p.0 in
     let same : x ≡ b = cc in
     let less : suc r - 1 ≡ r = omega arith in
-    let one : number_of k value worth (groups_at r (x ∷ bytes)) ≡ number_of k value worth (groups_at r (b ∷ rest)) =
-    ap (λ (y : ℕ). number_of k value worth (groups_at r (y ∷ bytes))) same
-    ∙ ap (λ (t : List ℕ). number_of k value worth (groups_at r (b ∷ t))) p.1 in
-    ap (λ (j : ℕ). number_of (k + 1) (value + worth * (b - 128)) (worth * 128) (groups_left j rest)) less
+    let one : delta_number k value worth (groups_at r (x ∷ bytes)) ≡ delta_number k value worth (groups_at r (b ∷ rest)) =
+    ap (λ (y : ℕ). delta_number k value worth (groups_at r (y ∷ bytes))) same
+    ∙ ap (λ (t : List ℕ). delta_number k value worth (groups_at r (b ∷ t))) p.1 in
+    ap (λ (j : ℕ). delta_number (k + 1) (value + worth * (b - 128)) (worth * 128) (groups_left j rest)) less
     ∙ sym (by_groups r) ∙ sym one ∙ so_far
   where
     by_read : (read : Read ℕ)
-        → number_of k value worth
+        → delta_number k value worth
         (read >>= λ high. cond (eqb high.0 0 || ltb 255 b) (Err text) (done (b - 128 + 128 * high.0) high.1))
-        ≡ number_of (k + 1) (value + worth * (b - 128)) (worth * 128) read
+        ≡ delta_number (k + 1) (value + worth * (b - 128)) (worth * 128) read
     by_read (Err e) = refl
     by_read (Ok (zero, after)) =
         let later : ltb 0 (k + 1) ≡ true = lt-ltb 0 (k + 1) (omega arith) in
@@ -292,8 +292,8 @@ number_more (suc r) k value worth b (x ∷ bytes) rest whole some h ge lt so_far
         grind arith in
         rw (byte, none, some, sum) refl
 
-    by_groups : (r : ℕ) → number_of k value worth (groups_at r (b ∷ rest))
-        ≡ number_of (k + 1) (value + worth * (b - 128)) (worth * 128) (groups_left r rest)
+    by_groups : (r : ℕ) → delta_number k value worth (groups_at r (b ∷ rest))
+        ≡ delta_number (k + 1) (value + worth * (b - 128)) (worth * 128) (groups_left r rest)
     by_groups zero = rw (le-ltb b 128 ge) refl
     by_groups (suc r) = rw (le-ltb b 128 ge) (by_read (groups_at r rest))
 
@@ -315,6 +315,6 @@ worth_more k = let next : k + 1 ≡ suc k = omega arith in rw next (grind arith)
 
 -- there are more groups than four
 pub number_over : (r k value worth : ℕ) (bytes : List ℕ) (whole : Read ℕ) → r ≡ 0
-    → number_of k value worth (groups_left r bytes) ≡ whole → whole ≡ Err text
+    → delta_number k value worth (groups_left r bytes) ≡ whole → whole ≡ Err text
 number_over zero k value worth bytes whole none so_far = sym so_far
 number_over (suc r) k value worth bytes whole none so_far = absurd (omega (arith, none))

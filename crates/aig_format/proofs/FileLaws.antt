@@ -7,7 +7,7 @@ use Rattle.aig_format.specs.declared.header.Format.{Format}
 use Rattle.aig_format.specs.declared.header.Format.TheVariants.{Ascii, Binary}
 use Rattle.aig_format.specs.declared.header.Counts.{Counts}
 use Rattle.aig_format.specs.Header.{are_wrong, counts_of, header_line}
-use Rattle.aig_format.specs.Spelling.{Zeros, ascii, binary, literal_line, latch_line, implicit_latch_line, gate_line}
+use Rattle.aig_format.specs.Spelling.{WrittenZeros, ascii, binary, literal_line, latch_line, implicit_latch_line, gate_line}
 use Rattle.aig_format.specs.Spelling.{gate_deltas, lines, properties_of, names_text}
 use Rattle.aig_format.specs.Spells.{SpellsAscii, SpellsBinary, Spells, HasWrongCounts}
 use Rattle.aig_format.specs.state.Reading.{Refusal}
@@ -117,7 +117,7 @@ file_takes bytes raw e =
 
 -- ---- what is spelled
 
-ascii_pieces : (zeros : Zeros) (raw : Raw)
+ascii_pieces : (zeros : WrittenZeros) (raw : Raw)
     → ascii zeros raw ≡ header_line Ascii zeros.counts (counts_of raw) ++ ascii_rest zeros.resets raw
 unfolding ascii
 ascii_pieces zeros raw =
@@ -130,7 +130,7 @@ ascii_pieces zeros raw =
     (lines latch_line zeros.resets raw.latches ++ (properties_of raw ++ (flat_map gate_line raw.gates ++ t)))))
     (append-nil (names_text raw.symbols raw.comment))
 
-binary_pieces : (zeros : Zeros) (raw : Raw)
+binary_pieces : (zeros : WrittenZeros) (raw : Raw)
     → binary zeros raw ≡ header_line Binary zeros.counts (counts_of raw) ++ binary_rest zeros.resets raw
 unfolding binary
 binary_pieces zeros raw =

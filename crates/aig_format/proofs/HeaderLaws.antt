@@ -13,7 +13,7 @@ use Rattle.aig_format.specs.declared.header.Format.TheVariants.{Ascii, Binary}
 use Rattle.aig_format.specs.declared.header.Counts.{Counts}
 use Rattle.aig_format.specs.Header.{space, line_end, field, word, all_zero, tail, trailing, header_line, AreWithin}
 use Rattle.aig_format.specs.state.Reading.{◌>>=◌, is_next_at, byte_at, number_at, more_at}
-use Rattle.aig_format.specs.state.ReadingSections.{format_at, word_at, count_at, line_end_at, tail_at, header_at}
+use Rattle.aig_format.specs.state.ReadingSections.{format_at, format_word_at, count_at, line_end_at, tail_at, header_at}
 use Rattle.aig_format.proofs.Steps.{done, done_is}
 use Rattle.aig_format.proofs.Joins.{join2, join_end, apart7}
 use Rattle.aig_format.proofs.Numbers.{bind_then, is_next_takes, byte_takes, byte_again, number_takes, number_again}
@@ -55,8 +55,8 @@ word_is : (f : Format) → word f ≡ 97 ∷ second f ∷ 103 ∷ space ∷ []
 word_is Ascii = refl
 word_is Binary = refl
 
-pub word_takes : (bytes : List ℕ) (f : Format) (rest : List ℕ) → word_at bytes ≡ Ok (f, rest) → bytes ≡ word f ++ rest
-unfolding word_at
+pub word_takes : (bytes : List ℕ) (f : Format) (rest : List ℕ) → format_word_at bytes ≡ Ok (f, rest) → bytes ≡ word f ++ rest
+unfolding format_word_at
 word_takes bytes f rest h =
     bind_then _ _ _ h
     (λ a ea h1. bind_then _ _ _ h1 (λ b eb h2. bind_then _ _ _ h2 (λ c ec h3. bind_then _ _ _ h3 (λ d ed h4.
@@ -68,10 +68,10 @@ word_takes bytes f rest h =
     ∙ (λ i. 97 ∷ second (p.0 i) ∷ 103 ∷ space ∷ p.1 i)
     ∙ ap (λ (t : List ℕ). t ++ rest) (sym (word_is f))))))
 
-pub word_again : (f : Format) (rest : List ℕ) → word_at (word f ++ rest) ≡ Ok (f, rest)
-unfolding word_at
+pub word_again : (f : Format) (rest : List ℕ) → format_word_at (word f ++ rest) ≡ Ok (f, rest)
+unfolding format_word_at
 word_again f rest =
-    ap (λ (t : List ℕ). word_at (t ++ rest)) (word_is f)
+    ap (λ (t : List ℕ). format_word_at (t ++ rest)) (word_is f)
     ∙ rw (
       byte_again 97 (second f ∷ 103 ∷ space ∷ rest),
       format_again f (103 ∷ space ∷ rest),

@@ -4,7 +4,7 @@ use Rattle.std.proofs.Common.{ap, subst, ◌∙◌, arith, Option, Some, None}
 use Rattle.std.proofs.lemmas.List.{length-drop, length-take-le, drop-drop, drop-take, drop-append-le}
 use Rattle.std.proofs.Math.Seq.{drop-cons}
 use Rattle.aig_bytes.specs.Bytes.{before, IsAtEnd}
-use Rattle.aig_format.specs.state.Held.{held, IsKnown, known}
+use Rattle.aig_format.specs.state.Held.{held, AreKnownBytes, known}
 
 pub held_front : (buffer more : List ℕ) (s e : ℕ) → s < e → e ≤ length buffer
     → held s e buffer ++ more ≡ get_or buffer s 0 ∷ (held (s + 1) e buffer ++ more)
@@ -24,16 +24,16 @@ pub held_skip : (buffer more : List ℕ) (s e n : ℕ) → s ≤ e → e ≤ len
 held_skip buffer more s e n order within le =
     let all : length (held s e buffer) ≡ e - s = length-take-le (e - s) (drop s buffer) (omega (arith, length-drop s buffer)) in
     let k : e - s ≡ n + (e - (s + n)) = omega arith in
-    let behind : held (s + n) e buffer ≡ drop n (held s e buffer) =
+    let unread : held (s + n) e buffer ≡ drop n (held s e buffer) =
     ap (take (e - (s + n))) (sym (drop-drop n s buffer)) ∙ sym (drop-take n (e - (s + n)) (drop s buffer))
     ∙ ap (λ (j : ℕ). drop n (take j (drop s buffer))) (sym k) in
-    ap (λ (xs : List ℕ). xs ++ more) behind ∙ sym (drop-append-le n (held s e buffer) more le)
+    ap (λ (xs : List ℕ). xs ++ more) unread ∙ sym (drop-append-le n (held s e buffer) more le)
 
 -- a read takes its bytes from the front
-pub filled : (old new : Option (List ℕ)) (bytes : List ℕ) → old ≡ before bytes new → IsKnown old
+pub filled : (old new : Option (List ℕ)) (bytes : List ℕ) → old ≡ before bytes new → AreKnownBytes old
     → bytes ++ known new ≡ known old
-filled old None bytes is told = absurd (subst IsKnown is told)
-filled old (Some left) bytes is told = rw is refl
+filled old None bytes is reported = absurd (subst AreKnownBytes is reported)
+filled old (Some left) bytes is reported = rw is refl
 
 pub none_left : (left : Option (List ℕ)) → IsAtEnd left → known left ≡ []
 none_left None at_end = refl
@@ -44,5 +44,5 @@ pub first_left : (left : Option (List ℕ)) (bytes buffer : List ℕ) (s e : ℕ
     → held s e buffer ++ known left ≡ bytes
 first_left left bytes buffer s e same is = held_none buffer (known left) s e (omega (arith, same)) ∙ ap known is
 
-pub told_by : (left : Option (List ℕ)) (bytes : List ℕ) → left ≡ Some bytes → IsKnown left
-told_by left bytes is = subst IsKnown (sym is) tt
+pub reported_by : (left : Option (List ℕ)) (bytes : List ℕ) → left ≡ Some bytes → AreKnownBytes left
+reported_by left bytes is = subst AreKnownBytes (sym is) tt

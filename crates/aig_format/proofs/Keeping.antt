@@ -5,40 +5,40 @@ use Rattle.aig_format.specs.declared.source.Source.{Ghosts}
 use Rattle.aig_format.specs.FileReading.{Raises, FaultRaises}
 use Rattle.aig_format.specs.state.ReaderAnswers.{Fails, Gives}
 use Rattle.aig_format.specs.state.Reading.{Read}
-use Rattle.aig_format.specs.state.Reads.{Reads, Keeps}
+use Rattle.aig_format.specs.state.Reads.{ReadsAs, KeepsSource}
 
 module _ {S : Type 0} {source : Ghosts S} where
-  pub keeps_on : {old mid new : S} → Keeps source old mid → Keeps source mid new → Keeps source old new
+  pub keeps_on : {old mid new : S} → KeepsSource source old mid → KeepsSource source mid new → KeepsSource source old new
   keeps_on k l = record {
-    told = λ told. l.told (k.told told);
+    reported = λ reported. l.reported (k.reported reported);
     reader = l.reader ∙ k.reader;
     failures = l.failures ∙ k.failures;
     never_more = omega (arith, l.never_more, k.never_more);
   }
 
   pub kept : {X Y : Type 0} {old new : S} {view : X → Y} {x : X} {read : List ℕ → Read Y}
-      → Reads source old new view (Ok x) read → Keeps source old new
-  kept r = record { told = r.told; reader = r.reader; failures = r.failures; never_more = r.never_more }
+      → ReadsAs source old new view (Ok x) read → KeepsSource source old new
+  kept r = record { reported = r.reported; reader = r.reader; failures = r.failures; never_more = r.never_more }
 
   pub keeps_then : {X Y : Type 0} {old mid new : S} {view : X → Y} {x : X} {read : List ℕ → Read Y}
-      → Keeps source old mid → Reads source mid new view (Ok x) read → Keeps source old new
+      → KeepsSource source old mid → ReadsAs source mid new view (Ok x) read → KeepsSource source old new
   keeps_then k r = keeps_on k (kept r)
 
   -- one more call of the source
-  pub keeps_step : {old mid new : S} → Keeps source old mid → (source.tells mid → source.tells new)
+  pub keeps_step : {old mid new : S} → KeepsSource source old mid → (source.reports mid → source.reports new)
       → source.reader new ≡ source.reader mid → source.failures new ≡ source.failures mid
-      → source.more new ≤ source.more mid → Keeps source old new
-  keeps_step k told reader failures more =
-      keeps_on k (record { told = told; reader = reader; failures = failures; never_more = more })
+      → source.more new ≤ source.more mid → KeepsSource source old new
+  keeps_step k reported reader failures more =
+      keeps_on k (record { reported = reported; reader = reader; failures = failures; never_more = more })
 
   -- an answer that is no failed read
   pub keeps_reads : {X Y : Type 0} {old new : S} {view : X → Y} {result : Result X Fault} {read : List ℕ → Read Y}
-      → Keeps source old new → ((n : ℕ) → Raises result n n)
-      → (source.tells old → Gives view result (source.left new) (read (source.left old)))
-      → Reads source old new view result read
+      → KeepsSource source old new → ((n : ℕ) → Raises result n n)
+      → (source.reports old → Gives view result (source.left new) (read (source.left old)))
+      → ReadsAs source old new view result read
   keeps_reads {old} {result} k same bytes = record {
     bytes = bytes;
-    told = k.told;
+    reported = k.reported;
     reader = k.reader;
     failures = subst (Raises result (source.failures old)) (sym k.failures) (same (source.failures old));
     never_more = k.never_more;
@@ -47,12 +47,12 @@ module _ {S : Type 0} {source : Ghosts S} where
   -- a call that is refused
   pub err_reads : {X Y Z W : Type 0} {old mid new : S} {view : X → Y} {view' : Z → W} {e : Fault}
       {read : List ℕ → Read Y} {read' : List ℕ → Read W}
-      → Keeps source old mid → Reads source mid new view (Err e) read
-      → (source.tells old → Fails e (read (source.left mid)) → Fails e (read' (source.left old)))
-      → Reads source old new view' (Err e) read'
+      → KeepsSource source old mid → ReadsAs source mid new view (Err e) read
+      → (source.reports old → Fails e (read (source.left mid)) → Fails e (read' (source.left old)))
+      → ReadsAs source old new view' (Err e) read'
   err_reads {new} {e} k r bytes = record {
-    bytes = λ told. bytes told (r.bytes (k.told told));
-    told = λ told. r.told (k.told told);
+    bytes = λ reported. bytes reported (r.bytes (k.reported reported));
+    reported = λ reported. r.reported (k.reported reported);
     reader = r.reader ∙ k.reader;
     failures = subst (λ (n : ℕ). FaultRaises e n (source.failures new)) k.failures r.failures;
     never_more = omega (arith, r.never_more, k.never_more);

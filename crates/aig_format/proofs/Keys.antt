@@ -28,8 +28,8 @@ back Constraint = refl
 back Justice = refl
 back Fairness = refl
 
-pub letter_tells : (a b : Kind) → letter a ≡ letter b → a ≡ b
-letter_tells a b e = sym (back a) ∙ ap kind_back e ∙ back b
+pub letter_reports : (a b : Kind) → letter a ≡ letter b → a ≡ b
+letter_reports a b e = sym (back a) ∙ ap kind_back e ∙ back b
 
 and_both : (a b : Bool) → a && b ≡ true → (a ≡ true) × (b ≡ true)
 and_both true true h = (refl, refl)
@@ -39,7 +39,7 @@ and_both false b h = (h, absurd cc)
 pub same_is : (a b : Kind × ℕ) → same_key a b ≡ true → a ≡ b
 same_is a b h =
     let p = and_both (letter a.0 == letter b.0) (a.1 == b.1) h in
-    let k : a.0 ≡ b.0 = letter_tells a.0 b.0 (eqb-true (letter a.0) (letter b.0) p.0) in
+    let k : a.0 ≡ b.0 = letter_reports a.0 b.0 (eqb-true (letter a.0) (letter b.0) p.0) in
     let n : a.1 ≡ b.1 = eqb-true a.1 b.1 p.1 in
     (λ i. (k i, n i))
 

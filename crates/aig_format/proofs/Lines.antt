@@ -110,8 +110,8 @@ IsLiteral l = l ≤ greatest
 abbrev pub IsLatch : Latch → Type 0
 IsLatch x = (x.lit ≤ greatest) × (x.next ≤ greatest) × (x.reset ≤ greatest)
 
-abbrev pub IsGate : Gate → Type 0
-IsGate g = (g.lhs ≤ greatest) × (g.rhs0 ≤ greatest) × (g.rhs1 ≤ greatest)
+abbrev pub IsGateWithin : Gate → Type 0
+IsGateWithin g = (g.lhs ≤ greatest) × (g.rhs0 ≤ greatest) × (g.rhs1 ≤ greatest)
 
 abbrev pub IsImplicitLatch : ℕ → Latch → Type 0
 IsImplicitLatch v x = (x.lit ≡ 2 * v) × (x.next ≤ greatest) × (x.reset ≤ greatest)
@@ -129,7 +129,7 @@ pub literal_again : Again (λ v. literal_at) (λ w. literal_line) (λ v. IsLiter
 unfolding literal_at
 literal_again v w x rest fits = field_again greatest line_end x rest fits wide (stops_line rest)
 
-pub gate_takes : Takes (λ v. gate_at) (λ w. gate_line) (λ v. IsGate)
+pub gate_takes : Takes (λ v. gate_at) (λ w. gate_line) (λ v. IsGateWithin)
 unfolding gate_at
 gate_takes v bytes x rest h =
     bind_then _ _ _ h (λ a ea h1. bind_then _ _ _ h1 (λ b eb h2. bind_then _ _ _ h2 (λ d ed h3.
@@ -140,10 +140,10 @@ gate_takes v bytes x rest h =
     let t2 = field_takes greatest line_end b.1 d.0 d.1 nine wide ed in
     let e01 = joins bytes (field a.0 space) a.1 (field b.0 space) b.1 t0.0 t1.0 in
     let e02 = joins bytes (field a.0 space ++ field b.0 space) b.1 (field d.0 line_end) d.1 e01 t2.0 in
-    let P : Gate → Type 0 = λ g. (w : Bool) × (bytes ≡ gate_line g ++ rest) × IsGate g in
+    let P : Gate → Type 0 = λ g. (w : Bool) × (bytes ≡ gate_line g ++ rest) × IsGateWithin g in
     subst P p.0 (false, e02 ∙ ap (λ (r : List ℕ). gate_line made ++ r) p.1, (t0.1, t1.1, t2.1)))))
 
-pub gate_again : Again (λ v. gate_at) (λ w. gate_line) (λ v. IsGate)
+pub gate_again : Again (λ v. gate_at) (λ w. gate_line) (λ v. IsGateWithin)
 unfolding gate_at
 gate_again v w x rest fits =
     let regrouped : gate_line x ++ rest ≡ field x.lhs space ++ (field x.rhs0 space ++ (field x.rhs1 line_end ++ rest)) =

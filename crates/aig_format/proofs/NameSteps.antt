@@ -42,38 +42,38 @@ seen : (left mid : List ℕ) (o : Option ℕ) → peek_at left ≡ Ok (o, mid) �
 seen left mid o h = (done_is (first_of left) o left mid h).1
 
 -- the buffered bytes are in the line, and so are those after them
-pub line_on : (front left mid new hand behind : List ℕ) (n : ℕ) (o : Option ℕ) (whole : Read (List ℕ))
-    → peek_at left ≡ Ok (o, mid) → mid ≡ hand ++ behind → n ≤ length hand → length hand ≤ n
-    → All (λ b. b ≢ line_end) (take n hand) → new ≡ drop n mid
-    → with_front front (line_at left) ≡ whole → with_front (front ++ take n hand) (line_at new) ≡ whole
-line_on front left mid new hand behind n o whole h split le ge other is so_far =
-    let rest : drop n mid ≡ drop n hand ++ behind = ap (drop n) split ∙ drop-append-le n hand behind le in
-    let cut : hand ≡ take n hand ++ drop n hand = sym (take-append-drop n hand) in
-    let all : left ≡ take n hand ++ new =
-    seen left mid o h ∙ split ∙ ap (λ (t : List ℕ). t ++ behind) cut ∙ append_assoc (take n hand) (drop n hand) behind
-    ∙ ap (λ (t : List ℕ). take n hand ++ t) (sym (is ∙ rest)) in
-    line_piece front (take n hand) new whole other
+pub line_on : (front left mid new buffered unread : List ℕ) (n : ℕ) (o : Option ℕ) (whole : Read (List ℕ))
+    → peek_at left ≡ Ok (o, mid) → mid ≡ buffered ++ unread → n ≤ length buffered → length buffered ≤ n
+    → All (λ b. b ≢ line_end) (take n buffered) → new ≡ drop n mid
+    → with_front front (line_at left) ≡ whole → with_front (front ++ take n buffered) (line_at new) ≡ whole
+line_on front left mid new buffered unread n o whole h split le ge other is so_far =
+    let rest : drop n mid ≡ drop n buffered ++ unread = ap (drop n) split ∙ drop-append-le n buffered unread le in
+    let cut : buffered ≡ take n buffered ++ drop n buffered = sym (take-append-drop n buffered) in
+    let all : left ≡ take n buffered ++ new =
+    seen left mid o h ∙ split ∙ ap (λ (t : List ℕ). t ++ unread) cut ∙ append_assoc (take n buffered) (drop n buffered) unread
+    ∙ ap (λ (t : List ℕ). take n buffered ++ t) (sym (is ∙ rest)) in
+    line_piece front (take n buffered) new whole other
     (ap (λ (t : List ℕ). with_front front (line_at t)) (sym all) ∙ so_far)
 
 -- the line ends in the buffered bytes
-pub line_ends : (front left mid new hand behind : List ℕ) (n : ℕ) (o : Option ℕ) (whole : Read (List ℕ))
-    → peek_at left ≡ Ok (o, mid) → mid ≡ hand ++ behind → n < length hand → slice_index hand n ≡ line_end
-    → All (λ b. b ≢ line_end) (take n hand) → new ≡ drop (n + 1) mid
-    → with_front front (line_at left) ≡ whole → whole ≡ Ok (front ++ take n hand, new)
+pub line_ends : (front left mid new buffered unread : List ℕ) (n : ℕ) (o : Option ℕ) (whole : Read (List ℕ))
+    → peek_at left ≡ Ok (o, mid) → mid ≡ buffered ++ unread → n < length buffered → slice_index buffered n ≡ line_end
+    → All (λ b. b ≢ line_end) (take n buffered) → new ≡ drop (n + 1) mid
+    → with_front front (line_at left) ≡ whole → whole ≡ Ok (front ++ take n buffered, new)
 unfolding line_at
-line_ends front left mid new hand behind n o whole h split lt end other is so_far =
-    let rest : drop (n + 1) mid ≡ drop (n + 1) hand ++ behind =
-    ap (drop (n + 1)) split ∙ drop-append-le (n + 1) hand behind (omega arith) in
-    let cut : hand ≡ take n hand ++ (line_end ∷ drop (n + 1) hand) =
-    sym (take-append-drop n hand)
-    ∙ ap (λ (t : List ℕ). take n hand ++ t) (drop_more hand n 0 lt ∙ ap (λ (x : ℕ). x ∷ drop (n + 1) hand) end) in
-    let all : left ≡ take n hand ++ (line_end ∷ new) =
-    seen left mid o h ∙ split ∙ ap (λ (t : List ℕ). t ++ behind) cut
-    ∙ append_assoc (take n hand) (line_end ∷ drop (n + 1) hand) behind
-    ∙ ap (λ (t : List ℕ). take n hand ++ (line_end ∷ t)) (sym (is ∙ rest)) in
-    let last = line_piece front (take n hand) (line_end ∷ new) whole other
+line_ends front left mid new buffered unread n o whole h split lt end other is so_far =
+    let rest : drop (n + 1) mid ≡ drop (n + 1) buffered ++ unread =
+    ap (drop (n + 1)) split ∙ drop-append-le (n + 1) buffered unread (omega arith) in
+    let cut : buffered ≡ take n buffered ++ (line_end ∷ drop (n + 1) buffered) =
+    sym (take-append-drop n buffered)
+    ∙ ap (λ (t : List ℕ). take n buffered ++ t) (drop_more buffered n 0 lt ∙ ap (λ (x : ℕ). x ∷ drop (n + 1) buffered) end) in
+    let all : left ≡ take n buffered ++ (line_end ∷ new) =
+    seen left mid o h ∙ split ∙ ap (λ (t : List ℕ). t ++ unread) cut
+    ∙ append_assoc (take n buffered) (line_end ∷ drop (n + 1) buffered) unread
+    ∙ ap (λ (t : List ℕ). take n buffered ++ (line_end ∷ t)) (sym (is ∙ rest)) in
+    let last = line_piece front (take n buffered) (line_end ∷ new) whole other
     (ap (λ (t : List ℕ). with_front front (line_at t)) (sym all) ∙ so_far) in
-    sym last ∙ ap (λ (t : List ℕ). done t new) (append-nil (front ++ take n hand))
+    sym last ∙ ap (λ (t : List ℕ). done t new) (append-nil (front ++ take n buffered))
 
 pub line_cut : (front left mid : List ℕ) (o : Option ℕ) (whole : Read (List ℕ)) → peek_at left ≡ Ok (o, mid)
     → is_some o ≡ false → with_front front (line_at left) ≡ whole → whole ≡ Err text

@@ -218,7 +218,7 @@ starts bound (x ∷ xs) n rest h = by_digit (is_digit x) refl h
 -- ---- symbols
 
 -- what an entry of a symbol is, besides being new
-pub record IsEntry (c : Counts) (e : Entry) : Type 0 where
+pub record IsSymbolEntry (c : Counts) (e : Entry) : Type 0 where
   pub there : e.0.1 < count_of c e.0.0
   pub named : IsName e.1
 
@@ -228,7 +228,7 @@ pub record Symbols (c : Counts) (named : List Entry) (kind : Kind) (bytes : List
   pub entry : Entry
   pub adds : all ≡ named ++ entry ∷ []
   pub spelled : letter kind ∷ bytes ≡ symbol_line entry ++ rest
-  pub fits : IsEntry c entry
+  pub fits : IsSymbolEntry c entry
   pub free : Contains (keys_of named) entry.0 → ⊥
 
 symbol_joins : (l : ℕ) (bytes n s m r rest : List ℕ) (p : ℕ) → bytes ≡ decimal p ++ s → s ≡ space ∷ m

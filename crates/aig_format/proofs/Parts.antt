@@ -13,7 +13,7 @@ use Rattle.aig_format.specs.declared.symbol.Names.{Names}
 use Rattle.aig_format.specs.Header.{AreWithin, counts_of}
 use Rattle.aig_format.specs.Spells.{greatest, HasSpelling}
 use Rattle.aig_format.specs.state.ReadingNames.{count_of}
-use Rattle.aig_format.proofs.Names.{IsEntry}
+use Rattle.aig_format.proofs.Names.{IsSymbolEntry}
 use Rattle.aig_format.proofs.SectionLaws.{FitsProperties, Counted}
 
 abbrev pub properties_in : Raw → Properties
@@ -61,14 +61,14 @@ small_counts c w Constraint = omega (arith, w.constraints)
 small_counts c w Justice = omega (arith, w.justice)
 small_counts c w Fairness = omega (arith, w.fairness)
 
-pub entries_from : (raw : Raw) → IsFormed raw → All (IsEntry (counts_of raw)) raw.symbols
+pub entries_from : (raw : Raw) → IsFormed raw → All (IsSymbolEntry (counts_of raw)) raw.symbols
 entries_from raw f =
-    All-weaker (IsSymbolOf raw) (IsEntry (counts_of raw))
+    All-weaker (IsSymbolOf raw) (IsSymbolEntry (counts_of raw))
     (λ e s. record { there = (let is = count_is raw e.0.0 in omega (arith, s.0, is)); named = s.1 }) raw.symbols
     f.symbols
 
 pub formed_from : (raw : Raw) → AreWithin (counts_of raw) → sum_by length raw.justice ≤ formed.limit
-    → All (IsEntry (counts_of raw)) raw.symbols → AreNamedOnce raw → IsFormed raw
+    → All (IsSymbolEntry (counts_of raw)) raw.symbols → AreNamedOnce raw → IsFormed raw
 formed_from raw w sum entries once = record {
   counts = record {
     max_var = w.max_var;
@@ -83,7 +83,7 @@ formed_from raw w sum entries once = record {
     justice_literals = sum;
   };
   symbols =
-      All-weaker (IsEntry (counts_of raw)) (IsSymbolOf raw)
+      All-weaker (IsSymbolEntry (counts_of raw)) (IsSymbolOf raw)
       (λ e s. ((let is = count_is raw e.0.0 in omega (arith, s.there, is)), s.named)) raw.symbols entries;
   names = once;
 }

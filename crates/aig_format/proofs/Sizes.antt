@@ -10,12 +10,12 @@ use Rattle.aig_parts.specs.declared.symbols.Kind.{Kind}
 use Rattle.aig_format.specs.declared.header.Counts.{Counts}
 use Rattle.aig_format.specs.Spelling.{Entry}
 use Rattle.aig_format.specs.state.ReadingNames.{count_of}
-use Rattle.aig_format.specs.state.Fits.{IsSymbol, AreSymbols}
+use Rattle.aig_format.specs.state.Fits.{IsCountedSymbol, AreSymbols}
 use Rattle.aig_parts.specs.declared.raw.Raw.{Raw}
 use Rattle.aig_parts.specs.Formed.{IsFormed}
 use Rattle.aig_format.specs.Header.{AreWithin, counts_of}
 use Rattle.aig_format.specs.state.Fits.{HasCounts}
-use Rattle.aig_format.proofs.Names.{IsEntry}
+use Rattle.aig_format.proofs.Names.{IsSymbolEntry}
 use Rattle.aig_format.proofs.Parts.{properties_in, formed_from}
 use Rattle.aig_format.proofs.SymbolLaws.{once_push}
 
@@ -36,8 +36,8 @@ sizes_more {X} all sizes i new size lt so_far is at =
 -- a fresh entry is added at the end
 pub inserted : (all new : List Entry) (e : Entry) (added : Bool) → (IsTrue added → new ≡ all ++ e ∷ [])
     → (added ≡ false ↔ Contains (keys_of all) e.0) → (Contains (keys_of all) e.0 → ⊥) → new ≡ all ++ e ∷ []
-inserted all new e true behind when free = behind refl
-inserted all new e false behind when free = absurd (free (when.0 refl))
+inserted all new e true appended when free = appended refl
+inserted all new e false appended when free = absurd (free (when.0 refl))
 
 -- one more symbol
 pub symbols_more : (c : Counts) (all new : List Entry) (kind : Kind) (position : ℕ) (name : List ℕ) → AreSymbols c all
@@ -46,7 +46,7 @@ pub symbols_more : (c : Counts) (all new : List Entry) (kind : Kind) (position :
 symbols_more c all new kind position name so_far there named free is =
     let e : Entry = ((kind, position), name) in
     subst (AreSymbols c) (sym is) (record {
-      entries = All-push (IsSymbol c) all e so_far.entries (there, named);
+      entries = All-push (IsCountedSymbol c) all e so_far.entries (there, named);
       once = once_push all e so_far.once free;
     })
 
@@ -66,7 +66,7 @@ parts_formed c raw w max_var inputs latches p gates symbols =
       justice = p.justice i;
       fairness = p.fairness i;
     } in
-    let entries : All (IsEntry c) raw.symbols =
-    All-weaker (IsSymbol c) (IsEntry c) (λ e s. record { there = s.0; named = s.1 }) raw.symbols symbols.entries in
+    let entries : All (IsSymbolEntry c) raw.symbols =
+    All-weaker (IsCountedSymbol c) (IsSymbolEntry c) (λ e s. record { there = s.0; named = s.1 }) raw.symbols symbols.entries in
     formed_from raw (subst AreWithin (sym counted) w) p.literals
-    (subst (λ (k : Counts). All (IsEntry k) raw.symbols) (sym counted) entries) symbols.once
+    (subst (λ (k : Counts). All (IsSymbolEntry k) raw.symbols) (sym counted) entries) symbols.once

@@ -9,7 +9,7 @@ use Rattle.aig_parts.specs.declared.fault.Fault.TheVariants as faults
 use Rattle.aig_format.specs.state.Reading.{Refusal, limit, Read, EndsItself, ◌>>=◌, is_digit, digit_at, digits_at}
 use Rattle.aig_format.specs.state.ReadingSections.{lines_at, with_front}
 use Rattle.aig_format.specs.state.ReaderAnswers.{Fails}
-use Rattle.aig_format.specs.state.Reads.{Adds}
+use Rattle.aig_format.specs.state.Reads.{AddsItems}
 
 abbrev pub done : {A : Type 0} → A → List ℕ → Read A
 done x rest = Ok (x, rest)
@@ -137,55 +137,55 @@ module _ {X : Type 0} (line : ℕ → List ℕ → Read X) where
       ap (λ (xs : List ℕ). line v (xs ++ more)) e.1 ∙ ap (line v) (append_assoc e.0 after more) ∙ e.2 (after ++ more) in
       rw first (sym (regroup front x (lines_at line rest (suc v) (after ++ more))))
 
-  pub adds_none : (first : ℕ) (hand : List ℕ) (all : List X) → Adds line first 0 0 hand all all
-  adds_none first hand all = record {
+  pub adds_none : (first : ℕ) (buffered : List ℕ) (all : List X) → AddsItems line first 0 0 buffered all all
+  adds_none first buffered all = record {
     within = omega arith;
     count = omega arith;
     lines = λ rest more.
         let e : first + 0 ≡ first = omega arith in
         let k : rest ≡ 0 + rest = omega arith in
-        ap (λ (v : ℕ). with_front all (lines_at line rest v (hand ++ more))) e
-        ∙ ap (λ (n : ℕ). with_front all (lines_at line n first (hand ++ more))) k;
+        ap (λ (v : ℕ). with_front all (lines_at line rest v (buffered ++ more))) e
+        ∙ ap (λ (n : ℕ). with_front all (lines_at line n first (buffered ++ more))) k;
   }
 
   -- one more that is buffered
-  pub adds_more : (first taken size more : ℕ) (hand shown : List ℕ) (old all new : List X) (x : X)
-      → Adds line first taken size hand old all → shown ≡ drop size hand → EndsItself (line (first + taken))
+  pub adds_more : (first taken size more : ℕ) (buffered shown : List ℕ) (old all new : List X) (x : X)
+      → AddsItems line first taken size buffered old all → shown ≡ drop size buffered → EndsItself (line (first + taken))
       → more ≤ length shown → line (first + taken) shown ≡ Ok (x, drop more shown) → new ≡ all ++ x ∷ []
-      → Adds line first (taken + 1) (size + more) hand old new
-  adds_more first taken size more hand shown old all new x adds same ends le h is = record {
-    within = omega (arith, le, ap length same, length-drop size hand, adds.within);
+      → AddsItems line first (taken + 1) (size + more) buffered old new
+  adds_more first taken size more buffered shown old all new x adds same ends le h is = record {
+    within = omega (arith, le, ap length same, length-drop size buffered, adds.within);
     count = omega (arith, ap length is, length-append all (x ∷ []), adds.count);
-    lines = λ rest behind.
+    lines = λ rest unread.
         let v : first + (taken + 1) ≡ suc (first + taken) = omega arith in
         let k : taken + suc rest ≡ taken + 1 + rest = omega arith in
-        ap (λ (ys : List X). with_front ys (lines_at line rest (first + (taken + 1)) (drop (size + more) hand ++ behind))) is
-        ∙ ap (λ (u : ℕ). with_front (all ++ x ∷ []) (lines_at line rest u (drop (size + more) hand ++ behind))) v
-        ∙ ap (λ (xs : List ℕ). with_front (all ++ x ∷ []) (lines_at line rest (suc (first + taken)) (xs ++ behind)))
-        (sym (drop-drop more size hand))
-        ∙ lines_next all (first + taken) (drop size hand) (drop more (drop size hand)) x ends
-        (subst (λ (xs : List ℕ). line (first + taken) xs ≡ Ok (x, drop more xs)) same h) rest behind
-        ∙ adds.lines (suc rest) behind
-        ∙ ap (λ (n : ℕ). with_front old (lines_at line n first (hand ++ behind))) k;
+        ap (λ (ys : List X). with_front ys (lines_at line rest (first + (taken + 1)) (drop (size + more) buffered ++ unread))) is
+        ∙ ap (λ (u : ℕ). with_front (all ++ x ∷ []) (lines_at line rest u (drop (size + more) buffered ++ unread))) v
+        ∙ ap (λ (xs : List ℕ). with_front (all ++ x ∷ []) (lines_at line rest (suc (first + taken)) (xs ++ unread)))
+        (sym (drop-drop more size buffered))
+        ∙ lines_next all (first + taken) (drop size buffered) (drop more (drop size buffered)) x ends
+        (subst (λ (xs : List ℕ). line (first + taken) xs ≡ Ok (x, drop more xs)) same h) rest unread
+        ∙ adds.lines (suc rest) unread
+        ∙ ap (λ (n : ℕ). with_front old (lines_at line n first (buffered ++ unread))) k;
   }
 
   -- those that were buffered are read
-  pub lines_taken : (all new : List X) (count i first taken size : ℕ) (shown hand behind bytes after : List ℕ)
-      (total : Read (List X)) → i + taken ≤ count → shown ≡ hand → bytes ≡ hand ++ behind → after ≡ drop size bytes
-      → Adds line (first + i) taken size shown all new
+  pub lines_taken : (all new : List X) (count i first taken size : ℕ) (shown buffered unread bytes after : List ℕ)
+      (total : Read (List X)) → i + taken ≤ count → shown ≡ buffered → bytes ≡ buffered ++ unread → after ≡ drop size bytes
+      → AddsItems line (first + i) taken size shown all new
       → with_front all (lines_at line (count - i) (first + i) bytes) ≡ total
       → with_front new (lines_at line (count - (i + taken)) (first + (i + taken)) after) ≡ total
-  lines_taken all new count i first taken size shown hand behind bytes after total le same split is adds so_far =
+  lines_taken all new count i first taken size shown buffered unread bytes after total le same split is adds so_far =
       let rest : ℕ = count - (i + taken) in
-      let whole : bytes ≡ shown ++ behind = split ∙ ap (λ (xs : List ℕ). xs ++ behind) (sym same) in
-      let left : after ≡ drop size shown ++ behind =
-      is ∙ ap (drop size) whole ∙ drop-append-le size shown behind adds.within in
+      let whole : bytes ≡ shown ++ unread = split ∙ ap (λ (xs : List ℕ). xs ++ unread) (sym same) in
+      let left : after ≡ drop size shown ++ unread =
+      is ∙ ap (drop size) whole ∙ drop-append-le size shown unread adds.within in
       let k : taken + (count - (i + taken)) ≡ count - i = omega (arith, le) in
       let v : first + (i + taken) ≡ first + i + taken = omega arith in
       ap (λ (u : ℕ). with_front new (lines_at line rest u after)) v
       ∙ ap (λ (xs : List ℕ). with_front new (lines_at line rest (first + i + taken) xs)) left
-      ∙ adds.lines rest behind
-      ∙ ap (λ (n : ℕ). with_front all (lines_at line n (first + i) (shown ++ behind))) k
+      ∙ adds.lines rest unread
+      ∙ ap (λ (n : ℕ). with_front all (lines_at line n (first + i) (shown ++ unread))) k
       ∙ ap (λ (xs : List ℕ). with_front all (lines_at line (count - i) (first + i) xs)) (sym whole) ∙ so_far
 
   pub lines_fail : (e : Fault) (front : List X) (count i v : ℕ) (bytes : List ℕ) (total : Read (List X)) → i < count

@@ -26,7 +26,7 @@ use Rattle.aig_format.specs.state.ReadingNames.{names_at}
 use Rattle.aig_format.proofs.Steps.{done, done_is}
 use Rattle.aig_format.proofs.Joins.{join2}
 use Rattle.aig_format.proofs.Numbers.{bind_then, number_again, stops_space}
-use Rattle.aig_format.proofs.Names.{letter_takes, letter_again, starts, IsEntry, symbol_takes, symbol_again}
+use Rattle.aig_format.proofs.Names.{letter_takes, letter_again, starts, IsSymbolEntry, symbol_takes, symbol_again}
 use Rattle.aig_format.proofs.Symbols.{shorter, symbol_shorter}
 
 -- ---- each entry is named once
@@ -91,7 +91,7 @@ pub record SymbolsRead (c : Counts) (named : List Entry) (bytes : List ℕ) (all
   pub adds : all ≡ named ++ more
   pub spelled : bytes ≡ flat_map symbol_line more ++ start follows rest
   pub ends : follows ≡ false → rest ≡ []
-  pub fits : All (IsEntry c) more
+  pub fits : All (IsSymbolEntry c) more
   pub once : AreOnce named → AreOnce all
 
 no_more : (c : Counts) (named : List Entry) (bytes : List ℕ) (all : List Entry) (follows f : Bool) (mid rest : List ℕ)
@@ -107,7 +107,7 @@ no_more c named bytes all follows f mid rest is ends h =
       adds = sym same ∙ sym (append-nil named);
       spelled = is ∙ (λ i. start (flag i) (p.1 i));
       ends = λ e. sym p.1 ∙ ends (flag ∙ e);
-      fits = All-nil (IsEntry c);
+      fits = All-nil (IsSymbolEntry c);
       once = λ once. subst AreOnce same once;
     }
 
@@ -141,7 +141,7 @@ symbols_take c (suc n) named bytes all follows rest le h =
           spelled =
               text ∙ ap (λ (x : List ℕ). x ++ start follows rest) (sym (flat_map-cons symbol_line t.entry r.more));
           ends = r.ends;
-          fits = All-cons (IsEntry c) t.entry r.more t.fits r.fits;
+          fits = All-cons (IsSymbolEntry c) t.entry r.more t.fits r.fits;
           once = λ once. r.once (subst AreOnce (sym t.adds) (once_push named t.entry once t.free));
         })
 
@@ -165,7 +165,7 @@ letter_before e after le =
 pub symbols_again : (c : Counts) (n : ℕ) (named more : List Entry) (follows : Bool) (rest : List ℕ)
     → ((kind : Kind) → count_of c kind ≤ greatest)
     → length (flat_map symbol_line more ++ start follows rest) ≤ n → (follows ≡ false → rest ≡ [])
-    → All (IsEntry c) more → AreOnce (named ++ more)
+    → All (IsSymbolEntry c) more → AreOnce (named ++ more)
     → symbols_at c n named (flat_map symbol_line more ++ start follows rest) ≡ Ok ((named ++ more, follows), rest)
 unfolding symbols_at symbols_then letter_at after_c_at
 symbols_again c zero named [] true rest small le ends fits once = absurd (omega (arith, le))
@@ -194,12 +194,12 @@ symbols_again c (suc n) named (e ∷ more) follows rest small le ends fits once 
     let size = ap length text in
     let deep : length after ≤ length (decimal e.0.1 ++ space ∷ (e.1 ++ line_end ∷ after)) =
     shorter _ (decimal e.0.1 ++ (space ∷ (e.1 ++ line_end ∷ []))) after (deep_is (decimal e.0.1) e.1 after) in
-    let here = All-head (IsEntry c) e more fits in
+    let here = All-head (IsSymbolEntry c) e more fits in
     let within : e.0.1 ≤ greatest = omega (arith, here.there, small e.0.0) in
     let regrouped : named ++ (e ∷ more) ≡ (named ++ e ∷ []) ++ more = sym (append_assoc named (e ∷ []) more) in
     let rec : symbols_at c n (named ++ e ∷ []) after ≡ Ok ((((named ++ e ∷ []) ++ more), follows), rest) =
     symbols_again c n (named ++ e ∷ []) more follows rest small (omega (arith, le, size, deep)) ends
-    (All-tail (IsEntry c) e more fits) (subst AreOnce regrouped once) in
+    (All-tail (IsSymbolEntry c) e more fits) (subst AreOnce regrouped once) in
     ap (symbols_at c (suc n) named) text
     ∙ rw (
       letter_before e (e.1 ++ line_end ∷ after) within,
@@ -218,7 +218,7 @@ symbols_again c (suc n) named (e ∷ more) follows rest small le ends fits once 
 pub record NamesRead (c : Counts) (bytes : List ℕ) (names : Names) (rest : List ℕ) : Type 0 where
   pub spelled : bytes ≡ names_text names.symbols names.comment
   pub end : rest ≡ []
-  pub fits : All (IsEntry c) names.symbols
+  pub fits : All (IsSymbolEntry c) names.symbols
   pub once : AreOnce names.symbols
 
 pub names_take : (c : Counts) (bytes : List ℕ) (names : Names) (rest : List ℕ) → names_at c bytes ≡ Ok (names, rest)
@@ -240,7 +240,7 @@ names_take c bytes names rest h = bind_then _ _ _ h (λ s es h1. by_comment s.0.
         subst (λ (k : Names). NamesRead c bytes k rest) p.0 (record {
           spelled = r.spelled ∙ ap (λ (es : List Entry). flat_map symbol_line es ++ 99 ∷ line_end ∷ left) (sym r.adds);
           end = sym p.1;
-          fits = subst (All (IsEntry c)) (sym r.adds) r.fits;
+          fits = subst (All (IsSymbolEntry c)) (sym r.adds) r.fits;
           once = r.once none;
         })
     by_comment all false left e g =
@@ -249,17 +249,17 @@ names_take c bytes names rest h = bind_then _ _ _ h (λ s es h1. by_comment s.0.
         subst (λ (k : Names). NamesRead c bytes k rest) p.0 (record {
           spelled = r.spelled ∙ ap (λ (es : List Entry). flat_map symbol_line es ++ []) (sym r.adds);
           end = sym p.1 ∙ r.ends refl;
-          fits = subst (All (IsEntry c)) (sym r.adds) r.fits;
+          fits = subst (All (IsSymbolEntry c)) (sym r.adds) r.fits;
           once = r.once none;
         })
 
 pub names_again : (c : Counts) (names : Names) → ((kind : Kind) → count_of c kind ≤ greatest)
-    → All (IsEntry c) names.symbols → AreOnce names.symbols
+    → All (IsSymbolEntry c) names.symbols → AreOnce names.symbols
     → names_at c (names_text names.symbols names.comment) ≡ Ok (names, [])
 unfolding names_at names_text
 names_again c names small fits once = by_comment names.symbols names.comment fits once
   where
-    by_comment : (symbols : List Entry) (comment : Option (List ℕ)) → All (IsEntry c) symbols → AreOnce symbols
+    by_comment : (symbols : List Entry) (comment : Option (List ℕ)) → All (IsSymbolEntry c) symbols → AreOnce symbols
         → (symbols_at c (length (flat_map symbol_line symbols ++ comment_text comment)) []
         (flat_map symbol_line symbols ++ comment_text comment)
         >>= λ s. cond s.0.1 (done {A = Names} (record { symbols = s.0.0; comment = Some s.1 }) [])

@@ -23,7 +23,7 @@ module _ {Y X : Type 0} {written : X → Option (List ℕ)} {failures : X → �
       record {
         front = p.front ++ y ∷ [];
         split = p.split ∙ ap (λ (ys : List Y). p.front ++ ys) e ∙ sym (append_assoc p.front (y ∷ []) left');
-        gathers = gathers_same (record { handed = w.handed; wrote = w.wrote; ok = w.ok; err = tt; count = w.count })
+        gathers = gathers_same (record { forwarded = w.forwarded; wrote = w.wrote; ok = w.ok; err = tt; count = w.count })
             (ap (λ (bs : List ℕ). flat_map f p.front ++ bs) (sym (append-nil (f y))) ∙ sym (flat_map-append f p.front (y ∷ [])));
       }
 

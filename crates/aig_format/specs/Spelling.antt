@@ -93,23 +93,23 @@ properties_of raw = property_lines raw.outputs raw.bad raw.constraints raw.justi
 
 -- the zeros that a spelling writes though it may leave them out: how many of the four trailing counts are written at
 -- least, and which latches' resets
-pub record Zeros : Type 0 where
+pub record WrittenZeros : Type 0 where
   pub counts : ℕ
   pub resets : List Bool
 
-unfoldable pub ascii : Zeros → Raw → List ℕ
+unfoldable pub ascii : WrittenZeros → Raw → List ℕ
 ascii zeros raw =
     header_line Ascii zeros.counts (counts_of raw) ++ flat_map literal_line raw.inputs
     ++ lines latch_line zeros.resets raw.latches ++ properties_of raw ++ flat_map gate_line raw.gates
     ++ names_text raw.symbols raw.comment
 
-unfoldable pub binary : Zeros → Raw → List ℕ
+unfoldable pub binary : WrittenZeros → Raw → List ℕ
 binary zeros raw =
     header_line Binary zeros.counts (counts_of raw) ++ lines implicit_latch_line zeros.resets raw.latches
     ++ properties_of raw ++ flat_map gate_deltas raw.gates ++ names_text raw.symbols raw.comment
 
 -- no zero is written that may be left out
-abbrev pub no_zeros : Zeros
+abbrev pub no_zeros : WrittenZeros
 no_zeros = record { counts = 0; resets = [] }
 
 -- what the writers write

@@ -7,7 +7,7 @@ use Rattle.aig_base.specs.Renumbered.{IsBinaryReady}
 use Rattle.aig_format.specs.declared.header.Format.{Format}
 use Rattle.aig_format.specs.declared.header.Counts.{Counts}
 use Rattle.aig_format.specs.Header.{AreWithin, are_wrong, header_line}
-use Rattle.aig_format.specs.Spelling.{Zeros, ascii, binary}
+use Rattle.aig_format.specs.Spelling.{WrittenZeros, ascii, binary}
 
 -- the greatest number of a circuit's body
 abbrev pub greatest : ℕ
@@ -36,14 +36,14 @@ pub record HasSpelling (raw : Raw) : Type 0 where
 -- the bytes are an ASCII file of these parts
 pub record SpellsAscii (bytes : List ℕ) (raw : Raw) : Type 0 where
   pub parts : HasSpelling raw
-  pub zeros : Zeros
+  pub zeros : WrittenZeros
   pub spelled : bytes ≡ ascii zeros raw
 
 -- the bytes are a binary file of these parts, whose inputs, latches and left sides are left out
 pub record SpellsBinary (bytes : List ℕ) (raw : Raw) : Type 0 where
   pub parts : HasSpelling raw
   pub ready : IsBinaryReady raw
-  pub zeros : Zeros
+  pub zeros : WrittenZeros
   pub spelled : bytes ≡ binary zeros raw
 
 abbrev pub Spells : List ℕ → Raw → Type 0

@@ -2,7 +2,7 @@
 ghost use Rattle.std.specs.Prelude.{◌≡◌, IfOk};
 ghost use Rattle.aig_parts.specs.Formed.{IsFormed};
 ghost use Rattle.aig_format.specs.Header.{AreWithin};
-ghost use Rattle.aig_format.specs.state.Reads.{Reads};
+ghost use Rattle.aig_format.specs.state.Reads.{ReadsAs};
 ghost use Rattle.aig_format.specs.state.ReadingFile.{ascii_at};
 
 use crate::header::Counts;
@@ -17,7 +17,7 @@ use std::alloc::Global;
 #[tactic(auto, unfolding(crate::specs::state::ReadingFile::ascii_at))]
 pub(crate) fn ascii_body<S: Source>(alloc: Global, s: &mut S, counts: &Counts) -> Result<Raw, Fault>
     requires within { AreWithin counts.now }
-    ensures reads { Reads S.Source s.old s.new (λ x. x) result (ascii_at counts.now) }
+    ensures reads { ReadsAs S.Source s.old s.new (λ x. x) result (ascii_at counts.now) }
     ensures formed { IfOk result IsFormed }
 {
     let inputs = lines::<S, Text, Lit>(alloc, s, 0, counts.inputs)?;

@@ -5,7 +5,7 @@ ghost use Rattle.aig_bytes.specs.Bytes.{Writes};
 ghost use Rattle.aig_bytes.specs.Gathered.{Gathers};
 ghost use Rattle.aig_format.specs.Spelling.{latch_line, gate_line, lines, short_ascii};
 
-use crate::gather::{put_field, put_number};
+use crate::block_writer::{put_field, put_number};
 use crate::header::Format;
 use crate::header_writer::{counts_of, put_header};
 use crate::section_writer::{put_literals, put_names, put_properties, put_reset};

@@ -3,7 +3,7 @@ ghost use Rattle.std.specs.Prelude.{◌≡◌, ◌<◌, ◌^◌, IfOk, IfErr};
 ghost use Rattle.aig_parts.specs.Formed.{IsFormed};
 ghost use Rattle.aig_base.specs.Renumbered.{evens};
 ghost use Rattle.aig_format.specs.Header.{AreWithin};
-ghost use Rattle.aig_format.specs.state.Reads.{Reads};
+ghost use Rattle.aig_format.specs.state.Reads.{ReadsAs};
 ghost use Rattle.aig_format.specs.state.ReadingFile.{binary_at};
 
 use crate::header::Counts;
@@ -35,7 +35,7 @@ pub(crate) fn binary_body<S: Source>(
     counts: &Counts,
 ) -> Result<Raw, Fault>
     requires within { AreWithin counts.now }
-    ensures reads { Reads S.Source s.old s.new (λ x. x) result (binary_at counts.now) }
+    ensures reads { ReadsAs S.Source s.old s.new (λ x. x) result (binary_at counts.now) }
     ensures formed { IfOk result IsFormed }
 {
     let latches = lines::<S, Implied, Latch>(alloc, s, counts.inputs + 1, counts.latches)?;

@@ -6,8 +6,8 @@ ghost use Rattle.aig_base.specs.Renumbered.{IsBinaryReady};
 ghost use Rattle.aig_bytes.specs.Gathered.{Gathers};
 ghost use Rattle.aig_format.specs.Spelling.{implicit_latch_line, gate_deltas, lines, short_binary};
 
+use crate::block_writer::put_number;
 use crate::delta_writer::put_delta;
-use crate::gather::put_number;
 use crate::header::Format;
 use crate::header_writer::{counts_of, put_header};
 use crate::section_writer::{put_names, put_properties, put_reset};

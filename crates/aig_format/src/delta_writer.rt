@@ -3,7 +3,7 @@ ghost use Rattle.std.specs.Prelude.{◌≡◌, ◌^◌, ◌<◌, ◌≤◌, take
 ghost use Rattle.aig_format.specs.Delta.{delta};
 ghost use Rattle.aig_bytes.specs.Gathered.{Gathers};
 
-use crate::gather::put_first;
+use crate::block_writer::put_first;
 use aig_base::{Block, Io, Write};
 
 /// The groups of a number below `2^28` in its shortest form, the least first, and how many there are. They are put into

@@ -3,9 +3,9 @@ ghost use Rattle.std.specs.Prelude.{◌≡◌, ℕ, ◌≤◌, ◌∷◌, [], If
 ghost use Rattle.aig_parts.specs.Formed.{limit};
 ghost use Rattle.aig_format.specs.Header.{AreWithin, are_wrong};
 ghost use Rattle.aig_format.specs.state.ReaderAnswers.{of_token};
-ghost use Rattle.aig_format.specs.state.Reads.{Reads, ReadsToken};
+ghost use Rattle.aig_format.specs.state.Reads.{ReadsAs, ReadsToken};
 ghost use Rattle.aig_format.specs.state.Reading.{byte_at};
-ghost use Rattle.aig_format.specs.state.ReadingSections.{format_at, word_at, count_at, line_end_at, tail_at, header_at};
+ghost use Rattle.aig_format.specs.state.ReadingSections.{format_at, format_word_at, count_at, line_end_at, tail_at, header_at};
 ghost use Rattle.aig_format.specs.state.ReadingNames.{count_of};
 
 use crate::source::Source;
@@ -99,9 +99,9 @@ fn second_letter<S: Source>(s: &mut S) -> Result<Format, TokenFault>
     }
 }
 
-#[tactic(auto, unfolding(crate::specs::state::ReadingSections::word_at))]
+#[tactic(auto, unfolding(crate::specs::state::ReadingSections::format_word_at))]
 fn word<S: Source>(s: &mut S) -> Result<Format, TokenFault>
-    ensures reads { ReadsToken S.Source s.old s.new result word_at }
+    ensures reads { ReadsToken S.Source s.old s.new result format_word_at }
 {
     word_byte(s, b'a')?;
     let format = second_letter(s)?;
@@ -136,7 +136,7 @@ fn line_end<S: Source>(s: &mut S, over: bool) -> Result<(), TokenFault>
 
 #[tactic(auto, unfolding(crate::specs::state::ReadingSections::tail_at))]
 fn last_counts<S: Source>(s: &mut S) -> Result<Tail, TokenFault>
-    ensures reads { Reads S.Source s.old s.new (λ t. t.bad ∷ t.constraints ∷ t.justice ∷ t.fairness ∷ [])
+    ensures reads { ReadsAs S.Source s.old s.new (λ t. t.bad ∷ t.constraints ∷ t.justice ∷ t.fairness ∷ [])
         (of_token result) (tail_at 4 false) }
     ensures within { IfOk result (λ t. (t.bad ≤ limit) × (t.constraints ≤ limit) × (t.justice ≤ limit)
         × (t.fairness ≤ limit)) }

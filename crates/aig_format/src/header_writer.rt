@@ -5,7 +5,7 @@ ghost use Rattle.aig_base.specs.Circuit.{IsCircuit};
 ghost use Rattle.aig_bytes.specs.Gathered.{Gathers};
 ghost use Rattle.aig_format.specs.Header.{word, tail, header_line, counts_of as header_counts};
 
-use crate::gather::{put_field, put_number};
+use crate::block_writer::{put_field, put_number};
 use crate::header::{Counts, Format};
 use aig_base::{Block, Circuit, Io, Write};
 

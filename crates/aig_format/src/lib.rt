@@ -3,15 +3,15 @@
 
 mod ascii;
 mod ascii_writer;
-mod at_hand;
 mod binary;
 mod binary_writer;
+mod block_writer;
+mod buffered_numbers;
 mod delta;
 mod delta_writer;
-mod gather;
+mod format_laws;
 mod header;
 mod header_writer;
-mod laws;
 mod line;
 mod reader;
 mod section;
@@ -25,6 +25,6 @@ mod token_fault;
 
 pub use ascii_writer::write_ascii;
 pub use binary_writer::write_binary;
+pub use format_laws::{law_of_deltas, law_of_one_reading, law_of_round_trip};
 pub use header::{Counts, Format};
-pub use laws::{law_of_deltas, law_of_one_reading, law_of_round_trip};
 pub use reader::{read, read_from};

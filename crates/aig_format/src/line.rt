@@ -3,9 +3,9 @@ ghost use Rattle.std.specs.Prelude.{◌≡◌, ℕ, ◌+◌, ◌<◌, ◌≤◌,
 ghost use Rattle.aig_format.specs.state.Reading.{Read, EndsItself};
 ghost use Rattle.aig_format.specs.state.ReadingSections.{literal_at, latch_at, gate_at, implicit_latch_at};
 ghost use Rattle.aig_format.specs.state.ReadingSections.{implicit_gate_at, lines_at};
-ghost use Rattle.aig_format.specs.state.Reads.{Adds, Reads, ReadsToken};
+ghost use Rattle.aig_format.specs.state.Reads.{AddsItems, ReadsAs, ReadsToken};
 
-use crate::at_hand::{delta_in, field_in};
+use crate::buffered_numbers::{delta_in, field_in};
 use crate::delta::delta;
 use crate::slice::Slice;
 use crate::source::Source;
@@ -35,17 +35,17 @@ pub(crate) trait Line<Spelling>: Sized + Drop {
         ensures ends { EndsItself (line_at variable) };
 
     /// One that is buffered whole, and its length.
-    fn at_hand(hand: &[u8], variable: u32) -> Option<(Self, usize)>
+    fn buffered_line(buffered: &[u8], variable: u32) -> Option<(Self, usize)>
         requires { fits variable }
-        ensures line { IfSome result (λ x. line_at variable hand.now ≡ Ok (x.0, drop x.1 hand.now)) }
-        ensures within { IfSome result (λ x. x.1 ≤ length hand.now) }
+        ensures line { IfSome result (λ x. line_at variable buffered.now ≡ Ok (x.0, drop x.1 buffered.now)) }
+        ensures within { IfSome result (λ x. x.1 ≤ length buffered.now) }
         ensures ends { EndsItself (line_at variable) }
     {
-        let mut front = Slice::new(hand);
+        let mut front = Slice::new(buffered);
         let Ok(line) = Self::line(&mut front, variable) else {
             return None;
         };
-        Some((line, hand.len() - front.len()))
+        Some((line, buffered.len() - front.len()))
     }
 }
 
@@ -100,13 +100,13 @@ impl Line<Text> for Gate {
     }
 
     #[tactic(auto, unfolding(crate::specs::state::ReadingSections::gate_at), using(crate::proofs::Ends::gate_ends))]
-    fn at_hand(hand: &[u8], _: u32) -> Option<(Gate, usize)> {
-        if hand.len() < 24 {
+    fn buffered_line(buffered: &[u8], _: u32) -> Option<(Gate, usize)> {
+        if buffered.len() < 24 {
             return None;
         }
-        let (lhs, at) = field_in(hand, 0, b' ')?;
-        let (rhs0, at) = field_in(hand, at, b' ')?;
-        let (rhs1, at) = field_in(hand, at, b'\n')?;
+        let (lhs, at) = field_in(buffered, 0, b' ')?;
+        let (rhs0, at) = field_in(buffered, at, b' ')?;
+        let (rhs1, at) = field_in(buffered, at, b'\n')?;
         let gate = Gate {
             lhs: Lit::new(lhs),
             rhs0: Lit::new(rhs0),
@@ -153,14 +153,14 @@ impl Line<Implied> for Gate {
     }
 
     #[tactic(auto, unfolding(crate::specs::state::ReadingSections::implicit_gate_at), using(crate::proofs::Ends::implicit_gate_ends))]
-    fn at_hand(hand: &[u8], variable: u32) -> Option<(Gate, usize)> {
-        if hand.len() < 8 {
+    fn buffered_line(buffered: &[u8], variable: u32) -> Option<(Gate, usize)> {
+        if buffered.len() < 8 {
             return None;
         }
         let lhs = 2 * variable;
-        let (first, at) = delta_in(hand, 0, 1, lhs)?;
+        let (first, at) = delta_in(buffered, 0, 1, lhs)?;
         let rhs0 = lhs - first;
-        let (second, at) = delta_in(hand, at, 0, rhs0)?;
+        let (second, at) = delta_in(buffered, at, 0, rhs0)?;
         let gate = Gate {
             lhs: Lit::new(lhs),
             rhs0: Lit::new(rhs0),
@@ -171,20 +171,20 @@ impl Line<Implied> for Gate {
 }
 
 /// Adds those that are buffered whole, one after the other, at most so many: how many, and the length of all of them.
-fn push_at_hand<F, X: Line<F>>(
+fn push_buffered<F, X: Line<F>>(
     all: &mut List<X>,
-    hand: &[u8],
+    buffered: &[u8],
     first: u32,
     most: u32,
 ) -> Result<(u32, usize), AllocFailed<X>>
     requires room { first + most < 2 ^ 32 }
     requires fits { (i : ℕ) → i < most → X.fits (first + i) }
-    ensures adds { IfOk result (λ taken. Adds X.line_at first taken.0 taken.1 hand.now all.old all.new) }
+    ensures adds { IfOk result (λ taken. AddsItems X.line_at first taken.0 taken.1 buffered.now all.old all.new) }
     ensures most { IfOk result (λ taken. taken.0 ≤ most) }
 {
     let mut size = 0;
     for count in 0..most {
-        let Some((line, more)) = X::at_hand(&hand[size..], first + count) else {
+        let Some((line, more)) = X::buffered_line(&buffered[size..], first + count) else {
             return Ok((count, size));
         };
         all.push(line)?;
@@ -203,13 +203,13 @@ pub(crate) fn lines<S: Source, F, X: Line<F>>(
 ) -> Result<List<X>, Fault>
     requires room { first + count < 2 ^ 32 }
     requires fits { (i : ℕ) → i < count → X.fits (first + i) }
-    ensures reads { Reads S.Source s.old s.new (λ x. x) result (lines_at X.line_at count first) }
+    ensures reads { ReadsAs S.Source s.old s.new (λ x. x) result (lines_at X.line_at count first) }
     ensures count { IfOk result (λ all. length all ≡ count) }
 {
     let mut all = List::new(alloc);
     let mut read = 0;
     loop {
-        let (taken, size) = push_at_hand::<F, X>(&mut all, s.front(), first + read, count - read)?;
+        let (taken, size) = push_buffered::<F, X>(&mut all, s.front(), first + read, count - read)?;
         s.skip(size);
         read += taken;
         if read == count {

@@ -3,8 +3,8 @@ ghost use Rattle.std.specs.Prelude.{◌≡◌, ◌≢◌, ℕ, List, Some, Err, 
 ghost use Rattle.aig_base.specs.Circuit.{IsCircuit};
 ghost use Rattle.aig_parts.specs.Formed.{IsFormed};
 ghost use Rattle.aig_format.specs.Header.{AreWithin};
-ghost use Rattle.aig_format.specs.state.ReaderAnswers.{Answers};
-ghost use Rattle.aig_format.specs.state.Reads.{Reads};
+ghost use Rattle.aig_format.specs.state.ReaderAnswers.{AnswersRead};
+ghost use Rattle.aig_format.specs.state.Reads.{ReadsAs};
 ghost use Rattle.aig_format.specs.FileReading.{IsReading, Raises};
 ghost use Rattle.aig_format.specs.state.ReadingFile.{body_at, file_at};
 
@@ -20,7 +20,7 @@ use std::alloc::Global;
 /// All that follows the header line.
 fn body<S: Source>(alloc: Global, s: &mut S, format: Format, counts: &Counts) -> Result<Raw, Fault>
     requires within { AreWithin counts.now }
-    ensures reads { Reads S.Source s.old s.new (λ x. x) result (body_at format counts.now) }
+    ensures reads { ReadsAs S.Source s.old s.new (λ x. x) result (body_at format counts.now) }
     ensures formed { IfOk result IsFormed }
 {
     match format {
@@ -32,7 +32,7 @@ fn body<S: Source>(alloc: Global, s: &mut S, format: Format, counts: &Counts) ->
 /// The parts that the bytes left spell, all of them.
 #[tactic(auto, unfolding(crate::specs::state::ReadingFile::file_at))]
 pub(crate) fn file<S: Source>(alloc: Global, s: &mut S) -> Result<Raw, Fault>
-    ensures bytes { S.tells s.old → Answers (λ x. x) result (file_at (S.left s.old)) }
+    ensures bytes { S.reports s.old → AnswersRead (λ x. x) result (file_at (S.left s.old)) }
     ensures formed { IfOk result IsFormed }
     ensures reader { S.reader s.new ≡ S.reader s.old }
     ensures failures { Raises result (S.failures s.old) (S.failures s.new) }
@@ -46,7 +46,7 @@ pub(crate) fn file<S: Source>(alloc: Global, s: &mut S) -> Result<Raw, Fault>
 
 /// The circuit that the bytes left spell, all of them.
 fn circuit<S: Source>(alloc: Global, s: &mut S) -> Result<Circuit, Fault>
-    ensures answers { S.tells s.old → result ≢ Err Fault.Io → IsReading (S.left s.old) result }
+    ensures answers { S.reports s.old → result ≢ Err Fault.Io → IsReading (S.left s.old) result }
     ensures circuit { IfOk result IsCircuit }
     ensures reader { S.reader s.new ≡ S.reader s.old }
     ensures failures { Raises result (S.failures s.old) (S.failures s.new) }

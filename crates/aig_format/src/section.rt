@@ -4,7 +4,7 @@ ghost use Rattle.aig_parts.specs.Formed.{limit};
 ghost use Rattle.aig_format.specs.state.Fits.{HasCounts};
 ghost use Rattle.aig_format.specs.declared.header.Counts.{Counts};
 ghost use Rattle.aig_format.specs.state.ReadingSections.{sizes_at, groups_of_literals_at, justice_at, properties_at};
-ghost use Rattle.aig_format.specs.state.Reads.{Reads};
+ghost use Rattle.aig_format.specs.state.Reads.{ReadsAs};
 
 use crate::header::Counts;
 use crate::line::{Text, lines};
@@ -25,7 +25,7 @@ pub struct Properties {
 
 /// The sizes of so many justice properties. Their sum has the limit of a count.
 fn sizes<S: Source>(alloc: Global, s: &mut S, count: u32) -> Result<Vec<u32>, Fault>
-    ensures reads { Reads S.Source s.old s.new (λ v. v.items) result (sizes_at count 0) }
+    ensures reads { ReadsAs S.Source s.old s.new (λ v. v.items) result (sizes_at count 0) }
     ensures count { IfOk result (λ v. length v.items ≡ count) }
     ensures sum { IfOk result (λ v. sum v.items ≤ limit) }
 {
@@ -45,7 +45,7 @@ fn sizes<S: Source>(alloc: Global, s: &mut S, count: u32) -> Result<Vec<u32>, Fa
 
 /// As many literals as each size says.
 fn groups<S: Source>(alloc: Global, s: &mut S, sizes: &[u32]) -> Result<List<List<Lit>>, Fault>
-    ensures reads { Reads S.Source s.old s.new (λ x. x) result (groups_of_literals_at sizes.now) }
+    ensures reads { ReadsAs S.Source s.old s.new (λ x. x) result (groups_of_literals_at sizes.now) }
     ensures sizes { IfOk result (λ all. map length all ≡ sizes.now) }
 {
     let mut all = List::new(alloc);
@@ -58,7 +58,7 @@ fn groups<S: Source>(alloc: Global, s: &mut S, sizes: &[u32]) -> Result<List<Lis
 
 #[tactic(auto, unfolding(crate::specs::state::ReadingSections::justice_at))]
 fn justice<S: Source>(alloc: Global, s: &mut S, count: u32) -> Result<List<List<Lit>>, Fault>
-    ensures reads { Reads S.Source s.old s.new (λ x. x) result (justice_at count) }
+    ensures reads { ReadsAs S.Source s.old s.new (λ x. x) result (justice_at count) }
     ensures count { IfOk result (λ all. length all ≡ count) }
     ensures literals { IfOk result (λ all. sum_by length all ≤ limit) }
 {
@@ -73,7 +73,7 @@ pub(crate) fn read_properties<S: Source>(
     s: &mut S,
     counts: &Counts,
 ) -> Result<Properties, Fault>
-    ensures reads { Reads S.Source s.old s.new (λ x. x) result (properties_at counts.now) }
+    ensures reads { ReadsAs S.Source s.old s.new (λ x. x) result (properties_at counts.now) }
     ensures counts { IfOk result (HasCounts counts.now) }
 {
     let outputs = lines::<S, Text, Lit>(alloc, s, 0, counts.outputs)?;

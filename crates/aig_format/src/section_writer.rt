@@ -6,7 +6,7 @@ ghost use Rattle.aig_bytes.specs.Gathered.{Gathers};
 ghost use Rattle.aig_format.specs.Spelling.{literal_line, reset_text, size_line, properties_of, property_lines};
 ghost use Rattle.aig_format.specs.Spelling.{letter, symbol_line, comment_text, names_text};
 
-use crate::gather::put_field;
+use crate::block_writer::put_field;
 use aig_base::{Block, Circuit, Io, Kind, List, Lit, Symbols, Write};
 
 /// A line for each literal.

@@ -34,7 +34,7 @@ impl Slice<'_> {
 }
 
 impl<'a> Source for Slice<'a> {
-    ghost tells = { λ _. Unit {0} };
+    ghost reports = { λ _. Unit {0} };
 
     ghost left = { λ s. s.rest.now };
 
@@ -44,9 +44,9 @@ impl<'a> Source for Slice<'a> {
 
     ghost more = { λ s. length s.rest.now };
 
-    ghost hand = { λ s. s.rest.now };
+    ghost buffered = { λ s. s.rest.now };
 
-    ghost behind = { λ _. [] };
+    ghost unread = { λ _. [] };
 
     ghost ended = { λ s. s.rest.now ≡ [] };
 

@@ -9,7 +9,7 @@ use crate::token_fault::TokenFault;
 /// Bytes, one after the other.
 pub(crate) trait Source {
     /// The value reports its bytes.
-    ghost tells: { Self → Type 0 };
+    ghost reports: { Self → Type 0 };
 
     /// The bytes left, where the value reports them.
     ghost left: { Self → List ℕ };
@@ -24,10 +24,10 @@ pub(crate) trait Source {
     ghost more: { Self → ℕ };
 
     /// The buffered bytes, which come next.
-    ghost hand: { Self → List ℕ };
+    ghost buffered: { Self → List ℕ };
 
     /// The bytes after these, where the value reports them.
-    ghost behind: { Self → List ℕ };
+    ghost unread: { Self → List ℕ };
 
     /// The end was met and is remembered: nothing is read on.
     ghost ended: { Self → Type 0 };
@@ -37,14 +37,14 @@ pub(crate) trait Source {
 
     /// The buffered bytes. There may be none though bytes are left; after a `peek` at a byte there are some.
     fn front(&self) -> &[u8]
-        ensures hand { result.now ≡ hand self.now }
-        ensures left { left self.now ≡ hand self.now ++ behind self.now };
+        ensures buffered { result.now ≡ buffered self.now }
+        ensures left { left self.now ≡ buffered self.now ++ unread self.now };
 
     /// Takes so many of the buffered bytes.
     fn skip(&mut self, count: usize)
-        requires { count ≤ length (hand self.old) }
+        requires { count ≤ length (buffered self.old) }
         ensures left { left self.new ≡ drop count (left self.old) }
-        ensures told { tells self.old → tells self.new }
+        ensures reported { reports self.old → reports self.new }
         ensures reader { reader self.new ≡ reader self.old }
         ensures failures { failures self.new ≡ failures self.old }
         ensures more { more self.new + count ≤ more self.old }
@@ -54,19 +54,19 @@ pub(crate) trait Source {
     fn peek(&mut self) -> Result<Option<u8>, TokenFault>
         ensures ended { ended self.old → self.new ≡ self.old }
         ensures remembered { IfOk result (λ front. IfNone front (ended self.new)) }
-        ensures bytes { tells self.old → Gives (λ x. x) (of_token result) (left self.new) (peek_at (left self.old)) }
-        ensures told { tells self.old → tells self.new }
+        ensures bytes { reports self.old → Gives (λ x. x) (of_token result) (left self.new) (peek_at (left self.old)) }
+        ensures reported { reports self.old → reports self.new }
         ensures reader { reader self.new ≡ reader self.old }
         ensures failures { Raises (of_token result) (failures self.old) (failures self.new) }
         ensures never_more { more self.new ≤ more self.old }
-        ensures hand { IfOk result (λ front. IfSome front (λ _. 0 < length (hand self.new))) };
+        ensures buffered { IfOk result (λ front. IfSome front (λ _. 0 < length (buffered self.new))) };
 
     /// The next byte, which is taken.
     fn next(&mut self) -> Result<Option<u8>, TokenFault>
         ensures ended { ended self.old → self.new ≡ self.old }
         ensures remembered { IfOk result (λ taken. IfNone taken (ended self.new)) }
-        ensures bytes { tells self.old → Gives (λ x. x) (of_token result) (left self.new) (next_at (left self.old)) }
-        ensures told { tells self.old → tells self.new }
+        ensures bytes { reports self.old → Gives (λ x. x) (of_token result) (left self.new) (next_at (left self.old)) }
+        ensures reported { reports self.old → reports self.new }
         ensures reader { reader self.new ≡ reader self.old }
         ensures failures { Raises (of_token result) (failures self.old) (failures self.new) }
         ensures never_more { more self.new ≤ more self.old }

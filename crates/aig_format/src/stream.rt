@@ -1,7 +1,7 @@
 //! The bytes of a reader.
 ghost use Rattle.std.specs.Prelude.{◌≡◌, ◌+◌, ◌*◌, ◌-◌, ◌<◌, ◌≤◌, ◌++◌, [], take, drop, true, false, IfOk, IfErr};
 ghost use Rattle.std.specs.Prelude.{IsTrue};
-ghost use Rattle.aig_format.specs.state.Held.{held, IsKnown, known, room};
+ghost use Rattle.aig_format.specs.state.Held.{held, AreKnownBytes, known, room};
 ghost use Rattle.aig_format.specs.FileReading.{Raises};
 ghost use Rattle.aig_format.specs.state.ReaderAnswers.{of_token};
 
@@ -51,7 +51,7 @@ impl<'r, R: Read> Stream<'r, R> {
     #[inline]
     fn is_ready(&mut self) -> Result<bool, TokenFault>
         ensures same_reference { self.new.reader.ghost_name ≡ self.old.reader.ghost_name }
-        ensures same { IsKnown (R.left self.old.reader.now) →
+        ensures same { AreKnownBytes (R.left self.old.reader.now) →
             held self.new.start self.new.end self.new.buffer ++ known (R.left self.new.reader.now)
             ≡ held self.old.start self.old.end self.old.buffer ++ known (R.left self.old.reader.now) }
         ensures some { IfOk result (λ ready. IsTrue ready → self.new.start < self.new.end) }
@@ -59,7 +59,7 @@ impl<'r, R: Read> Stream<'r, R> {
             (self.new.start ≡ self.new.end) × (known (R.left self.new.reader.now) ≡ [])) }
         ensures remembered { IfOk result (λ ready. ready ≡ false → IsTrue self.new.ended) }
         ensures io { IfErr result (λ fault. fault ≡ TokenFault.Io) }
-        ensures told { IsKnown (R.left self.old.reader.now) → IsKnown (R.left self.new.reader.now) }
+        ensures reported { AreKnownBytes (R.left self.old.reader.now) → AreKnownBytes (R.left self.new.reader.now) }
         ensures failures { Raises (of_token result) (R.failures self.old.reader.now) (R.failures self.new.reader.now) }
         ensures never_more { room * R.reads_left self.new.reader.now + (self.new.end - self.new.start)
             ≤ room * R.reads_left self.old.reader.now + (self.old.end - self.old.start) }
@@ -81,7 +81,7 @@ impl<'r, R: Read> Stream<'r, R> {
     fn fill(&mut self) -> Result<bool, TokenFault>
         requires { self.old.start ≡ self.old.end }
         ensures same_reference { self.new.reader.ghost_name ≡ self.old.reader.ghost_name }
-        ensures same { IsKnown (R.left self.old.reader.now) →
+        ensures same { AreKnownBytes (R.left self.old.reader.now) →
             held self.new.start self.new.end self.new.buffer ++ known (R.left self.new.reader.now)
             ≡ known (R.left self.old.reader.now) }
         ensures some { IfOk result (λ ready. IsTrue ready → self.new.start < self.new.end) }
@@ -89,7 +89,7 @@ impl<'r, R: Read> Stream<'r, R> {
             (self.new.start ≡ self.new.end) × (known (R.left self.new.reader.now) ≡ [])) }
         ensures remembered { IfOk result (λ ready. ready ≡ false → IsTrue self.new.ended) }
         ensures io { IfErr result (λ fault. fault ≡ TokenFault.Io) }
-        ensures told { IsKnown (R.left self.old.reader.now) → IsKnown (R.left self.new.reader.now) }
+        ensures reported { AreKnownBytes (R.left self.old.reader.now) → AreKnownBytes (R.left self.new.reader.now) }
         ensures failures { Raises (of_token result) (R.failures self.old.reader.now) (R.failures self.new.reader.now) }
         ensures never_more { room * R.reads_left self.new.reader.now + (self.new.end - self.new.start)
             ≤ room * R.reads_left self.old.reader.now }
@@ -108,7 +108,7 @@ impl<'r, R: Read> Stream<'r, R> {
 }
 
 impl<'r, R: Read> Source for Stream<'r, R> {
-    ghost tells = { λ s. IsKnown (R.left s.reader.now) };
+    ghost reports = { λ s. AreKnownBytes (R.left s.reader.now) };
 
     ghost left = { λ s. held s.start s.end s.buffer ++ known (R.left s.reader.now) };
 
@@ -118,9 +118,9 @@ impl<'r, R: Read> Source for Stream<'r, R> {
 
     ghost more = { λ s. room * R.reads_left s.reader.now + (s.end - s.start) };
 
-    ghost hand = { λ s. held s.start s.end s.buffer };
+    ghost buffered = { λ s. held s.start s.end s.buffer };
 
-    ghost behind = { λ s. known (R.left s.reader.now) };
+    ghost unread = { λ s. known (R.left s.reader.now) };
 
     ghost ended = { λ s. IsTrue s.ended };
 

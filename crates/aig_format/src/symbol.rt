@@ -5,8 +5,8 @@ ghost use Rattle.std.specs.Map.{keys_of};
 ghost use Rattle.aig_parts.specs.Formed.{IsName};
 ghost use Rattle.aig_format.specs.state.Fits.{AreSymbols};
 ghost use Rattle.aig_format.specs.state.ReadingNames.{count_of, kind_of, after_c_at, letter_at, line_at, name_at};
-ghost use Rattle.aig_format.specs.state.ReadingNames.{position_at, symbol_at, symbols_at, names_at, IsSymbol};
-ghost use Rattle.aig_format.specs.state.Reads.{Reads, ReadsToken};
+ghost use Rattle.aig_format.specs.state.ReadingNames.{position_at, symbol_at, symbols_at, names_at, BeginsSymbol};
+ghost use Rattle.aig_format.specs.state.Reads.{ReadsAs, ReadsToken};
 
 use crate::header::Counts;
 use crate::source::Source;
@@ -66,7 +66,7 @@ fn after_c<S: Source>(s: &mut S) -> Result<Next, TokenFault>
 #[tactic(auto, unfolding(crate::specs::state::ReadingNames::letter_at))]
 fn letter<S: Source>(s: &mut S) -> Result<Next, TokenFault>
     ensures reads { ReadsToken S.Source s.old s.new result letter_at }
-    ensures lowers { IfOk result (λ next. IsSymbol next → S.more s.new < S.more s.old) }
+    ensures lowers { IfOk result (λ next. BeginsSymbol next → S.more s.new < S.more s.old) }
 {
     let at = s.at();
     match s.next()? {
@@ -91,7 +91,7 @@ fn line_length(bytes: &[u8]) -> usize
 
 /// Reads the bytes before the end of the line, which is taken.
 fn line<S: Source>(s: &mut S, bytes: &mut Vec<u8>) -> Result<(), Fault>
-    ensures reads { Reads S.Source s.old s.new (λ _. bytes.new.items) result line_at }
+    ensures reads { ReadsAs S.Source s.old s.new (λ _. bytes.new.items) result line_at }
     ensures no_end { OnOk result (All (λ b. b ≢ 10) bytes.new.items) }
 {
     bytes.clear();
@@ -112,7 +112,7 @@ fn line<S: Source>(s: &mut S, bytes: &mut Vec<u8>) -> Result<(), Fault>
 /// Reads a name and the end of its line.
 #[tactic(auto, unfolding(crate::specs::state::ReadingNames::name_at))]
 fn name<S: Source>(s: &mut S, bytes: &mut Vec<u8>) -> Result<(), Fault>
-    ensures reads { Reads S.Source s.old s.new (λ _. bytes.new.items) result name_at }
+    ensures reads { ReadsAs S.Source s.old s.new (λ _. bytes.new.items) result name_at }
     ensures name { OnOk result (IsName bytes.new.items) }
 {
     let at = s.at();
@@ -155,7 +155,7 @@ fn symbol<S: Source>(
     all: &mut SymbolList,
     bytes: &mut Vec<u8>,
 ) -> Result<(), Fault>
-    ensures reads { Reads S.Source s.old s.new (λ x. all.new) result (symbol_at counts.now all.old kind) }
+    ensures reads { ReadsAs S.Source s.old s.new (λ x. all.new) result (symbol_at counts.now all.old kind) }
     ensures symbols { AreSymbols counts.now all.old → OnOk result (AreSymbols counts.now all.new) }
 {
     let position = position(s, counts, kind, all)?;
@@ -172,7 +172,7 @@ fn symbols<S: Source>(
     counts: &Counts,
     all: &mut SymbolList,
 ) -> Result<bool, Fault>
-    ensures reads { Reads S.Source s.old s.new (λ comment. (all.new, comment)) result
+    ensures reads { ReadsAs S.Source s.old s.new (λ comment. (all.new, comment)) result
         (λ bytes. symbols_at counts.now (length bytes) all.old bytes) }
     ensures symbols { AreSymbols counts.now all.old → OnOk result (AreSymbols counts.now all.new) }
 {
@@ -188,7 +188,7 @@ fn symbols<S: Source>(
 
 /// All bytes that are left.
 fn rest<S: Source>(alloc: Global, s: &mut S) -> Result<Bytes, Fault>
-    ensures reads { Reads S.Source s.old s.new (λ x. x) result (λ bytes. Ok (bytes, [])) }
+    ensures reads { ReadsAs S.Source s.old s.new (λ x. x) result (λ bytes. Ok (bytes, [])) }
 {
     let mut bytes = Vec::new(alloc);
     while s.peek()?.is_some() {
@@ -207,7 +207,7 @@ pub(crate) fn read_names<S: Source>(
     s: &mut S,
     counts: &Counts,
 ) -> Result<Names, Fault>
-    ensures reads { Reads S.Source s.old s.new (λ x. x) result (names_at counts.now) }
+    ensures reads { ReadsAs S.Source s.old s.new (λ x. x) result (names_at counts.now) }
     ensures symbols { IfOk result (λ names. AreSymbols counts.now names.symbols) }
 {
     let mut all = SymbolList::new(alloc);

@@ -15,9 +15,9 @@ pub enum TokenFault {
 }
 
 impl From<TokenFault> for Fault {
-    ghost use Rattle.aig_format.specs.state.ReaderAnswers.{fault_of};
+    ghost use Rattle.aig_format.specs.state.ReaderAnswers.{file_fault_of};
 
-    ghost from_gives = { λ token fault. fault ≡ fault_of token };
+    ghost from_gives = { λ token fault. fault ≡ file_fault_of token };
 
     fn from(token: TokenFault) -> Fault {
         match token {

@@ -14,7 +14,7 @@ use Rattle.aig_base.specs.Value.{Fits}
 use Rattle.aig_base.proofs.circuits.EachUse.{each_use}
 use Rattle.aig_dump_header.specs.declared.header.SignalCounts.{SignalCounts}
 use Rattle.aig_dump_header.specs.Header as dump
-use Rattle.aig_sim.specs.Dump.{signals, IsFrame, AreFrames, closing}
+use Rattle.aig_sim.specs.Dump.{signals, IsFrameText, AreFrames, closing}
 use Rattle.aig_sim.specs.DumpHeader.{header, signal_counts}
 use Rattle.aig_values.specs.Trace.{AreValues}
 use Rattle.aig_laws.specs.Conversion.{HaveSameDumps}
@@ -77,7 +77,7 @@ module _ (raw : Raw) (circuit : IsCircuit raw) (order : List ℕ) (canonical : I
       (same_values raw circuit order canonical start rows fits t (signals raw) text lt signals_defined)
 
   frame_same : (t : ℕ) (text : List ℕ) → t < length rows
-      → IsFrame raw start rows t text ↔ IsFrame (renumbered raw order) start rows t text
+      → IsFrameText raw start rows t text ↔ IsFrameText (renumbered raw order) start rows t text
   frame_same zero text lt = (
     λ (cs, values, is). (cs, (shown_same 0 cs lt).0 values, is),
     λ (cs, values, is). (cs, (shown_same 0 cs lt).1 values, is),

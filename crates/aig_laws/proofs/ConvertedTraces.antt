@@ -16,7 +16,7 @@ use Rattle.aig_base.proofs.circuits.Circuits.{input_defined, latch_defined, next
 use Rattle.aig_base.proofs.lists.Gets.{All-by_get}
 use Rattle.aig_base.proofs.renumbered.NoOtherValue.{no_other_value}
 use Rattle.aig_base.proofs.renumbered.RenumberedValueLemmas.{renumbered_value}
-use Rattle.aig_values.specs.Trace.{AreValues, IsLine, AreLines}
+use Rattle.aig_values.specs.Trace.{AreValues, IsTraceLine, AreLines}
 use Rattle.aig_laws.specs.Conversion.{HaveSameTraces}
 
 -- a statement of equal lists
@@ -96,7 +96,7 @@ module _ (raw : Raw) (circuit : IsCircuit raw) (order : List ℕ) (canonical : I
       (same_values t (map (λ x. x.next) raw.latches) text lt (nexts_defined raw circuit.sound))
 
   line_same : (t : ℕ) (line : List ℕ) → t < length rows
-      → IsLine raw start rows t line ↔ IsLine (renumbered raw order) start rows t line
+      → IsTraceLine raw start rows t line ↔ IsTraceLine (renumbered raw order) start rows t line
   line_same t line lt = (
     λ h. record {
       state = h.state;

@@ -18,7 +18,7 @@ use Rattle.aig_base.proofs.renumbered.RenumberedReady.{latch_literal}
 use Rattle.aig_base.proofs.renumbered.RenumberedValueLemmas.{false_literal, true_literal}
 use Rattle.aig_sim.specs.declared.verdict.Verdict.{Verdict}
 use Rattle.aig_sim.specs.declared.verdict.Verdict.TheVariants as verdict
-use Rattle.aig_sim.specs.Verdict.{Allows, StartsWrong, IsNotOne, Applies}
+use Rattle.aig_sim.specs.Verdict.{Allows, StartsWrong, IsNotOne, VerdictApplies}
 use Rattle.aig_sim.specs.WitnessText.{Witness}
 use Rattle.aig_sim.proofs.VerdictLemmas.{bad_defined, constraint_defined}
 use Rattle.aig_laws.specs.Conversion.{HaveSameVerdicts}
@@ -119,7 +119,7 @@ module _ (raw : Raw) (circuit : IsCircuit raw) (order : List ℕ) (canonical : I
         go [] none = absurd (none refl)
         go (r ∷ rows) none = omega arith
 
-    applies_same : (v : Verdict) → Applies raw w v ↔ Applies (renumbered raw order) w v
+    applies_same : (v : Verdict) → VerdictApplies raw w v ↔ VerdictApplies (renumbered raw order) w v
     applies_same (verdict.Initial p) = wrong_same w.start p
     applies_same (verdict.Constraint t p) = (
       λ (lt, h). (lt, (not_one_same t p raw.constraints lt (constraint_defined raw circuit.sound)).0 h),

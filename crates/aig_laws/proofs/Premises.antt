@@ -10,7 +10,7 @@ use Rattle.aig_base.specs.Value as value
 use Rattle.aig_base.specs.Value.{Value}
 use Rattle.aig_sim.specs.declared.verdict.Verdict.{Verdict}
 use Rattle.aig_sim.specs.declared.verdict.Verdict.TheVariants as verdict
-use Rattle.aig_sim.specs.Verdict.{IsBefore, Applies, IsVerdict}
+use Rattle.aig_sim.specs.Verdict.{IsBefore, VerdictApplies, IsVerdict}
 use Rattle.aig_sim.specs.WitnessText.{Witness}
 use Rattle.aig_unroll.specs.FrameLiteral.{frame_literal}
 use Rattle.aig_unroll.specs.Unrolled.{unrolled}
@@ -79,7 +79,7 @@ confirmed_alone : IsVerdict an_input (witness_in an_input 1 0 0 []) verdict.Conf
 unfolding cut filled
 confirmed_alone = record { applies = tt; first = before }
   where
-    before : (u : Verdict) → IsBefore u verdict.Confirmed → Applies an_input (witness_in an_input 1 0 0 []) u → ⊥
+    before : (u : Verdict) → IsBefore u verdict.Confirmed → VerdictApplies an_input (witness_in an_input 1 0 0 []) u → ⊥
     before (verdict.Initial p) lt h = let e : None ≡ Some h.latch = h.latch_is in cc
     before (verdict.Constraint t p) lt h = let e : None ≡ Some h.1.literal = h.1.literal_is in cc
     before verdict.NotBad lt h =
@@ -132,7 +132,7 @@ not_bad = record {
   first = before;
 }
   where
-    before : (u : Verdict) → IsBefore u verdict.NotBad → Applies a_gate shown u → ⊥
+    before : (u : Verdict) → IsBefore u verdict.NotBad → VerdictApplies a_gate shown u → ⊥
     before (verdict.Initial p) lt h = let e : None ≡ Some h.latch = h.latch_is in cc
     before (verdict.Constraint t p) lt h = let e : None ≡ Some h.1.literal = h.1.literal_is in cc
     before verdict.NotBad lt h = lt

@@ -19,7 +19,7 @@ use Rattle.aig_sim.specs.declared.verdict.Verdict.TheVariants as verdict
 use Rattle.aig_sim.specs.Verdict.{Allows, StartsWrong, IsNotOne, IsVerdict}
 use Rattle.aig_sim.specs.WitnessText.{Witness}
 use Rattle.aig_sim.proofs.VerdictLemmas.{bad_defined, constraint_defined, reached}
-use Rattle.aig_unroll.specs.UnrolledValues.{IsAllowed, IsReached}
+use Rattle.aig_unroll.specs.UnrolledValues.{IsAllowed, ReachesBad}
 use Rattle.aig_values.proofs.TraceLemmas.{value_stays}
 use Rattle.aig_laws.specs.UnrolledWitness.{witness_at, ConfirmsReached}
 
@@ -120,7 +120,7 @@ module _ (raw : Raw) (circuit : IsCircuit raw) where
     not_other p s q literals one h =
         h.not_one (unique raw start rows circuit.sound (lengthened h.value_is) (one h.literal h.literal_is))
 
-    pub confirms : (p b : ℕ) → slice_get raw.bad p ≡ Some b → IsReached raw start rows t b
+    pub confirms : (p b : ℕ) → slice_get raw.bad p ≡ Some b → ReachesBad raw start rows t b
         → IsVerdict raw (witness_at start rows t p) verdict.Confirmed
     confirms p b at (bad, constraints) =
         reached raw (witness_at start rows t p) (none_wrong start allowed)
@@ -134,7 +134,7 @@ module _ (raw : Raw) (circuit : IsCircuit raw) where
         k)
 
     pub reaches : (p b : ℕ) → slice_get raw.bad p ≡ Some b
-        → IsVerdict raw (witness_at start rows t p) verdict.Confirmed → IsReached raw start rows t b
+        → IsVerdict raw (witness_at start rows t p) verdict.Confirmed → ReachesBad raw start rows t b
     reaches p b at h =
         let w = witness_at start rows t p in
         let last : length (take (t + 1) rows) - 1 ≡ t = omega (arith, short) in (

@@ -20,7 +20,7 @@ use Rattle.aig_sim.specs.WitnessText.{Witness, IsDecimal, SpellsWitness, HasWitn
 use Rattle.aig_sim.proofs.WitnessLemmas.{one_witness}
 use Rattle.aig_unroll.specs.FrameLiteral.{input_count}
 use Rattle.aig_unroll.specs.Unrolled.{unrolled}
-use Rattle.aig_unroll.specs.UnrolledValues.{IsAllowed, IsReached, unrolled_row}
+use Rattle.aig_unroll.specs.UnrolledValues.{IsAllowed, ReachesBad, unrolled_row}
 use Rattle.aig_unroll.proofs.GuardedValues.{all_bad}
 use Rattle.aig_laws.specs.UnrolledWitness.{rows_in, start_in, witness_in, MakesBad, ReachesInRow, ConfirmsRow}
 use Rattle.aig_laws.specs.UnrolledWitness.{ChecksRow, IsCheckedConfirmed, IsRun, IsConfirmedWithin, IsInRow}
@@ -31,7 +31,7 @@ module _ (raw : Raw) (circuit : IsCircuit raw) (order : List ℕ) (canonical : I
   -- the row of a run makes a bad literal 1 exactly where the run reaches it
   made_bad : (start : List Tern) (rows : List (List Tern)) → Fits raw start rows → IsAllowed raw start
       → (t p b : ℕ) → t < length rows → slice_get raw.bad p ≡ Some b
-      → MakesBad raw order (length rows) (unrolled_row raw start rows) t p ↔ IsReached raw start rows t b
+      → MakesBad raw order (length rows) (unrolled_row raw start rows) t p ↔ ReachesBad raw start rows t b
   made_bad start rows fits allowed t p b lt at =
       let (g, here, is) = all_bad raw circuit order canonical start rows fits allowed t p b lt at in (
         λ (h, there, v).
@@ -45,10 +45,10 @@ module _ (raw : Raw) (circuit : IsCircuit raw) (order : List ℕ) (canonical : I
   made_bad_in : (k : ℕ) (row start : List Tern) (rows : List (List Tern)) → length rows ≡ k
       → unrolled_row raw start rows ≡ row → Fits raw start rows → IsAllowed raw start
       → (t p b : ℕ) → t < k → slice_get raw.bad p ≡ Some b
-      → MakesBad raw order k row t p ↔ IsReached raw start rows t b
+      → MakesBad raw order k row t p ↔ ReachesBad raw start rows t b
   made_bad_in k row start rows frames is fits allowed t p b lt at =
-      subst (λ (r : List Tern). MakesBad raw order k r t p ↔ IsReached raw start rows t b) is
-      (subst (λ (n : ℕ). MakesBad raw order n (unrolled_row raw start rows) t p ↔ IsReached raw start rows t b) frames
+      subst (λ (r : List Tern). MakesBad raw order k r t p ↔ ReachesBad raw start rows t b) is
+      (subst (λ (n : ℕ). MakesBad raw order n (unrolled_row raw start rows) t p ↔ ReachesBad raw start rows t b) frames
       (made_bad start rows fits allowed t p b (omega (arith, frames, lt)) at))
 
   pub reaches_in_row : (k : ℕ) (row : List Tern) → length row ≡ input_count raw k → ReachesInRow raw order k row

@@ -15,7 +15,7 @@ use Rattle.aig_sim.specs.Verdict.{IsVerdict}
 use Rattle.aig_sim.specs.WitnessText.{Witness, IsDecimal, SpellsWitness, HasWitnessFault, witness_text}
 use Rattle.aig_unroll.specs.FrameLiteral.{input_count, is_uninitialised}
 use Rattle.aig_unroll.specs.Unrolled.{unrolled}
-use Rattle.aig_unroll.specs.UnrolledValues.{IsAllowed, IsReached, unrolled_row}
+use Rattle.aig_unroll.specs.UnrolledValues.{IsAllowed, ReachesBad, unrolled_row}
 
 -- k rows of a width, cut from the values one after the other
 unfoldable pub cut : (width k : ℕ) → List Tern → List (List Tern)
@@ -68,13 +68,13 @@ MakesBad raw order k row t p =
 abbrev pub ConfirmsReached : Raw → List Tern → List (List Tern) → Type 0
 ConfirmsReached raw start rows =
     (t p b : ℕ) → t < length rows → slice_get raw.bad p ≡ Some b
-    → IsReached raw start rows t b ↔ IsVerdict raw (witness_at start rows t p) verdict.Confirmed
+    → ReachesBad raw start rows t b ↔ IsVerdict raw (witness_at start rows t p) verdict.Confirmed
 
 -- the row makes a bad literal 1 exactly where the run in it reaches the property
 abbrev pub ReachesInRow : Raw → List ℕ → ℕ → List Tern → Type 0
 ReachesInRow raw order k row =
     (t p b : ℕ) → t < k → slice_get raw.bad p ≡ Some b
-    → MakesBad raw order k row t p ↔ IsReached raw (start_in raw k row) (rows_in raw k row) t b
+    → MakesBad raw order k row t p ↔ ReachesBad raw (start_in raw k row) (rows_in raw k row) t b
 
 -- and exactly where the witness in it is confirmed
 abbrev pub ConfirmsRow : Raw → List ℕ → ℕ → List Tern → Type 0

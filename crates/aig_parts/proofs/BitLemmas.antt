@@ -77,11 +77,11 @@ module _ (words : List ℕ) (number old : ℕ) (inside : number / 64 < length wo
       )
 
 -- the same, with words that were made before
-pub inserted_behind : (before words : List ℕ) (number old : ℕ) → ((w : ℕ) → get_or words w 0 ≡ get_or before w 0)
+pub inserted_after : (before words : List ℕ) (number old : ℕ) → ((w : ℕ) → get_or words w 0 ≡ get_or before w 0)
     → number / 64 < length words → old ≡ get_or words (number / 64) old → (n : ℕ)
     → HasBit (set words (number / 64) (bit_or old (1 * 2 ^ (number % 64) % 18446744073709551616))) n
     ↔ (HasBit before n ⊎ (n ≡ number))
-inserted_behind before words number old same inside is n =
+inserted_after before words number old same inside is n =
     let one = inserted words number old inside is n in
     let two = same_bits words before same n in (
       λ h. elim (one.0 h) [ inl k ↦ inl (two.0 k) | inr e ↦ inr e ],

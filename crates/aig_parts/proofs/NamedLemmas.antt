@@ -7,7 +7,7 @@ use Rattle.aig_parts.specs.declared.symbols.Kind.{Kind}
 use Rattle.aig_parts.specs.declared.symbols.Kind.TheVariants.{Input, Latch, Output, Bad, Constraint, Justice, Fairness}
 use Rattle.aig_parts.specs.state.Bits.{HasBit}
 use Rattle.aig_parts.specs.SymbolPlaces.{Key}
-use Rattle.aig_parts.specs.state.NamedEntries.{section_number, page_of, IsMarked}
+use Rattle.aig_parts.specs.state.NamedEntries.{section_number, page_of, IsMarkedEntry}
 use Rattle.aig_parts.proofs.BitLemmas.{past}
 
 -- ---- pages
@@ -41,7 +41,7 @@ section_back Constraint = refl
 section_back Justice = refl
 section_back Fairness = refl
 
--- a page and a place in it tell the entry
+-- a page and a place in it determine the entry
 same_entry : (j k : Key) → page_of j ≡ page_of k → j.1 % 16384 ≡ k.1 % 16384 → j ≡ k
 same_entry j k e m =
     let a = few j.0 in
@@ -52,15 +52,15 @@ same_entry j k e m =
     λ i. (kind i, position i)
 
 -- a page of no words, or after the last, has no entry
-pub no_page : (pages : List (List ℕ)) (k : Key) → length pages ≤ page_of k → IsMarked pages k → ⊥
-unfolding IsMarked
+pub no_page : (pages : List (List ℕ)) (k : Key) → length pages ≤ page_of k → IsMarkedEntry pages k → ⊥
+unfolding IsMarkedEntry
 no_page pages k le h =
     let e = get_or_past pages (page_of k) [] le in
     past [] (k.1 % 16384) (omega arith) (subst (λ (ws : List ℕ). HasBit ws (k.1 % 16384)) e h)
 
 pub same_marks : (pages others : List (List ℕ)) → ((p : ℕ) → get_or pages p [] ≡ get_or others p []) → (k : Key)
-    → IsMarked pages k ↔ IsMarked others k
-unfolding IsMarked
+    → IsMarkedEntry pages k ↔ IsMarkedEntry others k
+unfolding IsMarkedEntry
 same_marks pages others same k =
     let e = same (page_of k) in
     let P : List ℕ → Type 0 = λ ws. HasBit ws (k.1 % 16384) in (subst P e, subst P (sym e))
@@ -68,8 +68,8 @@ same_marks pages others same k =
 -- a page gets the bit of an entry
 pub marked : (pages : List (List ℕ)) (k : Key) (words : List ℕ) → page_of k < length pages
     → ((n : ℕ) → HasBit words n ↔ (HasBit (get_or pages (page_of k) []) n ⊎ (n ≡ k.1 % 16384))) → (j : Key)
-    → IsMarked (set pages (page_of k) words) j ↔ (IsMarked pages j ⊎ (j ≡ k))
-unfolding IsMarked
+    → IsMarkedEntry (set pages (page_of k) words) j ↔ (IsMarkedEntry pages j ⊎ (j ≡ k))
+unfolding IsMarkedEntry
 marked pages k words inside bits j = elim (cases_eq (page_of j) (page_of k)) [
   | inl e ↦
       let now : get_or (set pages (page_of k) words) (page_of j) [] ≡ words =
@@ -94,8 +94,8 @@ marked pages k words inside bits j = elim (cases_eq (page_of j) (page_of k)) [
 
 -- a page that is read
 pub mark_read : (pages : List (List ℕ)) (k : Key) (page : ℕ) (words : List ℕ) → page ≡ page_of k → page < length pages
-    → words ≡ get_or pages page words → HasBit words (k.1 % 16384) ↔ IsMarked pages k
-unfolding IsMarked
+    → words ≡ get_or pages page words → HasBit words (k.1 % 16384) ↔ IsMarkedEntry pages k
+unfolding IsMarkedEntry
 mark_read pages k page words at inside is =
     let e : words ≡ get_or pages (page_of k) [] =
     get_or_read pages page words inside is [] ∙ ap (λ (p : ℕ). get_or pages p []) at in
@@ -106,7 +106,7 @@ module _ {E : Type 0} (before pages : List (List ℕ)) (k : Key) (page : ℕ) (o
   pub set_page : (r : Result (Unit {0}) E) → page ≡ page_of k
       → ((p : ℕ) → get_or pages p [] ≡ get_or before p []) → page < length pages → old ≡ get_or pages page old
       → OnOk r ((n : ℕ) → HasBit new n ↔ (HasBit old n ⊎ (n ≡ k.1 % 16384)))
-      → OnOk r ((j : Key) → IsMarked (set pages page new) j ↔ (IsMarked before j ⊎ (j ≡ k)))
+      → OnOk r ((j : Key) → IsMarkedEntry (set pages page new) j ↔ (IsMarkedEntry before j ⊎ (j ≡ k)))
   set_page (Ok x) at same inside is bits =
       λ j.
       let e : old ≡ get_or pages (page_of k) [] =
@@ -114,7 +114,7 @@ module _ {E : Type 0} (before pages : List (List ℕ)) (k : Key) (page : ℕ) (o
       let one = marked pages k new (subst (λ (p : ℕ). p < length pages) at inside)
       (subst (λ (ws : List ℕ). (n : ℕ) → HasBit new n ↔ (HasBit ws n ⊎ (n ≡ k.1 % 16384))) e bits) j in
       let two = same_marks pages before same j in
-      let P : ℕ → Type 0 = λ p. IsMarked (set pages p new) j in (
+      let P : ℕ → Type 0 = λ p. IsMarkedEntry (set pages p new) j in (
         λ h. elim (one.0 (subst P at h)) [ inl m ↦ inl (two.0 m) | inr i ↦ inr i ],
         λ h. subst P (sym at) (one.1 (elim h [ inl m ↦ inl (two.1 m) | inr i ↦ inr i ])),
       )
@@ -122,12 +122,12 @@ module _ {E : Type 0} (before pages : List (List ℕ)) (k : Key) (page : ℕ) (o
 
   pub unset_page : (r : Result (Unit {0}) E) → page ≡ page_of k
       → ((p : ℕ) → get_or pages p [] ≡ get_or before p []) → page < length pages → old ≡ get_or pages page old
-      → OnErr r (new ≡ old) → OnErr r ((j : Key) → IsMarked (set pages page new) j ↔ IsMarked before j)
+      → OnErr r (new ≡ old) → OnErr r ((j : Key) → IsMarkedEntry (set pages page new) j ↔ IsMarkedEntry before j)
   unset_page (Ok x) at same inside is stays = tt
   unset_page (Err x) at same inside is stays =
       let back : set pages page new ≡ pages =
       ap (λ (ws : List ℕ). set pages page ws) (stays ∙ is) ∙ set-get_or pages page old in
-      λ j. subst (λ (ps : List (List ℕ)). IsMarked ps j ↔ IsMarked before j) (sym back) (same_marks pages before same j)
+      λ j. subst (λ (ps : List (List ℕ)). IsMarkedEntry ps j ↔ IsMarkedEntry before j) (sym back) (same_marks pages before same j)
 
 pub on_error : {T E P : Type 0} (r : Result T E) → P → OnErr r P
 on_error (Ok x) p = tt

@@ -12,7 +12,7 @@ use Rattle.indexmap.specs.IndexMap.{IndexMap, insert_entry}
 use Rattle.aig_parts.proofs.NamedLemmas.{no_page}
 use Rattle.aig_parts.proofs.SymbolKeys.{key_eq, insert_at_end}
 use Rattle.aig_parts.specs.SymbolPlaces.{Key, symbol_in, symbols_in}
-use Rattle.aig_parts.specs.state.NamedEntries.{IsPlaceIn, IsMarked, AreListed}
+use Rattle.aig_parts.specs.state.NamedEntries.{IsPlaceIn, IsMarkedEntry, AreNamedEntries}
 
 -- the entries of symbols
 pub keys_in : (text : List ℕ) (es : List (Key × Place)) → keys_of (symbols_in text es) ≡ keys_of es
@@ -122,18 +122,18 @@ entry_more m es i e is inside once so_far =
 
 -- ---- symbols as they are read
 
-pub listed_none : (text : List ℕ) → AreListed [] [] text
+pub listed_none : (text : List ℕ) → AreNamedEntries [] [] text
 listed_none text = record {
   places = All-nil (IsPlaceIn text);
   marks = λ k. (λ h. absurd (no_page [] k (omega arith) h), λ (i, lt, is). absurd (omega (arith, lt)));
   once = λ i j d lt inside. absurd (omega (arith, inside));
 }
 
-module _ (pages pages' : List (List ℕ)) (es : List (Key × Place)) (text text' : List ℕ) (listed : AreListed pages es text)
+module _ (pages pages' : List (List ℕ)) (es : List (Key × Place)) (text text' : List ℕ) (listed : AreNamedEntries pages es text)
   where
     -- bytes that are no name yet
-    pub listed_longer : (more : List ℕ) → text' ≡ text ++ more → ((j : Key) → IsMarked pages' j ↔ IsMarked pages j)
-        → AreListed pages' es text'
+    pub listed_longer : (more : List ℕ) → text' ≡ text ++ more → ((j : Key) → IsMarkedEntry pages' j ↔ IsMarkedEntry pages j)
+        → AreNamedEntries pages' es text'
     listed_longer more is same = record {
       places = subst (λ (t : List ℕ). All (IsPlaceIn t) es) (sym is) (places_stay text more es listed.places);
       marks = λ j. (λ h. (listed.marks j).0 ((same j).0 h), λ h. (same j).1 ((listed.marks j).1 h));
@@ -146,7 +146,7 @@ module _ (pages pages' : List (List ℕ)) (es : List (Key × Place)) (text text'
 
       -- one more entry
       pub listed_more : text' ≡ text ++ name → p.start ≡ length text → p.end ≡ length text'
-          → ((j : Key) → IsMarked pages' j ↔ (IsMarked pages j ⊎ (j ≡ k))) → AreListed pages' (es ++ (k, p) ∷ []) text'
+          → ((j : Key) → IsMarkedEntry pages' j ↔ (IsMarkedEntry pages j ⊎ (j ≡ k))) → AreNamedEntries pages' (es ++ (k, p) ∷ []) text'
       listed_more is start end more = record {
         places = place_more text name text' es k p listed.places is start end;
         marks = λ j. (

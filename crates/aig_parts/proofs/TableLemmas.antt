@@ -19,7 +19,7 @@ use Rattle.aig_parts.specs.declared.symbols.Kind.TheVariants.{Input}
 use Rattle.aig_parts.specs.SymbolPlaces.{Key}
 use Rattle.std.specs.Hash.DefaultHasher as sip
 use Rattle.aig_parts.specs.state.SymbolHash.{mix, mixed_of}
-use Rattle.aig_parts.specs.state.SymbolTable.{number_of, Ascend, IsTable}
+use Rattle.aig_parts.specs.state.SymbolTable.{key_number, Ascend, IsSymbolTable}
 
 -- an entry to read where there is none
 abbrev pub nowhere : Key × Place
@@ -33,10 +33,10 @@ key_at es i d k inside = get_or-map (λ (x : Key × Place). x.0) es i d k inside
 
 -- one more of the first ones
 pub ascend_more : (es : List (Key × Place)) (i : ℕ) (d : Key × Place) → 0 < i → i < length es
-    → number_of (get_or es (i - 1) d).0 < number_of (get_or es i d).0 → Ascend (take i es) → Ascend (take (i + 1) es)
+    → key_number (get_or es (i - 1) d).0 < key_number (get_or es i d).0 → Ascend (take i es) → Ascend (take (i + 1) es)
 ascend_more es i d some inside up ascend =
     let size : length (take i es) ≡ i = length-take-le i es (omega arith) in
-    let R : Key × Place → Key × Place → Type 0 = λ x y. number_of x.0 < number_of y.0 in
+    let R : Key × Place → Key × Place → Type 0 = λ x y. key_number x.0 < key_number y.0 in
     let last = get_or es i d in
     let below : (k : ℕ) (e : Key × Place) → k < length (take i es) → R (get_or (take i es) k e) last = λ k e lt.
     let end : get_or (take i es) (i - 1) e ≡ get_or es (i - 1) d =
@@ -45,7 +45,7 @@ ascend_more es i d some inside up ascend =
       | inl same ↦ subst (λ (x : Key × Place). R x last) (sym (ap (λ (n : ℕ). get_or (take i es) n e) same ∙ end)) up
       | inr other ↦
           let step = ascend k (i - 1) e (omega (arith, size)) (omega (arith, size)) in
-          let value = ap (λ (x : Key × Place). number_of x.0) end in
+          let value = ap (λ (x : Key × Place). key_number x.0) end in
           omega (arith, step, value, up)
     ] in
     subst (λ (xs : List (Key × Place)). Ascend xs) (sym (take_more es i d inside))
@@ -53,40 +53,40 @@ ascend_more es i d some inside up ascend =
 
 -- a search among entries that ascend
 module _ (es : List (Key × Place)) (ascend : Ascend es) (k : Key) where
-  rise : IsNonDecreasingBy (λ (e : Key × Place). ordering_index (nat_cmp (number_of e.0) (number_of k))) es
+  rise : IsNonDecreasingBy (λ (e : Key × Place). ordering_index (nat_cmp (key_number e.0) (key_number k))) es
   rise i j d le lt =
-      let up : number_of (get_or es i d).0 ≤ number_of (get_or es j d).0 = elim (cases_eq i j) [
-        | inl same ↦ omega (arith, ap (λ (n : ℕ). number_of (get_or es n d).0) same)
+      let up : key_number (get_or es i d).0 ≤ key_number (get_or es j d).0 = elim (cases_eq i j) [
+        | inl same ↦ omega (arith, ap (λ (n : ℕ). key_number (get_or es n d).0) same)
         | inr other ↦ omega (arith, ascend i j d (omega arith) lt)
       ] in
       grind (arith, nat_tests)
 
   pub absent_in_gap : (at : ℕ)
-      → IsBinarySearchResult (λ (e : Key × Place). nat_cmp (number_of e.0) (number_of k)) es (Err at)
+      → IsBinarySearchResult (λ (e : Key × Place). nat_cmp (key_number e.0) (key_number k)) es (Err at)
       → Contains (keys_of es) k → ⊥
   absent_in_gap at split (j, lt, is) =
       let inside : j < length es = omega (arith, length-keys_of es) in
-      let same : number_of (get_or es j nowhere).0 ≡ number_of k =
-      ap number_of (sym (key_at es j nowhere k inside) ∙ is) in
+      let same : key_number (get_or es j nowhere).0 ≡ key_number k =
+      ap key_number (sym (key_at es j nowhere k inside) ∙ is) in
       elim (cases_lt j at) [
         | inl below ↦
-            let less : number_of (get_or es j nowhere).0 < number_of k =
-            ranked _ (number_of k) _ (sym ((split rise).0 j nowhere (omega arith) below)) in
+            let less : key_number (get_or es j nowhere).0 < key_number k =
+            ranked _ (key_number k) _ (sym ((split rise).0 j nowhere (omega arith) below)) in
             omega (arith, less, same)
-        | inr behind ↦
-            let more : number_of k < number_of (get_or es j nowhere).0 =
-            ranked _ (number_of k) _ (sym ((split rise).1 j nowhere behind inside)) in
+        | inr appended ↦
+            let more : key_number k < key_number (get_or es j nowhere).0 =
+            ranked _ (key_number k) _ (sym ((split rise).1 j nowhere appended inside)) in
             omega (arith, more, same)
       ]
 
   pub absent_but_number : (at : ℕ) (d : Key × Place) → at < length es
-      → IsBinarySearchResult (λ (e : Key × Place). nat_cmp (number_of e.0) (number_of k)) es (Ok at)
+      → IsBinarySearchResult (λ (e : Key × Place). nat_cmp (key_number e.0) (key_number k)) es (Ok at)
       → (get_or es at d).0 ≢ k → Contains (keys_of es) k → ⊥
   absent_but_number at d within equal differs (j, lt, is) =
       let inside : j < length es = omega (arith, length-keys_of es) in
-      let there : number_of (get_or es at d).0 ≡ number_of k = ranked _ (number_of k) _ (sym (equal d)) in
+      let there : key_number (get_or es at d).0 ≡ key_number k = ranked _ (key_number k) _ (sym (equal d)) in
       let here : (get_or es j d).0 ≡ k = sym (key_at es j d k inside) ∙ is in
-      let same = ap number_of here in
+      let same = ap key_number here in
       elim (cases_eq j at) [
         | inl e ↦ differs (ap (λ (n : ℕ). (get_or es n d).0) (sym e) ∙ here)
         | inr ne ↦ elim (cases_lt j at) [
@@ -96,13 +96,13 @@ module _ (es : List (Key × Place)) (ascend : Ascend es) (k : Key) where
       ]
 
 -- an entry after the last one comes after all
-pub comes_last : (es : List (Key × Place)) (n : ℕ) (d : Key × Place) → Ascend es → number_of (get_or es (length es - 1) d).0 < n
-    → All (λ x. number_of x.0 < n) es
+pub comes_last : (es : List (Key × Place)) (n : ℕ) (d : Key × Place) → Ascend es → key_number (get_or es (length es - 1) d).0 < n
+    → All (λ x. key_number x.0 < n) es
 comes_last es n d ascend up k e lt =
     let end : get_or es (length es - 1) d ≡ get_or es (length es - 1) e = get_or_default es (length es - 1) d e (omega arith) in
-    let value = ap (λ (x : Key × Place). number_of x.0) end in
+    let value = ap (λ (x : Key × Place). key_number x.0) end in
     elim (cases_eq k (length es - 1)) [
-      | inl same ↦ omega (arith, ap (λ (i : ℕ). number_of (get_or es i e).0) same, value, up)
+      | inl same ↦ omega (arith, ap (λ (i : ℕ). key_number (get_or es i e).0) same, value, up)
       | inr other ↦ omega (arith, ascend k (length es - 1) e (omega arith) (omega arith), value, up)
     ]
 
@@ -116,9 +116,9 @@ once_more es k p once fresh =
     (λ i d lt e. fresh (subst (λ (x : Key). Contains (keys_of es) x) e (Contains-get_or (keys_of es) i d lt))))
 
 -- the entries from a place on
-pub once_behind : (es : List (Key × Place)) (n : ℕ) → AllPairs (λ x y. x ≢ y) (keys_of es)
+pub once_after : (es : List (Key × Place)) (n : ℕ) → AllPairs (λ x y. x ≢ y) (keys_of es)
     → AllPairs (λ x y. x ≢ y) (keys_of (drop n es))
-once_behind es n once i j d lt inside e =
+once_after es n once i j d lt inside e =
     let w : Key × Place = (d, record { start = 0; end = 0 }) in
     let size = length-drop n es in
     let within : j < length (drop n es) = omega (arith, length-keys_of (drop n es)) in
@@ -131,7 +131,7 @@ once_behind es n once i j d lt inside e =
 
 -- the first entries, and the others
 pub parted : (es : List (Key × Place)) (n : ℕ) → Ascend (take n es) → AllPairs (λ x y. x ≢ y) (keys_of es)
-    → IsTable (take n es) (drop n es)
+    → IsSymbolTable (take n es) (drop n es)
 parted es n ascend once = record {
   ascend = ascend;
   once = subst (λ (xs : List (Key × Place)). AllPairs (λ x y. x ≢ y) (keys_of xs)) (sym (take-append-drop n es)) once;
@@ -147,16 +147,16 @@ mixed_more es i d lt =
 
 -- ---- one more entry of a table
 
-module _ (ascending others : List (Key × Place)) (k : Key) (p : Place) (table : IsTable ascending others)
+module _ (ascending others : List (Key × Place)) (k : Key) (p : Place) (table : IsSymbolTable ascending others)
     (fresh : Contains (keys_of (ascending ++ others)) k → ⊥) where
   -- after the others
-  pub behind : ascending ++ (others ++ (k, p) ∷ []) ≡ (ascending ++ others) ++ (k, p) ∷ []
-  behind = sym (append_assoc ascending others ((k, p) ∷ []))
+  pub appended : ascending ++ (others ++ (k, p) ∷ []) ≡ (ascending ++ others) ++ (k, p) ∷ []
+  appended = sym (append_assoc ascending others ((k, p) ∷ []))
 
-  pub pushed_behind : IsTable ascending (others ++ (k, p) ∷ [])
-  pushed_behind = record {
+  pub pushed_after : IsSymbolTable ascending (others ++ (k, p) ∷ [])
+  pushed_after = record {
     ascend = table.ascend;
-    once = subst (λ (es : List (Key × Place)). AllPairs (λ x y. x ≢ y) (keys_of es)) (sym behind)
+    once = subst (λ (es : List (Key × Place)). AllPairs (λ x y. x ≢ y) (keys_of es)) (sym appended)
         (once_more (ascending ++ others) k p table.once fresh);
   }
 
@@ -171,9 +171,9 @@ module _ (ascending others : List (Key × Place)) (k : Key) (p : Place) (table :
         ∙ append-nil (ascending ++ (k, p) ∷ [])
         ∙ ap (λ (es : List (Key × Place)). es ++ (k, p) ∷ []) (sym whole)
 
-    pub pushed : All (λ x. number_of x.0 < number_of k) ascending → IsTable (ascending ++ (k, p) ∷ []) others
+    pub pushed : All (λ x. key_number x.0 < key_number k) ascending → IsSymbolTable (ascending ++ (k, p) ∷ []) others
     pushed low = record {
-      ascend = all_pairs_push (λ x y. number_of x.0 < number_of y.0) ascending (k, p) table.ascend low;
+      ascend = all_pairs_push (λ x y. key_number x.0 < key_number y.0) ascending (k, p) table.ascend low;
       once = subst (λ (es : List (Key × Place)). AllPairs (λ x y. x ≢ y) (keys_of es)) (sym pushed_view)
           (once_more (ascending ++ others) k p table.once fresh);
     }

@@ -1,7 +1,7 @@
 //! Which entries have a name.
 ghost use Rattle.std.specs.Prelude.{◌≡◌, ◌⊎◌, ◌↔◌, ℕ, ◌^◌, ◌<◌, ◌≤◌, [], length, slice_index_or, IsTrue, OnOk, OnErr};
 ghost use Rattle.aig_parts.specs.SymbolPlaces.{Key};
-ghost use Rattle.aig_parts.specs.state.NamedEntries.{section_number, page_of, IsMarked};
+ghost use Rattle.aig_parts.specs.state.NamedEntries.{section_number, page_of, IsMarkedEntry};
 
 use crate::bits::BitSet;
 use crate::symbols::Kind;
@@ -64,7 +64,7 @@ impl NamedEntries {
 
     /// Whether an entry has a name.
     pub(crate) fn contains(&self, kind: Kind, position: u32) -> bool
-        ensures { IsTrue result ↔ IsMarked self.now (kind, position) }
+        ensures { IsTrue result ↔ IsMarkedEntry self.now (kind, position) }
     {
         let page = page_of(kind, position);
         page < self.pages.len() && self.pages[page].contains((position % PAGE) as usize)
@@ -84,8 +84,8 @@ impl NamedEntries {
 
     /// Notes that an entry has a name. Where memory is refused none more has one.
     pub(crate) fn insert(&mut self, kind: Kind, position: u32) -> Result<(), AllocError>
-        ensures ok { OnOk result ((k : Key) → IsMarked self.new k ↔ (IsMarked self.old k ⊎ (k ≡ (kind, position)))) }
-        ensures err { OnErr result ((k : Key) → IsMarked self.new k ↔ IsMarked self.old k) }
+        ensures ok { OnOk result ((k : Key) → IsMarkedEntry self.new k ↔ (IsMarkedEntry self.old k ⊎ (k ≡ (kind, position)))) }
+        ensures err { OnErr result ((k : Key) → IsMarkedEntry self.new k ↔ IsMarkedEntry self.old k) }
     {
         let page = page_of(kind, position);
         self.make_pages(page + 1)?;

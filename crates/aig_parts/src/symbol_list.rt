@@ -8,7 +8,7 @@ use crate::symbols::{Kind, Symbols};
 use std::alloc::{AllocError, Global};
 use std::marker::Model;
 
-/// Symbols as they are read, in the order of the file. A bit tells whether an entry has a name; the table that looks
+/// Symbols as they are read, in the order of the file. A bit says whether an entry has a name; the table that looks
 /// names up is made after the last one.
 #[derive(Drop, Debug)]
 pub struct SymbolList {
@@ -21,13 +21,13 @@ impl Model for SymbolList {
     ghost use Rattle.std.specs.Prelude.{List, ℕ};
     ghost use Rattle.aig_parts.specs.declared.symbols.Kind.{Kind};
     ghost use Rattle.aig_parts.specs.SymbolPlaces.{symbols_in};
-    ghost use Rattle.aig_parts.specs.state.NamedEntries.{AreListed};
+    ghost use Rattle.aig_parts.specs.state.NamedEntries.{AreNamedEntries};
 
     ghost Value = { List ((Kind × ℕ) × List ℕ) };
 
     ghost view = { λ a. symbols_in a.text.items a.entries.items };
 
-    ghost invariant = { λ a. AreListed a.named a.entries.items a.text.items };
+    ghost invariant = { λ a. AreNamedEntries a.named a.entries.items a.text.items };
 }
 
 impl SymbolList {

@@ -5,7 +5,7 @@ ghost use Rattle.std.specs.Prelude.{IsTrue, IfOk, IfSome, IfNone, OnOk, OnErr};
 ghost use Rattle.std.specs.Map.{keys_of};
 ghost use Rattle.indexmap.specs.IndexMap.{hasher_of};
 ghost use Rattle.aig_parts.specs.state.SymbolHash.{mix, hash_of_entries};
-ghost use Rattle.aig_parts.specs.state.SymbolTable.{number_of, Ascend};
+ghost use Rattle.aig_parts.specs.state.SymbolTable.{key_number, Ascend};
 
 use crate::named::section_number;
 use crate::symbol_hash::SymbolHash;
@@ -30,18 +30,18 @@ pub(crate) struct SymbolTable {
 impl Model for SymbolTable {
     ghost use Rattle.std.specs.Prelude.{◌++◌};
     ghost use Rattle.indexmap.specs.IndexMap.{hasher_of};
-    ghost use Rattle.aig_parts.specs.state.SymbolTable.{Table, IsTable};
+    ghost use Rattle.aig_parts.specs.state.SymbolTable.{Table, IsSymbolTable};
 
     ghost Value = { Table };
 
     ghost view = { λ a. record { entries = a.ascending.items ++ a.others.entries; hash = hasher_of a.others } };
 
-    ghost invariant = { λ a. IsTable a.ascending.items a.others.entries };
+    ghost invariant = { λ a. IsSymbolTable a.ascending.items a.others.entries };
 }
 
 // Entries by section, and within one by position.
-fn number_of(entry: (Kind, u32)) -> u64
-    ensures { result ≡ number_of entry }
+fn key_number(entry: (Kind, u32)) -> u64
+    ensures { result ≡ key_number entry }
 {
     section_number(entry.0) as u64 * SECTION + entry.1 as u64
 }
@@ -52,7 +52,7 @@ fn ascending_count(entries: &[((Kind, u32), Place)]) -> usize
     ensures ascend { Ascend (take result entries.now) }
 {
     for place in 1..entries.len() {
-        if number_of(entries[place - 1].0) >= number_of(entries[place].0) {
+        if key_number(entries[place - 1].0) >= key_number(entries[place].0) {
             return place;
         }
     }
@@ -63,7 +63,7 @@ fn ascending_count(entries: &[((Kind, u32), Place)]) -> usize
 fn mix(mixed: &mut DefaultHasher, entry: (Kind, u32))
     ensures number { mixed.new ≡ mix mixed.old entry }
 {
-    mixed.write_u64(number_of(entry));
+    mixed.write_u64(key_number(entry));
 }
 
 // Hashers by keys that are made from all these entries.
@@ -100,11 +100,11 @@ fn others_of(
 }
 
 // Whether an entry comes after all of these, which ascend.
-fn comes_behind(entries: &[((Kind, u32), Place)], entry: (Kind, u32)) -> bool
+fn comes_after(entries: &[((Kind, u32), Place)], entry: (Kind, u32)) -> bool
     requires { Ascend entries.now }
-    ensures { IsTrue result → All (λ x. number_of x.0 < number_of entry) entries.now }
+    ensures { IsTrue result → All (λ x. key_number x.0 < key_number entry) entries.now }
 {
-    entries.is_empty() || number_of(entries[entries.len() - 1].0) < number_of(entry)
+    entries.is_empty() || key_number(entries[entries.len() - 1].0) < key_number(entry)
 }
 
 // The place of an entry's name, among entries that ascend.
@@ -113,8 +113,8 @@ fn find_ascending(entries: &[((Kind, u32), Place)], entry: (Kind, u32)) -> Optio
     ensures some { IfSome result (λ place. Contains entries.now (entry, place)) }
     ensures none { IfNone result (Contains (keys_of entries.now) entry → ⊥) }
 {
-    let number = number_of(entry);
-    match entries.binary_search_by_key(&number, |(other, _)| number_of(*other)) {
+    let number = key_number(entry);
+    match entries.binary_search_by_key(&number, |(other, _)| key_number(*other)) {
         Ok(at) if entries[at].0 == entry => Some(entries[at].1),
         _ => None,
     }
@@ -177,7 +177,7 @@ impl SymbolTable {
         ensures err { OnErr result (self.new.entries ≡ self.old.entries) }
         ensures hash { self.new.hash ≡ self.old.hash }
     {
-        if self.others.is_empty() && comes_behind(&self.ascending, entry) {
+        if self.others.is_empty() && comes_after(&self.ascending, entry) {
             self.ascending.push((entry, place))?;
         } else {
             self.others.insert(entry, place)?;

@@ -38,12 +38,12 @@ unfolding AreDigits
 digit_within [] xs x h = h 0 0 (omega arith)
 digit_within (y ∷ a) xs x h = digit_within a xs x (λ k d lt. h (suc k) d (omega arith))
 
--- a byte behind the first of a number's bytes is a digit
-pub digit_behind : (a xs : List ℕ) (x n : ℕ) → n < 2 ^ 32 → a ++ x ∷ xs ≡ decimal n → (48 ≤ x) × (x ≤ 57)
+-- a byte after the first of a number's bytes is a digit
+pub digit_after : (a xs : List ℕ) (x n : ℕ) → n < 2 ^ 32 → a ++ x ∷ xs ≡ decimal n → (48 ≤ x) × (x ≤ 57)
 unfolding IsDigit
-digit_behind a xs x n small e = digit_within a xs x (subst AreDigits (sym e) (digits-decimal n small))
+digit_after a xs x n small e = digit_within a xs x (subst AreDigits (sym e) (digits-decimal n small))
 
--- a number with a digit behind it
+-- a number with a digit after it
 pub digit_joins : (m x : ℕ) → 0 < m → 48 ≤ x → x ≤ 57 → m * 10 + (x - 48) < 2 ^ 64
     → decimal m ++ x ∷ [] ≡ decimal (m * 10 + (x - 48))
 digit_joins m x some ge le small =
@@ -85,12 +85,12 @@ first_digits n small = decimal_by_steps (λ m ds. IsGreatest m) one more n small
           | inl lt ↦ all_greatest n m k ns ms (omega (arith, lt, ap length step, length-append front last)) e
         ]
 
--- digits behind a number make it greater
+-- digits after a number make it greater
 pub grows : (m n x : ℕ) (xs : List ℕ) → 0 < m → m < 2 ^ 32 → n < 2 ^ 32 → decimal m ++ x ∷ xs ≡ decimal n
     → m * 10 + (x - 48) ≤ n
 unfolding IsGreatest
 grows m n x xs some ms ns e =
-    let range = digit_behind (decimal m) xs x n ns e in
+    let range = digit_after (decimal m) xs x n ns e in
     let next : ℕ = m * 10 + (x - 48) in
     let joined : decimal m ++ x ∷ [] ≡ decimal next = digit_joins m x some range.0 range.1 (omega (arith, range.1)) in
     let split : decimal next ++ xs ≡ decimal n =
@@ -119,7 +119,7 @@ no_zero n small some xs e =
         let p = h (omega arith) in
         (omega (arith, p.0, length-append ds ((48 + m % 10) ∷ [])), longer ds (48 + m % 10) p.0 p.1)
 
--- behind a 0 in front stands nothing
+-- after a 0 in front stands nothing
 pub alone : (n : ℕ) (x : ℕ) (xs : List ℕ) → n < 2 ^ 32 → 48 ∷ (x ∷ xs) ≡ decimal n → ⊥
 alone zero x xs small e = no (e ∙ decimal_digit 0 (omega arith))
   where

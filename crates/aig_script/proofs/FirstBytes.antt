@@ -1,11 +1,11 @@
--- From the first bytes of a line to the line: they tell which command it is.
+-- From the first bytes of a line to the line: they show which command it is.
 use Rattle.std.proofs.Common.{◌≡◌, ◌⊎◌, inl, inr, ℕ, ◌<◌, ◌^◌, List, [], ◌∷◌, length, take, refl, sym, ap, ◌∙◌, subst, arith, length-append}
 use Rattle.std.proofs.lemmas.List.{take_all, length-take}
 use Rattle.std.proofs.lemmas.Fmt.{length-decimal-le}
 use Rattle.std.specs.Fmt.{decimal}
 use Rattle.aig_bench.specs.Edit as edits
 use Rattle.aig_script.specs.Command.{Command, edit, value, trace, unroll, IsCommand, IsNoCommand, command_text}
-use Rattle.aig_bench.specs.Pair.{Pair}
+use Rattle.aig_bench.specs.BenchState.{CircuitAndRows}
 use Rattle.aig_script.specs.Replies.{WholeReply}
 use Rattle.aig_script.specs.ScriptLine.{BeginsRow, first_bytes}
 
@@ -55,7 +55,7 @@ is_no_command line never none c is e = elim (short c is) [
 ]
 
 -- the reply to the first bytes of a line is that to the line
-pub whole_reply : (line : List ℕ) (old : Pair) (reply : List ℕ) (new : Pair) → (BeginsRow line → ⊥)
+pub whole_reply : (line : List ℕ) (old : CircuitAndRows) (reply : List ℕ) (new : CircuitAndRows) → (BeginsRow line → ⊥)
     → WholeReply old (first_bytes line) reply new → WholeReply old line reply new
 whole_reply line old reply new never h = elim h [
   | inl some ↦ inl (some.0, some.1, is_command line some.0 some.1 never some.2, some.3)

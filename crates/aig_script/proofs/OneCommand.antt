@@ -6,13 +6,13 @@ use Rattle.aig_parts.specs.declared.ternary.Tern.{Tern}
 use Rattle.aig_values.specs.Characters.{character}
 use Rattle.aig_sim.proofs.OneText.{same_row}
 use Rattle.aig_bench.specs.Edit.{Edit, rewire, set_reset, set_bit, add_frame, drop_frame, append_gate, set_output}
-use Rattle.aig_script.specs.Command.{Command, edit, value, trace, unroll, field, edit_text, command_text, IsNumber, HasNumbers, IsCommand}
+use Rattle.aig_script.specs.Command.{Command, edit, value, trace, unroll, number_field, edit_text, command_text, IsNumber, HasNumbers, IsCommand}
 use Rattle.aig_script.proofs.Fields.{no_space-decimal, split_once}
 
 one_number : (m n : ℕ) → IsNumber m → IsNumber n → decimal m ≡ decimal n → m ≡ n
 one_number m n p q e = decimal_injective m n (omega arith) (omega arith) e
 
-one_field : (m n : ℕ) (xs ys : List ℕ) → IsNumber m → IsNumber n → field m xs ≡ field n ys → (m ≡ n) × (xs ≡ ys)
+one_field : (m n : ℕ) (xs ys : List ℕ) → IsNumber m → IsNumber n → number_field m xs ≡ number_field n ys → (m ≡ n) × (xs ≡ ys)
 one_field m n xs ys p q e =
     let s = split_once (decimal m) xs (decimal n) ys (no_space-decimal m p) (no_space-decimal n q) e in
     (one_number m n p q s.0, s.1)
@@ -22,12 +22,12 @@ one_value v w e =
     let same : v ∷ [] ≡ w ∷ [] = same_row (v ∷ []) (w ∷ []) e in
     cc
 
--- what stands behind the first byte, and behind the two first bytes
-behind : (a b : ℕ) (xs ys : List ℕ) → a ∷ xs ≡ b ∷ ys → xs ≡ ys
-behind a b xs ys e = cc
+-- what stands after the first byte, and after the two first bytes
+tails : (a b : ℕ) (xs ys : List ℕ) → a ∷ xs ≡ b ∷ ys → xs ≡ ys
+tails a b xs ys e = cc
 
-behind_two : (a b : ℕ) (xs ys : List ℕ) → a ∷ (b ∷ xs) ≡ a ∷ (b ∷ ys) → xs ≡ ys
-behind_two a b xs ys e = behind b b xs ys (behind a a (b ∷ xs) (b ∷ ys) e)
+tails_of_two : (a b : ℕ) (xs ys : List ℕ) → a ∷ (b ∷ xs) ≡ a ∷ (b ∷ ys) → xs ≡ ys
+tails_of_two a b xs ys e = tails b b xs ys (tails a a (b ∷ xs) (b ∷ ys) e)
 
 first_differs : (a b : ℕ) (xs ys : List ℕ) → (a ≡ b → ⊥) → a ∷ xs ≡ b ∷ ys → ⊥
 first_differs a b xs ys ne e = ne (let h : a ≡ b = cc in h)
@@ -47,34 +47,34 @@ letter unroll = 117
 
 one_edit : (x : Edit) (d : Command) → HasNumbers x → IsCommand d → edit_text x ≡ command_text d → edit x ≡ d
 one_edit (rewire g a b) (edit (rewire h c d)) p q e =
-    let s = one_field g h _ _ p.0 q.0 (behind_two 119 32 _ _ e) in
+    let s = one_field g h _ _ p.0 q.0 (tails_of_two 119 32 _ _ e) in
     let t = one_field a c _ _ p.1 q.1 s.1 in
     let u = one_number b d p.2 q.2 t.1 in
     cc
 one_edit (rewire g a b) d p q e = absurd (first_differs 119 (letter d) _ _ (λ h. omega arith) e)
 one_edit (set_reset l w) (edit (set_reset m v)) p q e =
-    let s = one_field l m _ _ p q (behind_two 114 32 _ _ e) in
+    let s = one_field l m _ _ p q (tails_of_two 114 32 _ _ e) in
     let t = one_value w v s.1 in
     cc
 one_edit (set_reset l w) d p q e = absurd (first_differs 114 (letter d) _ _ (λ h. omega arith) e)
 one_edit (set_bit t i w) (edit (set_bit u j v)) p q e =
-    let r = one_field t u _ _ p.0 q.0 (behind_two 115 32 _ _ e) in
+    let r = one_field t u _ _ p.0 q.0 (tails_of_two 115 32 _ _ e) in
     let s = one_field i j _ _ p.1 q.1 r.1 in
     let k = one_value w v s.1 in
     cc
 one_edit (set_bit t i w) d p q e = absurd (first_differs 115 (letter d) _ _ (λ h. omega arith) e)
 one_edit (add_frame row) (edit (add_frame other)) p q e =
-    ap (λ (r : List Tern). edit (add_frame r)) (same_row row other (behind_two 43 32 _ _ e))
+    ap (λ (r : List Tern). edit (add_frame r)) (same_row row other (tails_of_two 43 32 _ _ e))
 one_edit (add_frame row) d p q e = absurd (first_differs 43 (letter d) _ _ (λ h. omega arith) e)
 one_edit drop_frame (edit drop_frame) p q e = refl
 one_edit drop_frame d p q e = absurd (first_differs 45 (letter d) _ _ (λ h. omega arith) e)
 one_edit (append_gate a b) (edit (append_gate c d)) p q e =
-    let s = one_field a c _ _ p.0 q.0 (behind_two 103 32 _ _ e) in
+    let s = one_field a c _ _ p.0 q.0 (tails_of_two 103 32 _ _ e) in
     let t = one_number b d p.1 q.1 s.1 in
     cc
 one_edit (append_gate a b) d p q e = absurd (first_differs 103 (letter d) _ _ (λ h. omega arith) e)
 one_edit (set_output i l) (edit (set_output j m)) p q e =
-    let s = one_field i j _ _ p.0 q.0 (behind_two 111 32 _ _ e) in
+    let s = one_field i j _ _ p.0 q.0 (tails_of_two 111 32 _ _ e) in
     let t = one_number l m p.1 q.1 s.1 in
     cc
 one_edit (set_output i l) d p q e = absurd (first_differs 111 (letter d) _ _ (λ h. omega arith) e)
@@ -82,7 +82,7 @@ one_edit (set_output i l) d p q e = absurd (first_differs 111 (letter d) _ _ (λ
 pub one_command : (c d : Command) → IsCommand c → IsCommand d → command_text c ≡ command_text d → c ≡ d
 one_command (edit x) d p q e = one_edit x d p q e
 one_command (value t l) (value u m) p q e =
-    let s = one_field t u _ _ p.0 q.0 (behind_two 118 32 _ _ e) in
+    let s = one_field t u _ _ p.0 q.0 (tails_of_two 118 32 _ _ e) in
     let k = one_number l m p.1 q.1 s.1 in
     cc
 one_command (value t l) (edit x) p q e = sym (one_edit x (value t l) q p (sym e))

@@ -11,14 +11,14 @@ use Rattle.aig_base.specs.Value.{Value, start_of}
 use Rattle.aig_base.proofs.levels.OneOrder.{one_order}
 use Rattle.aig_base.proofs.values.UniqueValue.{unique}
 use Rattle.aig_values.specs.Characters.{character}
-use Rattle.aig_values.specs.Trace.{AreValues, IsLine, AreLines}
+use Rattle.aig_values.specs.Trace.{AreValues, IsTraceLine, AreLines}
 use Rattle.aig_unroll.specs.declared.fault.UnrollFault.{UnrollFault}
 use Rattle.aig_unroll.specs.declared.fault.UnrollFault.TheVariants as unroll_faults
 use Rattle.aig_unroll.specs.Answers.{IsUnrollable, IsUnrolled, RefusesUnrolling, AnswersUnrolling}
 use Rattle.aig_unroll.specs.Unrolled.{unrolled}
 use Rattle.aig_bench.specs.declared.edit.EditFault.{EditFault}
 use Rattle.aig_bench.specs.declared.edit.EditFault.TheVariants as faults
-use Rattle.aig_bench.specs.Pair.{Pair, HasTrace}
+use Rattle.aig_bench.specs.BenchState.{CircuitAndRows, HasTrace}
 use Rattle.aig_bench.specs.Edit.{Edit, Edits, Forbids, IsLeastFault, number_of, edited}
 use Rattle.aig_bench.specs.Question.{ForbidsValue, AnswersValue}
 use Rattle.aig_script.specs.Command.{Command, edit, value, trace, unroll, command_text, IsCommand}
@@ -66,7 +66,7 @@ one_least P f g h k =
 -- ---- edits
 
 -- an edit with its answer and the pair that it leaves
-pub one_edit : (p : Pair) (e : Edit) (r s : Result (Unit {0}) EditFault) (m n : Pair) → Edits p e r m → Edits p e s n
+pub one_edit : (p : CircuitAndRows) (e : Edit) (r s : Result (Unit {0}) EditFault) (m n : CircuitAndRows) → Edits p e r m → Edits p e s n
     → r ≢ Err faults.Memory → s ≢ Err faults.Memory → (r ≡ s) × (m ≡ n)
 one_edit p e (Ok x) (Ok y) m n h k some more = (refl, h.1 ∙ sym k.1)
 one_edit p e (Ok x) (Err g) m n (none, is) (inl least, same) some more = absurd (none g least.0)
@@ -80,7 +80,7 @@ one_edit p e (Err f) (Err g) m n (inr lacks, is) k some more = absurd (some (ap 
 
 -- ---- values
 
-one_value : (p : Pair) (t l : ℕ) (r s : Result Tern EditFault) → IsSound p.circuit → AnswersValue p t l r
+one_value : (p : CircuitAndRows) (t l : ℕ) (r s : Result Tern EditFault) → IsSound p.circuit → AnswersValue p t l r
     → AnswersValue p t l s → r ≡ s
 one_value p t l (Ok v) (Ok w) sound h k = ap Ok (unique p.circuit (start_of p.circuit) p.rows sound h.1 k.1)
 one_value p t l (Ok v) (Err g) sound h k = absurd (h.0 g k.0)
@@ -101,7 +101,7 @@ module _ (raw : Raw) (start : List Tern) (rows : List (List Tern)) (sound : IsSo
       let first : b ≡ c = h.0.2 ∙ ap character same ∙ sym k.0.2 in
       ap (λ (x : ℕ). x ∷ bs) first ∙ ap (λ (xs : List ℕ). c ∷ xs) (one_text t ls bs cs h.1 k.1)
 
-  one_line : (t : ℕ) (a b : List ℕ) → IsLine raw start rows t a → IsLine raw start rows t b → a ≡ b
+  one_line : (t : ℕ) (a b : List ℕ) → IsTraceLine raw start rows t a → IsTraceLine raw start rows t b → a ≡ b
   one_line t a b h k =
       let state = one_text t (map (λ x. x.lit) raw.latches) h.state k.state h.state_is k.state_is in
       let inputs = one_text t raw.inputs h.inputs k.inputs h.inputs_are k.inputs_are in
@@ -153,10 +153,10 @@ one_unrolling raw k (Err unroll_faults.Memory) s sound h g some more = absurd (s
 -- ---- lines
 
 -- the replies, and the pairs that are left
-Same : List ℕ → List ℕ → Pair → Pair → Type 0
+Same : List ℕ → List ℕ → CircuitAndRows → CircuitAndRows → Type 0
 Same r s m n = (r ≡ s) × (m ≡ n)
 
-one_command_reply : (p : Pair) (c : Command) (r s : List ℕ) (m n : Pair) → IsSound p.circuit → CommandReply p c r m
+one_command_reply : (p : CircuitAndRows) (c : Command) (r s : List ℕ) (m n : CircuitAndRows) → IsSound p.circuit → CommandReply p c r m
     → CommandReply p c s n → r ≢ out_of_memory → s ≢ out_of_memory → Same r s m n
 unfolding Same
 one_command_reply p (edit e) r s m n sound (x, h, is) (y, k, same) some more =
@@ -174,11 +174,11 @@ one_command_reply p unroll r s m n sound (x, h, is, kept) (y, k, same, stays) so
     (λ f. more (same ∙ ap unroll_reply f)) in
     (is ∙ ap unroll_reply one ∙ sym same, kept ∙ sym stays)
 
-one_bad : (p : Pair) (r s : List ℕ) (m n : Pair) → IsBad p r m → IsBad p s n → Same r s m n
+one_bad : (p : CircuitAndRows) (r s : List ℕ) (m n : CircuitAndRows) → IsBad p r m → IsBad p s n → Same r s m n
 unfolding Same
 one_bad p r s m n h k = (h.0 ∙ sym k.0, h.1 ∙ sym k.1)
 
-one_whole_reply : (p : Pair) (line r s : List ℕ) (m n : Pair) → IsSound p.circuit → WholeReply p line r m
+one_whole_reply : (p : CircuitAndRows) (line r s : List ℕ) (m n : CircuitAndRows) → IsSound p.circuit → WholeReply p line r m
     → WholeReply p line s n → r ≢ out_of_memory → s ≢ out_of_memory → Same r s m n
 one_whole_reply p line r s m n sound (inl (c, numbers, text, h)) (inl (d, others, same, k)) some more =
     let one : c ≡ d = one_command c d numbers others (sym text ∙ same) in
@@ -189,7 +189,7 @@ one_whole_reply p line r s m n sound (inr (none, bad)) (inl (d, others, same, k)
     absurd (none d others same)
 one_whole_reply p line r s m n sound (inr (none, bad)) (inr (never, worse)) some more = one_bad p r s m n bad worse
 
-pub one_reply : (p : Pair) (line : Line) (r s : List ℕ) (m n : Pair) → IsSound p.circuit → LineReply p line r m
+pub one_reply : (p : CircuitAndRows) (line : Line) (r s : List ℕ) (m n : CircuitAndRows) → IsSound p.circuit → LineReply p line r m
     → LineReply p line s n → r ≢ out_of_memory → s ≢ out_of_memory → (r ≡ s) × (m ≡ n)
 unfolding Same
 one_reply p (whole line) r s m n sound h k some more = one_whole_reply p line r s m n sound h k some more

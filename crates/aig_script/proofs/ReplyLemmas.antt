@@ -7,7 +7,7 @@ use Rattle.aig_bytes.specs.Bytes.{Writes, before}
 use Rattle.aig_bytes.proofs.WriteLemmas.{writes_then, writes_none}
 use Rattle.aig_bytes.specs.Flow.{flow}
 use Rattle.aig_script.specs.Lines.{Line, whole, lines_from, rest_from, whole_lines}
-use Rattle.aig_bench.specs.Pair.{Pair}
+use Rattle.aig_bench.specs.BenchState.{CircuitAndRows}
 use Rattle.aig_script.specs.Replies.{Replies, LineReply}
 use Rattle.aig_script.specs.Ran.{Answered, StoppedAt, Reading, Failing}
 use Rattle.aig_script.specs.ScriptLine.{ScriptLine, KeepsScriptLine}
@@ -45,22 +45,22 @@ pub on_ok_from_err : {T E : Type 0} (P : Type 0) (r : Result T E) → IsErr r �
 on_ok_from_err P (Ok x) h = absurd (false≢true h)
 on_ok_from_err P (Err e) h = tt
 
-pub replies_append : (old : Pair) (ls : List Line) (rs : List ℕ) (mid : Pair) (ms : List Line) (ss : List ℕ) (new : Pair)
+pub replies_append : (old : CircuitAndRows) (ls : List Line) (rs : List ℕ) (mid : CircuitAndRows) (ms : List Line) (ss : List ℕ) (new : CircuitAndRows)
     → Replies old ls rs mid → Replies mid ms ss new → Replies old (ls ++ ms) (rs ++ ss) new
 replies_append old [] rs mid ms ss new h k =
-    subst (λ (n : Pair). Replies n ms (rs ++ ss) new) h.1 (subst (λ (xs : List ℕ). Replies mid ms (xs ++ ss) new) (sym h.0) k)
+    subst (λ (n : CircuitAndRows). Replies n ms (rs ++ ss) new) h.1 (subst (λ (xs : List ℕ). Replies mid ms (xs ++ ss) new) (sym h.0) k)
 replies_append old (x ∷ ls) rs mid ms ss new h k =
     (h.0, h.1, h.2 ++ ss, h.3, replies_append h.0 ls h.2 mid ms ss new h.4 k, ap (λ (xs : List ℕ). xs ++ ss) h.5 ∙ append_assoc h.1 h.2 ss)
 
-pub replies_one : (old : Pair) (l : Line) (r : List ℕ) (new : Pair) → LineReply old l r new → Replies old (l ∷ []) r new
+pub replies_one : (old : CircuitAndRows) (l : Line) (r : List ℕ) (new : CircuitAndRows) → LineReply old l r new → Replies old (l ∷ []) r new
 replies_one old l r new h = (new, r, [], h, (refl, refl), sym (append-nil r))
 
 module _ {X : Type 0} {written : X → Option (List ℕ)} {failures : X → ℕ} where
-  pub answered_none : {from : X} {old : Pair} → Answered (flow written failures from from) [] old old
+  pub answered_none : {from : X} {old : CircuitAndRows} → Answered (flow written failures from from) [] old old
   answered_none = record { replies = []; ran = (refl, refl); writes = writes_none }
 
   -- one line more
-  pub answered_push : {T E : Type 0} {from mid to : X} {lines : List Line} {old n new : Pair} {r : List ℕ} {x : T} (l : Line)
+  pub answered_push : {T E : Type 0} {from mid to : X} {lines : List Line} {old n new : CircuitAndRows} {r : List ℕ} {x : T} (l : Line)
       → Answered (flow written failures from mid) lines old n → LineReply n l r new → Writes {E = E} written failures mid to r (Ok x)
       → Answered (flow written failures from to) (lines ++ l ∷ []) old new
   answered_push {lines} {old} {n} {new} {r} l a h w =
@@ -72,14 +72,14 @@ module _ {X : Type 0} {written : X → Option (List ℕ)} {failures : X → ℕ}
       }
 
   -- more lines
-  pub answered_then : {from mid to : X} {lines more : List Line} {old n new : Pair}
+  pub answered_then : {from mid to : X} {lines more : List Line} {old n new : CircuitAndRows}
       → Answered (flow written failures from mid) lines old n → Answered (flow written failures mid to) more n new
       → Answered (flow written failures from to) (lines ++ more) old new
   answered_then {lines} {more} {old} {n} {new} a b =
       record { replies = a.replies ++ b.replies; ran = replies_append old lines a.replies n more b.replies new a.ran b.ran; writes = writes_then a.writes b.writes }
 
   -- a reply that was not written
-  pub stopped_push : {T E : Type 0} {from mid to : X} {lines first : List Line} {old n new : Pair} {r : List ℕ} {e : E} (l : Line) (more : List Line)
+  pub stopped_push : {T E : Type 0} {from mid to : X} {lines first : List Line} {old n new : CircuitAndRows} {r : List ℕ} {e : E} (l : Line) (more : List Line)
       → Answered (flow written failures from mid) first old n → LineReply n l r new → Writes {T = T} written failures mid to r (Err e)
       → lines ≡ first ++ (l ∷ more) → StoppedAt (flow written failures from to) lines old new
   stopped_push {mid} {first} {n} {r} l more a h w e = record {
@@ -95,7 +95,7 @@ module _ {X : Type 0} {written : X → Option (List ℕ)} {failures : X → ℕ}
     writes = record { ok = tt; err = w.err; count = w.count };
   }
 
-  pub stopped_then : {from mid to : X} {lines more : List Line} {old n new : Pair}
+  pub stopped_then : {from mid to : X} {lines more : List Line} {old n new : CircuitAndRows}
       → Answered (flow written failures from mid) lines old n → StoppedAt (flow written failures mid to) more n new
       → StoppedAt (flow written failures from to) (lines ++ more) old new
   stopped_then {lines} a s = record {
@@ -111,20 +111,20 @@ module _ {X : Type 0} {written : X → Option (List ℕ)} {failures : X → ℕ}
     writes = s.writes;
   }
 
-  pub stopped_same : {from to : X} {lines lines' : List Line} {old new : Pair}
+  pub stopped_same : {from to : X} {lines lines' : List Line} {old new : CircuitAndRows}
       → StoppedAt (flow written failures from to) lines old new → lines ≡ lines' → StoppedAt (flow written failures from to) lines' old new
   stopped_same {from} {to} {old} {new} s e = subst (λ (ls : List Line). StoppedAt (flow written failures from to) ls old new) e s
 
-  pub answered_same : {from to to' : X} {lines lines' : List Line} {old new new' : Pair}
+  pub answered_same : {from to to' : X} {lines lines' : List Line} {old new new' : CircuitAndRows}
       → Answered (flow written failures from to) lines old new → to ≡ to' → lines ≡ lines' → new ≡ new'
       → Answered (flow written failures from to') lines' old new'
   answered_same {from} {to'} {lines} {lines'} {old} {new} a e f g =
-      subst (λ (n : Pair). Answered (flow written failures from to') lines' old n) g
+      subst (λ (n : CircuitAndRows). Answered (flow written failures from to') lines' old n) g
       (subst (λ (ls : List Line). Answered (flow written failures from to') ls old new) f
       (subst (λ (w : X). Answered (flow written failures from w) lines old new) e a))
 
-  -- all replies were handed on
-  pub answered_flushed : {from mid to : X} {lines : List Line} {old new : Pair} → Answered (flow written failures from mid) lines old new
+  -- all replies were forwarded
+  pub answered_flushed : {from mid to : X} {lines : List Line} {old new : CircuitAndRows} → Answered (flow written failures from mid) lines old new
       → written to ≡ written mid → failures to ≡ failures mid + 0 → Answered (flow written failures from to) lines old new
   answered_flushed a e f =
       let w = a.writes in
@@ -146,13 +146,13 @@ whole_lines-append text bytes =
     ∙ sym (ap (λ (ls : List (List ℕ)). map whole ls) (lines_from-append [] text bytes))
 
 module _ {Y X : Type 0} {left : Y → Option (List ℕ)} {read_failures : Y → ℕ} {written : X → Option (List ℕ)} {failures : X → ℕ} where
-  pub reading_none : {reader : Y} {out : X} {line : ScriptLine} {old : Pair} → KeepsScriptLine [] line
+  pub reading_none : {reader : Y} {out : X} {line : ScriptLine} {old : CircuitAndRows} → KeepsScriptLine [] line
       → Reading (flow left read_failures reader reader) (flow written failures out out) line old old
   reading_none {reader} k =
       record { script = []; read = sym (before_nil (left reader)); no_failure = refl; rest = k; answered = answered_none }
 
   -- a chunk was read and answered
-  pub reading_more : {reader mid to : Y} {out out' out'' : X} {line line' : ScriptLine} {old n new : Pair} (chunk : List ℕ)
+  pub reading_more : {reader mid to : Y} {out out' out'' : X} {line line' : ScriptLine} {old n new : CircuitAndRows} (chunk : List ℕ)
       → Reading (flow left read_failures reader mid) (flow written failures out out') line old n
       → left mid ≡ before chunk (left to) → read_failures to ≡ read_failures mid + 0
       → ((text : List ℕ) → KeepsScriptLine text line → KeepsScriptLine (rest_from text chunk) line')
@@ -167,7 +167,7 @@ module _ {Y X : Type 0} {left : Y → Option (List ℕ)} {read_failures : Y → 
   }
 
   -- a read failed
-  pub reading_fails : {reader mid to : Y} {out out' : X} {line : ScriptLine} {old new : Pair}
+  pub reading_fails : {reader mid to : Y} {out out' : X} {line : ScriptLine} {old new : CircuitAndRows}
       → Reading (flow left read_failures reader mid) (flow written failures out out') line old new
       → left mid ≡ before [] (left to) → read_failures to ≡ read_failures mid + 1
       → Failing (flow left read_failures reader to) (flow written failures out out') old new
@@ -178,7 +178,7 @@ module _ {Y X : Type 0} {left : Y → Option (List ℕ)} {read_failures : Y → 
   }
 
   -- a write failed
-  pub reading_stops : {reader mid to : Y} {out out' out'' : X} {line : ScriptLine} {old n new : Pair} (chunk : List ℕ)
+  pub reading_stops : {reader mid to : Y} {out out' out'' : X} {line : ScriptLine} {old n new : CircuitAndRows} (chunk : List ℕ)
       → Reading (flow left read_failures reader mid) (flow written failures out out') line old n
       → left mid ≡ before chunk (left to) → read_failures to ≡ read_failures mid + 0
       → ((text : List ℕ) → KeepsScriptLine text line → StoppedAt (flow written failures out' out'') (map whole (lines_from text chunk)) n new)
@@ -197,8 +197,8 @@ module _ {Y X : Type 0} {left : Y → Option (List ℕ)} {read_failures : Y → 
     );
   }
 
-  -- the replies were handed on
-  pub reading_flushed : {reader to : Y} {out mid out' : X} {line : ScriptLine} {old new : Pair}
+  -- the replies were forwarded
+  pub reading_flushed : {reader to : Y} {out mid out' : X} {line : ScriptLine} {old new : CircuitAndRows}
       → Reading (flow left read_failures reader to) (flow written failures out mid) line old new
       → written out' ≡ written mid → failures out' ≡ failures mid + 0
       → Reading (flow left read_failures reader to) (flow written failures out out') line old new
@@ -211,7 +211,7 @@ module _ {Y X : Type 0} {left : Y → Option (List ℕ)} {read_failures : Y → 
   }
 
   -- a flush failed
-  pub reading_unflushed : {reader to : Y} {out mid out' : X} {line : ScriptLine} {old new : Pair}
+  pub reading_unflushed : {reader to : Y} {out mid out' : X} {line : ScriptLine} {old new : CircuitAndRows}
       → Reading (flow left read_failures reader to) (flow written failures out mid) line old new
       → written out' ≡ written mid → failures out' ≡ failures mid + 1
       → Failing (flow left read_failures reader to) (flow written failures out out') old new

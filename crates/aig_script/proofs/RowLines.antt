@@ -8,12 +8,12 @@ use Rattle.aig_sim.specs.declared.stimulus_fault.StimFault.{StimFault}
 use Rattle.aig_sim.specs.declared.stimulus_fault.StimFault.TheVariants as stimuli
 use Rattle.aig_values.specs.Characters.{character}
 use Rattle.aig_sim.specs.StimulusText.{IsCharacter, HasFault}
-use Rattle.aig_sim.specs.declared.line_in_hand.Shape.{Shape}
-use Rattle.aig_sim.specs.declared.line_in_hand.Shape.TheVariants.{Row}
-use Rattle.aig_sim.specs.LineInHand.{IsOfLine, IsKept, Keeps}
+use Rattle.aig_sim.specs.declared.row_parser.Shape.{Shape}
+use Rattle.aig_sim.specs.declared.row_parser.Shape.TheVariants.{Row}
+use Rattle.aig_sim.specs.RowParser.{IsOfLine, IsKept, KeepsLine}
 use Rattle.aig_bench.specs.declared.edit.EditFault.{EditFault}
 use Rattle.aig_bench.specs.declared.edit.EditFault.TheVariants as faults
-use Rattle.aig_bench.specs.Pair.{Pair}
+use Rattle.aig_bench.specs.BenchState.{CircuitAndRows}
 use Rattle.aig_bench.specs.Edit as edits
 use Rattle.aig_script.specs.Command.{edit, value, trace, unroll, IsNoCommand, command_text}
 use Rattle.aig_script.specs.Replies.{WholeReply}
@@ -63,13 +63,13 @@ wrong_row text wrong unroll _ e = first_differs 43 117 _ _ (λ h. omega arith) e
 
 -- a line that is a row
 pub row_line : (width : ℕ) (text : List ℕ) (shape : Shape) (values row : List Tern) → shape ≡ Row → values ≡ row
-    → Keeps width text shape values → 43 ∷ (32 ∷ text) ≡ command_text (edit (edits.add_frame row))
+    → KeepsLine width text shape values → 43 ∷ (32 ∷ text) ≡ command_text (edit (edits.add_frame row))
 row_line width text shape values row is same k =
     let h = subst (λ (s : Shape). IsKept width text s values) is k.kept in
     ap (λ (t : List ℕ). 43 ∷ (32 ∷ t)) (h.0 ∙ ap (map character) same)
 
 -- the least fault of a row of another length
-wrong_length : (p : Pair) (row : List Tern) → length row ≢ length p.circuit.inputs
+wrong_length : (p : CircuitAndRows) (row : List Tern) → length row ≢ length p.circuit.inputs
     → edits.IsLeastFault (edits.Forbids p (edits.add_frame row)) faults.Length
 wrong_length p row ne = (ne, least)
   where
@@ -88,7 +88,7 @@ wrong_length p row ne = (ne, least)
     least faults.NoOutput lt h = h
 
 -- a line that is no row is answered by its fault
-pub wrong_row_reply : (p : Pair) (width before : ℕ) (text rest : List ℕ) (f : StimFault) → width ≡ length p.circuit.inputs
+pub wrong_row_reply : (p : CircuitAndRows) (width before : ℕ) (text rest : List ℕ) (f : StimFault) → width ≡ length p.circuit.inputs
     → IsOfLine f → HasFault width before text rest f → WholeReply p (43 ∷ (32 ∷ text)) (row_fault_reply f) p
 wrong_row_reply p width before text rest (stimuli.Char n) is of_line h = inr (wrong_row text h.2, (refl, refl))
 wrong_row_reply p width before text rest (stimuli.Length n) is of_line h =

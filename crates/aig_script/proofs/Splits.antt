@@ -1,4 +1,4 @@
--- A script is its lines and what stands behind them, in one way.
+-- A script is its lines and what stands after them, in one way.
 use Rattle.std.proofs.Common.{◌≡◌, ◌≢◌, ℕ, suc, arith, Bool, true, false, cond, eqb, List, [], ◌∷◌, ◌++◌, All, refl, sym, ap, ◌∙◌}
 use Rattle.std.proofs.lemmas.Bool.{eqb-true, eqb-false, ne_eqb}
 use Rattle.std.proofs.lemmas.List.{append_assoc, append-nil}
@@ -6,7 +6,7 @@ use Rattle.std.proofs.lemmas.List.Concat.{flat_map-cons}
 use Rattle.std.proofs.lemmas.List.Elements.{All-cons, All-nil, All-push}
 use Rattle.aig_script.specs.Lines.{lines_from, rest_from, with_end, ended, IsPiece, IsSplit}
 
--- the text of a line and of those behind it
+-- the text of a line and of those after it
 ended_more : (line : List ℕ) (lines : List (List ℕ)) (rest : List ℕ)
     → ended (line ∷ lines) ++ rest ≡ line ++ 10 ∷ (ended lines ++ rest)
 ended_more line lines rest =
@@ -15,7 +15,7 @@ ended_more line lines rest =
 
 -- ---- the split is one
 
--- a line in hand and the bytes that follow are the lines and what stands behind them
+-- a line that is begun and the bytes that follow are the lines and what stands after them
 text_is : (line bytes : List ℕ) → line ++ bytes ≡ ended (lines_from line bytes) ++ rest_from line bytes
 text_is line [] = append-nil line
 text_is line (b ∷ bytes) =
@@ -81,7 +81,7 @@ rest_step line (b ∷ piece) more p =
     ap (λ (v : Bool). cond v (rest_from [] (piece ++ 10 ∷ more)) (rest_from (line ++ b ∷ []) (piece ++ 10 ∷ more))) ne
     ∙ rest_step (line ++ b ∷ []) piece more (All-tail (λ b. b ≢ 10) b piece p)
 
--- a piece without its end is what stands behind
+-- a piece without its end is what stands after
 pub no_lines : (line piece : List ℕ) → IsPiece piece → lines_from line piece ≡ []
 no_lines line [] p = refl
 no_lines line (b ∷ piece) p =

@@ -13,34 +13,34 @@ pub data Command : Type 0 where
   unroll : Command
 
 -- a number, and a space in front of what follows
-abbrev pub field : ℕ → List ℕ → List ℕ
-field n rest = decimal n ++ 32 ∷ rest
+abbrev pub number_field : ℕ → List ℕ → List ℕ
+number_field n rest = decimal n ++ 32 ∷ rest
 
--- ---- what stands behind a command's letter
+-- ---- what stands after a command's letter
 
 -- gate and right sides
 abbrev pub rewire_fields : ℕ → ℕ → ℕ → List ℕ
-rewire_fields lhs r0 r1 = field lhs (field r0 (decimal r1))
+rewire_fields lhs r0 r1 = number_field lhs (number_field r0 (decimal r1))
 
 -- latch and value
 abbrev pub reset_fields : ℕ → Tern → List ℕ
-reset_fields latch w = field latch (character w ∷ [])
+reset_fields latch w = number_field latch (character w ∷ [])
 
 -- frame, position and value
 abbrev pub bit_fields : ℕ → ℕ → Tern → List ℕ
-bit_fields t p w = field t (field p (character w ∷ []))
+bit_fields t p w = number_field t (number_field p (character w ∷ []))
 
 -- right sides
 abbrev pub append_fields : ℕ → ℕ → List ℕ
-append_fields r0 r1 = field r0 (decimal r1)
+append_fields r0 r1 = number_field r0 (decimal r1)
 
 -- position and literal
 abbrev pub output_fields : ℕ → ℕ → List ℕ
-output_fields p l = field p (decimal l)
+output_fields p l = number_field p (decimal l)
 
 -- frame and literal
 abbrev pub value_fields : ℕ → ℕ → List ℕ
-value_fields t l = field t (decimal l)
+value_fields t l = number_field t (decimal l)
 
 abbrev pub edit_text : Edit → List ℕ
 edit_text (rewire lhs r0 r1) = codes "w " ++ rewire_fields lhs r0 r1

@@ -2,17 +2,17 @@
 use Rattle.std.specs.Prelude.{◌≡◌, ◌≢◌, ℕ, List, [], ◌∷◌, ◌++◌, map, All, ◌==◌, if◌then◌else◌}
 use Rattle.std.specs.List.{flat_map}
 
--- a line, without the LF that ends it, or the bytes behind the last LF
+-- a line, without the LF that ends it, or the bytes after the last LF
 pub data Line : Type 0 where
   whole : List ℕ → Line
   unfinished : List ℕ → Line
 
--- with the first bytes of a line in hand, the lines that an LF ends in the bytes that follow
+-- with the first bytes of a line, the lines that an LF ends in the bytes that follow
 abbrev pub lines_from : List ℕ → List ℕ → List (List ℕ)
 lines_from line [] = []
 lines_from line (b ∷ bytes) = if b == 10 then line ∷ lines_from [] bytes else lines_from (line ++ b ∷ []) bytes
 
--- what stands behind the last LF
+-- what stands after the last LF
 abbrev pub rest_from : List ℕ → List ℕ → List ℕ
 rest_from line [] = line
 rest_from line (b ∷ bytes) = if b == 10 then rest_from [] bytes else rest_from (line ++ b ∷ []) bytes
@@ -42,7 +42,7 @@ ended lines = flat_map with_end lines
 abbrev pub IsPiece : List ℕ → Type 0
 IsPiece bytes = All (λ b. b ≢ 10) bytes
 
--- the script is these pieces, each with the LF that ends it, and what stands behind the last LF
+-- the script is these pieces, each with the LF that ends it, and what stands after the last LF
 pub record IsSplit (script : List ℕ) (lines : List (List ℕ)) (rest : List ℕ) : Type 0 where
   pub lines_are : All IsPiece lines
   pub rest_is : IsPiece rest

@@ -11,7 +11,7 @@ use Rattle.aig_unroll.specs.Answers as unrolling
 use Rattle.aig_unroll.specs.Answers.{AnswersUnrolling}
 use Rattle.aig_bench.specs.declared.edit.EditFault.{EditFault}
 use Rattle.aig_bench.specs.declared.edit.EditFault.TheVariants as faults
-use Rattle.aig_bench.specs.Pair.{Pair, HasTrace}
+use Rattle.aig_bench.specs.BenchState.{CircuitAndRows, HasTrace}
 use Rattle.aig_bench.specs.Edit.{Edit, rewire, Edits, number_of}
 use Rattle.aig_bench.specs.Fanout.{HasFourReaders}
 use Rattle.aig_bench.specs.Question.{AnswersValue}
@@ -40,19 +40,19 @@ unroll_reply (Err f) = numbered_refusal (unrolling.number_of f)
 
 -- The pairs for which an edit may find no memory. For a rewire, four gates or more already read the variable of a new
 -- right side.
-abbrev pub MayLackMemory : Pair → Edit → Type 0
+abbrev pub MayLackMemory : CircuitAndRows → Edit → Type 0
 MayLackMemory old (rewire lhs r0 r1) = HasFourReaders old.circuit (variable r0) ⊎ HasFourReaders old.circuit (variable r1)
 MayLackMemory old _ = Unit {0}
 
 -- an edit takes the pair to the other with this answer, and finds no memory only where it may
-abbrev pub AnswersEdit : {A : Type 0} → Pair → Edit → Result A EditFault → Pair → Type 0
+abbrev pub AnswersEdit : {A : Type 0} → CircuitAndRows → Edit → Result A EditFault → CircuitAndRows → Type 0
 AnswersEdit old e r new = Edits old e r new × IfErr r (λ f. f ≡ faults.Memory → MayLackMemory old e)
 
 -- the reply to an edit, from one pair to another
-abbrev pub EditReply : Pair → Edit → List ℕ → Pair → Type 0
+abbrev pub EditReply : CircuitAndRows → Edit → List ℕ → CircuitAndRows → Type 0
 EditReply old e reply new = (r : Result (Unit {0}) EditFault) × AnswersEdit old e r new × (reply ≡ edit_reply r)
 
-abbrev pub CommandReply : Pair → Command → List ℕ → Pair → Type 0
+abbrev pub CommandReply : CircuitAndRows → Command → List ℕ → CircuitAndRows → Type 0
 CommandReply old (edit e) reply new = EditReply old e reply new
 CommandReply old (value t l) reply new =
     (r : Result Tern EditFault) × AnswersValue old t l r × (reply ≡ value_reply r) × (new ≡ old)
@@ -61,21 +61,21 @@ CommandReply old unroll reply new =
     (r : Result Raw UnrollFault) × AnswersUnrolling old.circuit (length old.rows) r
     × (reply ≡ unroll_reply r) × (new ≡ old)
 
-abbrev pub IsBad : Pair → List ℕ → Pair → Type 0
+abbrev pub IsBad : CircuitAndRows → List ℕ → CircuitAndRows → Type 0
 IsBad old reply new = (reply ≡ codes "bad\n") × (new ≡ old)
 
 -- a line that an LF ends is answered by its command, or is bad
-abbrev pub WholeReply : Pair → List ℕ → List ℕ → Pair → Type 0
+abbrev pub WholeReply : CircuitAndRows → List ℕ → List ℕ → CircuitAndRows → Type 0
 WholeReply old line reply new =
     ((c : Command) × IsCommand c × (line ≡ command_text c) × CommandReply old c reply new)
     ⊎ (IsNoCommand line × IsBad old reply new)
 
-abbrev pub LineReply : Pair → Line → List ℕ → Pair → Type 0
+abbrev pub LineReply : CircuitAndRows → Line → List ℕ → CircuitAndRows → Type 0
 LineReply old (whole line) reply new = WholeReply old line reply new
 LineReply old (unfinished line) reply new = IsBad old reply new
 
 -- the lines in turn, with all their replies
-abbrev pub Replies : Pair → List Line → List ℕ → Pair → Type 0
+abbrev pub Replies : CircuitAndRows → List Line → List ℕ → CircuitAndRows → Type 0
 Replies old [] replies new = (replies ≡ []) × (new ≡ old)
 Replies old (line ∷ lines) replies new =
-    (mid : Pair) × (reply : List ℕ) × (more : List ℕ) × LineReply old line reply mid × Replies mid lines more new × (replies ≡ reply ++ more)
+    (mid : CircuitAndRows) × (reply : List ℕ) × (more : List ℕ) × LineReply old line reply mid × Replies mid lines more new × (replies ≡ reply ++ more)

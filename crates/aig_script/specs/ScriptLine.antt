@@ -1,12 +1,12 @@
 -- For proofs: what is kept of a line of a script while it is read.
 use Rattle.std.specs.Prelude.{◌≡◌, ℕ, Bool, true, false, List, ◌∷◌, take}
-use Rattle.aig_sim.specs.LineInHand.{LineInHand, Keeps}
+use Rattle.aig_sim.specs.RowParser.{RowParser, KeepsLine}
 
--- the first bytes, whether the line begins as one that appends a frame, and then what stands behind that
+-- the first bytes, whether the line begins as one that appends a frame, and then what stands after that
 pub record ScriptLine : Type 0 where
   pub bytes : List ℕ
   pub is_row : Bool
-  pub row : LineInHand
+  pub row : RowParser
 
 -- the line begins with `+ `
 abbrev pub BeginsRow : List ℕ → Type 0
@@ -19,7 +19,7 @@ first_bytes line = take 35 line
 abbrev pub KeepsBy : List ℕ → ScriptLine → Bool → Type 0
 KeepsBy line kept false = (kept.bytes ≡ first_bytes line) × (BeginsRow line → ⊥)
 KeepsBy line kept true =
-    (rest : List ℕ) × (line ≡ 43 ∷ 32 ∷ rest) × Keeps kept.row.width rest kept.row.shape kept.row.values
+    (rest : List ℕ) × (line ≡ 43 ∷ 32 ∷ rest) × KeepsLine kept.row.width rest kept.row.shape kept.row.values
 
 -- this is what is kept of the line
 pub record KeepsScriptLine (line : List ℕ) (kept : ScriptLine) : Type 0 where

@@ -3,7 +3,7 @@ ghost use Rattle.std.specs.Prelude.{◌≡◌, ◌≢◌, ◌<◌, ℕ, List, �
 ghost use Rattle.std.specs.Fmt.{decimal};
 ghost use Rattle.aig_parts.specs.declared.ternary.Tern.{Tern};
 ghost use Rattle.aig_values.specs.Characters.{character};
-ghost use Rattle.aig_script.specs.Command.{command_text, field, rewire_fields, reset_fields, bit_fields, append_fields};
+ghost use Rattle.aig_script.specs.Command.{command_text, number_field, rewire_fields, reset_fields, bit_fields, append_fields};
 ghost use Rattle.aig_script.specs.Command.{output_fields, value_fields, IsCommand, IsNoCommand, IsNumber};
 ghost use Rattle.aig_script.specs.state.CommandMeaning.{meaning};
 ghost use Rattle.aig_script.specs.ScriptLine.{BeginsRow};
@@ -53,7 +53,7 @@ pub enum Command {
     Unroll,
 }
 
-/// The bytes before the first space, and those behind it.
+/// The bytes before the first space, and those after it.
 fn split_at_space(bytes: &[u8]) -> Option<(&[u8], &[u8])>
     ensures split { IfSome result (λ parts. bytes.now ≡ parts.0.now ++ 32 ∷ parts.1.now) }
     ensures first { IfSome result (λ parts. All (λ b. b ≢ 32) parts.0.now) }
@@ -63,7 +63,7 @@ fn split_at_space(bytes: &[u8]) -> Option<(&[u8], &[u8])>
     Some((&bytes[..at], &bytes[at + 1..]))
 }
 
-/// The number whose digits are those of another one and these behind them, where it is at most `u32::MAX`.
+/// The number whose digits are those of another one and these after them, where it is at most `u32::MAX`.
 fn longer_number(first: u32, digits: &[u8]) -> Option<u32>
     requires { 0 < first }
     ensures some { IfSome result (λ n. decimal first ++ digits.now ≡ decimal n) }
@@ -98,12 +98,12 @@ fn parse_number(bytes: &[u8]) -> Option<u32>
     if rest.is_empty() { Some(0) } else { None }
 }
 
-/// The number in front, and what stands behind the space that ends it.
+/// The number in front, and what stands after the space that ends it.
 fn parse_field(bytes: &[u8]) -> Option<(u32, &[u8])>
-    ensures some { IfSome result (λ parts. bytes.now ≡ field parts.0 parts.1.now) }
-    ensures only { IfSome result (λ parts. (n : ℕ) (rest : List ℕ) → IsNumber n → bytes.now ≡ field n rest →
+    ensures some { IfSome result (λ parts. bytes.now ≡ number_field parts.0 parts.1.now) }
+    ensures only { IfSome result (λ parts. (n : ℕ) (rest : List ℕ) → IsNumber n → bytes.now ≡ number_field n rest →
         parts.1.now ≡ rest) }
-    ensures none { IfNone result ((n : ℕ) (rest : List ℕ) → IsNumber n → bytes.now ≢ field n rest) }
+    ensures none { IfNone result ((n : ℕ) (rest : List ℕ) → IsNumber n → bytes.now ≢ number_field n rest) }
 {
     let (first, rest) = split_at_space(bytes)?;
     Some((parse_number(first)?, rest))
@@ -122,7 +122,7 @@ fn parse_value(bytes: &[u8]) -> Option<Tern>
     }
 }
 
-/// What stands behind `w `.
+/// What stands after `w `.
 fn parse_rewire(fields: &[u8]) -> Option<Command>
     ensures some { IfSome result (λ c. IsCommand (meaning c) × (codes "w " ++ fields.now ≡ command_text (meaning c))) }
     ensures none { IfNone result ((g a b : ℕ) → IsNumber g → IsNumber a → IsNumber b →
@@ -137,7 +137,7 @@ fn parse_rewire(fields: &[u8]) -> Option<Command>
     })
 }
 
-/// What stands behind `r `.
+/// What stands after `r `.
 fn parse_reset(fields: &[u8]) -> Option<Command>
     ensures some { IfSome result (λ c. IsCommand (meaning c) × (codes "r " ++ fields.now ≡ command_text (meaning c))) }
     ensures none { IfNone result ((l : ℕ) (w : Tern) → IsNumber l → fields.now ≢ reset_fields l w) }
@@ -149,7 +149,7 @@ fn parse_reset(fields: &[u8]) -> Option<Command>
     })
 }
 
-/// What stands behind `s `.
+/// What stands after `s `.
 fn parse_bit(fields: &[u8]) -> Option<Command>
     ensures some { IfSome result (λ c. IsCommand (meaning c) × (codes "s " ++ fields.now ≡ command_text (meaning c))) }
     ensures none { IfNone result ((t p : ℕ) (w : Tern) → IsNumber t → IsNumber p → fields.now ≢ bit_fields t p w) }
@@ -163,7 +163,7 @@ fn parse_bit(fields: &[u8]) -> Option<Command>
     })
 }
 
-/// What stands behind `g `.
+/// What stands after `g `.
 fn parse_append(fields: &[u8]) -> Option<Command>
     ensures some { IfSome result (λ c. IsCommand (meaning c) × (codes "g " ++ fields.now ≡ command_text (meaning c))) }
     ensures none { IfNone result ((a b : ℕ) → IsNumber a → IsNumber b → fields.now ≢ append_fields a b) }
@@ -175,7 +175,7 @@ fn parse_append(fields: &[u8]) -> Option<Command>
     })
 }
 
-/// What stands behind `o `.
+/// What stands after `o `.
 fn parse_output(fields: &[u8]) -> Option<Command>
     ensures some { IfSome result (λ c. IsCommand (meaning c) × (codes "o " ++ fields.now ≡ command_text (meaning c))) }
     ensures none { IfNone result ((p l : ℕ) → IsNumber p → IsNumber l → fields.now ≢ output_fields p l) }
@@ -187,7 +187,7 @@ fn parse_output(fields: &[u8]) -> Option<Command>
     })
 }
 
-/// What stands behind `v `.
+/// What stands after `v `.
 fn parse_question(fields: &[u8]) -> Option<Command>
     ensures some { IfSome result (λ c. IsCommand (meaning c) × (codes "v " ++ fields.now ≡ command_text (meaning c))) }
     ensures none { IfNone result ((t l : ℕ) → IsNumber t → IsNumber l → fields.now ≢ value_fields t l) }

@@ -2,10 +2,10 @@
 #![tactic(auto)]
 
 mod command;
-mod laws;
 mod reply;
 mod script;
+mod script_laws;
 mod script_line;
 
-pub use laws::{law_of_lines, law_of_one_meaning};
 pub use script::run_script;
+pub use script_laws::{law_of_lines, law_of_one_meaning};

@@ -3,7 +3,7 @@ ghost use Rattle.std.specs.Prelude.{◌≡◌, ℕ, List, ◌∷◌, length, Res
 ghost use Rattle.aig_parts.specs.declared.raw.Raw.{Raw};
 ghost use Rattle.aig_bytes.specs.Bytes.{Writes};
 ghost use Rattle.aig_bench.specs.Edit.{number_of};
-ghost use Rattle.aig_sim.specs.LineInHand.{Keeps};
+ghost use Rattle.aig_sim.specs.RowParser.{KeepsLine};
 ghost use Rattle.aig_unroll.specs.declared.fault.UnrollFault.{UnrollFault};
 ghost use Rattle.aig_unroll.specs.Answers as unrolling;
 ghost use Rattle.aig_unroll.specs.Answers.{AnswersUnrolling};
@@ -18,7 +18,7 @@ use crate::script_line::ScriptLine;
 use aig_base::{Circuit, Io, Tern, Write, write_all, write_number};
 use aig_bench::{Bench, EditFault, EditReport};
 use aig_format::write_ascii;
-use aig_sim::{Grid, LineInHand, StimFault};
+use aig_sim::{Grid, RowParser, StimFault};
 use aig_unroll::UnrollFault;
 use std::alloc::Global;
 
@@ -148,7 +148,7 @@ fn obey<G: Grid, W: Write>(
     }
 }
 
-/// Why the values behind `+ ` are no row: there are too few or too many, or another byte is among them.
+/// Why the values after `+ ` are no row: there are too few or too many, or another byte is among them.
 fn write_row_fault<W: Write>(fault: StimFault, out: &mut W) -> Result<(), Io>
     ensures { Writes W.written W.failures out.old out.new (row_fault_reply fault) result }
 {
@@ -162,10 +162,10 @@ fn write_row_fault<W: Write>(fault: StimFault, out: &mut W) -> Result<(), Io>
     }
 }
 
-/// Appends the frame that a line spells behind `+ `, and writes its reply.
-fn append<G: Grid, W: Write>(bench: &mut Bench<G>, row: &LineInHand, out: &mut W) -> Result<(), Io>
+/// Appends the frame that a line spells after `+ `, and writes its reply.
+fn append<G: Grid, W: Write>(bench: &mut Bench<G>, row: &RowParser, out: &mut W) -> Result<(), Io>
     requires { row.now.width ≡ length bench.old.pair.circuit.inputs }
-    ensures { (reply : List ℕ) × ((values : List ℕ) → Keeps row.now.width values row.now.shape row.now.values →
+    ensures { (reply : List ℕ) × ((values : List ℕ) → KeepsLine row.now.width values row.now.shape row.now.values →
         WholeReply bench.old.pair (43 ∷ 32 ∷ values) reply bench.new.pair)
         × Writes W.written W.failures out.old out.new reply result }
 {

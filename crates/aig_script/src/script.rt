@@ -91,7 +91,7 @@ fn feed_line<G: Grid, W: Write>(
     Ok(length + 1)
 }
 
-/// Answers each line that the chunk ends, and keeps what is behind the last.
+/// Answers each line that the chunk ends, and keeps what is after the last.
 fn feed<G: Grid, W: Write>(
     alloc: Global,
     bench: &mut Bench<G>,
@@ -173,9 +173,9 @@ fn answer_all<G: Grid, R: Read, W: Write>(
 }
 
 /// Reads a script to its end and answers its lines one by one, each before it reads on. It flushes before each read, so
-/// that whoever waits for the replies to what was read has them, and behind the last reply. A line of any length is
+/// that whoever waits for the replies to what was read has them, and after the last reply. A line of any length is
 /// handled without keeping it; a last piece with bytes and no LF is bad. It takes memory for a row before the first
-/// read, and behind that none but what `w`, `+`, `g` and `u` take for the bench.
+/// read, and after that none but what `w`, `+`, `g` and `u` take for the bench.
 pub fn run_script<G: Grid, R: Read, W: Write>(
     alloc: Global,
     bench: &mut Bench<G>,

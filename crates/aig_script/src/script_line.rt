@@ -3,21 +3,21 @@ ghost use Rattle.std.specs.Prelude.{◌≡◌, ◌↔◌, List, ℕ, [], ◌∷�
 ghost use Rattle.aig_script.specs.ScriptLine.{BeginsRow, KeepsScriptLine};
 
 use aig_base::Memory;
-use aig_sim::LineInHand;
+use aig_sim::RowParser;
 use std::alloc::Global;
 use std::marker::Model;
 
 /// The longest command that appends no frame has 34 bytes.
 const ROOM: usize = 35;
 
-/// What is kept of a line of any length: its first bytes, as many as tell whether it is a command, and where it appends
+/// What is kept of a line of any length: its first bytes, as many as show whether it is a command, and where it appends
 /// a frame as many values as a row has.
 #[derive(Drop)]
 pub struct ScriptLine {
     bytes: [u8; ROOM],
     length: usize,
     is_row: bool,
-    row: LineInHand,
+    row: RowParser,
 }
 
 impl Model for ScriptLine {
@@ -41,7 +41,7 @@ impl ScriptLine {
             bytes: [0; ROOM],
             length: 0,
             is_row: false,
-            row: LineInHand::new(alloc, width, width)?,
+            row: RowParser::new(alloc, width, width)?,
         })
     }
 
@@ -117,8 +117,8 @@ impl ScriptLine {
         self.row().is_none() && self.bytes().is_empty()
     }
 
-    /// Behind `+ ` the values that it appends, for any other line nothing.
-    pub fn row(&self) -> Option<&LineInHand>
+    /// After `+ ` the values that it appends, for any other line nothing.
+    pub fn row(&self) -> Option<&RowParser>
         ensures some { IfSome result (λ row. (self.now.is_row ≡ true) × (row.now ≡ self.now.row)) }
         ensures none { IfNone result (self.now.is_row ≡ false) }
     {

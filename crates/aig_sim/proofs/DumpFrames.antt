@@ -11,8 +11,8 @@ use Rattle.aig_base.specs.Sections.{IsDefined}
 use Rattle.aig_base.specs.Sound.{IsSound}
 use Rattle.aig_base.proofs.circuits.Circuits.{input_defined, latch_defined, output_defined, input_in_range, latch_in_range, output_in_range}
 use Rattle.aig_base.proofs.lists.Positions.{Contains-from_slice_get}
-use Rattle.aig_sim.specs.Dump.{signals, changed_lines, first_text, next_text, IsFrame, AreFrames}
-use Rattle.aig_sim.specs.state.Dumping.{number_line, dumped_text, characters_of, AreLast, AreDumped}
+use Rattle.aig_sim.specs.Dump.{signals, changed_lines, first_text, next_text, IsFrameText, AreFrames}
+use Rattle.aig_sim.specs.state.Dumping.{time_line, dumped_text, characters_of, AreLast, AreDumped}
 use Rattle.aig_values.specs.state.Frame.{HoldsAll}
 use Rattle.aig_values.specs.Trace.{AreValues}
 use Rattle.aig_sim.proofs.DumpLemmas.{changed_first, later_frame}
@@ -63,7 +63,7 @@ signals_text raw start rows t cells sound holds =
 
 -- ---- more rows
 module _ (raw : Raw) (start : List Tern) (rows more : List (List Tern)) where
-  frame_stays : (t : ℕ) (text : List ℕ) → IsFrame raw start rows t text → IsFrame raw start (rows ++ more) t text
+  frame_stays : (t : ℕ) (text : List ℕ) → IsFrameText raw start rows t text → IsFrameText raw start (rows ++ more) t text
   frame_stays zero text h = (h.0, values_stay raw start rows more zero (signals raw) h.0 h.1, h.2)
   frame_stays (suc t) text h = (
     h.0,
@@ -83,19 +83,19 @@ first_dumped : (raw : Raw) (cells : List Tern) (frame : ℕ) (last : List ℕ) �
     → dumped_text frame last (characters_of raw cells) ≡ first_text (characters_of raw cells)
 first_dumped raw cells frame last zero_is none =
     (λ i. dumped_text (zero_is i) (none i) (characters_of raw cells))
-    ∙ ap (λ (lines : List ℕ). number_line 0 ++ (codes "$dumpvars\n" ++ (lines ++ codes "$end\n")))
+    ∙ ap (λ (lines : List ℕ). time_line 0 ++ (codes "$dumpvars\n" ++ (lines ++ codes "$end\n")))
     (changed_first 0 cells (signals raw))
 
 later_dumped : (t frame : ℕ) (last cs : List ℕ) → frame ≡ min (suc t) (2 ^ 64 - 1)
     → dumped_text frame last cs ≡ next_text (suc t) last cs
 later_dumped t frame last cs is =
     let some : 0 < frame = omega (arith, is) in
-    sym (later_frame frame last cs some) ∙ ap (λ (n : ℕ). number_line n ++ changed_lines 0 last cs) is
+    sym (later_frame frame last cs some) ∙ ap (λ (n : ℕ). time_line n ++ changed_lines 0 last cs) is
 
 frame_is : (raw : Raw) (start : List Tern) (rows : List (List Tern)) (row : List Tern) (cells : List Tern) (last : List ℕ)
     (n frame : ℕ) → frame ≡ min n (2 ^ 64 - 1) → AreLast raw start rows n last
     → AreValues raw start (rows ++ row ∷ []) n (signals raw) (characters_of raw cells)
-    → IsFrame raw start (rows ++ row ∷ []) n (dumped_text frame last (characters_of raw cells))
+    → IsFrameText raw start (rows ++ row ∷ []) n (dumped_text frame last (characters_of raw cells))
 frame_is raw start rows row cells last zero frame is none values =
     (characters_of raw cells, values, first_dumped raw cells frame last (omega (arith, is)) none)
 frame_is raw start rows row cells last (suc t) frame is kept values = (

@@ -7,7 +7,7 @@ use Rattle.aig_parts.specs.declared.ternary.Tern.{Tern}
 use Rattle.aig_parts.specs.declared.ternary.Tern.TheVariants.{Zero, One, X}
 use Rattle.aig_values.specs.Cells.{literal_value}
 use Rattle.aig_sim.specs.Dump.{value_line, all_lines, changed_lines}
-use Rattle.aig_sim.specs.state.Dumping.{number_line, dumped_text}
+use Rattle.aig_sim.specs.state.Dumping.{time_line, dumped_text}
 use Rattle.aig_values.specs.Characters.{character}
 use Rattle.aig_values.specs.TraceText.{literal_character}
 
@@ -63,14 +63,14 @@ changed_none bs cs i le size =
 
 -- ---- frames
 pub first_frame : (t : ℕ) (bs cs : List ℕ) → t ≤ 0
-    → number_line t ++ (codes "$dumpvars\n" ++ (changed_lines 0 bs cs ++ codes "$end\n")) ≡ dumped_text t bs cs
+    → time_line t ++ (codes "$dumpvars\n" ++ (changed_lines 0 bs cs ++ codes "$end\n")) ≡ dumped_text t bs cs
 first_frame zero bs cs le = refl
 first_frame (suc t) bs cs le = absurd (omega (arith, le))
 
-pub later_frame : (t : ℕ) (bs cs : List ℕ) → 0 < t → number_line t ++ changed_lines 0 bs cs ≡ dumped_text t bs cs
+pub later_frame : (t : ℕ) (bs cs : List ℕ) → 0 < t → time_line t ++ changed_lines 0 bs cs ≡ dumped_text t bs cs
 later_frame zero bs cs lt = absurd (omega (arith, lt))
 later_frame (suc t) bs cs lt = refl
 
-pub frame_begins : (t : ℕ) (bs cs : List ℕ) → (rest : List ℕ) × (number_line t ++ rest ≡ dumped_text t bs cs)
+pub frame_begins : (t : ℕ) (bs cs : List ℕ) → (rest : List ℕ) × (time_line t ++ rest ≡ dumped_text t bs cs)
 frame_begins zero bs cs = (codes "$dumpvars\n" ++ (changed_lines 0 bs cs ++ codes "$end\n"), refl)
 frame_begins (suc t) bs cs = (changed_lines 0 bs cs, refl)

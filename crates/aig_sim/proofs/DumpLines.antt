@@ -7,7 +7,7 @@ use Rattle.std.proofs.lemmas.List.{append-nil}
 use Rattle.std.proofs.lemmas.List.Elements.{All-nil, All-cons, All-head, All-tail, All-append}
 use Rattle.aig_parts.specs.declared.raw.Raw.{Raw}
 use Rattle.aig_sim.specs.DumpHeader.{signal_counts, header}
-use Rattle.aig_sim.specs.DumpRead.{lines_behind, lines}
+use Rattle.aig_sim.specs.DumpRead.{lines_after, lines}
 use Rattle.aig_dump_header.proofs.Codes.{IsVisible}
 use Rattle.aig_dump_header.proofs.HeaderLines.{lines_of_header}
 
@@ -28,18 +28,18 @@ no_end_by_test (b ∷ bytes) e =
 pub no_end_visible : (bytes : List ℕ) → All IsVisible bytes → HasNoEnd bytes
 no_end_visible bytes h = λ k d lt e. let v = h k d lt in omega (arith, v.0, e)
 
-line_behind : (start line more : List ℕ) → HasNoEnd line
-    → lines_behind start (line ++ (10 ∷ more)) ≡ (start ++ line) ∷ lines more
-unfolding lines_behind
-line_behind start [] more h = ap (λ (l : List ℕ). l ∷ lines_behind [] more) (sym (append-nil start))
-line_behind start (b ∷ line) more h =
+line_after : (start line more : List ℕ) → HasNoEnd line
+    → lines_after start (line ++ (10 ∷ more)) ≡ (start ++ line) ∷ lines more
+unfolding lines_after
+line_after start [] more h = ap (λ (l : List ℕ). l ∷ lines_after [] more) (sym (append-nil start))
+line_after start (b ∷ line) more h =
     let other : eqb b 10 ≡ false = ne_eqb b 10 (All-head (λ b. b ≢ 10) b line h) in
     rw other
-    (line_behind (start ++ b ∷ []) line more (All-tail (λ b. b ≢ 10) b line h)
-    ∙ ap (λ (l : List ℕ). l ∷ lines_behind [] more) (append_assoc start (b ∷ []) line))
+    (line_after (start ++ b ∷ []) line more (All-tail (λ b. b ≢ 10) b line h)
+    ∙ ap (λ (l : List ℕ). l ∷ lines_after [] more) (append_assoc start (b ∷ []) line))
 
 pub first_line : (line more : List ℕ) → HasNoEnd line → lines (line ++ (10 ∷ more)) ≡ line ∷ lines more
-first_line line more h = line_behind [] line more h
+first_line line more h = line_after [] line more h
 
 -- ---- lines that begin with `$`
 abbrev pub IsDirective : List ℕ → Type 0
@@ -88,7 +88,7 @@ header_directives raw =
     subst AreDirectives (sym text_is) (lines_directives each all)
 
 pub header_lines : (raw : Raw) → All IsDirective (lines (header raw))
-unfolding lines_behind
+unfolding lines_after
 header_lines raw =
     let h = header_directives raw in
     let same : lines (header raw) ≡ h.each =

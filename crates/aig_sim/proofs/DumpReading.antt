@@ -11,7 +11,7 @@ use Rattle.std.proofs.lemmas.Slice.Eq.{bytes_eq-Decides}
 use Rattle.aig_sim.specs.StimulusText.{IsCharacter}
 use Rattle.aig_sim.specs.Dump.{time_line, value_line, all_lines, changed_lines, first_text, next_text}
 use Rattle.aig_dump_header.specs.Names.{identifier_code}
-use Rattle.aig_sim.specs.DumpRead.{lines, time_behind, is_value, value_behind, seen}
+use Rattle.aig_sim.specs.DumpRead.{lines, time_after, is_value, value_after, seen}
 use Rattle.aig_dump_header.proofs.Codes.{one_signal, visible_code}
 use Rattle.aig_sim.proofs.DumpLines.{HasNoEnd, no_end_by_test, no_end_visible, first_line, IsDirective, AreDirectives, no_directive, directive_then}
 use Rattle.aig_dump_header.proofs.NamePieces.{visible_decimal}
@@ -34,7 +34,7 @@ leads_then {m} {t} {now} {value} {a} {b} h k = record {
 }
 
 leads_line : (m t now : ℕ) (value : Option ℕ) (line : List ℕ) → HasNoEnd line
-    → Leads m t now value (line ++ 10 ∷ []) (time_behind now line) (value_behind (identifier_code m) t now value line)
+    → Leads m t now value (line ++ 10 ∷ []) (time_after now line) (value_after (identifier_code m) t now value line)
 unfolding seen
 leads_line m t now value line h = record {
   at = λ more. ap (λ (x : List ℕ). seen (identifier_code m) t now value (lines x)) (append_assoc line (10 ∷ []) more)
@@ -42,12 +42,12 @@ leads_line m t now value line h = record {
 }
 
 -- ---- lines that begin with `$`
-directive_time : (now : ℕ) (line : List ℕ) → IsDirective line → time_behind now line ≡ now
+directive_time : (now : ℕ) (line : List ℕ) → IsDirective line → time_after now line ≡ now
 directive_time now [] h = refl
 directive_time now (b ∷ line) h = let is : b ≡ 36 = cc in rw is refl
 
 directive_value : (code : List ℕ) (t now : ℕ) (value : Option ℕ) (line : List ℕ) → IsDirective line
-    → value_behind code t now value line ≡ value
+    → value_after code t now value line ≡ value
 directive_value code t now value [] h = refl
 directive_value code t now value (b ∷ line) h = let is : b ≡ 36 = cc in rw is refl
 
@@ -57,7 +57,7 @@ unfolding seen
 seen_directives code t now value [] rest h = refl
 seen_directives code t now value (line ∷ each) rest h =
     let is : IsDirective line = All-head IsDirective line each h in
-    ap (λ (u : ℕ). seen code t u (value_behind code t now value line) (each ++ rest)) (directive_time now line is)
+    ap (λ (u : ℕ). seen code t u (value_after code t now value line) (each ++ rest)) (directive_time now line is)
     ∙ ap (λ (v : Option ℕ). seen code t now v (each ++ rest)) (directive_value code t now value line is)
     ∙ seen_directives code t now value each rest (All-tail IsDirective line each h)
 
@@ -95,7 +95,7 @@ then_part b x y e = rw e refl
 else_part : (b : Bool) (x y : Option ℕ) → b ≡ false → (if b then x else y) ≡ y
 else_part b x y e = rw e refl
 
-time_stays : (now c : ℕ) (rest : List ℕ) → IsCharacter c → time_behind now (c ∷ rest) ≡ now
+time_stays : (now c : ℕ) (rest : List ℕ) → IsCharacter c → time_after now (c ∷ rest) ≡ now
 time_stays now c rest h = let other : eqb c 35 ≡ false = (value_tested c h).1 in rw other refl
 
 no_end_of_value : (n c : ℕ) → IsCharacter c → HasNoEnd (c ∷ identifier_code n)
@@ -104,11 +104,11 @@ no_end_of_value n c h =
     All-cons (λ b. b ≢ 10) c code (value_tested c h).2 (no_end_visible code (visible_code n))
 
 leads_value : (m t now n c : ℕ) (value value' : Option ℕ) → IsCharacter c
-    → value_behind (identifier_code m) t now value (c ∷ identifier_code n) ≡ value'
+    → value_after (identifier_code m) t now value (c ∷ identifier_code n) ≡ value'
     → Leads m t now value (value_line n c) now value'
 leads_value m t now n c value value' h e =
     let line : List ℕ = c ∷ identifier_code n in
-    let found : Option ℕ = value_behind (identifier_code m) t now value line in
+    let found : Option ℕ = value_after (identifier_code m) t now value line in
     subst (λ (x : Option ℕ). Leads m t now value (value_line n c) now x) e
     (subst (λ (x : ℕ). Leads m t now value (value_line n c) x found) (time_stays now c (identifier_code n) h)
     (leads_line m t now value line (no_end_of_value n c h)))

@@ -16,7 +16,7 @@ use Rattle.aig_values.specs.Trace.{AreValues}
 use Rattle.aig_sim.specs.Dump.{signals, first_text, next_text, AreFrames, closing, IsDump}
 use Rattle.aig_sim.specs.DumpHeader.{header}
 use Rattle.aig_dump_header.specs.Names.{identifier_code}
-use Rattle.aig_sim.specs.DumpRead.{lines_behind, seen, read_value, ShowsFrames}
+use Rattle.aig_sim.specs.DumpRead.{lines_after, seen, read_value, ShowsFrames}
 use Rattle.aig_sim.proofs.DumpLines.{header_directives}
 use Rattle.aig_sim.proofs.DumpReading.{Leads, leads_then, leads_directives, leads_time, leads_first, leads_next, leads_later}
 
@@ -110,7 +110,7 @@ module _ (raw : Raw) (start : List Tern) (rows : List (List Tern)) (sound : IsSo
 -- the text of a dump leads there from nothing
 read_back : (m t now : ℕ) (value : Option ℕ) (text : List ℕ) → Leads m t 0 None text now value
     → read_value text (identifier_code m) t ≡ value
-unfolding seen lines_behind
+unfolding seen lines_after
 read_back m t now value text h =
     ap (λ (x : List ℕ). read_value x (identifier_code m) t) (sym (append-nil text)) ∙ h.at []
 

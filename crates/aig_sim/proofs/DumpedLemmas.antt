@@ -12,18 +12,18 @@ use Rattle.aig_sim.specs.declared.stimulus_fault.StimFault.TheVariants as fault
 use Rattle.aig_sim.specs.Dump.{closing}
 use Rattle.aig_sim.specs.DumpHeader.{header}
 use Rattle.aig_sim.specs.Dumped.{Dumps}
-use Rattle.aig_sim.specs.state.Dumping.{AreDumped, number_line, ending}
-use Rattle.aig_sim.specs.state.Running.{Telling, Streamed}
+use Rattle.aig_sim.specs.state.Dumping.{AreDumped, time_line, ending}
+use Rattle.aig_sim.specs.state.Running.{RunText, Streamed}
 use Rattle.aig_sim.proofs.SimulationLemmas.{before_nil}
 
 -- what the frames of a dump are
-abbrev dumped : Telling
+abbrev dumped : RunText
 dumped raw start rows text = AreDumped raw start rows text
 
 pub ending_is : (n k : ℕ) → n ≡ min k (2 ^ 64 - 1) → ending n ≡ closing k
 ending_is n zero is = ap ending is
 ending_is zero (suc k) is = absurd (omega (arith, is))
-ending_is (suc n) (suc k) is = ap number_line is
+ending_is (suc n) (suc k) is = ap time_line is
 
 -- no more bytes than the header has are a part of it
 past_header : (h d : List ℕ) → length (h ++ d) < length h → ⊥
@@ -68,15 +68,15 @@ dumps_no_header raw left reads writes writes' written written' (done, begins, wr
 
 -- ---- after the header
 module _ (raw : Raw) (left left' : Option (List ℕ)) (reads reads' first second third : ℕ)
-    (written told at_end : Option (List ℕ)) (header_is : told ≡ after written (header raw)) (count : second ≡ first + 0) where
+    (written reported at_end : Option (List ℕ)) (header_is : reported ≡ after written (header raw)) (count : second ≡ first + 0) where
   -- what was written after the header
-  all_written : (done : List ℕ) → at_end ≡ after told done → at_end ≡ after written (header raw ++ done)
+  all_written : (done : List ℕ) → at_end ≡ after reported done → at_end ≡ after written (header raw ++ done)
   all_written done wrote =
       wrote ∙ ap (λ (w : Option (List ℕ)). after w done) header_is ∙ after-append written (header raw) done
 
   pub dumps_stopped : (f : StimFault) → f ≢ fault.Memory
       → Streamed dumped raw (record { left = left; reads = reads; writes = second })
-      (record { left = left'; reads = reads'; writes = third }) told at_end (Err f)
+      (record { left = left'; reads = reads'; writes = third }) reported at_end (Err f)
       → Dumps raw (record { left = left; reads = reads; writes = first })
       (record { left = left'; reads = reads'; writes = third }) written at_end (Err f)
   dumps_stopped fault.Memory ne h = absurd (ne refl)
@@ -139,7 +139,7 @@ module _ (raw : Raw) (left left' : Option (List ℕ)) (reads reads' first second
 
   -- ---- the end
   module _ (n : ℕ) (h : Streamed dumped raw (record { left = left; reads = reads; writes = second })
-      (record { left = left'; reads = reads'; writes = third }) told at_end (Ok n)) (fourth : ℕ) (last : Option (List ℕ)) where
+      (record { left = left'; reads = reads'; writes = third }) reported at_end (Ok n)) (fourth : ℕ) (last : Option (List ℕ)) where
     end_is : ending n ≡ closing (length h.rows)
     end_is = ending_is n (length h.rows) h.ended.3
 

@@ -14,11 +14,11 @@ use Rattle.aig_parts.specs.declared.ternary.Tern.{Tern}
 use Rattle.aig_parts.specs.declared.ternary.Tern.TheVariants.{Zero, One, X}
 use Rattle.aig_sim.specs.declared.stimulus_fault.StimFault.{StimFault}
 use Rattle.aig_sim.specs.declared.stimulus_fault.StimFault.TheVariants as fault
-use Rattle.aig_sim.specs.declared.line_in_hand.Shape.{Shape}
-use Rattle.aig_sim.specs.declared.line_in_hand.Shape.TheVariants.{Row, Long, Wrong}
+use Rattle.aig_sim.specs.declared.row_parser.Shape.{Shape}
+use Rattle.aig_sim.specs.declared.row_parser.Shape.TheVariants.{Row, Long, Wrong}
 use Rattle.aig_values.specs.Characters.{character}
 use Rattle.aig_sim.specs.StimulusText.{row_line, line_number, IsCharacter, EndsLine, HasFault, HasFaultyLine, SpellsRows}
-use Rattle.aig_sim.specs.LineInHand.{Keeps, HasRead}
+use Rattle.aig_sim.specs.RowParser.{KeepsLine, HasRead}
 
 pub IsCharacter-of_value : (w : Tern) → IsCharacter (character w)
 IsCharacter-of_value Zero = inl refl
@@ -37,7 +37,7 @@ characters values = All-map IsCharacter character values (λ i d h. IsCharacter-
 -- a character past the width
 pub keeps_long : (width : ℕ) (line : List ℕ) (values : List Tern) (w : Tern) (values' : List Tern) → width
     ≤ length values
-    → Keeps width line Row values → Keeps width (line ++ character w ∷ []) Long values'
+    → KeepsLine width line Row values → KeepsLine width (line ++ character w ∷ []) Long values'
 keeps_long width line values w values' h k =
     let e = k.kept.0 in
     record {
@@ -50,7 +50,7 @@ keeps_long width line values w values' h k =
 
 -- a character of a line that can be no row any more
 pub keeps_more : (width : ℕ) (line : List ℕ) (shape : Shape) (values : List Tern) (w : Tern) → (shape ≡ Row → ⊥)
-    → Keeps width line shape values → Keeps width (line ++ character w ∷ []) shape values
+    → KeepsLine width line shape values → KeepsLine width (line ++ character w ∷ []) shape values
 keeps_more width line Row values w other k = absurd (other refl)
 keeps_more width line Long values w other k = record {
   kept = (
@@ -81,7 +81,7 @@ all_more P l x false c before here = (
 -- characters past the width
 pub keeps_long_pieces : (width : ℕ) (line : List ℕ) (values : List Tern) (bytes : List ℕ) (values' : List Tern)
     → All IsCharacter bytes → width < length values + length bytes
-    → Keeps width line Row values → Keeps width (line ++ bytes) Long values'
+    → KeepsLine width line Row values → KeepsLine width (line ++ bytes) Long values'
 keeps_long_pieces width line values bytes values' are lt k =
     let e = k.kept.0 in
     record {
@@ -98,7 +98,7 @@ still_wrong line bytes wrong h =
 
 -- characters of a line that can be no row any more
 pub keeps_more_pieces : (width : ℕ) (line : List ℕ) (shape : Shape) (values : List Tern) (bytes : List ℕ) → (shape ≡ Row → ⊥)
-    → All IsCharacter bytes → Keeps width line shape values → Keeps width (line ++ bytes) shape values
+    → All IsCharacter bytes → KeepsLine width line shape values → KeepsLine width (line ++ bytes) shape values
 keeps_more_pieces width line Row values bytes other are k = absurd (other refl)
 keeps_more_pieces width line Long values bytes other are k = record {
   kept = (All-append IsCharacter line bytes k.kept.0 are, omega (arith, length-append line bytes, k.kept.1));
@@ -107,7 +107,7 @@ keeps_more_pieces width line Wrong values bytes other are k = record { kept = st
 
 -- bytes of which one is no character
 pub keeps_wrong_pieces : (width : ℕ) (line : List ℕ) (shape : Shape) (values values' : List Tern) (bytes : List ℕ)
-    → (All IsCharacter bytes → ⊥) → Keeps width line shape values → Keeps width (line ++ bytes) Wrong values'
+    → (All IsCharacter bytes → ⊥) → KeepsLine width line shape values → KeepsLine width (line ++ bytes) Wrong values'
 keeps_wrong_pieces width line shape values values' bytes wrong k = record {
   kept = λ h. wrong (λ i d lt. subst IsCharacter (get_or-append-add line bytes i d)
       (h (length line + i) d (omega (arith, lt, length-append line bytes))));
@@ -116,7 +116,7 @@ keeps_wrong_pieces width line shape values values' bytes wrong k = record {
 -- a line that has no wrong byte and is no row has a wrong length
 pub length_is_wrong : (width number before : ℕ) (line rest : List ℕ) (shape : Shape) (values : List Tern)
     → (shape ≡ Wrong → ⊥) → (shape ≡ Row → length values ≢ width) → number ≡ line_number before
-    → Keeps width line shape values → EndsLine rest → HasFault width before line rest (fault.Length number)
+    → KeepsLine width line shape values → EndsLine rest → HasFault width before line rest (fault.Length number)
 length_is_wrong width number before line rest Row values other ne e k ends = (
   e,
   ends,
@@ -141,7 +141,7 @@ read_none width = record {
 pub read_piece : {width : ℕ} {text : List ℕ} {rows : List (List Tern)} {shape : Shape} {values : List Tern}
     (shape' : Shape) (values' : List Tern) (piece : List ℕ)
     → HasRead width text rows shape values → All (λ b. b ≢ 10) piece
-    → ((line : List ℕ) → Keeps width line shape values → Keeps width (line ++ piece) shape' values')
+    → ((line : List ℕ) → KeepsLine width line shape values → KeepsLine width (line ++ piece) shape' values')
     → HasRead width (text ++ piece) rows shape' values'
 read_piece {rows} shape' values' piece h ne step = record {
   widths = h.widths;
@@ -155,7 +155,7 @@ read_piece {rows} shape' values' piece h ne step = record {
 pub read_more : {width n : ℕ} {rows : List (List Tern)} {shape : Shape} {values : List Tern} (xs : List ℕ) (i m : ℕ)
     (shape' : Shape) (values' : List Tern) → n ≡ width → HasRead width (take i xs) rows shape values
     → All (λ b. b ≢ 10) (take m (take (length xs - i) (drop i xs)))
-    → ((line : List ℕ) → Keeps n line shape values → Keeps n (line ++ take (i + m - i) (drop i xs)) shape' values')
+    → ((line : List ℕ) → KeepsLine n line shape values → KeepsLine n (line ++ take (i + m - i) (drop i xs)) shape' values')
     → HasRead width (take (i + m) xs) rows shape' values'
 read_more {width} {n} {rows} {shape} {values} xs i m shape' values' e h none step =
     let size : i + m - i ≡ m = omega arith in
@@ -163,22 +163,22 @@ read_more {width} {n} {rows} {shape} {values} xs i m shape' values' e h none ste
     take_all (length xs - i) (drop i xs) (omega (arith, length-drop i xs)) in
     let no_end : All (λ b. b ≢ 10) (take m (drop i xs)) =
     subst (λ (t : List ℕ). All (λ b. b ≢ 10) (take m t)) rest none in
-    let same : (line : List ℕ) → Keeps width line shape values
-    → Keeps width (line ++ take (i + m - i) (drop i xs)) shape' values' =
-    subst (λ (w : ℕ). (line : List ℕ) → Keeps w line shape values
-    → Keeps w (line ++ take (i + m - i) (drop i xs)) shape' values') e step in
-    let taken : (line : List ℕ) → Keeps width line shape values
-    → Keeps width (line ++ take m (drop i xs)) shape' values' =
-    subst (λ (k : ℕ). (line : List ℕ) → Keeps width line shape values
-    → Keeps width (line ++ take k (drop i xs)) shape' values') size same in
+    let same : (line : List ℕ) → KeepsLine width line shape values
+    → KeepsLine width (line ++ take (i + m - i) (drop i xs)) shape' values' =
+    subst (λ (w : ℕ). (line : List ℕ) → KeepsLine w line shape values
+    → KeepsLine w (line ++ take (i + m - i) (drop i xs)) shape' values') e step in
+    let taken : (line : List ℕ) → KeepsLine width line shape values
+    → KeepsLine width (line ++ take m (drop i xs)) shape' values' =
+    subst (λ (k : ℕ). (line : List ℕ) → KeepsLine width line shape values
+    → KeepsLine width (line ++ take k (drop i xs)) shape' values') size same in
     subst (λ (t : List ℕ). HasRead width t rows shape' values') (sym (take-add i m xs))
     (read_piece shape' values' (take m (drop i xs)) h no_end taken)
 
 -- the end of a line in the bytes after a place
-pub end_behind : (xs : List ℕ) (i n : ℕ) → i + n < length xs
+pub end_after : (xs : List ℕ) (i n : ℕ) → i + n < length xs
     → (n < length (take (length xs - i) (drop i xs)) → slice_get (take (length xs - i) (drop i xs)) n ≡ Some 10)
     → get_or xs (i + n) 0 ≡ 10
-end_behind xs i n lt ended =
+end_after xs i n lt ended =
     let rest : take (length xs - i) (drop i xs) ≡ drop i xs =
     take_all (length xs - i) (drop i xs) (omega (arith, length-drop i xs)) in
     let within : n < length (drop i xs) = omega (arith, lt, length-drop i xs) in
@@ -211,7 +211,7 @@ read_line {width} {rows} {values} h len = record {
 pub read_fault : {width : ℕ} {text : List ℕ} {rows : List (List Tern)} {shape : Shape} {values : List Tern}
     {f : StimFault} (more : List ℕ)
     → HasRead width text rows shape values
-    → ((line rest : List ℕ) → Keeps width line shape values → EndsLine rest → HasFault width (length rows) line rest f)
+    → ((line rest : List ℕ) → KeepsLine width line shape values → EndsLine rest → HasFault width (length rows) line rest f)
     → HasFaultyLine width (text ++ (10 ∷ more)) rows f
 read_fault {rows} more h is = record {
   widths = h.widths;
@@ -224,7 +224,7 @@ read_fault {rows} more h is = record {
 
 -- the end of a text that no LF ends
 pub read_unfinished : {width : ℕ} {text : List ℕ} {rows : List (List Tern)} {shape : Shape} {values : List Tern}
-    → HasRead width text rows shape values → ((line : List ℕ) → Keeps width line shape values → line ≢ [])
+    → HasRead width text rows shape values → ((line : List ℕ) → KeepsLine width line shape values → line ≢ [])
     → HasFaultyLine width text rows fault.Unfinished
 read_unfinished {rows} h some = record {
   widths = h.widths;
@@ -237,7 +237,7 @@ read_unfinished {rows} h some = record {
 
 -- the end of a text after an LF
 pub read_end : {width : ℕ} {text : List ℕ} {rows : List (List Tern)} {shape : Shape} {values : List Tern}
-    → HasRead width text rows shape values → ((line : List ℕ) → Keeps width line shape values → line ≡ [])
+    → HasRead width text rows shape values → ((line : List ℕ) → KeepsLine width line shape values → line ≡ [])
     → SpellsRows width text rows
 read_end {rows} h none = record {
   widths = h.widths;
@@ -248,7 +248,7 @@ read_end {rows} h none = record {
 -- a row after the last one that is allowed
 pub limit_is_passed : (width before : ℕ) (line rest : List ℕ) (shape : Shape) (values : List Tern)
     → shape ≡ Row → length values ≡ width → before ≡ 65536
-    → Keeps width line shape values → EndsLine rest → HasFault width before line rest fault.Limit
+    → KeepsLine width line shape values → EndsLine rest → HasFault width before line rest fault.Limit
 limit_is_passed width before line rest Row values is len e k ends = (
   e,
   ends,
@@ -274,6 +274,6 @@ fault_same (Ok x) e P h p = tt
 fault_same (Err y) e P h p = subst P (sym h) p
 
 -- a fault that is returned as it is
-pub handed_on : (P : Result ℕ StimFault → Type 0) (r : Result ℕ StimFault) (e : StimFault) → IsErrAnd r (λ f. f ≡ e)
+pub forwarded : (P : Result ℕ StimFault → Type 0) (r : Result ℕ StimFault) (e : StimFault) → IsErrAnd r (λ f. f ≡ e)
     → P (Err e) → P r
-handed_on P r e h p = let (y, is, same) = err_from_is_err_and r h in subst P (ap Err (sym same) ∙ sym is) p
+forwarded P r e h p = let (y, is, same) = err_from_is_err_and r h in subst P (ap Err (sym same) ∙ sym is) p

@@ -16,32 +16,32 @@ use Rattle.aig_sim.specs.declared.witness_text.WitnessParts.{WitnessParts}
 use Rattle.aig_sim.specs.Dump.{IsDump, closing}
 use Rattle.aig_sim.specs.DumpHeader.{header}
 use Rattle.aig_bytes.specs.Flow.{flow}
-use Rattle.aig_sim.specs.Replayed.{TellsRun, Replays}
+use Rattle.aig_sim.specs.Replayed.{ReportsRun, Replays}
 use Rattle.aig_sim.specs.state.Dumping.{AreDumped, ending}
 use Rattle.aig_sim.specs.state.Checking.{ArePartsOf}
 use Rattle.aig_values.specs.state.Frame.{HoldsAll, AreStates}
 use Rattle.aig_sim.specs.state.Machine.{Steps}
-use Rattle.aig_sim.specs.state.Replaying.{BeginsRun, NoneTold, HasReplayed, WritesFrames, WritesRun}
-use Rattle.aig_sim.specs.state.Running.{Telling, Recorded}
+use Rattle.aig_sim.specs.state.Replaying.{BeginsRun, NoneReported, HasReplayed, WritesFrames, WritesRun}
+use Rattle.aig_sim.specs.state.Running.{RunText, Recorded}
 use Rattle.aig_values.specs.Characters.{character}
 use Rattle.aig_values.specs.Trace.{IsTrace}
-use Rattle.aig_sim.specs.WitnessText.{Witness, SpellsWitness, IsAdmitted, HasWitnessFault, rows_text}
+use Rattle.aig_sim.specs.WitnessText.{Witness, SpellsWitness, IsAdmitted, HasWitnessFault, witness_rows_text}
 use Rattle.aig_sim.proofs.DumpedLemmas.{ending_is}
 use Rattle.aig_sim.proofs.RunTexts.{trace_goes_on, dump_goes_on}
 use Rattle.aig_values.proofs.TraceLemmas.{first_states}
 use Rattle.aig_sim.proofs.VerdictLemmas.{row_was_read}
 
-module _ {T : Type 0} {is_text : Telling} {recorded : Recorded T} {raw : Raw} {w : Witness} where
+module _ {T : Type 0} {is_text : RunText} {recorded : Recorded T} {raw : Raw} {w : Witness} where
   -- before the first frame
   pub replay_begins : {states : List Tern} {rows : List ℕ} {frames : ℕ} {recorder : T} (written : Option (List ℕ))
-      (failures : ℕ) → BeginsRun raw w states rows frames → NoneTold is_text recorded raw w recorder
+      (failures : ℕ) → BeginsRun raw w states rows frames → NoneReported is_text recorded raw w recorder
       → HasReplayed is_text recorded raw w 0 rows states recorder written failures written failures
   replay_begins written failures h none = record {
     rest_is = h.rows_are.text_is;
     states_are = subst (λ (s : List Tern). AreStates raw w.start [] 0 s) (sym h.states_are) (first_states raw w.start h.latches);
     recorded_are = none.none_recorded;
-    told = [];
-    told_is = none.no_text;
+    reported = [];
+    reported_is = none.no_text;
     wrote = sym (after-nil written);
     no_failure = refl;
   }
@@ -53,14 +53,14 @@ module _ {T : Type 0} {is_text : Telling} {recorded : Recorded T} {raw : Raw} {w
       (rest' : List ℕ) (row cells' states' : List Tern) (read : rest ≡ map character row ++ (10 ∷ rest'))
       (step : (start : List Tern) (rows : List (List Tern)) → AreStates raw start rows (length rows) states
       → Steps raw start rows row cells' states')
-      (piece : List ℕ) (told : (start : List Tern) (rows : List (List Tern)) (row : List Tern) (text : List ℕ)
+      (piece : List ℕ) (reported : (start : List Tern) (rows : List (List Tern)) (row : List Tern) (text : List ℕ)
       → is_text raw start rows text → recorded recorder raw start rows
       → HoldsAll raw start (rows ++ row ∷ []) (length rows) cells' → t ≡ min (length rows) (2 ^ 64 - 1)
       → is_text raw start (rows ++ row ∷ []) (text ++ piece)) (small : t < 2 ^ 32) where
     len : length (take t w.rows) ≡ t
     len = length-take-le t w.rows (omega (arith, lt))
 
-    was_read : (row ≡ get_or w.rows t []) × (rest' ≡ rows_text (drop (t + 1) w.rows))
+    was_read : (row ≡ get_or w.rows t []) × (rest' ≡ witness_rows_text (drop (t + 1) w.rows))
     was_read = row_was_read rest rest' w.rows t row h.rest_is lt read
 
     rows_so_far : take t w.rows ++ row ∷ [] ≡ take (t + 1) w.rows
@@ -73,10 +73,10 @@ module _ {T : Type 0} {is_text : Telling} {recorded : Recorded T} {raw : Raw} {w
     stepped = step w.start (take t w.rows)
         (subst (λ (n : ℕ). AreStates raw w.start (take t w.rows) n states) (sym len) h.states_are)
 
-    told_more : is_text raw w.start (take (t + 1) w.rows) (h.told ++ piece)
-    told_more =
-        subst (λ (rows : List (List Tern)). is_text raw w.start rows (h.told ++ piece)) rows_so_far
-        (told w.start (take t w.rows) row h.told h.told_is h.recorded_are stepped.cells_are number_is)
+    reported_more : is_text raw w.start (take (t + 1) w.rows) (h.reported ++ piece)
+    reported_more =
+        subst (λ (rows : List (List Tern)). is_text raw w.start rows (h.reported ++ piece)) rows_so_far
+        (reported w.start (take t w.rows) row h.reported h.reported_is h.recorded_are stepped.cells_are number_is)
 
     -- it was written
     pub replay_more : (recorder' : T) (written' : Option (List ℕ)) (failures' : ℕ)
@@ -91,9 +91,9 @@ module _ {T : Type 0} {is_text : Telling} {recorded : Recorded T} {raw : Raw} {w
           (subst (λ (n : ℕ). AreStates raw w.start (take t w.rows ++ row ∷ []) (n + 1) states') len stepped.states_are);
       recorded_are = subst (λ (rows : List (List Tern)). recorded recorder' raw w.start rows) rows_so_far
           (kept w.start (take t w.rows) row h.recorded_are stepped.cells_are number_is);
-      told = h.told ++ piece;
-      told_is = told_more;
-      wrote = wrote ∙ ap (λ (x : Option (List ℕ)). after x piece) h.wrote ∙ after-append start h.told piece;
+      reported = h.reported ++ piece;
+      reported_is = reported_more;
+      wrote = wrote ∙ ap (λ (x : Option (List ℕ)). after x piece) h.wrote ∙ after-append start h.reported piece;
       no_failure = omega (arith, none, h.no_failure);
     }
 
@@ -104,9 +104,9 @@ module _ {T : Type 0} {is_text : Telling} {recorded : Recorded T} {raw : Raw} {w
         → Writes {T = Unit {0}} of_written of_failures mid new piece (Err e) → IsErr s
         → WritesFrames is_text raw w of_written of_failures old new s
     replay_stops {of_written} {of_failures} {old} {mid} {new} {s = Err f} a b c d k is =
-        let first : Writes {T = Unit {0}} {E = Unit {0}} of_written of_failures old mid h.told (Ok tt) =
+        let first : Writes {T = Unit {0}} {E = Unit {0}} of_written of_failures old mid h.reported (Ok tt) =
         record {
-          ok = sym c ∙ h.wrote ∙ ap (λ (x : Option (List ℕ)). after x h.told) a;
+          ok = sym c ∙ h.wrote ∙ ap (λ (x : Option (List ℕ)). after x h.reported) a;
           err = tt;
           count = omega (arith, b, d, h.no_failure);
         } in
@@ -114,28 +114,28 @@ module _ {T : Type 0} {is_text : Telling} {recorded : Recorded T} {raw : Raw} {w
         record {
           frames = t + 1;
           few = omega (arith, lt);
-          told = h.told ++ piece;
-          told_is = told_more;
+          reported = h.reported ++ piece;
+          reported_is = reported_more;
           writes = writes_then first second;
           whole = tt;
         }
     replay_stops {s = Ok x} a b c d k is = absurd (false≢true is)
 
 -- a text of the first frames, of which a beginning was written, goes on to one of all frames
-pub run_written : {X E : Type 0} {is_text : Telling} {raw : Raw} {w : Witness} {written : X → Option (List ℕ)} {failures : X → ℕ}
+pub run_written : {X E : Type 0} {is_text : RunText} {raw : Raw} {w : Witness} {written : X → Option (List ℕ)} {failures : X → ℕ}
     {old new : X} {r : Result (Unit {0}) E}
     → ((t : ℕ) (text : List ℕ) → t ≤ length w.rows → is_text raw w.start (take t w.rows) text
     → (rest : List ℕ) × is_text raw w.start w.rows (text ++ rest))
     → WritesFrames is_text raw w written failures old new r → WritesRun is_text raw w written failures old new r
 run_written {is_text} {raw} {w} {r = Ok x} goes_on h = record {
-  told = h.told;
-  told_is = subst (λ (rows : List (List Tern)). is_text raw w.start rows h.told)
-      (take_all h.frames w.rows (omega (arith, h.whole))) h.told_is;
+  reported = h.reported;
+  reported_is = subst (λ (rows : List (List Tern)). is_text raw w.start rows h.reported)
+      (take_all h.frames w.rows (omega (arith, h.whole))) h.reported_is;
   writes = h.writes;
 }
 run_written {r = Err e} goes_on h =
-    let (rest, all) = goes_on h.frames h.told h.few h.told_is in
-    record { told = h.told ++ rest; told_is = all; writes = writes_stop rest h.writes refl }
+    let (rest, all) = goes_on h.frames h.reported h.few h.reported_is in
+    record { reported = h.reported ++ rest; reported_is = all; writes = writes_stop rest h.writes refl }
 
 -- ---- traces and dumps
 module _ {raw : Raw} {w : Witness} {states : List Tern} {rows : List ℕ} {frames : ℕ}
@@ -162,8 +162,8 @@ module _ {raw : Raw} {w : Witness} {states : List Tern} {rows : List ℕ} {frame
     dump_no_header k is =
         let (text, are) = dump_on 0 [] (omega arith) refl in
         record {
-          told = header raw ++ (text ++ closing (length w.rows));
-          told_is = record { frames = text; frames_are = are; text_is = refl };
+          reported = header raw ++ (text ++ closing (length w.rows));
+          reported_is = record { frames = text; frames_are = are; text_is = refl };
           writes = writes_stop (text ++ closing (length w.rows)) k is;
         }
 
@@ -175,8 +175,8 @@ module _ {raw : Raw} {w : Witness} {states : List Tern} {rows : List ℕ} {frame
       dump_no_frames h is =
           let run = run_written dump_on h in
           record {
-            told = header raw ++ (run.told ++ closing (length w.rows));
-            told_is = record { frames = run.told; frames_are = run.told_is; text_is = refl };
+            reported = header raw ++ (run.reported ++ closing (length w.rows));
+            reported_is = record { frames = run.reported; frames_are = run.reported_is; text_is = refl };
             writes = writes_then first (writes_stop (closing (length w.rows)) run.writes is);
           }
 
@@ -187,8 +187,8 @@ module _ {raw : Raw} {w : Witness} {states : List Tern} {rows : List ℕ} {frame
       dump_written h few end =
           let run = run_written dump_on h in
           record {
-            told = header raw ++ (run.told ++ closing (length w.rows));
-            told_is = record { frames = run.told; frames_are = run.told_is; text_is = refl };
+            reported = header raw ++ (run.reported ++ closing (length w.rows));
+            reported_is = record { frames = run.reported; frames_are = run.reported_is; text_is = refl };
             writes = writes_then first (writes_then run.writes
                 (writes_same end (ending_is frames (length w.rows) (omega (arith, few, ready.frames_are)))));
           }
@@ -207,31 +207,31 @@ ready_is {raw} {raw'} {parts} {w} {states} h same circuit is =
     })
 
 -- the text is refused, or no memory was found
-pub not_replayed : {X : Type 0} (is_text : Telling) (raw : Raw) (text : List ℕ) (written : X → Option (List ℕ)) (failures : X → ℕ)
+pub not_replayed : {X : Type 0} (is_text : RunText) (raw : Raw) (text : List ℕ) (written : X → Option (List ℕ)) (failures : X → ℕ)
     (old new : X) (why : WitnessFault) (r : Result (Unit {0}) ReplayFault) → IsErrAnd r (λ f. f ≡ fault.Witness why)
     → HasWitnessFault raw text why → new ≡ old → Replays is_text raw text (flow written failures old new) r
 not_replayed is_text raw text written failures old new why (Err f) is h same =
     subst (λ (f : ReplayFault). Replays is_text raw text (flow written failures old new) (Err f)) (sym is) (h, same)
 not_replayed is_text raw text written failures old new why (Ok x) is h same = absurd is
 
-tells : (is_text : Telling) {raw : Raw} {text : List ℕ} (w : Witness) → SpellsWitness raw text w → IsAdmitted raw w
-    → (told : List ℕ) → is_text raw w.start w.rows told → TellsRun is_text raw text told
-tells is_text w spells admitted told is = record { witness = w; spells = spells; admitted = admitted; told_is = is }
+reports : (is_text : RunText) {raw : Raw} {text : List ℕ} (w : Witness) → SpellsWitness raw text w → IsAdmitted raw w
+    → (reported : List ℕ) → is_text raw w.start w.rows reported → ReportsRun is_text raw text reported
+reports is_text w spells admitted reported is = record { witness = w; spells = spells; admitted = admitted; reported_is = is }
 
 -- the same run, of a circuit by another name
-same_circuit : {X E : Type 0} (is_text : Telling) {raw raw' : Raw} {w : Witness} {written : X → Option (List ℕ)}
+same_circuit : {X E : Type 0} (is_text : RunText) {raw raw' : Raw} {w : Witness} {written : X → Option (List ℕ)}
     {failures : X → ℕ} {old new : X} {r : Result (Unit {0}) E} → raw' ≡ raw
     → WritesRun is_text raw' w written failures old new r → WritesRun is_text raw w written failures old new r
 same_circuit is_text {w} {written} {failures} {old} {new} {r} same h =
     subst (λ (c : Raw). WritesRun is_text c w written failures old new r) same h
 
-module _ {X E : Type 0} (is_text : Telling) {raw raw' : Raw} {text : List ℕ} {written : X → Option (List ℕ)} {failures : X → ℕ}
+module _ {X E : Type 0} (is_text : RunText) {raw raw' : Raw} {text : List ℕ} {written : X → Option (List ℕ)} {failures : X → ℕ}
     {old new : X} (w : Witness) (spells : SpellsWitness raw text w) (admitted : IsAdmitted raw w) (same : raw' ≡ raw) where
   pub replayed : {x : Unit {0}} → WritesRun {E = E} is_text raw' w written failures old new (Ok x)
       → Replays is_text raw text (flow written failures old new) (Ok tt)
   replayed run =
       let h = same_circuit is_text same run in
-      (h.told, tells is_text w spells admitted h.told h.told_is, h.writes.ok, omega (arith, h.writes.count))
+      (h.reported, reports is_text w spells admitted h.reported h.reported_is, h.writes.ok, omega (arith, h.writes.count))
 
   pub replay_failed : {e : E} (r : Result (Unit {0}) ReplayFault) → IsErrAnd r (λ f. f ≡ fault.Io)
       → WritesRun is_text raw' w written failures old new (Err e) → Replays is_text raw text (flow written failures old new) r
@@ -239,5 +239,5 @@ module _ {X E : Type 0} (is_text : Telling) {raw raw' : Raw} {text : List ℕ} {
       let h = same_circuit is_text same run in
       let (done, begins, wrote) = h.writes.err in
       subst (λ (f : ReplayFault). Replays is_text raw text (flow written failures old new) (Err f)) (sym is)
-      (h.told, done, tells is_text w spells admitted h.told h.told_is, begins, wrote, h.writes.count)
+      (h.reported, done, reports is_text w spells admitted h.reported h.reported_is, begins, wrote, h.writes.count)
   replay_failed (Ok x) is run = absurd is

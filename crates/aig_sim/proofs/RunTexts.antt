@@ -12,10 +12,10 @@ use Rattle.aig_base.specs.Value.{Fits}
 use Rattle.aig_base.proofs.circuits.Circuits.{input_defined, latch_defined, next_defined, output_defined}
 use Rattle.aig_base.proofs.values.OneValue.{exists_value}
 use Rattle.aig_base.proofs.lists.Positions.{Contains-from_slice_get}
-use Rattle.aig_sim.specs.Dump.{signals, first_text, next_text, IsFrame, AreFrames}
+use Rattle.aig_sim.specs.Dump.{signals, first_text, next_text, IsFrameText, AreFrames}
 use Rattle.aig_sim.specs.state.Dumping.{AreDumped}
 use Rattle.aig_values.specs.Characters.{character}
-use Rattle.aig_values.specs.Trace.{AreValues, IsLine, AreLines, IsTrace}
+use Rattle.aig_values.specs.Trace.{AreValues, IsTraceLine, AreLines, IsTrace}
 use Rattle.aig_sim.proofs.DumpFrames.{signals_defined, frames_stay}
 use Rattle.aig_values.proofs.TraceLemmas.{lines_stay}
 
@@ -39,7 +39,7 @@ module _ (raw : Raw) (circuit : IsCircuit raw) (start : List Tern) (rows : List 
       let (text, values) = latch_values t lt f latches (λ i y at. h (suc i) y at) in
       (character w ∷ text, ((w, v, refl), values))
 
-  line_of : (t : ℕ) → t < length rows → (line : List ℕ) × IsLine raw start rows t line
+  line_of : (t : ℕ) → t < length rows → (line : List ℕ) × IsTraceLine raw start rows t line
   line_of t lt =
       let (state, state_is) = latch_values t lt (λ x. x.lit) raw.latches (λ i x at. latch_defined raw i x at) in
       let (inputs, inputs_are) = values_of t lt raw.inputs (λ i l at. input_defined raw i l at) in
@@ -66,7 +66,7 @@ module _ (raw : Raw) (circuit : IsCircuit raw) (start : List Tern) (rows : List 
       (λ i l at. All-contains (λ l. IsDefined raw (variable l)) (signals raw) l (signals_defined raw circuit.sound)
       (Contains-from_slice_get (signals raw) i l at))
 
-  frame_of : (t : ℕ) → t < length rows → (text : List ℕ) × IsFrame raw start rows t text
+  frame_of : (t : ℕ) → t < length rows → (text : List ℕ) × IsFrameText raw start rows t text
   frame_of zero lt = let (cs, values) = signal_values zero lt in (first_text cs, (cs, values, refl))
   frame_of (suc t) lt =
       let (bs, before) = signal_values t (omega arith) in

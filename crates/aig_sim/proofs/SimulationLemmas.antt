@@ -12,14 +12,14 @@ use Rattle.aig_parts.specs.declared.latch.Latch.{Latch}
 use Rattle.aig_base.specs.Value.{reset_value, start_of}
 use Rattle.aig_bytes.proofs.WriteLemmas.{after-append, after-nil}
 use Rattle.aig_sim.specs.declared.simulation.Simulation.{Simulation}
-use Rattle.aig_sim.specs.declared.line_in_hand.Shape.{Shape}
-use Rattle.aig_sim.specs.declared.line_in_hand.Shape.TheVariants.{Row}
+use Rattle.aig_sim.specs.declared.row_parser.Shape.{Shape}
+use Rattle.aig_sim.specs.declared.row_parser.Shape.TheVariants.{Row}
 use Rattle.aig_sim.specs.declared.stimulus_fault.StimFault.{StimFault}
 use Rattle.aig_sim.specs.declared.stimulus_fault.StimFault.TheVariants as fault
 use Rattle.aig_values.specs.state.Frame.{HoldsAll, AreStates}
-use Rattle.aig_sim.specs.LineInHand.{Keeps, HasRead, IsOfLine}
+use Rattle.aig_sim.specs.RowParser.{KeepsLine, HasRead, IsOfLine}
 use Rattle.aig_sim.specs.state.Machine.{Machine, Steps}
-use Rattle.aig_sim.specs.state.Running.{Telling, Recorded, Starts, Running, StopsBy, Stopped, GoesOn, Stops, ReadSoFar, Streamed}
+use Rattle.aig_sim.specs.state.Running.{RunText, Recorded, SimulationStarts, Running, StopsBy, Stopped, SimulationGoesOn, SimulationStops, ReadSoFar, Streamed}
 use Rattle.aig_sim.specs.Simulated.{Streams, Simulates}
 use Rattle.aig_sim.specs.StimulusText.{row_line, line_number, EndsLine, HasFault, HasFaultyLine}
 use Rattle.aig_values.specs.Trace.{IsTrace}
@@ -50,10 +50,10 @@ stops_by_line raw count text rows trace failures fault.Limit k h e = absurd k
 stops_by_line raw count text rows trace failures fault.Memory k h e = absurd k
 stops_by_line raw count text rows trace failures fault.Io k h e = absurd k
 
-module _ {T : Type 0} {is_text : Telling} {recorded : Recorded T} where
+module _ {T : Type 0} {is_text : RunText} {recorded : Recorded T} where
   -- ---- steps
   pub running_none : (start : Option (List ℕ)) (count : ℕ) (s : Simulation T)
-      → Starts is_text recorded s → Running is_text recorded s.machine.circuit start count [] s start count
+      → SimulationStarts is_text recorded s → Running is_text recorded s.machine.circuit start count [] s start count
   running_none start count s h =
       let raw = s.machine.circuit in
       record {
@@ -74,16 +74,16 @@ module _ {T : Type 0} {is_text : Telling} {recorded : Recorded T} where
   pub piece_goes_on : (s s' : Simulation T) (piece : List ℕ) (written : Option (List ℕ)) (failures : ℕ)
       → s.line.width ≡ length s.machine.circuit.inputs → s'.frames ≡ s.frames → s'.machine ≡ s.machine → s'.recorder ≡ s.recorder
       → All (λ b. b ≢ 10) piece
-      → ((line : List ℕ) → Keeps s.line.width line s.line.shape s.line.values
-      → Keeps s.line.width (line ++ piece) s'.line.shape s'.line.values)
-      → GoesOn is_text recorded piece s s' written written failures failures
+      → ((line : List ℕ) → KeepsLine s.line.width line s.line.shape s.line.values
+      → KeepsLine s.line.width (line ++ piece) s'.line.shape s'.line.values)
+      → SimulationGoesOn is_text recorded piece s s' written written failures failures
   piece_goes_on s s' piece written failures width frames machine recorder ne step raw start count text r = record {
     rows = r.rows;
     trace = r.trace;
     circuit_is = ap (λ (m : Machine). m.circuit) machine ∙ r.circuit_is;
     has_read = read_piece s'.line.shape s'.line.values piece r.has_read ne
-        (subst (λ (w : ℕ). (line : List ℕ) → Keeps w line s.line.shape s.line.values
-        → Keeps w (line ++ piece) s'.line.shape s'.line.values)
+        (subst (λ (w : ℕ). (line : List ℕ) → KeepsLine w line s.line.shape s.line.values
+        → KeepsLine w (line ++ piece) s'.line.shape s'.line.values)
         (width ∙ ap (λ (c : Raw). length c.inputs) r.circuit_is) step);
     states_are = subst (λ (m : Machine). AreStates raw (start_of raw) r.rows (length r.rows) m.states) (sym machine) r.states_are;
     frames_are = frames ∙ r.frames_are;
@@ -94,25 +94,25 @@ module _ {T : Type 0} {is_text : Telling} {recorded : Recorded T} where
   }
 
   pub goes_on_then : (a b : List ℕ) (s mid s' : Simulation T) (w x y : Option (List ℕ)) (f g h : ℕ)
-      → GoesOn is_text recorded a s mid w x f g → GoesOn is_text recorded b mid s' x y g h → GoesOn is_text recorded (a ++ b) s s' w y f h
+      → SimulationGoesOn is_text recorded a s mid w x f g → SimulationGoesOn is_text recorded b mid s' x y g h → SimulationGoesOn is_text recorded (a ++ b) s s' w y f h
   goes_on_then a b s mid s' w x y f g h p q raw start count text r =
       subst (λ (t : List ℕ). Running is_text recorded raw start count t s' y h) (append_assoc text a b)
       (q raw start count (text ++ a) (p raw start count text r))
 
   pub stops_then : (a b : List ℕ) (s mid : Simulation T) (w x y : Option (List ℕ)) (f g h : ℕ) (e : StimFault)
-      → GoesOn is_text recorded a s mid w x f g → Stops is_text recorded b mid x y g h e → Stops is_text recorded (a ++ b) s w y f h e
+      → SimulationGoesOn is_text recorded a s mid w x f g → SimulationStops is_text recorded b mid x y g h e → SimulationStops is_text recorded (a ++ b) s w y f h e
   stops_then a b s mid w x y f g h e p q raw start count text r =
       subst (λ (t : List ℕ). Stopped is_text raw start count t y h e) (append_assoc text a b)
       (q raw start count (text ++ a) (p raw start count text r))
 
-module _ {T : Type 0} (is_text : Telling) (recorded : Recorded T) (s : Simulation T) (machine' : Machine) (row : List Tern)
+module _ {T : Type 0} (is_text : RunText) (recorded : Recorded T) (s : Simulation T) (machine' : Machine) (row : List Tern)
     (width : s.line.width ≡ length s.machine.circuit.inputs)
     (shape : s.line.shape ≡ Row) (values : s.line.values ≡ row) (len : length row ≡ s.line.width)
     (circuit : machine'.circuit ≡ s.machine.circuit) (is_circuit : IsCircuit machine'.circuit)
     (step : (start : List Tern) (rows : List (List Tern))
     → AreStates s.machine.circuit start rows (length rows) s.machine.states
     → Steps s.machine.circuit start rows row machine'.cells machine'.states)
-    (piece : List ℕ) (told : (start : List Tern) (rows : List (List Tern)) (row : List Tern) (text : List ℕ)
+    (piece : List ℕ) (reported : (start : List Tern) (rows : List (List Tern)) (row : List Tern) (text : List ℕ)
     → is_text machine'.circuit start rows text → recorded s.recorder machine'.circuit start rows
     → HoldsAll machine'.circuit start (rows ++ row ∷ []) (length rows) machine'.cells
     → s.frames ≡ min (length rows) (2 ^ 64 - 1)
@@ -126,15 +126,15 @@ module _ {T : Type 0} (is_text : Telling) (recorded : Recorded T) (s : Simulatio
       (subst (λ (c : Raw). AreStates c (start_of raw) rows (length rows) s.machine.states) (sym is) are))
 
   -- the text with the piece of the row
-  told_more : (raw : Raw) (rows : List (List Tern)) (text : List ℕ) → s.machine.circuit ≡ raw
+  reported_more : (raw : Raw) (rows : List (List Tern)) (text : List ℕ) → s.machine.circuit ≡ raw
       → is_text raw (start_of raw) rows text → recorded s.recorder raw (start_of raw) rows
       → Steps raw (start_of raw) rows row machine'.cells machine'.states → s.frames ≡ min (length rows) (2 ^ 64 - 1)
       → is_text raw (start_of raw) (rows ++ row ∷ []) (text ++ piece)
-  told_more raw rows text is t r h n =
+  reported_more raw rows text is t r h n =
       subst (λ (c : Raw). is_text c (start_of raw) rows text → recorded s.recorder c (start_of raw) rows
       → HoldsAll c (start_of raw) (rows ++ row ∷ []) (length rows) machine'.cells
       → is_text c (start_of raw) (rows ++ row ∷ []) (text ++ piece))
-      (circuit ∙ is) (λ t r h. told (start_of raw) rows row text t r h n) t r h.cells_are
+      (circuit ∙ is) (λ t r h. reported (start_of raw) rows row text t r h n) t r h.cells_are
 
   row_read : (raw : Raw) (text : List ℕ) (rows : List (List Tern)) → s.machine.circuit ≡ raw
       → HasRead (length raw.inputs) text rows s.line.shape s.line.values
@@ -154,7 +154,7 @@ module _ {T : Type 0} (is_text : Telling) (recorded : Recorded T) (s : Simulatio
       → recorded s'.recorder machine'.circuit start (rows ++ row ∷ []))
       → s'.line.shape ≡ Row → s'.line.values ≡ [] → s'.frames ≡ min (s.frames + 1) (2 ^ 64 - 1)
       → written' ≡ after written piece → failures' ≡ failures + 0
-      → GoesOn is_text recorded (10 ∷ []) s s' written written' failures failures'
+      → SimulationGoesOn is_text recorded (10 ∷ []) s s' written written' failures failures'
   row_goes_on s' written written' failures failures' machine-is kept shape' values' frames wrote count-is raw start count
       text r =
       let done = stepped raw r.rows r.circuit_is r.states_are in
@@ -175,7 +175,7 @@ module _ {T : Type 0} (is_text : Telling) (recorded : Recorded T) (s : Simulatio
             → HoldsAll c (start_of raw) (r.rows ++ row ∷ []) (length r.rows) machine'.cells
             → recorded s'.recorder c (start_of raw) (r.rows ++ row ∷ []))
             (circuit ∙ r.circuit_is) (λ k h. kept (start_of raw) r.rows row k h r.frames_are) r.recorded_are done.cells_are;
-        trace_is = told_more raw r.rows r.trace r.circuit_is r.trace_is r.recorded_are done r.frames_are;
+        trace_is = reported_more raw r.rows r.trace r.circuit_is r.trace_is r.recorded_are done r.frames_are;
         wrote = wrote ∙ ap (λ (w : Option (List ℕ)). after w piece) r.wrote
             ∙ after-append start r.trace piece;
         no_failure = omega (arith, count-is, r.no_failure);
@@ -184,7 +184,7 @@ module _ {T : Type 0} (is_text : Telling) (recorded : Recorded T) (s : Simulatio
   -- a row was simulated, and the write of its text failed
   pub row_stops : (more : List ℕ) (written written' : Option (List ℕ)) (failures failures' : ℕ)
       → (done : List ℕ) × IsBeginning done piece × (written' ≡ after written done) → failures' ≡ failures + 1
-      → Stops is_text recorded (10 ∷ more) s written written' failures failures' fault.Io
+      → SimulationStops is_text recorded (10 ∷ more) s written written' failures failures' fault.Io
   row_stops more written written' failures failures' (done, begins, wrote) count-is raw start count text r =
       let done' = stepped raw r.rows r.circuit_is r.states_are in
       let read = row_read raw text r.rows r.circuit_is r.has_read in
@@ -192,7 +192,7 @@ module _ {T : Type 0} (is_text : Telling) (recorded : Recorded T) (s : Simulatio
         rows = r.rows ++ row ∷ [];
         trace = r.trace ++ piece;
         done = r.trace ++ done;
-        trace_is = told_more raw r.rows r.trace r.circuit_is r.trace_is r.recorded_are done' r.frames_are;
+        trace_is = reported_more raw r.rows r.trace r.circuit_is r.trace_is r.recorded_are done' r.frames_are;
         wrote = wrote ∙ ap (λ (w : Option (List ℕ)). after w done) r.wrote ∙ after-append start r.trace done;
         why = (
           record {
@@ -206,15 +206,15 @@ module _ {T : Type 0} (is_text : Telling) (recorded : Recorded T) (s : Simulatio
         );
       }
 
-module _ {T : Type 0} {is_text : Telling} {recorded : Recorded T} where
+module _ {T : Type 0} {is_text : RunText} {recorded : Recorded T} where
   -- a faulty line
   pub line_stops : (s : Simulation T) (number : ℕ) (f : StimFault) (more : List ℕ) (written : Option (List ℕ))
       (failures : ℕ)
       → s.line.width ≡ length s.machine.circuit.inputs → number ≡ min (s.frames + 1) (2 ^ 64 - 1) → IsOfLine f
       → ((before : ℕ) (line rest : List ℕ) → number ≡ line_number before
-      → Keeps s.line.width line s.line.shape s.line.values
+      → KeepsLine s.line.width line s.line.shape s.line.values
       → EndsLine rest → HasFault s.line.width before line rest f)
-      → Stops is_text recorded (10 ∷ more) s written written failures failures f
+      → SimulationStops is_text recorded (10 ∷ more) s written written failures failures f
   line_stops s number f more written failures width number-is kind is raw start count text r =
       let wide : s.line.width ≡ length raw.inputs = width ∙ ap (λ (c : Raw). length c.inputs) r.circuit_is in
       let e : number ≡ line_number (length r.rows) = omega (arith, number-is, r.frames_are) in
@@ -290,7 +290,7 @@ module _ {T : Type 0} {is_text : Telling} {recorded : Recorded T} where
       (h : ReadSoFar is_text recorded raw left mid reads reads' start count s written failures) where
     pub read_more : (chunk : List ℕ) (s' : Simulation T) (written' : Option (List ℕ)) (failures' : ℕ) → mid
         ≡ before chunk to → reads'' ≡ reads' + 0
-        → GoesOn is_text recorded chunk s s' written written' failures failures'
+        → SimulationGoesOn is_text recorded chunk s s' written written' failures failures'
         → ReadSoFar is_text recorded raw left to reads reads'' start count s' written' failures'
     read_more chunk s' written' failures' e n g = record {
       text = h.text ++ chunk;
@@ -340,7 +340,7 @@ module _ {T : Type 0} {is_text : Telling} {recorded : Recorded T} where
 
     pub simulates_stopped : (chunk : List ℕ) (written' : Option (List ℕ)) (failures' : ℕ) (f : StimFault) → mid
         ≡ before chunk to → reads'' ≡ reads' + 0
-        → Stops is_text recorded chunk s written written' failures failures' f
+        → SimulationStops is_text recorded chunk s written written' failures failures' f
         → Streamed is_text raw (record { left = left; reads = reads; writes = count })
         (record { left = to; reads = reads''; writes = failures' }) start written' (Err f)
     simulates_stopped chunk written' failures' f e n k =
@@ -376,9 +376,9 @@ module _ {T : Type 0} {is_text : Telling} {recorded : Recorded T} where
     -- the reader is at its end
     pub simulates_end : (result : Result ℕ StimFault) → s.line.width ≡ length s.machine.circuit.inputs
         → mid ≡ before [] to → reads'' ≡ reads' + 0 → IsAtEnd to → IfOk result (λ n. n ≡ s.frames)
-        → OnOk result ((line : List ℕ) → Keeps s.line.width line s.line.shape s.line.values → line ≡ [])
+        → OnOk result ((line : List ℕ) → KeepsLine s.line.width line s.line.shape s.line.values → line ≡ [])
         → IfErr result (λ f. f ≡ fault.Unfinished)
-        → OnErr result ((line : List ℕ) → Keeps s.line.width line s.line.shape s.line.values → line ≢ [])
+        → OnErr result ((line : List ℕ) → KeepsLine s.line.width line s.line.shape s.line.values → line ≢ [])
         → Streamed is_text raw (record { left = left; reads = reads; writes = count })
         (record { left = to; reads = reads''; writes = failures }) start written result
     simulates_end (Ok n) width e m at_end frames none u v =
@@ -393,7 +393,7 @@ module _ {T : Type 0} {is_text : Telling} {recorded : Recorded T} where
           trace_is = r.trace_is;
           wrote = r.wrote;
           ended = (
-            read_end r.has_read (λ line k. none line (subst (λ (w : ℕ). Keeps w line s.line.shape s.line.values) wide k)),
+            read_end r.has_read (λ line k. none line (subst (λ (w : ℕ). KeepsLine w line s.line.shape s.line.values) wide k)),
             at_end,
             refl,
             frames ∙ r.frames_are,
@@ -416,7 +416,7 @@ module _ {T : Type 0} {is_text : Telling} {recorded : Recorded T} where
           ended = (
             (
               read_unfinished r.has_read
-                  (λ line k. some line (subst (λ (w : ℕ). Keeps w line s.line.shape s.line.values) wide k)),
+                  (λ line k. some line (subst (λ (w : ℕ). KeepsLine w line s.line.shape s.line.values) wide k)),
               at_end,
             ),
             refl,
@@ -455,13 +455,13 @@ simulates raw old new written written' result h = record {
 }
 
 -- a simulation that has begun does not run out of memory
-stops_for_no_memory : (is_text : Telling) (raw : Raw) (start : Option (List ℕ)) (count : ℕ) (text : List ℕ)
+stops_for_no_memory : (is_text : RunText) (raw : Raw) (start : Option (List ℕ)) (count : ℕ) (text : List ℕ)
     (written : Option (List ℕ)) (failures : ℕ) (f : StimFault) → f ≡ fault.Memory
     → Stopped is_text raw start count text written failures f → ⊥
 stops_for_no_memory is_text raw start count text written failures f is s =
     subst (λ (f : StimFault). StopsBy raw count text s.rows s.trace s.done failures f) is s.why
 
-pub stopped_for_no_memory : {is_text : Telling} {raw : Raw} {start : Option (List ℕ)} {count : ℕ} {text : List ℕ}
+pub stopped_for_no_memory : {is_text : RunText} {raw : Raw} {start : Option (List ℕ)} {count : ℕ} {text : List ℕ}
     {written : Option (List ℕ)} {failures : ℕ} (r : Result ℕ StimFault) (f : StimFault) → IsErrAnd r (λ g. g ≡ f)
     → Stopped is_text raw start count text written failures f → IfErr r (λ g. g ≢ fault.Memory)
 stopped_for_no_memory {is_text} {raw} {start} {count} {text} {written} {failures} r f h stopped =

@@ -24,8 +24,8 @@ use Rattle.aig_sim.specs.state.Machine.{Steps}
 use Rattle.aig_values.specs.Characters.{character}
 use Rattle.aig_values.specs.InputRows.{HaveWidth}
 use Rattle.aig_sim.specs.StimulusText.{row_line}
-use Rattle.aig_sim.specs.Verdict.{Allows, StartsWrong, IsNotOne, Applies, IsBefore, IsVerdict}
-use Rattle.aig_sim.specs.WitnessText.{Witness, IsAdmitted, rows_text}
+use Rattle.aig_sim.specs.Verdict.{Allows, StartsWrong, IsNotOne, VerdictApplies, IsBefore, IsVerdict}
+use Rattle.aig_sim.specs.WitnessText.{Witness, IsAdmitted, witness_rows_text}
 use Rattle.aig_values.proofs.Evaluation.{literal_has_value}
 use Rattle.aig_sim.proofs.OneText.{row_ends}
 use Rattle.aig_values.proofs.TraceLemmas.{holds_still, first_states}
@@ -125,42 +125,42 @@ reads_one cells literals i l at is h =
     h.not_one (ap (literal_value cells) e ∙ is)
 
 -- there is nothing after the last place
-pub no_latch_behind : (raw : Raw) (start : List Tern) (i q : ℕ) → length raw.latches ≤ i
+pub no_latch_after : (raw : Raw) (start : List Tern) (i q : ℕ) → length raw.latches ≤ i
     → ((q : ℕ) → q < i → StartsWrong raw start q → ⊥) → StartsWrong raw start q → ⊥
-no_latch_behind raw start i q le before h =
+no_latch_after raw start i q le before h =
     let lt = slice_get_within raw.latches q h.latch h.latch_is in before q (omega (arith, lt, le)) h
 
-pub no_literal_behind : (cells : List Tern) (literals : List ℕ) (i q : ℕ) → length literals ≤ i
+pub no_literal_after : (cells : List Tern) (literals : List ℕ) (i q : ℕ) → length literals ≤ i
     → ((q : ℕ) → q < i → ReadsNotOne cells literals q → ⊥) → ReadsNotOne cells literals q → ⊥
-no_literal_behind cells literals i q le before h =
+no_literal_after cells literals i q le before h =
     let lt = slice_get_within literals q h.literal h.literal_is in before q (omega (arith, lt, le)) h
 
 -- ---- a run, frame by frame
 
-rows_text_more : (row : List Tern) (rows : List (List Tern)) → rows_text (row ∷ rows) ≡ row_line row ++ rows_text rows
+rows_text_more : (row : List Tern) (rows : List (List Tern)) → witness_rows_text (row ∷ rows) ≡ row_line row ++ witness_rows_text rows
 rows_text_more row rows = append_assoc (row_line row) (flat_map row_line rows) (46 ∷ (10 ∷ []))
 
 next_row : (rows : List (List Tern)) (t : ℕ) → t < length rows
-    → rows_text (drop t rows) ≡ row_line (get_or rows t []) ++ rows_text (drop (t + 1) rows)
+    → witness_rows_text (drop t rows) ≡ row_line (get_or rows t []) ++ witness_rows_text (drop (t + 1) rows)
 next_row rows t lt =
-    ap rows_text (drop_more rows t [] lt) ∙ rows_text_more (get_or rows t []) (drop (t + 1) rows)
+    ap witness_rows_text (drop_more rows t [] lt) ∙ rows_text_more (get_or rows t []) (drop (t + 1) rows)
 
 -- the text of frames begins with a row
 pub begins_with_row : (width : ℕ) (rest : List ℕ) (rows : List (List Tern)) (t : ℕ) → HaveWidth width rows
-    → rest ≡ rows_text (drop t rows) → t < length rows → BeginsWithRow width rest
+    → rest ≡ witness_rows_text (drop t rows) → t < length rows → BeginsWithRow width rest
 begins_with_row width rest rows t widths is lt = (
   get_or rows t [],
-  rows_text (drop (t + 1) rows),
+  witness_rows_text (drop (t + 1) rows),
   widths t [] lt,
-  is ∙ next_row rows t lt ∙ row_ends (get_or rows t []) (rows_text (drop (t + 1) rows)),
+  is ∙ next_row rows t lt ∙ row_ends (get_or rows t []) (witness_rows_text (drop (t + 1) rows)),
 )
 
 -- after a row that was read the others follow
 pub row_was_read : (rest rest' : List ℕ) (rows : List (List Tern)) (t : ℕ) (row : List Tern)
-    → rest ≡ rows_text (drop t rows) → t < length rows → rest ≡ map character row ++ (10 ∷ rest')
-    → (row ≡ get_or rows t []) × (rest' ≡ rows_text (drop (t + 1) rows))
+    → rest ≡ witness_rows_text (drop t rows) → t < length rows → rest ≡ map character row ++ (10 ∷ rest')
+    → (row ≡ get_or rows t []) × (rest' ≡ witness_rows_text (drop (t + 1) rows))
 row_was_read rest rest' rows t row is lt read =
-    same_line rest row (get_or rows t []) rest' (rows_text (drop (t + 1) rows)) read (is ∙ next_row rows t lt)
+    same_line rest row (get_or rows t []) rest' (witness_rows_text (drop (t + 1) rows)) read (is ∙ next_row rows t lt)
 
 module _ (raw : Raw) (sound : IsSound raw) (w : Witness) (t : ℕ) (rest rest' : List ℕ)
     (cells cells' states states' row : List Tern) (h : HasRun raw w t rest cells states) (lt : t < length w.rows)
@@ -239,7 +239,7 @@ module _ (raw : Raw) (w : Witness) where
       → IsVerdict raw w (verdict.Initial p)
   other_start p h least = record { applies = h; first = before }
     where
-      before : (u : Verdict) → IsBefore u (verdict.Initial p) → Applies raw w u → ⊥
+      before : (u : Verdict) → IsBefore u (verdict.Initial p) → VerdictApplies raw w u → ⊥
       before (verdict.Initial q) lt k = least q lt k
       before (verdict.Constraint u q) no' k = no'
       before verdict.NotBad no' k = no'
@@ -249,7 +249,7 @@ module _ (raw : Raw) (w : Witness) where
       → IsVerdict raw w (verdict.Constraint t p)
   not_held t p starts h = record { applies = (h.frame, h.fails); first = before }
     where
-      before : (u : Verdict) → IsBefore u (verdict.Constraint t p) → Applies raw w u → ⊥
+      before : (u : Verdict) → IsBefore u (verdict.Constraint t p) → VerdictApplies raw w u → ⊥
       before (verdict.Initial q) lt k = starts q k
       before (verdict.Constraint u q) lt k = elim lt [
         | inl below ↦ h.frames_before u q below k.1
@@ -262,7 +262,7 @@ module _ (raw : Raw) (w : Witness) where
       → IsNotOne raw w (length w.rows - 1) raw.bad w.property → IsVerdict raw w verdict.NotBad
   not_reached starts held h = record { applies = h; first = before }
     where
-      before : (u : Verdict) → IsBefore u verdict.NotBad → Applies raw w u → ⊥
+      before : (u : Verdict) → IsBefore u verdict.NotBad → VerdictApplies raw w u → ⊥
       before (verdict.Initial q) lt k = starts q k
       before (verdict.Constraint u q) lt k = held u q k.0 k.1
       before verdict.NotBad no' k = no'
@@ -272,7 +272,7 @@ module _ (raw : Raw) (w : Witness) where
       → (IsNotOne raw w (length w.rows - 1) raw.bad w.property → ⊥) → IsVerdict raw w verdict.Confirmed
   reached starts held bad = record { applies = tt; first = before }
     where
-      before : (u : Verdict) → IsBefore u verdict.Confirmed → Applies raw w u → ⊥
+      before : (u : Verdict) → IsBefore u verdict.Confirmed → VerdictApplies raw w u → ⊥
       before (verdict.Initial q) lt k = starts q k
       before (verdict.Constraint u q) lt k = held u q k.0 k.1
       before verdict.NotBad lt k = bad k

@@ -12,7 +12,7 @@ use Rattle.aig_sim.specs.state.Checking.{BeginsWithRow, SpellsFrames, ArePartsOf
 use Rattle.aig_values.specs.Characters.{character}
 use Rattle.aig_values.specs.InputRows.{HaveWidth}
 use Rattle.aig_sim.specs.StimulusText.{row_line, IsCharacter}
-use Rattle.aig_sim.specs.WitnessText.{Witness, SpellsWitness, IsDecimal, rows_text}
+use Rattle.aig_sim.specs.WitnessText.{Witness, SpellsWitness, IsDecimal, witness_rows_text}
 use Rattle.std.proofs.lemmas.Bool.{cases_eq}
 use Rattle.std.proofs.lemmas.Bool.Decides.{Decides-eqb}
 use Rattle.std.proofs.lemmas.Slice.Eq.{strip_prefix_is}
@@ -196,17 +196,17 @@ pub head_is : (text : List ℕ) (position : Bor (List ℕ)) → MatchOption (Som
     → text ≡ 49 ∷ (10 ∷ (98 ∷ position.now))
 head_is text position h = strip_prefix_is Decides-eqb text (49 ∷ (10 ∷ (98 ∷ []))) (Some position) h
 
-behind_head : {a b : List ℕ} → 49 ∷ (10 ∷ (98 ∷ a)) ≡ 49 ∷ (10 ∷ (98 ∷ b)) → a ≡ b
-behind_head e = ap (drop 3) e
+after_head : {a b : List ℕ} → 49 ∷ (10 ∷ (98 ∷ a)) ≡ 49 ∷ (10 ∷ (98 ∷ b)) → a ≡ b
+after_head e = ap (drop 3) e
 
 module _ (raw : Raw) (text position : List ℕ) (head : text ≡ 49 ∷ (10 ∷ (98 ∷ position))) where
   position_is : (w : Witness) (h : SpellsWitness raw text w)
-      → position ≡ h.digits ++ (10 ∷ (row_line w.start ++ rows_text w.rows))
-  position_is w h = behind_head (sym head ∙ h.text_is)
+      → position ≡ h.digits ++ (10 ∷ (row_line w.start ++ witness_rows_text w.rows))
+  position_is w h = after_head (sym head ∙ h.text_is)
 
   -- the position's line has to end
   pub no_line : All (λ b. b ≢ 10) position → (w : Witness) → SpellsWitness raw text w → ⊥
-  no_line none w h = no_split h.digits position (row_line w.start ++ rows_text w.rows) none (sym (position_is w h))
+  no_line none w h = no_split h.digits position (row_line w.start ++ witness_rows_text w.rows) none (sym (position_is w h))
 
   module _ (size : ℕ) (lt : size < length position) (end : get_or position size 0 ≡ 10)
       (none : All (λ b. b ≢ 10) (take size position)) where
@@ -217,9 +217,9 @@ module _ (raw : Raw) (text position : List ℕ) (head : text ≡ 49 ∷ (10 ∷ 
 
     -- how a witness is spelled
     pub spelled_by : (w : Witness) (h : SpellsWitness raw text w) → (take size position ≡ h.digits)
-        × (drop (size + 1) position ≡ row_line w.start ++ rows_text w.rows)
+        × (drop (size + 1) position ≡ row_line w.start ++ witness_rows_text w.rows)
     spelled_by w h =
-        split_once (take size position) h.digits (drop (size + 1) position) (row_line w.start ++ rows_text w.rows) none
+        split_once (take size position) h.digits (drop (size + 1) position) (row_line w.start ++ witness_rows_text w.rows) none
         (no_end_in_digits h.position) (sym line_is ∙ position_is w h)
 
     pub no_position : ((n : ℕ) → IsDecimal (take size position) n → ⊥) → (w : Witness) → SpellsWitness raw text w → ⊥
@@ -229,7 +229,7 @@ module _ (raw : Raw) (text position : List ℕ) (head : text ≡ 49 ∷ (10 ∷ 
     pub no_body : (body : List ℕ) (latches inputs : ℕ) → body ≡ drop (size + 1) position → latches ≡ length raw.latches
         → inputs ≡ length raw.inputs
         → ((start : List Tern) (rows : List (List Tern)) → length start ≡ latches → rows ≢ [] → HaveWidth inputs rows
-        → body ≡ row_line start ++ rows_text rows → ⊥)
+        → body ≡ row_line start ++ witness_rows_text rows → ⊥)
         → (w : Witness) → SpellsWitness raw text w → ⊥
     no_body body latches inputs is l i other w h =
         other w.start w.rows (h.start_is ∙ sym l) h.some
@@ -243,8 +243,8 @@ module _ (raw : Raw) (text position : List ℕ) (head : text ≡ 49 ∷ (10 ∷ 
         → (w : Witness) × SpellsWitness raw text w × ArePartsOf raw parts w
     parts_are parts body latches inputs n start rows is l i decimal prop from len some count begins frames =
         let frames' = subst (λ (k : ℕ). SpellsFrames k parts.rows.now rows) i frames in
-        let line : body ≡ row_line start ++ rows_text rows = begins
-        ∙ ap (λ (t : List ℕ). map character start ++ (10 ∷ t)) frames.text_is ∙ sym (row_ends start (rows_text rows)) in (
+        let line : body ≡ row_line start ++ witness_rows_text rows = begins
+        ∙ ap (λ (t : List ℕ). map character start ++ (10 ∷ t)) frames.text_is ∙ sym (row_ends start (witness_rows_text rows)) in (
           record { property = n; start = start; rows = rows },
           record {
             start_is = len ∙ l;
@@ -302,13 +302,13 @@ one_number digits m n h k = sym (decimal_value h) ∙ decimal_value k
 -- a text is one witness
 pub one_witness : (raw : Raw) (text : List ℕ) (w v : Witness) → SpellsWitness raw text w → SpellsWitness raw text v → w ≡ v
 one_witness raw text w v h k =
-    let (digits, body) = split_once h.digits k.digits (row_line w.start ++ rows_text w.rows) (row_line v.start ++ rows_text v.rows)
-    (no_end_in_digits h.position) (no_end_in_digits k.position) (behind_head (sym h.text_is ∙ k.text_is)) in
-    let (start, rows) = same_line (row_line w.start ++ rows_text w.rows) w.start v.start (rows_text w.rows) (rows_text v.rows)
-    (row_ends w.start (rows_text w.rows)) body in
+    let (digits, body) = split_once h.digits k.digits (row_line w.start ++ witness_rows_text w.rows) (row_line v.start ++ witness_rows_text v.rows)
+    (no_end_in_digits h.position) (no_end_in_digits k.position) (after_head (sym h.text_is ∙ k.text_is)) in
+    let (start, rows) = same_line (row_line w.start ++ witness_rows_text w.rows) w.start v.start (witness_rows_text w.rows) (witness_rows_text v.rows)
+    (row_ends w.start (witness_rows_text w.rows)) body in
     let number : w.property ≡ v.property = one_number h.digits w.property v.property h.position
     (subst (λ (ds : List ℕ). IsDecimal ds v.property) (sym digits) k.position) in
-    let frames : w.rows ≡ v.rows = one_rows (length raw.inputs) (rows_text w.rows) w.rows v.rows
+    let frames : w.rows ≡ v.rows = one_rows (length raw.inputs) (witness_rows_text w.rows) w.rows v.rows
     (record { widths = h.widths; text_is = refl }) (record { widths = k.widths; text_is = rows }) in
     ap (λ (n : ℕ). record { property = n; start = w.start; rows = w.rows }) number
     ∙ ap (λ (s : List Tern). record { property = v.property; start = s; rows = w.rows }) start

@@ -39,10 +39,10 @@ abbrev pub next_text : ℕ → List ℕ → List ℕ → List ℕ
 next_text t bs cs = time_line t ++ changed_lines 0 bs cs
 
 -- the text of frame t of a run from this start with these rows, by the values of the signals
-abbrev pub IsFrame : Raw → List Tern → List (List Tern) → ℕ → List ℕ → Type 0
-IsFrame raw start rows zero text =
+abbrev pub IsFrameText : Raw → List Tern → List (List Tern) → ℕ → List ℕ → Type 0
+IsFrameText raw start rows zero text =
     (cs : List ℕ) × AreValues raw start rows zero (signals raw) cs × (text ≡ first_text cs)
-IsFrame raw start rows (suc t) text =
+IsFrameText raw start rows (suc t) text =
     (bs : List ℕ) × (cs : List ℕ) × AreValues raw start rows t (signals raw) bs
     × AreValues raw start rows (suc t) (signals raw) cs × (text ≡ next_text (suc t) bs cs)
 
@@ -50,7 +50,7 @@ IsFrame raw start rows (suc t) text =
 abbrev pub AreFrames : Raw → List Tern → List (List Tern) → ℕ → List ℕ → Type 0
 AreFrames raw start rows zero text = text ≡ []
 AreFrames raw start rows (suc t) text =
-    (before : List ℕ) × (frame : List ℕ) × AreFrames raw start rows t before × IsFrame raw start rows t frame
+    (before : List ℕ) × (frame : List ℕ) × AreFrames raw start rows t before × IsFrameText raw start rows t frame
     × (text ≡ before ++ frame)
 
 -- after the last of k frames the time of its end; after none nothing

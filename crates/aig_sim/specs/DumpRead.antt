@@ -11,17 +11,17 @@ use Rattle.aig_sim.specs.Dump.{signals}
 use Rattle.aig_dump_header.specs.Names.{identifier_code}
 
 -- the lines of a text, of which the first one has begun; LF ends a line, and what no LF ends is none
-unfoldable pub lines_behind : List ℕ → List ℕ → List (List ℕ)
-lines_behind line [] = []
-lines_behind line (b ∷ text) = if b == 10 then line ∷ lines_behind [] text else lines_behind (line ++ b ∷ []) text
+unfoldable pub lines_after : List ℕ → List ℕ → List (List ℕ)
+lines_after line [] = []
+lines_after line (b ∷ text) = if b == 10 then line ∷ lines_after [] text else lines_after (line ++ b ∷ []) text
 
 abbrev pub lines : List ℕ → List (List ℕ)
-lines text = lines_behind [] text
+lines text = lines_after [] text
 
 -- the time after a line, where it was `now` before: `#` and a decimal number give it
-abbrev pub time_behind : ℕ → List ℕ → ℕ
-time_behind now [] = now
-time_behind now (b ∷ rest) = if b == 35 then digits_value 10 rest else now
+abbrev pub time_after : ℕ → List ℕ → ℕ
+time_after now [] = now
+time_after now (b ∷ rest) = if b == 35 then digits_value 10 rest else now
 
 -- `0`, `1` or `x`
 abbrev pub is_value : ℕ → Bool
@@ -29,16 +29,16 @@ is_value b = b == 48 || (b == 49 || b == 120)
 
 -- what a look at time t sees of a code after a line, where it saw `value` before: a value and the code are its new
 -- value, unless it is later than t
-abbrev pub value_behind : List ℕ → ℕ → ℕ → Option ℕ → List ℕ → Option ℕ
-value_behind code t now value [] = value
-value_behind code t now value (b ∷ rest) =
+abbrev pub value_after : List ℕ → ℕ → ℕ → Option ℕ → List ℕ → Option ℕ
+value_after code t now value [] = value
+value_after code t now value (b ∷ rest) =
     if is_value b && (bytes_eq rest code && nat_le now t) then Some b else value
 
 -- the same after these lines; those that begin with `$`, and all others, give neither time nor value
 unfoldable pub seen : List ℕ → ℕ → ℕ → Option ℕ → List (List ℕ) → Option ℕ
 seen code t now value [] = value
 seen code t now value (line ∷ more) =
-    seen code t (time_behind now line) (value_behind code t now value line) more
+    seen code t (time_after now line) (value_after code t now value line) more
 
 -- the last value that a text gives a code at a time at most t
 abbrev pub read_value : List ℕ → List ℕ → ℕ → Option ℕ

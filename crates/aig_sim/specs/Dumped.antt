@@ -12,7 +12,7 @@ use Rattle.aig_sim.specs.Simulated.{Streams, NoneFailed, OneReadFailed, OneWrite
 use Rattle.aig_sim.specs.StimulusText.{SpellsRows, HoldsRows}
 
 -- A write failed after these rows: a prefix of their dump was written; before the header's end nothing was read.
-pub record BreaksOff (width : ℕ) (text : List ℕ) (rows : List (List Tern)) (header frames done : List ℕ) : Type 0 where
+pub record DumpBreaksOff (width : ℕ) (text : List ℕ) (rows : List (List Tern)) (header frames done : List ℕ) : Type 0 where
   pub rows_are : BeginsWithRows width text rows
   pub beginning : IsBeginning done (header ++ (frames ++ closing (length rows)))
   pub header_first : length done < length header → text ≡ []
@@ -28,7 +28,7 @@ EndsDump width old new text rows header frames done (Ok n) =
     × (n ≡ min (length rows) (2 ^ 64 - 1)) × NoneFailed old new
 EndsDump width old new text rows header frames done (Err fault.Io) =
     (HoldsRows width text rows × (done ≡ header ++ frames) × OneReadFailed old new)
-    ⊎ (BreaksOff width text rows header frames done × OneWriteFailed old new)
+    ⊎ (DumpBreaksOff width text rows header frames done × OneWriteFailed old new)
 EndsDump width old new text rows header frames done (Err fault.Memory) =
     (text ≡ []) × (rows ≡ []) × (done ≡ []) × NoneFailed old new
 EndsDump width old new text rows header frames done (Err fault) =

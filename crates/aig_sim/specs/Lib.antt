@@ -2,8 +2,8 @@ pub mod Dump
 pub mod DumpHeader
 pub mod DumpRead
 pub mod Dumped
-pub mod LineInHand
 pub mod Replayed
+pub mod RowParser
 pub mod Simulated
 pub mod StimulusText
 pub mod Verdict

@@ -9,24 +9,24 @@ use Rattle.aig_sim.specs.declared.replay_fault.ReplayFault.{ReplayFault}
 use Rattle.aig_sim.specs.declared.replay_fault.ReplayFault.TheVariants as fault
 use Rattle.aig_sim.specs.WitnessText.{Witness, SpellsWitness, IsAdmitted, HasWitnessFault}
 
--- The witness's text spells a witness that is admitted, and `told` is the text of its run: from its own start,
+-- The witness's text spells a witness that is admitted, and `reported` is the text of its run: from its own start,
 -- over all its rows, whatever its verdict. `IsText` says which text a run from a start with some rows has.
-pub record TellsRun (IsText : Raw → List Tern → List (List Tern) → List ℕ → Type 0) (raw : Raw) (text told : List ℕ)
+pub record ReportsRun (IsText : Raw → List Tern → List (List Tern) → List ℕ → Type 0) (raw : Raw) (text reported : List ℕ)
     : Type 0 where
   pub witness : Witness
   pub spells : SpellsWitness raw text witness
   pub admitted : IsAdmitted raw witness
-  pub told_is : IsText raw witness.start witness.rows told
+  pub reported_is : IsText raw witness.start witness.rows reported
 
 -- What the replay of a witness's text wrote. All went well: the whole text of the run. A failed write: a prefix of
 -- it. A witness that is refused, or no memory: nothing.
 abbrev pub Replays : {X : Type 0} → (Raw → List Tern → List (List Tern) → List ℕ → Type 0) → Raw → List ℕ
     → Flow X → Result (Unit {0}) ReplayFault → Type 0
 Replays IsText raw text out (Ok _) =
-    (told : List ℕ) × TellsRun IsText raw text told × (out.bytes out.new ≡ after (out.bytes out.old) told)
+    (reported : List ℕ) × ReportsRun IsText raw text reported × (out.bytes out.new ≡ after (out.bytes out.old) reported)
     × (out.failures out.new ≡ out.failures out.old)
 Replays IsText raw text out (Err fault.Io) =
-    (told : List ℕ) × (done : List ℕ) × TellsRun IsText raw text told × IsBeginning done told
+    (reported : List ℕ) × (done : List ℕ) × ReportsRun IsText raw text reported × IsBeginning done reported
     × (out.bytes out.new ≡ after (out.bytes out.old) done) × (out.failures out.new ≡ out.failures out.old + 1)
 Replays IsText raw text out (Err (fault.Witness why)) =
     HasWitnessFault raw text why × (out.new ≡ out.old)

@@ -46,13 +46,13 @@ ReadsFault width new text rows fault.Io = ⊥
 -- All went well: the text spells the rows, the whole trace was written, and the answer is the number of rows, where the
 -- greatest number of 64 bits stands for any greater. A fault: so far as the good rows go. A failing read: all rows that
 -- were read whole. A failing write: a beginning; it may be all, where a flush failed.
-abbrev pub Ends : ℕ → Streams → Streams → List ℕ → List (List Tern) → List ℕ → List ℕ → Result ℕ StimFault → Type 0
-Ends width old new text rows trace done (Ok n) =
+abbrev pub SimulationEnds : ℕ → Streams → Streams → List ℕ → List (List Tern) → List ℕ → List ℕ → Result ℕ StimFault → Type 0
+SimulationEnds width old new text rows trace done (Ok n) =
     SpellsRows width text rows × IsAtEnd new.left × (done ≡ trace) × (n ≡ min (length rows) (2 ^ 64 - 1)) × NoneFailed old new
-Ends width old new text rows trace done (Err fault.Io) =
+SimulationEnds width old new text rows trace done (Err fault.Io) =
     (HoldsRows width text rows × (done ≡ trace) × OneReadFailed old new)
     ⊎ (BeginsWithRows width text rows × IsBeginning done trace × OneWriteFailed old new)
-Ends width old new text rows trace done (Err fault) =
+SimulationEnds width old new text rows trace done (Err fault) =
     ReadsFault width new text rows fault × (done ≡ trace) × NoneFailed old new
 
 -- what was read and written
@@ -64,4 +64,4 @@ pub record Simulates (raw : Raw) (old new : Streams) (written written' : Option 
   pub read : old.left ≡ before text new.left
   pub trace_is : IsTrace raw (start_of raw) rows trace
   pub wrote : written' ≡ after written done
-  pub ended : Ends (length raw.inputs) old new text rows trace done result
+  pub ended : SimulationEnds (length raw.inputs) old new text rows trace done result

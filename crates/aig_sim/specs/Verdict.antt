@@ -35,11 +35,11 @@ pub record IsNotOne (raw : Raw) (w : Witness) (t : ℕ) (literals : List ℕ) (p
   pub not_one : value ≢ One
 
 -- the verdict applies
-abbrev pub Applies : Raw → Witness → Verdict → Type 0
-Applies raw w (verdict.Initial p) = StartsWrong raw w.start p
-Applies raw w (verdict.Constraint t p) = (t < length w.rows) × IsNotOne raw w t raw.constraints p
-Applies raw w verdict.NotBad = IsNotOne raw w (length w.rows - 1) raw.bad w.property
-Applies raw w verdict.Confirmed = Unit {0}
+abbrev pub VerdictApplies : Raw → Witness → Verdict → Type 0
+VerdictApplies raw w (verdict.Initial p) = StartsWrong raw w.start p
+VerdictApplies raw w (verdict.Constraint t p) = (t < length w.rows) × IsNotOne raw w t raw.constraints p
+VerdictApplies raw w verdict.NotBad = IsNotOne raw w (length w.rows - 1) raw.bad w.property
+VerdictApplies raw w verdict.Confirmed = Unit {0}
 
 -- the order of the verdicts: latch by latch; frame by frame, and in a frame constraint by constraint; the property
 abbrev pub IsBefore : Verdict → Verdict → Type 0
@@ -59,8 +59,8 @@ IsBefore verdict.Confirmed _ = ⊥
 
 -- the verdict is the first that applies
 pub record IsVerdict (raw : Raw) (w : Witness) (v : Verdict) : Type 0 where
-  pub applies : Applies raw w v
-  pub first : (u : Verdict) → IsBefore u v → Applies raw w u → ⊥
+  pub applies : VerdictApplies raw w v
+  pub first : (u : Verdict) → IsBefore u v → VerdictApplies raw w u → ⊥
 
 -- a run from an allowed start under which all constraints hold at every frame, and at the last the property, which the
 -- circuit has

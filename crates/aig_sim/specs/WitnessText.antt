@@ -22,12 +22,12 @@ pub record Witness : Type 0 where
   pub rows : List (List Tern)
 
 -- a line a row, and the line `.`
-abbrev pub rows_text : List (List Tern) → List ℕ
-rows_text rows = flat_map row_line rows ++ (46 ∷ (10 ∷ []))
+abbrev pub witness_rows_text : List (List Tern) → List ℕ
+witness_rows_text rows = flat_map row_line rows ++ (46 ∷ (10 ∷ []))
 
 -- `1`, `b` and the position, the start, the rows, `.`, a line each
 abbrev pub witness_text : List ℕ → List Tern → List (List Tern) → List ℕ
-witness_text digits start rows = 49 ∷ (10 ∷ (98 ∷ (digits ++ (10 ∷ (row_line start ++ rows_text rows)))))
+witness_text digits start rows = 49 ∷ (10 ∷ (98 ∷ (digits ++ (10 ∷ (row_line start ++ witness_rows_text rows)))))
 
 -- the text is this witness of a run of the circuit, of one frame or more
 pub record SpellsWitness (raw : Raw) (text : List ℕ) (w : Witness) : Type 0 where

@@ -4,7 +4,7 @@ ghost use Rattle.aig_bytes.specs.Bytes.{Writes};
 ghost use Rattle.aig_bytes.specs.Gathered.{Gathers};
 ghost use Rattle.aig_sim.specs.Dump.{value_line, changed_lines};
 ghost use Rattle.aig_dump_header.specs.Names.{identifier_code};
-ghost use Rattle.aig_sim.specs.state.Dumping.{number_line, dumped_text};
+ghost use Rattle.aig_sim.specs.state.Dumping.{time_line, dumped_text};
 
 use aig_base::{Io, Write};
 use aig_values::trace_line::TraceBlock;
@@ -35,7 +35,7 @@ pub fn put_code<W: Write>(out: &mut W, block: &mut TraceBlock, signal: u32) -> R
 
 // Puts the line of a time.
 fn put_time<W: Write>(out: &mut W, block: &mut TraceBlock, time: u64) -> Result<(), Io>
-    ensures { Gathers W.written W.failures out.old out.new block.old block.new (number_line time) result }
+    ensures { Gathers W.written W.failures out.old out.new block.old block.new (time_line time) result }
 {
     block.put(out, b'#')?;
     put_number(out, block, time)?;
@@ -128,14 +128,14 @@ pub fn write_frame<W: Write>(
 {
     block.clear();
     put_frame(out, block, frame, before, after)?;
-    block.hand_on(out)
+    block.forward(out)
 }
 
 /// Writes the line of a time.
 pub fn write_time<W: Write>(out: &mut W, time: u64) -> Result<(), Io>
-    ensures { Writes W.written W.failures out.old out.new (number_line time) result }
+    ensures { Writes W.written W.failures out.old out.new (time_line time) result }
 {
     let mut block = TraceBlock::new();
     put_time(out, &mut block, time)?;
-    block.hand_on(out)
+    block.forward(out)
 }

@@ -8,7 +8,7 @@ ghost use Rattle.aig_parts.specs.Literal.{variable};
 ghost use Rattle.aig_base.specs.Sound.{IsSound};
 ghost use Rattle.aig_values.specs.Cells.{literal_value};
 ghost use Rattle.aig_values.specs.state.Frame.{AreStates, Renews, PutsInputs, HoldsLatches, HoldsSources, HoldsAll};
-ghost use Rattle.aig_values.specs.Neighbours.{AreNeighbours};
+ghost use Rattle.aig_values.specs.Contiguous.{AreContiguous};
 ghost use Rattle.aig_values.specs.GateOrder.{IsGateOrder};
 
 use aig_base::{Circuit, Gate, Tern};
@@ -27,11 +27,11 @@ fn put_each_input(cells: &mut [Code], circuit: &Circuit, row: &[Tern])
 }
 
 // Writes the values of inputs that are neighbours from this variable on, many at a time.
-fn put_neighbours(cells: &mut [Code], circuit: &Circuit, row: &[Tern], first: usize)
+fn put_contiguous(cells: &mut [Code], circuit: &Circuit, row: &[Tern], first: usize)
     requires circuit { IsCircuit circuit.now }
     requires cells { length cells.old ≡ circuit.now.max_var + 1 }
     requires row { length row.now ≡ length circuit.now.inputs }
-    requires neighbours { AreNeighbours first circuit.now.inputs }
+    requires contiguous { AreContiguous first circuit.now.inputs }
     ensures { PutsInputs circuit.now row.now cells.old cells.new }
 {
     for (position, value) in row.iter().enumerate() {
@@ -44,11 +44,11 @@ fn put_inputs(cells: &mut [Code], circuit: &Circuit, row: &[Tern], first: Option
     requires circuit { IsCircuit circuit.now }
     requires cells { length cells.old ≡ circuit.now.max_var + 1 }
     requires row { length row.now ≡ length circuit.now.inputs }
-    requires first { IfSome first (λ v. AreNeighbours v circuit.now.inputs) }
+    requires first { IfSome first (λ v. AreContiguous v circuit.now.inputs) }
     ensures { PutsInputs circuit.now row.now cells.old cells.new }
 {
     match first {
-        Some(variable) => put_neighbours(cells, circuit, row, variable),
+        Some(variable) => put_contiguous(cells, circuit, row, variable),
         None => put_each_input(cells, circuit, row),
     }
 }
@@ -81,7 +81,7 @@ fn put_sources(
     requires circuit { IsCircuit circuit.now }
     requires cells { length cells.old ≡ circuit.now.max_var + 1 }
     requires row { length row.now ≡ length circuit.now.inputs }
-    requires first { IfSome first (λ v. AreNeighbours v circuit.now.inputs) }
+    requires first { IfSome first (λ v. AreContiguous v circuit.now.inputs) }
     requires states { length states.now ≡ length circuit.now.latches }
     ensures { (start : List Tern) (rows : List (List Tern)) (t : ℕ) → slice_get rows t ≡ Some row.now →
         AreStates circuit.now start rows t states.now → HoldsSources circuit.now start rows t cells.new }
@@ -121,7 +121,7 @@ pub fn evaluate_row(
     requires gates { IsGateOrder circuit.now gates.now }
     requires cells { length cells.old ≡ circuit.now.max_var + 1 }
     requires row { length row.now ≡ length circuit.now.inputs }
-    requires first { IfSome first (λ v. AreNeighbours v circuit.now.inputs) }
+    requires first { IfSome first (λ v. AreContiguous v circuit.now.inputs) }
     requires states { length states.now ≡ length circuit.now.latches }
     ensures { (start : List Tern) (rows : List (List Tern)) (t : ℕ) → slice_get rows t ≡ Some row.now →
         AreStates circuit.now start rows t states.now → HoldsAll circuit.now start rows t cells.new }

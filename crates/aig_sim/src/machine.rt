@@ -6,14 +6,14 @@ ghost use Rattle.aig_base.specs.Value.{start_of};
 ghost use Rattle.aig_values.specs.state.Frame.{AreStates};
 ghost use Rattle.aig_values.specs.GateOrder.{IsGateOrder};
 ghost use Rattle.aig_sim.specs.state.Machine.{Steps};
-ghost use Rattle.aig_values.specs.Neighbours.{AreNeighbours};
+ghost use Rattle.aig_values.specs.Contiguous.{AreContiguous};
 
 use crate::frame_cells::{evaluate_row, renew_states};
 use aig_base::{Circuit, Gate, List, Lit, Memory, Tern};
 use aig_values::code::{Code, character_in, spell_in};
-use aig_values::row::{Row, first_of_neighbours};
 use aig_values::first_value;
 use aig_values::gate_order::reordered;
+use aig_values::row::{Row, first_of_contiguous};
 use std::alloc::Global;
 use std::marker::Model;
 
@@ -35,7 +35,7 @@ impl<'a> Model for Machine<'a> {
     ghost use Rattle.aig_base.specs.Circuit.{IsCircuit};
     ghost use Rattle.aig_values.specs.GateOrder.{IsGateOrder};
     ghost use Rattle.aig_sim.specs.state.Machine.{Machine};
-    ghost use Rattle.aig_values.specs.Neighbours.{AreNeighbours};
+    ghost use Rattle.aig_values.specs.Contiguous.{AreContiguous};
 
     ghost Value = { Machine };
 
@@ -43,7 +43,7 @@ impl<'a> Model for Machine<'a> {
 
     ghost invariant = { λ m. IsCircuit m.circuit.now × IsGateOrder m.circuit.now (unwrap_or m.order m.circuit.now.gates)
         × (vec_len m.cells ≡ m.circuit.now.max_var + 1) × (vec_len m.states ≡ length m.circuit.now.latches)
-        × IfSome m.first (λ v. AreNeighbours v m.circuit.now.inputs) };
+        × IfSome m.first (λ v. AreContiguous v m.circuit.now.inputs) };
 }
 
 /// The values that the latches begin with by their resets.
@@ -100,7 +100,7 @@ fn run_row(
     requires cells { length cells.old ≡ circuit.now.max_var + 1 }
     requires states { length states.old ≡ length circuit.now.latches }
     requires row { length row.now ≡ length circuit.now.inputs }
-    requires first { IfSome first (λ v. AreNeighbours v circuit.now.inputs) }
+    requires first { IfSome first (λ v. AreContiguous v circuit.now.inputs) }
     ensures { (start : List Tern) (rows : List (List Tern)) →
         AreStates circuit.now start rows (length rows) states.old →
         Steps circuit.now start rows row.now cells.new states.new }
@@ -122,7 +122,7 @@ impl<'a> Machine<'a> {
         Ok(Machine {
             circuit,
             order: reordered(alloc, circuit)?,
-            first: first_of_neighbours(circuit.inputs()),
+            first: first_of_contiguous(circuit.inputs()),
             cells: new_cells(alloc, size)?,
             states: codes_of(alloc, &start)?,
         })

@@ -8,7 +8,7 @@ ghost use Rattle.aig_bytes.specs.Flow.{flow};
 ghost use Rattle.aig_sim.specs.Replayed.{Replays};
 ghost use Rattle.aig_values.specs.Trace.{IsTrace};
 ghost use Rattle.aig_sim.specs.WitnessText.{Witness};
-ghost use Rattle.aig_sim.specs.state.Replaying.{BeginsRun, NoneTold, WritesFrames, WritesRun};
+ghost use Rattle.aig_sim.specs.state.Replaying.{BeginsRun, NoneReported, WritesFrames, WritesRun};
 
 use crate::dump_header::circuit_header;
 use crate::dump_recorder::DumpRecorder;
@@ -33,7 +33,7 @@ fn write_frames<T: Recorder, W: Write>(
     requires row { length row.old ≡ length machine.old.circuit.inputs }
     requires fits { T.fits recorder.old machine.old.circuit }
     ensures { (w : Witness) → BeginsRun machine.old.circuit w machine.old.states rows.now frames →
-        NoneTold T.is_text T.has_recorded machine.old.circuit w recorder.old →
+        NoneReported T.is_text T.has_recorded machine.old.circuit w recorder.old →
         WritesFrames T.is_text machine.old.circuit w W.written W.failures out.old out.new result }
 {
     let mut rest = rows;

@@ -2,14 +2,14 @@
 ghost use Rattle.std.specs.Prelude.{◌≡◌, ◌≢◌, ℕ, List, [], ◌∷◌, ◌++◌, ◌<◌, ◌≤◌, length, take};
 ghost use Rattle.std.specs.Prelude.{IfOk, IfErr, OnOk, OnErr};
 ghost use Rattle.aig_base.specs.Value.{start_of};
-ghost use Rattle.aig_sim.specs.declared.line_in_hand.Shape.TheVariants as shapes;
-ghost use Rattle.aig_sim.specs.LineInHand.{Keeps};
-ghost use Rattle.aig_sim.specs.state.Running.{HasRoom, Starts, GoesOn, Stops, Streamed};
+ghost use Rattle.aig_sim.specs.declared.row_parser.Shape.TheVariants as shapes;
+ghost use Rattle.aig_sim.specs.RowParser.{KeepsLine};
+ghost use Rattle.aig_sim.specs.state.Running.{HasRowRoom, SimulationStarts, SimulationGoesOn, SimulationStops, Streamed};
 ghost use Rattle.aig_sim.specs.Simulated.{Simulates};
 
-use crate::line_in_hand::{LineInHand, line_length};
 use crate::machine::{Machine, first_states};
 use crate::recorder::{Recorder, TraceRecorder};
+use crate::row_parser::{RowParser, line_length};
 use crate::stimulus_fault::StimFault;
 use aig_base::{Circuit, Memory, Read, Write};
 use std::alloc::Global;
@@ -22,7 +22,7 @@ const CHUNK: usize = 16384;
 #[derive(Drop)]
 pub struct Simulation<'a, T> {
     pub machine: Machine<'a>,
-    pub line: LineInHand,
+    pub line: RowParser,
     pub recorder: T,
     pub frames: u64,
 }
@@ -35,7 +35,7 @@ impl<'a, T: Recorder + Drop> Simulation<'a, T> {
         recorder: T,
     ) -> Result<Simulation<'a, T>, Memory>
         requires fits { T.fits recorder circuit.now }
-        ensures room { IfOk result (HasRoom T.fits) }
+        ensures room { IfOk result (HasRowRoom T.fits) }
         ensures recorder { IfOk result (λ s. s.recorder ≡ recorder) }
         ensures circuit { IfOk result (λ s. s.machine.circuit ≡ circuit.now) }
         ensures states { IfOk result (λ s. s.machine.states ≡ start_of circuit.now) }
@@ -45,7 +45,7 @@ impl<'a, T: Recorder + Drop> Simulation<'a, T> {
         let width = circuit.inputs().len();
         Ok(Simulation {
             machine: Machine::new(alloc, circuit, first_states(alloc, circuit)?)?,
-            line: LineInHand::new(alloc, width, width)?,
+            line: RowParser::new(alloc, width, width)?,
             recorder,
             frames: 0,
         })
@@ -53,11 +53,11 @@ impl<'a, T: Recorder + Drop> Simulation<'a, T> {
 
     // Simulates the row that the current line is, and writes the text of its frame.
     fn end_line<W: Write>(&mut self, out: &mut W) -> Result<(), StimFault>
-        requires room { HasRoom T.fits self.old }
-        ensures room { HasRoom T.fits self.new }
-        ensures ok { OnOk result (GoesOn T.is_text T.has_recorded (10 ∷ []) self.old self.new
+        requires room { HasRowRoom T.fits self.old }
+        ensures room { HasRowRoom T.fits self.new }
+        ensures ok { OnOk result (SimulationGoesOn T.is_text T.has_recorded (10 ∷ []) self.old self.new
             (W.written out.old) (W.written out.new) (W.failures out.old) (W.failures out.new)) }
-        ensures err { IfErr result (λ fault. (more : List ℕ) → Stops T.is_text T.has_recorded (10 ∷ more) self.old
+        ensures err { IfErr result (λ fault. (more : List ℕ) → SimulationStops T.is_text T.has_recorded (10 ∷ more) self.old
             (W.written out.old) (W.written out.new) (W.failures out.old) (W.failures out.new) fault) }
     {
         let number = self.frames.saturating_add(1);
@@ -71,27 +71,27 @@ impl<'a, T: Recorder + Drop> Simulation<'a, T> {
 
     // Takes a piece of a line. There is room for the width, so that it takes no memory.
     fn extend(&mut self, piece: &[u8])
-        requires room { HasRoom T.fits self.old }
-        ensures room { HasRoom T.fits self.new }
+        requires room { HasRowRoom T.fits self.old }
+        ensures room { HasRowRoom T.fits self.new }
         ensures frames { self.new.frames ≡ self.old.frames }
         ensures machine { self.new.machine ≡ self.old.machine }
         ensures recorder { self.new.recorder ≡ self.old.recorder }
         ensures keeps { (line : List ℕ) →
-            Keeps self.old.line.width line self.old.line.shape self.old.line.values →
-            Keeps self.old.line.width (line ++ piece.now) self.new.line.shape self.new.line.values }
+            KeepsLine self.old.line.width line self.old.line.shape self.old.line.values →
+            KeepsLine self.old.line.width (line ++ piece.now) self.new.line.shape self.new.line.values }
     {
         self.line.extend(piece).unwrap();
     }
 
     // Takes bytes up to the end of a line, which is then simulated, or all of them. Answers how many it took.
     fn feed_line<W: Write>(&mut self, bytes: &[u8], out: &mut W) -> Result<usize, StimFault>
-        requires room { HasRoom T.fits self.old }
-        ensures room { HasRoom T.fits self.new }
+        requires room { HasRowRoom T.fits self.old }
+        ensures room { HasRowRoom T.fits self.new }
         ensures bound { IfOk result (λ count. count ≤ length bytes.now) }
         ensures some { IfOk result (λ count. 0 < length bytes.now → 0 < count) }
-        ensures ok { IfOk result (λ count. GoesOn T.is_text T.has_recorded (take count bytes.now) self.old self.new
+        ensures ok { IfOk result (λ count. SimulationGoesOn T.is_text T.has_recorded (take count bytes.now) self.old self.new
             (W.written out.old) (W.written out.new) (W.failures out.old) (W.failures out.new)) }
-        ensures err { IfErr result (Stops T.is_text T.has_recorded bytes.now self.old
+        ensures err { IfErr result (SimulationStops T.is_text T.has_recorded bytes.now self.old
             (W.written out.old) (W.written out.new) (W.failures out.old) (W.failures out.new)) }
     {
         let length = line_length(bytes);
@@ -105,11 +105,11 @@ impl<'a, T: Recorder + Drop> Simulation<'a, T> {
 
     // Takes the bytes of a chunk, and simulates each row that ends in it.
     fn feed<W: Write>(&mut self, chunk: &[u8], out: &mut W) -> Result<(), StimFault>
-        requires room { HasRoom T.fits self.old }
-        ensures room { HasRoom T.fits self.new }
-        ensures ok { OnOk result (GoesOn T.is_text T.has_recorded chunk.now self.old self.new
+        requires room { HasRowRoom T.fits self.old }
+        ensures room { HasRowRoom T.fits self.new }
+        ensures ok { OnOk result (SimulationGoesOn T.is_text T.has_recorded chunk.now self.old self.new
             (W.written out.old) (W.written out.new) (W.failures out.old) (W.failures out.new)) }
-        ensures err { IfErr result (Stops T.is_text T.has_recorded chunk.now self.old
+        ensures err { IfErr result (SimulationStops T.is_text T.has_recorded chunk.now self.old
             (W.written out.old) (W.written out.new) (W.failures out.old) (W.failures out.new)) }
     {
         let mut at = 0;
@@ -123,10 +123,10 @@ impl<'a, T: Recorder + Drop> Simulation<'a, T> {
     fn finish(&self) -> Result<u64, StimFault>
         ensures frames { IfOk result (λ frames. frames ≡ self.now.frames) }
         ensures ended { OnOk result ((line : List ℕ) →
-            Keeps self.now.line.width line self.now.line.shape self.now.line.values → line ≡ []) }
+            KeepsLine self.now.line.width line self.now.line.shape self.now.line.values → line ≡ []) }
         ensures fault { IfErr result (λ fault. fault ≡ StimFault.Unfinished) }
         ensures unfinished { OnErr result ((line : List ℕ) →
-            Keeps self.now.line.width line self.now.line.shape self.now.line.values → line ≢ []) }
+            KeepsLine self.now.line.width line self.now.line.shape self.now.line.values → line ≢ []) }
     {
         if self.line.is_empty() {
             Ok(self.frames)
@@ -138,8 +138,8 @@ impl<'a, T: Recorder + Drop> Simulation<'a, T> {
     /// Reads rows to the end, writes the text of each frame, and returns how many there were (`u64::MAX` for
     /// more). It takes no memory. It flushes before each read.
     pub fn run<R: Read, W: Write>(&mut self, reader: &mut R, out: &mut W) -> Result<u64, StimFault>
-        requires room { HasRoom T.fits self.old }
-        requires starts { Starts T.is_text T.has_recorded self.old }
+        requires room { HasRowRoom T.fits self.old }
+        requires starts { SimulationStarts T.is_text T.has_recorded self.old }
         ensures streams { Streamed T.is_text self.old.machine.circuit
             (record { left = R.left reader.old; reads = R.failures reader.old; writes = W.failures out.old })
             (record { left = R.left reader.new; reads = R.failures reader.new; writes = W.failures out.new })

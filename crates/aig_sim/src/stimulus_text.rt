@@ -2,24 +2,24 @@
 ghost use Rattle.std.specs.Prelude.{◌≡◌, ◌≢◌, ℕ, ◌≤◌, List, [], ◌∷◌, ◌++◌, length, IfOk, IfErr, OnOk};
 ghost use Rattle.aig_parts.specs.declared.ternary.Tern.{Tern};
 ghost use Rattle.aig_parts.specs.Limits.{frame_limit};
-ghost use Rattle.aig_sim.specs.LineInHand.{Keeps};
-ghost use Rattle.aig_sim.specs.declared.line_in_hand.Shape.TheVariants as shapes;
+ghost use Rattle.aig_sim.specs.RowParser.{KeepsLine};
+ghost use Rattle.aig_sim.specs.declared.row_parser.Shape.TheVariants as shapes;
 ghost use Rattle.aig_sim.specs.StimulusText.{EndsLine, SpellsRows, HasFault, HasFaultyLine};
 
-use crate::line_in_hand::{LineInHand, line_length};
+use crate::row_parser::{RowParser, line_length};
 use crate::stimulus_fault::StimFault;
 use aig_values::{FRAMES, Stimulus};
 use std::alloc::Global;
 
 // Adds the row that the current line is.
-fn end_line(stimulus: &mut Stimulus, line: &LineInHand) -> Result<(), StimFault>
+fn end_line(stimulus: &mut Stimulus, line: &RowParser) -> Result<(), StimFault>
     requires { line.now.width ≡ stimulus.old.width }
     ensures width { stimulus.new.width ≡ stimulus.old.width }
     ensures limit { length stimulus.new.rows ≤ frame_limit }
     ensures row { OnOk result ((line.now.shape ≡ shapes.Row) × (length line.now.values ≡ line.now.width)
         × (stimulus.new.rows ≡ stimulus.old.rows ++ line.now.values ∷ [])) }
     ensures fault { IfErr result (λ fault. fault ≢ StimFault.Memory → (bytes rest : List ℕ) →
-        Keeps line.now.width bytes line.now.shape line.now.values → EndsLine rest →
+        KeepsLine line.now.width bytes line.now.shape line.now.values → EndsLine rest →
         HasFault line.now.width (length stimulus.old.rows) bytes rest fault) }
 {
     let row = line.row(stimulus.frames() as u64 + 1)?;
@@ -41,7 +41,7 @@ pub fn read_stimulus(alloc: Global, bytes: &[u8], width: u32) -> Result<Stimulus
         (rows : List (List Tern)) × (length rows ≤ frame_limit) × HasFaultyLine width bytes.now rows fault) }
 {
     let mut stimulus = Stimulus::new(alloc, width);
-    let mut line = LineInHand::new(alloc, width as usize, 0)?;
+    let mut line = RowParser::new(alloc, width as usize, 0)?;
     let mut at = 0;
     while at < bytes.len() {
         let length = line_length(&bytes[at..]);

@@ -6,8 +6,8 @@ ghost use Rattle.aig_values.specs.Characters.{character};
 ghost use Rattle.aig_sim.specs.StimulusText.{row_line, SpellsRows};
 
 use aig_base::{Io, Tern, Write};
-use aig_values::code::Code;
 use aig_values::Stimulus;
+use aig_values::code::Code;
 use aig_values::trace_line::TraceBlock;
 
 /// How many characters are put at a time.
@@ -60,5 +60,5 @@ pub fn write_stimulus<W: Write>(out: &mut W, stimulus: &Stimulus) -> Result<(), 
     stimulus.width();
     let mut block = TraceBlock::new();
     put_rows(out, &mut block, stimulus)?;
-    block.hand_on(out)
+    block.forward(out)
 }

@@ -9,14 +9,14 @@ ghost use Rattle.aig_values.specs.Characters.{character};
 ghost use Rattle.aig_sim.specs.Verdict.{Allows, StartsWrong, IsVerdict, IsConfirmed};
 ghost use Rattle.aig_sim.specs.WitnessText.{Witness, SpellsWitness, IsAdmitted, HasWitnessFault};
 
-use crate::line_in_hand::value_by;
 use crate::machine::Machine;
+use crate::row_parser::value_by;
 use crate::verdict::Verdict;
 use crate::witness_fault::WitnessFault;
 use crate::witness_text::{WitnessParts, read_parts};
 use aig_base::{Circuit, Latch, Memory, Tern};
-use aig_values::row::literal_in;
 use aig_values::FRAMES;
+use aig_values::row::literal_in;
 use std::alloc::Global;
 
 /// Reads a value a character, and returns the text after the line.

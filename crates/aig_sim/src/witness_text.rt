@@ -7,10 +7,10 @@ ghost use Rattle.aig_parts.specs.declared.raw.Raw.{Raw};
 ghost use Rattle.aig_values.specs.Characters.{character};
 ghost use Rattle.aig_values.specs.InputRows.{HaveWidth};
 ghost use Rattle.aig_sim.specs.StimulusText.{row_line, IsCharacter};
-ghost use Rattle.aig_sim.specs.WitnessText.{Witness, SpellsWitness, IsDecimal, rows_text};
+ghost use Rattle.aig_sim.specs.WitnessText.{Witness, SpellsWitness, IsDecimal, witness_rows_text};
 ghost use Rattle.aig_sim.specs.state.Checking.{BeginsWithRow, SpellsFrames, ArePartsOf};
 
-use crate::line_in_hand::are_characters;
+use crate::row_parser::are_characters;
 use aig_base::Circuit;
 
 /// No circuit has a property at this position or after it.
@@ -125,7 +125,7 @@ fn body_of(text: &[u8], property: u32, latches: usize, inputs: usize) -> Option<
         × (length rows ≡ parts.frames) × (text.now ≡ map character start ++ (10 ∷ parts.rows.now))
         × SpellsFrames inputs parts.rows.now rows)) }
     ensures none { IfNone result ((start : List Tern) (rows : List (List Tern)) → length start ≡ latches → rows ≢ [] →
-        HaveWidth inputs rows → text.now ≡ row_line start ++ rows_text rows → ⊥) }
+        HaveWidth inputs rows → text.now ≡ row_line start ++ witness_rows_text rows → ⊥) }
 {
     let rows = after_row(text, latches)?;
     let frames = count_rows(rows, inputs)?;

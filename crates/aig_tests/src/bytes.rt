@@ -128,7 +128,7 @@ fn is_short(alloc: Global) -> bool {
     takes_two(&mut short) & (short.bytes.as_slice() == b"abcde".as_slice())
 }
 
-// A writer of std that takes no byte fails; one that takes few gets them all in turn, and its failing flush is told.
+// A writer of std that takes no byte fails; one that takes few gets them all in turn, and its failing flush is seen.
 #[test]
 fn writers_of_the_system(rt: HostRuntime) {
     assert!(rt; is_stuck() && is_short(rt.alloc()));
@@ -165,7 +165,7 @@ fn is_marked(alloc: Global) -> bool {
     flushed & (below.bytes.as_slice() == b"abc|d|".as_slice())
 }
 
-// A flush of a buffer hands on what is held, and then flushes the writer below.
+// A flush of a buffer forwards what is held, and then flushes the writer below.
 #[test]
 fn a_flush_goes_through(rt: HostRuntime) {
     assert!(rt; is_marked(rt.alloc()));

@@ -71,7 +71,7 @@ impl Write for Plain {
     }
 }
 
-/// Hands on one byte of each write.
+/// Forwards one byte of each write.
 #[derive(Drop)]
 pub struct OneByte<W> {
     pub inner: W,

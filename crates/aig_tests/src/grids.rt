@@ -33,7 +33,7 @@ fn values<G: Grid>(alloc: Global, value: Tern) -> Result<(Tern, Tern, bool), Mem
     Ok((first, second, again))
 }
 
-// The value of a gate that comes behind all variables: at the second of two rows before and after it is evaluated, and
+// The value of a gate that comes after all variables: at the second of two rows before and after it is evaluated, and
 // at the first row.
 fn added<G: Grid>(alloc: Global) -> Result<(Tern, Tern, Tern), Memory> {
     let mut grid = G::new(alloc, &[false, false])?;

@@ -13,9 +13,9 @@ mod formulas;
 #[cfg(test)]
 mod grids;
 #[cfg(test)]
-mod literals;
+mod levels;
 #[cfg(test)]
-mod order;
+mod literals;
 #[cfg(test)]
 mod parts;
 #[cfg(test)]

@@ -33,7 +33,7 @@ pub fn of_file<F: FnOnce(Global, &mut Circuit) -> bool + Drop>(
     }
 }
 
-/// Whether a writer with so much room has these bytes behind a write that goes well.
+/// Whether a writer with so much room has these bytes after a write that goes well.
 pub fn writes<F: FnOnce(&mut MemWriter) -> bool + Drop>(
     alloc: Global,
     room: usize,

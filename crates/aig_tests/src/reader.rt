@@ -9,7 +9,7 @@ use aig_base::{
 use aig_format::{read, read_from, write_binary};
 use std::alloc::Global;
 
-// The fault of bytes at hand, if they have one.
+// The fault of known bytes, if they have one.
 fn fault_of(alloc: Global, bytes: &[u8]) -> Option<Fault> {
     read(alloc, bytes).err()
 }
@@ -165,7 +165,7 @@ fn fault_behind(alloc: Global, bytes: &[u8], calls: usize) -> Option<Fault> {
     fault_from(alloc, &mut Pieces::new(bytes, 1, calls))
 }
 
-// Each read that an answer needs fails in turn, and the answer is `Io`; one behind the last is not made. So many reads
+// Each read that an answer needs fails in turn, and the answer is `Io`; one after the last is not made. So many reads
 // are needed: one a byte up to the refused one, or all and one for the end.
 #[test]
 fn failing_reads(rt: HostRuntime) {

@@ -11,7 +11,7 @@ static NAMES: [(Kind, u32, &[u8], bool); 4] = [
 
 static IN_ORDER: [&[u8]; 3] = [b"out", b"in", b"first"];
 
-// Names an entry, and tells whether it had no name.
+// Names an entry, and returns whether it had no name.
 fn is_fresh(
     alloc: Global,
     symbols: &mut Symbols,
@@ -91,7 +91,7 @@ fn listed(alloc: Global) -> bool {
 }
 
 // Symbols that are listed in any order become a table in that order, and so does a copy. Entries far apart, at both
-// ends of a page of bits and of one position in other sections are told apart.
+// ends of a page of bits and of one position in other sections are distinguished.
 #[test]
 fn listed_symbols(rt: HostRuntime) {
     assert!(rt; listed(rt.alloc()));

@@ -26,7 +26,7 @@ $end
 #2
 ";
 
-// Whether a failure ends a trace behind this text, where so many reads of a byte are made and there is so much room.
+// Whether a failure ends a trace after this text, where so many reads of a byte are made and there is so much room.
 fn stops(
     alloc: Global,
     circuit: &Circuit,
@@ -40,7 +40,7 @@ fn stops(
     })
 }
 
-// A failing read is told behind the lines of all rows that were read.
+// A failing read is reported after the lines of all rows that were read.
 #[test]
 fn a_failing_read_ends_a_trace(rt: HostRuntime) {
     assert!(rt;
@@ -50,7 +50,7 @@ fn a_failing_read_ends_a_trace(rt: HostRuntime) {
     );
 }
 
-// A full writer has a beginning, and is told.
+// A full writer has a beginning, and is reported.
 #[test]
 fn a_full_writer_ends_a_trace(rt: HostRuntime) {
     assert!(rt;
@@ -68,7 +68,7 @@ fn dumps(alloc: Global, circuit: &mut Circuit) -> bool {
 
 // All values at frame 0, then those that change, and the end.
 #[test]
-fn a_dump_tells_changes(rt: HostRuntime) {
+fn a_dump_reports_changes(rt: HostRuntime) {
     let file = b"aag 2 1 1 0 0\n2\n4 4\ni0 en\nl0 $count 0\n";
     assert!(rt; of_file(rt.alloc(), file, dumps));
 }

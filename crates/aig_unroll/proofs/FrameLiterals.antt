@@ -9,7 +9,7 @@ use Rattle.aig_parts.specs.declared.raw.Raw.{Raw}
 use Rattle.aig_parts.specs.Literal.{variable, with_sign, negation, IsNegated}
 use Rattle.aig_base.specs.Order.{IsCanonicalOrder}
 use Rattle.aig_base.specs.Renumbered.{renumbered_variable, role_variable}
-use Rattle.aig_base.specs.RenumberingTable.{IsListed}
+use Rattle.aig_base.specs.RenumberingTable.{IsInTable}
 use Rattle.aig_base.specs.Role as roles
 use Rattle.aig_base.specs.Role.{Role, role, place_of, input_role, gate_role, latch_role}
 use Rattle.aig_base.specs.Sections.{IsGate}
@@ -19,7 +19,7 @@ use Rattle.aig_base.proofs.renumbered.Renumberings.{place_in}
 use Rattle.aig_base.proofs.circuits.Roles.{place_found, only_place, role_input, role_latch, role_gate_at, role_constant}
 use Rattle.aig_unroll.specs.declared.plan.Plan.{Plan}
 use Rattle.aig_unroll.specs.declared.frame_literals.Frame.{Frame}
-use Rattle.aig_unroll.specs.FrameLiteral.{frame_literal, gate_variable, first_literal, next_literal, role_literal}
+use Rattle.aig_unroll.specs.FrameLiteral.{frame_literal, frame_gate_variable, first_literal, next_literal, role_literal}
 use Rattle.aig_unroll.specs.state.FrameTable.{IsPlan, IsFrame, literal_at, number_literal}
 
 -- the literals of the latches at a frame
@@ -106,7 +106,7 @@ module _ (raw : Raw) (sound : IsSound raw) (order : List ℕ) (canonical : IsCan
 
   -- the gate at a place of the order
   pub of_gate : (k t q i : ℕ) (g : Gate) → slice_get raw.gates q ≡ Some g → i < length order
-      → variable g.lhs ≡ get_or order i 0 → frame_literal raw order k t g.lhs ≡ 2 * gate_variable raw k t i
+      → variable g.lhs ≡ get_or order i 0 → frame_literal raw order k t g.lhs ≡ 2 * frame_gate_variable raw k t i
   of_gate k t q i g at lt is =
       let (even, over) = IsDefinition-of_place raw sound (gate q) g.lhs tt (g, at, refl) in
       let here : slice_get order i ≡ Some (variable g.lhs) = slice_get-get_or order i 0 lt ∙ ap Some (sym is) in
@@ -164,7 +164,7 @@ module _ (raw : Raw) (sound : IsSound raw) (order : List ℕ) (canonical : IsCan
         rw (e0, e1, is_frame.number, is_plan.sources, is_plan.size) refl
 
     -- the plan and the frame give the frame literals
-    pub literal_same : (l : ℕ) → IsListed plan.numbers.items l → literal_at plan frame l ≡ frame_literal raw order k t l
+    pub literal_same : (l : ℕ) → IsInTable plan.numbers.items l → literal_at plan frame l ≡ frame_literal raw order k t l
     unfolding literal_at renumbered_variable
     literal_same l lt =
         ap (λ n. with_sign l (number_literal plan frame n)) (is_plan.numbers.each (variable l) lt)

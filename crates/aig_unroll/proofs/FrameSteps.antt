@@ -31,22 +31,22 @@ pub ready_same : (g : Gate) (lhs a b lhs' a' b' : ℕ) → g ≡ ready_gate lhs 
 ready_same g lhs a b lhs' a' b' is e0 e1 e2 = is ∙ rw (e0, e1, e2) refl
 
 -- one more latch of the first frame
-pub first_more : (latches : List Latch) (behind variable variable' : ℕ) (old new : List ℕ) (i lit : ℕ) (x : Latch)
+pub first_more : (latches : List Latch) (offset variable variable' : ℕ) (old new : List ℕ) (i lit : ℕ) (x : Latch)
     (b : Bool)
     → i < length latches → x ≡ get_or latches i x → is_uninitialised x ≡ b
-    → variable ≡ behind + uninitialised (take i latches)
-    → old ≡ map (first_at latches behind) (range_with_len 0 i)
+    → variable ≡ offset + uninitialised (take i latches)
+    → old ≡ map (first_at latches offset) (range_with_len 0 i)
     → variable' ≡ (if b then variable + 1 else variable) → new ≡ old ++ lit ∷ []
     → lit ≡ (if b then 2 * variable' else x.reset)
-    → (variable' ≡ behind + uninitialised (take (i + 1) latches))
-    × (new ≡ map (first_at latches behind) (range_with_len 0 (i + 1)))
-first_more latches behind variable variable' old new i lit x true lt is own number so up more at =
+    → (variable' ≡ offset + uninitialised (take (i + 1) latches))
+    × (new ≡ map (first_at latches offset) (range_with_len 0 (i + 1)))
+first_more latches offset variable variable' old new i lit x true lt is own number so up more at =
     let e = count_by_more_yes is_uninitialised latches i x lt (ap is_uninitialised (sym is) ∙ own) in
     let here : slice_get latches i ≡ Some x = slice_get-get_or latches i x lt ∙ ap Some (sym is) in
-    let f : lit ≡ first_at latches behind i = rw (here, own) (at ∙ omega arith) in
-    (omega arith, joined_more (first_at latches behind) [] old new i lit so more f)
-first_more latches behind variable variable' old new i lit x false lt is own number so up more at =
+    let f : lit ≡ first_at latches offset i = rw (here, own) (at ∙ omega arith) in
+    (omega arith, joined_more (first_at latches offset) [] old new i lit so more f)
+first_more latches offset variable variable' old new i lit x false lt is own number so up more at =
     let e = count_by_more_no is_uninitialised latches i x lt (ap is_uninitialised (sym is) ∙ own) in
     let here : slice_get latches i ≡ Some x = slice_get-get_or latches i x lt ∙ ap Some (sym is) in
-    let f : lit ≡ first_at latches behind i = rw (here, own) at in
-    (omega arith, joined_more (first_at latches behind) [] old new i lit so more f)
+    let f : lit ≡ first_at latches offset i = rw (here, own) at in
+    (omega arith, joined_more (first_at latches offset) [] old new i lit so more f)

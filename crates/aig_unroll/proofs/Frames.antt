@@ -12,7 +12,7 @@ use Rattle.aig_parts.specs.declared.raw.Raw.{Raw}
 use Rattle.aig_base.specs.Circuit.{IsCircuit}
 use Rattle.aig_base.specs.Order.{IsCanonicalOrder}
 use Rattle.aig_base.specs.Renumbered.{ordered_gates}
-use Rattle.aig_base.specs.RenumberingTable.{IsListed, IsLatchListed, IsGateListed, AreListed}
+use Rattle.aig_base.specs.RenumberingTable.{IsInTable, IsLatchListed, IsGateListed, HasAllEntries}
 use Rattle.aig_base.proofs.lists.Counting.{length-order, sections_fit}
 use Rattle.aig_base.proofs.lists.Gets.{All-at, All-by_get}
 use Rattle.aig_base.proofs.renumbered.RenumberedParts.{map_same, all_listed, variable_bound}
@@ -20,9 +20,9 @@ use Rattle.aig_base.proofs.renumbered.RenumberedReady.{ordered_gate}
 use Rattle.aig_unroll.specs.declared.frame_literals.Frame.{Frame}
 use Rattle.aig_unroll.specs.declared.plan.Plan.{Plan}
 use Rattle.aig_unroll.specs.declared.sections.Sections.{Sections}
-use Rattle.aig_unroll.specs.FrameLiteral.{frame_literal, gate_variable, first_literal, has_guards, chain_count, guard_count}
+use Rattle.aig_unroll.specs.FrameLiteral.{frame_literal, frame_gate_variable, first_literal, has_guards, chain_count, guard_count}
 use Rattle.aig_unroll.specs.state.FrameTable as table
-use Rattle.aig_unroll.specs.state.FrameTable.{IsPlan, IsFrame, IsWithin, IsNextFrame, AddsFrame, AreSections, literal_at, gates_at, bad_at, first_at}
+use Rattle.aig_unroll.specs.state.FrameTable.{IsPlan, IsFrame, IsWithin, IsNextFrame, AddsFrame, AreSections, literal_at, plan_gates, bad_at, first_at}
 use Rattle.aig_unroll.specs.Unrollable.{FitsLimits}
 use Rattle.aig_unroll.specs.Unrolled as parts
 use Rattle.aig_unroll.specs.Unrolled.{frames, frame_literals, frame_bad, frame_gate, frame_gates, kept_constraints}
@@ -41,7 +41,7 @@ range_same f g n same =
 module _ (raw : Raw) (circuit : IsCircuit raw) (order : List ℕ) (canonical : IsCanonicalOrder raw order) (k : ℕ)
     (plan : Plan) (is_plan : IsPlan raw order k plan) where
   -- the table has each literal
-  pub listed : AreListed raw plan.numbers.items
+  pub listed : HasAllEntries raw plan.numbers.items
   listed = all_listed raw circuit.formed circuit.sound order plan.numbers.items canonical is_plan.numbers
 
   pub ordered_listed : All (IsGateListed plan.numbers.items) (ordered_gates raw order)
@@ -49,32 +49,32 @@ module _ (raw : Raw) (circuit : IsCircuit raw) (order : List ℕ) (canonical : I
       let (q, lt, at, is) = ordered_gate raw circuit.sound order canonical i g here in
       All-at (IsGateListed plan.numbers.items) raw.gates q g listed.gates at)
 
-  first_same : (behind p : ℕ) (x : Latch) → behind ≡ k * length raw.inputs → slice_get raw.latches p ≡ Some x
-      → first_at raw.latches behind p ≡ first_literal raw k p (Some x)
-  first_same behind p x e here =
-      ap (table.first_of raw.latches behind p) here ∙ ap (λ b. table.first_of raw.latches b p (Some x)) e
+  first_same : (offset p : ℕ) (x : Latch) → offset ≡ k * length raw.inputs → slice_get raw.latches p ≡ Some x
+      → first_at raw.latches offset p ≡ first_literal raw k p (Some x)
+  first_same offset p x e here =
+      ap (table.first_literal_of raw.latches offset p) here ∙ ap (λ b. table.first_literal_of raw.latches b p (Some x)) e
 
   -- the first frame
-  pub first_frame : (behind : ℕ) (latches : List ℕ) → behind ≡ k * plan.inputs
-      → latches ≡ map (first_at raw.latches behind) (range_with_len 0 (length raw.latches))
+  pub first_frame : (offset : ℕ) (latches : List ℕ) → offset ≡ k * plan.inputs
+      → latches ≡ map (first_at raw.latches offset) (range_with_len 0 (length raw.latches))
       → IsFrame raw order k 0 (record { number = 0; latches = latches })
-  first_frame behind latches at is = record {
+  first_frame offset latches at is = record {
     number = refl;
-    latches = is ∙ ext_get_or 0 (map (first_at raw.latches behind) (range_with_len 0 (length raw.latches)))
+    latches = is ∙ ext_get_or 0 (map (first_at raw.latches offset) (range_with_len 0 (length raw.latches)))
         (map (λ (x : Latch). frame_literal raw order k 0 x.lit) raw.latches)
-        (length-map-range_with_len (first_at raw.latches behind) 0 (length raw.latches)
+        (length-map-range_with_len (first_at raw.latches offset) 0 (length raw.latches)
         ∙ sym (length-map raw.latches (λ (x : Latch). frame_literal raw order k 0 x.lit)))
         (λ p lt.
         let below : p < length raw.latches =
-        omega (arith, length-map-range_with_len (first_at raw.latches behind) 0 (length raw.latches)) in
+        omega (arith, length-map-range_with_len (first_at raw.latches offset) 0 (length raw.latches)) in
         let (x, here) = stands_at raw.latches p below in
-        let e : behind ≡ k * length raw.inputs = at ∙ ap (λ n. k * n) is_plan.inputs in
+        let e : offset ≡ k * length raw.inputs = at ∙ ap (λ n. k * n) is_plan.inputs in
         let f : slice_get (map (λ (x : Latch). frame_literal raw order k 0 x.lit) raw.latches) p
         ≡ Some (frame_literal raw order k 0 x.lit) =
         slice_get-map (λ (x : Latch). frame_literal raw order k 0 x.lit) raw.latches p
         ∙ ap (option_map (λ (x : Latch). frame_literal raw order k 0 x.lit)) here in
-        get_or-map-range_with_len (first_at raw.latches behind) 0 (length raw.latches) p p 0 below (omega arith)
-        ∙ first_same behind p x e here
+        get_or-map-range_with_len (first_at raw.latches offset) 0 (length raw.latches) p p 0 below (omega arith)
+        ∙ first_same offset p x e here
         ∙ sym (of_first raw circuit.sound order canonical k p x here)
         ∙ sym (get_or_from_slice_get (map (λ (x : Latch). frame_literal raw order k 0 x.lit) raw.latches) p
         (frame_literal raw order k 0 x.lit) 0 f));
@@ -112,13 +112,13 @@ module _ (raw : Raw) (circuit : IsCircuit raw) (order : List ℕ) (canonical : I
               ∙ length-map raw.latches (λ (x : Latch). frame_literal raw order k t x.lit) ∙ sym is_plan.latches;
         }
 
-    same : (l : ℕ) → IsListed plan.numbers.items l → literal_at plan frame l ≡ frame_literal raw order k t l
+    same : (l : ℕ) → IsInTable plan.numbers.items l → literal_at plan frame l ≡ frame_literal raw order k t l
     same = literal_same raw circuit.sound order canonical k t plan frame is_plan is_frame
 
-    literals_same : (ls : List ℕ) → All (IsListed plan.numbers.items) ls
+    literals_same : (ls : List ℕ) → All (IsInTable plan.numbers.items) ls
         → map (literal_at plan frame) ls ≡ frame_literals raw order k ls t
     literals_same ls h = map_same (literal_at plan frame) (frame_literal raw order k t) ls
-        (All-weaker (IsListed plan.numbers.items) (λ l. literal_at plan frame l ≡ frame_literal raw order k t l) same ls h)
+        (All-weaker (IsInTable plan.numbers.items) (λ l. literal_at plan frame l ≡ frame_literal raw order k t l) same ls h)
 
     -- the frame after it
     pub next_frame : (next : Frame) → IsNextFrame raw plan frame next → IsFrame raw order k (suc t) next
@@ -132,28 +132,28 @@ module _ (raw : Raw) (circuit : IsCircuit raw) (order : List ℕ) (canonical : I
           same x.next next ∙ sym (of_next raw circuit.sound order canonical k t p x at)));
     }
 
-    variable_same : (n : ℕ) → table.variable_at plan frame.number n ≡ gate_variable raw k t n
+    variable_same : (n : ℕ) → table.variable_at plan frame.number n ≡ frame_gate_variable raw k t n
     variable_same n = rw (is_frame.number, is_plan.sources, is_plan.size) refl
 
-    gate_same : (g : Gate) → IsGateListed plan.numbers.items g → table.gate_at plan frame g ≡ frame_gate raw order k t g
+    gate_same : (g : Gate) → IsGateListed plan.numbers.items g → table.plan_gate plan frame g ≡ frame_gate raw order k t g
     gate_same g (a, b, d) =
         let e0 = same g.lhs a in
         let e1 = same g.rhs0 b in
         let e2 = same g.rhs1 d in
         rw (e0, e1, e2) refl
 
-    before_same : (n : ℕ) → 0 < chain_count raw → table.chain_before plan n ≡ parts.chain_before raw k n
+    before_same : (n : ℕ) → 0 < chain_count raw → table.plan_chain_before plan n ≡ parts.chain_before raw k n
     before_same zero some = refl
     before_same (suc n) some =
         rw (is_plan.sources, is_plan.size, is_plan.gates, is_plan.chain) (omega arith)
 
-    link_same : (c : ℕ) → c < chain_count raw → table.link_before plan frame c ≡ parts.link_before raw k t c
-    link_same zero lt = ap (table.chain_before plan) is_frame.number ∙ before_same t lt
+    link_same : (c : ℕ) → c < chain_count raw → table.plan_link_before plan frame c ≡ parts.link_before raw k t c
+    link_same zero lt = ap (table.plan_chain_before plan) is_frame.number ∙ before_same t lt
     link_same (suc c) lt = ap (λ n. 2 * table.variable_at plan frame.number (n + c)) is_plan.gates
         ∙ ap (λ n. 2 * n) (variable_same (length raw.gates + c))
 
     chain_same : (c : ℕ) → c < chain_count raw
-        → table.chain_gate plan frame raw.constraints c ≡ parts.chain_gate raw order k t c
+        → table.plan_chain_gate plan frame raw.constraints c ≡ parts.chain_gate raw order k t c
     chain_same c lt =
         let on = guarded_by_chain raw c lt in
         let below : c < length raw.constraints = omega (arith, on.chain) in
@@ -163,13 +163,13 @@ module _ (raw : Raw) (circuit : IsCircuit raw) (order : List ℕ) (canonical : I
         let e2 = link_same c lt in
         rw (e0, e1, e2) refl
 
-    guard_literal_same : (p : ℕ) → table.guard_literal plan frame p ≡ parts.guard_literal raw k t p
+    guard_literal_same : (p : ℕ) → table.plan_guard_literal plan frame p ≡ parts.guard_literal raw k t p
     guard_literal_same p =
         ap₂ (λ (n m : ℕ). 2 * table.variable_at plan frame.number (n + m + p)) is_plan.gates is_plan.chain
         ∙ ap (λ n. 2 * n) (variable_same (length raw.gates + chain_count raw + p))
 
     guard_same : (p : ℕ) → p < guard_count raw
-        → table.guard_gate plan frame raw.bad p ≡ parts.guard_gate raw order k t p
+        → table.plan_guard_gate plan frame raw.bad p ≡ parts.guard_gate raw order k t p
     guard_same p lt =
         let on = guarded_by_guard raw p lt in
         let below : p < length raw.bad = omega (arith, on.guards) in
@@ -182,31 +182,31 @@ module _ (raw : Raw) (circuit : IsCircuit raw) (order : List ℕ) (canonical : I
         ∙ ap (λ n. 2 * n) (variable_same (length raw.gates + (chain_count raw - 1))) in
         rw (e0, e1, e2) refl
 
-    gates_same : gates_at raw (ordered_gates raw order) plan frame ≡ frame_gates raw order k t
+    gates_same : plan_gates raw (ordered_gates raw order) plan frame ≡ frame_gates raw order k t
     gates_same =
-        let a : map (table.gate_at plan frame) (ordered_gates raw order)
+        let a : map (table.plan_gate plan frame) (ordered_gates raw order)
         ≡ map (frame_gate raw order k t) (ordered_gates raw order) =
-        map_same (table.gate_at plan frame) (frame_gate raw order k t) (ordered_gates raw order)
-        (All-weaker (IsGateListed plan.numbers.items) (λ g. table.gate_at plan frame g ≡ frame_gate raw order k t g)
+        map_same (table.plan_gate plan frame) (frame_gate raw order k t) (ordered_gates raw order)
+        (All-weaker (IsGateListed plan.numbers.items) (λ g. table.plan_gate plan frame g ≡ frame_gate raw order k t g)
         gate_same (ordered_gates raw order) ordered_listed) in
-        let b = range_same (table.chain_gate plan frame raw.constraints) (parts.chain_gate raw order k t)
+        let b = range_same (table.plan_chain_gate plan frame raw.constraints) (parts.chain_gate raw order k t)
         (chain_count raw) chain_same in
-        let d = range_same (table.guard_gate plan frame raw.bad) (parts.guard_gate raw order k t) (guard_count raw)
+        let d = range_same (table.plan_guard_gate plan frame raw.bad) (parts.guard_gate raw order k t) (guard_count raw)
         guard_same in
         ap₂ (λ (xs ys : List Gate). xs ++ ys) (ap₂ (λ (xs ys : List Gate). xs ++ ys) a b) d
 
     bad_same : bad_at raw plan frame ≡ frame_bad raw order k t
     bad_same =
         ap₂ (λ (xs ys : List ℕ). if has_guards raw then xs else ys)
-        (range_same (table.guard_literal plan frame) (parts.guard_literal raw k t) (guard_count raw)
+        (range_same (table.plan_guard_literal plan frame) (parts.guard_literal raw k t) (guard_count raw)
         (λ p lt. guard_literal_same p))
         (literals_same raw.bad listed.bad)
 
-    kept_listed : All (IsListed plan.numbers.items) (kept_constraints raw)
+    kept_listed : All (IsInTable plan.numbers.items) (kept_constraints raw)
     kept_listed = go (has_guards raw)
       where
-        go : (b : Bool) → All (IsListed plan.numbers.items) (if b then [] else raw.constraints)
-        go true = All-nil (IsListed plan.numbers.items)
+        go : (b : Bool) → All (IsInTable plan.numbers.items) (if b then [] else raw.constraints)
+        go true = All-nil (IsInTable plan.numbers.items)
         go false = listed.constraints
 
     -- one more frame
@@ -224,9 +224,9 @@ module _ (raw : Raw) (circuit : IsCircuit raw) (order : List ℕ) (canonical : I
     pub one_more : (gates : List Gate) (old new : Sections) (next : Frame) → gates ≡ ordered_gates raw order
         → AreSections raw order k t old → AddsFrame raw gates plan frame old new → IsNextFrame raw plan frame next
         → (next.number ≡ suc t) × IsFrame raw order k next.number next × AreSections raw order k next.number new
-    one_more gates old new next is so adds behind =
+    one_more gates old new next is so adds offset =
         let P : List Gate → Type 0 = λ gs. AddsFrame raw gs plan frame old new in
-        let there = next_frame next behind in
+        let there = next_frame next offset in
         let sections = sections_more old new so (subst P is adds) in (
           there.number,
           subst (λ n. IsFrame raw order k n next) (sym there.number) there,

@@ -23,7 +23,7 @@ use Rattle.aig_base.proofs.lists.Positions.{slice_get_left, slice_get_right, Con
 use Rattle.aig_base.proofs.values.UniqueValue.{unique}
 use Rattle.aig_unroll.specs.FrameLiteral.{frame_literal, has_guards, chain_count, guard_count}
 use Rattle.aig_unroll.specs.Unrolled.{unrolled, frame_bad, frame_gate, frame_gates, chain_gate, chain_literal, link_before, guard_gate, guard_literal, last_chain}
-use Rattle.aig_unroll.specs.UnrolledValues.{IsAllowed, UnrolledValue, unrolled_row, IsReached, IsExcluded, GuardedValue, GuardsBad}
+use Rattle.aig_unroll.specs.UnrolledValues.{IsAllowed, UnrolledValue, unrolled_row, ReachesBad, IsExcluded, GuardedValue, GuardsBad}
 use Rattle.aig_unroll.proofs.FrameLiterals.{stands_at}
 use Rattle.aig_unroll.proofs.Guarding.{AreGuarded, guarded}
 use Rattle.aig_unroll.proofs.UnrolledCircuit.{unrolled_sound, bad_on, bad_off, length-frame_bad}
@@ -167,7 +167,7 @@ module _ (raw : Raw) (circuit : IsCircuit raw) (start : List Tern) (rows : List 
   -- a bad literal and all constraints up to its frame
   guard_decides : (t b : ℕ) (u w : Tern) → Value raw start rows t b u
       → Decides (AllOne raw start rows t (length raw.constraints)) (SomeZero raw start rows t (length raw.constraints)) w
-      → Decides (IsReached raw start rows t b) (IsExcluded raw start rows t b) (kleene_and u w)
+      → Decides (ReachesBad raw start rows t b) (IsExcluded raw start rows t b) (kleene_and u w)
   guard_decides t b u w here d = record {
     one = λ e.
         let (eu, ew) = and_one u w e in (
@@ -210,14 +210,14 @@ module _ (raw : Raw) (circuit : IsCircuit raw) (start : List Tern) (rows : List 
           ap (kleene_and u) (d.some (s, i, c, stands, up s i c le stands, v)) ∙ zero_right u
 
   guarded_value : (t b : ℕ) (w : Tern)
-      → Decides (IsReached raw start rows t b) (IsExcluded raw start rows t b) w → GuardedValue raw start rows t b w
+      → Decides (ReachesBad raw start rows t b) (IsExcluded raw start rows t b) w → GuardedValue raw start rows t b w
   guarded_value t b One d = d.one refl
   guarded_value t b Zero d = d.zero refl
   guarded_value t b X d =
       (λ h. let e : X ≡ One = d.every h in cc, λ h. let e : X ≡ Zero = d.some h in cc)
 
   one_guarded_value : (t b : ℕ) (v w : Tern)
-      → Decides (IsReached raw start rows t b) (IsExcluded raw start rows t b) w → GuardedValue raw start rows t b v
+      → Decides (ReachesBad raw start rows t b) (IsExcluded raw start rows t b) w → GuardedValue raw start rows t b v
       → w ≡ v
   one_guarded_value t b One w d h = d.every h
   one_guarded_value t b Zero w d h = d.some h
@@ -237,7 +237,7 @@ module _ (raw : Raw) (circuit : IsCircuit raw) (start : List Tern) (rows : List 
 
     -- without constraints a bad literal is what it is in the circuit
     alone_decides : length raw.constraints ≡ 0 → (t b : ℕ) (u : Tern) → Value raw start rows t b u
-        → Decides (IsReached raw start rows t b) (IsExcluded raw start rows t b) u
+        → Decides (ReachesBad raw start rows t b) (IsExcluded raw start rows t b) u
     alone_decides none t b u here = record {
       one = λ e. (subst (λ x. Value raw start rows t b x) e here, λ s c le has. absurd (omega (arith, has.1)));
       every = λ h. one_value here h.0;

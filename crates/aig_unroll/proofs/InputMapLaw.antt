@@ -58,8 +58,8 @@ module _ (raw : Raw) (circuit : IsCircuit raw) (order : List ℕ) (canonical : I
       ∙ of_first raw circuit.sound order canonical k p x at
       ∙ ap (λ b. if b then 2 * (k * length raw.inputs + uninitialised (take p raw.latches) + 1) else x.reset) own
 
-  abbrev behind : ℕ → ℕ
-  behind p = 1 + (k * length raw.inputs + uninitialised (take p raw.latches))
+  abbrev next_position : ℕ → ℕ
+  next_position p = 1 + (k * length raw.inputs + uninitialised (take p raw.latches))
 
   count_first : (x : Latch) (xs : List Latch) (b : Bool) → is_uninitialised x ≡ b
       → uninitialised (x ∷ xs) ≡ (if b then 1 else 0) + uninitialised xs
@@ -72,12 +72,12 @@ module _ (raw : Raw) (circuit : IsCircuit raw) (order : List ℕ) (canonical : I
       let e : uninitialised (x ∷ xs) ≡ 0 + uninitialised xs = count_first x xs false own in omega (arith, e)
 
   starts_evens : (n p : ℕ) → p + n ≡ length raw.latches
-      → map literal (start_origins p (drop p raw.latches)) ≡ evens_from (behind p) (uninitialised (drop p raw.latches))
+      → map literal (start_origins p (drop p raw.latches)) ≡ evens_from (next_position p) (uninitialised (drop p raw.latches))
   unfolding start_origins
   starts_evens zero p e =
       let none = drop_all p raw.latches (omega (arith, e)) in
       ap (λ (xs : List Latch). map literal (start_origins p xs)) none
-      ∙ ap (λ (xs : List Latch). evens_from (behind p) (uninitialised xs)) (sym none)
+      ∙ ap (λ (xs : List Latch). evens_from (next_position p) (uninitialised xs)) (sym none)
   starts_evens (suc n) p e =
       let lt : p < length raw.latches = omega (arith, e) in
       let (x, at) = stands_at raw.latches p lt in
@@ -88,36 +88,36 @@ module _ (raw : Raw) (circuit : IsCircuit raw) (order : List ℕ) (canonical : I
       let later = starts_evens n (p + 1) (omega (arith, e)) in
       ap (λ (ys : List Latch). map literal (start_origins p ys)) more
       ∙ go x xs lt at is (is_uninitialised x) refl later
-      ∙ ap (λ (ys : List Latch). evens_from (behind p) (uninitialised ys)) (sym more)
+      ∙ ap (λ (ys : List Latch). evens_from (next_position p) (uninitialised ys)) (sym more)
     where
       go : (x : Latch) (xs : List Latch) → p < length raw.latches → slice_get raw.latches p ≡ Some x
           → get_or raw.latches p x ≡ x → (b : Bool) → is_uninitialised x ≡ b
-          → map literal (start_origins (p + 1) xs) ≡ evens_from (behind (p + 1)) (uninitialised xs)
-          → map literal (start_origins p (x ∷ xs)) ≡ evens_from (behind p) (uninitialised (x ∷ xs))
+          → map literal (start_origins (p + 1) xs) ≡ evens_from (next_position (p + 1)) (uninitialised xs)
+          → map literal (start_origins p (x ∷ xs)) ≡ evens_from (next_position p) (uninitialised (x ∷ xs))
       go x xs lt at is true own later =
           let s = start_origins (p + 1) xs in
           let count = count_by_more_yes is_uninitialised raw.latches p x lt (ap is_uninitialised is ∙ own) in
-          let f : k * length raw.inputs + uninitialised (take p raw.latches) + 1 ≡ behind p = omega arith in
-          let first : literal (start p) ≡ 2 * behind p = latch_at p x at own ∙ ap (λ u. 2 * u) f in
-          let next : behind (p + 1) ≡ behind p + 1 = omega (arith, count) in
+          let f : k * length raw.inputs + uninitialised (take p raw.latches) + 1 ≡ next_position p = omega arith in
+          let first : literal (start p) ≡ 2 * next_position p = latch_at p x at own ∙ ap (λ u. 2 * u) f in
+          let next : next_position (p + 1) ≡ next_position p + 1 = omega (arith, count) in
           ap (λ (t : Bool). map literal (if t then start p ∷ s else s)) own
           ∙ ap₂ (λ (l : ℕ) (ls : List ℕ). l ∷ ls) first
           (later ∙ ap (λ v. evens_from v (uninitialised xs)) next)
-          ∙ sym (evens-append (behind p) 1 (uninitialised xs))
-          ∙ ap (evens_from (behind p)) (sym (count_first x xs true own))
+          ∙ sym (evens-append (next_position p) 1 (uninitialised xs))
+          ∙ ap (evens_from (next_position p)) (sym (count_first x xs true own))
       go x xs lt at is false own later =
           let s = start_origins (p + 1) xs in
           let count = count_by_more_no is_uninitialised raw.latches p x lt (ap is_uninitialised is ∙ own) in
-          let next : behind (p + 1) ≡ behind p = omega (arith, count) in
+          let next : next_position (p + 1) ≡ next_position p = omega (arith, count) in
           ap (λ (t : Bool). map literal (if t then start p ∷ s else s)) own ∙ later
           ∙ ap (λ v. evens_from v (uninitialised xs)) next
-          ∙ ap (evens_from (behind p)) (sym (count_none x xs own))
+          ∙ ap (evens_from (next_position p)) (sym (count_none x xs own))
 
   pub all_inputs : map (origin_literal raw order k) (origins raw k) ≡ evens (input_count raw k)
   all_inputs =
       map-append literal (frames (frame_origins raw) k) (start_origins 0 raw.latches)
       ∙ ap₂ (λ (xs ys : List ℕ). xs ++ ys) (all_frames k)
       (starts_evens (length raw.latches) 0 (omega arith)
-      ∙ (let e : behind 0 ≡ 1 + k * length raw.inputs = omega arith in
+      ∙ (let e : next_position 0 ≡ 1 + k * length raw.inputs = omega arith in
       ap (λ v. evens_from v (uninitialised raw.latches)) e))
       ∙ sym (evens-append 1 (k * length raw.inputs) (uninitialised raw.latches))

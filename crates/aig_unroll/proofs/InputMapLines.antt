@@ -13,8 +13,8 @@ use Rattle.aig_parts.specs.declared.symbols.Kind.{Kind}
 use Rattle.aig_parts.specs.declared.symbols.Kind.TheVariants as kinds
 use Rattle.aig_parts.specs.SymbolPlaces.{Key}
 use Rattle.aig_unroll.specs.FrameLiteral.{is_uninitialised}
-use Rattle.aig_unroll.specs.InputMap.{Origin, input, start, frame_origins, start_origins, is_input, is_latch, symbol_at, origin_line, origin_lines}
-use Rattle.aig_unroll.specs.state.MapLines.{start_line, position_behind}
+use Rattle.aig_unroll.specs.InputMap.{Origin, input, start, frame_origins, start_origins, is_input, is_latch, symbol_name_at, origin_line, origin_lines}
+use Rattle.aig_unroll.specs.state.MapLines.{start_line, position_after}
 use Rattle.aig_unroll.specs.Unrolled.{frames}
 use Rattle.aig_unroll.proofs.UnrolledCircuit.{length-frames}
 
@@ -57,22 +57,22 @@ module _ (test : Kind → Bool) (kind : Kind) (own : test kind ≡ true) (only :
   entry_same p = let b = eq-eqb p p refl in λ i. own i && b i
 
   pass_by : (s : Key × List ℕ) (symbols : List (Key × List ℕ)) (p : ℕ) (t : Bool) → is_entry s.0 p ≡ t
-      → (s.0 ≡ (kind, p) → ⊥) → symbol_at test (s ∷ symbols) p ≡ symbol_at test symbols p
-  unfolding symbol_at
+      → (s.0 ≡ (kind, p) → ⊥) → symbol_name_at test (s ∷ symbols) p ≡ symbol_name_at test symbols p
+  unfolding symbol_name_at
   pass_by s symbols p true e other = absurd (other (same_entry s.0 p e))
-  pass_by s symbols p false e other = ap (λ (b : Bool). if b then s.1 else symbol_at test symbols p) e
+  pass_by s symbols p false e other = ap (λ (b : Bool). if b then s.1 else symbol_name_at test symbols p) e
 
   found_first : (s : Key × List ℕ) (symbols : List (Key × List ℕ)) (p : ℕ) (name : List ℕ)
-      → s ≡ ((kind, p), name) → symbol_at test (s ∷ symbols) p ≡ name
-  unfolding symbol_at
+      → s ≡ ((kind, p), name) → symbol_name_at test (s ∷ symbols) p ≡ name
+  unfolding symbol_name_at
   found_first s symbols p name e =
-      ap (λ (b : Bool). if b then s.1 else symbol_at test symbols p)
+      ap (λ (b : Bool). if b then s.1 else symbol_name_at test symbols p)
       (ap (λ (k : Key). is_entry k p) (ap (λ (x : Key × List ℕ). x.0) e) ∙ entry_same p)
       ∙ ap (λ (x : Key × List ℕ). x.1) e
 
   found_at : (symbols : List (Key × List ℕ)) (p : ℕ) (name : List ℕ) (j : ℕ) → j < length symbols
       → get_or symbols j ((kind, p), name) ≡ ((kind, p), name) → AllPairs (λ x y. x ≢ y) (keys_of symbols)
-      → symbol_at test symbols p ≡ name
+      → symbol_name_at test symbols p ≡ name
   found_at [] p name j lt at once = absurd (omega (arith, lt))
   found_at (s ∷ symbols) p name zero lt at once = found_first s symbols p name at
   found_at (s ∷ symbols) p name (suc j) lt at once =
@@ -86,12 +86,12 @@ module _ (test : Kind → Bool) (kind : Kind) (own : test kind ≡ true) (only :
       ∙ found_at symbols p name j inside at (λ a b d l m. once (suc a) (suc b) d (omega (arith, l)) (omega (arith, m)))
 
   pub symbol_found : (symbols : List (Key × List ℕ)) (p : ℕ) (name : List ℕ)
-      → Contains symbols ((kind, p), name) → AllPairs (λ x y. x ≢ y) (keys_of symbols) → symbol_at test symbols p ≡ name
+      → Contains symbols ((kind, p), name) → AllPairs (λ x y. x ≢ y) (keys_of symbols) → symbol_name_at test symbols p ≡ name
   symbol_found symbols p name (j, lt, at) once = found_at symbols p name j lt at once
 
   pub symbol_missing : (symbols : List (Key × List ℕ)) (p : ℕ) → (Contains (keys_of symbols) (kind, p) → ⊥)
-      → symbol_at test symbols p ≡ []
-  unfolding symbol_at
+      → symbol_name_at test symbols p ≡ []
+  unfolding symbol_name_at
   symbol_missing [] p lacks = refl
   symbol_missing (s ∷ symbols) p lacks =
       pass_by s symbols p (is_entry s.0 p) refl (λ e. lacks (0, omega arith, e))
@@ -245,7 +245,7 @@ module _ (raw : Raw) where
   -- one latch
   start_one : (n p : ℕ) (x : Latch) (xs : List Latch) (b : Bool) → is_uninitialised x ≡ b
       → origin_lines raw n (start_origins p (x ∷ xs))
-      ≡ start_line raw n p x ++ origin_lines raw (position_behind n x) (start_origins (p + 1) xs)
+      ≡ start_line raw n p x ++ origin_lines raw (position_after n x) (start_origins (p + 1) xs)
   unfolding start_origins
   start_one n p x xs b own =
       let s = start_origins (p + 1) xs in
@@ -261,7 +261,7 @@ module _ (raw : Raw) where
 
   pub starts_step : (n p : ℕ) (x : Latch) (xs : List Latch) → p < length xs → x ≡ get_or xs p x
       → origin_lines raw n (start_origins p (drop p xs))
-      ≡ start_line raw n p x ++ origin_lines raw (position_behind n x) (start_origins (p + 1) (drop (p + 1) xs))
+      ≡ start_line raw n p x ++ origin_lines raw (position_after n x) (start_origins (p + 1) (drop (p + 1) xs))
   starts_step n p x xs lt is =
       ap (λ (ys : List Latch). origin_lines raw n (start_origins p ys))
       (drop_more xs p x lt ∙ ap (λ (y : Latch). y ∷ drop (p + 1) xs) (sym is))
@@ -269,7 +269,7 @@ module _ (raw : Raw) where
 
   -- the same, where the position after it is another number
   pub starts_next : (n m p : ℕ) (x : Latch) (xs : List Latch) → p < length xs → x ≡ get_or xs p x
-      → m ≡ position_behind n x → origin_lines raw n (start_origins p (drop p xs))
+      → m ≡ position_after n x → origin_lines raw n (start_origins p (drop p xs))
       ≡ start_line raw n p x ++ origin_lines raw m (start_origins (p + 1) (drop (p + 1) xs))
   starts_next n m p x xs lt is e =
       starts_step n p x xs lt is

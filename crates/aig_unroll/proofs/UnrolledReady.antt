@@ -11,7 +11,7 @@ use Rattle.aig_parts.specs.declared.raw.Raw.{Raw}
 use Rattle.aig_base.specs.Circuit.{IsCircuit}
 use Rattle.aig_parts.specs.Literal.{variable}
 use Rattle.aig_base.specs.Order.{IsCanonicalOrder}
-use Rattle.aig_base.specs.state.Ready.{SectionsInOrder}
+use Rattle.aig_base.specs.state.BinaryReady.{SectionsInOrder}
 use Rattle.aig_base.specs.Renumbered.{ordered_gates, ready_gate, renumbered, renumbered_gate, renumbered_literal, renumbered_variable, evens, evens_from, IsBinaryReady}
 use Rattle.aig_base.proofs.lists.Counting.{length-order}
 use Rattle.aig_base.proofs.lists.Evens.{joined, evens-append, length-evens_from}

@@ -36,8 +36,8 @@ abbrev pub input_count : Raw → ℕ → ℕ
 input_count raw k = k * length raw.inputs + uninitialised raw.latches
 
 -- the variable of the n-th gate of frame t, from 0, where k frames are unrolled
-abbrev pub gate_variable : Raw → ℕ → ℕ → ℕ → ℕ
-gate_variable raw k t n = input_count raw k + t * frame_size raw + n + 1
+abbrev pub frame_gate_variable : Raw → ℕ → ℕ → ℕ → ℕ
+frame_gate_variable raw k t n = input_count raw k + t * frame_size raw + n + 1
 
 -- the latch at a position at frame 0: its reset, or an input if it is uninitialised
 abbrev pub first_literal : Raw → ℕ → ℕ → Option Latch → ℕ
@@ -55,7 +55,7 @@ abbrev pub role_literal : Raw → ℕ → ℕ → (ℕ → ℕ) → Role → ℕ
 role_literal raw k t latch_literal roles.constant = 0
 role_literal raw k t latch_literal (roles.input p) = 2 * (t * length raw.inputs + p + 1)
 role_literal raw k t latch_literal (roles.latch p) = latch_literal p
-role_literal raw k t latch_literal (roles.gate q) = 2 * gate_variable raw k t q
+role_literal raw k t latch_literal (roles.gate q) = 2 * frame_gate_variable raw k t q
 
 -- the literal that stands for l at frame t; negations are kept, on constants too
 unfoldable pub frame_literal : Raw → List ℕ → ℕ → ℕ → ℕ → ℕ

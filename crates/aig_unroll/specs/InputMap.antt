@@ -44,20 +44,20 @@ is_latch kinds.Latch = true
 is_latch _ = false
 
 -- the symbol at position p of the section that the test chooses, empty where there is none
-unfoldable pub symbol_at : (Kind → Bool) → List (Key × List ℕ) → ℕ → List ℕ
-symbol_at test [] p = []
-symbol_at test (s ∷ symbols) p = if test s.0.0 && s.0.1 == p then s.1 else symbol_at test symbols p
+unfoldable pub symbol_name_at : (Kind → Bool) → List (Key × List ℕ) → ℕ → List ℕ
+symbol_name_at test [] p = []
+symbol_name_at test (s ∷ symbols) p = if test s.0.0 && s.0.1 == p then s.1 else symbol_name_at test symbols p
 
 -- a number and a space
-abbrev pub field : ℕ → List ℕ
-field n = decimal n ++ codes " "
+abbrev pub map_field : ℕ → List ℕ
+map_field n = decimal n ++ codes " "
 
 -- the line of the input at position n of the unrolled circuit
 abbrev pub origin_line : Raw → ℕ → Origin → List ℕ
 origin_line raw n (input t p) =
-    codes "i " ++ (field n ++ (field t ++ (field p ++ (symbol_at is_input raw.symbols p ++ codes "\n"))))
+    codes "i " ++ (map_field n ++ (map_field t ++ (map_field p ++ (symbol_name_at is_input raw.symbols p ++ codes "\n"))))
 origin_line raw n (start p) =
-    codes "l " ++ (field n ++ (field p ++ (symbol_at is_latch raw.symbols p ++ codes "\n")))
+    codes "l " ++ (map_field n ++ (map_field p ++ (symbol_name_at is_latch raw.symbols p ++ codes "\n")))
 
 -- a line each, the first of which is that of position n
 unfoldable pub origin_lines : Raw → ℕ → List Origin → List ℕ
@@ -69,5 +69,5 @@ abbrev pub map_text : Raw → ℕ → List ℕ
 map_text raw k = origin_lines raw 0 (origins raw k)
 
 -- the literals that the lines name are the inputs of the unrolled circuit, in order
-abbrev pub TellsInputs : Raw → List ℕ → ℕ → List ℕ → Type 0
-TellsInputs raw order k inputs = map (origin_literal raw order k) (origins raw k) ≡ inputs
+abbrev pub ReportsInputs : Raw → List ℕ → ℕ → List ℕ → Type 0
+ReportsInputs raw order k inputs = map (origin_literal raw order k) (origins raw k) ≡ inputs

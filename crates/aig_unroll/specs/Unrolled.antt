@@ -4,7 +4,7 @@ use Rattle.std.specs.List.{range_with_len}
 use Rattle.aig_parts.specs.declared.gate.Gate.{Gate}
 use Rattle.aig_parts.specs.declared.raw.Raw.{Raw}
 use Rattle.aig_base.specs.Renumbered.{ready_gate, ordered_gates, evens}
-use Rattle.aig_unroll.specs.FrameLiteral.{frame_literal, gate_variable, frame_size, input_count, has_guards, chain_count, guard_count}
+use Rattle.aig_unroll.specs.FrameLiteral.{frame_literal, frame_gate_variable, frame_size, input_count, has_guards, chain_count, guard_count}
 
 -- the lists of the frames 0, 1, .., k - 1, joined
 abbrev pub frames : {A : Type 0} → (ℕ → List A) → ℕ → List A
@@ -19,7 +19,7 @@ frame_gate raw order k t g =
 
 -- the literal of chain gate c of frame t: all constraints of earlier frames, and those of this one up to c
 abbrev pub chain_literal : Raw → ℕ → ℕ → ℕ → ℕ
-chain_literal raw k t c = 2 * gate_variable raw k t (length raw.gates + c)
+chain_literal raw k t c = 2 * frame_gate_variable raw k t (length raw.gates + c)
 
 -- the last chain literal of frame t
 abbrev pub last_chain : Raw → ℕ → ℕ → ℕ
@@ -43,7 +43,7 @@ chain_gate raw order k t c =
 
 -- the literal of guard gate p of frame t
 abbrev pub guard_literal : Raw → ℕ → ℕ → ℕ → ℕ
-guard_literal raw k t p = 2 * gate_variable raw k t (length raw.gates + chain_count raw + p)
+guard_literal raw k t p = 2 * frame_gate_variable raw k t (length raw.gates + chain_count raw + p)
 
 -- guard gate p of frame t: the bad literal, and the last chain literal of the frame
 abbrev pub guard_gate : Raw → List ℕ → ℕ → ℕ → ℕ → Gate

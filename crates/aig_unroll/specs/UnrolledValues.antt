@@ -31,20 +31,20 @@ UnrolledValue raw order start rows l w =
     Value (unrolled raw order (length rows)) [] (unrolled_row raw start rows ∷ []) 0 l w
 
 -- what a literal is at a frame, its frame literal is
-abbrev pub KeepsValues : Raw → List ℕ → List Tern → List (List Tern) → Type 0
-KeepsValues raw order start rows =
+abbrev pub UnrollingKeepsValues : Raw → List ℕ → List Tern → List (List Tern) → Type 0
+UnrollingKeepsValues raw order start rows =
     (t l : ℕ) (w : Tern) → t < length rows → Value raw start rows t l w
     → UnrolledValue raw order start rows (frame_literal raw order (length rows) t l) w
 
 -- the frame literal of a defined literal has no other value
-abbrev pub AddsNoValues : Raw → List ℕ → List Tern → List (List Tern) → Type 0
-AddsNoValues raw order start rows =
+abbrev pub UnrollingAddsNoValues : Raw → List ℕ → List Tern → List (List Tern) → Type 0
+UnrollingAddsNoValues raw order start rows =
     (t l : ℕ) (w : Tern) → t < length rows → IsDefined raw (variable l)
     → UnrolledValue raw order start rows (frame_literal raw order (length rows) t l) w → Value raw start rows t l w
 
 -- the bad literal is 1 at frame t, and every constraint is 1 at every frame up to t
-abbrev pub IsReached : Raw → List Tern → List (List Tern) → ℕ → ℕ → Type 0
-IsReached raw start rows t b =
+abbrev pub ReachesBad : Raw → List Tern → List (List Tern) → ℕ → ℕ → Type 0
+ReachesBad raw start rows t b =
     Value raw start rows t b One
     × ((s c : ℕ) → s ≤ t → Contains raw.constraints c → Value raw start rows s c One)
 
@@ -56,9 +56,9 @@ IsExcluded raw start rows t b =
 
 -- what the guard of a bad literal is at a frame
 abbrev pub GuardedValue : Raw → List Tern → List (List Tern) → ℕ → ℕ → Tern → Type 0
-GuardedValue raw start rows t b One = IsReached raw start rows t b
+GuardedValue raw start rows t b One = ReachesBad raw start rows t b
 GuardedValue raw start rows t b Zero = IsExcluded raw start rows t b
-GuardedValue raw start rows t b X = (IsReached raw start rows t b → ⊥) × (IsExcluded raw start rows t b → ⊥)
+GuardedValue raw start rows t b X = (ReachesBad raw start rows t b → ⊥) × (IsExcluded raw start rows t b → ⊥)
 
 -- bad literal p of frame t stands in the bad section of the unrolled circuit, and it is what its guard is
 abbrev pub GuardsBad : Raw → List ℕ → List Tern → List (List Tern) → Type 0

@@ -1,7 +1,7 @@
 //! The literals of a frame.
 ghost use Rattle.std.specs.Prelude.{◌≡◌, ◌+◌, ◌≤◌, IfOk, map};
 ghost use Rattle.aig_base.specs.Renumbered as renumbered;
-ghost use Rattle.aig_base.specs.RenumberingTable.{IsListed};
+ghost use Rattle.aig_base.specs.RenumberingTable.{IsInTable};
 ghost use Rattle.aig_unroll.specs.state.FrameTable as table;
 ghost use Rattle.aig_unroll.specs.state.FrameTable.{IsWithin};
 
@@ -38,7 +38,7 @@ fn number_literal(plan: &Plan, frame: &Frame, number: u32) -> Lit
 /// The literal that stands for a literal at the frame.
 pub(crate) fn literal_at(plan: &Plan, frame: &Frame, literal: Lit) -> Lit
     requires within { IsWithin plan.now frame.now }
-    requires listed { IsListed plan.now.numbers.items literal }
+    requires listed { IsInTable plan.now.numbers.items literal }
     ensures { result ≡ table.literal_at plan.now frame.now literal }
 {
     let positive = number_literal(plan, frame, plan.numbers[literal.var() as usize]);

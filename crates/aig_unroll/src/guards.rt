@@ -1,7 +1,7 @@
 //! The gates that guard the bad literals of a frame.
 ghost use Rattle.std.specs.Prelude.{◌≡◌, ◌+◌, ◌*◌, ◌++◌, ◌≤◌, ◌<◌, OnOk, IfOk, All, length, map};
 ghost use Rattle.std.specs.List.{range_with_len};
-ghost use Rattle.aig_base.specs.RenumberingTable.{IsListed};
+ghost use Rattle.aig_base.specs.RenumberingTable.{IsInTable};
 ghost use Rattle.aig_unroll.specs.state.FrameTable as table;
 ghost use Rattle.aig_unroll.specs.state.FrameTable.{IsWithin};
 
@@ -21,7 +21,7 @@ fn gate_literal(plan: &Plan, frame: &Frame, place: u32) -> Lit
 // The last chain literal before the frame, or 1 where it is the first.
 fn chain_before(plan: &Plan, frame: &Frame) -> Lit
     requires { IsWithin plan.now frame.now }
-    ensures { result ≡ table.chain_before plan.now frame.now.number }
+    ensures { result ≡ table.plan_chain_before plan.now frame.now.number }
 {
     if frame.number == 0 {
         Lit::new(1)
@@ -40,9 +40,9 @@ pub(crate) fn push_chain(
 ) -> Result<(), Memory>
     requires within { IsWithin plan.now frame.now }
     requires chain { plan.now.chain ≡ length constraints.now }
-    requires listed { All (IsListed plan.now.numbers.items) constraints.now }
+    requires listed { All (IsInTable plan.now.numbers.items) constraints.now }
     ensures { OnOk result (to.new ≡ to.old
-        ++ map (table.chain_gate plan.now frame.now constraints.now) (range_with_len 0 plan.now.chain)) }
+        ++ map (table.plan_chain_gate plan.now frame.now constraints.now) (range_with_len 0 plan.now.chain)) }
 {
     let mut chain = chain_before(plan, frame);
     for (place, constraint) in constraints.iter().enumerate() {
@@ -63,9 +63,9 @@ pub(crate) fn push_guards(
     requires within { IsWithin plan.now frame.now }
     requires chain { 0 < plan.now.chain }
     requires size { plan.now.gates + plan.now.chain + length bad.now ≤ plan.now.size }
-    requires listed { All (IsListed plan.now.numbers.items) bad.now }
+    requires listed { All (IsInTable plan.now.numbers.items) bad.now }
     ensures { OnOk result (to.new ≡ to.old
-        ++ map (table.guard_gate plan.now frame.now bad.now) (range_with_len 0 (length bad.now))) }
+        ++ map (table.plan_guard_gate plan.now frame.now bad.now) (range_with_len 0 (length bad.now))) }
 {
     let chain = gate_literal(plan, frame, plan.gates + plan.chain - 1);
     for (place, literal) in bad.iter().enumerate() {
@@ -85,7 +85,7 @@ pub(crate) fn push_guard_literals(
     requires within { IsWithin plan.now frame.now }
     requires size { plan.now.gates + plan.now.chain + guards ≤ plan.now.size }
     ensures { OnOk result (to.new ≡ to.old
-        ++ map (table.guard_literal plan.now frame.now) (range_with_len 0 guards)) }
+        ++ map (table.plan_guard_literal plan.now frame.now) (range_with_len 0 guards)) }
 {
     for place in 0..guards {
         to.push(gate_literal(plan, frame, plan.gates + plan.chain + place as u32))?;

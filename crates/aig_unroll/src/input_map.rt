@@ -3,10 +3,10 @@ ghost use Rattle.std.specs.Prelude.{◌≡◌, ◌+◌, ◌*◌, ◌≤◌, ◌<
 ghost use Rattle.aig_bytes.specs.Bytes.{Writes};
 ghost use Rattle.aig_parts.specs.Formed.{limit};
 ghost use Rattle.aig_unroll.specs.InputMap as inputs;
-ghost use Rattle.aig_unroll.specs.InputMap.{field, frame_origins, is_input, is_latch, map_text};
-ghost use Rattle.aig_unroll.specs.InputMap.{origin_line, origin_lines, start_origins, symbol_at};
+ghost use Rattle.aig_unroll.specs.InputMap.{map_field, frame_origins, is_input, is_latch, map_text};
+ghost use Rattle.aig_unroll.specs.InputMap.{origin_line, origin_lines, start_origins, symbol_name_at};
 ghost use Rattle.aig_unroll.specs.Unrolled as parts;
-ghost use Rattle.aig_unroll.specs.state.MapLines.{position_behind, start_line};
+ghost use Rattle.aig_unroll.specs.state.MapLines.{position_after, start_line};
 
 use crate::plan::is_uninitialised;
 use aig_base::{Circuit, Io, Kind, Latch, Write, write_all};
@@ -22,7 +22,7 @@ fn write_digits<W: Write>(out: &mut W, number: u64) -> Result<(), Io>
 
 // Writes a number and a space.
 fn write_field<W: Write>(out: &mut W, number: u64) -> Result<(), Io>
-    ensures { Writes W.written W.failures out.old out.new (field number) result }
+    ensures { Writes W.written W.failures out.old out.new (map_field number) result }
 {
     write_digits(out, number)?;
     write_all(out, b" ")
@@ -30,7 +30,7 @@ fn write_field<W: Write>(out: &mut W, number: u64) -> Result<(), Io>
 
 // Writes the symbol of an input, if it has one.
 fn write_input_symbol<W: Write>(out: &mut W, circuit: &Circuit, input: u32) -> Result<(), Io>
-    ensures { Writes W.written W.failures out.old out.new (symbol_at is_input circuit.now.symbols input) result }
+    ensures { Writes W.written W.failures out.old out.new (symbol_name_at is_input circuit.now.symbols input) result }
 {
     // Its contract says that no entry has two names.
     let _max_var = circuit.max_var();
@@ -42,7 +42,7 @@ fn write_input_symbol<W: Write>(out: &mut W, circuit: &Circuit, input: u32) -> R
 
 // Writes the symbol of a latch, if it has one.
 fn write_latch_symbol<W: Write>(out: &mut W, circuit: &Circuit, latch: u32) -> Result<(), Io>
-    ensures { Writes W.written W.failures out.old out.new (symbol_at is_latch circuit.now.symbols latch) result }
+    ensures { Writes W.written W.failures out.old out.new (symbol_name_at is_latch circuit.now.symbols latch) result }
 {
     // Its contract says that no entry has two names.
     let _max_var = circuit.max_var();
@@ -155,8 +155,8 @@ fn write_start_of<W: Write>(
     requires { position < 2 ^ 63 }
     ensures written { Writes W.written W.failures out.old out.new
         (start_line circuit.now position place latch.now) result }
-    ensures behind { IfOk result (λ behind. behind ≡ position_behind position latch.now) }
-    ensures few { IfOk result (λ behind. behind ≤ position + 1) }
+    ensures next_position { IfOk result (λ next_position. next_position ≡ position_after position latch.now) }
+    ensures few { IfOk result (λ next_position. next_position ≤ position + 1) }
 {
     if is_uninitialised(latch) {
         write_start(out, circuit, position, place)?;

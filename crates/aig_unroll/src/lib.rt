@@ -5,14 +5,14 @@ mod fault;
 mod frame_literals;
 mod guards;
 mod input_map;
-mod laws;
 mod limits;
 mod parts;
 mod plan;
 mod sections;
 mod unrolling;
+mod unrolling_laws;
 
 pub use fault::UnrollFault;
 pub use input_map::write_input_map;
-pub use laws::{law_of_frame_literals, law_of_guards, law_of_input_map};
 pub use unrolling::unroll;
+pub use unrolling_laws::{law_of_frame_literals, law_of_guards, law_of_input_map};

@@ -2,7 +2,7 @@
 ghost use Rattle.std.specs.Prelude.{◌≡◌, ◌+◌, ◌++◌, ◌≤◌, ◌<◌, OnOk, IfOk, All, length, map};
 ghost use Rattle.std.specs.List.{range_with_len};
 ghost use Rattle.aig_parts.specs.Formed.{limit};
-ghost use Rattle.aig_base.specs.RenumberingTable.{IsListed, IsGateListed};
+ghost use Rattle.aig_base.specs.RenumberingTable.{IsInTable, IsGateListed};
 ghost use Rattle.aig_unroll.specs.FrameLiteral as literals;
 ghost use Rattle.aig_unroll.specs.state.FrameTable as table;
 ghost use Rattle.aig_unroll.specs.state.FrameTable.{IsWithin};
@@ -20,7 +20,7 @@ pub(crate) fn push_literals(
     literals: &[Lit],
 ) -> Result<(), Memory>
     requires within { IsWithin plan.now frame.now }
-    requires listed { All (IsListed plan.now.numbers.items) literals.now }
+    requires listed { All (IsInTable plan.now.numbers.items) literals.now }
     ensures { OnOk result (to.new ≡ to.old ++ map (table.literal_at plan.now frame.now) literals.now) }
 {
     for literal in literals {
@@ -32,7 +32,7 @@ pub(crate) fn push_literals(
 fn gate_at(plan: &Plan, frame: &Frame, gate: Gate) -> Gate
     requires within { IsWithin plan.now frame.now }
     requires listed { IsGateListed plan.now.numbers.items gate }
-    ensures { result ≡ table.gate_at plan.now frame.now gate }
+    ensures { result ≡ table.plan_gate plan.now frame.now gate }
 {
     ready_gate(
         literal_at(plan, frame, gate.lhs),
@@ -50,7 +50,7 @@ pub(crate) fn push_gates(
 ) -> Result<(), Memory>
     requires within { IsWithin plan.now frame.now }
     requires listed { All (IsGateListed plan.now.numbers.items) gates.now }
-    ensures { OnOk result (to.new ≡ to.old ++ map (table.gate_at plan.now frame.now) gates.now) }
+    ensures { OnOk result (to.new ≡ to.old ++ map (table.plan_gate plan.now frame.now) gates.now) }
 {
     for gate in gates {
         to.push(gate_at(plan, frame, *gate))?;
@@ -66,7 +66,7 @@ pub(crate) fn next_latches(
     latches: &[Latch],
 ) -> Result<List<Lit>, Memory>
     requires within { IsWithin plan.now frame.now }
-    requires listed { All (λ x. IsListed plan.now.numbers.items x.next) latches.now }
+    requires listed { All (λ x. IsInTable plan.now.numbers.items x.next) latches.now }
     ensures { IfOk result (λ new. new ≡ map (λ x. table.literal_at plan.now frame.now x.next) latches.now) }
 {
     let mut new = List::new(alloc);
@@ -80,14 +80,14 @@ pub(crate) fn next_latches(
 pub(crate) fn first_latches(
     alloc: Global,
     latches: &[Latch],
-    behind: u32,
+    offset: u32,
 ) -> Result<List<Lit>, Memory>
-    requires { behind + length latches.now ≤ limit + limit }
+    requires { offset + length latches.now ≤ limit + limit }
     ensures { IfOk result (λ new. new
-        ≡ map (table.first_at latches.now behind) (range_with_len 0 (length latches.now))) }
+        ≡ map (table.first_at latches.now offset) (range_with_len 0 (length latches.now))) }
 {
     let mut new = List::new(alloc);
-    let mut variable = behind;
+    let mut variable = offset;
     for latch in latches {
         if is_uninitialised(latch) {
             variable += 1;

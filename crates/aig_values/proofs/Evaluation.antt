@@ -20,7 +20,7 @@ use Rattle.aig_base.proofs.values.Refined.{AllZip-slice_get}
 use Rattle.aig_base.proofs.values.UniqueValue.{unique}
 use Rattle.aig_values.specs.Cells.{literal_value, gate_value}
 use Rattle.aig_values.specs.state.Frame.{Holds, Renews, HoldsInputs, HoldsLatches, HoldsSources, HoldsAll, AreStates}
-use Rattle.aig_values.specs.GateOrder.{IsReady, IsGateOrder}
+use Rattle.aig_values.specs.GateOrder.{IsSourceOrEarlier, IsGateOrder}
 use Rattle.aig_base.proofs.circuits.Circuits.{input_definition, latch_definition, gate_definition}
 
 -- the item that a loop reads
@@ -169,7 +169,7 @@ module _ (raw : Raw) (start : List Tern) (rows : List (List Tern)) (t : ℕ) whe
 
   ready_holds : (gates : List Gate) (q v : ℕ) (cells : List Tern) → HoldsSources raw start rows t cells
       → HoldsFirst gates q cells
-      → IsReady raw gates q v → Holds raw start rows t cells v
+      → IsSourceOrEarlier raw gates q v → Holds raw start rows t cells v
   ready_holds gates q v cells sources first (inl s) = sources v s
   ready_holds gates q v cells sources first (inr (r, g, lt, at, is)) =
       subst (Holds raw start rows t cells) is (first r g lt at)

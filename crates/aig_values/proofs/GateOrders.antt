@@ -17,7 +17,7 @@ use Rattle.aig_base.specs.Sections.{IsDefined, IsGate}
 use Rattle.aig_base.proofs.circuits.Defined.{defined_cases, Grounded-of_defined}
 use Rattle.aig_base.proofs.levels.OneLevel.{level_of, same_level}
 use Rattle.aig_base.proofs.lists.Positions.{Contains-from_slice_get, position_of, unmap}
-use Rattle.aig_values.specs.GateOrder.{IsReady, IsGateOrder, AreGatesOf, IsMarked, AreMarked, AddsMarks}
+use Rattle.aig_values.specs.GateOrder.{IsSourceOrEarlier, IsGateOrder, AreGatesOf, IsMarked, AreMarked, AddsMarks}
 use Rattle.aig_values.proofs.Evaluation.{get_set_same, get_set_other}
 use Rattle.aig_base.proofs.circuits.Circuits.{rhs0_defined, rhs1_defined}
 
@@ -73,7 +73,7 @@ module _ (raw : Raw) (circuit : IsCircuit raw) (order : List ℕ) (gates : List 
       ]
 
   ready : (q : ℕ) (g : Gate) (u : ℕ) → slice_get gates q ≡ Some g → (u ≡ variable g.rhs0) ⊎ (u ≡ variable g.rhs1)
-      → IsDefined raw u → IsReady raw gates q u
+      → IsDefined raw u → IsSourceOrEarlier raw gates q u
   ready q g u at side d = elim (defined_cases raw u d) [
     | inl s ↦ inl s
     | inr k ↦
@@ -218,15 +218,15 @@ module _ (raw : Raw) (first inputs all : List Bool) (constant : AreMarked (λ v.
 
 -- a gate reads variables that are ready
 pub record ReadsReady (raw : Raw) (gates : List Gate) (q : ℕ) (g : Gate) : Type 0 where
-  pub side0 : IsReady raw gates q (variable g.rhs0)
-  pub side1 : IsReady raw gates q (variable g.rhs1)
+  pub side0 : IsSourceOrEarlier raw gates q (variable g.rhs0)
+  pub side1 : IsSourceOrEarlier raw gates q (variable g.rhs1)
 
 -- the first n gates read variables that are ready, and the marked variables are those that are ready for the next
 pub record AreReady (raw : Raw) (n : ℕ) (marks : List Bool) : Type 0 where
-  pub marked : AreMarked (IsReady raw raw.gates n) marks
+  pub marked : AreMarked (IsSourceOrEarlier raw raw.gates n) marks
   pub each : (q : ℕ) (g : Gate) → q < n → slice_get raw.gates q ≡ Some g → ReadsReady raw raw.gates q g
 
-no_gate_ready : (raw : Raw) (gates : List Gate) (v : ℕ) → IsReady raw gates 0 v → IsSource raw v
+no_gate_ready : (raw : Raw) (gates : List Gate) (v : ℕ) → IsSourceOrEarlier raw gates 0 v → IsSource raw v
 no_gate_ready raw gates v (inl s) = s
 no_gate_ready raw gates v (inr (r, g, lt, at, is)) = absurd (omega (arith, lt))
 
@@ -236,13 +236,13 @@ none_ready raw marks sources = record {
   each = λ q g lt. absurd (omega (arith, lt));
 }
 
-ready_later : (raw : Raw) (gates : List Gate) (n v : ℕ) → IsReady raw gates n v → IsReady raw gates (n + 1) v
+ready_later : (raw : Raw) (gates : List Gate) (n v : ℕ) → IsSourceOrEarlier raw gates n v → IsSourceOrEarlier raw gates (n + 1) v
 ready_later raw gates n v (inl s) = inl s
 ready_later raw gates n v (inr (r, g, lt, at, is)) = inr (r, g, omega (arith, lt), at, is)
 
 -- what is ready after one more gate is its variable, or was ready before
 ready_before : (raw : Raw) (gates : List Gate) (n v : ℕ) (g : Gate) → slice_get gates n ≡ Some g
-    → IsReady raw gates (n + 1) v → IsReady raw gates n v ⊎ (v ≡ variable g.lhs)
+    → IsSourceOrEarlier raw gates (n + 1) v → IsSourceOrEarlier raw gates n v ⊎ (v ≡ variable g.lhs)
 ready_before raw gates n v g here (inl s) = inl (inl s)
 ready_before raw gates n v g here (inr (r, h, lt, at, is)) = elim (cases_eq r n) [
   | inl e ↦

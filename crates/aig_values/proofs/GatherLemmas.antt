@@ -31,7 +31,7 @@ module _ {X : Type 0} {written : X → Option (List ℕ)} {failures : X → ℕ}
       → Gathers {E = F} written failures old new held held'' (map f (take (i + n) xs)) (Ok y)
   span_more f xs i n bytes g is h =
       let w = gathers_then g h in
-      gathers_same (record { handed = w.handed; wrote = w.wrote; ok = w.ok; err = tt; count = w.count })
+      gathers_same (record { forwarded = w.forwarded; wrote = w.wrote; ok = w.ok; err = tt; count = w.count })
       (ap (λ (bs : List ℕ). map f (take i xs) ++ bs) is
       ∙ sym (map-append f (take i xs) (take n (drop i xs))) ∙ ap (map f) (sym (take-add i n xs)))
 
@@ -67,16 +67,16 @@ module _ {X : Type 0} {written : X → Option (List ℕ)} {failures : X → ℕ}
       let w = gathers_then h.gathered g in
       record {
         done = h.done ++ piece;
-        gathered = record { handed = w.handed; wrote = w.wrote; ok = w.ok; err = tt; count = w.count };
+        gathered = record { forwarded = w.forwarded; wrote = w.wrote; ok = w.ok; err = tt; count = w.count };
         whole_is = h.whole_is ∙ sym (append_assoc h.done piece rest);
       }
 
   -- the piece that failed
-  pub partly_stops : {T E S F : Type 0} {old mid new : X} {held held' held'' waits whole piece : List ℕ} {e : E}
+  pub partly_stops : {T E S F : Type 0} {old mid new : X} {held held' held'' buffered whole piece : List ℕ} {e : E}
       {s : Result S F} (rest : List ℕ)
       → Partly written failures old mid held held' whole (piece ++ rest)
       → Gathers {T = T} written failures mid new held' held'' piece (Err e) → IsErr s
-      → Gathers written failures old new held waits whole s
+      → Gathers written failures old new held buffered whole s
   partly_stops rest h g k =
       gathers_same (gathers_then h.gathered (gathers_stop rest k (gathers_failed g k))) (sym h.whole_is)
 
@@ -92,7 +92,7 @@ module _ {X : Type 0} {written : X → Option (List ℕ)} {failures : X → ℕ}
       → Gathers {T = Unit {0}} {E = F} written failures old new held held' whole (Ok tt)
   partly_done {F} h =
       let g = h.gathered in
-      gathers_same {S = Unit {0}} {F = F} (record { handed = g.handed; wrote = g.wrote; ok = g.ok; err = tt; count = g.count })
+      gathers_same {S = Unit {0}} {F = F} (record { forwarded = g.forwarded; wrote = g.wrote; ok = g.ok; err = tt; count = g.count })
       (sym (append-nil h.done) ∙ sym h.whole_is)
 
 -- the bytes of the items from i on, in front of what stood there

@@ -1,8 +1,8 @@
+pub mod ContiguousLemmas
 pub mod Evaluation
 pub mod FieldLemmas
 pub mod GateOrders
 pub mod GatherLemmas
-pub mod NeighbourLemmas
 pub mod PaddedRows
 pub mod SeenRows
 pub mod SweepLemmas

@@ -312,8 +312,8 @@ module _ (n room : ℕ) (flags : List Bool) (rows : List (List Tern)) (are : Are
       from_drop zero (x ∷ xs) (suc m) e = ap (λ (ys : List Tern). get_or ys 0 X) e
       from_drop (suc k) (x ∷ xs) m e = from_drop k xs m e
 
-  one_behind : (row : List Tern) → IsPadded n room row → take (n + 1) row ≡ with_new_cell (take n row)
-  one_behind row p =
+  one_after : (row : List Tern) → IsPadded n room row → take (n + 1) row ≡ with_new_cell (take n row)
+  one_after row p =
       let wide = lt_tested n room spare in
       take_more row n X (omega arith) ∙ ap (λ (x : Tern). take n row ++ x ∷ []) (later row p)
 
@@ -336,7 +336,7 @@ module _ (n room : ℕ) (flags : List Bool) (rows : List (List Tern)) (are : Are
       of : (rs : List (List Tern)) → All (IsPadded n room) rs → map (take (n + 1)) rs ≡ map with_new_cell (map (take n) rs)
       of [] all = refl
       of (r ∷ rs) all =
-          ap (λ (x : List Tern). x ∷ map (take (n + 1)) rs) (one_behind r (all 0 [] (omega arith)))
+          ap (λ (x : List Tern). x ∷ map (take (n + 1)) rs) (one_after r (all 0 [] (omega arith)))
           ∙ ap (λ (xs : List (List Tern)). with_new_cell (take n r) ∷ xs) (of rs (λ k d lt. all (suc k) d (omega arith)))
 
   pub wider_padded : ArePadded (n + 1) room (flags ++ true ∷ []) rows

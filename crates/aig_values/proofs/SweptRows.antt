@@ -8,37 +8,37 @@ use Rattle.aig_parts.specs.declared.ternary.Tern.{Tern}
 use Rattle.aig_parts.specs.declared.gate.Gate.{Gate}
 use Rattle.aig_parts.specs.Literal.{variable}
 use Rattle.aig_parts.specs.Ternary.{kleene_and}
-use Rattle.aig_values.specs.Cells.{Cells, HasCells, HasPlaces, gate_value, with_gate, with_swept_row}
+use Rattle.aig_values.specs.Cells.{Cells, HasCells, HasVariablesBelow, gate_value, with_gate_value, with_swept_row}
 use Rattle.aig_values.specs.state.Padded.{ArePadded, IsPadded}
 use Rattle.aig_values.proofs.PaddedRows.{literal_of_row, padded_set, seen}
 use Rattle.aig_values.proofs.SeenRows.{first_cells, has_cell, padded_row, taken}
 
-swept_padded : (n room : ℕ) (row : List Tern) (gates : List Gate) → All (HasPlaces n) gates → IsPadded n room row
-    → IsPadded n room (fold with_gate row gates)
+swept_padded : (n room : ℕ) (row : List Tern) (gates : List Gate) → All (HasVariablesBelow n) gates → IsPadded n room row
+    → IsPadded n room (fold with_gate_value row gates)
 swept_padded n room row [] all p = p
 swept_padded n room row (g ∷ gates) all p =
-    swept_padded n room (with_gate row g) gates (λ k d lt. all (suc k) d (omega arith))
+    swept_padded n room (with_gate_value row g) gates (λ k d lt. all (suc k) d (omega arith))
     (padded_set n room row (variable g.lhs) (gate_value row g) p (all 0 g (omega arith)).lhs)
 
-taken_gate : (n : ℕ) (row : List Tern) (g : Gate) → HasPlaces n g → take n (with_gate row g) ≡ with_gate (take n row) g
+taken_gate : (n : ℕ) (row : List Tern) (g : Gate) → HasVariablesBelow n g → take n (with_gate_value row g) ≡ with_gate_value (take n row) g
 taken_gate n row g places =
     take-set-lt n row (variable g.lhs) (gate_value row g) places.lhs
     ∙ ap (set (take n row) (variable g.lhs))
     (sym (ap₂ kleene_and (literal_of_row n row g.rhs0 places.rhs0) (literal_of_row n row g.rhs1 places.rhs1)))
 
-swept_taken : (n : ℕ) (row : List Tern) (gates : List Gate) → All (HasPlaces n) gates
-    → take n (fold with_gate row gates) ≡ fold with_gate (take n row) gates
+swept_taken : (n : ℕ) (row : List Tern) (gates : List Gate) → All (HasVariablesBelow n) gates
+    → take n (fold with_gate_value row gates) ≡ fold with_gate_value (take n row) gates
 swept_taken n row [] all = refl
 swept_taken n row (g ∷ gates) all =
-    swept_taken n (with_gate row g) gates (λ k d lt. all (suc k) d (omega arith))
-    ∙ ap (λ (r : List Tern). fold with_gate r gates) (taken_gate n row g (all 0 g (omega arith)))
+    swept_taken n (with_gate_value row g) gates (λ k d lt. all (suc k) d (omega arith))
+    ∙ ap (λ (r : List Tern). fold with_gate_value r gates) (taken_gate n row g (all 0 g (omega arith)))
 
 -- a row of a grid that a caller names, and gates that can be evaluated
 module _ {A : Type 0} (cells : A → List Tern) (items : List A) {n room count : ℕ} {flags : List Bool}
     (are : ArePadded n room flags (map cells items)) {grid : Cells}
     (view : seen n room (map cells items) flags count ≡ grid) {t : ℕ} (frame : t < length grid.cells)
     {row : A} (is : row ≡ get_or items t row) (gates : List Gate) (all : All (HasCells grid.gate_flags) gates) where
-  places : All (HasPlaces n) gates
+  places : All (HasVariablesBelow n) gates
   places k d lt =
       let h = all k d lt in
       let first = first_cells cells items are view frame is in
@@ -48,7 +48,7 @@ module _ {A : Type 0} (cells : A → List Tern) (items : List A) {n room count :
         rhs1 = first _ h.rhs1;
       }
 
-  pub row_places : All (HasPlaces (length (cells row))) gates
+  pub row_places : All (HasVariablesBelow (length (cells row))) gates
   row_places k d lt =
       let h = all k d lt in
       let there = has_cell cells items are view frame is in
@@ -58,7 +58,7 @@ module _ {A : Type 0} (cells : A → List Tern) (items : List A) {n room count :
         rhs1 = there _ h.rhs1;
       }
 
-  module _ (new : A) (e : cells new ≡ fold with_gate (cells row) gates) where
+  module _ (new : A) (e : cells new ≡ fold with_gate_value (cells row) gates) where
     pub swept_padded_items : ArePadded n room flags (map cells (set items t new))
     swept_padded_items =
         let rows = map cells items in
@@ -79,4 +79,4 @@ module _ {A : Type 0} (cells : A → List Tern) (items : List A) {n room count :
         ∙ ap (λ (c : List (List Tern)). set c t (take n (cells new))) (ap (λ (g : Cells). g.cells) view)
         ∙ ap (set grid.cells t)
         (ap (take n) e ∙ swept_taken n (cells row) gates places
-        ∙ ap (λ (r : List Tern). fold with_gate r gates) (sym (taken cells items are view frame is)))
+        ∙ ap (λ (r : List Tern). fold with_gate_value r gates) (sym (taken cells items are view frame is)))

@@ -15,7 +15,7 @@ use Rattle.aig_base.proofs.lists.Positions.{slice_get_left}
 use Rattle.aig_values.specs.Cells.{literal_value}
 use Rattle.aig_values.specs.state.Frame.{Holds, HoldsAll, AreStates}
 use Rattle.aig_values.specs.InputRows.{row_at}
-use Rattle.aig_values.specs.Trace.{AreValues, IsLine, AreLines, IsTrace}
+use Rattle.aig_values.specs.Trace.{AreValues, IsTraceLine, AreLines, IsTrace}
 use Rattle.aig_values.specs.TraceText.{literal_character, line_text, trace_text}
 use Rattle.aig_values.proofs.Evaluation.{literal_has_value}
 
@@ -112,7 +112,7 @@ module _ (raw : Raw) (start : List Tern) (rows : List (List Tern)) (t : ℕ) (ce
     latches_text f latches (λ i y at. h (suc i) y at),
   )
 
-  pub line_is : HoldsAll raw start rows t cells → IsLine raw start rows t (line_text raw cells)
+  pub line_is : HoldsAll raw start rows t cells → IsTraceLine raw start rows t (line_text raw cells)
   unfolding line_text
   line_is now = record {
     state = map (λ x. literal_character cells x.lit) raw.latches;
@@ -166,7 +166,7 @@ module _ (raw : Raw) (start : List Tern) (rows more : List (List Tern)) where
   values_stay t (l ∷ ls) [] h = absurd h
   values_stay t (l ∷ ls) (b ∷ bs) h = ((h.0.0, value_stays more h.0.1, h.0.2), values_stay t ls bs h.1)
 
-  line_stays : (t : ℕ) (line : List ℕ) → IsLine raw start rows t line → IsLine raw start (rows ++ more) t line
+  line_stays : (t : ℕ) (line : List ℕ) → IsTraceLine raw start rows t line → IsTraceLine raw start (rows ++ more) t line
   line_stays t line h = record {
     state = h.state;
     inputs = h.inputs;
@@ -185,7 +185,7 @@ module _ (raw : Raw) (start : List Tern) (rows more : List (List Tern)) where
 
 -- one line more
 pub trace_more : (raw : Raw) (start : List Tern) (rows : List (List Tern)) (row : List Tern) (trace line : List ℕ)
-    → IsTrace raw start rows trace → IsLine raw start (rows ++ row ∷ []) (length rows) line
+    → IsTrace raw start rows trace → IsTraceLine raw start (rows ++ row ∷ []) (length rows) line
     → IsTrace raw start (rows ++ row ∷ []) (trace ++ line)
 trace_more raw start rows row trace line h k =
     subst (λ (n : ℕ). AreLines raw start (rows ++ row ∷ []) n (trace ++ line))

@@ -17,15 +17,15 @@ abbrev pub gate_value : List Tern → Gate → Tern
 gate_value row g = kleene_and (literal_value row g.rhs0) (literal_value row g.rhs1)
 
 -- the row with the cell of an evaluated gate
-abbrev pub with_gate : List Tern → Gate → List Tern
-with_gate row g = slice_set row (variable g.lhs) (gate_value row g)
+abbrev pub with_gate_value : List Tern → Gate → List Tern
+with_gate_value row g = slice_set row (variable g.lhs) (gate_value row g)
 
 -- rows after gates were evaluated at one frame, one after the other
 abbrev pub with_swept_row : List (List Tern) → ℕ → List Gate → List (List Tern)
-with_swept_row rows t gates = slice_set rows t (fold with_gate (row_at rows t) gates)
+with_swept_row rows t gates = slice_set rows t (fold with_gate_value (row_at rows t) gates)
 
 -- the variables of a gate are among the first n
-pub record HasPlaces (n : ℕ) (g : Gate) : Type 0 where
+pub record HasVariablesBelow (n : ℕ) (g : Gate) : Type 0 where
   pub lhs : variable g.lhs < n
   pub rhs0 : variable g.rhs0 < n
   pub rhs1 : variable g.rhs1 < n

@@ -7,16 +7,16 @@ use Rattle.aig_parts.specs.Literal.{variable}
 use Rattle.aig_base.specs.Sections.{IsGate}
 
 -- the variable is a source's, or a gate's among the first q
-abbrev pub IsReady : Raw → List Gate → ℕ → ℕ → Type 0
-IsReady raw gates q v =
+abbrev pub IsSourceOrEarlier : Raw → List Gate → ℕ → ℕ → Type 0
+IsSourceOrEarlier raw gates q v =
     IsSource raw v ⊎ ((r : ℕ) × (g : Gate) × (r < q) × (slice_get gates r ≡ Some g) × (variable g.lhs ≡ v))
 
 -- all gates of the circuit, each after the gates that it reads; a gate may be there more than once
 pub record IsGateOrder (raw : Raw) (gates : List Gate) : Type 0 where
   pub known : (q : ℕ) (g : Gate) → slice_get gates q ≡ Some g → (r : ℕ) × (slice_get raw.gates r ≡ Some g)
   pub complete : (v : ℕ) → IsGate raw v → (q : ℕ) × (g : Gate) × (slice_get gates q ≡ Some g) × (variable g.lhs ≡ v)
-  pub ready0 : (q : ℕ) (g : Gate) → slice_get gates q ≡ Some g → IsReady raw gates q (variable g.rhs0)
-  pub ready1 : (q : ℕ) (g : Gate) → slice_get gates q ≡ Some g → IsReady raw gates q (variable g.rhs1)
+  pub ready0 : (q : ℕ) (g : Gate) → slice_get gates q ≡ Some g → IsSourceOrEarlier raw gates q (variable g.rhs0)
+  pub ready1 : (q : ℕ) (g : Gate) → slice_get gates q ≡ Some g → IsSourceOrEarlier raw gates q (variable g.rhs1)
 
 -- the gates of these variables
 pub record AreGatesOf (raw : Raw) (variables : List ℕ) (gates : List Gate) : Type 0 where

@@ -1,9 +1,9 @@
 pub mod Cells
 pub mod Characters
 pub mod Codes
+pub mod Contiguous
 pub mod GateOrder
 pub mod InputRows
-pub mod Neighbours
 pub mod Trace
 pub mod TraceText
 pub mod state

@@ -13,7 +13,7 @@ AreValues raw start rows t literals text =
     AllZip (λ l b. (w : Tern) × Value raw start rows t l w × (b ≡ character w)) literals text
 
 -- the line of a frame: state, inputs, outputs, next state
-pub record IsLine (raw : Raw) (start : List Tern) (rows : List (List Tern)) (t : ℕ) (line : List ℕ) : Type 0 where
+pub record IsTraceLine (raw : Raw) (start : List Tern) (rows : List (List Tern)) (t : ℕ) (line : List ℕ) : Type 0 where
   pub state : List ℕ
   pub inputs : List ℕ
   pub outputs : List ℕ
@@ -28,7 +28,7 @@ pub record IsLine (raw : Raw) (start : List Tern) (rows : List (List Tern)) (t :
 abbrev pub AreLines : Raw → List Tern → List (List Tern) → ℕ → List ℕ → Type 0
 AreLines raw start rows zero text = text ≡ []
 AreLines raw start rows (suc t) text =
-    (before : List ℕ) × (line : List ℕ) × AreLines raw start rows t before × IsLine raw start rows t line × (text ≡ before ++ line)
+    (before : List ℕ) × (line : List ℕ) × AreLines raw start rows t before × IsTraceLine raw start rows t line × (text ≡ before ++ line)
 
 -- the lines of all frames
 abbrev pub IsTrace : Raw → List Tern → List (List Tern) → List ℕ → Type 0

@@ -7,7 +7,7 @@ ghost use Rattle.aig_values.specs.Codes.{code_value, bits_of, IsCode};
 ghost use Rattle.aig_values.specs.Characters.{character};
 ghost use Rattle.aig_values.specs.TraceText.{literal_character};
 
-use crate::row::first_of_neighbours;
+use crate::row::first_of_contiguous;
 use aig_parts::{Lit, Tern};
 use std::marker::Model;
 
@@ -165,7 +165,7 @@ pub fn spell_in(text: &mut [u8], cells: &[Code], literals: &[Lit])
     requires room { length text.old ≡ length literals.now }
     ensures { text.new ≡ map (literal_character cells.now) literals.now }
 {
-    match first_of_neighbours(literals) {
+    match first_of_contiguous(literals) {
         Some(first) => spell_codes(text, &cells[first..first + literals.len()]),
         None => spell_each(text, cells, literals),
     }

@@ -4,7 +4,7 @@ ghost use Rattle.std.specs.Borrow.{ftrue};
 
 use std::marker::Model;
 
-/// Which variables are gates, as a grid was told. It takes no bytes.
+/// Which variables are gates, in the circuit that a grid was made for. It takes no bytes.
 #[derive(Drop)]
 pub struct GateFlags {
     pub ghost flags: { List Bool },

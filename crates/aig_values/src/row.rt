@@ -3,7 +3,7 @@ ghost use Rattle.std.specs.Prelude.{◌≡◌, ℕ, ◌+◌, ◌<◌, ◌≤◌,
 ghost use Rattle.aig_parts.specs.declared.ternary.Tern.{Tern};
 ghost use Rattle.aig_parts.specs.Literal.{variable};
 ghost use Rattle.aig_values.specs.Cells.{literal_value};
-ghost use Rattle.aig_values.specs.Neighbours.{AreNeighbours};
+ghost use Rattle.aig_values.specs.Contiguous.{AreContiguous};
 ghost use Rattle.aig_values.specs.TraceText.{literal_character};
 
 use crate::grid::Grid;
@@ -73,9 +73,9 @@ impl<'a, G: Grid> Row for GridRow<'a, G> {
 }
 
 // Whether these are the even literals of neighbouring variables from this one on. All are looked at, many at a time.
-fn are_neighbours(literals: &[Lit], first: u32) -> bool
+fn are_contiguous(literals: &[Lit], first: u32) -> bool
     requires { first + length literals.now ≤ 2147483648 }
-    ensures { IsTrue result → AreNeighbours first literals.now }
+    ensures { IsTrue result → AreContiguous first literals.now }
 {
     let mut all = true;
     for (place, literal) in literals.iter().enumerate() {
@@ -86,8 +86,8 @@ fn are_neighbours(literals: &[Lit], first: u32) -> bool
 
 /// The variable of the first literal, where these are the even literals of neighbouring variables, each one more than
 /// the one before.
-pub fn first_of_neighbours(literals: &[Lit]) -> Option<usize>
-    ensures neighbours { IfSome result (λ first. AreNeighbours first literals.now) }
+pub fn first_of_contiguous(literals: &[Lit]) -> Option<usize>
+    ensures contiguous { IfSome result (λ first. AreContiguous first literals.now) }
     ensures some { IfSome result (λ first. 0 < length literals.now) }
 {
     if literals.is_empty() {
@@ -95,11 +95,11 @@ pub fn first_of_neighbours(literals: &[Lit]) -> Option<usize>
     }
     let first = literals[0].value() / 2;
     let last = literals[literals.len() - 1].value() / 2;
-    // The last one tells it of most that are none.
+    // The last byte shows it for most that are none.
     if last < first || (last - first) as usize != literals.len() - 1 {
         return None;
     }
-    if are_neighbours(literals, first) {
+    if are_contiguous(literals, first) {
         Some(first as usize)
     } else {
         None

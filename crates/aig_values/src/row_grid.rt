@@ -4,7 +4,7 @@ ghost use Rattle.std.specs.Prelude.{slice_set, slice_index_or};
 ghost use Rattle.aig_parts.specs.Formed.{limit};
 ghost use Rattle.aig_parts.specs.declared.ternary.Tern.TheVariants.{X};
 ghost use Rattle.aig_parts.specs.Literal.{variable};
-ghost use Rattle.aig_values.specs.Cells.{literal_value, gate_value, with_gate, HasPlaces};
+ghost use Rattle.aig_values.specs.Cells.{literal_value, gate_value, with_gate_value, HasVariablesBelow};
 ghost use Rattle.aig_values.specs.state.Padded.{AreLengthened};
 ghost use Rattle.aig_values.specs.TraceText.{literal_character};
 
@@ -34,7 +34,7 @@ pub struct RowGrid<R: CellRow> {
 /// A grid that keeps a byte for each cell.
 pub type ByteGrid = RowGrid<ByteRow>;
 
-/// A grid that keeps two bits for each cell.
+/// A grid that keeps two bits for each cell, side by side in one word rather than in two planes.
 pub type PlaneGrid = RowGrid<PlaneRow>;
 
 impl<R: CellRow> Model for RowGrid<R> {
@@ -90,8 +90,8 @@ fn evaluate_in<R: CellRow>(row: &mut R, gate: Gate) -> bool
 
 // Evaluates gates one after the other, in the order of the slice.
 fn sweep_in<R: CellRow>(row: &mut R, gates: &[Gate])
-    requires { All (HasPlaces (length (R.cells row.old))) gates.now }
-    ensures { R.cells row.new ≡ fold with_gate (R.cells row.old) gates.now }
+    requires { All (HasVariablesBelow (length (R.cells row.old))) gates.now }
+    ensures { R.cells row.new ≡ fold with_gate_value (R.cells row.old) gates.now }
 {
     for gate in gates {
         let value = literal_in(row, gate.rhs0).and(literal_in(row, gate.rhs1));

@@ -7,10 +7,10 @@ ghost use Rattle.aig_bytes.specs.Gathered.{Gathers};
 ghost use Rattle.aig_values.specs.TraceText.{literal_character, line_text, trace_text};
 ghost use Rattle.aig_values.specs.state.Fields.{literals_of};
 
-use aig_base::{Circuit, Io, Latch, Lit, Write};
-use aig_bytes::ByteBlock;
 use crate::grid::Grid;
 use crate::row::{GridRow, Row};
+use aig_base::{Circuit, Io, Latch, Lit, Write};
+use aig_bytes::ByteBlock;
 
 /// How many characters are put at a time.
 const PIECE: usize = 256;
@@ -142,7 +142,7 @@ pub fn write_line<R: Row, W: Write>(
 {
     block.clear();
     put_line(out, block, circuit, row)?;
-    block.hand_on(out)
+    block.forward(out)
 }
 
 // Puts the lines of all frames of a grid.
@@ -172,5 +172,5 @@ pub fn write_trace<G: Grid, W: Write>(out: &mut W, circuit: &Circuit, grid: &G) 
 {
     let mut block = TraceBlock::new();
     put_lines(out, &mut block, circuit, grid)?;
-    block.hand_on(out)
+    block.forward(out)
 }

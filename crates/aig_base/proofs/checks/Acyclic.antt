@@ -1,4 +1,4 @@
--- Parts with no fault are acyclic: of each variable it can be told whether it is grounded.
+-- Parts with no fault are acyclic: each variable is grounded or is not.
 use Rattle.std.proofs.Common.{◌≡◌, ◌⊎◌, inl, inr, ℕ, zero, suc, ◌+◌, ◌≤◌, max, List, [], ◌∷◌, slice_get, Some, refl}
 use Rattle.std.proofs.Common.{subst, arith}
 use Rattle.std.proofs.lemmas.Option.{same_Some}
@@ -7,7 +7,7 @@ use Rattle.aig_parts.specs.declared.fault.Fault.TheVariants as fault
 use Rattle.aig_parts.specs.declared.gate.Gate.{Gate}
 use Rattle.aig_parts.specs.declared.latch.Latch.{Latch}
 use Rattle.aig_parts.specs.declared.raw.Raw.{Raw}
-use Rattle.aig_base.specs.FirstFault.{Applies, IsUngrounded}
+use Rattle.aig_base.specs.FirstFault.{FaultApplies, IsUngrounded}
 use Rattle.aig_base.specs.Grounded as by
 use Rattle.aig_base.specs.Grounded.{IsAcyclic, IsSource, Grounded, Level}
 use Rattle.aig_parts.specs.Literal.{variable}
@@ -104,7 +104,7 @@ module _ (raw : Raw) where
   ]
 
 -- parts with no fault are acyclic
-pub acyclic : (raw : Raw) → IsSound raw → ((f : Fault) → Applies raw f → ⊥) → IsAcyclic raw
+pub acyclic : (raw : Raw) → IsSound raw → ((f : Fault) → FaultApplies raw f → ⊥) → IsAcyclic raw
 acyclic raw sound never v is = elim (decided raw raw.max_var v) [
   | inl grounded ↦ grounded
   | inr no_level ↦

@@ -7,7 +7,7 @@ use Rattle.aig_parts.specs.declared.gate.Gate.{Gate}
 use Rattle.aig_parts.specs.declared.raw.Raw.{Raw}
 use Rattle.aig_base.specs.Grounded as grounded
 use Rattle.aig_base.specs.Grounded.{Grounded}
-use Rattle.aig_base.specs.state.Least.{IsGroundedGate}
+use Rattle.aig_base.specs.state.LeastFaulty.{IsGroundedGate}
 use Rattle.aig_parts.specs.Literal.{variable}
 use Rattle.aig_base.specs.Sections.{uses, IsDefined}
 use Rattle.aig_base.proofs.circuits.Circuits.{sides, gate_uses, rhs0_stands, rhs1_stands, gate_defined}

@@ -12,12 +12,12 @@ use Rattle.aig_parts.specs.declared.gate.Gate.{Gate}
 use Rattle.aig_parts.specs.declared.latch.Latch.{Latch}
 use Rattle.aig_parts.specs.declared.raw.Raw.{Raw}
 use Rattle.aig_base.specs.Circuit.{IsCircuit}
-use Rattle.aig_base.specs.state.Definitions.{IsEntry, IsTable}
+use Rattle.aig_base.specs.state.Definitions.{IsDefinitionEntry, IsDefinitionTable}
 use Rattle.aig_base.specs.state.Entries.{IsEntryOf, AreEntries}
-use Rattle.aig_base.specs.FirstFault.{IsLeast, HasBadReset, IsUngrounded, Applies, number_of, IsFirstFault}
+use Rattle.aig_base.specs.FirstFault.{IsLeast, HasBadReset, IsUngrounded, FaultApplies, number_of, IsFirstFault}
 use Rattle.aig_parts.specs.Formed.{IsFormed}
 use Rattle.aig_base.specs.Grounded.{Grounded, IsAcyclic}
-use Rattle.aig_base.specs.state.Least.{IsLeastAmong, IsKnown, IsGroundedGate, gate_variable, latch_variable}
+use Rattle.aig_base.specs.state.LeastFaulty.{IsLeastAmong, IsKnownLiteral, IsGroundedGate, gate_variable, latch_variable}
 use Rattle.aig_parts.specs.Literal.{variable}
 use Rattle.aig_base.specs.state.Ranged.{AreInRange, AreDefinedOnce, AreDefinitions}
 use Rattle.aig_base.specs.Sections.{definitions, uses, IsDefined}
@@ -139,7 +139,7 @@ module _ (raw : Raw) where
       cases : (a b : ℕ) → (a ≤ b) ⊎ (b < a)
       cases a b = grind arith
 
-  pub range_applies : (AreInRange raw → ⊥) → Applies raw fault.Range
+  pub range_applies : (AreInRange raw → ⊥) → FaultApplies raw fault.Range
   range_applies out = elim (all_or_any (IsInRange raw) (λ l. 2 * raw.max_var + 1 < l) in_or_over (definitions raw
       ++ uses raw)) [
         | inl all ↦ absurd (out (in_range_parted all))
@@ -160,7 +160,7 @@ module _ (raw : Raw) where
     | inr odd ↦ inr (λ h. odd h.0)
   ]
 
-  pub definition_applies : (AreDefinitions raw → ⊥) → Applies raw fault.Definition
+  pub definition_applies : (AreDefinitions raw → ⊥) → FaultApplies raw fault.Definition
   definition_applies out = elim (all_or_any IsDefinition (λ l. IsDefinition l → ⊥) definition_or_not
       (definitions raw)) [
         | inl all ↦ absurd (out (let d = definitions_parted IsDefinition all in record {
@@ -177,7 +177,7 @@ module _ (raw : Raw) where
       → All IsDefinition (definitions raw))
       → (6 < n → (v : ℕ) → IsRedefined raw v → ⊥) → (7 < n → All (λ l. IsDefined raw (variable l)) (uses raw)) → (8 < n
       → All IsReset raw.latches)
-      → (g : Fault) → number_of g < n → Applies raw g → ⊥
+      → (g : Fault) → number_of g < n → FaultApplies raw g → ⊥
   none_before n m a b c d e fault.Range l (k, x, lt, is, p) = let h : get_or (definitions raw
       ++ uses raw) k x ≤ 2 * raw.max_var + 1 = a l k x lt in absurd (omega arith)
   none_before n m a b c d e fault.Definition l (k, x, lt, is, p) = p (subst IsDefinition is (b l k x lt))
@@ -196,7 +196,7 @@ module _ (raw : Raw) where
   -- what the table knows is defined, and the other way round
   module _ (table : List (Option Definition)) (again : Option ℕ) (h : AreEntries raw (map variable
       (definitions raw)) table again) where
-    defined_from_known : (l : ℕ) → IsKnown table l → IsDefined raw (variable l)
+    defined_from_known : (l : ℕ) → IsKnownLiteral table l → IsDefined raw (variable l)
     defined_from_known l (inl e) = Contains-from_get (0 ∷ map variable (definitions raw)) 0 (variable l) (ap Some
         (sym e))
     defined_from_known l (inr (d, at)) =
@@ -204,7 +204,7 @@ module _ (raw : Raw) where
         (Some d) at).1 in
         Contains-from_get (0 ∷ map variable (definitions raw)) (suc k) (variable l) is
 
-    pub known_from_defined : (l : ℕ) → IsInRange raw l → IsDefined raw (variable l) → IsKnown table l
+    pub known_from_defined : (l : ℕ) → IsInRange raw l → IsDefined raw (variable l) → IsKnownLiteral table l
     known_from_defined l in' has =
         let k = get_from_Contains (0 ∷ map variable (definitions raw)) (variable l) has in
         of k.0 k.1
@@ -213,21 +213,21 @@ module _ (raw : Raw) where
         within = omega (arith, h.size)
 
         of_entry : (entry : Option Definition) → slice_get table (variable l) ≡ Some entry
-            → Contains (map variable (definitions raw)) (variable l) → IsKnown table l
+            → Contains (map variable (definitions raw)) (variable l) → IsKnownLiteral table l
         of_entry None at c = absurd (h.entries (variable l) None at c)
         of_entry (Some d) at c = inr (d, at)
 
-        of : (k : ℕ) → slice_get (0 ∷ map variable (definitions raw)) k ≡ Some (variable l) → IsKnown table l
+        of : (k : ℕ) → slice_get (0 ∷ map variable (definitions raw)) k ≡ Some (variable l) → IsKnownLiteral table l
         of zero e = inl (same_Some (variable l) 0 (sym e))
         of (suc k) e =
             of_entry (get_or table (variable l) None) (slice_get-get_or table (variable l) None within)
             (Contains-from_get (map variable (definitions raw)) k (variable l) e)
 
-    pub uses_defined : IsLeastAmong (IsKnown table) variable (uses raw) None → All (λ l. IsDefined raw (variable l))
+    pub uses_defined : IsLeastAmong (IsKnownLiteral table) variable (uses raw) None → All (λ l. IsDefined raw (variable l))
         (uses raw)
     uses_defined all = λ k d l. defined_from_known _ (all k d l)
 
-    pub least_is_undefined : (v : ℕ) → All (IsInRange raw) (uses raw) → IsLeastAmong (IsKnown table) variable (uses raw)
+    pub least_is_undefined : (v : ℕ) → All (IsInRange raw) (uses raw) → IsLeastAmong (IsKnownLiteral table) variable (uses raw)
         (Some v) → IsLeast (IsUndefined raw) v
     least_is_undefined v range ((k, l, at, e, bad), less) = (
       (
@@ -240,14 +240,14 @@ module _ (raw : Raw) where
           let (j, is) = get_from_Contains (map variable (uses raw)) u has in
           let (m, here, f) = slice_get_unmap variable (uses raw) j u is in
           undefined (subst (IsDefined raw) f (defined_from_known m
-          (All-at (λ x. variable x < v → IsKnown table x) (uses raw) j m less here (subst (λ w. w < v) (sym f) lt)))),
+          (All-at (λ x. variable x < v → IsKnownLiteral table x) (uses raw) j m less here (subst (λ w. w < v) (sym f) lt)))),
     )
 
-    pub table_from_entries : IsTable raw table
+    pub table_from_entries : IsDefinitionTable raw table
     table_from_entries = record { size = h.size; entries = λ v entry at. of_entry v entry (h.entries v entry at) }
       where
         of_entry : (v : ℕ) (entry : Option Definition) → IsEntryOf raw (map variable (definitions raw)) v entry
-            → IsEntry raw v entry
+            → IsDefinitionEntry raw v entry
         of_entry v None e = e
         of_entry v (Some d) e = e.0
 
@@ -304,7 +304,7 @@ module _ (raw : Raw) where
   -- the tests of the table, once each variable is defined once
   module _ (table : List (Option Definition)) (r : AreInRange raw) (d : AreDefinitions raw) (h : AreEntries raw
       (map variable (definitions raw)) table None) where
-    pub first_undefined : (v : ℕ) → IsLeastAmong (IsKnown table) variable (uses raw) (Some v)
+    pub first_undefined : (v : ℕ) → IsLeastAmong (IsKnownLiteral table) variable (uses raw) (Some v)
         → IsFirstFault raw (fault.Undefined v)
     first_undefined v least = record {
       applies = least_is_undefined table None h v (All-right (IsInRange raw) (definitions raw) (uses raw)
@@ -315,7 +315,7 @@ module _ (raw : Raw) where
 
     -- where as many variables are defined as there are, the table knows all that is used
     pub known_by_count : length raw.inputs + length raw.latches + length raw.gates ≡ raw.max_var
-        → IsLeastAmong (IsKnown table) variable (uses raw) None
+        → IsLeastAmong (IsKnownLiteral table) variable (uses raw) None
     known_by_count full = λ k e l.
         let range = All-left (IsInRange raw) (definitions raw) (uses raw) (in_range_joined r) in
         let used : ℕ = get_or (uses raw) k e in
@@ -326,7 +326,7 @@ module _ (raw : Raw) where
         half : (l : ℕ) → IsInRange raw l → variable l ≤ raw.max_var
         half l in' = omega arith
 
-    pub once_from_table : IsLeastAmong (IsKnown table) variable (uses raw) None → AreDefinedOnce raw
+    pub once_from_table : IsLeastAmong (IsKnownLiteral table) variable (uses raw) None → AreDefinedOnce raw
     once_from_table known =
         record { definitions_are = are_definitions_joined d; once = h.twice; defined = uses_defined table None h known }
 

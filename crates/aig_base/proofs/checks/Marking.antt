@@ -17,11 +17,11 @@ use Rattle.aig_base.specs.Grounded.{IsSource, Grounded, Level}
 use Rattle.aig_base.specs.Levels.{AreLevels}
 use Rattle.aig_base.specs.Sound.{IsSound}
 use Rattle.aig_base.specs.state.Descent.{level_above}
-use Rattle.aig_base.specs.state.Least.{latch_variable}
-use Rattle.aig_base.specs.state.Links.{Leads, AreLinks}
+use Rattle.aig_base.specs.state.LeastFaulty.{latch_variable}
+use Rattle.aig_base.specs.state.KeyChains.{LeadsTo, AreKeyChains}
 use Rattle.aig_parts.specs.Formed.{limit}
 use Rattle.aig_parts.specs.Literal.{variable}
-use Rattle.aig_base.specs.state.Marks.{IsMarked, AreMarks, sides, AreStarted, AddsMark, Moves, Waits, IsMarking}
+use Rattle.aig_base.specs.state.Marks.{IsMarked, AreGroundedMarks, sides, AreStarted, AddsMark, AddsMarks, IsQueuedFrom, IsMarking}
 use Rattle.aig_base.specs.state.Walk.{Meets}
 use Rattle.aig_base.proofs.lists.Chains.{leads_cases, leads_nowhere, side_first, side_second}
 use Rattle.aig_base.proofs.circuits.Entering.{same_or_not}
@@ -52,8 +52,8 @@ module _ (v : ℕ) (marks : List Bool) (pending : List ℕ) where
           | inl e ↦ inr (e, subst (λ w. Contains (pending ++ v ∷ []) w) (sym e) (Contains-push pending v))
           | inr ne ↦ inl (sym (slice_get-set_other marks v u true ne) ∙ h)
         ];
-        waiting = λ u h. Contains-append_left pending (v ∷ []) u h;
-        new_waiting = λ u h. elim (Contains-push_cases pending v u h) [ inl a ↦ inl a | inr e ↦ inr (sym e) ];
+        listed = λ u h. Contains-append_left pending (v ∷ []) u h;
+        new_listed = λ u h. elim (Contains-push_cases pending v u h) [ inl a ↦ inl a | inr e ↦ inr (sym e) ];
       }
 
   -- a variable that was marked
@@ -64,8 +64,8 @@ module _ (v : ℕ) (marks : List Bool) (pending : List ℕ) where
     marked = h;
     kept = λ u m. m;
     new = λ u m. inl m;
-    waiting = λ u c. c;
-    new_waiting = λ u c. inl c;
+    listed = λ u c. c;
+    new_listed = λ u c. inl c;
   }
 
 -- a walk that meets a variable marks it
@@ -90,12 +90,12 @@ mark_meets v marks marks' pending pending' (Ok x) lt m = met_is_marked v marks m
 mark_meets v marks marks' pending pending' (Err e) lt m = tt
 
 module _ {v : ℕ} {marks : List Bool} {pending : List ℕ} {marks' : List Bool} {pending' : List ℕ} where
-  pub moves_from_mark : AddsMark v marks pending marks' pending' → Moves marks pending marks' pending'
+  pub moves_from_mark : AddsMark v marks pending marks' pending' → AddsMarks marks pending marks' pending'
   moves_from_mark a = record {
     size = a.size;
     steps = a.steps;
     kept = a.kept;
-    below = λ h. All-by_get (λ u. u < length marks') pending' (λ k u at. elim (a.new_waiting u
+    below = λ h. All-by_get (λ u. u < length marks') pending' (λ k u at. elim (a.new_listed u
         (Contains-from_get pending' k u at)) [
           | inl old ↦ let l : u < length marks = All-contains (λ w. w < length marks) pending u h old in
               omega (arith, a.size)
@@ -117,17 +117,17 @@ module _ {v : ℕ} {marks : List Bool} {pending : List ℕ} {marks' : List Bool}
         | inr e ↦ subst (λ w. IsMarked marks' w) e a.marked
       ],
     );
-    waiting = λ u. (
-      λ h. elim (a.new u h) [ inl old ↦ a.waiting u ((s.waiting u).0 old) | inr new ↦ new.1 ],
-      λ h. elim (a.new_waiting u h) [
-        | inl old ↦ a.kept u ((s.waiting u).1 old)
+    listed = λ u. (
+      λ h. elim (a.new u h) [ inl old ↦ a.listed u ((s.listed u).0 old) | inr new ↦ new.1 ],
+      λ h. elim (a.new_listed u h) [
+        | inl old ↦ a.kept u ((s.listed u).1 old)
         | inr e ↦ subst (λ w. IsMarked marks' w) (sym e) a.marked
       ],
     );
   }
 
 pub moves_then : {a : List Bool} {p : List ℕ} {b : List Bool} {q : List ℕ} {c : List Bool} {r : List ℕ}
-    → Moves a p b q → Moves b q c r → Moves a p c r
+    → AddsMarks a p b q → AddsMarks b q c r → AddsMarks a p c r
 moves_then f g = record {
   size = g.size ∙ f.size;
   steps = g.steps ∙ f.steps;
@@ -138,12 +138,12 @@ moves_then f g = record {
 module _ (raw : Raw) (next : List ℕ) (p link : ℕ) (gate : Gate) (at : slice_get raw.gates (p / 2)
     ≡ Some gate) (on : slice_get next p ≡ Some link) where
   -- a gate that waits at position p is this one, or waits further on
-  wait_on : (q : ℕ) (g : Gate) → slice_get raw.gates q ≡ Some g → Waits next (suc p) q → (gate ≡ g) ⊎ Waits next link q
-  wait_on q g is (o, l, e) = elim (leads_cases next l p refl) [
+  queued_on : (q : ℕ) (g : Gate) → slice_get raw.gates q ≡ Some g → IsQueuedFrom next (suc p) q → (gate ≡ g) ⊎ IsQueuedFrom next link q
+  queued_on q g is (o, l, e) = elim (leads_cases next l p refl) [
     | inl same ↦
         let f : q ≡ p / 2 = sym e ∙ ap (λ n. n / 2) same in
         inl (same_element raw.gates (p / 2) gate g at (subst (λ n. slice_get raw.gates n ≡ Some g) f is))
-    | inr on' ↦ inr (o, subst (λ n. Leads next n o) (same_element next p on'.0 link on'.1 on) on'.2, e)
+    | inr on' ↦ inr (o, subst (λ n. LeadsTo next n o) (same_element next p on'.0 link on'.1 on) on'.2, e)
   ]
 
   -- a gate with a side that is not marked
@@ -161,7 +161,7 @@ module _ (raw : Raw) (next : List ℕ) (p link : ℕ) (gate : Gate) (at : slice_
         | inl h ↦ inr (inl h)
         | inr s ↦ elim s [
           | inl h ↦ inr (inr (inl h))
-          | inr w ↦ elim (wait_on q g is w) [
+          | inr w ↦ elim (queued_on q g is w) [
             | inl same ↦ absurd (unmarked (subst (λ (x : Gate). IsMarked marks (variable x.rhs0)) (sym same) a) (subst
                 (λ (x : Gate). IsMarked marks (variable x.rhs1)) (sym same) b))
             | inr later ↦ inr (inr (inr later))
@@ -188,7 +188,7 @@ module _ (raw : Raw) (next : List ℕ) (p link : ℕ) (gate : Gate) (at : slice_
         | inr new ↦ absurd (ne new.0)
       ]
     ];
-    marked = λ u h. elim (d.new_waiting u h) [
+    marked = λ u h. elim (d.new_listed u h) [
       | inl old ↦ d.kept u (i.marked u old)
       | inr e ↦ subst (λ w. IsMarked marks' w) (sym e) d.marked
     ];
@@ -199,10 +199,10 @@ module _ (raw : Raw) (next : List ℕ) (p link : ℕ) (gate : Gate) (at : slice_
         | inl b' ↦ elim (i.closed q g is a' b') [
           | inl h ↦ inl (d.kept _ h)
           | inr r ↦ elim r [
-            | inl h ↦ inr (inl (d.waiting _ h))
+            | inl h ↦ inr (inl (d.listed _ h))
             | inr s ↦ elim s [
-              | inl h ↦ inr (inr (inl (d.waiting _ h)))
-              | inr w ↦ elim (wait_on q g is w) [
+              | inl h ↦ inr (inr (inl (d.listed _ h)))
+              | inr w ↦ elim (queued_on q g is w) [
                 | inl same ↦ inl (subst (λ (x : Gate). IsMarked marks' (variable x.lhs)) same d.marked)
                 | inr later ↦ inr (inr (inr later))
               ]
@@ -225,7 +225,7 @@ module _ (raw : Raw) (next : List ℕ) (p link : ℕ) (gate : Gate) (at : slice_
 -- a variable is taken, and its readers wait at its first link
 pub take_pending : (raw : Raw) (gates : List Gate) (first next : List ℕ) (v link : ℕ) (marks : List Bool)
     (pending rest levels : List ℕ)
-    → AreLinks (sides gates) first next → raw.gates ≡ gates → slice_get first v ≡ Some link → pending ≡ rest ++ v ∷ []
+    → AreKeyChains (sides gates) first next → raw.gates ≡ gates → slice_get first v ≡ Some link → pending ≡ rest ++ v ∷ []
     → IsMarking raw next 0 marks pending levels → IsMarking raw next link marks rest levels
 take_pending raw gates first next v link marks pending rest levels links same at is i =
     let back = λ (u : ℕ) (h : Contains pending u). Contains-push_cases rest v u (subst (λ l. Contains l u) is h) in
@@ -330,15 +330,15 @@ module _ (raw : Raw) (sound : IsSound raw) (next : List ℕ) (marks : List Bool)
       get_or-replicate {A = ℕ} (raw.max_var + 1) v 0 0 (let lt = slice_get_within marks v true h
           in omega arith),
     ) (grounded.Level.source v (source_listed raw v ((s.each v).0 h)));
-    marked = λ v h. (s.waiting v).1 h;
-    closed = λ q g at a b. inr (inl ((s.waiting _).0 a));
+    marked = λ v h. (s.listed v).1 h;
+    closed = λ q g at a b. inr (inl ((s.listed _).0 a));
   }
 
   -- the search ends: the marks are those of the grounded variables, and the levels are theirs
   pub marking_ends : (levels : List ℕ) (marks' : List Bool) (levels' : List ℕ) → raw.max_var ≤ limit
       → levels ≡ replicate (raw.max_var + 1) 0 → length marks ≡ raw.max_var + 1 → length marks' ≡ length marks
       → (IsMarking raw next 0 marks pending levels → IsMarking raw next 0 marks' [] levels')
-      → ((v : ℕ) → IsMarked marks v → IsMarked marks' v) → AreMarks raw marks' × AreLevels raw levels'
+      → ((v : ℕ) → IsMarked marks v → IsMarked marks' v) → AreGroundedMarks raw marks' × AreLevels raw levels'
   marking_ends levels marks' levels' fits zeros size size' moves kept = (
     record { size = size' ∙ size; each = λ v. (λ h. Grounded-of_level (i.each v h), found v) },
     record {

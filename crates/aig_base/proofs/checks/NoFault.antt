@@ -11,11 +11,11 @@ use Rattle.aig_parts.specs.declared.raw.Raw.{Raw}
 use Rattle.aig_base.specs.Sections.{definitions, uses, IsDefined}
 use Rattle.aig_base.specs.Grounded.{IsAcyclic}
 use Rattle.aig_base.specs.Sound.{IsSound, IsInRange, IsDefinition, IsRedefined, IsUndefined, IsReset}
-use Rattle.aig_base.specs.FirstFault.{IsLeast, HasBadReset, Applies}
+use Rattle.aig_base.specs.FirstFault.{IsLeast, HasBadReset, FaultApplies}
 use Rattle.aig_base.proofs.lists.Positions.{Contains-from_slice_get, unmap, position_of}
 
 -- a circuit has no fault
-pub no_fault : (raw : Raw) → IsSound raw → IsAcyclic raw → (f : Fault) → Applies raw f → ⊥
+pub no_fault : (raw : Raw) → IsSound raw → IsAcyclic raw → (f : Fault) → FaultApplies raw f → ⊥
 no_fault raw s a fault.Range (k, l, lt, is, over) =
     let h : IsInRange raw l = All-contains (IsInRange raw) (definitions raw ++ uses raw) l s.in_range (k, lt, is) in
     omega arith
@@ -77,7 +77,7 @@ all_from_none P cases xs never k d lt = elim (cases (get_or xs k d)) [
 ]
 
 -- parts with no fault are sound
-pub sound : (raw : Raw) → ((f : Fault) → Applies raw f → ⊥) → IsSound raw
+pub sound : (raw : Raw) → ((f : Fault) → FaultApplies raw f → ⊥) → IsSound raw
 sound raw never = record {
   in_range = all_from_none (IsInRange raw) (λ l. in_range_cases l) (definitions raw ++ uses raw)
       (λ (k, l, lt, is, bad). never fault.Range (k, l, lt, is, over l bad));

@@ -11,7 +11,7 @@ use Rattle.aig_base.specs.Levels.{AreLevels}
 use Rattle.aig_parts.specs.Literal.{variable}
 use Rattle.aig_base.specs.Sections.{uses, IsDefined}
 use Rattle.aig_base.specs.Sound.{IsSound}
-use Rattle.aig_base.specs.state.Least.{IsGroundedGate}
+use Rattle.aig_base.specs.state.LeastFaulty.{IsGroundedGate}
 use Rattle.aig_base.specs.state.TriedLevels.{AreStepped, IsStep}
 use Rattle.aig_base.proofs.checks.Ascending.{all_grounded}
 use Rattle.aig_base.proofs.circuits.Gates.{level_in_range}

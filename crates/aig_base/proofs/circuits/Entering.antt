@@ -10,7 +10,7 @@ use Rattle.aig_base.specs.declared.definition.Definition.{Definition}
 use Rattle.aig_base.specs.Definition.{Defines}
 use Rattle.aig_base.specs.state.Entries.{IsEntryOf, IsLeastTwice, AreEntries}
 use Rattle.aig_base.specs.FirstFault.{IsLeast}
-use Rattle.aig_base.specs.state.Least.{lesser, latch_variable, gate_variable}
+use Rattle.aig_base.specs.state.LeastFaulty.{lesser, latch_variable, gate_variable}
 use Rattle.aig_parts.specs.Literal.{variable}
 use Rattle.aig_base.specs.Sections.{definitions}
 use Rattle.aig_parts.specs.declared.gate.Gate.{Gate}

@@ -9,7 +9,7 @@ use Rattle.aig_parts.specs.declared.gate.Gate.{Gate}
 use Rattle.aig_parts.specs.declared.latch.Latch.{Latch}
 use Rattle.aig_parts.specs.declared.raw.Raw.{Raw}
 use Rattle.aig_base.specs.Definition.{Defines, IsFree, IsInOrder}
-use Rattle.aig_base.specs.state.Least.{ReadsSmaller}
+use Rattle.aig_base.specs.state.LeastFaulty.{ReadsSmaller}
 use Rattle.aig_parts.specs.Literal.{variable}
 use Rattle.aig_base.specs.state.Ranged.{AreInRange, AreSectionsInRange, AreDefinedOnce}
 use Rattle.aig_base.specs.Renumbered.{evens_from}

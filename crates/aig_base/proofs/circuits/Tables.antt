@@ -10,14 +10,14 @@ use Rattle.aig_base.specs.Sections.{definitions, uses}
 use Rattle.aig_base.specs.Sound.{IsSound, IsInRange}
 use Rattle.aig_base.proofs.lists.Joined.{All-left}
 use Rattle.aig_base.specs.Definition.{Defines, IsFree}
-use Rattle.aig_base.specs.state.Definitions.{IsEntry, IsTable}
+use Rattle.aig_base.specs.state.Definitions.{IsDefinitionEntry, IsDefinitionTable}
 
-pub defines_from_entry : (raw : Raw) (v : ℕ) (entry : Option Definition) → IsEntry raw v entry
+pub defines_from_entry : (raw : Raw) (v : ℕ) (entry : Option Definition) → IsDefinitionEntry raw v entry
     → IfSome entry (Defines raw v)
 defines_from_entry raw v None h = tt
 defines_from_entry raw v (Some d) h = h
 
-pub free_from_entry : (raw : Raw) (v : ℕ) (entry : Option Definition) → IsEntry raw v entry
+pub free_from_entry : (raw : Raw) (v : ℕ) (entry : Option Definition) → IsDefinitionEntry raw v entry
     → IfNone entry (IsFree raw v)
 free_from_entry raw v None h = h
 free_from_entry raw v (Some d) h = tt
@@ -33,12 +33,12 @@ free_over raw v sound over (k, lt, is) =
     omega arith
 
 -- the entry that reading the table gives
-pub entry_at : (raw : Raw) (table : List (Option Definition)) (v : ℕ) (entry : Option Definition) → IsTable raw table
-    → v < length table → entry ≡ get_or table v entry → IsEntry raw v entry
+pub entry_at : (raw : Raw) (table : List (Option Definition)) (v : ℕ) (entry : Option Definition) → IsDefinitionTable raw table
+    → v < length table → entry ≡ get_or table v entry → IsDefinitionEntry raw v entry
 entry_at raw table v entry t lt is =
     t.entries v entry (slice_get-get_or table v entry lt ∙ ap Some (sym is))
 
 -- past the table nothing is defined
-pub free_past : (raw : Raw) (table : List (Option Definition)) (v : ℕ) → IsTable raw table → IsSound raw
+pub free_past : (raw : Raw) (table : List (Option Definition)) (v : ℕ) → IsDefinitionTable raw table → IsSound raw
     → length table ≤ v → IsFree raw v
 free_past raw table v t sound past = free_over raw v sound (omega (arith, t.size))

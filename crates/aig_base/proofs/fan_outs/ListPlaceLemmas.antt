@@ -9,9 +9,9 @@ use Rattle.smallvec.specs.SmallVec.{SmallVec}
 use Rattle.aig_base.specs.declared.list_places.Places.{Places}
 use Rattle.aig_parts.specs.Formed.{limit}
 use Rattle.aig_base.specs.state.FanOuts.{AreFanOuts, AreTidy}
-use Rattle.aig_base.specs.state.ListPlaces.{short, StandsAt, capacity_at, HasPlace, HasPlaces, AreKept, Extends}
-use Rattle.aig_base.specs.state.ListPlaces.{Renews, Writes, Stays, Shifts, Follows, StandsNew}
-use Rattle.aig_base.specs.state.ReaderSlots.{items_at, tally, Fits, Keeps, Loses}
+use Rattle.aig_base.specs.state.ListPlaces.{short, StandsAt, capacity_at, HasPlace, HasListPlaces, AreKept, Extends}
+use Rattle.aig_base.specs.state.ListPlaces.{RenewsPlace, WritesPlaces, Stays, Shifts, StaysOrShifts, StandsNew}
+use Rattle.aig_base.specs.state.ReaderSlots.{items_at, tally, FitsOneReader, KeepsLists, Loses}
 use Rattle.aig_base.proofs.lists.Gets.{slice_get-set_same, slice_get-set_other}
 use Rattle.aig_base.proofs.fan_outs.ReaderLists.{Contains-of_count, count-of_get, count-cons, empty, here_is, kept_items, list_here}
 use Rattle.aig_base.proofs.fan_outs.ReaderLists.{one_same, other_is}
@@ -61,14 +61,14 @@ same_place w (suc i) (suc j) (x ∷ xs) once at here =
     let is = count-cons w x xs in
     ap suc (same_place w i j xs (omega arith) at here)
 
-has_second : {ps : List Places} {w i j : ℕ} → HasPlaces ps w i j → HasPlace ps w j
+has_second : {ps : List Places} {w i j : ℕ} → HasListPlaces ps w i j → HasPlace ps w j
 has_second h = record {
   kept = h.kept;
   at = h.at;
   is = elim h.are [ inl a ↦ inr a.1 | inr a ↦ inl a.0 ];
 }
 
-flip : {ps : List Places} {w i j : ℕ} → HasPlaces ps w i j → HasPlaces ps w j i
+flip : {ps : List Places} {w i j : ℕ} → HasListPlaces ps w i j → HasListPlaces ps w j i
 flip h = record {
   kept = h.kept;
   at = h.at;
@@ -76,7 +76,7 @@ flip h = record {
 }
 
 -- a place that is renewed
-renewed_one : (w from to : ℕ) (before after : List Places) → Renews w from to before after
+renewed_one : (w from to : ℕ) (before after : List Places) → RenewsPlace w from to before after
     → HasPlace before w from → HasPlace after w to
 renewed_one w from to before after r h = elim (cases_eq h.kept.first from) [
   | inl e ↦ record {
@@ -92,8 +92,8 @@ renewed_one w from to before after r h = elim (cases_eq h.kept.first from) [
 ]
 
 -- and the other place of the gate, even where it is the same number
-renewed_two : (w from to j : ℕ) (before after : List Places) → Renews w from to before after
-    → HasPlaces before w from j → HasPlaces after w to j
+renewed_two : (w from to j : ℕ) (before after : List Places) → RenewsPlace w from to before after
+    → HasListPlaces before w from j → HasListPlaces after w to j
 renewed_two w from to j before after r h = elim (cases_eq h.kept.first from) [
   | inl e ↦ record {
     kept = record { first = to; second = h.kept.second };
@@ -114,7 +114,7 @@ stands_counted slots v i w at = count-of_get w i (items_at slots v) at
 module _ (slots : List (SmallVec ℕ)) (v : ℕ) (new : SmallVec ℕ) (within : v < length slots)
     (before after : List Places) (kept : AreKept slots before) (tidy : AreTidy slots) (u : ℕ)
     (loses : Loses u (items_at slots v) new.items) (same : new.capacity ≡ capacity_at slots v)
-    (follows : Follows (items_at slots v) new.items before after) where
+    (follows : StaysOrShifts (items_at slots v) new.items before after) where
   abbrev now : List (SmallVec ℕ)
   now = set slots v new
 
@@ -202,11 +202,11 @@ module _ (slots : List (SmallVec ℕ)) (v : ℕ) (new : SmallVec ℕ) (within : 
     same_at : (x i : ℕ) → x ≢ w → HasPlace before x i → HasPlace after x i
     same_at x i ne h = record { kept = h.kept; at = s.renews.others x ne ∙ h.at; is = h.is }
 
-    same_both : (x i j : ℕ) → x ≢ w → HasPlaces before x i j → HasPlaces after x i j
+    same_both : (x i j : ℕ) → x ≢ w → HasListPlaces before x i j → HasListPlaces after x i j
     same_both x i j ne h = record { kept = h.kept; at = s.renews.others x ne ∙ h.at; are = h.are }
 
     -- with the place in another list
-    moved_two : (y j : ℕ) → y ≢ v → short ≤ j → StandsAt now y j w → HasPlaces after w to j
+    moved_two : (y j : ℕ) → y ≢ v → short ≤ j → StandsAt now y j w → HasListPlaces after w to j
     moved_two y j ne le h =
         renewed_two w from to j before after s.renews
         (kept.two v y from j w (λ e. ne (sym e)) s.long le s.was (entry_other y j w ne h))
@@ -219,12 +219,12 @@ module _ (slots : List (SmallVec ℕ)) (v : ℕ) (new : SmallVec ℕ) (within : 
     ]
 
     moved_both : (y x i j : ℕ) → y ≢ x → short ≤ i → short ≤ j → StandsAt now y i w → StandsAt now x j w
-        → HasPlaces after w i j
+        → HasListPlaces after w i j
     moved_both y x i j ne li lj h k = elim (cases_eq y v) [
-      | inl e ↦ subst (λ z. HasPlaces after w z j) (sym (moved_here i (subst (λ z. StandsAt now z i w) e h)))
+      | inl e ↦ subst (λ z. HasListPlaces after w z j) (sym (moved_here i (subst (λ z. StandsAt now z i w) e h)))
           (moved_two x j (λ f. ne (e ∙ sym f)) lj k)
       | inr ny ↦ elim (cases_eq x v) [
-        | inl e ↦ subst (λ z. HasPlaces after w i z) (sym (moved_here j (subst (λ z. StandsAt now z j w) e k)))
+        | inl e ↦ subst (λ z. HasListPlaces after w i z) (sym (moved_here j (subst (λ z. StandsAt now z j w) e k)))
             (flip (moved_two y i ny li h))
         | inr nx ↦ elim (tidy.few v y x w (stands_counted slots v from w s.was)
             (stands_counted slots y i w (entry_other y i w ny h))
@@ -242,7 +242,7 @@ module _ (slots : List (SmallVec ℕ)) (v : ℕ) (new : SmallVec ℕ) (within : 
         | inr ne ↦ same_at x i ne (kept.one y i x le (old_entry y i x ne h))
       ];
       two = λ y z i j x apart li lj h k. elim (cases_eq x w) [
-        | inl e ↦ subst (λ t. HasPlaces after t i j) (sym e)
+        | inl e ↦ subst (λ t. HasListPlaces after t i j) (sym e)
             (moved_both y z i j apart li lj (subst (λ t. StandsAt now y i t) e h) (subst (λ t. StandsAt now z j t) e k))
         | inr ne ↦ same_both x i j ne
             (kept.two y z i j x apart li lj (old_entry y i x ne h) (old_entry z j x ne k))
@@ -255,12 +255,12 @@ module _ (slots : List (SmallVec ℕ)) (v : ℕ) (new : SmallVec ℕ) (within : 
 
 pub taken_out : (slots : List (SmallVec ℕ)) (v : ℕ) (new d : SmallVec ℕ) (before after : List Places) (u : ℕ)
     → v < length slots → d ≡ get_or slots v d → AreFanOuts slots before → Loses u d.items new.items
-    → new.capacity ≡ d.capacity → Follows d.items new.items before after → AreFanOuts (set slots v new) after
+    → new.capacity ≡ d.capacity → StaysOrShifts d.items new.items before after → AreFanOuts (set slots v new) after
 taken_out slots v new d before after u within read are loses same follows =
     let is : d ≡ get_or slots v empty = list_here slots v new within d read in
     let l = subst (λ (s : SmallVec ℕ). Loses u s.items new.items) is loses in
     let c = subst (λ (s : SmallVec ℕ). new.capacity ≡ s.capacity) is same in
-    let f = subst (λ (s : SmallVec ℕ). Follows s.items new.items before after) is follows in
+    let f = subst (λ (s : SmallVec ℕ). StaysOrShifts s.items new.items before after) is follows in
     record {
       tidy = tidy_taken slots v new within before after are.kept are.tidy u l c f;
       kept = kept_taken slots v new within before after are.kept are.tidy u l c f;
@@ -274,19 +274,19 @@ kept_here slots places v d within read kept i w le at =
     kept.one v i w le
     (subst (λ (s : SmallVec ℕ). slice_get s.items i ≡ Some w) (list_here slots v d within d read) at)
 
-pub follows_size : (old new : List ℕ) (before after : List Places) → Follows old new before after
+pub follows_size : (old new : List ℕ) (before after : List Places) → StaysOrShifts old new before after
     → length after ≡ length before
 follows_size old new before after f = elim f [ inl s ↦ ap length s.places | inr m ↦ m.3.renews.size ]
 
 -- a gate that comes to the end of a list in which places are kept has a place
 pub place_covered : (slots : List (SmallVec ℕ)) (places : List Places) (v i u : ℕ) → AreKept slots places
-    → Fits slots v → i ≡ length (items_at slots v) → u < length slots → short ≤ i → u < length places
+    → FitsOneReader slots v → i ≡ length (items_at slots v) → u < length slots → short ≤ i → u < length places
 place_covered slots places v i u kept fits is within long =
     let all = kept.covered v (omega arith) in omega arith
 
 -- after a gate that stood nowhere came to the ends of two lists
 pub kept_added : (v x u : ℕ) (p : Places) (old new : List (SmallVec ℕ)) (before after : List Places)
-    → StandsNew v x u p old new → Writes u p before after → ((y : ℕ) → tally old y u ≡ 0) → length new ≡ length old
+    → StandsNew v x u p old new → WritesPlaces u p before after → ((y : ℕ) → tally old y u ≡ 0) → length new ≡ length old
     → AreKept old before → AreKept new after
 kept_added v x u p old new before after s wr absent size kept = record {
   one = λ y i w le h. elim (s.entries y i w h) [
@@ -305,7 +305,7 @@ kept_added v x u p old new before after s wr absent size kept = record {
     ]
     | inr (e, side) ↦ elim (s.entries z j w k) [
       | inl were ↦ absurd (other z j w were e)
-      | inr (f, sides) ↦ subst (λ t. HasPlaces after t i j) (sym e) (both y z i j ne li lj side sides)
+      | inr (f, sides) ↦ subst (λ t. HasListPlaces after t i j) (sym e) (both y z i j ne li lj side sides)
     ]
   ];
   covered = λ y lt. (let e = s.capacities y in let c = kept.covered y (omega arith) in let l = wr.size in omega arith);
@@ -319,7 +319,7 @@ kept_added v x u p old new before after s wr absent size kept = record {
         omega arith
 
     both : (y z i j : ℕ) → y ≢ z → short ≤ i → short ≤ j → ((y ≡ v) × (i ≡ p.first)) ⊎ ((y ≡ x) × (i ≡ p.second))
-        → ((z ≡ v) × (j ≡ p.first)) ⊎ ((z ≡ x) × (j ≡ p.second)) → HasPlaces after u i j
+        → ((z ≡ v) × (j ≡ p.first)) ⊎ ((z ≡ x) × (j ≡ p.second)) → HasListPlaces after u i j
     both y z i j ne li lj a b = elim a [
       | inl (f, g) ↦ elim b [
         | inl (h, k) ↦ absurd (ne (f ∙ sym h))
@@ -332,7 +332,7 @@ kept_added v x u p old new before after s wr absent size kept = record {
     ]
 
 -- where no list changes and nothing is lost of the table
-pub kept_extended : (old new : List (SmallVec ℕ)) (before after : List Places) → Keeps old new → Extends before after
+pub kept_extended : (old new : List (SmallVec ℕ)) (before after : List Places) → KeepsLists old new → Extends before after
     → ((v : ℕ) → short < capacity_at new v → length new ≤ length after) → AreKept old before → AreKept new after
 kept_extended old new before after k e covered kept = record {
   one = λ v i w le h. (let p = kept.one v i w le (was v i w h) in
@@ -357,7 +357,7 @@ kept_more slots before after e kept = record {
 
 -- where a list got room, and there are places if it may be long
 pub kept_roomy : (slots : List (SmallVec ℕ)) (v : ℕ) (new d : SmallVec ℕ) (before after : List Places)
-    → v < length slots → d ≡ get_or slots v d → Keeps slots (set slots v new) → Extends before after
+    → v < length slots → d ≡ get_or slots v d → KeepsLists slots (set slots v new) → Extends before after
     → new.capacity ≤ max d.capacity (2 * length d.items) → (short < 2 * length d.items → length slots ≤ length after)
     → AreKept slots before → AreKept (set slots v new) after
 kept_roomy slots v new d before after within read k e doubled covers kept =
@@ -464,9 +464,9 @@ moved_within xs places i d has within size long lt =
 pub follows_removed : (xs : List ℕ) (before after : List Places) (i d : ℕ) → i < length xs
     → length (swap_remove xs i d) + 1 ≡ length xs
     → (short ≤ i → i < length (swap_remove xs i d)
-    → Renews (get_or (swap_remove xs i d) i 0) (length (swap_remove xs i d)) i before after)
+    → RenewsPlace (get_or (swap_remove xs i d) i 0) (length (swap_remove xs i d)) i before after)
     → (i < short → after ≡ before) → (length (swap_remove xs i d) ≤ i → after ≡ before)
-    → Follows xs (swap_remove xs i d) before after
+    → StaysOrShifts xs (swap_remove xs i d) before after
 follows_removed xs before after i d within size moved first last = elim (cases_lt i short) [
   | inl lt ↦ inl (record {
     list = λ j w le h. removed_other xs i j d w (λ e. absurd (omega arith)) h;

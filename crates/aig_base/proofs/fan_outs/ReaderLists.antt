@@ -20,9 +20,9 @@ use Rattle.aig_base.proofs.circuits.Gates.{same_gate}
 use Rattle.aig_base.proofs.circuits.Places.{gate}
 use Rattle.aig_base.proofs.circuits.Roles.{one_place}
 use Rattle.aig_base.proofs.checks.Walks.{gate_new, gate_old, kept, rewired_other, rewired_same}
-use Rattle.aig_base.specs.Readers.{AreReaders, ReaderLists, Reads, reader_lists, list_of, HasRoom}
-use Rattle.aig_base.specs.state.ReaderSlots.{items_at, tally, Fits, Loses, TakesOut}
-use Rattle.aig_base.specs.state.ReaderSlots.{Adds, AddsBoth, Moves, Keeps, AreTallied, ReadsBefore}
+use Rattle.aig_base.specs.Readers.{AreReaders, ReaderLists, ReadsVariable, reader_lists, list_of, HasReaderRoom}
+use Rattle.aig_base.specs.state.ReaderSlots.{items_at, tally, FitsOneReader, Loses, TakesOut}
+use Rattle.aig_base.specs.state.ReaderSlots.{AddsReader, AddsBoth, MovesReader, KeepsLists, AreTallied, ReadsBefore}
 
 abbrev one : ℕ → ℕ → ℕ
 one w x = cond (nat_eq w x) 1 0
@@ -105,12 +105,12 @@ module _ (slots : List (SmallVec ℕ)) (v : ℕ) (new : SmallVec ℕ) (within : 
   tally_other : (x w : ℕ) → x ≢ v → tally (set slots v new) x w ≡ tally slots x w
   tally_other x w ne = ap (count_in w) (other_is x ne)
 
-  fits_other : (x : ℕ) → x ≢ v → Fits slots x → Fits (set slots v new) x
+  fits_other : (x : ℕ) → x ≢ v → FitsOneReader slots x → FitsOneReader (set slots v new) x
   fits_other x ne h = subst (λ (s : SmallVec ℕ). HasRoomFor s 1) (sym (other_is x ne)) h
 
   fits_here : (old : SmallVec ℕ) → get_or slots v empty ≡ old → length new.items ≤ length old.items
       → old.capacity ≤ new.capacity
-      → (x : ℕ) → Fits slots x → Fits (set slots v new) x
+      → (x : ℕ) → FitsOneReader slots x → FitsOneReader (set slots v new) x
   fits_here old is shorter more x h = elim (cases_eq x v) [
     | inl e ↦
         (let f : get_or slots x empty ≡ old = ap (λ y. get_or slots y empty) e ∙ is in
@@ -144,14 +144,14 @@ module _ (slots : List (SmallVec ℕ)) (v : ℕ) (new : SmallVec ℕ) (within : 
   takes_out u d read once loses same = taken u d (sym (list_here d read)) once loses same
 
   keeps_old : (old : SmallVec ℕ) → get_or slots v empty ≡ old → new.items ≡ old.items → old.capacity ≤ new.capacity
-      → Keeps slots (set slots v new)
+      → KeepsLists slots (set slots v new)
   keeps_old old is items more = record {
     lists = map-at slots v new within (items ∙ ap (λ (s : SmallVec ℕ). s.items) (sym is));
     room = fits_here old is (let e = ap length items in omega arith) more;
   }
 
   pub keeps : (d : SmallVec ℕ) → d ≡ get_or slots v d → new.items ≡ d.items → d.capacity ≤ new.capacity
-      → Keeps slots (set slots v new)
+      → KeepsLists slots (set slots v new)
   keeps d read items more = keeps_old d (sym (list_here d read)) items more
 
 pub list_is : (slots : List (SmallVec ℕ)) (v : ℕ) → list_of (reader_lists slots) v ≡ items_at slots v
@@ -160,14 +160,14 @@ list_is (s ∷ ss) zero = refl
 list_is (s ∷ ss) (suc v) = list_is ss v
 
 -- no list changes
-pub kept_items : (old new : List (SmallVec ℕ)) → Keeps old new → (v : ℕ) → items_at new v ≡ items_at old v
+pub kept_items : (old new : List (SmallVec ℕ)) → KeepsLists old new → (v : ℕ) → items_at new v ≡ items_at old v
 kept_items old new k v =
     sym (list_is new v) ∙ ap (λ (xs : List (List ℕ)). get_or xs v []) k.lists ∙ list_is old v
 
-pub kept_size : (old new : List (SmallVec ℕ)) → Keeps old new → length new ≡ length old
+pub kept_size : (old new : List (SmallVec ℕ)) → KeepsLists old new → length new ≡ length old
 kept_size old new k = sym (length-map new (λ s. s.items)) ∙ ap length k.lists ∙ length-map old (λ s. s.items)
 
-pub fits_within : (slots : List (SmallVec ℕ)) (v : ℕ) → Fits slots v → v < length slots
+pub fits_within : (slots : List (SmallVec ℕ)) (v : ℕ) → FitsOneReader slots v → v < length slots
 fits_within [] v h = absurd (omega arith)
 fits_within (s ∷ ss) zero h = omega arith
 fits_within (s ∷ ss) (suc v) h = let lt = fits_within ss v h in omega arith
@@ -178,12 +178,12 @@ lt_test a b h = grind (arith, nat_tests)
 lt_tested : (a b : ℕ) → nat_lt a b ≡ true → a + 1 ≤ b
 lt_tested a b h = grind (arith, nat_tests)
 
-pub room_of_fits : (slots : List (SmallVec ℕ)) (v : ℕ) → Fits slots v → HasRoom (reader_lists slots) v
+pub room_of_fits : (slots : List (SmallVec ℕ)) (v : ℕ) → FitsOneReader slots v → HasReaderRoom (reader_lists slots) v
 room_of_fits [] v h = absurd (omega arith)
 room_of_fits (s ∷ ss) zero h = ap Some (lt_test (length s.items) s.capacity h)
 room_of_fits (s ∷ ss) (suc v) h = room_of_fits ss v h
 
-pub fits_of_room : (slots : List (SmallVec ℕ)) (v : ℕ) → HasRoom (reader_lists slots) v → Fits slots v
+pub fits_of_room : (slots : List (SmallVec ℕ)) (v : ℕ) → HasReaderRoom (reader_lists slots) v → FitsOneReader slots v
 fits_of_room [] v h = absurd (none-some true h)
 fits_of_room (s ∷ ss) zero h = lt_tested (length s.items) s.capacity (same_Some _ true h)
 fits_of_room (s ∷ ss) (suc v) h = fits_of_room ss v h
@@ -195,7 +195,7 @@ tally_within (s ∷ ss) (suc v) w h = let lt = tally_within ss v w h in omega ar
 
 -- the lists with a count of what stands in them
 pub tallied : (raw : Raw) (slots : List (SmallVec ℕ)) → AreReaders raw (reader_lists slots)
-    → AreTallied (raw.max_var + 1) (Reads raw) slots
+    → AreTallied (raw.max_var + 1) (ReadsVariable raw) slots
 tallied raw slots r = record {
   size = size;
   once = λ v w. subst (λ xs. count_by (nat_eq w) xs ≤ 1) (list_is slots v) (r.once v w);
@@ -211,7 +211,7 @@ tallied raw slots r = record {
     size : length slots ≡ raw.max_var + 1
     size = sym (length-map slots (λ s. s.items)) ∙ r.size
 
-pub readers_of : (raw : Raw) (slots : List (SmallVec ℕ)) → AreTallied (raw.max_var + 1) (Reads raw) slots
+pub readers_of : (raw : Raw) (slots : List (SmallVec ℕ)) → AreTallied (raw.max_var + 1) (ReadsVariable raw) slots
     → AreReaders raw (reader_lists slots)
 readers_of raw slots t = record {
   size = length-map slots (λ s. s.items) ∙ t.size;
@@ -224,7 +224,7 @@ readers_of raw slots t = record {
 }
 
 -- one more in two lists, where the first call took place and the second only if the lists are two
-pub adds_two : (v x u : ℕ) (old mid new : List (SmallVec ℕ)) → x ≢ v → Adds v u old mid → Adds x u mid new
+pub adds_two : (v x u : ℕ) (old mid new : List (SmallVec ℕ)) → x ≢ v → AddsReader v u old mid → AddsReader x u mid new
     → AddsBoth v x u old new
 adds_two v x u old mid new ne a b = record {
   size = b.size ∙ a.size;
@@ -236,7 +236,7 @@ adds_two v x u old mid new ne a b = record {
   others = λ y w apart. b.others y w (inr apart) ∙ a.others y w (inr apart);
 }
 
-pub adds_once : (v x u : ℕ) (old new : List (SmallVec ℕ)) → x ≡ v → Adds v u old new → AddsBoth v x u old new
+pub adds_once : (v x u : ℕ) (old new : List (SmallVec ℕ)) → x ≡ v → AddsReader v u old new → AddsBoth v x u old new
 adds_once v x u old new e a = record {
   size = a.size;
   here = λ y h. elim h [
@@ -249,7 +249,7 @@ adds_once v x u old new e a = record {
 
 -- a gate stands in the lists of its sides alone
 pub unread : (raw : Raw) → IsSound raw → (q : ℕ) (g : Gate) → slice_get raw.gates q ≡ Some g
-    → (old : List (SmallVec ℕ)) → AreTallied (raw.max_var + 1) (Reads raw) old
+    → (old : List (SmallVec ℕ)) → AreTallied (raw.max_var + 1) (ReadsVariable raw) old
     → (v : ℕ) → v ≢ variable g.rhs0 → v ≢ variable g.rhs1 → tally old v (variable g.lhs) ≡ 0
 unread raw sound q g at old t v n0 n1 = elim (cases_eq (tally old v (variable g.lhs)) 0) [
   | inl e ↦ e
@@ -278,8 +278,8 @@ gone_after slots mid new a b u out0 out1 elsewhere v = elim (cases_eq v b) [
 -- after a gate was moved the lists are those of the circuit with its new sides
 module _ (raw : Raw) (sound : IsSound raw) (lhs r0 r1 : ℕ) (is_gate : IsLeftSide raw lhs) (q : ℕ) (g : Gate)
     (at : slice_get raw.gates q ≡ Some g) (is : g.lhs ≡ lhs) (old new : List (SmallVec ℕ))
-    (t : AreTallied (raw.max_var + 1) (Reads raw) old)
-    (m : Moves (variable g.rhs0) (variable g.rhs1) (variable r0) (variable r1) (variable g.lhs) old new) where
+    (t : AreTallied (raw.max_var + 1) (ReadsVariable raw) old)
+    (m : MovesReader (variable g.rhs0) (variable g.rhs1) (variable r0) (variable r1) (variable g.lhs) old new) where
   abbrev u : ℕ
   u = variable g.lhs
 
@@ -317,7 +317,7 @@ module _ (raw : Raw) (sound : IsSound raw) (lhs r0 r1 : ℕ) (is_gate : IsLeftSi
     ]
   ]
 
-  only_new : (v w : ℕ) → 1 ≤ tally new v w → Reads (with_gate raw lhs r0 r1) w v
+  only_new : (v w : ℕ) → 1 ≤ tally new v w → ReadsVariable (with_gate raw lhs r0 r1) w v
   only_new v w h = elim (cases_eq w u) [
     | inl e ↦ (
       q,
@@ -333,7 +333,7 @@ module _ (raw : Raw) (sound : IsSound raw) (lhs r0 r1 : ℕ) (is_gate : IsLeftSi
         (k, x, kept raw sound lhs r0 r1 is_gate k x here (λ e. same_variable w ne (sym left ∙ e)), left, side))
   ]
 
-  all_new : (v w : ℕ) → v < raw.max_var + 1 → Reads (with_gate raw lhs r0 r1) w v → 1 ≤ tally new v w
+  all_new : (v w : ℕ) → v < raw.max_var + 1 → ReadsVariable (with_gate raw lhs r0 r1) w v → 1 ≤ tally new v w
   all_new v w lt (k, x, here, left, side) =
       let (h, there, same) = gate_old raw sound lhs r0 r1 is_gate k x here in
       let hl : variable h.lhs ≡ w = ap (λ (y : Gate). variable y.lhs) same ∙ left in
@@ -351,13 +351,13 @@ module _ (raw : Raw) (sound : IsSound raw) (lhs r0 r1 : ℕ) (is_gate : IsLeftSi
         | inr ne ↦
             (let f : h ≡ x = sym (rewired_other lhs r0 r1 h (λ e. same_variable w ne (sym hl ∙ ap variable e)))
             ∙ same in
-            let reads : Reads raw w v = (k, x, subst (λ y. slice_get raw.gates k ≡ Some y) f there, left, side) in
+            let reads : ReadsVariable raw w v = (k, x, subst (λ y. slice_get raw.gates k ≡ Some y) f there, left, side) in
             let was = t.all v w lt reads in
             let same_tally = tally_kept v w ne in
             omega arith)
       ]
 
-  pub moved : AreTallied (raw.max_var + 1) (Reads (with_gate raw lhs r0 r1)) new
+  pub moved : AreTallied (raw.max_var + 1) (ReadsVariable (with_gate raw lhs r0 r1)) new
   moved = record {
     size = m.both.size ∙ m.out1.size ∙ m.out0.size ∙ t.size;
     once = λ v w. elim (cases_eq w u) [
@@ -410,7 +410,7 @@ tallied_none raw slots size none_yet = record {
 }
 
 pub tallied_all : (raw : Raw) (n : ℕ) (slots : List (SmallVec ℕ)) → length raw.gates ≤ n
-    → AreTallied (raw.max_var + 1) (ReadsBefore raw n) slots → AreTallied (raw.max_var + 1) (Reads raw) slots
+    → AreTallied (raw.max_var + 1) (ReadsBefore raw n) slots → AreTallied (raw.max_var + 1) (ReadsVariable raw) slots
 tallied_all raw n slots past t = record {
   size = t.size;
   once = t.once;
@@ -434,7 +434,7 @@ unlisted raw sound i g at old t v = elim (cases_eq (tally old v (variable g.lhs)
 
 -- one gate more
 module _ (raw : Raw) (sound : IsSound raw) (i : ℕ) (g : Gate) (at : slice_get raw.gates i ≡ Some g)
-    (old mid new : List (SmallVec ℕ)) (t : AreTallied (raw.max_var + 1) (ReadsBefore raw i) old) (k : Keeps old mid)
+    (old mid new : List (SmallVec ℕ)) (t : AreTallied (raw.max_var + 1) (ReadsBefore raw i) old) (k : KeepsLists old mid)
     (b : AddsBoth (variable g.rhs0) (variable g.rhs1) (variable g.lhs) mid new) where
   same_tally : (v w : ℕ) → tally mid v w ≡ tally old v w
   same_tally v w = ap (λ xs. count_by (nat_eq w) xs) (kept_items old mid k v)
@@ -515,14 +515,14 @@ pub gate_at : (raw : Raw) (gates : List Gate) (i : ℕ) (g : Gate) → gates ≡
 gate_at raw gates i g same lt at = subst (λ gs. slice_get gs i ≡ Some g) same (slice_get_read gates
     (length gates) i g refl lt at)
 
-pub room_kept : (old new : List (SmallVec ℕ)) (r : ReaderLists) → reader_lists old ≡ r → Keeps old new
-    → (v : ℕ) → HasRoom r v → HasRoom (reader_lists new) v
+pub room_kept : (old new : List (SmallVec ℕ)) (r : ReaderLists) → reader_lists old ≡ r → KeepsLists old new
+    → (v : ℕ) → HasReaderRoom r v → HasReaderRoom (reader_lists new) v
 room_kept old new r is k v h =
-    room_of_fits new v (k.room v (fits_of_room old v (subst (λ x. HasRoom x v) (sym is) h)))
+    room_of_fits new v (k.room v (fits_of_room old v (subst (λ x. HasReaderRoom x v) (sym is) h)))
 
-pub fits_now : (slots : List (SmallVec ℕ)) (r : ReaderLists) → reader_lists slots ≡ r → (v : ℕ) → HasRoom r v
-    → Fits slots v
-fits_now slots r is v h = fits_of_room slots v (subst (λ x. HasRoom x v) (sym is) h)
+pub fits_now : (slots : List (SmallVec ℕ)) (r : ReaderLists) → reader_lists slots ≡ r → (v : ℕ) → HasReaderRoom r v
+    → FitsOneReader slots v
+fits_now slots r is v h = fits_of_room slots v (subst (λ x. HasReaderRoom x v) (sym is) h)
 
 pub slots_long : (slots : List (SmallVec ℕ)) (r : ReaderLists) → reader_lists slots ≡ r
     → length slots ≡ length r.lists
@@ -540,7 +540,7 @@ push_same [] s e (suc v) w = refl
 push_same (t ∷ ts) s e zero w = refl
 push_same (t ∷ ts) s e (suc v) w = push_same ts s e v w
 
-pub fits_pushed : (slots : List (SmallVec ℕ)) (s : SmallVec ℕ) (v : ℕ) → Fits slots v → Fits (slots ++ s ∷ []) v
+pub fits_pushed : (slots : List (SmallVec ℕ)) (s : SmallVec ℕ) (v : ℕ) → FitsOneReader slots v → FitsOneReader (slots ++ s ∷ []) v
 fits_pushed [] s v h = absurd (omega arith)
 fits_pushed (t ∷ ts) s zero h = h
 fits_pushed (t ∷ ts) s (suc v) h = fits_pushed ts s v h

@@ -10,8 +10,8 @@ use Rattle.aig_parts.specs.Formed.{limit}
 use Rattle.aig_base.specs.declared.list_places.Places.{Places}
 use Rattle.aig_base.specs.Sound.{StandsTwice}
 use Rattle.aig_base.specs.state.FanOuts.{AreFanOuts, AreTidy, fitting_lists}
-use Rattle.aig_base.specs.state.ListPlaces.{AreKept, StandsNew, Writes, capacity_at, short}
-use Rattle.aig_base.specs.state.ReaderSlots.{AddsBoth, Keeps, items_at, tally}
+use Rattle.aig_base.specs.state.ListPlaces.{AreKept, StandsNew, WritesPlaces, capacity_at, short}
+use Rattle.aig_base.specs.state.ReaderSlots.{AddsBoth, KeepsLists, items_at, tally}
 use Rattle.aig_base.proofs.lists.Counting.{length_le}
 use Rattle.aig_base.proofs.fan_outs.ListPlaceLemmas.{capacity_within, items_pushed, kept_added, kept_pushed}
 use Rattle.aig_base.proofs.fan_outs.ListPlaceLemmas.{same_place, tidy_same}
@@ -120,7 +120,7 @@ module _ (a b u : ℕ) (old new : List (SmallVec ℕ)) (adds : AddsBoth a b u ol
   }
 
 pub added : (a b u : ℕ) (p : Places) (old new : List (SmallVec ℕ)) (before after : List Places)
-    → AddsBoth a b u old new → StandsNew a b u p old new → Writes u p before after → u < length old
+    → AddsBoth a b u old new → StandsNew a b u p old new → WritesPlaces u p before after → u < length old
     → ((v : ℕ) → tally old v u ≡ 0) → AreFanOuts old before → AreFanOuts new after
 added a b u p old new before after adds stands writes gate absent are = record {
   tidy = tidy_added a b u old new adds gate absent are.tidy;
@@ -165,7 +165,7 @@ pushed slots s places capacity empty_yet small fits few are = record {
 }
 
 -- where no list changes and nothing is lost of the table
-pub roomy : (old new : List (SmallVec ℕ)) (places : List Places) → Keeps old new → AreTidy old → AreKept new places
+pub roomy : (old new : List (SmallVec ℕ)) (places : List Places) → KeepsLists old new → AreTidy old → AreKept new places
     → AreFanOuts new places
 roomy old new places k tidy kept = record {
   tidy = (let size = kept_size old new k in let few = tidy.size in

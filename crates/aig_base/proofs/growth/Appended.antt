@@ -14,7 +14,7 @@ use Rattle.aig_parts.specs.declared.symbols.Kind.TheVariants as kind
 use Rattle.aig_base.specs.Changes.{next_gate, with_appended_gate}
 use Rattle.aig_base.specs.Circuit.{IsCircuit}
 use Rattle.aig_base.specs.Definition.{IsInOrder}
-use Rattle.aig_base.specs.state.Definitions.{IsEntry, IsTable}
+use Rattle.aig_base.specs.state.Definitions.{IsDefinitionEntry, IsDefinitionTable}
 use Rattle.aig_parts.specs.Formed.{IsFormed, limit, section_length}
 use Rattle.aig_base.specs.Grounded as grounded
 use Rattle.aig_base.specs.Grounded.{IsSource, Grounded, IsAcyclic}
@@ -202,20 +202,20 @@ module _ (raw : Raw) (r0 r1 : ℕ) where
             c.acyclic d0 d1;
       }
 
-  pub more_table : (table : List (Option Definition)) → IsTable raw table
-      → IsTable (with_appended_gate raw r0 r1) (table ++ Some (definition.Gate (length raw.gates)) ∷ [])
+  pub more_table : (table : List (Option Definition)) → IsDefinitionTable raw table
+      → IsDefinitionTable (with_appended_gate raw r0 r1) (table ++ Some (definition.Gate (length raw.gates)) ∷ [])
   more_table table t = record {
     size = omega (arith, length_push table (Some (definition.Gate (length raw.gates))), t.size);
     entries = λ v entry at. elim (slice_get_push table (Some (definition.Gate (length raw.gates))) entry v at) [
       | inl here ↦ old v entry (let lt = slice_get_within table v entry here in omega (arith, t.size))
           (t.entries v entry here)
-      | inr e ↦ subst (IsEntry (with_appended_gate raw r0 r1) v) e.1
+      | inr e ↦ subst (IsDefinitionEntry (with_appended_gate raw r0 r1) v) e.1
           (next_gate raw r0 r1, new_at, (let is = new_variable in let size = t.size in let at = e.0 in omega arith))
     ];
   }
     where
-      old : (v : ℕ) (entry : Option Definition) → v ≤ raw.max_var → IsEntry raw v entry
-          → IsEntry (with_appended_gate raw r0 r1) v entry
+      old : (v : ℕ) (entry : Option Definition) → v ≤ raw.max_var → IsDefinitionEntry raw v entry
+          → IsDefinitionEntry (with_appended_gate raw r0 r1) v entry
       old v None le free = λ has.
           elim (Contains-push_cases (map variable (definitions raw)) (variable (2 * (raw.max_var + 1))) v
           (subst (λ vs. Contains vs v) more_variables has)) [

@@ -8,29 +8,29 @@ use Rattle.aig_parts.specs.declared.raw.Raw.{Raw}
 use Rattle.aig_base.specs.Changes.{next_gate, with_appended_gate}
 use Rattle.aig_base.specs.Circuit.{IsCircuit}
 use Rattle.aig_parts.specs.Literal.{variable}
-use Rattle.aig_base.specs.Readers.{AreReaders, Reads, reader_lists}
-use Rattle.aig_base.specs.state.ReaderSlots.{Appends, AreTallied, Fits, Keeps, ReadsBefore, tally}
+use Rattle.aig_base.specs.Readers.{AreReaders, ReadsVariable, reader_lists}
+use Rattle.aig_base.specs.state.ReaderSlots.{Appends, AreTallied, FitsOneReader, KeepsLists, ReadsBefore, tally}
 use Rattle.aig_base.specs.Sections.{IsDefined}
 use Rattle.aig_base.proofs.growth.Appended.{gate_cases, more_sound, new_at, old_at}
 use Rattle.aig_base.proofs.circuits.Gates.{sides_in_range}
 use Rattle.aig_base.proofs.fan_outs.ReaderLists.{push_same, readers_of, tallied, tallied_all, tallied_more}
 
 -- lists that did not change are readers still
-pub readers_kept : (raw : Raw) (old new : List (SmallVec ℕ)) → Keeps old new → AreReaders raw (reader_lists old)
+pub readers_kept : (raw : Raw) (old new : List (SmallVec ℕ)) → KeepsLists old new → AreReaders raw (reader_lists old)
     → AreReaders raw (reader_lists new)
 readers_kept raw old new k r = record {
   size = ap length k.lists ∙ r.size;
-  each = λ v w le. subst (λ (xs : List (List ℕ)). Contains (get_or xs v []) w ↔ Reads raw w v) (sym k.lists)
+  each = λ v w le. subst (λ (xs : List (List ℕ)). Contains (get_or xs v []) w ↔ ReadsVariable raw w v) (sym k.lists)
       (r.each v w le);
   once = λ v w. subst (λ (xs : List (List ℕ)). count_by (nat_eq w) (get_or xs v []) ≤ 1) (sym k.lists) (r.once v w);
 }
 
 module _ (raw : Raw) (r0 r1 : ℕ) (c : IsCircuit raw) (d0 : IsDefined raw (variable r0)) (d1 : IsDefined raw
     (variable r1)) where
-  still_reads : (v w : ℕ) → Reads raw w v → ReadsBefore (with_appended_gate raw r0 r1) (length raw.gates) w v
+  still_reads : (v w : ℕ) → ReadsVariable raw w v → ReadsBefore (with_appended_gate raw r0 r1) (length raw.gates) w v
   still_reads v w (q, g, at, is, side) = (q, g, slice_get_within raw.gates q g at, old_at raw r0 r1 q g at, is, side)
 
-  read_before : (v w : ℕ) → ReadsBefore (with_appended_gate raw r0 r1) (length raw.gates) w v → Reads raw w v
+  read_before : (v w : ℕ) → ReadsBefore (with_appended_gate raw r0 r1) (length raw.gates) w v → ReadsVariable raw w v
       × (v ≤ raw.max_var)
   read_before v w (q, g, below, at, is, side) = elim (gate_cases raw r0 r1 q g at) [
     | inl here ↦
@@ -40,7 +40,7 @@ module _ (raw : Raw) (r0 r1 : ℕ) (c : IsCircuit raw) (d0 : IsDefined raw (vari
   ]
 
   tallied_pushed : (slots : List (SmallVec ℕ)) (s : SmallVec ℕ) → s.items ≡ [] → AreTallied (raw.max_var + 1)
-      (Reads raw) slots
+      (ReadsVariable raw) slots
       → AreTallied (raw.max_var + 1 + 1) (ReadsBefore (with_appended_gate raw r0 r1) (length raw.gates)) (slots
       ++ s ∷ [])
   tallied_pushed slots s e t = record {

@@ -10,8 +10,8 @@ use Rattle.aig_parts.specs.declared.symbols.Kind.{Kind}
 use Rattle.aig_parts.specs.declared.symbols.Kind.TheVariants as kind
 use Rattle.aig_base.specs.Changes.{with_output}
 use Rattle.aig_base.specs.Circuit.{IsCircuit}
-use Rattle.aig_base.specs.state.Definitions.{IsEntry, IsTable}
-use Rattle.aig_base.specs.state.Definitions.{Tells}
+use Rattle.aig_base.specs.state.Definitions.{IsDefinitionEntry, IsDefinitionTable}
+use Rattle.aig_base.specs.state.Definitions.{AreDefinitionsOf}
 use Rattle.aig_parts.specs.Formed.{IsFormed, section_length}
 use Rattle.aig_base.specs.Grounded as grounded
 use Rattle.aig_base.specs.Grounded.{IsSource, Grounded}
@@ -90,16 +90,16 @@ module _ (raw : Raw) (position lit : ℕ) where
             (c.acyclic v is);
       }
 
-  pub with_output-table : (table : List (Option Definition)) → IsTable raw table → IsTable
+  pub with_output-table : (table : List (Option Definition)) → IsDefinitionTable raw table → IsDefinitionTable
       (with_output raw position lit) table
   with_output-table table t = record { size = t.size; entries = λ v entry at. of v entry (t.entries v entry at) }
     where
-      of : (v : ℕ) (entry : Option Definition) → IsEntry raw v entry → IsEntry (with_output raw position lit) v entry
+      of : (v : ℕ) (entry : Option Definition) → IsDefinitionEntry raw v entry → IsDefinitionEntry (with_output raw position lit) v entry
       of v None free = free
       of v (Some (definition.Input p)) h = h
       of v (Some (definition.Latch p)) h = h
       of v (Some (definition.Gate q)) h = h
 
-  pub with_output-tells : (d : Definitions) → Tells raw d → Tells (with_output raw position lit) d
-  with_output-tells kept.InOrder h = h
-  with_output-tells (kept.Listed table) h = with_output-table table.items h
+  pub with_output-describes : (d : Definitions) → AreDefinitionsOf raw d → AreDefinitionsOf (with_output raw position lit) d
+  with_output-describes kept.InOrder h = h
+  with_output-describes (kept.Listed table) h = with_output-table table.items h

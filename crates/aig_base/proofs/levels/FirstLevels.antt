@@ -12,7 +12,7 @@ use Rattle.aig_base.specs.Levels.{AreLevels}
 use Rattle.aig_base.specs.Sections.{IsGate}
 use Rattle.aig_base.specs.Sound.{IsSound}
 use Rattle.aig_base.specs.state.Descent.{level_above, AreFirstLevels}
-use Rattle.aig_base.specs.state.Least.{ReadsSmaller}
+use Rattle.aig_base.specs.state.LeastFaulty.{ReadsSmaller}
 use Rattle.aig_base.proofs.circuits.Gates.{IsGate-of_gate, same_gate, source-gate, level_in_range}
 
 module _ (raw : Raw) where

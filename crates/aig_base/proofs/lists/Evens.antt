@@ -9,7 +9,7 @@ use Rattle.std.specs.List.{range_with_len}
 use Rattle.aig_parts.specs.declared.raw.Raw.{Raw}
 use Rattle.aig_base.specs.Sections.{definitions}
 use Rattle.aig_base.specs.Renumbered.{evens, evens_from}
-use Rattle.aig_base.specs.state.Ready.{SectionsInOrder}
+use Rattle.aig_base.specs.state.BinaryReady.{SectionsInOrder}
 use Rattle.aig_base.specs.Sound.{IsDefinition}
 
 pub length-evens_from : (v n : ℕ) → length (evens_from v n) ≡ n

@@ -5,7 +5,7 @@ use Rattle.std.specs.List.{flat_map}
 use Rattle.std.proofs.lemmas.List.{take_more, map_more, append-nil}
 use Rattle.std.proofs.lemmas.List.Elements.{All-append, All-nil, All-cons}
 use Rattle.std.proofs.lemmas.List.Concat.{flat_map-append}
-use Rattle.aig_base.specs.state.Least.{HasBad, IsLeastAmong, lesser}
+use Rattle.aig_base.specs.state.LeastFaulty.{HasBad, IsLeastAmong, lesser}
 use Rattle.aig_base.proofs.lists.Gets.{slice_get_left, slice_get_right}
 
 at_most_or_over : (v w : ℕ) → (v ≤ w) ⊎ (w < v)

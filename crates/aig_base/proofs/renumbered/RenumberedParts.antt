@@ -16,7 +16,7 @@ use Rattle.aig_parts.specs.Literal.{variable, with_sign}
 use Rattle.aig_base.specs.Order.{IsCanonicalOrder}
 use Rattle.aig_base.specs.Renumbered.{gate_of, ordered_gates, renumbered, renumbered_gate, renumbered_latch}
 use Rattle.aig_base.specs.Renumbered.{renumbered_literal, renumbered_variable, role_variable}
-use Rattle.aig_base.specs.RenumberingTable.{IsRenumbering, IsListed, IsLatchListed, IsGateListed, AreListed, literal_by}
+use Rattle.aig_base.specs.RenumberingTable.{IsRenumbering, IsInTable, IsLatchListed, IsGateListed, HasAllEntries, literal_by}
 use Rattle.aig_base.specs.RenumberingTable.{latch_by, gate_by, renumbered_by}
 use Rattle.aig_base.specs.Role.{place_of, input_role, gate_role, latch_role}
 use Rattle.aig_base.specs.Sections.{definitions, uses}
@@ -133,16 +133,16 @@ module _ (raw : Raw) (sound : IsSound raw) (order : List ℕ) (canonical : IsCan
       lengths kind.Fairness = length-map raw.fairness (renumbered_literal raw order)
 
 -- by the table or by the roles
-literal_same : (raw : Raw) (order table : List ℕ) → IsRenumbering raw order table → (l : ℕ) → IsListed table l
+literal_same : (raw : Raw) (order table : List ℕ) → IsRenumbering raw order table → (l : ℕ) → IsInTable table l
     → literal_by table l ≡ renumbered_literal raw order l
 unfolding literal_by renumbered_literal
 literal_same raw order table so l lt = ap (λ v. with_sign l (2 * v)) (so.each (variable l) lt)
 
 module _ (raw : Raw) (order table : List ℕ) (so : IsRenumbering raw order table) where
-  literals_same : (ls : List ℕ) → All (IsListed table) ls
+  literals_same : (ls : List ℕ) → All (IsInTable table) ls
       → map (literal_by table) ls ≡ map (renumbered_literal raw order) ls
   literals_same ls h = map_same (literal_by table) (renumbered_literal raw order) ls
-      (All-weaker (IsListed table) (λ l. literal_by table l ≡ renumbered_literal raw order l)
+      (All-weaker (IsInTable table) (λ l. literal_by table l ≡ renumbered_literal raw order l)
       (literal_same raw order table so) ls h)
 
   latch_same : (x : Latch) → IsLatchListed table x → latch_by table x ≡ renumbered_latch raw order x
@@ -172,7 +172,7 @@ module _ (raw : Raw) (order table : List ℕ) (so : IsRenumbering raw order tabl
           rw e (All-cons (IsGateListed table) g (ordered_gates raw vs) here later)
 
   -- the renumbered parts by the table
-  pub renumbered_same : AreListed raw table → renumbered_by raw order table ≡ renumbered raw order
+  pub renumbered_same : HasAllEntries raw table → renumbered_by raw order table ≡ renumbered raw order
   renumbered_same h =
       let inputs = literals_same raw.inputs h.inputs in
       let latches : map (latch_by table) raw.latches ≡ map (renumbered_latch raw order) raw.latches =
@@ -184,7 +184,7 @@ module _ (raw : Raw) (order table : List ℕ) (so : IsRenumbering raw order tabl
       let constraints = literals_same raw.constraints h.constraints in
       let justice : map (map (literal_by table)) raw.justice ≡ map (map (renumbered_literal raw order)) raw.justice =
       map_same (map (literal_by table)) (map (renumbered_literal raw order)) raw.justice
-      (All-weaker (All (IsListed table)) (λ p. map (literal_by table) p ≡ map (renumbered_literal raw order) p)
+      (All-weaker (All (IsInTable table)) (λ p. map (literal_by table) p ≡ map (renumbered_literal raw order) p)
       literals_same raw.justice h.justice) in
       let fairness = literals_same raw.fairness h.fairness in
       let gates : map (gate_by table) (ordered_gates raw order)
@@ -197,10 +197,10 @@ module _ (raw : Raw) (order table : List ℕ) (so : IsRenumbering raw order tabl
 -- the table has each literal of the circuit
 pub all_listed : (raw : Raw) → IsFormed raw → IsSound raw → (order table : List ℕ) → IsCanonicalOrder raw order
     → IsRenumbering raw order table
-    → AreListed raw table
+    → HasAllEntries raw table
 all_listed raw formed sound order table canonical so =
     let all : (ls : List ℕ) → All (IsInRange raw) ls
-    → All (IsListed table) ls = All-weaker (IsInRange raw) (IsListed table) listed in
+    → All (IsInTable table) ls = All-weaker (IsInRange raw) (IsInTable table) listed in
     let definitions_in = All-left (IsInRange raw) (definitions raw) (uses raw) sound.in_range in
     let used = each_use (IsInRange raw) raw (All-right (IsInRange raw) (definitions raw) (uses raw) sound.in_range) in
     let sources = All-left (IsInRange raw) (raw.inputs ++ map (λ x. x.lit) raw.latches) (map (λ g. g.lhs) raw.gates)
@@ -224,7 +224,7 @@ all_listed raw formed sound order table canonical so =
       outputs = all raw.outputs used.outputs;
       bad = all raw.bad used.bad;
       constraints = all raw.constraints used.constraints;
-      justice = All-weaker (All (IsInRange raw)) (All (IsListed table)) all raw.justice used.justice;
+      justice = All-weaker (All (IsInRange raw)) (All (IsInTable table)) all raw.justice used.justice;
       fairness = all raw.fairness used.fairness;
       gates = λ k d lt.
           let g = get_or raw.gates k d in
@@ -232,10 +232,10 @@ all_listed raw formed sound order table canonical so =
           (listed g.lhs (lefts k d lt), listed g.rhs0 sides.0, listed g.rhs1 sides.1);
     }
   where
-    listed : (l : ℕ) → IsInRange raw l → IsListed table l
+    listed : (l : ℕ) → IsInRange raw l → IsInTable table l
     listed l r = omega (arith, so.size)
 
-    reset_listed : (x : Latch) → IsReset x → IsListed table x.lit → IsListed table x.reset
+    reset_listed : (x : Latch) → IsReset x → IsInTable table x.lit → IsInTable table x.reset
     reset_listed x h own = elim h [
       | inl e ↦ omega (arith, so.size)
       | inr o ↦ elim o [ inl e ↦ omega (arith, so.size) | inr e ↦ omega (arith, so.size) ]

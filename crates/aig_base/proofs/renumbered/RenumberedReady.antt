@@ -13,7 +13,7 @@ use Rattle.aig_base.specs.Grounded as grounded
 use Rattle.aig_base.specs.Grounded.{Grounded, IsSource, IsAcyclic, Level}
 use Rattle.aig_parts.specs.Literal.{variable, with_sign, IsEven}
 use Rattle.aig_base.specs.Order.{IsCanonicalOrder}
-use Rattle.aig_base.specs.state.Ready.{SectionsInOrder}
+use Rattle.aig_base.specs.state.BinaryReady.{SectionsInOrder}
 use Rattle.aig_base.specs.Renumbered.{ordered_gates, renumbered, renumbered_gate, renumbered_latch, renumbered_literal}
 use Rattle.aig_base.specs.Renumbered.{renumbered_variable, ready_gate, evens_from, IsBinaryReady}
 use Rattle.aig_base.specs.Sound.{IsSound}
@@ -25,7 +25,7 @@ use Rattle.aig_base.proofs.lists.Evens.{joined, length-evens_from, get_or-evens_
 use Rattle.aig_base.proofs.levels.OneLevel.{level_of, same_level}
 use Rattle.aig_base.proofs.circuits.Places.{Place, IsSection, input, latch, gate, At, IsDefinition-of_place}
 use Rattle.aig_base.proofs.renumbered.RenumberedParts.{length-ordered, ordered_at}
-use Rattle.aig_base.proofs.renumbered.Renumberings.{gate_at, place_in, input_variable, latch_variable, gate_variable}
+use Rattle.aig_base.proofs.renumbered.Renumberings.{gate_at, place_in, input_variable, latch_renumbered, gate_renumbered}
 use Rattle.aig_base.proofs.circuits.Roles.{only_place, role_constant, unmap_some}
 
 -- a definition's literal is even in the renumbered circuit
@@ -103,7 +103,7 @@ module _ (raw : Raw) (sound : IsSound raw) (order : List ℕ) (canonical : IsCan
       → renumbered_literal raw order x.lit ≡ 2 * (length raw.inputs + p + 1)
   latch_literal p x at =
       literal_even raw order x.lit (even_of (latch p) x.lit tt (x, at, refl))
-      ∙ ap (λ v. 2 * v) (latch_variable raw sound order gates_only (variable x.lit) p (x, at, refl))
+      ∙ ap (λ v. 2 * v) (latch_renumbered raw sound order gates_only (variable x.lit) p (x, at, refl))
 
   -- the variable at a place of the order
   pub place_variable : (i : ℕ) → i < length order
@@ -111,7 +111,7 @@ module _ (raw : Raw) (sound : IsSound raw) (order : List ℕ) (canonical : IsCan
   place_variable i lt =
       let (g, q, at, is) = gate_at raw sound order canonical i lt in
       let here = slice_get-get_or order i 0 lt in
-      gate_variable raw sound order gates_only (get_or order i 0) q i (g, at, is)
+      gate_renumbered raw sound order gates_only (get_or order i 0) q i (g, at, is)
       (only_place order i (get_or order i 0) here
       (λ j stands. place_in raw sound order canonical i j (get_or order i 0) here stands))
 
@@ -134,7 +134,7 @@ module _ (raw : Raw) (sound : IsSound raw) (order : List ℕ) (canonical : IsCan
       omega (arith, input_variable raw sound order gates_only (variable l) p (l, at, refl))
   source_bound v (grounded.IsSource.latch p x at) =
       let k = slice_get_within raw.latches p x at in
-      omega (arith, latch_variable raw sound order gates_only (variable x.lit) p (x, at, refl))
+      omega (arith, latch_renumbered raw sound order gates_only (variable x.lit) p (x, at, refl))
 
   -- what has a lower level than a gate stands before it
   lower_place : (i j m n : ℕ) → i < length order → j < length order → Level raw (get_or order j 0) m

@@ -73,19 +73,19 @@ input_variable raw sound order gates v p (l, at, is) =
     subst (λ u. role_variable raw (role raw order u) ≡ p + 1) is (rw e refl)
 
 -- the variable that stands for a latch
-pub latch_variable : (raw : Raw) → IsSound raw → (order : List ℕ) → ((v : ℕ) → Contains order v → IsGate raw v)
+pub latch_renumbered : (raw : Raw) → IsSound raw → (order : List ℕ) → ((v : ℕ) → Contains order v → IsGate raw v)
     → (v p : ℕ) → Defines raw v (definition.Latch p) → renumbered_variable raw order v ≡ length raw.inputs + p + 1
 unfolding renumbered_variable
-latch_variable raw sound order gates v p (x, at, is) =
+latch_renumbered raw sound order gates v p (x, at, is) =
     let e = role_latch raw sound order gates p x at in
     subst (λ u. role_variable raw (role raw order u) ≡ length raw.inputs + p + 1) is (rw e refl)
 
 -- the variable that stands for a gate, by its place in the order
-pub gate_variable : (raw : Raw) → IsSound raw → (order : List ℕ) → ((v : ℕ) → Contains order v → IsGate raw v)
+pub gate_renumbered : (raw : Raw) → IsSound raw → (order : List ℕ) → ((v : ℕ) → Contains order v → IsGate raw v)
     → (v q i : ℕ) → Defines raw v (definition.Gate q) → place_of (λ u. u == v) order ≡ Some i
     → renumbered_variable raw order v ≡ length raw.inputs + length raw.latches + i + 1
 unfolding renumbered_variable
-gate_variable raw sound order gates v q i (g, at, is) found =
+gate_renumbered raw sound order gates v q i (g, at, is) found =
     let f : place_of (λ u. u == variable g.lhs) order ≡ Some i = rw is found in
     let e = role_gate_at raw sound order gates q i g at f in
     subst (λ u. role_variable raw (role raw order u) ≡ length raw.inputs + length raw.latches + i + 1) is (rw e refl)
@@ -255,7 +255,7 @@ module _ (raw : Raw) (sound : IsSound raw) (order : List ℕ) (canonical : IsCan
       let found : place_of (λ w. w == u) (take (i + 1) order) ≡ Some i =
       only_place (take (i + 1) order) i u stands (λ j is. place_in i j u here (get_take (i + 1) order j u is)) in
       let number : renumbered_variable raw (take (i + 1) order) u ≡ n =
-      gate_variable raw sound (take (i + 1) order) (front_gates (i + 1)) u q i (g, at, same) found ∙ sym is in
+      gate_renumbered raw sound (take (i + 1) order) (front_gates (i + 1)) u q i (g, at, same) found ∙ sym is in
       let inside : u < length table = omega (arith, so.size, order_below i lt) in
       record {
         size = length-set table u n ∙ so.size;

@@ -147,10 +147,10 @@ module _ (xs : List ℕ) (w level : ℕ) (row row' : List ℕ) (s s' : Visits) (
   -- each of the list waits, if those that were visited do
   pub list_queued : slice_get row w ≢ Some level → ((v : ℕ) → Contains xs v → IsVisited s v → IsQueued q v)
       → (v : ℕ) → Contains xs v → IsQueued q' v
-  list_queued ne waiting v k =
+  list_queued ne listed v k =
       let count = counts_step v in
       elim (visited_cases s v) [
-        | inl on ↦ stays_queued v (waiting v k on)
+        | inl on ↦ stays_queued v (listed v k on)
         | inr off ↦
             (let m = mark_off s v off in
             let m' = mark_on s' v ((h.other ne).all v k) in

@@ -20,10 +20,10 @@ use Rattle.aig_base.specs.Levels.{AreLevels}
 use Rattle.aig_parts.specs.Literal.{variable}
 use Rattle.aig_base.specs.state.Queue.{IsEmptyQueue, Queued, IsQueued, copies}
 use Rattle.aig_base.specs.Readers.{AreReaders, ReaderLists, list_of}
-use Rattle.aig_base.specs.state.Rewires.{HoldsLevel, IsBehind, Renewing, RenewsAt, SetsLevel}
+use Rattle.aig_base.specs.state.Rewires.{HoldsLevel, IsInFanOut, Renewing, RenewsAt, SetsLevel}
 use Rattle.aig_base.specs.Sections.{IsDefined, IsGate, IsLeftSide}
 use Rattle.aig_base.specs.state.Visits.{AreNoVisits, AreVisits, IsVisited}
-use Rattle.aig_base.proofs.rewires.BehindLemmas.{acyclic_from_before, changed_level, side_level}
+use Rattle.aig_base.proofs.rewires.FanOutLemmas.{acyclic_from_before, changed_level, side_level}
 use Rattle.aig_base.proofs.circuits.Defined.{Grounded-of_defined}
 use Rattle.aig_base.proofs.circuits.Gates.{IsGate-of_gate, gate_in_range, sides_in_range}
 use Rattle.aig_base.proofs.levels.LevelBound.{level_bound}
@@ -53,8 +53,8 @@ pub record IsPass (raw : Raw) (lhs r0 r1 : ℕ) (old row : List ℕ) (s : Visits
 
 module _ (raw : Raw) (c : IsCircuit raw) (lhs r0 r1 : ℕ) (is_gate : IsLeftSide raw lhs) (d0 : IsDefined raw
     (variable r0))
-    (d1 : IsDefined raw (variable r1)) (never0 : IsBehind raw (variable lhs) (variable r0) → ⊥)
-    (never1 : IsBehind raw (variable lhs) (variable r1) → ⊥) (old : List ℕ) (are : AreLevels raw old)
+    (d1 : IsDefined raw (variable r1)) (never0 : IsInFanOut raw (variable lhs) (variable r0) → ⊥)
+    (never1 : IsInFanOut raw (variable lhs) (variable r1) → ⊥) (old : List ℕ) (are : AreLevels raw old)
     (r : ReaderLists) (readers : AreReaders raw r) where
   abbrev new : Raw
   new = with_gate raw lhs r0 r1
@@ -106,29 +106,29 @@ module _ (raw : Raw) (c : IsCircuit raw) (lhs r0 r1 : ℕ) (is_gate : IsLeftSide
       (get_or old (variable r1) 0) (side_at (variable r0) d0) (side_at (variable r1) d1))
 
   -- a step of the pass, as the code makes it
-  module _ (w level : ℕ) (row row' : List ℕ) (s s' : Visits) (q q' : Queued) (waits : ℕ → Type 0) (le : w ≤ raw.max_var)
+  module _ (w level : ℕ) (row row' : List ℕ) (s s' : Visits) (q q' : Queued) (queued : ℕ → Type 0) (le : w ≤ raw.max_var)
       (lt : w < length row) (h : SetsLevel w level (list_of r w) row row' s s' q q')
-      (before : (v : ℕ) → waits v → (v ≡ w) ⊎ IsQueued q v) (after : (v : ℕ) → IsQueued q v → waits v × (v ≢ w))
-      (waiting : (v : ℕ) → Contains (list_of r w) v → IsVisited s v → IsQueued q v) where
-    step : RenewsAt raw w level row row' waits (IsQueued q')
-    step = renews_at raw r readers w le level row row' waits (IsQueued q')
+      (before : (v : ℕ) → queued v → (v ≡ w) ⊎ IsQueued q v) (after : (v : ℕ) → IsQueued q v → queued v × (v ≢ w))
+      (listed : (v : ℕ) → Contains (list_of r w) v → IsVisited s v → IsQueued q v) where
+    step : RenewsAt raw w level row row' queued (IsQueued q')
+    step = renews_at raw r readers w le level row row' queued (IsQueued q')
         (cell_size (list_of r w) w level row row' s s' q q' h) (cell_here (list_of r w) w level row row' s s' q q' h lt)
         (cell_other (list_of r w) w level row row' s s' q q' h)
         (λ v k. elim (before v k) [
           | inl e ↦ inl e
           | inr k' ↦ inr (stays_queued (list_of r w) w level row row' s s' q q' h v k')
         ])
-        (λ ne. list_queued (list_of r w) w level row row' s s' q q' h ne waiting)
+        (λ ne. list_queued (list_of r w) w level row row' s s' q q' h ne listed)
         (λ v k. elim (newly_queued (list_of r w) w level row row' s s' q q' h v k) [
           | inl k' ↦ inl (after v k')
           | inr p ↦ inr p
         ])
 
   -- what waits has its level of before
-  waiting_cell : (row : List ℕ) (waits done : ℕ → Type 0) → Renewing raw lhs r0 r1 old row waits done → (v : ℕ)
-      → waits v
+  listed_cell : (row : List ℕ) (queued done : ℕ → Type 0) → Renewing raw lhs r0 r1 old row queued done → (v : ℕ)
+      → queued v
       → slice_get row v ≡ slice_get old v
-  waiting_cell row waits done n v k =
+  listed_cell row queued done n v k =
       let (q, g, u, at, side, is, known, apart) = n.touched v (inl k) in
       let (m, l) = gate_level raw c.sound c.acyclic lhs r0 r1 is_gate old are q g at in
       let (t, lt) = t_level raw c.sound c.acyclic lhs r0 r1 is_gate old are in
@@ -148,10 +148,10 @@ module _ (raw : Raw) (c : IsCircuit raw) (lhs r0 r1 : ℕ) (is_gate : IsLeftSide
     ranks_now : (e : ℕ × ℕ) → Contains q'.entries e → (m : ℕ) → slice_get old e.1 ≡ Some m → e.0 ≡ 2 ^ 32 - 1 - m
     ranks_now e k m at = elim (same_cell (slice_get row w) (Some level)) [
       | inl same ↦ ranks e (subst (λ (x : Queued). Contains x.entries e) (h.same same).1 k) m at
-      | inr ne ↦ elim ((h.other ne).waiting e k) [
+      | inr ne ↦ elim ((h.other ne).listed e k) [
         | inl k' ↦ ranks e k' m at
         | inr p ↦
-            (let cell = waiting_cell row' (IsQueued q') (IsDone s' q') renewing e.1 (queued_from_entry q' e k) in
+            (let cell = listed_cell row' (IsQueued q') (IsDone s' q') renewing e.1 (queued_from_entry q' e k) in
             let is : get_or row' e.1 0 ≡ m = get_or_from_slice_get row' e.1 m 0 (cell ∙ at) in
             ap (λ (x : ℕ × ℕ). x.0) p.0 ∙ ap (λ l. 2 ^ 32 - 1 - l) is)
       ]
@@ -218,8 +218,8 @@ module _ (raw : Raw) (c : IsCircuit raw) (lhs r0 r1 : ℕ) (is_gate : IsLeftSide
   module _ (row : List ℕ) (s : Visits) (q q1 : Queued) (h : IsPass raw lhs r0 r1 old row s q) (rank w : ℕ)
       (p : IsPermutation q.entries ((rank, w) ∷ q1.entries)) (least : All (λ e. e.0 ≤ rank) q1.entries)
       (same : q1.capacity ≡ q.capacity) where
-    w_waits : IsQueued q w
-    w_waits =
+    w_queued : IsQueued q w
+    w_queued =
         let count = copies_popped w rank w q q1 p in
         let here = one_same w w refl in
         omega arith
@@ -227,7 +227,7 @@ module _ (raw : Raw) (c : IsCircuit raw) (lhs r0 r1 : ℕ) (is_gate : IsLeftSide
     -- it is the variable of a gate
     pub popped_gate : IsGate raw w
     popped_gate =
-        let (k, g, u, at, side, is, known, apart) = h.renewing.touched w (inl w_waits) in
+        let (k, g, u, at, side, is, known, apart) = h.renewing.touched w (inl w_queued) in
         subst (IsGate raw) is (IsGate-of_gate raw k g at)
 
     pub popped_within : w < length row
@@ -279,8 +279,8 @@ module _ (raw : Raw) (c : IsCircuit raw) (lhs r0 r1 : ℕ) (is_gate : IsLeftSide
 
     -- its gate, with its new level
     module _ (k : ℕ) (g : Gate) (at : slice_get raw.gates k ≡ Some g) (is : variable g.lhs ≡ w) where
-      g_waits : IsQueued q (variable g.lhs)
-      g_waits = subst (IsQueued q) (sym is) w_waits
+      g_queued : IsQueued q (variable g.lhs)
+      g_queued = subst (IsQueued q) (sym is) w_queued
 
       g_level : Level raw (variable g.lhs) (w_level.0)
       g_level = let (n, l) = w_level in subst (λ x. Level raw x n) (sym is) l
@@ -306,7 +306,7 @@ module _ (raw : Raw) (c : IsCircuit raw) (lhs r0 r1 : ℕ) (is_gate : IsLeftSide
       not_changed : variable g.lhs ≢ variable lhs
       not_changed e =
           let (t, lt) = t_level raw c.sound c.acyclic lhs r0 r1 is_gate old are in
-          let over = h.renewing.over (variable g.lhs) (w_level.0) t g_waits g_level lt in
+          let over = h.renewing.over (variable g.lhs) (w_level.0) t g_queued g_level lt in
           over_apart (variable g.lhs) (variable lhs) (w_level.0) t g_level lt over e
 
       pub popped_fits : level_above row g < 2 ^ 32
@@ -325,8 +325,8 @@ module _ (raw : Raw) (c : IsCircuit raw) (lhs r0 r1 : ℕ) (is_gate : IsLeftSide
         w_low = gate_in_range raw c.sound w popped_gate
 
         -- a reader of the variable is not done
-        reader_waits : (v : ℕ) → Contains (list_of r w) v → IsVisited s v → IsQueued q1 v
-        reader_waits v i on =
+        reader_queued : (v : ℕ) → Contains (list_of r w) v → IsVisited s v → IsQueued q1 v
+        reader_queued v i on =
             let (j, z, here, side, eq) = reads raw r readers w w_low v i in
             let (m, lz) = gate_level raw c.sound c.acyclic lhs r0 r1 is_gate old are j z here in
             let (n, lw, below) = side_level c.sound lz j z w here side refl in
@@ -336,7 +336,7 @@ module _ (raw : Raw) (c : IsCircuit raw) (lhs r0 r1 : ℕ) (is_gate : IsLeftSide
             let away = one_other v w ne in
             elim (queued_cases q v) [
               | inl still ↦ omega arith
-              | inr none ↦ absurd (let le = h.renewing.order v w m n (on, none) w_waits lv lw in omega arith)
+              | inr none ↦ absurd (let le = h.renewing.order v w m n (on, none) w_queued lv lw in omega arith)
             ]
 
         stepped_at : RenewsAt raw w (level_above row g) row row' (IsQueued q) (IsQueued q')
@@ -353,7 +353,7 @@ module _ (raw : Raw) (c : IsCircuit raw) (lhs r0 r1 : ℕ) (is_gate : IsLeftSide
             let count = copies_popped v rank w q q1 p in
             let few = h.once v in
             (omega arith, λ e. (let here = one_same v w e in omega arith))))
-            reader_waits
+            reader_queued
 
         done_now : (v : ℕ) → (v ≡ variable g.lhs) ⊎ IsDone s q v ↔ IsDone s' q' v
         done_now v =
@@ -363,7 +363,7 @@ module _ (raw : Raw) (c : IsCircuit raw) (lhs r0 r1 : ℕ) (is_gate : IsLeftSide
               λ d. elim d [
                 | inl e ↦
                     (let here = one_same v w (e ∙ is) in
-                    same_done.1 (subst (IsVisited s) (sym (e ∙ is)) (h.met w w_waits), omega arith))
+                    same_done.1 (subst (IsVisited s) (sym (e ∙ is)) (h.met w w_queued), omega arith))
                 | inr d0 ↦ (let none = d0.1 in same_done.1 (d0.0, omega arith))
               ],
               λ d. (
@@ -386,7 +386,7 @@ module _ (raw : Raw) (c : IsCircuit raw) (lhs r0 r1 : ℕ) (is_gate : IsLeftSide
             (IsDone s' q') (λ v. (λ i. i, λ i. i)) done_now
             (stepped raw c.sound c.acyclic lhs r0 r1 is_gate old are row (IsQueued q) (IsDone s q)
             (done_cases s q) h.renewing
-            k g at g_waits (w_level.0) g_level g_high (get_or row (variable g.rhs0) 0) (get_or row (variable g.rhs1) 0)
+            k g at g_queued (w_level.0) g_level g_high (get_or row (variable g.rhs0) 0) (get_or row (variable g.rhs1) 0)
             (slice_get-get_or row (variable g.rhs0) 0 in0) (slice_get-get_or row (variable g.rhs1) 0 in1) row'
             (IsQueued q')
             (subst (λ x. RenewsAt raw x (level_above row g) row row' (IsQueued q) (IsQueued q')) (sym is) stepped_at)))

@@ -80,10 +80,10 @@ module _ (levels : List ℕ) (v level : ℕ) (s s' : Visits) (q q' : Queued) (of
             omega arith)
       ]
 
-  waiting_new : (e : ℕ × ℕ) → Contains q'.entries e
+  listed_new : (e : ℕ × ℕ) → Contains q'.entries e
       → Contains q.entries e
       ⊎ ((e ≡ entry (get_or levels e.1 0) e.1) × Contains (v ∷ []) e.1 × (IsVisited s e.1 → ⊥))
-  waiting_new e h =
+  listed_new e h =
       elim (Contains-cons (entry level v) q.entries e
       (Contains-permutation q'.entries (entry level v ∷ q.entries) e
       (IsPermutation-sym (entry level v ∷ q.entries) q'.entries p) h)) [
@@ -99,7 +99,7 @@ module _ (levels : List ℕ) (v level : ℕ) (s s' : Visits) (q q' : Queued) (of
     among = a;
     all = λ u h. subst (IsVisited s') (only_element v u h) on;
     counts = counts_new;
-    waiting = waiting_new;
+    listed = listed_new;
     left = (let long = length_permutation (entry level v ∷ q.entries) q'.entries p in omega arith);
     capacity = more;
   }
@@ -114,8 +114,8 @@ queues_more xs levels v s s' s'' q q' q'' among a b = record {
     | inr e ↦ subst (IsVisited s'') e (b.all v (0, omega arith, refl))
   ];
   counts = λ u. (let first = a.counts u in let second = b.counts u in omega arith);
-  waiting = λ e h. elim (b.waiting e h) [
-    | inl k ↦ elim (a.waiting e k) [
+  listed = λ e h. elim (b.listed e h) [
+    | inl k ↦ elim (a.listed e k) [
       | inl k' ↦ inl k'
       | inr w ↦ inr (w.0, Contains-append_left xs (v ∷ []) e.1 w.1, w.2)
     ]

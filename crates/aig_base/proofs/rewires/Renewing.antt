@@ -1,4 +1,4 @@
--- The pass over the gates behind a changed gate, in the order of their old levels, gives the levels of the new circuit.
+-- The pass over a changed gate's fan-out, in the order of the old levels, gives the levels of the new circuit.
 use Rattle.std.proofs.Common.{◌≡◌, ◌≢◌, ◌⊎◌, inl, inr, ℕ, ◌+◌, ◌<◌, ◌≤◌, max, List, Option, Some, None, slice_get, refl}
 use Rattle.std.proofs.Common.{sym, ◌∙◌, ap, subst, arith}
 use Rattle.std.proofs.lemmas.Bool.{cases_eq}
@@ -10,10 +10,10 @@ use Rattle.aig_base.specs.Grounded.{Grounded, IsSource, IsAcyclic, Level}
 use Rattle.aig_base.specs.Grounded as by
 use Rattle.aig_base.specs.Levels.{AreLevels}
 use Rattle.aig_parts.specs.Literal.{variable}
-use Rattle.aig_base.specs.state.Rewires.{IsSide, IsBehind, HoldsLevel, IsTouched, Renewing, RenewsAt}
+use Rattle.aig_base.specs.state.Rewires.{IsSide, IsInFanOut, HoldsLevel, NeedsLevel, Renewing, RenewsAt}
 use Rattle.aig_base.specs.Sections.{IsDefined, IsLeftSide}
 use Rattle.aig_base.specs.Sound.{IsSound}
-use Rattle.aig_base.proofs.rewires.BehindLemmas.{changed_level, side_level}
+use Rattle.aig_base.proofs.rewires.FanOutLemmas.{changed_level, side_level}
 use Rattle.aig_base.proofs.circuits.Gates.{IsGate-of_gate, source-gate}
 use Rattle.aig_base.proofs.levels.OneLevel.{level_of, same_level, Grounded-of_level}
 use Rattle.aig_base.proofs.checks.Walks.{the_gate, gate_old, kept, source_new, source_old}
@@ -59,11 +59,11 @@ module _ (raw : Raw) (sound : IsSound raw) (acyclic : IsAcyclic raw) (lhs r0 r1 
       subst (Grounded raw) (ap (λ (x : Gate). variable x.lhs) same)
       (acyclic (variable k.lhs) (IsGate-of_gate raw q k here))
 
-  module _ (row : List ℕ) (waits done : ℕ → Type 0) (dec : (v : ℕ) → done v ⊎ (done v → ⊥))
-      (h : Renewing raw lhs r0 r1 old row waits done) where
+  module _ (row : List ℕ) (queued done : ℕ → Type 0) (dec : (v : ℕ) → done v ⊎ (done v → ⊥))
+      (h : Renewing raw lhs r0 r1 old row queued done) where
     -- the row has the old level of a side of a gate that was not evaluated and does not wait
     old_cell : (q : ℕ) (g : Gate) (u : ℕ) → slice_get raw.gates q ≡ Some g → variable g.lhs ≢ t → IsSide g u
-        → (waits (variable g.lhs) ⊎ done (variable g.lhs) → ⊥) → From raw u → slice_get row u ≡ slice_get old u
+        → (queued (variable g.lhs) ⊎ done (variable g.lhs) → ⊥) → From raw u → slice_get row u ≡ slice_get old u
     old_cell q g u at ne side never (inl s) = h.sources u s
     old_cell q g u at ne side never (inr (k, x, here, is)) = elim (same_cell (slice_get row u) (slice_get old u)) [
       | inl e ↦ e
@@ -79,14 +79,14 @@ module _ (raw : Raw) (sound : IsSound raw) (acyclic : IsAcyclic raw) (lhs r0 r1 
     ]
 
     old_level : (q : ℕ) (g : Gate) (u a : ℕ) → slice_get raw.gates q ≡ Some g → variable g.lhs ≢ t → IsSide g u
-        → (waits (variable g.lhs) ⊎ done (variable g.lhs) → ⊥) → Level raw u a → HoldsLevel new row u → Level new u a
+        → (queued (variable g.lhs) ⊎ done (variable g.lhs) → ⊥) → Level raw u a → HoldsLevel new row u → Level new u a
     old_level q g u a at ne side never l k =
         let same : k.level ≡ a =
         same_Some k.level a (sym k.cell ∙ old_cell q g u at ne side never (from_level l) ∙ are.each u a l) in
         subst (Level new u) same k.has
 
     untouched : (q : ℕ) (g : Gate) (a b : ℕ) → slice_get raw.gates q ≡ Some g → variable g.lhs ≢ t
-        → (waits (variable g.lhs) ⊎ done (variable g.lhs) → ⊥) → Level raw (variable g.rhs0) a
+        → (queued (variable g.lhs) ⊎ done (variable g.lhs) → ⊥) → Level raw (variable g.rhs0) a
         → Level raw (variable g.rhs1) b
         → HoldsLevel new row (variable g.rhs0) → HoldsLevel new row (variable g.rhs1)
         → HoldsLevel new row (variable g.lhs)
@@ -100,14 +100,14 @@ module _ (raw : Raw) (sound : IsSound raw) (acyclic : IsAcyclic raw) (lhs r0 r1 
     }
 
     -- where no gate of an old level below n waits, all variables of such a level have their new levels
-    pub behind : (n : ℕ) → ((v m : ℕ) → waits v → Level raw v m → n ≤ m) → {v m : ℕ} → Level raw v m → m < n
+    pub reached : (n : ℕ) → ((v m : ℕ) → queued v → Level raw v m → n ≤ m) → {v m : ℕ} → Level raw v m → m < n
         → HoldsLevel new row v
-    behind n high (by.Level.source v s) lt = record {
+    reached n high (by.Level.source v s) lt = record {
       level = 0;
       has = by.Level.source v (source_new raw sound lhs r0 r1 is_gate v s);
       cell = h.sources v s ∙ are.each v 0 (by.Level.source v s);
     }
-    behind n high (by.Level.gate q g a b at la lb) lt = elim (cases_eq (variable g.lhs) t) [
+    reached n high (by.Level.gate q g a b at la lb) lt = elim (cases_eq (variable g.lhs) t) [
       | inl e ↦ subst (HoldsLevel new row) (sym e) h.changed
       | inr ne ↦ elim (dec (variable g.lhs)) [
         | inl d ↦ h.evaluated (variable g.lhs) d
@@ -117,33 +117,33 @@ module _ (raw : Raw) (sound : IsSound raw) (acyclic : IsAcyclic raw) (lhs r0 r1 
               | inl k ↦ (let le = high (variable g.lhs) (max a b + 1) k (by.Level.gate q g a b at la lb) in omega arith)
               | inr d ↦ nd d
             ])
-            la lb (behind n high la (omega arith)) (behind n high lb (omega arith))
+            la lb (reached n high la (omega arith)) (reached n high lb (omega arith))
       ]
     ]
 
     -- where no gate waits the row has the levels of the new circuit
-    pub ended : IsSound new → ((v : ℕ) → waits v → ⊥) → AreLevels new row
+    pub ended : IsSound new → ((v : ℕ) → queued v → ⊥) → AreLevels new row
     ended sound_new none = record {
       size = h.size ∙ are.size;
       each = λ v n l. (
           let (m, was) = level_of (grounded_old (Grounded-of_level l)) in
-          let k = behind (m + 1) (λ u j w. absurd (none u w)) was (omega arith) in
+          let k = reached (m + 1) (λ u j w. absurd (none u w)) was (omega arith) in
           k.cell ∙ ap Some (same_level sound_new k.has l));
     }
 
     -- the sides of a gate that waits at the least old level have their new levels
     pub side_holds : (q : ℕ) (g : Gate) (u n : ℕ) → slice_get raw.gates q ≡ Some g → Level raw (variable g.lhs) n
-        → ((v m : ℕ) → waits v → Level raw v m → n ≤ m) → IsSide g u → HoldsLevel new row u
+        → ((v m : ℕ) → queued v → Level raw v m → n ≤ m) → IsSide g u → HoldsLevel new row u
     side_holds q g u n at l high side =
         let (k, lu, below) = side_level sound l q g u at side refl in
-        behind n high lu below
+        reached n high lu below
 
     -- one step, at a gate that waits at the least old level
-    module _ (q : ℕ) (g : Gate) (at : slice_get raw.gates q ≡ Some g) (w_waits : waits (variable g.lhs)) (n : ℕ)
-        (l : Level raw (variable g.lhs) n) (high : (v m : ℕ) → waits v → Level raw v m → n ≤ m) (x y : ℕ)
+    module _ (q : ℕ) (g : Gate) (at : slice_get raw.gates q ≡ Some g) (w_queued : queued (variable g.lhs)) (n : ℕ)
+        (l : Level raw (variable g.lhs) n) (high : (v m : ℕ) → queued v → Level raw v m → n ≤ m) (x y : ℕ)
         (x_is : slice_get row (variable g.rhs0) ≡ Some x) (y_is : slice_get row (variable g.rhs1) ≡ Some y)
-        (row' : List ℕ) (waits' : ℕ → Type 0)
-        (r : RenewsAt raw (variable g.lhs) (max x y + 1) row row' waits waits') where
+        (row' : List ℕ) (queued' : ℕ → Type 0)
+        (r : RenewsAt raw (variable g.lhs) (max x y + 1) row row' queued queued') where
       abbrev w : ℕ
       w = variable g.lhs
 
@@ -153,12 +153,12 @@ module _ (raw : Raw) (sound : IsSound raw) (acyclic : IsAcyclic raw) (lhs r0 r1 
       not_t : w ≢ t
       not_t e =
           let (k, lt) = t_level in
-          let below = h.over w n k w_waits l lt in
+          let below = h.over w n k w_queued l lt in
           let same : n ≡ k = same_level sound (subst (λ v. Level raw v n) e l) lt in
           omega arith
 
       not_done : (v : ℕ) → done v → v ≢ w
-      not_done v d e = h.fresh w w_waits (subst done e d)
+      not_done v d e = h.fresh w w_queued (subst done e d)
 
       side0 : HoldsLevel new row (variable g.rhs0)
       side0 = side_holds q g (variable g.rhs0) n at l high (inl refl)
@@ -180,7 +180,7 @@ module _ (raw : Raw) (sound : IsSound raw) (acyclic : IsAcyclic raw) (lhs r0 r1 
 
       -- the row had the old level there
       was_old : slice_get row w ≡ slice_get old w
-      was_old = h.others q g at not_t (λ d. h.fresh w w_waits d)
+      was_old = h.others q g at not_t (λ d. h.fresh w w_queued d)
 
       reader_over : (k : ℕ) (z : Gate) (m : ℕ) → slice_get raw.gates k ≡ Some z → IsSide z w
           → Level raw (variable z.lhs) m → n < m
@@ -189,8 +189,8 @@ module _ (raw : Raw) (sound : IsSound raw) (acyclic : IsAcyclic raw) (lhs r0 r1 
           let same : j ≡ n = same_level sound lw l in
           omega arith
 
-      waits_from : (v m : ℕ) → waits' v → Level raw v m → (waits v × (v ≢ w)) ⊎ (n < m)
-      waits_from v m k lv = elim (r.new v k) [
+      queued_from : (v m : ℕ) → queued' v → Level raw v m → (queued v × (v ≢ w)) ⊎ (n < m)
+      queued_from v m k lv = elim (r.new v k) [
         | inl p ↦ inl p
         | inr p ↦
             (let (j, z, here, side, is) = p.1 in
@@ -198,7 +198,7 @@ module _ (raw : Raw) (sound : IsSound raw) (acyclic : IsAcyclic raw) (lhs r0 r1 
       ]
 
       linked' : (j : ℕ) (z : Gate) (u : ℕ) → slice_get raw.gates j ≡ Some z → variable z.lhs ≢ t → IsSide z u
-          → (u ≡ t) ⊎ done' u → slice_get row' u ≢ slice_get old u → waits' (variable z.lhs) ⊎ done' (variable z.lhs)
+          → (u ≡ t) ⊎ done' u → slice_get row' u ≢ slice_get old u → queued' (variable z.lhs) ⊎ done' (variable z.lhs)
       linked' j z u here ne side known apart = elim (cases_eq u w) [
         | inl e ↦
             inl (r.readers (λ k. apart (ap (slice_get row') e ∙ r.cell ∙ sym k ∙ was_old
@@ -216,7 +216,7 @@ module _ (raw : Raw) (sound : IsSound raw) (acyclic : IsAcyclic raw) (lhs r0 r1 
             ])
       ]
 
-      touched_still : (v : ℕ) → IsTouched raw t old row done v → IsTouched raw t old row' done' v
+      touched_still : (v : ℕ) → NeedsLevel raw t old row done v → NeedsLevel raw t old row' done' v
       touched_still v (j, z, u, here, side, is, known, apart) =
           let other : u ≢ w = elim known [
             | inl e ↦ (λ k. not_t (sym k ∙ e))
@@ -225,7 +225,7 @@ module _ (raw : Raw) (sound : IsSound raw) (acyclic : IsAcyclic raw) (lhs r0 r1 
           let known' : (u ≡ t) ⊎ done' u = elim known [ inl e ↦ inl e | inr d ↦ inr (inr d) ] in
           (j, z, u, here, side, is, known', λ k. apart (sym (r.same u other) ∙ k))
 
-      touched' : (v : ℕ) → waits' v ⊎ done' v → IsTouched raw t old row' done' v
+      touched' : (v : ℕ) → queued' v ⊎ done' v → NeedsLevel raw t old row' done' v
       touched' v (inl k) = elim (r.new v k) [
         | inl p ↦ touched_still v (h.touched v (inl p.0))
         | inr p ↦
@@ -233,21 +233,21 @@ module _ (raw : Raw) (sound : IsSound raw) (acyclic : IsAcyclic raw) (lhs r0 r1 
             let apart : slice_get row' w ≢ slice_get old w = (λ e. p.0 (was_old ∙ sym e ∙ r.cell)) in
             (j, z, w, here, side, is, inr (inl refl), apart))
       ]
-      touched' v (inr (inl e)) = touched_still v (h.touched v (inl (subst waits (sym e) w_waits)))
+      touched' v (inr (inl e)) = touched_still v (h.touched v (inl (subst queued (sym e) w_queued)))
       touched' v (inr (inr d)) = touched_still v (h.touched v (inr d))
 
-      order' : (v u m j : ℕ) → done' v → waits' u → Level raw v m → Level raw u j → m ≤ j
+      order' : (v u m j : ℕ) → done' v → queued' u → Level raw v m → Level raw u j → m ≤ j
       order' v u m j d k lv lu =
           let low : m ≤ n = elim d [
             | inl e ↦ (let same : m ≡ n = same_level sound (subst (λ z. Level raw z m) e lv) l in omega arith)
-            | inr d0 ↦ h.order v w m n d0 w_waits lv l
+            | inr d0 ↦ h.order v w m n d0 w_queued lv l
           ] in
-          elim (waits_from u j k lu) [
+          elim (queued_from u j k lu) [
             | inl p ↦ (let le = high u j p.0 lu in omega arith)
             | inr over ↦ omega arith
           ]
 
-      fresh' : (v : ℕ) → waits' v → done' v → ⊥
+      fresh' : (v : ℕ) → queued' v → done' v → ⊥
       fresh' v k d = elim (r.new v k) [
         | inl p ↦ elim d [ inl e ↦ p.1 e | inr d0 ↦ h.fresh v p.0 d0 ]
         | inr p ↦
@@ -257,11 +257,11 @@ module _ (raw : Raw) (sound : IsSound raw) (acyclic : IsAcyclic raw) (lhs r0 r1 
             let lv : Level raw v m = subst (λ u. Level raw u m) is lz in
             elim d [
               | inl e ↦ (let same : m ≡ n = same_level sound (subst (λ u. Level raw u m) e lv) l in omega arith)
-              | inr d0 ↦ (let le = h.order v w m n d0 w_waits lv l in omega arith)
+              | inr d0 ↦ (let le = h.order v w m n d0 w_queued lv l in omega arith)
             ])
       ]
 
-      pub stepped : Renewing raw lhs r0 r1 old row' waits' (λ v. (v ≡ variable g.lhs) ⊎ done v)
+      pub stepped : Renewing raw lhs r0 r1 old row' queued' (λ v. (v ≡ variable g.lhs) ⊎ done v)
       stepped = record {
         size = r.size ∙ h.size;
         changed = still t (λ e. not_t (sym e)) h.changed;
@@ -274,19 +274,19 @@ module _ (raw : Raw) (sound : IsSound raw) (acyclic : IsAcyclic raw) (lhs r0 r1 
         linked = linked';
         touched = touched';
         fresh = fresh';
-        over = λ v m k wv lv lt. elim (waits_from v m wv lv) [
+        over = λ v m k wv lv lt. elim (queued_from v m wv lv) [
           | inl p ↦ h.over v m k p.0 lv lt
-          | inr over ↦ (let below = h.over w n k w_waits l lt in omega arith)
+          | inr over ↦ (let below = h.over w n k w_queued l lt in omega arith)
         ];
         order = order';
       }
 
   -- the pass begins when the changed gate has its new level
   module _ (d0 : IsDefined raw (variable r0)) (d1 : IsDefined raw (variable r1))
-      (never0 : IsBehind raw t (variable r0) → ⊥) (never1 : IsBehind raw t (variable r1) → ⊥)
+      (never0 : IsInFanOut raw t (variable r0) → ⊥) (never1 : IsInFanOut raw t (variable r1) → ⊥)
       (x y : ℕ) (lx : Level raw (variable r0) x) (ly : Level raw (variable r1) y)
-      (row : List ℕ) (waits : ℕ → Type 0) (r : RenewsAt raw t (max x y + 1) old row (λ v. ⊥) waits) where
-    begun_over : (v m k : ℕ) → waits v → Level raw v m → Level raw t k → k < m
+      (row : List ℕ) (queued : ℕ → Type 0) (r : RenewsAt raw t (max x y + 1) old row (λ v. ⊥) queued) where
+    begun_over : (v m k : ℕ) → queued v → Level raw v m → Level raw t k → k < m
     begun_over v m k wv lv lt = elim (r.new v wv) [
       | inl p ↦ absurd p.0
       | inr p ↦
@@ -296,13 +296,13 @@ module _ (raw : Raw) (sound : IsSound raw) (acyclic : IsAcyclic raw) (lhs r0 r1 
           omega arith)
     ]
 
-    begun_apart : (v : ℕ) → waits v → slice_get row t ≢ slice_get old t
+    begun_apart : (v : ℕ) → queued v → slice_get row t ≢ slice_get old t
     begun_apart v wv e = elim (r.new v wv) [
       | inl p ↦ p.0
       | inr p ↦ p.0 (sym e ∙ r.cell)
     ]
 
-    begun_touched : (v : ℕ) → waits v ⊎ ⊥ → IsTouched raw t old row (λ v. ⊥) v
+    begun_touched : (v : ℕ) → queued v ⊎ ⊥ → NeedsLevel raw t old row (λ v. ⊥) v
     begun_touched v (inl k) = elim (r.new v k) [
       | inl p ↦ absurd p.0
       | inr p ↦
@@ -311,7 +311,7 @@ module _ (raw : Raw) (sound : IsSound raw) (acyclic : IsAcyclic raw) (lhs r0 r1 
     ]
     begun_touched v (inr k) = absurd k
 
-    pub begun : Renewing raw lhs r0 r1 old row waits (λ v. ⊥)
+    pub begun : Renewing raw lhs r0 r1 old row queued (λ v. ⊥)
     begun = record {
       size = r.size;
       changed = record {

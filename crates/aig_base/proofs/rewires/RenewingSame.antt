@@ -6,9 +6,9 @@ use Rattle.aig_base.specs.Readers.{AreReaders, ReaderLists, list_of}
 use Rattle.aig_base.specs.state.Rewires.{Renewing, RenewsAt}
 use Rattle.aig_base.proofs.fan_outs.ListedReaders.{listed, reads}
 
-module _ (raw : Raw) (lhs r0 r1 : ℕ) (old row : List ℕ) (waits waits' done done' : ℕ → Type 0)
-    (w : (v : ℕ) → waits v ↔ waits' v) (d : (v : ℕ) → done v ↔ done' v) where
-  pub renewing_same : Renewing raw lhs r0 r1 old row waits done → Renewing raw lhs r0 r1 old row waits' done'
+module _ (raw : Raw) (lhs r0 r1 : ℕ) (old row : List ℕ) (queued queued' done done' : ℕ → Type 0)
+    (w : (v : ℕ) → queued v ↔ queued' v) (d : (v : ℕ) → done v ↔ done' v) where
+  pub renewing_same : Renewing raw lhs r0 r1 old row queued done → Renewing raw lhs r0 r1 old row queued' done'
   renewing_same h = record {
     size = h.size;
     changed = h.changed;
@@ -34,13 +34,13 @@ module _ (raw : Raw) (lhs r0 r1 : ℕ) (old row : List ℕ) (waits waits' done d
 
 module _ (raw : Raw) (r : ReaderLists) (are : AreReaders raw r) (w : ℕ) (le : w ≤ raw.max_var) where
   -- a step of the pass, as the list of readers has it
-  pub renews_at : (level : ℕ) (row row' : List ℕ) (waits waits' : ℕ → Type 0) → length row' ≡ length row
+  pub renews_at : (level : ℕ) (row row' : List ℕ) (queued queued' : ℕ → Type 0) → length row' ≡ length row
       → slice_get row' w ≡ Some level → ((v : ℕ) → v ≢ w → slice_get row' v ≡ slice_get row v)
-      → ((v : ℕ) → waits v → (v ≡ w) ⊎ waits' v)
-      → (slice_get row w ≢ Some level → (v : ℕ) → Contains (list_of r w) v → waits' v)
-      → ((v : ℕ) → waits' v → (waits v × (v ≢ w)) ⊎ ((slice_get row w ≢ Some level) × Contains (list_of r w) v))
-      → RenewsAt raw w level row row' waits waits'
-  renews_at level row row' waits waits' size cell same keeps marked new = record {
+      → ((v : ℕ) → queued v → (v ≡ w) ⊎ queued' v)
+      → (slice_get row w ≢ Some level → (v : ℕ) → Contains (list_of r w) v → queued' v)
+      → ((v : ℕ) → queued' v → (queued v × (v ≢ w)) ⊎ ((slice_get row w ≢ Some level) × Contains (list_of r w) v))
+      → RenewsAt raw w level row row' queued queued'
+  renews_at level row row' queued queued' size cell same keeps marked new = record {
     size = size;
     cell = cell;
     same = same;

@@ -8,18 +8,18 @@ use Rattle.aig_parts.specs.declared.raw.Raw.{Raw}
 use Rattle.aig_base.specs.Definition.{Defines, IsFree, IsInOrder}
 
 -- an entry for each variable: what defines it, or nothing
-abbrev pub IsEntry : Raw → ℕ → Option Definition → Type 0
-IsEntry raw v None = IsFree raw v
-IsEntry raw v (Some d) = Defines raw v d
+abbrev pub IsDefinitionEntry : Raw → ℕ → Option Definition → Type 0
+IsDefinitionEntry raw v None = IsFree raw v
+IsDefinitionEntry raw v (Some d) = Defines raw v d
 
-pub record IsTable (raw : Raw) (table : List (Option Definition)) : Type 0 where
+pub record IsDefinitionTable (raw : Raw) (table : List (Option Definition)) : Type 0 where
   pub size : length table ≡ raw.max_var + 1
-  pub entries : (v : ℕ) (entry : Option Definition) → slice_get table v ≡ Some entry → IsEntry raw v entry
+  pub entries : (v : ℕ) (entry : Option Definition) → slice_get table v ≡ Some entry → IsDefinitionEntry raw v entry
 
 -- these are the definitions of these parts
-abbrev pub Tells : Raw → Definitions → Type 0
-Tells raw kept.InOrder = IsInOrder raw
-Tells raw (kept.Listed table) = IsTable raw table.items
+abbrev pub AreDefinitionsOf : Raw → Definitions → Type 0
+AreDefinitionsOf raw kept.InOrder = IsInOrder raw
+AreDefinitionsOf raw (kept.Listed table) = IsDefinitionTable raw table.items
 
 -- one more definition fits without memory
 abbrev pub FitsOneDefinition : Definitions → Type 0

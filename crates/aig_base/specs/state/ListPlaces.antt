@@ -23,7 +23,7 @@ pub record HasPlace (places : List Places) (w i : ℕ) : Type 0 where
   pub is : (kept.first ≡ i) ⊎ (kept.second ≡ i)
 
 -- i and j are kept as the two places of w
-pub record HasPlaces (places : List Places) (w i j : ℕ) : Type 0 where
+pub record HasListPlaces (places : List Places) (w i j : ℕ) : Type 0 where
   pub kept : Places
   pub at : slice_get places w ≡ Some kept
   pub are : ((kept.first ≡ i) × (kept.second ≡ j)) ⊎ ((kept.first ≡ j) × (kept.second ≡ i))
@@ -33,7 +33,7 @@ pub record HasPlaces (places : List Places) (w i j : ℕ) : Type 0 where
 pub record AreKept (slots : List (SmallVec ℕ)) (places : List Places) : Type 0 where
   pub one : (v i w : ℕ) → short ≤ i → StandsAt slots v i w → HasPlace places w i
   pub two : (v x i j w : ℕ) → v ≢ x → short ≤ i → short ≤ j → StandsAt slots v i w → StandsAt slots x j w
-      → HasPlaces places w i j
+      → HasListPlaces places w i j
   pub covered : (v : ℕ) → short < capacity_at slots v → length slots ≤ length places
 
 -- nothing is lost of the table
@@ -42,7 +42,7 @@ pub record Extends (old new : List Places) : Type 0 where
   pub same : (w : ℕ) (p : Places) → slice_get old w ≡ Some p → slice_get new w ≡ Some p
 
 -- of the places of w, the one that was `from` is `to`
-pub record Renews (w from to : ℕ) (old new : List Places) : Type 0 where
+pub record RenewsPlace (w from to : ℕ) (old new : List Places) : Type 0 where
   pub size : length new ≡ length old
   pub others : (x : ℕ) → x ≢ w → slice_get new x ≡ slice_get old x
   pub first : (p : Places) → slice_get old w ≡ Some p → p.first ≡ from
@@ -51,7 +51,7 @@ pub record Renews (w from to : ℕ) (old new : List Places) : Type 0 where
       → slice_get new w ≡ Some (record { first = p.first; second = to })
 
 -- these are the places of u, where one of them is kept
-pub record Writes (u : ℕ) (p : Places) (old new : List Places) : Type 0 where
+pub record WritesPlaces (u : ℕ) (p : Places) (old new : List Places) : Type 0 where
   pub size : length new ≡ length old
   pub others : (x : ℕ) → x ≢ u → slice_get new x ≡ slice_get old x
   pub here : (short ≤ p.first) ⊎ (short ≤ p.second) → slice_get new u ≡ Some p
@@ -67,10 +67,10 @@ pub record Shifts (w from to : ℕ) (old new : List ℕ) (before after : List Pl
   pub long : short ≤ from
   pub here : slice_get new to ≡ Some w
   pub others : (i x : ℕ) → i ≢ to → slice_get new i ≡ Some x → slice_get old i ≡ Some x
-  pub renews : Renews w from to before after
+  pub renews : RenewsPlace w from to before after
 
-abbrev pub Follows : List ℕ → List ℕ → List Places → List Places → Type 0
-Follows old new before after =
+abbrev pub StaysOrShifts : List ℕ → List ℕ → List Places → List Places → Type 0
+StaysOrShifts old new before after =
     Stays old new before after ⊎ ((w from to : ℕ) × Shifts w from to old new before after)
 
 -- u came to the places of p at the ends of the lists of v and x

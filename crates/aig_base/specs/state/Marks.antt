@@ -7,13 +7,13 @@ use Rattle.aig_parts.specs.declared.raw.Raw.{Raw}
 use Rattle.aig_parts.specs.Formed.{limit}
 use Rattle.aig_parts.specs.Literal.{variable}
 use Rattle.aig_base.specs.Grounded.{Grounded, Level}
-use Rattle.aig_base.specs.state.Links.{Leads}
+use Rattle.aig_base.specs.state.KeyChains.{LeadsTo}
 
 abbrev pub IsMarked : List Bool → ℕ → Type 0
 IsMarked marks v = slice_get marks v ≡ Some true
 
 -- a mark for each variable: whether it is grounded
-pub record AreMarks (raw : Raw) (marks : List Bool) : Type 0 where
+pub record AreGroundedMarks (raw : Raw) (marks : List Bool) : Type 0 where
   pub size : length marks ≡ raw.max_var + 1
   pub each : (v : ℕ) → IsMarked marks v ↔ Grounded raw v
 
@@ -34,7 +34,7 @@ steps_left marks pending = count_by not marks + length pending
 -- the marked variables, all of them pending, are these
 pub record AreStarted (done : List ℕ) (marks : List Bool) (pending : List ℕ) : Type 0 where
   pub each : (v : ℕ) → IsMarked marks v ↔ Contains done v
-  pub waiting : (v : ℕ) → IsMarked marks v ↔ Contains pending v
+  pub listed : (v : ℕ) → IsMarked marks v ↔ Contains pending v
 
 -- a variable is marked, and pending unless it was marked already
 pub record AddsMark (v : ℕ) (marks : List Bool) (pending : List ℕ) (marks' : List Bool)
@@ -44,19 +44,19 @@ pub record AddsMark (v : ℕ) (marks : List Bool) (pending : List ℕ) (marks' :
   pub marked : IsMarked marks' v
   pub kept : (u : ℕ) → IsMarked marks u → IsMarked marks' u
   pub new : (u : ℕ) → IsMarked marks' u → IsMarked marks u ⊎ ((u ≡ v) × Contains pending' u)
-  pub waiting : (u : ℕ) → Contains pending u → Contains pending' u
-  pub new_waiting : (u : ℕ) → Contains pending' u → Contains pending u ⊎ (u ≡ v)
+  pub listed : (u : ℕ) → Contains pending u → Contains pending' u
+  pub new_listed : (u : ℕ) → Contains pending' u → Contains pending u ⊎ (u ≡ v)
 
 -- marks are only added, and as many steps are left
-pub record Moves (marks : List Bool) (pending : List ℕ) (marks' : List Bool) (pending' : List ℕ) : Type 0 where
+pub record AddsMarks (marks : List Bool) (pending : List ℕ) (marks' : List Bool) (pending' : List ℕ) : Type 0 where
   pub size : length marks' ≡ length marks
   pub steps : steps_left marks' pending' ≡ steps_left marks pending
   pub kept : (u : ℕ) → IsMarked marks u → IsMarked marks' u
   pub below : All (λ v. v < length marks) pending → All (λ v. v < length marks') pending'
 
 -- gate q reads a variable whose readers are still to be visited, from this link on
-abbrev pub Waits : List ℕ → ℕ → ℕ → Type 0
-Waits next link q = (o : ℕ) × Leads next link o × (o / 2 ≡ q)
+abbrev pub IsQueuedFrom : List ℕ → ℕ → ℕ → Type 0
+IsQueuedFrom next link q = (o : ℕ) × LeadsTo next link o × (o / 2 ≡ q)
 
 -- Marked variables have their level, and pending ones are marked. A gate whose two right sides are marked is marked,
 -- unless one of them is pending or the gate waits at this link.
@@ -69,4 +69,4 @@ pub record IsMarking (raw : Raw) (next : List ℕ) (link : ℕ) (marks : List Bo
   pub closed : (q : ℕ) (g : Gate) → slice_get raw.gates q ≡ Some g
       → IsMarked marks (variable g.rhs0) → IsMarked marks (variable g.rhs1)
       → IsMarked marks (variable g.lhs)
-      ⊎ (Contains pending (variable g.rhs0) ⊎ (Contains pending (variable g.rhs1) ⊎ Waits next link q))
+      ⊎ (Contains pending (variable g.rhs0) ⊎ (Contains pending (variable g.rhs1) ⊎ IsQueuedFrom next link q))

@@ -21,8 +21,8 @@ abbrev pub tally : List (SmallVec ℕ) → ℕ → ℕ → ℕ
 tally slots v w = count_by (nat_eq w) (items_at slots v)
 
 -- one more fits into the list of v
-abbrev pub Fits : List (SmallVec ℕ) → ℕ → Type 0
-Fits slots v = HasRoomFor (slice_index_or slots v (record { items = []; capacity = 0 })) 1
+abbrev pub FitsOneReader : List (SmallVec ℕ) → ℕ → Type 0
+FitsOneReader slots v = HasRoomFor (slice_index_or slots v (record { items = []; capacity = 0 })) 1
 
 -- u was taken out of a list where it stood
 pub record Loses (u : ℕ) (old new : List ℕ) : Type 0 where
@@ -35,14 +35,14 @@ pub record TakesOut (v u : ℕ) (old new : List (SmallVec ℕ)) : Type 0 where
   pub size : length new ≡ length old
   pub here : tally new v u ≡ 0
   pub others : (x w : ℕ) → (x ≢ v) ⊎ (w ≢ u) → tally new x w ≡ tally old x w
-  pub room : (x : ℕ) → Fits old x → Fits new x
+  pub room : (x : ℕ) → FitsOneReader old x → FitsOneReader new x
 
 -- u was added to the list of v
-pub record Adds (v u : ℕ) (old new : List (SmallVec ℕ)) : Type 0 where
+pub record AddsReader (v u : ℕ) (old new : List (SmallVec ℕ)) : Type 0 where
   pub size : length new ≡ length old
   pub here : tally new v u ≡ tally old v u + 1
   pub others : (x w : ℕ) → (x ≢ v) ⊎ (w ≢ u) → tally new x w ≡ tally old x w
-  pub room : (x : ℕ) → x ≢ v → Fits old x → Fits new x
+  pub room : (x : ℕ) → x ≢ v → FitsOneReader old x → FitsOneReader new x
 
 -- u was added to the lists of v and x, once where the two are one
 pub record AddsBoth (v x u : ℕ) (old new : List (SmallVec ℕ)) : Type 0 where
@@ -58,7 +58,7 @@ pub record Appends (v x u : ℕ) (old new : List (SmallVec ℕ)) : Type 0 where
   pub both : AddsBoth v x u (old ++ last ∷ []) new
 
 -- u was taken out of the lists of a and b, and then added to those of c and d
-pub record Moves (a b c d u : ℕ) (old new : List (SmallVec ℕ)) : Type 0 where
+pub record MovesReader (a b c d u : ℕ) (old new : List (SmallVec ℕ)) : Type 0 where
   pub first : List (SmallVec ℕ)
   pub second : List (SmallVec ℕ)
   pub out0 : TakesOut a u old first
@@ -66,14 +66,14 @@ pub record Moves (a b c d u : ℕ) (old new : List (SmallVec ℕ)) : Type 0 wher
   pub both : AddsBoth c d u second new
 
 -- no list changed, and where there was room there is room
-pub record Keeps (old new : List (SmallVec ℕ)) : Type 0 where
+pub record KeepsLists (old new : List (SmallVec ℕ)) : Type 0 where
   pub lists : map (λ s. s.items) new ≡ map (λ s. s.items) old
-  pub room : (x : ℕ) → Fits old x → Fits new x
+  pub room : (x : ℕ) → FitsOneReader old x → FitsOneReader new x
 
 -- room was made, and then u was added to the lists of v and x
 pub record Enters (v x u : ℕ) (old new : List (SmallVec ℕ)) : Type 0 where
   pub roomy : List (SmallVec ℕ)
-  pub keeps : Keeps old roomy
+  pub keeps : KeepsLists old roomy
   pub both : AddsBoth v x u roomy new
 
 -- the lists of n variables have what P says, each once

@@ -1,5 +1,5 @@
 -- Levels that are renewed in place where a gate gets other right sides: the search for a cycle, and the pass over the
--- gates behind the gate, in the order of their old levels.
+-- fan-out of the gate, in the order of the old levels.
 use Rattle.std.specs.Prelude.{◌≡◌, ◌≢◌, ◌⊎◌, ℕ, ◌+◌, ◌<◌, ◌≤◌, List, false, not, length, count_by, Some, Contains}
 use Rattle.std.specs.Prelude.{slice_get, slice_set, slice_index, slice_index_or, if◌then◌else◌}
 use Rattle.aig_parts.specs.declared.gate.Gate.{Gate}
@@ -16,28 +16,28 @@ use Rattle.aig_base.specs.state.Visits.{IsVisited, VisitsAmong}
 abbrev pub IsSide : Gate → ℕ → Type 0
 IsSide g u = (u ≡ variable g.rhs0) ⊎ (u ≡ variable g.rhs1)
 
--- v is t, or a gate that reads what is behind t
-pub data IsBehind (raw : Raw) (t : ℕ) : ℕ → Type 0 where
-  self : IsBehind raw t t
-  reader : (q : ℕ) (g : Gate) (u : ℕ) → slice_get raw.gates q ≡ Some g → IsSide g u → IsBehind raw t u
-      → IsBehind raw t (variable g.lhs)
+-- v is t, or a gate that reads what is in the fan-out of t
+pub data IsInFanOut (raw : Raw) (t : ℕ) : ℕ → Type 0 where
+  self : IsInFanOut raw t t
+  reader : (q : ℕ) (g : Gate) (u : ℕ) → slice_get raw.gates q ≡ Some g → IsSide g u → IsInFanOut raw t u
+      → IsInFanOut raw t (variable g.lhs)
 
--- a gate of the circuit may get these right sides: they are defined, and not behind the gate
+-- a gate of the circuit may get these right sides: they are defined, and not in the fan-out of the gate
 pub record IsRewire (raw : Raw) (g : Gate) : Type 0 where
   pub gate : IsLeftSide raw g.lhs
   pub defined0 : IsDefined raw (variable g.rhs0)
   pub defined1 : IsDefined raw (variable g.rhs1)
-  pub apart0 : IsBehind raw (variable g.lhs) (variable g.rhs0) → ⊥
-  pub apart1 : IsBehind raw (variable g.lhs) (variable g.rhs1) → ⊥
+  pub apart0 : IsInFanOut raw (variable g.lhs) (variable g.rhs0) → ⊥
+  pub apart1 : IsInFanOut raw (variable g.lhs) (variable g.rhs1) → ⊥
 
--- The search up from t for x and y, where only readers whose level is below a bound are met. What was met is behind t;
+-- The search up from t for x and y, where only readers below a level are met. What was met is in the fan-out of t;
 -- the readers of a variable that was met and does not wait were looked at: none is x or y, and those below the bound
 -- were met.
-pub record IsSearchUp (raw : Raw) (t x y bound : ℕ) (met waits : ℕ → Type 0) : Type 0 where
+pub record IsSearchUp (raw : Raw) (t x y bound : ℕ) (met queued : ℕ → Type 0) : Type 0 where
   pub start : met t
-  pub behind : (v : ℕ) → met v → IsBehind raw t v
+  pub reached : (v : ℕ) → met v → IsInFanOut raw t v
   pub looked : (q : ℕ) (g : Gate) (u : ℕ) → slice_get raw.gates q ≡ Some g → IsSide g u → met u
-      → waits u
+      → queued u
       ⊎ ((variable g.lhs ≢ x) × (variable g.lhs ≢ y)
       × ((m : ℕ) → Level raw (variable g.lhs) m → m < bound → met (variable g.lhs)))
 
@@ -46,9 +46,9 @@ pub record LooksAt (xs levels : List ℕ) (x y bound : ℕ) (s : Visits) : Type 
   pub other : (v : ℕ) → Contains xs v → (v ≢ x) × (v ≢ y)
   pub below : (v : ℕ) → Contains xs v → slice_index levels v < bound → IsVisited s v
 
--- x is not behind t, unless it is t or its level is over the bound
+-- x is not in the fan-out of t, unless it is t or its level is over the bound
 abbrev pub IsApart : Raw → ℕ → ℕ → ℕ → Type 0
-IsApart raw t bound x = (n : ℕ) → x ≢ t → Level raw x n → n ≤ bound → IsBehind raw t x → ⊥
+IsApart raw t bound x = (n : ℕ) → x ≢ t → Level raw x n → n ≤ bound → IsInFanOut raw t x → ⊥
 
 -- the row has the level that the variable has in these parts
 pub record HoldsLevel (raw : Raw) (row : List ℕ) (v : ℕ) : Type 0 where
@@ -57,15 +57,15 @@ pub record HoldsLevel (raw : Raw) (row : List ℕ) (v : ℕ) : Type 0 where
   pub cell : slice_get row v ≡ Some level
 
 -- the gate of v reads a variable whose level is known to have changed: t, or one that was evaluated
-abbrev pub IsTouched : Raw → ℕ → List ℕ → List ℕ → (ℕ → Type 0) → ℕ → Type 0
-IsTouched raw t old row done v =
+abbrev pub NeedsLevel : Raw → ℕ → List ℕ → List ℕ → (ℕ → Type 0) → ℕ → Type 0
+NeedsLevel raw t old row done v =
     (q : ℕ) × (g : Gate) × (u : ℕ) × (slice_get raw.gates q ≡ Some g) × IsSide g u × (variable g.lhs ≡ v)
     × ((u ≡ t) ⊎ done u) × (slice_get row u ≢ slice_get old u)
 
 -- The pass, once the changed gate t has its new level. Some gates were evaluated (done), some wait, and the others have
 -- their levels of before. A gate with a side whose level is known to have changed was evaluated or waits, and no other
 -- does. Levels below are those of before.
-pub record Renewing (raw : Raw) (lhs r0 r1 : ℕ) (old row : List ℕ) (waits done : ℕ → Type 0) : Type 0 where
+pub record Renewing (raw : Raw) (lhs r0 r1 : ℕ) (old row : List ℕ) (queued done : ℕ → Type 0) : Type 0 where
   pub size : length row ≡ length old
   pub changed : HoldsLevel (with_gate raw lhs r0 r1) row (variable lhs)
   pub sources : (v : ℕ) → IsSource raw v → slice_get row v ≡ slice_get old v
@@ -73,23 +73,23 @@ pub record Renewing (raw : Raw) (lhs r0 r1 : ℕ) (old row : List ℕ) (waits do
   pub others : (q : ℕ) (g : Gate) → slice_get raw.gates q ≡ Some g → variable g.lhs ≢ variable lhs
       → (done (variable g.lhs) → ⊥) → slice_get row (variable g.lhs) ≡ slice_get old (variable g.lhs)
   pub linked : (q : ℕ) (g : Gate) (u : ℕ) → slice_get raw.gates q ≡ Some g → variable g.lhs ≢ variable lhs → IsSide g u
-      → (u ≡ variable lhs) ⊎ done u → slice_get row u ≢ slice_get old u → waits (variable g.lhs) ⊎ done (variable g.lhs)
-  pub touched : (v : ℕ) → waits v ⊎ done v → IsTouched raw (variable lhs) old row done v
-  pub fresh : (v : ℕ) → waits v → done v → ⊥
-  pub over : (v m k : ℕ) → waits v → Level raw v m → Level raw (variable lhs) k → k < m
-  pub order : (v u m n : ℕ) → done v → waits u → Level raw v m → Level raw u n → m ≤ n
+      → (u ≡ variable lhs) ⊎ done u → slice_get row u ≢ slice_get old u → queued (variable g.lhs) ⊎ done (variable g.lhs)
+  pub touched : (v : ℕ) → queued v ⊎ done v → NeedsLevel raw (variable lhs) old row done v
+  pub fresh : (v : ℕ) → queued v → done v → ⊥
+  pub over : (v m k : ℕ) → queued v → Level raw v m → Level raw (variable lhs) k → k < m
+  pub order : (v u m n : ℕ) → done v → queued u → Level raw v m → Level raw u n → m ≤ n
 
 -- One step of the pass: the gate of w got a level, waits no more, and where that level is another the readers of w
 -- wait.
-pub record RenewsAt (raw : Raw) (w level : ℕ) (row row' : List ℕ) (waits waits' : ℕ → Type 0) : Type 0 where
+pub record RenewsAt (raw : Raw) (w level : ℕ) (row row' : List ℕ) (queued queued' : ℕ → Type 0) : Type 0 where
   pub size : length row' ≡ length row
   pub cell : slice_get row' w ≡ Some level
   pub same : (v : ℕ) → v ≢ w → slice_get row' v ≡ slice_get row v
-  pub keeps : (v : ℕ) → waits v → (v ≡ w) ⊎ waits' v
+  pub keeps : (v : ℕ) → queued v → (v ≡ w) ⊎ queued' v
   pub readers : slice_get row w ≢ Some level
-      → (q : ℕ) (g : Gate) → slice_get raw.gates q ≡ Some g → IsSide g w → waits' (variable g.lhs)
-  pub new : (v : ℕ) → waits' v
-      → (waits v × (v ≢ w))
+      → (q : ℕ) (g : Gate) → slice_get raw.gates q ≡ Some g → IsSide g w → queued' (variable g.lhs)
+  pub new : (v : ℕ) → queued' v
+      → (queued v × (v ≢ w))
       ⊎ ((slice_get row w ≢ Some level)
       × ((q : ℕ) × (g : Gate) × (slice_get raw.gates q ≡ Some g) × IsSide g w × (variable g.lhs ≡ v)))
 
@@ -102,7 +102,7 @@ pub record Queues (xs levels : List ℕ) (s s' : Visits) (queue queue' : Queued)
   pub among : VisitsAmong xs s s'
   pub all : (v : ℕ) → Contains xs v → IsVisited s' v
   pub counts : (v : ℕ) → copies queue' v + mark s v ≡ copies queue v + mark s' v
-  pub waiting : (e : ℕ × ℕ) → Contains queue'.entries e
+  pub listed : (e : ℕ × ℕ) → Contains queue'.entries e
       → Contains queue.entries e
       ⊎ ((e ≡ entry (slice_index levels e.1) e.1) × Contains xs e.1 × (IsVisited s e.1 → ⊥))
   pub left : length queue'.entries + count_by not s'.met.items ≡ length queue.entries + count_by not s.met.items

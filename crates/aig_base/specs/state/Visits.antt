@@ -26,7 +26,7 @@ pub record AreNoVisits (size : ℕ) (s : Visits) : Type 0 where
   pub room : size ≤ vec_capacity s.list
 
 -- one more variable fits without memory
-pub record FitsOneMore (s : Visits) : Type 0 where
+pub record FitsOneVisit (s : Visits) : Type 0 where
   pub marks : length s.met.items < vec_capacity s.met
   pub list : length s.met.items < vec_capacity s.list
 

@@ -2,7 +2,7 @@
 use Rattle.std.specs.Prelude.{◌≡◌, ℕ, ◌+◌, ◌≤◌, not, length, count_by}
 use Rattle.aig_base.specs.declared.worklist.Worklist.{Worklist}
 use Rattle.aig_base.specs.state.Queue.{IsEmptyQueue}
-use Rattle.aig_base.specs.state.Visits.{AreNoVisits, AreVisits, FitsOneMore}
+use Rattle.aig_base.specs.state.Visits.{AreNoVisits, AreVisits, FitsOneVisit}
 
 -- nothing was visited and nothing is queued, and there is room for so many variables
 pub record IsIdle (size : ℕ) (w : Worklist) : Type 0 where
@@ -17,5 +17,5 @@ pub record HasRoom (size : ℕ) (w : Worklist) : Type 0 where
 
 -- one more than so many variables fits without memory
 pub record FitsOneVariable (size : ℕ) (w : Worklist) : Type 0 where
-  pub visits : FitsOneMore w.visits
+  pub visits : FitsOneVisit w.visits
   pub queue : size + 1 ≤ w.queue.capacity

@@ -13,14 +13,14 @@ use Rattle.aig_base.proofs.circuits.Gates.{same_gate}
 use Rattle.aig_base.proofs.circuits.Circuits.{gate_is, source-gate}
 use Rattle.aig_base.proofs.lists.Positions.{Contains-cons}
 use Rattle.aig_base.proofs.values.UniqueValue.{unique}
-use Rattle.aig_bench.specs.Pair.{Pair, HasValue}
-use Rattle.aig_bench.specs.state.Current.{Holds, HoldsSources}
+use Rattle.aig_bench.specs.BenchState.{CircuitAndRows, HasValue}
+use Rattle.aig_bench.specs.state.Current.{HoldsInPair, HoldsSourcesInPair}
 use Rattle.aig_bench.specs.state.Entry.{Entering}
-use Rattle.aig_bench.specs.state.Passing.{Differs, IsSide, IsTouched, IsReached}
-use Rattle.aig_base.specs.Readers.{Reads}
-use Rattle.aig_bench.specs.state.Sweep.{Starts}
+use Rattle.aig_bench.specs.state.Passing.{Differs, IsSide, IsTouched, IsTouchedSoFar}
+use Rattle.aig_base.specs.Readers.{ReadsVariable}
+use Rattle.aig_bench.specs.state.Sweep.{PassStarts}
 use Rattle.aig_bench.proofs.cells.CellLemmas.{get_set_other}
-use Rattle.aig_bench.proofs.waits.Chained.{head_in, behind_in, none_marked}
+use Rattle.aig_bench.proofs.queues.Chained.{head_in, in_tail, none_marked}
 use Rattle.aig_bench.proofs.cells.Values.{holds_new, holds_still}
 
 pub no_element : (v : ℕ) → Contains {X = ℕ} [] v → ⊥
@@ -31,19 +31,19 @@ contains_or_not [] v = inr (no_element v)
 contains_or_not (x ∷ xs) v = elim (cases_eq v x) [
   | inl e ↦ inl (subst (Contains (x ∷ xs)) (sym e) (head_in x xs))
   | inr ne ↦ elim (contains_or_not xs v) [
-    | inl i ↦ inl (behind_in x xs v i)
+    | inl i ↦ inl (in_tail x xs v i)
     | inr out ↦ inr (λ i. elim (Contains-cons x xs v i) [ inl e ↦ ne e | inr j ↦ out j ])
   ]
 ]
 
-module _ (p : Pair) (t : ℕ) (forced : ℕ → Type 0) (old : List Tern) (sound : IsSound p.circuit) where
+module _ (p : CircuitAndRows) (t : ℕ) (forced : ℕ → Type 0) (old : List Tern) (sound : IsSound p.circuit) where
   pub entering_none : (marks : List Bool) → ((u : ℕ) → IsMarked marks u ↔ forced u)
       → Entering p t forced old old marks []
   entering_none marks h = record {
     sources = λ v i. absurd (no_element v i);
     holds = λ v i. absurd (no_element v i);
     others = λ v out. refl;
-    waits = λ u. (
+    queued = λ u. (
       λ m. inl ((h u).0 m),
       λ k. elim k [ inl f ↦ (h u).1 f | inr w ↦ absurd (no_element w.0 w.1) ],
     );
@@ -55,7 +55,7 @@ module _ (p : Pair) (t : ℕ) (forced : ℕ → Type 0) (old : List Tern) (sound
   module _ (row : List Tern) (marks marks' : List Bool) (xs : List ℕ) (v : ℕ) (w : Tern)
       (h : Entering p t forced old row marks xs) (source : IsSource p.circuit v) (wide : v < length row)
       (value : HasValue p t (2 * v) w)
-      (moved : (u : ℕ) → IsMarked marks' u ↔ (IsMarked marks u ⊎ (Reads p.circuit u v × (slice_get row v ≢ Some w)))) where
+      (moved : (u : ℕ) → IsMarked marks' u ↔ (IsMarked marks u ⊎ (ReadsVariable p.circuit u v × (slice_get row v ≢ Some w)))) where
     abbrev row' : List Tern
     row' = slice_set row v w
 
@@ -77,9 +77,9 @@ module _ (p : Pair) (t : ℕ) (forced : ℕ → Type 0) (old : List Tern) (sound
     before : (u : ℕ) → IsMarked marks u → IsMarked marks' u
     before u m = (moved u).1 (inl m)
 
-    back : (u : ℕ) → Reads p.circuit u v → Differs p t old v → IsMarked marks' u
+    back : (u : ℕ) → ReadsVariable p.circuit u v → Differs p t old v → IsMarked marks' u
     back u r d = elim (contains_or_not xs v) [
-      | inl i ↦ before u ((h.waits u).1 (inr (v, i, r, d)))
+      | inl i ↦ before u ((h.queued u).1 (inr (v, i, r, d)))
       | inr out ↦ (moved u).1 (inr (r, differs_fresh out d))
     ]
 
@@ -90,25 +90,25 @@ module _ (p : Pair) (t : ℕ) (forced : ℕ → Type 0) (old : List Tern) (sound
         | inr j ↦ h.sources u j
       ];
       holds = λ u i. elim (Contains-cons v xs u i) [
-        | inl e ↦ subst (Holds p t row') (sym e) (holds_new p t row v w wide value)
+        | inl e ↦ subst (HoldsInPair p t row') (sym e) (holds_new p t row v w wide value)
         | inr j ↦ holds_still p t row v w wide value u (h.holds u j)
       ];
       others = λ u out.
           let ne : u ≢ v = λ e. out (subst (Contains (v ∷ xs)) (sym e) (head_in v xs)) in
-          get_set_other row v u w ne ∙ h.others u (λ i. out (behind_in v xs u i));
-      waits = λ u. (
+          get_set_other row v u w ne ∙ h.others u (λ i. out (in_tail v xs u i));
+      queued = λ u. (
         λ m. elim ((moved u).0 m) [
-          | inl k ↦ elim ((h.waits u).0 k) [
+          | inl k ↦ elim ((h.queued u).0 k) [
             | inl f ↦ inl f
-            | inr x ↦ inr (x.0, behind_in v xs x.0 x.1, x.2, x.3)
+            | inr x ↦ inr (x.0, in_tail v xs x.0 x.1, x.2, x.3)
           ]
           | inr k ↦ inr (v, head_in v xs, k.0, fresh_differs k.1)
         ],
         λ k. elim k [
-          | inl f ↦ before u ((h.waits u).1 (inl f))
+          | inl f ↦ before u ((h.queued u).1 (inl f))
           | inr x ↦ elim (Contains-cons v xs x.0 x.1) [
-            | inl e ↦ back u (subst (Reads p.circuit u) e x.2) (subst (Differs p t old) e x.3)
-            | inr j ↦ before u ((h.waits u).1 (inr (x.0, j, x.2, x.3)))
+            | inl e ↦ back u (subst (ReadsVariable p.circuit u) e x.2) (subst (Differs p t old) e x.3)
+            | inr j ↦ before u ((h.queued u).1 (inr (x.0, j, x.2, x.3)))
           ]
         ],
       );
@@ -122,8 +122,8 @@ module _ (p : Pair) (t : ℕ) (forced : ℕ → Type 0) (old : List Tern) (sound
 
   -- where the sources that were not put have their values in the old cells, a pass starts
   pub entered : (row : List Tern) (marks : List Bool) (xs : List ℕ) → Entering p t forced old row marks xs
-      → ((v : ℕ) → IsSource p.circuit v → (Contains xs v → ⊥) → Holds p t old v)
-      → Starts p t forced old row marks
+      → ((v : ℕ) → IsSource p.circuit v → (Contains xs v → ⊥) → HoldsInPair p t old v)
+      → PassStarts p t forced old row marks
   entered row marks xs h rest = record {
     done = none;
     size = length-replicate (p.circuit.max_var + 1) false;
@@ -133,12 +133,12 @@ module _ (p : Pair) (t : ℕ) (forced : ℕ → Type 0) (old : List Tern) (sound
       evaluated = λ q g at d. absurd (not_done (variable g.lhs) d);
       others = λ q g at nd. h.others (variable g.lhs)
           (λ i. source-gate p.circuit sound (variable g.lhs) (h.sources (variable g.lhs) i) (gate_is p.circuit q g at));
-      linked = λ q g at r. inl ((h.waits (variable g.lhs)).1 (reached q g at r));
-      waiting = λ q g at m. (touched q g at ((h.waits (variable g.lhs)).0 m), not_done (variable g.lhs));
+      linked = λ q g at r. inl ((h.queued (variable g.lhs)).1 (reached q g at r));
+      queued_count = λ q g at m. (touched q g at ((h.queued (variable g.lhs)).0 m), not_done (variable g.lhs));
     };
   }
     where
-      source : HoldsSources p t row
+      source : HoldsSourcesInPair p t row
       source v s = elim (contains_or_not xs v) [
         | inl i ↦ h.holds v i
         | inr out ↦
@@ -155,15 +155,15 @@ module _ (p : Pair) (t : ℕ) (forced : ℕ → Type 0) (old : List Tern) (sound
             absurd (d.other (k.cell_is ∙ ap Some e))
       ]
 
-      reached : (q : ℕ) (g : Gate) → slice_get p.circuit.gates q ≡ Some g → IsReached p t forced old none g
+      reached : (q : ℕ) (g : Gate) → slice_get p.circuit.gates q ≡ Some g → IsTouchedSoFar p t forced old none g
           → forced (variable g.lhs)
-          ⊎ ((v : ℕ) × Contains xs v × Reads p.circuit (variable g.lhs) v × Differs p t old v)
+          ⊎ ((v : ℕ) × Contains xs v × ReadsVariable p.circuit (variable g.lhs) v × Differs p t old v)
       reached q g at (inl f) = inl f
       reached q g at (inr (u, side, inl s, d)) = inr (u, put u s d, (q, g, at, refl, side), d)
       reached q g at (inr (u, side, inr k, d)) = absurd (not_done u k)
 
       touched : (q : ℕ) (g : Gate) → slice_get p.circuit.gates q ≡ Some g → forced (variable g.lhs)
-          ⊎ ((v : ℕ) × Contains xs v × Reads p.circuit (variable g.lhs) v × Differs p t old v)
+          ⊎ ((v : ℕ) × Contains xs v × ReadsVariable p.circuit (variable g.lhs) v × Differs p t old v)
           → IsTouched p t forced old g
       touched q g at (inl f) = inl f
       touched q g at (inr (v, i, (r, x, there, e, side), d)) =

@@ -10,7 +10,7 @@ use Rattle.aig_parts.specs.declared.ternary.Tern.{Tern}
 use Rattle.aig_parts.specs.Literal.{variable}
 use Rattle.aig_bench.specs.declared.latch_list.LatchList.{LatchList}
 use Rattle.aig_bench.specs.declared.latch_readers.LatchReaders.{LatchReaders}
-use Rattle.aig_bench.specs.state.Latches.{Follows, IsLast, AreLatchReaders, Lists}
+use Rattle.aig_bench.specs.state.Latches.{TakesNextFrom, IsLast, AreLatchReaders, Lists}
 use Rattle.aig_bench.proofs.cells.CellLemmas.{get_set_same, get_set_other}
 
 -- the chains of the first n latches
@@ -107,8 +107,8 @@ module _ (raw : Raw) where
 -- the latches over this one that follow the variable were added
 pub record AreListedOver (raw : Raw) (v i : ℕ) (old new : LatchList) : Type 0 where
   pub inside : i ≤ length raw.latches
-  pub follows : i ≢ 0 → Follows raw i v
-  pub lists : Lists (λ j. Follows raw j v × (i < j)) old new
+  pub follows : i ≢ 0 → TakesNextFrom raw i v
+  pub lists : Lists (λ j. TakesNextFrom raw j v × (i < j)) old new
 
 module _ (raw : Raw) (readers : LatchReaders) (are : AreLatchReaders raw readers) (v : ℕ) where
   pub listing_none : (i : ℕ) (list : LatchList) → slice_get readers.last.items v ≡ Some i → AreListedOver raw v i list list
@@ -152,7 +152,7 @@ module _ (raw : Raw) (readers : LatchReaders) (are : AreLatchReaders raw readers
                 | inl s ↦ inl s
                 | inr f ↦ inr (f.0, omega (arith, f.1))
               ]
-              | inr e ↦ inr (subst (λ (n : ℕ). Follows raw n v) (sym e) (h.follows some), omega arith)
+              | inr e ↦ inr (subst (λ (n : ℕ). TakesNextFrom raw n v) (sym e) (h.follows some), omega arith)
             ],
             λ m. elim m [
               | inl s ↦ (adds j).1 (inl ((h.lists j).1 (inl s)))
@@ -195,10 +195,10 @@ readers_same raw new readers h variables size was now = record {
       subst (λ (n : ℕ). IsLast new (variable n) p i) next (last_same (variable y.next) p i (h.before p i y there is));
 }
   where
-    follows_now : (i v : ℕ) → Follows raw i v → Follows new i v
+    follows_now : (i v : ℕ) → TakesNextFrom raw i v → TakesNextFrom new i v
     follows_now i v (p, y, is, at, reads) = let (x, there, next) = now p y at in (p, x, is, there, ap variable (sym next) ∙ reads)
 
-    follows_was : (i v : ℕ) → Follows new i v → Follows raw i v
+    follows_was : (i v : ℕ) → TakesNextFrom new i v → TakesNextFrom raw i v
     follows_was i v (p, x, is, at, reads) = let (y, there, next) = was p x at in (p, y, is, there, ap variable next ∙ reads)
 
     last_same : (v n i : ℕ) → IsLast raw v n i → IsLast new v n i

@@ -7,10 +7,10 @@ use Rattle.std.proofs.lemmas.Option.{slice_get_within}
 use Rattle.aig_base.specs.state.Marks.{IsMarked}
 use Rattle.aig_bench.specs.declared.latch_list.LatchList.{LatchList}
 use Rattle.aig_bench.specs.state.Buckets.{AreChained}
-use Rattle.aig_bench.specs.state.Latches.{IsLatchList, IsListed}
-use Rattle.aig_bench.specs.state.Sweep.{waiting}
-use Rattle.aig_bench.proofs.waits.Chained.{linked, linked_waits, none_of_level, first_waits, first_inside, first_inside_marks, taken_waits, taken, none_marked}
-use Rattle.aig_bench.proofs.waits.Waiting.{waiting_less}
+use Rattle.aig_bench.specs.state.Latches.{IsLatchList, IsInLatchList}
+use Rattle.aig_bench.specs.state.Sweep.{queued_count}
+use Rattle.aig_bench.proofs.queues.Chained.{linked, linked_queued, none_of_level, first_queued, first_inside, first_inside_marks, taken_queued, taken, none_marked}
+use Rattle.aig_bench.proofs.queues.Queued.{queued_count_less}
 
 zero_at : (n v : ℕ) → v < n → slice_get {X = ℕ} (replicate n 0) v ≡ Some 0
 zero_at zero v lt = absurd (omega arith)
@@ -29,15 +29,15 @@ module _ (n first : ℕ) (next : List ℕ) (marks : List Bool) (size : length ma
     pub list_linked : AreChained (replicate (n + 1) 0) (v ∷ []) (set next v first) (set marks v true)
     list_linked = linked (replicate (n + 1) 0) (first ∷ []) next marks h v 0 first at (omega arith) positive refl unmarked
 
-    pub list_waits : (u : ℕ) → IsMarked (set marks v true) u ↔ (IsMarked marks u ⊎ (u ≡ v))
-    list_waits = linked_waits (replicate (n + 1) 0) (first ∷ []) next marks h v 0 first at (omega arith) positive refl unmarked
+    pub list_queued : (u : ℕ) → IsMarked (set marks v true) u ↔ (IsMarked marks u ⊎ (u ≡ v))
+    list_queued = linked_queued (replicate (n + 1) 0) (first ∷ []) next marks h v 0 first at (omega arith) positive refl unmarked
 
   pub list_none : first ≡ 0 → (u : ℕ) → IsMarked marks u → ⊥
   list_none e u m = none_of_level (replicate (n + 1) 0) (first ∷ []) next marks h 0 (omega arith) first refl e u m (marked_zero u m)
 
   module _ (some : first ≢ 0) where
     pub list_first : IsMarked marks first
-    list_first = first_waits (replicate (n + 1) 0) (first ∷ []) next marks h 0 (omega arith) first refl some
+    list_first = first_queued (replicate (n + 1) 0) (first ∷ []) next marks h 0 (omega arith) first refl some
 
     pub list_inside : first < length next
     list_inside = first_inside (replicate (n + 1) 0) (first ∷ []) next marks h 0 (omega arith) first refl some
@@ -46,7 +46,7 @@ module _ (n first : ℕ) (next : List ℕ) (marks : List Bool) (size : length ma
     list_inside_marks = first_inside_marks (replicate (n + 1) 0) (first ∷ []) next marks h 0 (omega arith) first refl some
 
     pub list_left : (u : ℕ) → IsMarked (set marks first false) u ↔ (IsMarked marks u × (u ≢ first))
-    list_left = taken_waits (replicate (n + 1) 0) (first ∷ []) next marks h 0 (omega arith) first refl some
+    list_left = taken_queued (replicate (n + 1) 0) (first ∷ []) next marks h 0 (omega arith) first refl some
 
     pub list_taken : (second : ℕ) → second ≡ get_or next first second
         → AreChained (replicate (n + 1) 0) (second ∷ []) next (set marks first false)
@@ -54,12 +54,12 @@ module _ (n first : ℕ) (next : List ℕ) (marks : List Bool) (size : length ma
 
 -- how many latches a list has
 abbrev pub listed : List Bool → ℕ
-listed marks = waiting (replicate (length marks) 0) marks 0
+listed marks = queued_count (replicate (length marks) 0) marks 0
 
-pub listed_less : (n i : ℕ) (old new : LatchList) → IsLatchList n old → IsLatchList n new → IsListed old i
-    → ((j : ℕ) → IsListed new j ↔ (IsListed old j × (j ≢ i))) → listed new.marks.items < listed old.marks.items
+pub listed_less : (n i : ℕ) (old new : LatchList) → IsLatchList n old → IsLatchList n new → IsInLatchList old i
+    → ((j : ℕ) → IsInLatchList new j ↔ (IsInLatchList old j × (j ≢ i))) → listed new.marks.items < listed old.marks.items
 listed_less n i old new h k m left =
-    rw (h.size, k.size) (waiting_less (replicate (n + 1) 0) old.marks.items new.marks.items 0 i
+    rw (h.size, k.size) (queued_count_less (replicate (n + 1) 0) old.marks.items new.marks.items 0 i
     (h.size ∙ sym (length-replicate (n + 1) 0)) (λ u at l. ((left u).0 l).0)
     (zero_at (n + 1) i (let lt = slice_get_within old.marks.items i true m in let s = h.size in omega arith)) m
     (λ l. ((left i).0 l).1 refl))
@@ -89,8 +89,8 @@ list_new n l e next marks = record {
       placed = λ v m. absurd (none_marked size [] [] marks em v m);
     }
 
--- whether there is a first one tells whether there is any
-pub list_empty : (n : ℕ) (l : LatchList) → IsLatchList n l → IsTrue (nat_eq l.first 0) ↔ ((i : ℕ) → IsListed l i → ⊥)
+-- there is a first one exactly where there is any
+pub list_empty : (n : ℕ) (l : LatchList) → IsLatchList n l → IsTrue (nat_eq l.first 0) ↔ ((i : ℕ) → IsInLatchList l i → ⊥)
 list_empty n l h = elim (eqb_tells l.first 0) [
   | inl e ↦ (λ t. list_none n l.first l.next.items l.marks.items h.size h.chained e.1, λ k. e.0)
   | inr e ↦ (

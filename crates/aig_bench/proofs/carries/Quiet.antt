@@ -6,26 +6,26 @@ use Rattle.aig_values.specs.InputRows.{row_at}
 use Rattle.aig_bench.specs.declared.buckets.Buckets.{Buckets}
 use Rattle.aig_bench.specs.declared.driven_circuit.DrivenCircuit.{DrivenCircuit}
 use Rattle.aig_bench.specs.declared.fanouts.Fanouts.{Fanouts}
-use Rattle.aig_bench.specs.state.Buckets.{Waits}
-use Rattle.aig_bench.specs.state.Current.{Holds, HoldsLatches}
-use Rattle.aig_bench.specs.state.Entry.{Rests}
+use Rattle.aig_bench.specs.state.Buckets.{IsQueued}
+use Rattle.aig_bench.specs.state.Current.{HoldsInPair, HoldsLatchesInPair}
+use Rattle.aig_bench.specs.state.Entry.{HasOtherSources}
 use Rattle.aig_bench.specs.state.Passing.{IsConsistent}
 use Rattle.aig_bench.specs.state.Pending.{IsNextRow}
 use Rattle.aig_bench.specs.state.DrivenCircuit.{pair_of}
 use Rattle.aig_bench.specs.state.Renewed.{Renewed}
-use Rattle.aig_bench.specs.state.Sweep.{IsWork, Ends}
+use Rattle.aig_bench.specs.state.Sweep.{IsWork, PassEnds}
 use Rattle.aig_bench.proofs.carries.Carrying.{carries_none, started}
 use Rattle.aig_bench.proofs.carries.Entries.{no_element, entering_none}
-use Rattle.aig_bench.proofs.carries.Handed.{latch_next_holds}
+use Rattle.aig_bench.proofs.carries.NextLatches.{latch_next_holds}
 use Rattle.aig_bench.proofs.renewals.RenewalLemmas.{renewed_none, renewed_one, renewed_join}
 use Rattle.aig_bench.proofs.passes.SweepEnds.{ended}
 use Rattle.aig_bench.proofs.passes.Sweeps.{sweeps_none, sweeps_far}
 
 module _ (driven : DrivenCircuit) (fanouts : Fanouts) (flags : List Bool) (cells : List (List Tern)) (b : Buckets)
-    (work : IsWork driven fanouts flags cells b) (empty : (v : ℕ) → Waits b v → ⊥) where
+    (work : IsWork driven fanouts flags cells b) (empty : (v : ℕ) → IsQueued b v → ⊥) where
   -- where all sources have their values and nothing waits, a pass has ended
-  quiet_frame : (t : ℕ) (row : List Tern) → IsConsistent (pair_of driven) (Contains []) row → Rests (pair_of driven) t row []
-      → HoldsLatches (pair_of driven) t row → Ends (pair_of driven) t (Contains []) row row b.marks.items 0 0
+  quiet_frame : (t : ℕ) (row : List Tern) → IsConsistent (pair_of driven) (Contains []) row → HasOtherSources (pair_of driven) t row []
+      → HoldsLatchesInPair (pair_of driven) t row → PassEnds (pair_of driven) t (Contains []) row row b.marks.items 0 0
   quiet_frame t row fits rest latches =
       let p = pair_of driven in
       let sound = work.driven_is.circuit.sound in
@@ -43,10 +43,10 @@ module _ (driven : DrivenCircuit) (fanouts : Fanouts) (flags : List Bool) (cells
 
   module _ (n : ℕ) (rows : List (List Tern)) (first : ℕ)
       (fits : (t : ℕ) → first ≤ t → t < n → IsConsistent (pair_of driven) (Contains []) (row_at rows t)
-      × Rests (pair_of driven) t (row_at rows t) [])
+      × HasOtherSources (pair_of driven) t (row_at rows t) [])
       (next : (t : ℕ) → first ≤ t → suc t < n → IsNextRow driven.circuit (row_at rows t) (row_at rows (suc t))) where
     -- from a frame on at which all latches have their values
-    pub quiet : (k t : ℕ) → t + k ≡ n → first ≤ t → (t < n → HoldsLatches (pair_of driven) t (row_at rows t))
+    pub quiet : (k t : ℕ) → t + k ≡ n → first ≤ t → (t < n → HoldsLatchesInPair (pair_of driven) t (row_at rows t))
         → Renewed (pair_of driven) [] t n rows rows 0 0
     quiet zero t e le latches =
         let same : t ≡ n = omega arith in
@@ -59,7 +59,7 @@ module _ (driven : DrivenCircuit) (fanouts : Fanouts) (flags : List Bool) (cells
         let rest = quiet k (t + 1) (omega arith) (omega arith) (λ more i x at.
         let less : suc t < n = omega arith in
         let is : suc t ≡ t + 1 = omega arith in
-        subst (λ (m : ℕ). Holds (pair_of driven) m (row_at rows m) (variable x.lit)) is
+        subst (λ (m : ℕ). HoldsInPair (pair_of driven) m (row_at rows m) (variable x.lit)) is
         (latch_next_holds (pair_of driven) t work.driven_is.circuit.sound (row_at rows t) (row_at rows (suc t)) i x at
         ends.current (next t le less i x at))) in
         renewed_join (pair_of driven) [] t (t + 1) n 0 0 0 0 rows rows rows (omega arith) (omega arith) one rest
@@ -68,13 +68,13 @@ module _ (driven : DrivenCircuit) (fanouts : Fanouts) (flags : List Bool) (cells
   pub stopped : (n first t e c : ℕ) (forced : List ℕ) (old new : List (List Tern)) → length forced ≡ 0
       → Renewed (pair_of driven) forced first t old new e c → first ≤ t → t ≤ n
       → ((u : ℕ) → first ≤ u → u < n → IsConsistent (pair_of driven) (Contains forced) (row_at old u)
-      × Rests (pair_of driven) u (row_at old u) [])
+      × HasOtherSources (pair_of driven) u (row_at old u) [])
       → ((u : ℕ) → first ≤ u → suc u < n → IsNextRow driven.circuit (row_at old u) (row_at old (suc u)))
-      → (t < n → HoldsLatches (pair_of driven) t (row_at new t)) → Renewed (pair_of driven) forced first n old new e c
+      → (t < n → HoldsLatchesInPair (pair_of driven) t (row_at new t)) → Renewed (pair_of driven) forced first n old new e c
   stopped n first t e c [] old new size r le end fits next latches =
       let p = pair_of driven in
       let kept : (u : ℕ) → t ≤ u → row_at old u ≡ row_at new u = λ u over. sym (r.others u (inr over)) in
-      let rest = quiet n new t (λ u over lt. subst (λ (row : List Tern). IsConsistent p (Contains []) row × Rests p u row [])
+      let rest = quiet n new t (λ u over lt. subst (λ (row : List Tern). IsConsistent p (Contains []) row × HasOtherSources p u row [])
       (kept u over) (fits u (omega arith) lt))
       (λ u over lt. subst (λ (row : List Tern). IsNextRow driven.circuit row (row_at new (suc u))) (kept u over)
       (subst (λ (row : List Tern). IsNextRow driven.circuit (row_at old u) row) (kept (suc u) (omega arith))

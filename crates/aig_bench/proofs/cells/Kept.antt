@@ -8,8 +8,8 @@ use Rattle.aig_base.specs.Sound.{IsSound}
 use Rattle.aig_base.specs.Value as value
 use Rattle.aig_base.specs.Value.{Value, start_of, reset_value}
 use Rattle.aig_base.proofs.values.UniqueValue.{unique}
-use Rattle.aig_bench.specs.state.Current.{Holds}
-use Rattle.aig_bench.specs.Pair.{Pair, HasValue}
+use Rattle.aig_bench.specs.state.Current.{HoldsInPair}
+use Rattle.aig_bench.specs.BenchState.{CircuitAndRows, HasValue}
 use Rattle.aig_bench.specs.Touched.{HasOther}
 
 -- the same inputs and latches, and each gate that was there
@@ -32,8 +32,8 @@ module _ (raw more : Raw) (start : List Tern) (rows : List (List Tern)) (h : Has
   value_stays (value.negated t l w over odd v) = value.negated t l w over odd (value_stays v)
 
 -- the pair with such a circuit
-module _ (p : Pair) (more : Raw) (h : HasAll p.circuit more) where
-  abbrev after : Pair
+module _ (p : CircuitAndRows) (more : Raw) (h : HasAll p.circuit more) where
+  abbrev after : CircuitAndRows
   after = record p { circuit = more }
 
   same_start : start_of more ≡ start_of p.circuit
@@ -45,7 +45,7 @@ module _ (p : Pair) (more : Raw) (h : HasAll p.circuit more) where
       (value_stays p.circuit more (start_of p.circuit) p.rows h v)
 
   pub holds_still : (t v : ℕ) (row row' : List Tern) → slice_get row' v ≡ slice_get row v
-      → Holds p t row v → Holds after t row' v
+      → HoldsInPair p t row v → HoldsInPair after t row' v
   holds_still t v row row' same k =
       record { cell = k.cell; cell_is = same ∙ k.cell_is; value_is = has_still t _ k.cell k.value_is }
 

@@ -27,15 +27,15 @@ use Rattle.aig_values.specs.InputRows.{InputRows, row_at, with_cell, HaveWidth}
 use Rattle.aig_bench.specs.declared.buckets.Buckets.{Buckets}
 use Rattle.aig_bench.specs.declared.driven_circuit.DrivenCircuit.{DrivenCircuit}
 use Rattle.aig_bench.specs.declared.fanouts.Fanouts.{Fanouts}
-use Rattle.aig_bench.specs.state.Buckets.{AreBuckets, IsChain, HasChain, Waits}
+use Rattle.aig_bench.specs.state.Buckets.{AreBuckets, IsBucketChain, HasChain, IsQueued}
 use Rattle.aig_values.specs.Cells.{literal_value}
-use Rattle.aig_bench.specs.state.Current.{IsLaidOut, Holds, HoldsLatches, IsCurrentRow, IsCurrentBefore, AreCurrent, IsBench}
+use Rattle.aig_bench.specs.state.Current.{IsLaidOut, HoldsInPair, HoldsLatchesInPair, IsCurrentRow, IsCurrentBefore, AreCurrent, IsBench}
 use Rattle.aig_bench.specs.Edit.{Edit, edited, set_bit, rewire, set_reset, add_frame, drop_frame}
 use Rattle.aig_bench.specs.declared.pending.Pending.{Pending}
 use Rattle.aig_bench.specs.state.Latches.{AreLatchReaders, IsLatchAt}
 use Rattle.aig_bench.specs.state.Pending.{HasLists, IsNextRow}
-use Rattle.aig_bench.specs.state.Entry.{LatchesRest, Rests}
-use Rattle.aig_bench.specs.Pair.{Pair, HasValue}
+use Rattle.aig_bench.specs.state.Entry.{LatchesRest, HasOtherSources}
+use Rattle.aig_bench.specs.BenchState.{CircuitAndRows, HasValue}
 use Rattle.aig_bench.specs.state.Passing.{Differs, IsConsistent}
 use Rattle.aig_bench.specs.state.DrivenCircuit.{IsDriven, pair_of}
 use Rattle.aig_bench.specs.state.Renewed.{IsBetween, IsTouchedCell, IsChangedCell, Renewed}
@@ -43,14 +43,14 @@ use Rattle.aig_bench.specs.state.Sweep.{IsWork, IsWorking}
 use Rattle.aig_bench.specs.Touched.{HasOther, IsForced, Touches, Changes, AreCells}
 use Rattle.aig_bench.proofs.cells.CellLemmas.{get_set_other, row_written, row_other, frames_written}
 use Rattle.aig_bench.proofs.renewals.Changed.{current_below, slice_get_take, slice_get_append}
-use Rattle.aig_bench.proofs.waits.Chained.{head_in}
+use Rattle.aig_bench.proofs.queues.Chained.{head_in}
 use Rattle.aig_bench.proofs.cells.Earlier.{value_before}
 use Rattle.aig_base.proofs.levels.LevelBound.{level_bound}
-use Rattle.aig_bench.proofs.waits.Once.{never_once}
+use Rattle.aig_bench.proofs.queues.Once.{never_once}
 use Rattle.aig_bench.proofs.passes.Others.{differs_other, other_differs, consistent}
 use Rattle.aig_bench.proofs.renewals.RenewalLemmas.{cells_same, cells_none, frame_cells}
 use Rattle.aig_bench.proofs.edits.Rewired.{left_side_gate, defined_was, gate_was, gate_kept}
-use Rattle.aig_bench.proofs.carries.Handed.{latch_next_holds}
+use Rattle.aig_bench.proofs.carries.NextLatches.{latch_next_holds}
 use Rattle.aig_bench.proofs.carries.LatchChains.{latch_unmapped}
 use Rattle.aig_bench.proofs.cells.Values.{input_value, latch_value, latch_starts, latch_follows}
 
@@ -59,7 +59,7 @@ empty_chain : (levels levels' head next : List ℕ) (marks : List Bool) (l : ℕ
     → ((v : ℕ) → slice_get marks v ≡ Some true → ⊥) → HasChain levels' head next marks l
 empty_chain levels levels' head next marks l h empty = of h.chain h.leads h.each
   where
-    of : (chain : List ℕ) → IsChain next (get_or head l 0) chain → ((v : ℕ) → Contains chain v ↔ ((slice_get marks v ≡ Some true) × (slice_get levels v ≡ Some l)))
+    of : (chain : List ℕ) → IsBucketChain next (get_or head l 0) chain → ((v : ℕ) → Contains chain v ↔ ((slice_get marks v ≡ Some true) × (slice_get levels v ≡ Some l)))
         → HasChain levels' head next marks l
     of [] leads each = record {
       chain = [];
@@ -69,7 +69,7 @@ empty_chain levels levels' head next marks l h empty = of h.chain h.leads h.each
     of (x ∷ xs) leads each = absurd (empty x ((each x).0 (head_in x xs)).0)
 
 pub buckets_empty : (levels levels' : List ℕ) (b : Buckets) → AreBuckets levels b → length levels' ≡ length levels
-    → ((v : ℕ) → Waits b v → ⊥) → AreBuckets levels' b
+    → ((v : ℕ) → IsQueued b v → ⊥) → AreBuckets levels' b
 buckets_empty levels levels' b h size empty = record {
   chained = record {
     marks_size = h.chained.marks_size ∙ sym size;
@@ -83,7 +83,7 @@ buckets_empty levels levels' b h size empty = record {
 
 -- empty buckets serve another driven of the same size
 pub work_for : (driven new : DrivenCircuit) (fanouts fanouts' : Fanouts) (flags flags' : List Bool) (cells cells' : List (List Tern)) (b : Buckets)
-    → IsWork driven fanouts flags cells b → ((v : ℕ) → Waits b v → ⊥) → new.circuit.max_var ≡ driven.circuit.max_var → IsDriven new
+    → IsWork driven fanouts flags cells b → ((v : ℕ) → IsQueued b v → ⊥) → new.circuit.max_var ≡ driven.circuit.max_var → IsDriven new
     → IsLaidOut new flags' cells' → AreLevels new.circuit fanouts'.levels → AreReaders new.circuit fanouts'.readers
     → IsWork new fanouts' flags' cells' b
 work_for driven new fanouts fanouts' flags flags' cells cells' b w empty size p laid_out levels readers = record {
@@ -98,7 +98,7 @@ work_for driven new fanouts fanouts' flags flags' cells cells' b w empty size p 
 }
 
 -- what an edit leaves of a pair: the same gates but for those that are evaluated in any case, and the same inputs
-pub record Follows (p p' : Pair) (forced : List ℕ) : Type 0 where
+pub record Follows (p p' : CircuitAndRows) (forced : List ℕ) : Type 0 where
   pub frames : length p'.rows ≡ length p.rows
   pub inputs : p'.circuit.inputs ≡ p.circuit.inputs
   pub gates : (q : ℕ) (g : Gate) → slice_get p'.circuit.gates q ≡ Some g
@@ -109,11 +109,11 @@ pub record Follows (p p' : Pair) (forced : List ℕ) : Type 0 where
   pub latches : (i : ℕ) (x : Latch) → slice_get p'.circuit.latches i ≡ Some x
       → (y : Latch) × (slice_get p.circuit.latches i ≡ Some y) × (y.lit ≡ x.lit) × (y.next ≡ x.next)
 
-module _ (p p' : Pair) (forced : List ℕ) (h : Follows p p' forced) (sound : IsSound p.circuit) (sound' : IsSound p'.circuit)
+module _ (p p' : CircuitAndRows) (forced : List ℕ) (h : Follows p p' forced) (sound : IsSound p.circuit) (sound' : IsSound p'.circuit)
     (widths : HaveWidth (length p.circuit.inputs) p.rows) where
   -- an input whose bit is the same has the same value
   pub input_stays : (t i l : ℕ) (row : List Tern) → t < length p.rows → slice_get p'.circuit.inputs i ≡ Some l
-      → slice_get (row_at p'.rows t) i ≡ slice_get (row_at p.rows t) i → Holds p t row (variable l) → Holds p' t row (variable l)
+      → slice_get (row_at p'.rows t) i ≡ slice_get (row_at p.rows t) i → HoldsInPair p t row (variable l) → HoldsInPair p' t row (variable l)
   input_stays t i l row lt at same k =
       let was : slice_get p.circuit.inputs i ≡ Some l = ap (λ (ls : List ℕ). slice_get ls i) (sym h.inputs) ∙ at in
       let wide : length (row_at p.rows t) ≡ length p.circuit.inputs = widths t [] lt in
@@ -132,7 +132,7 @@ module _ (p p' : Pair) (forced : List ℕ) (h : Follows p p' forced) (sound : Is
     pub rests : (t : ℕ) (put : List ℕ) → t < length p.rows → slice_get (row_at cells t) 0 ≡ Some Zero
         → ((i l : ℕ) → slice_get p'.circuit.inputs i ≡ Some l → (Contains put (variable l) → ⊥)
         → slice_get (row_at p'.rows t) i ≡ slice_get (row_at p.rows t) i)
-        → Rests p' t (row_at cells t) put
+        → HasOtherSources p' t (row_at cells t) put
     rests t put lt z same = record {
       constant = z;
       inputs = λ i l at out.
@@ -159,7 +159,7 @@ module _ (p p' : Pair) (forced : List ℕ) (h : Follows p p' forced) (sound : Is
 
     -- a latch that starts as before has its value at the first frame
     pub first_holds : (i : ℕ) (x y : Latch) → slice_get p'.circuit.latches i ≡ Some x → slice_get p.circuit.latches i ≡ Some y
-        → y.lit ≡ x.lit → y.reset ≡ x.reset → 0 < length p.rows → Holds p' 0 (row_at cells 0) (variable x.lit)
+        → y.lit ≡ x.lit → y.reset ≡ x.reset → 0 < length p.rows → HoldsInPair p' 0 (row_at cells 0) (variable x.lit)
     first_holds i x y at was lit reset lt =
         let k = now.each 0 lt (variable y.lit) (latch_defined p.circuit i y was) in
         let v = latch_value p 0 i y (reset_value y.reset) sound was (latch_starts p i y was) in
@@ -180,7 +180,7 @@ module _ (p p' : Pair) (forced : List ℕ) (h : Follows p p' forced) (sound : Is
       there : (t : ℕ) → IsBetween first n t → (t < length p.rows) × (t < length p'.rows)
       there t k = (omega arith, omega (arith, h.frames))
 
-      holds : (t v : ℕ) → IsBetween first n t → IsDefined p'.circuit v → Holds p t (row_at cells t) v
+      holds : (t v : ℕ) → IsBetween first n t → IsDefined p'.circuit v → HoldsInPair p t (row_at cells t) v
       holds t v k d = now.each t (there t k).0 v (h.defined v d)
 
       from_first : (t v : ℕ) → t < length p.rows → HasOther p p' t v → IsBetween first n t
@@ -301,7 +301,7 @@ module _ (p p' : Pair) (forced : List ℕ) (h : Follows p p' forced) (sound : Is
       changed_cells new ev ch r = cells_same _ _ ch r.changed_cells changes
 
 -- below a frame up to which the rows agree nothing has another value
-pub no_other : (p : Pair) (rows : List (List Tern)) (m : ℕ) → IsSound p.circuit
+pub no_other : (p : CircuitAndRows) (rows : List (List Tern)) (m : ℕ) → IsSound p.circuit
     → ((t : ℕ) → t < m → slice_get rows t ≡ slice_get p.rows t)
     → (t v : ℕ) → t < m → HasOther p (record p { rows = rows }) t v → ⊥
 no_other p rows m sound same t v lt o =
@@ -309,11 +309,11 @@ no_other p rows m sound same t v lt o =
     (value_before p.circuit (start_of p.circuit) p.rows rows m same lt o.before_is))
 
 -- the rows before the first renewed one are current
-pub before_first : (p : Pair) (m : ℕ) (cells : List (List Tern)) → AreCurrent p m cells → IsCurrentBefore p m cells
+pub before_first : (p : CircuitAndRows) (m : ℕ) (cells : List (List Tern)) → AreCurrent p m cells → IsCurrentBefore p m cells
 before_first p m cells h u e = h.each u (omega arith)
 
 -- all rows are current
-pub all_current : (p : Pair) (forced : List ℕ) (first n e c : ℕ) (old new : List (List Tern)) → AreCurrent p first old
+pub all_current : (p : CircuitAndRows) (forced : List ℕ) (first n e c : ℕ) (old new : List (List Tern)) → AreCurrent p first old
     → Renewed p forced first n old new e c → AreCurrent p n new
 all_current p forced first n e c old new h r = record {
   each = λ t lt. elim (or t) [
@@ -326,7 +326,7 @@ all_current p forced first n e c old new h r = record {
     or t = grind arith
 
 -- one row more is current
-pub current_more : (p : Pair) (n : ℕ) (old new : List (List Tern)) → AreCurrent p n old → IsCurrentRow p n (row_at new n)
+pub current_more : (p : CircuitAndRows) (n : ℕ) (old new : List (List Tern)) → AreCurrent p n old → IsCurrentRow p n (row_at new n)
     → ((u : ℕ) → u ≢ n → row_at new u ≡ row_at old u) → AreCurrent p (n + 1) new
 current_more p n old new h row others = record {
   each = λ t lt. elim (cases_eq t n) [
@@ -335,11 +335,11 @@ current_more p n old new h row others = record {
   ];
 }
 
-pub none_current : (p : Pair) (cells : List (List Tern)) → AreCurrent p 0 cells
+pub none_current : (p : CircuitAndRows) (cells : List (List Tern)) → AreCurrent p 0 cells
 none_current p cells = record { each = λ t lt. absurd (omega arith) }
 
 pub working : (driven : DrivenCircuit) (fanouts : Fanouts) (b : Buckets) (flags : List Bool) (cells : List (List Tern))
-    → IsWork driven fanouts flags cells b → ((v : ℕ) → Waits b v → ⊥) → AreCurrent (pair_of driven) (length driven.stimulus.rows) cells
+    → IsWork driven fanouts flags cells b → ((v : ℕ) → IsQueued b v → ⊥) → AreCurrent (pair_of driven) (length driven.stimulus.rows) cells
     → IsWorking driven fanouts b flags cells
 working driven fanouts b flags cells w empty now = record {
   bench = record { driven_is = w.driven_is; laid_out = w.laid_out; current = now };
@@ -352,13 +352,13 @@ module _ (driven : DrivenCircuit) (fanouts : Fanouts) (b : Buckets) (flags : Lis
     (f i : ℕ) (w : Tern) (h : IsWorking driven fanouts b flags cells)
     (e : s ≡ record driven.stimulus { rows = with_cell driven.stimulus.rows f i w })
     (frame : f < length driven.stimulus.rows) where
-  abbrev p : Pair
+  abbrev p : CircuitAndRows
   p = pair_of driven
 
   abbrev new : DrivenCircuit
   new = record driven { stimulus = s }
 
-  abbrev p' : Pair
+  abbrev p' : CircuitAndRows
   p' = pair_of new
 
   sound : IsSound driven.circuit
@@ -410,16 +410,16 @@ module _ (driven : DrivenCircuit) (fanouts : Fanouts) (b : Buckets) (flags : Lis
   bit_next t le lt = next_rows p p' [] follows sound sound widths cells h.bench.current t (omega (arith, bit_frames))
 
   -- no latch has another value at the frame of the bit
-  pub bit_latches : HoldsLatches p' f (row_at cells f)
+  pub bit_latches : HoldsLatchesInPair p' f (row_at cells f)
   bit_latches j x at = of f refl
     where
-      of : (n : ℕ) → n ≡ f → Holds p' n (row_at cells n) (variable x.lit)
+      of : (n : ℕ) → n ≡ f → HoldsInPair p' n (row_at cells n) (variable x.lit)
       of zero e = first_holds p p' [] follows sound sound widths cells h.bench.current j x x at at refl refl (omega arith)
       of (suc u) e =
           latch_next_holds p' u sound (row_at cells u) (row_at cells (suc u)) j x at (bit_before u (sym e))
           (next_rows p p' [] follows sound sound widths cells h.bench.current u (omega arith) j x at)
 
-  pub bit_here : (l : ℕ) → slice_get driven.circuit.inputs i ≡ Some l → Rests p' f (row_at cells f) (variable l ∷ [])
+  pub bit_here : (l : ℕ) → slice_get driven.circuit.inputs i ≡ Some l → HasOtherSources p' f (row_at cells f) (variable l ∷ [])
   bit_here l at = rests p p' [] follows sound sound widths cells h.bench.current f (variable l ∷ []) frame
       (h.work.laid_out.rows_are.constants f frame)
       (λ j m stands out. bit_kept j (λ k. out (head_is j m stands k)))
@@ -429,15 +429,15 @@ module _ (driven : DrivenCircuit) (fanouts : Fanouts) (b : Buckets) (flags : Lis
           let same : m ≡ l = same_Some m l (sym stands ∙ ap (slice_get driven.circuit.inputs) k ∙ at) in
           subst (λ (n : ℕ). Contains (variable l ∷ []) (variable n)) (sym same) (head_in (variable l) [])
 
-  pub bit_behind : (t : ℕ) → f < t → t < length s.rows → Rests p' t (row_at cells t) []
-  bit_behind t lt inside =
+  pub bit_stale : (t : ℕ) → f < t → t < length s.rows → HasOtherSources p' t (row_at cells t) []
+  bit_stale t lt inside =
       rests p p' [] follows sound sound widths cells h.bench.current t [] (omega (arith, bit_frames))
       (h.work.laid_out.rows_are.constants t (omega (arith, bit_frames)))
       (λ j m stands out. ap (λ (row : List Tern). slice_get row j) (row_kept t (λ k. omega arith)))
 
   module _ (ev ch : ℕ) (cells' : List (List Tern)) (r : Renewed p' [] f (length s.rows) cells cells' ev ch) where
     edit_is : p' ≡ edited p (set_bit f i w)
-    edit_is = ap (λ (rows : List (List Tern)). let x : Pair = record p { rows = rows } in x) rows_are
+    edit_is = ap (λ (rows : List (List Tern)). let x : CircuitAndRows = record p { rows = rows } in x) rows_are
 
     bit_forces : (t v : ℕ) → IsForced p (set_bit f i w) t v ↔ (IsBetween f (length s.rows) t × Contains [] v)
     bit_forces t v = (λ k. absurd k, λ k. absurd (omega (arith, k.1.1)))
@@ -466,7 +466,7 @@ module _ (driven new : DrivenCircuit) (fanouts : Fanouts) (b : Buckets) (flags :
   wide = subst (λ (k : ℕ). HaveWidth k driven.stimulus.rows) h.work.driven_is.width h.work.driven_is.widths
 
   pub all_consistent : (t : ℕ) → 0 ≤ t → t < n
-      → IsConsistent (pair_of new) (Contains forced) (row_at cells t) × Rests (pair_of new) t (row_at cells t) []
+      → IsConsistent (pair_of new) (Contains forced) (row_at cells t) × HasOtherSources (pair_of new) t (row_at cells t) []
   all_consistent t le lt =
       let inside : t < length driven.stimulus.rows = omega (arith, size) in
       let sound = h.work.driven_is.circuit.sound in (
@@ -557,7 +557,7 @@ other_start raw lit w k i x s (z, stands, named) at ne =
 one_is : (x v : ℕ) → Contains (x ∷ []) v → v ≡ x
 one_is x v k = elim (Contains-cons x [] v k) [ inl e ↦ e | inr i ↦ absurd (omega (arith, i.1)) ]
 
-pub forces_gate : (p : Pair) (lhs r0 r1 x t v : ℕ) → x ≡ variable lhs
+pub forces_gate : (p : CircuitAndRows) (lhs r0 r1 x t v : ℕ) → x ≡ variable lhs
     → IsForced p (rewire lhs r0 r1) t v ↔ ((t < length p.rows) × Contains (x ∷ []) v)
 forces_gate p lhs r0 r1 x t v e = (
   λ k. (k.0, subst (Contains (x ∷ [])) (e ∙ sym k.1) (head_in x [])),
@@ -592,7 +592,7 @@ follows_rewire driven new lhs r0 r1 x ex e f =
       latches = λ i y at. (y, subst (λ (c : Raw). slice_get c.latches i ≡ Some y) e at, refl, refl);
     }
 
-pub forces_none : (p : Pair) (latch : ℕ) (w : Tern) (t v : ℕ)
+pub forces_none : (p : CircuitAndRows) (latch : ℕ) (w : Tern) (t v : ℕ)
     → IsForced p (set_reset latch w) t v ↔ ((t < length p.rows) × Contains [] v)
 forces_none p latch w t v = (λ k. absurd k, λ k. absurd (omega (arith, k.1.1)))
 
@@ -613,7 +613,7 @@ module _ (driven : DrivenCircuit) (s : InputRows) (row : List Tern) (cells mid n
   abbrev m : ℕ
   m = length driven.stimulus.rows
 
-  abbrev after : Pair
+  abbrev after : CircuitAndRows
   after = pair_of (record driven { stimulus = s })
 
   abbrev all : List ℕ
@@ -633,7 +633,7 @@ module _ (driven : DrivenCircuit) (s : InputRows) (row : List Tern) (cells mid n
   none_before = no_other (pair_of driven) s.rows m sound rows_kept
 
   is_edited : after ≡ edited (pair_of driven) (add_frame row)
-  is_edited = ap (λ (rows : List (List Tern)). let x : Pair = record (pair_of driven) { rows = rows } in x) rows_more
+  is_edited = ap (λ (rows : List (List Tern)). let x : CircuitAndRows = record (pair_of driven) { rows = rows } in x) rows_more
 
   pub added_current : (now_row : IsCurrentRow after m (row_at new m)) → ((u : ℕ) → u ≢ m → row_at new u ≡ row_at mid u)
       → AreCurrent after m mid → AreCurrent after (length s.rows) new
@@ -659,7 +659,7 @@ module _ (driven : DrivenCircuit) (s : InputRows) (row : List Tern) (cells mid n
   added_changed = cells_none _ (λ t v. rw (← is_edited) (λ k. none_before t v k.1.0 k.2))
 
 -- the last frame taken off changes nothing before it
-module _ (p : Pair) (sound : IsSound p.circuit) where
+module _ (p : CircuitAndRows) (sound : IsSound p.circuit) where
   shorter : (t : ℕ) → t < length (take (length p.rows - 1) p.rows) → t < length p.rows - 1
   shorter t lt = omega (arith, length-take (length p.rows - 1) p.rows)
 
@@ -681,7 +681,7 @@ module _ (p : Pair) (sound : IsSound p.circuit) where
   pub dropped_changed : AreCells (Changes p drop_frame) 0
   dropped_changed = cells_none _ (λ t v k. none_other t v (shorter t k.1.1) k.2)
 
-pub fewer_current : (p : Pair) (n m : ℕ) (cells : List (List Tern)) → n ≤ m → AreCurrent p m cells → AreCurrent p n cells
+pub fewer_current : (p : CircuitAndRows) (n m : ℕ) (cells : List (List Tern)) → n ≤ m → AreCurrent p m cells → AreCurrent p n cells
 fewer_current p n m cells le h = record { each = λ t lt. h.each t (omega arith) }
 
 -- a driven circuit that stayed as it was
@@ -705,8 +705,8 @@ work_kept driven new fanouts fanouts' b flags cells h e f levels readers =
 pub pair_rewired : (driven new : DrivenCircuit) (c : Raw) → new.circuit ≡ c → new.stimulus ≡ driven.stimulus
     → pair_of new ≡ record { circuit = c; rows = driven.stimulus.rows }
 pair_rewired driven new c e f =
-    ap (λ (x : Raw). let p : Pair = record { circuit = x; rows = new.stimulus.rows } in p) e
-    ∙ ap (λ (s : InputRows). let p : Pair = record { circuit = c; rows = s.rows } in p) f
+    ap (λ (x : Raw). let p : CircuitAndRows = record { circuit = x; rows = new.stimulus.rows } in p) e
+    ∙ ap (λ (s : InputRows). let p : CircuitAndRows = record { circuit = c; rows = s.rows } in p) f
 
 -- the lists serve another driven with as many latches
 pub lists_for : (driven new : DrivenCircuit) (fanouts fanouts' : Fanouts) (pending : Pending) → HasLists driven fanouts pending

@@ -7,7 +7,7 @@ use Rattle.aig_bench.specs.declared.edit.EditFault.{EditFault}
 use Rattle.aig_bench.specs.declared.edit.EditFault.TheVariants as fault
 use Rattle.aig_bench.specs.Edit.{rewire, Forbids, IsLeastFault}
 use Rattle.aig_bench.specs.Fanout.{HasFourReaders}
-use Rattle.aig_bench.specs.Pair.{Pair}
+use Rattle.aig_bench.specs.BenchState.{CircuitAndRows}
 use Rattle.aig_bench.specs.Touched.{IsOnce}
 
 -- a count of a longer list is no less
@@ -41,11 +41,11 @@ pub either_four : (raw : Raw) (lists : ReaderLists) (v u : ℕ) → AreReaders r
 either_four raw lists v u r lv lu (inl h) = inl (four_readers raw lists v r lv h)
 either_four raw lists v u r lv lu (inr h) = inr (four_readers raw lists u r lu h)
 
--- a fault that is handed on
-pub handed_fault : {A : Type 0} (P : EditFault → Type 0) (r : Result A EditFault) (x : EditFault)
+-- a fault that is passed on
+pub passed_fault : {A : Type 0} (P : EditFault → Type 0) (r : Result A EditFault) (x : EditFault)
     → IsErrAnd r (λ f. f ≡ x) → P x → IfErr r P
-handed_fault P (Ok a) x h k = tt
-handed_fault P (Err f) x h k = subst P (sym h) k
+passed_fault P (Ok a) x h k = tt
+passed_fault P (Err f) x h k = subst P (sym h) k
 
 -- what holds of each fault
 pub any_fault : {A : Type 0} (P : EditFault → Type 0) (r : Result A EditFault) → ((f : EditFault) → P f) → IfErr r P
@@ -53,6 +53,6 @@ any_fault P (Ok a) h = tt
 any_fault P (Err f) h = h f
 
 -- out of memory is no fault of a rewire's own
-pub no_memory : (p : Pair) (lhs r0 r1 : ℕ) (x : EditFault) → IsLeastFault (Forbids p (rewire lhs r0 r1)) x
+pub no_memory : (p : CircuitAndRows) (lhs r0 r1 : ℕ) (x : EditFault) → IsLeastFault (Forbids p (rewire lhs r0 r1)) x
     → x ≡ fault.Memory → ⊥
 no_memory p lhs r0 r1 x h e = (subst (IsLeastFault (Forbids p (rewire lhs r0 r1))) e h).0

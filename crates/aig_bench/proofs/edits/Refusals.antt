@@ -8,11 +8,11 @@ use Rattle.aig_base.specs.Sections.{IsDefined, IsLeftSide, IsLatchLiteral}
 use Rattle.aig_base.specs.Sound.{IsInRange}
 use Rattle.aig_bench.specs.declared.edit.EditFault.{EditFault}
 use Rattle.aig_bench.specs.declared.edit.EditFault.TheVariants as fault
-use Rattle.aig_bench.specs.Pair.{Pair}
+use Rattle.aig_bench.specs.BenchState.{CircuitAndRows}
 use Rattle.aig_bench.specs.Edit.{Edit, Edits, rewire, set_reset, number_of, Forbids, NoneApplies, IsLeastFault, LacksMemory}
 use Rattle.aig_bench.specs.Question.{ForbidsValue}
 
-module _ (p : Pair) (t l : ℕ) where
+module _ (p : CircuitAndRows) (t l : ℕ) where
   pub value_no_frame : IsInRange p.circuit l → IsDefined p.circuit (variable l) → length p.rows ≤ t
       → IsLeastFault (ForbidsValue p t l) fault.NoFrame
   value_no_frame range defined none = (none, below)
@@ -30,7 +30,7 @@ module _ (p : Pair) (t l : ℕ) where
   value_allowed range defined there fault.NoFrame f = absurd (omega arith)
   value_allowed range defined there _ f = f
 
-module _ (p : Pair) (lhs r0 r1 : ℕ) where
+module _ (p : CircuitAndRows) (lhs r0 r1 : ℕ) where
   module _ (gate : IsLeftSide p.circuit lhs) where
     module _ (range : IsInRange p.circuit r0 × IsInRange p.circuit r1) where
       module _ (defined : IsDefined p.circuit (variable r0) × IsDefined p.circuit (variable r1)) where
@@ -70,18 +70,18 @@ module _ (p : Pair) (lhs r0 r1 : ℕ) where
             inl (subst (IsLeastFault (Forbids p (rewire lhs r0 r1))) (sym e) (rewires_cycle (cycle e)))
         rewire_refused f (inr e) cycle = inr (subst (LacksMemory p (rewire lhs r0 r1)) (sym e) rewire_lacks)
 
-module _ (p : Pair) (latch : ℕ) (w : Tern) where
+module _ (p : CircuitAndRows) (latch : ℕ) (w : Tern) where
   pub reset_allowed : IsLatchLiteral p.circuit latch → NoneApplies (Forbids p (set_reset latch w))
   reset_allowed h fault.NotALatch f = f h
   reset_allowed h _ f = f
 
 -- a refused edit leaves the pair
-pub refused : {A : Type 0} (p : Pair) (e : Edit) (r : Result A EditFault) (x : EditFault) → IsErrAnd r (λ f. f ≡ x)
+pub refused : {A : Type 0} (p : CircuitAndRows) (e : Edit) (r : Result A EditFault) (x : EditFault) → IsErrAnd r (λ f. f ≡ x)
     → IsLeastFault (Forbids p e) x → Edits p e r p
 refused p e (Ok a) x h k = absurd h
 refused p e (Err f) x h k = (inl (subst (IsLeastFault (Forbids p e)) (sym h) k), refl)
 
-pub lacking : {A : Type 0} (p : Pair) (e : Edit) (r : Result A EditFault) (x : EditFault) → IsErrAnd r (λ f. f ≡ x)
+pub lacking : {A : Type 0} (p : CircuitAndRows) (e : Edit) (r : Result A EditFault) (x : EditFault) → IsErrAnd r (λ f. f ≡ x)
     → IsLeastFault (Forbids p e) x ⊎ LacksMemory p e x → Edits p e r p
 lacking p e (Ok a) x h k = absurd h
 lacking p e (Err f) x h k = (subst (λ f. IsLeastFault (Forbids p e) f ⊎ LacksMemory p e f) (sym h) k, refl)

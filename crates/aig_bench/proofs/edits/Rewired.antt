@@ -15,7 +15,7 @@ use Rattle.aig_base.proofs.checks.Marking.{slice_get_unmap}
 use Rattle.aig_base.proofs.circuits.Circuits.{gate_is}
 use Rattle.aig_bench.specs.declared.driven_circuit.DrivenCircuit.{DrivenCircuit}
 use Rattle.aig_bench.specs.state.Current.{AreGateFlags, IsLaidOut}
-use Rattle.aig_bench.specs.Pair.{Pair}
+use Rattle.aig_bench.specs.BenchState.{CircuitAndRows}
 use Rattle.aig_bench.specs.state.DrivenCircuit.{IsDriven, pair_of}
 
 pub left_side_gate : (raw : Raw) (l : ℕ) → IsLeftSide raw l → IsGate raw (variable l)
@@ -57,8 +57,8 @@ pub laid_out_rewired : (driven new : DrivenCircuit) (lhs r0 r1 : ℕ) (flags : L
     → IsLaidOut driven flags cells → pair_of new ≡ record { circuit = with_gate driven.circuit lhs r0 r1; rows = driven.stimulus.rows }
     → IsLaidOut new flags cells
 laid_out_rewired driven new lhs r0 r1 flags cells h e =
-    let c : new.circuit ≡ with_gate driven.circuit lhs r0 r1 = ap (λ (p : Pair). p.circuit) e in
-    let r : new.stimulus.rows ≡ driven.stimulus.rows = ap (λ (p : Pair). p.rows) e in
+    let c : new.circuit ≡ with_gate driven.circuit lhs r0 r1 = ap (λ (p : CircuitAndRows). p.circuit) e in
+    let r : new.stimulus.rows ≡ driven.stimulus.rows = ap (λ (p : CircuitAndRows). p.rows) e in
     let m : new.circuit.max_var ≡ driven.circuit.max_var = ap (λ (x : Raw). x.max_var) c in
     record {
       flags_are = subst (λ (x : Raw). AreGateFlags x flags) (sym c) (record {

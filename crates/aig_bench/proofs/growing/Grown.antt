@@ -15,12 +15,12 @@ use Rattle.aig_base.proofs.growth.Appended.{gate_cases, more_sound, new_at, new_
 use Rattle.aig_base.proofs.circuits.Gates as gates
 use Rattle.aig_base.proofs.lists.Gets.{slice_get_last}
 use Rattle.aig_values.specs.Cells.{gate_value, with_new_cell}
-use Rattle.aig_bench.specs.state.Current.{AreGateFlags, IsCurrentRow, Holds}
-use Rattle.aig_bench.specs.Pair.{Pair, HasValue}
+use Rattle.aig_bench.specs.state.Current.{AreGateFlags, IsCurrentRow, HoldsInPair}
+use Rattle.aig_bench.specs.BenchState.{CircuitAndRows, HasValue}
 use Rattle.aig_bench.proofs.cells.CellLemmas.{get_set_other, get_set_same}
 use Rattle.aig_bench.proofs.renewals.Changed.{slice_get_append}
 use Rattle.aig_bench.proofs.cells.Kept.{HasAll, holds_still}
-use Rattle.aig_bench.proofs.cells.Layouts.{flags_all, flags_more}
+use Rattle.aig_bench.proofs.cells.NewGrids.{flags_all, flags_more}
 use Rattle.aig_bench.proofs.cells.Values.{gate_has_value}
 
 module _ (raw : Raw) (r0 r1 : ℕ) where
@@ -116,19 +116,19 @@ module _ (raw : Raw) (r0 r1 : ℕ) (row : List Tern) (w : Tern) (wide : length r
       (let is = new_variable raw r0 r1 in omega (arith, wider))
 
 -- a current row, grown by the gate's value, is current for the circuit with the gate
-module _ (p : Pair) (r0 r1 : ℕ) (sound : IsSound p.circuit) (d0 : IsDefined p.circuit (variable r0))
+module _ (p : CircuitAndRows) (r0 r1 : ℕ) (sound : IsSound p.circuit) (d0 : IsDefined p.circuit (variable r0))
     (d1 : IsDefined p.circuit (variable r1)) (t : ℕ) (row : List Tern) (wide : length row ≡ p.circuit.max_var + 1)
     (now : IsCurrentRow p t row) where
   abbrev more : Raw
   more = with_appended_gate p.circuit r0 r1
 
-  abbrev after : Pair
+  abbrev after : CircuitAndRows
   after = record p { circuit = more }
 
   abbrev value : Tern
   value = gate_value (with_new_cell row) (next_gate p.circuit r0 r1)
 
-  side_holds : (v : ℕ) → IsDefined p.circuit v → Holds after t (with_new_cell row) v
+  side_holds : (v : ℕ) → IsDefined p.circuit v → HoldsInPair after t (with_new_cell row) v
   side_holds v d =
       holds_still p more (has_all p.circuit r0 r1) t v row (with_new_cell row)
       (cell_old p.circuit r0 r1 row X wide v (gates.defined_in_range p.circuit sound v d)) (now v d)
@@ -145,6 +145,6 @@ module _ (p : Pair) (r0 r1 : ℕ) (sound : IsSound p.circuit) (d0 : IsDefined p.
         holds_still p more (has_all p.circuit r0 r1) t v row (grown p.circuit r0 r1 row value wide)
         (grown_old p.circuit r0 r1 row value wide v (gates.defined_in_range p.circuit sound v was)) (now v was)
     | inr e ↦
-        subst (Holds after t (grown p.circuit r0 r1 row value wide)) (new_variable p.circuit r0 r1 ∙ sym e)
+        subst (HoldsInPair after t (grown p.circuit r0 r1 row value wide)) (new_variable p.circuit r0 r1 ∙ sym e)
         (record { cell = value; cell_is = grown_new p.circuit r0 r1 row value wide; value_is = new_value })
   ]

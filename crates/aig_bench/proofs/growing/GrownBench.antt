@@ -20,11 +20,11 @@ use Rattle.aig_bench.specs.declared.latch_readers.LatchReaders.{LatchReaders}
 use Rattle.aig_bench.specs.declared.driven_circuit.DrivenCircuit.{DrivenCircuit}
 use Rattle.aig_bench.specs.declared.fanouts.Fanouts.{Fanouts}
 use Rattle.aig_bench.specs.declared.pending.Pending.{Pending}
-use Rattle.aig_bench.specs.state.Buckets.{AreBuckets, Waits}
+use Rattle.aig_bench.specs.state.Buckets.{AreBuckets, IsQueued}
 use Rattle.aig_bench.specs.state.Current.{AreCurrent, AreRows, IsCurrentRow, IsLaidOut}
 use Rattle.aig_bench.specs.Edit.{append_gate}
 use Rattle.aig_bench.specs.state.Latches.{AreLatchReaders}
-use Rattle.aig_bench.specs.state.Pending.{IsReady}
+use Rattle.aig_bench.specs.state.Pending.{IsSettledBench}
 use Rattle.aig_bench.specs.state.DrivenCircuit.{IsDriven, pair_of}
 use Rattle.aig_bench.specs.state.Sweep.{IsWork}
 use Rattle.aig_bench.specs.Touched.{HasOther, Touches, Changes, AreCells}
@@ -55,17 +55,17 @@ row_mapped (row ∷ cells) zero lt = refl
 row_mapped (row ∷ cells) (suc t) lt = row_mapped cells t (omega arith)
 
 module _ (driven : DrivenCircuit) (fanouts : Fanouts) (pending : Pending) (flags : List Bool) (cells : List (List Tern))
-    (r : IsReady driven fanouts pending flags cells) where
+    (r : IsSettledBench driven fanouts pending flags cells) where
   -- a bench whose lists of readers have other room
   pub ready_still : (c : Raw) (levels : List ℕ) (readers : ReaderLists) → c ≡ driven.circuit → levels ≡ fanouts.levels
       → readers.lists ≡ fanouts.readers.lists
-      → IsReady (record driven { circuit = c }) (record { levels = levels; readers = readers; latches = fanouts.latches })
+      → IsSettledBench (record driven { circuit = c }) (record { levels = levels; readers = readers; latches = fanouts.latches })
       pending flags cells
   ready_still c levels readers e f same =
       let w = r.working.work in
       let fanouts' : Fanouts = record { levels = levels; readers = readers; latches = fanouts.latches } in
       let are = readers_kept driven.circuit fanouts.readers readers w.readers same in
-      subst (λ (x : Raw). IsReady (record driven { circuit = x }) fanouts' pending flags cells)
+      subst (λ (x : Raw). IsSettledBench (record driven { circuit = x }) fanouts' pending flags cells)
       (sym e)
       (record {
         working = work_kept driven driven fanouts _ pending.buckets flags cells r.working refl refl
@@ -142,10 +142,10 @@ module _ (driven : DrivenCircuit) (fanouts : Fanouts) (pending : Pending) (flags
       pub ready_grown : (c : Raw) (levels : List ℕ) (readers : ReaderLists) (latches : LatchReaders) (b : Buckets)
           (flags' : List Bool) → c ≡ more → AreLevels more levels → AreReaders more readers
           → AreLatchReaders more latches
-          → AreBuckets levels b → ((v : ℕ) → Waits b v → ⊥)
+          → AreBuckets levels b → ((v : ℕ) → IsQueued b v → ⊥)
           → length b.head.items ≡ length pending.buckets.head.items + 1
           → flags' ≡ flags ++ true ∷ []
-          → IsReady (record driven { circuit = c }) (record { levels = levels; readers = readers; latches = latches })
+          → IsSettledBench (record driven { circuit = c }) (record { levels = levels; readers = readers; latches = latches })
           (record { buckets = b; here = pending.here; ahead = pending.ahead }) flags' new
       ready_grown c levels readers latches b flags' same l rs ls bs empty heads fs =
           let w = r.working.work in
@@ -168,11 +168,11 @@ module _ (driven : DrivenCircuit) (fanouts : Fanouts) (pending : Pending) (flags
                 let le = level_bound more driven_grown.circuit.sound level in omega (arith, heads, w.size);
             gates = λ v k. absurd (empty v k);
           } in
-          subst (λ (x : Raw). IsReady (record driven { circuit = x }) fanouts' pending' flags' new) (sym same)
+          subst (λ (x : Raw). IsSettledBench (record driven { circuit = x }) fanouts' pending' flags' new) (sym same)
           (record {
             working = working after fanouts' b flags' new work empty current;
             lists = record { readers = ls; here = r.lists.here; ahead = r.lists.ahead };
-            idle = record { waits = empty; here = r.idle.here; ahead = r.idle.ahead };
+            idle = record { queued = empty; here = r.idle.here; ahead = r.idle.ahead };
           })
 
     -- no value changes, and the new gate's cells are touched

@@ -11,11 +11,11 @@ use Rattle.aig_base.specs.Sound.{IsSound}
 use Rattle.aig_base.proofs.circuits.Circuits.{next_in_range}
 use Rattle.aig_bench.specs.declared.buckets.Buckets.{Buckets}
 use Rattle.aig_bench.specs.declared.latch_readers.LatchReaders.{LatchReaders}
-use Rattle.aig_bench.specs.state.Buckets.{AreBuckets, IsChain, Waits}
-use Rattle.aig_bench.specs.state.Latches.{AreLatchReaders, Follows, IsLast}
+use Rattle.aig_bench.specs.state.Buckets.{AreBuckets, IsBucketChain, IsQueued}
+use Rattle.aig_bench.specs.state.Latches.{AreLatchReaders, TakesNextFrom, IsLast}
 use Rattle.aig_parts.specs.Formed.{limit}
 use Rattle.aig_bench.specs.state.LevelSet.{HasBit, IsLevelSet}
-use Rattle.aig_bench.proofs.waits.Chained.{head_in}
+use Rattle.aig_bench.proofs.queues.Chained.{head_in}
 
 pub has_still : (old new : List ℕ) → ((w : ℕ) → get_or new w 0 ≡ get_or old w 0) → (n : ℕ) → HasBit old n → HasBit new n
 unfolding HasBit
@@ -62,7 +62,7 @@ unmarked_pushed marks more e empty v m =
     ]
 
 -- where nothing waits no chain has a variable
-module _ (levels : List ℕ) (b : Buckets) (h : AreBuckets levels b) (empty : (v : ℕ) → Waits b v → ⊥) where
+module _ (levels : List ℕ) (b : Buckets) (h : AreBuckets levels b) (empty : (v : ℕ) → IsQueued b v → ⊥) where
   head_zero : (l : ℕ) → get_or b.head.items l 0 ≡ 0
   head_zero l = elim (or l (length b.head.items)) [
     | inl lt ↦ (let c = h.chained.chains l lt in of l c.chain c.leads (λ v k. empty v ((c.each v).0 k).0))
@@ -72,7 +72,7 @@ module _ (levels : List ℕ) (b : Buckets) (h : AreBuckets levels b) (empty : (v
       or : (m n : ℕ) → (m < n) ⊎ (n ≤ m)
       or m n = grind arith
 
-      of : (l : ℕ) (chain : List ℕ) → IsChain b.next.items (get_or b.head.items l 0) chain
+      of : (l : ℕ) (chain : List ℕ) → IsBucketChain b.next.items (get_or b.head.items l 0) chain
           → ((v : ℕ) → Contains chain v → ⊥)
           → get_or b.head.items l 0 ≡ 0
       of l [] leads none = leads
@@ -122,7 +122,7 @@ module _ (raw : Raw) (r0 r1 : ℕ) (sound : IsSound raw) where
   last_still : (v n i : ℕ) → IsLast raw v n i → IsLast (with_appended_gate raw r0 r1) v n i
   last_still v n i k = record { inside = k.inside; follows = k.follows; none_over = k.none_over }
 
-  none_new : (i : ℕ) → Follows raw i (raw.max_var + 1) → ⊥
+  none_new : (i : ℕ) → TakesNextFrom raw i (raw.max_var + 1) → ⊥
   none_new i (p, x, is, at, e) = let le = next_in_range raw sound p x at in absurd (omega arith)
 
   pub readers_longer : (old new : LatchReaders) → AreLatchReaders raw old → new.last.items ≡ old.last.items ++ 0 ∷ []
@@ -135,7 +135,7 @@ module _ (raw : Raw) (r0 r1 : ℕ) (sound : IsSound raw) where
       | inr k ↦ record {
         inside = omega (arith, k.1);
         follows = λ ne. absurd (ne (sym k.1));
-        none_over = λ j lt le is. none_new j (subst (Follows raw j) (k.0 ∙ h.variables) is);
+        none_over = λ j lt le is. none_new j (subst (TakesNextFrom raw j) (k.0 ∙ h.variables) is);
       }
     ];
     before = λ p i x at is.

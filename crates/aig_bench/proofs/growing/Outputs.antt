@@ -15,7 +15,7 @@ use Rattle.aig_bench.specs.declared.fanouts.Fanouts.{Fanouts}
 use Rattle.aig_bench.specs.declared.pending.Pending.{Pending}
 use Rattle.aig_bench.specs.state.Current.{IsLaidOut, AreCurrent}
 use Rattle.aig_bench.specs.Edit.{set_output}
-use Rattle.aig_bench.specs.state.Pending.{IsReady}
+use Rattle.aig_bench.specs.state.Pending.{IsSettledBench}
 use Rattle.aig_bench.specs.state.DrivenCircuit.{IsDriven, pair_of}
 use Rattle.aig_bench.specs.Touched.{HasOther, Touches, Changes, AreCells}
 use Rattle.aig_bench.proofs.edits.Edited.{lists_for, work_for, working}
@@ -67,8 +67,8 @@ module _ (driven : DrivenCircuit) (i l : ℕ) where
 
   -- a bench with the other output is ready
   pub ready_set : (c : Raw) (fanouts : Fanouts) (pending : Pending) (flags : List Bool) (cells : List (List Tern))
-      → c ≡ with_output driven.circuit i l → IsDefined driven.circuit (variable l) → IsReady driven fanouts pending flags cells
-      → IsReady (record driven { circuit = c }) fanouts pending flags cells
+      → c ≡ with_output driven.circuit i l → IsDefined driven.circuit (variable l) → IsSettledBench driven fanouts pending flags cells
+      → IsSettledBench (record driven { circuit = c }) fanouts pending flags cells
   ready_set c fanouts pending flags cells e d r =
       let w = r.working.work in
       let p = driven_is w.driven_is d in
@@ -77,7 +77,7 @@ module _ (driven : DrivenCircuit) (i l : ℕ) where
       record { size = w.readers.size; each = w.readers.each; once = w.readers.once } in
       let levels : AreLevels (with_output driven.circuit i l) fanouts.levels =
       record { size = w.levels.size; each = λ v n k. w.levels.each v n (level_was driven.circuit i l k) } in
-      subst (λ (x : Raw). IsReady (record driven { circuit = x }) fanouts pending flags cells) (sym e)
+      subst (λ (x : Raw). IsSettledBench (record driven { circuit = x }) fanouts pending flags cells) (sym e)
       (record {
         working = working after fanouts pending.buckets flags cells
             (work_for driven after fanouts fanouts flags flags cells cells pending.buckets w r.working.empty refl p out levels

@@ -2,10 +2,10 @@
 use Rattle.std.proofs.Common.{◌≡◌, ℕ, ◌+◌, refl, sym, ap, ◌∙◌, subst, arith}
 use Rattle.aig_parts.specs.Literal.{variable}
 use Rattle.aig_values.specs.InputRows.{row_at}
-use Rattle.aig_bench.specs.Pair.{Pair}
-use Rattle.aig_bench.specs.state.Current.{Holds, HoldsInputs, HoldsLatches}
+use Rattle.aig_bench.specs.BenchState.{CircuitAndRows}
+use Rattle.aig_bench.specs.state.Current.{HoldsInPair, HoldsInputsInPair, HoldsLatchesInPair}
 use Rattle.aig_bench.specs.state.Engine.{EngineState}
-use Rattle.aig_bench.specs.state.Filled.{FillsCells, FillsRow, FillsSource, KeepsValues}
+use Rattle.aig_bench.specs.state.Filled.{FillsCells, FillsRow, FillsSource, KeepsRowValues}
 
 pub cells_then : (a b c : EngineState) → FillsCells a b → FillsCells b c → FillsCells a c
 cells_then a b c x y =
@@ -27,26 +27,26 @@ fills_then t n m k a b c x y is = record {
 -- one more source after those that are filled, as it is seen from the start
 pub record OneMore (t v : ℕ) (a b c : EngineState) : Type 0 where
   pub row : FillsRow t 0 a c
-  pub keeps : KeepsValues a.pair t (row_at b.cells t) (row_at c.cells t)
-  pub holds : Holds a.pair t (row_at c.cells t) v
+  pub keeps : KeepsRowValues a.pair t (row_at b.cells t) (row_at c.cells t)
+  pub holds : HoldsInPair a.pair t (row_at c.cells t) v
 
 pub one_more : (t v : ℕ) (a b c : EngineState) → FillsRow t 0 a b → FillsSource t v b c → OneMore t v a b c
 one_more t v a b c x y =
     let same = pair_kept a b x.same in
     record {
       row = fills_then t 0 0 0 a b c x y.row refl;
-      keeps = subst (λ (p : Pair). KeepsValues p t (row_at b.cells t) (row_at c.cells t)) same y.keeps;
-      holds = subst (λ (p : Pair). Holds p t (row_at c.cells t) v) same y.holds;
+      keeps = subst (λ (p : CircuitAndRows). KeepsRowValues p t (row_at b.cells t) (row_at c.cells t)) same y.keeps;
+      holds = subst (λ (p : CircuitAndRows). HoldsInPair p t (row_at c.cells t) v) same y.holds;
     }
 
 -- after inputs and latches the sources have their values
 module _ (t : ℕ) (a b c : EngineState) (x : FillsRow t 0 a b) (y : FillsRow t 0 b c)
-    (keeps : KeepsValues b.pair t (row_at b.cells t) (row_at c.cells t)) where
-  pub still_inputs : HoldsInputs a.pair t (row_at b.cells t) → HoldsInputs c.pair t (row_at c.cells t)
+    (keeps : KeepsRowValues b.pair t (row_at b.cells t) (row_at c.cells t)) where
+  pub still_inputs : HoldsInputsInPair a.pair t (row_at b.cells t) → HoldsInputsInPair c.pair t (row_at c.cells t)
   still_inputs h =
-      subst (λ (p : Pair). HoldsInputs p t (row_at c.cells t)) (sym (pair_kept b c y.same))
+      subst (λ (p : CircuitAndRows). HoldsInputsInPair p t (row_at c.cells t)) (sym (pair_kept b c y.same))
       (λ i l at. keeps.keeps (variable l)
-      (subst (λ (p : Pair). HoldsInputs p t (row_at b.cells t)) (sym (pair_kept a b x.same)) h i l at))
+      (subst (λ (p : CircuitAndRows). HoldsInputsInPair p t (row_at b.cells t)) (sym (pair_kept a b x.same)) h i l at))
 
-  pub still_latches : HoldsLatches b.pair t (row_at c.cells t) → HoldsLatches c.pair t (row_at c.cells t)
-  still_latches h = subst (λ (p : Pair). HoldsLatches p t (row_at c.cells t)) (sym (pair_kept b c y.same)) h
+  pub still_latches : HoldsLatchesInPair b.pair t (row_at c.cells t) → HoldsLatchesInPair c.pair t (row_at c.cells t)
+  still_latches h = subst (λ (p : CircuitAndRows). HoldsLatchesInPair p t (row_at c.cells t)) (sym (pair_kept b c y.same)) h

@@ -17,15 +17,15 @@ use Rattle.aig_base.proofs.growth.Appended.{new_at, new_variable, old_at}
 use Rattle.aig_base.proofs.lists.Counting.{length-order}
 use Rattle.aig_base.proofs.circuits.Defined.{defined_cases}
 use Rattle.aig_base.proofs.lists.Gets.{slice_get_last, slice_get_left, slice_get_push}
-use Rattle.aig_values.specs.GateOrder.{AreGatesOf, IsGateOrder, IsReady}
+use Rattle.aig_values.specs.GateOrder.{AreGatesOf, IsGateOrder, IsSourceOrEarlier}
 use Rattle.aig_values.proofs.GateOrders.{gate_order}
-use Rattle.aig_bench.specs.declared.order.Order.{Order}
-use Rattle.aig_bench.specs.declared.order.Way.{Way}
-use Rattle.aig_bench.specs.declared.order.Way.TheVariants.{Standing, Listed, Stale}
-use Rattle.aig_bench.specs.state.SweepOrder.{gate_at, gates_at, ArePositions, AreTaken, IsFullOrder, IsListing, Orders}
+use Rattle.aig_bench.specs.declared.sweep_order.Order.{Order}
+use Rattle.aig_bench.specs.declared.sweep_order.Way.{Way}
+use Rattle.aig_bench.specs.declared.sweep_order.Way.TheVariants.{Standing, Listed, Stale}
+use Rattle.aig_bench.specs.state.SweepOrder.{gate_at_position, gates_at_positions, ArePositions, AreTaken, IsFullOrder, IsListing, Orders}
 use Rattle.aig_bench.proofs.growing.Grown.{gate_was}
 
-gate_is_at : (gates : List Gate) (q : ℕ) (g : Gate) → slice_get gates q ≡ Some g → gate_at gates q ≡ g
+gate_is_at : (gates : List Gate) (q : ℕ) (g : Gate) → slice_get gates q ≡ Some g → gate_at_position gates q ≡ g
 gate_is_at gates q g at = get_or_from_slice_get gates q g _ at
 
 -- one gate more
@@ -43,8 +43,8 @@ pub positions_more : (raw : Raw) (variables positions : List ℕ) (v q : ℕ) (g
 positions_more raw variables positions v q g h at is = record {
   inside = All-push (λ p. p < length raw.gates) positions q h.inside (slice_get_within raw.gates q g at);
   gates = subst (AreGatesOf raw (variables ++ v ∷ []))
-      (sym (map_push (gate_at raw.gates) positions q
-      ∙ ap (λ (x : Gate). gates_at raw.gates positions ++ x ∷ []) (gate_is_at raw.gates q g at)))
+      (sym (map_push (gate_at_position raw.gates) positions q
+      ∙ ap (λ (x : Gate). gates_at_positions raw.gates positions ++ x ∷ []) (gate_is_at raw.gates q g at)))
       (gates_more v g h.gates (q, at) is);
 }
 
@@ -54,8 +54,8 @@ pub listing : (raw : Raw) (variables positions : List ℕ) → IsCircuit raw →
 listing raw variables positions circuit canonical h = record {
   inside = h.inside;
   full = record {
-    order = gate_order raw circuit variables (gates_at raw.gates positions) canonical h.gates;
-    size = sym (length-map (gates_at raw.gates positions) (λ (g : Gate). variable g.lhs))
+    order = gate_order raw circuit variables (gates_at_positions raw.gates positions) canonical h.gates;
+    size = sym (length-map (gates_at_positions raw.gates positions) (λ (g : Gate). variable g.lhs))
         ∙ ap length h.gates.variables_are ∙ length-order raw circuit.sound variables canonical;
   };
 }
@@ -77,11 +77,11 @@ module _ (raw : Raw) (r0 r1 : ℕ) (d0 : IsDefined raw (variable r0)) (d1 : IsDe
     abbrev longer : List Gate
     longer = gates ++ gate ∷ []
 
-    ready_still : (q v : ℕ) → IsReady raw gates q v → IsReady more longer q v
+    ready_still : (q v : ℕ) → IsSourceOrEarlier raw gates q v → IsSourceOrEarlier more longer q v
     ready_still q v (inl s) = inl (source_still v s)
     ready_still q v (inr (r, g, lt, at, is)) = inr (r, g, lt, slice_get_left gates (gate ∷ []) r g at, is)
 
-    defined_ready : (v : ℕ) → IsDefined raw v → IsReady more longer (length gates) v
+    defined_ready : (v : ℕ) → IsDefined raw v → IsSourceOrEarlier more longer (length gates) v
     defined_ready v d = elim (defined_cases raw v d) [
       | inl s ↦ inl (source_still v s)
       | inr k ↦
@@ -103,47 +103,47 @@ module _ (raw : Raw) (r0 r1 : ℕ) (d0 : IsDefined raw (variable r0)) (d1 : IsDe
       ];
       ready0 = λ q g at. elim (slice_get_push gates gate g q at) [
         | inl was ↦ ready_still q (variable g.rhs0) (h.ready0 q g was)
-        | inr e ↦ subst (λ (x : Gate). IsReady more longer q (variable x.rhs0)) e.1
-            (subst (λ (n : ℕ). IsReady more longer n (variable r0)) (sym e.0) (defined_ready (variable r0) d0))
+        | inr e ↦ subst (λ (x : Gate). IsSourceOrEarlier more longer q (variable x.rhs0)) e.1
+            (subst (λ (n : ℕ). IsSourceOrEarlier more longer n (variable r0)) (sym e.0) (defined_ready (variable r0) d0))
       ];
       ready1 = λ q g at. elim (slice_get_push gates gate g q at) [
         | inl was ↦ ready_still q (variable g.rhs1) (h.ready1 q g was)
-        | inr e ↦ subst (λ (x : Gate). IsReady more longer q (variable x.rhs1)) e.1
-            (subst (λ (n : ℕ). IsReady more longer n (variable r1)) (sym e.0) (defined_ready (variable r1) d1))
+        | inr e ↦ subst (λ (x : Gate). IsSourceOrEarlier more longer q (variable x.rhs1)) e.1
+            (subst (λ (n : ℕ). IsSourceOrEarlier more longer n (variable r1)) (sym e.0) (defined_ready (variable r1) d1))
       ];
     }
 
   still_there : (gates : List Gate) (positions : List ℕ) → All (λ p. p < length gates) positions
-      → gates_at (gates ++ gate ∷ []) positions ≡ gates_at gates positions
+      → gates_at_positions (gates ++ gate ∷ []) positions ≡ gates_at_positions gates positions
   still_there gates [] all = refl
   still_there gates (p ∷ positions) all =
-      ap (λ (x : Gate). x ∷ gates_at (gates ++ gate ∷ []) positions)
+      ap (λ (x : Gate). x ∷ gates_at_positions (gates ++ gate ∷ []) positions)
       (get_or_append_left gates (gate ∷ []) _ p (all 0 0 (omega arith)))
-      ∙ ap (λ (xs : List Gate). gate_at gates p ∷ xs)
+      ∙ ap (λ (xs : List Gate). gate_at_position gates p ∷ xs)
       (still_there gates positions (λ k d lt. all (suc k) d (omega arith)))
 
   pub listing_more : (positions : List ℕ) (n : ℕ) → length raw.gates ≡ n → IsListing raw positions
       → IsListing more (positions ++ n ∷ [])
   listing_more positions n e h =
       let size : length more.gates ≡ length raw.gates + 1 = length-append raw.gates (gate ∷ []) in
-      let last : gate_at more.gates n ≡ gate =
+      let last : gate_at_position more.gates n ≡ gate =
       gate_is_at more.gates n gate (ap (slice_get more.gates) (sym e) ∙ new_at raw r0 r1) in
-      let are : gates_at more.gates (positions ++ n ∷ []) ≡ gates_at raw.gates positions ++ gate ∷ [] =
-      map_push (gate_at more.gates) positions n
-      ∙ ap (λ (xs : List Gate). xs ++ gate_at more.gates n ∷ []) (still_there raw.gates positions h.inside)
-      ∙ ap (λ (x : Gate). gates_at raw.gates positions ++ x ∷ []) last in
+      let are : gates_at_positions more.gates (positions ++ n ∷ []) ≡ gates_at_positions raw.gates positions ++ gate ∷ [] =
+      map_push (gate_at_position more.gates) positions n
+      ∙ ap (λ (xs : List Gate). xs ++ gate_at_position more.gates n ∷ []) (still_there raw.gates positions h.inside)
+      ∙ ap (λ (x : Gate). gates_at_positions raw.gates positions ++ x ∷ []) last in
       record {
         inside = All-push (λ p. p < length more.gates) positions n
             (λ k d lt. let was = h.inside k d lt in omega (arith, was, size)) (omega (arith, size));
         full = subst (IsFullOrder more) (sym are) (record {
-          order = order_more (gates_at raw.gates positions) h.full.order;
-          size = length-append (gates_at raw.gates positions) (gate ∷ []) ∙ ap (λ k. k + 1) h.full.size ∙ sym size;
+          order = order_more (gates_at_positions raw.gates positions) h.full.order;
+          size = length-append (gates_at_positions raw.gates positions) (gate ∷ []) ∙ ap (λ k. k + 1) h.full.size ∙ sym size;
         });
       }
 
 -- other resets or outputs
 module _ (raw new : Raw) (same : new.gates ≡ raw.gates) (source : (v : ℕ) → IsSource raw v → IsSource new v) where
-  ready_kept : (gates : List Gate) (q v : ℕ) → IsReady raw gates q v → IsReady new gates q v
+  ready_kept : (gates : List Gate) (q v : ℕ) → IsSourceOrEarlier raw gates q v → IsSourceOrEarlier new gates q v
   ready_kept gates q v (inl s) = inl (source v s)
   ready_kept gates q v (inr x) = inr x
 
@@ -162,8 +162,8 @@ module _ (raw new : Raw) (same : new.gates ≡ raw.gates) (source : (v : ℕ) �
   pub listing_kept : (positions : List ℕ) → IsListing raw positions → IsListing new positions
   listing_kept positions h = record {
     inside = λ k d lt. let was = h.inside k d lt in omega (arith, was, ap length same);
-    full = subst (λ (gs : List Gate). IsFullOrder new (gates_at gs positions)) (sym same) (record {
-      order = order_kept (gates_at raw.gates positions) h.full.order;
+    full = subst (λ (gs : List Gate). IsFullOrder new (gates_at_positions gs positions)) (sym same) (record {
+      order = order_kept (gates_at_positions raw.gates positions) h.full.order;
       size = h.full.size ∙ ap length (sym same);
     });
   }

@@ -17,15 +17,15 @@ use Rattle.aig_base.specs.Sound.{IsSound}
 use Rattle.aig_base.specs.Value.{start_of}
 use Rattle.aig_base.proofs.circuits.Circuits.{gate_definition, gate_in_range, gate_is, rhs0_in_range, rhs1_in_range}
 use Rattle.aig_base.proofs.circuits.Gates.{level_in_range}
-use Rattle.aig_values.specs.Cells.{HasCells, gate_value, with_gate, with_swept_row}
+use Rattle.aig_values.specs.Cells.{HasCells, gate_value, with_gate_value, with_swept_row}
 use Rattle.aig_values.specs.state.Frame.{HoldsAll, HoldsSources}
 use Rattle.aig_values.specs.GateOrder.{IsGateOrder}
 use Rattle.aig_values.specs.InputRows.{row_at, with_cell}
 use Rattle.aig_values.proofs.Evaluation.{HoldsFirst, all_hold, gate_value_is, items_more, put_value, renews_none}
 use Rattle.aig_values.proofs.SweepLemmas.{length-swept}
-use Rattle.aig_bench.specs.state.Current.{AreGateFlags, HoldsInputs, HoldsLatches, IsCurrentRow, IsLaidOut}
+use Rattle.aig_bench.specs.state.Current.{AreGateFlags, HoldsInputsInPair, HoldsLatchesInPair, IsCurrentRow, IsLaidOut}
 use Rattle.aig_bench.specs.declared.driven_circuit.DrivenCircuit.{DrivenCircuit}
-use Rattle.aig_bench.specs.state.SweepOrder.{gate_at, gates_at, IsFullOrder}
+use Rattle.aig_bench.specs.state.SweepOrder.{gate_at_position, gates_at_positions, IsFullOrder}
 use Rattle.aig_bench.specs.state.DrivenCircuit.{IsDriven, pair_of}
 use Rattle.aig_bench.proofs.cells.CellLemmas.{get_set_other, row_written}
 use Rattle.aig_bench.proofs.cells.Values.{sources_hold}
@@ -49,50 +49,50 @@ have_cells raw flags gates circuit h order k d lt =
 pub swept_then : (rows : List (List Tern)) (t : ℕ) (xs ys : List Gate) → t < length rows
     → with_swept_row (with_swept_row rows t xs) t ys ≡ with_swept_row rows t (xs ++ ys)
 swept_then rows t xs ys lt =
-    let row : List Tern = fold with_gate (row_at rows t) xs in
-    ap (λ (r : List Tern). set (set rows t row) t (fold with_gate r ys)) (get_or-set_same rows t row [] lt)
-    ∙ set-set rows t row (fold with_gate row ys)
-    ∙ ap (set rows t) (sym (fold-append with_gate (row_at rows t) xs ys))
+    let row : List Tern = fold with_gate_value (row_at rows t) xs in
+    ap (λ (r : List Tern). set (set rows t row) t (fold with_gate_value r ys)) (get_or-set_same rows t row [] lt)
+    ∙ set-set rows t row (fold with_gate_value row ys)
+    ∙ ap (set rows t) (sym (fold-append with_gate_value (row_at rows t) xs ys))
 
 -- the gates of a batch
 pub batch_is : (batch gates : List Gate) (positions : List ℕ) (done count : ℕ) → done ≤ length positions
     → count ≡ min (length positions - done) 256
     → take (length (take (done + count - done) (drop done positions))) batch
-    ≡ gates_at gates (take (done + count - done) (drop done positions))
-    → take count batch ≡ gates_at gates (take count (drop done positions))
+    ≡ gates_at_positions gates (take (done + count - done) (drop done positions))
+    → take count batch ≡ gates_at_positions gates (take count (drop done positions))
 batch_is batch gates positions done count le is e =
     let same : done + count - done ≡ count = omega arith in
     let size : length (take (done + count - done) (drop done positions)) ≡ count =
     omega (arith, length-take (done + count - done) (drop done positions), length-drop done positions) in
-    ap (λ (n : ℕ). take n batch) (sym size) ∙ e ∙ ap (λ (n : ℕ). gates_at gates (take n (drop done positions))) same
+    ap (λ (n : ℕ). take n batch) (sym size) ∙ e ∙ ap (λ (n : ℕ). gates_at_positions gates (take n (drop done positions))) same
 
 -- a batch after those that are done
 pub batch_more : (rows now : List (List Tern)) (t : ℕ) (gates batch : List Gate) (positions : List ℕ) (done count : ℕ)
-    → t < length rows → now ≡ with_swept_row rows t (gates_at gates (take done positions))
-    → batch ≡ gates_at gates (take count (drop done positions))
-    → with_swept_row now t batch ≡ with_swept_row rows t (gates_at gates (take (done + count) positions))
+    → t < length rows → now ≡ with_swept_row rows t (gates_at_positions gates (take done positions))
+    → batch ≡ gates_at_positions gates (take count (drop done positions))
+    → with_swept_row now t batch ≡ with_swept_row rows t (gates_at_positions gates (take (done + count) positions))
 batch_more rows now t gates batch positions done count lt e is =
     ap (λ (c : List (List Tern)). with_swept_row c t batch) e
-    ∙ ap (with_swept_row (with_swept_row rows t (gates_at gates (take done positions))) t) is
-    ∙ swept_then rows t (gates_at gates (take done positions)) (gates_at gates (take count (drop done positions))) lt
+    ∙ ap (with_swept_row (with_swept_row rows t (gates_at_positions gates (take done positions))) t) is
+    ∙ swept_then rows t (gates_at_positions gates (take done positions)) (gates_at_positions gates (take count (drop done positions))) lt
     ∙ ap (with_swept_row rows t)
-    (sym (map-append (gate_at gates) (take done positions) (take count (drop done positions)))
-    ∙ ap (gates_at gates) (sym (take-add done count positions)))
+    (sym (map-append (gate_at_position gates) (take done positions) (take count (drop done positions)))
+    ∙ ap (gates_at_positions gates) (sym (take-add done count positions)))
 
-unmapped : (P : Gate → Type 0) (gates : List Gate) (positions : List ℕ) → All P (gates_at gates positions)
-    → All (λ p. P (gate_at gates p)) positions
+unmapped : (P : Gate → Type 0) (gates : List Gate) (positions : List ℕ) → All P (gates_at_positions gates positions)
+    → All (λ p. P (gate_at_position gates p)) positions
 unmapped P gates [] all k d lt = absurd (omega arith)
-unmapped P gates (p ∷ positions) all zero d lt = all 0 (gate_at gates p) (omega arith)
+unmapped P gates (p ∷ positions) all zero d lt = all 0 (gate_at_position gates p) (omega arith)
 unmapped P gates (p ∷ positions) all (suc k) d lt =
     unmapped P gates positions (λ j e below. all (suc j) e (omega arith)) k d (omega arith)
 
 -- what holds of all holds of a batch
 pub batch_all : (P : Gate → Type 0) (gates batch : List Gate) (positions : List ℕ) (done count : ℕ)
-    → All P (gates_at gates positions) → batch ≡ gates_at gates (take count (drop done positions)) → All P batch
+    → All P (gates_at_positions gates positions) → batch ≡ gates_at_positions gates (take count (drop done positions)) → All P batch
 batch_all P gates batch positions done count all is =
-    let Q : ℕ → Type 0 = λ p. P (gate_at gates p) in
+    let Q : ℕ → Type 0 = λ p. P (gate_at_position gates p) in
     subst (All P) (sym is)
-    (All-map P (gate_at gates) (take count (drop done positions))
+    (All-map P (gate_at_position gates) (take count (drop done positions))
     (All-take Q count (drop done positions) (All-drop Q done positions (unmapped P gates positions all))))
 
 -- sources that have their values, and then all gates in an order
@@ -100,7 +100,7 @@ module _ (raw : Raw) (start : List Tern) (rows : List (List Tern)) (t : ℕ) (so
     (order : IsGateOrder raw gates) (row : List Tern) (wide : length row ≡ raw.max_var + 1)
     (sources : HoldsSources raw start rows t row) where
   abbrev after : ℕ → List Tern
-  after n = fold with_gate row (take n gates)
+  after n = fold with_gate_value row (take n gates)
 
   swept : (n : ℕ) → n ≤ length gates
       → HoldsSources raw start rows t (after n) × HoldsFirst raw start rows t gates n (after n)
@@ -117,20 +117,20 @@ module _ (raw : Raw) (start : List Tern) (rows : List (List Tern)) (t : ℕ) (so
       refl room (gate_value_is raw start rows t gates n g (after n) sound order at held first)
       (renews_none raw start rows t (after n)) in
       let one : n + 1 ≡ suc n = omega arith in
-      let next : with_gate (after n) g ≡ after (suc n) =
-      sym (fold_more with_gate row gates n none (omega arith)) ∙ ap after one in (
+      let next : with_gate_value (after n) g ≡ after (suc n) =
+      sym (fold_more with_gate_value row gates n none (omega arith)) ∙ ap after one in (
         subst (HoldsSources raw start rows t) next (λ v s. put.1.keeps v (held v s)),
         subst (HoldsFirst raw start rows t gates (suc n)) next
             (λ i k lt is. items_more
-            (λ x. Rattle.aig_values.specs.state.Frame.Holds raw start rows t (with_gate (after n) g) (variable x.lhs)) gates n g at
+            (λ x. Rattle.aig_values.specs.state.Frame.Holds raw start rows t (with_gate_value (after n) g) (variable x.lhs)) gates n g at
             (λ j x below here. put.1.keeps (variable x.lhs) (first j x below here)) put.2 i k (omega arith) is),
       )
 
-  pub swept_holds : HoldsAll raw start rows t (fold with_gate row gates)
+  pub swept_holds : HoldsAll raw start rows t (fold with_gate_value row gates)
   swept_holds =
       let (held, first) = swept (length gates) (omega arith) in
-      let all : after (length gates) ≡ fold with_gate row gates =
-      ap (fold with_gate row) (take_all (length gates) gates (omega arith)) in
+      let all : after (length gates) ≡ fold with_gate_value row gates =
+      ap (fold with_gate_value row) (take_all (length gates) gates (omega arith)) in
       subst (HoldsAll raw start rows t) all (all_hold raw start rows t gates (after (length gates)) order held first)
 
 -- a source that is put in a grid for a driven circuit
@@ -146,10 +146,10 @@ source_inside driven flags cells t v p h lt source =
 
 -- variable 0 is no gate's
 kept_zero : (row : List Tern) (gates : List Gate) → All (λ g. 0 < variable g.lhs) gates
-    → slice_get (fold with_gate row gates) 0 ≡ slice_get row 0
+    → slice_get (fold with_gate_value row gates) 0 ≡ slice_get row 0
 kept_zero row [] all = refl
 kept_zero row (g ∷ gates) all =
-    kept_zero (with_gate row g) gates (λ k d lt. all (suc k) d (omega arith))
+    kept_zero (with_gate_value row g) gates (λ k d lt. all (suc k) d (omega arith))
     ∙ get_set_other row (variable g.lhs) 0 (gate_value row g)
     (λ e. let positive = all 0 g (omega arith) in absurd (omega arith))
 
@@ -163,15 +163,15 @@ positive_sides raw gates sound order k d lt =
 module _ (driven : DrivenCircuit) (flags flags' : List Bool) (old new : List (List Tern)) (t : ℕ) (gates : List Gate) (p : IsDriven driven)
     (h : IsLaidOut driven flags old) (lt : t < length driven.stimulus.rows) (full : IsFullOrder driven.circuit gates)
     (e : new ≡ with_swept_row old t gates) where
-  row_is : row_at new t ≡ fold with_gate (row_at old t) gates
+  row_is : row_at new t ≡ fold with_gate_value (row_at old t) gates
   row_is =
       ap (λ (rows : List (List Tern)). row_at rows t) e
-      ∙ get_or-set_same old t (fold with_gate (row_at old t) gates) [] (omega (arith, h.rows_are.frames_are))
+      ∙ get_or-set_same old t (fold with_gate_value (row_at old t) gates) [] (omega (arith, h.rows_are.frames_are))
 
   pub row_kept : (u : ℕ) → u ≢ t → row_at new u ≡ row_at old u
   row_kept u ne =
       ap (λ (rows : List (List Tern)). row_at rows u) e
-      ∙ get_or-set_other old t u (fold with_gate (row_at old t) gates) [] ne
+      ∙ get_or-set_other old t u (fold with_gate_value (row_at old t) gates) [] ne
 
   pub laid_out_swept : flags' ≡ flags → IsLaidOut driven flags' new
   laid_out_swept same = record {
@@ -192,7 +192,7 @@ module _ (driven : DrivenCircuit) (flags flags' : List Bool) (old new : List (Li
     };
   }
 
-  pub current_swept : HoldsInputs (pair_of driven) t (row_at old t) → HoldsLatches (pair_of driven) t (row_at old t)
+  pub current_swept : HoldsInputsInPair (pair_of driven) t (row_at old t) → HoldsLatchesInPair (pair_of driven) t (row_at old t)
       → IsCurrentRow (pair_of driven) t (row_at new t)
   current_swept inputs latches =
       subst (IsCurrentRow (pair_of driven) t) (sym row_is)

@@ -8,15 +8,15 @@ use Rattle.aig_base.specs.Sound.{IsSound}
 use Rattle.aig_base.specs.Value.{start_of}
 use Rattle.aig_base.proofs.circuits.Circuits.{gate_defined, rhs0_defined, rhs1_defined}
 use Rattle.aig_base.proofs.values.UniqueValue.{unique}
-use Rattle.aig_bench.specs.state.Current.{Holds, IsCurrentRow}
-use Rattle.aig_bench.specs.Pair.{Pair}
+use Rattle.aig_bench.specs.state.Current.{HoldsInPair, IsCurrentRow}
+use Rattle.aig_bench.specs.BenchState.{CircuitAndRows}
 use Rattle.aig_bench.specs.Touched.{HasOther}
 use Rattle.aig_bench.specs.state.Passing.{Differs, IsConsistent}
 use Rattle.aig_bench.proofs.cells.Values.{gate_has_value}
 
-module _ (p p' : Pair) (t : ℕ) (old : List Tern) (sound : IsSound p.circuit) where
+module _ (p p' : CircuitAndRows) (t : ℕ) (old : List Tern) (sound : IsSound p.circuit) where
   -- another value than the old cell is another value than before
-  pub differs_other : (v : ℕ) → Holds p t old v → Differs p' t old v → HasOther p p' t v
+  pub differs_other : (v : ℕ) → HoldsInPair p t old v → Differs p' t old v → HasOther p p' t v
   differs_other v h d = record {
     before = h.cell;
     after = d.value;
@@ -25,7 +25,7 @@ module _ (p p' : Pair) (t : ℕ) (old : List Tern) (sound : IsSound p.circuit) w
     other = λ e. d.other (h.cell_is ∙ ap Some (sym e));
   }
 
-  pub other_differs : (v : ℕ) → Holds p t old v → HasOther p p' t v → Differs p' t old v
+  pub other_differs : (v : ℕ) → HoldsInPair p t old v → HasOther p p' t v → Differs p' t old v
   other_differs v h o = record {
     value = o.after;
     value_is = o.after_is;

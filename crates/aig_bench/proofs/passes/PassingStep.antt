@@ -11,13 +11,13 @@ use Rattle.aig_base.specs.Value.{start_of}
 use Rattle.aig_base.proofs.levels.OneLevel.{same_level}
 use Rattle.aig_base.proofs.values.UniqueValue.{unique}
 use Rattle.aig_values.specs.Cells.{gate_value}
-use Rattle.aig_bench.specs.Pair.{Pair, HasValue}
-use Rattle.aig_bench.specs.state.Current.{Holds}
+use Rattle.aig_bench.specs.BenchState.{CircuitAndRows, HasValue}
+use Rattle.aig_bench.specs.state.Current.{HoldsInPair}
 use Rattle.aig_bench.proofs.cells.CellLemmas.{get_set_same, get_set_other}
-use Rattle.aig_bench.specs.state.Passing.{Differs, IsSide, IsReached, Passing}
+use Rattle.aig_bench.specs.state.Passing.{Differs, IsSide, IsTouchedSoFar, Passing}
 use Rattle.aig_bench.proofs.cells.Values.{holds_new, holds_still}
 
-module _ (p : Pair) (t : ℕ) (forced : ℕ → Type 0) (old row : List Tern) (marks done marks' : List Bool)
+module _ (p : CircuitAndRows) (t : ℕ) (forced : ℕ → Type 0) (old row : List Tern) (marks done marks' : List Bool)
     (q n : ℕ) (g : Gate) (sound : IsSound p.circuit)
     (h : Passing p t forced old row marks done)
     (at : slice_get p.circuit.gates q ≡ Some g)
@@ -44,7 +44,7 @@ module _ (p : Pair) (t : ℕ) (forced : ℕ → Type 0) (old row : List Tern) (m
   done' = slice_set done v true
 
   as_before : slice_get row v ≡ slice_get old v
-  as_before = h.others q g at (h.waiting q g at mark).1
+  as_before = h.others q g at (h.queued_count q g at mark).1
 
   carry : (u : ℕ) → u ≢ v → IsMarked marks u ⊎ IsMarked done u → IsMarked marks' u ⊎ IsMarked done' u
   carry u ne (inl m) = inl (kept u m ne)
@@ -76,8 +76,8 @@ module _ (p : Pair) (t : ℕ) (forced : ℕ → Type 0) (old row : List Tern) (m
     sources = λ s is. holds_still p t row v (gate_value row g) wide value s (h.sources s is);
     evaluated = λ r x there d. elim (cases_eq (variable x.lhs) v) [
       | inl e ↦ (
-        subst (Holds p t row') (sym e) (holds_new p t row v (gate_value row g) wide value),
-        (h.waiting r x there (subst (IsMarked marks) (sym e) mark)).0,
+        subst (HoldsInPair p t row') (sym e) (holds_new p t row v (gate_value row g) wide value),
+        (h.queued_count r x there (subst (IsMarked marks) (sym e) mark)).0,
       )
       | inr ne ↦
           let k = h.evaluated r x there (sym (get_set_other done v (variable x.lhs) true ne) ∙ d) in
@@ -91,16 +91,16 @@ module _ (p : Pair) (t : ℕ) (forced : ℕ → Type 0) (old row : List Tern) (m
       | inl e ↦ inr (subst (IsMarked done') (sym e) (get_set_same done v true fits))
       | inr ne ↦ reached r x there ne reach
     ];
-    waiting = λ r x there m. elim (only r x there m) [
+    queued_count = λ r x there m. elim (only r x there m) [
       | inl k ↦
-          let b = h.waiting r x there k.0 in
+          let b = h.queued_count r x there k.0 in
           (b.0, λ d. b.1 (sym (get_set_other done v (variable x.lhs) true k.1) ∙ d))
       | inr k ↦ (inr (v, k.0, differs k.1), not_done r x there k.0)
     ];
   }
     where
       reached : (r : ℕ) (x : Gate) → slice_get p.circuit.gates r ≡ Some x → variable x.lhs ≢ v
-          → IsReached p t forced old done' x → IsMarked marks' (variable x.lhs) ⊎ IsMarked done' (variable x.lhs)
+          → IsTouchedSoFar p t forced old done' x → IsMarked marks' (variable x.lhs) ⊎ IsMarked done' (variable x.lhs)
       reached r x there ne (inl f) = carry (variable x.lhs) ne (h.linked r x there (inl f))
       reached r x there ne (inr (u, side, inl s, d)) =
           carry (variable x.lhs) ne (h.linked r x there (inr (u, side, inl s, d)))

@@ -12,17 +12,17 @@ use Rattle.aig_values.specs.InputRows.{row_at, with_cell}
 use Rattle.aig_bench.specs.declared.buckets.Buckets.{Buckets}
 use Rattle.aig_bench.specs.declared.driven_circuit.DrivenCircuit.{DrivenCircuit}
 use Rattle.aig_bench.specs.declared.fanouts.Fanouts.{Fanouts}
-use Rattle.aig_bench.specs.state.Buckets.{AreBuckets, Waits, Fits, Links}
+use Rattle.aig_bench.specs.state.Buckets.{AreBuckets, IsQueued, CanBeQueued, Links}
 use Rattle.aig_bench.specs.state.Current.{IsLaidOut}
-use Rattle.aig_bench.specs.Pair.{HasValue}
+use Rattle.aig_bench.specs.BenchState.{HasValue}
 use Rattle.aig_bench.specs.state.DrivenCircuit.{IsDriven, pair_of}
 use Rattle.aig_bench.proofs.carries.Carrying.{puts}
 use Rattle.aig_bench.specs.declared.latch_list.LatchList.{LatchList}
-use Rattle.aig_bench.specs.state.Latches.{Follows, HandsOn, Lists}
+use Rattle.aig_bench.specs.state.Latches.{TakesNextFrom, QueuesNextLatches, Lists}
 use Rattle.aig_bench.proofs.cells.CellLemmas.{row_written, row_other}
-use Rattle.aig_bench.proofs.carries.Handed.{hands_same, hands_written, set_again}
+use Rattle.aig_bench.proofs.carries.NextLatches.{next_latches_same, next_latches_written, set_again}
 use Rattle.aig_bench.specs.state.Entry.{Puts}
-use Rattle.aig_base.specs.Readers.{list_of, Reads, AreReaders}
+use Rattle.aig_base.specs.Readers.{list_of, ReadsVariable, AreReaders}
 use Rattle.aig_bench.specs.state.Sweep.{IsWork}
 use Rattle.aig_bench.proofs.cells.Flags.{source_flag}
 use Rattle.aig_bench.proofs.passes.SweepSteps.{laid_out_written, each_reader}
@@ -61,15 +61,15 @@ module _ (driven : DrivenCircuit) (fanouts : Fanouts) (flags : List Bool) (cells
     row_is = ap (λ (c : List (List Tern)). row_at c t) is
         ∙ row_written cells t v w (omega (arith, lt, work.laid_out.rows_are.frames_are))
 
-    -- what a change of the cell hands on
-    pub put_hands : (old new : LatchList) → Lists (λ i. Follows driven.circuit i v) old new
-        → HandsOn driven.circuit (row_at cells t) old.marks.items (row_at cells' t) new.marks.items
-    put_hands old new lists = hands_written driven.circuit (row_at cells t) (row_at cells' t) v w old new row_is lists
+    -- what a change of the cell carries on
+    pub put_next_latches : (old new : LatchList) → Lists (λ i. TakesNextFrom driven.circuit i v) old new
+        → QueuesNextLatches driven.circuit (row_at cells t) old.marks.items (row_at cells' t) new.marks.items
+    put_next_latches old new lists = next_latches_written driven.circuit (row_at cells t) (row_at cells' t) v w old new row_is lists
 
-    pub put_hands_none : (a : Tern) → slice_get (row_at cells t) v ≡ Some a → a ≡ w → (marks : List Bool)
-        → HandsOn driven.circuit (row_at cells t) marks (row_at cells' t) marks
-    put_hands_none a at same marks =
-        hands_same driven.circuit (row_at cells t) (row_at cells' t) marks (λ u. ap (λ (r : List Tern). slice_get r u) row_is
+    pub put_next_latches_none : (a : Tern) → slice_get (row_at cells t) v ≡ Some a → a ≡ w → (marks : List Bool)
+        → QueuesNextLatches driven.circuit (row_at cells t) marks (row_at cells' t) marks
+    put_next_latches_none a at same marks =
+        next_latches_same driven.circuit (row_at cells t) (row_at cells' t) marks (λ u. ap (λ (r : List Tern). slice_get r u) row_is
         ∙ set_again (row_at cells t) v w (at ∙ ap Some same) u)
 
     pub put_others : (u : ℕ) → u ≢ t → row_at cells' u ≡ row_at cells u
@@ -77,7 +77,7 @@ module _ (driven : DrivenCircuit) (fanouts : Fanouts) (flags : List Bool) (cells
 
   pub put_moves : (cells' : List (List Tern)) (w : Tern) (b' : Buckets) → cells' ≡ with_cell cells t v w
       → HasValue (pair_of driven) t (2 * v) w
-      → ((u : ℕ) → Waits b' u ↔ (Waits b u ⊎ (Reads driven.circuit u v × (slice_get (row_at cells t) v ≢ Some w))))
+      → ((u : ℕ) → IsQueued b' u ↔ (IsQueued b u ⊎ (ReadsVariable driven.circuit u v × (slice_get (row_at cells t) v ≢ Some w))))
       → Puts (pair_of driven) t v (row_at cells t) b.marks.items (row_at cells' t) b'.marks.items
   put_moves cells' w b' is value moved =
       puts (pair_of driven) t work.driven_is.circuit.sound v w (row_at cells t) (row_at cells' t) b.marks.items b'.marks.items
@@ -85,7 +85,7 @@ module _ (driven : DrivenCircuit) (fanouts : Fanouts) (flags : List Bool) (cells
 
 module _ (driven : DrivenCircuit) (fanouts : Fanouts) (flags : List Bool) (cells : List (List Tern)) (b : Buckets) (v : ℕ) (xs : List ℕ)
     (work : IsWork driven fanouts flags cells b) (read : xs ≡ list_of fanouts.readers v) (le : v ≤ driven.circuit.max_var) where
-  reads : (u : ℕ) → Contains xs u ↔ Reads driven.circuit u v
+  reads : (u : ℕ) → Contains xs u ↔ ReadsVariable driven.circuit u v
   reads = each_reader driven.circuit fanouts.readers xs v work.readers le read
 
   gate_reads : (u : ℕ) → Contains xs u → IsGate driven.circuit u
@@ -93,7 +93,7 @@ module _ (driven : DrivenCircuit) (fanouts : Fanouts) (flags : List Bool) (cells
       let (r, x, there, is, side) = (reads u).0 i in
       subst (IsGate driven.circuit) is (gate_is driven.circuit r x there)
 
-  pub source_readers_fit : (u : ℕ) → Contains xs u → Fits fanouts.levels (length b.head.items) u
+  pub source_readers_fit : (u : ℕ) → Contains xs u → CanBeQueued fanouts.levels (length b.head.items) u
   source_readers_fit u i =
       let (r, x, there, is, side) = (reads u).0 i in
       let d = gate_definition driven.circuit work.driven_is.circuit.sound r x there in
@@ -116,16 +116,16 @@ module _ (driven : DrivenCircuit) (fanouts : Fanouts) (flags : List Bool) (cells
     buckets = are;
     size = omega (arith, work.size, links.heads);
     heads = λ u n k h. let below = work.heads u n k h in omega (arith, links.heads);
-    gates = λ u k. elim ((links.waits u).0 k) [ inl o ↦ work.gates u o | inr i ↦ gate_reads u i ];
+    gates = λ u k. elim ((links.queued u).0 k) [ inl o ↦ work.gates u o | inr i ↦ gate_reads u i ];
   }
 
-  pub waits_put : (b' : Buckets) (Q : Type 0) → Q → Links (Contains xs) b b'
-      → (u : ℕ) → Waits b' u ↔ (Waits b u ⊎ (Reads driven.circuit u v × Q))
-  waits_put b' Q holds links u = (
-    λ k. elim ((links.waits u).0 k) [ inl o ↦ inl o | inr i ↦ inr ((reads u).0 i, holds) ],
+  pub queued_put : (b' : Buckets) (Q : Type 0) → Q → Links (Contains xs) b b'
+      → (u : ℕ) → IsQueued b' u ↔ (IsQueued b u ⊎ (ReadsVariable driven.circuit u v × Q))
+  queued_put b' Q holds links u = (
+    λ k. elim ((links.queued u).0 k) [ inl o ↦ inl o | inr i ↦ inr ((reads u).0 i, holds) ],
     λ k. elim k [
-      | inl o ↦ (links.waits u).1 (inl o)
-      | inr r ↦ (links.waits u).1 (inr ((reads u).1 r.0))
+      | inl o ↦ (links.queued u).1 (inl o)
+      | inr r ↦ (links.queued u).1 (inr ((reads u).1 r.0))
     ],
   )
 
@@ -136,7 +136,7 @@ not_the_value o a w is ne e = ne (cc)
 pub new_work : (driven : DrivenCircuit) (fanouts : Fanouts) (b : Buckets) → IsDriven driven → AreLevels driven.circuit fanouts.levels
     → AreReaders driven.circuit fanouts.readers → length b.head.items ≡ driven.circuit.max_var + 1
     → ((levels : List ℕ) → length levels ≡ driven.circuit.max_var + 1 → AreBuckets levels b)
-    → ((v : ℕ) → Waits b v → ⊥) → (flags : List Bool) (cells : List (List Tern)) → IsLaidOut driven flags cells
+    → ((v : ℕ) → IsQueued b v → ⊥) → (flags : List Bool) (cells : List (List Tern)) → IsLaidOut driven flags cells
     → IsWork driven fanouts flags cells b
 new_work driven fanouts b p levels readers size are empty flags cells laid_out = record {
   driven_is = p;
@@ -154,6 +154,6 @@ pub few_variables : (driven : DrivenCircuit) → IsDriven driven → driven.circ
 few_variables driven p = let h = p.circuit.formed.counts.max_var in omega arith
 
 -- nothing more waits where the cell has the value already
-pub waits_kept : (b : Buckets) (R : ℕ → ℕ → Type 0) (v : ℕ) (o : Option Tern) (a w : Tern) → o ≡ Some a → a ≡ w → (u : ℕ)
-    → Waits b u ↔ (Waits b u ⊎ (R u v × (o ≢ Some w)))
-waits_kept b R v o a w is e u = (λ m. inl m, λ k. elim k [ inl m ↦ m | inr r ↦ absurd (r.1 (is ∙ ap Some e)) ])
+pub queued_kept : (b : Buckets) (R : ℕ → ℕ → Type 0) (v : ℕ) (o : Option Tern) (a w : Tern) → o ≡ Some a → a ≡ w → (u : ℕ)
+    → IsQueued b u ↔ (IsQueued b u ⊎ (R u v × (o ≢ Some w)))
+queued_kept b R v o a w is e u = (λ m. inl m, λ k. elim k [ inl m ↦ m | inr r ↦ absurd (r.1 (is ∙ ap Some e)) ])

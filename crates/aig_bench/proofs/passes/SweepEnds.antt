@@ -13,19 +13,19 @@ use Rattle.aig_base.proofs.values.UniqueValue.{unique}
 use Rattle.aig_bench.specs.declared.buckets.Buckets.{Buckets}
 use Rattle.aig_bench.specs.declared.driven_circuit.DrivenCircuit.{DrivenCircuit}
 use Rattle.aig_bench.specs.declared.fanouts.Fanouts.{Fanouts}
-use Rattle.aig_bench.specs.state.Current.{Holds, IsCurrentRow}
-use Rattle.aig_bench.specs.Pair.{Pair}
+use Rattle.aig_bench.specs.state.Current.{HoldsInPair, IsCurrentRow}
+use Rattle.aig_bench.specs.BenchState.{CircuitAndRows}
 use Rattle.aig_bench.specs.state.Passing.{Differs, IsTouched, IsConsistent}
 use Rattle.aig_bench.specs.state.DrivenCircuit.{pair_of}
-use Rattle.aig_bench.specs.state.Sweep.{IsWork, Sweeping, Swept, Sweeps, Starts, Ends}
+use Rattle.aig_bench.specs.state.Sweep.{IsWork, Sweeping, Swept, Sweeps, PassStarts, PassEnds}
 use Rattle.aig_bench.proofs.passes.PassLemmas.{marked_or_not, ended_current, ended_touched}
 
 no_element : (v : ℕ) → Contains {X = ℕ} [] v → ⊥
 no_element v (k, lt, is) = absurd (omega arith)
 
 -- nothing was evaluated yet
-begun : (p : Pair) (t : ℕ) (forced : ℕ → Type 0) (old row : List Tern) (marks : List Bool)
-    → Starts p t forced old row marks → Sweeping p t forced old 0 row marks [] []
+begun : (p : CircuitAndRows) (t : ℕ) (forced : ℕ → Type 0) (old row : List Tern) (marks : List Bool)
+    → PassStarts p t forced old row marks → Sweeping p t forced old 0 row marks [] []
 begun p t forced old row marks h = record {
   done = h.done;
   size = h.size;
@@ -43,9 +43,9 @@ module _ (driven : DrivenCircuit) (fanouts : Fanouts) (flags : List Bool) (cells
     (forced : List ℕ) (old row0 row : List Tern) (marks : List Bool)
     (work : IsWork driven fanouts flags cells b) (top : length b.head.items ≤ n)
     (fits : IsConsistent (pair_of driven) (Contains forced) old)
-    (start : Starts (pair_of driven) t (Contains forced) old row0 marks)
+    (start : PassStarts (pair_of driven) t (Contains forced) old row0 marks)
     (h : Sweeps (pair_of driven) t 0 n row0 marks row b.marks.items e c) where
-  abbrev p : Pair
+  abbrev p : CircuitAndRows
   p = pair_of driven
 
   swept : Swept p t (Contains forced) old n row b.marks.items [] [] e c
@@ -80,12 +80,12 @@ module _ (driven : DrivenCircuit) (fanouts : Fanouts) (flags : List Bool) (cells
         let row_is : slice_get row v ≡ slice_get old v =
         subst (λ (u : ℕ). slice_get row u ≡ slice_get old u) is
         (s.passing.others q g at (λ m. nd (subst (IsMarked s.done) is m))) in
-        let h : Holds p t row v = subst (Holds p t row) is (current (variable g.lhs) (gate_defined p.circuit q g at)) in
+        let h : HoldsInPair p t row v = subst (HoldsInPair p t row) is (current (variable g.lhs) (gate_defined p.circuit q g at)) in
         let w : h.cell ≡ d.value = unique p.circuit (start_of p.circuit) p.rows work.driven_is.circuit.sound h.value_is d.value_is in
         absurd (d.other (sym row_is ∙ h.cell_is ∙ ap Some w))
   ]
 
-  pub ended : Ends p t (Contains forced) old row b.marks.items e c
+  pub ended : PassEnds p t (Contains forced) old row b.marks.items e c
   ended = record {
     empty = none;
     current = current;

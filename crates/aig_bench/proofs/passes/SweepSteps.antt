@@ -13,16 +13,16 @@ use Rattle.aig_base.proofs.circuits.Gates.{level_of_gate}
 use Rattle.aig_values.specs.Cells.{gate_value}
 use Rattle.aig_values.specs.InputRows.{row_at, with_cell}
 use Rattle.aig_bench.specs.declared.latch_list.LatchList.{LatchList}
-use Rattle.aig_bench.specs.state.Latches.{Follows, HandsOn, Lists}
-use Rattle.aig_bench.proofs.carries.Handed.{hands_same, hands_written, set_again}
+use Rattle.aig_bench.specs.state.Latches.{TakesNextFrom, QueuesNextLatches, Lists}
+use Rattle.aig_bench.proofs.carries.NextLatches.{next_latches_same, next_latches_written, set_again}
 use Rattle.aig_bench.specs.declared.buckets.Buckets.{Buckets}
 use Rattle.aig_bench.specs.declared.driven_circuit.DrivenCircuit.{DrivenCircuit}
 use Rattle.aig_bench.specs.declared.fanouts.Fanouts.{Fanouts}
-use Rattle.aig_bench.specs.state.Buckets.{AreBuckets, Waits, Fits, Links, Takes}
+use Rattle.aig_bench.specs.state.Buckets.{AreBuckets, IsQueued, CanBeQueued, Links, TakesVariable}
 use Rattle.aig_bench.specs.state.Current.{AreGateFlags, IsLaidOut}
 use Rattle.aig_bench.specs.state.DrivenCircuit.{pair_of}
 use Rattle.aig_parts.specs.declared.raw.Raw.{Raw}
-use Rattle.aig_base.specs.Readers.{ReaderLists, list_of, Reads, AreReaders}
+use Rattle.aig_base.specs.Readers.{ReaderLists, list_of, ReadsVariable, AreReaders}
 use Rattle.aig_bench.specs.state.Sweep.{IsWork, Sweeps}
 use Rattle.aig_bench.proofs.cells.CellLemmas.{get_set_other, row_written, row_other, frames_written}
 use Rattle.aig_bench.proofs.cells.Flags.{gate_flag}
@@ -30,7 +30,7 @@ use Rattle.aig_bench.proofs.passes.Sweeps.{lower, swept_changed, swept_same, cel
 
 -- the list of a variable has the gates that read it
 pub each_reader : (raw : Raw) (r : ReaderLists) (xs : List ℕ) (v : ℕ) → AreReaders raw r → v ≤ raw.max_var → xs ≡ list_of r v
-    → (u : ℕ) → Contains xs u ↔ Reads raw u v
+    → (u : ℕ) → Contains xs u ↔ ReadsVariable raw u v
 each_reader raw r xs v h le e u = rw e (h.each v u le)
 
 -- a grid in which a cell was written is laid out as before
@@ -65,12 +65,12 @@ laid_out_written driven t u w flags flags' old new h is lt positive e = record {
 
 module _ (driven : DrivenCircuit) (fanouts : Fanouts) (flags : List Bool) (cells : List (List Tern)) (b b' : Buckets) (t l w q : ℕ) (g : Gate)
     (work : IsWork driven fanouts flags cells b) (lt : t < length driven.stimulus.rows)
-    (takes : Takes fanouts.levels l b b' (Some w)) (at : slice_get driven.circuit.gates q ≡ Some g) (e : variable g.lhs ≡ w) where
+    (takes : TakesVariable fanouts.levels l b b' (Some w)) (at : slice_get driven.circuit.gates q ≡ Some g) (e : variable g.lhs ≡ w) where
   abbrev v : ℕ
   v = variable g.lhs
 
-  taken : Takes fanouts.levels l b b' (Some v)
-  taken = subst (λ (z : ℕ). Takes fanouts.levels l b b' (Some z)) (sym e) takes
+  taken : TakesVariable fanouts.levels l b b' (Some v)
+  taken = subst (λ (z : ℕ). TakesVariable fanouts.levels l b b' (Some z)) (sym e) takes
 
   in_range : v ≤ driven.circuit.max_var
   in_range = gate_in_range driven.circuit work.driven_is.circuit.sound q g at
@@ -109,24 +109,24 @@ module _ (driven : DrivenCircuit) (fanouts : Fanouts) (flags : List Bool) (cells
     buckets = taken.buckets;
     size = omega (arith, work.size, taken.heads);
     heads = λ u n k h. let below = work.heads u n k h in omega (arith, taken.heads);
-    gates = λ u k. work.gates u ((taken.waits u).0 k).0;
+    gates = λ u k. work.gates u ((taken.queued u).0 k).0;
   }
 
   -- what the others wait for
-  pub waits_less : (u : ℕ) → Waits b' u → Waits b u
-  waits_less u k = ((taken.waits u).0 k).0
+  pub queued_less : (u : ℕ) → IsQueued b' u → IsQueued b u
+  queued_less u k = ((taken.queued u).0 k).0
 
-  pub waited : Waits b v
-  waited = taken.waited
+  pub was_queued : IsQueued b v
+  was_queued = taken.was_queued
 
-  pub waits_no_more : Waits b' v → ⊥
-  waits_no_more k = ((taken.waits v).0 k).1 refl
+  pub queued_no_more : IsQueued b' v → ⊥
+  queued_no_more k = ((taken.queued v).0 k).1 refl
 
   pub level_is : slice_get fanouts.levels v ≡ Some l
   level_is = taken.of_level
 
   module _ (xs : List ℕ) (read : xs ≡ list_of fanouts.readers w) where
-    reads : (u : ℕ) → Contains xs u ↔ Reads driven.circuit u v
+    reads : (u : ℕ) → Contains xs u ↔ ReadsVariable driven.circuit u v
     reads = each_reader driven.circuit fanouts.readers xs v work.readers in_range (read ∙ ap (list_of fanouts.readers) (sym e))
 
     gate_reads : (u : ℕ) → Contains xs u → IsGate driven.circuit u
@@ -134,7 +134,7 @@ module _ (driven : DrivenCircuit) (fanouts : Fanouts) (flags : List Bool) (cells
         let (r, x, there, is, side) = (reads u).0 i in
         subst (IsGate driven.circuit) is (gate_is driven.circuit r x there)
 
-    pub readers_fit : (u : ℕ) → Contains xs u → Fits fanouts.levels (length b'.head.items) u
+    pub readers_fit : (u : ℕ) → Contains xs u → CanBeQueued fanouts.levels (length b'.head.items) u
     readers_fit u i =
         let (r, x, there, is, side) = (reads u).0 i in
         let d = gate_definition driven.circuit work.driven_is.circuit.sound r x there in
@@ -159,16 +159,16 @@ module _ (driven : DrivenCircuit) (fanouts : Fanouts) (flags : List Bool) (cells
         buckets = are;
         size = omega (arith, work.size, taken.heads, links.heads);
         heads = λ u n k h. let below = work.heads u n k h in omega (arith, taken.heads, links.heads);
-        gates = λ u k. elim ((links.waits u).0 k) [
+        gates = λ u k. elim ((links.queued u).0 k) [
           | inl o ↦ taken_work.gates u o
           | inr i ↦ gate_reads u i
         ];
       }
 
       -- a reader has a higher level, so at this level no more wait
-      pub linked_less : (u : ℕ) → slice_get fanouts.levels u ≡ Some l → Waits b'' u → Waits b u
-      linked_less u stands k = elim ((links.waits u).0 k) [
-        | inl o ↦ waits_less u o
+      pub linked_less : (u : ℕ) → slice_get fanouts.levels u ≡ Some l → IsQueued b'' u → IsQueued b u
+      linked_less u stands k = elim ((links.queued u).0 k) [
+        | inl o ↦ queued_less u o
         | inr i ↦ absurd (reader_over u stands i)
       ]
         where
@@ -181,9 +181,9 @@ module _ (driven : DrivenCircuit) (fanouts : Fanouts) (flags : List Bool) (cells
               (subst (λ (z : ℕ). Level driven.circuit z l) (sym is) k) in
               omega arith
 
-      pub linked_no_more : Waits b'' v → ⊥
-      linked_no_more k = elim ((links.waits v).0 k) [
-        | inl o ↦ waits_no_more o
+      pub linked_no_more : IsQueued b'' v → ⊥
+      linked_no_more k = elim ((links.queued v).0 k) [
+        | inl o ↦ queued_no_more o
         | inr i ↦
             let (r, x, there, is, side) = (reads v).0 i in
             let o : l < l = lower (pair_of driven) t work.driven_is.circuit r x v l l there side level
@@ -197,11 +197,11 @@ module _ (driven : DrivenCircuit) (fanouts : Fanouts) (flags : List Bool) (cells
     row_is = ap (λ (c : List (List Tern)). row_at c t) is
         ∙ row_written cells t v (gate_value (row_at cells t) g) (omega (arith, lt, work.laid_out.rows_are.frames_are))
 
-    -- what a change of the cell hands on
-    pub hands_changed : (old new : LatchList) → Lists (λ i. Follows driven.circuit i w) old new
-        → HandsOn driven.circuit (row_at cells t) old.marks.items (row_at cells' t) new.marks.items
-    hands_changed old new lists =
-        hands_written driven.circuit (row_at cells t) (row_at cells' t) w (gate_value (row_at cells t) g) old new
+    -- what a change of the cell carries on
+    pub next_latches_changed : (old new : LatchList) → Lists (λ i. TakesNextFrom driven.circuit i w) old new
+        → QueuesNextLatches driven.circuit (row_at cells t) old.marks.items (row_at cells' t) new.marks.items
+    next_latches_changed old new lists =
+        next_latches_written driven.circuit (row_at cells t) (row_at cells' t) w (gate_value (row_at cells t) g) old new
         (subst (λ (z : ℕ). row_at cells' t ≡ slice_set (row_at cells t) z (gate_value (row_at cells t) g)) e row_is) lists
 
     inside_row : v < length (row_at cells t)
@@ -233,14 +233,14 @@ module _ (driven : DrivenCircuit) (fanouts : Fanouts) (flags : List Bool) (cells
             evaluated_now = v ∷ ys;
             changed_now = v ∷ zs;
             sweeping = rw row_is (swept_changed (pair_of driven) t work.driven_is.circuit (Contains forced) old (row_at cells t)
-                b.marks.items b''.marks.items l q g ys zs fits s at waited level wide (λ u. (
-                  λ k. elim ((links.waits u).0 k) [
-                    | inl o ↦ inl ((taken.waits u).0 o)
+                b.marks.items b''.marks.items l q g ys zs fits s at was_queued level wide (λ u. (
+                  λ k. elim ((links.queued u).0 k) [
+                    | inl o ↦ inl ((taken.queued u).0 o)
                     | inr i ↦ inr ((reads xs read u).0 i, fresh)
                   ],
                   λ k. elim k [
-                    | inl o ↦ (links.waits u).1 (inl ((taken.waits u).1 o))
-                    | inr r ↦ (links.waits u).1 (inr ((reads xs read u).1 r.0))
+                    | inl o ↦ (links.queued u).1 (inl ((taken.queued u).1 o))
+                    | inr r ↦ (links.queued u).1 (inr ((reads xs read u).1 r.0))
                   ],
                 )) fresh);
             evaluated_more = omega arith;
@@ -248,11 +248,11 @@ module _ (driven : DrivenCircuit) (fanouts : Fanouts) (flags : List Bool) (cells
           };
         }
 
-    pub hands_unchanged : (get_or (row_at cells' t) v X ≢ get_or (row_at cells t) v X → ⊥) → (marks : List Bool)
-        → HandsOn driven.circuit (row_at cells t) marks (row_at cells' t) marks
-    hands_unchanged f marks =
+    pub next_latches_unchanged : (get_or (row_at cells' t) v X ≢ get_or (row_at cells t) v X → ⊥) → (marks : List Bool)
+        → QueuesNextLatches driven.circuit (row_at cells t) marks (row_at cells' t) marks
+    next_latches_unchanged f marks =
         let same = cell_same (row_at cells t) (row_at cells' t) v (gate_value (row_at cells t) g) row_is inside_row f in
-        hands_same driven.circuit (row_at cells t) (row_at cells' t) marks (λ u. ap (λ (r : List Tern). slice_get r u) row_is
+        next_latches_same driven.circuit (row_at cells t) (row_at cells' t) marks (λ u. ap (λ (r : List Tern). slice_get r u) row_is
         ∙ set_again (row_at cells t) v (gate_value (row_at cells t) g) same u)
 
     pub sweeps_same : (get_or (row_at cells' t) v X ≢ get_or (row_at cells t) v X → ⊥)
@@ -264,10 +264,10 @@ module _ (driven : DrivenCircuit) (fanouts : Fanouts) (flags : List Bool) (cells
             evaluated_now = v ∷ ys;
             changed_now = zs;
             sweeping = rw row_is (swept_same (pair_of driven) t work.driven_is.circuit (Contains forced) old (row_at cells t)
-                b.marks.items b'.marks.items l q g ys zs fits s at waited level wide (λ u. (
-                  λ k. inl ((taken.waits u).0 k),
+                b.marks.items b'.marks.items l q g ys zs fits s at was_queued level wide (λ u. (
+                  λ k. inl ((taken.queued u).0 k),
                   λ k. elim k [
-                    | inl o ↦ (taken.waits u).1 o
+                    | inl o ↦ (taken.queued u).1 o
                     | inr r ↦ absurd (r.1 same)
                   ],
                 )) same);

@@ -19,19 +19,19 @@ use Rattle.aig_base.proofs.circuits.Gates.{same_gate}
 use Rattle.aig_base.proofs.levels.OneLevel.{level_of, same_level}
 use Rattle.aig_base.proofs.lists.Positions.{Contains-cons}
 use Rattle.aig_values.specs.Cells.{gate_value}
-use Rattle.aig_bench.specs.Pair.{Pair, HasValue}
-use Rattle.aig_bench.specs.state.Current.{Holds}
+use Rattle.aig_bench.specs.BenchState.{CircuitAndRows, HasValue}
+use Rattle.aig_bench.specs.state.Current.{HoldsInPair}
 use Rattle.aig_bench.specs.state.Passing.{Differs, IsSide, Passing, IsConsistent}
-use Rattle.aig_base.specs.Readers.{Reads}
+use Rattle.aig_base.specs.Readers.{ReadsVariable}
 use Rattle.aig_bench.specs.state.Sweep.{Sweeping, Sweeps}
 use Rattle.aig_bench.specs.Touched.{IsOnce}
 use Rattle.aig_bench.proofs.cells.CellLemmas.{get_set_same, get_set_other}
-use Rattle.aig_bench.proofs.waits.Chained.{head_in, behind_in}
-use Rattle.aig_bench.proofs.passes.PassLemmas.{behind, same_or_other}
+use Rattle.aig_bench.proofs.queues.Chained.{head_in, in_tail}
+use Rattle.aig_bench.proofs.passes.PassLemmas.{done_below, same_or_other}
 use Rattle.aig_bench.proofs.passes.PassingStep.{stepped, changed, differs}
 use Rattle.aig_bench.proofs.cells.Values.{gate_has_value}
 
-module _ (p : Pair) (t : ℕ) (c : IsCircuit p.circuit) where
+module _ (p : CircuitAndRows) (t : ℕ) (c : IsCircuit p.circuit) where
   level_here : (u : ℕ) → IsDefined p.circuit u → (m : ℕ) × Level p.circuit u m
   level_here u d = level_of (Grounded-of_defined p.circuit c.acyclic u d)
 
@@ -59,7 +59,7 @@ module _ (p : Pair) (t : ℕ) (c : IsCircuit p.circuit) where
       (at : slice_get p.circuit.gates q ≡ Some g) (mark : IsMarked marks (variable g.lhs))
       (level : Level p.circuit (variable g.lhs) n) (wide : length row ≡ p.circuit.max_var + 1)
       (moved : (u : ℕ) → IsMarked marks' u ↔ ((IsMarked marks u × (u ≢ variable g.lhs))
-      ⊎ (Reads p.circuit u (variable g.lhs) × (slice_get row (variable g.lhs) ≢ Some (gate_value row g))))) where
+      ⊎ (ReadsVariable p.circuit u (variable g.lhs) × (slice_get row (variable g.lhs) ≢ Some (gate_value row g))))) where
     abbrev v : ℕ
     v = variable g.lhs
 
@@ -69,10 +69,10 @@ module _ (p : Pair) (t : ℕ) (c : IsCircuit p.circuit) where
     abbrev done' : List Bool
     done' = slice_set s.done v true
 
-    side_holds : (u : ℕ) → IsSide g u → Holds p t row u
+    side_holds : (u : ℕ) → IsSide g u → HoldsInPair p t row u
     side_holds u side =
         let (m, l) = side_level q g at u side in
-        behind p t forced old row marks s.done c.sound s.passing n fits s.high l (lower q g u m n at side l level)
+        done_below p t forced old row marks s.done c.sound s.passing n fits s.high l (lower q g u m n at side l level)
 
     value : HasValue p t (2 * v) (gate_value row g)
     value = gate_has_value p t row q g c.sound at (side_holds (variable g.rhs0) (inl refl))
@@ -84,7 +84,7 @@ module _ (p : Pair) (t : ℕ) (c : IsCircuit p.circuit) where
         let (m, l) = level_here (variable x.lhs) (gate_defined p.circuit r x there) in
         (m, l, lower r x v n m there side level l)
 
-    reads_side : (r : ℕ) (x : Gate) → slice_get p.circuit.gates r ≡ Some x → Reads p.circuit (variable x.lhs) v → IsSide x v
+    reads_side : (r : ℕ) (x : Gate) → slice_get p.circuit.gates r ≡ Some x → ReadsVariable p.circuit (variable x.lhs) v → IsSide x v
     reads_side r x there (k, y, stands, e, side) =
         subst (λ (z : Gate). IsSide z v) (same_gate p.circuit c.sound k r y x stands there e) side
 
@@ -130,7 +130,7 @@ module _ (p : Pair) (t : ℕ) (c : IsCircuit p.circuit) where
     )
 
     not_done : IsMarked s.done v → ⊥
-    not_done = (s.passing.waiting q g at mark).1
+    not_done = (s.passing.queued_count q g at mark).1
 
     low' : (u m : ℕ) → IsMarked done' u → Level p.circuit u m → m ≤ n
     low' u m d l = elim ((done_cases u).0 d) [
@@ -145,7 +145,7 @@ module _ (p : Pair) (t : ℕ) (c : IsCircuit p.circuit) where
       | inr r ↦ reader u m l r.0
     ]
       where
-        reader : (u m : ℕ) → Level p.circuit u m → Reads p.circuit u v → n ≤ m
+        reader : (u m : ℕ) → Level p.circuit u m → ReadsVariable p.circuit u v → n ≤ m
         reader u m l (r, x, there, e, side) =
             let lt : n < m = lower r x v n m there side level (subst (λ (k : ℕ). Level p.circuit k m) (sym e) l) in
             omega arith
@@ -158,7 +158,7 @@ module _ (p : Pair) (t : ℕ) (c : IsCircuit p.circuit) where
       ],
       λ d. elim ((done_cases u).0 d) [
         | inl e ↦ subst (Contains (v ∷ xs)) (sym e) (head_in v xs)
-        | inr k ↦ behind_in v xs u ((s.each u).1 k)
+        | inr k ↦ in_tail v xs u ((s.each u).1 k)
       ],
     )
 
@@ -197,7 +197,7 @@ module _ (p : Pair) (t : ℕ) (c : IsCircuit p.circuit) where
       ],
       λ d. elim ((done_cases u).0 d.0) [
         | inl e ↦ subst (Contains (v ∷ ys)) (sym e) (head_in v ys)
-        | inr k ↦ behind_in v ys u ((s.changed_each u).1 (k, d.1))
+        | inr k ↦ in_tail v ys u ((s.changed_each u).1 (k, d.1))
       ],
     ))
 
@@ -226,7 +226,7 @@ module _ (row row' : List Tern) (v : ℕ) (w : Tern) (is : row' ≡ slice_set ro
   ]
 
 -- sweeps one after the other
-module _ (p : Pair) (t : ℕ) where
+module _ (p : CircuitAndRows) (t : ℕ) where
   pub sweeps_none : (n : ℕ) (row : List Tern) (marks : List Bool) → Sweeps p t n n row marks row marks 0 0
   sweeps_none n row marks = record {
     sweep = λ forced old xs ys fits s. record {

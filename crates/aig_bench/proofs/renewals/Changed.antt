@@ -9,7 +9,7 @@ use Rattle.aig_parts.specs.declared.raw.Raw.{Raw}
 use Rattle.aig_base.specs.Changes.{restarted, with_reset}
 use Rattle.aig_base.specs.Grounded.{IsSource, Level}
 use Rattle.aig_base.specs.Levels.{AreLevels}
-use Rattle.aig_base.specs.Readers.{ReaderLists, Reads, AreReaders}
+use Rattle.aig_base.specs.Readers.{ReaderLists, ReadsVariable, AreReaders}
 use Rattle.aig_base.specs.Grounded as grounded
 use Rattle.aig_parts.specs.declared.latch.Latch.{Latch}
 use Rattle.aig_parts.specs.Literal.{variable}
@@ -18,15 +18,15 @@ use Rattle.aig_base.proofs.rewires.Rewiring.{with_reset-circuit}
 use Rattle.aig_values.specs.InputRows.{InputRows, row_at, HaveWidth}
 use Rattle.aig_parts.specs.Limits.{cell_limit, frame_limit}
 use Rattle.aig_bench.specs.declared.driven_circuit.DrivenCircuit.{DrivenCircuit}
-use Rattle.aig_bench.specs.Pair.{Pair}
-use Rattle.aig_bench.specs.state.Current.{AreGateFlags, AreRows, IsLaidOut, Holds, AreCurrent, IsBench}
+use Rattle.aig_bench.specs.BenchState.{CircuitAndRows}
+use Rattle.aig_bench.specs.state.Current.{AreGateFlags, AreRows, IsLaidOut, HoldsInPair, AreCurrent, IsBench}
 use Rattle.aig_values.specs.Cells.{fresh_row}
-use Rattle.aig_bench.proofs.cells.Layouts.{rows_more}
+use Rattle.aig_bench.proofs.cells.NewGrids.{rows_more}
 use Rattle.aig_bench.specs.state.DrivenCircuit.{IsDriven, pair_of}
 use Rattle.aig_bench.proofs.cells.Earlier.{value_before}
 
 -- rows and cells that agree below a frame: cells that are values stay values
-pub current_below : (p : Pair) (n m : ℕ) (rows : List (List Tern)) (cells cells' : List (List Tern)) → AreCurrent p n cells
+pub current_below : (p : CircuitAndRows) (n m : ℕ) (rows : List (List Tern)) (cells cells' : List (List Tern)) → AreCurrent p n cells
     → m ≤ n → ((t : ℕ) → t < m → slice_get rows t ≡ slice_get p.rows t)
     → ((t : ℕ) → t < m → row_at cells' t ≡ row_at cells t)
     → AreCurrent (record p { rows = rows }) m cells'
@@ -34,7 +34,7 @@ current_below p n m rows cells cells' h le same rest = record {
   each = λ u lt v d. still u lt v (h.each u (omega arith) v d);
 }
   where
-    still : (u : ℕ) → u < m → (v : ℕ) → Holds p u (row_at cells u) v → Holds (record p { rows = rows }) u (row_at cells' u) v
+    still : (u : ℕ) → u < m → (v : ℕ) → HoldsInPair p u (row_at cells u) v → HoldsInPair (record p { rows = rows }) u (row_at cells' u) v
     still u lt v k = record {
       cell = k.cell;
       cell_is = ap (λ (row : List Tern). slice_get row v) (rest u lt) ∙ k.cell_is;
@@ -194,7 +194,7 @@ readers_restarted raw c lit w readers h e =
 pub readers_kept : (raw : Raw) (old new : ReaderLists) → AreReaders raw old → new.lists ≡ old.lists → AreReaders raw new
 readers_kept raw old new h e = record {
   size = ap length e ∙ h.size;
-  each = λ v w le. subst (λ (ls : List (List ℕ)). Contains (get_or ls v []) w ↔ Reads raw w v) (sym e) (h.each v w le);
+  each = λ v w le. subst (λ (ls : List (List ℕ)). Contains (get_or ls v []) w ↔ ReadsVariable raw w v) (sym e) (h.each v w le);
   once = λ v w. subst (λ (ls : List (List ℕ)). count_by (nat_eq w) (get_or ls v []) ≤ 1) (sym e) (h.once v w);
 }
 

@@ -5,23 +5,23 @@ use Rattle.aig_base.specs.Levels.{AreLevels}
 use Rattle.aig_base.specs.state.Marks.{IsMarked}
 use Rattle.aig_values.specs.InputRows.{row_at}
 use Rattle.aig_bench.specs.declared.edit.EditReport.{EditReport}
-use Rattle.aig_bench.specs.declared.order.Order.{Order}
+use Rattle.aig_bench.specs.declared.sweep_order.Order.{Order}
 use Rattle.aig_bench.specs.declared.driven_circuit.DrivenCircuit.{DrivenCircuit}
 use Rattle.aig_bench.specs.declared.fanouts.Fanouts.{Fanouts}
 use Rattle.aig_bench.specs.declared.pending.Pending.{Pending}
-use Rattle.aig_bench.specs.Pair.{Pair}
+use Rattle.aig_bench.specs.BenchState.{CircuitAndRows}
 use Rattle.aig_bench.specs.state.DrivenCircuit.{pair_of}
-use Rattle.aig_bench.specs.state.Buckets.{IsClear}
+use Rattle.aig_bench.specs.state.Buckets.{AreLevelsEmpty}
 use Rattle.aig_bench.specs.state.Engine.{EngineState, ChangesRow, IsSettled}
 use Rattle.aig_bench.specs.state.Current.{AreCurrent}
-use Rattle.aig_bench.specs.state.Latches.{HandsOn}
-use Rattle.aig_bench.specs.state.Pending.{IsEngine, IsReady, state_of}
+use Rattle.aig_bench.specs.state.Latches.{QueuesNextLatches}
+use Rattle.aig_bench.specs.state.Pending.{IsEngine, IsSettledBench, state_of}
 use Rattle.aig_bench.specs.state.Passing.{IsConsistent}
 use Rattle.aig_bench.specs.state.Renewed.{RenewsAll}
 use Rattle.aig_bench.specs.state.Steps.{report_of, Settles, SettlesLevels}
-use Rattle.aig_bench.specs.state.Sweep.{IsWork, Ends, Starts, Sweeps}
+use Rattle.aig_bench.specs.state.Sweep.{IsWork, PassEnds, PassStarts, Sweeps}
 use Rattle.aig_bench.proofs.edits.Edited.{all_current, working}
-use Rattle.aig_bench.proofs.carries.Handed.{hands_none, hands_then}
+use Rattle.aig_bench.proofs.carries.NextLatches.{next_latches_none, next_latches_then}
 use Rattle.aig_bench.proofs.passes.Sweeps.{sweeps_none, sweeps_then, sweeps_past, sweeps_far}
 use Rattle.aig_bench.proofs.passes.SweepEnds.{ended}
 
@@ -30,7 +30,7 @@ row_none t s = record {
   pair = refl;
   levels = refl;
   others = λ u ne. refl;
-  hands = hands_none s.pair.circuit (row_at s.cells t) s.ahead;
+  next_latches = next_latches_none s.pair.circuit (row_at s.cells t) s.ahead;
   evaluations = omega arith;
 }
 
@@ -39,7 +39,7 @@ levels_none t n s = record {
   row = row_none t s;
   here = refl;
   few = omega arith;
-  sweeps = sweeps_none s.pair t n (row_at s.cells t) s.waits;
+  sweeps = sweeps_none s.pair t n (row_at s.cells t) s.queued;
 }
 
 -- it is not said which latches are carried into the frame
@@ -48,7 +48,7 @@ row_here t n a b here h = record {
   pair = h.pair;
   levels = h.levels;
   others = h.others;
-  hands = h.hands;
+  next_latches = h.next_latches;
   evaluations = h.evaluations;
 }
 
@@ -58,8 +58,8 @@ module _ (t : ℕ) (a b c : EngineState) where
     pair = y.pair ∙ x.pair;
     levels = y.levels ∙ x.levels;
     others = λ u ne. y.others u ne ∙ x.others u ne;
-    hands = hands_then a.pair.circuit _ _ _ _ _ _ x.hands
-        (subst (λ (p : Pair). HandsOn p.circuit (row_at b.cells t) b.ahead (row_at c.cells t) c.ahead) x.pair y.hands);
+    next_latches = next_latches_then a.pair.circuit _ _ _ _ _ _ x.next_latches
+        (subst (λ (p : CircuitAndRows). QueuesNextLatches p.circuit (row_at b.cells t) b.ahead (row_at c.cells t) c.ahead) x.pair y.next_latches);
     evaluations = omega (arith, x.evaluations, y.evaluations);
   }
 
@@ -71,21 +71,21 @@ module _ (t : ℕ) (a b c : EngineState) where
     here = k.here ∙ h.here;
     few = (let few = h.few in let more = k.few in omega arith);
     sweeps = rw (e, d)
-        (sweeps_then a.pair t n m l (row_at a.cells t) (row_at b.cells t) (row_at c.cells t) a.waits b.waits c.waits _ _ _ _ h.sweeps
-        (subst (λ (p : Pair). Sweeps p t m l (row_at b.cells t) b.waits (row_at c.cells t) c.waits y.evaluated y.changed) h.row.pair k.sweeps));
+        (sweeps_then a.pair t n m l (row_at a.cells t) (row_at b.cells t) (row_at c.cells t) a.queued b.queued c.queued _ _ _ _ h.sweeps
+        (subst (λ (p : CircuitAndRows). Sweeps p t m l (row_at b.cells t) b.queued (row_at c.cells t) c.queued y.evaluated y.changed) h.row.pair k.sweeps));
   }
 
   -- after them nothing of the level waits
   pub levels_past : (n : ℕ) (x : EditReport) → AreLevels a.pair.circuit a.levels → SettlesLevels t n n a b x
-      → SettlesLevels t n n b c (report_of None) → ((u : ℕ) → IsMarked c.waits u → slice_get b.levels u ≢ Some n)
+      → SettlesLevels t n n b c (report_of None) → ((u : ℕ) → IsMarked c.queued u → slice_get b.levels u ≢ Some n)
       → SettlesLevels t n (n + 1) a c x
   levels_past n x are h k none = record {
     row = row_then x.evaluated 0 x.evaluated h.row k.row (omega arith);
     here = k.here ∙ h.here;
     few = h.few;
-    sweeps = sweeps_past a.pair t a.levels n n (row_at a.cells t) (row_at b.cells t) (row_at c.cells t) a.waits b.waits c.waits _ _ are h.sweeps
-        (subst (λ (p : Pair). Sweeps p t n n (row_at b.cells t) b.waits (row_at c.cells t) c.waits 0 0) h.row.pair k.sweeps)
-        (subst (λ (xs : List ℕ). (u : ℕ) → IsMarked c.waits u → slice_get xs u ≢ Some n) h.row.levels none);
+    sweeps = sweeps_past a.pair t a.levels n n (row_at a.cells t) (row_at b.cells t) (row_at c.cells t) a.queued b.queued c.queued _ _ are h.sweeps
+        (subst (λ (p : CircuitAndRows). Sweeps p t n n (row_at b.cells t) b.queued (row_at c.cells t) c.queued 0 0) h.row.pair k.sweeps)
+        (subst (λ (xs : List ℕ). (u : ℕ) → IsMarked c.queued u → slice_get xs u ≢ Some n) h.row.levels none);
   }
 
 module _ (driven : DrivenCircuit) (fanouts : Fanouts) (pending : Pending) (order : Order) (flags : List Bool) (cells : List (List Tern)) (n t from : ℕ)
@@ -95,48 +95,48 @@ module _ (driven : DrivenCircuit) (fanouts : Fanouts) (pending : Pending) (order
   pair_is = ap (λ (s : EngineState). s.pair) is ∙ h.row.pair
 
   levels_are : AreLevels a.pair.circuit a.levels
-  levels_are = subst (λ (p : Pair). AreLevels p.circuit a.levels) h.row.pair
+  levels_are = subst (λ (p : CircuitAndRows). AreLevels p.circuit a.levels) h.row.pair
       (subst (λ (xs : List ℕ). AreLevels b.pair.circuit xs) h.row.levels
       (subst (λ (s : EngineState). AreLevels s.pair.circuit s.levels) is work.levels))
 
   -- past levels of which nothing waits
-  pub levels_clear : (end : ℕ) → from ≤ end → IsClear fanouts.levels pending.buckets from end → SettlesLevels t 0 end a b x
+  pub levels_clear : (end : ℕ) → from ≤ end → AreLevelsEmpty fanouts.levels pending.buckets from end → SettlesLevels t 0 end a b x
   levels_clear end le clear = record {
     row = h.row;
     here = h.here;
     few = h.few;
-    sweeps = sweeps_far a.pair t a.levels 0 from end (row_at a.cells t) (row_at b.cells t) a.waits b.waits _ _ levels_are h.sweeps le
-        (subst (λ (xs : List ℕ). (u l : ℕ) → IsMarked b.waits u → slice_get xs u ≡ Some l → from ≤ l → l < end → ⊥) h.row.levels
-        (subst (λ (s : EngineState). (u l : ℕ) → IsMarked s.waits u → slice_get s.levels u ≡ Some l → from ≤ l → l < end → ⊥)
+    sweeps = sweeps_far a.pair t a.levels 0 from end (row_at a.cells t) (row_at b.cells t) a.queued b.queued _ _ levels_are h.sweeps le
+        (subst (λ (xs : List ℕ). (u l : ℕ) → IsMarked b.queued u → slice_get xs u ≡ Some l → from ≤ l → l < end → ⊥) h.row.levels
+        (subst (λ (s : EngineState). (u l : ℕ) → IsMarked s.queued u → slice_get s.levels u ≡ Some l → from ≤ l → l < end → ⊥)
         is clear));
   }
 
   -- where nothing waits a pass has ended
   pub settles : (end : ℕ) → from ≤ end → length pending.buckets.head.items ≤ end
-      → IsClear fanouts.levels pending.buckets from end → Settles t a b x
+      → AreLevelsEmpty fanouts.levels pending.buckets from end → Settles t a b x
   settles end le top clear = record {
     row = h.row;
     here = h.here;
     few = h.few;
     ends = λ forced old fits start.
-        subst (λ (p : Pair). Ends p t (Contains forced) old (row_at b.cells t) b.waits x.evaluated x.changed) pair_is
-        (subst (λ (s : EngineState). Ends (pair_of driven) t (Contains forced) old (row_at s.cells t) s.waits x.evaluated x.changed) is
-        (ended driven fanouts flags cells pending.buckets t end x.evaluated x.changed forced old (row_at a.cells t) (row_at cells t) a.waits work top
-        (subst (λ (p : Pair). IsConsistent p (Contains forced) old) (sym pair_is) fits)
-        (subst (λ (p : Pair). Starts p t (Contains forced) old (row_at a.cells t) a.waits) (sym pair_is) start)
-        (subst (λ (p : Pair). Sweeps p t 0 end (row_at a.cells t) a.waits (row_at cells t) pending.buckets.marks.items x.evaluated x.changed) (sym pair_is)
-        (subst (λ (s : EngineState). Sweeps a.pair t 0 end (row_at a.cells t) a.waits (row_at s.cells t) s.waits x.evaluated x.changed) (sym is)
+        subst (λ (p : CircuitAndRows). PassEnds p t (Contains forced) old (row_at b.cells t) b.queued x.evaluated x.changed) pair_is
+        (subst (λ (s : EngineState). PassEnds (pair_of driven) t (Contains forced) old (row_at s.cells t) s.queued x.evaluated x.changed) is
+        (ended driven fanouts flags cells pending.buckets t end x.evaluated x.changed forced old (row_at a.cells t) (row_at cells t) a.queued work top
+        (subst (λ (p : CircuitAndRows). IsConsistent p (Contains forced) old) (sym pair_is) fits)
+        (subst (λ (p : CircuitAndRows). PassStarts p t (Contains forced) old (row_at a.cells t) a.queued) (sym pair_is) start)
+        (subst (λ (p : CircuitAndRows). Sweeps p t 0 end (row_at a.cells t) a.queued (row_at cells t) pending.buckets.marks.items x.evaluated x.changed) (sym pair_is)
+        (subst (λ (s : EngineState). Sweeps a.pair t 0 end (row_at a.cells t) a.queued (row_at s.cells t) s.queued x.evaluated x.changed) (sym is)
         (levels_clear end le clear).sweeps))));
   }
 
 -- an engine where nothing is to be looked at is what a bench keeps
 pub held : {driven : DrivenCircuit} {fanouts : Fanouts} {pending : Pending} {order : Order} {flags : List Bool} {cells : List (List Tern)} {n : ℕ} {s : EngineState}
     → IsEngine driven fanouts pending order flags cells → state_of driven fanouts pending order cells n ≡ s → IsSettled s
-    → IsReady driven fanouts pending flags cells
+    → IsSettledBench driven fanouts pending flags cells
 held {driven = driven} {fanouts = fanouts} {pending = pending} {order = order} {flags = flags} {cells = cells} {n = n} e is h =
     let k : IsSettled (state_of driven fanouts pending order cells n) = subst IsSettled (sym is) h in
     record {
-      working = working driven fanouts pending.buckets flags cells e.work k.idle.waits k.current;
+      working = working driven fanouts pending.buckets flags cells e.work k.idle.queued k.current;
       lists = e.lists;
       idle = k.idle;
     }
@@ -145,7 +145,7 @@ held {driven = driven} {fanouts = fanouts} {pending = pending} {order = order} {
 pub settled_renewed : (forced : List ℕ) (first : ℕ) (old new : EngineState) (report : EditReport)
     → AreCurrent old.pair first old.cells → RenewsAll forced first old new report → IsSettled new
 settled_renewed forced first old new report now r = record {
-  current = subst (λ (q : Pair). AreCurrent q (length q.rows) new.cells) (sym r.pair)
+  current = subst (λ (q : CircuitAndRows). AreCurrent q (length q.rows) new.cells) (sym r.pair)
       (all_current old.pair forced first (length old.pair.rows) _ _ old.cells new.cells now r.renewed);
   idle = r.idle;
 }

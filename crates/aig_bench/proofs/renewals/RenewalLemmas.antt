@@ -4,10 +4,10 @@ use Rattle.aig_parts.specs.declared.ternary.Tern.{Tern}
 use Rattle.aig_base.proofs.lists.Positions.{Contains-cons}
 use Rattle.aig_values.specs.InputRows.{row_at}
 use Rattle.aig_bench.specs.state.Current.{IsCurrentRow}
-use Rattle.aig_bench.specs.Pair.{Pair}
+use Rattle.aig_bench.specs.BenchState.{CircuitAndRows}
 use Rattle.aig_bench.specs.state.Passing.{Differs, IsTouched}
 use Rattle.aig_bench.specs.state.Renewed.{IsBetween, IsTouchedCell, Renewed}
-use Rattle.aig_bench.specs.state.Sweep.{Ends}
+use Rattle.aig_bench.specs.state.Sweep.{PassEnds}
 use Rattle.aig_bench.specs.Touched.{IsOnce, AreCells}
 use Rattle.aig_base.proofs.circuits.Gates.{gate_of}
 
@@ -17,33 +17,33 @@ nothing x (k, lt, is) = absurd (omega arith)
 here : {X : Type 0} (x : X) (xs : List X) → Contains (x ∷ xs) x
 here x xs = (0, omega arith, refl)
 
-behind : {X : Type 0} (x : X) (xs : List X) (y : X) → Contains xs y → Contains (x ∷ xs) y
-behind x xs y (k, lt, is) = (suc k, omega arith, is)
+in_tail : {X : Type 0} (x : X) (xs : List X) (y : X) → Contains xs y → Contains (x ∷ xs) y
+in_tail x xs y (k, lt, is) = (suc k, omega arith, is)
 
 module _ {X : Type 0} where
   either : (xs ys : List X) (y : X) → Contains (xs ++ ys) y → Contains xs y ⊎ Contains ys y
   either [] ys y h = inr h
   either (x ∷ xs) ys y h = elim (Contains-cons x (xs ++ ys) y h) [
     | inl e ↦ inl (subst (Contains (x ∷ xs)) (sym e) (here x xs))
-    | inr k ↦ elim (either xs ys y k) [ inl i ↦ inl (behind x xs y i) | inr i ↦ inr i ]
+    | inr k ↦ elim (either xs ys y k) [ inl i ↦ inl (in_tail x xs y i) | inr i ↦ inr i ]
   ]
 
   in_left : (xs ys : List X) (y : X) → Contains xs y → Contains (xs ++ ys) y
   in_left [] ys y h = absurd (nothing y h)
   in_left (x ∷ xs) ys y h = elim (Contains-cons x xs y h) [
     | inl e ↦ subst (Contains (x ∷ (xs ++ ys))) (sym e) (here x (xs ++ ys))
-    | inr k ↦ behind x (xs ++ ys) y (in_left xs ys y k)
+    | inr k ↦ in_tail x (xs ++ ys) y (in_left xs ys y k)
   ]
 
   in_right : (xs ys : List X) (y : X) → Contains ys y → Contains (xs ++ ys) y
   in_right [] ys y h = h
-  in_right (x ∷ xs) ys y h = behind x (xs ++ ys) y (in_right xs ys y h)
+  in_right (x ∷ xs) ys y h = in_tail x (xs ++ ys) y (in_right xs ys y h)
 
   once_joined : (xs ys : List X) → IsOnce xs → IsOnce ys → ((y : X) → Contains xs y → Contains ys y → ⊥) → IsOnce (xs ++ ys)
   once_joined [] ys a b apart = b
   once_joined (x ∷ xs) ys a b apart = (
     λ h. elim (either xs ys x h) [ inl k ↦ a.0 k | inr k ↦ apart x (here x xs) k ],
-    once_joined xs ys a.1 b (λ y k l. apart y (behind x xs y k) l),
+    once_joined xs ys a.1 b (λ y k l. apart y (in_tail x xs y k) l),
   )
 
 -- cells of one frame
@@ -60,7 +60,7 @@ module _ (t : ℕ) where
   framed [] s u h = absurd (nothing (s, u) h)
   framed (v ∷ vs) s u h = elim (Contains-cons (t, v) (at_frame t vs) (s, u) h) [
     | inl e ↦ let k = pair_same s u t v e in (k.0, subst (Contains (v ∷ vs)) (sym k.1) (here v vs))
-    | inr k ↦ let r = framed vs s u k in (r.0, behind v vs u r.1)
+    | inr k ↦ let r = framed vs s u k in (r.0, in_tail v vs u r.1)
   ]
 
   frames : (vs : List ℕ) (u : ℕ) → Contains vs u → Contains (at_frame t vs) (t, u)
@@ -68,7 +68,7 @@ module _ (t : ℕ) where
   frames [] u h = absurd (nothing u h)
   frames (v ∷ vs) u h = elim (Contains-cons v vs u h) [
     | inl e ↦ subst (λ (n : ℕ). Contains (at_frame t (v ∷ vs)) (t, n)) (sym e) (here (t, v) (at_frame t vs))
-    | inr k ↦ behind (t, v) (at_frame t vs) (t, u) (frames vs u k)
+    | inr k ↦ in_tail (t, v) (at_frame t vs) (t, u) (frames vs u k)
   ]
 
   once_framed : (vs : List ℕ) → IsOnce vs → IsOnce (at_frame t vs)
@@ -161,7 +161,7 @@ frame_cells s vs once = record {
   count = length_framed s vs;
 }
 
-module _ (p : Pair) (forced : List ℕ) where
+module _ (p : CircuitAndRows) (forced : List ℕ) where
   pub renewed_none : (first : ℕ) (old : List (List Tern)) → Renewed p forced first first old old 0 0
   renewed_none first old = record {
     others = λ t h. refl;
@@ -172,7 +172,7 @@ module _ (p : Pair) (forced : List ℕ) where
 
   -- one frame
   module _ (t e c : ℕ) (old new : List (List Tern)) (marks : List Bool) (others : (u : ℕ) → u ≢ t → row_at new u ≡ row_at old u)
-      (h : Ends p t (Contains forced) (row_at old t) (row_at new t) marks e c) where
+      (h : PassEnds p t (Contains forced) (row_at old t) (row_at new t) marks e c) where
     only : (u : ℕ) → IsBetween t (t + 1) u → u ≡ t
     only u b = omega arith
 
@@ -296,7 +296,7 @@ without (y ∷ ys) x h = elim (Contains-cons y ys x h) [
         omega arith,
         λ z j. elim (Contains-cons y ys z j) [
           | inl e ↦ inr (subst (Contains (y ∷ zs)) (sym e) (here y zs))
-          | inr i ↦ elim (f z i) [ inl e ↦ inl e | inr l ↦ inr (behind y zs z l) ]
+          | inr i ↦ elim (f z i) [ inl e ↦ inl e | inr l ↦ inr (in_tail y zs z l) ]
         ],
       )
 ]
@@ -305,7 +305,7 @@ fewer : {X : Type 0} (xs ys : List X) → IsOnce xs → ((x : X) → Contains xs
 fewer [] ys once f = omega arith
 fewer (x ∷ xs) ys once f =
     let (zs, size, g) = without ys x (f x (here x xs)) in
-    let le = fewer xs zs once.1 (λ y k. elim (g y (f y (behind x xs y k))) [
+    let le = fewer xs zs once.1 (λ y k. elim (g y (f y (in_tail x xs y k))) [
       | inl e ↦ absurd (once.0 (subst (Contains xs) e k))
       | inr i ↦ i
     ]) in

@@ -6,15 +6,15 @@ use Rattle.aig_bench.specs.state.LevelSet.{HasBit}
 use Rattle.aig_bench.specs.declared.buckets.Buckets.{Buckets}
 
 -- from at on, by the list that has the next number of each: these numbers, each once, and then 0
-abbrev pub IsChain : List ℕ → ℕ → List ℕ → Type 0
-IsChain next at [] = at ≡ 0
-IsChain next at (x ∷ xs) =
-    (at ≡ x) × (0 < x) × (x < length next) × (Contains xs x → ⊥) × IsChain next (slice_index next x) xs
+abbrev pub IsBucketChain : List ℕ → ℕ → List ℕ → Type 0
+IsBucketChain next at [] = at ≡ 0
+IsBucketChain next at (x ∷ xs) =
+    (at ≡ x) × (0 < x) × (x < length next) × (Contains xs x → ⊥) × IsBucketChain next (slice_index next x) xs
 
 -- the marked variables of a level stand in a chain
 pub record HasChain (levels head next : List ℕ) (marks : List Bool) (level : ℕ) : Type 0 where
   pub chain : List ℕ
-  pub leads : IsChain next (slice_index head level) chain
+  pub leads : IsBucketChain next (slice_index head level) chain
   pub each : (v : ℕ) → Contains chain v ↔ (IsMarked marks v × (slice_get levels v ≡ Some level))
 
 pub record AreChained (levels head next : List ℕ) (marks : List Bool) : Type 0 where
@@ -33,42 +33,42 @@ pub record AreBuckets (levels : List ℕ) (b : Buckets) : Type 0 where
   pub occupied : IsOccupied b.head.items b.occupied
 
 -- one more variable, and a chain for one more level, fit without memory
-pub record FitsOneMore (b : Buckets) : Type 0 where
+pub record FitsOneVariable (b : Buckets) : Type 0 where
   pub head : length b.head.items < vec_capacity b.head
   pub next : length b.next.items < vec_capacity b.next
   pub marks : length b.marks.items < vec_capacity b.marks
   pub occupied : length b.head.items < 64 * length b.occupied
 
 -- the variable waits
-abbrev pub Waits : Buckets → ℕ → Type 0
-Waits b v = IsMarked b.marks.items v
+abbrev pub IsQueued : Buckets → ℕ → Type 0
+IsQueued b v = IsMarked b.marks.items v
 
 -- the variable can wait: it has a place, and its level a chain
-pub record Fits (levels : List ℕ) (heads v : ℕ) : Type 0 where
+pub record CanBeQueued (levels : List ℕ) (heads v : ℕ) : Type 0 where
   pub positive : 0 < v
   pub inside : v < length levels
   pub level : (l : ℕ) → slice_get levels v ≡ Some l → l < heads
 
 -- no variable of these levels waits: from this one on, and below that
-abbrev pub IsClear : List ℕ → Buckets → ℕ → ℕ → Type 0
-IsClear levels b from end = (u l : ℕ) → Waits b u → slice_get levels u ≡ Some l → from ≤ l → l < end → ⊥
+abbrev pub AreLevelsEmpty : List ℕ → Buckets → ℕ → ℕ → Type 0
+AreLevelsEmpty levels b from end = (u l : ℕ) → IsQueued b u → slice_get levels u ≡ Some l → from ≤ l → l < end → ⊥
 
 -- the lowest level from this one on of which a variable waits
 abbrev pub IsLowest : List ℕ → Buckets → ℕ → Option ℕ → Type 0
-IsLowest levels b from (Some l) = (from ≤ l) × IsClear levels b from l
-IsLowest levels b from None = IsClear levels b from (length b.head.items)
+IsLowest levels b from (Some l) = (from ≤ l) × AreLevelsEmpty levels b from l
+IsLowest levels b from None = AreLevelsEmpty levels b from (length b.head.items)
 
 -- what waits afterwards waited before, or is one of these, and as many levels are there
 pub record Links (P : ℕ → Type 0) (old new : Buckets) : Type 0 where
   pub heads : length new.head.items ≡ length old.head.items
-  pub waits : (u : ℕ) → Waits new u ↔ (Waits old u ⊎ P u)
+  pub queued : (u : ℕ) → IsQueued new u ↔ (IsQueued old u ⊎ P u)
 
 -- a variable of the level that waited waits no more, and the others wait as before; or none of the level waits
-pub record Takes (levels : List ℕ) (level : ℕ) (old new : Buckets) (result : Option ℕ) : Type 0 where
+pub record TakesVariable (levels : List ℕ) (level : ℕ) (old new : Buckets) (result : Option ℕ) : Type 0 where
   pub buckets : AreBuckets levels new
   pub heads : length new.head.items ≡ length old.head.items
-  pub waited : IfSome result (λ v. Waits old v)
+  pub was_queued : IfSome result (λ v. IsQueued old v)
   pub of_level : IfSome result (λ v. slice_get levels v ≡ Some level)
-  pub waits : IfSome result (λ v. (u : ℕ) → Waits new u ↔ (Waits old u × (u ≢ v)))
-  pub none : IfNone result ((u : ℕ) → Waits new u → slice_get levels u ≢ Some level)
+  pub queued : IfSome result (λ v. (u : ℕ) → IsQueued new u ↔ (IsQueued old u × (u ≢ v)))
+  pub none : IfNone result ((u : ℕ) → IsQueued new u → slice_get levels u ≢ Some level)
   pub same : IfNone result (new ≡ old)

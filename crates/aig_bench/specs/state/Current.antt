@@ -8,7 +8,7 @@ use Rattle.aig_base.specs.Value.{start_of}
 use Rattle.aig_values.specs.state.Frame as frame
 use Rattle.aig_values.specs.InputRows.{row_at}
 use Rattle.aig_bench.specs.declared.driven_circuit.DrivenCircuit.{DrivenCircuit}
-use Rattle.aig_bench.specs.Pair.{Pair}
+use Rattle.aig_bench.specs.BenchState.{CircuitAndRows}
 use Rattle.aig_bench.specs.state.DrivenCircuit.{IsDriven, pair_of}
 
 -- a flag for each variable, true for those of gates
@@ -29,28 +29,28 @@ pub record IsLaidOut (driven : DrivenCircuit) (flags : List Bool) (cells : List 
   pub rows_are : AreRows driven.circuit (length driven.stimulus.rows) cells
 
 -- in the row of a frame the cell of the variable is its value
-abbrev pub Holds : Pair → ℕ → List Tern → ℕ → Type 0
-Holds p t row v = frame.Holds p.circuit (start_of p.circuit) p.rows t row v
+abbrev pub HoldsInPair : CircuitAndRows → ℕ → List Tern → ℕ → Type 0
+HoldsInPair p t row v = frame.Holds p.circuit (start_of p.circuit) p.rows t row v
 
-abbrev pub HoldsInputs : Pair → ℕ → List Tern → Type 0
-HoldsInputs p t row = frame.HoldsInputs p.circuit (start_of p.circuit) p.rows t row
+abbrev pub HoldsInputsInPair : CircuitAndRows → ℕ → List Tern → Type 0
+HoldsInputsInPair p t row = frame.HoldsInputs p.circuit (start_of p.circuit) p.rows t row
 
-abbrev pub HoldsLatches : Pair → ℕ → List Tern → Type 0
-HoldsLatches p t row = frame.HoldsLatches p.circuit (start_of p.circuit) p.rows t row
+abbrev pub HoldsLatchesInPair : CircuitAndRows → ℕ → List Tern → Type 0
+HoldsLatchesInPair p t row = frame.HoldsLatches p.circuit (start_of p.circuit) p.rows t row
 
-abbrev pub HoldsSources : Pair → ℕ → List Tern → Type 0
-HoldsSources p t row = frame.HoldsSources p.circuit (start_of p.circuit) p.rows t row
+abbrev pub HoldsSourcesInPair : CircuitAndRows → ℕ → List Tern → Type 0
+HoldsSourcesInPair p t row = frame.HoldsSources p.circuit (start_of p.circuit) p.rows t row
 
 -- the row of a frame has the value of each variable that is defined
-abbrev pub IsCurrentRow : Pair → ℕ → List Tern → Type 0
+abbrev pub IsCurrentRow : CircuitAndRows → ℕ → List Tern → Type 0
 IsCurrentRow p t row = frame.HoldsAll p.circuit (start_of p.circuit) p.rows t row
 
 -- so do the rows of the first n frames
-pub record AreCurrent (p : Pair) (n : ℕ) (cells : List (List Tern)) : Type 0 where
+pub record AreCurrent (p : CircuitAndRows) (n : ℕ) (cells : List (List Tern)) : Type 0 where
   pub each : (t : ℕ) → t < n → IsCurrentRow p t (row_at cells t)
 
 -- what the latches at the next frame rest on
-abbrev pub IsCurrentBefore : Pair → ℕ → List (List Tern) → Type 0
+abbrev pub IsCurrentBefore : CircuitAndRows → ℕ → List (List Tern) → Type 0
 IsCurrentBefore p t cells = (u : ℕ) → t ≡ suc u → IsCurrentRow p u (row_at cells u)
 
 -- what a bench keeps: a grid for its driven circuit, with the values of all frames

@@ -4,10 +4,10 @@ use Rattle.aig_base.specs.Circuit.{IsCircuit}
 use Rattle.aig_parts.specs.Limits.{cell_limit, frame_limit}
 use Rattle.aig_values.specs.InputRows.{HaveWidth}
 use Rattle.aig_bench.specs.declared.driven_circuit.DrivenCircuit.{DrivenCircuit}
-use Rattle.aig_bench.specs.Pair.{Pair}
+use Rattle.aig_bench.specs.BenchState.{CircuitAndRows}
 
 -- the pair that is simulated
-abbrev pub pair_of : DrivenCircuit → Pair
+abbrev pub pair_of : DrivenCircuit → CircuitAndRows
 pair_of driven = record { circuit = driven.circuit; rows = driven.stimulus.rows }
 
 -- circuit and stimulus fit each other, within the limits of frames and cells

@@ -4,8 +4,8 @@ use Rattle.aig_parts.specs.declared.ternary.Tern.{Tern}
 use Rattle.aig_base.specs.Value.{start_of}
 use Rattle.aig_values.specs.state.Frame.{Renews}
 use Rattle.aig_values.specs.InputRows.{row_at}
-use Rattle.aig_bench.specs.Pair.{Pair}
-use Rattle.aig_bench.specs.state.Current.{Holds}
+use Rattle.aig_bench.specs.BenchState.{CircuitAndRows}
+use Rattle.aig_bench.specs.state.Current.{HoldsInPair}
 use Rattle.aig_bench.specs.state.Engine.{EngineState}
 
 -- only cells and the count of evaluations changed: nothing is queued
@@ -19,11 +19,11 @@ pub record FillsRow (t n : ℕ) (old new : EngineState) : Type 0 where
   pub count : new.evaluations ≡ old.evaluations + n
 
 -- what has its value in the one row has it in the other
-abbrev pub KeepsValues : Pair → ℕ → List Tern → List Tern → Type 0
-KeepsValues p t row row' = Renews p.circuit (start_of p.circuit) p.rows t row row'
+abbrev pub KeepsRowValues : CircuitAndRows → ℕ → List Tern → List Tern → Type 0
+KeepsRowValues p t row row' = Renews p.circuit (start_of p.circuit) p.rows t row row'
 
 -- the source of the variable was given its value
 pub record FillsSource (t v : ℕ) (old new : EngineState) : Type 0 where
   pub row : FillsRow t 0 old new
-  pub keeps : KeepsValues old.pair t (row_at old.cells t) (row_at new.cells t)
-  pub holds : Holds old.pair t (row_at new.cells t) v
+  pub keeps : KeepsRowValues old.pair t (row_at old.cells t) (row_at new.cells t)
+  pub holds : HoldsInPair old.pair t (row_at new.cells t) v

@@ -10,14 +10,14 @@ use Rattle.aig_bench.specs.declared.latch_readers.LatchReaders.{LatchReaders}
 use Rattle.aig_bench.specs.state.Buckets.{AreChained}
 
 -- the latch of this number takes its next value from the variable
-abbrev pub Follows : Raw → ℕ → ℕ → Type 0
-Follows raw i v = (p : ℕ) × (x : Latch) × (i ≡ suc p) × (slice_get raw.latches p ≡ Some x) × (variable x.next ≡ v)
+abbrev pub TakesNextFrom : Raw → ℕ → ℕ → Type 0
+TakesNextFrom raw i v = (p : ℕ) × (x : Latch) × (i ≡ suc p) × (slice_get raw.latches p ≡ Some x) × (variable x.next ≡ v)
 
 -- of the latches up to this number, the last one that follows the variable; 0 where none does
 pub record IsLast (raw : Raw) (v n i : ℕ) : Type 0 where
   pub inside : i ≤ n
-  pub follows : i ≢ 0 → Follows raw i v
-  pub none_over : (j : ℕ) → i < j → j ≤ n → Follows raw j v → ⊥
+  pub follows : i ≢ 0 → TakesNextFrom raw i v
+  pub none_over : (j : ℕ) → i < j → j ≤ n → TakesNextFrom raw j v → ⊥
 
 -- for each variable the last latch that follows it, and for each latch the one before it that follows the same variable
 pub record AreLatchReaders (raw : Raw) (readers : LatchReaders) : Type 0 where
@@ -33,17 +33,17 @@ pub record IsLatchList (n : ℕ) (list : LatchList) : Type 0 where
   pub chained : AreChained (replicate (n + 1) 0) (list.first ∷ []) list.next.items list.marks.items
 
 -- the latch of this number is in the list
-abbrev pub IsListed : LatchList → ℕ → Type 0
-IsListed list i = IsMarked list.marks.items i
+abbrev pub IsInLatchList : LatchList → ℕ → Type 0
+IsInLatchList list i = IsMarked list.marks.items i
 
 -- these are in the list too
 abbrev pub Lists : (ℕ → Type 0) → LatchList → LatchList → Type 0
-Lists P old new = (i : ℕ) → IsListed new i ↔ (IsListed old i ⊎ P i)
+Lists P old new = (i : ℕ) → IsInLatchList new i ↔ (IsInLatchList old i ⊎ P i)
 
 -- what was in the list is in it, and so is each latch that follows a variable whose cell changed
-pub record HandsOn (raw : Raw) (row : List Tern) (marks : List Bool) (row' : List Tern) (marks' : List Bool) : Type 0 where
+pub record QueuesNextLatches (raw : Raw) (row : List Tern) (marks : List Bool) (row' : List Tern) (marks' : List Bool) : Type 0 where
   pub kept : (i : ℕ) → IsMarked marks i → IsMarked marks' i
-  pub changed : (i v : ℕ) → Follows raw i v → slice_get row' v ≢ slice_get row v → IsMarked marks' i
+  pub changed : (i v : ℕ) → TakesNextFrom raw i v → slice_get row' v ≢ slice_get row v → IsMarked marks' i
 
 -- the literal is the one of the latch at this position
 abbrev pub IsLatchAt : Raw → ℕ → ℕ → Type 0

@@ -7,7 +7,7 @@ use Rattle.aig_base.specs.Levels.{AreLevels}
 use Rattle.aig_parts.specs.Literal.{variable}
 use Rattle.aig_base.specs.Readers.{AreReaders}
 use Rattle.aig_values.specs.Cells.{literal_value}
-use Rattle.aig_bench.specs.declared.order.Order.{Order}
+use Rattle.aig_bench.specs.declared.sweep_order.Order.{Order}
 use Rattle.aig_bench.specs.declared.driven_circuit.DrivenCircuit.{DrivenCircuit}
 use Rattle.aig_bench.specs.declared.fanouts.Fanouts.{Fanouts}
 use Rattle.aig_bench.specs.declared.pending.Pending.{Pending}
@@ -17,13 +17,13 @@ use Rattle.aig_bench.specs.state.Latches.{AreLatchReaders, IsLatchList}
 use Rattle.aig_bench.specs.state.SweepOrder.{Orders}
 use Rattle.aig_bench.specs.state.Sweep.{IsWork, IsWorking}
 
--- the levels of a circuit, and who reads whom
+-- the levels of a circuit, and its fan-outs
 pub record AreFanouts (raw : Raw) (fanouts : Fanouts) : Type 0 where
   pub levels : AreLevels raw fanouts.levels
   pub readers : AreReaders raw fanouts.readers
   pub latches : AreLatchReaders raw fanouts.latches
 
--- who reads whom, and two lists of the circuit's latches
+-- the fan-outs, and two lists of the circuit's latches
 pub record HasLists (driven : DrivenCircuit) (fanouts : Fanouts) (pending : Pending) : Type 0 where
   pub readers : AreLatchReaders driven.circuit fanouts.latches
   pub here : IsLatchList (length driven.circuit.latches) pending.here
@@ -43,14 +43,14 @@ state_of driven fanouts pending order cells n = record {
   cells = cells;
   levels = fanouts.levels;
   way = order.way;
-  waits = pending.buckets.marks.items;
+  queued = pending.buckets.marks.items;
   here = pending.here.marks.items;
   ahead = pending.ahead.marks.items;
   evaluations = n;
 }
 
 -- what a bench keeps: the cells are the values of all frames, and there is nothing to be looked at
-pub record IsReady (driven : DrivenCircuit) (fanouts : Fanouts) (pending : Pending) (flags : List Bool) (cells : List (List Tern)) : Type 0 where
+pub record IsSettledBench (driven : DrivenCircuit) (fanouts : Fanouts) (pending : Pending) (flags : List Bool) (cells : List (List Tern)) : Type 0 where
   pub working : IsWorking driven fanouts pending.buckets flags cells
   pub lists : HasLists driven fanouts pending
   pub idle : IsIdle pending.buckets.marks.items pending.here.marks.items pending.ahead.marks.items

@@ -6,9 +6,9 @@ use Rattle.aig_base.specs.state.Marks.{IsMarked}
 use Rattle.aig_values.specs.InputRows.{row_at}
 use Rattle.aig_bench.specs.declared.edit.EditReport.{EditReport}
 use Rattle.aig_bench.specs.state.Engine.{EngineState, ChangesRow, IsClear}
-use Rattle.aig_bench.specs.state.Entry.{Carries, Entering, LatchesRest, Puts, Rests}
+use Rattle.aig_bench.specs.state.Entry.{Carries, Entering, LatchesRest, Puts, HasOtherSources}
 use Rattle.aig_bench.specs.state.Passing.{IsConsistent}
-use Rattle.aig_bench.specs.state.Sweep.{Sweeps, Starts, Ends}
+use Rattle.aig_bench.specs.state.Sweep.{Sweeps, PassStarts, PassEnds}
 
 -- no frame has more evaluations: as many levels as there can be, of as many gates
 abbrev pub frame_work : ℕ
@@ -23,20 +23,20 @@ report_of (Some b) = record { evaluated = 1; changed = if b then 1 else 0 }
 pub record PutsSource (t v : ℕ) (old new : EngineState) : Type 0 where
   pub row : ChangesRow t 0 old new
   pub here : new.here ≡ old.here
-  pub puts : Puts old.pair t v (row_at old.cells t) old.waits (row_at new.cells t) new.waits
+  pub puts : Puts old.pair t v (row_at old.cells t) old.queued (row_at new.cells t) new.queued
 
 -- the latches that were carried into the frame were put
 pub record PutsLatches (t : ℕ) (old new : EngineState) : Type 0 where
   pub row : ChangesRow t 0 old new
   pub none : IsClear new.here
-  pub carries : Carries old.pair t (λ i. IsMarked old.here (suc i)) (row_at old.cells t) old.waits (row_at new.cells t) new.waits
+  pub carries : Carries old.pair t (λ i. IsMarked old.here (suc i)) (row_at old.cells t) old.queued (row_at new.cells t) new.queued
 
 -- the waiting gates from one level up to another were evaluated
 pub record SettlesLevels (t n m : ℕ) (old new : EngineState) (report : EditReport) : Type 0 where
   pub row : ChangesRow t report.evaluated old new
   pub here : new.here ≡ old.here
   pub few : report.changed ≤ report.evaluated
-  pub sweeps : Sweeps old.pair t n m (row_at old.cells t) old.waits (row_at new.cells t) new.waits
+  pub sweeps : Sweeps old.pair t n m (row_at old.cells t) old.queued (row_at new.cells t) new.queued
       report.evaluated report.changed
 
 -- all waiting gates were evaluated, and a pass that started has ended
@@ -45,8 +45,8 @@ pub record Settles (t : ℕ) (old new : EngineState) (report : EditReport) : Typ
   pub here : new.here ≡ old.here
   pub few : report.changed ≤ report.evaluated
   pub ends : (forced : List ℕ) (before : List Tern) → IsConsistent old.pair (Contains forced) before
-      → Starts old.pair t (Contains forced) before (row_at old.cells t) old.waits
-      → Ends old.pair t (Contains forced) before (row_at new.cells t) new.waits report.evaluated report.changed
+      → PassStarts old.pair t (Contains forced) before (row_at old.cells t) old.queued
+      → PassEnds old.pair t (Contains forced) before (row_at new.cells t) new.queued report.evaluated report.changed
 
 -- latches were put and gates evaluated, and a pass into which sources had been put has ended
 pub record PassesOver (t : ℕ) (old new : EngineState) (report : EditReport) : Type 0 where
@@ -54,6 +54,6 @@ pub record PassesOver (t : ℕ) (old new : EngineState) (report : EditReport) : 
   pub none : IsClear new.here
   pub few : report.changed ≤ report.evaluated
   pub ends : (forced : List ℕ) (before : List Tern) (put : List ℕ) → IsConsistent old.pair (Contains forced) before
-      → Entering old.pair t (Contains forced) before (row_at old.cells t) old.waits put → Rests old.pair t before put
+      → Entering old.pair t (Contains forced) before (row_at old.cells t) old.queued put → HasOtherSources old.pair t before put
       → LatchesRest old.pair t before old.here
-      → Ends old.pair t (Contains forced) before (row_at new.cells t) new.waits report.evaluated report.changed
+      → PassEnds old.pair t (Contains forced) before (row_at new.cells t) new.queued report.evaluated report.changed

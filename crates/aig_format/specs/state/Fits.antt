@@ -18,10 +18,10 @@ pub record HasCounts (c : Counts) (p : Properties) : Type 0 where
   pub fairness : length p.fairness ≡ c.fairness
 
 -- a symbol names an entry that is counted
-abbrev pub IsSymbol : Counts → Entry → Type 0
-IsSymbol c e = (e.0.1 < count_of c e.0.0) × IsName e.1
+abbrev pub IsCountedSymbol : Counts → Entry → Type 0
+IsCountedSymbol c e = (e.0.1 < count_of c e.0.0) × IsName e.1
 
 -- each symbol does, and no entry is named twice
 pub record AreSymbols (c : Counts) (symbols : List Entry) : Type 0 where
-  pub entries : All (IsSymbol c) symbols
+  pub entries : All (IsCountedSymbol c) symbols
   pub once : AllPairs (λ x y. x ≢ y) (keys_of symbols)

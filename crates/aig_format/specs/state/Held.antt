@@ -10,9 +10,9 @@ abbrev pub held : ℕ → ℕ → List ℕ → List ℕ
 held start end buffer = take (end - start) (drop start buffer)
 
 -- the reader reports its bytes
-abbrev pub IsKnown : Option (List ℕ) → Type 0
-IsKnown None = ⊥
-IsKnown (Some bytes) = Unit {0}
+abbrev pub AreKnownBytes : Option (List ℕ) → Type 0
+AreKnownBytes None = ⊥
+AreKnownBytes (Some bytes) = Unit {0}
 
 abbrev pub known : Option (List ℕ) → List ℕ
 known None = []

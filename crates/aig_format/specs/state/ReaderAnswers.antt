@@ -8,14 +8,14 @@ use Rattle.aig_format.specs.state.Reading.{Refusal, text, limit, Read}
 use Rattle.aig_format.specs.state.ReadingFile.{FileRefusal, token, counts}
 
 -- a token's fault as the fault of a file
-abbrev pub fault_of : TokenFault → Fault
-fault_of (tokens.Text at) = faults.Text at
-fault_of tokens.Limit = faults.Limit
-fault_of tokens.Io = faults.Io
+abbrev pub file_fault_of : TokenFault → Fault
+file_fault_of (tokens.Text at) = faults.Text at
+file_fault_of tokens.Limit = faults.Limit
+file_fault_of tokens.Io = faults.Io
 
 abbrev pub of_token : {X : Type 0} → Result X TokenFault → Result X Fault
 of_token (Ok x) = Ok x
-of_token (Err e) = Err (fault_of e)
+of_token (Err e) = Err (file_fault_of e)
 
 -- the fault is the refusal that reading gives, or memory ran out, or a read failed
 abbrev pub Fails : {Y : Type 0} → Fault → Result Y Refusal → Type 0
@@ -40,6 +40,6 @@ FileFails faults.Memory read = Unit {0}
 FileFails faults.Io read = Unit {0}
 FileFails fault read = ⊥
 
-abbrev pub Answers : {X Y : Type 0} → (X → Y) → Result X Fault → Result Y FileRefusal → Type 0
-Answers view (Ok x) read = read ≡ Ok (view x)
-Answers view (Err e) read = FileFails e read
+abbrev pub AnswersRead : {X Y : Type 0} → (X → Y) → Result X Fault → Result Y FileRefusal → Type 0
+AnswersRead view (Ok x) read = read ≡ Ok (view x)
+AnswersRead view (Err e) read = FileFails e read

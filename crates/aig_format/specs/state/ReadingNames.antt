@@ -115,7 +115,7 @@ names_at c bytes = do
       else Ok (record { symbols = symbols.0.0; comment = None }, symbols.1)
 
 -- a symbol line begins
-abbrev pub IsSymbol : Next → Type 0
-IsSymbol End = ⊥
-IsSymbol Comment = ⊥
-IsSymbol (Symbol kind) = Unit {0}
+abbrev pub BeginsSymbol : Next → Type 0
+BeginsSymbol End = ⊥
+BeginsSymbol Comment = ⊥
+BeginsSymbol (Symbol kind) = Unit {0}

@@ -24,8 +24,8 @@ format_at bytes = do
     Ok (Binary, binary.1))
 
 -- `aag ` or `aig `
-unfoldable pub word_at : List ℕ → Read Format
-word_at bytes = do
+unfoldable pub format_word_at : List ℕ → Read Format
+format_word_at bytes = do
   first ← byte_at 97 bytes
   format ← format_at first.1
   third ← byte_at 103 format.1
@@ -59,7 +59,7 @@ tail_at (suc m) over bytes = do
 
 unfoldable pub header_at : List ℕ → Read (Format × Counts)
 header_at bytes = do
-  format ← word_at bytes
+  format ← format_word_at bytes
   max_var ← field_at formed.limit space format.1
   inputs ← field_at formed.limit space max_var.1
   latches ← field_at formed.limit space inputs.1

@@ -26,15 +26,15 @@ abbrev pub page_of : Key → ℕ
 page_of k = k.1 / 16384 * 7 + section_number k.0
 
 -- the entry's bit is set in its page
-unfoldable pub IsMarked : List (List ℕ) → Key → Type 0
-IsMarked pages k = HasBit (slice_index_or pages (page_of k) []) (k.1 % 16384)
+unfoldable pub IsMarkedEntry : List (List ℕ) → Key → Type 0
+IsMarkedEntry pages k = HasBit (slice_index_or pages (page_of k) []) (k.1 % 16384)
 
 -- the bits are those of the entries that have a name
-abbrev pub AreMarks : List (List ℕ) → List Key → Type 0
-AreMarks pages keys = (k : Key) → IsMarked pages k ↔ Contains keys k
+abbrev pub AreEntryMarks : List (List ℕ) → List Key → Type 0
+AreEntryMarks pages keys = (k : Key) → IsMarkedEntry pages k ↔ Contains keys k
 
--- symbols as they are read: no entry comes twice, and the bits tell which have come
-pub record AreListed (pages : List (List ℕ)) (entries : List (Key × Place)) (text : List ℕ) : Type 0 where
+-- symbols as they are read: no entry comes twice, and the bits say which have come
+pub record AreNamedEntries (pages : List (List ℕ)) (entries : List (Key × Place)) (text : List ℕ) : Type 0 where
   pub places : All (IsPlaceIn text) entries
-  pub marks : AreMarks pages (keys_of entries)
+  pub marks : AreEntryMarks pages (keys_of entries)
   pub once : AllPairs (λ x y. x ≢ y) (keys_of entries)

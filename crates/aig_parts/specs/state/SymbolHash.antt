@@ -7,11 +7,11 @@ use Rattle.std.specs.Hash.FoldHasher as folding
 use Rattle.std.specs.declared.hash.DefaultHasher.{DefaultHasher}
 use Rattle.aig_parts.specs.declared.symbol_hash.SymbolHash.{SymbolHash}
 use Rattle.aig_parts.specs.SymbolPlaces.{Key}
-use Rattle.aig_parts.specs.state.SymbolTable.{number_of}
+use Rattle.aig_parts.specs.state.SymbolTable.{key_number}
 
 -- SipHash after the number of one more entry
 abbrev pub mix : DefaultHasher → Key → DefaultHasher
-mix mixed k = fold sip.write mixed (fed.u64 (number_of k))
+mix mixed k = fold sip.write mixed (fed.u64 (key_number k))
 
 -- SipHash after the numbers of all these entries, in order
 abbrev pub mixed_of : List Key → DefaultHasher

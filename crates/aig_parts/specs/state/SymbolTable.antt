@@ -7,15 +7,15 @@ use Rattle.aig_parts.specs.SymbolPlaces.{Key}
 use Rattle.aig_parts.specs.state.NamedEntries.{section_number}
 
 -- entries by section, and within one by position
-abbrev pub number_of : Key → ℕ
-number_of k = section_number k.0 * 4294967296 + k.1
+abbrev pub key_number : Key → ℕ
+key_number k = section_number k.0 * 4294967296 + k.1
 
 -- each entry has a smaller number than any later one
 abbrev pub Ascend : List (Key × Place) → Type 0
-Ascend entries = AllPairs (λ x y. number_of x.0 < number_of y.0) entries
+Ascend entries = AllPairs (λ x y. key_number x.0 < key_number y.0) entries
 
 -- no entry comes twice
-pub record IsTable (ascending others : List (Key × Place)) : Type 0 where
+pub record IsSymbolTable (ascending others : List (Key × Place)) : Type 0 where
   pub ascend : Ascend ascending
   pub once : AllPairs (λ x y. x ≢ y) (keys_of (ascending ++ others))
 

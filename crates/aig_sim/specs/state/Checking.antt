@@ -10,7 +10,7 @@ use Rattle.aig_values.specs.state.Frame.{HoldsAll, AreStates}
 use Rattle.aig_values.specs.Characters.{character}
 use Rattle.aig_values.specs.InputRows.{HaveWidth}
 use Rattle.aig_sim.specs.Verdict.{IsNotOne}
-use Rattle.aig_sim.specs.WitnessText.{Witness, rows_text}
+use Rattle.aig_sim.specs.WitnessText.{Witness, witness_rows_text}
 
 -- the text begins with a line of so many values
 abbrev pub BeginsWithRow : ℕ → List ℕ → Type 0
@@ -19,7 +19,7 @@ BeginsWithRow width text = (row : List Tern) × (rest : List ℕ) × (length row
 -- the text is so many rows of the width, and the line `.`
 pub record SpellsFrames (width : ℕ) (text : List ℕ) (rows : List (List Tern)) : Type 0 where
   pub widths : HaveWidth width rows
-  pub text_is : text ≡ rows_text rows
+  pub text_is : text ≡ witness_rows_text rows
 
 -- the parts of the text of this witness, where positions over the limit of a section count as the one after it
 pub record ArePartsOf (raw : Raw) (parts : WitnessParts) (w : Witness) : Type 0 where
@@ -42,7 +42,7 @@ HoldConstraints raw w t = (u q : ℕ) → u < t → IsNotOne raw w u raw.constra
 
 -- After t frames of the witness: the rest of its text, the latches' values, and the cells at the last of these frames.
 pub record HasRun (raw : Raw) (w : Witness) (t : ℕ) (rest : List ℕ) (cells states : List Tern) : Type 0 where
-  pub rest_is : rest ≡ rows_text (drop t w.rows)
+  pub rest_is : rest ≡ witness_rows_text (drop t w.rows)
   pub states_are : AreStates raw w.start (take t w.rows) t states
   pub cells_are : (u : ℕ) → t ≡ suc u → HoldsAll raw w.start w.rows u cells
   pub constrained : HoldConstraints raw w t

@@ -7,14 +7,14 @@ use Rattle.aig_values.specs.Trace.{AreValues}
 use Rattle.aig_values.specs.TraceText.{literal_character}
 
 -- the line of a time of 64 bits
-abbrev pub number_line : ℕ → List ℕ
-number_line t = 35 ∷ (decimal t ++ 10 ∷ [])
+abbrev pub time_line : ℕ → List ℕ
+time_line t = 35 ∷ (decimal t ++ 10 ∷ [])
 
 -- the text of a frame by the characters that are kept and its own
 abbrev pub dumped_text : ℕ → List ℕ → List ℕ → List ℕ
 dumped_text zero bs cs =
-    number_line 0 ++ (codes "$dumpvars\n" ++ (changed_lines 0 bs cs ++ codes "$end\n"))
-dumped_text (suc t) bs cs = number_line (suc t) ++ changed_lines 0 bs cs
+    time_line 0 ++ (codes "$dumpvars\n" ++ (changed_lines 0 bs cs ++ codes "$end\n"))
+dumped_text (suc t) bs cs = time_line (suc t) ++ changed_lines 0 bs cs
 
 -- the characters of the signals by these cells
 abbrev pub characters_of : Raw → List Tern → List ℕ
@@ -32,4 +32,4 @@ AreDumped raw start rows text = AreFrames raw start rows (length rows) text
 -- the line of the time that ends a dump of so many frames
 abbrev pub ending : ℕ → List ℕ
 ending zero = []
-ending (suc t) = number_line (suc t)
+ending (suc t) = time_line (suc t)

@@ -50,52 +50,52 @@ unfoldable pub literal_at : Plan → Frame → ℕ → ℕ
 literal_at plan frame l = with_sign l (number_literal plan frame (slice_index plan.numbers.items (variable l)))
 
 -- the gate at the frame, with the greater right side first
-abbrev pub gate_at : Plan → Frame → Gate → Gate
-gate_at plan frame g =
+abbrev pub plan_gate : Plan → Frame → Gate → Gate
+plan_gate plan frame g =
     ready_gate (literal_at plan frame g.lhs) (literal_at plan frame g.rhs0) (literal_at plan frame g.rhs1)
 
-abbrev pub first_of : List Latch → ℕ → ℕ → Option Latch → ℕ
-first_of latches behind p None = 0
-first_of latches behind p (Some x) =
-    if is_uninitialised x then 2 * (behind + uninitialised (take p latches) + 1) else x.reset
+abbrev pub first_literal_of : List Latch → ℕ → ℕ → Option Latch → ℕ
+first_literal_of latches offset p None = 0
+first_literal_of latches offset p (Some x) =
+    if is_uninitialised x then 2 * (offset + uninitialised (take p latches) + 1) else x.reset
 
 -- the literal of the latch at a position at the first frame, where inputs of uninitialised ones are after this variable
 abbrev pub first_at : List Latch → ℕ → ℕ → ℕ
-first_at latches behind p = first_of latches behind p (slice_get latches p)
+first_at latches offset p = first_literal_of latches offset p (slice_get latches p)
 
 -- the last chain literal before the frame, or 1 where it is the first
-abbrev pub chain_before : Plan → ℕ → ℕ
-chain_before plan zero = 1
-chain_before plan (suc t) = 2 * (plan.sources + t * plan.size + plan.gates + plan.chain)
+abbrev pub plan_chain_before : Plan → ℕ → ℕ
+plan_chain_before plan zero = 1
+plan_chain_before plan (suc t) = 2 * (plan.sources + t * plan.size + plan.gates + plan.chain)
 
 -- the chain literal before the chain gate at a place
-abbrev pub link_before : Plan → Frame → ℕ → ℕ
-link_before plan frame zero = chain_before plan frame.number
-link_before plan frame (suc c) = 2 * variable_at plan frame.number (plan.gates + c)
+abbrev pub plan_link_before : Plan → Frame → ℕ → ℕ
+plan_link_before plan frame zero = plan_chain_before plan frame.number
+plan_link_before plan frame (suc c) = 2 * variable_at plan frame.number (plan.gates + c)
 
-abbrev pub chain_gate : Plan → Frame → List ℕ → ℕ → Gate
-chain_gate plan frame constraints c =
+abbrev pub plan_chain_gate : Plan → Frame → List ℕ → ℕ → Gate
+plan_chain_gate plan frame constraints c =
     ready_gate (2 * variable_at plan frame.number (plan.gates + c)) (literal_at plan frame (slice_index constraints c))
-    (link_before plan frame c)
+    (plan_link_before plan frame c)
 
-abbrev pub guard_literal : Plan → Frame → ℕ → ℕ
-guard_literal plan frame p = 2 * variable_at plan frame.number (plan.gates + plan.chain + p)
+abbrev pub plan_guard_literal : Plan → Frame → ℕ → ℕ
+plan_guard_literal plan frame p = 2 * variable_at plan frame.number (plan.gates + plan.chain + p)
 
-abbrev pub guard_gate : Plan → Frame → List ℕ → ℕ → Gate
-guard_gate plan frame bad p =
-    ready_gate (guard_literal plan frame p) (literal_at plan frame (slice_index bad p))
+abbrev pub plan_guard_gate : Plan → Frame → List ℕ → ℕ → Gate
+plan_guard_gate plan frame bad p =
+    ready_gate (plan_guard_literal plan frame p) (literal_at plan frame (slice_index bad p))
     (2 * variable_at plan frame.number (plan.gates + plan.chain - 1))
 
 -- the gates of a frame, and its bad literals
-abbrev pub gates_at : Raw → List Gate → Plan → Frame → List Gate
-gates_at raw ordered plan frame =
-    map (gate_at plan frame) ordered
-    ++ map (chain_gate plan frame raw.constraints) (range_with_len 0 (chain_count raw))
-    ++ map (guard_gate plan frame raw.bad) (range_with_len 0 (guard_count raw))
+abbrev pub plan_gates : Raw → List Gate → Plan → Frame → List Gate
+plan_gates raw ordered plan frame =
+    map (plan_gate plan frame) ordered
+    ++ map (plan_chain_gate plan frame raw.constraints) (range_with_len 0 (chain_count raw))
+    ++ map (plan_guard_gate plan frame raw.bad) (range_with_len 0 (guard_count raw))
 
 abbrev pub bad_at : Raw → Plan → Frame → List ℕ
 bad_at raw plan frame =
-    if has_guards raw then map (guard_literal plan frame) (range_with_len 0 (guard_count raw))
+    if has_guards raw then map (plan_guard_literal plan frame) (range_with_len 0 (guard_count raw))
     else map (literal_at plan frame) raw.bad
 
 -- what the bad literals and the constraints of a frame add
@@ -103,14 +103,14 @@ pub record AddsProperties (raw : Raw) (plan : Plan) (frame : Frame) (old new : S
   pub outputs : new.outputs ≡ old.outputs
   pub bad : new.bad ≡ old.bad ++ bad_at raw plan frame
   pub constraints : new.constraints ≡ old.constraints ++ map (literal_at plan frame) (kept_constraints raw)
-  pub gates : new.gates ≡ old.gates ++ gates_at raw [] plan frame
+  pub gates : new.gates ≡ old.gates ++ plan_gates raw [] plan frame
 
 -- what a frame adds
 pub record AddsFrame (raw : Raw) (ordered : List Gate) (plan : Plan) (frame : Frame) (old new : Sections) : Type 0 where
   pub outputs : new.outputs ≡ old.outputs ++ map (literal_at plan frame) raw.outputs
   pub bad : new.bad ≡ old.bad ++ bad_at raw plan frame
   pub constraints : new.constraints ≡ old.constraints ++ map (literal_at plan frame) (kept_constraints raw)
-  pub gates : new.gates ≡ old.gates ++ gates_at raw ordered plan frame
+  pub gates : new.gates ≡ old.gates ++ plan_gates raw ordered plan frame
 
 -- the frame after another
 pub record IsNextFrame (raw : Raw) (plan : Plan) (frame next : Frame) : Type 0 where

@@ -10,5 +10,5 @@ abbrev pub start_line : Raw → ℕ → ℕ → Latch → List ℕ
 start_line raw n p x = if is_uninitialised x then origin_line raw n (start p) else []
 
 -- the position after it
-abbrev pub position_behind : ℕ → Latch → ℕ
-position_behind n x = if is_uninitialised x then n + 1 else n
+abbrev pub position_after : ℕ → Latch → ℕ
+position_after n x = if is_uninitialised x then n + 1 else n

@@ -1,6 +1,6 @@
 use Rattle.std.proofs.Common.{◌≡◌, ◌+◌, ◌<◌, ◌≤◌, ◌*◌, Bool, List, length, get_or, sym, ap, subst, ◌∙◌, arith, All}
 use Rattle.aig_parts.specs.declared.gate.Gate.{Gate}
-use Rattle.aig_base.specs.state.Least.{IsLeastAmong, IsMarkedGate, IsGroundedGate, gate_variable}
+use Rattle.aig_base.specs.state.LeastFaulty.{IsLeastAmong, IsMarkedGate, IsGroundedGate, gate_variable}
 use Rattle.aig_parts.specs.Literal.{variable}
 use Rattle.aig_base.proofs.lists.LeastAmong.{least_same}
 use Rattle.aig_base.proofs.check.least_ungrounded.Goals as goal

@@ -1,7 +1,7 @@
 use Rattle.std.proofs.Common.{ℕ, List, Option, Some, None, map, sym, ◌∙◌, subst, true≢false}
 use Rattle.aig_base.specs.declared.definition.Definition.{Definition}
 use Rattle.aig_base.specs.state.Entries.{IsLeastTwice, AreEntries}
-use Rattle.aig_base.specs.state.Least.{IsLeastAmong, IsKnown}
+use Rattle.aig_base.specs.state.LeastFaulty.{IsLeastAmong, IsKnownLiteral}
 use Rattle.aig_parts.specs.Literal.{variable}
 use Rattle.aig_base.specs.Sections.{definitions, uses}
 use Rattle.aig_base.proofs.checks.Faults.{first_definition, first_redefined, first_undefined, once_from_table}
@@ -28,7 +28,7 @@ returns-in-Some-least_missing-clause-fault c = λ other.
     let entries = subst (λ (o : Option ℕ). AreEntries raw (map variable
     (definitions raw)) table o) c.in_default.is c.in_ok-table.ensures in
     first_undefined raw table range defs entries c.in-Some-least_missing.variable
-    (subst (λ (t : List (Option Definition)). IsLeastAmong (IsKnown t) variable (uses raw)
+    (subst (λ (t : List (Option Definition)). IsLeastAmong (IsKnownLiteral t) variable (uses raw)
     (Some c.in-Some-least_missing.variable)) c.deref.ensures.value
     c.in-Some-least_missing.ensures)
 
@@ -40,7 +40,7 @@ returns-clause-once c =
     (definitions raw)) table o) c.in_default.is c.in_ok-table.ensures in
     let defs = c.are_definitions.ensures.0 c.if-not-are_definitions.false in
     once_from_table raw table c.requires.range defs entries
-    (subst (λ (t : List (Option Definition)). IsLeastAmong (IsKnown t) variable (uses raw) None) c.deref.ensures.value
+    (subst (λ (t : List (Option Definition)). IsLeastAmong (IsKnownLiteral t) variable (uses raw) None) c.deref.ensures.value
     c.in_default-least_missing.ensures)
 
 pub returns-clause-table : goal.returns-clause-table

@@ -1,7 +1,7 @@
 use Rattle.std.proofs.Common.{ℕ, List, Option, Some, None, All, subst}
 use Rattle.aig_parts.specs.declared.gate.Gate.{Gate}
 use Rattle.aig_parts.specs.declared.latch.Latch.{Latch}
-use Rattle.aig_base.specs.state.Least.{IsLeastAmong, IsGroundedGate, ReadsSmaller, gate_variable, latch_variable}
+use Rattle.aig_base.specs.state.LeastFaulty.{IsLeastAmong, IsGroundedGate, ReadsSmaller, gate_variable, latch_variable}
 use Rattle.aig_base.specs.Sound.{IsReset}
 use Rattle.aig_base.proofs.checks.Ascending.{all_grounded}
 use Rattle.aig_base.proofs.checks.Faults.{first_reset, first_cycle, sound_from_tests, circuit_from_tests}

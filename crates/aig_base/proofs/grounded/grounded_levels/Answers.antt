@@ -1,7 +1,7 @@
 use Rattle.std.proofs.Common.{◌≡◌, ℕ, List, ◌∷◌, ◌++◌, map, refl, sym, subst, ◌∙◌, arith}
 use Rattle.std.proofs.lemmas.List.{take_at}
 use Rattle.aig_parts.specs.Literal.{variable}
-use Rattle.aig_base.specs.state.Least.{latch_variable}
+use Rattle.aig_base.specs.state.LeastFaulty.{latch_variable}
 use Rattle.aig_base.specs.state.Marks.{IsMarking}
 use Rattle.aig_base.proofs.checks.Marking.{source_variables, started_same, marking_ends}
 use Rattle.aig_base.proofs.grounded.grounded_levels.Goals as goal

@@ -3,7 +3,7 @@ use Rattle.std.proofs.lemmas.Bool.{false≢true}
 use Rattle.std.proofs.lemmas.List.{length-map, get_or-map, get_or_default}
 use borrow.Author.Count.{below_more}
 use Rattle.aig_base.proofs.lists.Evens.{in_order_more, in_order_no}
-use Rattle.aig_base.specs.state.Least.{ReadsSmaller}
+use Rattle.aig_base.specs.state.LeastFaulty.{ReadsSmaller}
 use Rattle.aig_base.proofs.ordered.gates_ascend.Goals as goal
 
 pub returns-then-not-is_even_of : goal.returns-then-not-is_even_of

@@ -1,6 +1,6 @@
 use Rattle.std.proofs.Common.{◌≡◌, ℕ, ◌<◌, get_or, take, map}
 use Rattle.aig_parts.specs.declared.gate.Gate.{Gate}
-use Rattle.aig_base.specs.state.Least.{ReadsSmaller}
+use Rattle.aig_base.specs.state.LeastFaulty.{ReadsSmaller}
 use Rattle.aig_base.specs.Renumbered.{evens_from}
 use Rattle.aig_base.proofs.ordered.gates_ascend.Given as goal
 

@@ -1,6 +1,6 @@
 use Rattle.std.proofs.Common.{List, Some, None, sym, ◌∙◌, subst, true≢false}
 use Rattle.aig_parts.specs.declared.latch.Latch.{Latch}
-use Rattle.aig_base.specs.state.Least.{IsLeastAmong, latch_variable}
+use Rattle.aig_base.specs.state.LeastFaulty.{IsLeastAmong, latch_variable}
 use Rattle.aig_base.specs.Sound.{IsReset}
 use Rattle.aig_base.proofs.checks.Ascending.{all_grounded}
 use Rattle.aig_base.proofs.checks.Faults.{circuit_from_tests, first_range, first_reset}

@@ -4,7 +4,7 @@ use Rattle.aig_base.specs.Circuit.{IsCircuit}
 use Rattle.aig_base.specs.Order.{IsCanonicalOrder}
 use Rattle.aig_base.specs.Renumbered.{renumbered}
 use Rattle.aig_base.specs.RenumberingTable.{IsRenumbering, IsGateListed, renumbered_by}
-use Rattle.aig_base.specs.state.Least.{gate_variable}
+use Rattle.aig_base.specs.state.LeastFaulty.{gate_variable}
 use Rattle.aig_base.proofs.renumbered.RenewedGates.{each_sorted, ordered_sorted}
 use Rattle.aig_base.proofs.renumbered.RenumberedCircuit.{renumbered_circuit}
 use Rattle.aig_base.proofs.renumbered.RenumberedParts.{all_listed, renumbered_same}

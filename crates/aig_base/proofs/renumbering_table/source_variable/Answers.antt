@@ -1,5 +1,5 @@
 use Rattle.std.proofs.Common.{◌+◌, ◌∙◌, [], sym, ap, length}
-use Rattle.aig_base.proofs.renumbered.Renumberings.{nothing, input_variable, latch_variable, gate_not_yet, free_variable}
+use Rattle.aig_base.proofs.renumbered.Renumberings.{nothing, input_variable, latch_renumbered, gate_not_yet, free_variable}
 use Rattle.aig_base.proofs.renumbering_table.source_variable.Goals as goal
 
 pub returns-in-Some-Input : goal.returns-in-Some-Input
@@ -10,7 +10,7 @@ returns-in-Some-Input c =
 pub returns-in-Some-Latch : goal.returns-in-Some-Latch
 returns-in-Some-Latch c =
     ap (λ xs. length xs + c.in-Some-Latch.position + 1) c.inputs.ensures
-    ∙ sym (latch_variable c.args.circuit.now c.max_var-max_var.ensures.circuit.sound [] (nothing c.args.circuit.now)
+    ∙ sym (latch_renumbered c.args.circuit.now c.max_var-max_var.ensures.circuit.sound [] (nothing c.args.circuit.now)
     c.args.variable _ (rw c.in-Some-Latch.field-0-is at c.in-Some-Latch.ensures.found))
 
 pub returns-in-Some-Gate : goal.returns-in-Some-Gate

@@ -1,4 +1,4 @@
-use Rattle.aig_bench.proofs.waits.BitPlaces.{no_place, first_set, whole_word}
+use Rattle.aig_bench.proofs.queues.BitPlaces.{no_place, first_set, whole_word}
 use Rattle.aig_bench.proofs.level_set.first_place.Goals as goal
 
 pub returns-then-rest-eq0-clause-least : goal.returns-then-rest-eq0-clause-least

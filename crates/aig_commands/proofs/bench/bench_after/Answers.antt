@@ -1,7 +1,7 @@
 use Rattle.std.proofs.Common.{refl}
 use Rattle.aig_bytes.specs.Flow.{flow}
 use Rattle.aig_fault.proofs.Files.{answered}
-use Rattle.aig_fault.specs.declared.run_fault.RunFault.TheVariants as parts
+use Rattle.aig_fault.specs.declared.run_fault.RunFault.TheVariants as run_faults
 use Rattle.aig_fault.specs.Command.{EndsReading}
 use Rattle.aig_commands.specs.Bench.{LeavesBench}
 use Rattle.aig_commands.proofs.BenchEnds.{script_io, ran_ends, refused_ends, fault_ends, unchanged}
@@ -25,7 +25,7 @@ returns-in_err-run_script-clause-ends g c =
     let stimulus = c.args.stimulus.now in
     let fault = c.in_err-run_script.field-0.0 in
     let h = c.in_err-run_script.ensures in
-    answered c.from_residual-in_err-run_script.result (parts.Script fault)
+    answered c.from_residual-in_err-run_script.result (run_faults.Script fault)
     (EndsReading reader out script_io (LeavesBench circuit stimulus))
     c.from_residual-in_err-run_script.ensures.1
     (fault_ends reader out circuit stimulus c.in_ok-bench.bench.pair c.run_script.new.bench c.in_ok-bench.ensures.bench fault h.io

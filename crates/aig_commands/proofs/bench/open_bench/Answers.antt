@@ -1,8 +1,8 @@
 use Rattle.std.proofs.Common.{ap, Err}
-use Rattle.aig_bench.specs.Pair.{Pair}
-use Rattle.aig_fault.specs.declared.run_fault.RunFault.TheVariants as parts
+use Rattle.aig_bench.specs.BenchState.{CircuitAndRows}
+use Rattle.aig_fault.specs.declared.run_fault.RunFault.TheVariants as run_faults
 use Rattle.aig_commands.specs.BenchFiles.{RefusesFiles}
-use Rattle.aig_commands.proofs.Benches.{refuses_bench, told_as}
+use Rattle.aig_commands.proofs.Benches.{refuses_bench, reported_as}
 use Rattle.aig_commands.proofs.bench.open_bench.Goals as goal
 
 pub returns-in_err-new-clause-fault : goal.returns-in_err-new-clause-fault
@@ -10,8 +10,8 @@ returns-in_err-new-clause-fault g c =
     let e = c.in_err-new.ensures in
     let fault = c.in_err-new.field-0.0 in
     let rows = c.in_ok-stimulus.stimulus.rows in
-    let pair : Pair = record { circuit = c.in_ok-circuit.circuit; rows = rows } in
-    told_as c.from_residual-in_err-new.result (parts.Bench fault) (RefusesFiles c.args.circuit.now c.args.stimulus.now)
+    let pair : CircuitAndRows = record { circuit = c.in_ok-circuit.circuit; rows = rows } in
+    reported_as c.from_residual-in_err-new.result (run_faults.Bench fault) (RefusesFiles c.args.circuit.now c.args.stimulus.now)
     c.from_residual-in_err-new.ensures.1 (
       pair,
       record {

@@ -2,14 +2,14 @@ use Rattle.aig_commands.specs.Info.{ListsFacts}
 use Rattle.aig_commands.proofs.info.info.Goals as goal
 use Rattle.aig_fault.proofs.Flushes.{flushed_ends, ends_unfailed}
 use Rattle.aig_fault.specs.Command.{OfFile, OfReader}
-use Rattle.aig_fault.specs.declared.run_fault.RunFault.TheVariants as parts
+use Rattle.aig_fault.specs.declared.run_fault.RunFault.TheVariants as run_faults
 
 pub returns-clause-ends : goal.returns-clause-ends
 returns-clause-ends g c =
-    flushed_ends g.W.Write.written g.W.Write.failures c.args.out.now c.read_and_list-done.new.out c.flushed.new.out parts.Output (OfFile c.args.file.now (ListsFacts c.args.file.now))
+    flushed_ends g.W.Write.written g.W.Write.failures c.args.out.now c.read_and_list-done.new.out c.flushed.new.out run_faults.Output (OfFile c.args.file.now (ListsFacts c.args.file.now))
     c.read_and_list-done.result c.flushed.result c.read_and_list-done.ensures c.flushed.ensures.answer
 
 pub returns-clause-flushed : goal.returns-clause-flushed
 returns-clause-flushed g c = λ same.
-    c.flushed.ensures.flushed (ends_unfailed g.W.Write.written g.W.Write.failures c.args.out.now c.read_and_list-done.new.out c.flushed.new.out parts.Output (OfFile c.args.file.now (ListsFacts c.args.file.now))
+    c.flushed.ensures.flushed (ends_unfailed g.W.Write.written g.W.Write.failures c.args.out.now c.read_and_list-done.new.out c.flushed.new.out run_faults.Output (OfFile c.args.file.now (ListsFacts c.args.file.now))
     c.read_and_list-done.result c.flushed.result c.read_and_list-done.ensures c.flushed.ensures.answer same)

@@ -2,14 +2,14 @@ use Rattle.std.proofs.Common.{ℕ, List, [], ◌∷◌, length, count_by, ap, �
 use Rattle.std.specs.Prelude.{codes}
 use Rattle.std.specs.List.{flat_map}
 use Rattle.aig_bytes.proofs.WriteLemmas.{writes_same}
-use Rattle.aig_commands.specs.Info.{is_uninitialised, number_line, number_lines}
+use Rattle.aig_commands.specs.Info.{is_uninitialised, fact_number_line, number_lines}
 use Rattle.aig_commands.proofs.info.write_counts.Goals as goal
 
 pub returns : goal.returns
 unfolding number_lines
 returns g c =
     writes_same c.write_numbers.ensures (λ i.
-    flat_map {X = List ℕ × ℕ} {A = ℕ} (λ n. number_line n.0 n.1) (
+    flat_map {X = List ℕ × ℕ} {A = ℕ} (λ n. fact_number_line n.0 n.1) (
     (codes "variables", c.max_var.ensures.value i) ∷ (codes "inputs", length (c.inputs.ensures i))
     ∷ (codes "latches", length (c.latches.ensures i)) ∷ (codes "outputs", length (c.outputs.ensures i))
     ∷ (codes "gates", length (c.gates.ensures i)) ∷ (codes "bad", length (c.bad.ensures i))

@@ -2,14 +2,14 @@ use Rattle.aig_commands.specs.Unroll.{UnrollsKept}
 use Rattle.aig_commands.proofs.unroll.unroll.Goals as goal
 use Rattle.aig_fault.proofs.Flushes.{flushed_ends, ends_unfailed}
 use Rattle.aig_fault.specs.Command.{OfFile, OfReader}
-use Rattle.aig_fault.specs.declared.run_fault.RunFault.TheVariants as parts
+use Rattle.aig_fault.specs.declared.run_fault.RunFault.TheVariants as run_faults
 
 pub returns-clause-ends : goal.returns-clause-ends
 returns-clause-ends g c =
-    flushed_ends g.W.Write.written g.W.Write.failures c.args.out.now c.unroll_and_keep-done.new.out c.flushed.new.out parts.Output (OfFile c.args.circuit.now (UnrollsKept c.args.frames c.args.to))
+    flushed_ends g.W.Write.written g.W.Write.failures c.args.out.now c.unroll_and_keep-done.new.out c.flushed.new.out run_faults.Output (OfFile c.args.circuit.now (UnrollsKept c.args.frames c.args.to))
     c.unroll_and_keep-done.result c.flushed.result c.unroll_and_keep-done.ensures c.flushed.ensures.answer
 
 pub returns-clause-flushed : goal.returns-clause-flushed
 returns-clause-flushed g c = λ same.
-    c.flushed.ensures.flushed (ends_unfailed g.W.Write.written g.W.Write.failures c.args.out.now c.unroll_and_keep-done.new.out c.flushed.new.out parts.Output (OfFile c.args.circuit.now (UnrollsKept c.args.frames c.args.to))
+    c.flushed.ensures.flushed (ends_unfailed g.W.Write.written g.W.Write.failures c.args.out.now c.unroll_and_keep-done.new.out c.flushed.new.out run_faults.Output (OfFile c.args.circuit.now (UnrollsKept c.args.frames c.args.to))
     c.unroll_and_keep-done.result c.flushed.result c.unroll_and_keep-done.ensures c.flushed.ensures.answer same)

@@ -5,26 +5,26 @@ use Rattle.aig_commands.proofs.Unrollings.{kept_ends}
 use Rattle.aig_commands.proofs.unroll.unroll_and_keep.Goals as goal
 use Rattle.aig_fault.proofs.Files.{answered, ends_of_file, file_refused}
 use Rattle.aig_fault.specs.Command.{OfFile}
-use Rattle.aig_fault.specs.Command.{Ends}
-use Rattle.aig_fault.specs.declared.run_fault.RunFault.TheVariants as parts
+use Rattle.aig_fault.specs.Command.{CommandEnds}
+use Rattle.aig_fault.specs.declared.run_fault.RunFault.TheVariants as run_faults
 
 pub returns-in-Ok : goal.returns-in-Ok
 returns-in-Ok g c =
     ends_of_file (UnrollsKept c.args.frames c.args.to) c.in_ok-circuit.circuit (λ fault bytes h. h)
-    (flow g.W.Write.written g.W.Write.failures c.args.out.now c.unroll_circuit.new.out) parts.Output c.args.circuit.now c.in_ok-circuit.ensures.circuit
+    (flow g.W.Write.written g.W.Write.failures c.args.out.now c.unroll_circuit.new.out) run_faults.Output c.args.circuit.now c.in_ok-circuit.ensures.circuit
     (Ok c.in_ok-circuit.circuit)
     (kept_ends (flow g.W.Write.written g.W.Write.failures c.args.out.now c.unroll_circuit.new.out) c.args.frames c.args.to c.in_ok-circuit.circuit (Ok tt) c.in-Ok.ensures.ends)
 
 pub returns-in-Err : goal.returns-in-Err
 returns-in-Err g c =
     ends_of_file (UnrollsKept c.args.frames c.args.to) c.in_ok-circuit.circuit (λ fault bytes h. h)
-    (flow g.W.Write.written g.W.Write.failures c.args.out.now c.unroll_circuit.new.out) parts.Output c.args.circuit.now c.in_ok-circuit.ensures.circuit
+    (flow g.W.Write.written g.W.Write.failures c.args.out.now c.unroll_circuit.new.out) run_faults.Output c.args.circuit.now c.in_ok-circuit.ensures.circuit
     (Err c.in-Err.fault)
     (kept_ends (flow g.W.Write.written g.W.Write.failures c.args.out.now c.unroll_circuit.new.out) c.args.frames c.args.to c.in_ok-circuit.circuit (Err c.in-Err.fault) c.in-Err.ensures.ends)
 
 pub returns-in_err-circuit : goal.returns-in_err-circuit
 returns-in_err-circuit g c =
-    answered c.from_residual.result (parts.Circuit c.in_err-circuit.field-0.0)
-    (Ends (flow g.W.Write.written g.W.Write.failures c.args.out.now c.args.out.now) parts.Output (OfFile c.args.circuit.now (UnrollsKept c.args.frames c.args.to)))
+    answered c.from_residual.result (run_faults.Circuit c.in_err-circuit.field-0.0)
+    (CommandEnds (flow g.W.Write.written g.W.Write.failures c.args.out.now c.args.out.now) run_faults.Output (OfFile c.args.circuit.now (UnrollsKept c.args.frames c.args.to)))
     c.from_residual.ensures.1
-    (file_refused g.W.Write.written g.W.Write.failures c.args.out.now parts.Output (UnrollsKept c.args.frames c.args.to) c.args.circuit.now c.in_err-circuit.field-0.0 c.in_err-circuit.ensures.fault)
+    (file_refused g.W.Write.written g.W.Write.failures c.args.out.now run_faults.Output (UnrollsKept c.args.frames c.args.to) c.args.circuit.now c.in_err-circuit.field-0.0 c.in_err-circuit.ensures.fault)

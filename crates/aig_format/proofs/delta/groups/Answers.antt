@@ -6,33 +6,33 @@ use Rattle.aig_format.proofs.delta.groups.Goals as goal
 
 pub loop-k-init : goal.loop-k-init
 loop-k-init g c = record {
-  bytes = λ told. number_first _;
+  bytes = λ reported. number_first _;
   worth = omega arith;
   below = omega arith;
-  keeps = record { told = λ told. told; reader = refl; failures = refl; never_more = omega arith };
+  keeps = record { reported = λ reported. reported; reader = refl; failures = refl; never_more = omega arith };
 }
 
 pub returns-in-None : goal.returns-in-None
 returns-in-None g c =
     let e = c.in_ok-next.ensures in
-    let kept = keeps_step c.loop-k.invariant.keeps e.told e.reader e.failures e.never_more in
+    let kept = keeps_step c.loop-k.invariant.keeps e.reported e.reader e.failures e.never_more in
     record {
-      reads = keeps_reads kept (λ n. refl) (λ told.
+      reads = keeps_reads kept (λ n. refl) (λ reported.
           number_cut (4 - c.loop-k.k) c.loop-k.k c.loop-k.value c.loop-k.weight (g.S.Source.left c.loop-k.s)
           (g.S.Source.left c.next.new.self) _
-          (rw c.in-None.is at (c.in_ok-next.ensures.bytes (c.loop-k.invariant.keeps.told told))) (c.loop-k.invariant.bytes told));
+          (rw c.in-None.is at (c.in_ok-next.ensures.bytes (c.loop-k.invariant.keeps.reported reported))) (c.loop-k.invariant.bytes reported));
     }
 
 pub returns-then-is_spare : goal.returns-then-is_spare
 returns-then-is_spare g c =
     let e = c.in_ok-next.ensures in
-    let kept = keeps_step c.loop-k.invariant.keeps e.told e.reader e.failures e.never_more in
+    let kept = keeps_step c.loop-k.invariant.keeps e.reported e.reader e.failures e.never_more in
     record {
-      reads = keeps_reads kept (λ n. refl) (λ told.
+      reads = keeps_reads kept (λ n. refl) (λ reported.
           number_last (4 - c.loop-k.k) c.loop-k.k c.loop-k.value c.loop-k.weight c.in-Some.byte (g.S.Source.left c.loop-k.s)
           (g.S.Source.left c.next.new.self) _ _ (omega (arith, c.loop-k-test.true))
-          (rw c.in-Some.is at (c.in_ok-next.ensures.bytes (c.loop-k.invariant.keeps.told told))) c.if-byte-lt128.true
-          (sym c.is_spare.ensures ∙ c.if-is_spare.true) (c.loop-k.invariant.bytes told));
+          (rw c.in-Some.is at (c.in_ok-next.ensures.bytes (c.loop-k.invariant.keeps.reported reported))) c.if-byte-lt128.true
+          (sym c.is_spare.ensures ∙ c.if-is_spare.true) (c.loop-k.invariant.bytes reported));
     }
 
 pub overflow_mul-result : goal.overflow_mul-result
@@ -49,13 +49,13 @@ overflow_add-result g c =
 pub returns-then-byte-lt128 : goal.returns-then-byte-lt128
 returns-then-byte-lt128 g c =
     let e = c.in_ok-next.ensures in
-    let kept = keeps_step c.loop-k.invariant.keeps e.told e.reader e.failures e.never_more in
+    let kept = keeps_step c.loop-k.invariant.keeps e.reported e.reader e.failures e.never_more in
     record {
-      reads = keeps_reads kept (λ n. refl) (λ told.
+      reads = keeps_reads kept (λ n. refl) (λ reported.
           number_last (4 - c.loop-k.k) c.loop-k.k c.loop-k.value c.loop-k.weight c.in-Some.byte (g.S.Source.left c.loop-k.s)
           (g.S.Source.left c.next.new.self) _ _ (omega (arith, c.loop-k-test.true))
-          (rw c.in-Some.is at (c.in_ok-next.ensures.bytes (c.loop-k.invariant.keeps.told told))) c.if-byte-lt128.true
-          (sym c.is_spare.ensures ∙ c.if-is_spare.false) (c.loop-k.invariant.bytes told));
+          (rw c.in-Some.is at (c.in_ok-next.ensures.bytes (c.loop-k.invariant.keeps.reported reported))) c.if-byte-lt128.true
+          (sym c.is_spare.ensures ∙ c.if-is_spare.false) (c.loop-k.invariant.bytes reported));
     }
 
 pub overflow_mul-value : goal.overflow_mul-value
@@ -77,20 +77,20 @@ pub loop-k-preserved : goal.loop-k-preserved
 loop-k-preserved g c =
     let i = c.loop-k.invariant in
     record {
-      bytes = λ told.
+      bytes = λ reported.
           let less : 4 - (c.loop-k.k + 1) ≡ 4 - c.loop-k.k - 1 = omega arith in
           rw less
           (number_more (4 - c.loop-k.k) c.loop-k.k c.loop-k.value c.loop-k.weight c.in-Some.byte (g.S.Source.left c.loop-k.s)
           (g.S.Source.left c.next.new.self) _ (omega (arith, c.loop-k-test.true))
-          (rw c.in-Some.is at (c.in_ok-next.ensures.bytes (i.keeps.told told))) c.if-byte-lt128.false (search rules) (i.bytes told));
+          (rw c.in-Some.is at (c.in_ok-next.ensures.bytes (i.keeps.reported reported))) c.if-byte-lt128.false (search rules) (i.bytes reported));
       worth = ap (λ (t : ℕ). t * 128) i.worth ∙ worth_more c.loop-k.k;
       below = omega (arith, i.below, mul-le c.loop-k.weight (c.in-Some.byte - 128) c.loop-k.weight 127 (omega arith) (search rules));
-      keeps = let e = c.in_ok-next.ensures in keeps_step i.keeps e.told e.reader e.failures e.never_more;
+      keeps = let e = c.in_ok-next.ensures in keeps_step i.keeps e.reported e.reader e.failures e.never_more;
     }
 
 pub returns : goal.returns
 returns g c = record {
   reads = keeps_reads c.loop-k.invariant.keeps (λ n. refl)
-      (λ told. number_over (4 - c.loop-k.k) c.loop-k.k c.loop-k.value c.loop-k.weight (g.S.Source.left c.loop-k.s)
-      _ (omega (arith, c.loop-k-test.false)) (c.loop-k.invariant.bytes told));
+      (λ reported. number_over (4 - c.loop-k.k) c.loop-k.k c.loop-k.value c.loop-k.weight (g.S.Source.left c.loop-k.s)
+      _ (omega (arith, c.loop-k-test.false)) (c.loop-k.invariant.bytes reported));
 }

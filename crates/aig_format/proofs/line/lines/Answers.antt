@@ -4,8 +4,8 @@ use Rattle.aig_format.proofs.Keeping.{keeps_step, keeps_then, keeps_reads, err_r
 use Rattle.aig_format.proofs.Steps.{lines_taken, lines_on, lines_fail, lines_done}
 use Rattle.aig_format.proofs.line.lines.Goals as goal
 
-pub push_at_hand-requires-clause-fits : goal.push_at_hand-requires-clause-fits
-push_at_hand-requires-clause-fits g c = λ j lt.
+pub push_buffered-requires-clause-fits : goal.push_buffered-requires-clause-fits
+push_buffered-requires-clause-fits g c = λ j lt.
     let e : c.args.first + (c.loop-all.read + j) ≡ c.args.first + c.loop-all.read + j = omega arith in
     subst g.X.Line.fits e (c.requires.fits (c.loop-all.read + j) (omega (arith, lt)))
 
@@ -15,14 +15,14 @@ returns-then-read-count-clause-reads g c =
     let t = c.in_ok-taken in
     let s = c.skip.ensures in
     let read : ℕ = c.loop-all.read + t.taken in
-    let keeps = keeps_step i.keeps s.told s.reader s.failures (omega (arith, s.more)) in
-    let bytes = λ (told : g.S.Source.tells c.args.s.now).
-    lines_taken g.X.Line.line_at c.loop-all.all c.push_at_hand.new.all c.args.count c.loop-all.read c.args.first t.taken t.size
-    c.front.result.now _ _ _ _ _ (omega (arith, i.most, t.ensures.most)) c.front.ensures.hand c.front.ensures.left s.left
-    t.ensures.adds (i.bytes told) in
-    keeps_reads keeps (λ n. refl) (λ told.
-    lines_done g.X.Line.line_at c.push_at_hand.new.all c.args.count read (c.args.first + read) _ _
-    (omega (arith, c.if-read-count.true)) (bytes told))
+    let keeps = keeps_step i.keeps s.reported s.reader s.failures (omega (arith, s.more)) in
+    let bytes = λ (reported : g.S.Source.reports c.args.s.now).
+    lines_taken g.X.Line.line_at c.loop-all.all c.push_buffered.new.all c.args.count c.loop-all.read c.args.first t.taken t.size
+    c.front.result.now _ _ _ _ _ (omega (arith, i.most, t.ensures.most)) c.front.ensures.buffered c.front.ensures.left s.left
+    t.ensures.adds (i.bytes reported) in
+    keeps_reads keeps (λ n. refl) (λ reported.
+    lines_done g.X.Line.line_at c.push_buffered.new.all c.args.count read (c.args.first + read) _ _
+    (omega (arith, c.if-read-count.true)) (bytes reported))
 
 pub returns-then-read-count-clause-count : goal.returns-then-read-count-clause-count
 returns-then-read-count-clause-count g c =
@@ -40,15 +40,15 @@ returns-in_err-line-clause-reads g c =
     let t = c.in_ok-taken in
     let s = c.skip.ensures in
     let read : ℕ = c.loop-all.read + t.taken in
-    let keeps = keeps_step i.keeps s.told s.reader s.failures (omega (arith, s.more)) in
-    let bytes = λ (told : g.S.Source.tells c.args.s.now).
-    lines_taken g.X.Line.line_at c.loop-all.all c.push_at_hand.new.all c.args.count c.loop-all.read c.args.first t.taken t.size
-    c.front.result.now _ _ _ _ _ (omega (arith, i.most, t.ensures.most)) c.front.ensures.hand c.front.ensures.left s.left
-    t.ensures.adds (i.bytes told) in
+    let keeps = keeps_step i.keeps s.reported s.reader s.failures (omega (arith, s.more)) in
+    let bytes = λ (reported : g.S.Source.reports c.args.s.now).
+    lines_taken g.X.Line.line_at c.loop-all.all c.push_buffered.new.all c.args.count c.loop-all.read c.args.first t.taken t.size
+    c.front.result.now _ _ _ _ _ (omega (arith, i.most, t.ensures.most)) c.front.ensures.buffered c.front.ensures.left s.left
+    t.ensures.adds (i.bytes reported) in
     rw (p.1, p.2)
-    (err_reads keeps c.in_err-line.ensures.reads (λ told fails.
-    lines_fail g.X.Line.line_at _ c.push_at_hand.new.all c.args.count read (c.args.first + read) _ _
-    (omega (arith, i.most, t.ensures.most, c.if-read-count.false)) fails (bytes told)))
+    (err_reads keeps c.in_err-line.ensures.reads (λ reported fails.
+    lines_fail g.X.Line.line_at _ c.push_buffered.new.all c.args.count read (c.args.first + read) _ _
+    (omega (arith, i.most, t.ensures.most, c.if-read-count.false)) fails (bytes reported)))
 
 pub loop-all-preserved : goal.loop-all-preserved
 loop-all-preserved g c =
@@ -56,22 +56,22 @@ loop-all-preserved g c =
     let t = c.in_ok-taken in
     let s = c.skip.ensures in
     let read : ℕ = c.loop-all.read + t.taken in
-    let keeps = keeps_step i.keeps s.told s.reader s.failures (omega (arith, s.more)) in
-    let bytes = λ (told : g.S.Source.tells c.args.s.now).
-    lines_taken g.X.Line.line_at c.loop-all.all c.push_at_hand.new.all c.args.count c.loop-all.read c.args.first t.taken t.size
-    c.front.result.now _ _ _ _ _ (omega (arith, i.most, t.ensures.most)) c.front.ensures.hand c.front.ensures.left s.left
-    t.ensures.adds (i.bytes told) in
+    let keeps = keeps_step i.keeps s.reported s.reader s.failures (omega (arith, s.more)) in
+    let bytes = λ (reported : g.S.Source.reports c.args.s.now).
+    lines_taken g.X.Line.line_at c.loop-all.all c.push_buffered.new.all c.args.count c.loop-all.read c.args.first t.taken t.size
+    c.front.result.now _ _ _ _ _ (omega (arith, i.most, t.ensures.most)) c.front.ensures.buffered c.front.ensures.left s.left
+    t.ensures.adds (i.bytes reported) in
     record {
-      bytes = λ told.
+      bytes = λ reported.
           rw c.in_ok-push.ensures.ok
-          (lines_on g.X.Line.line_at c.push_at_hand.new.all c.args.count read (c.args.first + read) (c.args.first + (read + 1)) _
+          (lines_on g.X.Line.line_at c.push_buffered.new.all c.args.count read (c.args.first + read) (c.args.first + (read + 1)) _
           c.in_ok-line.line _ _ (omega (arith, i.most, t.ensures.most, c.if-read-count.false)) (omega arith)
-          (c.in_ok-line.ensures.reads.bytes (keeps.told told)) (bytes told));
+          (c.in_ok-line.ensures.reads.bytes (keeps.reported reported)) (bytes reported));
       count =
           omega (
             arith,
             ap length c.in_ok-push.ensures.ok,
-            length-append c.push_at_hand.new.all (c.in_ok-line.line ∷ []),
+            length-append c.push_buffered.new.all (c.in_ok-line.line ∷ []),
             t.ensures.adds.count,
             i.count,
           );

@@ -1,7 +1,7 @@
 use Rattle.std.proofs.Common.{◌≡◌, ◌≤◌, ◌-◌, length}
 use Rattle.std.specs.Prelude.{sum}
 use Rattle.aig_format.specs.state.ReadingSections.{sizes_at}
-use Rattle.aig_format.specs.state.Reads.{Keeps}
+use Rattle.aig_format.specs.state.Reads.{KeepsSource}
 use Rattle.aig_format.specs.state.ReadingSections.{with_front}
 use Rattle.aig_format.proofs.section.sizes.Given as goal
 
@@ -10,7 +10,7 @@ invariant-loop g l = record {
   count : length l.sizes.items ≡ l.counter;
   sum : sum l.sizes.items ≡ l.total;
   within : l.total ≤ 4194303;
-  bytes : g.S.Source.tells l.fn.s → with_front l.sizes.items (sizes_at (l.count - l.counter) l.total (g.S.Source.left l.s))
+  bytes : g.S.Source.reports l.fn.s → with_front l.sizes.items (sizes_at (l.count - l.counter) l.total (g.S.Source.left l.s))
       ≡ sizes_at l.count 0 (g.S.Source.left l.fn.s);
-  keeps : Keeps g.S.Source l.fn.s l.s;
+  keeps : KeepsSource g.S.Source l.fn.s l.s;
 }

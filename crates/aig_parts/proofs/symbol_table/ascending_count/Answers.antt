@@ -2,7 +2,7 @@ use Rattle.std.proofs.Common.{ℕ, ◌-◌, ◌<◌, get_or, List, length, sym, 
 use Rattle.std.proofs.lemmas.List.{take_all}
 use Rattle.aig_parts.specs.declared.symbol_places.Place.{Place}
 use Rattle.aig_parts.specs.SymbolPlaces.{Key}
-use Rattle.aig_parts.specs.state.SymbolTable.{number_of, Ascend}
+use Rattle.aig_parts.specs.state.SymbolTable.{key_number, Ascend}
 use Rattle.aig_parts.proofs.TableLemmas.{nowhere, ascend_more}
 use Rattle.aig_parts.proofs.symbol_table.ascending_count.Goals as goal
 
@@ -10,9 +10,9 @@ pub loop-place-preserved : goal.loop-place-preserved
 loop-place-preserved c =
     let es = c.args.entries.now in
     let i = c.loop-place.place in
-    let up : number_of (get_or es (i - 1) nowhere).0 < number_of (get_or es i nowhere).0 =
-    subst (λ (n : ℕ). n < number_of (get_or es i nowhere).0) c.number_of.ensures
-    (subst (λ (n : ℕ). c.number_of.result < n) c.number_of-in-loop-place.ensures c.if-number_of.false) in (
+    let up : key_number (get_or es (i - 1) nowhere).0 < key_number (get_or es i nowhere).0 =
+    subst (λ (n : ℕ). n < key_number (get_or es i nowhere).0) c.key_number.ensures
+    (subst (λ (n : ℕ). c.key_number.result < n) c.key_number-in-loop-place.ensures c.if-key_number.false) in (
       omega arith,
       ascend_more es i nowhere c.loop-place.invariant.0 c.loop-place-test.true up c.loop-place.invariant.1,
     )

@@ -5,7 +5,7 @@ use Rattle.std.proofs.lemmas.List.{take_all, length-drop, get_or_default}
 use Rattle.aig_parts.specs.declared.symbol_places.Place.{Place}
 use Rattle.aig_parts.specs.SymbolPlaces.{Key}
 use Rattle.aig_parts.proofs.SymbolLemmas.{entry_more}
-use Rattle.aig_parts.proofs.TableLemmas.{once_behind}
+use Rattle.aig_parts.proofs.TableLemmas.{once_after}
 use Rattle.aig_parts.proofs.symbol_table.others_of.Goals as goal
 
 pub loop-entry-preserved : goal.loop-entry-preserved
@@ -15,7 +15,7 @@ loop-entry-preserved c =
     let part = take (length es - c.args.from) rest in
     let whole = take_all (length es - c.args.from) rest (omega (arith, length-drop c.args.from es)) in
     let once = subst (λ (xs : List (Key × Place)). AllPairs (λ x y. x ≢ y) (keys_of xs)) (sym whole)
-    (once_behind es c.args.from c.requires.once) in
+    (once_after es c.args.from c.requires.once) in
     record {
       entries = c.in_ok-insert.ensures.entries
           ∙ entry_more c.loop-entry.others part c.loop-entry.entry-index _

@@ -1,7 +1,7 @@
 use Rattle.std.proofs.Common.{ℕ, ◌+◌, ◌≤◌, get_or, take, drop, ◌++◌, ◌∷◌, [], List, sym, ap, ◌∙◌, arith, append_assoc}
 use Rattle.std.specs.Fmt.{decimal}
 use Rattle.std.proofs.lemmas.List.{take_more}
-use Rattle.aig_script.proofs.Digits.{is_digit, is_no_digit, digit_behind, digit_joins, grows, left}
+use Rattle.aig_script.proofs.Digits.{is_digit, is_no_digit, digit_after, digit_joins, grows, left}
 use Rattle.aig_script.proofs.command.longer_number.Goals as goal
 
 pub returns-then-not-is_ascii_digit-clause-none : goal.returns-then-not-is_ascii_digit-clause-none
@@ -9,7 +9,7 @@ returns-then-not-is_ascii_digit-clause-none c n small e =
     let xs = c.args.digits.now in
     let i = c.loop-digit.digit-index in
     let m = c.loop-digit.number in
-    let range = digit_behind (decimal m) (drop (i + 1) xs) (get_or xs i 0) n small
+    let range = digit_after (decimal m) (drop (i + 1) xs) (get_or xs i 0) n small
     (left c.args.first m n i xs c.loop-digit-test.true c.loop-digit.invariant.spelled e) in
     is_no_digit (get_or xs i 0) (sym c.is_ascii_digit.ensures.value ∙ c.if-not-is_ascii_digit.true) range
 

@@ -2,7 +2,7 @@ use Rattle.std.proofs.Common.{[], length, sym, ap, ◌∙◌, arith}
 use Rattle.std.proofs.lemmas.Bool.{eqb-true, eqb-false}
 use Rattle.std.proofs.lemmas.Fmt.{decimal_nonempty}
 use Rattle.aig_script.proofs.Fields.{on_none}
-use Rattle.aig_script.proofs.Digits.{digit_behind, is_digit, is_no_digit, one_in_front, only_zero, zero_in_front, some_such, none_such}
+use Rattle.aig_script.proofs.Digits.{digit_after, is_digit, is_no_digit, one_in_front, only_zero, zero_in_front, some_such, none_such}
 use Rattle.aig_script.proofs.command.parse_number.Goals as goal
 
 pub returns-in_err-first-clause-none : goal.returns-in_err-first-clause-none
@@ -15,7 +15,7 @@ pub returns-then-not-is_ascii_digit-clause-none : goal.returns-then-not-is_ascii
 returns-then-not-is_ascii_digit-clause-none c n small e =
     let first = c.in_ok-first.first.now in
     is_no_digit first (sym c.is_ascii_digit.ensures.value ∙ c.if-not-is_ascii_digit.true)
-    (digit_behind [] c.in_ok-first.rest.now first n small (sym c.in_ok-first.ensures.cases.0 ∙ e))
+    (digit_after [] c.in_ok-first.rest.now first n small (sym c.in_ok-first.ensures.cases.0 ∙ e))
 
 pub returns-then-first-gt48-clause-some : goal.returns-then-first-gt48-clause-some
 returns-then-first-gt48-clause-some c =

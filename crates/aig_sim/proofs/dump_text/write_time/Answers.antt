@@ -5,4 +5,4 @@ pub returns-in_err-put_time : goal.returns-in_err-put_time
 returns-in_err-put_time g c = written_part c.new-block.ensures c.in_err-put_time.ensures c.from_residual.ensures.0
 
 pub returns : goal.returns
-returns g c = written_whole c.new-block.ensures c.in_ok-put_time.ensures c.hand_on.ensures.written
+returns g c = written_whole c.new-block.ensures c.in_ok-put_time.ensures c.forward.ensures.written

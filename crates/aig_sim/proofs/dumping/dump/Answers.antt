@@ -6,7 +6,7 @@ use Rattle.aig_bytes.proofs.WriteLemmas.{writes_same}
 use Rattle.aig_sim.specs.Dumped.{Dumps}
 use Rattle.aig_sim.specs.state.Dumping.{AreDumped}
 use Rattle.aig_sim.specs.state.Running.{Streamed}
-use Rattle.aig_sim.proofs.LineLemmas.{handed_on}
+use Rattle.aig_sim.proofs.LineLemmas.{forwarded}
 use Rattle.aig_sim.proofs.DumpedLemmas.{dumps_nothing, dumps_no_header, dumps_stopped, dumps_all, dumps_no_end}
 use Rattle.aig_sim.proofs.dumping.dump.Goals as goal
 
@@ -16,7 +16,7 @@ returns-in_err-header-clause-dumped g c =
     let reads = g.R.Read.failures c.args.reader.now in
     let written = g.W.Write.written c.args.out.now in
     let writes = g.W.Write.failures c.args.out.now in
-    handed_on (λ r. Dumps c.args.circuit.now (record { left = left; reads = reads; writes = writes })
+    forwarded (λ r. Dumps c.args.circuit.now (record { left = left; reads = reads; writes = writes })
     (record { left = left; reads = reads; writes = writes }) written written r)
     c.from_residual.result Memory c.from_residual.ensures.1
     (dumps_nothing c.args.circuit.now left reads written writes)
@@ -27,7 +27,7 @@ returns-in_err-recorder-clause-dumped g c =
     let reads = g.R.Read.failures c.args.reader.now in
     let written = g.W.Write.written c.args.out.now in
     let writes = g.W.Write.failures c.args.out.now in
-    handed_on (λ r. Dumps c.args.circuit.now (record { left = left; reads = reads; writes = writes })
+    forwarded (λ r. Dumps c.args.circuit.now (record { left = left; reads = reads; writes = writes })
     (record { left = left; reads = reads; writes = writes }) written written r)
     c.from_residual-in_err-recorder.result Memory c.from_residual-in_err-recorder.ensures.1
     (dumps_nothing c.args.circuit.now left reads written writes)
@@ -38,7 +38,7 @@ returns-in_err-simulation-clause-dumped g c =
     let reads = g.R.Read.failures c.args.reader.now in
     let written = g.W.Write.written c.args.out.now in
     let writes = g.W.Write.failures c.args.out.now in
-    handed_on (λ r. Dumps c.args.circuit.now (record { left = left; reads = reads; writes = writes })
+    forwarded (λ r. Dumps c.args.circuit.now (record { left = left; reads = reads; writes = writes })
     (record { left = left; reads = reads; writes = writes }) written written r)
     c.from_residual-in_err-simulation.result Memory c.from_residual-in_err-simulation.ensures.1
     (dumps_nothing c.args.circuit.now left reads written writes)
@@ -52,7 +52,7 @@ returns-in_err-write_all-clause-dumped g c =
     let written' = g.W.Write.written c.write_all.new.out in
     let writes' = g.W.Write.failures c.write_all.new.out in
     let e = writes_same c.in_err-write_all.ensures (c.as_slice.ensures.value ∙ c.in_ok-header.ensures) in
-    handed_on (λ r. Dumps c.args.circuit.now (record { left = left; reads = reads; writes = writes })
+    forwarded (λ r. Dumps c.args.circuit.now (record { left = left; reads = reads; writes = writes })
     (record { left = left; reads = reads; writes = writes' }) written written' r)
     c.from_residual-in_err-write_all.result Io c.from_residual-in_err-write_all.ensures.1
     (dumps_no_header c.args.circuit.now left reads writes writes' written written' e.err e.count)
@@ -65,7 +65,7 @@ returns-in_err-frames-clause-dumped g c =
     let reads = g.R.Read.failures c.args.reader.now in
     let written = g.W.Write.written c.args.out.now in
     let first = g.W.Write.failures c.args.out.now in
-    let told = g.W.Write.written c.write_all.new.out in
+    let reported = g.W.Write.written c.write_all.new.out in
     let second = g.W.Write.failures c.write_all.new.out in
     let left' = g.R.Read.left c.run.new.reader in
     let reads' = g.R.Read.failures c.run.new.reader in
@@ -75,11 +75,11 @@ returns-in_err-frames-clause-dumped g c =
     let e = c.in_err-frames.ensures in
     let streams = subst (λ (circuit : Raw). Streamed (λ raw start rows text. AreDumped raw start rows text) circuit
     (record { left = left; reads = reads; writes = second }) (record { left = left'; reads = reads'; writes = third })
-    told at_end (Err f)) c.in_ok-simulation.ensures.circuit e.streams in
-    handed_on (λ r. Dumps raw (record { left = left; reads = reads; writes = first })
+    reported at_end (Err f)) c.in_ok-simulation.ensures.circuit e.streams in
+    forwarded (λ r. Dumps raw (record { left = left; reads = reads; writes = first })
     (record { left = left'; reads = reads'; writes = third }) written at_end r)
     c.from_residual-in_err-frames.result f c.from_residual-in_err-frames.ensures.1
-    (dumps_stopped raw left left' reads reads' first second third written told at_end head.ok
+    (dumps_stopped raw left left' reads reads' first second third written reported at_end head.ok
     head.count f e.memory streams)
 
 pub returns-in_err-write_end-clause-dumped : goal.returns-in_err-write_end-clause-dumped
@@ -90,7 +90,7 @@ returns-in_err-write_end-clause-dumped g c =
     let reads = g.R.Read.failures c.args.reader.now in
     let written = g.W.Write.written c.args.out.now in
     let first = g.W.Write.failures c.args.out.now in
-    let told = g.W.Write.written c.write_all.new.out in
+    let reported = g.W.Write.written c.write_all.new.out in
     let second = g.W.Write.failures c.write_all.new.out in
     let left' = g.R.Read.left c.run.new.reader in
     let reads' = g.R.Read.failures c.run.new.reader in
@@ -101,11 +101,11 @@ returns-in_err-write_end-clause-dumped g c =
     let n = c.in_ok-frames.frames in
     let streams = subst (λ (circuit : Raw). Streamed (λ raw start rows text. AreDumped raw start rows text) circuit
     (record { left = left; reads = reads; writes = second }) (record { left = left'; reads = reads'; writes = third })
-    told at_end (Ok n)) c.in_ok-simulation.ensures.circuit c.in_ok-frames.ensures.streams in
-    handed_on (λ r. Dumps raw (record { left = left; reads = reads; writes = first })
+    reported at_end (Ok n)) c.in_ok-simulation.ensures.circuit c.in_ok-frames.ensures.streams in
+    forwarded (λ r. Dumps raw (record { left = left; reads = reads; writes = first })
     (record { left = left'; reads = reads'; writes = fourth }) written last r)
     c.from_residual-in_err-write_end.result Io c.from_residual-in_err-write_end.ensures.1
-    (dumps_no_end raw left left' reads reads' first second third written told at_end head.ok
+    (dumps_no_end raw left left' reads reads' first second third written reported at_end head.ok
     head.count n streams fourth last c.in_err-write_end.ensures.err c.in_err-write_end.ensures.count)
 
 pub returns-clause-dumped : goal.returns-clause-dumped
@@ -116,7 +116,7 @@ returns-clause-dumped g c =
     let reads = g.R.Read.failures c.args.reader.now in
     let written = g.W.Write.written c.args.out.now in
     let first = g.W.Write.failures c.args.out.now in
-    let told = g.W.Write.written c.write_all.new.out in
+    let reported = g.W.Write.written c.write_all.new.out in
     let second = g.W.Write.failures c.write_all.new.out in
     let left' = g.R.Read.left c.run.new.reader in
     let reads' = g.R.Read.failures c.run.new.reader in
@@ -127,6 +127,6 @@ returns-clause-dumped g c =
     let n = c.in_ok-frames.frames in
     let streams = subst (λ (circuit : Raw). Streamed (λ raw start rows text. AreDumped raw start rows text) circuit
     (record { left = left; reads = reads; writes = second }) (record { left = left'; reads = reads'; writes = third })
-    told at_end (Ok n)) c.in_ok-simulation.ensures.circuit c.in_ok-frames.ensures.streams in
-    dumps_all raw left left' reads reads' first second third written told at_end head.ok
+    reported at_end (Ok n)) c.in_ok-simulation.ensures.circuit c.in_ok-frames.ensures.streams in
+    dumps_all raw left left' reads reads' first second third written reported at_end head.ok
     head.count n streams fourth last c.in_ok-write_end.ensures.ok c.in_ok-write_end.ensures.count

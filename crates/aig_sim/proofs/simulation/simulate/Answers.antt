@@ -1,6 +1,6 @@
 use Rattle.aig_sim.specs.declared.stimulus_fault.StimFault.TheVariants.{Memory}
 use Rattle.aig_sim.specs.Simulated.{Simulates}
-use Rattle.aig_sim.proofs.LineLemmas.{handed_on}
+use Rattle.aig_sim.proofs.LineLemmas.{forwarded}
 use Rattle.aig_sim.proofs.SimulationLemmas.{simulates_nothing}
 use Rattle.aig_sim.proofs.simulation.simulate.Goals as goal
 
@@ -10,7 +10,7 @@ returns-in_err-simulation-clause-simulated g c =
     let reads = g.R.Read.failures c.args.reader.now in
     let written = g.W.Write.written c.args.out.now in
     let writes = g.W.Write.failures c.args.out.now in
-    handed_on (λ r. Simulates c.args.circuit.now (record { left = left; reads = reads; writes = writes })
+    forwarded (λ r. Simulates c.args.circuit.now (record { left = left; reads = reads; writes = writes })
     (record { left = left; reads = reads; writes = writes }) written written r)
     c.from_residual.result Memory c.from_residual.ensures.1
     (simulates_nothing c.args.circuit.now left reads written writes)

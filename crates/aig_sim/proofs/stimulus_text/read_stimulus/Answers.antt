@@ -1,13 +1,13 @@
 use Rattle.std.proofs.Common.{◌≡◌, ◌≢◌, ◌-◌, ◌≤◌, ℕ, ◌+◌, ◌++◌, ◌∷◌, [], List, length, length-drop, sym, ap, ◌∙◌, arith, take, drop, get_or, subst}
 use Rattle.std.proofs.lemmas.List.{take_more, drop_more, take-append-drop, take_all}
 use Rattle.aig_parts.specs.declared.ternary.Tern.{Tern}
-use Rattle.aig_sim.specs.declared.line_in_hand.Shape.{Shape}
-use Rattle.aig_sim.specs.declared.line_in_hand.Shape.TheVariants.{Row}
+use Rattle.aig_sim.specs.declared.row_parser.Shape.{Shape}
+use Rattle.aig_sim.specs.declared.row_parser.Shape.TheVariants.{Row}
 use Rattle.aig_sim.specs.declared.stimulus_fault.StimFault.{StimFault}
 use Rattle.aig_sim.specs.declared.stimulus_fault.StimFault.TheVariants.{Memory}
 use Rattle.aig_sim.specs.StimulusText.{HasFaultyLine}
-use Rattle.aig_sim.specs.LineInHand.{HasRead}
-use Rattle.aig_sim.proofs.LineLemmas.{read_more, end_behind, read_line, read_fault, read_same, fault_same}
+use Rattle.aig_sim.specs.RowParser.{HasRead}
+use Rattle.aig_sim.proofs.LineLemmas.{read_more, end_after, read_line, read_fault, read_same, fault_same}
 use Rattle.aig_sim.proofs.stimulus_text.read_stimulus.Goals as goal
 
 pub returns-in_err-end_line-clause-fault : goal.returns-in_err-end_line-clause-fault
@@ -20,7 +20,7 @@ returns-in_err-end_line-clause-fault c =
     let line = c.extend.new.self in
     let fault = c.in_err-end_line.field-0.0 in
     let is_end : get_or xs (i + n) 0 ≡ 10 =
-    end_behind xs i n c.if-at-bytes.true c.line_length-length.ensures.ended in
+    end_after xs i n c.if-at-bytes.true c.line_length-length.ensures.ended in
     let split : take (i + n) xs ++ (10 ∷ drop (i + n + 1) xs) ≡ xs =
     ap (λ b. take (i + n) xs ++ (b ∷ drop (i + n + 1) xs)) (sym is_end)
     ∙ ap (λ (t : List ℕ). take (i + n) xs ++ t) (sym (drop_more xs (i + n) 0 c.if-at-bytes.true))
@@ -53,7 +53,7 @@ loop-at-preserved-then-at-bytes c =
     let k = c.clear.ensures in
     let wide = c.in_ok-extend.ensures.width ∙ inv.line_width in
     let is_end : get_or xs (i + n) 0 ≡ 10 =
-    end_behind xs i n c.if-at-bytes.true c.line_length-length.ensures.ended in
+    end_after xs i n c.if-at-bytes.true c.line_length-length.ensures.ended in
     let read : HasRead c.args.width (take (i + n) xs) rows line.shape line.values =
     read_more xs i n line.shape line.values inv.line_width inv.has_read c.line_length-length.ensures.no_end
     c.in_ok-extend.ensures.keeps in

@@ -1,5 +1,5 @@
 use Rattle.std.proofs.Common.{◌≡◌, ◌≤◌, ◌-◌, take, length}
-use Rattle.aig_sim.specs.LineInHand.{HasRead}
+use Rattle.aig_sim.specs.RowParser.{HasRead}
 use Rattle.aig_sim.proofs.stimulus_text.read_stimulus.Given as goal
 
 abbrev pub invariant-loop-at : goal.invariant-loop-at

@@ -5,4 +5,4 @@ pub returns-in_err-put_rows-clause-written : goal.returns-in_err-put_rows-clause
 returns-in_err-put_rows-clause-written g c = written_part c.new-block.ensures c.in_err-put_rows.ensures c.from_residual.ensures.0
 
 pub returns-clause-written : goal.returns-clause-written
-returns-clause-written g c = written_whole c.new-block.ensures c.in_ok-put_rows.ensures c.hand_on.ensures.written
+returns-clause-written g c = written_whole c.new-block.ensures c.in_ok-put_rows.ensures c.forward.ensures.written

@@ -3,7 +3,7 @@ use Rattle.std.proofs.lemmas.Bool.{false≢true}
 use Rattle.aig_parts.specs.declared.raw.Raw.{Raw}
 use Rattle.aig_sim.specs.state.Checking.{ReadsNotOne}
 use Rattle.aig_values.proofs.Evaluation.{item_at}
-use Rattle.aig_sim.proofs.VerdictLemmas.{constraint_in_range, right_more, reads_one, no_literal_behind}
+use Rattle.aig_sim.proofs.VerdictLemmas.{constraint_in_range, right_more, reads_one, no_literal_after}
 use Rattle.aig_sim.proofs.witness.first_failure.Goals as goal
 
 pub literal_in-requires : goal.literal_in-requires
@@ -39,5 +39,5 @@ pub returns-clause-none : goal.returns-clause-none
 returns-clause-none c =
     let m = c.args.machine.now in
     let same = c.constraints-literal-items.ensures ∙ ap (λ (r : Raw). r.constraints) c.circuit.ensures.circuit in
-    λ q. no_literal_behind m.cells m.circuit.constraints c.loop-position.position q
+    λ q. no_literal_after m.cells m.circuit.constraints c.loop-position.position q
     (omega (arith, c.loop-position-test.false, ap length same)) c.loop-position.invariant

@@ -2,7 +2,7 @@ use Rattle.std.proofs.Common.{◌≡◌, length, Some, slice_get, ap, ◌∙◌,
 use Rattle.aig_parts.specs.declared.raw.Raw.{Raw}
 use Rattle.aig_sim.specs.Verdict.{Allows, StartsWrong}
 use Rattle.aig_values.proofs.Evaluation.{item_at}
-use Rattle.aig_sim.proofs.VerdictLemmas.{right_more, starts_right, no_latch_behind}
+use Rattle.aig_sim.proofs.VerdictLemmas.{right_more, starts_right, no_latch_after}
 use Rattle.aig_sim.proofs.witness.wrong_start.Goals as goal
 
 pub loop-position-preserved : goal.loop-position-preserved
@@ -27,5 +27,5 @@ pub returns-clause-none : goal.returns-clause-none
 returns-clause-none c =
     let m = c.args.machine.now in
     let same = c.latches-latch-items.ensures ∙ ap (λ (r : Raw). r.latches) c.circuit.ensures.circuit in
-    λ q. no_latch_behind m.circuit m.states c.loop-position.position q
+    λ q. no_latch_after m.circuit m.states c.loop-position.position q
     (omega (arith, c.loop-position-test.false, ap length same)) c.loop-position.invariant

@@ -1,5 +1,5 @@
 use Rattle.std.proofs.Common.{sym, ap, ◌∙◌, length}
-use Rattle.aig_sim.specs.WitnessText.{rows_text}
+use Rattle.aig_sim.specs.WitnessText.{witness_rows_text}
 use Rattle.aig_sim.proofs.WitnessLemmas.{if_none, same_line, no_rows, one_rows}
 use Rattle.aig_sim.proofs.witness_text.body_of.Goals as goal
 
@@ -9,7 +9,7 @@ returns-in_err-frames-clause-none c =
     if_none c.from_residual-in_err-frames.result (λ start rows e some widths text_is.
     c.in_err-frames.ensures.none rows (record {
       widths = widths;
-      text_is = (same_line c.args.text.now row start c.in_ok-rows.rows.now (rows_text rows) is text_is).1;
+      text_is = (same_line c.args.text.now row start c.in_ok-rows.rows.now (witness_rows_text rows) is text_is).1;
     }))
 
 pub returns-then-frames-eq0-clause-none : goal.returns-then-frames-eq0-clause-none
@@ -19,6 +19,6 @@ returns-then-frames-eq0-clause-none c =
     λ start rows e some widths text_is.
     let same = one_rows c.args.inputs c.in_ok-rows.rows.now rows' rows spells (record {
       widths = widths;
-      text_is = (same_line c.args.text.now row start c.in_ok-rows.rows.now (rows_text rows) is text_is).1;
+      text_is = (same_line c.args.text.now row start c.in_ok-rows.rows.now (witness_rows_text rows) is text_is).1;
     }) in
     some (no_rows rows (ap length (sym same) ∙ count ∙ c.if-frames-eq0.true))

@@ -2,7 +2,7 @@ use Rattle.std.proofs.Common.{◌≡◌, ◌∙◌, ◌↔◌, ◌≤◌, ℕ, L
 use Rattle.std.proofs.Common.{sym, arith}
 use Rattle.aig_parts.specs.declared.raw.Raw.{Raw}
 use Rattle.aig_parts.specs.Literal.{variable}
-use Rattle.aig_base.specs.Readers.{AreReaders, ReaderLists, Reads}
+use Rattle.aig_base.specs.Readers.{AreReaders, ReaderLists, ReadsVariable}
 use Rattle.aig_base.proofs.circuits.Gates.{defined_in_range}
 use Rattle.aig_tests.proofs.rewires.rewire_parts.Goals as goal
 
@@ -10,7 +10,7 @@ use Rattle.aig_tests.proofs.rewires.rewire_parts.Goals as goal
 readers_kept : (raw : Raw) (old new : ReaderLists) → AreReaders raw old → new.lists ≡ old.lists → AreReaders raw new
 readers_kept raw old new h e = record {
   size = ap length e ∙ h.size;
-  each = λ v w le. subst (λ (ls : List (List ℕ)). Contains (get_or ls v []) w ↔ Reads raw w v) (sym e) (h.each v w le);
+  each = λ v w le. subst (λ (ls : List (List ℕ)). Contains (get_or ls v []) w ↔ ReadsVariable raw w v) (sym e) (h.each v w le);
   once = λ v w. subst (λ (ls : List (List ℕ)). count_by (nat_eq w) (get_or ls v []) ≤ 1) (sym e) (h.once v w);
 }
 

@@ -18,7 +18,7 @@ loop-place-preserved g c = record {
   partly = partly_more c.loop-place.invariant.partly
       (starts_next c.args.circuit.now c.loop-place.position c.in_ok-position.position c.loop-place.place
       c.index-latches-place.result c.args.latches.now c.loop-place-test.true c.index-latches-place.is
-      c.in_ok-position.ensures.behind)
+      c.in_ok-position.ensures.next_position)
       c.in_ok-position.ensures.written;
 }
 

@@ -6,7 +6,7 @@ use Rattle.aig_unroll.proofs.parts.first_latches.Goals as goal
 pub loop-latch-preserved : goal.loop-latch-preserved
 loop-latch-preserved c = elim c.if-is_uninitialised.branch [
   | then-is_uninitialised+in_ok-push w ↦
-      (let (variable, items) = first_more c.args.latches.now c.args.behind c.loop-latch.variable
+      (let (variable, items) = first_more c.args.latches.now c.args.offset c.loop-latch.variable
       c.if-is_uninitialised.variable c.loop-latch.new c.if-is_uninitialised.new c.loop-latch.latch-index w.new.result
       c.latch-item.result true c.loop-latch-test.true c.latch-item.is
       (sym c.is_uninitialised.ensures ∙ w.if-is_uninitialised.true) c.loop-latch.invariant.variable
@@ -14,7 +14,7 @@ loop-latch-preserved c = elim c.if-is_uninitialised.branch [
       (w.new.ensures ∙ omega (arith, w.variable-is)) in
       record { variable = variable; new = items })
   | else-is_uninitialised+in_ok-push-2 w ↦
-      (let (variable, items) = first_more c.args.latches.now c.args.behind c.loop-latch.variable
+      (let (variable, items) = first_more c.args.latches.now c.args.offset c.loop-latch.variable
       c.if-is_uninitialised.variable c.loop-latch.new c.if-is_uninitialised.new c.loop-latch.latch-index
       c.latch-item.result.reset c.latch-item.result false c.loop-latch-test.true c.latch-item.is
       (sym c.is_uninitialised.ensures ∙ w.if-is_uninitialised.false) c.loop-latch.invariant.variable

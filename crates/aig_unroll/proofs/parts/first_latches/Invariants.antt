@@ -6,6 +6,6 @@ use Rattle.aig_unroll.proofs.parts.first_latches.Given as goal
 
 abbrev pub invariant-loop-latch : goal.invariant-loop-latch
 invariant-loop-latch l = record {
-  variable : l.variable ≡ l.behind + uninitialised (take l.latch-index l.latches);
-  new : l.new ≡ map (first_at l.latches l.behind) (range_with_len 0 l.latch-index);
+  variable : l.variable ≡ l.offset + uninitialised (take l.latch-index l.latches);
+  new : l.new ≡ map (first_at l.latches l.offset) (range_with_len 0 l.latch-index);
 }

@@ -5,4 +5,4 @@ pub returns-in_err-put_line : goal.returns-in_err-put_line
 returns-in_err-put_line g c = written_part c.clear.ensures c.in_err-put_line.ensures c.from_residual.ensures.0
 
 pub returns : goal.returns
-returns g c = written_whole c.clear.ensures c.in_ok-put_line.ensures c.hand_on.ensures.written
+returns g c = written_whole c.clear.ensures c.in_ok-put_line.ensures c.forward.ensures.written

@@ -11,7 +11,7 @@ use Rattle.aig_base.proofs.circuit.Circuit.append_gate.Goals as goal
 pub invariant_of-self : goal.invariant_of-self
 invariant_of-self c = (
   c.self.invariant.0,
-  c.make_room.ensures.tells c.self.inside.raw c.self.invariant.1,
+  c.make_room.ensures.describes c.self.inside.raw c.self.invariant.1,
   c.self.invariant.2,
 )
 
@@ -19,7 +19,7 @@ pub invariant_of-self-in_err-push : goal.invariant_of-self-in_err-push
 invariant_of-self-in_err-push c =
     rw c.in_err-push.ensures.err (
       c.self.invariant.0,
-      c.make_room.ensures.tells c.self.inside.raw c.self.invariant.1,
+      c.make_room.ensures.describes c.self.inside.raw c.self.invariant.1,
       c.self.invariant.2,
     )
 
@@ -37,6 +37,6 @@ invariant_of-self-2 c =
           (subst (λ (r : Raw). IsDefined r (variable r0)) back c.requires.defined0)
           (subst (λ (r : Raw). IsDefined r (variable r1)) back c.requires.defined1),
       c.append_gate.ensures raw r0 r1 (sym c.len-position.ensures)
-          (c.make_room.ensures.tells raw c.self.invariant.1),
+          (c.make_room.ensures.describes raw c.self.invariant.1),
       rw c.forget.ensures tt,
     )

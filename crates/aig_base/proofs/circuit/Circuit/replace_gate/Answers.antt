@@ -10,7 +10,7 @@ use Rattle.aig_base.specs.Grounded.{IsAcyclic}
 use Rattle.aig_parts.specs.Literal.{variable}
 use Rattle.aig_base.specs.Sections.{IsDefined, IsLeftSide}
 use Rattle.aig_base.proofs.circuits.EntryPlaces.{left_side_defined}
-use Rattle.aig_base.proofs.rewires.Rewiring.{gate_changed, with_gate-circuit, with_gate-tells}
+use Rattle.aig_base.proofs.rewires.Rewiring.{gate_changed, with_gate-circuit, with_gate-describes}
 use Rattle.aig_base.proofs.circuit.Circuit.replace_gate.Goals as goal
 
 pub invariant_of-self : goal.invariant_of-self
@@ -29,7 +29,7 @@ invariant_of-self c =
           (subst (λ (r : Raw). IsDefined r (variable r0)) back c.requires.defined0)
           (subst (λ (r : Raw). IsDefined r (variable r1)) back c.requires.defined1)
           (subst (λ (r : Raw). IsAcyclic (with_gate r gate r0 r1)) back c.requires.acyclic),
-      with_gate-tells gate r0 r1 raw c.self.inside.definitions c.self.invariant.1,
+      with_gate-describes gate r0 r1 raw c.self.inside.definitions c.self.invariant.1,
       rw c.forget.ensures tt,
     )
 

@@ -8,7 +8,7 @@ use Rattle.aig_base.specs.Circuit.{IsCircuit}
 use Rattle.aig_base.specs.Definition.{Defines}
 use Rattle.aig_base.specs.Sections.{IsLatchLiteral}
 use Rattle.aig_base.proofs.circuits.EntryPlaces.{latch_literal_defined}
-use Rattle.aig_base.proofs.rewires.Rewiring.{reset_changed, with_reset-circuit, with_reset-tells}
+use Rattle.aig_base.proofs.rewires.Rewiring.{reset_changed, with_reset-circuit, with_reset-describes}
 use Rattle.aig_base.proofs.circuit.Circuit.replace_reset.Goals as goal
 
 pub invariant_of-self : goal.invariant_of-self
@@ -25,7 +25,7 @@ invariant_of-self c =
     c.in-Some.definition x c.set.new.self c.var.ensures c.in-Latch.is found c.index.ensures written in
     rw e (
       with_reset-circuit lit c.args.value raw c.self.invariant.0,
-      with_reset-tells lit c.args.value raw
+      with_reset-describes lit c.args.value raw
           c.self.inside.definitions c.self.invariant.1,
       rw c.forget.ensures tt,
     )

@@ -1,6 +1,6 @@
 use Rattle.std.proofs.Common.{◌<◌, ◌++◌, length, map, refl, sym, arith}
 use Rattle.std.proofs.lemmas.Option.{slice_get_read}
-use Rattle.aig_base.specs.state.Least.{latch_variable, gate_variable}
+use Rattle.aig_base.specs.state.LeastFaulty.{latch_variable, gate_variable}
 use Rattle.aig_parts.specs.Literal.{variable}
 use Rattle.aig_base.proofs.circuits.Entering.{entries_same, one_more}
 use Rattle.aig_base.proofs.entries.Entries.enter_gates.Goals as goal

@@ -1,6 +1,6 @@
 use Rattle.std.proofs.Common.{◌++◌, map, take}
 use Rattle.aig_base.specs.state.Entries.{AreEntries}
-use Rattle.aig_base.specs.state.Least.{latch_variable}
+use Rattle.aig_base.specs.state.LeastFaulty.{latch_variable}
 use Rattle.aig_parts.specs.Literal.{variable}
 use Rattle.aig_base.proofs.entries.Entries.enter_latches.Given as goal
 

@@ -2,19 +2,19 @@ use Rattle.std.proofs.Common.{◌∙◌, ◌≡◌, ◌<◌, ℕ, length, subst,
 use Rattle.std.proofs.lemmas.List.{with_items_is}
 use Rattle.std.specs.Vec.{with_items}
 use Rattle.aig_base.specs.state.FanOuts.{AreFanOuts, FanOutLists}
-use Rattle.aig_base.specs.state.ReaderSlots.{AddsBoth, Fits, tally}
+use Rattle.aig_base.specs.state.ReaderSlots.{AddsBoth, FitsOneReader, tally}
 use Rattle.aig_base.proofs.fan_outs.ListPlaceLemmas.{place_covered}
 use Rattle.aig_base.proofs.fan_outs.TidyLists.{added, narrow_tidy}
 use Rattle.aig_base.proofs.fan_out_lists.FanOuts.add_to_both.Goals as goal
 
 pub add_to_lists-new-requires-clause-room0 : goal.add_to_lists-new-requires-clause-room0
 add_to_lists-new-requires-clause-room0 c =
-    rw c.deref_mut.ensures.value (subst (λ (f : FanOutLists). Fits f.slots c.args.first) (sym c.self.view_is)
+    rw c.deref_mut.ensures.value (subst (λ (f : FanOutLists). FitsOneReader f.slots c.args.first) (sym c.self.view_is)
     c.requires.room0)
 
 pub add_to_lists-new-requires-clause-room1 : goal.add_to_lists-new-requires-clause-room1
 add_to_lists-new-requires-clause-room1 c =
-    rw c.deref_mut.ensures.value (subst (λ (f : FanOutLists). Fits f.slots c.args.second) (sym c.self.view_is)
+    rw c.deref_mut.ensures.value (subst (λ (f : FanOutLists). FitsOneReader f.slots c.args.second) (sym c.self.view_is)
     c.requires.room1)
 
 pub add_to_lists-new-requires-clause-narrow : goal.add_to_lists-new-requires-clause-narrow
@@ -24,7 +24,7 @@ add_to_lists-new-requires-clause-narrow c =
 pub write_places-requires-clause-first : goal.write_places-requires-clause-first
 write_places-requires-clause-first c =
     let slots = c.self.inside.lists.items in
-    let room = subst (λ (f : FanOutLists). Fits f.slots c.args.first) (sym c.self.view_is) c.requires.room0 in
+    let room = subst (λ (f : FanOutLists). FitsOneReader f.slots c.args.first) (sym c.self.view_is) c.requires.room0 in
     let gate : c.args.gate < length slots = omega (arith, ap (λ (f : FanOutLists). length f.slots) c.self.view_is) in
     let stands = rw c.deref_mut.ensures.value at c.add_to_lists-new.ensures.stands in
     rw c.deref_mut-2.ensures.value
@@ -34,7 +34,7 @@ write_places-requires-clause-first c =
 pub write_places-requires-clause-second : goal.write_places-requires-clause-second
 write_places-requires-clause-second c =
     let slots = c.self.inside.lists.items in
-    let room = subst (λ (f : FanOutLists). Fits f.slots c.args.second) (sym c.self.view_is) c.requires.room1 in
+    let room = subst (λ (f : FanOutLists). FitsOneReader f.slots c.args.second) (sym c.self.view_is) c.requires.room1 in
     let gate : c.args.gate < length slots = omega (arith, ap (λ (f : FanOutLists). length f.slots) c.self.view_is) in
     let stands = rw c.deref_mut.ensures.value at c.add_to_lists-new.ensures.stands in
     rw c.deref_mut-2.ensures.value

@@ -2,7 +2,7 @@ use Rattle.std.proofs.Common.{◌∙◌, ◌<◌, ◌≤◌, ℕ, List, length, 
 use Rattle.std.specs.Vec.{vec_capacity}
 use Rattle.aig_parts.specs.Literal.{variable}
 use Rattle.aig_base.specs.state.FanOuts.{FanOutLists}
-use Rattle.aig_base.specs.state.ReaderSlots.{Fits}
+use Rattle.aig_base.specs.state.ReaderSlots.{FitsOneReader}
 use Rattle.aig_base.proofs.fan_outs.ReaderLists.{fits_pushed, push_same}
 use Rattle.aig_base.proofs.fan_outs.TidyLists.{absent_over, fitting_capacity, pushed}
 use Rattle.aig_base.proofs.fan_out_lists.FanOuts.append_list.Goals as goal
@@ -27,13 +27,13 @@ pub add_to_both-requires-clause-room0 : goal.add_to_both-requires-clause-room0
 add_to_both-requires-clause-room0 c =
     rw (c.push_reserved.ensures.items, c.var.ensures)
     (fits_pushed c.self.inside.lists.items c.new.result _
-    (subst (λ (f : FanOutLists). Fits f.slots (variable c.args.gate.now.rhs0)) (sym c.self.view_is) c.requires.room0))
+    (subst (λ (f : FanOutLists). FitsOneReader f.slots (variable c.args.gate.now.rhs0)) (sym c.self.view_is) c.requires.room0))
 
 pub add_to_both-requires-clause-room1 : goal.add_to_both-requires-clause-room1
 add_to_both-requires-clause-room1 c =
     rw (c.push_reserved.ensures.items, c.var-2.ensures)
     (fits_pushed c.self.inside.lists.items c.new.result _
-    (subst (λ (f : FanOutLists). Fits f.slots (variable c.args.gate.now.rhs1)) (sym c.self.view_is) c.requires.room1))
+    (subst (λ (f : FanOutLists). FitsOneReader f.slots (variable c.args.gate.now.rhs1)) (sym c.self.view_is) c.requires.room1))
 
 pub add_to_both-requires-clause-absent : goal.add_to_both-requires-clause-absent
 add_to_both-requires-clause-absent c =

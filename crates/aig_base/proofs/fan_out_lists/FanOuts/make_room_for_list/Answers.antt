@@ -1,7 +1,7 @@
 use Rattle.std.proofs.Common.{◌+◌, ◌<◌, ◌≤◌, length, subst, sym, ap, arith}
 use Rattle.std.specs.Vec.{vec_capacity}
 use Rattle.aig_base.specs.state.FanOuts.{AreFanOuts, FanOutLists}
-use Rattle.aig_base.specs.state.ReaderSlots.{Fits, Keeps}
+use Rattle.aig_base.specs.state.ReaderSlots.{FitsOneReader, KeepsLists}
 use Rattle.aig_base.proofs.fan_outs.ListPlaceLemmas.{kept_more}
 use Rattle.aig_base.proofs.fan_outs.ReaderLists.{on_ok}
 use Rattle.aig_base.proofs.fan_outs.TidyLists.{fits_one_more}
@@ -17,7 +17,7 @@ invariant_of-self-2 c = rw c.reserve.ensures.items (record {
 pub returns-clause-keeps : goal.returns-clause-keeps
 returns-clause-keeps c =
     rw c.reserve.ensures.items
-    (subst (λ (f : FanOutLists). Keeps c.args.self.now.slots f.slots) (sym c.self.view_is)
+    (subst (λ (f : FanOutLists). KeepsLists c.args.self.now.slots f.slots) (sym c.self.view_is)
     c.make_room_at_both.ensures.keeps)
 
 pub returns-clause-list : goal.returns-clause-list
@@ -32,5 +32,5 @@ pub returns-clause-room : goal.returns-clause-room
 returns-clause-room c =
     on_ok c.cover_more.result _ _ (λ covers.
     rw c.reserve.ensures.items
-    (subst (λ (f : FanOutLists). Fits f.slots c.args.first × Fits f.slots c.args.second) (sym c.self.view_is)
+    (subst (λ (f : FanOutLists). FitsOneReader f.slots c.args.first × FitsOneReader f.slots c.args.second) (sym c.self.view_is)
     c.in_ok-make_room_at_both.ensures.ok)) c.cover_more.ensures.covers

@@ -1,5 +1,5 @@
 use Rattle.std.proofs.Common.{◌∷◌, map, ap, ◌∙◌}
-use Rattle.aig_base.specs.state.Least.{latch_variable}
+use Rattle.aig_base.specs.state.LeastFaulty.{latch_variable}
 use Rattle.aig_parts.specs.Literal.{variable}
 use Rattle.aig_base.proofs.circuits.Entering.{one_more, one_more_first}
 use Rattle.aig_base.proofs.checks.Marking.{moves_from_mark, started_more, started_same}

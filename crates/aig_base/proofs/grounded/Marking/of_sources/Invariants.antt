@@ -1,5 +1,5 @@
 use Rattle.std.proofs.Common.{◌≡◌, ◌+◌, ◌<◌, ◌∷◌, ◌++◌, length, map, take, All}
-use Rattle.aig_base.specs.state.Least.{latch_variable}
+use Rattle.aig_base.specs.state.LeastFaulty.{latch_variable}
 use Rattle.aig_parts.specs.Literal.{variable}
 use Rattle.aig_base.specs.state.Marks.{AreStarted}
 use Rattle.aig_base.proofs.grounded.Marking.of_sources.Given as goal

@@ -1,11 +1,11 @@
 use Rattle.std.proofs.Common.{◌≡◌, ◌≤◌, length}
 use Rattle.aig_parts.specs.declared.raw.Raw.{Raw}
-use Rattle.aig_base.specs.state.Marks.{Moves, IsMarking}
+use Rattle.aig_base.specs.state.Marks.{AddsMarks, IsMarking}
 use Rattle.aig_base.proofs.grounded.Marking.visit_chain.Given as goal
 
 abbrev pub invariant-loop-link : goal.invariant-loop-link
 invariant-loop-link l = record {
-  moves : Moves l.initial.self.walk.met.items l.initial.self.walk.pending.items l.self.walk.met.items
+  moves : AddsMarks l.initial.self.walk.met.items l.initial.self.walk.pending.items l.self.walk.met.items
       l.self.walk.pending.items;
   levels : length l.levels ≡ length l.initial.levels;
   within : l.link ≤ length l.readers.next.items;

@@ -1,32 +1,32 @@
 use Rattle.std.proofs.Common.{◌∙◌, ap, subst, sym}
 use Rattle.aig_parts.specs.Literal.{variable}
 use Rattle.aig_base.specs.Sections.{IsGate}
-use Rattle.aig_base.proofs.rewires.BehindLemmas.{acyclic_from_before, cycle_from_behind}
+use Rattle.aig_base.proofs.rewires.FanOutLemmas.{acyclic_from_before, cycle_from_fan_out}
 use Rattle.aig_base.proofs.circuits.Gates.{IsGate-of_gate}
 use Rattle.aig_base.proofs.checks.Walks.{the_gate}
 use Rattle.aig_base.proofs.level.Levels.rewire.Goals as goal
 
-pub is_behind-requires-clause-gate : goal.is_behind-requires-clause-gate
-is_behind-requires-clause-gate c =
+pub is_in_fan_out-requires-clause-gate : goal.is_in_fan_out-requires-clause-gate
+is_in_fan_out-requires-clause-gate c =
     let raw = c.args.circuit.now in
     let (g, q, at, is) = the_gate raw c.max_var.ensures.circuit.sound c.args.gate c.args.r0 c.args.r1 c.requires.gate in
     subst (IsGate raw) (ap variable is ∙ sym c.var.ensures) (IsGate-of_gate raw q g at)
 
-pub returns-then-is_behind-clause-cycle : goal.returns-then-is_behind-clause-cycle
-returns-then-is_behind-clause-cycle c =
-    cycle_from_behind c.args.circuit.now c.max_var.ensures.circuit.sound c.args.gate c.args.r0 c.args.r1 c.requires.gate
-    (rw (c.var.ensures, c.var-2.ensures, c.var-3.ensures) at c.if-is_behind.ensures.behind)
+pub returns-then-is_in_fan_out-clause-cycle : goal.returns-then-is_in_fan_out-clause-cycle
+returns-then-is_in_fan_out-clause-cycle c =
+    cycle_from_fan_out c.args.circuit.now c.max_var.ensures.circuit.sound c.args.gate c.args.r0 c.args.r1 c.requires.gate
+    (rw (c.var.ensures, c.var-2.ensures, c.var-3.ensures) at c.if-is_in_fan_out.ensures.reached)
 
 pub returns-clause-acyclic : goal.returns-clause-acyclic
 returns-clause-acyclic c =
-    let apart = rw (c.var.ensures, c.var-2.ensures, c.var-3.ensures) at c.if-is_behind.ensures.none in
+    let apart = rw (c.var.ensures, c.var-2.ensures, c.var-3.ensures) at c.if-is_in_fan_out.ensures.none in
     acyclic_from_before c.args.circuit.now c.max_var.ensures.circuit.sound c.args.gate c.args.r0 c.args.r1
     c.requires.gate
     c.max_var.ensures.circuit.acyclic c.requires.defined0 c.requires.defined1 apart.0 apart.1
 
 pub renew-requires-clause-changed : goal.renew-requires-clause-changed
 renew-requires-clause-changed c =
-    let apart = rw (c.var.ensures, c.var-2.ensures, c.var-3.ensures) at c.if-is_behind.ensures.none in
+    let apart = rw (c.var.ensures, c.var-2.ensures, c.var-3.ensures) at c.if-is_in_fan_out.ensures.none in
     record {
       gate = c.requires.gate;
       defined0 = c.requires.defined0;

@@ -55,7 +55,7 @@ pub add_variable-requires-2-clause-empty : goal.add_variable-requires-2-clause-e
 add_variable-requires-2-clause-empty g c =
     let k = held c.engine.invariant c.engine.view_is c.self.invariant in
     let r = c.make_room.ensures.ready c.engine.inside.driven k in
-    r.idle.waits
+    r.idle.queued
 
 pub invariant_of-engine-in-Break-branch-4 : goal.invariant_of-engine-in-Break-branch-4
 invariant_of-engine-in-Break-branch-4 g c =

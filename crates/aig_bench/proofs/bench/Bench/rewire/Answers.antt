@@ -2,13 +2,13 @@ use Rattle.std.proofs.Common.{arith, ◌∙◌, refl, ap, sym, subst, [], ◌∷
 use Rattle.aig_base.specs.Changes.{with_gate}
 use Rattle.aig_bench.specs.declared.driven_circuit.DrivenCircuit.{DrivenCircuit}
 use Rattle.aig_bench.specs.Edit.{Edits, rewire}
-use Rattle.aig_bench.specs.Pair.{Pair}
+use Rattle.aig_bench.specs.BenchState.{CircuitAndRows}
 use Rattle.aig_bench.specs.state.DrivenCircuit.{pair_of}
 use Rattle.aig_bench.specs.state.Engine.{EngineState, IsSettled}
-use Rattle.aig_bench.specs.state.Renewed.{IsBehind, RenewsAll}
+use Rattle.aig_bench.specs.state.Renewed.{IsStaleFrom, RenewsAll}
 use Rattle.aig_bench.proofs.renewals.Engines.{held, settled_renewed}
 use Rattle.aig_bench.proofs.edits.Edited.{none_current, all_latches, all_next, all_consistent, all_touched, all_changed, follows_rewire, forces_gate, gate_forced}
-use Rattle.aig_bench.proofs.edits.FourReaders.{handed_fault, no_memory}
+use Rattle.aig_bench.proofs.edits.FourReaders.{passed_fault, no_memory}
 use Rattle.aig_bench.proofs.edits.Refusals.{lacking, rewire_refused, rewire_allowed}
 use Rattle.aig_bench.proofs.edits.Rewired.{driven_rewired}
 use Rattle.aig_bench.proofs.bench.Bench.rewire.Goals as goal
@@ -28,7 +28,7 @@ returns-in_err-replace_gate-clause-edits g c =
     let same = ap (λ (s : EngineState). s.pair) (rw (← c.engine.view_is) at h.same) in
     let cycle = rw (← c.engine.view_is) at h.cycle in
     rw (← c.self.view_is, ← c.engine.view_is)
-    (subst (λ (q : Pair). Edits p (rewire c.args.lhs c.args.r0 c.args.r1) c.from_residual-in_err-replace_gate.result q) (sym same)
+    (subst (λ (q : CircuitAndRows). Edits p (rewire c.args.lhs c.args.r0 c.args.r1) c.from_residual-in_err-replace_gate.result q) (sym same)
     (lacking p (rewire c.args.lhs c.args.r0 c.args.r1) c.from_residual-in_err-replace_gate.result
     c.in_err-replace_gate.field-0.0 c.from_residual-in_err-replace_gate.ensures.1
     (rewire_refused p c.args.lhs c.args.r0 c.args.r1 c.in_ok-check_rewire.ensures.gate c.in_ok-check_rewire.ensures.range
@@ -36,14 +36,14 @@ returns-in_err-replace_gate-clause-edits g c =
 
 pub returns-in_err-check_rewire-clause-memory : goal.returns-in_err-check_rewire-clause-memory
 returns-in_err-check_rewire-clause-memory g c =
-    handed_fault _ c.from_residual.result c.in_err-check_rewire.field-0.0 c.from_residual.ensures.1
+    passed_fault _ c.from_residual.result c.in_err-check_rewire.field-0.0 c.from_residual.ensures.1
     (λ e. absurd (no_memory (pair_of c.engine.inside.driven) c.args.lhs c.args.r0 c.args.r1 c.in_err-check_rewire.field-0.0
     c.in_err-check_rewire.ensures.fault e))
 
 pub returns-in_err-replace_gate-clause-memory : goal.returns-in_err-replace_gate-clause-memory
 returns-in_err-replace_gate-clause-memory g c =
     rw (← c.self.view_is, ← c.engine.view_is)
-    (handed_fault _ c.from_residual-in_err-replace_gate.result c.in_err-replace_gate.field-0.0
+    (passed_fault _ c.from_residual-in_err-replace_gate.result c.in_err-replace_gate.field-0.0
     c.from_residual-in_err-replace_gate.ensures.1 (rw (← c.engine.view_is) at c.in_err-replace_gate.ensures.memory))
 
 pub renew_from-requires : goal.renew_from-requires
@@ -58,8 +58,8 @@ renew_from-requires g c =
     let new : DrivenCircuit = record driven { circuit = with_gate driven.circuit c.args.lhs c.args.r0 c.args.r1 } in
     let now = driven_rewired driven new c.args.lhs c.args.r0 c.args.r1 w.driven_is refl refl d.0 d.1 acyclic in
     let follows = follows_rewire driven new c.args.lhs c.args.r0 c.args.r1 x c.var.ensures refl refl in
-    subst (λ (s : EngineState). IsBehind s (x ∷ []) 0) (sym rewired) (record {
-      waits = k.idle.waits;
+    subst (λ (s : EngineState). IsStaleFrom s (x ∷ []) 0) (sym rewired) (record {
+      queued = k.idle.queued;
       ahead = k.idle.ahead;
       cells = record {
         first_is = omega arith;

@@ -1,5 +1,5 @@
 use Rattle.std.proofs.Common.{refl, rules, arith}
-use Rattle.aig_bench.proofs.edits.Edited.{lists_for, bit_latches, bit_next, bit_before, bit_consistent, bit_here, bit_behind, bit_below, bit_touched, bit_changed}
+use Rattle.aig_bench.proofs.edits.Edited.{lists_for, bit_latches, bit_next, bit_before, bit_consistent, bit_here, bit_stale, bit_below, bit_touched, bit_changed}
 use Rattle.aig_bench.proofs.renewals.Engines.{held, settled_renewed}
 use Rattle.aig_bench.proofs.bench.Bench.set_bit.Goals as goal
 
@@ -13,8 +13,8 @@ invariant_of-engine g c =
       orders = c.engine.invariant.orders;
     }
 
-pub renew_input-requires-clause-behind : goal.renew_input-requires-clause-behind
-renew_input-requires-clause-behind g c =
+pub renew_input-requires-clause-stale : goal.renew_input-requires-clause-stale
+renew_input-requires-clause-stale g c =
     let k = held c.engine.invariant c.engine.view_is c.self.invariant in
     record {
       idle = k.idle;
@@ -24,7 +24,7 @@ renew_input-requires-clause-behind g c =
           c.args.value k.working c.set.ensures (omega (arith, c.if-frame-frames.false, c.frames.ensures.frames));
       here = bit_here c.engine.inside.driven c.engine.inside.fanouts c.engine.inside.pending.buckets _ _ c.set.new.self c.args.frame c.args.position
           c.args.value k.working c.set.ensures (omega (arith, c.if-frame-frames.false, c.frames.ensures.frames));
-      behind = bit_behind c.engine.inside.driven c.engine.inside.fanouts c.engine.inside.pending.buckets _ _ c.set.new.self c.args.frame c.args.position
+      stale = bit_stale c.engine.inside.driven c.engine.inside.fanouts c.engine.inside.pending.buckets _ _ c.set.new.self c.args.frame c.args.position
           c.args.value k.working c.set.ensures (omega (arith, c.if-frame-frames.false, c.frames.ensures.frames));
       latches = bit_latches c.engine.inside.driven c.engine.inside.fanouts c.engine.inside.pending.buckets _ _ c.set.new.self c.args.frame c.args.position
           c.args.value k.working c.set.ensures (omega (arith, c.if-frame-frames.false, c.frames.ensures.frames));

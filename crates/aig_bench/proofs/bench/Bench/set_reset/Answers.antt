@@ -2,7 +2,7 @@ use Rattle.std.proofs.Common.{◌≡◌, ◌∙◌, inr, suc, Some, slice_get, l
 use Rattle.std.proofs.lemmas.Option.{slice_get_within}
 use Rattle.aig_parts.specs.declared.raw.Raw.{Raw}
 use Rattle.aig_bench.specs.Edit.{set_reset}
-use Rattle.aig_bench.specs.Pair.{Pair}
+use Rattle.aig_bench.specs.BenchState.{CircuitAndRows}
 use Rattle.aig_bench.specs.state.DrivenCircuit.{pair_of}
 use Rattle.aig_bench.proofs.renewals.Engines.{held, settled_renewed}
 use Rattle.aig_bench.proofs.renewals.Changed.{driven_restarted, laid_out_restarted, levels_restarted, readers_restarted}
@@ -51,7 +51,7 @@ renew_from-requires g c =
     let follows = follows_reset driven _ c.args.latch c.args.value e in
     let sound = (driven_restarted driven _ c.args.latch c.args.value w.driven_is e).circuit.sound in
     record {
-      waits = k.idle.waits;
+      queued = k.idle.queued;
       ahead = k.idle.ahead;
       cells = record {
         first_is = omega arith;
@@ -102,7 +102,7 @@ returns-clause-works g c =
     let e = c.replace_reset.ensures in
     let follows = follows_reset driven _ c.args.latch c.args.value e in
     let sound = (driven_restarted driven _ c.args.latch c.args.value w.driven_is e).circuit.sound in
-    let is = ap (λ (x : Raw). let p : Pair = record { circuit = x; rows = driven.stimulus.rows } in p) e in
+    let is = ap (λ (x : Raw). let p : CircuitAndRows = record { circuit = x; rows = driven.stimulus.rows } in p) e in
     rw (← c.self.view_is, ← c.engine.view_is) (
       all_touched driven (record driven { circuit = c.replace_reset.new.self }) c.engine.inside.fanouts c.engine.inside.pending.buckets _ _ [] k.working follows sound refl
           (set_reset c.args.latch c.args.value) is (forces_none (pair_of driven) c.args.latch c.args.value)
@@ -119,5 +119,5 @@ returns-clause-edits g c =
     rw (← c.self.view_is, ← c.engine.view_is) (
       reset_allowed (pair_of driven) c.args.latch c.args.value
           (latch_at_named driven.circuit c.args.latch c.in_ok-position.position c.in_ok-position.ensures.latch),
-      c.renew_from.ensures.renews.pair ∙ ap (λ (x : Raw). let p : Pair = record { circuit = x; rows = driven.stimulus.rows } in p) c.replace_reset.ensures,
+      c.renew_from.ensures.renews.pair ∙ ap (λ (x : Raw). let p : CircuitAndRows = record { circuit = x; rows = driven.stimulus.rows } in p) c.replace_reset.ensures,
     )

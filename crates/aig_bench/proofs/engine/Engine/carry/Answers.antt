@@ -6,7 +6,7 @@ use Rattle.aig_parts.specs.Literal.{variable}
 use Rattle.aig_base.specs.state.Marks.{IsMarked}
 use Rattle.aig_base.specs.Sound.{IsSound}
 use Rattle.aig_values.specs.InputRows.{row_at}
-use Rattle.aig_bench.specs.Pair.{Pair}
+use Rattle.aig_bench.specs.BenchState.{CircuitAndRows}
 use Rattle.aig_bench.specs.state.Engine.{EngineState}
 use Rattle.aig_bench.specs.state.Entry.{Puts}
 use Rattle.aig_bench.proofs.renewals.Engines.{row_here, row_then}
@@ -52,13 +52,13 @@ loop-number-preserved g c =
       before = rw k.row.pair (before_kept (pair_of s.driven) c.args.frame _ _ (rw (← c.self.view_is) at i.before) k.row.others);
       row = row_then c.args.frame _ _ _ _ _ _ (row_here c.args.frame 0 _ _ c.take.new.self.marks.items rows) k.row refl;
       carries = rw k.here (carries_more p c.args.frame
-          (subst (λ (q : Pair). IsSound q.circuit) same c.self.invariant.work.driven_is.circuit.sound)
+          (subst (λ (q : CircuitAndRows). IsSound q.circuit) same c.self.invariant.work.driven_is.circuit.sound)
           (λ j. IsMarked c.args.self.now.here (suc j) × (IsMarked s.pending.here.marks.items (suc j) → ⊥))
           (λ j. IsMarked c.args.self.now.here (suc j) × (IsMarked c.take.new.self.marks.items (suc j) → ⊥))
           (number - 1) x _ _ _ _ _ _
-          (subst (λ (q : Pair). slice_get q.circuit.latches (number - 1) ≡ Some x) same at) carries
-          (subst (λ (q : Pair). Puts q c.args.frame (variable x.lit) (row_at (g.G.Grid.cells s.grid) c.args.frame)
-          s.pending.buckets.marks.items (row_at c.put_latch.new.self.cells c.args.frame) c.put_latch.new.self.waits) same k.puts)
+          (subst (λ (q : CircuitAndRows). slice_get q.circuit.latches (number - 1) ≡ Some x) same at) carries
+          (subst (λ (q : CircuitAndRows). Puts q c.args.frame (variable x.lit) (row_at (g.G.Grid.cells s.grid) c.args.frame)
+          s.pending.buckets.marks.items (row_at c.put_latch.new.self.cells c.args.frame) c.put_latch.new.self.queued) same k.puts)
           (taken_or c.args.self.now.here s.pending.here.marks.items c.take.new.self.marks.items number positive c.in-Some.ensures.left));
     }
 

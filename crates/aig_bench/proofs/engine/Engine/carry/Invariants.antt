@@ -14,7 +14,7 @@ invariant-loop-number g l = record {
   row : ChangesRow l.frame 0 l.initial.self l.self;
   carries : Carries l.initial.self.pair l.frame
       (λ i. IsMarked l.initial.self.here (suc i) × (IsMarked l.self.here (suc i) → ⊥))
-      (row_at l.initial.self.cells l.frame) l.initial.self.waits (row_at l.self.cells l.frame) l.self.waits;
+      (row_at l.initial.self.cells l.frame) l.initial.self.queued (row_at l.self.cells l.frame) l.self.queued;
 }
 
 abbrev pub decreases-loop-number : goal.decreases-loop-number

@@ -1,7 +1,7 @@
 use Rattle.std.proofs.Common.{◌∙◌, ◌<◌, length, ap, sym, subst}
 use Rattle.aig_values.specs.InputRows.{row_at}
-use Rattle.aig_bench.specs.Pair.{Pair}
-use Rattle.aig_bench.specs.state.Current.{HoldsInputs, HoldsLatches, IsCurrentRow}
+use Rattle.aig_bench.specs.BenchState.{CircuitAndRows}
+use Rattle.aig_bench.specs.state.Current.{HoldsInputsInPair, HoldsLatchesInPair, IsCurrentRow}
 use Rattle.aig_bench.specs.state.Engine.{EngineState}
 use Rattle.aig_bench.proofs.new_frames.Filling.{pair_kept, still_inputs, still_latches}
 use Rattle.aig_bench.proofs.new_frames.Swept.{current_swept, laid_out_swept}
@@ -17,7 +17,7 @@ invariant_of-self g c =
     let d = c.fill_latches.new.self in
     let same = ap (λ (s : EngineState). s.pair) c.self.view_is ∙ pair_kept b d c.fill_latches.ensures.fills.same
     ∙ pair_kept a b c.fill_inputs.ensures.fills.same in
-    let lt = subst (λ (p : Pair). t < length p.rows) (sym same) c.requires.frame in
+    let lt = subst (λ (p : CircuitAndRows). t < length p.rows) (sym same) c.requires.frame in
     record {
       work = record {
         driven_is = w.driven_is;
@@ -44,10 +44,10 @@ returns-clause-current g c =
     let x = c.fill_inputs.ensures in
     let y = c.fill_latches.ensures in
     let same = ap (λ (s : EngineState). s.pair) c.self.view_is ∙ pair_kept b d y.fills.same ∙ pair_kept a b x.fills.same in
-    let lt = subst (λ (p : Pair). t < length p.rows) (sym same) c.requires.frame in
-    subst (λ (p : Pair). IsCurrentRow p t (row_at (g.G.Grid.cells c.sweep.new.grid) t)) same
+    let lt = subst (λ (p : CircuitAndRows). t < length p.rows) (sym same) c.requires.frame in
+    subst (λ (p : CircuitAndRows). IsCurrentRow p t (row_at (g.G.Grid.cells c.sweep.new.grid) t)) same
     (current_swept c.self.inside.driven _ (g.G.Grid.gate_flags c.sweep.new.grid) _ _ t gates w.driven_is w.laid_out lt full e
-    (subst (λ (s : EngineState). HoldsInputs s.pair t (row_at s.cells t)) (sym c.self.view_is)
+    (subst (λ (s : EngineState). HoldsInputsInPair s.pair t (row_at s.cells t)) (sym c.self.view_is)
     (still_inputs t a b d x.fills y.fills y.keeps x.inputs))
-    (subst (λ (s : EngineState). HoldsLatches s.pair t (row_at s.cells t)) (sym c.self.view_is)
+    (subst (λ (s : EngineState). HoldsLatchesInPair s.pair t (row_at s.cells t)) (sym c.self.view_is)
     (still_latches t a b d x.fills y.fills y.keeps y.latches)))

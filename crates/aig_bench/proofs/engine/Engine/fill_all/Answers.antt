@@ -1,10 +1,10 @@
 use Rattle.std.proofs.Common.{◌≡◌, ◌+◌, refl, arith, length, ap, sym, subst}
 use Rattle.aig_values.specs.InputRows.{row_at}
-use Rattle.aig_bench.specs.declared.order.Way.{Way}
-use Rattle.aig_bench.specs.Pair.{Pair}
+use Rattle.aig_bench.specs.declared.sweep_order.Way.{Way}
+use Rattle.aig_bench.specs.BenchState.{CircuitAndRows}
 use Rattle.aig_bench.specs.state.Current.{IsCurrentBefore, IsCurrentRow}
 use Rattle.aig_bench.specs.state.Engine.{EngineState}
-use Rattle.aig_bench.specs.state.SweepOrder.{IsKnown}
+use Rattle.aig_bench.specs.state.SweepOrder.{IsKnownOrder}
 use Rattle.aig_bench.proofs.edits.Edited.{before_first, current_more, fewer_current, none_current}
 use Rattle.aig_bench.proofs.new_frames.Filling.{cells_then, pair_kept}
 use Rattle.aig_bench.proofs.passes.EveryGate.{none_yet, once_more}
@@ -21,12 +21,12 @@ loop-frame-init g c =
 
 pub fill-requires-clause-known : goal.fill-requires-clause-known
 fill-requires-clause-known g c =
-    subst (λ (w : Way). IsKnown w) (sym (ap (λ (s : EngineState). s.way) c.loop-frame.invariant.fills)) c.requires.known
+    subst (λ (w : Way). IsKnownOrder w) (sym (ap (λ (s : EngineState). s.way) c.loop-frame.invariant.fills)) c.requires.known
 
 pub fill-requires-clause-before : goal.fill-requires-clause-before
 fill-requires-clause-before g c =
     let i = c.loop-frame.invariant in
-    subst (λ (p : Pair). IsCurrentBefore p c.loop-frame.frame c.loop-frame.self.cells)
+    subst (λ (p : CircuitAndRows). IsCurrentBefore p c.loop-frame.frame c.loop-frame.self.cells)
     (sym (pair_kept c.args.self.now c.loop-frame.self i.fills))
     (before_first c.args.self.now.pair c.loop-frame.frame _ i.current)
 
@@ -42,9 +42,9 @@ loop-frame-preserved g c =
     record {
       fills = cells_then a b new i.fills c.fill.ensures.fills.same;
       current = current_more a.pair t b.cells new.cells i.current
-          (subst (λ (p : Pair). IsCurrentRow p t (row_at new.cells t)) same c.fill.ensures.current) c.fill.ensures.fills.others;
+          (subst (λ (p : CircuitAndRows). IsCurrentRow p t (row_at new.cells t)) same c.fill.ensures.current) c.fill.ensures.fills.others;
       count = once_more gates t _ _ _ i.count
-          (subst (λ (p : Pair). new.evaluations ≡ b.evaluations + length p.circuit.gates) same c.fill.ensures.fills.count);
+          (subst (λ (p : CircuitAndRows). new.evaluations ≡ b.evaluations + length p.circuit.gates) same c.fill.ensures.fills.count);
     }
 
 pub returns-clause-current : goal.returns-clause-current

@@ -4,11 +4,11 @@ use Rattle.aig_base.specs.Grounded.{IsSource}
 use Rattle.aig_base.specs.Value.{start_of}
 use Rattle.aig_values.specs.InputRows.{row_at}
 use Rattle.aig_values.proofs.Evaluation.{holds_new, renews_write}
-use Rattle.aig_bench.specs.Pair.{HasValue}
-use Rattle.aig_bench.specs.state.Current.{Holds}
+use Rattle.aig_bench.specs.BenchState.{HasValue}
+use Rattle.aig_bench.specs.state.Current.{HoldsInPair}
 use Rattle.aig_bench.specs.state.DrivenCircuit.{pair_of}
 use Rattle.aig_bench.specs.state.Engine.{EngineState}
-use Rattle.aig_bench.specs.state.Filled.{KeepsValues}
+use Rattle.aig_bench.specs.state.Filled.{KeepsRowValues}
 use Rattle.aig_bench.proofs.new_frames.Swept.{row_put, source_inside}
 use Rattle.aig_bench.proofs.passes.Puts.{no_gate, put_others, put_work}
 use Rattle.aig_bench.proofs.engine.Engine.fill_source.Goals as goal
@@ -52,8 +52,8 @@ returns g c =
         others = put_others _ _ _ _ _ _ _ w lt c.requires.positive source _ c.args.value c.put_source.ensures.cells;
         count = omega (arith, c.put_source.ensures.count);
       };
-      keeps = subst (KeepsValues (pair_of driven) c.args.frame old) (sym is)
+      keeps = subst (KeepsRowValues (pair_of driven) c.args.frame old) (sym is)
           (renews_write driven.circuit (start_of driven.circuit) driven.stimulus.rows c.args.frame old c.args.variable c.args.value wide value);
-      holds = subst (λ (row : List Tern). Holds (pair_of driven) c.args.frame row c.args.variable) (sym is)
+      holds = subst (λ (row : List Tern). HoldsInPair (pair_of driven) c.args.frame row c.args.variable) (sym is)
           (holds_new driven.circuit (start_of driven.circuit) driven.stimulus.rows c.args.frame old c.args.variable c.args.value wide value);
     })

@@ -2,9 +2,9 @@ use Rattle.std.proofs.Common.{◌≡◌, inl, inr, suc, Contains, sym, subst, ar
 use Rattle.aig_base.specs.state.Marks.{IsMarked}
 use Rattle.aig_base.specs.Sound.{IsSound}
 use Rattle.aig_values.specs.InputRows.{row_at}
-use Rattle.aig_bench.specs.Pair.{Pair}
+use Rattle.aig_bench.specs.BenchState.{CircuitAndRows}
 use Rattle.aig_bench.specs.state.Engine.{EngineState, IsClear}
-use Rattle.aig_bench.specs.state.Sweep.{Ends, Starts}
+use Rattle.aig_bench.specs.state.Sweep.{PassEnds, PassStarts}
 use Rattle.aig_bench.specs.state.Passing.{IsConsistent}
 use Rattle.aig_bench.proofs.carries.Carrying.{started}
 use Rattle.aig_bench.proofs.renewals.Engines.{row_then}
@@ -26,10 +26,10 @@ returns-clause-passes g c =
       none = subst IsClear (sym last.here) first.none;
       few = last.few;
       ends = λ forced old put fits entering rest latches.
-          subst (λ (p : Pair). Ends p t (Contains forced) old (row_at new.cells t) new.waits c.settle.result.evaluated c.settle.result.changed) same
-          (last.ends forced old (subst (λ (p : Pair). IsConsistent p (Contains forced) old) (sym same) fits)
-          (subst (λ (p : Pair). Starts p t (Contains forced) old (row_at mid.cells t) mid.waits) (sym same)
-          (started s.pair t sound (λ i. IsMarked s.here (suc i)) forced old (row_at s.cells t) (row_at mid.cells t) s.waits mid.waits put
+          subst (λ (p : CircuitAndRows). PassEnds p t (Contains forced) old (row_at new.cells t) new.queued c.settle.result.evaluated c.settle.result.changed) same
+          (last.ends forced old (subst (λ (p : CircuitAndRows). IsConsistent p (Contains forced) old) (sym same) fits)
+          (subst (λ (p : CircuitAndRows). PassStarts p t (Contains forced) old (row_at mid.cells t) mid.queued) (sym same)
+          (started s.pair t sound (λ i. IsMarked s.here (suc i)) forced old (row_at s.cells t) (row_at mid.cells t) s.queued mid.queued put
           (λ i x at. elim (marked_or_not s.here (suc i)) [ inl m ↦ inl m | inr out ↦ inr (latches i x at out) ])
           first.carries entering rest)));
     }

@@ -1,9 +1,9 @@
 use Rattle.std.proofs.Common.{◌*◌, ◌<◌, length, refl, rules, sym, subst}
 use Rattle.aig_base.specs.Grounded.{IsSource}
-use Rattle.aig_base.specs.Readers.{Reads}
-use Rattle.aig_bench.specs.Pair.{HasValue}
+use Rattle.aig_base.specs.Readers.{ReadsVariable}
+use Rattle.aig_bench.specs.BenchState.{HasValue}
 use Rattle.aig_bench.specs.state.Engine.{EngineState}
-use Rattle.aig_bench.proofs.passes.Puts.{waits_kept, put_moves, put_others, put_hands, put_hands_none, in_range, inside_flags, inside_readers, no_gate, put_work, source_readers_fit, source_linked, waits_put, not_the_value}
+use Rattle.aig_bench.proofs.passes.Puts.{queued_kept, put_moves, put_others, put_next_latches, put_next_latches_none, in_range, inside_flags, inside_readers, no_gate, put_work, source_readers_fit, source_linked, queued_put, not_the_value}
 use Rattle.aig_bench.proofs.engine.Engine.put.Goals as goal
 
 pub get-before-requires-clause-variable : goal.get-before-requires-clause-variable
@@ -86,13 +86,13 @@ returns-then-ne g c =
         pair = refl;
         levels = refl;
         others = put_others _ _ _ _ _ _ _ w lt c.requires.positive source _ c.args.value c.put_source.ensures.cells;
-        hands = put_hands _ _ _ _ _ _ _ w lt c.requires.positive source _ c.args.value c.put_source.ensures.cells c.self.inside.pending.ahead c.list_all.new.list
+        next_latches = put_next_latches _ _ _ _ _ _ _ w lt c.requires.positive source _ c.args.value c.put_source.ensures.cells c.self.inside.pending.ahead c.list_all.new.list
             (c.list_all.ensures.lists c.self.inside.driven.circuit c.self.invariant.lists.readers inside);
         evaluations = search rules;
       };
       here = refl;
       puts = put_moves _ _ _ _ _ _ _ w lt c.requires.positive source _ c.args.value c.link_all.new.self c.put_source.ensures.cells value
-          (waits_put _ _ _ _ _ _ c.list-readers.result.now w c.list-readers.ensures inside c.link_all.new.self _ ne c.link_all.ensures.links);
+          (queued_put _ _ _ _ _ _ c.list-readers.result.now w c.list-readers.ensures inside c.link_all.new.self _ ne c.link_all.ensures.links);
     })
 
 pub returns-else-ne : goal.returns-else-ne
@@ -106,11 +106,11 @@ returns-else-ne g c =
         pair = refl;
         levels = refl;
         others = put_others _ _ _ _ _ _ _ w lt c.requires.positive source _ c.args.value c.put_source.ensures.cells;
-        hands = put_hands_none _ _ _ _ _ _ _ w lt c.requires.positive source _ c.args.value c.put_source.ensures.cells c.get-before.result c.get-before.ensures (search rules) _;
+        next_latches = put_next_latches_none _ _ _ _ _ _ _ w lt c.requires.positive source _ c.args.value c.put_source.ensures.cells c.get-before.result c.get-before.ensures (search rules) _;
         evaluations = search rules;
       };
       here = refl;
       puts = put_moves _ _ _ _ _ _ _ w lt c.requires.positive source _ c.args.value c.self.inside.pending.buckets c.put_source.ensures.cells value
-          (waits_kept c.self.inside.pending.buckets (Reads c.self.inside.driven.circuit) c.args.variable _ c.get-before.result c.args.value
+          (queued_kept c.self.inside.pending.buckets (ReadsVariable c.self.inside.driven.circuit) c.args.variable _ c.get-before.result c.args.value
           c.get-before.ensures (search rules));
     })

@@ -2,7 +2,7 @@ use Rattle.std.proofs.Common.{◌≡◌, ◌<◌, length, ap, sym, subst, arith}
 use Rattle.std.proofs.lemmas.Bool.{eqb-true}
 use Rattle.aig_base.specs.Sections.{IsGate}
 use Rattle.aig_base.specs.Sound.{IsSound}
-use Rattle.aig_bench.specs.Pair.{Pair}
+use Rattle.aig_bench.specs.BenchState.{CircuitAndRows}
 use Rattle.aig_bench.specs.state.Engine.{EngineState, IsClear}
 use Rattle.aig_bench.specs.state.Renewed.{RenewsAll}
 use Rattle.aig_bench.proofs.renewals.Renewing.{before_pass, renews_all, renews_more, renews_none, renews_stopped}
@@ -16,7 +16,7 @@ loop-frame-init g c = record {
 
 pub force-requires : goal.force-requires
 force-requires g c v k =
-    subst (λ (p : Pair). IsGate p.circuit v) (sym c.loop-frame.invariant.renews.pair) (c.requires.cells.gates v k)
+    subst (λ (p : CircuitAndRows). IsGate p.circuit v) (sym c.loop-frame.invariant.renews.pair) (c.requires.cells.gates v k)
 
 pub pass-more-requires-clause-before : goal.pass-more-requires-clause-before
 pass-more-requires-clause-before g c =
@@ -25,7 +25,7 @@ pass-more-requires-clause-before g c =
     let size : length c.self.inside.driven.stimulus.rows ≡ length a.pair.rows = ap (λ (x : EngineState). length x.pair.rows) c.self.view_is in
     let lt : c.loop-frame.frame < length a.pair.rows = omega (arith, c.frames-frame-end.ensures.frames) in
     before_pass c.args.forced.now c.args.first c.loop-frame.frame a c.loop-frame.self c.force.new.self _ sound c.requires (omega arith) lt
-    c.loop-frame.invariant.renews c.force.ensures.same c.force.ensures.waits
+    c.loop-frame.invariant.renews c.force.ensures.same c.force.ensures.queued
 
 pub loop-frame-preserved : goal.loop-frame-preserved
 loop-frame-preserved g c =
@@ -42,7 +42,7 @@ loop-frame-preserved g c =
     rw c.advance.ensures (record {
       bound = omega arith;
       renews = renews_more c.args.forced.now c.args.first c.loop-frame.frame a c.loop-frame.self c.force.new.self _ sound c.requires
-          (omega arith) lt i.renews c.force.ensures.same c.force.ensures.waits c.pass-more.new.self _ _ m.passes r.evaluated r.changed;
+          (omega arith) lt i.renews c.force.ensures.same c.force.ensures.queued c.pass-more.new.self _ _ m.passes r.evaluated r.changed;
     })
 
 pub returns-clause-renews : goal.returns-clause-renews

@@ -5,7 +5,7 @@ use Rattle.aig_base.proofs.circuits.Circuits.{input_definition}
 use Rattle.aig_values.proofs.Evaluation.{item_at}
 use Rattle.aig_bench.specs.state.DrivenCircuit.{pair_of}
 use Rattle.aig_bench.specs.state.Engine.{EngineState}
-use Rattle.aig_bench.proofs.renewals.Renewing.{before_bit, behind_bit, renews_bit}
+use Rattle.aig_bench.proofs.renewals.Renewing.{before_bit, stale_from_bit, renews_bit}
 use Rattle.aig_bench.proofs.cells.Values.{input_value}
 use Rattle.aig_bench.proofs.engine.Engine.renew_input.Goals as goal
 
@@ -50,7 +50,7 @@ pass-first-requires-clause-before g c =
     subst (λ (x : EngineState). slice_get x.pair.circuit.inputs c.args.position ≡ Some l) c.self.view_is
     (item_at _ _ c.args.position l c.inputs.ensures (rw c.inputs.ensures place) c.index-inputs-position.is) in
     let sound = subst (λ (x : EngineState). IsSound x.pair.circuit) c.self.view_is c.self.invariant.work.driven_is.circuit.sound in
-    before_bit s c.put.new.self sound c.args.frame c.args.position l c.requires.behind c.requires.frame at (rw c.var.ensures at c.put.ensures)
+    before_bit s c.put.new.self sound c.args.frame c.args.position l c.requires.stale c.requires.frame at (rw c.var.ensures at c.put.ensures)
 
 pub renew_from-rest-requires : goal.renew_from-rest-requires
 renew_from-rest-requires g c =
@@ -62,7 +62,7 @@ renew_from-rest-requires g c =
     subst (λ (x : EngineState). slice_get x.pair.circuit.inputs c.args.position ≡ Some l) c.self.view_is
     (item_at _ _ c.args.position l c.inputs.ensures (rw c.inputs.ensures place) c.index-inputs-position.is) in
     let sound = subst (λ (x : EngineState). IsSound x.pair.circuit) c.self.view_is c.self.invariant.work.driven_is.circuit.sound in
-    rw c.advance.ensures (behind_bit s c.put.new.self sound c.args.frame c.args.position l c.requires.behind c.requires.frame at
+    rw c.advance.ensures (stale_from_bit s c.put.new.self sound c.args.frame c.args.position l c.requires.stale c.requires.frame at
     (rw c.var.ensures at c.put.ensures) c.pass-first.new.self _ c.pass-first.ensures.passes)
 
 pub returns : goal.returns
@@ -75,6 +75,6 @@ returns g c =
     subst (λ (x : EngineState). slice_get x.pair.circuit.inputs c.args.position ≡ Some l) c.self.view_is
     (item_at _ _ c.args.position l c.inputs.ensures (rw c.inputs.ensures place) c.index-inputs-position.is) in
     let sound = subst (λ (x : EngineState). IsSound x.pair.circuit) c.self.view_is c.self.invariant.work.driven_is.circuit.sound in
-    renews_bit s c.put.new.self sound c.args.frame c.args.position l c.requires.behind c.requires.frame at (rw c.var.ensures at c.put.ensures)
+    renews_bit s c.put.new.self sound c.args.frame c.args.position l c.requires.stale c.requires.frame at (rw c.var.ensures at c.put.ensures)
     c.pass-first.new.self _ c.pass-first.ensures.passes c.renew_from-rest.new.self _ _
     (rw c.advance.ensures at c.renew_from-rest.ensures.renews) c.total.ensures.evaluated c.total.ensures.changed

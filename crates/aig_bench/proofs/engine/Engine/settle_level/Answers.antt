@@ -1,13 +1,13 @@
 use Rattle.std.proofs.Common.{◌<◌, ℕ, List, subst, arith}
-use Rattle.aig_bench.specs.state.Sweep.{waiting}
+use Rattle.aig_bench.specs.state.Sweep.{queued_count}
 use Rattle.aig_bench.proofs.renewals.Engines.{levels_none, levels_past, levels_then}
-use Rattle.aig_bench.proofs.waits.Waiting.{waiting_bound}
+use Rattle.aig_bench.proofs.queues.Queued.{queued_count_bound}
 use Rattle.aig_bench.proofs.engine.Engine.settle_level.Goals as goal
 
 pub loop-changed-init : goal.loop-changed-init
 loop-changed-init g c =
     let s = c.args.self.now in
-    let waits = waiting_bound s.levels s.waits c.args.level in
+    let queued = queued_count_bound s.levels s.queued c.args.level in
     let few = c.requires.few in
     record {
       frame = c.requires.frame;
@@ -18,15 +18,15 @@ loop-changed-init g c =
 
 pub loop-changed-smaller : goal.loop-changed-smaller
 loop-changed-smaller g c =
-    subst (λ (xs : List ℕ). waiting xs c.settle_next.new.self.waits c.args.level < waiting xs c.loop-changed.self.waits c.args.level)
+    subst (λ (xs : List ℕ). queued_count xs c.settle_next.new.self.queued c.args.level < queued_count xs c.loop-changed.self.queued c.args.level)
     c.loop-changed.invariant.settles.row.levels c.in-Some.ensures.fewer
 
 pub loop-changed-preserved : goal.loop-changed-preserved
 loop-changed-preserved g c =
     let i = c.loop-changed.invariant in
     let s = c.in-Some.ensures in
-    let fewer = subst (λ (xs : List ℕ). waiting xs c.settle_next.new.self.waits c.args.level
-    < waiting xs c.loop-changed.self.waits c.args.level) i.settles.row.levels s.fewer in
+    let fewer = subst (λ (xs : List ℕ). queued_count xs c.settle_next.new.self.queued c.args.level
+    < queued_count xs c.loop-changed.self.queued c.args.level) i.settles.row.levels s.fewer in
     let bound = i.bound in
     let one = c.count.ensures.evaluated in
     record {

@@ -1,15 +1,15 @@
 use Rattle.std.proofs.Common.{◌<◌, length, refl, sym, subst, arith}
 use Rattle.std.proofs.lemmas.Bool.{false≢true}
 use Rattle.aig_bench.specs.state.Engine.{EngineState}
-use Rattle.aig_bench.proofs.waits.Waiting.{waiting_less}
-use Rattle.aig_bench.proofs.passes.SweepSteps.{lhs_even, lhs_flag, rhs0_inside, rhs1_inside, taken_work, waits_less, waited, waits_no_more, level_is, readers_fit, linked_work, linked_less, linked_no_more, written_work, sweeps_changed, sweeps_same, hands_changed, hands_unchanged, other_rows, taken_in_range}
+use Rattle.aig_bench.proofs.queues.Queued.{queued_count_less}
+use Rattle.aig_bench.proofs.passes.SweepSteps.{lhs_even, lhs_flag, rhs0_inside, rhs1_inside, taken_work, queued_less, was_queued, queued_no_more, level_is, readers_fit, linked_work, linked_less, linked_no_more, written_work, sweeps_changed, sweeps_same, next_latches_changed, next_latches_unchanged, other_rows, taken_in_range}
 use Rattle.aig_bench.proofs.engine.Engine.settle_next.Goals as goal
 
 pub returns-in_err-gate-clause-settles : goal.returns-in_err-gate-clause-settles
 returns-in_err-gate-clause-settles g c =
     let w = c.self.invariant.work in
     let takes = c.in_ok-variable.ensures c.self.inside.fanouts.levels w.buckets in
-    absurd (c.in_err-gate.ensures.none (w.gates _ takes.waited))
+    absurd (c.in_err-gate.ensures.none (w.gates _ takes.was_queued))
 
 pub evaluate-changed-requires-clause-even : goal.evaluate-changed-requires-clause-even
 evaluate-changed-requires-clause-even g c =
@@ -107,8 +107,8 @@ returns-then-changed-clause-fewer g c =
     let (q, at, e) = c.in_ok-gate.ensures.found in
     let lt = subst (λ (s : EngineState). c.args.frame < length s.pair.rows) (sym c.self.view_is) c.requires.frame in
     rw (← c.self.view_is)
-    (waiting_less c.self.inside.fanouts.levels c.self.inside.pending.buckets.marks.items c.link_all.new.self.marks.items c.args.level _
-    w.buckets.chained.marks_size (linked_less _ _ _ _ _ _ _ _ _ q _ w lt takes at e c.list-readers.result.now c.list-readers.ensures c.link_all.new.self c.link_all.ensures.buckets c.link_all.ensures.links) (level_is _ _ _ _ _ _ _ _ _ q _ w lt takes at e) (waited _ _ _ _ _ _ _ _ _ q _ w lt takes at e) (linked_no_more _ _ _ _ _ _ _ _ _ q _ w lt takes at e c.list-readers.result.now c.list-readers.ensures c.link_all.new.self c.link_all.ensures.buckets c.link_all.ensures.links))
+    (queued_count_less c.self.inside.fanouts.levels c.self.inside.pending.buckets.marks.items c.link_all.new.self.marks.items c.args.level _
+    w.buckets.chained.marks_size (linked_less _ _ _ _ _ _ _ _ _ q _ w lt takes at e c.list-readers.result.now c.list-readers.ensures c.link_all.new.self c.link_all.ensures.buckets c.link_all.ensures.links) (level_is _ _ _ _ _ _ _ _ _ q _ w lt takes at e) (was_queued _ _ _ _ _ _ _ _ _ q _ w lt takes at e) (linked_no_more _ _ _ _ _ _ _ _ _ q _ w lt takes at e c.list-readers.result.now c.list-readers.ensures c.link_all.new.self c.link_all.ensures.buckets c.link_all.ensures.links))
 
 pub returns-else-changed-clause-fewer : goal.returns-else-changed-clause-fewer
 returns-else-changed-clause-fewer g c =
@@ -117,8 +117,8 @@ returns-else-changed-clause-fewer g c =
     let (q, at, e) = c.in_ok-gate.ensures.found in
     let lt = subst (λ (s : EngineState). c.args.frame < length s.pair.rows) (sym c.self.view_is) c.requires.frame in
     rw (← c.self.view_is)
-    (waiting_less c.self.inside.fanouts.levels c.self.inside.pending.buckets.marks.items c.take.new.self.marks.items c.args.level _
-    w.buckets.chained.marks_size (λ u stands k. waits_less _ _ _ _ _ _ _ _ _ q _ w lt takes at e u k) (level_is _ _ _ _ _ _ _ _ _ q _ w lt takes at e) (waited _ _ _ _ _ _ _ _ _ q _ w lt takes at e) (waits_no_more _ _ _ _ _ _ _ _ _ q _ w lt takes at e))
+    (queued_count_less c.self.inside.fanouts.levels c.self.inside.pending.buckets.marks.items c.take.new.self.marks.items c.args.level _
+    w.buckets.chained.marks_size (λ u stands k. queued_less _ _ _ _ _ _ _ _ _ q _ w lt takes at e u k) (level_is _ _ _ _ _ _ _ _ _ q _ w lt takes at e) (was_queued _ _ _ _ _ _ _ _ _ q _ w lt takes at e) (queued_no_more _ _ _ _ _ _ _ _ _ q _ w lt takes at e))
 
 pub returns-then-changed-clause-settles : goal.returns-then-changed-clause-settles
 returns-then-changed-clause-settles g c =
@@ -131,7 +131,7 @@ returns-then-changed-clause-settles g c =
         pair = refl;
         levels = refl;
         others = other_rows _ _ _ _ _ _ _ _ _ q _ w lt takes at e _ c.if-changed.ensures.cells;
-        hands = hands_changed _ _ _ _ _ _ _ _ _ q _ w lt takes at e _ c.if-changed.ensures.cells c.self.inside.pending.ahead c.list_all.new.list (c.list_all.ensures.lists c.self.inside.driven.circuit
+        next_latches = next_latches_changed _ _ _ _ _ _ _ _ _ q _ w lt takes at e _ c.if-changed.ensures.cells c.self.inside.pending.ahead c.list_all.new.list (c.list_all.ensures.lists c.self.inside.driven.circuit
             c.self.invariant.lists.readers (taken_in_range _ _ _ _ _ _ _ _ _ q _ w lt takes at e));
         evaluations = c.if-changed.ensures.count;
       };
@@ -152,7 +152,7 @@ returns-else-changed-clause-settles g c =
         pair = refl;
         levels = refl;
         others = other_rows _ _ _ _ _ _ _ _ _ q _ w lt takes at e _ c.if-changed.ensures.cells;
-        hands = hands_unchanged _ _ _ _ _ _ _ _ _ q _ w lt takes at e _ c.if-changed.ensures.cells (λ k. false≢true (c.if-changed.ensures.changed.1 k)) _;
+        next_latches = next_latches_unchanged _ _ _ _ _ _ _ _ _ q _ w lt takes at e _ c.if-changed.ensures.cells (λ k. false≢true (c.if-changed.ensures.changed.1 k)) _;
         evaluations = c.if-changed.ensures.count;
       };
       here = refl;

@@ -1,5 +1,5 @@
 use Rattle.std.proofs.Common.{refl, ◌+◌, []}
-use Rattle.aig_bench.proofs.waits.Chained.{none_marked}
+use Rattle.aig_bench.proofs.queues.Chained.{none_marked}
 use Rattle.aig_bench.proofs.carries.LatchLists.{list_new}
 use Rattle.aig_bench.proofs.latch_list.LatchList.new.Goals as goal
 

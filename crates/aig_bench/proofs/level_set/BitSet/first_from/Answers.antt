@@ -1,5 +1,5 @@
 use Rattle.std.proofs.Common.{arith}
-use Rattle.aig_bench.proofs.waits.BitPlaces.{none_at_all}
+use Rattle.aig_bench.proofs.queues.BitPlaces.{none_at_all}
 use Rattle.aig_bench.proofs.level_set.BitSet.first_from.Goals as goal
 
 pub returns : goal.returns

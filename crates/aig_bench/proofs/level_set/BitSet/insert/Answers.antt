@@ -1,4 +1,4 @@
-use Rattle.aig_bench.proofs.waits.BitPlaces.{inserted, filled_now}
+use Rattle.aig_bench.proofs.queues.BitPlaces.{inserted, filled_now}
 use Rattle.aig_bench.proofs.level_set.BitSet.insert.Goals as goal
 
 pub returns-clause-bits : goal.returns-clause-bits

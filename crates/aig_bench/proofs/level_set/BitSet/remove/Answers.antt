@@ -1,4 +1,4 @@
-use Rattle.aig_bench.proofs.waits.BitPlaces.{removed}
+use Rattle.aig_bench.proofs.queues.BitPlaces.{removed}
 use Rattle.aig_bench.proofs.level_set.BitSet.remove.Goals as goal
 
 pub returns-clause-bits : goal.returns-clause-bits

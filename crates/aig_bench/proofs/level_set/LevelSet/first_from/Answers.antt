@@ -1,6 +1,6 @@
 use Rattle.std.proofs.Common.{None, subst}
 use Rattle.aig_bench.specs.state.LevelSet.{IsFirstFrom}
-use Rattle.aig_bench.proofs.waits.BitPlaces.{none_filled, found_in_word}
+use Rattle.aig_bench.proofs.queues.BitPlaces.{none_filled, found_in_word}
 use Rattle.aig_bench.proofs.level_set.LevelSet.first_from.Goals as goal
 
 pub returns-in_err-word : goal.returns-in_err-word

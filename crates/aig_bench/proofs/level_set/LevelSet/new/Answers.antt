@@ -1,5 +1,5 @@
 use Rattle.std.proofs.Common.{arith}
-use Rattle.aig_bench.proofs.waits.BitPlaces.{none_of_zeros}
+use Rattle.aig_bench.proofs.queues.BitPlaces.{none_of_zeros}
 use Rattle.aig_bench.proofs.level_set.LevelSet.new.Goals as goal
 
 pub invariant_of-result : goal.invariant_of-result

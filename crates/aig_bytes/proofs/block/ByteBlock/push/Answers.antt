@@ -7,5 +7,5 @@ pub returns-then-after-clause-some : goal.returns-then-after-clause-some
 returns-then-after-clause-some g c = λ none.
     let b = c.self.inside in
     let all = length-take-le b.end b.bytes (omega (arith, c.self.told, c.self.invariant)) in
-    let waiting = length-drop b.start (take b.end b.bytes) in
-    absurd (omega (arith, all, waiting, ap length (c.self.view_is ∙ none), c.self.invariant, c.if-after.true))
+    let buffered = length-drop b.start (take b.end b.bytes) in
+    absurd (omega (arith, all, buffered, ap length (c.self.view_is ∙ none), c.self.invariant, c.if-after.true))

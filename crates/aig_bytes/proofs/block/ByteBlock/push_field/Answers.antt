@@ -8,15 +8,15 @@ pub returns-then-after-le-DIGITS-clause-some : goal.returns-then-after-le-DIGITS
 returns-then-after-le-DIGITS-clause-some g c = λ none.
     let b = c.self.inside in
     let all = length-take-le b.end b.bytes (omega (arith, c.self.told, c.self.invariant)) in
-    let waiting = length-drop b.start (take b.end b.bytes) in
-    absurd (omega (arith, all, waiting, ap length (c.self.view_is ∙ none), c.self.invariant, c.if-after-le-DIGITS.true))
+    let buffered = length-drop b.start (take b.end b.bytes) in
+    absurd (omega (arith, all, buffered, ap length (c.self.view_is ∙ none), c.self.invariant, c.if-after-le-DIGITS.true))
 
 pub write_digits-self-inside-requires : goal.write_digits-self-inside-requires
 write_digits-self-inside-requires g c =
     (omega (arith, c.digit_count.ensures.digits), omega (arith, c.digit_count.ensures.most, c.self.told, c.self.invariant))
 
 pub returns-clause-pushed : goal.returns-clause-pushed
-returns-clause-pushed g c = λ told.
+returns-clause-pushed g c = λ is_pushed.
     let b = c.self.inside in
     let digits = c.digit_count.ensures.digits in
     let put = c.write_digits-self-inside.ensures in

@@ -8,11 +8,11 @@ pub returns-then-after-lt4-clause-some : goal.returns-then-after-lt4-clause-some
 returns-then-after-lt4-clause-some g c = λ none.
     let b = c.self.inside in
     let all = length-take-le b.end b.bytes (omega (arith, c.self.told, c.self.invariant)) in
-    let waiting = length-drop b.start (take b.end b.bytes) in
-    absurd (omega (arith, all, waiting, ap length (c.self.view_is ∙ none), c.self.invariant, c.if-after-lt4.true))
+    let buffered = length-drop b.start (take b.end b.bytes) in
+    absurd (omega (arith, all, buffered, ap length (c.self.view_is ∙ none), c.self.invariant, c.if-after-lt4.true))
 
 pub returns-clause-pushed : goal.returns-clause-pushed
-returns-clause-pushed g c = λ told.
+returns-clause-pushed g c = λ is_pushed.
     let b = c.self.inside in
     let copied = c.copy_from_slice.ensures in
     rw (← c.self.view_is, ← copied.after) (put_in_first b.start b.end _ c.args.count b.bytes _ (omega (arith, c.self.invariant))

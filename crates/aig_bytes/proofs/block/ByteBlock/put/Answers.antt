@@ -1,7 +1,7 @@
-use Rattle.aig_bytes.proofs.GatherLemmas.{gathers_not_handed}
+use Rattle.aig_bytes.proofs.GatherLemmas.{gathers_not_forwarded}
 use Rattle.aig_bytes.proofs.block.ByteBlock.put.Goals as goal
 
-pub returns-in_err-hand_on : goal.returns-in_err-hand_on
-returns-in_err-hand_on g c =
+pub returns-in_err-forward : goal.returns-in_err-forward
+returns-in_err-forward g c =
     rw (← c.push.ensures.full c.if-push.false)
-    (gathers_not_handed c.in_err-hand_on.ensures.written c.from_residual.ensures.0)
+    (gathers_not_forwarded c.in_err-forward.ensures.written c.from_residual.ensures.0)

@@ -5,7 +5,7 @@ use Rattle.std.proofs.lemmas.List.{take_all}
 use Rattle.aig_parts.specs.declared.symbol_places.Place.{Place}
 use Rattle.aig_parts.specs.SymbolPlaces.{Key}
 use Rattle.aig_parts.specs.state.SymbolHash.{hash_of_entries}
-use Rattle.aig_parts.specs.state.SymbolTable.{Ascend, IsTable}
+use Rattle.aig_parts.specs.state.SymbolTable.{Ascend, IsSymbolTable}
 use Rattle.aig_parts.proofs.TableLemmas.{parted}
 use Rattle.aig_parts.proofs.symbol_table.SymbolTable.of_entries.Goals as goal
 
@@ -16,8 +16,8 @@ invariant_of-result c =
     let ascend = subst (λ (xs : List (Key × Place)). Ascend (take n xs)) c.deref.ensures.value
     c.ascending_count-count.ensures.ascend in
     let others = c.in_ok-others.ensures.entries ∙ ap (λ (xs : List (Key × Place)). drop n xs) c.deref-2.ensures.value in
-    subst (λ (xs : List (Key × Place)). IsTable xs c.in_ok-others.others.entries) (sym c.truncate.ensures.items)
-    (subst (λ (xs : List (Key × Place)). IsTable (take n es) xs) (sym others) (parted es n ascend c.requires))
+    subst (λ (xs : List (Key × Place)). IsSymbolTable xs c.in_ok-others.others.entries) (sym c.truncate.ensures.items)
+    (subst (λ (xs : List (Key × Place)). IsSymbolTable (take n es) xs) (sym others) (parted es n ascend c.requires))
 
 pub returns-clause-keyed : goal.returns-clause-keyed
 returns-clause-keyed c = λ unordered.

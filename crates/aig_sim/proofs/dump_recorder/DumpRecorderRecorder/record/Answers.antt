@@ -13,16 +13,16 @@ spell_literals-requires-clause-row g c =
     (signals_in_range raw c.circuit-circuit.ensures.is_circuit.sound)
 
 pub returns-in_err-write_frame-clause-text : goal.returns-in_err-write_frame-clause-text
-returns-in_err-write_frame-clause-text g c start rows row text told kept holds is =
+returns-in_err-write_frame-clause-text g c start rows row text reported kept holds is =
     let m = c.args.machine.now in
     dumped_more m.circuit start rows row m.cells c.args.self.now.last.items text c.args.frame
-    c.circuit-circuit.ensures.is_circuit.sound told kept holds is
+    c.circuit-circuit.ensures.is_circuit.sound reported kept holds is
 
 pub returns-clause-text : goal.returns-clause-text
-returns-clause-text g c start rows row text told kept holds is =
+returns-clause-text g c start rows row text reported kept holds is =
     let m = c.args.machine.now in
     dumped_more m.circuit start rows row m.cells c.args.self.now.last.items text c.args.frame
-    c.circuit-circuit.ensures.is_circuit.sound told kept holds is
+    c.circuit-circuit.ensures.is_circuit.sound reported kept holds is
 
 pub returns-clause-recorded : goal.returns-clause-recorded
 returns-clause-recorded g c start rows row kept holds is =

@@ -1,7 +1,7 @@
 use Rattle.std.proofs.Common.{◌≡◌, ℕ, ◌+◌, ◌<◌, List, ◌∷◌, ◌++◌, [], length, take, drop, get_or, sym, ap, ◌∙◌, subst, arith}
 use Rattle.std.proofs.lemmas.List.{take_more, drop_more, take-append-drop}
 use Rattle.std.proofs.lemmas.Option.{get_or_from_slice_get}
-use Rattle.aig_sim.specs.state.Running.{Stops, GoesOn}
+use Rattle.aig_sim.specs.state.Running.{SimulationStops, SimulationGoesOn}
 use Rattle.aig_sim.proofs.LineLemmas.{fault_same}
 use Rattle.aig_sim.proofs.SimulationLemmas.{piece_goes_on, goes_on_then, stops_then}
 use Rattle.aig_sim.proofs.simulation.Simulation.feed_line.Goals as goal
@@ -15,7 +15,7 @@ returns-then-length-bytes-clause-ok g c =
     let w = g.W.Write.written c.args.out.now in
     let f = g.W.Write.failures c.args.out.now in
     let e = c.extend.ensures in
-    let piece : GoesOn g.T.Recorder.is_text g.T.Recorder.has_recorded (take n xs) s mid w w f f =
+    let piece : SimulationGoesOn g.T.Recorder.is_text g.T.Recorder.has_recorded (take n xs) s mid w w f f =
     piece_goes_on s mid (take n xs) w f c.requires.room.0 e.frames e.machine e.recorder c.line_length-length.ensures.no_end e.keeps in
     piece
 
@@ -28,7 +28,7 @@ returns-in_err-end_line-clause-err g c =
     let w = g.W.Write.written c.args.out.now in
     let f = g.W.Write.failures c.args.out.now in
     let e = c.extend.ensures in
-    let piece : GoesOn g.T.Recorder.is_text g.T.Recorder.has_recorded (take n xs) s mid w w f f =
+    let piece : SimulationGoesOn g.T.Recorder.is_text g.T.Recorder.has_recorded (take n xs) s mid w w f f =
     piece_goes_on s mid (take n xs) w f c.requires.room.0 e.frames e.machine e.recorder c.line_length-length.ensures.no_end e.keeps in
     let lt : n < length xs = omega (arith, c.line_length-length.ensures.bound, c.if-length-bytes.false) in
     let is_end : get_or xs n 0 ≡ 10 = get_or_from_slice_get xs n 10 0 (c.line_length-length.ensures.ended lt) in
@@ -38,8 +38,8 @@ returns-in_err-end_line-clause-err g c =
     let split : take n xs ++ (10 ∷ drop (n + 1) xs) ≡ xs =
     ap (λ b. take n xs ++ (b ∷ drop (n + 1) xs)) (sym is_end)
     ∙ ap (λ (t : List ℕ). take n xs ++ t) (sym (drop_more xs n 0 lt)) ∙ take-append-drop n xs in
-    fault_same c.from_residual.result fault (Stops g.T.Recorder.is_text g.T.Recorder.has_recorded xs s w w' f f') c.from_residual.ensures.1
-    (subst (λ (bytes : List ℕ). Stops g.T.Recorder.is_text g.T.Recorder.has_recorded bytes s w w' f f' fault) split
+    fault_same c.from_residual.result fault (SimulationStops g.T.Recorder.is_text g.T.Recorder.has_recorded xs s w w' f f') c.from_residual.ensures.1
+    (subst (λ (bytes : List ℕ). SimulationStops g.T.Recorder.is_text g.T.Recorder.has_recorded bytes s w w' f f' fault) split
     (stops_then (take n xs) (10 ∷ drop (n + 1) xs) s mid w w w' f f f' fault piece
     (c.in_err-end_line.ensures.err (drop (n + 1) xs))))
 
@@ -52,7 +52,7 @@ returns-clause-ok g c =
     let w = g.W.Write.written c.args.out.now in
     let f = g.W.Write.failures c.args.out.now in
     let e = c.extend.ensures in
-    let piece : GoesOn g.T.Recorder.is_text g.T.Recorder.has_recorded (take n xs) s mid w w f f =
+    let piece : SimulationGoesOn g.T.Recorder.is_text g.T.Recorder.has_recorded (take n xs) s mid w w f f =
     piece_goes_on s mid (take n xs) w f c.requires.room.0 e.frames e.machine e.recorder c.line_length-length.ensures.no_end e.keeps in
     let lt : n < length xs = omega (arith, c.line_length-length.ensures.bound, c.if-length-bytes.false) in
     let is_end : get_or xs n 0 ≡ 10 = get_or_from_slice_get xs n 10 0 (c.line_length-length.ensures.ended lt) in
@@ -60,5 +60,5 @@ returns-clause-ok g c =
     let f' = g.W.Write.failures c.end_line.new.out in
     let bytes : take n xs ++ 10 ∷ [] ≡ take (n + 1) xs =
     ap (λ (b : ℕ). take n xs ++ b ∷ []) (sym is_end) ∙ sym (take_more xs n 0 lt) in
-    subst (λ (t : List ℕ). GoesOn g.T.Recorder.is_text g.T.Recorder.has_recorded t s c.end_line.new.self w w' f f') bytes
+    subst (λ (t : List ℕ). SimulationGoesOn g.T.Recorder.is_text g.T.Recorder.has_recorded t s c.end_line.new.self w w' f f') bytes
     (goes_on_then (take n xs) (10 ∷ []) s mid c.end_line.new.self w w w' f f f' piece c.in_ok-end_line.ensures.ok)

@@ -2,7 +2,7 @@ use Rattle.std.proofs.Common.{◌≡◌, ◌<◌, ℕ, length, take, refl, subst
 use Rattle.aig_bytes.specs.Bytes.{before}
 use Rattle.aig_sim.specs.declared.stimulus_fault.StimFault.TheVariants.{Io}
 use Rattle.aig_sim.specs.state.Running.{Streamed}
-use Rattle.aig_sim.proofs.LineLemmas.{handed_on}
+use Rattle.aig_sim.proofs.LineLemmas.{forwarded}
 use Rattle.aig_sim.proofs.SimulationLemmas.{running_none, read_nothing, read_more, so_far_flushed, simulates_flush_failed, simulates_read_failed, simulates_stopped, simulates_end, stopped_for_no_memory}
 use Rattle.aig_sim.proofs.simulation.Simulation.run.Goals as goal
 
@@ -47,7 +47,7 @@ returns-in_err-feed-clause-streams g c =
     let h = c.in_ok-size.ensures in
     let e = c.in_err-feed.ensures in
     let f = c.in_err-feed.field-0.0 in
-    handed_on (λ r. Streamed g.T.Recorder.is_text c.args.self.now.machine.circuit
+    forwarded (λ r. Streamed g.T.Recorder.is_text c.args.self.now.machine.circuit
     (record {
       left = g.R.Read.left c.args.reader.now;
       reads = g.R.Read.failures c.args.reader.now;
@@ -79,7 +79,7 @@ returns-in_err-feed-clause-memory g c =
 pub returns-in_err-flush-clause-streams : goal.returns-in_err-flush-clause-streams
 returns-in_err-flush-clause-streams g c =
     let e = c.in_err-flush.ensures in
-    handed_on (λ r. Streamed g.T.Recorder.is_text c.args.self.now.machine.circuit
+    forwarded (λ r. Streamed g.T.Recorder.is_text c.args.self.now.machine.circuit
     (record {
       left = g.R.Read.left c.args.reader.now;
       reads = g.R.Read.failures c.args.reader.now;
@@ -98,7 +98,7 @@ returns-in_err-flush-clause-streams g c =
 pub returns-in_err-size-clause-streams : goal.returns-in_err-size-clause-streams
 returns-in_err-size-clause-streams g c =
     let e = c.in_err-size.ensures in
-    handed_on (λ r. Streamed g.T.Recorder.is_text c.args.self.now.machine.circuit
+    forwarded (λ r. Streamed g.T.Recorder.is_text c.args.self.now.machine.circuit
     (record {
       left = g.R.Read.left c.args.reader.now;
       reads = g.R.Read.failures c.args.reader.now;

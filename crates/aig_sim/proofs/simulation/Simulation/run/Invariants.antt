@@ -1,11 +1,11 @@
 use Rattle.std.proofs.Common.{◌≡◌, length}
-use Rattle.aig_sim.specs.state.Running.{HasRoom, ReadSoFar}
+use Rattle.aig_sim.specs.state.Running.{HasRowRoom, ReadSoFar}
 use Rattle.aig_sim.proofs.simulation.Simulation.run.Given as goal
 
 abbrev pub invariant-loop-reader : goal.invariant-loop-reader
 invariant-loop-reader g l = record {
   size : length l.chunk ≡ 16384;
-  room : HasRoom g.T.Recorder.fits l.self;
+  room : HasRowRoom g.T.Recorder.fits l.self;
   so_far : ReadSoFar g.T.Recorder.is_text g.T.Recorder.has_recorded l.initial.self.machine.circuit
       (g.R.Read.left l.initial.reader) (g.R.Read.left l.reader)
       (g.R.Read.failures l.initial.reader) (g.R.Read.failures l.reader)

@@ -1,0 +1,6 @@
+pub mod BitPlaces
+pub mod Chained
+pub mod Linked
+pub mod Lowest
+pub mod Once
+pub mod Queued

@@ -1,6 +1,0 @@
-pub mod BitPlaces
-pub mod Chained
-pub mod Linked
-pub mod Lowest
-pub mod Once
-pub mod Waiting

@@ -1,7 +1,0 @@
-use Rattle.aig_bytes.proofs.GatherLemmas.{gathers_not_handed}
-use Rattle.aig_format.proofs.gather.put_field.Goals as goal
-
-pub returns-in_err-hand_on : goal.returns-in_err-hand_on
-returns-in_err-hand_on g c =
-    rw (← c.push_field.ensures.full c.if-push_field.false)
-    (gathers_not_handed c.in_err-hand_on.ensures.written c.from_residual.ensures.0)

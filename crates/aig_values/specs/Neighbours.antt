@@ -1,6 +1,0 @@
--- Literals of variables that stand side by side.
-use Rattle.std.specs.Prelude.{◌≡◌, ℕ, ◌+◌, ◌*◌, List, Some, slice_get}
-
--- the even literals of the variables from this one on, each one more than the one before
-pub record AreNeighbours (first : ℕ) (literals : List ℕ) : Type 0 where
-  pub each : (i l : ℕ) → slice_get literals i ≡ Some l → l ≡ 2 * (first + i)
