@@ -66,7 +66,8 @@ public:
         const std::vector<Node>& nodes = levels.by_variable();
         for (size_t variable = 0; variable < nodes.size(); ++variable) {
             const Node& node = nodes[variable];
-            slots[variable] = {node.rhs0, node.rhs1, node.level, alone};
+            bool is_next = latches.begin(variable) != latches.end(variable);
+            slots[variable] = {node.rhs0, node.rhs1, alone, node.level, is_next};
             make_level(node.level);
         }
     }
@@ -89,7 +90,7 @@ public:
         if (cells[variable] == code) return;
         cells[variable] = code;
         for (const uint32_t* reader = readers.begin(variable); reader != readers.end(variable); ++reader) link(*reader);
-        carried.insert(carried.end(), latches.begin(variable), latches.end(variable));
+        if (slots[variable].is_next) carried.insert(carried.end(), latches.begin(variable), latches.end(variable));
     }
 
     // Evaluates what waits, from the lowest level up.
@@ -128,11 +129,12 @@ public:
     }
 
     void append(uint32_t rhs0, uint32_t rhs1) {
-        slots.push_back({rhs0, rhs1, 1 + std::max(slots[rhs0 >> 1].level, slots[rhs1 >> 1].level), alone});
+        uint32_t level = 1 + std::max<uint32_t>(slots[rhs0 >> 1].level, slots[rhs1 >> 1].level);
+        slots.push_back({rhs0, rhs1, alone, level, false});
         readers.add_variable();
         latches.add_variable();
         seen.push_back(false);
-        make_level(slots.back().level);
+        make_level(level);
         add_sides(uint32_t(slots.size() - 1));
     }
 
@@ -153,9 +155,10 @@ public:
     }
 
 private:
-    // A gate by its variable: its sides, its level (0: no gate), and the next gate of the chain in which it waits.
+    // A gate by its variable: its sides, the next gate of the chain in which it waits, its level (0: no gate), and
+    // whether it is the next state of a latch.
     struct Slot {
-        uint32_t rhs0, rhs1, level, next;
+        uint32_t rhs0, rhs1, next, level : 31, is_next : 1;
     };
     static constexpr uint32_t alone = ~0u;
     std::vector<Slot> slots;
@@ -213,12 +216,12 @@ private:
         using Waiting = std::pair<uint32_t, uint32_t>;
         std::priority_queue<Waiting, std::vector<Waiting>, std::greater<Waiting>> waiting;
         std::vector<uint32_t> met;
-        waiting.push({slots[gate].level, gate});
+        waiting.push({uint32_t(slots[gate].level), gate});
         while (!waiting.empty()) {
             uint32_t variable = waiting.top().second;
             waiting.pop();
             Slot& slot = slots[variable];
-            uint32_t level = 1 + std::max(slots[slot.rhs0 >> 1].level, slots[slot.rhs1 >> 1].level);
+            uint32_t level = 1 + std::max<uint32_t>(slots[slot.rhs0 >> 1].level, slots[slot.rhs1 >> 1].level);
             if (slot.level == level) continue;
             slot.level = level;
             make_level(level);
@@ -226,7 +229,7 @@ private:
                 if (!seen[*reader]) {
                     seen[*reader] = true;
                     met.push_back(*reader);
-                    waiting.push({slots[*reader].level, *reader});
+                    waiting.push({uint32_t(slots[*reader].level), *reader});
                 }
         }
         for (uint32_t each : met) seen[each] = false;
