@@ -1,14 +1,18 @@
 """Work up to the limits of a bench, with results that are computed here or by `reference.py`. A script unrolls a
 circuit of 20,000 gates for 60 frames, so for over a million gates. A script appends 65,536 frames one by one, and one
-more is over the limit. Rewires are at nets of exactly 3, 4 and 5 gates, where a list of fan-outs grows."""
+more is over the limit. Rewires are at nets of exactly 3, 4 and 5 gates, where a list of fan-outs grows. A shift
+register that nothing reads is unrolled for the greatest number of frames, which takes no time per frame."""
 
 import random
+import resource
 
 from library import reference
 from library.runs import Ended, write
 
 GATES, FRAMES = 20_000, 60
 MOST_FRAMES = 65536
+LATCHES = 100_000
+SECONDS = 5  # of processor time: a step per latch and frame takes 26
 
 
 def unrolled_by_a_script(program, tally):
@@ -50,7 +54,19 @@ def small_fan_outs(program, tally):
                       Ended(0, wanted.encode(), b""))
 
 
+def frames_without_entries(program, tally):
+    latches = "".join(f"{2 * at} {2 * at + 2}\n" for at in range(1, LATCHES))
+    write("circuit", f"aag {LATCHES} 0 {LATCHES} 0 0\n{latches}{2 * LATCHES} 2\n")
+    ended = program.run("unroll", "--frames", str(MOST_FRAMES), "--to", "aag", "circuit", preexec_fn=in_seconds)
+    tally.compare("frames without entries", ended, Ended(0, b"aag 0 0 0 0 0\n", b""))
+
+
+def in_seconds():
+    resource.setrlimit(resource.RLIMIT_CPU, (SECONDS, SECONDS))
+
+
 def limits(program, tally, _):
+    frames_without_entries(program, tally)
     unrolled_by_a_script(program, tally)
     frames_one_by_one(program, tally)
     small_fan_outs(program, tally)

@@ -1,3 +1,4 @@
+mod EmptyFrames
 pub mod FrameBounds
 pub mod FrameLiterals
 pub mod FrameSteps

@@ -6,7 +6,7 @@ ghost use Rattle.aig_base.specs.Order.{IsCanonicalOrder};
 ghost use Rattle.aig_base.specs.Renumbered as renumbered;
 ghost use Rattle.aig_base.specs.RenumberingTable.{IsGateListed, HasAllEntries};
 ghost use Rattle.aig_unroll.specs.FrameLiteral as literals;
-ghost use Rattle.aig_unroll.specs.state.FrameTable.{IsWithin, IsPlan, AddsFrame};
+ghost use Rattle.aig_unroll.specs.state.FrameTable.{IsWithin, IsPlan, AddsFrame, AddsNothing};
 ghost use Rattle.aig_unroll.specs.state.FrameTable.{AddsProperties, AreSections, IsNextFrame};
 ghost use Rattle.aig_unroll.specs.Unrollable.{FitsLimits};
 
@@ -118,6 +118,16 @@ fn next_frame(alloc: Global, plan: &Plan, frame: &Frame, circuit: &Circuit) -> R
     })
 }
 
+// Whether a frame adds nothing, because the circuit has at most inputs and latches.
+fn adds_nothing(circuit: &Circuit, ordered: &[Gate]) -> bool
+    ensures { result ≡ true → AddsNothing circuit.now ordered.now }
+{
+    circuit.outputs().is_empty()
+        && circuit.bad().is_empty()
+        && circuit.constraints().is_empty()
+        && ordered.is_empty()
+}
+
 /// The sections of the circuit unrolled for this many frames.
 pub(crate) fn unrolled_sections(
     alloc: Global,
@@ -140,6 +150,9 @@ pub(crate) fn unrolled_sections(
         constraints: List::new(alloc),
         gates: List::new(alloc),
     };
+    if adds_nothing(circuit, ordered.as_slice()) {
+        return Ok(sections);
+    }
     let mut frame = Frame {
         number: 0,
         latches: first_latches(alloc, circuit.latches(), frames * plan.inputs)?,

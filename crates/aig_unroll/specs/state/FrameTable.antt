@@ -112,6 +112,13 @@ pub record AddsFrame (raw : Raw) (ordered : List Gate) (plan : Plan) (frame : Fr
   pub constraints : new.constraints ≡ old.constraints ++ map (literal_at plan frame) (kept_constraints raw)
   pub gates : new.gates ≡ old.gates ++ plan_gates raw ordered plan frame
 
+-- no frame adds anything
+pub record AddsNothing (raw : Raw) (ordered : List Gate) : Type 0 where
+  pub outputs : raw.outputs ≡ []
+  pub bad : raw.bad ≡ []
+  pub constraints : raw.constraints ≡ []
+  pub gates : ordered ≡ []
+
 -- the frame after another
 pub record IsNextFrame (raw : Raw) (plan : Plan) (frame next : Frame) : Type 0 where
   pub number : next.number ≡ frame.number + 1
