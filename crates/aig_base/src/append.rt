@@ -97,7 +97,7 @@ pub fn append_gate(
     ensures same_lists { OnErr result (readers.new.lists ≡ readers.old.lists) }
     ensures room { OnErr result ((v : ℕ) → HasReaderRoom readers.old v → HasReaderRoom readers.new v) }
 {
-    let _ = circuit.max_var();
+    circuit.facts();
     readers.fan_outs.make_room_for_list(r0.var(), r1.var())?;
     make_room_for_level(&mut levels.levels, &mut levels.worklist)?;
     let gate = circuit.next_gate(r0, r1);

@@ -14,14 +14,14 @@ use Rattle.aig_base.proofs.append.append_gate.Goals as goal
 pub make_room_for_list-requires-clause-within0 : goal.make_room_for_list-requires-clause-within0
 make_room_for_list-requires-clause-within0 c =
     let raw = c.args.circuit.now in
-    let low = defined_in_range raw c.max_var.ensures.circuit.sound (variable c.args.r0) c.requires.defined0 in
+    let low = defined_in_range raw c.facts.ensures.sound (variable c.args.r0) c.requires.defined0 in
     let size = slots_size raw c.readers.inside.fan_outs.slots _ c.readers.view_is c.requires.readers in
     omega (arith, c.var.ensures)
 
 pub make_room_for_list-requires-clause-within1 : goal.make_room_for_list-requires-clause-within1
 make_room_for_list-requires-clause-within1 c =
     let raw = c.args.circuit.now in
-    let low = defined_in_range raw c.max_var.ensures.circuit.sound (variable c.args.r1) c.requires.defined1 in
+    let low = defined_in_range raw c.facts.ensures.sound (variable c.args.r1) c.requires.defined1 in
     let size = slots_size raw c.readers.inside.fan_outs.slots _ c.readers.view_is c.requires.readers in
     omega (arith, c.var-2.ensures)
 
@@ -46,7 +46,7 @@ returns-in_err-append_gate-clause-room c =
 pub level_over-level-requires-clause-fits : goal.level_over-level-requires-clause-fits
 level_over-level-requires-clause-fits c =
     rw (c.deref.ensures.value, c.make_room_for_level.ensures.levels, c.levels.view_is, c.next_gate-gate.ensures)
-    (level_fits c.args.circuit.now c.args.r0 c.args.r1 c.max_var.ensures.circuit c.requires.defined0 c.requires.defined1
+    (level_fits c.args.circuit.now c.args.r0 c.args.r1 c.facts.ensures c.requires.defined0 c.requires.defined1
     c.args.levels.now c.requires.levels)
 
 pub returns-clause-levels : goal.returns-clause-levels
@@ -64,7 +64,7 @@ returns-clause-levels c =
     c.append_level.ensures.levels ∙ ap (λ (xs : List ℕ). xs ++ c.level_over-level.result ∷ []) same
     ∙ ap (λ (n : ℕ). old ++ n ∷ []) level in
     subst (λ xs. AreLevels (with_appended_gate raw r0 r1) xs) (sym cells)
-    (more_levels raw r0 r1 c.max_var.ensures.circuit c.requires.defined0 c.requires.defined1 old c.requires.levels)
+    (more_levels raw r0 r1 c.facts.ensures c.requires.defined0 c.requires.defined1 old c.requires.levels)
 
 pub returns-clause-readers : goal.returns-clause-readers
 returns-clause-readers c =
@@ -74,7 +74,7 @@ returns-clause-readers c =
     let slots = c.make_room_for_list.new.self.slots in
     let were = readers_kept raw c.readers.inside.fan_outs.slots slots c.make_room_for_list.ensures.keeps
     (subst (λ r. AreReaders raw r) (sym c.readers.view_is) c.requires.readers) in
-    more_readers raw r0 r1 c.max_var.ensures.circuit c.requires.defined0 c.requires.defined1 slots
+    more_readers raw r0 r1 c.facts.ensures c.requires.defined0 c.requires.defined1 slots
     c.append_list.new.self.slots were (rw c.next_gate-gate.ensures at c.append_list.ensures)
 
 pub append_list-requires-clause-few : goal.append_list-requires-clause-few
