@@ -1,11 +1,14 @@
 -- The changes of a circuit: other right sides of a gate, another reset of a latch, another literal at an output, one
 -- more gate (our own choice).
-use Rattle.std.specs.Prelude.{ℕ, ◌+◌, ◌*◌, [], ◌∷◌, ◌++◌, map, nat_eq, slice_set, if◌then◌else◌}
+use Rattle.std.specs.Prelude.{ℕ, ◌+◌, ◌*◌, ◌<◌, [], ◌∷◌, ◌++◌, map, nat_eq, slice_set, if◌then◌else◌}
 use Rattle.aig_parts.specs.declared.gate.Gate.{Gate}
 use Rattle.aig_parts.specs.declared.latch.Latch.{Latch}
 use Rattle.aig_parts.specs.declared.raw.Raw.{Raw}
 use Rattle.aig_parts.specs.declared.ternary.Tern.{Tern}
 use Rattle.aig_parts.specs.declared.ternary.Tern.TheVariants.{Zero, One, X}
+use Rattle.aig_parts.specs.Formed.{limit}
+use Rattle.aig_parts.specs.Literal.{variable}
+use Rattle.aig_base.specs.Sections.{IsDefined}
 
 -- the gate, with these right sides if it is the one of this left side
 abbrev pub rewired : ℕ → ℕ → ℕ → Gate → Gate
@@ -41,6 +44,12 @@ with_output raw position lit = record raw { outputs = slice_set raw.outputs posi
 -- the gate of the variable after the greatest, with these right sides
 abbrev pub next_gate : Raw → ℕ → ℕ → Gate
 next_gate raw r0 r1 = record { lhs = 2 * (raw.max_var + 1); rhs0 = r0; rhs1 = r1 }
+
+-- there is room for one more variable, and both right sides are defined
+pub record CanAppend (raw : Raw) (r0 r1 : ℕ) : Type 0 where
+  pub room : raw.max_var < limit
+  pub defined0 : IsDefined raw (variable r0)
+  pub defined1 : IsDefined raw (variable r1)
 
 -- the parts, with this gate at the end of the gates, and its variable the greatest
 abbrev pub with_appended_gate : Raw → ℕ → ℕ → Raw

@@ -1,12 +1,10 @@
 //! One more gate in a circuit, its levels and the fan-outs.
-ghost use Rattle.std.specs.Prelude.{◌≡◌, ◌+◌, ◌<◌, ◌∷◌, ◌++◌, [], ℕ, length, OnErr, OnOk};
+ghost use Rattle.std.specs.Prelude.{◌≡◌, ◌+◌, ◌<◌, ◌∷◌, ◌++◌, [], length, OnErr, OnOk};
 ghost use Rattle.std.specs.Vec.{vec_capacity};
-ghost use Rattle.aig_base.specs.Changes.{next_gate, with_appended_gate};
+ghost use Rattle.aig_base.specs.Changes.{CanAppend, next_gate, with_appended_gate};
 ghost use Rattle.aig_parts.specs.Formed.{limit};
 ghost use Rattle.aig_base.specs.Levels.{AreLevels};
-ghost use Rattle.aig_parts.specs.Literal.{variable};
-ghost use Rattle.aig_base.specs.Readers.{AreReaders, HasReaderRoom};
-ghost use Rattle.aig_base.specs.Sections.{IsDefined};
+ghost use Rattle.aig_base.specs.Readers.{AreReaders, KeepsReaders};
 ghost use Rattle.aig_base.specs.state.Worklists.{FitsOneVariable, IsIdle};
 
 use crate::change::forget;
@@ -32,9 +30,7 @@ impl Circuit {
 
     // Appends that gate, or changes nothing.
     fn append_gate(&mut self, r0: Lit, r1: Lit) -> Result<(), Memory>
-        requires below { self.old.max_var < limit }
-        requires defined0 { IsDefined self.old (variable r0) }
-        requires defined1 { IsDefined self.old (variable r1) }
+        requires { CanAppend self.old r0 r1 }
         ensures ok { OnOk result (self.new ≡ with_appended_gate self.old r0 r1) }
         ensures err { OnErr result (self.new ≡ self.old) }
     {
@@ -84,9 +80,7 @@ pub fn append_gate(
     r0: Lit,
     r1: Lit,
 ) -> Result<(), Memory>
-    requires below { circuit.old.max_var < limit }
-    requires defined0 { IsDefined circuit.old (variable r0) }
-    requires defined1 { IsDefined circuit.old (variable r1) }
+    requires gate { CanAppend circuit.old r0 r1 }
     requires levels { AreLevels circuit.old levels.old }
     requires readers { AreReaders circuit.old readers.old }
     ensures circuit { OnOk result (circuit.new ≡ with_appended_gate circuit.old r0 r1) }
@@ -94,10 +88,9 @@ pub fn append_gate(
     ensures readers { OnOk result (AreReaders (with_appended_gate circuit.old r0 r1) readers.new) }
     ensures same_circuit { OnErr result (circuit.new ≡ circuit.old) }
     ensures same_levels { OnErr result (levels.new ≡ levels.old) }
-    ensures same_lists { OnErr result (readers.new.lists ≡ readers.old.lists) }
-    ensures room { OnErr result ((v : ℕ) → HasReaderRoom readers.old v → HasReaderRoom readers.new v) }
+    ensures same_readers { OnErr result (KeepsReaders readers.old readers.new) }
 {
-    let _ = circuit.max_var();
+    circuit.facts();
     readers.fan_outs.make_room_for_list(r0.var(), r1.var())?;
     make_room_for_level(&mut levels.levels, &mut levels.worklist)?;
     let gate = circuit.next_gate(r0, r1);

@@ -51,8 +51,15 @@ impl Circuit {
         }
     }
 
-    /// The greatest variable M. Its contract also says that the parts are formed, sound and acyclic: a proof calls it
-    /// to learn that.
+    /// What is known of every circuit: its parts are formed, sound and acyclic. It does nothing. A function calls it to
+    /// use that in its proof, because a type shows what it keeps only by the contracts of its calls.
+    pub fn facts(&self)
+        ensures { IsCircuit self.now }
+    {
+        let _raw = &self.raw;
+    }
+
+    /// The greatest variable M.
     pub fn max_var(&self) -> u32
         ensures value { result ≡ self.now.max_var }
         ensures circuit { IsCircuit self.now }

@@ -16,8 +16,7 @@ impl Circuit {
             (λ g. (q : ℕ) × (slice_get self.now.gates q ≡ Some g) × (literal.variable g.lhs ≡ variable)) }
         ensures none { IfNone result (IsGate self.now variable → ⊥) }
     {
-        // Its contract says that the parts are a circuit.
-        let _max_var = self.max_var();
+        self.facts();
         match self.definition(variable) {
             Some(Definition::Gate(position)) => Some(self.gates()[position as usize]),
             Some(Definition::Input(_)) => None,

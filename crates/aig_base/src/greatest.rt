@@ -16,8 +16,7 @@ fn greatest_level(circuit: &Circuit, levels: &[u32]) -> u32
     requires { AreLevels circuit.now levels.now }
     ensures { IsGreatestLevel circuit.now result }
 {
-    // Its contract says that the parts are a circuit.
-    let _max_var = circuit.max_var();
+    circuit.facts();
     let mut greatest = 0;
     for gate in circuit.gates() {
         let variable = gate.lhs.var();

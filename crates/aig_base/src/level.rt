@@ -54,8 +54,7 @@ fn next_level(circuit: &Circuit, levels: &[u32], variable: u32) -> Option<u32>
     requires levels { AreFirstLevels circuit.now levels.now }
     ensures { IfSome result (λ level. AreFirstLevels circuit.now (levels.now ++ level ∷ [])) }
 {
-    // Its contract says that the parts are a circuit.
-    let _max_var = circuit.max_var();
+    circuit.facts();
     let Some(gate) = circuit.gate_of(variable) else {
         return Some(0);
     };
@@ -84,8 +83,7 @@ fn ascending_levels(alloc: Global, circuit: &Circuit) -> Result<Option<Vec<u32>>
 pub(crate) fn new_levels(alloc: Global, circuit: &Circuit) -> Result<Vec<u32>, Memory>
     ensures { IfOk result (λ levels. AreLevels circuit.now levels.items) }
 {
-    // Its contract says that the parts are a circuit.
-    let _max_var = circuit.max_var();
+    circuit.facts();
     if let Some(levels) = ascending_levels(alloc, circuit)? {
         return Ok(levels);
     }

@@ -49,7 +49,7 @@ pub(crate) fn renew(
     ensures levels { AreLevels (with_gate circuit.now changed.now.lhs changed.now.rhs0 changed.now.rhs1) levels.new }
     ensures idle { IsIdle (length levels.old) worklist.new }
 {
-    let _ = circuit.max_var();
+    circuit.facts();
     let level = level_over(levels, changed);
     set_level(readers, levels, worklist, changed.lhs.var(), level);
     while let Some(variable) = worklist.queue.pop() {

@@ -47,8 +47,7 @@ fn renumbered_parts(
     requires sorted { ordered_gates circuit.now (map gate_variable gates.items) ≡ gates.items }
     ensures { IfOk result (λ new. new ≡ renumbered_by circuit.now (map gate_variable gates.items) table.now) }
 {
-    // Its contract says that the parts are a circuit.
-    let _max_var = circuit.max_var();
+    circuit.facts();
     let defined = circuit.inputs().len() + circuit.latches().len() + circuit.gates().len();
     Ok(Raw {
         max_var: defined as u32,
@@ -73,8 +72,7 @@ pub fn renumber(alloc: Global, circuit: &Circuit) -> Result<Circuit, Memory>
         (order : List ℕ) × IsCanonicalOrder circuit.now order × (new ≡ renumbered circuit.now order)) }
     ensures ready { IfOk result IsBinaryReady }
 {
-    // Its contract says that the parts are a circuit.
-    let _max_var = circuit.max_var();
+    circuit.facts();
     let gates = sorted_gates(alloc, circuit)?;
     let table = table_of(alloc, circuit, &gates)?;
     let parts = renumbered_parts(alloc, circuit, gates, &table)?;

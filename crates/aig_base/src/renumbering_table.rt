@@ -13,8 +13,7 @@ use std::alloc::Global;
 fn source_variable(circuit: &Circuit, variable: u32) -> u32
     ensures { result ≡ renumbered_variable circuit.now [] variable }
 {
-    // Its contract says that the parts are a circuit.
-    let _max_var = circuit.max_var();
+    circuit.facts();
     match circuit.definition(variable) {
         Some(Definition::Input(position)) => position + 1,
         Some(Definition::Latch(position)) => circuit.inputs().len() as u32 + position + 1,
@@ -41,8 +40,7 @@ fn number_gates(circuit: &Circuit, order: &[u32], table: &mut [u32])
     requires sources { IsRenumbering circuit.now [] table.old }
     ensures { IsRenumbering circuit.now order.now table.new }
 {
-    // Its contract says that the parts are a circuit.
-    let _max_var = circuit.max_var();
+    circuit.facts();
     let first = circuit.inputs().len() + circuit.latches().len() + 1;
     for (place, variable) in order.iter().enumerate() {
         table[*variable as usize] = (first + place) as u32;

@@ -37,7 +37,7 @@ impl Levels {
         ensures cycle { OnErr result (IsAcyclic (with_gate circuit.now gate r0 r1) → ⊥) }
         ensures unchanged { OnErr result (self.new ≡ self.old) }
     {
-        let _ = circuit.max_var();
+        circuit.facts();
         let changed = Gate {
             lhs: gate,
             rhs0: r0,

@@ -62,7 +62,7 @@ fn search(
     ensures size { length visits.new.met.items ≡ length visits.old.met.items }
     ensures capacity { vec_capacity visits.new.list ≡ vec_capacity visits.old.list }
 {
-    let _ = circuit.max_var();
+    circuit.facts();
     visits.visit(gate);
     let mut next = 0;
     while next < visits.list.len() {
@@ -98,7 +98,7 @@ pub(crate) fn is_in_fan_out(
         ((IsInFanOut circuit.now gate first → ⊥) × (IsInFanOut circuit.now gate second → ⊥)) }
     ensures visits { AreNoVisits (length levels.now) visits.new }
 {
-    let _ = circuit.max_var();
+    circuit.facts();
     if first == gate || second == gate {
         return true;
     }

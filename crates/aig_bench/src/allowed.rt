@@ -5,6 +5,7 @@ ghost use Rattle.aig_parts.specs.declared.ternary.Tern.{Tern};
 ghost use Rattle.aig_parts.specs.Formed.{limit};
 ghost use Rattle.aig_parts.specs.Limits.{cell_limit};
 ghost use Rattle.aig_parts.specs.Literal.{variable};
+ghost use Rattle.aig_base.specs.Changes.{CanAppend};
 ghost use Rattle.aig_base.specs.Sections.{IsDefined, IsLatchLiteral, IsLeftSide};
 ghost use Rattle.aig_base.specs.Sound.{IsInRange, IsSound};
 ghost use Rattle.aig_bench.specs.Edit.{Forbids, IsLeastFault, NoneApplies, append_gate, rewire, set_output, set_reset};
@@ -124,9 +125,7 @@ pub fn check_reset(driven: &DrivenCircuit, latch: Lit) -> Result<u32, EditFault>
 /// The fault of an appended gate, but for out of memory: right sides out of range, then undefined ones, then a
 /// variable or cells too many.
 pub fn check_append(driven: &DrivenCircuit, r0: Lit, r1: Lit) -> Result<(), EditFault>
-    ensures defined { OnOk result (IsDefined driven.now.circuit (variable r0)
-        × IsDefined driven.now.circuit (variable r1)) }
-    ensures max_var { OnOk result (driven.now.circuit.max_var < limit) }
+    ensures gate { OnOk result (CanAppend driven.now.circuit r0 r1) }
     ensures cells { OnOk result ((driven.now.circuit.max_var + 2) * length driven.now.stimulus.rows ≤ cell_limit) }
     ensures allowed { OnOk result (NoneApplies (Forbids (pair_of driven.now) (append_gate r0 r1))) }
     ensures fault { IfErr result (IsLeastFault (Forbids (pair_of driven.now) (append_gate r0 r1))) }

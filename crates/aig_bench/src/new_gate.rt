@@ -41,8 +41,7 @@ pub fn make_room<G: Grid>(
 pub fn gate_count(circuit: &Circuit) -> u32
     ensures { result ≡ length circuit.now.gates }
 {
-    // Its contract says that the parts are a circuit.
-    let _max_var = circuit.max_var();
+    circuit.facts();
     circuit.gates().len() as u32
 }
 

@@ -44,8 +44,7 @@ fn position_of(circuit: &Circuit, variable: u32) -> u32
     requires { IsGate circuit.now variable }
     ensures { (g : gate.Gate) × (slice_get circuit.now.gates result ≡ Some g) × (literal.variable g.lhs ≡ variable) }
 {
-    // Its contract says that the parts are a circuit.
-    let _max_var = circuit.max_var();
+    circuit.facts();
     match circuit.definition(variable) {
         Some(Definition::Gate(position)) => position,
         Some(Definition::Input(_)) => unreachable!(),
@@ -108,7 +107,7 @@ impl Order {
         ensures orders { IfOk result (Orders circuit.now) }
         ensures known { IfOk result (λ order. IsKnownOrder order.way) }
     {
-        let _max_var = circuit.max_var();
+        circuit.facts();
         if stand_in_order(alloc, circuit)? {
             return Ok(Order {
                 way: Way::Standing,
@@ -190,7 +189,7 @@ impl Order {
         ensures flags { G.gate_flags grid.new ≡ G.gate_flags grid.old }
         ensures count { G.evaluations grid.new ≡ G.evaluations grid.old + length circuit.now.gates }
     {
-        let _max_var = circuit.max_var();
+        circuit.facts();
         match self.way {
             Way::Standing => grid.sweep(frame, circuit.gates()),
             Way::Listed => sweep_listed(grid, circuit.gates(), &self.positions, frame),

@@ -1,7 +1,7 @@
 //! Readers and writers of the system.
-ghost use Rattle.std.specs.Prelude.{◌≡◌, ◌+◌, ◌-◌, ◌^◌, ◌<◌, ◌≤◌, ℕ, None, IfOk, OnErr, length};
+ghost use Rattle.std.specs.Prelude.{◌≡◌, ◌+◌, ◌-◌, ◌^◌, ◌<◌, ◌≤◌, ℕ, None, IfOk, length};
 ghost use Rattle.std.specs.Io.KnownBytes.{Keeps, ReadConsumes, WriteAppends};
-ghost use Rattle.aig_bytes.specs.Bytes.{after, before, failed, moved, IsAtEnd};
+ghost use Rattle.aig_bytes.specs.Bytes.{after, before, failed, gave, moved, IsAtEnd};
 
 use crate::bytes::{Failed, Read, Write};
 use crate::count::Count;
@@ -55,11 +55,9 @@ impl<T: io::Read> Read for Std<T> {
         ensures lowers { IfOk result (λ n. 0 < n → self.new.reads_left < self.old.reads_left) }
         ensures never_more { self.new.reads_left ≤ self.old.reads_left }
 
-        // What the reader of std gave is given. Each read that gives bytes counts as one, and no other counts.
+        // What the reader of std gave is given. Each read that gives bytes counts, and no other.
         ensures inner { ReadConsumes (T.remaining self.old.inner) (T.remaining self.new.inner) result buffer.new }
-        ensures one { IfOk result (λ n. 0 < n → self.old.reads_left ≡ self.new.reads_left + 1) }
-        ensures none { IfOk result (λ n. n ≡ 0 → self.new.reads_left ≡ self.old.reads_left) }
-        ensures refused { OnErr result (self.new.reads_left ≡ self.old.reads_left) }
+        ensures reads { self.old.reads_left ≡ self.new.reads_left + gave result }
     {
         if self.reads_left > 0
             && let Ok(count) = self.inner.read(buffer)

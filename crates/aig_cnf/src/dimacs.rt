@@ -125,8 +125,7 @@ fn put_goal_clause<W: Write>(
 fn clause_count(circuit: &Circuit) -> u32
     ensures { result ≡ 2 + 3 * length circuit.now.gates }
 {
-    // Its contract says how many gates there are at most.
-    let _max_var = circuit.max_var();
+    circuit.facts();
     2 + 3 * circuit.gates().len() as u32
 }
 

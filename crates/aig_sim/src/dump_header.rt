@@ -10,8 +10,7 @@ use std::alloc::Global;
 pub fn circuit_header(alloc: Global, circuit: &Circuit) -> Result<Vec<u8>, Memory>
     ensures { IfOk result (λ text. text.items ≡ header circuit.now) }
 {
-    // Its contract says that no entry has two names, and how many there are at most.
-    let _max_var = circuit.max_var();
+    circuit.facts();
     let counts = SignalCounts {
         inputs: circuit.inputs().len() as u32,
         latches: circuit.latches().len() as u32,

@@ -147,7 +147,7 @@ pub fn admitted_parts<'a>(
         × ArePartsOf circuit.now parts w × IsAdmitted circuit.now w) }
     ensures fault { IfErr result (HasWitnessFault circuit.now text.now) }
 {
-    let _max_var = circuit.max_var();
+    circuit.facts();
     let Some(parts) = read_parts(circuit, text) else {
         return Err(WitnessFault::Text);
     };
@@ -229,7 +229,7 @@ pub fn check_witness(alloc: Global, circuit: &Circuit, text: &[u8]) -> Result<Ve
         SpellsWitness circuit.now text.now w → IsConfirmed circuit.now w) }
     ensures fault { IfErr result (HasWitnessFault circuit.now text.now) }
 {
-    let _max_var = circuit.max_var();
+    circuit.facts();
     let parts = admitted_parts(circuit, text)?;
     let verdict = judge(alloc, circuit, &parts)?;
     Ok(verdict)

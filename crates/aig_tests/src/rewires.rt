@@ -25,7 +25,7 @@ fn rewire_parts(
     ensures levels { AreLevels circuit.new levels.new }
     ensures readers { AreReaders circuit.new readers.new }
 {
-    let _ = circuit.max_var();
+    circuit.facts();
     readers.make_room(r0, r1)?;
     if levels.rewire(circuit, readers, gate, r0, r1).is_err() {
         return Ok(false);

@@ -32,8 +32,7 @@ fn write_field<W: Write>(out: &mut W, number: u64) -> Result<(), Io>
 fn write_input_symbol<W: Write>(out: &mut W, circuit: &Circuit, input: u32) -> Result<(), Io>
     ensures { Writes W.written W.failures out.old out.new (symbol_name_at is_input circuit.now.symbols input) result }
 {
-    // Its contract says that no entry has two names.
-    let _max_var = circuit.max_var();
+    circuit.facts();
     match circuit.symbols().get(Kind::Input, input) {
         Some(symbol) => write_all(out, symbol),
         None => Ok(()),
@@ -44,8 +43,7 @@ fn write_input_symbol<W: Write>(out: &mut W, circuit: &Circuit, input: u32) -> R
 fn write_latch_symbol<W: Write>(out: &mut W, circuit: &Circuit, latch: u32) -> Result<(), Io>
     ensures { Writes W.written W.failures out.old out.new (symbol_name_at is_latch circuit.now.symbols latch) result }
 {
-    // Its contract says that no entry has two names.
-    let _max_var = circuit.max_var();
+    circuit.facts();
     match circuit.symbols().get(Kind::Latch, latch) {
         Some(symbol) => write_all(out, symbol),
         None => Ok(()),
@@ -112,8 +110,7 @@ fn input_count(circuit: &Circuit) -> u32
     ensures value { result ≡ length circuit.now.inputs }
     ensures few { result ≤ limit }
 {
-    // Its contract says how many there are at most.
-    let _max_var = circuit.max_var();
+    circuit.facts();
     circuit.inputs().len() as u32
 }
 
@@ -192,8 +189,7 @@ fn write_starts<W: Write>(
 pub fn write_input_map<W: Write>(circuit: &Circuit, frames: u32, out: &mut W) -> Result<(), Io>
     ensures { Writes W.written W.failures out.old out.new (map_text circuit.now frames) result }
 {
-    // Its contract says how many latches there are at most.
-    let _max_var = circuit.max_var();
+    circuit.facts();
     let inputs = input_count(circuit);
     write_frames(out, circuit, inputs, frames)?;
     write_starts(out, circuit, in_frames(frames, inputs), circuit.latches())

@@ -46,8 +46,7 @@ pub(crate) fn fits_limits(circuit: &Circuit, frames: u32) -> bool
     if frames > FRAMES {
         return false;
     }
-    // Its contract says that the parts are a circuit.
-    let _max_var = circuit.max_var();
+    circuit.facts();
     let frames = frames as usize;
     let inputs = in_frames(frames, circuit.inputs().len()) + uninitialised(circuit);
     let gates = in_frames(frames, frame_size(circuit));

@@ -76,8 +76,7 @@ pub(crate) fn guard_count(circuit: &Circuit) -> usize
 pub(crate) fn frame_size(circuit: &Circuit) -> usize
     ensures { result ≡ literals.frame_size circuit.now }
 {
-    // Its contract says that the parts are a circuit.
-    let _max_var = circuit.max_var();
+    circuit.facts();
     circuit.gates().len() + chain_count(circuit) + guard_count(circuit)
 }
 
@@ -88,8 +87,7 @@ impl Plan {
         requires fits { FitsLimits circuit.now frames }
         ensures { IfOk result (IsPlan circuit.now order.now frames) }
     {
-        // Its contract says that the parts are a circuit.
-        let _max_var = circuit.max_var();
+        circuit.facts();
         let inputs = circuit.inputs().len();
         Ok(Plan {
             inputs: inputs as u32,

@@ -141,8 +141,7 @@ pub(crate) fn unrolled_sections(
     requires plan { IsPlan circuit.now order.now frames plan.now }
     ensures { IfOk result (AreSections circuit.now order.now frames frames) }
 {
-    // Its contract says that the parts are a circuit.
-    let _max_var = circuit.max_var();
+    circuit.facts();
     let ordered = ordered_gates(alloc, circuit, order)?;
     let mut sections = Sections {
         outputs: List::new(alloc),

@@ -72,8 +72,7 @@ fn unrolled_circuit(
     ensures parts { IfOk result (IsUnrolled circuit.now frames) }
     ensures ready { IfOk result IsBinaryReady }
 {
-    // Its contract says that the parts are a circuit.
-    let _max_var = circuit.max_var();
+    circuit.facts();
     let order = canonical_order(alloc, circuit, levels)?;
     let parts = unrolled_parts(alloc, circuit, &order, frames)?;
     Ok(Circuit::of_ready(parts))

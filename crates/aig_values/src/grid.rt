@@ -6,7 +6,7 @@ ghost use Rattle.aig_parts.specs.Formed.{limit};
 ghost use Rattle.aig_parts.specs.declared.ternary.Tern.{Tern};
 ghost use Rattle.aig_parts.specs.declared.ternary.Tern.TheVariants.{X};
 ghost use Rattle.aig_parts.specs.Limits.{cell_limit, frame_limit};
-ghost use Rattle.aig_parts.specs.Literal.{variable, IsEven};
+ghost use Rattle.aig_parts.specs.Literal.{variable};
 ghost use Rattle.aig_values.specs.Cells.{gate_value, fresh_row, with_new_cell, with_swept_row, HasCells};
 ghost use Rattle.aig_values.specs.InputRows.{with_cell, row_at};
 ghost use Rattle.aig_values.specs.TraceText.{literal_character};
@@ -71,10 +71,7 @@ pub trait Grid: Sized + Drop {
     /// Writes the AND of the right sides' values at a frame to the gate's cell, and answers whether the cell changed.
     fn evaluate(&mut self, frame: u32, gate: Gate) -> bool
         requires frame { frame < length (cells self.old) }
-        requires even { IsEven gate.lhs }
-        requires gate { slice_get (gate_flags self.old) (variable gate.lhs) ≡ Some true }
-        requires rhs0 { variable gate.rhs0 < length (gate_flags self.old) }
-        requires rhs1 { variable gate.rhs1 < length (gate_flags self.old) }
+        requires gate { HasCells (gate_flags self.old) gate }
         ensures cells { Self.cells self.new
             ≡ with_cell (Self.cells self.old) frame (variable gate.lhs) (gate_value (row_at (Self.cells self.old)
             frame) gate) }

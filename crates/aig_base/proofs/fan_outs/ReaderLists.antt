@@ -1,6 +1,6 @@
 -- The lists of readers: what taking out, adding and making room do to how often a gate stands in a list.
-use Rattle.std.proofs.Common.{◌≡◌, ◌≢◌, ◌⊎◌, inl, inr, ℕ, zero, suc, ◌+◌, ◌-◌, ◌<◌, ◌≤◌, List, [], ◌∷◌, ◌++◌, length}
-use Rattle.std.proofs.Common.{map, get_or, set, true, cond, nat_eq, nat_lt, count_by, Contains, slice_get, Some, Result}
+use Rattle.std.proofs.Common.{◌≡◌, ◌≢◌, ◌⊎◌, ◌↔◌, inl, inr, ℕ, zero, suc, ◌+◌, ◌-◌, ◌<◌, ◌≤◌, List, [], ◌∷◌, ◌++◌}
+use Rattle.std.proofs.Common.{length, map, get_or, set, true, cond, nat_eq, nat_lt, count_by, Contains, slice_get, Some, Result}
 use Rattle.std.proofs.Common.{Ok, Err, OnErr, OnOk, refl, sym, ◌∙◌, ap, subst, arith, swap_remove, get_or-set_other}
 use Rattle.std.proofs.Common.{get_or-set_same, length-set}
 use Rattle.std.proofs.lemmas.Bool.{cases_eq, eq-eqb, ne_eqb}
@@ -20,7 +20,7 @@ use Rattle.aig_base.proofs.circuits.Gates.{same_gate}
 use Rattle.aig_base.proofs.circuits.Places.{gate}
 use Rattle.aig_base.proofs.circuits.Roles.{one_place}
 use Rattle.aig_base.proofs.checks.Walks.{gate_new, gate_old, kept, rewired_other, rewired_same}
-use Rattle.aig_base.specs.Readers.{AreReaders, ReaderLists, ReadsVariable, reader_lists, list_of, HasReaderRoom}
+use Rattle.aig_base.specs.Readers.{AreReaders, HasReaderRoom, KeepsReaders, ReaderLists, ReadsVariable, reader_lists, list_of}
 use Rattle.aig_base.specs.state.ReaderSlots.{items_at, tally, FitsOneReader, Loses, TakesOut}
 use Rattle.aig_base.specs.state.ReaderSlots.{AddsReader, AddsBoth, MovesReader, KeepsLists, AreTallied, ReadsBefore}
 
@@ -515,10 +515,22 @@ pub gate_at : (raw : Raw) (gates : List Gate) (i : ℕ) (g : Gate) → gates ≡
 gate_at raw gates i g same lt at = subst (λ gs. slice_get gs i ≡ Some g) same (slice_get_read gates
     (length gates) i g refl lt at)
 
-pub room_kept : (old new : List (SmallVec ℕ)) (r : ReaderLists) → reader_lists old ≡ r → KeepsLists old new
-    → (v : ℕ) → HasReaderRoom r v → HasReaderRoom (reader_lists new) v
-room_kept old new r is k v h =
-    room_of_fits new v (k.room v (fits_of_room old v (subst (λ x. HasReaderRoom x v) (sym is) h)))
+-- what keeps the lists of slots keeps those that contracts see
+pub keeps_readers : (old new : List (SmallVec ℕ)) (r : ReaderLists) → reader_lists old ≡ r → KeepsLists old new
+    → KeepsReaders r (reader_lists new)
+keeps_readers old new r is k = record {
+  lists = k.lists ∙ ap (λ (x : ReaderLists). x.lists) is;
+  room = λ v h. room_of_fits new v (k.room v (fits_of_room old v (subst (λ x. HasReaderRoom x v) (sym is) h)));
+}
+
+-- lists that did not change are readers still
+pub readers_kept : (raw : Raw) (old new : ReaderLists) → AreReaders raw old → new.lists ≡ old.lists → AreReaders raw new
+readers_kept raw old new h e = record {
+  size = ap length e ∙ h.size;
+  each = λ v w le. subst (λ (ls : List (List ℕ)). Contains (get_or ls v []) w ↔ ReadsVariable raw w v) (sym e)
+      (h.each v w le);
+  once = λ v w. subst (λ (ls : List (List ℕ)). count_by (nat_eq w) (get_or ls v []) ≤ 1) (sym e) (h.once v w);
+}
 
 pub fits_now : (slots : List (SmallVec ℕ)) (r : ReaderLists) → reader_lists slots ≡ r → (v : ℕ) → HasReaderRoom r v
     → FitsOneReader slots v

@@ -15,16 +15,6 @@ use Rattle.aig_base.proofs.growth.Appended.{gate_cases, more_sound, new_at, old_
 use Rattle.aig_base.proofs.circuits.Gates.{sides_in_range}
 use Rattle.aig_base.proofs.fan_outs.ReaderLists.{push_same, readers_of, tallied, tallied_all, tallied_more}
 
--- lists that did not change are readers still
-pub readers_kept : (raw : Raw) (old new : List (SmallVec ℕ)) → KeepsLists old new → AreReaders raw (reader_lists old)
-    → AreReaders raw (reader_lists new)
-readers_kept raw old new k r = record {
-  size = ap length k.lists ∙ r.size;
-  each = λ v w le. subst (λ (xs : List (List ℕ)). Contains (get_or xs v []) w ↔ ReadsVariable raw w v) (sym k.lists)
-      (r.each v w le);
-  once = λ v w. subst (λ (xs : List (List ℕ)). count_by (nat_eq w) (get_or xs v []) ≤ 1) (sym k.lists) (r.once v w);
-}
-
 module _ (raw : Raw) (r0 r1 : ℕ) (c : IsCircuit raw) (d0 : IsDefined raw (variable r0)) (d1 : IsDefined raw
     (variable r1)) where
   still_reads : (v w : ℕ) → ReadsVariable raw w v → ReadsBefore (with_appended_gate raw r0 r1) (length raw.gates) w v

@@ -5,16 +5,14 @@ use Rattle.std.proofs.lemmas.Option.{same_Some}
 use Rattle.aig_parts.specs.declared.ternary.Tern.{Tern}
 use Rattle.aig_parts.specs.declared.gate.Gate.{Gate}
 use Rattle.aig_parts.specs.declared.raw.Raw.{Raw}
-use Rattle.aig_base.specs.Changes.{next_gate, with_appended_gate}
+use Rattle.aig_base.specs.Changes.{CanAppend, next_gate, with_appended_gate}
 use Rattle.aig_base.specs.Levels.{AreLevels}
 use Rattle.aig_parts.specs.Literal.{variable, IsEven}
 use Rattle.aig_base.specs.Readers.{ReaderLists, AreReaders}
-use Rattle.aig_base.specs.Sections.{IsDefined}
 use Rattle.aig_base.proofs.growth.Appended.{more_circuit, new_at}
 use Rattle.aig_values.specs.Cells.{gate_value, with_new_cell}
 use Rattle.aig_values.specs.InputRows.{row_at}
 use Rattle.aig_parts.specs.Limits.{cell_limit}
-use Rattle.aig_parts.specs.Formed.{limit}
 use Rattle.aig_bench.specs.declared.buckets.Buckets.{Buckets}
 use Rattle.aig_bench.specs.declared.latch_readers.LatchReaders.{LatchReaders}
 use Rattle.aig_bench.specs.declared.driven_circuit.DrivenCircuit.{DrivenCircuit}
@@ -28,7 +26,7 @@ use Rattle.aig_bench.specs.state.Pending.{IsSettledBench}
 use Rattle.aig_bench.specs.state.DrivenCircuit.{IsDriven, pair_of}
 use Rattle.aig_bench.specs.state.Sweep.{IsWork}
 use Rattle.aig_bench.specs.Touched.{HasOther, Touches, Changes, AreCells}
-use Rattle.aig_bench.proofs.renewals.Changed.{readers_kept}
+use Rattle.aig_base.proofs.fan_outs.ReaderLists.{readers_kept}
 use Rattle.aig_bench.proofs.edits.Edited.{lists_for, work_kept, working}
 use Rattle.aig_bench.proofs.growing.Grown.{flags_grown, grown_current, grown_old, grown_width, has_all}
 use Rattle.aig_base.proofs.levels.LevelBound.{level_bound}
@@ -74,8 +72,7 @@ module _ (driven : DrivenCircuit) (fanouts : Fanouts) (pending : Pending) (flags
         idle = r.idle;
       })
 
-  module _ (r0 r1 : ℕ) (d : IsDefined driven.circuit (variable r0) × IsDefined driven.circuit (variable r1))
-      (below : driven.circuit.max_var < limit)
+  module _ (r0 r1 : ℕ) (can : CanAppend driven.circuit r0 r1)
       (few : (driven.circuit.max_var + 2) * length driven.stimulus.rows ≤ cell_limit) where
     abbrev more : Raw
     more = with_appended_gate driven.circuit r0 r1
@@ -91,7 +88,7 @@ module _ (driven : DrivenCircuit) (fanouts : Fanouts) (pending : Pending) (flags
         let p = r.working.bench.driven_is in
         let same : driven.circuit.max_var + 1 + 1 ≡ driven.circuit.max_var + 2 = omega arith in
         record {
-          circuit = more_circuit driven.circuit r0 r1 p.circuit below d.0 d.1;
+          circuit = more_circuit driven.circuit r0 r1 p.circuit can.room can.defined0 can.defined1;
           width = p.width;
           widths = p.widths;
           frames = p.frames;
@@ -125,7 +122,7 @@ module _ (driven : DrivenCircuit) (fanouts : Fanouts) (pending : Pending) (flags
       current : AreCurrent (pair_of after) frames new
       current = record {
         each = λ t lt. subst (IsCurrentRow (pair_of after) t) (sym (row_is t lt))
-            (grown_current (pair_of driven) r0 r1 r.working.bench.driven_is.circuit.sound d.0 d.1 t (row_at cells t)
+            (grown_current (pair_of driven) r0 r1 r.working.bench.driven_is.circuit.sound can.defined0 can.defined1 t (row_at cells t)
             (wide t lt)
             (r.working.bench.current.each t lt));
       }

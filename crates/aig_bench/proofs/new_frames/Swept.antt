@@ -15,7 +15,7 @@ use Rattle.aig_base.specs.Grounded.{IsSource}
 use Rattle.aig_parts.specs.Literal.{variable}
 use Rattle.aig_base.specs.Sound.{IsSound}
 use Rattle.aig_base.specs.Value.{start_of}
-use Rattle.aig_base.proofs.circuits.Circuits.{gate_definition, gate_in_range, gate_is, rhs0_in_range, rhs1_in_range}
+use Rattle.aig_base.proofs.circuits.Circuits.{gate_definition, gate_in_range}
 use Rattle.aig_base.proofs.circuits.Gates.{level_in_range}
 use Rattle.aig_values.specs.Cells.{HasCells, gate_value, with_gate_value, with_swept_row}
 use Rattle.aig_values.specs.state.Frame.{HoldsAll, HoldsSources}
@@ -28,6 +28,7 @@ use Rattle.aig_bench.specs.declared.driven_circuit.DrivenCircuit.{DrivenCircuit}
 use Rattle.aig_bench.specs.state.SweepOrder.{gate_at_position, gates_at_positions, IsFullOrder}
 use Rattle.aig_bench.specs.state.DrivenCircuit.{IsDriven, pair_of}
 use Rattle.aig_bench.proofs.cells.CellLemmas.{get_set_other, row_written}
+use Rattle.aig_bench.proofs.cells.Flags.{gate_cells}
 use Rattle.aig_bench.proofs.cells.Values.{sources_hold}
 
 -- the gates of an order can be evaluated
@@ -36,14 +37,7 @@ pub have_cells : (raw : Raw) (flags : List Bool) (gates : List Gate) → IsCircu
 have_cells raw flags gates circuit h order k d lt =
     let g : Gate = get_or gates k d in
     let (r, stands) = order.known k g (slice_get-get_or gates k d lt) in
-    let range = gate_in_range raw circuit.sound r g stands in
-    let definition = gate_definition raw circuit.sound r g stands in
-    record {
-      even = omega (arith, definition);
-      gate = h.gates (variable g.lhs) range (gate_is raw r g stands);
-      rhs0 = omega (arith, rhs0_in_range raw circuit.sound r g stands, h.size);
-      rhs1 = omega (arith, rhs1_in_range raw circuit.sound r g stands, h.size);
-    }
+    gate_cells raw flags r g circuit.sound h stands
 
 -- gates that are swept after others
 pub swept_then : (rows : List (List Tern)) (t : ℕ) (xs ys : List Gate) → t < length rows

@@ -6,11 +6,11 @@ use Rattle.aig_parts.specs.declared.ternary.Tern.{Tern}
 use Rattle.aig_parts.specs.declared.ternary.Tern.TheVariants.{X}
 use Rattle.aig_parts.specs.declared.gate.Gate.{Gate}
 use Rattle.aig_base.specs.Grounded.{Level}
-use Rattle.aig_parts.specs.Literal.{variable, IsEven}
+use Rattle.aig_parts.specs.Literal.{variable}
 use Rattle.aig_base.specs.Sections.{IsGate}
-use Rattle.aig_base.proofs.circuits.Circuits.{gate_definition, gate_in_range, gate_is, rhs0_in_range, rhs1_in_range}
+use Rattle.aig_base.proofs.circuits.Circuits.{gate_definition, gate_in_range, gate_is}
 use Rattle.aig_base.proofs.circuits.Gates.{level_of_gate}
-use Rattle.aig_values.specs.Cells.{gate_value}
+use Rattle.aig_values.specs.Cells.{gate_value, HasCells}
 use Rattle.aig_values.specs.InputRows.{row_at, with_cell}
 use Rattle.aig_bench.specs.declared.latch_list.LatchList.{LatchList}
 use Rattle.aig_bench.specs.state.Latches.{TakesNextFrom, QueuesNextLatches, Lists}
@@ -25,7 +25,7 @@ use Rattle.aig_parts.specs.declared.raw.Raw.{Raw}
 use Rattle.aig_base.specs.Readers.{ReaderLists, list_of, ReadsVariable, AreReaders}
 use Rattle.aig_bench.specs.state.Sweep.{IsWork, Sweeps}
 use Rattle.aig_bench.proofs.cells.CellLemmas.{get_set_other, row_written, row_other, frames_written}
-use Rattle.aig_bench.proofs.cells.Flags.{gate_flag}
+use Rattle.aig_bench.proofs.cells.Flags.{gate_cells}
 use Rattle.aig_bench.proofs.passes.Sweeps.{lower, swept_changed, swept_same, cell_changed, cell_same}
 
 -- the list of a variable has the gates that read it
@@ -81,17 +81,8 @@ module _ (driven : DrivenCircuit) (fanouts : Fanouts) (flags : List Bool) (cells
   positive : 0 < v
   positive = let d = gate_definition driven.circuit work.driven_is.circuit.sound q g at in omega arith
 
-  pub lhs_even : IsEven g.lhs
-  lhs_even = (gate_definition driven.circuit work.driven_is.circuit.sound q g at).0
-
-  pub lhs_flag : slice_get flags v ≡ Some true
-  lhs_flag = gate_flag driven.circuit flags v work.laid_out.flags_are in_range (gate_is driven.circuit q g at)
-
-  pub rhs0_inside : variable g.rhs0 < length flags
-  rhs0_inside = omega (arith, rhs0_in_range driven.circuit work.driven_is.circuit.sound q g at, work.laid_out.flags_are.size)
-
-  pub rhs1_inside : variable g.rhs1 < length flags
-  rhs1_inside = omega (arith, rhs1_in_range driven.circuit work.driven_is.circuit.sound q g at, work.laid_out.flags_are.size)
+  pub taken_cells : HasCells flags g
+  taken_cells = gate_cells driven.circuit flags q g work.driven_is.circuit.sound work.laid_out.flags_are at
 
   level : Level driven.circuit v l
   level = level_of_gate driven.circuit fanouts.levels v l work.levels work.driven_is.circuit.acyclic (gate_is driven.circuit q g at)

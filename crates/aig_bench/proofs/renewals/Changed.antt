@@ -190,14 +190,6 @@ pub readers_restarted : (raw c : Raw) (lit : ℕ) (w : Tern) (readers : ReaderLi
 readers_restarted raw c lit w readers h e =
     subst (λ (x : Raw). AreReaders x readers) (sym e) (record { size = h.size; each = h.each; once = h.once })
 
--- room alone leaves the readers
-pub readers_kept : (raw : Raw) (old new : ReaderLists) → AreReaders raw old → new.lists ≡ old.lists → AreReaders raw new
-readers_kept raw old new h e = record {
-  size = ap length e ∙ h.size;
-  each = λ v w le. subst (λ (ls : List (List ℕ)). Contains (get_or ls v []) w ↔ ReadsVariable raw w v) (sym e) (h.each v w le);
-  once = λ v w. subst (λ (ls : List (List ℕ)). count_by (nat_eq w) (get_or ls v []) ≤ 1) (sym e) (h.once v w);
-}
-
 -- a grid with one row more, for a driven circuit with one frame more
 pub laid_out_added : (driven : DrivenCircuit) (s : InputRows) (row : List Tern) (flags flags' : List Bool) (cells cells' : List (List Tern))
     → IsLaidOut driven flags cells → s ≡ record driven.stimulus { rows = driven.stimulus.rows ++ row ∷ [] }

@@ -4,49 +4,49 @@ use Rattle.aig_base.specs.Changes.{next_gate, with_appended_gate}
 use Rattle.aig_base.specs.state.Descent.{level_above}
 use Rattle.aig_base.specs.Levels.{AreLevels}
 use Rattle.aig_parts.specs.Literal.{variable}
-use Rattle.aig_base.specs.Readers.{AreReaders}
+use Rattle.aig_base.specs.Readers.{reader_lists}
 use Rattle.aig_base.proofs.growth.AppendedLevels.{level_fits, more_levels}
-use Rattle.aig_base.proofs.growth.AppendedReaders.{more_readers, readers_kept}
+use Rattle.aig_base.proofs.growth.AppendedReaders.{more_readers}
 use Rattle.aig_base.proofs.circuits.Gates.{defined_in_range}
-use Rattle.aig_base.proofs.fan_outs.ReaderLists.{kept_size, on_err, room_kept, slots_size}
+use Rattle.aig_base.proofs.fan_outs.ReaderLists.{keeps_readers, kept_size, on_err, readers_kept, slots_size}
 use Rattle.aig_base.proofs.append.append_gate.Goals as goal
 
 pub make_room_for_list-requires-clause-within0 : goal.make_room_for_list-requires-clause-within0
 make_room_for_list-requires-clause-within0 c =
     let raw = c.args.circuit.now in
-    let low = defined_in_range raw c.max_var.ensures.circuit.sound (variable c.args.r0) c.requires.defined0 in
+    let low = defined_in_range raw c.facts.ensures.sound (variable c.args.r0) c.requires.gate.defined0 in
     let size = slots_size raw c.readers.inside.fan_outs.slots _ c.readers.view_is c.requires.readers in
     omega (arith, c.var.ensures)
 
 pub make_room_for_list-requires-clause-within1 : goal.make_room_for_list-requires-clause-within1
 make_room_for_list-requires-clause-within1 c =
     let raw = c.args.circuit.now in
-    let low = defined_in_range raw c.max_var.ensures.circuit.sound (variable c.args.r1) c.requires.defined1 in
+    let low = defined_in_range raw c.facts.ensures.sound (variable c.args.r1) c.requires.gate.defined1 in
     let size = slots_size raw c.readers.inside.fan_outs.slots _ c.readers.view_is c.requires.readers in
     omega (arith, c.var-2.ensures)
 
-pub returns-in_err-make_room_for_list-clause-room : goal.returns-in_err-make_room_for_list-clause-room
-returns-in_err-make_room_for_list-clause-room c =
+pub returns-in_err-make_room_for_list-clause-same_readers : goal.returns-in_err-make_room_for_list-clause-same_readers
+returns-in_err-make_room_for_list-clause-same_readers c =
     on_err c.from_residual.result _
-    (room_kept c.readers.inside.fan_outs.slots c.make_room_for_list.new.self.slots _ c.readers.view_is
+    (keeps_readers c.readers.inside.fan_outs.slots c.make_room_for_list.new.self.slots _ c.readers.view_is
     c.make_room_for_list.ensures.keeps)
 
-pub returns-in_err-make_room_for_level-clause-room : goal.returns-in_err-make_room_for_level-clause-room
-returns-in_err-make_room_for_level-clause-room c =
+pub returns-in_err-make_room_for_level-clause-same_readers : goal.returns-in_err-make_room_for_level-clause-same_readers
+returns-in_err-make_room_for_level-clause-same_readers c =
     on_err c.from_residual-in_err-make_room_for_level.result _
-    (room_kept c.readers.inside.fan_outs.slots c.make_room_for_list.new.self.slots _ c.readers.view_is
+    (keeps_readers c.readers.inside.fan_outs.slots c.make_room_for_list.new.self.slots _ c.readers.view_is
     c.make_room_for_list.ensures.keeps)
 
-pub returns-in_err-append_gate-clause-room : goal.returns-in_err-append_gate-clause-room
-returns-in_err-append_gate-clause-room c =
+pub returns-in_err-append_gate-clause-same_readers : goal.returns-in_err-append_gate-clause-same_readers
+returns-in_err-append_gate-clause-same_readers c =
     on_err c.from_residual-in_err-append_gate.result _
-    (room_kept c.readers.inside.fan_outs.slots c.make_room_for_list.new.self.slots _ c.readers.view_is
+    (keeps_readers c.readers.inside.fan_outs.slots c.make_room_for_list.new.self.slots _ c.readers.view_is
     c.make_room_for_list.ensures.keeps)
 
 pub level_over-level-requires-clause-fits : goal.level_over-level-requires-clause-fits
 level_over-level-requires-clause-fits c =
     rw (c.deref.ensures.value, c.make_room_for_level.ensures.levels, c.levels.view_is, c.next_gate-gate.ensures)
-    (level_fits c.args.circuit.now c.args.r0 c.args.r1 c.max_var.ensures.circuit c.requires.defined0 c.requires.defined1
+    (level_fits c.args.circuit.now c.args.r0 c.args.r1 c.facts.ensures c.requires.gate.defined0 c.requires.gate.defined1
     c.args.levels.now c.requires.levels)
 
 pub returns-clause-levels : goal.returns-clause-levels
@@ -64,24 +64,25 @@ returns-clause-levels c =
     c.append_level.ensures.levels ∙ ap (λ (xs : List ℕ). xs ++ c.level_over-level.result ∷ []) same
     ∙ ap (λ (n : ℕ). old ++ n ∷ []) level in
     subst (λ xs. AreLevels (with_appended_gate raw r0 r1) xs) (sym cells)
-    (more_levels raw r0 r1 c.max_var.ensures.circuit c.requires.defined0 c.requires.defined1 old c.requires.levels)
+    (more_levels raw r0 r1 c.facts.ensures c.requires.gate.defined0 c.requires.gate.defined1 old c.requires.levels)
 
 pub returns-clause-readers : goal.returns-clause-readers
 returns-clause-readers c =
     let raw = c.args.circuit.now in
     let r0 = c.args.r0 in
     let r1 = c.args.r1 in
+    let old = c.readers.inside.fan_outs.slots in
     let slots = c.make_room_for_list.new.self.slots in
-    let were = readers_kept raw c.readers.inside.fan_outs.slots slots c.make_room_for_list.ensures.keeps
-    (subst (λ r. AreReaders raw r) (sym c.readers.view_is) c.requires.readers) in
-    more_readers raw r0 r1 c.max_var.ensures.circuit c.requires.defined0 c.requires.defined1 slots
+    let kept = keeps_readers old slots _ c.readers.view_is c.make_room_for_list.ensures.keeps in
+    let were = readers_kept raw _ (reader_lists slots) c.requires.readers kept.lists in
+    more_readers raw r0 r1 c.facts.ensures c.requires.gate.defined0 c.requires.gate.defined1 slots
     c.append_list.new.self.slots were (rw c.next_gate-gate.ensures at c.append_list.ensures)
 
 pub append_list-requires-clause-few : goal.append_list-requires-clause-few
 append_list-requires-clause-few c =
     let size = slots_size c.args.circuit.now c.readers.inside.fan_outs.slots _ c.readers.view_is c.requires.readers in
     let same = kept_size _ _ c.make_room_for_list.ensures.keeps in
-    omega (arith, c.requires.below)
+    omega (arith, c.requires.gate.room)
 
 pub append_list-requires-clause-room0 : goal.append_list-requires-clause-room0
 append_list-requires-clause-room0 c =

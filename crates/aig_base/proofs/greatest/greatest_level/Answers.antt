@@ -16,7 +16,7 @@ pub bounds-levels-variable : goal.bounds-levels-variable
 bounds-levels-variable c =
     let raw = c.args.circuit.now in
     let at = gate_at raw _ _ _ c.gates-gate-items.ensures c.loop-gate-test.true c.gate-item.is in
-    let le = gate_in_range raw c.max_var-max_var.ensures.circuit.sound _ (IsGate-of_gate raw _ _ at) in
+    let le = gate_in_range raw c.facts.ensures.sound _ (IsGate-of_gate raw _ _ at) in
     omega (arith, c.requires.size, c.var-variable.ensures)
 
 pub loop-gate-preserved : goal.loop-gate-preserved
@@ -25,9 +25,9 @@ loop-gate-preserved c =
     let levels = c.args.levels.now in
     let g = c.gate-item.result in
     let at = gate_at raw _ _ _ c.gates-gate-items.ensures c.loop-gate-test.true c.gate-item.is in
-    let le = gate_in_range raw c.max_var-max_var.ensures.circuit.sound _ (IsGate-of_gate raw _ _ at) in
+    let le = gate_in_range raw c.facts.ensures.sound _ (IsGate-of_gate raw _ _ at) in
     let within : variable g.lhs < length levels = omega (arith, c.requires.size) in
-    let here = level_listed raw levels _ g c.requires c.max_var-max_var.ensures.circuit at within in
+    let here = level_listed raw levels _ g c.requires c.facts.ensures at within in
     let greater : c.max-greatest.result ≡ max (get_or levels (variable g.lhs) 0) c.loop-gate.greatest =
     subst (λ v. c.max-greatest.result ≡ max (get_or levels v 0) c.loop-gate.greatest) c.var-variable.ensures
     c.max-greatest.ensures in

@@ -28,4 +28,4 @@ pub returns : goal.returns
 returns c =
     rw c.level_over.ensures
     (first_gate c.args.circuit.now c.args.levels.now c.in-Some.gate (rw c.requires.size at c.in-Some.ensures.found)
-    (c.reads_smaller.ensures.0 c.if-not-reads_smaller.false) c.requires.levels c.max_var-max_var.ensures.circuit.sound)
+    (c.reads_smaller.ensures.0 c.if-not-reads_smaller.false) c.requires.levels c.facts.ensures.sound)

@@ -12,19 +12,19 @@ use Rattle.aig_base.proofs.renewal.renew.Goals as goal
 
 pub level_over-level-requires-clause-first : goal.level_over-level-requires-clause-first
 level_over-level-requires-clause-first c =
-    let low = defined_in_range c.args.circuit.now c.max_var.ensures.circuit.sound (variable c.args.changed.now.rhs0)
+    let low = defined_in_range c.args.circuit.now c.facts.ensures.sound (variable c.args.changed.now.rhs0)
     c.requires.changed.defined0 in
     omega (arith, c.requires.levels.size)
 
 pub level_over-level-requires-clause-second : goal.level_over-level-requires-clause-second
 level_over-level-requires-clause-second c =
-    let low = defined_in_range c.args.circuit.now c.max_var.ensures.circuit.sound (variable c.args.changed.now.rhs1)
+    let low = defined_in_range c.args.circuit.now c.facts.ensures.sound (variable c.args.changed.now.rhs1)
     c.requires.changed.defined1 in
     omega (arith, c.requires.levels.size)
 
 pub level_over-level-requires-clause-fits : goal.level_over-level-requires-clause-fits
 level_over-level-requires-clause-fits c =
-    changed_fits c.args.circuit.now c.max_var.ensures.circuit c.args.changed.now.lhs c.args.changed.now.rhs0
+    changed_fits c.args.circuit.now c.facts.ensures c.args.changed.now.lhs c.args.changed.now.rhs0
     c.args.changed.now.rhs1
     c.requires.changed.gate c.requires.changed.defined0 c.requires.changed.defined1 c.requires.changed.apart0
     c.requires.changed.apart1 c.args.levels.now
@@ -33,7 +33,7 @@ level_over-level-requires-clause-fits c =
 
 pub set_level-requires-clause-variable : goal.set_level-requires-clause-variable
 set_level-requires-clause-variable c =
-    rw c.var.ensures (gate_within c.args.circuit.now c.max_var.ensures.circuit c.args.changed.now.lhs
+    rw c.var.ensures (gate_within c.args.circuit.now c.facts.ensures c.args.changed.now.lhs
     c.args.changed.now.rhs0 c.args.changed.now.rhs1
     c.requires.changed.gate c.requires.changed.defined0 c.requires.changed.defined1 c.requires.changed.apart0
     c.requires.changed.apart1 c.args.levels.now
@@ -42,7 +42,7 @@ set_level-requires-clause-variable c =
 
 pub set_level-requires-clause-readers : goal.set_level-requires-clause-readers
 set_level-requires-clause-readers c =
-    let lt = gate_within c.args.circuit.now c.max_var.ensures.circuit c.args.changed.now.lhs c.args.changed.now.rhs0
+    let lt = gate_within c.args.circuit.now c.facts.ensures c.args.changed.now.lhs c.args.changed.now.rhs0
     c.args.changed.now.rhs1
     c.requires.changed.gate c.requires.changed.defined0 c.requires.changed.defined1 c.requires.changed.apart0
     c.requires.changed.apart1 c.args.levels.now
@@ -52,19 +52,19 @@ set_level-requires-clause-readers c =
 
 pub set_level-requires-clause-within : goal.set_level-requires-clause-within
 set_level-requires-clause-within c =
-    let lt = gate_within c.args.circuit.now c.max_var.ensures.circuit c.args.changed.now.lhs c.args.changed.now.rhs0
+    let lt = gate_within c.args.circuit.now c.facts.ensures c.args.changed.now.lhs c.args.changed.now.rhs0
     c.args.changed.now.rhs1
     c.requires.changed.gate c.requires.changed.defined0 c.requires.changed.defined1 c.requires.changed.apart0
     c.requires.changed.apart1 c.args.levels.now
     c.requires.levels
     c.args.readers.now c.requires.readers in
     list_within c.args.circuit.now c.args.readers.now c.requires.readers c.var.result
-    (omega (arith, c.var.ensures, c.requires.levels.size)) c.max_var.ensures.circuit.sound c.args.levels.now
+    (omega (arith, c.var.ensures, c.requires.levels.size)) c.facts.ensures.sound c.args.levels.now
     c.requires.levels
 
 pub loop-variable-init : goal.loop-variable-init
 loop-variable-init c =
-    passed_first c.args.circuit.now c.max_var.ensures.circuit c.args.changed.now.lhs c.args.changed.now.rhs0
+    passed_first c.args.circuit.now c.facts.ensures c.args.changed.now.lhs c.args.changed.now.rhs0
     c.args.changed.now.rhs1
     c.requires.changed.gate c.requires.changed.defined0 c.requires.changed.defined1 c.requires.changed.apart0
     c.requires.changed.apart1 c.args.levels.now
@@ -76,7 +76,7 @@ loop-variable-init c =
 
 pub level_over-level-requires-in-Some-gate_of-clause-first : goal.level_over-level-requires-in-Some-gate_of-clause-first
 level_over-level-requires-in-Some-gate_of-clause-first c =
-    (popped_sides c.args.circuit.now c.max_var.ensures.circuit c.args.changed.now.lhs c.args.changed.now.rhs0
+    (popped_sides c.args.circuit.now c.facts.ensures c.args.changed.now.lhs c.args.changed.now.rhs0
     c.args.changed.now.rhs1
     c.requires.changed.gate c.requires.changed.defined0 c.requires.changed.defined1 c.requires.changed.apart0
     c.requires.changed.apart1 c.args.levels.now
@@ -92,7 +92,7 @@ level_over-level-requires-in-Some-gate_of-clause-first c =
 pub level_over-level-requires-in-Some-gate_of-clause-second :
     goal.level_over-level-requires-in-Some-gate_of-clause-second
 level_over-level-requires-in-Some-gate_of-clause-second c =
-    (popped_sides c.args.circuit.now c.max_var.ensures.circuit c.args.changed.now.lhs c.args.changed.now.rhs0
+    (popped_sides c.args.circuit.now c.facts.ensures c.args.changed.now.lhs c.args.changed.now.rhs0
     c.args.changed.now.rhs1
     c.requires.changed.gate c.requires.changed.defined0 c.requires.changed.defined1 c.requires.changed.apart0
     c.requires.changed.apart1 c.args.levels.now
@@ -107,7 +107,7 @@ level_over-level-requires-in-Some-gate_of-clause-second c =
 
 pub level_over-level-requires-in-Some-gate_of-clause-fits : goal.level_over-level-requires-in-Some-gate_of-clause-fits
 level_over-level-requires-in-Some-gate_of-clause-fits c =
-    popped_fits c.args.circuit.now c.max_var.ensures.circuit c.args.changed.now.lhs c.args.changed.now.rhs0
+    popped_fits c.args.circuit.now c.facts.ensures c.args.changed.now.lhs c.args.changed.now.rhs0
     c.args.changed.now.rhs1
     c.requires.changed.gate c.requires.changed.defined0 c.requires.changed.defined1 c.requires.changed.apart0
     c.requires.changed.apart1 c.args.levels.now
@@ -122,7 +122,7 @@ level_over-level-requires-in-Some-gate_of-clause-fits c =
 
 pub set_level-requires-in-Some-gate_of-clause-variable : goal.set_level-requires-in-Some-gate_of-clause-variable
 set_level-requires-in-Some-gate_of-clause-variable c =
-    popped_within c.args.circuit.now c.max_var.ensures.circuit c.args.changed.now.lhs c.args.changed.now.rhs0
+    popped_within c.args.circuit.now c.facts.ensures c.args.changed.now.lhs c.args.changed.now.rhs0
     c.args.changed.now.rhs1
     c.requires.changed.gate c.requires.changed.defined0 c.requires.changed.defined1 c.requires.changed.apart0
     c.requires.changed.apart1 c.args.levels.now
@@ -135,7 +135,7 @@ set_level-requires-in-Some-gate_of-clause-variable c =
 
 pub set_level-requires-in-Some-gate_of-clause-readers : goal.set_level-requires-in-Some-gate_of-clause-readers
 set_level-requires-in-Some-gate_of-clause-readers c =
-    let lt = popped_within c.args.circuit.now c.max_var.ensures.circuit c.args.changed.now.lhs c.args.changed.now.rhs0
+    let lt = popped_within c.args.circuit.now c.facts.ensures c.args.changed.now.lhs c.args.changed.now.rhs0
     c.args.changed.now.rhs1
     c.requires.changed.gate c.requires.changed.defined0 c.requires.changed.defined1 c.requires.changed.apart0
     c.requires.changed.apart1 c.args.levels.now
@@ -150,7 +150,7 @@ set_level-requires-in-Some-gate_of-clause-readers c =
 
 pub set_level-requires-in-Some-gate_of-clause-within : goal.set_level-requires-in-Some-gate_of-clause-within
 set_level-requires-in-Some-gate_of-clause-within c =
-    let lt = popped_within c.args.circuit.now c.max_var.ensures.circuit c.args.changed.now.lhs c.args.changed.now.rhs0
+    let lt = popped_within c.args.circuit.now c.facts.ensures c.args.changed.now.lhs c.args.changed.now.rhs0
     c.args.changed.now.rhs1
     c.requires.changed.gate c.requires.changed.defined0 c.requires.changed.defined1 c.requires.changed.apart0
     c.requires.changed.apart1 c.args.levels.now
@@ -162,7 +162,7 @@ set_level-requires-in-Some-gate_of-clause-within c =
     c.in-Some.ensures.capacity in
     let same = c.loop-variable.invariant.renewing.size in
     rw same (list_within c.args.circuit.now c.args.readers.now c.requires.readers c.in-Some.variable
-    (omega (arith, c.requires.levels.size)) c.max_var.ensures.circuit.sound c.args.levels.now c.requires.levels)
+    (omega (arith, c.requires.levels.size)) c.facts.ensures.sound c.args.levels.now c.requires.levels)
 
 pub set_level-requires-clause-room : goal.set_level-requires-clause-room
 set_level-requires-clause-room c = idle_room (length c.args.levels.now) c.args.worklist.now c.requires.idle
@@ -172,7 +172,7 @@ set_level-requires-in-Some-gate_of-clause-room c =
     record {
       marks = c.loop-variable.invariant.size ∙ sym c.loop-variable.invariant.renewing.size;
       visits = c.loop-variable.invariant.visits;
-      queue = popped_room c.args.circuit.now c.max_var.ensures.circuit c.args.changed.now.lhs c.args.changed.now.rhs0
+      queue = popped_room c.args.circuit.now c.facts.ensures c.args.changed.now.lhs c.args.changed.now.rhs0
           c.args.changed.now.rhs1
           c.requires.changed.gate c.requires.changed.defined0 c.requires.changed.defined1 c.requires.changed.apart0
           c.requires.changed.apart1 c.args.levels.now
@@ -186,7 +186,7 @@ set_level-requires-in-Some-gate_of-clause-room c =
 
 pub loop-variable-smaller-in-Some-gate_of : goal.loop-variable-smaller-in-Some-gate_of
 loop-variable-smaller-in-Some-gate_of c =
-    let less = popped_size c.args.circuit.now c.max_var.ensures.circuit c.args.changed.now.lhs c.args.changed.now.rhs0
+    let less = popped_size c.args.circuit.now c.facts.ensures c.args.changed.now.lhs c.args.changed.now.rhs0
     c.args.changed.now.rhs1
     c.requires.changed.gate c.requires.changed.defined0 c.requires.changed.defined1 c.requires.changed.apart0
     c.requires.changed.apart1 c.args.levels.now
@@ -204,7 +204,7 @@ loop-variable-smaller-in-Some-gate_of c =
 
 pub loop-variable-preserved-in-Some-gate_of : goal.loop-variable-preserved-in-Some-gate_of
 loop-variable-preserved-in-Some-gate_of c =
-    passed_more c.args.circuit.now c.max_var.ensures.circuit c.args.changed.now.lhs c.args.changed.now.rhs0
+    passed_more c.args.circuit.now c.facts.ensures c.args.changed.now.lhs c.args.changed.now.rhs0
     c.args.changed.now.rhs1
     c.requires.changed.gate c.requires.changed.defined0 c.requires.changed.defined1 c.requires.changed.apart0
     c.requires.changed.apart1 c.args.levels.now
@@ -221,7 +221,7 @@ loop-variable-preserved-in-Some-gate_of c =
 
 pub loop-variable-smaller : goal.loop-variable-smaller
 loop-variable-smaller c =
-    absurd (c.in_default-gate_of.ensures.none (popped_gate c.args.circuit.now c.max_var.ensures.circuit
+    absurd (c.in_default-gate_of.ensures.none (popped_gate c.args.circuit.now c.facts.ensures
     c.args.changed.now.lhs c.args.changed.now.rhs0 c.args.changed.now.rhs1
     c.requires.changed.gate c.requires.changed.defined0 c.requires.changed.defined1 c.requires.changed.apart0
     c.requires.changed.apart1 c.args.levels.now
@@ -234,7 +234,7 @@ loop-variable-smaller c =
 
 pub loop-variable-preserved : goal.loop-variable-preserved
 loop-variable-preserved c =
-    absurd (c.in_default-gate_of.ensures.none (popped_gate c.args.circuit.now c.max_var.ensures.circuit
+    absurd (c.in_default-gate_of.ensures.none (popped_gate c.args.circuit.now c.facts.ensures
     c.args.changed.now.lhs c.args.changed.now.rhs0 c.args.changed.now.rhs1
     c.requires.changed.gate c.requires.changed.defined0 c.requires.changed.defined1 c.requires.changed.apart0
     c.requires.changed.apart1 c.args.levels.now
@@ -247,7 +247,7 @@ loop-variable-preserved c =
 
 pub returns-clause-levels : goal.returns-clause-levels
 returns-clause-levels c =
-    passed_all c.args.circuit.now c.max_var.ensures.circuit c.args.changed.now.lhs c.args.changed.now.rhs0
+    passed_all c.args.circuit.now c.facts.ensures c.args.changed.now.lhs c.args.changed.now.rhs0
     c.args.changed.now.rhs1
     c.requires.changed.gate c.requires.changed.defined0 c.requires.changed.defined1 c.requires.changed.apart0
     c.requires.changed.apart1 c.args.levels.now

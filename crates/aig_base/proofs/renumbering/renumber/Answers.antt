@@ -20,7 +20,7 @@ built raw circuit order table canonical so parts is =
 
 pub renumbered_parts-requires-clause-listed : goal.renumbered_parts-requires-clause-listed
 renumbered_parts-requires-clause-listed c =
-    let circuit = c.max_var-max_var.ensures.circuit in
+    let circuit = c.facts.ensures in
     let so = rw c.deref.ensures.value at c.in_ok-table.ensures in
     rw c.deref-2.ensures.value
     (all_listed c.args.circuit.now circuit.formed circuit.sound (map gate_variable c.in_ok-gates.gates.items)
@@ -28,7 +28,7 @@ renumbered_parts-requires-clause-listed c =
 
 pub renumbered_parts-requires-clause-gates : goal.renumbered_parts-requires-clause-gates
 renumbered_parts-requires-clause-gates c =
-    let circuit = c.max_var-max_var.ensures.circuit in
+    let circuit = c.facts.ensures in
     let so = rw c.deref.ensures.value at c.in_ok-table.ensures in
     rw c.deref-2.ensures.value
     (each_sorted (IsGateListed c.in_ok-table.table.items) c.args.circuit.now c.in_ok-gates.gates.items
@@ -37,12 +37,12 @@ renumbered_parts-requires-clause-gates c =
 
 pub renumbered_parts-requires-clause-sorted : goal.renumbered_parts-requires-clause-sorted
 renumbered_parts-requires-clause-sorted c =
-    ordered_sorted c.args.circuit.now c.max_var-max_var.ensures.circuit.sound c.in_ok-gates.gates.items
+    ordered_sorted c.args.circuit.now c.facts.ensures.sound c.in_ok-gates.gates.items
     c.in_ok-gates.ensures
 
 pub of_ready-requires-clause-circuit : goal.of_ready-requires-clause-circuit
 of_ready-requires-clause-circuit c =
-    let circuit = c.max_var-max_var.ensures.circuit in
+    let circuit = c.facts.ensures in
     let order = map gate_variable c.in_ok-gates.gates.items in
     let so = rw c.deref.ensures.value at c.in_ok-table.ensures in
     let is = rw c.deref-2.ensures.value at c.in_ok-parts.ensures in
@@ -52,7 +52,7 @@ of_ready-requires-clause-circuit c =
 
 pub of_ready-requires-clause-ready : goal.of_ready-requires-clause-ready
 of_ready-requires-clause-ready c =
-    let circuit = c.max_var-max_var.ensures.circuit in
+    let circuit = c.facts.ensures in
     let order = map gate_variable c.in_ok-gates.gates.items in
     let so = rw c.deref.ensures.value at c.in_ok-table.ensures in
     let is = rw c.deref-2.ensures.value at c.in_ok-parts.ensures in
@@ -62,7 +62,7 @@ of_ready-requires-clause-ready c =
 
 pub returns-clause-parts : goal.returns-clause-parts
 returns-clause-parts c =
-    let circuit = c.max_var-max_var.ensures.circuit in
+    let circuit = c.facts.ensures in
     let order = map gate_variable c.in_ok-gates.gates.items in
     let so = rw c.deref.ensures.value at c.in_ok-table.ensures in
     let is = rw c.deref-2.ensures.value at c.in_ok-parts.ensures in
@@ -72,7 +72,7 @@ returns-clause-parts c =
 
 pub returns-clause-ready : goal.returns-clause-ready
 returns-clause-ready c =
-    let circuit = c.max_var-max_var.ensures.circuit in
+    let circuit = c.facts.ensures in
     let order = map gate_variable c.in_ok-gates.gates.items in
     let so = rw c.deref.ensures.value at c.in_ok-table.ensures in
     let is = rw c.deref-2.ensures.value at c.in_ok-parts.ensures in

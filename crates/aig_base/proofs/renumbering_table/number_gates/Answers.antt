@@ -5,7 +5,7 @@ use Rattle.aig_base.proofs.renumbering_table.number_gates.Goals as goal
 
 pub overflow_cast-table : goal.overflow_cast-table
 overflow_cast-table c =
-    let circuit = c.max_var-max_var.ensures.circuit in
+    let circuit = c.facts.ensures in
     let counts = circuit.formed.counts in
     omega (
       arith,
@@ -20,7 +20,7 @@ overflow_cast-table c =
 
 pub bounds-table-variable : goal.bounds-table-variable
 bounds-table-variable c =
-    let circuit = c.max_var-max_var.ensures.circuit in
+    let circuit = c.facts.ensures in
     omega (
       arith,
       order_below c.args.circuit.now circuit.sound c.args.order.now c.requires.order c.loop-place.place
@@ -30,7 +30,7 @@ bounds-table-variable c =
 
 pub loop-place-preserved : goal.loop-place-preserved
 loop-place-preserved c =
-    let circuit = c.max_var-max_var.ensures.circuit in
+    let circuit = c.facts.ensures in
     renumbering_more c.args.circuit.now circuit.sound c.args.order.now c.requires.order c.loop-place.table
     c.loop-place.place _
     c.loop-place.invariant c.loop-place-test.true

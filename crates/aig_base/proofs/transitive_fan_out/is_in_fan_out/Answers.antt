@@ -19,12 +19,12 @@ returns-then-first-gate-clause-reached c =
 
 pub bounds-levels-first : goal.bounds-levels-first
 bounds-levels-first c =
-    let low = defined_in_range c.args.circuit.now c.max_var.ensures.circuit.sound c.args.first c.requires.defined0 in
+    let low = defined_in_range c.args.circuit.now c.facts.ensures.sound c.args.first c.requires.defined0 in
     omega (arith, c.requires.levels.size)
 
 pub bounds-levels-second : goal.bounds-levels-second
 bounds-levels-second c =
-    let low = defined_in_range c.args.circuit.now c.max_var.ensures.circuit.sound c.args.second c.requires.defined1 in
+    let low = defined_in_range c.args.circuit.now c.facts.ensures.sound c.args.second c.requires.defined1 in
     omega (arith, c.requires.levels.size)
 
 pub returns-clause-none : goal.returns-clause-none
@@ -34,9 +34,9 @@ returns-clause-none c =
     let bound = c.max-bound.result in
     on_false c.search-found.result (IsApart raw gate bound c.args.first × IsApart raw gate bound c.args.second) _
     (λ apart. (
-      apart_at raw c.max_var.ensures.circuit c.args.levels.now c.requires.levels gate bound c.args.first
+      apart_at raw c.facts.ensures c.args.levels.now c.requires.levels gate bound c.args.first
           c.requires.defined0
           c.if-first-gate.false (omega (arith, c.max-bound.ensures)) apart.0,
-      apart_at raw c.max_var.ensures.circuit c.args.levels.now c.requires.levels gate bound c.args.second
+      apart_at raw c.facts.ensures c.args.levels.now c.requires.levels gate bound c.args.second
           c.requires.defined1 c.if-second-gate.false (omega (arith, c.max-bound.ensures)) apart.1,
     )) c.search-found.ensures.none

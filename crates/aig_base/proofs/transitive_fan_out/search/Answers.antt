@@ -6,7 +6,7 @@ use Rattle.aig_base.proofs.transitive_fan_out.search.Goals as goal
 
 pub visit-requires-clause-within : goal.visit-requires-clause-within
 visit-requires-clause-within c =
-    let low = gate_in_range c.args.circuit.now c.max_var.ensures.circuit.sound c.args.gate c.requires.gate in
+    let low = gate_in_range c.args.circuit.now c.facts.ensures.sound c.args.gate c.requires.gate in
     omega (arith, c.requires.visits.marks, c.requires.levels.size)
 
 pub loop-next-init : goal.loop-next-init
@@ -30,7 +30,7 @@ visit_below-requires-clause-within c =
     c.loop-next.invariant at in
     rw c.list-list.ensures
     (list_within c.args.circuit.now c.args.readers.now c.requires.readers u
-    (omega (arith, c.requires.visits.marks, c.requires.levels.size)) c.max_var.ensures.circuit.sound c.args.levels.now
+    (omega (arith, c.requires.visits.marks, c.requires.levels.size)) c.facts.ensures.sound c.args.levels.now
     c.requires.levels)
 
 pub returns-then-visit_below-clause-found : goal.returns-then-visit_below-clause-found
@@ -69,6 +69,6 @@ loop-next-preserved c =
 
 pub returns-clause-none : goal.returns-clause-none
 returns-clause-none c =
-    searched_all c.args.circuit.now c.max_var.ensures.circuit c.args.gate c.args.sought.first c.args.sought.second
+    searched_all c.args.circuit.now c.facts.ensures c.args.gate c.args.sought.first c.args.sought.second
     c.args.sought.bound c.args.visits.now c.loop-next.visits c.loop-next.next
     (let past = c.loop-next-test.false in omega arith) c.loop-next.invariant

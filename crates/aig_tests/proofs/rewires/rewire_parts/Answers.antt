@@ -1,24 +1,14 @@
-use Rattle.std.proofs.Common.{◌≡◌, ◌∙◌, ◌↔◌, ◌≤◌, ℕ, List, [], length, Contains, ap, get_or, count_by, nat_eq, subst}
-use Rattle.std.proofs.Common.{sym, arith}
-use Rattle.aig_parts.specs.declared.raw.Raw.{Raw}
+use Rattle.std.proofs.Common.{arith}
 use Rattle.aig_parts.specs.Literal.{variable}
-use Rattle.aig_base.specs.Readers.{AreReaders, ReaderLists, ReadsVariable}
 use Rattle.aig_base.proofs.circuits.Gates.{defined_in_range}
+use Rattle.aig_base.proofs.fan_outs.ReaderLists.{readers_kept}
 use Rattle.aig_tests.proofs.rewires.rewire_parts.Goals as goal
-
--- room alone leaves the readers
-readers_kept : (raw : Raw) (old new : ReaderLists) → AreReaders raw old → new.lists ≡ old.lists → AreReaders raw new
-readers_kept raw old new h e = record {
-  size = ap length e ∙ h.size;
-  each = λ v w le. subst (λ (ls : List (List ℕ)). Contains (get_or ls v []) w ↔ ReadsVariable raw w v) (sym e) (h.each v w le);
-  once = λ v w. subst (λ (ls : List (List ℕ)). count_by (nat_eq w) (get_or ls v []) ≤ 1) (sym e) (h.once v w);
-}
 
 pub make_room-requires-clause-first : goal.make_room-requires-clause-first
 make_room-requires-clause-first c =
     omega (
       arith,
-      defined_in_range c.args.circuit.now c.max_var.ensures.circuit.sound (variable c.args.r0) c.requires.defined0,
+      defined_in_range c.args.circuit.now c.facts.ensures.sound (variable c.args.r0) c.requires.defined0,
       c.requires.readers.size,
     )
 
@@ -26,19 +16,19 @@ pub make_room-requires-clause-second : goal.make_room-requires-clause-second
 make_room-requires-clause-second c =
     omega (
       arith,
-      defined_in_range c.args.circuit.now c.max_var.ensures.circuit.sound (variable c.args.r1) c.requires.defined1,
+      defined_in_range c.args.circuit.now c.facts.ensures.sound (variable c.args.r1) c.requires.defined1,
       c.requires.readers.size,
     )
 
 pub returns-in_err-make_room-clause-readers : goal.returns-in_err-make_room-clause-readers
 returns-in_err-make_room-clause-readers c =
-    readers_kept c.args.circuit.now _ _ c.requires.readers c.make_room.ensures.lists
+    readers_kept c.args.circuit.now _ _ c.requires.readers c.make_room.ensures.kept.lists
 
 pub rewire-requires-clause-readers : goal.rewire-requires-clause-readers
-rewire-requires-clause-readers c = readers_kept c.args.circuit.now _ _ c.requires.readers c.make_room.ensures.lists
+rewire-requires-clause-readers c = readers_kept c.args.circuit.now _ _ c.requires.readers c.make_room.ensures.kept.lists
 
 pub returns-then-is_err-clause-readers : goal.returns-then-is_err-clause-readers
-returns-then-is_err-clause-readers c = readers_kept c.args.circuit.now _ _ c.requires.readers c.make_room.ensures.lists
+returns-then-is_err-clause-readers c = readers_kept c.args.circuit.now _ _ c.requires.readers c.make_room.ensures.kept.lists
 
 pub replace-requires-clause-readers : goal.replace-requires-clause-readers
-replace-requires-clause-readers c = readers_kept c.args.circuit.now _ _ c.requires.readers c.make_room.ensures.lists
+replace-requires-clause-readers c = readers_kept c.args.circuit.now _ _ c.requires.readers c.make_room.ensures.kept.lists

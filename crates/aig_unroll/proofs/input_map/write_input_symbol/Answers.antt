@@ -13,7 +13,7 @@ returns-in-Some g c =
     let p = c.args.input in
     let found = symbol_found is_input kinds.Input refl only_input raw.symbols p c.in-Some.symbol.now
     (subst (λ (s : List (Key × List ℕ)). Contains s ((kinds.Input, p), c.in-Some.symbol.now)) c.symbols.ensures c.in-Some.ensures.some)
-    c.max_var-max_var.ensures.circuit.formed.names in
+    c.facts.ensures.formed.names in
     writes_same c.write_all.ensures (sym found)
 
 pub returns-in-None : goal.returns-in-None

@@ -13,7 +13,7 @@ returns-in-Some g c =
     let p = c.args.latch in
     let found = symbol_found is_latch kinds.Latch refl only_latch raw.symbols p c.in-Some.symbol.now
     (subst (λ (s : List (Key × List ℕ)). Contains s ((kinds.Latch, p), c.in-Some.symbol.now)) c.symbols.ensures c.in-Some.ensures.some)
-    c.max_var-max_var.ensures.circuit.formed.names in
+    c.facts.ensures.formed.names in
     writes_same c.write_all.ensures (sym found)
 
 pub returns-in-None : goal.returns-in-None

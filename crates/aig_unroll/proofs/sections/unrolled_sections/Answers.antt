@@ -18,7 +18,7 @@ loop-frame-init c =
     let is = rw c.latches.ensures at c.in_ok-first_latches.ensures in
     record {
       number = omega arith;
-      frame = first_frame c.args.circuit.now c.max_var-max_var.ensures.circuit c.args.order.now c.requires.order
+      frame = first_frame c.args.circuit.now c.facts.ensures c.args.order.now c.requires.order
           c.args.frames c.args.plan.now c.requires.plan (c.args.frames * c.args.plan.now.inputs)
           c.in_ok-first_latches.field-0 refl is;
       sections = record {
@@ -31,36 +31,36 @@ loop-frame-init c =
 
 pub push_frame-requires-clause-within : goal.push_frame-requires-clause-within
 push_frame-requires-clause-within c =
-    within c.args.circuit.now c.max_var-max_var.ensures.circuit c.args.order.now c.requires.order c.args.frames
+    within c.args.circuit.now c.facts.ensures c.args.order.now c.requires.order c.args.frames
     c.args.plan.now c.requires.plan c.loop-frame.frame.number c.loop-frame.frame c.loop-frame.invariant.frame
     c.requires.fits c.loop-frame-test.true
 
 pub push_frame-requires-clause-listed : goal.push_frame-requires-clause-listed
 push_frame-requires-clause-listed c =
-    listed c.args.circuit.now c.max_var-max_var.ensures.circuit c.args.order.now c.requires.order c.args.frames
+    listed c.args.circuit.now c.facts.ensures c.args.order.now c.requires.order c.args.frames
     c.args.plan.now c.requires.plan
 
 pub push_frame-requires-clause-ordered : goal.push_frame-requires-clause-ordered
 push_frame-requires-clause-ordered c =
     let P : List Gate → Type 0 = All (IsGateListed c.args.plan.now.numbers.items) in
     subst P (sym (c.as_slice-in-loop-frame.ensures ∙ c.in_ok-ordered.ensures))
-    (ordered_listed c.args.circuit.now c.max_var-max_var.ensures.circuit c.args.order.now c.requires.order c.args.frames
+    (ordered_listed c.args.circuit.now c.facts.ensures c.args.order.now c.requires.order c.args.frames
     c.args.plan.now c.requires.plan)
 
 pub next_frame-requires-clause-within : goal.next_frame-requires-clause-within
 next_frame-requires-clause-within c =
-    within c.args.circuit.now c.max_var-max_var.ensures.circuit c.args.order.now c.requires.order c.args.frames
+    within c.args.circuit.now c.facts.ensures c.args.order.now c.requires.order c.args.frames
     c.args.plan.now c.requires.plan c.loop-frame.frame.number c.loop-frame.frame c.loop-frame.invariant.frame
     c.requires.fits c.loop-frame-test.true
 
 pub next_frame-requires-clause-listed : goal.next_frame-requires-clause-listed
 next_frame-requires-clause-listed c =
-    listed c.args.circuit.now c.max_var-max_var.ensures.circuit c.args.order.now c.requires.order c.args.frames
+    listed c.args.circuit.now c.facts.ensures c.args.order.now c.requires.order c.args.frames
     c.args.plan.now c.requires.plan
 
 pub loop-frame-preserved : goal.loop-frame-preserved
 loop-frame-preserved c =
-    let (number, frame, sections) = one_more c.args.circuit.now c.max_var-max_var.ensures.circuit c.args.order.now
+    let (number, frame, sections) = one_more c.args.circuit.now c.facts.ensures c.args.order.now
     c.requires.order c.args.frames c.args.plan.now c.requires.plan c.loop-frame.frame.number c.loop-frame.frame
     c.loop-frame.invariant.frame c.as_slice-in-loop-frame.result.now c.loop-frame.sections c.push_frame.new.sections
     c.in_ok-frame.frame (c.as_slice-in-loop-frame.ensures ∙ c.in_ok-ordered.ensures) c.loop-frame.invariant.sections

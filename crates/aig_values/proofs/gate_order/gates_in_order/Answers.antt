@@ -10,7 +10,7 @@ pub returns-clause-ready : goal.returns-clause-ready
 returns-clause-ready c =
     let raw = c.args.circuit.now in
     IfOk-weaker c.sorted_gates.result (λ gates. AreSorted raw gates.items) (λ gates. IsGateOrder raw gates.items)
-    (λ gates sorted. gate_order raw c.max_var-max_var.ensures.circuit (map (λ g. variable g.lhs) gates.items) gates.items
+    (λ gates sorted. gate_order raw c.facts.ensures (map (λ g. variable g.lhs) gates.items) gates.items
     sorted.order (gates_sorted raw gates.items sorted))
     c.sorted_gates.ensures
 

@@ -1,10 +1,7 @@
-use Rattle.std.proofs.Common.{◌≡◌, ◌<◌, [], ◌∷◌, ◌++◌, sym, ap, subst, ◌∙◌}
+use Rattle.std.proofs.Common.{◌≡◌, [], ◌∷◌, ◌++◌, sym, ap, subst, ◌∙◌}
 use Rattle.aig_parts.specs.declared.gate.Gate.{Gate}
 use Rattle.aig_parts.specs.declared.raw.Raw.{Raw}
-use Rattle.aig_base.specs.Changes.{next_gate}
-use Rattle.aig_parts.specs.Formed.{limit}
-use Rattle.aig_parts.specs.Literal.{variable}
-use Rattle.aig_base.specs.Sections.{IsDefined}
+use Rattle.aig_base.specs.Changes.{CanAppend, next_gate}
 use Rattle.aig_base.proofs.growth.Appended.{more_circuit}
 use Rattle.aig_base.proofs.circuit.Circuit.append_gate.Goals as goal
 
@@ -29,13 +26,12 @@ invariant_of-self-2 c =
     let r0 = c.args.r0 in
     let r1 = c.args.r1 in
     let back = sym c.self.view_is in
+    let allowed = subst (λ (r : Raw). CanAppend r r0 r1) back c.requires in
     let gates : c.push.new.self ≡ raw.gates ++ next_gate raw r0 r1 ∷ [] =
     c.in_ok-push.ensures.ok
     ∙ ap (λ (g : Gate). raw.gates ++ g ∷ []) (c.next_gate-gate.ensures ∙ ap (λ (r : Raw). next_gate r r0 r1) back) in
     rw gates (
-      more_circuit raw r0 r1 c.self.invariant.0 (subst (λ (r : Raw). r.max_var < limit) back c.requires.below)
-          (subst (λ (r : Raw). IsDefined r (variable r0)) back c.requires.defined0)
-          (subst (λ (r : Raw). IsDefined r (variable r1)) back c.requires.defined1),
+      more_circuit raw r0 r1 c.self.invariant.0 allowed.room allowed.defined0 allowed.defined1,
       c.append_gate.ensures raw r0 r1 (sym c.len-position.ensures)
           (c.make_room.ensures.describes raw c.self.invariant.1),
       rw c.forget.ensures tt,

@@ -11,7 +11,7 @@ returns-in-Some-Input-clause-is c =
     let raw = c.args.self.now in
     let (l, at, is) = rw c.in-Some-Input.field-0-is at c.in-Some-Input.ensures.found in
     sym (no_gate_found raw c.args.variable (λ q g here same.
-    let k = one_place raw c.max_var-max_var.ensures.circuit.sound (gate q) (input _) g.lhs l tt tt (g, here, refl)
+    let k = one_place raw c.facts.ensures.sound (gate q) (input _) g.lhs l tt tt (g, here, refl)
     at (same ∙ sym is) in cc))
 
 pub returns-in-Some-Latch-clause-is : goal.returns-in-Some-Latch-clause-is
@@ -19,7 +19,7 @@ returns-in-Some-Latch-clause-is c =
     let raw = c.args.self.now in
     let (x, at, is) = rw c.in-Some-Latch.field-0-is at c.in-Some-Latch.ensures.found in
     sym (no_gate_found raw c.args.variable (λ q g here same.
-    let k = one_place raw c.max_var-max_var.ensures.circuit.sound (gate q) (latch _) g.lhs x.lit tt tt
+    let k = one_place raw c.facts.ensures.sound (gate q) (latch _) g.lhs x.lit tt tt
     (g, here, refl) (x, at, refl) (same ∙ sym is) in cc))
 
 pub returns-in-Some-Gate-clause-is : goal.returns-in-Some-Gate-clause-is
@@ -30,7 +30,7 @@ returns-in-Some-Gate-clause-is c =
     let here = rw c.gates.ensures at c.index-gates-position.is in
     let same : slice_get raw.gates c.in-Some-Gate.position ≡ Some c.index-gates-position.result =
     slice_get-get_or raw.gates c.in-Some-Gate.position c.index-gates-position.result lt ∙ ap Some (sym here) in
-    sym (gate_found raw c.max_var-max_var.ensures.circuit.sound c.args.variable _ g at is ∙ sym at ∙ same)
+    sym (gate_found raw c.facts.ensures.sound c.args.variable _ g at is ∙ sym at ∙ same)
 
 pub returns-in-None-clause-is : goal.returns-in-None-clause-is
 returns-in-None-clause-is c =
@@ -40,12 +40,12 @@ returns-in-None-clause-is c =
 
 pub returns-in-Some-Input-clause-none : goal.returns-in-Some-Input-clause-none
 returns-in-Some-Input-clause-none c =
-    input_no_gate c.args.self.now c.max_var-max_var.ensures.circuit.sound c.args.variable c.in-Some-Input.field-0-0
+    input_no_gate c.args.self.now c.facts.ensures.sound c.args.variable c.in-Some-Input.field-0-0
     (rw c.in-Some-Input.field-0-is at c.in-Some-Input.ensures.found)
 
 pub returns-in-Some-Latch-clause-none : goal.returns-in-Some-Latch-clause-none
 returns-in-Some-Latch-clause-none c =
-    latch_no_gate c.args.self.now c.max_var-max_var.ensures.circuit.sound c.args.variable c.in-Some-Latch.field-0-0
+    latch_no_gate c.args.self.now c.facts.ensures.sound c.args.variable c.in-Some-Latch.field-0-0
     (rw c.in-Some-Latch.field-0-is at c.in-Some-Latch.ensures.found)
 
 pub returns-in-None-clause-none : goal.returns-in-None-clause-none

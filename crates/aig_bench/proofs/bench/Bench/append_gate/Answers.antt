@@ -63,7 +63,7 @@ invariant_of-engine-in-Break-branch-4 g c =
     let e = c.in_err-append_gate.ensures in
     let r = ready_still c.engine.inside.driven c.make_room.new.fanouts c.make_room.new.pending _ _
     (c.make_room.ensures.ready c.engine.inside.driven k) c.append_gate.new.circuit c.append_gate.new.levels c.append_gate.new.readers
-    e.same_circuit e.same_levels e.same_lists in
+    e.same_circuit e.same_levels e.same_readers.lists in
     record {
       work = r.working.work;
       lists = r.lists;
@@ -77,7 +77,7 @@ invariant_of-self-in_err-append_gate g c =
     let e = c.in_err-append_gate.ensures in
     let r = ready_still c.engine.inside.driven c.make_room.new.fanouts c.make_room.new.pending _ _
     (c.make_room.ensures.ready c.engine.inside.driven k) c.append_gate.new.circuit c.append_gate.new.levels c.append_gate.new.readers
-    e.same_circuit e.same_levels e.same_lists in
+    e.same_circuit e.same_levels e.same_readers.lists in
     record { current = r.working.bench.current; idle = r.idle }
 
 pub evaluate_new-requires : goal.evaluate_new-requires
@@ -89,9 +89,9 @@ evaluate_new-requires g c =
     let flags = g.G.Grid.gate_flags c.add_gate.new.self in
     let size = r.working.work.laid_out.flags_are.size in
     let sound = r.working.bench.driven_is.circuit.sound in
-    let d = c.in_ok-check_append.ensures.defined in
-    let low0 = defined_in_range raw sound (variable c.args.r0) d.0 in
-    let low1 = defined_in_range raw sound (variable c.args.r1) d.1 in
+    let can = c.in_ok-check_append.ensures.gate in
+    let low0 = defined_in_range raw sound (variable c.args.r0) can.defined0 in
+    let low1 = defined_in_range raw sound (variable c.args.r1) can.defined1 in
     rw is (record {
       even = even_new raw c.args.r0 c.args.r1;
       gate = new_flag raw c.args.r0 c.args.r1 _ flags size c.add_gate.ensures.gates;
@@ -110,7 +110,7 @@ invariant_of-engine-2 g c =
     let more = c.evaluate_new.ensures in
     let is = last_is raw _ c.args.r0 c.args.r1 _ e c.last_gate-gate.ensures in
     let levels = c.in_ok-append_gate.ensures.levels in
-    let now = ready_grown driven c.make_room.new.fanouts c.make_room.new.pending _ _ r c.args.r0 c.args.r1 a.defined a.max_var a.cells
+    let now = ready_grown driven c.make_room.new.fanouts c.make_room.new.pending _ _ r c.args.r0 c.args.r1 a.gate a.cells
     (g.G.Grid.cells c.add_gate.new.self) (g.G.Grid.cells c.evaluate_new.new.grid) c.last_gate-gate.result is
     c.add_gate.ensures.cells
     more.frames more.rows c.append_gate.new.circuit _ _ _ _ _ e levels c.in_ok-append_gate.ensures.readers
@@ -125,7 +125,7 @@ invariant_of-engine-2 g c =
       lists = now.lists;
       orders = subst (λ (raw : Raw). Orders raw c.push_gate.new.self) (sym e)
           (c.push_gate.ensures raw c.args.r0 c.args.r1 (sym c.gate_count-gates.ensures) r.working.bench.driven_is.circuit
-          a.defined.0 a.defined.1 (c.reserve_gate.ensures.orders raw c.engine.invariant.orders));
+          a.gate.defined0 a.gate.defined1 (c.reserve_gate.ensures.orders raw c.engine.invariant.orders));
     }
 
 pub invariant_of-self-2 : goal.invariant_of-self-2
@@ -139,7 +139,7 @@ invariant_of-self-2 g c =
     let more = c.evaluate_new.ensures in
     let is = last_is raw _ c.args.r0 c.args.r1 _ e c.last_gate-gate.ensures in
     let levels = c.in_ok-append_gate.ensures.levels in
-    let now = ready_grown driven c.make_room.new.fanouts c.make_room.new.pending _ _ r c.args.r0 c.args.r1 a.defined a.max_var a.cells
+    let now = ready_grown driven c.make_room.new.fanouts c.make_room.new.pending _ _ r c.args.r0 c.args.r1 a.gate a.cells
     (g.G.Grid.cells c.add_gate.new.self) (g.G.Grid.cells c.evaluate_new.new.grid) c.last_gate-gate.result is
     c.add_gate.ensures.cells
     more.frames more.rows c.append_gate.new.circuit _ _ _ _ _ e levels c.in_ok-append_gate.ensures.readers
@@ -161,7 +161,7 @@ returns-clause-works g c =
     let rows = r.working.bench.laid_out.rows_are.frames_are in
     let mid = ap length c.add_gate.ensures.cells ∙ length-map _ _ ∙ rows in
     rw (← c.self.view_is, ← c.engine.view_is) (
-      grown_touched driven _ _ _ _ r c.args.r0 c.args.r1 a.defined a.max_var a.cells _ (more.evaluated ∙ mid),
-      grown_changed driven _ _ _ _ r c.args.r0 c.args.r1 a.defined a.max_var a.cells _ more.changed,
+      grown_touched driven _ _ _ _ r c.args.r0 c.args.r1 a.gate a.cells _ (more.evaluated ∙ mid),
+      grown_changed driven _ _ _ _ r c.args.r0 c.args.r1 a.gate a.cells _ more.changed,
       omega (arith, more.count, c.add_gate.ensures.count, c.make_room.ensures.count),
     )

@@ -12,7 +12,7 @@ use Rattle.aig_bench.proofs.carries.LatchChains.{readers_rewired}
 use Rattle.aig_bench.proofs.edits.Edited.{lists_for, pair_rewired, work_for, work_kept}
 use Rattle.aig_bench.proofs.edits.FourReaders.{any_fault, either_four}
 use Rattle.aig_bench.proofs.edits.Rewired.{driven_rewired, laid_out_rewired}
-use Rattle.aig_bench.proofs.renewals.Changed.{readers_kept}
+use Rattle.aig_base.proofs.fan_outs.ReaderLists.{readers_kept}
 use Rattle.aig_bench.proofs.renewals.Engines.{held}
 use Rattle.aig_bench.proofs.engine.Engine.replace_gate.Goals as goal
 
@@ -33,7 +33,7 @@ invariant_of-self g c =
     let s = c.self.inside in
     let k = held c.self.invariant c.self.view_is c.requires.settled in
     let w = k.working.work in
-    let readers = readers_kept s.driven.circuit _ _ w.readers c.make_room.ensures.lists in
+    let readers = readers_kept s.driven.circuit _ _ w.readers c.make_room.ensures.kept.lists in
     record {
       work = (work_kept s.driven s.driven s.fanouts _ _ _ _ k.working refl refl w.levels readers).work;
       lists = lists_for s.driven s.driven s.fanouts _ s.pending k.lists refl k.lists.readers;
@@ -55,18 +55,18 @@ returns-in_err-make_room-clause-memory g c =
 
 pub rewire-requires-clause-readers : goal.rewire-requires-clause-readers
 rewire-requires-clause-readers g c =
-    readers_kept c.self.inside.driven.circuit _ _ c.self.invariant.work.readers c.make_room.ensures.lists
+    readers_kept c.self.inside.driven.circuit _ _ c.self.invariant.work.readers c.make_room.ensures.kept.lists
 
 pub replace-requires-clause-readers : goal.replace-requires-clause-readers
 replace-requires-clause-readers g c =
-    readers_kept c.self.inside.driven.circuit _ _ c.self.invariant.work.readers c.make_room.ensures.lists
+    readers_kept c.self.inside.driven.circuit _ _ c.self.invariant.work.readers c.make_room.ensures.kept.lists
 
 pub invariant_of-self-in-Err : goal.invariant_of-self-in-Err
 invariant_of-self-in-Err g c =
     let s = c.self.inside in
     let k = held c.self.invariant c.self.view_is c.requires.settled in
     let w = k.working.work in
-    let readers = readers_kept s.driven.circuit _ _ w.readers c.make_room.ensures.lists in
+    let readers = readers_kept s.driven.circuit _ _ w.readers c.make_room.ensures.kept.lists in
     record {
       work = (work_kept s.driven s.driven s.fanouts _ _ _ _ k.working refl refl (rw c.in-Err.ensures.unchanged w.levels) readers).work;
       lists = lists_for s.driven s.driven s.fanouts _ s.pending k.lists refl k.lists.readers;

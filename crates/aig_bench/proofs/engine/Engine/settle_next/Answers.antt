@@ -2,7 +2,7 @@ use Rattle.std.proofs.Common.{◌<◌, length, refl, sym, subst, arith}
 use Rattle.std.proofs.lemmas.Bool.{false≢true}
 use Rattle.aig_bench.specs.state.Engine.{EngineState}
 use Rattle.aig_bench.proofs.queues.Queued.{queued_count_less}
-use Rattle.aig_bench.proofs.passes.SweepSteps.{lhs_even, lhs_flag, rhs0_inside, rhs1_inside, taken_work, queued_less, was_queued, queued_no_more, level_is, readers_fit, linked_work, linked_less, linked_no_more, written_work, sweeps_changed, sweeps_same, next_latches_changed, next_latches_unchanged, other_rows, taken_in_range}
+use Rattle.aig_bench.proofs.passes.SweepSteps.{taken_cells, taken_work, queued_less, was_queued, queued_no_more, level_is, readers_fit, linked_work, linked_less, linked_no_more, written_work, sweeps_changed, sweeps_same, next_latches_changed, next_latches_unchanged, other_rows, taken_in_range}
 use Rattle.aig_bench.proofs.engine.Engine.settle_next.Goals as goal
 
 pub returns-in_err-gate-clause-settles : goal.returns-in_err-gate-clause-settles
@@ -11,37 +11,13 @@ returns-in_err-gate-clause-settles g c =
     let takes = c.in_ok-variable.ensures c.self.inside.fanouts.levels w.buckets in
     absurd (c.in_err-gate.ensures.none (w.gates _ takes.was_queued))
 
-pub evaluate-changed-requires-clause-even : goal.evaluate-changed-requires-clause-even
-evaluate-changed-requires-clause-even g c =
-    let w = c.self.invariant.work in
-    let takes = c.in_ok-variable.ensures c.self.inside.fanouts.levels w.buckets in
-    let (q, at, e) = c.in_ok-gate.ensures.found in
-    let lt = subst (λ (s : EngineState). c.args.frame < length s.pair.rows) (sym c.self.view_is) c.requires.frame in
-    lhs_even _ _ _ _ _ _ _ _ _ q _ w lt takes at e
-
 pub evaluate-changed-requires-clause-gate : goal.evaluate-changed-requires-clause-gate
 evaluate-changed-requires-clause-gate g c =
     let w = c.self.invariant.work in
     let takes = c.in_ok-variable.ensures c.self.inside.fanouts.levels w.buckets in
     let (q, at, e) = c.in_ok-gate.ensures.found in
     let lt = subst (λ (s : EngineState). c.args.frame < length s.pair.rows) (sym c.self.view_is) c.requires.frame in
-    lhs_flag _ _ _ _ _ _ _ _ _ q _ w lt takes at e
-
-pub evaluate-changed-requires-clause-rhs0 : goal.evaluate-changed-requires-clause-rhs0
-evaluate-changed-requires-clause-rhs0 g c =
-    let w = c.self.invariant.work in
-    let takes = c.in_ok-variable.ensures c.self.inside.fanouts.levels w.buckets in
-    let (q, at, e) = c.in_ok-gate.ensures.found in
-    let lt = subst (λ (s : EngineState). c.args.frame < length s.pair.rows) (sym c.self.view_is) c.requires.frame in
-    rhs0_inside _ _ _ _ _ _ _ _ _ q _ w lt takes at e
-
-pub evaluate-changed-requires-clause-rhs1 : goal.evaluate-changed-requires-clause-rhs1
-evaluate-changed-requires-clause-rhs1 g c =
-    let w = c.self.invariant.work in
-    let takes = c.in_ok-variable.ensures c.self.inside.fanouts.levels w.buckets in
-    let (q, at, e) = c.in_ok-gate.ensures.found in
-    let lt = subst (λ (s : EngineState). c.args.frame < length s.pair.rows) (sym c.self.view_is) c.requires.frame in
-    rhs1_inside _ _ _ _ _ _ _ _ _ q _ w lt takes at e
+    taken_cells _ _ _ _ _ _ _ _ _ q _ w lt takes at e
 
 pub list-readers-requires : goal.list-readers-requires
 list-readers-requires g c =

@@ -17,7 +17,7 @@ positions_of-requires c =
 pub returns-clause-orders : goal.returns-clause-orders
 returns-clause-orders c =
     let raw = c.args.circuit.now in
-    listing raw c.in_ok-variables.variables.items c.in_ok-positions.positions.items c.max_var-max_var.ensures.circuit
+    listing raw c.in_ok-variables.variables.items c.in_ok-positions.positions.items c.facts.ensures
     c.in_ok-variables.ensures
     (subst (λ (vs : List ℕ). ArePositions raw vs c.in_ok-positions.positions.items) c.deref.ensures.value
     c.in_ok-positions.ensures)

@@ -12,7 +12,7 @@ sweep-requires-clause-gates g c =
     let flags = g.G.Grid.gate_flags c.args.grid.now in
     let order = subst (λ (w : Way). AreTaken raw w c.args.self.now.positions.items) c.in-Standing.is c.requires.orders in
     subst (All (HasCells flags)) (sym {A = List Gate} c.gates.ensures)
-    (have_cells raw flags raw.gates c.max_var-max_var.ensures.circuit c.requires.flags order)
+    (have_cells raw flags raw.gates c.facts.ensures c.requires.flags order)
 
 pub sweep_listed-requires-clause-gates : goal.sweep_listed-requires-clause-gates
 sweep_listed-requires-clause-gates g c =
@@ -23,4 +23,4 @@ sweep_listed-requires-clause-gates g c =
     subst (λ (gs : List Gate). All (HasCells flags) (gates_at_positions gs c.deref.result.now))
     (sym {A = List Gate} c.gates-in-Listed.ensures)
     (subst (λ (xs : List ℕ). All (HasCells flags) (gates_at_positions raw.gates xs)) (sym {A = List ℕ} c.deref.ensures.value)
-    (have_cells raw flags (gates_at_positions raw.gates ps) c.max_var-max_var.ensures.circuit c.requires.flags listing.full.order))
+    (have_cells raw flags (gates_at_positions raw.gates ps) c.facts.ensures c.requires.flags listing.full.order))

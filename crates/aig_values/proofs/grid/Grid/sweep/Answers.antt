@@ -20,28 +20,11 @@ evaluate-requires-clause-frame g c =
       length-with_swept_row (g.Self.Grid.cells c.args.self.now) c.args.frame (take c.loop-gate.gate-index c.args.gates.now),
     )
 
-pub evaluate-requires-clause-even : goal.evaluate-requires-clause-even
-evaluate-requires-clause-even g c =
-    (item_is (HasCells (g.Self.Grid.gate_flags c.args.self.now)) c.args.gates.now c.loop-gate.gate-index c.gate-item.result
-    c.requires.gates c.loop-gate-test.true c.gate-item.is).even
-
 pub evaluate-requires-clause-gate : goal.evaluate-requires-clause-gate
 evaluate-requires-clause-gate g c =
     rw c.loop-gate.invariant.flags
     (item_is (HasCells (g.Self.Grid.gate_flags c.args.self.now)) c.args.gates.now c.loop-gate.gate-index c.gate-item.result
-    c.requires.gates c.loop-gate-test.true c.gate-item.is).gate
-
-pub evaluate-requires-clause-rhs0 : goal.evaluate-requires-clause-rhs0
-evaluate-requires-clause-rhs0 g c =
-    rw c.loop-gate.invariant.flags
-    (item_is (HasCells (g.Self.Grid.gate_flags c.args.self.now)) c.args.gates.now c.loop-gate.gate-index c.gate-item.result
-    c.requires.gates c.loop-gate-test.true c.gate-item.is).rhs0
-
-pub evaluate-requires-clause-rhs1 : goal.evaluate-requires-clause-rhs1
-evaluate-requires-clause-rhs1 g c =
-    rw c.loop-gate.invariant.flags
-    (item_is (HasCells (g.Self.Grid.gate_flags c.args.self.now)) c.args.gates.now c.loop-gate.gate-index c.gate-item.result
-    c.requires.gates c.loop-gate-test.true c.gate-item.is).rhs1
+    c.requires.gates c.loop-gate-test.true c.gate-item.is)
 
 pub loop-gate-preserved : goal.loop-gate-preserved
 loop-gate-preserved g c = record {
