@@ -1,11 +1,9 @@
 -- Bytes that wait in a place of fixed room, and where they have gone.
-use Rattle.std.proofs.Common.{◌≡◌, ℕ, zero, suc, ◌+◌, ◌*◌, ◌/◌, ◌%◌, ◌^◌, ◌<◌, ◌≤◌, List, [], ◌∷◌, ◌++◌, length, take, drop, sym, ap, ◌∙◌, append_assoc, arith}
-use Rattle.std.proofs.Common.{refl, subst, length-append, take-take}
+use Rattle.std.proofs.Common.{◌≡◌, ℕ, ◌+◌, ◌<◌, ◌≤◌, List, [], ◌∷◌, ◌++◌, length, take, drop, sym, ap, ◌∙◌, append_assoc, arith}
+use Rattle.std.proofs.Common.{refl, subst, take-take}
 use Rattle.std.proofs.Math.Seq.{take-append_seam, take-append-add}
 use Rattle.std.proofs.Math.ListN.{set}
 use Rattle.std.specs.Prelude.{Option}
-use Rattle.std.specs.Fmt.{decimal}
-use Rattle.std.proofs.lemmas.Fmt.{decimal_digit, decimal_step}
 use Rattle.std.proofs.lemmas.List.{append-nil, take-append-drop, drop-append-le, length-take-le, take_more_set}
 use Rattle.std.proofs.lemmas.Slice.{take-put_mid}
 use borrow.Rule.Slice.PartMut.{put_mid}
@@ -27,37 +25,22 @@ put_in_first start end k n place new front fits le = put_in start end (end + n) 
     ∙ ap (λ (j : ℕ). take (j + n) (take end place ++ new)) (sym (length-take-le end place fits))
     ∙ take-append-add (take end place) new n)
 
--- a number's digits, which were put in at the end of what waits, and a byte after them
-pub put_in_field : (start end at last e : ℕ) (place place' ds : List ℕ) → start ≤ end → end ≤ length place
-    → last ≡ end + length ds → at + length ds ≡ last → last < length place' → drop at place' ≡ ds ++ drop last place
-    → take at place' ≡ take at place
-    → drop start (take (last + 1) (set place' last e)) ≡ drop start (take end place) ++ (ds ++ e ∷ [])
-put_in_field start end at last e place place' ds front fits size there room suffix before =
-    let same : at ≡ end = omega arith in
-    let suffix : drop end place' ≡ ds ++ drop last place = subst (λ (j : ℕ). drop j place' ≡ ds ++ drop last place) same suffix in
-    let before : take end place' ≡ take end place = subst (λ (j : ℕ). take j place' ≡ take j place) same before in
-    let all : place' ≡ take end place ++ (ds ++ drop last place) =
-    sym (take-append-drop end place') ∙ ap (λ (xs : List ℕ). xs ++ drop end place') before ∙ ap (λ (xs : List ℕ). take end place ++ xs) suffix in
-    let size : last ≡ length (take end place) + length ds = omega (arith, size, length-take-le end place fits) in
-    let digits : take last place' ≡ take end place ++ ds =
-    ap (take last) all ∙ ap (λ (j : ℕ). take j (take end place ++ (ds ++ drop last place))) size
-    ∙ take-append-add (take end place) (ds ++ drop last place) (length ds)
-    ∙ ap (λ (xs : List ℕ). take end place ++ xs) (take-append_seam ds (drop last place)) in
-    put_in start end (last + 1) place (set place' last e) (ds ++ e ∷ []) front fits
-    (take_more_set place' last e room ∙ ap (λ (xs : List ℕ). xs ++ e ∷ []) digits ∙ append_assoc (take end place) ds (e ∷ []))
-
-ten_times : (k : ℕ) → (10 ^ suc k ≡ 10 * 10 ^ k) × (0 < 10 ^ k)
-ten_times zero = (grind arith, omega arith)
-ten_times (suc k) = (grind arith, omega (arith, (ten_times k).0, (ten_times k).1))
-
--- how many digits a number has
-pub digits_of_more : (k n : ℕ) → 10 ^ k ≤ n → n < 10 ^ suc k → n < 2 ^ 64 → length (decimal n) ≡ suc k
-digits_of_more zero n lo hi small = ap length (decimal_digit n (omega arith))
-digits_of_more (suc k) n lo hi small =
-    let more = ten_times (suc k) in
-    let less = ten_times k in
-    let size = digits_of_more k (n / 10) (omega arith) (omega arith) (omega arith) in
-    ap length (decimal_step n (omega arith) small) ∙ omega (arith, length-append (decimal (n / 10)) ((48 + n % 10) ∷ []))
+-- digits that were written up to a place, and a byte after them
+pub put_back : (start at last e : ℕ) (place place' ds : List ℕ) → at ≤ length place → last ≡ at + length ds
+    → start + length ds ≡ last → last < length place' → drop start place' ≡ ds ++ drop last place
+    → take start place' ≡ take start place → take (last + 1) (set place' last e) ≡ take at place ++ (ds ++ e ∷ [])
+put_back start at last e place place' ds fits size there room suffix before =
+    let same : start ≡ at = omega arith in
+    let suffix : drop at place' ≡ ds ++ drop last place = subst (λ (j : ℕ). drop j place' ≡ ds ++ drop last place) same suffix in
+    let before : take at place' ≡ take at place = subst (λ (j : ℕ). take j place' ≡ take j place) same before in
+    let all : place' ≡ take at place ++ (ds ++ drop last place) =
+    sym (take-append-drop at place') ∙ ap (λ (xs : List ℕ). xs ++ drop at place') before ∙ ap (λ (xs : List ℕ). take at place ++ xs) suffix in
+    let size : last ≡ length (take at place) + length ds = omega (arith, size, length-take-le at place fits) in
+    let digits : take last place' ≡ take at place ++ ds =
+    ap (take last) all ∙ ap (λ (j : ℕ). take j (take at place ++ (ds ++ drop last place))) size
+    ∙ take-append-add (take at place) (ds ++ drop last place) (length ds)
+    ∙ ap (λ (xs : List ℕ). take at place ++ xs) (take-append_seam ds (drop last place)) in
+    take_more_set place' last e room ∙ ap (λ (xs : List ℕ). xs ++ e ∷ []) digits ∙ append_assoc (take at place) ds (e ∷ [])
 
 -- what is passed on after all that was held
 pub straight_on : (held front none taken : List ℕ) → held ++ [] ≡ front ++ none → none ≡ [] → held ++ taken ≡ (front ++ taken) ++ none

@@ -1,3 +1,5 @@
 pub mod BlockLemmas
+pub mod DigitLemmas
 pub mod GatherLemmas
+pub mod PairLemmas
 pub mod WriteLemmas

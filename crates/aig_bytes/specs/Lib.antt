@@ -4,3 +4,4 @@ pub mod Filled
 pub mod Flow
 pub mod Gathered
 pub mod Wrapped
+pub mod state

@@ -1,17 +1,20 @@
 //! Bytes that wait to be written.
-ghost use Rattle.std.specs.Prelude.{◌≡◌, ◌+◌, ◌<◌, ◌≤◌, ◌↔◌, [], ◌∷◌, ◌++◌, length, take, drop, false, IsTrue, OnOk};
+ghost use Rattle.std.specs.Prelude.{◌≡◌, ◌+◌, ◌^◌, ◌<◌, ◌≤◌, ◌↔◌, [], ◌∷◌, ◌++◌, length, take, drop, false, IsTrue, OnOk};
 ghost use Rattle.std.specs.Fmt.{decimal};
 ghost use Rattle.aig_bytes.specs.Bytes.{Writes};
 ghost use Rattle.aig_bytes.specs.Gathered.{Gathers};
 
 use crate::bytes::Write;
+use crate::digits::{SHORT, write_long, write_short};
 use crate::fault::Io;
 use crate::write::write_all;
-use itoa::write_digits;
 use std::marker::Model;
 
 /// How many bytes the longest number takes.
 const DIGITS: usize = 10;
+
+/// How many bytes the longest line of three short numbers takes.
+const LINE: usize = 27;
 
 /// From how many bytes on a piece does not wait.
 const LARGE: usize = 4096;
@@ -38,25 +41,6 @@ impl<const ROOM: usize> Model for ByteBlock<ROOM> {
 
     // If none waits there is all the room, and a number fits in it.
     ghost invariant = { λ b. (b.start ≤ b.end) × (b.end ≤ ROOM) × (b.start ≡ b.end → b.end ≡ 0) × (10 < ROOM) };
-}
-
-/// How many digits a number has.
-fn digit_count(number: u32) -> usize
-    ensures digits { result ≡ length (decimal number) }
-    ensures most { result ≤ 10 }
-{
-    match number {
-        0..=9 => 1,
-        10..=99 => 2,
-        100..=999 => 3,
-        1_000..=9_999 => 4,
-        10_000..=99_999 => 5,
-        100_000..=999_999 => 6,
-        1_000_000..=9_999_999 => 7,
-        10_000_000..=99_999_999 => 8,
-        100_000_000..=999_999_999 => 9,
-        _ => 10,
-    }
 }
 
 impl<const ROOM: usize> ByteBlock<ROOM> {
@@ -135,10 +119,34 @@ impl<const ROOM: usize> ByteBlock<ROOM> {
         if ROOM - after <= DIGITS {
             return false;
         }
-        let last = after + digit_count(number);
-        write_digits(number as u64, &mut self.bytes, last);
-        self.bytes[last] = end;
-        self.end = last + 1;
+        self.end = if number < SHORT {
+            write_short(&mut self.bytes, after, number, end)
+        } else {
+            write_long(&mut self.bytes, after, number, end)
+        };
+        true
+    }
+
+    /// Puts in a line of three numbers below 10^8, with a blank after each but the last, after those that wait, where
+    /// there is room for the longest such line there, and answers whether there was. Where there was none nothing
+    /// changes.
+    #[inline(always)]
+    pub fn push_line(&mut self, first: u32, second: u32, third: u32) -> bool
+        requires first { first < 10 ^ 8 }
+        requires second { second < 10 ^ 8 }
+        requires third { third < 10 ^ 8 }
+        ensures pushed { IsTrue result → self.new
+            ≡ self.old ++ ((decimal first ++ 32 ∷ []) ++ (decimal second ++ 32 ∷ []) ++ (decimal third ++ 10 ∷ [])) }
+        ensures full { result ≡ false → self.new ≡ self.old }
+        ensures some { self.old ≡ [] → 26 < ROOM → IsTrue result }
+    {
+        let after = self.end;
+        if ROOM - after < LINE {
+            return false;
+        }
+        let after = write_short(&mut self.bytes, after, first, b' ');
+        let after = write_short(&mut self.bytes, after, second, b' ');
+        self.end = write_short(&mut self.bytes, after, third, b'\n');
         true
     }
 

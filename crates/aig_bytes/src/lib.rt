@@ -5,6 +5,7 @@ mod block;
 mod buffered;
 mod bytes;
 mod count;
+mod digits;
 mod fault;
 mod memory_bytes;
 mod std_bytes;

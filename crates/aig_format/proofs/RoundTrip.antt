@@ -1,5 +1,5 @@
 -- A circuit has a spelling.
-use Rattle.std.proofs.Common.{◌≡◌, ◌≢◌, inl, inr, ℕ, suc, ◌+◌, ◌-◌, ◌*◌, ◌<◌, ◌≤◌}
+use Rattle.std.proofs.Common.{◌≡◌, ◌≢◌, inl, inr, ℕ, suc, ◌+◌, ◌-◌, ◌*◌, ◌^◌, ◌<◌, ◌≤◌}
 use Rattle.std.proofs.Common.{List, [], ◌∷◌, ◌++◌, length, get_or, map, Some, subst, refl, sym, ap, ◌∙◌, arith}
 use Rattle.std.proofs.Common.{length-append}
 use Rattle.std.specs.Prelude.{All, AllPairs, slice_get}
@@ -97,6 +97,13 @@ small_numbers raw c =
       fairness = all_right is_small (nexts ++ raw.outputs ++ raw.bad ++ raw.constraints ++ js) raw.fairness u1;
       gates = λ k d lt. (lhs k d lt, rhs k d lt 0 0 (omega arith), rhs k d lt 1 0 (omega arith));
     }
+
+-- the sides of each gate have eight digits at most
+pub short_gates : (raw : Raw) → IsCircuit raw
+    → All (λ g. (g.lhs < 10 ^ 8) × (g.rhs0 < 10 ^ 8) × (g.rhs1 < 10 ^ 8)) raw.gates
+short_gates raw c k d lt =
+    let small = (small_numbers raw c).gates k d lt in
+    (omega (arith, small.0), omega (arith, small.1), omega (arith, small.2))
 
 -- ---- room
 

@@ -1,5 +1,5 @@
 //! Writing ASCII files.
-ghost use Rattle.std.specs.Prelude.{◌≡◌, [], false, IfErr};
+ghost use Rattle.std.specs.Prelude.{◌≡◌, ◌^◌, ◌<◌, [], false, All, IfErr};
 ghost use Rattle.std.specs.List.{flat_map};
 ghost use Rattle.aig_bytes.specs.Bytes.{Writes};
 ghost use Rattle.aig_bytes.specs.Gathered.{Gathers};
@@ -30,14 +30,22 @@ fn put_latches<W: Write>(out: &mut W, block: &mut Block, latches: &[Latch]) -> R
 }
 
 fn put_gate<W: Write>(out: &mut W, block: &mut Block, gate: Gate) -> Result<(), Io>
+    requires { (gate.lhs < 10 ^ 8) × (gate.rhs0 < 10 ^ 8) × (gate.rhs1 < 10 ^ 8) }
     ensures { Gathers W.written W.failures out.old out.new block.old block.new (gate_line gate) result }
 {
-    put_field(out, block, gate.lhs.value(), b' ')?;
-    put_field(out, block, gate.rhs0.value(), b' ')?;
-    put_field(out, block, gate.rhs1.value(), b'\n')
+    let lhs = gate.lhs.value();
+    let rhs0 = gate.rhs0.value();
+    let rhs1 = gate.rhs1.value();
+    if block.push_line(lhs, rhs0, rhs1) {
+        return Ok(());
+    }
+    put_field(out, block, lhs, b' ')?;
+    put_field(out, block, rhs0, b' ')?;
+    put_field(out, block, rhs1, b'\n')
 }
 
 fn put_gates<W: Write>(out: &mut W, block: &mut Block, gates: &[Gate]) -> Result<(), Io>
+    requires { All (λ g. (g.lhs < 10 ^ 8) × (g.rhs0 < 10 ^ 8) × (g.rhs1 < 10 ^ 8)) gates.now }
     ensures { Gathers W.written W.failures out.old out.new block.old block.new (flat_map gate_line gates.now) result }
 {
     for gate in gates {

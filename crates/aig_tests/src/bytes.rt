@@ -54,6 +54,62 @@ fn blocks(rt: HostRuntime) {
     assert!(rt; right);
 }
 
+// Lines of three numbers, at each end of each count of digits.
+static LINES: [([u32; 3], &[u8]); 6] = [
+    ([0, 9, 10], b"0 9 10\n"),
+    ([99, 100, 999], b"99 100 999\n"),
+    ([1_000, 9_999, 10_000], b"1000 9999 10000\n"),
+    ([99_999, 100_000, 999_999], b"99999 100000 999999\n"),
+    ([1_000_000, 8_388_607, 9_999_999], b"1000000 8388607 9999999\n"),
+    ([10_000_000, 12_345_678, 99_999_999], b"10000000 12345678 99999999\n"),
+];
+
+// Whether a block takes the line after so many bytes exactly where there is room for the longest one.
+fn takes_line(numbers: [u32; 3], text: &[u8], before: usize) -> bool {
+    let [first, second, third] = numbers;
+    if first >= 100_000_000 || second >= 100_000_000 || third >= 100_000_000 {
+        return false;
+    }
+    let mut block = Block::new();
+    let put = block.append(&[b'x'; 40_000][..before.min(40_000)]);
+    let is_taken = block.push_line(first, second, third);
+    let line = block.as_slice().get(put..).unwrap_or(b"none".as_slice());
+    is_taken == (before <= 32_741) && line == if is_taken { text } else { b"".as_slice() }
+}
+
+#[test]
+fn lines_in_blocks(rt: HostRuntime) {
+    let mut right = true;
+    for &(numbers, text) in &LINES {
+        for before in [0, 1, 32_740, 32_741, 32_742, 32_768] {
+            right &= takes_line(numbers, text, before);
+        }
+    }
+    assert!(rt; right);
+}
+
+// Numbers of any length, alone.
+static FIELDS: [(u32, &[u8]); 8] = [
+    (0, b"0;"),
+    (9_999, b"9999;"),
+    (10_000, b"10000;"),
+    (99_999_999, b"99999999;"),
+    (100_000_000, b"100000000;"),
+    (999_999_999, b"999999999;"),
+    (1_000_000_000, b"1000000000;"),
+    (4_294_967_295, b"4294967295;"),
+];
+
+#[test]
+fn fields_in_blocks(rt: HostRuntime) {
+    let mut right = true;
+    for &(number, text) in &FIELDS {
+        let mut block = Block::new();
+        right &= block.push_field(number, b';') && block.as_slice() == text;
+    }
+    assert!(rt; right);
+}
+
 fn takes_three(out: &mut MemWriter) -> bool {
     out.write(b"ab") == Ok(2)
         && out.write(b"cd") == Ok(1)

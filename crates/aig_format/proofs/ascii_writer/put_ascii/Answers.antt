@@ -7,6 +7,7 @@ use Rattle.aig_format.specs.Spelling.{literal_line, latch_line, gate_line}
 use Rattle.aig_format.proofs.Written.{plain_lines}
 use Rattle.aig_bytes.proofs.GatherLemmas.{gathers_then, gathers_stop, gathers_failed, gathers_same}
 use Rattle.aig_format.specs.Spelling.{ascii}
+use Rattle.aig_format.proofs.RoundTrip.{short_gates}
 use Rattle.aig_format.proofs.ascii_writer.put_ascii.Goals as goal
 
 pub returns-in_err-put_header : goal.returns-in_err-put_header
@@ -32,3 +33,6 @@ returns-in_err-put_gates g c = let h = c.from_residual-in_err-put_gates.ensures.
 pub returns : goal.returns
 unfolding ascii
 returns g c = gathers_then (gathers_then (gathers_then (gathers_then (gathers_then (gathers_same c.in_ok-put_header.ensures (ap (header_line Ascii 0) c.counts_of.ensures.counts)) (gathers_same c.in_ok-put_literals.ensures (ap (flat_map literal_line) c.inputs.ensures))) (gathers_same c.in_ok-put_latches.ensures (ap (flat_map (latch_line false)) c.latches.ensures ∙ sym (plain_lines latch_line c.args.circuit.now.latches)))) c.in_ok-put_properties.ensures) (gathers_same c.in_ok-put_gates.ensures (ap (flat_map gate_line) c.gates.ensures))) c.put_names.ensures
+
+pub put_gates-requires : goal.put_gates-requires
+put_gates-requires g c = rw c.gates.ensures (short_gates c.args.circuit.now c.counts_of.ensures.circuit)
