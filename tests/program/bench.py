@@ -129,10 +129,12 @@ def bench(program, tally, _):
             rows.fails(f"the {part}'s file is told of {files}", f"bench {files}", part)
 
 
-def falling_chain(greatest):
-    """An input at the greatest variable, and below it gates down to variable 1, each the negation of the one above."""
-    gates = "".join(f"{2 * at} {2 * at + 3} {2 * at + 3}\n" for at in range(1, greatest))
-    return f"aag {greatest} 1 0 0 {greatest - 1}\n{2 * greatest}\n{gates}"
+def falling_chain(greatest, inputs=1):
+    """Inputs at the greatest variables, and below them gates down to variable 1, each the negation of the one above."""
+    first = greatest + 1 - inputs
+    named = "".join(f"{2 * at}\n" for at in range(first, greatest + 1))
+    gates = "".join(f"{2 * at} {2 * at + 3} {2 * at + 3}\n" for at in range(1, first))
+    return f"aag {greatest} {inputs} 0 0 {first - 1}\n{named}{gates}"
 
 
 def ends_of_words(rows):
@@ -141,6 +143,12 @@ def ends_of_words(rows):
         rows.gives(f"a chain of {greatest} variables", "bench chain rows script",
                    f"{1 - greatest % 2}\nok\n{greatest % 2}\nok\nx\n", chain=falling_chain(greatest), rows="0\n",
                    script="v 0 2\ns 0 0 1\nv 0 2\n+ x\nv 1 2\n")
+    for greatest, gates in ((9, 7), (9, 8), (31, 7), (31, 8), (32, 15), (32, 16), (63, 15), (63, 16), (64, 23), (64, 24)):
+        others = "1" * (greatest - gates - 1)
+        rows.gives(f"a chain of {gates} gates among {greatest} variables", "bench chain rows script",
+                   f"{gates % 2}\nok\n{1 - gates % 2}\n{(others or '1')[-1]}\nok\nx\n{(others or 'x')[-1]}\n",
+                   chain=falling_chain(greatest, greatest - gates), rows=f"0{others}\n",
+                   script=f"v 0 2\ns 0 0 1\nv 0 2\nv 0 {2 * greatest}\n+ x{others}\nv 1 2\nv 1 {2 * greatest}\n")
     appended = "".join(f"g {2 * at + 1} {2 * at + 1}\n" for at in range(1, 131))
     rows.gives("a chain of 130 appended gates", "bench wire rows script", "ok\n" * 131 + "1\n0\n",
                wire="aag 1 1 0 0 0\n2\n", rows="0\n", script=appended + "s 0 0 1\nv 0 262\nv 0 260\n")

@@ -3,6 +3,7 @@ pub mod Evaluation
 pub mod FieldLemmas
 pub mod GateOrders
 pub mod GatherLemmas
+pub mod LiteralLemmas
 pub mod PaddedRows
 pub mod SeenRows
 pub mod SweepLemmas

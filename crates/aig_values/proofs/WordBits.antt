@@ -1,6 +1,6 @@
 -- The two bits at a place of a word.
 use Rattle.std.proofs.Common.{◌≡◌, ◌≢◌, inl, inr, ℕ, zero, suc, ◌+◌, ◌-◌, ◌*◌, ◌/◌, ◌%◌, ◌^◌, ◌<◌, ◌≤◌, min, max, bit_and, bit_or, w64, refl, sym, ap, ◌∙◌, subst, arith}
-use Rattle.std.proofs.Math.Nat.{div-one, div-div-eq-div-mul}
+use Rattle.std.proofs.Math.Nat.{div-one, div-div-eq-div-mul, pow-le-pow_right}
 use Rattle.std.proofs.lemmas.Bool.{cases_lt, cases_eq}
 use Rattle.std.proofs.lemmas.Nat.{and_mask, shr-shr, pow_pos, pow-add, shl_whole}
 use Rattle.std.proofs.lemmas.Nat.Bits.{bit_at_and, bit_at_or, bit_at_not, bit_at_cat_low, bit_at_cat_high, bit_at_above, bit_at-zero}
@@ -8,7 +8,7 @@ use Rattle.std.specs.Int.{bit_at}
 use Rattle.aig_parts.specs.declared.ternary.Tern.{Tern}
 use Rattle.aig_parts.specs.declared.ternary.Tern.TheVariants.{Zero, One, X}
 use Rattle.aig_values.specs.Codes.{code_value, bits_of, IsCode}
-use Rattle.aig_values.specs.state.Words.{bits_at, value_in, IsWhole}
+use Rattle.aig_values.specs.state.Words.{bits_at, IsWhole}
 
 two_bits : (n place : ℕ) → bits_at n place ≡ bit_at n (2 * place) + 2 * bit_at n (2 * place + 1)
 unfolding bits_at
@@ -120,3 +120,52 @@ pub unknown_bits : (place : ℕ) → place < 32 → bits_at 6148914691236517205 
 unfolding bits_at
 unknown_bits place lt =
     and_mask (6148914691236517205 / 2 ^ (2 * place)) 2 ∙ third 6148914691236517205 place 32 lt refl
+
+-- two cells side by side, when so many pairs before them were taken off
+module _ (word pair rest : ℕ) (is : rest ≡ word / 2 ^ (4 * pair)) where
+  pub first_of_two : rest % 16 % 4 ≡ bits_at word (2 * pair)
+  unfolding bits_at
+  first_of_two =
+      let twice : 2 * (2 * pair) ≡ 4 * pair = omega arith in
+      omega (arith, and_mask (word / 2 ^ (2 * (2 * pair))) 2, ap (λ (k : ℕ). word / 2 ^ k) twice)
+
+  pub second_of_two : rest % 16 / 4 ≡ bits_at word (2 * pair + 1)
+  unfolding bits_at
+  second_of_two =
+      let twice : 2 * (2 * pair + 1) ≡ 4 * pair + 2 = omega arith in
+      omega (
+        arith,
+        and_mask (word / 2 ^ (2 * (2 * pair + 1))) 2,
+        ap (λ (k : ℕ). word / 2 ^ k) twice,
+        shr-shr word (4 * pair) 2,
+      )
+
+  pub rest_of_pairs : rest / 16 ≡ word / 2 ^ (4 * (pair + 1))
+  rest_of_pairs =
+      let more : 4 * (pair + 1) ≡ 4 * pair + 4 = omega arith in
+      omega (arith, ap (λ (k : ℕ). word / 2 ^ k) more, shr-shr word (4 * pair) 4)
+
+-- a word with one cell more before the others
+module _ (word bits : ℕ) (small : bits < 4) where
+  pub cell_before : bits_at (4 * word + bits) 0 ≡ bits
+  unfolding bits_at
+  cell_before =
+      omega (arith, and_mask ((4 * word + bits) / 2 ^ (2 * 0)) 2, div-one (4 * word + bits))
+
+  pub cells_after : (place : ℕ) → bits_at (4 * word + bits) (suc place) ≡ bits_at word place
+  unfolding bits_at
+  cells_after place =
+      let less : (4 * word + bits) / 4 ≡ word = omega arith in
+      and_mask ((4 * word + bits) / 2 ^ (2 * suc place)) 2
+      ∙ ap (λ (m : ℕ). m % 4)
+      (ap (λ (d : ℕ). (4 * word + bits) / d) (four_times place)
+      ∙ sym (div-div-eq-div-mul (4 * word + bits) 4 (2 ^ (2 * place)))
+      ∙ ap (λ (m : ℕ). m / 2 ^ (2 * place)) less)
+      ∙ sym (and_mask (word / 2 ^ (2 * place)) 2)
+
+  pub longer_fits : (place : ℕ) → place < 32 → word < 2 ^ (2 * place)
+      → (4 * word + bits < 18446744073709551616) × (4 * word + bits < 2 ^ (2 * (place + 1)))
+  longer_fits place lt under =
+      let most : 2 ^ (2 * place) ≤ 4611686018427387904 = pow-le-pow_right {n = 2} (omega arith) {i = 2 * place} {j = 62} (omega arith) in
+      let next : place + 1 ≡ suc place = omega arith in
+      (omega arith, omega (arith, four_times place, ap (λ (k : ℕ). 2 ^ (2 * k)) next))

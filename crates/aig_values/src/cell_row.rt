@@ -1,11 +1,13 @@
 //! Rows of cells, however they are kept.
-ghost use Rattle.std.specs.Prelude.{◌≡◌, ℕ, ◌+◌, ◌<◌, ◌≤◌, List, Some, length, IfOk, OnOk, slice_get, slice_set};
+ghost use Rattle.std.specs.Prelude.{◌≡◌, ℕ, ◌+◌, ◌<◌, ◌≤◌, List, Some, length, fold, All, IfOk, OnOk, IsTrue};
+ghost use Rattle.std.specs.Prelude.{slice_get, slice_set};
 ghost use Rattle.aig_parts.specs.Formed.{limit};
 ghost use Rattle.aig_parts.specs.declared.ternary.Tern.{Tern};
-ghost use Rattle.aig_values.specs.Cells.{fresh_row};
+ghost use Rattle.aig_values.specs.Cells.{fresh_row, with_gate_value, HasVariablesBelow};
 ghost use Rattle.aig_values.specs.state.Padded.{IsLengthened};
 
 use crate::code::Code;
+use aig_parts::Gate;
 use std::alloc::{AllocError, Global};
 
 /// A row of cells, as many as there is room for.
@@ -35,4 +37,14 @@ pub trait CellRow: Sized + Drop {
     fn set(&mut self, variable: usize, code: Code)
         requires { variable < length (cells self.old) }
         ensures { cells self.new ≡ slice_set (cells self.old) variable code };
+
+    /// Evaluates gates one after the other, where there is a faster way than cell by cell and memory for it. Answers
+    /// whether it did; else nothing changes. The codes are memory to work in.
+    fn sweep_at_once(&mut self, _codes: &mut Vec<Code>, _gates: &[Gate]) -> bool
+        requires { All (HasVariablesBelow (length (cells self.old))) _gates.now }
+        ensures swept { IsTrue result → cells self.new ≡ fold with_gate_value (cells self.old) _gates.now }
+        ensures same { (IsTrue result → ⊥) → cells self.new ≡ cells self.old }
+    {
+        false
+    }
 }

@@ -9,6 +9,7 @@ pub mod code;
 mod gate_flags;
 pub mod gate_order;
 mod grid;
+mod literal_codes;
 mod plane_row;
 mod reset;
 pub mod row;

@@ -1,16 +1,20 @@
 //! Rows of two bits a cell, thirty-two cells a word.
-ghost use Rattle.std.specs.Prelude.{◌≡◌, ◌≢◌, ℕ, ◌<◌};
+ghost use Rattle.std.specs.Prelude.{◌≡◌, ◌≢◌, ℕ, ◌*◌, ◌<◌, ◌≤◌, IsTrue, vec_len};
 ghost use Rattle.aig_parts.specs.declared.ternary.Tern.TheVariants.{X};
 ghost use Rattle.aig_values.specs.state.Words.{value_in, IsWhole};
 
 use crate::cell_row::CellRow;
 use crate::code::Code;
-use aig_parts::Tern;
+use crate::literal_codes::{CODES, sweep_words};
+use aig_parts::{Gate, Tern};
 use std::alloc::{AllocError, Global};
 use std::marker::Model;
 
 /// How many cells a word has.
 const CELLS: usize = 32;
+
+/// How many gates a word a sweep has at least, where unpacking the row is faster.
+const WORD_GATES: usize = 8;
 
 // A word whose cells are all x: 01, 32 times.
 fn unknown() -> u64
@@ -60,6 +64,16 @@ impl Model for PlaneRow {
     ghost invariant = { λ row. All IsWhole row.words.items };
 }
 
+// Makes codes for so many words, where there are fewer. Answers whether there are enough.
+fn make_codes(codes: &mut Vec<Code>, words: usize) -> bool
+    ensures { IsTrue result → 64 * words ≤ vec_len codes.new }
+{
+    match words.checked_mul(CODES) {
+        Some(size) => codes.len() >= size || codes.resize(size, Code::of(Tern::X)).is_ok(),
+        None => false,
+    }
+}
+
 impl CellRow for PlaneRow {
     ghost cells = { λ row. row };
 
@@ -85,5 +99,14 @@ impl CellRow for PlaneRow {
     fn set(&mut self, variable: usize, code: Code) {
         let word = &mut self.words[variable / CELLS];
         *word = with_code(*word, variable % CELLS, code);
+    }
+
+    fn sweep_at_once(&mut self, codes: &mut Vec<Code>, gates: &[Gate]) -> bool {
+        let words = self.words.len();
+        let is_faster = gates.len() / WORD_GATES >= words && make_codes(codes, words);
+        if is_faster {
+            sweep_words(&mut self.words, &mut codes[..CODES * words], gates);
+        }
+        is_faster
     }
 }

@@ -29,6 +29,8 @@ pub struct RowGrid<R: CellRow> {
     room: u32,
     gates: GateFlags,
     evaluations: Count,
+    // Memory that sweeps work in, kept from one to the next.
+    codes: Vec<Code>,
 }
 
 /// A grid that keeps a byte for each cell.
@@ -99,6 +101,16 @@ fn sweep_in<R: CellRow>(row: &mut R, gates: &[Gate])
     }
 }
 
+// Evaluates gates one after the other, at once where the row has a way to.
+fn sweep_row<R: CellRow>(row: &mut R, codes: &mut Vec<Code>, gates: &[Gate])
+    requires { All (HasVariablesBelow (length (R.cells row.old))) gates.now }
+    ensures { R.cells row.new ≡ fold with_gate_value (R.cells row.old) gates.now }
+{
+    if !row.sweep_at_once(codes, gates) {
+        sweep_in(row, gates);
+    }
+}
+
 // Gives each row cells for so many variables, at most one more than it has.
 fn make_room<R: CellRow>(rows: &mut [R], size: usize) -> Result<(), AllocError>
     requires more { All (λ row. size ≤ length (R.cells row) + 1) rows.old }
@@ -137,6 +149,7 @@ impl<R: CellRow> Grid for RowGrid<R> {
             room: gates.len() as u32,
             gates: GateFlags::of(gates),
             evaluations: Count::zero(),
+            codes: Vec::new(alloc),
         })
     }
 
@@ -163,7 +176,7 @@ impl<R: CellRow> Grid for RowGrid<R> {
     }
 
     fn sweep(&mut self, frame: u32, gates: &[Gate]) {
-        sweep_in(&mut self.rows[frame as usize], gates);
+        sweep_row(&mut self.rows[frame as usize], &mut self.codes, gates);
         count_more(&mut self.evaluations, gates.len());
     }
 

@@ -1,0 +1,9 @@
+-- A row of cells by literal (our own choice).
+use Rattle.std.specs.Prelude.{List, [], ◌∷◌}
+use Rattle.aig_parts.specs.declared.ternary.Tern.{Tern}
+use Rattle.aig_parts.specs.Ternary.{kleene_not}
+
+-- the values of all literals of a row: of each variable its own and that of its negation
+unfoldable pub by_literal : List Tern → List Tern
+by_literal [] = []
+by_literal (x ∷ row) = x ∷ kleene_not x ∷ by_literal row
