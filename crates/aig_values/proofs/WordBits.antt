@@ -8,7 +8,7 @@ use Rattle.std.specs.Int.{bit_at}
 use Rattle.aig_parts.specs.declared.ternary.Tern.{Tern}
 use Rattle.aig_parts.specs.declared.ternary.Tern.TheVariants.{Zero, One, X}
 use Rattle.aig_values.specs.Codes.{code_value, bits_of, IsCode}
-use Rattle.aig_values.specs.state.Words.{bits_at, value_in, IsWhole}
+use Rattle.aig_values.specs.state.Words.{bits_at, IsWhole}
 
 two_bits : (n place : ℕ) → bits_at n place ≡ bit_at n (2 * place) + 2 * bit_at n (2 * place + 1)
 unfolding bits_at
