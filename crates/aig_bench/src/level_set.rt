@@ -2,7 +2,8 @@
 ghost use Rattle.std.specs.Prelude.{◌≡◌, ◌≢◌, ◌⊎◌, ◌↔◌, ℕ, ◌+◌, ◌*◌, ◌/◌, ◌%◌, ◌<◌, ◌≤◌, IsTrue, IfOk, OnOk, IfNone};
 ghost use Rattle.std.specs.Prelude.{length, slice_index};
 ghost use Rattle.aig_parts.specs.Formed.{limit};
-ghost use Rattle.aig_bench.specs.state.LevelSet.{HasBit, IsFirstPlace, IsFirstFrom, IsFirstInWord, word_limit};
+ghost use Rattle.aig_parts.specs.state.Bits.{HasBit};
+ghost use Rattle.aig_bench.specs.state.LevelSet.{IsFirstPlace, IsFirstFrom, IsFirstInWord, word_limit};
 
 use aig_base::Memory;
 use std::alloc::Global;

@@ -71,10 +71,10 @@ pub visible_code : (n : ℕ) → All IsVisible (identifier_code n)
 visible_code n = visible_digits (suc n) n
 
 -- ---- digits one by one
-if_true : (b : Bool) (x y : List ℕ) → b ≡ true → (if b then x else y) ≡ x
+pub if_true : (b : Bool) (x y : List ℕ) → b ≡ true → (if b then x else y) ≡ x
 if_true b x y e = rw e refl
 
-if_false : (b : Bool) (x y : List ℕ) → b ≡ false → (if b then x else y) ≡ y
+pub if_false : (b : Bool) (x y : List ℕ) → b ≡ false → (if b then x else y) ≡ y
 if_false b x y e = rw e refl
 
 digits_step : (j k n : ℕ) (b : Bool) → nat_lt n 94 ≡ b → n < suc j → n < suc k

@@ -7,13 +7,9 @@ use Rattle.std.proofs.lemmas.List.{get_or-map, length-map}
 use Rattle.aig_parts.specs.declared.symbols.Kind.{Kind}
 use Rattle.aig_parts.specs.declared.symbols.Kind.TheVariants.{Input, Latch, Output, Bad, Constraint, Justice, Fairness}
 use Rattle.aig_parts.specs.SymbolPlaces.{Key}
+use Rattle.aig_parts.proofs.SymbolKeys.{and_both}
 use Rattle.aig_dump_header.specs.Names.{letter, symbol_of}
-
-if_true : (b : Bool) (x y : List ℕ) → b ≡ true → (if b then x else y) ≡ x
-if_true b x y e = rw e refl
-
-if_false : (b : Bool) (x y : List ℕ) → b ≡ false → (if b then x else y) ≡ y
-if_false b x y e = rw e refl
+use Rattle.aig_dump_header.proofs.Codes.{if_true, if_false}
 
 -- the section of a letter
 kind_of : ℕ → Kind
@@ -34,18 +30,13 @@ kind_back Fairness = refl
 same_kind : (a b : Kind) → letter a ≡ letter b → a ≡ b
 same_kind a b e = sym (kind_back a) ∙ ap kind_of e ∙ kind_back b
 
-both : (a b : Bool) → a && b ≡ true → (a ≡ true) × (b ≡ true)
-both true true h = (refl, refl)
-both true false h = (refl, h)
-both false b h = (h, absurd (cc))
-
 -- the test of an entry
 abbrev is_entry : Key → Kind → ℕ → Bool
 is_entry k kind p = letter k.0 == letter kind && k.1 == p
 
 same_entry : (k : Key) (kind : Kind) (p : ℕ) → is_entry k kind p ≡ true → k ≡ (kind, p)
 same_entry k kind p h =
-    let (a, b) = both (letter k.0 == letter kind) (k.1 == p) h in
+    let (a, b) = and_both (letter k.0 == letter kind) (k.1 == p) h in
     let e = same_kind k.0 kind (eqb-true (letter k.0) (letter kind) a) in
     let q = eqb-true k.1 p b in
     λ i. (e i, q i)

@@ -8,6 +8,7 @@ use Rattle.std.proofs.lemmas.Bool.{eqb-true}
 use Rattle.std.proofs.lemmas.Bool.Decides.{nat_tests}
 use Rattle.std.proofs.lemmas.List.Elements.{All-nil, All-cons, All-head, All-tail}
 use Rattle.aig_parts.specs.Formed as formed
+use Rattle.aig_parts.proofs.SymbolKeys.{and_both}
 use Rattle.aig_format.specs.declared.header.Format.{Format}
 use Rattle.aig_format.specs.declared.header.Format.TheVariants.{Ascii, Binary}
 use Rattle.aig_format.specs.declared.header.Counts.{Counts}
@@ -108,11 +109,6 @@ over_takes (suc m) bytes ns rest h = bind_then _ _ _ h (λ o eo h1.
       small =
           All-cons (λ (n : ℕ). n ≤ formed.limit) 0 o.0 (omega arith) q.small;
     }))
-
-and_both : (a b : Bool) → a && b ≡ true → (a ≡ true) × (b ≡ true)
-and_both true true h = (refl, refl)
-and_both true false h = (refl, h)
-and_both false b h = (h, absurd cc)
 
 over_again : (ns rest : List ℕ) → all_zero ns ≡ true → tail_at (length ns) true rest ≡ Ok (ns, rest)
 unfolding tail_at count_at line_end_at all_zero

@@ -7,6 +7,7 @@ use Rattle.std.specs.Cmp.{IsEquivalence}
 use Rattle.std.specs.Map.{keys_of}
 use Rattle.aig_parts.specs.declared.symbols.Kind.{Kind}
 use Rattle.aig_parts.specs.declared.symbols.Kind.TheVariants.{Input, Latch, Output, Bad, Constraint, Justice, Fairness}
+use Rattle.aig_parts.proofs.SymbolKeys.{and_both}
 use Rattle.aig_format.specs.Spelling.{Entry, letter}
 use Rattle.aig_format.specs.state.ReadingNames.{kind_of, same_key, is_named}
 
@@ -30,11 +31,6 @@ back Fairness = refl
 
 pub letter_reports : (a b : Kind) → letter a ≡ letter b → a ≡ b
 letter_reports a b e = sym (back a) ∙ ap kind_back e ∙ back b
-
-and_both : (a b : Bool) → a && b ≡ true → (a ≡ true) × (b ≡ true)
-and_both true true h = (refl, refl)
-and_both true false h = (refl, h)
-and_both false b h = (h, absurd cc)
 
 pub same_is : (a b : Kind × ℕ) → same_key a b ≡ true → a ≡ b
 same_is a b h =

@@ -21,6 +21,7 @@ use Rattle.aig_parts.specs.Literal.{variable}
 use Rattle.aig_base.specs.Renumbered.{IsBinaryReady}
 use Rattle.aig_base.specs.Sections.{definitions, uses}
 use Rattle.aig_base.specs.Sound.{IsInRange, IsDefinition, IsReset, StandsTwice}
+use Rattle.aig_base.proofs.lists.Joined.{All-left, All-right, All-unmap}
 use Rattle.aig_format.specs.Spelling.{no_zeros, short_ascii, short_binary}
 use Rattle.aig_format.specs.Spells.{greatest, AreSmall, HasSmallNumbers, HasSpelling, SpellsAscii}
 use Rattle.aig_format.specs.Spells.{SpellsBinary}
@@ -28,25 +29,12 @@ use Rattle.aig_format.specs.Spells.{SpellsBinary}
 -- ---- numbers
 
 module _ {X : Type 0} (P : X → Type 0) where
-  all_left : (xs ys : List X) → All P (xs ++ ys) → All P xs
-  all_left [] ys h = All-nil P
-  all_left (x ∷ xs) ys h = All-cons P x xs (h 0 x (omega arith)) (all_left xs ys (λ j e m. h (suc j) e (omega arith)))
-
-  all_right : (xs ys : List X) → All P (xs ++ ys) → All P ys
-  all_right [] ys h = h
-  all_right (x ∷ xs) ys h = all_right xs ys (λ j e m. h (suc j) e (omega arith))
-
-  all_unmap : {Y : Type 0} (f : Y → X) (ys : List Y) → All P (map f ys) → All (λ y. P (f y)) ys
-  all_unmap f [] h = All-nil (λ y. P (f y))
-  all_unmap f (y ∷ ys) h =
-      All-cons (λ y. P (f y)) y ys (h 0 (f y) (omega arith)) (all_unmap f ys (λ j e m. h (suc j) e (omega arith)))
-
   all_unflat : {Y : Type 0} (f : Y → List X) (ys : List Y) → All P (flat_map f ys) → All (λ y. All P (f y)) ys
   all_unflat f [] h = All-nil (λ y. All P (f y))
   all_unflat f (y ∷ ys) h =
       let both = subst (All P) (flat_map-cons f y ys) h in
-      All-cons (λ y. All P (f y)) y ys (all_left (f y) (flat_map f ys) both)
-      (all_unflat f ys (all_right (f y) (flat_map f ys) both))
+      All-cons (λ y. All P (f y)) y ys (All-left P (f y) (flat_map f ys) both)
+      (all_unflat f ys (All-right P (f y) (flat_map f ys) both))
 
 small_reset : (x : Latch) → IsReset x → x.lit ≤ greatest → x.reset ≤ greatest
 small_reset x (inl e) le = omega (arith, e)
@@ -66,35 +54,35 @@ small_numbers raw c =
     let nexts : List ℕ = map (λ x. x.next) raw.latches in
     let js : List ℕ = flat_map (λ p. p) raw.justice in
     let sides : List ℕ = flat_map (λ g. g.rhs0 ∷ g.rhs1 ∷ []) raw.gates in
-    let defs = all_left is_small (definitions raw) (uses raw) all in
-    let used = all_right is_small (definitions raw) (uses raw) all in
-    let d1 = all_left is_small (raw.inputs ++ lits) lhss defs in
-    let u1 = all_left is_small (nexts ++ raw.outputs ++ raw.bad ++ raw.constraints ++ js ++ raw.fairness) sides used in
-    let u2 = all_left is_small (nexts ++ raw.outputs ++ raw.bad ++ raw.constraints ++ js) raw.fairness u1 in
-    let u3 = all_left is_small (nexts ++ raw.outputs ++ raw.bad ++ raw.constraints) js u2 in
-    let u4 = all_left is_small (nexts ++ raw.outputs ++ raw.bad) raw.constraints u3 in
-    let u5 = all_left is_small (nexts ++ raw.outputs) raw.bad u4 in
+    let defs = All-left is_small (definitions raw) (uses raw) all in
+    let used = All-right is_small (definitions raw) (uses raw) all in
+    let d1 = All-left is_small (raw.inputs ++ lits) lhss defs in
+    let u1 = All-left is_small (nexts ++ raw.outputs ++ raw.bad ++ raw.constraints ++ js ++ raw.fairness) sides used in
+    let u2 = All-left is_small (nexts ++ raw.outputs ++ raw.bad ++ raw.constraints ++ js) raw.fairness u1 in
+    let u3 = All-left is_small (nexts ++ raw.outputs ++ raw.bad ++ raw.constraints) js u2 in
+    let u4 = All-left is_small (nexts ++ raw.outputs ++ raw.bad) raw.constraints u3 in
+    let u5 = All-left is_small (nexts ++ raw.outputs) raw.bad u4 in
     let lit : All (λ x. x.lit ≤ greatest) raw.latches =
-    all_unmap is_small (λ x. x.lit) raw.latches (all_right is_small raw.inputs lits d1) in
+    All-unmap is_small (λ x. x.lit) raw.latches (All-right is_small raw.inputs lits d1) in
     let next : All (λ x. x.next ≤ greatest) raw.latches =
-    all_unmap is_small (λ x. x.next) raw.latches (all_left is_small nexts raw.outputs u5) in
+    All-unmap is_small (λ x. x.next) raw.latches (All-left is_small nexts raw.outputs u5) in
     let lhs : All (λ g. g.lhs ≤ greatest) raw.gates =
-    all_unmap is_small (λ g. g.lhs) raw.gates (all_right is_small (raw.inputs ++ lits) lhss defs) in
+    All-unmap is_small (λ g. g.lhs) raw.gates (All-right is_small (raw.inputs ++ lits) lhss defs) in
     let rhs : All (λ g. AreSmall (g.rhs0 ∷ g.rhs1 ∷ [])) raw.gates =
     all_unflat is_small (λ g. g.rhs0 ∷ g.rhs1 ∷ []) raw.gates
-    (all_right is_small (nexts ++ raw.outputs ++ raw.bad ++ raw.constraints ++ js ++ raw.fairness) sides used) in
+    (All-right is_small (nexts ++ raw.outputs ++ raw.bad ++ raw.constraints ++ js ++ raw.fairness) sides used) in
     record {
-      inputs = all_left is_small raw.inputs lits d1;
+      inputs = All-left is_small raw.inputs lits d1;
       latches =
           λ k d lt.
           (lit k d lt, next k d lt, small_reset (get_or raw.latches k d) (c.sound.resets k d lt) (lit k d lt));
-      outputs = all_right is_small nexts raw.outputs u5;
-      bad = all_right is_small (nexts ++ raw.outputs) raw.bad u4;
-      constraints = all_right is_small (nexts ++ raw.outputs ++ raw.bad) raw.constraints u3;
+      outputs = All-right is_small nexts raw.outputs u5;
+      bad = All-right is_small (nexts ++ raw.outputs) raw.bad u4;
+      constraints = All-right is_small (nexts ++ raw.outputs ++ raw.bad) raw.constraints u3;
       justice =
           all_unflat is_small (λ p. p) raw.justice
-          (all_right is_small (nexts ++ raw.outputs ++ raw.bad ++ raw.constraints) js u2);
-      fairness = all_right is_small (nexts ++ raw.outputs ++ raw.bad ++ raw.constraints ++ js) raw.fairness u1;
+          (All-right is_small (nexts ++ raw.outputs ++ raw.bad ++ raw.constraints) js u2);
+      fairness = All-right is_small (nexts ++ raw.outputs ++ raw.bad ++ raw.constraints ++ js) raw.fairness u1;
       gates = λ k d lt. (lhs k d lt, rhs k d lt 0 0 (omega arith), rhs k d lt 1 0 (omega arith));
     }
 
@@ -149,7 +137,7 @@ room_of raw c =
     let ng : length lhss ≡ length raw.gates = length-map raw.gates (λ (g : Gate). g.lhs) in
     let few =
     room_from (definitions raw) raw.max_var
-    (all_left (IsInRange raw) (definitions raw) (uses raw) c.sound.in_range) c.sound.definitions c.sound.once in
+    (All-left (IsInRange raw) (definitions raw) (uses raw) c.sound.in_range) c.sound.definitions c.sound.once in
     omega (arith, few, a, b, nl, ng)
 
 -- ---- spellings

@@ -7,7 +7,7 @@ use Rattle.std.proofs.lemmas.List.{get_or_read, get_or_past}
 use Rattle.std.proofs.lemmas.Nat.Bits.{shr_and_one, bit_at-zero, bit_at_set_same, bit_at_set_other}
 use Rattle.aig_parts.specs.state.Bits.{HasBit}
 
-differ : (n : ℕ) → n ≡ 0 → n ≡ 1 → ⊥
+pub differ : (n : ℕ) → n ≡ 0 → n ≡ 1 → ⊥
 differ n a b = omega arith
 
 -- a number after all words
@@ -43,12 +43,12 @@ module _ (words : List ℕ) (number old : ℕ) (inside : number / 64 < length wo
   was = get_or_read words (number / 64) old inside is 0
 
   module _ (word : ℕ) where
-    there : (n : ℕ) → n ≡ number
+    pub there : (n : ℕ) → n ≡ number
         → bit_at (get_or (set words (number / 64) word) (n / 64) 0) (n % 64) ≡ bit_at word (number % 64)
     there n e =
         rw e (ap (λ (x : ℕ). bit_at x (number % 64)) (get_or-set_same words (number / 64) word 0 inside))
 
-    elsewhere : ((p : ℕ) → p < 64 → p ≢ number % 64 → bit_at word p ≡ bit_at old p) → (n : ℕ) → n ≢ number
+    pub elsewhere : ((p : ℕ) → p < 64 → p ≢ number % 64 → bit_at word p ≡ bit_at old p) → (n : ℕ) → n ≢ number
         → bit_at (get_or (set words (number / 64) word) (n / 64) 0) (n % 64) ≡ bit_at (get_or words (n / 64) 0) (n % 64)
     elsewhere same n ne = elim (cases_eq (n / 64) (number / 64)) [
       | inl e ↦

@@ -16,7 +16,7 @@ use Rattle.aig_parts.specs.contracts.symbols.Kind.{the_type}
 abbrev pub key_eq : Kind × ℕ → Kind × ℕ → Bool
 key_eq x y = sameb the_type x.0 y.0 && nat_eq x.1 y.1
 
-and_both : (a b : Bool) → a && b ≡ true → (a ≡ true) × (b ≡ true)
+pub and_both : (a b : Bool) → a && b ≡ true → (a ≡ true) × (b ≡ true)
 and_both true true h = (refl, refl)
 and_both true false h = (refl, h)
 and_both false b h = (h, absurd (cc))

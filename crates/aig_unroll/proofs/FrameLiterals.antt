@@ -14,9 +14,10 @@ use Rattle.aig_base.specs.Role as roles
 use Rattle.aig_base.specs.Role.{Role, role, place_of, input_role, gate_role, latch_role}
 use Rattle.aig_base.specs.Sections.{IsGate}
 use Rattle.aig_base.specs.Sound.{IsSound}
+use Rattle.aig_base.proofs.lists.Positions.{stands_at}
 use Rattle.aig_base.proofs.circuits.Places.{input, latch, gate, IsDefinition-of_place}
 use Rattle.aig_base.proofs.renumbered.Renumberings.{place_in}
-use Rattle.aig_base.proofs.circuits.Roles.{place_found, only_place, role_input, role_latch, role_gate_at, role_constant}
+use Rattle.aig_base.proofs.circuits.Roles.{place_found, only_place, role_input, role_latch, role_gate_at, role_constant, place_within}
 use Rattle.aig_unroll.specs.declared.plan.Plan.{Plan}
 use Rattle.aig_unroll.specs.declared.frame_literals.Frame.{Frame}
 use Rattle.aig_unroll.specs.FrameLiteral.{frame_literal, frame_gate_variable, first_literal, next_literal, role_literal}
@@ -43,9 +44,6 @@ odd_literal raw order k t l over odd =
     let f : (l - 1) / 2 ≡ l / 2 = omega arith in
     rw (by_role raw order k t l, by_role raw order k t (l - 1), odd, e, f) refl
 
-place_within : {A : Type 0} (test : A → Bool) (xs : List A) (i : ℕ) → place_of test xs ≡ Some i → i < length xs
-place_within test xs i h = let (x, at, passes) = place_found test xs i h in slice_get_within xs i x at
-
 -- the position of an input is within the inputs
 pub input_within : (raw : Raw) (order : List ℕ) (v p : ℕ) → role raw order v ≡ roles.input p → p < length raw.inputs
 input_within raw order v p h =
@@ -69,11 +67,6 @@ latch_within raw order v p h =
     go None (Some q) d h = cc
     go None None (Some q) h = cc
     go None None None h = cc
-
-pub stands_at : {A : Type 0} (xs : List A) (i : ℕ) → i < length xs → (x : A) × (slice_get xs i ≡ Some x)
-stands_at [] i lt = absurd (omega arith)
-stands_at (x ∷ xs) zero lt = (x, refl)
-stands_at (x ∷ xs) (suc i) lt = stands_at xs i (omega arith)
 
 module _ (raw : Raw) (sound : IsSound raw) (order : List ℕ) (canonical : IsCanonicalOrder raw order) where
   gates_only : (v : ℕ) → Contains order v → IsGate raw v

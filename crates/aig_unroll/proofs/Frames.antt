@@ -13,6 +13,7 @@ use Rattle.aig_base.specs.Circuit.{IsCircuit}
 use Rattle.aig_base.specs.Order.{IsCanonicalOrder}
 use Rattle.aig_base.specs.Renumbered.{ordered_gates}
 use Rattle.aig_base.specs.RenumberingTable.{IsInTable, IsLatchListed, IsGateListed, HasAllEntries}
+use Rattle.aig_base.proofs.lists.Positions.{stands_at}
 use Rattle.aig_base.proofs.lists.Counting.{length-order, sections_fit}
 use Rattle.aig_base.proofs.lists.Gets.{All-at, All-by_get}
 use Rattle.aig_base.proofs.renumbered.RenumberedParts.{map_same, all_listed, variable_bound}
@@ -26,7 +27,7 @@ use Rattle.aig_unroll.specs.state.FrameTable.{IsPlan, IsFrame, IsWithin, IsNextF
 use Rattle.aig_unroll.specs.Unrollable.{FitsLimits}
 use Rattle.aig_unroll.specs.Unrolled as parts
 use Rattle.aig_unroll.specs.Unrolled.{frames, frame_literals, frame_bad, frame_gate, frame_gates, kept_constraints}
-use Rattle.aig_unroll.proofs.FrameLiterals.{literal_same, of_first, of_next, stands_at}
+use Rattle.aig_unroll.proofs.FrameLiterals.{literal_same, of_first, of_next}
 use Rattle.aig_unroll.proofs.Guarding.{guarded_by_chain, guarded_by_guard}
 
 -- functions that agree on the numbers below n

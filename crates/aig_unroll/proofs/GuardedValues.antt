@@ -15,16 +15,16 @@ use Rattle.aig_base.specs.Sections.{IsDefined}
 use Rattle.aig_parts.specs.Ternary.{kleene_and}
 use Rattle.aig_base.specs.Value as value
 use Rattle.aig_base.specs.Value.{Value, Fits}
+use Rattle.aig_base.proofs.values.Refined.{and-zero}
 use Rattle.aig_base.proofs.circuits.EachUse.{each_use}
 use Rattle.aig_base.proofs.lists.Gets.{All-at}
 use Rattle.aig_base.proofs.values.NegatedValues.{of_ready}
 use Rattle.aig_base.proofs.values.OneValue.{exists_value}
-use Rattle.aig_base.proofs.lists.Positions.{slice_get_left, slice_get_right, Contains-from_slice_get, position_of}
+use Rattle.aig_base.proofs.lists.Positions.{slice_get_left, slice_get_right, Contains-from_slice_get, position_of, stands_at}
 use Rattle.aig_base.proofs.values.UniqueValue.{unique}
 use Rattle.aig_unroll.specs.FrameLiteral.{frame_literal, has_guards, chain_count, guard_count}
 use Rattle.aig_unroll.specs.Unrolled.{unrolled, frame_bad, frame_gate, frame_gates, chain_gate, chain_literal, link_before, guard_gate, guard_literal, last_chain}
 use Rattle.aig_unroll.specs.UnrolledValues.{IsAllowed, UnrolledValue, unrolled_row, ReachesBad, IsExcluded, GuardedValue, GuardsBad}
-use Rattle.aig_unroll.proofs.FrameLiterals.{stands_at}
 use Rattle.aig_unroll.proofs.Guarding.{AreGuarded, guarded}
 use Rattle.aig_unroll.proofs.UnrolledCircuit.{unrolled_sound, bad_on, bad_off, length-frame_bad}
 use Rattle.aig_unroll.proofs.UnrolledRow.{at_range, frames_at, place_at}
@@ -48,11 +48,6 @@ and_zero One X e = cc
 and_zero X Zero e = inr refl
 and_zero X One e = cc
 and_zero X X e = cc
-
-zero_right : (a : Tern) → kleene_and a Zero ≡ Zero
-zero_right Zero = refl
-zero_right One = refl
-zero_right X = refl
 
 -- frame s before frame t, or t itself and position c below n
 abbrev pub IsUpTo : ℕ → ℕ → ℕ → ℕ → Type 0
@@ -116,7 +111,7 @@ module _ (raw : Raw) (circuit : IsCircuit raw) (start : List Tern) (rows : List 
       | inr ew ↦ (let (s, i, m, stands, up, v) = d.zero ew in (s, i, m, stands, up_to_more t c s i up, v))
     ];
     some = λ h. let (s, i, m, stands, up, v) = h in elim (up_to_cases t c s i up) [
-      | inl before ↦ ap (kleene_and u) (d.some (s, i, m, stands, before, v)) ∙ zero_right u
+      | inl before ↦ ap (kleene_and u) (d.some (s, i, m, stands, before, v)) ∙ and-zero u
       | inr same ↦ ap (λ x. kleene_and x w) (one_value here (back s i m Zero stands same v))
     ];
   }
@@ -207,7 +202,7 @@ module _ (raw : Raw) (circuit : IsCircuit raw) (start : List Tern) (rows : List 
       excluded (inr h) =
           let (s, c, le, has, v) = h in
           let (i, stands) = position_of raw.constraints c has in
-          ap (kleene_and u) (d.some (s, i, c, stands, up s i c le stands, v)) ∙ zero_right u
+          ap (kleene_and u) (d.some (s, i, c, stands, up s i c le stands, v)) ∙ and-zero u
 
   guarded_value : (t b : ℕ) (w : Tern)
       → Decides (ReachesBad raw start rows t b) (IsExcluded raw start rows t b) w → GuardedValue raw start rows t b w

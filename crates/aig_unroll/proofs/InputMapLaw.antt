@@ -9,11 +9,12 @@ use Rattle.aig_parts.specs.declared.raw.Raw.{Raw}
 use Rattle.aig_base.specs.Circuit.{IsCircuit}
 use Rattle.aig_base.specs.Order.{IsCanonicalOrder}
 use Rattle.aig_base.specs.Renumbered.{evens, evens_from}
+use Rattle.aig_base.proofs.lists.Positions.{stands_at}
 use Rattle.aig_base.proofs.lists.Evens.{length-evens_from, get_or-evens_from, evens-append}
 use Rattle.aig_unroll.specs.FrameLiteral.{frame_literal, input_count, is_uninitialised, uninitialised}
 use Rattle.aig_unroll.specs.InputMap.{Origin, input, start, frame_origins, start_origins, origins, origin_literal}
 use Rattle.aig_unroll.specs.Unrolled.{frames}
-use Rattle.aig_unroll.proofs.FrameLiterals.{stands_at, of_input, of_first}
+use Rattle.aig_unroll.proofs.FrameLiterals.{of_input, of_first}
 
 module _ (raw : Raw) (circuit : IsCircuit raw) (order : List ℕ) (canonical : IsCanonicalOrder raw order) (k : ℕ) where
   abbrev literal : Origin → ℕ

@@ -13,12 +13,12 @@ use Rattle.aig_parts.specs.Literal.{variable}
 use Rattle.aig_base.specs.Order.{IsCanonicalOrder}
 use Rattle.aig_base.specs.state.BinaryReady.{SectionsInOrder}
 use Rattle.aig_base.specs.Renumbered.{ordered_gates, ready_gate, renumbered, renumbered_gate, renumbered_literal, renumbered_variable, evens, evens_from, IsBinaryReady}
+use Rattle.aig_base.proofs.lists.Positions.{unmap_option}
 use Rattle.aig_base.proofs.lists.Counting.{length-order}
 use Rattle.aig_base.proofs.lists.Evens.{joined, evens-append, length-evens_from}
 use Rattle.aig_base.proofs.lists.Gets.{All-at, All-by_get}
 use Rattle.aig_base.proofs.renumbered.RenumberedParts.{length-ordered}
 use Rattle.aig_base.proofs.renumbered.RenumberedReady.{ordered_gate, gate_literal, renumbered_ready, evens_map, goes_down, lhs_stays, sign_cases}
-use Rattle.aig_base.proofs.circuits.Roles.{unmap_some}
 use Rattle.aig_unroll.specs.FrameLiteral.{frame_literal, frame_size, input_count, chain_count, guard_count}
 use Rattle.aig_unroll.specs.Unrolled.{unrolled, frames, frame_gate, frame_gates, chain_gate, chain_literal, link_before, chain_before, guard_gate, guard_literal, last_chain}
 use Rattle.aig_unroll.proofs.FrameBounds.{literal_bound, any_bound}
@@ -158,7 +158,7 @@ module _ (raw : Raw) (circuit : IsCircuit raw) (order : List ℕ) (canonical : I
         All-append (IsReadyGate m) (ordinary ++ chain) guards
         (All-append (IsReadyGate m) ordinary chain
         (All-by_get (IsReadyGate m) ordinary (λ i y at.
-        let (g, here, is) = unmap_some (frame_gate raw order k t) (slice_get (ordered_gates raw order) i) y
+        let (g, here, is) = unmap_option (frame_gate raw order k t) (slice_get (ordered_gates raw order) i) y
         (sym (slice_get-map (frame_gate raw order k t) (ordered_gates raw order) i) ∙ at) in
         subst (IsReadyGate m) is (ordinary_ready i g here)))
         (All-range (IsReadyGate m) (chain_gate raw order k t) (chain_count raw) chain_ready))
@@ -184,7 +184,7 @@ module _ (raw : Raw) (circuit : IsCircuit raw) (order : List ℕ) (canonical : I
       (length-map (ordered_gates raw order) (frame_gate raw order k t)
       ∙ length-ordered raw circuit.sound order canonical)
       (λ i y at.
-      let (g, here, is) = unmap_some (frame_gate raw order k t) (slice_get (ordered_gates raw order) i) y
+      let (g, here, is) = unmap_option (frame_gate raw order k t) (slice_get (ordered_gates raw order) i) y
       (sym (slice_get-map (frame_gate raw order k t) (ordered_gates raw order) i) ∙ at) in
       let (q, below, stands, place) = ordered_gate raw circuit.sound order canonical i g here in
       ap lhs (sym is)

@@ -14,10 +14,11 @@ use Rattle.aig_base.specs.Grounded as by
 use Rattle.aig_parts.specs.Literal.{variable}
 use Rattle.aig_base.specs.Order.{AreSorted, ComesBefore, IsCanonicalOrder}
 use Rattle.aig_base.specs.Sections.{IsDefined, IsGate}
+use Rattle.aig_base.specs.state.Marks.{IsMarked}
 use Rattle.aig_base.proofs.circuits.Defined.{defined_cases, Grounded-of_defined}
 use Rattle.aig_base.proofs.levels.OneLevel.{level_of, same_level}
 use Rattle.aig_base.proofs.lists.Positions.{Contains-from_slice_get, position_of, unmap}
-use Rattle.aig_values.specs.GateOrder.{IsSourceOrEarlier, IsGateOrder, AreGatesOf, IsMarked, AreMarked, AddsMarks}
+use Rattle.aig_values.specs.GateOrder.{IsSourceOrEarlier, IsGateOrder, AreGatesOf, AreMarked, AddsMarks}
 use Rattle.aig_values.proofs.Evaluation.{get_set_same, get_set_other}
 use Rattle.aig_base.proofs.circuits.Circuits.{rhs0_defined, rhs1_defined}
 

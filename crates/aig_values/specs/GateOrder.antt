@@ -1,10 +1,11 @@
 -- Gates in a topological order, in which they can be evaluated (our own choice).
-use Rattle.std.specs.Prelude.{◌≡◌, ◌↔◌, Bool, true, ◌⊎◌, ℕ, ◌<◌, List, map, All, Contains, Some, slice_get}
+use Rattle.std.specs.Prelude.{◌≡◌, ◌↔◌, Bool, ◌⊎◌, ℕ, ◌<◌, List, map, All, Contains, Some, slice_get}
 use Rattle.aig_parts.specs.declared.gate.Gate.{Gate}
 use Rattle.aig_parts.specs.declared.raw.Raw.{Raw}
 use Rattle.aig_base.specs.Grounded.{IsSource}
 use Rattle.aig_parts.specs.Literal.{variable}
 use Rattle.aig_base.specs.Sections.{IsGate}
+use Rattle.aig_base.specs.state.Marks.{IsMarked}
 
 -- the variable is a source's, or a gate's among the first q
 abbrev pub IsSourceOrEarlier : Raw → List Gate → ℕ → ℕ → Type 0
@@ -22,10 +23,6 @@ pub record IsGateOrder (raw : Raw) (gates : List Gate) : Type 0 where
 pub record AreGatesOf (raw : Raw) (variables : List ℕ) (gates : List Gate) : Type 0 where
   pub known : All (λ g. (r : ℕ) × (slice_get raw.gates r ≡ Some g)) gates
   pub variables_are : map (λ g. variable g.lhs) gates ≡ variables
-
--- the variable is marked
-abbrev pub IsMarked : List Bool → ℕ → Type 0
-IsMarked marks v = slice_get marks v ≡ Some true
 
 -- the marked variables are those that have this property
 abbrev pub AreMarked : (ℕ → Type 0) → List Bool → Type 0

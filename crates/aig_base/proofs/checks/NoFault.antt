@@ -1,6 +1,6 @@
 -- Raw have no fault where they are a circuit, and are sound where they have none.
-use Rattle.std.proofs.Common.{◌≡◌, ◌⊎◌, inl, inr, ℕ, zero, suc, ◌+◌, ◌*◌, ◌<◌, List, [], ◌∷◌, ◌++◌, length, map, Any}
-use Rattle.std.proofs.Common.{All, Contains, get_or, option_map, refl, sym, ◌∙◌, ap, subst, arith}
+use Rattle.std.proofs.Common.{◌⊎◌, inl, inr, ℕ, zero, suc, ◌+◌, ◌*◌, ◌<◌, List, ◌∷◌, ◌++◌, map, Any}
+use Rattle.std.proofs.Common.{All, Contains, get_or, option_map, refl, ◌∙◌, ap, subst, arith}
 use Rattle.std.proofs.lemmas.Option.{slice_get-map, get_or_from_slice_get, slice_get-get_or}
 use Rattle.std.proofs.lemmas.List.Elements.{All-contains}
 use Rattle.aig_parts.specs.declared.latch.Latch.{Latch}
@@ -12,7 +12,7 @@ use Rattle.aig_base.specs.Sections.{definitions, uses, IsDefined}
 use Rattle.aig_base.specs.Grounded.{IsAcyclic}
 use Rattle.aig_base.specs.Sound.{IsSound, IsInRange, IsDefinition, IsRedefined, IsUndefined, IsReset}
 use Rattle.aig_base.specs.FirstFault.{IsLeast, HasBadReset, FaultApplies}
-use Rattle.aig_base.proofs.lists.Positions.{Contains-from_slice_get, unmap, position_of}
+use Rattle.aig_base.proofs.lists.Positions.{Contains-from_slice_get, unmap, position_of, contains_or_not}
 
 -- a circuit has no fault
 pub no_fault : (raw : Raw) → IsSound raw → IsAcyclic raw → (f : Fault) → FaultApplies raw f → ⊥
@@ -43,23 +43,6 @@ none_below P never (suc n) v lt h = never v (h, λ u below k. none_below P never
 pub none : (P : ℕ → Type 0) → ((v : ℕ) → IsLeast P v → ⊥) → (v : ℕ) → P v → ⊥
 none P never v h = none_below P never (suc v) v (omega arith) h
 
-contains_cases : (xs : List ℕ) (x : ℕ) → Contains xs x ⊎ (Contains xs x → ⊥)
-contains_cases [] x = inr (λ h. omega (arith, h.1))
-contains_cases (y ∷ xs) x = elim (same x y) [
-  | inl e ↦ inl (0, omega arith, sym e)
-  | inr ne ↦ elim (contains_cases xs x) [
-    | inl h ↦ inl (suc h.0, omega (arith, h.1), h.2)
-    | inr never ↦ inr (λ h. later h.0 h.1 h.2 ne never)
-  ]
-]
-  where
-    same : (a b : ℕ) → (a ≡ b) ⊎ (a ≡ b → ⊥)
-    same a b = grind arith
-
-    later : (k : ℕ) → k < length (y ∷ xs) → get_or (y ∷ xs) k x ≡ x → (x ≡ y → ⊥) → (Contains xs x → ⊥) → ⊥
-    later zero lt is ne never = ne (sym is)
-    later (suc k) lt is ne never = never (k, omega arith, is)
-
 definition_cases : (l : ℕ) → IsDefinition l ⊎ (IsDefinition l → ⊥)
 definition_cases l = grind arith
 
@@ -84,7 +67,7 @@ sound raw never = record {
   definitions = all_from_none IsDefinition definition_cases (definitions raw) (never fault.Definition);
   once = none (IsRedefined raw) (λ v. never (fault.Redefined v));
   defined = all_from_none (λ l. IsDefined raw (variable l))
-      (λ l. contains_cases (0 ∷ map variable (definitions raw)) (variable l)) (uses raw)
+      (λ l. contains_or_not (0 ∷ map variable (definitions raw)) (variable l)) (uses raw)
       (λ (k, l, lt, is, bad).
       none (IsUndefined raw) (λ v. never (fault.Undefined v)) (variable l) (used l (k, lt, is), bad));
   resets = all_from_none IsReset reset_cases raw.latches

@@ -1,6 +1,6 @@
 -- The walk back over right sides, and what it says of a change of a gate.
 use Rattle.std.proofs.Common.{◌≡◌, ◌≢◌, ◌⊎◌, inl, inr, ℕ, zero, suc, ◌+◌, ◌<◌, List, [], ◌∷◌, ◌++◌, length, map, get_or}
-use Rattle.std.proofs.Common.{set, Bool, true, false, not, cond, slice_get, Option, Some, None, option_map, Contains}
+use Rattle.std.proofs.Common.{set, Bool, true, false, not, cond, slice_get, Some, option_map, Contains}
 use Rattle.std.proofs.Common.{count_by, refl, sym, ◌∙◌, ap, subst, arith, get_or-set_other, get_or-set_same, length-set}
 use Rattle.std.proofs.Common.{replicate}
 use Rattle.std.proofs.lemmas.Bool.{cases_eq, cases_Bool, eq-eqb, ne_eqb, false≢true}
@@ -20,12 +20,7 @@ use Rattle.aig_base.specs.Sound.{IsSound}
 use Rattle.aig_base.specs.state.Walk.{Meets}
 use Rattle.aig_base.proofs.circuits.Defined.{Grounded-of_defined}
 use Rattle.aig_base.proofs.circuits.Gates.{defined_in_range, sides_in_range, IsGate-of_gate, gate_of, same_gate, source-gate}
-use Rattle.aig_base.proofs.lists.Positions.{unmap}
-
-unmap_option : {A B : Type 0} → (f : A → B) (o : Option A) (y : B) → option_map f o ≡ Some y → (x : A) × (o ≡ Some x)
-    × (f x ≡ y)
-unmap_option f None y h = cc
-unmap_option f (Some x) y h = (x, refl, cc)
+use Rattle.aig_base.proofs.lists.Positions.{unmap, unmap_option, no_element}
 
 -- what the walk from the variables a and b back over right sides meets, where it does not go on from t
 pub data Reached (raw : Raw) (t a b : ℕ) : ℕ → Type 0 where
@@ -161,9 +156,6 @@ pub record IsWalk (raw : Raw) (t a b : ℕ) (pending owed : List ℕ) (met : Lis
   pub pending_met : (v : ℕ) → Contains pending v → get_or met v false ≡ true
   pub owed_met : (v : ℕ) → Contains owed v → get_or met v false ≡ true
   pub each : (v : ℕ) → get_or met v false ≡ true → Contains pending v ⊎ (Contains owed v ⊎ IsClosed raw t met v)
-
-pub no_element : (v : ℕ) → Contains {X = ℕ} [] v → ⊥
-no_element v (k, lt, is) = absurd (omega arith)
 
 pub only_element : (u v : ℕ) → Contains (u ∷ []) v → u ≡ v
 only_element u v (zero, lt, is) = is

@@ -10,8 +10,8 @@ use Rattle.aig_parts.specs.Literal.{variable}
 use Rattle.aig_base.specs.Sections.{definitions, uses, IsDefined, IsGate}
 use Rattle.aig_base.specs.Sound.{IsSound, IsDefinition, IsInRange}
 use Rattle.aig_base.specs.Grounded.{IsSource}
-use Rattle.aig_base.specs.Grounded as grounded
-use Rattle.aig_base.proofs.circuits.Places.{input, latch, gate, IsDefinition-of_place, same_place}
+use Rattle.aig_base.proofs.circuits.Gates as gates
+use Rattle.aig_base.proofs.circuits.Places.{input, latch, gate, IsDefinition-of_place}
 use Rattle.aig_base.proofs.lists.Positions.{Contains-from_slice_get, position_of, unmap}
 
 module _ (raw : Raw) where
@@ -81,20 +81,9 @@ module _ (raw : Raw) (sound : IsSound raw) where
 
   -- no gate is a source
   pub source-gate : (v : ℕ) → IsSource raw v → IsGate raw v → ⊥
-  source-gate v s k = let (g, q, at, is) = unmap (λ (g : Gate). variable g.lhs) raw.gates v k in apart v s g q at is
-    where
-      same_literal : (l k : ℕ) → IsDefinition l → IsDefinition k → variable l ≡ variable k → l ≡ k
-      same_literal l k p q e = omega arith
-
-      apart : (v : ℕ) → IsSource raw v → (g : Gate) (q : ℕ) → slice_get raw.gates q ≡ Some g → variable g.lhs ≡ v → ⊥
-      apart v grounded.IsSource.constant g q at e = let d = gate_definition q g at in omega arith
-      apart v (grounded.IsSource.input p l here) g q at e =
-          let same : g.lhs ≡ l = same_literal g.lhs l (gate_definition q g at) (input_definition p l here) e in
-          let h = same_place raw sound (input p) (gate q) l here (g, at, same) in cc
-      apart v (grounded.IsSource.latch p x here) g q at e =
-          let same : g.lhs ≡ x.lit = same_literal g.lhs x.lit (gate_definition q g at)
-          (latch_definition p x here) e in
-          let h = same_place raw sound (latch p) (gate q) x.lit (x, here, refl) (g, at, same) in cc
+  source-gate v s k =
+      let (g, q, at, is) = unmap (λ (g : Gate). variable g.lhs) raw.gates v k in
+      gates.source-gate raw sound v q g at s (sym is)
 
   definition_in_range : (l : ℕ) → Contains (definitions raw) l → variable l ≤ raw.max_var
   definition_in_range l k =
@@ -109,11 +98,11 @@ module _ (raw : Raw) (sound : IsSound raw) where
   pub gate_in_range : (i : ℕ) (g : Gate) → slice_get raw.gates i ≡ Some g → variable g.lhs ≤ raw.max_var
   gate_in_range i g at = definition_in_range g.lhs (gate_stands raw i g at)
 
-  use_in_range : (l : ℕ) → Contains (uses raw) l → variable l ≤ raw.max_var
+  pub use_in_range : (l : ℕ) → Contains (uses raw) l → variable l ≤ raw.max_var
   use_in_range l k =
       let r : IsInRange raw l = All-contains (IsInRange raw) _ l sound.in_range (right _ _ _ k) in omega arith
 
-  use_defined : (l : ℕ) → Contains (uses raw) l → IsDefined raw (variable l)
+  pub use_defined : (l : ℕ) → Contains (uses raw) l → IsDefined raw (variable l)
   use_defined l k = All-contains (λ l. IsDefined raw (variable l)) (uses raw) l sound.defined k
 
   next_used : (i : ℕ) (x : Latch) → slice_get raw.latches i ≡ Some x → Contains (uses raw) x.next

@@ -1,5 +1,5 @@
 -- One more definition in the table.
-use Rattle.std.proofs.Common.{◌≡◌, ℕ, ◌+◌, ◌<◌, ◌≤◌, ◌⊎◌, inl, inr, min, List, [], ◌∷◌, ◌++◌, length, set, map, take}
+use Rattle.std.proofs.Common.{◌≡◌, ℕ, ◌+◌, ◌<◌, ◌⊎◌, inl, inr, min, List, [], ◌∷◌, ◌++◌, length, set, map, take}
 use Rattle.std.proofs.Common.{get_or, append_assoc, Option, Some, None, refl, sym, ap, subst, ◌∙◌, arith, slice_get}
 use Rattle.std.proofs.Common.{Contains}
 use Rattle.std.proofs.lemmas.List.{length-set, length_push, map-append, map_more}
@@ -16,6 +16,7 @@ use Rattle.aig_base.specs.Sections.{definitions}
 use Rattle.aig_parts.specs.declared.gate.Gate.{Gate}
 use Rattle.aig_parts.specs.declared.latch.Latch.{Latch}
 use Rattle.aig_base.specs.Sound.{StandsTwice}
+use Rattle.aig_base.proofs.lists.LeastAmong.{at_most_or_over}
 use Rattle.aig_base.proofs.lists.Gets.{slice_get_left, slice_get_push, slice_get_last, slice_get-set_same}
 use Rattle.aig_base.proofs.lists.Gets.{slice_get-set_other, Contains-from_get, get_from_Contains}
 
@@ -31,9 +32,6 @@ same_or_not u v = elim (cases u v) [
   where
     cases : (i j : ℕ) → (i < j) ⊎ ((i ≡ j) ⊎ (j < i))
     cases i j = grind arith
-
-at_most_or_over : (v w : ℕ) → (v ≤ w) ⊎ (w < v)
-at_most_or_over v w = grind arith
 
 module _ (xs : List ℕ) (y : ℕ) where
   twice_left : (v : ℕ) → StandsTwice xs v → StandsTwice (xs ++ y ∷ []) v

@@ -13,12 +13,11 @@ use Rattle.aig_base.specs.declared.definition.Definition.TheVariants as definiti
 use Rattle.aig_base.specs.Definition.{Defines, IsFree}
 use Rattle.aig_parts.specs.Literal.{variable}
 use Rattle.aig_base.specs.Sections.{definitions, uses, IsDefined, IsGate}
-use Rattle.aig_base.specs.Grounded.{IsSource, Grounded, IsAcyclic, Level}
+use Rattle.aig_base.specs.Grounded.{IsSource, Grounded, Level}
 use Rattle.aig_base.specs.Grounded as by
 use Rattle.aig_base.specs.Levels.{AreLevels}
 use Rattle.aig_base.specs.Sound.{IsSound, IsDefinition, IsInRange}
 use Rattle.aig_base.proofs.lists.Joined.{All-left, All-right}
-use Rattle.aig_base.proofs.levels.OneLevel.{level_of}
 use Rattle.aig_base.proofs.circuits.Places.{input, latch, gate, same_place, IsDefinition-of_place}
 use Rattle.aig_base.proofs.lists.Positions.{Contains-cons, Contains-from_slice_get, position_of, unmap}
 
@@ -145,14 +144,6 @@ free_no_gate raw v free h =
     let (g, q, at, is) = gate_of raw v h in
     free (subst (Contains (map variable (definitions raw))) is
     (Contains-map variable (definitions raw) g.lhs (gate_among raw q g at)))
-
--- the level of a gate variable is what the list of levels has for it
-pub level_of_gate : (raw : Raw) (levels : List ℕ) (v n : ℕ) → AreLevels raw levels → IsAcyclic raw → IsGate raw v
-    → slice_get levels v ≡ Some n → Level raw v n
-level_of_gate raw levels v n are acyclic h at =
-    let (m, level) = level_of (acyclic v h) in
-    let e : m ≡ n = same_Some m n (sym (are.each v m level) ∙ at) in
-    rw e at level
 
 pub level_at : (raw : Raw) (levels : List ℕ) (v m n : ℕ) → AreLevels raw levels → Level raw v m
     → slice_get levels v ≡ Some n → m ≡ n

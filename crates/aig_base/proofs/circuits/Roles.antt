@@ -1,27 +1,23 @@
 -- What a variable is, looked up.
-use Rattle.std.proofs.Common.{◌≡◌, ℕ, zero, suc, ◌==◌, Bool, true, false, List, [], ◌∷◌, map, Contains, Option, Some}
-use Rattle.std.proofs.Common.{None, slice_get, option_map, refl, sym, ◌∙◌, ap, subst, arith, eq-eqb}
+use Rattle.std.proofs.Common.{◌≡◌, ◌<◌, ℕ, zero, suc, ◌==◌, Bool, true, false, List, [], ◌∷◌, map, Contains, Option, Some}
+use Rattle.std.proofs.Common.{None, length, slice_get, option_map, refl, sym, ◌∙◌, ap, subst, arith, eq-eqb}
 use Rattle.std.proofs.lemmas.Bool.Decides.{nat_tests}
-use Rattle.std.proofs.lemmas.Option.{slice_get-map}
+use Rattle.std.proofs.lemmas.Option.{slice_get-map, slice_get_within}
 use Rattle.aig_parts.specs.declared.gate.Gate.{Gate}
 use Rattle.aig_parts.specs.declared.latch.Latch.{Latch}
 use Rattle.aig_parts.specs.declared.raw.Raw.{Raw}
 use Rattle.aig_parts.specs.Literal.{variable}
 use Rattle.aig_base.specs.Sections.{IsGate}
-use Rattle.aig_base.specs.Sound.{IsSound, IsDefinition}
+use Rattle.aig_base.specs.Sound.{IsSound}
 use Rattle.aig_base.specs.Role as roles
 use Rattle.aig_base.specs.Role.{place_of, Role, role}
+use Rattle.aig_base.proofs.circuits.Gates.{same_literal}
 use Rattle.aig_base.proofs.circuits.Places.{Place, IsSection, input, latch, gate, At, same_place, IsDefinition-of_place}
-use Rattle.aig_base.proofs.lists.Positions.{unmap, position_of, Contains-from_slice_get}
+use Rattle.aig_base.proofs.lists.Positions.{unmap, unmap_option, position_of, Contains-from_slice_get}
 
 none_option : {A : Type 0} → (o : Option A) → ((x : A) → o ≡ Some x → ⊥) → o ≡ None
 none_option None h = refl
 none_option (Some x) h = absurd (h x refl)
-
-pub unmap_some : {A B : Type 0} → (f : A → B) (o : Option A) (y : B) → option_map f o ≡ Some y
-    → (x : A) × (o ≡ Some x) × (f x ≡ y)
-unmap_some f None y h = cc
-unmap_some f (Some x) y h = (x, refl, cc)
 
 -- what stands at the place that was found
 pub place_found : {A : Type 0} → (test : A → Bool) (xs : List A) (i : ℕ) → place_of test xs ≡ Some i
@@ -38,9 +34,12 @@ place_found test (x ∷ xs) i h = go (test x) refl (λ j. place_found test xs j)
         (x, subst (λ n. slice_get (x ∷ xs) n ≡ Some x) is refl, e)
     go false e later =
         let f : option_map suc (place_of test xs) ≡ Some i = rw e at h in
-        let (j, at, is) = unmap_some suc (place_of test xs) i f in
+        let (j, at, is) = unmap_option suc (place_of test xs) i f in
         let (y, here, holds) = later j at in
         (y, subst (λ n. slice_get (x ∷ xs) n ≡ Some y) is here, holds)
+
+pub place_within : {A : Type 0} (test : A → Bool) (xs : List A) (i : ℕ) → place_of test xs ≡ Some i → i < length xs
+place_within test xs i h = let (x, at, passes) = place_found test xs i h in slice_get_within xs i x at
 
 -- a place is found where one passes
 pub place_some : {A : Type 0} → (test : A → Bool) (xs : List A) (i : ℕ) (x : A) → slice_get xs i ≡ Some x
@@ -52,9 +51,6 @@ place_some test (y ∷ ys) (suc i) x at h = go (test y) refl (place_some test ys
     go : (b : Bool) → test y ≡ b → (j : ℕ) × (place_of test ys ≡ Some j) → (j : ℕ) × (place_of test (y ∷ ys) ≡ Some j)
     go true e k = (0, rw e refl)
     go false e (j, is) = (suc j, rw (e, is) refl)
-
-pub same_literal : (l k : ℕ) → IsDefinition l → IsDefinition k → variable l ≡ variable k → l ≡ k
-same_literal l k p q e = omega arith
 
 pub eqb-same : (n : ℕ) → (n == n) ≡ true
 eqb-same n = eq-eqb n n refl
@@ -90,12 +86,12 @@ module _ (raw : Raw) (sound : IsSound raw) where
 
   input_at : (j v : ℕ) → slice_get (map variable raw.inputs) j ≡ Some v
       → (l : ℕ) × (slice_get raw.inputs j ≡ Some l) × (variable l ≡ v)
-  input_at j v at = unmap_some variable (slice_get raw.inputs j) v (sym (slice_get-map variable raw.inputs j) ∙ at)
+  input_at j v at = unmap_option variable (slice_get raw.inputs j) v (sym (slice_get-map variable raw.inputs j) ∙ at)
 
   latch_at : (j v : ℕ) → slice_get (map (λ x. variable x.lit) raw.latches) j ≡ Some v
       → (x : Latch) × (slice_get raw.latches j ≡ Some x) × (variable x.lit ≡ v)
   latch_at j v at =
-      unmap_some (λ (x : Latch). variable x.lit) (slice_get raw.latches j) v
+      unmap_option (λ (x : Latch). variable x.lit) (slice_get raw.latches j) v
       (sym (slice_get-map (λ (x : Latch). variable x.lit) raw.latches j) ∙ at)
 
   pub no_input : (v : ℕ) → ((p l : ℕ) → slice_get raw.inputs p ≡ Some l → variable l ≡ v → ⊥)

@@ -1,13 +1,12 @@
 -- The list of a variable's readers, and the gates that read it.
-use Rattle.std.proofs.Common.{◌≡◌, inl, inr, ℕ, ◌<◌, ◌≤◌, List, Some, slice_get, length, All, Contains, refl, sym}
+use Rattle.std.proofs.Common.{◌≡◌, ℕ, ◌<◌, ◌≤◌, List, Some, slice_get, length, All, Contains, refl}
 use Rattle.std.proofs.Common.{get_or, arith}
 use Rattle.std.proofs.lemmas.List.Elements.{Contains-get_or}
 use Rattle.aig_parts.specs.declared.gate.Gate.{Gate}
 use Rattle.aig_parts.specs.declared.raw.Raw.{Raw}
 use Rattle.aig_base.specs.Levels.{AreLevels}
 use Rattle.aig_parts.specs.Literal.{variable}
-use Rattle.aig_base.specs.Readers.{AreReaders, ReaderLists, list_of}
-use Rattle.aig_base.specs.state.Rewires.{IsSide}
+use Rattle.aig_base.specs.Readers.{AreReaders, IsSide, ReaderLists, list_of}
 use Rattle.aig_base.specs.Sound.{IsSound}
 use Rattle.aig_base.proofs.circuits.Gates.{IsGate-of_gate, gate_in_range}
 
@@ -15,15 +14,14 @@ module _ (raw : Raw) (r : ReaderLists) (are : AreReaders raw r) (w : ℕ) (le : 
   -- a gate that reads w stands in the list of w
   pub listed : (q : ℕ) (g : Gate) → slice_get raw.gates q ≡ Some g → IsSide g w → Contains (list_of r w)
       (variable g.lhs)
-  listed q g at side =
-      (are.each w (variable g.lhs) le).1 (q, g, at, refl, elim side [ inl e ↦ inl (sym e) | inr e ↦ inr (sym e) ])
+  listed q g at side = (are.each w (variable g.lhs) le).1 (q, g, at, refl, side)
 
   -- what stands there is a gate that reads w
   pub reads : (v : ℕ) → Contains (list_of r w) v
       → (q : ℕ) × (g : Gate) × (slice_get raw.gates q ≡ Some g) × IsSide g w × (variable g.lhs ≡ v)
   reads v h =
       let (q, g, at, is, side) = (are.each w v le).0 h in
-      (q, g, at, elim side [ inl e ↦ inl (sym e) | inr e ↦ inr (sym e) ], is)
+      (q, g, at, side, is)
 
   -- what stands there is in range
   pub list_within : IsSound raw → (levels : List ℕ) → AreLevels raw levels → All (λ v. v < length levels) (list_of r w)

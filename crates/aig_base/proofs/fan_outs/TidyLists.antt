@@ -10,7 +10,7 @@ use Rattle.aig_parts.specs.Formed.{limit}
 use Rattle.aig_base.specs.declared.list_places.Places.{Places}
 use Rattle.aig_base.specs.Sound.{StandsTwice}
 use Rattle.aig_base.specs.state.FanOuts.{AreFanOuts, AreTidy, fitting_lists}
-use Rattle.aig_base.specs.state.ListPlaces.{AreKept, StandsNew, WritesPlaces, capacity_at, short}
+use Rattle.aig_base.specs.state.ListPlaces.{AreKept, StandsNew, WritesPlaces, short}
 use Rattle.aig_base.specs.state.ReaderSlots.{AddsBoth, KeepsLists, items_at, tally}
 use Rattle.aig_base.proofs.lists.Counting.{length_le}
 use Rattle.aig_base.proofs.fan_outs.ListPlaceLemmas.{capacity_within, items_pushed, kept_added, kept_pushed}

@@ -33,14 +33,14 @@ use Rattle.aig_base.proofs.rewires.Rewiring.{in_range_from_defined}
 
 module _ (raw : Raw) (r0 r1 : ℕ) where
   -- what is defined, with one more at the end
-  more_definitions : definitions (with_appended_gate raw r0 r1) ≡ definitions raw ++ 2 * (raw.max_var + 1) ∷ []
+  pub more_definitions : definitions (with_appended_gate raw r0 r1) ≡ definitions raw ++ 2 * (raw.max_var + 1) ∷ []
   more_definitions =
       let front = raw.inputs ++ map (λ (x : Latch). x.lit) raw.latches in
       let sides = map (λ (g : Gate). g.lhs) raw.gates in
       ap (λ ls. front ++ ls) (map-append (λ (g : Gate). g.lhs) raw.gates (next_gate raw r0 r1 ∷ []))
       ∙ sym (append_assoc front sides (2 * (raw.max_var + 1) ∷ []))
 
-  more_variables : map variable (definitions (with_appended_gate raw r0 r1))
+  pub more_variables : map variable (definitions (with_appended_gate raw r0 r1))
       ≡ map variable (definitions raw) ++ variable (2 * (raw.max_var + 1)) ∷ []
   more_variables = ap (map variable) more_definitions ∙ map-append variable (definitions raw) (2 *
       (raw.max_var + 1) ∷ [])

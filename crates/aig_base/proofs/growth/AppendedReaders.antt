@@ -1,6 +1,6 @@
 -- The readers of a circuit with one more gate.
-use Rattle.std.proofs.Common.{◌≡◌, ◌↔◌, inl, inr, ℕ, zero, suc, ◌+◌, ◌≤◌, List, [], ◌∷◌, ◌++◌, length, nat_eq, count_by}
-use Rattle.std.proofs.Common.{get_or, Contains, refl, sym, ap, subst, ◌∙◌, arith}
+use Rattle.std.proofs.Common.{◌≡◌, inl, inr, ℕ, ◌+◌, ◌≤◌, List, [], ◌∷◌, ◌++◌, length}
+use Rattle.std.proofs.Common.{refl, sym, ap, subst, ◌∙◌, arith}
 use Rattle.std.proofs.lemmas.List.{length_push}
 use Rattle.std.proofs.lemmas.Option.{slice_get_within}
 use Rattle.smallvec.specs.SmallVec.{SmallVec}
@@ -9,7 +9,7 @@ use Rattle.aig_base.specs.Changes.{next_gate, with_appended_gate}
 use Rattle.aig_base.specs.Circuit.{IsCircuit}
 use Rattle.aig_parts.specs.Literal.{variable}
 use Rattle.aig_base.specs.Readers.{AreReaders, ReadsVariable, reader_lists}
-use Rattle.aig_base.specs.state.ReaderSlots.{Appends, AreTallied, FitsOneReader, KeepsLists, ReadsBefore, tally}
+use Rattle.aig_base.specs.state.ReaderSlots.{Appends, AreTallied, ReadsBefore}
 use Rattle.aig_base.specs.Sections.{IsDefined}
 use Rattle.aig_base.proofs.growth.Appended.{gate_cases, more_sound, new_at, old_at}
 use Rattle.aig_base.proofs.circuits.Gates.{sides_in_range}

@@ -13,7 +13,8 @@ use Rattle.aig_base.specs.Greatest.{IsGreatestFanOut, IsGreatestLevel, fan_out, 
 use Rattle.aig_base.specs.Grounded as by
 use Rattle.aig_base.specs.Grounded.{Level}
 use Rattle.aig_base.specs.Levels.{AreLevels}
-use Rattle.aig_base.proofs.circuits.Gates.{level_of_gate, IsGate-of_gate}
+use Rattle.aig_base.proofs.circuits.Gates.{IsGate-of_gate}
+use Rattle.aig_base.proofs.levels.OneLevel.{level_of_gate}
 
 -- the gates before position i have levels up to h
 abbrev pub AreLevelsWithin : Raw → List ℕ → ℕ → ℕ → Type 0

@@ -13,8 +13,7 @@ use Rattle.aig_base.proofs.lists.Counting.{length_le}
 use Rattle.aig_base.proofs.circuits.Gates.{level_in_range}
 use Rattle.aig_base.proofs.lists.Gets.{Contains-from_get}
 use Rattle.aig_base.proofs.levels.OneLevel.{same_level}
-use Rattle.aig_base.proofs.lists.Positions.{Contains-cons}
-use Rattle.aig_base.proofs.checks.Walks.{no_element}
+use Rattle.aig_base.proofs.lists.Positions.{Contains-cons, no_element}
 
 once_cons : (v : ℕ) (xs : List ℕ) → (Contains xs v → ⊥) → ((x : ℕ) → StandsTwice xs x → ⊥) → (x : ℕ)
     → StandsTwice (v ∷ xs) x → ⊥

@@ -1,17 +1,28 @@
 -- A variable has a level where it is grounded, and one level.
-use Rattle.std.proofs.Common.{◌≡◌, ◌⊎◌, inl, inr, ℕ, ◌+◌, max, Some, slice_get, refl, sym, ◌∙◌, ap, subst, arith}
+use Rattle.std.proofs.Common.{◌≡◌, ◌⊎◌, inl, inr, ℕ, ◌+◌, max, List, Some, slice_get, refl, sym, ◌∙◌, ap, subst}
+use Rattle.std.proofs.lemmas.Option.{same_Some}
 use Rattle.aig_parts.specs.declared.gate.Gate.{Gate}
 use Rattle.aig_parts.specs.Literal.{variable}
 use Rattle.aig_parts.specs.declared.raw.Raw.{Raw}
 use Rattle.aig_base.specs.Grounded as by
-use Rattle.aig_base.specs.Grounded.{Grounded, Level, IsSource}
-use Rattle.aig_base.specs.Sound.{IsSound, IsDefinition}
-use Rattle.aig_base.proofs.circuits.Places.{input, latch, gate, same_place, IsDefinition-of_place}
+use Rattle.aig_base.specs.Grounded.{Grounded, IsAcyclic, Level, IsSource}
+use Rattle.aig_base.specs.Levels.{AreLevels}
+use Rattle.aig_base.specs.Sections.{IsGate}
+use Rattle.aig_base.specs.Sound.{IsSound}
+use Rattle.aig_base.proofs.circuits.Gates.{same_gate, source-gate}
 
 pub level_of : {raw : Raw} {v : ℕ} → Grounded raw v → (n : ℕ) × Level raw v n
 level_of (by.Grounded.source v h) = (0, by.Level.source v h)
 level_of (by.Grounded.gate q g at g0 g1) =
     let (a, l0) = level_of g0 in let (b, l1) = level_of g1 in (max a b + 1, by.Level.gate q g a b at l0 l1)
+
+-- the level of a gate variable is what the list of levels has for it
+pub level_of_gate : (raw : Raw) (levels : List ℕ) (v n : ℕ) → AreLevels raw levels → IsAcyclic raw → IsGate raw v
+    → slice_get levels v ≡ Some n → Level raw v n
+level_of_gate raw levels v n are acyclic h at =
+    let (m, level) = level_of (acyclic v h) in
+    let e : m ≡ n = same_Some m n (sym (are.each v m level) ∙ at) in
+    rw e at level
 
 pub Grounded-of_level : {raw : Raw} {v n : ℕ} → Level raw v n → Grounded raw v
 Grounded-of_level (by.Level.source v h) = by.Grounded.source v h
@@ -29,36 +40,6 @@ rests : {raw : Raw} {v n : ℕ} → Level raw v n → Rests raw v n
 unfolding Rests
 rests (by.Level.source v h) = inl (h, refl)
 rests (by.Level.gate q g a b at l0 l1) = inr (q, g, a, b, at, l0, l1, refl, refl)
-
--- literals with one variable that are both definitions are one
-same_literal : (l k : ℕ) → IsDefinition l → IsDefinition k → variable l ≡ variable k → l ≡ k
-same_literal l k p q e = omega arith
-
--- no gate is a source
-source-gate : (raw : Raw) → IsSound raw → (v q : ℕ) (g : Gate) → slice_get raw.gates q ≡ Some g
-    → IsSource raw v → v ≡ variable g.lhs → ⊥
-source-gate raw s v q g at by.IsSource.constant e =
-    let d = IsDefinition-of_place raw s (gate q) g.lhs tt (g, at, refl) in omega arith
-source-gate raw s v q g at (by.IsSource.input p l here) e =
-    let d = IsDefinition-of_place raw s (gate q) g.lhs tt (g, at, refl) in
-    let f = IsDefinition-of_place raw s (input p) l tt here in
-    let same : g.lhs ≡ l = same_literal g.lhs l d f (sym e) in
-    let h = same_place raw s (input p) (gate q) l here (g, at, same) in cc
-source-gate raw s v q g at (by.IsSource.latch p x here) e =
-    let d = IsDefinition-of_place raw s (gate q) g.lhs tt (g, at, refl) in
-    let f = IsDefinition-of_place raw s (latch p) x.lit tt (x, here, refl) in
-    let same : g.lhs ≡ x.lit = same_literal g.lhs x.lit d f (sym e) in
-    let h = same_place raw s (latch p) (gate q) x.lit (x, here, refl) (g, at, same) in cc
-
--- one gate has the variable
-same_gate : (raw : Raw) → IsSound raw → (q r : ℕ) (g h : Gate) → slice_get raw.gates q ≡ Some g
-    → slice_get raw.gates r ≡ Some h → variable g.lhs ≡ variable h.lhs → g ≡ h
-same_gate raw s q r g h at here e =
-    let d = IsDefinition-of_place raw s (gate q) g.lhs tt (g, at, refl) in
-    let f = IsDefinition-of_place raw s (gate r) h.lhs tt (h, here, refl) in
-    let same : h.lhs ≡ g.lhs = same_literal h.lhs g.lhs f d (sym e) in
-    let k = same_place raw s (gate q) (gate r) g.lhs (g, at, refl) (h, here, same) in
-    cc
 
 pub same_level : {raw : Raw} {v m n : ℕ} → IsSound raw → Level raw v m → Level raw v n → m ≡ n
 unfolding Rests

@@ -22,8 +22,8 @@ use Rattle.aig_base.proofs.lists.Gets.{slice_get_push}
 use Rattle.aig_base.proofs.lists.Joined.{All-left}
 use Rattle.aig_base.proofs.levels.OneLevel.{same_level}
 use Rattle.aig_base.proofs.circuits.Places.{gate}
-use Rattle.aig_base.proofs.lists.Positions.{unmap, Contains-from_slice_get}
-use Rattle.aig_base.proofs.circuits.Roles.{unmap_some, one_place}
+use Rattle.aig_base.proofs.lists.Positions.{unmap, unmap_option, Contains-from_slice_get}
+use Rattle.aig_base.proofs.circuits.Roles.{one_place}
 use Rattle.aig_parts.proofs.SymbolKeys.{equivalence_from_same}
 
 eqb-false : (a b : ℕ) → (a ≡ b → ⊥) → eqb a b ≡ false
@@ -68,8 +68,8 @@ order_once raw sound order canonical v (i, j, lt, at, here) =
 pub gates_once : (raw : Raw) → IsSound raw → (v : ℕ) → StandsTwice (map (λ g. variable g.lhs) raw.gates) v → ⊥
 gates_once raw sound v (i, j, lt, at, here) =
     let lhs : Gate → ℕ = λ g. variable g.lhs in
-    let (g, is, e) = unmap_some lhs (slice_get raw.gates i) v (sym (slice_get-map lhs raw.gates i) ∙ at) in
-    let (h, stands, f) = unmap_some lhs (slice_get raw.gates j) v (sym (slice_get-map lhs raw.gates j) ∙ here) in
+    let (g, is, e) = unmap_option lhs (slice_get raw.gates i) v (sym (slice_get-map lhs raw.gates i) ∙ at) in
+    let (h, stands, f) = unmap_option lhs (slice_get raw.gates j) v (sym (slice_get-map lhs raw.gates j) ∙ here) in
     let same : gate i ≡ gate j = one_place raw sound (gate i) (gate j) g.lhs h.lhs tt tt (g, is, refl)
     (h, stands, refl) (e ∙ sym f) in
     let k : i ≡ j = cc in

@@ -8,7 +8,7 @@ use Rattle.std.proofs.lemmas.List.Concat.{flat_map-append}
 use Rattle.aig_base.specs.state.LeastFaulty.{HasBad, IsLeastAmong, lesser}
 use Rattle.aig_base.proofs.lists.Gets.{slice_get_left, slice_get_right}
 
-at_most_or_over : (v w : ℕ) → (v ≤ w) ⊎ (w < v)
+pub at_most_or_over : (v w : ℕ) → (v ≤ w) ⊎ (w < v)
 at_most_or_over v w = grind arith
 
 module _ {X : Type 0} (Good : X → Type 0) (key : X → ℕ) where

@@ -1,7 +1,34 @@
 -- Positions in lists.
-use Rattle.std.proofs.Common.{◌≡◌, ◌⊎◌, inl, inr, ℕ, zero, suc, ◌+◌, List, [], ◌∷◌, ◌++◌, length, map, Option, Some}
-use Rattle.std.proofs.Common.{None, slice_get, Contains, refl, sym, ◌∙◌, ap, arith, option_map, zero-add, suc-add}
+use Rattle.std.proofs.Common.{◌≡◌, ◌⊎◌, inl, inr, ℕ, zero, suc, ◌+◌, ◌<◌, List, [], ◌∷◌, ◌++◌, length, map, Option, Some}
+use Rattle.std.proofs.Common.{None, get_or, slice_get, Contains, refl, sym, ◌∙◌, ap, arith, option_map, zero-add, suc-add}
 use Rattle.std.proofs.lemmas.Option.{slice_get-map, slice_get_within, get_or_from_slice_get, slice_get-get_or}
+
+pub no_element : (v : ℕ) → Contains {X = ℕ} [] v → ⊥
+no_element v (k, lt, is) = absurd (omega arith)
+
+-- a list has a number, or has it not
+pub contains_or_not : (xs : List ℕ) (x : ℕ) → Contains xs x ⊎ (Contains xs x → ⊥)
+contains_or_not [] x = inr (λ h. omega (arith, h.1))
+contains_or_not (y ∷ xs) x = elim (same x y) [
+  | inl e ↦ inl (0, omega arith, sym e)
+  | inr ne ↦ elim (contains_or_not xs x) [
+    | inl h ↦ inl (suc h.0, omega (arith, h.1), h.2)
+    | inr never ↦ inr (λ h. later h.0 h.1 h.2 ne never)
+  ]
+]
+  where
+    same : (a b : ℕ) → (a ≡ b) ⊎ (a ≡ b → ⊥)
+    same a b = grind arith
+
+    later : (k : ℕ) → k < length (y ∷ xs) → get_or (y ∷ xs) k x ≡ x → (x ≡ y → ⊥) → (Contains xs x → ⊥) → ⊥
+    later zero lt is ne never = ne (sym is)
+    later (suc k) lt is ne never = never (k, omega arith, is)
+
+-- something stands at each position
+pub stands_at : {A : Type 0} (xs : List A) (i : ℕ) → i < length xs → (x : A) × (slice_get xs i ≡ Some x)
+stands_at [] i lt = absurd (omega arith)
+stands_at (x ∷ xs) zero lt = (x, refl)
+stands_at (x ∷ xs) (suc i) lt = stands_at xs i (omega arith)
 
 -- an element of the first list, in the joined one
 pub slice_get_left : {A : Type 0} → (xs ys : List A) (i : ℕ) (x : A) → slice_get xs i ≡ Some x
@@ -24,7 +51,8 @@ Contains-from_slice_get xs i x h = (i, slice_get_within xs i x h, get_or_from_sl
 pub position_of : {A : Type 0} → (xs : List A) (x : A) → Contains xs x → (i : ℕ) × (slice_get xs i ≡ Some x)
 position_of xs x (k, lt, is) = (k, slice_get-get_or xs k x lt ∙ ap Some is)
 
-unmap_option : {A B : Type 0} → (f : A → B) (o : Option A) (y : B) → option_map f o ≡ Some y
+-- what an element of a mapped option comes from
+pub unmap_option : {A B : Type 0} → (f : A → B) (o : Option A) (y : B) → option_map f o ≡ Some y
     → (x : A) × (o ≡ Some x) × (f x ≡ y)
 unmap_option f None y h = cc
 unmap_option f (Some x) y h = (x, refl, cc)

@@ -71,16 +71,15 @@ module _ (raw : Raw) (ready : IsBinaryReady raw) (used : All (IsInRange raw) (us
     resets = resets;
   }
 
+  pub ready_acyclic : IsAcyclic raw
+  ready_acyclic v is_gate =
+      let (g, q, at, is) = unmap (λ (g : Gate). variable g.lhs) raw.gates v is_gate in
+      let inside : IsInRange raw g.lhs = All-contains (IsInRange raw) (definitions raw) g.lhs in_definitions
+      (definition_of_place raw (gate q) g.lhs tt (g, at, refl)) in
+      grounded_below (suc v) v (omega arith) (rw (← is) (half g.lhs inside))
+
   pub ready_circuit : IsFormed raw → All IsReset raw.latches → IsCircuit raw
-  ready_circuit formed resets = record {
-    formed = formed;
-    sound = ready_sound resets;
-    acyclic = λ v is_gate.
-        let (g, q, at, is) = unmap (λ (g : Gate). variable g.lhs) raw.gates v is_gate in
-        let inside : IsInRange raw g.lhs = All-contains (IsInRange raw) (definitions raw) g.lhs in_definitions
-        (definition_of_place raw (gate q) g.lhs tt (g, at, refl)) in
-        grounded_below (suc v) v (omega arith) (rw (← is) (half g.lhs inside));
-  }
+  ready_circuit formed resets = record { formed = formed; sound = ready_sound resets; acyclic = ready_acyclic }
 
 module _ (raw : Raw) (circuit : IsCircuit raw) (order : List ℕ) (canonical : IsCanonicalOrder raw order) where
   in_new_range : (l : ℕ) → IsInRange (renumbered raw order) (renumbered_literal raw order l)

@@ -1,6 +1,6 @@
 -- A binary file can hold the renumbered circuit.
-use Rattle.std.proofs.Common.{◌≡◌, ◌⊎◌, inl, inr, ℕ, zero, suc, ◌+◌, ◌*◌, ◌%◌, ◌<◌, ◌≤◌, max, nat_eq, nat_lt, Bool}
-use Rattle.std.proofs.Common.{true, false, List, [], ◌∷◌, length, map, get_or, Contains, Some, slice_get, option_map}
+use Rattle.std.proofs.Common.{◌≡◌, ◌⊎◌, inl, inr, ℕ, ◌+◌, ◌*◌, ◌%◌, ◌<◌, ◌≤◌, max, nat_eq, nat_lt, Bool}
+use Rattle.std.proofs.Common.{true, false, List, length, map, get_or, Contains, Some, slice_get, option_map}
 use Rattle.std.proofs.Common.{refl, sym, ◌∙◌, ap, subst, arith}
 use Rattle.std.proofs.lemmas.Bool.Decides.{nat_tests}
 use Rattle.std.proofs.lemmas.List.{length-map, ext_get_or, get_or_default}
@@ -18,6 +18,7 @@ use Rattle.aig_base.specs.Renumbered.{ordered_gates, renumbered, renumbered_gate
 use Rattle.aig_base.specs.Renumbered.{renumbered_variable, ready_gate, evens_from, IsBinaryReady}
 use Rattle.aig_base.specs.Sound.{IsSound}
 use Rattle.aig_base.specs.Sections.{IsDefined, IsGate}
+use Rattle.aig_base.proofs.lists.Positions.{unmap_option, stands_at}
 use Rattle.aig_base.proofs.lists.Counting.{length-order}
 use Rattle.aig_base.proofs.circuits.Defined.{defined_cases, Grounded-of_defined}
 use Rattle.aig_base.proofs.circuits.EachUse.{each_use}
@@ -26,7 +27,7 @@ use Rattle.aig_base.proofs.levels.OneLevel.{level_of, same_level}
 use Rattle.aig_base.proofs.circuits.Places.{Place, IsSection, input, latch, gate, At, IsDefinition-of_place}
 use Rattle.aig_base.proofs.renumbered.RenumberedParts.{length-ordered, ordered_at}
 use Rattle.aig_base.proofs.renumbered.Renumberings.{gate_at, place_in, input_variable, latch_renumbered, gate_renumbered}
-use Rattle.aig_base.proofs.circuits.Roles.{only_place, role_constant, unmap_some}
+use Rattle.aig_base.proofs.circuits.Roles.{only_place, role_constant}
 
 -- a definition's literal is even in the renumbered circuit
 pub literal_even : (raw : Raw) (order : List ℕ) (l : ℕ) → IsEven l
@@ -55,11 +56,6 @@ evens_by xs v n size at =
     ext_get_or 0 xs (evens_from v n) (size ∙ sym (length-evens_from v n))
     (λ i lt. let below : i < n = omega arith in
     get_or_from_slice_get xs i (2 * (v + i)) 0 (at i below) ∙ sym (get_or-evens_from v n i 0 below))
-
-stands_at : {A : Type 0} (xs : List A) (i : ℕ) → i < length xs → (x : A) × (slice_get xs i ≡ Some x)
-stands_at [] i lt = absurd (omega arith)
-stands_at (x ∷ xs) zero lt = (x, refl)
-stands_at (x ∷ xs) (suc i) lt = stands_at xs i (omega arith)
 
 pub evens_map : {A : Type 0} (f : A → ℕ) (xs : List A) (v n : ℕ) → length xs ≡ n
     → ((i : ℕ) (x : A) → slice_get xs i ≡ Some x → f x ≡ 2 * (v + i))
@@ -210,13 +206,13 @@ module _ (raw : Raw) (sound : IsSound raw) (order : List ℕ) (canonical : IsCan
         inputs_are = evens_map (renumbered_literal raw order) raw.inputs 1 _ (sym li) (λ p l at. let e =
             input_literal p l at in omega arith);
         latches_are = evens_map (λ x. x.lit) (renumbered raw order).latches _ _ refl (λ p y at.
-            let (x, here, is) = unmap_some (renumbered_latch raw order) (slice_get raw.latches p) y
+            let (x, here, is) = unmap_option (renumbered_latch raw order) (slice_get raw.latches p) y
             (sym (slice_get-map (renumbered_latch raw order) raw.latches p) ∙ at) in
             let e = latch_literal p x here in
             let f : y.lit ≡ renumbered_literal raw order x.lit = ap (λ z. z.lit) (sym is) in
             omega arith);
         gates_are = evens_map (λ g. g.lhs) (renumbered raw order).gates _ _ refl (λ i y at.
-            let (g, here, is) = unmap_some (renumbered_gate raw order) (slice_get (ordered_gates raw order) i) y
+            let (g, here, is) = unmap_option (renumbered_gate raw order) (slice_get (ordered_gates raw order) i) y
             (sym (slice_get-map (renumbered_gate raw order) (ordered_gates raw order) i) ∙ at) in
             let (q, lt, stands, place) = ordered_gate i g here in
             let e = gate_literal q i g stands lt place in

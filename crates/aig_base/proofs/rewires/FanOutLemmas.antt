@@ -9,7 +9,8 @@ use Rattle.aig_base.specs.Changes.{rewired, with_gate}
 use Rattle.aig_base.specs.Grounded.{Grounded, IsSource, IsAcyclic, Level}
 use Rattle.aig_base.specs.Grounded as by
 use Rattle.aig_parts.specs.Literal.{variable}
-use Rattle.aig_base.specs.state.Rewires.{IsSide, IsInFanOut, IsSearchUp}
+use Rattle.aig_base.specs.Readers.{IsSide}
+use Rattle.aig_base.specs.state.Rewires.{IsInFanOut, IsSearchUp}
 use Rattle.aig_base.specs.Sections.{IsDefined, IsGate, IsLeftSide}
 use Rattle.aig_base.specs.Sound.{IsSound}
 use Rattle.aig_base.proofs.circuits.Defined.{Grounded-of_defined}
@@ -23,8 +24,8 @@ path_of IsInFanOut.self = Path.stop
 path_of {raw} {t} (IsInFanOut.reader q g u at side b) = elim (cases_eq (variable g.lhs) t) [
   | inl e ↦ rw e Path.stop
   | inr ne ↦ elim side [
-    | inl e ↦ Path.left q g at ne (subst (Path raw t) e (path_of b))
-    | inr e ↦ Path.right q g at ne (subst (Path raw t) e (path_of b))
+    | inl e ↦ Path.left q g at ne (subst (Path raw t) (sym e) (path_of b))
+    | inr e ↦ Path.right q g at ne (subst (Path raw t) (sym e) (path_of b))
   ]
 ]
 
@@ -123,8 +124,8 @@ side_level {raw} sound (by.Level.source v s) q g u at side is = absurd (source-g
 side_level {raw} sound (by.Level.gate k h a b here la lb) q g u at side is =
     let one : g ≡ h = same_gate raw sound q k g h at here is in
     elim side [
-      | inl e ↦ (a, subst (λ x. Level raw x a) (ap (λ (x : Gate). variable x.rhs0) (sym one) ∙ sym e) la, omega arith)
-      | inr e ↦ (b, subst (λ x. Level raw x b) (ap (λ (x : Gate). variable x.rhs1) (sym one) ∙ sym e) lb, omega arith)
+      | inl e ↦ (a, subst (λ x. Level raw x a) (ap (λ (x : Gate). variable x.rhs0) (sym one) ∙ e) la, omega arith)
+      | inr e ↦ (b, subst (λ x. Level raw x b) (ap (λ (x : Gate). variable x.rhs1) (sym one) ∙ e) lb, omega arith)
     ]
 
 -- what is in the fan-out of t and is not t has a level over that of t
@@ -189,7 +190,7 @@ search_stepped raw t x y bound u met queued met' queued' s keeps new met_u left 
   looked = λ q g v at side h. elim (new v h) [
     | inl m ↦ elim (s.looked q g v at side m) [
       | inl w ↦ elim (left v w) [
-        | inl e ↦ inr (looked q g at (elim side [ inl f ↦ inl (sym e ∙ f) | inr f ↦ inr (sym e ∙ f) ]))
+        | inl e ↦ inr (looked q g at (elim side [ inl f ↦ inl (f ∙ e) | inr f ↦ inr (f ∙ e) ]))
         | inr k ↦ inl k
       ]
       | inr k ↦ inr (k.0, k.1, λ m l lt. keeps (variable g.lhs) (k.2 m l lt))

@@ -10,7 +10,8 @@ use Rattle.aig_base.specs.Grounded.{Grounded, IsSource, IsAcyclic, Level}
 use Rattle.aig_base.specs.Grounded as by
 use Rattle.aig_base.specs.Levels.{AreLevels}
 use Rattle.aig_parts.specs.Literal.{variable}
-use Rattle.aig_base.specs.state.Rewires.{IsSide, IsInFanOut, HoldsLevel, NeedsLevel, Renewing, RenewsAt}
+use Rattle.aig_base.specs.Readers.{IsSide}
+use Rattle.aig_base.specs.state.Rewires.{IsInFanOut, HoldsLevel, NeedsLevel, Renewing, RenewsAt}
 use Rattle.aig_base.specs.Sections.{IsDefined, IsLeftSide}
 use Rattle.aig_base.specs.Sound.{IsSound}
 use Rattle.aig_base.proofs.rewires.FanOutLemmas.{changed_level, side_level}
@@ -30,7 +31,7 @@ same_cell (Some a) (Some b) = elim (cases_eq a b) [
 abbrev pub From : Raw → ℕ → Type 0
 From raw u = IsSource raw u ⊎ ((q : ℕ) × (g : Gate) × (slice_get raw.gates q ≡ Some g) × (variable g.lhs ≡ u))
 
-from_level : {raw : Raw} {v m : ℕ} → Level raw v m → From raw v
+pub from_level : {raw : Raw} {v m : ℕ} → Level raw v m → From raw v
 from_level (by.Level.source v s) = inl s
 from_level (by.Level.gate q g a b at la lb) = inr (q, g, at, refl)
 
@@ -203,7 +204,7 @@ module _ (raw : Raw) (sound : IsSound raw) (acyclic : IsAcyclic raw) (lhs r0 r1 
         | inl e ↦
             inl (r.readers (λ k. apart (ap (slice_get row') e ∙ r.cell ∙ sym k ∙ was_old
             ∙ ap (slice_get old) (sym e))) j z here
-            (elim side [ inl f ↦ inl (sym e ∙ f) | inr f ↦ inr (sym e ∙ f) ]))
+            (elim side [ inl f ↦ inl (f ∙ e) | inr f ↦ inr (f ∙ e) ]))
         | inr other ↦
             (let before : slice_get row u ≢ slice_get old u = (λ k. apart (r.same u other ∙ k)) in
             let known_before : (u ≡ t) ⊎ done u = elim known [
@@ -326,7 +327,7 @@ module _ (raw : Raw) (sound : IsSound raw) (acyclic : IsAcyclic raw) (lhs r0 r1 
       linked = λ q g u at ne side known apart. elim known [
         | inl e ↦
             inl (r.readers (λ k. apart (ap (slice_get row) e ∙ r.cell ∙ sym k ∙ ap (slice_get old) (sym e))) q g at
-            (elim side [ inl f ↦ inl (sym e ∙ f) | inr f ↦ inr (sym e ∙ f) ]))
+            (elim side [ inl f ↦ inl (f ∙ e) | inr f ↦ inr (f ∙ e) ]))
         | inr d ↦ absurd d
       ];
       touched = begun_touched;

@@ -14,8 +14,8 @@ use Rattle.aig_base.specs.Circuit.{IsCircuit}
 use Rattle.aig_base.specs.Grounded.{Level}
 use Rattle.aig_base.specs.Levels.{AreLevels}
 use Rattle.aig_parts.specs.Literal.{variable}
-use Rattle.aig_base.specs.Readers.{AreReaders, ReaderLists, list_of}
-use Rattle.aig_base.specs.state.Rewires.{IsApart, IsInFanOut, IsSearchUp, IsSide, LooksAt}
+use Rattle.aig_base.specs.Readers.{AreReaders, IsSide, ReaderLists, list_of}
+use Rattle.aig_base.specs.state.Rewires.{IsApart, IsInFanOut, IsSearchUp, LooksAt}
 use Rattle.aig_base.specs.Sections.{IsDefined}
 use Rattle.aig_base.specs.state.Visits.{AreNoVisits, AreVisits, IsFrom, IsVisited, VisitsAmong}
 use Rattle.aig_base.proofs.rewires.FanOutLemmas.{not_in_fan_out, search_begun, search_stepped}

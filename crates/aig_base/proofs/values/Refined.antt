@@ -23,7 +23,7 @@ AllZip-slice_get R (a ∷ xs) (b ∷ ys) (suc i) x all at = AllZip-slice_get R x
 Refines : Tern → Tern → Type 0
 Refines a b = a ≢ X → b ≡ a
 
-and-zero : (a : Tern) → kleene_and a Zero ≡ Zero
+pub and-zero : (a : Tern) → kleene_and a Zero ≡ Zero
 and-zero Zero = refl
 and-zero One = refl
 and-zero X = refl

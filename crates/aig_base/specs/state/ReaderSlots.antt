@@ -5,12 +5,12 @@ use Rattle.smallvec.specs.SmallVec.{SmallVec, HasRoomFor}
 use Rattle.aig_parts.specs.declared.gate.Gate.{Gate}
 use Rattle.aig_parts.specs.declared.raw.Raw.{Raw}
 use Rattle.aig_parts.specs.Literal.{variable}
+use Rattle.aig_base.specs.Readers.{IsSide}
 
 -- a gate of the variable w, before position n, reads the variable v
 abbrev pub ReadsBefore : Raw → ℕ → ℕ → ℕ → Type 0
 ReadsBefore raw n w v =
-    (q : ℕ) × (g : Gate) × (q < n) × (slice_get raw.gates q ≡ Some g) × (variable g.lhs ≡ w)
-    × ((variable g.rhs0 ≡ v) ⊎ (variable g.rhs1 ≡ v))
+    (q : ℕ) × (g : Gate) × (q < n) × (slice_get raw.gates q ≡ Some g) × (variable g.lhs ≡ w) × IsSide g v
 
 -- the list of v
 abbrev pub items_at : List (SmallVec ℕ) → ℕ → List ℕ

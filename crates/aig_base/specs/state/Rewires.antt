@@ -8,13 +8,10 @@ use Rattle.aig_base.specs.declared.visits.Visits.{Visits}
 use Rattle.aig_base.specs.Changes.{with_gate}
 use Rattle.aig_base.specs.Grounded.{IsSource, Level}
 use Rattle.aig_parts.specs.Literal.{variable}
+use Rattle.aig_base.specs.Readers.{IsSide}
 use Rattle.aig_base.specs.Sections.{IsDefined, IsLeftSide}
 use Rattle.aig_base.specs.state.Queue.{Queued, copies, entry}
 use Rattle.aig_base.specs.state.Visits.{IsVisited, VisitsAmong}
-
--- the gate reads the variable
-abbrev pub IsSide : Gate → ℕ → Type 0
-IsSide g u = (u ≡ variable g.rhs0) ⊎ (u ≡ variable g.rhs1)
 
 -- v is t, or a gate that reads what is in the fan-out of t
 pub data IsInFanOut (raw : Raw) (t : ℕ) : ℕ → Type 0 where

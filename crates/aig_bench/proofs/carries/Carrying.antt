@@ -11,8 +11,10 @@ use Rattle.aig_base.specs.state.Marks.{IsMarked}
 use Rattle.aig_base.specs.Readers.{ReadsVariable}
 use Rattle.aig_base.specs.Sound.{IsSound}
 use Rattle.aig_base.specs.Sections.{IsGate}
+use Rattle.aig_base.proofs.lists.Positions.{no_element}
 use Rattle.aig_base.proofs.circuits.Circuits.{gate_definition, gate_in_range}
-use Rattle.aig_base.proofs.circuits.Gates.{gate_of, level_of_gate}
+use Rattle.aig_base.proofs.circuits.Gates.{gate_of}
+use Rattle.aig_base.proofs.levels.OneLevel.{level_of_gate}
 use Rattle.aig_values.specs.InputRows.{row_at}
 use Rattle.aig_bench.specs.declared.buckets.Buckets.{Buckets}
 use Rattle.aig_bench.specs.declared.driven_circuit.DrivenCircuit.{DrivenCircuit}
@@ -25,7 +27,7 @@ use Rattle.aig_bench.specs.state.Engine.{IsClear}
 use Rattle.aig_bench.specs.state.Entry.{Entering, Puts, Carries, HasOtherSources}
 use Rattle.aig_bench.specs.state.Sweep.{PassStarts, IsWork}
 use Rattle.aig_bench.proofs.queues.Chained.{head_in, in_tail}
-use Rattle.aig_bench.proofs.carries.Entries.{no_element, entering_none, entering_more, entered}
+use Rattle.aig_bench.proofs.carries.Entries.{entering_none, entering_more, entered}
 use Rattle.aig_bench.proofs.cells.Values.{constant_holds}
 
 module _ (p : CircuitAndRows) (t : ℕ) (sound : IsSound p.circuit) where

@@ -11,30 +11,17 @@ use Rattle.aig_base.specs.Sound.{IsSound}
 use Rattle.aig_base.specs.Value.{start_of}
 use Rattle.aig_base.proofs.circuits.Gates.{same_gate}
 use Rattle.aig_base.proofs.circuits.Circuits.{gate_is, source-gate}
-use Rattle.aig_base.proofs.lists.Positions.{Contains-cons}
+use Rattle.aig_base.proofs.lists.Positions.{Contains-cons, contains_or_not, no_element}
 use Rattle.aig_base.proofs.values.UniqueValue.{unique}
 use Rattle.aig_bench.specs.BenchState.{CircuitAndRows, HasValue}
 use Rattle.aig_bench.specs.state.Current.{HoldsInPair, HoldsSourcesInPair}
 use Rattle.aig_bench.specs.state.Entry.{Entering}
-use Rattle.aig_bench.specs.state.Passing.{Differs, IsSide, IsTouched, IsTouchedSoFar}
-use Rattle.aig_base.specs.Readers.{ReadsVariable}
+use Rattle.aig_bench.specs.state.Passing.{Differs, IsTouched, IsTouchedSoFar}
+use Rattle.aig_base.specs.Readers.{ReadsVariable, IsSide}
 use Rattle.aig_bench.specs.state.Sweep.{PassStarts}
 use Rattle.aig_bench.proofs.cells.CellLemmas.{get_set_other}
 use Rattle.aig_bench.proofs.queues.Chained.{head_in, in_tail, none_marked}
 use Rattle.aig_bench.proofs.cells.Values.{holds_new, holds_still}
-
-pub no_element : (v : ℕ) → Contains {X = ℕ} [] v → ⊥
-no_element v (k, lt, is) = absurd (omega arith)
-
-pub contains_or_not : (xs : List ℕ) (v : ℕ) → Contains xs v ⊎ (Contains xs v → ⊥)
-contains_or_not [] v = inr (no_element v)
-contains_or_not (x ∷ xs) v = elim (cases_eq v x) [
-  | inl e ↦ inl (subst (Contains (x ∷ xs)) (sym e) (head_in x xs))
-  | inr ne ↦ elim (contains_or_not xs v) [
-    | inl i ↦ inl (in_tail x xs v i)
-    | inr out ↦ inr (λ i. elim (Contains-cons x xs v i) [ inl e ↦ ne e | inr j ↦ out j ])
-  ]
-]
 
 module _ (p : CircuitAndRows) (t : ℕ) (forced : ℕ → Type 0) (old : List Tern) (sound : IsSound p.circuit) where
   pub entering_none : (marks : List Bool) → ((u : ℕ) → IsMarked marks u ↔ forced u)

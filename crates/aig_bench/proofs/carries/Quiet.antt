@@ -15,11 +15,12 @@ use Rattle.aig_bench.specs.state.DrivenCircuit.{pair_of}
 use Rattle.aig_bench.specs.state.Renewed.{Renewed}
 use Rattle.aig_bench.specs.state.Sweep.{IsWork, PassEnds}
 use Rattle.aig_bench.proofs.carries.Carrying.{carries_none, started}
-use Rattle.aig_bench.proofs.carries.Entries.{no_element, entering_none}
+use Rattle.aig_bench.proofs.carries.Entries.{entering_none}
 use Rattle.aig_bench.proofs.carries.NextLatches.{latch_next_holds}
 use Rattle.aig_bench.proofs.renewals.RenewalLemmas.{renewed_none, renewed_one, renewed_join}
 use Rattle.aig_bench.proofs.passes.SweepEnds.{ended}
 use Rattle.aig_bench.proofs.passes.Sweeps.{sweeps_none, sweeps_far}
+use Rattle.aig_base.proofs.lists.Positions.{no_element}
 
 module _ (driven : DrivenCircuit) (fanouts : Fanouts) (flags : List Bool) (cells : List (List Tern)) (b : Buckets)
     (work : IsWork driven fanouts flags cells b) (empty : (v : ℕ) → IsQueued b v → ⊥) where

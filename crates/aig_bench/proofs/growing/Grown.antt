@@ -11,7 +11,7 @@ use Rattle.aig_base.specs.Changes.{next_gate, with_appended_gate}
 use Rattle.aig_parts.specs.Literal.{variable}
 use Rattle.aig_base.specs.Sections.{definitions, IsDefined, IsGate}
 use Rattle.aig_base.specs.Sound.{IsSound}
-use Rattle.aig_base.proofs.growth.Appended.{gate_cases, more_sound, new_at, new_variable, old_at}
+use Rattle.aig_base.proofs.growth.Appended.{gate_cases, more_sound, new_at, new_variable, old_at, more_variables}
 use Rattle.aig_base.proofs.circuits.Gates as gates
 use Rattle.aig_base.proofs.lists.Gets.{slice_get_last}
 use Rattle.aig_values.specs.Cells.{gate_value, with_new_cell}
@@ -27,23 +27,10 @@ module _ (raw : Raw) (r0 r1 : ℕ) where
   pub has_all : HasAll raw (with_appended_gate raw r0 r1)
   has_all = record { inputs = refl; latches = refl; gates = old_at raw r0 r1 }
 
-  -- what is defined, with one more at the end
-  more_definitions : definitions (with_appended_gate raw r0 r1) ≡ definitions raw ++ 2 * (raw.max_var + 1) ∷ []
-  more_definitions =
-      let front = raw.inputs ++ map (λ (x : Latch). x.lit) raw.latches in
-      let sides = map (λ (g : Gate). g.lhs) raw.gates in
-      ap (λ ls. front ++ ls) (map-append (λ (g : Gate). g.lhs) raw.gates (next_gate raw r0 r1 ∷ []))
-      ∙ sym (append_assoc front sides (2 * (raw.max_var + 1) ∷ []))
-
-  more_variables : map variable (definitions (with_appended_gate raw r0 r1))
-      ≡ map variable (definitions raw) ++ variable (2 * (raw.max_var + 1)) ∷ []
-  more_variables = ap (map variable) more_definitions
-      ∙ map-append variable (definitions raw) (2 * (raw.max_var + 1) ∷ [])
-
   pub defined_cases : (v : ℕ) → IsDefined (with_appended_gate raw r0 r1) v → IsDefined raw v ⊎ (v ≡ raw.max_var + 1)
   defined_cases v h =
       elim (Contains-push_cases (0 ∷ map variable (definitions raw)) (variable (2 * (raw.max_var + 1))) v
-      (subst (λ vs. Contains (0 ∷ vs) v) more_variables h)) [
+      (subst (λ vs. Contains (0 ∷ vs) v) (more_variables raw r0 r1) h)) [
         | inl was ↦ inl was
         | inr e ↦ inr (let is = new_variable raw r0 r1 in omega arith)
       ]

@@ -14,12 +14,10 @@ use Rattle.aig_bench.specs.declared.latch_readers.LatchReaders.{LatchReaders}
 use Rattle.aig_bench.specs.state.Buckets.{AreBuckets, IsBucketChain, IsQueued}
 use Rattle.aig_bench.specs.state.Latches.{AreLatchReaders, TakesNextFrom, IsLast}
 use Rattle.aig_parts.specs.Formed.{limit}
-use Rattle.aig_bench.specs.state.LevelSet.{HasBit, IsLevelSet}
+use Rattle.aig_parts.specs.state.Bits.{HasBit}
+use Rattle.aig_parts.proofs.BitLemmas.{same_bits}
+use Rattle.aig_bench.specs.state.LevelSet.{IsLevelSet}
 use Rattle.aig_bench.proofs.queues.Chained.{head_in}
-
-pub has_still : (old new : List ℕ) → ((w : ℕ) → get_or new w 0 ≡ get_or old w 0) → (n : ℕ) → HasBit old n → HasBit new n
-unfolding HasBit
-has_still old new same n h = rw (same (n / 64)) h
 
 module _ (words filled : List ℕ) (level : ℕ) (i : IsLevelSet words filled) (low : level ≤ limit) where
   -- the second set has room for the word of a level
@@ -30,8 +28,8 @@ module _ (words filled : List ℕ) (level : ℕ) (i : IsLevelSet words filled) (
     room = omega (arith, i.room);
     few = elim size [ inl e ↦ omega (arith, i.few) | inr e ↦ omega arith ];
     each = λ w. (
-      λ h. (i.each w).0 (has_still more filled (λ k. sym (same k)) w h),
-      λ ne. has_still filled more same w ((i.each w).1 ne),
+      λ h. (i.each w).0 ((same_bits more filled same w).0 h),
+      λ ne. (same_bits more filled same w).1 ((i.each w).1 ne),
     );
   }
 

@@ -10,6 +10,8 @@ use Rattle.aig_parts.specs.Literal.{variable}
 use Rattle.aig_base.specs.state.Marks.{IsMarked}
 use Rattle.aig_base.specs.Sound.{IsSound}
 use Rattle.aig_base.specs.Value.{start_of}
+use Rattle.aig_base.specs.Readers.{IsSide}
+use Rattle.aig_base.proofs.rewires.Renewing.{From, from_level}
 use Rattle.aig_base.proofs.circuits.Circuits.{rhs0_defined, rhs1_defined}
 use Rattle.aig_base.proofs.circuits.Defined.{Grounded-of_defined}
 use Rattle.aig_base.proofs.levels.OneLevel.{level_of}
@@ -17,16 +19,8 @@ use Rattle.aig_base.proofs.values.UniqueValue.{unique}
 use Rattle.aig_values.specs.Cells.{gate_value}
 use Rattle.aig_bench.specs.BenchState.{CircuitAndRows}
 use Rattle.aig_bench.specs.state.Current.{HoldsInPair, IsCurrentRow}
-use Rattle.aig_bench.specs.state.Passing.{Differs, IsSide, IsTouched, IsTouchedSoFar, Passing, IsConsistent}
+use Rattle.aig_bench.specs.state.Passing.{Differs, IsTouched, IsTouchedSoFar, Passing, IsConsistent}
 use Rattle.aig_bench.proofs.cells.Values.{gate_has_value}
-
--- a source or a gate
-abbrev pub From : Raw → ℕ → Type 0
-From raw u = IsSource raw u ⊎ ((r : ℕ) × (x : Gate) × (slice_get raw.gates r ≡ Some x) × (variable x.lhs ≡ u))
-
-from_level : {raw : Raw} {v m : ℕ} → Level raw v m → From raw v
-from_level (by.Level.source v s) = inl s
-from_level (by.Level.gate q g a b at la lb) = inr (q, g, at, refl)
 
 is_true_or_not : (o : Option Bool) → (o ≡ Some true) ⊎ (o ≡ Some true → ⊥)
 is_true_or_not None = inr (λ e. cc)

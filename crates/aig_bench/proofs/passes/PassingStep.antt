@@ -8,13 +8,14 @@ use Rattle.aig_parts.specs.Literal.{variable}
 use Rattle.aig_base.specs.state.Marks.{IsMarked}
 use Rattle.aig_base.specs.Sound.{IsSound}
 use Rattle.aig_base.specs.Value.{start_of}
+use Rattle.aig_base.specs.Readers.{IsSide}
 use Rattle.aig_base.proofs.levels.OneLevel.{same_level}
 use Rattle.aig_base.proofs.values.UniqueValue.{unique}
 use Rattle.aig_values.specs.Cells.{gate_value}
 use Rattle.aig_bench.specs.BenchState.{CircuitAndRows, HasValue}
 use Rattle.aig_bench.specs.state.Current.{HoldsInPair}
 use Rattle.aig_bench.proofs.cells.CellLemmas.{get_set_same, get_set_other}
-use Rattle.aig_bench.specs.state.Passing.{Differs, IsSide, IsTouchedSoFar, Passing}
+use Rattle.aig_bench.specs.state.Passing.{Differs, IsTouchedSoFar, Passing}
 use Rattle.aig_bench.proofs.cells.Values.{holds_new, holds_still}
 
 module _ (p : CircuitAndRows) (t : ℕ) (forced : ℕ → Type 0) (old row : List Tern) (marks done marks' : List Bool)

@@ -6,6 +6,7 @@ use Rattle.aig_parts.specs.Literal.{variable}
 use Rattle.aig_base.specs.state.Marks.{IsMarked}
 use Rattle.aig_base.specs.Sections.{IsGate}
 use Rattle.aig_base.specs.Value.{start_of}
+use Rattle.aig_base.proofs.lists.Positions.{no_element}
 use Rattle.aig_base.proofs.circuits.Circuits.{gate_defined}
 use Rattle.aig_base.proofs.circuits.Gates.{gate_of}
 use Rattle.aig_base.proofs.levels.OneLevel.{level_of}
@@ -19,9 +20,6 @@ use Rattle.aig_bench.specs.state.Passing.{Differs, IsTouched, IsConsistent}
 use Rattle.aig_bench.specs.state.DrivenCircuit.{pair_of}
 use Rattle.aig_bench.specs.state.Sweep.{IsWork, Sweeping, Swept, Sweeps, PassStarts, PassEnds}
 use Rattle.aig_bench.proofs.passes.PassLemmas.{marked_or_not, ended_current, ended_touched}
-
-no_element : (v : ℕ) → Contains {X = ℕ} [] v → ⊥
-no_element v (k, lt, is) = absurd (omega arith)
 
 -- nothing was evaluated yet
 begun : (p : CircuitAndRows) (t : ℕ) (forced : ℕ → Type 0) (old row : List Tern) (marks : List Bool)

@@ -9,7 +9,7 @@ use Rattle.aig_base.specs.Grounded.{Level}
 use Rattle.aig_parts.specs.Literal.{variable}
 use Rattle.aig_base.specs.Sections.{IsGate}
 use Rattle.aig_base.proofs.circuits.Circuits.{gate_definition, gate_in_range, gate_is}
-use Rattle.aig_base.proofs.circuits.Gates.{level_of_gate}
+use Rattle.aig_base.proofs.levels.OneLevel.{level_of_gate}
 use Rattle.aig_values.specs.Cells.{gate_value, HasCells}
 use Rattle.aig_values.specs.InputRows.{row_at, with_cell}
 use Rattle.aig_bench.specs.declared.latch_list.LatchList.{LatchList}

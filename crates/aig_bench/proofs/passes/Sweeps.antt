@@ -21,8 +21,8 @@ use Rattle.aig_base.proofs.lists.Positions.{Contains-cons}
 use Rattle.aig_values.specs.Cells.{gate_value}
 use Rattle.aig_bench.specs.BenchState.{CircuitAndRows, HasValue}
 use Rattle.aig_bench.specs.state.Current.{HoldsInPair}
-use Rattle.aig_bench.specs.state.Passing.{Differs, IsSide, Passing, IsConsistent}
-use Rattle.aig_base.specs.Readers.{ReadsVariable}
+use Rattle.aig_bench.specs.state.Passing.{Differs, Passing, IsConsistent}
+use Rattle.aig_base.specs.Readers.{ReadsVariable, IsSide}
 use Rattle.aig_bench.specs.state.Sweep.{Sweeping, Sweeps}
 use Rattle.aig_bench.specs.Touched.{IsOnce}
 use Rattle.aig_bench.proofs.cells.CellLemmas.{get_set_same, get_set_other}

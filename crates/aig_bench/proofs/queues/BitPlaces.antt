@@ -6,10 +6,9 @@ use Rattle.std.proofs.lemmas.List.{get_or_read, get_or_past}
 use Rattle.std.proofs.lemmas.Nat.{div-add-mod', pow_pos}
 use Rattle.std.proofs.lemmas.Nat.Bits.{bit_at_cat_high, bit_at-trailing_zeros, bit_at-zero, bit_at_above, bit_at_set_same, bit_at_set_other, bit_at_clear_same, bit_at_clear_other}
 use Rattle.std.proofs.Math.Nat.{mod-lt, div-le_self}
-use Rattle.aig_bench.specs.state.LevelSet.{HasBit, HasNone, IsFirstPlace, IsFirstFrom, IsFirstInWord, IsLevelSet}
-
-differ : (n : ℕ) → n ≡ 0 → n ≡ 1 → ⊥
-differ n a b = omega arith
+use Rattle.aig_parts.specs.state.Bits.{HasBit}
+use Rattle.aig_parts.proofs.BitLemmas.{differ, elsewhere, inserted, past, there}
+use Rattle.aig_bench.specs.state.LevelSet.{HasNone, IsFirstPlace, IsFirstFrom, IsFirstInWord, IsLevelSet}
 
 nothing_set : (word place : ℕ) → word ≡ 0 → bit_at word place ≡ 1 → ⊥
 nothing_set word place e is =
@@ -66,11 +65,6 @@ whole_word word from none e =
     let one : word / 2 ^ 0 ≡ word = omega arith in
     sym one ∙ ap (λ (k : ℕ). word / 2 ^ k) (sym e) ∙ none
 
--- a number after all words
-pub past : (words : List ℕ) (n : ℕ) → length words ≤ n / 64 → HasBit words n → ⊥
-unfolding HasBit
-past words n le is = nothing_set (get_or words (n / 64) 0) (n % 64) (get_or_past words (n / 64) 0 le) is
-
 -- a word that is 0 has no number
 pub none_of_zero : (words : List ℕ) (n : ℕ) → get_or words (n / 64) 0 ≡ 0 → HasBit words n → ⊥
 unfolding HasBit
@@ -82,43 +76,6 @@ none_of_zeros words none n = none_of_zero words n (none (n / 64))
 -- a word that gets another value at the place of a number
 module _ (words : List ℕ) (number old : ℕ) (inside : number / 64 < length words)
     (is : old ≡ get_or words (number / 64) old) where
-  was : old ≡ get_or words (number / 64) 0
-  was = get_or_read words (number / 64) old inside is 0
-
-  module _ (word : ℕ) where
-    there : (n : ℕ) → n ≡ number
-        → bit_at (get_or (set words (number / 64) word) (n / 64) 0) (n % 64) ≡ bit_at word (number % 64)
-    there n e =
-        rw e (ap (λ (x : ℕ). bit_at x (number % 64)) (get_or-set_same words (number / 64) word 0 inside))
-
-    elsewhere : ((p : ℕ) → p < 64 → p ≢ number % 64 → bit_at word p ≡ bit_at old p) → (n : ℕ) → n ≢ number
-        → bit_at (get_or (set words (number / 64) word) (n / 64) 0) (n % 64) ≡ bit_at (get_or words (n / 64) 0) (n % 64)
-    elsewhere same n ne = elim (cases_eq (n / 64) (number / 64)) [
-      | inl e ↦
-          let now : get_or (set words (number / 64) word) (n / 64) 0 ≡ word =
-          rw e (get_or-set_same words (number / 64) word 0 inside) in
-          let before : old ≡ get_or words (n / 64) 0 = rw e was in
-          ap (λ (x : ℕ). bit_at x (n % 64)) now
-          ∙ same (n % 64) (omega arith) (λ k. ne (omega arith))
-          ∙ ap (λ (x : ℕ). bit_at x (n % 64)) before
-      | inr k ↦ ap (λ (x : ℕ). bit_at x (n % 64)) (get_or-set_other words (number / 64) (n / 64) word 0 k)
-    ]
-
-  pub inserted : (n : ℕ) → HasBit (set words (number / 64) (bit_or old (1 * 2 ^ (number % 64) % 18446744073709551616))) n
-      ↔ (HasBit words n ⊎ (n ≡ number))
-  unfolding HasBit
-  inserted n =
-      let place = number % 64 in
-      let low : place < 64 = omega arith in
-      let word = bit_or old (1 * 2 ^ place % 18446744073709551616) in
-      let same = elsewhere word (λ p lt ne. bit_at_set_other w64 old place low p ne) n in (
-        λ h. elim (cases_eq n number) [ inl e ↦ inr e | inr ne ↦ inl (sym (same ne) ∙ h) ],
-        λ h. elim (cases_eq n number) [
-          | inl e ↦ there word n e ∙ bit_at_set_same w64 old place low
-          | inr ne ↦ elim h [ inl k ↦ same ne ∙ k | inr e ↦ absurd (ne e) ]
-        ],
-      )
-
   pub removed : (n : ℕ) → HasBit (set words (number / 64) (bit_and old (18446744073709551615 - 1 * 2 ^ (number % 64) % 18446744073709551616))) n
       ↔ (HasBit words n × (n ≢ number))
   unfolding HasBit
@@ -126,8 +83,8 @@ module _ (words : List ℕ) (number old : ℕ) (inside : number / 64 < length wo
       let place = number % 64 in
       let low : place < 64 = omega arith in
       let word = bit_and old (18446744073709551615 - 1 * 2 ^ place % 18446744073709551616) in
-      let same = elsewhere word (λ p lt ne. bit_at_clear_other w64 old place low p lt ne) n in
-      let gone = λ (e : n ≡ number). there word n e ∙ bit_at_clear_same w64 old place low in (
+      let same = elsewhere words number old inside is word (λ p lt ne. bit_at_clear_other w64 old place low p lt ne) n in
+      let gone = λ (e : n ≡ number). there words number old inside is word n e ∙ bit_at_clear_same w64 old place low in (
         λ h. elim (cases_eq n number) [
           | inl e ↦ absurd (differ _ (gone e) h)
           | inr ne ↦ (sym (same ne) ∙ h, ne)
@@ -138,7 +95,7 @@ module _ (words : List ℕ) (number old : ℕ) (inside : number / 64 < length wo
   pub filled_now : get_or (set words (number / 64) (bit_or old (1 * 2 ^ (number % 64) % 18446744073709551616))) (number / 64) 0 ≢ 0
   filled_now e =
       none_of_zero (set words (number / 64) (bit_or old (1 * 2 ^ (number % 64) % 18446744073709551616))) number e
-      ((inserted number).1 (inr refl))
+      ((inserted words number old inside is number).1 (inr refl))
 
 -- the first place of a word, as a number
 module _ (words : List ℕ) (from word : ℕ) (inside : from / 64 < length words) (is : word ≡ get_or words (from / 64) word) where

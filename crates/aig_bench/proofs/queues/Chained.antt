@@ -4,12 +4,9 @@ use Rattle.std.proofs.lemmas.Bool.{cases_eq, false≢true}
 use Rattle.std.proofs.lemmas.List.{get_or_read, length-replicate, get_or-replicate}
 use Rattle.std.proofs.lemmas.Option.{slice_get_within, get_or_from_slice_get}
 use Rattle.aig_base.specs.state.Marks.{IsMarked}
-use Rattle.aig_base.proofs.lists.Positions.{Contains-cons}
+use Rattle.aig_base.proofs.lists.Positions.{Contains-cons, no_element}
 use Rattle.aig_bench.specs.state.Buckets.{IsBucketChain, HasChain, AreChained}
 use Rattle.aig_bench.proofs.cells.CellLemmas.{get_set_same, get_set_other}
-
-no_element : (v : ℕ) → Contains {X = ℕ} [] v → ⊥
-no_element v (k, lt, is) = absurd (omega arith)
 
 pub head_in : (x : ℕ) (xs : List ℕ) → Contains (x ∷ xs) x
 head_in x xs = (0, omega arith, refl)

@@ -4,7 +4,8 @@ use Rattle.std.proofs.lemmas.Bool.{cases_eq}
 use Rattle.std.proofs.lemmas.Grind.{get_or_default_zero}
 use Rattle.aig_bench.specs.declared.buckets.Buckets.{Buckets}
 use Rattle.aig_bench.specs.state.Buckets.{AreBuckets, AreLevelsEmpty, IsOccupied}
-use Rattle.aig_bench.specs.state.LevelSet.{HasBit, HasNone}
+use Rattle.aig_parts.specs.state.Bits.{HasBit}
+use Rattle.aig_bench.specs.state.LevelSet.{HasNone}
 use Rattle.aig_bench.proofs.queues.Chained.{none_of_level}
 
 module _ (levels : List ℕ) (b : Buckets) (from : ℕ) (h : AreBuckets levels b) where

@@ -2,7 +2,7 @@
 use Rattle.std.specs.Prelude.{◌≡◌, ◌≢◌, ◌⊎◌, ◌↔◌, ℕ, ◌*◌, ◌<◌, ◌≤◌, Bool, List, [], ◌∷◌, length, slice_get, slice_index, Contains, Option, Some, None, IfSome, IfNone}
 use Rattle.std.specs.Vec.{vec_capacity}
 use Rattle.aig_base.specs.state.Marks.{IsMarked}
-use Rattle.aig_bench.specs.state.LevelSet.{HasBit}
+use Rattle.aig_parts.specs.state.Bits.{HasBit}
 use Rattle.aig_bench.specs.declared.buckets.Buckets.{Buckets}
 
 -- from at on, by the list that has the next number of each: these numbers, each once, and then 0

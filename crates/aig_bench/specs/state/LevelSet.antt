@@ -1,10 +1,7 @@
 -- Sets of numbers by bits, 64 a word (our own choice).
-use Rattle.std.specs.Prelude.{◌≡◌, ◌≢◌, ◌↔◌, ℕ, ◌+◌, ◌*◌, ◌/◌, ◌%◌, ◌<◌, ◌≤◌, List, length, slice_index, Option, Some, None}
+use Rattle.std.specs.Prelude.{◌≡◌, ◌≢◌, ◌↔◌, ℕ, ◌+◌, ◌*◌, ◌/◌, ◌<◌, ◌≤◌, List, length, slice_index, Option, Some, None}
 use Rattle.std.specs.Int.{bit_at}
-
--- the number is there: its bit is 1
-unfoldable pub HasBit : List ℕ → ℕ → Type 0
-HasBit words n = bit_at (slice_index words (n / 64)) (n % 64) ≡ 1
+use Rattle.aig_parts.specs.state.Bits.{HasBit}
 
 -- the lowest place of a word from this one on whose bit is set
 abbrev pub IsFirstPlace : ℕ → ℕ → Option ℕ → Type 0

@@ -5,6 +5,7 @@ use Rattle.aig_parts.specs.declared.gate.Gate.{Gate}
 use Rattle.aig_base.specs.Grounded.{IsSource}
 use Rattle.aig_parts.specs.Literal.{variable}
 use Rattle.aig_base.specs.state.Marks.{IsMarked}
+use Rattle.aig_base.specs.Readers.{IsSide}
 use Rattle.aig_values.specs.Cells.{gate_value}
 use Rattle.aig_bench.specs.BenchState.{CircuitAndRows, HasValue}
 use Rattle.aig_bench.specs.state.Current.{HoldsInPair, HoldsSourcesInPair}
@@ -14,10 +15,6 @@ pub record Differs (p : CircuitAndRows) (t : ℕ) (old : List Tern) (v : ℕ) : 
   pub value : Tern
   pub value_is : HasValue p t (2 * v) value
   pub other : slice_get old v ≢ Some value
-
--- the gate reads the variable
-abbrev pub IsSide : Gate → ℕ → Type 0
-IsSide g u = (variable g.rhs0 ≡ u) ⊎ (variable g.rhs1 ≡ u)
 
 -- the gate is touched: it is one of those that are evaluated in any case, or reads a variable that differs
 abbrev pub IsTouched : CircuitAndRows → ℕ → (ℕ → Type 0) → List Tern → Gate → Type 0

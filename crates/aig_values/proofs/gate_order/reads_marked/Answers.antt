@@ -1,8 +1,8 @@
-use Rattle.std.proofs.Common.{◌≡◌, ◌+◌, ◌<◌, ◌∙◌, ℕ, true, false, get_or, length, sym, subst, arith}
+use Rattle.std.proofs.Common.{◌<◌, ◌∙◌, length, sym, subst, arith}
 use Rattle.std.proofs.lemmas.Bool.{false≢true}
-use Rattle.aig_values.specs.GateOrder.{IsMarked}
 use Rattle.aig_values.proofs.GateOrders.{is_marked}
 use Rattle.aig_values.proofs.gate_order.reads_marked.Goals as goal
+use Rattle.aig_base.specs.state.Marks.{IsMarked}
 
 pub returns-then-marks-var : goal.returns-then-marks-var
 returns-then-marks-var c =

@@ -1,4 +1,4 @@
-use Rattle.std.proofs.Common.{◌≡◌, ◌+◌, ◌∙◌, ℕ, Bool, List, length, map, true, slice_set, sym, subst, arith}
+use Rattle.std.proofs.Common.{◌≡◌, ◌+◌, ◌∙◌, Bool, List, map, true, slice_set, sym, subst, arith}
 use Rattle.std.proofs.lemmas.List.{take_at}
 use Rattle.aig_parts.specs.Literal.{variable}
 use Rattle.aig_base.specs.Grounded.{IsSource}

@@ -1,6 +1,5 @@
-use Rattle.std.proofs.Common.{◌<◌, ◌≤◌, ◌+◌, List, length, map, sym, subst, arith}
+use Rattle.std.proofs.Common.{◌<◌, ◌≤◌, ◌+◌, length, map, sym, subst, arith}
 use Rattle.std.proofs.lemmas.List.{length-map, map-set}
-use Rattle.aig_parts.specs.declared.ternary.Tern.{Tern}
 use Rattle.aig_values.specs.state.Padded.{AreLengthened, IsLengthened}
 use Rattle.aig_values.proofs.PaddedRows.{Longer, longer_all, near_here, longer_rows, longer_set, longer_start}
 use Rattle.aig_values.proofs.SeenRows.{item_seen, all_seen, all_items}

@@ -1,4 +1,4 @@
-use Rattle.std.proofs.Common.{◌≡◌, fold, take, set, ap, ap₂, ◌∙◌, arith}
+use Rattle.std.proofs.Common.{◌≡◌, fold, set, ap, ap₂, ◌∙◌, arith}
 use Rattle.std.proofs.lemmas.List.{take_all}
 use Rattle.aig_parts.specs.Ternary.{kleene_and}
 use Rattle.aig_values.specs.Cells.{gate_value, with_gate_value}

@@ -1,4 +1,4 @@
-use Rattle.std.proofs.Common.{[], ◌<◌, length, arith}
+use Rattle.std.proofs.Common.{[], arith}
 use Rattle.aig_values.specs.TraceText.{line_text}
 use Rattle.aig_bytes.proofs.GatherLemmas.{piece_more, piece_failed}
 use Rattle.aig_values.proofs.trace_line.put_lines.Goals as goal

@@ -1,4 +1,4 @@
-use Rattle.std.proofs.Common.{◌≡◌, ℕ, List, length, map, take, drop, All, sym, ap, ◌∙◌, subst}
+use Rattle.std.proofs.Common.{length, map, take, drop, All, sym, ap, ◌∙◌, subst}
 use Rattle.aig_parts.specs.declared.latch.Latch.{Latch}
 use Rattle.aig_parts.specs.Literal.{variable}
 use Rattle.aig_values.specs.TraceText.{literal_character}

@@ -1,4 +1,4 @@
-use Rattle.std.proofs.Common.{◌∙◌, ◌<◌, ◌≤◌, ℕ, List, length, count_by, nat_eq, subst, sym, ap, arith}
+use Rattle.std.proofs.Common.{◌∙◌, ◌<◌, ◌≤◌, length, subst, sym, ap, arith}
 use Rattle.std.specs.Vec.{vec_capacity}
 use Rattle.aig_parts.specs.Literal.{variable}
 use Rattle.aig_base.specs.state.FanOuts.{FanOutLists}

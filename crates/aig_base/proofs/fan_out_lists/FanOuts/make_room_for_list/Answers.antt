@@ -1,6 +1,6 @@
-use Rattle.std.proofs.Common.{◌+◌, ◌<◌, ◌≤◌, length, subst, sym, ap, arith}
+use Rattle.std.proofs.Common.{length, subst, sym, arith}
 use Rattle.std.specs.Vec.{vec_capacity}
-use Rattle.aig_base.specs.state.FanOuts.{AreFanOuts, FanOutLists}
+use Rattle.aig_base.specs.state.FanOuts.{FanOutLists}
 use Rattle.aig_base.specs.state.ReaderSlots.{FitsOneReader, KeepsLists}
 use Rattle.aig_base.proofs.fan_outs.ListPlaceLemmas.{kept_more}
 use Rattle.aig_base.proofs.fan_outs.ReaderLists.{on_ok}

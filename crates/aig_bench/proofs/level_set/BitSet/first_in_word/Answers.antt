@@ -1,5 +1,6 @@
 use Rattle.std.proofs.Common.{arith}
-use Rattle.aig_bench.proofs.queues.BitPlaces.{past, none_in_word, some_in_word}
+use Rattle.aig_parts.proofs.BitLemmas.{past}
+use Rattle.aig_bench.proofs.queues.BitPlaces.{none_in_word, some_in_word}
 use Rattle.aig_bench.proofs.level_set.BitSet.first_in_word.Goals as goal
 
 pub returns-then-word-len-clause-least : goal.returns-then-word-len-clause-least

@@ -1,4 +1,5 @@
-use Rattle.aig_bench.proofs.queues.BitPlaces.{inserted, filled_now}
+use Rattle.aig_parts.proofs.BitLemmas.{inserted}
+use Rattle.aig_bench.proofs.queues.BitPlaces.{filled_now}
 use Rattle.aig_bench.proofs.level_set.BitSet.insert.Goals as goal
 
 pub returns-clause-bits : goal.returns-clause-bits

@@ -1,6 +1,7 @@
 use Rattle.std.proofs.Common.{ℕ, List, ◌↔◌, sym, subst}
-use Rattle.aig_bench.specs.state.LevelSet.{HasBit}
-use Rattle.aig_bench.proofs.growing.Lengthened.{has_still, filled_longer, words_longer}
+use Rattle.aig_parts.specs.state.Bits.{HasBit}
+use Rattle.aig_parts.proofs.BitLemmas.{same_bits}
+use Rattle.aig_bench.proofs.growing.Lengthened.{filled_longer, words_longer}
 use Rattle.aig_bench.proofs.level_set.LevelSet.make_room.Goals as goal
 
 pub invariant_of-self : goal.invariant_of-self
@@ -17,8 +18,7 @@ invariant_of-self-2 c =
 
 pub returns-clause-levels : goal.returns-clause-levels
 returns-clause-levels c =
-    let same = c.make_room-2.ensures.same in
     let old = c.self.inside.levels.words.items in
     let new = c.make_room-2.new.self.words.items in
     subst (λ (words : List ℕ). (l : ℕ) → HasBit new l ↔ HasBit words l) c.self.view_is
-    (λ l. (has_still new old (λ w. sym (same w)) l, has_still old new same l))
+    (same_bits new old c.make_room-2.ensures.same)

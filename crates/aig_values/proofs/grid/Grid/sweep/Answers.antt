@@ -1,4 +1,4 @@
-use Rattle.std.proofs.Common.{◌≡◌, ◌<◌, length, take, refl, ap, ◌∙◌, arith}
+use Rattle.std.proofs.Common.{length, take, refl, ap, ◌∙◌, arith}
 use Rattle.aig_values.specs.Cells.{HasCells}
 use Rattle.aig_values.proofs.SweepLemmas.{item_is, length-with_swept_row, swept_none, swept_more, swept_all}
 use Rattle.aig_values.proofs.grid.Grid.sweep.Goals as goal

@@ -1,4 +1,4 @@
-use Rattle.std.proofs.Common.{◌≡◌, ◌+◌, length, take}
+use Rattle.std.proofs.Common.{◌≡◌, ◌+◌, take}
 use Rattle.aig_values.specs.Cells.{with_swept_row}
 use Rattle.aig_values.proofs.grid.Grid.sweep.Given as goal
 
