@@ -1,9 +1,9 @@
 #!/usr/bin/env python3
 """Tries the planted bugs of crates, many of a crate together. Each changes the body of a function, and a proof of a
 function rests on the contracts of others alone. So one check of a copy says of each changed function whether the
-prover refuses it. A check takes what no bug changed from those before it, as the proofs of the functions that a changed
-one calls. So a crate's first check has most to do, and is shared by two processes. Bugs that change one function come
-in different checks, and those after the first run in two folders side by side.
+prover refuses it. In the copy no other function has its body, and each has a hole for its proof: `rt ci` proves them
+as they are. Bugs that change one function come in different checks. Two processes share the first, which also reads
+the crate's definitions and lemmas; those after it run in two folders side by side.
 
 Each planted bug names the clause that it breaks. It is refused where a goal of that clause is open in a function that
 it changes; one of planted/more/ that names none, where any goal is. The script prints all goals that are open, and of
@@ -50,7 +50,7 @@ NAMES = r"has no field|is not in scope|has no `|was not admitted"
 
 Crate = collections.namedtuple("Crate", "name folder parts below check build")
 Edit = collections.namedtuple("Edit", "name clause changes functions")
-Function = collections.namedtuple("Function", "name file first last clauses")
+Function = collections.namedtuple("Function", "name file first opens last clauses")
 Goal = collections.namedtuple("Goal", "name kind")
 
 
@@ -109,6 +109,21 @@ def clauses_at(lines, number):
     return [head[-1] for head in heads if head[0] == "ensures"]
 
 
+def opening(lines, number, indent):
+    """Returns the number of the line on which the body of a function opens: that of its name, that where its arguments
+    end, or one of its own. A function without a body ends there with a semicolon."""
+    depth = 0
+    for at, line in enumerate(lines[number:], number):
+        ends_head = at == number or line.startswith(indent + ")")
+        own = line in (indent + "{", indent + "{}")
+        if depth == 0 and (own or ends_head and line.endswith((" {", "{}"))):
+            return at
+        depth += line.count("{") - line.count("}")
+        if depth == 0 and line.endswith(";"):
+            return at
+    raise ValueError(f"a function has no end: {lines[number]}")
+
+
 def functions(crate, file, homes):
     """Yields the functions of a source file, by the names that a check gives them, with their first and last lines. A
     method is named by the module of its type, one of a trait by that of its impl."""
@@ -129,13 +144,11 @@ def functions(crate, file, homes):
             module = owner = ""
         at = re.match(r"(\s*)(?:pub(?:\(crate\))? )?fn (\w+)", line)
         if at:
-            body = number
-            while not (lines[body].endswith((" {", "{}", ";")) or lines[body] == at[1] + "{"):
-                body += 1
+            body = opening(lines, number, at[1])
             if not lines[body].endswith(";"):
                 end = body if lines[body].endswith("{}") else lines.index(at[1] + "}", body)
                 name = (module + owner if at[1] else module_of(file)) + at[2]
-                yield Function(name, file, number + 1, end + 1, clauses_at(lines, number))
+                yield Function(name, file, number + 1, body + 1, end + 1, clauses_at(lines, number))
 
 
 def read(crate, path, known):
@@ -163,7 +176,7 @@ def read(crate, path, known):
             added = re.match(r"fn (\w+)", text)
             if added and f"fn {added[1]}" not in old:
                 clauses = [it or "ensures" for it in re.findall(r"\bensures (?:(\w+) )?\{", text)]
-                changed.append(Function(module_of(file) + added[1], file, at + 1, at + 1, clauses))
+                changed.append(Function(module_of(file) + added[1], file, at + 1, at + 1, at + 1, clauses))
             texts[file] = before.replace(old, text)
     # a constant is every function's of its file
     changed = changed or [it for file, *_ in changes for it in known[file]]
@@ -246,17 +259,38 @@ def judged(edit, verdicts, found):
     return min(kinds, key=KINDS.index, default=None), shown
 
 
-def tried(crate, room, texts, edits, jobs):
-    """Checks a copy of a crate with planted bugs in this folder, prints each bug, and returns how each is refused.
-    What no bug changed is taken from an earlier check in the same folder."""
+def take_as_proved(crate, room, taken):
+    """Takes these functions of a copy of a crate as proved: each loses its body, and has a hole for its proof. What
+    calls it rests on its contract alone."""
+    for function in taken:
+        *path, name = function.name.split("::")
+        folder = room.joinpath("proofs", *path, name)
+        shutil.rmtree(folder, ignore_errors=True)
+        folder.mkdir(parents=True)
+        statement = ".".join(["Rattle", crate.name, "proofs", *path, name, "Statement"])
+        hole = f"pub {name}_spec : {{M : Type 1}} → statement M\n{name}_spec = ?\n"
+        (folder / "Proof.antt").write_text(f"use {statement}.{{statement}}\n\n{hole}")
+        file = room / function.file
+        lines = file.read_text().split("\n")
+        # no line moves: those of the other functions are known by their numbers
+        for number in range(function.opens, function.last - 1):
+            lines[number] = "unreachable!()" if number == function.opens else ""
+        file.write_text("\n".join(lines))
+
+
+def tried(crate, room, known, texts, edits, jobs):
+    """Checks a copy of a crate with planted bugs in this folder, prints each bug, and returns how each is refused. The
+    functions that no bug changed are taken as proved."""
     for part in crate.parts:
+        shutil.rmtree(room / part, ignore_errors=True)
         if (crate.folder / part).is_dir():
-            shutil.copytree(crate.folder / part, room / part, dirs_exist_ok=True)
+            shutil.copytree(crate.folder / part, room / part)
     for file, text in texts.items():
         (room / file).write_text(text)
     wanted = sorted({it.name for edit in edits for it in edit.functions})
-    only = [word for name in wanted for word in ("--only", name)]
-    ran = subprocess.run([*crate.check(jobs), "--incremental", f"{room}/kept", *only], cwd=room, check=False,
+    take_as_proved(crate, room, [it for it in known if it.name not in wanted])
+    words = ["--allow-holes", "--incremental", f"{room}/kept", *(it for name in wanted for it in ("--only", name))]
+    ran = subprocess.run([*crate.check(jobs), *words], cwd=room, check=False,
                          stdin=subprocess.DEVNULL, stdout=subprocess.PIPE, stderr=subprocess.STDOUT, errors="replace")
     verdicts, found = open_goals(crate.name, ran.stdout)
     if not verdicts:
@@ -270,32 +304,34 @@ def tried(crate, room, texts, edits, jobs):
     return kinds
 
 
-def told(crate, edits, jobs):
+def told(crate, known, edits, jobs):
     """Tries the planted bugs of a crate, and returns how each is refused. The folders begin with what the first check
     kept."""
     (texts, taken), *later = rounds(crate.folder, edits)
     with tempfile.TemporaryDirectory(prefix="planted-") as name:
         rooms = [pathlib.Path(name, str(number)) for number in range(min(jobs, len(later) or 1))]
         rooms[0].mkdir()
-        kinds = tried(crate, rooms[0], texts, taken, jobs)
+        kinds = tried(crate, rooms[0], known, texts, taken, jobs)
         for room in rooms[1:]:
             shutil.copytree(rooms[0], room)
 
         def rest(number):
-            return [kind for check in later[number :: len(rooms)] for kind in tried(crate, rooms[number], *check, 1)]
+            checks = later[number :: len(rooms)]
+            return [kind for check in checks for kind in tried(crate, rooms[number], known, *check, 1)]
 
         with concurrent.futures.ThreadPoolExecutor(len(rooms)) as pool:
             return kinds + [kind for more in pool.map(rest, range(len(rooms))) for kind in more]
 
 
 def edits_of(crate, rooms, only):
-    """Returns the planted bugs of a crate, and those that cannot be applied."""
+    """Returns a crate's functions, its planted bugs, and those that cannot be applied."""
     files = [str(it.relative_to(crate.folder)) for it in (crate.folder / "src").rglob("*.rt")]
     homes = types(crate.folder, files)
     known = {file: list(functions(crate.folder, file, homes)) for file in files}
     paths = [it for room in rooms for it in sorted((crate.folder / room).glob("*.edit"))]
     edits = [read(crate.folder, it, known) for it in paths if not only or any(word in it.name for word in only)]
-    return [it for it in edits if it.changes], [it for it in edits if not it.changes]
+    every = [it for file in files for it in known[file]]
+    return every, [it for it in edits if it.changes], [it for it in edits if not it.changes]
 
 
 def copies(crate):
@@ -309,7 +345,7 @@ def copies(crate):
 def in_turn(work, behind):
     """Yields the crates that can be checked, each with its planted bugs, the most bugs first: all, or those whose
     libraries an `rt ci` that runs has proved, or kept from an earlier run, by its output so far."""
-    left = sorted(work, key=lambda it: -len(it[1]))
+    left = sorted(work, key=lambda it: -len(it[-1]))
     while left:
         said = behind.read_text() if behind else ""
         if re.search(r"(?m)^rt: .* NOT PROVED$", said):
@@ -337,7 +373,7 @@ def main():
     for crate in toolchain(words.jobs):
         if words.crates and crate.name not in words.crates:
             continue
-        edits, wrong = edits_of(crate, rooms, words.only)
+        known, edits, wrong = edits_of(crate, rooms, words.only)
         for edit in wrong:
             print(f"{crate.name}/{edit.name}: FAILED: it cannot be applied")
             failed += 1
@@ -346,10 +382,10 @@ def main():
             failed += 1
         if edits and not words.behind:
             crate.build()
-        work += [(crate, edits)] if edits else []
+        work += [(crate, known, edits)] if edits else []
     share = min(SHARE, words.jobs)
     with concurrent.futures.ThreadPoolExecutor(words.jobs // share) as pool:
-        tries = [pool.submit(told, crate, edits, share) for crate, edits in in_turn(work, words.behind)]
+        tries = [pool.submit(told, *it, share) for it in in_turn(work, words.behind)]
     kinds = collections.Counter(kind for it in tries for kind in it.result())
     print("refused: " + ", ".join(f"{kinds[kind]} {kind}" for kind in KINDS[:-1]))
     passed, failed = sum(kinds[kind] for kind in KINDS), failed + kinds[None]
