@@ -1,17 +1,27 @@
 //! The test of parts whose definitions are in order, each gate after all that it reads, as in every binary file.
-ghost use Rattle.std.specs.Prelude.{◌≡◌, ◌≢◌, ◌↔◌, ◌+◌, ◌^◌, ◌<◌, ◌≤◌, length, map, All, IsTrue, IfErr, OnOk};
+ghost use Rattle.std.specs.Prelude.{◌≡◌, ◌≢◌, ◌↔◌, ◌+◌, ◌*◌, ◌^◌, ◌<◌, ◌≤◌, length, map, All, IsTrue, IfErr, OnOk};
 ghost use Rattle.aig_base.specs.Circuit.{IsCircuit};
 ghost use Rattle.aig_base.specs.Definition.{IsInOrder};
 ghost use Rattle.aig_base.specs.FirstFault.{IsFirstFault};
 ghost use Rattle.aig_parts.specs.Formed.{CountsFit, IsFormed, limit};
+ghost use Rattle.aig_parts.specs.Literal.{variable};
 ghost use Rattle.aig_base.specs.state.LeastFaulty.{ReadsSmaller};
 ghost use Rattle.aig_base.specs.state.BinaryReady.{SectionsInOrder};
 ghost use Rattle.aig_base.specs.Renumbered.{evens_from};
 
 use crate::binary_ready::{inputs_in_order, is_even_of, latches_in_order};
-use crate::check::{reads_smaller, sections_are_in_range};
+use crate::check::sections_are_in_range;
 use crate::least_faulty::least_bad_reset;
 use aig_parts::{Fault, Gate, Latch, Lit, Raw};
+
+// Whether a gate whose left side is even reads smaller variables alone. No literal has to be halved.
+fn reads_below(gate: Gate) -> bool
+    requires { gate.lhs ≡ 2 * variable gate.lhs }
+    ensures { IsTrue result ↔ ReadsSmaller gate }
+{
+    let lhs = gate.lhs.value();
+    gate.rhs0.value() < lhs && gate.rhs1.value() < lhs
+}
 
 // Whether the left sides are the even literals from this variable on, and each gate reads smaller variables alone.
 fn gates_ascend(gates: &[Gate], first: usize) -> bool
@@ -23,7 +33,7 @@ fn gates_ascend(gates: &[Gate], first: usize) -> bool
         if !is_even_of(gate.lhs, first + place) {
             return false;
         }
-        if !reads_smaller(*gate) {
+        if !reads_below(*gate) {
             return false;
         }
     }

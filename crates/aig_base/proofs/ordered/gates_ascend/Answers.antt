@@ -15,11 +15,11 @@ returns-then-not-is_even_of c =
     ∙ ap (λ g. g.lhs) (sym c.index-gates-place.is)) c.is_even_of.ensures c.if-not-is_even_of.true in
     (λ h. absurd (false≢true h), λ both. no.1 both.0)
 
-pub returns-then-not-reads_smaller : goal.returns-then-not-reads_smaller
-returns-then-not-reads_smaller c = (
+pub returns-then-not-reads_below : goal.returns-then-not-reads_below
+returns-then-not-reads_below c = (
   λ h. absurd (false≢true h),
-  λ both. absurd (false≢true (sym c.if-not-reads_smaller.true
-      ∙ c.reads_smaller.ensures.1 (subst ReadsSmaller (sym c.index-gates-place.is)
+  λ both. absurd (false≢true (sym c.if-not-reads_below.true
+      ∙ c.reads_below.ensures.1 (subst ReadsSmaller (sym c.index-gates-place.is)
       (both.1 c.loop-place.place c.index-gates-place.result c.loop-place-test.true)))),
 )
 
@@ -35,5 +35,5 @@ loop-place-preserved c = record {
       (λ j below. c.loop-place.invariant.smaller j d below)
       (subst ReadsSmaller (c.index-gates-place.is ∙ get_or_default c.args.gates.now c.loop-place.place _ d
       c.loop-place-test.true)
-      (c.reads_smaller.ensures.0 c.if-not-reads_smaller.false)) k lt;
+      (c.reads_below.ensures.0 c.if-not-reads_below.false)) k lt;
 }
