@@ -3,7 +3,6 @@ use Rattle.std.specs.Prelude.{◌≡◌, ◌↔◌, ℕ, Bool, true, false, IsTr
 use Rattle.std.specs.Prelude.{Option, None, Some, Result, Ok, Err}
 use Rattle.std.specs.List.{flat_map}
 use Rattle.std.specs.Fmt.{decimal}
-use Rattle.aig_parts.specs.declared.latch.Latch.{Latch}
 use Rattle.aig_parts.specs.declared.raw.Raw.{Raw}
 use Rattle.aig_base.specs.Greatest.{IsGreatestFanOut, IsGreatestLevel}
 use Rattle.aig_base.specs.Renumbered.{IsBinaryReady}
@@ -13,6 +12,7 @@ use Rattle.aig_format.specs.Spells.{SpellsAscii, SpellsBinary}
 use Rattle.aig_commands.specs.declared.info.Facts.{Facts}
 use Rattle.aig_fault.specs.declared.run_fault.RunFault.{RunFault}
 use Rattle.aig_fault.specs.declared.run_fault.RunFault.TheVariants as run_faults
+use Rattle.aig_unroll.specs.FrameLiteral.{is_uninitialised}
 
 abbrev pub format_name : Format → List ℕ
 format_name Ascii = codes "aag"
@@ -26,10 +26,6 @@ yes_or_no false = codes "no"
 abbrev pub IsInFormat : Format → List ℕ → Raw → Type 0
 IsInFormat Ascii bytes raw = SpellsAscii bytes raw
 IsInFormat Binary bytes raw = SpellsBinary bytes raw
-
--- the latch starts at no known value (AIGER 1.9, resets)
-abbrev pub is_uninitialised : Latch → Bool
-is_uninitialised x = x.reset == x.lit
 
 -- how many bytes a comment has; 0 where there is none
 abbrev pub comment_size : Option (List ℕ) → ℕ
