@@ -16,10 +16,11 @@ use Rattle.aig_fault.specs.declared.script_fault.ScriptFault.TheVariants as scri
 use Rattle.aig_script.specs.Lines.{Line, rest_from, whole_lines, lines_of}
 use Rattle.aig_script.specs.Ran.{Answered, StoppedAt, Unflushed, FailsToWrite, Ran, Failing}
 use Rattle.aig_script.specs.Replies.{Replies}
-use Rattle.aig_script.proofs.ReplyLemmas.{before_nil, replies_append, replies_one}
+use Rattle.aig_script.proofs.ReplyLemmas.{replies_append, replies_one}
 use Rattle.aig_commands.specs.Bench.{RunsScript, LeavesBench}
 use Rattle.aig_commands.specs.BenchFiles.{AreBenchFiles, RefusesFiles}
 use Rattle.aig_commands.proofs.ScriptParts.{Part, part_of, ended_before}
+use Rattle.aig_sim.proofs.SimulationLemmas.{before_nil}
 
 abbrev pub script_io : RunFault
 script_io = run_faults.Script scripts.Io

@@ -14,6 +14,7 @@ use Rattle.aig_format.specs.Spells.{SpellsAscii, SpellsBinary}
 use Rattle.aig_commands.specs.declared.info.Facts.{Facts}
 use Rattle.aig_fault.specs.declared.run_fault.RunFault.{RunFault}
 use Rattle.aig_fault.specs.declared.run_fault.RunFault.TheVariants as run_faults
+use Rattle.aig_unroll.specs.FrameLiteral.{is_uninitialised}
 
 abbrev pub format_name : Format → List ℕ
 format_name Ascii = codes "aag"
@@ -27,10 +28,6 @@ yes_or_no false = codes "no"
 abbrev pub IsInFormat : Format → List ℕ → Raw → Type 0
 IsInFormat Ascii bytes raw = SpellsAscii bytes raw
 IsInFormat Binary bytes raw = SpellsBinary bytes raw
-
--- the latch starts at no known value (AIGER 1.9, resets)
-abbrev pub is_uninitialised : Latch → Bool
-is_uninitialised x = x.reset == x.lit
 
 -- the latch starts at 1 (AIGER 1.9, resets)
 abbrev pub starts_at_one : Latch → Bool

@@ -5,11 +5,12 @@ ghost use Rattle.aig_bytes.specs.Bytes.{Writes};
 ghost use Rattle.aig_parts.specs.declared.raw.Raw.{Raw};
 ghost use Rattle.aig_base.specs.Greatest.{IsGreatestLevel};
 ghost use Rattle.aig_format.specs.Spells.{Spells};
+ghost use Rattle.aig_unroll.specs.FrameLiteral.{is_uninitialised};
 ghost use Rattle.aig_bytes.specs.Flow.{flow};
 ghost use Rattle.aig_fault.specs.Command.{CommandEnds};
 ghost use Rattle.aig_commands.specs.Info.{AreFacts, ListsFacts, IsInFormat, comment_size, fact_line, format_name};
 ghost use Rattle.aig_commands.specs.Info.{info_text, fact_number_line, number_lines, yes_or_no};
-ghost use Rattle.aig_commands.specs.Info.{is_constant, is_uninitialised, starts_at_one};
+ghost use Rattle.aig_commands.specs.Info.{is_constant, starts_at_one};
 ghost use Rattle.aig_commands.specs.Names.{ListsNames, names_text};
 ghost use Rattle.aig_fault.specs.Command.{IsFileOf, OfFile, OfReader};
 

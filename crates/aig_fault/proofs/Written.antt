@@ -8,10 +8,7 @@ use Rattle.aig_fault.specs.declared.run_fault.RunFault.{RunFault}
 use Rattle.aig_fault.specs.declared.run_fault.RunFault.TheVariants as run_faults
 use Rattle.aig_fault.specs.Command.{Got, BreaksOff, CommandEnds, Text, Gave, WritesAll, WritesPart, EndsReading}
 use Rattle.aig_fault.specs.Faults.{output_of}
-
-before-nil : (w : Option (List ℕ)) → before [] w ≡ w
-before-nil None = refl
-before-nil (Some xs) = refl
+use Rattle.aig_sim.proofs.SimulationLemmas.{before_nil}
 
 module _ {X : Type 0} (written : X → Option (List ℕ)) (failures : X → ℕ) (old new : X) where
   pub got_all : {S F : Type 0} (bytes : List ℕ) (value : S) → Writes {E = F} written failures old new bytes (Ok value)
@@ -48,7 +45,7 @@ got_none written failures old = record { got = sym (after-nil (written old)); co
 pub gave_none : {Y : Type 0} (left : Y → Option (List ℕ)) (failures : Y → ℕ) (old : Y)
     → Gave (flow left failures old old) (record { bytes = []; is_whole = false }) 0
 gave_none left failures old = record {
-  gave = sym (before-nil (left old));
+  gave = sym (before_nil (left old));
   whole = λ is. let no : ⊥ = cc is in absurd no;
   count = omega arith;
 }

@@ -11,6 +11,7 @@ use Rattle.aig_base.specs.FirstFault.{FaultApplies}
 use Rattle.aig_base.specs.Grounded.{IsAcyclic}
 use Rattle.aig_base.specs.Sections.{definitions, IsDefined}
 use Rattle.aig_base.specs.Sound.{IsSound}
+use Rattle.aig_base.proofs.lists.Positions.{contains_or_not}
 use Rattle.aig_base.proofs.checks.Acyclic.{acyclic}
 use Rattle.aig_base.proofs.checks.NoFault.{no_fault, sound}
 use Rattle.aig_base.proofs.growth.Appended.{more_circuit}
@@ -26,26 +27,8 @@ use Rattle.aig_script.specs.Replies.{CommandReply, WholeReply, LineReply}
 
 -- ---- what is not impossible
 
--- a list has a number, or has it not
-contains_cases : (xs : List ℕ) (x : ℕ) → Contains xs x ⊎ (Contains xs x → ⊥)
-contains_cases [] x = inr (λ h. omega (arith, h.1))
-contains_cases (y ∷ xs) x = elim (same x y) [
-  | inl e ↦ inl (0, omega arith, sym e)
-  | inr ne ↦ elim (contains_cases xs x) [
-    | inl h ↦ inl (suc h.0, omega (arith, h.1), h.2)
-    | inr never ↦ inr (λ h. later h.0 h.1 h.2 ne never)
-  ]
-]
-  where
-    same : (a b : ℕ) → (a ≡ b) ⊎ (a ≡ b → ⊥)
-    same a b = grind arith
-
-    later : (k : ℕ) → k < length (y ∷ xs) → get_or (y ∷ xs) k x ≡ x → (x ≡ y → ⊥) → (Contains xs x → ⊥) → ⊥
-    later zero lt is ne never = ne (sym is)
-    later (suc k) lt is ne never = never (k, omega arith, is)
-
 defined : (raw : Raw) (v : ℕ) → ((IsDefined raw v → ⊥) → ⊥) → IsDefined raw v
-defined raw v some = elim (contains_cases (0 ∷ map variable (definitions raw)) v) [ inl h ↦ h | inr never ↦ absurd (some never) ]
+defined raw v some = elim (contains_or_not (0 ∷ map variable (definitions raw)) v) [ inl h ↦ h | inr never ↦ absurd (some never) ]
 
 both_defined : (raw : Raw) (a b : ℕ) → ((IsDefined raw a × IsDefined raw b → ⊥) → ⊥) → IsDefined raw a × IsDefined raw b
 both_defined raw a b some =

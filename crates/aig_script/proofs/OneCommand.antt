@@ -29,7 +29,7 @@ tails a b xs ys e = cc
 tails_of_two : (a b : ℕ) (xs ys : List ℕ) → a ∷ (b ∷ xs) ≡ a ∷ (b ∷ ys) → xs ≡ ys
 tails_of_two a b xs ys e = tails b b xs ys (tails a a (b ∷ xs) (b ∷ ys) e)
 
-first_differs : (a b : ℕ) (xs ys : List ℕ) → (a ≡ b → ⊥) → a ∷ xs ≡ b ∷ ys → ⊥
+pub first_differs : (a b : ℕ) (xs ys : List ℕ) → (a ≡ b → ⊥) → a ∷ xs ≡ b ∷ ys → ⊥
 first_differs a b xs ys ne e = ne (let h : a ≡ b = cc in h)
 
 -- the first byte

@@ -11,6 +11,8 @@ use Rattle.aig_bench.specs.BenchState.{CircuitAndRows}
 use Rattle.aig_script.specs.Replies.{Replies, LineReply}
 use Rattle.aig_script.specs.Ran.{Answered, StoppedAt, Reading, Failing}
 use Rattle.aig_script.specs.ScriptLine.{ScriptLine, KeepsScriptLine}
+use Rattle.aig_sim.proofs.SimulationLemmas.{before_nil, before-before}
+use Rattle.aig_parts.proofs.NamedLemmas.{on_error}
 
 pub lines_from-append : (s xs ys : List ℕ) → lines_from s (xs ++ ys) ≡ lines_from s xs ++ lines_from (rest_from s xs) ys
 lines_from-append s [] ys = refl
@@ -36,10 +38,6 @@ whole_from-append s xs ys =
 pub on_ok : {T E P : Type 0} (r : Result T E) → P → OnOk r P
 on_ok (Ok x) p = p
 on_ok (Err e) p = tt
-
-pub on_err : {T E P : Type 0} (r : Result T E) → P → OnErr r P
-on_err (Ok x) p = tt
-on_err (Err e) p = p
 
 pub on_ok_from_err : {T E : Type 0} (P : Type 0) (r : Result T E) → IsErr r → OnOk r P
 on_ok_from_err P (Ok x) h = absurd (false≢true h)
@@ -129,14 +127,6 @@ module _ {X : Type 0} {written : X → Option (List ℕ)} {failures : X → ℕ}
   answered_flushed a e f =
       let w = a.writes in
       record { replies = a.replies; ran = a.ran; writes = record { ok = e ∙ w.ok; err = tt; count = omega (arith, w.count, f) } }
-
-pub before_nil : (w : Option (List ℕ)) → before [] w ≡ w
-before_nil None = refl
-before_nil (Some xs) = refl
-
-pub before-before : (a b : List ℕ) (w : Option (List ℕ)) → before a (before b w) ≡ before (a ++ b) w
-before-before a b None = refl
-before-before a b (Some xs) = ap Some (sym (append_assoc a b xs))
 
 -- the whole lines of a text that is read in two pieces
 whole_lines-append : (text bytes : List ℕ)

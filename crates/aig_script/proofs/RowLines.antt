@@ -11,6 +11,7 @@ use Rattle.aig_sim.specs.StimulusText.{IsCharacter, HasFault}
 use Rattle.aig_sim.specs.declared.row_parser.Shape.{Shape}
 use Rattle.aig_sim.specs.declared.row_parser.Shape.TheVariants.{Row}
 use Rattle.aig_sim.specs.RowParser.{IsOfLine, IsKept, KeepsLine}
+use Rattle.aig_sim.proofs.LineLemmas.{IsCharacter-of_value}
 use Rattle.aig_bench.specs.declared.edit.EditFault.{EditFault}
 use Rattle.aig_bench.specs.declared.edit.EditFault.TheVariants as faults
 use Rattle.aig_bench.specs.BenchState.{CircuitAndRows}
@@ -18,6 +19,7 @@ use Rattle.aig_bench.specs.Edit as edits
 use Rattle.aig_script.specs.Command.{edit, value, trace, unroll, IsNoCommand, command_text}
 use Rattle.aig_script.specs.Replies.{WholeReply}
 use Rattle.aig_script.specs.state.Faults.{row_fault_reply}
+use Rattle.aig_script.proofs.OneCommand.{first_differs}
 
 value_of : (b : ℕ) → IsCharacter b → (w : Tern) × (b ≡ character w)
 value_of b (inl e) = (Zero, e)
@@ -32,17 +34,10 @@ values_of (b ∷ text) all =
     let (row, es) = values_of text (All-tail IsCharacter b text all) in
     (w ∷ row, ap (λ (c : ℕ). c ∷ text) e ∙ ap (λ (t : List ℕ). character w ∷ t) es)
 
-is_character : (w : Tern) → IsCharacter (character w)
-is_character Zero = inl refl
-is_character One = inr (inl refl)
-is_character X = inr (inr refl)
-
 characters : (row : List Tern) → All IsCharacter (map character row)
-characters row = All-map IsCharacter character row (λ i d h. is_character _)
+characters row = All-map IsCharacter character row (λ i d h. IsCharacter-of_value _)
 
 -- lists that begin with different bytes
-first_differs : (a b : ℕ) (xs ys : List ℕ) → (a ≡ b → ⊥) → a ∷ xs ≡ b ∷ ys → ⊥
-first_differs a b xs ys ne e = ne (let h : a ≡ b = cc in h)
 
 rest_same : (xs ys : List ℕ) → 43 ∷ (32 ∷ xs) ≡ 43 ∷ (32 ∷ ys) → xs ≡ ys
 rest_same xs ys e = cc

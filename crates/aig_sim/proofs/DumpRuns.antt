@@ -17,13 +17,9 @@ use Rattle.aig_sim.specs.Dump.{signals, first_text, next_text, AreFrames, closin
 use Rattle.aig_sim.specs.DumpHeader.{header}
 use Rattle.aig_dump_header.specs.Names.{identifier_code}
 use Rattle.aig_sim.specs.DumpRead.{lines_after, seen, read_value, ShowsFrames}
+use Rattle.aig_sim.proofs.LineLemmas.{IsCharacter-of_value}
 use Rattle.aig_sim.proofs.DumpLines.{header_directives}
 use Rattle.aig_sim.proofs.DumpReading.{Leads, leads_then, leads_directives, leads_time, leads_first, leads_next, leads_later}
-
-is_character : (w : Tern) → IsCharacter (character w)
-is_character Zero = inl refl
-is_character One = inr (inl refl)
-is_character X = inr (inr refl)
 
 module _ (raw : Raw) (start : List Tern) (rows : List (List Tern)) where
   are_characters : (t : ℕ) (ls cs : List ℕ) → AreValues raw start rows t ls cs → All IsCharacter cs
@@ -31,7 +27,7 @@ module _ (raw : Raw) (start : List Tern) (rows : List (List Tern)) where
   are_characters t [] (c ∷ cs) h = absurd h
   are_characters t (l ∷ ls) [] h = absurd h
   are_characters t (l ∷ ls) (c ∷ cs) h =
-      All-cons IsCharacter c cs (subst IsCharacter (sym h.0.2) (is_character h.0.0)) (are_characters t ls cs h.1)
+      All-cons IsCharacter c cs (subst IsCharacter (sym h.0.2) (IsCharacter-of_value h.0.0)) (are_characters t ls cs h.1)
 
   -- the value that stands for the literal at position n
   character_at : (t : ℕ) (ls cs : List ℕ) (n l : ℕ) → AreValues raw start rows t ls cs → slice_get ls n ≡ Some l

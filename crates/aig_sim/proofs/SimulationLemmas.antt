@@ -31,7 +31,7 @@ pub before_nil : (w : Option (List ℕ)) → before [] w ≡ w
 before_nil None = refl
 before_nil (Some xs) = refl
 
-before-before : (a b : List ℕ) (w : Option (List ℕ)) → before a (before b w) ≡ before (a ++ b) w
+pub before-before : (a b : List ℕ) (w : Option (List ℕ)) → before a (before b w) ≡ before (a ++ b) w
 before-before a b None = refl
 before-before a b (Some xs) = ap Some (sym (append_assoc a b xs))
 

@@ -12,6 +12,7 @@ use Rattle.aig_parts.specs.Literal.{variable}
 use Rattle.aig_base.specs.Sections.{definitions, uses, IsDefined}
 use Rattle.aig_base.specs.Sound.{IsSound, IsInRange}
 use Rattle.aig_base.specs.Value.{Value}
+use Rattle.aig_base.proofs.circuits.Circuits.{use_defined, use_in_range}
 use Rattle.aig_base.proofs.lists.Positions.{Contains-from_slice_get}
 use Rattle.aig_base.proofs.values.UniqueValue.{unique}
 use Rattle.aig_values.specs.Cells.{literal_value}
@@ -45,15 +46,6 @@ fourth a b c d e f g x h =
     (Contains-append_right (a ++ b ++ c) d x h)))
 
 module _ (raw : Raw) (sound : IsSound raw) where
-  use_in_range : (l : ℕ) → Contains (uses raw) l → variable l ≤ raw.max_var
-  use_in_range l k =
-      let r : IsInRange raw l = All-contains (IsInRange raw) (definitions raw ++ uses raw) l sound.in_range
-      (Contains-append_right (definitions raw) (uses raw) l k) in
-      omega arith
-
-  use_defined : (l : ℕ) → Contains (uses raw) l → IsDefined raw (variable l)
-  use_defined l k = All-contains (λ l. IsDefined raw (variable l)) (uses raw) l sound.defined k
-
   bad_used : (i l : ℕ) → slice_get raw.bad i ≡ Some l → Contains (uses raw) l
   bad_used i l at =
       third (map (λ x. x.next) raw.latches) raw.outputs raw.bad raw.constraints (flat_map (λ p. p) raw.justice)
@@ -65,16 +57,16 @@ module _ (raw : Raw) (sound : IsSound raw) where
       raw.fairness (flat_map (λ g. g.rhs0 ∷ g.rhs1 ∷ []) raw.gates) l (Contains-from_slice_get raw.constraints i l at)
 
   pub bad_in_range : (i l : ℕ) → slice_get raw.bad i ≡ Some l → variable l ≤ raw.max_var
-  bad_in_range i l at = use_in_range l (bad_used i l at)
+  bad_in_range i l at = use_in_range raw sound l (bad_used i l at)
 
   pub bad_defined : (i l : ℕ) → slice_get raw.bad i ≡ Some l → IsDefined raw (variable l)
-  bad_defined i l at = use_defined l (bad_used i l at)
+  bad_defined i l at = use_defined raw sound l (bad_used i l at)
 
   pub constraint_in_range : (i l : ℕ) → slice_get raw.constraints i ≡ Some l → variable l ≤ raw.max_var
-  constraint_in_range i l at = use_in_range l (constraint_used i l at)
+  constraint_in_range i l at = use_in_range raw sound l (constraint_used i l at)
 
   pub constraint_defined : (i l : ℕ) → slice_get raw.constraints i ≡ Some l → IsDefined raw (variable l)
-  constraint_defined i l at = use_defined l (constraint_used i l at)
+  constraint_defined i l at = use_defined raw sound l (constraint_used i l at)
 
   -- cells that are values show which literals are 1
   module _ (w : Witness) (t : ℕ) (cells : List Tern) (holds : HoldsAll raw w.start w.rows t cells) (literals : List ℕ)

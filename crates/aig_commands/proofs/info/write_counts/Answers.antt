@@ -2,8 +2,9 @@ use Rattle.std.proofs.Common.{ℕ, List, [], ◌∷◌, length, count_by, ap, �
 use Rattle.std.specs.Prelude.{codes}
 use Rattle.std.specs.List.{flat_map}
 use Rattle.aig_bytes.proofs.WriteLemmas.{writes_same}
-use Rattle.aig_commands.specs.Info.{is_constant, is_uninitialised, starts_at_one, fact_number_line, number_lines}
+use Rattle.aig_commands.specs.Info.{is_constant, starts_at_one, fact_number_line, number_lines}
 use Rattle.aig_commands.proofs.info.write_counts.Goals as goal
+use Rattle.aig_unroll.specs.FrameLiteral.{is_uninitialised}
 
 pub returns : goal.returns
 unfolding number_lines
