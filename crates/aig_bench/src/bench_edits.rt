@@ -127,7 +127,6 @@ impl<G: Grid> Bench<G> {
     {
         let engine = &mut self.engine;
         check_append(&engine.driven, r0, r1)?;
-        let gates = gate_count(&engine.driven.circuit);
         make_room(&mut engine.grid, &mut engine.fanouts, &mut engine.pending)?;
         engine.order.reserve_gate()?;
         append_gate(
@@ -140,8 +139,8 @@ impl<G: Grid> Bench<G> {
         engine.fanouts.latches.add_variable();
         engine.pending.buckets.add_variable();
         engine.grid.add_gate();
-        engine.order.push_gate(gates);
         let gate = last_gate(&engine.driven.circuit);
+        engine.order.push_gate(gate);
         Ok(evaluate_new(&mut engine.grid, &gate))
     }
 

@@ -1,18 +1,17 @@
 //! The topological order in which the gates of a circuit are evaluated at a new frame.
-ghost use Rattle.std.specs.Prelude.{◌≡◌, ◌≢◌, ℕ, ◌+◌, ◌<◌, ◌≤◌, List, length, take, All, IfOk, OnOk};
-ghost use Rattle.std.specs.Prelude.{Some, slice_get};
+ghost use Rattle.std.specs.Prelude.{◌≡◌, ℕ, ◌+◌, ◌<◌, List, length, All, IfOk, OnOk, Some, slice_get};
 ghost use Rattle.aig_parts.specs.declared.gate.Gate as gate;
 ghost use Rattle.aig_parts.specs.declared.raw.Raw.{Raw};
-ghost use Rattle.aig_base.specs.Changes.{with_appended_gate};
-ghost use Rattle.aig_base.specs.Circuit.{IsCircuit};
+ghost use Rattle.aig_base.specs.Changes.{next_gate, with_appended_gate};
 ghost use Rattle.aig_base.specs.Levels.{AreLevels};
 ghost use Rattle.aig_parts.specs.Literal as literal;
 ghost use Rattle.aig_base.specs.Sections.{IsDefined, IsGate};
-ghost use Rattle.aig_values.specs.Cells.{HasCells, with_swept_row};
+ghost use Rattle.aig_values.specs.Cells.{with_swept_row};
+ghost use Rattle.aig_values.specs.GateOrder.{AreGatesOf};
 ghost use Rattle.aig_bench.specs.state.Current.{AreGateFlags};
-ghost use Rattle.aig_bench.specs.state.SweepOrder.{gates_at_positions, ArePositions, FitsOneGate, IsFullOrder, IsKnownOrder, Orders};
+ghost use Rattle.aig_bench.specs.state.SweepOrder.{FitsOneGate, IsFullOrder, IsKnownOrder, Orders};
 
-use aig_base::{Circuit, Definition, Gate, Levels, Lit, Memory, canonical_order};
+use aig_base::{Circuit, Gate, Levels, Memory, canonical_order};
 use aig_values::{Grid, stand_in_order};
 use std::alloc::Global;
 
@@ -21,7 +20,7 @@ use std::alloc::Global;
 pub enum Way {
     /// As they stand.
     Standing,
-    /// By a list of their positions.
+    /// As they are listed.
     Listed,
     /// It has to be found anew, since a gate reads others than before.
     Stale,
@@ -32,72 +31,32 @@ pub enum Way {
 #[derive(Drop, Debug)]
 pub struct Order {
     way: Way,
-    // The positions of the gates where they are listed, else none.
-    positions: Vec<u32>,
+    // The gates where they are listed, else none.
+    gates: Vec<Gate>,
 }
 
-/// How many gates are handed to a grid at once where they are listed.
-const BATCH: usize = 256;
-
-// The position of the gate of a variable.
-fn position_of(circuit: &Circuit, variable: u32) -> u32
+// The gate of a variable that has one.
+fn gate_at(circuit: &Circuit, variable: u32) -> Gate
     requires { IsGate circuit.now variable }
-    ensures { (g : gate.Gate) × (slice_get circuit.now.gates result ≡ Some g) × (literal.variable g.lhs ≡ variable) }
+    ensures known { (q : ℕ) × (slice_get circuit.now.gates q ≡ Some result) }
+    ensures variable { literal.variable result.lhs ≡ variable }
 {
-    circuit.facts();
-    match circuit.definition(variable) {
-        Some(Definition::Gate(position)) => position,
-        Some(Definition::Input(_)) => unreachable!(),
-        Some(Definition::Latch(_)) => unreachable!(),
+    match circuit.gate_of(variable) {
+        Some(gate) => gate,
         None => unreachable!(),
     }
 }
 
-// The positions of the gates of these variables.
-fn positions_of(alloc: Global, circuit: &Circuit, variables: &[u32]) -> Result<Vec<u32>, Memory>
+// The gates of these variables.
+fn gates_of(alloc: Global, circuit: &Circuit, variables: &[u32]) -> Result<Vec<Gate>, Memory>
     requires { All (IsGate circuit.now) variables.now }
-    ensures { IfOk result (λ positions. ArePositions circuit.now variables.now positions.items) }
+    ensures { IfOk result (λ gates. AreGatesOf circuit.now variables.now gates.items) }
 {
-    let mut positions = Vec::with_capacity(alloc, variables.len())?;
+    let mut gates = Vec::with_capacity(alloc, variables.len())?;
     for variable in variables {
-        positions.push(position_of(circuit, *variable))?;
+        gates.push(gate_at(circuit, *variable))?;
     }
-    Ok(positions)
-}
-
-// Writes the gates at these positions to the beginning of a batch.
-fn gather(batch: &mut [Gate], gates: &[Gate], positions: &[u32])
-    requires room { length positions.now ≤ length batch.old }
-    requires inside { All (λ p. p < length gates.now) positions.now }
-    ensures { take (length positions.now) batch.new ≡ gates_at_positions gates.now positions.now }
-{
-    for (place, position) in positions.iter().enumerate() {
-        batch[place] = gates[*position as usize];
-    }
-}
-
-// Evaluates the gates at these positions at a frame one after the other.
-fn sweep_listed<G: Grid>(grid: &mut G, gates: &[Gate], positions: &[u32], frame: u32)
-    requires frame { frame < length (G.cells grid.old) }
-    requires inside { All (λ p. p < length gates.now) positions.now }
-    requires gates { All (HasCells (G.gate_flags grid.old)) (gates_at_positions gates.now positions.now) }
-    ensures cells { G.cells grid.new ≡ with_swept_row (G.cells grid.old) frame (gates_at_positions gates.now positions.now) }
-    ensures flags { G.gate_flags grid.new ≡ G.gate_flags grid.old }
-    ensures count { G.evaluations grid.new ≡ G.evaluations grid.old + length positions.now }
-{
-    let none = Gate {
-        lhs: Lit::new(0),
-        rhs0: Lit::new(0),
-        rhs1: Lit::new(0),
-    };
-    let mut batch = [none; BATCH];
-    let mut done = 0;
-    while done < positions.len() {
-        let count = (positions.len() - done).min(BATCH);
-        gather(&mut batch, gates, &positions[done..done + count]);
-        grid.sweep(frame, &batch[..count]);
-        done += count;
-    }
+    Ok(gates)
 }
 
 impl Order {
@@ -111,14 +70,14 @@ impl Order {
         if stand_in_order(alloc, circuit)? {
             return Ok(Order {
                 way: Way::Standing,
-                positions: Vec::new(alloc),
+                gates: Vec::new(alloc),
             });
         }
         let variables = canonical_order(alloc, circuit, levels)?;
-        let positions = positions_of(alloc, circuit, &variables)?;
+        let gates = gates_of(alloc, circuit, &variables)?;
         Ok(Order {
             way: Way::Listed,
-            positions,
+            gates,
         })
     }
 
@@ -126,9 +85,9 @@ impl Order {
     pub fn forget(&mut self)
         ensures { (raw : Raw) → Orders raw self.new }
     {
-        let alloc = *self.positions.allocator();
+        let alloc = *self.gates.allocator();
         self.way = Way::Stale;
-        self.positions = Vec::new(alloc);
+        self.gates = Vec::new(alloc);
     }
 
     /// Finds an order where none is known. Where memory runs out, it stays unknown.
@@ -142,7 +101,7 @@ impl Order {
             Way::Standing => Ok(()),
             Way::Listed => Ok(()),
             Way::Stale => {
-                let alloc = *self.positions.allocator();
+                let alloc = *self.gates.allocator();
                 *self = Order::of(alloc, circuit, levels)?;
                 Ok(())
             }
@@ -157,23 +116,23 @@ impl Order {
         match self.way {
             Way::Standing => Ok(()),
             Way::Listed => {
-                self.positions.reserve(1)?;
+                self.gates.reserve(1)?;
                 Ok(())
             }
             Way::Stale => Ok(()),
         }
     }
 
-    /// One more gate after the others, where there is room. `gates` is how many there were.
-    pub fn push_gate(&mut self, gates: u32)
+    /// One more gate after the others, where there is room: the one that is appended to the circuit.
+    pub fn push_gate(&mut self, gate: Gate)
         requires { FitsOneGate self.old }
-        ensures { (raw : Raw) (r0 r1 : ℕ) → length raw.gates ≡ gates → IsCircuit raw
+        ensures { (raw : Raw) (r0 r1 : ℕ) → gate ≡ next_gate raw r0 r1
             → IsDefined raw (literal.variable r0) → IsDefined raw (literal.variable r1) → Orders raw self.old
             → Orders (with_appended_gate raw r0 r1) self.new }
     {
         match self.way {
             Way::Standing => {}
-            Way::Listed => self.positions.push_reserved(gates),
+            Way::Listed => self.gates.push_reserved(gate),
             Way::Stale => {}
         }
     }
@@ -192,7 +151,7 @@ impl Order {
         circuit.facts();
         match self.way {
             Way::Standing => grid.sweep(frame, circuit.gates()),
-            Way::Listed => sweep_listed(grid, circuit.gates(), &self.positions, frame),
+            Way::Listed => grid.sweep(frame, &self.gates),
             Way::Stale => unreachable!(),
         }
     }

@@ -12,7 +12,7 @@ use crate::code::Code;
 use aig_parts::Gate;
 
 /// How many cells a word has.
-const CELLS: usize = 32;
+pub const CELLS: usize = 32;
 
 /// How many codes a word has: of each cell its own and that of its negation.
 pub const CODES: usize = 64;

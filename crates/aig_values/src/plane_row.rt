@@ -5,13 +5,10 @@ ghost use Rattle.aig_values.specs.state.Words.{value_in, IsWhole};
 
 use crate::cell_row::CellRow;
 use crate::code::Code;
-use crate::literal_codes::{CODES, sweep_words};
+use crate::literal_codes::{CELLS, CODES, sweep_words};
 use aig_parts::{Gate, Tern};
 use std::alloc::{AllocError, Global};
 use std::marker::Model;
-
-/// How many cells a word has.
-const CELLS: usize = 32;
 
 /// How many gates a word a sweep has at least, where unpacking the row is faster.
 const WORD_GATES: usize = 8;

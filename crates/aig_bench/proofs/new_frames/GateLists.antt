@@ -1,8 +1,8 @@
--- Orders of a circuit's gates, by lists of their positions.
-use Rattle.std.proofs.Common.{◌≡◌, inl, inr, ℕ, suc, ◌+◌, ◌<◌, List, [], ◌∷◌, ◌++◌, All, Contains, length, map, Some, slice_get, refl, sym, ap, ◌∙◌, subst, arith, length-append, option_map}
-use Rattle.std.proofs.lemmas.List.{get_or_append_left, length-map, map_push}
+-- Orders of a circuit's gates.
+use Rattle.std.proofs.Common.{◌≡◌, inl, inr, ℕ, ◌+◌, List, [], ◌∷◌, ◌++◌, Contains, length, map, Some, slice_get, refl, sym, ap, ◌∙◌, subst, length-append, option_map}
+use Rattle.std.proofs.lemmas.List.{length-map, map_push}
 use Rattle.std.proofs.lemmas.List.Elements.{All-push}
-use Rattle.std.proofs.lemmas.Option.{get_or_from_slice_get, slice_get-map, slice_get_within}
+use Rattle.std.proofs.lemmas.Option.{slice_get-map, slice_get_within}
 use Rattle.aig_parts.specs.declared.gate.Gate.{Gate}
 use Rattle.aig_parts.specs.declared.raw.Raw.{Raw}
 use Rattle.aig_parts.specs.declared.ternary.Tern.{Tern}
@@ -22,14 +22,11 @@ use Rattle.aig_values.proofs.GateOrders.{gate_order}
 use Rattle.aig_bench.specs.declared.sweep_order.Order.{Order}
 use Rattle.aig_bench.specs.declared.sweep_order.Way.{Way}
 use Rattle.aig_bench.specs.declared.sweep_order.Way.TheVariants.{Standing, Listed, Stale}
-use Rattle.aig_bench.specs.state.SweepOrder.{gate_at_position, gates_at_positions, ArePositions, AreTaken, IsFullOrder, IsListing, Orders}
+use Rattle.aig_bench.specs.state.SweepOrder.{AreTaken, IsFullOrder, Orders}
 use Rattle.aig_bench.proofs.growing.Grown.{gate_was}
 
-gate_is_at : (gates : List Gate) (q : ℕ) (g : Gate) → slice_get gates q ≡ Some g → gate_at_position gates q ≡ g
-gate_is_at gates q g at = get_or_from_slice_get gates q g _ at
-
 -- one gate more
-gates_more : {raw : Raw} {vs : List ℕ} {gates : List Gate} (v : ℕ) (g : Gate) → AreGatesOf raw vs gates
+pub gates_more : {raw : Raw} {vs : List ℕ} {gates : List Gate} (v : ℕ) (g : Gate) → AreGatesOf raw vs gates
     → (r : ℕ) × (slice_get raw.gates r ≡ Some g) → variable g.lhs ≡ v → AreGatesOf raw (vs ++ v ∷ []) (gates ++ g ∷ [])
 gates_more {raw} {vs} {gates} v g h at is = record {
   known = All-push (λ g. (r : ℕ) × (slice_get raw.gates r ≡ Some g)) gates g h.known at;
@@ -38,26 +35,13 @@ gates_more {raw} {vs} {gates} v g h at is = record {
       ∙ ap (λ (u : ℕ). vs ++ u ∷ []) is;
 }
 
-pub positions_more : (raw : Raw) (variables positions : List ℕ) (v q : ℕ) (g : Gate) → ArePositions raw variables positions
-    → slice_get raw.gates q ≡ Some g → variable g.lhs ≡ v → ArePositions raw (variables ++ v ∷ []) (positions ++ q ∷ [])
-positions_more raw variables positions v q g h at is = record {
-  inside = All-push (λ p. p < length raw.gates) positions q h.inside (slice_get_within raw.gates q g at);
-  gates = subst (AreGatesOf raw (variables ++ v ∷ []))
-      (sym (map_push (gate_at_position raw.gates) positions q
-      ∙ ap (λ (x : Gate). gates_at_positions raw.gates positions ++ x ∷ []) (gate_is_at raw.gates q g at)))
-      (gates_more v g h.gates (q, at) is);
-}
-
--- the positions in the canonical order
-pub listing : (raw : Raw) (variables positions : List ℕ) → IsCircuit raw → IsCanonicalOrder raw variables
-    → ArePositions raw variables positions → IsListing raw positions
-listing raw variables positions circuit canonical h = record {
-  inside = h.inside;
-  full = record {
-    order = gate_order raw circuit variables (gates_at_positions raw.gates positions) canonical h.gates;
-    size = sym (length-map (gates_at_positions raw.gates positions) (λ (g : Gate). variable g.lhs))
-        ∙ ap length h.gates.variables_are ∙ length-order raw circuit.sound variables canonical;
-  };
+-- the gates in the canonical order
+pub canonical_list : (raw : Raw) (variables : List ℕ) (gates : List Gate) → IsCircuit raw → IsCanonicalOrder raw variables
+    → AreGatesOf raw variables gates → IsFullOrder raw gates
+canonical_list raw variables gates circuit canonical h = record {
+  order = gate_order raw circuit variables gates canonical h;
+  size = sym (length-map gates (λ (g : Gate). variable g.lhs)) ∙ ap length h.variables_are
+      ∙ length-order raw circuit.sound variables canonical;
 }
 
 -- one gate more after the others
@@ -113,33 +97,11 @@ module _ (raw : Raw) (r0 r1 : ℕ) (d0 : IsDefined raw (variable r0)) (d1 : IsDe
       ];
     }
 
-  still_there : (gates : List Gate) (positions : List ℕ) → All (λ p. p < length gates) positions
-      → gates_at_positions (gates ++ gate ∷ []) positions ≡ gates_at_positions gates positions
-  still_there gates [] all = refl
-  still_there gates (p ∷ positions) all =
-      ap (λ (x : Gate). x ∷ gates_at_positions (gates ++ gate ∷ []) positions)
-      (get_or_append_left gates (gate ∷ []) _ p (all 0 0 (omega arith)))
-      ∙ ap (λ (xs : List Gate). gate_at_position gates p ∷ xs)
-      (still_there gates positions (λ k d lt. all (suc k) d (omega arith)))
-
-  pub listing_more : (positions : List ℕ) (n : ℕ) → length raw.gates ≡ n → IsListing raw positions
-      → IsListing more (positions ++ n ∷ [])
-  listing_more positions n e h =
-      let size : length more.gates ≡ length raw.gates + 1 = length-append raw.gates (gate ∷ []) in
-      let last : gate_at_position more.gates n ≡ gate =
-      gate_is_at more.gates n gate (ap (slice_get more.gates) (sym e) ∙ new_at raw r0 r1) in
-      let are : gates_at_positions more.gates (positions ++ n ∷ []) ≡ gates_at_positions raw.gates positions ++ gate ∷ [] =
-      map_push (gate_at_position more.gates) positions n
-      ∙ ap (λ (xs : List Gate). xs ++ gate_at_position more.gates n ∷ []) (still_there raw.gates positions h.inside)
-      ∙ ap (λ (x : Gate). gates_at_positions raw.gates positions ++ x ∷ []) last in
-      record {
-        inside = All-push (λ p. p < length more.gates) positions n
-            (λ k d lt. let was = h.inside k d lt in omega (arith, was, size)) (omega (arith, size));
-        full = subst (IsFullOrder more) (sym are) (record {
-          order = order_more (gates_at_positions raw.gates positions) h.full.order;
-          size = length-append (gates_at_positions raw.gates positions) (gate ∷ []) ∙ ap (λ k. k + 1) h.full.size ∙ sym size;
-        });
-      }
+  pub list_more : (gates : List Gate) → IsFullOrder raw gates → IsFullOrder more (gates ++ gate ∷ [])
+  list_more gates h = record {
+    order = order_more gates h.order;
+    size = length-append gates (gate ∷ []) ∙ ap (λ k. k + 1) h.size ∙ sym (length-append raw.gates (gate ∷ []));
+  }
 
 -- other resets or outputs
 module _ (raw new : Raw) (same : new.gates ≡ raw.gates) (source : (v : ℕ) → IsSource raw v → IsSource new v) where
@@ -159,22 +121,16 @@ module _ (raw new : Raw) (same : new.gates ≡ raw.gates) (source : (v : ℕ) �
   pub standing_kept : IsGateOrder raw raw.gates → IsGateOrder new new.gates
   standing_kept h = subst (IsGateOrder new) (sym same) (order_kept raw.gates h)
 
-  pub listing_kept : (positions : List ℕ) → IsListing raw positions → IsListing new positions
-  listing_kept positions h = record {
-    inside = λ k d lt. let was = h.inside k d lt in omega (arith, was, ap length same);
-    full = subst (λ (gs : List Gate). IsFullOrder new (gates_at_positions gs positions)) (sym same) (record {
-      order = order_kept (gates_at_positions raw.gates positions) h.full.order;
-      size = h.full.size ∙ ap length (sym same);
-    });
-  }
+  pub list_kept : (gates : List Gate) → IsFullOrder raw gates → IsFullOrder new gates
+  list_kept gates h = record { order = order_kept gates h.order; size = h.size ∙ ap length (sym same) }
 
-  taken_kept : (w : Way) (positions : List ℕ) → AreTaken raw w positions → AreTaken new w positions
-  taken_kept Standing positions h = standing_kept h
-  taken_kept Listed positions h = listing_kept positions h
-  taken_kept Stale positions h = tt
+  taken_kept : (w : Way) (gates : List Gate) → AreTaken raw w gates → AreTaken new w gates
+  taken_kept Standing gates h = standing_kept h
+  taken_kept Listed gates h = list_kept gates h
+  taken_kept Stale gates h = tt
 
   orders_kept : (order : Order) → Orders raw order → Orders new order
-  orders_kept order h = taken_kept order.way order.positions.items h
+  orders_kept order h = taken_kept order.way order.gates.items h
 
 source_restarted : (raw : Raw) (lit : ℕ) (w : Tern) (v : ℕ) → IsSource raw v → IsSource (with_reset raw lit w) v
 source_restarted raw lit w v by.IsSource.constant = by.IsSource.constant

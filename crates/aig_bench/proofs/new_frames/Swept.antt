@@ -1,10 +1,8 @@
 -- A frame that is swept: its sources have their values, and all gates are evaluated in an order.
-use Rattle.std.proofs.Common.{◌≡◌, ◌≢◌, inl, inr, ℕ, zero, suc, ◌+◌, ◌-◌, ◌<◌, ◌≤◌, Bool, List, [], ◌∷◌, ◌++◌, All, fold, length, min, take, drop, get_or, set, Some, slice_get, slice_set, refl, sym, ap, ◌∙◌, subst, arith, length-drop, length-take}
-use Rattle.std.proofs.Math.Seq.{take-add}
+use Rattle.std.proofs.Common.{◌≡◌, ◌≢◌, inl, inr, ℕ, zero, suc, ◌+◌, ◌<◌, ◌≤◌, Bool, List, [], ◌∷◌, All, fold, length, take, get_or, Some, slice_get, slice_set, refl, sym, ap, ◌∙◌, subst, arith}
 use Rattle.std.proofs.lemmas.Bool.{cases_eq}
-use Rattle.std.proofs.lemmas.List.{get_or-set_other, get_or-set_same, length-set, map-append, set-set, take_all}
-use Rattle.std.proofs.lemmas.List.Elements.{All-drop, All-map, All-take}
-use Rattle.std.proofs.lemmas.List.Sums.{fold_more, fold-append}
+use Rattle.std.proofs.lemmas.List.{get_or-set_other, get_or-set_same, length-set, take_all}
+use Rattle.std.proofs.lemmas.List.Sums.{fold_more}
 use Rattle.std.proofs.lemmas.Option.{slice_get-get_or}
 use Rattle.aig_parts.specs.declared.gate.Gate.{Gate}
 use Rattle.aig_parts.specs.declared.raw.Raw.{Raw}
@@ -25,7 +23,7 @@ use Rattle.aig_values.proofs.Evaluation.{HoldsFirst, all_hold, gate_value_is, it
 use Rattle.aig_values.proofs.SweepLemmas.{length-swept}
 use Rattle.aig_bench.specs.state.Current.{AreGateFlags, HoldsInputsInPair, HoldsLatchesInPair, IsCurrentRow, IsLaidOut}
 use Rattle.aig_bench.specs.declared.driven_circuit.DrivenCircuit.{DrivenCircuit}
-use Rattle.aig_bench.specs.state.SweepOrder.{gate_at_position, gates_at_positions, IsFullOrder}
+use Rattle.aig_bench.specs.state.SweepOrder.{IsFullOrder}
 use Rattle.aig_bench.specs.state.DrivenCircuit.{IsDriven, pair_of}
 use Rattle.aig_bench.proofs.cells.CellLemmas.{get_set_other, row_written}
 use Rattle.aig_bench.proofs.cells.Flags.{gate_cells}
@@ -38,56 +36,6 @@ have_cells raw flags gates circuit h order k d lt =
     let g : Gate = get_or gates k d in
     let (r, stands) = order.known k g (slice_get-get_or gates k d lt) in
     gate_cells raw flags r g circuit.sound h stands
-
--- gates that are swept after others
-pub swept_then : (rows : List (List Tern)) (t : ℕ) (xs ys : List Gate) → t < length rows
-    → with_swept_row (with_swept_row rows t xs) t ys ≡ with_swept_row rows t (xs ++ ys)
-swept_then rows t xs ys lt =
-    let row : List Tern = fold with_gate_value (row_at rows t) xs in
-    ap (λ (r : List Tern). set (set rows t row) t (fold with_gate_value r ys)) (get_or-set_same rows t row [] lt)
-    ∙ set-set rows t row (fold with_gate_value row ys)
-    ∙ ap (set rows t) (sym (fold-append with_gate_value (row_at rows t) xs ys))
-
--- the gates of a batch
-pub batch_is : (batch gates : List Gate) (positions : List ℕ) (done count : ℕ) → done ≤ length positions
-    → count ≡ min (length positions - done) 256
-    → take (length (take (done + count - done) (drop done positions))) batch
-    ≡ gates_at_positions gates (take (done + count - done) (drop done positions))
-    → take count batch ≡ gates_at_positions gates (take count (drop done positions))
-batch_is batch gates positions done count le is e =
-    let same : done + count - done ≡ count = omega arith in
-    let size : length (take (done + count - done) (drop done positions)) ≡ count =
-    omega (arith, length-take (done + count - done) (drop done positions), length-drop done positions) in
-    ap (λ (n : ℕ). take n batch) (sym size) ∙ e ∙ ap (λ (n : ℕ). gates_at_positions gates (take n (drop done positions))) same
-
--- a batch after those that are done
-pub batch_more : (rows now : List (List Tern)) (t : ℕ) (gates batch : List Gate) (positions : List ℕ) (done count : ℕ)
-    → t < length rows → now ≡ with_swept_row rows t (gates_at_positions gates (take done positions))
-    → batch ≡ gates_at_positions gates (take count (drop done positions))
-    → with_swept_row now t batch ≡ with_swept_row rows t (gates_at_positions gates (take (done + count) positions))
-batch_more rows now t gates batch positions done count lt e is =
-    ap (λ (c : List (List Tern)). with_swept_row c t batch) e
-    ∙ ap (with_swept_row (with_swept_row rows t (gates_at_positions gates (take done positions))) t) is
-    ∙ swept_then rows t (gates_at_positions gates (take done positions)) (gates_at_positions gates (take count (drop done positions))) lt
-    ∙ ap (with_swept_row rows t)
-    (sym (map-append (gate_at_position gates) (take done positions) (take count (drop done positions)))
-    ∙ ap (gates_at_positions gates) (sym (take-add done count positions)))
-
-unmapped : (P : Gate → Type 0) (gates : List Gate) (positions : List ℕ) → All P (gates_at_positions gates positions)
-    → All (λ p. P (gate_at_position gates p)) positions
-unmapped P gates [] all k d lt = absurd (omega arith)
-unmapped P gates (p ∷ positions) all zero d lt = all 0 (gate_at_position gates p) (omega arith)
-unmapped P gates (p ∷ positions) all (suc k) d lt =
-    unmapped P gates positions (λ j e below. all (suc j) e (omega arith)) k d (omega arith)
-
--- what holds of all holds of a batch
-pub batch_all : (P : Gate → Type 0) (gates batch : List Gate) (positions : List ℕ) (done count : ℕ)
-    → All P (gates_at_positions gates positions) → batch ≡ gates_at_positions gates (take count (drop done positions)) → All P batch
-batch_all P gates batch positions done count all is =
-    let Q : ℕ → Type 0 = λ p. P (gate_at_position gates p) in
-    subst (All P) (sym is)
-    (All-map P (gate_at_position gates) (take count (drop done positions))
-    (All-take Q count (drop done positions) (All-drop Q done positions (unmapped P gates positions all))))
 
 -- sources that have their values, and then all gates in an order
 module _ (raw : Raw) (start : List Tern) (rows : List (List Tern)) (t : ℕ) (sound : IsSound raw) (gates : List Gate)

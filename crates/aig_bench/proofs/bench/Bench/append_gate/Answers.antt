@@ -124,7 +124,7 @@ invariant_of-engine-2 g c =
       work = now.working.work;
       lists = now.lists;
       orders = subst (λ (raw : Raw). Orders raw c.push_gate.new.self) (sym e)
-          (c.push_gate.ensures raw c.args.r0 c.args.r1 (sym c.gate_count-gates.ensures) r.working.bench.driven_is.circuit
+          (c.push_gate.ensures raw c.args.r0 c.args.r1 is
           a.gate.defined0 a.gate.defined1 (c.reserve_gate.ensures.orders raw c.engine.invariant.orders));
     }
 

@@ -2,12 +2,12 @@ use Rattle.std.proofs.Common.{ℕ, List, All, get_or, sym, subst}
 use Rattle.std.proofs.lemmas.Option.{slice_get-get_or}
 use Rattle.aig_base.specs.Sections.{IsGate}
 use Rattle.aig_base.proofs.lists.Positions.{Contains-from_slice_get}
-use Rattle.aig_bench.specs.state.SweepOrder.{ArePositions}
-use Rattle.aig_bench.proofs.new_frames.GateLists.{listing}
+use Rattle.aig_values.specs.GateOrder.{AreGatesOf}
+use Rattle.aig_bench.proofs.new_frames.GateLists.{canonical_list}
 use Rattle.aig_bench.proofs.sweep_order.Order.of.Goals as goal
 
-pub positions_of-requires : goal.positions_of-requires
-positions_of-requires c =
+pub gates_of-requires : goal.gates_of-requires
+gates_of-requires c =
     let raw = c.args.circuit.now in
     let xs = c.in_ok-variables.variables.items in
     subst (All (IsGate raw)) (sym {A = List ℕ} c.deref.ensures.value) (λ k d lt.
@@ -17,7 +17,6 @@ positions_of-requires c =
 pub returns-clause-orders : goal.returns-clause-orders
 returns-clause-orders c =
     let raw = c.args.circuit.now in
-    listing raw c.in_ok-variables.variables.items c.in_ok-positions.positions.items c.facts.ensures
+    canonical_list raw c.in_ok-variables.variables.items c.in_ok-gates.gates.items c.facts.ensures
     c.in_ok-variables.ensures
-    (subst (λ (vs : List ℕ). ArePositions raw vs c.in_ok-positions.positions.items) c.deref.ensures.value
-    c.in_ok-positions.ensures)
+    (subst (λ (vs : List ℕ). AreGatesOf raw vs c.in_ok-gates.gates.items) c.deref.ensures.value c.in_ok-gates.ensures)
