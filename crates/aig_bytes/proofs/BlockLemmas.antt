@@ -42,6 +42,22 @@ put_back start at last e place place' ds fits size there room suffix before =
     ∙ ap (λ (xs : List ℕ). take at place ++ xs) (take-append_seam ds (drop last place)) in
     take_more_set place' last e room ∙ ap (λ (xs : List ℕ). xs ++ e ∷ []) digits ∙ append_assoc (take at place) ds (e ∷ [])
 
+-- a byte, what was written after it, a name and a byte after that
+pub put_symbol : (start end l at k last e : ℕ) (place written name field : List ℕ) → start ≤ end → end < length place
+    → take at written ≡ take (end + 1) (set place end l) ++ field → last ≡ at + length name → at ≤ length written
+    → last < length (put_mid at k written name)
+    → drop start (take (last + 1) (set (put_mid at k written name) last e))
+    ≡ drop start (take end place) ++ (l ∷ field ++ name ++ e ∷ [])
+put_symbol start end l at k last e place written name field front fits before size here room =
+    let all = take end place in
+    put_in start end (last + 1) place (set (put_mid at k written name) last e) (l ∷ field ++ name ++ e ∷ []) front (omega (arith, fits))
+    (take_more_set (put_mid at k written name) last e room
+    ∙ ap (λ (xs : List ℕ). xs ++ e ∷ [])
+    (take-put_mid at k written name last size here
+    ∙ ap (λ (xs : List ℕ). xs ++ name) (before ∙ ap (λ (xs : List ℕ). xs ++ field) (take_more_set place end l fits) ∙ append_assoc all (l ∷ []) field)
+    ∙ append_assoc all (l ∷ field) name)
+    ∙ append_assoc all (l ∷ field ++ name) (e ∷ []))
+
 -- what is passed on after all that was held
 pub straight_on : (held front none taken : List ℕ) → held ++ [] ≡ front ++ none → none ≡ [] → held ++ taken ≡ (front ++ taken) ++ none
 straight_on held front none taken e empty =

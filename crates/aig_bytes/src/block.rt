@@ -16,6 +16,9 @@ const DIGITS: usize = 10;
 /// How many bytes the longest line of three short numbers takes.
 const LINE: usize = 27;
 
+/// How many bytes the longest symbol with an empty name takes.
+const SYMBOL: usize = 11;
+
 /// From how many bytes on a piece does not wait.
 const LARGE: usize = 4096;
 
@@ -147,6 +150,33 @@ impl<const ROOM: usize> ByteBlock<ROOM> {
         let after = write_short(&mut self.bytes, after, first, b' ');
         let after = write_short(&mut self.bytes, after, second, b' ');
         self.end = write_short(&mut self.bytes, after, third, b'\n');
+        true
+    }
+
+    /// Puts in a letter, a number with a blank after it, a name and the end of a line after those that wait, where the
+    /// number is below 10^8 and there is room for the longest one there, and answers whether it did. Where it did not
+    /// nothing changes.
+    #[inline]
+    pub fn push_symbol(&mut self, letter: u8, number: u32, name: &[u8]) -> bool
+        ensures pushed { IsTrue result → self.new
+            ≡ self.old ++ (letter ∷ (decimal number ++ 32 ∷ []) ++ name.now ++ 10 ∷ []) }
+        ensures full { result ≡ false → self.new ≡ self.old }
+        ensures some { self.old ≡ [] → number < 10 ^ 8 → length name.now + 11 ≤ ROOM → IsTrue result }
+    {
+        let after = self.end;
+        if number >= SHORT {
+            return false;
+        }
+        if ROOM - after < name.len() + SYMBOL {
+            return false;
+        }
+        self.bytes[after] = letter;
+        let at = write_short(&mut self.bytes, after + 1, number, b' ');
+        let last = at + name.len();
+        let room = &mut self.bytes[..];
+        room[at..last].copy_from_slice(name);
+        self.bytes[last] = b'\n';
+        self.end = last + 1;
         true
     }
 

@@ -88,6 +88,23 @@ fn lines_in_blocks(rt: HostRuntime) {
     assert!(rt; right);
 }
 
+// Symbols with short and long names, and where their number is too long for them.
+#[test]
+fn symbols_in_blocks(rt: HostRuntime) {
+    let mut right = true;
+    let mut block = Block::new();
+    right &= block.push_symbol(b'i', 0, b"a") && block.push_symbol(b'o', 99_999_999, b"");
+    right &= !block.push_symbol(b'l', 100_000_000, b"b");
+    right &= block.as_slice() == b"i0 a\no99999999 \n".as_slice();
+    let long = [b'x'; 32_742];
+    right &= !block.push_symbol(b'l', 7, &long);
+    block.clear();
+    right &= block.push_symbol(b'l', 7, &long) && block.as_slice().len() == 32_746;
+    right &= !block.push_symbol(b'b', 1, b"123456789012");
+    right &= block.push_symbol(b'b', 1, b"12345678901") && block.as_slice().len() == 32_761;
+    assert!(rt; right);
+}
+
 // Numbers of any length, alone.
 static FIELDS: [(u32, &[u8]); 8] = [
     (0, b"0;"),
