@@ -16,14 +16,26 @@ pub put_in : (start end n : ℕ) (place place' new : List ℕ) → start ≤ end
 put_in start end n place place' new front fits e =
     ap (drop start) e ∙ drop-append-le start (take end place) new (omega (arith, length-take-le end place fits))
 
--- the first of them
-pub put_in_first : (start end k n : ℕ) (place new : List ℕ) → start ≤ end → end ≤ length place → n ≤ length new
-    → drop start (take (end + n) (put_mid end k place new)) ≡ drop start (take end place) ++ take n new
-put_in_first start end k n place new front fits le = put_in start end (end + n) place (put_mid end k place new) (take n new) front fits
-    (sym (take-take (end + n) (end + length new) (put_mid end k place new) (omega arith))
-    ∙ ap (take (end + n)) (take-put_mid end k place new (end + length new) refl fits)
-    ∙ ap (λ (j : ℕ). take (j + n) (take end place ++ new)) (sym (length-take-le end place fits))
-    ∙ take-append-add (take end place) new n)
+-- the first bytes of a piece that is put in at a place
+put_first : (at k n : ℕ) (place new : List ℕ) → at ≤ length place → n ≤ length new
+    → take (at + n) (put_mid at k place new) ≡ take at place ++ take n new
+put_first at k n place new fits le =
+    sym (take-take (at + n) (at + length new) (put_mid at k place new) (omega arith))
+    ∙ ap (take (at + n)) (take-put_mid at k place new (at + length new) refl fits)
+    ∙ ap (λ (j : ℕ). take (j + n) (take at place ++ new)) (sym (length-take-le at place fits))
+    ∙ take-append-add (take at place) new n
+
+-- the first bytes of two pieces, one after the other
+pub put_in_firsts : (start end j k n m : ℕ) (place one two : List ℕ) → start ≤ end → end ≤ length place → n ≤ length one
+    → m ≤ length two → end + n ≤ length (put_mid end j place one)
+    → drop start (take (end + n + m) (put_mid (end + n) k (put_mid end j place one) two))
+    ≡ drop start (take end place) ++ (take n one ++ take m two)
+put_in_firsts start end j k n m place one two front fits le more room =
+    put_in start end (end + n + m) place (put_mid (end + n) k (put_mid end j place one) two) (take n one ++ take m two)
+    front fits
+    (put_first (end + n) k m (put_mid end j place one) two room more
+    ∙ ap (λ (xs : List ℕ). xs ++ take m two) (put_first end j n place one fits le)
+    ∙ append_assoc (take end place) (take n one) (take m two))
 
 -- digits that were written up to a place, and a byte after them
 pub put_back : (start at last e : ℕ) (place place' ds : List ℕ) → at ≤ length place → last ≡ at + length ds

@@ -180,21 +180,25 @@ impl<const ROOM: usize> ByteBlock<ROOM> {
         true
     }
 
-    /// Puts in the first of four bytes after those that wait, where there is room for all four there, and answers
-    /// whether there was. Where there was none nothing changes.
-    pub fn push_first(&mut self, bytes: [u8; 4], count: usize) -> bool
-        requires { count ≤ 4 }
-        ensures pushed { IsTrue result → self.new ≡ self.old ++ take count bytes }
+    /// Puts in the first of four bytes, and the first of another four after them, after those that wait, where there is
+    /// room for all eight there, and answers whether there was. Where there was none nothing changes.
+    #[inline]
+    pub fn push_firsts(&mut self, first: ([u8; 4], usize), second: ([u8; 4], usize)) -> bool
+        requires first { first.1 ≤ 4 }
+        requires second { second.1 ≤ 4 }
+        ensures pushed { IsTrue result → self.new ≡ self.old ++ (take first.1 first.0 ++ take second.1 second.0) }
         ensures full { result ≡ false → self.new ≡ self.old }
         ensures some { self.old ≡ [] → IsTrue result }
     {
         let after = self.end;
-        if ROOM - after < 4 {
+        if ROOM - after < 8 {
             return false;
         }
+        let middle = after + first.1;
         let room = &mut self.bytes[..];
-        room[after..after + 4].copy_from_slice(&bytes);
-        self.end = after + count;
+        room[after..after + 4].copy_from_slice(&first.0);
+        room[middle..middle + 4].copy_from_slice(&second.0);
+        self.end = middle + second.1;
         true
     }
 

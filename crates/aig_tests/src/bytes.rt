@@ -45,10 +45,10 @@ fn blocks(rt: HostRuntime) {
     }
     right &= block.is_empty();
     right &= block.push_field(4_294_967_295, b' ') && block.push_field(0, b'\n');
-    right &= block.push_first(*b"abcd", 2);
+    right &= block.push_firsts((*b"abcd", 2), (*b"yyyy", 0));
     right &= block.as_slice() == b"4294967295 0\nab".as_slice();
     right &= block.append(&[b'x'; 40_000]) == 32_753;
-    right &= !block.push(b'y') && !block.push_field(7, b'y') && !block.push_first(*b"yyyy", 1);
+    right &= !block.push(b'y') && !block.push_field(7, b'y') && !block.push_firsts((*b"yyyy", 1), (*b"yyyy", 0));
     right &= block.append(b"y") == 0;
     right &= block.as_slice().len() == 32_768;
     assert!(rt; right);
