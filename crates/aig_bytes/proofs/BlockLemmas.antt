@@ -16,14 +16,26 @@ pub put_in : (start end n : ℕ) (place place' new : List ℕ) → start ≤ end
 put_in start end n place place' new front fits e =
     ap (drop start) e ∙ drop-append-le start (take end place) new (omega (arith, length-take-le end place fits))
 
--- the first of them
-pub put_in_first : (start end k n : ℕ) (place new : List ℕ) → start ≤ end → end ≤ length place → n ≤ length new
-    → drop start (take (end + n) (put_mid end k place new)) ≡ drop start (take end place) ++ take n new
-put_in_first start end k n place new front fits le = put_in start end (end + n) place (put_mid end k place new) (take n new) front fits
-    (sym (take-take (end + n) (end + length new) (put_mid end k place new) (omega arith))
-    ∙ ap (take (end + n)) (take-put_mid end k place new (end + length new) refl fits)
-    ∙ ap (λ (j : ℕ). take (j + n) (take end place ++ new)) (sym (length-take-le end place fits))
-    ∙ take-append-add (take end place) new n)
+-- the first bytes of a piece that is put in at a place
+put_first : (at k n : ℕ) (place new : List ℕ) → at ≤ length place → n ≤ length new
+    → take (at + n) (put_mid at k place new) ≡ take at place ++ take n new
+put_first at k n place new fits le =
+    sym (take-take (at + n) (at + length new) (put_mid at k place new) (omega arith))
+    ∙ ap (take (at + n)) (take-put_mid at k place new (at + length new) refl fits)
+    ∙ ap (λ (j : ℕ). take (j + n) (take at place ++ new)) (sym (length-take-le at place fits))
+    ∙ take-append-add (take at place) new n
+
+-- the first bytes of two pieces, one after the other
+pub put_in_firsts : (start end j k n m : ℕ) (place one two : List ℕ) → start ≤ end → end ≤ length place → n ≤ length one
+    → m ≤ length two → end + n ≤ length (put_mid end j place one)
+    → drop start (take (end + n + m) (put_mid (end + n) k (put_mid end j place one) two))
+    ≡ drop start (take end place) ++ (take n one ++ take m two)
+put_in_firsts start end j k n m place one two front fits le more room =
+    put_in start end (end + n + m) place (put_mid (end + n) k (put_mid end j place one) two) (take n one ++ take m two)
+    front fits
+    (put_first (end + n) k m (put_mid end j place one) two room more
+    ∙ ap (λ (xs : List ℕ). xs ++ take m two) (put_first end j n place one fits le)
+    ∙ append_assoc (take end place) (take n one) (take m two))
 
 -- digits that were written up to a place, and a byte after them
 pub put_back : (start at last e : ℕ) (place place' ds : List ℕ) → at ≤ length place → last ≡ at + length ds
@@ -41,6 +53,22 @@ put_back start at last e place place' ds fits size there room suffix before =
     ∙ take-append-add (take at place) (ds ++ drop last place) (length ds)
     ∙ ap (λ (xs : List ℕ). take at place ++ xs) (take-append_seam ds (drop last place)) in
     take_more_set place' last e room ∙ ap (λ (xs : List ℕ). xs ++ e ∷ []) digits ∙ append_assoc (take at place) ds (e ∷ [])
+
+-- a byte, what was written after it, a name and a byte after that
+pub put_symbol : (start end l at k last e : ℕ) (place written name field : List ℕ) → start ≤ end → end < length place
+    → take at written ≡ take (end + 1) (set place end l) ++ field → last ≡ at + length name → at ≤ length written
+    → last < length (put_mid at k written name)
+    → drop start (take (last + 1) (set (put_mid at k written name) last e))
+    ≡ drop start (take end place) ++ (l ∷ field ++ name ++ e ∷ [])
+put_symbol start end l at k last e place written name field front fits before size here room =
+    let all = take end place in
+    put_in start end (last + 1) place (set (put_mid at k written name) last e) (l ∷ field ++ name ++ e ∷ []) front (omega (arith, fits))
+    (take_more_set (put_mid at k written name) last e room
+    ∙ ap (λ (xs : List ℕ). xs ++ e ∷ [])
+    (take-put_mid at k written name last size here
+    ∙ ap (λ (xs : List ℕ). xs ++ name) (before ∙ ap (λ (xs : List ℕ). xs ++ field) (take_more_set place end l fits) ∙ append_assoc all (l ∷ []) field)
+    ∙ append_assoc all (l ∷ field) name)
+    ∙ append_assoc all (l ∷ field ++ name) (e ∷ []))
 
 -- what is passed on after all that was held
 pub straight_on : (held front none taken : List ℕ) → held ++ [] ≡ front ++ none → none ≡ [] → held ++ taken ≡ (front ++ taken) ++ none

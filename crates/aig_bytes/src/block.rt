@@ -16,6 +16,9 @@ const DIGITS: usize = 10;
 /// How many bytes the longest line of three short numbers takes.
 const LINE: usize = 27;
 
+/// How many bytes the longest symbol with an empty name takes.
+const SYMBOL: usize = 11;
+
 /// From how many bytes on a piece does not wait.
 const LARGE: usize = 4096;
 
@@ -150,21 +153,52 @@ impl<const ROOM: usize> ByteBlock<ROOM> {
         true
     }
 
-    /// Puts in the first of four bytes after those that wait, where there is room for all four there, and answers
-    /// whether there was. Where there was none nothing changes.
-    pub fn push_first(&mut self, bytes: [u8; 4], count: usize) -> bool
-        requires { count ≤ 4 }
-        ensures pushed { IsTrue result → self.new ≡ self.old ++ take count bytes }
+    /// Puts in a letter, a number with a blank after it, a name and the end of a line after those that wait, where the
+    /// number is below 10^8 and there is room for the longest one there, and answers whether it did. Where it did not
+    /// nothing changes.
+    #[inline]
+    pub fn push_symbol(&mut self, letter: u8, number: u32, name: &[u8]) -> bool
+        ensures pushed { IsTrue result → self.new
+            ≡ self.old ++ (letter ∷ (decimal number ++ 32 ∷ []) ++ name.now ++ 10 ∷ []) }
+        ensures full { result ≡ false → self.new ≡ self.old }
+        ensures some { self.old ≡ [] → number < 10 ^ 8 → length name.now + 11 ≤ ROOM → IsTrue result }
+    {
+        let after = self.end;
+        if number >= SHORT {
+            return false;
+        }
+        if ROOM - after < name.len() + SYMBOL {
+            return false;
+        }
+        self.bytes[after] = letter;
+        let at = write_short(&mut self.bytes, after + 1, number, b' ');
+        let last = at + name.len();
+        let room = &mut self.bytes[..];
+        room[at..last].copy_from_slice(name);
+        self.bytes[last] = b'\n';
+        self.end = last + 1;
+        true
+    }
+
+    /// Puts in the first of four bytes, and the first of another four after them, after those that wait, where there is
+    /// room for all eight there, and answers whether there was. Where there was none nothing changes.
+    #[inline]
+    pub fn push_firsts(&mut self, first: ([u8; 4], usize), second: ([u8; 4], usize)) -> bool
+        requires first { first.1 ≤ 4 }
+        requires second { second.1 ≤ 4 }
+        ensures pushed { IsTrue result → self.new ≡ self.old ++ (take first.1 first.0 ++ take second.1 second.0) }
         ensures full { result ≡ false → self.new ≡ self.old }
         ensures some { self.old ≡ [] → IsTrue result }
     {
         let after = self.end;
-        if ROOM - after < 4 {
+        if ROOM - after < 8 {
             return false;
         }
+        let middle = after + first.1;
         let room = &mut self.bytes[..];
-        room[after..after + 4].copy_from_slice(&bytes);
-        self.end = after + count;
+        room[after..after + 4].copy_from_slice(&first.0);
+        room[middle..middle + 4].copy_from_slice(&second.0);
+        self.end = middle + second.1;
         true
     }
 

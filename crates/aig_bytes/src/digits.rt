@@ -34,33 +34,37 @@ fn eight_digits(number: u32) -> [u8; 8]
     (0x3030_3030_3030_3030 + digits).to_le_bytes()
 }
 
-/// A number below 10^8 with zeros after it, so that it has eight digits, and how many digits it has itself.
+/// The power of ten that makes eight digits of a number below 10^8, and how many digits it has without that.
 #[inline(always)]
-fn scaled(number: u32) -> (u32, usize)
+fn scale(number: u32) -> (u32, usize)
     requires { number < 10 ^ 8 }
-    ensures small { result.0 < 10 ^ 8 }
+    ensures small { number * result.0 < 10 ^ 8 }
     ensures most { result.1 ≤ 8 }
-    ensures digits { take result.1 (last_digits 8 result.0) ≡ decimal number }
+    ensures digits { take result.1 (last_digits 8 (number * result.0)) ≡ decimal number }
     ensures count { result.1 ≡ length (decimal number) }
 {
     if number < 10_000 {
-        return match number {
-            0..=9 => (number * 10_000_000, 1),
-            10..=99 => (number * 1_000_000, 2),
-            100..=999 => (number * 100_000, 3),
-            _ => (number * 10_000, 4),
-        };
-    }
-    if number < 1_000_000 {
-        if number < 100_000 {
-            (number * 1_000, 5)
+        if number < 100 {
+            if number < 10 {
+                (10_000_000, 1)
+            } else {
+                (1_000_000, 2)
+            }
+        } else if number < 1_000 {
+            (100_000, 3)
         } else {
-            (number * 100, 6)
+            (10_000, 4)
+        }
+    } else if number < 1_000_000 {
+        if number < 100_000 {
+            (1_000, 5)
+        } else {
+            (100, 6)
         }
     } else if number < 10_000_000 {
-        (number * 10, 7)
+        (10, 7)
     } else {
-        (number, 8)
+        (1, 8)
     }
 }
 
@@ -74,9 +78,9 @@ pub(crate) fn write_short(bytes: &mut [u8], at: usize, number: u32, end: u8) -> 
     ensures most { result ≤ at + 9 }
     ensures written { take result bytes.new ≡ take at bytes.old ++ (decimal number ++ end ∷ []) }
 {
-    let (scaled, count) = scaled(number);
+    let (power, count) = scale(number);
     let last = at + count;
-    bytes[at..at + 8].copy_from_slice(&eight_digits(scaled));
+    bytes[at..at + 8].copy_from_slice(&eight_digits(number * power));
     bytes[last] = end;
     last + 1
 }

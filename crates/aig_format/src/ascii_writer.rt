@@ -1,5 +1,5 @@
 //! Writing ASCII files.
-ghost use Rattle.std.specs.Prelude.{◌≡◌, ◌^◌, ◌<◌, [], false, All, IfErr};
+ghost use Rattle.std.specs.Prelude.{◌≡◌, ◌^◌, ◌<◌, ◌≤◌, [], ◌++◌, length, take, false, All, IfErr};
 ghost use Rattle.std.specs.List.{flat_map};
 ghost use Rattle.aig_bytes.specs.Bytes.{Writes};
 ghost use Rattle.aig_bytes.specs.Gathered.{Gathers};
@@ -29,27 +29,30 @@ fn put_latches<W: Write>(out: &mut W, block: &mut Block, latches: &[Latch]) -> R
     Ok(())
 }
 
-fn put_gate<W: Write>(out: &mut W, block: &mut Block, gate: Gate) -> Result<(), Io>
-    requires { (gate.lhs < 10 ^ 8) × (gate.rhs0 < 10 ^ 8) × (gate.rhs1 < 10 ^ 8) }
-    ensures { Gathers W.written W.failures out.old out.new block.old block.new (gate_line gate) result }
+/// Puts in the lines of the first of these gates, as many as there is room for after what waits, and answers how many.
+/// That is at least one where none waits.
+fn push_gates(block: &mut Block, gates: &[Gate]) -> usize
+    requires { All (λ g. (g.lhs < 10 ^ 8) × (g.rhs0 < 10 ^ 8) × (g.rhs1 < 10 ^ 8)) gates.now }
+    ensures pushed { block.new ≡ block.old ++ flat_map gate_line (take result gates.now) }
+    ensures bound { result ≤ length gates.now }
+    ensures some { block.old ≡ [] → 0 < length gates.now → 0 < result }
 {
-    let lhs = gate.lhs.value();
-    let rhs0 = gate.rhs0.value();
-    let rhs1 = gate.rhs1.value();
-    if block.push_line(lhs, rhs0, rhs1) {
-        return Ok(());
+    for (count, gate) in gates.iter().enumerate() {
+        if !block.push_line(gate.lhs.value(), gate.rhs0.value(), gate.rhs1.value()) {
+            return count;
+        }
     }
-    put_field(out, block, lhs, b' ')?;
-    put_field(out, block, rhs0, b' ')?;
-    put_field(out, block, rhs1, b'\n')
+    gates.len()
 }
 
 fn put_gates<W: Write>(out: &mut W, block: &mut Block, gates: &[Gate]) -> Result<(), Io>
     requires { All (λ g. (g.lhs < 10 ^ 8) × (g.rhs0 < 10 ^ 8) × (g.rhs1 < 10 ^ 8)) gates.now }
     ensures { Gathers W.written W.failures out.old out.new block.old block.new (flat_map gate_line gates.now) result }
 {
-    for gate in gates {
-        put_gate(out, block, *gate)?;
+    let mut at = push_gates(block, gates);
+    while at < gates.len() {
+        block.forward(out)?;
+        at += push_gates(block, &gates[at..]);
     }
     Ok(())
 }

@@ -1,5 +1,5 @@
 //! Writing binary files.
-ghost use Rattle.std.specs.Prelude.{◌≡◌, ◌^◌, ◌<◌, ◌≤◌, [], false, All, IfErr};
+ghost use Rattle.std.specs.Prelude.{◌≡◌, ◌^◌, ◌<◌, ◌≤◌, [], ◌++◌, length, take, false, All, IsTrue, IfErr};
 ghost use Rattle.std.specs.List.{flat_map};
 ghost use Rattle.aig_bytes.specs.Bytes.{Writes};
 ghost use Rattle.aig_base.specs.Renumbered.{IsBinaryReady};
@@ -7,7 +7,7 @@ ghost use Rattle.aig_bytes.specs.Gathered.{Gathers};
 ghost use Rattle.aig_format.specs.Spelling.{implicit_latch_line, gate_deltas, lines, short_binary};
 
 use crate::block_writer::put_number;
-use crate::delta_writer::put_delta;
+use crate::delta_writer::groups;
 use crate::header::Format;
 use crate::header_writer::{counts_of, put_header};
 use crate::section_writer::{put_names, put_properties, put_reset};
@@ -31,17 +31,36 @@ fn put_latches<W: Write>(out: &mut W, block: &mut Block, latches: &[Latch]) -> R
     Ok(())
 }
 
-fn put_gate<W: Write>(out: &mut W, block: &mut Block, gate: Gate) -> Result<(), Io>
+/// Puts in the deltas of a gate, where there is room for the longest after what waits, and answers whether there was.
+fn push_gate(block: &mut Block, gate: Gate) -> bool
     requires first { gate.rhs0 < gate.lhs }
     requires second { gate.rhs1 ≤ gate.rhs0 }
     requires small { gate.lhs < 2 ^ 28 }
-    ensures { Gathers W.written W.failures out.old out.new block.old block.new (gate_deltas gate) result }
+    ensures pushed { IsTrue result → block.new ≡ block.old ++ gate_deltas gate }
+    ensures full { result ≡ false → block.new ≡ block.old }
+    ensures some { block.old ≡ [] → IsTrue result }
 {
     let lhs = gate.lhs.value();
     let rhs0 = gate.rhs0.value();
     let rhs1 = gate.rhs1.value();
-    put_delta(out, block, lhs - rhs0)?;
-    put_delta(out, block, rhs0 - rhs1)
+    block.push_firsts(groups(lhs - rhs0), groups(rhs0 - rhs1))
+}
+
+/// Puts in the deltas of the first of these gates, as many as there is room for after what waits, and answers how many.
+/// That is at least one where none waits.
+fn push_gates(block: &mut Block, gates: &[Gate]) -> usize
+    requires ready { All (λ g. (g.rhs0 < g.lhs) × (g.rhs1 ≤ g.rhs0)) gates.now }
+    requires small { All (λ g. g.lhs < 2 ^ 28) gates.now }
+    ensures pushed { block.new ≡ block.old ++ flat_map gate_deltas (take result gates.now) }
+    ensures bound { result ≤ length gates.now }
+    ensures some { block.old ≡ [] → 0 < length gates.now → 0 < result }
+{
+    for (count, gate) in gates.iter().enumerate() {
+        if !push_gate(block, *gate) {
+            return count;
+        }
+    }
+    gates.len()
 }
 
 fn put_gates<W: Write>(out: &mut W, block: &mut Block, gates: &[Gate]) -> Result<(), Io>
@@ -49,8 +68,10 @@ fn put_gates<W: Write>(out: &mut W, block: &mut Block, gates: &[Gate]) -> Result
     requires small { All (λ g. g.lhs < 2 ^ 28) gates.now }
     ensures { Gathers W.written W.failures out.old out.new block.old block.new (flat_map gate_deltas gates.now) result }
 {
-    for gate in gates {
-        put_gate(out, block, *gate)?;
+    let mut at = push_gates(block, gates);
+    while at < gates.len() {
+        block.forward(out)?;
+        at += push_gates(block, &gates[at..]);
     }
     Ok(())
 }

@@ -1,6 +1,5 @@
 //! Bytes that are gathered in a block before they go to a writer, so that a file costs few calls.
 ghost use Rattle.std.specs.Fmt.{decimal};
-ghost use Rattle.std.specs.Prelude.{◌≤◌, take};
 ghost use Rattle.aig_bytes.specs.Gathered.{Gathers};
 ghost use Rattle.aig_format.specs.Header.{field};
 
@@ -29,23 +28,5 @@ pub(crate) fn put_field<W: Write>(
     }
     block.forward(out)?;
     block.push_field(number, end);
-    Ok(())
-}
-
-/// Puts the first of four bytes.
-pub(crate) fn put_first<W: Write>(
-    out: &mut W,
-    block: &mut Block,
-    bytes: [u8; 4],
-    count: usize,
-) -> Result<(), Io>
-    requires { count ≤ 4 }
-    ensures { Gathers W.written W.failures out.old out.new block.old block.new (take count bytes) result }
-{
-    if block.push_first(bytes, count) {
-        return Ok(());
-    }
-    block.forward(out)?;
-    block.push_first(bytes, count);
     Ok(())
 }

@@ -1,14 +1,11 @@
 //! Writing numbers in groups of seven bits.
 ghost use Rattle.std.specs.Prelude.{◌≡◌, ◌^◌, ◌<◌, ◌≤◌, take};
 ghost use Rattle.aig_format.specs.Delta.{delta};
-ghost use Rattle.aig_bytes.specs.Gathered.{Gathers};
 
-use crate::block_writer::put_first;
-use aig_base::{Block, Io, Write};
-
-/// The groups of a number below `2^28` in its shortest form, the least first, and how many there are. They are put into
-/// one word, where the seven bits of each group move up to its byte, and all but the last get a mark.
-fn groups(number: u32) -> ([u8; 4], usize)
+/// The groups of a number below `2^28` in its shortest form, the least first, and how many there are (AIGER 1.0, binary
+/// format). They are put into one word, where the seven bits of each group move up to its byte, and all but the last get
+/// a mark.
+pub(crate) fn groups(number: u32) -> ([u8; 4], usize)
     requires { number < 2 ^ 28 }
     ensures most { result.1 ≤ 4 }
     ensures groups { take result.1 result.0 ≡ delta number }
@@ -29,14 +26,4 @@ fn groups(number: u32) -> ([u8; 4], usize)
     let fourth = third / 128;
     let four = three + 8_388_608 * fourth;
     ((four + 0x80_8080).to_le_bytes(), 4)
-}
-
-/// Puts a number below `2^28` in its shortest form, the least group first (AIGER 1.0, binary format).
-#[inline]
-pub(crate) fn put_delta<W: Write>(out: &mut W, block: &mut Block, number: u32) -> Result<(), Io>
-    requires { number < 2 ^ 28 }
-    ensures { Gathers W.written W.failures out.old out.new block.old block.new (delta number) result }
-{
-    let (groups, count) = groups(number);
-    put_first(out, block, groups, count)
 }

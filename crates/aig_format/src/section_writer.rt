@@ -103,7 +103,11 @@ fn put_symbol<W: Write>(
       name.now,
     )) result }
 {
-    block.put_all(out, &[letter_of(kind)])?;
+    let letter = letter_of(kind);
+    if block.push_symbol(letter, position, name) {
+        return Ok(());
+    }
+    block.put_all(out, &[letter])?;
     put_field(out, block, position, b' ')?;
     block.put_all(out, name)?;
     block.put_all(out, b"\n")

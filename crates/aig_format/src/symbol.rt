@@ -3,11 +3,14 @@ ghost use Rattle.std.specs.Prelude.{◌≡◌, ◌≢◌, ℕ, ◌<◌, ◌≤�
 ghost use Rattle.std.specs.Prelude.{Option, All, Contains};
 ghost use Rattle.std.specs.Map.{keys_of};
 ghost use Rattle.aig_parts.specs.Formed.{IsName};
+ghost use Rattle.aig_format.specs.Spells.{greatest};
 ghost use Rattle.aig_format.specs.state.Fits.{AreSymbols};
+ghost use Rattle.aig_format.specs.state.Reading.{number_at};
 ghost use Rattle.aig_format.specs.state.ReadingNames.{count_of, kind_of, after_c_at, letter_at, line_at, name_at};
 ghost use Rattle.aig_format.specs.state.ReadingNames.{position_at, symbol_at, symbols_at, names_at, BeginsSymbol};
 ghost use Rattle.aig_format.specs.state.Reads.{ReadsAs, ReadsToken};
 
+use crate::buffered_numbers::field_in;
 use crate::header::Counts;
 use crate::source::Source;
 use crate::token::{BODY, byte, number};
@@ -123,6 +126,22 @@ fn name<S: Source>(s: &mut S, bytes: &mut Vec<u8>) -> Result<(), Fault>
     Ok(())
 }
 
+/// The number of a symbol, in one loop where it and the blank after it are buffered.
+fn position_number<S: Source>(s: &mut S) -> Result<u32, TokenFault>
+    ensures reads { ReadsToken S.Source s.old s.new result (number_at greatest) }
+{
+    let front = s.front();
+    if front.len() < 8 {
+        return number(s, BODY);
+    }
+    let Some((position, after)) = field_in(front, 0, b' ') else {
+        return number(s, BODY);
+    };
+    // The blank stays.
+    s.skip(after - 1);
+    Ok(position)
+}
+
 /// A position of the section that has no name yet.
 #[tactic(auto, unfolding(crate::specs::state::ReadingNames::position_at))]
 fn position<S: Source>(
@@ -136,7 +155,7 @@ fn position<S: Source>(
     ensures fresh { IfOk result (λ p. Contains (keys_of named.now) (kind, p) → ⊥) }
 {
     let at = s.at();
-    let position = number(s, BODY)?;
+    let position = position_number(s)?;
     if position >= counts.of(kind) {
         return Err(TokenFault::Text { at });
     }

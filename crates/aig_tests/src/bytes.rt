@@ -45,10 +45,10 @@ fn blocks(rt: HostRuntime) {
     }
     right &= block.is_empty();
     right &= block.push_field(4_294_967_295, b' ') && block.push_field(0, b'\n');
-    right &= block.push_first(*b"abcd", 2);
+    right &= block.push_firsts((*b"abcd", 2), (*b"yyyy", 0));
     right &= block.as_slice() == b"4294967295 0\nab".as_slice();
     right &= block.append(&[b'x'; 40_000]) == 32_753;
-    right &= !block.push(b'y') && !block.push_field(7, b'y') && !block.push_first(*b"yyyy", 1);
+    right &= !block.push(b'y') && !block.push_field(7, b'y') && !block.push_firsts((*b"yyyy", 1), (*b"yyyy", 0));
     right &= block.append(b"y") == 0;
     right &= block.as_slice().len() == 32_768;
     assert!(rt; right);
@@ -85,6 +85,23 @@ fn lines_in_blocks(rt: HostRuntime) {
             right &= takes_line(numbers, text, before);
         }
     }
+    assert!(rt; right);
+}
+
+// Symbols with short and long names, and where their number is too long for them.
+#[test]
+fn symbols_in_blocks(rt: HostRuntime) {
+    let mut right = true;
+    let mut block = Block::new();
+    right &= block.push_symbol(b'i', 0, b"a") && block.push_symbol(b'o', 99_999_999, b"");
+    right &= !block.push_symbol(b'l', 100_000_000, b"b");
+    right &= block.as_slice() == b"i0 a\no99999999 \n".as_slice();
+    let long = [b'x'; 32_742];
+    right &= !block.push_symbol(b'l', 7, &long);
+    block.clear();
+    right &= block.push_symbol(b'l', 7, &long) && block.as_slice().len() == 32_746;
+    right &= !block.push_symbol(b'b', 1, b"123456789012");
+    right &= block.push_symbol(b'b', 1, b"12345678901") && block.as_slice().len() == 32_761;
     assert!(rt; right);
 }
 

@@ -1,7 +1,0 @@
-use Rattle.aig_bytes.proofs.GatherLemmas.{gathers_not_forwarded}
-use Rattle.aig_format.proofs.block_writer.put_first.Goals as goal
-
-pub returns-in_err-forward : goal.returns-in_err-forward
-returns-in_err-forward g c =
-    rw (← c.push_first.ensures.full c.if-push_first.false)
-    (gathers_not_forwarded c.in_err-forward.ensures.written c.from_residual.ensures.0)
