@@ -1,12 +1,15 @@
 -- The text of a formula, part by part.
-use Rattle.std.proofs.Common.{◌≡◌, ◌⊎◌, inl, inr, ℕ, zero, suc, ◌+◌, ◌*◌, ◌<◌, ◌≤◌, List, [], ◌∷◌, ◌++◌, length, slice_index, get_or, mul-le-mul_right, refl, sym, ◌∙◌, ap, arith}
-use Rattle.std.proofs.Common.{append_assoc, length-append}
+use Rattle.std.proofs.Common.{◌≡◌, ◌⊎◌, inl, inr, ℕ, zero, suc, ◌+◌, ◌*◌, ◌<◌, ◌≤◌, List, [], ◌∷◌, ◌++◌, length, slice_index, mul-le-mul_right, refl, sym, ◌∙◌, ap, arith}
+use Rattle.std.proofs.Common.{append_assoc, length-append, add-one}
 use Rattle.std.specs.List.{flat_map}
 use Rattle.std.proofs.lemmas.List.Concat.{flat_map-append, flat_map-cons}
-use Rattle.std.proofs.lemmas.List.{append-nil, get_or_default}
+use Rattle.std.proofs.lemmas.List.{append-nil}
 use Rattle.aig_parts.specs.declared.gate.Gate.{Gate}
-use Rattle.aig_unroll.specs.Unrolled.{frames}
 use Rattle.aig_parts.specs.declared.raw.Raw.{Raw}
+use Rattle.aig_unroll.specs.Answers.{IsUnrolled}
+use Rattle.aig_unroll.specs.Unrolled.{frame_bad, frames}
+use Rattle.aig_unroll.proofs.UnrolledCircuit.{length-frame_bad, length-frames}
+use Rattle.aig_cnf.specs.CnfText.{goal_line, goal_lines}
 use Rattle.aig_cnf.specs.Dimacs.{clause_text, formula_text, gate_text, literal_text, problem_line}
 use Rattle.aig_cnf.specs.Formula.{bad_formula, gate_clauses, goals}
 
@@ -59,13 +62,28 @@ goals_rest new n t k p lt =
           ∙ sym (flat_map-append literal_text (goals new n (t + 1) p) rest) ∙ ap (flat_map literal_text) (sym e),
     )
 
--- the literal at the place of frame t
-pub goal_at : (bad : List ℕ) (n t k p l : ℕ) → t < k → p < n → length bad ≡ k * n → l ≡ get_or bad (t * n + p) l
-    → l ≡ slice_index bad (t * n + p)
-goal_at bad n t k p l lt within size is =
+-- the lines of the goals up to the one of frame t, and those up to the last
+pub lines_more : (new : Raw) (n t p : ℕ) → goal_lines new n t p ++ goal_line (slice_index new.bad (t * n + p)) t
+    ≡ goal_lines new n (t + 1) p
+lines_more new n t p = ap (λ m. goal_lines new n m p) (sym (add-one t))
+
+pub lines_rest : (new : Raw) (n t k p : ℕ) → t < k → (rest : List ℕ)
+    × ((goal_lines new n t p ++ goal_line (slice_index new.bad (t * n + p)) t) ++ rest ≡ goal_lines new n k p)
+lines_rest new n t k p lt =
+    let (rest, e) = frames_split (λ s. goal_line (slice_index new.bad (s * n + p)) s) (t + 1) k (omega arith) in
+    (rest, ap (λ (xs : List ℕ). xs ++ rest) (lines_more new n t p) ∙ sym e)
+
+-- the goal of frame t is a bad literal
+pub is_goal : (bad : List ℕ) (n t k p : ℕ) → t < k → p < n → length bad ≡ k * n → t * n + p < length bad
+is_goal bad n t k p lt within size =
     let up : suc t * n ≤ k * n = mul-le-mul_right {m = suc t} {n = k} n lt in
     let e : suc t * n ≡ n + t * n = omega arith in
-    is ∙ get_or_default bad (t * n + p) l 0 (omega (arith, up, e, size, within))
+    omega (arith, up, e, size, within)
+
+-- each frame has the bad literals of the circuit
+pub unrolled_bad : (raw new : Raw) (k : ℕ) → IsUnrolled raw k new → length new.bad ≡ k * length raw.bad
+unrolled_bad raw new k (order, canonical, is) =
+    ap (λ (x : Raw). length x.bad) is ∙ length-frames (frame_bad raw order k) (length raw.bad) k (length-frame_bad raw order k)
 
 formula_is : (v : ℕ) (clauses : List (List ℕ))
     → formula_text v clauses ≡ problem_line v (length clauses) ++ flat_map clause_text clauses

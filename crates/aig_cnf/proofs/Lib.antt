@@ -1,4 +1,2 @@
-pub mod BadFormula
 pub mod FormulaText
 pub mod SignLemmas
-pub mod Tseitin

@@ -1,11 +1,11 @@
 -- Formulas in conjunctive normal form, and the one of a bad state within k frames, over the circuit unrolled for them
 -- (Tseitin's encoding; the clauses and their order are our own choice).
-use Rattle.std.specs.Prelude.{◌≡◌, ℕ, ◌+◌, ◌*◌, ◌%◌, nat_eq, Bool, not, IsTrue, if◌then◌else◌, List, [], ◌∷◌, ◌++◌, flat_map, slice_index}
+use Rattle.std.specs.Prelude.{ℕ, ◌+◌, ◌*◌, ◌%◌, nat_eq, Bool, not, IsTrue, if◌then◌else◌, List, [], ◌∷◌, length, flat_map, slice_index}
 use Rattle.std.specs.List.{list_all, list_any}
 use Rattle.aig_parts.specs.Literal.{variable, negation}
 use Rattle.aig_parts.specs.declared.gate.Gate.{Gate}
 use Rattle.aig_parts.specs.declared.raw.Raw.{Raw}
-use Rattle.aig_unroll.specs.Unrolled.{frames}
+use Rattle.aig_unroll.specs.Unrolled.{frames, unrolled}
 
 -- the literal under an assignment, which gives each variable a value; literals are those of circuits
 abbrev pub is_true : (ℕ → Bool) → ℕ → Bool
@@ -32,3 +32,7 @@ goals new n k p = frames (λ t. slice_index new.bad (t * n + p) ∷ []) k
 -- literal 1 is true, the bad literal of one frame is true, and each gate is an AND
 abbrev pub bad_formula : Raw → ℕ → ℕ → ℕ → List (List ℕ)
 bad_formula new n k p = (1 ∷ []) ∷ goals new n k p ∷ flat_map gate_clauses new.gates
+
+-- the formula of bad literal p within k frames
+abbrev pub formula_of : Raw → List ℕ → ℕ → ℕ → List (List ℕ)
+formula_of raw order k p = bad_formula (unrolled raw order k) (length raw.bad) k p

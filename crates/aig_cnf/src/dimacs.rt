@@ -1,12 +1,15 @@
 //! Writing formulas (DIMACS).
-ghost use Rattle.std.specs.Prelude.{◌≡◌, ◌+◌, ◌*◌, ◌<◌, ◌≤◌, [], ◌∷◌, ◌++◌, codes, decimal, length};
+ghost use Rattle.std.specs.Prelude.{◌≡◌, ◌+◌, ◌*◌, ◌<◌, ◌≤◌, [], ◌∷◌, ◌++◌, codes, decimal, length, slice_index};
 ghost use Rattle.std.specs.List.{flat_map};
 ghost use Rattle.aig_bytes.specs.Bytes.{Writes};
 ghost use Rattle.aig_bytes.specs.Gathered.{Gathers};
+ghost use Rattle.aig_cnf.specs.CnfText.{cnf_text, goal_line, goal_lines};
 ghost use Rattle.aig_cnf.specs.Dimacs.{clause_text, formula_text, gate_text, literal_text, problem_line, sign_text};
 ghost use Rattle.aig_cnf.specs.Formula.{bad_formula, goals};
+ghost use Rattle.aig_unroll.specs.Answers.{IsUnrolled};
 
 use aig_base::{Block, Circuit, Gate, Io, Lit, Write, write_all};
+use aig_unroll::write_input_lines;
 
 // Puts a number and the byte that ends it.
 fn put_field<W: Write>(out: &mut W, block: &mut Block, number: u32, end: u8) -> Result<(), Io>
@@ -82,6 +85,14 @@ fn put_problem<W: Write>(
     put_field(out, block, clauses, b'\n')
 }
 
+// The bad literal of a frame, where a circuit of `bads` bad literals was unrolled.
+fn goal_at(circuit: &Circuit, bads: u32, frame: u32, property: u32) -> Lit
+    requires { frame * bads + property < length circuit.now.bad }
+    ensures { result ≡ slice_index circuit.now.bad (frame * bads + property) }
+{
+    circuit.bad()[frame as usize * bads as usize + property as usize]
+}
+
 // Puts the bad literal of each frame, where a circuit of `bads` bad literals was unrolled.
 fn put_goals<W: Write>(
     out: &mut W,
@@ -97,8 +108,7 @@ fn put_goals<W: Write>(
         (flat_map literal_text (goals circuit.now bads frames property)) result }
 {
     for frame in 0..frames {
-        let place = frame as usize * bads as usize + property as usize;
-        put_literal(out, block, circuit.bad()[place])?;
+        put_literal(out, block, goal_at(circuit, bads, frame, property))?;
     }
     Ok(())
 }
@@ -150,10 +160,42 @@ fn put_formula<W: Write>(
     put_gates(out, block, circuit.gates())
 }
 
-/// Writes the formula that a bad literal is 1 within some frames, in DIMACS: of the circuit that was unrolled for them,
-/// and of the property at this position of the `bads` bad literals that the circuit had before. Variable 1 is false,
-/// and the variable of a literal `l` is `l / 2 + 1`. It takes no memory.
-pub fn write_formula<W: Write>(
+// Puts the comment line of the bad literal of a frame.
+fn put_goal_line<W: Write>(
+    out: &mut W,
+    block: &mut Block,
+    literal: Lit,
+    frame: u32,
+) -> Result<(), Io>
+    ensures { Gathers W.written W.failures out.old out.new block.old block.new (goal_line literal frame) result }
+{
+    block.put_all(out, b"c b ")?;
+    put_literal(out, block, literal)?;
+    put_field(out, block, frame, b'\n')
+}
+
+// Puts the comment lines of the bad literals of all frames.
+fn put_goal_lines<W: Write>(
+    out: &mut W,
+    block: &mut Block,
+    circuit: &Circuit,
+    bads: u32,
+    frames: u32,
+    property: u32,
+) -> Result<(), Io>
+    requires property { property < bads }
+    requires bad { length circuit.now.bad ≡ frames * bads }
+    ensures { Gathers W.written W.failures out.old out.new block.old block.new
+        (goal_lines circuit.now bads frames property) result }
+{
+    for frame in 0..frames {
+        put_goal_line(out, block, goal_at(circuit, bads, frame, property), frame)?;
+    }
+    Ok(())
+}
+
+// Writes the comment lines of the bad literals, and the formula.
+fn write_goals_and_formula<W: Write>(
     circuit: &Circuit,
     bads: u32,
     frames: u32,
@@ -163,9 +205,40 @@ pub fn write_formula<W: Write>(
     requires property { property < bads }
     requires bad { length circuit.now.bad ≡ frames * bads }
     ensures { Writes W.written W.failures out.old out.new
-        (formula_text (circuit.now.max_var + 1) (bad_formula circuit.now bads frames property)) result }
+        (goal_lines circuit.now bads frames property
+        ++ formula_text (circuit.now.max_var + 1) (bad_formula circuit.now bads frames property)) result }
 {
     let mut block = Block::new();
+    put_goal_lines(out, &mut block, circuit, bads, frames, property)?;
     put_formula(out, &mut block, circuit, bads, frames, property)?;
     write_all(out, block.as_slice())
+}
+
+// How many bad literals there are.
+fn bad_count(circuit: &Circuit) -> u32
+    ensures { result ≡ length circuit.now.bad }
+{
+    circuit.facts();
+    circuit.bad().len() as u32
+}
+
+/// Writes the formula that the bad state property at this position is reached within this many frames, in DIMACS, with
+/// comment lines that say what its variables are. The circuit comes with the one that `unroll_for_formula` makes of it.
+/// The formula's literal of a literal `l` of the unrolled circuit is `l / 2 + 1`, negative where `l` is odd; variable 1
+/// is false. It takes no memory, and writes the comment lines in small pieces: pass a writer that buffers them.
+pub fn write_formula<W: Write>(
+    circuit: &Circuit,
+    unrolled: &Circuit,
+    frames: u32,
+    property: u32,
+    out: &mut W,
+) -> Result<(), Io>
+    requires property { property < length circuit.now.bad }
+    requires unrolled { IsUnrolled circuit.now frames unrolled.now }
+    ensures { Writes W.written W.failures out.old out.new
+        (cnf_text circuit.now unrolled.now frames property) result }
+{
+    // The constant is variable 1, so the variable of the first input is 2.
+    write_input_lines(b"c ", circuit, 2, frames, out)?;
+    write_goals_and_formula(unrolled, bad_count(circuit), frames, property, out)
 }

@@ -1,8 +1,10 @@
-//! Formulas of bad states. A SAT solver answers whether one has a model, and a model is a witness.
+//! Formulas of bad states, for SAT solvers. What their models are is a law of `aig_laws`.
 #![tactic(auto)]
 
 mod dimacs;
-mod formula;
+mod fault;
+mod request;
 
 pub use dimacs::write_formula;
-pub use formula::law_of_formula;
+pub use fault::CnfFault;
+pub use request::unroll_for_formula;

@@ -1,6 +1,7 @@
 pub mod Bench
 pub mod BenchFiles
 pub mod Check
+pub mod Cnf
 pub mod GoesWell
 pub mod Info
 pub mod Names

@@ -39,8 +39,7 @@ fn write_name<W: Write>(out: &mut W, circuit: &Circuit, kind: Kind, position: u3
     ensures { Writes W.written W.failures out.old out.new
         (symbol_name_at (is_same kind) circuit.now.symbols position) result }
 {
-    // Its contract says that no entry has two names.
-    let _max_var = circuit.max_var();
+    circuit.facts();
     match circuit.symbols().get(kind, position) {
         Some(name) => write_all(out, name),
         None => Ok(()),
@@ -137,8 +136,7 @@ fn write_justice<W: Write>(
 pub(crate) fn write_entries<W: Write>(circuit: &Circuit, out: &mut W) -> Result<(), Io>
     ensures { Writes W.written W.failures out.old out.new (names_text circuit.now) result }
 {
-    // Its contract says how many entries there are at most.
-    let _max_var = circuit.max_var();
+    circuit.facts();
     write_literals(out, circuit, Kind::Input, circuit.inputs())?;
     write_latches(out, circuit, circuit.latches())?;
     write_literals(out, circuit, Kind::Output, circuit.outputs())?;

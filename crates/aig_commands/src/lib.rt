@@ -3,6 +3,7 @@
 
 pub mod bench;
 pub mod check;
+pub mod cnf;
 mod entries;
 pub mod info;
 pub mod sim;

@@ -5,6 +5,7 @@ ghost use Rattle.aig_fault.specs.Status.{status_of};
 use crate::script_fault::ScriptFault;
 use aig_base::{Fault, Memory};
 use aig_bench::BenchFault;
+use aig_cnf::CnfFault;
 use aig_sim::{StimFault, WitnessFault};
 use aig_unroll::UnrollFault;
 use thiserror::Error;
@@ -30,6 +31,8 @@ pub enum RunFault {
     Memory,
     #[error("unroll: {0}")]
     Unroll(UnrollFault),
+    #[error("cnf: {0}")]
+    Cnf(CnfFault),
 }
 
 impl RunFault {
@@ -44,11 +47,13 @@ impl RunFault {
             RunFault::Bench(BenchFault::Memory) => 3,
             RunFault::Script(_) | RunFault::Output | RunFault::Memory => 3,
             RunFault::Unroll(UnrollFault::Memory) => 3,
+            RunFault::Cnf(CnfFault::Memory) => 3,
             RunFault::Circuit(_)
             | RunFault::Stimulus(_)
             | RunFault::Witness(_)
             | RunFault::Bench(_)
-            | RunFault::Unroll(_) => 1,
+            | RunFault::Unroll(_)
+            | RunFault::Cnf(_) => 1,
         }
     }
 }
@@ -127,5 +132,16 @@ impl From<UnrollFault> for RunFault {
 
     fn from(fault: UnrollFault) -> RunFault {
         RunFault::Unroll(fault)
+    }
+}
+
+impl From<CnfFault> for RunFault {
+    ghost use Rattle.std.specs.Prelude.{◌≡◌};
+    ghost use Rattle.aig_fault.specs.declared.run_fault.RunFault.TheVariants as run_faults;
+
+    ghost from_gives = { λ fault part. part ≡ run_faults.Cnf fault };
+
+    fn from(fault: CnfFault) -> RunFault {
+        RunFault::Cnf(fault)
     }
 }

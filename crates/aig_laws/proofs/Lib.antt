@@ -1,3 +1,4 @@
+pub mod BadFormula
 pub mod ConvertedDumps
 pub mod ConvertedTraces
 pub mod ConvertedVerdicts
@@ -6,5 +7,6 @@ pub mod Examples
 pub mod Premises
 pub mod Reached
 pub mod RowValues
+pub mod Tseitin
 pub mod UnrolledRows
 pub mod UnrolledWitnesses

@@ -1,8 +1,10 @@
-//! Laws between the crates of circuits, simulation and unrolling. It has no code: each function is a law.
+//! Laws between the crates of circuits, simulation, unrolling and formulas. It has no code: each function is a law.
 #![tactic(auto)]
 
 mod conversion;
+mod formula;
 mod unrolled_witnesses;
 
 pub use conversion::law_of_conversion;
+pub use formula::law_of_formula;
 pub use unrolled_witnesses::{law_of_reached, law_of_unrolled_rows, law_of_unrolled_witnesses};

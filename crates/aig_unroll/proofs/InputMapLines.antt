@@ -137,38 +137,41 @@ module _ {X : Type 0} {written : X → Option (List ℕ)} {failures : X → ℕ}
       (sym (append-nil h.done) ∙ ap (λ (t : List ℕ). h.done ++ t) (sym e) ∙ sym h.whole_is)
 
 -- lines of two lists
-pub lines_append : (raw : Raw) (n : ℕ) (os ps : List Origin)
-    → origin_lines raw n (os ++ ps) ≡ origin_lines raw n os ++ origin_lines raw (n + length os) ps
+pub lines_append : (prefix : List ℕ) (raw : Raw) (n : ℕ) (os ps : List Origin)
+    → origin_lines prefix raw n (os ++ ps) ≡ origin_lines prefix raw n os ++ origin_lines prefix raw (n + length os) ps
 unfolding origin_lines
-lines_append raw n [] ps = let e : n ≡ n + 0 = omega arith in ap (λ m. origin_lines raw m ps) e
-lines_append raw n (o ∷ os) ps =
+lines_append prefix raw n [] ps = let e : n ≡ n + 0 = omega arith in ap (λ m. origin_lines prefix raw m ps) e
+lines_append prefix raw n (o ∷ os) ps =
     let e : n + 1 + length os ≡ n + suc (length os) = omega arith in
-    ap (λ (t : List ℕ). origin_line raw n o ++ t) (lines_append raw (n + 1) os ps)
-    ∙ sym (append_assoc (origin_line raw n o) (origin_lines raw (n + 1) os) (origin_lines raw (n + 1 + length os) ps))
-    ∙ ap (λ m. (origin_line raw n o ++ origin_lines raw (n + 1) os) ++ origin_lines raw m ps) e
+    let line = prefix ++ origin_line raw n o in
+    ap (λ (t : List ℕ). line ++ t) (lines_append prefix raw (n + 1) os ps)
+    ∙ sym (append_assoc line (origin_lines prefix raw (n + 1) os) (origin_lines prefix raw (n + 1 + length os) ps))
+    ∙ ap (λ m. (line ++ origin_lines prefix raw (n + 1) os) ++ origin_lines prefix raw m ps) e
 
 -- the first line
-lines_first : (raw : Raw) (n : ℕ) (o : Origin) (os : List Origin)
-    → origin_lines raw n (o ∷ os) ≡ origin_line raw n o ++ origin_lines raw (n + 1) os
+lines_first : (prefix : List ℕ) (raw : Raw) (n : ℕ) (o : Origin) (os : List Origin)
+    → origin_lines prefix raw n (o ∷ os) ≡ (prefix ++ origin_line raw n o) ++ origin_lines prefix raw (n + 1) os
 unfolding origin_lines
-lines_first raw n o os = refl
+lines_first prefix raw n o os = refl
 
-lines_none : (raw : Raw) (n : ℕ) → origin_lines raw n [] ≡ []
+lines_none : (prefix : List ℕ) (raw : Raw) (n : ℕ) → origin_lines prefix raw n [] ≡ []
 unfolding origin_lines
-lines_none raw n = refl
+lines_none prefix raw n = refl
 
-pub no_frames : (raw : Raw) → [] ≡ origin_lines raw 0 []
-no_frames raw = sym (lines_none raw 0)
+pub no_frames : (prefix : List ℕ) (raw : Raw) (n : ℕ) → [] ≡ origin_lines prefix raw n []
+no_frames prefix raw n = sym (lines_none prefix raw n)
 
 -- the lines of a frame from an input on
-pub frame_start : (raw : Raw) (n t : ℕ)
-    → origin_lines raw n (frame_origins raw t) ≡ origin_lines raw (n + 0) (drop 0 (frame_origins raw t))
-frame_start raw n t = let e : n ≡ n + 0 = omega arith in ap (λ m. origin_lines raw m (frame_origins raw t)) e
+pub frame_start : (prefix : List ℕ) (raw : Raw) (n t : ℕ)
+    → origin_lines prefix raw n (frame_origins raw t) ≡ origin_lines prefix raw (n + 0) (drop 0 (frame_origins raw t))
+frame_start prefix raw n t =
+    let e : n ≡ n + 0 = omega arith in ap (λ m. origin_lines prefix raw m (frame_origins raw t)) e
 
-pub frame_step : (raw : Raw) (n t i : ℕ) → i < length raw.inputs
-    → origin_lines raw (n + i) (drop i (frame_origins raw t))
-    ≡ origin_line raw (n + i) (input t i) ++ origin_lines raw (n + (i + 1)) (drop (i + 1) (frame_origins raw t))
-frame_step raw n t i lt =
+pub frame_step : (prefix : List ℕ) (raw : Raw) (n t i : ℕ) → i < length raw.inputs
+    → origin_lines prefix raw (n + i) (drop i (frame_origins raw t))
+    ≡ (prefix ++ origin_line raw (n + i) (input t i))
+    ++ origin_lines prefix raw (n + (i + 1)) (drop (i + 1) (frame_origins raw t))
+frame_step prefix raw n t i lt =
     let os = frame_origins raw t in
     let below : i < length os = omega (arith, lt, length-map-range_with_len (input t) 0 (length raw.inputs)) in
     let e : drop i os ≡ input t i ∷ drop (i + 1) os =
@@ -176,13 +179,14 @@ frame_step raw n t i lt =
     ∙ ap (λ (o : Origin). o ∷ drop (i + 1) os)
     (get_or-map-range_with_len (input t) 0 (length raw.inputs) i i (input t i) lt (omega arith)) in
     let f : n + i + 1 ≡ n + (i + 1) = omega arith in
-    ap (origin_lines raw (n + i)) e ∙ lines_first raw (n + i) (input t i) (drop (i + 1) os)
-    ∙ ap (λ m. origin_line raw (n + i) (input t i) ++ origin_lines raw m (drop (i + 1) os)) f
+    ap (origin_lines prefix raw (n + i)) e ∙ lines_first prefix raw (n + i) (input t i) (drop (i + 1) os)
+    ∙ ap (λ m. (prefix ++ origin_line raw (n + i) (input t i)) ++ origin_lines prefix raw m (drop (i + 1) os)) f
 
-pub frame_end : (raw : Raw) (n t i : ℕ) → length raw.inputs ≤ i → origin_lines raw n (drop i (frame_origins raw t)) ≡ []
-frame_end raw n t i le =
-    ap (origin_lines raw n) (drop_all i (frame_origins raw t)
-    (omega (arith, le, length-map-range_with_len (input t) 0 (length raw.inputs)))) ∙ lines_none raw n
+pub frame_end : (prefix : List ℕ) (raw : Raw) (n t i : ℕ) → length raw.inputs ≤ i
+    → origin_lines prefix raw n (drop i (frame_origins raw t)) ≡ []
+frame_end prefix raw n t i le =
+    ap (origin_lines prefix raw n) (drop_all i (frame_origins raw t)
+    (omega (arith, le, length-map-range_with_len (input t) 0 (length raw.inputs)))) ∙ lines_none prefix raw n
 
 last_or : (n t : ℕ) → t < suc n → (t < n) ⊎ (t ≡ n)
 last_or n t lt = grind arith
@@ -204,78 +208,79 @@ frames_split f (suc n) t lt = elim (last_or n t lt) [
   )
 ]
 
-module _ (raw : Raw) where
+module _ (prefix : List ℕ) (raw : Raw) where
   size : (t : ℕ) → length (frame_origins raw t) ≡ length raw.inputs
   size t = length-map-range_with_len (input t) 0 (length raw.inputs)
 
-  pub frames_more : (t : ℕ) → origin_lines raw 0 (frames (frame_origins raw) t)
-      ++ origin_lines raw (t * length raw.inputs) (frame_origins raw t)
-      ≡ origin_lines raw 0 (frames (frame_origins raw) (t + 1))
-  frames_more t =
+  pub frames_more : (n m t : ℕ) → m ≡ n + t * length raw.inputs
+      → origin_lines prefix raw n (frames (frame_origins raw) t) ++ origin_lines prefix raw m (frame_origins raw t)
+      ≡ origin_lines prefix raw n (frames (frame_origins raw) (t + 1))
+  frames_more n m t at =
       let f = frame_origins raw in
-      let e : t * length raw.inputs ≡ 0 + length (frames f t) =
-      omega (arith, length-frames f (length raw.inputs) t size) in
-      ap (λ m. origin_lines raw 0 (frames f t) ++ origin_lines raw m (f t)) e
-      ∙ sym (lines_append raw 0 (frames f t) (f t)) ∙ ap (λ m. origin_lines raw 0 (frames f m)) (sym (add-one t))
+      let e : m ≡ n + length (frames f t) = omega (arith, at, length-frames f (length raw.inputs) t size) in
+      ap (λ i. origin_lines prefix raw n (frames f t) ++ origin_lines prefix raw i (f t)) e
+      ∙ sym (lines_append prefix raw n (frames f t) (f t))
+      ∙ ap (λ i. origin_lines prefix raw n (frames f i)) (sym (add-one t))
 
-  pub frames_rest : (n t : ℕ) → t < n → (rest : List ℕ) × (origin_lines raw 0 (frames (frame_origins raw) t)
-      ++ (origin_lines raw (t * length raw.inputs) (frame_origins raw t) ++ rest)
-      ≡ origin_lines raw 0 (frames (frame_origins raw) n))
-  frames_rest n t lt =
+  pub frames_rest : (n m k t : ℕ) → t < k → m ≡ n + t * length raw.inputs
+      → (rest : List ℕ) × (origin_lines prefix raw n (frames (frame_origins raw) t)
+      ++ (origin_lines prefix raw m (frame_origins raw t) ++ rest)
+      ≡ origin_lines prefix raw n (frames (frame_origins raw) k))
+  frames_rest n m k t lt at =
       let f = frame_origins raw in
-      let (rest, is) = frames_split f n t lt in
-      let m = t * length raw.inputs in
-      let e : m ≡ 0 + length (frames f t) = omega (arith, length-frames f (length raw.inputs) t size) in (
-        origin_lines raw (m + length (f t)) rest,
-        ap (λ (ls : List ℕ). origin_lines raw 0 (frames f t) ++ ls) (sym (lines_append raw m (f t) rest))
-            ∙ ap (λ i. origin_lines raw 0 (frames f t) ++ origin_lines raw i (f t ++ rest)) e
-            ∙ sym (lines_append raw 0 (frames f t) (f t ++ rest)) ∙ ap (origin_lines raw 0) (sym is),
+      let (rest, is) = frames_split f k t lt in
+      let e : m ≡ n + length (frames f t) = omega (arith, at, length-frames f (length raw.inputs) t size) in (
+        origin_lines prefix raw (m + length (f t)) rest,
+        ap (λ (ls : List ℕ). origin_lines prefix raw n (frames f t) ++ ls) (sym (lines_append prefix raw m (f t) rest))
+            ∙ ap (λ i. origin_lines prefix raw n (frames f t) ++ origin_lines prefix raw i (f t ++ rest)) e
+            ∙ sym (lines_append prefix raw n (frames f t) (f t ++ rest)) ∙ ap (origin_lines prefix raw n) (sym is),
       )
 
   -- the lines of all frames, and those of the latches after them
-  pub whole_map : (n m : ℕ) → m ≡ n * length raw.inputs
-      → origin_lines raw 0 (frames (frame_origins raw) n) ++ origin_lines raw m (start_origins 0 raw.latches)
-      ≡ origin_lines raw 0 (frames (frame_origins raw) n ++ start_origins 0 raw.latches)
-  whole_map n m is =
+  pub whole_map : (n m k : ℕ) → m ≡ n + k * length raw.inputs
+      → origin_lines prefix raw n (frames (frame_origins raw) k) ++ origin_lines prefix raw m (start_origins 0 raw.latches)
+      ≡ origin_lines prefix raw n (frames (frame_origins raw) k ++ start_origins 0 raw.latches)
+  whole_map n m k is =
       let f = frame_origins raw in
-      let e : m ≡ 0 + length (frames f n) = omega (arith, is, length-frames f (length raw.inputs) n size) in
-      ap (λ i. origin_lines raw 0 (frames f n) ++ origin_lines raw i (start_origins 0 raw.latches)) e
-      ∙ sym (lines_append raw 0 (frames f n) (start_origins 0 raw.latches))
+      let e : m ≡ n + length (frames f k) = omega (arith, is, length-frames f (length raw.inputs) k size) in
+      ap (λ i. origin_lines prefix raw n (frames f k) ++ origin_lines prefix raw i (start_origins 0 raw.latches)) e
+      ∙ sym (lines_append prefix raw n (frames f k) (start_origins 0 raw.latches))
 
   -- one latch
   start_one : (n p : ℕ) (x : Latch) (xs : List Latch) (b : Bool) → is_uninitialised x ≡ b
-      → origin_lines raw n (start_origins p (x ∷ xs))
-      ≡ start_line raw n p x ++ origin_lines raw (position_after n x) (start_origins (p + 1) xs)
+      → origin_lines prefix raw n (start_origins p (x ∷ xs))
+      ≡ start_line prefix raw n p x ++ origin_lines prefix raw (position_after n x) (start_origins (p + 1) xs)
   unfolding start_origins
   start_one n p x xs b own =
       let s = start_origins (p + 1) xs in
-      ap (λ (t : Bool). origin_lines raw n (if t then start p ∷ s else s)) own ∙ go b
-      ∙ ap (λ (t : Bool). (if t then origin_line raw n (start p) else [])
-      ++ origin_lines raw (if t then n + 1 else n) s) (sym own)
+      ap (λ (t : Bool). origin_lines prefix raw n (if t then start p ∷ s else s)) own ∙ go b
+      ∙ ap (λ (t : Bool). (if t then prefix ++ origin_line raw n (start p) else [])
+      ++ origin_lines prefix raw (if t then n + 1 else n) s) (sym own)
     where
-      go : (t : Bool) → origin_lines raw n (if t then start p ∷ start_origins (p + 1) xs else start_origins (p + 1) xs)
-          ≡ (if t then origin_line raw n (start p) else [])
-          ++ origin_lines raw (if t then n + 1 else n) (start_origins (p + 1) xs)
-      go true = lines_first raw n (start p) (start_origins (p + 1) xs)
+      go : (t : Bool)
+          → origin_lines prefix raw n (if t then start p ∷ start_origins (p + 1) xs else start_origins (p + 1) xs)
+          ≡ (if t then prefix ++ origin_line raw n (start p) else [])
+          ++ origin_lines prefix raw (if t then n + 1 else n) (start_origins (p + 1) xs)
+      go true = lines_first prefix raw n (start p) (start_origins (p + 1) xs)
       go false = refl
 
   pub starts_step : (n p : ℕ) (x : Latch) (xs : List Latch) → p < length xs → x ≡ get_or xs p x
-      → origin_lines raw n (start_origins p (drop p xs))
-      ≡ start_line raw n p x ++ origin_lines raw (position_after n x) (start_origins (p + 1) (drop (p + 1) xs))
+      → origin_lines prefix raw n (start_origins p (drop p xs))
+      ≡ start_line prefix raw n p x ++ origin_lines prefix raw (position_after n x) (start_origins (p + 1) (drop (p + 1) xs))
   starts_step n p x xs lt is =
-      ap (λ (ys : List Latch). origin_lines raw n (start_origins p ys))
+      ap (λ (ys : List Latch). origin_lines prefix raw n (start_origins p ys))
       (drop_more xs p x lt ∙ ap (λ (y : Latch). y ∷ drop (p + 1) xs) (sym is))
       ∙ start_one n p x (drop (p + 1) xs) (is_uninitialised x) refl
 
-  -- the same, where the position after it is another number
+  -- the same, where the number after it is another term
   pub starts_next : (n m p : ℕ) (x : Latch) (xs : List Latch) → p < length xs → x ≡ get_or xs p x
-      → m ≡ position_after n x → origin_lines raw n (start_origins p (drop p xs))
-      ≡ start_line raw n p x ++ origin_lines raw m (start_origins (p + 1) (drop (p + 1) xs))
+      → m ≡ position_after n x → origin_lines prefix raw n (start_origins p (drop p xs))
+      ≡ start_line prefix raw n p x ++ origin_lines prefix raw m (start_origins (p + 1) (drop (p + 1) xs))
   starts_next n m p x xs lt is e =
       starts_step n p x xs lt is
-      ∙ ap (λ i. start_line raw n p x ++ origin_lines raw i (start_origins (p + 1) (drop (p + 1) xs))) (sym e)
+      ∙ ap (λ i. start_line prefix raw n p x ++ origin_lines prefix raw i (start_origins (p + 1) (drop (p + 1) xs))) (sym e)
 
-  pub starts_end : (n p : ℕ) (xs : List Latch) → length xs ≤ p → origin_lines raw n (start_origins p (drop p xs)) ≡ []
+  pub starts_end : (n p : ℕ) (xs : List Latch) → length xs ≤ p → origin_lines prefix raw n (start_origins p (drop p xs)) ≡ []
   unfolding start_origins
   starts_end n p xs le =
-      ap (λ (ys : List Latch). origin_lines raw n (start_origins p ys)) (drop_all p xs le) ∙ lines_none raw n
+      ap (λ (ys : List Latch). origin_lines prefix raw n (start_origins p ys)) (drop_all p xs le) ∙ lines_none prefix raw n

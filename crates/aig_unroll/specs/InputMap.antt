@@ -52,21 +52,21 @@ symbol_name_at test (s ∷ symbols) p = if test s.0.0 && s.0.1 == p then s.1 els
 abbrev pub map_field : ℕ → List ℕ
 map_field n = decimal n ++ codes " "
 
--- the line of the input at position n of the unrolled circuit
+-- the line of an input of the unrolled circuit, with the number n
 abbrev pub origin_line : Raw → ℕ → Origin → List ℕ
 origin_line raw n (input t p) =
     codes "i " ++ (map_field n ++ (map_field t ++ (map_field p ++ (symbol_name_at is_input raw.symbols p ++ codes "\n"))))
 origin_line raw n (start p) =
     codes "l " ++ (map_field n ++ (map_field p ++ (symbol_name_at is_latch raw.symbols p ++ codes "\n")))
 
--- a line each, the first of which is that of position n
-unfoldable pub origin_lines : Raw → ℕ → List Origin → List ℕ
-origin_lines raw n [] = []
-origin_lines raw n (o ∷ os) = origin_line raw n o ++ origin_lines raw (n + 1) os
+-- a line each after a prefix, the first of which has the number n
+unfoldable pub origin_lines : List ℕ → Raw → ℕ → List Origin → List ℕ
+origin_lines prefix raw n [] = []
+origin_lines prefix raw n (o ∷ os) = (prefix ++ origin_line raw n o) ++ origin_lines prefix raw (n + 1) os
 
--- the map of the circuit unrolled for k frames: the lines of all its inputs
+-- the map of the circuit unrolled for k frames: the lines of all its inputs, with their positions
 abbrev pub map_text : Raw → ℕ → List ℕ
-map_text raw k = origin_lines raw 0 (origins raw k)
+map_text raw k = origin_lines [] raw 0 (origins raw k)
 
 -- the literals that the lines name are the inputs of the unrolled circuit, in order
 abbrev pub ReportsInputs : Raw → List ℕ → ℕ → List ℕ → Type 0

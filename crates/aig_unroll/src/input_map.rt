@@ -1,10 +1,10 @@
 //! The text that says what the inputs of an unrolled circuit are. Where the standard is silent, it is our own choice.
-ghost use Rattle.std.specs.Prelude.{◌≡◌, ◌+◌, ◌*◌, ◌≤◌, ◌<◌, ◌^◌, decimal, length, IfOk};
+ghost use Rattle.std.specs.Prelude.{◌≡◌, ◌+◌, ◌*◌, ◌≤◌, ◌<◌, ◌^◌, ◌++◌, decimal, length, IfOk};
 ghost use Rattle.aig_bytes.specs.Bytes.{Writes};
 ghost use Rattle.aig_parts.specs.Formed.{limit};
 ghost use Rattle.aig_unroll.specs.InputMap as inputs;
 ghost use Rattle.aig_unroll.specs.InputMap.{map_field, frame_origins, is_input, is_latch, map_text};
-ghost use Rattle.aig_unroll.specs.InputMap.{origin_line, origin_lines, start_origins, symbol_name_at};
+ghost use Rattle.aig_unroll.specs.InputMap.{origin_line, origin_lines, origins, start_origins, symbol_name_at};
 ghost use Rattle.aig_unroll.specs.Unrolled as parts;
 ghost use Rattle.aig_unroll.specs.state.MapLines.{position_after, start_line};
 
@@ -86,21 +86,53 @@ fn write_start<W: Write>(
     write_all(out, b"\n")
 }
 
-// Writes the lines of the inputs at a frame, the first of which is at this position.
+// Writes the line of an input at a frame after a prefix.
+fn write_input_line<W: Write>(
+    out: &mut W,
+    prefix: &[u8],
+    circuit: &Circuit,
+    position: u64,
+    frame: u32,
+    input: u32,
+) -> Result<(), Io>
+    ensures { Writes W.written W.failures out.old out.new
+        (prefix.now ++ origin_line circuit.now position (inputs.input frame input)) result }
+{
+    write_all(out, prefix)?;
+    write_input(out, circuit, position, frame, input)
+}
+
+// Writes the line of the start of a latch after a prefix.
+fn write_start_line<W: Write>(
+    out: &mut W,
+    prefix: &[u8],
+    circuit: &Circuit,
+    position: u64,
+    latch: u32,
+) -> Result<(), Io>
+    ensures { Writes W.written W.failures out.old out.new
+        (prefix.now ++ origin_line circuit.now position (inputs.start latch)) result }
+{
+    write_all(out, prefix)?;
+    write_start(out, circuit, position, latch)
+}
+
+// Writes the lines of the inputs at a frame, the first of which has this number.
 fn write_frame<W: Write>(
     out: &mut W,
+    prefix: &[u8],
     circuit: &Circuit,
     inputs: u32,
     position: u64,
     frame: u32,
 ) -> Result<(), Io>
     requires inputs { inputs ≡ length circuit.now.inputs }
-    requires position { position ≤ 2 ^ 32 * limit }
+    requires position { position ≤ 2 ^ 33 * limit }
     ensures { Writes W.written W.failures out.old out.new
-        (origin_lines circuit.now position (frame_origins circuit.now frame)) result }
+        (origin_lines prefix.now circuit.now position (frame_origins circuit.now frame)) result }
 {
     for input in 0..inputs {
-        write_input(out, circuit, position + input as u64, frame, input)?;
+        write_input_line(out, prefix, circuit, position + input as u64, frame, input)?;
     }
     Ok(())
 }
@@ -123,27 +155,31 @@ fn in_frames(frames: u32, inputs: u32) -> u64
     frames as u64 * inputs as u64
 }
 
-// Writes the lines of the inputs at all frames.
+// Writes the lines of the inputs at all frames, the first of which has this number.
 fn write_frames<W: Write>(
     out: &mut W,
+    prefix: &[u8],
     circuit: &Circuit,
     inputs: u32,
+    first: u32,
     frames: u32,
 ) -> Result<(), Io>
     requires inputs { inputs ≡ length circuit.now.inputs }
     requires few { inputs ≤ limit }
     ensures { Writes W.written W.failures out.old out.new
-        (origin_lines circuit.now 0 (parts.frames (frame_origins circuit.now) frames)) result }
+        (origin_lines prefix.now circuit.now first (parts.frames (frame_origins circuit.now) frames)) result }
 {
     for frame in 0..frames {
-        write_frame(out, circuit, inputs, in_frames(frame, inputs), frame)?;
+        let position = first as u64 + in_frames(frame, inputs);
+        write_frame(out, prefix, circuit, inputs, position, frame)?;
     }
     Ok(())
 }
 
-// Writes the line of a latch that is at this position if it is uninitialised, and returns the position after it.
+// Writes the line of a latch that has this number if it is uninitialised, and returns the number after it.
 fn write_start_of<W: Write>(
     out: &mut W,
+    prefix: &[u8],
     circuit: &Circuit,
     position: u64,
     place: u32,
@@ -151,35 +187,56 @@ fn write_start_of<W: Write>(
 ) -> Result<u64, Io>
     requires { position < 2 ^ 63 }
     ensures written { Writes W.written W.failures out.old out.new
-        (start_line circuit.now position place latch.now) result }
+        (start_line prefix.now circuit.now position place latch.now) result }
     ensures next_position { IfOk result (λ next_position. next_position ≡ position_after position latch.now) }
     ensures few { IfOk result (λ next_position. next_position ≤ position + 1) }
 {
     if is_uninitialised(latch) {
-        write_start(out, circuit, position, place)?;
+        write_start_line(out, prefix, circuit, position, place)?;
         Ok(position + 1)
     } else {
         Ok(position)
     }
 }
 
-// Writes the lines of those of these latches that are uninitialised, the first of which is at this position.
+// Writes the lines of those of these latches that are uninitialised, the first of which has this number.
 fn write_starts<W: Write>(
     out: &mut W,
+    prefix: &[u8],
     circuit: &Circuit,
     first: u64,
     latches: &[Latch],
 ) -> Result<(), Io>
-    requires first { first ≤ 2 ^ 32 * limit }
+    requires first { first ≤ 2 ^ 33 * limit }
     requires latches { length latches.now ≤ limit }
     ensures { Writes W.written W.failures out.old out.new
-        (origin_lines circuit.now first (start_origins 0 latches.now)) result }
+        (origin_lines prefix.now circuit.now first (start_origins 0 latches.now)) result }
 {
     let mut position = first;
     for (place, latch) in latches.iter().enumerate() {
-        position = write_start_of(out, circuit, position, place as u32, latch)?;
+        position = write_start_of(out, prefix, circuit, position, place as u32, latch)?;
     }
     Ok(())
+}
+
+/// Writes what the inputs of the circuit unrolled for this many frames are, one line each, in order, as
+/// `write_input_map` does. Each line begins with the prefix, and POSITION counts from `first`. It takes no memory, and
+/// writes in small pieces: pass a writer that buffers them.
+pub fn write_input_lines<W: Write>(
+    prefix: &[u8],
+    circuit: &Circuit,
+    first: u32,
+    frames: u32,
+    out: &mut W,
+) -> Result<(), Io>
+    ensures { Writes W.written W.failures out.old out.new
+        (origin_lines prefix.now circuit.now first (origins circuit.now frames)) result }
+{
+    circuit.facts();
+    let inputs = input_count(circuit);
+    write_frames(out, prefix, circuit, inputs, first, frames)?;
+    let starts = first as u64 + in_frames(frames, inputs);
+    write_starts(out, prefix, circuit, starts, circuit.latches())
 }
 
 /// Writes what the inputs of the circuit unrolled for this many frames are, one line each, in order. An input of the
@@ -189,8 +246,5 @@ fn write_starts<W: Write>(
 pub fn write_input_map<W: Write>(circuit: &Circuit, frames: u32, out: &mut W) -> Result<(), Io>
     ensures { Writes W.written W.failures out.old out.new (map_text circuit.now frames) result }
 {
-    circuit.facts();
-    let inputs = input_count(circuit);
-    write_frames(out, circuit, inputs, frames)?;
-    write_starts(out, circuit, in_frames(frames, inputs), circuit.latches())
+    write_input_lines(b"", circuit, 0, frames, out)
 }

@@ -13,6 +13,7 @@ mod unrolling;
 mod unrolling_laws;
 
 pub use fault::UnrollFault;
-pub use input_map::write_input_map;
-pub use unrolling::unroll;
+pub use input_map::{write_input_lines, write_input_map};
+pub use limits::fits_limits;
+pub use unrolling::{unroll, unrolled_circuit};
 pub use unrolling_laws::{law_of_frame_literals, law_of_guards, law_of_input_map};

@@ -40,7 +40,7 @@ fn in_frames(frames: usize, count: usize) -> usize
 }
 
 /// Whether neither the number of frames, nor a variable, nor a section of the unrolled circuit is over its limit.
-pub(crate) fn fits_limits(circuit: &Circuit, frames: u32) -> bool
+pub fn fits_limits(circuit: &Circuit, frames: u32) -> bool
     ensures { IsTrue result ↔ FitsLimits circuit.now frames }
 {
     if frames > FRAMES {

@@ -60,8 +60,9 @@ fn unrolled_parts(
     })
 }
 
-// The circuit unrolled for this many frames, which is within the limits.
-fn unrolled_circuit(
+/// The circuit unrolled for this many frames, as `unroll` has it, where that is within the limits (`fits_limits`). It
+/// leaves out justice and fairness, which no other part depends on, and takes 0 frames too.
+pub fn unrolled_circuit(
     alloc: Global,
     circuit: &Circuit,
     levels: &Levels,

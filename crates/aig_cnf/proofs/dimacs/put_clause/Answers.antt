@@ -1,4 +1,4 @@
-use Rattle.std.proofs.Common.{ap, List, ℕ, take, ◌∙◌, sym, arith}
+use Rattle.std.proofs.Common.{ap, arith}
 use Rattle.std.specs.List.{flat_map}
 use Rattle.std.proofs.lemmas.List.{take_all}
 use Rattle.aig_cnf.specs.Dimacs.{clause_text, literal_text}

@@ -1,4 +1,4 @@
-use Rattle.std.proofs.Common.{ℕ, List, ◌+◌, ◌*◌, ◌∷◌, [], length, ap, ap₂, sym, ◌∙◌}
+use Rattle.std.proofs.Common.{◌+◌, ◌∷◌, [], ap, ap₂}
 use Rattle.std.specs.List.{flat_map}
 use Rattle.aig_bytes.proofs.GatherLemmas.{gathers_then, gathers_stop, gathers_failed, gathers_same}
 use Rattle.aig_cnf.specs.Dimacs.{clause_text, gate_text, problem_line}

@@ -1,4 +1,4 @@
-use Rattle.std.proofs.Common.{ap, ap₂, sym, ◌∙◌, ◌∷◌, [], ℕ}
+use Rattle.std.proofs.Common.{ap, ap₂, sym, ◌∙◌, ◌∷◌, []}
 use Rattle.std.proofs.lemmas.List.{append-nil}
 use Rattle.aig_parts.specs.Literal.{negation}
 use Rattle.aig_cnf.specs.Dimacs.{clause_text, gate_text}

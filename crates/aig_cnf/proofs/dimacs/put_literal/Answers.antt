@@ -1,5 +1,5 @@
-use Rattle.std.proofs.Common.{◌+◌, ◌∷◌, ◌++◌, [], ap, List, ℕ, decimal}
-use Rattle.aig_cnf.specs.Dimacs.{sign_text, literal_text}
+use Rattle.std.proofs.Common.{◌+◌, ◌∷◌, ◌++◌, [], ap, decimal}
+use Rattle.aig_cnf.specs.Dimacs.{literal_text}
 use Rattle.aig_bytes.proofs.GatherLemmas.{gathers_then, gathers_stop, gathers_failed, gathers_same}
 use Rattle.aig_cnf.proofs.dimacs.put_literal.Goals as goal
 

@@ -1,4 +1,3 @@
-use Rattle.std.proofs.Common.{ap}
 use Rattle.aig_cnf.specs.Dimacs.{problem_line}
 use Rattle.aig_bytes.proofs.GatherLemmas.{gathers_then, gathers_stop, gathers_failed}
 use Rattle.aig_cnf.proofs.dimacs.put_problem.Goals as goal

@@ -1,9 +1,25 @@
-use Rattle.aig_bytes.proofs.WriteLemmas.{writes_same}
-use Rattle.aig_bytes.proofs.GatherLemmas.{written_part, written_whole}
+use Rattle.std.proofs.Common.{◌+◌, ◌++◌, ap}
+use Rattle.aig_bytes.proofs.WriteLemmas.{writes_then, writes_stop, writes_same}
+use Rattle.aig_cnf.specs.CnfText.{goal_lines}
+use Rattle.aig_cnf.specs.Dimacs.{formula_text}
+use Rattle.aig_cnf.specs.Formula.{bad_formula}
+use Rattle.aig_cnf.proofs.FormulaText.{unrolled_bad}
 use Rattle.aig_cnf.proofs.dimacs.write_formula.Goals as goal
 
-pub returns-in_err-put_formula : goal.returns-in_err-put_formula
-returns-in_err-put_formula g c = written_part c.new-block.ensures c.in_err-put_formula.ensures c.from_residual.ensures.0
+pub write_goals_and_formula-requires-clause-property : goal.write_goals_and_formula-requires-clause-property
+write_goals_and_formula-requires-clause-property g c = rw c.bad_count.ensures c.requires.property
+
+pub write_goals_and_formula-requires-clause-bad : goal.write_goals_and_formula-requires-clause-bad
+write_goals_and_formula-requires-clause-bad g c =
+    rw c.bad_count.ensures (unrolled_bad c.args.circuit.now c.args.unrolled.now c.args.frames c.requires.unrolled)
+
+pub returns-in_err-write_input_lines : goal.returns-in_err-write_input_lines
+returns-in_err-write_input_lines g c = writes_stop _ c.in_err-write_input_lines.ensures c.from_residual.ensures.0
 
 pub returns : goal.returns
-returns g c = written_whole c.new-block.ensures c.in_ok-put_formula.ensures (writes_same c.write_all.ensures c.as_slice.ensures)
+returns g c =
+    let new = c.args.unrolled.now in
+    let k = c.args.frames in
+    let p = c.args.property in
+    writes_then c.in_ok-write_input_lines.ensures (writes_same c.write_goals_and_formula.ensures
+    (ap (λ n. goal_lines new n k p ++ formula_text (new.max_var + 1) (bad_formula new n k p)) c.bad_count.ensures))

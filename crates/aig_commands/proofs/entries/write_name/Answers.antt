@@ -14,7 +14,7 @@ returns-in-Some g c =
     writes_same c.write_all.ensures
     (name_found raw.symbols kind p name
     (subst (λ (s : List (Key × List ℕ)). Contains s ((kind, p), name)) c.symbols.ensures c.in-Some.ensures.some)
-    c.max_var-max_var.ensures.circuit.formed.names)
+    c.facts.ensures.formed.names)
 
 pub returns-in-None : goal.returns-in-None
 returns-in-None g c =

@@ -8,7 +8,7 @@ loop-place-init g c = record { few = omega arith; partly = partly_none c.args.ou
 pub returns-in_err-position : goal.returns-in_err-position
 returns-in_err-position g c =
     partly_stops _ c.loop-place.invariant.partly
-    (starts_step c.args.circuit.now c.loop-place.position c.loop-place.place c.index-latches-place.result
+    (starts_step c.args.prefix.now c.args.circuit.now c.loop-place.position c.loop-place.place c.index-latches-place.result
     c.args.latches.now c.loop-place-test.true c.index-latches-place.is)
     c.in_err-position.ensures.written c.from_residual.ensures.0
 
@@ -16,7 +16,7 @@ pub loop-place-preserved : goal.loop-place-preserved
 loop-place-preserved g c = record {
   few = omega (arith, c.loop-place.invariant.few, c.in_ok-position.ensures.few);
   partly = partly_more c.loop-place.invariant.partly
-      (starts_next c.args.circuit.now c.loop-place.position c.in_ok-position.position c.loop-place.place
+      (starts_next c.args.prefix.now c.args.circuit.now c.loop-place.position c.in_ok-position.position c.loop-place.place
       c.index-latches-place.result c.args.latches.now c.loop-place-test.true c.index-latches-place.is
       c.in_ok-position.ensures.next_position)
       c.in_ok-position.ensures.written;
@@ -25,4 +25,4 @@ loop-place-preserved g c = record {
 pub returns : goal.returns
 returns g c =
     partly_done c.loop-place.invariant.partly
-    (starts_end c.args.circuit.now c.loop-place.position c.loop-place.place c.args.latches.now c.loop-place-test.false)
+    (starts_end c.args.prefix.now c.args.circuit.now c.loop-place.position c.loop-place.place c.args.latches.now c.loop-place-test.false)

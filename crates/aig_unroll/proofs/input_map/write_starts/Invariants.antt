@@ -7,6 +7,6 @@ abbrev pub invariant-loop-place : goal.invariant-loop-place
 invariant-loop-place g l = record {
   few : l.position ≤ l.first + l.place;
   partly : Partly g.W.Write.written g.W.Write.failures l.initial.out l.out
-      (origin_lines l.circuit l.first (start_origins 0 l.latches))
-      (origin_lines l.circuit l.position (start_origins l.place (drop l.place l.latches)));
+      (origin_lines l.prefix l.circuit l.first (start_origins 0 l.latches))
+      (origin_lines l.prefix l.circuit l.position (start_origins l.place (drop l.place l.latches)));
 }

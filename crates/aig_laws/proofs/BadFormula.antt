@@ -1,13 +1,13 @@
 -- The formula of a bad state: its models, and the rows that are in them.
 use Rattle.std.proofs.Common.{◌≡◌, ◌≢◌, ◌⊎◌, inl, inr, ℕ, zero, suc, ◌+◌, ◌-◌, ◌*◌, ◌%◌, ◌<◌, ◌≤◌, Bool, true, false, not, ◌&&◌, ◌||◌}
-use Rattle.std.proofs.Common.{List, [], ◌∷◌, ◌++◌, length, map, flat_map, Some, slice_get, slice_index, get_or, All, Contains}
+use Rattle.std.proofs.Common.{List, [], ◌∷◌, ◌++◌, length, flat_map, Some, slice_get, slice_index, get_or, All}
 use Rattle.std.proofs.Common.{refl, sym, ◌∙◌, ap, ap₂, subst, arith}
-use Rattle.std.specs.List.{list_all, range_with_len}
+use Rattle.std.specs.List.{list_all}
 use Rattle.std.proofs.lemmas.List.{ext_get_or}
 use Rattle.std.proofs.lemmas.List.FromFn.{length-map-range_with_len, get_or-map-range_with_len}
 use Rattle.std.proofs.lemmas.List.Elements.{All-nil, All-cons, All-weaker}
 use Rattle.std.proofs.lemmas.Option.{slice_get-get_or, slice_get_within, get_or_from_slice_get}
-use Rattle.aig_parts.specs.Literal.{variable, negation}
+use Rattle.aig_parts.specs.Literal.{variable}
 use Rattle.aig_parts.specs.declared.gate.Gate.{Gate}
 use Rattle.aig_parts.specs.declared.raw.Raw.{Raw}
 use Rattle.aig_parts.specs.declared.ternary.Tern.{Tern}
@@ -18,7 +18,7 @@ use Rattle.aig_base.specs.Grounded as grounded
 use Rattle.aig_base.specs.Grounded.{Grounded, IsAcyclic, IsSource}
 use Rattle.aig_base.specs.Order.{IsCanonicalOrder}
 use Rattle.aig_base.specs.Renumbered.{evens}
-use Rattle.aig_base.specs.Sections.{IsDefined, IsGate, definitions, uses}
+use Rattle.aig_base.specs.Sections.{IsGate, definitions, uses}
 use Rattle.aig_base.specs.Sound.{IsInRange}
 use Rattle.aig_base.specs.Value as value
 use Rattle.aig_base.specs.Value.{Value, Fits}
@@ -39,9 +39,10 @@ use Rattle.aig_unroll.proofs.UnrolledReady.{IsReadyGate, gates_ready, unrolled_r
 use Rattle.aig_unroll.proofs.UnrolledRow.{evens_at, frames_at, place_at}
 use Rattle.aig_laws.proofs.UnrolledWitnesses.{confirms_row}
 use Rattle.aig_laws.specs.UnrolledWitness.{MakesBad}
-use Rattle.aig_cnf.specs.Formula.{is_true, meets, Satisfies, gate_clauses, goals}
-use Rattle.aig_cnf.specs.Models.{tern_of, values_of, AreKnown, NamesWitness, IsInModel, formula_of}
-use Rattle.aig_cnf.proofs.Tseitin.{and_both, both_and, assigned, known, gates_met, meets_gates, one_met, meets_one, true_even, true_below, true_odd, signs}
+use Rattle.aig_cnf.specs.Formula.{is_true, meets, Satisfies, formula_of, gate_clauses, goals}
+use Rattle.aig_laws.specs.Models.{tern_of, values_of, AreKnown, NamesWitness, IsInModel}
+use Rattle.aig_cnf.proofs.SignLemmas.{signs}
+use Rattle.aig_laws.proofs.Tseitin.{and_both, both_and, assigned, known, gates_met, meets_gates, one_met, meets_one, true_even, true_below}
 
 -- ---- the unrolled circuit
 

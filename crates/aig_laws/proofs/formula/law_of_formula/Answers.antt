@@ -1,5 +1,5 @@
-use Rattle.aig_cnf.proofs.BadFormula.{names_witness, in_model}
-use Rattle.aig_cnf.proofs.formula.law_of_formula.Goals as goal
+use Rattle.aig_laws.proofs.BadFormula.{names_witness, in_model}
+use Rattle.aig_laws.proofs.formula.law_of_formula.Goals as goal
 
 pub returns-clause-model : goal.returns-clause-model
 returns-clause-model c = λ raw order k p values circuit canonical. names_witness raw circuit order canonical k p values

@@ -1,15 +1,14 @@
 -- What an assignment says of a circuit: the input values of the unrolled circuit, and so a run.
-use Rattle.std.specs.Prelude.{◌≡◌, ◌≢◌, ℕ, ◌+◌, ◌<◌, Bool, true, false, List, map, length, All}
+use Rattle.std.specs.Prelude.{◌≡◌, ◌≢◌, ℕ, ◌<◌, Bool, true, false, List, map, All}
 use Rattle.std.specs.List.{range_with_len}
 use Rattle.aig_parts.specs.declared.raw.Raw.{Raw}
 use Rattle.aig_parts.specs.declared.ternary.Tern.{Tern}
 use Rattle.aig_parts.specs.declared.ternary.Tern.TheVariants.{Zero, One, X}
-use Rattle.aig_cnf.specs.Formula.{Satisfies, bad_formula}
-use Rattle.aig_laws.specs.UnrolledWitness.{MakesBad, witness_in}
+use Rattle.aig_cnf.specs.Formula.{Satisfies, formula_of}
+use Rattle.aig_laws.specs.UnrolledWitness.{witness_in}
 use Rattle.aig_sim.specs.Verdict.{IsVerdict}
 use Rattle.aig_sim.specs.declared.verdict.Verdict.TheVariants as verdict
 use Rattle.aig_unroll.specs.FrameLiteral.{input_count}
-use Rattle.aig_unroll.specs.Unrolled.{unrolled}
 
 abbrev pub tern_of : Bool → Tern
 tern_of false = Zero
@@ -27,10 +26,6 @@ AreKnown row = All (λ w. w ≢ X) row
 abbrev pub NamesWitness : Raw → ℕ → ℕ → (ℕ → Bool) → Type 0
 NamesWitness raw k p values =
     (t : ℕ) × (t < k) × IsVerdict raw (witness_in raw k t p (values_of raw k values)) verdict.Confirmed
-
--- the formula of bad literal p within k frames
-abbrev pub formula_of : Raw → List ℕ → ℕ → ℕ → List (List ℕ)
-formula_of raw order k p = bad_formula (unrolled raw order k) (length raw.bad) k p
 
 -- some assignment satisfies the formula, and has these values of the inputs
 abbrev pub IsInModel : Raw → List ℕ → ℕ → ℕ → List Tern → Type 0

@@ -5,8 +5,8 @@ ghost use Rattle.aig_parts.specs.declared.raw.Raw.{Raw};
 ghost use Rattle.aig_parts.specs.declared.ternary.Tern.{Tern};
 ghost use Rattle.aig_base.specs.Circuit.{IsCircuit};
 ghost use Rattle.aig_base.specs.Order.{IsCanonicalOrder};
-ghost use Rattle.aig_cnf.specs.Formula.{Satisfies};
-ghost use Rattle.aig_cnf.specs.Models.{AreKnown, IsInModel, NamesWitness, formula_of};
+ghost use Rattle.aig_cnf.specs.Formula.{Satisfies, formula_of};
+ghost use Rattle.aig_laws.specs.Models.{AreKnown, IsInModel, NamesWitness};
 ghost use Rattle.aig_laws.specs.UnrolledWitness.{MakesBad};
 ghost use Rattle.aig_unroll.specs.FrameLiteral.{input_count};
 

@@ -1,6 +1,6 @@
 -- A circuit without latches, and an assignment that makes each gate an AND.
-use Rattle.std.proofs.Common.{◌≡◌, ◌≢◌, ◌⊎◌, inl, inr, ℕ, zero, suc, ◌+◌, ◌-◌, ◌*◌, ◌%◌, ◌<◌, ◌≤◌, nat_eq, Bool, true, false}
-use Rattle.std.proofs.Common.{not, ◌&&◌, ◌||◌, if◌then◌else◌, IsTrue, List, [], ◌∷◌, ◌++◌, length, flat_map, Some, slice_get}
+use Rattle.std.proofs.Common.{◌≡◌, ◌≢◌, inl, inr, ℕ, zero, suc, ◌+◌, ◌-◌, ◌%◌, Bool, true, false}
+use Rattle.std.proofs.Common.{not, ◌&&◌, ◌||◌, List, [], ◌∷◌, flat_map, Some, slice_get}
 use Rattle.std.proofs.Common.{refl, sym, ◌∙◌, ap, ap₂, subst, arith}
 use Rattle.std.specs.List.{list_all, list_any}
 use Rattle.std.proofs.lemmas.List.Folds.{list_all-append}
@@ -8,14 +8,14 @@ use Rattle.std.proofs.lemmas.List.Concat.{flat_map-cons}
 use Rattle.aig_parts.specs.Literal.{variable, negation, IsNegated}
 use Rattle.aig_parts.specs.Ternary.{kleene_and, kleene_not}
 use Rattle.aig_parts.specs.declared.gate.Gate.{Gate}
-use Rattle.aig_parts.specs.declared.latch.Latch.{Latch}
 use Rattle.aig_parts.specs.declared.raw.Raw.{Raw}
 use Rattle.aig_parts.specs.declared.ternary.Tern.{Tern}
 use Rattle.aig_parts.specs.declared.ternary.Tern.TheVariants.{Zero, One, X}
 use Rattle.aig_base.specs.Value as value
 use Rattle.aig_base.specs.Value.{Value}
 use Rattle.aig_cnf.specs.Formula.{is_true, meets, Satisfies, gate_clauses}
-use Rattle.aig_cnf.specs.Models.{tern_of}
+use Rattle.aig_cnf.proofs.SignLemmas.{signs}
+use Rattle.aig_laws.specs.Models.{tern_of}
 
 -- ---- literals
 
@@ -35,9 +35,6 @@ true_below a l e =
 not_twice : (b : Bool) → not (not b) ≡ b
 not_twice true = refl
 not_twice false = refl
-
-pub signs : (l : ℕ) → (l % 2 ≡ 0) ⊎ (l % 2 ≡ 1)
-signs l = grind arith
 
 pub true_negation : (a : ℕ → Bool) (l : ℕ) → is_true a (negation l) ≡ not (is_true a l)
 true_negation a l = elim (signs l) [
