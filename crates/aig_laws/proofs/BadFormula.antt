@@ -30,6 +30,7 @@ use Rattle.aig_base.proofs.lists.Gets.{All-at}
 use Rattle.aig_base.proofs.circuits.Places.{gate, IsDefinition-of_definitions}
 use Rattle.aig_base.proofs.lists.Joined.{All-right}
 use Rattle.aig_base.proofs.lists.Positions.{unmap}
+use Rattle.aig_base.proofs.renumbered.RenumberedCircuit.{ready_acyclic}
 use Rattle.aig_base.proofs.values.OneValue.{exists_value}
 use Rattle.aig_base.proofs.values.UniqueValue.{unique}
 use Rattle.aig_unroll.specs.FrameLiteral.{input_count}
@@ -50,34 +51,9 @@ module _ (raw : Raw) (circuit : IsCircuit raw) (order : List ℕ) (canonical : I
   abbrev C : Raw
   C = unrolled raw order k
 
-  -- by the size of the variable
-  grounded_below : (n v : ℕ) → v < n → v ≤ C.max_var → Grounded C v
-  grounded_below zero v lt le = absurd (omega arith)
-  grounded_below (suc n) v lt le =
-      go (defined_cases C v (defined_to C (unrolled_ready raw circuit order canonical k).in_order v le)) (grounded_below n)
-    where
-      from_gate : ((u : ℕ) → u < n → u ≤ C.max_var → Grounded C u)
-          → (g : Gate) × (q : ℕ) × (slice_get C.gates q ≡ Some g) × (variable g.lhs ≡ v) → Grounded C v
-      from_gate below (g, q, at, is) =
-          let h = subst (IsReadyGate C.max_var) (get_or_from_slice_get C.gates q g g at)
-          (gates_ready raw circuit order canonical k q g (slice_get_within C.gates q g at)) in
-          let (even, over) = IsDefinition-of_definitions C
-          (unrolled_sound raw circuit order canonical k).definitions (gate q) g.lhs tt (g, at, refl) in
-          subst (Grounded C) is (grounded.Grounded.gate q g at
-          (below (variable g.rhs0) (omega (arith, h.first, is, lt, even)) (omega (arith, h.first, is, le, even)))
-          (below (variable g.rhs1) (omega (arith, h.first, h.second, is, lt, even))
-          (omega (arith, h.first, h.second, is, le, even))))
-
-      go : IsSource C v ⊎ IsGate C v → ((u : ℕ) → u < n → u ≤ C.max_var → Grounded C u) → Grounded C v
-      go (inl source) below = grounded.Grounded.source v source
-      go (inr is_gate) below = from_gate below (unmap (λ (g : Gate). variable g.lhs) C.gates v is_gate)
-
   acyclic : IsAcyclic C
-  acyclic v is_gate =
-      let (g, q, at, is) = unmap (λ (g : Gate). variable g.lhs) C.gates v is_gate in
-      let h = subst (IsReadyGate C.max_var) (get_or_from_slice_get C.gates q g g at)
-      (gates_ready raw circuit order canonical k q g (slice_get_within C.gates q g at)) in
-      grounded_below (suc v) v (omega arith) (omega (arith, h.within, is))
+  acyclic = ready_acyclic C (unrolled_ready raw circuit order canonical k)
+      (All-right (IsInRange C) (definitions C) (uses C) (unrolled_sound raw circuit order canonical k).in_range)
 
   fits_row : (row : List Tern) → length row ≡ input_count raw k → Fits C [] (row ∷ [])
   fits_row row wide = record {
