@@ -118,34 +118,23 @@ impl Cause {
 
 impl fmt::Display for Cause {
     fn fmt<W: fmt::Write>(&self, f: &mut fmt::Formatter<W>) -> fmt::Result {
-        match self {
-            Cause::Empty => write!(f, "the file is empty"),
-            Cause::ByteOrderMark => {
-                write!(
-                    f,
-                    "the file begins with a byte-order mark, three bytes that an editor added"
-                )
-            }
-            Cause::Gzip => write!(f, "the file is compressed with gzip"),
-            Cause::Verilog => write!(f, "the file is Verilog"),
-            Cause::Blif => write!(f, "the file is BLIF"),
-            Cause::OfAbc => write!(f, "the file is in a format of ABC's own (write_aiger -c)"),
-            Cause::Witness => write!(f, "the file is a witness"),
-            Cause::Stimulus => write!(f, "the file is a stimulus"),
-            Cause::BinaryWithCr | Cause::TextWithCr => write!(f, "lines end with CR LF"),
-            Cause::CommentWithoutNewline => {
-                write!(
-                    f,
-                    "the file ends with `c` and no newline, as ABC writes it with -u"
-                )
-            }
-            Cause::CommentOnLine => {
-                write!(
-                    f,
-                    "ABC's &w and write_xaiger of yosys write records of their own after `c`"
-                )
-            }
-            Cause::CutOff => write!(f, "something is missing at the end"),
-        }
+        let text = match self {
+            Cause::Empty => "the file is empty",
+            Cause::ByteOrderMark =>
+                "the file begins with a byte-order mark, three bytes that an editor added",
+            Cause::Gzip => "the file is compressed with gzip",
+            Cause::Verilog => "the file is Verilog",
+            Cause::Blif => "the file is BLIF",
+            Cause::OfAbc => "the file is in a format of ABC's own (write_aiger -c)",
+            Cause::Witness => "the file is a witness",
+            Cause::Stimulus => "the file is a stimulus",
+            Cause::BinaryWithCr | Cause::TextWithCr => "lines end with CR LF",
+            Cause::CommentWithoutNewline =>
+                "the file ends with `c` and no newline, as ABC writes it with -u",
+            Cause::CommentOnLine =>
+                "ABC's &w and write_xaiger of yosys write records of their own after `c`",
+            Cause::CutOff => "something is missing at the end",
+        };
+        f.write_str(text)
     }
 }

@@ -43,16 +43,17 @@ impl fmt::Display for Place {
 
 impl fmt::Display for Found {
     fn fmt<W: fmt::Write>(&self, f: &mut fmt::Formatter<W>) -> fmt::Result {
-        match self.0 {
-            None => write!(f, "the file ends here"),
-            Some(b'\n') => write!(f, "found a newline"),
-            Some(b'\r') => write!(f, "found \\x0d (CR)"),
-            Some(b'\t') => write!(f, "found \\x09 (a tab)"),
+        let text = match self.0 {
+            None => "the file ends here",
+            Some(b'\n') => "found a newline",
+            Some(b'\r') => "found \\x0d (CR)",
+            Some(b'\t') => "found \\x09 (a tab)",
             Some(byte @ 32..=126) => {
                 let character = char::from(byte);
-                write!(f, "found '{character}'")
+                return write!(f, "found '{character}'");
             }
-            Some(byte) => write!(f, "found \\x{byte:02x}"),
-        }
+            Some(byte) => return write!(f, "found \\x{byte:02x}"),
+        };
+        f.write_str(text)
     }
 }

@@ -50,17 +50,18 @@ impl Section {
 
 impl fmt::Display for Section {
     fn fmt<W: fmt::Write>(&self, f: &mut fmt::Formatter<W>) -> fmt::Result {
-        match self {
-            Section::Input => write!(f, "input"),
-            Section::Latch => write!(f, "latch"),
-            Section::Output => write!(f, "output"),
-            Section::Bad => write!(f, "bad state property"),
-            Section::Constraint => write!(f, "constraint"),
-            Section::JusticeSize => write!(f, "the size of justice property"),
-            Section::JusticeLiteral => write!(f, "justice literal"),
-            Section::Fairness => write!(f, "fairness constraint"),
-            Section::Gate => write!(f, "gate"),
-            Section::End => write!(f, "no entry"),
-        }
+        let name = match self {
+            Section::Input => "input",
+            Section::Latch => "latch",
+            Section::Output => "output",
+            Section::Bad => "bad state property",
+            Section::Constraint => "constraint",
+            Section::JusticeSize => "the size of justice property",
+            Section::JusticeLiteral => "justice literal",
+            Section::Fairness => "fairness constraint",
+            Section::Gate => "gate",
+            Section::End => "no entry",
+        };
+        f.write_str(name)
     }
 }

@@ -92,49 +92,47 @@ impl Wanted {
 
 impl fmt::Display for Wanted {
     fn fmt<W: fmt::Write>(&self, f: &mut fmt::Formatter<W>) -> fmt::Result {
-        match self {
-            Wanted::Format => write!(f, "`aag` or `aig`, and a space"),
-            Wanted::Number => write!(f, "a number"),
-            Wanted::NoLeadingZero => write!(f, "a number without leading zeros"),
-            Wanted::HeaderNumber => write!(f, "at most 4,194,303"),
-            Wanted::BodyNumber => write!(f, "at most 8,388,607"),
-            Wanted::SmallerSum => write!(f, "sizes with a sum of at most 4,194,303"),
-            Wanted::Space => write!(f, "a space"),
-            Wanted::Newline => write!(f, "a newline"),
-            Wanted::SpaceOrNewline => write!(f, "a space or a newline"),
-            Wanted::Delta { low, high } => write!(f, "a delta from {low} to {high}"),
-            Wanted::ShortDelta => write!(f, "the shortest form of a delta, of at most four bytes"),
-            Wanted::WholeDelta => write!(f, "a delta that ends before the file does"),
-            Wanted::SymbolLetter => write!(
-                f,
-                "a symbol (i l o b c j f), a comment (c), or the end of the file"
-            ),
-            Wanted::AfterC => write!(
-                f,
-                "a newline, which begins the comment, or the position of a constraint"
-            ),
-            Wanted::Position(0) => write!(f, "no symbol of this section, which is empty"),
-            Wanted::Position(count) => write!(f, "a position below {count}"),
-            Wanted::NewPosition => write!(f, "the position of an entry that has no name yet"),
-            Wanted::Name => write!(f, "a name of at least one byte"),
-            Wanted::NameEnd => write!(f, "a newline after the name"),
-        }
+        let text = match self {
+            Wanted::Format => "`aag` or `aig`, and a space",
+            Wanted::Number => "a number",
+            Wanted::NoLeadingZero => "a number without leading zeros",
+            Wanted::HeaderNumber => "at most 4,194,303",
+            Wanted::BodyNumber => "at most 8,388,607",
+            Wanted::SmallerSum => "sizes with a sum of at most 4,194,303",
+            Wanted::Space => "a space",
+            Wanted::Newline => "a newline",
+            Wanted::SpaceOrNewline => "a space or a newline",
+            Wanted::Delta { low, high } => return write!(f, "a delta from {low} to {high}"),
+            Wanted::ShortDelta => "the shortest form of a delta, of at most four bytes",
+            Wanted::WholeDelta => "a delta that ends before the file does",
+            Wanted::SymbolLetter =>
+                "a symbol (i l o b c j f), a comment (c), or the end of the file",
+            Wanted::AfterC =>
+                "a newline, which begins the comment, or the position of a constraint",
+            Wanted::Position(0) => "no symbol of this section, which is empty",
+            Wanted::Position(count) => return write!(f, "a position below {count}"),
+            Wanted::NewPosition => "the position of an entry that has no name yet",
+            Wanted::Name => "a name of at least one byte",
+            Wanted::NameEnd => "a newline after the name",
+        };
+        f.write_str(text)
     }
 }
 
 impl fmt::Display for Count {
     fn fmt<W: fmt::Write>(&self, f: &mut fmt::Formatter<W>) -> fmt::Result {
-        match self {
-            Count::Variables => write!(f, "the maximum variable index M"),
-            Count::Inputs => write!(f, "the number of inputs I"),
-            Count::Latches => write!(f, "the number of latches L"),
-            Count::Outputs => write!(f, "the number of outputs O"),
-            Count::Gates => write!(f, "the number of gates A"),
-            Count::Bad => write!(f, "the number of bad state properties B"),
-            Count::Constraints => write!(f, "the number of constraints C"),
-            Count::Justice => write!(f, "the number of justice properties J"),
-            Count::Fairness => write!(f, "the number of fairness constraints F"),
-        }
+        let name = match self {
+            Count::Variables => "the maximum variable index M",
+            Count::Inputs => "the number of inputs I",
+            Count::Latches => "the number of latches L",
+            Count::Outputs => "the number of outputs O",
+            Count::Gates => "the number of gates A",
+            Count::Bad => "the number of bad state properties B",
+            Count::Constraints => "the number of constraints C",
+            Count::Justice => "the number of justice properties J",
+            Count::Fairness => "the number of fairness constraints F",
+        };
+        f.write_str(name)
     }
 }
 
