@@ -3,7 +3,7 @@
 # the words that it takes, `file`, or nothing.
 
 _aig() {
-    local commands="toaig sim wave bench unroll check info help"
+    local commands="toaig sim wave bench unroll check cnf info help"
     local -A options=(
         [toaig]="--to --explain --help"
         [sim]="--explain --help"
@@ -11,11 +11,13 @@ _aig() {
         [bench]="--circuit-out --stimulus-out --explain --help"
         [unroll]="--frames --to --map --explain --help"
         [check]="--trace --explain --help"
+        [cnf]="--frames --property --explain --help"
         [info]="--names --explain --help"
     )
     local -A values=(
         [--to]="aag aig"
         [--frames]=""
+        [--property]=""
         [--map]="file"
         [--circuit-out]="file"
         [--stimulus-out]="file"

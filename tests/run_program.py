@@ -7,6 +7,7 @@ examples, and from library/reference.py, a plain simulator and workbench."""
 from library import runs
 from program.bench import bench
 from program.check import check
+from program.cnf import cnf
 from program.completions import completions
 from program.descriptors import descriptors
 from program.diagnostics import diagnostics
@@ -27,8 +28,8 @@ from program.wave import wave
 from program.words import words
 
 PARTS = {"bench": bench, "kept": kept, "owners": owners, "descriptors": descriptors, "words": words, "sim": sim,
-         "wave": wave, "check": check, "replays": replays, "toaig": toaig, "unroll": unroll, "info": info,
-         "help": helps, "pages": pages, "completions": completions, "diagnostics": diagnostics, "explain": explain,
+         "wave": wave, "check": check, "replays": replays, "toaig": toaig, "unroll": unroll, "cnf": cnf,
+         "info": info, "help": helps, "pages": pages, "completions": completions, "diagnostics": diagnostics, "explain": explain,
          "explain_option": explain_option, "needs": needs, "talks": talks}
 
 if __name__ == "__main__":

@@ -9,7 +9,7 @@ from faults.refusing import Refusing
 from library.circuits import TEXTS, write_all
 from library.runs import EXAMPLES, Ended, LeftOut, write
 
-MEMORY = re.compile(rb"aig: ((circuit|stimulus|witness|unroll|bench|script): )?memory\n")
+MEMORY = re.compile(rb"aig: ((circuit|stimulus|witness|unroll|cnf|bench|script): )?memory\n")
 TWO_GATES = [f"{EXAMPLES}/two_gates.{ending}" for ending in ("aag", "stim", "script")]
 
 # Runs of which each allocation is refused in turn.
@@ -24,6 +24,7 @@ RUNS = (
     ("unroll to text", ["unroll", "--frames", "3", "--to", "aag", "guarded_latch"]),
     ("unroll to binary", ["unroll", "--frames", "3", "--to", "aig", "guarded_latch"]),
     ("unroll with a map", ["unroll", "--frames", "3", "--to", "aag", "--map", "map", "guarded_latch"]),
+    ("cnf", ["cnf", "--frames", "3", "guarded_latch"]),
     ("check", ["check", f"{EXAMPLES}/wraps.aag", f"{EXAMPLES}/wraps.wit"]),
     ("check with a trace", ["check", "--trace", f"{EXAMPLES}/wraps.aag", f"{EXAMPLES}/wraps.wit"]),
     ("wave of a witness", ["wave", "--witness", f"{EXAMPLES}/wraps.aag", f"{EXAMPLES}/wraps.wit"]),

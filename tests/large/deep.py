@@ -141,6 +141,15 @@ class Runs:
         else:
             self.run("unroll", *words)
 
+    def formula(self):
+        words = ("cnf", "--frames", "1", "text")
+        if self.shape is not properties:
+            self.run("cnf", *words, status=1, said=b"aig: cnf: property\n", text=b"")
+        elif self.size == MANY:
+            self.run("cnf", *words, status=1, said=b"aig: cnf: limit\n", text=b"")
+        else:
+            self.run("cnf", *words)
+
     def verdict(self):
         if self.shape is properties:
             self.run("check", "check", "text", "witness", text=b"confirmed\n")
@@ -172,6 +181,7 @@ def runs_on(program, tally, shape, size):
     runs.simulation()
     runs.bench()
     runs.unrolling()
+    runs.formula()
     runs.verdict()
     return runs.done
 

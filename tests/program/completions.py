@@ -41,6 +41,8 @@ SPLIT = (
     (["unroll", "--map", "n"], ["notes"]),
     (["info", "w"], ["with space.aag"]),
     (["info", "n"], ["notes"]),
+    (["cnf", "--"], ["--explain", "--frames", "--help", "--property"]),
+    (["cnf", "--frames", "3", "--property", "=", "1", "a"], ["a.aag"]),
     (["sim", "a.aag", ""], ["a.aag", "b.aig", "notes", "rows.stim", "sub", "with space.aag"]),
     (["wave", "--witness", "a"], ["a.aag"]),
     (["check", "--trace", "a.aag", "ro"], ["rows.stim"]),

@@ -1,4 +1,4 @@
-"""What --explain says of a circuit, a stimulus, a witness, an unrolling and a bench: a row for each cause, with the
+"""What --explain says of a circuit, a stimulus, a witness, an unrolling, a formula and a bench: a row for each cause, with the
 lines after the first line and the line with the file's name. Files that are broken at random put no control byte on
 standard error."""
 
@@ -322,6 +322,15 @@ def others(rows):
                                "the unrolled circuit would have outputs: 4225000",
                                "the unrolled circuit would have bad state properties: 4225000",
                                "wanted: M and each count of at most 4,194,303; unroll for fewer frames"])
+    rows.row("no frames of a formula", ["cnf", "--frames", "0", "bad_input"], "cnf: no frames",
+             ["K is 0", "wanted: at least one frame"])
+    rows.row("a formula of another property", ["cnf", "--frames", "1", "--property", "7", "wraps"], "cnf: property",
+             ["P is 7, counted from 0", "the circuit has bad state properties: 1, outputs: 0"])
+    rows.row("a formula of an output", ["cnf", "--frames", "1", "toggle"], "cnf: property",
+             ["P is 0, counted from 0", "the circuit has bad state properties: 0, outputs: 2",
+              "a circuit of AIGER 1.0 has only outputs: see \"Witness\" in man aig-formats"])
+    rows.row("too many frames of a formula", ["cnf", "--frames", "65537", "wraps"], "cnf: limit",
+             ["K is 65537", "wanted: at most 65,536 frames"])
     rows.row("cells of a bench", ["bench", "many", write("f", "\n" * 17), write("s", "")], "bench: limit",
              ["M = 4194303 and 17 rows: (M + 1) * rows = 71303168", "wanted: at most 67,108,864; use fewer rows"])
 

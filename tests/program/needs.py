@@ -23,6 +23,7 @@ RUNS = (
      "examples/fifo.script"],
     ["unroll", "--frames", "3", "--to", "aag", "--map", "map", "examples/counter.aag"],
     ["check", "--trace", "examples/wraps.aag", "examples/wraps.wit"],
+    ["cnf", "--frames", "3", "examples/wraps.aag"],
     ["info", "examples/counter.aag"],
     ["--explain", "info", "examples/cyclic.aag"],
     ["--explain", "sim", "examples/counter.aag", "examples/counter.aag"],

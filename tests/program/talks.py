@@ -132,6 +132,7 @@ def talks(program, tally, _):
         ("wave, a closed pipe", closed, ("wave toggle", b"\n", b"stimulus")),
         ("toaig, a closed pipe", closed, ("toaig --to aag", two_gates, b"output")),
         ("unroll, a closed pipe", closed, ("unroll --frames 2 --to aag", two_gates, b"output")),
+        ("cnf, a closed pipe", closed, ("cnf --frames 2", TEXTS["bad_input"].encode(), b"output")),
     )
     for name, talk, details in held:
         try:

@@ -26,6 +26,9 @@ REFUSALS = (
     ("no number of frames", ["unroll", "--to", "aag", "two_gates"]),
     ("a number of frames over its limit", ["unroll", "--frames", "4294967296", "--to", "aag", "two_gates"]),
     ("a number of frames with a letter", ["unroll", "--frames", "2k", "--to", "aag", "two_gates"]),
+    ("no number of frames for a formula", ["cnf", "two_gates"]),
+    ("a position with a letter", ["cnf", "--frames", "2", "--property", "b0", "two_gates"]),
+    ("a position that is given twice", ["cnf", "--frames", "2", "--property", "0", "--property", "0", "two_gates"]),
     ("no format to unroll to", ["unroll", "--frames", "2", "two_gates"]),
 )
 
@@ -35,7 +38,7 @@ def words(program, tally, _):
     write_all()
     for word in ("--help", "-h", "help"):
         tells(rows, [word], contents(f"{EXPECTED}/help/aig.txt"))
-    for command in ("toaig", "sim", "wave", "bench", "unroll", "check", "info"):
+    for command in ("toaig", "sim", "wave", "bench", "unroll", "check", "cnf", "info"):
         for asked in ([command, "--help"], [command, "-h"], ["help", command]):
             tells(rows, asked, contents(f"{EXPECTED}/help/{command}.txt"))
     tells(rows, ["help", "help"], contents(f"{EXPECTED}/help/help.txt"))

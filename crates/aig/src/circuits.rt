@@ -1,11 +1,11 @@
-//! The tasks on a circuit alone: conversion, unrolling, and facts about it.
+//! The tasks on a circuit alone: conversion, unrolling, formulas, and facts about it.
 
 use crate::exit::Exit;
 use crate::files::{CIRCUIT, open, output, read_whole};
 use crate::kept::{begin_map, write_map};
 use crate::output_file::OutputFile;
 use aig_base::Std;
-use aig_commands::{info, toaig, unroll};
+use aig_commands::{cnf, info, toaig, unroll};
 use aig_format::Format;
 use std::fs::{Files, OpenFile};
 use std::io::Read;
@@ -97,6 +97,29 @@ where
     let mut out = output(rt);
     let circuit = unroll::unroll(rt.alloc(), circuit, frames, to, &mut out)?;
     write_map(rt, &circuit, frames, map)
+}
+
+/// Writes the formula that the bad state property at this position is reached within `frames` frames.
+pub fn formula<R: Files + AllocGlobal + Print>(
+    rt: &R,
+    frames: u32,
+    property: u32,
+    circuit: &str,
+) -> Result<(), Exit> {
+    let circuit = open(rt, circuit, CIRCUIT)?;
+    formula_file(rt, frames, property, circuit)
+}
+
+fn formula_file<R: AllocGlobal + Print, F: Read + Drop>(
+    rt: &R,
+    frames: u32,
+    property: u32,
+    circuit: F,
+) -> Result<(), Exit> {
+    let circuit = read_whole(rt.alloc(), circuit, CIRCUIT)?;
+    let mut out = output(rt);
+    cnf::cnf(rt.alloc(), circuit.as_slice(), frames, property, &mut out)?;
+    Ok(())
 }
 
 /// Writes facts about a circuit.

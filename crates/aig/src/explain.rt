@@ -7,8 +7,10 @@ use crate::output_look::{explain_output, explain_standard_output};
 use crate::task::Task;
 use aig_base::{Fault, Memory};
 use aig_bench::BenchFault;
+use aig_cnf::CnfFault;
 use aig_explain::{
-    Explanation, explain_bench, explain_circuit, explain_stimulus, explain_unroll, explain_witness,
+    Explanation, explain_bench, explain_circuit, explain_cnf, explain_stimulus, explain_unroll,
+    explain_witness,
 };
 use aig_fault::{RunFault, ScriptFault};
 use aig_sim::{StimFault, WitnessFault};
@@ -40,7 +42,7 @@ fn is_no(value: &str) -> bool {
     NO.iter().any(|no| value.eq_ignore_ascii_case(no))
 }
 
-/// The files of a task, and its number of frames.
+/// The files of a task, its number of frames and its property.
 #[derive(Clone, Copy)]
 struct TaskFiles<'a> {
     circuit: &'a str,
@@ -50,6 +52,7 @@ struct TaskFiles<'a> {
     kept: Kept<'a>,
     map: Option<&'a str>,
     frames: u32,
+    property: u32,
 }
 
 impl<'a> TaskFiles<'a> {
@@ -86,6 +89,15 @@ impl<'a> TaskFiles<'a> {
                 frames,
                 ..TaskFiles::new(circuit, None)
             },
+            Task::Cnf {
+                frames,
+                property,
+                circuit,
+            } => TaskFiles {
+                frames,
+                property,
+                ..TaskFiles::new(circuit, None)
+            },
         }
     }
 
@@ -100,6 +112,7 @@ impl<'a> TaskFiles<'a> {
             },
             map: None,
             frames: 0,
+            property: 0,
         }
     }
 }
@@ -126,6 +139,7 @@ fn explain_fault<R: Files + AllocGlobal + Print + Eprint>(
         RunFault::Bench(fault) => of_bench(rt, files, fault),
         RunFault::Script(fault) => of_script(rt, files, fault),
         RunFault::Unroll(fault) => of_unroll(rt, files, fault),
+        RunFault::Cnf(fault) => of_cnf(rt, files, fault),
         RunFault::Output => of_output(rt, files),
         RunFault::Memory => note(rt, MORE_MEMORY),
     }
@@ -256,6 +270,30 @@ fn of_unroll_text<R: Files + AllocGlobal + Eprint>(
         Ok(file) => print(
             rt,
             explain_unroll(rt.alloc(), file.as_slice(), files.frames, fault),
+        ),
+        Err(obstacle) => obstacle.explain(rt),
+    }
+}
+
+fn of_cnf<R: Files + AllocGlobal + Eprint>(rt: &R, files: &TaskFiles<'_>, fault: CnfFault) {
+    match fault {
+        CnfFault::Memory => note(rt, MORE_MEMORY),
+        _ => of_cnf_text(rt, files, fault),
+    }
+}
+
+fn of_cnf_text<R: Files + AllocGlobal + Eprint>(rt: &R, files: &TaskFiles<'_>, fault: CnfFault) {
+    note_name(rt, files.circuit);
+    match read_again(rt, files.circuit) {
+        Ok(file) => print(
+            rt,
+            explain_cnf(
+                rt.alloc(),
+                file.as_slice(),
+                files.frames,
+                files.property,
+                fault,
+            ),
         ),
         Err(obstacle) => obstacle.explain(rt),
     }

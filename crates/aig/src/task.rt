@@ -1,6 +1,6 @@
 //! The tasks that the arguments choose.
 
-use crate::circuits::{convert, info, info_names, unroll};
+use crate::circuits::{convert, formula, info, info_names, unroll};
 use crate::exit::Exit;
 use crate::kept::Kept;
 use crate::simulations::{bench, simulate, wave};
@@ -47,6 +47,11 @@ pub enum Task<'a> {
         witness: &'a str,
         with_trace: bool,
     },
+    Cnf {
+        frames: u32,
+        property: u32,
+        circuit: &'a str,
+    },
     Info {
         circuit: &'a str,
     },
@@ -66,6 +71,7 @@ impl<'a> Task<'a> {
             "bench" => bench_of(matches),
             "unroll" => unrolling_of(matches),
             "check" => check_of(matches),
+            "cnf" => formula_of(matches),
             "info" => info_of(matches),
             _ => None,
         }
@@ -98,6 +104,11 @@ impl<'a> Task<'a> {
                 witness,
                 with_trace,
             } => check(rt, circuit, witness, with_trace),
+            Task::Cnf {
+                frames,
+                property,
+                circuit,
+            } => formula(rt, frames, property, circuit),
             Task::Info { circuit } => info(rt, circuit),
             Task::InfoNames { circuit } => info_names(rt, circuit),
         }
@@ -169,6 +180,14 @@ fn check_of<'a>(matches: &ArgMatches<'a>) -> Option<Task<'a>> {
         circuit: text_of(matches, "CIRCUIT")?,
         witness: text_of(matches, "WITNESS")?,
         with_trace: has_flag(matches, "trace"),
+    })
+}
+
+fn formula_of<'a>(matches: &ArgMatches<'a>) -> Option<Task<'a>> {
+    Some(Task::Cnf {
+        frames: number_of(matches, "K")?,
+        property: number_of(matches, "P").unwrap_or(0),
+        circuit: text_of(matches, "CIRCUIT")?,
     })
 }
 

@@ -114,6 +114,21 @@ a dot.
 Example: aig check examples/wraps.aag examples/wraps.wit
 See also: man aig, man 5 aig-formats";
 
+static AFTER_CNF: &str =
+    "An assignment that satisfies the formula is a run in which property P is 1 at
+one of the frames 0 to K - 1, and all constraints are 1 at the frames up to it.
+If there is no such run, no assignment satisfies it. cnf ignores justice
+properties and fairness constraints.
+
+Comment lines say what the variables are. Positions and frames count from 0:
+  c i V T P NAME  variable V is input P at frame T
+  c l V P NAME    variable V is the initial value of latch P (uninitialised)
+  c b L T         literal L says that frame T is such a frame
+NAME is the symbol, if there is one. Variable 1 is false.
+
+Example: aig cnf --frames 20 examples/wraps.aag > wraps.cnf
+See also: man aig, man 5 aig-formats";
+
 static AFTER_INFO: &str = "A line has a name, one space and a value. The names, in this order:
   format         format of the file, aag or aig
   variables      maximum variable index (M)
@@ -202,6 +217,12 @@ fn script_argument<'a>(alloc: Global) -> Arg<'a> {
 fn frames_argument<'a>(alloc: Global) -> Arg<'a> {
     let frames = argument(alloc, "K", "Number of frames, from 1 to 65536");
     number(frames.long("frames"))
+}
+
+fn property_argument<'a>(alloc: Global) -> Arg<'a> {
+    let property = Arg::new(alloc, "P")
+        .help("Position of the bad state property (0 if it is omitted)");
+    number(property.long("property"))
 }
 
 fn map_argument<'a>(alloc: Global) -> Arg<'a> {
@@ -354,6 +375,15 @@ fn check_command<'a>(alloc: Global) -> Result<Command<'a>, AllocError> {
         .arg(witness_argument(alloc))
 }
 
+fn cnf_command<'a>(alloc: Global) -> Result<Command<'a>, AllocError> {
+    Command::new(alloc, "cnf")
+        .about("Print a formula for SAT solvers: a bad state within K frames")
+        .after_help(AFTER_CNF)
+        .arg(frames_argument(alloc))?
+        .arg(property_argument(alloc))?
+        .arg(circuit_argument(alloc))
+}
+
 fn info_command<'a>(alloc: Global) -> Result<Command<'a>, AllocError> {
     Command::new(alloc, "info")
         .about("Print facts about a circuit, one per line")
@@ -386,7 +416,8 @@ fn command_line<'a>(alloc: Global) -> Result<Command<'a>, AllocError> {
     let last = with_subcommand(wave, bench_command(alloc))?;
     let more = with_subcommand(last, unroll_command(alloc))?;
     let checks = with_subcommand(more, check_command(alloc))?;
-    with_subcommand(checks, info_command(alloc))
+    let formulas = with_subcommand(checks, cnf_command(alloc))?;
+    with_subcommand(formulas, info_command(alloc))
 }
 
 /// Parses the arguments; the first is the program's name.

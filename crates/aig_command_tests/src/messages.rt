@@ -1,13 +1,14 @@
 //! Texts of messages.
 use aig_base::{Fault, Io, Memory, WouldCycle};
 use aig_bench::BenchFault;
+use aig_cnf::CnfFault;
 use aig_fault::{RunFault, ScriptFault};
 use aig_sim::{StimFault, WitnessFault};
 use aig_unroll::UnrollFault;
 use std::alloc::Global;
 use std::fmt::Display;
 
-static MESSAGES: [(RunFault, &str); 23] = [
+static MESSAGES: [(RunFault, &str); 27] = [
     (RunFault::Circuit(Fault::Cycle(2)), "circuit: cycle 2"),
     (RunFault::Circuit(Fault::Memory), "circuit: memory"),
     (
@@ -46,6 +47,10 @@ static MESSAGES: [(RunFault, &str); 23] = [
     (RunFault::Unroll(UnrollFault::Liveness), "unroll: liveness"),
     (RunFault::Unroll(UnrollFault::Limit), "unroll: limit"),
     (RunFault::Unroll(UnrollFault::Memory), "unroll: memory"),
+    (RunFault::Cnf(CnfFault::NoFrames), "cnf: no frames"),
+    (RunFault::Cnf(CnfFault::Property), "cnf: property"),
+    (RunFault::Cnf(CnfFault::Limit), "cnf: limit"),
+    (RunFault::Cnf(CnfFault::Memory), "cnf: memory"),
 ];
 
 // Whether this is the text of a value.

@@ -5,6 +5,7 @@ mod bench;
 mod body;
 mod circuit;
 mod circuit_parts;
+mod cnf;
 mod cycle;
 mod explanation;
 mod header;
@@ -23,6 +24,7 @@ mod witness_text;
 
 pub use bench::explain_bench;
 pub use circuit::explain_circuit;
+pub use cnf::explain_cnf;
 pub use explanation::{Explanation, escaped};
 pub use stimulus::explain_stimulus;
 pub use unrolling::explain_unroll;

@@ -65,7 +65,8 @@ fn push_count(lines: &mut Explanation, name: &str, count: u64) -> Result<(), Mem
     lines.add(format_args!("the unrolled circuit would have {name} {count}"))
 }
 
-fn push_limit(lines: &mut Explanation, circuit: &[u8], frames: u32) -> Result<(), Memory> {
+/// Adds lines for what is over its limit in a circuit unrolled for so many frames.
+pub(crate) fn push_limit(lines: &mut Explanation, circuit: &[u8], frames: u32) -> Result<(), Memory> {
     if frames > FRAMES {
         lines.add(format_args!("K is {frames}"))?;
         return lines.add("wanted: at most 65,536 frames");
@@ -96,7 +97,8 @@ fn push_liveness(lines: &mut Explanation, circuit: &[u8]) -> Result<(), Memory> 
     lines.add("wanted: none of them; remove these sections")
 }
 
-fn push_no_frames(lines: &mut Explanation, frames: u32) -> Result<(), Memory> {
+/// Adds lines for a number of frames that is 0.
+pub(crate) fn push_no_frames(lines: &mut Explanation, frames: u32) -> Result<(), Memory> {
     lines.add(format_args!("K is {frames}"))?;
     lines.add("wanted: at least one frame")
 }

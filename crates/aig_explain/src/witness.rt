@@ -33,13 +33,11 @@ fn push_text(lines: &mut Explanation, header: Option<Header>, file: &[u8]) -> Re
     }
 }
 
-fn push_property(
+/// Adds lines for how many bad state properties the circuit has.
+pub(crate) fn push_bad_count(
     lines: &mut Explanation,
     header: Option<Header>,
-    file: &[u8],
 ) -> Result<(), Memory> {
-    let named = shortened(lines.alloc(), TextLines::of(file).line(2))?;
-    lines.add(format_args!("line 2 names the bad state property {named}, counted from b0"))?;
     let Some(Header { bad, outputs, .. }) = header else {
         return lines.add("the circuit has fewer of them");
     };
@@ -48,6 +46,16 @@ fn push_property(
         lines.add("a circuit of AIGER 1.0 has only outputs: see \"Witness\" in man aig-formats")?;
     }
     Ok(())
+}
+
+fn push_property(
+    lines: &mut Explanation,
+    header: Option<Header>,
+    file: &[u8],
+) -> Result<(), Memory> {
+    let named = shortened(lines.alloc(), TextLines::of(file).line(2))?;
+    lines.add(format_args!("line 2 names the bad state property {named}, counted from b0"))?;
+    push_bad_count(lines, header)
 }
 
 fn push_limit(lines: &mut Explanation, file: &[u8]) -> Result<(), Memory> {

@@ -1,0 +1,131 @@
+"""Formulas of small random circuits (`aig cnf`), beside library/reference.py: for each assignment of the variables that
+the comment lines name, unit propagation gives the bad literals the values that the run has, and satisfies the formula
+exactly where the run reaches the bad state. One satisfying assignment of each formula is a confirmed witness."""
+
+import itertools
+
+from at_random.cases import Wrong, each
+from at_random.replays import circuit_to_check, started
+from library.reference import literal, values
+from library.runs import Ended, refused, write
+
+# The most variables that are given all values.
+MOST = 8
+
+
+class Formula:
+    """A text in DIMACS: what its comment lines name, and its clauses."""
+
+    def __init__(self, text):
+        rows = [line.split(" ") for line in text.splitlines()]
+        head = [row for row in rows if row[:2] == ["p", "cnf"]]
+        self.inputs = {(int(row[3]), int(row[4])): int(row[2]) for row in rows if row[:2] == ["c", "i"]}
+        self.starts = {int(row[3]): int(row[2]) for row in rows if row[:2] == ["c", "l"]}
+        self.goals = [int(row[2]) for row in rows if row[:2] == ["c", "b"]]
+        self.clauses = [[int(word) for word in row[:-1]] for row in rows if row[0] not in "cp"]
+        greatest = max(abs(l) for clause in self.clauses for l in clause)
+        if len(head) != 1 or int(head[0][3]) != len(self.clauses) or greatest > int(head[0][2]):
+            raise Wrong(f"the counts {head} are not those of the clauses")
+        if any(row[-1] != "0" for row in rows if row[0] not in "cp"):
+            raise Wrong("a clause without its 0")
+
+
+def propagated(clauses, true):
+    """The literals that are true by unit propagation, and whether a clause is false then."""
+    true = set(true)
+    found = True
+    while found:
+        found = False
+        for clause in clauses:
+            if any(l in true for l in clause):
+                continue
+            free = [l for l in clause if -l not in true]
+            if not free:
+                return true, True
+            if len(free) == 1:
+                true.add(free[0])
+                found = True
+    return true, False
+
+
+def names_of(text, parts, frames):
+    """The comment lines that name inputs and starts."""
+    symbols = dict(line.split(" ", 1) for line in text.split("\nc\n")[0].splitlines() if line[0] in "il")
+    free = [p for p, (lit, _, reset) in enumerate(parts.latches) if reset == lit]
+    width = len(parts.inputs)
+    lines = [f"c i {t * width + p + 2} {t} {p} {symbols.get(f'i{p}', '')}\n" for t in range(frames) for p in range(width)]
+    return "".join(lines + [f"c l {frames * width + u + 2} {p} {symbols.get(f'l{p}', '')}\n" for u, p in enumerate(free)])
+
+
+def run_of(formula, parts, frames, true):
+    """The start and the rows that an assignment names."""
+    def value(variable):
+        return "1" if variable in true else "0"
+
+    start = [value(formula.starts[p]) if p in formula.starts else str(latch[2]) for p, latch in enumerate(parts.latches)]
+    return start, [[value(formula.inputs[t, p]) for p in range(len(parts.inputs))] for t in range(frames)]
+
+
+def bad_frames(text, parts, start, rows, bad):
+    """For each frame whether the bad state is reached there: it is bad, and all constraints were 1 so far."""
+    reached, held = [], True
+    for known in values(started(text, start), rows):
+        held = held and all(literal(known, l) == "1" for l in parts.constraints)
+        reached.append(held and literal(known, parts.bad[bad]) == "1")
+    return reached
+
+
+def small_circuit(rng, frames):
+    while True:
+        text, parts = circuit_to_check(rng)
+        free = sum(reset == lit for lit, _, reset in parts.latches)
+        if frames * len(parts.inputs) + free <= MOST:
+            return text, parts
+
+
+def case(program, rng):
+    """Compares a formula with all runs, and answers whether one satisfies it."""
+    frames = rng.randrange(1, 5)
+    text, parts = small_circuit(rng, frames)
+    bad = rng.randrange(len(parts.bad) + (rng.randrange(8) == 0))
+    write("circuit", text)
+    ended = program.run("cnf", "--frames", str(frames), "--property", str(bad), "circuit")
+    if bad == len(parts.bad):
+        if ended != refused("cnf: property"):
+            raise Wrong(f"{ended} at a property that is not there")
+        return "refused"
+    said = ended.out.decode()
+    if (ended.status, ended.err) != (0, b"") or not said.startswith(names_of(text, parts, frames) + "c b "):
+        raise Wrong(f"other lines: {ended}")
+    formula = Formula(said)
+    if len(formula.goals) != frames or formula.clauses[:2] != [[-1], formula.goals]:
+        raise Wrong(f"other goals: {said}")
+    variables = [*formula.inputs.values(), *formula.starts.values()]
+    gates = [formula.clauses[0], *formula.clauses[2:]]
+    model = None
+    for signs in itertools.product((1, -1), repeat=len(variables)):
+        true = [sign * variable for sign, variable in zip(signs, variables)]
+        start, rows = run_of(formula, parts, frames, set(true))
+        wanted = bad_frames(text, parts, start, rows, bad)
+        known, is_false = propagated(gates, true)
+        got = [l in known for l in formula.goals]
+        if is_false or got != wanted or not all((l in known) != (-l in known) for l in formula.goals):
+            raise Wrong(f"{got} at {true}, wanted {wanted}")
+        if propagated(formula.clauses, true)[1] == any(wanted):
+            raise Wrong(f"satisfied or not at {true}, wanted {any(wanted)}")
+        if any(wanted):
+            model = start, rows[:wanted.index(True) + 1]
+    if model is None:
+        return "unsatisfiable"
+    start, rows = model
+    write("witness", f"1\nb{bad}\n{''.join(start)}\n" + "".join("".join(row) + "\n" for row in rows) + ".\n")
+    if program.run("check", "circuit", "witness") != Ended(0, b"confirmed\n", b""):
+        raise Wrong(f"the run of {model} is not confirmed")
+    return "satisfiable"
+
+
+def formulas(program, tally, chosen):
+    answers = []
+    each("formulas", tally, chosen, lambda rng: answers.append(case(program, rng)))
+    counted = ", ".join(f"{answers.count(word)} {word}" for word in sorted(set(answers)))
+    return f"cases of seed {chosen.seed}, {counted}: "

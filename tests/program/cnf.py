@@ -1,0 +1,77 @@
+"""Rows of `aig cnf`: formulas with known bytes, and refusals."""
+
+from library.circuits import TEXTS, write_all
+from library.runs import write
+from program.rows import Rows
+
+# A free latch, and one that is not named; names with blanks.
+STARTS = ("aag 6 2 4 0 0 1\n2\n4\n6 2 1\n8 4 8\n10 2\n12 10 12\n12\ni0 in\nl0 not free\nl3 free one\nb0 in\n")
+# A latch that starts at 0 and negates itself, as a bad literal.
+TOGGLES = "aag 1 0 1 0 0 1\n2 3\n2\n"
+# 64 inputs, one of which is bad.
+WIDE = "aag 64 64 0 0 0 1\n" + "".join(f"{2 * at}\n" for at in range(1, 65)) + "2\n"
+
+# What is asked for, the circuit, and what is written.
+FORMULAS = (
+    ("a bad literal that is a negated input", "--frames 1 negated", "aag 1 1 0 0 0 1\n2\n3\n",
+     "c i 2 0 0 \nc b -2 0\np cnf 2 2\n-1 0\n-2 0\n"),
+    ("no inputs, and constants as bad literals", "--frames 3 toggles", TOGGLES,
+     "c b 1 0\nc b -1 1\nc b 1 2\np cnf 1 2\n-1 0\n1 -1 1 0\n"),
+    ("no latches, and no gates", "--frames 2 --property 1 two", "aag 1 1 0 0 0 2\n2\n2\n3\n",
+     "c i 2 0 0 \nc i 3 1 0 \nc b -2 0\nc b -3 1\np cnf 3 2\n-1 0\n-2 -3 0\n"),
+    ("the constant 0", "--frames 1 constants", "aag 0 0 0 0 0 2\n0\n1\n", "c b 1 0\np cnf 1 2\n-1 0\n1 0\n"),
+    ("the constant 1", "--property 1 --frames 1 constants", "aag 0 0 0 0 0 2\n0\n1\n",
+     "c b -1 0\np cnf 1 2\n-1 0\n-1 0\n"),
+    ("uninitialised latches, and names", "--frames 2 --property 0 starts", STARTS,
+     "c i 2 0 0 in\nc i 3 0 1 \nc i 4 1 0 in\nc i 5 1 1 \nc l 6 1 \nc l 7 3 free one\nc b 7 0\nc b 1 1\n"
+     "p cnf 7 2\n-1 0\n7 1 0\n"),
+    ("a constraint", "--frames 2 guarded", TEXTS["guarded"],
+     "c i 2 0 0 \nc i 3 0 1 \nc i 4 1 0 \nc i 5 1 1 \nc b 7 0\nc b 9 1\np cnf 9 14\n-1 0\n7 9 0\n"
+     "-6 3 0\n-6 -1 0\n6 -3 1 0\n-7 6 0\n-7 2 0\n7 -6 -2 0\n-8 6 0\n-8 5 0\n8 -6 -5 0\n-9 8 0\n-9 4 0\n9 -8 -4 0\n"),
+    ("justice and fairness, which are ignored", "--frames 1 sections", TEXTS["sections"],
+     "c i 2 0 0 in\nc l 3 0 state\nc b 6 0\np cnf 6 11\n-1 0\n6 0\n"
+     "-4 3 0\n-4 2 0\n4 -3 -2 0\n-5 3 0\n-5 -1 0\n5 -3 1 0\n-6 5 0\n-6 4 0\n6 -5 -4 0\n"),
+)
+
+REFUSALS = (
+    ("no frames", "--frames 0 guarded", "cnf: no frames"),
+    ("no frames before no property", "--frames 0 --property 1 guarded", "cnf: no frames"),
+    ("no property", "--frames 1 --property 1 guarded", "cnf: property"),
+    ("no bad state property at all", "--frames 1 one_gate", "cnf: property"),
+    ("no property before a limit", "--frames 65537 --property 1 guarded", "cnf: property"),
+    ("the greatest position", "--frames 1 --property 4294967295 guarded", "cnf: property"),
+    ("more frames than there may be", "--frames 65537 bad_input", "cnf: limit"),
+    ("the greatest number of frames", "--frames 4294967295 bad_input", "cnf: limit"),
+    ("a variable over its limit", "--frames 65536 wide_bad", "cnf: limit"),
+    ("justice and fairness before a limit", "--frames 65537 sections", "cnf: limit"),
+    ("a refused circuit", "--frames 2 cycle", "circuit: cycle 2"),
+    ("a refused circuit before no frames", "--frames 0 --property 7 cycle", "circuit: cycle 2"),
+)
+
+
+def cnf(program, tally, _):
+    rows = Rows("cnf", program, tally)
+    write_all()
+    write("wide_bad", WIDE)
+    for name, words, circuit, text in FORMULAS:
+        write(words.split(" ")[-1], circuit)
+        rows.gives(name, f"cnf {words}", text)
+    for name, words, fault in REFUSALS:
+        rows.refuses(name, f"cnf {words}", fault)
+    rows.fails("no file", "cnf --frames 2 nowhere", "circuit")
+    binary(rows)
+    many_frames(rows)
+
+
+def binary(rows):
+    """A circuit whose text is renumbered for the binary format has the same formula there."""
+    write("sections.aig", rows.program.run("toaig", "--to", "aig", "sections").out)
+    rows.gives("a binary circuit", "cnf --frames 1 sections.aig", FORMULAS[-1][3])
+
+
+def many_frames(rows):
+    """The greatest number of frames, in many blocks."""
+    frames = range(65536)
+    text = "".join(f"c i {at + 2} {at} 0 \n" for at in frames) + "".join(f"c b {at + 2} {at}\n" for at in frames)
+    text += "p cnf 65537 2\n-1 0\n" + "".join(f"{at + 2} " for at in frames) + "0\n"
+    rows.gives("the greatest number of frames", "cnf --frames 65536 bad_input", text)
