@@ -93,11 +93,11 @@ def module_of(file):
 
 
 def types(crate, files):
-    """The modules of a crate's types, by their names."""
+    """The modules of a crate's types, by their names and, where two have one name, by file and name."""
     found = {}
     for file in files:
         for name in re.findall(r"(?m)^(?:pub(?:\(crate\))? )?(?:struct|enum) (\w+)", (crate / file).read_text()):
-            found[name] = module_of(file)
+            found[name] = found[file, name] = module_of(file)
     return found
 
 
@@ -130,16 +130,16 @@ def functions(crate, file, homes):
     module = owner = ""
     lines = (crate / file).read_text().split("\n")
     for number, line in enumerate(lines):
-        block = re.match(r"(?:pub )?(?:impl|trait)\b(?:<.*?>)?\s+(.*?)\s*\{?$", line)
+        block = re.match(r"(?:pub(?:\(crate\))? )?(?:impl|trait)\b(?:<.*?>)?\s+(.*?)\s*\{?$", line)
         if block and not line.startswith((" ", "impl Model")):
-            head = re.sub(r"\bwhere\b.*|:.*", "", block[1])
+            head = re.sub(r"\bwhere\b.*|(?<!:):(?!:).*", "", block[1])
             trait, _, of = head.rpartition(" for ")
             of = re.match(r"\w+", of)[0]
             inner = re.match(r"([\w:]+)(?:<(.*)>)?$", trait.strip()) if trait else None
             # of From<AllocFailed<T>> the name has From and AllocFailed
-            given = re.match(r"&?(?:'\w+ )?([\w]+)", inner[2])[1] if inner and inner[2] else ""
+            given = re.match(r"&?(?:'\w+ )?([\w:]+)", inner[2])[1] if inner and inner[2] else ""
             owner = of + (inner[1].split("::")[-1] + camel(given) if inner else "") + "::"
-            module = module_of(file) if inner else homes.get(of, module_of(file))
+            module = module_of(file) if inner else homes.get((file, of), homes.get(of, module_of(file)))
         elif line == "}":
             module = owner = ""
         at = re.match(r"(\s*)(?:pub(?:\(crate\))? )?fn (\w+)", line)
@@ -265,7 +265,9 @@ def take_as_proved(crate, room, taken):
     for function in taken:
         *path, name = function.name.split("::")
         folder = room.joinpath("proofs", *path, name)
-        shutil.rmtree(folder, ignore_errors=True)
+        # one that calls itself has its proof under a name of its own, and calls nothing now
+        for old in (folder, folder.with_name(f"+{name}")):
+            shutil.rmtree(old, ignore_errors=True)
         folder.mkdir(parents=True)
         statement = ".".join(["Rattle", crate.name, "proofs", *path, name, "Statement"])
         hole = f"pub {name}_spec : {{M : Type 1}} → statement M\n{name}_spec = ?\n"
