@@ -220,8 +220,9 @@ fn frames_argument<'a>(alloc: Global) -> Arg<'a> {
 }
 
 fn property_argument<'a>(alloc: Global) -> Arg<'a> {
-    let property = Arg::new(alloc, "P")
-        .help("Position of the bad state property (0 if it is omitted)");
+    let property = Arg::new(alloc, "P").help(
+        "Position of the bad state property (0 if it is omitted)",
+    );
     number(property.long("property"))
 }
 

@@ -66,7 +66,11 @@ fn push_count(lines: &mut Explanation, name: &str, count: u64) -> Result<(), Mem
 }
 
 /// Adds lines for what is over its limit in a circuit unrolled for so many frames.
-pub(crate) fn push_limit(lines: &mut Explanation, circuit: &[u8], frames: u32) -> Result<(), Memory> {
+pub(crate) fn push_limit(
+    lines: &mut Explanation,
+    circuit: &[u8],
+    frames: u32,
+) -> Result<(), Memory> {
     if frames > FRAMES {
         lines.add(format_args!("K is {frames}"))?;
         return lines.add("wanted: at most 65,536 frames");
