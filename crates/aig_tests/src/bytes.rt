@@ -48,7 +48,9 @@ fn blocks(rt: HostRuntime) {
     right &= block.push_firsts((*b"abcd", 2), (*b"yyyy", 0));
     right &= block.as_slice() == b"4294967295 0\nab".as_slice();
     right &= block.append(&[b'x'; 40_000]) == 32_753;
-    right &= !block.push(b'y') && !block.push_field(7, b'y') && !block.push_firsts((*b"yyyy", 1), (*b"yyyy", 0));
+    right &= !block.push(b'y')
+        && !block.push_field(7, b'y')
+        && !block.push_firsts((*b"yyyy", 1), (*b"yyyy", 0));
     right &= block.append(b"y") == 0;
     right &= block.as_slice().len() == 32_768;
     assert!(rt; right);
@@ -60,8 +62,14 @@ static LINES: [([u32; 3], &[u8]); 6] = [
     ([99, 100, 999], b"99 100 999\n"),
     ([1_000, 9_999, 10_000], b"1000 9999 10000\n"),
     ([99_999, 100_000, 999_999], b"99999 100000 999999\n"),
-    ([1_000_000, 8_388_607, 9_999_999], b"1000000 8388607 9999999\n"),
-    ([10_000_000, 12_345_678, 99_999_999], b"10000000 12345678 99999999\n"),
+    (
+        [1_000_000, 8_388_607, 9_999_999],
+        b"1000000 8388607 9999999\n",
+    ),
+    (
+        [10_000_000, 12_345_678, 99_999_999],
+        b"10000000 12345678 99999999\n",
+    ),
 ];
 
 // Whether a block takes the line after so many bytes exactly where there is room for the longest one.
