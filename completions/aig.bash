@@ -11,7 +11,7 @@ _aig() {
         [bench]="--circuit-out --stimulus-out --explain --help"
         [unroll]="--frames --to --map --explain --help"
         [check]="--trace --explain --help"
-        [info]="--explain --help"
+        [info]="--names --explain --help"
     )
     local -A values=(
         [--to]="aag aig"

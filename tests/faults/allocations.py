@@ -29,6 +29,7 @@ RUNS = (
     ("wave of a witness", ["wave", "--witness", f"{EXAMPLES}/wraps.aag", f"{EXAMPLES}/wraps.wit"]),
     ("info", ["info", f"{EXAMPLES}/two_gates.aag"]),
     ("info of all sections", ["info", "sections"]),
+    ("names", ["info", "--names", "sections"]),
 )
 
 # Four gates read an input without memory, so that the fifth takes some: where that is refused, the edits after it see

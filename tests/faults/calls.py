@@ -9,8 +9,9 @@ from library.runs import Ended, LeftOut, input_or_output, write
 
 ONE_GATE, TWO_GATES = TEXTS["one_gate"].encode(), TEXTS["two_gates"].encode()
 BAD_INPUT, CYCLE = TEXTS["bad_input"].encode(), TEXTS["cycle"].encode()
-FACTS = (b"format aag\nvariables 3\ninputs 2\nlatches 0\noutputs 1\ngates 1\nbad 0\nconstraints 0\njustice 0\n"
-         b"fairness 0\nuninitialised 0\nlevels 1\nfanout 1\nsymbols 0\ncomment 0\nready no\n")
+SECTIONS = TEXTS["sections"].encode()
+FACTS = (b"format aag\nvariables 3\ninputs 2\nlatches 0\noutputs 1\ngates 1\nbad 0\nconstant 0\nconstraints 0\n"
+         b"justice 0\nfairness 0\nuninitialised 0\nresets 0\nlevels 1\nfanout 1\nsymbols 0\ncomment 0\nready no\n")
 UNROLLED = b"aag 8 4 0 2 4\n2\n4\n6\n8\n12\n16\n10 4 2\n12 10 2\n14 8 6\n16 14 6\n"
 
 HEADER = b"""$version aig $end
@@ -65,6 +66,9 @@ RUNS = (
      0, b"", [b"aig 8 4 0 2 4\n12\n16\n\x06\x02\x02\x08\x06\x02\x02\x08"]),
     ("info", [("circuit", ONE_GATE)], "output", 0, b"", [FACTS]),
     ("info", [("circuit", CYCLE)], "output", 1, b"aig: circuit: cycle 2\n", [b""]),
+    ("info --names", [("circuit", SECTIONS)], "output", 0, b"",
+     [b"i 0 2 in\nl 0 4 state\no 0 6 \nb 0 6 \nc 0 4 \nj 0 - \nf 0 4 \n"]),
+    ("info --names", [("circuit", CYCLE)], "output", 1, b"aig: circuit: cycle 2\n", [b""]),
     ("check", [("circuit", BAD_INPUT), ("witness", b"1\nb0\n\n1\n.\n")], "output", 0, b"", [b"confirmed\n"]),
     ("check", [("circuit", BAD_INPUT), ("witness", b"1\nb0\n\nx\n.\n")], "output", 1, b"", [b"not bad\n"]),
     ("check --trace", [("circuit", BAD_INPUT), ("witness", b"1\nb0\n\nx\n.\n")], "output",

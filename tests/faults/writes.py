@@ -10,6 +10,7 @@ from library.runs import Ended, LeftOut, input_or_output, refused, write
 
 ROWS = "11\n" * 3000
 MANY_FRAMES = "1\nb0\n\n" + "0\n1\n" * 5000 + ".\n"
+MANY_INPUTS = "aag 5000 5000 0 0 0\n" + "".join(f"{2 * at}\n" for at in range(1, 5001))
 OUTPUT, STIMULUS, SCRIPT = (input_or_output(part) for part in ("output", "stimulus", "script"))
 CYCLE = refused("circuit: cycle 2")
 
@@ -23,6 +24,9 @@ RUNS = (
     ("unroll of more than a block", "unroll --frames 2000 --to aag one_gate", {}, OUTPUT),
     ("info", "info one_gate", {}, OUTPUT),
     ("info of a refused circuit", "info cycle", {}, CYCLE),
+    ("names", "info --names one_gate", {}, OUTPUT),
+    ("names of more than a block", "info --names many_inputs", {"many_inputs": MANY_INPUTS}, OUTPUT),
+    ("names of a refused circuit", "info --names cycle", {}, CYCLE),
     ("unroll of a refused circuit", "unroll --frames 2 --to aag cycle", {}, CYCLE),
     ("unroll of a circuit that is not unrolled", "unroll --frames 2 --to aag live", {}, refused("unroll: liveness")),
     ("sim", "sim one_gate rows", {"rows": "11\n"}, STIMULUS),

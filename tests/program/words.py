@@ -18,6 +18,8 @@ REFUSALS = (
     ("a flag that is given twice", ["wave", "--witness", "--witness", "two_gates", "two_gates"]),
     ("a flag with a value", ["check", "--trace=1", "two_gates", "two_gates"]),
     ("a flag of another command", ["sim", "--trace", "two_gates", "two_gates"]),
+    ("names of another command", ["toaig", "--names", "--to", "aag", "two_gates"]),
+    ("names of no circuit", ["info", "--names"]),
     ("a word that is not UTF-8", ["toaig", "--to", "aag", b"\xff"]),
     ("no format", ["toaig", "two_gates"]),
     ("an unknown format", ["toaig", "--to", "dot", "two_gates"]),

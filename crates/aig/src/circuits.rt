@@ -111,3 +111,16 @@ fn info_file<R: AllocGlobal + Print, F: Read + Drop>(rt: &R, circuit: F) -> Resu
     info::info(rt.alloc(), circuit.as_slice(), &mut out)?;
     Ok(())
 }
+
+/// Writes the entries of a circuit with their names.
+pub fn info_names<R: Files + AllocGlobal + Print>(rt: &R, circuit: &str) -> Result<(), Exit> {
+    let circuit = open(rt, circuit, CIRCUIT)?;
+    info_names_file(rt, circuit)
+}
+
+fn info_names_file<R: AllocGlobal + Print, F: Read + Drop>(rt: &R, circuit: F) -> Result<(), Exit> {
+    let mut circuit = Std::new(circuit);
+    let mut out = output(rt);
+    info::info_names(rt.alloc(), &mut circuit, &mut out)?;
+    Ok(())
+}

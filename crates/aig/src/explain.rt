@@ -55,7 +55,8 @@ struct TaskFiles<'a> {
 impl<'a> TaskFiles<'a> {
     fn of(task: Task<'a>) -> TaskFiles<'a> {
         match task {
-            Task::Convert { circuit, .. } | Task::Info { circuit } => TaskFiles::new(circuit, None),
+            Task::Convert { circuit, .. } | Task::Info { circuit } | Task::InfoNames { circuit } =>
+                TaskFiles::new(circuit, None),
             Task::Simulate { circuit, stimulus } | Task::Wave { circuit, stimulus } => {
                 TaskFiles::new(circuit, Some(stimulus))
             }

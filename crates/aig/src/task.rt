@@ -1,6 +1,6 @@
 //! The tasks that the arguments choose.
 
-use crate::circuits::{convert, info, unroll};
+use crate::circuits::{convert, info, info_names, unroll};
 use crate::exit::Exit;
 use crate::kept::Kept;
 use crate::simulations::{bench, simulate, wave};
@@ -50,6 +50,9 @@ pub enum Task<'a> {
     Info {
         circuit: &'a str,
     },
+    InfoNames {
+        circuit: &'a str,
+    },
 }
 
 impl<'a> Task<'a> {
@@ -96,6 +99,7 @@ impl<'a> Task<'a> {
                 with_trace,
             } => check(rt, circuit, witness, with_trace),
             Task::Info { circuit } => info(rt, circuit),
+            Task::InfoNames { circuit } => info_names(rt, circuit),
         }
     }
 }
@@ -169,7 +173,10 @@ fn check_of<'a>(matches: &ArgMatches<'a>) -> Option<Task<'a>> {
 }
 
 fn info_of<'a>(matches: &ArgMatches<'a>) -> Option<Task<'a>> {
-    Some(Task::Info {
-        circuit: text_of(matches, "CIRCUIT")?,
-    })
+    let circuit = text_of(matches, "CIRCUIT")?;
+    if has_flag(matches, "names") {
+        Some(Task::InfoNames { circuit })
+    } else {
+        Some(Task::Info { circuit })
+    }
 }

@@ -117,9 +117,14 @@ See also: man aig, man 5 aig-formats";
 static AFTER_INFO: &str = "A line has a name, one space and a value. The names, in this order:
   format         format of the file, aag or aig
   variables      maximum variable index (M)
-  inputs, latches, outputs, gates, bad, constraints, justice, fairness
+  inputs, latches, outputs, gates, bad
+                 number of entries of each kind
+  constant       number of bad state properties that are the literal 0 (never
+                 true) or 1 (always true)
+  constraints, justice, fairness
                  number of entries of each kind
   uninitialised  number of latches that start at any value
+  resets         number of latches that start at 1
   levels         greatest level: inputs and latches have level 0, and a gate is
                  one level above the higher of its right sides
   fanout         largest fan-out of any variable
@@ -127,7 +132,16 @@ static AFTER_INFO: &str = "A line has a name, one space and a value. The names, 
   comment        length of the comment in bytes
   ready          yes if the aig format can hold the circuit as it is, else no
 
+With --names, info prints one line per entry instead, in the order of the file:
+inputs, latches, outputs, bad state properties, constraints, justice properties
+and fairness constraints. A line is LETTER POSITION LITERAL NAME:
+  LETTER    i, l, o, b, c, j or f, as in the symbols of a circuit
+  POSITION  position in its section, counted from 0
+  LITERAL   the literal; - for a justice property, which has several
+  NAME      the symbol; nothing if there is none, after the space
+
 Example: aig info examples/counter.aag
+Example: aig info --names examples/fifo.aag
 See also: man aig, man 5 aig-formats";
 
 static AFTER_ALL: &str = "Environment:
@@ -244,6 +258,10 @@ fn trace_flag<'a>(alloc: Global) -> Arg<'a> {
     )
 }
 
+fn names_flag<'a>(alloc: Global) -> Arg<'a> {
+    flag(alloc, "names", "Print the entries with their names instead")
+}
+
 /// The place in a help of an option that every command has: after its own options.
 const LAST: usize = 90;
 
@@ -340,6 +358,7 @@ fn info_command<'a>(alloc: Global) -> Result<Command<'a>, AllocError> {
     Command::new(alloc, "info")
         .about("Print facts about a circuit, one per line")
         .after_help(AFTER_INFO)
+        .arg(names_flag(alloc))?
         .arg(circuit_argument(alloc))
 }
 

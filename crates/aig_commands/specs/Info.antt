@@ -5,6 +5,7 @@ use Rattle.std.specs.List.{flat_map}
 use Rattle.std.specs.Fmt.{decimal}
 use Rattle.aig_parts.specs.declared.latch.Latch.{Latch}
 use Rattle.aig_parts.specs.declared.raw.Raw.{Raw}
+use Rattle.aig_parts.specs.Literal.{variable}
 use Rattle.aig_base.specs.Greatest.{IsGreatestFanOut, IsGreatestLevel}
 use Rattle.aig_base.specs.Renumbered.{IsBinaryReady}
 use Rattle.aig_format.specs.declared.header.Format.{Format}
@@ -31,6 +32,14 @@ IsInFormat Binary bytes raw = SpellsBinary bytes raw
 abbrev pub is_uninitialised : Latch → Bool
 is_uninitialised x = x.reset == x.lit
 
+-- the latch starts at 1 (AIGER 1.9, resets)
+abbrev pub starts_at_one : Latch → Bool
+starts_at_one x = x.reset == 1
+
+-- the literal is 0 or 1: a bad state property that never holds, or always
+abbrev pub is_constant : ℕ → Bool
+is_constant l = variable l == 0
+
 -- how many bytes a comment has; 0 where there is none
 abbrev pub comment_size : Option (List ℕ) → ℕ
 comment_size None = 0
@@ -54,9 +63,10 @@ abbrev pub numbers : Raw → Facts → List (List ℕ × ℕ)
 numbers raw facts =
     (codes "variables", raw.max_var) ∷ (codes "inputs", length raw.inputs) ∷ (codes "latches", length raw.latches)
     ∷ (codes "outputs", length raw.outputs) ∷ (codes "gates", length raw.gates) ∷ (codes "bad", length raw.bad)
-    ∷ (codes "constraints", length raw.constraints) ∷ (codes "justice", length raw.justice)
-    ∷ (codes "fairness", length raw.fairness) ∷ (codes "uninitialised", count_by is_uninitialised raw.latches)
-    ∷ (codes "levels", facts.levels) ∷ (codes "fanout", facts.fan_out) ∷ (codes "symbols", length raw.symbols)
+    ∷ (codes "constant", count_by is_constant raw.bad) ∷ (codes "constraints", length raw.constraints)
+    ∷ (codes "justice", length raw.justice) ∷ (codes "fairness", length raw.fairness)
+    ∷ (codes "uninitialised", count_by is_uninitialised raw.latches)
+    ∷ (codes "resets", count_by starts_at_one raw.latches) ∷ (codes "levels", facts.levels) ∷ (codes "fanout", facts.fan_out) ∷ (codes "symbols", length raw.symbols)
     ∷ (codes "comment", comment_size raw.comment) ∷ []
 
 unfoldable pub number_lines : Raw → Facts → List ℕ

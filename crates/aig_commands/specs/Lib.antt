@@ -3,6 +3,7 @@ pub mod BenchFiles
 pub mod Check
 pub mod GoesWell
 pub mod Info
+pub mod Names
 pub mod Sim
 pub mod Toaig
 pub mod Unroll

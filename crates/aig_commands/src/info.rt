@@ -1,4 +1,4 @@
-//! `info`: facts about a circuit file.
+//! `info`: facts about a circuit file, and the names of its entries.
 ghost use Rattle.std.specs.Prelude.{◌≡◌, ℕ, ◌==◌, count_by, slice_index, if◌then◌else◌, IfOk};
 ghost use Rattle.std.specs.List.{flat_map};
 ghost use Rattle.aig_bytes.specs.Bytes.{Writes};
@@ -8,14 +8,18 @@ ghost use Rattle.aig_format.specs.Spells.{Spells};
 ghost use Rattle.aig_bytes.specs.Flow.{flow};
 ghost use Rattle.aig_fault.specs.Command.{CommandEnds};
 ghost use Rattle.aig_commands.specs.Info.{AreFacts, ListsFacts, IsInFormat, comment_size, fact_line, format_name};
-ghost use Rattle.aig_commands.specs.Info.{info_text, is_uninitialised, fact_number_line, number_lines, yes_or_no};
-ghost use Rattle.aig_fault.specs.Command.{IsFileOf, OfFile};
+ghost use Rattle.aig_commands.specs.Info.{info_text, fact_number_line, number_lines, yes_or_no};
+ghost use Rattle.aig_commands.specs.Info.{is_constant, is_uninitialised, starts_at_one};
+ghost use Rattle.aig_commands.specs.Names.{ListsNames, names_text};
+ghost use Rattle.aig_fault.specs.Command.{IsFileOf, OfFile, OfReader};
 
+use crate::entries::write_entries;
 use aig_base::{
-    Circuit, Io, Latch, Levels, Memory, Write, greatest_fan_out, is_binary_ready, write_all,
+    Circuit, Io, Latch, Levels, Lit, Memory, Read, Write, greatest_fan_out, is_binary_ready,
+    write_all,
 };
 use aig_fault::{RunFault, flushed, read_circuit};
-use aig_format::Format;
+use aig_format::{Format, read_from};
 use itoa::Buffer;
 use std::alloc::Global;
 
@@ -100,6 +104,23 @@ fn uninitialised(latches: &[Latch]) -> usize
         .count()
 }
 
+/// How many latches start at 1.
+fn resets(latches: &[Latch]) -> usize
+    ensures { result ≡ count_by starts_at_one latches.now }
+{
+    latches
+        .iter()
+        .filter(|latch| latch.reset.value() == 1)
+        .count()
+}
+
+/// How many of the literals are constants.
+fn constants(literals: &[Lit]) -> usize
+    ensures { result ≡ count_by is_constant literals.now }
+{
+    literals.iter().filter(|literal| literal.var() == 0).count()
+}
+
 /// How many bytes the comment has.
 fn comment_size(circuit: &Circuit) -> usize
     ensures { result ≡ comment_size circuit.now.comment }
@@ -144,10 +165,12 @@ fn write_counts<W: Write>(circuit: &Circuit, facts: &Facts, out: &mut W) -> Resu
             ("outputs", circuit.outputs().len()),
             ("gates", circuit.gates().len()),
             ("bad", circuit.bad().len()),
+            ("constant", constants(circuit.bad())),
             ("constraints", circuit.constraints().len()),
             ("justice", circuit.justice().len()),
             ("fairness", circuit.fairness().len()),
             ("uninitialised", uninitialised(circuit.latches())),
+            ("resets", resets(circuit.latches())),
             ("levels", facts.levels as usize),
             ("fanout", facts.fan_out as usize),
             ("symbols", circuit.symbols().len()),
@@ -193,8 +216,9 @@ fn read_and_list<W: Write>(alloc: Global, file: &[u8], out: &mut W) -> Result<()
 }
 
 /// The command `info`: reads a circuit and writes what it is, a line for each fact, `name value`. The facts are its
-/// format and the counts of its parts, the latches that start at no known value, its greatest level and fan-out, its
-/// names and the bytes of its comment. The last one is whether the binary format can hold it as it stands. For every
+/// format and the counts of its parts, the bad state properties that are constants, the latches that start at no known
+/// value and those that start at 1, its greatest level and fan-out, its names and the bytes of its comment. The last one
+/// is whether the binary format can hold it as it stands. For every
 /// circuit file that is accepted, the text is that of its circuit. Where the file is refused, or no memory was found
 /// for levels or fan-outs, nothing is written. It flushes the writer before it answers.
 pub fn info<W: Write>(alloc: Global, file: &[u8], out: &mut W) -> Result<(), RunFault>
@@ -203,5 +227,48 @@ pub fn info<W: Write>(alloc: Global, file: &[u8], out: &mut W) -> Result<(), Run
     ensures flushed { W.failures out.new ≡ W.failures out.old → W.is_flushed out.new }
 {
     let done = read_and_list(alloc, file, out);
+    flushed(done, out, RunFault::Output)
+}
+
+/// Writes the names of a circuit's entries.
+fn list_names<W: Write>(circuit: &Circuit, out: &mut W) -> Result<(), RunFault>
+    ensures { CommandEnds (flow W.written W.failures out.old out.new) RunFault.Output (ListsNames circuit.now) result }
+{
+    match write_entries(circuit, out) {
+        Ok(()) => Ok(()),
+        Err(Io) => Err(RunFault::Output),
+    }
+}
+
+/// Reads a circuit and writes the names of its entries, without a flush at the end.
+fn read_and_list_names<R: Read, W: Write>(
+    alloc: Global,
+    circuit: &mut R,
+    out: &mut W,
+) -> Result<(), RunFault>
+    ensures { CommandEnds (flow W.written W.failures out.old out.new) RunFault.Output
+        (OfReader (flow R.left R.failures circuit.old circuit.new) ListsNames) result }
+{
+    match read_from(alloc, circuit) {
+        Ok(circuit) => list_names(&circuit, out),
+        Err(fault) => Err(RunFault::Circuit(fault)),
+    }
+}
+
+/// The command `info --names`: reads a circuit and writes a line for each entry, section by section in the order of a
+/// file: `LETTER POSITION LITERAL NAME`. LETTER is that of the entry's symbol (AIGER 1.0, symbol table; AIGER 1.9), and
+/// POSITION counts from 0. LITERAL is `-` for a justice property. NAME is the symbol, and nothing where there is none.
+/// The file is never held whole, and memory is taken for its circuit alone. Where the file is refused, nothing is
+/// written. It flushes the writer before it answers.
+pub fn info_names<R: Read, W: Write>(
+    alloc: Global,
+    circuit: &mut R,
+    out: &mut W,
+) -> Result<(), RunFault>
+    ensures ends { CommandEnds (flow W.written W.failures out.old out.new) RunFault.Output
+        (OfReader (flow R.left R.failures circuit.old circuit.new) ListsNames) result }
+    ensures flushed { W.failures out.new ≡ W.failures out.old → W.is_flushed out.new }
+{
+    let done = read_and_list_names(alloc, circuit, out);
     flushed(done, out, RunFault::Output)
 }

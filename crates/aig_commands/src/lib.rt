@@ -3,6 +3,7 @@
 
 pub mod bench;
 pub mod check;
+mod entries;
 pub mod info;
 pub mod sim;
 pub mod toaig;

@@ -1,0 +1,42 @@
+-- What `info --names` writes: a line for each entry of a circuit, with its name. How a line is written is our own choice.
+use Rattle.std.specs.Prelude.{◌≡◌, ℕ, ◌+◌, Bool, ◌==◌, List, [], ◌∷◌, ◌++◌, Result, Ok, Err, codes}
+use Rattle.std.specs.Fmt.{decimal}
+use Rattle.aig_parts.specs.declared.raw.Raw.{Raw}
+use Rattle.aig_parts.specs.declared.symbols.Kind.{Kind}
+use Rattle.aig_parts.specs.declared.symbols.Kind.TheVariants as kinds
+use Rattle.aig_format.specs.Spelling.{Entry, letter}
+use Rattle.aig_unroll.specs.InputMap.{map_field, symbol_name_at}
+use Rattle.aig_fault.specs.declared.run_fault.RunFault.{RunFault}
+
+-- the sections are the same
+abbrev pub is_same : Kind → Kind → Bool
+is_same kind other = letter other == letter kind
+
+-- the line of the entry at position p of a section: its letter, its position, its literal as it is shown, and its name,
+-- empty where it has none
+unfoldable pub entry_line : List Entry → Kind → ℕ → List ℕ → List ℕ
+entry_line symbols kind p literal =
+    letter kind ∷ codes " "
+    ++ (map_field p ++ (literal ++ (codes " " ++ (symbol_name_at (is_same kind) symbols p ++ codes "\n"))))
+
+-- the lines of the entries of a section from position p on, given how the literal of each is shown
+unfoldable pub entry_lines : {X : Type 0} → (X → List ℕ) → List Entry → Kind → ℕ → List X → List ℕ
+entry_lines shown symbols kind p [] = []
+entry_lines shown symbols kind p (x ∷ xs) =
+    entry_line symbols kind p (shown x) ++ entry_lines shown symbols kind (p + 1) xs
+
+-- the lines of all sections; a justice property has no literal of its own
+unfoldable pub names_text : Raw → List ℕ
+names_text raw =
+    entry_lines decimal raw.symbols kinds.Input 0 raw.inputs
+    ++ (entry_lines (λ x. decimal x.lit) raw.symbols kinds.Latch 0 raw.latches
+    ++ (entry_lines decimal raw.symbols kinds.Output 0 raw.outputs
+    ++ (entry_lines decimal raw.symbols kinds.Bad 0 raw.bad
+    ++ (entry_lines decimal raw.symbols kinds.Constraint 0 raw.constraints
+    ++ (entry_lines (λ literals. codes "-") raw.symbols kinds.Justice 0 raw.justice
+    ++ entry_lines decimal raw.symbols kinds.Fairness 0 raw.fairness)))))
+
+-- what `info --names` writes for a circuit; it needs no memory
+abbrev pub ListsNames : Raw → Result (Unit {0}) RunFault → List ℕ → Type 0
+ListsNames raw (Ok done) text = text ≡ names_text raw
+ListsNames raw (Err _) text = ⊥
