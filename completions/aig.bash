@@ -3,7 +3,7 @@
 # the words that it takes, `file`, or nothing.
 
 _aig() {
-    local commands="toaig sim wave bench unroll check info help"
+    local commands="toaig sim wave bench unroll check info select help"
     local -A options=(
         [toaig]="--to --explain --help"
         [sim]="--explain --help"
@@ -12,9 +12,13 @@ _aig() {
         [unroll]="--frames --to --map --explain --help"
         [check]="--trace --explain --help"
         [info]="--names --explain --help"
+        [select]="--to --from --as --property --explain --help"
     )
     local -A values=(
         [--to]="aag aig"
+        [--from]="bad outputs"
+        [--as]="bad outputs"
+        [--property]=""
         [--frames]=""
         [--map]="file"
         [--circuit-out]="file"

@@ -19,6 +19,7 @@ from program.needs import needs
 from program.owners import owners
 from program.pages import pages
 from program.replays import replays
+from program.select import select
 from program.sim import sim
 from program.talks import talks
 from program.toaig import toaig
@@ -27,7 +28,7 @@ from program.wave import wave
 from program.words import words
 
 PARTS = {"bench": bench, "kept": kept, "owners": owners, "descriptors": descriptors, "words": words, "sim": sim,
-         "wave": wave, "check": check, "replays": replays, "toaig": toaig, "unroll": unroll, "info": info,
+         "wave": wave, "check": check, "replays": replays, "toaig": toaig, "unroll": unroll, "info": info, "select": select,
          "help": helps, "pages": pages, "completions": completions, "diagnostics": diagnostics, "explain": explain,
          "explain_option": explain_option, "needs": needs, "talks": talks}
 

@@ -27,6 +27,8 @@ REFUSALS = (
     ("a number of frames over its limit", ["unroll", "--frames", "4294967296", "--to", "aag", "two_gates"]),
     ("a number of frames with a letter", ["unroll", "--frames", "2k", "--to", "aag", "two_gates"]),
     ("no format to unroll to", ["unroll", "--frames", "2", "two_gates"]),
+    ("no format to select to", ["select", "two_gates"]),
+    ("an unknown section", ["select", "--from", "justice", "--to", "aag", "two_gates"]),
 )
 
 
@@ -35,7 +37,7 @@ def words(program, tally, _):
     write_all()
     for word in ("--help", "-h", "help"):
         tells(rows, [word], contents(f"{EXPECTED}/help/aig.txt"))
-    for command in ("toaig", "sim", "wave", "bench", "unroll", "check", "info"):
+    for command in ("toaig", "sim", "wave", "bench", "unroll", "check", "info", "select"):
         for asked in ([command, "--help"], [command, "-h"], ["help", command]):
             tells(rows, asked, contents(f"{EXPECTED}/help/{command}.txt"))
     tells(rows, ["help", "help"], contents(f"{EXPECTED}/help/help.txt"))

@@ -13,9 +13,9 @@ use Rattle.aig_base.specs.declared.select.SelectFault.{SelectFault}
 use Rattle.aig_base.specs.declared.select.SelectFault.TheVariants as faults
 
 -- the literals of the section
-abbrev pub properties_of : PropertySection → Raw → List ℕ
-properties_of sections.Bad raw = raw.bad
-properties_of sections.Outputs raw = raw.outputs
+abbrev pub properties_in : PropertySection → Raw → List ℕ
+properties_in sections.Bad raw = raw.bad
+properties_in sections.Outputs raw = raw.outputs
 
 -- the section, as symbols name it
 abbrev pub kind_of : PropertySection → Kind
@@ -62,7 +62,7 @@ kept_symbols from into positions s = map (λ entry. (entry, s.1)) (kept_entries 
 -- the circuit that keeps the properties at these positions of a section, in their order; symbols stay in the file's order
 abbrev pub selected_at : Raw → PropertySection → PropertySection → List ℕ → Raw
 selected_at raw from into positions =
-    let literals = map (slice_index (properties_of from raw)) positions in
+    let literals = map (slice_index (properties_in from raw)) positions in
     with_properties raw (outputs_in into literals) (bad_in into literals)
     (flat_map (kept_symbols from into positions) raw.symbols)
 
@@ -73,16 +73,20 @@ selected_positions n (p ∷ ps) = p ∷ ps
 
 -- the circuit that keeps the properties of a section that are named, all where none is named
 abbrev pub selected : Raw → PropertySection → PropertySection → List ℕ → Raw
-selected raw from into named = selected_at raw from into (selected_positions (length (properties_of from raw)) named)
+selected raw from into named = selected_at raw from into (selected_positions (length (properties_in from raw)) named)
 
 -- each position that is named is one of the section
 abbrev pub AreProperties : Raw → PropertySection → List ℕ → Type 0
-AreProperties raw from named = All (λ p. p < length (properties_of from raw)) named
+AreProperties raw from named = All (λ p. p < length (properties_in from raw)) named
+
+-- the properties can be selected: they are no more than a section may have, and each is there
+abbrev pub CanSelect : Raw → PropertySection → List ℕ → Type 0
+CanSelect raw from named = (length named ≤ limit) × AreProperties raw from named
 
 -- why nothing is selected: more positions than a section may have, else a position that the section does not have, else
 -- that no memory was found
 abbrev pub RefusesSelection : Raw → PropertySection → List ℕ → SelectFault → Type 0
 RefusesSelection raw from named faults.Limit = limit < length named
 RefusesSelection raw from named faults.Property =
-    (length named ≤ limit) × Any (λ p. length (properties_of from raw) ≤ p) named
-RefusesSelection raw from named faults.Memory = (length named ≤ limit) × AreProperties raw from named
+    (length named ≤ limit) × Any (λ p. length (properties_in from raw) ≤ p) named
+RefusesSelection raw from named faults.Memory = CanSelect raw from named

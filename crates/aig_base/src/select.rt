@@ -6,7 +6,7 @@ ghost use Rattle.std.specs.Map.{keys_of};
 ghost use Rattle.aig_parts.specs.Formed.{limit};
 ghost use Rattle.aig_base.specs.Circuit.{IsCircuit};
 ghost use Rattle.aig_base.specs.Selected as spec;
-ghost use Rattle.aig_base.specs.Selected.{AreProperties, RefusesSelection, kept_entries, kept_symbols, moved, properties_of};
+ghost use Rattle.aig_base.specs.Selected.{AreProperties, CanSelect, RefusesSelection, kept_entries, kept_symbols, moved, properties_in};
 ghost use Rattle.aig_base.specs.Selected.{bad_in, outputs_in, selected, selected_at, selected_positions, with_properties};
 ghost use Rattle.aig_base.specs.state.PropertyPlaces.{ArePlaces};
 
@@ -61,8 +61,8 @@ fn kind_of(section: PropertySection) -> Kind
 }
 
 /// The literals of a section.
-fn properties_of(circuit: &Circuit, section: PropertySection) -> &[Lit]
-    ensures literals { result.now ≡ spec.properties_of section circuit.now }
+fn properties_in(circuit: &Circuit, section: PropertySection) -> &[Lit]
+    ensures literals { result.now ≡ spec.properties_in section circuit.now }
     ensures few { length result.now ≤ limit }
 {
     // Its contract says how many there are at most.
@@ -183,7 +183,7 @@ fn selected_symbols(
 {
     // Its contract says that each symbol names an entry that is there, and no two the same one.
     let _max_var = circuit.max_var();
-    let count = properties_of(circuit, from).len();
+    let count = properties_in(circuit, from).len();
     let places = Places::of(alloc, count, positions)?;
     let mut list = SymbolList::new(alloc);
     for (entry, name) in circuit.symbols().iter() {
@@ -236,7 +236,7 @@ fn selected_at(
     ensures { IfOk result (λ new. with_properties circuit.now new.outputs new.bad new.symbols
         ≡ spec.selected_at circuit.now from into positions.now) }
 {
-    let literals = literals_at(alloc, properties_of(circuit, from), positions)?;
+    let literals = literals_at(alloc, properties_in(circuit, from), positions)?;
     let (outputs, bad) = all_in(alloc, into, literals);
     Ok(NewProperties {
         outputs,
@@ -273,7 +273,7 @@ fn selected(
     if !named.is_empty() {
         return selected_at(alloc, circuit, from, into, named);
     }
-    let all = all_positions(alloc, properties_of(circuit, from).len())?;
+    let all = all_positions(alloc, properties_in(circuit, from).len())?;
     selected_at(alloc, circuit, from, into, &all)
 }
 
@@ -290,7 +290,7 @@ fn test_selection(
     if named.len() > LIMIT {
         return Err(SelectFault::Limit);
     }
-    let count = properties_of(circuit, from).len();
+    let count = properties_in(circuit, from).len();
     if !named.iter().all(|position| (*position as usize) < count) {
         return Err(SelectFault::Property);
     }
@@ -323,6 +323,7 @@ impl Circuit {
         into: PropertySection,
         named: &[u32],
     ) -> Result<(), SelectFault>
+        ensures possible { OnOk result (CanSelect self.old from named.now) }
         ensures selected { OnOk result (self.new ≡ selected self.old from into named.now) }
         ensures same { OnErr result (self.new ≡ self.old) }
         ensures fault { IfErr result (RefusesSelection self.old from named.now) }

@@ -10,11 +10,31 @@ static VERSION: &str = "0.1.0 (proved where rt ci built it)";
 
 static FORMATS: [&str; 2] = ["aag", "aig"];
 
+static SECTIONS: [&str; 2] = ["bad", "outputs"];
+
 static AFTER_TOAIG: &str =
     "The aig format numbers its variables in a fixed order. If the circuit does not
 have this order, toaig renumbers the variables; names and comment stay.
 
 Example: aig toaig --to aig examples/two_gates.aag > two_gates.aig
+See also: man aig, man 5 aig-formats";
+
+static AFTER_SELECT: &str =
+    "select keeps the properties that --property names, in this order, and drops all
+others. A SECTION is bad (the bad state properties) or outputs: the properties
+are those of --from, and become those of --as. The other of the two sections,
+the justice properties and the fairness constraints are empty then.
+
+Inputs, latches, constraints and gates stay, and so do the comment and the names
+of what is kept. A property that is named twice is written twice. With --to aig,
+select renumbers as toaig does.
+
+Model checkers for AIGER 1.0 check outputs, newer ones check bad state
+properties: --from outputs makes properties of outputs, and --as outputs makes
+outputs of properties.
+
+Example: aig select --to aag --property 0 examples/wraps.aag
+Example: aig select --to aag --from outputs --property 4 examples/counter.aag
 See also: man aig, man 5 aig-formats";
 
 static AFTER_SIM: &str =
@@ -171,6 +191,26 @@ fn one_of<'a>(argument: Arg<'a>) -> Arg<'a> {
         .hide_possible_values(true)
 }
 
+fn section_argument<'a>(alloc: Global, name: &'a str, help: &'a str) -> Arg<'a> {
+    Arg::new(alloc, name)
+        .long(name)
+        .value_name("SECTION")
+        .value_parser(ValueParser::Names(SECTIONS.as_slice()))
+        .hide_possible_values(true)
+        .help(help)
+}
+
+fn property_argument<'a>(alloc: Global) -> Arg<'a> {
+    let property = Arg::new(alloc, "property")
+        .long("property")
+        .value_name("P")
+        .action(ArgAction::Append)
+        .help(
+            "Position of a property to keep, counted from 0;\nonce for each property (default: all)",
+        );
+    number(property)
+}
+
 fn argument<'a>(alloc: Global, name: &'a str, help: &'a str) -> Arg<'a> {
     Arg::new(alloc, name).required(true).help(help)
 }
@@ -284,6 +324,25 @@ fn toaig_command<'a>(alloc: Global) -> Result<Command<'a>, AllocError> {
         .arg(circuit_argument(alloc))
 }
 
+fn select_command<'a>(alloc: Global) -> Result<Command<'a>, AllocError> {
+    Command::new(alloc, "select")
+        .about("Write a circuit with some of its properties, as bad states or outputs")
+        .after_help(AFTER_SELECT)
+        .arg(format_argument(alloc))?
+        .arg(section_argument(
+            alloc,
+            "from",
+            "Section to choose from: bad (the default) or outputs",
+        ))?
+        .arg(section_argument(
+            alloc,
+            "as",
+            "Section to write: bad (the default) or outputs",
+        ))?
+        .arg(property_argument(alloc))?
+        .arg(circuit_argument(alloc))
+}
+
 fn sim_command<'a>(alloc: Global) -> Result<Command<'a>, AllocError> {
     Command::new(alloc, "sim")
         .about("Simulate a circuit and print one line per frame")
@@ -386,7 +445,8 @@ fn command_line<'a>(alloc: Global) -> Result<Command<'a>, AllocError> {
     let last = with_subcommand(wave, bench_command(alloc))?;
     let more = with_subcommand(last, unroll_command(alloc))?;
     let checks = with_subcommand(more, check_command(alloc))?;
-    with_subcommand(checks, info_command(alloc))
+    let facts = with_subcommand(checks, info_command(alloc))?;
+    with_subcommand(facts, select_command(alloc))
 }
 
 /// Parses the arguments; the first is the program's name.
@@ -402,6 +462,11 @@ pub fn subcommand_of<'m, 'a>(matches: &'m ArgMatches<'a>) -> Option<(&'a str, &'
 /// Returns the text of an argument.
 pub fn text_of<'a>(matches: &ArgMatches<'a>, name: &str) -> Option<&'a str> {
     matches.get_str(name)
+}
+
+/// Returns the texts of all uses of an argument.
+pub fn texts_of<'m, 'a>(matches: &'m ArgMatches<'a>, name: &str) -> Option<&'m [&'a str]> {
+    matches.get_strs(name)
 }
 
 /// Returns the number of an argument.

@@ -3,4 +3,4 @@
 
 mod command_line;
 
-pub use command_line::{has_flag, matches_of, number_of, subcommand_of, text_of};
+pub use command_line::{has_flag, matches_of, number_of, subcommand_of, text_of, texts_of};

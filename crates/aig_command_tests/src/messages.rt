@@ -1,5 +1,5 @@
 //! Texts of messages.
-use aig_base::{Fault, Io, Memory, WouldCycle};
+use aig_base::{Fault, Io, Memory, SelectFault, WouldCycle};
 use aig_bench::BenchFault;
 use aig_fault::{RunFault, ScriptFault};
 use aig_sim::{StimFault, WitnessFault};
@@ -7,7 +7,7 @@ use aig_unroll::UnrollFault;
 use std::alloc::Global;
 use std::fmt::Display;
 
-static MESSAGES: [(RunFault, &str); 23] = [
+static MESSAGES: [(RunFault, &str); 26] = [
     (RunFault::Circuit(Fault::Cycle(2)), "circuit: cycle 2"),
     (RunFault::Circuit(Fault::Memory), "circuit: memory"),
     (
@@ -46,6 +46,9 @@ static MESSAGES: [(RunFault, &str); 23] = [
     (RunFault::Unroll(UnrollFault::Liveness), "unroll: liveness"),
     (RunFault::Unroll(UnrollFault::Limit), "unroll: limit"),
     (RunFault::Unroll(UnrollFault::Memory), "unroll: memory"),
+    (RunFault::Select(SelectFault::Limit), "select: limit"),
+    (RunFault::Select(SelectFault::Property), "select: property"),
+    (RunFault::Select(SelectFault::Memory), "select: memory"),
 ];
 
 // Whether this is the text of a value.

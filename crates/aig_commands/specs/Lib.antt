@@ -4,6 +4,7 @@ pub mod Check
 pub mod GoesWell
 pub mod Info
 pub mod Names
+pub mod Select
 pub mod Sim
 pub mod Toaig
 pub mod Unroll

@@ -5,6 +5,7 @@ pub mod bench;
 pub mod check;
 mod entries;
 pub mod info;
+pub mod select;
 pub mod sim;
 pub mod toaig;
 pub mod unroll;

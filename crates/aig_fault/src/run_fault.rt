@@ -3,7 +3,7 @@ ghost use Rattle.std.specs.Prelude.{◌≡◌};
 ghost use Rattle.aig_fault.specs.Status.{status_of};
 
 use crate::script_fault::ScriptFault;
-use aig_base::{Fault, Memory};
+use aig_base::{Fault, Memory, SelectFault};
 use aig_bench::BenchFault;
 use aig_sim::{StimFault, WitnessFault};
 use aig_unroll::UnrollFault;
@@ -30,6 +30,8 @@ pub enum RunFault {
     Memory,
     #[error("unroll: {0}")]
     Unroll(UnrollFault),
+    #[error("select: {0}")]
+    Select(SelectFault),
 }
 
 impl RunFault {
@@ -44,11 +46,13 @@ impl RunFault {
             RunFault::Bench(BenchFault::Memory) => 3,
             RunFault::Script(_) | RunFault::Output | RunFault::Memory => 3,
             RunFault::Unroll(UnrollFault::Memory) => 3,
+            RunFault::Select(SelectFault::Memory) => 3,
             RunFault::Circuit(_)
             | RunFault::Stimulus(_)
             | RunFault::Witness(_)
             | RunFault::Bench(_)
-            | RunFault::Unroll(_) => 1,
+            | RunFault::Unroll(_)
+            | RunFault::Select(_) => 1,
         }
     }
 }
@@ -127,5 +131,16 @@ impl From<UnrollFault> for RunFault {
 
     fn from(fault: UnrollFault) -> RunFault {
         RunFault::Unroll(fault)
+    }
+}
+
+impl From<SelectFault> for RunFault {
+    ghost use Rattle.std.specs.Prelude.{◌≡◌};
+    ghost use Rattle.aig_fault.specs.declared.run_fault.RunFault.TheVariants as run_faults;
+
+    ghost from_gives = { λ fault part. part ≡ run_faults.Select fault };
+
+    fn from(fault: SelectFault) -> RunFault {
+        RunFault::Select(fault)
     }
 }

@@ -6,5 +6,6 @@ pub mod Examples
 pub mod Premises
 pub mod Reached
 pub mod RowValues
+pub mod SelectedVerdicts
 pub mod UnrolledRows
 pub mod UnrolledWitnesses

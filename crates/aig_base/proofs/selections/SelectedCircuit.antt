@@ -22,7 +22,7 @@ use Rattle.aig_base.specs.Grounded as grounded
 use Rattle.aig_base.specs.Grounded.{IsSource, Grounded, Level}
 use Rattle.aig_base.specs.Levels.{AreLevels}
 use Rattle.aig_base.specs.Sections.{IsDefined}
-use Rattle.aig_base.specs.Selected.{properties_of, kind_of, bad_in, outputs_in, with_properties, places_from, moved, kept_entries, kept_symbols, selected_at, selected, AreProperties}
+use Rattle.aig_base.specs.Selected.{properties_in, kind_of, bad_in, outputs_in, with_properties, places_from, moved, kept_entries, kept_symbols, selected_at, selected, AreProperties}
 use Rattle.aig_base.specs.Sound.{IsInRange, IsSound}
 use Rattle.aig_base.proofs.checks.Faults.{in_range_joined, in_range_parted, uses_joined, uses_parted}
 use Rattle.aig_base.proofs.rewires.Rewiring.{in_range_from_defined}
@@ -139,7 +139,7 @@ module _ (raw : Raw) (outputs bad : List ℕ) (symbols : List (Key × List ℕ))
 -- ---- properties at some positions
 
 defined_of : (raw : Raw) (from : PropertySection) (P : ℕ → Type 0) → All P raw.outputs → All P raw.bad
-    → All P (properties_of from raw)
+    → All P (properties_in from raw)
 defined_of raw sections.Bad P outputs bad = bad
 defined_of raw sections.Outputs P outputs bad = outputs
 
@@ -195,7 +195,7 @@ pub selected_at-circuit : (raw : Raw) (from into : PropertySection) (positions :
     → AreProperties raw from positions → length positions ≤ limit → IsCircuit (selected_at raw from into positions)
 selected_at-circuit raw from into positions c there few =
     let P : ℕ → Type 0 = λ l. IsDefined raw (variable l) in
-    let old = properties_of from raw in
+    let old = properties_in from raw in
     let literals = map (λ (p : ℕ). get_or old p 0) positions in
     let symbols = flat_map (kept_symbols from into positions) raw.symbols in
     let size : length literals ≡ length positions = length-map positions (λ (p : ℕ). get_or old p 0) in
@@ -209,7 +209,7 @@ selected_at-circuit raw from into positions c there few =
     (names_there raw into positions literals symbols size from raw.symbols c.formed.symbols)
     (kept_distinct from into positions raw.symbols c.formed.names)
 
-few_of : (raw : Raw) (from : PropertySection) → IsFormed raw → length (properties_of from raw) ≤ limit
+few_of : (raw : Raw) (from : PropertySection) → IsFormed raw → length (properties_in from raw) ≤ limit
 few_of raw sections.Bad f = f.counts.bad
 few_of raw sections.Outputs f = f.counts.outputs
 
@@ -222,7 +222,7 @@ all_there n = λ k d l.
 pub selected-circuit : (raw : Raw) (from into : PropertySection) (named : List ℕ) → IsCircuit raw
     → AreProperties raw from named → length named ≤ limit → IsCircuit (selected raw from into named)
 selected-circuit raw from into [] c there few =
-    let n = length (properties_of from raw) in
+    let n = length (properties_in from raw) in
     selected_at-circuit raw from into (range_with_len 0 n) c (all_there n)
     (omega (arith, length-range_with_len 0 n, few_of raw from c.formed))
 selected-circuit raw from into (p ∷ ps) c there few = selected_at-circuit raw from into (p ∷ ps) c there few
