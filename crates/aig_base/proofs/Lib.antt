@@ -6,4 +6,5 @@ pub mod levels
 pub mod lists
 pub mod renumbered
 pub mod rewires
+pub mod selections
 pub mod values

@@ -14,6 +14,7 @@ pub mod RenumberedValues
 pub mod RenumberingTable
 pub mod Role
 pub mod Sections
+pub mod Selected
 pub mod Sound
 pub mod Value
 pub mod state

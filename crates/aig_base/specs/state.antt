@@ -8,6 +8,7 @@ pub mod KeyChains
 pub mod LeastFaulty
 pub mod ListPlaces
 pub mod Marks
+pub mod PropertyPlaces
 pub mod Queue
 pub mod Ranged
 pub mod ReaderSlots
