@@ -13,6 +13,7 @@ mod definitions;
 mod entries;
 mod fan_out_lists;
 mod gate_of;
+mod gate_variables;
 mod greatest;
 mod grounded;
 mod key_chains;
