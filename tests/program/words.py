@@ -32,6 +32,8 @@ REFUSALS = (
     ("no format to unroll to", ["unroll", "--frames", "2", "two_gates"]),
     ("no format to select to", ["select", "two_gates"]),
     ("an unknown section", ["select", "--from", "justice", "--to", "aag", "two_gates"]),
+    ("a property with a letter", ["select", "--to", "aag", "--property", "0", "--property", "b1", "two_gates"]),
+    ("a property over its limit", ["select", "--to", "aag", "--property", "4294967296", "two_gates"]),
 )
 
 
