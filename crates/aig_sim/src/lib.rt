@@ -7,6 +7,7 @@ mod dump_text;
 mod dumping;
 mod frame_cells;
 mod machine;
+mod reach_fault;
 mod reached;
 mod recorder;
 mod replay;
@@ -28,6 +29,8 @@ pub use aig_values::{
     ByteGrid, FRAMES, Grid, PlaneGrid, Stimulus, first_value, stand_in_order, write_trace,
 };
 pub use dumping::dump;
+pub use machine::first_states;
+pub use reach_fault::ReachFault;
 pub use reached::{Reached, first_reached};
 pub use replay::{dump_witness, trace_witness};
 pub use replay_fault::ReplayFault;
