@@ -1,5 +1,5 @@
 -- A model's text, piece by piece.
-use Rattle.std.proofs.Common.{◌≡◌, ◌≢◌, ◌⊎◌, inl, inr, ℕ, ◌+◌, ◌-◌, ◌%◌, ◌<◌, ◌≤◌, List, [], ◌∷◌, ◌++◌, length, take, drop, get_or, All, Some, slice_get, refl, sym, ap, ◌∙◌, subst, arith, append_assoc}
+use Rattle.std.proofs.Common.{◌≡◌, ◌≢◌, ◌⊎◌, inl, inr, ℕ, zero, suc, ◌+◌, ◌-◌, ◌%◌, ◌<◌, ◌≤◌, List, [], ◌∷◌, ◌++◌, length, take, drop, get_or, All, Some, slice_get, refl, sym, ap, ◌∙◌, subst, arith, append_assoc}
 use Rattle.std.proofs.lemmas.List.{take_more, take-append-le, drop-append-le, length_push, take-append-drop, take_all}
 use Rattle.std.proofs.lemmas.Option.{get_or_from_slice_get}
 use Rattle.std.proofs.Math.Seq.{take-add}
@@ -22,6 +22,22 @@ before_none (Names.status line is begins h) e = let no : ⊥ = cc in absurd no
 before_none (Names.mark b is begins other h) e = before_none h e
 before_none (Names.literal l b is below other h) e = let no : ⊥ = cc in absurd no
 before_none (Names.end b is other h) e = let no : ⊥ = cc in absurd no
+
+-- ---- bytes
+
+-- a byte of the text
+pub byte_inside : (text : List ℕ) (at b : ℕ) → slice_get text at ≡ Some b → slice_get (text ++ 10 ∷ []) at ≡ Some b
+byte_inside (x ∷ text) zero b is = is
+byte_inside (x ∷ text) (suc at) b is = byte_inside text at b is
+byte_inside [] at b is = cc
+
+-- the LF after it
+pub byte_after : (text : List ℕ) (at : ℕ) → at ≡ length text → slice_get (text ++ 10 ∷ []) at ≡ Some 10
+byte_after text at e = subst (λ (n : ℕ). slice_get (text ++ 10 ∷ []) n ≡ Some 10) (sym e) (last text)
+  where
+    last : (text : List ℕ) → slice_get (text ++ 10 ∷ []) (length text) ≡ Some 10
+    last [] = refl
+    last (x ∷ text) = last text
 
 -- ---- the bytes from a place to a space
 

@@ -28,8 +28,7 @@ impl Assignment {
     pub fn new(alloc: Global, variables: u32) -> Result<Assignment, Memory>
         ensures named { IfOk result (AreNamed [] variables) }
     {
-        let mut values = Vec::with_capacity(alloc, variables as usize)?;
-        values.resize(variables as usize, Tern::X)?;
+        let values = vec![in alloc; Tern::X; variables as usize]?;
         Ok(Assignment { values })
     }
 
@@ -48,11 +47,13 @@ impl Assignment {
         ensures length { length self.new ≡ length self.old }
     {
         let place = literal.var() as usize;
-        match (self.values[place], literal.is_neg()) {
-            (Tern::X | Tern::One, false) => self.values[place] = Tern::One,
-            (Tern::X | Tern::Zero, true) => self.values[place] = Tern::Zero,
-            _ => return false,
+        let before = self.values[place];
+        if literal.is_neg() {
+            self.values[place] = Tern::Zero;
+            before != Tern::One
+        } else {
+            self.values[place] = Tern::One;
+            before != Tern::Zero
         }
-        true
     }
 }

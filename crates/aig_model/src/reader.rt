@@ -78,7 +78,7 @@ fn word_end(text: &[u8], at: usize) -> usize
     requires { at ≤ length text.now }
     ensures after { at ≤ result }
     ensures bound { result ≤ length text.now }
-    ensures ended { IsSpace (get_or (text.now ++ 10 ∷ []) result 0) }
+    ensures ended { (b : ℕ) → slice_get (text.now ++ 10 ∷ []) result ≡ Some b → IsSpace b }
 {
     let mut end = at;
     while end < text.len() && !is_space(text[end]) {

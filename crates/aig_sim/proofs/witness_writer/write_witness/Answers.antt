@@ -21,3 +21,15 @@ pub returns-clause-written : goal.returns-clause-written
 returns-clause-written g c =
     writes_then c.in_ok-write_all.ensures
     (writes_then c.in_ok-write_number.ensures (writes_then c.in_ok-write_all-2.ensures c.write_run.ensures))
+
+pub returns-in_err-write_all-clause-position : goal.returns-in_err-write_all-clause-position
+returns-in_err-write_all-clause-position g c = spells_position c.args.property (omega (arith, c.ranges.property.fits))
+
+pub returns-in_err-write_number-clause-position : goal.returns-in_err-write_number-clause-position
+returns-in_err-write_number-clause-position g c = spells_position c.args.property (omega (arith, c.ranges.property.fits))
+
+pub returns-in_err-write_all-2-clause-position : goal.returns-in_err-write_all-2-clause-position
+returns-in_err-write_all-2-clause-position g c = spells_position c.args.property (omega (arith, c.ranges.property.fits))
+
+pub returns-clause-position : goal.returns-clause-position
+returns-clause-position g c = spells_position c.args.property (omega (arith, c.ranges.property.fits))
