@@ -1,7 +1,7 @@
 -- The search for the first frame that reaches a bad state property.
-use Rattle.std.proofs.Common.{◌≡◌, ◌≢◌, ◌⊎◌, inl, inr, ℕ, zero, suc, ◌+◌, ◌-◌, ◌<◌, ◌≤◌, List, [], ◌∷◌, ◌++◌, length, take, drop, get_or, Option, Some, None, slice_get, refl, sym, ap, ◌∙◌, subst, arith}
+use Rattle.std.proofs.Common.{◌≡◌, ◌≢◌, ◌⊎◌, inl, inr, ℕ, ◌+◌, ◌-◌, ◌<◌, ◌≤◌, List, [], ◌∷◌, ◌++◌, length, take, drop, get_or, Option, Some, slice_get, refl, sym, ap, ◌∙◌, subst, arith}
 use Rattle.std.proofs.lemmas.Bool.{cases_eq, cases_lt}
-use Rattle.std.proofs.lemmas.List.{length-take-le, length-take, take-append-drop, take-take, take_more}
+use Rattle.std.proofs.lemmas.List.{length-take-le, take-append-drop, take-take, take_more}
 use Rattle.aig_parts.specs.declared.ternary.Tern.{Tern}
 use Rattle.aig_parts.specs.declared.ternary.Tern.TheVariants.{Zero, One, X}
 use Rattle.aig_parts.specs.declared.raw.Raw.{Raw}
@@ -15,7 +15,7 @@ use Rattle.aig_values.proofs.Evaluation.{literal_has_value}
 use Rattle.aig_values.proofs.TraceLemmas.{value_stays, first_states}
 use Rattle.aig_sim.specs.declared.verdict.Verdict.TheVariants as verdict
 use Rattle.aig_sim.specs.Reached.{IsAskedFor, Reaches, ReachesNone, IsFirstReached, witness_at}
-use Rattle.aig_sim.specs.Verdict.{StartsWrong, IsNotOne, IsVerdict}
+use Rattle.aig_sim.specs.Verdict.{StartsWrong, IsNotOne}
 use Rattle.aig_sim.specs.state.Checking.{ReadsNotOne}
 use Rattle.aig_sim.specs.state.Machine.{Steps}
 use Rattle.aig_sim.specs.state.Reaching.{ReadsFirstBad, ReadsNoBad, HasSearched}

@@ -1,4 +1,4 @@
-use Rattle.std.proofs.Common.{◌≡◌, ℕ, ◌∙◌}
+use Rattle.std.proofs.Common.{ℕ, ◌∙◌}
 use Rattle.std.specs.Prelude.{IfNone, IfSome}
 use Rattle.aig_sim.specs.Reached.{IsFirstReached, ReachesNone}
 use Rattle.aig_sim.specs.Verdict.{StartsWrong}

@@ -1,5 +1,5 @@
 use Rattle.std.proofs.Common.{refl}
-use Rattle.aig_bytes.proofs.GatherLemmas.{gathers_then, gathers_stop, gathers_failed, written_part, written_whole}
+use Rattle.aig_bytes.proofs.GatherLemmas.{gathers_then, gathers_stop, written_part, written_whole}
 use Rattle.aig_sim.proofs.witness_writer.write_run.Goals as goal
 
 pub returns-in_err-put_row : goal.returns-in_err-put_row
