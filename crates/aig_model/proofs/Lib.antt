@@ -1,3 +1,0 @@
-pub mod DigitLemmas
-pub mod ModelLemmas
-pub mod NamedLemmas

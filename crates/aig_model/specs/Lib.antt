@@ -1,3 +1,0 @@
-pub mod ModelText
-pub mod Named
-pub mod state
