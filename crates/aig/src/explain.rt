@@ -337,9 +337,17 @@ fn of_reach<R: Eprint>(rt: &R, files: &TaskFiles<'_>, fault: ReachFault) {
     match fault {
         ReachFault::Property => {
             note(rt, "the circuit has no bad state property at this position");
+            note(
+                rt,
+                "positions count from 0: aig info CIRCUIT prints the number of properties",
+            );
         }
         ReachFault::NoRun => {
-            note(rt, "no frame of the stimulus reaches a bad state");
+            note(
+                rt,
+                "no frame of the stimulus reaches the property, or a constraint was not 1 before",
+            );
+            note(rt, "aig sim CIRCUIT STIM prints the run");
         }
         ReachFault::Memory => note(rt, MORE_MEMORY),
     }

@@ -18,7 +18,7 @@ use Rattle.aig_commands.specs.Witness.{HasAsked, SpellsFirst, WritesWitness}
 
 -- a value for each latch
 pub start_length : (raw : Raw) → length (start_of raw) ≡ length raw.latches
-start_length raw = length-map (λ (x : Latch). reset_value x.reset) raw.latches
+start_length raw = length-map raw.latches (λ (x : Latch). reset_value x.reset)
 
 pub spells_first : (raw : Raw) (start : List Tern) (rows : List (List Tern)) (asked : Option ℕ) (t p : ℕ)
     → length start ≡ length raw.latches → HaveWidth (length raw.inputs) rows

@@ -17,17 +17,17 @@ write-requires g c = c.in_ok-run.ensures.reached.reaches.frame
 pub returns : goal.returns
 returns g c =
     let raw = c.args.circuit.now in
-    let run = c.in_ok-run.run in
+    let run' = c.in_ok-run.run' in
     let e = c.in_ok-run.ensures in
-    let t = run.reached.frame in
-    let p = run.reached.property in
-    let text = witness_text (decimal p) run.start.items (take (t + 1) run.rows.rows) in
+    let t = run'.reached.frame in
+    let p = run'.reached.property in
+    let text = witness_text (decimal p) run'.start.items (take (t + 1) run'.rows.rows) in
     output_ends g.W.Write.written g.W.Write.failures c.args.out.now c.write.new.out
     (WritesWitness c.args.asked c.args.stimulus.now raw) text c.write.result c.write.ensures.written c.write.ensures.output (
-      run.rows.rows,
+      run'.rows.rows,
       e.rows,
-      subst (λ (start : List Tern). SpellsFirst raw start run.rows.rows c.args.asked text) e.start
-          (spells_first raw run.start.items run.rows.rows c.args.asked t p (ap length e.start ∙ start_length raw)
+      subst (λ (start : List Tern). SpellsFirst raw start run'.rows.rows c.args.asked text) e.start
+          (spells_first raw run'.start.items run'.rows.rows c.args.asked t p (ap length e.start ∙ start_length raw)
           e.rows.widths e.reached c.write.ensures.position),
     )
 

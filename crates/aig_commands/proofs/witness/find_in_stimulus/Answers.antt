@@ -9,10 +9,9 @@ use Rattle.aig_commands.proofs.Benches.{reported_as}
 use Rattle.aig_commands.proofs.WitnessTexts.{reach_refused, start_length}
 use Rattle.aig_commands.proofs.witness.find_in_stimulus.Goals as goal
 
-pub find-reached-requires-clause-start : goal.find-reached-requires-clause-start
-find-reached-requires-clause-start c =
-    let raw = c.args.circuit.now in
-    ap length c.in_ok-start.ensures.start ∙ start_length raw
+pub find-requires-clause-start : goal.find-requires-clause-start
+find-requires-clause-start c =
+    ap length (c.deref.ensures.value ∙ c.in_ok-start.ensures.start) ∙ start_length c.args.circuit.now
 
 pub returns-in_err-check_property-clause-refused : goal.returns-in_err-check_property-clause-refused
 returns-in_err-check_property-clause-refused c =
@@ -53,5 +52,6 @@ returns-in_err-reached-clause-refused c =
     reported_as c.from_residual-in_err-reached.result (run_faults.Reach fault)
     (λ (f : RunFault). WritesWitness asked stimulus raw (Err f) []) c.from_residual-in_err-reached.ensures.1
     (reach_refused asked stimulus raw rows fault c.in_ok-check_property.ensures.property c.in_ok-rows.ensures.rows
-    (λ is. subst (λ start. ReachesNone raw start rows asked) c.in_ok-start.ensures.start (e.none (ap Err is)))
+    (λ is. subst (λ start. ReachesNone raw start rows asked) (c.deref.ensures.value ∙ c.in_ok-start.ensures.start)
+    (e.none (ap Err is)))
     (λ is. e.property (ap Err is)))
