@@ -1,5 +1,5 @@
 -- The text of the witness of a run.
-use Rattle.std.proofs.Common.{◌≡◌, ◌≢◌, ℕ, ◌+◌, ◌<◌, List, [], length, map, take, Option, Err, refl, sym, ◌∙◌, ap, subst, arith}
+use Rattle.std.proofs.Common.{◌≡◌, ℕ, ◌+◌, List, [], length, map, take, Option, Err, refl, ap, arith}
 use Rattle.std.specs.Fmt.{decimal}
 use Rattle.std.proofs.lemmas.List.{length-map, length-take-le}
 use Rattle.std.proofs.lemmas.List.Elements.{All-take}
@@ -9,9 +9,9 @@ use Rattle.aig_parts.specs.declared.ternary.Tern.{Tern}
 use Rattle.aig_base.specs.Value.{start_of, reset_value}
 use Rattle.aig_values.specs.InputRows.{HaveWidth}
 use Rattle.aig_fault.specs.declared.run_fault.RunFault.TheVariants as run_faults
-use Rattle.aig_sim.specs.Reached.{IsFirstReached, ReachesNone, witness_at}
+use Rattle.aig_sim.specs.Reached.{IsFirstReached, ReachesNone}
 use Rattle.aig_sim.specs.StimulusText.{SpellsRows}
-use Rattle.aig_sim.specs.WitnessText.{IsDecimal, SpellsWitness, witness_text}
+use Rattle.aig_sim.specs.WitnessText.{IsDecimal, witness_text}
 use Rattle.aig_sim.specs.declared.reach_fault.ReachFault.{ReachFault}
 use Rattle.aig_sim.specs.declared.reach_fault.ReachFault.TheVariants as reaches
 use Rattle.aig_commands.specs.Witness.{HasAsked, SpellsFirst, WritesWitness}

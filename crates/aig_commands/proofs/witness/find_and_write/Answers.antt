@@ -1,4 +1,4 @@
-use Rattle.std.proofs.Common.{ℕ, ◌+◌, List, [], inl, ◌∙◌, ap, length, subst, take}
+use Rattle.std.proofs.Common.{◌+◌, List, [], inl, ◌∙◌, ap, length, subst, take}
 use Rattle.std.specs.Fmt.{decimal}
 use Rattle.aig_parts.specs.declared.ternary.Tern.{Tern}
 use Rattle.aig_bytes.specs.Flow.{flow}

@@ -1,5 +1,4 @@
-use Rattle.std.proofs.Common.{◌≡◌, ℕ, [], Err, length, refl, sym, ◌∙◌, ap, subst}
-use Rattle.aig_parts.specs.declared.raw.Raw.{Raw}
+use Rattle.std.proofs.Common.{[], Err, length, refl, sym, ◌∙◌, ap, subst}
 use Rattle.aig_sim.specs.Reached.{ReachesNone}
 use Rattle.aig_sim.specs.declared.reach_fault.ReachFault.{ReachFault}
 use Rattle.aig_fault.specs.declared.run_fault.RunFault.{RunFault}
