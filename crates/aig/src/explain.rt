@@ -332,7 +332,7 @@ fn of_select<R: AllocGlobal + Eprint>(rt: &R, files: &TaskFiles<'_>, fault: Sele
     }
 }
 
-fn of_reach<R: Eprint>(rt: &R, files: &TaskFiles<'_>, fault: ReachFault) {
+fn of_reach<R: AllocGlobal + Eprint>(rt: &R, files: &TaskFiles<'_>, fault: ReachFault) {
     note_name(rt, files.circuit);
     match fault {
         ReachFault::Property => {
