@@ -1,0 +1,4 @@
+pub mod WordLemmas
+pub mod PutLemmas
+pub mod PropagationLemmas
+pub mod TruthLemmas
