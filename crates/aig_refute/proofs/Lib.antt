@@ -2,3 +2,5 @@ pub mod WordLemmas
 pub mod PutLemmas
 pub mod PropagationLemmas
 pub mod TruthLemmas
+pub mod StandingLemmas
+pub mod ForgetLemmas

@@ -4,6 +4,8 @@ use Rattle.std.proofs.lemmas.List.{length-set, get_or-set_same, get_or-set_other
 use Rattle.std.proofs.lemmas.Bool.{false≢true}
 use Rattle.std.proofs.lemmas.List.Folds.{list_any_at}
 use Rattle.std.proofs.Math.Seq.{get_or-append_seam}
+use Rattle.std.specs.Prelude.{IsTrue, IfOk, Result, Ok, Err}
+use Rattle.aig_bytes.specs.declared.fault.Memory.{Memory}
 use Rattle.aig_parts.specs.Literal.{negation, variable}
 use Rattle.aig_refute.specs.declared.known.Known.{Known}
 use Rattle.aig_refute.specs.declared.propagator.Propagator.{Propagator}
@@ -161,3 +163,31 @@ implied_known clause k literal old mid inside is first known = implied_by clause
 pub implied_conflict : (clause : List ℕ) (old mid : Propagator) → Assumes clause old mid → Contradicts mid
     → Implies old clause
 implied_conflict clause old mid first untrue = implied_by clause old (λ v a unmet. untrue v (assumed_agrees clause old mid first v a unmet))
+
+-- a conflict of a later state is one of the earlier state
+pub pulled : (r : Result Bool Memory) (old mid : Propagator) → ((v : ℕ → Bool) → Agrees v old → Agrees v mid)
+    → IfOk r (λ b. IsTrue b → Contradicts mid) → IfOk r (λ b. IsTrue b → Contradicts old)
+pulled (Ok b) old mid back h = λ t v a. h t v (back v a)
+pulled (Err e) old mid back h = h
+
+pub pulled_if : (r : Result Bool Memory) (literal : ℕ) (old mid : Propagator)
+    → ((v : ℕ → Bool) → Agrees v old → is_true v literal ≡ true → Agrees v mid)
+    → IfOk r (λ b. IsTrue b → Contradicts mid)
+    → IfOk r (λ b. IsTrue b → (v : ℕ → Bool) → Agrees v old → is_true v literal ≡ true → ⊥)
+pulled_if (Ok b) literal old mid back h = λ t v a holds. h t v (back v a holds)
+pulled_if (Err e) literal old mid back h = h
+
+pub pulled_clause : (r : Result Bool Memory) (clause : List ℕ) (old mid : Propagator) → Assumes clause old mid
+    → IfOk r (λ b. IsTrue b → Contradicts mid) → IfOk r (λ b. IsTrue b → Implies old clause)
+pulled_clause (Ok b) clause old mid first h = λ t. implied_conflict clause old mid first (h t)
+pulled_clause (Err e) clause old mid first h = h
+
+-- what is known after the trail was taken back was known before
+pub undone : (clause : List ℕ) (old mid new : Propagator) → Assumes clause old mid
+    → new.clauses.words.items ≡ mid.clauses.words.items
+    → ((before : List Bool) → IsFound before mid.known → (l : ℕ) → IsKnown new.known.truths.items l → IsKnown before l)
+    → KeepsAgreement old new
+undone clause old mid new first e back v a = record {
+    met = subst (MeetsAll v) (sym e) (first.met v a.met);
+    known = λ l h. a.known l (back old.known.truths.items (first.found old.known.truths.items (λ m known. inl known)) l h);
+  }

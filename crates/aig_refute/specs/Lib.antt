@@ -4,3 +4,6 @@ pub mod Formula
 pub mod Words
 pub mod Knowledge
 pub mod Visits
+pub mod Standing
+pub mod Distinct
+pub mod Holding

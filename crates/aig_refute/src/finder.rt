@@ -1,4 +1,7 @@
 //! Finding a clause by its literals, in any order.
+ghost use Rattle.std.specs.Prelude.{◌≡◌, ◌<◌, length};
+ghost use Rattle.aig_refute.specs.Words.{KeepsMet};
+
 use crate::clauses::{Clauses, HEAD};
 use crate::marks::Marks;
 use aig_bytes::Memory;
@@ -13,6 +16,7 @@ pub(crate) struct Finder {
     // How many clauses there are.
     clauses: usize,
     alloc: Global,
+    ghost some: { 0 < length chains.items },
 }
 
 // A hash of literals that does not depend on their order.
@@ -42,12 +46,16 @@ impl Finder {
     }
 
     // The number of the chain of these literals.
-    fn chain_of(&self, literals: &[u32]) -> usize {
+    fn chain_of(&self, literals: &[u32]) -> usize
+        ensures { result < length self.now.chains.items }
+    {
         (hash_of(literals) % (self.chains.len() as u64)) as usize
     }
 
     // Puts a clause at the front of its chain.
-    fn link(&mut self, clauses: &mut Clauses, place: u32) {
+    fn link(&mut self, clauses: &mut Clauses, place: u32)
+        ensures { KeepsMet clauses.old.words.items clauses.new.words.items }
+    {
         if let Some(literals) = clauses.literals(place) {
             let chain = self.chain_of(literals);
             clauses.set_next(place, self.chains[chain]);
@@ -56,7 +64,9 @@ impl Finder {
     }
 
     // Puts the clauses of an earlier chain into those of now.
-    fn link_all(&mut self, clauses: &mut Clauses, first: u32) {
+    fn link_all(&mut self, clauses: &mut Clauses, first: u32)
+        ensures { KeepsMet clauses.old.words.items clauses.new.words.items }
+    {
         let mut place = first;
         for _ in 0..self.clauses {
             if place == 0 {
@@ -69,7 +79,10 @@ impl Finder {
     }
 
     // Makes twice as many chains.
-    fn grow(&mut self, clauses: &mut Clauses) -> Result<(), Memory> {
+    fn grow(&mut self, clauses: &mut Clauses) -> Result<(), Memory>
+        requires { length self.old.chains.items < 0x8000_0000 }
+        ensures { KeepsMet clauses.old.words.items clauses.new.words.items }
+    {
         let more = vec![in self.alloc; 0; 2 * self.chains.len()]?;
         let chains = mem::replace(&mut self.chains, more);
         for first in &chains {
@@ -79,7 +92,9 @@ impl Finder {
     }
 
     /// Adds a clause that stands, and that is not there.
-    pub(crate) fn add(&mut self, clauses: &mut Clauses, place: u32) -> Result<(), Memory> {
+    pub(crate) fn add(&mut self, clauses: &mut Clauses, place: u32) -> Result<(), Memory>
+        ensures { KeepsMet clauses.old.words.items clauses.new.words.items }
+    {
         if self.clauses >= self.chains.len() && self.chains.len() < HEAD as usize {
             self.grow(clauses)?;
         }
@@ -89,8 +104,10 @@ impl Finder {
     }
 
     /// Deletes a clause that has the literals of the marks, if one is there.
-    pub(crate) fn delete(&mut self, clauses: &mut Clauses, marks: &Marks) {
-        let chain = self.chain_of(marks.literals());
+    pub(crate) fn delete(&mut self, clauses: &mut Clauses, marks: &Marks)
+        ensures { KeepsMet clauses.old.words.items clauses.new.words.items }
+    {
+        let chain = self.chain_of(&marks.literals);
         let mut before = 0;
         let mut place = self.chains[chain];
         for _ in 0..self.clauses {
@@ -105,7 +122,7 @@ impl Finder {
                     clauses.set_next(before, next);
                 }
                 clauses.remove(place);
-                self.clauses -= 1;
+                self.clauses = self.clauses.saturating_sub(1);
                 return;
             }
             before = place;

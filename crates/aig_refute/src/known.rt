@@ -23,10 +23,10 @@ pub(crate) fn negated(literal: u32) -> u32
     Lit::new(literal).not().value()
 }
 
-// Forgets the literals of a list.
-fn forget(truths: &mut [bool], list: &[u32])
-    ensures known { (l : ℕ) → IsKnown truths.new l → IsKnown truths.old l }
-    ensures forgotten { (l : ℕ) → IsKnown truths.new l → IsIn list.now l → ⊥ }
+/// Forgets the literals of a list.
+pub(crate) fn forget(truths: &mut Vec<bool>, list: &[u32])
+    ensures known { (l : ℕ) → IsKnown truths.new.items l → IsKnown truths.old.items l }
+    ensures forgotten { (l : ℕ) → IsKnown truths.new.items l → IsIn list.now l → ⊥ }
 {
     for literal in list {
         if (*literal as usize) < truths.len() {

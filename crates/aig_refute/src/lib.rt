@@ -1,6 +1,7 @@
 //! Checking refutations of formulas by reverse unit propagation.
 #![tactic(auto)]
 
+mod checker;
 mod clauses;
 mod finder;
 mod known;

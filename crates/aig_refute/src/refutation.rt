@@ -1,91 +1,70 @@
 //! Checking a refutation, clause by clause.
-use crate::finder::Finder;
-use crate::marks::Marks;
-use crate::propagator::Propagator;
+ghost use Rattle.std.specs.Prelude.{IsTrue, IfOk, [], ◌∷◌};
+ghost use Rattle.aig_refute.specs.Consequence.{Follows, IsUnsatisfiable};
+
+use crate::checker::Checker;
 use aig_bytes::Memory;
 use aig_parts::Lit;
 use std::alloc::Global;
+use std::marker::Model;
 
-/// A formula that is being refuted: the clauses that stand, and the literals that follow from them by unit propagation.
+/// A formula that is being refuted. A contract sees it as a list of clauses: those that stand, and each literal that
+/// was found to be true as a clause of its own; where there is a contradiction, the empty clause is one of them.
+/// Clauses are sets: a literal counts once. A clause of both signs of a variable stands until it is deleted, and nothing
+/// follows from it. Literals of variables that it does not have are kept in the clauses, and never found to be true.
 #[derive(Drop)]
 pub struct Refutation {
-    propagator: Propagator,
-    finder: Finder,
-    marks: Marks,
-    refuted: bool,
+    checker: Checker,
+}
+
+impl Model for Refutation {
+    ghost use Rattle.std.specs.Prelude.{ℕ, List};
+
+    ghost Value = { List (List ℕ) };
+
+    ghost use Rattle.aig_refute.specs.Standing.{standing};
+
+    ghost view = { λ a. standing a.checker.refuted a.checker.propagator };
 }
 
 impl Refutation {
-    /// A formula without clauses over so many variables.
-    pub fn new(alloc: Global, variables: u32) -> Result<Refutation, Memory> {
+    /// A formula without clauses over so many variables. It takes memory for each of them.
+    pub fn new(alloc: Global, variables: u32) -> Result<Refutation, Memory>
+        ensures { IfOk result (Follows []) }
+    {
         Ok(Refutation {
-            propagator: Propagator::new(alloc, variables)?,
-            finder: Finder::new(alloc)?,
-            marks: Marks::new(alloc, 2 * variables as usize)?,
-            refuted: false,
+            checker: Checker::new(alloc, variables)?,
         })
     }
 
-    // Stores the clause of the marks, with its watched literals.
-    fn store(&mut self, watched: u32) -> Result<u32, Memory> {
-        let place = self.propagator.clauses.add(0, watched, self.marks.literals())?;
-        self.finder.add(&mut self.propagator.clauses, place)?;
-        Ok(place)
+    /// Adds a clause to the formula. If no memory was found, the clause may be missing.
+    pub fn add_clause(&mut self, clause: &[Lit]) -> Result<(), Memory>
+        ensures { Follows (clause.now ∷ self.old) self.new }
+    {
+        self.checker.add_clause(clause)
     }
 
-    // Adds the clause of the marks, which follows.
-    fn stand(&mut self) -> Result<(), Memory> {
-        if self.marks.is_tautology() {
-            self.store(0)?;
-            return Ok(());
-        }
-        let Some(first) = self.propagator.known.free(self.marks.literals()) else {
-            self.refuted = true;
-            return Ok(());
-        };
-        match self.propagator.known.free_beside(self.marks.literals(), first) {
-            None => {
-                self.store(0)?;
-                self.refuted = self.propagator.take_unit(first)?;
-                Ok(())
-            }
-            Some(second) => {
-                let place = self.store(first ^ second)?;
-                self.propagator.watch(place, first, second)
-            }
-        }
+    /// Adds a clause, if it follows from those that stand by unit propagation, and answers whether it does. Any clause
+    /// follows where there is a contradiction.
+    pub fn add_step(&mut self, clause: &[Lit]) -> Result<bool, Memory>
+        ensures stands { Follows self.old self.new }
+        ensures follows { IfOk result (λ taken. IsTrue taken → Follows self.old (clause.now ∷ [])) }
+    {
+        self.checker.add_step(clause)
     }
 
-    /// Adds a clause to the formula.
-    pub fn add_clause(&mut self, clause: &[Lit]) -> Result<(), Memory> {
-        if self.refuted {
-            return Ok(());
-        }
-        self.marks.put(clause)?;
-        self.stand()
+    /// Deletes a clause of these literals, in any order, if one stands. Of equal ones it deletes one. What was found to
+    /// be true stays so.
+    pub fn delete(&mut self, clause: &[Lit])
+        ensures { Follows self.old self.new }
+    {
+        self.checker.delete(clause)
     }
 
-    /// Adds a clause that follows by unit propagation, and answers whether it does.
-    pub fn add_step(&mut self, clause: &[Lit]) -> Result<bool, Memory> {
-        if self.refuted {
-            return Ok(true);
-        }
-        if !self.propagator.follows(clause)? {
-            return Ok(false);
-        }
-        self.add_clause(clause)?;
-        Ok(true)
-    }
-
-    /// Deletes a clause, if it stands.
-    pub fn delete(&mut self, clause: &[Lit]) {
-        if self.marks.put(clause).is_ok() {
-            self.finder.delete(&mut self.propagator.clauses, &self.marks);
-        }
-    }
-
-    /// Whether no assignment satisfies the formula, as far as was found.
-    pub fn is_refuted(&self) -> bool {
-        self.refuted
+    /// Whether unit propagation has found a contradiction.
+    pub fn is_refuted(&self) -> bool
+        ensures { IsTrue result → IsUnsatisfiable self.now }
+    {
+        self.checker.refuted
     }
 }

@@ -1,8 +1,5 @@
-use Rattle.std.proofs.Common.{ℕ, ◌<◌, ◌≡◌, get_or}
-use Rattle.aig_refute.specs.Knowledge.{IsKnown}
+use Rattle.aig_refute.proofs.ForgetLemmas.{AreForgotten}
 use Rattle.aig_refute.proofs.known.forget.Given as goal
 
 abbrev pub invariant-loop-literal : goal.invariant-loop-literal
-invariant-loop-literal l =
-    (m : ℕ) → IsKnown l.truths m
-    → IsKnown l.initial.truths m × ((j : ℕ) → j < l.literal-index → get_or l.list j 0 ≡ m → ⊥)
+invariant-loop-literal l = AreForgotten l.initial.truths.items l.truths.items l.list l.literal-index

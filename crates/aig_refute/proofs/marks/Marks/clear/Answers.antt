@@ -1,0 +1,7 @@
+use Rattle.aig_refute.proofs.ForgetLemmas.{in_from_has}
+use Rattle.aig_refute.proofs.marks.Marks.clear.Goals as goal
+
+pub invariant_of-self : goal.invariant_of-self
+invariant_of-self c = record {
+    listed = λ l h. absurd (c.forget.ensures.forgotten l h (in_from_has _ l (c.args.self.now.listed l (c.forget.ensures.known l h))));
+  }
