@@ -4,3 +4,5 @@ pub mod PropagationLemmas
 pub mod TruthLemmas
 pub mod StandingLemmas
 pub mod ForgetLemmas
+pub mod HoldingLemmas
+pub mod RefutationLemmas

@@ -18,7 +18,7 @@ pub split_and : (a b : Bool) → (a && b) ≡ true → (a ≡ true) × (b ≡ tr
 split_and true b h = (refl, h)
 split_and false b h = absurd (false≢true h)
 
-both_and : (a b : Bool) → a ≡ true → b ≡ true → (a && b) ≡ true
+pub both_and : (a b : Bool) → a ≡ true → b ≡ true → (a && b) ≡ true
 both_and a b ea eb = cc
 
 split_or : (a b : Bool) → (a || b) ≡ true → (a ≡ true) ⊎ (b ≡ true)
