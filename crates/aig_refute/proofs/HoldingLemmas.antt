@@ -50,3 +50,7 @@ stored literals old new same_refuted same_known met v h m = record {
       known = subst (λ (x : Known). MakesTrue v x.truths.items) (sym same_known) h.agrees.known;
     };
   }
+
+pub not_true : (b : Bool) → (b ≡ true → ⊥) → b ≡ false
+not_true true never = absurd (never refl)
+not_true false never = refl

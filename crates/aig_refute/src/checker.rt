@@ -34,6 +34,7 @@ impl Checker {
     }
 
     // Stores the clause of the marks, with its watched literals.
+    #[tactic(none)]
     fn store(&mut self, watched: u32) -> Result<u32, Memory>
         ensures { KeepsMeeting self.old.marks.literals.items self.old self.new }
     {
@@ -43,19 +44,20 @@ impl Checker {
     }
 
     // Stores the clause of the marks, and takes its only literal that is not known to be false.
+    #[tactic(none)]
     fn store_unit(&mut self, literal: u32) -> Result<(), Memory>
         requires { (values : ℕ → Bool) → Holds values self.old → meets values self.old.marks.literals.items ≡ true
             → is_true values literal ≡ true }
         ensures { KeepsMeeting self.old.marks.literals.items self.old self.new }
     {
         self.store(0)?;
-        if self.propagator.take_unit(literal)? {
-            self.refuted = true;
-        }
+        let conflict = self.propagator.take_unit(literal)?;
+        self.refuted = conflict;
         Ok(())
     }
 
     // Stores the clause of the marks, which watches two of its literals.
+    #[tactic(none)]
     fn store_watched(&mut self, first: u32, second: u32) -> Result<(), Memory>
         ensures { KeepsMeeting self.old.marks.literals.items self.old self.new }
     {
@@ -64,6 +66,7 @@ impl Checker {
     }
 
     // Adds the clause of the marks.
+    #[tactic(none)]
     fn stand(&mut self) -> Result<(), Memory>
         ensures { KeepsMeeting self.old.marks.literals.items self.old self.new }
     {
@@ -82,6 +85,7 @@ impl Checker {
     }
 
     /// Adds a clause.
+    #[tactic(none)]
     pub(crate) fn add_clause(&mut self, clause: &[Lit]) -> Result<(), Memory>
         ensures { KeepsMeeting clause.now self.old self.new }
     {
@@ -93,6 +97,7 @@ impl Checker {
     }
 
     /// Adds a clause that follows by unit propagation, and answers whether it does.
+    #[tactic(none)]
     pub(crate) fn add_step(&mut self, clause: &[Lit]) -> Result<bool, Memory>
         ensures stands { KeepsHolding self.old self.new }
         ensures follows { IfOk result (λ taken. IsTrue taken
@@ -109,6 +114,7 @@ impl Checker {
     }
 
     /// Deletes a clause, if it stands.
+    #[tactic(none)]
     pub(crate) fn delete(&mut self, clause: &[Lit])
         ensures { KeepsHolding self.old self.new }
     {

@@ -91,13 +91,21 @@ impl Finder {
         Ok(())
     }
 
+    // Makes more chains where there are more clauses than chains.
+    fn make_room(&mut self, clauses: &mut Clauses) -> Result<(), Memory>
+        ensures { KeepsMet clauses.old.words.items clauses.new.words.items }
+    {
+        if self.clauses >= self.chains.len() && self.chains.len() < HEAD as usize {
+            return self.grow(clauses);
+        }
+        Ok(())
+    }
+
     /// Adds a clause that stands, and that is not there.
     pub(crate) fn add(&mut self, clauses: &mut Clauses, place: u32) -> Result<(), Memory>
         ensures { KeepsMet clauses.old.words.items clauses.new.words.items }
     {
-        if self.clauses >= self.chains.len() && self.chains.len() < HEAD as usize {
-            self.grow(clauses)?;
-        }
+        self.make_room(clauses)?;
         self.link(clauses, place);
         self.clauses = self.clauses.saturating_add(1);
         Ok(())
