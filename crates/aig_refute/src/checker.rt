@@ -85,7 +85,6 @@ impl Checker {
     }
 
     /// Adds a clause.
-    #[tactic(none)]
     pub(crate) fn add_clause(&mut self, clause: &[Lit]) -> Result<(), Memory>
         ensures { KeepsMeeting clause.now self.old self.new }
     {
@@ -97,7 +96,6 @@ impl Checker {
     }
 
     /// Adds a clause that follows by unit propagation, and answers whether it does.
-    #[tactic(none)]
     pub(crate) fn add_step(&mut self, clause: &[Lit]) -> Result<bool, Memory>
         ensures stands { KeepsHolding self.old self.new }
         ensures follows { IfOk result (λ taken. IsTrue taken
@@ -106,15 +104,14 @@ impl Checker {
         if self.refuted {
             return Ok(true);
         }
-        if !self.propagator.follows(clause)? {
-            return Ok(false);
+        if self.propagator.follows(clause)? {
+            self.add_clause(clause)?;
+            return Ok(true);
         }
-        self.add_clause(clause)?;
-        Ok(true)
+        Ok(false)
     }
 
     /// Deletes a clause, if it stands.
-    #[tactic(none)]
     pub(crate) fn delete(&mut self, clause: &[Lit])
         ensures { KeepsHolding self.old self.new }
     {
