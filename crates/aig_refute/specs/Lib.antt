@@ -1,0 +1,9 @@
+pub mod Agreement
+pub mod Consequence
+pub mod Formula
+pub mod Words
+pub mod Knowledge
+pub mod Visits
+pub mod Standing
+pub mod Distinct
+pub mod Holding
