@@ -1,2 +1,4 @@
 pub mod AddedLemmas
+pub mod InductionLemmas
+pub mod LaterFrames
 pub mod UnreachableLemmas

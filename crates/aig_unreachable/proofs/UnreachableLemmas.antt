@@ -29,17 +29,17 @@ use Rattle.aig_unreachable.specs.Unreachable.{IsUnreachableWithin}
 -- ---- a row without unknown values
 
 -- 0 in place of x
-abbrev settled : Tern → Tern
+abbrev pub settled : Tern → Tern
 settled Zero = Zero
 settled One = One
 settled X = Zero
 
-settled_completes : (w : Tern) → Completes w (settled w)
+pub settled_completes : (w : Tern) → Completes w (settled w)
 settled_completes Zero = (λ e. (let no : ⊥ = cc in no), λ h. refl)
 settled_completes One = (λ e. (let no : ⊥ = cc in no), λ h. refl)
 settled_completes X = (λ e. (let no : ⊥ = cc in no), λ h. absurd (h refl))
 
-row_completes : (row : List Tern) → AllZip Completes row (map settled row)
+pub row_completes : (row : List Tern) → AllZip Completes row (map settled row)
 row_completes [] = tt
 row_completes (w ∷ row) = (settled_completes w, row_completes row)
 

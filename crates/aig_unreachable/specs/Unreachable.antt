@@ -11,3 +11,9 @@ abbrev pub IsUnreachableWithin : Raw → ℕ → ℕ → Type 0
 IsUnreachableWithin raw k p =
     (start : List Tern) (rows : List (List Tern)) (t b : ℕ) → Fits raw start rows → IsAllowed raw start
     → t < k → t < length rows → slice_get raw.bad p ≡ Some b → ReachesBad raw start rows t b → ⊥
+
+-- No run from a start that the resets allow, of any length, reaches property p.
+abbrev pub IsUnreachable : Raw → ℕ → Type 0
+IsUnreachable raw p =
+    (start : List Tern) (rows : List (List Tern)) (t b : ℕ) → Fits raw start rows → IsAllowed raw start
+    → t < length rows → slice_get raw.bad p ≡ Some b → ReachesBad raw start rows t b → ⊥

@@ -3,6 +3,8 @@
 #![tactic(auto)]
 
 mod formula;
+mod induction;
 mod proof;
 
+pub use induction::law_of_induction;
 pub use proof::check_unreachable;
