@@ -1,11 +1,14 @@
 -- Clauses that are given to a checker, piece by piece.
-use Rattle.std.proofs.Common.{◌≡◌, ℕ, ◌+◌, ◌*◌, ◌<◌, Result, Ok, Err, OnOk, length, take, drop, get_or, slice_index, add-one, Bool, true, false, ◌&&◌, List, [], ◌∷◌, ◌++◌, IsTrue, refl, sym, ◌∙◌, ap, subst}
+use Rattle.std.proofs.Common.{◌≡◌, ℕ, ◌+◌, ◌*◌, ◌<◌, ◌≤◌, Result, Ok, Err, OnOk, length, take, drop, get_or, slice_index, add-one, Bool, true, false, ◌&&◌, List, [], ◌∷◌, ◌++◌, IsTrue, refl, sym, ◌∙◌, ap, subst}
 use Rattle.std.specs.List.{list_all, flat_map}
 use Rattle.std.proofs.lemmas.List.{append-nil, take-append-drop, take_more}
 use Rattle.std.proofs.lemmas.List.Concat.{flat_map-append}
 use Rattle.aig_parts.specs.declared.gate.Gate.{Gate}
 use Rattle.aig_parts.specs.declared.raw.Raw.{Raw}
 use Rattle.aig_cnf.specs.Formula.{meets, Satisfies, gate_clauses, goals}
+use Rattle.aig_cnf.specs.Step.{quiet_frames}
+use Rattle.aig_cnf.proofs.FormulaText.{frames_split}
+use Rattle.aig_parts.specs.Literal.{negation}
 use Rattle.aig_refute.specs.Consequence.{Follows}
 use Rattle.aig_unreachable.specs.state.Added.{Adds}
 
@@ -72,6 +75,19 @@ adds_some_gates gates i h =
 
 pub goals_more : (new : Raw) (n t p : ℕ) → goals new n t p ++ slice_index new.bad (t * n + p) ∷ [] ≡ goals new n (t + 1) p
 goals_more new n t p = ap (λ m. goals new n m p) (sym (add-one t))
+
+-- ---- the frames before the last, where the bad literal is false
+
+pub adds_quiet : (new : Raw) (n t p : ℕ) {old middle later : List (List ℕ)} → Adds (quiet_frames new n t p) old middle
+    → Adds ((negation (slice_index new.bad (t * n + p)) ∷ []) ∷ []) middle later → Adds (quiet_frames new n (t + 1) p) old later
+adds_quiet new n t p before here =
+    adds_same (adds_then before here) (ap (λ m. quiet_frames new n m p) (sym (add-one t)))
+
+pub adds_some_quiet : (new : Raw) (n t k p : ℕ) {old later : List (List ℕ)} → t ≤ k → Adds (quiet_frames new n t p) old later
+    → Adds (quiet_frames new n k p) old later
+adds_some_quiet new n t k p le h =
+    let (rest, e) = frames_split (λ s. (negation (slice_index new.bad (s * n + p)) ∷ []) ∷ []) t k le in
+    adds_same (adds_part rest h) (sym e)
 
 -- ---- answers
 

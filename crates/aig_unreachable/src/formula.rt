@@ -3,6 +3,7 @@
 ghost use Rattle.std.specs.Prelude.{◌≡◌, ◌+◌, ◌*◌, ◌<◌, [], ◌∷◌, length, slice_index, IfOk};
 ghost use Rattle.std.specs.List.{flat_map};
 ghost use Rattle.aig_cnf.specs.Formula.{bad_formula, gate_clauses, goals};
+ghost use Rattle.aig_cnf.specs.Step.{quiet_frames, step_formula};
 ghost use Rattle.aig_refute.specs.Consequence.{Follows};
 ghost use Rattle.aig_unreachable.specs.state.Added.{Adds};
 
@@ -113,5 +114,60 @@ pub(crate) fn formula_of_bad(
     circuit.facts();
     let mut refutation = Refutation::new(alloc, circuit.max_var() + 1)?;
     add_formula(alloc, &mut refutation, circuit, bads, frames, property)?;
+    Ok(refutation)
+}
+
+// Adds that the bad literal of each frame before this one is false, where a circuit was unrolled for one frame more.
+fn add_quiet_frames(
+    refutation: &mut Refutation,
+    circuit: &Circuit,
+    bads: u32,
+    frames: u32,
+    property: u32,
+) -> Result<(), Memory>
+    requires property { property < bads }
+    requires bad { length circuit.now.bad ≡ (frames + 1) * bads }
+    ensures { Adds (quiet_frames circuit.now bads frames property) refutation.old refutation.new }
+{
+    for frame in 0..frames {
+        add(refutation, &[goal_at(circuit, bads, frame, property).not()])?;
+    }
+    Ok(())
+}
+
+// Adds the formula of an induction step.
+fn add_step_formula(
+    refutation: &mut Refutation,
+    circuit: &Circuit,
+    bads: u32,
+    frames: u32,
+    property: u32,
+) -> Result<(), Memory>
+    requires property { property < bads }
+    requires bad { length circuit.now.bad ≡ (frames + 1) * bads }
+    ensures { Adds (step_formula circuit.now bads frames property) refutation.old refutation.new }
+{
+    add(refutation, &[Lit::new(1)])?;
+    add_quiet_frames(refutation, circuit, bads, frames, property)?;
+    add(refutation, &[goal_at(circuit, bads, frames, property)])?;
+    add_gates(refutation, circuit.gates())
+}
+
+/// A checker that has the formula of an induction step of so many frames, over the circuit that starts in any state,
+/// unrolled for one frame more.
+pub(crate) fn formula_of_step(
+    alloc: Global,
+    circuit: &Circuit,
+    bads: u32,
+    frames: u32,
+    property: u32,
+) -> Result<Refutation, Memory>
+    requires property { property < bads }
+    requires bad { length circuit.now.bad ≡ (frames + 1) * bads }
+    ensures { IfOk result (Follows (step_formula circuit.now bads frames property)) }
+{
+    circuit.facts();
+    let mut refutation = Refutation::new(alloc, circuit.max_var() + 1)?;
+    add_step_formula(&mut refutation, circuit, bads, frames, property)?;
     Ok(refutation)
 }

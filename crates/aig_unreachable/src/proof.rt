@@ -1,12 +1,13 @@
 //! A proof of a formula's refutation, checked step by step.
 ghost use Rattle.std.specs.Prelude.{◌≡◌, ◌+◌, ◌*◌, ◌<◌, length, OnOk};
 ghost use Rattle.aig_cnf.specs.Formula.{bad_formula};
+ghost use Rattle.aig_cnf.specs.Step.{step_formula};
 ghost use Rattle.aig_proof.specs.Reads.{reads_failed};
 ghost use Rattle.aig_refute.specs.Consequence.{Follows, IsUnsatisfiable};
 ghost use Rattle.aig_unroll.specs.Answers.{IsUnrolled};
 ghost use Rattle.aig_unreachable.specs.Unreachable.{IsUnreachableWithin};
 
-use crate::formula::formula_of_bad;
+use crate::formula::{formula_of_bad, formula_of_step};
 use aig_base::{Circuit, Lit, Memory, Read};
 use aig_proof::{ProofFault, ProofReader, StepKind};
 use aig_refute::Refutation;
@@ -56,8 +57,9 @@ fn check_steps<R: Read>(
     Err(ProofFault::NoRefutation)
 }
 
-// Checks a proof about the formula of a bad state within so many frames, over the unrolled circuit.
-fn check_formula<R: Read>(
+/// Checks a solver's proof that no assignment satisfies the formula of a bad state within so many frames, over the unrolled
+/// circuit, which has so many bad literals a frame.
+pub fn check_formula<R: Read>(
     alloc: Global,
     circuit: &Circuit,
     bads: u32,
@@ -71,6 +73,30 @@ fn check_formula<R: Read>(
     ensures count { R.failures proof.new ≡ R.failures proof.old + reads_failed result }
 {
     let mut refutation = match formula_of_bad(alloc, circuit, bads, frames, property) {
+        Ok(refutation) => refutation,
+        Err(Memory) => return Err(ProofFault::Memory),
+    };
+    circuit.facts();
+    let mut steps = ProofReader::new(alloc, circuit.max_var() + 1);
+    check_steps(&mut refutation, &mut steps, proof)
+}
+
+/// Checks a solver's proof that no assignment satisfies the formula of an induction step of so many frames, over the circuit
+/// that starts in any state, unrolled for one frame more, which has so many bad literals a frame.
+pub fn check_step_formula<R: Read>(
+    alloc: Global,
+    circuit: &Circuit,
+    bads: u32,
+    frames: u32,
+    property: u32,
+    proof: &mut R,
+) -> Result<(), ProofFault>
+    requires property { property < bads }
+    requires bad { length circuit.now.bad ≡ (frames + 1) * bads }
+    ensures refuted { OnOk result (IsUnsatisfiable (step_formula circuit.now bads frames property)) }
+    ensures count { R.failures proof.new ≡ R.failures proof.old + reads_failed result }
+{
+    let mut refutation = match formula_of_step(alloc, circuit, bads, frames, property) {
         Ok(refutation) => refutation,
         Err(Memory) => return Err(ProofFault::Memory),
     };
