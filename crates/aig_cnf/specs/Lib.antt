@@ -3,3 +3,4 @@ pub mod CnfText
 pub mod Dimacs
 pub mod Formula
 pub mod Step
+pub mod StepText

@@ -4,7 +4,9 @@
 mod dimacs;
 mod fault;
 mod request;
+mod step;
 
 pub use dimacs::write_formula;
 pub use fault::CnfFault;
 pub use request::unroll_for_formula;
+pub use step::write_step_formula;
