@@ -1,3 +1,4 @@
 pub mod FormulaText
 pub mod SignLemmas
 pub mod StepFormula
+pub mod StepAnswerLemmas

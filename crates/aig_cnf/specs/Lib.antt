@@ -3,4 +3,5 @@ pub mod CnfText
 pub mod Dimacs
 pub mod Formula
 pub mod Step
+pub mod StepAnswers
 pub mod StepText

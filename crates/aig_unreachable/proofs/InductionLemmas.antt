@@ -23,8 +23,8 @@ use Rattle.aig_base.proofs.values.OneValue.{exists_value}
 use Rattle.aig_base.proofs.values.Refined.{kept}
 use Rattle.aig_base.proofs.values.UniqueValue.{unique}
 use Rattle.aig_sim.proofs.VerdictLemmas.{bad_defined, constraint_defined}
-use Rattle.aig_cnf.specs.Formula.{formula_of, gate_clauses, goals, is_true, meets, Satisfies}
-use Rattle.aig_cnf.specs.Step.{from_any_state, quiet_frames, step_formula_of, uninitialised_latch}
+use Rattle.aig_cnf.specs.Formula.{bad_formula, formula_of, gate_clauses, goals, is_true, meets, Satisfies}
+use Rattle.aig_cnf.specs.Step.{from_any_state, quiet_frames, step_formula, step_formula_of, uninitialised_latch}
 use Rattle.aig_laws.specs.Models.{AreKnown, tern_of, values_of}
 use Rattle.aig_laws.specs.UnrolledWitness.{IsRun, MakesBad, rows_in, start_in}
 use Rattle.aig_laws.proofs.BadFormula.{bad_at, bad_in_range, in_model, inputs_are, low_of, valued}
@@ -32,12 +32,13 @@ use Rattle.aig_laws.proofs.Tseitin.{and_both, assigned, both_and, gates_met, mee
 use Rattle.aig_laws.proofs.UnrolledRows.{row_of_run, row_wide}
 use Rattle.aig_laws.proofs.UnrolledWitnesses.{reaches_in_row}
 use Rattle.aig_refute.specs.Consequence.{IsUnsatisfiable}
+use Rattle.aig_unroll.specs.Answers.{IsUnrolled}
 use Rattle.aig_unroll.specs.FrameLiteral.{input_count}
 use Rattle.aig_unroll.specs.Unrolled.{frames, unrolled}
 use Rattle.aig_unroll.specs.UnrolledValues.{IsAllowed, ReachesBad, free_values, unrolled_row}
 use Rattle.aig_unreachable.specs.Unreachable.{IsUnreachable, IsUnreachableWithin}
 use Rattle.aig_unreachable.proofs.LaterFrames.{all_known, cut_row, flat_known, free_known, known_value, later, latch_from, state_at}
-use Rattle.aig_unreachable.proofs.UnreachableLemmas.{settled, settled_completes, row_completes}
+use Rattle.aig_unreachable.proofs.UnreachableLemmas.{settled, settled_completes, row_completes, unreachable_within}
 
 -- ---- clauses
 
@@ -361,3 +362,13 @@ module _ (raw : Raw) (circuit : IsCircuit raw) (any : IsCircuit (from_any_state 
   pub unreachable : IsUnreachable raw p
   unreachable start rows t b fits allowed long_enough at reaches =
       each_frame (suc t) start rows t b (omega arith) fits allowed long_enough at reaches
+
+-- the same over a circuit that is known to start in any state
+pub by_induction : (raw any new last : Raw) → IsCircuit raw → IsCircuit any → any ≡ from_any_state raw → (k p : ℕ)
+    → IsUnrolled raw k new → IsUnrolled any (k + 1) last → IsUnsatisfiable (bad_formula new (length raw.bad) k p)
+    → IsUnsatisfiable (step_formula last (length raw.bad) k p) → IsUnreachable raw p
+by_induction raw any new last circuit any_circuit is k p unrolled_is (order, canonical, last_is) base step =
+    unreachable raw circuit (subst IsCircuit is any_circuit) order (subst (λ (r : Raw). IsCanonicalOrder r order) is canonical) k p
+    (unreachable_within raw new circuit k p unrolled_is base)
+    (subst (λ (r : Raw). IsUnsatisfiable (step_formula (unrolled r order (k + 1)) (length raw.bad) k p)) is
+    (subst (λ (r : Raw). IsUnsatisfiable (step_formula r (length raw.bad) k p)) last_is step))
