@@ -1,4 +1,5 @@
 pub mod FormulaText
 pub mod SignLemmas
-pub mod StepFormula
 pub mod StepAnswerLemmas
+pub mod StepFormula
+pub mod TermLemmas

@@ -5,3 +5,4 @@ pub mod Formula
 pub mod Step
 pub mod StepAnswers
 pub mod StepText
+pub mod state

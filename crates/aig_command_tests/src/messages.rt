@@ -1,5 +1,5 @@
 //! Texts of messages.
-use aig_base::{Fault, Io, Memory, WouldCycle};
+use aig_base::{Fault, Io, Memory, SelectFault, WouldCycle};
 use aig_bench::BenchFault;
 use aig_cnf::CnfFault;
 use aig_fault::{RunFault, ScriptFault};
@@ -8,7 +8,7 @@ use aig_unroll::UnrollFault;
 use std::alloc::Global;
 use std::fmt::Display;
 
-static MESSAGES: [(RunFault, &str); 27] = [
+static MESSAGES: [(RunFault, &str); 30] = [
     (RunFault::Circuit(Fault::Cycle(2)), "circuit: cycle 2"),
     (RunFault::Circuit(Fault::Memory), "circuit: memory"),
     (
@@ -51,6 +51,9 @@ static MESSAGES: [(RunFault, &str); 27] = [
     (RunFault::Cnf(CnfFault::Property), "cnf: property"),
     (RunFault::Cnf(CnfFault::Limit), "cnf: limit"),
     (RunFault::Cnf(CnfFault::Memory), "cnf: memory"),
+    (RunFault::Select(SelectFault::Limit), "select: limit"),
+    (RunFault::Select(SelectFault::Property), "select: property"),
+    (RunFault::Select(SelectFault::Memory), "select: memory"),
 ];
 
 // Whether this is the text of a value.

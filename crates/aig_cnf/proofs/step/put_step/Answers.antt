@@ -2,6 +2,7 @@ use Rattle.std.proofs.Common.{◌+◌, ◌∷◌, [], ap, ap₂, arith}
 use Rattle.std.specs.List.{flat_map}
 use Rattle.aig_bytes.proofs.GatherLemmas.{gathers_then, gathers_stop, gathers_failed, gathers_same}
 use Rattle.aig_cnf.specs.Dimacs.{clause_text, gate_text, problem_line}
+use Rattle.aig_base.proofs.circuits.ShortGates.{short_gates}
 use Rattle.aig_cnf.proofs.FormulaText.{is_goal}
 use Rattle.aig_cnf.proofs.StepFormula.{step_parts}
 use Rattle.aig_cnf.proofs.step.put_step.Goals as goal
@@ -10,6 +11,9 @@ pub goal_at-requires : goal.goal_at-requires
 goal_at-requires g c =
     is_goal c.args.circuit.now.bad c.args.bads c.args.frames (c.args.frames + 1) c.args.property (omega arith)
     c.requires.property c.requires.bad
+
+pub put_gates-requires : goal.put_gates-requires
+put_gates-requires g c = rw c.gates.ensures (short_gates c.args.circuit.now c.facts.ensures)
 
 pub returns-in_err-put_problem : goal.returns-in_err-put_problem
 returns-in_err-put_problem g c =
