@@ -25,6 +25,7 @@ RUNS = (
     ["check", "--trace", "examples/wraps.aag", "examples/wraps.wit"],
     ["cnf", "--frames", "3", "examples/wraps.aag"],
     ["select", "--to", "aig", "--from", "outputs", "examples/counter.aag"],
+    ["refute", "--frames", "3", "examples/wraps.aag", "examples/wraps.drat"],
     ["info", "examples/counter.aag"],
     ["--explain", "info", "examples/cyclic.aag"],
     ["--explain", "sim", "examples/counter.aag", "examples/counter.aag"],

@@ -42,8 +42,12 @@ formula_is v clauses = refl
 
 length_step : (new : Raw) (n k p : ℕ) → 2 + k + 3 * length new.gates ≡ length (step_formula new n k p)
 length_step new n k p =
-    omega (arith, length_quiet new n k p, length-clauses new.gates,
-    length-append (quiet_frames new n k p) ((slice_index new.bad (k * n + p) ∷ []) ∷ flat_map gate_clauses new.gates))
+    omega (
+      arith,
+      length_quiet new n k p,
+      length-clauses new.gates,
+      length-append (quiet_frames new n k p) ((slice_index new.bad (k * n + p) ∷ []) ∷ flat_map gate_clauses new.gates),
+    )
 
 pub step_parts : (new : Raw) (v n k p : ℕ) → problem_line v (2 + k + 3 * length new.gates) ++ (clause_text (1 ∷ [])
     ++ (flat_map clause_text (quiet_frames new n k p) ++ (clause_text (slice_index new.bad (k * n + p) ∷ [])

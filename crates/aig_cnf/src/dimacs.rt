@@ -45,7 +45,11 @@ fn put_literal<W: Write>(out: &mut W, block: &mut Block, literal: Lit) -> Result
 }
 
 // Puts a clause of these literals.
-pub(crate) fn put_clause<W: Write>(out: &mut W, block: &mut Block, literals: &[Lit]) -> Result<(), Io>
+pub(crate) fn put_clause<W: Write>(
+    out: &mut W,
+    block: &mut Block,
+    literals: &[Lit],
+) -> Result<(), Io>
     ensures { Gathers W.written W.failures out.old out.new block.old block.new (clause_text literals.now) result }
 {
     for literal in literals {

@@ -5,6 +5,7 @@ pub mod GoodRuns
 pub mod Headers
 pub mod InfoLemmas
 pub mod KeptFiles
+pub mod Refutations
 pub mod Replays
 pub mod Runs
 pub mod ScriptParts

@@ -6,6 +6,7 @@ use crate::script_fault::ScriptFault;
 use aig_base::{Fault, Memory, SelectFault};
 use aig_bench::BenchFault;
 use aig_cnf::CnfFault;
+use aig_proof::ProofFault;
 use aig_sim::{StimFault, WitnessFault};
 use aig_unroll::UnrollFault;
 use thiserror::Error;
@@ -35,6 +36,11 @@ pub enum RunFault {
     Cnf(CnfFault),
     #[error("select: {0}")]
     Select(SelectFault),
+    #[error("proof: {0}")]
+    Proof(ProofFault),
+    /// The proof of an induction step.
+    #[error("step proof: {0}")]
+    StepProof(ProofFault),
 }
 
 impl RunFault {
@@ -51,13 +57,17 @@ impl RunFault {
             RunFault::Unroll(UnrollFault::Memory) => 3,
             RunFault::Cnf(CnfFault::Memory) => 3,
             RunFault::Select(SelectFault::Memory) => 3,
+            RunFault::Proof(ProofFault::Memory | ProofFault::Io) => 3,
+            RunFault::StepProof(ProofFault::Memory | ProofFault::Io) => 3,
             RunFault::Circuit(_)
             | RunFault::Stimulus(_)
             | RunFault::Witness(_)
             | RunFault::Bench(_)
             | RunFault::Unroll(_)
             | RunFault::Cnf(_)
-            | RunFault::Select(_) => 1,
+            | RunFault::Select(_)
+            | RunFault::Proof(_)
+            | RunFault::StepProof(_) => 1,
         }
     }
 }
@@ -158,5 +168,16 @@ impl From<SelectFault> for RunFault {
 
     fn from(fault: SelectFault) -> RunFault {
         RunFault::Select(fault)
+    }
+}
+
+impl From<ProofFault> for RunFault {
+    ghost use Rattle.std.specs.Prelude.{◌≡◌};
+    ghost use Rattle.aig_fault.specs.declared.run_fault.RunFault.TheVariants as run_faults;
+
+    ghost from_gives = { λ fault part. part ≡ run_faults.Proof fault };
+
+    fn from(fault: ProofFault) -> RunFault {
+        RunFault::Proof(fault)
     }
 }

@@ -96,5 +96,5 @@ pub unreachable_within : (raw new : Raw) → IsCircuit raw → (k p : ℕ) → I
     → IsUnsatisfiable (bad_formula new (length raw.bad) k p) → IsUnreachableWithin raw k p
 unreachable_within raw new circuit k p (order, canonical, is) unsatisfiable =
     λ start rows t b fits allowed below lt at reaches.
-        refuted_by raw circuit start rows fits allowed t p b lt at reaches order canonical k below
-        (subst (λ (x : Raw). IsUnsatisfiable (bad_formula x (length raw.bad) k p)) is unsatisfiable)
+    refuted_by raw circuit start rows fits allowed t p b lt at reaches order canonical k below
+    (subst (λ (x : Raw). IsUnsatisfiable (bad_formula x (length raw.bad) k p)) is unsatisfiable)

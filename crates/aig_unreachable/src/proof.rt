@@ -132,12 +132,5 @@ pub fn check_unreachable<R: Read>(
     ensures count { R.failures proof.new ≡ R.failures proof.old + reads_failed result }
 {
     circuit.facts();
-    check_formula(
-        alloc,
-        unrolled,
-        bad_count(circuit),
-        frames,
-        property,
-        proof,
-    )
+    check_formula(alloc, unrolled, bad_count(circuit), frames, property, proof)
 }
