@@ -2,11 +2,13 @@
 ghost use Rattle.std.specs.Prelude.{◌≡◌, ◌≢◌, ◌+◌, ◌*◌, ◌<◌, Err, IfErr, OnOk, codes, length};
 ghost use Rattle.aig_bytes.specs.Bytes.{Writes};
 ghost use Rattle.aig_bytes.specs.Flow.{flow};
+ghost use Rattle.aig_cnf.specs.Formula.{bad_formula};
 ghost use Rattle.aig_cnf.specs.Step.{step_formula};
 ghost use Rattle.aig_refute.specs.Consequence.{IsUnsatisfiable};
 ghost use Rattle.aig_fault.specs.Command.{CommandEnds, OfFile};
 ghost use Rattle.aig_commands.specs.Refute.{IsFileNeverReached, IsOfStepProof, RefutesStep};
 ghost use Rattle.aig_commands.specs.Refute.{proof_reads_failed, step_reads_failed};
+ghost use Rattle.aig_commands.specs.state.Induction.{RefutesBoth, RefutesLater};
 
 use aig_base::{Circuit, Io, Read, Write, write_all};
 use aig_cnf::{unroll_for_formula, unroll_for_step};
@@ -55,6 +57,57 @@ fn check_step<R: Read>(
     }
 }
 
+/// Checks both proofs, over the circuits that were unrolled for them, and writes the answer.
+fn check_both<R: Read, W: Write>(
+    alloc: Global,
+    base: &Circuit,
+    later: &Circuit,
+    bads: u32,
+    frames: u32,
+    property: u32,
+    proof: &mut R,
+    step: &mut R,
+    out: &mut W,
+) -> Result<(), RunFault>
+    requires property { property < bads }
+    requires base { length base.now.bad ≡ frames * bads }
+    requires later { length later.now.bad ≡ (frames + 1) * bads }
+    ensures ends { CommandEnds (flow W.written W.failures out.old out.new) RunFault.Output
+        (RefutesBoth (bad_formula base.now bads frames property) (step_formula later.now bads frames property)) result }
+    ensures reads { R.failures proof.new ≡ R.failures proof.old + proof_reads_failed result }
+    ensures step { R.failures step.new ≡ R.failures step.old + step_reads_failed result }
+{
+    check_formula(alloc, base, bads, frames, property, proof)?;
+    check_step(alloc, later, bads, frames, property, step)?;
+    write_answer(out)
+}
+
+/// The same, where the circuit that starts in any state is still to be unrolled.
+fn unroll_and_check<R: Read, W: Write>(
+    alloc: Global,
+    base: &Circuit,
+    circuit: &Circuit,
+    bads: u32,
+    frames: u32,
+    property: u32,
+    proof: &mut R,
+    step: &mut R,
+    out: &mut W,
+) -> Result<(), RunFault>
+    requires property { property < bads }
+    requires base { length base.now.bad ≡ frames * bads }
+    requires bads { length circuit.now.bad ≡ bads }
+    ensures ends { CommandEnds (flow W.written W.failures out.old out.new) RunFault.Output
+        (RefutesLater (bad_formula base.now bads frames property) circuit.now bads frames property) result }
+    ensures reads { R.failures proof.new ≡ R.failures proof.old + proof_reads_failed result }
+    ensures step { R.failures step.new ≡ R.failures step.old + step_reads_failed result }
+{
+    let later = unroll_for_step(alloc, circuit, frames, property)?;
+    check_both(
+        alloc, base, &later, bads, frames, property, proof, step, out,
+    )
+}
+
 /// Checks both proofs about a circuit, and writes the answer. The circuit starts in any state then.
 fn check_and_write<R: Read, W: Write>(
     alloc: Global,
@@ -75,10 +128,9 @@ fn check_and_write<R: Read, W: Write>(
     let base = unroll_for_formula(alloc, circuit, frames, property)?;
     start_in_any_state(circuit);
     circuit.facts();
-    let later = unroll_for_step(alloc, circuit, frames, property)?;
-    check_formula(alloc, &base, bads, frames, property, proof)?;
-    check_step(alloc, &later, bads, frames, property, step)?;
-    write_answer(out)
+    unroll_and_check(
+        alloc, &base, circuit, bads, frames, property, proof, step, out,
+    )
 }
 
 /// Reads a circuit, checks both proofs about it and writes the answer, without a flush at the end.
