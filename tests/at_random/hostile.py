@@ -21,6 +21,7 @@ LINE = re.compile(
     rb"aig: (circuit: (text at \d+|limit|counts|range|definition|(redefined|undefined|reset|cycle) \d+)"
     rb"|stimulus: ((character in|length of) line \d+|unfinished|limit)"
     rb"|bench: limit|unroll: (no frames|liveness|limit)|cnf: (no frames|property|limit)|select: property"
+    rb"|proof: (text at \d+|step \d+|no refutation)"
     rb"|witness: (text|property|limit|no run))\n"
 )
 VERDICT = re.compile(rb"([01x]* [01x]* [01x]* [01x]*\n)*(confirmed|initial \d+|constraint \d+ \d+|not bad)\n")

@@ -26,6 +26,7 @@ RUNS = (
     ["cnf", "--frames", "3", "examples/wraps.aag"],
     ["witness", "examples/wraps.aag", "examples/wraps.stim"],
     ["select", "--to", "aig", "--from", "outputs", "examples/counter.aag"],
+    ["refute", "--frames", "3", "examples/wraps.aag", "examples/wraps.drat"],
     ["info", "examples/counter.aag"],
     ["--explain", "info", "examples/cyclic.aag"],
     ["--explain", "sim", "examples/counter.aag", "examples/counter.aag"],

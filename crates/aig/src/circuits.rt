@@ -5,7 +5,7 @@ use crate::files::{CIRCUIT, open, output, read_whole};
 use crate::kept::{begin_map, write_map};
 use crate::output_file::OutputFile;
 use aig_base::{PropertySection, Std};
-use aig_commands::{cnf, info, select, toaig, unroll};
+use aig_commands::{cnf, cnf_step, info, select, toaig, unroll};
 use aig_fault::RunFault;
 use aig_format::Format;
 use std::alloc::Global;
@@ -121,6 +121,29 @@ fn formula_file<R: AllocGlobal + Print, F: Read + Drop>(
     let circuit = read_whole(rt.alloc(), circuit, CIRCUIT)?;
     let mut out = output(rt);
     cnf::cnf(rt.alloc(), circuit.as_slice(), frames, property, &mut out)?;
+    Ok(())
+}
+
+/// Writes the formula of the induction step of `frames` frames for the bad state property at this position.
+pub fn step_formula<R: Files + AllocGlobal + Print>(
+    rt: &R,
+    frames: u32,
+    property: u32,
+    circuit: &str,
+) -> Result<(), Exit> {
+    let circuit = open(rt, circuit, CIRCUIT)?;
+    step_formula_file(rt, frames, property, circuit)
+}
+
+fn step_formula_file<R: AllocGlobal + Print, F: Read + Drop>(
+    rt: &R,
+    frames: u32,
+    property: u32,
+    circuit: F,
+) -> Result<(), Exit> {
+    let circuit = read_whole(rt.alloc(), circuit, CIRCUIT)?;
+    let mut out = output(rt);
+    cnf_step::cnf_step(rt.alloc(), circuit.as_slice(), frames, property, &mut out)?;
     Ok(())
 }
 

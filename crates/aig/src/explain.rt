@@ -2,8 +2,9 @@
 
 use crate::exit::Exit;
 use crate::kept::Kept;
-use crate::look::{Obstacle, explain_reading, note, note_name, read_again};
+use crate::look::{MORE_MEMORY, Obstacle, explain_reading, note, note_name, read_again};
 use crate::output_look::{explain_output, explain_standard_output};
+use crate::proof_look::explain_proof;
 use crate::task::Task;
 use aig_base::{Fault, Memory, SelectFault};
 use aig_bench::BenchFault;
@@ -25,10 +26,6 @@ const VARIABLE: &str = "AIG_EXPLAIN";
 /// The values of the variable that mean no, in small or capital letters.
 const NO: [&str; 5] = ["", "0", "no", "off", "false"];
 
-/// What to do if memory runs out.
-const MORE_MEMORY: &str =
-    "out of memory: raise the memory limit (ulimit -v), or use a machine with more memory";
-
 /// Returns whether the environment asks for explanations.
 pub fn is_asked_for<R: Env + AllocGlobal>(rt: &R) -> bool {
     match env::var(rt, VARIABLE) {
@@ -46,9 +43,10 @@ fn is_no(value: &str) -> bool {
 #[derive(Clone, Copy)]
 struct TaskFiles<'a> {
     circuit: &'a str,
-    // The stimulus or the witness.
+    // The stimulus, the witness or the proof.
     run: Option<&'a str>,
     script: Option<&'a str>,
+    step: Option<&'a str>,
     kept: Kept<'a>,
     map: Option<&'a str>,
     frames: u32,
@@ -99,10 +97,37 @@ impl<'a> TaskFiles<'a> {
                 frames,
                 property,
                 circuit,
+            }
+            | Task::CnfStep {
+                frames,
+                property,
+                circuit,
             } => TaskFiles {
                 frames,
                 property,
                 ..TaskFiles::new(circuit, None)
+            },
+            Task::Refute {
+                frames,
+                property,
+                circuit,
+                proof,
+            } => TaskFiles {
+                frames,
+                property,
+                ..TaskFiles::new(circuit, Some(proof))
+            },
+            Task::RefuteStep {
+                frames,
+                property,
+                circuit,
+                proof,
+                step,
+            } => TaskFiles {
+                frames,
+                property,
+                step: Some(step),
+                ..TaskFiles::new(circuit, Some(proof))
             },
         }
     }
@@ -112,6 +137,7 @@ impl<'a> TaskFiles<'a> {
             circuit,
             run,
             script: None,
+            step: None,
             kept: Kept {
                 circuit: None,
                 stimulus: None,
@@ -148,6 +174,8 @@ fn explain_fault<R: Files + AllocGlobal + Print + Eprint>(
         RunFault::Cnf(fault) => of_cnf(rt, files, fault),
         RunFault::Select(fault) => of_select(rt, files, fault),
         RunFault::Reach(fault) => of_reach(rt, files, fault),
+        RunFault::Proof(fault) => explain_proof(rt, files.run, fault),
+        RunFault::StepProof(fault) => explain_proof(rt, files.step, fault),
         RunFault::Output => of_output(rt, files),
         RunFault::Memory => note(rt, MORE_MEMORY),
     }

@@ -11,6 +11,7 @@ mod look;
 mod new_file;
 mod output_file;
 mod output_look;
+mod proof_look;
 mod reserved;
 mod simulations;
 mod task;

@@ -1,10 +1,12 @@
 //! The tasks that the arguments choose.
 
-use crate::circuits::{Selection, convert, formula, info, info_names, select, unroll};
+use crate::circuits::{
+    Selection, convert, formula, info, info_names, select, step_formula, unroll,
+};
 use crate::exit::Exit;
 use crate::kept::Kept;
 use crate::simulations::{bench, simulate, wave};
-use crate::witnesses::{check, wave_witness, witness};
+use crate::witnesses::{check, refute, refute_step, wave_witness, witness};
 use aig_base::PropertySection;
 use aig_cli::{has_flag, number_of, subcommand_of, text_of, texts_of};
 use aig_format::Format;
@@ -69,6 +71,24 @@ pub enum Task<'a> {
         circuit: &'a str,
         stimulus: &'a str,
     },
+    CnfStep {
+        frames: u32,
+        property: u32,
+        circuit: &'a str,
+    },
+    Refute {
+        frames: u32,
+        property: u32,
+        circuit: &'a str,
+        proof: &'a str,
+    },
+    RefuteStep {
+        frames: u32,
+        property: u32,
+        circuit: &'a str,
+        proof: &'a str,
+        step: &'a str,
+    },
 }
 
 impl<'a> Task<'a> {
@@ -86,6 +106,7 @@ impl<'a> Task<'a> {
             "info" => info_of(matches),
             "select" => selection_of(matches),
             "witness" => witness_of(matches),
+            "refute" => refutation_of(matches),
             _ => None,
         }
     }
@@ -134,6 +155,24 @@ impl<'a> Task<'a> {
                 circuit,
                 stimulus,
             } => witness(rt, property, circuit, stimulus),
+            Task::Refute {
+                frames,
+                property,
+                circuit,
+                proof,
+            } => refute(rt, frames, property, circuit, proof),
+            Task::CnfStep {
+                frames,
+                property,
+                circuit,
+            } => step_formula(rt, frames, property, circuit),
+            Task::RefuteStep {
+                frames,
+                property,
+                circuit,
+                proof,
+                step,
+            } => refute_step(rt, frames, property, circuit, proof, step),
         }
     }
 }
@@ -207,11 +246,22 @@ fn check_of<'a>(matches: &ArgMatches<'a>) -> Option<Task<'a>> {
 }
 
 fn formula_of<'a>(matches: &ArgMatches<'a>) -> Option<Task<'a>> {
-    Some(Task::Cnf {
-        frames: number_of(matches, "K")?,
-        property: number_of(matches, "P").unwrap_or(0),
-        circuit: text_of(matches, "CIRCUIT")?,
-    })
+    let frames = number_of(matches, "K")?;
+    let property = number_of(matches, "P").unwrap_or(0);
+    let circuit = text_of(matches, "CIRCUIT")?;
+    if has_flag(matches, "step") {
+        Some(Task::CnfStep {
+            frames,
+            property,
+            circuit,
+        })
+    } else {
+        Some(Task::Cnf {
+            frames,
+            property,
+            circuit,
+        })
+    }
 }
 
 fn info_of<'a>(matches: &ArgMatches<'a>) -> Option<Task<'a>> {
@@ -249,4 +299,26 @@ fn witness_of<'a>(matches: &ArgMatches<'a>) -> Option<Task<'a>> {
         circuit: text_of(matches, "CIRCUIT")?,
         stimulus: text_of(matches, "STIM")?,
     })
+}
+
+fn refutation_of<'a>(matches: &ArgMatches<'a>) -> Option<Task<'a>> {
+    let frames = number_of(matches, "K")?;
+    let property = number_of(matches, "P").unwrap_or(0);
+    let circuit = text_of(matches, "CIRCUIT")?;
+    let proof = text_of(matches, "PROOF")?;
+    match text_of(matches, "step") {
+        Some(step) => Some(Task::RefuteStep {
+            frames,
+            property,
+            circuit,
+            proof,
+            step,
+        }),
+        None => Some(Task::Refute {
+            frames,
+            property,
+            circuit,
+            proof,
+        }),
+    }
 }

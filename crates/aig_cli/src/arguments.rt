@@ -96,6 +96,30 @@ pub fn witness_argument<'a>(alloc: Global) -> Arg<'a> {
     )
 }
 
+pub fn step_flag<'a>(alloc: Global) -> Arg<'a> {
+    flag(
+        alloc,
+        "step",
+        "Print the formula of the induction step instead",
+    )
+}
+
+pub fn step_argument<'a>(alloc: Global) -> Arg<'a> {
+    kept_argument(
+        alloc,
+        "step",
+        "File of the proof of the induction step, for\nruns of any length",
+    )
+}
+
+pub fn proof_argument<'a>(alloc: Global) -> Arg<'a> {
+    argument(
+        alloc,
+        "PROOF",
+        "File of the proof that a SAT solver wrote (DRAT),\nas text or binary",
+    )
+}
+
 pub fn frames_argument<'a>(alloc: Global) -> Arg<'a> {
     let frames = argument(alloc, "K", "Number of frames, from 1 to 65536");
     number(frames.long("frames"))

@@ -116,7 +116,13 @@ Comment lines say what the variables are. Positions and frames count from 0:
   c b L T         literal L says that frame T is such a frame
 NAME is the symbol, if there is one. Variable 1 is false.
 
+With --step, the formula is that of the induction step: a run of K + 1 frames
+from any state in which property P is 1 at frame K, at no frame before it, and
+all constraints are 1. If neither formula can be satisfied, no run of any length
+reaches the property.
+
 Example: aig cnf --frames 20 examples/wraps.aag > wraps.cnf
+Example: aig cnf --step --frames 20 examples/wraps.aag > step.cnf
 See also: man aig, man 5 aig-formats";
 
 pub static INFO: &str = "A line has a name, one space and a value. The names, in this order:
@@ -165,6 +171,25 @@ outputs of properties.
 
 Example: aig select --to aag --property 0 examples/wraps.aag
 Example: aig select --to aag --from outputs --property 4 examples/counter.aag
+See also: man aig, man 5 aig-formats";
+
+pub static REFUTE: &str =
+    "The proof is one about the formula that cnf prints for the same K and P. Each
+clause that it adds must follow from those that stand by unit propagation.
+If the proof refutes the formula, the answer is unreachable within K: no run has
+a frame before frame K at which property P is 1 and all constraints were 1 so
+far, whatever values are unknown.
+
+A step that needs more than unit propagation is rejected (resolution asymmetric
+tautologies), as is a literal of another variable than those of the formula.
+Deletions are optional. An empty file serves if unit propagation alone refutes
+the formula. The solver need not be trusted.
+
+With --step, FILE is a proof about the formula of cnf --step. If both proofs are
+right, the answer is unreachable: no run of any length reaches the property.
+Many properties hold and have no such proof, whatever K is.
+
+Example: aig refute --frames 3 examples/wraps.aag examples/wraps.drat
 See also: man aig, man 5 aig-formats";
 
 pub static ALL: &str = "Environment:

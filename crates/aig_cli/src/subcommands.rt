@@ -2,9 +2,9 @@
 
 use crate::arguments::{
     circuit_argument, circuit_out_argument, format_argument, frames_argument, map_argument,
-    names_flag, properties_argument, property_argument, reached_argument, run_argument,
-    script_argument, section_argument, stimulus_argument, stimulus_out_argument, trace_flag,
-    witness_argument, witness_flag,
+    names_flag, proof_argument, properties_argument, property_argument, reached_argument,
+    run_argument, script_argument, section_argument, step_argument, step_flag, stimulus_argument,
+    stimulus_out_argument, trace_flag, witness_argument, witness_flag,
 };
 use crate::help;
 use clap::Command;
@@ -71,6 +71,7 @@ pub fn cnf_command<'a>(alloc: Global) -> Result<Command<'a>, AllocError> {
         .after_help(help::CNF)
         .arg(frames_argument(alloc))?
         .arg(property_argument(alloc))?
+        .arg(step_flag(alloc))?
         .arg(circuit_argument(alloc))
 }
 
@@ -108,4 +109,15 @@ pub fn witness_command<'a>(alloc: Global) -> Result<Command<'a>, AllocError> {
         .arg(reached_argument(alloc))?
         .arg(circuit_argument(alloc))?
         .arg(stimulus_argument(alloc))
+}
+
+pub fn refute_command<'a>(alloc: Global) -> Result<Command<'a>, AllocError> {
+    Command::new(alloc, "refute")
+        .about("Check a SAT solver's proof that no run reaches a bad state within K frames")
+        .after_help(help::REFUTE)
+        .arg(frames_argument(alloc))?
+        .arg(property_argument(alloc))?
+        .arg(step_argument(alloc))?
+        .arg(circuit_argument(alloc))?
+        .arg(proof_argument(alloc))
 }

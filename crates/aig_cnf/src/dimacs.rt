@@ -45,7 +45,11 @@ fn put_literal<W: Write>(out: &mut W, block: &mut Block, literal: Lit) -> Result
 }
 
 // Puts a clause of these literals.
-fn put_clause<W: Write>(out: &mut W, block: &mut Block, literals: &[Lit]) -> Result<(), Io>
+pub(crate) fn put_clause<W: Write>(
+    out: &mut W,
+    block: &mut Block,
+    literals: &[Lit],
+) -> Result<(), Io>
     ensures { Gathers W.written W.failures out.old out.new block.old block.new (clause_text literals.now) result }
 {
     for literal in literals {
@@ -111,7 +115,7 @@ fn put_gate<W: Write>(out: &mut W, block: &mut Block, gate: Gate) -> Result<(), 
 }
 
 // Puts the clauses of all gates.
-fn put_gates<W: Write>(out: &mut W, block: &mut Block, gates: &[Gate]) -> Result<(), Io>
+pub(crate) fn put_gates<W: Write>(out: &mut W, block: &mut Block, gates: &[Gate]) -> Result<(), Io>
     requires { All (λ g. (g.lhs < 10 ^ 8) × (g.rhs0 < 10 ^ 8) × (g.rhs1 < 10 ^ 8)) gates.now }
     ensures { Gathers W.written W.failures out.old out.new block.old block.new (flat_map gate_text gates.now) result }
 {
@@ -122,7 +126,7 @@ fn put_gates<W: Write>(out: &mut W, block: &mut Block, gates: &[Gate]) -> Result
 }
 
 // Puts the line that says how many variables and clauses there are.
-fn put_problem<W: Write>(
+pub(crate) fn put_problem<W: Write>(
     out: &mut W,
     block: &mut Block,
     variables: u32,
@@ -137,7 +141,7 @@ fn put_problem<W: Write>(
 }
 
 // The bad literal of a frame, where a circuit of `bads` bad literals was unrolled.
-fn goal_at(circuit: &Circuit, bads: u32, frame: u32, property: u32) -> Lit
+pub(crate) fn goal_at(circuit: &Circuit, bads: u32, frame: u32, property: u32) -> Lit
     requires { frame * bads + property < length circuit.now.bad }
     ensures { result ≡ slice_index circuit.now.bad (frame * bads + property) }
 {
@@ -227,7 +231,7 @@ fn put_goal_line<W: Write>(
 }
 
 // Puts the comment lines of the bad literals of all frames.
-fn put_goal_lines<W: Write>(
+pub(crate) fn put_goal_lines<W: Write>(
     out: &mut W,
     block: &mut Block,
     circuit: &Circuit,
@@ -267,7 +271,7 @@ fn write_goals_and_formula<W: Write>(
 }
 
 // How many bad literals there are.
-fn bad_count(circuit: &Circuit) -> u32
+pub(crate) fn bad_count(circuit: &Circuit) -> u32
     ensures { result ≡ length circuit.now.bad }
 {
     circuit.facts();

@@ -3,8 +3,10 @@ pub mod Benches
 pub mod EntryLines
 pub mod GoodRuns
 pub mod Headers
+pub mod Inductions
 pub mod InfoLemmas
 pub mod KeptFiles
+pub mod Refutations
 pub mod Replays
 pub mod Runs
 pub mod ScriptParts

@@ -24,3 +24,5 @@ selects from into named to raw can (Err (run_faults.Unroll fault)) bytes m = abs
 selects from into named to raw can (Err (run_faults.Cnf fault)) bytes m = absurd m
 selects from into named to raw can (Err (run_faults.Select fault)) bytes m = absurd m
 selects from into named to raw can (Err (run_faults.Reach fault)) bytes m = absurd m
+selects from into named to raw can (Err (run_faults.Proof fault)) bytes m = absurd m
+selects from into named to raw can (Err (run_faults.StepProof fault)) bytes m = absurd m

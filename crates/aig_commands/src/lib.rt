@@ -4,8 +4,11 @@
 pub mod bench;
 pub mod check;
 pub mod cnf;
+pub mod cnf_step;
 mod entries;
+pub mod induction;
 pub mod info;
+pub mod refute;
 pub mod select;
 pub mod sim;
 pub mod toaig;

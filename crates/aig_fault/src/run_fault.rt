@@ -6,6 +6,7 @@ use crate::script_fault::ScriptFault;
 use aig_base::{Fault, Memory, SelectFault};
 use aig_bench::BenchFault;
 use aig_cnf::CnfFault;
+use aig_proof::ProofFault;
 use aig_sim::{ReachFault, StimFault, WitnessFault};
 use aig_unroll::UnrollFault;
 use thiserror::Error;
@@ -37,6 +38,11 @@ pub enum RunFault {
     Select(SelectFault),
     #[error("witness: {0}")]
     Reach(ReachFault),
+    #[error("proof: {0}")]
+    Proof(ProofFault),
+    /// The proof of an induction step.
+    #[error("step proof: {0}")]
+    StepProof(ProofFault),
 }
 
 impl RunFault {
@@ -54,6 +60,8 @@ impl RunFault {
             RunFault::Cnf(CnfFault::Memory) => 3,
             RunFault::Select(SelectFault::Memory) => 3,
             RunFault::Reach(ReachFault::Memory) => 3,
+            RunFault::Proof(ProofFault::Memory | ProofFault::Io) => 3,
+            RunFault::StepProof(ProofFault::Memory | ProofFault::Io) => 3,
             RunFault::Circuit(_)
             | RunFault::Stimulus(_)
             | RunFault::Witness(_)
@@ -62,6 +70,8 @@ impl RunFault {
             | RunFault::Cnf(_)
             | RunFault::Select(_)
             | RunFault::Reach(_) => 1,
+            | RunFault::Proof(_)
+            | RunFault::StepProof(_) => 1,
         }
     }
 }
@@ -173,5 +183,16 @@ impl From<ReachFault> for RunFault {
 
     fn from(fault: ReachFault) -> RunFault {
         RunFault::Reach(fault)
+    }
+}
+
+impl From<ProofFault> for RunFault {
+    ghost use Rattle.std.specs.Prelude.{◌≡◌};
+    ghost use Rattle.aig_fault.specs.declared.run_fault.RunFault.TheVariants as run_faults;
+
+    ghost from_gives = { λ fault part. part ≡ run_faults.Proof fault };
+
+    fn from(fault: ProofFault) -> RunFault {
+        RunFault::Proof(fault)
     }
 }
