@@ -19,6 +19,7 @@ mod text_laws;
 mod verdict;
 mod witness;
 mod witness_fault;
+mod witness_reader;
 mod witness_text;
 
 pub use aig_dump_header::law_of_dump_header;
@@ -37,3 +38,4 @@ pub use text_laws::{law_of_dump, law_of_stimulus_text, law_of_witness_text};
 pub use verdict::Verdict;
 pub use witness::check_witness;
 pub use witness_fault::WitnessFault;
+pub use witness_reader::{Witness, read_witness};
