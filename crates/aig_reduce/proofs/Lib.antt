@@ -4,4 +4,5 @@ pub mod Irreducibles
 pub mod Places
 pub mod Resets
 pub mod RunLemmas
+pub mod Runs
 pub mod Tries

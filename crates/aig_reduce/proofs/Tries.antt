@@ -1,7 +1,7 @@
 -- A value is tried: the bench looks at the run from the frame that the edit changes.
 use Rattle.std.proofs.Common.{◌≡◌, ◌≢◌, ◌⊎◌, inl, inr, ℕ, zero, suc, ◌-◌, ◌<◌, ◌≤◌, List, [], ◌∷◌, length, map, get_or, Some, slice_get, slice_set, refl, sym, ap, ◌∙◌, subst, arith}
 use Rattle.std.proofs.lemmas.Bool.{cases_eq, cases_lt}
-use Rattle.std.proofs.lemmas.List.{length-set}
+use Rattle.std.proofs.lemmas.List.{length-map, length-set}
 use Rattle.std.proofs.lemmas.Option.{same_Some}
 use Rattle.aig_parts.specs.declared.ternary.Tern.{Tern}
 use Rattle.aig_parts.specs.declared.ternary.Tern.TheVariants.{One, X}
@@ -16,9 +16,12 @@ use Rattle.aig_sim.specs.declared.verdict.Verdict.TheVariants as verdict
 use Rattle.aig_sim.specs.Verdict.{Allows, StartsWrong, IsVerdict}
 use Rattle.aig_sim.specs.WitnessText.{Witness}
 use Rattle.aig_values.specs.InputRows.{row_at, with_cell}
+use Rattle.aig_base.specs.Sections.{IsLatchLiteral}
 use Rattle.aig_bench.specs.BenchState.{CircuitAndRows, HasValue}
+use Rattle.aig_bench.specs.Edit.{edited, set_bit, set_reset}
 use Rattle.aig_bench.proofs.cells.CellLemmas.{get_set_other, get_set_same, frames_written}
 use Rattle.aig_bench.proofs.cells.Earlier.{value_before}
+use Rattle.aig_bench.proofs.edits.Named.{latch_at_named}
 use Rattle.aig_reduce.specs.Irreducible.{IsConfirmedWitness}
 use Rattle.aig_reduce.specs.Reduction.{values_of, witness_of, with_x_between, IsKept, IsReduced}
 use Rattle.aig_reduce.specs.state.Looks.{AreOne, IsBad, ReachesFrom}
@@ -230,6 +233,72 @@ module _ (raw : Raw) (old : CircuitAndRows) (property : ℕ) (start : List Tern)
           tries = inr (λ c. denied (look_confirmed raw with_start (slice_set start i X) start_runs h.circuit property start_run 0 c), refl);
         }
 
+-- what a bench makes of a try, where its parts are told apart
+tries_same : (raw : Raw) (old : CircuitAndRows) (property : ℕ) (start : List Tern) (new new' : CircuitAndRows)
+    (n n' : ℕ) (s s' : List Tern) (t p : ℕ) → new' ≡ new → n' ≡ n → s' ≡ s
+    → TriesPlace raw old property start new n s t p → TriesPlace raw old property start new' n' s' t p
+tries_same raw old property start new new' n n' s s' t p e f g h =
+    subst (λ (q : CircuitAndRows). TriesPlace raw old property start q n' s' t p) (sym e)
+    (subst (λ (m : ℕ). TriesPlace raw old property start new m s' t p) (sym f)
+    (subst (λ (v : List Tern). TriesPlace raw old property start new n v t p) (sym g) h))
+
+looks_same : (p q : CircuitAndRows) (m n t : ℕ) → p ≡ q → m ≡ n → ReachesFrom p m t → ReachesFrom q n t
+looks_same p q m n t e f h =
+    subst (λ (x : CircuitAndRows). ReachesFrom x n t) e (subst (λ (k : ℕ). ReachesFrom p k t) f h)
+
+module _ (raw : Raw) (old : CircuitAndRows) (property : ℕ) (start : List Tern) (h : RunsWitness raw old property start)
+    (one : CircuitAndRows) (n : ℕ) (s : List Tern) (n_is : n ≡ property) (s_is : s ≡ start) where
+  module _ (t p : ℕ) (e : one ≡ edited old (set_bit t p X)) where
+    pub input_kept : ReachesFrom one n t → TriesPlace raw old property start one n s (suc t) p
+    input_kept looks =
+        tries_same raw old property start (with_input raw old property start h t p) one property n start s (suc t) p e n_is s_is
+        (input_stays raw old property start h t p
+        (looks_same one (with_input raw old property start h t p) n property t e n_is looks))
+
+    pub input_taken_back : (two : CircuitAndRows) (m : ℕ) (r : List Tern) (given : Tern)
+        → slice_get (row_at old.rows t) p ≡ Some given → two ≡ edited one (set_bit t p given) → m ≡ n → r ≡ s
+        → (ReachesFrom one n t → ⊥) → TriesPlace raw old property start two m r (suc t) p
+    input_taken_back two m r given was f m_is r_is denied =
+        tries_same raw old property start old two property m start r (suc t) p
+        (f ∙ ap (λ (q : CircuitAndRows). edited q (set_bit t p given)) e
+        ∙ ap (λ (rows : List (List Tern)). let q : CircuitAndRows = record { circuit = old.circuit; rows = rows } in q)
+        (cell_back old.rows t p X given was)) (m_is ∙ n_is) (r_is ∙ s_is)
+        (input_back raw old property start h t p
+        (λ k. denied (looks_same (with_input raw old property start h t p) one property n t (sym e) (sym n_is) k)))
+
+  module _ (i lit : ℕ) (x : Latch) (at : slice_get raw.latches i ≡ Some x) (named : x.lit ≡ lit) (free : 1 < x.reset)
+      (sound : IsSound old.circuit) (sound' : IsSound one.circuit) (e : one ≡ edited old (set_reset lit X)) where
+    pub start_kept : (r : List Tern) → r ≡ slice_set s i X → ReachesFrom one n 0
+        → TriesPlace raw old property start one n r 0 i
+    start_kept r r_is looks =
+        tries_same raw old property start (with_start raw old property start h sound i lit x at named free) one property n
+        (slice_set start i X) r 0 i e n_is (r_is ∙ ap (λ (v : List Tern). slice_set v i X) s_is)
+        (start_stays raw old property start h sound i lit x at named free
+        (looks_same one (with_start raw old property start h sound i lit x at named free) n property 0 e n_is looks))
+
+    pub start_taken_back : (two : CircuitAndRows) (m : ℕ) (r : List Tern) (given : Tern) → slice_get start i ≡ Some given
+        → two ≡ edited one (set_reset lit given) → m ≡ n → r ≡ s → (ReachesFrom one n 0 → ⊥)
+        → TriesPlace raw old property start two m r 0 i
+    start_taken_back two m r given was f m_is r_is denied =
+        let w = with_start raw old property start h sound i lit x at named free in
+        tries_same raw old property start (edited w (set_reset lit given)) two property m start r 0 i
+        (f ∙ ap (λ (q : CircuitAndRows). edited q (set_reset lit given)) e) (m_is ∙ n_is) (r_is ∙ s_is)
+        (start_back raw old property start h sound i lit x at named free given was
+        (subst (λ (q : CircuitAndRows). IsSound q.circuit) e sound')
+        (λ k. denied (looks_same w one property n 0 (sym e) (sym n_is) k)))
+
+-- a latch of the circuit is one of the circuit with other resets
+pub latch_named : (raw other : Raw) (i lit : ℕ) (x : Latch) → HasOtherResets raw other → slice_get raw.latches i ≡ Some x
+    → x.lit ≡ lit → IsLatchLiteral other lit
+latch_named raw other i lit x h at named =
+    let (y, here, same) = AllZip-slice_get IsSameLatch raw.latches other.latches i x h.latches at in
+    latch_at_named other lit i (y, here, same.0 ∙ named)
+
+pub latch_named_still : (raw other : Raw) (i lit : ℕ) (x : Latch) (w : Tern) → HasOtherResets raw other
+    → slice_get raw.latches i ≡ Some x → x.lit ≡ lit → IsLatchLiteral (with_reset other lit w) lit
+latch_named_still raw other i lit x w h at named =
+    latch_named raw (with_reset other lit w) i lit x (other_reset_more raw other lit w h) at named
+
 -- ---- place by place
 
 module _ (raw : Raw) (given : Witness) where
@@ -264,6 +333,12 @@ module _ (raw : Raw) (given : Witness) where
           refl,
         ));
   }
+
+  pub reducing_frames : (now : CircuitAndRows) (property : ℕ) (start : List Tern) (t p : ℕ)
+      → Reducing raw given now property start t p → length now.rows ≡ length given.rows
+  reducing_frames now property start t p h =
+      let same : length (map length (start ∷ now.rows)) ≡ length (map length (values_of given)) = ap length h.tried.shape in
+      omega (arith, same, length-map now.rows (length {A = Tern}), length-map given.rows (length {A = Tern}))
 
   pub reducing_list : (now : CircuitAndRows) (property : ℕ) (start : List Tern) (t p : ℕ)
       → length (row_at (start ∷ now.rows) t) ≤ p → Reducing raw given now property start t p

@@ -1,5 +1,6 @@
 //! Whether a run still reaches its bad state, by the values of a bench.
 ghost use Rattle.std.specs.Prelude.{◌≡◌, ◌<◌, ◌↔◌, length, IsTrue};
+ghost use Rattle.aig_parts.specs.declared.ternary.Tern.{Tern};
 ghost use Rattle.aig_parts.specs.Literal.{variable};
 ghost use Rattle.aig_base.specs.Sections.{IsDefined};
 ghost use Rattle.aig_base.specs.Sound.{IsInRange};
@@ -10,6 +11,12 @@ use aig_base::{Lit, Tern};
 use aig_bench::Bench;
 use aig_sim::Grid;
 
+fn is_known_one(value: Tern) -> bool
+    ensures { IsTrue result ↔ (value ≡ Tern.One) }
+{
+    matches!(value, Tern::One)
+}
+
 // Whether a literal is 1 at a frame.
 fn is_one<G: Grid>(bench: &Bench<G>, frame: u32, literal: Lit) -> bool
     requires frame { frame < length bench.now.pair.rows }
@@ -19,7 +26,10 @@ fn is_one<G: Grid>(bench: &Bench<G>, frame: u32, literal: Lit) -> bool
 {
     // Its contract says that it is a circuit.
     bench.width();
-    matches!(bench.value(frame, literal), Ok(Tern::One))
+    match bench.value(frame, literal) {
+        Ok(value) => is_known_one(value),
+        Err(_) => false,
+    }
 }
 
 // Whether all constraints are 1 at a frame.
@@ -29,7 +39,7 @@ fn are_one<G: Grid>(bench: &Bench<G>, frame: u32) -> bool
 {
     // Its contract says that it is a circuit.
     bench.width();
-    for literal in bench.circuit().constraints() {
+    for literal in bench.circuit().constraints().iter() {
         if !is_one(bench, frame, *literal) {
             return false;
         }

@@ -86,7 +86,20 @@ impl<G: Grid> Reducer<G> {
         }
     }
 
-    // Tries the starts of all uninitialised latches. The latches are those of the circuit, with their own resets.
+    // Tries x at the start of a latch, where its reset is not 0 or 1.
+    fn try_latch(&mut self, position: usize, latch: &Latch)
+        requires { (raw : Raw) × (given : Witness) × (slice_get raw.latches position ≡ Some latch.now)
+            × Reducing raw given self.old.bench.pair self.old.property self.old.start.items 0 position }
+        ensures { (raw : Raw) (given : Witness) → slice_get raw.latches position ≡ Some latch.now →
+            Reducing raw given self.old.bench.pair self.old.property self.old.start.items 0 position →
+            Reducing raw given self.new.bench.pair self.new.property self.new.start.items 0 (suc position) }
+    {
+        if is_uninitialised(*latch) {
+            self.try_start(position, latch.lit);
+        }
+    }
+
+    // Tries the starts of all latches. They are those of the circuit, with their own resets.
     fn try_starts(&mut self, latches: &[Latch])
         requires { (raw : Raw) × (given : Witness) × (latches.now ≡ raw.latches)
             × Reducing raw given self.old.bench.pair self.old.property self.old.start.items 0 0 }
@@ -95,9 +108,7 @@ impl<G: Grid> Reducer<G> {
             Reducing raw given self.new.bench.pair self.new.property self.new.start.items 1 0 }
     {
         for (position, latch) in latches.iter().enumerate() {
-            if is_uninitialised(*latch) {
-                self.try_start(position, latch.lit);
-            }
+            self.try_latch(position, latch);
         }
     }
 

@@ -1,7 +1,8 @@
 //! Reducing a witness.
-ghost use Rattle.std.specs.Prelude.{◌≡◌, length, IfOk, IfErr};
+ghost use Rattle.std.specs.Prelude.{◌≡◌, ◌↔◌, length, IfOk, IfErr, IsTrue};
 ghost use Rattle.std.specs.Fmt.{decimal};
 ghost use Rattle.aig_bytes.specs.Bytes.{Writes};
+ghost use Rattle.aig_base.specs.Circuit.{IsCircuit};
 ghost use Rattle.aig_sim.specs.Verdict.{IsVerdict};
 ghost use Rattle.aig_sim.specs.WitnessText.{IsAdmitted, IsDecimal, SpellsWitness, witness_text};
 ghost use Rattle.aig_reduce.specs.Answers.{AnswersReduction, RefusesReduction};
@@ -47,6 +48,12 @@ struct Given {
     latches: Vec<Latch>,
 }
 
+fn is_confirmed(verdict: Verdict) -> bool
+    ensures { IsTrue result ↔ (verdict ≡ Verdict.Confirmed) }
+{
+    matches!(verdict, Verdict::Confirmed)
+}
+
 // Copies the latches of a circuit.
 fn copy_latches(alloc: Global, circuit: &Circuit) -> Result<Vec<Latch>, Memory>
     ensures { IfOk result (λ latches. latches.items ≡ circuit.now.latches) }
@@ -66,8 +73,11 @@ impl Given {
             given.verdict) }
         ensures width { IfOk result (λ given. given.witness.rows.width ≡ length circuit.now.inputs) }
         ensures latches { IfOk result (λ given. given.latches.items ≡ circuit.now.latches) }
+        ensures circuit { IsCircuit circuit.now }
         ensures fault { IfErr result (RefusesReduction circuit.now text.now) }
     {
+        // Its contract says that it is a circuit.
+        circuit.facts();
         let verdict = check_witness(alloc, circuit, text)?;
         let witness = read_witness(alloc, circuit, text)?;
         let latches = copy_latches(alloc, circuit)?;
@@ -109,7 +119,7 @@ pub fn reduce_witness(
     let mut circuit = circuit;
     start_at(&mut circuit, &start);
     let bench = Bench::new(alloc, circuit, rows)?;
-    if !matches!(verdict, Verdict::Confirmed) {
+    if !is_confirmed(verdict) {
         return Ok(Reduction::Refused(verdict));
     }
     let mut reducer = Reducer {

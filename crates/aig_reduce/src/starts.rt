@@ -20,6 +20,8 @@ pub fn start_at(circuit: &mut Circuit, start: &[Tern])
     ensures start { start_of circuit.new ≡ start.now }
 {
     for position in 0..start.len() {
+        // Its contract says that it is a circuit.
+        circuit.facts();
         let latch = circuit.latches()[position].lit;
         circuit.replace_reset(latch, start[position]);
     }
