@@ -21,6 +21,7 @@ mod text_laws;
 mod verdict;
 mod witness;
 mod witness_fault;
+mod witness_reader;
 mod witness_text;
 mod witness_writer;
 
@@ -43,4 +44,5 @@ pub use text_laws::{law_of_dump, law_of_stimulus_text, law_of_witness_text};
 pub use verdict::Verdict;
 pub use witness::check_witness;
 pub use witness_fault::WitnessFault;
+pub use witness_reader::{Witness, read_witness};
 pub use witness_writer::write_witness;

@@ -31,8 +31,8 @@ pub fn read_values<'a>(values: &mut [Tern], text: &'a [u8]) -> &'a [u8]
     &text[width + 1..]
 }
 
-// Room for so many values.
-fn new_values(alloc: Global, size: usize) -> Result<Vec<Tern>, Memory>
+/// Room for so many values.
+pub fn new_values(alloc: Global, size: usize) -> Result<Vec<Tern>, Memory>
     ensures { IfOk result (λ values. length values.items ≡ size) }
 {
     let mut values = Vec::with_capacity(alloc, size)?;
@@ -127,8 +127,8 @@ fn run_frames(
     None
 }
 
-// The latches' values at the start.
-fn read_start(alloc: Global, text: &[u8], size: usize) -> Result<Vec<Tern>, Memory>
+/// The latches' values at the start.
+pub fn read_start(alloc: Global, text: &[u8], size: usize) -> Result<Vec<Tern>, Memory>
     requires { BeginsWithRow size text.now }
     ensures length { IfOk result (λ start. length start.items ≡ size) }
     ensures read { IfOk result (λ start. (rest : List ℕ) × (text.now ≡ map character start.items ++ (10 ∷ rest))) }
