@@ -34,9 +34,9 @@ pub struct Request<'a> {
     pub is_explained: bool,
 }
 
-impl<'a> Request<'a> {
+impl<'m> Request<'m> {
     /// Returns what arguments ask for that the parser accepts.
-    pub fn of(matches: &'a ArgMatches<'a>) -> Result<Request<'a>, Exit> {
+    pub fn of(matches: &'m ArgMatches<'_>) -> Result<Request<'m>, Exit> {
         match Task::of(matches) {
             Some(task) => Ok(Request {
                 task,

@@ -91,9 +91,9 @@ pub enum Task<'a> {
     },
 }
 
-impl<'a> Task<'a> {
+impl<'m> Task<'m> {
     /// Returns the task of arguments that the parser accepts. There always is one.
-    pub fn of(matches: &'a ArgMatches<'a>) -> Option<Task<'a>> {
+    pub fn of(matches: &'m ArgMatches<'_>) -> Option<Task<'m>> {
         let (name, matches) = subcommand_of(matches)?;
         match name {
             "toaig" => conversion_of(matches),
@@ -281,7 +281,7 @@ fn section_of(matches: &ArgMatches<'_>, name: &str) -> PropertySection {
     }
 }
 
-fn selection_of<'a>(matches: &'a ArgMatches<'a>) -> Option<Task<'a>> {
+fn selection_of<'m>(matches: &'m ArgMatches<'_>) -> Option<Task<'m>> {
     Some(Task::Select {
         selection: Selection {
             from: section_of(matches, "from"),
