@@ -103,7 +103,11 @@ fn find_in_stimulus(
     let rows = read_rows(alloc, circuit, stimulus)?;
     let start = start_by_resets(alloc, circuit)?;
     let reached = find(alloc, circuit, &start, &rows, asked)?;
-    Ok(FoundRun { start, rows, reached })
+    Ok(FoundRun {
+        start,
+        rows,
+        reached,
+    })
 }
 
 /// Writes the witness that the run over a stimulus reaches a property.
