@@ -159,7 +159,7 @@ def case(runs, sources, designs, rng):
             raise Wrong("an unrolled circuit is not written back as it stands")
     runs.run(work + 5 * most, "cnf", "--frames", "3", "circuit")
     runs.run(work, "select", "--to", "aag", "--property", "0", "circuit")
-    runs.run(work, "witness", "circuit", "stimulus")
+    runs.run(work, "witness", "circuit", "rows")
     write("witness", broken.changed(rng, broken.witness(rng, width, states), rows))
     runs.replays(work)
 

@@ -32,8 +32,8 @@ spells_first raw start rows asked t p same widths first position = record {
     start_is = same;
     widths = All-take (λ row. length row ≡ length raw.inputs) (t + 1) rows widths;
     some = λ none. (
-      let long : length (take (t + 1) rows) ≡ t + 1 = length-take-le (t + 1) rows (let lt = first.reaches.frame in omega (arith, lt)) in
-      omega (arith, long, ap length none));
+        let long : length (take (t + 1) rows) ≡ t + 1 = length-take-le (t + 1) rows (let lt = first.reaches.frame in omega (arith, lt)) in
+        omega (arith, long, ap length none));
     digits = decimal p;
     position = position;
     text_is = refl;

@@ -1,7 +1,5 @@
 //! `witness`: the witness that a run reaches a bad state.
-ghost use Rattle.std.specs.Prelude.{◌≡◌, ◌⊎◌, ◌+◌, ◌<◌, ◌≤◌, ℕ, List, [], decimal, length, take, Err, IfErr, IfOk, OnOk, Some};
-ghost use Rattle.aig_parts.specs.declared.ternary.Tern.{Tern};
-ghost use Rattle.aig_base.specs.Circuit.{IsCircuit};
+ghost use Rattle.std.specs.Prelude.{◌≡◌, ◌+◌, ◌<◌, ◌≤◌, ℕ, [], decimal, length, take, Some, Err, IfErr, IfOk, OnOk};
 ghost use Rattle.aig_base.specs.Value.{start_of};
 ghost use Rattle.aig_bytes.specs.Bytes.{Writes};
 ghost use Rattle.aig_bytes.specs.Flow.{flow};
@@ -103,7 +101,11 @@ fn find_in_stimulus(
     let rows = read_rows(alloc, circuit, stimulus)?;
     let start = start_by_resets(alloc, circuit)?;
     let reached = find(alloc, circuit, &start, &rows, asked)?;
-    Ok(FoundRun { start, rows, reached })
+    Ok(FoundRun {
+        start,
+        rows,
+        reached,
+    })
 }
 
 /// Writes the witness that the run over a stimulus reaches a property.
@@ -138,9 +140,9 @@ fn read_and_find<W: Write>(
 
 /// The command `witness`: runs a circuit from the start by its resets over the rows of a stimulus, and writes the
 /// witness that the property at this position is reached: its frames up to the first at which the property is 1 and all
-/// constraints were 1 so far. Where no property is named, that is the first frame at which any is reached, and of it the
-/// least property. `check` confirms what is written. Nothing is written where the circuit or the stimulus is refused,
-/// the circuit lacks the property, or no frame reaches it. It flushes the writer before it answers.
+/// constraints were 1 so far. Where no property is named, that is the first frame at which any is reached, and of it
+/// the least property. `check` confirms what is written. Nothing is written where the circuit or the stimulus is
+/// refused, the circuit lacks the property, or no frame reaches it. It flushes the writer before it answers.
 pub fn witness<W: Write>(
     alloc: Global,
     file: &[u8],
