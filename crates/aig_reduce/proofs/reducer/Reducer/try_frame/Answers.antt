@@ -1,4 +1,4 @@
-use Rattle.std.proofs.Common.{◌≡◌, ◌<◌, suc, ◌+◌, ℕ, [], List, length, ap, subst, arith}
+use Rattle.std.proofs.Common.{◌≡◌, ◌<◌, suc, ◌+◌, [], length, ap, subst, arith}
 use Rattle.aig_values.specs.InputRows.{row_at}
 use Rattle.aig_reduce.specs.state.Reducing.{Reducing}
 use Rattle.aig_reduce.proofs.Tries.{reducing_frames, reducing_list, reducing_more}

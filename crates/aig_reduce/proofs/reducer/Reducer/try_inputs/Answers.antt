@@ -1,4 +1,4 @@
-use Rattle.std.proofs.Common.{◌≡◌, suc, ◌+◌, ℕ, length, subst, arith}
+use Rattle.std.proofs.Common.{◌≡◌, suc, ◌+◌, length, subst, arith}
 use Rattle.aig_reduce.specs.state.Reducing.{Reducing}
 use Rattle.aig_reduce.proofs.Tries.{reducing_frames}
 use Rattle.aig_reduce.proofs.reducer.Reducer.try_inputs.Goals as goal
