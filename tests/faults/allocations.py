@@ -31,6 +31,7 @@ RUNS = (
     ("info", ["info", f"{EXAMPLES}/two_gates.aag"]),
     ("info of all sections", ["info", "sections"]),
     ("names", ["info", "--names", "sections"]),
+    ("witness", ["witness", f"{EXAMPLES}/wraps.aag", f"{EXAMPLES}/wraps.stim"]),
     ("refute", ["refute", "--frames", "1", "never", "proof"]),
     ("refute with a step", ["refute", "--frames", "1", "--step", "step", "never", "proof"]),
     ("cnf of a step", ["cnf", "--step", "--frames", "3", "guarded_latch"]),

@@ -25,6 +25,8 @@ RUNS = (
     ("info", "info one_gate", {}, OUTPUT),
     ("info of a refused circuit", "info cycle", {}, CYCLE),
     ("select", "select --to aag bad_input", {}, OUTPUT),
+    ("witness", "witness bad_input rows", {"rows": "1\n"}, OUTPUT),
+    ("witness of no run", "witness bad_input rows", {"rows": "0\n"}, refused("witness: no run")),
     ("refute", "refute --frames 2 constants proof", {"constants": "aag 0 0 0 0 0 1\n0\n", "proof": ""}, OUTPUT),
     ("refute with a proof that is refused", "refute --frames 2 bad_input proof", {"proof": ""}, refused("proof: no refutation")),
     ("refute of a refused circuit", "refute --frames 2 cycle proof", {"proof": ""}, CYCLE),

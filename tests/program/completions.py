@@ -47,6 +47,7 @@ SPLIT = (
     (["select", "--"], ["--as", "--explain", "--from", "--help", "--property", "--to"]),
     (["select", "--from", "=", "o"], ["outputs"]),
     (["select", "--as", ""], ["bad", "outputs"]),
+    (["witness", "--"], ["--explain", "--help", "--property"]),
     (["select", "--property", "0", "--property", "1", "a"], ["a.aag"]),
     (["refute", "--"], ["--explain", "--frames", "--help", "--property", "--step"]),
     (["refute", "--step", "ro"], ["rows.stim"]),

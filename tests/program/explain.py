@@ -335,6 +335,12 @@ def others(rows):
              "select: property", ["the section has no property at a position that --property names",
                                   "positions count from 0: aig info --names CIRCUIT prints them",
                                   "a circuit of AIGER 1.0 has outputs alone: --from outputs"])
+    rows.row("a property that no run can reach", ["witness", "--property", "7", "wraps", write("s", "1\n")],
+             "witness: property", ["the circuit has no bad state property at this position",
+                                   "positions count from 0: aig info CIRCUIT prints the number of properties"])
+    rows.row("a run that reaches nothing", ["witness", "wraps", write("f", "1\n0\n1\n")], "witness: no run",
+             ["no frame of the stimulus reaches the property, or a constraint was not 1 before",
+              "aig sim CIRCUIT STIM prints the run"])
     for fault, proof, why in (("step 1", "0\n", "the clause that this step adds does not follow by unit propagation"),
                               ("no refutation", "", "the proof ends before it refutes the formula"),
                               ("text at 0", "x\n", "a step is not that of a proof (DRAT) about this formula, or it is cut off")):

@@ -6,7 +6,7 @@ use crate::circuits::{
 use crate::exit::Exit;
 use crate::kept::Kept;
 use crate::simulations::{bench, simulate, wave};
-use crate::witnesses::{check, refute, refute_step, wave_witness};
+use crate::witnesses::{check, refute, refute_step, wave_witness, witness};
 use aig_base::PropertySection;
 use aig_cli::{has_flag, number_of, subcommand_of, text_of, texts_of};
 use aig_format::Format;
@@ -66,6 +66,11 @@ pub enum Task<'a> {
         to: Format,
         circuit: &'a str,
     },
+    Witness {
+        property: Option<u32>,
+        circuit: &'a str,
+        stimulus: &'a str,
+    },
     CnfStep {
         frames: u32,
         property: u32,
@@ -100,6 +105,7 @@ impl<'a> Task<'a> {
             "cnf" => formula_of(matches),
             "info" => info_of(matches),
             "select" => selection_of(matches),
+            "witness" => witness_of(matches),
             "refute" => refutation_of(matches),
             _ => None,
         }
@@ -144,6 +150,11 @@ impl<'a> Task<'a> {
                 to,
                 circuit,
             } => select(rt, selection, to, circuit),
+            Task::Witness {
+                property,
+                circuit,
+                stimulus,
+            } => witness(rt, property, circuit, stimulus),
             Task::Refute {
                 frames,
                 property,
@@ -279,6 +290,14 @@ fn selection_of<'a>(matches: &'a ArgMatches<'a>) -> Option<Task<'a>> {
         },
         to: format_of(matches)?,
         circuit: text_of(matches, "CIRCUIT")?,
+    })
+}
+
+fn witness_of<'a>(matches: &ArgMatches<'a>) -> Option<Task<'a>> {
+    Some(Task::Witness {
+        property: number_of(matches, "P"),
+        circuit: text_of(matches, "CIRCUIT")?,
+        stimulus: text_of(matches, "STIM")?,
     })
 }
 

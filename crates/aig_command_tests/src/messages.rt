@@ -4,12 +4,12 @@ use aig_bench::BenchFault;
 use aig_cnf::CnfFault;
 use aig_fault::{RunFault, ScriptFault};
 use aig_proof::ProofFault;
-use aig_sim::{StimFault, WitnessFault};
+use aig_sim::{ReachFault, StimFault, WitnessFault};
 use aig_unroll::UnrollFault;
 use std::alloc::Global;
 use std::fmt::Display;
 
-static MESSAGES: [(RunFault, &str); 37] = [
+static MESSAGES: [(RunFault, &str); 40] = [
     (RunFault::Circuit(Fault::Cycle(2)), "circuit: cycle 2"),
     (RunFault::Circuit(Fault::Memory), "circuit: memory"),
     (
@@ -55,6 +55,9 @@ static MESSAGES: [(RunFault, &str); 37] = [
     (RunFault::Select(SelectFault::Limit), "select: limit"),
     (RunFault::Select(SelectFault::Property), "select: property"),
     (RunFault::Select(SelectFault::Memory), "select: memory"),
+    (RunFault::Reach(ReachFault::Property), "witness: property"),
+    (RunFault::Reach(ReachFault::NoRun), "witness: no run"),
+    (RunFault::Reach(ReachFault::Memory), "witness: memory"),
     (
         RunFault::Proof(ProofFault::Text { at: 7 }),
         "proof: text at 7",

@@ -241,6 +241,7 @@ refused_ends reader out circuit stimulus run_faults.Memory h unread unwritten = 
 refused_ends reader out circuit stimulus (run_faults.Unroll f) h unread unwritten = absurd h
 refused_ends reader out circuit stimulus (run_faults.Cnf f) h unread unwritten = absurd h
 refused_ends reader out circuit stimulus (run_faults.Select f) h unread unwritten = absurd h
+refused_ends reader out circuit stimulus (run_faults.Reach f) h unread unwritten = absurd h
 refused_ends reader out circuit stimulus (run_faults.Proof f) h unread unwritten = absurd h
 refused_ends reader out circuit stimulus (run_faults.StepProof f) h unread unwritten = absurd h
 

@@ -12,3 +12,4 @@ pub mod Runs
 pub mod ScriptParts
 pub mod Selections
 pub mod Unrollings
+pub mod WitnessTexts

@@ -1,5 +1,5 @@
 -- A selection, from what is written of the circuit that it leaves.
-use Rattle.std.proofs.Common.{◌≡◌, ℕ, List, Result, Ok, Err}
+use Rattle.std.proofs.Common.{ℕ, List, Result, Ok, Err}
 use Rattle.aig_parts.specs.declared.raw.Raw.{Raw}
 use Rattle.aig_base.specs.declared.select.PropertySection.{PropertySection}
 use Rattle.aig_base.specs.Selected.{selected, CanSelect}
@@ -23,5 +23,6 @@ selects from into named to raw can (Err run_faults.Memory) bytes m = (can, m)
 selects from into named to raw can (Err (run_faults.Unroll fault)) bytes m = absurd m
 selects from into named to raw can (Err (run_faults.Cnf fault)) bytes m = absurd m
 selects from into named to raw can (Err (run_faults.Select fault)) bytes m = absurd m
+selects from into named to raw can (Err (run_faults.Reach fault)) bytes m = absurd m
 selects from into named to raw can (Err (run_faults.Proof fault)) bytes m = absurd m
 selects from into named to raw can (Err (run_faults.StepProof fault)) bytes m = absurd m

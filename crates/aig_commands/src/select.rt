@@ -49,8 +49,8 @@ fn read_and_select<R: Read, W: Write>(
 /// The command `select`: reads a circuit and writes it in a format, as `toaig` does, with some of its properties alone.
 /// They are those of the section `from` at the positions that are named, counted from 0, in the order in which they are
 /// named; all of the section where none is named. They are written in the section `into`. Inputs, latches, constraints,
-/// gates and the comment stay, and a kept property keeps its name. The file is never held whole. Where it is refused, or
-/// the section does not have a property that is named, nothing is written. It flushes the writer before it answers.
+/// gates and the comment stay, and a kept property keeps its name. The file is never held whole. Where it is refused,
+/// or the section does not have a property that is named, nothing is written. It flushes the writer before it answers.
 pub fn select<R: Read, W: Write>(
     alloc: Global,
     circuit: &mut R,

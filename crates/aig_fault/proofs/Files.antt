@@ -32,6 +32,7 @@ module _ {T : Type 0} (Means : Raw → Result T RunFault → List ℕ → Type 0
   of_file file f (Err (run_faults.Unroll fault)) bytes m = (raw, f, m)
   of_file file f (Err (run_faults.Cnf fault)) bytes m = (raw, f, m)
   of_file file f (Err (run_faults.Select fault)) bytes m = (raw, f, m)
+  of_file file f (Err (run_faults.Reach fault)) bytes m = (raw, f, m)
   of_file file f (Err (run_faults.Proof fault)) bytes m = (raw, f, m)
   of_file file f (Err (run_faults.StepProof fault)) bytes m = (raw, f, m)
 
@@ -49,6 +50,7 @@ module _ {T : Type 0} (Means : Raw → Result T RunFault → List ℕ → Type 0
   no_read (Err (run_faults.Unroll fault)) bytes m = (refl, λ e. let no : ⊥ = cc in no)
   no_read (Err (run_faults.Cnf fault)) bytes m = (refl, λ e. let no : ⊥ = cc in no)
   no_read (Err (run_faults.Select fault)) bytes m = (refl, λ e. let no : ⊥ = cc in no)
+  no_read (Err (run_faults.Reach fault)) bytes m = (refl, λ e. let no : ⊥ = cc in no)
   no_read (Err (run_faults.Proof fault)) bytes m = (refl, λ e. let no : ⊥ = cc in no)
   no_read (Err (run_faults.StepProof fault)) bytes m = (refl, λ e. let no : ⊥ = cc in no)
 

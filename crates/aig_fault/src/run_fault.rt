@@ -7,7 +7,7 @@ use aig_base::{Fault, Memory, SelectFault};
 use aig_bench::BenchFault;
 use aig_cnf::CnfFault;
 use aig_proof::ProofFault;
-use aig_sim::{StimFault, WitnessFault};
+use aig_sim::{ReachFault, StimFault, WitnessFault};
 use aig_unroll::UnrollFault;
 use thiserror::Error;
 
@@ -36,6 +36,8 @@ pub enum RunFault {
     Cnf(CnfFault),
     #[error("select: {0}")]
     Select(SelectFault),
+    #[error("witness: {0}")]
+    Reach(ReachFault),
     #[error("proof: {0}")]
     Proof(ProofFault),
     /// The proof of an induction step.
@@ -57,6 +59,7 @@ impl RunFault {
             RunFault::Unroll(UnrollFault::Memory) => 3,
             RunFault::Cnf(CnfFault::Memory) => 3,
             RunFault::Select(SelectFault::Memory) => 3,
+            RunFault::Reach(ReachFault::Memory) => 3,
             RunFault::Proof(ProofFault::Memory | ProofFault::Io) => 3,
             RunFault::StepProof(ProofFault::Memory | ProofFault::Io) => 3,
             RunFault::Circuit(_)
@@ -66,6 +69,7 @@ impl RunFault {
             | RunFault::Unroll(_)
             | RunFault::Cnf(_)
             | RunFault::Select(_)
+            | RunFault::Reach(_)
             | RunFault::Proof(_)
             | RunFault::StepProof(_) => 1,
         }
@@ -168,6 +172,17 @@ impl From<SelectFault> for RunFault {
 
     fn from(fault: SelectFault) -> RunFault {
         RunFault::Select(fault)
+    }
+}
+
+impl From<ReachFault> for RunFault {
+    ghost use Rattle.std.specs.Prelude.{◌≡◌};
+    ghost use Rattle.aig_fault.specs.declared.run_fault.RunFault.TheVariants as run_faults;
+
+    ghost from_gives = { λ fault part. part ≡ run_faults.Reach fault };
+
+    fn from(fault: ReachFault) -> RunFault {
+        RunFault::Reach(fault)
     }
 }
 

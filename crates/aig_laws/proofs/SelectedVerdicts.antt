@@ -1,21 +1,20 @@
 -- A run has the same verdict for a property and for the one that it was selected from.
-use Rattle.std.proofs.Common.{◌≡◌, ◌↔◌, ℕ, ◌-◌, ◌<◌, List, [], ◌∷◌, length, map, get_or, Option, Some, None, slice_get, option_map, refl, sym, ◌∙◌, ap, subst, arith, All}
-use Rattle.std.specs.List.{range_with_len}
-use Rattle.std.proofs.lemmas.Option.{slice_get-map, slice_get_within, slice_get-get_or}
+use Rattle.std.proofs.Common.{◌≡◌, ℕ, ◌-◌, ◌<◌, List, [], ◌∷◌, length, map, get_or, Some, slice_get, option_map, refl, sym, ◌∙◌, ap, All}
+use Rattle.std.proofs.lemmas.Option.{slice_get-map, slice_get-get_or}
 use Rattle.aig_parts.specs.declared.latch.Latch.{Latch}
 use Rattle.aig_parts.specs.declared.raw.Raw.{Raw}
 use Rattle.aig_parts.specs.declared.ternary.Tern.{Tern}
 use Rattle.aig_parts.specs.SymbolPlaces.{Key}
 use Rattle.aig_base.specs.declared.select.PropertySection.{PropertySection}
 use Rattle.aig_base.specs.declared.select.PropertySection.TheVariants as sections
-use Rattle.aig_base.specs.Selected.{properties_in, bad_in, outputs_in, with_properties, selected, selected_at, selected_positions, AreProperties}
+use Rattle.aig_base.specs.Selected.{properties_in, bad_in, outputs_in, with_properties, selected, selected_positions, AreProperties}
 use Rattle.aig_base.specs.Value as value
 use Rattle.aig_base.specs.Value.{Value}
 use Rattle.aig_base.proofs.lists.Gets.{All-at}
 use Rattle.aig_base.proofs.selections.SelectedCircuit.{all_there}
 use Rattle.aig_sim.specs.declared.verdict.Verdict.{Verdict}
 use Rattle.aig_sim.specs.declared.verdict.Verdict.TheVariants as verdict
-use Rattle.aig_sim.specs.Verdict.{IsVerdict, StartsWrong, IsNotOne, VerdictApplies}
+use Rattle.aig_sim.specs.Verdict.{VerdictApplies}
 use Rattle.aig_sim.specs.WitnessText.{Witness}
 use Rattle.aig_laws.specs.Selection.{with_bad, of_property, HaveSameVerdictsOf}
 

@@ -14,7 +14,7 @@ returns-clause-ends g c =
 
 pub returns-clause-flushed : goal.returns-clause-flushed
 returns-clause-flushed g c = λ same.
-    c.flushed.ensures.flushed (ends_unfailed g.W.Write.written g.W.Write.failures c.args.out.now c.read_and_select-done.new.out c.flushed.new.out run_faults.Output
-    (OfReader (flow g.R.Read.left g.R.Read.failures c.args.circuit.now c.read_and_select-done.new.circuit)
+    c.flushed.ensures.flushed (ends_unfailed g.W.Write.written g.W.Write.failures c.args.out.now c.read_and_select-done.new.out
+    c.flushed.new.out run_faults.Output (OfReader (flow g.R.Read.left g.R.Read.failures c.args.circuit.now c.read_and_select-done.new.circuit)
     (Selects c.args.from c.args.into c.args.named.now c.args.to))
     c.read_and_select-done.result c.flushed.result c.read_and_select-done.ensures c.flushed.ensures.answer same)

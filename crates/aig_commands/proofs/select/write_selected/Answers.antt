@@ -1,4 +1,4 @@
-use Rattle.std.proofs.Common.{ℕ, List, [], Result, inl, refl, subst, sym}
+use Rattle.std.proofs.Common.{[], inl, refl, subst}
 use Rattle.aig_parts.specs.declared.raw.Raw.{Raw}
 use Rattle.aig_base.specs.Selected.{selected}
 use Rattle.aig_bytes.specs.Flow.{flow}
