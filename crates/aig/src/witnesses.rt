@@ -1,5 +1,4 @@
-//! The tasks on a circuit and what a solver says of it: the check of a witness, the dump of its run, how a witness is
-//! made, and the check of a proof.
+//! The tasks on a witness: its check, the dump of its run, and how it is made; and the check of proofs that there is none.
 
 use crate::exit::Exit;
 use crate::files::{CIRCUIT, open, output, read_whole};

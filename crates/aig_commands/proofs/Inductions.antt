@@ -28,6 +28,7 @@ of_both base any later n k p is (Err run_faults.Memory) bytes m = absurd m
 of_both base any later n k p is (Err (run_faults.Unroll fault)) bytes m = absurd m
 of_both base any later n k p is (Err (run_faults.Cnf fault)) bytes m = absurd m
 of_both base any later n k p is (Err (run_faults.Select fault)) bytes m = absurd m
+of_both base any later n k p is (Err (run_faults.Reach fault)) bytes m = absurd m
 of_both base any later n k p is (Err (run_faults.Proof fault)) bytes m = m
 of_both base any later n k p is (Err (run_faults.StepProof fault)) bytes m = m
 
@@ -54,5 +55,6 @@ module _ (raw any new : Raw) (n k p : ℕ) (circuit : IsCircuit raw) (any_circui
   of_later (Err (run_faults.Cnf fault)) bytes m =
       (inr (has, subst (λ (r : Raw). RefusesStep r k p fault) is m.0), m.1)
   of_later (Err (run_faults.Select fault)) bytes m = absurd m
+  of_later (Err (run_faults.Reach fault)) bytes m = absurd m
   of_later (Err (run_faults.Proof fault)) bytes m = (has, m)
   of_later (Err (run_faults.StepProof fault)) bytes m = (has, m)

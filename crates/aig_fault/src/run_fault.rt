@@ -69,7 +69,7 @@ impl RunFault {
             | RunFault::Unroll(_)
             | RunFault::Cnf(_)
             | RunFault::Select(_)
-            | RunFault::Reach(_) => 1,
+            | RunFault::Reach(_)
             | RunFault::Proof(_)
             | RunFault::StepProof(_) => 1,
         }
