@@ -3,7 +3,7 @@
 # the words that it takes, `file`, or nothing.
 
 _aig() {
-    local commands="toaig sim wave bench unroll check cnf info select help"
+    local commands="toaig sim wave bench unroll check cnf info select witness help"
     local -A options=(
         [toaig]="--to --explain --help"
         [sim]="--explain --help"
@@ -14,6 +14,7 @@ _aig() {
         [cnf]="--frames --property --explain --help"
         [info]="--names --explain --help"
         [select]="--to --from --as --property --explain --help"
+        [witness]="--property --explain --help"
     )
     local -A values=(
         [--to]="aag aig"

@@ -26,11 +26,12 @@ from program.talks import talks
 from program.toaig import toaig
 from program.unroll import unroll
 from program.wave import wave
+from program.witness import witness
 from program.words import words
 
 PARTS = {"bench": bench, "kept": kept, "owners": owners, "descriptors": descriptors, "words": words, "sim": sim,
          "wave": wave, "check": check, "replays": replays, "toaig": toaig, "unroll": unroll, "cnf": cnf,
-         "info": info, "select": select, "help": helps, "pages": pages, "completions": completions,
+         "info": info, "select": select, "witness": witness, "help": helps, "pages": pages, "completions": completions,
          "diagnostics": diagnostics, "explain": explain,
          "explain_option": explain_option, "needs": needs, "talks": talks}
 

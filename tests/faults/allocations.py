@@ -31,6 +31,7 @@ RUNS = (
     ("info", ["info", f"{EXAMPLES}/two_gates.aag"]),
     ("info of all sections", ["info", "sections"]),
     ("names", ["info", "--names", "sections"]),
+    ("witness", ["witness", f"{EXAMPLES}/wraps.aag", f"{EXAMPLES}/wraps.stim"]),
     ("select", ["select", "--to", "aag", "--property", "0", "--property", "0", "sections"]),
     ("select that renumbers", ["select", "--to", "aig", "--from", "outputs", f"{EXAMPLES}/two_gates.aag"]),
 )

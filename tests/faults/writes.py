@@ -25,6 +25,8 @@ RUNS = (
     ("info", "info one_gate", {}, OUTPUT),
     ("info of a refused circuit", "info cycle", {}, CYCLE),
     ("select", "select --to aag bad_input", {}, OUTPUT),
+    ("witness", "witness bad_input rows", {"rows": "1\n"}, OUTPUT),
+    ("witness of no run", "witness bad_input rows", {"rows": "0\n"}, refused("witness: no run")),
     ("select to binary", "select --from outputs --to aig one_gate", {}, OUTPUT),
     ("select of a refused circuit", "select --to aag cycle", {}, CYCLE),
     ("select of a property that is not there", "select --to aag --property 0 one_gate", {}, refused("select: property")),

@@ -46,6 +46,7 @@ SPLIT = (
     (["select", "--"], ["--as", "--explain", "--from", "--help", "--property", "--to"]),
     (["select", "--from", "=", "o"], ["outputs"]),
     (["select", "--as", ""], ["bad", "outputs"]),
+    (["witness", "--"], ["--explain", "--help", "--property"]),
     (["select", "--property", "0", "--property", "1", "a"], ["a.aag"]),
     (["sim", "a.aag", ""], ["a.aag", "b.aig", "notes", "rows.stim", "sub", "with space.aag"]),
     (["wave", "--witness", "a"], ["a.aag"]),

@@ -33,6 +33,8 @@ REFUSALS = (
     ("no format to select to", ["select", "two_gates"]),
     ("an unknown section", ["select", "--from", "justice", "--to", "aag", "two_gates"]),
     ("a property with a letter", ["select", "--to", "aag", "--property", "0", "--property", "b1", "two_gates"]),
+    ("no stimulus to run", ["witness", "two_gates"]),
+    ("a property of a witness with a letter", ["witness", "--property", "b1", "two_gates", "two_gates"]),
     ("a property over its limit", ["select", "--to", "aag", "--property", "4294967296", "two_gates"]),
 )
 
@@ -42,7 +44,7 @@ def words(program, tally, _):
     write_all()
     for word in ("--help", "-h", "help"):
         tells(rows, [word], contents(f"{EXPECTED}/help/aig.txt"))
-    for command in ("toaig", "sim", "wave", "bench", "unroll", "check", "cnf", "info", "select"):
+    for command in ("toaig", "sim", "wave", "bench", "unroll", "check", "cnf", "info", "select", "witness"):
         for asked in ([command, "--help"], [command, "-h"], ["help", command]):
             tells(rows, asked, contents(f"{EXPECTED}/help/{command}.txt"))
     tells(rows, ["help", "help"], contents(f"{EXPECTED}/help/help.txt"))

@@ -13,7 +13,7 @@ use aig_explain::{
     explain_witness,
 };
 use aig_fault::{RunFault, ScriptFault};
-use aig_sim::{StimFault, WitnessFault};
+use aig_sim::{ReachFault, StimFault, WitnessFault};
 use aig_unroll::UnrollFault;
 use std::alloc::Global;
 use std::env::{self, Env, VarError};
@@ -62,9 +62,13 @@ impl<'a> TaskFiles<'a> {
             | Task::Info { circuit }
             | Task::InfoNames { circuit }
             | Task::Select { circuit, .. } => TaskFiles::new(circuit, None),
-            Task::Simulate { circuit, stimulus } | Task::Wave { circuit, stimulus } => {
-                TaskFiles::new(circuit, Some(stimulus))
-            }
+            Task::Simulate { circuit, stimulus }
+            | Task::Wave { circuit, stimulus }
+            | Task::Witness {
+                circuit,
+                stimulus,
+                ..
+            } => { TaskFiles::new(circuit, Some(stimulus)) }
             Task::WaveWitness { circuit, witness }
             | Task::Check {
                 circuit,
@@ -143,6 +147,7 @@ fn explain_fault<R: Files + AllocGlobal + Print + Eprint>(
         RunFault::Unroll(fault) => of_unroll(rt, files, fault),
         RunFault::Cnf(fault) => of_cnf(rt, files, fault),
         RunFault::Select(fault) => of_select(rt, files, fault),
+        RunFault::Reach(fault) => of_reach(rt, files, fault),
         RunFault::Output => of_output(rt, files),
         RunFault::Memory => note(rt, MORE_MEMORY),
     }
@@ -324,6 +329,27 @@ fn of_select<R: AllocGlobal + Eprint>(rt: &R, files: &TaskFiles<'_>, fault: Sele
             note_name(rt, files.circuit);
             note(rt, "a section has at most 4,194,303 properties");
         }
+    }
+}
+
+fn of_reach<R: AllocGlobal + Eprint>(rt: &R, files: &TaskFiles<'_>, fault: ReachFault) {
+    note_name(rt, files.circuit);
+    match fault {
+        ReachFault::Property => {
+            note(rt, "the circuit has no bad state property at this position");
+            note(
+                rt,
+                "positions count from 0: aig info CIRCUIT prints the number of properties",
+            );
+        }
+        ReachFault::NoRun => {
+            note(
+                rt,
+                "no frame of the stimulus reaches the property, or a constraint was not 1 before",
+            );
+            note(rt, "aig sim CIRCUIT STIM prints the run");
+        }
+        ReachFault::Memory => note(rt, MORE_MEMORY),
     }
 }
 

@@ -4,7 +4,7 @@ use crate::circuits::{Selection, convert, formula, info, info_names, select, unr
 use crate::exit::Exit;
 use crate::kept::Kept;
 use crate::simulations::{bench, simulate, wave};
-use crate::witnesses::{check, wave_witness};
+use crate::witnesses::{check, wave_witness, witness};
 use aig_base::PropertySection;
 use aig_cli::{has_flag, number_of, subcommand_of, text_of, texts_of};
 use aig_format::Format;
@@ -64,6 +64,11 @@ pub enum Task<'a> {
         to: Format,
         circuit: &'a str,
     },
+    Witness {
+        property: Option<u32>,
+        circuit: &'a str,
+        stimulus: &'a str,
+    },
 }
 
 impl<'m> Task<'m> {
@@ -80,6 +85,7 @@ impl<'m> Task<'m> {
             "cnf" => formula_of(matches),
             "info" => info_of(matches),
             "select" => selection_of(matches),
+            "witness" => witness_of(matches),
             _ => None,
         }
     }
@@ -123,6 +129,11 @@ impl<'m> Task<'m> {
                 to,
                 circuit,
             } => select(rt, selection, to, circuit),
+            Task::Witness {
+                property,
+                circuit,
+                stimulus,
+            } => witness(rt, property, circuit, stimulus),
         }
     }
 }
@@ -229,5 +240,13 @@ fn selection_of<'m>(matches: &'m ArgMatches<'_>) -> Option<Task<'m>> {
         },
         to: format_of(matches)?,
         circuit: text_of(matches, "CIRCUIT")?,
+    })
+}
+
+fn witness_of<'a>(matches: &ArgMatches<'a>) -> Option<Task<'a>> {
+    Some(Task::Witness {
+        property: number_of(matches, "P"),
+        circuit: text_of(matches, "CIRCUIT")?,
+        stimulus: text_of(matches, "STIM")?,
     })
 }

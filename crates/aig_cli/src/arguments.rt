@@ -108,6 +108,13 @@ pub fn property_argument<'a>(alloc: Global) -> Arg<'a> {
     number(property.long("property"))
 }
 
+pub fn reached_argument<'a>(alloc: Global) -> Arg<'a> {
+    let property = Arg::new(alloc, "P").help(
+        "Position of the bad state property, counted from 0\n(default: the first that is reached)",
+    );
+    number(property.long("property"))
+}
+
 // The properties to keep: the option stands once for each.
 pub fn properties_argument<'a>(alloc: Global) -> Arg<'a> {
     let properties = Arg::new(alloc, "P").help(

@@ -4,7 +4,7 @@ use crate::arguments::explain_flag;
 use crate::help;
 use crate::subcommands::{
     bench_command, check_command, cnf_command, info_command, select_command, sim_command,
-    toaig_command, unroll_command, wave_command,
+    toaig_command, unroll_command, wave_command, witness_command,
 };
 use clap::{ArgMatches, Command};
 use std::alloc::{AllocError, Global};
@@ -39,7 +39,8 @@ fn command_line<'a>(alloc: Global) -> Result<Command<'a>, AllocError> {
     let checks = with_subcommand(more, check_command(alloc))?;
     let formulas = with_subcommand(checks, cnf_command(alloc))?;
     let facts = with_subcommand(formulas, info_command(alloc))?;
-    with_subcommand(facts, select_command(alloc))
+    let selections = with_subcommand(facts, select_command(alloc))?;
+    with_subcommand(selections, witness_command(alloc))
 }
 
 /// Parses the arguments; the first is the program's name.

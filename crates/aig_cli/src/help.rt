@@ -178,3 +178,15 @@ Exit status:
 
 Example: aig sim examples/counter.aag examples/counter.stim
 See also: man aig, man 5 aig-formats";
+
+pub static WITNESS: &str =
+    "witness runs the circuit over the stimulus, from its resets, up to the first
+frame at which a bad state property is 1 and all constraints were 1 so far. It
+writes the witness of this run: the latch values at the start, x for those
+without a reset, and the input values up to this frame. If the frame reaches
+several properties, the witness is that of the first. check confirms it.
+
+If no frame reaches a property, witness writes nothing and fails: no run.
+
+Example: aig witness examples/wraps.aag examples/wraps.stim > wraps.wit
+See also: man aig, man 5 aig-formats";

@@ -2,9 +2,9 @@
 
 use crate::arguments::{
     circuit_argument, circuit_out_argument, format_argument, frames_argument, map_argument,
-    names_flag, properties_argument, property_argument, run_argument, script_argument,
-    section_argument, stimulus_argument, stimulus_out_argument, trace_flag, witness_argument,
-    witness_flag,
+    names_flag, properties_argument, property_argument, reached_argument, run_argument,
+    script_argument, section_argument, stimulus_argument, stimulus_out_argument, trace_flag,
+    witness_argument, witness_flag,
 };
 use crate::help;
 use clap::Command;
@@ -99,4 +99,13 @@ pub fn select_command<'a>(alloc: Global) -> Result<Command<'a>, AllocError> {
         ))?
         .arg(properties_argument(alloc))?
         .arg(circuit_argument(alloc))
+}
+
+pub fn witness_command<'a>(alloc: Global) -> Result<Command<'a>, AllocError> {
+    Command::new(alloc, "witness")
+        .about("Write the witness that a run reaches a bad state")
+        .after_help(help::WITNESS)
+        .arg(reached_argument(alloc))?
+        .arg(circuit_argument(alloc))?
+        .arg(stimulus_argument(alloc))
 }

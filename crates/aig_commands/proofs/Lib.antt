@@ -10,3 +10,4 @@ pub mod Runs
 pub mod ScriptParts
 pub mod Selections
 pub mod Unrollings
+pub mod WitnessTexts

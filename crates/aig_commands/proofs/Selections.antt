@@ -23,3 +23,4 @@ selects from into named to raw can (Err run_faults.Memory) bytes m = (can, m)
 selects from into named to raw can (Err (run_faults.Unroll fault)) bytes m = absurd m
 selects from into named to raw can (Err (run_faults.Cnf fault)) bytes m = absurd m
 selects from into named to raw can (Err (run_faults.Select fault)) bytes m = absurd m
+selects from into named to raw can (Err (run_faults.Reach fault)) bytes m = absurd m

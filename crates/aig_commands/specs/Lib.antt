@@ -10,4 +10,5 @@ pub mod Sim
 pub mod Toaig
 pub mod Unroll
 pub mod Wave
+pub mod Witness
 pub mod state

@@ -11,6 +11,7 @@ pub mod sim;
 pub mod toaig;
 pub mod unroll;
 pub mod wave;
+pub mod witness;
 
 pub use bench::{keep_circuit, keep_stimulus, law_of_kept_files, run_bench};
 pub use check::check_bytes;

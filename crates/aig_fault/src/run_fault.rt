@@ -6,7 +6,7 @@ use crate::script_fault::ScriptFault;
 use aig_base::{Fault, Memory, SelectFault};
 use aig_bench::BenchFault;
 use aig_cnf::CnfFault;
-use aig_sim::{StimFault, WitnessFault};
+use aig_sim::{ReachFault, StimFault, WitnessFault};
 use aig_unroll::UnrollFault;
 use thiserror::Error;
 
@@ -35,6 +35,8 @@ pub enum RunFault {
     Cnf(CnfFault),
     #[error("select: {0}")]
     Select(SelectFault),
+    #[error("witness: {0}")]
+    Reach(ReachFault),
 }
 
 impl RunFault {
@@ -51,13 +53,15 @@ impl RunFault {
             RunFault::Unroll(UnrollFault::Memory) => 3,
             RunFault::Cnf(CnfFault::Memory) => 3,
             RunFault::Select(SelectFault::Memory) => 3,
+            RunFault::Reach(ReachFault::Memory) => 3,
             RunFault::Circuit(_)
             | RunFault::Stimulus(_)
             | RunFault::Witness(_)
             | RunFault::Bench(_)
             | RunFault::Unroll(_)
             | RunFault::Cnf(_)
-            | RunFault::Select(_) => 1,
+            | RunFault::Select(_)
+            | RunFault::Reach(_) => 1,
         }
     }
 }
@@ -158,5 +162,16 @@ impl From<SelectFault> for RunFault {
 
     fn from(fault: SelectFault) -> RunFault {
         RunFault::Select(fault)
+    }
+}
+
+impl From<ReachFault> for RunFault {
+    ghost use Rattle.std.specs.Prelude.{◌≡◌};
+    ghost use Rattle.aig_fault.specs.declared.run_fault.RunFault.TheVariants as run_faults;
+
+    ghost from_gives = { λ fault part. part ≡ run_faults.Reach fault };
+
+    fn from(fault: ReachFault) -> RunFault {
+        RunFault::Reach(fault)
     }
 }
