@@ -6,7 +6,7 @@ use Rattle.aig_refute.specs.declared.checker.Checker.{Checker}
 use Rattle.aig_refute.specs.declared.known.Known.{Known}
 use Rattle.aig_refute.specs.Agreement.{Agrees}
 use Rattle.aig_refute.specs.Distinct.{Has, HasAll}
-use Rattle.aig_refute.specs.Formula.{is_true, meets}
+use Rattle.aig_cnf.specs.Formula.{is_true, meets}
 use Rattle.aig_refute.specs.Holding.{Holds, KeepsMeeting}
 use Rattle.aig_refute.specs.Knowledge.{AreFalse, AreFalseBeside, IsIn, IsKnown, MakesTrue}
 use Rattle.aig_refute.specs.Words.{MeetsAll}
@@ -34,22 +34,22 @@ pub only_true : (v : ℕ → Bool) (truths : List Bool) (literals : List ℕ) (l
 only_true v truths literals literal makes all h =
     let (k, inside, holds) = literal_that_meets v literals h in
     elim (all k inside) [
-      inl e ↦ ap (is_true v) (sym e) ∙ holds
-    | inr untrue ↦ absurd (negation_false v (get_or literals k 0) (makes _ untrue) holds)
+      | inl e ↦ ap (is_true v) (sym e) ∙ holds
+      | inr untrue ↦ absurd (negation_false v (get_or literals k 0) (makes _ untrue) holds)
     ]
 
 -- a clause of the marks that is stored
 pub stored : (literals : List ℕ) (old new : Checker) → new.refuted ≡ old.refuted → new.propagator.known ≡ old.propagator.known
     → ((v : ℕ → Bool) → meets v literals ≡ true → MeetsAll v old.propagator.clauses.words.items
-      → MeetsAll v new.propagator.clauses.words.items)
+    → MeetsAll v new.propagator.clauses.words.items)
     → KeepsMeeting literals old new
 stored literals old new same_refuted same_known met v h m = record {
-    open_still = same_refuted ∙ h.open_still;
-    agrees = record {
-      met = met v m h.agrees.met;
-      known = subst (λ (x : Known). MakesTrue v x.truths.items) (sym same_known) h.agrees.known;
-    };
-  }
+  open_still = same_refuted ∙ h.open_still;
+  agrees = record {
+    met = met v m h.agrees.met;
+    known = subst (λ (x : Known). MakesTrue v x.truths.items) (sym same_known) h.agrees.known;
+  };
+}
 
 pub not_true : (b : Bool) → (b ≡ true → ⊥) → b ≡ false
 not_true true never = absurd (never refl)

@@ -10,7 +10,7 @@ use Rattle.aig_parts.specs.Literal.{negation, variable}
 use Rattle.aig_refute.specs.declared.known.Known.{Known}
 use Rattle.aig_refute.specs.declared.propagator.Propagator.{Propagator}
 use Rattle.aig_refute.specs.Agreement.{Agrees, Assumes, Contradicts, Implies, KeepsAgreement, Propagates}
-use Rattle.aig_refute.specs.Formula.{is_true, meets}
+use Rattle.aig_cnf.specs.Formula.{is_true, meets}
 use Rattle.aig_refute.specs.Knowledge.{AreFalse, AreFalseBeside, IsFound, IsIn, IsKnown, MakesTrue, Takes}
 use Rattle.aig_refute.specs.Words.{HasTrue, IsClauseAt, KeepsMet, MeetsAll}
 use Rattle.aig_refute.proofs.TruthLemmas.{negation_false, negation_true}
@@ -21,16 +21,16 @@ pub taken_known : (literal : ℕ) (old new : Known) → Takes literal old new �
     → IsKnown old.truths.items l ⊎ (l ≡ literal)
 taken_known literal old new (inl t) l h = inl (ap (λ xs. get_or xs l false) (sym t.0) ∙ h)
 taken_known literal old new (inr t) l h = elim (same_or_other l literal) [
-      inl e ↦ inr e
-    | inr ne ↦ inl (sym (get_or-set_other old.truths.items literal l true false ne) ∙ ap (λ xs. get_or xs l false) (sym t.0) ∙ h)
-    ]
+  | inl e ↦ inr e
+  | inr ne ↦ inl (sym (get_or-set_other old.truths.items literal l true false ne) ∙ ap (λ xs. get_or xs l false) (sym t.0) ∙ h)
+]
 
 pub taken_true : (values : ℕ → Bool) (literal : ℕ) (old new : Known) → Takes literal old new
     → MakesTrue values old.truths.items → is_true values literal ≡ true → MakesTrue values new.truths.items
 taken_true values literal old new t before now l h = elim (taken_known literal old new t l h) [
-      inl k ↦ before l k
-    | inr e ↦ ap (is_true values) e ∙ now
-    ]
+  | inl k ↦ before l k
+  | inr e ↦ ap (is_true values) e ∙ now
+]
 
 in_more : (list : List ℕ) (x l : ℕ) → IsIn list l → IsIn (list ++ x ∷ []) l
 in_more list x l (k, inside, is) =
@@ -43,16 +43,16 @@ in_last list x =
 pub taken_found : (literal : ℕ) (old new : Known) → Takes literal old new → (before : List Bool) → IsFound before old
     → IsFound before new
 taken_found literal old new (inl t) before found l h = elim (found l (ap (λ xs. get_or xs l false) (sym t.0) ∙ h)) [
-      inl k ↦ inl k
-    | inr i ↦ inr (subst (λ (xs : List ℕ). IsIn xs l) (sym t.1) i)
-    ]
+  | inl k ↦ inl k
+  | inr i ↦ inr (subst (λ (xs : List ℕ). IsIn xs l) (sym t.1) i)
+]
 taken_found literal old new (inr t) before found l h = elim (taken_known literal old new (inr t) l h) [
-      inr e ↦ inr (subst (λ (xs : List ℕ). IsIn xs l) (sym t.1) (subst (λ (x : ℕ). IsIn (old.trail.items ++ literal ∷ []) x) (sym e) (in_last old.trail.items literal)))
-    | inl k ↦ elim (found l k) [
-        inl b ↦ inl b
-      | inr i ↦ inr (subst (λ (xs : List ℕ). IsIn xs l) (sym t.1) (in_more old.trail.items literal l i))
-      ]
-    ]
+  | inr e ↦ inr (subst (λ (xs : List ℕ). IsIn xs l) (sym t.1) (subst (λ (x : ℕ). IsIn (old.trail.items ++ literal ∷ []) x) (sym e) (in_last old.trail.items literal)))
+  | inl k ↦ elim (found l k) [
+    | inl b ↦ inl b
+    | inr i ↦ inr (subst (λ (xs : List ℕ). IsIn xs l) (sym t.1) (in_more old.trail.items literal l i))
+  ]
+]
 
 -- propagation step by step
 pub no_step : (p : Propagator) → Propagates p p
@@ -63,10 +63,10 @@ agrees_then old mid first values a = record { met = first.met values a.met; know
 
 pub steps : (old mid new : Propagator) → Propagates old mid → Propagates mid new → Propagates old new
 steps old mid new first second = record {
-    met = λ v h. second.met v (first.met v h);
-    known = λ v a. second.known v (agrees_then old mid first v a);
-    found = λ b h. second.found b (first.found b h);
-  }
+  met = λ v h. second.met v (first.met v h);
+  known = λ v a. second.known v (agrees_then old mid first v a);
+  found = λ b h. second.found b (first.found b h);
+}
 
 pub contradicts_then : (old mid : Propagator) → Propagates old mid → Contradicts mid → Contradicts old
 contradicts_then old mid first untrue values a = untrue values (agrees_then old mid first values a)
@@ -76,19 +76,19 @@ pub by_taking : (literal : ℕ) (old new : Propagator) → new.clauses.words.ite
     → Takes literal old.known new.known → ((values : ℕ → Bool) → Agrees values old → is_true values literal ≡ true)
     → Propagates old new
 by_taking literal old new e t implied = record {
-    met = λ v h. subst (MeetsAll v) (sym e) h;
-    known = λ v a. taken_true v literal old.known new.known t a.known (implied v a);
-    found = taken_found literal old.known new.known t;
-  }
+  met = λ v h. subst (MeetsAll v) (sym e) h;
+  known = λ v a. taken_true v literal old.known new.known t a.known (implied v a);
+  found = taken_found literal old.known new.known t;
+}
 
 -- only the clauses change
 pub by_words : (old new : Propagator) → KeepsMet old.clauses.words.items new.clauses.words.items → new.known ≡ old.known
     → Propagates old new
 by_words old new keeps e = record {
-    met = keeps;
-    known = λ v a. subst (λ (k : Known). MakesTrue v k.truths.items) (sym e) a.known;
-    found = λ b h. subst (λ (k : Known). IsFound b k) (sym e) h;
-  }
+  met = keeps;
+  known = λ v a. subst (λ (k : Known). MakesTrue v k.truths.items) (sym e) a.known;
+  found = λ b h. subst (λ (k : Known). IsFound b k) (sym e) h;
+}
 
 -- the only literal of a clause that is not known to be false is true
 pub unit_true : (p : Propagator) (place : ℕ) (literals : List ℕ) (other : ℕ)
@@ -99,8 +99,8 @@ unit_true p place literals other at all values a =
     let within : k < length literals = omega (arith, at.size) in
     let is : get_or literals k 0 ≡ get_or p.clauses.words.items (place + (3 + k)) 0 = at.items k within in
     elim (all k within) [
-      inl e ↦ ap (is_true values) (sym e ∙ is) ∙ holds
-    | inr untrue ↦ absurd (negation_false values (get_or literals k 0) (a.known _ untrue) (ap (is_true values) is ∙ holds))
+      | inl e ↦ ap (is_true values) (sym e ∙ is) ∙ holds
+      | inr untrue ↦ absurd (negation_false values (get_or literals k 0) (a.known _ untrue) (ap (is_true values) is ∙ holds))
     ]
 
 pub conflict_false : (p : Propagator) (place : ℕ) (literals : List ℕ) (other : ℕ)
@@ -130,20 +130,20 @@ pub assume_more : (clause : List ℕ) (k literal : ℕ) (old mid new : Propagato
     → literal ≡ get_or clause k 0 → Assumes clause old mid → new.clauses.words.items ≡ mid.clauses.words.items
     → Takes (negation literal) mid.known new.known → Assumes clause old new
 assume_more clause k literal old mid new inside is first e t = record {
-    met = λ v h. subst (MeetsAll v) (sym e) (first.met v h);
-    known = λ v a untrue.
+  met = λ v h. subst (MeetsAll v) (sym e) (first.met v h);
+  known = λ v a untrue.
       taken_true v (negation literal) mid.known new.known t (first.known v a untrue)
       (negation_true v literal (ap (is_true v) is ∙ literal_false v clause k inside untrue));
-    found = λ b h. taken_found (negation literal) mid.known new.known t b (first.found b h);
-  }
+  found = λ b h. taken_found (negation literal) mid.known new.known t b (first.found b h);
+}
 
 pub assume_then : (clause : List ℕ) (old mid new : Propagator) → Assumes clause old mid → Propagates mid new
     → Assumes clause old new
 assume_then clause old mid new first second = record {
-    met = λ v h. second.met v (first.met v h);
-    known = λ v a untrue. second.known v (assumed_agrees clause old mid first v a untrue);
-    found = λ b h. second.found b (first.found b h);
-  }
+  met = λ v h. second.met v (first.met v h);
+  known = λ v a untrue. second.known v (assumed_agrees clause old mid first v a untrue);
+  found = λ b h. second.found b (first.found b h);
+}
 
 -- no assignment that agrees fails to meet the clause
 pub implied_by : (clause : List ℕ) (p : Propagator)
@@ -188,6 +188,6 @@ pub undone : (clause : List ℕ) (old mid new : Propagator) → Assumes clause o
     → ((before : List Bool) → IsFound before mid.known → (l : ℕ) → IsKnown new.known.truths.items l → IsKnown before l)
     → KeepsAgreement old new
 undone clause old mid new first e back v a = record {
-    met = subst (MeetsAll v) (sym e) (first.met v a.met);
-    known = λ l h. a.known l (back old.known.truths.items (first.found old.known.truths.items (λ m known. inl known)) l h);
-  }
+  met = subst (MeetsAll v) (sym e) (first.met v a.met);
+  known = λ l h. a.known l (back old.known.truths.items (first.found old.known.truths.items (λ m known. inl known)) l h);
+}

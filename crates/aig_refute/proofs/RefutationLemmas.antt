@@ -6,7 +6,7 @@ use Rattle.std.proofs.lemmas.Bool.{false≢true}
 use Rattle.aig_bytes.specs.declared.fault.Memory.{Memory}
 use Rattle.aig_refute.specs.declared.checker.Checker.{Checker}
 use Rattle.aig_refute.specs.Consequence.{Follows, IsUnsatisfiable}
-use Rattle.aig_refute.specs.Formula.{meets, Satisfies}
+use Rattle.aig_cnf.specs.Formula.{meets, Satisfies}
 use Rattle.aig_refute.specs.Holding.{Holds, KeepsHolding, KeepsMeeting}
 use Rattle.aig_refute.specs.Standing.{standing}
 use Rattle.aig_refute.proofs.StandingLemmas.{both_and, holds_state, split_and, state_holds}

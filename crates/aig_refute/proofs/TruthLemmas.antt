@@ -2,7 +2,7 @@
 use Rattle.std.proofs.Common.{◌≡◌, ◌⊎◌, inl, inr, ℕ, ◌+◌, ◌-◌, ◌%◌, Bool, true, false, not, refl, sym, ◌∙◌, ap, arith}
 use Rattle.std.proofs.lemmas.Bool.{false≢true}
 use Rattle.aig_parts.specs.Literal.{variable, negation, IsNegated}
-use Rattle.aig_refute.specs.Formula.{is_true}
+use Rattle.aig_cnf.specs.Formula.{is_true}
 
 signs : (l : ℕ) → (l % 2 ≡ 0) ⊎ (l % 2 ≡ 1)
 signs l = grind arith

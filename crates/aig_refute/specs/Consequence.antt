@@ -1,6 +1,6 @@
 -- What follows from a formula (propositional logic).
 use Rattle.std.specs.Prelude.{ℕ, Bool, List}
-use Rattle.aig_refute.specs.Formula.{Satisfies}
+use Rattle.aig_cnf.specs.Formula.{Satisfies}
 
 -- each assignment that satisfies the first formula satisfies the second
 abbrev pub Follows : List (List ℕ) → List (List ℕ) → Type 0

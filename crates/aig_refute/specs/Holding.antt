@@ -2,7 +2,7 @@
 use Rattle.std.specs.Prelude.{◌≡◌, ℕ, Bool, true, false, List}
 use Rattle.aig_refute.specs.declared.checker.Checker.{Checker}
 use Rattle.aig_refute.specs.Agreement.{Agrees}
-use Rattle.aig_refute.specs.Formula.{meets}
+use Rattle.aig_cnf.specs.Formula.{meets}
 
 -- the formula is not refuted, and the assignment agrees with what stands and is known
 pub record Holds (values : ℕ → Bool) (c : Checker) : Type 0 where

@@ -2,7 +2,7 @@
 use Rattle.std.specs.Prelude.{◌≡◌, ◌⊎◌, ℕ, ◌<◌, Bool, true, false, List, [], ◌∷◌, ◌++◌, length, slice_index, slice_index_or, slice_set}
 use Rattle.aig_parts.specs.Literal.{negation}
 use Rattle.aig_refute.specs.declared.known.Known.{Known}
-use Rattle.aig_refute.specs.Formula.{is_true}
+use Rattle.aig_cnf.specs.Formula.{is_true}
 
 abbrev pub IsKnown : List Bool → ℕ → Type 0
 IsKnown truths l = slice_index_or truths l false ≡ true

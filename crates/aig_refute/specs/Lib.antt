@@ -1,9 +1,8 @@
 pub mod Agreement
 pub mod Consequence
-pub mod Formula
-pub mod Words
-pub mod Knowledge
-pub mod Visits
-pub mod Standing
 pub mod Distinct
 pub mod Holding
+pub mod Knowledge
+pub mod Standing
+pub mod Visits
+pub mod Words

@@ -1,7 +1,7 @@
 -- The clauses that stand, as words. A clause has a first word that says that it stands and how many literals it has,
 -- two other words, and its literals.
 use Rattle.std.specs.Prelude.{◌≡◌, ℕ, ◌+◌, ◌-◌, ◌<◌, ◌≤◌, Bool, true, List, length, slice_index}
-use Rattle.aig_refute.specs.Formula.{is_true}
+use Rattle.aig_cnf.specs.Formula.{is_true}
 
 abbrev pub StandsAt : List ℕ → ℕ → Type 0
 StandsAt words p = 0x8000_0000 ≤ slice_index words p
@@ -19,7 +19,7 @@ abbrev pub IsLaidOut : List ℕ → Type 0
 IsLaidOut words =
     (p : ℕ) → StandsAt words p
     → (p + (3 + size_at words p) ≤ length words)
-      × ((q : ℕ) → p < q → q < p + (3 + size_at words p) → slice_index words q < 0x8000_0000)
+    × ((q : ℕ) → p < q → q < p + (3 + size_at words p) → slice_index words q < 0x8000_0000)
 
 -- a literal of the clause at p is true under the assignment
 abbrev pub HasTrue : (ℕ → Bool) → List ℕ → ℕ → Type 0

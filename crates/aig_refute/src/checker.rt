@@ -1,7 +1,7 @@
 //! Checking clause by clause.
 ghost use Rattle.std.specs.Prelude.{◌≡◌, ℕ, Bool, true, IsTrue, IfOk};
 ghost use Rattle.aig_refute.specs.Agreement.{Agrees};
-ghost use Rattle.aig_refute.specs.Formula.{is_true, meets};
+ghost use Rattle.aig_cnf.specs.Formula.{is_true, meets};
 ghost use Rattle.aig_refute.specs.Holding.{Holds, KeepsHolding, KeepsMeeting};
 
 use crate::finder::Finder;
@@ -38,7 +38,10 @@ impl Checker {
     fn store(&mut self, watched: u32) -> Result<u32, Memory>
         ensures { KeepsMeeting self.old.marks.literals.items self.old self.new }
     {
-        let place = self.propagator.clauses.add(0, watched, &self.marks.literals)?;
+        let place = self
+            .propagator
+            .clauses
+            .add(0, watched, &self.marks.literals)?;
         self.finder.add(&mut self.propagator.clauses, place)?;
         Ok(place)
     }
@@ -78,7 +81,11 @@ impl Checker {
             self.refuted = true;
             return Ok(());
         };
-        match self.propagator.known.free_beside(&self.marks.literals, first) {
+        match self
+            .propagator
+            .known
+            .free_beside(&self.marks.literals, first)
+        {
             None => self.store_unit(first),
             Some(second) => self.store_watched(first, second),
         }
@@ -116,7 +123,8 @@ impl Checker {
         ensures { KeepsHolding self.old self.new }
     {
         if self.marks.put(clause).is_ok() {
-            self.finder.delete(&mut self.propagator.clauses, &self.marks);
+            self.finder
+                .delete(&mut self.propagator.clauses, &self.marks);
         }
     }
 }

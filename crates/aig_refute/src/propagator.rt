@@ -1,7 +1,7 @@
 //! Unit propagation.
 ghost use Rattle.std.specs.Prelude.{◌≡◌, ℕ, Bool, true, IsTrue, IfOk};
 ghost use Rattle.aig_refute.specs.Agreement.{Agrees, Assumes, Contradicts, Implies, KeepsAgreement, Propagates};
-ghost use Rattle.aig_refute.specs.Formula.{is_true};
+ghost use Rattle.aig_cnf.specs.Formula.{is_true};
 ghost use Rattle.aig_refute.specs.Visits.{OnConflict};
 
 use crate::clauses::Clauses;

@@ -1,5 +1,5 @@
 use Rattle.std.proofs.Common.{◌≡◌, ℕ, true, List, sym, subst}
-use Rattle.aig_refute.specs.Formula.{meets}
+use Rattle.aig_cnf.specs.Formula.{meets}
 use Rattle.aig_refute.proofs.HoldingLemmas.{all_false, only_true}
 use Rattle.aig_refute.proofs.checker.Checker.stand.Goals as goal
 
@@ -15,7 +15,7 @@ invariant_of-self c = (c.args.self.now.marks.listed, tt)
 pub returns-in_default : goal.returns-in_default
 returns-in_default c = λ v h m.
     absurd (all_false v c.args.self.now.propagator.known.truths.items c.deref.result.now h.agrees.known c.in_default.ensures
-      (subst (λ (xs : List ℕ). meets v xs ≡ true) (sym c.deref.ensures.value) m))
+    (subst (λ (xs : List ℕ). meets v xs ≡ true) (sym c.deref.ensures.value) m))
 
 pub invariant_of-self-2 : goal.invariant_of-self-2
 invariant_of-self-2 c = (c.args.self.now.marks.listed, tt)

@@ -1,5 +1,5 @@
 use Rattle.std.proofs.Common.{◌≡◌, ℕ, true, List, refl, sym, subst}
-use Rattle.aig_refute.specs.Formula.{meets}
+use Rattle.aig_cnf.specs.Formula.{meets}
 use Rattle.aig_refute.proofs.HoldingLemmas.{stored}
 use Rattle.aig_refute.proofs.checker.Checker.store.Goals as goal
 

@@ -9,7 +9,7 @@ stand-requires c =
     record {
       size = omega (arith, c.if-not-has_room.ensures.room);
       last = subst (λ (n : ℕ). IsLast c.put.new.self.words.items n (length c.args.literals.now)) (sym place_is)
-        (put_last _ _ _ c.args.self.now.laid_out c.in_ok-put.ensures.ok);
+          (put_last _ _ _ c.args.self.now.laid_out c.in_ok-put.ensures.ok);
     }
 
 pub returns : goal.returns
@@ -19,8 +19,8 @@ returns c = λ values meets_it met.
     let place_is : c.len-place.result ≡ length c.args.self.now.words.items = omega (arith, c.len-place.ensures, c.args.self.now.words.ok.0) in
     let put = c.in_ok-put.ensures.ok in
     let last : IsLast words c.len-place.result (length literals) =
-      subst (λ (n : ℕ). IsLast words n (length literals)) (sym place_is) (put_last _ _ _ c.args.self.now.laid_out put) in
+    subst (λ (n : ℕ). IsLast words n (length literals)) (sym place_is) (put_last _ _ _ c.args.self.now.laid_out put) in
     let items : (k : ℕ) → k < length literals → get_or words (c.len-place.result + (3 + k)) 0 ≡ get_or literals k 0 =
-      subst (λ (n : ℕ). (k : ℕ) → k < length literals → get_or words (n + (3 + k)) 0 ≡ get_or literals k 0) (sym place_is) put.items in
+    subst (λ (n : ℕ). (k : ℕ) → k < length literals → get_or words (n + (3 + k)) 0 ≡ get_or literals k 0) (sym place_is) put.items in
     subst (MeetsAll values) (sym c.stand.ensures)
     (stand_keeps words literals c.len-place.result last items values meets_it (c.in_ok-put.ensures.met values met))

@@ -14,8 +14,8 @@ invariant_of-self-2 c =
     let a = c.args.next % 0x8000_0000 in
     let b = c.args.watched % 0x8000_0000 in
     let laid : IsLaidOut c.extend_from_slice.new.self.items =
-      subst IsLaidOut (sym c.in_ok-extend_from_slice.ensures.items)
-      (append_laid_out _ _ c.args.self.now.laid_out (three_small a b (omega arith) (omega arith))) in
+    subst IsLaidOut (sym c.in_ok-extend_from_slice.ensures.items)
+    (append_laid_out _ _ c.args.self.now.laid_out (three_small a b (omega arith) (omega arith))) in
     record {
-      laid_out = either _ _ c.args.literals.now _ laid c.requires c.extend_from_slice-2.ensures.items
+      laid_out = either _ _ c.args.literals.now _ laid c.requires c.extend_from_slice-2.ensures.items;
     }

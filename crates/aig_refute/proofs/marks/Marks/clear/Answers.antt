@@ -5,7 +5,7 @@ use Rattle.aig_refute.proofs.marks.Marks.clear.Goals as goal
 
 pub invariant_of-self : goal.invariant_of-self
 invariant_of-self c = record {
-    listed = λ l h. absurd (c.forget.ensures.forgotten l h
+  listed = λ l h. absurd (c.forget.ensures.forgotten l h
       (subst (λ (xs : List ℕ). IsIn xs l) (sym c.deref.ensures.value)
-        (in_from_has c.args.self.now.literals.items l (c.args.self.now.listed l (c.forget.ensures.known l h)))));
-  }
+      (in_from_has c.args.self.now.literals.items l (c.args.self.now.listed l (c.forget.ensures.known l h)))));
+}

@@ -10,7 +10,7 @@ returns-in_err-take-clause-assumes c =
     let k = c.loop-literal.literal-index in
     let inside : k < length c.args.clause.now = omega (arith, c.loop-literal-test.true) in
     let is : c.value-in-loop-literal.result ≡ get_or c.args.clause.now k 0 =
-      c.value-in-loop-literal.ensures ∙ c.literal-item.is ∙ get_or_default_zero _ _ _ inside in
+    c.value-in-loop-literal.ensures ∙ c.literal-item.is ∙ get_or_default_zero _ _ _ inside in
     assume_more c.args.clause.now k c.value-in-loop-literal.result c.args.self.now c.loop-literal.self _ inside is
     c.loop-literal.invariant refl
     (subst (λ (n : ℕ). Takes n c.loop-literal.self.known c.take.new.self) c.negated.ensures c.take.ensures)
@@ -21,7 +21,7 @@ loop-literal-preserved c =
     let k = c.loop-literal.literal-index in
     let inside : k < length c.args.clause.now = omega (arith, c.loop-literal-test.true) in
     let is : c.value-in-loop-literal.result ≡ get_or c.args.clause.now k 0 =
-      c.value-in-loop-literal.ensures ∙ c.literal-item.is ∙ get_or_default_zero _ _ _ inside in
+    c.value-in-loop-literal.ensures ∙ c.literal-item.is ∙ get_or_default_zero _ _ _ inside in
     assume_more c.args.clause.now k c.value-in-loop-literal.result c.args.self.now c.loop-literal.self _ inside is
     c.loop-literal.invariant refl
     (subst (λ (n : ℕ). Takes n c.loop-literal.self.known c.take.new.self) c.negated.ensures c.take.ensures)

@@ -7,7 +7,7 @@ use Rattle.aig_refute.proofs.propagator.Propagator.take_unit.Goals as goal
 pub returns-clause-agrees : goal.returns-clause-agrees
 returns-clause-agrees c = λ v a holds.
     let last = agrees_then _ _ c.propagate-conflict.ensures.propagates v
-      (record { met = a.met; known = taken_true v c.args.literal c.args.self.now.known c.take.new.self c.take.ensures a.known holds }) in
+    (record { met = a.met; known = taken_true v c.args.literal c.args.self.now.known c.take.new.self c.take.ensures a.known holds }) in
     record { met = last.met; known = subst (MakesTrue v) (sym c.settle.ensures) last.known }
 
 -- src/propagator.rt:194:5

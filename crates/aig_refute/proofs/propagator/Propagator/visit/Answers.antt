@@ -10,7 +10,7 @@ returns-in_err-take-clause-propagates c =
 
 pub returns : goal.returns
 returns c = record {
-    propagates = by_taking _ c.args.self.now _ refl c.take.ensures
+  propagates = by_taking _ c.args.self.now _ refl c.take.ensures
       (λ v a. unit_true c.args.self.now c.args.watch.clause _ _ c.in-Some.ensures c.in_default-free_beside.ensures v a);
-    conflict = tt;
-  }
+  conflict = tt;
+}

@@ -20,7 +20,7 @@ returns-in-Err-clause-propagates c = steps _ _ _ c.loop-place.invariant.propagat
 -- src/propagator.rt:105:9
 pub loop-place-preserved : goal.loop-place-preserved
 loop-place-preserved c = record {
-    propagates = steps _ _ _ c.loop-place.invariant.propagates c.visit.ensures.propagates;
-    len = elim c.match-visit-2.branch [ in-Ok-Stays w ↦ grind (arith, common_steps) | in-Ok-Leaves w ↦ grind (arith, common_steps) ];
-    kept = elim c.match-visit-2.branch [ in-Ok-Stays w ↦ omega arith | in-Ok-Leaves w ↦ omega arith ];
-  }
+  propagates = steps _ _ _ c.loop-place.invariant.propagates c.visit.ensures.propagates;
+  len = elim c.match-visit-2.branch [ in-Ok-Stays w ↦ grind (arith, common_steps) | in-Ok-Leaves w ↦ grind (arith, common_steps) ];
+  kept = elim c.match-visit-2.branch [ in-Ok-Stays w ↦ omega arith | in-Ok-Leaves w ↦ omega arith ];
+}
