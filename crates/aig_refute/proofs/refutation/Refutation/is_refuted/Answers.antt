@@ -1,0 +1,7 @@
+use Rattle.std.proofs.Common.{ℕ, List, ◌∷◌, subst}
+use Rattle.aig_refute.specs.Consequence.{Follows, IsUnsatisfiable}
+use Rattle.aig_refute.proofs.RefutationLemmas.{unsatisfiable}
+use Rattle.aig_refute.proofs.refutation.Refutation.is_refuted.Goals as goal
+
+pub returns : goal.returns
+returns c = λ t. subst IsUnsatisfiable c.self.view_is (unsatisfiable c.self.inside.checker t)
