@@ -3,7 +3,7 @@
 # the words that it takes, `file`, or nothing.
 
 _aig() {
-    local commands="toaig sim wave bench unroll check cnf info help"
+    local commands="toaig sim wave bench unroll check cnf info select witness refute help"
     local -A options=(
         [toaig]="--to --explain --help"
         [sim]="--explain --help"
@@ -11,14 +11,20 @@ _aig() {
         [bench]="--circuit-out --stimulus-out --explain --help"
         [unroll]="--frames --to --map --explain --help"
         [check]="--trace --explain --help"
-        [cnf]="--frames --property --explain --help"
+        [cnf]="--frames --property --step --explain --help"
         [info]="--names --explain --help"
+        [select]="--to --from --as --property --explain --help"
+        [witness]="--property --explain --help"
+        [refute]="--frames --property --step --explain --help"
     )
     local -A values=(
         [--to]="aag aig"
+        [--from]="bad outputs"
+        [--as]="bad outputs"
         [--frames]=""
         [--property]=""
         [--map]="file"
+        [--step]="file"
         [--circuit-out]="file"
         [--stimulus-out]="file"
     )
@@ -28,6 +34,8 @@ _aig() {
     # The command, which --explain may precede.
     ((COMP_CWORD > 1)) && [[ ${COMP_WORDS[1]} == --explain ]] && first=2
     local command=${COMP_WORDS[first]}
+    # In cnf it has no value.
+    [[ $command == cnf ]] && unset "values[--step]"
 
     # The words after the command. Bash splits `--to=aag` at `=`, if `=` is in COMP_WORDBREAKS.
     for ((i = first + 1; i <= COMP_CWORD; i++)); do

@@ -9,7 +9,7 @@ from faults.refusing import Refusing
 from library.circuits import TEXTS, write_all
 from library.runs import EXAMPLES, Ended, LeftOut, write
 
-MEMORY = re.compile(rb"aig: ((circuit|stimulus|witness|unroll|cnf|bench|script): )?memory\n")
+MEMORY = re.compile(rb"aig: ((circuit|stimulus|witness|unroll|cnf|bench|script|select|proof|step proof): )?memory\n")
 TWO_GATES = [f"{EXAMPLES}/two_gates.{ending}" for ending in ("aag", "stim", "script")]
 
 # Runs of which each allocation is refused in turn.
@@ -31,7 +31,16 @@ RUNS = (
     ("info", ["info", f"{EXAMPLES}/two_gates.aag"]),
     ("info of all sections", ["info", "sections"]),
     ("names", ["info", "--names", "sections"]),
+    ("witness", ["witness", f"{EXAMPLES}/wraps.aag", f"{EXAMPLES}/wraps.stim"]),
+    ("refute", ["refute", "--frames", "1", "never", "proof"]),
+    ("refute with a step", ["refute", "--frames", "1", "--step", "step", "never", "proof"]),
+    ("cnf of a step", ["cnf", "--step", "--frames", "3", "guarded_latch"]),
+    ("select", ["select", "--to", "aag", "--property", "0", "--property", "0", "sections"]),
+    ("select that renumbers", ["select", "--to", "aig", "--from", "outputs", f"{EXAMPLES}/two_gates.aag"]),
 )
+
+# No run reaches the bad state; propagation alone shows it of no frame.
+NEVER = "aag 9 2 0 0 7 1\n2\n4\n18\n6 5 3\n8 4 3\n10 5 2\n12 4 2\n14 9 7\n16 13 11\n18 16 14\n"
 
 # Four gates read an input without memory, so that the fifth takes some: where that is refused, the edits after it see
 # the gate as it was, with the levels and the fan-outs of the circuit as it was.
@@ -77,6 +86,8 @@ WITHOUT_MEMORY = (
 def allocations(program, tally, _):
     beneath = Refusing(program, "refuse_allocation")
     write_all()
+    for name, text in (("never", NEVER), ("proof", "2 3 0\n2 0\n"), ("step", "4 0\n")):
+        write(name, text)
     if beneath.counted(REFUSE=0)[1] == 0:
         raise LeftOut("no library can stand before malloc here")
     for name, words in RUNS:

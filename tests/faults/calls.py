@@ -10,6 +10,8 @@ from library.runs import Ended, LeftOut, input_or_output, write
 ONE_GATE, TWO_GATES = TEXTS["one_gate"].encode(), TEXTS["two_gates"].encode()
 BAD_INPUT, CYCLE = TEXTS["bad_input"].encode(), TEXTS["cycle"].encode()
 SECTIONS = TEXTS["sections"].encode()
+# No run reaches the bad state; propagation alone does not show it.
+NEVER = b"aag 9 2 0 0 7 1\n2\n4\n18\n6 5 3\n8 4 3\n10 5 2\n12 4 2\n14 9 7\n16 13 11\n18 16 14\n"
 FACTS = (b"format aag\nvariables 3\ninputs 2\nlatches 0\noutputs 1\ngates 1\nbad 0\nconstant 0\nconstraints 0\n"
          b"justice 0\nfairness 0\nuninitialised 0\nresets 0\nlevels 1\nfanout 1\nsymbols 0\ncomment 0\nready no\n")
 UNROLLED = b"aag 8 4 0 2 4\n2\n4\n6\n8\n12\n16\n10 4 2\n12 10 2\n14 8 6\n16 14 6\n"
@@ -67,8 +69,13 @@ RUNS = (
     ("cnf --frames 2", [("circuit", BAD_INPUT)], "output", 0, b"",
      [b"c i 2 0 0 \nc i 3 1 0 \nc b 2 0\nc b 3 1\np cnf 3 2\n-1 0\n2 3 0\n"]),
     ("cnf --frames 2 --property 1", [("circuit", BAD_INPUT)], "output", 1, b"aig: cnf: property\n", [b""]),
+    ("refute --frames 1", [("circuit", NEVER), ("proof", b"2 0")], "output", 0, b"", [b"unreachable within 1\n"]),
+    ("refute --frames 1", [("circuit", BAD_INPUT), ("proof", b"0\n")], "output", 1, b"aig: proof: step 1\n", [b""]),
     ("info", [("circuit", ONE_GATE)], "output", 0, b"", [FACTS]),
     ("info", [("circuit", CYCLE)], "output", 1, b"aig: circuit: cycle 2\n", [b""]),
+    ("select --to aag --property 0", [("circuit", SECTIONS)], "output", 0, b"",
+     [b"aag 3 1 1 0 1 1 1\n2\n4 6 4\n6\n4\n6 4 2\ni0 in\nl0 state\nc\nhi\n"]),
+    ("select --to aag --property 1", [("circuit", SECTIONS)], "output", 1, b"aig: select: property\n", [b""]),
     ("info --names", [("circuit", SECTIONS)], "output", 0, b"",
      [b"i 0 2 in\nl 0 4 state\no 0 6 \nb 0 6 \nc 0 4 \nj 0 - \nf 0 4 \n"]),
     ("info --names", [("circuit", CYCLE)], "output", 1, b"aig: circuit: cycle 2\n", [b""]),

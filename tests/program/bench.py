@@ -117,6 +117,7 @@ def bench(program, tally, _):
     for name, circuit, stimulus, text in REFUSALS:
         rows.refuses(name, f"bench {circuit} rows script", text, rows=stimulus, script="v 0 8\n")
     ends_of_words(rows)
+    traces_of_neighbours(rows)
     levels_far_apart(rows)
     rows.refuses("a circuit wins over a stimulus", "bench reads_itself two_gates script", "circuit: cycle 2")
     example = [f"{EXAMPLES}/{name}" for name in ("cyclic.aag", "two_gates.stim", "two_gates.script")]
@@ -152,6 +153,25 @@ def ends_of_words(rows):
     appended = "".join(f"g {2 * at + 1} {2 * at + 1}\n" for at in range(1, 131))
     rows.gives("a chain of 130 appended gates", "bench wire rows script", "ok\n" * 131 + "1\n0\n",
                wire="aag 1 1 0 0 0\n2\n", rows="0\n", script=appended + "s 0 0 1\nv 0 262\nv 0 260\n")
+
+
+def traces_of_neighbours(rows):
+    """A trace shows inputs and latches side by side, wherever a word of cells or a piece of 256 characters ends."""
+    turned = {"0": "1", "1": "0", "x": "x"}
+    for inputs, latches in ((1, 30), (1, 31), (31, 1), (32, 32), (33, 64), (64, 63), (65, 200), (255, 256), (257, 255),
+                            (300, 513)):
+        stimulus, state, trace = [("01x" * inputs)[at:at + inputs] for at in range(2)], "0" * latches, ""
+        for row in stimulus:
+            after = "".join(turned[row[at % inputs]] for at in range(latches))
+            trace += f"{state} {row} {turned[row[-1]]} {after}\n"
+            state = after
+        circuit = f"aag {inputs + latches} {inputs} {latches} 1 0\n"
+        circuit += "".join(f"{2 * at + 2}\n" for at in range(inputs))
+        circuit += "".join(f"{2 * (inputs + at) + 2} {2 * (at % inputs) + 3}\n" for at in range(latches))
+        for command in ("bench neighbours rows script", "sim neighbours rows"):
+            ends = ".\n" if command.startswith("bench") else ""
+            rows.gives(f"a trace of {inputs} inputs and {latches} latches", command, trace + ends,
+                       neighbours=circuit + f"{2 * inputs + 1}\n", rows="\n".join(stimulus) + "\n", script="t\n")
 
 
 def levels_far_apart(rows):

@@ -33,7 +33,26 @@ FORMULAS = (
      "-4 3 0\n-4 2 0\n4 -3 -2 0\n-5 3 0\n-5 -1 0\n5 -3 1 0\n-6 5 0\n-6 4 0\n6 -5 -4 0\n"),
 )
 
+# The formulas of induction steps.
+STEPS = (
+    ("a step of a latch that negates itself", "--step --frames 1 toggles", TOGGLES,
+     "c l 2 0 \nc b 2 0\nc b -2 1\np cnf 2 3\n-1 0\n-2 0\n-2 0\n"),
+    ("a step of two frames", "--frames 2 --step toggles", TOGGLES,
+     "c l 2 0 \nc b 2 0\nc b -2 1\nc b 2 2\np cnf 2 4\n-1 0\n-2 0\n2 0\n2 0\n"),
+    ("a step of inputs, latches and names", "--step --frames 1 starts", STARTS,
+     "c i 2 0 0 in\nc i 3 0 1 \nc i 4 1 0 in\nc i 5 1 1 \nc l 6 0 not free\nc l 7 1 \nc l 8 2 \nc l 9 3 free one\n"
+     "c b 9 0\nc b 8 1\np cnf 9 3\n-1 0\n-9 0\n8 0\n"),
+    ("a step with a constraint", "--step --frames 1 guarded", TEXTS["guarded"],
+     "c i 2 0 0 \nc i 3 0 1 \nc i 4 1 0 \nc i 5 1 1 \nc b 7 0\nc b 9 1\np cnf 9 15\n-1 0\n-7 0\n9 0\n"
+     "-6 3 0\n-6 -1 0\n6 -3 1 0\n-7 6 0\n-7 2 0\n7 -6 -2 0\n-8 6 0\n-8 5 0\n8 -6 -5 0\n-9 8 0\n-9 4 0\n9 -8 -4 0\n"),
+)
+
 REFUSALS = (
+    ("a step of no frames", "--step --frames 0 --property 7 guarded", "cnf: no frames"),
+    ("a step without the property", "--step --frames 65536 --property 1 guarded", "cnf: property"),
+    ("a step of as many frames as there may be", "--step --frames 65536 bad_input", "cnf: limit"),
+    ("a step of the greatest number of frames", "--step --frames 4294967295 bad_input", "cnf: limit"),
+    ("a step of a refused circuit", "--step --frames 1 cycle", "circuit: cycle 2"),
     ("no frames", "--frames 0 guarded", "cnf: no frames"),
     ("no frames before no property", "--frames 0 --property 1 guarded", "cnf: no frames"),
     ("no property", "--frames 1 --property 1 guarded", "cnf: property"),
@@ -54,6 +73,9 @@ def cnf(program, tally, _):
     write_all()
     write("wide_bad", WIDE)
     for name, words, circuit, text in FORMULAS:
+        write(words.split(" ")[-1], circuit)
+        rows.gives(name, f"cnf {words}", text)
+    for name, words, circuit, text in STEPS:
         write(words.split(" ")[-1], circuit)
         rows.gives(name, f"cnf {words}", text)
     for name, words, fault in REFUSALS:

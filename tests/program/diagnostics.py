@@ -54,6 +54,8 @@ CASES = (
     ("for another circuit", ["check", COUNTER, "examples/wraps.wit"], "aig info CIRCUIT"),
     ("does not have this bad state property", ["check", WRAPS, "other.wit"], "b7"),
     ("more than 65,536 frames", ["check", "bad_input", "many.wit"], "at most 65,536 frames"),
+    ("No frame of the stimulus reaches", ["witness", WRAPS, "nothing"], "aig sim CIRCUIT STIM"),
+    ("does not have this property", ["select", "--to", "aag", "--property", "0", "two_gates"], "aig info --names CIRCUIT"),
     ("K is 0", ["unroll", "--frames", "0", "--to", "aag", "two_gates"], "K is 0"),
     ("has justice properties", ["unroll", "--frames", "2", "--to", "aag", "live"], "justice properties: 1"),
     ("K is over 65,536", ["unroll", "--frames", "65537", "--to", "aag", "two_gates"], "K is 65537"),
@@ -62,6 +64,9 @@ CASES = (
     ("P is not the position", ["cnf", "--frames", "2", COUNTER], "AIGER 1.0"),
     ("is asked for 0 frames", ["cnf", "--frames", "0", WRAPS], "K is 0"),
     ("over a limit of `unroll`", ["cnf", "--frames", "65537", WRAPS], "K is 65537"),
+    ("is no proof, is one about", ["refute", "--frames", "1", "bad_input", "rows"], "a step is not that of a proof"),
+    ("does not follow by unit propagation", ["refute", "--frames", "1", "bad_input", "zero.drat"], "does not follow"),
+    ("ends before it refutes", ["refute", "--frames", "1", "bad_input", "nothing"], "the proof ends before it refutes"),
     ("more than 65,536 rows", ["bench", "two_gates", "many.stim", "script"], "at most 65,536 rows"),
     ("too large for so many rows", ["bench", "many", "empty.stim", "script"], "at most 67,108,864"),
     ("was killed", BENCH, "rename it or remove it"),
@@ -116,7 +121,7 @@ def write_files():
     counter = contents(COUNTER)
     witness = contents("examples/wraps.wit").decode()
     for name, data in {
-            "nothing": "", "bom": b"\xef\xbb\xbf" + counter, "counter.aag.gz": gzip.compress(counter),
+            "nothing": "", "zero.drat": "0\n", "bom": b"\xef\xbb\xbf" + counter, "counter.aag.gz": gzip.compress(counter),
             "verilog": "module m(input a, output b); endmodule\n", "blif": ".model m\n.inputs a\n.end\n",
             "aig2": "aig2 0 0 0 0 0\n", "unended": "aag 0 0 0 0 0\nc", "records": "aag 0 0 0 0 0\ncn\0\0",
             "range": "aag 1 1 0 1 0\n2\n4\n", "odd": "aag 1 1 0 0 0\n3\n", "twice": "aag 2 2 0 0 0\n2\n2\n",

@@ -5,6 +5,10 @@ use std::alloc::Global;
 use std::fs::{self, Files, Metadata};
 use std::io::{self, ErrorKind, Read};
 
+/// What to do if memory runs out.
+pub const MORE_MEMORY: &str =
+    "out of memory: raise the memory limit (ulimit -v), or use a machine with more memory";
+
 /// The most bytes that a second look reads: 1 GiB.
 const MOST: u64 = 1 << 30;
 

@@ -1,11 +1,14 @@
 //! The tasks that the arguments choose.
 
-use crate::circuits::{convert, formula, info, info_names, unroll};
+use crate::circuits::{
+    Selection, convert, formula, info, info_names, select, step_formula, unroll,
+};
 use crate::exit::Exit;
 use crate::kept::Kept;
 use crate::simulations::{bench, simulate, wave};
-use crate::witnesses::{check, wave_witness};
-use aig_cli::{has_flag, number_of, subcommand_of, text_of};
+use crate::witnesses::{check, refute, refute_step, wave_witness, witness};
+use aig_base::PropertySection;
+use aig_cli::{has_flag, number_of, subcommand_of, text_of, texts_of};
 use aig_format::Format;
 use clap::ArgMatches;
 use std::fs::Files;
@@ -58,11 +61,39 @@ pub enum Task<'a> {
     InfoNames {
         circuit: &'a str,
     },
+    Select {
+        selection: Selection<'a>,
+        to: Format,
+        circuit: &'a str,
+    },
+    Witness {
+        property: Option<u32>,
+        circuit: &'a str,
+        stimulus: &'a str,
+    },
+    CnfStep {
+        frames: u32,
+        property: u32,
+        circuit: &'a str,
+    },
+    Refute {
+        frames: u32,
+        property: u32,
+        circuit: &'a str,
+        proof: &'a str,
+    },
+    RefuteStep {
+        frames: u32,
+        property: u32,
+        circuit: &'a str,
+        proof: &'a str,
+        step: &'a str,
+    },
 }
 
-impl<'a> Task<'a> {
+impl<'m> Task<'m> {
     /// Returns the task of arguments that the parser accepts. There always is one.
-    pub fn of(matches: &ArgMatches<'a>) -> Option<Task<'a>> {
+    pub fn of(matches: &'m ArgMatches<'_>) -> Option<Task<'m>> {
         let (name, matches) = subcommand_of(matches)?;
         match name {
             "toaig" => conversion_of(matches),
@@ -73,6 +104,9 @@ impl<'a> Task<'a> {
             "check" => check_of(matches),
             "cnf" => formula_of(matches),
             "info" => info_of(matches),
+            "select" => selection_of(matches),
+            "witness" => witness_of(matches),
+            "refute" => refutation_of(matches),
             _ => None,
         }
     }
@@ -111,6 +145,34 @@ impl<'a> Task<'a> {
             } => formula(rt, frames, property, circuit),
             Task::Info { circuit } => info(rt, circuit),
             Task::InfoNames { circuit } => info_names(rt, circuit),
+            Task::Select {
+                selection,
+                to,
+                circuit,
+            } => select(rt, selection, to, circuit),
+            Task::Witness {
+                property,
+                circuit,
+                stimulus,
+            } => witness(rt, property, circuit, stimulus),
+            Task::Refute {
+                frames,
+                property,
+                circuit,
+                proof,
+            } => refute(rt, frames, property, circuit, proof),
+            Task::CnfStep {
+                frames,
+                property,
+                circuit,
+            } => step_formula(rt, frames, property, circuit),
+            Task::RefuteStep {
+                frames,
+                property,
+                circuit,
+                proof,
+                step,
+            } => refute_step(rt, frames, property, circuit, proof, step),
         }
     }
 }
@@ -184,11 +246,22 @@ fn check_of<'a>(matches: &ArgMatches<'a>) -> Option<Task<'a>> {
 }
 
 fn formula_of<'a>(matches: &ArgMatches<'a>) -> Option<Task<'a>> {
-    Some(Task::Cnf {
-        frames: number_of(matches, "K")?,
-        property: number_of(matches, "P").unwrap_or(0),
-        circuit: text_of(matches, "CIRCUIT")?,
-    })
+    let frames = number_of(matches, "K")?;
+    let property = number_of(matches, "P").unwrap_or(0);
+    let circuit = text_of(matches, "CIRCUIT")?;
+    if has_flag(matches, "step") {
+        Some(Task::CnfStep {
+            frames,
+            property,
+            circuit,
+        })
+    } else {
+        Some(Task::Cnf {
+            frames,
+            property,
+            circuit,
+        })
+    }
 }
 
 fn info_of<'a>(matches: &ArgMatches<'a>) -> Option<Task<'a>> {
@@ -197,5 +270,55 @@ fn info_of<'a>(matches: &ArgMatches<'a>) -> Option<Task<'a>> {
         Some(Task::InfoNames { circuit })
     } else {
         Some(Task::Info { circuit })
+    }
+}
+
+/// Returns the section that an option names; bad state properties if it is left out.
+fn section_of(matches: &ArgMatches<'_>, name: &str) -> PropertySection {
+    match text_of(matches, name) {
+        Some("outputs") => PropertySection::Outputs,
+        _ => PropertySection::Bad,
+    }
+}
+
+fn selection_of<'m>(matches: &'m ArgMatches<'_>) -> Option<Task<'m>> {
+    Some(Task::Select {
+        selection: Selection {
+            from: section_of(matches, "from"),
+            into: section_of(matches, "as"),
+            properties: texts_of(matches, "P").unwrap_or(&[]),
+        },
+        to: format_of(matches)?,
+        circuit: text_of(matches, "CIRCUIT")?,
+    })
+}
+
+fn witness_of<'a>(matches: &ArgMatches<'a>) -> Option<Task<'a>> {
+    Some(Task::Witness {
+        property: number_of(matches, "P"),
+        circuit: text_of(matches, "CIRCUIT")?,
+        stimulus: text_of(matches, "STIM")?,
+    })
+}
+
+fn refutation_of<'a>(matches: &ArgMatches<'a>) -> Option<Task<'a>> {
+    let frames = number_of(matches, "K")?;
+    let property = number_of(matches, "P").unwrap_or(0);
+    let circuit = text_of(matches, "CIRCUIT")?;
+    let proof = text_of(matches, "PROOF")?;
+    match text_of(matches, "step") {
+        Some(step) => Some(Task::RefuteStep {
+            frames,
+            property,
+            circuit,
+            proof,
+            step,
+        }),
+        None => Some(Task::Refute {
+            frames,
+            property,
+            circuit,
+            proof,
+        }),
     }
 }

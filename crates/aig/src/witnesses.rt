@@ -1,14 +1,22 @@
-//! The tasks on a circuit and a witness: its check, and the dump of its run.
+//! The tasks on a witness: its check, the dump of its run, and how it is made; and the check of proofs that there is none.
 
 use crate::exit::Exit;
 use crate::files::{CIRCUIT, open, output, read_whole};
-use aig_commands::{check, wave};
+use aig_base::Std;
+use aig_commands::{check, induction, refute, wave, witness};
 use aig_fault::RunFault;
-use aig_sim::Verdict;
+use aig_proof::ProofFault;
+use aig_sim::{StimFault, Verdict};
 use std::fs::Files;
 use std::io::Read;
 
 const WITNESS: Exit = Exit::Witness;
+
+const STIMULUS: Exit = Exit::Run(RunFault::Stimulus(StimFault::Io));
+
+const PROOF: Exit = Exit::Run(RunFault::Proof(ProofFault::Io));
+
+const STEP: Exit = Exit::Run(RunFault::StepProof(ProofFault::Io));
 
 /// Writes the verdict on a witness, and before it the trace of its run if `with_trace`.
 pub fn check<R: Files + AllocGlobal + Print>(
@@ -76,5 +84,109 @@ fn wave_files<R: AllocGlobal + Print, F: Read + Drop>(
     let witness = read_whole(rt.alloc(), witness, WITNESS)?;
     let mut out = output(rt);
     wave::wave_witness(rt.alloc(), circuit.as_slice(), witness.as_slice(), &mut out)?;
+    Ok(())
+}
+
+/// Writes the witness that the run over a stimulus reaches a property.
+pub fn witness<R: Files + AllocGlobal + Print>(
+    rt: &R,
+    property: Option<u32>,
+    circuit: &str,
+    stimulus: &str,
+) -> Result<(), Exit> {
+    let circuit = open(rt, circuit, CIRCUIT)?;
+    let stimulus = open(rt, stimulus, STIMULUS)?;
+    witness_files(rt, property, circuit, stimulus)
+}
+
+fn witness_files<R: AllocGlobal + Print, F: Read + Drop>(
+    rt: &R,
+    property: Option<u32>,
+    circuit: F,
+    stimulus: F,
+) -> Result<(), Exit> {
+    let circuit = read_whole(rt.alloc(), circuit, CIRCUIT)?;
+    let stimulus = read_whole(rt.alloc(), stimulus, STIMULUS)?;
+    let mut out = output(rt);
+    witness::witness(
+        rt.alloc(),
+        circuit.as_slice(),
+        stimulus.as_slice(),
+        property,
+        &mut out,
+    )?;
+    Ok(())
+}
+
+/// Checks a proof that no run reaches a bad state within `frames` frames, and writes the answer.
+pub fn refute<R: Files + AllocGlobal + Print>(
+    rt: &R,
+    frames: u32,
+    property: u32,
+    circuit: &str,
+    proof: &str,
+) -> Result<(), Exit> {
+    let circuit = open(rt, circuit, CIRCUIT)?;
+    let proof = open(rt, proof, PROOF)?;
+    refute_files(rt, frames, property, circuit, proof)
+}
+
+fn refute_files<R: AllocGlobal + Print, F: Read + Drop>(
+    rt: &R,
+    frames: u32,
+    property: u32,
+    circuit: F,
+    proof: F,
+) -> Result<(), Exit> {
+    let circuit = read_whole(rt.alloc(), circuit, CIRCUIT)?;
+    let mut proof = Std::new(proof);
+    let mut out = output(rt);
+    refute::refute(
+        rt.alloc(),
+        circuit.as_slice(),
+        frames,
+        property,
+        &mut proof,
+        &mut out,
+    )?;
+    Ok(())
+}
+
+/// Checks two proofs that no run of any length reaches a bad state, and writes the answer.
+pub fn refute_step<R: Files + AllocGlobal + Print>(
+    rt: &R,
+    frames: u32,
+    property: u32,
+    circuit: &str,
+    proof: &str,
+    step: &str,
+) -> Result<(), Exit> {
+    let circuit = open(rt, circuit, CIRCUIT)?;
+    let proof = open(rt, proof, PROOF)?;
+    let step = open(rt, step, STEP)?;
+    refute_step_files(rt, frames, property, circuit, proof, step)
+}
+
+fn refute_step_files<R: AllocGlobal + Print, F: Read + Drop>(
+    rt: &R,
+    frames: u32,
+    property: u32,
+    circuit: F,
+    proof: F,
+    step: F,
+) -> Result<(), Exit> {
+    let circuit = read_whole(rt.alloc(), circuit, CIRCUIT)?;
+    let mut proof = Std::new(proof);
+    let mut step = Std::new(step);
+    let mut out = output(rt);
+    induction::refute_step(
+        rt.alloc(),
+        circuit.as_slice(),
+        frames,
+        property,
+        &mut proof,
+        &mut step,
+        &mut out,
+    )?;
     Ok(())
 }

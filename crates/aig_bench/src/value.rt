@@ -8,16 +8,16 @@ ghost use Rattle.aig_bench.specs.state.Current.{IsCurrentBefore};
 
 use crate::engine::Engine;
 use aig_base::{Latch, Lit, Tern};
+use aig_values::code::Code;
 use aig_values::{Grid, first_value};
 
-/// The value of a literal by the cell of its variable.
+/// The value of a literal by the cell of its variable. No jump depends on either.
 pub fn literal_at<G: Grid>(grid: &G, frame: u32, literal: Lit) -> Tern
     requires frame { frame < length (G.cells grid.now) }
     requires variable { variable literal < length (G.gate_flags grid.now) }
     ensures { result ≡ literal_value (row_at (G.cells grid.now) frame) literal }
 {
-    let cell = grid.get(frame, literal.var());
-    if literal.is_neg() { cell.not() } else { cell }
+    Code::of(grid.get(frame, literal.var())).with_sign(literal.is_neg()).value()
 }
 
 impl<G: Grid> Engine<G> {

@@ -1,2 +1,5 @@
 pub mod FormulaText
 pub mod SignLemmas
+pub mod StepAnswerLemmas
+pub mod StepFormula
+pub mod TermLemmas

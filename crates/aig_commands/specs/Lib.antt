@@ -2,11 +2,15 @@ pub mod Bench
 pub mod BenchFiles
 pub mod Check
 pub mod Cnf
+pub mod CnfStep
 pub mod GoesWell
 pub mod Info
 pub mod Names
+pub mod Refute
+pub mod Select
 pub mod Sim
 pub mod Toaig
 pub mod Unroll
 pub mod Wave
+pub mod Witness
 pub mod state

@@ -48,7 +48,7 @@ use Rattle.aig_laws.proofs.Tseitin.{and_both, both_and, assigned, known, gates_m
 -- ---- the unrolled circuit
 
 module _ (raw : Raw) (circuit : IsCircuit raw) (order : List ℕ) (canonical : IsCanonicalOrder raw order) (k : ℕ) where
-  abbrev C : Raw
+  abbrev pub C : Raw
   C = unrolled raw order k
 
   acyclic : IsAcyclic C
@@ -64,14 +64,14 @@ module _ (raw : Raw) (circuit : IsCircuit raw) (order : List ℕ) (canonical : I
   }
 
   -- each literal up to the greatest has a value
-  valued : (row : List Tern) → length row ≡ input_count raw k → (l : ℕ) → variable l ≤ C.max_var
+  pub valued : (row : List Tern) → length row ≡ input_count raw k → (l : ℕ) → variable l ≤ C.max_var
       → (w : Tern) × Value C [] (row ∷ []) 0 l w
   valued row wide l le =
       exists_value C [] (row ∷ []) (unrolled_sound raw circuit order canonical k) acyclic (fits_row row wide) 0
       (omega arith) l (defined_to C (unrolled_ready raw circuit order canonical k).in_order (variable l) le)
 
   -- the bad literal of a frame
-  bad_at : (t p : ℕ) → t < k → p < length raw.bad
+  pub bad_at : (t p : ℕ) → t < k → p < length raw.bad
       → slice_get C.bad (t * length raw.bad + p) ≡ Some (slice_index C.bad (t * length raw.bad + p))
   bad_at t p lt within =
       let here = place_at (frame_bad raw order k) (length raw.bad) k t p (slice_index (frame_bad raw order k t) p)
@@ -80,7 +80,7 @@ module _ (raw : Raw) (circuit : IsCircuit raw) (order : List ℕ) (canonical : I
       here ∙ ap Some (sym (get_or_from_slice_get C.bad (t * length raw.bad + p)
       (slice_index (frame_bad raw order k t) p) 0 here))
 
-  bad_in_range : (t p : ℕ) → t < k → p < length raw.bad
+  pub bad_in_range : (t p : ℕ) → t < k → p < length raw.bad
       → variable (slice_index C.bad (t * length raw.bad + p)) ≤ C.max_var
   bad_in_range t p lt within =
       let r = All-at (λ l. variable l ≤ C.max_var) C.bad (t * length raw.bad + p)
@@ -118,7 +118,7 @@ tern_same true false e = cc
 tern_same false true e = cc
 tern_same false false e = refl
 
-low_of : (a : ℕ → Bool) → meets a (1 ∷ []) ≡ true → a 0 ≡ false
+pub low_of : (a : ℕ → Bool) → meets a (1 ∷ []) ≡ true → a 0 ≡ false
 low_of a e = go (a 0) e
   where
     go : (b : Bool) → (not b || false) ≡ true → b ≡ false
@@ -132,7 +132,7 @@ module _ (raw : Raw) (circuit : IsCircuit raw) (order : List ℕ) (canonical : I
   wide_values a = length-map-range_with_len (λ v. tern_of (a v)) 1 (input_count raw k)
 
   -- the inputs have the values that the assignment says
-  inputs_are : (a : ℕ → Bool) (i l : ℕ) (w : Tern) → slice_get (evens (input_count raw k)) i ≡ Some l
+  pub inputs_are : (a : ℕ → Bool) (i l : ℕ) (w : Tern) → slice_get (evens (input_count raw k)) i ≡ Some l
       → slice_get (values_of raw k a) i ≡ Some w → w ≡ tern_of (is_true a l)
   inputs_are a i l w at cell =
       let lt : i < input_count raw k =

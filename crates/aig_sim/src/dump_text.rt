@@ -1,5 +1,6 @@
 //! Numbers, identifier codes and values in a value change dump.
-ghost use Rattle.std.specs.Prelude.{◌≡◌, ◌<◌, ◌^◌, ◌==◌, if◌then◌else◌, [], length, decimal};
+ghost use Rattle.std.specs.Prelude.{◌≡◌, ◌<◌, ◌≤◌, ◌^◌, ◌==◌, if◌then◌else◌, [], ◌++◌, length, take, decimal};
+ghost use Rattle.std.specs.Prelude.{false, IsTrue};
 ghost use Rattle.aig_bytes.specs.Bytes.{Writes};
 ghost use Rattle.aig_bytes.specs.Gathered.{Gathers};
 ghost use Rattle.aig_sim.specs.Dump.{value_line, changed_lines};
@@ -42,6 +43,33 @@ fn put_time<W: Write>(out: &mut W, block: &mut TraceBlock, time: u64) -> Result<
     block.put(out, b'\n')
 }
 
+// The line that gives a signal a character, where its code has at most two bytes: four bytes, and how many of them are
+// the line.
+fn short_line(signal: u32, character: u8) -> ([u8; 4], usize)
+    requires { signal < 8836 }
+    ensures length { result.1 ≤ 4 }
+    ensures line { take result.1 result.0 ≡ value_line signal character }
+{
+    let first = b'!' + (signal % BASE) as u8;
+    if signal < BASE {
+        ([character, first, b'\n', b'\n'], 3)
+    } else {
+        ([character, first, b'!' + (signal / BASE) as u8, b'\n'], 4)
+    }
+}
+
+// Puts in the line that gives a signal a character, where its code has at most two bytes and there is room for it.
+// Answers whether it did; else nothing changes.
+fn push_value(block: &mut TraceBlock, signal: u32, character: u8) -> bool
+    ensures pushed { IsTrue result → block.new ≡ block.old ++ value_line signal character }
+    ensures full { result ≡ false → block.new ≡ block.old }
+{
+    if signal >= BASE * BASE {
+        return false;
+    }
+    block.push_firsts(short_line(signal, character), ([0; 4], 0))
+}
+
 // Puts the line that gives a signal a character.
 fn put_value<W: Write>(
     out: &mut W,
@@ -51,6 +79,9 @@ fn put_value<W: Write>(
 ) -> Result<(), Io>
     ensures { Gathers W.written W.failures out.old out.new block.old block.new (value_line signal character) result }
 {
+    if push_value(block, signal, character) {
+        return Ok(());
+    }
     block.put(out, character)?;
     put_code(out, block, signal)?;
     block.put(out, b'\n')

@@ -31,8 +31,8 @@ pub fn read_values<'a>(values: &mut [Tern], text: &'a [u8]) -> &'a [u8]
     &text[width + 1..]
 }
 
-// Room for so many values.
-fn new_values(alloc: Global, size: usize) -> Result<Vec<Tern>, Memory>
+/// Room for so many values.
+pub fn new_values(alloc: Global, size: usize) -> Result<Vec<Tern>, Memory>
     ensures { IfOk result (λ values. length values.items ≡ size) }
 {
     let mut values = Vec::with_capacity(alloc, size)?;
@@ -51,8 +51,8 @@ fn is_allowed(latch: Latch, value: Tern) -> bool
     }
 }
 
-// The position of the first latch that stands at a value which its reset does not allow.
-fn wrong_start(machine: &Machine<'_>) -> Option<u32>
+/// The position of the first latch that stands at a value which its reset does not allow.
+pub fn wrong_start(machine: &Machine<'_>) -> Option<u32>
     ensures some { IfSome result (StartsWrong machine.now.circuit machine.now.states) }
     ensures least { IfSome result (λ p. (q : ℕ) → q < p → StartsWrong machine.now.circuit machine.now.states q → ⊥) }
     ensures none { IfNone result ((q : ℕ) → StartsWrong machine.now.circuit machine.now.states q → ⊥) }
@@ -72,8 +72,8 @@ fn is_one(value: Tern) -> bool
     matches!(value, Tern::One)
 }
 
-// The position of the first constraint that is not 1.
-fn first_failure(machine: &Machine<'_>) -> Option<u32>
+/// The position of the first constraint that is not 1.
+pub fn first_failure(machine: &Machine<'_>) -> Option<u32>
     ensures some { IfSome result (ReadsNotOne machine.now.cells machine.now.circuit.constraints) }
     ensures least { IfSome result (λ p. (q : ℕ) → q < p →
         ReadsNotOne machine.now.cells machine.now.circuit.constraints q → ⊥) }
@@ -87,8 +87,8 @@ fn first_failure(machine: &Machine<'_>) -> Option<u32>
     None
 }
 
-// Whether the property at this position is 1.
-fn is_bad(machine: &Machine<'_>, property: u32) -> bool
+/// Whether the property at this position is 1.
+pub fn is_bad(machine: &Machine<'_>, property: u32) -> bool
     requires { property < length machine.now.circuit.bad }
     ensures yes { IsTrue result → ReadsNotOne machine.now.cells machine.now.circuit.bad property → ⊥ }
     ensures no { result ≡ false → ReadsNotOne machine.now.cells machine.now.circuit.bad property }
@@ -127,8 +127,8 @@ fn run_frames(
     None
 }
 
-// The latches' values at the start.
-fn read_start(alloc: Global, text: &[u8], size: usize) -> Result<Vec<Tern>, Memory>
+/// The latches' values at the start.
+pub fn read_start(alloc: Global, text: &[u8], size: usize) -> Result<Vec<Tern>, Memory>
     requires { BeginsWithRow size text.now }
     ensures length { IfOk result (λ start. length start.items ≡ size) }
     ensures read { IfOk result (λ start. (rest : List ℕ) × (text.now ≡ map character start.items ++ (10 ∷ rest))) }

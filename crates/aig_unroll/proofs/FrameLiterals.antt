@@ -157,7 +157,7 @@ module _ (raw : Raw) (sound : IsSound raw) (order : List ℕ) (canonical : IsCan
         rw (e0, e1, is_frame.number, is_plan.sources, is_plan.size) refl
 
     -- the plan and the frame give the frame literals
-    pub literal_same : (l : ℕ) → IsInTable plan.numbers.items l → literal_at plan frame l ≡ frame_literal raw order k t l
+    pub literal_same : (l : ℕ) → IsInTable plan.numbers l → literal_at plan frame l ≡ frame_literal raw order k t l
     unfolding literal_at renumbered_variable
     literal_same l lt =
         ap (λ n. with_sign l (number_literal plan frame n)) (is_plan.numbers.each (variable l) lt)

@@ -42,13 +42,13 @@ range_same f g n same =
 module _ (raw : Raw) (circuit : IsCircuit raw) (order : List ℕ) (canonical : IsCanonicalOrder raw order) (k : ℕ)
     (plan : Plan) (is_plan : IsPlan raw order k plan) where
   -- the table has each literal
-  pub listed : HasAllEntries raw plan.numbers.items
-  listed = all_listed raw circuit.formed circuit.sound order plan.numbers.items canonical is_plan.numbers
+  pub listed : HasAllEntries raw plan.numbers
+  listed = all_listed raw circuit.formed circuit.sound order plan.numbers canonical is_plan.numbers
 
-  pub ordered_listed : All (IsGateListed plan.numbers.items) (ordered_gates raw order)
-  ordered_listed = All-by_get (IsGateListed plan.numbers.items) (ordered_gates raw order) (λ i g here.
+  pub ordered_listed : All (IsGateListed plan.numbers) (ordered_gates raw order)
+  ordered_listed = All-by_get (IsGateListed plan.numbers) (ordered_gates raw order) (λ i g here.
       let (q, lt, at, is) = ordered_gate raw circuit.sound order canonical i g here in
-      All-at (IsGateListed plan.numbers.items) raw.gates q g listed.gates at)
+      All-at (IsGateListed plan.numbers) raw.gates q g listed.gates at)
 
   first_same : (offset p : ℕ) (x : Latch) → offset ≡ k * length raw.inputs → slice_get raw.latches p ≡ Some x
       → first_at raw.latches offset p ≡ first_literal raw k p (Some x)
@@ -97,7 +97,7 @@ module _ (raw : Raw) (circuit : IsCircuit raw) (order : List ℕ) (canonical : I
           numbers = λ v d below.
               omega (
                 arith,
-                get_or_default plan.numbers.items v d 0 below,
+                get_or_default plan.numbers v d 0 below,
                 is_plan.numbers.each v below,
                 variable_bound raw order v,
                 length-order raw circuit.sound order canonical,
@@ -113,13 +113,13 @@ module _ (raw : Raw) (circuit : IsCircuit raw) (order : List ℕ) (canonical : I
               ∙ length-map raw.latches (λ (x : Latch). frame_literal raw order k t x.lit) ∙ sym is_plan.latches;
         }
 
-    same : (l : ℕ) → IsInTable plan.numbers.items l → literal_at plan frame l ≡ frame_literal raw order k t l
+    same : (l : ℕ) → IsInTable plan.numbers l → literal_at plan frame l ≡ frame_literal raw order k t l
     same = literal_same raw circuit.sound order canonical k t plan frame is_plan is_frame
 
-    literals_same : (ls : List ℕ) → All (IsInTable plan.numbers.items) ls
+    literals_same : (ls : List ℕ) → All (IsInTable plan.numbers) ls
         → map (literal_at plan frame) ls ≡ frame_literals raw order k ls t
     literals_same ls h = map_same (literal_at plan frame) (frame_literal raw order k t) ls
-        (All-weaker (IsInTable plan.numbers.items) (λ l. literal_at plan frame l ≡ frame_literal raw order k t l) same ls h)
+        (All-weaker (IsInTable plan.numbers) (λ l. literal_at plan frame l ≡ frame_literal raw order k t l) same ls h)
 
     -- the frame after it
     pub next_frame : (next : Frame) → IsNextFrame raw plan frame next → IsFrame raw order k (suc t) next
@@ -129,14 +129,14 @@ module _ (raw : Raw) (circuit : IsCircuit raw) (order : List ℕ) (canonical : I
           (λ (x : Latch). frame_literal raw order k (suc t) x.lit) raw.latches
           (All-by_get (λ (x : Latch). literal_at plan frame x.next ≡ frame_literal raw order k (suc t) x.lit) raw.latches
           (λ p x at.
-          let (own, next, reset) = All-at (IsLatchListed plan.numbers.items) raw.latches p x listed.latches at in
+          let (own, next, reset) = All-at (IsLatchListed plan.numbers) raw.latches p x listed.latches at in
           same x.next next ∙ sym (of_next raw circuit.sound order canonical k t p x at)));
     }
 
     variable_same : (n : ℕ) → table.variable_at plan frame.number n ≡ frame_gate_variable raw k t n
     variable_same n = rw (is_frame.number, is_plan.sources, is_plan.size) refl
 
-    gate_same : (g : Gate) → IsGateListed plan.numbers.items g → table.plan_gate plan frame g ≡ frame_gate raw order k t g
+    gate_same : (g : Gate) → IsGateListed plan.numbers g → table.plan_gate plan frame g ≡ frame_gate raw order k t g
     gate_same g (a, b, d) =
         let e0 = same g.lhs a in
         let e1 = same g.rhs0 b in
@@ -188,7 +188,7 @@ module _ (raw : Raw) (circuit : IsCircuit raw) (order : List ℕ) (canonical : I
         let a : map (table.plan_gate plan frame) (ordered_gates raw order)
         ≡ map (frame_gate raw order k t) (ordered_gates raw order) =
         map_same (table.plan_gate plan frame) (frame_gate raw order k t) (ordered_gates raw order)
-        (All-weaker (IsGateListed plan.numbers.items) (λ g. table.plan_gate plan frame g ≡ frame_gate raw order k t g)
+        (All-weaker (IsGateListed plan.numbers) (λ g. table.plan_gate plan frame g ≡ frame_gate raw order k t g)
         gate_same (ordered_gates raw order) ordered_listed) in
         let b = range_same (table.plan_chain_gate plan frame raw.constraints) (parts.chain_gate raw order k t)
         (chain_count raw) chain_same in
@@ -203,11 +203,11 @@ module _ (raw : Raw) (circuit : IsCircuit raw) (order : List ℕ) (canonical : I
         (λ p lt. guard_literal_same p))
         (literals_same raw.bad listed.bad)
 
-    kept_listed : All (IsInTable plan.numbers.items) (kept_constraints raw)
+    kept_listed : All (IsInTable plan.numbers) (kept_constraints raw)
     kept_listed = go (has_guards raw)
       where
-        go : (b : Bool) → All (IsInTable plan.numbers.items) (if b then [] else raw.constraints)
-        go true = All-nil (IsInTable plan.numbers.items)
+        go : (b : Bool) → All (IsInTable plan.numbers) (if b then [] else raw.constraints)
+        go true = All-nil (IsInTable plan.numbers)
         go false = listed.constraints
 
     -- one more frame

@@ -7,6 +7,7 @@ pub mod GuardedValues
 pub mod Guarding
 pub mod InputMapLaw
 pub mod InputMapLines
+pub mod NumberLemmas
 pub mod UnrolledCircuit
 pub mod UnrolledReady
 pub mod UnrolledRow

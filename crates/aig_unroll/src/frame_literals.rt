@@ -38,10 +38,10 @@ fn number_literal(plan: &Plan, frame: &Frame, number: u32) -> Lit
 /// The literal that stands for a literal at the frame.
 pub(crate) fn literal_at(plan: &Plan, frame: &Frame, literal: Lit) -> Lit
     requires within { IsWithin plan.now frame.now }
-    requires listed { IsInTable plan.now.numbers.items literal }
+    requires listed { IsInTable plan.now.numbers literal }
     ensures { result ≡ table.literal_at plan.now frame.now literal }
 {
-    let positive = number_literal(plan, frame, plan.numbers[literal.var() as usize]);
+    let positive = number_literal(plan, frame, plan.numbers.get(literal.var()));
     if literal.is_neg() {
         positive.not()
     } else {

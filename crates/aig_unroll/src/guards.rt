@@ -40,7 +40,7 @@ pub(crate) fn push_chain(
 ) -> Result<(), Memory>
     requires within { IsWithin plan.now frame.now }
     requires chain { plan.now.chain ≡ length constraints.now }
-    requires listed { All (IsInTable plan.now.numbers.items) constraints.now }
+    requires listed { All (IsInTable plan.now.numbers) constraints.now }
     ensures { OnOk result (to.new ≡ to.old
         ++ map (table.plan_chain_gate plan.now frame.now constraints.now) (range_with_len 0 plan.now.chain)) }
 {
@@ -63,7 +63,7 @@ pub(crate) fn push_guards(
     requires within { IsWithin plan.now frame.now }
     requires chain { 0 < plan.now.chain }
     requires size { plan.now.gates + plan.now.chain + length bad.now ≤ plan.now.size }
-    requires listed { All (IsInTable plan.now.numbers.items) bad.now }
+    requires listed { All (IsInTable plan.now.numbers) bad.now }
     ensures { OnOk result (to.new ≡ to.old
         ++ map (table.plan_guard_gate plan.now frame.now bad.now) (range_with_len 0 (length bad.now))) }
 {

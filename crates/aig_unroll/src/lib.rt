@@ -6,6 +6,7 @@ mod frame_literals;
 mod guards;
 mod input_map;
 mod limits;
+mod numbers;
 mod parts;
 mod plan;
 mod sections;

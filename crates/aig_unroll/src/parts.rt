@@ -20,7 +20,7 @@ pub(crate) fn push_literals(
     literals: &[Lit],
 ) -> Result<(), Memory>
     requires within { IsWithin plan.now frame.now }
-    requires listed { All (IsInTable plan.now.numbers.items) literals.now }
+    requires listed { All (IsInTable plan.now.numbers) literals.now }
     ensures { OnOk result (to.new ≡ to.old ++ map (table.literal_at plan.now frame.now) literals.now) }
 {
     for literal in literals {
@@ -31,7 +31,7 @@ pub(crate) fn push_literals(
 
 fn gate_at(plan: &Plan, frame: &Frame, gate: Gate) -> Gate
     requires within { IsWithin plan.now frame.now }
-    requires listed { IsGateListed plan.now.numbers.items gate }
+    requires listed { IsGateListed plan.now.numbers gate }
     ensures { result ≡ table.plan_gate plan.now frame.now gate }
 {
     ready_gate(
@@ -49,7 +49,7 @@ pub(crate) fn push_gates(
     gates: &[Gate],
 ) -> Result<(), Memory>
     requires within { IsWithin plan.now frame.now }
-    requires listed { All (IsGateListed plan.now.numbers.items) gates.now }
+    requires listed { All (IsGateListed plan.now.numbers) gates.now }
     ensures { OnOk result (to.new ≡ to.old ++ map (table.plan_gate plan.now frame.now) gates.now) }
 {
     for gate in gates {
@@ -66,7 +66,7 @@ pub(crate) fn next_latches(
     latches: &[Latch],
 ) -> Result<List<Lit>, Memory>
     requires within { IsWithin plan.now frame.now }
-    requires listed { All (λ x. IsInTable plan.now.numbers.items x.next) latches.now }
+    requires listed { All (λ x. IsInTable plan.now.numbers x.next) latches.now }
     ensures { IfOk result (λ new. new ≡ map (λ x. table.literal_at plan.now frame.now x.next) latches.now) }
 {
     let mut new = List::new(alloc);

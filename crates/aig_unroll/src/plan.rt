@@ -6,12 +6,13 @@ ghost use Rattle.aig_unroll.specs.FrameLiteral as literals;
 ghost use Rattle.aig_unroll.specs.state.FrameTable.{IsPlan};
 ghost use Rattle.aig_unroll.specs.Unrollable.{FitsLimits};
 
-use aig_base::{Circuit, Latch, Memory, renumbered_variables};
+use crate::numbers::Numbers;
+use aig_base::{Circuit, Latch, Memory};
 use std::alloc::Global;
 
 /// Counts that give the gates of each frame their variables, and what each variable is.
 #[derive(Drop)]
-pub(crate) struct Plan {
+pub(crate) struct Plan<'a> {
     /// How many inputs, latches and gates the circuit has.
     pub inputs: u32,
     pub latches: u32,
@@ -22,7 +23,7 @@ pub(crate) struct Plan {
     /// The inputs of the unrolled circuit: those of all frames, and one for each uninitialised latch.
     pub sources: u32,
     /// For each variable its number in the renumbered circuit: inputs, latches, gates in the canonical order.
-    pub numbers: Vec<u32>,
+    pub numbers: Numbers<'a>,
 }
 
 /// Whether bad literals are guarded: there are bad literals and constraints.
@@ -80,9 +81,14 @@ pub(crate) fn frame_size(circuit: &Circuit) -> usize
     circuit.gates().len() + chain_count(circuit) + guard_count(circuit)
 }
 
-impl Plan {
+impl<'a> Plan<'a> {
     /// The plan for this many frames.
-    pub fn of(alloc: Global, circuit: &Circuit, order: &[u32], frames: u32) -> Result<Plan, Memory>
+    pub fn of(
+        alloc: Global,
+        circuit: &'a Circuit,
+        order: &'a [u32],
+        frames: u32,
+    ) -> Result<Plan<'a>, Memory>
         requires order { IsCanonicalOrder circuit.now order.now }
         requires fits { FitsLimits circuit.now frames }
         ensures { IfOk result (IsPlan circuit.now order.now frames) }
@@ -96,7 +102,7 @@ impl Plan {
             chain: chain_count(circuit) as u32,
             size: frame_size(circuit) as u32,
             sources: (frames as usize * inputs + uninitialised(circuit)) as u32,
-            numbers: renumbered_variables(alloc, circuit, order)?,
+            numbers: Numbers::of(alloc, circuit, order)?,
         })
     }
 }

@@ -37,7 +37,7 @@ fn push_guarded(
     requires chain { plan.now.chain ≡ length circuit.now.constraints }
     requires some { 0 < length circuit.now.constraints }
     requires size { plan.now.gates + plan.now.chain + length circuit.now.bad ≤ plan.now.size }
-    requires listed { HasAllEntries circuit.now plan.now.numbers.items }
+    requires listed { HasAllEntries circuit.now plan.now.numbers }
     requires guards { literals.has_guards circuit.now ≡ true }
     ensures { OnOk result (AddsProperties circuit.now plan.now frame.now sections.old sections.new) }
 {
@@ -54,7 +54,7 @@ fn push_unguarded(
     circuit: &Circuit,
 ) -> Result<(), Memory>
     requires within { IsWithin plan.now frame.now }
-    requires listed { HasAllEntries circuit.now plan.now.numbers.items }
+    requires listed { HasAllEntries circuit.now plan.now.numbers }
     requires guards { literals.has_guards circuit.now ≡ false }
     ensures { OnOk result (AddsProperties circuit.now plan.now frame.now sections.old sections.new) }
 {
@@ -79,8 +79,8 @@ fn push_frame(
     requires gates { plan.now.gates ≡ length circuit.now.gates }
     requires chain { plan.now.chain ≡ literals.chain_count circuit.now }
     requires size { plan.now.size ≡ literals.frame_size circuit.now }
-    requires listed { HasAllEntries circuit.now plan.now.numbers.items }
-    requires ordered { All (IsGateListed plan.now.numbers.items) ordered.now }
+    requires listed { HasAllEntries circuit.now plan.now.numbers }
+    requires ordered { All (IsGateListed plan.now.numbers) ordered.now }
     ensures { OnOk result (AddsFrame circuit.now ordered.now plan.now frame.now sections.old sections.new) }
 {
     push_literals(&mut sections.outputs, plan, frame, circuit.outputs())?;
@@ -109,7 +109,7 @@ fn ordered_gates(alloc: Global, circuit: &Circuit, order: &[u32]) -> Result<List
 fn next_frame(alloc: Global, plan: &Plan, frame: &Frame, circuit: &Circuit) -> Result<Frame, Memory>
     requires within { IsWithin plan.now frame.now }
     requires number { frame.now.number < frame_limit }
-    requires listed { HasAllEntries circuit.now plan.now.numbers.items }
+    requires listed { HasAllEntries circuit.now plan.now.numbers }
     ensures { IfOk result (IsNextFrame circuit.now plan.now frame.now) }
 {
     Ok(Frame {

@@ -1,6 +1,6 @@
 -- Literals of variables that stand side by side.
-use Rattle.std.proofs.Common.{◌≡◌, ℕ, suc, ◌+◌, ◌-◌, ◌*◌, ◌%◌, ◌<◌, ◌≤◌, List, [], ◌∷◌, length, map, take, drop, get_or, All, refl, ap, ◌∙◌, arith}
-use Rattle.std.proofs.lemmas.List.{drop_more}
+use Rattle.std.proofs.Common.{◌≡◌, ℕ, suc, ◌+◌, ◌-◌, ◌*◌, ◌%◌, ◌<◌, ◌≤◌, List, [], ◌∷◌, length, map, take, drop, get_or, All, refl, sym, ap, ◌∙◌, arith}
+use Rattle.std.proofs.lemmas.List.{drop_more, ext_get_or, get_or-map, length-map}
 use Rattle.std.proofs.lemmas.Option.{slice_get-get_or}
 use Rattle.aig_parts.specs.declared.ternary.Tern.{Tern}
 use Rattle.aig_parts.specs.declared.ternary.Tern.TheVariants.{X}
@@ -39,3 +39,16 @@ contiguous_spelled cells first (l ∷ ls) are le =
     ap (λ (ys : List Tern). map character (take (suc (length ls)) ys)) (drop_more cells first X lt)
     ∙ ap (λ (c : ℕ). c ∷ map character (take (length ls) (drop (first + 1) cells))) (even_character cells first l e)
     ∙ ap (λ (ys : List ℕ). literal_character cells l ∷ ys) (contiguous_spelled cells (first + 1) ls rest (omega arith))
+
+-- text that shows a piece of the cells character by character
+pub contiguous_shown : (cells : List Tern) (first : ℕ) (literals text : List ℕ) → AreContiguous first literals
+    → length text ≡ length literals
+    → ((k : ℕ) → k < length literals → get_or text k 0 ≡ character (get_or cells (first + k) X))
+    → text ≡ map (literal_character cells) literals
+contiguous_shown cells first literals text are size shown =
+    ext_get_or 0 text (map (literal_character cells) literals) (size ∙ sym (length-map literals (literal_character cells)))
+    (λ i lt.
+    let within : i < length literals = omega arith in
+    shown i within
+    ∙ even_character cells (first + i) (get_or literals i 0) (are.each i _ (slice_get-get_or literals i 0 within))
+    ∙ sym (get_or-map (literal_character cells) literals i 0 0 within))

@@ -11,3 +11,4 @@ pub mod SweptRows
 pub mod TraceLemmas
 pub mod WordBits
 pub mod WordLemmas
+pub mod WordText

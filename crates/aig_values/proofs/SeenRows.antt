@@ -1,6 +1,6 @@
 -- Rows that are seen as lists of their cells, however they keep these.
 use Rattle.std.proofs.Common.{◌≡◌, ℕ, ◌<◌, Bool, List, [], ◌∷◌, length, map, take, All, Some, slice_get, get_or, set, sym, ap, ◌∙◌, subst, arith}
-use Rattle.std.proofs.lemmas.List.{length-map, length-take, get_or-map, get_or-take, map-set}
+use Rattle.std.proofs.lemmas.List.{length-map, length-take, get_or-map, get_or-take, map-set, ext_get_or}
 use Rattle.std.proofs.lemmas.Option.{slice_get-get_or}
 use Rattle.aig_parts.specs.declared.ternary.Tern.{Tern}
 use Rattle.aig_parts.specs.declared.ternary.Tern.TheVariants.{X}
@@ -70,6 +70,19 @@ module _ {A : Type 0} (cells : A → List Tern) where
     read_character l lt =
         ap (λ (r : List Tern). literal_character r l) taken
         ∙ ap character (literal_of_row n (cells row) l (first_cells (variable l) lt))
+
+    pub have_cells : (ls : List ℕ) → All (λ l. variable l < length grid.gate_flags) ls
+        → All (λ l. variable l < length (cells row)) ls
+    have_cells ls all = λ k d lt. has_cell (variable (get_or ls k d)) (all k d lt)
+
+    pub read_characters : (ls : List ℕ) → All (λ l. variable l < length grid.gate_flags) ls
+        → map (literal_character (cells row)) ls ≡ map (literal_character (row_at grid.cells t)) ls
+    read_characters ls all =
+        ext_get_or 0 (map (literal_character (cells row)) ls) (map (literal_character (row_at grid.cells t)) ls)
+        (length-map ls (literal_character (cells row)) ∙ sym (length-map ls (literal_character (row_at grid.cells t)))) (λ i lt.
+        let within : i < length ls = omega (arith, length-map ls (literal_character (cells row))) in
+        get_or-map (literal_character (cells row)) ls i 0 0 within ∙ sym (read_character (get_or ls i 0) (all i 0 within))
+        ∙ sym (get_or-map (literal_character (row_at grid.cells t)) ls i 0 0 within))
 
   -- the rows with another cell
   module _ {n : ℕ} (items : List A) {grid : Cells} {t : ℕ} {row : List Tern} {v : ℕ}

@@ -1,7 +1,7 @@
 //! Rows of a byte a cell.
 use crate::cell_row::CellRow;
-use crate::code::Code;
-use aig_parts::{List, Tern};
+use crate::code::{Code, spell_in};
+use aig_parts::{List, Lit, Tern};
 use std::alloc::{AllocError, Global};
 
 /// A row that keeps a byte for each cell.
@@ -35,5 +35,9 @@ impl CellRow for ByteRow {
 
     fn set(&mut self, variable: usize, code: Code) {
         self.codes.set(variable, code);
+    }
+
+    fn spell(&self, text: &mut [u8], literals: &[Lit]) {
+        spell_in(text, self.codes.as_slice(), literals);
     }
 }

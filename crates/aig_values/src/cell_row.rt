@@ -1,13 +1,15 @@
 //! Rows of cells, however they are kept.
-ghost use Rattle.std.specs.Prelude.{◌≡◌, ℕ, ◌+◌, ◌<◌, ◌≤◌, List, Some, length, fold, All, IfOk, OnOk, IsTrue};
+ghost use Rattle.std.specs.Prelude.{◌≡◌, ℕ, ◌+◌, ◌<◌, ◌≤◌, List, Some, length, map, fold, All, IfOk, OnOk, IsTrue};
 ghost use Rattle.std.specs.Prelude.{slice_get, slice_set};
 ghost use Rattle.aig_parts.specs.Formed.{limit};
 ghost use Rattle.aig_parts.specs.declared.ternary.Tern.{Tern};
+ghost use Rattle.aig_parts.specs.Literal.{variable};
 ghost use Rattle.aig_values.specs.Cells.{fresh_row, with_gate_value, HasVariablesBelow};
+ghost use Rattle.aig_values.specs.TraceText.{literal_character};
 ghost use Rattle.aig_values.specs.state.Padded.{IsLengthened};
 
 use crate::code::Code;
-use aig_parts::Gate;
+use aig_parts::{Gate, Lit};
 use std::alloc::{AllocError, Global};
 
 /// A row of cells, as many as there is room for.
@@ -37,6 +39,12 @@ pub trait CellRow: Sized + Drop {
     fn set(&mut self, variable: usize, code: Code)
         requires { variable < length (cells self.old) }
         ensures { cells self.new ≡ slice_set (cells self.old) variable code };
+
+    /// Writes the characters of the values of literals.
+    fn spell(&self, text: &mut [u8], literals: &[Lit])
+        requires cells { All (λ l. variable l < length (cells self.now)) literals.now }
+        requires room { length text.old ≡ length literals.now }
+        ensures { text.new ≡ map (literal_character (cells self.now)) literals.now };
 
     /// Evaluates gates one after the other, where there is a faster way than cell by cell and memory for it. Answers
     /// whether it did; else nothing changes. The codes are memory to work in.

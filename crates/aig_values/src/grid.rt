@@ -58,6 +58,18 @@ pub trait Grid: Sized + Drop {
         Code::of(self.get(frame, literal.var())).character(literal.is_neg())
     }
 
+    /// Writes the characters of the values of literals at a frame.
+    fn spell(&self, frame: u32, text: &mut [u8], literals: &[Lit])
+        requires frame { frame < length (cells self.now) }
+        requires variables { All (λ l. variable l < length (gate_flags self.now)) literals.now }
+        requires room { length text.old ≡ length literals.now }
+        ensures { text.new ≡ map (literal_character (row_at (cells self.now) frame)) literals.now }
+    {
+        for (place, literal) in literals.iter().enumerate() {
+            text[place] = self.character(frame, *literal);
+        }
+    }
+
     /// Replaces the value of an input or a latch at a frame.
     fn put_source(&mut self, frame: u32, variable: u32, value: Tern)
         requires frame { frame < length (cells self.old) }

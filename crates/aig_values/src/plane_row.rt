@@ -1,12 +1,17 @@
 //! Rows of two bits a cell, thirty-two cells a word.
-ghost use Rattle.std.specs.Prelude.{◌≡◌, ◌≢◌, ℕ, ◌*◌, ◌<◌, ◌≤◌, IsTrue, vec_len};
+ghost use Rattle.std.specs.Prelude.{◌≡◌, ◌≢◌, ℕ, ◌+◌, ◌*◌, ◌<◌, ◌≤◌, IsTrue, All, length, map, vec_len};
+ghost use Rattle.std.specs.Prelude.{slice_index, slice_index_or};
 ghost use Rattle.aig_parts.specs.declared.ternary.Tern.TheVariants.{X};
-ghost use Rattle.aig_values.specs.state.Words.{value_in, IsWhole};
+ghost use Rattle.aig_parts.specs.Literal.{variable};
+ghost use Rattle.aig_values.specs.Characters.{character};
+ghost use Rattle.aig_values.specs.TraceText.{literal_character};
+ghost use Rattle.aig_values.specs.state.Words.{spelled, value_in, IsWhole};
 
 use crate::cell_row::CellRow;
 use crate::code::Code;
 use crate::literal_codes::{CELLS, CODES, sweep_words};
-use aig_parts::{Gate, Tern};
+use crate::row::first_of_contiguous;
+use aig_parts::{Gate, Lit, Tern};
 use std::alloc::{AllocError, Global};
 use std::marker::Model;
 
@@ -28,6 +33,61 @@ fn code_at(word: u64, place: usize) -> Code
     ensures { result ≡ value_in word place }
 {
     Code::of_bits(((word >> (2 * place)) & 3) as u8)
+}
+
+// Writes the characters of the cells of a word from a place on.
+fn spell_word(text: &mut [u8], word: u64, first: usize)
+    requires first { first < 32 }
+    requires room { first + length text.old ≤ 32 }
+    requires whole { IsWhole word }
+    ensures { (k : ℕ) → k < length text.old → slice_index text.new k ≡ character (value_in word (first + k)) }
+{
+    let mut rest = word >> (2 * first);
+    for place in 0..text.len() {
+        text[place] = Code::of_bits((rest & 3) as u8).character(false);
+        rest >>= 2;
+    }
+}
+
+// Writes the characters of the cells from a variable on, word by word.
+fn spell_cells(text: &mut [u8], words: &[u64], first: usize)
+    requires room { first + length text.old ≤ 32 * length words.now }
+    requires whole { All IsWhole words.now }
+    ensures { (k : ℕ) → k < length text.old →
+        slice_index text.new k ≡ character (slice_index_or (spelled words.now) (first + k) X) }
+{
+    let mut index = first / CELLS;
+    let mut place = first % CELLS;
+    let mut at = 0;
+    while at < text.len() {
+        let count = (CELLS - place).min(text.len() - at);
+        spell_word(&mut text[at..at + count], words[index], place);
+        at += count;
+        index += 1;
+        place = 0;
+    }
+}
+
+// The character of the value of a literal.
+fn character_at(words: &[u64], literal: Lit) -> u8
+    requires cell { variable literal < 32 * length words.now }
+    requires whole { All IsWhole words.now }
+    ensures { result ≡ literal_character (spelled words.now) literal }
+{
+    let variable = literal.var() as usize;
+    code_at(words[variable / CELLS], variable % CELLS).character(literal.is_neg())
+}
+
+// Writes the characters of literals, one by one.
+fn spell_each(text: &mut [u8], words: &[u64], literals: &[Lit])
+    requires cells { All (λ l. variable l < 32 * length words.now) literals.now }
+    requires whole { All IsWhole words.now }
+    requires room { length text.old ≡ length literals.now }
+    ensures { text.new ≡ map (literal_character (spelled words.now)) literals.now }
+{
+    for (place, literal) in literals.iter().enumerate() {
+        text[place] = character_at(words, *literal);
+    }
 }
 
 // The word with this code at a place.
@@ -96,6 +156,13 @@ impl CellRow for PlaneRow {
     fn set(&mut self, variable: usize, code: Code) {
         let word = &mut self.words[variable / CELLS];
         *word = with_code(*word, variable % CELLS, code);
+    }
+
+    fn spell(&self, text: &mut [u8], literals: &[Lit]) {
+        match first_of_contiguous(literals) {
+            Some(first) => spell_cells(text, &self.words, first),
+            None => spell_each(text, &self.words, literals),
+        }
     }
 
     fn sweep_at_once(&mut self, codes: &mut Vec<Code>, gates: &[Gate]) -> bool {

@@ -70,6 +70,13 @@ impl<'a, G: Grid> Row for GridRow<'a, G> {
     fn character(&self, literal: Lit) -> u8 {
         self.grid.character(self.frame, literal)
     }
+
+    fn spell(&self, text: &mut [u8], literals: &[Lit]) {
+        // Where there is no literal, no frame need be there.
+        if !literals.is_empty() {
+            self.grid.spell(self.frame, text, literals);
+        }
+    }
 }
 
 // Whether these are the even literals of neighbouring variables from this one on. All are looked at, many at a time.

@@ -165,6 +165,10 @@ impl<R: CellRow> Grid for RowGrid<R> {
         character_in(&self.rows[frame as usize], literal)
     }
 
+    fn spell(&self, frame: u32, text: &mut [u8], literals: &[Lit]) {
+        self.rows[frame as usize].spell(text, literals);
+    }
+
     fn put_source(&mut self, frame: u32, variable: u32, value: Tern) {
         self.rows[frame as usize].set(variable as usize, Code::of(value));
     }

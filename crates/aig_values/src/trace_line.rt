@@ -12,7 +12,7 @@ use crate::row::{GridRow, Row};
 use aig_base::{Circuit, Io, Latch, Lit, Write};
 use aig_bytes::ByteBlock;
 
-/// How many characters are put at a time.
+/// How many characters are put at a time, and how many literals of latches are listed.
 const PIECE: usize = 256;
 
 /// The bytes of a trace or a dump that wait, 4,096 at most: a new one costs little, and a script makes one for each
@@ -39,26 +39,52 @@ pub fn spell_literals<R: Row>(text: &mut [u8], row: &R, literals: &[Lit])
     row.spell(text, literals);
 }
 
+// Lists the literals of latches.
+fn list_states(literals: &mut [Lit], latches: &[Latch])
+    requires { length literals.old ≡ length latches.now }
+    ensures { literals.new ≡ map (λ x. x.lit) latches.now }
+{
+    for (place, latch) in latches.iter().enumerate() {
+        literals[place] = latch.lit;
+    }
+}
+
+// Lists the next literals of latches.
+fn list_next_states(literals: &mut [Lit], latches: &[Latch])
+    requires { length literals.old ≡ length latches.now }
+    ensures { literals.new ≡ map (λ x. x.next) latches.now }
+{
+    for (place, latch) in latches.iter().enumerate() {
+        literals[place] = latch.next;
+    }
+}
+
 // Writes a character for each latch.
 fn spell_states<R: Row>(text: &mut [u8], row: &R, latches: &[Latch])
+    requires few { length latches.now ≤ 256 }
     requires row { All (λ x. R.has row.now (variable x.lit)) latches.now }
     requires room { length text.old ≡ length latches.now }
     ensures { text.new ≡ map (λ x. literal_character (R.cells row.now) x.lit) latches.now }
 {
-    for (place, latch) in latches.iter().enumerate() {
-        text[place] = row.character(latch.lit);
-    }
+    let mut literals = [Lit::new(0); PIECE];
+    let listed = &mut literals[..];
+    let listed = &mut listed[..latches.len()];
+    list_states(listed, latches);
+    row.spell(text, listed);
 }
 
 // Writes a character for each latch's next literal.
 fn spell_next_states<R: Row>(text: &mut [u8], row: &R, latches: &[Latch])
+    requires few { length latches.now ≤ 256 }
     requires row { All (λ x. R.has row.now (variable x.next)) latches.now }
     requires room { length text.old ≡ length latches.now }
     ensures { text.new ≡ map (λ x. literal_character (R.cells row.now) x.next) latches.now }
 {
-    for (place, latch) in latches.iter().enumerate() {
-        text[place] = row.character(latch.next);
-    }
+    let mut literals = [Lit::new(0); PIECE];
+    let listed = &mut literals[..];
+    let listed = &mut listed[..latches.len()];
+    list_next_states(listed, latches);
+    row.spell(text, listed);
 }
 
 // How many literals a field shows.
@@ -73,6 +99,7 @@ fn literal_count(field: Field<'_>) -> usize
 
 // Writes a character for each literal of a field from a place on, as many as there is room for.
 fn spell_field<R: Row>(text: &mut [u8], row: &R, field: Field<'_>, at: usize)
+    requires few { length text.old ≤ 256 }
     requires row { All (λ l. R.has row.now (variable l)) (literals_of field) }
     requires room { at + length text.old ≤ length (literals_of field) }
     ensures { text.new ≡ map (literal_character (R.cells row.now))
@@ -90,21 +117,22 @@ fn spell_field<R: Row>(text: &mut [u8], row: &R, field: Field<'_>, at: usize)
 fn put_field<R: Row, W: Write>(
     out: &mut W,
     block: &mut TraceBlock,
+    text: &mut [u8],
     row: &R,
     field: Field<'_>,
     end: u8,
 ) -> Result<(), Io>
-    requires { All (λ l. R.has row.now (variable l)) (literals_of field) }
+    requires row { All (λ l. R.has row.now (variable l)) (literals_of field) }
+    requires text { length text.old ≡ 256 }
     ensures { Gathers W.written W.failures out.old out.new block.old block.new
         (map (literal_character (R.cells row.now)) (literals_of field.entry) ++ end ∷ []) result }
 {
     let size = literal_count(field);
-    let mut piece = [0u8; PIECE];
     let mut at = 0;
     while at < size {
         let count = PIECE.min(size - at);
-        spell_field(&mut piece[..count], row, field, at);
-        block.put_all(out, &piece[..count])?;
+        spell_field(&mut text[..count], row, field, at);
+        block.put_all(out, &text[..count])?;
         at += count;
     }
     block.put(out, end)
@@ -114,18 +142,48 @@ fn put_field<R: Row, W: Write>(
 fn put_line<R: Row, W: Write>(
     out: &mut W,
     block: &mut TraceBlock,
+    text: &mut [u8],
     circuit: &Circuit,
     row: &R,
 ) -> Result<(), Io>
+    requires text { length text.old ≡ 256 }
     requires circuit { IsCircuit circuit.now }
     requires row { (v : ℕ) → v ≤ circuit.now.max_var → R.has row.now v }
     ensures { Gathers W.written W.failures out.old out.new block.old block.new
         (line_text circuit.now (R.cells row.now)) result }
 {
-    put_field(out, block, row, Field::States(circuit.latches()), b' ')?;
-    put_field(out, block, row, Field::Literals(circuit.inputs()), b' ')?;
-    put_field(out, block, row, Field::Literals(circuit.outputs()), b' ')?;
-    put_field(out, block, row, Field::NextStates(circuit.latches()), b'\n')
+    put_field(
+        out,
+        block,
+        text,
+        row,
+        Field::States(circuit.latches()),
+        b' ',
+    )?;
+    put_field(
+        out,
+        block,
+        text,
+        row,
+        Field::Literals(circuit.inputs()),
+        b' ',
+    )?;
+    put_field(
+        out,
+        block,
+        text,
+        row,
+        Field::Literals(circuit.outputs()),
+        b' ',
+    )?;
+    put_field(
+        out,
+        block,
+        text,
+        row,
+        Field::NextStates(circuit.latches()),
+        b'\n',
+    )
 }
 
 /// Writes the trace line of a frame: the characters of state, inputs, outputs and next state (our own choice). The
@@ -141,7 +199,7 @@ pub fn write_line<R: Row, W: Write>(
     ensures { Writes W.written W.failures out.old out.new (line_text circuit.now (R.cells row.now)) result }
 {
     block.clear();
-    put_line(out, block, circuit, row)?;
+    put_line(out, block, &mut [0; PIECE], circuit, row)?;
     block.forward(out)
 }
 
@@ -157,8 +215,10 @@ fn put_lines<G: Grid, W: Write>(
     ensures { Gathers W.written W.failures out.old out.new block.old block.new
         (trace_text circuit.now (G.cells grid.now)) result }
 {
+    let mut piece = [0; PIECE];
+    let text = &mut piece[..];
     for frame in 0..grid.rows() {
-        put_line(out, block, circuit, &GridRow { grid, frame })?;
+        put_line(out, block, text, circuit, &GridRow { grid, frame })?;
     }
     Ok(())
 }

@@ -22,11 +22,11 @@ pub record IsPlan (raw : Raw) (order : List ℕ) (k : ℕ) (plan : Plan) : Type 
   pub chain : plan.chain ≡ chain_count raw
   pub size : plan.size ≡ frame_size raw
   pub sources : plan.sources ≡ input_count raw k
-  pub numbers : IsRenumbering raw order plan.numbers.items
+  pub numbers : IsRenumbering raw order plan.numbers
 
 -- each number and each variable of the frame is within the limit, and each latch has a literal
 pub record IsWithin (plan : Plan) (frame : Frame) : Type 0 where
-  pub numbers : All (λ n. n ≤ plan.inputs + plan.latches + plan.gates) plan.numbers.items
+  pub numbers : All (λ n. n ≤ plan.inputs + plan.latches + plan.gates) plan.numbers
   pub definitions : plan.inputs + plan.latches + plan.gates ≤ limit
   pub inputs : frame.number * plan.inputs + plan.inputs ≤ plan.sources
   pub gates : plan.gates + plan.chain ≤ plan.size
@@ -47,7 +47,7 @@ number_literal plan frame n =
 
 -- the literal that stands for l at the frame; negations are kept
 unfoldable pub literal_at : Plan → Frame → ℕ → ℕ
-literal_at plan frame l = with_sign l (number_literal plan frame (slice_index plan.numbers.items (variable l)))
+literal_at plan frame l = with_sign l (number_literal plan frame (slice_index plan.numbers (variable l)))
 
 -- the gate at the frame, with the greater right side first
 abbrev pub plan_gate : Plan → Frame → Gate → Gate

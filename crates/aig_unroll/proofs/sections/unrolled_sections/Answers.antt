@@ -42,7 +42,7 @@ push_frame-requires-clause-listed c =
 
 pub push_frame-requires-clause-ordered : goal.push_frame-requires-clause-ordered
 push_frame-requires-clause-ordered c =
-    let P : List Gate → Type 0 = All (IsGateListed c.args.plan.now.numbers.items) in
+    let P : List Gate → Type 0 = All (IsGateListed c.args.plan.now.numbers) in
     subst P (sym (c.as_slice-in-loop-frame.ensures ∙ c.in_ok-ordered.ensures))
     (ordered_listed c.args.circuit.now c.facts.ensures c.args.order.now c.requires.order c.args.frames
     c.args.plan.now c.requires.plan)

@@ -3,7 +3,7 @@ use Rattle.std.proofs.lemmas.List.{length-take}
 use Rattle.aig_values.specs.TraceText.{literal_character}
 use Rattle.aig_bytes.proofs.GatherLemmas.{gathers_then}
 use Rattle.aig_values.specs.state.Fields.{literals_of}
-use Rattle.aig_values.proofs.GatherLemmas.{span_is, same_room, span_more, span_failed, all_gathered}
+use Rattle.aig_values.proofs.GatherLemmas.{span_is, span_more, span_failed, all_gathered}
 use Rattle.aig_values.proofs.trace_line.put_field.Goals as goal
 
 pub returns-in_err-put_all : goal.returns-in_err-put_all
@@ -14,8 +14,8 @@ returns-in_err-put_all g c =
     let n = c.min-count.result in
     let fits : i + n ≤ length xs = omega (arith, c.loop-at.invariant.inside, c.min-count.ensures, c.literal_count-size.ensures) in
     let is : c.spell_field.new.text ≡ map f (take (i + n - i) (drop i xs)) = c.spell_field.ensures
-    ∙ ap (λ (k : ℕ). map f (take k (drop i xs))) (omega (arith, length-take n c.loop-at.piece, c.min-count.ensures, c.loop-at.invariant.room)) in
-    let bytes = span_is f xs i n c.spell_field.new.text c.loop-at.piece fits is in
+    ∙ ap (λ (k : ℕ). map f (take k (drop i xs))) (omega (arith, length-take n c.loop-at.text, c.min-count.ensures, (c.loop-at.auto.text ∙ c.requires.text))) in
+    let bytes = span_is f xs i n c.spell_field.new.text c.loop-at.text fits is in
     span_failed f xs i n _ (c.args.end ∷ []) c.loop-at.invariant.gathers bytes c.in_err-put_all.ensures c.from_residual.ensures.0
 
 pub loop-at-preserved : goal.loop-at-preserved
@@ -26,12 +26,10 @@ loop-at-preserved g c =
     let n = c.min-count.result in
     let fits : i + n ≤ length xs = omega (arith, c.loop-at.invariant.inside, c.min-count.ensures, c.literal_count-size.ensures) in
     let is : c.spell_field.new.text ≡ map f (take (i + n - i) (drop i xs)) = c.spell_field.ensures
-    ∙ ap (λ (k : ℕ). map f (take k (drop i xs))) (omega (arith, length-take n c.loop-at.piece, c.min-count.ensures, c.loop-at.invariant.room)) in
-    let bytes = span_is f xs i n c.spell_field.new.text c.loop-at.piece fits is in
+    ∙ ap (λ (k : ℕ). map f (take k (drop i xs))) (omega (arith, length-take n c.loop-at.text, c.min-count.ensures, (c.loop-at.auto.text ∙ c.requires.text))) in
+    let bytes = span_is f xs i n c.spell_field.new.text c.loop-at.text fits is in
     record {
       inside = fits;
-      room = same_room f xs i n c.spell_field.new.text c.loop-at.piece fits is
-          (omega (arith, c.min-count.ensures, c.literal_count-size.ensures, c.loop-at.invariant.room)) ∙ c.loop-at.invariant.room;
       gathers = span_more f xs i n _ c.loop-at.invariant.gathers bytes c.in_ok-put_all.ensures;
     }
 

@@ -7,7 +7,6 @@ use Rattle.aig_values.proofs.trace_line.put_field.Given as goal
 abbrev pub invariant-loop-at : goal.invariant-loop-at
 invariant-loop-at g l = record {
   inside : l.at ≤ length (literals_of l.field);
-  room : length l.piece ≡ 256;
   gathers : Gathers {T = Unit {0}} {E = Unit {0}} g.W.Write.written g.W.Write.failures l.initial.out l.out l.initial.block l.block
       (map (literal_character (g.R.Row.cells l.row)) (take l.at (literals_of l.field))) (Ok tt);
 }

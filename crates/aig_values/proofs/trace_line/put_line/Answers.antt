@@ -24,24 +24,24 @@ shown cells f end xs ys e =
     ap (λ (cs : List ℕ). cs ++ end ∷ [])
     (map-map (literal_character cells) f xs ∙ ap (map (λ x. literal_character cells (f x))) e)
 
-pub put_field-requires : goal.put_field-requires
-put_field-requires g c =
+pub put_field-requires-clause-row : goal.put_field-requires-clause-row
+put_field-requires-clause-row g c =
     All-map (λ l. g.R.Row.has c.args.row.now (variable l)) (λ (x : Latch). x.lit) c.latches.result.now
     (all_have (g.R.Row.has c.args.row.now) (λ x. x.lit) c.args.circuit.now.max_var c.latches.result.now _ c.latches.ensures c.requires.row
     (latch_in_range c.args.circuit.now c.requires.circuit.sound))
 
-pub put_field-requires-2 : goal.put_field-requires-2
-put_field-requires-2 g c =
+pub put_field-requires-2-clause-row : goal.put_field-requires-2-clause-row
+put_field-requires-2-clause-row g c =
     all_have (g.R.Row.has c.args.row.now) (λ l. l) c.args.circuit.now.max_var c.inputs.result.now _ c.inputs.ensures c.requires.row
     (input_in_range c.args.circuit.now c.requires.circuit.sound)
 
-pub put_field-requires-3 : goal.put_field-requires-3
-put_field-requires-3 g c =
+pub put_field-requires-3-clause-row : goal.put_field-requires-3-clause-row
+put_field-requires-3-clause-row g c =
     all_have (g.R.Row.has c.args.row.now) (λ l. l) c.args.circuit.now.max_var c.outputs.result.now _ c.outputs.ensures c.requires.row
     (output_in_range c.args.circuit.now c.requires.circuit.sound)
 
-pub put_field-requires-4 : goal.put_field-requires-4
-put_field-requires-4 g c =
+pub put_field-requires-4-clause-row : goal.put_field-requires-4-clause-row
+put_field-requires-4-clause-row g c =
     All-map (λ l. g.R.Row.has c.args.row.now (variable l)) (λ (x : Latch). x.next) c.latches-2.result.now
     (all_have (g.R.Row.has c.args.row.now) (λ x. x.next) c.args.circuit.now.max_var c.latches-2.result.now _ c.latches-2.ensures c.requires.row
     (next_in_range c.args.circuit.now c.requires.circuit.sound))

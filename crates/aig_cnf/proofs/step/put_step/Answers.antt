@@ -1,0 +1,62 @@
+use Rattle.std.proofs.Common.{◌+◌, ◌∷◌, [], ap, ap₂, arith}
+use Rattle.std.specs.List.{flat_map}
+use Rattle.aig_bytes.proofs.GatherLemmas.{gathers_then, gathers_stop, gathers_failed, gathers_same}
+use Rattle.aig_cnf.specs.Dimacs.{clause_text, gate_text, problem_line}
+use Rattle.aig_base.proofs.circuits.ShortGates.{short_gates}
+use Rattle.aig_cnf.proofs.FormulaText.{is_goal}
+use Rattle.aig_cnf.proofs.StepFormula.{step_parts}
+use Rattle.aig_cnf.proofs.step.put_step.Goals as goal
+
+pub goal_at-requires : goal.goal_at-requires
+goal_at-requires g c =
+    is_goal c.args.circuit.now.bad c.args.bads c.args.frames (c.args.frames + 1) c.args.property (omega arith)
+    c.requires.property c.requires.bad
+
+pub put_gates-requires : goal.put_gates-requires
+put_gates-requires g c = rw c.gates.ensures (short_gates c.args.circuit.now c.facts.ensures)
+
+pub returns-in_err-put_problem : goal.returns-in_err-put_problem
+returns-in_err-put_problem g c =
+    let h = c.from_residual.ensures.0 in
+    gathers_same (gathers_stop _ h (gathers_failed (gathers_same c.in_err-put_problem.ensures
+    (ap₂ problem_line (ap (λ n. n + 1) c.max_var-variables.ensures.value) c.clause_count.ensures)) h))
+    (step_parts c.args.circuit.now _ c.args.bads c.args.frames c.args.property)
+
+pub returns-in_err-put_clause : goal.returns-in_err-put_clause
+returns-in_err-put_clause g c =
+    let h = c.from_residual-in_err-put_clause.ensures.0 in
+    let problem = gathers_same c.in_ok-put_problem.ensures
+    (ap₂ problem_line (ap (λ n. n + 1) c.max_var-variables.ensures.value) c.clause_count.ensures) in
+    gathers_same (gathers_then problem (gathers_stop _ h (gathers_failed (gathers_same c.in_err-put_clause.ensures
+    (ap (λ l. clause_text (l ∷ [])) c.new.ensures)) h)))
+    (step_parts c.args.circuit.now _ c.args.bads c.args.frames c.args.property)
+
+pub returns-in_err-put_quiet_frames : goal.returns-in_err-put_quiet_frames
+returns-in_err-put_quiet_frames g c =
+    let h = c.from_residual-in_err-put_quiet_frames.ensures.0 in
+    let problem = gathers_same c.in_ok-put_problem.ensures
+    (ap₂ problem_line (ap (λ n. n + 1) c.max_var-variables.ensures.value) c.clause_count.ensures) in
+    gathers_same (gathers_then problem (gathers_then (gathers_same c.in_ok-put_clause.ensures
+    (ap (λ l. clause_text (l ∷ [])) c.new.ensures)) (gathers_stop _ h (gathers_failed c.in_err-put_quiet_frames.ensures h))))
+    (step_parts c.args.circuit.now _ c.args.bads c.args.frames c.args.property)
+
+pub returns-in_err-put_clause-2 : goal.returns-in_err-put_clause-2
+returns-in_err-put_clause-2 g c =
+    let h = c.from_residual-in_err-put_clause-2.ensures.0 in
+    let problem = gathers_same c.in_ok-put_problem.ensures
+    (ap₂ problem_line (ap (λ n. n + 1) c.max_var-variables.ensures.value) c.clause_count.ensures) in
+    gathers_same (gathers_then problem (gathers_then (gathers_same c.in_ok-put_clause.ensures
+    (ap (λ l. clause_text (l ∷ [])) c.new.ensures)) (gathers_then c.in_ok-put_quiet_frames.ensures
+    (gathers_stop _ h (gathers_failed (gathers_same c.in_err-put_clause-2.ensures
+    (ap (λ l. clause_text (l ∷ [])) c.goal_at.ensures)) h)))))
+    (step_parts c.args.circuit.now _ c.args.bads c.args.frames c.args.property)
+
+pub returns : goal.returns
+returns g c =
+    let problem = gathers_same c.in_ok-put_problem.ensures
+    (ap₂ problem_line (ap (λ n. n + 1) c.max_var-variables.ensures.value) c.clause_count.ensures) in
+    gathers_same (gathers_then problem (gathers_then (gathers_same c.in_ok-put_clause.ensures
+    (ap (λ l. clause_text (l ∷ [])) c.new.ensures)) (gathers_then c.in_ok-put_quiet_frames.ensures
+    (gathers_then (gathers_same c.in_ok-put_clause-2.ensures (ap (λ l. clause_text (l ∷ [])) c.goal_at.ensures))
+    (gathers_same c.put_gates.ensures (ap (flat_map gate_text) c.gates.ensures))))))
+    (step_parts c.args.circuit.now _ c.args.bads c.args.frames c.args.property)

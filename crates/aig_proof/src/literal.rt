@@ -1,0 +1,17 @@
+//! The literals of a proof.
+ghost use Rattle.std.specs.Prelude.{◌<◌, ◌^◌, IfSome};
+ghost use Rattle.aig_parts.specs.Literal.{variable};
+
+use aig_parts::Lit;
+
+/// The literal of a variable that counts from 1, where there are so many.
+pub(crate) fn literal_of(number: u64, negated: bool, variables: u32) -> Option<Lit>
+    requires { variables < 2 ^ 31 }
+    ensures { IfSome result (λ l. variable l < variables) }
+{
+    if number == 0 || number > variables as u64 {
+        return None;
+    }
+    let even = 2 * (number as u32 - 1);
+    Some(Lit::new(if negated { even + 1 } else { even }))
+}

@@ -1,0 +1,4 @@
+pub mod Answers
+pub mod Irreducible
+pub mod Reduction
+pub mod state

@@ -1,0 +1,4 @@
+-- What proofs alone need: what a bench keeps of a witness while its values are tried.
+pub mod Looks
+pub mod Places
+pub mod Reducing

@@ -1,0 +1,17 @@
+-- What a look at a bench's values shows.
+use Rattle.std.specs.Prelude.{◌≡◌, ℕ, ◌-◌, ◌<◌, ◌≤◌, length, Some, slice_get}
+use Rattle.aig_parts.specs.declared.ternary.Tern.TheVariants.{One}
+use Rattle.aig_bench.specs.BenchState.{CircuitAndRows, HasValue}
+
+-- all constraints are 1 at the frame
+abbrev pub AreOne : CircuitAndRows → ℕ → Type 0
+AreOne p t = (q l : ℕ) → slice_get p.circuit.constraints q ≡ Some l → HasValue p t l One
+
+-- the property is 1 at the last frame
+abbrev pub IsBad : CircuitAndRows → ℕ → Type 0
+IsBad p property = (l : ℕ) → slice_get p.circuit.bad property ≡ Some l → HasValue p (length p.rows - 1) l One
+
+-- all constraints are 1 from frame t on, and the property at the last
+pub record ReachesFrom (p : CircuitAndRows) (property t : ℕ) : Type 0 where
+  pub constrained : (u : ℕ) → t ≤ u → u < length p.rows → AreOne p u
+  pub bad : IsBad p property

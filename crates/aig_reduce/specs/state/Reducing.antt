@@ -1,0 +1,53 @@
+-- A witness on a bench, whose values are tried one after the other.
+use Rattle.std.specs.Prelude.{◌≡◌, ℕ, List, ◌∷◌}
+use Rattle.std.specs.List.{AllZip}
+use Rattle.aig_parts.specs.declared.latch.Latch.{Latch}
+use Rattle.aig_parts.specs.declared.ternary.Tern.{Tern}
+use Rattle.aig_parts.specs.declared.raw.Raw.{Raw}
+use Rattle.aig_base.specs.Circuit.{IsCircuit}
+use Rattle.aig_base.specs.Value.{start_of}
+use Rattle.aig_sim.specs.declared.verdict.Verdict.TheVariants as verdict
+use Rattle.aig_sim.specs.Verdict.{IsVerdict}
+use Rattle.aig_sim.specs.WitnessText.{Witness}
+use Rattle.aig_bench.specs.BenchState.{CircuitAndRows}
+use Rattle.aig_reduce.specs.Irreducible.{IsConfirmedWitness}
+use Rattle.aig_reduce.specs.Reduction.{values_of, witness_of}
+use Rattle.aig_reduce.specs.state.Places.{AreTried, Tries}
+
+-- a latch with the same literals but for its reset
+abbrev pub IsSameLatch : Latch → Latch → Type 0
+IsSameLatch x y = (y.lit ≡ x.lit) × (y.next ≡ x.next)
+
+-- the second circuit differs by the resets of its latches, as far as values and verdicts go
+pub record HasOtherResets (raw other : Raw) : Type 0 where
+  pub inputs : other.inputs ≡ raw.inputs
+  pub latches : AllZip IsSameLatch raw.latches other.latches
+  pub bad : other.bad ≡ raw.bad
+  pub constraints : other.constraints ≡ raw.constraints
+  pub gates : other.gates ≡ raw.gates
+  pub size : other.max_var ≡ raw.max_var
+
+-- the bench runs the circuit from the start, and this run is a confirmed witness
+pub record RunsWitness (raw : Raw) (pair : CircuitAndRows) (property : ℕ) (start : List Tern) : Type 0 where
+  pub circuit : IsCircuit raw
+  pub resets : HasOtherResets raw pair.circuit
+  pub start_is : start_of pair.circuit ≡ start
+  pub confirmed : IsConfirmedWitness raw (witness_of property (start ∷ pair.rows))
+
+-- lists of values that are a confirmed witness
+abbrev pub Confirms : Raw → ℕ → List (List Tern) → Type 0
+Confirms raw property values = IsVerdict raw (witness_of property values) verdict.Confirmed
+
+-- the places of the given witness before position p of list t have been tried
+pub record Reducing (raw : Raw) (given : Witness) (pair : CircuitAndRows) (property : ℕ) (start : List Tern) (t p : ℕ)
+    : Type 0 where
+  pub runs : RunsWitness raw pair property start
+  pub property_is : property ≡ given.property
+  pub tried : AreTried (Confirms raw property) (values_of given) (start ∷ pair.rows) t p
+
+-- x was tried at a place of what the bench runs, which still is a confirmed witness
+pub record TriesPlace (raw : Raw) (old : CircuitAndRows) (property : ℕ) (start : List Tern) (new : CircuitAndRows)
+    (property' : ℕ) (start' : List Tern) (t p : ℕ) : Type 0 where
+  pub runs : RunsWitness raw new property' start'
+  pub property_is : property' ≡ property
+  pub tries : Tries (Confirms raw property) (start ∷ old.rows) (start' ∷ new.rows) t p

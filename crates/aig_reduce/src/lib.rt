@@ -1,0 +1,13 @@
+//! Reduced witnesses: x in place of each value that the failure does not need.
+#![tactic(auto)]
+
+mod fault;
+mod looks;
+mod reducer;
+mod reduction;
+mod reduction_laws;
+mod starts;
+
+pub use fault::ReduceFault;
+pub use reduction::{ReducedWitness, Reduction, reduce_witness};
+pub use reduction_laws::law_of_reduction;

@@ -1,0 +1,144 @@
+//! Reducing a witness.
+ghost use Rattle.std.specs.Prelude.{◌≡◌, ◌↔◌, length, IfOk, IfErr, IsTrue};
+ghost use Rattle.std.specs.Fmt.{decimal};
+ghost use Rattle.aig_bytes.specs.Bytes.{Writes};
+ghost use Rattle.aig_base.specs.Circuit.{IsCircuit};
+ghost use Rattle.aig_sim.specs.Verdict.{IsVerdict};
+ghost use Rattle.aig_sim.specs.WitnessText.{IsAdmitted, IsDecimal, SpellsWitness, witness_text};
+ghost use Rattle.aig_reduce.specs.Answers.{AnswersReduction, RefusesReduction};
+
+use crate::fault::ReduceFault;
+use crate::reducer::Reducer;
+use crate::starts::start_at;
+use aig_base::{Circuit, Io, Latch, Memory, Write};
+use aig_bench::{Bench, BenchFault};
+use aig_sim::{PlaneGrid, Verdict, Witness, check_witness, read_witness};
+use std::alloc::Global;
+use std::marker::Model;
+
+/// A witness that was reduced. Contracts see the witness.
+#[derive(Drop)]
+pub struct ReducedWitness {
+    reducer: Reducer<PlaneGrid>,
+}
+
+impl Model for ReducedWitness {
+    ghost use Rattle.aig_sim.specs.WitnessText.{Witness};
+
+    ghost Value = { Witness };
+
+    ghost view = { λ r. record {
+      property = r.reducer.property;
+      start = r.reducer.start.items;
+      rows = r.reducer.bench.pair.rows;
+    } };
+}
+
+/// What a reduction answers.
+#[derive(Drop)]
+pub enum Reduction {
+    /// The reduced witness of one that is confirmed.
+    Reduced(ReducedWitness),
+    /// The verdict on one that is not.
+    Refused(Verdict),
+}
+
+// A witness that was read, its verdict, and the latches of its circuit.
+#[derive(Drop)]
+struct Given {
+    verdict: Verdict,
+    witness: Witness,
+    latches: Vec<Latch>,
+}
+
+fn is_confirmed(verdict: Verdict) -> bool
+    ensures { IsTrue result ↔ (verdict ≡ Verdict.Confirmed) }
+{
+    matches!(verdict, Verdict::Confirmed)
+}
+
+// Copies the latches of a circuit.
+fn copy_latches(alloc: Global, circuit: &Circuit) -> Result<Vec<Latch>, Memory>
+    ensures { IfOk result (λ latches. latches.items ≡ circuit.now.latches) }
+{
+    Ok(Vec::from_slice(alloc, circuit.latches())?)
+}
+
+impl Given {
+    // Reads a witness and checks it.
+    fn read(alloc: Global, circuit: &Circuit, text: &[u8]) -> Result<Given, ReduceFault>
+        ensures spelled { IfOk result (λ given. SpellsWitness circuit.now text.now (record {
+          property = given.witness.property;
+          start = given.witness.start.items;
+          rows = given.witness.rows.rows;
+        })) }
+        ensures admitted { IfOk result (λ given. IsAdmitted circuit.now (record {
+          property = given.witness.property;
+          start = given.witness.start.items;
+          rows = given.witness.rows.rows;
+        })) }
+        ensures verdict { IfOk result (λ given. IsVerdict circuit.now (record {
+          property = given.witness.property;
+          start = given.witness.start.items;
+          rows = given.witness.rows.rows;
+        })
+            given.verdict) }
+        ensures width { IfOk result (λ given. given.witness.rows.width ≡ length circuit.now.inputs) }
+        ensures latches { IfOk result (λ given. given.latches.items ≡ circuit.now.latches) }
+        ensures circuit { IsCircuit circuit.now }
+        ensures fault { IfErr result (RefusesReduction circuit.now text.now) }
+    {
+        // Its contract says that it is a circuit.
+        circuit.facts();
+        let verdict = check_witness(alloc, circuit, text)?;
+        let witness = read_witness(alloc, circuit, text)?;
+        let latches = copy_latches(alloc, circuit)?;
+        Ok(Given {
+            verdict,
+            witness,
+            latches,
+        })
+    }
+}
+
+/// Reduces a witness of a circuit: x in place of each input's value, and of each start of an uninitialised latch, that
+/// can be x while the witness is confirmed. They are tried one after the other, the starts in the order of the latches
+/// and then frame by frame, input by input; each stays x where the run is still confirmed with all that stayed so
+/// before (our own choice). A witness that is not confirmed has its verdict as the answer. `law_of_reduction` says what
+/// is known of a reduced witness.
+///
+/// Refused are, in this order, what `check_witness` refuses and more than 67,108,864 cells, `M + 1` a frame. All memory
+/// is taken before the first value is tried. A value costs the cells that its edit touches, and a look at the
+/// constraints from its frame on.
+pub fn reduce_witness(
+    alloc: Global,
+    circuit: Circuit,
+    text: &[u8],
+) -> Result<Reduction, ReduceFault>
+    ensures reduced { IfOk result (AnswersReduction circuit text.now) }
+    ensures fault { IfErr result (RefusesReduction circuit text.now) }
+{
+    let Given {
+        verdict,
+        witness,
+        latches,
+    } = Given::read(alloc, &circuit, text)?;
+    let Witness {
+        property,
+        start,
+        rows,
+    } = witness;
+    let mut circuit = circuit;
+    start_at(&mut circuit, &start);
+    let bench = Bench::new(alloc, circuit, rows)?;
+    if !is_confirmed(verdict) {
+        return Ok(Reduction::Refused(verdict));
+    }
+    let mut reducer = Reducer {
+        bench,
+        property,
+        start,
+    };
+    reducer.try_all(&latches);
+    Ok(Reduction::Reduced(ReducedWitness { reducer }))
+}

@@ -1,0 +1,149 @@
+"""Rows of `aig refute`: proofs by hand as text and in the binary form, those that are refused, and broken ones."""
+
+from library.circuits import TEXTS, write_all
+from library.runs import Ended, refused, write
+from program.rows import Rows
+
+# Bad is (a | b) & (a | !b) & (!a | b) & (!a | !b), which is never 1. In the formula for one frame a is variable 2, b is
+# variable 3, and the bad state is variable 10. Propagation leaves the four clauses of a and b.
+NEVER = ("aag 9 2 0 0 7 1\n2\n4\n18\n6 5 3\n8 4 3\n10 5 2\n12 4 2\n14 9 7\n16 13 11\n18 16 14\n")
+
+# Proofs that refute it.
+PROOFS = (
+    ("one literal", "2 0\n"),
+    ("the empty clause too", "2 0\n0\n"),
+    ("another literal", "-3 0\n"),
+    ("a clause before it", "2 3 0\n2 0\n"),
+    ("no newline at the end", "2 0"),
+    ("blanks, tabs and empty lines", " \n\n\t2\t 0 \n"),
+    ("a step over lines", "2\n0\n"),
+    ("two steps on a line", "2 3 0 2 0\n"),
+    ("comments", "c one\n2 3\nc in a step\n0\nc\n2 0\n"),
+    ("a comment without an end before steps", "2 0\nc"),
+    ("a deletion of a clause that is not there", "d 2 3 0\n2 0\n"),
+    ("a deletion of what was added", "2 3 0\nd 3 2 0\n2 0\n"),
+    ("a literal twice", "2 2 0\n"),
+    ("a tautology", "2 -2 0\n2 0\n"),
+    ("what is behind the empty clause is not read", "2 0\nx\n"),
+    ("binary: one literal", b"a\x04\x00"),
+    ("binary: a negated literal", b"a\x05\x00"),
+    ("binary: the empty clause too", b"a\x04\x00a\x00"),
+    ("binary: a deletion first", b"d\x04\x06\x00a\x04\x00"),
+    ("binary: a deletion that looks like text, with a zero byte", b"d\x09\x00a\x04\x00"),
+    ("binary: what is behind the empty clause is not read", b"a\x04\x00?"),
+)
+
+# Proofs that are refused.
+REFUSALS = (
+    ("an empty file", "", "no refutation"),
+    ("comments alone", "c\nc x\n", "no refutation"),
+    ("a clause that follows, and no more", "2 3 0\n", "no refutation"),
+    ("deletions alone", "d 2 0\n", "no refutation"),
+    ("the empty clause at once", "0\n", "step 1"),
+    ("a clause that does not follow", "5 0\n2 0\n", "step 1"),
+    ("the second step", "2 3 0\n5 0\n", "step 2"),
+    ("deletions count", "d 2 0\n0\n", "step 2"),
+    ("a step without its end", "2", "text at 1"),
+    ("a step without its end, and a newline", "2 \n", "text at 3"),
+    ("a deletion without its clause", "d", "text at 1"),
+    ("a deletion without its clause, and a blank", "d ", "text at 2"),
+    ("a minus at the end", "2 -", "text at 3"),
+    ("a letter", "2 x 0\n", "text at 2"),
+    ("a letter in a number", "2x 0\n", "text at 1"),
+    ("a leading zero", "02 0\n", "text at 1"),
+    ("a plus", "+2 0\n", "text at 0"),
+    ("a comma", "2,3 0\n", "text at 1"),
+    ("a carriage return", "2 3 0\r\n", "text at 5"),
+    ("a negated end", "2 -0\n", "text at 2"),
+    ("a comment that is not at the beginning of a line", "2 3 0 c\n", "text at 6"),
+    ("a variable over the greatest", "2 11 0\n", "text at 2"),
+    ("a variable over the greatest, negated", "-11 0\n", "text at 0"),
+    ("a variable over all numbers", "2 3 0\n99999999999999999999999 0\n", "text at 6"),
+    ("a variable over the greatest in a deletion", "d 11 0\n", "text at 2"),
+    ("a word before the clause", "a 2 0\n", "text at 1"),
+    ("binary: a step without its clause", b"a", "text at 1"),
+    ("binary: a step without its end", b"a\x04", "text at 2"),
+    ("binary: a number without its end", b"a\x84", "text at 2"),
+    ("binary: a number with a group too many", b"a\x84\x00\x00", "text at 1"),
+    ("binary: a number of six groups", b"a\x80\x80\x80\x80\x80\x01\x00", "text at 1"),
+    ("binary: the variable 0", b"a\x01\x00", "text at 1"),
+    ("binary: a variable over the greatest", b"a\x04\x16\x00", "text at 2"),
+    ("binary: a variable over the greatest in a deletion", b"d\x16\x00", "text at 1"),
+    ("binary: another letter", b"a\x04\x06\x00b\x04\x00", "text at 4"),
+    ("binary: an unfinished proof", b"a\x04\x06\x00", "no refutation"),
+    ("binary: a clause that does not follow", b"a\x04\x06\x00a\x0a\x00", "step 2"),
+    ("text with a zero byte behind a deletion is binary", b"d 2 3 0\n\x00", "text at 1"),
+    ("another letter", "b 2 0\n", "text at 0"),
+)
+
+FAULTS = (
+    ("no frames", "--frames 0 never", "cnf: no frames"),
+    ("no property", "--frames 1 --property 1 never", "cnf: property"),
+    ("more frames than there may be", "--frames 65537 never", "cnf: limit"),
+    ("a refused circuit", "--frames 2 cycle", "circuit: cycle 2"),
+)
+
+
+# A latch that keeps its value, which starts at 0 and is bad. In the step of one frame it is variable 2, and the formula is
+# refuted by propagation alone.
+KEPT = "aag 1 0 1 0 0 1\n2 2\n2\n"
+# The same latch, and the conjunction that is never 1: the step needs a proof of its own.
+NEVER_KEPT = ("aag 10 2 1 0 7 1\n2\n4\n6 6\n20\n8 5 3\n10 4 3\n12 5 2\n14 4 2\n16 11 9\n18 15 13\n20 18 16\n")
+
+
+def refute(program, tally, _):
+    rows = Rows("refute", program, tally)
+    write_all()
+    write("never", NEVER)
+    for name, proof in PROOFS:
+        rows.gives(name, "refute --frames 1 never proof", "unreachable within 1\n", proof=proof)
+    for name, proof, fault in REFUSALS:
+        rows.refuses(name, "refute --frames 1 never proof", f"proof: {fault}", proof=proof)
+    for name, words, fault in FAULTS:
+        rows.refuses(name, f"refute {words} proof", fault, proof="2 0\n")
+    rows.fails("no circuit", "refute --frames 1 nowhere proof", "circuit")
+    rows.fails("no proof", "refute --frames 1 never nowhere", "proof")
+    rows.fails("no proof of a refused circuit", "refute --frames 1 cycle nowhere", "proof")
+    rows.fails("a folder in place of a proof", "refute --frames 1 never .", "proof")
+    rows.gives("propagation alone, and a proof that is not read", "refute --frames 3 --property 0 constants proof",
+               "unreachable within 3\n", constants="aag 0 0 0 0 0 2\n0\n1\n", proof="x")
+    rows.refuses("a state that is reached", "refute --frames 3 --property 1 constants proof", "proof: no refutation", proof="")
+    steps(rows)
+    broken(rows)
+
+
+def steps(rows):
+    """Proofs of the induction step too."""
+    rows.gives("a latch that keeps 0, by induction", "refute --frames 1 --step step kept proof", "unreachable\n", kept=KEPT, proof="",
+               step="")
+    rows.gives("other files of the step", "refute --step proof --property 0 --frames 3 kept proof", "unreachable\n")
+    write("kept_too", NEVER_KEPT)
+    for name, proof, step in (("text", "2 0\n", "c two frames\n4 0\n"), ("binary", b"a\x04\x00", b"a\x08\x00"),
+                              ("one of each", b"a\x04\x00", "4 0\n")):
+        rows.gives(f"two proofs: {name}", "refute --frames 1 --step step kept_too proof", "unreachable\n", proof=proof, step=step)
+    for name, proof, step, fault in (("the proof first", "x", "x", "proof: text at 0"), ("the step's", "2 0\n", "x", "step proof: text at 0"),
+                                     ("the step's, which does not follow", "2 0\n", "0\n", "step proof: step 1"),
+                                     ("the step's, which is not finished", "2 0\n", "", "step proof: no refutation")):
+        rows.refuses(f"two proofs, refused: {name}", "refute --frames 1 --step step kept_too proof", fault, proof=proof, step=step)
+    rows.refuses("a step that fails", "refute --frames 1 --step step loose proof", "step proof: no refutation",
+                 loose="aag 1 0 1 0 0 1\n2 3\n2\n", proof="", step="")
+    rows.refuses("a step over its limit", "refute --frames 65536 --step step bad_input proof", "cnf: limit", step="x")
+    rows.refuses("a step of no frames", "refute --frames 0 --step step bad_input proof", "cnf: no frames")
+    rows.fails("no proof of the step", "refute --frames 1 --step nowhere kept proof", "step proof")
+
+
+def broken(rows):
+    """Proofs that are cut, or changed at a byte. No proof refutes a formula that an assignment satisfies."""
+    allowed = [Ended(0, b"unreachable within 1\n", b"")]
+    refusals = ("no refutation", *(f"step {at}" for at in range(1, 9)), *(f"text at {at}" for at in range(64)))
+    refusals = [refused(f"proof: {text}") for text in refusals]
+    write("reached", NEVER.replace("14 9 7\n", "14 9 9\n"))
+    for proof in (b"2 3 0\nd 3 2 0\nc x\n2 0\n0\n", b"a\x04\x06\x00d\x06\x04\x00a\x04\x00a\x00"):
+        changed = [proof[:at] for at in range(len(proof))]
+        changed += [proof[:at] + bytes([byte]) + proof[at + 1:] for at in range(len(proof)) for byte in b"\x00 0-adc9\x7f\xff"]
+        for each in changed:
+            write("proof", each)
+            ended = rows.program.run("refute", "--frames", "1", "never", "proof")
+            rows.tally.check(f"refute: {each}", ended in allowed + refusals, ended)
+            ended = rows.program.run("refute", "--frames", "1", "reached", "proof")
+            rows.tally.check(f"refute: {each}, of a state that is reached", ended in refusals, ended)
