@@ -1,5 +1,6 @@
 -- Marks that are taken back.
-use Rattle.std.proofs.Common.{◌≡◌, ◌≢◌, ◌⊎◌, inl, inr, ℕ, ◌+◌, ◌<◌, ◌≤◌, Bool, true, false, List, length, get_or, set, refl, sym, ap, subst, ◌∙◌, arith}
+use Rattle.std.proofs.Common.{◌≡◌, ◌⊎◌, inl, inr, ℕ, ◌+◌, ◌<◌, ◌≤◌, Bool, true, false, List, length, get_or, set}
+use Rattle.std.proofs.Common.{sym, ap, ◌∙◌, arith}
 use Rattle.std.proofs.lemmas.Bool.{false≢true}
 use Rattle.std.proofs.lemmas.List.{get_or-set_same, get_or-set_other, get_or_past}
 use Rattle.std.specs.Prelude.{nat_eq}
@@ -8,7 +9,7 @@ use Rattle.std.proofs.lemmas.Grind.{get_or_default_zero}
 use Rattle.std.proofs.lemmas.List.Folds.{Any-from_list_any}
 use Rattle.aig_refute.specs.Distinct.{Has}
 use Rattle.aig_refute.specs.Knowledge.{IsIn, IsKnown}
-use Rattle.aig_refute.proofs.WordLemmas.{same_or_other, below_or_above}
+use Rattle.aig_refute.proofs.WordLemmas.{same_or_other}
 
 -- what is known was known, and is none of the first n of the list
 pub record AreForgotten (old new : List Bool) (list : List ℕ) (n : ℕ) : Type 0 where

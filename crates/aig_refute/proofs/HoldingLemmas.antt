@@ -1,14 +1,12 @@
 -- Clauses of marks that are stored.
-use Rattle.std.proofs.Common.{◌≡◌, inl, inr, ℕ, ◌<◌, Bool, true, false, List, length, get_or, refl, sym, ap, subst, ◌∙◌}
-use Rattle.std.specs.Prelude.{nat_eq}
+use Rattle.std.proofs.Common.{◌≡◌, inl, inr, ℕ, Bool, true, false, List, get_or, refl, sym, ap, subst, ◌∙◌}
 use Rattle.std.proofs.lemmas.List.Folds.{list_any_at}
 use Rattle.aig_refute.specs.declared.checker.Checker.{Checker}
 use Rattle.aig_refute.specs.declared.known.Known.{Known}
-use Rattle.aig_refute.specs.Agreement.{Agrees}
-use Rattle.aig_refute.specs.Distinct.{Has, HasAll}
+use Rattle.aig_refute.specs.Distinct.{HasAll}
 use Rattle.aig_cnf.specs.Formula.{is_true, meets}
-use Rattle.aig_refute.specs.Holding.{Holds, KeepsMeeting}
-use Rattle.aig_refute.specs.Knowledge.{AreFalse, AreFalseBeside, IsIn, IsKnown, MakesTrue}
+use Rattle.aig_refute.specs.Holding.{KeepsMeeting}
+use Rattle.aig_refute.specs.Knowledge.{AreFalse, AreFalseBeside, MakesTrue}
 use Rattle.aig_refute.specs.Words.{MeetsAll}
 use Rattle.aig_refute.proofs.ForgetLemmas.{in_from_has}
 use Rattle.aig_refute.proofs.PutLemmas.{literal_that_meets}

@@ -1,20 +1,21 @@
 -- Literals that are taken, and propagation step by step.
-use Rattle.std.proofs.Common.{◌≡◌, ◌≢◌, ◌⊎◌, inl, inr, ℕ, ◌+◌, ◌-◌, ◌<◌, ◌≤◌, Bool, true, false, not, List, [], ◌∷◌, ◌++◌, length, get_or, set, refl, sym, ap, subst, ◌∙◌, arith, length-append, nat_eq, cond}
-use Rattle.std.proofs.lemmas.List.{length-set, get_or-set_same, get_or-set_other, get_or_append_left, get_or_past}
+use Rattle.std.proofs.Common.{◌≡◌, ◌⊎◌, inl, inr, ℕ, ◌+◌, ◌<◌, Bool, true, false, List, [], ◌∷◌}
+use Rattle.std.proofs.Common.{◌++◌, length, get_or, refl, sym, ap, subst, ◌∙◌, arith, length-append}
+use Rattle.std.proofs.lemmas.List.{get_or-set_other, get_or_append_left}
 use Rattle.std.proofs.lemmas.Bool.{false≢true}
 use Rattle.std.proofs.lemmas.List.Folds.{list_any_at}
 use Rattle.std.proofs.Math.Seq.{get_or-append_seam}
 use Rattle.std.specs.Prelude.{IsTrue, IfOk, Result, Ok, Err}
 use Rattle.aig_bytes.specs.declared.fault.Memory.{Memory}
-use Rattle.aig_parts.specs.Literal.{negation, variable}
+use Rattle.aig_parts.specs.Literal.{negation}
 use Rattle.aig_refute.specs.declared.known.Known.{Known}
 use Rattle.aig_refute.specs.declared.propagator.Propagator.{Propagator}
 use Rattle.aig_refute.specs.Agreement.{Agrees, Assumes, Contradicts, Implies, KeepsAgreement, Propagates}
 use Rattle.aig_cnf.specs.Formula.{is_true, meets}
-use Rattle.aig_refute.specs.Knowledge.{AreFalse, AreFalseBeside, IsFound, IsIn, IsKnown, MakesTrue, Takes}
-use Rattle.aig_refute.specs.Words.{HasTrue, IsClauseAt, KeepsMet, MeetsAll}
+use Rattle.aig_refute.specs.Knowledge.{AreFalseBeside, IsFound, IsIn, IsKnown, MakesTrue, Takes}
+use Rattle.aig_refute.specs.Words.{IsClauseAt, KeepsMet, MeetsAll}
 use Rattle.aig_refute.proofs.TruthLemmas.{negation_false, negation_true}
-use Rattle.aig_refute.proofs.WordLemmas.{same_or_other, below_or_above}
+use Rattle.aig_refute.proofs.WordLemmas.{same_or_other}
 
 -- what is known after a literal was taken
 pub taken_known : (literal : ℕ) (old new : Known) → Takes literal old new → (l : ℕ) → IsKnown new.truths.items l
@@ -33,8 +34,11 @@ taken_true values literal old new t before now l h = elim (taken_known literal o
 ]
 
 in_more : (list : List ℕ) (x l : ℕ) → IsIn list l → IsIn (list ++ x ∷ []) l
-in_more list x l (k, inside, is) =
-    (k, (let e : length (list ++ x ∷ []) ≡ length list + 1 = length-append list (x ∷ []) in omega (arith, e, inside)), get_or_append_left list (x ∷ []) 0 k inside ∙ is)
+in_more list x l (k, inside, is) = (
+  k,
+  (let e : length (list ++ x ∷ []) ≡ length list + 1 = length-append list (x ∷ []) in omega (arith, e, inside)),
+  get_or_append_left list (x ∷ []) 0 k inside ∙ is,
+)
 
 in_last : (list : List ℕ) (x : ℕ) → IsIn (list ++ x ∷ []) x
 in_last list x =
@@ -47,7 +51,8 @@ taken_found literal old new (inl t) before found l h = elim (found l (ap (λ xs.
   | inr i ↦ inr (subst (λ (xs : List ℕ). IsIn xs l) (sym t.1) i)
 ]
 taken_found literal old new (inr t) before found l h = elim (taken_known literal old new (inr t) l h) [
-  | inr e ↦ inr (subst (λ (xs : List ℕ). IsIn xs l) (sym t.1) (subst (λ (x : ℕ). IsIn (old.trail.items ++ literal ∷ []) x) (sym e) (in_last old.trail.items literal)))
+  | inr e ↦ inr (subst (λ (xs : List ℕ). IsIn xs l) (sym t.1)
+      (subst (λ (x : ℕ). IsIn (old.trail.items ++ literal ∷ []) x) (sym e) (in_last old.trail.items literal)))
   | inl k ↦ elim (found l k) [
     | inl b ↦ inl b
     | inr i ↦ inr (subst (λ (xs : List ℕ). IsIn xs l) (sym t.1) (in_more old.trail.items literal l i))

@@ -1,10 +1,12 @@
 -- Clauses that are added.
-use Rattle.std.proofs.Common.{◌≡◌, ◌≢◌, inl, inr, ℕ, ◌+◌, ◌-◌, ◌<◌, ◌≤◌, Bool, true, List, [], ◌∷◌, ◌++◌, length, get_or, set, refl, sym, ap, subst, ◌∙◌, arith, length-append}
-use Rattle.std.proofs.lemmas.List.{length-set, get_or-set_same, get_or-set_other, get_or_append_left, get_or-append_right, get_or_past}
+use Rattle.std.proofs.Common.{◌≡◌, inl, inr, ℕ, ◌+◌, ◌-◌, ◌<◌, ◌≤◌, Bool, true, List, [], ◌∷◌, ◌++◌, length}
+use Rattle.std.proofs.Common.{get_or, set, refl, sym, ap, ◌∙◌, arith, length-append}
+use Rattle.std.proofs.lemmas.List.{length-set, get_or-set_same, get_or-set_other, get_or_append_left}
+use Rattle.std.proofs.lemmas.List.{get_or-append_right, get_or_past}
 use Rattle.std.proofs.lemmas.List.Folds.{Any-from_list_any}
 use Rattle.std.proofs.lemmas.Grind.{get_or_default_zero}
 use Rattle.aig_cnf.specs.Formula.{is_true, meets}
-use Rattle.aig_refute.specs.Words.{AreLiterals, HasTrue, IsLaidOut, IsLast, IsPut, KeepsMet, MeetsAll, StandsAt, literal_at, size_at}
+use Rattle.aig_refute.specs.Words.{AreLiterals, IsLaidOut, IsLast, IsPut, KeepsMet, MeetsAll, StandsAt}
 use Rattle.aig_refute.proofs.WordLemmas.{same_or_other, below_or_above}
 
 -- a literal that meets a clause

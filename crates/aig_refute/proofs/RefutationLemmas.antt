@@ -1,5 +1,5 @@
 -- What the checker keeps, as formulas.
-use Rattle.std.proofs.Common.{◌≡◌, ℕ, Bool, true, false, List, [], ◌∷◌, refl, sym, subst, ◌∙◌}
+use Rattle.std.proofs.Common.{◌≡◌, ℕ, Bool, true, List, [], ◌∷◌, refl, sym, subst, ◌∙◌}
 use Rattle.std.specs.List.{list_all}
 use Rattle.std.specs.Prelude.{IsTrue, IfOk, Result, Ok, Err}
 use Rattle.std.proofs.lemmas.Bool.{false≢true}

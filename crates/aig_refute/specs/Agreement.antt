@@ -1,7 +1,7 @@
 -- What propagation keeps.
 use Rattle.std.specs.Prelude.{◌≡◌, ℕ, Bool, true, false, List}
 use Rattle.aig_refute.specs.declared.propagator.Propagator.{Propagator}
-use Rattle.aig_cnf.specs.Formula.{is_true, meets}
+use Rattle.aig_cnf.specs.Formula.{meets}
 use Rattle.aig_refute.specs.Knowledge.{IsFound, MakesTrue}
 use Rattle.aig_refute.specs.Words.{KeepsMet, MeetsAll}
 

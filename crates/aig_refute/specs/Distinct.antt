@@ -1,5 +1,5 @@
 -- The literals of a clause as a set.
-use Rattle.std.specs.Prelude.{◌≡◌, ℕ, ◌<◌, Bool, true, nat_eq, List, length, slice_index}
+use Rattle.std.specs.Prelude.{◌≡◌, ℕ, ◌<◌, true, nat_eq, List, length, slice_index}
 use Rattle.std.specs.List.{list_any}
 
 abbrev pub Has : List ℕ → ℕ → Type 0

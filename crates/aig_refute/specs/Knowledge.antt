@@ -1,5 +1,6 @@
 -- The literals that are known to be true, and the trail of those that were found.
-use Rattle.std.specs.Prelude.{◌≡◌, ◌⊎◌, ℕ, ◌<◌, Bool, true, false, List, [], ◌∷◌, ◌++◌, length, slice_index, slice_index_or, slice_set}
+use Rattle.std.specs.Prelude.{◌≡◌, ◌⊎◌, ℕ, ◌<◌, Bool, true, false, List, [], ◌∷◌, ◌++◌, length, slice_index}
+use Rattle.std.specs.Prelude.{slice_index_or, slice_set}
 use Rattle.aig_parts.specs.Literal.{negation}
 use Rattle.aig_refute.specs.declared.known.Known.{Known}
 use Rattle.aig_cnf.specs.Formula.{is_true}

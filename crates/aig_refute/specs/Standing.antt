@@ -1,5 +1,6 @@
 -- The formula that a refutation's state stands for.
-use Rattle.std.specs.Prelude.{ℕ, zero, suc, Bool, false, nat_le, if◌then◌else◌, List, [], ◌∷◌, ◌++◌, length, slice_index, slice_index_or}
+use Rattle.std.specs.Prelude.{ℕ, zero, suc, Bool, false, nat_le, if◌then◌else◌, List, [], ◌∷◌, ◌++◌, length}
+use Rattle.std.specs.Prelude.{slice_index, slice_index_or}
 use Rattle.aig_refute.specs.declared.propagator.Propagator.{Propagator}
 use Rattle.aig_refute.specs.Words.{literal_at, size_at}
 

@@ -1,5 +1,6 @@
 //! The clauses that stand, in one list of words.
-ghost use Rattle.std.specs.Prelude.{◌≡◌, ℕ, ◌+◌, ◌<◌, length, slice_set, Bool, true, IsTrue, IfSome, IfOk, OnOk, slice_index};
+ghost use Rattle.std.specs.Prelude.{◌≡◌, ℕ, ◌+◌, ◌<◌, length, slice_set};
+ghost use Rattle.std.specs.Prelude.{Bool, true, IsTrue, IfSome, IfOk, OnOk, slice_index};
 ghost use Rattle.aig_cnf.specs.Formula.{meets};
 ghost use Rattle.aig_refute.specs.Words.{AreLiterals, IsClauseAt, IsLaidOut, IsLast, IsPut, KeepsMet, MeetsAll};
 

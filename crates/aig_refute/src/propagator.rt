@@ -192,7 +192,8 @@ impl Propagator {
 
     /// Takes a literal to be true for good; answers whether there is a conflict.
     pub(crate) fn take_unit(&mut self, literal: u32) -> Result<bool, Memory>
-        ensures agrees { (values : ℕ → Bool) → Agrees values self.old → is_true values literal ≡ true → Agrees values self.new }
+        ensures agrees { (values : ℕ → Bool) → Agrees values self.old → is_true values literal ≡ true
+            → Agrees values self.new }
         ensures conflict { IfOk result (λ conflict. IsTrue conflict
             → (values : ℕ → Bool) → Agrees values self.old → is_true values literal ≡ true → ⊥) }
     {

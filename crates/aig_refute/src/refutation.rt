@@ -10,8 +10,9 @@ use std::marker::Model;
 
 /// A formula that is being refuted. A contract sees it as a list of clauses: those that stand, and each literal that
 /// was found to be true as a clause of its own; where there is a contradiction, the empty clause is one of them.
-/// Clauses are sets: a literal counts once. A clause of both signs of a variable stands until it is deleted, and nothing
-/// follows from it. Literals of variables that it does not have are kept in the clauses, and never found to be true.
+/// Clauses are sets: a literal counts once. A clause of both signs of a variable stands until it is deleted, and
+/// nothing follows from it. Literals of variables that it does not have are kept in the clauses, and never found to
+/// be true.
 #[derive(Drop)]
 pub struct Refutation {
     checker: Checker,

@@ -3,7 +3,8 @@ use aig_bytes::Memory;
 use std::alloc::Global;
 use std::mem;
 
-/// A clause that watches a literal, and a literal of it that may be true: while it is, the clause need not be looked at.
+/// A clause that watches a literal, and a literal of it that may be true. While it is true, the clause need not be
+/// looked at.
 #[derive(Clone, Copy)]
 pub(crate) struct Watch {
     pub(crate) clause: u32,

@@ -1,6 +1,7 @@
-use Rattle.std.proofs.Common.{◌≡◌, Bool, true, false, cond, List, ℕ, ◌++◌, [], ◌∷◌, ◌%◌, ◌<◌, ◌∙◌, arith, ap, subst, sym}
+use Rattle.std.proofs.Common.{◌≡◌, Bool, true, false, cond, List, ℕ, ◌++◌, ◌%◌, arith, subst}
+use Rattle.std.proofs.Common.{sym}
 use Rattle.aig_refute.specs.Words.{AreLiterals, IsLaidOut}
-use Rattle.aig_refute.proofs.PutLemmas.{append_keeps, append_laid_out, both_small, put_words, three_small}
+use Rattle.aig_refute.proofs.PutLemmas.{append_laid_out, three_small}
 use Rattle.aig_refute.proofs.clauses.Clauses.put.Goals as goal
 
 either : (b : Bool) (words tail new : List ℕ) → IsLaidOut words → AreLiterals tail → new ≡ cond b (words ++ tail) words

@@ -1,5 +1,5 @@
-use Rattle.std.proofs.Common.{ℕ, List, ◌∷◌, subst}
-use Rattle.aig_refute.specs.Consequence.{Follows, IsUnsatisfiable}
+use Rattle.std.proofs.Common.{ℕ, List, subst}
+use Rattle.aig_refute.specs.Consequence.{Follows}
 use Rattle.aig_refute.proofs.RefutationLemmas.{follows_holding, formula, step_pulled}
 use Rattle.aig_refute.proofs.refutation.Refutation.add_step.Goals as goal
 

@@ -1,5 +1,5 @@
-use Rattle.std.proofs.Common.{ℕ, List, ◌∷◌, subst}
-use Rattle.aig_refute.specs.Consequence.{Follows, IsUnsatisfiable}
+use Rattle.std.proofs.Common.{ℕ, List, subst}
+use Rattle.aig_refute.specs.Consequence.{Follows}
 use Rattle.aig_refute.proofs.RefutationLemmas.{follows_holding, formula}
 use Rattle.aig_refute.proofs.refutation.Refutation.delete.Goals as goal
 

@@ -1,5 +1,5 @@
-use Rattle.std.proofs.Common.{ℕ, List, ◌∷◌, subst}
-use Rattle.aig_refute.specs.Consequence.{Follows, IsUnsatisfiable}
+use Rattle.std.proofs.Common.{subst}
+use Rattle.aig_refute.specs.Consequence.{IsUnsatisfiable}
 use Rattle.aig_refute.proofs.RefutationLemmas.{unsatisfiable}
 use Rattle.aig_refute.proofs.refutation.Refutation.is_refuted.Goals as goal
 
