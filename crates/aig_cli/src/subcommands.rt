@@ -113,7 +113,7 @@ pub fn witness_command<'a>(alloc: Global) -> Result<Command<'a>, AllocError> {
 
 pub fn refute_command<'a>(alloc: Global) -> Result<Command<'a>, AllocError> {
     Command::new(alloc, "refute")
-        .about("Check a SAT solver's proof that no run reaches a bad state within K frames")
+        .about("Check a SAT solver's proof that no run reaches a bad state")
         .after_help(help::REFUTE)
         .arg(frames_argument(alloc))?
         .arg(property_argument(alloc))?
