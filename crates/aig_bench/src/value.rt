@@ -17,7 +17,9 @@ pub fn literal_at<G: Grid>(grid: &G, frame: u32, literal: Lit) -> Tern
     requires variable { variable literal < length (G.gate_flags grid.now) }
     ensures { result ≡ literal_value (row_at (G.cells grid.now) frame) literal }
 {
-    Code::of(grid.get(frame, literal.var())).with_sign(literal.is_neg()).value()
+    Code::of(grid.get(frame, literal.var()))
+        .with_sign(literal.is_neg())
+        .value()
 }
 
 impl<G: Grid> Engine<G> {

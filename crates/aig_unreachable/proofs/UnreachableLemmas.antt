@@ -15,11 +15,12 @@ use Rattle.aig_base.specs.Value.{Fits}
 use Rattle.aig_base.proofs.values.Refined.{kept}
 use Rattle.aig_cnf.specs.Formula.{formula_of, bad_formula}
 use Rattle.aig_laws.specs.Models.{AreKnown}
-use Rattle.aig_laws.specs.UnrolledWitness.{IsConfirmedWithin, MakesBad, witness_at}
+use Rattle.aig_laws.specs.UnrolledWitness.{IsConfirmedWithin, MakesBad}
 use Rattle.aig_laws.proofs.BadFormula.{in_model}
 use Rattle.aig_laws.proofs.Reached.{confirms_reached}
 use Rattle.aig_laws.proofs.UnrolledWitnesses.{in_row}
 use Rattle.aig_refute.specs.Consequence.{IsUnsatisfiable}
+use Rattle.aig_sim.specs.Reached.{witness_at}
 use Rattle.aig_unroll.specs.Answers.{IsUnrolled}
 use Rattle.aig_unroll.specs.FrameLiteral.{input_count}
 use Rattle.aig_unroll.specs.Unrolled.{unrolled}
