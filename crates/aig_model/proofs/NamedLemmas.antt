@@ -1,5 +1,5 @@
 -- Literals that are named one after the other.
-use Rattle.std.proofs.Common.{◌≡◌, ◌≢◌, ◌⊎◌, inl, inr, ℕ, ◌+◌, ◌*◌, ◌/◌, ◌%◌, ◌<◌, List, [], ◌∷◌, ◌++◌, length, replicate, set, get_or, Contains, sym, ap, ◌∙◌, subst, arith}
+use Rattle.std.proofs.Common.{◌≡◌, ◌≢◌, ◌⊎◌, inl, inr, ℕ, ◌+◌, ◌*◌, ◌/◌, ◌%◌, ◌<◌, List, [], ◌∷◌, ◌++◌, length, replicate, set, get_or, Contains, refl, sym, ap, ◌∙◌, subst, arith}
 use Rattle.std.proofs.lemmas.Bool.{cases_eq}
 use Rattle.std.proofs.lemmas.List.{get_or-replicate, get_or-set_same, get_or-set_other, length-replicate, length-set}
 use Rattle.std.proofs.lemmas.List.Elements.{Contains-append_left, Contains-push, Contains-push_cases}
@@ -93,3 +93,15 @@ module _ (literals : List ℕ) (l : ℕ) (values : List Tern) (h : AreNamed lite
       → AreNamed (literals ++ l ∷ []) (length values) (set values (l / 2) Zero)
   zero_named odd free =
       named_with Zero (own_zero literals l (l / 2) (get_or values (l / 2) X) (omega (arith, odd)) free (h.each (l / 2) lt))
+
+-- ---- what is not the other value
+
+pub x_or_one : (w : Tern) → w ≢ Zero → (w ≡ X) ⊎ (w ≡ One)
+x_or_one Zero ne = absurd (ne refl)
+x_or_one One ne = inr refl
+x_or_one X ne = inl refl
+
+pub x_or_zero : (w : Tern) → w ≢ One → (w ≡ X) ⊎ (w ≡ Zero)
+x_or_zero Zero ne = inr refl
+x_or_zero One ne = absurd (ne refl)
+x_or_zero X ne = inl refl

@@ -1,5 +1,6 @@
 //! Reading models.
-ghost use Rattle.std.specs.Prelude.{◌≡◌, ◌≢◌, ◌+◌, ◌<◌, ◌≤◌, ◌++◌, ◌∷◌, [], ◌↔◌, All, Err, IfOk, IfSome, IsTrue, List, OnOk, drop, get_or, length, take, ℕ, slice_get, ◌-◌, Some};
+ghost use Rattle.std.specs.Prelude.{◌≡◌, ◌≢◌, ◌↔◌, ◌+◌, ◌-◌, ◌<◌, ◌≤◌, ℕ, List, [], ◌∷◌, ◌++◌, length, take, drop, All};
+ghost use Rattle.std.specs.Prelude.{Some, Err, IfOk, IfSome, IsTrue, OnOk, slice_get};
 ghost use Rattle.aig_model.specs.ModelText.{BeginsLine, HasStatus, IsSpace, IsUnknown, IsUnsatisfiable, SpellsModel};
 ghost use Rattle.aig_model.specs.Named.{AreNamed};
 ghost use Rattle.aig_model.specs.state.Reading.{GoesOn, GoesOnLine, HasRead, ReadUpTo, Says};
@@ -182,7 +183,42 @@ impl Reader {
         self.take_literal(word, variables)
     }
 
-    // Reads what stands at a place up to the space that ends it, and answers the place after that.
+    // Reads the line at a place by which a solver answers, and gives the place after it.
+    fn take_line(&mut self, text: &[u8], at: usize) -> Result<usize, ModelFault>
+        requires at { at ≤ length text.now }
+        requires begins { BeginsLine (take at (text.now ++ 10 ∷ [])) }
+        requires before { self.old.phase ≡ Phase.Before }
+        ensures goes_on { IfOk result (λ next. ReadUpTo self.old text.now at → ReadUpTo self.new text.now next) }
+        ensures after { IfOk result (λ next. at < next) }
+        ensures count { length self.new.values ≡ length self.old.values }
+        ensures unsatisfiable { result ≡ Err ModelFault.Unsatisfiable → ReadUpTo self.old text.now at →
+            HasStatus IsUnsatisfiable (length self.old.values) text.now }
+        ensures unknown { result ≡ Err ModelFault.Unknown → ReadUpTo self.old text.now at →
+            HasStatus IsUnknown (length self.old.values) text.now }
+    {
+        let end = line_end(text, at);
+        self.take_answer(&text[at..end], at as u64)?;
+        Ok(end + 1)
+    }
+
+    // Reads the word or the space at a place, and gives the place after it, or none where no such word may stand there.
+    fn take_piece(&mut self, text: &[u8], at: usize, variables: u32, begins: bool) -> Option<usize>
+        requires variables { variables ≤ 2147483648 }
+        requires count { length self.old.values ≡ variables }
+        requires at { at ≤ length text.now }
+        requires begins { IsTrue begins → BeginsLine (take at (text.now ++ 10 ∷ [])) }
+        ensures goes_on { IfSome result (λ next. ReadUpTo self.old text.now at → ReadUpTo self.new text.now next) }
+        ensures after { IfSome result (λ next. at < next) }
+        ensures count { length self.new.values ≡ length self.old.values }
+    {
+        let end = word_end(text, at);
+        if end > at && !self.take_word(&text[at..end], variables, begins) {
+            return None;
+        }
+        Some(end + 1)
+    }
+
+    // Reads what stands at a place up to the space that ends it, and gives the place after that.
     fn take(&mut self, text: &[u8], at: usize, variables: u32) -> Result<usize, ModelFault>
         requires variables { variables ≤ 2147483648 }
         requires count { length self.old.values ≡ variables }
@@ -191,9 +227,9 @@ impl Reader {
         ensures after { IfOk result (λ next. at < next) }
         ensures count { length self.new.values ≡ length self.old.values }
         ensures unsatisfiable { result ≡ Err ModelFault.Unsatisfiable → ReadUpTo self.old text.now at →
-            HasStatus IsUnsatisfiable variables text.now }
+            HasStatus IsUnsatisfiable (length self.old.values) text.now }
         ensures unknown { result ≡ Err ModelFault.Unknown → ReadUpTo self.old text.now at →
-            HasStatus IsUnknown variables text.now }
+            HasStatus IsUnknown (length self.old.values) text.now }
     {
         let first = byte_at(text, at);
         let begins = begins_line(text, at);
@@ -201,15 +237,12 @@ impl Reader {
             return Ok(line_end(text, at + 1) + 1);
         }
         if begins && self.phase == Phase::Before && may_answer(first) {
-            let end = line_end(text, at);
-            self.take_answer(&text[at..end], at as u64)?;
-            return Ok(end + 1);
+            return self.take_line(text, at);
         }
-        let end = word_end(text, at);
-        if end > at && !self.take_word(&text[at..end], variables, begins) {
-            return Err(ModelFault::Text(at as u64));
+        match self.take_piece(text, at, variables, begins) {
+            Some(next) => Ok(next),
+            None => Err(ModelFault::Text(at as u64)),
         }
-        Ok(end + 1)
     }
 }
 
