@@ -4,11 +4,13 @@
 #   make demo       runs the tour of README.md with it
 #   make test       runs all tests with it; nothing is proved
 #   make prove      the gate: proves every function, runs the tests, tries the planted bugs
+#   make bench      measures the program that the gate proved, else build/aig, beside a C++ program: ten minutes
 #   make install    installs the program that the gate proved, else build/aig with a warning
 #   make dist       packs a release of a commit whose gate has passed, into build/dist
 #   make clean      removes build/aig and build/dist
 #
-# `make install` takes PREFIX and DESTDIR, and PROGRAM for another program than the one that it would choose.
+# `make install` takes PREFIX and DESTDIR. Like `make bench` it takes PROGRAM, for another program than the one that it
+# would choose.
 
 PREFIX ?= /usr/local
 PROGRAM ?= $(shell release/gate.py program)
@@ -35,6 +37,9 @@ test: build/aig
 prove:
 	@.ci/run
 
+bench: $(PROGRAM)
+	@benchmarks/measure.py --aig "$(PROGRAM)" --times 3 goals memory
+
 install: $(PROGRAM)
 	@[ "$(PROGRAM)" != build/aig ] || echo "make install: warning: nothing of this program is proved" >&2
 	install -D "$(PROGRAM)" "$(ROOT)/bin/aig"
@@ -53,5 +58,5 @@ dist:
 clean:
 	rm -rf build/aig build/dist
 
-.PHONY: aig demo test prove install dist clean
+.PHONY: aig demo test prove bench install dist clean
 .DELETE_ON_ERROR:

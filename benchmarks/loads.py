@@ -4,9 +4,11 @@
 usage: loads.py [--seed S] WORDS
 
 circuit SHAPE INPUTS LATCHES OUTPUTS GATES     SHAPE: random, chain, comb, wide, reversed or shuffled (below)
-names COUNT                                    half as many inputs as outputs, each with a name
+names ORDER COUNT                              half of them inputs, half outputs, each with a name; ORDER: in_order or
+                                               shuffled
 comment BYTES                                  a wire and a comment
 stimulus INPUTS FRAMES                         about one character in sixteen is unknown
+changing INPUTS FRAMES                         each value changes at each frame
 values FRAMES VARIABLES LINES                  a script that asks for values
 cipher COPIES HALF ROUNDS                      copies of a cipher of 2 HALF latches each; ten gates a bit and round
 zeros INPUTS FRAMES                            a stimulus of zeros
@@ -103,13 +105,14 @@ def circuit(below, shape, inputs, latches, outputs, count):
         yield f"{2 * numbered[sources + place + 1]} {named(first)} {named(second)}\n"
 
 
-def names(_, count):
+def names(below, order, count):
     half = count // 2
     yield f"aag {half} {half} 0 {half} 0\n"
     for _ in range(2):
         yield from (f"{2 * variable}\n" for variable in range(1, half + 1))
-    yield from (f"i{place} bus_{place // 64}[{place % 64}]\n" for place in range(half))
-    yield from (f"o{place} result_{place // 64}[{place % 64}]\n" for place in range(half))
+    for place in shuffled(below, count) if order == "shuffled" else range(count):
+        letter, word, position = ("i", "bus", place) if place < half else ("o", "result", place - half)
+        yield f"{letter}{position} {word}_{position // 64}[{position % 64}]\n"
 
 
 def comment(_, size):
@@ -121,6 +124,10 @@ def comment(_, size):
 def stimulus(below, inputs, frames):
     rng = random.Random(below(MASK))
     yield from (rng.randbytes(inputs).translate(b"x000000001111111" * 16).decode() + "\n" for _ in range(frames))
+
+
+def changing(_, inputs, frames):
+    yield from ("01"[frame % 2] * inputs + "\n" for frame in range(frames))
 
 
 def values(below, frames, variables, lines):
@@ -294,8 +301,8 @@ def rewires(below, load, shape, rounds, count):
         yield "w %d %d %d\n" % (gate, *sides)
 
 
-KINDS = {kind.__name__: kind for kind in (circuit, names, comment, stimulus, values, cipher, zeros, edits, ascon,
-                                          rewires)}
+KINDS = {kind.__name__: kind for kind in (circuit, names, comment, stimulus, changing, values, cipher, zeros, edits,
+                                          ascon, rewires)}
 
 
 def made(kind, *words, seed=SEED):

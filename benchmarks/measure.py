@@ -2,6 +2,7 @@
 """Measures the toolkit, mostly beside a tuned C++ program that does the same, and prints tables in Markdown.
 
 Tables:
+  goals      one job of each kind beside the ratio that it is meant to have: the table of PERFORMANCE.md
   ratios     aig / C++, of conversions, simulations and questions (--jobs and --shapes pick, --list names them)
   edits      aig / C++, of edits of every kind on copies of a cipher
   benches    aig / C++, making a bench of a million gates
@@ -167,6 +168,10 @@ def milliseconds(seconds):
     return f"{seconds * 1e3:,.1f} ms"
 
 
+def microseconds(seconds):
+    return f"{seconds * 1e6:,.1f} µs"
+
+
 def row(*cells):
     print("| " + " | ".join(map(str, cells)) + " |", flush=True)
 
@@ -179,21 +184,31 @@ def head(title, *cells):
 
 # ---- ratios
 
-class Job:
-    """The same work of both programs, beside work that is to be taken off, in so many units; and the ratio wished
-    for."""
+def tuned_words(words):
+    """The arguments of the C++ program for what these ask of `aig`."""
+    if words[0] == "toaig":
+        return ["to" + words[2], words[3]]
+    if words[0] == "cnf":
+        return ["cnf", words[2], 0, words[3]]
+    return words
 
-    def __init__(self, name, shape, goal, words, idle=None, units=None, unit="ms"):
+
+class Job:
+    """The same work of both programs, beside work that is to be taken off, in so many units; and the ratio wished for.
+    `beside`: other work of `aig`, in place of the C++ program's."""
+
+    def __init__(self, name, shape, goal, words, idle=None, units=None, unit="ms", beside=None):
         self.name, self.shape, self.goal = name, shape, goal
-        self.words, self.idle, self.units, self.unit = words, idle, units, unit
+        self.words, self.idle, self.units, self.unit, self.beside = words, idle, units, unit, beside
 
     def measured(self, programs, times):
         """The least time of the C++ program and of `aig`."""
-        tuned, aig = programs.get("tuned"), programs.get("aig")
-        runs = []
+        aig, runs = programs.get("aig"), []
         for words in [self.words()] + ([self.idle()] if self.idle else []):
-            runs += [[tuned, *(["to" + words[2], words[3]] if words[0] == "toaig" else words)], [aig, *words]]
-        self.bytes = same(*runs[:2])
+            other = [aig, *self.beside()] if self.beside else [programs.get("tuned"), *tuned_words(words)]
+            runs += [other, [aig, *words]]
+        if not self.beside:
+            self.bytes = same(*runs[:2])
         found = least(times, *runs)
         return [found[at] - (found[at + 2] if self.idle else 0) for at in range(2)]
 
@@ -213,7 +228,7 @@ def binary(programs, text):
 
 def conversions(programs):
     """Text and binary files of a million gates, names and comments."""
-    goals = {("aag", "aag"): 1.1, ("aag", "aig"): 1.1, ("aig", "aag"): 1.1, ("aig", "aig"): 1.15}
+    goals = {("aag", "aag"): 1.05, ("aag", "aig"): 1.0, ("aig", "aag"): 1.0, ("aig", "aig"): 1.05}
     words = {"aag": "text", "aig": "binary"}
 
     def job(form, to, *load_words):
@@ -224,9 +239,11 @@ def conversions(programs):
         for shape in ("random", "chain", "wide", "shuffled"):
             yield Job(f"{words[form]} to {words[to]}", shape, 1.15 if shape == "shuffled" else goal,
                       lambda form=form, to=to, shape=shape: job(form, to, "circuit", shape, *SOURCES, MILLION))
-    for to in ("aag", "aig"):
-        yield Job(f"500,000 names, text to {words[to]}", "names", 1.9, lambda to=to: job("aag", to, "names", 500_000))
-    yield Job("20 MB of comment, text to text", "comment", 1.1, lambda: job("aag", "aag", "comment", 20_000_000))
+    for order, goal in (("in_order", 1.4), ("shuffled", 2.0)):
+        for to in ("aag", "aig"):
+            yield Job(f"500,000 names, text to {words[to]}", order, goal,
+                      lambda to=to, order=order: job("aag", to, "names", order, 500_000))
+    yield Job("20 MB of comment, text to text", "comment", 1.05, lambda: job("aag", "aag", "comment", 20_000_000))
 
 
 def simulations(_):
@@ -236,17 +253,25 @@ def simulations(_):
 
     for gates, frames in ((100_000, 1000), (MILLION, 100)):
         for shape in ("random", "chain", "wide", "shuffled"):
-            yield Job(f"sim, frames alone, {gates:,} gates", shape, 1.0,
+            yield Job(f"sim, frames alone, {gates:,} gates", shape, 0.8 if gates < MILLION else 0.95,
                       lambda shape=shape, gates=gates, frames=frames: sim(shape, gates, frames),
                       lambda shape=shape, gates=gates: sim(shape, gates, 0), gates * frames, "a gate")
     for shape in ("random", "chain", "wide", "shuffled"):
-        yield Job("sim, loading 1,000,000 gates", shape, 1.2, lambda shape=shape: sim(shape, MILLION, 0))
+        yield Job("sim, loading 1,000,000 gates", shape, 1.15 if shape == "shuffled" else 1.05,
+                  lambda shape=shape: sim(shape, MILLION, 0))
 
     def lines(frames):
         return ["sim", load("circuit", "random", 1000, 10, 10, 10), load("stimulus", 1000, frames)]
 
-    yield Job("sim, lines of 1,000 characters", "random", 0.9, lambda: lines(50_000), lambda: lines(0), 50_000,
+    yield Job("sim, lines of 1,000 characters", "random", 0.8, lambda: lines(50_000), lambda: lines(0), 50_000,
               "a line")
+
+    def short(inputs, frames):
+        return ["sim", load("circuit", "random", inputs, 1, 1, 1), load("stimulus", inputs, frames)]
+
+    for inputs, name in ((0, "sim, empty lines"), (1, "sim, lines of 1 character")):
+        yield Job(name, "random", 1.5, lambda inputs=inputs: short(inputs, MILLION),
+                  lambda inputs=inputs: short(inputs, 0), MILLION, "a line")
 
 
 def questions(_):
@@ -254,22 +279,91 @@ def questions(_):
     def bench(script):
         return ["bench", load("circuit", "random", 1000, 1000, 1000, 10_000), load("stimulus", 1000, 64), script]
 
-    yield Job("bench, `t`", "random", 1.3, lambda: bench(write("traces", "t\n" * 200)), lambda: bench(empty()), None,
+    yield Job("bench, `t`", "random", 1.15, lambda: bench(write("traces", "t\n" * 200)), lambda: bench(empty()), None,
               "a byte")
-    yield Job("bench, `v`", "random", 1.3, lambda: bench(load("values", 64, 12_000, MILLION)), lambda: bench(empty()),
+    yield Job("bench, `v`", "random", 1.5, lambda: bench(load("values", 64, 12_000, MILLION)), lambda: bench(empty()),
               MILLION, "a line")
+    yield Job("bench, lines that are no command", "random", 1.5, lambda: bench(write("wrong", "wrong\n" * MILLION)),
+              lambda: bench(empty()), MILLION, "a line")
+
+    def tiny(script):
+        return ["bench", load("circuit", "random", 1, 1, 1, 1), load("zeros", 1, 1), script]
+
+    yield Job("bench, `+` and `-` of a tiny circuit", "random", 1.5,
+              lambda: tiny(write("frames", "+ 1\n-\n" * 250_000)), lambda: tiny(empty()), 500_000, "a line")
+
+
+def formulas(_):
+    """A formula of 3,000,000 clauses."""
+    yield Job("cnf, 10 frames of 100,000 gates", "random", 1.2,
+              lambda: ["cnf", "--frames", 10, bad(load("circuit", "random", *SOURCES, 100_000))])
+
+
+def bad(circuit):
+    """The circuit with its first output as a bad state too."""
+    name = circuit + ".bad"
+    if not os.path.exists(name):
+        with open(circuit, encoding="ascii") as file:
+            head, *lines = file
+        _, _, inputs, latches, outputs, _ = head.split()
+        before = int(inputs) + int(latches) + int(outputs)
+        write(name, "".join([head.rstrip() + " 1\n", *lines[:before], lines[before - 1], *lines[before:]]))
+    return name
+
+
+def others(programs):
+    """Work that the C++ program has not."""
+    for shape in ("random", "shuffled"):
+        circuit = load("circuit", shape, *SOURCES, MILLION)
+        yield Job("info, beside toaig --to aag", shape, 1.3, lambda circuit=circuit: ["info", circuit],
+                  beside=lambda circuit=circuit: ["toaig", "--to", "aag", circuit])
+
+
+def all_jobs(programs):
+    return [job for part in (conversions, simulations, questions, formulas, others) for job in part(programs)]
+
+
+def measure_jobs(programs, jobs, times):
+    for job in jobs:
+        tuned, ours = job.measured(programs, times)
+        row(job.name, job.shape, job.shown(tuned), job.shown(ours), f"{ours / tuned:.2f}", f"{job.goal:.2f}")
 
 
 def ratios(programs, chosen):
-    jobs = [job for part in (conversions, simulations, questions) for job in part(programs)]
-    jobs = [job for job in jobs if chosen.jobs in job.name and chosen.shapes in job.shape]
+    jobs = [job for job in all_jobs(programs) if chosen.jobs in job.name and chosen.shapes in job.shape]
     if chosen.list:
         print(*(f"{job.name} ({job.shape})" for job in jobs), sep="\n")
         return
     head("Beside the C++ program (processor time).", "job", "shape", "C++", "aig", "aig / C++", "goal")
-    for job in jobs:
-        tuned, ours = job.measured(programs, chosen.times)
-        row(job.name, job.shape, job.shown(tuned), job.shown(ours), f"{ours / tuned:.2f}", f"{job.goal:.2f}")
+    measure_jobs(programs, jobs, chosen.times)
+
+
+def goals(programs, chosen):
+    """One job of each kind."""
+    head("Beside the C++ program (processor time).", "job", "load", "C++", "aig", "aig / C++", "goal")
+    measure_jobs(programs, [job for job in all_jobs(programs) if job.shape not in ("chain", "wide")], chosen.times)
+    for kind, *cipher in CIPHERS:
+        if 10 * cipher[0] * cipher[1] * cipher[2] > MILLION / 2:
+            continue
+        for name in EDITS:
+            measured = Edits(programs, cipher, name)
+            tuned, ours = measured.times(chosen.times)
+            row(f"bench, {name}", f"{kind}, {measured.gates:,} gates", microseconds(tuned), microseconds(ours),
+                f"{ours / tuned:.2f}", f"{EDITS[name]:.2f}")
+    for name, frames, work, tuned, ours, goal in bench_times(programs, chosen.times):
+        row(f"making a bench, {work}", f"{name}, {frames} frames", milliseconds(tuned), milliseconds(ours),
+            f"{ours / tuned:.2f}", f"{goal:.2f}")
+    changing_wave(programs, chosen.times)
+
+
+def changing_wave(programs, times):
+    """A dump of 1,000 inputs that all change at each frame."""
+    words = [[programs.get("aig"), "wave", load("circuit", "random", 1000, 1, 1, 1), load("changing", 1000, frames)]
+             for frames in (2000, 0)]
+    Run(words[0], "dump")
+    whole, none = least(times, *words)
+    each = (whole - none) / os.path.getsize("dump") * 1e9
+    row("wave, 1,000 inputs that change", "2,000 frames", "", f"{each:.2f} ns a byte", "", "2.50 ns")
 
 
 # ---- edits
@@ -279,6 +373,8 @@ CIPHERS = (("sparse", 10, 16, 6), ("sparse", 104, 16, 6), ("sparse", 1041, 16, 6
            ("dense", 1, 64, 16), ("dense", 1, 64, 156), ("dense", 1, 64, 1562))
 EDITED_FRAMES = 16
 TOUCHED = 20_000_000  # cells that a load is to touch, about
+# The loads, and the ratio that each is meant to have.
+EDITS = {"bits": 1.2, "late": 1.2, "rewires": 1.1, "resets": 1.2, "frames": 1.1}
 
 
 def touched(programs, circuit, rows, script):
@@ -288,45 +384,64 @@ def touched(programs, circuit, rows, script):
     return int(done.stderr)
 
 
+class Edits:
+    """A load of edits on copies of a cipher."""
+
+    def __init__(self, programs, cipher, name):
+        self.programs, self.cipher, self.name = programs, cipher, name
+        self.gates = 10 * cipher[0] * cipher[1] * cipher[2]
+        self.words = [load("cipher", *cipher), load("zeros", cipher[0] * cipher[1], EDITED_FRAMES)]
+        few = touched(programs, *self.words, self.script(20))
+        self.count = 2 * max(5, min(10_000, TOUCHED * 20 // max(few, 1) // 2))
+
+    def script(self, count):
+        return load("edits", self.name, *self.cipher, EDITED_FRAMES, count)
+
+    def cells(self):
+        """How many cells an edit touches."""
+        return touched(self.programs, *self.words, self.script(self.count)) / self.count
+
+    def times(self, times):
+        """The time of an edit: that of a script, less that of an empty one, of the C++ program and of `aig`."""
+        both = [[self.programs.get(name), "bench", *self.words] for name in ("tuned", "aig")]
+        same(*([*words, self.script(self.count)] for words in both))
+        found = least(times, *([*words, script] for script in (self.script(self.count), empty()) for words in both))
+        return [(found[at] - found[at + 2]) / self.count for at in range(2)]
+
+
 def edits(programs, chosen):
-    """Time an edit: that of a script, less that of an empty one."""
     head(f"Edits of {EDITED_FRAMES} frames (processor time an edit; touched cells an edit).", "load", "kind", "gates",
          "edits", "touched", "C++", "aig", "a touched cell: C++", "a touched cell: aig", "aig / C++", "goal")
     for kind, *cipher in CIPHERS:
         if chosen.shapes not in kind:
             continue
-        circuit, rows = load("cipher", *cipher), load("zeros", cipher[0] * cipher[1], EDITED_FRAMES)
-        both = [[programs.get(name), "bench", circuit, rows] for name in ("tuned", "aig")]
-        idle = least(chosen.times, *([*words, empty()] for words in both))
-        for name in (name for name in ("bits", "late", "rewires", "resets", "frames") if chosen.jobs in name):
-            def script(count, name=name):
-                return load("edits", name, *cipher, EDITED_FRAMES, count)
-
-            few = touched(programs, circuit, rows, script(20))
-            count = 2 * max(5, min(10_000, TOUCHED * 20 // max(few, 1) // 2))
-            long = script(count)
-            same(*([*words, long] for words in both))
-            tuned, ours = ((time - none) / count
-                           for time, none in zip(least(chosen.times, *([*words, long] for words in both)), idle))
-            cells = touched(programs, circuit, rows, long) / count
+        for name in (name for name in EDITS if chosen.jobs in name):
+            measured = Edits(programs, cipher, name)
+            tuned, ours = measured.times(chosen.times)
+            cells = measured.cells()
             each = [f"{time / cells * 1e9:.1f} ns" if cells else "" for time in (tuned, ours)]
-            gates = 10 * cipher[0] * cipher[1] * cipher[2]
-            row(name, kind, f"{gates:,}", f"{count:,}", f"{cells:,.0f}", f"{tuned * 1e6:,.1f} µs",
-                f"{ours * 1e6:,.1f} µs", *each, f"{ours / tuned:.2f}", "1.20" if name == "frames" else "1.30")
+            row(name, kind, f"{measured.gates:,}", f"{measured.count:,}", f"{cells:,.0f}", microseconds(tuned),
+                microseconds(ours), *each, f"{ours / tuned:.2f}", f"{EDITS[name]:.2f}")
 
 
-def benches(programs, chosen):
-    """Making a bench: its circuit, and its frames."""
-    head("Making a bench (processor time).", "circuit", "frames", "work", "C++", "aig", "aig / C++", "goal")
+def bench_times(programs, times):
+    """Yields the times of making benches: their circuits, and their frames."""
     for name, frames, circuit, inputs in (
         ("1,000,000 gates, random", 32, load("circuit", "random", *SOURCES, MILLION), 1000),
         ("998,400 gates, copies of a cipher", 64, load("cipher", 1040, 16, 6), 1040 * 16),
     ):
         rows = [load("zeros", inputs, count) for count in (0, frames)]
         runs = [[programs.get(who), "bench", circuit, file, empty()] for file in rows for who in ("tuned", "aig")]
-        found = least(chosen.times, *runs)
-        for work, (tuned, ours) in (("load", found[:2]), ("frames", [found[2] - found[0], found[3] - found[1]])):
-            row(name, frames, work, milliseconds(tuned), milliseconds(ours), f"{ours / tuned:.2f}", "1.20")
+        found = least(times, *runs)
+        yield name, frames, "load", *found[:2], 1.2
+        yield name, frames, "frames", found[2] - found[0], found[3] - found[1], 1.05
+
+
+def benches(programs, chosen):
+    """Making a bench: its circuit, and its frames."""
+    head("Making a bench (processor time).", "circuit", "frames", "work", "C++", "aig", "aig / C++", "goal")
+    for name, frames, work, tuned, ours, goal in bench_times(programs, chosen.times):
+        row(name, frames, work, milliseconds(tuned), milliseconds(ours), f"{ours / tuned:.2f}", f"{goal:.2f}")
 
 
 def sizes(programs, chosen):
@@ -338,8 +453,8 @@ def sizes(programs, chosen):
         return lambda gates: ([["toaig", "--to", to, binary(programs, load("circuit", "random", *SOURCES, gates))]],
                               gates)
 
-    def other(kind):
-        return lambda count: ([["toaig", "--to", "aag", load(kind, count)]], count)
+    def other(*words):
+        return lambda count: ([["toaig", "--to", "aag", load(*words, count)]], count)
 
     def loading(shape):
         return lambda gates: ([["sim", load("circuit", shape, *SOURCES, gates), load("stimulus", 1000, 0)]], gates)
@@ -373,7 +488,7 @@ def sizes(programs, chosen):
         "text to binary, shuffled": toaig("aig", "shuffled"),
         "binary to text, random": from_binary("aag"),
         "binary to binary, random": from_binary("aig"),
-        "names, text to text, a name": other("names"),
+        "names, text to text, a name": other("names", "in_order"),
         "comment, text to text, a byte": other("comment"),
         "sim, loading, random": loading("random"),
         "sim, loading, shuffled": loading("shuffled"),
@@ -393,7 +508,7 @@ def sizes(programs, chosen):
             runs, units = job(gates)
             both = []
             for words in runs:
-                both.append([programs.get("tuned"), *(["to" + words[2], words[3]] if words[0] == "toaig" else words)])
+                both.append([programs.get("tuned"), *tuned_words(words)])
                 both.append([programs.get("aig"), *words])
             found = least(chosen.times, *both)
             tuned, ours = (found[at] - (found[at + 2] if len(runs) > 1 else 0) for at in range(2))
@@ -421,11 +536,10 @@ def memory(programs, _):
         "4,000,000 gates out of order, text to binary": aig(load("circuit", "shuffled", *SOURCES, 4 * MILLION)),
         "a bench of 1,000,000 gates and 32 frames": bench(load("circuit", "random", *SOURCES, MILLION), 1000, 32),
         "a bench of `aag 4194303 0 0 0 0` and one frame": bench(write("claims", "aag 4194303 0 0 0 0\n"), 0, 1),
-        "1,000,000 names, text to text": aag(load("names", MILLION)),
+        "1,000,000 names, text to text": aag(load("names", "in_order", MILLION)),
     }
     for name, words in jobs.items():
-        tuned = ["to" + words[2], words[3]] if words[0] == "toaig" else words
-        sizes = [resident([programs.get(who), *it]) for who, it in (("tuned", tuned), ("aig", words))]
+        sizes = [resident([programs.get(who), *it]) for who, it in (("tuned", tuned_words(words)), ("aig", words))]
         row(name, *(f"{size / 1e6:.0f} MB" for size in sizes))
 
 
@@ -555,7 +669,7 @@ def compare(programs, chosen):
 
 # ---- command line
 
-TABLES = {made.__name__: made for made in (ratios, edits, benches, sizes, memory, growth, rewires, grids, compare)}
+TABLES = {made.__name__: made for made in (goals, ratios, edits, benches, sizes, memory, growth, rewires, grids, compare)}
 
 
 def machine(programs, chosen):

@@ -3,7 +3,7 @@
 # the words that it takes, `file`, or nothing.
 
 _aig() {
-    local commands="toaig sim wave bench unroll check cnf info help"
+    local commands="toaig sim wave bench unroll check cnf info select witness help"
     local -A options=(
         [toaig]="--to --explain --help"
         [sim]="--explain --help"
@@ -13,9 +13,13 @@ _aig() {
         [check]="--trace --explain --help"
         [cnf]="--frames --property --explain --help"
         [info]="--names --explain --help"
+        [select]="--to --from --as --property --explain --help"
+        [witness]="--property --explain --help"
     )
     local -A values=(
         [--to]="aag aig"
+        [--from]="bad outputs"
+        [--as]="bad outputs"
         [--frames]=""
         [--property]=""
         [--map]="file"

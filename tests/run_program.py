@@ -20,16 +20,19 @@ from program.needs import needs
 from program.owners import owners
 from program.pages import pages
 from program.replays import replays
+from program.select import select
 from program.sim import sim
 from program.talks import talks
 from program.toaig import toaig
 from program.unroll import unroll
 from program.wave import wave
+from program.witness import witness
 from program.words import words
 
 PARTS = {"bench": bench, "kept": kept, "owners": owners, "descriptors": descriptors, "words": words, "sim": sim,
          "wave": wave, "check": check, "replays": replays, "toaig": toaig, "unroll": unroll, "cnf": cnf,
-         "info": info, "help": helps, "pages": pages, "completions": completions, "diagnostics": diagnostics, "explain": explain,
+         "info": info, "select": select, "witness": witness, "help": helps, "pages": pages, "completions": completions,
+         "diagnostics": diagnostics, "explain": explain,
          "explain_option": explain_option, "needs": needs, "talks": talks}
 
 if __name__ == "__main__":

@@ -1,6 +1,7 @@
 // A tuned AIGER converter, simulator and workbench, which `aig` is measured against: the same checks, the same bytes.
 
 #include "checker.hpp"
+#include "formula.hpp"
 #include "reader.hpp"
 #include "simulator.hpp"
 #include "workbench.hpp"
@@ -12,6 +13,7 @@
 
 static const char usage[] =
     "usage: tuned toaag CIRCUIT | toaig CIRCUIT | sim CIRCUIT STIM | bench CIRCUIT STIM SCRIPT\n"
+    "       tuned cnf FRAMES PROPERTY CIRCUIT\n"
     "       tuned touched CIRCUIT STIM SCRIPT       tells on standard error too how many gates the edits evaluate\n";
 
 static Circuit read_circuit(Source& source) {
@@ -26,6 +28,13 @@ static void convert(const char* word, const char* path, Output& out) {
     if (strcmp(word, "toaig") == 0) return Writer(circuit, out).write_binary();
     check_cycles(circuit);
     Writer(circuit, out).write_ascii();
+}
+
+static void formula(char** words, Output& out) {
+    Source source(words[2], "circuit");
+    Circuit circuit = read_circuit(source);
+    check_cycles(circuit);
+    Formula(circuit, uint32_t(strtoul(words[0], nullptr, 10)), uint32_t(strtoul(words[1], nullptr, 10)), out).write();
 }
 
 static void simulate(char** paths, Output& out) {
@@ -49,6 +58,8 @@ static void run(int count, char** words, Output& out) {
     const char* word = count > 1 ? words[1] : "";
     if (count == 3 && (strcmp(word, "toaag") == 0 || strcmp(word, "toaig") == 0))
         convert(word, words[2], out);
+    else if (count == 5 && strcmp(word, "cnf") == 0)
+        formula(words + 2, out);
     else if (count == 4 && strcmp(word, "sim") == 0)
         simulate(words + 2, out);
     else if (count == 5 && (strcmp(word, "bench") == 0 || strcmp(word, "touched") == 0))

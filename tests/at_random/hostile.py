@@ -20,7 +20,8 @@ from library.runs import DESIGNS, EXAMPLES, contents, contents_of, write
 LINE = re.compile(
     rb"aig: (circuit: (text at \d+|limit|counts|range|definition|(redefined|undefined|reset|cycle) \d+)"
     rb"|stimulus: ((character in|length of) line \d+|unfinished|limit)"
-    rb"|bench: limit|unroll: (no frames|liveness|limit)|cnf: (no frames|property|limit)|witness: (text|property|limit))\n"
+    rb"|bench: limit|unroll: (no frames|liveness|limit)|cnf: (no frames|property|limit)|select: property"
+    rb"|witness: (text|property|limit|no run))\n"
 )
 VERDICT = re.compile(rb"([01x]* [01x]* [01x]* [01x]*\n)*(confirmed|initial \d+|constraint \d+ \d+|not bad)\n")
 # A run that takes longer is ended: there is no bound as great.
@@ -156,6 +157,8 @@ def case(runs, sources, designs, rng):
         if runs.run(work + 5 * len(got), "toaig", "--to", "aag", "unrolled") != (0, got):
             raise Wrong("an unrolled circuit is not written back as it stands")
     runs.run(work + 5 * most, "cnf", "--frames", "3", "circuit")
+    runs.run(work, "select", "--to", "aag", "--property", "0", "circuit")
+    runs.run(work, "witness", "circuit", "stimulus")
     write("witness", broken.changed(rng, broken.witness(rng, width, states), rows))
     runs.replays(work)
 

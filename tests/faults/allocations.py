@@ -9,7 +9,7 @@ from faults.refusing import Refusing
 from library.circuits import TEXTS, write_all
 from library.runs import EXAMPLES, Ended, LeftOut, write
 
-MEMORY = re.compile(rb"aig: ((circuit|stimulus|witness|unroll|cnf|bench|script): )?memory\n")
+MEMORY = re.compile(rb"aig: ((circuit|stimulus|witness|unroll|cnf|bench|script|select): )?memory\n")
 TWO_GATES = [f"{EXAMPLES}/two_gates.{ending}" for ending in ("aag", "stim", "script")]
 
 # Runs of which each allocation is refused in turn.
@@ -31,6 +31,9 @@ RUNS = (
     ("info", ["info", f"{EXAMPLES}/two_gates.aag"]),
     ("info of all sections", ["info", "sections"]),
     ("names", ["info", "--names", "sections"]),
+    ("witness", ["witness", f"{EXAMPLES}/wraps.aag", f"{EXAMPLES}/wraps.stim"]),
+    ("select", ["select", "--to", "aag", "--property", "0", "--property", "0", "sections"]),
+    ("select that renumbers", ["select", "--to", "aig", "--from", "outputs", f"{EXAMPLES}/two_gates.aag"]),
 )
 
 # Four gates read an input without memory, so that the fifth takes some: where that is refused, the edits after it see

@@ -54,6 +54,8 @@ CASES = (
     ("for another circuit", ["check", COUNTER, "examples/wraps.wit"], "aig info CIRCUIT"),
     ("does not have this bad state property", ["check", WRAPS, "other.wit"], "b7"),
     ("more than 65,536 frames", ["check", "bad_input", "many.wit"], "at most 65,536 frames"),
+    ("No frame of the stimulus reaches", ["witness", WRAPS, "nothing"], "aig sim CIRCUIT STIM"),
+    ("does not have this property", ["select", "--to", "aag", "--property", "0", "two_gates"], "aig info --names CIRCUIT"),
     ("K is 0", ["unroll", "--frames", "0", "--to", "aag", "two_gates"], "K is 0"),
     ("has justice properties", ["unroll", "--frames", "2", "--to", "aag", "live"], "justice properties: 1"),
     ("K is over 65,536", ["unroll", "--frames", "65537", "--to", "aag", "two_gates"], "K is 65537"),

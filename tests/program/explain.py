@@ -331,6 +331,16 @@ def others(rows):
               "a circuit of AIGER 1.0 has only outputs: see \"Witness\" in man aig-formats"])
     rows.row("too many frames of a formula", ["cnf", "--frames", "65537", "wraps"], "cnf: limit",
              ["K is 65537", "wanted: at most 65,536 frames"])
+    rows.row("a property to select that is not there", ["select", "--to", "aag", "--property", "7", "wraps"],
+             "select: property", ["the section has no property at a position that --property names",
+                                  "positions count from 0: aig info --names CIRCUIT prints them",
+                                  "a circuit of AIGER 1.0 has outputs alone: --from outputs"])
+    rows.row("a property that no run can reach", ["witness", "--property", "7", "wraps", write("s", "1\n")],
+             "witness: property", ["the circuit has no bad state property at this position",
+                                   "positions count from 0: aig info CIRCUIT prints the number of properties"])
+    rows.row("a run that reaches nothing", ["witness", "wraps", write("f", "1\n0\n1\n")], "witness: no run",
+             ["no frame of the stimulus reaches the property, or a constraint was not 1 before",
+              "aig sim CIRCUIT STIM prints the run"])
     rows.row("cells of a bench", ["bench", "many", write("f", "\n" * 17), write("s", "")], "bench: limit",
              ["M = 4194303 and 17 rows: (M + 1) * rows = 71303168", "wanted: at most 67,108,864; use fewer rows"])
 

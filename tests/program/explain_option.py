@@ -208,6 +208,7 @@ def outputs(program, tally):
         ("output", ["info", "two_gates"], None),
         ("output", ["unroll", "--frames", "1", "--to", "aag", "two_gates"], None),
         ("output", ["cnf", "--frames", "1", "bad_input"], None),
+        ("output", ["select", "--to", "aag", "bad_input"], None),
         ("stimulus", ["sim", "two_gates", "rows"], "rows"),
         ("stimulus", ["wave", "two_gates", "rows"], "rows"),
         ("script", ["bench", "two_gates", "rows", "script"], "script"),
@@ -286,7 +287,8 @@ def allocations(tally, refusing):
     said = re.compile(rb"(aig: .*\n)(?:  [ -~]+\n)*")
     for words in (["info", "cycle"], ["info", "missing"], ["info", "\x1bname"], ["sim", "two_gates", "two_gates"],
                   ["check", "bad_input", "witness"], ["unroll", "--frames", "1", "--to", "aag", "live"],
-                  ["cnf", "--frames", "0", "bad_input"], ["bench", "two_gates", "rows", "script", "--circuit-out", "out"]):
+                  ["cnf", "--frames", "0", "bad_input"], ["select", "--to", "aag", "--property", "1", "bad_input"],
+                  ["bench", "two_gates", "rows", "script", "--circuit-out", "out"]):
         ended, count = refusing.counted("--explain", *words)
         message = said.fullmatch(ended.err)[1]
         for number in range(1, count + 1):

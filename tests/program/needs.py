@@ -24,6 +24,8 @@ RUNS = (
     ["unroll", "--frames", "3", "--to", "aag", "--map", "map", "examples/counter.aag"],
     ["check", "--trace", "examples/wraps.aag", "examples/wraps.wit"],
     ["cnf", "--frames", "3", "examples/wraps.aag"],
+    ["witness", "examples/wraps.aag", "examples/wraps.stim"],
+    ["select", "--to", "aig", "--from", "outputs", "examples/counter.aag"],
     ["info", "examples/counter.aag"],
     ["--explain", "info", "examples/cyclic.aag"],
     ["--explain", "sim", "examples/counter.aag", "examples/counter.aag"],

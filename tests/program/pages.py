@@ -36,9 +36,9 @@ def pages(program, tally, _):
     shared = re.search(r"general=\((.*)\)", zsh)[1]
     cases = {name: text.replace("$general", shared)
              for name, text in re.findall(r"(?ms)^        ([a-z]+)\)(.*?);;", zsh)}
-    found = {name: sorted(re.findall(r"'(--[a-z-]+)", text)) for name, text in cases.items() if name != "help"}
+    found = {name: sorted(re.findall(r"'\*?(--[a-z-]+)", text)) for name, text in cases.items() if name != "help"}
     tally.compare("pages: options of _aig", found, wanted)
-    tally.compare("pages: options with values of _aig", set(re.findall(r"'(--[a-z-]+)=\[", zsh)), with_values)
+    tally.compare("pages: options with values of _aig", set(re.findall(r"'\*?(--[a-z-]+)=\[", zsh)), with_values)
     files = {name: re.findall(r"""['"]:([A-Z]+):(?:_files|\$circuits)['"]""", text)
              for name, text in cases.items() if name != "help"}
     tally.compare("pages: files of _aig", files, {name: list(one.arguments) for name, one in each.items()})

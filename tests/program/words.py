@@ -30,6 +30,12 @@ REFUSALS = (
     ("a position with a letter", ["cnf", "--frames", "2", "--property", "b0", "two_gates"]),
     ("a position that is given twice", ["cnf", "--frames", "2", "--property", "0", "--property", "0", "two_gates"]),
     ("no format to unroll to", ["unroll", "--frames", "2", "two_gates"]),
+    ("no format to select to", ["select", "two_gates"]),
+    ("an unknown section", ["select", "--from", "justice", "--to", "aag", "two_gates"]),
+    ("a property with a letter", ["select", "--to", "aag", "--property", "0", "--property", "b1", "two_gates"]),
+    ("no stimulus to run", ["witness", "two_gates"]),
+    ("a property of a witness with a letter", ["witness", "--property", "b1", "two_gates", "two_gates"]),
+    ("a property over its limit", ["select", "--to", "aag", "--property", "4294967296", "two_gates"]),
 )
 
 
@@ -38,7 +44,7 @@ def words(program, tally, _):
     write_all()
     for word in ("--help", "-h", "help"):
         tells(rows, [word], contents(f"{EXPECTED}/help/aig.txt"))
-    for command in ("toaig", "sim", "wave", "bench", "unroll", "check", "cnf", "info"):
+    for command in ("toaig", "sim", "wave", "bench", "unroll", "check", "cnf", "info", "select", "witness"):
         for asked in ([command, "--help"], [command, "-h"], ["help", command]):
             tells(rows, asked, contents(f"{EXPECTED}/help/{command}.txt"))
     tells(rows, ["help", "help"], contents(f"{EXPECTED}/help/help.txt"))

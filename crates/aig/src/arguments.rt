@@ -6,6 +6,7 @@ use aig_base::Memory;
 use aig_cli::{has_flag, matches_of};
 use aig_explain::escaped;
 use aig_fault::RunFault;
+use clap::ArgMatches;
 use clap::error::ErrorKind;
 use std::alloc::Global;
 use std::env::{self, Env};
@@ -33,19 +34,26 @@ pub struct Request<'a> {
     pub is_explained: bool,
 }
 
-/// Returns what the arguments ask for. If they are wrong, prints clap's text on standard error.
-pub fn request_of<'a, R: AllocGlobal + Eprint>(
-    rt: &R,
-    words: &'a [String],
-) -> Result<Request<'a>, Exit> {
-    match matches_of(rt.alloc(), words) {
-        Ok(matches) => match Task::of(&matches) {
+impl<'a> Request<'a> {
+    /// Returns what arguments ask for that the parser accepts.
+    pub fn of(matches: &'a ArgMatches<'a>) -> Result<Request<'a>, Exit> {
+        match Task::of(matches) {
             Some(task) => Ok(Request {
                 task,
-                is_explained: has_flag(&matches, "explain"),
+                is_explained: has_flag(matches, "explain"),
             }),
             None => Err(Exit::NoTask),
-        },
+        }
+    }
+}
+
+/// Parses the arguments. If they are wrong, prints clap's text on standard error.
+pub fn parsed<'a, R: AllocGlobal + Eprint>(
+    rt: &R,
+    words: &'a [String],
+) -> Result<ArgMatches<'a>, Exit> {
+    match matches_of(rt.alloc(), words) {
+        Ok(matches) => Ok(matches),
         Err(error) => Err(refused(rt, words, &error)),
     }
 }

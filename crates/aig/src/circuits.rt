@@ -4,9 +4,11 @@ use crate::exit::Exit;
 use crate::files::{CIRCUIT, open, output, read_whole};
 use crate::kept::{begin_map, write_map};
 use crate::output_file::OutputFile;
-use aig_base::Std;
-use aig_commands::{cnf, info, toaig, unroll};
+use aig_base::{PropertySection, Std};
+use aig_commands::{cnf, info, select, toaig, unroll};
+use aig_fault::RunFault;
 use aig_format::Format;
+use std::alloc::Global;
 use std::fs::{Files, OpenFile};
 use std::io::Read;
 use std::os::fd::AsFd;
@@ -146,4 +148,59 @@ fn info_names_file<R: AllocGlobal + Print, F: Read + Drop>(rt: &R, circuit: F) -
     let mut out = output(rt);
     info::info_names(rt.alloc(), &mut circuit, &mut out)?;
     Ok(())
+}
+
+/// Which properties of a circuit to keep, and where.
+#[derive(Clone, Copy)]
+pub struct Selection<'a> {
+    pub from: PropertySection,
+    pub into: PropertySection,
+    /// Their positions, as the arguments have them.
+    pub properties: &'a [&'a str],
+}
+
+/// Writes a circuit with some of its properties.
+pub fn select<R: Files + AllocGlobal + Print>(
+    rt: &R,
+    selection: Selection<'_>,
+    to: Format,
+    circuit: &str,
+) -> Result<(), Exit> {
+    let circuit = open(rt, circuit, CIRCUIT)?;
+    select_file(rt, selection, to, circuit)
+}
+
+fn select_file<R: AllocGlobal + Print, F: Read + Drop>(
+    rt: &R,
+    selection: Selection<'_>,
+    to: Format,
+    circuit: F,
+) -> Result<(), Exit> {
+    let mut circuit = Std::new(circuit);
+    let positions = positions_of(rt.alloc(), selection.properties)?;
+    let mut out = output(rt);
+    select::select(
+        rt.alloc(),
+        &mut circuit,
+        selection.from,
+        selection.into,
+        positions.as_slice(),
+        to,
+        &mut out,
+    )?;
+    Ok(())
+}
+
+/// Returns the numbers of texts. The parser has accepted each of them as a number.
+fn positions_of(alloc: Global, texts: &[&str]) -> Result<Vec<u32>, Exit> {
+    let mut positions = Vec::new(alloc);
+    for text in texts {
+        let Ok(position) = text.parse::<u32>() else {
+            return Err(Exit::NoTask);
+        };
+        if positions.push(position).is_err() {
+            return Err(Exit::Run(RunFault::Memory));
+        }
+    }
+    Ok(positions)
 }

@@ -5,7 +5,7 @@ use crate::kept::Kept;
 use crate::look::{Obstacle, explain_reading, note, note_name, read_again};
 use crate::output_look::{explain_output, explain_standard_output};
 use crate::task::Task;
-use aig_base::{Fault, Memory};
+use aig_base::{Fault, Memory, SelectFault};
 use aig_bench::BenchFault;
 use aig_cnf::CnfFault;
 use aig_explain::{
@@ -13,7 +13,7 @@ use aig_explain::{
     explain_witness,
 };
 use aig_fault::{RunFault, ScriptFault};
-use aig_sim::{StimFault, WitnessFault};
+use aig_sim::{ReachFault, StimFault, WitnessFault};
 use aig_unroll::UnrollFault;
 use std::alloc::Global;
 use std::env::{self, Env, VarError};
@@ -58,11 +58,17 @@ struct TaskFiles<'a> {
 impl<'a> TaskFiles<'a> {
     fn of(task: Task<'a>) -> TaskFiles<'a> {
         match task {
-            Task::Convert { circuit, .. } | Task::Info { circuit } | Task::InfoNames { circuit } =>
-                TaskFiles::new(circuit, None),
-            Task::Simulate { circuit, stimulus } | Task::Wave { circuit, stimulus } => {
-                TaskFiles::new(circuit, Some(stimulus))
-            }
+            Task::Convert { circuit, .. }
+            | Task::Info { circuit }
+            | Task::InfoNames { circuit }
+            | Task::Select { circuit, .. } => TaskFiles::new(circuit, None),
+            Task::Simulate { circuit, stimulus }
+            | Task::Wave { circuit, stimulus }
+            | Task::Witness {
+                circuit,
+                stimulus,
+                ..
+            } => { TaskFiles::new(circuit, Some(stimulus)) }
             Task::WaveWitness { circuit, witness }
             | Task::Check {
                 circuit,
@@ -140,6 +146,8 @@ fn explain_fault<R: Files + AllocGlobal + Print + Eprint>(
         RunFault::Script(fault) => of_script(rt, files, fault),
         RunFault::Unroll(fault) => of_unroll(rt, files, fault),
         RunFault::Cnf(fault) => of_cnf(rt, files, fault),
+        RunFault::Select(fault) => of_select(rt, files, fault),
+        RunFault::Reach(fault) => of_reach(rt, files, fault),
         RunFault::Output => of_output(rt, files),
         RunFault::Memory => note(rt, MORE_MEMORY),
     }
@@ -296,6 +304,52 @@ fn of_cnf_text<R: Files + AllocGlobal + Eprint>(rt: &R, files: &TaskFiles<'_>, f
             ),
         ),
         Err(obstacle) => obstacle.explain(rt),
+    }
+}
+
+fn of_select<R: AllocGlobal + Eprint>(rt: &R, files: &TaskFiles<'_>, fault: SelectFault) {
+    match fault {
+        SelectFault::Memory => note(rt, MORE_MEMORY),
+        SelectFault::Property => {
+            note_name(rt, files.circuit);
+            note(
+                rt,
+                "the section has no property at a position that --property names",
+            );
+            note(
+                rt,
+                "positions count from 0: aig info --names CIRCUIT prints them",
+            );
+            note(
+                rt,
+                "a circuit of AIGER 1.0 has outputs alone: --from outputs",
+            );
+        }
+        SelectFault::Limit => {
+            note_name(rt, files.circuit);
+            note(rt, "a section has at most 4,194,303 properties");
+        }
+    }
+}
+
+fn of_reach<R: AllocGlobal + Eprint>(rt: &R, files: &TaskFiles<'_>, fault: ReachFault) {
+    note_name(rt, files.circuit);
+    match fault {
+        ReachFault::Property => {
+            note(rt, "the circuit has no bad state property at this position");
+            note(
+                rt,
+                "positions count from 0: aig info CIRCUIT prints the number of properties",
+            );
+        }
+        ReachFault::NoRun => {
+            note(
+                rt,
+                "no frame of the stimulus reaches the property, or a constraint was not 1 before",
+            );
+            note(rt, "aig sim CIRCUIT STIM prints the run");
+        }
+        ReachFault::Memory => note(rt, MORE_MEMORY),
     }
 }
 

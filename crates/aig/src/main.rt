@@ -16,7 +16,8 @@ mod simulations;
 mod task;
 mod witnesses;
 
-use arguments::{Request, request_of};
+use arguments::{Request, parsed};
+use clap::ArgMatches;
 use exit::Exit;
 use explain::{explain, is_asked_for};
 use reserved::reserve;
@@ -60,7 +61,20 @@ fn run_words<R: Env + Files + AllocGlobal + Print + Eprint>(
 where
     R::File: AsFd,
 {
-    match request_of(rt, words) {
+    match parsed(rt, words) {
+        Ok(matches) => run_matches(rt, &matches),
+        Err(exit) => Err(exit.report(rt)),
+    }
+}
+
+fn run_matches<R: Env + Files + AllocGlobal + Print + Eprint>(
+    rt: &R,
+    matches: &ArgMatches<'_>,
+) -> Result<(), Exit>
+where
+    R::File: AsFd,
+{
+    match Request::of(matches) {
         Ok(request) => run_request(rt, &request),
         Err(exit) => Err(exit.report(rt)),
     }

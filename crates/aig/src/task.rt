@@ -1,11 +1,12 @@
 //! The tasks that the arguments choose.
 
-use crate::circuits::{convert, formula, info, info_names, unroll};
+use crate::circuits::{Selection, convert, formula, info, info_names, select, unroll};
 use crate::exit::Exit;
 use crate::kept::Kept;
 use crate::simulations::{bench, simulate, wave};
-use crate::witnesses::{check, wave_witness};
-use aig_cli::{has_flag, number_of, subcommand_of, text_of};
+use crate::witnesses::{check, wave_witness, witness};
+use aig_base::PropertySection;
+use aig_cli::{has_flag, number_of, subcommand_of, text_of, texts_of};
 use aig_format::Format;
 use clap::ArgMatches;
 use std::fs::Files;
@@ -58,11 +59,21 @@ pub enum Task<'a> {
     InfoNames {
         circuit: &'a str,
     },
+    Select {
+        selection: Selection<'a>,
+        to: Format,
+        circuit: &'a str,
+    },
+    Witness {
+        property: Option<u32>,
+        circuit: &'a str,
+        stimulus: &'a str,
+    },
 }
 
 impl<'a> Task<'a> {
     /// Returns the task of arguments that the parser accepts. There always is one.
-    pub fn of(matches: &ArgMatches<'a>) -> Option<Task<'a>> {
+    pub fn of(matches: &'a ArgMatches<'a>) -> Option<Task<'a>> {
         let (name, matches) = subcommand_of(matches)?;
         match name {
             "toaig" => conversion_of(matches),
@@ -73,6 +84,8 @@ impl<'a> Task<'a> {
             "check" => check_of(matches),
             "cnf" => formula_of(matches),
             "info" => info_of(matches),
+            "select" => selection_of(matches),
+            "witness" => witness_of(matches),
             _ => None,
         }
     }
@@ -111,6 +124,16 @@ impl<'a> Task<'a> {
             } => formula(rt, frames, property, circuit),
             Task::Info { circuit } => info(rt, circuit),
             Task::InfoNames { circuit } => info_names(rt, circuit),
+            Task::Select {
+                selection,
+                to,
+                circuit,
+            } => select(rt, selection, to, circuit),
+            Task::Witness {
+                property,
+                circuit,
+                stimulus,
+            } => witness(rt, property, circuit, stimulus),
         }
     }
 }
@@ -198,4 +221,32 @@ fn info_of<'a>(matches: &ArgMatches<'a>) -> Option<Task<'a>> {
     } else {
         Some(Task::Info { circuit })
     }
+}
+
+/// Returns the section that an option names; bad state properties if it is left out.
+fn section_of(matches: &ArgMatches<'_>, name: &str) -> PropertySection {
+    match text_of(matches, name) {
+        Some("outputs") => PropertySection::Outputs,
+        _ => PropertySection::Bad,
+    }
+}
+
+fn selection_of<'a>(matches: &'a ArgMatches<'a>) -> Option<Task<'a>> {
+    Some(Task::Select {
+        selection: Selection {
+            from: section_of(matches, "from"),
+            into: section_of(matches, "as"),
+            properties: texts_of(matches, "P").unwrap_or(&[]),
+        },
+        to: format_of(matches)?,
+        circuit: text_of(matches, "CIRCUIT")?,
+    })
+}
+
+fn witness_of<'a>(matches: &ArgMatches<'a>) -> Option<Task<'a>> {
+    Some(Task::Witness {
+        property: number_of(matches, "P"),
+        circuit: text_of(matches, "CIRCUIT")?,
+        stimulus: text_of(matches, "STIM")?,
+    })
 }

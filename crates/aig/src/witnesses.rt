@@ -1,14 +1,16 @@
-//! The tasks on a circuit and a witness: its check, and the dump of its run.
+//! The tasks on a witness: its check, the dump of its run, and how it is made.
 
 use crate::exit::Exit;
 use crate::files::{CIRCUIT, open, output, read_whole};
-use aig_commands::{check, wave};
+use aig_commands::{check, wave, witness};
 use aig_fault::RunFault;
-use aig_sim::Verdict;
+use aig_sim::{StimFault, Verdict};
 use std::fs::Files;
 use std::io::Read;
 
 const WITNESS: Exit = Exit::Witness;
+
+const STIMULUS: Exit = Exit::Run(RunFault::Stimulus(StimFault::Io));
 
 /// Writes the verdict on a witness, and before it the trace of its run if `with_trace`.
 pub fn check<R: Files + AllocGlobal + Print>(
@@ -76,5 +78,36 @@ fn wave_files<R: AllocGlobal + Print, F: Read + Drop>(
     let witness = read_whole(rt.alloc(), witness, WITNESS)?;
     let mut out = output(rt);
     wave::wave_witness(rt.alloc(), circuit.as_slice(), witness.as_slice(), &mut out)?;
+    Ok(())
+}
+
+/// Writes the witness that the run over a stimulus reaches a property.
+pub fn witness<R: Files + AllocGlobal + Print>(
+    rt: &R,
+    property: Option<u32>,
+    circuit: &str,
+    stimulus: &str,
+) -> Result<(), Exit> {
+    let circuit = open(rt, circuit, CIRCUIT)?;
+    let stimulus = open(rt, stimulus, STIMULUS)?;
+    witness_files(rt, property, circuit, stimulus)
+}
+
+fn witness_files<R: AllocGlobal + Print, F: Read + Drop>(
+    rt: &R,
+    property: Option<u32>,
+    circuit: F,
+    stimulus: F,
+) -> Result<(), Exit> {
+    let circuit = read_whole(rt.alloc(), circuit, CIRCUIT)?;
+    let stimulus = read_whole(rt.alloc(), stimulus, STIMULUS)?;
+    let mut out = output(rt);
+    witness::witness(
+        rt.alloc(),
+        circuit.as_slice(),
+        stimulus.as_slice(),
+        property,
+        &mut out,
+    )?;
     Ok(())
 }

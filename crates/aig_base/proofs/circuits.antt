@@ -7,4 +7,5 @@ pub mod Gates
 pub mod InOrder
 pub mod Places
 pub mod Roles
+pub mod ShortGates
 pub mod Tables

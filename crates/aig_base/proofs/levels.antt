@@ -1,4 +1,6 @@
 pub mod FirstLevels
+pub mod GateFills
+pub mod GateVariableLemmas
 pub mod GreatestLemmas
 pub mod LevelBound
 pub mod LevelFills

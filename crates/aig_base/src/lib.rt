@@ -13,6 +13,7 @@ mod definitions;
 mod entries;
 mod fan_out_lists;
 mod gate_of;
+mod gate_variables;
 mod greatest;
 mod grounded;
 mod key_chains;
@@ -37,8 +38,8 @@ mod walk;
 mod worklist;
 
 pub use aig_bytes::{
-    Block, Buffered, Count, Failed, Io, MemReader, MemWriter, Memory, Read, Std, Write, write_all,
-    write_number,
+    Block, Buffered, Count, Failed, Io, MemReader, MemWriter, Memory, Read, Std, Term, Write,
+    write_all, write_number,
 };
 pub use aig_parts::{
     Bytes, Fault, Gate, Kind, LIMIT, Latch, List, Lit, Raw, SymbolIter, SymbolList, Symbols, Tern,

@@ -6,6 +6,7 @@ ghost use Rattle.aig_base.specs.RenumberingTable.{renumbered_by, HasAllEntries, 
 ghost use Rattle.aig_base.specs.state.LeastFaulty.{gate_variable};
 
 use crate::circuit::Circuit;
+use crate::gate_variables::variables_of;
 use crate::level_order::sorted_gates;
 use crate::renumbering_parts::{
     copied_comment, copied_symbols, new_justice, new_latches, new_literals, renewed_gates,
@@ -14,17 +15,6 @@ use crate::renumbering_table::renumbered_variables;
 use aig_bytes::Memory;
 use aig_parts::{Gate, Raw};
 use std::alloc::Global;
-
-// The variables of gates.
-fn variables_of(alloc: Global, gates: &[Gate]) -> Result<Vec<u32>, Memory>
-    ensures { IfOk result (λ order. order.items ≡ map gate_variable gates.now) }
-{
-    let mut variables = Vec::with_capacity(alloc, gates.len())?;
-    for gate in gates {
-        variables.push(gate.lhs.var())?;
-    }
-    Ok(variables)
-}
 
 // The table of renumbered variables, by the gates in the canonical order.
 fn table_of(alloc: Global, circuit: &Circuit, gates: &[Gate]) -> Result<Vec<u32>, Memory>

@@ -1,13 +1,16 @@
 -- Bytes that wait in a place of fixed room, and where they have gone.
-use Rattle.std.proofs.Common.{◌≡◌, ℕ, ◌+◌, ◌<◌, ◌≤◌, List, [], ◌∷◌, ◌++◌, length, take, drop, sym, ap, ◌∙◌, append_assoc, arith}
+use Rattle.std.proofs.Common.{◌≡◌, ℕ, ◌+◌, ◌<◌, ◌≤◌, Bool, true, false, List, [], ◌∷◌, ◌++◌, length, take, drop, sym, ap, ◌∙◌, append_assoc, arith}
 use Rattle.std.proofs.Common.{refl, subst, take-take}
 use Rattle.std.proofs.Math.Seq.{take-append_seam, take-append-add}
 use Rattle.std.proofs.Math.ListN.{set}
 use Rattle.std.specs.Prelude.{Option}
-use Rattle.std.proofs.lemmas.List.{append-nil, take-append-drop, drop-append-le, length-take-le, take_more_set}
+use Rattle.std.proofs.lemmas.List.{append-nil, take-append-drop, drop-append-le, length-take-le, take-set, take_more_set}
+use Rattle.std.proofs.lemmas.Grind.{take-set_at}
 use Rattle.std.proofs.lemmas.Slice.{take-put_mid}
 use borrow.Rule.Slice.PartMut.{put_mid}
+use mir.Val.{bool_byte}
 use Rattle.aig_bytes.specs.Bytes.{after}
+use Rattle.aig_bytes.specs.Term.{minus, term_text}
 use Rattle.aig_bytes.proofs.WriteLemmas.{after-append}
 
 -- bytes that are put in at the end
@@ -36,6 +39,34 @@ put_in_firsts start end j k n m place one two front fits le more room =
     (put_first (end + n) k m (put_mid end j place one) two room more
     ∙ ap (λ (xs : List ℕ). xs ++ take m two) (put_first end j n place one fits le)
     ∙ append_assoc (take end place) (take n one) (take m two))
+
+pub sign_size : (is_negative : Bool) → bool_byte is_negative ≤ 1
+sign_size true = let one : bool_byte true ≡ 1 = refl in omega (arith, one)
+sign_size false = let none : bool_byte false ≡ 0 = refl in omega (arith, none)
+
+-- a minus at a place, which stays where what follows is put after it
+sign_before : (is_negative : Bool) (at n : ℕ) (place : List ℕ) → n ≡ bool_byte is_negative → at < length place
+    → take (at + n) (set place at 45) ≡ take at place ++ minus is_negative
+sign_before true at n place e fits =
+    let one : n ≡ 1 = e in take-set_at place at (at + n) 45 (omega (arith, one)) fits
+sign_before false at n place e fits =
+    let none : n ≡ 0 = e in
+    ap (λ (j : ℕ). take j (set place at 45)) (omega (arith, none)) ∙ take-set place at 45 ∙ sym (append-nil (take at place))
+
+-- a sign, the first of some digits after it, and a space
+pub put_term : (is_negative : Bool) (at n k count : ℕ) (place digits : List ℕ) → n ≡ bool_byte is_negative → at < length place
+    → at + n ≤ length (set place at 45) → count ≤ length digits → at + n + count < length (put_mid (at + n) k (set place at 45) digits)
+    → take (at + n + count + 1) (set (put_mid (at + n) k (set place at 45) digits) (at + n + count) 32)
+    ≡ take at place ++ term_text (is_negative, take count digits)
+put_term is_negative at n k count place digits e fits room le more =
+    let sign = minus is_negative in
+    let front = take at place in
+    take_more_set (put_mid (at + n) k (set place at 45) digits) (at + n + count) 32 more
+    ∙ ap (λ (xs : List ℕ). xs ++ 32 ∷ [])
+    (put_first (at + n) k count (set place at 45) digits room le
+    ∙ ap (λ (xs : List ℕ). xs ++ take count digits) (sign_before is_negative at n place e fits))
+    ∙ append_assoc (front ++ sign) (take count digits) (32 ∷ [])
+    ∙ append_assoc front sign (take count digits ++ 32 ∷ [])
 
 -- digits that were written up to a place, and a byte after them
 pub put_back : (start at last e : ℕ) (place place' ds : List ℕ) → at ≤ length place → last ≡ at + length ds

@@ -3,10 +3,12 @@ ghost use Rattle.std.specs.Prelude.{◌≡◌, ◌+◌, ◌^◌, ◌<◌, ◌≤
 ghost use Rattle.std.specs.Fmt.{decimal};
 ghost use Rattle.aig_bytes.specs.Bytes.{Writes};
 ghost use Rattle.aig_bytes.specs.Gathered.{Gathers};
+ghost use Rattle.aig_bytes.specs.Term.{term_text};
 
 use crate::bytes::Write;
 use crate::digits::{SHORT, write_long, write_short};
 use crate::fault::Io;
+use crate::term::Term;
 use crate::write::write_all;
 use std::marker::Model;
 
@@ -18,6 +20,11 @@ const LINE: usize = 27;
 
 /// How many bytes the longest symbol with an empty name takes.
 const SYMBOL: usize = 11;
+
+/// How many bytes the longest line of two or three terms takes.
+const PAIR: usize = 22;
+
+const TRIPLE: usize = 32;
 
 /// From how many bytes on a piece does not wait.
 const LARGE: usize = 4096;
@@ -150,6 +157,51 @@ impl<const ROOM: usize> ByteBlock<ROOM> {
         let after = write_short(&mut self.bytes, after, first, b' ');
         let after = write_short(&mut self.bytes, after, second, b' ');
         self.end = write_short(&mut self.bytes, after, third, b'\n');
+        true
+    }
+
+    /// Puts in a line of two terms and a 0 after those that wait, where there is room for the longest such line there,
+    /// and answers whether there was. Where there was none nothing changes.
+    #[inline(always)]
+    pub fn push_pair(&mut self, first: &Term, second: &Term) -> bool
+        ensures pushed { IsTrue result → self.new
+            ≡ self.old ++ (term_text first.now ++ (term_text second.now ++ 48 ∷ 10 ∷ [])) }
+        ensures full { result ≡ false → self.new ≡ self.old }
+        ensures some { self.old ≡ [] → 21 < ROOM → IsTrue result }
+    {
+        let after = self.end;
+        if ROOM - after < PAIR {
+            return false;
+        }
+        let middle = first.write(&mut self.bytes, after);
+        let at = second.write(&mut self.bytes, middle);
+        self.bytes[at] = b'0';
+        self.bytes[at + 1] = b'\n';
+        self.end = at + 2;
+        true
+    }
+
+    /// Puts in a line of three terms and a 0 after those that wait, where there is room for the longest such line there,
+    /// and answers whether there was. Where there was none nothing changes.
+    #[inline(always)]
+    pub fn push_triple(&mut self, first: &Term, second: &Term, third: &Term) -> bool
+        ensures pushed { IsTrue result → self.new
+            ≡ self.old ++ (term_text first.now
+            ++ (term_text second.now
+            ++ (term_text third.now ++ 48 ∷ 10 ∷ []))) }
+        ensures full { result ≡ false → self.new ≡ self.old }
+        ensures some { self.old ≡ [] → 31 < ROOM → IsTrue result }
+    {
+        let after = self.end;
+        if ROOM - after < TRIPLE {
+            return false;
+        }
+        let at = first.write(&mut self.bytes, after);
+        let at = second.write(&mut self.bytes, at);
+        let at = third.write(&mut self.bytes, at);
+        self.bytes[at] = b'0';
+        self.bytes[at + 1] = b'\n';
+        self.end = at + 2;
         true
     }
 

@@ -24,7 +24,7 @@ fn pairs(number: u32) -> u64
 /// The digits of a number below 10^8 with zeros before them, eight in all. They are found side by side in one word, as the pairs
 /// are: 103 / 2^10 is a little more than a tenth.
 #[inline(always)]
-fn eight_digits(number: u32) -> [u8; 8]
+pub(crate) fn eight_digits(number: u32) -> [u8; 8]
     requires { number < 10 ^ 8 }
     ensures { result ≡ last_digits 8 number }
 {
@@ -36,7 +36,7 @@ fn eight_digits(number: u32) -> [u8; 8]
 
 /// The power of ten that makes eight digits of a number below 10^8, and how many digits it has without that.
 #[inline(always)]
-fn scale(number: u32) -> (u32, usize)
+pub(crate) fn scale(number: u32) -> (u32, usize)
     requires { number < 10 ^ 8 }
     ensures small { number * result.0 < 10 ^ 8 }
     ensures most { result.1 ≤ 8 }

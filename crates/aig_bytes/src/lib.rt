@@ -9,6 +9,7 @@ mod digits;
 mod fault;
 mod memory_bytes;
 mod std_bytes;
+mod term;
 mod write;
 
 pub use block::{Block, ByteBlock};
@@ -18,4 +19,5 @@ pub use count::Count;
 pub use fault::{Io, Memory};
 pub use memory_bytes::{MemReader, MemWriter};
 pub use std_bytes::Std;
+pub use term::Term;
 pub use write::{write_all, write_number};

@@ -1,6 +1,9 @@
 //! The command line of the program `aig`: its subcommands, their arguments and help, over the parser `clap`.
 #![tactic(auto)]
 
+mod arguments;
 mod command_line;
+mod help;
+mod subcommands;
 
-pub use command_line::{has_flag, matches_of, number_of, subcommand_of, text_of};
+pub use command_line::{has_flag, matches_of, number_of, subcommand_of, text_of, texts_of};

@@ -1,2 +1,3 @@
 pub mod FormulaText
 pub mod SignLemmas
+pub mod TermLemmas

@@ -1,14 +1,17 @@
 //! Writing formulas (DIMACS).
-ghost use Rattle.std.specs.Prelude.{◌≡◌, ◌+◌, ◌*◌, ◌<◌, ◌≤◌, [], ◌∷◌, ◌++◌, codes, decimal, length, slice_index};
+ghost use Rattle.std.specs.Prelude.{◌≡◌, ◌+◌, ◌*◌, ◌^◌, ◌<◌, ◌≤◌, [], ◌∷◌, ◌++◌, All, codes, decimal, length};
+ghost use Rattle.std.specs.Prelude.{slice_index};
 ghost use Rattle.std.specs.List.{flat_map};
 ghost use Rattle.aig_bytes.specs.Bytes.{Writes};
 ghost use Rattle.aig_bytes.specs.Gathered.{Gathers};
+ghost use Rattle.aig_bytes.specs.Term.{term_text};
 ghost use Rattle.aig_cnf.specs.CnfText.{cnf_text, goal_line, goal_lines};
 ghost use Rattle.aig_cnf.specs.Dimacs.{clause_text, formula_text, gate_text, literal_text, problem_line, sign_text};
 ghost use Rattle.aig_cnf.specs.Formula.{bad_formula, goals};
+ghost use Rattle.aig_cnf.specs.state.Terms.{literal_term};
 ghost use Rattle.aig_unroll.specs.Answers.{IsUnrolled};
 
-use aig_base::{Block, Circuit, Gate, Io, Lit, Write, write_all};
+use aig_base::{Block, Circuit, Gate, Io, Lit, Term, Write, write_all};
 use aig_unroll::write_input_lines;
 
 // Puts a number and the byte that ends it.
@@ -51,17 +54,65 @@ fn put_clause<W: Write>(out: &mut W, block: &mut Block, literals: &[Lit]) -> Res
     block.put_all(out, b"0\n")
 }
 
-// Puts the three clauses of a gate.
+// A literal as a term: its variable, from 1, with its sign.
+#[inline(always)]
+fn term_of(literal: Lit) -> Term
+    requires { literal < 10 ^ 8 }
+    ensures { result ≡ literal_term literal }
+{
+    Term::new(literal.var() + 1, literal.is_neg())
+}
+
+// Puts the clause of two terms.
+#[inline(always)]
+fn put_pair<W: Write>(out: &mut W, block: &mut Block, first: &Term, second: &Term) -> Result<(), Io>
+    ensures { Gathers W.written W.failures out.old out.new block.old block.new
+        (term_text first.now ++ (term_text second.now ++ 48 ∷ 10 ∷ [])) result }
+{
+    if block.push_pair(first, second) {
+        return Ok(());
+    }
+    block.forward(out)?;
+    block.push_pair(first, second);
+    Ok(())
+}
+
+// Puts the clause of three terms.
+#[inline(always)]
+fn put_triple<W: Write>(
+    out: &mut W,
+    block: &mut Block,
+    first: &Term,
+    second: &Term,
+    third: &Term,
+) -> Result<(), Io>
+    ensures { Gathers W.written W.failures out.old out.new block.old block.new
+        (term_text first.now ++ (term_text second.now ++ (term_text third.now ++ 48 ∷ 10 ∷ []))) result }
+{
+    if block.push_triple(first, second, third) {
+        return Ok(());
+    }
+    block.forward(out)?;
+    block.push_triple(first, second, third);
+    Ok(())
+}
+
+// Puts the three clauses of a gate. The digits of each literal are found once.
 fn put_gate<W: Write>(out: &mut W, block: &mut Block, gate: Gate) -> Result<(), Io>
+    requires { (gate.lhs < 10 ^ 8) × (gate.rhs0 < 10 ^ 8) × (gate.rhs1 < 10 ^ 8) }
     ensures { Gathers W.written W.failures out.old out.new block.old block.new (gate_text gate) result }
 {
-    put_clause(out, block, &[gate.lhs.not(), gate.rhs0])?;
-    put_clause(out, block, &[gate.lhs.not(), gate.rhs1])?;
-    put_clause(out, block, &[gate.lhs, gate.rhs0.not(), gate.rhs1.not()])
+    let lhs = term_of(gate.lhs);
+    let rhs0 = term_of(gate.rhs0);
+    let rhs1 = term_of(gate.rhs1);
+    put_pair(out, block, &lhs.negated(), &rhs0)?;
+    put_pair(out, block, &lhs.negated(), &rhs1)?;
+    put_triple(out, block, &lhs, &rhs0.negated(), &rhs1.negated())
 }
 
 // Puts the clauses of all gates.
 fn put_gates<W: Write>(out: &mut W, block: &mut Block, gates: &[Gate]) -> Result<(), Io>
+    requires { All (λ g. (g.lhs < 10 ^ 8) × (g.rhs0 < 10 ^ 8) × (g.rhs1 < 10 ^ 8)) gates.now }
     ensures { Gathers W.written W.failures out.old out.new block.old block.new (flat_map gate_text gates.now) result }
 {
     for gate in gates {
@@ -153,6 +204,7 @@ fn put_formula<W: Write>(
     ensures { Gathers W.written W.failures out.old out.new block.old block.new
         (formula_text (circuit.now.max_var + 1) (bad_formula circuit.now bads frames property)) result }
 {
+    circuit.facts();
     let variables = circuit.max_var() + 1;
     put_problem(out, block, variables, clause_count(circuit))?;
     put_clause(out, block, &[Lit::new(1)])?;

@@ -1,14 +1,14 @@
 //! Texts of messages.
-use aig_base::{Fault, Io, Memory, WouldCycle};
+use aig_base::{Fault, Io, Memory, SelectFault, WouldCycle};
 use aig_bench::BenchFault;
 use aig_cnf::CnfFault;
 use aig_fault::{RunFault, ScriptFault};
-use aig_sim::{StimFault, WitnessFault};
+use aig_sim::{ReachFault, StimFault, WitnessFault};
 use aig_unroll::UnrollFault;
 use std::alloc::Global;
 use std::fmt::Display;
 
-static MESSAGES: [(RunFault, &str); 27] = [
+static MESSAGES: [(RunFault, &str); 33] = [
     (RunFault::Circuit(Fault::Cycle(2)), "circuit: cycle 2"),
     (RunFault::Circuit(Fault::Memory), "circuit: memory"),
     (
@@ -51,6 +51,12 @@ static MESSAGES: [(RunFault, &str); 27] = [
     (RunFault::Cnf(CnfFault::Property), "cnf: property"),
     (RunFault::Cnf(CnfFault::Limit), "cnf: limit"),
     (RunFault::Cnf(CnfFault::Memory), "cnf: memory"),
+    (RunFault::Select(SelectFault::Limit), "select: limit"),
+    (RunFault::Select(SelectFault::Property), "select: property"),
+    (RunFault::Select(SelectFault::Memory), "select: memory"),
+    (RunFault::Reach(ReachFault::Property), "witness: property"),
+    (RunFault::Reach(ReachFault::NoRun), "witness: no run"),
+    (RunFault::Reach(ReachFault::Memory), "witness: memory"),
 ];
 
 // Whether this is the text of a value.

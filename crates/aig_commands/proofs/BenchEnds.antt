@@ -240,6 +240,8 @@ refused_ends reader out circuit stimulus run_faults.Output h unread unwritten = 
 refused_ends reader out circuit stimulus run_faults.Memory h unread unwritten = absurd h
 refused_ends reader out circuit stimulus (run_faults.Unroll f) h unread unwritten = absurd h
 refused_ends reader out circuit stimulus (run_faults.Cnf f) h unread unwritten = absurd h
+refused_ends reader out circuit stimulus (run_faults.Select f) h unread unwritten = absurd h
+refused_ends reader out circuit stimulus (run_faults.Reach f) h unread unwritten = absurd h
 
 -- the script is not run to its end
 pub fault_ends : {Y X : Type 0} (reader : Flow Y) (out : Flow X) (circuit stimulus : List ℕ) (old : CircuitAndRows) (left : BenchState)

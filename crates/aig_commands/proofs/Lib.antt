@@ -8,4 +8,6 @@ pub mod KeptFiles
 pub mod Replays
 pub mod Runs
 pub mod ScriptParts
+pub mod Selections
 pub mod Unrollings
+pub mod WitnessTexts

@@ -12,7 +12,7 @@ use Rattle.aig_bench.specs.declared.bench_fault.BenchFault.{BenchFault}
 use Rattle.aig_bench.specs.declared.bench_fault.BenchFault.TheVariants as benches
 use Rattle.aig_bench.specs.BenchState.{CircuitAndRows}
 use Rattle.aig_fault.specs.declared.run_fault.RunFault.{RunFault}
-use Rattle.aig_fault.specs.declared.run_fault.RunFault.TheVariants.{Circuit, Stimulus, Witness, Bench, Script, Output, Memory, Unroll, Cnf}
+use Rattle.aig_fault.specs.declared.run_fault.RunFault.TheVariants.{Circuit, Stimulus, Witness, Bench, Script, Output, Memory, Unroll, Cnf, Select, Reach}
 use Rattle.aig_fault.specs.Command.{IsFileOf, RefusesCircuit}
 
 -- the files are this circuit and rows of its width, at most 65,536
@@ -49,6 +49,8 @@ RefusesFiles circuit stimulus Output = ⊥
 RefusesFiles circuit stimulus Memory = ⊥
 RefusesFiles circuit stimulus (Unroll fault) = ⊥
 RefusesFiles circuit stimulus (Cnf fault) = ⊥
+RefusesFiles circuit stimulus (Select fault) = ⊥
+RefusesFiles circuit stimulus (Reach fault) = ⊥
 
 -- ---- as they are kept (our own choice)
 

@@ -5,8 +5,10 @@ pub mod Cnf
 pub mod GoesWell
 pub mod Info
 pub mod Names
+pub mod Select
 pub mod Sim
 pub mod Toaig
 pub mod Unroll
 pub mod Wave
+pub mod Witness
 pub mod state

@@ -20,7 +20,11 @@ use aig_sim::{Grid, PlaneGrid, StimFault, Stimulus, read_stimulus, write_stimulu
 use std::alloc::Global;
 
 /// Reads a stimulus file for a circuit.
-fn read_rows(alloc: Global, circuit: &Circuit, file: &[u8]) -> Result<Stimulus, StimFault>
+pub(crate) fn read_rows(
+    alloc: Global,
+    circuit: &Circuit,
+    file: &[u8],
+) -> Result<Stimulus, StimFault>
     requires { IsCircuit circuit.now }
     ensures width { IfOk result (λ stimulus. stimulus.width ≡ length circuit.now.inputs) }
     ensures rows { IfOk result (λ stimulus. SpellsRows (length circuit.now.inputs) file.now stimulus.rows) }

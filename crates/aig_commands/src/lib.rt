@@ -6,10 +6,12 @@ pub mod check;
 pub mod cnf;
 mod entries;
 pub mod info;
+pub mod select;
 pub mod sim;
 pub mod toaig;
 pub mod unroll;
 pub mod wave;
+pub mod witness;
 
 pub use bench::{keep_circuit, keep_stimulus, law_of_kept_files, run_bench};
 pub use check::check_bytes;

@@ -30,7 +30,7 @@ fn write_ready<W: Write>(alloc: Global, circuit: &Circuit, out: &mut W) -> Resul
 
 /// Writes a circuit in a format: to text as it stands, to binary as it stands where it is ready for that, else
 /// renumbered.
-fn write_converted<W: Write>(
+pub(crate) fn write_converted<W: Write>(
     alloc: Global,
     circuit: &Circuit,
     to: Format,

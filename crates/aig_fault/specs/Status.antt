@@ -1,13 +1,15 @@
 -- The exit status of a refused run (our own choice).
 use Rattle.std.specs.Prelude.{ℕ}
 use Rattle.aig_parts.specs.declared.fault.Fault.TheVariants as circuits
+use Rattle.aig_sim.specs.declared.reach_fault.ReachFault.TheVariants as reaches
 use Rattle.aig_sim.specs.declared.stimulus_fault.StimFault.TheVariants as stimuli
 use Rattle.aig_sim.specs.declared.witness_fault.WitnessFault.TheVariants as witnesses
 use Rattle.aig_bench.specs.declared.bench_fault.BenchFault.TheVariants as benches
 use Rattle.aig_cnf.specs.declared.fault.CnfFault.TheVariants as formulas
 use Rattle.aig_unroll.specs.declared.fault.UnrollFault.TheVariants as unrollings
+use Rattle.aig_base.specs.declared.select.SelectFault.TheVariants as selections
 use Rattle.aig_fault.specs.declared.run_fault.RunFault.{RunFault}
-use Rattle.aig_fault.specs.declared.run_fault.RunFault.TheVariants.{Circuit, Stimulus, Witness, Bench, Script, Output, Memory, Unroll, Cnf}
+use Rattle.aig_fault.specs.declared.run_fault.RunFault.TheVariants.{Circuit, Stimulus, Witness, Bench, Script, Output, Memory, Unroll, Cnf, Select, Reach}
 
 -- 3 where memory ran out, or a read or a write failed; 1 for any other refusal
 abbrev pub status_of : RunFault → ℕ
@@ -28,3 +30,7 @@ status_of (Unroll unrollings.Memory) = 3
 status_of (Unroll _) = 1
 status_of (Cnf formulas.Memory) = 3
 status_of (Cnf _) = 1
+status_of (Select selections.Memory) = 3
+status_of (Select _) = 1
+status_of (Reach reaches.Memory) = 3
+status_of (Reach _) = 1

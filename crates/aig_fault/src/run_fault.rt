@@ -3,10 +3,10 @@ ghost use Rattle.std.specs.Prelude.{◌≡◌};
 ghost use Rattle.aig_fault.specs.Status.{status_of};
 
 use crate::script_fault::ScriptFault;
-use aig_base::{Fault, Memory};
+use aig_base::{Fault, Memory, SelectFault};
 use aig_bench::BenchFault;
 use aig_cnf::CnfFault;
-use aig_sim::{StimFault, WitnessFault};
+use aig_sim::{ReachFault, StimFault, WitnessFault};
 use aig_unroll::UnrollFault;
 use thiserror::Error;
 
@@ -33,6 +33,10 @@ pub enum RunFault {
     Unroll(UnrollFault),
     #[error("cnf: {0}")]
     Cnf(CnfFault),
+    #[error("select: {0}")]
+    Select(SelectFault),
+    #[error("witness: {0}")]
+    Reach(ReachFault),
 }
 
 impl RunFault {
@@ -48,12 +52,16 @@ impl RunFault {
             RunFault::Script(_) | RunFault::Output | RunFault::Memory => 3,
             RunFault::Unroll(UnrollFault::Memory) => 3,
             RunFault::Cnf(CnfFault::Memory) => 3,
+            RunFault::Select(SelectFault::Memory) => 3,
+            RunFault::Reach(ReachFault::Memory) => 3,
             RunFault::Circuit(_)
             | RunFault::Stimulus(_)
             | RunFault::Witness(_)
             | RunFault::Bench(_)
             | RunFault::Unroll(_)
-            | RunFault::Cnf(_) => 1,
+            | RunFault::Cnf(_)
+            | RunFault::Select(_)
+            | RunFault::Reach(_) => 1,
         }
     }
 }
@@ -143,5 +151,27 @@ impl From<CnfFault> for RunFault {
 
     fn from(fault: CnfFault) -> RunFault {
         RunFault::Cnf(fault)
+    }
+}
+
+impl From<SelectFault> for RunFault {
+    ghost use Rattle.std.specs.Prelude.{◌≡◌};
+    ghost use Rattle.aig_fault.specs.declared.run_fault.RunFault.TheVariants as run_faults;
+
+    ghost from_gives = { λ fault part. part ≡ run_faults.Select fault };
+
+    fn from(fault: SelectFault) -> RunFault {
+        RunFault::Select(fault)
+    }
+}
+
+impl From<ReachFault> for RunFault {
+    ghost use Rattle.std.specs.Prelude.{◌≡◌};
+    ghost use Rattle.aig_fault.specs.declared.run_fault.RunFault.TheVariants as run_faults;
+
+    ghost from_gives = { λ fault part. part ≡ run_faults.Reach fault };
+
+    fn from(fault: ReachFault) -> RunFault {
+        RunFault::Reach(fault)
     }
 }

@@ -21,20 +21,12 @@ use Rattle.aig_parts.specs.Literal.{variable}
 use Rattle.aig_base.specs.Renumbered.{IsBinaryReady}
 use Rattle.aig_base.specs.Sections.{definitions, uses}
 use Rattle.aig_base.specs.Sound.{IsInRange, IsDefinition, IsReset, StandsTwice}
-use Rattle.aig_base.proofs.lists.Joined.{All-left, All-right, All-unmap}
+use Rattle.aig_base.proofs.lists.Joined.{All-left, All-right, All-unmap, All-unflat}
 use Rattle.aig_format.specs.Spelling.{no_zeros, short_ascii, short_binary}
 use Rattle.aig_format.specs.Spells.{greatest, AreSmall, HasSmallNumbers, HasSpelling, SpellsAscii}
 use Rattle.aig_format.specs.Spells.{SpellsBinary}
 
 -- ---- numbers
-
-module _ {X : Type 0} (P : X → Type 0) where
-  all_unflat : {Y : Type 0} (f : Y → List X) (ys : List Y) → All P (flat_map f ys) → All (λ y. All P (f y)) ys
-  all_unflat f [] h = All-nil (λ y. All P (f y))
-  all_unflat f (y ∷ ys) h =
-      let both = subst (All P) (flat_map-cons f y ys) h in
-      All-cons (λ y. All P (f y)) y ys (All-left P (f y) (flat_map f ys) both)
-      (all_unflat f ys (All-right P (f y) (flat_map f ys) both))
 
 small_reset : (x : Latch) → IsReset x → x.lit ≤ greatest → x.reset ≤ greatest
 small_reset x (inl e) le = omega (arith, e)
@@ -69,7 +61,7 @@ small_numbers raw c =
     let lhs : All (λ g. g.lhs ≤ greatest) raw.gates =
     All-unmap is_small (λ g. g.lhs) raw.gates (All-right is_small (raw.inputs ++ lits) lhss defs) in
     let rhs : All (λ g. AreSmall (g.rhs0 ∷ g.rhs1 ∷ [])) raw.gates =
-    all_unflat is_small (λ g. g.rhs0 ∷ g.rhs1 ∷ []) raw.gates
+    All-unflat is_small (λ g. g.rhs0 ∷ g.rhs1 ∷ []) raw.gates
     (All-right is_small (nexts ++ raw.outputs ++ raw.bad ++ raw.constraints ++ js ++ raw.fairness) sides used) in
     record {
       inputs = All-left is_small raw.inputs lits d1;
@@ -80,18 +72,11 @@ small_numbers raw c =
       bad = All-right is_small (nexts ++ raw.outputs) raw.bad u4;
       constraints = All-right is_small (nexts ++ raw.outputs ++ raw.bad) raw.constraints u3;
       justice =
-          all_unflat is_small (λ p. p) raw.justice
+          All-unflat is_small (λ p. p) raw.justice
           (All-right is_small (nexts ++ raw.outputs ++ raw.bad ++ raw.constraints) js u2);
       fairness = All-right is_small (nexts ++ raw.outputs ++ raw.bad ++ raw.constraints ++ js) raw.fairness u1;
       gates = λ k d lt. (lhs k d lt, rhs k d lt 0 0 (omega arith), rhs k d lt 1 0 (omega arith));
     }
-
--- the sides of each gate have eight digits at most
-pub short_gates : (raw : Raw) → IsCircuit raw
-    → All (λ g. (g.lhs < 10 ^ 8) × (g.rhs0 < 10 ^ 8) × (g.rhs1 < 10 ^ 8)) raw.gates
-short_gates raw c k d lt =
-    let small = (small_numbers raw c).gates k d lt in
-    (omega (arith, small.0), omega (arith, small.1), omega (arith, small.2))
 
 -- ---- room
 

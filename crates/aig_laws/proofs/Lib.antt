@@ -7,6 +7,7 @@ pub mod Examples
 pub mod Premises
 pub mod Reached
 pub mod RowValues
+pub mod SelectedVerdicts
 pub mod Tseitin
 pub mod UnrolledRows
 pub mod UnrolledWitnesses

@@ -21,7 +21,8 @@ use Rattle.aig_sim.specs.WitnessText.{Witness}
 use Rattle.aig_sim.proofs.VerdictLemmas.{bad_defined, constraint_defined, reached}
 use Rattle.aig_unroll.specs.UnrolledValues.{IsAllowed, ReachesBad}
 use Rattle.aig_values.proofs.TraceLemmas.{value_stays}
-use Rattle.aig_laws.specs.UnrolledWitness.{witness_at, ConfirmsReached}
+use Rattle.aig_sim.specs.Reached.{witness_at}
+use Rattle.aig_laws.specs.UnrolledWitness.{ConfirmsReached}
 
 -- ---- values that a reset allows
 

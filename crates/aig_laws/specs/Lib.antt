@@ -1,3 +1,4 @@
 pub mod Conversion
 pub mod Models
+pub mod Selection
 pub mod UnrolledWitness

@@ -11,6 +11,7 @@ use Rattle.aig_sim.specs.declared.verdict.Verdict.{Verdict}
 use Rattle.aig_sim.specs.declared.verdict.Verdict.TheVariants as verdict
 use Rattle.aig_sim.specs.declared.witness_fault.WitnessFault.{WitnessFault}
 use Rattle.aig_sim.specs.declared.witness_fault.WitnessFault.TheVariants as fault
+use Rattle.aig_sim.specs.Reached.{witness_at}
 use Rattle.aig_sim.specs.Verdict.{IsVerdict}
 use Rattle.aig_sim.specs.WitnessText.{Witness, IsDecimal, SpellsWitness, HasWitnessFault, witness_text}
 use Rattle.aig_unroll.specs.FrameLiteral.{input_count, is_uninitialised}
@@ -50,11 +51,7 @@ pub record IsRun (raw : Raw) (k : ℕ) (start : List Tern) (rows : List (List Te
   pub fits : Fits raw start rows
   pub allowed : IsAllowed raw start
 
--- the witness that a run reaches property p at frame t: its frames up to that one
-abbrev pub witness_at : List Tern → List (List Tern) → ℕ → ℕ → Witness
-witness_at start rows t p = record { property = p; start = start; rows = take (t + 1) rows }
-
--- the same of the run that is in a row
+-- the witness that the run which is in a row reaches property p at frame t
 abbrev pub witness_in : Raw → ℕ → ℕ → ℕ → List Tern → Witness
 witness_in raw k t p row = witness_at (start_in raw k row) (rows_in raw k row) t p
 

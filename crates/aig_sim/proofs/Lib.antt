@@ -7,9 +7,11 @@ pub mod DumpRuns
 pub mod DumpedLemmas
 pub mod LineLemmas
 pub mod OneText
+pub mod ReachedLemmas
 pub mod ReplayLemmas
 pub mod RunTexts
 pub mod SimulationLemmas
 pub mod StepLemmas
 pub mod VerdictLemmas
 pub mod WitnessLemmas
+pub mod WrittenWitness

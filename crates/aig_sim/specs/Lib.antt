@@ -2,6 +2,7 @@ pub mod Dump
 pub mod DumpHeader
 pub mod DumpRead
 pub mod Dumped
+pub mod Reached
 pub mod Replayed
 pub mod RowParser
 pub mod Simulated

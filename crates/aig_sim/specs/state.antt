@@ -2,5 +2,6 @@
 pub mod Checking
 pub mod Dumping
 pub mod Machine
+pub mod Reaching
 pub mod Replaying
 pub mod Running

@@ -7,6 +7,8 @@ mod dump_text;
 mod dumping;
 mod frame_cells;
 mod machine;
+mod reach_fault;
+mod reached;
 mod recorder;
 mod replay;
 mod replay_fault;
@@ -21,12 +23,16 @@ mod witness;
 mod witness_fault;
 mod witness_reader;
 mod witness_text;
+mod witness_writer;
 
 pub use aig_dump_header::law_of_dump_header;
 pub use aig_values::{
     ByteGrid, FRAMES, Grid, PlaneGrid, Stimulus, first_value, stand_in_order, write_trace,
 };
 pub use dumping::dump;
+pub use machine::first_states;
+pub use reach_fault::ReachFault;
+pub use reached::{Reached, first_reached};
 pub use replay::{dump_witness, trace_witness};
 pub use replay_fault::ReplayFault;
 pub use row_parser::{RowParser, Shape};
@@ -39,3 +45,4 @@ pub use verdict::Verdict;
 pub use witness::check_witness;
 pub use witness_fault::WitnessFault;
 pub use witness_reader::{Witness, read_witness};
+pub use witness_writer::write_witness;

@@ -1,5 +1,5 @@
 //! Writing the text of a stimulus.
-ghost use Rattle.std.specs.Prelude.{◌≡◌, length, map, flat_map};
+ghost use Rattle.std.specs.Prelude.{◌≡◌, ◌≤◌, length, map, take, flat_map};
 ghost use Rattle.aig_bytes.specs.Bytes.{Writes};
 ghost use Rattle.aig_bytes.specs.Gathered.{Gathers};
 ghost use Rattle.aig_values.specs.Characters.{character};
@@ -23,8 +23,8 @@ fn spell_values(text: &mut [u8], values: &[Tern])
     }
 }
 
-// Puts the line of a row.
-fn put_row<W: Write>(out: &mut W, block: &mut TraceBlock, row: &[Tern]) -> Result<(), Io>
+/// Puts the line of a row.
+pub fn put_row<W: Write>(out: &mut W, block: &mut TraceBlock, row: &[Tern]) -> Result<(), Io>
     ensures { Gathers W.written W.failures out.old out.new block.old block.new (row_line row.now) result }
 {
     let mut piece = [0u8; PIECE];
@@ -38,12 +38,18 @@ fn put_row<W: Write>(out: &mut W, block: &mut TraceBlock, row: &[Tern]) -> Resul
     block.put(out, b'\n')
 }
 
-// Puts the lines of all rows.
-fn put_rows<W: Write>(out: &mut W, block: &mut TraceBlock, stimulus: &Stimulus) -> Result<(), Io>
+/// Puts the lines of the first rows, as many as `frames` says.
+pub fn put_rows<W: Write>(
+    out: &mut W,
+    block: &mut TraceBlock,
+    stimulus: &Stimulus,
+    frames: u32,
+) -> Result<(), Io>
+    requires { frames ≤ length stimulus.now.rows }
     ensures { Gathers W.written W.failures out.old out.new block.old block.new
-        (flat_map row_line stimulus.now.rows) result }
+        (flat_map row_line (take frames stimulus.now.rows)) result }
 {
-    for frame in 0..stimulus.frames() {
+    for frame in 0..frames {
         put_row(out, block, stimulus.row(frame))?;
     }
     Ok(())
@@ -59,6 +65,6 @@ pub fn write_stimulus<W: Write>(out: &mut W, stimulus: &Stimulus) -> Result<(), 
     // Its contract says that the rows have the width.
     stimulus.width();
     let mut block = TraceBlock::new();
-    put_rows(out, &mut block, stimulus)?;
+    put_rows(out, &mut block, stimulus, stimulus.frames())?;
     block.forward(out)
 }

@@ -51,8 +51,8 @@ fn is_allowed(latch: Latch, value: Tern) -> bool
     }
 }
 
-// The position of the first latch that stands at a value which its reset does not allow.
-fn wrong_start(machine: &Machine<'_>) -> Option<u32>
+/// The position of the first latch that stands at a value which its reset does not allow.
+pub fn wrong_start(machine: &Machine<'_>) -> Option<u32>
     ensures some { IfSome result (StartsWrong machine.now.circuit machine.now.states) }
     ensures least { IfSome result (λ p. (q : ℕ) → q < p → StartsWrong machine.now.circuit machine.now.states q → ⊥) }
     ensures none { IfNone result ((q : ℕ) → StartsWrong machine.now.circuit machine.now.states q → ⊥) }
@@ -72,8 +72,8 @@ fn is_one(value: Tern) -> bool
     matches!(value, Tern::One)
 }
 
-// The position of the first constraint that is not 1.
-fn first_failure(machine: &Machine<'_>) -> Option<u32>
+/// The position of the first constraint that is not 1.
+pub fn first_failure(machine: &Machine<'_>) -> Option<u32>
     ensures some { IfSome result (ReadsNotOne machine.now.cells machine.now.circuit.constraints) }
     ensures least { IfSome result (λ p. (q : ℕ) → q < p →
         ReadsNotOne machine.now.cells machine.now.circuit.constraints q → ⊥) }
@@ -87,8 +87,8 @@ fn first_failure(machine: &Machine<'_>) -> Option<u32>
     None
 }
 
-// Whether the property at this position is 1.
-fn is_bad(machine: &Machine<'_>, property: u32) -> bool
+/// Whether the property at this position is 1.
+pub fn is_bad(machine: &Machine<'_>, property: u32) -> bool
     requires { property < length machine.now.circuit.bad }
     ensures yes { IsTrue result → ReadsNotOne machine.now.cells machine.now.circuit.bad property → ⊥ }
     ensures no { result ≡ false → ReadsNotOne machine.now.cells machine.now.circuit.bad property }

@@ -29,7 +29,7 @@ use Rattle.aig_parts.proofs.SymbolKeys.{equivalence_from_same}
 eqb-false : (a b : ℕ) → (a ≡ b → ⊥) → eqb a b ≡ false
 eqb-false a b h = grind (arith, nat_tests)
 
-distinct : (xs : List ℕ) → ((x : ℕ) → StandsTwice xs x → ⊥) → IsDistinct eqb xs
+pub distinct : (xs : List ℕ) → ((x : ℕ) → StandsTwice xs x → ⊥) → IsDistinct eqb xs
 distinct xs never = IsDistinct-from_apart eqb xs (λ i j d lt below.
     eqb-false (get_or xs i d) (get_or xs j d) (λ e.
     never (get_or xs j d) (i, j, lt, slice_get-get_or xs i d (omega arith) ∙ ap Some e, slice_get-get_or xs j d below)))

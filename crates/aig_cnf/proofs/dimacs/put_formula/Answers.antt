@@ -2,6 +2,7 @@ use Rattle.std.proofs.Common.{◌+◌, ◌∷◌, [], ap, ap₂}
 use Rattle.std.specs.List.{flat_map}
 use Rattle.aig_bytes.proofs.GatherLemmas.{gathers_then, gathers_stop, gathers_failed, gathers_same}
 use Rattle.aig_cnf.specs.Dimacs.{clause_text, gate_text, problem_line}
+use Rattle.aig_base.proofs.circuits.ShortGates.{short_gates}
 use Rattle.aig_cnf.proofs.FormulaText.{formula_parts}
 use Rattle.aig_cnf.proofs.dimacs.put_formula.Goals as goal
 
@@ -38,3 +39,6 @@ returns-in_err-put_goal_clause g c =
     gathers_same (gathers_then problem (gathers_then (gathers_same c.in_ok-put_clause.ensures
     (ap (λ l. clause_text (l ∷ [])) c.new.ensures)) (gathers_stop _ h (gathers_failed c.in_err-put_goal_clause.ensures h))))
     (formula_parts c.args.circuit.now _ c.args.bads c.args.frames c.args.property)
+
+pub put_gates-requires : goal.put_gates-requires
+put_gates-requires g c = rw c.gates.ensures (short_gates c.args.circuit.now c.facts.ensures)

@@ -7,7 +7,7 @@ use Rattle.aig_format.specs.Spelling.{literal_line, latch_line, gate_line}
 use Rattle.aig_format.proofs.Written.{plain_lines}
 use Rattle.aig_bytes.proofs.GatherLemmas.{gathers_then, gathers_stop, gathers_failed, gathers_same}
 use Rattle.aig_format.specs.Spelling.{ascii}
-use Rattle.aig_format.proofs.RoundTrip.{short_gates}
+use Rattle.aig_base.proofs.circuits.ShortGates.{short_gates}
 use Rattle.aig_format.proofs.ascii_writer.put_ascii.Goals as goal
 
 pub returns-in_err-put_header : goal.returns-in_err-put_header

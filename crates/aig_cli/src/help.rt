@@ -1,0 +1,192 @@
+//! The texts that follow the options in the help of each command, and in that of the program.
+
+pub static TOAIG: &str =
+    "The aig format numbers its variables in a fixed order. If the circuit does not
+have this order, toaig renumbers the variables; names and comment stay.
+
+Example: aig toaig --to aig examples/two_gates.aag > two_gates.aig
+See also: man aig, man 5 aig-formats";
+
+pub static SIM: &str =
+    "A line has four fields, with one space between them: the state, the inputs, the
+outputs and the next state.
+
+Example: aig sim examples/counter.aag examples/counter.stim
+See also: man aig, man 5 aig-formats";
+
+pub static WAVE: &str =
+    "Waveform viewers such as GTKWave and Surfer read the dump (IEEE 1364). It shows
+inputs, latches, outputs, bad state properties and constraints by name. An entry
+without a name appears as a letter and a position, such as i0 or l3. Frame T is
+time T.
+
+With --witness, STIM is the file of a witness. The dump then shows the run from
+the latch values of the witness, and prints no verdict.
+
+Example: aig wave examples/counter.aag examples/counter.stim > counter.vcd
+Example: aig wave --witness examples/wraps.aag examples/wraps.wit > wraps.vcd
+See also: man aig, man 5 aig-formats";
+
+pub static BENCH: &str =
+    "Each line of the script is one command. Frames, inputs and outputs count from 0,
+values are 0, 1 or x:
+  w G R0 R1  set the right sides of the gate of literal G to R0 and R1
+  r L V      set the initial value of the latch of literal L to V (x: any value)
+  s T P V    set input P of frame T to V
+  + BITS     append a frame, with one value per input
+  -          remove the last frame
+  g R0 R1    append a gate with the right sides R0 and R1, variable M + 1
+  o P L      set output P to literal L
+  v T L      print the value of literal L at frame T
+  t          print the trace of all frames, then a line with a dot
+  u          print the circuit, unrolled for all frames, then a line with a dot
+A literal is twice its variable, plus one if it is negated.
+
+The reply to an edit is ok. If a command is not possible, the reply is no and a
+number:
+  1   not the literal of a gate
+  2   not the literal of a latch
+  3   literal out of range
+  4   undefined variable
+  5   the gates would form a cycle
+  6   no such frame
+  7   no such input
+  8   not one value per input
+  9   no frame to remove or to unroll
+  10  over a limit
+  11  out of memory
+  12  justice properties or fairness constraints, which unroll does not support
+  13  no such output
+The reply to any other line is bad.
+
+bench writes each FILE after the end of the script, whatever the replies were.
+FILE may be CIRCUIT, STIM or SCRIPT. bench writes the text to FILE.new, which
+must not exist, and then renames it to FILE. It writes to a device or a pipe
+directly.
+
+Example: aig bench examples/fifo.aag examples/fifo.stim examples/fifo.script
+See also: man aig, man 5 aig-formats";
+
+pub static UNROLL: &str =
+    "The unrolled circuit has no latches. Its inputs are the inputs of frame 0, frame
+1 and so on, then one input for each uninitialised latch. Its outputs, bad state
+properties and constraints are those of frame 0, frame 1 and so on. If a circuit
+has both bad state properties and constraints, the unrolled circuit has no
+constraints: each of its bad state properties is 1 only if all constraints are 1
+at all frames up to its own.
+
+With --map, FILE has one line per input of the unrolled circuit. N is the
+position of the input, and all numbers count from 0:
+  i N T P NAME  the input is input P at frame T
+  l N P NAME    the input is the initial value of latch P
+NAME is the symbol, if there is one. unroll writes FILE after the circuit, in
+the same way as bench writes its files.
+
+Example: aig unroll --frames 3 --to aag examples/counter.aag
+See also: man aig, man 5 aig-formats";
+
+pub static CHECK: &str =
+    "The verdict is the first of these that applies. Latches, frames and constraints
+count from 0:
+  initial P       the reset of latch P does not allow its value in the witness
+  constraint T P  constraint P is not 1 at frame T
+  not bad         the bad state property is not 1 at the last frame
+  confirmed       the run reaches the bad state, whatever value each x takes
+The exit status is 0 for confirmed, and 1 for any other verdict.
+
+With --trace, check prints the run before the verdict, one line per frame as sim
+does, whatever the verdict is.
+
+A witness has the line 1, a line b with a position (such as b0), a line with the
+latch values, a line with the input values for each frame, and a last line with
+a dot.
+
+Example: aig check examples/wraps.aag examples/wraps.wit
+See also: man aig, man 5 aig-formats";
+
+pub static CNF: &str =
+    "An assignment that satisfies the formula is a run in which property P is 1 at
+one of the frames 0 to K - 1, and all constraints are 1 at the frames up to it.
+If there is no such run, no assignment satisfies it. cnf ignores justice
+properties and fairness constraints.
+
+Comment lines say what the variables are. Positions and frames count from 0:
+  c i V T P NAME  variable V is input P at frame T
+  c l V P NAME    variable V is the initial value of latch P (uninitialised)
+  c b L T         literal L says that frame T is such a frame
+NAME is the symbol, if there is one. Variable 1 is false.
+
+Example: aig cnf --frames 20 examples/wraps.aag > wraps.cnf
+See also: man aig, man 5 aig-formats";
+
+pub static INFO: &str = "A line has a name, one space and a value. The names, in this order:
+  format         format of the file, aag or aig
+  variables      maximum variable index (M)
+  inputs, latches, outputs, gates, bad
+                 number of entries of each kind
+  constant       number of bad state properties that are the literal 0 (never
+                 true) or 1 (always true)
+  constraints, justice, fairness
+                 number of entries of each kind
+  uninitialised  number of latches that start at any value
+  resets         number of latches that start at 1
+  levels         greatest level: inputs and latches have level 0, and a gate is
+                 one level above the higher of its right sides
+  fanout         largest fan-out of any variable
+  symbols        number of entries with a name
+  comment        length of the comment in bytes
+  ready          yes if the aig format can hold the circuit as it is, else no
+
+With --names, info prints one line per entry instead, in the order of the file:
+inputs, latches, outputs, bad state properties, constraints, justice properties
+and fairness constraints. A line is LETTER POSITION LITERAL NAME:
+  LETTER    i, l, o, b, c, j or f, as in the symbols of a circuit
+  POSITION  position in its section, counted from 0
+  LITERAL   the literal; - for a justice property, which has several
+  NAME      the symbol; nothing if there is none, after the space
+
+Example: aig info examples/counter.aag
+Example: aig info --names examples/fifo.aag
+See also: man aig, man 5 aig-formats";
+
+pub static SELECT: &str =
+    "select keeps the properties that --property names, in this order, and drops all
+others. A SECTION is bad (the bad state properties) or outputs: the properties
+are those of --from, and become those of --as. The other of the two sections,
+the justice properties and the fairness constraints are empty then.
+
+Inputs, latches, constraints and gates stay, and so do the comment and the names
+of what is kept. A property that is named twice is written twice. With --to aig,
+select renumbers as toaig does.
+
+Model checkers for AIGER 1.0 check outputs, newer ones check bad state
+properties: --from outputs makes properties of outputs, and --as outputs makes
+outputs of properties.
+
+Example: aig select --to aag --property 0 examples/wraps.aag
+Example: aig select --to aag --from outputs --property 4 examples/counter.aag
+See also: man aig, man 5 aig-formats";
+
+pub static ALL: &str = "Environment:
+  AIG_EXPLAIN  if it is 1, every command has the option --explain
+
+Exit status:
+  0  done
+  1  the input was rejected, or the verdict is not confirmed
+  2  wrong arguments, or a request for help or for the version
+  3  out of memory, or an input or output error
+
+Example: aig sim examples/counter.aag examples/counter.stim
+See also: man aig, man 5 aig-formats";
+
+pub static WITNESS: &str =
+    "witness runs the circuit over the stimulus, from its resets, up to the first
+frame at which a bad state property is 1 and all constraints were 1 so far. It
+writes the witness of this run: the latch values at the start, x for those
+without a reset, and the input values up to this frame. If the frame reaches
+several properties, the witness is that of the first. check confirms it.
+
+If no frame reaches a property, witness writes nothing and fails: no run.
+
+Example: aig witness examples/wraps.aag examples/wraps.stim > wraps.wit
+See also: man aig, man 5 aig-formats";

@@ -1,0 +1,20 @@
+use Rattle.aig_bytes.specs.Flow.{flow}
+use Rattle.aig_commands.specs.Select.{Selects}
+use Rattle.aig_commands.proofs.select.read_and_select.Goals as goal
+use Rattle.aig_fault.proofs.Files.{ends_of_reader, reader_refused}
+use Rattle.aig_fault.specs.declared.run_fault.RunFault.TheVariants as run_faults
+
+pub returns-in-Ok : goal.returns-in-Ok
+returns-in-Ok g c =
+    let h = c.in-Ok.ensures in
+    ends_of_reader (flow g.R.Read.left g.R.Read.failures c.args.circuit.now c.read_from.new.reader)
+    (flow g.W.Write.written g.W.Write.failures c.args.out.now c.write_selected.new.out) run_faults.Output
+    (Selects c.args.from c.args.into c.args.named.now c.args.to) c.in-Ok.circuit (λ fault bytes h. h.1)
+    h.answers h.circuit h.io c.write_selected.result c.write_selected.ensures
+
+pub returns-in-Err : goal.returns-in-Err
+returns-in-Err g c =
+    let h = c.in-Err.ensures in
+    reader_refused (flow g.R.Read.left g.R.Read.failures c.args.circuit.now c.read_from.new.reader)
+    g.W.Write.written g.W.Write.failures c.args.out.now run_faults.Output
+    (Selects c.args.from c.args.into c.args.named.now c.args.to) c.in-Err.fault h.answers h.io
