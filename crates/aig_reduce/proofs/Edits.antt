@@ -1,5 +1,5 @@
 -- Edits that no fault forbids.
-use Rattle.std.proofs.Common.{◌≡◌, ◌⊎◌, inl, inr, ℕ, ◌<◌, length, Result, Ok, Err, arith}
+use Rattle.std.proofs.Common.{◌≡◌, inl, inr, ℕ, ◌<◌, length, Result, Ok, Err, arith}
 use Rattle.aig_parts.specs.declared.ternary.Tern.{Tern}
 use Rattle.aig_base.specs.Sections.{IsLatchLiteral}
 use Rattle.aig_bench.specs.declared.edit.EditFault.{EditFault}

@@ -1,10 +1,8 @@
 -- When the run of a witness is confirmed, by its values.
-use Rattle.std.proofs.Common.{◌≡◌, ◌≢◌, ◌⊎◌, inl, inr, ℕ, zero, suc, ◌-◌, ◌<◌, ◌≤◌, List, [], ◌∷◌, length, get_or, Some, slice_get, refl, sym, ap, ◌∙◌, subst, arith}
+use Rattle.std.proofs.Common.{◌≡◌, ◌≢◌, ◌⊎◌, inl, inr, ℕ, zero, suc, ◌-◌, ◌<◌, List, [], ◌∷◌, length, Some, slice_get, refl, sym, ap, ◌∙◌, subst, arith}
 use Rattle.std.specs.List.{AllZip}
-use Rattle.std.proofs.lemmas.Option.{same_Some, slice_get-get_or, slice_get_within}
 use Rattle.aig_parts.specs.declared.ternary.Tern.{Tern}
 use Rattle.aig_parts.specs.declared.ternary.Tern.TheVariants.{Zero, One, X}
-use Rattle.aig_parts.specs.declared.latch.Latch.{Latch}
 use Rattle.aig_parts.specs.declared.raw.Raw.{Raw}
 use Rattle.aig_parts.specs.Literal.{variable}
 use Rattle.aig_base.specs.Circuit.{IsCircuit}
@@ -16,9 +14,8 @@ use Rattle.aig_sim.specs.declared.verdict.Verdict.TheVariants as verdict
 use Rattle.aig_sim.specs.Verdict.{Allows, StartsWrong, IsNotOne, IsVerdict}
 use Rattle.aig_sim.specs.WitnessText.{Witness}
 use Rattle.aig_sim.proofs.VerdictLemmas.{bad_defined, constraint_defined, reached}
-use Rattle.aig_sim.proofs.WitnessLemmas.{no_rows}
 use Rattle.aig_values.specs.InputRows.{HaveWidth}
-use Rattle.aig_reduce.specs.Irreducible.{IsConfirmedWitness, IsSameOrX}
+use Rattle.aig_reduce.specs.Irreducible.{IsSameOrX}
 use Rattle.aig_reduce.proofs.CoveredValues.{one_stays}
 
 -- a run from an allowed start under which all constraints are 1, and at the last frame the property

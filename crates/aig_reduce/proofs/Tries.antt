@@ -1,5 +1,5 @@
 -- A value is tried: the bench looks at the run from the frame that the edit changes.
-use Rattle.std.proofs.Common.{◌≡◌, ◌≢◌, ◌⊎◌, inl, inr, ℕ, zero, suc, ◌-◌, ◌<◌, ◌≤◌, List, [], ◌∷◌, length, map, get_or, Some, slice_get, slice_set, refl, sym, ap, ◌∙◌, subst, arith}
+use Rattle.std.proofs.Common.{◌≡◌, inl, inr, ℕ, zero, suc, ◌<◌, ◌≤◌, List, [], ◌∷◌, length, map, Some, slice_get, slice_set, refl, sym, ap, ◌∙◌, subst, arith}
 use Rattle.std.proofs.lemmas.Bool.{cases_eq, cases_lt}
 use Rattle.std.proofs.lemmas.List.{length-map, length-set}
 use Rattle.std.proofs.lemmas.Option.{same_Some}
@@ -24,7 +24,7 @@ use Rattle.aig_bench.proofs.cells.Earlier.{value_before}
 use Rattle.aig_bench.proofs.edits.Named.{latch_at_named}
 use Rattle.aig_reduce.specs.Irreducible.{IsConfirmedWitness}
 use Rattle.aig_reduce.specs.Reduction.{values_of, witness_of, with_x_between, IsKept, IsReduced}
-use Rattle.aig_reduce.specs.state.Looks.{AreOne, IsBad, ReachesFrom}
+use Rattle.aig_reduce.specs.state.Looks.{ReachesFrom}
 use Rattle.aig_reduce.specs.state.Places.{AreTried}
 use Rattle.aig_reduce.specs.state.Reducing.{IsSameLatch, HasOtherResets, RunsWitness, Confirms, Reducing, TriesPlace}
 use Rattle.aig_reduce.proofs.Irreducibles.{run_of, run_shaped}

@@ -1,8 +1,7 @@
 -- What a reduction answers (our own choice).
-use Rattle.std.specs.Prelude.{◌≡◌, ◌≢◌, ℕ, ◌+◌, ◌*◌, ◌<◌, ◌≤◌, List, length}
+use Rattle.std.specs.Prelude.{◌≢◌, ℕ, ◌+◌, ◌*◌, ◌<◌, ◌≤◌, List, length}
 use Rattle.aig_parts.specs.Limits.{cell_limit}
 use Rattle.aig_parts.specs.declared.raw.Raw.{Raw}
-use Rattle.aig_sim.specs.declared.verdict.Verdict.{Verdict}
 use Rattle.aig_sim.specs.declared.verdict.Verdict.TheVariants as verdict
 use Rattle.aig_sim.specs.Verdict.{IsVerdict}
 use Rattle.aig_sim.specs.WitnessText.{Witness, SpellsWitness, IsAdmitted, HasWitnessFault}

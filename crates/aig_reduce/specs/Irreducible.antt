@@ -1,5 +1,5 @@
 -- What is known of a reduced witness: no more of its values can be x (our own choice).
-use Rattle.std.specs.Prelude.{◌≡◌, ◌≢◌, ◌⊎◌, ℕ, ◌<◌, List, [], length}
+use Rattle.std.specs.Prelude.{◌≡◌, ◌≢◌, ◌⊎◌, ◌<◌, [], length}
 use Rattle.std.specs.List.{AllZip}
 use Rattle.aig_parts.specs.declared.ternary.Tern.{Tern}
 use Rattle.aig_parts.specs.declared.ternary.Tern.TheVariants.{X}
@@ -8,7 +8,7 @@ use Rattle.aig_sim.specs.declared.verdict.Verdict.TheVariants as verdict
 use Rattle.aig_sim.specs.Verdict.{IsVerdict, IsConfirmed}
 use Rattle.aig_sim.specs.WitnessText.{Witness}
 use Rattle.aig_values.specs.InputRows.{HaveWidth}
-use Rattle.aig_reduce.specs.Reduction.{values_of, IsReduced}
+use Rattle.aig_reduce.specs.Reduction.{values_of}
 
 -- a witness of the circuit, of one frame or more, whose verdict is `Confirmed`
 pub record IsConfirmedWitness (raw : Raw) (w : Witness) : Type 0 where

@@ -146,8 +146,11 @@ impl<G: Grid> Reducer<G> {
             × Reducing raw given self.old.bench.pair self.old.property self.old.start.items 0 0 }
         ensures { (raw : Raw) (given : Witness) → latches.now ≡ raw.latches →
             Reducing raw given self.old.bench.pair self.old.property self.old.start.items 0 0 →
-            IsReduced raw given (record { property = self.new.property; start = self.new.start.items;
-                rows = self.new.bench.pair.rows }) }
+            IsReduced raw given (record {
+              property = self.new.property;
+              start = self.new.start.items;
+              rows = self.new.bench.pair.rows;
+            }) }
     {
         self.try_starts(latches);
         self.try_inputs();

@@ -27,8 +27,11 @@ impl Model for ReducedWitness {
 
     ghost Value = { Witness };
 
-    ghost view = { λ r. record { property = r.reducer.property; start = r.reducer.start.items;
-        rows = r.reducer.bench.pair.rows } };
+    ghost view = { λ r. record {
+      property = r.reducer.property;
+      start = r.reducer.start.items;
+      rows = r.reducer.bench.pair.rows;
+    } };
 }
 
 /// What a reduction answers.
@@ -65,11 +68,20 @@ impl Given {
     // Reads a witness and checks it.
     fn read(alloc: Global, circuit: &Circuit, text: &[u8]) -> Result<Given, ReduceFault>
         ensures spelled { IfOk result (λ given. SpellsWitness circuit.now text.now (record {
-            property = given.witness.property; start = given.witness.start.items; rows = given.witness.rows.rows })) }
+          property = given.witness.property;
+          start = given.witness.start.items;
+          rows = given.witness.rows.rows;
+        })) }
         ensures admitted { IfOk result (λ given. IsAdmitted circuit.now (record {
-            property = given.witness.property; start = given.witness.start.items; rows = given.witness.rows.rows })) }
+          property = given.witness.property;
+          start = given.witness.start.items;
+          rows = given.witness.rows.rows;
+        })) }
         ensures verdict { IfOk result (λ given. IsVerdict circuit.now (record {
-            property = given.witness.property; start = given.witness.start.items; rows = given.witness.rows.rows })
+          property = given.witness.property;
+          start = given.witness.start.items;
+          rows = given.witness.rows.rows;
+        })
             given.verdict) }
         ensures width { IfOk result (λ given. given.witness.rows.width ≡ length circuit.now.inputs) }
         ensures latches { IfOk result (λ given. given.latches.items ≡ circuit.now.latches) }

@@ -20,12 +20,7 @@ pub struct Witness {
 }
 
 // Appends so many rows of the text of a witness.
-fn push_rows(
-    rows: &mut Stimulus,
-    row: &mut [Tern],
-    text: &[u8],
-    frames: u32,
-) -> Result<(), Memory>
+fn push_rows(rows: &mut Stimulus, row: &mut [Tern], text: &[u8], frames: u32) -> Result<(), Memory>
     requires none { rows.old.rows ≡ [] }
     requires row { length row.old ≡ rows.old.width }
     requires limit { frames ≤ frame_limit }
@@ -42,12 +37,7 @@ fn push_rows(
 }
 
 // The rows of a witness of so many frames.
-fn read_rows(
-    alloc: Global,
-    text: &[u8],
-    width: u32,
-    frames: u32,
-) -> Result<Stimulus, Memory>
+fn read_rows(alloc: Global, text: &[u8], width: u32, frames: u32) -> Result<Stimulus, Memory>
     requires limit { frames ≤ frame_limit }
     requires rows { (given : List (List Tern)) × (length given ≡ frames) × SpellsFrames width text.now given }
     ensures { IfOk result (λ rows. (given : List (List Tern)) → length given ≡ frames →

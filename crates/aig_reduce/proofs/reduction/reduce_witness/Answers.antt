@@ -4,7 +4,7 @@ use Rattle.aig_sim.specs.Verdict.{IsVerdict}
 use Rattle.aig_sim.specs.WitnessText.{Witness}
 use Rattle.aig_sim.specs.declared.verdict.Verdict.{Verdict}
 use Rattle.aig_sim.specs.declared.verdict.Verdict.TheVariants.{Confirmed}
-use Rattle.aig_reduce.proofs.Runs.{reduction_begins, within_limit}
+use Rattle.aig_reduce.proofs.Runs.{ok_is_no_error, reduction_begins, within_limit}
 use Rattle.aig_reduce.proofs.reduction.reduce_witness.Goals as goal
 
 pub returns-then-not-is_confirmed-clause-reduced : goal.returns-then-not-is_confirmed-clause-reduced
@@ -17,7 +17,7 @@ returns-then-not-is_confirmed-clause-reduced c =
         text_is = read.spelled;
         admitted = read.admitted;
         cells = within_limit c.args.circuit c.start_at.new.circuit w.rows.width (length w.rows.rows) c.start_at.ensures.resets read.width
-            (λ k. c.in_ok-bench.ensures.limit.1 k);
+            (λ k. ok_is_no_error _ _ (c.in_ok-bench.ensures.limit.1 k));
       },
       (λ e. false≢true (sym c.if-not-is_confirmed.true ∙ c.is_confirmed.ensures.1 e), read.verdict),
     )
@@ -48,7 +48,7 @@ returns-clause-reduced c =
         text_is = read.spelled;
         admitted = read.admitted;
         cells = within_limit c.args.circuit c.start_at.new.circuit w.rows.width (length w.rows.rows) c.start_at.ensures.resets read.width
-            (λ k. c.in_ok-bench.ensures.limit.1 k);
+            (λ k. ok_is_no_error _ _ (c.in_ok-bench.ensures.limit.1 k));
       },
       (
         confirmed,

@@ -1,4 +1,4 @@
-use Rattle.std.proofs.Common.{◌≡◌, ◌<◌, suc, ◌+◌, ℕ, [], List, length, ap, subst, arith}
+use Rattle.std.proofs.Common.{◌≡◌, ◌<◌, suc, ◌+◌, [], length, ap, subst, arith}
 use Rattle.aig_values.specs.InputRows.{row_at}
 use Rattle.aig_reduce.specs.state.Reducing.{Reducing}
 use Rattle.aig_reduce.proofs.Tries.{reducing_frames, reducing_list, reducing_more}
@@ -10,8 +10,12 @@ try_input-requires-clause-frame g c =
     let old = c.args.self.now in
     let now = c.loop-position.self in
     let r = c.loop-position.invariant raw given h in
-    omega (arith, c.requires.frame, reducing_frames raw given old.bench.pair old.property old.start.items _ _ h,
-    reducing_frames raw given now.bench.pair now.property now.start.items _ _ r)
+    omega (
+      arith,
+      c.requires.frame,
+      reducing_frames raw given old.bench.pair old.property old.start.items _ _ h,
+      reducing_frames raw given now.bench.pair now.property now.start.items _ _ r,
+    )
 
 pub try_input-requires-clause-position : goal.try_input-requires-clause-position
 try_input-requires-clause-position g c =
@@ -30,8 +34,12 @@ loop-position-preserved g c = λ raw given h.
     let new = c.try_input.new.self in
     let r = c.loop-position.invariant raw given h in
     let there : c.args.frame < length now.bench.pair.rows =
-    omega (arith, c.requires.frame, reducing_frames raw given old.bench.pair old.property old.start.items _ _ h,
-    reducing_frames raw given now.bench.pair now.property now.start.items _ _ r) in
+    omega (
+      arith,
+      c.requires.frame,
+      reducing_frames raw given old.bench.pair old.property old.start.items _ _ h,
+      reducing_frames raw given now.bench.pair now.property now.start.items _ _ r,
+    ) in
     let wide : length (row_at now.bench.pair.rows c.args.frame) ≡ length raw.inputs =
     r.runs.confirmed.widths c.args.frame [] there in
     let next : suc c.loop-position.position ≡ c.loop-position.position + 1 = omega arith in
@@ -47,8 +55,12 @@ returns g c = λ raw given h.
     let now = c.loop-position.self in
     let r = c.loop-position.invariant raw given h in
     let there : c.args.frame < length now.bench.pair.rows =
-    omega (arith, c.requires.frame, reducing_frames raw given old.bench.pair old.property old.start.items _ _ h,
-    reducing_frames raw given now.bench.pair now.property now.start.items _ _ r) in
+    omega (
+      arith,
+      c.requires.frame,
+      reducing_frames raw given old.bench.pair old.property old.start.items _ _ h,
+      reducing_frames raw given now.bench.pair now.property now.start.items _ _ r,
+    ) in
     let wide : length (row_at now.bench.pair.rows c.args.frame) ≡ length raw.inputs =
     r.runs.confirmed.widths c.args.frame [] there in
     reducing_list raw given now.bench.pair now.property now.start.items (suc c.args.frame) c.loop-position.position

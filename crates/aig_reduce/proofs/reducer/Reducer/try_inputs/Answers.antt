@@ -1,4 +1,4 @@
-use Rattle.std.proofs.Common.{◌≡◌, suc, ◌+◌, ℕ, length, subst, arith}
+use Rattle.std.proofs.Common.{◌≡◌, suc, ◌+◌, length, subst, arith}
 use Rattle.aig_reduce.specs.state.Reducing.{Reducing}
 use Rattle.aig_reduce.proofs.Tries.{reducing_frames}
 use Rattle.aig_reduce.proofs.reducer.Reducer.try_inputs.Goals as goal
@@ -8,9 +8,13 @@ try_frame-requires-clause-frame g c =
     let (raw, given, h) = c.requires in
     let old = c.args.self.now in
     let now = c.loop-frame.self in
-    omega (arith, c.frames-frame-end.ensures, c.loop-frame-test.true,
-    reducing_frames raw given old.bench.pair old.property old.start.items _ _ h,
-    reducing_frames raw given now.bench.pair now.property now.start.items _ _ (c.loop-frame.invariant raw given h))
+    omega (
+      arith,
+      c.frames-frame-end.ensures,
+      c.loop-frame-test.true,
+      reducing_frames raw given old.bench.pair old.property old.start.items _ _ h,
+      reducing_frames raw given now.bench.pair now.property now.start.items _ _ (c.loop-frame.invariant raw given h),
+    )
 
 pub try_frame-requires-clause-reducing : goal.try_frame-requires-clause-reducing
 try_frame-requires-clause-reducing g c =
@@ -29,7 +33,12 @@ returns g c = λ raw given h.
     let now = c.loop-frame.self in
     let r = c.loop-frame.invariant raw given h in
     let all : c.loop-frame.frame ≡ length now.bench.pair.rows =
-    omega (arith, c.frames-frame-end.ensures, c.loop-frame-test.false, c.loop-frame.auto.frame-end,
-    reducing_frames raw given old.bench.pair old.property old.start.items _ _ h,
-    reducing_frames raw given now.bench.pair now.property now.start.items _ _ r) in
+    omega (
+      arith,
+      c.frames-frame-end.ensures,
+      c.loop-frame-test.false,
+      c.loop-frame.auto.frame-end,
+      reducing_frames raw given old.bench.pair old.property old.start.items _ _ h,
+      reducing_frames raw given now.bench.pair now.property now.start.items _ _ r,
+    ) in
     subst (λ n. Reducing raw given now.bench.pair now.property now.start.items (suc n) 0) all r
