@@ -5,6 +5,7 @@ pub mod Cnf
 pub mod GoesWell
 pub mod Info
 pub mod Names
+pub mod Reduce
 pub mod Select
 pub mod Sim
 pub mod Toaig

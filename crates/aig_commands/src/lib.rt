@@ -6,6 +6,7 @@ pub mod check;
 pub mod cnf;
 mod entries;
 pub mod info;
+pub mod reduce;
 pub mod select;
 pub mod sim;
 pub mod toaig;
