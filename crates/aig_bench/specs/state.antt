@@ -7,9 +7,11 @@ pub mod Entry
 pub mod Filled
 pub mod Latches
 pub mod LevelSet
-pub mod SweepOrder
+pub mod Sweep
+pub mod WaitingOrder
 pub mod Passing
 pub mod Pending
 pub mod Renewed
 pub mod Steps
 pub mod Sweep
+pub mod Waiting
