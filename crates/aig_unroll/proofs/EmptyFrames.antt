@@ -13,7 +13,7 @@ frames_of_none : {A : Type 0} (f : ℕ → List A) → ((t : ℕ) → f t ≡ []
 frames_of_none f none zero = refl
 frames_of_none f none (suc n) = ap₂ (λ xs ys. xs ++ ys) (frames_of_none f none n) (none n)
 
-module _ (raw : Raw) (order : List ℕ) (k : ℕ) (adds : AddsNothing raw (ordered_gates raw order)) where
+module _ (raw : Raw) (order : List ℕ) (k : ℕ) (adds : AddsNothing raw order) where
   unguarded : has_guards raw ≡ false
   unguarded = ap (λ (ls : List ℕ). nat_lt 0 (length ls) && nat_lt 0 (length raw.constraints)) adds.bad
 
@@ -36,7 +36,7 @@ module _ (raw : Raw) (order : List ℕ) (k : ℕ) (adds : AddsNothing raw (order
 
   gates : (t : ℕ) → frame_gates raw order k t ≡ []
   gates t = ap₂ (λ (xs ys : List Gate). xs ++ ys)
-      (ap₂ (λ (xs ys : List Gate). xs ++ ys) (ap (map (frame_gate raw order k t)) adds.gates)
+      (ap₂ (λ (xs ys : List Gate). xs ++ ys) (ap (λ vs. map (frame_gate raw order k t) (ordered_gates raw vs)) adds.gates)
       (ap (λ n. map (chain_gate raw order k t) (range_with_len 0 n)) no_chain))
       (ap (λ n. map (guard_gate raw order k t) (range_with_len 0 n)) no_guards)
 

@@ -1,11 +1,12 @@
 -- The frames of an unrolled circuit, one by one.
-use Rattle.std.proofs.Common.{◌≡◌, ℕ, zero, suc, ◌+◌, ◌-◌, ◌*◌, ◌<◌, Bool, true, false, if◌then◌else◌, List, [], ◌++◌, length, map, get_or, slice_index, All, Some, slice_get, option_map, refl, sym, ◌∙◌, ap, ap₂, subst, arith, add-one}
+use Rattle.std.proofs.Common.{◌≡◌, ℕ, zero, suc, ◌+◌, ◌-◌, ◌*◌, ◌<◌, ◌≤◌, Bool, true, false, if◌then◌else◌, List, [], ◌++◌, length, map, get_or, slice_index, All, Some, slice_get, option_map, refl, sym, ◌∙◌, ap, ap₂, subst, arith, add-one}
 use Rattle.std.specs.List.{range_with_len}
 use Rattle.std.proofs.Math.Nat.{mul-le-mul_right}
 use Rattle.std.proofs.lemmas.List.{length-map, ext_get_or, get_or_default}
 use Rattle.std.proofs.lemmas.List.Elements.{All-weaker, All-nil}
 use Rattle.std.proofs.lemmas.List.FromFn.{length-map-range_with_len, length-range_with_len, get_or-range_with_len, get_or-map-range_with_len}
 use Rattle.std.proofs.lemmas.Option.{slice_get-map, get_or_from_slice_get}
+use Rattle.std.proofs.lemmas.Simd.{map-map}
 use Rattle.aig_parts.specs.declared.gate.Gate.{Gate}
 use Rattle.aig_parts.specs.declared.latch.Latch.{Latch}
 use Rattle.aig_parts.specs.declared.raw.Raw.{Raw}
@@ -23,12 +24,13 @@ use Rattle.aig_unroll.specs.declared.plan.Plan.{Plan}
 use Rattle.aig_unroll.specs.declared.sections.Sections.{Sections}
 use Rattle.aig_unroll.specs.FrameLiteral.{frame_literal, frame_gate_variable, first_literal, has_guards, chain_count, guard_count}
 use Rattle.aig_unroll.specs.state.FrameTable as table
-use Rattle.aig_unroll.specs.state.FrameTable.{IsPlan, IsFrame, IsWithin, IsNextFrame, AddsFrame, AreSections, literal_at, plan_gates, bad_at, first_at}
+use Rattle.aig_unroll.specs.state.FrameTable.{IsPlan, IsFrame, IsWithin, IsNextFrame, AddsFrame, AreSections, IsGateNumbered, literal_at, numbered_gate, plan_gates, bad_at, first_at}
 use Rattle.aig_unroll.specs.Unrollable.{FitsLimits}
 use Rattle.aig_unroll.specs.Unrolled as parts
 use Rattle.aig_unroll.specs.Unrolled.{frames, frame_literals, frame_bad, frame_gate, frame_gates, kept_constraints}
 use Rattle.aig_unroll.proofs.FrameLiterals.{literal_same, of_first, of_next}
 use Rattle.aig_unroll.proofs.Guarding.{guarded_by_chain, guarded_by_guard}
+use Rattle.aig_unroll.proofs.NumberedGates.{numbered_same, are_numbered}
 
 -- functions that agree on the numbers below n
 pub range_same : {A : Type 0} (f g : ℕ → A) (n : ℕ) → ((i : ℕ) → i < n → f i ≡ g i)
@@ -45,10 +47,27 @@ module _ (raw : Raw) (circuit : IsCircuit raw) (order : List ℕ) (canonical : I
   pub listed : HasAllEntries raw plan.numbers
   listed = all_listed raw circuit.formed circuit.sound order plan.numbers canonical is_plan.numbers
 
-  pub ordered_listed : All (IsGateListed plan.numbers) (ordered_gates raw order)
+  -- each of its numbers is one of the renumbered circuit
+  numbers_within : All (λ n. n ≤ plan.inputs + plan.latches + plan.gates) plan.numbers
+  numbers_within v d below =
+      omega (
+        arith,
+        get_or_default plan.numbers v d 0 below,
+        is_plan.numbers.each v below,
+        variable_bound raw order v,
+        length-order raw circuit.sound order canonical,
+        is_plan.inputs,
+        is_plan.latches,
+        is_plan.gates,
+      )
+
+  ordered_listed : All (IsGateListed plan.numbers) (ordered_gates raw order)
   ordered_listed = All-by_get (IsGateListed plan.numbers) (ordered_gates raw order) (λ i g here.
       let (q, lt, at, is) = ordered_gate raw circuit.sound order canonical i g here in
       All-at (IsGateListed plan.numbers) raw.gates q g listed.gates at)
+
+  pub ordered_numbered : All (IsGateNumbered plan) (map (numbered_gate plan.numbers) (ordered_gates raw order))
+  ordered_numbered = are_numbered plan numbers_within (ordered_gates raw order) ordered_listed
 
   first_same : (offset p : ℕ) (x : Latch) → offset ≡ k * length raw.inputs → slice_get raw.latches p ≡ Some x
       → first_at raw.latches offset p ≡ first_literal raw k p (Some x)
@@ -94,17 +113,7 @@ module _ (raw : Raw) (circuit : IsCircuit raw) (order : List ℕ) (canonical : I
         let f : frame.number * plan.size ≡ t * plan.size = ap (λ n. n * plan.size) is_frame.number in
         let g = ap (λ n. k * n) is_plan.size in
         record {
-          numbers = λ v d below.
-              omega (
-                arith,
-                get_or_default plan.numbers v d 0 below,
-                is_plan.numbers.each v below,
-                variable_bound raw order v,
-                length-order raw circuit.sound order canonical,
-                is_plan.inputs,
-                is_plan.latches,
-                is_plan.gates,
-              );
+          numbers = numbers_within;
           definitions = omega (arith, is_plan.inputs, is_plan.latches, is_plan.gates);
           inputs = omega (arith, is_plan.inputs, is_plan.sources);
           gates = omega (arith, is_plan.gates, is_plan.chain, is_plan.size);
@@ -136,11 +145,12 @@ module _ (raw : Raw) (circuit : IsCircuit raw) (order : List ℕ) (canonical : I
     variable_same : (n : ℕ) → table.variable_at plan frame.number n ≡ frame_gate_variable raw k t n
     variable_same n = rw (is_frame.number, is_plan.sources, is_plan.size) refl
 
-    gate_same : (g : Gate) → IsGateListed plan.numbers g → table.plan_gate plan frame g ≡ frame_gate raw order k t g
+    gate_same : (g : Gate) → IsGateListed plan.numbers g
+        → table.plan_gate plan frame (numbered_gate plan.numbers g) ≡ frame_gate raw order k t g
     gate_same g (a, b, d) =
-        let e0 = same g.lhs a in
-        let e1 = same g.rhs0 b in
-        let e2 = same g.rhs1 d in
+        let e0 = numbered_same plan frame g.lhs ∙ same g.lhs a in
+        let e1 = numbered_same plan frame g.rhs0 ∙ same g.rhs0 b in
+        let e2 = numbered_same plan frame g.rhs1 ∙ same g.rhs1 d in
         rw (e0, e1, e2) refl
 
     before_same : (n : ℕ) → 0 < chain_count raw → table.plan_chain_before plan n ≡ parts.chain_before raw k n
@@ -183,12 +193,15 @@ module _ (raw : Raw) (circuit : IsCircuit raw) (order : List ℕ) (canonical : I
         ∙ ap (λ n. 2 * n) (variable_same (length raw.gates + (chain_count raw - 1))) in
         rw (e0, e1, e2) refl
 
-    gates_same : plan_gates raw (ordered_gates raw order) plan frame ≡ frame_gates raw order k t
+    gates_same : plan_gates raw (map (numbered_gate plan.numbers) (ordered_gates raw order)) plan frame
+        ≡ frame_gates raw order k t
     gates_same =
-        let a : map (table.plan_gate plan frame) (ordered_gates raw order)
+        let at : Gate → Gate = λ g. table.plan_gate plan frame (numbered_gate plan.numbers g) in
+        let a : map (table.plan_gate plan frame) (map (numbered_gate plan.numbers) (ordered_gates raw order))
         ≡ map (frame_gate raw order k t) (ordered_gates raw order) =
-        map_same (table.plan_gate plan frame) (frame_gate raw order k t) (ordered_gates raw order)
-        (All-weaker (IsGateListed plan.numbers) (λ g. table.plan_gate plan frame g ≡ frame_gate raw order k t g)
+        map-map (table.plan_gate plan frame) (numbered_gate plan.numbers) (ordered_gates raw order)
+        ∙ map_same at (frame_gate raw order k t) (ordered_gates raw order)
+        (All-weaker (IsGateListed plan.numbers) (λ g. at g ≡ frame_gate raw order k t g)
         gate_same (ordered_gates raw order) ordered_listed) in
         let b = range_same (table.plan_chain_gate plan frame raw.constraints) (parts.chain_gate raw order k t)
         (chain_count raw) chain_same in
@@ -212,7 +225,8 @@ module _ (raw : Raw) (circuit : IsCircuit raw) (order : List ℕ) (canonical : I
 
     -- one more frame
     pub sections_more : (old new : Sections) → AreSections raw order k t old
-        → AddsFrame raw (ordered_gates raw order) plan frame old new → AreSections raw order k (suc t) new
+        → AddsFrame raw (map (numbered_gate plan.numbers) (ordered_gates raw order)) plan frame old new
+        → AreSections raw order k (suc t) new
     sections_more old new so adds = record {
       outputs = adds.outputs ∙ ap₂ (λ (xs ys : List ℕ). xs ++ ys) so.outputs (literals_same raw.outputs listed.outputs);
       bad = adds.bad ∙ ap₂ (λ (xs ys : List ℕ). xs ++ ys) so.bad bad_same;
@@ -222,7 +236,8 @@ module _ (raw : Raw) (circuit : IsCircuit raw) (order : List ℕ) (canonical : I
     }
 
     -- a pass of the loop over the frames
-    pub one_more : (gates : List Gate) (old new : Sections) (next : Frame) → gates ≡ ordered_gates raw order
+    pub one_more : (gates : List Gate) (old new : Sections) (next : Frame)
+        → gates ≡ map (numbered_gate plan.numbers) (ordered_gates raw order)
         → AreSections raw order k t old → AddsFrame raw gates plan frame old new → IsNextFrame raw plan frame next
         → (next.number ≡ suc t) × IsFrame raw order k next.number next × AreSections raw order k next.number new
     one_more gates old new next is so adds offset =

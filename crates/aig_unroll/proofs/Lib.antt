@@ -8,6 +8,7 @@ pub mod Guarding
 pub mod InputMapLaw
 pub mod InputMapLines
 pub mod NumberLemmas
+pub mod NumberedGates
 pub mod UnrolledCircuit
 pub mod UnrolledReady
 pub mod UnrolledRow

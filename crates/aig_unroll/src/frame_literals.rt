@@ -3,7 +3,7 @@ ghost use Rattle.std.specs.Prelude.{◌≡◌, ◌+◌, ◌≤◌, IfOk, map};
 ghost use Rattle.aig_base.specs.Renumbered as renumbered;
 ghost use Rattle.aig_base.specs.RenumberingTable.{IsInTable};
 ghost use Rattle.aig_unroll.specs.state.FrameTable as table;
-ghost use Rattle.aig_unroll.specs.state.FrameTable.{IsWithin};
+ghost use Rattle.aig_unroll.specs.state.FrameTable.{IsWithin, IsNumbered};
 
 use crate::plan::{Plan, is_uninitialised};
 use aig_base::{Gate, Latch, List, Lit, Memory};
@@ -42,6 +42,20 @@ pub(crate) fn literal_at(plan: &Plan, frame: &Frame, literal: Lit) -> Lit
     ensures { result ≡ table.literal_at plan.now frame.now literal }
 {
     let positive = number_literal(plan, frame, plan.numbers.get(literal.var()));
+    if literal.is_neg() {
+        positive.not()
+    } else {
+        positive
+    }
+}
+
+/// The literal that stands for a literal of the renumbered circuit at the frame.
+pub(crate) fn numbered_at(plan: &Plan, frame: &Frame, literal: Lit) -> Lit
+    requires within { IsWithin plan.now frame.now }
+    requires numbered { IsNumbered plan.now literal }
+    ensures { result ≡ table.numbered_at plan.now frame.now literal }
+{
+    let positive = number_literal(plan, frame, literal.var());
     if literal.is_neg() {
         positive.not()
     } else {

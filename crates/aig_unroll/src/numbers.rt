@@ -1,12 +1,14 @@
 //! For each variable of a circuit its number in the renumbered one.
-ghost use Rattle.std.specs.Prelude.{◌≡◌, ◌<◌, length, slice_index, IfOk};
+ghost use Rattle.std.specs.Prelude.{◌≡◌, ◌≤◌, ◌<◌, length, slice_index, IfOk, All};
+ghost use Rattle.aig_parts.specs.Formed.{limit};
 ghost use Rattle.aig_base.specs.Definition.{Defines};
 ghost use Rattle.aig_base.specs.Order.{IsCanonicalOrder};
-ghost use Rattle.aig_base.specs.RenumberingTable.{IsRenumbering};
+ghost use Rattle.aig_base.specs.RenumberingTable.{IsRenumbering, IsInTable, IsGateListed, literal_by};
 ghost use Rattle.aig_base.specs.Sections.{IsGate};
+ghost use Rattle.aig_unroll.specs.state.FrameTable.{numbered_gate};
 ghost use Rattle.aig_unroll.specs.state.Numbers.{ArePlaces};
 
-use aig_base::{Circuit, Definition, Memory};
+use aig_base::{Circuit, Definition, Gate, Lit, Memory};
 use std::alloc::Global;
 use std::marker::Model;
 
@@ -92,6 +94,33 @@ impl<'a> Numbers<'a> {
             Some(Definition::Latch(position)) => inputs + position + 1,
             Some(Definition::Gate(position)) => definitions + self.places[position as usize] + 1,
             None => 0,
+        }
+    }
+
+    // The literal of the renumbered circuit that stands for this one.
+    fn literal(&self, literal: Lit) -> Lit
+        requires listed { IsInTable self.now literal }
+        requires entries { All (λ n. n ≤ limit) self.now }
+        ensures { result ≡ literal_by self.now literal }
+    {
+        let positive = Lit::new(2 * self.get(literal.var()));
+        if literal.is_neg() {
+            positive.not()
+        } else {
+            positive
+        }
+    }
+
+    /// The gate with the literals of the renumbered circuit.
+    pub(crate) fn gate(&self, gate: Gate) -> Gate
+        requires listed { IsGateListed self.now gate }
+        requires entries { All (λ n. n ≤ limit) self.now }
+        ensures { result ≡ numbered_gate self.now gate }
+    {
+        Gate {
+            lhs: self.literal(gate.lhs),
+            rhs0: self.literal(gate.rhs0),
+            rhs1: self.literal(gate.rhs1),
         }
     }
 }

@@ -2,12 +2,12 @@
 ghost use Rattle.std.specs.Prelude.{◌≡◌, ◌+◌, ◌++◌, ◌≤◌, ◌<◌, OnOk, IfOk, All, length, map};
 ghost use Rattle.std.specs.List.{range_with_len};
 ghost use Rattle.aig_parts.specs.Formed.{limit};
-ghost use Rattle.aig_base.specs.RenumberingTable.{IsInTable, IsGateListed};
+ghost use Rattle.aig_base.specs.RenumberingTable.{IsInTable};
 ghost use Rattle.aig_unroll.specs.FrameLiteral as literals;
 ghost use Rattle.aig_unroll.specs.state.FrameTable as table;
-ghost use Rattle.aig_unroll.specs.state.FrameTable.{IsWithin};
+ghost use Rattle.aig_unroll.specs.state.FrameTable.{IsWithin, IsGateNumbered};
 
-use crate::frame_literals::{Frame, literal_at, ready_gate};
+use crate::frame_literals::{Frame, literal_at, numbered_at, ready_gate};
 use crate::plan::{Plan, is_uninitialised};
 use aig_base::{Gate, Latch, List, Lit, Memory};
 use std::alloc::Global;
@@ -31,17 +31,17 @@ pub(crate) fn push_literals(
 
 fn gate_at(plan: &Plan, frame: &Frame, gate: Gate) -> Gate
     requires within { IsWithin plan.now frame.now }
-    requires listed { IsGateListed plan.now.numbers gate }
+    requires numbered { IsGateNumbered plan.now gate }
     ensures { result ≡ table.plan_gate plan.now frame.now gate }
 {
     ready_gate(
-        literal_at(plan, frame, gate.lhs),
-        literal_at(plan, frame, gate.rhs0),
-        literal_at(plan, frame, gate.rhs1),
+        numbered_at(plan, frame, gate.lhs),
+        numbered_at(plan, frame, gate.rhs0),
+        numbered_at(plan, frame, gate.rhs1),
     )
 }
 
-/// Adds the gates at the frame.
+/// Adds the gates at the frame, of gates with the literals of the renumbered circuit.
 pub(crate) fn push_gates(
     to: &mut List<Gate>,
     plan: &Plan,
@@ -49,7 +49,7 @@ pub(crate) fn push_gates(
     gates: &[Gate],
 ) -> Result<(), Memory>
     requires within { IsWithin plan.now frame.now }
-    requires listed { All (IsGateListed plan.now.numbers) gates.now }
+    requires numbered { All (IsGateNumbered plan.now) gates.now }
     ensures { OnOk result (to.new ≡ to.old ++ map (table.plan_gate plan.now frame.now) gates.now) }
 {
     for gate in gates {

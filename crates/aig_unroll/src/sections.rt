@@ -1,17 +1,19 @@
 //! The sections of an unrolled circuit.
-ghost use Rattle.std.specs.Prelude.{◌≡◌, ◌≤◌, ◌<◌, ◌+◌, true, false, OnOk, IfOk, All, length};
+ghost use Rattle.std.specs.Prelude.{◌≡◌, ◌≤◌, ◌<◌, ◌+◌, true, false, OnOk, IfOk, All, length, map};
 ghost use Rattle.aig_parts.specs.Formed.{limit};
 ghost use Rattle.aig_parts.specs.Limits.{frame_limit};
 ghost use Rattle.aig_base.specs.Order.{IsCanonicalOrder};
-ghost use Rattle.aig_base.specs.Renumbered as renumbered;
-ghost use Rattle.aig_base.specs.RenumberingTable.{IsGateListed, HasAllEntries};
+ghost use Rattle.aig_base.specs.Renumbered.{ordered_gates};
+ghost use Rattle.aig_base.specs.RenumberingTable.{HasAllEntries};
 ghost use Rattle.aig_unroll.specs.FrameLiteral as literals;
 ghost use Rattle.aig_unroll.specs.state.FrameTable.{IsWithin, IsPlan, AddsFrame, AddsNothing};
+ghost use Rattle.aig_unroll.specs.state.FrameTable.{IsGateNumbered, numbered_gate};
 ghost use Rattle.aig_unroll.specs.state.FrameTable.{AddsProperties, AreSections, IsNextFrame};
 ghost use Rattle.aig_unroll.specs.Unrollable.{FitsLimits};
 
 use crate::frame_literals::Frame;
 use crate::guards::{push_chain, push_guard_literals, push_guards};
+use crate::numbers::Numbers;
 use crate::parts::{first_latches, next_latches, push_gates, push_literals};
 use crate::plan::{Plan, has_guards};
 use aig_base::{Circuit, Gate, List, Lit, Memory};
@@ -73,18 +75,18 @@ fn push_frame(
     plan: &Plan,
     frame: &Frame,
     circuit: &Circuit,
-    ordered: &[Gate],
+    numbered: &[Gate],
 ) -> Result<(), Memory>
     requires within { IsWithin plan.now frame.now }
     requires gates { plan.now.gates ≡ length circuit.now.gates }
     requires chain { plan.now.chain ≡ literals.chain_count circuit.now }
     requires size { plan.now.size ≡ literals.frame_size circuit.now }
     requires listed { HasAllEntries circuit.now plan.now.numbers }
-    requires ordered { All (IsGateListed plan.now.numbers) ordered.now }
-    ensures { OnOk result (AddsFrame circuit.now ordered.now plan.now frame.now sections.old sections.new) }
+    requires numbered { All (IsGateNumbered plan.now) numbered.now }
+    ensures { OnOk result (AddsFrame circuit.now numbered.now plan.now frame.now sections.old sections.new) }
 {
     push_literals(&mut sections.outputs, plan, frame, circuit.outputs())?;
-    push_gates(&mut sections.gates, plan, frame, ordered)?;
+    push_gates(&mut sections.gates, plan, frame, numbered)?;
     if has_guards(circuit) {
         push_guarded(sections, plan, frame, circuit)
     } else {
@@ -92,14 +94,21 @@ fn push_frame(
     }
 }
 
-// The gates in the order.
-fn ordered_gates(alloc: Global, circuit: &Circuit, order: &[u32]) -> Result<List<Gate>, Memory>
-    ensures { IfOk result (λ gates. gates ≡ renumbered.ordered_gates circuit.now order.now) }
+// The gates in the order, with the literals of the renumbered circuit.
+fn numbered_gates(
+    alloc: Global,
+    circuit: &Circuit,
+    order: &[u32],
+    numbers: &Numbers,
+) -> Result<List<Gate>, Memory>
+    requires listed { HasAllEntries circuit.now numbers.now }
+    ensures { IfOk result (λ gates. gates
+        ≡ map (numbered_gate numbers.now) (ordered_gates circuit.now order.now)) }
 {
     let mut gates = List::new(alloc);
     for variable in order {
         if let Some(gate) = circuit.gate_of(*variable) {
-            gates.push(gate)?;
+            gates.push(numbers.gate(gate))?;
         }
     }
     Ok(gates)
@@ -119,13 +128,13 @@ fn next_frame(alloc: Global, plan: &Plan, frame: &Frame, circuit: &Circuit) -> R
 }
 
 // Whether a frame adds nothing, because the circuit has at most inputs and latches.
-fn adds_nothing(circuit: &Circuit, ordered: &[Gate]) -> bool
-    ensures { result ≡ true → AddsNothing circuit.now ordered.now }
+fn adds_nothing(circuit: &Circuit, order: &[u32]) -> bool
+    ensures { result ≡ true → AddsNothing circuit.now order.now }
 {
     circuit.outputs().is_empty()
         && circuit.bad().is_empty()
         && circuit.constraints().is_empty()
-        && ordered.is_empty()
+        && order.is_empty()
 }
 
 /// The sections of the circuit unrolled for this many frames.
@@ -142,22 +151,22 @@ pub(crate) fn unrolled_sections(
     ensures { IfOk result (AreSections circuit.now order.now frames frames) }
 {
     circuit.facts();
-    let ordered = ordered_gates(alloc, circuit, order)?;
     let mut sections = Sections {
         outputs: List::new(alloc),
         bad: List::new(alloc),
         constraints: List::new(alloc),
         gates: List::new(alloc),
     };
-    if adds_nothing(circuit, ordered.as_slice()) {
+    if adds_nothing(circuit, order) {
         return Ok(sections);
     }
+    let numbered = numbered_gates(alloc, circuit, order, &plan.numbers)?;
     let mut frame = Frame {
         number: 0,
         latches: first_latches(alloc, circuit.latches(), frames * plan.inputs)?,
     };
     while frame.number < frames {
-        push_frame(&mut sections, plan, &frame, circuit, ordered.as_slice())?;
+        push_frame(&mut sections, plan, &frame, circuit, numbered.as_slice())?;
         frame = next_frame(alloc, plan, &frame, circuit)?;
     }
     Ok(sections)

@@ -7,7 +7,7 @@ use Rattle.aig_parts.specs.declared.raw.Raw.{Raw}
 use Rattle.aig_parts.specs.Formed.{limit}
 use Rattle.aig_parts.specs.Literal.{variable, with_sign}
 use Rattle.aig_base.specs.Renumbered.{ready_gate}
-use Rattle.aig_base.specs.RenumberingTable.{IsRenumbering}
+use Rattle.aig_base.specs.RenumberingTable.{IsRenumbering, literal_by}
 use Rattle.aig_unroll.specs.declared.plan.Plan.{Plan}
 use Rattle.aig_unroll.specs.declared.frame_literals.Frame.{Frame}
 use Rattle.aig_unroll.specs.declared.sections.Sections.{Sections}
@@ -49,10 +49,29 @@ number_literal plan frame n =
 unfoldable pub literal_at : Plan → Frame → ℕ → ℕ
 literal_at plan frame l = with_sign l (number_literal plan frame (slice_index plan.numbers (variable l)))
 
--- the gate at the frame, with the greater right side first
+-- the gate with the renumbered circuit's literals in place of its own, its sides as they stand
+abbrev pub numbered_gate : List ℕ → Gate → Gate
+numbered_gate numbers g = record {
+  lhs = literal_by numbers g.lhs;
+  rhs0 = literal_by numbers g.rhs0;
+  rhs1 = literal_by numbers g.rhs1;
+}
+
+-- the literal that stands for the renumbered circuit's literal l at the frame; negations are kept
+unfoldable pub numbered_at : Plan → Frame → ℕ → ℕ
+numbered_at plan frame l = with_sign l (number_literal plan frame (variable l))
+
+-- the gate at the frame of one with the renumbered circuit's literals, with the greater right side first
 abbrev pub plan_gate : Plan → Frame → Gate → Gate
 plan_gate plan frame g =
-    ready_gate (literal_at plan frame g.lhs) (literal_at plan frame g.rhs0) (literal_at plan frame g.rhs1)
+    ready_gate (numbered_at plan frame g.lhs) (numbered_at plan frame g.rhs0) (numbered_at plan frame g.rhs1)
+
+-- the literal's variable is one of the renumbered circuit
+abbrev pub IsNumbered : Plan → ℕ → Type 0
+IsNumbered plan l = variable l ≤ plan.inputs + plan.latches + plan.gates
+
+abbrev pub IsGateNumbered : Plan → Gate → Type 0
+IsGateNumbered plan g = IsNumbered plan g.lhs × IsNumbered plan g.rhs0 × IsNumbered plan g.rhs1
 
 abbrev pub first_literal_of : List Latch → ℕ → ℕ → Option Latch → ℕ
 first_literal_of latches offset p None = 0
@@ -86,10 +105,10 @@ plan_guard_gate plan frame bad p =
     ready_gate (plan_guard_literal plan frame p) (literal_at plan frame (slice_index bad p))
     (2 * variable_at plan frame.number (plan.gates + plan.chain - 1))
 
--- the gates of a frame, and its bad literals
+-- the gates of a frame, of those in the order with the renumbered circuit's literals, and its bad literals
 abbrev pub plan_gates : Raw → List Gate → Plan → Frame → List Gate
-plan_gates raw ordered plan frame =
-    map (plan_gate plan frame) ordered
+plan_gates raw numbered plan frame =
+    map (plan_gate plan frame) numbered
     ++ map (plan_chain_gate plan frame raw.constraints) (range_with_len 0 (chain_count raw))
     ++ map (plan_guard_gate plan frame raw.bad) (range_with_len 0 (guard_count raw))
 
@@ -106,18 +125,18 @@ pub record AddsProperties (raw : Raw) (plan : Plan) (frame : Frame) (old new : S
   pub gates : new.gates ≡ old.gates ++ plan_gates raw [] plan frame
 
 -- what a frame adds
-pub record AddsFrame (raw : Raw) (ordered : List Gate) (plan : Plan) (frame : Frame) (old new : Sections) : Type 0 where
+pub record AddsFrame (raw : Raw) (numbered : List Gate) (plan : Plan) (frame : Frame) (old new : Sections) : Type 0 where
   pub outputs : new.outputs ≡ old.outputs ++ map (literal_at plan frame) raw.outputs
   pub bad : new.bad ≡ old.bad ++ bad_at raw plan frame
   pub constraints : new.constraints ≡ old.constraints ++ map (literal_at plan frame) (kept_constraints raw)
-  pub gates : new.gates ≡ old.gates ++ plan_gates raw ordered plan frame
+  pub gates : new.gates ≡ old.gates ++ plan_gates raw numbered plan frame
 
 -- no frame adds anything
-pub record AddsNothing (raw : Raw) (ordered : List Gate) : Type 0 where
+pub record AddsNothing (raw : Raw) (order : List ℕ) : Type 0 where
   pub outputs : raw.outputs ≡ []
   pub bad : raw.bad ≡ []
   pub constraints : raw.constraints ≡ []
-  pub gates : ordered ≡ []
+  pub gates : order ≡ []
 
 -- the frame after another
 pub record IsNextFrame (raw : Raw) (plan : Plan) (frame next : Frame) : Type 0 where

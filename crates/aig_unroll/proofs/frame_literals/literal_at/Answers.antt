@@ -1,15 +1,9 @@
-use Rattle.std.proofs.Common.{◌≡◌, ◌%◌, ◌<◌, ◌∙◌, ℕ, List, length, get_or, sym, ap, slice_index, arith, refl}
+use Rattle.std.proofs.Common.{◌∙◌, sym, ap, slice_index}
 use Rattle.std.proofs.lemmas.Bool.{false≢true}
-use Rattle.std.proofs.lemmas.List.{get_or_default}
-use Rattle.aig_parts.specs.Literal.{variable, negation, with_sign, IsNegated}
+use Rattle.aig_parts.specs.Literal.{negation}
 use Rattle.aig_unroll.specs.state.FrameTable.{literal_at, number_literal}
+use Rattle.aig_unroll.proofs.NumberedGates.{turned, straight}
 use Rattle.aig_unroll.proofs.frame_literals.literal_at.Goals as goal
-
-turned : (l k : ℕ) → IsNegated l → with_sign l k ≡ negation k
-turned l k h = rw h refl
-
-straight : (l k : ℕ) → (IsNegated l → ⊥) → with_sign l k ≡ k
-straight l k h = let e : l % 2 ≡ 0 = omega arith in rw e refl
 
 pub returns-then-is_neg : goal.returns-then-is_neg
 unfolding literal_at

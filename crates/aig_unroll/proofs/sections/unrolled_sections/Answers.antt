@@ -1,16 +1,13 @@
 use Rattle.std.proofs.Common.{◌*◌, ◌∙◌, All, List, sym, refl, subst, arith}
 use Rattle.aig_parts.specs.declared.gate.Gate.{Gate}
-use Rattle.aig_base.specs.RenumberingTable.{IsGateListed}
-use Rattle.aig_unroll.specs.state.FrameTable.{AddsNothing}
+use Rattle.aig_unroll.specs.state.FrameTable.{IsGateNumbered}
 use Rattle.aig_unroll.proofs.EmptyFrames.{no_sections}
-use Rattle.aig_unroll.proofs.Frames.{listed, ordered_listed, first_frame, within, one_more}
+use Rattle.aig_unroll.proofs.Frames.{listed, ordered_numbered, first_frame, within, one_more}
 use Rattle.aig_unroll.proofs.sections.unrolled_sections.Goals as goal
 
 pub returns-then-adds_nothing : goal.returns-then-adds_nothing
 returns-then-adds_nothing c =
-    let P : List Gate → Type 0 = AddsNothing c.args.circuit.now in
-    no_sections c.args.circuit.now c.args.order.now c.args.frames
-    (subst P (c.as_slice.ensures ∙ c.in_ok-ordered.ensures) (c.if-adds_nothing.ensures refl))
+    no_sections c.args.circuit.now c.args.order.now c.args.frames (c.if-adds_nothing.ensures refl)
     _ c.new.ensures c.new-2.ensures c.new-3.ensures c.new-4.ensures c.args.frames
 
 pub loop-frame-init : goal.loop-frame-init
@@ -40,12 +37,18 @@ push_frame-requires-clause-listed c =
     listed c.args.circuit.now c.facts.ensures c.args.order.now c.requires.order c.args.frames
     c.args.plan.now c.requires.plan
 
-pub push_frame-requires-clause-ordered : goal.push_frame-requires-clause-ordered
-push_frame-requires-clause-ordered c =
-    let P : List Gate → Type 0 = All (IsGateListed c.args.plan.now.numbers) in
-    subst P (sym (c.as_slice-in-loop-frame.ensures ∙ c.in_ok-ordered.ensures))
-    (ordered_listed c.args.circuit.now c.facts.ensures c.args.order.now c.requires.order c.args.frames
+pub push_frame-requires-clause-numbered : goal.push_frame-requires-clause-numbered
+push_frame-requires-clause-numbered c =
+    let P : List Gate → Type 0 = All (IsGateNumbered c.args.plan.now) in
+    subst P (sym (c.as_slice.ensures ∙ c.in_ok-numbered.ensures))
+    (ordered_numbered c.args.circuit.now c.facts.ensures c.args.order.now c.requires.order c.args.frames
     c.args.plan.now c.requires.plan)
+
+pub numbered_gates-requires : goal.numbered_gates-requires
+numbered_gates-requires c = record {
+  listed = listed c.args.circuit.now c.facts.ensures c.args.order.now c.requires.order c.args.frames
+      c.args.plan.now c.requires.plan;
+}
 
 pub next_frame-requires-clause-within : goal.next_frame-requires-clause-within
 next_frame-requires-clause-within c =
@@ -62,7 +65,7 @@ pub loop-frame-preserved : goal.loop-frame-preserved
 loop-frame-preserved c =
     let (number, frame, sections) = one_more c.args.circuit.now c.facts.ensures c.args.order.now
     c.requires.order c.args.frames c.args.plan.now c.requires.plan c.loop-frame.frame.number c.loop-frame.frame
-    c.loop-frame.invariant.frame c.as_slice-in-loop-frame.result.now c.loop-frame.sections c.push_frame.new.sections
-    c.in_ok-frame.frame (c.as_slice-in-loop-frame.ensures ∙ c.in_ok-ordered.ensures) c.loop-frame.invariant.sections
+    c.loop-frame.invariant.frame c.as_slice.result.now c.loop-frame.sections c.push_frame.new.sections
+    c.in_ok-frame.frame (c.as_slice.ensures ∙ c.in_ok-numbered.ensures) c.loop-frame.invariant.sections
     c.in_ok-push_frame.ensures c.in_ok-frame.ensures in
     record { number = omega (arith, number, c.loop-frame-test.true); frame = frame; sections = sections }
