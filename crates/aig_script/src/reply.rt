@@ -20,6 +20,7 @@ use aig_bench::{Bench, EditFault, EditReport};
 use aig_format::write_ascii;
 use aig_sim::{Grid, RowParser, StimFault};
 use aig_unroll::UnrollFault;
+use aig_values::code::Code;
 use std::alloc::Global;
 
 /// The number of a fault, as `no N` names it.
@@ -81,9 +82,7 @@ fn write_value<W: Write>(answer: Result<Tern, EditFault>, out: &mut W) -> Result
     ensures { Writes W.written W.failures out.old out.new (value_reply answer) result }
 {
     match answer {
-        Ok(Tern::Zero) => write_all(out, b"0\n"),
-        Ok(Tern::One) => write_all(out, b"1\n"),
-        Ok(Tern::X) => write_all(out, b"x\n"),
+        Ok(value) => write_all(out, &[Code::of(value).character(false), b'\n']),
         Err(fault) => write_refusal(fault, out),
     }
 }

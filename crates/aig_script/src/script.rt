@@ -14,6 +14,7 @@ use aig_base::{Io, Read, Write, write_all};
 use aig_bench::Bench;
 use aig_fault::ScriptFault;
 use aig_sim::Grid;
+use memchr::memchr;
 use std::alloc::Global;
 
 /// How many bytes stand before the first LF, or how many there are.
@@ -22,10 +23,7 @@ fn line_length(bytes: &[u8]) -> usize
     ensures piece { IsPiece (take result bytes.now) }
     ensures ended { result < length bytes.now → slice_get bytes.now result ≡ Some 10 }
 {
-    match bytes.iter().position(|byte| *byte == b'\n') {
-        Some(place) => place,
-        None => bytes.len(),
-    }
+    memchr(b'\n', bytes).unwrap_or(bytes.len())
 }
 
 /// Whether a line that begins with these bytes appends a frame.
