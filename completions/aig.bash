@@ -3,7 +3,7 @@
 # the words that it takes, `file`, or nothing.
 
 _aig() {
-    local commands="toaig sim wave bench unroll check cnf info select witness refute help"
+    local commands="toaig sim wave bench unroll check cnf info select witness refute reduce help"
     local -A options=(
         [toaig]="--to --explain --help"
         [sim]="--explain --help"
@@ -16,6 +16,7 @@ _aig() {
         [select]="--to --from --as --property --explain --help"
         [witness]="--property --explain --help"
         [refute]="--frames --property --step --explain --help"
+        [reduce]="--explain --help"
     )
     local -A values=(
         [--to]="aag aig"

@@ -32,8 +32,10 @@ grep 'was asserted in frame' "$top.log"
 inputs=$("$aig" info "$top.aig" | sed -n 's/^inputs //p')
 sed -E "1d; s/^(.{$inputs}).*/\1/" "$top.cex" > "$top.stim"
 
-# The run over the stimulus becomes a witness, which is checked against the circuit that Yosys wrote, and a waveform.
-"$aig" witness --property "$property" "$top.aig" "$top.stim" > "$top.wit"
+# The run over the stimulus becomes a witness of the circuit that Yosys wrote. `aig reduce` puts x in place of each value
+# that the failure does not need. The reduced witness is checked, and becomes a waveform.
+"$aig" witness --property "$property" "$top.aig" "$top.stim" > "$top.run.wit"
+"$aig" reduce "$top.aig" "$top.run.wit" > "$top.wit"
 "$aig" check "$top.aig" "$top.wit"
 "$aig" wave --witness "$top.aig" "$top.wit" > "$top.vcd"
 echo "gtkwave $top.vcd"

@@ -1,11 +1,13 @@
 #!/usr/bin/env python3
 """Runs the built program on files made at random: broken ones through every subcommand; scripts, whose replies have to
 be those of a plain workbench; dumps, in which a plain reader has to find the trace; runs of witnesses; formulas;
-selections of properties; and witnesses of runs. The gate runs a few hundred cases of each; --count and --seed choose others."""
+selections of properties; witnesses of runs; and reduced witnesses. The gate runs a few hundred cases of each; --count
+and --seed choose others."""
 
 from at_random import cases
 from at_random.formulas import formulas
 from at_random.hostile import hostile
+from at_random.reductions import reductions
 from at_random.replays import replays
 from at_random.scripts import scripts
 from at_random.selections import selections
@@ -14,7 +16,7 @@ from at_random.witnesses import witnesses
 from library import runs
 
 PARTS = {"hostile": hostile, "scripts": scripts, "waves": waves, "replays": replays, "formulas": formulas,
-         "selections": selections, "witnesses": witnesses}
+         "selections": selections, "witnesses": witnesses, "reductions": reductions}
 
 if __name__ == "__main__":
     runs.main(__doc__, PARTS, options=cases.options)

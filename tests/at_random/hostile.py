@@ -47,11 +47,11 @@ class Runs:
         self.slowest = max(self.slowest, taken)
         if status not in (0, 1):
             raise Wrong(f"{words}: status {status}, {said[:200]!r}")
-        is_verdict = words[0] == "check" and VERDICT.fullmatch(got)
+        is_verdict = words[0] in ("check", "reduce") and VERDICT.fullmatch(got)
         is_result = is_verdict or (status == 0 and words[0] != "check")
         if (is_result and said) or not (is_result or LINE.fullmatch(said)):
             raise Wrong(f"{words}: status {status} with {said[:200]!r}")
-        if status == 1 and words[0] not in ("sim", "wave", "check") and got:
+        if status == 1 and words[0] not in ("sim", "wave", "check", "reduce") and got:
             raise Wrong(f"{words}: it is refused and writes {got[:200]!r}")
         if taken > 1 + work * 1e-6:
             raise Wrong(f"{words}: {taken:.1f} s of processor time, for a work of {work}")
@@ -116,6 +116,16 @@ class Runs:
             raise Wrong("the dump of a witness is refused otherwise than the witness")
         if told and (verdict or trace or dump):
             raise Wrong("a witness is refused, and something is written")
+        self.reduces(work, status, verdict, told)
+
+    def reduces(self, work, status, verdict, told):
+        """A witness is reduced where its check confirms it, and else judged as its check does."""
+        values = len(contents("witness"))
+        reduced, got = self.run(work * (values + 1), "reduce", "circuit", "witness")
+        if contents("err") == b"aig: bench: limit\n" and not told:
+            return
+        if (reduced, contents("err")) != (status, told) or (status == 1 and got != verdict):
+            raise Wrong("a witness is judged otherwise where it is reduced")
 
     def asks(self, work, name, rows):
         """The workbench prints the trace that the simulator writes."""

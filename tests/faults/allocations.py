@@ -34,6 +34,7 @@ RUNS = (
     ("witness", ["witness", f"{EXAMPLES}/wraps.aag", f"{EXAMPLES}/wraps.stim"]),
     ("refute", ["refute", "--frames", "1", "never", "proof"]),
     ("refute with a step", ["refute", "--frames", "1", "--step", "step", "never", "proof"]),
+    ("reduce", ["reduce", f"{EXAMPLES}/wraps.aag", f"{EXAMPLES}/wraps.wit"]),
     ("cnf of a step", ["cnf", "--step", "--frames", "3", "guarded_latch"]),
     ("select", ["select", "--to", "aag", "--property", "0", "--property", "0", "sections"]),
     ("select that renumbers", ["select", "--to", "aig", "--from", "outputs", f"{EXAMPLES}/two_gates.aag"]),

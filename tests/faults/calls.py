@@ -81,6 +81,8 @@ RUNS = (
     ("info --names", [("circuit", CYCLE)], "output", 1, b"aig: circuit: cycle 2\n", [b""]),
     ("check", [("circuit", BAD_INPUT), ("witness", b"1\nb0\n\n1\n.\n")], "output", 0, b"", [b"confirmed\n"]),
     ("check", [("circuit", BAD_INPUT), ("witness", b"1\nb0\n\nx\n.\n")], "output", 1, b"", [b"not bad\n"]),
+    ("reduce", [("circuit", BAD_INPUT), ("witness", b"1\nb0\n\n0\n1\n.\n")], "output", 0, b"", [b"1\nb0\n\nx\n1\n.\n"]),
+    ("reduce", [("circuit", BAD_INPUT), ("witness", b"1\nb0\n\n0\n.\n")], "output", 1, b"", [b"not bad\n"]),
     ("check --trace", [("circuit", BAD_INPUT), ("witness", b"1\nb0\n\nx\n.\n")], "output",
      1, b"", [b" x  \nnot bad\n"]),
     ("wave --witness", [("circuit", BAD_INPUT), ("witness", b"1\nb0\n\nx\n1\n.\n")], "output", 0, b"",

@@ -51,6 +51,8 @@ SPLIT = (
     (["select", "--property", "0", "--property", "1", "a"], ["a.aag"]),
     (["refute", "--"], ["--explain", "--frames", "--help", "--property", "--step"]),
     (["refute", "--step", "ro"], ["rows.stim"]),
+    (["reduce", "--"], ["--explain", "--help"]),
+    (["reduce", "a.aag", "ro"], ["rows.stim"]),
     (["refute", "--frames", "3", "a.aag", "ro"], ["rows.stim"]),
     (["sim", "a.aag", ""], ["a.aag", "b.aig", "notes", "rows.stim", "sub", "with space.aag"]),
     (["wave", "--witness", "a"], ["a.aag"]),

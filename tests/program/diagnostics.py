@@ -69,6 +69,7 @@ CASES = (
     ("ends before it refutes", ["refute", "--frames", "1", "bad_input", "nothing"], "the proof ends before it refutes"),
     ("more than 65,536 rows", ["bench", "two_gates", "many.stim", "script"], "at most 65,536 rows"),
     ("too large for so many rows", ["bench", "many", "empty.stim", "script"], "at most 67,108,864"),
+    ("too large for so many rows", ["reduce", "wide", "rows.wit"], "at most 67,108,864"),
     ("was killed", BENCH, "rename it or remove it"),
     ("is also the standard output", ["bench", "--circuit-out", "/dev/full", "two_gates", "rows", "script"],
      "may be full"),
@@ -131,7 +132,8 @@ def write_files():
             "crlf.wit": witness.replace("\n", "\r\n"), "comment.wit": "c found by a solver\n" + witness,
             "other.wit": witness.replace("b0", "b7"), "several.wit": witness * 2, "sat.wit": "sat\n" + witness,
             "unsat.wit": "0\nb0\n.\n", "row.wit": "0101\n", "values.wit": "i0=1 i1=0\n",
-            "many.wit": "1\nb0\n\n" + "1\n" * 65537 + ".\n", "rows": "01\n", "script": "v 0 8\n", "out.new": "",
+            "many.wit": "1\nb0\n\n" + "1\n" * 65537 + ".\n", "rows.wit": "1\nb0\n\n" + "1\n" * 17 + ".\n",
+            "wide": "aag 4194303 1 0 0 0 1\n2\n2\n", "rows": "01\n", "script": "v 0 8\n", "out.new": "",
             "many.stim": "01\n" * 65537, "empty.stim": "\n" * 17, "crlf.script": "v 0 8\r\nt\r\n"}.items():
         write(name, data)
 

@@ -347,6 +347,10 @@ def others(rows):
         rows.row(f"a proof with the fault {fault}", ["refute", "--frames", "1", "bad_input", write("proof", proof)],
                  f"proof: {fault}",
                  [why, "it has to be about the formula of aig cnf for the same K, P and CIRCUIT"])
+    write("wide", "aag 4194303 1 0 0 0 1\n2\n2\n")
+    rows.row("cells of a bench for a witness", ["reduce", "wide", write("f", "1\nb0\n\n" + "1\n" * 17 + ".\n")],
+             "bench: limit", ["M = 4194303 and 17 rows: (M + 1) * rows = 71303168",
+                              "wanted: at most 67,108,864; use fewer rows"])
     rows.row("cells of a bench", ["bench", "many", write("f", "\n" * 17), write("s", "")], "bench: limit",
              ["M = 4194303 and 17 rows: (M + 1) * rows = 71303168", "wanted: at most 67,108,864; use fewer rows"])
 

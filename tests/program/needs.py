@@ -27,6 +27,7 @@ RUNS = (
     ["witness", "examples/wraps.aag", "examples/wraps.stim"],
     ["select", "--to", "aig", "--from", "outputs", "examples/counter.aag"],
     ["refute", "--frames", "3", "examples/wraps.aag", "examples/wraps.drat"],
+    ["reduce", "examples/wraps.aag", "examples/wraps.wit"],
     ["info", "examples/counter.aag"],
     ["--explain", "info", "examples/cyclic.aag"],
     ["--explain", "sim", "examples/counter.aag", "examples/counter.aag"],

@@ -37,6 +37,7 @@ REFUSALS = (
     ("a property of a witness with a letter", ["witness", "--property", "b1", "two_gates", "two_gates"]),
     ("no proof to refute with", ["refute", "--frames", "2", "two_gates"]),
     ("no number of frames to refute", ["refute", "two_gates", "proof"]),
+    ("no witness to reduce", ["reduce", "two_gates"]),
     ("a property over its limit", ["select", "--to", "aag", "--property", "4294967296", "two_gates"]),
 )
 
@@ -46,7 +47,8 @@ def words(program, tally, _):
     write_all()
     for word in ("--help", "-h", "help"):
         tells(rows, [word], contents(f"{EXPECTED}/help/aig.txt"))
-    for command in ("toaig", "sim", "wave", "bench", "unroll", "check", "cnf", "info", "select", "witness", "refute"):
+    for command in ("toaig", "sim", "wave", "bench", "unroll", "check", "cnf", "info", "select", "witness", "refute",
+                    "reduce"):
         for asked in ([command, "--help"], [command, "-h"], ["help", command]):
             tells(rows, asked, contents(f"{EXPECTED}/help/{command}.txt"))
     tells(rows, ["help", "help"], contents(f"{EXPECTED}/help/help.txt"))

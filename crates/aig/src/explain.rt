@@ -5,13 +5,14 @@ use crate::kept::Kept;
 use crate::look::{MORE_MEMORY, Obstacle, explain_reading, note, note_name, read_again};
 use crate::output_look::{explain_output, explain_standard_output};
 use crate::proof_look::explain_proof;
+use crate::select_look::explain_select;
 use crate::task::Task;
-use aig_base::{Fault, Memory, SelectFault};
+use aig_base::{Fault, Memory};
 use aig_bench::BenchFault;
 use aig_cnf::CnfFault;
 use aig_explain::{
-    Explanation, explain_bench, explain_circuit, explain_cnf, explain_stimulus, explain_unroll,
-    explain_witness,
+    Explanation, explain_bench, explain_circuit, explain_cnf, explain_reduction, explain_stimulus,
+    explain_unroll, explain_witness,
 };
 use aig_fault::{RunFault, ScriptFault};
 use aig_sim::{ReachFault, StimFault, WitnessFault};
@@ -51,6 +52,8 @@ struct TaskFiles<'a> {
     map: Option<&'a str>,
     frames: u32,
     property: u32,
+    // Whether the run is a witness on a bench.
+    reduces: bool,
 }
 
 impl<'a> TaskFiles<'a> {
@@ -129,6 +132,10 @@ impl<'a> TaskFiles<'a> {
                 step: Some(step),
                 ..TaskFiles::new(circuit, Some(proof))
             },
+            Task::Reduce { circuit, witness } => TaskFiles {
+                reduces: true,
+                ..TaskFiles::new(circuit, Some(witness))
+            },
         }
     }
 
@@ -145,6 +152,7 @@ impl<'a> TaskFiles<'a> {
             map: None,
             frames: 0,
             property: 0,
+            reduces: false,
         }
     }
 }
@@ -172,7 +180,7 @@ fn explain_fault<R: Files + AllocGlobal + Print + Eprint>(
         RunFault::Script(fault) => of_script(rt, files, fault),
         RunFault::Unroll(fault) => of_unroll(rt, files, fault),
         RunFault::Cnf(fault) => of_cnf(rt, files, fault),
-        RunFault::Select(fault) => of_select(rt, files, fault),
+        RunFault::Select(fault) => explain_select(rt, files.circuit, fault),
         RunFault::Reach(fault) => of_reach(rt, files, fault),
         RunFault::Proof(fault) => explain_proof(rt, files.run, fault),
         RunFault::StepProof(fault) => explain_proof(rt, files.step, fault),
@@ -233,7 +241,13 @@ fn of_two_files<R: Files + AllocGlobal + Eprint>(rt: &R, files: &TaskFiles<'_>, 
     match read_again(rt, name) {
         Ok(file) => print(
             rt,
-            explanation_of(rt.alloc(), bytes_of(&circuit), file.as_slice(), fault),
+            explanation_of(
+                rt.alloc(),
+                files,
+                bytes_of(&circuit),
+                file.as_slice(),
+                fault,
+            ),
         ),
         Err(obstacle) => obstacle.explain(rt),
     }
@@ -253,6 +267,7 @@ fn bytes_of(file: &Result<Vec<u8>, Obstacle>) -> &[u8] {
 
 fn explanation_of(
     alloc: Global,
+    files: &TaskFiles<'_>,
     circuit: &[u8],
     file: &[u8],
     fault: RunFault,
@@ -260,6 +275,7 @@ fn explanation_of(
     match fault {
         RunFault::Stimulus(fault) => explain_stimulus(alloc, circuit, file, fault),
         RunFault::Witness(fault) => explain_witness(alloc, circuit, file, fault),
+        RunFault::Bench(fault) if files.reduces => explain_reduction(alloc, circuit, file, fault),
         RunFault::Bench(fault) => explain_bench(alloc, circuit, file, fault),
         _ => Ok(Explanation::new(alloc)),
     }
@@ -332,31 +348,6 @@ fn of_cnf_text<R: Files + AllocGlobal + Eprint>(rt: &R, files: &TaskFiles<'_>, f
             ),
         ),
         Err(obstacle) => obstacle.explain(rt),
-    }
-}
-
-fn of_select<R: AllocGlobal + Eprint>(rt: &R, files: &TaskFiles<'_>, fault: SelectFault) {
-    match fault {
-        SelectFault::Memory => note(rt, MORE_MEMORY),
-        SelectFault::Property => {
-            note_name(rt, files.circuit);
-            note(
-                rt,
-                "the section has no property at a position that --property names",
-            );
-            note(
-                rt,
-                "positions count from 0: aig info --names CIRCUIT prints them",
-            );
-            note(
-                rt,
-                "a circuit of AIGER 1.0 has outputs alone: --from outputs",
-            );
-        }
-        SelectFault::Limit => {
-            note_name(rt, files.circuit);
-            note(rt, "a section has at most 4,194,303 properties");
-        }
     }
 }
 

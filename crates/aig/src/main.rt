@@ -13,6 +13,7 @@ mod output_file;
 mod output_look;
 mod proof_look;
 mod reserved;
+mod select_look;
 mod simulations;
 mod task;
 mod witnesses;

@@ -6,7 +6,7 @@ use crate::circuits::{
 use crate::exit::Exit;
 use crate::kept::Kept;
 use crate::simulations::{bench, simulate, wave};
-use crate::witnesses::{check, refute, refute_step, wave_witness, witness};
+use crate::witnesses::{check, reduce, refute, refute_step, wave_witness, witness};
 use aig_base::PropertySection;
 use aig_cli::{has_flag, number_of, subcommand_of, text_of, texts_of};
 use aig_format::Format;
@@ -89,6 +89,10 @@ pub enum Task<'a> {
         proof: &'a str,
         step: &'a str,
     },
+    Reduce {
+        circuit: &'a str,
+        witness: &'a str,
+    },
 }
 
 impl<'m> Task<'m> {
@@ -107,6 +111,7 @@ impl<'m> Task<'m> {
             "select" => selection_of(matches),
             "witness" => witness_of(matches),
             "refute" => refutation_of(matches),
+            "reduce" => reduction_of(matches),
             _ => None,
         }
     }
@@ -173,6 +178,7 @@ impl<'m> Task<'m> {
                 proof,
                 step,
             } => refute_step(rt, frames, property, circuit, proof, step),
+            Task::Reduce { circuit, witness } => reduce(rt, circuit, witness),
         }
     }
 }
@@ -321,4 +327,11 @@ fn refutation_of<'a>(matches: &ArgMatches<'a>) -> Option<Task<'a>> {
             proof,
         }),
     }
+}
+
+fn reduction_of<'a>(matches: &ArgMatches<'a>) -> Option<Task<'a>> {
+    Some(Task::Reduce {
+        circuit: text_of(matches, "CIRCUIT")?,
+        witness: text_of(matches, "WITNESS")?,
+    })
 }

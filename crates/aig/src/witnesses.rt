@@ -1,9 +1,10 @@
-//! The tasks on a witness: its check, the dump of its run, and how it is made; and the check of proofs that there is none.
+//! The tasks on a witness: its check, its reduction, the dump of its run, and how it is made; and the check of proofs
+//! that there is none.
 
 use crate::exit::Exit;
 use crate::files::{CIRCUIT, open, output, read_whole};
 use aig_base::Std;
-use aig_commands::{check, induction, refute, wave, witness};
+use aig_commands::{check, induction, reduce, refute, wave, witness};
 use aig_fault::RunFault;
 use aig_proof::ProofFault;
 use aig_sim::{StimFault, Verdict};
@@ -62,6 +63,29 @@ fn confirmation(verdict: Verdict) -> Result<(), Exit> {
         Verdict::Confirmed => Ok(()),
         Verdict::Initial(_) | Verdict::Constraint(..) | Verdict::NotBad => Err(Exit::NotConfirmed),
     }
+}
+
+/// Writes a confirmed witness with x in place of each value that it does not need, or another verdict.
+pub fn reduce<R: Files + AllocGlobal + Print>(
+    rt: &R,
+    circuit: &str,
+    witness: &str,
+) -> Result<(), Exit> {
+    let circuit = open(rt, circuit, CIRCUIT)?;
+    let witness = open(rt, witness, WITNESS)?;
+    reduce_files(rt, circuit, witness)
+}
+
+fn reduce_files<R: AllocGlobal + Print, F: Read + Drop>(
+    rt: &R,
+    circuit: F,
+    witness: F,
+) -> Result<(), Exit> {
+    let circuit = read_whole(rt.alloc(), circuit, CIRCUIT)?;
+    let witness = read_whole(rt.alloc(), witness, WITNESS)?;
+    let mut out = output(rt);
+    let verdict = reduce::reduce(rt.alloc(), circuit.as_slice(), witness.as_slice(), &mut out)?;
+    confirmation(verdict)
 }
 
 /// Writes the value change dump of a witness's run.

@@ -3,8 +3,8 @@
 use crate::arguments::explain_flag;
 use crate::help;
 use crate::subcommands::{
-    bench_command, check_command, cnf_command, info_command, refute_command, select_command,
-    sim_command, toaig_command, unroll_command, wave_command, witness_command,
+    bench_command, check_command, cnf_command, info_command, reduce_command, refute_command,
+    select_command, sim_command, toaig_command, unroll_command, wave_command, witness_command,
 };
 use clap::{ArgMatches, Command};
 use std::alloc::{AllocError, Global};
@@ -41,7 +41,8 @@ fn command_line<'a>(alloc: Global) -> Result<Command<'a>, AllocError> {
     let facts = with_subcommand(formulas, info_command(alloc))?;
     let selections = with_subcommand(facts, select_command(alloc))?;
     let witnesses = with_subcommand(selections, witness_command(alloc))?;
-    with_subcommand(witnesses, refute_command(alloc))
+    let proofs = with_subcommand(witnesses, refute_command(alloc))?;
+    with_subcommand(proofs, reduce_command(alloc))
 }
 
 /// Parses the arguments; the first is the program's name.

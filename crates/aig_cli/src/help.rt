@@ -192,6 +192,20 @@ Many properties hold and have no such proof, whatever K is.
 Example: aig refute --frames 3 examples/wraps.aag examples/wraps.drat
 See also: man aig, man 5 aig-formats";
 
+pub static REDUCE: &str =
+    "reduce tries x (unknown) at each value of a confirmed witness: first at the
+starts of the uninitialised latches, then at the inputs, frame by frame. An x
+stays if the verdict is still confirmed. The values that are left are those that
+the failure needs: none of them can be x as well. The run reaches the bad state
+whatever value each x takes.
+
+If the verdict is not confirmed, reduce prints it, as check does, and nothing
+else. The exit status is then 1. (M + 1) times the number of frames is at most
+67,108,864, as for bench.
+
+Example: aig reduce examples/wraps.aag examples/wraps.wit
+See also: man aig, man 5 aig-formats";
+
 pub static ALL: &str = "Environment:
   AIG_EXPLAIN  if it is 1, every command has the option --explain
 

@@ -111,6 +111,14 @@ pub fn witness_command<'a>(alloc: Global) -> Result<Command<'a>, AllocError> {
         .arg(stimulus_argument(alloc))
 }
 
+pub fn reduce_command<'a>(alloc: Global) -> Result<Command<'a>, AllocError> {
+    Command::new(alloc, "reduce")
+        .about("Write a witness with x in place of each value that it does not need")
+        .after_help(help::REDUCE)
+        .arg(circuit_argument(alloc))?
+        .arg(witness_argument(alloc))
+}
+
 pub fn refute_command<'a>(alloc: Global) -> Result<Command<'a>, AllocError> {
     Command::new(alloc, "refute")
         .about("Check a SAT solver's proof that no run reaches a bad state")

@@ -8,4 +8,6 @@ mod files;
 #[cfg(test)]
 mod messages;
 #[cfg(test)]
+mod reductions;
+#[cfg(test)]
 mod scripts;

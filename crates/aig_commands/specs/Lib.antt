@@ -6,6 +6,7 @@ pub mod CnfStep
 pub mod GoesWell
 pub mod Info
 pub mod Names
+pub mod Reduce
 pub mod Refute
 pub mod Select
 pub mod Sim

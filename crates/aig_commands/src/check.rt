@@ -33,7 +33,7 @@ fn write_constraint<W: Write>(frame: u32, constraint: u32, out: &mut W) -> Resul
 }
 
 /// Writes the line of a verdict.
-fn write_verdict<W: Write>(verdict: Verdict, out: &mut W) -> Result<(), Io>
+pub(crate) fn write_verdict<W: Write>(verdict: Verdict, out: &mut W) -> Result<(), Io>
     ensures { Writes W.written W.failures out.old out.new (verdict_text verdict) result }
 {
     match verdict {

@@ -8,6 +8,7 @@ pub mod cnf_step;
 mod entries;
 pub mod induction;
 pub mod info;
+pub mod reduce;
 pub mod refute;
 pub mod select;
 pub mod sim;

@@ -5,12 +5,12 @@ use crate::explanation::Explanation;
 use crate::header::Header;
 use crate::stimulus::header_of;
 use crate::text_lines::TextLines;
+use crate::witness::frames_of;
 use aig_bench::BenchFault;
 use aig_bytes::Memory;
 use std::alloc::Global;
 
-fn push_limit(lines: &mut Explanation, circuit: &[u8], stimulus: &[u8]) -> Result<(), Memory> {
-    let rows = TextLines::of(stimulus).ended();
+fn push_limit(lines: &mut Explanation, circuit: &[u8], rows: usize) -> Result<(), Memory> {
     let Some(Header { max_var, .. }) = header_of(circuit) else {
         return lines.add(format_args!("(M + 1) * {rows} rows; wanted: at most 67,108,864"));
     };
@@ -25,13 +25,33 @@ fn push_limit(lines: &mut Explanation, circuit: &[u8], stimulus: &[u8]) -> Resul
 fn push_fault(
     lines: &mut Explanation,
     circuit: &[u8],
-    stimulus: &[u8],
+    rows: usize,
     fault: BenchFault,
 ) -> Result<(), Memory> {
     match fault {
         BenchFault::Memory => Ok(()),
         BenchFault::Width => lines.add("the stimulus has not one value for each input"),
-        BenchFault::Limit => push_limit(lines, circuit, stimulus),
+        BenchFault::Limit => push_limit(lines, circuit, rows),
+    }
+}
+
+// Why no bench is made of a circuit and so many rows.
+fn explain_rows(
+    alloc: Global,
+    circuit: &[u8],
+    rows: usize,
+    fault: BenchFault,
+) -> Result<Explanation, Memory>
+    ensures memory { fault ≡ BenchFault.Memory → IfOk result (λ lines. lines ≡ []) }
+    ensures explained { fault ≢ BenchFault.Memory → IfOk result (λ lines. lines ≢ []) }
+{
+    let mut lines = Explanation::new(alloc);
+    match fault {
+        BenchFault::Memory => Ok(lines),
+        _ => {
+            push_fault(&mut lines, circuit, rows, fault)?;
+            lines.or_nothing_found()
+        }
     }
 }
 
@@ -46,12 +66,18 @@ pub fn explain_bench(
     ensures memory { fault ≡ BenchFault.Memory → IfOk result (λ lines. lines ≡ []) }
     ensures explained { fault ≢ BenchFault.Memory → IfOk result (λ lines. lines ≢ []) }
 {
-    let mut lines = Explanation::new(alloc);
-    match fault {
-        BenchFault::Memory => Ok(lines),
-        _ => {
-            push_fault(&mut lines, circuit, stimulus, fault)?;
-            lines.or_nothing_found()
-        }
-    }
+    explain_rows(alloc, circuit, TextLines::of(stimulus).ended(), fault)
+}
+
+/// Explains the same of the bench on which a witness is reduced. Neither file is rejected.
+pub fn explain_reduction(
+    alloc: Global,
+    circuit: &[u8],
+    witness: &[u8],
+    fault: BenchFault,
+) -> Result<Explanation, Memory>
+    ensures memory { fault ≡ BenchFault.Memory → IfOk result (λ lines. lines ≡ []) }
+    ensures explained { fault ≢ BenchFault.Memory → IfOk result (λ lines. lines ≢ []) }
+{
+    explain_rows(alloc, circuit, frames_of(witness), fault)
 }

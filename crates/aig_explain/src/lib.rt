@@ -22,7 +22,7 @@ mod unrolling;
 mod witness;
 mod witness_text;
 
-pub use bench::explain_bench;
+pub use bench::{explain_bench, explain_reduction};
 pub use circuit::explain_circuit;
 pub use cnf::explain_cnf;
 pub use explanation::{Explanation, escaped};

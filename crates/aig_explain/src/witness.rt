@@ -58,9 +58,13 @@ fn push_property(
     push_bad_count(lines, header)
 }
 
+/// How many frames a witness has: the first three lines and the last one are none.
+pub(crate) fn frames_of(file: &[u8]) -> usize {
+    TextLines::of(file).ended().saturating_sub(4)
+}
+
 fn push_limit(lines: &mut Explanation, file: &[u8]) -> Result<(), Memory> {
-    // The first three lines and the last one are no frames.
-    let frames = TextLines::of(file).ended().saturating_sub(4);
+    let frames = frames_of(file);
     lines.add(format_args!("the witness has {frames} frames"))?;
     lines.add("wanted: at most 65,536 frames")
 }

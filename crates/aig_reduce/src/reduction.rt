@@ -12,7 +12,7 @@ use crate::reducer::Reducer;
 use crate::starts::start_at;
 use aig_base::{Circuit, Io, Latch, Memory, Write};
 use aig_bench::{Bench, BenchFault};
-use aig_sim::{PlaneGrid, Verdict, Witness, check_witness, read_witness};
+use aig_sim::{PlaneGrid, Verdict, Witness, check_witness, read_witness, write_witness};
 use std::alloc::Global;
 use std::marker::Model;
 
@@ -32,6 +32,26 @@ impl Model for ReducedWitness {
       start = r.reducer.start.items;
       rows = r.reducer.bench.pair.rows;
     } };
+}
+
+impl ReducedWitness {
+    /// Writes the text of the witness. It takes no memory, and writes the first lines in small pieces: pass a writer
+    /// that buffers them.
+    pub fn write<W: Write>(&self, out: &mut W) -> Result<(), Io>
+        ensures written { Writes W.written W.failures out.old out.new
+            (witness_text (decimal self.now.property) self.now.start self.now.rows) result }
+        ensures position { IsDecimal (decimal self.now.property) self.now.property }
+    {
+        let reducer = &self.reducer;
+        let bench = &reducer.bench;
+        write_witness(
+            out,
+            reducer.property,
+            &reducer.start,
+            bench.stimulus(),
+            bench.frames(),
+        )
+    }
 }
 
 /// What a reduction answers.

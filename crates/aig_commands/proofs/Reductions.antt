@@ -1,0 +1,75 @@
+-- What is written of a reduction, from what it answers.
+use Rattle.std.proofs.Common.{◌≡◌, List, ℕ, Result, Ok, Err, inl, inr, refl, sym, ap, subst}
+use Rattle.std.specs.Fmt.{decimal}
+use Rattle.std.specs.Prelude.{Option, IfErr, IfOk}
+use Rattle.aig_parts.specs.declared.raw.Raw.{Raw}
+use Rattle.aig_base.specs.Circuit.{IsCircuit}
+use Rattle.aig_bytes.specs.Bytes.{Writes}
+use Rattle.aig_bytes.specs.Flow.{flow}
+use Rattle.aig_fault.specs.declared.run_fault.RunFault.{RunFault}
+use Rattle.aig_fault.specs.declared.run_fault.RunFault.TheVariants as run_faults
+use Rattle.aig_fault.specs.Command.{CommandEnds}
+use Rattle.aig_fault.proofs.Written.{got_all, got_part}
+use Rattle.aig_sim.specs.declared.verdict.Verdict.TheVariants.{Initial, Constraint, NotBad, Confirmed}
+use Rattle.aig_sim.specs.Verdict.{IsVerdict}
+use Rattle.aig_sim.specs.WitnessText.{Witness, IsDecimal, SpellsWitness, witness_text}
+use Rattle.aig_reduce.specs.declared.reduction.Reduction.{Reduction}
+use Rattle.aig_reduce.specs.declared.reduction.Reduction.TheVariants as reductions
+use Rattle.aig_reduce.specs.Answers.{IsGiven, AnswersReduction}
+use Rattle.aig_reduce.specs.Irreducible.{IsConfirmedWitness}
+use Rattle.aig_reduce.proofs.Irreducibles.{holds_reduced}
+use Rattle.aig_commands.specs.Reduce.{HasDecimalPosition, Reduces, reduction_text, verdict_of}
+
+-- the given witness is one that the circuit can run
+given_confirmed : (raw : Raw) (text : List ℕ) (given : Witness) → IsGiven raw text given → IsVerdict raw given Confirmed
+    → IsConfirmedWitness raw given
+given_confirmed raw text given is confirmed = record {
+  latches = is.text_is.start_is;
+  widths = is.text_is.widths;
+  some = is.text_is.some;
+  property = is.admitted.0;
+  verdict = confirmed;
+}
+
+-- a confirmed witness is spelled by its text
+spells_confirmed : (raw : Raw) (w : Witness) → IsConfirmedWitness raw w → IsDecimal (decimal w.property) w.property
+    → SpellsWitness raw (witness_text (decimal w.property) w.start w.rows) w
+spells_confirmed raw w is position = record {
+  start_is = is.latches;
+  widths = is.widths;
+  some = is.some;
+  digits = decimal w.property;
+  position = position;
+  text_is = refl;
+}
+
+pub reduces : (raw : Raw) (text : List ℕ) → IsCircuit raw → (reduction : Reduction) → HasDecimalPosition reduction
+    → AnswersReduction raw text reduction → Reduces text raw (Ok (verdict_of reduction)) (reduction_text reduction)
+reduces raw text circuit (reductions.Reduced new) position (given, is, (confirmed, reduced)) =
+    let holds = holds_reduced raw circuit given (given_confirmed raw text given is confirmed) new reduced in
+    record {
+      given = given;
+      given_is = is;
+      confirmed = confirmed;
+      new = new;
+      spelled = spells_confirmed raw new holds.confirmed position;
+      reduced = reduced;
+      holds = holds;
+    }
+reduces raw text circuit (reductions.Refused (Initial p)) position (given, is, (ne, verdict)) =
+    record { given = given; given_is = is; verdict_is = verdict; written_is = refl }
+reduces raw text circuit (reductions.Refused (Constraint t p)) position (given, is, (ne, verdict)) =
+    record { given = given; given_is = is; verdict_is = verdict; written_is = refl }
+reduces raw text circuit (reductions.Refused NotBad) position (given, is, (ne, verdict)) =
+    record { given = given; given_is = is; verdict_is = verdict; written_is = refl }
+reduces raw text circuit (reductions.Refused Confirmed) position (given, is, (ne, verdict)) = absurd (ne refl)
+
+-- one text is written, the answer is its own, and a fault is the output's
+pub answer_ends : {X T : Type 0} (written : X → Option (List ℕ)) (failures : X → ℕ) (old new : X)
+    (Means : Result T RunFault → List ℕ → Type 0) (bytes : List ℕ) (answer : T) (r : Result T RunFault)
+    → Writes written failures old new bytes r → IfOk r (λ value. value ≡ answer) → IfErr r (λ fault. fault ≡ run_faults.Output)
+    → Means (Ok answer) bytes → CommandEnds (flow written failures old new) run_faults.Output Means r
+answer_ends written failures old new Means bytes answer (Ok value) w is output means =
+    inl (bytes, subst (λ v. Means (Ok v) bytes) (sym is) means, got_all written failures old new bytes value w)
+answer_ends written failures old new Means bytes answer (Err fault) w is output means =
+    inr (ap Err output, (Ok answer, bytes, means, got_part written failures old new bytes fault w))
