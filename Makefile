@@ -38,7 +38,7 @@ prove:
 	@.ci/run
 
 bench: $(PROGRAM)
-	@benchmarks/measure.py --aig "$(PROGRAM)" --times 3 goals memory
+	@benchmarks/measure.py --aig "$(PROGRAM)" --times 3 goals refute memory
 
 install: $(PROGRAM)
 	@[ "$(PROGRAM)" != build/aig ] || echo "make install: warning: nothing of this program is proved" >&2

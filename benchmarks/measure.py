@@ -6,6 +6,7 @@ Tables:
   ratios     aig / C++, of conversions, simulations and questions (--jobs and --shapes pick, --list names them)
   edits      aig / C++, of edits of every kind on copies of a cipher
   benches    aig / C++, making a bench of a million gates
+  refute     aig / C++, checking proofs that cadical wrote, beside cadical's own time
   sizes      aig / C++, how conversions, frames and benches grow from 100,000 to 4,000,000 gates
   memory     the greatest resident sizes of both
   growth     circuit check, levels and order by the number of gates
@@ -16,7 +17,8 @@ and, which is no table,
              statuses
 
 It measures the program that --aig names, else the proved crates/aig/out/aig; where that is not there, one is built
-without proofs. It needs c++, 1 GB for files and, for growth, grids and what is built without proofs, rt. What it builds
+without proofs. It needs c++, 1 GB for files and, for growth, grids and what is built without proofs, rt; for refute
+yosys and cadical, without which that table has no rows. What it builds
 and makes is put into the folder that --room names, for the next call, else into a temporary one. A time is the
 processor time of the whole process, the least of --times runs; where two programs are compared their runs take turns,
 so that a disturbance meets both."""
@@ -36,7 +38,7 @@ BENCHMARKS = os.path.dirname(os.path.abspath(__file__))
 REPOSITORY = os.path.dirname(BENCHMARKS)
 sys.path.insert(0, REPOSITORY + "/tests")
 from library import broken  # noqa: E402
-from library.runs import DESIGNS, EXAMPLES, contents_of, write  # noqa: E402
+from library.runs import DESIGNS, EXAMPLES, contents, contents_of, write  # noqa: E402
 
 SOURCES = (1000, 1000, 100)  # inputs, latches, outputs
 MILLION = 1_000_000
@@ -127,12 +129,12 @@ def empty():
 class Run:
     """What a run of a program took."""
 
-    def __init__(self, words, output=os.devnull):
+    def __init__(self, words, output=os.devnull, expected=0):
         words = list(map(str, words))
         with open(output, "wb") as out, subprocess.Popen(words, stdout=out, stderr=subprocess.DEVNULL) as process:
             _, status, usage = os.wait4(process.pid, 0)
             process.returncode = os.waitstatus_to_exitcode(status)
-        if process.returncode:
+        if process.returncode != expected:
             sys.exit(f"{words} ended with status {process.returncode}")
         self.seconds = usage.ru_utime + usage.ru_stime
 
@@ -190,6 +192,8 @@ def tuned_words(words):
         return ["to" + words[2], words[3]]
     if words[0] == "cnf":
         return ["cnf", words[2], 0, words[3]]
+    if words[0] == "refute":
+        return ["refute", words[2], words[4], *words[5:]]
     return words
 
 
@@ -543,6 +547,60 @@ def memory(programs, _):
         row(name, *(f"{size / 1e6:.0f} MB" for size in sizes))
 
 
+# ---- proofs
+
+# Designs whose assertion at this position holds within so many frames.
+REFUTED = (("queue", f"{EXAMPLES}/queue.v", 1, (10, 20, 40, 80)), ("fifo", f"{DESIGNS}/fifo.v", 1, (20, 300)))
+UNSATISFIABLE = 20  # cadical's status
+
+
+def circuit_of(name, design):
+    """The circuit that Yosys makes of a design, as `examples/flow.sh` has it."""
+    file = f"{name}.flow.aig"
+    if not os.path.exists(file):
+        Run(["yosys", "-q", "-p", f"read_verilog -sv -formal {design}; prep -flatten -top {name}; memory_map; opt -full; "
+             f"techmap; opt -fast; dffunmap; abc -g AND -fast; opt_clean; write_aiger -symbols {file}"])
+    return file
+
+
+class Proof:
+    """A solver's proof that no run reaches a property within some frames."""
+
+    def __init__(self, programs, circuit, frames, place):
+        self.programs, self.formula, self.file = programs, f"{circuit}.{frames}.cnf", f"{circuit}.{frames}.drat"
+        self.words = ["refute", "--frames", frames, "--property", place, circuit, self.file]
+        Run([programs.get("tuned"), "cnf", frames, place, circuit], self.formula)
+
+    def solve(self):
+        return Run(["cadical", "-q", self.formula, self.file], expected=UNSATISFIABLE).seconds
+
+    def checks(self):
+        """The arguments that check it, by the C++ program and by `aig`."""
+        return [[self.programs.get("tuned"), *tuned_words(self.words)], [self.programs.get("aig"), *self.words]]
+
+
+def refute(programs, chosen):
+    """Checking proofs."""
+    head("Checking cadical's proofs (processor time; greatest resident size).", "formula", "proof", "cadical", "C++", "aig",
+         "aig / C++", "aig / cadical", "memory: C++", "memory: aig")
+    missing = [tool for tool in ("yosys", "cadical") if not shutil.which(tool)]
+    if missing:
+        print(f"\nNo rows: {' and '.join(missing)} not found.")
+        return
+    floor = resident(["true"])
+    for name, design, place, all_frames in REFUTED:
+        for frames in all_frames:
+            proof = Proof(programs, circuit_of(name, design), frames, place)
+            solver = min(proof.solve() for _ in range(min(chosen.times, 3)))
+            same(*proof.checks())
+            tuned, ours = least(chosen.times, *proof.checks())
+            sizes = [resident(list(map(str, words))) for words in proof.checks()]
+            # What starts a run counts too, and hides the sizes of small ones.
+            shown = [f"{size / 1e6:.0f} MB" if min(sizes) > 1.1 * floor else "" for size in sizes]
+            row(f"{name}, {frames} frames", f"{os.path.getsize(proof.file) / 1e6:.2f} MB", milliseconds(solver),
+                milliseconds(tuned), milliseconds(ours), f"{ours / tuned:.2f}", f"{ours / solver:.2f}", *shown)
+
+
 # ---- the toolkit alone
 
 def growth(programs, chosen):
@@ -604,6 +662,17 @@ def grids(programs, chosen):
 
 # ---- both programs on broken files
 
+def binary_proof(text):
+    """The binary form of a proof in text."""
+    def spelled(number):
+        return bytes([number]) if number < 128 else bytes([number % 128 + 128]) + spelled(number // 128)
+
+    steps = [line.split() for line in text.splitlines()]
+    literals = ([int(word) for word in step if word != b"d"] for step in steps)
+    return b"".join((b"d" if step[0] == b"d" else b"a") + b"".join(spelled(2 * abs(each) + (each < 0)) for each in clause)
+                    for step, clause in zip(steps, literals))
+
+
 class Pair:
     """Both programs, and how often they were compared."""
 
@@ -631,6 +700,14 @@ class Pair:
         for to in ("aag", "aig"):
             ended = self.compare(note, ["toaig", "--to", to, circuit], ["to" + to, circuit])
         return ended
+
+    def proofs(self, rng, note):
+        """Broken proofs about a circuit of the examples."""
+        circuit, text = f"{EXAMPLES}/wraps.aag", contents(f"{EXAMPLES}/wraps.drat")
+        for proof in (text, binary_proof(text)):
+            write("proof", broken.changed(rng, proof, text))
+            words = ["refute", "--frames", "3", "--property", "0", circuit, "proof"]
+            self.compare(note, words, tuned_words(words))
 
     def case(self, sources, designs, rng, note):
         """A circuit, a stimulus and a script, most of them broken. The C++ program unrolls nothing."""
@@ -661,7 +738,9 @@ def compare(programs, chosen):
     for circuit in chosen.circuits:
         pair.conversions(circuit, circuit)
     for number in range(chosen.count):
-        pair.case(sources, designs, random.Random(f"{chosen.seed} {number}"), f"seed {chosen.seed}, case {number}")
+        rng, note = random.Random(f"{chosen.seed} {number}"), f"seed {chosen.seed}, case {number}"
+        pair.case(sources, designs, rng, note)
+        pair.proofs(rng, note)
     print(f"{pair.compared} runs compared, {pair.accepted} accepted, {pair.different} different")
     if pair.different:
         sys.exit(1)
@@ -669,7 +748,8 @@ def compare(programs, chosen):
 
 # ---- command line
 
-TABLES = {made.__name__: made for made in (goals, ratios, edits, benches, sizes, memory, growth, rewires, grids, compare)}
+TABLES = {made.__name__: made for made in (goals, ratios, edits, benches, refute, sizes, memory, growth, rewires, grids,
+                                           compare)}
 
 
 def machine(programs, chosen):

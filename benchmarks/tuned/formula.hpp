@@ -1,11 +1,12 @@
-// The formula that a bad state is reached within some frames, in DIMACS, with the comment lines of `aig cnf`. Frames are
-// unrolled one after the other as they are written: only the literals of one frame are kept.
+// The formula that a bad state is reached within some frames: its clauses, or in DIMACS with the comment lines of `aig
+// cnf`. Frames are unrolled one after the other: only the literals of one frame are kept.
 #pragma once
 
 #include "checker.hpp"
 #include "circuit.hpp"
 #include "writer.hpp"
 
+#include <initializer_list>
 #include <string_view>
 #include <utility>
 #include <vector>
@@ -35,12 +36,33 @@ public:
             put_number_line(frame);
         }
         out.put("p cnf ", 6);
-        put_number_field(uint32_t(inputs() + frames * size + 1));
+        put_number_field(variables());
         put_number_line(uint32_t(3 * frames * size + 2));
         clause({1});
         for (uint32_t goal : goals) put_literal(goal);
         out.put("0\n", 2);
         each_frame(gates, [&](uint32_t lhs, uint32_t a, uint32_t b) { put_gate(lhs, a, b); }, [](uint32_t) {});
+    }
+
+    uint32_t variables() const { return uint32_t(inputs() + frames * size + 1); }
+
+    // Calls with each clause. Variable 0 is false.
+    template <class EachClause>
+    void each_clause(EachClause each) const {
+        Array<Gate> gates = Levels(circuit).ordered_gates();
+        std::vector<uint32_t> literals;
+        auto call = [&](std::initializer_list<uint32_t> clause) {
+            literals.assign(clause);
+            each(literals);
+        };
+        call({1});
+        each(goals_of(gates));
+        auto each_gate = [&](uint32_t lhs, uint32_t a, uint32_t b) {
+            call({lhs ^ 1, a});
+            call({lhs ^ 1, b});
+            call({lhs, a ^ 1, b ^ 1});
+        };
+        each_frame(gates, each_gate, [](uint32_t) {});
     }
 
 private:

@@ -1,8 +1,11 @@
-// A tuned AIGER converter, simulator and workbench, which `aig` is measured against: the same checks, the same bytes.
+// A tuned AIGER converter, simulator, workbench and checker of proofs, which `aig` is measured against: the same checks, the
+// same bytes.
 
 #include "checker.hpp"
 #include "formula.hpp"
+#include "proof.hpp"
 #include "reader.hpp"
+#include "refutation.hpp"
 #include "simulator.hpp"
 #include "workbench.hpp"
 #include "writer.hpp"
@@ -13,7 +16,7 @@
 
 static const char usage[] =
     "usage: tuned toaag CIRCUIT | toaig CIRCUIT | sim CIRCUIT STIM | bench CIRCUIT STIM SCRIPT\n"
-    "       tuned cnf FRAMES PROPERTY CIRCUIT\n"
+    "       tuned cnf FRAMES PROPERTY CIRCUIT | refute FRAMES PROPERTY CIRCUIT PROOF\n"
     "       tuned touched CIRCUIT STIM SCRIPT       tells on standard error too how many gates the edits evaluate\n";
 
 static Circuit read_circuit(Source& source) {
@@ -30,11 +33,36 @@ static void convert(const char* word, const char* path, Output& out) {
     Writer(circuit, out).write_ascii();
 }
 
+static uint32_t number_of(const char* word) { return uint32_t(strtoul(word, nullptr, 10)); }
+
 static void formula(char** words, Output& out) {
     Source source(words[2], "circuit");
     Circuit circuit = read_circuit(source);
     check_cycles(circuit);
-    Formula(circuit, uint32_t(strtoul(words[0], nullptr, 10)), uint32_t(strtoul(words[1], nullptr, 10)), out).write();
+    Formula(circuit, number_of(words[0]), number_of(words[1]), out).write();
+}
+
+static void refute_by(Proof& proof, Refutation& refutation) {
+    for (uint64_t step = 1; !refutation.is_refuted(); ++step) {
+        if (!proof.next()) throw Refusal{"proof: no refutation"};
+        if (proof.deletes)
+            refutation.remove(proof.clause);
+        else if (!refutation.add_step(proof.clause))
+            throw Refusal{"proof: step " + std::to_string(step)};
+    }
+}
+
+static void refute(char** words, Output& out) {
+    Source source(words[2], "circuit"), proof_source(words[3], "proof");
+    Circuit circuit = read_circuit(source);
+    check_cycles(circuit);
+    Formula formula(circuit, number_of(words[0]), number_of(words[1]), out);
+    Refutation refutation(formula.variables());
+    formula.each_clause([&](const std::vector<uint32_t>& clause) { refutation.add(clause); });
+    Proof proof(proof_source, formula.variables());
+    refute_by(proof, refutation);
+    std::string answer = "unreachable within " + std::string(words[0]) + "\n";
+    out.put(answer.data(), answer.size());
 }
 
 static void simulate(char** paths, Output& out) {
@@ -60,6 +88,8 @@ static void run(int count, char** words, Output& out) {
         convert(word, words[2], out);
     else if (count == 5 && strcmp(word, "cnf") == 0)
         formula(words + 2, out);
+    else if (count == 6 && strcmp(word, "refute") == 0)
+        refute(words + 2, out);
     else if (count == 4 && strcmp(word, "sim") == 0)
         simulate(words + 2, out);
     else if (count == 5 && (strcmp(word, "bench") == 0 || strcmp(word, "touched") == 0))

@@ -3,6 +3,8 @@
 #![tactic(auto)]
 
 #[cfg(test)]
+mod binary_proofs;
+#[cfg(test)]
 mod bytes;
 #[cfg(test)]
 mod circuits;
@@ -21,11 +23,15 @@ mod parts;
 #[cfg(test)]
 mod reader;
 #[cfg(test)]
+mod refutations;
+#[cfg(test)]
 mod rewires;
 #[cfg(test)]
 mod stimulus;
 #[cfg(test)]
 mod symbols;
+#[cfg(test)]
+mod text_proofs;
 #[cfg(test)]
 mod traces;
 #[cfg(test)]

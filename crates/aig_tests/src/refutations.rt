@@ -1,0 +1,277 @@
+//! Checking refutations through the public calls: a solver's proofs of random formulas, whole, cut and changed; proofs at
+//! random beside all assignments; and single steps.
+use crate::binary_proofs::BINARY_PROOFS;
+use crate::text_proofs::TEXT_PROOFS;
+use aig_base::{Lit, MemReader};
+use aig_proof::{ProofReader, StepKind};
+use aig_refute::Refutation;
+use std::alloc::Global;
+
+/// A formula's number of variables; its clauses as text; of how many first ones a solver finds a satisfying assignment;
+/// and a solver's proof that there is none of all.
+pub type Refuted = (u8, &'static [u8], usize, &'static [u8]);
+
+// The formula of the first clauses of a text.
+fn formula_of(alloc: Global, variables: u8, text: &[u8], clauses: usize) -> Option<Refutation> {
+    let mut source = MemReader::new(text);
+    let mut reader = ProofReader::new(alloc, u32::from(variables));
+    let mut formula = Refutation::new(alloc, u32::from(variables)).ok()?;
+    for _ in 0..clauses {
+        reader.next(&mut source).ok()??;
+        formula.add_clause(reader.clause()).ok()?;
+    }
+    Some(formula)
+}
+
+// Whether a proof refutes a formula.
+fn is_refuted_by(alloc: Global, formula: &mut Refutation, variables: u8, proof: &[u8]) -> bool {
+    let mut source = MemReader::new(proof);
+    let mut reader = ProofReader::new(alloc, u32::from(variables));
+    for _ in 0..proof.len() {
+        match reader.next(&mut source) {
+            Ok(Some(StepKind::Add)) => {
+                if formula.add_step(reader.clause()) != Ok(true) {
+                    return false;
+                }
+            }
+            Ok(Some(StepKind::Delete)) => formula.delete(reader.clause()),
+            _ => break,
+        }
+    }
+    formula.is_refuted()
+}
+
+// Whether a proof refutes the first clauses of a text.
+fn refutes(alloc: Global, variables: u8, text: &[u8], clauses: usize, proof: &[u8]) -> bool {
+    match formula_of(alloc, variables, text, clauses) {
+        Some(mut formula) => is_refuted_by(alloc, &mut formula, variables, proof),
+        None => false,
+    }
+}
+
+// Whether a proof refutes its formula, and neither does nothing nor does it refute the formula without its last clause,
+// which an assignment satisfies.
+fn is_told_apart(alloc: Global, row: Refuted) -> bool {
+    let (variables, text, clauses, proof) = row;
+    refutes(alloc, variables, text, clauses + 1, proof)
+        && !refutes(alloc, variables, text, clauses + 1, b"")
+        && !refutes(alloc, variables, text, clauses, proof)
+}
+
+// A solver's proofs refute their formulas, and not those that an assignment satisfies.
+#[test]
+fn proofs_of_a_solver(rt: HostRuntime) {
+    for row in TEXT_PROOFS.iter().chain(&BINARY_PROOFS) {
+        assert!(rt; is_told_apart(rt.alloc(), *row));
+    }
+}
+
+// Whether a proof, cut at any byte, refutes the first clauses of a text.
+fn refutes_cut(alloc: Global, row: Refuted) -> bool {
+    let (variables, text, clauses, proof) = row;
+    (0..proof.len()).any(|place| {
+        let (begun, _) = proof.split_at(place);
+        refutes(alloc, variables, text, clauses, begun)
+    })
+}
+
+// Whether a proof with this byte at any place refutes the first clauses of a text.
+fn refutes_changed(alloc: Global, row: Refuted, byte: u8) -> Option<bool> {
+    let (variables, text, clauses, proof) = row;
+    let mut found = false;
+    let mut changed = Vec::with_capacity(alloc, proof.len()).ok()?;
+    changed.extend_from_slice(proof).ok()?;
+    for (place, old) in proof.iter().enumerate() {
+        if let Some(new) = changed.get_mut(place) {
+            *new = byte;
+        }
+        found |= refutes(alloc, variables, text, clauses, &changed);
+        if let Some(new) = changed.get_mut(place) {
+            *new = *old;
+        }
+    }
+    Some(found)
+}
+
+// No cut or changed proof refutes a formula that an assignment satisfies.
+#[test]
+fn changed_proofs(rt: HostRuntime) {
+    for row in TEXT_PROOFS
+        .iter()
+        .take(1)
+        .chain(BINARY_PROOFS.iter().take(1))
+    {
+        assert!(rt; !refutes_cut(rt.alloc(), *row));
+        for byte in b"d0\x05" {
+            assert!(rt; refutes_changed(rt.alloc(), *row, *byte) == Some(false));
+        }
+    }
+}
+
+// Numbers at random.
+#[derive(Drop)]
+struct Random {
+    state: u64,
+}
+
+impl Random {
+    fn next(&mut self) -> u64 {
+        self.state = self
+            .state
+            .wrapping_mul(6_364_136_223_846_793_005)
+            .wrapping_add(1_442_695_040_888_963_407);
+        self.state >> 33
+    }
+
+    // A literal of five variables.
+    fn literal(&mut self) -> Lit {
+        Lit::new((self.next() % 10) as u32)
+    }
+
+    // Clauses of two or three literals over five variables.
+    fn clauses(&mut self, alloc: Global) -> Option<Vec<[Lit; 3]>> {
+        let mut clauses = Vec::new(alloc);
+        for _ in 0..8 + self.next() % 20 {
+            let [first, second, third] = [self.literal(), self.literal(), self.literal()];
+            let last = if self.next() % 2 == 0 { third } else { second };
+            clauses.push([first, second, last]).ok()?;
+        }
+        Some(clauses)
+    }
+}
+
+// Five values, by the number whose bits they are.
+fn values_of(number: u32) -> [bool; 5] {
+    [
+        number % 2 == 1,
+        number / 2 % 2 == 1,
+        number / 4 % 2 == 1,
+        number / 8 % 2 == 1,
+        number / 16 % 2 == 1,
+    ]
+}
+
+fn is_true(values: [bool; 5], literal: Lit) -> bool {
+    match values.get(literal.var() as usize) {
+        Some(value) => *value != literal.is_neg(),
+        None => false,
+    }
+}
+
+fn satisfies(values: [bool; 5], clauses: &[[Lit; 3]]) -> bool {
+    clauses.iter().all(|clause| clause.iter().any(|literal| is_true(values, *literal)))
+}
+
+// Whether values whose first ones are those of a number, of so many, satisfy the clauses.
+fn can_begin(clauses: &[[Lit; 3]], number: u32, numbers: u32) -> bool {
+    (0..32).any(|whole| whole % numbers == number && satisfies(values_of(whole), clauses))
+}
+
+// The clause that the first so many of these values are not there, the last of them first.
+fn denial(alloc: Global, number: u32, count: usize) -> Option<Vec<Lit>> {
+    let mut clause = Vec::new(alloc);
+    for (variable, value) in values_of(number).iter().take(count).enumerate() {
+        clause
+            .push(Lit::new(2 * variable as u32 + u32::from(*value)))
+            .ok()?;
+    }
+    clause.reverse();
+    Some(clause)
+}
+
+// Numbers of variables, of the values that they can have, and of those of one variable more.
+static COUNTS: [(usize, u32, u32); 6] = [
+    (5, 32, 0),
+    (4, 16, 32),
+    (3, 8, 16),
+    (2, 4, 8),
+    (1, 2, 4),
+    (0, 1, 2),
+];
+
+// Deletes clauses, the literals in another order.
+fn delete_all(formula: &mut Refutation, clauses: &[[Lit; 3]]) {
+    for clause in clauses {
+        let [first, second, third] = *clause;
+        formula.delete(&[third, first, second]);
+    }
+}
+
+// Whether each denial is taken exactly where no satisfying assignment begins so. Of fewer values it follows from two of
+// more values; what it followed from is deleted after it.
+fn is_decided(alloc: Global, random: &mut Random) -> Option<bool> {
+    let clauses = random.clauses(alloc)?;
+    let mut formula = Refutation::new(alloc, 5).ok()?;
+    for clause in &clauses {
+        formula.add_clause(clause).ok()?;
+    }
+    let mut right = true;
+    for (count, numbers, more) in COUNTS {
+        for number in 0..numbers {
+            let taken = formula.add_step(&denial(alloc, number, count)?).ok()?;
+            right &= taken != can_begin(&clauses, number, numbers);
+        }
+        for number in 0..more {
+            formula.delete(&denial(alloc, number, count + 1)?);
+        }
+        if count == 5 {
+            delete_all(&mut formula, &clauses);
+        }
+    }
+    Some(right && formula.is_refuted() != can_begin(&clauses, 0, 1))
+}
+
+// Steps at random follow exactly where all assignments say so.
+#[test]
+fn steps_beside_all_assignments(rt: HostRuntime) {
+    let mut random = Random { state: 1 };
+    let mut right = true;
+    for _ in 0..1000 {
+        right &= is_decided(rt.alloc(), &mut random) == Some(true);
+    }
+    assert!(rt; right);
+}
+
+// The literals of these numbers.
+fn literals(numbers: [u32; 2]) -> [Lit; 2] {
+    let [first, second] = numbers;
+    [Lit::new(first), Lit::new(second)]
+}
+
+// Clauses of two literals that are added and deleted, and whether that of the last literal follows then.
+static STEPS: [(&[[u32; 2]], &[[u32; 2]], [u32; 2], bool); 12] = [
+    (&[[0, 2], [0, 3]], &[], [0, 0], true),
+    (&[[0, 2], [0, 3]], &[[2, 0]], [0, 0], false),
+    (&[[0, 2], [0, 3]], &[[2, 1]], [0, 0], true),
+    (&[[0, 2], [0, 3], [2, 0]], &[[2, 0]], [0, 0], true),
+    (&[[0, 2], [0, 3], [2, 0]], &[[0, 2], [2, 0]], [0, 0], false),
+    (&[[0, 0]], &[[0, 0]], [0, 2], true),
+    (&[[0, 1]], &[], [0, 0], false),
+    (&[], &[], [2, 3], true),
+    (&[[4, 4]], &[], [4, 4], false),
+    (&[[4, 0], [5, 0]], &[], [0, 0], false),
+    (&[[0, 0], [1, 1]], &[], [2, 4], true),
+    (&[[0, 2], [3, 3]], &[[3, 3]], [0, 0], true),
+];
+
+fn follows(alloc: Global, row: (&[[u32; 2]], &[[u32; 2]], [u32; 2], bool)) -> Option<bool> {
+    let (clauses, deleted, step, _) = row;
+    let mut formula = Refutation::new(alloc, 2).ok()?;
+    for clause in clauses {
+        formula.add_clause(&literals(*clause)).ok()?;
+    }
+    for clause in deleted {
+        formula.delete(&literals(*clause));
+    }
+    formula.add_step(&literals(step)).ok()
+}
+
+// A clause is a set, equal ones are counted, what was found to be true stays so, nothing follows from both signs of a
+// variable, and a variable that the formula does not have is never found to be true.
+#[test]
+fn single_steps(rt: HostRuntime) {
+    for row in &STEPS {
+        let (_, _, _, should) = *row;
+        assert!(rt; follows(rt.alloc(), *row) == Some(should));
+    }
+}
