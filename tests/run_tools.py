@@ -1,18 +1,20 @@
 #!/usr/bin/env python3
 """Runs the built program beside Yosys and ABC, on files that these write and on runs that they find, its dumps beside
-those of Icarus Verilog and in GTKWave, and `examples/flow.sh`. It is no part of the gate: the tools are Debian's
-packages `yosys`, `berkeley-abc`, `iverilog`, `gtkwave`, `xvfb` and `xauth`, and a run takes a minute and a half."""
+those of Icarus Verilog and in GTKWave, `examples/flow.sh`, and proofs of cadical. It is no part of the gate: the tools are
+Debian's packages `yosys`, `berkeley-abc`, `cadical`, `iverilog`, `gtkwave`, `xvfb` and `xauth`, and a run takes two
+minutes."""
 
 from library import runs
 from tools.conversions import conversions
 from tools.flow import flow
 from tools.maps import maps
+from tools.proofs import proofs
 from tools.unrolled import unrolled
 from tools.waves import waves
 from tools.witnesses import witnesses
 
 PARTS = {"conversions": conversions, "unrolled": unrolled, "maps": maps, "witnesses": witnesses, "waves": waves,
-         "flow": flow}
+         "flow": flow, "proofs": proofs}
 
 if __name__ == "__main__":
     runs.main(__doc__, PARTS)

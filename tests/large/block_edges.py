@@ -24,7 +24,7 @@ EDGES = (BLOCK - 1, BLOCK + 1)
 SECONDS = 20
 
 # What stands in a file in place of a token of each kind: other ones that are right, and broken ones.
-NUMBERS = (b"", b"x", b"01", b"8388607", b"8388608")
+NUMBERS = (b"", b"x", b"01", b"8388607", b"8388608", b"9999999", b"10000000")
 OTHERS = {
     "number": NUMBERS,
     "count": (*NUMBERS, b"4194303", b"4194304", b"99999999"),

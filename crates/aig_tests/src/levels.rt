@@ -6,10 +6,48 @@ use aig_base::{Circuit, Levels, Lit, canonical_order, would_cycle};
 use aig_sim::stand_in_order;
 use std::alloc::Global;
 
-static ORDERS: [(&[u8], u32, u32, [u32; 2]); 3] = [
+// In the last ones there are 31.5 variables a gate, and 32: gates out of order are found by looking at each variable, or
+// they are sorted.
+static ORDERS: [(&[u8], u32, u32, [u32; 2]); 9] = [
     (TWO_GATES, 4, 2, [3, 4]),
     (UNUSED, 2, 2, [5, 2]),
     (b"aag 4 2 0 1 2\n2\n4\n8\n8 2 4\n6 2 4\n", 4, 1, [3, 4]),
+    (
+        b"aag 63 2 0 1 2\n2\n4\n126\n126 2 4\n100 2 4\n",
+        63,
+        1,
+        [50, 63],
+    ),
+    (
+        b"aag 63 2 0 1 2\n2\n4\n126\n126 2 4\n100 126 4\n",
+        50,
+        2,
+        [63, 50],
+    ),
+    (
+        b"aag 63 2 0 1 2\n2\n4\n126\n126 100 4\n100 2 4\n",
+        63,
+        2,
+        [50, 63],
+    ),
+    (
+        b"aag 64 2 0 1 2\n2\n4\n128\n128 2 4\n100 2 4\n",
+        64,
+        1,
+        [50, 64],
+    ),
+    (
+        b"aag 64 2 0 1 2\n2\n4\n128\n128 2 4\n100 128 4\n",
+        50,
+        2,
+        [64, 50],
+    ),
+    (
+        b"aag 64 2 0 1 2\n2\n4\n128\n128 100 4\n100 2 4\n",
+        64,
+        2,
+        [50, 64],
+    ),
 ];
 
 // Whether a variable has this level, and the first two gates of the canonical order are these.
