@@ -18,9 +18,9 @@ use std::alloc::Global;
 /// A run, and the first frame of it that reaches a property.
 #[derive(Drop)]
 pub(crate) struct FoundRun {
-    start: Vec<Tern>,
-    rows: Stimulus,
-    reached: Reached,
+    pub(crate) start: Vec<Tern>,
+    pub(crate) rows: Stimulus,
+    pub(crate) reached: Reached,
 }
 
 impl FoundRun {
@@ -63,7 +63,7 @@ fn start_by_resets(alloc: Global, circuit: &Circuit) -> Result<Vec<Tern>, ReachF
 }
 
 /// The first frame of a run that reaches a property.
-fn find(
+pub(crate) fn find(
     alloc: Global,
     circuit: &Circuit,
     start: &[Tern],

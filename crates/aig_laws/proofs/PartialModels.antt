@@ -178,11 +178,14 @@ module _ (raw : Raw) (row : List Tern) (no_latches : raw.latches ≡ []) where
 -- a witness in a row
 reaches_of : (raw : Raw) (k t p : ℕ) (values row : List Tern) → t < k → p < length raw.bad → inputs_in raw k values ≡ row
     → IsVerdict raw (witness_in raw k t p row) verdict.Confirmed → NamesRun raw k p values
-reaches_of raw k t p values row lt within same confirmed = (t, record {
-  frame = omega (arith, length-cut (length raw.inputs) k (inputs_in raw k values), lt);
-  property = within;
-  confirmed = subst (λ (r : List Tern). IsVerdict raw (witness_in raw k t p r) verdict.Confirmed) (sym same) confirmed;
-})
+reaches_of raw k t p values row lt within same confirmed = (
+  t,
+  record {
+    frame = omega (arith, length-cut (length raw.inputs) k (inputs_in raw k values), lt);
+    property = within;
+    confirmed = subst (λ (r : List Tern). IsVerdict raw (witness_in raw k t p r) verdict.Confirmed) (sym same) confirmed;
+  },
+)
 
 pub names_whole_run : (raw : Raw) → IsCircuit raw → (order : List ℕ) → IsCanonicalOrder raw order → (k p : ℕ)
     → (values : List Tern) (whole : ℕ → Bool) → p < length raw.bad → Satisfies whole (formula_of raw order k p)
