@@ -1,16 +1,26 @@
 -- The run that values name: the start that they fill in, and the rows that are cut from them.
 use Rattle.std.proofs.Common.{◌≡◌, ℕ, zero, suc, ◌+◌, ◌-◌, ◌*◌, ◌<◌, ◌≤◌, true, false, if◌then◌else◌, List, [], ◌∷◌, ◌++◌, length, take, drop, get_or, slice_get, Some, Bool}
 use Rattle.std.proofs.Common.{Result, Ok, Err, refl, sym, ap, ◌∙◌, subst, arith, append_assoc, length-drop}
+use Rattle.std.specs.Prelude.{IfErr}
 use Rattle.std.specs.Result.{IsErrAnd}
 use Rattle.std.proofs.lemmas.Bool.Decides.{nat_tests}
-use Rattle.std.proofs.lemmas.List.{append-nil, drop_more, drop_all}
+use Rattle.std.proofs.lemmas.List.{append-nil, drop_more, drop_all, length-take-le}
 use Rattle.std.proofs.lemmas.Option.{get_or_from_slice_get}
 use Rattle.aig_parts.specs.declared.latch.Latch.{Latch}
+use Rattle.aig_parts.specs.declared.raw.Raw.{Raw}
 use Rattle.aig_parts.specs.declared.ternary.Tern.{Tern}
 use Rattle.aig_parts.specs.declared.ternary.Tern.TheVariants.{X}
 use Rattle.aig_base.specs.Value.{reset_value}
-use Rattle.aig_laws.specs.UnrolledWitness.{cut, filled}
-use Rattle.aig_unroll.specs.FrameLiteral.{is_uninitialised}
+use Rattle.aig_values.specs.InputRows.{HaveWidth}
+use Rattle.aig_laws.proofs.RowValues.{cut_wide, length-filled}
+use Rattle.aig_laws.specs.PartialModels.{inputs_in, named_rows, named_start}
+use Rattle.aig_laws.specs.UnrolledWitness.{cut, filled, rows_in, start_in}
+use Rattle.aig_sim.specs.Reached.{ReachesNone}
+use Rattle.aig_sim.specs.declared.reach_fault.ReachFault.{ReachFault}
+use Rattle.aig_sim.specs.declared.reach_fault.ReachFault.TheVariants as reaches
+use Rattle.aig_fault.specs.declared.run_fault.RunFault.TheVariants as run_faults
+use Rattle.aig_unroll.specs.FrameLiteral.{input_count, is_uninitialised}
+use Rattle.aig_commands.specs.ModelWitness.{WritesNamed}
 
 -- ---- the start
 
@@ -63,17 +73,6 @@ start_done latches i done rest whole le so_far =
     sym (append-nil done)
     ∙ ap (λ (ys : List Latch). done ++ filled ys rest) (sym (drop_all i latches le)) ∙ so_far
 
-pub length_filled : (xs : List Latch) (values : List Tern) → length (filled xs values) ≡ length xs
-unfolding filled
-length_filled [] values = refl
-length_filled (x ∷ xs) values =
-    go (is_uninitialised x) refl (length_filled xs (drop 1 values)) (length_filled xs values)
-  where
-    go : (b : Bool) → is_uninitialised x ≡ b → length (filled xs (drop 1 values)) ≡ length xs
-        → length (filled xs values) ≡ length xs → length (filled (x ∷ xs) values) ≡ suc (length xs)
-    go true e taken kept = ap length (filled_free x xs values e) ∙ ap suc taken
-    go false e taken kept = ap length (filled_reset x xs values e) ∙ ap suc kept
-
 -- ---- the rows
 
 cut_more : (width k : ℕ) (values : List Tern) → cut width (suc k) values ≡ take width values ∷ cut width k (drop width values)
@@ -118,3 +117,32 @@ rows_done width frames done rest whole so_far =
 pub reports_same : {T E : Type 0} (r : Result T E) (e f : E) → IsErrAnd r (λ x. x ≡ e) → r ≡ Err f → e ≡ f
 reports_same (Ok x) e f h is = cc
 reports_same (Err x) e f h is = let same : x ≡ f = cc in sym h ∙ same
+
+-- ---- the run that values name
+
+module _ (raw : Raw) (k : ℕ) (values : List Tern) where
+  pub named_start_length : length (named_start raw k values) ≡ length raw.latches
+  named_start_length = length-filled raw.latches (drop (k * length raw.inputs) (inputs_in raw k values))
+
+  pub named_widths : input_count raw k < length values → HaveWidth (length raw.inputs) (named_rows raw k values)
+  named_widths enough =
+      let long : length (inputs_in raw k values) ≡ input_count raw k =
+      length-take-le (input_count raw k) (drop 1 values) (omega (arith, length-drop 1 values, enough)) in
+      cut_wide (length raw.inputs) k (inputs_in raw k values) (omega (arith, long))
+
+  -- no witness is written
+  pub named_refused : (p : ℕ) (fault : ReachFault)
+      → (fault ≡ reaches.NoRun → ReachesNone raw (named_start raw k values) (named_rows raw k values) (Some p))
+      → (fault ≡ reaches.Property → ⊥) → WritesNamed k p values raw (Err (run_faults.Reach fault)) []
+  named_refused p reaches.NoRun none never = (none refl, refl)
+  named_refused p reaches.Property none never = absurd (never refl)
+  named_refused p reaches.Memory none never = refl
+
+  pub none_named : {T : Type 0} (p : ℕ) (row : List Tern) (r : Result T ReachFault) → row ≡ inputs_in raw k values
+      → (r ≡ Err reaches.NoRun → ReachesNone raw (start_in raw k row) (rows_in raw k row) (Some p))
+      → (r ≡ Err reaches.Property → ⊥) → IfErr r (λ fault. WritesNamed k p values raw (Err (run_faults.Reach fault)) [])
+  none_named p row (Ok x) same none never = tt
+  none_named p row (Err f) same none never =
+      named_refused p f
+      (λ is. subst (λ (r : List Tern). ReachesNone raw (start_in raw k r) (rows_in raw k r) (Some p)) same (none (ap Err is)))
+      (λ is. never (ap Err is))

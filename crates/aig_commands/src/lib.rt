@@ -8,6 +8,7 @@ pub mod cnf_step;
 mod entries;
 pub mod induction;
 pub mod info;
+pub mod model_witness;
 mod named_run;
 pub mod refute;
 pub mod select;

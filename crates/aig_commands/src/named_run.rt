@@ -1,16 +1,19 @@
 //! The run that the values of a formula's variables name.
-ghost use Rattle.std.specs.Prelude.{◌≡◌, ◌*◌, ◌<◌, ◌≤◌, Err, IfOk, Some, drop, length, slice_index_or};
+ghost use Rattle.std.specs.Prelude.{◌≡◌, ◌*◌, ◌<◌, ◌≤◌, Err, IfErr, IfOk, Some, [], drop, length, slice_index_or};
 ghost use Rattle.aig_base.specs.Circuit.{IsCircuit};
 ghost use Rattle.aig_parts.specs.Limits.{frame_limit};
 ghost use Rattle.aig_parts.specs.declared.ternary.Tern.TheVariants.{X};
 ghost use Rattle.aig_cnf.specs.Answers.{HasFormula};
+ghost use Rattle.aig_laws.specs.PartialModels.{named_rows, named_start};
 ghost use Rattle.aig_laws.specs.UnrolledWitness.{cut, filled, rows_in, start_in};
 ghost use Rattle.aig_sim.specs.Reached.{IsFirstReached, ReachesNone};
 ghost use Rattle.aig_unroll.specs.FrameLiteral.{input_count};
+ghost use Rattle.aig_commands.specs.ModelWitness.{WritesNamed};
 
 use crate::info::uninitialised;
 use crate::witness::{FoundRun, find};
 use aig_base::{Circuit, Latch, Memory, Tern};
+use aig_fault::RunFault;
 use aig_sim::{ReachFault, Stimulus, first_value};
 use std::alloc::Global;
 
@@ -99,4 +102,27 @@ fn find_in_row(
         rows,
         reached,
     })
+}
+
+/// The run that the values of a formula's variables name, up to the first frame that reaches a property.
+pub(crate) fn find_named(
+    alloc: Global,
+    circuit: &Circuit,
+    frames: u32,
+    property: u32,
+    values: &[Tern],
+) -> Result<FoundRun, ReachFault>
+    requires formula { HasFormula circuit.now frames property }
+    requires values { input_count circuit.now frames < length values.now }
+    ensures start { IfOk result (λ run. run.start.items ≡ named_start circuit.now frames values.now) }
+    ensures rows { IfOk result (λ run. run.rows.rows ≡ named_rows circuit.now frames values.now) }
+    ensures reached { IfOk result (λ run. IsFirstReached circuit.now run.start.items run.rows.rows (Some property)
+        run.reached.frame run.reached.property) }
+    ensures none { IfErr result (λ fault. WritesNamed frames property values.now circuit.now (Err (RunFault.Reach fault)) []) }
+{
+    circuit.facts();
+    let inputs = unrolled_inputs(circuit, frames);
+    let (_false, rest) = values.split_at(1);
+    let (row, _gates) = rest.split_at(inputs);
+    find_in_row(alloc, circuit, frames, property, row)
 }

@@ -25,7 +25,7 @@ pub(crate) struct FoundRun {
 
 impl FoundRun {
     /// Writes the witness of it.
-    fn write<W: Write>(&self, out: &mut W) -> Result<(), RunFault>
+    pub(crate) fn write<W: Write>(&self, out: &mut W) -> Result<(), RunFault>
         requires { self.now.reached.frame < length self.now.rows.rows }
         ensures written { Writes W.written W.failures out.old out.new (witness_text (decimal self.now.reached.property)
             self.now.start.items (take (self.now.reached.frame + 1) self.now.rows.rows)) result }

@@ -4,12 +4,13 @@ use Rattle.aig_parts.specs.declared.ternary.Tern.{Tern}
 use Rattle.aig_laws.specs.UnrolledWitness.{cut, filled, rows_in, start_in}
 use Rattle.aig_sim.specs.declared.reach_fault.ReachFault.TheVariants as reaches
 use Rattle.aig_sim.specs.Reached.{ReachesNone}
-use Rattle.aig_commands.proofs.NamedRuns.{length_filled, reports_same}
+use Rattle.aig_laws.proofs.RowValues.{length-filled}
+use Rattle.aig_commands.proofs.NamedRuns.{reports_same}
 use Rattle.aig_commands.proofs.named_run.find_in_row.Goals as goal
 
 pub find-requires-clause-start : goal.find-requires-clause-start
 find-requires-clause-start c =
-    ap length (c.deref.ensures.value ∙ c.in_ok-start.ensures) ∙ length_filled c.latches.result.now c.split_at.result.1.now
+    ap length (c.deref.ensures.value ∙ c.in_ok-start.ensures) ∙ length-filled c.latches.result.now c.split_at.result.1.now
     ∙ ap length c.latches.ensures
 
 pub returns-in_err-reached-clause-none : goal.returns-in_err-reached-clause-none
