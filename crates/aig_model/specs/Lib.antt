@@ -1,0 +1,3 @@
+pub mod ModelText
+pub mod Named
+pub mod state
