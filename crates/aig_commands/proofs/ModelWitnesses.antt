@@ -24,7 +24,7 @@ module _ (k p : ℕ) (model : List ℕ) (raw : Raw) (has : HasFormula raw k p) (
     (is : IsModelOf (variable_count raw k) model values) where
   pub writes_model : (answer : Result (Unit {0}) RunFault) (text : List ℕ) → WritesNamed k p values raw answer text
       → WritesModel k p model raw answer text
-  writes_model (Ok done) text m = (has, values, is, m)
+  writes_model (Ok done) text m = (has, (values, is, m))
   writes_model (Err (run_faults.Circuit fault)) text m = absurd m
   writes_model (Err (run_faults.Stimulus fault)) text m = absurd m
   writes_model (Err (run_faults.Witness fault)) text m = absurd m
@@ -35,7 +35,7 @@ module _ (k p : ℕ) (model : List ℕ) (raw : Raw) (has : HasFormula raw k p) (
   writes_model (Err (run_faults.Unroll fault)) text m = absurd m
   writes_model (Err (run_faults.Cnf fault)) text m = absurd m
   writes_model (Err (run_faults.Select fault)) text m = absurd m
-  writes_model (Err (run_faults.Reach fault)) text m = (has, values, is, m)
+  writes_model (Err (run_faults.Reach fault)) text m = (has, (values, is, m))
   writes_model (Err (run_faults.Proof fault)) text m = absurd m
   writes_model (Err (run_faults.StepProof fault)) text m = absurd m
   writes_model (Err (run_faults.Model fault)) text m = absurd m

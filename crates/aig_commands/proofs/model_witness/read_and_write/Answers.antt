@@ -8,7 +8,7 @@ use Rattle.aig_fault.specs.declared.run_fault.RunFault.TheVariants as run_faults
 
 pub returns : goal.returns
 returns g c =
-    ends_of_file (WritesModel c.args.frames c.args.property c.args.model.now) c.in_ok-circuit.circuit (λ fault bytes h. h)
+    ends_of_file (WritesModel c.args.frames c.args.property c.args.model.now) c.in_ok-circuit.circuit (λ fault bytes h. h.1.2)
     (flow g.W.Write.written g.W.Write.failures c.args.out.now c.read_model_and_write.new.out) run_faults.Output c.args.file.now c.in_ok-circuit.ensures.circuit
     c.read_model_and_write.result c.read_model_and_write.ensures
 
