@@ -3,6 +3,7 @@
 use crate::exit::Exit;
 use crate::kept::Kept;
 use crate::look::{MORE_MEMORY, Obstacle, explain_reading, note, note_name, read_again};
+use crate::model_look::explain_model;
 use crate::output_look::{explain_output, explain_standard_output};
 use crate::proof_look::explain_proof;
 use crate::select_look::explain_select;
@@ -184,6 +185,7 @@ fn explain_fault<R: Files + AllocGlobal + Print + Eprint>(
         RunFault::Reach(fault) => of_reach(rt, files, fault),
         RunFault::Proof(fault) => explain_proof(rt, files.run, fault),
         RunFault::StepProof(fault) => explain_proof(rt, files.step, fault),
+        RunFault::Model(fault) => explain_model(rt, files.run, fault),
         RunFault::Output => of_output(rt, files),
         RunFault::Memory => note(rt, MORE_MEMORY),
     }

@@ -8,6 +8,7 @@ mod explain;
 mod files;
 mod kept;
 mod look;
+mod model_look;
 mod new_file;
 mod output_file;
 mod output_look;

@@ -3,13 +3,14 @@ use aig_base::{Fault, Io, Memory, SelectFault, WouldCycle};
 use aig_bench::BenchFault;
 use aig_cnf::CnfFault;
 use aig_fault::{RunFault, ScriptFault};
+use aig_model::ModelFault;
 use aig_proof::ProofFault;
 use aig_sim::{ReachFault, StimFault, WitnessFault};
 use aig_unroll::UnrollFault;
 use std::alloc::Global;
 use std::fmt::Display;
 
-static MESSAGES: [(RunFault, &str); 40] = [
+static MESSAGES: [(RunFault, &str); 44] = [
     (RunFault::Circuit(Fault::Cycle(2)), "circuit: cycle 2"),
     (RunFault::Circuit(Fault::Memory), "circuit: memory"),
     (
@@ -80,6 +81,13 @@ static MESSAGES: [(RunFault, &str); 40] = [
         RunFault::StepProof(ProofFault::Memory),
         "step proof: memory",
     ),
+    (RunFault::Model(ModelFault::Text(7)), "model: text at 7"),
+    (
+        RunFault::Model(ModelFault::Unsatisfiable),
+        "model: unsatisfiable",
+    ),
+    (RunFault::Model(ModelFault::Unknown), "model: unknown"),
+    (RunFault::Model(ModelFault::Memory), "model: memory"),
 ];
 
 // Whether this is the text of a value.

@@ -244,6 +244,7 @@ refused_ends reader out circuit stimulus (run_faults.Select f) h unread unwritte
 refused_ends reader out circuit stimulus (run_faults.Reach f) h unread unwritten = absurd h
 refused_ends reader out circuit stimulus (run_faults.Proof f) h unread unwritten = absurd h
 refused_ends reader out circuit stimulus (run_faults.StepProof f) h unread unwritten = absurd h
+refused_ends reader out circuit stimulus (run_faults.Model f) h unread unwritten = absurd h
 
 -- the script is not run to its end
 pub fault_ends : {Y X : Type 0} (reader : Flow Y) (out : Flow X) (circuit stimulus : List ℕ) (old : CircuitAndRows) (left : BenchState)

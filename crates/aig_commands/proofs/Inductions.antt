@@ -31,6 +31,7 @@ of_both base any later n k p is (Err (run_faults.Select fault)) bytes m = absurd
 of_both base any later n k p is (Err (run_faults.Reach fault)) bytes m = absurd m
 of_both base any later n k p is (Err (run_faults.Proof fault)) bytes m = m
 of_both base any later n k p is (Err (run_faults.StepProof fault)) bytes m = m
+of_both base any later n k p is (Err (run_faults.Model fault)) bytes m = absurd m
 
 module _ (raw any new : Raw) (n k p : ℕ) (circuit : IsCircuit raw) (any_circuit : IsCircuit any) (is : any ≡ from_any_state raw)
     (count : n ≡ length raw.bad) (has : HasFormula raw k p) (unrolled_is : IsUnrolled raw k new) where
@@ -58,3 +59,4 @@ module _ (raw any new : Raw) (n k p : ℕ) (circuit : IsCircuit raw) (any_circui
   of_later (Err (run_faults.Reach fault)) bytes m = absurd m
   of_later (Err (run_faults.Proof fault)) bytes m = (has, m)
   of_later (Err (run_faults.StepProof fault)) bytes m = (has, m)
+  of_later (Err (run_faults.Model fault)) bytes m = absurd m

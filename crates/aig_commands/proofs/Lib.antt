@@ -6,6 +6,8 @@ pub mod Headers
 pub mod Inductions
 pub mod InfoLemmas
 pub mod KeptFiles
+pub mod ModelWitnesses
+pub mod NamedRuns
 pub mod Reductions
 pub mod Refutations
 pub mod Replays

@@ -26,3 +26,4 @@ selects from into named to raw can (Err (run_faults.Select fault)) bytes m = abs
 selects from into named to raw can (Err (run_faults.Reach fault)) bytes m = absurd m
 selects from into named to raw can (Err (run_faults.Proof fault)) bytes m = absurd m
 selects from into named to raw can (Err (run_faults.StepProof fault)) bytes m = absurd m
+selects from into named to raw can (Err (run_faults.Model fault)) bytes m = absurd m

@@ -12,7 +12,7 @@ use Rattle.aig_bench.specs.declared.bench_fault.BenchFault.{BenchFault}
 use Rattle.aig_bench.specs.declared.bench_fault.BenchFault.TheVariants as benches
 use Rattle.aig_bench.specs.BenchState.{CircuitAndRows}
 use Rattle.aig_fault.specs.declared.run_fault.RunFault.{RunFault}
-use Rattle.aig_fault.specs.declared.run_fault.RunFault.TheVariants.{Circuit, Stimulus, Witness, Bench, Script, Output, Memory, Unroll, Cnf, Select, Reach, Proof, StepProof}
+use Rattle.aig_fault.specs.declared.run_fault.RunFault.TheVariants.{Circuit, Stimulus, Witness, Bench, Script, Output, Memory, Unroll, Cnf, Select, Reach, Proof, StepProof, Model}
 use Rattle.aig_fault.specs.Command.{IsFileOf, RefusesCircuit}
 
 -- the files are this circuit and rows of its width, at most 65,536
@@ -53,6 +53,7 @@ RefusesFiles circuit stimulus (Select fault) = ⊥
 RefusesFiles circuit stimulus (Reach fault) = ⊥
 RefusesFiles circuit stimulus (Proof fault) = ⊥
 RefusesFiles circuit stimulus (StepProof fault) = ⊥
+RefusesFiles circuit stimulus (Model fault) = ⊥
 
 -- ---- as they are kept (our own choice)
 

@@ -5,6 +5,7 @@ pub mod Cnf
 pub mod CnfStep
 pub mod GoesWell
 pub mod Info
+pub mod ModelWitness
 pub mod Names
 pub mod Reduce
 pub mod Refute

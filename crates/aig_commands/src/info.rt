@@ -96,7 +96,7 @@ fn facts_of(alloc: Global, file: &[u8], circuit: &Circuit) -> Result<Facts, Memo
 }
 
 /// How many latches start at no known value.
-fn uninitialised(latches: &[Latch]) -> usize
+pub(crate) fn uninitialised(latches: &[Latch]) -> usize
     ensures { result ≡ count_by is_uninitialised latches.now }
 {
     latches

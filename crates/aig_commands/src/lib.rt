@@ -8,6 +8,8 @@ pub mod cnf_step;
 mod entries;
 pub mod induction;
 pub mod info;
+mod named_run;
+pub mod model_witness;
 pub mod reduce;
 pub mod refute;
 pub mod select;

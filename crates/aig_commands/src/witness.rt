@@ -18,14 +18,14 @@ use std::alloc::Global;
 /// A run, and the first frame of it that reaches a property.
 #[derive(Drop)]
 pub(crate) struct FoundRun {
-    start: Vec<Tern>,
-    rows: Stimulus,
-    reached: Reached,
+    pub(crate) start: Vec<Tern>,
+    pub(crate) rows: Stimulus,
+    pub(crate) reached: Reached,
 }
 
 impl FoundRun {
     /// Writes the witness of it.
-    fn write<W: Write>(&self, out: &mut W) -> Result<(), RunFault>
+    pub(crate) fn write<W: Write>(&self, out: &mut W) -> Result<(), RunFault>
         requires { self.now.reached.frame < length self.now.rows.rows }
         ensures written { Writes W.written W.failures out.old out.new (witness_text (decimal self.now.reached.property)
             self.now.start.items (take (self.now.reached.frame + 1) self.now.rows.rows)) result }
@@ -63,7 +63,7 @@ fn start_by_resets(alloc: Global, circuit: &Circuit) -> Result<Vec<Tern>, ReachF
 }
 
 /// The first frame of a run that reaches a property.
-fn find(
+pub(crate) fn find(
     alloc: Global,
     circuit: &Circuit,
     start: &[Tern],

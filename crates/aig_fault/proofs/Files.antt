@@ -35,6 +35,7 @@ module _ {T : Type 0} (Means : Raw → Result T RunFault → List ℕ → Type 0
   of_file file f (Err (run_faults.Reach fault)) bytes m = (raw, f, m)
   of_file file f (Err (run_faults.Proof fault)) bytes m = (raw, f, m)
   of_file file f (Err (run_faults.StepProof fault)) bytes m = (raw, f, m)
+  of_file file f (Err (run_faults.Model fault)) bytes m = (raw, f, m)
 
   -- no read of the circuit failed
   no_read : (answer : Result T RunFault) (bytes : List ℕ) → Means raw answer bytes
@@ -53,6 +54,7 @@ module _ {T : Type 0} (Means : Raw → Result T RunFault → List ℕ → Type 0
   no_read (Err (run_faults.Reach fault)) bytes m = (refl, λ e. let no : ⊥ = cc in no)
   no_read (Err (run_faults.Proof fault)) bytes m = (refl, λ e. let no : ⊥ = cc in no)
   no_read (Err (run_faults.StepProof fault)) bytes m = (refl, λ e. let no : ⊥ = cc in no)
+  no_read (Err (run_faults.Model fault)) bytes m = (refl, λ e. let no : ⊥ = cc in no)
 
   pub ends_of_file : {X : Type 0} (out : Flow X) (fault : RunFault) (file : List ℕ) → IsFileOf file raw → (r : Result T RunFault)
       → CommandEnds out fault (Means raw) r → CommandEnds out fault (OfFile file Means) r

@@ -8,9 +8,10 @@ use Rattle.aig_bench.specs.declared.bench_fault.BenchFault.TheVariants as benche
 use Rattle.aig_cnf.specs.declared.fault.CnfFault.TheVariants as formulas
 use Rattle.aig_unroll.specs.declared.fault.UnrollFault.TheVariants as unrollings
 use Rattle.aig_base.specs.declared.select.SelectFault.TheVariants as selections
+use Rattle.aig_model.specs.declared.fault.ModelFault.TheVariants as models
 use Rattle.aig_proof.specs.declared.fault.ProofFault.TheVariants as proofs
 use Rattle.aig_fault.specs.declared.run_fault.RunFault.{RunFault}
-use Rattle.aig_fault.specs.declared.run_fault.RunFault.TheVariants.{Circuit, Stimulus, Witness, Bench, Script, Output, Memory, Unroll, Cnf, Select, Reach, Proof, StepProof}
+use Rattle.aig_fault.specs.declared.run_fault.RunFault.TheVariants.{Circuit, Stimulus, Witness, Bench, Script, Output, Memory, Unroll, Cnf, Select, Reach, Proof, StepProof, Model}
 
 -- 3 where memory ran out, or a read or a write failed; 1 for any other refusal
 abbrev pub status_of : RunFault → ℕ
@@ -41,3 +42,5 @@ status_of (Proof _) = 1
 status_of (StepProof proofs.Memory) = 3
 status_of (StepProof proofs.Io) = 3
 status_of (StepProof _) = 1
+status_of (Model models.Memory) = 3
+status_of (Model _) = 1

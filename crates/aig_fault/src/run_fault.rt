@@ -6,6 +6,7 @@ use crate::script_fault::ScriptFault;
 use aig_base::{Fault, Memory, SelectFault};
 use aig_bench::BenchFault;
 use aig_cnf::CnfFault;
+use aig_model::ModelFault;
 use aig_proof::ProofFault;
 use aig_sim::{ReachFault, StimFault, WitnessFault};
 use aig_unroll::UnrollFault;
@@ -43,6 +44,8 @@ pub enum RunFault {
     /// The proof of an induction step.
     #[error("step proof: {0}")]
     StepProof(ProofFault),
+    #[error("model: {0}")]
+    Model(ModelFault),
 }
 
 impl RunFault {
@@ -62,6 +65,7 @@ impl RunFault {
             RunFault::Reach(ReachFault::Memory) => 3,
             RunFault::Proof(ProofFault::Memory | ProofFault::Io) => 3,
             RunFault::StepProof(ProofFault::Memory | ProofFault::Io) => 3,
+            RunFault::Model(ModelFault::Memory) => 3,
             RunFault::Circuit(_)
             | RunFault::Stimulus(_)
             | RunFault::Witness(_)
@@ -71,7 +75,8 @@ impl RunFault {
             | RunFault::Select(_)
             | RunFault::Reach(_)
             | RunFault::Proof(_)
-            | RunFault::StepProof(_) => 1,
+            | RunFault::StepProof(_)
+            | RunFault::Model(_) => 1,
         }
     }
 }
@@ -194,5 +199,16 @@ impl From<ProofFault> for RunFault {
 
     fn from(fault: ProofFault) -> RunFault {
         RunFault::Proof(fault)
+    }
+}
+
+impl From<ModelFault> for RunFault {
+    ghost use Rattle.std.specs.Prelude.{◌≡◌};
+    ghost use Rattle.aig_fault.specs.declared.run_fault.RunFault.TheVariants as run_faults;
+
+    ghost from_gives = { λ fault part. part ≡ run_faults.Model fault };
+
+    fn from(fault: ModelFault) -> RunFault {
+        RunFault::Model(fault)
     }
 }

@@ -100,7 +100,7 @@ cases_at (y ∷ xs) ys zero x at = inl at
 cases_at (y ∷ xs) ys (suc i) x at = cases_at xs ys i x at
 
 -- one literal a frame
-goal_frame : (f : ℕ → ℕ) (k i l : ℕ) → slice_get (frames (λ t. f t ∷ []) k) i ≡ Some l → (t : ℕ) × (t < k) × (l ≡ f t)
+pub goal_frame : (f : ℕ → ℕ) (k i l : ℕ) → slice_get (frames (λ t. f t ∷ []) k) i ≡ Some l → (t : ℕ) × (t < k) × (l ≡ f t)
 goal_frame f zero i l at = cc
 goal_frame f (suc k) i l at =
     go (cases_at (frames (λ t. f t ∷ []) k) (f k ∷ []) i l at) (λ e. goal_frame f k i l e)

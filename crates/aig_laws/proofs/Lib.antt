@@ -4,6 +4,7 @@ pub mod ConvertedTraces
 pub mod ConvertedVerdicts
 pub mod ConvertedWitnesses
 pub mod Examples
+pub mod PartialModels
 pub mod Premises
 pub mod Reached
 pub mod RowValues

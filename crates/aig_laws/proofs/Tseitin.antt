@@ -146,7 +146,7 @@ tern_not : (x : Bool) → tern_of (not x) ≡ kleene_not (tern_of x)
 tern_not true = refl
 tern_not false = refl
 
-none_of : {A : Type 0} (xs : List A) (p : ℕ) (x : A) → xs ≡ [] → slice_get xs p ≡ Some x → ⊥
+pub none_of : {A : Type 0} (xs : List A) (p : ℕ) (x : A) → xs ≡ [] → slice_get xs p ≡ Some x → ⊥
 none_of {A = A} xs p x e at = let f : slice_get {X = A} [] p ≡ Some x = subst (λ (ys : List A). slice_get ys p ≡ Some x) e at in cc
 
 module _ (raw : Raw) (row : List Tern) (no_latches : raw.latches ≡ []) where

@@ -1,4 +1,5 @@
 pub mod Conversion
 pub mod Models
+pub mod PartialModels
 pub mod Selection
 pub mod UnrolledWitness
