@@ -45,7 +45,7 @@ fn is_no(value: &str) -> bool {
 #[derive(Clone, Copy)]
 struct TaskFiles<'a> {
     circuit: &'a str,
-    // The stimulus, the witness or the proof.
+    // The stimulus, the witness, the model or the proof.
     run: Option<&'a str>,
     script: Option<&'a str>,
     step: Option<&'a str>,
@@ -96,6 +96,16 @@ impl<'a> TaskFiles<'a> {
                 map,
                 frames,
                 ..TaskFiles::new(circuit, None)
+            },
+            Task::ModelWitness {
+                frames,
+                property,
+                circuit,
+                model,
+            } => TaskFiles {
+                frames,
+                property,
+                ..TaskFiles::new(circuit, Some(model))
             },
             Task::Cnf {
                 frames,
@@ -163,7 +173,7 @@ pub fn explain<R: Files + AllocGlobal + Print + Eprint>(rt: &R, task: Task<'_>, 
     let files = TaskFiles::of(task);
     match exit {
         Exit::Run(fault) => explain_fault(rt, &files, fault),
-        Exit::Witness => of_file(rt, files.run),
+        Exit::Witness | Exit::Model => of_file(rt, files.run),
         Exit::Reported | Exit::NoTask | Exit::NotText | Exit::NotConfirmed => {}
     }
 }
@@ -361,6 +371,17 @@ fn of_reach<R: AllocGlobal + Eprint>(rt: &R, files: &TaskFiles<'_>, fault: Reach
             note(
                 rt,
                 "positions count from 0: aig info CIRCUIT prints the number of properties",
+            );
+        }
+        // A model has a number of frames.
+        ReachFault::NoRun if files.frames > 0 => {
+            note(
+                rt,
+                "no frame of the run that the model names reaches the property",
+            );
+            note(
+                rt,
+                "it has to be of the formula of aig cnf for the same K, P and CIRCUIT",
             );
         }
         ReachFault::NoRun => {
