@@ -1,4 +1,4 @@
-use Rattle.std.proofs.Common.{◌≡◌, [], Err, inl, refl, sym, ap, ◌∙◌, subst, arith, length, List, ℕ}
+use Rattle.std.proofs.Common.{[], inl, refl, sym, subst, List}
 use Rattle.aig_parts.specs.declared.ternary.Tern.{Tern}
 use Rattle.aig_bytes.specs.Flow.{flow}
 use Rattle.aig_fault.proofs.Files.{answered}

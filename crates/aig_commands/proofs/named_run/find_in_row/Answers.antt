@@ -1,4 +1,4 @@
-use Rattle.std.proofs.Common.{◌≡◌, ℕ, List, Err, Some, ap, ap₂, ◌*◌, drop, length, sym, ◌∙◌, subst}
+use Rattle.std.proofs.Common.{◌≡◌, ℕ, List, Err, Some, ap, ap₂, ◌*◌, drop, length, ◌∙◌, subst}
 use Rattle.aig_parts.specs.declared.latch.Latch.{Latch}
 use Rattle.aig_parts.specs.declared.ternary.Tern.{Tern}
 use Rattle.aig_laws.specs.UnrolledWitness.{cut, filled, rows_in, start_in}

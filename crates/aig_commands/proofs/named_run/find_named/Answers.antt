@@ -1,4 +1,4 @@
-use Rattle.std.proofs.Common.{List, ◌∙◌, ap, ap₂, drop, take, ℕ}
+use Rattle.std.proofs.Common.{List, ◌∙◌, ap₂, take, ℕ}
 use Rattle.aig_parts.specs.declared.ternary.Tern.{Tern}
 use Rattle.aig_commands.proofs.NamedRuns.{none_named}
 use Rattle.aig_commands.proofs.named_run.find_named.Goals as goal
