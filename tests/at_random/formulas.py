@@ -75,6 +75,28 @@ def bad_frames(text, parts, start, rows, bad):
     return reached
 
 
+def models(program, rng, parts, text, formula, frames, bad, true, known):
+    """A model whole, its inputs alone, and some of them: what `witness --model` writes, beside the run that it names."""
+    some = [l for l in true if rng.randrange(4)]
+    for literals in (sorted(known, key=abs), true, some):
+        named = set(literals)
+
+        def value(variable, named=named):
+            return "1" if variable in named else "0" if -variable in named else "x"
+
+        start = [value(formula.starts[p]) if p in formula.starts else str(latch[2]) for p, latch in enumerate(parts.latches)]
+        rows = [[value(formula.inputs[t, p]) for p in range(len(parts.inputs))] for t in range(frames)]
+        reached = bad_frames(text, parts, start, rows, bad)
+        wanted = refused("witness: no run")
+        if any(reached):
+            shown = "".join("".join(row) + "\n" for row in rows[:reached.index(True) + 1])
+            wanted = Ended(0, f"1\nb{bad}\n{''.join(start)}\n{shown}.\n".encode(), b"")
+        write("model", rng.choice(("", "s SATISFIABLE\nv ", "c\nSAT\n")) + " ".join(map(str, [*literals, 0])) + "\n")
+        got = program.run("witness", "--model", "model", "--frames", str(frames), "--property", str(bad), "circuit")
+        if got != wanted:
+            raise Wrong(f"{literals}: {got}, wanted {wanted}")
+
+
 def small_circuit(rng, frames):
     while True:
         text, parts = circuit_to_check(rng)
@@ -103,6 +125,7 @@ def case(program, rng):
     variables = [*formula.inputs.values(), *formula.starts.values()]
     gates = [formula.clauses[0], *formula.clauses[2:]]
     model = None
+    satisfying = []
     for signs in itertools.product((1, -1), repeat=len(variables)):
         true = [sign * variable for sign, variable in zip(signs, variables)]
         start, rows = run_of(formula, parts, frames, set(true))
@@ -115,12 +138,15 @@ def case(program, rng):
             raise Wrong(f"satisfied or not at {true}, wanted {any(wanted)}")
         if any(wanted):
             model = start, rows[:wanted.index(True) + 1]
+            satisfying.append((true, known))
     if model is None:
         return "unsatisfiable"
     start, rows = model
     write("witness", f"1\nb{bad}\n{''.join(start)}\n" + "".join("".join(row) + "\n" for row in rows) + ".\n")
     if program.run("check", "circuit", "witness") != Ended(0, b"confirmed\n", b""):
         raise Wrong(f"the run of {model} is not confirmed")
+    for true, known in rng.sample(satisfying, min(3, len(satisfying))):
+        models(program, rng, parts, text, formula, frames, bad, true, known)
     return "satisfiable"
 
 

@@ -1,6 +1,7 @@
-"""Rows of `aig witness`: the first frame that reaches a bad state, and refusals."""
+"""Rows of `aig witness`: the first frame that reaches a bad state, solvers' models of formulas, and refusals."""
 
 from library.circuits import write_all
+from library.models import read_model
 from library.runs import EXAMPLES, contents, write
 from program.rows import Rows
 
@@ -62,6 +63,98 @@ REFUSALS = (
     ("a refused circuit", "--property 9 cycle broken", "circuit: cycle 2"),
 )
 
+# A name of the row, options, the circuit, a solver's model of the formula, and what is written. Variable 2 is the first
+# input at frame 0; the inputs of the frames and then the free latches follow.
+MODELS = (
+    ("cadical's form", "--frames 2", "bad_input", "c an answer\ns SATISFIABLE\nv -1 -2 3 0\nc done\n", "1\nb0\n\n0\n1\n.\n"),
+    ("picosat's form", "--frames 2", "bad_input", "s SATISFIABLE\nv -1 2 -3 0\n", "1\nb0\n\n1\n.\n"),
+    ("minisat's form", "--frames 2", "bad_input", "SAT\n-1 -2 3 0\n", "1\nb0\n\n0\n1\n.\n"),
+    ("cryptominisat's form", "--frames 2", "bad_input", "s SATISFIABLE\nv -1 -2 \nv 3 \nv 0\n", "1\nb0\n\n0\n1\n.\n"),
+    ("literals alone", "--frames 2", "bad_input", "3\t-2 -1 0", "1\nb0\n\n0\n1\n.\n"),
+    ("a literal that is named twice", "--frames 2", "bad_input", "3 3\n0\n\n \t\n", "1\nb0\n\nx\n1\n.\n"),
+    ("an input that is not named", "--frames 2", "bad_input", "3 0", "1\nb0\n\nx\n1\n.\n"),
+    ("the first of several frames", "--frames 3", "bad_input", "-2 3 4 0", "1\nb0\n\n0\n1\n.\n"),
+    ("the start of a free latch", "--frames 2", FREE, "-1 -2 -3 4 0", "1\nb0\n1\n0\n.\n"),
+    ("a free latch that starts at 0", "--frames 2", FREE, "-1 2 -3 -4 0", "1\nb0\n0\n1\n0\n.\n"),
+    ("a free latch that is not named", "--frames 2", FREE, "2 0", "1\nb0\nx\n1\nx\n.\n"),
+    ("a free latch behind others", "--frames 2", RESETS, "-2 3 4 0", "1\nb0\n011\n0\n1\n.\n"),
+    ("two free latches", "--frames 2", "aag 3 1 2 0 0 1\n2\n4 2 4\n6 4 6\n6\n", "-2 -3 4 -5 0", "1\nb0\n10\n0\n0\n.\n"),
+    ("rows of two inputs", "--frames 2", "guarded", "-2 3 4 5 0", "1\nb0\n\n01\n11\n.\n"),
+    ("the property that is named", "--frames 1 --property 1", TWO, "2 -3 0", "1\nb1\n\n10\n.\n"),
+    ("property 0", "--frames 1", TWO, "-2 3 0", "1\nb0\n\n01\n.\n"),
+    ("no inputs", "--frames 3", TOGGLES, "-1 0\n", "1\nb0\n0\n\n\n.\n"),
+)
+
+# Models of the formula of bad_input and two frames, which has three variables, and why they are refused.
+BAD_MODELS = (
+    ("no model", "s UNSATISFIABLE\n", "unsatisfiable"),
+    ("no model, after a comment, and more", "c why\nUNSATISFIABLE\nv 9 0\n", "unsatisfiable"),
+    ("no model, in short", "UNSAT", "unsatisfiable"),
+    ("no answer", "s UNKNOWN\n", "unknown"),
+    ("no answer of minisat", "INDETERMINATE\n", "unknown"),
+    ("no text", "", "text at 0"),
+    ("a variable over the last", "-1 -2 4 0\n", "text at 6"),
+    ("a variable with both signs", "-1 1 0\n", "text at 3"),
+    ("no 0 at the end", "-1 -2 3\n", "text at 8"),
+    ("a literal after the 0", "0\n3\n", "text at 2"),
+    ("a second 0", "3 0 0\n", "text at 4"),
+    ("a leading zero", "03 0\n", "text at 0"),
+    ("a plus", "+3 0\n", "text at 0"),
+    ("a 0 with a minus", "-0 0\n", "text at 0"),
+    ("two minuses", "--1 0\n", "text at 0"),
+    ("a v within a line", "1 v 0\n", "text at 2"),
+    ("a number without an end", "99999999999999999999 0\n", "text at 0"),
+    ("an answer after a literal", "-1\ns SATISFIABLE\n0\n", "text at 3"),
+    ("two answers", "SAT\nSAT\n0\n", "text at 4"),
+    ("an answer with a blank after it", "SAT \n0\n", "text at 0"),
+    ("another word", "s satisfiable\n0\n", "text at 0"),
+    ("a carriage return", "3 0\r\n", "text at 2"),
+)
+
+MODEL_REFUSALS = (
+    ("a model for no frames", "--frames 0 --property 7 bad_input", "cnf: no frames"),
+    ("a model for no property", "--frames 65537 --property 1 bad_input", "cnf: property"),
+    ("a model for too many frames", "--frames 65537 bad_input", "cnf: limit"),
+    ("a model and a refused circuit", "--frames 0 cycle", "circuit: cycle 2"),
+    ("a model whose run reaches nothing", "--frames 2 guarded", "witness: no run"),
+)
+
+
+def models(rows):
+    """Solvers' models, in each form, and broken ones."""
+    for name, options, circuit, model, text in MODELS:
+        file = circuit
+        if circuit.startswith("aag"):
+            file = "circuit"
+            write(file, circuit)
+        write("model", model)
+        rows.gives(name, f"witness --model model {options} {file}", text)
+        write("found", text)
+        rows.gives(f"{name}, checked", f"check {file} found", "confirmed\n")
+    for name, model, fault in BAD_MODELS:
+        write("model", model)
+        rows.refuses(name, "witness --frames 2 --model model bad_input", f"model: {fault}")
+    write("model", "-2 0\n")
+    for name, words, fault in MODEL_REFUSALS:
+        rows.refuses(name, f"witness --model model {words}", fault)
+    whole = "c why\ns SATISFIABLE\nv -1 2\nv -3 0\n"
+    broken = {whole[:at] for at in range(len(whole))}
+    broken |= {whole[:at] + byte + whole[at + 1:] for at in range(len(whole)) for byte in " \n-0123cvs\x00"}
+    for model in sorted(broken):
+        write("model", model)
+        named = read_model(model, 3)
+        words = "witness --model model --frames 2 bad_input"
+        if isinstance(named, str):
+            rows.refuses(f"model {model!r}", words, f"model: {named}")
+        elif 2 in named:
+            rows.gives(f"model {model!r}", words, "1\nb0\n\n1\n.\n")
+        elif 3 in named:
+            rows.gives(f"model {model!r}", words, f"1\nb0\n\n{'0' if -2 in named else 'x'}\n1\n.\n")
+        else:
+            rows.refuses(f"model {model!r}", words, "witness: no run")
+    rows.fails("no model's file", "witness --model missing --frames 1 bad_input", "model")
+    rows.fails("no circuit before no model", "witness --model missing --frames 1 missing", "circuit")
+
 
 def witness(program, tally, _):
     rows = Rows("witness", program, tally)
@@ -91,5 +184,6 @@ def witness(program, tally, _):
         rows.refuses(name, f"witness {words}", fault)
     rows.fails("no stimulus", "witness bad_input missing", "stimulus")
     rows.fails("no circuit", "witness missing missing", "circuit")
+    models(rows)
     write("rows", "1\n" * 9)
     rows.gives("an example", f"witness {EXAMPLES}/wraps.aag rows", contents(f"{EXAMPLES}/wraps.wit"))

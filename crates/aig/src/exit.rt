@@ -18,6 +18,8 @@ pub enum Exit {
     Run(RunFault),
     /// A witness's file cannot be opened or read.
     Witness,
+    /// A model's file cannot be opened or read.
+    Model,
     /// The verdict on a witness is printed, and is not `confirmed`.
     NotConfirmed,
 }
@@ -43,6 +45,7 @@ impl Exit {
             Exit::NotText => eprintln!(rt; "error: a word of the command line is not UTF-8"),
             Exit::Run(fault) => eprintln!(rt; "aig: {fault}"),
             Exit::Witness => eprintln!(rt; "aig: witness: input or output"),
+            Exit::Model => eprintln!(rt; "aig: model: input or output"),
         }
     }
 
@@ -53,7 +56,7 @@ impl Exit {
         match self {
             Exit::Reported | Exit::NoTask | Exit::NotText => 2,
             Exit::Run(fault) => fault.status(),
-            Exit::Witness => 3,
+            Exit::Witness | Exit::Model => 3,
             Exit::NotConfirmed => 1,
         }
     }

@@ -44,7 +44,7 @@ fn is_no(value: &str) -> bool {
 #[derive(Clone, Copy)]
 struct TaskFiles<'a> {
     circuit: &'a str,
-    // The stimulus, the witness or the proof.
+    // The stimulus, the witness, the model or the proof.
     run: Option<&'a str>,
     script: Option<&'a str>,
     step: Option<&'a str>,
@@ -93,6 +93,16 @@ impl<'a> TaskFiles<'a> {
                 map,
                 frames,
                 ..TaskFiles::new(circuit, None)
+            },
+            Task::ModelWitness {
+                frames,
+                property,
+                circuit,
+                model,
+            } => TaskFiles {
+                frames,
+                property,
+                ..TaskFiles::new(circuit, Some(model))
             },
             Task::Cnf {
                 frames,
@@ -155,7 +165,7 @@ pub fn explain<R: Files + AllocGlobal + Print + Eprint>(rt: &R, task: Task<'_>, 
     let files = TaskFiles::of(task);
     match exit {
         Exit::Run(fault) => explain_fault(rt, &files, fault),
-        Exit::Witness => of_file(rt, files.run),
+        Exit::Witness | Exit::Model => of_file(rt, files.run),
         Exit::Reported | Exit::NoTask | Exit::NotText | Exit::NotConfirmed => {}
     }
 }

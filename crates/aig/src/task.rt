@@ -6,7 +6,7 @@ use crate::circuits::{
 use crate::exit::Exit;
 use crate::kept::Kept;
 use crate::simulations::{bench, simulate, wave};
-use crate::witnesses::{check, refute, refute_step, wave_witness, witness};
+use crate::witnesses::{check, model_witness, refute, refute_step, wave_witness, witness};
 use aig_base::PropertySection;
 use aig_cli::{has_flag, number_of, subcommand_of, text_of, texts_of};
 use aig_format::Format;
@@ -70,6 +70,12 @@ pub enum Task<'a> {
         property: Option<u32>,
         circuit: &'a str,
         stimulus: &'a str,
+    },
+    ModelWitness {
+        frames: u32,
+        property: u32,
+        circuit: &'a str,
+        model: &'a str,
     },
     CnfStep {
         frames: u32,
@@ -155,6 +161,12 @@ impl<'m> Task<'m> {
                 circuit,
                 stimulus,
             } => witness(rt, property, circuit, stimulus),
+            Task::ModelWitness {
+                frames,
+                property,
+                circuit,
+                model,
+            } => model_witness(rt, frames, property, circuit, model),
             Task::Refute {
                 frames,
                 property,
@@ -294,11 +306,20 @@ fn selection_of<'m>(matches: &'m ArgMatches<'_>) -> Option<Task<'m>> {
 }
 
 fn witness_of<'a>(matches: &ArgMatches<'a>) -> Option<Task<'a>> {
-    Some(Task::Witness {
-        property: number_of(matches, "P"),
-        circuit: text_of(matches, "CIRCUIT")?,
-        stimulus: text_of(matches, "STIM")?,
-    })
+    let circuit = text_of(matches, "CIRCUIT")?;
+    match text_of(matches, "model") {
+        Some(model) => Some(Task::ModelWitness {
+            frames: number_of(matches, "K")?,
+            property: number_of(matches, "P").unwrap_or(0),
+            circuit,
+            model,
+        }),
+        None => Some(Task::Witness {
+            property: number_of(matches, "P"),
+            circuit,
+            stimulus: text_of(matches, "STIM")?,
+        }),
+    }
 }
 
 fn refutation_of<'a>(matches: &ArgMatches<'a>) -> Option<Task<'a>> {

@@ -3,7 +3,7 @@
 use crate::exit::Exit;
 use crate::files::{CIRCUIT, open, output, read_whole};
 use aig_base::Std;
-use aig_commands::{check, induction, refute, wave, witness};
+use aig_commands::{check, induction, model_witness, refute, wave, witness};
 use aig_fault::RunFault;
 use aig_proof::ProofFault;
 use aig_sim::{StimFault, Verdict};
@@ -11,6 +11,8 @@ use std::fs::Files;
 use std::io::Read;
 
 const WITNESS: Exit = Exit::Witness;
+
+const MODEL: Exit = Exit::Model;
 
 const STIMULUS: Exit = Exit::Run(RunFault::Stimulus(StimFault::Io));
 
@@ -113,6 +115,40 @@ fn witness_files<R: AllocGlobal + Print, F: Read + Drop>(
         circuit.as_slice(),
         stimulus.as_slice(),
         property,
+        &mut out,
+    )?;
+    Ok(())
+}
+
+/// Writes the witness of the run that a solver's model names.
+pub fn model_witness<R: Files + AllocGlobal + Print>(
+    rt: &R,
+    frames: u32,
+    property: u32,
+    circuit: &str,
+    model: &str,
+) -> Result<(), Exit> {
+    let circuit = open(rt, circuit, CIRCUIT)?;
+    let model = open(rt, model, MODEL)?;
+    model_witness_files(rt, frames, property, circuit, model)
+}
+
+fn model_witness_files<R: AllocGlobal + Print, F: Read + Drop>(
+    rt: &R,
+    frames: u32,
+    property: u32,
+    circuit: F,
+    model: F,
+) -> Result<(), Exit> {
+    let circuit = read_whole(rt.alloc(), circuit, CIRCUIT)?;
+    let model = read_whole(rt.alloc(), model, MODEL)?;
+    let mut out = output(rt);
+    model_witness::model_witness(
+        rt.alloc(),
+        circuit.as_slice(),
+        frames,
+        property,
+        model.as_slice(),
         &mut out,
     )?;
     Ok(())

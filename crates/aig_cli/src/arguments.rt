@@ -2,7 +2,7 @@
 
 use clap::builder::ValueParser;
 use clap::{Arg, ArgAction};
-use std::alloc::Global;
+use std::alloc::{AllocError, Global};
 
 static FORMATS: [&str; 2] = ["aag", "aig"];
 
@@ -134,9 +134,30 @@ pub fn property_argument<'a>(alloc: Global) -> Arg<'a> {
 
 pub fn reached_argument<'a>(alloc: Global) -> Arg<'a> {
     let property = Arg::new(alloc, "P").help(
-        "Position of the bad state property, counted from 0\n(default: the first that is reached)",
+        "Position of the bad state property, counted from 0\n(default: the first that is reached; 0 with --model)",
     );
     number(property.long("property"))
+}
+
+// Left out where a model is given.
+pub fn rows_argument<'a>(alloc: Global) -> Result<Arg<'a>, AllocError> {
+    stimulus_argument(alloc)
+        .required(false)
+        .required_unless_present("model")?
+        .conflicts_with("model")
+}
+
+pub fn model_argument<'a>(alloc: Global) -> Result<Arg<'a>, AllocError> {
+    Arg::new(alloc, "model")
+        .long("model")
+        .value_name("MODEL")
+        .help("File of a SAT solver's model of the formula of\ncnf, in the place of STIM")
+        .requires_arg("K")
+}
+
+pub fn model_frames_argument<'a>(alloc: Global) -> Result<Arg<'a>, AllocError> {
+    let frames = Arg::new(alloc, "K").help("Number of frames of the formula");
+    number(frames.long("frames")).requires_arg("model")
 }
 
 // The properties to keep: the option stands once for each.

@@ -213,5 +213,10 @@ several properties, the witness is that of the first. check confirms it.
 
 If no frame reaches a property, witness writes nothing and fails: no run.
 
+With --model, the run is the one that a SAT solver's model of the formula of
+aig cnf (with the same K, P and CIRCUIT) names, with x where it names no value.
+MODEL is what the solver printed: s and v lines, or the literals alone.
+
 Example: aig witness examples/wraps.aag examples/wraps.stim > wraps.wit
+Example: aig witness --model model.txt --frames 10 examples/wraps.aag
 See also: man aig, man 5 aig-formats";

@@ -2,8 +2,9 @@
 
 use crate::arguments::{
     circuit_argument, circuit_out_argument, format_argument, frames_argument, map_argument,
-    names_flag, proof_argument, properties_argument, property_argument, reached_argument,
-    run_argument, script_argument, section_argument, step_argument, step_flag, stimulus_argument,
+    model_argument, model_frames_argument, names_flag, proof_argument, properties_argument,
+    property_argument, reached_argument, rows_argument, run_argument, script_argument,
+    section_argument, step_argument, step_flag, stimulus_argument,
     stimulus_out_argument, trace_flag, witness_argument, witness_flag,
 };
 use crate::help;
@@ -106,9 +107,11 @@ pub fn witness_command<'a>(alloc: Global) -> Result<Command<'a>, AllocError> {
     Command::new(alloc, "witness")
         .about("Write the witness that a run reaches a bad state")
         .after_help(help::WITNESS)
+        .arg(model_argument(alloc)?)?
+        .arg(model_frames_argument(alloc)?)?
         .arg(reached_argument(alloc))?
         .arg(circuit_argument(alloc))?
-        .arg(stimulus_argument(alloc))
+        .arg(rows_argument(alloc)?)
 }
 
 pub fn refute_command<'a>(alloc: Global) -> Result<Command<'a>, AllocError> {
