@@ -14,7 +14,7 @@ _aig() {
         [cnf]="--frames --property --step --explain --help"
         [info]="--names --explain --help"
         [select]="--to --from --as --property --explain --help"
-        [witness]="--property --explain --help"
+        [witness]="--model --frames --property --explain --help"
         [refute]="--frames --property --step --explain --help"
     )
     local -A values=(
@@ -24,6 +24,7 @@ _aig() {
         [--frames]=""
         [--property]=""
         [--map]="file"
+        [--model]="file"
         [--step]="file"
         [--circuit-out]="file"
         [--stimulus-out]="file"

@@ -9,7 +9,7 @@ from faults.refusing import Refusing
 from library.circuits import TEXTS, write_all
 from library.runs import EXAMPLES, Ended, LeftOut, write
 
-MEMORY = re.compile(rb"aig: ((circuit|stimulus|witness|unroll|cnf|bench|script|select|proof|step proof): )?memory\n")
+MEMORY = re.compile(rb"aig: ((circuit|stimulus|witness|unroll|cnf|bench|script|select|proof|step proof|model): )?memory\n")
 TWO_GATES = [f"{EXAMPLES}/two_gates.{ending}" for ending in ("aag", "stim", "script")]
 
 # Runs of which each allocation is refused in turn.
@@ -32,6 +32,7 @@ RUNS = (
     ("info of all sections", ["info", "sections"]),
     ("names", ["info", "--names", "sections"]),
     ("witness", ["witness", f"{EXAMPLES}/wraps.aag", f"{EXAMPLES}/wraps.stim"]),
+    ("witness of a model", ["witness", "--model", "model", "--frames", "2", "guarded"]),
     ("refute", ["refute", "--frames", "1", "never", "proof"]),
     ("refute with a step", ["refute", "--frames", "1", "--step", "step", "never", "proof"]),
     ("cnf of a step", ["cnf", "--step", "--frames", "3", "guarded_latch"]),
@@ -86,7 +87,7 @@ WITHOUT_MEMORY = (
 def allocations(program, tally, _):
     beneath = Refusing(program, "refuse_allocation")
     write_all()
-    for name, text in (("never", NEVER), ("proof", "2 3 0\n2 0\n"), ("step", "4 0\n")):
+    for name, text in (("never", NEVER), ("proof", "2 3 0\n2 0\n"), ("step", "4 0\n"), ("model", "-2 3 4 5 0\n")):
         write(name, text)
     if beneath.counted(REFUSE=0)[1] == 0:
         raise LeftOut("no library can stand before malloc here")

@@ -382,6 +382,17 @@ fn of_reach<R: AllocGlobal + Eprint>(rt: &R, files: &TaskFiles<'_>, fault: Reach
                 "positions count from 0: aig info CIRCUIT prints the number of properties",
             );
         }
+        // A model has a number of frames.
+        ReachFault::NoRun if files.frames > 0 => {
+            note(
+                rt,
+                "no frame of the run that the model names reaches the property",
+            );
+            note(
+                rt,
+                "it has to be of the formula of aig cnf for the same K, P and CIRCUIT",
+            );
+        }
         ReachFault::NoRun => {
             note(
                 rt,
