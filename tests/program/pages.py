@@ -39,9 +39,11 @@ def pages(program, tally, _):
     found = {name: sorted(re.findall(r"'\*?(--[a-z-]+)", text)) for name, text in cases.items() if name != "help"}
     tally.compare("pages: options of _aig", found, wanted)
     tally.compare("pages: options with values of _aig", set(re.findall(r"'\*?(--[a-z-]+)=\[", zsh)), with_values)
-    files = {name: re.findall(r"""['"]:([A-Z]+):(?:_files|\$circuits)['"]""", text)
+    # a colon before the name of an argument says that it may be left out
+    files = {name: re.findall(r"""['"]:(:?[A-Z]+):(?:_files|\$circuits)['"]""", text)
              for name, text in cases.items() if name != "help"}
-    tally.compare("pages: files of _aig", files, {name: list(one.arguments) for name, one in each.items()})
+    tally.compare("pages: files of _aig", files,
+                  {name: [re.sub(r"\[([A-Z]+)\]", r":\1", it) for it in one.arguments] for name, one in each.items()})
     general = set(long_options(overview))
     for name, text in (("aig.bash", bash), ("_aig", zsh)):
         tally.check(f"pages: general options of {name}", all(option in text for option in general), general)

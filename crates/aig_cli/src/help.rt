@@ -232,5 +232,5 @@ aig cnf (with the same K, P and CIRCUIT) names, with x where it names no value.
 MODEL is what the solver printed: s and v lines, or the literals alone.
 
 Example: aig witness examples/wraps.aag examples/wraps.stim > wraps.wit
-Example: aig witness --model model.txt --frames 10 examples/wraps.aag
+Example: aig witness --model examples/wraps.model --frames 4 examples/wraps.aag
 See also: man aig, man 5 aig-formats";
