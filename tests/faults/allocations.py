@@ -33,6 +33,7 @@ RUNS = (
     ("names", ["info", "--names", "sections"]),
     ("witness", ["witness", f"{EXAMPLES}/wraps.aag", f"{EXAMPLES}/wraps.stim"]),
     ("refute", ["refute", "--frames", "1", "never", "proof"]),
+    ("refute by a proof that deletes", ["refute", "--frames", "3", f"{EXAMPLES}/wraps.aag", f"{EXAMPLES}/wraps.drat"]),
     ("refute with a step", ["refute", "--frames", "1", "--step", "step", "never", "proof"]),
     ("cnf of a step", ["cnf", "--step", "--frames", "3", "guarded_latch"]),
     ("select", ["select", "--to", "aag", "--property", "0", "--property", "0", "sections"]),
