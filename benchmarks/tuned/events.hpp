@@ -89,7 +89,9 @@ public:
     void put(uint8_t* cells, uint32_t variable, uint8_t code) {
         if (cells[variable] == code) return;
         cells[variable] = code;
-        for (const uint32_t* reader = readers.begin(variable); reader != readers.end(variable); ++reader) link(*reader);
+        // The end is found once: what `link` writes could move it, as far as the compiler knows.
+        for (const uint32_t *reader = readers.begin(variable), *end = readers.end(variable); reader != end; ++reader)
+            link(*reader);
         if (slots[variable].is_next) carried.insert(carried.end(), latches.begin(variable), latches.end(variable));
     }
 

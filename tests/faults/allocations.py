@@ -34,6 +34,7 @@ RUNS = (
     ("witness", ["witness", f"{EXAMPLES}/wraps.aag", f"{EXAMPLES}/wraps.stim"]),
     ("witness of a model", ["witness", "--model", "model", "--frames", "2", "guarded"]),
     ("refute", ["refute", "--frames", "1", "never", "proof"]),
+    ("refute by a proof that deletes", ["refute", "--frames", "3", f"{EXAMPLES}/wraps.aag", f"{EXAMPLES}/wraps.drat"]),
     ("refute with a step", ["refute", "--frames", "1", "--step", "step", "never", "proof"]),
     ("reduce", ["reduce", f"{EXAMPLES}/wraps.aag", f"{EXAMPLES}/wraps.wit"]),
     ("cnf of a step", ["cnf", "--step", "--frames", "3", "guarded_latch"]),

@@ -53,8 +53,9 @@ fn refutes(alloc: Global, variables: u8, text: &[u8], clauses: usize, proof: &[u
 // which an assignment satisfies.
 fn is_told_apart(alloc: Global, row: Refuted) -> bool {
     let (variables, text, clauses, proof) = row;
-    refutes(alloc, variables, text, clauses + 1, proof)
-        && !refutes(alloc, variables, text, clauses + 1, b"")
+    let whole = clauses.saturating_add(1);
+    refutes(alloc, variables, text, whole, proof)
+        && !refutes(alloc, variables, text, whole, b"")
         && !refutes(alloc, variables, text, clauses, proof)
 }
 
@@ -162,9 +163,14 @@ fn satisfies(values: [bool; 5], clauses: &[[Lit; 3]]) -> bool {
     clauses.iter().all(|clause| clause.iter().any(|literal| is_true(values, *literal)))
 }
 
+// Whether the first values of a number, of so many, are those of another one.
+fn begins(whole: u32, number: u32, numbers: u32) -> bool {
+    numbers > 0 && whole % numbers == number
+}
+
 // Whether values whose first ones are those of a number, of so many, satisfy the clauses.
 fn can_begin(clauses: &[[Lit; 3]], number: u32, numbers: u32) -> bool {
-    (0..32).any(|whole| whole % numbers == number && satisfies(values_of(whole), clauses))
+    (0..32).any(|whole| begins(whole, number, numbers) && satisfies(values_of(whole), clauses))
 }
 
 // The clause that the first so many of these values are not there, the last of them first.
