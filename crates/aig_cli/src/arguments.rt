@@ -8,8 +8,6 @@ static FORMATS: [&str; 2] = ["aag", "aig"];
 
 static SECTIONS: [&str; 2] = ["bad", "outputs"];
 
-static OF_A_MODEL: [&str; 2] = ["model", "K"];
-
 fn argument<'a>(alloc: Global, name: &'a str, help: &'a str) -> Arg<'a> {
     Arg::new(alloc, name).required(true).help(help)
 }
@@ -146,7 +144,8 @@ pub fn rows_argument<'a>(alloc: Global) -> Result<Arg<'a>, AllocError> {
     stimulus_argument(alloc)
         .required(false)
         .required_unless_present("model")?
-        .conflicts_with_all(OF_A_MODEL.as_slice())
+        .conflicts_with("model")?
+        .conflicts_with("K")
 }
 
 pub fn model_argument<'a>(alloc: Global) -> Result<Arg<'a>, AllocError> {
