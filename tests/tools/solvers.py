@@ -1,0 +1,81 @@
+"""SAT solvers on the formulas of `aig cnf`, beside ABC's opinion, for each property of the designs and 1 to 30 frames. The
+formula is satisfiable exactly where ABC's `bmc3` finds a run to a bad state within these frames. `aig witness --model`
+makes a witness of each model, which `aig check` confirms, and again after `aig reduce`. `aig refute` takes each proof of
+cadical."""
+
+import re
+import shutil
+import subprocess
+import sys
+
+from library.runs import Ended, contents, write
+from tools.external import Tools
+from tools.proofs import circuits
+
+FRAMES = 30
+SATISFIABLE, UNSATISFIABLE = 10, 20  # the statuses of all solvers
+# How each solver is called: it prints its model, or writes it to a file.
+SOLVERS = {
+    "cadical": ["cadical", "-q", "f.cnf", "f.drat"],
+    "picosat": ["picosat", "f.cnf"],
+    "minisat": ["minisat", "-verb=0", "f.cnf", "f.model"],
+    "cryptominisat5": ["cryptominisat5", "--verb", "0", "f.cnf"],
+}
+
+
+def solvers(program, tally, _):
+    found = {name: words for name, words in SOLVERS.items() if shutil.which(name)}
+    if not found:
+        sys.exit("no solver is installed: apt-get install cadical picosat minisat cryptominisat")
+    tools = Tools()
+    counts = {"satisfiable": 0, "unsatisfiable": 0, "proofs": 0}
+    for name, properties in circuits(tally, tools):
+        for place in range(properties):
+            reached = first_reached(program, tools, place)
+            for frames in range(1, FRAMES + 1):
+                title = f"solvers: {name}, property {place}, {frames} frames"
+                ask_each(program, tally, found, counts, title, str(place), frames,
+                         reached is not None and reached < frames)
+    tally.check("solvers: formulas of each kind", min(counts.values()) > 0 or "cadical" not in found, counts)
+    return (f"{', '.join(found)}: {counts['satisfiable']} models and {counts['unsatisfiable']} formulas without one, "
+            f"{counts['proofs']} proofs taken: ")
+
+
+def first_reached(program, tools, place):
+    """The frame at which ABC finds a run to the property, if it does."""
+    write("one.aig", program.run("select", "--to", "aig", "--as", "outputs", "--property", str(place), "bad.aig").out)
+    said = tools.abc(f"read_aiger one.aig; logic; undc; strash; zero; fold; bmc3 -F {2 * FRAMES} -T 30")
+    asserted = re.search(r"was asserted in frame (\d+)\.", said)
+    return int(asserted[1]) if asserted else None
+
+
+def ask_each(program, tally, found, counts, title, place, frames, is_reached):
+    asked = ("--frames", str(frames), "--property", place)
+    write("f.cnf", program.run("cnf", *asked, "bad.aig").out)
+    for name, words in found.items():
+        done = subprocess.run(words, stdin=subprocess.DEVNULL, stdout=subprocess.PIPE, stderr=subprocess.DEVNULL,
+                              check=False)
+        tally.compare(f"{title}: {name}", done.returncode, SATISFIABLE if is_reached else UNSATISFIABLE)
+        model = contents("f.model") if name == "minisat" else done.stdout
+        write("model", model)
+        ended = program.run("witness", "--model", "model", *asked, "bad.aig")
+        if is_reached:
+            counts["satisfiable"] += 1
+            confirm(program, tally, f"{title}: {name}", ended)
+        else:
+            counts["unsatisfiable"] += 1
+            tally.compare(f"{title}: {name}, no model", ended, Ended(1, b"", b"aig: model: unsatisfiable\n"))
+            if name == "cadical":
+                counts["proofs"] += 1
+                tally.compare(f"{title}: proof", program.run("refute", *asked, "bad.aig", "f.drat"),
+                              Ended(0, f"unreachable within {frames}\n".encode(), b""))
+
+
+def confirm(program, tally, title, ended):
+    """The witness of a model is confirmed, and so is the reduced one."""
+    confirmed = Ended(0, b"confirmed\n", b"")
+    tally.check(f"{title}: witness", ended.status == 0 and ended.err == b"", ended)
+    write("run.wit", ended.out)
+    tally.compare(f"{title}: check", program.run("check", "bad.aig", "run.wit"), confirmed)
+    write("needed.wit", program.run("reduce", "bad.aig", "run.wit").out)
+    tally.compare(f"{title}: reduced", program.run("check", "bad.aig", "needed.wit"), confirmed)
