@@ -2,8 +2,9 @@
 """Tries the planted bugs of crates, many of a crate together. Each changes the body of a function, and a proof of a
 function rests on the contracts of others alone. So one check of a copy says of each changed function whether the
 prover refuses it. In the copy no other function has its body, and each has a hole for its proof: `rt ci` proves them
-as they are. Bugs that change one function come in different checks. Two processes share the first, which also reads
-the crate's definitions and lemmas; those after it run in two folders side by side.
+as they are. Bugs that change one function come in different checks, one after the other in one folder: the first reads the crate's
+definitions and lemmas, and those after it take them from there. A crate has one process: two for one crate would both
+read its libraries.
 
 Each planted bug names the clause that it breaks. It is refused where a goal of that clause is open in a function that
 it changes; one of planted/more/ that names none, where any goal is. The script prints all goals that are open, and of
@@ -38,9 +39,6 @@ from library.exports import signature
 
 ROOT = pathlib.Path(__file__).resolve().parent.parent
 
-# How many processors a crate takes: processes of its first check, and folders for those after it.
-SHARE = 2
-
 # Why a goal is open, what shows most of the body first.
 KINDS = ("false", "no proof", "limit", "answer", "name")
 FALSE, UNPROVED, LIMIT, ANSWER, NAME = KINDS
@@ -56,8 +54,8 @@ Goal = collections.namedtuple("Goal", "name kind")
 
 def toolchain(jobs):
     """Returns the crates, lowest first, each with the parts of its folder that a check reads, the libraries below it,
-    the command that checks it with so many jobs, and how to build those libraries. All that the script takes from
-    inside the toolchain's command `rt` is here."""
+    the command that checks it, and how to build those libraries with so many jobs. All that the script takes from inside
+    the toolchain's command `rt` is here."""
     path = os.path.realpath(shutil.which("rt") or sys.exit("rt is not on the path"))
     sys.path.insert(0, os.path.dirname(path))
     loader = importlib.machinery.SourceFileLoader("toolchain_rt", path)
@@ -73,9 +71,7 @@ def toolchain(jobs):
                 sys.exit(f"{below.name} is not proved")
 
     def read(crate):
-        def check(count):
-            return [*guarded, rtlib.RATTLE, "check", *crate.words(["--jobs", str(count)], keeps=False)]
-
+        check = [*guarded, rtlib.RATTLE, "check", *crate.words(["--jobs", "1"], keeps=False)]
         below = {it.name for it in crate.below()}
         return Crate(crate.name, pathlib.Path(crate.folder), rtlib.PARTS, below, check, lambda: build(crate))
 
@@ -280,7 +276,7 @@ def take_as_proved(crate, room, taken):
         file.write_text("\n".join(lines))
 
 
-def tried(crate, room, known, texts, edits, jobs):
+def tried(crate, room, known, texts, edits):
     """Checks a copy of a crate with planted bugs in this folder, prints each bug, and returns how each is refused. The
     functions that no bug changed are taken as proved."""
     for part in crate.parts:
@@ -292,7 +288,7 @@ def tried(crate, room, known, texts, edits, jobs):
     wanted = sorted({it.name for edit in edits for it in edit.functions})
     take_as_proved(crate, room, [it for it in known if it.name not in wanted])
     words = ["--allow-holes", "--incremental", f"{room}/kept", *(it for name in wanted for it in ("--only", name))]
-    ran = subprocess.run([*crate.check(jobs), *words], cwd=room, check=False,
+    ran = subprocess.run([*crate.check, *words], cwd=room, check=False,
                          stdin=subprocess.DEVNULL, stdout=subprocess.PIPE, stderr=subprocess.STDOUT, errors="replace")
     verdicts, found = open_goals(crate.name, ran.stdout)
     if not verdicts:
@@ -306,23 +302,12 @@ def tried(crate, room, known, texts, edits, jobs):
     return kinds
 
 
-def told(crate, known, edits, jobs):
-    """Tries the planted bugs of a crate, and returns how each is refused. The folders begin with what the first check
-    kept."""
-    (texts, taken), *later = rounds(crate.folder, edits)
+def told(crate, known, edits):
+    """Tries the planted bugs of a crate, and returns how each is refused."""
     with tempfile.TemporaryDirectory(prefix="planted-") as name:
-        rooms = [pathlib.Path(name, str(number)) for number in range(min(jobs, len(later) or 1))]
-        rooms[0].mkdir()
-        kinds = tried(crate, rooms[0], known, texts, taken, jobs)
-        for room in rooms[1:]:
-            shutil.copytree(rooms[0], room)
-
-        def rest(number):
-            checks = later[number :: len(rooms)]
-            return [kind for check in checks for kind in tried(crate, rooms[number], known, *check, 1)]
-
-        with concurrent.futures.ThreadPoolExecutor(len(rooms)) as pool:
-            return kinds + [kind for more in pool.map(rest, range(len(rooms))) for kind in more]
+        room = pathlib.Path(name)
+        checks = rounds(crate.folder, edits)
+        return [kind for texts, taken in checks for kind in tried(crate, room, known, texts, taken)]
 
 
 def edits_of(crate, rooms, only):
@@ -385,9 +370,8 @@ def main():
         if edits and not words.behind:
             crate.build()
         work += [(crate, known, edits)] if edits else []
-    share = min(SHARE, words.jobs)
-    with concurrent.futures.ThreadPoolExecutor(words.jobs // share) as pool:
-        tries = [pool.submit(told, *it, share) for it in in_turn(work, words.behind)]
+    with concurrent.futures.ThreadPoolExecutor(words.jobs) as pool:
+        tries = [pool.submit(told, *it) for it in in_turn(work, words.behind)]
     kinds = collections.Counter(kind for it in tries for kind in it.result())
     print("refused: " + ", ".join(f"{kinds[kind]} {kind}" for kind in KINDS[:-1]))
     passed, failed = sum(kinds[kind] for kind in KINDS), failed + kinds[None]
