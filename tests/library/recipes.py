@@ -23,13 +23,18 @@ def shell(program, text):
     return done.stdout.decode(errors="replace")
 
 
-def make_witness(last):
-    """Makes `run.wit` of `row`, `map` and `old.aag`, for property 0 at frame `last`."""
-    text = script("awk -v property=")
-    subprocess.run(["sh", "-c", text.replace("last=4", f"last={last}")], check=True)
+def make_witness(program, frames):
+    """Makes `run.wit` of `row` and `old.aag`, for property 0 and so many frames; what the script says."""
+    return shell(program, script("{\n").replace("--frames 5", f"--frames {frames}"))
 
 
 def find_witness(program, abc, number):
     """Makes `run.wit` of `old.aig`, a run to this property that ABC finds; what the script says."""
     text = script("property=0\n").replace("property=0\n", f"property={number}\n", 1)
     return shell(program, text.replace("berkeley-abc ", f"{abc} "))
+
+
+def solve_witness(program, number):
+    """Makes `design.wit` of `design.aig`, a run to this property that a SAT solver finds; what the script says."""
+    text = script("aig cnf --frames 20 design.aig")
+    return shell(program, text.replace("design.aig >", f"--property {number} design.aig >"))

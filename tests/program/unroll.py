@@ -106,21 +106,22 @@ def over_its_circuit(rows):
 
 
 def recipe(rows):
-    """The recipe that makes a witness of a row: of all rows of a circuit, those are confirmed that by the plain
-    simulator reach its bad state at the last frame."""
+    """The recipe that makes a witness of a row: of all rows of a circuit, those give one that by the plain simulator reach
+    its bad state at some frame, and it is confirmed."""
     write("old.aag", RUN)
-    rows.program.run("unroll", "--frames", "3", "--to", "aag", "--map", "map", "old.aag")
     write("unrolled.aag", rows.program.run("unroll", "--frames", "3", "--to", "aag", "old.aag").out)
     parts = reference.Parts(contents("unrolled.aag").decode())
     found = 0
     for values in itertools.product("01", repeat=len(parts.inputs)):
         known = reference.values(parts, [values])[0]
         write("row", "".join(values) + "\n")
-        make_witness(2)
-        is_reached = reference.literal(known, parts.bad[2]) == "1"
+        said = make_witness(rows.program, 3)
+        is_reached = any(reference.literal(known, literal) == "1" for literal in parts.bad)
         found += is_reached
+        name = f"unroll: the witness of {''.join(values)}"
+        rows.tally.compare(name, said, "" if is_reached else "aig: witness: no run\n")
         ended = rows.program.run("check", "old.aag", "run.wit")
-        rows.tally.compare(f"unroll: the witness of {''.join(values)}", ended.out == b"confirmed\n", is_reached)
+        rows.tally.compare(f"{name}, checked", ended.out == b"confirmed\n", is_reached)
     rows.tally.check("unroll: rows that reach the bad state", 0 < found < 2 ** len(parts.inputs), found)
 
 

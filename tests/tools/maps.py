@@ -1,5 +1,5 @@
-"""Rows that ABC's `sat` finds for unrolled designs of Yosys, each made a witness by the map of the inputs and the
-recipe of docs/FORMATS.md: each is confirmed."""
+"""Rows that ABC's `sat` finds for unrolled designs of Yosys, each made a witness by the recipe of docs/FORMATS.md: each is
+confirmed."""
 
 import os
 import re
@@ -40,7 +40,7 @@ def started(parts, is_free):
 def of_output(program, tally, tools, counts, name, parts):
     """Checks the witnesses of all frames at which ABC finds a row; how many there are."""
     write("old.aag", spelled(parts, "aag"))
-    ended = program.run("unroll", "--frames", str(FRAMES), "--to", "aag", "--map", "map", "old.aag")
+    ended = program.run("unroll", "--frames", str(FRAMES), "--to", "aag", "old.aag")
     tally.check(f"maps: {name}", ended.status == 0, ended.err)
     write("unrolled.aag", ended.out)
     whole = parts_of("unrolled.aag")
@@ -53,7 +53,7 @@ def of_output(program, tally, tools, counts, name, parts):
             continue
         found += 1
         write("row", contents("row").rstrip() + b"\n")
-        make_witness(frame)
+        make_witness(program, FRAMES)
         tally.compare(f"maps: {name}, frame {frame}", program.run("check", "old.aag", "run.wit"),
                       Ended(0, b"confirmed\n", b""))
     counts["found"] += found

@@ -1,13 +1,14 @@
 """Runs of Yosys designs to bad states that ABC finds, each made a witness by the recipe of docs/FORMATS.md: each is
 confirmed. Then the same with one input value turned at a time: where the plain simulator of library/reference.py finds
 the constraints and the bad state at 1 in that run too, it is confirmed, else it is not. Other designs have
-uninitialised latches: a queue that overflows, and a memory whose bad states need some of them at 1 and some at 0."""
+uninitialised latches: a queue that overflows, and a memory whose bad states need some of them at 1 and some at 0. Their
+runs are models that a SAT solver finds."""
 
 import os
 
 from library import reference
 from library.plain_reader import in_order, spelled
-from library.recipes import find_witness
+from library.recipes import find_witness, solve_witness
 from library.runs import DESIGNS, EXAMPLES, Ended, contents, write
 from tools.external import FORMAL, LOGIC, Tools, parts_of, with_bad
 
@@ -67,21 +68,23 @@ def of_output(program, tally, tools, counts, name, parts):
 
 
 def uninitialised(program, tally, tools, counts, file, bad, unreached):
-    """A design that keeps its uninitialised latches: the recipe gives a confirmed witness of each bad state."""
+    """A design that keeps its uninitialised latches: the recipe with a SAT solver gives a confirmed witness of each bad
+    state that a run reaches."""
     name = os.path.basename(file).removesuffix(".v")
     if not tools.yosys(f"read_verilog -sv -formal {file}; prep -flatten -top {name}; memory_map; {LOGIC}; "
-                       "write_aiger -symbols old.aig"):
+                       "write_aiger -symbols design.aig"):
         tally.check(f"witnesses: yosys {name}", False, tools.last_lines())
         return
-    parts = parts_of("old.aig")
+    parts = parts_of("design.aig")
     is_free = any(state == reset for state, _, reset in parts.latches)
     tally.check(f"witnesses: {name} has uninitialised latches", is_free and len(parts.bad) == bad, len(parts.bad))
     for number in range(bad):
-        is_found, said = found(program, tools, number)
-        tally.check(f"witnesses: {name}, property {number}: found or not", is_found == (number not in unreached), said)
-        if is_found:
+        said = solve_witness(program, number)
+        wanted = "aig: model: unsatisfiable\n" if number in unreached else ""
+        tally.compare(f"witnesses: {name}, property {number}: found or not", said, wanted)
+        if number not in unreached:
             counts["free"] += 1
-            tally.compare(f"witnesses: {name}, property {number}", program.run("check", "old.aig", "run.wit"),
+            tally.compare(f"witnesses: {name}, property {number}", program.run("check", "design.aig", "design.wit"),
                           Ended(0, b"confirmed\n", b""))
 
 
