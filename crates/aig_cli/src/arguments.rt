@@ -1,228 +1,268 @@
-//! The arguments and options of the commands.
+//! The arguments and options of the commands, a row each.
 
 use clap::builder::ValueParser;
 use clap::{Arg, ArgAction};
 use std::alloc::{AllocError, Global};
 
-static FORMATS: [&str; 2] = ["aag", "aig"];
-
-static SECTIONS: [&str; 2] = ["bad", "outputs"];
-
-fn argument<'a>(alloc: Global, name: &'a str, help: &'a str) -> Arg<'a> {
-    Arg::new(alloc, name).required(true).help(help)
+/// An argument or option of a command.
+pub struct Argument {
+    /// The name by which its value is found. Help shows it, and a flag has it as its word.
+    name: &'static str,
+    help: &'static str,
+    kind: Kind,
+    need: Need,
 }
 
+/// How an argument is given, and what it takes.
+enum Kind {
+    /// Text, by its place.
+    Text,
+    /// A flag, which takes nothing.
+    Flag,
+    /// An option whose word is its name, with text that help shows by this name.
+    Named(&'static str),
+    /// An option of this word, with a number.
+    Number(&'static str),
+    /// The same, any number of times.
+    Numbers(&'static str),
+    /// An option of this word, with one of these words, which help shows by a name.
+    OneOf(&'static str, &'static str, &'static [&'static str]),
+}
+
+/// When an argument has to be given.
+enum Need {
+    Always,
+    Never,
+    /// Exactly if this option is.
+    With(&'static str),
+    /// Unless this option is, and with none of these.
+    Without(&'static str, &'static [&'static str]),
+}
+
+const FORMATS: &[&str] = &["aag", "aig"];
+
+const SECTIONS: &[&str] = &["bad", "outputs"];
+
+pub const FORMAT: Argument = Argument {
+    name: "FORMAT",
+    help: "Format to write: aag (text) or aig (binary)",
+    kind: Kind::OneOf("to", "FORMAT", FORMATS),
+    need: Need::Always,
+};
+
+pub const FROM: Argument = Argument {
+    name: "from",
+    help: "Section to choose from: bad (the default) or outputs",
+    kind: Kind::OneOf("from", "SECTION", SECTIONS),
+    need: Need::Never,
+};
+
+pub const AS: Argument = Argument {
+    name: "as",
+    help: "Section to write: bad (the default) or outputs",
+    kind: Kind::OneOf("as", "SECTION", SECTIONS),
+    need: Need::Never,
+};
+
+pub const CIRCUIT: Argument = Argument {
+    name: "CIRCUIT",
+    help: "File of the circuit, in the format aag or aig",
+    kind: Kind::Text,
+    need: Need::Always,
+};
+
+pub const STIMULUS: Argument = Argument {
+    name: "STIM",
+    help: "File of the stimulus: one line per frame,\none 0, 1 or x (unknown) per input",
+    kind: Kind::Text,
+    need: Need::Always,
+};
+
+/// The stimulus of `witness`: a model may be given in its place, with the options of a model.
+pub const ROWS: Argument = Argument {
+    name: "STIM",
+    help: "File of the stimulus: one line per frame,\none 0, 1 or x (unknown) per input",
+    kind: Kind::Text,
+    need: Need::Without("model", &["model", "K", "step"]),
+};
+
+pub const RUN: Argument = Argument {
+    name: "STIM",
+    help: "File of the stimulus: one line per frame,\none 0, 1 or x (unknown) per input;\nwith --witness, file of the witness",
+    kind: Kind::Text,
+    need: Need::Always,
+};
+
+pub const SCRIPT: Argument = Argument {
+    name: "SCRIPT",
+    help: "File of the script: one edit or query per line",
+    kind: Kind::Text,
+    need: Need::Always,
+};
+
+pub const WITNESS: Argument = Argument {
+    name: "WITNESS",
+    help: "File of the witness: a run that should reach a bad state",
+    kind: Kind::Text,
+    need: Need::Always,
+};
+
+pub const PROOF: Argument = Argument {
+    name: "PROOF",
+    help: "File of the proof that a SAT solver wrote (DRAT),\nas text or binary",
+    kind: Kind::Text,
+    need: Need::Always,
+};
+
+pub const STEP_PROOF: Argument = Argument {
+    name: "step",
+    help: "File of the proof of the induction step, for\nruns of any length",
+    kind: Kind::Named("FILE"),
+    need: Need::Never,
+};
+
+pub const STEP: Argument = Argument {
+    name: "step",
+    help: "Print the formula of the induction step instead",
+    kind: Kind::Flag,
+    need: Need::Never,
+};
+
+pub const FRAMES: Argument = Argument {
+    name: "K",
+    help: "Number of frames, from 1 to 65536",
+    kind: Kind::Number("frames"),
+    need: Need::Always,
+};
+
+pub const PROPERTY: Argument = Argument {
+    name: "P",
+    help: "Position of the bad state property (0 if it is omitted)",
+    kind: Kind::Number("property"),
+    need: Need::Never,
+};
+
+pub const REACHED: Argument = Argument {
+    name: "P",
+    help: "Position of the bad state property, counted from 0\n(default: the first that is reached; 0 with --model)",
+    kind: Kind::Number("property"),
+    need: Need::Never,
+};
+
+pub const PROPERTIES: Argument = Argument {
+    name: "P",
+    help: "Position of a property to keep, counted from 0;\nonce for each property (default: all)",
+    kind: Kind::Numbers("property"),
+    need: Need::Never,
+};
+
+pub const MODEL: Argument = Argument {
+    name: "model",
+    help: "File of a SAT solver's model of the formula of\ncnf, in the place of STIM",
+    kind: Kind::Named("MODEL"),
+    need: Need::With("K"),
+};
+
+pub const MODEL_STEP: Argument = Argument {
+    name: "step",
+    help: "MODEL is of the formula of cnf --step",
+    kind: Kind::Flag,
+    need: Need::Never,
+};
+
+pub const MODEL_FRAMES: Argument = Argument {
+    name: "K",
+    help: "Number of frames of the formula",
+    kind: Kind::Number("frames"),
+    need: Need::With("model"),
+};
+
+pub const MAP: Argument = Argument {
+    name: "map",
+    help: "Write to FILE what each input of the\nunrolled circuit is, one line per input",
+    kind: Kind::Named("FILE"),
+    need: Need::Never,
+};
+
+pub const CIRCUIT_OUT: Argument = Argument {
+    name: "circuit-out",
+    help: "Write the edited circuit to FILE, as text",
+    kind: Kind::Named("FILE"),
+    need: Need::Never,
+};
+
+pub const STIMULUS_OUT: Argument = Argument {
+    name: "stimulus-out",
+    help: "Write the edited rows to FILE, as a stimulus",
+    kind: Kind::Named("FILE"),
+    need: Need::Never,
+};
+
+pub const IS_WITNESS: Argument = Argument {
+    name: "witness",
+    help: "Dump the run of a witness instead of a stimulus",
+    kind: Kind::Flag,
+    need: Need::Never,
+};
+
+pub const TRACE: Argument = Argument {
+    name: "trace",
+    help: "Print the trace of the run before the verdict",
+    kind: Kind::Flag,
+    need: Need::Never,
+};
+
+pub const NAMES: Argument = Argument {
+    name: "names",
+    help: "Print the entries with their names instead",
+    kind: Kind::Flag,
+    need: Need::Never,
+};
+
+/// The option of every command. It may be before the command or after it.
+pub static EXPLAIN: Argument = Argument {
+    name: "explain",
+    help: "If the run fails, explain why, and what to do",
+    kind: Kind::Flag,
+    need: Need::Never,
+};
+
 // A negative number is a value, so that the message says what is wrong with it.
-fn number<'a>(argument: Arg<'a>) -> Arg<'a> {
+fn number<'a>(argument: Arg<'a>, word: &'a str) -> Arg<'a> {
     argument
+        .long(word)
         .value_parser(ValueParser::Signed(0, 4_294_967_295))
         .allow_negative_numbers(true)
 }
 
-fn flag<'a>(alloc: Global, name: &'a str, help: &'a str) -> Arg<'a> {
-    Arg::new(alloc, name)
-        .long(name)
-        .action(ArgAction::SetTrue)
-        .help(help)
+fn of_kind<'a>(argument: Arg<'a>, kind: &'static Kind, name: &'static str) -> Arg<'a> {
+    match kind {
+        Kind::Text => argument,
+        Kind::Flag => argument.long(name).action(ArgAction::SetTrue),
+        Kind::Named(value) => argument.long(name).value_name(value),
+        Kind::Number(word) => number(argument, word),
+        Kind::Numbers(word) => number(argument, word).action(ArgAction::Append),
+        Kind::OneOf(word, value, words) => argument
+            .long(word)
+            .value_name(value)
+            .value_parser(ValueParser::Names(words))
+            .hide_possible_values(true),
+    }
 }
 
-fn kept_argument<'a>(alloc: Global, name: &'a str, help: &'a str) -> Arg<'a> {
-    Arg::new(alloc, name)
-        .long(name)
-        .value_name("FILE")
-        .help(help)
+fn of_need<'a>(argument: Arg<'a>, need: &'static Need) -> Result<Arg<'a>, AllocError> {
+    match need {
+        Need::Always => Ok(argument.required(true)),
+        Need::Never => Ok(argument),
+        Need::With(name) => argument.requires_arg(name),
+        Need::Without(option, options) => argument
+            .required_unless_present(option)?
+            .conflicts_with_all(options),
+    }
 }
 
-fn one_of<'a>(argument: Arg<'a>, words: &'a [&'a str]) -> Arg<'a> {
-    argument
-        .value_parser(ValueParser::Names(words))
-        .hide_possible_values(true)
-}
-
-pub fn format_argument<'a>(alloc: Global) -> Arg<'a> {
-    let format = argument(
-        alloc,
-        "FORMAT",
-        "Format to write: aag (text) or aig (binary)",
-    );
-    one_of(format.long("to"), FORMATS.as_slice())
-}
-
-pub fn section_argument<'a>(alloc: Global, name: &'a str, help: &'a str) -> Arg<'a> {
-    let section = Arg::new(alloc, name)
-        .long(name)
-        .value_name("SECTION")
-        .help(help);
-    one_of(section, SECTIONS.as_slice())
-}
-
-pub fn circuit_argument<'a>(alloc: Global) -> Arg<'a> {
-    argument(
-        alloc,
-        "CIRCUIT",
-        "File of the circuit, in the format aag or aig",
-    )
-}
-
-pub fn stimulus_argument<'a>(alloc: Global) -> Arg<'a> {
-    argument(
-        alloc,
-        "STIM",
-        "File of the stimulus: one line per frame,\none 0, 1 or x (unknown) per input",
-    )
-}
-
-pub fn run_argument<'a>(alloc: Global) -> Arg<'a> {
-    argument(
-        alloc,
-        "STIM",
-        "File of the stimulus: one line per frame,\none 0, 1 or x (unknown) per input;\nwith --witness, file of the witness",
-    )
-}
-
-pub fn script_argument<'a>(alloc: Global) -> Arg<'a> {
-    argument(
-        alloc,
-        "SCRIPT",
-        "File of the script: one edit or query per line",
-    )
-}
-
-pub fn witness_argument<'a>(alloc: Global) -> Arg<'a> {
-    argument(
-        alloc,
-        "WITNESS",
-        "File of the witness: a run that should reach a bad state",
-    )
-}
-
-pub fn step_flag<'a>(alloc: Global) -> Arg<'a> {
-    flag(
-        alloc,
-        "step",
-        "Print the formula of the induction step instead",
-    )
-}
-
-pub fn step_argument<'a>(alloc: Global) -> Arg<'a> {
-    kept_argument(
-        alloc,
-        "step",
-        "File of the proof of the induction step, for\nruns of any length",
-    )
-}
-
-pub fn proof_argument<'a>(alloc: Global) -> Arg<'a> {
-    argument(
-        alloc,
-        "PROOF",
-        "File of the proof that a SAT solver wrote (DRAT),\nas text or binary",
-    )
-}
-
-pub fn frames_argument<'a>(alloc: Global) -> Arg<'a> {
-    let frames = argument(alloc, "K", "Number of frames, from 1 to 65536");
-    number(frames.long("frames"))
-}
-
-pub fn property_argument<'a>(alloc: Global) -> Arg<'a> {
-    let property = Arg::new(alloc, "P").help(
-        "Position of the bad state property (0 if it is omitted)",
-    );
-    number(property.long("property"))
-}
-
-pub fn reached_argument<'a>(alloc: Global) -> Arg<'a> {
-    let property = Arg::new(alloc, "P").help(
-        "Position of the bad state property, counted from 0\n(default: the first that is reached; 0 with --model)",
-    );
-    number(property.long("property"))
-}
-
-// Left out where a model is given.
-pub fn rows_argument<'a>(alloc: Global) -> Result<Arg<'a>, AllocError> {
-    stimulus_argument(alloc)
-        .required(false)
-        .required_unless_present("model")?
-        .conflicts_with("model")?
-        .conflicts_with("K")
-}
-
-pub fn model_argument<'a>(alloc: Global) -> Result<Arg<'a>, AllocError> {
-    Arg::new(alloc, "model")
-        .long("model")
-        .value_name("MODEL")
-        .help("File of a SAT solver's model of the formula of\ncnf, in the place of STIM")
-        .requires_arg("K")
-}
-
-pub fn model_frames_argument<'a>(alloc: Global) -> Result<Arg<'a>, AllocError> {
-    let frames = Arg::new(alloc, "K").help("Number of frames of the formula");
-    number(frames.long("frames")).requires_arg("model")
-}
-
-// The properties to keep: the option stands once for each.
-pub fn properties_argument<'a>(alloc: Global) -> Arg<'a> {
-    let properties = Arg::new(alloc, "P").help(
-        "Position of a property to keep, counted from 0;\nonce for each property (default: all)",
-    );
-    number(properties.long("property")).action(ArgAction::Append)
-}
-
-pub fn map_argument<'a>(alloc: Global) -> Arg<'a> {
-    kept_argument(
-        alloc,
-        "map",
-        "Write to FILE what each input of the\nunrolled circuit is, one line per input",
-    )
-}
-
-pub fn circuit_out_argument<'a>(alloc: Global) -> Arg<'a> {
-    kept_argument(
-        alloc,
-        "circuit-out",
-        "Write the edited circuit to FILE, as text",
-    )
-}
-
-pub fn stimulus_out_argument<'a>(alloc: Global) -> Arg<'a> {
-    kept_argument(
-        alloc,
-        "stimulus-out",
-        "Write the edited rows to FILE, as a stimulus",
-    )
-}
-
-pub fn witness_flag<'a>(alloc: Global) -> Arg<'a> {
-    flag(
-        alloc,
-        "witness",
-        "Dump the run of a witness instead of a stimulus",
-    )
-}
-
-pub fn trace_flag<'a>(alloc: Global) -> Arg<'a> {
-    flag(
-        alloc,
-        "trace",
-        "Print the trace of the run before the verdict",
-    )
-}
-
-pub fn names_flag<'a>(alloc: Global) -> Arg<'a> {
-    flag(alloc, "names", "Print the entries with their names instead")
-}
-
-/// The place in a help of an option that every command has: after its own options.
-const LAST: usize = 90;
-
-// Global: it may be before the command or after it.
-pub fn explain_flag<'a>(alloc: Global) -> Arg<'a> {
-    flag(
-        alloc,
-        "explain",
-        "If the run fails, explain why, and what to do",
-    )
-    .global(true)
-    .display_order(LAST)
+/// The argument as the parser takes it.
+pub fn built<'a>(alloc: Global, row: &'static Argument) -> Result<Arg<'a>, AllocError> {
+    let argument = Arg::new(alloc, row.name).help(row.help);
+    of_need(of_kind(argument, &row.kind, row.name), &row.need)
 }

@@ -1,17 +1,23 @@
 //! The command line: the parser of its words, and what it found.
 
-use crate::arguments::explain_flag;
+use crate::arguments::{EXPLAIN, built};
 use crate::help;
-use crate::subcommands::{
-    bench_command, check_command, cnf_command, info_command, reduce_command, refute_command,
-    select_command, sim_command, toaig_command, unroll_command, wave_command, witness_command,
-};
-use clap::{ArgMatches, Command};
+use crate::subcommands::{Subcommand, built_subcommand, first, second, third};
+use clap::{Arg, ArgMatches, Command};
 use std::alloc::{AllocError, Global};
 
 /// The program's version. A program does not know how it was built: `rt ci` proves what it builds, and
 /// `tests/build_unproved.sh` replaces this text in a program that was not proved.
 static VERSION: &str = "0.1.0 (proved where rt ci built it)";
+
+/// The place in a help of an option that every command has: after its own options.
+const LAST: usize = 90;
+
+// Global: it may be before the command or after it.
+fn explain_flag<'a>(alloc: Global) -> Result<Arg<'a>, AllocError> {
+    let flag = built(alloc, &EXPLAIN)?;
+    Ok(flag.global(true).display_order(LAST))
+}
 
 fn program<'a>(alloc: Global) -> Result<Command<'a>, AllocError> {
     Command::new(alloc, "aig")
@@ -19,30 +25,34 @@ fn program<'a>(alloc: Global) -> Result<Command<'a>, AllocError> {
         .about("Convert, simulate, unroll and check circuits in the AIGER formats")
         .after_help(help::ALL)
         .subcommand_required(true)
-        .arg(explain_flag(alloc))
+        .arg(explain_flag(alloc)?)
 }
 
 // Alone here, where a failure drops the program's command.
 fn with_subcommand<'a>(
     program: Command<'a>,
-    subcommand: Result<Command<'a>, AllocError>,
+    alloc: Global,
+    row: &'static Subcommand,
 ) -> Result<Command<'a>, AllocError> {
-    program.subcommand(subcommand?)
+    program.subcommand(built_subcommand(alloc, row)?)
+}
+
+fn with_subcommands<'a>(
+    program: Command<'a>,
+    alloc: Global,
+    rows: &'static [Subcommand],
+) -> Result<Command<'a>, AllocError> {
+    let mut program = program;
+    for row in rows {
+        program = with_subcommand(program, alloc, row)?;
+    }
+    Ok(program)
 }
 
 fn command_line<'a>(alloc: Global) -> Result<Command<'a>, AllocError> {
-    let start = with_subcommand(program(alloc)?, toaig_command(alloc))?;
-    let next = with_subcommand(start, sim_command(alloc))?;
-    let wave = with_subcommand(next, wave_command(alloc))?;
-    let last = with_subcommand(wave, bench_command(alloc))?;
-    let more = with_subcommand(last, unroll_command(alloc))?;
-    let checks = with_subcommand(more, check_command(alloc))?;
-    let formulas = with_subcommand(checks, cnf_command(alloc))?;
-    let facts = with_subcommand(formulas, info_command(alloc))?;
-    let selections = with_subcommand(facts, select_command(alloc))?;
-    let witnesses = with_subcommand(selections, witness_command(alloc))?;
-    let proofs = with_subcommand(witnesses, refute_command(alloc))?;
-    with_subcommand(proofs, reduce_command(alloc))
+    let program = with_subcommands(program(alloc)?, alloc, first())?;
+    let program = with_subcommands(program, alloc, second())?;
+    with_subcommands(program, alloc, third())
 }
 
 /// Parses the arguments; the first is the program's name.

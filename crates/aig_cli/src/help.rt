@@ -1,20 +1,20 @@
 //! The texts that follow the options in the help of each command, and in that of the program.
 
-pub static TOAIG: &str =
+pub const TOAIG: &str =
     "The aig format numbers its variables in a fixed order. If the circuit does not
 have this order, toaig renumbers the variables; names and comment stay.
 
 Example: aig toaig --to aig examples/two_gates.aag > two_gates.aig
 See also: man aig, man 5 aig-formats";
 
-pub static SIM: &str =
+pub const SIM: &str =
     "A line has four fields, with one space between them: the state, the inputs, the
 outputs and the next state.
 
 Example: aig sim examples/counter.aag examples/counter.stim
 See also: man aig, man 5 aig-formats";
 
-pub static WAVE: &str =
+pub const WAVE: &str =
     "Waveform viewers such as GTKWave and Surfer read the dump (IEEE 1364). It shows
 inputs, latches, outputs, bad state properties and constraints by name. An entry
 without a name appears as a letter and a position, such as i0 or l3. Frame T is
@@ -27,7 +27,7 @@ Example: aig wave examples/counter.aag examples/counter.stim > counter.vcd
 Example: aig wave --witness examples/wraps.aag examples/wraps.wit > wraps.vcd
 See also: man aig, man 5 aig-formats";
 
-pub static BENCH: &str =
+pub const BENCH: &str =
     "Each line of the script is one command. Frames, inputs and outputs count from 0,
 values are 0, 1 or x:
   w G R0 R1  set the right sides of the gate of literal G to R0 and R1
@@ -67,7 +67,7 @@ directly.
 Example: aig bench examples/fifo.aag examples/fifo.stim examples/fifo.script
 See also: man aig, man 5 aig-formats";
 
-pub static UNROLL: &str =
+pub const UNROLL: &str =
     "The unrolled circuit has no latches. Its inputs are the inputs of frame 0, frame
 1 and so on, then one input for each uninitialised latch. Its outputs, bad state
 properties and constraints are those of frame 0, frame 1 and so on. If a circuit
@@ -85,7 +85,7 @@ the same way as bench writes its files.
 Example: aig unroll --frames 3 --to aag examples/counter.aag
 See also: man aig, man 5 aig-formats";
 
-pub static CHECK: &str =
+pub const CHECK: &str =
     "The verdict is the first of these that applies. Latches, frames and constraints
 count from 0:
   initial P       the reset of latch P does not allow its value in the witness
@@ -104,8 +104,7 @@ a dot.
 Example: aig check examples/wraps.aag examples/wraps.wit
 See also: man aig, man 5 aig-formats";
 
-pub static CNF: &str =
-    "An assignment that satisfies the formula is a run in which property P is 1 at
+pub const CNF: &str = "An assignment that satisfies the formula is a run in which property P is 1 at
 one of the frames 0 to K - 1, and all constraints are 1 at the frames up to it.
 If there is no such run, no assignment satisfies it. cnf ignores justice
 properties and fairness constraints.
@@ -125,7 +124,7 @@ Example: aig cnf --frames 20 examples/wraps.aag > wraps.cnf
 Example: aig cnf --step --frames 20 examples/wraps.aag > step.cnf
 See also: man aig, man 5 aig-formats";
 
-pub static INFO: &str = "A line has a name, one space and a value. The names, in this order:
+pub const INFO: &str = "A line has a name, one space and a value. The names, in this order:
   format         format of the file, aag or aig
   variables      maximum variable index (M)
   inputs, latches, outputs, gates, bad
@@ -155,7 +154,7 @@ Example: aig info examples/counter.aag
 Example: aig info --names examples/fifo.aag
 See also: man aig, man 5 aig-formats";
 
-pub static SELECT: &str =
+pub const SELECT: &str =
     "select keeps the properties that --property names, in this order, and drops all
 others. A SECTION is bad (the bad state properties) or outputs: the properties
 are those of --from, and become those of --as. The other of the two sections,
@@ -173,7 +172,7 @@ Example: aig select --to aag --property 0 examples/wraps.aag
 Example: aig select --to aag --from outputs --property 4 examples/counter.aag
 See also: man aig, man 5 aig-formats";
 
-pub static REFUTE: &str =
+pub const REFUTE: &str =
     "The proof is one about the formula that cnf prints for the same K and P. Each
 clause that it adds must follow from those that stand by unit propagation.
 If the proof refutes the formula, the answer is unreachable within K: no run has
@@ -192,7 +191,7 @@ Many properties hold and have no such proof, whatever K is.
 Example: aig refute --frames 3 examples/wraps.aag examples/wraps.drat
 See also: man aig, man 5 aig-formats";
 
-pub static REDUCE: &str =
+pub const REDUCE: &str =
     "reduce tries x (unknown) at each value of a confirmed witness: first at the
 starts of the uninitialised latches, then at the inputs, frame by frame. An x
 stays if the verdict is still confirmed. The values that are left are those that
@@ -206,7 +205,7 @@ else. The exit status is then 1. (M + 1) times the number of frames is at most
 Example: aig reduce examples/wraps.aag examples/wraps.wit
 See also: man aig, man 5 aig-formats";
 
-pub static ALL: &str = "Environment:
+pub const ALL: &str = "Environment:
   AIG_EXPLAIN  if it is 1, every command has the option --explain
 
 Exit status:
@@ -218,7 +217,7 @@ Exit status:
 Example: aig sim examples/counter.aag examples/counter.stim
 See also: man aig, man 5 aig-formats";
 
-pub static WITNESS: &str =
+pub const WITNESS: &str =
     "witness runs the circuit over the stimulus, from its resets, up to the first
 frame at which a bad state property is 1 and all constraints were 1 so far. It
 writes the witness of this run: the latch values at the start, x for those
@@ -229,7 +228,9 @@ If no frame reaches a property, witness writes nothing and fails: no run.
 
 With --model, the run is the one that a SAT solver's model of the formula of
 aig cnf (with the same K, P and CIRCUIT) names, with x where it names no value.
-MODEL is what the solver printed: s and v lines, or the literals alone.
+MODEL is what the solver printed: s and v lines, or the literals alone. With
+--step, the model is one of the formula of aig cnf --step. Then the run starts
+in any state, and shows why the induction step fails: see wave --witness.
 
 Example: aig witness examples/wraps.aag examples/wraps.stim > wraps.wit
 Example: aig witness --model examples/wraps.model --frames 4 examples/wraps.aag

@@ -1,134 +1,169 @@
-//! The commands, with their arguments.
+//! The commands, a row each, with their arguments.
 
-use crate::arguments::{
-    circuit_argument, circuit_out_argument, format_argument, frames_argument, map_argument,
-    model_argument, model_frames_argument, names_flag, proof_argument, properties_argument,
-    property_argument, reached_argument, rows_argument, run_argument, script_argument,
-    section_argument, step_argument, step_flag, stimulus_argument, stimulus_out_argument,
-    trace_flag, witness_argument, witness_flag,
-};
+use crate::arguments::{self, Argument, built};
 use crate::help;
 use clap::Command;
 use std::alloc::{AllocError, Global};
 
-pub fn toaig_command<'a>(alloc: Global) -> Result<Command<'a>, AllocError> {
-    Command::new(alloc, "toaig")
-        .about("Convert a circuit between the text and the binary format")
-        .after_help(help::TOAIG)
-        .arg(format_argument(alloc))?
-        .arg(circuit_argument(alloc))
+/// A command of the program.
+pub struct Subcommand {
+    name: &'static str,
+    about: &'static str,
+    /// What follows the options in its help.
+    help: &'static str,
+    arguments: &'static [Argument],
 }
 
-pub fn sim_command<'a>(alloc: Global) -> Result<Command<'a>, AllocError> {
-    Command::new(alloc, "sim")
-        .about("Simulate a circuit and print one line per frame")
-        .after_help(help::SIM)
-        .arg(circuit_argument(alloc))?
-        .arg(stimulus_argument(alloc))
+// The commands in the order of the help, in three tables: a check takes a table as one term, and stops at a larger one.
+static FIRST: [Subcommand; 4] = [
+    Subcommand {
+        name: "toaig",
+        about: "Convert a circuit between the text and the binary format",
+        help: help::TOAIG,
+        arguments: &[arguments::FORMAT, arguments::CIRCUIT],
+    },
+    Subcommand {
+        name: "sim",
+        about: "Simulate a circuit and print one line per frame",
+        help: help::SIM,
+        arguments: &[arguments::CIRCUIT, arguments::STIMULUS],
+    },
+    Subcommand {
+        name: "wave",
+        about: "Simulate a circuit and print a value change dump for waveform viewers",
+        help: help::WAVE,
+        arguments: &[arguments::IS_WITNESS, arguments::CIRCUIT, arguments::RUN],
+    },
+    Subcommand {
+        name: "bench",
+        about: "Run a script of edits and queries on a simulation",
+        help: help::BENCH,
+        arguments: &[
+            arguments::CIRCUIT_OUT,
+            arguments::STIMULUS_OUT,
+            arguments::CIRCUIT,
+            arguments::STIMULUS,
+            arguments::SCRIPT,
+        ],
+    },
+];
+
+static SECOND: [Subcommand; 4] = [
+    Subcommand {
+        name: "unroll",
+        about: "Unroll a circuit for K frames into a circuit without latches",
+        help: help::UNROLL,
+        arguments: &[
+            arguments::FRAMES,
+            arguments::FORMAT,
+            arguments::MAP,
+            arguments::CIRCUIT,
+        ],
+    },
+    Subcommand {
+        name: "check",
+        about: "Check that a witness reaches a bad state, and print the verdict",
+        help: help::CHECK,
+        arguments: &[arguments::TRACE, arguments::CIRCUIT, arguments::WITNESS],
+    },
+    Subcommand {
+        name: "cnf",
+        about: "Print a formula for SAT solvers: a bad state within K frames",
+        help: help::CNF,
+        arguments: &[
+            arguments::FRAMES,
+            arguments::PROPERTY,
+            arguments::STEP,
+            arguments::CIRCUIT,
+        ],
+    },
+    Subcommand {
+        name: "info",
+        about: "Print facts about a circuit, one per line",
+        help: help::INFO,
+        arguments: &[arguments::NAMES, arguments::CIRCUIT],
+    },
+];
+
+static THIRD: [Subcommand; 4] = [
+    Subcommand {
+        name: "select",
+        about: "Write a circuit with some of its properties, as bad states or outputs",
+        help: help::SELECT,
+        arguments: &[
+            arguments::FORMAT,
+            arguments::FROM,
+            arguments::AS,
+            arguments::PROPERTIES,
+            arguments::CIRCUIT,
+        ],
+    },
+    Subcommand {
+        name: "witness",
+        about: "Write the witness that a run reaches a bad state",
+        help: help::WITNESS,
+        arguments: &[
+            arguments::MODEL,
+            arguments::MODEL_FRAMES,
+            arguments::MODEL_STEP,
+            arguments::REACHED,
+            arguments::CIRCUIT,
+            arguments::ROWS,
+        ],
+    },
+    Subcommand {
+        name: "refute",
+        about: "Check a SAT solver's proof that no run reaches a bad state",
+        help: help::REFUTE,
+        arguments: &[
+            arguments::FRAMES,
+            arguments::PROPERTY,
+            arguments::STEP_PROOF,
+            arguments::CIRCUIT,
+            arguments::PROOF,
+        ],
+    },
+    Subcommand {
+        name: "reduce",
+        about: "Write a witness with x in place of each value that it does not need",
+        help: help::REDUCE,
+        arguments: &[arguments::CIRCUIT, arguments::WITNESS],
+    },
+];
+
+/// The commands that the help lists first.
+pub fn first() -> &'static [Subcommand] {
+    FIRST.as_slice()
 }
 
-pub fn wave_command<'a>(alloc: Global) -> Result<Command<'a>, AllocError> {
-    Command::new(alloc, "wave")
-        .about("Simulate a circuit and print a value change dump for waveform viewers")
-        .after_help(help::WAVE)
-        .arg(witness_flag(alloc))?
-        .arg(circuit_argument(alloc))?
-        .arg(run_argument(alloc))
+/// Those after them.
+pub fn second() -> &'static [Subcommand] {
+    SECOND.as_slice()
 }
 
-pub fn bench_command<'a>(alloc: Global) -> Result<Command<'a>, AllocError> {
-    Command::new(alloc, "bench")
-        .about("Run a script of edits and queries on a simulation")
-        .after_help(help::BENCH)
-        .arg(circuit_out_argument(alloc))?
-        .arg(stimulus_out_argument(alloc))?
-        .arg(circuit_argument(alloc))?
-        .arg(stimulus_argument(alloc))?
-        .arg(script_argument(alloc))
+/// The last of them.
+pub fn third() -> &'static [Subcommand] {
+    THIRD.as_slice()
 }
 
-pub fn unroll_command<'a>(alloc: Global) -> Result<Command<'a>, AllocError> {
-    Command::new(alloc, "unroll")
-        .about("Unroll a circuit for K frames into a circuit without latches")
-        .after_help(help::UNROLL)
-        .arg(frames_argument(alloc))?
-        .arg(format_argument(alloc))?
-        .arg(map_argument(alloc))?
-        .arg(circuit_argument(alloc))
+fn with_argument<'a>(
+    command: Command<'a>,
+    alloc: Global,
+    row: &'static Argument,
+) -> Result<Command<'a>, AllocError> {
+    command.arg(built(alloc, row)?)
 }
 
-pub fn check_command<'a>(alloc: Global) -> Result<Command<'a>, AllocError> {
-    Command::new(alloc, "check")
-        .about("Check that a witness reaches a bad state, and print the verdict")
-        .after_help(help::CHECK)
-        .arg(trace_flag(alloc))?
-        .arg(circuit_argument(alloc))?
-        .arg(witness_argument(alloc))
-}
-
-pub fn cnf_command<'a>(alloc: Global) -> Result<Command<'a>, AllocError> {
-    Command::new(alloc, "cnf")
-        .about("Print a formula for SAT solvers: a bad state within K frames")
-        .after_help(help::CNF)
-        .arg(frames_argument(alloc))?
-        .arg(property_argument(alloc))?
-        .arg(step_flag(alloc))?
-        .arg(circuit_argument(alloc))
-}
-
-pub fn info_command<'a>(alloc: Global) -> Result<Command<'a>, AllocError> {
-    Command::new(alloc, "info")
-        .about("Print facts about a circuit, one per line")
-        .after_help(help::INFO)
-        .arg(names_flag(alloc))?
-        .arg(circuit_argument(alloc))
-}
-
-pub fn select_command<'a>(alloc: Global) -> Result<Command<'a>, AllocError> {
-    Command::new(alloc, "select")
-        .about("Write a circuit with some of its properties, as bad states or outputs")
-        .after_help(help::SELECT)
-        .arg(format_argument(alloc))?
-        .arg(section_argument(
-            alloc,
-            "from",
-            "Section to choose from: bad (the default) or outputs",
-        ))?
-        .arg(section_argument(
-            alloc,
-            "as",
-            "Section to write: bad (the default) or outputs",
-        ))?
-        .arg(properties_argument(alloc))?
-        .arg(circuit_argument(alloc))
-}
-
-pub fn witness_command<'a>(alloc: Global) -> Result<Command<'a>, AllocError> {
-    Command::new(alloc, "witness")
-        .about("Write the witness that a run reaches a bad state")
-        .after_help(help::WITNESS)
-        .arg(model_argument(alloc)?)?
-        .arg(model_frames_argument(alloc)?)?
-        .arg(reached_argument(alloc))?
-        .arg(circuit_argument(alloc))?
-        .arg(rows_argument(alloc)?)
-}
-
-pub fn reduce_command<'a>(alloc: Global) -> Result<Command<'a>, AllocError> {
-    Command::new(alloc, "reduce")
-        .about("Write a witness with x in place of each value that it does not need")
-        .after_help(help::REDUCE)
-        .arg(circuit_argument(alloc))?
-        .arg(witness_argument(alloc))
-}
-
-pub fn refute_command<'a>(alloc: Global) -> Result<Command<'a>, AllocError> {
-    Command::new(alloc, "refute")
-        .about("Check a SAT solver's proof that no run reaches a bad state")
-        .after_help(help::REFUTE)
-        .arg(frames_argument(alloc))?
-        .arg(property_argument(alloc))?
-        .arg(step_argument(alloc))?
-        .arg(circuit_argument(alloc))?
-        .arg(proof_argument(alloc))
+/// The command as the parser takes it.
+pub fn built_subcommand<'a>(
+    alloc: Global,
+    row: &'static Subcommand,
+) -> Result<Command<'a>, AllocError> {
+    let mut command = Command::new(alloc, row.name)
+        .about(row.about)
+        .after_help(row.help);
+    for argument in row.arguments {
+        command = with_argument(command, alloc, argument)?;
+    }
+    Ok(command)
 }
