@@ -14,7 +14,7 @@ _aig() {
         [cnf]="--frames --property --step --explain --help"
         [info]="--names --explain --help"
         [select]="--to --from --as --property --explain --help"
-        [witness]="--model --frames --property --explain --help"
+        [witness]="--model --frames --step --property --explain --help"
         [refute]="--frames --property --step --explain --help"
         [reduce]="--explain --help"
     )
@@ -36,8 +36,8 @@ _aig() {
     # The command, which --explain may precede.
     ((COMP_CWORD > 1)) && [[ ${COMP_WORDS[1]} == --explain ]] && first=2
     local command=${COMP_WORDS[first]}
-    # In cnf it has no value.
-    [[ $command == cnf ]] && unset "values[--step]"
+    # In cnf and witness it has no value.
+    [[ $command == cnf || $command == witness ]] && unset "values[--step]"
 
     # The words after the command. Bash splits `--to=aag` at `=`, if `=` is in COMP_WORDBREAKS.
     for ((i = first + 1; i <= COMP_CWORD; i++)); do

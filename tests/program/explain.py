@@ -345,7 +345,8 @@ def others(rows):
                               ("unsatisfiable", "UNSAT", "the solver says that no run reaches the bad state within K frames; aig refute checks its proof"),
                               ("unknown", "s UNKNOWN", "the solver gave up before it found an answer")):
         rows.row(f"a model with the fault {fault}", ["witness", "--frames", "1", "--model", write("model", model), "bad_input"],
-                 f"model: {fault}", [why, "it has to be of the formula of aig cnf for the same K, P and CIRCUIT"])
+                 f"model: {fault}",
+                 [why, "it has to be of the formula of aig cnf for the same K, P, CIRCUIT and --step"])
     for fault, proof, why in (("step 1", "0\n", "the clause that this step adds does not follow by unit propagation"),
                               ("no refutation", "", "the proof ends before it refutes the formula"),
                               ("text at 0", "x\n", "a step is not that of a proof (DRAT) about this formula, or it is cut off")):

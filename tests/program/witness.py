@@ -111,6 +111,30 @@ BAD_MODELS = (
     ("a carriage return", "3 0\r\n", "text at 2"),
 )
 
+# A latch that takes the input, as the property; one that keeps its value, and one that takes it, as the property.
+DELAY = "aag 2 1 1 0 0 1\n2\n4 2\n4\n"
+KEEPS = "aag 2 0 2 0 0 1\n2 2\n4 2\n4\n"
+
+# A name of the row, options, the circuit, a solver's model of the formula of the induction step, what is written, and the
+# verdict on it. After variable 1 come the inputs of one frame more, and then all latches.
+STEP_MODELS = (
+    ("a step from the resets", "--frames 1", DELAY, "2 -3 -4 0", "1\nb0\n0\n1\n0\n.\n", "confirmed"),
+    ("a step of two frames", "--frames 2", DELAY, "-2 3 -4 -5 0", "1\nb0\n0\n0\n1\n0\n.\n", "confirmed"),
+    ("a step from another state", "--frames 1", KEEPS, "2 -3 0", "1\nb0\n10\n\n\n.\n", "initial 0"),
+    ("a step from a state that is known in part", "--frames 1", KEEPS, "2 0", "1\nb0\n1x\n\n\n.\n", "initial 0"),
+    ("a step of the property that is named", "--frames 1 --property 1", TWO, "-2 3 4 -5 0", "1\nb1\n\n01\n10\n.\n",
+     "confirmed"),
+    ("a step that reaches the property at once", "--frames 1", DELAY, "4 0", "1\nb0\n1\nx\n.\n", "initial 0"),
+)
+
+STEP_REFUSALS = (
+    ("a step of no frames", "--frames 0 --property 7 bad_input", "cnf: no frames"),
+    ("a step of no property", "--frames 65536 --property 1 bad_input", "cnf: property"),
+    ("a step of too many frames", "--frames 65536 bad_input", "cnf: limit"),
+    ("a step of a refused circuit", "--frames 0 cycle", "circuit: cycle 2"),
+    ("a step whose run reaches nothing", "--frames 1 guarded", "witness: no run"),
+)
+
 MODEL_REFUSALS = (
     ("a model for no frames", "--frames 0 --property 7 bad_input", "cnf: no frames"),
     ("a model for no property", "--frames 65537 --property 1 bad_input", "cnf: property"),
@@ -118,6 +142,19 @@ MODEL_REFUSALS = (
     ("a model and a refused circuit", "--frames 0 cycle", "circuit: cycle 2"),
     ("a model whose run reaches nothing", "--frames 2 guarded", "witness: no run"),
 )
+
+
+def step_models(rows):
+    """Models of the formula of the induction step."""
+    for name, options, circuit, model, text, verdict in STEP_MODELS:
+        write("circuit", circuit)
+        write("model", model)
+        rows.gives(name, f"witness --step --model model {options} circuit", text)
+        write("found", text)
+        rows.gives(f"{name}, checked", "check circuit found", f"{verdict}\n", verdict != "confirmed")
+    write("model", "-2 0\n")
+    for name, words, fault in STEP_REFUSALS:
+        rows.refuses(name, f"witness --step --model model {words}", fault)
 
 
 def models(rows):
@@ -185,5 +222,6 @@ def witness(program, tally, _):
     rows.fails("no stimulus", "witness bad_input missing", "stimulus")
     rows.fails("no circuit", "witness missing missing", "circuit")
     models(rows)
+    step_models(rows)
     write("rows", "1\n" * 9)
     rows.gives("an example", f"witness {EXAMPLES}/wraps.aag rows", contents(f"{EXAMPLES}/wraps.wit"))

@@ -37,6 +37,7 @@ REFUSALS = (
     ("a property of a witness with a letter", ["witness", "--property", "b1", "two_gates", "two_gates"]),
     ("a model and a stimulus", ["witness", "--model", "model", "--frames", "2", "two_gates", "two_gates"]),
     ("a model without a number of frames", ["witness", "--model", "model", "two_gates"]),
+    ("a step without a model", ["witness", "--step", "two_gates", "two_gates"]),
     ("a number of frames without a model", ["witness", "--frames", "2", "two_gates", "two_gates"]),
     ("neither a model nor a stimulus", ["witness", "--frames", "2", "two_gates"]),
     ("no proof to refute with", ["refute", "--frames", "2", "two_gates"]),

@@ -1,18 +1,21 @@
 """SAT solvers on the formulas of `aig cnf`, beside ABC's opinion, for each property of the designs and 1 to 30 frames. The
 formula is satisfiable exactly where ABC's `bmc3` finds a run to a bad state within these frames. `aig witness --model`
 makes a witness of each model, which `aig check` confirms, and again after `aig reduce`. `aig refute` takes each proof of
-cadical."""
+cadical. Each model of an induction step becomes a witness of as many frames and one more, which `aig check` confirms for
+the circuit in which all latches are uninitialised."""
 
 import re
 import shutil
 import subprocess
 import sys
 
+from library.plain_reader import spelled
 from library.runs import Ended, contents, write
-from tools.external import Tools
+from tools.external import Tools, parts_of
 from tools.proofs import circuits
 
 FRAMES = 30
+STEPS = 5
 SATISFIABLE, UNSATISFIABLE = 10, 20  # the statuses of all solvers
 # How each solver is called: it prints its model, or writes it to a file.
 SOLVERS = {
@@ -28,9 +31,12 @@ def solvers(program, tally, _):
     if not found:
         sys.exit("no solver is installed: apt-get install cadical picosat minisat cryptominisat")
     tools = Tools()
-    counts = {"satisfiable": 0, "unsatisfiable": 0, "proofs": 0}
+    counts = {"satisfiable": 0, "unsatisfiable": 0, "proofs": 0, "steps": 0}
     for name, properties in circuits(tally, tools):
+        write("any.aag", from_any_state(program))
         for place in range(properties):
+            for frames in range(1, STEPS + 1):
+                fail_step(program, tally, found, counts, f"solvers: {name}, property {place}, a step of {frames}", place, frames)
             reached = first_reached(program, tools, place)
             for frames in range(1, FRAMES + 1):
                 title = f"solvers: {name}, property {place}, {frames} frames"
@@ -38,7 +44,34 @@ def solvers(program, tally, _):
                          reached is not None and reached < frames)
     tally.check("solvers: formulas of each kind", min(counts.values()) > 0 or "cadical" not in found, counts)
     return (f"{', '.join(found)}: {counts['satisfiable']} models and {counts['unsatisfiable']} formulas without one, "
-            f"{counts['proofs']} proofs taken: ")
+            f"{counts['proofs']} proofs taken, {counts['steps']} models of steps: ")
+
+
+def from_any_state(program):
+    """The circuit in which each latch is uninitialised, by the plain reader."""
+    write("bad.aag", program.run("toaig", "--to", "aag", "bad.aig").out)
+    parts = parts_of("bad.aag")
+    latches = [(state, following, state) for state, following, _ in parts.latches]
+    return spelled(parts._replace(latches=latches), "aag")
+
+
+def fail_step(program, tally, found, counts, title, place, frames):
+    """The run by which an induction step fails, of each solver's model."""
+    asked = ("--frames", str(frames), "--property", str(place))
+    write("f.cnf", program.run("cnf", "--step", *asked, "bad.aig").out)
+    for name, words in found.items():
+        done = subprocess.run(words, stdin=subprocess.DEVNULL, stdout=subprocess.PIPE, stderr=subprocess.DEVNULL,
+                              check=False)
+        write("model", contents("f.model") if name == "minisat" else done.stdout)
+        ended = program.run("witness", "--step", "--model", "model", *asked, "bad.aig")
+        if done.returncode == UNSATISFIABLE:
+            tally.compare(f"{title}: {name}, no model", ended, Ended(1, b"", b"aig: model: unsatisfiable\n"))
+        else:
+            counts["steps"] += 1
+            write("step.wit", ended.out)
+            tally.compare(f"{title}: {name}, frames", len(ended.out.splitlines()), frames + 5)
+            tally.compare(f"{title}: {name}, check", program.run("check", "any.aag", "step.wit"),
+                          Ended(0, b"confirmed\n", b""))
 
 
 def first_reached(program, tools, place):

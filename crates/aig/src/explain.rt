@@ -102,6 +102,7 @@ impl<'a> TaskFiles<'a> {
                 property,
                 circuit,
                 model,
+                ..
             } => TaskFiles {
                 frames,
                 property,

@@ -32,6 +32,6 @@ fn explain_text<R: AllocGlobal + Eprint>(rt: &R, name: Option<&str>, why: &str) 
     note(rt, why);
     note(
         rt,
-        "it has to be of the formula of aig cnf for the same K, P and CIRCUIT",
+        "it has to be of the formula of aig cnf for the same K, P, CIRCUIT and --step",
     );
 }

@@ -76,6 +76,7 @@ pub enum Task<'a> {
         property: u32,
         circuit: &'a str,
         model: &'a str,
+        of_step: bool,
     },
     CnfStep {
         frames: u32,
@@ -171,7 +172,8 @@ impl<'m> Task<'m> {
                 property,
                 circuit,
                 model,
-            } => model_witness(rt, frames, property, circuit, model),
+                of_step,
+            } => model_witness(rt, frames, property, circuit, model, of_step),
             Task::Refute {
                 frames,
                 property,
@@ -319,6 +321,7 @@ fn witness_of<'a>(matches: &ArgMatches<'a>) -> Option<Task<'a>> {
             property: number_of(matches, "P").unwrap_or(0),
             circuit,
             model,
+            of_step: has_flag(matches, "step"),
         }),
         None => Some(Task::Witness {
             property: number_of(matches, "P"),

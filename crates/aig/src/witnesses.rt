@@ -4,7 +4,7 @@
 use crate::exit::Exit;
 use crate::files::{CIRCUIT, open, output, read_whole};
 use aig_base::Std;
-use aig_commands::{check, induction, model_witness, reduce, refute, wave, witness};
+use aig_commands::{check, induction, model_witness, reduce, refute, step_witness, wave, witness};
 use aig_fault::RunFault;
 use aig_proof::ProofFault;
 use aig_sim::{StimFault, Verdict};
@@ -144,17 +144,18 @@ fn witness_files<R: AllocGlobal + Print, F: Read + Drop>(
     Ok(())
 }
 
-/// Writes the witness of the run that a solver's model names.
+/// Writes the witness of the run that a solver's model names, of the formula of the induction step if `of_step`.
 pub fn model_witness<R: Files + AllocGlobal + Print>(
     rt: &R,
     frames: u32,
     property: u32,
     circuit: &str,
     model: &str,
+    of_step: bool,
 ) -> Result<(), Exit> {
     let circuit = open(rt, circuit, CIRCUIT)?;
     let model = open(rt, model, MODEL)?;
-    model_witness_files(rt, frames, property, circuit, model)
+    model_witness_files(rt, frames, property, circuit, model, of_step)
 }
 
 fn model_witness_files<R: AllocGlobal + Print, F: Read + Drop>(
@@ -163,18 +164,17 @@ fn model_witness_files<R: AllocGlobal + Print, F: Read + Drop>(
     property: u32,
     circuit: F,
     model: F,
+    of_step: bool,
 ) -> Result<(), Exit> {
     let circuit = read_whole(rt.alloc(), circuit, CIRCUIT)?;
     let model = read_whole(rt.alloc(), model, MODEL)?;
+    let (circuit, model) = (circuit.as_slice(), model.as_slice());
     let mut out = output(rt);
-    model_witness::model_witness(
-        rt.alloc(),
-        circuit.as_slice(),
-        frames,
-        property,
-        model.as_slice(),
-        &mut out,
-    )?;
+    if of_step {
+        step_witness::step_witness(rt.alloc(), circuit, frames, property, model, &mut out)?;
+    } else {
+        model_witness::model_witness(rt.alloc(), circuit, frames, property, model, &mut out)?;
+    }
     Ok(())
 }
 

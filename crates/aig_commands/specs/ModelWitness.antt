@@ -3,6 +3,8 @@ use Rattle.std.specs.Prelude.{◌≡◌, ℕ, ◌+◌, ◌*◌, List, [], Some, 
 use Rattle.aig_parts.specs.declared.raw.Raw.{Raw}
 use Rattle.aig_parts.specs.declared.ternary.Tern.{Tern}
 use Rattle.aig_cnf.specs.Answers.{HasFormula, RefusesFormula}
+use Rattle.aig_cnf.specs.Step.{from_any_state}
+use Rattle.aig_cnf.specs.StepAnswers.{HasStep, RefusesStep}
 use Rattle.aig_model.specs.ModelText.{HasStatus, IsUnknown, IsUnsatisfiable, SpellsModel}
 use Rattle.aig_model.specs.Named.{AreNamed}
 use Rattle.aig_model.specs.declared.fault.ModelFault.{ModelFault}
@@ -51,3 +53,16 @@ WritesModel k p model raw (Err (run_faults.Model fault)) text =
 WritesModel k p model raw answer text =
     HasFormula raw k p
     × ((values : List Tern) × IsModelOf (variable_count raw k) model values × WritesNamed k p values raw answer text)
+
+-- What it writes, of the circuit that starts in any state, for a model of the formula of the step of k frames.
+abbrev pub WritesAnyModel : ℕ → ℕ → List ℕ → Raw → Result (Unit {0}) RunFault → List ℕ → Type 0
+WritesAnyModel k p model any (Err (run_faults.Cnf fault)) text = RefusesStep any k p fault × (text ≡ [])
+WritesAnyModel k p model any (Err (run_faults.Model fault)) text =
+    HasStep any k p × RefusesModel (variable_count any (k + 1)) model fault × (text ≡ [])
+WritesAnyModel k p model any answer text =
+    HasStep any k p × ((values : List Tern) × IsModelOf (variable_count any (k + 1)) model values
+    × WritesNamed (k + 1) p values any answer text)
+
+-- What it writes with `--step`: the witness of a run of k + 1 frames from any state, which the model names.
+abbrev pub WritesStepModel : ℕ → ℕ → List ℕ → Raw → Result (Unit {0}) RunFault → List ℕ → Type 0
+WritesStepModel k p model raw = WritesAnyModel k p model (from_any_state raw)

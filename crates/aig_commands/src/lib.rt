@@ -14,6 +14,7 @@ pub mod reduce;
 pub mod refute;
 pub mod select;
 pub mod sim;
+pub mod step_witness;
 pub mod toaig;
 pub mod unroll;
 pub mod wave;

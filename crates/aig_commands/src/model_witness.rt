@@ -30,7 +30,11 @@ fn count_variables(
 }
 
 /// Reads a model of the formula.
-fn read_values(alloc: Global, model: &[u8], variables: u32) -> Result<Assignment, ModelFault>
+pub(crate) fn read_values(
+    alloc: Global,
+    model: &[u8],
+    variables: u32,
+) -> Result<Assignment, ModelFault>
     requires { variables ≤ 2147483648 }
     ensures values { IfOk result (IsModelOf variables model.now) }
     ensures refused { IfErr result (RefusesModel variables model.now) }
@@ -39,7 +43,7 @@ fn read_values(alloc: Global, model: &[u8], variables: u32) -> Result<Assignment
 }
 
 /// Writes the witness of the run that the values of the formula's variables name.
-fn find_and_write<W: Write>(
+pub(crate) fn find_and_write<W: Write>(
     alloc: Global,
     circuit: &Circuit,
     frames: u32,
