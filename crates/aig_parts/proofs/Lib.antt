@@ -1,5 +1,6 @@
 pub mod BitLemmas
 pub mod NamedLemmas
+pub mod RankLemmas
 pub mod SymbolKeys
 pub mod SymbolLemmas
 pub mod TableLemmas

@@ -1,6 +1,6 @@
 -- Entries in a list so far as they ascend, and after it in a table.
 use Rattle.std.proofs.Common.{◌≡◌, ◌≢◌, ◌⊎◌, inl, inr, ℕ, ◌+◌, ◌-◌, ◌<◌, ◌≤◌, List, [], ◌∷◌, ◌++◌, length, take, drop, get_or, Contains, AllPairs, Ok, Err, sym, ap, subst, ◌∙◌, arith}
-use Rattle.std.specs.Prelude.{All, Some, slice_get}
+use Rattle.std.specs.Prelude.{All, Option, Some, None, slice_get}
 use Rattle.std.specs.List.Sorted.{IsBinarySearchResult, IsNonDecreasingBy}
 use Rattle.std.specs.Map.{keys_of, lookup}
 use Rattle.std.specs.Ordering.{nat_cmp, ordering_index}
@@ -19,6 +19,7 @@ use Rattle.aig_parts.specs.declared.symbols.Kind.TheVariants.{Input}
 use Rattle.aig_parts.specs.SymbolPlaces.{Key}
 use Rattle.std.specs.Hash.DefaultHasher as sip
 use Rattle.aig_parts.specs.state.SymbolHash.{mix, mixed_of}
+use Rattle.aig_parts.specs.state.SymbolRanks.{Ranks, AreEntered}
 use Rattle.aig_parts.specs.state.SymbolTable.{key_number, Ascend, IsSymbolTable}
 
 -- an entry to read where there is none
@@ -26,7 +27,7 @@ abbrev pub nowhere : Key × Place
 nowhere = ((Input, 0), record { start = 0; end = 0 })
 
 -- the entry of a place among the keys
-key_at : (es : List (Key × Place)) (i : ℕ) (d : Key × Place) (k : Key) → i < length es → get_or (keys_of es) i k ≡ (get_or es i d).0
+pub key_at : (es : List (Key × Place)) (i : ℕ) (d : Key × Place) (k : Key) → i < length es → get_or (keys_of es) i k ≡ (get_or es i d).0
 key_at es i d k inside = get_or-map (λ (x : Key × Place). x.0) es i d k inside
 
 -- ---- entries that ascend
@@ -129,11 +130,20 @@ once_after es n once i j d lt inside e =
     once (n + i) (n + j) d (omega arith) (omega (arith, size, length-keys_of es))
     (sym (at i (omega arith)) ∙ e ∙ at j within)
 
+-- entries that ascend, and no others
+pub all_listed : (es others : List (Key × Place)) → others ≡ [] → Ascend es → AllPairs (λ x y. x ≢ y) (keys_of es)
+    → IsSymbolTable es None others
+all_listed es others none ascend once =
+    subst (λ (xs : List (Key × Place)). IsSymbolTable es None xs) (sym none) (record {
+      findable = ascend;
+      once = subst (λ (xs : List (Key × Place)). AllPairs (λ x y. x ≢ y) (keys_of xs)) (sym (append-nil es)) once;
+    })
+
 -- the first entries, and the others
-pub parted : (es : List (Key × Place)) (n : ℕ) → Ascend (take n es) → AllPairs (λ x y. x ≢ y) (keys_of es)
-    → IsSymbolTable (take n es) (drop n es)
-parted es n ascend once = record {
-  ascend = ascend;
+pub parted : (es : List (Key × Place)) (n : ℕ) (ranks : Ranks) → AreEntered ranks (take n es)
+    → AllPairs (λ x y. x ≢ y) (keys_of es) → IsSymbolTable (take n es) (Some ranks) (drop n es)
+parted es n ranks entered once = record {
+  findable = entered;
   once = subst (λ (xs : List (Key × Place)). AllPairs (λ x y. x ≢ y) (keys_of xs)) (sym (take-append-drop n es)) once;
 }
 
@@ -147,15 +157,15 @@ mixed_more es i d lt =
 
 -- ---- one more entry of a table
 
-module _ (ascending others : List (Key × Place)) (k : Key) (p : Place) (table : IsSymbolTable ascending others)
-    (fresh : Contains (keys_of (ascending ++ others)) k → ⊥) where
+module _ (ascending others : List (Key × Place)) (ranks : Option Ranks) (k : Key) (p : Place)
+    (table : IsSymbolTable ascending ranks others) (fresh : Contains (keys_of (ascending ++ others)) k → ⊥) where
   -- after the others
   pub appended : ascending ++ (others ++ (k, p) ∷ []) ≡ (ascending ++ others) ++ (k, p) ∷ []
   appended = sym (append_assoc ascending others ((k, p) ∷ []))
 
-  pub pushed_after : IsSymbolTable ascending (others ++ (k, p) ∷ [])
+  pub pushed_after : IsSymbolTable ascending ranks (others ++ (k, p) ∷ [])
   pushed_after = record {
-    ascend = table.ascend;
+    findable = table.findable;
     once = subst (λ (es : List (Key × Place)). AllPairs (λ x y. x ≢ y) (keys_of es)) (sym appended)
         (once_more (ascending ++ others) k p table.once fresh);
   }
@@ -171,9 +181,10 @@ module _ (ascending others : List (Key × Place)) (k : Key) (p : Place) (table :
         ∙ append-nil (ascending ++ (k, p) ∷ [])
         ∙ ap (λ (es : List (Key × Place)). es ++ (k, p) ∷ []) (sym whole)
 
-    pub pushed : All (λ x. key_number x.0 < key_number k) ascending → IsSymbolTable (ascending ++ (k, p) ∷ []) others
-    pushed low = record {
-      ascend = all_pairs_push (λ x y. key_number x.0 < key_number y.0) ascending (k, p) table.ascend low;
+    pub pushed : Ascend ascending → All (λ x. key_number x.0 < key_number k) ascending
+        → IsSymbolTable (ascending ++ (k, p) ∷ []) None others
+    pushed ascend low = record {
+      findable = all_pairs_push (λ x y. key_number x.0 < key_number y.0) ascending (k, p) ascend low;
       once = subst (λ (es : List (Key × Place)). AllPairs (λ x y. x ≢ y) (keys_of es)) (sym pushed_view)
           (once_more (ascending ++ others) k p table.once fresh);
     }

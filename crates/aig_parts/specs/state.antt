@@ -2,4 +2,5 @@
 pub mod Bits
 pub mod NamedEntries
 pub mod SymbolHash
+pub mod SymbolRanks
 pub mod SymbolTable

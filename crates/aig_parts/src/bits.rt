@@ -32,6 +32,13 @@ impl BitSet {
         }
     }
 
+    /// The words.
+    pub(crate) fn words(&self) -> &[u64]
+        ensures { result.now ≡ self.now }
+    {
+        self.words.as_slice()
+    }
+
     /// Whether a number is there.
     pub(crate) fn contains(&self, number: usize) -> bool
         ensures { IsTrue result ↔ HasBit self.now number }

@@ -12,6 +12,7 @@ mod raw;
 mod symbol_hash;
 mod symbol_list;
 mod symbol_places;
+mod symbol_ranks;
 mod symbol_table;
 mod symbols;
 mod ternary;

@@ -9,7 +9,7 @@ use std::alloc::{AllocError, Global};
 use std::marker::Model;
 
 /// How many positions of a section a page is for.
-const PAGE: u32 = 16_384;
+pub(crate) const PAGE: u32 = 16_384;
 
 /// How many sections there are.
 const SECTIONS: usize = 7;
@@ -45,7 +45,8 @@ pub(crate) fn section_number(kind: Kind) -> usize
     }
 }
 
-fn page_of(kind: Kind, position: u32) -> usize
+/// The page of an entry.
+pub(crate) fn page_of(kind: Kind, position: u32) -> usize
     ensures page { result ≡ page_of (kind, position) }
     ensures small { result < 2 ^ 32 }
 {
@@ -60,6 +61,13 @@ impl NamedEntries {
         NamedEntries {
             pages: Vec::new(alloc),
         }
+    }
+
+    /// The pages, the sections in turn.
+    pub(crate) fn pages(&self) -> &[BitSet]
+        ensures { result.now ≡ self.now }
+    {
+        self.pages.as_slice()
     }
 
     /// Whether an entry has a name.

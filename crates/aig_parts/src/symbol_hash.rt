@@ -30,8 +30,8 @@ impl Hasher for SymbolHasher {
     }
 }
 
-/// Makes the hashers of a table of symbols. SipHash makes its keys from entries: from all of them where the table is made
-/// after the last name of a file, so that no choice of positions can crowd it. Another last position gives other keys.
+/// Makes the hashers of a table of symbols. SipHash makes its keys from entries: from all of them if the table takes
+/// some of a file, so that no choice of positions can crowd it. Another last position gives other keys.
 #[derive(Clone, Copy)]
 pub(crate) struct SymbolHash {
     hasher: SymbolHasher,

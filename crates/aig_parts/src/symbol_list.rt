@@ -67,10 +67,10 @@ impl SymbolList {
         ensures { IfOk result (λ symbols. symbols ≡ self) }
     {
         let SymbolList {
-            named: _named,
+            named,
             entries,
             text,
         } = self;
-        Symbols::of_entries(entries, text)
+        Symbols::of_entries(&named, entries, text)
     }
 }

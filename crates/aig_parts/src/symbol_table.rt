@@ -1,15 +1,16 @@
 //! Entries of a circuit that have a name, with the places of their names.
 ghost use Rattle.std.specs.Prelude.{◌≡◌, ◌≢◌, ◌∷◌, ◌++◌, ◌≤◌, ◌<◌, ◌↔◌, ℕ};
-ghost use Rattle.std.specs.Prelude.{[], length, take, drop, All, AllPairs, Contains};
-ghost use Rattle.std.specs.Prelude.{IsTrue, IfOk, IfSome, IfNone, OnOk, OnErr};
+ghost use Rattle.std.specs.Prelude.{[], length, drop, All, AllPairs, Contains};
+ghost use Rattle.std.specs.Prelude.{IsTrue, IfOk, IfSome, IfNone, None, OnOk, OnErr};
 ghost use Rattle.std.specs.Map.{keys_of};
 ghost use Rattle.indexmap.specs.IndexMap.{hasher_of};
 ghost use Rattle.aig_parts.specs.state.SymbolHash.{mix, hash_of_entries};
-ghost use Rattle.aig_parts.specs.state.SymbolTable.{key_number, Ascend};
+ghost use Rattle.aig_parts.specs.state.SymbolTable.{key_number, Ascend, AreFindable};
 
-use crate::named::section_number;
+use crate::named::{NamedEntries, section_number};
 use crate::symbol_hash::SymbolHash;
 use crate::symbol_places::Place;
+use crate::symbol_ranks::SymbolRanks;
 use crate::symbols::Kind;
 use indexmap::{IndexMap, map};
 use std::alloc::{AllocError, Global};
@@ -19,11 +20,14 @@ use std::marker::Model;
 /// How far sections are apart.
 const SECTION: u64 = 4_294_967_296;
 
-/// Entries in the order of the file, each once, with the places of their names. So far as they ascend, by section and
-/// position, they lie in a list; from the first that does not, in a table by hash.
+/// Entries in the order of the file, each once, with the places of their names. Those of a file are in a list. If they
+/// ascend, by section and position, they are found by bisection, and else by rank. Those that are inserted later are in
+/// a table by hash, unless they go on in an ascending list.
 #[derive(Drop, Debug)]
 pub(crate) struct SymbolTable {
-    ascending: Vec<((Kind, u32), Place)>,
+    listed: Vec<((Kind, u32), Place)>,
+    // None if the list ascends.
+    ranks: Option<SymbolRanks>,
     others: IndexMap<(Kind, u32), Place, SymbolHash>,
 }
 
@@ -34,9 +38,9 @@ impl Model for SymbolTable {
 
     ghost Value = { Table };
 
-    ghost view = { λ a. record { entries = a.ascending.items ++ a.others.entries; hash = hasher_of a.others } };
+    ghost view = { λ a. record { entries = a.listed.items ++ a.others.entries; hash = hasher_of a.others } };
 
-    ghost invariant = { λ a. IsSymbolTable a.ascending.items a.others.entries };
+    ghost invariant = { λ a. IsSymbolTable a.listed.items a.ranks a.others.entries };
 }
 
 // Entries by section, and within one by position.
@@ -46,17 +50,16 @@ fn key_number(entry: (Kind, u32)) -> u64
     section_number(entry.0) as u64 * SECTION + entry.1 as u64
 }
 
-// How many entries ascend from the first one on.
-fn ascending_count(entries: &[((Kind, u32), Place)]) -> usize
-    ensures bound { result ≤ length entries.now }
-    ensures ascend { Ascend (take result entries.now) }
+// Whether all entries ascend.
+fn are_ascending(entries: &[((Kind, u32), Place)]) -> bool
+    ensures { IsTrue result → Ascend entries.now }
 {
     for place in 1..entries.len() {
         if key_number(entries[place - 1].0) >= key_number(entries[place].0) {
-            return place;
+            return false;
         }
     }
-    entries.len()
+    true
 }
 
 // Mixes an entry's number into what keys are made from.
@@ -86,7 +89,8 @@ fn others_of(
     requires from { from ≤ length entries.now }
     requires once { AllPairs (λ x y. x ≢ y) (keys_of entries.now) }
     ensures entries { IfOk result (λ others. others.entries ≡ drop from entries.now) }
-    ensures hash { IfOk result (λ others. from < length entries.now → hasher_of others ≡ hash_of_entries (keys_of entries.now)) }
+    ensures hash { IfOk result (λ others.
+        from < length entries.now → hasher_of others ≡ hash_of_entries (keys_of entries.now)) }
 {
     if from == entries.len() {
         return Ok(IndexMap::with_hasher(alloc, SymbolHash::fixed()));
@@ -107,6 +111,23 @@ fn comes_after(entries: &[((Kind, u32), Place)], entry: (Kind, u32)) -> bool
     entries.is_empty() || key_number(entries[entries.len() - 1].0) < key_number(entry)
 }
 
+// Whether entries without ranks ascend up to this one.
+fn goes_on(
+    entries: &[((Kind, u32), Place)],
+    ranks: &Option<SymbolRanks>,
+    entry: (Kind, u32),
+) -> bool
+    requires { AreFindable entries.now ranks.now }
+    ensures unranked { IsTrue result → ranks.now ≡ None }
+    ensures ascend { IsTrue result → Ascend entries.now }
+    ensures above { IsTrue result → All (λ x. key_number x.0 < key_number entry) entries.now }
+{
+    match ranks {
+        Some(_) => false,
+        None => comes_after(entries, entry),
+    }
+}
+
 // The place of an entry's name, among entries that ascend.
 fn find_ascending(entries: &[((Kind, u32), Place)], entry: (Kind, u32)) -> Option<Place>
     requires { Ascend entries.now }
@@ -120,31 +141,57 @@ fn find_ascending(entries: &[((Kind, u32), Place)], entry: (Kind, u32)) -> Optio
     }
 }
 
+// The place of an entry's name, among entries that ascend or have these ranks.
+fn find_listed(
+    entries: &[((Kind, u32), Place)],
+    ranks: &Option<SymbolRanks>,
+    entry: (Kind, u32),
+) -> Option<Place>
+    requires { AreFindable entries.now ranks.now }
+    ensures some { IfSome result (λ place. Contains entries.now (entry, place)) }
+    ensures none { IfNone result (Contains (keys_of entries.now) entry → ⊥) }
+{
+    match ranks {
+        Some(ranks) => ranks.find(entries, entry),
+        None => find_ascending(entries, entry),
+    }
+}
+
 impl SymbolTable {
     /// None. It takes no memory.
     pub(crate) fn new(alloc: Global) -> SymbolTable
         ensures { result.entries ≡ [] }
     {
         SymbolTable {
-            ascending: Vec::new(alloc),
+            listed: Vec::new(alloc),
+            ranks: None,
             others: IndexMap::with_hasher(alloc, SymbolHash::fixed()),
         }
     }
 
-    /// These entries, none of which comes twice. Where they do not ascend, the keys of the hash are made from all of
-    /// them.
-    pub(crate) fn of_entries(entries: Vec<((Kind, u32), Place)>) -> Result<SymbolTable, AllocError>
+    /// These entries, none of which comes twice, and which have a name in `named`.
+    pub(crate) fn of_entries(
+        named: &NamedEntries,
+        entries: Vec<((Kind, u32), Place)>,
+    ) -> Result<SymbolTable, AllocError>
         requires { AllPairs (λ x y. x ≢ y) (keys_of entries.items) }
-        ensures entries { IfOk result (λ table. table.entries ≡ entries.items) }
-        ensures keyed { IfOk result (λ table.
-            (Ascend entries.items → ⊥) → table.hash ≡ hash_of_entries (keys_of entries.items)) }
+        ensures { IfOk result (λ table. table.entries ≡ entries.items) }
     {
+        let alloc = *entries.allocator();
+        if are_ascending(&entries) {
+            return Ok(SymbolTable {
+                listed: entries,
+                ranks: None,
+                others: IndexMap::with_hasher(alloc, SymbolHash::fixed()),
+            });
+        }
         let mut entries = entries;
-        let count = ascending_count(&entries);
-        let others = others_of(*entries.allocator(), &entries, count)?;
+        let (ranks, count) = SymbolRanks::of(alloc, named, &entries)?;
+        let others = others_of(alloc, &entries, count)?;
         entries.truncate(count);
         Ok(SymbolTable {
-            ascending: entries,
+            listed: entries,
+            ranks: Some(ranks),
             others,
         })
     }
@@ -153,7 +200,7 @@ impl SymbolTable {
     pub(crate) fn len(&self) -> usize
         ensures { result ≡ length self.now.entries }
     {
-        self.ascending.len() + self.others.len()
+        self.listed.len() + self.others.len()
     }
 
     /// The place of an entry's name.
@@ -161,7 +208,7 @@ impl SymbolTable {
         ensures some { IfSome result (λ place. Contains self.now.entries (entry, place)) }
         ensures none { IfNone result (Contains (keys_of self.now.entries) entry → ⊥) }
     {
-        match find_ascending(&self.ascending, entry) {
+        match find_listed(&self.listed, &self.ranks, entry) {
             Some(place) => Some(place),
             None => match self.others.get(&entry) {
                 Some(place) => Some(*place),
@@ -177,8 +224,8 @@ impl SymbolTable {
         ensures err { OnErr result (self.new.entries ≡ self.old.entries) }
         ensures hash { self.new.hash ≡ self.old.hash }
     {
-        if self.others.is_empty() && comes_after(&self.ascending, entry) {
-            self.ascending.push((entry, place))?;
+        if self.others.is_empty() && goes_on(&self.listed, &self.ranks, entry) {
+            self.listed.push((entry, place))?;
         } else {
             self.others.insert(entry, place)?;
         }
@@ -191,7 +238,7 @@ impl SymbolTable {
         ensures distinct { AllPairs (λ x y. x ≢ y) (keys_of self.now.entries) }
     {
         TableIter {
-            ascending: self.ascending.as_slice(),
+            listed: self.listed.as_slice(),
             others: self.others.iter(),
         }
     }
@@ -201,8 +248,13 @@ impl Clone for SymbolTable {
     ghost is_clone = { λ v w. w.entries ≡ v.entries };
 
     fn clone(&self) -> Result<SymbolTable, AllocError> {
+        let ranks = match &self.ranks {
+            Some(ranks) => Some(ranks.clone()?),
+            None => None,
+        };
         Ok(SymbolTable {
-            ascending: self.ascending.clone()?,
+            listed: self.listed.clone()?,
+            ranks,
             others: self.others.clone()?,
         })
     }
@@ -211,7 +263,7 @@ impl Clone for SymbolTable {
 /// The entries that are left.
 #[derive(Drop)]
 pub(crate) struct TableIter<'a> {
-    ascending: &'a [((Kind, u32), Place)],
+    listed: &'a [((Kind, u32), Place)],
     others: map::Iter<'a, (Kind, u32), Place>,
 }
 
@@ -222,7 +274,7 @@ impl<'a> Model for TableIter<'a> {
 
     ghost Value = { List (Key × Place) };
 
-    ghost view = { λ a. a.ascending.now ++ a.others };
+    ghost view = { λ a. a.listed.now ++ a.others };
 }
 
 impl<'a> TableIter<'a> {
@@ -231,9 +283,9 @@ impl<'a> TableIter<'a> {
         ensures some { IfSome result (λ e. self.old ≡ (e.0.now, e.1) ∷ self.new) }
         ensures none { IfNone result ((self.old ≡ []) × (self.new ≡ [])) }
     {
-        match self.ascending.split_first() {
+        match self.listed.split_first() {
             Some(((entry, place), rest)) => {
-                self.ascending = rest;
+                self.listed = rest;
                 Some((entry, *place))
             }
             None => {

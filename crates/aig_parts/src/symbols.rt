@@ -9,6 +9,7 @@ ghost use Rattle.aig_parts.specs.SymbolPlaces.{Key, symbols_in};
 ghost use Rattle.aig_parts.specs.state.NamedEntries.{IsPlaceIn};
 
 use crate::list::Bytes;
+use crate::named::NamedEntries;
 use crate::symbol_places::{Place, name_at, put_name};
 use crate::symbol_table::{SymbolTable, TableIter};
 use std::alloc::{AllocError, Global};
@@ -59,8 +60,9 @@ impl Symbols {
         }
     }
 
-    /// The symbols of these entries, none of which comes twice.
+    /// The symbols of these entries, none of which comes twice, and which have a name in `named`.
     pub(crate) fn of_entries(
+        named: &NamedEntries,
         entries: Vec<((Kind, u32), Place)>,
         text: Vec<u8>,
     ) -> Result<Symbols, AllocError>
@@ -69,7 +71,7 @@ impl Symbols {
         ensures { IfOk result (λ symbols. symbols ≡ symbols_in text.items entries.items) }
     {
         Ok(Symbols {
-            places: SymbolTable::of_entries(entries)?,
+            places: SymbolTable::of_entries(named, entries)?,
             text,
         })
     }

@@ -1,10 +1,11 @@
--- Entries that have a name: in a list so far as they ascend, and from there on in a table by hash.
-use Rattle.std.specs.Prelude.{◌≢◌, ℕ, ◌+◌, ◌*◌, ◌<◌, List, ◌++◌, AllPairs}
+-- Entries that have a name: those of a file in a list, and those that are inserted later in a table by hash.
+use Rattle.std.specs.Prelude.{◌≢◌, ℕ, ◌+◌, ◌*◌, ◌<◌, List, ◌++◌, AllPairs, Option, Some, None}
 use Rattle.std.specs.Map.{keys_of}
 use Rattle.aig_parts.specs.declared.symbol_hash.SymbolHash.{SymbolHash}
 use Rattle.aig_parts.specs.declared.symbol_places.Place.{Place}
 use Rattle.aig_parts.specs.SymbolPlaces.{Key}
 use Rattle.aig_parts.specs.state.NamedEntries.{section_number}
+use Rattle.aig_parts.specs.state.SymbolRanks.{Ranks, AreEntered}
 
 -- entries by section, and within one by position
 abbrev pub key_number : Key → ℕ
@@ -14,12 +15,17 @@ key_number k = section_number k.0 * 4294967296 + k.1
 abbrev pub Ascend : List (Key × Place) → Type 0
 Ascend entries = AllPairs (λ x y. key_number x.0 < key_number y.0) entries
 
--- no entry comes twice
-pub record IsSymbolTable (ascending others : List (Key × Place)) : Type 0 where
-  pub ascend : Ascend ascending
-  pub once : AllPairs (λ x y. x ≢ y) (keys_of (ascending ++ others))
+-- listed entries are found by their ranks, or else ascend
+abbrev pub AreFindable : List (Key × Place) → Option Ranks → Type 0
+AreFindable listed None = Ascend listed
+AreFindable listed (Some ranks) = AreEntered ranks listed
 
--- a table as contracts see it: its entries, and how those that do not ascend are hashed
+-- listed entries are findable, and no entry comes twice
+pub record IsSymbolTable (listed : List (Key × Place)) (ranks : Option Ranks) (others : List (Key × Place)) : Type 0 where
+  pub findable : AreFindable listed ranks
+  pub once : AllPairs (λ x y. x ≢ y) (keys_of (listed ++ others))
+
+-- a table as contracts see it: its entries, and how those of them that are not listed are hashed
 pub record Table : Type 0 where
   pub entries : List (Key × Place)
   pub hash : SymbolHash

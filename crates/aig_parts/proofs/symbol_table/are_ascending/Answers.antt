@@ -1,10 +1,10 @@
-use Rattle.std.proofs.Common.{ℕ, ◌-◌, ◌<◌, get_or, List, length, sym, subst, ◌∙◌, arith}
+use Rattle.std.proofs.Common.{ℕ, ◌-◌, ◌<◌, get_or, List, subst, arith}
 use Rattle.std.proofs.lemmas.List.{take_all}
 use Rattle.aig_parts.specs.declared.symbol_places.Place.{Place}
 use Rattle.aig_parts.specs.SymbolPlaces.{Key}
 use Rattle.aig_parts.specs.state.SymbolTable.{key_number, Ascend}
 use Rattle.aig_parts.proofs.TableLemmas.{nowhere, ascend_more}
-use Rattle.aig_parts.proofs.symbol_table.ascending_count.Goals as goal
+use Rattle.aig_parts.proofs.symbol_table.are_ascending.Goals as goal
 
 pub loop-place-preserved : goal.loop-place-preserved
 loop-place-preserved c =
@@ -17,9 +17,7 @@ loop-place-preserved c =
       ascend_more es i nowhere c.loop-place.invariant.0 c.loop-place-test.true up c.loop-place.invariant.1,
     )
 
-pub returns-clause-ascend : goal.returns-clause-ascend
-returns-clause-ascend c =
-    let es = c.args.entries.now in
+pub returns : goal.returns
+returns c _ =
     subst (λ (xs : List (Key × Place)). Ascend xs)
-    (take_all c.loop-place.place es c.loop-place-test.false ∙ sym (take_all (length es) es (omega arith)))
-    c.loop-place.invariant.1
+    (take_all c.loop-place.place c.args.entries.now c.loop-place-test.false) c.loop-place.invariant.1
