@@ -24,6 +24,10 @@ REFUSALS = (
     ("a short line", "1\n", "length of line 2"),
     ("an unfinished line", "1z1111", "unfinished"),
     ("an empty line", "\n", "length of line 2"),
+    ("a row and a CR", "11\r\n", "character in line 2"),
+    ("a row and a further character", "110\n", "length of line 2"),
+    ("a row and no LF", "11", "unfinished"),
+    ("a row of one character less and two LFs", "1\n\n", "length of line 2"),
 )
 
 # Files that are missing or are directories, by the part that the message names.
