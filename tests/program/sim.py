@@ -24,6 +24,10 @@ REFUSALS = (
     ("a short line", "1\n", "length of line 2"),
     ("an unfinished line", "1z1111", "unfinished"),
     ("an empty line", "\n", "length of line 2"),
+    ("a row and a CR", "11\r\n", "character in line 2"),
+    ("a row and a further character", "110\n", "length of line 2"),
+    ("a row and no LF", "11", "unfinished"),
+    ("a row of one character less and two LFs", "1\n\n", "length of line 2"),
 )
 
 # Files that are missing or are directories, by the part that the message names.
@@ -32,12 +36,44 @@ FAILURES = (
     ("stimulus", ("one_gate nowhere", "one_gate .", "cycle nowhere", ". nowhere")),
 )
 
+# Inputs, latches and outputs at which a trace line, or a field of one, is spelled in another way: lines of 63, 64 and 65
+# bytes, and fields of 31, 32 and 33 literals, and of 256 and 257.
+WIDTHS = ((20, 10, 19), (20, 10, 20), (20, 10, 21), (59, 0, 0), (60, 0, 0), (61, 0, 0), (0, 30, 0), (0, 31, 0), (31, 31, 31),
+          (32, 32, 32), (33, 33, 33), (1, 256, 31), (31, 257, 256))
+
+
+def wide(inputs, latches, outputs):
+    """A circuit of so many inputs, latches and outputs, two rows for it, and their trace. A latch takes the value of an
+    input, or its own, and every second one the negation; an output shows what a latch takes."""
+    lits = [2 * (1 + i) for i in range(inputs + latches)]
+    states = lits[inputs:]
+    nexts = [(lits[i % inputs] if inputs else lit) + i % 2 for i, lit in enumerate(states)]
+    shown = [(nexts[i % latches] if latches else lits[i % inputs]) ^ (i // 7 % 2) for i in range(outputs)]
+    text = [f"aag {inputs + latches} {inputs} {latches} {outputs} 0", *map(str, lits[:inputs])]
+    text += [f"{lit} {after} {'01'[i % 3 == 1] if i % 3 < 2 else lit}" for i, (lit, after) in enumerate(zip(states, nexts))]
+    text += map(str, shown)
+    rows = ["".join("01x"[(i * i + frame) % 3] for i in range(inputs)) for frame in range(2)]
+    state, trace = "".join("01x"[i % 3] for i in range(latches)), []
+    for row in rows:
+        def value(lit, values=row + state):
+            value = values[lit // 2 - 1]
+            return value if lit % 2 == 0 or value == "x" else "10"[int(value)]
+        after = "".join(map(value, nexts))
+        trace.append(f"{state} {row} {''.join(map(value, shown))} {after}\n")
+        state = after
+    return "\n".join(text) + "\n", "".join(row + "\n" for row in rows), "".join(trace)
+
 
 def sim(program, tally, _):
     rows = Rows("sim", program, tally)
     write_all()
     for name, circuit, stimulus, trace in TRACES:
         rows.gives(name, f"sim {circuit} rows", trace, rows=stimulus)
+    for widths in WIDTHS:
+        circuit, stimulus, trace = wide(*widths)
+        name = "{} inputs, {} latches and {} outputs".format(*widths)
+        rows.gives(name, "sim wide rows", trace, wide=circuit, rows=stimulus)
+        rows.gives(f"{name}, by `t`", "bench wide rows lines", trace + ".\n", lines="t\n")
     for name, line, text in REFUSALS:
         rows.refuses(name, "sim one_gate rows", f"stimulus: {text}", " 11 1 \n", rows="11\n" + line)
     for cut in range(1, 7):

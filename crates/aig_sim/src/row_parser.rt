@@ -98,6 +98,15 @@ pub fn are_characters(bytes: &[u8]) -> bool
     all
 }
 
+// Whether the bytes begin with so many characters and an LF after them.
+fn begins_with_row(bytes: &[u8], width: usize) -> bool
+    ensures characters { IsTrue result → All IsCharacter (take width bytes.now) }
+    ensures bound { IsTrue result → width < length bytes.now }
+    ensures ended { IsTrue result → slice_get bytes.now width ≡ Some 10 }
+{
+    width < bytes.len() && bytes[width] == b'\n' && are_characters(&bytes[..width])
+}
+
 // Gives values those of characters.
 fn put_values(values: &mut [Tern], text: &[u8])
     requires size { length values.old ≡ length text.now }
@@ -207,6 +216,30 @@ impl RowParser {
             self.shape = Shape::Wrong;
             Ok(())
         }
+    }
+
+    /// Takes the line's bytes up to its LF, or all where there is none, and returns how many it took. It needs memory
+    /// only where there is no room for the width.
+    pub(crate) fn take_line(&mut self, bytes: &[u8]) -> Result<usize, Memory>
+        ensures width { self.new.width ≡ self.old.width }
+        ensures bound { IfOk result (λ count. count ≤ length bytes.now) }
+        ensures no_end { IfOk result (λ count. All (λ b. b ≢ 10) (take count bytes.now)) }
+        ensures ended { IfOk result (λ count. count < length bytes.now → slice_get bytes.now count ≡ Some 10) }
+        ensures keeps { IfOk result (λ count. (line : List ℕ) →
+            KeepsLine self.old.width line self.old.shape self.old.values →
+            KeepsLine self.old.width (line ++ take count bytes.now) self.new.shape self.new.values) }
+        ensures err { OnErr result (self.old.room < self.old.width) }
+        ensures room { self.old.room ≤ self.new.room }
+    {
+        // Most lines are rows. Their length is known, so no LF is searched.
+        let width = self.width;
+        if begins_with_row(bytes, width) {
+            self.extend_values(&bytes[..width])?;
+            return Ok(width);
+        }
+        let length = line_length(bytes);
+        self.extend(&bytes[..length])?;
+        Ok(length)
     }
 
     /// Whether the line has no byte so far.

@@ -1,5 +1,5 @@
 //! Simulation of a stimulus that is read row by row.
-ghost use Rattle.std.specs.Prelude.{◌≡◌, ◌≢◌, ℕ, List, [], ◌∷◌, ◌++◌, ◌<◌, ◌≤◌, length, take};
+ghost use Rattle.std.specs.Prelude.{◌≡◌, ◌≢◌, ℕ, List, [], ◌∷◌, ◌++◌, ◌<◌, ◌≤◌, length, take, All, Some, slice_get};
 ghost use Rattle.std.specs.Prelude.{IfOk, IfErr, OnOk, OnErr};
 ghost use Rattle.aig_base.specs.Value.{start_of};
 ghost use Rattle.aig_sim.specs.declared.row_parser.Shape.TheVariants as shapes;
@@ -9,7 +9,7 @@ ghost use Rattle.aig_sim.specs.Simulated.{Simulates};
 
 use crate::machine::{Machine, first_states};
 use crate::recorder::{Recorder, TraceRecorder};
-use crate::row_parser::{RowParser, line_length};
+use crate::row_parser::RowParser;
 use crate::stimulus_fault::StimFault;
 use aig_base::{Circuit, Memory, Read, Write};
 use std::alloc::Global;
@@ -69,18 +69,22 @@ impl<'a, T: Recorder + Drop> Simulation<'a, T> {
         Ok(())
     }
 
-    // Takes a piece of a line. There is room for the width, so that it takes no memory.
-    fn extend(&mut self, piece: &[u8])
+    // Takes bytes up to the LF of a line, or all of them, and returns how many. There is room for the width, so that it
+    // takes no memory.
+    fn take_line(&mut self, bytes: &[u8]) -> usize
         requires room { HasRowRoom T.fits self.old }
         ensures room { HasRowRoom T.fits self.new }
         ensures frames { self.new.frames ≡ self.old.frames }
         ensures machine { self.new.machine ≡ self.old.machine }
         ensures recorder { self.new.recorder ≡ self.old.recorder }
+        ensures bound { result ≤ length bytes.now }
+        ensures no_end { All (λ b. b ≢ 10) (take result bytes.now) }
+        ensures ended { result < length bytes.now → slice_get bytes.now result ≡ Some 10 }
         ensures keeps { (line : List ℕ) →
             KeepsLine self.old.line.width line self.old.line.shape self.old.line.values →
-            KeepsLine self.old.line.width (line ++ piece.now) self.new.line.shape self.new.line.values }
+            KeepsLine self.old.line.width (line ++ take result bytes.now) self.new.line.shape self.new.line.values }
     {
-        self.line.extend(piece).unwrap();
+        self.line.take_line(bytes).unwrap()
     }
 
     // Takes bytes up to the end of a line, which is then simulated, or all of them. Answers how many it took.
@@ -94,8 +98,7 @@ impl<'a, T: Recorder + Drop> Simulation<'a, T> {
         ensures err { IfErr result (SimulationStops T.is_text T.has_recorded bytes.now self.old
             (W.written out.old) (W.written out.new) (W.failures out.old) (W.failures out.new)) }
     {
-        let length = line_length(bytes);
-        self.extend(&bytes[..length]);
+        let length = self.take_line(bytes);
         if length == bytes.len() {
             return Ok(length);
         }

@@ -1,8 +1,13 @@
--- Pieces of the fields of a trace line.
-use Rattle.std.proofs.Common.{◌≡◌, ℕ, ◌-◌, List, length, map, take, drop, All, sym, ap, ◌∙◌, subst, arith}
+-- The fields of a trace line, and pieces of them.
+use Rattle.std.proofs.Common.{◌≡◌, ℕ, ◌-◌, ◌≤◌, List, [], ◌∷◌, ◌++◌, length, map, take, drop, get_or, All, Some, slice_get, sym, ap, ◌∙◌, subst, arith}
 use Rattle.std.proofs.lemmas.List.{drop-map, take-map, take_rest, get_or-map, length-map}
 use Rattle.std.proofs.lemmas.List.Elements.{All-take, All-drop}
+use Rattle.std.proofs.lemmas.Option.{slice_get-get_or}
 use Rattle.std.proofs.lemmas.Simd.{map-map}
+use Rattle.aig_parts.specs.Literal.{variable}
+use Rattle.aig_parts.specs.declared.latch.Latch.{Latch}
+use Rattle.aig_parts.specs.declared.ternary.Tern.{Tern}
+use Rattle.aig_values.specs.TraceText.{literal_character}
 
 -- the piece of n items from a place on, as the program takes it
 module _ {X : Type 0} (h : X → ℕ) (xs : List X) (at n : ℕ) where
@@ -19,3 +24,17 @@ module _ {X : Type 0} (h : X → ℕ) (xs : List X) (at n : ℕ) where
   piece_shown f text is =
       is ∙ ap (λ ys. map (λ x. f (h x)) (take n ys)) (take_rest xs at) ∙ sym (map-map f h (take n (drop at xs)))
       ∙ ap (map f) (sym (take-map h n (drop at xs))) ∙ ap (λ ys. map f (take n ys)) (sym (drop-map h at xs))
+
+-- the variables of a section have what all in range have
+pub all_have : {X : Type 0} (P : ℕ → Type 0) (f : X → ℕ) (m : ℕ) (xs ys : List X) → xs ≡ ys → ((v : ℕ) → v ≤ m → P v)
+    → ((i : ℕ) (x : X) → slice_get ys i ≡ Some x → variable (f x) ≤ m) → All (λ x. P (variable (f x))) xs
+all_have P f m xs ys e h k =
+    subst (All (λ x. P (variable (f x)))) (sym e)
+    (λ i d lt. h (variable (f (get_or ys i d))) (k i (get_or ys i d) (slice_get-get_or ys i d lt)))
+
+-- the characters of a field of latches
+pub shown : (cells : List Tern) (f : Latch → ℕ) (end : ℕ) (xs ys : List Latch) → xs ≡ ys
+    → map (literal_character cells) (map f xs) ++ end ∷ [] ≡ map (λ x. literal_character cells (f x)) ys ++ end ∷ []
+shown cells f end xs ys e =
+    ap (λ (cs : List ℕ). cs ++ end ∷ [])
+    (map-map (literal_character cells) f xs ∙ ap (map (λ x. literal_character cells (f x))) e)

@@ -6,6 +6,7 @@ pub mod GatherLemmas
 pub mod LiteralLemmas
 pub mod PaddedRows
 pub mod SeenRows
+pub mod ShortLines
 pub mod SweepLemmas
 pub mod SweptRows
 pub mod TraceLemmas

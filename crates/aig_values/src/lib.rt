@@ -14,6 +14,7 @@ mod plane_row;
 mod reset;
 pub mod row;
 mod row_grid;
+mod short_line;
 mod stimulus;
 pub mod trace_line;
 

@@ -1,5 +1,5 @@
 //! The lines of a trace, by the values of their frames.
-ghost use Rattle.std.specs.Prelude.{◌≡◌, ℕ, ◌+◌, ◌≤◌, [], ◌∷◌, ◌++◌, length, map, take, drop, All};
+ghost use Rattle.std.specs.Prelude.{◌≡◌, ℕ, ◌+◌, ◌<◌, ◌≤◌, [], ◌∷◌, ◌++◌, length, map, take, drop, All};
 ghost use Rattle.aig_bytes.specs.Bytes.{Writes};
 ghost use Rattle.aig_base.specs.Circuit.{IsCircuit};
 ghost use Rattle.aig_parts.specs.Literal.{variable};
@@ -9,11 +9,15 @@ ghost use Rattle.aig_values.specs.state.Fields.{literals_of};
 
 use crate::grid::Grid;
 use crate::row::{GridRow, Row};
+use crate::short_line::{has_short_lines, spell_at, write_short_line};
 use aig_base::{Circuit, Io, Latch, Lit, Write};
 use aig_bytes::ByteBlock;
 
 /// How many characters are put at a time, and how many literals of latches are listed.
 const PIECE: usize = 256;
+
+/// A field of fewer literals than this is spelled one by one.
+const FEW: usize = 32;
 
 /// The bytes of a trace or a dump that wait, 4,096 at most: a new one costs little, and a script makes one for each
 /// trace that it asks for.
@@ -21,7 +25,7 @@ pub type TraceBlock = ByteBlock<4_096>;
 
 /// The literals that a field of a line shows.
 #[derive(Clone, Copy, Drop)]
-enum Field<'a> {
+pub(crate) enum Field<'a> {
     /// Those of inputs or outputs.
     Literals(&'a [Lit]),
     /// Those that latches define.
@@ -87,8 +91,8 @@ fn spell_next_states<R: Row>(text: &mut [u8], row: &R, latches: &[Latch])
     row.spell(text, listed);
 }
 
-// How many literals a field shows.
-fn literal_count(field: Field<'_>) -> usize
+/// How many literals a field shows.
+pub(crate) fn literal_count(field: Field<'_>) -> usize
     ensures { result ≡ length (literals_of field.entry) }
 {
     match field {
@@ -113,6 +117,24 @@ fn spell_field<R: Row>(text: &mut [u8], row: &R, field: Field<'_>, at: usize)
     }
 }
 
+// The same for a field of few literals: no list of them is made.
+fn put_few<R: Row, W: Write>(
+    out: &mut W,
+    block: &mut TraceBlock,
+    row: &R,
+    field: Field<'_>,
+    end: u8,
+) -> Result<(), Io>
+    requires few { length (literals_of field) < 32 }
+    requires row { All (λ l. R.has row.now (variable l)) (literals_of field) }
+    ensures { Gathers W.written W.failures out.old out.new block.old block.new
+        (map (literal_character (R.cells row.now)) (literals_of field.entry) ++ end ∷ []) result }
+{
+    let mut text = [0; FEW];
+    let size = spell_at(&mut text, 0, row, field, end);
+    block.put_all(out, &text[..size])
+}
+
 // Puts a character for each literal of a field, and the byte that ends it.
 fn put_field<R: Row, W: Write>(
     out: &mut W,
@@ -128,6 +150,9 @@ fn put_field<R: Row, W: Write>(
         (map (literal_character (R.cells row.now)) (literals_of field.entry) ++ end ∷ []) result }
 {
     let size = literal_count(field);
+    if size < FEW {
+        return put_few(out, block, row, field, end);
+    }
     let mut at = 0;
     while at < size {
         let count = PIECE.min(size - at);
@@ -198,6 +223,9 @@ pub fn write_line<R: Row, W: Write>(
     requires row { (v : ℕ) → v ≤ circuit.now.max_var → R.has row.now v }
     ensures { Writes W.written W.failures out.old out.new (line_text circuit.now (R.cells row.now)) result }
 {
+    if has_short_lines(circuit) {
+        return write_short_line(out, circuit, row);
+    }
     block.clear();
     put_line(out, block, &mut [0; PIECE], circuit, row)?;
     block.forward(out)

@@ -1,28 +1,11 @@
-use Rattle.std.proofs.Common.{◌≡◌, ℕ, ◌≤◌, List, ◌∷◌, [], ◌++◌, map, get_or, All, Some, slice_get, sym, ap, ◌∙◌, subst}
-use Rattle.std.proofs.lemmas.Option.{slice_get-get_or}
 use Rattle.std.proofs.lemmas.List.Elements.{All-map}
-use Rattle.std.proofs.lemmas.Simd.{map-map}
 use Rattle.aig_parts.specs.declared.latch.Latch.{Latch}
-use Rattle.aig_parts.specs.declared.ternary.Tern.{Tern}
 use Rattle.aig_parts.specs.Literal.{variable}
 use Rattle.aig_base.proofs.circuits.Circuits.{input_in_range, latch_in_range, next_in_range, output_in_range}
-use Rattle.aig_values.specs.TraceText.{literal_character, line_text}
+use Rattle.aig_values.specs.TraceText.{line_text}
+use Rattle.aig_values.proofs.FieldLemmas.{all_have, shown}
 use Rattle.aig_bytes.proofs.GatherLemmas.{gathers_then, gathers_stop, gathers_failed, gathers_same}
 use Rattle.aig_values.proofs.trace_line.put_line.Goals as goal
-
--- the variables of a section have what all in range have
-all_have : {X : Type 0} (P : ℕ → Type 0) (f : X → ℕ) (m : ℕ) (xs ys : List X) → xs ≡ ys → ((v : ℕ) → v ≤ m → P v)
-    → ((i : ℕ) (x : X) → slice_get ys i ≡ Some x → variable (f x) ≤ m) → All (λ x. P (variable (f x))) xs
-all_have P f m xs ys e h k =
-    subst (All (λ x. P (variable (f x)))) (sym e)
-    (λ i d lt. h (variable (f (get_or ys i d))) (k i (get_or ys i d) (slice_get-get_or ys i d lt)))
-
--- the characters of a field of latches
-shown : (cells : List Tern) (f : Latch → ℕ) (end : ℕ) (xs ys : List Latch) → xs ≡ ys
-    → map (literal_character cells) (map f xs) ++ end ∷ [] ≡ map (λ x. literal_character cells (f x)) ys ++ end ∷ []
-shown cells f end xs ys e =
-    ap (λ (cs : List ℕ). cs ++ end ∷ [])
-    (map-map (literal_character cells) f xs ∙ ap (map (λ x. literal_character cells (f x))) e)
 
 pub put_field-requires-clause-row : goal.put_field-requires-clause-row
 put_field-requires-clause-row g c =

@@ -10,28 +10,28 @@ pub returns-then-length-bytes-clause-ok : goal.returns-then-length-bytes-clause-
 returns-then-length-bytes-clause-ok g c =
     let s = c.args.self.now in
     let xs = c.args.bytes.now in
-    let n = c.line_length-length.result in
-    let mid = c.extend.new.self in
+    let n = c.take_line-length.result in
+    let mid = c.take_line-length.new.self in
     let w = g.W.Write.written c.args.out.now in
     let f = g.W.Write.failures c.args.out.now in
-    let e = c.extend.ensures in
+    let e = c.take_line-length.ensures in
     let piece : SimulationGoesOn g.T.Recorder.is_text g.T.Recorder.has_recorded (take n xs) s mid w w f f =
-    piece_goes_on s mid (take n xs) w f c.requires.room.0 e.frames e.machine e.recorder c.line_length-length.ensures.no_end e.keeps in
+    piece_goes_on s mid (take n xs) w f c.requires.room.0 e.frames e.machine e.recorder c.take_line-length.ensures.no_end e.keeps in
     piece
 
 pub returns-in_err-end_line-clause-err : goal.returns-in_err-end_line-clause-err
 returns-in_err-end_line-clause-err g c =
     let s = c.args.self.now in
     let xs = c.args.bytes.now in
-    let n = c.line_length-length.result in
-    let mid = c.extend.new.self in
+    let n = c.take_line-length.result in
+    let mid = c.take_line-length.new.self in
     let w = g.W.Write.written c.args.out.now in
     let f = g.W.Write.failures c.args.out.now in
-    let e = c.extend.ensures in
+    let e = c.take_line-length.ensures in
     let piece : SimulationGoesOn g.T.Recorder.is_text g.T.Recorder.has_recorded (take n xs) s mid w w f f =
-    piece_goes_on s mid (take n xs) w f c.requires.room.0 e.frames e.machine e.recorder c.line_length-length.ensures.no_end e.keeps in
-    let lt : n < length xs = omega (arith, c.line_length-length.ensures.bound, c.if-length-bytes.false) in
-    let is_end : get_or xs n 0 ≡ 10 = get_or_from_slice_get xs n 10 0 (c.line_length-length.ensures.ended lt) in
+    piece_goes_on s mid (take n xs) w f c.requires.room.0 e.frames e.machine e.recorder c.take_line-length.ensures.no_end e.keeps in
+    let lt : n < length xs = omega (arith, c.take_line-length.ensures.bound, c.if-length-bytes.false) in
+    let is_end : get_or xs n 0 ≡ 10 = get_or_from_slice_get xs n 10 0 (c.take_line-length.ensures.ended lt) in
     let w' = g.W.Write.written c.end_line.new.out in
     let f' = g.W.Write.failures c.end_line.new.out in
     let fault = c.in_err-end_line.field-0.0 in
@@ -47,15 +47,15 @@ pub returns-clause-ok : goal.returns-clause-ok
 returns-clause-ok g c =
     let s = c.args.self.now in
     let xs = c.args.bytes.now in
-    let n = c.line_length-length.result in
-    let mid = c.extend.new.self in
+    let n = c.take_line-length.result in
+    let mid = c.take_line-length.new.self in
     let w = g.W.Write.written c.args.out.now in
     let f = g.W.Write.failures c.args.out.now in
-    let e = c.extend.ensures in
+    let e = c.take_line-length.ensures in
     let piece : SimulationGoesOn g.T.Recorder.is_text g.T.Recorder.has_recorded (take n xs) s mid w w f f =
-    piece_goes_on s mid (take n xs) w f c.requires.room.0 e.frames e.machine e.recorder c.line_length-length.ensures.no_end e.keeps in
-    let lt : n < length xs = omega (arith, c.line_length-length.ensures.bound, c.if-length-bytes.false) in
-    let is_end : get_or xs n 0 ≡ 10 = get_or_from_slice_get xs n 10 0 (c.line_length-length.ensures.ended lt) in
+    piece_goes_on s mid (take n xs) w f c.requires.room.0 e.frames e.machine e.recorder c.take_line-length.ensures.no_end e.keeps in
+    let lt : n < length xs = omega (arith, c.take_line-length.ensures.bound, c.if-length-bytes.false) in
+    let is_end : get_or xs n 0 ≡ 10 = get_or_from_slice_get xs n 10 0 (c.take_line-length.ensures.ended lt) in
     let w' = g.W.Write.written c.end_line.new.out in
     let f' = g.W.Write.failures c.end_line.new.out in
     let bytes : take n xs ++ 10 ∷ [] ≡ take (n + 1) xs =
