@@ -11,7 +11,7 @@ use std::marker::Model;
 /// Stands for a variable that does not wait, in place of the next one of its chain.
 const IDLE: u32 = 0xffff_ffff;
 
-/// For each variable whether it waits, and the next one of its chain: one number for both, so that an event looks at one
+/// For each variable whether it waits, and the next one of its chain: one number for both, so an event looks at one
 /// place. Contracts see both lists.
 #[derive(Drop, Debug)]
 pub struct Waiting {

@@ -111,12 +111,14 @@ module _ (levels : List ℕ) (b : Buckets) (h : AreBuckets levels b) (empty : (v
 
 -- room is no reader
 pub readers_roomy : (raw : Raw) (old new : LatchReaders) → AreLatchReaders raw old → new.last.items ≡ old.last.items
-    → new.before.items ≡ old.before.items → AreLatchReaders raw new
-readers_roomy raw old new h e f = record {
+    → new.before.items ≡ old.before.items → new.read.words.items ≡ old.read.words.items → AreLatchReaders raw new
+readers_roomy raw old new h e f b = record {
   variables = ap length e ∙ h.variables;
   latches = ap length f ∙ h.latches;
   last = λ v i at. h.last v i (ap (λ (xs : List ℕ). slice_get xs v) (sym e) ∙ at);
   before = λ p i x at is. h.before p i x at (ap (λ (xs : List ℕ). slice_get xs (suc p)) (sym f) ∙ is);
+  read = λ v i at some. subst (λ (ws : List ℕ). HasBit ws v) (sym b)
+      (h.read v i (ap (λ (xs : List ℕ). slice_get xs v) (sym e) ∙ at) some);
 }
 
 -- no latch reads the variable of a new gate
@@ -128,8 +130,9 @@ module _ (raw : Raw) (r0 r1 : ℕ) (sound : IsSound raw) where
   none_new i (p, x, is, at, e) = let le = next_in_range raw sound p x at in absurd (omega arith)
 
   pub readers_longer : (old new : LatchReaders) → AreLatchReaders raw old → new.last.items ≡ old.last.items ++ 0 ∷ []
-      → new.before.items ≡ old.before.items → AreLatchReaders (with_appended_gate raw r0 r1) new
-  readers_longer old new h e f = record {
+      → new.before.items ≡ old.before.items → new.read.words.items ≡ old.read.words.items
+      → AreLatchReaders (with_appended_gate raw r0 r1) new
+  readers_longer old new h e f b = record {
     variables = ap length e ∙ length-append old.last.items (0 ∷ []) ∙ ap (λ n. n + 1) h.variables;
     latches = ap length f ∙ h.latches;
     last = λ v i at. elim (slice_get_push old.last.items 0 i v (ap (λ (xs : List ℕ). slice_get xs v) (sym e) ∙ at)) [
@@ -142,4 +145,8 @@ module _ (raw : Raw) (r0 r1 : ℕ) (sound : IsSound raw) where
     ];
     before = λ p i x at is.
         last_still (variable x.next) p i (h.before p i x at (ap (λ (xs : List ℕ). slice_get xs (suc p)) (sym f) ∙ is));
+    read = λ v i at some. elim (slice_get_push old.last.items 0 i v (ap (λ (xs : List ℕ). slice_get xs v) (sym e) ∙ at)) [
+      | inl here ↦ subst (λ (ws : List ℕ). HasBit ws v) (sym b) (h.read v i here some)
+      | inr k ↦ absurd (some (sym k.1))
+    ];
   }
