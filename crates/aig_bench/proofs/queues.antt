@@ -4,3 +4,4 @@ pub mod Linked
 pub mod Lowest
 pub mod Once
 pub mod Queued
+pub mod WaitingMarks

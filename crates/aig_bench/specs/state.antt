@@ -13,3 +13,4 @@ pub mod Pending
 pub mod Renewed
 pub mod Steps
 pub mod Sweep
+pub mod Waiting

@@ -5,6 +5,7 @@ ghost use Rattle.aig_parts.specs.declared.raw.Raw.{Raw};
 ghost use Rattle.aig_bench.specs.state.Latches.{AreLatchReaders, TakesNextFrom, IsLatchList, Lists};
 
 use crate::latch_list::LatchList;
+use crate::level_set::BitSet;
 use aig_base::{Circuit, Memory};
 use std::alloc::Global;
 
@@ -15,6 +16,8 @@ pub struct LatchReaders {
     last: Vec<u32>,
     // For each latch the one before it that reads the same variable; 0 stands for none.
     before: Vec<u32>,
+    // The variables that a latch reads: few mostly, and in little memory.
+    read: BitSet,
 }
 
 impl LatchReaders {
@@ -25,12 +28,14 @@ impl LatchReaders {
         let mut last = vec![in alloc; 0; circuit.max_var() as usize + 1]?;
         let mut before = Vec::new(alloc);
         before.push(0)?;
+        let mut read = BitSet::new(alloc, circuit.max_var() as usize + 1)?;
         for (position, latch) in circuit.latches().iter().enumerate() {
             let variable = latch.next.var() as usize;
             before.push(last[variable])?;
             last[variable] = position as u32 + 1;
+            read.insert(variable);
         }
-        Ok(LatchReaders { last, before })
+        Ok(LatchReaders { last, before, read })
     }
 
     /// Makes room for one more variable; nothing else changes.
@@ -47,6 +52,7 @@ impl LatchReaders {
         requires { length self.old.last.items < vec_capacity self.old.last }
         ensures last { self.new.last.items ≡ self.old.last.items ++ 0 ∷ [] }
         ensures before { self.new.before.items ≡ self.old.before.items }
+        ensures read { self.new.read.words.items ≡ self.old.read.words.items }
     {
         self.last.push_reserved(0);
     }
@@ -59,6 +65,9 @@ impl LatchReaders {
         ensures lists { (raw : Raw) → AreLatchReaders raw self.now → variable ≤ raw.max_var
             → Lists (λ i. TakesNextFrom raw i variable) list.old list.new }
     {
+        if !self.read.contains(variable as usize) {
+            return;
+        }
         let mut latch = self.last[variable as usize];
         while latch != 0 {
             list.add(latch);

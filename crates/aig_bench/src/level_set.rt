@@ -27,13 +27,13 @@ fn first_place(word: u64, from: usize) -> Option<usize>
 
 /// Numbers by bits, 64 a word.
 #[derive(Drop, Debug)]
-struct BitSet {
+pub struct BitSet {
     words: Vec<u64>,
 }
 
 impl BitSet {
     /// No numbers, with room for those below `size`, in the fewest words.
-    fn new(alloc: Global, size: usize) -> Result<BitSet, Memory>
+    pub fn new(alloc: Global, size: usize) -> Result<BitSet, Memory>
         requires { size ≤ limit + 1 }
         ensures words { IfOk result (λ b. length b.words.items ≡ (size + 63) / 64) }
         ensures empty { IfOk result (λ b. (n : ℕ) → slice_index b.words.items n ≡ 0) }
@@ -58,8 +58,16 @@ impl BitSet {
         Ok(())
     }
 
+    /// Whether a number is there.
+    pub fn contains(&self, number: usize) -> bool
+        ensures { IsTrue result ↔ HasBit self.now.words.items number }
+    {
+        let word = number / BITS;
+        word < self.words.len() && self.words[word] >> (number % BITS) & 1 == 1
+    }
+
     /// Adds a number.
-    fn insert(&mut self, number: usize)
+    pub fn insert(&mut self, number: usize)
         requires { number / 64 < length self.old.words.items }
         ensures words { length self.new.words.items ≡ length self.old.words.items }
         ensures bits { (n : ℕ) → HasBit self.new.words.items n ↔ (HasBit self.old.words.items n ⊎ (n ≡ number)) }

@@ -26,6 +26,7 @@ mod sizes;
 mod sweep_order;
 mod trace;
 mod value;
+mod waiting;
 
 pub use bench::Bench;
 pub use bench_fault::BenchFault;

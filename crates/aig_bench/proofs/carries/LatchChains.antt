@@ -1,5 +1,5 @@
 -- The chains of latches that read a variable: how they are made, and how they are gone through.
-use Rattle.std.proofs.Common.{◌≡◌, ◌≢◌, ◌⊎◌, inl, inr, ℕ, zero, suc, ◌+◌, ◌<◌, ◌≤◌, List, [], ◌∷◌, ◌++◌, length, replicate, set, get_or, map, option_map, Some, slice_get, refl, sym, ap, ◌∙◌, subst, arith, length-append}
+use Rattle.std.proofs.Common.{◌≡◌, ◌≢◌, ◌⊎◌, ◌↔◌, inl, inr, ℕ, zero, suc, ◌+◌, ◌<◌, ◌≤◌, List, [], ◌∷◌, ◌++◌, length, replicate, set, get_or, map, option_map, Some, slice_get, refl, sym, ap, ◌∙◌, subst, arith, length-append}
 use Rattle.std.proofs.lemmas.Bool.{cases_eq}
 use Rattle.std.proofs.lemmas.List.{length-map, length-set, length-replicate}
 use Rattle.std.proofs.lemmas.Option.{same_Some, slice_get-get_or, slice_get-map, slice_get_within}
@@ -10,7 +10,8 @@ use Rattle.aig_parts.specs.declared.ternary.Tern.{Tern}
 use Rattle.aig_parts.specs.Literal.{variable}
 use Rattle.aig_bench.specs.declared.latch_list.LatchList.{LatchList}
 use Rattle.aig_bench.specs.declared.latch_readers.LatchReaders.{LatchReaders}
-use Rattle.aig_bench.specs.state.Latches.{TakesNextFrom, IsLast, AreLatchReaders, Lists}
+use Rattle.aig_parts.specs.state.Bits.{HasBit}
+use Rattle.aig_bench.specs.state.Latches.{TakesNextFrom, HaveBits, IsLast, AreLatchReaders, Lists}
 use Rattle.aig_bench.proofs.cells.CellLemmas.{get_set_same, get_set_other}
 
 -- the chains of the first n latches
@@ -25,6 +26,18 @@ zero_only : (n v i : ℕ) → slice_get (replicate n 0) v ≡ Some i → i ≡ 0
 zero_only zero v i at = absurd (cc)
 zero_only (suc n) zero i at = sym (same_Some 0 i at)
 zero_only (suc n) (suc v) i at = zero_only n v i at
+
+-- at first there is no last latch
+pub bits_none : (n : ℕ) (last words : List ℕ) → last ≡ replicate n 0 → HaveBits last words
+bits_none n last words e v i at some = absurd (some (zero_only n v i (ap (λ (xs : List ℕ). slice_get xs v) (sym e) ∙ at)))
+
+-- one more variable has a last latch, and its bit
+pub bits_more : (last words words' : List ℕ) (v k : ℕ) → HaveBits last words
+    → ((n : ℕ) → HasBit words' n ↔ (HasBit words n ⊎ (n ≡ v))) → HaveBits (set last v k) words'
+bits_more last words words' v k h bits u i at some = elim (cases_eq u v) [
+  | inl e ↦ (bits u).1 (inr e)
+  | inr ne ↦ (bits u).1 (inl (h u i (sym (get_set_other last v u k ne) ∙ at) some))
+]
 
 at_end : (xs : List ℕ) (b k i : ℕ) → slice_get (xs ++ b ∷ []) k ≡ Some i → (slice_get xs k ≡ Some i) ⊎ ((k ≡ length xs) × (i ≡ b))
 at_end [] b zero i at = inr (refl, sym (same_Some b i at))
@@ -96,12 +109,14 @@ module _ (raw : Raw) where
     }
 
   pub chains_all : (n : ℕ) (readers : LatchReaders) → length raw.latches ≡ n
-      → AreChainsSoFar raw n readers.last.items readers.before.items → AreLatchReaders raw readers
-  chains_all n readers e h = record {
+      → AreChainsSoFar raw n readers.last.items readers.before.items
+      → HaveBits readers.last.items readers.read.words.items → AreLatchReaders raw readers
+  chains_all n readers e h bits = record {
     variables = h.variables;
     latches = h.latches ∙ ap (λ k. k + 1) (sym e);
     last = λ v i at. rw e (h.ends v i at);
     before = h.steps;
+    read = bits;
   }
 
 -- the latches over this one that follow the variable were added
@@ -127,6 +142,23 @@ module _ (raw : Raw) (readers : LatchReaders) (are : AreLatchReaders raw readers
           ],
         );
       }
+
+  -- a variable without a bit has no latch
+  pub listing_unread : (i : ℕ) (list : LatchList) → slice_get readers.last.items v ≡ Some i
+      → (HasBit readers.read.words.items v → ⊥) → Lists (λ j. TakesNextFrom raw j v) list list
+  listing_unread i list at unread = λ j. (
+    λ m. inl m,
+    λ m. elim m [
+      | inl o ↦ o
+      | inr f ↦
+          let (p, x, is, there, reads) = f in
+          let lt : p < length raw.latches = slice_get_within raw.latches p x there in
+          elim (cases_eq i 0) [
+            | inl z ↦ absurd ((are.last v i at).none_over j (omega arith) (omega arith) f)
+            | inr some ↦ absurd (unread (are.read v i at some))
+          ]
+    ],
+  )
 
   module _ (i k : ℕ) (start old : LatchList) (h : AreListedOver raw v i start old) (some : i ≢ 0)
       (at : slice_get readers.before.items i ≡ Some k) where
@@ -193,6 +225,7 @@ readers_same raw new readers h variables size was now = record {
   before = λ p i x at is.
       let (y, there, next) = was p x at in
       subst (λ (n : ℕ). IsLast new (variable n) p i) next (last_same (variable y.next) p i (h.before p i y there is));
+  read = h.read;
 }
   where
     follows_now : (i v : ℕ) → TakesNextFrom raw i v → TakesNextFrom new i v

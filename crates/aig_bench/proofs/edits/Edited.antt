@@ -74,9 +74,11 @@ buckets_empty levels levels' b h size empty = record {
   chained = record {
     marks_size = h.chained.marks_size ∙ sym size;
     next_size = h.chained.next_size ∙ sym size;
-    chains = λ l lt. empty_chain levels levels' b.head.items b.next.items b.marks.items l (h.chained.chains l lt) empty;
+    chains = λ l lt. empty_chain levels levels' b.head.items b.marks.next b.marks.items l (h.chained.chains l lt) empty;
     placed = λ v m. absurd (empty v m);
   };
+  sizes = h.sizes;
+  few = h.few;
   room = h.room;
   occupied = h.occupied;
 }

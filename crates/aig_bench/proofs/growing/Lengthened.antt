@@ -17,6 +17,7 @@ use Rattle.aig_parts.specs.Formed.{limit}
 use Rattle.aig_parts.specs.state.Bits.{HasBit}
 use Rattle.aig_parts.proofs.BitLemmas.{same_bits}
 use Rattle.aig_bench.specs.state.LevelSet.{IsLevelSet}
+use Rattle.aig_bench.specs.state.Waiting.{idle}
 use Rattle.aig_bench.proofs.queues.Chained.{head_in}
 
 module _ (words filled : List ℕ) (level : ℕ) (i : IsLevelSet words filled) (low : level ≤ limit) where
@@ -70,17 +71,18 @@ module _ (levels : List ℕ) (b : Buckets) (h : AreBuckets levels b) (empty : (v
       or : (m n : ℕ) → (m < n) ⊎ (n ≤ m)
       or m n = grind arith
 
-      of : (l : ℕ) (chain : List ℕ) → IsBucketChain b.next.items (get_or b.head.items l 0) chain
+      of : (l : ℕ) (chain : List ℕ) → IsBucketChain b.marks.next (get_or b.head.items l 0) chain
           → ((v : ℕ) → Contains chain v → ⊥)
           → get_or b.head.items l 0 ≡ 0
       of l [] leads none = leads
       of l (x ∷ xs) leads none = absurd (none x (head_in x xs))
 
   pub buckets_longer : (more : List ℕ) (new : Buckets) → length more ≡ length levels + 1
-      → length b.head.items < 64 * length b.occupied → new.head.items ≡ b.head.items ++ 0 ∷ []
-      → new.next.items ≡ b.next.items ++ 0 ∷ [] → new.marks.items ≡ b.marks.items ++ false ∷ []
+      → length b.head.items < 64 * length b.occupied → length b.head.items ≤ limit
+      → new.head.items ≡ b.head.items ++ 0 ∷ []
+      → new.marks.next ≡ b.marks.next ++ idle ∷ [] → new.marks.items ≡ b.marks.items ++ false ∷ []
       → new.occupied ≡ b.occupied → AreBuckets more new
-  buckets_longer more new size room eh en em eo =
+  buckets_longer more new size room few eh en em eo =
       let zero_now : (l : ℕ) → get_or new.head.items l 0 ≡ 0 =
       λ l. ap (λ (xs : List ℕ). get_or xs l 0) eh ∙ get_or_pushed b.head.items l ∙ head_zero l in
       let none = unmarked_pushed b.marks.items new.marks.items em empty in
@@ -89,7 +91,7 @@ module _ (levels : List ℕ) (b : Buckets) (h : AreBuckets levels b) (empty : (v
         chained = record {
           marks_size = ap length em ∙ length-append b.marks.items (false ∷ [])
               ∙ ap (λ n. n + 1) h.chained.marks_size ∙ sym size;
-          next_size = ap length en ∙ length-append b.next.items (0 ∷ [])
+          next_size = ap length en ∙ length-append b.marks.next (idle ∷ [])
               ∙ ap (λ n. n + 1) h.chained.next_size ∙ sym size;
           chains = λ l lt. record {
             chain = [];
@@ -98,6 +100,8 @@ module _ (levels : List ℕ) (b : Buckets) (h : AreBuckets levels b) (empty : (v
           };
           placed = λ v m. absurd (none v m);
         };
+        sizes = omega (arith, h.sizes, ap length eh, ap length en, longer, length-append b.marks.next (idle ∷ []));
+        few = omega (arith, ap length eh, longer);
         room = omega (arith, ap length eh, ap length eo);
         occupied = λ l. (
           λ has. absurd ((h.occupied l).0 (subst (λ (ws : List ℕ). HasBit ws l) eo has) (head_zero l)),
@@ -107,12 +111,14 @@ module _ (levels : List ℕ) (b : Buckets) (h : AreBuckets levels b) (empty : (v
 
 -- room is no reader
 pub readers_roomy : (raw : Raw) (old new : LatchReaders) → AreLatchReaders raw old → new.last.items ≡ old.last.items
-    → new.before.items ≡ old.before.items → AreLatchReaders raw new
-readers_roomy raw old new h e f = record {
+    → new.before.items ≡ old.before.items → new.read.words.items ≡ old.read.words.items → AreLatchReaders raw new
+readers_roomy raw old new h e f b = record {
   variables = ap length e ∙ h.variables;
   latches = ap length f ∙ h.latches;
   last = λ v i at. h.last v i (ap (λ (xs : List ℕ). slice_get xs v) (sym e) ∙ at);
   before = λ p i x at is. h.before p i x at (ap (λ (xs : List ℕ). slice_get xs (suc p)) (sym f) ∙ is);
+  read = λ v i at some. subst (λ (ws : List ℕ). HasBit ws v) (sym b)
+      (h.read v i (ap (λ (xs : List ℕ). slice_get xs v) (sym e) ∙ at) some);
 }
 
 -- no latch reads the variable of a new gate
@@ -124,8 +130,9 @@ module _ (raw : Raw) (r0 r1 : ℕ) (sound : IsSound raw) where
   none_new i (p, x, is, at, e) = let le = next_in_range raw sound p x at in absurd (omega arith)
 
   pub readers_longer : (old new : LatchReaders) → AreLatchReaders raw old → new.last.items ≡ old.last.items ++ 0 ∷ []
-      → new.before.items ≡ old.before.items → AreLatchReaders (with_appended_gate raw r0 r1) new
-  readers_longer old new h e f = record {
+      → new.before.items ≡ old.before.items → new.read.words.items ≡ old.read.words.items
+      → AreLatchReaders (with_appended_gate raw r0 r1) new
+  readers_longer old new h e f b = record {
     variables = ap length e ∙ length-append old.last.items (0 ∷ []) ∙ ap (λ n. n + 1) h.variables;
     latches = ap length f ∙ h.latches;
     last = λ v i at. elim (slice_get_push old.last.items 0 i v (ap (λ (xs : List ℕ). slice_get xs v) (sym e) ∙ at)) [
@@ -138,4 +145,8 @@ module _ (raw : Raw) (r0 r1 : ℕ) (sound : IsSound raw) where
     ];
     before = λ p i x at is.
         last_still (variable x.next) p i (h.before p i x at (ap (λ (xs : List ℕ). slice_get xs (suc p)) (sym f) ∙ is));
+    read = λ v i at some. elim (slice_get_push old.last.items 0 i v (ap (λ (xs : List ℕ). slice_get xs v) (sym e) ∙ at)) [
+      | inl here ↦ subst (λ (ws : List ℕ). HasBit ws v) (sym b) (h.read v i here some)
+      | inr k ↦ absurd (some (sym k.1))
+    ];
   }

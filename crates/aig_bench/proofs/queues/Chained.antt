@@ -265,22 +265,51 @@ module _ (levels head next : List ℕ) (marks : List Bool) (h : AreChained level
               (n, at, (let size = length-set head l second in omega arith));
         }
 
--- nothing waits
-module _ (size : ℕ) (head next : List ℕ) (marks : List Bool) (none : marks ≡ replicate size false) where
-  pub none_marked : (v : ℕ) → IsMarked marks v → ⊥
-  none_marked v m = none_true size v (subst (λ xs. IsMarked xs v) none m)
+-- where a variable does not wait, another next one of it changes nothing
+pub next_freed : (levels head next : List ℕ) (marks : List Bool) → AreChained levels head next marks → (v y : ℕ)
+    → (IsMarked marks v → ⊥) → AreChained levels head (set next v y) marks
+next_freed levels head next marks h v y unmarked = record {
+  marks_size = h.marks_size;
+  next_size = length-set next v y ∙ h.next_size;
+  chains = λ l lt.
+      let c = h.chains l lt in
+      record {
+        chain = c.chain;
+        leads = chain_kept next v y (get_or head l 0) c.chain
+            (out_of_chain levels head next marks h v l unmarked c) c.leads;
+        each = c.each;
+      };
+  placed = h.placed;
+}
 
-  pub chained_none : head ≡ replicate size 0 → next ≡ replicate size 0 → (levels : List ℕ) → length levels ≡ size
-      → AreChained levels head next marks
-  chained_none eh en levels is = record {
-    marks_size = ap length none ∙ length-replicate size false ∙ sym is;
-    next_size = ap length en ∙ length-replicate size 0 ∙ sym is;
+-- the first variable of a chain is within the list, or there is none
+pub first_within : (levels head next : List ℕ) (marks : List Bool) → AreChained levels head next marks → (l : ℕ)
+    → l < length head → (get_or head l 0 ≡ 0) ⊎ (get_or head l 0 < length next)
+first_within levels head next marks h l lt = of (h.chains l lt).chain (h.chains l lt).leads
+  where
+    of : (chain : List ℕ) → IsBucketChain next (get_or head l 0) chain
+        → (get_or head l 0 ≡ 0) ⊎ (get_or head l 0 < length next)
+    of [] leads = inl leads
+    of (x ∷ xs) leads = inr (omega (arith, leads.0, leads.2))
+
+-- nothing is marked
+pub none_marked : (size : ℕ) (head next : List ℕ) (marks : List Bool) → marks ≡ replicate size false → (v : ℕ)
+    → IsMarked marks v → ⊥
+none_marked size head next marks none v m = none_true size v (subst (λ xs. IsMarked xs v) none m)
+
+-- nothing waits
+module _ (size : ℕ) (head next : List ℕ) (marks : List Bool) (none : (v : ℕ) → IsMarked marks v → ⊥) where
+  pub chained_none : head ≡ replicate size 0 → length next ≡ size → length marks ≡ size → (levels : List ℕ)
+      → length levels ≡ size → AreChained levels head next marks
+  chained_none eh next_size marks_size levels is = record {
+    marks_size = marks_size ∙ sym is;
+    next_size = next_size ∙ sym is;
     chains = λ l lt. record {
       chain = [];
       leads = first_zero l lt;
-      each = λ v. (λ i. absurd (no_element v i), λ k. absurd (none_marked v k.0));
+      each = λ v. (λ i. absurd (no_element v i), λ k. absurd (none v k.0));
     };
-    placed = λ v m. absurd (none_marked v m);
+    placed = λ v m. absurd (none v m);
   }
     where
       first_zero : (l : ℕ) → l < length head → get_or head l 0 ≡ 0

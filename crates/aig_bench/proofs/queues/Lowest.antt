@@ -20,7 +20,7 @@ module _ (levels : List ℕ) (b : Buckets) (from : ℕ) (h : AreBuckets levels b
   clear_to end inside none u l k at le below =
       let lt : l < length b.head.items = omega arith in
       let e = none_first l (none l le below) in
-      none_of_level levels b.head.items b.next.items b.marks.items h.chained l lt (get_or b.head.items l 0)
+      none_of_level levels b.head.items b.marks.next b.marks.items h.chained l lt (get_or b.head.items l 0)
       (sym (get_or_default_zero b.head.items l (get_or b.head.items l 0) lt)) e u k at
 
 -- no level is in the set, and no chain has a variable

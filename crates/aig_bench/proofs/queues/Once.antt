@@ -1,5 +1,5 @@
 -- In a list where no element stands twice each stands once.
-use Rattle.std.proofs.Common.{ℕ, zero, suc, List, [], ◌∷◌, refl, arith}
+use Rattle.std.proofs.Common.{ℕ, suc, List, [], ◌∷◌, refl, arith}
 use Rattle.aig_base.specs.Sound.{StandsTwice}
 use Rattle.aig_base.proofs.lists.Positions.{position_of}
 use Rattle.aig_bench.specs.Touched.{IsOnce}

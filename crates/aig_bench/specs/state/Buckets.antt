@@ -1,7 +1,8 @@
 -- Gates that wait, in a chain for each level (our own choice).
-use Rattle.std.specs.Prelude.{◌≡◌, ◌≢◌, ◌⊎◌, ◌↔◌, ℕ, ◌*◌, ◌<◌, ◌≤◌, Bool, List, [], ◌∷◌, length, slice_get, slice_index, Contains, Option, Some, None, IfSome, IfNone}
+use Rattle.std.specs.Prelude.{◌≡◌, ◌≢◌, ◌⊎◌, ◌↔◌, ℕ, ◌+◌, ◌*◌, ◌<◌, ◌≤◌, Bool, IsTrue, List, [], ◌∷◌, length, slice_get, slice_index, Contains, Option, Some, None, IfSome, IfNone}
 use Rattle.std.specs.Vec.{vec_capacity}
 use Rattle.aig_base.specs.state.Marks.{IsMarked}
+use Rattle.aig_parts.specs.Formed.{limit}
 use Rattle.aig_parts.specs.state.Bits.{HasBit}
 use Rattle.aig_bench.specs.declared.buckets.Buckets.{Buckets}
 
@@ -28,15 +29,17 @@ abbrev pub IsOccupied : List ℕ → List ℕ → Type 0
 IsOccupied head occupied = (l : ℕ) → HasBit occupied l ↔ (slice_index head l ≢ 0)
 
 pub record AreBuckets (levels : List ℕ) (b : Buckets) : Type 0 where
-  pub chained : AreChained levels b.head.items b.next.items b.marks.items
+  pub chained : AreChained levels b.head.items b.marks.next b.marks.items
+  pub sizes : length b.marks.next ≡ length b.head.items
+  pub few : length b.head.items ≤ limit + 1
   pub room : length b.head.items ≤ 64 * length b.occupied
   pub occupied : IsOccupied b.head.items b.occupied
 
 -- one more variable, and a chain for one more level, fit without memory
 pub record FitsOneVariable (b : Buckets) : Type 0 where
   pub head : length b.head.items < vec_capacity b.head
-  pub next : length b.next.items < vec_capacity b.next
-  pub marks : length b.marks.items < vec_capacity b.marks
+  pub marks : IsTrue b.marks.room
+  pub few : length b.head.items ≤ limit
   pub occupied : length b.head.items < 64 * length b.occupied
 
 -- the variable waits

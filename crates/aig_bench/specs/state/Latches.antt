@@ -5,6 +5,7 @@ use Rattle.aig_parts.specs.declared.raw.Raw.{Raw}
 use Rattle.aig_parts.specs.declared.ternary.Tern.{Tern}
 use Rattle.aig_parts.specs.Literal.{variable}
 use Rattle.aig_base.specs.state.Marks.{IsMarked}
+use Rattle.aig_parts.specs.state.Bits.{HasBit}
 use Rattle.aig_bench.specs.declared.latch_list.LatchList.{LatchList}
 use Rattle.aig_bench.specs.declared.latch_readers.LatchReaders.{LatchReaders}
 use Rattle.aig_bench.specs.state.Buckets.{AreChained}
@@ -19,6 +20,10 @@ pub record IsLast (raw : Raw) (v n i : ℕ) : Type 0 where
   pub follows : i ≢ 0 → TakesNextFrom raw i v
   pub none_over : (j : ℕ) → i < j → j ≤ n → TakesNextFrom raw j v → ⊥
 
+-- a variable that has a last latch has its bit
+abbrev pub HaveBits : List ℕ → List ℕ → Type 0
+HaveBits last words = (v i : ℕ) → slice_get last v ≡ Some i → i ≢ 0 → HasBit words v
+
 -- for each variable the last latch that follows it, and for each latch the one before it that follows the same variable
 pub record AreLatchReaders (raw : Raw) (readers : LatchReaders) : Type 0 where
   pub variables : length readers.last.items ≡ raw.max_var + 1
@@ -26,6 +31,7 @@ pub record AreLatchReaders (raw : Raw) (readers : LatchReaders) : Type 0 where
   pub last : (v i : ℕ) → slice_get readers.last.items v ≡ Some i → IsLast raw v (length raw.latches) i
   pub before : (p i : ℕ) (x : Latch) → slice_get raw.latches p ≡ Some x → slice_get readers.before.items (suc p) ≡ Some i
       → IsLast raw (variable x.next) p i
+  pub read : HaveBits readers.last.items readers.read.words.items
 
 -- a list of some of n latches: what is marked stands in one chain
 pub record IsLatchList (n : ℕ) (list : LatchList) : Type 0 where

@@ -1,5 +1,3 @@
-use Rattle.std.proofs.Common.{sym, subst}
-use Rattle.aig_values.specs.Cells.{HasCells}
 use Rattle.aig_bench.proofs.new_gate.evaluate_new.Goals as goal
 
 pub evaluate-requires-clause-gate : goal.evaluate-requires-clause-gate

@@ -116,7 +116,7 @@ invariant_of-engine-2 g c =
     more.frames more.rows c.append_gate.new.circuit _ _ _ _ _ e levels c.in_ok-append_gate.ensures.readers
     (readers_longer raw c.args.r0 c.args.r1 r.working.bench.driven_is.circuit.sound _ c.add_variable.new.self
     r.lists.readers
-    c.add_variable.ensures.last c.add_variable.ensures.before)
+    c.add_variable.ensures.last c.add_variable.ensures.before c.add_variable.ensures.read)
     (c.add_variable-2.ensures.buckets _ _ r.working.work.buckets
     (levels.size ∙ ap (λ n. n + 1) (sym r.working.work.levels.size)))
     c.add_variable-2.ensures.empty c.add_variable-2.ensures.heads (more.flags ∙ c.add_gate.ensures.gates) in
@@ -145,7 +145,7 @@ invariant_of-self-2 g c =
     more.frames more.rows c.append_gate.new.circuit _ _ _ _ _ e levels c.in_ok-append_gate.ensures.readers
     (readers_longer raw c.args.r0 c.args.r1 r.working.bench.driven_is.circuit.sound _ c.add_variable.new.self
     r.lists.readers
-    c.add_variable.ensures.last c.add_variable.ensures.before)
+    c.add_variable.ensures.last c.add_variable.ensures.before c.add_variable.ensures.read)
     (c.add_variable-2.ensures.buckets _ _ r.working.work.buckets
     (levels.size ∙ ap (λ n. n + 1) (sym r.working.work.levels.size)))
     c.add_variable-2.ensures.empty c.add_variable-2.ensures.heads (more.flags ∙ c.add_gate.ensures.gates) in

@@ -4,8 +4,8 @@ use Rattle.aig_bench.proofs.buckets.Buckets.add_variable.Goals as goal
 
 pub returns-clause-buckets : goal.returns-clause-buckets
 returns-clause-buckets c levels more h size =
-    buckets_longer levels c.args.self.now h c.requires.empty more _ size c.requires.room.occupied
-    c.push_reserved.ensures.items c.push_reserved-2.ensures.items c.push_reserved-3.ensures.items refl
+    buckets_longer levels c.args.self.now h c.requires.empty more _ size c.requires.room.occupied c.requires.room.few
+    c.push_reserved.ensures.items c.push.ensures.next c.push.ensures.marks refl
 
 pub returns-clause-empty : goal.returns-clause-empty
-returns-clause-empty c = unmarked_pushed c.args.self.now.marks.items _ c.push_reserved-3.ensures.items c.requires.empty
+returns-clause-empty c = unmarked_pushed c.args.self.now.marks.items _ c.push.ensures.marks c.requires.empty

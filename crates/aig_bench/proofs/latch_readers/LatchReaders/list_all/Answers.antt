@@ -1,6 +1,15 @@
-use Rattle.std.proofs.Common.{arith}
-use Rattle.aig_bench.proofs.carries.LatchChains.{listing_none, before_less, listing_more, read_at}
+use Rattle.std.proofs.Common.{ℕ, List, get_or, arith}
+use Rattle.std.proofs.lemmas.Bool.{false≢true}
+use Rattle.std.proofs.lemmas.Option.{slice_get-get_or}
+use Rattle.aig_bench.proofs.carries.LatchChains.{listing_none, listing_unread, before_less, listing_more, read_at}
 use Rattle.aig_bench.proofs.latch_readers.LatchReaders.list_all.Goals as goal
+
+pub returns-then-not-contains-clause-lists : goal.returns-then-not-contains-clause-lists
+returns-then-not-contains-clause-lists c = λ raw are le.
+    let last : List ℕ = c.args.self.now.last.items in
+    listing_unread raw c.args.self.now are c.args.variable (get_or last c.args.variable 0) c.args.list.now
+    (slice_get-get_or last c.args.variable 0 (omega (arith, are.variables)))
+    (λ has. false≢true (c.if-not-contains.ensures.1 has))
 
 pub loop-latch-init : goal.loop-latch-init
 loop-latch-init c = record {

@@ -1,4 +1,4 @@
-use Rattle.std.proofs.Common.{ℕ, List, ◌↔◌, sym, subst}
+use Rattle.std.proofs.Common.{ℕ, List, ◌↔◌, subst}
 use Rattle.aig_parts.specs.state.Bits.{HasBit}
 use Rattle.aig_parts.proofs.BitLemmas.{same_bits}
 use Rattle.aig_bench.proofs.growing.Lengthened.{filled_longer, words_longer}

@@ -1,0 +1,42 @@
+-- Which variables wait, by the next one of each.
+use Rattle.std.proofs.Common.{◌≡◌, ◌≢◌, ℕ, zero, suc, ◌<◌, List, [], ◌∷◌, ◌++◌, Bool, true, false, length}
+use Rattle.std.proofs.Common.{get_or, set, replicate, Some, slice_get, refl, sym, ap, ◌∙◌, subst, arith}
+use Rattle.std.proofs.lemmas.Bool.Decides.{nat_tests}
+use Rattle.std.proofs.lemmas.List.{length-map, get_or-map, map-set}
+use Rattle.aig_base.specs.state.Marks.{IsMarked}
+use Rattle.aig_bench.specs.state.Waiting.{idle, is_waiting, marks_of}
+
+pub length_marks : (next : List ℕ) → length (marks_of next) ≡ length next
+length_marks next = length-map next is_waiting
+
+not_idle : (n : ℕ) → n ≢ idle → is_waiting n ≡ true
+not_idle n ne = grind (arith, nat_tests)
+
+-- nothing waits at first
+none_of : (n v : ℕ) → slice_get (marks_of (replicate n idle)) v ≡ Some true → ⊥
+none_of zero v e = absurd (cc)
+none_of (suc n) zero e = absurd (cc)
+none_of (suc n) (suc v) e = none_of n v e
+
+pub none_waits : (n : ℕ) (next : List ℕ) → next ≡ replicate n idle → (v : ℕ) → IsMarked (marks_of next) v → ⊥
+none_waits n next is v m = none_of n v (subst (λ (xs : List ℕ). IsMarked (marks_of xs) v) is m)
+
+-- one more variable does not wait
+pub marks_pushed : (next : List ℕ) → marks_of (next ++ idle ∷ []) ≡ marks_of next ++ false ∷ []
+marks_pushed [] = refl
+marks_pushed (n ∷ next) = ap (λ (ms : List Bool). is_waiting n ∷ ms) (marks_pushed next)
+
+-- whether a variable waits
+pub waits_read : (next : List ℕ) (v n : ℕ) (b : Bool) → v < length next → n ≡ get_or next v n → b ≡ is_waiting n
+    → b ≡ get_or (marks_of next) v b
+waits_read next v n b lt is e =
+    e ∙ ap is_waiting is ∙ sym (get_or-map is_waiting next v n b lt)
+
+-- a variable begins to wait, or waits no more
+pub marks_entered : (next : List ℕ) (v second : ℕ) → second ≢ idle
+    → marks_of (set next v second) ≡ set (marks_of next) v true
+marks_entered next v second ne =
+    map-set is_waiting next v second ∙ ap (λ b. set (marks_of next) v b) (not_idle second ne)
+
+pub marks_left : (next : List ℕ) (v : ℕ) → marks_of (set next v idle) ≡ set (marks_of next) v false
+marks_left next v = map-set is_waiting next v idle
