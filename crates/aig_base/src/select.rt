@@ -314,8 +314,8 @@ impl Circuit {
     /// others: justice and fairness too (our own choice). Where none is named, all of the section are kept. They are in
     /// the order in which they are named, in the section `into`; a property that is named twice is there twice. A kept
     /// property keeps its name at each of its new positions. Inputs, latches, constraints, gates and the comment stay,
-    /// and symbols stay in their order. The circuit stays as it is where this fails. Linear in the properties, the names
-    /// and the positions.
+    /// and symbols stay in their order. The circuit stays as it is where this fails. Linear in the properties, the
+    /// names and the positions.
     pub fn select(
         &mut self,
         alloc: Global,

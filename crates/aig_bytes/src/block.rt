@@ -181,8 +181,8 @@ impl<const ROOM: usize> ByteBlock<ROOM> {
         true
     }
 
-    /// Puts in a line of three terms and a 0 after those that wait, where there is room for the longest such line there,
-    /// and answers whether there was. Where there was none nothing changes.
+    /// Puts in a line of three terms and a 0 after those that wait, where there is room for the longest such line
+    /// there, and answers whether there was. Where there was none nothing changes.
     #[inline(always)]
     pub fn push_triple(&mut self, first: &Term, second: &Term, third: &Term) -> bool
         ensures pushed { IsTrue result → self.new

@@ -45,8 +45,8 @@ pub trait Write {
         ensures taken { written self.new ≡ after (written self.old) (moved result bytes.now) }
         ensures count { failures self.new ≡ failures self.old + failed result };
 
-    /// Passes on all bytes that are held back, and then flushes the writer below. It writes no byte of its own. A writer
-    /// that holds nothing back and has none below has nothing to do.
+    /// Passes on all bytes that are held back, and then flushes the writer below. It writes no byte of its own. A
+    /// writer that holds nothing back and has none below has nothing to do.
     fn flush(&mut self) -> Result<(), Failed>
         ensures kept { written self.new ≡ written self.old }
         ensures flushed { OnOk result (is_flushed self.new) }

@@ -21,8 +21,8 @@ fn pairs(number: u32) -> u64
     hundreds + 0x1_0000 * (fours - 100 * hundreds)
 }
 
-/// The digits of a number below 10^8 with zeros before them, eight in all. They are found side by side in one word, as the pairs
-/// are: 103 / 2^10 is a little more than a tenth.
+/// The digits of a number below 10^8 with zeros before them, eight in all. They are found side by side in one word, as
+/// the pairs are: 103 / 2^10 is a little more than a tenth.
 #[inline(always)]
 pub(crate) fn eight_digits(number: u32) -> [u8; 8]
     requires { number < 10 ^ 8 }
@@ -68,8 +68,8 @@ pub(crate) fn scale(number: u32) -> (u32, usize)
     }
 }
 
-/// Writes the digits of a number below 10^8 at a place and the byte that ends it, and returns the place after them. Some
-/// bytes after that may change.
+/// Writes the digits of a number below 10^8 at a place and the byte that ends it, and returns the place after them.
+/// Some bytes after that may change.
 #[inline(always)]
 pub(crate) fn write_short(bytes: &mut [u8], at: usize, number: u32, end: u8) -> usize
     requires small { number < 10 ^ 8 }

@@ -51,8 +51,8 @@ impl Term {
         }
     }
 
-    /// Writes a minus where the number is negative, its digits and a space at a place, and returns the place after them.
-    /// Some bytes after that may change.
+    /// Writes a minus where the number is negative, its digits and a space at a place, and returns the place after
+    /// them. Some bytes after that may change.
     #[inline(always)]
     pub(crate) fn write(&self, bytes: &mut [u8], at: usize) -> usize
         requires room { at + 9 < length bytes.old }

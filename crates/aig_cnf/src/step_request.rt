@@ -9,9 +9,9 @@ use std::alloc::Global;
 /// The greatest number of frames that a circuit is unrolled for.
 const FRAMES: u32 = 65_536;
 
-/// Unrolls a circuit that starts in any state for one frame more than this many, for the formula of the induction step of
-/// the bad state property at this position (`write_step_formula`). It refuses what `unroll_for_formula` refuses, in the
-/// same order.
+/// Unrolls a circuit that starts in any state for one frame more than this many, for the formula of the induction step
+/// of the bad state property at this position (`write_step_formula`). It refuses what `unroll_for_formula` refuses, in
+/// the same order.
 pub fn unroll_for_step(
     alloc: Global,
     circuit: &Circuit,

@@ -62,8 +62,8 @@ fn read_and_write<W: Write>(
 }
 
 /// The command `cnf`: reads a circuit and writes the formula that the bad state property at this position is reached
-/// within this many frames, in DIMACS, with comment lines that say what its variables are. Some assignment satisfies
-/// it exactly where there is a confirmed witness of at most so many frames (`law_of_formula` of `aig_laws`). Justice and
+/// within this many frames, in DIMACS, with comment lines that say what its variables are. Some assignment satisfies it
+/// exactly where there is a confirmed witness of at most so many frames (`law_of_formula` of `aig_laws`). Justice and
 /// fairness are ignored. Where the file is refused, or there is no such formula, nothing is written. It flushes the
 /// writer before it answers.
 pub fn cnf<W: Write>(

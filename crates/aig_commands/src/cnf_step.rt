@@ -66,9 +66,9 @@ fn read_and_write<W: Write>(
 
 /// The command `cnf --step`: reads a circuit and writes the formula of the induction step of so many frames for the bad
 /// state property at this position, in DIMACS, with comment lines that say what its variables are: from any state, the
-/// property is reached at the frame after these and at none of them. Where neither this formula nor the one of `cnf` has a
-/// satisfying assignment, no run of any length reaches the property (`law_of_induction` of `aig_unreachable`). Where the
-/// file is refused, or there is no such formula, nothing is written. It flushes the writer before it answers.
+/// property is reached at the frame after these and at none of them. Where neither this formula nor the one of `cnf`
+/// has a satisfying assignment, no run of any length reaches the property (`law_of_induction` of `aig_unreachable`).
+/// Where the file is refused, or there is no such formula, nothing is written. It flushes the writer before it answers.
 pub fn cnf_step<W: Write>(
     alloc: Global,
     file: &[u8],

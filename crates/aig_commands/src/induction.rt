@@ -152,11 +152,11 @@ fn read_and_check<R: Read, W: Write>(
     check_and_write(alloc, &mut circuit, frames, property, proof, step, out)
 }
 
-/// The command `refute --step`: reads a circuit and checks two proofs of a solver, first that no assignment satisfies the
-/// formula that `cnf` writes for the bad state property at this position and this many frames, then that none satisfies the
-/// one of `cnf --step`. Where they are, no run of any length from a start that the resets allow reaches the property,
-/// whatever values are unknown, and one line says so. Neither proof is read before it is known that there are both
-/// formulas. It flushes the writer before it answers.
+/// The command `refute --step`: reads a circuit and checks two proofs of a solver, first that no assignment satisfies
+/// the formula that `cnf` writes for the bad state property at this position and this many frames, then that none
+/// satisfies the one of `cnf --step`. Where they are, no run of any length from a start that the resets allow reaches
+/// the property, whatever values are unknown, and one line says so. Neither proof is read before it is known that there
+/// are both formulas. It flushes the writer before it answers.
 pub fn refute_step<R: Read, W: Write>(
     alloc: Global,
     file: &[u8],

@@ -218,10 +218,10 @@ fn read_and_list<W: Write>(alloc: Global, file: &[u8], out: &mut W) -> Result<()
 
 /// The command `info`: reads a circuit and writes what it is, a line for each fact, `name value`. The facts are its
 /// format and the counts of its parts, the bad state properties that are constants, the latches that start at no known
-/// value and those that start at 1, its greatest level and fan-out, its names and the bytes of its comment. The last one
-/// is whether the binary format can hold it as it stands. For every
-/// circuit file that is accepted, the text is that of its circuit. Where the file is refused, or no memory was found
-/// for levels or fan-outs, nothing is written. It flushes the writer before it answers.
+/// value and those that start at 1, its greatest level and fan-out, its names and the bytes of its comment. The last
+/// one is whether the binary format can hold it as it stands. For every circuit file that is accepted, the text is that
+/// of its circuit. Where the file is refused, or no memory was found for levels or fan-outs, nothing is written. It
+/// flushes the writer before it answers.
 pub fn info<W: Write>(alloc: Global, file: &[u8], out: &mut W) -> Result<(), RunFault>
     ensures ends { CommandEnds (flow W.written W.failures out.old out.new) RunFault.Output
         (OfFile file.now (ListsFacts file.now)) result }

@@ -94,11 +94,11 @@ fn read_and_write<W: Write>(
 }
 
 /// The command `witness --model`: reads a circuit and a SAT solver's model of the formula that `cnf` writes for the bad
-/// state property at this position and this many frames. The model names a run: a start, where an uninitialised latch has
-/// the value of its variable, and rows. What no literal names is x. It writes the witness of the first frame at which this
-/// run reaches the property; `check` confirms it. Nothing is written where the circuit or the model is refused, there is
-/// no such formula, or no frame reaches the property. One does where the model makes a literal of each clause true
-/// (`law_of_partial_models` of `aig_laws`). It flushes the writer before it answers.
+/// state property at this position and this many frames. The model names a run: a start, where an uninitialised latch
+/// has the value of its variable, and rows. What no literal names is x. It writes the witness of the first frame at
+/// which this run reaches the property; `check` confirms it. Nothing is written where the circuit or the model is
+/// refused, there is no such formula, or no frame reaches the property. One does where the model makes a literal of
+/// each clause true (`law_of_partial_models` of `aig_laws`). It flushes the writer before it answers.
 pub fn model_witness<W: Write>(
     alloc: Global,
     file: &[u8],

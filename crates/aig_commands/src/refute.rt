@@ -66,11 +66,11 @@ fn read_and_check<R: Read, W: Write>(
     check_and_write(alloc, &circuit, frames, property, proof, out)
 }
 
-/// The command `refute`: reads a circuit and checks a solver's proof that no assignment satisfies the formula that `cnf`
-/// writes for the bad state property at this position and this many frames. Where it is one, no run from a start that the
-/// resets allow reaches the property within the frames, whatever values are unknown, and one line says so. The proof is
-/// never held whole, and is not read where the file is refused, where there is no such formula, or where propagation alone
-/// refutes it. It flushes the writer before it answers.
+/// The command `refute`: reads a circuit and checks a solver's proof that no assignment satisfies the formula that
+/// `cnf` writes for the bad state property at this position and this many frames. Where it is one, no run from a start
+/// that the resets allow reaches the property within the frames, whatever values are unknown, and one line says so. The
+/// proof is never held whole, and is not read where the file is refused, where there is no such formula, or where
+/// propagation alone refutes it. It flushes the writer before it answers.
 pub fn refute<R: Read, W: Write>(
     alloc: Global,
     file: &[u8],

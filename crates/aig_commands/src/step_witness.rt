@@ -77,12 +77,12 @@ fn read_and_write<W: Write>(
     free_and_write(alloc, &mut circuit, frames, property, model, out)
 }
 
-/// The command `witness --step --model`: reads a circuit and a SAT solver's model of the formula that `cnf --step` writes
-/// for the bad state property at this position and this many frames. The model names a start, with a value for each latch,
-/// and the rows of one frame more. It writes the witness of the first frame at which this run reaches the property: the run
-/// by which the induction step fails. `wave --witness` shows it; `check` confirms it only if the resets allow its start.
-/// Nothing is written where the circuit or the model is refused, there is no such formula, or no frame reaches the
-/// property. It flushes the writer before it answers.
+/// The command `witness --step --model`: reads a circuit and a SAT solver's model of the formula that `cnf --step`
+/// writes for the bad state property at this position and this many frames. The model names a start, with a value for
+/// each latch, and the rows of one frame more. It writes the witness of the first frame at which this run reaches the
+/// property: the run by which the induction step fails. `wave --witness` shows it; `check` confirms it only if the
+/// resets allow its start. Nothing is written where the circuit or the model is refused, there is no such formula, or
+/// no frame reaches the property. It flushes the writer before it answers.
 pub fn step_witness<W: Write>(
     alloc: Global,
     file: &[u8],

@@ -105,9 +105,10 @@ fn read_and_replay<W: Write>(
 }
 
 /// The command `wave --witness`: writes the value change dump (IEEE 1364) of the run that a witness of the circuit of a
-/// file describes, from the witness's own start, whatever its verdict. For every circuit file that is accepted and every
-/// witness for it, the bytes that are written are those of the dump. A circuit that is refused wins over the witness,
-/// which is refused where `check` refuses it; then nothing is written. It flushes the writer before it answers.
+/// file describes, from the witness's own start, whatever its verdict. For every circuit file that is accepted and
+/// every witness for it, the bytes that are written are those of the dump. A circuit that is refused wins over the
+/// witness, which is refused where `check` refuses it; then nothing is written. It flushes the writer before it
+/// answers.
 pub fn wave_witness<W: Write>(
     alloc: Global,
     circuit: &[u8],

@@ -17,8 +17,8 @@ pub fn as_output(done: Result<(), Fault>) -> Result<(), RunFault>
     }
 }
 
-/// Flushes the writer after a run, and gives the run's answer; where the flush fails, the fault of the part that writes.
-/// Where it does not fail, the writer and those below it hold nothing back.
+/// Flushes the writer after a run, and gives the run's answer; where the flush fails, the fault of the part that
+/// writes. Where it does not fail, the writer and those below it hold nothing back.
 pub fn flushed<T: Drop, W: Write>(
     answer: Result<T, RunFault>,
     out: &mut W,

@@ -3,8 +3,8 @@ ghost use Rattle.std.specs.Prelude.{◌≡◌, ◌^◌, ◌<◌, ◌≤◌, take
 ghost use Rattle.aig_format.specs.Delta.{delta};
 
 /// The groups of a number below `2^28` in its shortest form, the least first, and how many there are (AIGER 1.0, binary
-/// format). They are put into one word, where the seven bits of each group move up to its byte, and all but the last get
-/// a mark.
+/// format). They are put into one word, where the seven bits of each group move up to its byte, and all but the last
+/// get a mark.
 pub(crate) fn groups(number: u32) -> ([u8; 4], usize)
     requires { number < 2 ^ 28 }
     ensures most { result.1 ≤ 4 }

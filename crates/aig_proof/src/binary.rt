@@ -1,5 +1,5 @@
-//! The binary form of a proof: `a` or `d`, a number for each literal, and 0. A number is twice the variable, which counts
-//! from 1, and one more where the literal is negated; it stands in groups of seven bits, the lowest first.
+//! The binary form of a proof: `a` or `d`, a number for each literal, and 0. A number is twice the variable, which
+//! counts from 1, and one more where the literal is negated; it stands in groups of seven bits, the lowest first.
 ghost use Rattle.std.specs.Prelude.{◌≡◌, ◌+◌, ◌*◌, ◌-◌, ◌^◌, ◌<◌, ◌≤◌, IfOk, IfSome};
 ghost use Rattle.aig_parts.specs.Literal.{variable};
 ghost use Rattle.aig_proof.specs.Reads.{reads_failed};

@@ -8,8 +8,8 @@ use aig_bytes::{Failed, Read};
 /// How many bytes are read at once.
 const ROOM: usize = 32_768;
 
-/// Bytes that were read and not taken, in a plain array. In the contracts, the bytes in it and 32,768 for each read that
-/// may still give bytes are a number that each taken byte lowers.
+/// Bytes that were read and not taken, in a plain array. In the contracts, the bytes in it and 32,768 for each read
+/// that may still give bytes are a number that each taken byte lowers.
 #[derive(Drop)]
 pub(crate) struct ProofBytes {
     buffer: [u8; ROOM],

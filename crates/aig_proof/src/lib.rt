@@ -1,5 +1,5 @@
-//! Proofs that a formula has no satisfying assignment, as SAT solvers write them (DRAT): their steps, read one by one. The
-//! crate knows no formula: whether a step follows is not its affair.
+//! Proofs that a formula has no satisfying assignment, as SAT solvers write them (DRAT): their steps, read one by one.
+//! The crate knows no formula: whether a step follows is not its affair.
 #![tactic(auto)]
 
 mod binary;

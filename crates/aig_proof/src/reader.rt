@@ -21,8 +21,8 @@ enum Spelling {
     Binary,
 }
 
-/// How the proof that begins with these bytes is spelled. A text does not begin with `a`; where it begins with `d` a blank
-/// follows, and it has no zero byte, with which each step of the binary form ends.
+/// How the proof that begins with these bytes is spelled. A text does not begin with `a`; where it begins with `d` a
+/// blank follows, and it has no zero byte, with which each step of the binary form ends.
 fn spelling_of(bytes: &[u8]) -> Spelling {
     match bytes {
         [b'a', ..] => Spelling::Binary,
@@ -146,9 +146,9 @@ impl ProofReader {
         &self.clause
     }
 
-    /// Reads the next step, and answers what it does with its clause; `None` at the end. The first call tells a text from
-    /// the binary form by the first bytes. It refuses bytes that spell no step, and literals of other variables than the
-    /// formula's. Memory is taken only for literals that were read.
+    /// Reads the next step, and answers what it does with its clause; `None` at the end. The first call tells a text
+    /// from the binary form by the first bytes. It refuses bytes that spell no step, and literals of other variables
+    /// than the formula's. Memory is taken only for literals that were read.
     pub fn next<R: Read>(&mut self, reader: &mut R) -> Result<Option<StepKind>, ProofFault>
         ensures variables { self.new.variables ≡ self.old.variables }
         ensures literals { AreLiterals self.new.variables self.new.clause }

@@ -119,8 +119,8 @@ fn take_digit<R: Read>(bytes: &mut ProofBytes, reader: &mut R) -> Result<Option<
     }
 }
 
-/// Takes the digits that follow, and answers the number that they make of this one; `u64`'s greatest value for a greater
-/// one.
+/// Takes the digits that follow, and answers the number that they make of this one; `u64`'s greatest value for a
+/// greater one.
 fn take_digits<R: Read>(
     bytes: &mut ProofBytes,
     reader: &mut R,

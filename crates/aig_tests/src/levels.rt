@@ -6,8 +6,8 @@ use aig_base::{Circuit, Levels, Lit, canonical_order, would_cycle};
 use aig_sim::stand_in_order;
 use std::alloc::Global;
 
-// In the last ones there are 31.5 variables a gate, and 32: gates out of order are found by looking at each variable, or
-// they are sorted.
+// In the last ones there are 31.5 variables a gate, and 32: gates out of order are found by looking at each variable,
+// or they are sorted.
 static ORDERS: [(&[u8], u32, u32, [u32; 2]); 9] = [
     (TWO_GATES, 4, 2, [3, 4]),
     (UNUSED, 2, 2, [5, 2]),

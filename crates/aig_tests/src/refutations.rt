@@ -1,5 +1,5 @@
-//! Checking refutations through the public calls: a solver's proofs of random formulas, whole, cut and changed; proofs at
-//! random beside all assignments; and single steps.
+//! Checking refutations through the public calls: a solver's proofs of random formulas, whole, cut and changed; proofs
+//! at random beside all assignments; and single steps.
 use crate::binary_proofs::BINARY_PROOFS;
 use crate::text_proofs::TEXT_PROOFS;
 use aig_base::{Lit, MemReader};

@@ -8,9 +8,10 @@ ghost use Rattle.aig_cnf.specs.Step.{from_any_state, step_formula_of};
 ghost use Rattle.aig_refute.specs.Consequence.{IsUnsatisfiable};
 ghost use Rattle.aig_unreachable.specs.Unreachable.{IsUnreachable};
 
-/// Where no assignment satisfies the formula that a bad state property is reached within k frames, and none satisfies that
-/// of the step of k frames, no run of any length from a start that the resets allow reaches the property (k-induction). In
-/// the step, a run of k + 1 frames from any state reaches the property at its last frame and at none before.
+/// Where no assignment satisfies the formula that a bad state property is reached within k frames, and none satisfies
+/// that of the step of k frames, no run of any length from a start that the resets allow reaches the property
+/// (k-induction). In the step, a run of k + 1 frames from any state reaches the property at its last frame and at none
+/// before.
 pub fn law_of_induction()
     ensures { (raw : Raw) (order later : List ℕ) (k p : ℕ) → IsCircuit raw → IsCanonicalOrder raw order →
         IsCircuit (from_any_state raw) → IsCanonicalOrder (from_any_state raw) later →

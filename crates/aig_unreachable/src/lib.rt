@@ -1,5 +1,5 @@
-//! Bad states that no run reaches: the formula of a bad state within some frames, and a solver's proof that no assignment
-//! satisfies it, checked step by step.
+//! Bad states that no run reaches: the formula of a bad state within some frames, and a solver's proof that no
+//! assignment satisfies it, checked step by step.
 #![tactic(auto)]
 
 mod any_state;

@@ -57,8 +57,8 @@ fn check_steps<R: Read>(
     Err(ProofFault::NoRefutation)
 }
 
-/// Checks a solver's proof that no assignment satisfies the formula of a bad state within so many frames, over the unrolled
-/// circuit, which has so many bad literals a frame.
+/// Checks a solver's proof that no assignment satisfies the formula of a bad state within so many frames, over the
+/// unrolled circuit, which has so many bad literals a frame.
 pub fn check_formula<R: Read>(
     alloc: Global,
     circuit: &Circuit,
@@ -81,8 +81,8 @@ pub fn check_formula<R: Read>(
     check_steps(&mut refutation, &mut steps, proof)
 }
 
-/// Checks a solver's proof that no assignment satisfies the formula of an induction step of so many frames, over the circuit
-/// that starts in any state, unrolled for one frame more, which has so many bad literals a frame.
+/// Checks a solver's proof that no assignment satisfies the formula of an induction step of so many frames, over the
+/// circuit that starts in any state, unrolled for one frame more, which has so many bad literals a frame.
 pub fn check_step_formula<R: Read>(
     alloc: Global,
     circuit: &Circuit,
@@ -114,10 +114,11 @@ fn bad_count(circuit: &Circuit) -> u32
 }
 
 /// Checks a solver's proof that no assignment satisfies the formula that the bad state property at this position is
-/// reached within this many frames. The circuit comes with the one that `unroll_for_formula` makes of it. Each clause that
-/// a step adds has to follow by unit propagation from those that stand; a clause that is deleted stands no more. The proof
-/// ends where the empty clause follows, and no step behind is read; a formula that propagation alone refutes needs none.
-/// It refuses bytes that spell no step, the first step whose clause was not found to follow, and a proof that ends before.
+/// reached within this many frames. The circuit comes with the one that `unroll_for_formula` makes of it. Each clause
+/// that a step adds has to follow by unit propagation from those that stand; a clause that is deleted stands no more.
+/// The proof ends where the empty clause follows, and no step behind is read; a formula that propagation alone refutes
+/// needs none. It refuses bytes that spell no step, the first step whose clause was not found to follow, and a proof
+/// that ends before.
 pub fn check_unreachable<R: Read>(
     alloc: Global,
     circuit: &Circuit,
