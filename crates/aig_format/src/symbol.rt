@@ -1,11 +1,11 @@
 //! The symbols and the comment.
-ghost use Rattle.std.specs.Prelude.{◌≡◌, ◌≢◌, ℕ, ◌<◌, ◌≤◌, List, [], length, take, slice_index, Ok, IfOk, OnOk};
+ghost use Rattle.std.specs.Prelude.{◌≡◌, ◌≢◌, ℕ, ◌<◌, ◌≤◌, List, [], length, take, drop, slice_index, slice_range, Ok, IfOk, IfSome, OnOk};
 ghost use Rattle.std.specs.Prelude.{Option, All, Contains};
 ghost use Rattle.std.specs.Map.{keys_of};
 ghost use Rattle.aig_parts.specs.Formed.{IsName};
 ghost use Rattle.aig_format.specs.Spells.{greatest};
 ghost use Rattle.aig_format.specs.state.Fits.{AreSymbols};
-ghost use Rattle.aig_format.specs.state.Reading.{number_at};
+ghost use Rattle.aig_format.specs.state.Reading.{number_at, field_at};
 ghost use Rattle.aig_format.specs.state.ReadingNames.{count_of, kind_of, after_c_at, letter_at, line_at, name_at};
 ghost use Rattle.aig_format.specs.state.ReadingNames.{position_at, symbol_at, symbols_at, names_at, BeginsSymbol};
 ghost use Rattle.aig_format.specs.state.Reads.{ReadsAs, ReadsToken};
@@ -165,9 +165,30 @@ fn position<S: Source>(
     Ok(position)
 }
 
-/// Adds the symbol that stands after its letter. Its name is read into these bytes first.
+/// What is buffered whole after a letter: the position, and where the name begins and ends. None where the line has a
+/// fault, or goes beyond the buffer.
+fn buffered_symbol(buffered: &[u8]) -> Option<(u32, usize, usize)>
+    ensures position { IfSome result (λ x. field_at greatest 32 buffered.now ≡ Ok (x.0, drop x.1 buffered.now)) }
+    ensures name { IfSome result (λ x. IsName (slice_range buffered.now x.1 x.2)) }
+    ensures some { IfSome result (λ x. x.1 < x.2) }
+    ensures within { IfSome result (λ x. x.2 < length buffered.now) }
+    ensures end { IfSome result (λ x. slice_index buffered.now x.2 ≡ 10) }
+{
+    if buffered.len() < 8 {
+        return None;
+    }
+    let (position, from) = field_in(buffered, 0, b' ')?;
+    let rest = &buffered[from..];
+    let count = line_length(rest);
+    if count == 0 || count == rest.len() {
+        return None;
+    }
+    Some((position, from, from + count))
+}
+
+/// Adds the symbol that stands after its letter, token by token. Its name is read into these bytes first.
 #[tactic(auto, unfolding(crate::specs::state::ReadingNames::symbol_at))]
-fn symbol<S: Source>(
+fn symbol_by_token<S: Source>(
     s: &mut S,
     counts: &Counts,
     kind: Kind,
@@ -182,6 +203,28 @@ fn symbol<S: Source>(
     name(s, bytes)?;
     all.push(kind, position, bytes.as_slice())?;
     Ok(())
+}
+
+/// Adds the symbol that stands after its letter: at once where it is buffered whole.
+fn symbol<S: Source>(
+    s: &mut S,
+    counts: &Counts,
+    kind: Kind,
+    all: &mut SymbolList,
+    bytes: &mut Vec<u8>,
+) -> Result<(), Fault>
+    ensures reads { ReadsAs S.Source s.old s.new (λ x. all.new) result (symbol_at counts.now all.old kind) }
+    ensures symbols { AreSymbols counts.now all.old → OnOk result (AreSymbols counts.now all.new) }
+{
+    let front = s.front();
+    if let Some((position, from, end)) = buffered_symbol(front) {
+        if position < counts.of(kind) && !all.contains(kind, position) {
+            all.push(kind, position, &front[from..end])?;
+            s.skip(end + 1);
+            return Ok(());
+        }
+    }
+    symbol_by_token(s, counts, kind, all, bytes)
 }
 
 /// Adds all symbols, and answers whether a comment follows.

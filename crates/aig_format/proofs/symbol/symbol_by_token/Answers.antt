@@ -1,5 +1,5 @@
 use Rattle.aig_format.proofs.Sizes.{symbols_more}
-use Rattle.aig_format.proofs.symbol.symbol.Goals as goal
+use Rattle.aig_format.proofs.symbol.symbol_by_token.Goals as goal
 
 pub returns-clause-symbols : goal.returns-clause-symbols
 returns-clause-symbols g c = λ so_far.
