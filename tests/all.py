@@ -1,8 +1,9 @@
 #!/usr/bin/env python3
 """Runs every script of tests/ on a program, and counts all checks in the last line.
 
-With --crates it also runs the tests of the crates, side by side with the scripts. It runs them by `rt try --test`,
-which proves nothing; in the gate `rt ci` proves and runs them. Of a script that fails, all output is shown."""
+The script with the large files takes most of the time, so it runs beside all others. With --crates the tests of the
+crates run beside both. It runs them by `rt try --test`, which proves nothing; in the gate `rt ci` proves and runs them.
+Of a script that fails, all output is shown."""
 
 import argparse
 import concurrent.futures
@@ -14,7 +15,8 @@ import time
 
 from library.runs import REPOSITORY, TESTS
 
-SCRIPTS = ("run_large.py", "run_program.py", "run_faults.py", "run_random.py", "run_dist.py", "tour.py")
+LARGE = "run_large.py"
+SCRIPTS = ("run_program.py", "run_faults.py", "run_random.py", "run_dist.py", "tour.py")
 # these read the sources alone
 READERS = ("definitions.py", "contracts.py")
 CRATES = ("aig_tests", "aig_command_tests", "aig_bench_tests")
@@ -42,8 +44,8 @@ def main():
     parser.add_argument("program", nargs="?", help="the program that is tested (else the one that the gate built)")
     chosen = parser.parse_args()
     program = [os.path.abspath(chosen.program)] if chosen.program else []
-    lanes = [[(name, [f"{TESTS}/{name}", *program], REPOSITORY) for name in SCRIPTS]]
-    lanes[0] += [(name, [f"{TESTS}/{name}"], REPOSITORY) for name in READERS]
+    lanes = [[(name, [f"{TESTS}/{name}", *program], REPOSITORY) for name in names] for names in ([LARGE], SCRIPTS)]
+    lanes[1] += [(name, [f"{TESTS}/{name}"], REPOSITORY) for name in READERS]
     if chosen.crates:
         lanes.append([(name, ["rt", "try", "--test"], f"{REPOSITORY}/crates/{name}") for name in CRATES])
     with concurrent.futures.ThreadPoolExecutor() as pool:

@@ -346,8 +346,9 @@ def in_turn(work, behind):
 
 def main():
     parser = argparse.ArgumentParser(description=__doc__, formatter_class=argparse.RawDescriptionHelpFormatter)
-    processors = len(os.sched_getaffinity(0))
-    parser.add_argument("--jobs", type=int, default=processors, help="how many processors it takes")
+    # beside the proofs of the gate, more than two only slow down the chain of crates that its time depends on
+    few = min(2, len(os.sched_getaffinity(0)))
+    parser.add_argument("--jobs", type=int, default=few, help=f"how many processors it takes (else {few})")
     parser.add_argument("--only", action="append", help="the planted bugs whose names hold this; may be given again")
     parser.add_argument("--more", action="store_true", help="those of planted/more/ too")
     parser.add_argument("--behind", type=pathlib.Path, metavar="FILE",

@@ -1,13 +1,12 @@
 //! The tasks on a circuit alone: conversion, unrolling, formulas, and facts about it.
 
-use crate::exit::Exit;
-use crate::files::{CIRCUIT, open, output, read_whole};
 use crate::kept::{begin_map, write_map};
-use crate::output_file::OutputFile;
 use aig_base::{PropertySection, Std};
-use aig_commands::{cnf, cnf_step, info, select, toaig, unroll};
+use aig_commands::{info, select, toaig, unroll};
 use aig_fault::RunFault;
+use aig_files::{CIRCUIT, Exit, OutputFile, open, output, read_whole};
 use aig_format::Format;
+use aig_solving::{cnf, cnf_step};
 use std::alloc::Global;
 use std::fs::{Files, OpenFile};
 use std::io::Read;

@@ -1,31 +1,15 @@
 //! The files of `--circuit-out`, `--stimulus-out` and `--map`.
 
-use crate::exit::Exit;
-use crate::new_file::{NewFile, OUTPUT};
-use crate::output_file::{OutputFile, find, open_pipe};
 use aig_base::{Buffered, Circuit, Std};
 use aig_bench::Bench;
 use aig_commands::unroll::unroll_map;
 use aig_commands::{keep_circuit, keep_stimulus};
 use aig_fault::RunFault;
+use aig_files::{Exit, Kept, NewFile, OUTPUT, OutputFile, find, open_pipe};
 use aig_sim::PlaneGrid;
 use std::fs::{Files, Metadata, OpenFile};
 use std::io;
 use std::os::fd::AsFd;
-
-/// The names of the files of `--circuit-out` and `--stimulus-out`.
-#[derive(Clone, Copy)]
-pub struct Kept<'a> {
-    pub circuit: Option<&'a str>,
-    pub stimulus: Option<&'a str>,
-}
-
-impl Kept<'_> {
-    /// Whether both options are missing.
-    pub fn is_empty(&self) -> bool {
-        self.circuit.is_none() && self.stimulus.is_none()
-    }
-}
 
 /// The files of `--circuit-out` and `--stimulus-out`, from before the script is read until they have their texts.
 #[derive(Drop)]

@@ -3,27 +3,16 @@
 
 mod arguments;
 mod circuits;
-mod exit;
-mod explain;
-mod files;
 mod kept;
-mod look;
-mod model_look;
-mod new_file;
-mod output_file;
-mod output_look;
-mod proof_look;
-mod reserved;
-mod select_look;
 mod simulations;
 mod task;
+mod task_files;
 mod witnesses;
 
+use aig_files::{Exit, reserve};
+use aig_notes::{explain, is_asked_for};
 use arguments::{Request, parsed};
 use clap::ArgMatches;
-use exit::Exit;
-use explain::{explain, is_asked_for};
-use reserved::reserve;
 use std::env::Env;
 use std::fs::Files;
 use std::os::fd::AsFd;
@@ -94,7 +83,7 @@ where
     if let Err(exit) = done {
         let exit = exit.report(rt);
         if request.is_explained || is_asked_for(rt) {
-            explain(rt, request.task, exit);
+            explain(rt, &request.task.files(), exit);
         }
     }
     done

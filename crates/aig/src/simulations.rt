@@ -1,11 +1,10 @@
 //! The tasks on a circuit and a stimulus: traces, dumps and scripts.
 
-use crate::exit::Exit;
-use crate::files::{CIRCUIT, open, output, read_whole};
-use crate::kept::{BenchFiles, Kept};
+use crate::kept::BenchFiles;
 use aig_base::Std;
 use aig_commands::{bench, sim, wave};
 use aig_fault::{RunFault, ScriptFault};
+use aig_files::{CIRCUIT, Exit, Kept, open, output, read_whole};
 use aig_sim::StimFault;
 use std::fs::Files;
 use std::io::Read;

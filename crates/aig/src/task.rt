@@ -3,12 +3,11 @@
 use crate::circuits::{
     Selection, convert, formula, info, info_names, select, step_formula, unroll,
 };
-use crate::exit::Exit;
-use crate::kept::Kept;
 use crate::simulations::{bench, simulate, wave};
 use crate::witnesses::{check, model_witness, reduce, refute, refute_step, wave_witness, witness};
 use aig_base::PropertySection;
 use aig_cli::{has_flag, number_of, subcommand_of, text_of, texts_of};
+use aig_files::{Exit, Kept};
 use aig_format::Format;
 use clap::ArgMatches;
 use std::fs::Files;

@@ -1,13 +1,13 @@
 //! The tasks on a witness: its check, its reduction, the dump of its run, and how it is made; and the check of proofs
 //! that there is none.
 
-use crate::exit::Exit;
-use crate::files::{CIRCUIT, open, output, read_whole};
 use aig_base::Std;
-use aig_commands::{check, induction, model_witness, reduce, refute, step_witness, wave, witness};
+use aig_commands::{check, reduce, wave};
 use aig_fault::RunFault;
+use aig_files::{CIRCUIT, Exit, open, output, read_whole};
 use aig_proof::ProofFault;
 use aig_sim::{StimFault, Verdict};
+use aig_solving::{induction, model_witness, refute, step_witness, witness};
 use std::fs::Files;
 use std::io::Read;
 

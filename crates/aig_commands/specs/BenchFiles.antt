@@ -1,19 +1,16 @@
 -- Files of a bench: what they are, why they are refused, and how they are kept.
-use Rattle.std.specs.Prelude.{◌≢◌, ℕ, ◌+◌, ◌*◌, ◌<◌, ◌≤◌, List, length}
+use Rattle.std.specs.Prelude.{ℕ, ◌+◌, ◌*◌, ◌<◌, ◌≤◌, List, length}
 use Rattle.std.specs.List.{flat_map}
 use Rattle.aig_parts.specs.declared.raw.Raw.{Raw}
-use Rattle.aig_parts.specs.declared.ternary.Tern.{Tern}
 use Rattle.aig_parts.specs.Limits.{cell_limit, frame_limit}
 use Rattle.aig_format.specs.Spelling.{short_ascii}
-use Rattle.aig_sim.specs.declared.stimulus_fault.StimFault.{StimFault}
-use Rattle.aig_sim.specs.declared.stimulus_fault.StimFault.TheVariants as stimuli
-use Rattle.aig_sim.specs.StimulusText.{SpellsRows, HasFaultyLine, row_line}
+use Rattle.aig_sim.specs.StimulusText.{SpellsRows, row_line}
 use Rattle.aig_bench.specs.declared.bench_fault.BenchFault.{BenchFault}
 use Rattle.aig_bench.specs.declared.bench_fault.BenchFault.TheVariants as benches
 use Rattle.aig_bench.specs.BenchState.{CircuitAndRows}
 use Rattle.aig_fault.specs.declared.run_fault.RunFault.{RunFault}
 use Rattle.aig_fault.specs.declared.run_fault.RunFault.TheVariants.{Circuit, Stimulus, Witness, Bench, Script, Output, Memory, Unroll, Cnf, Select, Reach, Proof, StepProof, Model}
-use Rattle.aig_fault.specs.Command.{IsFileOf, RefusesCircuit}
+use Rattle.aig_fault.specs.Command.{IsFileOf, RefusesCircuit, RefusesStimulus}
 
 -- the files are this circuit and rows of its width, at most 65,536
 pub record AreFilesOf (circuit stimulus : List ℕ) (pair : CircuitAndRows) : Type 0 where
@@ -25,11 +22,6 @@ pub record AreFilesOf (circuit stimulus : List ℕ) (pair : CircuitAndRows) : Ty
 pub record AreBenchFiles (circuit stimulus : List ℕ) (pair : CircuitAndRows) : Type 0 where
   pub files_are : AreFilesOf circuit stimulus pair
   pub cells : (pair.circuit.max_var + 1) * length pair.rows ≤ cell_limit
-
--- why a stimulus of a width is refused: its first faulty line
-abbrev pub RefusesStimulus : ℕ → List ℕ → StimFault → Type 0
-RefusesStimulus width text fault =
-    fault ≢ stimuli.Memory → (rows : List (List Tern)) × (length rows ≤ frame_limit) × HasFaultyLine width text rows fault
 
 -- why no bench is made of a circuit and rows of its width: too many cells
 abbrev pub RefusesBench : CircuitAndRows → BenchFault → Type 0

@@ -1,38 +1,20 @@
 //! `bench`: a script on a bench, from bytes to bytes, and the files of what it leaves.
-ghost use Rattle.std.specs.Prelude.{◌≡◌, ◌≢◌, ℕ, ◌+◌, ◌≤◌, List, length, IfOk, IfErr};
-ghost use Rattle.aig_base.specs.Circuit.{IsCircuit};
-ghost use Rattle.aig_parts.specs.Limits.{frame_limit};
+ghost use Rattle.std.specs.Prelude.{◌≡◌, ◌≢◌, ℕ, ◌+◌, ◌≤◌, List, IfOk, IfErr};
 ghost use Rattle.aig_bytes.specs.Bytes.{Writes};
 ghost use Rattle.aig_bytes.specs.Flow.{flow};
-ghost use Rattle.aig_sim.specs.StimulusText.{SpellsRows};
 ghost use Rattle.aig_bench.specs.BenchState.{CircuitAndRows};
 ghost use Rattle.aig_fault.specs.Command.{IsFileOf, EndsReading};
 ghost use Rattle.aig_commands.specs.Bench.{RunsScript, LeavesBench};
-ghost use Rattle.aig_commands.specs.BenchFiles.{AreFilesOf, AreBenchFiles, RefusesStimulus, RefusesFiles};
+ghost use Rattle.aig_commands.specs.BenchFiles.{AreFilesOf, AreBenchFiles, RefusesFiles};
 ghost use Rattle.aig_commands.specs.BenchFiles.{circuit_text, stimulus_rows_text};
 
-use aig_base::{Circuit, Io, Read, Write};
+use aig_base::{Io, Read, Write};
 use aig_bench::Bench;
-use aig_fault::{RunFault, ScriptFault, as_output, flushed, read_circuit};
+use aig_fault::{RunFault, ScriptFault, as_output, flushed, read_circuit, read_rows};
 use aig_format::{law_of_round_trip, write_ascii};
 use aig_script::run_script;
-use aig_sim::{Grid, PlaneGrid, StimFault, Stimulus, read_stimulus, write_stimulus};
+use aig_sim::{Grid, PlaneGrid, write_stimulus};
 use std::alloc::Global;
-
-/// Reads a stimulus file for a circuit.
-pub(crate) fn read_rows(
-    alloc: Global,
-    circuit: &Circuit,
-    file: &[u8],
-) -> Result<Stimulus, StimFault>
-    requires { IsCircuit circuit.now }
-    ensures width { IfOk result (λ stimulus. stimulus.width ≡ length circuit.now.inputs) }
-    ensures rows { IfOk result (λ stimulus. SpellsRows (length circuit.now.inputs) file.now stimulus.rows) }
-    ensures limit { IfOk result (λ stimulus. length stimulus.rows ≤ frame_limit) }
-    ensures fault { IfErr result (RefusesStimulus (length circuit.now.inputs) file.now) }
-{
-    read_stimulus(alloc, file, circuit.inputs().len() as u32)
-}
 
 /// A bench of a circuit file and a stimulus file.
 fn open_bench<G: Grid>(alloc: Global, circuit: &[u8], stimulus: &[u8]) -> Result<Bench<G>, RunFault>

@@ -5,7 +5,6 @@ ghost use Rattle.aig_bytes.specs.Bytes.{Writes};
 ghost use Rattle.aig_parts.specs.declared.raw.Raw.{Raw};
 ghost use Rattle.aig_base.specs.Greatest.{IsGreatestLevel};
 ghost use Rattle.aig_format.specs.Spells.{Spells};
-ghost use Rattle.aig_unroll.specs.FrameLiteral.{is_uninitialised};
 ghost use Rattle.aig_bytes.specs.Flow.{flow};
 ghost use Rattle.aig_fault.specs.Command.{CommandEnds};
 ghost use Rattle.aig_commands.specs.Info.{AreFacts, ListsFacts, IsInFormat, comment_size, fact_line, format_name};
@@ -21,6 +20,7 @@ use aig_base::{
 };
 use aig_fault::{RunFault, flushed, read_circuit};
 use aig_format::{Format, read_from};
+use aig_unroll::uninitialised;
 use itoa::Buffer;
 use std::alloc::Global;
 
@@ -95,16 +95,6 @@ fn facts_of(alloc: Global, file: &[u8], circuit: &Circuit) -> Result<Facts, Memo
     })
 }
 
-/// How many latches start at no known value.
-pub(crate) fn uninitialised(latches: &[Latch]) -> usize
-    ensures { result ≡ count_by is_uninitialised latches.now }
-{
-    latches
-        .iter()
-        .filter(|latch| latch.reset.value() == latch.lit.value())
-        .count()
-}
-
 /// How many latches start at 1.
 fn resets(latches: &[Latch]) -> usize
     ensures { result ≡ count_by starts_at_one latches.now }
@@ -170,7 +160,7 @@ fn write_counts<W: Write>(circuit: &Circuit, facts: &Facts, out: &mut W) -> Resu
             ("constraints", circuit.constraints().len()),
             ("justice", circuit.justice().len()),
             ("fairness", circuit.fairness().len()),
-            ("uninitialised", uninitialised(circuit.latches())),
+            ("uninitialised", uninitialised(circuit)),
             ("resets", resets(circuit.latches())),
             ("levels", facts.levels as usize),
             ("fanout", facts.fan_out as usize),

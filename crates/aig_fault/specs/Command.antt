@@ -1,5 +1,5 @@
 -- A command from bytes to bytes: which bytes it writes for a circuit's file, and how it ends.
-use Rattle.std.specs.Prelude.{◌≡◌, ◌≢◌, ◌⊎◌, ℕ, ◌+◌, ◌<◌, ◌≤◌, List, Bool, IsTrue, Result, Err, [], Some, Ok, OnOk}
+use Rattle.std.specs.Prelude.{◌≡◌, ◌≢◌, ◌⊎◌, ℕ, ◌+◌, ◌<◌, ◌≤◌, List, Bool, IsTrue, Result, Err, [], Some, Ok, OnOk, length}
 use Rattle.aig_parts.specs.declared.raw.Raw.{Raw}
 use Rattle.aig_parts.specs.declared.fault.Fault.{Fault}
 use Rattle.aig_parts.specs.declared.fault.Fault.TheVariants as circuits
@@ -8,6 +8,11 @@ use Rattle.aig_bytes.specs.Flow.{Flow}
 use Rattle.aig_base.specs.Circuit.{IsCircuit}
 use Rattle.aig_format.specs.Spells.{Spells}
 use Rattle.aig_format.specs.FileReading.{IsReading}
+use Rattle.aig_parts.specs.declared.ternary.Tern.{Tern}
+use Rattle.aig_parts.specs.Limits.{frame_limit}
+use Rattle.aig_sim.specs.StimulusText.{HasFaultyLine}
+use Rattle.aig_sim.specs.declared.stimulus_fault.StimFault.{StimFault}
+use Rattle.aig_sim.specs.declared.stimulus_fault.StimFault.TheVariants as stimuli
 use Rattle.aig_fault.specs.declared.run_fault.RunFault.{RunFault}
 use Rattle.aig_fault.specs.declared.run_fault.RunFault.TheVariants as run_faults
 
@@ -19,6 +24,11 @@ pub record IsFileOf (bytes : List ℕ) (raw : Raw) : Type 0 where
 -- why a circuit file is refused; no read fails
 abbrev pub RefusesCircuit : List ℕ → Fault → Type 0
 RefusesCircuit bytes fault = IsReading bytes (Err fault) × (fault ≢ circuits.Io)
+
+-- why a stimulus of a width is refused: its first faulty line
+abbrev pub RefusesStimulus : ℕ → List ℕ → StimFault → Type 0
+RefusesStimulus width text fault =
+    fault ≢ stimuli.Memory → (rows : List (List Tern)) × (length rows ≤ frame_limit) × HasFaultyLine width text rows fault
 
 -- Which bytes a command writes for a circuit file, with which answer: none where the file is refused, else what `Means`
 -- says of its circuit.

@@ -1,12 +1,15 @@
-//! What every run of a command has: a circuit's file, an answer after a flush, and why it is refused.
+//! What every run of a command has: the files of a circuit and its stimulus, an answer after a flush, and why it is
+//! refused.
 #![tactic(auto)]
 
 mod circuit_file;
 mod output;
 mod run_fault;
 mod script_fault;
+mod stimulus_file;
 
 pub use circuit_file::read_circuit;
 pub use output::{as_output, flushed};
 pub use run_fault::RunFault;
 pub use script_fault::ScriptFault;
+pub use stimulus_file::read_rows;

@@ -40,8 +40,9 @@ pub(crate) fn is_uninitialised(latch: &Latch) -> bool
     latch.reset.value() == latch.lit.value()
 }
 
-/// How many latches are uninitialised.
-pub(crate) fn uninitialised(circuit: &Circuit) -> usize
+/// How many latches are uninitialised: the reset is the latch's own literal, so it starts at no known value (AIGER 1.9,
+/// reset logic).
+pub fn uninitialised(circuit: &Circuit) -> usize
     ensures { result ≡ literals.uninitialised circuit.now.latches }
 {
     circuit

@@ -4,7 +4,6 @@ use Rattle.std.specs.List.{flat_map}
 use Rattle.aig_bytes.proofs.WriteLemmas.{writes_same}
 use Rattle.aig_commands.specs.Info.{is_constant, starts_at_one, fact_number_line, number_lines}
 use Rattle.aig_commands.proofs.info.write_counts.Goals as goal
-use Rattle.aig_unroll.specs.FrameLiteral.{is_uninitialised}
 
 pub returns : goal.returns
 unfolding number_lines
@@ -17,8 +16,8 @@ returns g c =
     ∷ (codes "constant", (c.constants.ensures ∙ ap (count_by is_constant) c.bad-2.ensures) i)
     ∷ (codes "constraints", length (c.constraints.ensures i)) ∷ (codes "justice", length (c.justice.ensures i))
     ∷ (codes "fairness", length (c.fairness.ensures i))
-    ∷ (codes "uninitialised", (c.uninitialised.ensures ∙ ap (count_by is_uninitialised) c.latches-2.ensures) i)
-    ∷ (codes "resets", (c.resets.ensures ∙ ap (count_by starts_at_one) c.latches-3.ensures) i)
+    ∷ (codes "uninitialised", c.uninitialised.ensures i)
+    ∷ (codes "resets", (c.resets.ensures ∙ ap (count_by starts_at_one) c.latches-2.ensures) i)
     ∷ (codes "levels", c.args.facts.now.levels) ∷ (codes "fanout", c.args.facts.now.fan_out)
     ∷ (codes "symbols", (c.len.ensures.len ∙ ap length c.symbols.ensures) i)
     ∷ (codes "comment", c.comment_size.ensures i) ∷ []))

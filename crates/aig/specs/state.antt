@@ -1,2 +1,0 @@
--- What proofs alone need: the functions' tables, walks and steps. No contract of an exported function reaches them.
-pub mod ExitStatus

@@ -1,0 +1,16 @@
+//! The files that the arguments of the program name: opened, read, created and replaced; and what ends a run early.
+#![tactic(auto)]
+
+mod exit;
+mod files;
+mod kept;
+mod new_file;
+mod output_file;
+mod reserved;
+
+pub use exit::Exit;
+pub use files::{CIRCUIT, open, output, read_whole};
+pub use kept::Kept;
+pub use new_file::{NewFile, OUTPUT, are_one, is_free, name_beside};
+pub use output_file::{OutputFile, find, open_pipe};
+pub use reserved::{Reserved, reserve};

@@ -1,0 +1,12 @@
+//! The notes that `--explain` prints after the message of a run that failed: its files, and what a second look at them
+//! shows.
+#![tactic(auto)]
+
+mod explain;
+mod look;
+mod model_look;
+mod output_look;
+mod proof_look;
+mod select_look;
+
+pub use explain::{RunFiles, explain, is_asked_for};

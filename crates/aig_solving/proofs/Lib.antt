@@ -1,0 +1,5 @@
+pub mod Inductions
+pub mod ModelWitnesses
+pub mod NamedRuns
+pub mod Refutations
+pub mod WitnessTexts
