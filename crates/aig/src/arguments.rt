@@ -1,11 +1,11 @@
 //! The arguments of the command line.
 
-use crate::task::Task;
 use aig_base::Memory;
 use aig_cli::{has_flag, matches_of};
 use aig_explain::escaped;
 use aig_fault::RunFault;
 use aig_files::Exit;
+use aig_tasks::Task;
 use clap::ArgMatches;
 use clap::error::ErrorKind;
 use std::alloc::Global;

@@ -1,12 +1,13 @@
 //! The tasks on a circuit alone: conversion, unrolling, formulas, and facts about it.
 
 use crate::kept::{begin_map, write_map};
-use aig_base::{PropertySection, Std};
+use aig_base::Std;
 use aig_commands::{info, select, toaig, unroll};
 use aig_fault::RunFault;
 use aig_files::{CIRCUIT, Exit, OutputFile, open, output, read_whole};
 use aig_format::Format;
 use aig_solving::{cnf, cnf_step};
+use aig_tasks::Selection;
 use std::alloc::Global;
 use std::fs::{Files, OpenFile};
 use std::io::Read;
@@ -170,15 +171,6 @@ fn info_names_file<R: AllocGlobal + Print, F: Read + Drop>(rt: &R, circuit: F) -
     let mut out = output(rt);
     info::info_names(rt.alloc(), &mut circuit, &mut out)?;
     Ok(())
-}
-
-/// Which properties of a circuit to keep, and where.
-#[derive(Clone, Copy)]
-pub struct Selection<'a> {
-    pub from: PropertySection,
-    pub into: PropertySection,
-    /// Their positions, as the arguments have them.
-    pub properties: &'a [&'a str],
 }
 
 /// Writes a circuit with some of its properties.

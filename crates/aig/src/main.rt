@@ -3,16 +3,16 @@
 
 mod arguments;
 mod circuits;
+mod dispatch;
 mod kept;
 mod simulations;
-mod task;
-mod task_files;
 mod witnesses;
 
 use aig_files::{Exit, reserve};
 use aig_notes::{explain, is_asked_for};
 use arguments::{Request, parsed};
 use clap::ArgMatches;
+use dispatch::run_task;
 use std::env::Env;
 use std::fs::Files;
 use std::os::fd::AsFd;
@@ -79,7 +79,7 @@ fn run_request<R: Env + Files + AllocGlobal + Print + Eprint>(
 where
     R::File: AsFd,
 {
-    let done = request.task.run(rt);
+    let done = run_task(rt, request.task);
     if let Err(exit) = done {
         let exit = exit.report(rt);
         if request.is_explained || is_asked_for(rt) {

@@ -7,6 +7,7 @@ mod kept;
 mod new_file;
 mod output_file;
 mod reserved;
+mod run_files;
 
 pub use exit::Exit;
 pub use files::{CIRCUIT, open, output, read_whole};
@@ -14,3 +15,4 @@ pub use kept::Kept;
 pub use new_file::{NewFile, OUTPUT, are_one, is_free, name_beside};
 pub use output_file::{OutputFile, find, open_pipe};
 pub use reserved::{Reserved, reserve};
+pub use run_files::RunFiles;

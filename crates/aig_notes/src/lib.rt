@@ -9,4 +9,4 @@ mod output_look;
 mod proof_look;
 mod select_look;
 
-pub use explain::{RunFiles, explain, is_asked_for};
+pub use explain::{explain, is_asked_for};

@@ -9,9 +9,8 @@ ghost use Rattle.aig_sim.specs.WitnessText.{IsDecimal, witness_text};
 ghost use Rattle.aig_fault.specs.Command.{CommandEnds, OfFile};
 ghost use Rattle.aig_solving.specs.Witness.{HasAsked, WritesWitness};
 
-use crate::bench::read_rows;
 use aig_base::{Circuit, Io, Tern, Write};
-use aig_fault::{RunFault, flushed, read_circuit};
+use aig_fault::{RunFault, flushed, read_circuit, read_rows};
 use aig_sim::{ReachFault, Reached, Stimulus, first_reached, first_states, write_witness};
 use std::alloc::Global;
 

@@ -1,7 +1,7 @@
 //! The files of a task.
 
 use crate::task::Task;
-use aig_notes::RunFiles;
+use aig_files::RunFiles;
 
 impl<'a> Task<'a> {
     /// Returns the files of the task, its number of frames and its property.

@@ -1,75 +1,92 @@
 //! The tasks that the arguments choose.
 
-use crate::circuits::{
-    Selection, convert, formula, info, info_names, select, step_formula, unroll,
-};
-use crate::simulations::{bench, simulate, wave};
-use crate::witnesses::{check, model_witness, reduce, refute, refute_step, wave_witness, witness};
 use aig_base::PropertySection;
 use aig_cli::{has_flag, number_of, subcommand_of, text_of, texts_of};
-use aig_files::{Exit, Kept};
+use aig_files::Kept;
 use aig_format::Format;
 use clap::ArgMatches;
-use std::fs::Files;
-use std::os::fd::AsFd;
+
+/// Which properties of a circuit to keep, and where.
+#[derive(Clone, Copy)]
+pub struct Selection<'a> {
+    /// The section that has them.
+    pub from: PropertySection,
+    /// The section that they go to.
+    pub into: PropertySection,
+    /// Their positions, as the arguments have them.
+    pub properties: &'a [&'a str],
+}
 
 /// A task, with its files and options.
 #[derive(Clone, Copy)]
 pub enum Task<'a> {
+    /// `toaig`: a circuit in a format.
     Convert {
         to: Format,
         circuit: &'a str,
     },
+    /// `sim`: the trace of a stimulus.
     Simulate {
         circuit: &'a str,
         stimulus: &'a str,
     },
+    /// `wave`: the value change dump of a stimulus.
     Wave {
         circuit: &'a str,
         stimulus: &'a str,
     },
+    /// `wave --witness`: that of a witness.
     WaveWitness {
         circuit: &'a str,
         witness: &'a str,
     },
+    /// `bench`: the replies to a script, and the files that keep what it leaves.
     Bench {
         circuit: &'a str,
         stimulus: &'a str,
         script: &'a str,
         kept: Kept<'a>,
     },
+    /// `unroll`: a circuit unrolled for some frames, and the map of its inputs.
     Unroll {
         frames: u32,
         to: Format,
         circuit: &'a str,
         map: Option<&'a str>,
     },
+    /// `check`: the verdict on a witness, with `--trace` after its run.
     Check {
         circuit: &'a str,
         witness: &'a str,
         with_trace: bool,
     },
+    /// `cnf`: the formula of a bad state.
     Cnf {
         frames: u32,
         property: u32,
         circuit: &'a str,
     },
+    /// `info`: facts about a circuit.
     Info {
         circuit: &'a str,
     },
+    /// `info --names`: its entries.
     InfoNames {
         circuit: &'a str,
     },
+    /// `select`: a circuit with some of its properties.
     Select {
         selection: Selection<'a>,
         to: Format,
         circuit: &'a str,
     },
+    /// `witness`: the witness of a run over a stimulus.
     Witness {
         property: Option<u32>,
         circuit: &'a str,
         stimulus: &'a str,
     },
+    /// `witness --model`: that of a solver's model, with `--step` of an induction step.
     ModelWitness {
         frames: u32,
         property: u32,
@@ -77,17 +94,20 @@ pub enum Task<'a> {
         model: &'a str,
         of_step: bool,
     },
+    /// `cnf --step`: the formula of an induction step.
     CnfStep {
         frames: u32,
         property: u32,
         circuit: &'a str,
     },
+    /// `refute`: the check of a proof.
     Refute {
         frames: u32,
         property: u32,
         circuit: &'a str,
         proof: &'a str,
     },
+    /// `refute --step`: the check of a proof by induction.
     RefuteStep {
         frames: u32,
         property: u32,
@@ -95,6 +115,7 @@ pub enum Task<'a> {
         proof: &'a str,
         step: &'a str,
     },
+    /// `reduce`: a witness with x where its failure needs no value.
     Reduce {
         circuit: &'a str,
         witness: &'a str,
@@ -119,79 +140,6 @@ impl<'m> Task<'m> {
             "refute" => refutation_of(matches),
             "reduce" => reduction_of(matches),
             _ => None,
-        }
-    }
-
-    /// Opens the files, runs the task, and writes its results to standard output.
-    pub fn run<R: Files + AllocGlobal + Print>(&self, rt: &R) -> Result<(), Exit>
-    where
-        R::File: AsFd,
-    {
-        match *self {
-            Task::Convert { to, circuit } => convert(rt, to, circuit),
-            Task::Simulate { circuit, stimulus } => simulate(rt, circuit, stimulus),
-            Task::Wave { circuit, stimulus } => wave(rt, circuit, stimulus),
-            Task::WaveWitness { circuit, witness } => wave_witness(rt, circuit, witness),
-            Task::Bench {
-                circuit,
-                stimulus,
-                script,
-                kept,
-            } => bench(rt, circuit, stimulus, script, kept),
-            Task::Unroll {
-                frames,
-                to,
-                circuit,
-                map,
-            } => unroll(rt, frames, to, circuit, map),
-            Task::Check {
-                circuit,
-                witness,
-                with_trace,
-            } => check(rt, circuit, witness, with_trace),
-            Task::Cnf {
-                frames,
-                property,
-                circuit,
-            } => formula(rt, frames, property, circuit),
-            Task::Info { circuit } => info(rt, circuit),
-            Task::InfoNames { circuit } => info_names(rt, circuit),
-            Task::Select {
-                selection,
-                to,
-                circuit,
-            } => select(rt, selection, to, circuit),
-            Task::Witness {
-                property,
-                circuit,
-                stimulus,
-            } => witness(rt, property, circuit, stimulus),
-            Task::ModelWitness {
-                frames,
-                property,
-                circuit,
-                model,
-                of_step,
-            } => model_witness(rt, frames, property, circuit, model, of_step),
-            Task::Refute {
-                frames,
-                property,
-                circuit,
-                proof,
-            } => refute(rt, frames, property, circuit, proof),
-            Task::CnfStep {
-                frames,
-                property,
-                circuit,
-            } => step_formula(rt, frames, property, circuit),
-            Task::RefuteStep {
-                frames,
-                property,
-                circuit,
-                proof,
-                step,
-            } => refute_step(rt, frames, property, circuit, proof, step),
-            Task::Reduce { circuit, witness } => reduce(rt, circuit, witness),
         }
     }
 }
