@@ -254,6 +254,25 @@ impl<const ROOM: usize> ByteBlock<ROOM> {
         true
     }
 
+    /// Puts in all of these bytes after those that wait, where there is room for them there, and answers whether there
+    /// was. Where there was none nothing changes.
+    #[inline(always)]
+    pub fn push_all(&mut self, bytes: &[u8]) -> bool
+        ensures pushed { IsTrue result → self.new ≡ self.old ++ bytes.now }
+        ensures full { result ≡ false → self.new ≡ self.old }
+        ensures some { self.old ≡ [] → length bytes.now ≤ ROOM → IsTrue result }
+    {
+        let after = self.end;
+        if ROOM - after < bytes.len() {
+            return false;
+        }
+        let last = after + bytes.len();
+        let room = &mut self.bytes[..];
+        room[after..last].copy_from_slice(bytes);
+        self.end = last;
+        true
+    }
+
     /// Puts in the first of these bytes, as many as there is room for after those that wait, and answers how many.
     /// That is at least one where none waits.
     pub fn append(&mut self, bytes: &[u8]) -> usize

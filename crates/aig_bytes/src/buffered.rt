@@ -75,6 +75,7 @@ impl<W: Write> Buffered<W> {
     }
 
     // Takes bytes from the front: large pieces go straight on, after what is held, and others are held.
+    #[inline(never)]
     fn take(&mut self, bytes: &[u8]) -> Result<usize, Failed>
         ensures bound { IfOk result (λ n. n ≤ length bytes.now) }
         ensures some { IfOk result (λ n. 0 < length bytes.now → 0 < n) }
@@ -105,6 +106,7 @@ impl<W: Write> Write for Buffered<W> {
 
     ghost failures = { λ b. b.failures };
 
+    #[inline(always)]
     fn write(&mut self, bytes: &[u8]) -> Result<usize, Failed>
         // The trait's clauses.
         ensures bound { IfOk result (λ n. n ≤ length bytes.now) }
@@ -119,6 +121,10 @@ impl<W: Write> Write for Buffered<W> {
     {
         if self.is_broken {
             return Err(self.fail());
+        }
+        // A piece whose length the compiler knows is held without a call.
+        if bytes.len() < LARGE && self.held.push_all(bytes) {
+            return Ok(bytes.len());
         }
         match self.take(bytes) {
             Ok(count) => Ok(count),

@@ -12,9 +12,10 @@ impl From<Failed> for Io {
     }
 }
 
-/// Writes all of the bytes, or a beginning of them where a write fails. No failure is tried again.
+// Writes bytes, one write after the other.
+#[inline(never)]
 #[tactic(auto, using(crate::proofs::WriteLemmas::writes))]
-pub fn write_all<W: Write>(out: &mut W, bytes: &[u8]) -> Result<(), Io>
+fn write_rest<W: Write>(out: &mut W, bytes: &[u8]) -> Result<(), Io>
     ensures { Writes W.written W.failures out.old out.new bytes.now result }
 {
     let mut at = 0;
@@ -22,6 +23,23 @@ pub fn write_all<W: Write>(out: &mut W, bytes: &[u8]) -> Result<(), Io>
         at += out.write(&bytes[at..])?;
     }
     Ok(())
+}
+
+/// Writes all of the bytes, or a beginning of them where a write fails. No failure is tried again.
+#[inline(always)]
+pub fn write_all<W: Write>(out: &mut W, bytes: &[u8]) -> Result<(), Io>
+    ensures { Writes W.written W.failures out.old out.new bytes.now result }
+{
+    if bytes.is_empty() {
+        return Ok(());
+    }
+    // Mostly the first write takes all.
+    let count = out.write(bytes)?;
+    if count == bytes.len() {
+        Ok(())
+    } else {
+        write_rest(out, &bytes[count..])
+    }
 }
 
 /// Writes a number's decimal digits.

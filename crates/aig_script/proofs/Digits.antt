@@ -8,6 +8,7 @@ use Rattle.std.proofs.lemmas.Bool.{cases_lt}
 use Rattle.std.proofs.lemmas.Fmt.{decimal_digit, decimal_step, decimal_by_steps, decimal_injective, decimal_nonempty}
 use Rattle.std.proofs.lemmas.List.{take_all, take-append-le, take-append-drop, drop_more}
 use Rattle.std.proofs.lemmas.List.Elements.{All-append}
+use Rattle.aig_script.specs.state.Numbers.{EndsNumber}
 
 -- std's test of a digit
 pub is_digit : (x : ℕ) → is_ascii_digit x ≡ true → (48 ≤ x) × (x ≤ 57)
@@ -99,6 +100,60 @@ grows m n x xs some ms ns e =
     first_digits n (omega arith) (omega arith) next k (omega (arith, range.1))
     (ap (take k) (sym split) ∙ take-append-le k (decimal next) xs (omega arith) ∙ take_all k (decimal next) (omega arith))
 
+-- ---- where the digits end
+
+rest_digits : (x : ℕ) (xs : List ℕ) → AreDigits (x ∷ xs) → AreDigits xs
+unfolding AreDigits
+rest_digits x xs h k d lt = h (suc k) d (omega arith)
+
+-- what ends a number begins with no digit of another one
+other_end : (x y : ℕ) (xs ys : List ℕ) → EndsNumber (x ∷ xs) → AreDigits (y ∷ ys) → x ≡ y → ⊥
+unfolding IsDigit
+other_end x y xs ys ends digits same = is_no_digit x ends (subst IsDigit (sym same) (digit_within [] ys y digits))
+
+-- digits and what ends them are the parts of a list in one way
+ends_once : (a b c d : List ℕ) → AreDigits a → AreDigits c → EndsNumber b → EndsNumber d → a ++ b ≡ c ++ d → b ≡ d
+ends_once [] b [] d p q s t e = e
+ends_once [] [] (y ∷ c) d p q s t e = absurd (let no : ⊥ = cc in no)
+ends_once [] (x ∷ b) (y ∷ c) d p q s t e = absurd (other_end x y b c s q (let h : x ≡ y = cc in h))
+ends_once (x ∷ a) b [] [] p q s t e = absurd (let no : ⊥ = cc in no)
+ends_once (x ∷ a) b [] (y ∷ d) p q s t e = absurd (other_end y x d a t p (let h : y ≡ x = cc in h))
+ends_once (x ∷ a) b (y ∷ c) d p q s t e =
+    ends_once a b c d (rest_digits x a p) (rest_digits y c q) s t (let h : a ++ b ≡ c ++ d = cc in h)
+
+-- digits in front are digits of the number that is in front
+begins_number : (a xs c rest : List ℕ) → AreDigits a → EndsNumber rest → a ++ xs ≡ c ++ rest → (ys : List ℕ) × (c ≡ a ++ ys)
+begins_number [] xs c rest p t e = (c, refl)
+begins_number (x ∷ a) xs [] [] p t e = absurd (let no : ⊥ = cc in no)
+begins_number (x ∷ a) xs [] (y ∷ rest) p t e = absurd (other_end y x rest a t p (let h : y ≡ x = cc in h))
+begins_number (x ∷ a) xs (y ∷ c) rest p t e =
+    let same : y ≡ x = cc in
+    let r = begins_number a xs c rest (rest_digits x a p) t (let h : a ++ xs ≡ c ++ rest = cc in h) in
+    (r.0, ap (λ (z : ℕ). z ∷ c) same ∙ ap (λ (t : List ℕ). x ∷ t) r.1)
+
+pub one_end : (m n : ℕ) (xs ys : List ℕ) → m < 2 ^ 32 → n < 2 ^ 32 → EndsNumber xs → EndsNumber ys
+    → decimal m ++ xs ≡ decimal n ++ ys → xs ≡ ys
+one_end m n xs ys ms ns s t e = ends_once (decimal m) xs (decimal n) ys (digits-decimal m ms) (digits-decimal n ns) s t e
+
+-- a number that goes on with a digit is part of a greater one
+pub grows_on : (m n x : ℕ) (xs rest : List ℕ) → 0 < m → m < 2 ^ 32 → n < 2 ^ 32 → (48 ≤ x) × (x ≤ 57) → EndsNumber rest
+    → decimal m ++ x ∷ xs ≡ decimal n ++ rest → m * 10 + (x - 48) ≤ n
+unfolding IsDigit AreDigits
+grows_on m n x xs rest some ms ns range ends e =
+    let a : List ℕ = decimal m ++ x ∷ [] in
+    let more = begins_number a xs (decimal n) rest (All-append IsDigit (decimal m) (x ∷ []) (digits-decimal m ms) (one_digit x range)) ends
+    (append_assoc (decimal m) (x ∷ []) xs ∙ e) in
+    grows m n x more.0 some ms ns (sym (more.1 ∙ append_assoc (decimal m) (x ∷ []) more.0))
+
+digit_first : (x : ℕ) (xs ds rest : List ℕ) → 0 < length ds → AreDigits ds → x ∷ xs ≡ ds ++ rest → IsDigit x
+digit_first x xs [] rest some digits e = absurd (omega arith)
+digit_first x xs (y ∷ ds) rest some digits e = subst IsDigit (let h : y ≡ x = cc in h) (digit_within [] ds y digits)
+
+-- a number begins with a digit
+pub digit_in_front : (x n : ℕ) (xs rest : List ℕ) → n < 2 ^ 32 → x ∷ xs ≡ decimal n ++ rest → (48 ≤ x) × (x ≤ 57)
+unfolding IsDigit
+digit_in_front x n xs rest small e = digit_first x xs (decimal n) rest (decimal_nonempty n (omega arith)) (digits-decimal n small) e
+
 -- a positive number does not begin with 0
 no_zero : (n : ℕ) → n < 2 ^ 64 → 0 < n → (xs : List ℕ) → decimal n ≡ 48 ∷ xs → ⊥
 no_zero n small some xs e =
@@ -128,9 +183,9 @@ alone zero x xs small e = no (e ∙ decimal_digit 0 (omega arith))
 alone (suc n) x xs small e = no_zero (suc n) (omega arith) (omega arith) (x ∷ xs) (sym e)
 
 -- a number that was read in part, and the digits that are left
-pub left : (first m n i : ℕ) (digits : List ℕ) → i < length digits → decimal first ++ take i digits ≡ decimal m
-    → decimal first ++ digits ≡ decimal n → decimal m ++ (get_or digits i 0 ∷ drop (i + 1) digits) ≡ decimal n
-left first m n i digits lt read e =
+pub left : (first m i : ℕ) (digits all : List ℕ) → i < length digits → decimal first ++ take i digits ≡ decimal m
+    → decimal first ++ digits ≡ all → decimal m ++ (get_or digits i 0 ∷ drop (i + 1) digits) ≡ all
+left first m i digits all lt read e =
     ap (λ (t : List ℕ). t ++ (get_or digits i 0 ∷ drop (i + 1) digits)) (sym read)
     ∙ append_assoc (decimal first) (take i digits) (get_or digits i 0 ∷ drop (i + 1) digits)
     ∙ ap (λ (t : List ℕ). decimal first ++ (take i digits ++ t)) (sym (drop_more digits i 0 lt))
@@ -143,23 +198,25 @@ one_in_front xs rest x e range =
     let is : 48 + (x - 48) ≡ x = omega (arith, range.0) in
     e ∙ sym (ap (λ (t : List ℕ). t ++ rest) (decimal_digit (x - 48) (omega (arith, range.1))) ∙ ap (λ (y : ℕ). y ∷ rest) is)
 
-pub only_zero : (xs rest : List ℕ) (x : ℕ) → xs ≡ x ∷ rest → 48 ≤ x → x ≤ 48 → length rest ≡ 0 → xs ≡ decimal 0
-only_zero xs [] x e ge le none =
+pub zero_in_front : (xs rest : List ℕ) (x : ℕ) → xs ≡ x ∷ rest → 48 ≤ x → x ≤ 48 → xs ≡ decimal 0 ++ rest
+zero_in_front xs rest x e ge le =
     let is : x ≡ 48 = omega arith in
-    e ∙ ap (λ (y : ℕ). y ∷ []) is ∙ sym (decimal_digit 0 (omega arith))
-only_zero xs (y ∷ rest) x e ge le none = absurd (omega (arith, none))
+    e ∙ ap (λ (y : ℕ). y ∷ rest) is ∙ sym (ap (λ (t : List ℕ). t ++ rest) (decimal_digit 0 (omega arith)))
 
-pub zero_in_front : (xs rest : List ℕ) (x n : ℕ) → xs ≡ x ∷ rest → 48 ≤ x → x ≤ 48 → (length rest ≡ 0 → ⊥) → n < 2 ^ 32
-    → xs ≡ decimal n → ⊥
-zero_in_front xs [] x n e ge le some small is = some refl
-zero_in_front xs (y ∷ rest) x n e ge le some small is =
+-- a digit after a 0 in front
+pub leading_zero : (x y n : ℕ) (xs rest : List ℕ) → 48 ≤ x → x ≤ 48 → (48 ≤ y) × (y ≤ 57) → n < 2 ^ 32 → EndsNumber rest
+    → x ∷ (y ∷ xs) ≡ decimal n ++ rest → ⊥
+unfolding IsDigit AreDigits
+leading_zero x y n xs rest ge le range small ends e =
     let zero : x ≡ 48 = omega arith in
-    alone n y rest small (ap (λ (z : ℕ). z ∷ (y ∷ rest)) (sym zero) ∙ sym e ∙ is)
+    let digits : AreDigits (x ∷ (y ∷ [])) = All-append IsDigit (x ∷ []) (y ∷ []) (one_digit x (omega arith, omega arith)) (one_digit y range) in
+    let more = begins_number (x ∷ (y ∷ [])) xs (decimal n) rest digits ends e in
+    alone n y more.0 small (ap (λ (z : ℕ). z ∷ (y ∷ more.0)) (sym zero) ∙ sym more.1)
 
-pub some_such : {P Q : ℕ → Type 0} (r : Option ℕ) → ((n : ℕ) → P n → Q n) → IfSome r P → IfSome r Q
+pub some_such : {T : Type 0} {P Q : T → Type 0} (r : Option T) → ((x : T) → P x → Q x) → IfSome r P → IfSome r Q
 some_such None f h = tt
-some_such (Some n) f h = f n h
+some_such (Some x) f h = f x h
 
-pub none_such : {P Q : Type 0} (r : Option ℕ) → (P → Q) → IfNone r P → IfNone r Q
+pub none_such : {T P Q : Type 0} (r : Option T) → (P → Q) → IfNone r P → IfNone r Q
 none_such None f h = f h
-none_such (Some n) f h = tt
+none_such (Some x) f h = tt

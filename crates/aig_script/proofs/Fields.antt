@@ -40,14 +40,6 @@ split_once (x ∷ a) b (y ∷ c) d p q e =
     let r = split_once a b c d (rest_space x a p) (rest_space y c q) t in
     (ap (λ (z : ℕ). z ∷ a) h ∙ ap (λ (zs : List ℕ). y ∷ zs) r.0, r.1)
 
--- a list with a space has one
-pub space_within : (a b xs : List ℕ) → All (λ x. x ≢ 32) xs → xs ≡ a ++ 32 ∷ b → ⊥
-unfolding HasNoSpace
-space_within [] b [] p e = cc
-space_within [] b (x ∷ xs) p e = p 0 0 (omega arith) (let h : x ≡ 32 = cc in h)
-space_within (y ∷ a) b [] p e = cc
-space_within (y ∷ a) b (x ∷ xs) p e = space_within a b xs (rest_space x xs p) (let h : xs ≡ a ++ 32 ∷ b = cc in h)
-
 pub on_none : {T P : Type 0} (r : Option T) → P → IfNone r P
 on_none None p = p
 on_none (Some x) p = tt

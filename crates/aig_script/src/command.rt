@@ -1,11 +1,12 @@
 //! Commands of a script.
-ghost use Rattle.std.specs.Prelude.{◌≡◌, ◌≢◌, ◌<◌, ℕ, List, ◌∷◌, ◌++◌, [], All, codes, IfSome, IfNone};
+ghost use Rattle.std.specs.Prelude.{◌≡◌, ◌≢◌, ◌<◌, ℕ, List, ◌∷◌, ◌++◌, [], codes, IfSome, IfNone};
 ghost use Rattle.std.specs.Fmt.{decimal};
 ghost use Rattle.aig_parts.specs.declared.ternary.Tern.{Tern};
 ghost use Rattle.aig_values.specs.Characters.{character};
 ghost use Rattle.aig_script.specs.Command.{command_text, number_field, rewire_fields, reset_fields, bit_fields, append_fields};
 ghost use Rattle.aig_script.specs.Command.{output_fields, value_fields, IsCommand, IsNoCommand, IsNumber};
 ghost use Rattle.aig_script.specs.state.CommandMeaning.{meaning};
+ghost use Rattle.aig_script.specs.state.Numbers.{EndsNumber};
 ghost use Rattle.aig_script.specs.ScriptLine.{BeginsRow};
 
 use aig_base::{Lit, Tern};
@@ -53,40 +54,35 @@ pub enum Command {
     Unroll,
 }
 
-/// The bytes before the first space, and those after it.
-fn split_at_space(bytes: &[u8]) -> Option<(&[u8], &[u8])>
-    ensures split { IfSome result (λ parts. bytes.now ≡ parts.0.now ++ 32 ∷ parts.1.now) }
-    ensures first { IfSome result (λ parts. All (λ b. b ≢ 32) parts.0.now) }
-    ensures none { IfNone result (All (λ b. b ≢ 32) bytes.now) }
-{
-    let at = bytes.iter().position(|byte| *byte == b' ')?;
-    Some((&bytes[..at], &bytes[at + 1..]))
-}
-
-/// The number whose digits are those of another one and these after them, where it is at most `u32::MAX`.
-fn longer_number(first: u32, digits: &[u8]) -> Option<u32>
+/// The number whose digits are those of another one and then those in front, and what follows them. There is none where
+/// the number is over `u32::MAX`.
+fn longer_number(first: u32, bytes: &[u8]) -> Option<(u32, &[u8])>
     requires { 0 < first }
-    ensures some { IfSome result (λ n. decimal first ++ digits.now ≡ decimal n) }
-    ensures none { IfNone result ((n : ℕ) → IsNumber n → decimal first ++ digits.now ≢ decimal n) }
+    ensures some { IfSome result (λ parts. decimal first ++ bytes.now ≡ decimal parts.0 ++ parts.1.now) }
+    ensures ends { IfSome result (λ parts. EndsNumber parts.1.now) }
+    ensures none { IfNone result ((n : ℕ) (rest : List ℕ) → IsNumber n → EndsNumber rest →
+        decimal first ++ bytes.now ≢ decimal n ++ rest) }
 {
     let mut number = first;
-    for digit in digits {
-        if !digit.is_ascii_digit() {
-            return None;
-        }
-        let longer = number as u64 * 10 + (*digit - b'0') as u64;
+    let mut at = 0;
+    while at < bytes.len() && bytes[at].is_ascii_digit() {
+        let longer = number as u64 * 10 + (bytes[at] - b'0') as u64;
         if longer > u32::MAX as u64 {
             return None;
         }
         number = longer as u32;
+        at += 1;
     }
-    Some(number)
+    Some((number, &bytes[at..]))
 }
 
-/// The number that the bytes are: decimal digits without leading zeros, at most `u32::MAX`.
-fn parse_number(bytes: &[u8]) -> Option<u32>
-    ensures some { IfSome result (λ n. bytes.now ≡ decimal n) }
-    ensures none { IfNone result ((n : ℕ) → IsNumber n → bytes.now ≢ decimal n) }
+/// The number in front, of as many digits as there are, and what follows it. It has no leading zeros, and is at most
+/// `u32::MAX`.
+fn split_number(bytes: &[u8]) -> Option<(u32, &[u8])>
+    ensures some { IfSome result (λ parts. bytes.now ≡ decimal parts.0 ++ parts.1.now) }
+    ensures ends { IfSome result (λ parts. EndsNumber parts.1.now) }
+    ensures none { IfNone result ((n : ℕ) (rest : List ℕ) → IsNumber n → EndsNumber rest →
+        bytes.now ≢ decimal n ++ rest) }
 {
     let (first, rest) = bytes.split_first()?;
     if !first.is_ascii_digit() {
@@ -95,7 +91,19 @@ fn parse_number(bytes: &[u8]) -> Option<u32>
     if *first > b'0' {
         return longer_number((*first - b'0') as u32, rest);
     }
-    if rest.is_empty() { Some(0) } else { None }
+    match rest {
+        [next, ..] if next.is_ascii_digit() => None,
+        _ => Some((0, rest)),
+    }
+}
+
+/// The number that the bytes are: decimal digits without leading zeros, at most `u32::MAX`.
+fn parse_number(bytes: &[u8]) -> Option<u32>
+    ensures some { IfSome result (λ n. bytes.now ≡ decimal n) }
+    ensures none { IfNone result ((n : ℕ) → IsNumber n → bytes.now ≢ decimal n) }
+{
+    let (number, rest) = split_number(bytes)?;
+    if rest.is_empty() { Some(number) } else { None }
 }
 
 /// The number in front, and what stands after the space that ends it.
@@ -105,8 +113,13 @@ fn parse_field(bytes: &[u8]) -> Option<(u32, &[u8])>
         parts.1.now ≡ rest) }
     ensures none { IfNone result ((n : ℕ) (rest : List ℕ) → IsNumber n → bytes.now ≢ number_field n rest) }
 {
-    let (first, rest) = split_at_space(bytes)?;
-    Some((parse_number(first)?, rest))
+    let (number, rest) = split_number(bytes)?;
+    let (end, after) = rest.split_first()?;
+    if *end == b' ' {
+        Some((number, after))
+    } else {
+        None
+    }
 }
 
 /// The value that the bytes are: `0`, `1` or `x`.

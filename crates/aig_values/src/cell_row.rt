@@ -23,6 +23,15 @@ pub trait CellRow: Sized + Drop {
         requires limit { size ≤ limit + 1 }
         ensures { IfOk result (λ row. (room : ℕ) × (size ≤ room) × (cells row ≡ fresh_row room)) };
 
+    /// A row as `new` makes it, in the memory of this one where it is used again.
+    fn renewed(self, alloc: Global, size: usize) -> Result<Self, AllocError>
+        requires positive { 0 < size }
+        requires limit { size ≤ limit + 1 }
+        ensures { IfOk result (λ row. (room : ℕ) × (size ≤ room) × (cells row ≡ fresh_row room)) }
+    {
+        Self::new(alloc, size)
+    }
+
     /// Adds cells, which are x, where there are not so many, at most one more than there are.
     fn make_room(&mut self, size: usize) -> Result<(), AllocError>
         requires more { size ≤ length (cells self.old) + 1 }

@@ -1,8 +1,10 @@
 //! Rows of two bits a cell, thirty-two cells a word.
-ghost use Rattle.std.specs.Prelude.{◌≡◌, ◌≢◌, ℕ, ◌+◌, ◌*◌, ◌<◌, ◌≤◌, IsTrue, All, length, map, vec_len};
+ghost use Rattle.std.specs.Prelude.{◌≡◌, ◌≢◌, ℕ, ◌+◌, ◌*◌, ◌<◌, ◌≤◌, IfOk, IsTrue, All, length, map, vec_len};
 ghost use Rattle.std.specs.Prelude.{slice_index, slice_index_or};
 ghost use Rattle.aig_parts.specs.declared.ternary.Tern.TheVariants.{X};
+ghost use Rattle.aig_parts.specs.Formed.{limit};
 ghost use Rattle.aig_parts.specs.Literal.{variable};
+ghost use Rattle.aig_values.specs.Cells.{fresh_row};
 ghost use Rattle.aig_values.specs.Characters.{character};
 ghost use Rattle.aig_values.specs.TraceText.{literal_character};
 ghost use Rattle.aig_values.specs.state.Words.{spelled, value_in, IsWhole};
@@ -131,19 +133,40 @@ fn make_codes(codes: &mut Vec<Code>, words: usize) -> bool
     }
 }
 
+// How many words have room for this many cells.
+fn word_count(size: usize) -> usize
+    requires { size ≤ limit + 1 }
+    ensures least { size ≤ 32 * result }
+    ensures most { 32 * result < size + 32 }
+{
+    (size + (CELLS - 1)) / CELLS
+}
+
+// A row with room for this many cells at least, in this memory: 0 at variable 0, x everywhere else.
+fn fresh(mut words: Vec<u64>, size: usize) -> Result<PlaneRow, AllocError>
+    requires positive { 0 < size }
+    requires limit { size ≤ limit + 1 }
+    ensures { IfOk result (λ row. (room : ℕ) × (size ≤ room) × (row ≡ fresh_row room)) }
+{
+    words.clear();
+    words.resize(word_count(size), unknown())?;
+    words[0] = with_code(words[0], 0, Code::of(Tern::Zero));
+    Ok(PlaneRow { words })
+}
+
 impl CellRow for PlaneRow {
     ghost cells = { λ row. row };
 
     fn new(alloc: Global, size: usize) -> Result<PlaneRow, AllocError> {
-        let count = (size + (CELLS - 1)) / CELLS;
-        let mut words = Vec::with_capacity(alloc, count)?;
-        words.resize(count, unknown())?;
-        words[0] = with_code(words[0], 0, Code::of(Tern::Zero));
-        Ok(PlaneRow { words })
+        fresh(Vec::with_capacity(alloc, word_count(size))?, size)
+    }
+
+    fn renewed(self, _alloc: Global, size: usize) -> Result<PlaneRow, AllocError> {
+        fresh(self.words, size)
     }
 
     fn make_room(&mut self, size: usize) -> Result<(), AllocError> {
-        if self.words.len() < (size + (CELLS - 1)) / CELLS {
+        if self.words.len() < word_count(size) {
             self.words.push(unknown())?;
         }
         Ok(())

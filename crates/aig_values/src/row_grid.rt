@@ -1,10 +1,10 @@
 //! Grids of rows, however these keep their cells.
-ghost use Rattle.std.specs.Prelude.{◌≡◌, ◌≢◌, ◌+◌, ◌<◌, ◌≤◌, ◌↔◌, length, map, fold, All, IsTrue, OnOk};
+ghost use Rattle.std.specs.Prelude.{◌≡◌, ◌≢◌, ℕ, ◌+◌, ◌<◌, ◌≤◌, ◌↔◌, length, map, fold, All, IfOk, IsTrue, OnOk};
 ghost use Rattle.std.specs.Prelude.{slice_set, slice_index_or};
 ghost use Rattle.aig_parts.specs.Formed.{limit};
 ghost use Rattle.aig_parts.specs.declared.ternary.Tern.TheVariants.{X};
 ghost use Rattle.aig_parts.specs.Literal.{variable};
-ghost use Rattle.aig_values.specs.Cells.{literal_value, gate_value, with_gate_value, HasVariablesBelow};
+ghost use Rattle.aig_values.specs.Cells.{fresh_row, literal_value, gate_value, with_gate_value, HasVariablesBelow};
 ghost use Rattle.aig_values.specs.state.Padded.{AreLengthened};
 ghost use Rattle.aig_values.specs.TraceText.{literal_character};
 
@@ -24,6 +24,8 @@ use std::marker::Model;
 #[derive(Drop)]
 pub struct RowGrid<R: CellRow> {
     rows: Vec<R>,
+    // A row that was taken off, whose memory the next one gets.
+    spare: Option<R>,
     variables: u32,
     // How many variables each row has cells for.
     room: u32,
@@ -124,6 +126,18 @@ fn make_room<R: CellRow>(rows: &mut [R], size: usize) -> Result<(), AllocError>
     Ok(())
 }
 
+// A row with room for this many cells at least, in the memory of the spare one: 0 at variable 0, x everywhere else.
+fn next_row<R: CellRow>(spare: &mut Option<R>, alloc: Global, size: usize) -> Result<R, AllocError>
+    requires positive { 0 < size }
+    requires limit { size ≤ limit + 1 }
+    ensures { IfOk result (λ row. (room : ℕ) × (size ≤ room) × (R.cells row ≡ fresh_row room)) }
+{
+    match spare.take() {
+        Some(row) => row.renewed(alloc, size),
+        None => R::new(alloc, size),
+    }
+}
+
 // Counts so many evaluations.
 fn count_more(count: &mut Count, more: usize)
     ensures { count.new.number ≡ count.old.number + more }
@@ -145,6 +159,7 @@ impl<R: CellRow> Grid for RowGrid<R> {
     fn new(alloc: Global, gates: &[bool]) -> Result<RowGrid<R>, Memory> {
         Ok(RowGrid {
             rows: Vec::new(alloc),
+            spare: None,
             variables: gates.len() as u32,
             room: gates.len() as u32,
             gates: GateFlags::of(gates),
@@ -186,13 +201,13 @@ impl<R: CellRow> Grid for RowGrid<R> {
 
     fn add_row(&mut self) -> Result<(), Memory> {
         let alloc = *self.rows.allocator();
-        let row = R::new(alloc, self.room as usize)?;
+        let row = next_row(&mut self.spare, alloc, self.room as usize)?;
         self.rows.push(row)?;
         Ok(())
     }
 
     fn drop_row(&mut self) {
-        let _ = self.rows.pop();
+        self.spare = self.rows.pop();
     }
 
     fn reserve_gate(&mut self) -> Result<(), Memory> {

@@ -1,11 +1,11 @@
 //! The values of the primary inputs, frame by frame.
-ghost use Rattle.std.specs.Prelude.{◌≡◌, ◌-◌, ◌+◌, ◌<◌, ◌≤◌, [], ◌∷◌, ◌++◌, length, take, All, OnOk, OnErr, Some};
+ghost use Rattle.std.specs.Prelude.{◌≡◌, ◌-◌, ◌+◌, ◌<◌, ◌≤◌, [], ◌∷◌, ◌++◌, length, take, All, IfOk, OnOk, OnErr, Some};
 ghost use Rattle.std.specs.Prelude.{slice_get};
 ghost use Rattle.aig_values.specs.InputRows.{with_cell, row_at, HaveWidth};
 
 use aig_bytes::Memory;
 use aig_parts::{List, Tern};
-use std::alloc::Global;
+use std::alloc::{AllocError, Global};
 use std::marker::Model;
 
 /// The greatest number of frames of a stimulus.
@@ -16,6 +16,8 @@ pub const FRAMES: u32 = 65_536;
 pub struct Stimulus {
     width: u32,
     rows: Vec<List<Tern>>,
+    // A row that was taken off, whose memory the next one gets.
+    spare: Option<List<Tern>>,
 }
 
 impl Model for Stimulus {
@@ -30,6 +32,31 @@ impl Model for Stimulus {
     ghost invariant = { λ s. (vec_len s.rows ≤ FRAMES) × HaveWidth s.width s.rows.items };
 }
 
+// Writes a row over another one of its length.
+fn write_over(copy: &mut List<Tern>, row: &[Tern])
+    requires { length copy.old ≡ length row.now }
+    ensures { copy.new ≡ row.now }
+{
+    for place in 0..row.len() {
+        copy.set(place, row[place]);
+    }
+}
+
+// A copy of a row, in the memory of the spare one where that has its length.
+fn copied(alloc: Global, spare: Option<List<Tern>>, row: &[Tern]) -> Result<List<Tern>, AllocError>
+    ensures { IfOk result (λ copy. copy ≡ row.now) }
+{
+    if let Some(mut copy) = spare {
+        if copy.len() == row.len() {
+            write_over(&mut copy, row);
+            return Ok(copy);
+        }
+    }
+    let mut copy = Vec::with_capacity(alloc, row.len())?;
+    copy.extend_from_slice(row)?;
+    Ok(List::from_vec(copy))
+}
+
 impl Stimulus {
     /// No rows of this width.
     pub fn new(alloc: Global, width: u32) -> Stimulus
@@ -38,6 +65,7 @@ impl Stimulus {
         Stimulus {
             width,
             rows: Vec::new(alloc),
+            spare: None,
         }
     }
 
@@ -91,9 +119,8 @@ impl Stimulus {
         ensures err { OnErr result (self.new ≡ self.old) }
     {
         let alloc = *self.rows.allocator();
-        let mut copy = Vec::with_capacity(alloc, row.len())?;
-        copy.extend_from_slice(row)?;
-        self.rows.push(List::from_vec(copy))?;
+        let copy = copied(alloc, self.spare.take(), row)?;
+        self.rows.push(copy)?;
         Ok(())
     }
 
@@ -102,6 +129,6 @@ impl Stimulus {
         requires { 0 < length self.old.rows }
         ensures { self.new ≡ record self.old { rows = take (length self.old.rows - 1) self.old.rows } }
     {
-        let _ = self.rows.pop();
+        self.spare = self.rows.pop();
     }
 }

@@ -1,17 +1,15 @@
-use Rattle.std.proofs.Common.{ℕ, arith, length-drop}
-use Rattle.std.proofs.lemmas.List.{length-take}
-use Rattle.aig_bytes.proofs.WriteLemmas.{writes_some, writes_failed}
+use Rattle.std.proofs.Common.{◌++◌, List, ℕ, Ok, take, ap, ◌∙◌, arith}
+use Rattle.std.proofs.lemmas.List.{take_rest, take-append-drop}
+use Rattle.aig_bytes.specs.Bytes.{Writes}
+use Rattle.aig_bytes.proofs.WriteLemmas.{writes_then, writes_same}
 use Rattle.aig_bytes.proofs.write.write_all.Goals as goal
 
-pub returns-in_err-at : goal.returns-in_err-at
-returns-in_err-at g c =
-    let h = c.in_err-at.ensures in
-    writes_failed c.args.bytes.now c.loop-at.at c.loop-at.invariant.writes h.taken h.count c.from_residual.ensures.0
-
-pub loop-at-preserved : goal.loop-at-preserved
-loop-at-preserved g c =
-    let h = c.in_ok-at.ensures in
-    record {
-      inside = omega (arith, length-take {A = ℕ}, length-drop {A = ℕ}, h.bound);
-      writes = writes_some c.args.bytes.now c.loop-at.at c.in_ok-at.field-0 c.loop-at.invariant.writes h.taken h.count;
-    }
+pub returns-else-count-bytes : goal.returns-else-count-bytes
+returns-else-count-bytes g c =
+    let bytes = c.args.bytes.now in
+    let n = c.in_ok-count.count in
+    let h = c.in_ok-count.ensures in
+    let first : Writes {T = Unit {0}} {E = Unit {0}} g.W.Write.written g.W.Write.failures c.args.out.now c.write.new.self (take n bytes) (Ok tt) =
+    record { ok = h.taken; err = tt; count = h.count } in
+    writes_same (writes_then first c.write_rest.ensures)
+    (ap (λ (xs : List ℕ). take n bytes ++ xs) (take_rest bytes n) ∙ take-append-drop n bytes)

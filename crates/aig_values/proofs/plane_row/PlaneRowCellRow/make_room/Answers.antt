@@ -19,11 +19,14 @@ returns-in_ok-push-clause-ok c =
     let was = ap (λ (row : List Tern). length row) c.self.view_is in
     let more = c.in_ok-push.ensures.len in
     let limit = c.requires.more in
+    let fewer = c.if-len-word_count.true in
+    let few = c.word_count.ensures.most in
     omega arith
 
-pub returns-else-len-size-clause-ok : goal.returns-else-len-size-clause-ok
-returns-else-len-size-clause-ok c =
+pub returns-else-len-word_count-clause-ok : goal.returns-else-len-word_count-clause-ok
+returns-else-len-word_count-clause-ok c =
     let old = length-spelled c.self.inside.words.items in
     let was = ap (λ (row : List Tern). length row) c.self.view_is in
-    let test = c.if-len-size.false in
+    let test = c.if-len-word_count.false in
+    let enough = c.word_count.ensures.least in
     omega arith

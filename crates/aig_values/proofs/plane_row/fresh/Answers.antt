@@ -1,22 +1,21 @@
-use Rattle.std.proofs.Common.{◌≡◌, ◌<◌, ◌+◌, ◌*◌, ◌/◌, ℕ, List, length, vec_len, set, replicate, ap, ◌∙◌, arith}
+use Rattle.std.proofs.Common.{◌≡◌, ◌<◌, ◌*◌, ℕ, List, length, vec_len, set, replicate, ap, ◌∙◌, arith}
 use Rattle.std.proofs.lemmas.List.{get_or-replicate}
 use Rattle.aig_values.specs.state.Words.{spelled, value_in}
-use Rattle.aig_values.proofs.PaddedRows.{words_suffice}
 use Rattle.aig_values.proofs.WordLemmas.{spelled_fresh, made_longer}
-use Rattle.aig_values.proofs.plane_row.PlaneRowCellRow.new.Goals as goal
+use Rattle.aig_values.proofs.plane_row.fresh.Goals as goal
 
 pub returns : goal.returns
 returns c =
-    let k : ℕ = (c.args.size + 31) / 32 in
-    let pos : 0 < k = omega arith in
-    let none : vec_len c.in_ok-words.words ≡ 0 = omega (arith, ap length c.in_ok-words.ensures.items) in
+    let k : ℕ = c.word_count.result in
+    let pos : 0 < k = omega (arith, c.word_count.ensures.least, c.requires.positive) in
+    let none : vec_len c.clear.new.self ≡ 0 = omega (arith, ap length c.clear.ensures.items) in
     let words : c.resize.new.self.items ≡ replicate k c.unknown.result =
-    made_longer c.resize.new.self.items c.in_ok-words.words.items k (vec_len c.in_ok-words.words) c.unknown.result
-    c.in_ok-words.ensures.items none c.in_ok-resize.ensures.items in
+    made_longer c.resize.new.self.items c.clear.new.self.items k (vec_len c.clear.new.self) c.unknown.result
+    c.clear.ensures.items none c.in_ok-resize.ensures.items in
     let first : c.index.result.now ≡ c.unknown.result =
     (rw words at c.index.ensures) ∙ get_or-replicate k 0 c.unknown.result c.index.result.now pos in (
       32 * k,
-      words_suffice c.args.size,
+      c.word_count.ensures.least,
       ap (λ (words : List ℕ). spelled (set words 0 c.with_code.result)) words
           ∙ spelled_fresh k c.with_code.result c.unknown.result pos (c.with_code.ensures.there ∙ c.of.ensures)
           c.unknown.ensures.x

@@ -1,6 +1,6 @@
 use Rattle.std.proofs.Common.{length, ◌-◌, ◌≤◌, take, Ok}
 use Rattle.aig_bytes.specs.Bytes.{Writes}
-use Rattle.aig_bytes.proofs.write.write_all.Given as goal
+use Rattle.aig_bytes.proofs.write.write_rest.Given as goal
 
 abbrev pub invariant-loop-at : goal.invariant-loop-at
 invariant-loop-at g l = record {
