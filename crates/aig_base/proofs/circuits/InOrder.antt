@@ -3,7 +3,7 @@ use Rattle.std.proofs.Common.{◌≡◌, ℕ, zero, suc, ◌+◌, ◌*◌, ◌<�
 use Rattle.std.proofs.Common.{slice_get, refl, sym, ◌∙◌, ap, arith}
 use Rattle.std.proofs.lemmas.List.{length-map, get_or-map}
 use Rattle.std.proofs.lemmas.List.Elements.{All-weaker}
-use Rattle.std.proofs.lemmas.Option.{slice_get-get_or, slice_get_within, get_or_from_slice_get}
+use Rattle.std.proofs.lemmas.Option.{slice_get-get_or, slice_get_within, get_or_from_slice_get, same_Some}
 use Rattle.aig_base.specs.declared.definition.Definition.TheVariants as definition
 use Rattle.aig_parts.specs.declared.gate.Gate.{Gate}
 use Rattle.aig_parts.specs.declared.latch.Latch.{Latch}
@@ -110,6 +110,14 @@ module _ (raw : Raw) (order : IsInOrder raw) where
       let at = even_at (map lhs raw.gates) first (length raw.gates) q (apart raw order).gates_are lt in
       let (g, here, same) = slice_get_unmap lhs raw.gates q (2 * (first + q)) at in
       (g, here, ap variable same ∙ half_of (first + q) ∙ sym is)
+
+  -- the variable of the gate at a place
+  pub gate_number : (q : ℕ) (g : Gate) → slice_get raw.gates q ≡ Some g
+      → variable g.lhs ≡ 1 + length raw.inputs + length raw.latches + q
+  gate_number q g at =
+      let (h, here, is) = gate_defines (1 + length raw.inputs + length raw.latches + q) q
+      (slice_get_within raw.gates q g at) refl in
+      ap (λ (x : Gate). variable x.lhs) (same_Some g h (sym at ∙ here)) ∙ is
 
   -- gates that read smaller variables alone are in range
   pub gates_in_range : All ReadsSmaller raw.gates
