@@ -119,16 +119,29 @@ module _ (raw : Raw) (order : IsInOrder raw) where
       (slice_get_within raw.gates q g at) refl in
       ap (λ (x : Gate). variable x.lhs) (same_Some g h (sym at ∙ here)) ∙ is
 
+  -- the left side at a place
+  left_side : (k : ℕ) (d : Gate) → k < length raw.gates
+      → (get_or raw.gates k d).lhs ≡ 2 * (1 + length raw.inputs + length raw.latches + k)
+  left_side k d lt =
+      let lhs : Gate → ℕ = λ x. x.lhs in
+      let first = 1 + length raw.inputs + length raw.latches in
+      sym (get_or-map lhs raw.gates k d 0 lt) ∙ ap (λ (ls : List ℕ). get_or ls k 0) (apart raw order).gates_are
+      ∙ get_or-evens_from first (length raw.gates) k 0 lt
+
+  -- gates whose sides go down read smaller variables alone
+  pub smaller_sides : All (λ g. (g.rhs0 < g.lhs) × (g.rhs1 ≤ g.rhs0)) raw.gates → All ReadsSmaller raw.gates
+  smaller_sides down = λ k d lt.
+      let g : Gate = get_or raw.gates k d in
+      let e = left_side k d lt in
+      let s : (g.rhs0 < g.lhs) × (g.rhs1 ≤ g.rhs0) = down k d lt in
+      (omega arith, omega arith)
+
   -- gates that read smaller variables alone are in range
   pub gates_in_range : All ReadsSmaller raw.gates
       → All (λ g. IsInRange raw g.lhs × IsInRange raw g.rhs0 × IsInRange raw g.rhs1) raw.gates
   gates_in_range smaller = λ k d lt.
       let g : Gate = get_or raw.gates k d in
-      let lhs : Gate → ℕ = λ x. x.lhs in
-      let first = 1 + length raw.inputs + length raw.latches in
-      let e : g.lhs ≡ 2 * (first + k) =
-      sym (get_or-map lhs raw.gates k d 0 lt) ∙ ap (λ (ls : List ℕ). get_or ls k 0) (apart raw order).gates_are
-      ∙ get_or-evens_from first (length raw.gates) k 0 lt in
+      let e = left_side k d lt in
       let s : ReadsSmaller g = smaller k d lt in
       let top : g.lhs ≤ 2 * raw.max_var = omega (arith, size_is) in
       (omega arith, below g.rhs0 g.lhs s.0 top, below g.rhs1 g.lhs s.1 top)
