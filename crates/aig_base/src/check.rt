@@ -6,6 +6,7 @@ ghost use Rattle.aig_base.specs.state.Definitions.{IsDefinitionTable};
 ghost use Rattle.aig_base.specs.state.Definitions.{AreDefinitionsOf};
 ghost use Rattle.aig_base.specs.state.Entries.{AreEntries};
 ghost use Rattle.aig_base.specs.FirstFault.{IsFirstFault};
+ghost use Rattle.aig_base.specs.Renumbered.{IsBinaryReady};
 ghost use Rattle.aig_parts.specs.Formed.{IsFormed, CountsFit};
 ghost use Rattle.aig_base.specs.Levels.{AreLevels};
 ghost use Rattle.aig_base.specs.state.LeastFaulty.{IsLeastAmong, IsKnownLiteral, IsGroundedGate, ReadsSmaller, gate_variable};
@@ -259,6 +260,24 @@ impl Circuit {
             raw,
             definitions,
             levels,
+        })
+    }
+
+    /// The circuit of parts that a binary file can hold, or their first fault, as `check` reports it. The caller knows
+    /// that they are formed, and that their definitions are in order, each gate after all that it reads. So the gates
+    /// are not looked at, and it takes no memory.
+    pub fn check_ready(raw: Raw) -> Result<Circuit, Fault>
+        requires formed { IsFormed raw }
+        requires ready { IsBinaryReady raw }
+        ensures parts { IfOk result (λ circuit. circuit ≡ raw) }
+        ensures circuit { IfOk result IsCircuit }
+        ensures fault { IfErr result (λ fault. fault ≢ Fault.Memory → IsFirstFault raw fault) }
+    {
+        test_ascending(&raw)?;
+        Ok(Circuit {
+            raw,
+            definitions: Definitions::InOrder,
+            levels: None,
         })
     }
 }

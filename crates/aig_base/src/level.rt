@@ -1,5 +1,6 @@
 //! Levels of variables: the longest way down the fan-ins to an input, a latch or the constant.
-ghost use Rattle.std.specs.Prelude.{◌≡◌, ◌<◌, ◌^◌, [], ◌∷◌, ◌++◌, length, Some, slice_get, IfOk, IfSome};
+ghost use Rattle.std.specs.Prelude.{◌≡◌, ◌+◌, ◌<◌, ◌^◌, [], ◌∷◌, ◌++◌, length, Some, slice_get, IfOk, IfSome};
+ghost use Rattle.aig_base.specs.Definition.{IsInOrder};
 ghost use Rattle.aig_base.specs.state.Descent.{level_above, AreFirstLevels};
 ghost use Rattle.aig_base.specs.Levels.{AreLevels};
 ghost use Rattle.aig_parts.specs.Literal.{variable};
@@ -64,10 +65,45 @@ fn next_level(circuit: &Circuit, levels: &[u32], variable: u32) -> Option<u32>
     Some(level_over(levels, &gate))
 }
 
+// Level 0 for variable 0, the inputs and the latches, whose definitions come first, with room for the gates.
+fn source_levels(alloc: Global, circuit: &Circuit) -> Result<Vec<u32>, Memory>
+    requires { IsInOrder circuit.now }
+    ensures size { IfOk result (λ levels.
+        length levels.items ≡ 1 + length circuit.now.inputs + length circuit.now.latches) }
+    ensures levels { IfOk result (λ levels. AreFirstLevels circuit.now levels.items) }
+{
+    circuit.facts();
+    let mut levels = Vec::with_capacity(alloc, circuit.max_var() as usize + 1)?;
+    for _ in 0..1 + circuit.inputs().len() + circuit.latches().len() {
+        levels.push(0)?;
+    }
+    Ok(levels)
+}
+
+// The levels of a circuit whose definitions are in order, where each gate reads smaller variables alone. It goes from
+// gate to gate and looks up no definition.
+fn levels_in_order(alloc: Global, circuit: &Circuit) -> Result<Option<Vec<u32>>, Memory>
+    requires { IsInOrder circuit.now }
+    ensures { IfOk result (λ found. IfSome found (λ levels. AreLevels circuit.now levels.items)) }
+{
+    circuit.facts();
+    let mut levels = source_levels(alloc, circuit)?;
+    for gate in circuit.gates() {
+        if !reads_smaller(*gate) {
+            return Ok(None);
+        }
+        levels.push(level_over(&levels, gate))?;
+    }
+    Ok(Some(levels))
+}
+
 // The levels of a circuit where each gate reads smaller variables alone. One pass.
 fn ascending_levels(alloc: Global, circuit: &Circuit) -> Result<Option<Vec<u32>>, Memory>
     ensures { IfOk result (λ found. IfSome found (λ levels. AreLevels circuit.now levels.items)) }
 {
+    if circuit.keeps_order() {
+        return levels_in_order(alloc, circuit);
+    }
     let max_var = circuit.max_var();
     let mut levels = Vec::with_capacity(alloc, max_var as usize + 1)?;
     for variable in 0..max_var + 1 {

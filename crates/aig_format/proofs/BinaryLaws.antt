@@ -15,13 +15,14 @@ use Rattle.aig_format.specs.declared.header.Counts.{Counts}
 use Rattle.aig_format.specs.Header.{AreWithin, counts_of}
 use Rattle.aig_format.specs.Spelling.{implicit_latch_line, gate_deltas, lines, properties_of, names_text}
 use Rattle.aig_format.specs.Spells.{greatest, AreSmall, HasSmallNumbers, HasSpelling}
+use Rattle.aig_format.specs.state.Fits.{FitsFrom, IsImplicitGate}
 use Rattle.aig_format.specs.state.ReadingSections.{implicit_latch_at, implicit_gate_at, lines_at}
 use Rattle.aig_format.specs.state.ReadingFile.{binary_at}
 use Rattle.aig_format.proofs.Steps.{done, done_is}
 use Rattle.aig_format.proofs.Joins.{join2, join_end}
 use Rattle.aig_format.proofs.Numbers.{bind_then}
-use Rattle.aig_format.proofs.Lines.{FitsFrom, lines_take, lines_again, plain_lines, IsLatch, IsGateWithin}
-use Rattle.aig_format.proofs.Lines.{IsImplicitLatch, IsImplicitGate, IsWrittenGate, implicit_latch_takes}
+use Rattle.aig_format.proofs.Lines.{lines_take, lines_again, plain_lines, IsLatch, IsGateWithin}
+use Rattle.aig_format.proofs.Lines.{IsImplicitLatch, IsWrittenGate, implicit_latch_takes}
 use Rattle.aig_format.proofs.Lines.{implicit_latch_again, implicit_gate_takes, implicit_gate_again}
 use Rattle.aig_format.proofs.Names.{IsSymbolEntry}
 use Rattle.aig_format.proofs.SectionLaws.{FitsProperties, properties_take, properties_again, text_of}
@@ -216,6 +217,25 @@ binary_take c bytes raw rest h =
       once = tn.once;
     })))))
 
+-- parts of a binary file, whose counts go together
+pub ready_from : (raw : Raw) → raw.inputs ≡ evens (length raw.inputs)
+    → FitsFrom (HasEven latch_lit) (length raw.inputs + 1) raw.latches
+    → FitsFrom IsImplicitGate (length raw.inputs + length raw.latches + 1) raw.gates
+    → raw.max_var ≡ length raw.inputs + length raw.latches + length raw.gates → IsBinaryReady raw
+ready_from raw inputs latches gates exact =
+    let first : ℕ = length raw.inputs + length raw.latches + 1 in
+    let order : InOrder raw = record {
+      inputs = inputs;
+      latches = latches;
+      gates = fits_map IsImplicitGate (HasEven gate_lhs) (λ v x f. f.0) first raw.gates gates;
+      exact = exact;
+    } in
+    record {
+      in_order = order_of raw order;
+      gates = all_from IsImplicitGate (λ g. (g.rhs0 < g.lhs) × (g.rhs1 ≤ g.rhs0)) (λ v g f. (f.1, f.2))
+          first raw.gates gates;
+    }
+
 -- where the counts go together, the parts are in order and their numbers are small
 pub binary_numbers : (bytes : List ℕ) (raw : Raw) → BinaryRead (counts_of raw) bytes raw → AreWithin (counts_of raw)
     → raw.max_var ≡ length raw.inputs + length raw.latches + length raw.gates → HasSmallNumbers raw × IsBinaryReady raw
@@ -226,12 +246,8 @@ binary_numbers bytes raw r w exact =
     fits_below IsImplicitLatch formed.limit (i + 1) raw.latches (omega (arith, w.max_var, exact)) r.latches in
     let gates =
     fits_below IsImplicitGate formed.limit (i + l + 1) raw.gates (omega (arith, w.max_var, exact)) r.gates in
-    let order : InOrder raw = record {
-      inputs = r.inputs;
-      latches = fits_map IsImplicitLatch (HasEven latch_lit) (λ v x f. f.0) (i + 1) raw.latches r.latches;
-      gates = fits_map IsImplicitGate (HasEven gate_lhs) (λ v x f. f.0) (i + l + 1) raw.gates r.gates;
-      exact = exact;
-    } in (
+    let even_latches =
+    fits_map IsImplicitLatch (HasEven latch_lit) (λ v x f. f.0) (i + 1) raw.latches r.latches in (
       record {
         inputs = subst AreSmall (sym r.inputs) (small_evens i (omega (arith, w.inputs)));
         latches =
@@ -249,11 +265,7 @@ binary_numbers bytes raw r w exact =
               omega (arith, f.0, f.1.0, f.1.1, f.1.2),
             )) (i + l + 1) raw.gates gates;
       },
-      record {
-        in_order = order_of raw order;
-        gates = all_from IsImplicitGate (λ g. (g.rhs0 < g.lhs) × (g.rhs1 ≤ g.rhs0)) (λ v g f. (f.1, f.2))
-            (i + l + 1) raw.gates r.gates;
-      },
+      ready_from raw r.inputs even_latches r.gates exact,
     )
 
 -- what follows the header line

@@ -6,7 +6,7 @@ use Rattle.std.specs.List.{range_with_len}
 use Rattle.std.proofs.lemmas.List.FromFn.{map-range_with_len_more, length-map-range_with_len}
 use Rattle.std.proofs.lemmas.List.Elements.{All-nil, All-cons, All-head, All-tail}
 use Rattle.aig_base.specs.Renumbered.{evens}
-use Rattle.aig_format.proofs.Lines.{FitsFrom}
+use Rattle.aig_format.specs.state.Fits.{FitsFrom}
 
 pub evens_more : (n : ℕ) → evens (n + 1) ≡ evens n ++ 2 * (n + 1) ∷ []
 evens_more n = map-range_with_len_more (λ v. 2 * v) 1 n (n + 1) (omega arith)

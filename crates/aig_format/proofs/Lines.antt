@@ -1,5 +1,5 @@
 -- The lines that are read are spelled so, and the lines that are spelled so are read.
-use Rattle.std.proofs.Common.{◌≡◌, ℕ, zero, suc, ◌-◌, ◌*◌, ◌^◌, ◌<◌, ◌≤◌, Bool, true, false, cond, not, eqb}
+use Rattle.std.proofs.Common.{◌≡◌, ℕ, zero, suc, ◌+◌, ◌-◌, ◌*◌, ◌^◌, ◌<◌, ◌≤◌, Bool, true, false, cond, not, eqb}
 use Rattle.std.proofs.Common.{subst, List, [], ◌∷◌, ◌++◌, length, Ok, refl, sym, ap, ◌∙◌, append_assoc}
 use Rattle.std.proofs.Common.{arith}
 use Rattle.std.specs.Prelude.{All}
@@ -14,6 +14,7 @@ use Rattle.aig_format.specs.Delta.{delta}
 use Rattle.aig_format.specs.Spelling.{literal_line, reset_text, latch_line, implicit_latch_line, gate_line}
 use Rattle.aig_format.specs.Spelling.{gate_deltas, of_first, of_others, lines}
 use Rattle.aig_format.specs.Spells.{greatest}
+use Rattle.aig_format.specs.state.Fits.{FitsFrom, IsImplicitGate}
 use Rattle.aig_format.specs.state.Reading.{Read}
 use Rattle.aig_format.specs.state.ReadingSections.{literal_at, latch_at, gate_at, implicit_latch_at, implicit_gate_at}
 use Rattle.aig_format.specs.state.ReadingSections.{lines_at}
@@ -30,11 +31,6 @@ Takes {X} at line Fits = (v : ℕ) (bytes : List ℕ) (x : X) (rest : List ℕ) 
 -- and what is spelled so is read, whatever follows
 abbrev pub Again : {X : Type 0} → (ℕ → List ℕ → Read X) → (Bool → X → List ℕ) → (ℕ → X → Type 0) → Type 0
 Again {X} at line Fits = (v : ℕ) (w : Bool) (x : X) (rest : List ℕ) → Fits v x → at v (line w x ++ rest) ≡ Ok (x, rest)
-
--- each fits its variable, of those from v on
-unfoldable pub FitsFrom : {X : Type 0} → (ℕ → X → Type 0) → ℕ → List X → Type 0
-FitsFrom Fits v [] = Unit {0}
-FitsFrom Fits v (x ∷ xs) = Fits v x × FitsFrom Fits (suc v) xs
 
 -- the lines that were read
 pub record LinesRead {X : Type 0} (line : Bool → X → List ℕ) (Fits : ℕ → X → Type 0) (n v : ℕ) (bytes : List ℕ)
@@ -85,6 +81,21 @@ plain_lines line ws [] = refl
 plain_lines line ws (x ∷ xs) = ap (λ (t : List ℕ). line x ++ t) (plain_lines line (of_others ws) xs)
     ∙ sym (flat_map-cons line x xs)
 
+pub fits_none : {X : Type 0} (Fits : ℕ → X → Type 0) (v : ℕ) → FitsFrom Fits v []
+unfolding FitsFrom
+fits_none Fits v = tt
+
+-- one more, of the next variable
+pub fits_push : {X : Type 0} (Fits : ℕ → X → Type 0) (v : ℕ) (xs : List X) (x : X) → FitsFrom Fits v xs
+    → Fits (v + length xs) x → FitsFrom Fits v (xs ++ x ∷ [])
+unfolding FitsFrom
+fits_push Fits v [] x fits new =
+    let e : v + 0 ≡ v = omega arith in
+    (subst (λ (u : ℕ). Fits u x) e new, tt)
+fits_push Fits v (y ∷ ys) x fits new =
+    let e : v + length (y ∷ ys) ≡ suc v + length ys = omega arith in
+    (fits.0, fits_push Fits (suc v) ys x fits.1 (subst (λ (u : ℕ). Fits u x) e new))
+
 -- where the variable does not matter
 pub all_from_fits : {X : Type 0} (P : X → Type 0) (v : ℕ) (xs : List X) → FitsFrom (λ u. P) v xs → All P xs
 unfolding FitsFrom
@@ -115,9 +126,6 @@ IsGateWithin g = (g.lhs ≤ greatest) × (g.rhs0 ≤ greatest) × (g.rhs1 ≤ gr
 
 abbrev pub IsImplicitLatch : ℕ → Latch → Type 0
 IsImplicitLatch v x = (x.lit ≡ 2 * v) × (x.next ≤ greatest) × (x.reset ≤ greatest)
-
-abbrev pub IsImplicitGate : ℕ → Gate → Type 0
-IsImplicitGate v g = (g.lhs ≡ 2 * v) × (g.rhs0 < g.lhs) × (g.rhs1 ≤ g.rhs0)
 
 pub literal_takes : Takes (λ v. literal_at) (λ w. literal_line) (λ v. IsLiteral)
 unfolding literal_at

@@ -1,7 +1,7 @@
 //! The body of a binary file.
-ghost use Rattle.std.specs.Prelude.{◌≡◌, ◌<◌, ◌^◌, IfOk, IfErr};
+ghost use Rattle.std.specs.Prelude.{◌≡◌, ◌+◌, ◌<◌, ◌^◌, IfOk, IfErr};
 ghost use Rattle.aig_parts.specs.Formed.{IsFormed};
-ghost use Rattle.aig_base.specs.Renumbered.{evens};
+ghost use Rattle.aig_base.specs.Renumbered.{evens, IsBinaryReady};
 ghost use Rattle.aig_format.specs.Header.{AreWithin};
 ghost use Rattle.aig_format.specs.state.Reads.{ReadsAs};
 ghost use Rattle.aig_format.specs.state.ReadingFile.{binary_at};
@@ -35,8 +35,10 @@ pub(crate) fn binary_body<S: Source>(
     counts: &Counts,
 ) -> Result<Raw, Fault>
     requires within { AreWithin counts.now }
+    requires exact { counts.now.max_var ≡ counts.now.inputs + counts.now.latches + counts.now.gates }
     ensures reads { ReadsAs S.Source s.old s.new (λ x. x) result (binary_at counts.now) }
     ensures formed { IfOk result IsFormed }
+    ensures ready { IfOk result IsBinaryReady }
 {
     let latches = lines::<S, Implied, Latch>(alloc, s, counts.inputs + 1, counts.latches)?;
     let properties = read_properties(alloc, s, counts)?;

@@ -87,6 +87,7 @@ fn groups_in(bytes: &[u8], from: usize) -> Option<(u32, usize)>
 pub(crate) fn delta_in(bytes: &[u8], from: usize, low: u32, high: u32) -> Option<(u32, usize)>
     requires { from + 4 ≤ length bytes.now }
     ensures delta { IfSome result (λ d. delta_at low high (drop from bytes.now) ≡ Ok (d.0, drop d.1 bytes.now)) }
+    ensures least { IfSome result (λ d. low ≤ d.0) }
     ensures bound { IfSome result (λ d. d.0 ≤ high) }
     ensures within { IfSome result (λ d. d.1 ≤ from + 4) }
 {

@@ -44,6 +44,7 @@ fn groups<S: Source>(s: &mut S, at: u64) -> Result<u32, TokenFault>
 #[tactic(auto, unfolding(crate::specs::state::Reading::delta_at))]
 pub(crate) fn delta<S: Source>(s: &mut S, low: u32, high: u32) -> Result<u32, TokenFault>
     ensures reads { ReadsToken S.Source s.old s.new result (delta_at low high) }
+    ensures least { IfOk result (λ n. low ≤ n) }
     ensures within { IfOk result (λ n. n ≤ high) }
 {
     let at = s.at();

@@ -1,5 +1,7 @@
 //! Lines of the sections, and entries of which a part is implied.
-ghost use Rattle.std.specs.Prelude.{◌≡◌, ℕ, ◌+◌, ◌<◌, ◌≤◌, ◌^◌, List, length, drop, Ok, IfOk, IfSome};
+ghost use Rattle.std.specs.Prelude.{◌≡◌, ℕ, ◌+◌, ◌*◌, ◌<◌, ◌≤◌, ◌^◌, List, length, drop, Ok};
+ghost use Rattle.std.specs.Prelude.{IfOk, IfSome, OnOk};
+ghost use Rattle.aig_format.specs.state.Fits.{FitsFrom, IsImplicitGate};
 ghost use Rattle.aig_format.specs.state.Reading.{Read, EndsItself};
 ghost use Rattle.aig_format.specs.state.ReadingSections.{literal_at, latch_at, gate_at, implicit_latch_at};
 ghost use Rattle.aig_format.specs.state.ReadingSections.{implicit_gate_at, lines_at};
@@ -25,12 +27,16 @@ pub(crate) trait Line<Spelling>: Sized + Drop {
     /// The variables that it may be asked for.
     ghost fits: { ℕ → Type 0 };
 
+    /// What is known of one of a variable, whatever its source reports.
+    ghost holds: { ℕ → Self → Type 0 };
+
     /// How it is read where it is of a variable.
     ghost line_at: { ℕ → List ℕ → Read Self };
 
     fn line<S: Source>(s: &mut S, variable: u32) -> Result<Self, TokenFault>
         requires { fits variable }
         ensures reads { ReadsToken S.Source s.old s.new result (line_at variable) }
+        ensures holds { IfOk result (holds variable) }
         // What is read does not depend on what comes after it.
         ensures ends { EndsItself (line_at variable) };
 
@@ -39,6 +45,7 @@ pub(crate) trait Line<Spelling>: Sized + Drop {
         requires { fits variable }
         ensures line { IfSome result (λ x. line_at variable buffered.now ≡ Ok (x.0, drop x.1 buffered.now)) }
         ensures within { IfSome result (λ x. x.1 ≤ length buffered.now) }
+        ensures holds { IfSome result (λ x. holds variable x.0) }
         ensures ends { EndsItself (line_at variable) }
     {
         let mut front = Slice::new(buffered);
@@ -52,6 +59,8 @@ pub(crate) trait Line<Spelling>: Sized + Drop {
 impl Line<Text> for Lit {
     ghost fits = { λ _. Unit {0} };
 
+    ghost holds = { λ _ _. Unit {0} };
+
     ghost line_at = { λ _. literal_at };
 
     #[inline]
@@ -64,6 +73,8 @@ impl Line<Text> for Lit {
 
 impl Line<Text> for Latch {
     ghost fits = { λ _. Unit {0} };
+
+    ghost holds = { λ _ _. Unit {0} };
 
     ghost line_at = { λ _. latch_at };
 
@@ -83,6 +94,8 @@ impl Line<Text> for Latch {
 
 impl Line<Text> for Gate {
     ghost fits = { λ _. Unit {0} };
+
+    ghost holds = { λ _ _. Unit {0} };
 
     ghost line_at = { λ _. gate_at };
 
@@ -119,6 +132,8 @@ impl Line<Text> for Gate {
 impl Line<Implied> for Latch {
     ghost fits = { λ v. v < 2 ^ 30 };
 
+    ghost holds = { λ v x. x.lit ≡ 2 * v };
+
     ghost line_at = { implicit_latch_at };
 
     #[inline]
@@ -136,6 +151,8 @@ impl Line<Implied> for Latch {
 
 impl Line<Implied> for Gate {
     ghost fits = { λ v. v < 2 ^ 30 };
+
+    ghost holds = { IsImplicitGate };
 
     ghost line_at = { implicit_gate_at };
 
@@ -181,6 +198,8 @@ fn push_buffered<F, X: Line<F>>(
     requires fits { (i : ℕ) → i < most → X.fits (first + i) }
     ensures adds { IfOk result (λ taken. AddsItems X.line_at first taken.0 taken.1 buffered.now all.old all.new) }
     ensures most { IfOk result (λ taken. taken.0 ≤ most) }
+    ensures fits { (v : ℕ) → v + length all.old ≡ first → FitsFrom X.holds v all.old
+        → OnOk result (FitsFrom X.holds v all.new) }
 {
     let mut size = 0;
     for count in 0..most {
@@ -205,6 +224,7 @@ pub(crate) fn lines<S: Source, F, X: Line<F>>(
     requires fits { (i : ℕ) → i < count → X.fits (first + i) }
     ensures reads { ReadsAs S.Source s.old s.new (λ x. x) result (lines_at X.line_at count first) }
     ensures count { IfOk result (λ all. length all ≡ count) }
+    ensures fits { IfOk result (FitsFrom X.holds first) }
 {
     let mut all = List::new(alloc);
     let mut read = 0;

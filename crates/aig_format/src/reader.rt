@@ -1,8 +1,11 @@
 //! Reading a file.
-ghost use Rattle.std.specs.Prelude.{◌≡◌, ◌≢◌, ℕ, List, Some, Err, IfOk};
+ghost use Rattle.std.specs.Prelude.{◌≡◌, ◌≢◌, ℕ, List, Some, Err, false, IfErr, IfOk};
 ghost use Rattle.aig_base.specs.Circuit.{IsCircuit};
+ghost use Rattle.aig_base.specs.FirstFault.{IsFirstFault};
+ghost use Rattle.aig_base.specs.Renumbered.{IsBinaryReady};
 ghost use Rattle.aig_parts.specs.Formed.{IsFormed};
-ghost use Rattle.aig_format.specs.Header.{AreWithin};
+ghost use Rattle.aig_format.specs.declared.header.Format.TheVariants.{Binary};
+ghost use Rattle.aig_format.specs.Header.{AreWithin, are_wrong};
 ghost use Rattle.aig_format.specs.state.ReaderAnswers.{AnswersRead};
 ghost use Rattle.aig_format.specs.state.Reads.{ReadsAs};
 ghost use Rattle.aig_format.specs.FileReading.{IsReading, Raises};
@@ -20,8 +23,10 @@ use std::alloc::Global;
 /// All that follows the header line.
 fn body<S: Source>(alloc: Global, s: &mut S, format: Format, counts: &Counts) -> Result<Raw, Fault>
     requires within { AreWithin counts.now }
+    requires right { are_wrong format counts.now ≡ false }
     ensures reads { ReadsAs S.Source s.old s.new (λ x. x) result (body_at format counts.now) }
     ensures formed { IfOk result IsFormed }
+    ensures ready { format ≡ Binary → IfOk result IsBinaryReady }
 {
     match format {
         Format::Ascii => ascii_body(alloc, s, counts),
@@ -29,11 +34,12 @@ fn body<S: Source>(alloc: Global, s: &mut S, format: Format, counts: &Counts) ->
     }
 }
 
-/// The parts that the bytes left spell, all of them.
+/// The parts that the bytes left spell, all of them, and their format.
 #[tactic(auto, unfolding(crate::specs::state::ReadingFile::file_at))]
-pub(crate) fn file<S: Source>(alloc: Global, s: &mut S) -> Result<Raw, Fault>
-    ensures bytes { S.reports s.old → AnswersRead (λ x. x) result (file_at (S.left s.old)) }
-    ensures formed { IfOk result IsFormed }
+fn file<S: Source>(alloc: Global, s: &mut S) -> Result<(Format, Raw), Fault>
+    ensures bytes { S.reports s.old → AnswersRead (λ x. x.1) result (file_at (S.left s.old)) }
+    ensures formed { IfOk result (λ x. IsFormed x.1) }
+    ensures ready { IfOk result (λ x. x.0 ≡ Binary → IsBinaryReady x.1) }
     ensures reader { S.reader s.new ≡ S.reader s.old }
     ensures failures { Raises result (S.failures s.old) (S.failures s.new) }
 {
@@ -41,7 +47,23 @@ pub(crate) fn file<S: Source>(alloc: Global, s: &mut S) -> Result<Raw, Fault>
     if counts.are_wrong(format) {
         return Err(Fault::Counts);
     }
-    body(alloc, s, format, &counts)
+    let raw = body(alloc, s, format, &counts)?;
+    Ok((format, raw))
+}
+
+/// The circuit of parts that were read in this format, or their first fault. Those of a binary file are in order, so
+/// its gates are not looked at again.
+fn checked(alloc: Global, format: Format, raw: Raw) -> Result<Circuit, Fault>
+    requires formed { IsFormed raw }
+    requires ready { format ≡ Binary → IsBinaryReady raw }
+    ensures parts { IfOk result (λ circuit. circuit ≡ raw) }
+    ensures circuit { IfOk result IsCircuit }
+    ensures fault { IfErr result (λ fault. fault ≢ Fault.Memory → IsFirstFault raw fault) }
+{
+    match format {
+        Format::Ascii => Circuit::check(alloc, raw),
+        Format::Binary => Circuit::check_ready(raw),
+    }
 }
 
 /// The circuit that the bytes left spell, all of them.
@@ -51,8 +73,8 @@ fn circuit<S: Source>(alloc: Global, s: &mut S) -> Result<Circuit, Fault>
     ensures reader { S.reader s.new ≡ S.reader s.old }
     ensures failures { Raises result (S.failures s.old) (S.failures s.new) }
 {
-    let raw = file(alloc, s)?;
-    Circuit::check(alloc, raw)
+    let (format, raw) = file(alloc, s)?;
+    checked(alloc, format, raw)
 }
 
 /// The circuit of a file, ASCII or binary as its first word says (AIGER 1.0; AIGER 1.9 for resets and properties).

@@ -3,7 +3,7 @@ use Rattle.std.proofs.Common.{◌≡◌, ℕ, zero, suc, ◌+◌, ◌*◌, ◌<�
 use Rattle.std.proofs.Common.{slice_get, refl, sym, ◌∙◌, ap, arith}
 use Rattle.std.proofs.lemmas.List.{length-map, get_or-map}
 use Rattle.std.proofs.lemmas.List.Elements.{All-weaker}
-use Rattle.std.proofs.lemmas.Option.{slice_get-get_or, slice_get_within, get_or_from_slice_get}
+use Rattle.std.proofs.lemmas.Option.{slice_get-get_or, slice_get_within, get_or_from_slice_get, same_Some}
 use Rattle.aig_base.specs.declared.definition.Definition.TheVariants as definition
 use Rattle.aig_parts.specs.declared.gate.Gate.{Gate}
 use Rattle.aig_parts.specs.declared.latch.Latch.{Latch}
@@ -111,16 +111,37 @@ module _ (raw : Raw) (order : IsInOrder raw) where
       let (g, here, same) = slice_get_unmap lhs raw.gates q (2 * (first + q)) at in
       (g, here, ap variable same ∙ half_of (first + q) ∙ sym is)
 
+  -- the variable of the gate at a place
+  pub gate_number : (q : ℕ) (g : Gate) → slice_get raw.gates q ≡ Some g
+      → variable g.lhs ≡ 1 + length raw.inputs + length raw.latches + q
+  gate_number q g at =
+      let (h, here, is) = gate_defines (1 + length raw.inputs + length raw.latches + q) q
+      (slice_get_within raw.gates q g at) refl in
+      ap (λ (x : Gate). variable x.lhs) (same_Some g h (sym at ∙ here)) ∙ is
+
+  -- the left side at a place
+  left_side : (k : ℕ) (d : Gate) → k < length raw.gates
+      → (get_or raw.gates k d).lhs ≡ 2 * (1 + length raw.inputs + length raw.latches + k)
+  left_side k d lt =
+      let lhs : Gate → ℕ = λ x. x.lhs in
+      let first = 1 + length raw.inputs + length raw.latches in
+      sym (get_or-map lhs raw.gates k d 0 lt) ∙ ap (λ (ls : List ℕ). get_or ls k 0) (apart raw order).gates_are
+      ∙ get_or-evens_from first (length raw.gates) k 0 lt
+
+  -- gates whose sides go down read smaller variables alone
+  pub smaller_sides : All (λ g. (g.rhs0 < g.lhs) × (g.rhs1 ≤ g.rhs0)) raw.gates → All ReadsSmaller raw.gates
+  smaller_sides down = λ k d lt.
+      let g : Gate = get_or raw.gates k d in
+      let e = left_side k d lt in
+      let s : (g.rhs0 < g.lhs) × (g.rhs1 ≤ g.rhs0) = down k d lt in
+      (omega arith, omega arith)
+
   -- gates that read smaller variables alone are in range
   pub gates_in_range : All ReadsSmaller raw.gates
       → All (λ g. IsInRange raw g.lhs × IsInRange raw g.rhs0 × IsInRange raw g.rhs1) raw.gates
   gates_in_range smaller = λ k d lt.
       let g : Gate = get_or raw.gates k d in
-      let lhs : Gate → ℕ = λ x. x.lhs in
-      let first = 1 + length raw.inputs + length raw.latches in
-      let e : g.lhs ≡ 2 * (first + k) =
-      sym (get_or-map lhs raw.gates k d 0 lt) ∙ ap (λ (ls : List ℕ). get_or ls k 0) (apart raw order).gates_are
-      ∙ get_or-evens_from first (length raw.gates) k 0 lt in
+      let e = left_side k d lt in
       let s : ReadsSmaller g = smaller k d lt in
       let top : g.lhs ≤ 2 * raw.max_var = omega (arith, size_is) in
       (omega arith, below g.rhs0 g.lhs s.0 top, below g.rhs1 g.lhs s.1 top)

@@ -8,12 +8,14 @@ use Rattle.aig_parts.specs.declared.raw.Raw.{Raw}
 use Rattle.aig_parts.specs.Literal.{variable}
 use Rattle.aig_base.specs.Grounded.{Level}
 use Rattle.aig_base.specs.Grounded as by
+use Rattle.aig_base.specs.Definition.{IsInOrder}
 use Rattle.aig_base.specs.Levels.{AreLevels}
 use Rattle.aig_base.specs.Sections.{IsGate}
 use Rattle.aig_base.specs.Sound.{IsSound}
 use Rattle.aig_base.specs.state.Descent.{level_above, AreFirstLevels}
 use Rattle.aig_base.specs.state.LeastFaulty.{ReadsSmaller}
-use Rattle.aig_base.proofs.circuits.Gates.{IsGate-of_gate, same_gate, source-gate, level_in_range}
+use Rattle.aig_base.proofs.circuits.Gates.{IsGate-of_gate, gate_of, same_gate, source-gate, level_in_range}
+use Rattle.aig_base.proofs.circuits.InOrder.{gate_number}
 
 module _ (raw : Raw) where
   pub first_none : AreFirstLevels raw []
@@ -53,6 +55,18 @@ module _ (raw : Raw) where
       zero : {v : ℕ} (m : ℕ) → Level raw v m → v ≡ length levels → 0 ≡ m
       zero m (by.Level.source v s) e = refl
       zero m (by.Level.gate q g a b at l0 l1) e = absurd (other (subst (IsGate raw) e (IsGate-of_gate raw q g at)))
+
+  -- a variable before all gates, where the definitions are in order
+  pub first_source : (levels : List ℕ) → IsInOrder raw
+      → length levels < 1 + length raw.inputs + length raw.latches → AreFirstLevels raw levels
+      → AreFirstLevels raw (levels ++ 0 ∷ [])
+  first_source levels order before first = first_other levels other first
+    where
+      other : IsGate raw (length levels) → ⊥
+      other h =
+          let (g, q, at, is) = gate_of raw (length levels) h in
+          let number = gate_number raw order q g at in
+          omega arith
 
   module _ (levels : List ℕ) (g : Gate) (found : (q : ℕ) × (slice_get raw.gates q ≡ Some g)
       × (variable g.lhs ≡ length levels)) (smaller : ReadsSmaller g) (first : AreFirstLevels raw levels) where

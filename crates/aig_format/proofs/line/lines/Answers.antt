@@ -1,6 +1,8 @@
-use Rattle.std.proofs.Common.{ℕ, ◌≡◌, ◌+◌, ◌∷◌, [], arith, ap, length, length-append, refl, subst}
+use Rattle.std.proofs.Common.{ℕ, ◌≡◌, ◌+◌, ◌∷◌, [], arith, ap, length, length-append, refl, rules, subst}
+use Rattle.std.proofs.lemmas.Grind.{common_steps}
 use Rattle.std.proofs.lemmas.Result.{err_from_is_err_and}
 use Rattle.aig_format.proofs.Keeping.{keeps_step, keeps_then, keeps_reads, err_reads}
+use Rattle.aig_format.proofs.Lines.{fits_none, fits_push}
 use Rattle.aig_format.proofs.Steps.{lines_taken, lines_on, lines_fail, lines_done}
 use Rattle.aig_format.proofs.line.lines.Goals as goal
 
@@ -28,6 +30,10 @@ pub returns-then-read-count-clause-count : goal.returns-then-read-count-clause-c
 returns-then-read-count-clause-count g c =
     omega (arith, c.in_ok-taken.ensures.adds.count, c.loop-all.invariant.count, c.if-read-count.true)
 
+pub returns-then-read-count-clause-fits : goal.returns-then-read-count-clause-fits
+returns-then-read-count-clause-fits g c =
+    c.in_ok-taken.ensures.fits c.args.first (omega (arith, c.loop-all.invariant.count)) c.loop-all.invariant.fits
+
 pub line-requires : goal.line-requires
 line-requires g c =
     c.requires.fits (c.loop-all.read + c.in_ok-taken.taken)
@@ -49,6 +55,16 @@ returns-in_err-line-clause-reads g c =
     (err_reads keeps c.in_err-line.ensures.reads (λ reported fails.
     lines_fail g.X.Line.line_at _ c.push_buffered.new.all c.args.count read (c.args.first + read) _ _
     (omega (arith, i.most, t.ensures.most, c.if-read-count.false)) fails (bytes reported)))
+
+pub loop-all-init : goal.loop-all-init
+loop-all-init g c =
+    rw c.new-all.ensures (record {
+      bytes = λ reported. grind (arith, common_steps);
+      count = search rules;
+      most = search rules;
+      fits = fits_none g.X.Line.holds c.args.first;
+      keeps = search rules;
+    })
 
 pub loop-all-preserved : goal.loop-all-preserved
 loop-all-preserved g c =
@@ -76,5 +92,12 @@ loop-all-preserved g c =
             i.count,
           );
       most = omega (arith, i.most, t.ensures.most, c.if-read-count.false);
+      fits =
+          (let number : c.args.first + read ≡ c.args.first + length c.push_buffered.new.all =
+          omega (arith, t.ensures.adds.count, i.count) in
+          let before = t.ensures.fits c.args.first (omega (arith, i.count)) i.fits in
+          rw c.in_ok-push.ensures.ok
+          (fits_push g.X.Line.holds c.args.first c.push_buffered.new.all c.in_ok-line.line before
+          (subst (λ (v : ℕ). g.X.Line.holds v c.in_ok-line.line) number c.in_ok-line.ensures.holds)));
       keeps = keeps_then keeps c.in_ok-line.ensures.reads;
     }

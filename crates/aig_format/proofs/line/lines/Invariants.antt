@@ -1,4 +1,5 @@
 use Rattle.std.proofs.Common.{◌≡◌, ◌≤◌, length, ◌-◌, ◌+◌}
+use Rattle.aig_format.specs.state.Fits.{FitsFrom}
 use Rattle.aig_format.specs.state.ReadingSections.{lines_at, with_front}
 use Rattle.aig_format.specs.state.Reads.{KeepsSource}
 use Rattle.aig_format.proofs.line.lines.Given as goal
@@ -10,6 +11,7 @@ invariant-loop-all g l = record {
       ≡ lines_at g.X.Line.line_at l.count l.first (g.S.Source.left l.fn.s);
   count : length l.all ≡ l.read;
   most : l.read ≤ l.count;
+  fits : FitsFrom g.X.Line.holds l.first l.all;
   keeps : KeepsSource g.S.Source l.fn.s l.s;
 }
 
