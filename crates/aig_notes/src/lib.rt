@@ -2,11 +2,11 @@
 //! shows.
 #![tactic(auto)]
 
-mod explain;
+mod failed_run;
 mod look;
 mod model_look;
 mod output_look;
 mod proof_look;
 mod select_look;
 
-pub use explain::{explain, is_asked_for};
+pub use failed_run::{explain, is_asked_for};
