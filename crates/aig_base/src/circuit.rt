@@ -12,12 +12,23 @@ use std::marker::Model;
 
 /// A circuit: parts that are formed, sound and acyclic. `Circuit::check` makes one, and `Circuit::of_ready` one of
 /// parts that are known to be one.
-#[derive(Drop, Debug)]
+#[derive(Debug)]
 pub struct Circuit {
     pub(crate) raw: Raw,
     pub(crate) definitions: Definitions,
     // The levels of its variables, where the check found them; a change drops them.
     pub(crate) levels: Option<Vec<u32>>,
+}
+
+// By hand: a value then ends in one call, which is one step of a proof (docs/PROOFS.md, Habits).
+impl Drop for Circuit {
+    fn drop(self) {
+        let Circuit {
+            raw: _,
+            definitions: _,
+            levels: _,
+        } = self;
+    }
 }
 
 impl Model for Circuit {

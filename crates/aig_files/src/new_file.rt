@@ -32,7 +32,6 @@ const USUAL: u32 = 0o666;
 pub const OUTPUT: Exit = Exit::Run(RunFault::Output);
 
 /// A new file that is to take the name of another file in the same folder.
-#[derive(Drop)]
 pub struct NewFile<F: Drop> {
     name: String,
     new_name: String,
@@ -40,6 +39,18 @@ pub struct NewFile<F: Drop> {
     old: Option<Metadata>,
     // The new file, as long as it exists under its own name.
     open: Option<Open<F>>,
+}
+
+// By hand: a value then ends in one call, which is one step of a proof (docs/PROOFS.md, Habits).
+impl<F: Drop> Drop for NewFile<F> {
+    fn drop(self) {
+        let NewFile {
+            name: _,
+            new_name: _,
+            old: _,
+            open: _,
+        } = self;
+    }
 }
 
 impl<F: Drop> NewFile<F> {

@@ -9,7 +9,6 @@ use std::os::fd::AsFd;
 use std::os::unix::fs::FileTypeExt;
 
 /// Where the text of an option goes.
-#[derive(Drop)]
 pub enum OutputFile<'a, F: Drop> {
     /// The option is not given.
     NotGiven,
@@ -19,6 +18,18 @@ pub enum OutputFile<'a, F: Drop> {
     Pipe(&'a str),
     /// A file, which gets its name when its text is complete.
     File(NewFile<F>),
+}
+
+// By hand: a value then ends in one call, which is one step of a proof (docs/PROOFS.md, Habits).
+impl<F: Drop> Drop for OutputFile<'_, F> {
+    fn drop(self) {
+        match self {
+            OutputFile::NotGiven
+            | OutputFile::Device(_)
+            | OutputFile::Pipe(_)
+            | OutputFile::File(_) => {}
+        }
+    }
 }
 
 impl<F: Drop> OutputFile<'_, F> {

@@ -12,7 +12,7 @@ use crate::symbols::{Kind, Symbols};
 pub const LIMIT: usize = 4_194_303;
 
 /// The parts of a circuit, unchecked.
-#[derive(Drop, Debug)]
+#[derive(Debug)]
 pub struct Raw {
     /// The greatest variable.
     pub max_var: u32,
@@ -26,6 +26,25 @@ pub struct Raw {
     pub gates: List<Gate>,
     pub symbols: Symbols,
     pub comment: Option<Bytes>,
+}
+
+// By hand: a value then ends in one call, which is one step of a proof (docs/PROOFS.md, Habits).
+impl Drop for Raw {
+    fn drop(self) {
+        let Raw {
+            max_var: _,
+            inputs: _,
+            latches: _,
+            outputs: _,
+            bad: _,
+            constraints: _,
+            justice: _,
+            fairness: _,
+            gates: _,
+            symbols: _,
+            comment: _,
+        } = self;
+    }
 }
 
 fn is_name(name: &[u8]) -> bool

@@ -19,7 +19,6 @@ use std::marker::Model;
 
 /// A circuit, the last frame's values, a cell a variable, and the latches' values at the next frame. A row takes no
 /// memory.
-#[derive(Drop)]
 pub struct Machine<'a> {
     circuit: &'a Circuit,
     // The gates in the order of their evaluation, where they do not stand in it.
@@ -28,6 +27,19 @@ pub struct Machine<'a> {
     first: Option<usize>,
     cells: Vec<Code>,
     states: Vec<Code>,
+}
+
+// By hand: a value then ends in one call, which is one step of a proof (docs/PROOFS.md, Habits).
+impl Drop for Machine<'_> {
+    fn drop(self) {
+        let Machine {
+            circuit: _,
+            order: _,
+            first: _,
+            cells: _,
+            states: _,
+        } = self;
+    }
 }
 
 impl<'a> Model for Machine<'a> {

@@ -21,7 +21,6 @@ use std::marker::Model;
 
 /// A grid of rows of one kind, each in memory of its own. Cells after the last variable are x, as that of a variable
 /// that comes later has to be.
-#[derive(Drop)]
 pub struct RowGrid<R: CellRow> {
     rows: Vec<R>,
     // A row that was taken off, whose memory the next one gets.
@@ -33,6 +32,21 @@ pub struct RowGrid<R: CellRow> {
     evaluations: Count,
     // Memory that sweeps work in, kept from one to the next.
     codes: Vec<Code>,
+}
+
+// By hand: a value then ends in one call, which is one step of a proof (docs/PROOFS.md, Habits).
+impl<R: CellRow> Drop for RowGrid<R> {
+    fn drop(self) {
+        let RowGrid {
+            rows: _,
+            spare: _,
+            variables: _,
+            room: _,
+            gates: _,
+            evaluations: _,
+            codes: _,
+        } = self;
+    }
 }
 
 /// A grid that keeps a byte for each cell.

@@ -12,12 +12,23 @@ use std::marker::Model;
 pub const FRAMES: u32 = 65_536;
 
 /// A list of at most 65,536 rows of one width: a row a frame, a value an input.
-#[derive(Drop, Debug)]
+#[derive(Debug)]
 pub struct Stimulus {
     width: u32,
     rows: Vec<List<Tern>>,
     // A row that was taken off, whose memory the next one gets.
     spare: Option<List<Tern>>,
+}
+
+// By hand: a value then ends in one call, which is one step of a proof (docs/PROOFS.md, Habits).
+impl Drop for Stimulus {
+    fn drop(self) {
+        let Stimulus {
+            width: _,
+            rows: _,
+            spare: _,
+        } = self;
+    }
 }
 
 impl Model for Stimulus {
