@@ -3,7 +3,7 @@
 use aig_base::Memory;
 use aig_cli::{has_flag, matches_of};
 use aig_explain::escaped;
-use aig_fault::RunFault;
+use aig_run::RunFault;
 use aig_files::Exit;
 use aig_tasks::Task;
 use clap::ArgMatches;

@@ -4,7 +4,7 @@ use aig_base::{Buffered, Circuit, Std};
 use aig_bench::Bench;
 use aig_commands::unroll::unroll_map;
 use aig_commands::{keep_circuit, keep_stimulus};
-use aig_fault::RunFault;
+use aig_run::RunFault;
 use aig_files::{Exit, Kept, NewFile, OUTPUT, OutputFile, find, open_pipe};
 use aig_sim::PlaneGrid;
 use std::fs::{Files, Metadata, OpenFile};

@@ -9,7 +9,7 @@ mod simulations;
 mod witnesses;
 
 use aig_files::{Exit, reserve};
-use aig_notes::{explain, is_asked_for};
+use aig_explain::{explain, is_asked_for};
 use arguments::{Request, parsed};
 use clap::ArgMatches;
 use dispatch::run_task;

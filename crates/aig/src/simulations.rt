@@ -3,7 +3,7 @@
 use crate::kept::BenchFiles;
 use aig_base::Std;
 use aig_commands::{bench, sim, wave};
-use aig_fault::{RunFault, ScriptFault};
+use aig_run::{RunFault, ScriptFault};
 use aig_files::{CIRCUIT, Exit, Kept, open, output, read_whole};
 use aig_sim::StimFault;
 use std::fs::Files;

@@ -3,11 +3,11 @@
 
 use aig_base::Std;
 use aig_commands::{check, reduce, wave};
-use aig_fault::RunFault;
+use aig_run::RunFault;
 use aig_files::{CIRCUIT, Exit, open, output, read_whole};
-use aig_proof::ProofFault;
+use aig_sat::ProofFault;
 use aig_sim::{StimFault, Verdict};
-use aig_solving::{induction, model_witness, refute, step_witness, witness};
+use aig_commands::{induction, model_witness, refute, step_witness, witness};
 use std::fs::Files;
 use std::io::Read;
 

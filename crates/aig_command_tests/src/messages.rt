@@ -2,9 +2,9 @@
 use aig_base::{Fault, Io, Memory, SelectFault, WouldCycle};
 use aig_bench::BenchFault;
 use aig_cnf::CnfFault;
-use aig_fault::{RunFault, ScriptFault};
-use aig_model::ModelFault;
-use aig_proof::ProofFault;
+use aig_run::{RunFault, ScriptFault};
+use aig_sat::ModelFault;
+use aig_sat::ProofFault;
 use aig_sim::{ReachFault, StimFault, WitnessFault};
 use aig_unroll::UnrollFault;
 use std::alloc::Global;

@@ -2,7 +2,7 @@
 use crate::files::{TWO_GATES, writes};
 use aig_base::{MemReader, MemWriter};
 use aig_commands::run_bench;
-use aig_fault::{RunFault, ScriptFault};
+use aig_run::{RunFault, ScriptFault};
 use aig_sim::ByteGrid;
 use std::alloc::Global;
 

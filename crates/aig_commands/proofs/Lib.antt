@@ -3,11 +3,16 @@ pub mod Benches
 pub mod EntryLines
 pub mod GoodRuns
 pub mod Headers
+pub mod Inductions
 pub mod InfoLemmas
 pub mod KeptFiles
+pub mod ModelWitnesses
+pub mod NamedRuns
 pub mod Reductions
+pub mod Refutations
 pub mod Replays
 pub mod Runs
 pub mod ScriptParts
 pub mod Selections
 pub mod Unrollings
+pub mod WitnessTexts

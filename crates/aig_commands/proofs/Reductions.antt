@@ -6,10 +6,10 @@ use Rattle.aig_parts.specs.declared.raw.Raw.{Raw}
 use Rattle.aig_base.specs.Circuit.{IsCircuit}
 use Rattle.aig_bytes.specs.Bytes.{Writes}
 use Rattle.aig_bytes.specs.Flow.{flow}
-use Rattle.aig_fault.specs.declared.run_fault.RunFault.{RunFault}
-use Rattle.aig_fault.specs.declared.run_fault.RunFault.TheVariants as run_faults
-use Rattle.aig_fault.specs.Command.{CommandEnds}
-use Rattle.aig_fault.proofs.Written.{got_all, got_part}
+use Rattle.aig_run.specs.declared.run_fault.RunFault.{RunFault}
+use Rattle.aig_run.specs.declared.run_fault.RunFault.TheVariants as run_faults
+use Rattle.aig_run.specs.Command.{CommandEnds}
+use Rattle.aig_run.proofs.Written.{got_all, got_part}
 use Rattle.aig_sim.specs.declared.verdict.Verdict.TheVariants.{Initial, Constraint, NotBad, Confirmed}
 use Rattle.aig_sim.specs.Verdict.{IsVerdict}
 use Rattle.aig_sim.specs.WitnessText.{Witness, IsDecimal, SpellsWitness, witness_text}

@@ -17,9 +17,9 @@ use Rattle.aig_sim.specs.Dumped as dumped
 use Rattle.aig_sim.specs.Simulated as simulated
 use Rattle.aig_sim.specs.Simulated.{Streams, BeginsWithRows, NoneFailed, OneReadFailed, OneWriteFailed}
 use Rattle.aig_sim.specs.StimulusText.{row_line, HoldsRows, SpellsRows}
-use Rattle.aig_fault.specs.declared.run_fault.RunFault.{RunFault}
-use Rattle.aig_fault.specs.declared.run_fault.RunFault.TheVariants as run_faults
-use Rattle.aig_fault.specs.Command.{Got, BreaksOff, Text, Gave, WritesAll, WritesPart, EndsReading}
+use Rattle.aig_run.specs.declared.run_fault.RunFault.{RunFault}
+use Rattle.aig_run.specs.declared.run_fault.RunFault.TheVariants as run_faults
+use Rattle.aig_run.specs.Command.{Got, BreaksOff, Text, Gave, WritesAll, WritesPart, EndsReading}
 use Rattle.aig_commands.specs.Sim.{AreRowsOf, WritesSimulation}
 use Rattle.aig_commands.specs.Wave.{WritesWave, dump_text}
 

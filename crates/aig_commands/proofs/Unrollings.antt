@@ -3,9 +3,9 @@ use Rattle.std.proofs.Common.{◌≡◌, ℕ, List, inl, inr, Result, Ok, Err, r
 use Rattle.aig_parts.specs.declared.raw.Raw.{Raw}
 use Rattle.aig_bytes.specs.Flow.{Flow}
 use Rattle.aig_format.specs.declared.header.Format.{Format}
-use Rattle.aig_fault.specs.declared.run_fault.RunFault.{RunFault}
-use Rattle.aig_fault.specs.declared.run_fault.RunFault.TheVariants as run_faults
-use Rattle.aig_fault.specs.Command.{CommandEnds}
+use Rattle.aig_run.specs.declared.run_fault.RunFault.{RunFault}
+use Rattle.aig_run.specs.declared.run_fault.RunFault.TheVariants as run_faults
+use Rattle.aig_run.specs.Command.{CommandEnds}
 use Rattle.aig_commands.specs.Unroll.{Unrolls, UnrollsKept}
 
 -- the answer with the circuit that was read

@@ -8,9 +8,9 @@ use Rattle.aig_sim.specs.StimulusText.{SpellsRows, row_line}
 use Rattle.aig_bench.specs.declared.bench_fault.BenchFault.{BenchFault}
 use Rattle.aig_bench.specs.declared.bench_fault.BenchFault.TheVariants as benches
 use Rattle.aig_bench.specs.BenchState.{CircuitAndRows}
-use Rattle.aig_fault.specs.declared.run_fault.RunFault.{RunFault}
-use Rattle.aig_fault.specs.declared.run_fault.RunFault.TheVariants.{Circuit, Stimulus, Witness, Bench, Script, Output, Memory, Unroll, Cnf, Select, Reach, Proof, StepProof, Model}
-use Rattle.aig_fault.specs.Command.{IsFileOf, RefusesCircuit, RefusesStimulus}
+use Rattle.aig_run.specs.declared.run_fault.RunFault.{RunFault}
+use Rattle.aig_run.specs.declared.run_fault.RunFault.TheVariants.{Circuit, Stimulus, Witness, Bench, Script, Output, Memory, Unroll, Cnf, Select, Reach, Proof, StepProof, Model}
+use Rattle.aig_run.specs.Command.{IsFileOf, RefusesCircuit, RefusesStimulus}
 
 -- the files are this circuit and rows of its width, at most 65,536
 pub record AreFilesOf (circuit stimulus : List ℕ) (pair : CircuitAndRows) : Type 0 where

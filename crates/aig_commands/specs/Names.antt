@@ -6,7 +6,7 @@ use Rattle.aig_parts.specs.declared.symbols.Kind.{Kind}
 use Rattle.aig_parts.specs.declared.symbols.Kind.TheVariants as kinds
 use Rattle.aig_format.specs.Spelling.{Entry, letter}
 use Rattle.aig_unroll.specs.InputMap.{map_field, symbol_name_at}
-use Rattle.aig_fault.specs.declared.run_fault.RunFault.{RunFault}
+use Rattle.aig_run.specs.declared.run_fault.RunFault.{RunFault}
 
 -- the sections are the same
 abbrev pub is_same : Kind → Kind → Bool

@@ -1,2 +1,3 @@
 -- What proofs alone need. No contract of an exported function reaches it.
+pub mod Induction
 pub mod Parts

@@ -3,14 +3,14 @@ ghost use Rattle.std.specs.Prelude.{◌≡◌, ◌≢◌, ℕ, ◌+◌, ◌≤�
 ghost use Rattle.aig_bytes.specs.Bytes.{Writes};
 ghost use Rattle.aig_bytes.specs.Flow.{flow};
 ghost use Rattle.aig_bench.specs.BenchState.{CircuitAndRows};
-ghost use Rattle.aig_fault.specs.Command.{IsFileOf, EndsReading};
+ghost use Rattle.aig_run.specs.Command.{IsFileOf, EndsReading};
 ghost use Rattle.aig_commands.specs.Bench.{RunsScript, LeavesBench};
 ghost use Rattle.aig_commands.specs.BenchFiles.{AreFilesOf, AreBenchFiles, RefusesFiles};
 ghost use Rattle.aig_commands.specs.BenchFiles.{circuit_text, stimulus_rows_text};
 
 use aig_base::{Io, Read, Write};
 use aig_bench::Bench;
-use aig_fault::{RunFault, ScriptFault, as_output, flushed, read_circuit, read_rows};
+use aig_run::{RunFault, ScriptFault, as_output, flushed, read_circuit, read_rows};
 use aig_format::{law_of_round_trip, write_ascii};
 use aig_script::run_script;
 use aig_sim::{Grid, PlaneGrid, write_stimulus};

@@ -2,13 +2,13 @@
 ghost use Rattle.std.specs.Prelude.{◌≡◌, ◌≢◌, ℕ, ◌+◌, ◌≤◌, Err, IfErr};
 ghost use Rattle.aig_bytes.specs.Bytes.{Writes};
 ghost use Rattle.aig_bytes.specs.Flow.{flow};
-ghost use Rattle.aig_fault.specs.Command.{OfFile};
-ghost use Rattle.aig_fault.specs.Command.{CommandEnds};
+ghost use Rattle.aig_run.specs.Command.{OfFile};
+ghost use Rattle.aig_run.specs.Command.{CommandEnds};
 ghost use Rattle.aig_commands.specs.GoesWell.{GoesWell};
 ghost use Rattle.aig_commands.specs.Check.{verdict_text, Checks, ChecksAndTraces};
 
 use aig_base::{Circuit, Io, Write, write_all, write_number};
-use aig_fault::{RunFault, flushed, read_circuit};
+use aig_run::{RunFault, flushed, read_circuit};
 use aig_sim::{ReplayFault, Verdict, check_witness, trace_witness};
 use std::alloc::Global;
 

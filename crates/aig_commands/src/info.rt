@@ -6,19 +6,19 @@ ghost use Rattle.aig_parts.specs.declared.raw.Raw.{Raw};
 ghost use Rattle.aig_base.specs.Greatest.{IsGreatestLevel};
 ghost use Rattle.aig_format.specs.Spells.{Spells};
 ghost use Rattle.aig_bytes.specs.Flow.{flow};
-ghost use Rattle.aig_fault.specs.Command.{CommandEnds};
+ghost use Rattle.aig_run.specs.Command.{CommandEnds};
 ghost use Rattle.aig_commands.specs.Info.{AreFacts, ListsFacts, IsInFormat, comment_size, fact_line, format_name};
 ghost use Rattle.aig_commands.specs.Info.{info_text, fact_number_line, number_lines, yes_or_no};
 ghost use Rattle.aig_commands.specs.Info.{is_constant, starts_at_one};
 ghost use Rattle.aig_commands.specs.Names.{ListsNames, names_text};
-ghost use Rattle.aig_fault.specs.Command.{IsFileOf, OfFile, OfReader};
+ghost use Rattle.aig_run.specs.Command.{IsFileOf, OfFile, OfReader};
 
 use crate::entries::write_entries;
 use aig_base::{
     Circuit, Io, Latch, Levels, Lit, Memory, Read, Write, greatest_fan_out, is_binary_ready,
     write_all,
 };
-use aig_fault::{RunFault, flushed, read_circuit};
+use aig_run::{RunFault, flushed, read_circuit};
 use aig_format::{Format, read_from};
 use aig_unroll::uninitialised;
 use itoa::Buffer;

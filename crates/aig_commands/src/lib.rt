@@ -3,14 +3,22 @@
 
 pub mod bench;
 pub mod check;
+pub mod cnf;
+pub mod cnf_step;
 mod entries;
+pub mod induction;
 pub mod info;
+pub mod model_witness;
+mod named_run;
 pub mod reduce;
+pub mod refute;
 pub mod select;
 pub mod sim;
+pub mod step_witness;
 pub mod toaig;
 pub mod unroll;
 pub mod wave;
+pub mod witness;
 
 pub use bench::{keep_circuit, keep_stimulus, law_of_kept_files, run_bench};
 pub use check::check_bytes;

@@ -1,12 +1,12 @@
 //! `select`: a circuit with some of its properties.
 ghost use Rattle.std.specs.Prelude.{◌≡◌};
 ghost use Rattle.aig_bytes.specs.Flow.{flow};
-ghost use Rattle.aig_fault.specs.Command.{CommandEnds, OfReader};
+ghost use Rattle.aig_run.specs.Command.{CommandEnds, OfReader};
 ghost use Rattle.aig_commands.specs.Select.{Selects};
 
 use crate::toaig::write_converted;
 use aig_base::{Circuit, PropertySection, Read, Write};
-use aig_fault::{RunFault, flushed};
+use aig_run::{RunFault, flushed};
 use aig_format::{Format, read_from};
 use std::alloc::Global;
 

@@ -1,13 +1,13 @@
 //! `sim`: the trace of a circuit's run on a stimulus.
 ghost use Rattle.std.specs.Prelude.{◌≡◌, Err, IfErr};
 ghost use Rattle.aig_bytes.specs.Flow.{flow};
-ghost use Rattle.aig_fault.specs.Command.{OfReader};
-ghost use Rattle.aig_fault.specs.Command.{EndsReading};
+ghost use Rattle.aig_run.specs.Command.{OfReader};
+ghost use Rattle.aig_run.specs.Command.{EndsReading};
 ghost use Rattle.aig_commands.specs.Sim.{WritesSimulation};
 ghost use Rattle.aig_commands.specs.state.Parts.{IsOfStimulus};
 
 use aig_base::{Circuit, Fault, Read, Write};
-use aig_fault::{RunFault, flushed};
+use aig_run::{RunFault, flushed};
 use aig_format::read_from;
 use aig_sim::{StimFault, simulate};
 use std::alloc::Global;

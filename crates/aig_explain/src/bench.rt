@@ -1,8 +1,8 @@
 //! Why a bench is not made.
 ghost use Rattle.std.specs.Prelude.{◌≡◌, ◌≢◌, [], IfOk};
 
+use crate::circuit::header::Header;
 use crate::explanation::Explanation;
-use crate::header::Header;
 use crate::stimulus::header_of;
 use crate::text_lines::TextLines;
 use crate::witness::frames_of;

@@ -1,15 +1,27 @@
 //! Why a circuit is rejected.
 ghost use Rattle.std.specs.Prelude.{◌≡◌, ◌≢◌, [], IfOk};
 
-use crate::circuit_parts::push_fault_of_parts;
+mod body;
+mod circuit_parts;
+mod cycle;
+pub(crate) mod header;
+mod known;
+pub(crate) mod parts;
+pub(crate) mod place;
+pub(crate) mod reader;
+mod section;
+mod symbols;
+mod token;
+
+use crate::circuit::circuit_parts::push_fault_of_parts;
+use crate::circuit::header::Header;
+use crate::circuit::known::cause_of;
+use crate::circuit::parts::shortened;
+use crate::circuit::place::{Found, Place};
+use crate::circuit::reader::Reader;
+use crate::circuit::symbols::first_wrong;
+use crate::circuit::token::{Wanted, Within, Wrong};
 use crate::explanation::Explanation;
-use crate::header::Header;
-use crate::known::cause_of;
-use crate::parts::shortened;
-use crate::place::{Found, Place};
-use crate::reader::Reader;
-use crate::symbols::first_wrong;
-use crate::token::{Wanted, Within, Wrong};
 use aig_bytes::Memory;
 use aig_parts::Fault;
 use std::alloc::Global;

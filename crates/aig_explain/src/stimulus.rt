@@ -1,10 +1,10 @@
 //! Why a stimulus is rejected.
 ghost use Rattle.std.specs.Prelude.{◌≡◌, ◌≢◌, [], IfOk};
 
+use crate::circuit::header::Header;
+use crate::circuit::place::Found;
+use crate::circuit::reader::Reader;
 use crate::explanation::Explanation;
-use crate::header::Header;
-use crate::place::Found;
-use crate::reader::Reader;
 use crate::text_lines::{TextLines, first_other};
 use aig_bytes::Memory;
 use aig_sim::StimFault;

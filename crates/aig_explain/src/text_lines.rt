@@ -1,5 +1,5 @@
 //! The lines of a text.
-use crate::place::count_lines;
+use crate::circuit::place::count_lines;
 
 /// The lines of a text, of which only LF ends one.
 #[derive(Clone, Copy, Drop)]

@@ -1,9 +1,9 @@
 //! Why a circuit is not unrolled.
 ghost use Rattle.std.specs.Prelude.{◌≡◌, ◌≢◌, [], IfOk};
 
+use crate::circuit::header::Header;
+use crate::circuit::parts::{Parts, Sought};
 use crate::explanation::Explanation;
-use crate::header::Header;
-use crate::parts::{Parts, Sought};
 use aig_bytes::Memory;
 use aig_unroll::UnrollFault;
 use std::alloc::Global;

@@ -1,9 +1,9 @@
 //! Why a witness is rejected.
 ghost use Rattle.std.specs.Prelude.{◌≡◌, ◌≢◌, [], IfOk};
 
+use crate::circuit::header::Header;
+use crate::circuit::parts::shortened;
 use crate::explanation::Explanation;
-use crate::header::Header;
-use crate::parts::shortened;
 use crate::stimulus::header_of;
 use crate::text_lines::TextLines;
 use crate::witness_text::first_wrong_line;

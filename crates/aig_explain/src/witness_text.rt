@@ -1,7 +1,7 @@
 //! The first wrong line of a witness.
+use crate::circuit::parts::shortened;
+use crate::circuit::place::Found;
 use crate::explanation::Explanation;
-use crate::parts::shortened;
-use crate::place::Found;
 use crate::text_lines::first_other;
 use aig_bytes::Memory;
 use std::fmt;

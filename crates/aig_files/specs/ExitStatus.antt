@@ -1,6 +1,6 @@
 -- The exit status of the program. Where the standard is silent, it is our own choice.
 use Rattle.std.specs.Prelude.{ℕ}
-use Rattle.aig_fault.specs.Status.{status_of}
+use Rattle.aig_run.specs.Status.{status_of}
 use Rattle.aig_files.specs.declared.exit.Exit.{Exit}
 use Rattle.aig_files.specs.declared.exit.Exit.TheVariants as exits
 

@@ -2,7 +2,7 @@
 ghost use Rattle.std.specs.Prelude.{◌≡◌};
 ghost use Rattle.aig_files.specs.ExitStatus.{status_of_exit};
 
-use aig_fault::RunFault;
+use aig_run::RunFault;
 use std::io;
 
 /// Why the program ends before it is done.

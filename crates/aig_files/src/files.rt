@@ -2,7 +2,7 @@
 
 use crate::exit::Exit;
 use aig_base::{Buffered, Fault, Std};
-use aig_fault::RunFault;
+use aig_run::RunFault;
 use std::alloc::Global;
 use std::fs::{self, Files};
 use std::io::{self, ErrorKind, Printer, Read};

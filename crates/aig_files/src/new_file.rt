@@ -1,7 +1,7 @@
 //! Files that take their names only once they are complete.
 
 use crate::exit::Exit;
-use aig_fault::RunFault;
+use aig_run::RunFault;
 use std::alloc::{AllocError, Global};
 use std::fs::{self, Files, Metadata, OpenFile, OpenOptions, Permissions};
 use std::io::ErrorKind;

@@ -2,7 +2,7 @@
 
 use crate::exit::Exit;
 use crate::new_file::{NewFile, OUTPUT, are_one, is_free};
-use aig_fault::RunFault;
+use aig_run::RunFault;
 use std::fs::{self, Files, Metadata, OpenFile, OpenOptions};
 use std::io::ErrorKind;
 use std::os::fd::AsFd;

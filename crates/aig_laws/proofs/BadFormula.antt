@@ -40,7 +40,8 @@ use Rattle.aig_unroll.proofs.UnrolledReady.{IsReadyGate, gates_ready, unrolled_r
 use Rattle.aig_unroll.proofs.UnrolledRow.{evens_at, frames_at, place_at}
 use Rattle.aig_laws.proofs.UnrolledWitnesses.{confirms_row}
 use Rattle.aig_laws.specs.UnrolledWitness.{MakesBad}
-use Rattle.aig_cnf.specs.Formula.{is_true, meets, Satisfies, formula_of, gate_clauses, goals}
+use Rattle.aig_cnf.specs.Formula.{formula_of, gate_clauses, goals}
+use Rattle.aig_sat.specs.checker.Clause.{is_true, meets, Satisfies}
 use Rattle.aig_laws.specs.Models.{tern_of, values_of, AreKnown, NamesWitness, IsInModel}
 use Rattle.aig_cnf.proofs.SignLemmas.{signs}
 use Rattle.aig_laws.proofs.Tseitin.{and_both, both_and, assigned, known, gates_met, meets_gates, one_met, meets_one, true_even, true_below}

@@ -19,7 +19,8 @@ use Rattle.aig_base.specs.Renumbered.{evens}
 use Rattle.aig_base.specs.Value as value
 use Rattle.aig_base.specs.Value.{Value}
 use Rattle.aig_base.proofs.lists.Evens.{length-evens_from}
-use Rattle.aig_cnf.specs.Formula.{is_true, meets, Satisfies, formula_of, gate_clauses, goals}
+use Rattle.aig_cnf.specs.Formula.{formula_of, gate_clauses, goals}
+use Rattle.aig_sat.specs.checker.Clause.{is_true, meets, Satisfies}
 use Rattle.aig_cnf.proofs.SignLemmas.{signs}
 use Rattle.aig_laws.proofs.BadFormula.{bad_at, bad_in_range, goal_frame, names_witness, valued}
 use Rattle.aig_laws.proofs.RowValues.{length-cut}

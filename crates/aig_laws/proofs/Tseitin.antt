@@ -13,7 +13,8 @@ use Rattle.aig_parts.specs.declared.ternary.Tern.{Tern}
 use Rattle.aig_parts.specs.declared.ternary.Tern.TheVariants.{Zero, One, X}
 use Rattle.aig_base.specs.Value as value
 use Rattle.aig_base.specs.Value.{Value}
-use Rattle.aig_cnf.specs.Formula.{is_true, meets, Satisfies, gate_clauses}
+use Rattle.aig_cnf.specs.Formula.{gate_clauses}
+use Rattle.aig_sat.specs.checker.Clause.{is_true, meets, Satisfies}
 use Rattle.aig_cnf.proofs.SignLemmas.{signs}
 use Rattle.aig_laws.specs.Models.{tern_of}
 

@@ -4,7 +4,8 @@ use Rattle.std.specs.List.{range_with_len}
 use Rattle.aig_parts.specs.declared.raw.Raw.{Raw}
 use Rattle.aig_parts.specs.declared.ternary.Tern.{Tern}
 use Rattle.aig_parts.specs.declared.ternary.Tern.TheVariants.{Zero, One, X}
-use Rattle.aig_cnf.specs.Formula.{Satisfies, formula_of}
+use Rattle.aig_cnf.specs.Formula.{formula_of}
+use Rattle.aig_sat.specs.checker.Clause.{Satisfies}
 use Rattle.aig_laws.specs.UnrolledWitness.{witness_in}
 use Rattle.aig_sim.specs.Verdict.{IsVerdict}
 use Rattle.aig_sim.specs.declared.verdict.Verdict.TheVariants as verdict

@@ -1,8 +1,5 @@
-pub mod WordLemmas
-pub mod PutLemmas
-pub mod PropagationLemmas
-pub mod TruthLemmas
-pub mod StandingLemmas
-pub mod ForgetLemmas
-pub mod HoldingLemmas
-pub mod RefutationLemmas
+pub mod AddedLemmas
+pub mod AnyState
+pub mod InductionLemmas
+pub mod LaterFrames
+pub mod UnreachableLemmas

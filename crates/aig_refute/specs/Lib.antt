@@ -1,8 +1,2 @@
-pub mod Agreement
-pub mod Consequence
-pub mod Distinct
-pub mod Holding
-pub mod Knowledge
-pub mod Standing
-pub mod Visits
-pub mod Words
+pub mod Unreachable
+pub mod state

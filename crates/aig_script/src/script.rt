@@ -12,7 +12,7 @@ use crate::reply::{answer, answer_command};
 use crate::script_line::ScriptLine;
 use aig_base::{Io, Read, Write, write_all};
 use aig_bench::Bench;
-use aig_fault::ScriptFault;
+use aig_run::ScriptFault;
 use aig_sim::Grid;
 use memchr::memchr;
 use std::alloc::Global;

@@ -3,8 +3,8 @@
 use crate::binary_proofs::BINARY_PROOFS;
 use crate::text_proofs::TEXT_PROOFS;
 use aig_base::{Lit, MemReader};
-use aig_proof::{ProofReader, StepKind};
-use aig_refute::Refutation;
+use aig_sat::{ProofReader, StepKind};
+use aig_sat::Refutation;
 use std::alloc::Global;
 
 /// A formula's number of variables; its clauses as text; of how many first ones a solver finds a satisfying assignment;

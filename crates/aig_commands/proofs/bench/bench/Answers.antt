@@ -1,5 +1,5 @@
 use Rattle.aig_bytes.specs.Flow.{flow}
-use Rattle.aig_fault.proofs.Flushes.{flushed_reading, reading_unfailed}
+use Rattle.aig_run.proofs.Flushes.{flushed_reading, reading_unfailed}
 use Rattle.aig_commands.specs.Bench.{LeavesBench}
 use Rattle.aig_commands.proofs.BenchEnds.{script_io}
 use Rattle.aig_commands.proofs.bench.bench.Goals as goal

@@ -1,8 +1,8 @@
 use Rattle.std.proofs.Common.{refl}
 use Rattle.aig_bytes.specs.Flow.{flow}
-use Rattle.aig_fault.proofs.Files.{answered}
-use Rattle.aig_fault.specs.declared.run_fault.RunFault.TheVariants as run_faults
-use Rattle.aig_fault.specs.Command.{EndsReading}
+use Rattle.aig_run.proofs.Files.{answered}
+use Rattle.aig_run.specs.declared.run_fault.RunFault.TheVariants as run_faults
+use Rattle.aig_run.specs.Command.{EndsReading}
 use Rattle.aig_commands.specs.Bench.{LeavesBench}
 use Rattle.aig_commands.proofs.BenchEnds.{script_io, ran_ends, refused_ends, fault_ends, unchanged}
 use Rattle.aig_commands.proofs.bench.bench_after.Goals as goal

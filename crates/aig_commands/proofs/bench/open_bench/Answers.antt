@@ -1,8 +1,8 @@
 use Rattle.std.proofs.Common.{ap, Err}
 use Rattle.aig_bench.specs.BenchState.{CircuitAndRows}
-use Rattle.aig_fault.specs.declared.run_fault.RunFault.TheVariants as run_faults
+use Rattle.aig_run.specs.declared.run_fault.RunFault.TheVariants as run_faults
 use Rattle.aig_commands.specs.BenchFiles.{RefusesFiles}
-use Rattle.aig_fault.proofs.Files.{reported_as}
+use Rattle.aig_run.proofs.Files.{reported_as}
 use Rattle.aig_commands.proofs.Benches.{refuses_bench}
 use Rattle.aig_commands.proofs.bench.open_bench.Goals as goal
 

@@ -1,7 +1,7 @@
 use Rattle.std.proofs.Common.{Err}
 use Rattle.aig_bytes.specs.Flow.{flow}
-use Rattle.aig_fault.proofs.Files.{answered}
-use Rattle.aig_fault.specs.Command.{EndsReading}
+use Rattle.aig_run.proofs.Files.{answered}
+use Rattle.aig_run.specs.Command.{EndsReading}
 use Rattle.aig_commands.specs.Bench.{RunsScript}
 use Rattle.aig_commands.proofs.BenchEnds.{script_io, ends_without}
 use Rattle.aig_commands.proofs.bench.run_bench.Goals as goal

@@ -2,7 +2,7 @@ use Rattle.std.proofs.Common.{Ok, inl, inr, refl}
 use Rattle.aig_commands.specs.Check.{verdict_text}
 use Rattle.aig_commands.proofs.Replays.{shows_so}
 use Rattle.aig_commands.proofs.check.check_circuit.Goals as goal
-use Rattle.aig_fault.proofs.Written.{got_all, got_part}
+use Rattle.aig_run.proofs.Written.{got_all, got_part}
 
 pub returns-in-Ok-clause-ends : goal.returns-in-Ok-clause-ends
 returns-in-Ok-clause-ends g c =

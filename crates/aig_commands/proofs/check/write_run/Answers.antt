@@ -2,7 +2,7 @@ use Rattle.std.proofs.Common.{◌++◌, Ok, inl, inr, refl}
 use Rattle.aig_commands.specs.Check.{verdict_text}
 use Rattle.aig_commands.proofs.Replays.{shows_so, trace_stopped, both_written, line_stopped}
 use Rattle.aig_commands.proofs.check.write_run.Goals as goal
-use Rattle.aig_fault.proofs.Written.{got_all, got_part}
+use Rattle.aig_run.proofs.Written.{got_all, got_part}
 
 pub returns-in-Err-Io : goal.returns-in-Err-Io
 returns-in-Err-Io g c =

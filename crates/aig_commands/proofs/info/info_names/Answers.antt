@@ -1,9 +1,9 @@
 use Rattle.aig_bytes.specs.Flow.{flow}
 use Rattle.aig_commands.specs.Names.{ListsNames}
 use Rattle.aig_commands.proofs.info.info_names.Goals as goal
-use Rattle.aig_fault.proofs.Flushes.{flushed_ends, ends_unfailed}
-use Rattle.aig_fault.specs.Command.{OfReader}
-use Rattle.aig_fault.specs.declared.run_fault.RunFault.TheVariants as run_faults
+use Rattle.aig_run.proofs.Flushes.{flushed_ends, ends_unfailed}
+use Rattle.aig_run.specs.Command.{OfReader}
+use Rattle.aig_run.specs.declared.run_fault.RunFault.TheVariants as run_faults
 
 pub returns-clause-ends : goal.returns-clause-ends
 returns-clause-ends g c =

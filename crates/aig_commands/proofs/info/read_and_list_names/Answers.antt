@@ -1,8 +1,8 @@
 use Rattle.aig_bytes.specs.Flow.{flow}
 use Rattle.aig_commands.specs.Names.{ListsNames}
 use Rattle.aig_commands.proofs.info.read_and_list_names.Goals as goal
-use Rattle.aig_fault.proofs.Files.{ends_of_reader, reader_refused}
-use Rattle.aig_fault.specs.declared.run_fault.RunFault.TheVariants as run_faults
+use Rattle.aig_run.proofs.Files.{ends_of_reader, reader_refused}
+use Rattle.aig_run.specs.declared.run_fault.RunFault.TheVariants as run_faults
 
 pub returns-in-Ok : goal.returns-in-Ok
 returns-in-Ok g c =

@@ -1,9 +1,9 @@
 use Rattle.aig_bytes.specs.Flow.{flow}
 use Rattle.aig_commands.specs.Sim.{WritesSimulation}
 use Rattle.aig_commands.proofs.sim.sim.Goals as goal
-use Rattle.aig_fault.proofs.Flushes.{flushed_reading, flushed_circuit, reading_unfailed}
-use Rattle.aig_fault.specs.Command.{OfReader}
-use Rattle.aig_fault.specs.declared.run_fault.RunFault.TheVariants as run_faults
+use Rattle.aig_run.proofs.Flushes.{flushed_reading, flushed_circuit, reading_unfailed}
+use Rattle.aig_run.specs.Command.{OfReader}
+use Rattle.aig_run.specs.declared.run_fault.RunFault.TheVariants as run_faults
 use Rattle.aig_sim.specs.declared.stimulus_fault.StimFault.TheVariants as stimuli
 
 pub returns-clause-ends : goal.returns-clause-ends

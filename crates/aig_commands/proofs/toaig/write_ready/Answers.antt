@@ -4,7 +4,7 @@ use Rattle.aig_format.specs.declared.header.Format.TheVariants.{Binary}
 use Rattle.aig_format.specs.Spelling.{short_binary}
 use Rattle.aig_commands.specs.Toaig.{Converts}
 use Rattle.aig_commands.proofs.toaig.write_ready.Goals as goal
-use Rattle.aig_fault.proofs.Written.{written_ends, output_alone}
+use Rattle.aig_run.proofs.Written.{written_ends, output_alone}
 
 pub returns-then-is_binary_ready-clause-ends : goal.returns-then-is_binary_ready-clause-ends
 returns-then-is_binary_ready-clause-ends g c =

@@ -1,7 +1,7 @@
 use Rattle.std.proofs.Common.{refl}
 use Rattle.aig_commands.specs.Unroll.{Unrolls, short_spelling}
 use Rattle.aig_commands.proofs.unroll.unroll_circuit.Goals as goal
-use Rattle.aig_fault.proofs.Written.{output_ends, output_refused, one_at_most}
+use Rattle.aig_run.proofs.Written.{output_ends, output_refused, one_at_most}
 
 pub returns-clause-ends : goal.returns-clause-ends
 returns-clause-ends g c =

@@ -1,7 +1,7 @@
 use Rattle.std.proofs.Common.{Ok, inr, refl}
 use Rattle.aig_unroll.specs.InputMap.{map_text}
 use Rattle.aig_commands.proofs.unroll.write_map.Goals as goal
-use Rattle.aig_fault.proofs.Written.{got_all, got_part}
+use Rattle.aig_run.proofs.Written.{got_all, got_part}
 
 pub returns-in-Err : goal.returns-in-Err
 returns-in-Err g c =

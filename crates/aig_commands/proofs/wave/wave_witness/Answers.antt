@@ -1,8 +1,8 @@
 use Rattle.aig_commands.specs.Wave.{DumpsRun}
 use Rattle.aig_commands.proofs.wave.wave_witness.Goals as goal
-use Rattle.aig_fault.proofs.Flushes.{flushed_ends, ends_unfailed}
-use Rattle.aig_fault.specs.Command.{OfFile, OfReader}
-use Rattle.aig_fault.specs.declared.run_fault.RunFault.TheVariants as run_faults
+use Rattle.aig_run.proofs.Flushes.{flushed_ends, ends_unfailed}
+use Rattle.aig_run.specs.Command.{OfFile, OfReader}
+use Rattle.aig_run.specs.declared.run_fault.RunFault.TheVariants as run_faults
 
 pub returns-clause-ends : goal.returns-clause-ends
 returns-clause-ends g c =

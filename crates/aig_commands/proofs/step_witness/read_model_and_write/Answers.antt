@@ -1,0 +1,48 @@
+use Rattle.std.proofs.Common.{◌+◌, [], inl, refl, sym, subst, List}
+use Rattle.aig_parts.specs.declared.ternary.Tern.{Tern}
+use Rattle.aig_bytes.specs.Flow.{flow}
+use Rattle.aig_run.proofs.Files.{answered}
+use Rattle.aig_run.proofs.Written.{ends_map, got_none}
+use Rattle.aig_run.specs.Command.{CommandEnds}
+use Rattle.aig_run.specs.declared.run_fault.RunFault.TheVariants as run_faults
+use Rattle.aig_commands.specs.ModelWitness.{IsModelOf, RefusesModel, WritesAnyModel, WritesNamed, variable_count}
+use Rattle.aig_commands.proofs.ModelWitnesses.{writes_any_model}
+use Rattle.aig_commands.proofs.step_witness.read_model_and_write.Goals as goal
+
+pub returns : goal.returns
+returns g c =
+    let raw = c.args.circuit.now in
+    let k = c.args.frames in
+    let p = c.args.property in
+    let model' = c.args.model.now in
+    let is : IsModelOf (variable_count raw (k + 1)) model' c.as_slice.result.now =
+    subst (λ (values : List Tern). IsModelOf (variable_count raw (k + 1)) model' values) (sym c.as_slice.ensures)
+    (subst (λ n. IsModelOf n model' c.in_ok-values.values) c.in_ok-variables.ensures.count c.in_ok-values.ensures.values) in
+    ends_map (flow g.W.Write.written g.W.Write.failures c.args.out.now c.find_and_write.new.out) run_faults.Output
+    (WritesNamed (k + 1) p c.as_slice.result.now raw) (WritesAnyModel k p model' raw)
+    (writes_any_model k p model' raw c.in_ok-variables.ensures.formula c.as_slice.result.now is)
+    c.find_and_write.result c.find_and_write.ensures
+
+pub returns-in_err-variables : goal.returns-in_err-variables
+returns-in_err-variables g c =
+    answered c.from_residual.result (run_faults.Cnf c.in_err-variables.field-0.0)
+    (CommandEnds (flow g.W.Write.written g.W.Write.failures c.args.out.now c.args.out.now) run_faults.Output
+    (WritesAnyModel c.args.frames c.args.property c.args.model.now c.args.circuit.now))
+    c.from_residual.ensures.1
+    (inl ([], (c.in_err-variables.ensures.refused, refl), got_none g.W.Write.written g.W.Write.failures c.args.out.now))
+
+pub returns-in_err-values : goal.returns-in_err-values
+returns-in_err-values g c =
+    answered c.from_residual-in_err-values.result (run_faults.Model c.in_err-values.field-0.0)
+    (CommandEnds (flow g.W.Write.written g.W.Write.failures c.args.out.now c.args.out.now) run_faults.Output
+    (WritesAnyModel c.args.frames c.args.property c.args.model.now c.args.circuit.now))
+    c.from_residual-in_err-values.ensures.1
+    (inl (
+      [],
+      (
+        c.in_ok-variables.ensures.formula,
+        subst (λ n. RefusesModel n c.args.model.now c.in_err-values.field-0.0) c.in_ok-variables.ensures.count c.in_err-values.ensures.refused,
+        refl,
+      ),
+      got_none g.W.Write.written g.W.Write.failures c.args.out.now,
+    ))

@@ -1,0 +1,68 @@
+-- What `witness` writes for a solver's model: the witness of the run that the model names.
+use Rattle.std.specs.Prelude.{◌≡◌, ℕ, ◌+◌, ◌*◌, List, [], Some, Result, Ok, Err}
+use Rattle.aig_parts.specs.declared.raw.Raw.{Raw}
+use Rattle.aig_parts.specs.declared.ternary.Tern.{Tern}
+use Rattle.aig_cnf.specs.Answers.{HasFormula, RefusesFormula}
+use Rattle.aig_cnf.specs.Step.{from_any_state}
+use Rattle.aig_cnf.specs.StepAnswers.{HasStep, RefusesStep}
+use Rattle.aig_sat.specs.model.ModelText.{HasStatus, IsUnknown, IsUnsatisfiable, SpellsModel}
+use Rattle.aig_sat.specs.model.Named.{AreNamed}
+use Rattle.aig_sat.specs.declared.model.fault.ModelFault.{ModelFault}
+use Rattle.aig_sat.specs.declared.model.fault.ModelFault.TheVariants as models
+use Rattle.aig_laws.specs.PartialModels.{named_rows, named_start}
+use Rattle.aig_sim.specs.Reached.{ReachesNone}
+use Rattle.aig_sim.specs.declared.reach_fault.ReachFault.TheVariants as reaches
+use Rattle.aig_run.specs.declared.run_fault.RunFault.{RunFault}
+use Rattle.aig_run.specs.declared.run_fault.RunFault.TheVariants as run_faults
+use Rattle.aig_unroll.specs.FrameLiteral.{frame_size, input_count}
+use Rattle.aig_commands.specs.Witness.{SpellsFirst}
+
+-- how many variables the formula of k frames has
+abbrev pub variable_count : Raw → ℕ → ℕ
+variable_count raw k = input_count raw k + k * frame_size raw + 1
+
+-- the text is a model that gives so many variables these values
+abbrev pub IsModelOf : ℕ → List ℕ → List Tern → Type 0
+IsModelOf variables model values =
+    (literals : List ℕ) × SpellsModel variables model literals × AreNamed literals variables values
+
+-- why a model is refused: a solver says that there is none, or that it does not know; else the text is none, or memory
+-- ran out
+abbrev pub RefusesModel : ℕ → List ℕ → ModelFault → Type 0
+RefusesModel variables model (models.Text at) = Unit {0}
+RefusesModel variables model models.Unsatisfiable = HasStatus IsUnsatisfiable variables model
+RefusesModel variables model models.Unknown = HasStatus IsUnknown variables model
+RefusesModel variables model models.Memory = Unit {0}
+
+-- What it writes for the values of the formula's variables: the witness of the first frame at which their run reaches
+-- property p; nothing where no frame does.
+abbrev pub WritesNamed : ℕ → ℕ → List Tern → Raw → Result (Unit {0}) RunFault → List ℕ → Type 0
+WritesNamed k p values raw (Ok done) text =
+    SpellsFirst raw (named_start raw k values) (named_rows raw k values) (Some p) text
+WritesNamed k p values raw (Err (run_faults.Reach reaches.NoRun)) text =
+    ReachesNone raw (named_start raw k values) (named_rows raw k values) (Some p) × (text ≡ [])
+WritesNamed k p values raw (Err (run_faults.Reach reaches.Memory)) text = text ≡ []
+WritesNamed k p values raw (Err _) text = ⊥
+
+-- What it writes for a model of the formula that `cnf` writes; nothing where there is no such formula, or the model is
+-- refused.
+abbrev pub WritesModel : ℕ → ℕ → List ℕ → Raw → Result (Unit {0}) RunFault → List ℕ → Type 0
+WritesModel k p model raw (Err (run_faults.Cnf fault)) text = RefusesFormula raw k p fault × (text ≡ [])
+WritesModel k p model raw (Err (run_faults.Model fault)) text =
+    HasFormula raw k p × RefusesModel (variable_count raw k) model fault × (text ≡ [])
+WritesModel k p model raw answer text =
+    HasFormula raw k p
+    × ((values : List Tern) × IsModelOf (variable_count raw k) model values × WritesNamed k p values raw answer text)
+
+-- What it writes, of the circuit that starts in any state, for a model of the formula of the step of k frames.
+abbrev pub WritesAnyModel : ℕ → ℕ → List ℕ → Raw → Result (Unit {0}) RunFault → List ℕ → Type 0
+WritesAnyModel k p model any (Err (run_faults.Cnf fault)) text = RefusesStep any k p fault × (text ≡ [])
+WritesAnyModel k p model any (Err (run_faults.Model fault)) text =
+    HasStep any k p × RefusesModel (variable_count any (k + 1)) model fault × (text ≡ [])
+WritesAnyModel k p model any answer text =
+    HasStep any k p × ((values : List Tern) × IsModelOf (variable_count any (k + 1)) model values
+    × WritesNamed (k + 1) p values any answer text)
+
+-- What it writes with `--step`: the witness of a run of k + 1 frames from any state, which the model names.
+abbrev pub WritesStepModel : ℕ → ℕ → List ℕ → Raw → Result (Unit {0}) RunFault → List ℕ → Type 0
+WritesStepModel k p model raw = WritesAnyModel k p model (from_any_state raw)

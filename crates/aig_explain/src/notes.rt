@@ -1,0 +1,11 @@
+//! The notes that `--explain` prints after the message of a run that failed: its files, and what a second look at them
+//! shows.
+
+mod failed_run;
+mod look;
+mod model_look;
+mod output_look;
+mod proof_look;
+mod select_look;
+
+pub use failed_run::{explain, is_asked_for};

@@ -1,0 +1,375 @@
+-- No run of any length reaches a bad state, where no assignment satisfies its formula and that of the step.
+use Rattle.std.proofs.Common.{◌≡◌, ◌≢◌, ◌⊎◌, inl, inr, ℕ, zero, suc, ◌+◌, ◌-◌, ◌*◌, ◌<◌, ◌≤◌, Bool, true, false, not, ◌&&◌}
+use Rattle.std.proofs.Common.{List, [], ◌∷◌, ◌++◌, length, map, take, drop, flat_map, All, Contains, Some, slice_get, slice_index, get_or, option_map}
+use Rattle.std.proofs.Common.{refl, sym, ◌∙◌, ap, subst, arith, length-drop, length-append}
+use Rattle.std.specs.List.{AllZip, list_all}
+use Rattle.std.proofs.lemmas.List.{length-take-le, length-map}
+use Rattle.std.proofs.lemmas.List.Elements.{All-append}
+use Rattle.std.proofs.lemmas.Option.{slice_get-map, slice_get-get_or, slice_get_within, get_or_from_slice_get}
+use Rattle.aig_parts.specs.Literal.{variable, negation}
+use Rattle.aig_parts.specs.declared.latch.Latch.{Latch}
+use Rattle.aig_parts.specs.declared.raw.Raw.{Raw}
+use Rattle.aig_parts.specs.declared.ternary.Tern.{Tern}
+use Rattle.aig_parts.specs.declared.ternary.Tern.TheVariants.{Zero, One, X}
+use Rattle.aig_base.specs.Circuit.{IsCircuit}
+use Rattle.aig_base.specs.Completion.{Completes, IsCompletion}
+use Rattle.aig_base.specs.Order.{IsCanonicalOrder}
+use Rattle.aig_base.specs.Sound.{IsReset}
+use Rattle.aig_base.specs.Value.{Value, Fits, reset_value}
+use Rattle.aig_base.proofs.circuits.Circuits.{latch_defined}
+use Rattle.aig_base.proofs.lists.Gets.{All-at}
+use Rattle.aig_base.proofs.lists.Positions.{position_of, unmap_option}
+use Rattle.aig_base.proofs.values.OneValue.{exists_value}
+use Rattle.aig_base.proofs.values.Refined.{kept}
+use Rattle.aig_base.proofs.values.UniqueValue.{unique}
+use Rattle.aig_sim.proofs.VerdictLemmas.{bad_defined, constraint_defined}
+use Rattle.aig_cnf.specs.Formula.{bad_formula, formula_of, gate_clauses, goals}
+use Rattle.aig_sat.specs.checker.Clause.{is_true, meets, Satisfies}
+use Rattle.aig_cnf.specs.Step.{from_any_state, quiet_frames, step_formula, step_formula_of, uninitialised_latch}
+use Rattle.aig_laws.specs.Models.{AreKnown, tern_of, values_of}
+use Rattle.aig_laws.specs.UnrolledWitness.{IsRun, MakesBad, rows_in, start_in}
+use Rattle.aig_laws.proofs.BadFormula.{bad_at, bad_in_range, in_model, inputs_are, low_of, valued}
+use Rattle.aig_laws.proofs.Tseitin.{and_both, assigned, both_and, gates_met, meets_one, true_negation}
+use Rattle.aig_laws.proofs.UnrolledRows.{row_of_run, row_wide}
+use Rattle.aig_laws.proofs.UnrolledWitnesses.{reaches_in_row}
+use Rattle.aig_sat.specs.checker.Consequence.{IsUnsatisfiable}
+use Rattle.aig_unroll.specs.Answers.{IsUnrolled}
+use Rattle.aig_unroll.specs.FrameLiteral.{input_count}
+use Rattle.aig_unroll.specs.Unrolled.{frames, unrolled}
+use Rattle.aig_unroll.specs.UnrolledValues.{IsAllowed, ReachesBad, free_values, unrolled_row}
+use Rattle.aig_refute.specs.Unreachable.{IsUnreachable, IsUnreachableWithin}
+use Rattle.aig_refute.proofs.LaterFrames.{all_known, cut_row, flat_known, free_known, known_value, later, latch_from, state_at}
+use Rattle.aig_refute.proofs.UnreachableLemmas.{settled, settled_completes, row_completes, unreachable_within}
+
+-- ---- clauses
+
+satisfies_both : (a : ℕ → Bool) (xs ys : List (List ℕ)) → Satisfies a xs → Satisfies a ys → Satisfies a (xs ++ ys)
+satisfies_both a [] ys h k = k
+satisfies_both a (x ∷ xs) ys h k =
+    let (first, rest) = and_both (meets a x) (list_all (meets a) xs) h in both_and first (satisfies_both a xs ys rest k)
+
+quiet : (a : ℕ → Bool) (new : Raw) (n k p : ℕ)
+    → ((t : ℕ) → t < k → is_true a (slice_index new.bad (t * n + p)) ≡ false) → Satisfies a (quiet_frames new n k p)
+quiet a new n zero p each = refl
+quiet a new n (suc k) p each =
+    let l = slice_index new.bad (k * n + p) in
+    satisfies_both a (quiet_frames new n k p) ((negation l ∷ []) ∷ [])
+    (quiet a new n k p (λ t lt. each t (omega arith)))
+    (both_and (meets_one a (negation l ∷ []) 0 (negation l) refl (true_negation a l ∙ ap not (each k (omega arith)))) refl)
+
+-- ---- the last frames of a run without unknown values
+
+module _ (raw : Raw) (circuit : IsCircuit raw) (any : IsCircuit (from_any_state raw)) (order : List ℕ)
+    (canonical : IsCanonicalOrder (from_any_state raw) order) (k p b : ℕ) (at : slice_get raw.bad p ≡ Some b)
+    (start : List Tern) (rows : List (List Tern)) (fits : Fits raw start rows)
+    (known_start : (q : ℕ) (w : Tern) → slice_get start q ≡ Some w → w ≢ X)
+    (known_rows : (t : ℕ) (row : List Tern) (q : ℕ) (w : Tern) → slice_get rows t ≡ Some row → slice_get row q ≡ Some w → w ≢ X)
+    (d : ℕ) (lt : d + k < length rows) (reaches : ReachesBad raw start rows (d + k) b)
+    (none : (s : ℕ) → s < k → ReachesBad raw start rows (d + s) b → ⊥) where
+  abbrev free : Raw
+  free = from_any_state raw
+
+  within : p < length raw.bad
+  within = slice_get_within raw.bad p b at
+
+  -- ---- the run of the frames from d on
+
+  found : (ws : List Tern) × (length ws ≡ length raw.latches)
+      × ((q : ℕ) (x : Latch) (w : Tern) → slice_get raw.latches q ≡ Some x → slice_get ws q ≡ Some w → Value raw start rows d x.lit w)
+  found = state_at raw start rows d raw.latches (λ q x here.
+      exists_value raw start rows circuit.sound circuit.acyclic fits d (omega (arith, lt)) x.lit (latch_defined raw q x here))
+
+  state : List Tern
+  state = found.0
+
+  last : List (List Tern)
+  last = take (k + 1) (drop d rows)
+
+  last_is : (s : ℕ) (row : List Tern) → slice_get last s ≡ Some row → slice_get rows (d + s) ≡ Some row
+  unfolding last
+  last_is s row here = cut_row d (k + 1) s rows row here
+
+  long : length last ≡ k + 1
+  unfolding last
+  long = length-take-le (k + 1) (drop d rows) (omega (arith, length-drop d rows, lt))
+
+  back : {s l : ℕ} {w : Tern} → Value free state last s l w → Value raw start rows (d + s) l w
+  unfolding state
+  back v = later raw start rows d found.0 last found.2 last_is v
+
+  known_state : (q : ℕ) (w : Tern) → slice_get state q ≡ Some w → w ≢ X
+  unfolding state
+  known_state q w here =
+      let below : q < length raw.latches = (let e = slice_get_within found.0 q w here in omega (arith, e, found.1)) in
+      let x = get_or raw.latches q (record { lit = 0; next = 0; reset = 0 }) in
+      known_value raw start rows known_start known_rows
+      (found.2 q x w (slice_get-get_or raw.latches q (record { lit = 0; next = 0; reset = 0 }) below) here)
+
+  known_last : (t : ℕ) (row : List Tern) (q : ℕ) (w : Tern) → slice_get last t ≡ Some row → slice_get row q ≡ Some w → w ≢ X
+  known_last t row q w here cell = known_rows (d + t) row q w (last_is t row here) cell
+
+  run : IsRun free (k + 1) state last
+  unfolding state
+  run = record {
+    frames = long;
+    fits = record {
+      latches = found.1 ∙ sym (length-map raw.latches uninitialised_latch);
+      inputs = λ n e below.
+          let r = get_or last n e in
+          let here : slice_get last n ≡ Some r = slice_get-get_or last n e below in
+          let there : slice_get rows (d + n) ≡ Some r = last_is n r here in
+          ap length (sym (get_or_from_slice_get rows (d + n) r e there))
+          ∙ fits.inputs (d + n) e (slice_get_within rows (d + n) r there);
+    };
+    allowed = λ q x w here cell.
+        let (y, there, same) = latch_from raw.latches q x here in
+        inl (ap (λ (z : Latch). z.reset) same ∙ sym (ap (λ (z : Latch). z.lit) same));
+  }
+
+  -- ---- what it reaches
+
+  before_or : (u : ℕ) → (u < d) ⊎ ((e : ℕ) × (u ≡ d + e))
+  before_or u = cases (below_or u d)
+    where
+      below_or : (u d : ℕ) → (u < d) ⊎ (d ≤ u)
+      below_or u d = grind arith
+
+      cases : (u < d) ⊎ (d ≤ u) → (u < d) ⊎ ((e : ℕ) × (u ≡ d + e))
+      cases (inl h) = inl h
+      cases (inr h) = inr (u - d, omega (arith, h))
+
+  reaches_back : (s : ℕ) → s ≤ k → ReachesBad free state last s b → ReachesBad raw start rows (d + s) b
+  reaches_back s le (bad, all) = (back bad, λ u c below has. constraint u c below has (before_or u))
+    where
+      constraint : (u c : ℕ) → u ≤ d + s → Contains raw.constraints c → (u < d) ⊎ ((e : ℕ) × (u ≡ d + e))
+          → Value raw start rows u c One
+      constraint u c below has (inl h) = reaches.1 u c (omega (arith, h)) has
+      constraint u c below has (inr (e, is)) =
+          subst (λ (n : ℕ). Value raw start rows n c One) (sym is) (back (all e c (omega (arith, is, below)) has))
+
+  is_one_here : (s l : ℕ) → s ≤ k → ((u : Tern) → Value raw start rows (d + s) l u → u ≡ One)
+      → ((w : Tern) × Value free state last s l w) → Value free state last s l One
+  is_one_here s l le one (w, v) = subst (λ (u : Tern). Value free state last s l u) (one w (back v)) v
+
+  reaches_here : ReachesBad free state last k b
+  reaches_here = (
+    is_one_here k b (omega arith) (λ u v. unique raw start rows circuit.sound v reaches.0)
+        (exists_value free state last any.sound any.acyclic run.fits k (omega (arith, long)) b (bad_defined free any.sound p b at)),
+    λ s c le has.
+        let (q, here) = position_of raw.constraints c has in
+        is_one_here s c le (λ u v. unique raw start rows circuit.sound v (reaches.1 (d + s) c (omega (arith, le)) has))
+        (exists_value free state last any.sound any.acyclic run.fits s (omega (arith, long, le)) c
+        (constraint_defined free any.sound q c here)),
+  )
+
+  -- ---- its row
+
+  row : List Tern
+  row = unrolled_row free state last
+
+  wide : length row ≡ input_count free (k + 1)
+  unfolding row
+  wide = row_wide free (k + 1) state last run
+
+  known_row : AreKnown row
+  unfolding row
+  known_row =
+      All-append (λ (w : Tern). w ≢ X) (flat_map (λ (r : List Tern). r) last) (free_values free.latches state)
+      (flat_known last known_last) (free_known free.latches state known_state)
+
+  in_row : (t : ℕ) → t < k + 1 → (MakesBad free order (k + 1) row t p → ReachesBad free state last t b)
+      × (ReachesBad free state last t b → MakesBad free order (k + 1) row t p)
+  unfolding row
+  in_row t below =
+      let holds = row_of_run free (k + 1) state last run in
+      let both = reaches_in_row free any order canonical (k + 1) row wide t p b below at in (
+        λ m. subst (λ (s : List Tern). ReachesBad free s last t b) holds.start_is
+            (subst (λ (rs : List (List Tern)). ReachesBad free (start_in free (k + 1) row) rs t b) holds.rows_are (both.0 m)),
+        λ r. both.1 (subst (λ (rs : List (List Tern)). ReachesBad free (start_in free (k + 1) row) rs t b) (sym holds.rows_are)
+            (subst (λ (s : List Tern). ReachesBad free s last t b) (sym holds.start_is) r)),
+      )
+
+  -- ---- an assignment that satisfies the step
+
+  literal_at : ℕ → ℕ
+  literal_at t = slice_index (unrolled free order (k + 1)).bad (t * length raw.bad + p)
+
+  abbrev Assigns : (ℕ → Bool) → Type 0
+  Assigns a = (l : ℕ) (w : Tern) → Value (unrolled free order (k + 1)) [] (row ∷ []) 0 l w → w ≡ tern_of (is_true a l)
+
+  makes : (t : ℕ) → t < k + 1 → Value (unrolled free order (k + 1)) [] (row ∷ []) 0 (literal_at t) One
+      → MakesBad free order (k + 1) row t p
+  unfolding literal_at
+  makes t below v = (literal_at t, bad_at free any order canonical (k + 1) t p below within, v)
+
+  value_there : (t : ℕ) → t < k → (w : Tern) × Value (unrolled free order (k + 1)) [] (row ∷ []) 0 (literal_at t) w
+  unfolding literal_at
+  value_there t below = valued free any order canonical (k + 1) row wide (literal_at t)
+      (bad_in_range free any order canonical (k + 1) t p (omega (arith, below)) within)
+
+  not_one : (t : ℕ) → t < k → Value (unrolled free order (k + 1)) [] (row ∷ []) 0 (literal_at t) One → ⊥
+  not_one t below v =
+      none t below (reaches_back t (omega (arith, below)) ((in_row t (omega (arith, below))).0 (makes t (omega (arith, below)) v)))
+
+  silent_by : (t : ℕ) → t < k → (w : Tern) → Value (unrolled free order (k + 1)) [] (row ∷ []) 0 (literal_at t) w
+      → (x : Bool) → w ≡ tern_of x → x ≡ false
+  silent_by t below w v false e = refl
+  silent_by t below w v true e =
+      absurd (not_one t below (subst (λ (u : Tern). Value (unrolled free order (k + 1)) [] (row ∷ []) 0 (literal_at t) u) e v))
+
+  silent : (a : ℕ → Bool) → Assigns a → (t : ℕ) → t < k → is_true a (literal_at t) ≡ false
+  silent a is t below =
+      let (w, v) = value_there t below in silent_by t below w v (is_true a (literal_at t)) (is (literal_at t) w v)
+
+  true_of_one : (x : Bool) → One ≡ tern_of x → x ≡ true
+  true_of_one true e = refl
+  true_of_one false e = cc
+
+  loud : (a : ℕ → Bool) → Assigns a → is_true a (literal_at k) ≡ true
+  unfolding literal_at
+  loud a is =
+      let (g, stands, v) = (in_row k (omega arith)).1 reaches_here in
+      let same : g ≡ literal_at k =
+      (let e : Some g ≡ Some (literal_at k) = sym stands ∙ bad_at free any order canonical (k + 1) k p (omega arith) within in cc) in
+      true_of_one (is_true a (literal_at k))
+      (is (literal_at k) One (subst (λ (l : ℕ). Value (unrolled free order (k + 1)) [] (row ∷ []) 0 l One) same v))
+
+  pub step_satisfied : (values : ℕ → Bool) × Satisfies values (step_formula_of raw order k p)
+  unfolding literal_at
+  step_satisfied =
+      let (a, sat, row_is) = in_model free any order canonical (k + 1) row wide known_row k p (omega arith) within
+      ((in_row k (omega arith)).1 reaches_here) in
+      let (first, rest) = and_both (meets a (1 ∷ []))
+      (meets a (goals (unrolled free order (k + 1)) (length raw.bad) (k + 1) p) && list_all (meets a) (flat_map gate_clauses (unrolled free order (k + 1)).gates)) sat in
+      let (goal, gates) = and_both (meets a (goals (unrolled free order (k + 1)) (length raw.bad) (k + 1) p))
+      (list_all (meets a) (flat_map gate_clauses (unrolled free order (k + 1)).gates)) rest in
+      let is : Assigns a =
+      (λ l w v. assigned (unrolled free order (k + 1)) row refl a (low_of a first)
+      (λ i m u here cell. inputs_are free any order canonical (k + 1) a i m u here
+      (subst (λ (r : List Tern). slice_get r i ≡ Some u) (sym row_is) cell))
+      (gates_met a (unrolled free order (k + 1)).gates gates) v) in (
+        a,
+        both_and first (satisfies_both a (quiet_frames (unrolled free order (k + 1)) (length raw.bad) k p)
+            ((literal_at k ∷ []) ∷ flat_map gate_clauses (unrolled free order (k + 1)).gates)
+            (quiet a (unrolled free order (k + 1)) (length raw.bad) k p (λ t below. silent a is t below))
+            (both_and (meets_one a (literal_at k ∷ []) 0 (literal_at k) refl (loud a is)) gates)),
+      )
+
+-- ---- any run
+
+settled_known : (w : Tern) → settled w ≢ X
+settled_known w = (settled_completes w).0
+
+settled_cell : (ws : List Tern) (q : ℕ) (w : Tern) → slice_get (map settled ws) q ≡ Some w
+    → (u : Tern) × (slice_get ws q ≡ Some u) × (settled u ≡ w)
+settled_cell ws q w at = unmap_option settled (slice_get ws q) w (sym (slice_get-map settled ws q) ∙ at)
+
+known_settled : (ws : List Tern) (q : ℕ) (w : Tern) → slice_get (map settled ws) q ≡ Some w → w ≢ X
+known_settled ws q w at =
+    let (u, here, is) = settled_cell ws q w at in subst (λ (v : Tern). v ≢ X) is (settled_known u)
+
+settled_row : (rows : List (List Tern)) (t : ℕ) (row : List Tern) → slice_get (map (map settled) rows) t ≡ Some row
+    → (r : List Tern) × (slice_get rows t ≡ Some r) × (map settled r ≡ row)
+settled_row rows t row at = unmap_option (map settled) (slice_get rows t) row (sym (slice_get-map (map settled) rows t) ∙ at)
+
+known_settled_rows : (rows : List (List Tern)) (t : ℕ) (row : List Tern) (q : ℕ) (w : Tern)
+    → slice_get (map (map settled) rows) t ≡ Some row → slice_get row q ≡ Some w → w ≢ X
+known_settled_rows rows t row q w at cell =
+    let (r, here, is) = settled_row rows t row at in
+    known_settled r q w (subst (λ (s : List Tern). slice_get s q ≡ Some w) (sym is) cell)
+
+rows_complete : (rows : List (List Tern)) → AllZip (AllZip Completes) rows (map (map settled) rows)
+rows_complete [] = tt
+rows_complete (row ∷ rows) = (row_completes row, rows_complete rows)
+
+module _ (raw : Raw) (circuit : IsCircuit raw) (start : List Tern) (rows : List (List Tern)) (fits : Fits raw start rows) where
+  completes : IsCompletion start rows (map settled start) (map (map settled) rows)
+  completes = (row_completes start, rows_complete rows)
+
+  settled_fits : Fits raw (map settled start) (map (map settled) rows)
+  settled_fits = record {
+    latches = length-map start settled ∙ fits.latches;
+    inputs = λ n d below.
+        let row = get_or (map (map settled) rows) n d in
+        let here : slice_get (map (map settled) rows) n ≡ Some row = slice_get-get_or (map (map settled) rows) n d below in
+        let (r, there, is) = settled_row rows n row here in
+        ap length (sym is) ∙ length-map r settled ∙ ap length (sym (get_or_from_slice_get rows n r d there))
+        ∙ fits.inputs n d (slice_get_within rows n r there);
+  }
+
+  settled_reset : (n : ℕ) → (n ≡ 0) ⊎ ((n ≡ 1) ⊎ ⊥) → settled (reset_value n) ≡ reset_value n
+  settled_reset n (inl e) = rw e refl
+  settled_reset n (inr (inl e)) = rw e refl
+  settled_reset n (inr (inr none)) = absurd none
+
+  settled_allowed : IsAllowed raw start → IsAllowed raw (map settled start)
+  settled_allowed allowed q x w here cell =
+      let (u, there, is) = settled_cell start q w cell in
+      go u is (allowed q x u here there) (All-at IsReset raw.latches q x circuit.sound.resets here)
+    where
+      go : (u : Tern) → settled u ≡ w → (x.reset ≡ x.lit) ⊎ (u ≡ reset_value x.reset)
+          → (x.reset ≡ 0) ⊎ ((x.reset ≡ 1) ⊎ (x.reset ≡ x.lit)) → (x.reset ≡ x.lit) ⊎ (w ≡ reset_value x.reset)
+      go u is (inl own) reset = inl own
+      go u is (inr same) (inl e) = inr (sym is ∙ ap settled same ∙ settled_reset x.reset (inl e))
+      go u is (inr same) (inr (inl e)) = inr (sym is ∙ ap settled same ∙ settled_reset x.reset (inr (inl e)))
+      go u is (inr same) (inr (inr own)) = inl own
+
+  settled_reaches : (t b : ℕ) → ReachesBad raw start rows t b → ReachesBad raw (map settled start) (map (map settled) rows) t b
+  settled_reaches t b (bad, all) = (
+    kept raw start (map settled start) rows (map (map settled) rows) completes (λ e. (let no : ⊥ = cc in no)) bad,
+    λ s c le has. kept raw start (map settled start) rows (map (map settled) rows) completes (λ e. (let no : ⊥ = cc in no)) (all s c le has),
+  )
+
+-- ---- induction on the frame
+
+module _ (raw : Raw) (circuit : IsCircuit raw) (any : IsCircuit (from_any_state raw)) (order : List ℕ)
+    (canonical : IsCanonicalOrder (from_any_state raw) order) (k p : ℕ) (base : IsUnreachableWithin raw k p)
+    (step : IsUnsatisfiable (step_formula_of raw order k p)) where
+  early_or : (t : ℕ) → (t < k) ⊎ ((d : ℕ) × (t ≡ d + k))
+  early_or t = cases (below_or t k)
+    where
+      below_or : (t k : ℕ) → (t < k) ⊎ (k ≤ t)
+      below_or t k = grind arith
+
+      cases : (t < k) ⊎ (k ≤ t) → (t < k) ⊎ ((d : ℕ) × (t ≡ d + k))
+      cases (inl h) = inl h
+      cases (inr h) = inr (t - k, omega (arith, h))
+
+  abbrev Below : ℕ → Type 0
+  Below n = (start : List Tern) (rows : List (List Tern)) (t b : ℕ) → t < n → Fits raw start rows → IsAllowed raw start
+      → t < length rows → slice_get raw.bad p ≡ Some b → ReachesBad raw start rows t b → ⊥
+
+  one_more : (n : ℕ) → Below n → Below (suc n)
+  one_more n before start rows t b lt fits allowed long_enough at reaches = go (early_or t)
+    where
+      go : (t < k) ⊎ ((d : ℕ) × (t ≡ d + k)) → ⊥
+      go (inl early) = base start rows t b fits allowed early long_enough at reaches
+      go (inr (d, is)) =
+          let start' = map settled start in
+          let rows' = map (map settled) rows in
+          let long : length rows' ≡ length rows = length-map rows (map settled) in
+          let (values, satisfies) = step_satisfied raw circuit any order canonical k p b at start' rows'
+          (settled_fits raw circuit start rows fits) (known_settled start) (known_settled_rows rows) d
+          (omega (arith, long, long_enough, is))
+          (subst (λ (m : ℕ). ReachesBad raw start' rows' m b) is (settled_reaches raw circuit start rows fits t b reaches))
+          (λ s below r. before start' rows' (d + s) b (omega (arith, below, lt, is)) (settled_fits raw circuit start rows fits)
+          (settled_allowed raw circuit start rows fits allowed) (omega (arith, below, long, long_enough, is)) at r) in
+          step values satisfies
+
+  each_frame : (n : ℕ) → Below n
+  each_frame zero = λ start rows t b lt fits allowed long_enough at reaches. absurd (omega (arith, lt))
+  each_frame (suc n) = one_more n (each_frame n)
+
+  pub unreachable : IsUnreachable raw p
+  unreachable start rows t b fits allowed long_enough at reaches =
+      each_frame (suc t) start rows t b (omega arith) fits allowed long_enough at reaches
+
+-- the same over a circuit that is known to start in any state
+pub by_induction : (raw any new last : Raw) → IsCircuit raw → IsCircuit any → any ≡ from_any_state raw → (k p : ℕ)
+    → IsUnrolled raw k new → IsUnrolled any (k + 1) last → IsUnsatisfiable (bad_formula new (length raw.bad) k p)
+    → IsUnsatisfiable (step_formula last (length raw.bad) k p) → IsUnreachable raw p
+by_induction raw any new last circuit any_circuit is k p unrolled_is (order, canonical, last_is) base step =
+    unreachable raw circuit (subst IsCircuit is any_circuit) order (subst (λ (r : Raw). IsCanonicalOrder r order) is canonical) k p
+    (unreachable_within raw new circuit k p unrolled_is base)
+    (subst (λ (r : Raw). IsUnsatisfiable (step_formula (unrolled r order (k + 1)) (length raw.bad) k p)) is
+    (subst (λ (r : Raw). IsUnsatisfiable (step_formula r (length raw.bad) k p)) last_is step))

@@ -1,4 +1,0 @@
-use Rattle.aig_refute.proofs.finder.Finder.add.Goals as goal
-
-pub returns : goal.returns
-returns c = λ v m. c.link.ensures v (c.in_ok-make_room.ensures v m)

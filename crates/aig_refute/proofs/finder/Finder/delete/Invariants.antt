@@ -1,9 +1,0 @@
-use Rattle.std.proofs.Common.{◌<◌, length}
-use Rattle.aig_refute.specs.Words.{KeepsMet}
-use Rattle.aig_refute.proofs.finder.Finder.delete.Given as goal
-
-abbrev pub invariant-loop : goal.invariant-loop
-invariant-loop l = record {
-  chain : l.chain < length l.self.chains.items;
-  met : KeepsMet l.initial.clauses.words.items l.clauses.words.items;
-}

@@ -1,5 +1,0 @@
-use Rattle.aig_refute.proofs.finder.Finder.grow.Goals as goal
-
--- src/finder.rt:88:9
-pub loop-first-preserved : goal.loop-first-preserved
-loop-first-preserved c = λ v m. c.link_all.ensures v (c.loop-first.invariant v m)

@@ -1,8 +1,0 @@
-use Rattle.std.proofs.Common.{ℕ, ◌<◌, get_or}
-use Rattle.aig_parts.specs.Literal.{negation}
-use Rattle.aig_refute.specs.Knowledge.{IsKnown}
-use Rattle.aig_refute.proofs.known.Known.free.Given as goal
-
-abbrev pub invariant-loop-literal : goal.invariant-loop-literal
-invariant-loop-literal l =
-    (k : ℕ) → k < l.literal-index → IsKnown l.self.truths.items (negation (get_or l.literals k 0))

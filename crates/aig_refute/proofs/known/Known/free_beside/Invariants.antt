@@ -1,9 +1,0 @@
-use Rattle.std.proofs.Common.{◌≡◌, ◌⊎◌, ℕ, ◌<◌, get_or}
-use Rattle.aig_parts.specs.Literal.{negation}
-use Rattle.aig_refute.specs.Knowledge.{IsKnown}
-use Rattle.aig_refute.proofs.known.Known.free_beside.Given as goal
-
-abbrev pub invariant-loop-literal : goal.invariant-loop-literal
-invariant-loop-literal l =
-    (k : ℕ) → k < l.literal-index
-    → (get_or l.literals k 0 ≡ l.other) ⊎ IsKnown l.self.truths.items (negation (get_or l.literals k 0))

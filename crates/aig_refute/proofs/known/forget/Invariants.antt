@@ -1,5 +1,0 @@
-use Rattle.aig_refute.proofs.ForgetLemmas.{AreForgotten}
-use Rattle.aig_refute.proofs.known.forget.Given as goal
-
-abbrev pub invariant-loop-literal : goal.invariant-loop-literal
-invariant-loop-literal l = AreForgotten l.initial.truths.items l.truths.items l.list l.literal-index

@@ -1,6 +1,0 @@
-use Rattle.std.proofs.Common.{ℕ, ◌<◌, get_or}
-use Rattle.aig_refute.specs.Distinct.{Has}
-use Rattle.aig_refute.proofs.marks.Marks.put.Given as goal
-
-abbrev pub invariant-loop-literal : goal.invariant-loop-literal
-invariant-loop-literal l = (k : ℕ) → k < l.literal-index → Has l.self.literals.items (get_or l.clause k 0)

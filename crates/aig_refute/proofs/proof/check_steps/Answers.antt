@@ -1,0 +1,15 @@
+use Rattle.std.proofs.Common.{arith, rules}
+use Rattle.aig_refute.proofs.proof.check_steps.Goals as goal
+
+pub loop-number-init : goal.loop-number-init
+loop-number-init g c = record { follows = λ values s. s; count = search rules }
+
+pub loop-number-preserved : goal.loop-number-preserved
+loop-number-preserved g c = record {
+  follows = λ values s. c.in_ok-take_step.ensures.follows values (c.loop-number.invariant.follows values s);
+  count = omega (arith, c.in_ok-kind.ensures.count);
+}
+
+pub returns-then-is_refuted-clause-refuted : goal.returns-then-is_refuted-clause-refuted
+returns-then-is_refuted-clause-refuted g c = λ values s.
+    c.is_refuted.ensures c.if-is_refuted.true values (c.loop-number.invariant.follows values s)

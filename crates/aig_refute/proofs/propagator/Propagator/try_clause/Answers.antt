@@ -1,8 +1,0 @@
-use Rattle.aig_refute.proofs.PropagationLemmas.{pulled_clause}
-use Rattle.aig_refute.proofs.propagator.Propagator.try_clause.Goals as goal
-
--- src/propagator.rt:173:5
-pub returns-clause-implied : goal.returns-clause-implied
-returns-clause-implied c =
-    pulled_clause c.propagate.result c.args.clause.now c.args.self.now c.assume.new.self c.in_ok-assume.ensures.assumes
-    c.propagate.ensures.conflict

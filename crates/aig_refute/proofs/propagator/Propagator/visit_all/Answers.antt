@@ -1,7 +1,0 @@
-use Rattle.aig_refute.proofs.PropagationLemmas.{pulled}
-use Rattle.aig_refute.proofs.propagator.Propagator.visit_all.Goals as goal
-
--- src/propagator.rt:131:5
-pub returns-clause-conflict : goal.returns-clause-conflict
-returns-clause-conflict c =
-    pulled _ c.args.self.now _ (λ v a. record { met = a.met; known = a.known }) c.visit_list-conflict.ensures.conflict

@@ -1,9 +1,0 @@
-use Rattle.std.proofs.Common.{ℕ, List, subst}
-use Rattle.aig_refute.specs.Consequence.{Follows}
-use Rattle.aig_refute.proofs.RefutationLemmas.{follows_holding, formula}
-use Rattle.aig_refute.proofs.refutation.Refutation.delete.Goals as goal
-
-pub returns : goal.returns
-returns c =
-    subst (λ (x : List (List ℕ)). Follows x (formula c.delete.new.self)) c.self.view_is
-    (follows_holding c.self.inside.checker c.delete.new.self c.delete.ensures)

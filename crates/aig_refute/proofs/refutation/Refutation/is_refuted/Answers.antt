@@ -1,7 +1,0 @@
-use Rattle.std.proofs.Common.{subst}
-use Rattle.aig_refute.specs.Consequence.{IsUnsatisfiable}
-use Rattle.aig_refute.proofs.RefutationLemmas.{unsatisfiable}
-use Rattle.aig_refute.proofs.refutation.Refutation.is_refuted.Goals as goal
-
-pub returns : goal.returns
-returns c = λ t. subst IsUnsatisfiable c.self.view_is (unsatisfiable c.self.inside.checker t)

@@ -1,6 +1,0 @@
-use Rattle.aig_refute.proofs.RefutationLemmas.{follows_new}
-use Rattle.aig_refute.proofs.refutation.Refutation.new.Goals as goal
-
--- src/refutation.rt:32:5
-pub returns : goal.returns
-returns c = follows_new c.in_ok-new.field-0 c.in_ok-new.ensures

@@ -1,8 +1,0 @@
-use Rattle.std.proofs.Common.{◌≡◌, ◌≤◌, length}
-use Rattle.aig_refute.proofs.watches.close_gap.Given as goal
-
-abbrev pub invariant-loop-place : goal.invariant-loop-place
-invariant-loop-place l = record {
-  len : length l.list.items ≡ length l.initial.list.items;
-  behind : l.end ≤ l.place;
-}

@@ -1,0 +1,2 @@
+pub mod checking
+pub mod models

@@ -1,0 +1,26 @@
+use Rattle.std.proofs.Common.{◌≡◌, ℕ, ◌+◌, ◌<◌, length, get_or, sym, subst, arith}
+use Rattle.aig_sat.specs.checker.Words.{IsLast, MeetsAll}
+use Rattle.aig_sat.proofs.checking.PutLemmas.{put_last, stand_keeps}
+use Rattle.aig_sat.proofs.checker.clauses.Clauses.add.Goals as goal
+
+pub stand-requires : goal.stand-requires
+stand-requires c =
+    let place_is : c.len-place.result ≡ length c.args.self.now.words.items = omega (arith, c.len-place.ensures, c.args.self.now.words.ok.0) in
+    record {
+      size = omega (arith, c.if-not-has_room.ensures.room);
+      last = subst (λ (n : ℕ). IsLast c.put.new.self.words.items n (length c.args.literals.now)) (sym place_is)
+          (put_last _ _ _ c.args.self.now.laid_out c.in_ok-put.ensures.ok);
+    }
+
+pub returns : goal.returns
+returns c = λ values meets_it met.
+    let words = c.put.new.self.words.items in
+    let literals = c.args.literals.now in
+    let place_is : c.len-place.result ≡ length c.args.self.now.words.items = omega (arith, c.len-place.ensures, c.args.self.now.words.ok.0) in
+    let put = c.in_ok-put.ensures.ok in
+    let last : IsLast words c.len-place.result (length literals) =
+    subst (λ (n : ℕ). IsLast words n (length literals)) (sym place_is) (put_last _ _ _ c.args.self.now.laid_out put) in
+    let items : (k : ℕ) → k < length literals → get_or words (c.len-place.result + (3 + k)) 0 ≡ get_or literals k 0 =
+    subst (λ (n : ℕ). (k : ℕ) → k < length literals → get_or words (n + (3 + k)) 0 ≡ get_or literals k 0) (sym place_is) put.items in
+    subst (MeetsAll values) (sym c.stand.ensures)
+    (stand_keeps words literals c.len-place.result last items values meets_it (c.in_ok-put.ensures.met values met))

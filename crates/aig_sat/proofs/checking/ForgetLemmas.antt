@@ -1,0 +1,59 @@
+-- Marks that are taken back.
+use Rattle.std.proofs.Common.{◌≡◌, ◌⊎◌, inl, inr, ℕ, ◌+◌, ◌<◌, ◌≤◌, Bool, true, false, List, length, get_or, set}
+use Rattle.std.proofs.Common.{sym, ap, ◌∙◌, arith}
+use Rattle.std.proofs.lemmas.Bool.{false≢true}
+use Rattle.std.proofs.lemmas.List.{get_or-set_same, get_or-set_other, get_or_past}
+use Rattle.std.specs.Prelude.{nat_eq}
+use Rattle.std.proofs.lemmas.Bool.Decides.{nat_tests}
+use Rattle.std.proofs.lemmas.Grind.{get_or_default_zero}
+use Rattle.std.proofs.lemmas.List.Folds.{Any-from_list_any}
+use Rattle.aig_sat.specs.checker.Distinct.{Has}
+use Rattle.aig_sat.specs.checker.Knowledge.{IsIn, IsKnown}
+use Rattle.aig_sat.proofs.checking.WordLemmas.{same_or_other}
+
+-- what is known was known, and is none of the first n of the list
+pub record AreForgotten (old new : List Bool) (list : List ℕ) (n : ℕ) : Type 0 where
+  pub known : (m : ℕ) → IsKnown new m → IsKnown old m
+  pub none : (m j : ℕ) → IsKnown new m → j < n → get_or list j 0 ≡ m → ⊥
+
+-- one more of the list
+pub forgotten_more : (old truths new : List Bool) (list : List ℕ) (n : ℕ) → AreForgotten old truths list n
+    → ((get_or list n 0 < length truths) × (new ≡ set truths (get_or list n 0) false))
+    ⊎ ((length truths ≤ get_or list n 0) × (new ≡ truths))
+    → AreForgotten old new list (n + 1)
+forgotten_more old truths new list n before step = record {
+  known = λ m h. before.known m (kept m h);
+  none = λ m j h within is. elim (same_or_other j n) [
+    | inr other ↦ before.none m j (kept m h) (omega arith) is
+    | inl e ↦ apart m h (sym is ∙ ap (λ i. get_or list i 0) e)
+  ];
+}
+  where
+    kept : (m : ℕ) → IsKnown new m → IsKnown truths m
+    kept m h = elim step [
+      | inr s ↦ ap (λ xs. get_or xs m false) (sym s.1) ∙ h
+      | inl s ↦ elim (same_or_other m (get_or list n 0)) [
+        | inr other ↦ sym (get_or-set_other truths (get_or list n 0) m false false other) ∙ ap (λ xs. get_or xs m false) (sym s.1) ∙ h
+        | inl e ↦ absurd (false≢true
+            (sym (get_or-set_same truths (get_or list n 0) false false s.0)
+            ∙ ap (λ i. get_or (set truths (get_or list n 0) false) i false) (sym e) ∙ ap (λ xs. get_or xs m false) (sym s.1) ∙ h))
+      ]
+    ]
+
+    apart : (m : ℕ) → IsKnown new m → m ≡ get_or list n 0 → ⊥
+    apart m h e = elim step [
+      | inr s ↦ false≢true (sym (get_or_past truths m false (omega (arith, e, s.0))) ∙ ap (λ xs. get_or xs m false) (sym s.1) ∙ h)
+      | inl s ↦ false≢true
+          (sym (get_or-set_same truths (get_or list n 0) false false s.0)
+          ∙ ap (λ i. get_or (set truths (get_or list n 0) false) i false) (sym e) ∙ ap (λ xs. get_or xs m false) (sym s.1) ∙ h)
+    ]
+
+-- one list, two ways to say that it has a literal
+pub in_from_has : (list : List ℕ) (l : ℕ) → Has list l → IsIn list l
+in_from_has list l h =
+    let (k, x, inside, is, test) = Any-from_list_any (nat_eq l) list h in
+    let same : l ≡ x = same_from_test l x test in
+    (k, inside, sym (get_or_default_zero list k x inside) ∙ is ∙ sym same)
+  where
+    same_from_test : (a b : ℕ) → nat_eq a b ≡ true → a ≡ b
+    same_from_test a b e = grind (arith, nat_tests)

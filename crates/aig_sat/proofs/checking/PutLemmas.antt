@@ -1,0 +1,146 @@
+-- Clauses that are added.
+use Rattle.std.proofs.Common.{◌≡◌, inl, inr, ℕ, ◌+◌, ◌-◌, ◌<◌, ◌≤◌, Bool, true, List, [], ◌∷◌, ◌++◌, length}
+use Rattle.std.proofs.Common.{get_or, set, refl, sym, ap, ◌∙◌, arith, length-append}
+use Rattle.std.proofs.lemmas.List.{length-set, get_or-set_same, get_or-set_other, get_or_append_left}
+use Rattle.std.proofs.lemmas.List.{get_or-append_right, get_or_past}
+use Rattle.std.proofs.lemmas.List.Folds.{Any-from_list_any}
+use Rattle.std.proofs.lemmas.Grind.{get_or_default_zero}
+use Rattle.aig_sat.specs.checker.Clause.{is_true, meets}
+use Rattle.aig_sat.specs.checker.Words.{AreLiterals, IsLaidOut, IsLast, IsPut, KeepsMet, MeetsAll, StandsAt}
+use Rattle.aig_sat.proofs.checking.WordLemmas.{same_or_other, below_or_above}
+
+-- a literal that meets a clause
+pub literal_that_meets : (values : ℕ → Bool) (literals : List ℕ) → meets values literals ≡ true
+    → (k : ℕ) × (k < length literals) × (is_true values (get_or literals k 0) ≡ true)
+literal_that_meets values literals h =
+    let (k, x, inside, is, holds) = Any-from_list_any (is_true values) literals h in
+    (k, inside, ap (is_true values) (sym (get_or_default_zero literals k x inside) ∙ is) ∙ holds)
+
+after : (old tail : List ℕ) (q : ℕ) → length old ≤ q → get_or (old ++ tail) q 0 ≡ get_or tail (q - length old) 0
+after old tail q above = get_or-append_right old tail (length old) q 0 refl above
+
+-- past the end of a list there is nothing
+beyond : (xs : List ℕ) (q : ℕ) → length xs ≤ q → get_or xs q 0 ≡ 0
+beyond xs q above = get_or_past xs q 0 above
+
+small_after : (old tail : List ℕ) → AreLiterals tail → (q : ℕ) → length old ≤ q → get_or (old ++ tail) q 0 < 0x8000_0000
+small_after old tail small q above = elim (below_or_above (q - length old) (length tail)) [
+  | inl lt ↦ omega (arith, after old tail q above, small (q - length old) lt)
+  | inr ge ↦ omega (arith, after old tail q above, beyond tail (q - length old) ge)
+]
+
+-- words that are not the first of a clause
+pub append_laid_out : (words tail : List ℕ) → IsLaidOut words → AreLiterals tail → IsLaidOut (words ++ tail)
+append_laid_out words tail laid small p now =
+    let len : length (words ++ tail) ≡ length words + length tail = length-append words tail in
+    elim (below_or_above p (length words)) [
+      | inr above ↦ absurd (omega (arith, small_after words tail small p above, now))
+      | inl below ↦
+          let same : get_or (words ++ tail) p 0 ≡ get_or words p 0 = get_or_append_left words tail 0 p below in
+          let old : StandsAt words p = omega (arith, same, now) in (
+            omega (arith, len, same, (laid p old).0),
+            λ q from to.
+                let inside : q < length words = omega (arith, same, to, (laid p old).0) in
+                omega (arith, get_or_append_left words tail 0 q inside, (laid p old).1 q from (omega (arith, same, to))),
+          )
+    ]
+
+pub append_keeps : (words tail : List ℕ) → IsLaidOut words → AreLiterals tail → KeepsMet words (words ++ tail)
+append_keeps words tail laid small values met p now = elim (below_or_above p (length words)) [
+  | inr above ↦ absurd (omega (arith, small_after words tail small p above, now))
+  | inl below ↦
+      let same : get_or (words ++ tail) p 0 ≡ get_or words p 0 = get_or_append_left words tail 0 p below in
+      let old : StandsAt words p = omega (arith, same, now) in
+      let (k, k_in, holds) = met p old in
+      let inside : p + (3 + k) < length words = omega (arith, (laid p old).0, k_in) in
+      (k, omega (arith, same, k_in), ap (is_true values) (get_or_append_left words tail 0 (p + (3 + k)) inside) ∙ holds)
+]
+
+pub three_small : (a b : ℕ) → a < 0x8000_0000 → b < 0x8000_0000 → AreLiterals (0 ∷ a ∷ b ∷ [])
+three_small a b ha hb k within = grind arith
+
+pub both_small : (xs ys : List ℕ) → AreLiterals xs → AreLiterals ys → AreLiterals (xs ++ ys)
+both_small xs ys hx hy k within = elim (below_or_above k (length xs)) [
+  | inl lt ↦ omega (arith, get_or_append_left xs ys 0 k lt, hx k lt)
+  | inr ge ↦ small_after xs ys hy k ge
+]
+
+pub put_words : (old literals : List ℕ) (a b : ℕ) → a < 0x8000_0000 → b < 0x8000_0000 → AreLiterals literals
+    → IsPut old literals ((old ++ (0 ∷ a ∷ b ∷ [])) ++ literals)
+put_words old literals a b ha hb small =
+    let head : List ℕ = 0 ∷ a ∷ b ∷ [] in
+    let inner : length (old ++ head) ≡ length old + 3 = length-append old head in
+    let outer : length ((old ++ head) ++ literals) ≡ length (old ++ head) + length literals = length-append (old ++ head) literals in
+    record {
+      len = omega (arith, inner, outer);
+      before = λ q below.
+          get_or_append_left (old ++ head) literals 0 q (omega (arith, inner, below)) ∙ get_or_append_left old head 0 q below;
+      small = λ q above. elim (below_or_above q (length (old ++ head))) [
+        | inl lt ↦ omega (arith, get_or_append_left (old ++ head) literals 0 q lt, small_after old head (three_small a b ha hb) q above)
+        | inr ge ↦ small_after (old ++ head) literals small q ge
+      ];
+      items = λ k within.
+          after (old ++ head) literals (length old + (3 + k)) (omega (arith, inner))
+          ∙ ap (λ i. get_or literals i 0) (let e : length old + (3 + k) - length (old ++ head) ≡ k = omega (arith, inner) in e);
+    }
+
+-- what was put is the last clause
+pub put_last : (old literals words : List ℕ) → IsLaidOut old → IsPut old literals words → IsLast words (length old) (length literals)
+put_last old literals words laid is = record {
+  len = is.len;
+  small = is.small;
+  ends = λ p now. elim (below_or_above p (length old)) [
+    | inr above ↦ absurd (omega (arith, is.small p above, now))
+    | inl below ↦
+        let was : get_or words p 0 ≡ get_or old p 0 = is.before p below in
+        let stands : StandsAt old p = omega (arith, was, now) in
+        omega (arith, was, (laid p stands).0)
+  ];
+}
+
+-- the clause stands from now on
+pub stand_laid_out : (words : List ℕ) (n size : ℕ) → IsLaidOut words → IsLast words n size → IsLaidOut (set words n (0x8000_0000 + size))
+stand_laid_out words n size laid is p now =
+    let x = 0x8000_0000 + size in
+    let inside : n < length words = omega (arith, is.len) in
+    let len : length (set words n x) ≡ length words = length-set words n x in
+    elim (same_or_other p n) [
+      | inl e ↦
+          let here : get_or (set words n x) p 0 ≡ x = ap (λ i. get_or (set words n x) i 0) e ∙ get_or-set_same words n x 0 inside in (
+            omega (arith, len, here, e, is.len),
+            λ q from to.
+                omega (arith, get_or-set_other words n q x 0 (omega (arith, e, from)), is.small q (omega (arith, e, from))),
+          )
+      | inr ne ↦
+          let same : get_or (set words n x) p 0 ≡ get_or words p 0 = get_or-set_other words n p x 0 ne in
+          let stands : StandsAt words p = omega (arith, same, now) in (
+            omega (arith, len, same, (laid p stands).0),
+            λ q from to.
+                omega (arith, get_or-set_other words n q x 0 (omega (arith, same, to, is.ends p stands)), (laid p stands).1 q from (omega (arith, same, to))),
+          )
+    ]
+
+pub stand_keeps : (words literals : List ℕ) (n : ℕ) → IsLast words n (length literals)
+    → ((k : ℕ) → k < length literals → get_or words (n + (3 + k)) 0 ≡ get_or literals k 0)
+    → (values : ℕ → Bool) → meets values literals ≡ true → MeetsAll values words
+    → MeetsAll values (set words n (0x8000_0000 + length literals))
+stand_keeps words literals n is items values meets_it met p now =
+    let x = 0x8000_0000 + length literals in
+    let inside : n < length words = omega (arith, is.len) in
+    elim (same_or_other p n) [
+      | inl e ↦
+          let here : get_or (set words n x) p 0 ≡ x = ap (λ i. get_or (set words n x) i 0) e ∙ get_or-set_same words n x 0 inside in
+          let (k, k_in, k_true) = literal_that_meets values literals meets_it in
+          let at_k : get_or (set words n x) (p + (3 + k)) 0 ≡ get_or literals k 0 =
+          get_or-set_other words n (p + (3 + k)) x 0 (omega (arith, e))
+          ∙ ap (λ i. get_or words (i + (3 + k)) 0) e ∙ items k k_in in
+          (k, omega (arith, here, k_in), ap (is_true values) at_k ∙ k_true)
+      | inr ne ↦
+          let same : get_or (set words n x) p 0 ≡ get_or words p 0 = get_or-set_other words n p x 0 ne in
+          let stands : StandsAt words p = omega (arith, same, now) in
+          let (k, k_in, k_true) = met p stands in (
+            k,
+            omega (arith, same, k_in),
+            ap (is_true values) (get_or-set_other words n (p + (3 + k)) x 0 (omega (arith, is.ends p stands, k_in))) ∙ k_true,
+          )
+    ]

@@ -1,0 +1,12 @@
+use Rattle.std.proofs.Common.{◌≡◌, ◌+◌, ◌-◌, length}
+use Rattle.aig_sat.specs.model.state.Reading.{ReadUpTo}
+use Rattle.aig_sat.proofs.model.reader.read_model.Given as goal
+
+abbrev pub invariant-loop-at : goal.invariant-loop-at
+invariant-loop-at l = record {
+  read : ReadUpTo l.reader l.text l.at;
+  count : length l.reader.values ≡ l.variables;
+}
+
+abbrev pub decreases-loop-at : goal.decreases-loop-at
+decreases-loop-at l = length l.text + 1 - l.at

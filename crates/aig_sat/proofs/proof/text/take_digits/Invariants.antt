@@ -1,0 +1,12 @@
+use Rattle.std.proofs.Common.{◌≡◌, ◌+◌, ◌*◌, ◌-◌, ◌≤◌, ◌<◌}
+use Rattle.aig_sat.proofs.proof.text.take_digits.Given as goal
+
+abbrev pub invariant-loop-digit : goal.invariant-loop-digit
+invariant-loop-digit g l = record {
+  count : g.R.Read.failures l.reader ≡ g.R.Read.failures l.fn.reader;
+  never_more : 32768 * g.R.Read.reads_left l.reader + (l.bytes.end - l.bytes.start)
+      ≤ 32768 * g.R.Read.reads_left l.fn.reader + (l.fn.bytes.end - l.fn.bytes.start);
+}
+
+abbrev pub decreases-loop-digit : goal.decreases-loop-digit
+decreases-loop-digit g l = 32768 * g.R.Read.reads_left l.reader + (l.bytes.end - l.bytes.start)

@@ -1,0 +1,9 @@
+pub mod Agreement
+pub mod Clause
+pub mod Consequence
+pub mod Distinct
+pub mod Holding
+pub mod Knowledge
+pub mod Standing
+pub mod Visits
+pub mod Words

@@ -1,0 +1,35 @@
+-- What propagation keeps.
+use Rattle.std.specs.Prelude.{◌≡◌, ℕ, Bool, true, false, List}
+use Rattle.aig_sat.specs.declared.checker.propagator.Propagator.{Propagator}
+use Rattle.aig_sat.specs.checker.Clause.{meets}
+use Rattle.aig_sat.specs.checker.Knowledge.{IsFound, MakesTrue}
+use Rattle.aig_sat.specs.checker.Words.{KeepsMet, MeetsAll}
+
+-- the assignment meets each clause that stands and makes each known literal true
+pub record Agrees (values : ℕ → Bool) (p : Propagator) : Type 0 where
+  pub met : MeetsAll values p.clauses.words.items
+  pub known : MakesTrue values p.known.truths.items
+
+-- no assignment agrees
+abbrev pub Contradicts : Propagator → Type 0
+Contradicts p = (values : ℕ → Bool) → Agrees values p → ⊥
+
+-- What is known from now on follows from what stood and was known, and is in the trail where it was not known.
+pub record Propagates (old new : Propagator) : Type 0 where
+  pub met : KeepsMet old.clauses.words.items new.clauses.words.items
+  pub known : (values : ℕ → Bool) → Agrees values old → MakesTrue values new.known.truths.items
+  pub found : (before : List Bool) → IsFound before old.known → IsFound before new.known
+
+-- The same, where the literals of a clause are taken to be false.
+pub record Assumes (clause : List ℕ) (old new : Propagator) : Type 0 where
+  pub met : KeepsMet old.clauses.words.items new.clauses.words.items
+  pub known : (values : ℕ → Bool) → Agrees values old → meets values clause ≡ false → MakesTrue values new.known.truths.items
+  pub found : (before : List Bool) → IsFound before old.known → IsFound before new.known
+
+-- an assignment that agrees meets the clause
+abbrev pub Implies : Propagator → List ℕ → Type 0
+Implies p clause = (values : ℕ → Bool) → Agrees values p → meets values clause ≡ true
+
+-- each assignment that agreed, and makes the literal true, agrees
+abbrev pub KeepsAgreement : (old new : Propagator) → Type 0
+KeepsAgreement old new = (values : ℕ → Bool) → Agrees values old → Agrees values new

@@ -1,0 +1,11 @@
+-- What follows from a formula (propositional logic).
+use Rattle.std.specs.Prelude.{ℕ, Bool, List}
+use Rattle.aig_sat.specs.checker.Clause.{Satisfies}
+
+-- each assignment that satisfies the first formula satisfies the second
+abbrev pub Follows : List (List ℕ) → List (List ℕ) → Type 0
+Follows old new = (values : ℕ → Bool) → Satisfies values old → Satisfies values new
+
+-- no assignment satisfies the formula
+abbrev pub IsUnsatisfiable : List (List ℕ) → Type 0
+IsUnsatisfiable clauses = (values : ℕ → Bool) → Satisfies values clauses → ⊥

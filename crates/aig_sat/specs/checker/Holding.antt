@@ -1,0 +1,17 @@
+-- What the checker's steps keep.
+use Rattle.std.specs.Prelude.{◌≡◌, ℕ, Bool, true, false, List}
+use Rattle.aig_sat.specs.declared.checker.checker.Checker.{Checker}
+use Rattle.aig_sat.specs.checker.Agreement.{Agrees}
+use Rattle.aig_sat.specs.checker.Clause.{meets}
+
+-- the formula is not refuted, and the assignment agrees with what stands and is known
+pub record Holds (values : ℕ → Bool) (c : Checker) : Type 0 where
+  pub open_still : c.refuted ≡ false
+  pub agrees : Agrees values c.propagator
+
+abbrev pub KeepsHolding : Checker → Checker → Type 0
+KeepsHolding old new = (values : ℕ → Bool) → Holds values old → Holds values new
+
+-- each assignment that holds, and meets the clause, holds
+abbrev pub KeepsMeeting : List ℕ → Checker → Checker → Type 0
+KeepsMeeting clause old new = (values : ℕ → Bool) → Holds values old → meets values clause ≡ true → Holds values new

@@ -1,0 +1,34 @@
+-- How far a model was read.
+use Rattle.std.specs.Prelude.{ℕ, ◌+◌, ◌≤◌, List, [], ◌∷◌, ◌++◌, length, take}
+use Rattle.aig_sat.specs.model.ModelText.{BeginsLine, IsSatisfiable, IsUnknown, IsUnsatisfiable, Names}
+use Rattle.aig_sat.specs.model.Named.{AreNamed}
+use Rattle.aig_sat.specs.declared.model.reader.Answer.{Answer}
+use Rattle.aig_sat.specs.declared.model.reader.Answer.TheVariants.{Satisfiable, Unsatisfiable, Unknown}
+use Rattle.aig_sat.specs.declared.model.reader.Reader.{Reader}
+
+-- a line by which a solver answers
+abbrev pub Says : List ℕ → Answer → Type 0
+Says line Satisfiable = IsSatisfiable line
+Says line Unsatisfiable = IsUnsatisfiable line
+Says line Unknown = IsUnknown line
+
+-- the text names these literals, and their values are kept
+pub record HasRead (reader : Reader) (text literals : List ℕ) : Type 0 where
+  pub names : Names (length reader.values) text reader.phase literals
+  pub named : AreNamed literals (length reader.values) reader.values
+
+-- whatever was read before, the reader goes on by this piece and the space that ends it
+abbrev pub GoesOn : Reader → Reader → List ℕ → ℕ → Type 0
+GoesOn old new piece b =
+    (text literals : List ℕ) → HasRead old text literals
+    → (more : List ℕ) × HasRead new (text ++ (piece ++ b ∷ [])) more
+
+-- the same, where the piece begins a line
+abbrev pub GoesOnLine : Reader → Reader → List ℕ → ℕ → Type 0
+GoesOnLine old new piece b =
+    (text literals : List ℕ) → BeginsLine text → HasRead old text literals
+    → (more : List ℕ) × HasRead new (text ++ (piece ++ b ∷ [])) more
+
+-- the text was read up to a place, where the LF counts that ends its last line
+abbrev pub ReadUpTo : Reader → List ℕ → ℕ → Type 0
+ReadUpTo reader text at = (at ≤ length text + 1) × ((literals : List ℕ) × HasRead reader (take at (text ++ 10 ∷ [])) literals)

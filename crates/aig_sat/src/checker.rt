@@ -1,0 +1,12 @@
+//! Checking refutations of formulas by reverse unit propagation.
+
+mod checker;
+mod clauses;
+mod finder;
+mod known;
+mod marks;
+mod propagator;
+mod refutation;
+mod watches;
+
+pub use refutation::Refutation;

@@ -1,0 +1,130 @@
+//! Checking clause by clause.
+ghost use Rattle.std.specs.Prelude.{◌≡◌, ℕ, Bool, true, IsTrue, IfOk};
+ghost use Rattle.aig_sat.specs.checker.Agreement.{Agrees};
+ghost use Rattle.aig_sat.specs.checker.Clause.{is_true, meets};
+ghost use Rattle.aig_sat.specs.checker.Holding.{Holds, KeepsHolding, KeepsMeeting};
+
+use crate::checker::finder::Finder;
+use crate::checker::marks::Marks;
+use crate::checker::propagator::Propagator;
+use aig_bytes::Memory;
+use aig_parts::Lit;
+use std::alloc::Global;
+
+/// The clauses that stand and what is known, how a clause is found, and whether there was a conflict.
+#[derive(Drop)]
+pub(crate) struct Checker {
+    pub(crate) propagator: Propagator,
+    pub(crate) finder: Finder,
+    pub(crate) marks: Marks,
+    pub(crate) refuted: bool,
+}
+
+impl Checker {
+    /// No clauses over so many variables.
+    pub(crate) fn new(alloc: Global, variables: u32) -> Result<Checker, Memory>
+        ensures { IfOk result (λ checker. (values : ℕ → Bool) → Holds values checker) }
+    {
+        Ok(Checker {
+            propagator: Propagator::new(alloc, variables)?,
+            finder: Finder::new(alloc)?,
+            marks: Marks::new(alloc, 2 * variables as usize)?,
+            refuted: false,
+        })
+    }
+
+    // Stores the clause of the marks, with its watched literals.
+    #[tactic(none)]
+    fn store(&mut self, watched: u32) -> Result<u32, Memory>
+        ensures { KeepsMeeting self.old.marks.literals.items self.old self.new }
+    {
+        let place = self
+            .propagator
+            .clauses
+            .add(0, watched, &self.marks.literals)?;
+        self.finder.add(&mut self.propagator.clauses, place)?;
+        Ok(place)
+    }
+
+    // Stores the clause of the marks, and takes its only literal that is not known to be false.
+    #[tactic(none)]
+    fn store_unit(&mut self, literal: u32) -> Result<(), Memory>
+        requires { (values : ℕ → Bool) → Holds values self.old → meets values self.old.marks.literals.items ≡ true
+            → is_true values literal ≡ true }
+        ensures { KeepsMeeting self.old.marks.literals.items self.old self.new }
+    {
+        self.store(0)?;
+        let conflict = self.propagator.take_unit(literal)?;
+        self.refuted = conflict;
+        Ok(())
+    }
+
+    // Stores the clause of the marks, which watches two of its literals.
+    #[tactic(none)]
+    fn store_watched(&mut self, first: u32, second: u32) -> Result<(), Memory>
+        ensures { KeepsMeeting self.old.marks.literals.items self.old self.new }
+    {
+        let place = self.store(first ^ second)?;
+        self.propagator.watch(place, first, second)
+    }
+
+    // Adds the clause of the marks.
+    #[tactic(none)]
+    fn stand(&mut self) -> Result<(), Memory>
+        ensures { KeepsMeeting self.old.marks.literals.items self.old self.new }
+    {
+        if self.marks.is_tautology() {
+            self.store(0)?;
+            return Ok(());
+        }
+        let Some(first) = self.propagator.known.free(&self.marks.literals) else {
+            self.refuted = true;
+            return Ok(());
+        };
+        match self
+            .propagator
+            .known
+            .free_beside(&self.marks.literals, first)
+        {
+            None => self.store_unit(first),
+            Some(second) => self.store_watched(first, second),
+        }
+    }
+
+    /// Adds a clause.
+    pub(crate) fn add_clause(&mut self, clause: &[Lit]) -> Result<(), Memory>
+        ensures { KeepsMeeting clause.now self.old self.new }
+    {
+        if self.refuted {
+            return Ok(());
+        }
+        self.marks.put(clause)?;
+        self.stand()
+    }
+
+    /// Adds a clause that follows by unit propagation, and answers whether it does.
+    pub(crate) fn add_step(&mut self, clause: &[Lit]) -> Result<bool, Memory>
+        ensures stands { KeepsHolding self.old self.new }
+        ensures follows { IfOk result (λ taken. IsTrue taken
+            → (values : ℕ → Bool) → Holds values self.old → meets values clause.now ≡ true) }
+    {
+        if self.refuted {
+            return Ok(true);
+        }
+        if self.propagator.follows(clause)? {
+            self.add_clause(clause)?;
+            return Ok(true);
+        }
+        Ok(false)
+    }
+
+    /// Deletes a clause, if it stands.
+    pub(crate) fn delete(&mut self, clause: &[Lit])
+        ensures { KeepsHolding self.old self.new }
+    {
+        if self.marks.put(clause).is_ok() {
+            self.finder
+                .delete(&mut self.propagator.clauses, &self.marks);
+        }
+    }
+}

@@ -1,0 +1,132 @@
+//! The literals that are known to be true.
+ghost use Rattle.std.specs.Prelude.{◌≡◌, ℕ, List, Bool, false, IfNone, IfOk, slice_index_or};
+ghost use Rattle.aig_parts.specs.Literal.{negation};
+ghost use Rattle.aig_sat.specs.checker.Knowledge.{AreFalse, AreFalseBeside, IsFound, IsIn, IsKnown, Takes};
+
+use aig_bytes::Memory;
+use aig_parts::Lit;
+use std::alloc::Global;
+
+/// The literals that are known to be true, and the trail: those of them that were found since the last call that
+/// settled them, in order.
+#[derive(Drop)]
+pub(crate) struct Known {
+    pub(crate) truths: Vec<bool>,
+    pub(crate) trail: Vec<u32>,
+}
+
+/// The literal with the other sign.
+#[inline]
+pub(crate) fn negated(literal: u32) -> u32
+    ensures { result ≡ negation literal }
+{
+    Lit::new(literal).not().value()
+}
+
+/// Forgets the literals of a list.
+pub(crate) fn forget(truths: &mut Vec<bool>, list: &[u32])
+    ensures known { (l : ℕ) → IsKnown truths.new.items l → IsKnown truths.old.items l }
+    ensures forgotten { (l : ℕ) → IsKnown truths.new.items l → IsIn list.now l → ⊥ }
+{
+    for literal in list {
+        if (*literal as usize) < truths.len() {
+            truths[*literal as usize] = false;
+        }
+    }
+}
+
+impl Known {
+    /// Nothing is known of so many literals.
+    pub(crate) fn new(alloc: Global, literals: usize) -> Result<Known, Memory>
+        ensures { IfOk result (λ known. (l : ℕ) → IsKnown known.truths.items l → ⊥) }
+    {
+        Ok(Known {
+            truths: vec![in alloc; false; literals]?,
+            trail: Vec::new(alloc),
+        })
+    }
+
+    /// How many literals there are.
+    pub(crate) fn len(&self) -> usize {
+        self.truths.len()
+    }
+
+    /// Whether the literal is known to be true.
+    #[inline]
+    pub(crate) fn is_true(&self, literal: u32) -> bool
+        ensures { result ≡ slice_index_or self.now.truths.items literal false }
+    {
+        match self.truths.get(literal as usize) {
+            Some(truth) => *truth,
+            None => false,
+        }
+    }
+
+    /// Whether the literal is known to be false.
+    #[inline]
+    pub(crate) fn is_false(&self, literal: u32) -> bool
+        ensures { result ≡ slice_index_or self.now.truths.items (negation literal) false }
+    {
+        self.is_true(negated(literal))
+    }
+
+    /// The first of the literals that is not known to be false.
+    #[inline]
+    pub(crate) fn free(&self, literals: &[u32]) -> Option<u32>
+        ensures { IfNone result (AreFalse self.now.truths.items literals.now) }
+    {
+        for literal in literals {
+            if !self.is_false(*literal) {
+                return Some(*literal);
+            }
+        }
+        None
+    }
+
+    /// The first of the literals, but for this one, that is not known to be false.
+    #[inline]
+    pub(crate) fn free_beside(&self, literals: &[u32], other: u32) -> Option<u32>
+        ensures { IfNone result (AreFalseBeside self.now.truths.items literals.now other) }
+    {
+        for literal in literals {
+            if *literal != other && !self.is_false(*literal) {
+                return Some(*literal);
+            }
+        }
+        None
+    }
+
+    /// The literal at a place of the trail.
+    #[inline]
+    pub(crate) fn found(&self, place: usize) -> Option<u32> {
+        self.trail.get(place).copied()
+    }
+
+    /// Takes a literal to be true, unless that is known.
+    #[inline]
+    pub(crate) fn take(&mut self, literal: u32) -> Result<(), Memory>
+        ensures { Takes literal self.old self.new }
+    {
+        if (literal as usize) < self.truths.len() && !self.truths[literal as usize] {
+            self.trail.push(literal)?;
+            self.truths[literal as usize] = true;
+        }
+        Ok(())
+    }
+
+    /// Takes back all literals of the trail.
+    pub(crate) fn undo(&mut self)
+        ensures { (before : List Bool) → IsFound before self.old
+            → (l : ℕ) → IsKnown self.new.truths.items l → IsKnown before l }
+    {
+        forget(&mut self.truths, &self.trail);
+        self.trail.clear();
+    }
+
+    /// Keeps the literals of the trail.
+    pub(crate) fn settle(&mut self)
+        ensures { self.new.truths.items ≡ self.old.truths.items }
+    {
+        self.trail.clear();
+    }
+}

@@ -1,0 +1,71 @@
+//! Checking a refutation, clause by clause.
+ghost use Rattle.std.specs.Prelude.{IsTrue, IfOk, [], ◌∷◌};
+ghost use Rattle.aig_sat.specs.checker.Consequence.{Follows, IsUnsatisfiable};
+
+use crate::checker::checker::Checker;
+use aig_bytes::Memory;
+use aig_parts::Lit;
+use std::alloc::Global;
+use std::marker::Model;
+
+/// A formula that is being refuted. A contract sees it as a list of clauses: those that stand, and each literal that
+/// was found to be true as a clause of its own; where there is a contradiction, the empty clause is one of them.
+/// Clauses are sets: a literal counts once. A clause of both signs of a variable stands until it is deleted, and
+/// nothing follows from it. Literals of variables that it does not have are kept in the clauses, and never found to
+/// be true.
+#[derive(Drop)]
+pub struct Refutation {
+    checker: Checker,
+}
+
+impl Model for Refutation {
+    ghost use Rattle.std.specs.Prelude.{ℕ, List};
+
+    ghost Value = { List (List ℕ) };
+
+    ghost use Rattle.aig_sat.specs.checker.Standing.{standing};
+
+    ghost view = { λ a. standing a.checker.refuted a.checker.propagator };
+}
+
+impl Refutation {
+    /// A formula without clauses over so many variables. It takes memory for each of them.
+    pub fn new(alloc: Global, variables: u32) -> Result<Refutation, Memory>
+        ensures { IfOk result (Follows []) }
+    {
+        Ok(Refutation {
+            checker: Checker::new(alloc, variables)?,
+        })
+    }
+
+    /// Adds a clause to the formula. If no memory was found, the clause may be missing.
+    pub fn add_clause(&mut self, clause: &[Lit]) -> Result<(), Memory>
+        ensures { Follows (clause.now ∷ self.old) self.new }
+    {
+        self.checker.add_clause(clause)
+    }
+
+    /// Adds a clause, if it follows from those that stand by unit propagation, and answers whether it does. Any clause
+    /// follows where there is a contradiction.
+    pub fn add_step(&mut self, clause: &[Lit]) -> Result<bool, Memory>
+        ensures stands { Follows self.old self.new }
+        ensures follows { IfOk result (λ taken. IsTrue taken → Follows self.old (clause.now ∷ [])) }
+    {
+        self.checker.add_step(clause)
+    }
+
+    /// Deletes a clause of these literals, in any order, if one stands. Of equal ones it deletes one. What was found to
+    /// be true stays so.
+    pub fn delete(&mut self, clause: &[Lit])
+        ensures { Follows self.old self.new }
+    {
+        self.checker.delete(clause)
+    }
+
+    /// Whether unit propagation has found a contradiction.
+    pub fn is_refuted(&self) -> bool
+        ensures { IsTrue result → IsUnsatisfiable self.now }
+    {
+        self.checker.refuted
+    }
+}

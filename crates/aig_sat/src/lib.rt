@@ -1,0 +1,10 @@
+//! What passes between a SAT solver and us: models, proofs, and the checker of proofs. It knows no circuit.
+#![tactic(auto)]
+
+mod checker;
+mod model;
+mod proof;
+
+pub use checker::Refutation;
+pub use model::{Assignment, ModelFault, Phase, read_model};
+pub use proof::{ProofFault, ProofReader, StepKind};

@@ -1,0 +1,14 @@
+//! Proofs that a formula has no satisfying assignment, as SAT solvers write them (DRAT): their steps, read one by one.
+//! The crate knows no formula: whether a step follows is not its affair.
+
+mod binary;
+mod bytes;
+mod fault;
+mod literal;
+mod reader;
+mod step;
+mod text;
+
+pub use fault::ProofFault;
+pub use reader::ProofReader;
+pub use step::StepKind;

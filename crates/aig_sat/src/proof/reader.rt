@@ -1,0 +1,174 @@
+//! The steps of a proof, as text and in the binary form.
+ghost use Rattle.std.specs.Prelude.{◌≡◌, ◌+◌, ◌*◌, ◌-◌, ◌^◌, ◌<◌, ◌≤◌, [], IfOk, IfSome, OnOk};
+ghost use Rattle.aig_parts.specs.Literal.{variable};
+ghost use Rattle.aig_sat.specs.proof.Reads.{reads_failed};
+ghost use Rattle.aig_sat.specs.proof.Steps.{AreLiterals};
+
+use crate::proof::binary::{binary_kind, binary_literal};
+use crate::proof::bytes::ProofBytes;
+use crate::proof::fault::ProofFault;
+use crate::proof::step::StepKind;
+use crate::proof::text::{text_kind, text_literal};
+use aig_bytes::Read;
+use aig_parts::Lit;
+use std::alloc::Global;
+use std::marker::Model;
+
+/// How the steps of a proof are spelled.
+#[derive(Clone, Copy, PartialEq, Eq, Debug)]
+enum Spelling {
+    Text,
+    Binary,
+}
+
+/// How the proof that begins with these bytes is spelled. A text does not begin with `a`; where it begins with `d` a
+/// blank follows, and it has no zero byte, with which each step of the binary form ends.
+fn spelling_of(bytes: &[u8]) -> Spelling {
+    match bytes {
+        [b'a', ..] => Spelling::Binary,
+        [b'd', b' ' | b'\t', ..] => {
+            if bytes.contains(&0) {
+                Spelling::Binary
+            } else {
+                Spelling::Text
+            }
+        }
+        [b'd', _, ..] => Spelling::Binary,
+        _ => Spelling::Text,
+    }
+}
+
+/// Looks at the first bytes of a proof, and takes none.
+fn look<R: Read>(bytes: &mut ProofBytes, reader: &mut R) -> Result<Spelling, ProofFault>
+    ensures { R.failures reader.new ≡ R.failures reader.old + reads_failed result }
+{
+    if let Some(b'd') = bytes.peek(reader)? {
+        bytes.fill(reader)?;
+    }
+    Ok(spelling_of(bytes.front()))
+}
+
+/// The next literal of a clause, or `None` at its end.
+fn next_literal<R: Read>(
+    spelling: Spelling,
+    bytes: &mut ProofBytes,
+    reader: &mut R,
+    variables: u32,
+) -> Result<Option<Lit>, ProofFault>
+    requires { variables < 2 ^ 31 }
+    ensures count { R.failures reader.new ≡ R.failures reader.old + reads_failed result }
+    ensures literal { IfOk result (λ next. IfSome next (λ l. variable l < variables)) }
+    ensures lowers { IfOk result (λ _. 32768 * R.reads_left reader.new + (bytes.new.end - bytes.new.start)
+        < 32768 * R.reads_left reader.old + (bytes.old.end - bytes.old.start)) }
+{
+    match spelling {
+        Spelling::Text => text_literal(bytes, reader, variables),
+        Spelling::Binary => binary_literal(bytes, reader, variables),
+    }
+}
+
+/// Reads the literals of a clause up to its end.
+fn read_clause<R: Read>(
+    spelling: Spelling,
+    bytes: &mut ProofBytes,
+    reader: &mut R,
+    variables: u32,
+    clause: &mut Vec<Lit>,
+) -> Result<(), ProofFault>
+    requires { variables < 2 ^ 31 }
+    ensures count { R.failures reader.new ≡ R.failures reader.old + reads_failed result }
+    ensures literals { AreLiterals variables clause.new.items }
+{
+    clause.clear();
+    while let Some(literal) = next_literal(spelling, bytes, reader, variables)? {
+        if clause.push(literal).is_err() {
+            return Err(ProofFault::Memory);
+        }
+    }
+    Ok(())
+}
+
+/// What the next step does, or `None` where there is none.
+fn next_kind<R: Read>(
+    spelling: Spelling,
+    bytes: &mut ProofBytes,
+    reader: &mut R,
+) -> Result<Option<StepKind>, ProofFault>
+    ensures { R.failures reader.new ≡ R.failures reader.old + reads_failed result }
+{
+    match spelling {
+        Spelling::Text => text_kind(bytes, reader),
+        Spelling::Binary => binary_kind(bytes, reader),
+    }
+}
+
+/// Reads the steps of a proof one by one. It keeps the clause of the last one, and a block of bytes that were read.
+#[derive(Drop)]
+pub struct ProofReader {
+    bytes: ProofBytes,
+    // `None` until the first step is asked for.
+    spelling: Option<Spelling>,
+    variables: u32,
+    clause: Vec<Lit>,
+}
+
+impl Model for ProofReader {
+    ghost use Rattle.std.specs.Prelude.{◌<◌, ◌^◌};
+    ghost use Rattle.aig_sat.specs.proof.Steps.{StepReader, AreLiterals};
+
+    ghost Value = { StepReader };
+
+    ghost view = { λ r. record { variables = r.variables; clause = r.clause.items } };
+
+    ghost invariant = { λ r. AreLiterals r.variables r.clause.items × (r.variables < 2 ^ 31) };
+}
+
+impl ProofReader {
+    /// For a proof about a formula with so many variables. Nothing is read yet.
+    pub fn new(alloc: Global, variables: u32) -> ProofReader
+        requires { variables < 2 ^ 31 }
+        ensures { result ≡ record { variables = variables; clause = [] } }
+    {
+        ProofReader {
+            bytes: ProofBytes::new(),
+            spelling: None,
+            variables,
+            clause: Vec::new(alloc),
+        }
+    }
+
+    /// The clause of the last step that was read.
+    pub fn clause(&self) -> &[Lit]
+        ensures clause { result.now ≡ self.now.clause }
+        ensures literals { AreLiterals self.now.variables self.now.clause }
+    {
+        let _variables = self.variables;
+        &self.clause
+    }
+
+    /// Reads the next step, and answers what it does with its clause; `None` at the end. The first call tells a text
+    /// from the binary form by the first bytes. It refuses bytes that spell no step, and literals of other variables
+    /// than the formula's. Memory is taken only for literals that were read.
+    pub fn next<R: Read>(&mut self, reader: &mut R) -> Result<Option<StepKind>, ProofFault>
+        ensures variables { self.new.variables ≡ self.old.variables }
+        ensures literals { AreLiterals self.new.variables self.new.clause }
+        ensures count { R.failures reader.new ≡ R.failures reader.old + reads_failed result }
+    {
+        let spelling = match self.spelling {
+            Some(spelling) => spelling,
+            None => look(&mut self.bytes, reader)?,
+        };
+        self.spelling = Some(spelling);
+        let Some(kind) = next_kind(spelling, &mut self.bytes, reader)? else {
+            return Ok(None);
+        };
+        read_clause(
+            spelling,
+            &mut self.bytes,
+            reader,
+            self.variables,
+            &mut self.clause,
+        )?;
+        Ok(Some(kind))
+    }
+}

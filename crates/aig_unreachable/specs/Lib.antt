@@ -1,2 +1,0 @@
-pub mod Unreachable
-pub mod state
