@@ -1,6 +1,5 @@
 # Completion of `aig` for bash: put it where bash-completion looks, or `source` it. It works without bash-completion.
-# A command is a word of `commands`, its options a line of `options`, and an option with a value a line of `values`:
-# the words that it takes, `file`, or nothing.
+# completions/make.py writes aig.bash: its tables from the program's help, all else from aig.bash.in.
 
 _aig() {
     local commands="toaig sim wave bench unroll check cnf info select witness refute reduce help"
@@ -18,17 +17,26 @@ _aig() {
         [refute]="--frames --property --step --explain --help"
         [reduce]="--explain --help"
     )
+    # What the value of an option is: one of these words, a file, or a number.
     local -A values=(
-        [--to]="aag aig"
-        [--from]="bad outputs"
-        [--as]="bad outputs"
-        [--frames]=""
-        [--property]=""
-        [--map]="file"
-        [--model]="file"
-        [--step]="file"
-        [--circuit-out]="file"
-        [--stimulus-out]="file"
+        ["toaig --to"]="aag aig"
+        ["bench --circuit-out"]="file"
+        ["bench --stimulus-out"]="file"
+        ["unroll --frames"]="number"
+        ["unroll --to"]="aag aig"
+        ["unroll --map"]="file"
+        ["cnf --frames"]="number"
+        ["cnf --property"]="number"
+        ["select --to"]="aag aig"
+        ["select --from"]="bad outputs"
+        ["select --as"]="bad outputs"
+        ["select --property"]="number"
+        ["witness --model"]="file"
+        ["witness --frames"]="number"
+        ["witness --property"]="number"
+        ["refute --frames"]="number"
+        ["refute --property"]="number"
+        ["refute --step"]="file"
     )
     local first=1 words=("") joins="" i
     COMPREPLY=()
@@ -36,8 +44,6 @@ _aig() {
     # The command, which --explain may precede.
     ((COMP_CWORD > 1)) && [[ ${COMP_WORDS[1]} == --explain ]] && first=2
     local command=${COMP_WORDS[first]}
-    # In cnf and witness it has no value.
-    [[ $command == cnf || $command == witness ]] && unset "values[--step]"
 
     # The words after the command. Bash splits `--to=aag` at `=`, if `=` is in COMP_WORDBREAKS.
     for ((i = first + 1; i <= COMP_CWORD; i++)); do
@@ -58,7 +64,7 @@ _aig() {
         if [[ -n $option ]]; then
             option=""
         elif [[ ${words[i]} == -* ]]; then
-            [[ -v "values[${words[i]}]" ]] && option=${words[i]}
+            [[ -n ${values["$command ${words[i]}"]-} ]] && option=${words[i]}
         else
             ((files++))
         fi
@@ -70,17 +76,18 @@ _aig() {
         [[ $COMP_WORDBREAKS == *=* ]] || before="$option="
         word=${word#*=}
     fi
+    local value=${values["$command $option"]-}
     if ((COMP_CWORD == first)); then
         _aig_reply "" -W "$commands --explain --help --version" -- "$command"
     elif [[ $command == help ]]; then
         _aig_reply "" -W "$commands" -- "$word"
-    elif [[ -n $option && ${values[$option]} == file ]]; then
+    elif [[ $value == file ]]; then
         _aig_reply "$before" -f -- "$word"
     elif [[ -n $option ]]; then
         compopt +o bashdefault +o default 2> /dev/null
-        _aig_reply "$before" -W "${values[$option]}" -- "$word"
+        [[ $value == number ]] || _aig_reply "$before" -W "$value" -- "$word"
     elif [[ $word == -* ]]; then
-        _aig_reply "" -W "${options[$command]}" -- "$word"
+        _aig_reply "" -W "${options[$command]-}" -- "$word"
     elif ((files == 0)); then
         # The first file is a circuit. If no name ends like one, each file may be.
         _aig_reply "" -f -X '!*.aag' -- "$word"

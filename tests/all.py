@@ -18,7 +18,7 @@ from library.runs import REPOSITORY, TESTS
 LARGE = "run_large.py"
 SCRIPTS = ("run_program.py", "run_faults.py", "run_random.py", "run_dist.py", "tour.py")
 # these read the sources alone
-READERS = ("definitions.py", "contracts.py")
+READERS = ("definitions.py", "contracts.py", "edges.py")
 CRATES = ("aig_tests", "aig_command_tests", "aig_bench_tests")
 COUNTS = re.compile(r"(\d+) passed[,;] (\d+) failed")
 SHOWN = re.compile(r"(?m)^.*(?: passed[,;] |left out|to believe|as the sources).*\n")

@@ -109,12 +109,14 @@ def differences(old, new):
 
 
 def wrong_numbers(promises):
-    """Yields what README says wrong of the lines to believe, as in `read 868 lines (.. --of bench ..)`."""
-    said = re.findall(r"(\d[\d,]*)[^(\d]*\([^)]*--of ([\w:]+)", README.read_text(encoding="utf-8"))
-    for number, name in said:
-        lines = [promises.specs.lines(promises.believed(it)) for it in promises.exports if it.name == name]
+    """Yields what README says wrong of the lines to believe, as in `read 868 lines (.. --of bench ..)`, or of those of
+    one clause (`--of refute --clause unreachable`)."""
+    said = re.findall(r"(\d[\d,]*)[^(\d]*\([^)]*--of ([\w:]+)(?: --clause (\w+))?", README.read_text(encoding="utf-8"))
+    for number, name, clause in said:
+        clause = clause or None
+        lines = [promises.specs.lines(promises.believed(it, clause)) for it in promises.having(name, clause)]
         if [int(number.replace(",", ""))] != lines:
-            yield f"README.md says {number} lines to believe for {name}: {lines}"
+            yield f"README.md says {number} lines to believe for {name}, {clause or 'all clauses'}: {lines}"
     if not said:
         yield "README.md says of no call how many lines one has to believe"
 

@@ -149,7 +149,8 @@ def functions(crate, file, homes):
 
 def read(crate, path, known):
     """A planted bug: the clause that it breaks, its changes, each a piece of one line, and the functions whose bodies
-    it changes. There are no changes where a piece is not in its file exactly once, as those before it left it."""
+    it changes. There are no changes where a piece is not in its file exactly once, as those before it left it, or where
+    the crate has no such file."""
     name, clause = f"{path.parent.relative_to(crate)}/{path.name}", None
     changes, changed, texts, file, old = [], [], {}, None, None
     for line in path.read_text().split("\n"):
@@ -162,7 +163,7 @@ def read(crate, path, known):
         elif word == "old":
             old = text
         elif word == "new":
-            before = texts.get(file) or (crate / file).read_text()
+            before = texts.get(file) or ((crate / file).read_text() if file in known else "")
             if before.count(old) != 1:
                 return Edit(name, clause, [], [])
             at = before[: before.index(old)].count("\n")

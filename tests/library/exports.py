@@ -1,8 +1,9 @@
 """What the crates export, with its contracts, read from their sources.
 
-A crate exports what `pub use` in its lib.rt names, and the type that an exported alias names. With a type come its
-public methods, and the implementations of traits for it, where they have clauses or say what contracts see. What a
-public module shows beside these is marked: its `listed` is false."""
+A crate exports what `pub use` in its lib.rt names, and the type that an exported alias names. A module of a folder may
+export a name again in the same way. With a type come its public methods, and the implementations of traits for it,
+where they have clauses or say what contracts see. What a public module shows beside these is marked: its `listed` is
+false."""
 
 import collections
 import re
@@ -22,7 +23,8 @@ FUNCTION = re.compile(r"(\s*)(pub )?(?:const |unsafe )*fn (\w+)")
 GHOST = re.compile(r"\n {4}((?:pub )?ghost (\w+)\s*[=:])\s*\{")
 PLAIN = re.compile(r"pub (?:const|type) (\w+)")
 NAMED = re.compile(r"(?m)^pub (?:struct|enum|trait|const|type|fn) (\w+)")
-USED = re.compile(r"pub use (?:crate::)?(\w+)::(?:\{([\w\s,]*)\}|(\w+));")
+HELD = re.compile(r"(?m)^(?:pub(?:\(\w+\))? )?(?:struct|enum|trait|const|type|fn) (\w+)")
+USED = re.compile(r"pub use (?:crate::)?((?:\w+::)*\w+)::(?:\{([\w\s,]*)\}|(\w+));")
 CLAUSE = re.compile(r"\s*\b((?:requires|ensures)\b[^{;]*?)\s*\{")
 
 # What a block says for its own proofs.
@@ -107,28 +109,54 @@ def block_at(text, start):
 
 
 class Crate:
-    """What the sources of a crate say."""
+    """What the sources of a crate say: the text of each module, by a path as `checker::refutation`."""
 
     def __init__(self, name):
         self.name = name
-        self.folder = ROOT / "crates" / name / "src"
-        lib = (self.folder / "lib.rt").read_text(encoding="utf-8")
-        self.doc = sentence([line[3:].strip() for line in lib.split("\n") if line.startswith("//!")])
-        self.public_modules = set(re.findall(r"(?m)^pub mod (\w+);", lib))
-        self.texts = {path.stem: path.read_text(encoding="utf-8") for path in sorted(self.folder.glob("*.rt"))}
-        self.names, self.passed_on = set(), {}
-        for module, names, one in USED.findall(lib):
-            here = {it.strip() for it in (names or one).split(",")} - {""}
-            if module in self.texts:
-                self.names |= here
-            else:
-                self.passed_on[module] = sorted(here)
-        lost = self.names.difference(*(NAMED.findall(text) for text in self.texts.values()))
-        if lost or len(USED.findall(lib)) != lib.count("pub use "):
-            raise ValueError(f"{self.folder}/lib.rt: not all that it exports was found: {lost}")
+        folder = ROOT / "crates" / name / "src"
+        paths = {"::".join(it.relative_to(folder).with_suffix("").parts): it for it in sorted(folder.rglob("*.rt"))}
+        self.texts = {module: path.read_text(encoding="utf-8") for module, path in paths.items()}
+        self.doc = sentence([line[3:].strip() for line in self.texts["lib"].split("\n") if line.startswith("//!")])
+        self.public_modules = set(self.public_below("lib"))
+        self.passed_on = {}
+        self.homes = set(self.named_by("lib"))
         for text in self.texts.values():
-            for name, target in re.findall(r"(?m)^pub type (\w+)\b[^=]*=\s*(\w+)", text):
-                self.names |= {target} if name in self.names else set()
+            for name_of_alias, target in re.findall(r"(?m)^pub type (\w+)\b[^=]*=\s*(\w+)", text):
+                if name_of_alias in {it for _, it in self.homes}:
+                    self.homes |= {(module, target) for module, it in self.texts.items() if target in NAMED.findall(it)}
+        self.names = {it for _, it in self.homes}
+
+    def public_below(self, module):
+        """Yields the modules that a module declares as public, and those that these do."""
+        for name in re.findall(r"(?m)^pub mod (\w+);", self.texts[module]):
+            inner = name if module == "lib" else f"{module}::{name}"
+            yield inner
+            yield from self.public_below(inner)
+
+    def named_by(self, module):
+        """Yields what a module exports again, each with the module where it is defined."""
+        text = self.texts[module]
+        used = USED.findall(text)
+        if len(used) != text.count("pub use "):
+            raise ValueError(f"{self.name}: not all that the module {module} exports was understood")
+        for source, names, one in used:
+            here = {it.strip() for it in (names or one).split(",")} - {""}
+            home = next((it for it in (f"{module}::{source}", source) if it in self.texts), None)
+            if home is None:
+                self.passed_on[source] = sorted(here)
+                continue
+            below = {name: place for place, name in self.named_by(home)}
+            for name in here:
+                if name not in below and name not in NAMED.findall(self.texts[home]):
+                    raise ValueError(f"{self.name}: the module {home} does not show {name}")
+                yield below.get(name, home), name
+
+    def shown(self, module, text):
+        """Returns the names that mean something exported in a module: its own, and those of other modules that it does
+        not define anew."""
+        held = set(HELD.findall(text))
+        here = {name for place, name in self.homes if place == module or name not in held}
+        return here | set(NAMED.findall(text) if module in self.public_modules else ())
 
     def exports(self):
         """Yields what the crate exports, in the order of its files."""
@@ -139,8 +167,7 @@ class Crate:
         # a comment becomes blanks, which keeps the places
         text = re.sub(r"(?m)//.*$", lambda at: " " * len(at[0]), raw)
         lines, known, block = raw.split("\n"), imports(text), None
-        is_public = module in self.public_modules
-        shown = self.names | set(NAMED.findall(text) if is_public else ())
+        shown = self.shown(module, text)
 
         def export(name, head, clauses, of=None, line=None):
             owner = of.owner if of else name

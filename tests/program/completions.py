@@ -1,4 +1,5 @@
-"""What bash and zsh complete: on a terminal, as a user types it; and in bash's function, for words that bash split."""
+"""What bash and zsh complete: on a terminal, as a user types it; and in bash's function, for words that bash split, and
+for each option of the help."""
 
 import os
 import pty
@@ -8,6 +9,9 @@ import signal
 import subprocess
 import time
 
+from library.completion import long_name, value_of
+from library.helptext import commands, long_options
+from library.manual import asker
 from library.runs import REPOSITORY, LeftOut, write
 
 FOLDER = REPOSITORY + "/completions"
@@ -60,6 +64,8 @@ SPLIT = (
     (["sim", "a.aag", ""], ["a.aag", "b.aig", "notes", "rows.stim", "sub", "with space.aag"]),
     (["wave", "--witness", "a"], ["a.aag"]),
     (["check", "--trace", "a.aag", "ro"], ["rows.stim"]),
+    (["check", "-$(touch hacked)", "a"], ["a.aag"]),
+    (["check", "$(touch hacked)", "ro"], ["rows.stim"]),
 )
 
 # Where `=` does not split words, the answer replaces the whole word.
@@ -104,7 +110,7 @@ SHELLS = {
 }
 
 
-def completions(_, tally, __):
+def completions(program, tally, _):
     for name in FILES:
         write(name, "")
     os.mkdir("sub")
@@ -113,6 +119,9 @@ def completions(_, tally, __):
     for breaks, cases in ((" \t\n\"'><=;|&(:", SPLIT), (" \t\n\"'><;|&(:", WHOLE)):
         for words, wanted in cases:
             tally.compare(f"completions: bash: {words}", replies(words, breaks), wanted)
+        for words, wanted in of_help(asker(program.path)):
+            tally.compare(f"completions: bash: {words}", replies(words, breaks), wanted)
+    tally.check("completions: bash: a command in a word", not os.path.exists("hacked"), "it ran")
     try:
         for end in pty.openpty():
             os.close(end)
@@ -131,6 +140,17 @@ def completions(_, tally, __):
             for typed, wanted in IN_TURN:
                 tally.compare(f"completions: {name}: {typed!r}", shell.arguments(typed), wanted)
     return left_out
+
+
+def of_help(ask):
+    """The options of each command, and what each takes, as words of a line with the answer."""
+    for name, one in commands(ask)[1].items():
+        yield [name, "--"], sorted(long_options(one))
+        for option, said in one.options.items():
+            value = value_of(option, said)
+            if value:
+                files = sorted([*FILES, "sub"])
+                yield [name, long_name(option), ""], {"file": files, "number": []}.get(value, value.split(" "))
 
 
 def replies(words, breaks):

@@ -3,8 +3,8 @@
 use aig_base::Memory;
 use aig_cli::{has_flag, matches_of};
 use aig_explain::escaped;
-use aig_run::RunFault;
 use aig_files::Exit;
+use aig_run::RunFault;
 use aig_tasks::Task;
 use clap::ArgMatches;
 use clap::error::ErrorKind;

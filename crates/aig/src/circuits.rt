@@ -2,11 +2,10 @@
 
 use crate::kept::{begin_map, write_map};
 use aig_base::Std;
-use aig_commands::{info, select, toaig, unroll};
-use aig_run::RunFault;
+use aig_commands::{cnf, cnf_step, info, select, toaig, unroll};
 use aig_files::{CIRCUIT, Exit, OutputFile, open, output, read_whole};
 use aig_format::Format;
-use aig_commands::{cnf, cnf_step};
+use aig_run::RunFault;
 use aig_tasks::Selection;
 use std::alloc::Global;
 use std::fs::{Files, OpenFile};

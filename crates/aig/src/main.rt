@@ -8,8 +8,8 @@ mod kept;
 mod simulations;
 mod witnesses;
 
-use aig_files::{Exit, reserve};
 use aig_explain::{explain, is_asked_for};
+use aig_files::{Exit, reserve};
 use arguments::{Request, parsed};
 use clap::ArgMatches;
 use dispatch::run_task;

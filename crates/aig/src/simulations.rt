@@ -3,8 +3,8 @@
 use crate::kept::BenchFiles;
 use aig_base::Std;
 use aig_commands::{bench, sim, wave};
-use aig_run::{RunFault, ScriptFault};
 use aig_files::{CIRCUIT, Exit, Kept, open, output, read_whole};
+use aig_run::{RunFault, ScriptFault};
 use aig_sim::StimFault;
 use std::fs::Files;
 use std::io::Read;

@@ -2,12 +2,11 @@
 //! that there is none.
 
 use aig_base::Std;
-use aig_commands::{check, reduce, wave};
-use aig_run::RunFault;
+use aig_commands::{check, induction, model_witness, reduce, refute, step_witness, wave, witness};
 use aig_files::{CIRCUIT, Exit, open, output, read_whole};
+use aig_run::RunFault;
 use aig_sat::ProofFault;
 use aig_sim::{StimFault, Verdict};
-use aig_commands::{induction, model_witness, refute, step_witness, witness};
 use std::fs::Files;
 use std::io::Read;
 

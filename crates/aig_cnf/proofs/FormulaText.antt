@@ -1,32 +1,39 @@
 -- The text of a formula, part by part.
-use Rattle.std.proofs.Common.{◌≡◌, ◌⊎◌, inl, inr, ℕ, zero, suc, ◌+◌, ◌*◌, ◌<◌, ◌≤◌, List, [], ◌∷◌, ◌++◌, length, slice_index, mul-le-mul_right, refl, sym, ◌∙◌, ap, arith}
+use Rattle.std.proofs.Common.{◌≡◌, ◌⊎◌, inl, inr, ℕ, zero, suc, ◌+◌, ◌*◌, ◌<◌, ◌≤◌, List, [], ◌∷◌, ◌++◌, length, refl, sym, ◌∙◌, ap, ap₂, arith}
 use Rattle.std.proofs.Common.{append_assoc, length-append, add-one}
 use Rattle.std.specs.List.{flat_map}
 use Rattle.std.proofs.lemmas.List.Concat.{flat_map-append, flat_map-cons}
 use Rattle.std.proofs.lemmas.List.{append-nil}
 use Rattle.aig_parts.specs.declared.gate.Gate.{Gate}
-use Rattle.aig_parts.specs.declared.raw.Raw.{Raw}
-use Rattle.aig_unroll.specs.Answers.{IsUnrolled}
-use Rattle.aig_unroll.specs.Unrolled.{frame_bad, frames}
-use Rattle.aig_unroll.proofs.UnrolledCircuit.{length-frame_bad, length-frames}
-use Rattle.aig_cnf.specs.CnfText.{goal_line, goal_lines}
-use Rattle.aig_cnf.specs.Dimacs.{clause_text, formula_text, gate_text, literal_text, problem_line}
-use Rattle.aig_cnf.specs.Formula.{bad_formula, gate_clauses, goals}
+use Rattle.aig_parts.specs.Literal.{negation}
+use Rattle.aig_unroll.specs.Unrolled.{frames}
+use Rattle.aig_cnf.specs.Dimacs.{clause_text, formula_text, gate_text, problem_line}
+use Rattle.aig_cnf.specs.Formula.{clauses, first_reached, gate_clauses, goal_clauses}
+use Rattle.aig_cnf.specs.declared.query.Goal.{Goal}
+use Rattle.aig_cnf.specs.declared.query.Goal.TheVariants as asked
 
--- the clauses of all gates
-pub gates_text : (gates : List Gate) → flat_map clause_text (flat_map gate_clauses gates) ≡ flat_map gate_text gates
+-- the clauses of items, item by item
+joined_text : {A : Type 0} (f : A → List (List ℕ)) (xs : List A)
+    → flat_map (λ x. flat_map clause_text (f x)) xs ≡ flat_map clause_text (flat_map f xs)
+joined_text f [] = refl
+joined_text f (x ∷ xs) =
+    flat_map-cons (λ y. flat_map clause_text (f y)) x xs
+    ∙ ap (λ (bs : List ℕ). flat_map clause_text (f x) ++ bs) (joined_text f xs)
+    ∙ sym (ap (flat_map clause_text) (flat_map-cons f x xs) ∙ flat_map-append clause_text (f x) (flat_map f xs))
+
+-- ---- gates
+
+pub gates_text : (gates : List Gate) → flat_map gate_text gates ≡ flat_map clause_text (flat_map gate_clauses gates)
 unfolding gate_text
-gates_text [] = refl
-gates_text (g ∷ gates) =
-    ap (flat_map clause_text) (flat_map-cons gate_clauses g gates)
-    ∙ flat_map-append clause_text (gate_clauses g) (flat_map gate_clauses gates)
-    ∙ ap (λ (xs : List ℕ). gate_text g ++ xs) (gates_text gates) ∙ sym (flat_map-cons gate_text g gates)
+gates_text gates = joined_text gate_clauses gates
 
 pub length-clauses : (gates : List Gate) → length (flat_map gate_clauses gates) ≡ 3 * length gates
 length-clauses [] = refl
 length-clauses (g ∷ gates) =
     ap length (flat_map-cons gate_clauses g gates) ∙ length-append (gate_clauses g) (flat_map gate_clauses gates)
     ∙ ap (λ n. 3 + n) (length-clauses gates) ∙ omega arith
+
+-- ---- frames
 
 -- the frames up to t stand first
 pub frames_split : {A : Type 0} (f : ℕ → List A) (t k : ℕ) → t ≤ k → (rest : List A) × (frames f k ≡ frames f t ++ rest)
@@ -43,65 +50,66 @@ frames_split {A = A} f t (suc k) le = go (below_or t k le) (λ h. frames_split f
         (rest ++ f k, ap (λ xs. xs ++ f k) e ∙ append_assoc (frames f t) rest (f k))
     go (inr e) earlier = ([], rw e (sym (append-nil (frames f (suc k)))))
 
--- the goals up to the one of frame t, and those up to the last
-pub goals_more : (new : Raw) (n t p : ℕ) → flat_map literal_text (goals new n t p) ++ literal_text (slice_index new.bad (t * n + p))
-    ≡ flat_map literal_text (goals new n (t + 1) p)
-goals_more new n t p =
-    let e : t + 1 ≡ suc t = omega arith in
-    ap (λ (xs : List ℕ). flat_map literal_text (goals new n t p) ++ xs) (sym (append-nil (literal_text (slice_index new.bad (t * n + p)))))
-    ∙ sym (flat_map-append literal_text (goals new n t p) (slice_index new.bad (t * n + p) ∷ []))
-    ∙ ap (λ m. flat_map literal_text (goals new n m p)) (sym e)
+-- one frame more, and those after it
+pub frames_more : {A : Type 0} (f : ℕ → List A) (t : ℕ) → frames f t ++ f t ≡ frames f (t + 1)
+frames_more f t = ap (frames f) (sym (add-one t))
 
-pub goals_rest : (new : Raw) (n t k p : ℕ) → t < k → (rest : List ℕ)
-    × ((flat_map literal_text (goals new n t p) ++ literal_text (slice_index new.bad (t * n + p))) ++ rest
-    ≡ flat_map literal_text (goals new n k p))
-goals_rest new n t k p lt =
-    let (rest, e) = frames_split (λ s. slice_index new.bad (s * n + p) ∷ []) (t + 1) k (omega arith) in (
-      flat_map literal_text rest,
-      ap (λ (xs : List ℕ). xs ++ flat_map literal_text rest) (goals_more new n t p)
-          ∙ sym (flat_map-append literal_text (goals new n (t + 1) p) rest) ∙ ap (flat_map literal_text) (sym e),
-    )
+pub frames_rest : {A : Type 0} (f : ℕ → List A) (t k : ℕ) → t < k → (rest : List A) × ((frames f t ++ f t) ++ rest ≡ frames f k)
+frames_rest f t k lt =
+    let (rest, e) = frames_split f (t + 1) k (omega arith) in
+    (rest, ap (λ xs. xs ++ rest) (frames_more f t) ∙ sym e)
 
--- the lines of the goals up to the one of frame t, and those up to the last
-pub lines_more : (new : Raw) (n t p : ℕ) → goal_lines new n t p ++ goal_line (slice_index new.bad (t * n + p)) t
-    ≡ goal_lines new n (t + 1) p
-lines_more new n t p = ap (λ m. goal_lines new n m p) (sym (add-one t))
+-- ---- the goal of a step
 
-pub lines_rest : (new : Raw) (n t k p : ℕ) → t < k → (rest : List ℕ)
-    × ((goal_lines new n t p ++ goal_line (slice_index new.bad (t * n + p)) t) ++ rest ≡ goal_lines new n k p)
-lines_rest new n t k p lt =
-    let (rest, e) = frames_split (λ s. goal_line (slice_index new.bad (s * n + p)) s) (t + 1) k (omega arith) in
-    (rest, ap (λ (xs : List ℕ). xs ++ rest) (lines_more new n t p) ∙ sym e)
+-- the clause that the literal is false
+abbrev pub denied : ℕ → List (List ℕ)
+denied l = (negation l ∷ []) ∷ []
 
--- the goal of frame t is a bad literal
-pub is_goal : (bad : List ℕ) (n t k p : ℕ) → t < k → p < n → length bad ≡ k * n → t * n + p < length bad
-is_goal bad n t k p lt within size =
-    let up : suc t * n ≤ k * n = mul-le-mul_right {m = suc t} {n = k} n lt in
-    let e : suc t * n ≡ n + t * n = omega arith in
-    omega (arith, up, e, size, within)
+unfoldable pub denied_text : ℕ → List ℕ
+denied_text l = flat_map clause_text (denied l)
 
--- each frame has the bad literals of the circuit
-pub unrolled_bad : (raw new : Raw) (k : ℕ) → IsUnrolled raw k new → length new.bad ≡ k * length raw.bad
-unrolled_bad raw new k (order, canonical, is) =
-    ap (λ (x : Raw). length x.bad) is ∙ length-frames (frame_bad raw order k) (length raw.bad) k (length-frame_bad raw order k)
+pub first_reached-append : (xs : List ℕ) (x : ℕ) → first_reached (xs ++ x ∷ []) ≡ flat_map denied xs ++ (x ∷ []) ∷ []
+first_reached-append [] x = refl
+first_reached-append (y ∷ []) x = refl
+first_reached-append (y ∷ z ∷ ys) x =
+    ap (λ cs. (negation y ∷ []) ∷ cs) (first_reached-append (z ∷ ys) x)
+    ∙ ap (λ cs. cs ++ (x ∷ []) ∷ []) (sym (flat_map-cons denied y (z ∷ ys)))
 
-formula_is : (v : ℕ) (clauses : List (List ℕ))
-    → formula_text v clauses ≡ problem_line v (length clauses) ++ flat_map clause_text clauses
+pub first_text : (xs : List ℕ) (x : ℕ)
+    → flat_map denied_text xs ++ clause_text (x ∷ []) ≡ flat_map clause_text (first_reached (xs ++ x ∷ []))
+unfolding denied_text
+first_text xs x =
+    ap₂ (λ (bs ds : List ℕ). bs ++ ds) (joined_text denied xs) (sym (append-nil (clause_text (x ∷ []))))
+    ∙ sym (flat_map-append clause_text (flat_map denied xs) ((x ∷ []) ∷ []))
+    ∙ ap (flat_map clause_text) (sym (first_reached-append xs x))
+
+pub length-first_reached : (ls : List ℕ) → length (first_reached ls) ≡ length ls
+length-first_reached [] = refl
+length-first_reached (l ∷ []) = refl
+length-first_reached (l ∷ m ∷ ls) = ap suc (length-first_reached (m ∷ ls))
+
+-- ---- the whole
+
+-- a goal has at most one clause a frame, or one
+pub length-goal_clauses : (goal : Goal) (ls : List ℕ) → length (goal_clauses goal ls) ≤ 1 + length ls
+length-goal_clauses asked.Within ls = omega arith
+length-goal_clauses asked.Step ls = let e = length-first_reached ls in omega (arith, e)
+
+pub length-formula : (goal : Goal) (ls : List ℕ) (gates : List Gate)
+    → length (clauses goal ls gates) ≡ 1 + length (goal_clauses goal ls) + 3 * length gates
+length-formula goal ls gates =
+    omega (arith, length-append (goal_clauses goal ls) (flat_map gate_clauses gates), length-clauses gates)
+
+pub clauses_text : (goal : Goal) (ls : List ℕ) (gates : List Gate) (all : List (List ℕ)) → clauses goal ls gates ≡ all
+    → clause_text (1 ∷ []) ++ (flat_map clause_text (goal_clauses goal ls) ++ flat_map gate_text gates) ≡ flat_map clause_text all
+clauses_text goal ls gates all e =
+    ap (λ (xs : List ℕ). clause_text (1 ∷ []) ++ (flat_map clause_text (goal_clauses goal ls) ++ xs)) (gates_text gates)
+    ∙ ap (λ (xs : List ℕ). clause_text (1 ∷ []) ++ xs)
+    (sym (flat_map-append clause_text (goal_clauses goal ls) (flat_map gate_clauses gates)))
+    ∙ sym (flat_map-cons clause_text (1 ∷ []) (goal_clauses goal ls ++ flat_map gate_clauses gates))
+    ∙ ap (flat_map clause_text) e
+
+pub formula_parts : (v n w : ℕ) (all : List (List ℕ)) → v ≡ w → n ≡ length all
+    → problem_line v n ++ flat_map clause_text all ≡ formula_text w all
 unfolding formula_text
-formula_is v clauses = refl
-
-length_formula : (new : Raw) (n k p : ℕ)
-    → 2 + length (flat_map gate_clauses new.gates) ≡ length (bad_formula new n k p)
-length_formula new n k p = omega arith
-
--- the text of the formula of a bad state, part by part
-pub formula_parts : (new : Raw) (v n k p : ℕ) → problem_line v (2 + 3 * length new.gates) ++ (clause_text (1 ∷ [])
-    ++ (clause_text (goals new n k p) ++ flat_map gate_text new.gates)) ≡ formula_text v (bad_formula new n k p)
-formula_parts new v n k p =
-    ap (λ (m : ℕ). problem_line v (2 + m) ++ (clause_text (1 ∷ []) ++ (clause_text (goals new n k p) ++ flat_map gate_text new.gates)))
-    (sym (length-clauses new.gates))
-    ∙ ap (λ (xs : List ℕ). problem_line v (2 + length (flat_map gate_clauses new.gates))
-    ++ (clause_text (1 ∷ []) ++ (clause_text (goals new n k p) ++ xs))) (sym (gates_text new.gates))
-    ∙ ap (λ (m : ℕ). problem_line v m ++ (clause_text (1 ∷ []) ++ (clause_text (goals new n k p)
-    ++ flat_map clause_text (flat_map gate_clauses new.gates)))) (length_formula new n k p)
-    ∙ sym (formula_is v (bad_formula new n k p))
+formula_parts v n w all e f = ap₂ (λ i j. problem_line i j ++ flat_map clause_text all) e f

@@ -1,5 +1,6 @@
+pub mod AddedLemmas
+pub mod AnyState
 pub mod FormulaText
+pub mod GoalLemmas
 pub mod SignLemmas
-pub mod StepAnswerLemmas
-pub mod StepFormula
 pub mod TermLemmas

@@ -2,11 +2,9 @@
 use Rattle.std.proofs.Common.{◌≡◌, ℕ, ◌+◌, ◌-◌, ◌/◌, ◌%◌, Bool, true, false, not, inl, inr, List, [], ◌∷◌, ◌++◌, refl, sym, ap, ap₂, ◌∙◌}
 use Rattle.std.proofs.Common.{append_assoc, arith}
 use Rattle.std.specs.Prelude.{decimal}
-use Rattle.std.proofs.lemmas.List.{append-nil}
-use Rattle.aig_parts.specs.declared.gate.Gate.{Gate}
-use Rattle.aig_parts.specs.Literal.{variable, negation}
+use Rattle.aig_parts.specs.Literal.{negation}
 use Rattle.aig_bytes.specs.Term.{term_text}
-use Rattle.aig_cnf.specs.Dimacs.{literal_text, clause_text, gate_text}
+use Rattle.aig_cnf.specs.Dimacs.{literal_text, clause_text}
 use Rattle.aig_cnf.specs.state.Terms.{literal_term}
 use Rattle.aig_cnf.proofs.SignLemmas.{signs}
 

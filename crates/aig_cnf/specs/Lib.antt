@@ -2,7 +2,5 @@ pub mod Answers
 pub mod CnfText
 pub mod Dimacs
 pub mod Formula
-pub mod Step
-pub mod StepAnswers
-pub mod StepText
+pub mod Query
 pub mod state

@@ -1,1 +1,4 @@
+-- What proofs alone need. No contract of an exported function reaches it.
+pub mod Added
+pub mod Made
 pub mod Terms

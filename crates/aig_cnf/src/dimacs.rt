@@ -1,16 +1,17 @@
 //! Writing formulas (DIMACS).
-ghost use Rattle.std.specs.Prelude.{◌≡◌, ◌+◌, ◌*◌, ◌^◌, ◌<◌, ◌≤◌, [], ◌∷◌, ◌++◌, All, codes, decimal, length};
-ghost use Rattle.std.specs.Prelude.{slice_index};
+ghost use Rattle.std.specs.Prelude.{◌≡◌, ◌+◌, ◌*◌, ◌^◌, ◌<◌, ◌≤◌, [], ◌∷◌, ◌++◌, All, decimal, length};
+ghost use Rattle.aig_parts.specs.Limits.{frame_limit};
 ghost use Rattle.std.specs.List.{flat_map};
 ghost use Rattle.aig_bytes.specs.Bytes.{Writes};
 ghost use Rattle.aig_bytes.specs.Gathered.{Gathers};
 ghost use Rattle.aig_bytes.specs.Term.{term_text};
 ghost use Rattle.aig_cnf.specs.CnfText.{cnf_text, goal_line, goal_lines};
 ghost use Rattle.aig_cnf.specs.Dimacs.{clause_text, formula_text, gate_text, literal_text, problem_line, sign_text};
-ghost use Rattle.aig_cnf.specs.Formula.{bad_formula, goals};
+ghost use Rattle.aig_cnf.specs.Formula.{first_reached, goal_clauses};
 ghost use Rattle.aig_cnf.specs.state.Terms.{literal_term};
-ghost use Rattle.aig_unroll.specs.Answers.{IsUnrolled};
 
+use crate::formula::Formula;
+use crate::query::Goal;
 use aig_base::{Block, Circuit, Gate, Io, Lit, Term, Write, write_all};
 use aig_unroll::write_input_lines;
 
@@ -45,11 +46,7 @@ fn put_literal<W: Write>(out: &mut W, block: &mut Block, literal: Lit) -> Result
 }
 
 // Puts a clause of these literals.
-pub(crate) fn put_clause<W: Write>(
-    out: &mut W,
-    block: &mut Block,
-    literals: &[Lit],
-) -> Result<(), Io>
+fn put_clause<W: Write>(out: &mut W, block: &mut Block, literals: &[Lit]) -> Result<(), Io>
     ensures { Gathers W.written W.failures out.old out.new block.old block.new (clause_text literals.now) result }
 {
     for literal in literals {
@@ -115,7 +112,7 @@ fn put_gate<W: Write>(out: &mut W, block: &mut Block, gate: Gate) -> Result<(), 
 }
 
 // Puts the clauses of all gates.
-pub(crate) fn put_gates<W: Write>(out: &mut W, block: &mut Block, gates: &[Gate]) -> Result<(), Io>
+fn put_gates<W: Write>(out: &mut W, block: &mut Block, gates: &[Gate]) -> Result<(), Io>
     requires { All (λ g. (g.lhs < 10 ^ 8) × (g.rhs0 < 10 ^ 8) × (g.rhs1 < 10 ^ 8)) gates.now }
     ensures { Gathers W.written W.failures out.old out.new block.old block.new (flat_map gate_text gates.now) result }
 {
@@ -126,7 +123,7 @@ pub(crate) fn put_gates<W: Write>(out: &mut W, block: &mut Block, gates: &[Gate]
 }
 
 // Puts the line that says how many variables and clauses there are.
-pub(crate) fn put_problem<W: Write>(
+fn put_problem<W: Write>(
     out: &mut W,
     block: &mut Block,
     variables: u32,
@@ -138,82 +135,6 @@ pub(crate) fn put_problem<W: Write>(
     block.put_all(out, b"p cnf ")?;
     put_field(out, block, variables, b' ')?;
     put_field(out, block, clauses, b'\n')
-}
-
-// The bad literal of a frame, where a circuit of `bads` bad literals was unrolled.
-pub(crate) fn goal_at(circuit: &Circuit, bads: u32, frame: u32, property: u32) -> Lit
-    requires { frame * bads + property < length circuit.now.bad }
-    ensures { result ≡ slice_index circuit.now.bad (frame * bads + property) }
-{
-    circuit.bad()[frame as usize * bads as usize + property as usize]
-}
-
-// Puts the bad literal of each frame, where a circuit of `bads` bad literals was unrolled.
-fn put_goals<W: Write>(
-    out: &mut W,
-    block: &mut Block,
-    circuit: &Circuit,
-    bads: u32,
-    frames: u32,
-    property: u32,
-) -> Result<(), Io>
-    requires property { property < bads }
-    requires bad { length circuit.now.bad ≡ frames * bads }
-    ensures { Gathers W.written W.failures out.old out.new block.old block.new
-        (flat_map literal_text (goals circuit.now bads frames property)) result }
-{
-    for frame in 0..frames {
-        put_literal(out, block, goal_at(circuit, bads, frame, property))?;
-    }
-    Ok(())
-}
-
-// Puts the clause of these bad literals.
-fn put_goal_clause<W: Write>(
-    out: &mut W,
-    block: &mut Block,
-    circuit: &Circuit,
-    bads: u32,
-    frames: u32,
-    property: u32,
-) -> Result<(), Io>
-    requires property { property < bads }
-    requires bad { length circuit.now.bad ≡ frames * bads }
-    ensures { Gathers W.written W.failures out.old out.new block.old block.new
-        (clause_text (goals circuit.now bads frames property)) result }
-{
-    put_goals(out, block, circuit, bads, frames, property)?;
-    block.put_all(out, b"0\n")
-}
-
-// How many clauses there are: three for a gate, and two more.
-fn clause_count(circuit: &Circuit) -> u32
-    ensures { result ≡ 2 + 3 * length circuit.now.gates }
-{
-    circuit.facts();
-    2 + 3 * circuit.gates().len() as u32
-}
-
-// Puts the formula of a bad state.
-fn put_formula<W: Write>(
-    out: &mut W,
-    block: &mut Block,
-    circuit: &Circuit,
-    bads: u32,
-    frames: u32,
-    property: u32,
-) -> Result<(), Io>
-    requires property { property < bads }
-    requires bad { length circuit.now.bad ≡ frames * bads }
-    ensures { Gathers W.written W.failures out.old out.new block.old block.new
-        (formula_text (circuit.now.max_var + 1) (bad_formula circuit.now bads frames property)) result }
-{
-    circuit.facts();
-    let variables = circuit.max_var() + 1;
-    put_problem(out, block, variables, clause_count(circuit))?;
-    put_clause(out, block, &[Lit::new(1)])?;
-    put_goal_clause(out, block, circuit, bads, frames, property)?;
-    put_gates(out, block, circuit.gates())
 }
 
 // Puts the comment line of the bad literal of a frame.
@@ -231,70 +152,93 @@ fn put_goal_line<W: Write>(
 }
 
 // Puts the comment lines of the bad literals of all frames.
-pub(crate) fn put_goal_lines<W: Write>(
-    out: &mut W,
-    block: &mut Block,
-    circuit: &Circuit,
-    bads: u32,
-    frames: u32,
-    property: u32,
-) -> Result<(), Io>
-    requires property { property < bads }
-    requires bad { length circuit.now.bad ≡ frames * bads }
-    ensures { Gathers W.written W.failures out.old out.new block.old block.new
-        (goal_lines circuit.now bads frames property) result }
+fn put_goal_lines<W: Write>(out: &mut W, block: &mut Block, goals: &[Lit]) -> Result<(), Io>
+    requires { length goals.now ≤ frame_limit }
+    ensures { Gathers W.written W.failures out.old out.new block.old block.new (goal_lines goals.now) result }
 {
-    for frame in 0..frames {
-        put_goal_line(out, block, goal_at(circuit, bads, frame, property), frame)?;
+    for frame in 0..goals.len() as u32 {
+        put_goal_line(out, block, goals[frame as usize], frame)?;
     }
     Ok(())
 }
 
-// Writes the comment lines of the bad literals, and the formula.
-fn write_goals_and_formula<W: Write>(
-    circuit: &Circuit,
-    bads: u32,
-    frames: u32,
-    property: u32,
-    out: &mut W,
-) -> Result<(), Io>
-    requires property { property < bads }
-    requires bad { length circuit.now.bad ≡ frames * bads }
-    ensures { Writes W.written W.failures out.old out.new
-        (goal_lines circuit.now bads frames property
-        ++ formula_text (circuit.now.max_var + 1) (bad_formula circuit.now bads frames property)) result }
+// Puts the clauses that the last literal is true, and those before it are false.
+fn put_first_reached<W: Write>(out: &mut W, block: &mut Block, goals: &[Lit]) -> Result<(), Io>
+    ensures { Gathers W.written W.failures out.old out.new block.old block.new
+        (flat_map clause_text (first_reached goals.now)) result }
 {
-    let mut block = Block::new();
-    put_goal_lines(out, &mut block, circuit, bads, frames, property)?;
-    put_formula(out, &mut block, circuit, bads, frames, property)?;
-    write_all(out, block.as_slice())
+    let Some((last, earlier)) = goals.split_last() else {
+        return Ok(());
+    };
+    for literal in earlier {
+        put_clause(out, block, &[literal.not()])?;
+    }
+    put_clause(out, block, &[*last])
 }
 
-// How many bad literals there are.
-pub(crate) fn bad_count(circuit: &Circuit) -> u32
-    ensures { result ≡ length circuit.now.bad }
+// Puts the clauses of a goal.
+fn put_goal<W: Write>(out: &mut W, block: &mut Block, goal: Goal, goals: &[Lit]) -> Result<(), Io>
+    ensures { Gathers W.written W.failures out.old out.new block.old block.new
+        (flat_map clause_text (goal_clauses goal goals.now)) result }
 {
-    circuit.facts();
-    circuit.bad().len() as u32
+    match goal {
+        Goal::Within => put_clause(out, block, goals),
+        Goal::Step => put_first_reached(out, block, goals),
+    }
 }
 
-/// Writes the formula that the bad state property at this position is reached within this many frames, in DIMACS, with
-/// comment lines that say what its variables are. The circuit comes with the one that `unroll_for_formula` makes of it.
-/// The formula's literal of a literal `l` of the unrolled circuit is `l / 2 + 1`, negative where `l` is odd; variable 1
-/// is false. It takes no memory, and writes the comment lines in small pieces: pass a writer that buffers them.
-pub fn write_formula<W: Write>(
-    circuit: &Circuit,
-    unrolled: &Circuit,
-    frames: u32,
-    property: u32,
-    out: &mut W,
-) -> Result<(), Io>
-    requires property { property < length circuit.now.bad }
-    requires unrolled { IsUnrolled circuit.now frames unrolled.now }
-    ensures { Writes W.written W.failures out.old out.new
-        (cnf_text circuit.now unrolled.now frames property) result }
+// How many clauses a goal has.
+fn goal_count(goal: Goal, goals: &[Lit]) -> u32
+    requires { length goals.now ≤ frame_limit }
+    ensures { result ≡ length (goal_clauses goal goals.now) }
 {
-    // The constant is variable 1, so the variable of the first input is 2.
-    write_input_lines(b"c ", circuit, 2, frames, out)?;
-    write_goals_and_formula(unrolled, bad_count(circuit), frames, property, out)
+    match goal {
+        Goal::Within => 1,
+        Goal::Step => goals.len() as u32,
+    }
+}
+
+impl Formula {
+    // How many clauses there are: three for a gate, one for the constant, and those of the goal.
+    fn clause_count(&self) -> u32
+        ensures { result ≡ length self.now.clauses }
+    {
+        self.unrolled.facts();
+        1 + goal_count(self.goal, &self.goals) + 3 * self.unrolled.gates().len() as u32
+    }
+
+    // Puts the clauses.
+    fn put_clauses<W: Write>(&self, out: &mut W, block: &mut Block) -> Result<(), Io>
+        ensures { Gathers W.written W.failures out.old out.new block.old block.new
+            (flat_map clause_text self.now.clauses) result }
+    {
+        self.unrolled.facts();
+        put_clause(out, block, &[Lit::new(1)])?;
+        put_goal(out, block, self.goal, &self.goals)?;
+        put_gates(out, block, self.unrolled.gates())
+    }
+
+    // Writes the comment lines of the bad literals, and the clauses.
+    fn write_goals_and_clauses<W: Write>(&self, out: &mut W) -> Result<(), Io>
+        ensures { Writes W.written W.failures out.old out.new
+            (goal_lines self.now.goals ++ formula_text self.now.variables self.now.clauses) result }
+    {
+        let mut block = Block::new();
+        put_goal_lines(out, &mut block, &self.goals)?;
+        put_problem(out, &mut block, self.variables(), self.clause_count())?;
+        self.put_clauses(out, &mut block)?;
+        write_all(out, block.as_slice())
+    }
+
+    /// Writes the formula in DIMACS, with comment lines that say what its variables are, for the circuit that it was
+    /// made of. The literal of a literal `l` of the unrolled circuit is `l / 2 + 1`, negative where `l` is odd;
+    /// variable 1 is false. It takes no memory, and writes the comment lines in small pieces: pass a writer that
+    /// buffers them.
+    pub fn write<W: Write>(&self, circuit: &Circuit, out: &mut W) -> Result<(), Io>
+        ensures { Writes W.written W.failures out.old out.new (cnf_text circuit.now self.now) result }
+    {
+        // The constant is variable 1, so the variable of the first input is 2.
+        write_input_lines(b"c ", circuit, 2, self.depth(), out)?;
+        self.write_goals_and_clauses(out)
+    }
 }

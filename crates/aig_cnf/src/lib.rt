@@ -1,14 +1,14 @@
-//! Formulas of bad states, for SAT solvers. What their models are is a law of `aig_laws`.
+//! Formulas of bad states: what a SAT solver is asked about a circuit, as its text, and for the checker of its proofs.
+//! What their models say is a law of `aig_laws`, and what their refutations say one of `aig_refute`.
 #![tactic(auto)]
 
+mod any_state;
+mod checked;
 mod dimacs;
 mod fault;
-mod request;
-mod step;
-mod step_request;
+mod formula;
+mod query;
 
-pub use dimacs::write_formula;
 pub use fault::CnfFault;
-pub use request::unroll_for_formula;
-pub use step::write_step_formula;
-pub use step_request::unroll_for_step;
+pub use formula::Formula;
+pub use query::{Goal, Query};

@@ -8,7 +8,8 @@ use Rattle.aig_bytes.specs.Bytes.{before, after, IsAtEnd}
 use Rattle.aig_bytes.specs.Flow.{Flow}
 use Rattle.aig_bytes.proofs.WriteLemmas.{after-append, after-nil}
 use Rattle.aig_bench.specs.BenchState.{CircuitAndRows, BenchState}
-use Rattle.aig_run.specs.Command.{Got, BreaksOff, Text, Gave, WritesAll, WritesPart, EndsReading}
+use Rattle.aig_run.specs.Command.{Got, BreaksOff, Text, Gave, WritesPart, EndsReading}
+use Rattle.aig_run.proofs.Written.{gave_part, gave_whole, through, keeps_through, reading_changed}
 use Rattle.aig_run.specs.declared.run_fault.RunFault.{RunFault}
 use Rattle.aig_run.specs.declared.run_fault.RunFault.TheVariants as run_faults
 use Rattle.aig_run.specs.declared.script_fault.ScriptFault.{ScriptFault}
@@ -73,16 +74,6 @@ unflushed out lines old new u =
 
 module _ {Y X : Type 0} (reader : Flow Y) (out : Flow X) (circuit stimulus : List ℕ) (old : CircuitAndRows) (left : BenchState)
     (files : AreBenchFiles circuit stimulus old) where
-  gives : (script : List ℕ) (failed : ℕ) → reader.bytes reader.old ≡ before script (reader.bytes reader.new)
-      → reader.failures reader.new ≡ reader.failures reader.old + failed
-      → Gave reader (record { bytes = script; is_whole = false }) failed
-  gives script failed read count = record { gave = read; whole = λ h. absurd (false≢true h); count = count }
-
-  gives_all : (script : List ℕ) → reader.bytes reader.old ≡ before script (reader.bytes reader.new)
-      → reader.failures reader.new ≡ reader.failures reader.old → IsAtEnd (reader.bytes reader.new)
-      → Gave reader (record { bytes = script; is_whole = true }) 0
-  gives_all script read count end = record { gave = read; whole = λ h. end; count = omega (arith, count) }
-
   -- a write of the last reply failed, or a flush after all
   breaks_all : (text : Text) (answer : Result BenchState RunFault) (bytes : List ℕ) → Gave reader text 0
       → LeavesBench circuit stimulus text answer bytes → BreaksOff out bytes → WritesPart reader out (LeavesBench circuit stimulus)
@@ -124,12 +115,12 @@ module _ {Y X : Type 0} (reader : Flow Y) (out : Flow X) (circuit stimulus : Lis
       → FailsToWrite out (whole_lines script) old left.pair → WritesPart reader out (LeavesBench circuit stimulus)
   part_of_whole_lines script read count (inl s) =
       let e = s.split ∙ sym (append_assoc s.first (s.last ∷ []) s.more) in
-      breaks_part script (s.first ++ s.last ∷ []) (s.before_it.replies ++ s.reply) (gives script 0 read (omega (arith, count)))
+      breaks_part script (s.first ++ s.last ∷ []) (s.before_it.replies ++ s.reply) (gave_part reader script 0 read (omega (arith, count)))
       (part_of script (s.first ++ s.last ∷ []) s.more e) (answered_with_last out (whole_lines script) old left.pair s)
       (breaks_off out (whole_lines script) old left.pair s)
   part_of_whole_lines script read count (inr u) =
       breaks_all (record { bytes = script; is_whole = false }) (Err script_io) u.answered.replies
-      (gives script 0 read (omega (arith, count))) (old, left.pair, files, u.answered.ran)
+      (gave_part reader script 0 read (omega (arith, count))) (old, left.pair, files, u.answered.ran)
       (unflushed out (whole_lines script) old left.pair u)
 
   part_of_lines : (script : List ℕ) → reader.bytes reader.old ≡ before script (reader.bytes reader.new)
@@ -142,7 +133,7 @@ module _ {Y X : Type 0} (reader : Flow Y) (out : Flow X) (circuit stimulus : Lis
 
       by_more : (more : List Line) → lines_of script ≡ s.first ++ (s.last ∷ more) → WritesPart reader out (LeavesBench circuit stimulus)
       by_more [] e =
-          breaks_all (record { bytes = script; is_whole = true }) (Ok left) bytes (gives_all script read count end) (
+          breaks_all (record { bytes = script; is_whole = true }) (Ok left) bytes (gave_whole reader script read end count) (
             old,
             files,
             refl,
@@ -151,11 +142,11 @@ module _ {Y X : Type 0} (reader : Flow Y) (out : Flow X) (circuit stimulus : Lis
           (breaks_off out (lines_of script) old left.pair s)
       by_more (next ∷ more) e =
           let (rest, is) = ended_before (whole_lines script) (rest_from [] script) s.first s.last next more e in
-          breaks_part script (s.first ++ s.last ∷ []) bytes (gives script 0 read (omega (arith, count)))
+          breaks_part script (s.first ++ s.last ∷ []) bytes (gave_part reader script 0 read (omega (arith, count)))
           (part_of script (s.first ++ s.last ∷ []) rest (is ∙ sym (append_assoc s.first (s.last ∷ []) rest)))
           (answered_with_last out (lines_of script) old left.pair s) (breaks_off out (lines_of script) old left.pair s)
   part_of_lines script read count end (inr u) =
-      breaks_all (record { bytes = script; is_whole = true }) (Ok left) u.answered.replies (gives_all script read count end)
+      breaks_all (record { bytes = script; is_whole = true }) (Ok left) u.answered.replies (gave_whole reader script read end count)
       (old, files, refl, u.answered.ran) (unflushed out (lines_of script) old left.pair u)
 
   part_of_fails : (script : List ℕ) (lines : List Line) → reader.bytes reader.old ≡ before script (reader.bytes reader.new)
@@ -169,35 +160,32 @@ module _ {Y X : Type 0} (reader : Flow Y) (out : Flow X) (circuit stimulus : Lis
 
   why_ends : (script : List ℕ) → reader.bytes reader.old ≡ before script (reader.bytes reader.new)
       → Why reader out script old left.pair
-      → WritesAll reader out 1 (LeavesBench circuit stimulus) (Err script_io) ⊎ WritesPart reader out (LeavesBench circuit stimulus)
-  why_ends script read (inl (count, a)) = inl (record {
+      → EndsReading reader out script_io (LeavesBench circuit stimulus) (Err script_io)
+  why_ends script read (inl (count, a)) = EndsReading.stops_reading (record {
     text = record { bytes = script; is_whole = false };
     bytes = a.replies;
-    gave = gives script 1 read count;
+    gave = gave_part reader script 1 read count;
     means = (old, left.pair, files, a.ran);
     whole = tt;
     got = got_all out (whole_lines script) old left.pair a;
   })
   why_ends script read (inr (count, (lines, is, fails))) =
-      inr (part_of_fails script lines read count is fails)
+      EndsReading.breaks_off (part_of_fails script lines read count is fails)
 
   -- the script was read to its end, and all of its lines were answered
   pub ran_ends : Ran reader out old left.pair → EndsReading reader out script_io (LeavesBench circuit stimulus) (Ok left)
-  ran_ends r = inl (
-    (λ is. let no : ⊥ = cc in no),
-    record {
-      text = record { bytes = r.script; is_whole = true };
-      bytes = r.answered.replies;
-      gave = gives_all r.script r.read r.no_failure r.at_end;
-      means = (old, files, refl, r.answered.ran);
-      whole = refl;
-      got = got_all out (lines_of r.script) old left.pair r.answered;
-    },
-  )
+  ran_ends r = EndsReading.writes_all {answer = Ok left} (λ is. let no : ⊥ = cc in no) (record {
+    text = record { bytes = r.script; is_whole = true };
+    bytes = r.answered.replies;
+    gave = gave_whole reader r.script r.read r.at_end r.no_failure;
+    means = (old, files, refl, r.answered.ran);
+    whole = refl;
+    got = got_all out (lines_of r.script) old left.pair r.answered;
+  })
 
   -- a read, a write or a flush failed
   failing_ends : Failing reader out old left.pair → EndsReading reader out script_io (LeavesBench circuit stimulus) (Err script_io)
-  failing_ends f = inr (refl, why_ends f.script f.read f.why)
+  failing_ends f = why_ends f.script f.read f.why
 
 -- ---- nothing was read or written
 
@@ -205,24 +193,18 @@ none_ends : {Y X : Type 0} (reader : Flow Y) (out : Flow X) (circuit stimulus : 
     → fault ≢ script_io → reader.new ≡ reader.old → out.new ≡ out.old
     → RunsScript circuit stimulus (record { bytes = []; is_whole = false }) (Err fault) []
     → EndsReading reader out script_io (LeavesBench circuit stimulus) (Err fault)
-none_ends reader out circuit stimulus fault other unread unwritten means = inl (
-  (λ is. other (let same : fault ≡ script_io = cc in same)),
-  record {
-    text = record { bytes = []; is_whole = false };
-    bytes = [];
-    gave = record {
-      gave = sym (before_nil (reader.bytes reader.new) ∙ ap reader.bytes unread);
-      whole = λ h. absurd (false≢true h);
-      count = omega (arith, ap reader.failures unread);
-    };
-    means = means;
-    whole = tt;
-    got = record {
-      got = ap out.bytes unwritten ∙ sym (after-nil (out.bytes out.old));
-      count = ap out.failures unwritten;
-    };
-  },
-)
+none_ends reader out circuit stimulus fault other unread unwritten means =
+    EndsReading.writes_all {answer = Err fault} (λ is. other (let same : fault ≡ script_io = cc in same)) (record {
+      text = record { bytes = []; is_whole = false };
+      bytes = [];
+      gave = gave_part reader [] 0 (sym (before_nil (reader.bytes reader.new) ∙ ap reader.bytes unread)) (omega (arith, ap reader.failures unread));
+      means = means;
+      whole = tt;
+      got = record {
+        got = ap out.bytes unwritten ∙ sym (after-nil (out.bytes out.old));
+        count = ap out.failures unwritten;
+      };
+    })
 
 -- the files are refused
 pub refused_ends : {Y X : Type 0} (reader : Flow Y) (out : Flow X) (circuit stimulus : List ℕ) (fault : RunFault)
@@ -232,19 +214,9 @@ refused_ends reader out circuit stimulus (run_faults.Circuit f) h unread unwritt
     none_ends reader out circuit stimulus (run_faults.Circuit f) (λ e. let no : ⊥ = cc in no) unread unwritten (h, refl, refl)
 refused_ends reader out circuit stimulus (run_faults.Stimulus f) h unread unwritten =
     none_ends reader out circuit stimulus (run_faults.Stimulus f) (λ e. let no : ⊥ = cc in no) unread unwritten (h, refl, refl)
-refused_ends reader out circuit stimulus (run_faults.Witness f) h unread unwritten = absurd h
 refused_ends reader out circuit stimulus (run_faults.Bench f) h unread unwritten =
     none_ends reader out circuit stimulus (run_faults.Bench f) (λ e. let no : ⊥ = cc in no) unread unwritten (h, refl, refl)
-refused_ends reader out circuit stimulus (run_faults.Script f) h unread unwritten = absurd h
-refused_ends reader out circuit stimulus run_faults.Output h unread unwritten = absurd h
-refused_ends reader out circuit stimulus run_faults.Memory h unread unwritten = absurd h
-refused_ends reader out circuit stimulus (run_faults.Unroll f) h unread unwritten = absurd h
-refused_ends reader out circuit stimulus (run_faults.Cnf f) h unread unwritten = absurd h
-refused_ends reader out circuit stimulus (run_faults.Select f) h unread unwritten = absurd h
-refused_ends reader out circuit stimulus (run_faults.Reach f) h unread unwritten = absurd h
-refused_ends reader out circuit stimulus (run_faults.Proof f) h unread unwritten = absurd h
-refused_ends reader out circuit stimulus (run_faults.StepProof f) h unread unwritten = absurd h
-refused_ends reader out circuit stimulus (run_faults.Model f) h unread unwritten = absurd h
+refused_ends reader out circuit stimulus fault h unread unwritten = absurd h
 
 -- the script is not run to its end
 pub fault_ends : {Y X : Type 0} (reader : Flow Y) (out : Flow X) (circuit stimulus : List ℕ) (old : CircuitAndRows) (left : BenchState)
@@ -261,54 +233,19 @@ fault_ends reader out circuit stimulus old left files scripts.Memory failing mem
 -- ---- the same run without its bench
 
 abbrev pub without : {A : Type 0} → Result A RunFault → Result (Unit {0}) RunFault
-without (Ok x) = Ok tt
-without (Err fault) = Err fault
-
-whole_same : {A : Type 0} (P : Type 0) (r : Result A RunFault) → OnOk r P → OnOk (without r) P
-whole_same P (Ok x) h = h
-whole_same P (Err fault) h = tt
+without = through (λ left. tt)
 
 means_same : (circuit stimulus : List ℕ) (script : Text) (r : Result BenchState RunFault) (bytes : List ℕ)
     → LeavesBench circuit stimulus script r bytes → RunsScript circuit stimulus script (without r) bytes
 means_same circuit stimulus script (Ok left) bytes (pair, files, whole, ran) = (pair, left.pair, files, whole, ran)
 means_same circuit stimulus script (Err fault) bytes h = h
 
-module _ {Y X : Type 0} (reader : Flow Y) (out : Flow X) (circuit stimulus : List ℕ) where
-  all_without : (failed : ℕ) (r : Result BenchState RunFault) → WritesAll reader out failed (LeavesBench circuit stimulus) r
-      → WritesAll reader out failed (RunsScript circuit stimulus) (without r)
-  all_without failed r w = record {
-    text = w.text;
-    bytes = w.bytes;
-    gave = w.gave;
-    means = means_same circuit stimulus w.text r w.bytes w.means;
-    whole = whole_same _ r w.whole;
-    got = w.got;
-  }
-
-  part_without : WritesPart reader out (LeavesBench circuit stimulus) → WritesPart reader out (RunsScript circuit stimulus)
-  part_without w = record {
-    text = w.text;
-    failed = w.failed;
-    few = w.few;
-    gave = w.gave;
-    part = w.part;
-    beginning = w.beginning;
-    whole = w.whole;
-    answer = without w.answer;
-    bytes = w.bytes;
-    means = means_same circuit stimulus w.part w.answer w.bytes w.means;
-    breaks_off = w.breaks_off;
-  }
-
-  pub ends_without : (fault : RunFault) (r : Result BenchState RunFault)
-      → EndsReading reader out fault (LeavesBench circuit stimulus) r
-      → EndsReading reader out fault (RunsScript circuit stimulus) (without r)
-  ends_without fault (Ok left) (inl (other, w)) = inl ((λ is. let no : ⊥ = cc in no), all_without 0 (Ok left) w)
-  ends_without fault (Ok left) (inr (is, w)) = let no : ⊥ = cc in absurd no
-  ends_without fault (Err f) (inl (other, w)) =
-      inl ((λ is. other (ap Err (let same : f ≡ fault = cc in same))), all_without 0 (Err f) w)
-  ends_without fault (Err f) (inr (is, inl w)) = inr (ap Err (let same : f ≡ fault = cc in same), inl (all_without 1 (Err f) w))
-  ends_without fault (Err f) (inr (is, inr w)) = inr (ap Err (let same : f ≡ fault = cc in same), inr (part_without w))
+pub ends_without : {Y X : Type 0} (reader : Flow Y) (out : Flow X) (circuit stimulus : List ℕ) (fault : RunFault)
+    (r : Result BenchState RunFault) → EndsReading reader out fault (LeavesBench circuit stimulus) r
+    → EndsReading reader out fault (RunsScript circuit stimulus) (without r)
+ends_without reader out circuit stimulus =
+    reading_changed reader out (LeavesBench circuit stimulus) (RunsScript circuit stimulus) without (keeps_through (λ left. tt))
+    (means_same circuit stimulus)
 
 -- ---- what a fault says
 

@@ -61,11 +61,9 @@ module _ {Y X : Type 0} (reader : Flow Y) (out : Flow X) (raw : Raw) where
         stopped s.text s.done (s.frames ++ closing (length s.rows)) breaks.beginning.0 s.read s.wrote breaks.beginning.1
         breaks.header_first
   ]
-  header_first (Err stimuli.Unfinished) s = let (fault, is, none) = s.ended in with_header s.done s.frames s.wrote is
-  header_first (Err (stimuli.Char n)) s = let (fault, is, none) = s.ended in with_header s.done s.frames s.wrote is
-  header_first (Err (stimuli.Length n)) s = let (fault, is, none) = s.ended in with_header s.done s.frames s.wrote is
   header_first (Err stimuli.Limit) s = absurd s.ended.0
   header_first (Err stimuli.Memory) s = let (text, rows, is, none) = s.ended in unread s.text s.read text
+  header_first (Err why) s = let (fault, is, none) = s.ended in with_header s.done s.frames s.wrote is
 
 -- the circuit that was read is that of the file
 pub header_of_file : {Z Y X : Type 0} (circuit : Flow Z) (reader : Flow Y) (out : Flow X) (read : Raw) → Answers circuit (Ok read)

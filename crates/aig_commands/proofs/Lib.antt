@@ -3,7 +3,6 @@ pub mod Benches
 pub mod EntryLines
 pub mod GoodRuns
 pub mod Headers
-pub mod Inductions
 pub mod InfoLemmas
 pub mod KeptFiles
 pub mod ModelWitnesses

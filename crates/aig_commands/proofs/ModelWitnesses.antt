@@ -1,16 +1,19 @@
 -- What is written for a model.
-use Rattle.std.proofs.Common.{◌≡◌, ℕ, ◌+◌, List, Result, Ok, Err, refl}
+use Rattle.std.proofs.Common.{◌≡◌, ℕ, List, Result, Ok, Err, length, refl, ap, ◌∙◌}
 use Rattle.std.specs.Prelude.{IfErr}
 use Rattle.aig_parts.specs.declared.raw.Raw.{Raw}
-use Rattle.aig_parts.specs.declared.ternary.Tern.{Tern}
-use Rattle.aig_cnf.specs.Answers.{HasFormula}
-use Rattle.aig_cnf.specs.StepAnswers.{HasStep}
+use Rattle.aig_parts.specs.declared.fault.Fault.{Fault}
+use Rattle.aig_cnf.specs.Formula.{Cnf, IsFormulaOf}
+use Rattle.aig_cnf.specs.Query.{depth, subject}
+use Rattle.aig_cnf.specs.declared.query.Query.{Query}
+use Rattle.aig_cnf.proofs.GoalLemmas.{length-goals}
+use Rattle.aig_unroll.specs.Unrolled.{unrolled}
 use Rattle.aig_sat.specs.model.ModelText.{HasStatus, IsUnknown, IsUnsatisfiable}
 use Rattle.aig_sat.specs.declared.model.fault.ModelFault.{ModelFault}
 use Rattle.aig_sat.specs.declared.model.fault.ModelFault.TheVariants as models
 use Rattle.aig_run.specs.declared.run_fault.RunFault.{RunFault}
 use Rattle.aig_run.specs.declared.run_fault.RunFault.TheVariants as run_faults
-use Rattle.aig_commands.specs.ModelWitness.{IsModelOf, RefusesModel, WritesAnyModel, WritesModel, WritesNamed, variable_count}
+use Rattle.aig_commands.specs.ModelWitness.{RefusesModel, WritesModel, names}
 
 pub model_refused : {T : Type 0} (variables : ℕ) (model : List ℕ) (r : Result T ModelFault)
     → (r ≡ Err models.Unsatisfiable → HasStatus IsUnsatisfiable variables model)
@@ -21,42 +24,13 @@ model_refused variables model (Err models.Unsatisfiable) none unknown = none ref
 model_refused variables model (Err models.Unknown) none unknown = unknown refl
 model_refused variables model (Err models.Memory) none unknown = tt
 
-module _ (k p : ℕ) (model : List ℕ) (raw : Raw) (has : HasFormula raw k p) (values : List Tern)
-    (is : IsModelOf (variable_count raw k) model values) where
-  pub writes_model : (answer : Result (Unit {0}) RunFault) (text : List ℕ) → WritesNamed k p values raw answer text
-      → WritesModel k p model raw answer text
-  writes_model (Ok done) text m = (has, (values, is, m))
-  writes_model (Err (run_faults.Circuit fault)) text m = absurd m
-  writes_model (Err (run_faults.Stimulus fault)) text m = absurd m
-  writes_model (Err (run_faults.Witness fault)) text m = absurd m
-  writes_model (Err (run_faults.Bench fault)) text m = absurd m
-  writes_model (Err (run_faults.Script fault)) text m = absurd m
-  writes_model (Err run_faults.Output) text m = absurd m
-  writes_model (Err run_faults.Memory) text m = absurd m
-  writes_model (Err (run_faults.Unroll fault)) text m = absurd m
-  writes_model (Err (run_faults.Cnf fault)) text m = absurd m
-  writes_model (Err (run_faults.Select fault)) text m = absurd m
-  writes_model (Err (run_faults.Reach fault)) text m = (has, (values, is, m))
-  writes_model (Err (run_faults.Proof fault)) text m = absurd m
-  writes_model (Err (run_faults.StepProof fault)) text m = absurd m
-  writes_model (Err (run_faults.Model fault)) text m = absurd m
+-- a fault of the circuit's file is none of a model
+pub no_circuit_fault : (query : Query) (model : List ℕ) (raw : Raw) (fault : Fault) (text : List ℕ)
+    → WritesModel query model raw (Err (run_faults.Circuit fault)) text → ⊥
+no_circuit_fault query model raw fault text (names values answer' text' has is m) = m
 
-module _ (k p : ℕ) (model : List ℕ) (raw : Raw) (has : HasStep raw k p) (values : List Tern)
-    (is : IsModelOf (variable_count raw (k + 1)) model values) where
-  pub writes_any_model : (answer : Result (Unit {0}) RunFault) (text : List ℕ) → WritesNamed (k + 1) p values raw answer text
-      → WritesAnyModel k p model raw answer text
-  writes_any_model (Ok done) text m = (has, (values, is, m))
-  writes_any_model (Err (run_faults.Circuit fault)) text m = absurd m
-  writes_any_model (Err (run_faults.Stimulus fault)) text m = absurd m
-  writes_any_model (Err (run_faults.Witness fault)) text m = absurd m
-  writes_any_model (Err (run_faults.Bench fault)) text m = absurd m
-  writes_any_model (Err (run_faults.Script fault)) text m = absurd m
-  writes_any_model (Err run_faults.Output) text m = absurd m
-  writes_any_model (Err run_faults.Memory) text m = absurd m
-  writes_any_model (Err (run_faults.Unroll fault)) text m = absurd m
-  writes_any_model (Err (run_faults.Cnf fault)) text m = absurd m
-  writes_any_model (Err (run_faults.Select fault)) text m = absurd m
-  writes_any_model (Err (run_faults.Reach fault)) text m = (has, (values, is, m))
-  writes_any_model (Err (run_faults.Proof fault)) text m = absurd m
-  writes_any_model (Err (run_faults.StepProof fault)) text m = absurd m
-  writes_any_model (Err (run_faults.Model fault)) text m = absurd m
+-- the formula is over so many frames
+pub depth_of_formula : (raw : Raw) (query : Query) (formula : Cnf) → IsFormulaOf raw query formula → length formula.goals ≡ depth query
+depth_of_formula raw query formula (order, canonical, is) =
+    ap (λ (f : Cnf). length f.goals) is
+    ∙ length-goals (unrolled (subject query.goal raw) order (depth query)) (length raw.bad) (depth query) query.property

@@ -1,15 +1,8 @@
 -- What is written of a reduction, from what it answers.
-use Rattle.std.proofs.Common.{◌≡◌, List, ℕ, Result, Ok, Err, inl, inr, refl, sym, ap, subst}
+use Rattle.std.proofs.Common.{◌≡◌, List, ℕ, Ok, refl}
 use Rattle.std.specs.Fmt.{decimal}
-use Rattle.std.specs.Prelude.{Option, IfErr, IfOk}
 use Rattle.aig_parts.specs.declared.raw.Raw.{Raw}
 use Rattle.aig_base.specs.Circuit.{IsCircuit}
-use Rattle.aig_bytes.specs.Bytes.{Writes}
-use Rattle.aig_bytes.specs.Flow.{flow}
-use Rattle.aig_run.specs.declared.run_fault.RunFault.{RunFault}
-use Rattle.aig_run.specs.declared.run_fault.RunFault.TheVariants as run_faults
-use Rattle.aig_run.specs.Command.{CommandEnds}
-use Rattle.aig_run.proofs.Written.{got_all, got_part}
 use Rattle.aig_sim.specs.declared.verdict.Verdict.TheVariants.{Initial, Constraint, NotBad, Confirmed}
 use Rattle.aig_sim.specs.Verdict.{IsVerdict}
 use Rattle.aig_sim.specs.WitnessText.{Witness, IsDecimal, SpellsWitness, witness_text}
@@ -63,13 +56,3 @@ reduces raw text circuit (reductions.Refused (Constraint t p)) position (given, 
 reduces raw text circuit (reductions.Refused NotBad) position (given, is, (ne, verdict)) =
     record { given = given; given_is = is; verdict_is = verdict; written_is = refl }
 reduces raw text circuit (reductions.Refused Confirmed) position (given, is, (ne, verdict)) = absurd (ne refl)
-
--- one text is written, the answer is its own, and a fault is the output's
-pub answer_ends : {X T : Type 0} (written : X → Option (List ℕ)) (failures : X → ℕ) (old new : X)
-    (Means : Result T RunFault → List ℕ → Type 0) (bytes : List ℕ) (answer : T) (r : Result T RunFault)
-    → Writes written failures old new bytes r → IfOk r (λ value. value ≡ answer) → IfErr r (λ fault. fault ≡ run_faults.Output)
-    → Means (Ok answer) bytes → CommandEnds (flow written failures old new) run_faults.Output Means r
-answer_ends written failures old new Means bytes answer (Ok value) w is output means =
-    inl (bytes, subst (λ v. Means (Ok v) bytes) (sym is) means, got_all written failures old new bytes value w)
-answer_ends written failures old new Means bytes answer (Err fault) w is output means =
-    inr (ap Err output, (Ok answer, bytes, means, got_part written failures old new bytes fault w))

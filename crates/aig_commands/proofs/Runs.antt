@@ -19,7 +19,8 @@ use Rattle.aig_sim.specs.Simulated.{Streams, BeginsWithRows, NoneFailed, OneRead
 use Rattle.aig_sim.specs.StimulusText.{row_line, HoldsRows, SpellsRows}
 use Rattle.aig_run.specs.declared.run_fault.RunFault.{RunFault}
 use Rattle.aig_run.specs.declared.run_fault.RunFault.TheVariants as run_faults
-use Rattle.aig_run.specs.Command.{Got, BreaksOff, Text, Gave, WritesAll, WritesPart, EndsReading}
+use Rattle.aig_run.specs.Command.{Got, BreaksOff, Text, Gave, WritesAll, EndsReading}
+use Rattle.aig_run.proofs.Written.{gave_part, gave_whole}
 use Rattle.aig_commands.specs.Sim.{AreRowsOf, WritesSimulation}
 use Rattle.aig_commands.specs.Wave.{WritesWave, dump_text}
 
@@ -31,16 +32,6 @@ stimulus_of (Err fault) = Err (run_faults.Stimulus fault)
 module _ {Y X : Type 0} (reader : Flow Y) (out : Flow X) where
   abbrev pub streams : Y → X → Streams
   streams y x = record { left = reader.bytes y; reads = reader.failures y; writes = out.failures x }
-
-  gave_so : (bytes : List ℕ) (more : ℕ) → reader.bytes reader.old ≡ before bytes (reader.bytes reader.new)
-      → reader.failures reader.new ≡ reader.failures reader.old + more
-      → Gave reader (record { bytes = bytes; is_whole = false }) more
-  gave_so bytes more read count = record { gave = read; whole = λ is. let no : ⊥ = cc is in absurd no; count = count }
-
-  gave_whole : (bytes : List ℕ) → reader.bytes reader.old ≡ before bytes (reader.bytes reader.new)
-      → IsAtEnd (reader.bytes reader.new) → reader.failures reader.new ≡ reader.failures reader.old
-      → Gave reader (record { bytes = bytes; is_whole = true }) 0
-  gave_whole bytes read end count = record { gave = read; whole = λ is. end; count = omega (arith, count) }
 
   got_so : (written all : List ℕ) → out.bytes out.new ≡ after (out.bytes out.old) written → written ≡ all
       → out.failures out.new ≡ out.failures out.old → Got out all
@@ -83,60 +74,57 @@ module _ {Y X : Type 0} (reader : Flow Y) (out : Flow X) where
         → EndsReading reader out (run_faults.Stimulus stimuli.Io) Trace (stimulus_of r)
     simulates_ends (Ok n) s =
         let (spells, end, is, number, none) = s.ended in
-        inl (
-          (λ e. let no : ⊥ = cc in no),
-          record {
-            text = record { bytes = s.text; is_whole = true };
-            bytes = s.trace;
-            gave = gave_whole s.text s.read end none.0;
-            means = record { rows = s.rows; rows_are = (spells, number); trace_is = s.trace_is };
-            whole = refl;
-            got = got_so s.done s.trace s.wrote is none.1;
-          },
-        )
-    simulates_ends (Err stimuli.Io) s = inr (
-      refl,
-      elim s.ended [
-        | inl (holds, is, one) ↦ inl (record {
-          text = record { bytes = s.text; is_whole = false };
+        EndsReading.writes_all {answer = Ok n} (λ e. let no : ⊥ = cc in no) (record {
+          text = record { bytes = s.text; is_whole = true };
           bytes = s.trace;
-          gave = gave_so s.text 1 s.read one.0;
-          means = record { rows = s.rows; rows_are = holds; trace_is = s.trace_is };
-          whole = tt;
-          got = got_so s.done s.trace s.wrote is one.1;
+          gave = gave_whole reader s.text s.read end none.0;
+          means = record { rows = s.rows; rows_are = (spells, number); trace_is = s.trace_is };
+          whole = refl;
+          got = got_so s.done s.trace s.wrote is none.1;
         })
-        | inr (begins, beginning, one) ↦ inr (record {
-          text = record { bytes = s.text; is_whole = false };
-          failed = 0;
-          few = omega arith;
-          gave = gave_so s.text 0 s.read (omega (arith, one.0));
-          part = record { bytes = flat_map row_line s.rows; is_whole = false };
-          beginning = (begins.rest, begins.text_is);
-          whole = λ is. let no : ⊥ = cc is in absurd no;
-          answer = Err (run_faults.Stimulus stimuli.Io);
-          bytes = s.trace;
-          means = record {
-            rows = s.rows;
-            rows_are = record { widths = begins.widths; rest = []; no_end = (λ k d lt. let no : ⊥ = omega (arith, lt) in absurd no); text_is = sym (append-nil (flat_map row_line s.rows)) };
-            trace_is = s.trace_is;
+    simulates_ends (Err stimuli.Io) s = elim s.ended [
+      | inl (holds, is, one) ↦ EndsReading.stops_reading (record {
+        text = record { bytes = s.text; is_whole = false };
+        bytes = s.trace;
+        gave = gave_part reader s.text 1 s.read one.0;
+        means = record { rows = s.rows; rows_are = holds; trace_is = s.trace_is };
+        whole = tt;
+        got = got_so s.done s.trace s.wrote is one.1;
+      })
+      | inr (begins, beginning, one) ↦ EndsReading.breaks_off (record {
+        text = record { bytes = s.text; is_whole = false };
+        failed = 0;
+        few = omega arith;
+        gave = gave_part reader s.text 0 s.read (omega (arith, one.0));
+        part = record { bytes = flat_map row_line s.rows; is_whole = false };
+        beginning = (begins.rest, begins.text_is);
+        whole = λ is. let no : ⊥ = cc is in absurd no;
+        answer = Err (run_faults.Stimulus stimuli.Io);
+        bytes = s.trace;
+        means = record {
+          rows = s.rows;
+          rows_are = record {
+            widths = begins.widths;
+            rest = [];
+            no_end = λ k d lt. let no : ⊥ = omega (arith, lt) in absurd no;
+            text_is = sym (append-nil (flat_map row_line s.rows));
           };
-          breaks_off = breaks_so s.done s.trace beginning s.wrote one.1;
-        })
-      ],
-    )
+          trace_is = s.trace_is;
+        };
+        breaks_off = breaks_so s.done s.trace beginning s.wrote one.1;
+      })
+    ]
     simulates_ends (Err stimuli.Unfinished) s =
         let (fault, is, none) = s.ended in
-        inl ((λ e. let no : ⊥ = cc in no), simulated_fault stimuli.Unfinished (record { bytes = s.text; is_whole = true }) s (gave_whole s.text s.read fault.1 none.0) (fault.0, refl) is none.1)
-    simulates_ends (Err (stimuli.Char n)) s =
-        let (fault, is, none) = s.ended in
-        inl ((λ e. let no : ⊥ = cc in no), simulated_fault (stimuli.Char n) (record { bytes = s.text; is_whole = false }) s (gave_so s.text 0 s.read (omega (arith, none.0))) fault is none.1)
-    simulates_ends (Err (stimuli.Length n)) s =
-        let (fault, is, none) = s.ended in
-        inl ((λ e. let no : ⊥ = cc in no), simulated_fault (stimuli.Length n) (record { bytes = s.text; is_whole = false }) s (gave_so s.text 0 s.read (omega (arith, none.0))) fault is none.1)
+        EndsReading.writes_all {answer = Err (run_faults.Stimulus stimuli.Unfinished)} (λ e. let no : ⊥ = cc in no)
+        (simulated_fault stimuli.Unfinished (record { bytes = s.text; is_whole = true }) s
+        (gave_whole reader s.text s.read fault.1 none.0) (fault.0, refl) is none.1)
     simulates_ends (Err stimuli.Limit) s = absurd s.ended.0
-    simulates_ends (Err stimuli.Memory) s =
+    simulates_ends (Err why) s =
         let (fault, is, none) = s.ended in
-        inl ((λ e. let no : ⊥ = cc in no), simulated_fault stimuli.Memory (record { bytes = s.text; is_whole = false }) s (gave_so s.text 0 s.read (omega (arith, none.0))) fault is none.1)
+        EndsReading.writes_all {answer = Err (run_faults.Stimulus why)} (λ e. let no : ⊥ = cc in no)
+        (simulated_fault why (record { bytes = s.text; is_whole = false }) s
+        (gave_part reader s.text 0 s.read (omega (arith, none.0))) fault is none.1)
 
     dumped_fault : (fault : StimFault) (whole : Text) → (s : Dumped (Err fault)) → Gave reader whole 0
         → AreRowsOf (length raw.inputs) whole s.rows (Err (run_faults.Stimulus fault))
@@ -155,68 +143,65 @@ module _ {Y X : Type 0} (reader : Flow Y) (out : Flow X) where
         → EndsReading reader out (run_faults.Stimulus stimuli.Io) Dump (stimulus_of r)
     dumps_ends (Ok n) s =
         let (spells, end, is, number, none) = s.ended in
-        inl (
-          (λ e. let no : ⊥ = cc in no),
-          record {
-            text = record { bytes = s.text; is_whole = true };
-            bytes = dump_text raw (length s.rows) s.frames (Ok n);
-            gave = gave_whole s.text s.read end none.0;
-            means = record {
-              rows = s.rows;
-              frames = s.frames;
-              rows_are = (spells, number);
-              frames_are = s.frames_are;
-              written_is = refl;
-            };
-            whole = refl;
-            got = got_so s.done (dump_text raw (length s.rows) s.frames (Ok n)) s.wrote is none.1;
-          },
-        )
-    dumps_ends (Err stimuli.Io) s = inr (
-      refl,
-      elim s.ended [
-        | inl (holds, is, one) ↦ inl (record {
-          text = record { bytes = s.text; is_whole = false };
-          bytes = header raw ++ s.frames;
-          gave = gave_so s.text 1 s.read one.0;
-          means = record { rows = s.rows; frames = s.frames; rows_are = holds; frames_are = s.frames_are; written_is = refl };
-          whole = tt;
-          got = got_so s.done (header raw ++ s.frames) s.wrote is one.1;
-        })
-        | inr (breaks, one) ↦ inr (record {
-          text = record { bytes = s.text; is_whole = false };
-          failed = 0;
-          few = omega arith;
-          gave = gave_so s.text 0 s.read (omega (arith, one.0));
-          part = record { bytes = flat_map row_line s.rows; is_whole = false };
-          beginning = (breaks.rows_are.rest, breaks.rows_are.text_is);
-          whole = λ is. let no : ⊥ = cc is in absurd no;
-          answer = Ok _;
-          bytes = header raw ++ (s.frames ++ closing (length s.rows));
+        EndsReading.writes_all {answer = Ok n} (λ e. let no : ⊥ = cc in no) (record {
+          text = record { bytes = s.text; is_whole = true };
+          bytes = dump_text raw (length s.rows) s.frames (Ok n);
+          gave = gave_whole reader s.text s.read end none.0;
           means = record {
             rows = s.rows;
             frames = s.frames;
-            rows_are = (record { widths = breaks.rows_are.widths; text_is = refl }, refl);
+            rows_are = (spells, number);
             frames_are = s.frames_are;
             written_is = refl;
           };
-          breaks_off = breaks_so s.done (header raw ++ (s.frames ++ closing (length s.rows))) breaks.beginning s.wrote one.1;
+          whole = refl;
+          got = got_so s.done (dump_text raw (length s.rows) s.frames (Ok n)) s.wrote is none.1;
         })
-      ],
-    )
+    dumps_ends (Err stimuli.Io) s = elim s.ended [
+      | inl (holds, is, one) ↦ EndsReading.stops_reading (record {
+        text = record { bytes = s.text; is_whole = false };
+        bytes = header raw ++ s.frames;
+        gave = gave_part reader s.text 1 s.read one.0;
+        means = record { rows = s.rows; frames = s.frames; rows_are = holds; frames_are = s.frames_are; written_is = refl };
+        whole = tt;
+        got = got_so s.done (header raw ++ s.frames) s.wrote is one.1;
+      })
+      | inr (breaks, one) ↦ EndsReading.breaks_off (record {
+        text = record { bytes = s.text; is_whole = false };
+        failed = 0;
+        few = omega arith;
+        gave = gave_part reader s.text 0 s.read (omega (arith, one.0));
+        part = record { bytes = flat_map row_line s.rows; is_whole = false };
+        beginning = (breaks.rows_are.rest, breaks.rows_are.text_is);
+        whole = λ is. let no : ⊥ = cc is in absurd no;
+        answer = Ok _;
+        bytes = header raw ++ (s.frames ++ closing (length s.rows));
+        means = record {
+          rows = s.rows;
+          frames = s.frames;
+          rows_are = (record { widths = breaks.rows_are.widths; text_is = refl }, refl);
+          frames_are = s.frames_are;
+          written_is = refl;
+        };
+        breaks_off = breaks_so s.done (header raw ++ (s.frames ++ closing (length s.rows))) breaks.beginning s.wrote one.1;
+      })
+    ]
     dumps_ends (Err stimuli.Unfinished) s =
         let (fault, is, none) = s.ended in
-        inl ((λ e. let no : ⊥ = cc in no), dumped_fault stimuli.Unfinished (record { bytes = s.text; is_whole = true }) s (gave_whole s.text s.read fault.1 none.0) (fault.0, refl) is none.1)
-    dumps_ends (Err (stimuli.Char n)) s =
-        let (fault, is, none) = s.ended in
-        inl ((λ e. let no : ⊥ = cc in no), dumped_fault (stimuli.Char n) (record { bytes = s.text; is_whole = false }) s (gave_so s.text 0 s.read (omega (arith, none.0))) fault is none.1)
-    dumps_ends (Err (stimuli.Length n)) s =
-        let (fault, is, none) = s.ended in
-        inl ((λ e. let no : ⊥ = cc in no), dumped_fault (stimuli.Length n) (record { bytes = s.text; is_whole = false }) s (gave_so s.text 0 s.read (omega (arith, none.0))) fault is none.1)
+        EndsReading.writes_all {answer = Err (run_faults.Stimulus stimuli.Unfinished)} (λ e. let no : ⊥ = cc in no)
+        (dumped_fault stimuli.Unfinished (record { bytes = s.text; is_whole = true }) s
+        (gave_whole reader s.text s.read fault.1 none.0) (fault.0, refl) is none.1)
     dumps_ends (Err stimuli.Limit) s = absurd s.ended.0
     dumps_ends (Err stimuli.Memory) s =
         let (text, rows, is, none) = s.ended in
-        inl ((λ e. let no : ⊥ = cc in no), dumped_fault stimuli.Memory (record { bytes = s.text; is_whole = false }) s (gave_so s.text 0 s.read (omega (arith, none.0))) (text, rows) is none.1)
+        EndsReading.writes_all {answer = Err (run_faults.Stimulus stimuli.Memory)} (λ e. let no : ⊥ = cc in no)
+        (dumped_fault stimuli.Memory (record { bytes = s.text; is_whole = false }) s
+        (gave_part reader s.text 0 s.read (omega (arith, none.0))) (text, rows) is none.1)
+    dumps_ends (Err why) s =
+        let (fault, is, none) = s.ended in
+        EndsReading.writes_all {answer = Err (run_faults.Stimulus why)} (λ e. let no : ⊥ = cc in no)
+        (dumped_fault why (record { bytes = s.text; is_whole = false }) s
+        (gave_part reader s.text 0 s.read (omega (arith, none.0))) fault is none.1)
 
 -- no fault of a circuit
 pub simulates_no_fault : (raw : Raw) (text : Text) (fault : Fault) (bytes : List ℕ)

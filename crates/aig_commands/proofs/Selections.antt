@@ -1,5 +1,5 @@
 -- A selection, from what is written of the circuit that it leaves.
-use Rattle.std.proofs.Common.{ℕ, List, Result, Ok, Err}
+use Rattle.std.proofs.Common.{ℕ, List, Result, Err}
 use Rattle.aig_parts.specs.declared.raw.Raw.{Raw}
 use Rattle.aig_base.specs.declared.select.PropertySection.{PropertySection}
 use Rattle.aig_base.specs.Selected.{selected, CanSelect}
@@ -12,18 +12,5 @@ use Rattle.aig_commands.specs.Select.{Selects}
 pub selects : (from into : PropertySection) (named : List ℕ) (to : Format) (raw : Raw) → CanSelect raw from named
     → (answer : Result (Unit {0}) RunFault) (bytes : List ℕ) → Converts to (selected raw from into named) answer bytes
     → Selects from into named to raw answer bytes
-selects from into named to raw can (Ok done) bytes m = (can, m)
-selects from into named to raw can (Err (run_faults.Circuit fault)) bytes m = absurd m
-selects from into named to raw can (Err (run_faults.Stimulus fault)) bytes m = absurd m
-selects from into named to raw can (Err (run_faults.Witness fault)) bytes m = absurd m
-selects from into named to raw can (Err (run_faults.Bench fault)) bytes m = absurd m
-selects from into named to raw can (Err (run_faults.Script fault)) bytes m = absurd m
-selects from into named to raw can (Err run_faults.Output) bytes m = absurd m
-selects from into named to raw can (Err run_faults.Memory) bytes m = (can, m)
-selects from into named to raw can (Err (run_faults.Unroll fault)) bytes m = absurd m
-selects from into named to raw can (Err (run_faults.Cnf fault)) bytes m = absurd m
 selects from into named to raw can (Err (run_faults.Select fault)) bytes m = absurd m
-selects from into named to raw can (Err (run_faults.Reach fault)) bytes m = absurd m
-selects from into named to raw can (Err (run_faults.Proof fault)) bytes m = absurd m
-selects from into named to raw can (Err (run_faults.StepProof fault)) bytes m = absurd m
-selects from into named to raw can (Err (run_faults.Model fault)) bytes m = absurd m
+selects from into named to raw can answer bytes m = (can, m)

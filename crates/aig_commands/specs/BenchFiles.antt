@@ -9,7 +9,7 @@ use Rattle.aig_bench.specs.declared.bench_fault.BenchFault.{BenchFault}
 use Rattle.aig_bench.specs.declared.bench_fault.BenchFault.TheVariants as benches
 use Rattle.aig_bench.specs.BenchState.{CircuitAndRows}
 use Rattle.aig_run.specs.declared.run_fault.RunFault.{RunFault}
-use Rattle.aig_run.specs.declared.run_fault.RunFault.TheVariants.{Circuit, Stimulus, Witness, Bench, Script, Output, Memory, Unroll, Cnf, Select, Reach, Proof, StepProof, Model}
+use Rattle.aig_run.specs.declared.run_fault.RunFault.TheVariants.{Circuit, Stimulus, Bench}
 use Rattle.aig_run.specs.Command.{IsFileOf, RefusesCircuit, RefusesStimulus}
 
 -- the files are this circuit and rows of its width, at most 65,536
@@ -34,18 +34,8 @@ abbrev pub RefusesFiles : List ℕ → List ℕ → RunFault → Type 0
 RefusesFiles circuit stimulus (Circuit fault) = RefusesCircuit circuit fault
 RefusesFiles circuit stimulus (Stimulus fault) =
     (raw : Raw) × IsFileOf circuit raw × RefusesStimulus (length raw.inputs) stimulus fault
-RefusesFiles circuit stimulus (Witness fault) = ⊥
 RefusesFiles circuit stimulus (Bench fault) = (pair : CircuitAndRows) × AreFilesOf circuit stimulus pair × RefusesBench pair fault
-RefusesFiles circuit stimulus (Script fault) = ⊥
-RefusesFiles circuit stimulus Output = ⊥
-RefusesFiles circuit stimulus Memory = ⊥
-RefusesFiles circuit stimulus (Unroll fault) = ⊥
-RefusesFiles circuit stimulus (Cnf fault) = ⊥
-RefusesFiles circuit stimulus (Select fault) = ⊥
-RefusesFiles circuit stimulus (Reach fault) = ⊥
-RefusesFiles circuit stimulus (Proof fault) = ⊥
-RefusesFiles circuit stimulus (StepProof fault) = ⊥
-RefusesFiles circuit stimulus (Model fault) = ⊥
+RefusesFiles circuit stimulus _ = ⊥
 
 -- ---- as they are kept (our own choice)
 

@@ -2,7 +2,6 @@ pub mod Bench
 pub mod BenchFiles
 pub mod Check
 pub mod Cnf
-pub mod CnfStep
 pub mod GoesWell
 pub mod Info
 pub mod ModelWitness

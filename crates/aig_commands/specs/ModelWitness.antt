@@ -3,8 +3,9 @@ use Rattle.std.specs.Prelude.{◌≡◌, ℕ, ◌+◌, ◌*◌, List, [], Some, 
 use Rattle.aig_parts.specs.declared.raw.Raw.{Raw}
 use Rattle.aig_parts.specs.declared.ternary.Tern.{Tern}
 use Rattle.aig_cnf.specs.Answers.{HasFormula, RefusesFormula}
-use Rattle.aig_cnf.specs.Step.{from_any_state}
-use Rattle.aig_cnf.specs.StepAnswers.{HasStep, RefusesStep}
+use Rattle.aig_cnf.specs.Query.{depth, subject}
+use Rattle.aig_cnf.specs.declared.fault.CnfFault.{CnfFault}
+use Rattle.aig_cnf.specs.declared.query.Query.{Query}
 use Rattle.aig_sat.specs.model.ModelText.{HasStatus, IsUnknown, IsUnsatisfiable, SpellsModel}
 use Rattle.aig_sat.specs.model.Named.{AreNamed}
 use Rattle.aig_sat.specs.declared.model.fault.ModelFault.{ModelFault}
@@ -17,7 +18,7 @@ use Rattle.aig_run.specs.declared.run_fault.RunFault.TheVariants as run_faults
 use Rattle.aig_unroll.specs.FrameLiteral.{frame_size, input_count}
 use Rattle.aig_commands.specs.Witness.{SpellsFirst}
 
--- how many variables the formula of k frames has
+-- how many variables the formula over a circuit that is unrolled for k frames has
 abbrev pub variable_count : Raw → ℕ → ℕ
 variable_count raw k = input_count raw k + k * frame_size raw + 1
 
@@ -44,25 +45,14 @@ WritesNamed k p values raw (Err (run_faults.Reach reaches.NoRun)) text =
 WritesNamed k p values raw (Err (run_faults.Reach reaches.Memory)) text = text ≡ []
 WritesNamed k p values raw (Err _) text = ⊥
 
--- What it writes for a model of the formula that `cnf` writes; nothing where there is no such formula, or the model is
--- refused.
-abbrev pub WritesModel : ℕ → ℕ → List ℕ → Raw → Result (Unit {0}) RunFault → List ℕ → Type 0
-WritesModel k p model raw (Err (run_faults.Cnf fault)) text = RefusesFormula raw k p fault × (text ≡ [])
-WritesModel k p model raw (Err (run_faults.Model fault)) text =
-    HasFormula raw k p × RefusesModel (variable_count raw k) model fault × (text ≡ [])
-WritesModel k p model raw answer text =
-    HasFormula raw k p
-    × ((values : List Tern) × IsModelOf (variable_count raw k) model values × WritesNamed k p values raw answer text)
-
--- What it writes, of the circuit that starts in any state, for a model of the formula of the step of k frames.
-abbrev pub WritesAnyModel : ℕ → ℕ → List ℕ → Raw → Result (Unit {0}) RunFault → List ℕ → Type 0
-WritesAnyModel k p model any (Err (run_faults.Cnf fault)) text = RefusesStep any k p fault × (text ≡ [])
-WritesAnyModel k p model any (Err (run_faults.Model fault)) text =
-    HasStep any k p × RefusesModel (variable_count any (k + 1)) model fault × (text ≡ [])
-WritesAnyModel k p model any answer text =
-    HasStep any k p × ((values : List Tern) × IsModelOf (variable_count any (k + 1)) model values
-    × WritesNamed (k + 1) p values any answer text)
-
--- What it writes with `--step`: the witness of a run of k + 1 frames from any state, which the model names.
-abbrev pub WritesStepModel : ℕ → ℕ → List ℕ → Raw → Result (Unit {0}) RunFault → List ℕ → Type 0
-WritesStepModel k p model raw = WritesAnyModel k p model (from_any_state raw)
+-- What it writes for a model of the formula of a query: that of the values which the model gives to the variables;
+-- nothing where there is no such formula, or the model is refused.
+pub data WritesModel (query : Query) (model : List ℕ) (raw : Raw) : Result (Unit {0}) RunFault → List ℕ → Type 0 where
+  no_formula : (fault : CnfFault) → RefusesFormula raw query fault → WritesModel query model raw (Err (run_faults.Cnf fault)) []
+  no_model : (fault : ModelFault) → HasFormula raw query
+      → RefusesModel (variable_count (subject query.goal raw) (depth query)) model fault
+      → WritesModel query model raw (Err (run_faults.Model fault)) []
+  names : (values : List Tern) (answer : Result (Unit {0}) RunFault) (text : List ℕ) → HasFormula raw query
+      → IsModelOf (variable_count (subject query.goal raw) (depth query)) model values
+      → WritesNamed (depth query) query.property values (subject query.goal raw) answer text
+      → WritesModel query model raw answer text

@@ -1,9 +1,11 @@
--- What `refute` answers: that no run reaches a bad state within some frames.
+-- What `refute` answers: that no run reaches a bad state within some frames, or with a proof of the induction step, that
+-- no run of any length does.
 use Rattle.std.specs.Prelude.{◌≡◌, ◌⊎◌, ℕ, List, [], ◌++◌, codes, decimal, Result, Ok, Err}
 use Rattle.aig_parts.specs.declared.raw.Raw.{Raw}
 use Rattle.aig_cnf.specs.Answers.{HasFormula, RefusesFormula}
-use Rattle.aig_cnf.specs.Step.{from_any_state}
-use Rattle.aig_cnf.specs.StepAnswers.{RefusesStep}
+use Rattle.aig_cnf.specs.Query.{step, within}
+use Rattle.aig_cnf.specs.declared.query.Goal.{Goal}
+use Rattle.aig_cnf.specs.declared.query.Goal.TheVariants as goals
 use Rattle.aig_sat.specs.declared.proof.fault.ProofFault.{ProofFault}
 use Rattle.aig_sat.specs.proof.Reads.{reads_failed}
 use Rattle.aig_refute.specs.Unreachable.{IsUnreachable, IsUnreachableWithin}
@@ -11,21 +13,52 @@ use Rattle.aig_run.specs.declared.run_fault.RunFault.{RunFault}
 use Rattle.aig_run.specs.declared.run_fault.RunFault.TheVariants as run_faults
 use Rattle.aig_run.specs.Command.{IsFileOf}
 
--- the line that answers for k frames
-abbrev pub unreachable_line : ℕ → List ℕ
-unreachable_line k = codes "unreachable within " ++ (decimal k ++ codes "\n")
+-- What the check of a proof says of a circuit: no run reaches bad p within k frames; or there is no formula, or the
+-- proof is refused.
+abbrev pub ChecksWithin : ℕ → ℕ → Raw → Result (Unit {0}) RunFault → Type 0
+ChecksWithin k p raw (Ok done) = HasFormula raw (within k p) × IsUnreachableWithin raw k p
+ChecksWithin k p raw (Err (run_faults.Cnf fault)) = RefusesFormula raw (within k p) fault
+ChecksWithin k p raw (Err (run_faults.Proof fault)) = HasFormula raw (within k p)
+ChecksWithin k p raw (Err _) = ⊥
 
--- What `refute` writes for a circuit: the line where no run reaches bad p within k frames; nothing where there is no
--- formula, or where the proof is refused.
+-- both formulas are there
+abbrev pub HasFormulas : ℕ → ℕ → Raw → Type 0
+HasFormulas k p raw = HasFormula raw (within k p) × HasFormula raw (step k p)
+
+-- What the check of two proofs says: no run of any length reaches bad p; or one of the formulas is not there, or a proof
+-- is refused.
+abbrev pub ChecksStep : ℕ → ℕ → Raw → Result (Unit {0}) RunFault → Type 0
+ChecksStep k p raw (Ok done) = HasFormulas k p raw × IsUnreachable raw p
+ChecksStep k p raw (Err (run_faults.Cnf fault)) =
+    RefusesFormula raw (within k p) fault ⊎ (HasFormula raw (within k p) × RefusesFormula raw (step k p) fault)
+ChecksStep k p raw (Err (run_faults.Proof fault)) = HasFormulas k p raw
+ChecksStep k p raw (Err (run_faults.StepProof fault)) = HasFormulas k p raw
+ChecksStep k p raw (Err _) = ⊥
+
+-- the line that answers
+abbrev pub answer_line : Goal → ℕ → List ℕ
+answer_line goals.Within k = codes "unreachable within " ++ (decimal k ++ codes "\n")
+answer_line goals.Step k = codes "unreachable\n"
+
+-- it is written where all went well, and else nothing
+abbrev pub answer_text : List ℕ → Result (Unit {0}) RunFault → List ℕ
+answer_text line (Ok done) = line
+answer_text line (Err fault) = []
+
+-- what `refute` writes for a circuit, and with a proof of the step
 abbrev pub Refutes : ℕ → ℕ → Raw → Result (Unit {0}) RunFault → List ℕ → Type 0
-Refutes k p raw (Ok done) text = HasFormula raw k p × IsUnreachableWithin raw k p × (text ≡ unreachable_line k)
-Refutes k p raw (Err (run_faults.Cnf fault)) text = RefusesFormula raw k p fault × (text ≡ [])
-Refutes k p raw (Err (run_faults.Proof fault)) text = HasFormula raw k p × (text ≡ [])
-Refutes k p raw (Err _) text = ⊥
+Refutes k p raw answer text = ChecksWithin k p raw answer × (text ≡ answer_text (answer_line goals.Within k) answer)
+
+abbrev pub RefutesStep : ℕ → ℕ → Raw → Result (Unit {0}) RunFault → List ℕ → Type 0
+RefutesStep k p raw answer text = ChecksStep k p raw answer × (text ≡ answer_text (answer_line goals.Step k) answer)
 
 -- the file is one of a circuit in which no run reaches bad p within k frames
 abbrev pub IsFileUnreachable : List ℕ → ℕ → ℕ → Type 0
 IsFileUnreachable file k p = (raw : Raw) × IsFileOf file raw × IsUnreachableWithin raw k p
+
+-- the file is one of a circuit in which no run of any length reaches bad p
+abbrev pub IsFileNeverReached : List ℕ → ℕ → Type 0
+IsFileNeverReached file p = (raw : Raw) × IsFileOf file raw × IsUnreachable raw p
 
 -- how many reads of the proof failed, by the answer
 abbrev pub proof_reads_failed : Result (Unit {0}) RunFault → ℕ
@@ -33,28 +66,8 @@ proof_reads_failed (Ok done) = 0
 proof_reads_failed (Err (run_faults.Proof fault)) = reads_failed {T = Unit {0}} (Err fault)
 proof_reads_failed (Err _) = 0
 
--- ---- with a proof of the induction step too
-
--- What `refute --step` writes for a circuit: the line where no run of any length reaches bad p; nothing where one of the
--- formulas is not there, or where a proof is refused.
-abbrev pub RefutesStep : ℕ → ℕ → Raw → Result (Unit {0}) RunFault → List ℕ → Type 0
-RefutesStep k p raw (Ok done) text = HasFormula raw k p × IsUnreachable raw p × (text ≡ codes "unreachable\n")
-RefutesStep k p raw (Err (run_faults.Cnf fault)) text =
-    (RefusesFormula raw k p fault ⊎ (HasFormula raw k p × RefusesStep (from_any_state raw) k p fault)) × (text ≡ [])
-RefutesStep k p raw (Err (run_faults.Proof fault)) text = HasFormula raw k p × (text ≡ [])
-RefutesStep k p raw (Err (run_faults.StepProof fault)) text = HasFormula raw k p × (text ≡ [])
-RefutesStep k p raw (Err _) text = ⊥
-
--- the file is one of a circuit in which no run of any length reaches bad p
-abbrev pub IsFileNeverReached : List ℕ → ℕ → Type 0
-IsFileNeverReached file p = (raw : Raw) × IsFileOf file raw × IsUnreachable raw p
-
--- how many reads of the step's proof failed, by the answer
+-- how many reads of the step's proof failed
 abbrev pub step_reads_failed : Result (Unit {0}) RunFault → ℕ
 step_reads_failed (Ok done) = 0
 step_reads_failed (Err (run_faults.StepProof fault)) = reads_failed {T = Unit {0}} (Err fault)
 step_reads_failed (Err _) = 0
-
--- a fault of the step's proof
-abbrev pub IsOfStepProof : RunFault → Type 0
-IsOfStepProof fault = (why : ProofFault) × (fault ≡ run_faults.StepProof why)

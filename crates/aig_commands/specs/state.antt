@@ -1,3 +1,3 @@
 -- What proofs alone need. No contract of an exported function reaches it.
-pub mod Induction
+pub mod Answered
 pub mod Parts

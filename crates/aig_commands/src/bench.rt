@@ -10,8 +10,8 @@ ghost use Rattle.aig_commands.specs.BenchFiles.{circuit_text, stimulus_rows_text
 
 use aig_base::{Io, Read, Write};
 use aig_bench::Bench;
-use aig_run::{RunFault, ScriptFault, as_output, flushed, read_circuit, read_rows};
 use aig_format::{law_of_round_trip, write_ascii};
+use aig_run::{RunFault, ScriptFault, as_output, flushed, read_circuit, read_rows};
 use aig_script::run_script;
 use aig_sim::{Grid, PlaneGrid, write_stimulus};
 use std::alloc::Global;

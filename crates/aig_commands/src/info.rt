@@ -18,8 +18,8 @@ use aig_base::{
     Circuit, Io, Latch, Levels, Lit, Memory, Read, Write, greatest_fan_out, is_binary_ready,
     write_all,
 };
-use aig_run::{RunFault, flushed, read_circuit};
 use aig_format::{Format, read_from};
+use aig_run::{RunFault, flushed, read_circuit};
 use aig_unroll::uninitialised;
 use itoa::Buffer;
 use std::alloc::Global;

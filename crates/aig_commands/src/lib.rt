@@ -4,9 +4,7 @@
 pub mod bench;
 pub mod check;
 pub mod cnf;
-pub mod cnf_step;
 mod entries;
-pub mod induction;
 pub mod info;
 pub mod model_witness;
 mod named_run;
@@ -14,7 +12,6 @@ pub mod reduce;
 pub mod refute;
 pub mod select;
 pub mod sim;
-pub mod step_witness;
 pub mod toaig;
 pub mod unroll;
 pub mod wave;

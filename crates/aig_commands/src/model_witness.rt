@@ -1,40 +1,47 @@
-//! `witness --model`: the witness of the run that a solver's model names.
-ghost use Rattle.std.specs.Prelude.{◌≡◌, ◌<◌, ◌≤◌, IfOk, IfErr, length};
+//! `witness --model`: the witness of the run that a solver's model names; with `--step` the run by which an induction step
+//! fails.
+ghost use Rattle.std.specs.Prelude.{◌≡◌, ◌<◌, ◌≤◌, IfOk, IfErr, OnOk, length};
 ghost use Rattle.aig_bytes.specs.Flow.{flow};
 ghost use Rattle.aig_cnf.specs.Answers.{HasFormula, RefusesFormula};
+ghost use Rattle.aig_cnf.specs.Query.{depth, subject};
 ghost use Rattle.aig_run.specs.Command.{CommandEnds, OfFile};
 ghost use Rattle.aig_unroll.specs.FrameLiteral.{input_count};
+ghost use Rattle.aig_unroll.specs.Unrollable.{FitsLimits};
 ghost use Rattle.aig_commands.specs.ModelWitness.{IsModelOf, RefusesModel, WritesModel, WritesNamed, variable_count};
 
 use crate::named_run::find_named;
 use aig_base::{Circuit, Tern, Write};
-use aig_cnf::{CnfFault, unroll_for_formula};
+use aig_cnf::{CnfFault, Formula, Query};
 use aig_run::{RunFault, flushed, read_circuit};
 use aig_sat::{Assignment, ModelFault, read_model};
 use std::alloc::Global;
 
-/// How many variables the formula has that a property is reached within so many frames.
-fn count_variables(
-    alloc: Global,
-    circuit: &Circuit,
-    frames: u32,
-    property: u32,
-) -> Result<u32, CnfFault>
-    ensures formula { IfOk result (λ count. HasFormula circuit.now frames property) }
-    ensures count { IfOk result (λ count. count ≡ variable_count circuit.now frames) }
-    ensures refused { IfErr result (RefusesFormula circuit.now frames property) }
-{
-    circuit.facts();
-    let unrolled = unroll_for_formula(alloc, circuit, frames, property)?;
-    Ok(unrolled.max_var() + 1)
+/// How large the formula of a query is.
+#[derive(Clone, Copy)]
+struct Size {
+    /// How many frames the circuit is unrolled for.
+    depth: u32,
+    variables: u32,
 }
 
-/// Reads a model of the formula.
-pub(crate) fn read_values(
-    alloc: Global,
-    model: &[u8],
-    variables: u32,
-) -> Result<Assignment, ModelFault>
+/// Finds out how large the formula of a query is. The circuit starts where its goal does from then on.
+fn size_of(alloc: Global, circuit: &mut Circuit, query: Query) -> Result<Size, CnfFault>
+    ensures accepted { OnOk result (HasFormula circuit.old query) }
+    ensures depth { IfOk result (λ size. size.depth ≡ depth query) }
+    ensures variables { IfOk result (λ size.
+        size.variables ≡ variable_count (subject query.goal circuit.old) (depth query)) }
+    ensures refused { IfErr result (RefusesFormula circuit.old query) }
+    ensures circuit { circuit.new ≡ subject query.goal circuit.old }
+{
+    let formula = Formula::of(alloc, circuit, query)?;
+    Ok(Size {
+        depth: formula.depth(),
+        variables: formula.variables(),
+    })
+}
+
+/// Reads a model of a formula.
+fn read_values(alloc: Global, model: &[u8], variables: u32) -> Result<Assignment, ModelFault>
     requires { variables ≤ 2147483648 }
     ensures values { IfOk result (IsModelOf variables model.now) }
     ensures refused { IfErr result (RefusesModel variables model.now) }
@@ -43,7 +50,7 @@ pub(crate) fn read_values(
 }
 
 /// Writes the witness of the run that the values of the formula's variables name.
-pub(crate) fn find_and_write<W: Write>(
+fn find_and_write<W: Write>(
     alloc: Global,
     circuit: &Circuit,
     frames: u32,
@@ -51,7 +58,8 @@ pub(crate) fn find_and_write<W: Write>(
     values: &[Tern],
     out: &mut W,
 ) -> Result<(), RunFault>
-    requires formula { HasFormula circuit.now frames property }
+    requires property { property < length circuit.now.bad }
+    requires limits { FitsLimits circuit.now frames }
     requires values { input_count circuit.now frames < length values.now }
     ensures { CommandEnds (flow W.written W.failures out.old out.new) RunFault.Output
         (WritesNamed frames property values.now circuit.now) result }
@@ -60,57 +68,62 @@ pub(crate) fn find_and_write<W: Write>(
     run.write(out)
 }
 
-/// The same for a model's text.
+/// Writes the witness of the run that a model's text names.
 fn read_model_and_write<W: Write>(
     alloc: Global,
-    circuit: &Circuit,
-    frames: u32,
-    property: u32,
+    circuit: &mut Circuit,
+    query: Query,
     model: &[u8],
     out: &mut W,
 ) -> Result<(), RunFault>
     ensures { CommandEnds (flow W.written W.failures out.old out.new) RunFault.Output
-        (WritesModel frames property model.now circuit.now) result }
+        (WritesModel query model.now circuit.old) result }
 {
-    let variables = count_variables(alloc, circuit, frames, property)?;
-    let values = read_values(alloc, model, variables)?;
-    find_and_write(alloc, circuit, frames, property, values.as_slice(), out)
+    let size = size_of(alloc, circuit, query)?;
+    let values = read_values(alloc, model, size.variables)?;
+    find_and_write(
+        alloc,
+        circuit,
+        size.depth,
+        query.property,
+        values.as_slice(),
+        out,
+    )
 }
 
 /// The same for a circuit's file, without a flush at the end.
 fn read_and_write<W: Write>(
     alloc: Global,
     file: &[u8],
-    frames: u32,
-    property: u32,
+    query: Query,
     model: &[u8],
     out: &mut W,
 ) -> Result<(), RunFault>
     ensures { CommandEnds (flow W.written W.failures out.old out.new) RunFault.Output
-        (OfFile file.now (WritesModel frames property model.now)) result }
+        (OfFile file.now (WritesModel query model.now)) result }
 {
-    let circuit = read_circuit(alloc, file)?;
-    read_model_and_write(alloc, &circuit, frames, property, model, out)
+    let mut circuit = read_circuit(alloc, file)?;
+    read_model_and_write(alloc, &mut circuit, query, model, out)
 }
 
-/// The command `witness --model`: reads a circuit and a SAT solver's model of the formula that `cnf` writes for the bad
-/// state property at this position and this many frames. The model names a run: a start, where an uninitialised latch
-/// has the value of its variable, and rows. What no literal names is x. It writes the witness of the first frame at
-/// which this run reaches the property; `check` confirms it. Nothing is written where the circuit or the model is
-/// refused, there is no such formula, or no frame reaches the property. One does where the model makes a literal of
-/// each clause true (`law_of_partial_models` of `aig_laws`). It flushes the writer before it answers.
+/// The command `witness --model`: reads a circuit and a SAT solver's model of the formula that `cnf` writes for a query.
+/// The model names a run: a start, where an uninitialised latch has the value of its variable, for an induction step each
+/// latch; and rows. What no literal names is x. It writes the witness of the first frame at which this run reaches the
+/// property. `check` confirms it, for an induction step only if the resets allow its start: else it is the run by which
+/// the step fails. Nothing is written if the circuit or the model is rejected, there is no such formula, or no frame
+/// reaches the property. One does if the model makes a literal of each clause of the formula of `Goal::Within` true
+/// (`law_of_partial_models` of `aig_laws`). It flushes the writer before it returns.
 pub fn model_witness<W: Write>(
     alloc: Global,
     file: &[u8],
-    frames: u32,
-    property: u32,
+    query: Query,
     model: &[u8],
     out: &mut W,
 ) -> Result<(), RunFault>
     ensures ends { CommandEnds (flow W.written W.failures out.old out.new) RunFault.Output
-        (OfFile file.now (WritesModel frames property model.now)) result }
+        (OfFile file.now (WritesModel query model.now)) result }
     ensures flushed { W.failures out.new ≡ W.failures out.old → W.is_flushed out.new }
 {
-    let done = read_and_write(alloc, file, frames, property, model, out);
+    let done = read_and_write(alloc, file, query, model, out);
     flushed(done, out, RunFault::Output)
 }

@@ -3,11 +3,11 @@ ghost use Rattle.std.specs.Prelude.{◌≡◌, ◌*◌, ◌<◌, ◌≤◌, Err,
 ghost use Rattle.aig_base.specs.Circuit.{IsCircuit};
 ghost use Rattle.aig_parts.specs.Limits.{frame_limit};
 ghost use Rattle.aig_parts.specs.declared.ternary.Tern.TheVariants.{X};
-ghost use Rattle.aig_cnf.specs.Answers.{HasFormula};
 ghost use Rattle.aig_laws.specs.PartialModels.{named_rows, named_start};
 ghost use Rattle.aig_laws.specs.UnrolledWitness.{cut, filled, rows_in, start_in};
 ghost use Rattle.aig_sim.specs.Reached.{IsFirstReached, ReachesNone};
 ghost use Rattle.aig_unroll.specs.FrameLiteral.{input_count};
+ghost use Rattle.aig_unroll.specs.Unrollable.{FitsLimits};
 ghost use Rattle.aig_commands.specs.ModelWitness.{WritesNamed};
 
 use crate::witness::{FoundRun, find};
@@ -82,7 +82,8 @@ fn find_in_row(
     row: &[Tern],
 ) -> Result<FoundRun, ReachFault>
     requires circuit { IsCircuit circuit.now }
-    requires formula { HasFormula circuit.now frames property }
+    requires property { property < length circuit.now.bad }
+    requires limits { FitsLimits circuit.now frames }
     requires row { length row.now ≡ input_count circuit.now frames }
     ensures start { IfOk result (λ run. run.start.items ≡ start_in circuit.now frames row.now) }
     ensures rows { IfOk result (λ run. run.rows.rows ≡ rows_in circuit.now frames row.now) }
@@ -112,7 +113,8 @@ pub(crate) fn find_named(
     property: u32,
     values: &[Tern],
 ) -> Result<FoundRun, ReachFault>
-    requires formula { HasFormula circuit.now frames property }
+    requires property { property < length circuit.now.bad }
+    requires limits { FitsLimits circuit.now frames }
     requires values { input_count circuit.now frames < length values.now }
     ensures start { IfOk result (λ run. run.start.items ≡ named_start circuit.now frames values.now) }
     ensures rows { IfOk result (λ run. run.rows.rows ≡ named_rows circuit.now frames values.now) }

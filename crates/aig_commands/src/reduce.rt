@@ -9,8 +9,8 @@ ghost use Rattle.aig_commands.specs.Reduce.{HasDecimalPosition, Reduces, Refuses
 
 use crate::check::write_verdict;
 use aig_base::{Circuit, Io, Write};
-use aig_run::{RunFault, flushed, read_circuit};
 use aig_reduce::{ReduceFault, Reduction, reduce_witness};
+use aig_run::{RunFault, flushed, read_circuit};
 use aig_sim::Verdict;
 use std::alloc::Global;
 

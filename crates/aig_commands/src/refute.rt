@@ -1,76 +1,185 @@
-//! `refute`: that no run reaches a bad state within some frames, by a solver's proof.
+//! `refute`: that no run reaches a bad state within some frames, by a solver's proof; with `--step` and a proof of the
+//! induction step, that no run of any length does.
 ghost use Rattle.std.specs.Prelude.{◌≡◌, ◌≢◌, ◌+◌, Err, IfErr, OnOk};
 ghost use Rattle.aig_bytes.specs.Bytes.{Writes};
 ghost use Rattle.aig_bytes.specs.Flow.{flow};
+ghost use Rattle.aig_sat.specs.checker.Consequence.{IsUnsatisfiable};
 ghost use Rattle.aig_run.specs.Command.{CommandEnds, OfFile};
-ghost use Rattle.aig_commands.specs.Refute.{IsFileUnreachable, Refutes, proof_reads_failed, unreachable_line};
+ghost use Rattle.aig_commands.specs.Refute.{ChecksStep, ChecksWithin, IsFileNeverReached, IsFileUnreachable};
+ghost use Rattle.aig_commands.specs.Refute.{Refutes, RefutesStep, answer_line, proof_reads_failed, step_reads_failed};
+ghost use Rattle.aig_commands.specs.state.Answered.{Answers, IsChecked, IsOfStepProof};
 
 use aig_base::{Circuit, Io, Read, Write, write_all, write_number};
-use aig_cnf::unroll_for_formula;
+use aig_cnf::{Formula, Goal, Query};
+use aig_refute::check;
 use aig_run::{RunFault, flushed, read_circuit};
-use aig_refute::check_unreachable;
 use std::alloc::Global;
 
-/// Writes the line that answers.
-fn write_line<W: Write>(frames: u32, out: &mut W) -> Result<(), Io>
-    ensures { Writes W.written W.failures out.old out.new (unreachable_line frames) result }
-{
-    write_all(out, b"unreachable within ")?;
-    write_number(out, frames)?;
-    write_all(out, b"\n")
-}
-
-/// Writes the answer.
-fn write_answer<W: Write>(frames: u32, out: &mut W) -> Result<(), RunFault>
-    ensures written { Writes W.written W.failures out.old out.new (unreachable_line frames) result }
-    ensures output { IfErr result (λ fault. fault ≡ RunFault.Output) }
-{
-    match write_line(frames, out) {
-        Ok(()) => Ok(()),
-        Err(Io) => Err(RunFault::Output),
-    }
-}
-
-/// Checks a proof about a circuit, and writes the answer.
-fn check_and_write<R: Read, W: Write>(
+/// Checks a proof that no run reaches a property within so many frames.
+fn check_within<R: Read>(
     alloc: Global,
-    circuit: &Circuit,
+    circuit: &mut Circuit,
     frames: u32,
     property: u32,
     proof: &mut R,
-    out: &mut W,
 ) -> Result<(), RunFault>
-    ensures ends { CommandEnds (flow W.written W.failures out.old out.new) RunFault.Output
-        (Refutes frames property circuit.now) result }
+    ensures checks { ChecksWithin frames property circuit.old result }
     ensures reads { R.failures proof.new ≡ R.failures proof.old + proof_reads_failed result }
 {
-    let unrolled = unroll_for_formula(alloc, circuit, frames, property)?;
-    check_unreachable(alloc, circuit, &unrolled, frames, property, proof)?;
-    write_answer(frames, out)
+    circuit.facts();
+    let query = Query {
+        goal: Goal::Within,
+        frames,
+        property,
+    };
+    let formula = Formula::of(alloc, circuit, query)?;
+    check(alloc, &formula, proof)?;
+    Ok(())
 }
 
-/// Reads a circuit, checks a proof about it and writes the answer, without a flush at the end.
-fn read_and_check<R: Read, W: Write>(
+/// Checks a proof about the formula of an induction step.
+fn check_later<R: Read>(alloc: Global, later: &Formula, step: &mut R) -> Result<(), RunFault>
+    ensures refuted { OnOk result (IsUnsatisfiable later.now.clauses) }
+    ensures fault { IfErr result IsOfStepProof }
+    ensures reads { proof_reads_failed result ≡ 0 }
+    ensures step { R.failures step.new ≡ R.failures step.old + step_reads_failed result }
+{
+    match check(alloc, later, step) {
+        Ok(()) => Ok(()),
+        Err(fault) => Err(RunFault::StepProof(fault)),
+    }
+}
+
+/// Checks both proofs that no run of any length reaches a property. Neither is read before both formulas are made.
+fn check_step<R: Read>(
+    alloc: Global,
+    circuit: &mut Circuit,
+    frames: u32,
+    property: u32,
+    proof: &mut R,
+    step: &mut R,
+) -> Result<(), RunFault>
+    ensures checks { ChecksStep frames property circuit.old result }
+    ensures reads { R.failures proof.new ≡ R.failures proof.old + proof_reads_failed result }
+    ensures step { R.failures step.new ≡ R.failures step.old + step_reads_failed result }
+{
+    circuit.facts();
+    let base = Formula::of(
+        alloc,
+        circuit,
+        Query {
+            goal: Goal::Within,
+            frames,
+            property,
+        },
+    )?;
+    let later = Formula::of(
+        alloc,
+        circuit,
+        Query {
+            goal: Goal::Step,
+            frames,
+            property,
+        },
+    )?;
+    circuit.facts();
+    check(alloc, &base, proof)?;
+    check_later(alloc, &later, step)
+}
+
+/// Reads a circuit, and checks a proof about it.
+fn read_and_check<R: Read>(
     alloc: Global,
     file: &[u8],
     frames: u32,
     property: u32,
     proof: &mut R,
+) -> Result<(), RunFault>
+    ensures checks { IsChecked file.now (ChecksWithin frames property) result }
+    ensures reads { R.failures proof.new ≡ R.failures proof.old + proof_reads_failed result }
+{
+    let mut circuit = read_circuit(alloc, file)?;
+    check_within(alloc, &mut circuit, frames, property, proof)
+}
+
+/// Reads a circuit, and checks two proofs about it.
+fn read_and_check_step<R: Read>(
+    alloc: Global,
+    file: &[u8],
+    frames: u32,
+    property: u32,
+    proof: &mut R,
+    step: &mut R,
+) -> Result<(), RunFault>
+    ensures checks { IsChecked file.now (ChecksStep frames property) result }
+    ensures reads { R.failures proof.new ≡ R.failures proof.old + proof_reads_failed result }
+    ensures step { R.failures step.new ≡ R.failures step.old + step_reads_failed result }
+{
+    let mut circuit = read_circuit(alloc, file)?;
+    check_step(alloc, &mut circuit, frames, property, proof, step)
+}
+
+/// Writes the line that answers.
+fn write_line<W: Write>(goal: Goal, frames: u32, out: &mut W) -> Result<(), Io>
+    ensures { Writes W.written W.failures out.old out.new (answer_line goal frames) result }
+{
+    match goal {
+        Goal::Within => {
+            write_all(out, b"unreachable within ")?;
+            write_number(out, frames)?;
+            write_all(out, b"\n")
+        }
+        Goal::Step => write_all(out, b"unreachable\n"),
+    }
+}
+
+/// Writes the answer.
+fn write_text<W: Write>(goal: Goal, frames: u32, out: &mut W) -> Result<(), RunFault>
+    ensures written { Writes W.written W.failures out.old out.new (answer_line goal frames) result }
+    ensures output { IfErr result (λ fault. fault ≡ RunFault.Output) }
+{
+    match write_line(goal, frames, out) {
+        Ok(()) => Ok(()),
+        Err(Io) => Err(RunFault::Output),
+    }
+}
+
+/// Writes the answer if a check went well.
+fn write_checked<W: Write>(
+    checked: Result<(), RunFault>,
+    goal: Goal,
+    frames: u32,
+    out: &mut W,
+) -> Result<(), RunFault>
+    ensures { CommandEnds (flow W.written W.failures out.old out.new) RunFault.Output
+        (Answers (answer_line goal frames) checked) result }
+{
+    match checked {
+        Ok(()) => write_text(goal, frames, out),
+        Err(fault) => Err(fault),
+    }
+}
+
+/// Writes the answer if a check went well, and flushes the writer.
+fn write_answer<W: Write>(
+    checked: Result<(), RunFault>,
+    goal: Goal,
+    frames: u32,
     out: &mut W,
 ) -> Result<(), RunFault>
     ensures ends { CommandEnds (flow W.written W.failures out.old out.new) RunFault.Output
-        (OfFile file.now (Refutes frames property)) result }
-    ensures reads { R.failures proof.new ≡ R.failures proof.old + proof_reads_failed result }
+        (Answers (answer_line goal frames) checked) result }
+    ensures flushed { W.failures out.new ≡ W.failures out.old → W.is_flushed out.new }
 {
-    let circuit = read_circuit(alloc, file)?;
-    check_and_write(alloc, &circuit, frames, property, proof, out)
+    let written = write_checked(checked, goal, frames, out);
+    flushed(written, out, RunFault::Output)
 }
 
-/// The command `refute`: reads a circuit and checks a solver's proof that no assignment satisfies the formula that
-/// `cnf` writes for the bad state property at this position and this many frames. Where it is one, no run from a start
-/// that the resets allow reaches the property within the frames, whatever values are unknown, and one line says so. The
-/// proof is never held whole, and is not read where the file is refused, where there is no such formula, or where
-/// propagation alone refutes it. It flushes the writer before it answers.
+/// The command `refute`: reads a circuit and checks a solver's proof that no assignment satisfies the formula that `cnf`
+/// writes for the bad state property at this position and this many frames. If it is one, no run from a start that the
+/// resets allow reaches the property within the frames, whatever values are unknown, and one line says so. The proof is
+/// never held whole, and is not read if the file is rejected, if there is no such formula, or if propagation alone refutes
+/// it. It flushes the writer before it returns.
 pub fn refute<R: Read, W: Write>(
     alloc: Global,
     file: &[u8],
@@ -86,6 +195,33 @@ pub fn refute<R: Read, W: Write>(
         R.failures proof.new ≡ R.failures proof.old + proof_reads_failed result }
     ensures flushed { W.failures out.new ≡ W.failures out.old → W.is_flushed out.new }
 {
-    let done = read_and_check(alloc, file, frames, property, proof, out);
-    flushed(done, out, RunFault::Output)
+    let checked = read_and_check(alloc, file, frames, property, proof);
+    write_answer(checked, Goal::Within, frames, out)
+}
+
+/// The command `refute --step`: reads a circuit and checks two proofs of a solver, first that no assignment satisfies the
+/// formula that `cnf` writes for the bad state property at this position and this many frames, then that none satisfies
+/// the one of `cnf --step`. If they are proofs, no run of any length from a start that the resets allow reaches the
+/// property, whatever values are unknown, and one line says so. Neither proof is read before it is known that there are
+/// both formulas. It flushes the writer before it returns.
+pub fn refute_step<R: Read, W: Write>(
+    alloc: Global,
+    file: &[u8],
+    frames: u32,
+    property: u32,
+    proof: &mut R,
+    step: &mut R,
+    out: &mut W,
+) -> Result<(), RunFault>
+    ensures unreachable { OnOk result (IsFileNeverReached file.now property) }
+    ensures ends { CommandEnds (flow W.written W.failures out.old out.new) RunFault.Output
+        (OfFile file.now (RefutesStep frames property)) result }
+    ensures reads { result ≢ Err RunFault.Output →
+        R.failures proof.new ≡ R.failures proof.old + proof_reads_failed result }
+    ensures step { result ≢ Err RunFault.Output →
+        R.failures step.new ≡ R.failures step.old + step_reads_failed result }
+    ensures flushed { W.failures out.new ≡ W.failures out.old → W.is_flushed out.new }
+{
+    let checked = read_and_check_step(alloc, file, frames, property, proof, step);
+    write_answer(checked, Goal::Step, frames, out)
 }

@@ -6,8 +6,8 @@ ghost use Rattle.aig_commands.specs.Select.{Selects};
 
 use crate::toaig::write_converted;
 use aig_base::{Circuit, PropertySection, Read, Write};
-use aig_run::{RunFault, flushed};
 use aig_format::{Format, read_from};
+use aig_run::{RunFault, flushed};
 use std::alloc::Global;
 
 /// Selects properties of a circuit, and writes it in a format.

@@ -7,8 +7,8 @@ ghost use Rattle.aig_commands.specs.Sim.{WritesSimulation};
 ghost use Rattle.aig_commands.specs.state.Parts.{IsOfStimulus};
 
 use aig_base::{Circuit, Fault, Read, Write};
-use aig_run::{RunFault, flushed};
 use aig_format::read_from;
+use aig_run::{RunFault, flushed};
 use aig_sim::{StimFault, simulate};
 use std::alloc::Global;
 

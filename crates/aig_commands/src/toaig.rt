@@ -8,8 +8,8 @@ ghost use Rattle.aig_commands.specs.GoesWell.{GoesWell};
 ghost use Rattle.aig_commands.specs.Toaig.{Converts};
 
 use aig_base::{Circuit, Read, Write, is_binary_ready, renumber};
-use aig_run::{RunFault, as_output, flushed, read_circuit};
 use aig_format::{Format, read_from, write_ascii, write_binary};
+use aig_run::{RunFault, as_output, flushed, read_circuit};
 use std::alloc::Global;
 
 /// Writes a circuit as a binary file: a ready one as it stands, any other renumbered.

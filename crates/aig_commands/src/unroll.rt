@@ -10,8 +10,8 @@ ghost use Rattle.aig_commands.specs.GoesWell.{GoesWell};
 ghost use Rattle.aig_commands.specs.Unroll.{IsMap, Unrolls, UnrollsKept, short_spelling};
 
 use aig_base::{Circuit, Io, Levels, Write};
-use aig_run::{RunFault, as_output, flushed, read_circuit};
 use aig_format::{Format, write_ascii, write_binary};
+use aig_run::{RunFault, as_output, flushed, read_circuit};
 use aig_unroll::write_input_map;
 use std::alloc::Global;
 

@@ -8,8 +8,8 @@ ghost use Rattle.aig_commands.specs.Wave.{WritesWave, DumpsRun, HeaderFirst};
 ghost use Rattle.aig_commands.specs.state.Parts.{IsOfStimulus};
 
 use aig_base::{Circuit, Fault, Read, Write};
-use aig_run::{RunFault, flushed, read_circuit};
 use aig_format::read_from;
+use aig_run::{RunFault, flushed, read_circuit};
 use aig_sim::{ReplayFault, StimFault, dump, dump_witness};
 use std::alloc::Global;
 

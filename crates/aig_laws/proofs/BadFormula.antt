@@ -14,22 +14,18 @@ use Rattle.aig_parts.specs.declared.ternary.Tern.{Tern}
 use Rattle.aig_parts.specs.declared.ternary.Tern.TheVariants.{Zero, One, X}
 use Rattle.aig_parts.specs.Ternary.{kleene_and, kleene_not}
 use Rattle.aig_base.specs.Circuit.{IsCircuit}
-use Rattle.aig_base.specs.Grounded as grounded
-use Rattle.aig_base.specs.Grounded.{Grounded, IsAcyclic, IsSource}
+use Rattle.aig_base.specs.Grounded.{IsAcyclic}
 use Rattle.aig_base.specs.Order.{IsCanonicalOrder}
 use Rattle.aig_base.specs.Renumbered.{evens}
-use Rattle.aig_base.specs.Sections.{IsGate, definitions, uses}
+use Rattle.aig_base.specs.Sections.{definitions, uses}
 use Rattle.aig_base.specs.Sound.{IsInRange}
 use Rattle.aig_base.specs.Value as value
 use Rattle.aig_base.specs.Value.{Value, Fits}
-use Rattle.aig_base.proofs.circuits.Defined.{defined_cases}
 use Rattle.aig_base.proofs.circuits.InOrder.{defined_to}
 use Rattle.aig_base.proofs.circuits.EachUse.{each_use}
 use Rattle.aig_base.proofs.lists.Evens.{length-evens_from}
 use Rattle.aig_base.proofs.lists.Gets.{All-at}
-use Rattle.aig_base.proofs.circuits.Places.{gate, IsDefinition-of_definitions}
 use Rattle.aig_base.proofs.lists.Joined.{All-right}
-use Rattle.aig_base.proofs.lists.Positions.{unmap}
 use Rattle.aig_base.proofs.renumbered.RenumberedCircuit.{ready_acyclic}
 use Rattle.aig_base.proofs.values.OneValue.{exists_value}
 use Rattle.aig_base.proofs.values.UniqueValue.{unique}
@@ -41,6 +37,7 @@ use Rattle.aig_unroll.proofs.UnrolledRow.{evens_at, frames_at, place_at}
 use Rattle.aig_laws.proofs.UnrolledWitnesses.{confirms_row}
 use Rattle.aig_laws.specs.UnrolledWitness.{MakesBad}
 use Rattle.aig_cnf.specs.Formula.{formula_of, gate_clauses, goals}
+use Rattle.aig_cnf.specs.Query.{within}
 use Rattle.aig_sat.specs.checker.Clause.{is_true, meets, Satisfies}
 use Rattle.aig_laws.specs.Models.{tern_of, values_of, AreKnown, NamesWitness, IsInModel}
 use Rattle.aig_cnf.proofs.SignLemmas.{signs}
@@ -74,7 +71,7 @@ module _ (raw : Raw) (circuit : IsCircuit raw) (order : List ℕ) (canonical : I
   -- the bad literal of a frame
   pub bad_at : (t p : ℕ) → t < k → p < length raw.bad
       → slice_get C.bad (t * length raw.bad + p) ≡ Some (slice_index C.bad (t * length raw.bad + p))
-  bad_at t p lt within =
+  bad_at t p lt property =
       let here = place_at (frame_bad raw order k) (length raw.bad) k t p (slice_index (frame_bad raw order k t) p)
       (length-frame_bad raw order k) lt
       (slice_get-get_or (frame_bad raw order k t) p 0 (omega (arith, length-frame_bad raw order k t))) in
@@ -83,9 +80,9 @@ module _ (raw : Raw) (circuit : IsCircuit raw) (order : List ℕ) (canonical : I
 
   pub bad_in_range : (t p : ℕ) → t < k → p < length raw.bad
       → variable (slice_index C.bad (t * length raw.bad + p)) ≤ C.max_var
-  bad_in_range t p lt within =
+  bad_in_range t p lt property =
       let r = All-at (λ l. variable l ≤ C.max_var) C.bad (t * length raw.bad + p)
-      (slice_index C.bad (t * length raw.bad + p)) (all_bad_used) (bad_at t p lt within) in r
+      (slice_index C.bad (t * length raw.bad + p)) (all_bad_used) (bad_at t p lt property) in r
     where
       all_bad_used : All (λ l. variable l ≤ C.max_var) C.bad
       all_bad_used = All-weaker (IsInRange C) (λ l. variable l ≤ C.max_var) (λ l h. omega arith) C.bad
@@ -126,6 +123,16 @@ low_of a e = go (a 0) e
     go true e = cc
     go false e = refl
 
+-- literal 1 is true, a goal is, and the clauses of the gates are met
+pub formula_met : (raw : Raw) (order : List ℕ) (k p : ℕ) (a : ℕ → Bool) → Satisfies a (formula_of raw order (within k p)).clauses
+    → (meets a (1 ∷ []) ≡ true) × (meets a (goals (unrolled raw order k) (length raw.bad) k p) ≡ true)
+    × Satisfies a (flat_map gate_clauses (unrolled raw order k).gates)
+formula_met raw order k p a h =
+    let goal = meets a (goals (unrolled raw order k) (length raw.bad) k p) in
+    let gates = list_all (meets a) (flat_map gate_clauses (unrolled raw order k).gates) in
+    let (first, rest) = and_both (meets a (1 ∷ [])) (goal && gates) h in
+    let (some, each) = and_both goal gates rest in (first, some, each)
+
 module _ (raw : Raw) (circuit : IsCircuit raw) (order : List ℕ) (canonical : IsCanonicalOrder raw order) (k : ℕ) where
   -- ---- from a model to a witness
 
@@ -146,18 +153,15 @@ module _ (raw : Raw) (circuit : IsCircuit raw) (order : List ℕ) (canonical : I
       ∙ get_or-map-range_with_len (λ v. tern_of (a v)) 1 (input_count raw k) i (1 + i) X lt refl in
       value_is ∙ ap (λ v. tern_of (a v)) (sym half) ∙ ap tern_of (sym (true_even a l even))
 
-  reaches : (p : ℕ) (a : ℕ → Bool) → p < length raw.bad → Satisfies a (formula_of raw order k p)
+  reaches : (p : ℕ) (a : ℕ → Bool) → p < length raw.bad → Satisfies a (formula_of raw order (within k p)).clauses
       → (t : ℕ) × (t < k) × MakesBad raw order k (values_of raw k a) t p
-  reaches p a within h =
-      let (first, rest) = and_both (meets a (1 ∷ []))
-      (meets a (goals (unrolled raw order k) (length raw.bad) k p) && list_all (meets a) (flat_map gate_clauses (unrolled raw order k).gates)) h in
-      let (goal, gates) = and_both (meets a (goals (unrolled raw order k) (length raw.bad) k p))
-      (list_all (meets a) (flat_map gate_clauses (unrolled raw order k).gates)) rest in
+  reaches p a property h =
+      let (first, goal, gates) = formula_met raw order k p a h in
       let (i, l, at, true_l) = one_met a (goals (unrolled raw order k) (length raw.bad) k p) goal in
       let (t, lt, is) = goal_frame (λ t. slice_index (unrolled raw order k).bad (t * length raw.bad + p)) k i l at in
       let g = slice_index (unrolled raw order k).bad (t * length raw.bad + p) in
       let (w, v) = valued raw circuit order canonical k (values_of raw k a) (wide_values a) g
-      (bad_in_range raw circuit order canonical k t p lt within) in
+      (bad_in_range raw circuit order canonical k t p lt property) in
       let one : w ≡ One =
       assigned (unrolled raw order k) (values_of raw k a) refl a (low_of a first) (λ i l w. inputs_are a i l w)
       (gates_met a (unrolled raw order k).gates gates) v ∙ ap tern_of (ap (is_true a) (sym is) ∙ true_l) in (
@@ -165,16 +169,16 @@ module _ (raw : Raw) (circuit : IsCircuit raw) (order : List ℕ) (canonical : I
         lt,
         (
           g,
-          bad_at raw circuit order canonical k t p lt within,
+          bad_at raw circuit order canonical k t p lt property,
           subst (λ (u : Tern). Value (unrolled raw order k) [] (values_of raw k a ∷ []) 0 g u) one v,
         ),
       )
 
-  pub names_witness : (p : ℕ) (a : ℕ → Bool) → p < length raw.bad → Satisfies a (formula_of raw order k p)
+  pub names_witness : (p : ℕ) (a : ℕ → Bool) → p < length raw.bad → Satisfies a (formula_of raw order (within k p)).clauses
       → NamesWitness raw k p a
-  names_witness p a within h =
-      let (t, lt, bad) = reaches p a within h in
-      (t, lt, (confirms_row raw circuit order canonical k (values_of raw k a) (wide_values a) t p lt within).0 bad)
+  names_witness p a property h =
+      let (t, lt, bad) = reaches p a property h in
+      (t, lt, (confirms_row raw circuit order canonical k (values_of raw k a) (wide_values a) t p lt property).0 bad)
 
   -- ---- from a row to a model
 
@@ -295,12 +299,12 @@ module _ (raw : Raw) (circuit : IsCircuit raw) (order : List ℕ) (canonical : I
         chosen_at u w le h = chosen_is u w h le (below_or u)
 
     pub in_model : (t p : ℕ) → t < k → p < length raw.bad → MakesBad raw order k row t p → IsInModel raw order k p row
-    in_model t p lt within (g, at, v) =
+    in_model t p lt property (g, at, v) =
         let f : ℕ → ℕ = λ s. slice_index (unrolled raw order k).bad (s * length raw.bad + p) in
         let same_goal : g ≡ f t =
-        (let e : Some g ≡ Some (f t) = sym at ∙ bad_at raw circuit order canonical k t p lt within in cc) in
+        (let e : Some g ≡ Some (f t) = sym at ∙ bad_at raw circuit order canonical k t p lt property in cc) in
         let reached : One ≡ tern_of (is_true values (f t)) =
-        each_is (f t) One (bad_in_range raw circuit order canonical k t p lt within) (subst (λ m. Has m One) same_goal v) in
+        each_is (f t) One (bad_in_range raw circuit order canonical k t p lt property) (subst (λ m. Has m One) same_goal v) in
         let true_goal : is_true values (f t) ≡ true = sym (tern_same true (is_true values (f t)) reached) in
         let (j, stands) = frames_at (λ s. f s ∷ []) k t 0 (f t) lt refl in
         let low : is_true values 1 ≡ true =

@@ -1,8 +1,8 @@
 -- Values of variables, unknown ones included, that make a literal of each clause 1.
-use Rattle.std.proofs.Common.{◌≡◌, ◌≢◌, inl, inr, ℕ, zero, suc, ◌+◌, ◌-◌, ◌*◌, ◌%◌, ◌<◌, Bool, true, false, not, ◌&&◌, ◌||◌}
-use Rattle.std.proofs.Common.{List, [], ◌∷◌, length, take, drop, flat_map, Some, slice_get, slice_index, get_or}
+use Rattle.std.proofs.Common.{◌≡◌, inl, inr, ℕ, zero, suc, ◌+◌, ◌-◌, ◌*◌, ◌%◌, ◌<◌, Bool, true, false, not, ◌&&◌, ◌||◌}
+use Rattle.std.proofs.Common.{List, [], ◌∷◌, length, drop, flat_map, Some, slice_get, slice_index}
 use Rattle.std.proofs.Common.{refl, sym, ◌∙◌, ap, ap₂, subst, arith, length-drop}
-use Rattle.std.specs.List.{list_all, list_any}
+use Rattle.std.specs.List.{list_all}
 use Rattle.std.proofs.lemmas.List.{get_or-drop, get_or-take, length-take-le}
 use Rattle.std.proofs.lemmas.List.Concat.{flat_map-cons}
 use Rattle.std.proofs.lemmas.List.Folds.{list_all-append}
@@ -20,6 +20,7 @@ use Rattle.aig_base.specs.Value as value
 use Rattle.aig_base.specs.Value.{Value}
 use Rattle.aig_base.proofs.lists.Evens.{length-evens_from}
 use Rattle.aig_cnf.specs.Formula.{formula_of, gate_clauses, goals}
+use Rattle.aig_cnf.specs.Query.{within}
 use Rattle.aig_sat.specs.checker.Clause.{is_true, meets, Satisfies}
 use Rattle.aig_cnf.proofs.SignLemmas.{signs}
 use Rattle.aig_laws.proofs.BadFormula.{bad_at, bad_in_range, goal_frame, names_witness, valued}
@@ -29,7 +30,6 @@ use Rattle.aig_laws.proofs.UnrolledWitnesses.{confirms_row}
 use Rattle.aig_laws.specs.Models.{tern_of, values_of}
 use Rattle.aig_laws.specs.PartialModels.{is_one, value_in, literal_in, has_one, SatisfiesInPart, IsFilling, inputs_in, NamesRun}
 use Rattle.aig_laws.specs.UnrolledWitness.{MakesBad, witness_in}
-use Rattle.aig_sim.specs.Reached.{Reaches}
 use Rattle.aig_sim.specs.Verdict.{IsVerdict}
 use Rattle.aig_sim.specs.declared.verdict.Verdict.TheVariants as verdict
 use Rattle.aig_unroll.specs.FrameLiteral.{input_count}
@@ -179,21 +179,21 @@ module _ (raw : Raw) (row : List Tern) (no_latches : raw.latches ≡ []) where
 -- a witness in a row
 reaches_of : (raw : Raw) (k t p : ℕ) (values row : List Tern) → t < k → p < length raw.bad → inputs_in raw k values ≡ row
     → IsVerdict raw (witness_in raw k t p row) verdict.Confirmed → NamesRun raw k p values
-reaches_of raw k t p values row lt within same confirmed = (
+reaches_of raw k t p values row lt property same confirmed = (
   t,
   record {
     frame = omega (arith, length-cut (length raw.inputs) k (inputs_in raw k values), lt);
-    property = within;
+    property = property;
     confirmed = subst (λ (r : List Tern). IsVerdict raw (witness_in raw k t p r) verdict.Confirmed) (sym same) confirmed;
   },
 )
 
 pub names_whole_run : (raw : Raw) → IsCircuit raw → (order : List ℕ) → IsCanonicalOrder raw order → (k p : ℕ)
-    → (values : List Tern) (whole : ℕ → Bool) → p < length raw.bad → Satisfies whole (formula_of raw order k p)
+    → (values : List Tern) (whole : ℕ → Bool) → p < length raw.bad → Satisfies whole (formula_of raw order (within k p)).clauses
     → inputs_in raw k values ≡ values_of raw k whole → NamesRun raw k p values
-names_whole_run raw circuit order canonical k p values whole within h same =
-    let (t, lt, confirmed) = names_witness raw circuit order canonical k p whole within h in
-    reaches_of raw k t p values (values_of raw k whole) lt within same confirmed
+names_whole_run raw circuit order canonical k p values whole property h same =
+    let (t, lt, confirmed) = names_witness raw circuit order canonical k p whole property h in
+    reaches_of raw k t p values (values_of raw k whole) lt property same confirmed
 
 module _ (raw : Raw) (circuit : IsCircuit raw) (order : List ℕ) (canonical : IsCanonicalOrder raw order) (k : ℕ)
     (a : List Tern) (enough : input_count raw k < length a) where
@@ -214,9 +214,9 @@ module _ (raw : Raw) (circuit : IsCircuit raw) (order : List ℕ) (canonical : I
       ∙ get_or-take (input_count raw k) (drop 1 a) i X lt ∙ get_or-drop 1 a i X in
       value_is ∙ ap (value_in a) (sym half) ∙ sym (value_even a l even)
 
-  reaches : (p : ℕ) → p < length raw.bad → SatisfiesInPart a (formula_of raw order k p)
+  reaches : (p : ℕ) → p < length raw.bad → SatisfiesInPart a (formula_of raw order (within k p)).clauses
       → (t : ℕ) × (t < k) × MakesBad raw order k (inputs_in raw k a) t p
-  reaches p within h =
+  reaches p property h =
       let (first, rest) = and_both (has_one a (1 ∷ []))
       (has_one a (goals (unrolled raw order k) (length raw.bad) k p) && list_all (has_one a) (flat_map gate_clauses (unrolled raw order k).gates)) h in
       let (goal, gates) = and_both (has_one a (goals (unrolled raw order k) (length raw.bad) k p))
@@ -225,7 +225,7 @@ module _ (raw : Raw) (circuit : IsCircuit raw) (order : List ℕ) (canonical : I
       let (t, lt, is) = goal_frame (λ t. slice_index (unrolled raw order k).bad (t * length raw.bad + p)) k i l at in
       let g = slice_index (unrolled raw order k).bad (t * length raw.bad + p) in
       let (w, v) = valued raw circuit order canonical k (inputs_in raw k a) wide g
-      (bad_in_range raw circuit order canonical k t p lt within) in
+      (bad_in_range raw circuit order canonical k t p lt property) in
       let one : w ≡ One =
       assigned (unrolled raw order k) (inputs_in raw k a) refl a (low_of a first) (λ i l w. inputs_are i l w)
       (gates_met a (unrolled raw order k).gates gates) v ∙ ap (literal_in a) (sym is) ∙ one_l in (
@@ -233,16 +233,16 @@ module _ (raw : Raw) (circuit : IsCircuit raw) (order : List ℕ) (canonical : I
         lt,
         (
           g,
-          bad_at raw circuit order canonical k t p lt within,
+          bad_at raw circuit order canonical k t p lt property,
           subst (λ (u : Tern). Value (unrolled raw order k) [] (inputs_in raw k a ∷ []) 0 g u) one v,
         ),
       )
 
-  pub names_run : (p : ℕ) → p < length raw.bad → SatisfiesInPart a (formula_of raw order k p) → NamesRun raw k p a
-  names_run p within h =
-      let (t, lt, bad) = reaches p within h in
-      reaches_of raw k t p a (inputs_in raw k a) lt within refl
-      ((confirms_row raw circuit order canonical k (inputs_in raw k a) wide t p lt within).0 bad)
+  pub names_run : (p : ℕ) → p < length raw.bad → SatisfiesInPart a (formula_of raw order (within k p)).clauses → NamesRun raw k p a
+  names_run p property h =
+      let (t, lt, bad) = reaches p property h in
+      reaches_of raw k t p a (inputs_in raw k a) lt property refl
+      ((confirms_row raw circuit order canonical k (inputs_in raw k a) wide t p lt property).0 bad)
 
 -- ---- fillings
 

@@ -5,6 +5,7 @@ use Rattle.aig_parts.specs.declared.raw.Raw.{Raw}
 use Rattle.aig_parts.specs.declared.ternary.Tern.{Tern}
 use Rattle.aig_parts.specs.declared.ternary.Tern.TheVariants.{Zero, One, X}
 use Rattle.aig_cnf.specs.Formula.{formula_of}
+use Rattle.aig_cnf.specs.Query.{within}
 use Rattle.aig_sat.specs.checker.Clause.{Satisfies}
 use Rattle.aig_laws.specs.UnrolledWitness.{witness_in}
 use Rattle.aig_sim.specs.Verdict.{IsVerdict}
@@ -31,4 +32,4 @@ NamesWitness raw k p values =
 -- some assignment satisfies the formula, and has these values of the inputs
 abbrev pub IsInModel : Raw → List ℕ → ℕ → ℕ → List Tern → Type 0
 IsInModel raw order k p row =
-    (values : ℕ → Bool) × Satisfies values (formula_of raw order k p) × (values_of raw k values ≡ row)
+    (values : ℕ → Bool) × Satisfies values (formula_of raw order (within k p)).clauses × (values_of raw k values ≡ row)

@@ -1,6 +1,6 @@
 -- What values of variables say of a circuit where some are unknown: whether they make a formula true, and which run they
 -- name. Which values those are of a solver's model is our own choice.
-use Rattle.std.specs.Prelude.{◌≡◌, ◌≢◌, ℕ, ◌+◌, ◌*◌, ◌%◌, ◌<◌, nat_eq, Bool, true, false, IsTrue, if◌then◌else◌, List, take, drop, slice_index_or}
+use Rattle.std.specs.Prelude.{◌≡◌, ◌≢◌, ℕ, ◌%◌, nat_eq, Bool, true, false, IsTrue, if◌then◌else◌, List, take, drop, slice_index_or}
 use Rattle.std.specs.List.{list_all, list_any}
 use Rattle.aig_parts.specs.Literal.{variable}
 use Rattle.aig_parts.specs.Ternary.{kleene_not}

@@ -6,6 +6,7 @@ ghost use Rattle.aig_parts.specs.declared.ternary.Tern.{Tern};
 ghost use Rattle.aig_base.specs.Circuit.{IsCircuit};
 ghost use Rattle.aig_base.specs.Order.{IsCanonicalOrder};
 ghost use Rattle.aig_cnf.specs.Formula.{formula_of};
+ghost use Rattle.aig_cnf.specs.Query.{within};
 ghost use Rattle.aig_sat.specs.checker.Clause.{Satisfies};
 ghost use Rattle.aig_laws.specs.Models.{AreKnown, IsInModel, NamesWitness};
 ghost use Rattle.aig_laws.specs.UnrolledWitness.{MakesBad};
@@ -18,7 +19,7 @@ ghost use Rattle.aig_unroll.specs.FrameLiteral.{input_count};
 pub fn law_of_formula()
     ensures model { (raw : Raw) (order : List ℕ) (k p : ℕ) (values : ℕ → Bool) →
         IsCircuit raw → IsCanonicalOrder raw order → p < length raw.bad →
-        Satisfies values (formula_of raw order k p) → NamesWitness raw k p values }
+        Satisfies values (formula_of raw order (within k p)).clauses → NamesWitness raw k p values }
     ensures complete { (raw : Raw) (order : List ℕ) (k t p : ℕ) (row : List Tern) →
         IsCircuit raw → IsCanonicalOrder raw order → t < k → p < length raw.bad → length row ≡ input_count raw k →
         AreKnown row → MakesBad raw order k row t p → IsInModel raw order k p row }

@@ -6,6 +6,7 @@ ghost use Rattle.aig_parts.specs.declared.ternary.Tern.{Tern};
 ghost use Rattle.aig_base.specs.Circuit.{IsCircuit};
 ghost use Rattle.aig_base.specs.Order.{IsCanonicalOrder};
 ghost use Rattle.aig_cnf.specs.Formula.{formula_of};
+ghost use Rattle.aig_cnf.specs.Query.{within};
 ghost use Rattle.aig_sat.specs.checker.Clause.{Satisfies};
 ghost use Rattle.aig_laws.specs.Models.{values_of};
 ghost use Rattle.aig_laws.specs.PartialModels.{IsFilling, NamesRun, SatisfiesInPart, inputs_in};
@@ -18,9 +19,10 @@ ghost use Rattle.aig_unroll.specs.FrameLiteral.{input_count};
 pub fn law_of_partial_models()
     ensures partial { (raw : Raw) (order : List ℕ) (k p : ℕ) (values : List Tern) →
         IsCircuit raw → IsCanonicalOrder raw order → p < length raw.bad → input_count raw k < length values →
-        SatisfiesInPart values (formula_of raw order k p) → NamesRun raw k p values }
+        SatisfiesInPart values (formula_of raw order (within k p)).clauses → NamesRun raw k p values }
     ensures whole { (raw : Raw) (order : List ℕ) (k p : ℕ) (values : List Tern) (whole : ℕ → Bool) →
-        IsCircuit raw → IsCanonicalOrder raw order → p < length raw.bad → Satisfies whole (formula_of raw order k p) →
+        IsCircuit raw → IsCanonicalOrder raw order → p < length raw.bad →
+        Satisfies whole (formula_of raw order (within k p)).clauses →
         inputs_in raw k values ≡ values_of raw k whole → NamesRun raw k p values }
     ensures filling { (clauses : List (List ℕ)) (values : List Tern) (whole : ℕ → Bool) →
         IsFilling values whole → SatisfiesInPart values clauses → Satisfies whole clauses }

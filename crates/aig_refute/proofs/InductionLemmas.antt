@@ -1,16 +1,15 @@
 -- No run of any length reaches a bad state, where no assignment satisfies its formula and that of the step.
-use Rattle.std.proofs.Common.{◌≡◌, ◌≢◌, ◌⊎◌, inl, inr, ℕ, zero, suc, ◌+◌, ◌-◌, ◌*◌, ◌<◌, ◌≤◌, Bool, true, false, not, ◌&&◌}
-use Rattle.std.proofs.Common.{List, [], ◌∷◌, ◌++◌, length, map, take, drop, flat_map, All, Contains, Some, slice_get, slice_index, get_or, option_map}
-use Rattle.std.proofs.Common.{refl, sym, ◌∙◌, ap, subst, arith, length-drop, length-append}
-use Rattle.std.specs.List.{AllZip, list_all}
+use Rattle.std.proofs.Common.{◌≡◌, ◌≢◌, ◌⊎◌, inl, inr, ℕ, zero, suc, ◌+◌, ◌-◌, ◌*◌, ◌<◌, ◌≤◌, Bool, true, false}
+use Rattle.std.proofs.Common.{List, [], ◌∷◌, length, map, take, drop, flat_map, Contains, Some, slice_get, slice_index, get_or}
+use Rattle.std.proofs.Common.{refl, sym, ◌∙◌, ap, subst, arith, length-drop}
+use Rattle.std.specs.List.{AllZip}
 use Rattle.std.proofs.lemmas.List.{length-take-le, length-map}
 use Rattle.std.proofs.lemmas.List.Elements.{All-append}
 use Rattle.std.proofs.lemmas.Option.{slice_get-map, slice_get-get_or, slice_get_within, get_or_from_slice_get}
-use Rattle.aig_parts.specs.Literal.{variable, negation}
 use Rattle.aig_parts.specs.declared.latch.Latch.{Latch}
 use Rattle.aig_parts.specs.declared.raw.Raw.{Raw}
 use Rattle.aig_parts.specs.declared.ternary.Tern.{Tern}
-use Rattle.aig_parts.specs.declared.ternary.Tern.TheVariants.{Zero, One, X}
+use Rattle.aig_parts.specs.declared.ternary.Tern.TheVariants.{One, X}
 use Rattle.aig_base.specs.Circuit.{IsCircuit}
 use Rattle.aig_base.specs.Completion.{Completes, IsCompletion}
 use Rattle.aig_base.specs.Order.{IsCanonicalOrder}
@@ -23,44 +22,29 @@ use Rattle.aig_base.proofs.values.OneValue.{exists_value}
 use Rattle.aig_base.proofs.values.Refined.{kept}
 use Rattle.aig_base.proofs.values.UniqueValue.{unique}
 use Rattle.aig_sim.proofs.VerdictLemmas.{bad_defined, constraint_defined}
-use Rattle.aig_cnf.specs.Formula.{bad_formula, formula_of, gate_clauses, goals}
-use Rattle.aig_sat.specs.checker.Clause.{is_true, meets, Satisfies}
-use Rattle.aig_cnf.specs.Step.{from_any_state, quiet_frames, step_formula, step_formula_of, uninitialised_latch}
-use Rattle.aig_laws.specs.Models.{AreKnown, tern_of, values_of}
-use Rattle.aig_laws.specs.UnrolledWitness.{IsRun, MakesBad, rows_in, start_in}
-use Rattle.aig_laws.proofs.BadFormula.{bad_at, bad_in_range, in_model, inputs_are, low_of, valued}
-use Rattle.aig_laws.proofs.Tseitin.{and_both, assigned, both_and, gates_met, meets_one, true_negation}
+use Rattle.aig_cnf.specs.Formula.{Cnf, IsFormulaOf, first_reached, formula_of, gate_clauses, goals}
+use Rattle.aig_sat.specs.checker.Clause.{is_true, Satisfies}
+use Rattle.aig_cnf.specs.Query.{from_any_state, step, uninitialised_latch, within}
+use Rattle.aig_laws.specs.Models.{AreKnown, tern_of}
+use Rattle.aig_laws.specs.UnrolledWitness.{IsRun, MakesBad, start_in}
+use Rattle.aig_laws.proofs.BadFormula.{bad_at, bad_in_range, formula_met, in_model, inputs_are, low_of, valued}
+use Rattle.aig_laws.proofs.Tseitin.{assigned, both_and, gates_met}
 use Rattle.aig_laws.proofs.UnrolledRows.{row_of_run, row_wide}
 use Rattle.aig_laws.proofs.UnrolledWitnesses.{reaches_in_row}
 use Rattle.aig_sat.specs.checker.Consequence.{IsUnsatisfiable}
-use Rattle.aig_unroll.specs.Answers.{IsUnrolled}
 use Rattle.aig_unroll.specs.FrameLiteral.{input_count}
-use Rattle.aig_unroll.specs.Unrolled.{frames, unrolled}
+use Rattle.aig_unroll.specs.Unrolled.{unrolled}
 use Rattle.aig_unroll.specs.UnrolledValues.{IsAllowed, ReachesBad, free_values, unrolled_row}
 use Rattle.aig_refute.specs.Unreachable.{IsUnreachable, IsUnreachableWithin}
-use Rattle.aig_refute.proofs.LaterFrames.{all_known, cut_row, flat_known, free_known, known_value, later, latch_from, state_at}
+use Rattle.aig_refute.proofs.AnyState.{from_any_circuit}
+use Rattle.aig_refute.proofs.FirstReached.{reached_at, satisfies_both}
+use Rattle.aig_refute.proofs.LaterFrames.{cut_row, flat_known, free_known, known_value, later, latch_from, state_at}
 use Rattle.aig_refute.proofs.UnreachableLemmas.{settled, settled_completes, row_completes, unreachable_within}
-
--- ---- clauses
-
-satisfies_both : (a : ℕ → Bool) (xs ys : List (List ℕ)) → Satisfies a xs → Satisfies a ys → Satisfies a (xs ++ ys)
-satisfies_both a [] ys h k = k
-satisfies_both a (x ∷ xs) ys h k =
-    let (first, rest) = and_both (meets a x) (list_all (meets a) xs) h in both_and first (satisfies_both a xs ys rest k)
-
-quiet : (a : ℕ → Bool) (new : Raw) (n k p : ℕ)
-    → ((t : ℕ) → t < k → is_true a (slice_index new.bad (t * n + p)) ≡ false) → Satisfies a (quiet_frames new n k p)
-quiet a new n zero p each = refl
-quiet a new n (suc k) p each =
-    let l = slice_index new.bad (k * n + p) in
-    satisfies_both a (quiet_frames new n k p) ((negation l ∷ []) ∷ [])
-    (quiet a new n k p (λ t lt. each t (omega arith)))
-    (both_and (meets_one a (negation l ∷ []) 0 (negation l) refl (true_negation a l ∙ ap not (each k (omega arith)))) refl)
 
 -- ---- the last frames of a run without unknown values
 
-module _ (raw : Raw) (circuit : IsCircuit raw) (any : IsCircuit (from_any_state raw)) (order : List ℕ)
-    (canonical : IsCanonicalOrder (from_any_state raw) order) (k p b : ℕ) (at : slice_get raw.bad p ≡ Some b)
+module _ (raw : Raw) (circuit : IsCircuit raw) (order : List ℕ) (canonical : IsCanonicalOrder (from_any_state raw) order)
+    (k p b : ℕ) (at : slice_get raw.bad p ≡ Some b)
     (start : List Tern) (rows : List (List Tern)) (fits : Fits raw start rows)
     (known_start : (q : ℕ) (w : Tern) → slice_get start q ≡ Some w → w ≢ X)
     (known_rows : (t : ℕ) (row : List Tern) (q : ℕ) (w : Tern) → slice_get rows t ≡ Some row → slice_get row q ≡ Some w → w ≢ X)
@@ -69,8 +53,11 @@ module _ (raw : Raw) (circuit : IsCircuit raw) (any : IsCircuit (from_any_state 
   abbrev free : Raw
   free = from_any_state raw
 
-  within : p < length raw.bad
-  within = slice_get_within raw.bad p b at
+  any : IsCircuit free
+  any = from_any_circuit raw circuit
+
+  property : p < length raw.bad
+  property = slice_get_within raw.bad p b at
 
   -- ---- the run of the frames from d on
 
@@ -200,12 +187,12 @@ module _ (raw : Raw) (circuit : IsCircuit raw) (any : IsCircuit (from_any_state 
   makes : (t : ℕ) → t < k + 1 → Value (unrolled free order (k + 1)) [] (row ∷ []) 0 (literal_at t) One
       → MakesBad free order (k + 1) row t p
   unfolding literal_at
-  makes t below v = (literal_at t, bad_at free any order canonical (k + 1) t p below within, v)
+  makes t below v = (literal_at t, bad_at free any order canonical (k + 1) t p below property, v)
 
   value_there : (t : ℕ) → t < k → (w : Tern) × Value (unrolled free order (k + 1)) [] (row ∷ []) 0 (literal_at t) w
   unfolding literal_at
   value_there t below = valued free any order canonical (k + 1) row wide (literal_at t)
-      (bad_in_range free any order canonical (k + 1) t p (omega (arith, below)) within)
+      (bad_in_range free any order canonical (k + 1) t p (omega (arith, below)) property)
 
   not_one : (t : ℕ) → t < k → Value (unrolled free order (k + 1)) [] (row ∷ []) 0 (literal_at t) One → ⊥
   not_one t below v =
@@ -230,29 +217,25 @@ module _ (raw : Raw) (circuit : IsCircuit raw) (any : IsCircuit (from_any_state 
   loud a is =
       let (g, stands, v) = (in_row k (omega arith)).1 reaches_here in
       let same : g ≡ literal_at k =
-      (let e : Some g ≡ Some (literal_at k) = sym stands ∙ bad_at free any order canonical (k + 1) k p (omega arith) within in cc) in
+      (let e : Some g ≡ Some (literal_at k) = sym stands ∙ bad_at free any order canonical (k + 1) k p (omega arith) property in cc) in
       true_of_one (is_true a (literal_at k))
       (is (literal_at k) One (subst (λ (l : ℕ). Value (unrolled free order (k + 1)) [] (row ∷ []) 0 l One) same v))
 
-  pub step_satisfied : (values : ℕ → Bool) × Satisfies values (step_formula_of raw order k p)
+  pub step_satisfied : (values : ℕ → Bool) × Satisfies values (formula_of raw order (step k p)).clauses
   unfolding literal_at
   step_satisfied =
-      let (a, sat, row_is) = in_model free any order canonical (k + 1) row wide known_row k p (omega arith) within
+      let (a, sat, row_is) = in_model free any order canonical (k + 1) row wide known_row k p (omega arith) property
       ((in_row k (omega arith)).1 reaches_here) in
-      let (first, rest) = and_both (meets a (1 ∷ []))
-      (meets a (goals (unrolled free order (k + 1)) (length raw.bad) (k + 1) p) && list_all (meets a) (flat_map gate_clauses (unrolled free order (k + 1)).gates)) sat in
-      let (goal, gates) = and_both (meets a (goals (unrolled free order (k + 1)) (length raw.bad) (k + 1) p))
-      (list_all (meets a) (flat_map gate_clauses (unrolled free order (k + 1)).gates)) rest in
+      let (first, goal, gates) = formula_met free order (k + 1) p a sat in
       let is : Assigns a =
       (λ l w v. assigned (unrolled free order (k + 1)) row refl a (low_of a first)
       (λ i m u here cell. inputs_are free any order canonical (k + 1) a i m u here
       (subst (λ (r : List Tern). slice_get r i ≡ Some u) (sym row_is) cell))
       (gates_met a (unrolled free order (k + 1)).gates gates) v) in (
         a,
-        both_and first (satisfies_both a (quiet_frames (unrolled free order (k + 1)) (length raw.bad) k p)
-            ((literal_at k ∷ []) ∷ flat_map gate_clauses (unrolled free order (k + 1)).gates)
-            (quiet a (unrolled free order (k + 1)) (length raw.bad) k p (λ t below. silent a is t below))
-            (both_and (meets_one a (literal_at k ∷ []) 0 (literal_at k) refl (loud a is)) gates)),
+        both_and first (satisfies_both a (first_reached (goals (unrolled free order (k + 1)) (length raw.bad) (k + 1) p))
+            (flat_map gate_clauses (unrolled free order (k + 1)).gates)
+            (reached_at a literal_at k (silent a is) (loud a is)) gates),
       )
 
 -- ---- any run
@@ -322,9 +305,8 @@ module _ (raw : Raw) (circuit : IsCircuit raw) (start : List Tern) (rows : List 
 
 -- ---- induction on the frame
 
-module _ (raw : Raw) (circuit : IsCircuit raw) (any : IsCircuit (from_any_state raw)) (order : List ℕ)
-    (canonical : IsCanonicalOrder (from_any_state raw) order) (k p : ℕ) (base : IsUnreachableWithin raw k p)
-    (step : IsUnsatisfiable (step_formula_of raw order k p)) where
+module _ (raw : Raw) (circuit : IsCircuit raw) (order : List ℕ) (canonical : IsCanonicalOrder (from_any_state raw) order) (k p : ℕ)
+    (base : IsUnreachableWithin raw k p) (refuted : IsUnsatisfiable (formula_of raw order (step k p)).clauses) where
   early_or : (t : ℕ) → (t < k) ⊎ ((d : ℕ) × (t ≡ d + k))
   early_or t = cases (below_or t k)
     where
@@ -348,28 +330,24 @@ module _ (raw : Raw) (circuit : IsCircuit raw) (any : IsCircuit (from_any_state 
           let start' = map settled start in
           let rows' = map (map settled) rows in
           let long : length rows' ≡ length rows = length-map rows (map settled) in
-          let (values, satisfies) = step_satisfied raw circuit any order canonical k p b at start' rows'
+          let (values, satisfies) = step_satisfied raw circuit order canonical k p b at start' rows'
           (settled_fits raw circuit start rows fits) (known_settled start) (known_settled_rows rows) d
           (omega (arith, long, long_enough, is))
           (subst (λ (m : ℕ). ReachesBad raw start' rows' m b) is (settled_reaches raw circuit start rows fits t b reaches))
           (λ s below r. before start' rows' (d + s) b (omega (arith, below, lt, is)) (settled_fits raw circuit start rows fits)
           (settled_allowed raw circuit start rows fits allowed) (omega (arith, below, long, long_enough, is)) at r) in
-          step values satisfies
+          refuted values satisfies
 
   each_frame : (n : ℕ) → Below n
   each_frame zero = λ start rows t b lt fits allowed long_enough at reaches. absurd (omega (arith, lt))
   each_frame (suc n) = one_more n (each_frame n)
 
-  pub unreachable : IsUnreachable raw p
+  unreachable : IsUnreachable raw p
   unreachable start rows t b fits allowed long_enough at reaches =
       each_frame (suc t) start rows t b (omega arith) fits allowed long_enough at reaches
 
--- the same over a circuit that is known to start in any state
-pub by_induction : (raw any new last : Raw) → IsCircuit raw → IsCircuit any → any ≡ from_any_state raw → (k p : ℕ)
-    → IsUnrolled raw k new → IsUnrolled any (k + 1) last → IsUnsatisfiable (bad_formula new (length raw.bad) k p)
-    → IsUnsatisfiable (step_formula last (length raw.bad) k p) → IsUnreachable raw p
-by_induction raw any new last circuit any_circuit is k p unrolled_is (order, canonical, last_is) base step =
-    unreachable raw circuit (subst IsCircuit is any_circuit) order (subst (λ (r : Raw). IsCanonicalOrder r order) is canonical) k p
-    (unreachable_within raw new circuit k p unrolled_is base)
-    (subst (λ (r : Raw). IsUnsatisfiable (step_formula (unrolled r order (k + 1)) (length raw.bad) k p)) is
-    (subst (λ (r : Raw). IsUnsatisfiable (step_formula r (length raw.bad) k p)) last_is step))
+pub by_induction : (raw : Raw) (base later : Cnf) → IsCircuit raw → (k p : ℕ) → IsFormulaOf raw (within k p) base
+    → IsFormulaOf raw (step k p) later → IsUnsatisfiable base.clauses → IsUnsatisfiable later.clauses → IsUnreachable raw p
+by_induction raw base later circuit k p base_is (order, canonical, is) base_refuted later_refuted =
+    unreachable raw circuit order canonical k p (unreachable_within raw base circuit k p base_is base_refuted)
+    (subst (λ (f : Cnf). IsUnsatisfiable f.clauses) is later_refuted)

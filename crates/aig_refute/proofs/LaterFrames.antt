@@ -1,6 +1,6 @@
 -- The frames of a run from some frame on, as a run of the circuit that starts in any state.
-use Rattle.std.proofs.Common.{◌≡◌, ◌≢◌, ◌⊎◌, inl, inr, ℕ, zero, suc, ◌+◌, ◌-◌, ◌<◌, ◌≤◌, List, [], ◌∷◌, ◌++◌, length, map, take, drop, flat_map, All}
-use Rattle.std.proofs.Common.{Bool, true, false, Some, slice_get, if◌then◌else◌, refl, sym, ◌∙◌, ap, subst, arith}
+use Rattle.std.proofs.Common.{◌≡◌, ◌≢◌, ℕ, zero, suc, ◌+◌, List, [], ◌∷◌, length, map, take, drop, flat_map}
+use Rattle.std.proofs.Common.{Bool, true, false, Some, slice_get, if◌then◌else◌, refl, sym, ap, subst, arith}
 use Rattle.std.proofs.lemmas.List.Elements.{All-nil, All-cons, All-append}
 use Rattle.std.proofs.lemmas.List.Concat.{flat_map-cons}
 use Rattle.aig_parts.specs.declared.latch.Latch.{Latch}
@@ -10,7 +10,7 @@ use Rattle.aig_parts.specs.declared.ternary.Tern.TheVariants.{Zero, One, X}
 use Rattle.aig_parts.specs.Ternary.{kleene_and, kleene_not}
 use Rattle.aig_base.specs.Value as value
 use Rattle.aig_base.specs.Value.{Value}
-use Rattle.aig_cnf.specs.Step.{from_any_state, uninitialised_latch}
+use Rattle.aig_cnf.specs.Query.{from_any_state, uninitialised_latch}
 use Rattle.aig_laws.specs.Models.{AreKnown}
 use Rattle.aig_unroll.specs.FrameLiteral.{is_uninitialised}
 use Rattle.aig_unroll.specs.UnrolledValues.{free_values}

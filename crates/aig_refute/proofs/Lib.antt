@@ -1,5 +1,5 @@
-pub mod AddedLemmas
 pub mod AnyState
+pub mod FirstReached
 pub mod InductionLemmas
 pub mod LaterFrames
 pub mod UnreachableLemmas

@@ -1,8 +1,8 @@
 -- No run reaches a bad state within k frames, where no assignment satisfies its formula.
-use Rattle.std.proofs.Common.{◌≡◌, ◌≢◌, ℕ, zero, suc, ◌+◌, ◌-◌, ◌<◌, ◌≤◌, List, [], ◌∷◌, length, map, take, All, Some, slice_get, get_or}
-use Rattle.std.proofs.Common.{refl, sym, ◌∙◌, ap, subst, arith}
+use Rattle.std.proofs.Common.{◌≡◌, ◌≢◌, ℕ, suc, ◌+◌, ◌-◌, ◌<◌, List, [], ◌∷◌, length, map, take, Some, slice_get}
+use Rattle.std.proofs.Common.{refl, ◌∙◌, ap, subst, arith}
 use Rattle.std.specs.List.{AllZip}
-use Rattle.std.proofs.lemmas.List.{length-take-le, get_or-take, length-map}
+use Rattle.std.proofs.lemmas.List.{length-take-le, get_or-take}
 use Rattle.std.proofs.lemmas.List.Elements.{All-nil, All-cons}
 use Rattle.std.proofs.lemmas.Option.{slice_get_within}
 use Rattle.aig_parts.specs.declared.raw.Raw.{Raw}
@@ -13,7 +13,8 @@ use Rattle.aig_base.specs.Completion.{Completes}
 use Rattle.aig_base.specs.Order.{IsCanonicalOrder}
 use Rattle.aig_base.specs.Value.{Fits}
 use Rattle.aig_base.proofs.values.Refined.{kept}
-use Rattle.aig_cnf.specs.Formula.{formula_of, bad_formula}
+use Rattle.aig_cnf.specs.Formula.{Cnf, IsFormulaOf, formula_of}
+use Rattle.aig_cnf.specs.Query.{within}
 use Rattle.aig_laws.specs.Models.{AreKnown}
 use Rattle.aig_laws.specs.UnrolledWitness.{IsConfirmedWithin, MakesBad}
 use Rattle.aig_laws.proofs.BadFormula.{in_model}
@@ -21,8 +22,6 @@ use Rattle.aig_laws.proofs.Reached.{confirms_reached}
 use Rattle.aig_laws.proofs.UnrolledWitnesses.{in_row}
 use Rattle.aig_sat.specs.checker.Consequence.{IsUnsatisfiable}
 use Rattle.aig_sim.specs.Reached.{witness_at}
-use Rattle.aig_unroll.specs.Answers.{IsUnrolled}
-use Rattle.aig_unroll.specs.FrameLiteral.{input_count}
 use Rattle.aig_unroll.specs.Unrolled.{unrolled}
 use Rattle.aig_unroll.specs.UnrolledValues.{IsAllowed, ReachesBad}
 use Rattle.aig_refute.specs.Unreachable.{IsUnreachableWithin}
@@ -83,8 +82,8 @@ module _ (raw : Raw) (circuit : IsCircuit raw) (start : List Tern) (rows : List 
   last_is : length (take (t + 1) rows) - 1 ≡ t
   last_is = omega (arith, short)
 
-  refuted_by : (order : List ℕ) → IsCanonicalOrder raw order → (k : ℕ) → t < k → IsUnsatisfiable (formula_of raw order k p)
-      → ⊥
+  refuted_by : (order : List ℕ) → IsCanonicalOrder raw order → (k : ℕ) → t < k
+      → IsUnsatisfiable (formula_of raw order (within k p)).clauses → ⊥
   refuted_by order canonical k below unsatisfiable =
       let (row, wide, same, bad) = in_row raw circuit order canonical k (witness_at start rows t p) (confirmed_within k below) in
       let made : MakesBad raw order k row t p = subst (λ (n : ℕ). MakesBad raw order k row n p) last_is bad in
@@ -93,9 +92,9 @@ module _ (raw : Raw) (circuit : IsCircuit raw) (start : List Tern) (rows : List 
       (length_settled row ∙ wide) (row_known row) t p below (slice_get_within raw.bad p b at) known in
       unsatisfiable values satisfies
 
-pub unreachable_within : (raw new : Raw) → IsCircuit raw → (k p : ℕ) → IsUnrolled raw k new
-    → IsUnsatisfiable (bad_formula new (length raw.bad) k p) → IsUnreachableWithin raw k p
-unreachable_within raw new circuit k p (order, canonical, is) unsatisfiable =
+pub unreachable_within : (raw : Raw) (formula : Cnf) → IsCircuit raw → (k p : ℕ) → IsFormulaOf raw (within k p) formula
+    → IsUnsatisfiable formula.clauses → IsUnreachableWithin raw k p
+unreachable_within raw formula circuit k p (order, canonical, is) unsatisfiable =
     λ start rows t b fits allowed below lt at reaches.
     refuted_by raw circuit start rows fits allowed t p b lt at reaches order canonical k below
-    (subst (λ (x : Raw). IsUnsatisfiable (bad_formula x (length raw.bad) k p)) is unsatisfiable)
+    (subst (λ (f : Cnf). IsUnsatisfiable f.clauses) is unsatisfiable)

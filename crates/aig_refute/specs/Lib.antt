@@ -1,2 +1,1 @@
 pub mod Unreachable
-pub mod state

@@ -1,12 +1,9 @@
-//! Bad states that no run reaches: the formula of a bad state within some frames, and a solver's proof that no
-//! assignment satisfies it, checked step by step.
+//! The check of a solver's proof that no assignment satisfies a formula, step by step, and what that says of runs: bad
+//! states that none reaches.
 #![tactic(auto)]
 
-mod any_state;
-mod formula;
-mod induction;
+mod laws;
 mod proof;
 
-pub use any_state::start_in_any_state;
-pub use induction::law_of_induction;
-pub use proof::{check_formula, check_step_formula, check_unreachable};
+pub use laws::{law_of_induction, law_of_refutation};
+pub use proof::check;

@@ -1,16 +1,11 @@
 //! A proof of a formula's refutation, checked step by step.
-ghost use Rattle.std.specs.Prelude.{◌≡◌, ◌+◌, ◌*◌, ◌<◌, length, OnOk};
-ghost use Rattle.aig_cnf.specs.Formula.{bad_formula};
-ghost use Rattle.aig_cnf.specs.Step.{step_formula};
-ghost use Rattle.aig_sat.specs.proof.Reads.{reads_failed};
+ghost use Rattle.std.specs.Prelude.{◌≡◌, ◌+◌, OnOk};
 ghost use Rattle.aig_sat.specs.checker.Consequence.{Follows, IsUnsatisfiable};
-ghost use Rattle.aig_unroll.specs.Answers.{IsUnrolled};
-ghost use Rattle.aig_refute.specs.Unreachable.{IsUnreachableWithin};
+ghost use Rattle.aig_sat.specs.proof.Reads.{reads_failed};
 
-use crate::formula::{formula_of_bad, formula_of_step};
-use aig_base::{Circuit, Lit, Memory, Read};
-use aig_sat::{ProofFault, ProofReader, StepKind};
-use aig_sat::Refutation;
+use aig_base::{Lit, Memory, Read};
+use aig_cnf::Formula;
+use aig_sat::{ProofFault, ProofReader, Refutation, StepKind};
 use std::alloc::Global;
 
 // Does a step: the clause that it adds has to follow.
@@ -57,81 +52,19 @@ fn check_steps<R: Read>(
     Err(ProofFault::NoRefutation)
 }
 
-/// Checks a solver's proof that no assignment satisfies the formula of a bad state within so many frames, over the
-/// unrolled circuit, which has so many bad literals a frame.
-pub fn check_formula<R: Read>(
-    alloc: Global,
-    circuit: &Circuit,
-    bads: u32,
-    frames: u32,
-    property: u32,
-    proof: &mut R,
-) -> Result<(), ProofFault>
-    requires property { property < bads }
-    requires bad { length circuit.now.bad ≡ frames * bads }
-    ensures refuted { OnOk result (IsUnsatisfiable (bad_formula circuit.now bads frames property)) }
+/// Checks a solver's proof that no assignment satisfies a formula. Each clause that a step adds has to follow by unit
+/// propagation from the clauses so far, without those that were deleted. The check ends as soon as the empty clause
+/// follows, and reads no step after it; a formula that propagation alone refutes needs no steps. It rejects bytes that
+/// spell no step, the first step whose clause was not found to follow, and a proof that ends before the empty clause
+/// follows. What a refuted formula says of runs is `law_of_refutation` and `law_of_induction`.
+pub fn check<R: Read>(alloc: Global, formula: &Formula, proof: &mut R) -> Result<(), ProofFault>
+    ensures refuted { OnOk result (IsUnsatisfiable formula.now.clauses) }
     ensures count { R.failures proof.new ≡ R.failures proof.old + reads_failed result }
 {
-    let mut refutation = match formula_of_bad(alloc, circuit, bads, frames, property) {
+    let mut refutation = match formula.refutation(alloc) {
         Ok(refutation) => refutation,
         Err(Memory) => return Err(ProofFault::Memory),
     };
-    circuit.facts();
-    let mut steps = ProofReader::new(alloc, circuit.max_var() + 1);
+    let mut steps = ProofReader::new(alloc, formula.variables());
     check_steps(&mut refutation, &mut steps, proof)
-}
-
-/// Checks a solver's proof that no assignment satisfies the formula of an induction step of so many frames, over the
-/// circuit that starts in any state, unrolled for one frame more, which has so many bad literals a frame.
-pub fn check_step_formula<R: Read>(
-    alloc: Global,
-    circuit: &Circuit,
-    bads: u32,
-    frames: u32,
-    property: u32,
-    proof: &mut R,
-) -> Result<(), ProofFault>
-    requires property { property < bads }
-    requires bad { length circuit.now.bad ≡ (frames + 1) * bads }
-    ensures refuted { OnOk result (IsUnsatisfiable (step_formula circuit.now bads frames property)) }
-    ensures count { R.failures proof.new ≡ R.failures proof.old + reads_failed result }
-{
-    let mut refutation = match formula_of_step(alloc, circuit, bads, frames, property) {
-        Ok(refutation) => refutation,
-        Err(Memory) => return Err(ProofFault::Memory),
-    };
-    circuit.facts();
-    let mut steps = ProofReader::new(alloc, circuit.max_var() + 1);
-    check_steps(&mut refutation, &mut steps, proof)
-}
-
-// How many bad literals there are.
-fn bad_count(circuit: &Circuit) -> u32
-    ensures { result ≡ length circuit.now.bad }
-{
-    circuit.facts();
-    circuit.bad().len() as u32
-}
-
-/// Checks a solver's proof that no assignment satisfies the formula that the bad state property at this position is
-/// reached within this many frames. The circuit comes with the one that `unroll_for_formula` makes of it. Each clause
-/// that a step adds has to follow by unit propagation from those that stand; a clause that is deleted stands no more.
-/// The proof ends where the empty clause follows, and no step behind is read; a formula that propagation alone refutes
-/// needs none. It refuses bytes that spell no step, the first step whose clause was not found to follow, and a proof
-/// that ends before.
-pub fn check_unreachable<R: Read>(
-    alloc: Global,
-    circuit: &Circuit,
-    unrolled: &Circuit,
-    frames: u32,
-    property: u32,
-    proof: &mut R,
-) -> Result<(), ProofFault>
-    requires property { property < length circuit.now.bad }
-    requires unrolled { IsUnrolled circuit.now frames unrolled.now }
-    ensures unreachable { OnOk result (IsUnreachableWithin circuit.now frames property) }
-    ensures count { R.failures proof.new ≡ R.failures proof.old + reads_failed result }
-{
-    circuit.facts();
-    check_formula(alloc, unrolled, bad_count(circuit), frames, property, proof)
 }

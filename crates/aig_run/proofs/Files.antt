@@ -1,5 +1,5 @@
 -- From what a command means for a circuit to what it means for the circuit's file.
-use Rattle.std.proofs.Common.{◌≡◌, ◌≢◌, ℕ, ◌+◌, List, [], Result, Ok, Err, inl, refl, sym, ◌∙◌, ap, subst, arith}
+use Rattle.std.proofs.Common.{◌≡◌, ◌≢◌, ℕ, ◌+◌, List, [], Result, Ok, Err, refl, sym, ap, subst, arith}
 use Rattle.std.specs.Prelude.{Option, Some, false, IfErr}
 use Rattle.std.specs.Result.{IsErrAnd}
 use Rattle.aig_parts.specs.declared.fault.Fault.{Fault}
@@ -12,7 +12,7 @@ use Rattle.aig_run.specs.declared.run_fault.RunFault.{RunFault}
 use Rattle.aig_run.specs.declared.run_fault.RunFault.TheVariants as run_faults
 use Rattle.aig_run.specs.Command.{IsFileOf, RefusesCircuit, OfFile, OfReader, reads_failed}
 use Rattle.aig_run.specs.Command.{CommandEnds, Text, EndsReading}
-use Rattle.aig_run.proofs.Written.{got_none, gave_none, ends_map, reading_map}
+use Rattle.aig_run.proofs.Written.{got_none, reading_none, keeps_same, ends_map, reading_changed}
 
 -- nothing is meant for a circuit with a circuit's fault
 abbrev pub MeansNoFault : {T : Type 0} → (Raw → Result T RunFault → List ℕ → Type 0) → Raw → Type 0
@@ -21,40 +21,14 @@ MeansNoFault Means raw = (fault : Fault) (bytes : List ℕ) → Means raw (Err (
 module _ {T : Type 0} (Means : Raw → Result T RunFault → List ℕ → Type 0) (raw : Raw) (none : MeansNoFault Means raw) where
   pub of_file : (file : List ℕ) → IsFileOf file raw → (answer : Result T RunFault) (bytes : List ℕ) → Means raw answer bytes
       → OfFile file Means answer bytes
-  of_file file f (Ok value) bytes m = (raw, f, m)
   of_file file f (Err (run_faults.Circuit fault)) bytes m = absurd (none fault bytes m)
-  of_file file f (Err (run_faults.Stimulus fault)) bytes m = (raw, f, m)
-  of_file file f (Err (run_faults.Witness fault)) bytes m = (raw, f, m)
-  of_file file f (Err (run_faults.Bench fault)) bytes m = (raw, f, m)
-  of_file file f (Err (run_faults.Script fault)) bytes m = (raw, f, m)
-  of_file file f (Err run_faults.Output) bytes m = (raw, f, m)
-  of_file file f (Err run_faults.Memory) bytes m = (raw, f, m)
-  of_file file f (Err (run_faults.Unroll fault)) bytes m = (raw, f, m)
-  of_file file f (Err (run_faults.Cnf fault)) bytes m = (raw, f, m)
-  of_file file f (Err (run_faults.Select fault)) bytes m = (raw, f, m)
-  of_file file f (Err (run_faults.Reach fault)) bytes m = (raw, f, m)
-  of_file file f (Err (run_faults.Proof fault)) bytes m = (raw, f, m)
-  of_file file f (Err (run_faults.StepProof fault)) bytes m = (raw, f, m)
-  of_file file f (Err (run_faults.Model fault)) bytes m = (raw, f, m)
+  of_file file f answer bytes m = (raw, f, m)
 
   -- no read of the circuit failed
   no_read : (answer : Result T RunFault) (bytes : List ℕ) → Means raw answer bytes
       → (reads_failed answer ≡ 0) × (answer ≢ Err (run_faults.Circuit circuits.Io))
-  no_read (Ok value) bytes m = (refl, λ e. let no : ⊥ = cc in no)
   no_read (Err (run_faults.Circuit fault)) bytes m = absurd (none fault bytes m)
-  no_read (Err (run_faults.Stimulus fault)) bytes m = (refl, λ e. let no : ⊥ = cc in no)
-  no_read (Err (run_faults.Witness fault)) bytes m = (refl, λ e. let no : ⊥ = cc in no)
-  no_read (Err (run_faults.Bench fault)) bytes m = (refl, λ e. let no : ⊥ = cc in no)
-  no_read (Err (run_faults.Script fault)) bytes m = (refl, λ e. let no : ⊥ = cc in no)
-  no_read (Err run_faults.Output) bytes m = (refl, λ e. let no : ⊥ = cc in no)
-  no_read (Err run_faults.Memory) bytes m = (refl, λ e. let no : ⊥ = cc in no)
-  no_read (Err (run_faults.Unroll fault)) bytes m = (refl, λ e. let no : ⊥ = cc in no)
-  no_read (Err (run_faults.Cnf fault)) bytes m = (refl, λ e. let no : ⊥ = cc in no)
-  no_read (Err (run_faults.Select fault)) bytes m = (refl, λ e. let no : ⊥ = cc in no)
-  no_read (Err (run_faults.Reach fault)) bytes m = (refl, λ e. let no : ⊥ = cc in no)
-  no_read (Err (run_faults.Proof fault)) bytes m = (refl, λ e. let no : ⊥ = cc in no)
-  no_read (Err (run_faults.StepProof fault)) bytes m = (refl, λ e. let no : ⊥ = cc in no)
-  no_read (Err (run_faults.Model fault)) bytes m = (refl, λ e. let no : ⊥ = cc in no)
+  no_read answer bytes m = (refl, λ e. let no : ⊥ = cc in no)
 
   pub ends_of_file : {X : Type 0} (out : Flow X) (fault : RunFault) (file : List ℕ) → IsFileOf file raw → (r : Result T RunFault)
       → CommandEnds out fault (Means raw) r → CommandEnds out fault (OfFile file Means) r
@@ -71,17 +45,8 @@ Answers circuit r = (bytes : List ℕ) → circuit.bytes circuit.old ≡ Some by
 -- how many reads failed, by the fault of the circuit
 circuit_reads : (T : Type 0) (fault : Fault) (old new : ℕ) → FaultRaises fault old new
     → new ≡ old + reads_failed {T = T} (Err (run_faults.Circuit fault))
-circuit_reads T (circuits.Text at) old new e = omega (arith, e)
-circuit_reads T circuits.Limit old new e = omega (arith, e)
-circuit_reads T circuits.Counts old new e = omega (arith, e)
-circuit_reads T circuits.Range old new e = omega (arith, e)
-circuit_reads T circuits.Definition old new e = omega (arith, e)
-circuit_reads T (circuits.Redefined v) old new e = omega (arith, e)
-circuit_reads T (circuits.Undefined v) old new e = omega (arith, e)
-circuit_reads T (circuits.Reset v) old new e = omega (arith, e)
-circuit_reads T (circuits.Cycle v) old new e = omega (arith, e)
-circuit_reads T circuits.Memory old new e = omega (arith, e)
 circuit_reads T circuits.Io old new e = omega (arith, e)
+circuit_reads T fault old new e = omega (arith, e)
 
 module _ {Y T : Type 0} (circuit : Flow Y) (Means : Raw → Result T RunFault → List ℕ → Type 0) where
   -- the circuit was read
@@ -113,7 +78,8 @@ module _ {Y T : Type 0} (circuit : Flow Y) (Means : Raw → Result T RunFault �
 pub file_refused : {X T : Type 0} (written : X → Option (List ℕ)) (failures : X → ℕ) (old : X) (part : RunFault)
     (Means : Raw → Result T RunFault → List ℕ → Type 0) (file : List ℕ) (fault : Fault) → RefusesCircuit file fault
     → CommandEnds (flow written failures old old) part (OfFile file Means) (Err (run_faults.Circuit fault))
-file_refused written failures old part Means file fault h = inl ([], (h, refl), got_none written failures old)
+file_refused written failures old part Means file fault h =
+    CommandEnds.writes_all [] (h, refl) (got_none written failures old)
 
 -- the same of a file that a reader holds
 pub reader_refused : {Y X T : Type 0} (circuit : Flow Y) (written : X → Option (List ℕ)) (failures : X → ℕ) (old : X)
@@ -121,7 +87,7 @@ pub reader_refused : {Y X T : Type 0} (circuit : Flow Y) (written : X → Option
     → Raises {X = Raw} (Err fault) (circuit.failures circuit.old) (circuit.failures circuit.new)
     → CommandEnds (flow written failures old old) part (OfReader circuit Means) (Err (run_faults.Circuit fault))
 reader_refused circuit written failures old part Means fault answers count =
-    inl ([], refused_reader circuit Means fault answers count, got_none written failures old)
+    CommandEnds.writes_all [] (refused_reader circuit Means fault answers count) (got_none written failures old)
 
 pub ends_of_reader : {Y X T : Type 0} (circuit : Flow Y) (out : Flow X) (part : RunFault)
     (Means : Raw → Result T RunFault → List ℕ → Type 0) (raw : Raw) → MeansNoFault Means raw → Answers circuit (Ok raw)
@@ -139,17 +105,8 @@ pub reading_refused : {Z Y X T : Type 0} (circuit : Flow Z) (left : Y → Option
     → EndsReading (flow left reads reader reader) (flow written failures old old) part (λ text. OfReader circuit (Means text))
     (Err (run_faults.Circuit fault))
 reading_refused circuit left reads reader written failures old part Means fault ne answers count =
-    inl (
-      ne,
-      record {
-        text = record { bytes = []; is_whole = false };
-        bytes = [];
-        gave = gave_none left reads reader;
-        means = refused_reader circuit (Means (record { bytes = []; is_whole = false })) fault answers count;
-        whole = tt;
-        got = got_none written failures old;
-      },
-    )
+    reading_none left reads reader written failures old part (λ text. OfReader circuit (Means text)) (run_faults.Circuit fault) ne
+    (refused_reader circuit (Means (record { bytes = []; is_whole = false })) fault answers count)
 
 pub reading_of_reader : {Z Y X T : Type 0} (circuit : Flow Z) (reader : Flow Y) (out : Flow X) (part : RunFault)
     (Means : Text → Raw → Result T RunFault → List ℕ → Type 0) (raw : Raw) → ((text : Text) → MeansNoFault (Means text) raw)
@@ -158,7 +115,7 @@ pub reading_of_reader : {Z Y X T : Type 0} (circuit : Flow Z) (reader : Flow Y) 
     → (r : Result T RunFault) → EndsReading reader out part (λ text. Means text raw) r
     → EndsReading reader out part (λ text. OfReader circuit (Means text)) r
 reading_of_reader circuit reader out part Means raw none answers is_circuit count r e =
-    reading_map reader out (λ text. Means text raw) (λ text. OfReader circuit (Means text))
+    reading_changed reader out (λ text. Means text raw) (λ text. OfReader circuit (Means text)) (λ r. r) keeps_same
     (λ text. of_reader circuit (Means text) raw (none text) answers is_circuit count) part r e
 
 -- what holds of the error holds of the answer that is it

@@ -1,5 +1,5 @@
 -- A command from bytes to bytes: which bytes it writes for a circuit's file, and how it ends.
-use Rattle.std.specs.Prelude.{◌≡◌, ◌≢◌, ◌⊎◌, ℕ, ◌+◌, ◌<◌, ◌≤◌, List, Bool, IsTrue, Result, Err, [], Some, Ok, OnOk, length}
+use Rattle.std.specs.Prelude.{◌≡◌, ◌≢◌, ℕ, ◌+◌, ◌<◌, ◌≤◌, List, Bool, IsTrue, Result, Err, [], Some, Ok, OnOk, length}
 use Rattle.aig_parts.specs.declared.raw.Raw.{Raw}
 use Rattle.aig_parts.specs.declared.fault.Fault.{Fault}
 use Rattle.aig_parts.specs.declared.fault.Fault.TheVariants as circuits
@@ -62,12 +62,14 @@ pub record BreaksOff {X : Type 0} (out : Flow X) (bytes : List ℕ) : Type 0 whe
   pub got : out.bytes out.new ≡ after (out.bytes out.old) done
   pub count : out.failures out.old < out.failures out.new
 
--- `Means` says which bytes are written with which answer. They are written whole; or a write failed, the answer is
--- `fault`, and a beginning is written of the bytes of some answer.
-abbrev pub CommandEnds : {X T : Type 0} → Flow X → RunFault → (Result T RunFault → List ℕ → Type 0) → Result T RunFault → Type 0
-CommandEnds {T = T} out fault Means result =
-    ((bytes : List ℕ) × Means result bytes × Got out bytes)
-    ⊎ ((result ≡ Err fault) × ((answer : Result T RunFault) × (bytes : List ℕ) × Means answer bytes × BreaksOff out bytes))
+-- How a command ends, where `Means` says which bytes are written with which answer: it writes all of them; or a write
+-- fails, the answer is `fault`, and a prefix is written of the bytes of some answer.
+pub data CommandEnds {X T : Type 0} (out : Flow X) (fault : RunFault) (Means : Result T RunFault → List ℕ → Type 0)
+    : Result T RunFault → Type 0 where
+  writes_all : {answer : Result T RunFault} (bytes : List ℕ) → Means answer bytes → Got out bytes
+      → CommandEnds out fault Means answer
+  breaks_off : (answer : Result T RunFault) (bytes : List ℕ) → Means answer bytes → BreaksOff out bytes
+      → CommandEnds out fault Means (Err fault)
 
 -- bytes of a text from its beginning, and whether they are all of it
 pub record Text : Type 0 where
@@ -107,9 +109,11 @@ pub record WritesPart {Y X T : Type 0} (reader : Flow Y) (out : Flow X)
   pub breaks_off : BreaksOff out bytes
 
 -- How a command ends that reads a text meanwhile, where `Means` says which bytes are written for what was read, and with
--- which answer. They are written whole and no read failed; or the answer is `fault`, and a read or a write failed.
-abbrev pub EndsReading : {Y X T : Type 0} → Flow Y → Flow X → RunFault → (Text → Result T RunFault → List ℕ → Type 0)
-    → Result T RunFault → Type 0
-EndsReading reader out fault Means result =
-    ((result ≢ Err fault) × WritesAll reader out 0 Means result)
-    ⊎ ((result ≡ Err fault) × (WritesAll reader out 1 Means result ⊎ WritesPart reader out Means))
+-- which answer: no call fails, and it writes all of them; or the answer is `fault`, as a read fails and it writes all of
+-- them for what was read before, or as a write fails.
+pub data EndsReading {Y X T : Type 0} (reader : Flow Y) (out : Flow X) (fault : RunFault)
+    (Means : Text → Result T RunFault → List ℕ → Type 0) : Result T RunFault → Type 0 where
+  writes_all : {answer : Result T RunFault} → answer ≢ Err fault → WritesAll reader out 0 Means answer
+      → EndsReading reader out fault Means answer
+  stops_reading : WritesAll reader out 1 Means (Err fault) → EndsReading reader out fault Means (Err fault)
+  breaks_off : WritesPart reader out Means → EndsReading reader out fault Means (Err fault)

@@ -11,36 +11,27 @@ use Rattle.aig_base.specs.declared.select.SelectFault.TheVariants as selections
 use Rattle.aig_sat.specs.declared.model.fault.ModelFault.TheVariants as models
 use Rattle.aig_sat.specs.declared.proof.fault.ProofFault.TheVariants as proofs
 use Rattle.aig_run.specs.declared.run_fault.RunFault.{RunFault}
-use Rattle.aig_run.specs.declared.run_fault.RunFault.TheVariants.{Circuit, Stimulus, Witness, Bench, Script, Output, Memory, Unroll, Cnf, Select, Reach, Proof, StepProof, Model}
+use Rattle.aig_run.specs.declared.run_fault.RunFault.TheVariants.{Circuit, Stimulus, Witness, Bench, Script, Output, Memory}
+use Rattle.aig_run.specs.declared.run_fault.RunFault.TheVariants.{Unroll, Cnf, Select, Reach, Proof, StepProof, Model}
 
 -- 3 where memory ran out, or a read or a write failed; 1 for any other refusal
 abbrev pub status_of : RunFault → ℕ
 status_of (Circuit circuits.Memory) = 3
 status_of (Circuit circuits.Io) = 3
-status_of (Circuit _) = 1
 status_of (Stimulus stimuli.Memory) = 3
 status_of (Stimulus stimuli.Io) = 3
-status_of (Stimulus _) = 1
 status_of (Witness witnesses.Memory) = 3
-status_of (Witness _) = 1
 status_of (Bench benches.Memory) = 3
-status_of (Bench _) = 1
 status_of (Script _) = 3
 status_of Output = 3
 status_of Memory = 3
 status_of (Unroll unrollings.Memory) = 3
-status_of (Unroll _) = 1
 status_of (Cnf formulas.Memory) = 3
-status_of (Cnf _) = 1
 status_of (Select selections.Memory) = 3
-status_of (Select _) = 1
 status_of (Reach reaches.Memory) = 3
-status_of (Reach _) = 1
 status_of (Proof proofs.Memory) = 3
 status_of (Proof proofs.Io) = 3
-status_of (Proof _) = 1
 status_of (StepProof proofs.Memory) = 3
 status_of (StepProof proofs.Io) = 3
-status_of (StepProof _) = 1
 status_of (Model models.Memory) = 3
-status_of (Model _) = 1
+status_of _ = 1

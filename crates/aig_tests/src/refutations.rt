@@ -3,8 +3,7 @@
 use crate::binary_proofs::BINARY_PROOFS;
 use crate::text_proofs::TEXT_PROOFS;
 use aig_base::{Lit, MemReader};
-use aig_sat::{ProofReader, StepKind};
-use aig_sat::Refutation;
+use aig_sat::{ProofReader, Refutation, StepKind};
 use std::alloc::Global;
 
 /// A formula's number of variables; its clauses as text; of how many first ones a solver finds a satisfying assignment;

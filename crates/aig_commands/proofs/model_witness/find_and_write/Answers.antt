@@ -43,4 +43,4 @@ returns-in_err-run g c =
     (CommandEnds (flow g.W.Write.written g.W.Write.failures c.args.out.now c.args.out.now) run_faults.Output
     (WritesNamed c.args.frames c.args.property c.args.values.now c.args.circuit.now))
     c.from_residual.ensures.1
-    (inl ([], c.in_err-run.ensures.none, got_none g.W.Write.written g.W.Write.failures c.args.out.now))
+    (CommandEnds.writes_all [] (c.in_err-run.ensures.none) (got_none g.W.Write.written g.W.Write.failures c.args.out.now))

@@ -1,11 +1,11 @@
-use Rattle.std.proofs.Common.{[], inl, refl}
+use Rattle.std.proofs.Common.{[], refl}
 use Rattle.aig_bytes.specs.Flow.{flow}
 use Rattle.aig_run.proofs.Files.{answered}
-use Rattle.aig_run.proofs.Written.{got_none}
+use Rattle.aig_run.proofs.Written.{answer_ends, got_none}
 use Rattle.aig_run.specs.Command.{CommandEnds}
 use Rattle.aig_run.specs.declared.run_fault.RunFault.TheVariants as run_faults
 use Rattle.aig_commands.specs.Reduce.{Reduces, reduction_text, verdict_of}
-use Rattle.aig_commands.proofs.Reductions.{answer_ends, reduces}
+use Rattle.aig_commands.proofs.Reductions.{reduces}
 use Rattle.aig_commands.proofs.reduce.reduce_and_write.Goals as goal
 
 pub returns : goal.returns
@@ -23,4 +23,4 @@ returns-in_err-reduction g c =
     (CommandEnds (flow g.W.Write.written g.W.Write.failures c.args.out.now c.args.out.now) run_faults.Output
     (Reduces c.args.witness.now c.args.circuit))
     c.from_residual.ensures.1
-    (inl ([], (c.in_err-reduction.ensures.refused, refl), got_none g.W.Write.written g.W.Write.failures c.args.out.now))
+    (CommandEnds.writes_all [] (c.in_err-reduction.ensures.refused, refl) (got_none g.W.Write.written g.W.Write.failures c.args.out.now))

@@ -1,4 +1,4 @@
-use Rattle.std.proofs.Common.{[], inl, refl, subst}
+use Rattle.std.proofs.Common.{[], refl, subst}
 use Rattle.aig_parts.specs.declared.raw.Raw.{Raw}
 use Rattle.aig_base.specs.Selected.{selected}
 use Rattle.aig_bytes.specs.Flow.{flow}
@@ -30,4 +30,4 @@ returns-in_err-select g c =
     answered c.from_residual.result (run_faults.Select c.in_err-select.field-0.0)
     (CommandEnds (flow g.W.Write.written g.W.Write.failures c.args.out.now c.args.out.now) run_faults.Output means)
     c.from_residual.ensures.1
-    (inl ([], (c.in_err-select.ensures.fault, refl), got_none g.W.Write.written g.W.Write.failures c.args.out.now))
+    (CommandEnds.writes_all [] (c.in_err-select.ensures.fault, refl) (got_none g.W.Write.written g.W.Write.failures c.args.out.now))

@@ -14,3 +14,6 @@ returns-in-Ascii-clause-ends g c =
 
 pub returns-in-Ascii-clause-output : goal.returns-in-Ascii-clause-output
 returns-in-Ascii-clause-output g c = λ is. rw c.in-Ascii.is (tt, short_ascii c.args.circuit.now, refl)
+
+pub returns-in-Binary-clause-ends : goal.returns-in-Binary-clause-ends
+returns-in-Binary-clause-ends g c = rw c.in-Binary.is c.write_ready.ensures.ends

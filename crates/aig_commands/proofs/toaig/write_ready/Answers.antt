@@ -1,10 +1,11 @@
-use Rattle.std.proofs.Common.{refl, sym, ap, ◌∙◌, inl, inr}
+use Rattle.std.proofs.Common.{[], refl, sym, ap, ◌∙◌, inl, inr}
+use Rattle.aig_run.specs.Command.{CommandEnds}
 use Rattle.std.proofs.lemmas.Bool.{false≢true}
 use Rattle.aig_format.specs.declared.header.Format.TheVariants.{Binary}
 use Rattle.aig_format.specs.Spelling.{short_binary}
 use Rattle.aig_commands.specs.Toaig.{Converts}
 use Rattle.aig_commands.proofs.toaig.write_ready.Goals as goal
-use Rattle.aig_run.proofs.Written.{written_ends, output_alone}
+use Rattle.aig_run.proofs.Written.{got_none, written_ends, output_alone}
 
 pub returns-then-is_binary_ready-clause-ends : goal.returns-then-is_binary_ready-clause-ends
 returns-then-is_binary_ready-clause-ends g c =
@@ -37,3 +38,9 @@ returns-clause-output g c = λ is.
       short_binary c.in-Ok.renumbered,
       inr (λ ready. false≢true (sym c.if-is_binary_ready.false ∙ c.is_binary_ready.ensures.1 ready), (p.0, p.1, ap short_binary p.2)),
     )
+
+pub returns-in_default-clause-ends : goal.returns-in_default-clause-ends
+returns-in_default-clause-ends g c =
+    CommandEnds.writes_all []
+    ((λ ready. false≢true (sym c.if-is_binary_ready.false ∙ c.is_binary_ready.ensures.1 ready)), refl)
+    (got_none g.W.Write.written g.W.Write.failures c.args.out.now)

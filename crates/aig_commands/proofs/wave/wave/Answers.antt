@@ -2,7 +2,7 @@ use Rattle.aig_bytes.specs.Flow.{flow}
 use Rattle.aig_commands.specs.Wave.{WritesWave}
 use Rattle.aig_commands.proofs.Headers.{header_flushed}
 use Rattle.aig_commands.proofs.wave.wave.Goals as goal
-use Rattle.aig_run.proofs.Flushes.{flushed_reading, flushed_circuit, reading_unfailed}
+use Rattle.aig_run.proofs.Flushes.{flushed_reading, flushed_circuit, flush_writes_none, reading_unfailed}
 use Rattle.aig_run.specs.Command.{OfReader}
 use Rattle.aig_run.specs.declared.run_fault.RunFault.TheVariants as run_faults
 use Rattle.aig_sim.specs.declared.stimulus_fault.StimFault.TheVariants as stimuli
@@ -30,4 +30,5 @@ pub returns-clause-header : goal.returns-clause-header
 returns-clause-header g c = λ file raw is spelled.
     header_flushed (flow g.R.Read.left g.R.Read.failures c.args.stimulus.now c.read_and_run-done.new.stimulus)
     g.W.Write.written g.W.Write.failures c.args.out.now c.read_and_run-done.new.out c.flushed.new.out raw
-    c.flushed.ensures.answer.0 (c.read_and_run-done.ensures.header file raw is spelled)
+    (flush_writes_none (flow g.W.Write.written g.W.Write.failures c.read_and_run-done.new.out c.flushed.new.out) (run_faults.Stimulus stimuli.Io)
+    c.read_and_run-done.result c.flushed.result c.flushed.ensures.answer) (c.read_and_run-done.ensures.header file raw is spelled)

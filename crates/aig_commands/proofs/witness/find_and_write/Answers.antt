@@ -1,4 +1,4 @@
-use Rattle.std.proofs.Common.{◌+◌, List, [], inl, ◌∙◌, ap, length, subst, take}
+use Rattle.std.proofs.Common.{◌+◌, List, [], ◌∙◌, ap, length, subst, take}
 use Rattle.std.specs.Fmt.{decimal}
 use Rattle.aig_parts.specs.declared.ternary.Tern.{Tern}
 use Rattle.aig_bytes.specs.Flow.{flow}
@@ -37,4 +37,4 @@ returns-in_err-run g c =
     (CommandEnds (flow g.W.Write.written g.W.Write.failures c.args.out.now c.args.out.now) run_faults.Output
     (WritesWitness c.args.asked c.args.stimulus.now c.args.circuit.now))
     c.from_residual.ensures.1
-    (inl ([], c.in_err-run.ensures.refused, got_none g.W.Write.written g.W.Write.failures c.args.out.now))
+    (CommandEnds.writes_all [] c.in_err-run.ensures.refused (got_none g.W.Write.written g.W.Write.failures c.args.out.now))

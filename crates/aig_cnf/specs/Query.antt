@@ -1,0 +1,36 @@
+-- What is asked of bad literal p of a circuit, over k frames (our own choice).
+use Rattle.std.specs.Prelude.{ℕ, ◌+◌, map}
+use Rattle.aig_parts.specs.declared.latch.Latch.{Latch}
+use Rattle.aig_parts.specs.declared.raw.Raw.{Raw}
+use Rattle.aig_cnf.specs.declared.query.Goal.{Goal}
+use Rattle.aig_cnf.specs.declared.query.Goal.TheVariants as goals
+use Rattle.aig_cnf.specs.declared.query.Query.{Query}
+
+-- a run from a start that the resets allow reaches it within k frames
+abbrev pub within : ℕ → ℕ → Query
+within k p = record { goal = goals.Within; frames = k; property = p }
+
+-- a run from any state reaches it at frame k, and at none before: the step of an induction over frames
+abbrev pub step : ℕ → ℕ → Query
+step k p = record { goal = goals.Step; frames = k; property = p }
+
+-- how many frames the circuit is unrolled for
+abbrev pub depth_of : Goal → ℕ → ℕ
+depth_of goals.Within k = k
+depth_of goals.Step k = k + 1
+
+abbrev pub depth : Query → ℕ
+depth query = depth_of query.goal query.frames
+
+-- the latch starts at any value
+abbrev pub uninitialised_latch : Latch → Latch
+uninitialised_latch x = record x { reset = x.lit }
+
+-- the circuit in which each latch does
+abbrev pub from_any_state : Raw → Raw
+from_any_state raw = record raw { latches = map uninitialised_latch raw.latches }
+
+-- the circuit that is unrolled
+abbrev pub subject : Goal → Raw → Raw
+subject goals.Within raw = raw
+subject goals.Step raw = from_any_state raw

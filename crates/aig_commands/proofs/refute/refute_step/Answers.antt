@@ -1,0 +1,31 @@
+use Rattle.std.proofs.Common.{◌+◌, ap, ◌∙◌, sym}
+use Rattle.aig_bytes.specs.Flow.{flow}
+use Rattle.aig_cnf.specs.declared.query.Goal.TheVariants as goals
+use Rattle.aig_commands.specs.Refute.{ChecksStep, answer_line, proof_reads_failed, step_reads_failed}
+use Rattle.aig_commands.proofs.Refutations.{answer_is, answered_ends, checked_file, then_ok}
+use Rattle.aig_commands.proofs.refute.refute_step.Goals as goal
+
+pub returns-clause-unreachable : goal.returns-clause-unreachable
+returns-clause-unreachable g c =
+    then_ok c.write_answer.result (λ found. (found.0, found.1, found.2.1))
+    (checked_file (flow g.W.Write.written g.W.Write.failures c.args.out.now c.write_answer.new.out) (answer_line goals.Step c.args.frames)
+    c.args.file.now (ChecksStep c.args.frames c.args.property) c.read_and_check_step-checked.result c.write_answer.result c.read_and_check_step-checked.ensures.checks
+    c.write_answer.ensures.ends)
+
+pub returns-clause-ends : goal.returns-clause-ends
+returns-clause-ends g c =
+    answered_ends c.args.file.now (ChecksStep c.args.frames c.args.property) (λ raw fault h. h) (answer_line goals.Step c.args.frames)
+    (flow g.W.Write.written g.W.Write.failures c.args.out.now c.write_answer.new.out) c.read_and_check_step-checked.result
+    c.write_answer.result c.read_and_check_step-checked.ensures.checks c.write_answer.ensures.ends
+
+pub returns-clause-reads : goal.returns-clause-reads
+returns-clause-reads g c = λ other.
+    c.read_and_check_step-checked.ensures.reads ∙ ap (λ r. g.R.Read.failures c.args.proof.now + proof_reads_failed r)
+    (sym (answer_is (flow g.W.Write.written g.W.Write.failures c.args.out.now c.write_answer.new.out) (answer_line goals.Step c.args.frames)
+    c.read_and_check_step-checked.result c.write_answer.result c.write_answer.ensures.ends other))
+
+pub returns-clause-step : goal.returns-clause-step
+returns-clause-step g c = λ other.
+    c.read_and_check_step-checked.ensures.step ∙ ap (λ r. g.R.Read.failures c.args.step.now + step_reads_failed r)
+    (sym (answer_is (flow g.W.Write.written g.W.Write.failures c.args.out.now c.write_answer.new.out) (answer_line goals.Step c.args.frames)
+    c.read_and_check_step-checked.result c.write_answer.result c.write_answer.ensures.ends other))

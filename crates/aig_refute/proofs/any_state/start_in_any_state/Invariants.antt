@@ -1,6 +1,0 @@
-use Rattle.std.proofs.Common.{take}
-use Rattle.aig_refute.proofs.AnyState.{IsStarted}
-use Rattle.aig_refute.proofs.any_state.start_in_any_state.Given as goal
-
-abbrev pub invariant-loop-position : goal.invariant-loop-position
-invariant-loop-position l = IsStarted l.position l.fn.circuit l.circuit

@@ -1,2 +1,0 @@
--- What proofs alone need. No contract of an exported function reaches it.
-pub mod Added

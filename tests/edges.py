@@ -1,0 +1,156 @@
+#!/usr/bin/env python3
+"""Compares crates.txt with the sources, and the tables of crates in docs/ARCHITECTURE.md with crates.txt.
+
+- A crate lists the libraries that a file of its src/, specs/ or proofs/ names, and no others. Comments do not count.
+- The libraries of a crate are above it in crates.txt. A line with `#` begins a floor, and says what the crates of the
+  floor do not know. What it names in parentheses is tested: no crate of the floor stands on such a library, not by its
+  libraries either, and no file of its src/ names such a module of std.
+- ARCHITECTURE.md has a table for each floor, and a row for each crate. Its last column has the libraries of the
+  repository on which the crate stands, without those on which these stand.
+
+--write writes the tables anew: floors, crates and last columns from crates.txt. It keeps what the page says a crate
+holds. The script reads text and proves nothing."""
+
+import argparse
+import collections
+import difflib
+import re
+import sys
+
+from library.specs import ROOT
+
+LIST = ROOT / "crates.txt"
+PAGE = ROOT / "docs" / "ARCHITECTURE.md"
+TABLE = "| crate | holds | stands on |"
+NEXT = "Beside the crates:"
+
+# The title of a floor, what it does not know, and its crates, each with the libraries that crates.txt gives it.
+Floor = collections.namedtuple("Floor", "title unknown crates")
+
+
+def floors():
+    """Returns the floors of crates.txt, the lowest first. The lines before the first blank one are its head."""
+    found = []
+    _, _, text = LIST.read_text(encoding="utf-8").partition("\n\n")
+    for line in filter(None, text.split("\n")):
+        if line.startswith("#"):
+            title, _, unknown = line[1:].strip().partition(": ")
+            found.append(Floor(title.rstrip("."), unknown, {}))
+        else:
+            name, _, libraries = line.partition(":")
+            found[-1].crates[name] = libraries.split()
+    return found
+
+
+def named(name):
+    """Returns the words in the files of a crate that may name a library."""
+    words = set()
+    for part in ("src", "specs", "proofs"):
+        for path in (ROOT / "crates" / name / part).rglob("*"):
+            if path.suffix in (".rt", ".antt"):
+                text = path.read_text(encoding="utf-8")
+                words.update(re.findall(r"\bRattle\.(\w+)\.", re.sub(r"(?m)(^|\s)--\s.*$", "", text)))
+            if path.suffix == ".rt":
+                words.update(re.findall(r"\b(\w+)::", re.sub(r"//.*", "", text)))
+    return words
+
+
+def below(name, libraries):
+    """Returns all libraries on which a crate stands."""
+    found, waiting = set(), [*libraries.get(name, ())]
+    while waiting:
+        library = waiting.pop()
+        if library not in found:
+            found.add(library)
+            waiting += libraries.get(library, ())
+    return found
+
+
+def direct(name, libraries):
+    """Returns the libraries of the repository on which a crate stands, without those on which these stand."""
+    ours = [it for it in libraries[name] if it in libraries]
+    return [it for it in ours if not any(it in below(other, libraries) for other in ours)]
+
+
+def wrong_list(all_floors, libraries):
+    """Yields what crates.txt says wrong."""
+    folders = {it.name for it in (ROOT / "crates").iterdir() if any(it.glob("src/*.rt"))}
+    for name in sorted(folders ^ set(libraries)):
+        yield f"{name} is in crates/ and crates.txt, not in one alone"
+    places = {name: number for number, name in enumerate(libraries)}
+    for name in [it for it in libraries if it in folders]:
+        words, listed = named(name), libraries[name]
+        for library in listed:
+            if library not in words:
+                yield f"crates.txt: no file of {name} names {library}"
+            if places.get(library, -1) > places[name]:
+                yield f"crates.txt: {library} is not above {name}"
+        for library in libraries:
+            if library in words and library not in listed and library != name:
+                yield f"crates.txt: {name} does not list {library}, which a file of it names"
+    for floor in all_floors:
+        yield from wrong_floor(floor, libraries)
+
+
+def wrong_floor(floor, libraries):
+    """Yields what the crates of a floor know and should not."""
+    unknown = re.findall(r"`([\w:]+)`", " ".join(re.findall(r"\(.*?\)", floor.unknown)))
+    for name in floor.crates:
+        texts = [re.sub(r"//.*", "", it.read_text(encoding="utf-8"))
+                 for it in (ROOT / "crates" / name / "src").rglob("*.rt")]
+        for word in unknown:
+            if word in below(name, libraries) or "::" in word and any(re.search(rf"\b{word}\b", it) for it in texts):
+                yield f"crates.txt: {name} knows {word}, which its floor does not"
+
+
+def tables(all_floors, libraries, held):
+    """Returns the lines of the tables, where it is known what each crate holds."""
+    lines = []
+    for floor in all_floors:
+        unknown = f" {floor.unknown[:1].upper()}{floor.unknown[1:]}" if floor.unknown else ""
+        lines += [f"**{floor.title}.**{unknown}", "", TABLE, "|---|---|---|"]
+        for name in floor.crates:
+            libraries_shown = ", ".join(f"`{it}`" for it in direct(name, libraries))
+            lines.append(f"| `{name}` | {held.get(name, '')} | {libraries_shown} |".replace("|  |", "| |"))
+        lines.append("")
+    return lines
+
+
+def page_parts():
+    """Returns the lines of the page before its tables, in them, and after them."""
+    lines = PAGE.read_text(encoding="utf-8").split("\n")
+    first, end = lines.index(TABLE), lines.index(NEXT)
+    begin = next((at for at in range(first, 0, -1) if lines[at].startswith("**")), first)
+    return lines[:begin], lines[begin:end], lines[end:]
+
+
+def main():
+    reader = argparse.ArgumentParser(description=__doc__, formatter_class=argparse.RawDescriptionHelpFormatter)
+    reader.add_argument("--write", action="store_true", help="write the tables of docs/ARCHITECTURE.md")
+    chosen = reader.parse_args()
+    all_floors = floors()
+    libraries = {name: of for floor in all_floors for name, of in floor.crates.items()}
+    before, old, after = page_parts()
+    rows = [re.match(r"\| `(\w+)` \| (.*?) \|", line) for line in old]
+    held = {row[1]: row[2] for row in rows if row}
+    new = tables(all_floors, libraries, held)
+    if chosen.write:
+        PAGE.write_text("\n".join([*before, *new, *after]), encoding="utf-8")
+        old = new
+    wrong = [*wrong_list(all_floors, libraries)]
+    wrong += [f"docs/ARCHITECTURE.md does not say what {name} holds" for name in libraries if not held.get(name)]
+    for line in wrong:
+        print(line)
+    for line in difflib.unified_diff(old, new, "docs/ARCHITECTURE.md", "crates.txt", lineterm="", n=0):
+        print(line)
+    if old != new:
+        print("docs/ARCHITECTURE.md (-) differs from crates.txt (+): tests/edges.py --write writes the tables anew")
+    if wrong or old != new:
+        return 1
+    count = sum(len(direct(name, libraries)) for name in libraries)
+    print(f"{len(libraries)} crates on {len(all_floors)} floors, {count} edges: crates.txt is as the sources are")
+    return 0
+
+
+if __name__ == "__main__":
+    sys.exit(main())

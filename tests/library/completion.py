@@ -1,0 +1,86 @@
+"""The completions for bash and zsh: the files completions/*.in, filled with what the program's help says."""
+
+import re
+
+from library.helptext import commands, long_options, section
+from library.runs import REPOSITORY, contents
+
+
+def shells(ask):
+    """The texts of the completions by their names."""
+    overview, each = commands(ask)
+    return {"aig.bash": filled("aig.bash", bash_tables(overview, each)),
+            "_aig": filled("_aig", zsh_tables(overview, each, section(ask("--help"), "Commands")))}
+
+
+def filled(name, tables):
+    """The text of a file that ends with .in, with each `@table@` filled in."""
+    text = contents(f"{REPOSITORY}/completions/{name}.in").decode()
+    return re.sub(r"@(\w+)@", lambda at: tables[at[1]], text)
+
+
+def value_of(option, said):
+    """What the value of an option is: the words that it may be, `number`, `file`, or nothing where it has none. The
+    help lists words after a colon, and the name of a number has one letter."""
+    name = re.search(r"<(\w+)>", option)
+    words = re.match(r"[^:(]*: (.* or .*)", said)
+    if not name:
+        return None
+    if words:
+        return re.sub(r" \(.*?\)", "", words[1]).replace(" or ", " ")
+    return "number" if len(name[1]) == 1 else "file"
+
+
+def long_name(option):
+    return re.search(r"--[a-z-]+", option)[0]
+
+
+def bash_tables(overview, each):
+    lines = [f'[{name}]="{" ".join(long_options(one))}"' for name, one in each.items()]
+    values = [f'["{name} {long_name(option)}"]="{value_of(option, said)}"'
+              for name, one in each.items() for option, said in one.options.items() if value_of(option, said)]
+    return {"commands": " ".join([*each, "help"]), "general": " ".join(long_options(overview)),
+            "options": indented(lines, 8), "values": indented(values, 8)}
+
+
+def zsh_tables(overview, each, about):
+    cases = []
+    for name, one in each.items():
+        specs = [zsh_option(*it) for it in one.options.items()] + [zsh_file(it) for it in one.arguments]
+        cases.append(f"        {name})\n            _arguments \\\n{indented(specs, 16, ' ' + chr(92))}\n            ;;")
+    return {"commands": indented([quoted(f"{name}:{short(said)}") for name, said in about.items()], 8),
+            "general": indented([zsh_option(*it) for it in overview.options.items()], 12, " \\"),
+            "cases": "\n".join(cases)}
+
+
+def zsh_option(option, said):
+    """What zsh's `_arguments` takes for an option. One that may be given again has a star."""
+    star = "*" if "once for each" in said else ""
+    value = value_of(option, said)
+    if value is None:
+        return quoted(f"{star}{long_name(option)}[{short(said)}]")
+    action = {"file": "_files", "number": ""}.get(value, f"({value})")
+    name = re.search(r"<(\w+)>", option)[1]
+    return quoted(f"{star}{long_name(option)}=[{short(said)}]:{name}:{action}")
+
+
+def zsh_file(argument):
+    """What zsh's `_arguments` takes for a file. One that may be left out has a second colon."""
+    name = argument.strip("[]")
+    colon = "::" if argument.startswith("[") else ":"
+    return f'"{colon}{name}:$circuits"' if name == "CIRCUIT" else quoted(f"{colon}{name}:_files")
+
+
+def short(said):
+    """What the help says of an option or a command, up to the first colon, semicolon or parenthesis."""
+    text = re.split(r": |; | \(", said)[0]
+    return text if text[:2].isupper() else text[:1].lower() + text[1:]
+
+
+def quoted(text):
+    """A text in single quotes, as both shells read it."""
+    return "'" + text.replace("'", "'\\''") + "'"
+
+
+def indented(lines, blanks, between=""):
+    return f"{between}\n".join(" " * blanks + line for line in lines)
