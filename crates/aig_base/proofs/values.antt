@@ -1,3 +1,4 @@
+pub mod AllowedStarts
 pub mod NegatedValues
 pub mod OneValue
 pub mod Premises

@@ -29,11 +29,7 @@ FaultApplies raw (fault.Redefined v) = IsLeast (IsRedefined raw) v
 FaultApplies raw (fault.Undefined v) = IsLeast (IsUndefined raw) v
 FaultApplies raw (fault.Reset v) = IsLeast (HasBadReset raw) v
 FaultApplies raw (fault.Cycle v) = IsLeast (IsUngrounded raw) v
-FaultApplies raw (fault.Text at) = ⊥
-FaultApplies raw fault.Limit = ⊥
-FaultApplies raw fault.Counts = ⊥
-FaultApplies raw fault.Memory = ⊥
-FaultApplies raw fault.Io = ⊥
+FaultApplies raw other = ⊥
 
 -- the numbers of the faults, in the order in which they are tried
 abbrev pub number_of : Fault → ℕ

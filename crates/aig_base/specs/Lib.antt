@@ -13,6 +13,7 @@ pub mod Renumbered
 pub mod RenumberedValues
 pub mod RenumberingTable
 pub mod Role
+pub mod Runs
 pub mod Sections
 pub mod Selected
 pub mod Sound

@@ -1,5 +1,5 @@
 -- A witness has the same verdict for a circuit and its renumbered form.
-use Rattle.std.proofs.Common.{◌≡◌, ◌≢◌, ◌⊎◌, ◌↔◌, inl, inr, ℕ, ◌-◌, ◌<◌, List, [], ◌∷◌, length, map, Option}
+use Rattle.std.proofs.Common.{◌≡◌, ◌≢◌, ◌⊎◌, ◌↔◌, inl, inr, ℕ, ◌-◌, ◌<◌, ◌≤◌, List, [], ◌∷◌, length, map, Option}
 use Rattle.std.proofs.Common.{Some, None, slice_get, option_map, refl, sym, ◌∙◌, ap, subst, arith}
 use Rattle.std.proofs.lemmas.Option.{slice_get-map}
 use Rattle.aig_parts.specs.declared.latch.Latch.{Latch}
@@ -9,21 +9,21 @@ use Rattle.aig_parts.specs.Literal.{variable}
 use Rattle.aig_base.specs.Circuit.{IsCircuit}
 use Rattle.aig_base.specs.Order.{IsCanonicalOrder}
 use Rattle.aig_base.specs.Renumbered.{renumbered, renumbered_latch, renumbered_literal}
+use Rattle.aig_base.specs.Runs.{Allows}
 use Rattle.aig_base.specs.Sections.{IsDefined}
 use Rattle.aig_base.specs.Sound.{IsReset}
-use Rattle.aig_base.specs.Value.{Value, Fits}
-use Rattle.aig_base.proofs.circuits.Places.{latch, IsDefinition-of_place}
+use Rattle.aig_base.specs.Value.{Value, Fits, reset_value}
 use Rattle.aig_base.proofs.lists.Gets.{All-at}
 use Rattle.aig_base.proofs.renumbered.RenumberedReady.{latch_literal}
 use Rattle.aig_base.proofs.renumbered.RenumberedValueLemmas.{false_literal, true_literal}
+use Rattle.aig_base.proofs.values.AllowedStarts.{over_one}
 use Rattle.aig_sim.specs.declared.verdict.Verdict.{Verdict}
 use Rattle.aig_sim.specs.declared.verdict.Verdict.TheVariants as verdict
-use Rattle.aig_sim.specs.Verdict.{Allows, StartsWrong, IsNotOne, VerdictApplies}
+use Rattle.aig_sim.specs.Verdict.{StartsWrong, IsNotOne, VerdictApplies}
 use Rattle.aig_sim.specs.WitnessText.{Witness}
 use Rattle.aig_sim.proofs.VerdictLemmas.{bad_defined, constraint_defined}
 use Rattle.aig_laws.specs.Conversion.{HaveSameVerdicts}
 use Rattle.aig_laws.proofs.ConvertedTraces.{same_value}
-use Rattle.aig_laws.proofs.Reached.{allows_any}
 
 -- what an element of a mapped list comes from
 mapped : {A B : Type 0} (f : A → B) (o : Option A) (y : B) → option_map f o ≡ Some y
@@ -32,33 +32,34 @@ mapped f None y h = cc
 mapped f (Some x) y h = (x, refl, cc)
 
 module _ (raw : Raw) (circuit : IsCircuit raw) (order : List ℕ) (canonical : IsCanonicalOrder raw order) where
-  -- a reset allows what it allows in the renumbered circuit
+  -- a latch may start at what it may start at in the renumbered circuit
   same_allowed : (p : ℕ) (x : Latch) (w : Tern) → slice_get raw.latches p ≡ Some x
-      → Allows x.reset w ↔ Allows (renumbered_literal raw order x.reset) w
+      → Allows x w ↔ Allows (renumbered_latch raw order x) w
   same_allowed p x w at = of_reset (All-at IsReset raw.latches p x circuit.sound.resets at)
     where
-      same : (m n : ℕ) → m ≡ n → Allows m w ↔ Allows n w
-      same m n e = (λ h. subst (λ (k : ℕ). Allows k w) e h, λ h. subst (λ (k : ℕ). Allows k w) (sym e) h)
-
-      over : 1 < x.lit
-      over =
-          let d = IsDefinition-of_place raw circuit.sound (latch p) x.lit tt (x, at, refl) in
-          omega (arith, d.0, d.1)
-
       new_over : 1 < renumbered_literal raw order x.lit
       new_over = omega (arith, latch_literal raw circuit.sound order canonical p x at)
 
-      of_reset : (x.reset ≡ 0) ⊎ ((x.reset ≡ 1) ⊎ (x.reset ≡ x.lit))
-          → Allows x.reset w ↔ Allows (renumbered_literal raw order x.reset) w
-      of_reset (inl e) = same x.reset (renumbered_literal raw order x.reset)
-          (e ∙ sym (ap (renumbered_literal raw order) e ∙ false_literal raw circuit.sound order canonical))
-      of_reset (inr (inl e)) = same x.reset (renumbered_literal raw order x.reset)
-          (e ∙ sym (ap (renumbered_literal raw order) e ∙ true_literal raw circuit.sound order canonical))
-      of_reset (inr (inr e)) = (
-        λ _. subst (λ (n : ℕ). Allows n w) (sym (ap (renumbered_literal raw order) e))
-            (allows_any (renumbered_literal raw order x.lit) w new_over),
-        λ _. subst (λ (n : ℕ). Allows n w) (sym e) (allows_any x.lit w over),
+      constant : x.reset ≤ 1 → renumbered_literal raw order x.reset ≡ x.reset
+          → Allows x w ↔ Allows (renumbered_latch raw order x) w
+      constant le is = (
+        λ allowed. elim allowed [
+          | inl own ↦ absurd (omega (arith, own, le, over_one raw circuit.sound p x at))
+          | inr same ↦ inr (same ∙ ap reset_value (sym is))
+        ],
+        λ allowed. elim allowed [
+          | inl own ↦ absurd (omega (arith, own, is, le, new_over))
+          | inr same ↦ inr (same ∙ ap reset_value is)
+        ],
       )
+
+      of_reset : (x.reset ≡ 0) ⊎ ((x.reset ≡ 1) ⊎ (x.reset ≡ x.lit))
+          → Allows x w ↔ Allows (renumbered_latch raw order x) w
+      of_reset (inl e) = constant (omega (arith, e))
+          (ap (renumbered_literal raw order) e ∙ false_literal raw circuit.sound order canonical ∙ sym e)
+      of_reset (inr (inl e)) = constant (omega (arith, e))
+          (ap (renumbered_literal raw order) e ∙ true_literal raw circuit.sound order canonical ∙ sym e)
+      of_reset (inr (inr own)) = (λ _. inl (ap (renumbered_literal raw order) own), λ _. inl own)
 
   wrong_same : (start : List Tern) (p : ℕ) → StartsWrong raw start p ↔ StartsWrong (renumbered raw order) start p
   wrong_same start p = (
@@ -78,7 +79,7 @@ module _ (raw : Raw) (circuit : IsCircuit raw) (order : List ℕ) (canonical : I
           value = h.value;
           latch_is = at;
           value_is = h.value_is;
-          wrong = λ k. h.wrong (subst (λ (y : Latch). Allows y.reset h.value) is
+          wrong = λ k. h.wrong (subst (λ (y : Latch). Allows y h.value) is
               ((same_allowed p x h.value at).0 k));
         },
   )

@@ -1,5 +1,5 @@
 -- What the laws' premises are for: without them the laws are false of these parts.
-use Rattle.std.proofs.Common.{◌≡◌, ℕ, zero, suc, List, [], ◌∷◌, Some, None, slice_get, refl, arith}
+use Rattle.std.proofs.Common.{◌≡◌, inl, inr, ℕ, zero, suc, List, [], ◌∷◌, Some, None, slice_get, refl, arith}
 use Rattle.aig_parts.specs.declared.gate.Gate.{Gate}
 use Rattle.aig_parts.specs.declared.latch.Latch.{Latch}
 use Rattle.aig_parts.specs.declared.raw.Raw.{Raw}
@@ -45,12 +45,12 @@ start_is_allowed confirms =
       λ s c le has.
           absurd (omega (arith, has.1)),
     ) in
-    v.first (verdict.Initial 0) tt (record {
+    v.first (verdict.Initial 0) (omega arith) (record {
       latch = record { lit = 2; next = 2; reset = 0 };
       value = One;
       latch_is = refl;
       value_is = refl;
-      wrong = λ e. let no : ⊥ = cc in no;
+      wrong = λ allowed. elim allowed [ inl own ↦ (let no : ⊥ = cc in no) | inr same ↦ (let no : ⊥ = cc in no) ];
     })
 
 -- a row with a value more than there are inputs
@@ -85,7 +85,7 @@ confirmed_alone = record { applies = tt; first = before }
     before verdict.NotBad lt h =
         let e : Some 2 ≡ Some h.literal = h.literal_is in
         no_value an_input refl refl h.value_is (cc)
-    before verdict.Confirmed lt h = lt
+    before verdict.Confirmed lt h = omega (arith, lt)
 
 pub row_has_all : ConfirmsRow an_input [] 1 [] → ⊥
 unfolding frame_literal
@@ -135,8 +135,8 @@ not_bad = record {
     before : (u : Verdict) → IsBefore u verdict.NotBad → VerdictApplies a_gate shown u → ⊥
     before (verdict.Initial p) lt h = let e : None ≡ Some h.latch = h.latch_is in cc
     before (verdict.Constraint t p) lt h = let e : None ≡ Some h.1.literal = h.1.literal_is in cc
-    before verdict.NotBad lt h = lt
-    before verdict.Confirmed lt h = lt
+    before verdict.NotBad lt h = omega (arith, lt)
+    before verdict.Confirmed lt h = omega (arith, lt)
 
 pub order_is_canonical : HaveSameVerdicts a_gate (renumbered a_gate []) shown → ⊥
 unfolding renumbered_literal renumbered_variable

@@ -1,5 +1,5 @@
 -- A run reaches a property exactly where its frames so far are a confirmed witness.
-use Rattle.std.proofs.Common.{◌≡◌, ◌≢◌, ◌⊎◌, inl, inr, ℕ, zero, suc, ◌+◌, ◌-◌, ◌<◌, List, length, take, drop, Some}
+use Rattle.std.proofs.Common.{◌≡◌, ◌≢◌, ◌⊎◌, inl, inr, ℕ, ◌+◌, ◌-◌, ◌<◌, List, length, take, drop, Some}
 use Rattle.std.proofs.Common.{slice_get, refl, sym, ◌∙◌, ap, subst, arith}
 use Rattle.std.proofs.lemmas.List.{length-take-le, take-append-drop, get_or-take}
 use Rattle.aig_parts.specs.declared.raw.Raw.{Raw}
@@ -7,78 +7,40 @@ use Rattle.aig_parts.specs.declared.ternary.Tern.{Tern}
 use Rattle.aig_parts.specs.declared.ternary.Tern.TheVariants.{Zero, One, X}
 use Rattle.aig_parts.specs.Literal.{variable}
 use Rattle.aig_base.specs.Circuit.{IsCircuit}
+use Rattle.aig_base.specs.Runs.{IsAllowed, ReachesBad}
 use Rattle.aig_base.specs.Sections.{IsDefined}
-use Rattle.aig_base.specs.Sound.{IsReset}
-use Rattle.aig_base.specs.Value.{Value, Fits, reset_value}
-use Rattle.aig_base.proofs.circuits.Places.{latch, IsDefinition-of_place}
-use Rattle.aig_base.proofs.lists.Gets.{All-at}
+use Rattle.aig_base.specs.Value.{Value, Fits}
 use Rattle.aig_base.proofs.lists.Positions.{Contains-from_slice_get, position_of}
+use Rattle.aig_base.proofs.values.AllowedStarts.{allowed_or_not}
 use Rattle.aig_base.proofs.values.OneValue.{exists_value}
 use Rattle.aig_base.proofs.values.UniqueValue.{unique}
 use Rattle.aig_sim.specs.declared.verdict.Verdict.TheVariants as verdict
-use Rattle.aig_sim.specs.Verdict.{Allows, StartsWrong, IsNotOne, IsVerdict}
+use Rattle.aig_sim.specs.Verdict.{StartsWrong, IsNotOne, IsVerdict}
 use Rattle.aig_sim.specs.WitnessText.{Witness}
 use Rattle.aig_sim.proofs.VerdictLemmas.{bad_defined, constraint_defined, reached}
-use Rattle.aig_unroll.specs.UnrolledValues.{IsAllowed, ReachesBad}
 use Rattle.aig_values.proofs.TraceLemmas.{value_stays}
 use Rattle.aig_sim.specs.Reached.{witness_at}
 use Rattle.aig_laws.specs.UnrolledWitness.{ConfirmsReached}
-
--- ---- values that a reset allows
-
--- a reset other than 0 and 1 allows any value
-pub allows_any : (n : ℕ) (w : Tern) → 1 < n → Allows n w
-allows_any zero w lt = absurd (omega arith)
-allows_any (suc zero) w lt = absurd (omega arith)
-allows_any (suc (suc n)) w lt = tt
-
-allows_its_own : (n : ℕ) → Allows n (reset_value n)
-allows_its_own zero = refl
-allows_its_own (suc zero) = refl
-allows_its_own (suc (suc n)) = tt
-
-allowed_or_not : (n : ℕ) (w : Tern) → Allows n w ⊎ (Allows n w → ⊥)
-allowed_or_not zero Zero = inl refl
-allowed_or_not zero One = inr (λ e. let no : ⊥ = cc in no)
-allowed_or_not zero X = inr (λ e. let no : ⊥ = cc in no)
-allowed_or_not (suc zero) Zero = inr (λ e. let no : ⊥ = cc in no)
-allowed_or_not (suc zero) One = inl refl
-allowed_or_not (suc zero) X = inr (λ e. let no : ⊥ = cc in no)
-allowed_or_not (suc (suc n)) w = inl tt
 
 one_or_not : (w : Tern) → (w ≡ One) ⊎ (w ≢ One)
 one_or_not Zero = inr (λ e. let no : ⊥ = cc in no)
 one_or_not One = inl refl
 one_or_not X = inr (λ e. let no : ⊥ = cc in no)
 
-module _ (raw : Raw) (circuit : IsCircuit raw) where
+module _ (raw : Raw) (start : List Tern) where
   -- a start that the resets allow starts no latch wrong
-  pub none_wrong : (start : List Tern) → IsAllowed raw start → (p : ℕ) → StartsWrong raw start p → ⊥
-  none_wrong start allowed p h =
-      h.wrong (elim (allowed p h.latch h.value h.latch_is h.value_is) [
-        | inl own ↦ rw own (allows_any h.latch.lit h.value over)
-        | inr same ↦ rw same (allows_its_own h.latch.reset)
-      ])
-    where
-      over : 1 < h.latch.lit
-      over =
-          let d = IsDefinition-of_place raw circuit.sound (latch p) h.latch.lit tt (h.latch, h.latch_is, refl) in
-          omega (arith, d.0, d.1)
+  none_wrong : IsAllowed raw start → (p : ℕ) → StartsWrong raw start p → ⊥
+  none_wrong allowed p h = h.wrong (allowed p h.latch h.value h.latch_is h.value_is)
 
   -- a start that starts no latch wrong is allowed
-  pub allowed_where_none : (start : List Tern) → ((p : ℕ) → StartsWrong raw start p → ⊥) → IsAllowed raw start
-  allowed_where_none start right p x w at here = elim (allowed_or_not x.reset w) [
+  pub allowed_where_none : ((p : ℕ) → StartsWrong raw start p → ⊥) → IsAllowed raw start
+  allowed_where_none right p x w at here = elim (allowed_or_not x w) [
+    | inl allows ↦ allows
     | inr wrong' ↦
         absurd (right p (record { latch = x; value = w; latch_is = at; value_is = here; wrong = wrong' }))
-    | inl allows ↦ of_reset (All-at IsReset raw.latches p x circuit.sound.resets at) allows
   ]
-    where
-      of_reset : (x.reset ≡ 0) ⊎ ((x.reset ≡ 1) ⊎ (x.reset ≡ x.lit)) → Allows x.reset w
-          → (x.reset ≡ x.lit) ⊎ (w ≡ reset_value x.reset)
-      of_reset (inl e) allows = let k : Allows 0 w = rw e at allows in inr (k ∙ sym (ap reset_value e))
-      of_reset (inr (inl e)) allows = let k : Allows 1 w = rw e at allows in inr (k ∙ sym (ap reset_value e))
-      of_reset (inr (inr e)) allows = inl e
 
+module _ (raw : Raw) (circuit : IsCircuit raw) where
   -- ---- literals that are 1
 
   module _ (w : Witness) (fits : Fits raw w.start w.rows) where
@@ -124,7 +86,7 @@ module _ (raw : Raw) (circuit : IsCircuit raw) where
     pub confirms : (p b : ℕ) → slice_get raw.bad p ≡ Some b → ReachesBad raw start rows t b
         → IsVerdict raw (witness_at start rows t p) verdict.Confirmed
     confirms p b at (bad, constraints) =
-        reached raw (witness_at start rows t p) (none_wrong start allowed)
+        reached raw (witness_at start rows t p) (none_wrong raw start allowed)
         (λ s q below k. not_other p s q raw.constraints
         (λ l here. constraints s l (omega (arith, short, below)) (Contains-from_slice_get raw.constraints q l here)) k)
         (λ k. not_other p (length (take (t + 1) rows) - 1) p raw.bad
@@ -141,13 +103,13 @@ module _ (raw : Raw) (circuit : IsCircuit raw) where
         let last : length (take (t + 1) rows) - 1 ≡ t = omega (arith, short) in (
           subst (λ (n : ℕ). Value raw start rows n b One) last
               (lengthened (is_one w fits_short (length (take (t + 1) rows) - 1) p raw.bad b (omega (arith, short)) at
-              (bad_defined raw circuit.sound p b at) (λ k. h.first verdict.NotBad tt k))),
+              (bad_defined raw circuit.sound p b at) (λ k. h.first verdict.NotBad (omega arith) k))),
           λ s c le has.
               let (q, here) = position_of raw.constraints c has in
               let below : s < length (take (t + 1) rows) = omega (arith, short, le) in
               lengthened (is_one w fits_short s q raw.constraints c below here
               (constraint_defined raw circuit.sound q c here)
-              (λ k. h.first (verdict.Constraint s q) tt (below, k))),
+              (λ k. h.first (verdict.Constraint s q) (omega arith) (below, k))),
         )
 
 -- the run reaches a property exactly where the witness of it is confirmed

@@ -1,5 +1,5 @@
 -- Values that are cut into rows, and those that fill in a start.
-use Rattle.std.proofs.Common.{◌≡◌, ◌⊎◌, inl, inr, ℕ, zero, suc, ◌+◌, ◌*◌, ◌≤◌, Bool, true, false, if◌then◌else◌, List}
+use Rattle.std.proofs.Common.{◌≡◌, inl, inr, ℕ, zero, suc, ◌+◌, ◌*◌, ◌≤◌, Bool, true, false, if◌then◌else◌, List}
 use Rattle.std.proofs.Common.{[], ◌∷◌, ◌++◌, length, take, drop, flat_map, All, Some, slice_get, get_or, refl, sym, ◌∙◌}
 use Rattle.std.proofs.Common.{ap, ap₂, subst, arith, zero-mul, append_assoc, length-drop}
 use Rattle.std.proofs.lemmas.Bool.Decides.{nat_tests}
@@ -9,6 +9,7 @@ use Rattle.std.proofs.lemmas.List.Sums.{sum_by-cons}
 use Rattle.aig_parts.specs.declared.latch.Latch.{Latch}
 use Rattle.aig_parts.specs.declared.ternary.Tern.{Tern}
 use Rattle.aig_parts.specs.declared.ternary.Tern.TheVariants.{X}
+use Rattle.aig_base.specs.Runs.{Allows}
 use Rattle.aig_base.specs.Value.{reset_value}
 use Rattle.aig_laws.specs.UnrolledWitness.{cut, filled}
 use Rattle.aig_unroll.specs.FrameLiteral.{is_uninitialised, uninitialised}
@@ -141,8 +142,7 @@ length-free (x ∷ xs) (w ∷ start) is =
 -- each latch may start at its value
 abbrev pub Allowed : List Latch → List Tern → Type 0
 Allowed xs start =
-    (p : ℕ) (x : Latch) (w : Tern) → slice_get xs p ≡ Some x → slice_get start p ≡ Some w
-    → (x.reset ≡ x.lit) ⊎ (w ≡ reset_value x.reset)
+    (p : ℕ) (x : Latch) (w : Tern) → slice_get xs p ≡ Some x → slice_get start p ≡ Some w → Allows x w
 
 -- an allowed start is the one that its free values fill in
 pub filled_free : (xs : List Latch) (start : List Tern) → length start ≡ length xs → Allowed xs start
@@ -159,7 +159,7 @@ filled_free (x ∷ xs) (w ∷ start) is allowed =
     own e same = grind (arith, nat_tests)
 
     go : (b : Bool) → is_uninitialised x ≡ b → filled xs (free_values xs start) ≡ start
-        → (x.reset ≡ x.lit) ⊎ (w ≡ reset_value x.reset)
+        → Allows x w
         → filled (x ∷ xs) (free_values (x ∷ xs) (w ∷ start)) ≡ w ∷ start
     go true e later here =
         ap (filled (x ∷ xs)) (free_yes x xs w start e) ∙ filled_yes x xs (w ∷ free_values xs start) e
@@ -181,7 +181,7 @@ filled_allowed (y ∷ ys) values p x w at here =
 
     go : (b : Bool) → is_uninitialised y ≡ b → Allowed ys (filled ys (drop 1 values)) → Allowed ys (filled ys values)
         → (p : ℕ) → slice_get (y ∷ ys) p ≡ Some x → slice_get (filled (y ∷ ys) values) p ≡ Some w
-        → (x.reset ≡ x.lit) ⊎ (w ≡ reset_value x.reset)
+        → Allows x w
     go true e taken kept zero at here =
         let same : y ≡ x = cc in inl (subst (λ (z : Latch). z.reset ≡ z.lit) same (own e))
     go true e taken kept (suc p) at here =

@@ -10,6 +10,7 @@ use Rattle.aig_parts.specs.declared.ternary.Tern.{Tern}
 use Rattle.aig_parts.specs.declared.ternary.Tern.TheVariants.{One, X}
 use Rattle.aig_base.specs.Circuit.{IsCircuit}
 use Rattle.aig_base.specs.Order.{IsCanonicalOrder}
+use Rattle.aig_base.specs.Runs.{IsAllowed, ReachesBad}
 use Rattle.aig_base.specs.Value.{Value, Fits}
 use Rattle.aig_sim.specs.declared.verdict.Verdict.{Verdict}
 use Rattle.aig_sim.specs.declared.verdict.Verdict.TheVariants as verdict
@@ -20,7 +21,7 @@ use Rattle.aig_sim.specs.WitnessText.{Witness, IsDecimal, SpellsWitness, HasWitn
 use Rattle.aig_sim.proofs.WitnessLemmas.{one_witness}
 use Rattle.aig_unroll.specs.FrameLiteral.{input_count}
 use Rattle.aig_unroll.specs.Unrolled.{unrolled}
-use Rattle.aig_unroll.specs.UnrolledValues.{IsAllowed, ReachesBad, unrolled_row}
+use Rattle.aig_unroll.specs.UnrolledValues.{unrolled_row}
 use Rattle.aig_unroll.proofs.GuardedValues.{all_bad}
 use Rattle.aig_laws.specs.UnrolledWitness.{rows_in, start_in, witness_in, MakesBad, ReachesInRow, ConfirmsRow}
 use Rattle.aig_laws.specs.UnrolledWitness.{ChecksRow, IsCheckedConfirmed, IsRun, IsConfirmedWithin, IsInRow}
@@ -95,7 +96,7 @@ module _ (raw : Raw) (circuit : IsCircuit raw) (order : List ℕ) (canonical : I
         latches = h.fits.latches;
         inputs = All-append (λ (row : List Tern). length row ≡ length raw.inputs) w.rows more h.fits.inputs wide_more;
       };
-      allowed = allowed_where_none raw circuit w.start (λ p k. h.confirmed.first (verdict.Initial p) tt k);
+      allowed = allowed_where_none raw w.start (λ p k. h.confirmed.first (verdict.Initial p) (omega arith) k);
     }
 
     row : List Tern
@@ -160,9 +161,9 @@ spells_in_row raw k t p row digits width lt decimal =
 -- a confirmed witness has no other verdict
 one_verdict : (raw : Raw) (w : Witness) (v : Verdict) → IsVerdict raw w verdict.Confirmed → IsVerdict raw w v
     → v ≡ verdict.Confirmed
-one_verdict raw w (verdict.Initial p) h k = absurd (h.first (verdict.Initial p) tt k.applies)
-one_verdict raw w (verdict.Constraint t p) h k = absurd (h.first (verdict.Constraint t p) tt k.applies)
-one_verdict raw w verdict.NotBad h k = absurd (h.first verdict.NotBad tt k.applies)
+one_verdict raw w (verdict.Initial p) h k = absurd (h.first (verdict.Initial p) (omega arith) k.applies)
+one_verdict raw w (verdict.Constraint t p) h k = absurd (h.first (verdict.Constraint t p) (omega arith) k.applies)
+one_verdict raw w verdict.NotBad h k = absurd (h.first verdict.NotBad (omega arith) k.applies)
 one_verdict raw w verdict.Confirmed h k = refl
 
 -- what a check answers for a text of a confirmed witness

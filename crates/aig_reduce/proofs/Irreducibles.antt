@@ -302,7 +302,7 @@ module _ (raw : Raw) (circuit : IsCircuit raw) (given : Witness) (g : IsConfirme
   monotone (x ∷ v) (y ∷ w) covers e c =
       reaches_confirmed raw circuit (witness_of given.property (y ∷ w))
       (run_like (y ∷ w) (cover_shape (x ∷ v) (y ∷ w) covers ∙ e))
-      (reaches_still raw (witness_of given.property (x ∷ v)) (witness_of given.property (y ∷ w)) refl covers.0 covers.1
+      (reaches_still raw circuit.sound (witness_of given.property (x ∷ v)) (witness_of given.property (y ∷ w)) refl covers.0 covers.1
       (confirmed_reaches raw circuit (witness_of given.property (x ∷ v)) (run_like (x ∷ v) e) c))
 
   named : (v : Witness) → v.property ≡ given.property → witness_of given.property (values_of v) ≡ v

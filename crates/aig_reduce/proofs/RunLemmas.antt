@@ -7,11 +7,13 @@ use Rattle.aig_parts.specs.declared.raw.Raw.{Raw}
 use Rattle.aig_parts.specs.Literal.{variable}
 use Rattle.aig_base.specs.Circuit.{IsCircuit}
 use Rattle.aig_base.specs.Sections.{IsDefined}
+use Rattle.aig_base.specs.Sound.{IsSound}
 use Rattle.aig_base.specs.Value.{Value}
+use Rattle.aig_base.proofs.values.AllowedStarts.{allowed_still}
 use Rattle.aig_base.proofs.values.OneValue.{have_one_value}
 use Rattle.aig_base.proofs.values.UniqueValue.{unique}
 use Rattle.aig_sim.specs.declared.verdict.Verdict.TheVariants as verdict
-use Rattle.aig_sim.specs.Verdict.{Allows, StartsWrong, IsNotOne, IsVerdict}
+use Rattle.aig_sim.specs.Verdict.{StartsWrong, IsNotOne, IsVerdict}
 use Rattle.aig_sim.specs.WitnessText.{Witness}
 use Rattle.aig_sim.proofs.VerdictLemmas.{bad_defined, constraint_defined, reached}
 use Rattle.aig_values.specs.InputRows.{HaveWidth}
@@ -55,13 +57,13 @@ module _ (raw : Raw) (circuit : IsCircuit raw) (w : Witness) (run : IsRunOf raw 
 
   pub confirmed_reaches : IsVerdict raw w verdict.Confirmed → Reaches raw w
   confirmed_reaches h = record {
-    starts = λ p k. h.first (verdict.Initial p) tt k;
+    starts = λ p k. h.first (verdict.Initial p) (omega arith) k;
     constrained = λ t p l lt at.
         is_one t p raw.constraints l lt at (constraint_defined raw circuit.sound p l at)
-        (λ k. h.first (verdict.Constraint t p) tt (lt, k));
+        (λ k. h.first (verdict.Constraint t p) (omega arith) (lt, k));
     bad = λ l at.
         is_one (length w.rows - 1) w.property raw.bad l (last_within w.rows run.some) at
-        (bad_defined raw circuit.sound w.property l at) (λ k. h.first verdict.NotBad tt k);
+        (bad_defined raw circuit.sound w.property l at) (λ k. h.first verdict.NotBad (omega arith) k);
   }
 
   pub reaches_confirmed : Reaches raw w → IsVerdict raw w verdict.Confirmed
@@ -71,14 +73,6 @@ module _ (raw : Raw) (circuit : IsCircuit raw) (w : Witness) (run : IsRunOf raw 
       (λ k. k.not_one (unique raw w.start w.rows circuit.sound k.value_is (h.bad k.literal k.literal_is)))
 
 -- ---- what has fewer x is confirmed too
-
--- a start that is allowed is so where its x become values
-allowed_still : (r : ℕ) (a b : Tern) → Allows r a → IsSameOrX a b → Allows r b
-allowed_still zero a b e (inl x) = let no : ⊥ = cc in absurd no
-allowed_still zero a b e (inr same) = sym same ∙ e
-allowed_still (suc zero) a b e (inl x) = let no : ⊥ = cc in absurd no
-allowed_still (suc zero) a b e (inr same) = sym same ∙ e
-allowed_still (suc (suc r)) a b e h = tt
 
 pub zip_length : {A B : Type 0} (R : A → B → Type 0) (xs : List A) (ys : List B) → AllZip R xs ys → length ys ≡ length xs
 zip_length R [] [] h = refl
@@ -95,7 +89,11 @@ zip_back R (x ∷ xs) [] i y all at = absurd all
 zip_back R (x ∷ xs) (z ∷ ys) zero y all at = let e : z ≡ y = cc in (x, refl, subst (R x) e all.0)
 zip_back R (x ∷ xs) (z ∷ ys) (suc i) y all at = zip_back R xs ys i y all.1 at
 
-module _ (raw : Raw) (v w : Witness) (property : v.property ≡ w.property) (starts : AllZip IsSameOrX v.start w.start)
+kept_if_known : (a b : Tern) → IsSameOrX a b → a ≢ X → b ≡ a
+kept_if_known a b (inl x) differs = absurd (differs x)
+kept_if_known a b (inr same) differs = sym same
+
+module _ (raw : Raw) (sound : IsSound raw) (v w : Witness) (property : v.property ≡ w.property) (starts : AllZip IsSameOrX v.start w.start)
     (rows : AllZip (AllZip IsSameOrX) v.rows w.rows) where
   frames : length w.rows ≡ length v.rows
   frames = zip_length (AllZip IsSameOrX) v.rows w.rows rows
@@ -112,7 +110,7 @@ module _ (raw : Raw) (v w : Witness) (property : v.property ≡ w.property) (sta
           value = a;
           latch_is = k.latch_is;
           value_is = at;
-          wrong = λ allowed. k.wrong (allowed_still k.latch.reset a k.value allowed by);
+          wrong = λ allowed. k.wrong (allowed_still raw sound p k.latch k.latch_is a k.value (kept_if_known a k.value by) allowed);
         });
     constrained = λ t p l lt at. one_still t l (h.constrained t p l (omega (arith, lt, frames)) at);
     bad = λ l at.

@@ -9,11 +9,13 @@ use Rattle.aig_parts.specs.declared.latch.Latch.{Latch}
 use Rattle.aig_parts.specs.declared.raw.Raw.{Raw}
 use Rattle.aig_base.specs.Changes.{with_reset}
 use Rattle.aig_base.specs.Circuit.{IsCircuit}
+use Rattle.aig_base.specs.Runs.{Allows}
 use Rattle.aig_base.specs.Sound.{IsSound}
 use Rattle.aig_base.specs.Value.{Value, start_of}
+use Rattle.aig_base.proofs.values.AllowedStarts.{allows_any, forbids_x}
 use Rattle.aig_base.proofs.values.Refined.{AllZip-slice_get}
 use Rattle.aig_sim.specs.declared.verdict.Verdict.TheVariants as verdict
-use Rattle.aig_sim.specs.Verdict.{Allows, StartsWrong, IsVerdict}
+use Rattle.aig_sim.specs.Verdict.{StartsWrong, IsVerdict}
 use Rattle.aig_sim.specs.WitnessText.{Witness}
 use Rattle.aig_values.specs.InputRows.{row_at, with_cell}
 use Rattle.aig_base.specs.Sections.{IsLatchLiteral}
@@ -31,16 +33,6 @@ use Rattle.aig_reduce.proofs.Irreducibles.{run_of, run_shaped}
 use Rattle.aig_reduce.proofs.Places.{lengths_written, tried_none, tried_more, tried_list, tried_all}
 use Rattle.aig_reduce.proofs.Resets.{other_resets_back, other_reset_more, value_with, start_restarted}
 use Rattle.aig_reduce.proofs.RunLemmas.{IsRunOf, Reaches, confirmed_reaches, reaches_confirmed}
-
-allows_any : (r : ℕ) (w : Tern) → 1 < r → Allows r w
-allows_any zero w over = absurd (omega arith)
-allows_any (suc zero) w over = absurd (omega arith)
-allows_any (suc (suc r)) w over = tt
-
-forbids_x : (r : ℕ) → (1 < r → ⊥) → Allows r X → ⊥
-forbids_x zero fixed e = let no : ⊥ = cc in no
-forbids_x (suc zero) fixed e = let no : ⊥ = cc in no
-forbids_x (suc (suc r)) fixed e = fixed (omega arith)
 
 -- a pair that runs a circuit from a start
 pub record Runs (raw : Raw) (pair : CircuitAndRows) (start : List Tern) : Type 0 where
@@ -190,7 +182,7 @@ module _ (raw : Raw) (old : CircuitAndRows) (property : ℕ) (start : List Tern)
           let there : slice_get raw.latches i ≡ Some k.latch =
           ap (slice_get raw.latches) (sym e) ∙ k.latch_is in
           let same : k.latch ≡ x = same_Some k.latch x (sym there ∙ at) in
-          k.wrong (allows_any k.latch.reset k.value (subst (λ (y : Latch). 1 < y.reset) (sym same) free))
+          k.wrong (subst (λ (y : Latch). Allows y k.value) (sym same) (allows_any raw h.circuit.sound i x at k.value free))
       | inr ne ↦ reaches_old.starts q (record {
         latch = k.latch;
         value = k.value;
@@ -323,12 +315,12 @@ module _ (raw : Raw) (given : Witness) where
     tried = tried_more (Confirms raw property) (values_of given) (start ∷ now.rows) 0 p (omega arith) lt h.tried
         (start ∷ now.rows)
         (inr (
-          λ c. c.first (verdict.Initial p) tt (record {
+          λ c. c.first (verdict.Initial p) (omega arith) (record {
             latch = x;
             value = X;
             latch_is = at;
             value_is = get_set_same start p X lt;
-            wrong = forbids_x x.reset fixed;
+            wrong = forbids_x raw h.runs.circuit.sound p x at fixed;
           }),
           refl,
         ));

@@ -13,6 +13,7 @@ use Rattle.aig_parts.specs.declared.ternary.Tern.TheVariants.{One, X}
 use Rattle.aig_base.specs.Circuit.{IsCircuit}
 use Rattle.aig_base.specs.Completion.{Completes, IsCompletion}
 use Rattle.aig_base.specs.Order.{IsCanonicalOrder}
+use Rattle.aig_base.specs.Runs.{IsAllowed, ReachesBad}
 use Rattle.aig_base.specs.Sound.{IsReset}
 use Rattle.aig_base.specs.Value.{Value, Fits, reset_value}
 use Rattle.aig_base.proofs.circuits.Circuits.{latch_defined}
@@ -34,7 +35,7 @@ use Rattle.aig_laws.proofs.UnrolledWitnesses.{reaches_in_row}
 use Rattle.aig_sat.specs.checker.Consequence.{IsUnsatisfiable}
 use Rattle.aig_unroll.specs.FrameLiteral.{input_count}
 use Rattle.aig_unroll.specs.Unrolled.{unrolled}
-use Rattle.aig_unroll.specs.UnrolledValues.{IsAllowed, ReachesBad, free_values, unrolled_row}
+use Rattle.aig_unroll.specs.UnrolledValues.{free_values, unrolled_row}
 use Rattle.aig_refute.specs.Unreachable.{IsUnreachable, IsUnreachableWithin}
 use Rattle.aig_refute.proofs.AnyState.{from_any_circuit}
 use Rattle.aig_refute.proofs.FirstReached.{reached_at, satisfies_both}
@@ -325,7 +326,7 @@ module _ (raw : Raw) (circuit : IsCircuit raw) (order : List ℕ) (canonical : I
   one_more n before start rows t b lt fits allowed long_enough at reaches = go (early_or t)
     where
       go : (t < k) ⊎ ((d : ℕ) × (t ≡ d + k)) → ⊥
-      go (inl early) = base start rows t b fits allowed early long_enough at reaches
+      go (inl early) = base start rows t early (fits, allowed, long_enough, (b, at, reaches))
       go (inr (d, is)) =
           let start' = map settled start in
           let rows' = map (map settled) rows in
@@ -343,7 +344,7 @@ module _ (raw : Raw) (circuit : IsCircuit raw) (order : List ℕ) (canonical : I
   each_frame (suc n) = one_more n (each_frame n)
 
   unreachable : IsUnreachable raw p
-  unreachable start rows t b fits allowed long_enough at reaches =
+  unreachable start rows t (fits, allowed, long_enough, (b, at, reaches)) =
       each_frame (suc t) start rows t b (omega arith) fits allowed long_enough at reaches
 
 pub by_induction : (raw : Raw) (base later : Cnf) → IsCircuit raw → (k p : ℕ) → IsFormulaOf raw (within k p) base

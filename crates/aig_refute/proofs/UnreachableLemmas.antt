@@ -11,6 +11,7 @@ use Rattle.aig_parts.specs.declared.ternary.Tern.TheVariants.{Zero, One, X}
 use Rattle.aig_base.specs.Circuit.{IsCircuit}
 use Rattle.aig_base.specs.Completion.{Completes}
 use Rattle.aig_base.specs.Order.{IsCanonicalOrder}
+use Rattle.aig_base.specs.Runs.{IsAllowed, ReachesBad}
 use Rattle.aig_base.specs.Value.{Fits}
 use Rattle.aig_base.proofs.values.Refined.{kept}
 use Rattle.aig_cnf.specs.Formula.{Cnf, IsFormulaOf, formula_of}
@@ -23,7 +24,6 @@ use Rattle.aig_laws.proofs.UnrolledWitnesses.{in_row}
 use Rattle.aig_sat.specs.checker.Consequence.{IsUnsatisfiable}
 use Rattle.aig_sim.specs.Reached.{witness_at}
 use Rattle.aig_unroll.specs.Unrolled.{unrolled}
-use Rattle.aig_unroll.specs.UnrolledValues.{IsAllowed, ReachesBad}
 use Rattle.aig_refute.specs.Unreachable.{IsUnreachableWithin}
 
 -- ---- a row without unknown values
@@ -95,6 +95,6 @@ module _ (raw : Raw) (circuit : IsCircuit raw) (start : List Tern) (rows : List 
 pub unreachable_within : (raw : Raw) (formula : Cnf) → IsCircuit raw → (k p : ℕ) → IsFormulaOf raw (within k p) formula
     → IsUnsatisfiable formula.clauses → IsUnreachableWithin raw k p
 unreachable_within raw formula circuit k p (order, canonical, is) unsatisfiable =
-    λ start rows t b fits allowed below lt at reaches.
+    λ start rows t below (fits, allowed, lt, (b, at, reaches)).
     refuted_by raw circuit start rows fits allowed t p b lt at reaches order canonical k below
     (subst (λ (f : Cnf). IsUnsatisfiable f.clauses) is unsatisfiable)

@@ -4,20 +4,21 @@ use Rattle.std.specs.List.{AllZip}
 use Rattle.std.proofs.lemmas.Option.{slice_get-get_or, slice_get_within}
 use Rattle.aig_parts.specs.declared.ternary.Tern.{Tern}
 use Rattle.aig_parts.specs.declared.ternary.Tern.TheVariants.{Zero, One, X}
-use Rattle.aig_parts.specs.declared.latch.Latch.{Latch}
 use Rattle.aig_parts.specs.declared.raw.Raw.{Raw}
 use Rattle.aig_base.specs.Circuit.{IsCircuit}
 use Rattle.aig_base.specs.Completion.{Completes, IsCompletion}
 use Rattle.aig_parts.specs.Literal.{variable}
 use Rattle.aig_base.specs.Sections.{IsDefined}
+use Rattle.aig_base.specs.Runs.{IsAllowed}
 use Rattle.aig_base.specs.Value.{Value}
+use Rattle.aig_base.proofs.lists.Positions.{position_of}
+use Rattle.aig_base.proofs.values.AllowedStarts.{allowed_or_not, allowed_still}
 use Rattle.aig_base.proofs.values.OneValue.{have_one_value}
 use Rattle.aig_base.proofs.values.Refined.{AllZip-slice_get, kept}
 use Rattle.aig_sim.specs.declared.verdict.Verdict.TheVariants as verdict
 use Rattle.aig_values.specs.InputRows.{HaveWidth}
-use Rattle.aig_sim.specs.Verdict.{Allows, StartsWrong, IsNotOne, IsVerdict, IsConfirmed}
+use Rattle.aig_sim.specs.Verdict.{StartsWrong, IsNotOne, IsVerdict, IsConfirmed}
 use Rattle.aig_sim.specs.WitnessText.{Witness}
-use Rattle.aig_values.proofs.TraceLemmas.{all_zip_from}
 use Rattle.aig_sim.proofs.VerdictLemmas.{bad_defined, constraint_defined}
 use Rattle.aig_sim.proofs.WitnessLemmas.{no_rows}
 
@@ -27,20 +28,15 @@ zip_length R [] (y ∷ ys) h = absurd h
 zip_length R (x ∷ xs) [] h = absurd h
 zip_length R (x ∷ xs) (y ∷ ys) h = ap suc (zip_length R xs ys h.1)
 
-allowed_or_not : (r : ℕ) (a : Tern) → Allows r a ⊎ (Allows r a → ⊥)
-allowed_or_not zero Zero = inl refl
-allowed_or_not zero One = inr (λ e. let n : ⊥ = cc in n)
-allowed_or_not zero X = inr (λ e. let n : ⊥ = cc in n)
-allowed_or_not (suc zero) Zero = inr (λ e. let n : ⊥ = cc in n)
-allowed_or_not (suc zero) One = inl refl
-allowed_or_not (suc zero) X = inr (λ e. let n : ⊥ = cc in n)
-allowed_or_not (suc (suc n)) a = inl tt
-
--- what completes an allowed value is allowed
-allowed_still : (r : ℕ) (a b : Tern) → Allows r a → Completes a b → Allows r b
-allowed_still zero a b e h = h.1 (λ x. let n : ⊥ = cc in n) ∙ e
-allowed_still (suc zero) a b e h = h.1 (λ x. let n : ⊥ = cc in n) ∙ e
-allowed_still (suc (suc n)) a b e h = tt
+-- rows are as wide as those that they complete
+widths_kept : (width : ℕ) (rows rows' : List (List Tern)) → AllZip (AllZip Completes) rows rows' → HaveWidth width rows
+    → HaveWidth width rows'
+widths_kept width [] [] all h k d lt = absurd (omega (arith, lt))
+widths_kept width [] (r' ∷ rows') all h k d lt = absurd all
+widths_kept width (r ∷ rows) [] all h k d lt = absurd all
+widths_kept width (r ∷ rows) (r' ∷ rows') all h zero d lt = zip_length Completes r r' all.0 ∙ h 0 d (omega arith)
+widths_kept width (r ∷ rows) (r' ∷ rows') all h (suc k) d lt =
+    widths_kept width rows rows' all.1 (λ j e below. h (suc j) e (omega (arith, below))) k d (omega (arith, lt))
 
 one_or_not : (v : Tern) → (v ≡ One) ⊎ (v ≢ One)
 one_or_not Zero = inr (λ e. let n : ⊥ = cc in n)
@@ -64,20 +60,17 @@ module _ (raw : Raw) (circuit : IsCircuit raw) (w : Witness) (latches : length w
     one_stays : (t l : ℕ) → Value raw w.start w.rows t l One → Value raw start rows t l One
     one_stays t l v = kept raw w.start start w.rows rows completion (λ e. let n : ⊥ = cc in n) v
 
-    starts_allowed : ((p : ℕ) → StartsWrong raw w.start p → ⊥) → AllZip (λ x w. Allows x.reset w) raw.latches start
-    starts_allowed right =
-        all_zip_from (λ (x : Latch) (v : Tern). Allows x.reset v) raw.latches start
-        (zip_length Completes w.start start completion.0 ∙ latches)
-        (λ i x b at is.
-        let lt = slice_get_within raw.latches i x at in
-        let a = get_or w.start i X in
-        let here : slice_get w.start i ≡ Some a = slice_get-get_or w.start i X (omega (arith, lt, latches)) in
-        let (b', is', by) = AllZip-slice_get Completes w.start start i a completion.0 here in
-        let same : b' ≡ b = (let p : Some b' ≡ Some b = sym is' ∙ is in cc) in
-        elim (allowed_or_not x.reset a) [
-          | inl ok ↦ allowed_still x.reset a b ok (subst (Completes a) same by)
-          | inr wrong' ↦ absurd (right i (record { latch = x; value = a; latch_is = at; value_is = here; wrong = wrong' }))
-        ])
+    starts_allowed : ((p : ℕ) → StartsWrong raw w.start p → ⊥) → IsAllowed raw start
+    starts_allowed right p x b at is =
+        let lt = slice_get_within raw.latches p x at in
+        let a = get_or w.start p X in
+        let here : slice_get w.start p ≡ Some a = slice_get-get_or w.start p X (omega (arith, lt, latches)) in
+        let (b', is', by) = AllZip-slice_get Completes w.start start p a completion.0 here in
+        let same : b' ≡ b = (let q : Some b' ≡ Some b = sym is' ∙ is in cc) in
+        elim (allowed_or_not x a) [
+          | inl ok ↦ allowed_still raw circuit.sound p x at a b (subst (Completes a) same by).1 ok
+          | inr wrong' ↦ absurd (right p (record { latch = x; value = a; latch_is = at; value_is = here; wrong = wrong' }))
+        ]
 
   pub confirmed : w.rows ≢ [] → w.property < length raw.bad → IsVerdict raw w verdict.Confirmed → IsConfirmed raw w
   confirmed some there h start rows completion =
@@ -86,20 +79,32 @@ module _ (raw : Raw) (circuit : IsCircuit raw) (w : Witness) (latches : length w
         | inl e ↦ absurd (some (no_rows w.rows e))
         | inr lt ↦ lt
       ]) in
-      let l = get_or raw.bad w.property 0 in
-      let at : slice_get raw.bad w.property ≡ Some l = slice_get-get_or raw.bad w.property 0 there in
-      record {
-        starts = starts_allowed start rows completion (λ p k. h.first (verdict.Initial p) tt k);
-        constrained = λ t p l lt at. one_stays start rows completion t l
-            (is_one t p raw.constraints l (omega (arith, lt, frames)) at (constraint_defined raw circuit.sound p l at)
-            (λ k. h.first (verdict.Constraint t p) tt (omega (arith, lt, frames), k)));
-        literal = l;
-        literal_is = at;
-        bad = subst (λ (n : ℕ). Value raw start rows n l One) (ap (λ (k : ℕ). k - 1) (sym frames))
-            (one_stays start rows completion (length w.rows - 1) l
-            (is_one (length w.rows - 1) w.property raw.bad l last at (bad_defined raw circuit.sound w.property l at)
-            (λ k. h.first verdict.NotBad tt k)));
-      }
+      let b = get_or raw.bad w.property 0 in
+      let at : slice_get raw.bad w.property ≡ Some b = slice_get-get_or raw.bad w.property 0 there in
+      let end : length rows - 1 ≡ length w.rows - 1 = ap (λ (n : ℕ). n - 1) frames in (
+        record {
+          latches = zip_length Completes w.start start completion.0 ∙ latches;
+          inputs = widths_kept (length raw.inputs) w.rows rows completion.1 widths;
+        },
+        starts_allowed start rows completion (λ p k. h.first (verdict.Initial p) (omega arith) k),
+        omega (arith, frames, last),
+        (
+          b,
+          at,
+          (
+            subst (λ (n : ℕ). Value raw start rows n b One) (sym end)
+                (one_stays start rows completion (length w.rows - 1) b
+                (is_one (length w.rows - 1) w.property raw.bad b last at
+                (bad_defined raw circuit.sound w.property b at) (λ k. h.first verdict.NotBad (omega arith) k))),
+            λ s c le has.
+                let (p, stands) = position_of raw.constraints c has in
+                let lt : s < length w.rows = omega (arith, le, end, last) in
+                one_stays start rows completion s c
+                (is_one s p raw.constraints c lt stands (constraint_defined raw circuit.sound p c stands)
+                (λ k. h.first (verdict.Constraint s p) (omega arith) (lt, k))),
+          ),
+        ),
+      )
     where
       length_cases : (n : ℕ) → (n ≡ 0) ⊎ (n - 1 < n)
       length_cases zero = inl refl

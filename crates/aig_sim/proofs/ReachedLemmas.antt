@@ -41,7 +41,7 @@ none_more cells bad n before here q lt = elim (cases_eq q n) [
 -- a start that none of its latches forbids is needed to reach anything
 pub reaches_none : (raw : Raw) (start : List Tern) (rows : List (List Tern)) (asked : Option ℕ) (p : ℕ)
     → StartsWrong raw start p → ReachesNone raw start rows asked
-reaches_none raw start rows asked p wrong t q asks h = h.confirmed.first (verdict.Initial p) tt wrong
+reaches_none raw start rows asked p wrong t q asks h = h.confirmed.first (verdict.Initial p) (omega arith) wrong
 
 -- nothing was searched
 pub search_begins : (raw : Raw) (start : List Tern) (rows : List (List Tern)) (asked : Option ℕ)
@@ -115,7 +115,7 @@ module _ (raw : Raw) (circuit : IsCircuit raw) (start : List Tern) (rows : List 
     | inr le ↦
         let long : length (take (u + 1) rows) ≡ u + 1 =
         length-take-le (u + 1) rows (let small = r.frame in omega (arith, small)) in
-        r.confirmed.first (verdict.Constraint t p) tt (
+        r.confirmed.first (verdict.Constraint t p) (omega arith) (
           omega (arith, long, le),
           later u p raw.constraints q q (omega (arith, le))
               (shows_not_one raw circuit.sound (witness_at start rows t q) t cells cells_hold raw.constraints
@@ -126,7 +126,7 @@ module _ (raw : Raw) (circuit : IsCircuit raw) (start : List Tern) (rows : List 
   -- a property that is not 1 is not reached at this frame
   not_here : (q : ℕ) → ReadsNotOne cells raw.bad q → Reaches raw start rows t q → ⊥
   not_here q other r =
-      r.confirmed.first verdict.NotBad tt
+      r.confirmed.first verdict.NotBad (omega arith)
       (subst (λ (n : ℕ). IsNotOne raw (witness_at start rows t q) n raw.bad q) last
       (shows_not_one raw circuit.sound (witness_at start rows t q) t cells cells_hold raw.bad
       (bad_defined raw circuit.sound) q other))

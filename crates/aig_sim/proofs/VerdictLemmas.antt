@@ -1,7 +1,7 @@
 -- What a run shows of a witness.
 use Rattle.std.proofs.Common.{◌≡◌, ◌≢◌, inl, inr, ℕ, ◌+◌, ◌-◌, ◌<◌, ◌≤◌, List, [], ◌∷◌, ◌++◌, length, map, flat_map, take, drop, get_or, Some, slice_get, Contains, sym, ap, ◌∙◌, subst, arith, append_assoc}
 use Rattle.std.proofs.lemmas.Bool.{cases_eq}
-use Rattle.std.proofs.lemmas.List.Elements.{All-contains, Contains-append_left, Contains-append_right}
+use Rattle.std.proofs.lemmas.List.Elements.{Contains-append_left, Contains-append_right}
 use Rattle.std.proofs.lemmas.Option.{slice_get_within}
 use Rattle.aig_parts.specs.declared.ternary.Tern.{Tern}
 use Rattle.aig_parts.specs.declared.ternary.Tern.TheVariants.{One}
@@ -9,8 +9,9 @@ use Rattle.aig_parts.specs.declared.latch.Latch.{Latch}
 use Rattle.aig_parts.specs.declared.raw.Raw.{Raw}
 use Rattle.aig_base.specs.Circuit.{IsCircuit}
 use Rattle.aig_parts.specs.Literal.{variable}
-use Rattle.aig_base.specs.Sections.{definitions, uses, IsDefined}
-use Rattle.aig_base.specs.Sound.{IsSound, IsInRange}
+use Rattle.aig_base.specs.Runs.{Allows}
+use Rattle.aig_base.specs.Sections.{uses, IsDefined}
+use Rattle.aig_base.specs.Sound.{IsSound}
 use Rattle.aig_base.specs.Value.{Value}
 use Rattle.aig_base.proofs.circuits.Circuits.{use_defined, use_in_range}
 use Rattle.aig_base.proofs.lists.Positions.{Contains-from_slice_get}
@@ -25,7 +26,7 @@ use Rattle.aig_sim.specs.state.Machine.{Steps}
 use Rattle.aig_values.specs.Characters.{character}
 use Rattle.aig_values.specs.InputRows.{HaveWidth}
 use Rattle.aig_sim.specs.StimulusText.{row_line}
-use Rattle.aig_sim.specs.Verdict.{Allows, StartsWrong, IsNotOne, VerdictApplies, IsBefore, IsVerdict}
+use Rattle.aig_sim.specs.Verdict.{StartsWrong, IsNotOne, VerdictApplies, IsBefore, IsVerdict}
 use Rattle.aig_sim.specs.WitnessText.{Witness, IsAdmitted, witness_rows_text}
 use Rattle.aig_values.proofs.Evaluation.{literal_has_value}
 use Rattle.aig_sim.proofs.OneText.{row_ends}
@@ -102,12 +103,12 @@ right_more P i before here q lt h = elim (cases_eq q i) [
 
 -- latch i starts as its reset allows
 pub starts_right : (raw : Raw) (start : List Tern) (i : ℕ) (x : Latch) (w : Tern) → slice_get raw.latches i ≡ Some x
-    → slice_get start i ≡ Some w → Allows x.reset w → StartsWrong raw start i → ⊥
+    → slice_get start i ≡ Some w → Allows x w → StartsWrong raw start i → ⊥
 starts_right raw start i x w at is allowed h =
     let e : h.latch ≡ x = (let p : Some h.latch ≡ Some x = sym h.latch_is ∙ at in cc) in
     let f : h.value ≡ w = (let p : Some h.value ≡ Some w = sym h.value_is ∙ is in cc) in
-    h.wrong (subst (λ (u : Tern). Allows h.latch.reset u) (sym f)
-    (subst (λ (y : Latch). Allows y.reset w) (sym e) allowed))
+    h.wrong (subst (λ (u : Tern). Allows h.latch u) (sym f)
+    (subst (λ (y : Latch). Allows y w) (sym e) allowed))
 
 -- the literal at place i is 1
 pub reads_one : (cells : List Tern) (literals : List ℕ) (i l : ℕ) → slice_get literals i ≡ Some l
@@ -233,9 +234,9 @@ module _ (raw : Raw) (w : Witness) where
     where
       before : (u : Verdict) → IsBefore u (verdict.Initial p) → VerdictApplies raw w u → ⊥
       before (verdict.Initial q) lt k = least q lt k
-      before (verdict.Constraint u q) no' k = no'
-      before verdict.NotBad no' k = no'
-      before verdict.Confirmed no' k = no'
+      before (verdict.Constraint u q) no' k = absurd (omega (arith, no'))
+      before verdict.NotBad no' k = absurd (omega (arith, no'))
+      before verdict.Confirmed no' k = absurd (omega (arith, no'))
 
   pub not_held : (t p : ℕ) → ((q : ℕ) → StartsWrong raw w.start q → ⊥) → IsFirstFailure raw w t p
       → IsVerdict raw w (verdict.Constraint t p)
@@ -247,8 +248,8 @@ module _ (raw : Raw) (w : Witness) where
         | inl below ↦ h.frames_before u q below k.1
         | inr same ↦ h.before q same.1 (subst (λ (n : ℕ). IsNotOne raw w n raw.constraints q) same.0 k.1)
       ]
-      before verdict.NotBad no' k = no'
-      before verdict.Confirmed no' k = no'
+      before verdict.NotBad no' k = absurd (omega (arith, no'))
+      before verdict.Confirmed no' k = absurd (omega (arith, no'))
 
   pub not_reached : ((q : ℕ) → StartsWrong raw w.start q → ⊥) → HoldConstraints raw w (length w.rows)
       → IsNotOne raw w (length w.rows - 1) raw.bad w.property → IsVerdict raw w verdict.NotBad
@@ -257,8 +258,8 @@ module _ (raw : Raw) (w : Witness) where
       before : (u : Verdict) → IsBefore u verdict.NotBad → VerdictApplies raw w u → ⊥
       before (verdict.Initial q) lt k = starts q k
       before (verdict.Constraint u q) lt k = held u q k.0 k.1
-      before verdict.NotBad no' k = no'
-      before verdict.Confirmed no' k = no'
+      before verdict.NotBad no' k = absurd (omega (arith, no'))
+      before verdict.Confirmed no' k = absurd (omega (arith, no'))
 
   pub reached : ((q : ℕ) → StartsWrong raw w.start q → ⊥) → HoldConstraints raw w (length w.rows)
       → (IsNotOne raw w (length w.rows - 1) raw.bad w.property → ⊥) → IsVerdict raw w verdict.Confirmed
@@ -268,7 +269,7 @@ module _ (raw : Raw) (w : Witness) where
       before (verdict.Initial q) lt k = starts q k
       before (verdict.Constraint u q) lt k = held u q k.0 k.1
       before verdict.NotBad lt k = bad k
-      before verdict.Confirmed no' k = no'
+      before verdict.Confirmed no' k = absurd (omega (arith, no'))
 
   -- the cells after the last frame
   pub last_frame : (rest : List ℕ) (cells states : List Tern) → w.rows ≢ [] → HasRun raw w (length w.rows) rest cells states

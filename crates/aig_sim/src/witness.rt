@@ -3,10 +3,11 @@ ghost use Rattle.std.specs.Prelude.{◌≡◌, ℕ, ◌<◌, ◌↔◌, false, L
 ghost use Rattle.std.specs.Prelude.{IfNone, IsTrue};
 ghost use Rattle.aig_parts.specs.declared.ternary.Tern.{Tern};
 ghost use Rattle.aig_base.specs.Circuit.{IsCircuit};
+ghost use Rattle.aig_base.specs.Runs.{Allows};
 ghost use Rattle.aig_sim.specs.state.Checking.{BeginsWithRow, SpellsFrames, ArePartsOf};
 ghost use Rattle.aig_sim.specs.state.Checking.{ReadsNotOne, HasRun, IsFirstFailure};
 ghost use Rattle.aig_values.specs.Characters.{character};
-ghost use Rattle.aig_sim.specs.Verdict.{Allows, StartsWrong, IsVerdict, IsConfirmed};
+ghost use Rattle.aig_sim.specs.Verdict.{StartsWrong, IsVerdict, IsConfirmed};
 ghost use Rattle.aig_sim.specs.WitnessText.{Witness, SpellsWitness, IsAdmitted, HasWitnessFault};
 
 use crate::machine::Machine;
@@ -15,8 +16,8 @@ use crate::verdict::Verdict;
 use crate::witness_fault::WitnessFault;
 use crate::witness_text::{WitnessParts, read_parts};
 use aig_base::{Circuit, Latch, Memory, Tern};
-use aig_values::FRAMES;
 use aig_values::row::literal_in;
+use aig_values::{FRAMES, first_value};
 use std::alloc::Global;
 
 /// Reads a value a character, and returns the text after the line.
@@ -42,13 +43,9 @@ pub fn new_values(alloc: Global, size: usize) -> Result<Vec<Tern>, Memory>
 
 // Whether a latch may start at a value.
 fn is_allowed(latch: Latch, value: Tern) -> bool
-    ensures { IsTrue result ↔ Allows latch.reset value }
+    ensures { IsTrue result ↔ Allows latch value }
 {
-    match latch.reset.value() {
-        0 => value == Tern::Zero,
-        1 => value == Tern::One,
-        _ => true,
-    }
+    latch.reset == latch.lit || value == first_value(latch)
 }
 
 /// The position of the first latch that stands at a value which its reset does not allow.

@@ -11,6 +11,7 @@ use Rattle.aig_base.specs.Circuit.{IsCircuit}
 use Rattle.aig_parts.specs.Literal.{variable}
 use Rattle.aig_base.specs.Order.{IsCanonicalOrder}
 use Rattle.aig_base.specs.Renumbered.{ordered_gates, ready_gate}
+use Rattle.aig_base.specs.Runs.{IsAllowed, ReachesBad}
 use Rattle.aig_base.specs.Sections.{IsDefined}
 use Rattle.aig_parts.specs.Ternary.{kleene_and}
 use Rattle.aig_base.specs.Value as value
@@ -24,7 +25,7 @@ use Rattle.aig_base.proofs.lists.Positions.{slice_get_left, slice_get_right, Con
 use Rattle.aig_base.proofs.values.UniqueValue.{unique}
 use Rattle.aig_unroll.specs.FrameLiteral.{frame_literal, has_guards, chain_count, guard_count}
 use Rattle.aig_unroll.specs.Unrolled.{unrolled, frame_bad, frame_gate, frame_gates, chain_gate, chain_literal, link_before, guard_gate, guard_literal, last_chain}
-use Rattle.aig_unroll.specs.UnrolledValues.{IsAllowed, UnrolledValue, unrolled_row, ReachesBad, IsExcluded, GuardedValue, GuardsBad}
+use Rattle.aig_unroll.specs.UnrolledValues.{UnrolledValue, unrolled_row, IsExcluded, GuardedValue, GuardsBad}
 use Rattle.aig_unroll.proofs.Guarding.{AreGuarded, guarded}
 use Rattle.aig_unroll.proofs.UnrolledCircuit.{unrolled_sound, bad_on, bad_off, length-frame_bad}
 use Rattle.aig_unroll.proofs.UnrolledRow.{at_range, frames_at, place_at}

@@ -13,6 +13,7 @@ use Rattle.aig_base.specs.Circuit.{IsCircuit}
 use Rattle.aig_parts.specs.Literal.{variable}
 use Rattle.aig_base.specs.Order.{IsCanonicalOrder}
 use Rattle.aig_base.specs.Renumbered.{ordered_gates}
+use Rattle.aig_base.specs.Runs.{IsAllowed}
 use Rattle.aig_base.specs.Sections.{IsDefined}
 use Rattle.aig_base.specs.Sound.{IsReset}
 use Rattle.aig_base.specs.Value as value
@@ -28,7 +29,7 @@ use Rattle.aig_base.proofs.circuits.Roles.{one_place}
 use Rattle.aig_base.proofs.values.UniqueValue.{unique}
 use Rattle.aig_unroll.specs.FrameLiteral.{frame_literal, first_literal, is_uninitialised, uninitialised, input_count, chain_count, guard_count}
 use Rattle.aig_unroll.specs.Unrolled.{unrolled, frame_gate, frame_gates, chain_gate, guard_gate}
-use Rattle.aig_unroll.specs.UnrolledValues.{IsAllowed, UnrolledValue, unrolled_row, free_values}
+use Rattle.aig_unroll.specs.UnrolledValues.{UnrolledValue, unrolled_row, free_values}
 use Rattle.aig_unroll.proofs.FrameBounds.{count_before}
 use Rattle.aig_unroll.proofs.FrameLiterals.{odd_literal, of_input, of_first, of_next, of_false, of_true}
 use Rattle.aig_unroll.proofs.UnrolledCircuit.{unrolled_sound}

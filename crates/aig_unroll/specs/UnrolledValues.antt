@@ -5,15 +5,11 @@ use Rattle.aig_parts.specs.declared.raw.Raw.{Raw}
 use Rattle.aig_parts.specs.declared.ternary.Tern.{Tern}
 use Rattle.aig_parts.specs.declared.ternary.Tern.TheVariants.{Zero, One, X}
 use Rattle.aig_parts.specs.Literal.{variable}
+use Rattle.aig_base.specs.Runs.{ReachesBad}
 use Rattle.aig_base.specs.Sections.{IsDefined}
-use Rattle.aig_base.specs.Value.{Value, reset_value}
+use Rattle.aig_base.specs.Value.{Value}
 use Rattle.aig_unroll.specs.FrameLiteral.{frame_literal, is_uninitialised}
 use Rattle.aig_unroll.specs.Unrolled.{unrolled}
-
--- a start that the resets allow: an uninitialised latch has any value, another that of its reset
-abbrev pub IsAllowed : Raw → List Tern → Type 0
-IsAllowed raw start = (p : ℕ) (x : Latch) (w : Tern) → slice_get raw.latches p ≡ Some x → slice_get start p ≡ Some w
-    → (x.reset ≡ x.lit) ⊎ (w ≡ reset_value x.reset)
 
 -- the start values of the uninitialised latches, in order
 abbrev pub free_values : List Latch → List Tern → List Tern
@@ -41,12 +37,6 @@ abbrev pub UnrollingAddsNoValues : Raw → List ℕ → List Tern → List (List
 UnrollingAddsNoValues raw order start rows =
     (t l : ℕ) (w : Tern) → t < length rows → IsDefined raw (variable l)
     → UnrolledValue raw order start rows (frame_literal raw order (length rows) t l) w → Value raw start rows t l w
-
--- the bad literal is 1 at frame t, and every constraint is 1 at every frame up to t
-abbrev pub ReachesBad : Raw → List Tern → List (List Tern) → ℕ → ℕ → Type 0
-ReachesBad raw start rows t b =
-    Value raw start rows t b One
-    × ((s c : ℕ) → s ≤ t → Contains raw.constraints c → Value raw start rows s c One)
 
 -- the bad literal is 0 at frame t, or a constraint is 0 at a frame up to t
 abbrev pub IsExcluded : Raw → List Tern → List (List Tern) → ℕ → ℕ → Type 0

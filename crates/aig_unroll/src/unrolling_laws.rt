@@ -5,10 +5,11 @@ ghost use Rattle.aig_parts.specs.declared.raw.Raw.{Raw};
 ghost use Rattle.aig_parts.specs.declared.ternary.Tern.{Tern};
 ghost use Rattle.aig_base.specs.Circuit.{IsCircuit};
 ghost use Rattle.aig_base.specs.Order.{IsCanonicalOrder};
+ghost use Rattle.aig_base.specs.Runs.{IsAllowed};
 ghost use Rattle.aig_base.specs.Value.{Fits};
 ghost use Rattle.aig_unroll.specs.InputMap.{ReportsInputs};
 ghost use Rattle.aig_unroll.specs.Unrolled.{unrolled};
-ghost use Rattle.aig_unroll.specs.UnrolledValues.{IsAllowed, UnrollingKeepsValues, UnrollingAddsNoValues, GuardsBad};
+ghost use Rattle.aig_unroll.specs.UnrolledValues.{UnrollingKeepsValues, UnrollingAddsNoValues, GuardsBad};
 
 /// From every start that the resets allow, and for any rows, a literal's frame literal has the value that the literal
 /// has at its frame, and no other. The circuit is unrolled for as many frames as there are rows, and then has one row.

@@ -58,7 +58,7 @@ holds_still more h v d =
     record { cell = (h v d).cell; cell_is = (h v d).cell_is; value_is = value_stays more (h v d).value_is }
 
 -- lists of one length, place by place
-pub all_zip_from : {A B : Type 0} (R : A → B → Type 0) (xs : List A) (ys : List B) → length ys ≡ length xs
+all_zip_from : {A B : Type 0} (R : A → B → Type 0) (xs : List A) (ys : List B) → length ys ≡ length xs
     → ((i : ℕ) (x : A) (y : B) → slice_get xs i ≡ Some x → slice_get ys i ≡ Some y → R x y) → AllZip R xs ys
 all_zip_from R [] [] e h = tt
 all_zip_from R [] (y ∷ ys) e h = absurd (omega (arith, e))

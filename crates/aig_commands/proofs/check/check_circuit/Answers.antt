@@ -29,3 +29,16 @@ returns-in_err-verdict-clause-ends g c =
     answered c.from_residual.result (run_faults.Witness c.in_err-verdict.field-0.0)
     (CommandEnds (flow g.W.Write.written g.W.Write.failures c.args.out.now c.args.out.now) run_faults.Output (Checks c.args.witness.now c.args.circuit.now))
     c.from_residual.ensures.1 (CommandEnds.writes_all [] (c.in_err-verdict.ensures.fault, refl) (got_none g.W.Write.written g.W.Write.failures c.args.out.now))
+
+pub returns-in-Err-clause-output : goal.returns-in-Err-clause-output
+returns-in-Err-clause-output g c = λ failed.
+    let v = c.in_ok-verdict.verdict in
+    let (w, spelled, admitted, shown) = c.in_ok-verdict.ensures.verdict in (
+      v,
+      verdict_text v,
+      (
+        shows_so c.args.circuit.now c.args.witness.now v w spelled admitted shown
+            (λ e. c.in_ok-verdict.ensures.confirmed e w spelled),
+        refl,
+      ),
+    )

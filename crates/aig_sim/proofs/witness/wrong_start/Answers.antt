@@ -1,6 +1,7 @@
 use Rattle.std.proofs.Common.{◌≡◌, length, Some, slice_get, ap, ◌∙◌, subst, arith}
 use Rattle.aig_parts.specs.declared.raw.Raw.{Raw}
-use Rattle.aig_sim.specs.Verdict.{Allows, StartsWrong}
+use Rattle.aig_base.specs.Runs.{Allows}
+use Rattle.aig_sim.specs.Verdict.{StartsWrong}
 use Rattle.aig_values.proofs.Evaluation.{item_at}
 use Rattle.aig_sim.proofs.VerdictLemmas.{right_more, starts_right, no_latch_after}
 use Rattle.aig_sim.proofs.witness.wrong_start.Goals as goal
@@ -20,7 +21,7 @@ loop-position-preserved c =
     c.index-states-position.is in
     right_more (StartsWrong m.circuit m.states) i c.loop-position.invariant
     (starts_right m.circuit m.states i c.latch-item.result w at value
-    (subst (Allows c.latch-item.result.reset) c.value.ensures
+    (subst (Allows c.latch-item.result) c.value.ensures
     (c.is_allowed.ensures.0 c.if-not-is_allowed.false)))
 
 pub returns-clause-none : goal.returns-clause-none
