@@ -1,11 +1,10 @@
 //! The arguments of the command line.
 
 use aig_base::Memory;
-use aig_cli::{has_flag, matches_of};
+use aig_cli::matches_of;
 use aig_explain::escaped;
 use aig_files::Exit;
 use aig_run::RunFault;
-use aig_tasks::Task;
 use clap::ArgMatches;
 use clap::error::ErrorKind;
 use std::alloc::Global;
@@ -23,27 +22,6 @@ pub fn all<R: Env + AllocGlobal>(rt: &R) -> Result<Vec<String>, Exit> {
             io::ErrorKind::OutOfMemory => Err(Exit::Run(RunFault::Memory)),
             _ => Err(Exit::NotText),
         },
-    }
-}
-
-/// What the arguments ask for.
-#[derive(Clone, Copy)]
-pub struct Request<'a> {
-    pub task: Task<'a>,
-    /// Whether to explain why the task fails.
-    pub is_explained: bool,
-}
-
-impl<'m> Request<'m> {
-    /// Returns what arguments ask for that the parser accepts.
-    pub fn of(matches: &'m ArgMatches<'_>) -> Result<Request<'m>, Exit> {
-        match Task::of(matches) {
-            Some(task) => Ok(Request {
-                task,
-                is_explained: has_flag(matches, "explain"),
-            }),
-            None => Err(Exit::NoTask),
-        }
     }
 }
 

@@ -1,84 +1,70 @@
-//! The tasks on a circuit alone: conversion, unrolling, formulas, and facts about it.
+//! The commands on a circuit alone: conversion, unrolling, formulas, and facts about it.
+ghost use Rattle.std.specs.Prelude.{IfSome, OnOk};
+ghost use Rattle.aig_run.specs.Command.{OfFile};
+ghost use Rattle.aig_commands.specs.Cnf.{WritesFormula};
+ghost use Rattle.aig_commands.specs.GoesWell.{GoesWell};
+ghost use Rattle.aig_commands.specs.Info.{ListsFacts};
+ghost use Rattle.aig_commands.specs.Unroll.{UnrollsKept};
+ghost use Rattle.aig.specs.Ends.{Answers, Ends, end_of};
 
+use crate::command::Selection;
+use crate::ended::ended;
 use crate::kept::{begin_map, write_map};
-use aig_base::Std;
-use aig_commands::{cnf, cnf_step, info, select, toaig, unroll};
-use aig_files::{CIRCUIT, Exit, OutputFile, open, output, read_whole};
+use aig_base::{Circuit, Std};
+use aig_cnf::Query;
+use aig_commands::{cnf, info, select, toaig, unroll};
+use aig_files::{Exit, OutputFile, Part, output, read_whole};
 use aig_format::Format;
 use aig_run::RunFault;
-use aig_tasks::Selection;
 use std::alloc::Global;
-use std::fs::{Files, OpenFile};
+use std::fs::{Files, Metadata};
 use std::io::Read;
 use std::os::fd::AsFd;
 
 /// Writes a circuit in a format.
-pub fn convert<R: Files + AllocGlobal + Print>(
-    rt: &R,
-    to: Format,
-    circuit: &str,
-) -> Result<(), Exit> {
-    let circuit = open(rt, circuit, CIRCUIT)?;
-    convert_file(rt, to, circuit)
-}
-
-fn convert_file<R: AllocGlobal + Print, F: Read + Drop>(
+pub fn toaig<R: AllocGlobal + Print, F: Read + Drop>(
     rt: &R,
     to: Format,
     circuit: F,
 ) -> Result<(), Exit> {
     let mut circuit = Std::new(circuit);
     let mut out = output(rt);
-    toaig::toaig(rt.alloc(), &mut circuit, to, &mut out)?;
-    Ok(())
+    ended(toaig::toaig(rt.alloc(), &mut circuit, to, &mut out))
 }
 
-/// Writes a circuit unrolled for `frames` frames, and to the file `map`, if there is one, what its inputs are.
-pub fn unroll<R: Files + AllocGlobal + Print>(
-    rt: &R,
-    frames: u32,
-    to: Format,
-    circuit: &str,
-    map: Option<&str>,
-) -> Result<(), Exit>
-where
-    R::File: AsFd,
-{
-    let circuit = open(rt, circuit, CIRCUIT)?;
-    match map {
-        Some(map) => unroll_and_map(rt, frames, to, circuit, map),
-        None => unroll_file(rt, frames, to, circuit),
-    }
-}
-
-fn unroll_file<R: AllocGlobal + Print, F: Read + Drop>(
+/// Writes a circuit unrolled for `frames` frames.
+pub fn unroll<R: AllocGlobal + Print, F: Read + Drop>(
     rt: &R,
     frames: u32,
     to: Format,
     circuit: F,
-) -> Result<(), Exit> {
-    let circuit = read_whole(rt.alloc(), circuit, CIRCUIT)?;
-    let mut out = output(rt);
-    let _circuit = unroll::unroll(rt.alloc(), circuit.as_slice(), frames, to, &mut out)?;
-    Ok(())
+) -> Result<(), Exit>
+    ensures ends { IfSome (F.remaining circuit) (λ file.
+        Ends end_of (OfFile file (UnrollsKept frames to)) result) }
+{
+    let circuit = read_whole(rt.alloc(), circuit, Part::Circuit)?;
+    let file = circuit.as_slice();
+    ended(write_unrolled(rt, frames, to, file))
 }
 
-fn unroll_and_map<R: Files + AllocGlobal + Print>(
+/// Writes it, and to the file `map` what its inputs are. `opened` is the circuit's file, which the map must not replace.
+pub fn unroll_and_map<R: Files + AllocGlobal + Print, F: Read + Drop>(
     rt: &R,
     frames: u32,
     to: Format,
-    circuit: R::File,
+    circuit: F,
+    opened: &Metadata,
     map: &str,
 ) -> Result<(), Exit>
 where
     R::File: AsFd,
+    ensures done { OnOk result
+        (IfSome (F.remaining circuit) (λ text. GoesWell (OfFile text (UnrollsKept frames to)))) }
 {
-    let Ok(metadata) = circuit.metadata() else {
-        return Err(CIRCUIT);
-    };
-    let circuit = read_whole(rt.alloc(), circuit, CIRCUIT)?;
-    let mut map = begin_map(rt, map, &metadata)?;
-    let done = write_unrolled_and_map(rt, frames, to, circuit.as_slice(), &mut map);
+    let circuit = read_whole(rt.alloc(), circuit, Part::Circuit)?;
+    let file = circuit.as_slice();
+    let mut map = begin_map(rt, map, opened)?;
+    let done = write_unrolled_and_map(rt, frames, to, file, &mut map);
     if done.is_err() {
         map.remove(rt);
     }
@@ -94,96 +80,60 @@ fn write_unrolled_and_map<R: Files + AllocGlobal + Print>(
 ) -> Result<(), Exit>
 where
     R::File: AsFd,
+    ensures { OnOk result (GoesWell (OfFile circuit.now (UnrollsKept frames to))) }
 {
-    let mut out = output(rt);
-    let circuit = unroll::unroll(rt.alloc(), circuit, frames, to, &mut out)?;
+    let circuit = write_unrolled(rt, frames, to, circuit)?;
     write_map(rt, &circuit, frames, map)
 }
 
-/// Writes the formula that the bad state property at this position is reached within `frames` frames.
-pub fn formula<R: Files + AllocGlobal + Print>(
+/// Writes the unrolled circuit, and returns the circuit that was read.
+fn write_unrolled<R: AllocGlobal + Print>(
     rt: &R,
     frames: u32,
-    property: u32,
-    circuit: &str,
-) -> Result<(), Exit> {
-    let circuit = open(rt, circuit, CIRCUIT)?;
-    formula_file(rt, frames, property, circuit)
-}
-
-fn formula_file<R: AllocGlobal + Print, F: Read + Drop>(
-    rt: &R,
-    frames: u32,
-    property: u32,
-    circuit: F,
-) -> Result<(), Exit> {
-    let circuit = read_whole(rt.alloc(), circuit, CIRCUIT)?;
+    to: Format,
+    circuit: &[u8],
+) -> Result<Circuit, RunFault>
+    ensures { Answers (OfFile circuit.now (UnrollsKept frames to)) result }
+{
     let mut out = output(rt);
-    cnf::cnf(rt.alloc(), circuit.as_slice(), frames, property, &mut out)?;
-    Ok(())
+    unroll::unroll(rt.alloc(), circuit, frames, to, &mut out)
 }
 
-/// Writes the formula of the induction step of `frames` frames for the bad state property at this position.
-pub fn step_formula<R: Files + AllocGlobal + Print>(
+/// Writes the formula of a query.
+pub fn cnf<R: AllocGlobal + Print, F: Read + Drop>(
     rt: &R,
-    frames: u32,
-    property: u32,
-    circuit: &str,
-) -> Result<(), Exit> {
-    let circuit = open(rt, circuit, CIRCUIT)?;
-    step_formula_file(rt, frames, property, circuit)
-}
-
-fn step_formula_file<R: AllocGlobal + Print, F: Read + Drop>(
-    rt: &R,
-    frames: u32,
-    property: u32,
+    query: Query,
     circuit: F,
-) -> Result<(), Exit> {
-    let circuit = read_whole(rt.alloc(), circuit, CIRCUIT)?;
+) -> Result<(), Exit>
+    ensures ends { IfSome (F.remaining circuit) (λ file.
+        Ends end_of (OfFile file (WritesFormula query)) result) }
+{
+    let circuit = read_whole(rt.alloc(), circuit, Part::Circuit)?;
+    let file = circuit.as_slice();
     let mut out = output(rt);
-    cnf_step::cnf_step(rt.alloc(), circuit.as_slice(), frames, property, &mut out)?;
-    Ok(())
+    ended(cnf::cnf(rt.alloc(), file, query, &mut out))
 }
 
 /// Writes facts about a circuit.
-pub fn info<R: Files + AllocGlobal + Print>(rt: &R, circuit: &str) -> Result<(), Exit> {
-    let circuit = open(rt, circuit, CIRCUIT)?;
-    info_file(rt, circuit)
-}
-
-fn info_file<R: AllocGlobal + Print, F: Read + Drop>(rt: &R, circuit: F) -> Result<(), Exit> {
-    let circuit = read_whole(rt.alloc(), circuit, CIRCUIT)?;
+pub fn info<R: AllocGlobal + Print, F: Read + Drop>(rt: &R, circuit: F) -> Result<(), Exit>
+    ensures ends { IfSome (F.remaining circuit) (λ file.
+        Ends end_of (OfFile file (ListsFacts file)) result) }
+{
+    let circuit = read_whole(rt.alloc(), circuit, Part::Circuit)?;
+    let file = circuit.as_slice();
     let mut out = output(rt);
-    info::info(rt.alloc(), circuit.as_slice(), &mut out)?;
-    Ok(())
+    ended(info::info(rt.alloc(), file, &mut out))
 }
 
 /// Writes the entries of a circuit with their names.
-pub fn info_names<R: Files + AllocGlobal + Print>(rt: &R, circuit: &str) -> Result<(), Exit> {
-    let circuit = open(rt, circuit, CIRCUIT)?;
-    info_names_file(rt, circuit)
-}
-
-fn info_names_file<R: AllocGlobal + Print, F: Read + Drop>(rt: &R, circuit: F) -> Result<(), Exit> {
+pub fn info_names<R: AllocGlobal + Print, F: Read + Drop>(rt: &R, circuit: F) -> Result<(), Exit> {
     let mut circuit = Std::new(circuit);
     let mut out = output(rt);
-    info::info_names(rt.alloc(), &mut circuit, &mut out)?;
-    Ok(())
+    ended(info::info_names(rt.alloc(), &mut circuit, &mut out))
 }
 
 /// Writes a circuit with some of its properties.
-pub fn select<R: Files + AllocGlobal + Print>(
-    rt: &R,
-    selection: Selection<'_>,
-    to: Format,
-    circuit: &str,
-) -> Result<(), Exit> {
-    let circuit = open(rt, circuit, CIRCUIT)?;
-    select_file(rt, selection, to, circuit)
-}
-
-fn select_file<R: AllocGlobal + Print, F: Read + Drop>(
+pub fn select<R: AllocGlobal + Print, F: Read + Drop>(
     rt: &R,
     selection: Selection<'_>,
     to: Format,
@@ -192,7 +142,7 @@ fn select_file<R: AllocGlobal + Print, F: Read + Drop>(
     let mut circuit = Std::new(circuit);
     let positions = positions_of(rt.alloc(), selection.properties)?;
     let mut out = output(rt);
-    select::select(
+    ended(select::select(
         rt.alloc(),
         &mut circuit,
         selection.from,
@@ -200,8 +150,7 @@ fn select_file<R: AllocGlobal + Print, F: Read + Drop>(
         positions.as_slice(),
         to,
         &mut out,
-    )?;
-    Ok(())
+    ))
 }
 
 /// Returns the numbers of texts. The parser has accepted each of them as a number.
@@ -209,7 +158,7 @@ fn positions_of(alloc: Global, texts: &[&str]) -> Result<Vec<u32>, Exit> {
     let mut positions = Vec::new(alloc);
     for text in texts {
         let Ok(position) = text.parse::<u32>() else {
-            return Err(Exit::NoTask);
+            return Err(Exit::NoCommand);
         };
         if positions.push(position).is_err() {
             return Err(Exit::Run(RunFault::Memory));

@@ -2,17 +2,20 @@
 #![tactic(auto)]
 
 mod arguments;
+mod chosen;
 mod circuits;
-mod dispatch;
+mod command;
+mod ended;
 mod kept;
 mod simulations;
+mod solvers;
 mod witnesses;
 
+use aig_cli::has_flag;
 use aig_explain::{explain, is_asked_for};
 use aig_files::{Exit, reserve};
-use arguments::{Request, parsed};
-use clap::ArgMatches;
-use dispatch::run_task;
+use arguments::parsed;
+use chosen::{files_of, open_chosen};
 use std::env::Env;
 use std::fs::Files;
 use std::os::fd::AsFd;
@@ -30,20 +33,9 @@ fn run<R: Env + Files + AllocGlobal + Print + Eprint>(rt: &R) -> Result<(), Exit
 where
     R::File: AsFd,
 {
-    match reserve(rt) {
-        Ok(_reserved) => run_arguments(rt),
-        Err(exit) => Err(exit.report(rt)),
-    }
-}
-
-fn run_arguments<R: Env + Files + AllocGlobal + Print + Eprint>(rt: &R) -> Result<(), Exit>
-where
-    R::File: AsFd,
-{
-    match arguments::all(rt) {
-        Ok(words) => run_words(rt, words.as_slice()),
-        Err(exit) => Err(exit.report(rt)),
-    }
+    let _reserved = reported(rt, reserve(rt))?;
+    let words = reported(rt, arguments::all(rt))?;
+    run_words(rt, words.as_slice())
 }
 
 fn run_words<R: Env + Files + AllocGlobal + Print + Eprint>(
@@ -53,38 +45,23 @@ fn run_words<R: Env + Files + AllocGlobal + Print + Eprint>(
 where
     R::File: AsFd,
 {
-    match parsed(rt, words) {
-        Ok(matches) => run_matches(rt, &matches),
+    let matches = reported(rt, parsed(rt, words))?;
+    let done = match open_chosen(rt, &matches) {
+        Ok(command) => reported(rt, command.run(rt)),
         Err(exit) => Err(exit.report(rt)),
-    }
-}
-
-fn run_matches<R: Env + Files + AllocGlobal + Print + Eprint>(
-    rt: &R,
-    matches: &ArgMatches<'_>,
-) -> Result<(), Exit>
-where
-    R::File: AsFd,
-{
-    match Request::of(matches) {
-        Ok(request) => run_request(rt, &request),
-        Err(exit) => Err(exit.report(rt)),
-    }
-}
-
-fn run_request<R: Env + Files + AllocGlobal + Print + Eprint>(
-    rt: &R,
-    request: &Request<'_>,
-) -> Result<(), Exit>
-where
-    R::File: AsFd,
-{
-    let done = run_task(rt, request.task);
-    if let Err(exit) = done {
-        let exit = exit.report(rt);
-        if request.is_explained || is_asked_for(rt) {
-            explain(rt, &request.task.files(), exit);
+    };
+    if let (Err(exit), Some(files)) = (done, files_of(&matches)) {
+        if has_flag(&matches, "explain") || is_asked_for(rt) {
+            explain(rt, &files, exit);
         }
     }
     done
+}
+
+/// Prints why there is no result, if there is none.
+fn reported<T: Drop>(rt: &impl Eprint, found: Result<T, Exit>) -> Result<T, Exit> {
+    match found {
+        Ok(value) => Ok(value),
+        Err(exit) => Err(exit.report(rt)),
+    }
 }

@@ -1,4 +1,7 @@
 //! The command line: the parser of its words, and what it found.
+ghost use Rattle.std.specs.Prelude.{◌≡◌, None, Some, codes, false, option_map, true};
+ghost use Rattle.clap.specs.Matches.{first_value, found_of, one_text};
+ghost use Rattle.aig_cli.specs.Held.{HoldsNumber, HoldsNumberOr};
 
 use crate::arguments::{EXPLAIN, built};
 use crate::help;
@@ -66,7 +69,9 @@ pub fn subcommand_of<'m, 'a>(matches: &'m ArgMatches<'a>) -> Option<(&'a str, &'
 }
 
 /// Returns the text of an argument.
-pub fn text_of<'a>(matches: &ArgMatches<'a>, name: &str) -> Option<&'a str> {
+pub fn text_of<'a>(matches: &ArgMatches<'a>, name: &str) -> Option<&'a str>
+    ensures held { option_map (λ text. text.now) result ≡ first_value (found_of matches.now) name.now }
+{
     matches.get_str(name)
 }
 
@@ -76,11 +81,24 @@ pub fn texts_of<'m, 'a>(matches: &'m ArgMatches<'a>, name: &str) -> Option<&'m [
 }
 
 /// Returns the number of an argument.
-pub fn number_of(matches: &ArgMatches<'_>, name: &str) -> Option<u32> {
+pub fn number_of(matches: &ArgMatches<'_>, name: &str) -> Option<u32>
+    ensures held { HoldsNumber matches.now name.now result }
+{
     matches.get_one::<u32>(name)
 }
 
+/// Returns the number of an argument, or `default` if it is left out.
+pub fn number_or(matches: &ArgMatches<'_>, name: &str, default: u32) -> u32
+    ensures held { HoldsNumberOr matches.now name.now default result }
+{
+    number_of(matches, name).unwrap_or(default)
+}
+
 /// Returns whether a flag was given.
-pub fn has_flag(matches: &ArgMatches<'_>, name: &str) -> bool {
+pub fn has_flag(matches: &ArgMatches<'_>, name: &str) -> bool
+    ensures absent { one_text (found_of matches.now) name.now ≡ None → result ≡ false }
+    ensures given { one_text (found_of matches.now) name.now ≡ Some (codes "true") → result ≡ true }
+    ensures not_given { one_text (found_of matches.now) name.now ≡ Some (codes "false") → result ≡ false }
+{
     matches.get_flag(name)
 }

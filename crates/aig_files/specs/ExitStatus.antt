@@ -4,13 +4,12 @@ use Rattle.aig_run.specs.Status.{status_of}
 use Rattle.aig_files.specs.declared.exit.Exit.{Exit}
 use Rattle.aig_files.specs.declared.exit.Exit.TheVariants as exits
 
--- 2 where the arguments are wrong or ask for a text; 3 for the file of a witness or a model that is not read; 1 for a
--- verdict other than confirmed; else the run's
+-- 2 where the arguments are wrong or ask for a text; 3 for a file that is not read; 1 for a verdict other than
+-- confirmed; else the run's
 abbrev pub status_of_exit : Exit → ℕ
 status_of_exit exits.Reported = 2
-status_of_exit exits.NoTask = 2
+status_of_exit exits.NoCommand = 2
 status_of_exit exits.NotText = 2
 status_of_exit (exits.Run fault) = status_of fault
-status_of_exit exits.Witness = 3
-status_of_exit exits.Model = 3
+status_of_exit (exits.Unread part) = 3
 status_of_exit exits.NotConfirmed = 1

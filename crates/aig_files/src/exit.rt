@@ -2,6 +2,7 @@
 ghost use Rattle.std.specs.Prelude.{◌≡◌};
 ghost use Rattle.aig_files.specs.ExitStatus.{status_of_exit};
 
+use crate::part::Part;
 use aig_run::RunFault;
 use std::io;
 
@@ -10,16 +11,14 @@ use std::io;
 pub enum Exit {
     /// The arguments are wrong, or ask for help or for the version; the text is printed already.
     Reported,
-    /// The arguments choose no task.
-    NoTask,
+    /// The arguments choose no command.
+    NoCommand,
     /// An argument is not UTF-8.
     NotText,
     /// A run failed, or its input was rejected.
     Run(RunFault),
-    /// A witness's file cannot be opened or read.
-    Witness,
-    /// A model's file cannot be opened or read.
-    Model,
+    /// A file cannot be opened or read.
+    Unread(Part),
     /// The verdict on a witness is printed, and is not `confirmed`.
     NotConfirmed,
 }
@@ -41,11 +40,10 @@ impl Exit {
     fn print(&self, rt: &impl Eprint) -> io::Result<()> {
         match self {
             Exit::Reported | Exit::NotConfirmed => Ok(()),
-            Exit::NoTask => eprintln!(rt; "error: the words choose no task"),
+            Exit::NoCommand => eprintln!(rt; "error: the words choose no task"),
             Exit::NotText => eprintln!(rt; "error: a word of the command line is not UTF-8"),
             Exit::Run(fault) => eprintln!(rt; "aig: {fault}"),
-            Exit::Witness => eprintln!(rt; "aig: witness: input or output"),
-            Exit::Model => eprintln!(rt; "aig: model: input or output"),
+            Exit::Unread(part) => eprintln!(rt; "aig: {}: input or output", part.name()),
         }
     }
 
@@ -54,9 +52,9 @@ impl Exit {
         ensures { result ≡ status_of_exit self.now }
     {
         match self {
-            Exit::Reported | Exit::NoTask | Exit::NotText => 2,
+            Exit::Reported | Exit::NoCommand | Exit::NotText => 2,
             Exit::Run(fault) => fault.status(),
-            Exit::Witness | Exit::Model => 3,
+            Exit::Unread(_) => 3,
             Exit::NotConfirmed => 1,
         }
     }

@@ -1,31 +1,34 @@
 //! The files that the arguments name.
+ghost use Rattle.std.specs.Prelude.{◌≡◌, ◌⊎◌, IfErr, IfOk, IfSome};
 
 use crate::exit::Exit;
-use aig_base::{Buffered, Fault, Std};
+use crate::part::Part;
+use aig_base::{Buffered, Std};
 use aig_run::RunFault;
 use std::alloc::Global;
 use std::fs::{self, Files};
 use std::io::{self, ErrorKind, Printer, Read};
 
-/// A circuit's file cannot be opened or read.
-pub const CIRCUIT: Exit = Exit::Run(RunFault::Circuit(Fault::Io));
-
-/// Opens a file. If that fails, the program ends with `part`.
-pub fn open<R: Files>(rt: &R, name: &str, part: Exit) -> Result<R::File, Exit> {
+/// Opens a file.
+pub fn open<R: Files>(rt: &R, name: &str, part: Part) -> Result<R::File, Exit> {
     match fs::open(rt, name) {
         Ok(file) => Ok(file),
-        Err(_) => Err(part),
+        Err(_) => Err(Exit::Unread(part)),
     }
 }
 
-/// Reads all bytes of an open file. If a read fails, the program ends with `part`.
-pub fn read_whole<F: Read + Drop>(alloc: Global, mut file: F, part: Exit) -> Result<Vec<u8>, Exit> {
+/// Reads all bytes that an open file has left, where its type says which they are. A read that fails is never taken for
+/// the end of the file.
+pub fn read_whole<F: Read + Drop>(alloc: Global, mut file: F, part: Part) -> Result<Vec<u8>, Exit>
+    ensures whole { IfOk result (λ bytes. IfSome (F.remaining file) (λ left. bytes.items ≡ left)) }
+    ensures fails { IfErr result (λ exit. (exit ≡ Exit.Unread part) ⊎ (exit ≡ Exit.Run RunFault.Memory)) }
+{
     let mut bytes = Vec::new(alloc);
     match file.read_to_end(&mut bytes) {
         Ok(_) => Ok(bytes),
         Err(error) => match error.kind() {
             ErrorKind::OutOfMemory => Err(Exit::Run(RunFault::Memory)),
-            _ => Err(part),
+            _ => Err(Exit::Unread(part)),
         },
     }
 }

@@ -15,7 +15,7 @@ use crate::witness::explain_witness;
 use aig_base::{Fault, Memory};
 use aig_bench::BenchFault;
 use aig_cnf::CnfFault;
-use aig_files::{Exit, RunFiles};
+use aig_files::{Exit, Part, RunFiles};
 use aig_run::{RunFault, ScriptFault};
 use aig_sim::{ReachFault, StimFault, WitnessFault};
 use aig_unroll::UnrollFault;
@@ -42,12 +42,23 @@ fn is_no(value: &str) -> bool {
     NO.iter().any(|no| value.eq_ignore_ascii_case(no))
 }
 
-/// Explains on standard error why a task with these files ended, after its reason is printed.
+/// Explains on standard error why a command with these files ended, after its reason is printed.
 pub fn explain<R: Files + AllocGlobal + Print + Eprint>(rt: &R, files: &RunFiles<'_>, exit: Exit) {
     match exit {
         Exit::Run(fault) => explain_fault(rt, files, fault),
-        Exit::Witness | Exit::Model => of_file(rt, files.run),
-        Exit::Reported | Exit::NoTask | Exit::NotText | Exit::NotConfirmed => {}
+        Exit::Unread(part) => of_unread(rt, files, part),
+        Exit::Reported | Exit::NoCommand | Exit::NotText | Exit::NotConfirmed => {}
+    }
+}
+
+/// A file that was not opened, or not read to its end.
+fn of_unread<R: Files + AllocGlobal + Print + Eprint>(rt: &R, files: &RunFiles<'_>, part: Part) {
+    match part {
+        Part::Circuit => of_file(rt, Some(files.circuit)),
+        Part::Stimulus => of_stream(rt, files.run),
+        Part::Script => of_stream(rt, files.script),
+        Part::Witness | Part::Model | Part::Proof => of_file(rt, files.run),
+        Part::StepProof => of_file(rt, files.step),
     }
 }
 

@@ -1,0 +1,86 @@
+-- How a command's function ends, from how the command does.
+use Rattle.std.proofs.Common.{◌≡◌, ◌⊎◌, inl, inr, ℕ, List, Result, Ok, Err, refl, sym, ◌∙◌, ap, subst}
+use Rattle.std.specs.Prelude.{Bool, true, false, Option, None, Some, IfSome, OnOk}
+use Rattle.std.specs.Result.{IsErrAnd}
+use Rattle.aig_bytes.specs.Flow.{Flow}
+use Rattle.aig_parts.specs.declared.raw.Raw.{Raw}
+use Rattle.aig_sim.specs.declared.verdict.Verdict.{Verdict}
+use Rattle.aig_sim.specs.declared.verdict.Verdict.TheVariants.{Initial, Constraint, NotBad, Confirmed}
+use Rattle.aig_run.specs.Command.{CommandEnds, OfFile}
+use Rattle.aig_run.specs.declared.run_fault.RunFault.{RunFault}
+use Rattle.aig_run.specs.declared.run_fault.RunFault.TheVariants as run_faults
+use Rattle.aig_commands.specs.GoesWell.{GoesWell}
+use Rattle.aig_files.specs.declared.exit.Exit.{Exit}
+use Rattle.aig_files.specs.declared.exit.Exit.TheVariants as exits
+use Rattle.aig_files.specs.declared.part.Part.{Part}
+use Rattle.aig.specs.Ends.{Answers, AreConfirmed, ChecksWitness, Ends, end_of, end_of_verdict, unread, writes}
+
+-- what holds of the bytes that were read holds of those that the file had left
+pub of_whole : (left : Option (List ℕ)) (bytes : List ℕ) → IfSome left (λ xs. bytes ≡ xs) → (Q : List ℕ → Type 0) → Q bytes
+    → IfSome left Q
+of_whole None bytes whole Q q = tt
+of_whole (Some xs) bytes whole Q q = subst Q whole q
+
+-- the bytes of a slice of what was read are those too
+pub slice_whole : (left : Option (List ℕ)) (bytes items : List ℕ) → bytes ≡ items → IfSome left (λ xs. items ≡ xs)
+    → IfSome left (λ xs. bytes ≡ xs)
+slice_whole None bytes items is whole = tt
+slice_whole (Some xs) bytes items is whole = is ∙ whole
+
+-- what holds of all bytes holds of those that the file had left
+pub of_any : (left : Option (List ℕ)) (Q : List ℕ → Type 0) → ((xs : List ℕ) → Q xs) → IfSome left Q
+of_any None Q q = tt
+of_any (Some xs) Q q = q xs
+
+-- a file that was not read is reported so
+pub ends_unread : {T : Type 0} {end : Result T RunFault → Result (Unit {0}) Exit} {Means : Result T RunFault → List ℕ → Type 0}
+    (r : Result (Unit {0}) Exit) (exit : Exit) (part : Part)
+    → (exit ≡ exits.Unread part) ⊎ (exit ≡ exits.Run run_faults.Memory) → IsErrAnd r (λ e. e ≡ exit) → Ends end Means r
+ends_unread (Ok done) exit part why is = absurd is
+ends_unread (Err e) exit part (inl why) is = unread e refl (inl (part, is ∙ why))
+ends_unread (Err e) exit part (inr why) is = unread e refl (inr (is ∙ why))
+
+-- then nothing is asked of a good end
+pub no_end : (P : Type 0) (r : Result (Unit {0}) Exit) (exit : Exit) → IsErrAnd r (λ e. e ≡ exit) → OnOk r P
+no_end P (Ok done) exit is = absurd is
+no_end P (Err e) exit is = tt
+
+-- a command answers what its contract means, whatever reached standard output
+pub answers : {X T : Type 0} (out : Flow X) (Means : Result T RunFault → List ℕ → Type 0) (answer : Result T RunFault)
+    → CommandEnds out run_faults.Output Means answer → Answers Means answer
+answers out Means answer (CommandEnds.writes_all bytes means got) = writes bytes means
+answers out Means answer (CommandEnds.breaks_off other bytes means breaks) = Answers.fails
+
+-- a good answer is one that it means
+pub goes_well : {T : Type 0} (Means : Result T RunFault → List ℕ → Type 0) (value : T) → Answers Means (Ok value) → GoesWell Means
+goes_well Means value (writes bytes means) = (value, bytes, means)
+
+-- only a good answer is a good end
+pub ok_of : {T : Type 0} (P : Type 0) (answer : Result T RunFault) (r : Result (Unit {0}) Exit) → r ≡ end_of answer → OnOk answer P
+    → OnOk r P
+ok_of P (Ok value) (Ok done) is p = p
+ok_of P (Err fault) (Ok done) is p = cc
+ok_of P (Ok value) (Err e) is p = tt
+ok_of P (Err fault) (Err e) is p = tt
+
+-- a good end of a check is that of a confirmed witness
+pub confirmed_file : (trace : Bool) (file text : List ℕ) (answer : Result Verdict RunFault) (r : Result (Unit {0}) Exit)
+    → Answers (OfFile file (ChecksWitness trace text)) answer → r ≡ end_of_verdict answer → OnOk r (AreConfirmed file text)
+confirmed_file trace file text answer (Err e) a is = tt
+confirmed_file trace file text (Err fault) (Ok done) a is = cc
+confirmed_file trace file text (Ok (Initial latch)) (Ok done) a is = cc
+confirmed_file trace file text (Ok (Constraint frame constraint)) (Ok done) a is = cc
+confirmed_file trace file text (Ok NotBad) (Ok done) a is = cc
+confirmed_file true file text (Ok Confirmed) (Ok done) (writes bytes (raw, is_file, means)) is = (raw, is_file, means.0)
+confirmed_file false file text (Ok Confirmed) (Ok done) (writes bytes (raw, is_file, means)) is = (raw, is_file, means.0)
+
+-- what holds of a good end, of bytes that were read
+pub ok_whole : (r : Result (Unit {0}) Exit) (left : Option (List ℕ)) (bytes : List ℕ) → IfSome left (λ xs. bytes ≡ xs)
+    → (Q : List ℕ → Type 0) → OnOk r (Q bytes) → OnOk r (IfSome left Q)
+ok_whole (Ok done) left bytes whole Q q = of_whole left bytes whole Q q
+ok_whole (Err e) left bytes whole Q q = tt
+
+-- what holds anyway holds of a good end
+pub any_end : (P : Type 0) (r : Result (Unit {0}) Exit) → P → OnOk r P
+any_end P (Ok done) p = p
+any_end P (Err e) p = tt

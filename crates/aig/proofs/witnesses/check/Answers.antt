@@ -1,0 +1,53 @@
+use Rattle.std.specs.Prelude.{IfSome}
+use Rattle.aig_run.specs.Command.{OfFile}
+use Rattle.aig_files.specs.declared.part.Part.TheVariants as parts
+use Rattle.aig.specs.Ends.{AreConfirmed, ChecksWitness, Ends, as_meant, end_of_verdict}
+use Rattle.aig.proofs.Endings.{confirmed_file, no_end, of_any, of_whole, ok_whole, slice_whole, ends_unread}
+use Rattle.aig.proofs.witnesses.check.Goals as goal
+
+pub returns-clause-confirmed : goal.returns-clause-confirmed
+returns-clause-confirmed g c =
+    let file = c.as_slice-file.result.now in
+    let text = c.as_slice-text.result.now in
+    ok_whole c.confirmed.result (g.F.Read.remaining c.args.circuit) file
+    (slice_whole (g.F.Read.remaining c.args.circuit) _ _ c.as_slice-file.ensures.value c.in_ok-circuit.ensures.whole)
+    (λ xs. IfSome (g.F.Read.remaining c.args.witness) (AreConfirmed xs))
+    (ok_whole c.confirmed.result (g.F.Read.remaining c.args.witness) text
+    (slice_whole (g.F.Read.remaining c.args.witness) _ _ c.as_slice-text.ensures.value c.in_ok-witness.ensures.whole) (AreConfirmed file)
+    (confirmed_file c.args.with_trace file text c.write_verdict.result c.confirmed.result c.write_verdict.ensures c.confirmed.ensures))
+
+pub returns-in_err-circuit-clause-confirmed : goal.returns-in_err-circuit-clause-confirmed
+returns-in_err-circuit-clause-confirmed g c =
+    no_end _ c.from_residual.result c.in_err-circuit.field-0.0 c.from_residual.ensures.1
+
+pub returns-in_err-witness-clause-confirmed : goal.returns-in_err-witness-clause-confirmed
+returns-in_err-witness-clause-confirmed g c =
+    no_end _ c.from_residual-in_err-witness.result c.in_err-witness.field-0.0 c.from_residual-in_err-witness.ensures.1
+
+pub returns-clause-ends : goal.returns-clause-ends
+returns-clause-ends g c =
+    let file = c.as_slice-file.result.now in
+    let text = c.as_slice-text.result.now in
+    of_whole (g.F.Read.remaining c.args.circuit) file
+    (slice_whole (g.F.Read.remaining c.args.circuit) _ _ c.as_slice-file.ensures.value c.in_ok-circuit.ensures.whole)
+    (λ xs. IfSome (g.F.Read.remaining c.args.witness) (λ ys. Ends end_of_verdict (OfFile xs (ChecksWitness c.args.with_trace ys)) c.confirmed.result))
+    (of_whole (g.F.Read.remaining c.args.witness) text
+    (slice_whole (g.F.Read.remaining c.args.witness) _ _ c.as_slice-text.ensures.value c.in_ok-witness.ensures.whole)
+    (λ ys. Ends end_of_verdict (OfFile file (ChecksWitness c.args.with_trace ys)) c.confirmed.result)
+    (as_meant c.write_verdict.result (c.write_verdict.ensures) c.confirmed.ensures))
+
+pub returns-in_err-circuit-clause-ends : goal.returns-in_err-circuit-clause-ends
+returns-in_err-circuit-clause-ends g c =
+    let r = c.from_residual in
+    of_any (g.F.Read.remaining c.args.circuit)
+    (λ xs. IfSome (g.F.Read.remaining c.args.witness) (λ ys. Ends end_of_verdict (OfFile xs (ChecksWitness c.args.with_trace ys)) r.result))
+    (λ xs. of_any (g.F.Read.remaining c.args.witness) (λ ys. Ends end_of_verdict (OfFile xs (ChecksWitness c.args.with_trace ys)) r.result)
+    (λ ys. (ends_unread r.result c.in_err-circuit.field-0.0 parts.Circuit c.in_err-circuit.ensures.fails r.ensures.1)))
+
+pub returns-in_err-witness-clause-ends : goal.returns-in_err-witness-clause-ends
+returns-in_err-witness-clause-ends g c =
+    let r = c.from_residual-in_err-witness in
+    of_any (g.F.Read.remaining c.args.circuit)
+    (λ xs. IfSome (g.F.Read.remaining c.args.witness) (λ ys. Ends end_of_verdict (OfFile xs (ChecksWitness c.args.with_trace ys)) r.result))
+    (λ xs. of_any (g.F.Read.remaining c.args.witness) (λ ys. Ends end_of_verdict (OfFile xs (ChecksWitness c.args.with_trace ys)) r.result)
+    (λ ys. (ends_unread r.result c.in_err-witness.field-0.0 parts.Witness c.in_err-witness.ensures.fails r.ensures.1)))

@@ -1,0 +1,44 @@
+use Rattle.std.specs.Prelude.{IfSome}
+use Rattle.aig_commands.specs.Reduce.{Reduces}
+use Rattle.aig_run.specs.Command.{OfFile}
+use Rattle.aig_files.specs.declared.part.Part.TheVariants as parts
+use Rattle.aig.specs.Ends.{Ends, as_meant, end_of_verdict}
+use Rattle.aig.proofs.Endings.{answers, of_any, of_whole, slice_whole, ends_unread}
+use Rattle.aig.proofs.witnesses.reduce.Goals as goal
+
+pub returns : goal.returns
+returns g c =
+    let file = c.as_slice-file.result.now in
+    let text = c.as_slice-text.result.now in
+    record {
+      ends =
+          of_whole (g.F.Read.remaining c.args.circuit) file
+          (slice_whole (g.F.Read.remaining c.args.circuit) _ _ c.as_slice-file.ensures.value c.in_ok-circuit.ensures.whole)
+          (λ xs. IfSome (g.F.Read.remaining c.args.witness) (λ ys. Ends end_of_verdict (OfFile xs (Reduces ys)) c.confirmed.result))
+          (of_whole (g.F.Read.remaining c.args.witness) text
+          (slice_whole (g.F.Read.remaining c.args.witness) _ _ c.as_slice-text.ensures.value c.in_ok-witness.ensures.whole)
+          (λ ys. Ends end_of_verdict (OfFile file (Reduces ys)) c.confirmed.result)
+          (as_meant c.reduce.result (answers _ (OfFile file (Reduces text)) c.reduce.result c.reduce.ensures.ends) c.confirmed.ensures));
+    }
+
+pub returns-in_err-circuit : goal.returns-in_err-circuit
+returns-in_err-circuit g c =
+    let r = c.from_residual in
+    record {
+      ends =
+          of_any (g.F.Read.remaining c.args.circuit)
+          (λ xs. IfSome (g.F.Read.remaining c.args.witness) (λ ys. Ends end_of_verdict (OfFile xs (Reduces ys)) r.result))
+          (λ xs. of_any (g.F.Read.remaining c.args.witness) (λ ys. Ends end_of_verdict (OfFile xs (Reduces ys)) r.result)
+          (λ ys. (ends_unread r.result c.in_err-circuit.field-0.0 parts.Circuit c.in_err-circuit.ensures.fails r.ensures.1)));
+    }
+
+pub returns-in_err-witness : goal.returns-in_err-witness
+returns-in_err-witness g c =
+    let r = c.from_residual-in_err-witness in
+    record {
+      ends =
+          of_any (g.F.Read.remaining c.args.circuit)
+          (λ xs. IfSome (g.F.Read.remaining c.args.witness) (λ ys. Ends end_of_verdict (OfFile xs (Reduces ys)) r.result))
+          (λ xs. of_any (g.F.Read.remaining c.args.witness) (λ ys. Ends end_of_verdict (OfFile xs (Reduces ys)) r.result)
+          (λ ys. (ends_unread r.result c.in_err-witness.field-0.0 parts.Witness c.in_err-witness.ensures.fails r.ensures.1)));
+    }

@@ -1,0 +1,44 @@
+use Rattle.std.specs.Prelude.{IfSome}
+use Rattle.aig_commands.specs.Witness.{WritesWitness}
+use Rattle.aig_run.specs.Command.{OfFile}
+use Rattle.aig_files.specs.declared.part.Part.TheVariants as parts
+use Rattle.aig.specs.Ends.{Ends, as_meant, end_of}
+use Rattle.aig.proofs.Endings.{answers, of_any, of_whole, slice_whole, ends_unread}
+use Rattle.aig.proofs.witnesses.witness.Goals as goal
+
+pub returns : goal.returns
+returns g c =
+    let file = c.as_slice-file.result.now in
+    let text = c.as_slice-text.result.now in
+    record {
+      ends =
+          of_whole (g.F.Read.remaining c.args.circuit) file
+          (slice_whole (g.F.Read.remaining c.args.circuit) _ _ c.as_slice-file.ensures.value c.in_ok-circuit.ensures.whole)
+          (λ xs. IfSome (g.F.Read.remaining c.args.stimulus) (λ ys. Ends end_of (OfFile xs (WritesWitness c.args.property ys)) c.ended.result))
+          (of_whole (g.F.Read.remaining c.args.stimulus) text
+          (slice_whole (g.F.Read.remaining c.args.stimulus) _ _ c.as_slice-text.ensures.value c.in_ok-stimulus.ensures.whole)
+          (λ ys. Ends end_of (OfFile file (WritesWitness c.args.property ys)) c.ended.result)
+          (as_meant c.witness.result (answers _ (OfFile file (WritesWitness c.args.property text)) c.witness.result c.witness.ensures.ends) c.ended.ensures));
+    }
+
+pub returns-in_err-circuit : goal.returns-in_err-circuit
+returns-in_err-circuit g c =
+    let r = c.from_residual in
+    record {
+      ends =
+          of_any (g.F.Read.remaining c.args.circuit)
+          (λ xs. IfSome (g.F.Read.remaining c.args.stimulus) (λ ys. Ends end_of (OfFile xs (WritesWitness c.args.property ys)) r.result))
+          (λ xs. of_any (g.F.Read.remaining c.args.stimulus) (λ ys. Ends end_of (OfFile xs (WritesWitness c.args.property ys)) r.result)
+          (λ ys. (ends_unread r.result c.in_err-circuit.field-0.0 parts.Circuit c.in_err-circuit.ensures.fails r.ensures.1)));
+    }
+
+pub returns-in_err-stimulus : goal.returns-in_err-stimulus
+returns-in_err-stimulus g c =
+    let r = c.from_residual-in_err-stimulus in
+    record {
+      ends =
+          of_any (g.F.Read.remaining c.args.circuit)
+          (λ xs. IfSome (g.F.Read.remaining c.args.stimulus) (λ ys. Ends end_of (OfFile xs (WritesWitness c.args.property ys)) r.result))
+          (λ xs. of_any (g.F.Read.remaining c.args.stimulus) (λ ys. Ends end_of (OfFile xs (WritesWitness c.args.property ys)) r.result)
+          (λ ys. (ends_unread r.result c.in_err-stimulus.field-0.0 parts.Stimulus c.in_err-stimulus.ensures.fails r.ensures.1)));
+    }

@@ -1,0 +1,53 @@
+-- How each command of the program ends, where the bytes of its files are known.
+use Rattle.std.specs.Prelude.{ℕ, List, Bool, true, false, Option, Result, IfSome, OnOk, ⊤}
+use Rattle.aig_parts.specs.declared.raw.Raw.{Raw}
+use Rattle.aig_sim.specs.declared.verdict.Verdict.{Verdict}
+use Rattle.aig_run.specs.Command.{OfFile}
+use Rattle.aig_run.specs.declared.run_fault.RunFault.{RunFault}
+use Rattle.aig_commands.specs.GoesWell.{GoesWell}
+use Rattle.aig_commands.specs.Cnf.{WritesFormula}
+use Rattle.aig_commands.specs.Info.{ListsFacts}
+use Rattle.aig_commands.specs.ModelWitness.{WritesModel}
+use Rattle.aig_commands.specs.Reduce.{Reduces}
+use Rattle.aig_commands.specs.Refute.{Refutes, RefutesStep}
+use Rattle.aig_commands.specs.Unroll.{UnrollsKept}
+use Rattle.aig_commands.specs.Wave.{DumpsRun}
+use Rattle.aig_commands.specs.Witness.{WritesWitness}
+use Rattle.aig_files.specs.declared.exit.Exit.{Exit}
+use Rattle.aig.specs.Ends.{ChecksWitness, Ends, end_of, end_of_verdict}
+use Rattle.aig.specs.declared.command.Command.{Command}
+use Rattle.aig.specs.declared.command.Command.TheVariants as commands
+
+-- A command ends as its contract means for the bytes of its files, where the type of an open file says which it has
+-- left. Nothing is said where it reads a circuit, a stimulus or a script piece by piece.
+abbrev pub EndsAsMeant : {F : Type 0} → (F → Option (List ℕ)) → Command F → Result (Unit {0}) Exit → Type 0
+EndsAsMeant left (commands.Toaig to circuit) result = ⊤
+EndsAsMeant left (commands.Sim circuit stimulus) result = ⊤
+EndsAsMeant left (commands.Wave circuit stimulus) result = ⊤
+EndsAsMeant left (commands.WaveWitness circuit witness) result =
+    IfSome (left circuit) (λ file. IfSome (left witness) (λ text. Ends end_of (OfFile file (DumpsRun text)) result))
+EndsAsMeant left (commands.Bench circuit stimulus script kept) result = ⊤
+EndsAsMeant left (commands.Unroll frames to circuit) result =
+    IfSome (left circuit) (λ file. Ends end_of (OfFile file (UnrollsKept frames to)) result)
+EndsAsMeant left (commands.UnrollAndMap frames to circuit opened map) result =
+    OnOk result (IfSome (left circuit) (λ file. GoesWell (OfFile file (UnrollsKept frames to))))
+EndsAsMeant left (commands.Check with_trace circuit witness) result =
+    IfSome (left circuit) (λ file. IfSome (left witness) (λ text.
+    Ends end_of_verdict (OfFile file (ChecksWitness with_trace text)) result))
+EndsAsMeant left (commands.Cnf query circuit) result =
+    IfSome (left circuit) (λ file. Ends end_of (OfFile file (WritesFormula query)) result)
+EndsAsMeant left (commands.Info circuit) result =
+    IfSome (left circuit) (λ file. Ends end_of (OfFile file (ListsFacts file)) result)
+EndsAsMeant left (commands.InfoNames circuit) result = ⊤
+EndsAsMeant left (commands.Select selection to circuit) result = ⊤
+EndsAsMeant left (commands.Witness property circuit stimulus) result =
+    IfSome (left circuit) (λ file. IfSome (left stimulus) (λ text.
+    Ends end_of (OfFile file (WritesWitness property text)) result))
+EndsAsMeant left (commands.ModelWitness query circuit model) result =
+    IfSome (left circuit) (λ file. IfSome (left model) (λ text. Ends end_of (OfFile file (WritesModel query text)) result))
+EndsAsMeant left (commands.Refute frames property circuit proof) result =
+    IfSome (left circuit) (λ file. Ends end_of (OfFile file (Refutes frames property)) result)
+EndsAsMeant left (commands.RefuteStep frames property circuit proof step) result =
+    IfSome (left circuit) (λ file. Ends end_of (OfFile file (RefutesStep frames property)) result)
+EndsAsMeant left (commands.Reduce circuit witness) result =
+    IfSome (left circuit) (λ file. IfSome (left witness) (λ text. Ends end_of_verdict (OfFile file (Reduces text)) result))

@@ -1,0 +1,49 @@
+-- How the program takes a command's answer. Standard output is the system's: no clause says which bytes reach it.
+use Rattle.std.specs.Prelude.{◌≡◌, ◌⊎◌, ℕ, List, Bool, true, false, Result, Ok, Err}
+use Rattle.aig_parts.specs.declared.raw.Raw.{Raw}
+use Rattle.aig_sim.specs.declared.verdict.Verdict.{Verdict}
+use Rattle.aig_sim.specs.declared.verdict.Verdict.TheVariants.{Initial, Constraint, NotBad, Confirmed}
+use Rattle.aig_run.specs.Command.{IsFileOf}
+use Rattle.aig_run.specs.declared.run_fault.RunFault.{RunFault}
+use Rattle.aig_run.specs.declared.run_fault.RunFault.TheVariants as run_faults
+use Rattle.aig_files.specs.declared.exit.Exit.{Exit}
+use Rattle.aig_files.specs.declared.exit.Exit.TheVariants as exits
+use Rattle.aig_files.specs.declared.part.Part.{Part}
+use Rattle.aig_commands.specs.Check.{Checks, ChecksAndTraces, ShowsVerdict}
+
+-- A command answers this for what its contract means, with bytes that reach standard output; or a write failed.
+pub data Answers {T : Type 0} (Means : Result T RunFault → List ℕ → Type 0) : Result T RunFault → Type 0 where
+  writes : {answer : Result T RunFault} (bytes : List ℕ) → Means answer bytes → Answers Means answer
+  fails : Answers Means (Err run_faults.Output)
+
+-- how the program ends for an answer
+abbrev pub end_of : {T : Type 0} → Result T RunFault → Result (Unit {0}) Exit
+end_of (Ok value) = Ok tt
+end_of (Err fault) = Err (exits.Run fault)
+
+-- How it ends for a verdict: as a success for `confirmed` alone.
+abbrev pub end_of_verdict : Result Verdict RunFault → Result (Unit {0}) Exit
+end_of_verdict (Ok (Initial latch)) = Err exits.NotConfirmed
+end_of_verdict (Ok (Constraint frame constraint)) = Err exits.NotConfirmed
+end_of_verdict (Ok NotBad) = Err exits.NotConfirmed
+end_of_verdict (Ok Confirmed) = Ok tt
+end_of_verdict (Err fault) = Err (exits.Run fault)
+
+-- a file was not read to its end, or memory for it was missing
+abbrev pub IsUnread : Exit → Type 0
+IsUnread exit = ((part : Part) × (exit ≡ exits.Unread part)) ⊎ (exit ≡ exits.Run run_faults.Memory)
+
+-- A command ends as its contract means, or a file was not read.
+pub data Ends {T : Type 0} (end : Result T RunFault → Result (Unit {0}) Exit) (Means : Result T RunFault → List ℕ → Type 0)
+    (result : Result (Unit {0}) Exit) : Type 0 where
+  as_meant : (answer : Result T RunFault) → Answers Means answer → result ≡ end answer → Ends end Means result
+  unread : (exit : Exit) → result ≡ Err exit → IsUnread exit → Ends end Means result
+
+-- the files are a circuit and a witness of it whose verdict is `confirmed`
+abbrev pub AreConfirmed : List ℕ → List ℕ → Type 0
+AreConfirmed file text = (raw : Raw) × IsFileOf file raw × ShowsVerdict raw text Confirmed
+
+-- what `check` means, with `--trace` or without
+abbrev pub ChecksWitness : Bool → List ℕ → Raw → Result Verdict RunFault → List ℕ → Type 0
+ChecksWitness true text = ChecksAndTraces text
+ChecksWitness false text = Checks text

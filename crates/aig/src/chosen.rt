@@ -1,0 +1,329 @@
+//! The command that the arguments choose. The parser has accepted them, so what a command needs is there.
+ghost use Rattle.std.specs.Prelude.{IfOk, Some, codes};
+ghost use Rattle.aig_cli.specs.Held.{HoldsNumber, HoldsNumberOr};
+
+use crate::command::{Command, Selection};
+use aig_base::PropertySection;
+use aig_cli::{has_flag, number_of, number_or, subcommand_of, text_of, texts_of};
+use aig_cnf::{Goal, Query};
+use aig_files::{Exit, Kept, Part, RunFiles, open};
+use aig_format::Format;
+use clap::ArgMatches;
+use std::fs::{Files, OpenFile};
+
+/// Returns the command that the arguments choose, with its options, and opens its files in the order of the arguments.
+pub fn open_chosen<'m, R: Files>(
+    rt: &R,
+    matches: &'m ArgMatches<'_>,
+) -> Result<Command<'m, R::File>, Exit> {
+    let Some((name, matches)) = subcommand_of(matches) else {
+        return Err(Exit::NoCommand);
+    };
+    match name {
+        "toaig" => open_toaig(rt, matches),
+        "sim" => open_sim(rt, matches),
+        "wave" => open_wave(rt, matches),
+        "bench" => open_bench(rt, matches),
+        "unroll" => open_unroll(rt, matches),
+        "check" => open_check(rt, matches),
+        "cnf" => open_cnf(rt, matches),
+        "info" => open_info(rt, matches),
+        "select" => open_select(rt, matches),
+        "witness" => open_witness(rt, matches),
+        "refute" => open_refute(rt, matches),
+        "reduce" => open_reduce(rt, matches),
+        _ => Err(Exit::NoCommand),
+    }
+}
+
+/// Opens the file that an argument names.
+fn open_named<R: Files>(
+    rt: &R,
+    matches: &ArgMatches<'_>,
+    name: &str,
+    part: Part,
+) -> Result<R::File, Exit> {
+    match text_of(matches, name) {
+        Some(file) => open(rt, file, part),
+        None => Err(Exit::NoCommand),
+    }
+}
+
+fn open_circuit<R: Files>(rt: &R, matches: &ArgMatches<'_>) -> Result<R::File, Exit> {
+    open_named(rt, matches, "CIRCUIT", Part::Circuit)
+}
+
+/// Returns the format to write.
+fn format_of(matches: &ArgMatches<'_>) -> Result<Format, Exit> {
+    match text_of(matches, "FORMAT") {
+        Some("aag") => Ok(Format::Ascii),
+        Some("aig") => Ok(Format::Binary),
+        _ => Err(Exit::NoCommand),
+    }
+}
+
+/// Returns the number of frames.
+fn frames_of(matches: &ArgMatches<'_>) -> Result<u32, Exit>
+    ensures held { IfOk result (λ frames. HoldsNumber matches.now (codes "K") (Some frames)) }
+{
+    match number_of(matches, "K") {
+        Some(frames) => Ok(frames),
+        None => Err(Exit::NoCommand),
+    }
+}
+
+/// Returns the position of the property, 0 if it is left out.
+fn property_of(matches: &ArgMatches<'_>) -> u32
+    ensures held { HoldsNumberOr matches.now (codes "P") 0 result }
+{
+    number_or(matches, "P", 0)
+}
+
+/// Returns the question about a bad state property.
+fn query_of(matches: &ArgMatches<'_>) -> Result<Query, Exit> {
+    Ok(Query {
+        goal: if has_flag(matches, "step") {
+            Goal::Step
+        } else {
+            Goal::Within
+        },
+        frames: frames_of(matches)?,
+        property: property_of(matches),
+    })
+}
+
+/// Returns the section that an option names; bad state properties if it is left out.
+fn section_of(matches: &ArgMatches<'_>, name: &str) -> PropertySection {
+    match text_of(matches, name) {
+        Some("outputs") => PropertySection::Outputs,
+        _ => PropertySection::Bad,
+    }
+}
+
+fn open_toaig<'m, R: Files>(
+    rt: &R,
+    matches: &'m ArgMatches<'_>,
+) -> Result<Command<'m, R::File>, Exit> {
+    let to = format_of(matches)?;
+    let circuit = open_circuit(rt, matches)?;
+    Ok(Command::Toaig { to, circuit })
+}
+
+fn open_sim<'m, R: Files>(
+    rt: &R,
+    matches: &'m ArgMatches<'_>,
+) -> Result<Command<'m, R::File>, Exit> {
+    let circuit = open_circuit(rt, matches)?;
+    let stimulus = open_named(rt, matches, "STIM", Part::Stimulus)?;
+    Ok(Command::Sim { circuit, stimulus })
+}
+
+fn open_wave<'m, R: Files>(
+    rt: &R,
+    matches: &'m ArgMatches<'_>,
+) -> Result<Command<'m, R::File>, Exit> {
+    let circuit = open_circuit(rt, matches)?;
+    if has_flag(matches, "witness") {
+        let witness = open_named(rt, matches, "STIM", Part::Witness)?;
+        Ok(Command::WaveWitness { circuit, witness })
+    } else {
+        let stimulus = open_named(rt, matches, "STIM", Part::Stimulus)?;
+        Ok(Command::Wave { circuit, stimulus })
+    }
+}
+
+fn open_bench<'m, R: Files>(
+    rt: &R,
+    matches: &'m ArgMatches<'_>,
+) -> Result<Command<'m, R::File>, Exit> {
+    let circuit = open_circuit(rt, matches)?;
+    let stimulus = open_named(rt, matches, "STIM", Part::Stimulus)?;
+    let script = open_named(rt, matches, "SCRIPT", Part::Script)?;
+    Ok(Command::Bench {
+        circuit,
+        stimulus,
+        script,
+        kept: kept_of(matches),
+    })
+}
+
+fn open_unroll<'m, R: Files>(
+    rt: &R,
+    matches: &'m ArgMatches<'_>,
+) -> Result<Command<'m, R::File>, Exit> {
+    let frames = frames_of(matches)?;
+    let to = format_of(matches)?;
+    let circuit = open_circuit(rt, matches)?;
+    let Some(map) = text_of(matches, "map") else {
+        return Ok(Command::Unroll {
+            frames,
+            to,
+            circuit,
+        });
+    };
+    let Ok(file) = circuit.metadata() else {
+        return Err(Exit::Unread(Part::Circuit));
+    };
+    Ok(Command::UnrollAndMap {
+        frames,
+        to,
+        circuit,
+        file,
+        map,
+    })
+}
+
+fn open_check<'m, R: Files>(
+    rt: &R,
+    matches: &'m ArgMatches<'_>,
+) -> Result<Command<'m, R::File>, Exit> {
+    let circuit = open_circuit(rt, matches)?;
+    let witness = open_named(rt, matches, "WITNESS", Part::Witness)?;
+    Ok(Command::Check {
+        with_trace: has_flag(matches, "trace"),
+        circuit,
+        witness,
+    })
+}
+
+fn open_cnf<'m, R: Files>(
+    rt: &R,
+    matches: &'m ArgMatches<'_>,
+) -> Result<Command<'m, R::File>, Exit> {
+    let query = query_of(matches)?;
+    let circuit = open_circuit(rt, matches)?;
+    Ok(Command::Cnf { query, circuit })
+}
+
+fn open_info<'m, R: Files>(
+    rt: &R,
+    matches: &'m ArgMatches<'_>,
+) -> Result<Command<'m, R::File>, Exit> {
+    let circuit = open_circuit(rt, matches)?;
+    if has_flag(matches, "names") {
+        Ok(Command::InfoNames { circuit })
+    } else {
+        Ok(Command::Info { circuit })
+    }
+}
+
+fn open_select<'m, R: Files>(
+    rt: &R,
+    matches: &'m ArgMatches<'_>,
+) -> Result<Command<'m, R::File>, Exit> {
+    let to = format_of(matches)?;
+    let circuit = open_circuit(rt, matches)?;
+    Ok(Command::Select {
+        selection: Selection {
+            from: section_of(matches, "from"),
+            into: section_of(matches, "as"),
+            properties: texts_of(matches, "P").unwrap_or(&[]),
+        },
+        to,
+        circuit,
+    })
+}
+
+fn open_witness<'m, R: Files>(
+    rt: &R,
+    matches: &'m ArgMatches<'_>,
+) -> Result<Command<'m, R::File>, Exit> {
+    if text_of(matches, "model").is_some() {
+        return open_model_witness(rt, matches);
+    }
+    let circuit = open_circuit(rt, matches)?;
+    let stimulus = open_named(rt, matches, "STIM", Part::Stimulus)?;
+    Ok(Command::Witness {
+        property: number_of(matches, "P"),
+        circuit,
+        stimulus,
+    })
+}
+
+fn open_model_witness<'m, R: Files>(
+    rt: &R,
+    matches: &'m ArgMatches<'_>,
+) -> Result<Command<'m, R::File>, Exit> {
+    let query = query_of(matches)?;
+    let circuit = open_circuit(rt, matches)?;
+    let model = open_named(rt, matches, "model", Part::Model)?;
+    Ok(Command::ModelWitness {
+        query,
+        circuit,
+        model,
+    })
+}
+
+fn open_refute<'m, R: Files>(
+    rt: &R,
+    matches: &'m ArgMatches<'_>,
+) -> Result<Command<'m, R::File>, Exit> {
+    let frames = frames_of(matches)?;
+    let property = property_of(matches);
+    let circuit = open_circuit(rt, matches)?;
+    let proof = open_named(rt, matches, "PROOF", Part::Proof)?;
+    let Some(step) = text_of(matches, "step") else {
+        return Ok(Command::Refute {
+            frames,
+            property,
+            circuit,
+            proof,
+        });
+    };
+    let step = open(rt, step, Part::StepProof)?;
+    Ok(Command::RefuteStep {
+        frames,
+        property,
+        circuit,
+        proof,
+        step,
+    })
+}
+
+fn open_reduce<'m, R: Files>(
+    rt: &R,
+    matches: &'m ArgMatches<'_>,
+) -> Result<Command<'m, R::File>, Exit> {
+    let circuit = open_circuit(rt, matches)?;
+    let witness = open_named(rt, matches, "WITNESS", Part::Witness)?;
+    Ok(Command::Reduce { circuit, witness })
+}
+
+/// Returns the files of `--circuit-out` and `--stimulus-out`.
+fn kept_of<'a>(matches: &ArgMatches<'a>) -> Kept<'a> {
+    Kept {
+        circuit: text_of(matches, "circuit-out"),
+        stimulus: text_of(matches, "stimulus-out"),
+    }
+}
+
+/// Returns the stimulus, the witness, the model or the proof.
+fn run_of<'a>(matches: &ArgMatches<'a>) -> Option<&'a str> {
+    for name in ["STIM", "WITNESS", "model", "PROOF"] {
+        if let Some(file) = text_of(matches, name) {
+            return Some(file);
+        }
+    }
+    None
+}
+
+/// Returns the names of the files that the arguments choose, for `--explain`. An argument has one name in all commands.
+pub fn files_of<'a>(matches: &ArgMatches<'a>) -> Option<RunFiles<'a>> {
+    let (name, matches) = subcommand_of(matches)?;
+    Some(RunFiles {
+        circuit: text_of(matches, "CIRCUIT")?,
+        run: run_of(matches),
+        script: text_of(matches, "SCRIPT"),
+        // Another command may have a flag of this name.
+        step: if name == "refute" {
+            text_of(matches, "step")
+        } else {
+            None
+        },
+        kept: kept_of(matches),
+        map: text_of(matches, "map"),
+        frames: number_or(matches, "K", 0),
+        property: property_of(matches),
+        reduces: name == "reduce",
+    })
+}

@@ -1,0 +1,198 @@
+//! A command with its options and its open files, and what it runs.
+ghost use Rattle.aig.specs.Commands.{EndsAsMeant};
+
+use crate::circuits::{cnf, info, info_names, select, toaig, unroll, unroll_and_map};
+use crate::simulations::{bench, sim, wave};
+use crate::solvers::{model_witness, refute, refute_step};
+use crate::witnesses::{check, reduce, wave_witness, witness};
+use aig_base::PropertySection;
+use aig_cnf::Query;
+use aig_files::{Exit, Kept};
+use aig_format::Format;
+use std::fs::{Files, Metadata};
+use std::io::Read;
+use std::os::fd::AsFd;
+
+/// Which properties of a circuit to keep, and where.
+#[derive(Clone, Copy)]
+pub struct Selection<'a> {
+    /// The section that has them.
+    pub from: PropertySection,
+    /// The section that they go to.
+    pub into: PropertySection,
+    /// Their positions, as the arguments have them.
+    pub properties: &'a [&'a str],
+}
+
+/// A command with its options and its open files.
+pub enum Command<'a, F> {
+    /// `toaig`: a circuit in a format.
+    Toaig {
+        to: Format,
+        circuit: F,
+    },
+    /// `sim`: the trace of a stimulus.
+    Sim {
+        circuit: F,
+        stimulus: F,
+    },
+    /// `wave`: the value change dump of a stimulus.
+    Wave {
+        circuit: F,
+        stimulus: F,
+    },
+    /// `wave --witness`: that of a witness.
+    WaveWitness {
+        circuit: F,
+        witness: F,
+    },
+    /// `bench`: the replies to a script, and the files that keep what it leaves.
+    Bench {
+        circuit: F,
+        stimulus: F,
+        script: F,
+        kept: Kept<'a>,
+    },
+    /// `unroll`: a circuit unrolled for some frames.
+    Unroll {
+        frames: u32,
+        to: Format,
+        circuit: F,
+    },
+    /// `unroll --map`: the same, and the map of its inputs. It must not replace the circuit's file, which is this one.
+    UnrollAndMap {
+        frames: u32,
+        to: Format,
+        circuit: F,
+        file: Metadata,
+        map: &'a str,
+    },
+    /// `check`: the verdict on a witness, with `--trace` after its run.
+    Check {
+        with_trace: bool,
+        circuit: F,
+        witness: F,
+    },
+    /// `cnf`: the formula that a bad state is reached, with `--step` that of the induction step.
+    Cnf {
+        query: Query,
+        circuit: F,
+    },
+    /// `info`: facts about a circuit.
+    Info {
+        circuit: F,
+    },
+    /// `info --names`: its entries.
+    InfoNames {
+        circuit: F,
+    },
+    /// `select`: a circuit with some of its properties.
+    Select {
+        selection: Selection<'a>,
+        to: Format,
+        circuit: F,
+    },
+    /// `witness`: the witness of a run over a stimulus.
+    Witness {
+        property: Option<u32>,
+        circuit: F,
+        stimulus: F,
+    },
+    /// `witness --model`: that of a solver's model, with `--step` of an induction step.
+    ModelWitness {
+        query: Query,
+        circuit: F,
+        model: F,
+    },
+    /// `refute`: the check of a proof.
+    Refute {
+        frames: u32,
+        property: u32,
+        circuit: F,
+        proof: F,
+    },
+    /// `refute --step`: the check of a proof by induction.
+    RefuteStep {
+        frames: u32,
+        property: u32,
+        circuit: F,
+        proof: F,
+        step: F,
+    },
+    /// `reduce`: a witness with x where its failure needs no value.
+    Reduce {
+        circuit: F,
+        witness: F,
+    },
+}
+
+impl<F: Read + Drop> Command<'_, F> {
+    /// Runs the command, and writes its results to standard output.
+    pub fn run<R: Files + AllocGlobal + Print>(self, rt: &R) -> Result<(), Exit>
+    where
+        R::File: AsFd,
+        ensures ends { EndsAsMeant F.remaining self.entry result }
+    {
+        match self {
+            Command::Toaig { to, circuit } => toaig(rt, to, circuit),
+            Command::Sim { circuit, stimulus } => sim(rt, circuit, stimulus),
+            Command::Wave { circuit, stimulus } => wave(rt, circuit, stimulus),
+            Command::WaveWitness { circuit, witness } => wave_witness(rt, circuit, witness),
+            Command::Bench {
+                circuit,
+                stimulus,
+                script,
+                kept,
+            } => bench(rt, circuit, stimulus, script, kept),
+            Command::Unroll {
+                frames,
+                to,
+                circuit,
+            } => unroll(rt, frames, to, circuit),
+            Command::UnrollAndMap {
+                frames,
+                to,
+                circuit,
+                file,
+                map,
+            } => unroll_and_map(rt, frames, to, circuit, &file, map),
+            Command::Check {
+                with_trace,
+                circuit,
+                witness,
+            } => check(rt, with_trace, circuit, witness),
+            Command::Cnf { query, circuit } => cnf(rt, query, circuit),
+            Command::Info { circuit } => info(rt, circuit),
+            Command::InfoNames { circuit } => info_names(rt, circuit),
+            Command::Select {
+                selection,
+                to,
+                circuit,
+            } => select(rt, selection, to, circuit),
+            Command::Witness {
+                property,
+                circuit,
+                stimulus,
+            } => witness(rt, property, circuit, stimulus),
+            Command::ModelWitness {
+                query,
+                circuit,
+                model,
+            } => model_witness(rt, query, circuit, model),
+            Command::Refute {
+                frames,
+                property,
+                circuit,
+                proof,
+            } => refute(rt, frames, property, circuit, proof),
+            Command::RefuteStep {
+                frames,
+                property,
+                circuit,
+                proof,
+                step,
+            } => refute_step(rt, frames, property, circuit, proof, step),
+            Command::Reduce { circuit, witness } => reduce(rt, circuit, witness),
+        }
+    }
+}

@@ -1,0 +1,29 @@
+//! The files that a command reads.
+
+/// A file that a command reads, by what it contains.
+#[derive(Clone, Copy)]
+pub enum Part {
+    Circuit,
+    Stimulus,
+    Script,
+    Witness,
+    Model,
+    Proof,
+    /// The proof of an induction step.
+    StepProof,
+}
+
+impl Part {
+    /// Returns the name that messages have for it. A fault of what the file contains has the same name.
+    pub fn name(&self) -> &'static str {
+        match self {
+            Part::Circuit => "circuit",
+            Part::Stimulus => "stimulus",
+            Part::Script => "script",
+            Part::Witness => "witness",
+            Part::Model => "model",
+            Part::Proof => "proof",
+            Part::StepProof => "step proof",
+        }
+    }
+}
