@@ -39,7 +39,7 @@ mod worklist;
 
 pub use aig_bytes::{
     Block, Buffered, Count, Failed, Io, MemReader, MemWriter, Memory, Read, Std, Term, Write,
-    write_all, write_number,
+    line_length, write_all, write_number,
 };
 pub use aig_parts::{
     Bytes, Fault, Gate, Kind, LIMIT, Latch, List, Lit, Raw, SymbolIter, SymbolList, Symbols, Tern,

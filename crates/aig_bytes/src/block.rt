@@ -311,6 +311,18 @@ impl<const ROOM: usize> ByteBlock<ROOM> {
         Ok(())
     }
 
+    /// Puts in a number's digits and the byte that ends it, and writes what waits if there is no room.
+    pub fn put_field<W: Write>(&mut self, out: &mut W, number: u32, end: u8) -> Result<(), Io>
+        ensures { Gathers W.written W.failures out.old out.new self.old self.new (decimal number ++ end ∷ []) result }
+    {
+        if self.push_field(number, end) {
+            return Ok(());
+        }
+        self.forward(out)?;
+        self.push_field(number, end);
+        Ok(())
+    }
+
     /// Puts some bytes in, and writes what waits if there is no room. A piece of 4,096 bytes or more goes straight to
     /// the writer.
     pub fn put_all<W: Write>(&mut self, out: &mut W, bytes: &[u8]) -> Result<(), Io>

@@ -6,4 +6,6 @@ mod command_line;
 mod help;
 mod subcommands;
 
-pub use command_line::{has_flag, matches_of, number_of, number_or, subcommand_of, text_of, texts_of};
+pub use command_line::{
+    has_flag, matches_of, number_of, number_or, subcommand_of, text_of, texts_of,
+};

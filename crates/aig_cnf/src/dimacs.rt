@@ -15,18 +15,6 @@ use crate::query::Goal;
 use aig_base::{Block, Circuit, Gate, Io, Lit, Term, Write, write_all};
 use aig_unroll::write_input_lines;
 
-// Puts a number and the byte that ends it.
-fn put_field<W: Write>(out: &mut W, block: &mut Block, number: u32, end: u8) -> Result<(), Io>
-    ensures { Gathers W.written W.failures out.old out.new block.old block.new (decimal number ++ end ∷ []) result }
-{
-    if block.push_field(number, end) {
-        return Ok(());
-    }
-    block.forward(out)?;
-    block.push_field(number, end);
-    Ok(())
-}
-
 // Puts a minus where the literal is negated.
 fn put_sign<W: Write>(out: &mut W, block: &mut Block, literal: Lit) -> Result<(), Io>
     ensures { Gathers W.written W.failures out.old out.new block.old block.new (sign_text literal) result }
@@ -42,7 +30,7 @@ fn put_literal<W: Write>(out: &mut W, block: &mut Block, literal: Lit) -> Result
     ensures { Gathers W.written W.failures out.old out.new block.old block.new (literal_text literal) result }
 {
     put_sign(out, block, literal)?;
-    put_field(out, block, literal.var() + 1, b' ')
+    block.put_field(out, literal.var() + 1, b' ')
 }
 
 // Puts a clause of these literals.
@@ -133,8 +121,8 @@ fn put_problem<W: Write>(
         (problem_line variables clauses) result }
 {
     block.put_all(out, b"p cnf ")?;
-    put_field(out, block, variables, b' ')?;
-    put_field(out, block, clauses, b'\n')
+    block.put_field(out, variables, b' ')?;
+    block.put_field(out, clauses, b'\n')
 }
 
 // Puts the comment line of the bad literal of a frame.
@@ -148,7 +136,7 @@ fn put_goal_line<W: Write>(
 {
     block.put_all(out, b"c b ")?;
     put_literal(out, block, literal)?;
-    put_field(out, block, frame, b'\n')
+    block.put_field(out, frame, b'\n')
 }
 
 // Puts the comment lines of the bad literals of all frames.

@@ -3,33 +3,14 @@ use Rattle.std.proofs.Common.{◌≡◌, ◌≢◌, ℕ, ◌+◌, ◌<◌, ◌�
 use Rattle.std.specs.Map.{keys_of}
 use Rattle.std.proofs.lemmas.List.{drop_more, drop_all}
 use Rattle.std.proofs.lemmas.Bool.{eqb-true}
-use Rattle.std.proofs.lemmas.Option.{same_Some}
 use Rattle.aig_parts.specs.declared.symbols.Kind.{Kind}
 use Rattle.aig_parts.specs.declared.symbols.Kind.TheVariants as kinds
-use Rattle.aig_format.specs.Spelling.{Entry, letter}
+use Rattle.aig_parts.specs.Letters.{letter}
+use Rattle.aig_parts.proofs.LetterLemmas.{same_kind}
+use Rattle.aig_format.specs.Spelling.{Entry}
 use Rattle.aig_unroll.specs.InputMap.{symbol_name_at}
 use Rattle.aig_unroll.proofs.InputMapLines.{symbol_found, symbol_missing}
 use Rattle.aig_commands.specs.Names.{is_same, entry_line, entry_lines}
-
--- the section of a letter
-of_letter : ℕ → Option Kind
-of_letter n =
-    if n == 105 then Some kinds.Input
-    else (if n == 108 then Some kinds.Latch
-    else (if n == 111 then Some kinds.Output
-    else (if n == 98 then Some kinds.Bad
-    else (if n == 99 then Some kinds.Constraint
-    else (if n == 106 then Some kinds.Justice else Some kinds.Fairness)))))
-
-by_letter : (kind : Kind) → of_letter (letter kind) ≡ Some kind
-unfolding of_letter
-by_letter kinds.Input = refl
-by_letter kinds.Latch = refl
-by_letter kinds.Output = refl
-by_letter kinds.Bad = refl
-by_letter kinds.Constraint = refl
-by_letter kinds.Justice = refl
-by_letter kinds.Fairness = refl
 
 same_itself : (kind : Kind) → is_same kind kind ≡ true
 same_itself kinds.Input = refl
@@ -41,9 +22,7 @@ same_itself kinds.Justice = refl
 same_itself kinds.Fairness = refl
 
 only_same : (kind other : Kind) → is_same kind other ≡ true → other ≡ kind
-only_same kind other h =
-    same_Some other kind
-    (sym (by_letter other) ∙ ap of_letter (eqb-true (letter other) (letter kind) h) ∙ by_letter kind)
+only_same kind other h = same_kind other kind (eqb-true (letter other) (letter kind) h)
 
 -- the name of an entry that has one, and of one that has none
 pub name_found : (symbols : List Entry) (kind : Kind) (p : ℕ) (name : List ℕ) → Contains symbols ((kind, p), name)

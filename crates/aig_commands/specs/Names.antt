@@ -4,7 +4,8 @@ use Rattle.std.specs.Fmt.{decimal}
 use Rattle.aig_parts.specs.declared.raw.Raw.{Raw}
 use Rattle.aig_parts.specs.declared.symbols.Kind.{Kind}
 use Rattle.aig_parts.specs.declared.symbols.Kind.TheVariants as kinds
-use Rattle.aig_format.specs.Spelling.{Entry, letter}
+use Rattle.aig_parts.specs.Letters.{letter}
+use Rattle.aig_format.specs.Spelling.{Entry}
 use Rattle.aig_unroll.specs.InputMap.{map_field, symbol_name_at}
 use Rattle.aig_run.specs.declared.run_fault.RunFault.{RunFault}
 

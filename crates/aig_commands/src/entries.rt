@@ -4,32 +4,17 @@ ghost use Rattle.std.specs.Fmt.{decimal};
 ghost use Rattle.aig_bytes.specs.Bytes.{Writes};
 ghost use Rattle.aig_parts.specs.Formed.{limit};
 ghost use Rattle.aig_parts.specs.declared.symbols.Kind.TheVariants as kinds;
-ghost use Rattle.aig_format.specs.Spelling.{letter};
+ghost use Rattle.aig_parts.specs.Letters.{letter};
 ghost use Rattle.aig_unroll.specs.InputMap.{map_field, symbol_name_at};
 ghost use Rattle.aig_commands.specs.Names.{entry_line, entry_lines, is_same, names_text};
 
 use aig_base::{Circuit, Io, Kind, Latch, List, Lit, Write, write_all, write_number};
 
-// The letter that names a section in symbol lines.
-fn letter_of(kind: Kind) -> u8
-    ensures { result ≡ letter kind }
-{
-    match kind {
-        Kind::Input => b'i',
-        Kind::Latch => b'l',
-        Kind::Output => b'o',
-        Kind::Bad => b'b',
-        Kind::Constraint => b'c',
-        Kind::Justice => b'j',
-        Kind::Fairness => b'f',
-    }
-}
-
 // Writes the letter of a section, a space, the position and another space.
 fn write_place<W: Write>(out: &mut W, kind: Kind, position: u32) -> Result<(), Io>
     ensures { Writes W.written W.failures out.old out.new (letter kind ∷ codes " " ++ map_field position) result }
 {
-    write_all(out, &[letter_of(kind), b' '])?;
+    write_all(out, &[kind.letter(), b' '])?;
     write_number(out, position)?;
     write_all(out, b" ")
 }

@@ -11,7 +11,8 @@ use Rattle.aig_parts.specs.declared.symbols.Kind.{Kind}
 use Rattle.aig_parts.specs.declared.symbols.Kind.TheVariants.{Input, Latch, Output, Bad, Constraint, Justice, Fairness}
 use Rattle.aig_parts.specs.SymbolPlaces.{Key}
 use Rattle.aig_dump_header.proofs.Codes.{IsVisible}
-use Rattle.aig_dump_header.specs.Names.{letter, symbol_of, cut_at, words, shown_byte, shown_after, shown, names_by, names_of}
+use Rattle.aig_parts.specs.Letters.{letter}
+use Rattle.aig_dump_header.specs.Names.{symbol_of, cut_at, words, shown_byte, shown_after, shown, names_by, names_of}
 use Rattle.aig_dump_header.specs.Paths.{path_of, scopes_of, leaf_of}
 
 abbrev pub NoDollar : List ℕ → Type 0

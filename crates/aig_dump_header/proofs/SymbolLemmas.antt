@@ -1,34 +1,16 @@
 -- The symbol of an entry.
 use Rattle.std.proofs.Common.{◌≡◌, ◌≢◌, ℕ, zero, suc, ◌<◌, Bool, true, false, ◌&&◌, List, [], ◌∷◌, length, get_or, Contains, AllPairs, refl, sym, ap, ◌∙◌, arith}
-use Rattle.std.specs.Prelude.{◌==◌, if◌then◌else◌}
+use Rattle.std.specs.Prelude.{◌==◌}
 use Rattle.std.specs.Map.{keys_of}
 use Rattle.std.proofs.lemmas.Bool.{eqb-true, eq-eqb}
 use Rattle.std.proofs.lemmas.List.{get_or-map, length-map}
 use Rattle.aig_parts.specs.declared.symbols.Kind.{Kind}
-use Rattle.aig_parts.specs.declared.symbols.Kind.TheVariants.{Input, Latch, Output, Bad, Constraint, Justice, Fairness}
+use Rattle.aig_parts.specs.Letters.{letter}
 use Rattle.aig_parts.specs.SymbolPlaces.{Key}
+use Rattle.aig_parts.proofs.LetterLemmas.{same_kind}
 use Rattle.aig_parts.proofs.SymbolKeys.{and_both}
-use Rattle.aig_dump_header.specs.Names.{letter, symbol_of}
+use Rattle.aig_dump_header.specs.Names.{symbol_of}
 use Rattle.aig_dump_header.proofs.Codes.{if_true, if_false}
-
--- the section of a letter
-kind_of : ℕ → Kind
-kind_of l =
-    if l == 105 then Input else (if l == 108 then Latch else (if l == 111 then Output else (if l == 98 then Bad
-    else (if l == 99 then Constraint else (if l == 106 then Justice else Fairness)))))
-
-kind_back : (k : Kind) → kind_of (letter k) ≡ k
-unfolding kind_of
-kind_back Input = refl
-kind_back Latch = refl
-kind_back Output = refl
-kind_back Bad = refl
-kind_back Constraint = refl
-kind_back Justice = refl
-kind_back Fairness = refl
-
-same_kind : (a b : Kind) → letter a ≡ letter b → a ≡ b
-same_kind a b e = sym (kind_back a) ∙ ap kind_of e ∙ kind_back b
 
 -- the test of an entry
 abbrev is_entry : Key → Kind → ℕ → Bool

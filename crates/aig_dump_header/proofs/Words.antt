@@ -5,7 +5,8 @@ use Rattle.std.specs.Prelude.{nat_lt, ◌==◌, decimal}
 use Rattle.std.proofs.lemmas.Bool.{ne_eqb, lt-ltb, cases_lt}
 use Rattle.std.proofs.lemmas.List.Splits.{slice_split_at, slice_split_none}
 use Rattle.aig_parts.specs.declared.symbols.Kind.{Kind}
-use Rattle.aig_dump_header.specs.Names.{words, cut_at, letter, shown, shown_byte, shown_after, names_by}
+use Rattle.aig_parts.specs.Letters.{letter}
+use Rattle.aig_dump_header.specs.Names.{words, cut_at, shown, shown_byte, shown_after, names_by}
 
 pub words_none : words [] ≡ []
 unfolding words

@@ -3,7 +3,7 @@
 use Rattle.std.specs.Prelude.{ℕ, zero, suc, ◌+◌, ◌%◌, ◌/◌, ◌==◌, ◌&&◌, ◌||◌, nat_lt, if◌then◌else◌, List, [], ◌∷◌, length, map, decimal}
 use Rattle.std.specs.List.{filter, slice_split}
 use Rattle.aig_parts.specs.declared.symbols.Kind.{Kind}
-use Rattle.aig_parts.specs.declared.symbols.Kind.TheVariants.{Input, Latch, Output, Bad, Constraint, Justice, Fairness}
+use Rattle.aig_parts.specs.Letters.{letter}
 use Rattle.aig_parts.specs.SymbolPlaces.{Key}
 
 -- the digits of n in base 94, least first, so many at most; the byte of digit d is 33 + d
@@ -14,16 +14,6 @@ code_digits (suc most) n = (33 + n % 94) ∷ (if nat_lt n 94 then [] else code_d
 -- the identifier code of signal n: all its digits, one at least; no number has more digits than n + 1
 abbrev pub identifier_code : ℕ → List ℕ
 identifier_code n = code_digits (suc n) n
-
--- i l o b c j f, as symbol lines have them (AIGER 1.0 and 1.9)
-abbrev pub letter : Kind → ℕ
-letter Input = 105
-letter Latch = 108
-letter Output = 111
-letter Bad = 98
-letter Constraint = 99
-letter Justice = 106
-letter Fairness = 102
 
 -- the symbol of the entry at position p of a section; no bytes where it has none
 unfoldable pub symbol_of : List (Key × List ℕ) → Kind → ℕ → List ℕ

@@ -1,7 +1,8 @@
 //! Names of signals, as a circuit has them and as a dump shows them.
 ghost use Rattle.std.specs.Prelude.{◌≡◌, ◌≢◌, ℕ, ◌++◌, ◌<◌, ◌≤◌, [], ◌∷◌, length, slice_index, MatchOption, OnOk, AllPairs, decimal};
 ghost use Rattle.std.specs.Map.{keys_of};
-ghost use Rattle.aig_dump_header.specs.Names.{letter, words, shown, shown_byte, names_of, symbol_of};
+ghost use Rattle.aig_parts.specs.Letters.{letter};
+ghost use Rattle.aig_dump_header.specs.Names.{words, shown, shown_byte, names_of, symbol_of};
 ghost use Rattle.aig_dump_header.specs.state.Naming.{name_text, names_left, names_size};
 
 use aig_bytes::Memory;
@@ -38,21 +39,6 @@ struct FirstWord<'a> {
 pub struct FirstName<'a> {
     pub name: Name<'a>,
     pub rest: Names<'a>,
-}
-
-// The letter that names a section in symbol lines.
-fn letter_of(kind: Kind) -> u8
-    ensures { result ≡ letter kind }
-{
-    match kind {
-        Kind::Input => b'i',
-        Kind::Latch => b'l',
-        Kind::Output => b'o',
-        Kind::Bad => b'b',
-        Kind::Constraint => b'c',
-        Kind::Justice => b'j',
-        Kind::Fairness => b'f',
-    }
 }
 
 // How many blanks a text begins with.
@@ -170,7 +156,7 @@ fn push_position(text: &mut Vec<u8>, kind: Kind, position: u32) -> Result<(), Me
     ensures { OnOk result (text.new.items ≡ text.old.items ++ letter kind ∷ decimal position) }
 {
     let mut buffer = Buffer::new();
-    text.push(letter_of(kind))?;
+    text.push(kind.letter())?;
     text.extend_from_slice(buffer.format(position).as_bytes())?;
     Ok(())
 }

@@ -1,41 +1,21 @@
 -- What a symbol names, by its letter and its position.
-use Rattle.std.proofs.Common.{◌≡◌, ℕ, Bool, true, false, ◌&&◌, ◌==◌, eqb, eq-eqb, List, Option, Some}
-use Rattle.std.proofs.Common.{None, refl, sym, ap, ◌∙◌, Contains}
+use Rattle.std.proofs.Common.{◌≡◌, ℕ, Bool, true, false, ◌==◌, eqb, eq-eqb, List}
+use Rattle.std.proofs.Common.{refl, sym, ap, Contains}
 use Rattle.std.proofs.lemmas.Bool.{eqb-true}
 use Rattle.std.proofs.lemmas.Map.Views.{list_any-from_Contains, Contains-from_any}
 use Rattle.std.specs.Cmp.{IsEquivalence}
 use Rattle.std.specs.Map.{keys_of}
 use Rattle.aig_parts.specs.declared.symbols.Kind.{Kind}
-use Rattle.aig_parts.specs.declared.symbols.Kind.TheVariants.{Input, Latch, Output, Bad, Constraint, Justice, Fairness}
+use Rattle.aig_parts.specs.Letters.{letter}
+use Rattle.aig_parts.proofs.LetterLemmas.{same_kind}
 use Rattle.aig_parts.proofs.SymbolKeys.{and_both}
-use Rattle.aig_format.specs.Spelling.{Entry, letter}
-use Rattle.aig_format.specs.state.ReadingNames.{kind_of, same_key, is_named}
-
-or_constraint : Option Kind → Kind
-or_constraint None = Constraint
-or_constraint (Some kind) = kind
-
--- the kind of a letter
-kind_back : ℕ → Kind
-kind_back x = or_constraint (kind_of x)
-
-back : (kind : Kind) → kind_back (letter kind) ≡ kind
-unfolding kind_back or_constraint
-back Input = refl
-back Latch = refl
-back Output = refl
-back Bad = refl
-back Constraint = refl
-back Justice = refl
-back Fairness = refl
-
-pub letter_reports : (a b : Kind) → letter a ≡ letter b → a ≡ b
-letter_reports a b e = sym (back a) ∙ ap kind_back e ∙ back b
+use Rattle.aig_format.specs.Spelling.{Entry}
+use Rattle.aig_format.specs.state.ReadingNames.{same_key, is_named}
 
 pub same_is : (a b : Kind × ℕ) → same_key a b ≡ true → a ≡ b
 same_is a b h =
     let p = and_both (letter a.0 == letter b.0) (a.1 == b.1) h in
-    let k : a.0 ≡ b.0 = letter_reports a.0 b.0 (eqb-true (letter a.0) (letter b.0) p.0) in
+    let k : a.0 ≡ b.0 = same_kind a.0 b.0 (eqb-true (letter a.0) (letter b.0) p.0) in
     let n : a.1 ≡ b.1 = eqb-true a.1 b.1 p.1 in
     (λ i. (k i, n i))
 

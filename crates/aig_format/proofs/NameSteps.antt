@@ -1,24 +1,23 @@
 -- How reading of names and symbols goes on, for loops.
-use Rattle.std.proofs.Common.{◌≡◌, ◌≢◌, ℕ, ◌+◌, ◌<◌, ◌≤◌, Contains, leb, false, eqb, All, length, take, drop, slice_index}
-use Rattle.std.proofs.Common.{List, [], ◌∷◌, ◌++◌, Option, Some, Result, Ok, Err, refl, sym, ap, ◌∙◌, append_assoc}
+use Rattle.std.proofs.Common.{◌≡◌, ◌≢◌, ℕ, ◌+◌, ◌<◌, ◌≤◌, Contains, leb, false, eqb, All, length, take, drop, slice_get}
+use Rattle.std.proofs.Common.{List, [], ◌∷◌, ◌++◌, Option, Some, Ok, Err, refl, sym, ap, ◌∙◌, append_assoc}
 use Rattle.std.proofs.Common.{arith}
 use Rattle.std.proofs.lemmas.Bool.Decides.{nat_tests}
 use Rattle.std.specs.Option.{is_some}
 use Rattle.std.proofs.lemmas.Bool.{true≢false}
+use Rattle.std.proofs.lemmas.Option.{get_or_from_slice_get}
 use Rattle.std.proofs.lemmas.List.{append-nil, drop-append-le, drop_more, take-append-drop}
 use Rattle.std.proofs.lemmas.List.Elements.{All-head, All-tail}
-use Rattle.aig_parts.specs.declared.fault.Fault.{Fault}
 use Rattle.aig_format.specs.declared.header.Counts.{Counts}
 use Rattle.aig_format.specs.Header.{line_end}
 use Rattle.aig_parts.specs.declared.symbols.Kind.{Kind}
 use Rattle.std.specs.Map.{keys_of}
 use Rattle.aig_format.specs.Spells.{greatest}
 use Rattle.aig_format.specs.Spelling.{Entry}
-use Rattle.aig_format.specs.state.Reading.{Refusal, text, Read, first_of, rest_of, peek_at, next_at, number_at}
+use Rattle.aig_format.specs.state.Reading.{text, Read, first_of, peek_at, number_at}
 use Rattle.aig_format.specs.state.ReadingNames.{count_of, line_at, position_at}
-use Rattle.aig_format.specs.state.ReaderAnswers.{Fails}
 use Rattle.aig_format.proofs.Keys.{is_named_from, not_named_from}
-use Rattle.aig_format.proofs.Steps.{done, done_is, regroup, fails_else}
+use Rattle.aig_format.proofs.Steps.{done, done_is, regroup}
 use Rattle.aig_format.specs.state.ReadingSections.{with_front}
 
 -- ---- a line
@@ -57,7 +56,7 @@ line_on front left mid new buffered unread n o whole h split le ge other is so_f
 
 -- the line ends in the buffered bytes
 pub line_ends : (front left mid new buffered unread : List ℕ) (n : ℕ) (o : Option ℕ) (whole : Read (List ℕ))
-    → peek_at left ≡ Ok (o, mid) → mid ≡ buffered ++ unread → n < length buffered → slice_index buffered n ≡ line_end
+    → peek_at left ≡ Ok (o, mid) → mid ≡ buffered ++ unread → n < length buffered → slice_get buffered n ≡ Some line_end
     → All (λ b. b ≢ line_end) (take n buffered) → new ≡ drop (n + 1) mid
     → with_front front (line_at left) ≡ whole → whole ≡ Ok (front ++ take n buffered, new)
 unfolding line_at
@@ -66,7 +65,8 @@ line_ends front left mid new buffered unread n o whole h split lt end other is s
     ap (drop (n + 1)) split ∙ drop-append-le (n + 1) buffered unread (omega arith) in
     let cut : buffered ≡ take n buffered ++ (line_end ∷ drop (n + 1) buffered) =
     sym (take-append-drop n buffered)
-    ∙ ap (λ (t : List ℕ). take n buffered ++ t) (drop_more buffered n 0 lt ∙ ap (λ (x : ℕ). x ∷ drop (n + 1) buffered) end) in
+    ∙ ap (λ (t : List ℕ). take n buffered ++ t)
+    (drop_more buffered n 0 lt ∙ ap (λ (x : ℕ). x ∷ drop (n + 1) buffered) (get_or_from_slice_get buffered n line_end 0 end)) in
     let all : left ≡ take n buffered ++ (line_end ∷ new) =
     seen left mid o h ∙ split ∙ ap (λ (t : List ℕ). t ++ unread) cut
     ∙ append_assoc (take n buffered) (line_end ∷ drop (n + 1) buffered) unread

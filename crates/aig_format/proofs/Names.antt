@@ -15,7 +15,8 @@ use Rattle.aig_format.specs.declared.header.Counts.{Counts}
 use Rattle.aig_format.specs.declared.symbol.Next.{Next}
 use Rattle.aig_format.specs.declared.symbol.Next.TheVariants.{End, Comment, Symbol}
 use Rattle.aig_format.specs.Header.{space, line_end, field}
-use Rattle.aig_format.specs.Spelling.{Entry, letter, symbol_line}
+use Rattle.aig_parts.specs.Letters.{letter}
+use Rattle.aig_format.specs.Spelling.{Entry, symbol_line}
 use Rattle.aig_format.specs.Spells.{greatest}
 use Rattle.aig_format.specs.state.Reading.{text, ◌>>=◌, is_digit, digit_at, number_then, number_at}
 use Rattle.aig_format.specs.state.ReadingNames.{kind_of, after_c_at, letter_then, letter_at, line_at, is_empty, name_at}

@@ -18,7 +18,8 @@ use Rattle.aig_format.specs.declared.symbol.Next.{Next}
 use Rattle.aig_format.specs.declared.symbol.Next.TheVariants.{End, Comment, Symbol}
 use Rattle.aig_format.specs.declared.symbol.Names.{Names}
 use Rattle.aig_format.specs.Header.{space, line_end, field}
-use Rattle.aig_format.specs.Spelling.{Entry, letter, symbol_line, comment_text, names_text}
+use Rattle.aig_parts.specs.Letters.{letter}
+use Rattle.aig_format.specs.Spelling.{Entry, symbol_line, comment_text, names_text}
 use Rattle.aig_format.specs.Spells.{greatest}
 use Rattle.aig_format.specs.state.Reading.{◌>>=◌}
 use Rattle.aig_format.specs.state.ReadingNames.{Named, letter_at, after_c_at, count_of, symbols_then, symbols_at}

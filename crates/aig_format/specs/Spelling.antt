@@ -7,7 +7,7 @@ use Rattle.aig_parts.specs.declared.gate.Gate.{Gate}
 use Rattle.aig_parts.specs.declared.latch.Latch.{Latch}
 use Rattle.aig_parts.specs.declared.raw.Raw.{Raw}
 use Rattle.aig_parts.specs.declared.symbols.Kind.{Kind}
-use Rattle.aig_parts.specs.declared.symbols.Kind.TheVariants as kinds
+use Rattle.aig_parts.specs.Letters.{letter}
 use Rattle.aig_format.specs.declared.header.Format.TheVariants.{Ascii, Binary}
 use Rattle.aig_format.specs.Delta.{delta}
 use Rattle.aig_format.specs.Header.{space, line_end, field, header_line, counts_of}
@@ -54,16 +54,6 @@ lines line written [] = []
 lines line written (x ∷ xs) = line (of_first written) x ++ lines line (of_others written) xs
 
 -- ---- symbols and comment
-
--- i l o b c j f
-abbrev pub letter : Kind → ℕ
-letter kinds.Input = 105
-letter kinds.Latch = 108
-letter kinds.Output = 111
-letter kinds.Bad = 98
-letter kinds.Constraint = 99
-letter kinds.Justice = 106
-letter kinds.Fairness = 102
 
 -- what a symbol names, and the name
 abbrev pub Entry : Type 0

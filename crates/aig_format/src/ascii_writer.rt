@@ -5,7 +5,7 @@ ghost use Rattle.aig_bytes.specs.Bytes.{Writes};
 ghost use Rattle.aig_bytes.specs.Gathered.{Gathers};
 ghost use Rattle.aig_format.specs.Spelling.{latch_line, gate_line, lines, short_ascii};
 
-use crate::block_writer::{put_field, put_number};
+use crate::block_writer::put_number;
 use crate::header::Format;
 use crate::header_writer::{counts_of, put_header};
 use crate::section_writer::{put_literals, put_names, put_properties, put_reset};
@@ -14,7 +14,7 @@ use aig_base::{Block, Circuit, Fault, Gate, Io, Latch, Write, write_all};
 fn put_latch<W: Write>(out: &mut W, block: &mut Block, latch: Latch) -> Result<(), Io>
     ensures { Gathers W.written W.failures out.old out.new block.old block.new (latch_line false latch) result }
 {
-    put_field(out, block, latch.lit.value(), b' ')?;
+    block.put_field(out, latch.lit.value(), b' ')?;
     put_number(out, block, latch.next.value())?;
     put_reset(out, block, latch.reset)
 }

@@ -1,7 +1,6 @@
 //! Bytes that are gathered in a block before they go to a writer, so that a file costs few calls.
 ghost use Rattle.std.specs.Fmt.{decimal};
 ghost use Rattle.aig_bytes.specs.Gathered.{Gathers};
-ghost use Rattle.aig_format.specs.Header.{field};
 
 use aig_base::{Block, Io, Write};
 use itoa::Buffer;
@@ -12,21 +11,4 @@ pub(crate) fn put_number<W: Write>(out: &mut W, block: &mut Block, number: u32) 
 {
     let mut buffer = Buffer::new();
     block.put_all(out, buffer.format(number).as_bytes())
-}
-
-/// Puts a number and the byte that ends it.
-pub(crate) fn put_field<W: Write>(
-    out: &mut W,
-    block: &mut Block,
-    number: u32,
-    end: u8,
-) -> Result<(), Io>
-    ensures { Gathers W.written W.failures out.old out.new block.old block.new (field number end) result }
-{
-    if block.push_field(number, end) {
-        return Ok(());
-    }
-    block.forward(out)?;
-    block.push_field(number, end);
-    Ok(())
 }

@@ -5,7 +5,7 @@ ghost use Rattle.aig_base.specs.Circuit.{IsCircuit};
 ghost use Rattle.aig_bytes.specs.Gathered.{Gathers};
 ghost use Rattle.aig_format.specs.Header.{word, tail, header_line, counts_of as header_counts};
 
-use crate::block_writer::{put_field, put_number};
+use crate::block_writer::put_number;
 use crate::header::{Counts, Format};
 use aig_base::{Block, Circuit, Io, Write};
 
@@ -66,10 +66,10 @@ pub(crate) fn put_header<W: Write>(
         (header_line format 0 counts.now) result }
 {
     put_word(out, block, format)?;
-    put_field(out, block, counts.max_var, b' ')?;
-    put_field(out, block, counts.inputs, b' ')?;
-    put_field(out, block, counts.latches, b' ')?;
-    put_field(out, block, counts.outputs, b' ')?;
+    block.put_field(out, counts.max_var, b' ')?;
+    block.put_field(out, counts.inputs, b' ')?;
+    block.put_field(out, counts.latches, b' ')?;
+    block.put_field(out, counts.outputs, b' ')?;
     put_number(out, block, counts.gates)?;
     let last = [
         counts.bad,

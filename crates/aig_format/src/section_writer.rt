@@ -4,9 +4,8 @@ ghost use Rattle.std.specs.List.{flat_map};
 ghost use Rattle.aig_parts.specs.Formed.{IsFormed};
 ghost use Rattle.aig_bytes.specs.Gathered.{Gathers};
 ghost use Rattle.aig_format.specs.Spelling.{literal_line, reset_text, size_line, properties_of, property_lines};
-ghost use Rattle.aig_format.specs.Spelling.{letter, symbol_line, comment_text, names_text};
+ghost use Rattle.aig_format.specs.Spelling.{symbol_line, comment_text, names_text};
 
-use crate::block_writer::put_field;
 use aig_base::{Block, Circuit, Io, Kind, List, Lit, Symbols, Write};
 
 /// A line for each literal.
@@ -19,7 +18,7 @@ pub(crate) fn put_literals<W: Write>(
         result }
 {
     for literal in literals {
-        put_field(out, block, literal.value(), b'\n')?;
+        block.put_field(out, literal.value(), b'\n')?;
     }
     Ok(())
 }
@@ -32,7 +31,7 @@ pub(crate) fn put_reset<W: Write>(out: &mut W, block: &mut Block, reset: Lit) ->
         return block.put_all(out, b"\n");
     }
     block.put_all(out, b" ")?;
-    put_field(out, block, reset.value(), b'\n')
+    block.put_field(out, reset.value(), b'\n')
 }
 
 /// The sizes of the justice properties, which fit their numbers.
@@ -42,7 +41,7 @@ fn put_sizes<W: Write>(out: &mut W, block: &mut Block, properties: &[List<Lit>])
         result }
 {
     for property in properties {
-        put_field(out, block, property.len() as u32, b'\n')?;
+        block.put_field(out, property.len() as u32, b'\n')?;
     }
     Ok(())
 }
@@ -76,21 +75,6 @@ pub(crate) fn put_properties<W: Write>(
     put_literals(out, block, circuit.fairness())
 }
 
-/// The letter that names a section.
-fn letter_of(kind: Kind) -> u8
-    ensures { result ≡ letter kind }
-{
-    match kind {
-        Kind::Input => b'i',
-        Kind::Latch => b'l',
-        Kind::Output => b'o',
-        Kind::Bad => b'b',
-        Kind::Constraint => b'c',
-        Kind::Justice => b'j',
-        Kind::Fairness => b'f',
-    }
-}
-
 fn put_symbol<W: Write>(
     out: &mut W,
     block: &mut Block,
@@ -103,12 +87,12 @@ fn put_symbol<W: Write>(
       name.now,
     )) result }
 {
-    let letter = letter_of(kind);
+    let letter = kind.letter();
     if block.push_symbol(letter, position, name) {
         return Ok(());
     }
     block.put_all(out, &[letter])?;
-    put_field(out, block, position, b' ')?;
+    block.put_field(out, position, b' ')?;
     block.put_all(out, name)?;
     block.put_all(out, b"\n")
 }

@@ -1,5 +1,5 @@
 //! The symbols and the comment.
-ghost use Rattle.std.specs.Prelude.{◌≡◌, ◌≢◌, ℕ, ◌<◌, ◌≤◌, List, [], length, take, slice_index, Ok, IfOk, OnOk};
+ghost use Rattle.std.specs.Prelude.{◌≡◌, ◌≢◌, ℕ, ◌<◌, List, [], length, Ok, IfOk, OnOk};
 ghost use Rattle.std.specs.Prelude.{Option, All, Contains};
 ghost use Rattle.std.specs.Map.{keys_of};
 ghost use Rattle.aig_parts.specs.Formed.{IsName};
@@ -15,8 +15,7 @@ use crate::header::Counts;
 use crate::source::Source;
 use crate::token::{BODY, byte, number};
 use crate::token_fault::TokenFault;
-use aig_base::{Bytes, Fault, Kind, List, SymbolList, Symbols};
-use memchr::memchr;
+use aig_base::{Bytes, Fault, Kind, List, SymbolList, Symbols, line_length};
 use std::alloc::Global;
 
 /// What stands where a symbol line may begin.
@@ -80,16 +79,6 @@ fn letter<S: Source>(s: &mut S) -> Result<Next, TokenFault>
             None => Err(TokenFault::Text { at }),
         },
     }
-}
-
-/// How many bytes stand before the first end of a line, or all of them where there is none.
-#[inline]
-fn line_length(bytes: &[u8]) -> usize
-    ensures bound { result ≤ length bytes.now }
-    ensures before { All (λ b. b ≢ 10) (take result bytes.now) }
-    ensures end { result < length bytes.now → slice_index bytes.now result ≡ 10 }
-{
-    memchr(b'\n', bytes).unwrap_or(bytes.len())
 }
 
 /// Reads the bytes before the end of the line, which is taken.

@@ -1,4 +1,5 @@
 pub mod BitLemmas
+pub mod LetterLemmas
 pub mod NamedLemmas
 pub mod RankLemmas
 pub mod SymbolKeys

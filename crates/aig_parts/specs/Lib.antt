@@ -1,4 +1,5 @@
 pub mod Formed
+pub mod Letters
 pub mod Limits
 pub mod Literal
 pub mod SymbolPlaces

@@ -5,6 +5,7 @@ ghost use Rattle.std.specs.Map.{keys_of};
 ghost use Rattle.std.specs.Map.Iter.{ShowsInOrder, TakesFirst, deref_pair};
 ghost use Rattle.std.specs.Iterator.{at_most};
 ghost use Rattle.aig_parts.specs.declared.symbols.Kind.{Kind};
+ghost use Rattle.aig_parts.specs.Letters.{letter};
 ghost use Rattle.aig_parts.specs.SymbolPlaces.{Key, symbols_in};
 ghost use Rattle.aig_parts.specs.state.NamedEntries.{IsPlaceIn};
 
@@ -25,6 +26,23 @@ pub enum Kind {
     Constraint,
     Justice,
     Fairness,
+}
+
+impl Kind {
+    /// The letter that names the section in symbol lines.
+    pub fn letter(self) -> u8
+        ensures { result ≡ letter self }
+    {
+        match self {
+            Kind::Input => b'i',
+            Kind::Latch => b'l',
+            Kind::Output => b'o',
+            Kind::Bad => b'b',
+            Kind::Constraint => b'c',
+            Kind::Justice => b'j',
+            Kind::Fairness => b'f',
+        }
+    }
 }
 
 /// The names of entries, in the order of the file. No entry has two names. The names lie one after another in one list

@@ -1,30 +1,20 @@
 //! Scripts: lines that drive a bench, answered one by one.
-ghost use Rattle.std.specs.Prelude.{◌≡◌, ◌<◌, ◌≤◌, ◌↔◌, ◌++◌, ℕ, List, [], map, length, take, slice_get, Some};
+ghost use Rattle.std.specs.Prelude.{◌≡◌, ◌<◌, ◌≤◌, ◌↔◌, ◌++◌, ℕ, List, [], map, length, take};
 ghost use Rattle.std.specs.Prelude.{IsTrue, OnOk, OnErr, IfOk, IfErr};
 ghost use Rattle.aig_bytes.specs.Bytes.{IsAtEnd, Writes};
 ghost use Rattle.aig_bytes.specs.Flow.{flow};
-ghost use Rattle.aig_script.specs.Lines.{IsPiece, whole, lines_from, rest_from};
+ghost use Rattle.aig_script.specs.Lines.{whole, lines_from, rest_from};
 ghost use Rattle.aig_script.specs.Ran.{Answered, StoppedAt, Reading, Ran, Failing};
 ghost use Rattle.aig_script.specs.Replies.{WholeReply};
 ghost use Rattle.aig_script.specs.ScriptLine.{BeginsRow, KeepsScriptLine};
 
 use crate::reply::{answer, answer_command};
 use crate::script_line::ScriptLine;
-use aig_base::{Io, Read, Write, write_all};
+use aig_base::{Io, Read, Write, line_length, write_all};
 use aig_bench::Bench;
 use aig_run::ScriptFault;
 use aig_sim::Grid;
-use memchr::memchr;
 use std::alloc::Global;
-
-/// How many bytes stand before the first LF, or how many there are.
-fn line_length(bytes: &[u8]) -> usize
-    ensures bound { result ≤ length bytes.now }
-    ensures piece { IsPiece (take result bytes.now) }
-    ensures ended { result < length bytes.now → slice_get bytes.now result ≡ Some 10 }
-{
-    memchr(b'\n', bytes).unwrap_or(bytes.len())
-}
 
 /// Whether a line that begins with these bytes appends a frame.
 fn begins_row(bytes: &[u8]) -> bool

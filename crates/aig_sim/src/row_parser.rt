@@ -6,8 +6,7 @@ ghost use Rattle.aig_sim.specs.StimulusText.{line_number, IsCharacter, EndsLine,
 ghost use Rattle.aig_sim.specs.RowParser.{KeepsLine, IsOfLine};
 
 use crate::stimulus_fault::StimFault;
-use aig_base::{Memory, Tern};
-use memchr::memchr;
+use aig_base::{Memory, Tern, line_length};
 use std::alloc::Global;
 use std::marker::Model;
 
@@ -42,15 +41,6 @@ impl Model for RowParser {
       values = l.values.items;
       room = vec_capacity l.values;
     } };
-}
-
-/// How many bytes stand before the first LF, or how many there are.
-pub fn line_length(bytes: &[u8]) -> usize
-    ensures bound { result ≤ length bytes.now }
-    ensures no_end { All (λ b. b ≢ 10) (take result bytes.now) }
-    ensures ended { result < length bytes.now → slice_get bytes.now result ≡ Some 10 }
-{
-    memchr(b'\n', bytes).unwrap_or(bytes.len())
 }
 
 /// The value of a character.

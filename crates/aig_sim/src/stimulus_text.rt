@@ -6,8 +6,9 @@ ghost use Rattle.aig_sim.specs.RowParser.{KeepsLine};
 ghost use Rattle.aig_sim.specs.declared.row_parser.Shape.TheVariants as shapes;
 ghost use Rattle.aig_sim.specs.StimulusText.{EndsLine, SpellsRows, HasFault, HasFaultyLine};
 
-use crate::row_parser::{RowParser, line_length};
+use crate::row_parser::RowParser;
 use crate::stimulus_fault::StimFault;
+use aig_base::line_length;
 use aig_values::{FRAMES, Stimulus};
 use std::alloc::Global;
 

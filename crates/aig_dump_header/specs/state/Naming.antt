@@ -6,7 +6,8 @@ use Rattle.aig_dump_header.specs.declared.names.Names.{Names}
 use Rattle.aig_dump_header.specs.declared.names.Names.TheVariants as names
 use Rattle.aig_dump_header.specs.declared.signals.Signal.{Signal}
 use Rattle.aig_dump_header.specs.declared.signals.Entry.{Entry}
-use Rattle.aig_dump_header.specs.Names.{letter, words, shown}
+use Rattle.aig_parts.specs.Letters.{letter}
+use Rattle.aig_dump_header.specs.Names.{words, shown}
 use Rattle.aig_dump_header.specs.Vectors.{next_name}
 
 -- a name's bytes

@@ -10,7 +10,8 @@ use Rattle.aig_format.specs.declared.symbol.Next.{Next}
 use Rattle.aig_format.specs.declared.symbol.Next.TheVariants.{End, Comment, Symbol}
 use Rattle.aig_format.specs.declared.symbol.Names.{Names}
 use Rattle.aig_format.specs.Header.{space, line_end}
-use Rattle.aig_format.specs.Spelling.{Entry, letter}
+use Rattle.aig_parts.specs.Letters.{letter}
+use Rattle.aig_format.specs.Spelling.{Entry}
 use Rattle.aig_format.specs.Spells.{greatest}
 use Rattle.aig_format.specs.state.Reading.{text, Read, ◌>>=◌, is_digit, byte_at, number_at}
 

@@ -14,5 +14,8 @@ value gives text (Some n) h spells = spells n h
 
 pub returns : goal.returns
 returns c = record {
-  held = (c.get_one.ensures.none,
-    λ text is. value ghosts.from_str_gives text c.get_one.result (c.get_one.ensures.value text is) (λ n h. h.0.1)) }
+  held = (
+    c.get_one.ensures.none,
+    λ text is. value ghosts.from_str_gives text c.get_one.result (c.get_one.ensures.value text is) (λ n h. h.0.1),
+  );
+}

@@ -1,6 +1,7 @@
 use Rattle.std.proofs.Common.{◌≡◌, ℕ, List, ◌∷◌, map, sym, ap, ◌∙◌, arith}
 use Rattle.std.specs.Prelude.{decimal}
-use Rattle.aig_dump_header.specs.Names.{letter, shown}
+use Rattle.aig_parts.specs.Letters.{letter}
+use Rattle.aig_dump_header.specs.Names.{shown}
 use Rattle.aig_dump_header.specs.state.Naming.{names_left, names_size}
 use Rattle.aig_dump_header.proofs.Words.{words_none}
 use Rattle.aig_dump_header.proofs.names.first_name.Goals as goal

@@ -14,8 +14,8 @@ returns-then-count-size-clause-reads g c =
     (line_ends c.loop-s.bytes.items (g.S.Source.left c.loop-s.s) (g.S.Source.left c.peek.new.self)
     (g.S.Source.left c.skip.new.self) c.front-front.result.now (g.S.Source.unread c.peek.new.self) count.result c.in_ok-peek.field-0
     _ (c.in_ok-peek.ensures.bytes (c.loop-s.invariant.keeps.reported reported))
-    (rw c.front-front.ensures.buffered (c.front-front.ensures.left)) c.if-count-size.true (count.ensures.end c.if-count-size.true)
-    count.ensures.before skip.left (c.loop-s.invariant.bytes reported)))
+    (rw c.front-front.ensures.buffered (c.front-front.ensures.left)) c.if-count-size.true (count.ensures.ended c.if-count-size.true)
+    count.ensures.no_end skip.left (c.loop-s.invariant.bytes reported)))
 
 pub loop-s-preserved : goal.loop-s-preserved
 loop-s-preserved g c =
@@ -29,9 +29,9 @@ loop-s-preserved g c =
           (g.S.Source.left skip.new.self) c.front-front.result.now (g.S.Source.unread c.peek.new.self) count.result
           c.in_ok-peek.field-0 _ (c.in_ok-peek.ensures.bytes (old.keeps.reported reported))
           (rw c.front-front.ensures.buffered (c.front-front.ensures.left)) count.ensures.bound c.if-count-size.false
-          count.ensures.before skip.ensures.left (old.bytes reported));
+          count.ensures.no_end skip.ensures.left (old.bytes reported));
       no_end = rw c.in_ok-extend_from_slice.ensures.items
-          (All-append (λ (b : ℕ). b ≢ 10) c.loop-s.bytes.items (take count.result c.front-front.result.now) old.no_end count.ensures.before);
+          (All-append (λ (b : ℕ). b ≢ 10) c.loop-s.bytes.items (take count.result c.front-front.result.now) old.no_end count.ensures.no_end);
       keeps =
           let e = c.in_ok-peek.ensures in
           let peeked = keeps_step old.keeps e.reported e.reader e.failures e.never_more in

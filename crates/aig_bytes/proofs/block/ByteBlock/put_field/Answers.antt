@@ -1,5 +1,5 @@
 use Rattle.aig_bytes.proofs.GatherLemmas.{gathers_not_forwarded}
-use Rattle.aig_format.proofs.block_writer.put_field.Goals as goal
+use Rattle.aig_bytes.proofs.block.ByteBlock.put_field.Goals as goal
 
 pub returns-in_err-forward : goal.returns-in_err-forward
 returns-in_err-forward g c =
