@@ -1,2 +1,3 @@
-pub mod Ends
+pub mod Chosen
 pub mod Commands
+pub mod Ends

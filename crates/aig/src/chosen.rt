@@ -1,6 +1,7 @@
 //! The command that the arguments choose. The parser has accepted them, so what a command needs is there.
 ghost use Rattle.std.specs.Prelude.{IfOk, Some, codes};
-ghost use Rattle.aig_cli.specs.Held.{HoldsNumber, HoldsNumberOr};
+ghost use Rattle.aig_cli.specs.Held.{HoldsFlag, HoldsNumber, HoldsNumberOr};
+ghost use Rattle.aig.specs.Chosen.{HoldsOptions, HoldsQuery, is_step};
 
 use crate::command::{Command, Selection};
 use aig_base::PropertySection;
@@ -16,9 +17,20 @@ pub fn open_chosen<'m, R: Files>(
     rt: &R,
     matches: &'m ArgMatches<'_>,
 ) -> Result<Command<'m, R::File>, Exit> {
-    let Some((name, matches)) = subcommand_of(matches) else {
-        return Err(Exit::NoCommand);
-    };
+    match subcommand_of(matches) {
+        Some((name, matches)) => open_command(rt, name, matches),
+        None => Err(Exit::NoCommand),
+    }
+}
+
+/// Opens the files of a command. Its options are those that its own matches hold.
+fn open_command<'m, R: Files>(
+    rt: &R,
+    name: &str,
+    matches: &'m ArgMatches<'_>,
+) -> Result<Command<'m, R::File>, Exit>
+    ensures options { IfOk result (HoldsOptions matches.now) }
+{
     match name {
         "toaig" => open_toaig(rt, matches),
         "sim" => open_sim(rt, matches),
@@ -79,14 +91,23 @@ fn property_of(matches: &ArgMatches<'_>) -> u32
     number_or(matches, "P", 0)
 }
 
+/// Returns the goal: with the flag `--step` that of an induction step.
+fn goal_of(matches: &ArgMatches<'_>) -> Goal
+    ensures held { HoldsFlag matches.now (codes "step") (is_step result) }
+{
+    if has_flag(matches, "step") {
+        Goal::Step
+    } else {
+        Goal::Within
+    }
+}
+
 /// Returns the question about a bad state property.
-fn query_of(matches: &ArgMatches<'_>) -> Result<Query, Exit> {
+fn query_of(matches: &ArgMatches<'_>) -> Result<Query, Exit>
+    ensures held { IfOk result (HoldsQuery matches.now) }
+{
     Ok(Query {
-        goal: if has_flag(matches, "step") {
-            Goal::Step
-        } else {
-            Goal::Within
-        },
+        goal: goal_of(matches),
         frames: frames_of(matches)?,
         property: property_of(matches),
     })
@@ -103,16 +124,17 @@ fn section_of(matches: &ArgMatches<'_>, name: &str) -> PropertySection {
 fn open_toaig<'m, R: Files>(
     rt: &R,
     matches: &'m ArgMatches<'_>,
-) -> Result<Command<'m, R::File>, Exit> {
+) -> Result<Command<'m, R::File>, Exit>
+    ensures options { IfOk result (HoldsOptions matches.now) }
+{
     let to = format_of(matches)?;
     let circuit = open_circuit(rt, matches)?;
     Ok(Command::Toaig { to, circuit })
 }
 
-fn open_sim<'m, R: Files>(
-    rt: &R,
-    matches: &'m ArgMatches<'_>,
-) -> Result<Command<'m, R::File>, Exit> {
+fn open_sim<'m, R: Files>(rt: &R, matches: &'m ArgMatches<'_>) -> Result<Command<'m, R::File>, Exit>
+    ensures options { IfOk result (HoldsOptions matches.now) }
+{
     let circuit = open_circuit(rt, matches)?;
     let stimulus = open_named(rt, matches, "STIM", Part::Stimulus)?;
     Ok(Command::Sim { circuit, stimulus })
@@ -121,7 +143,9 @@ fn open_sim<'m, R: Files>(
 fn open_wave<'m, R: Files>(
     rt: &R,
     matches: &'m ArgMatches<'_>,
-) -> Result<Command<'m, R::File>, Exit> {
+) -> Result<Command<'m, R::File>, Exit>
+    ensures options { IfOk result (HoldsOptions matches.now) }
+{
     let circuit = open_circuit(rt, matches)?;
     if has_flag(matches, "witness") {
         let witness = open_named(rt, matches, "STIM", Part::Witness)?;
@@ -135,7 +159,9 @@ fn open_wave<'m, R: Files>(
 fn open_bench<'m, R: Files>(
     rt: &R,
     matches: &'m ArgMatches<'_>,
-) -> Result<Command<'m, R::File>, Exit> {
+) -> Result<Command<'m, R::File>, Exit>
+    ensures options { IfOk result (HoldsOptions matches.now) }
+{
     let circuit = open_circuit(rt, matches)?;
     let stimulus = open_named(rt, matches, "STIM", Part::Stimulus)?;
     let script = open_named(rt, matches, "SCRIPT", Part::Script)?;
@@ -150,7 +176,9 @@ fn open_bench<'m, R: Files>(
 fn open_unroll<'m, R: Files>(
     rt: &R,
     matches: &'m ArgMatches<'_>,
-) -> Result<Command<'m, R::File>, Exit> {
+) -> Result<Command<'m, R::File>, Exit>
+    ensures options { IfOk result (HoldsOptions matches.now) }
+{
     let frames = frames_of(matches)?;
     let to = format_of(matches)?;
     let circuit = open_circuit(rt, matches)?;
@@ -176,7 +204,9 @@ fn open_unroll<'m, R: Files>(
 fn open_check<'m, R: Files>(
     rt: &R,
     matches: &'m ArgMatches<'_>,
-) -> Result<Command<'m, R::File>, Exit> {
+) -> Result<Command<'m, R::File>, Exit>
+    ensures options { IfOk result (HoldsOptions matches.now) }
+{
     let circuit = open_circuit(rt, matches)?;
     let witness = open_named(rt, matches, "WITNESS", Part::Witness)?;
     Ok(Command::Check {
@@ -186,10 +216,9 @@ fn open_check<'m, R: Files>(
     })
 }
 
-fn open_cnf<'m, R: Files>(
-    rt: &R,
-    matches: &'m ArgMatches<'_>,
-) -> Result<Command<'m, R::File>, Exit> {
+fn open_cnf<'m, R: Files>(rt: &R, matches: &'m ArgMatches<'_>) -> Result<Command<'m, R::File>, Exit>
+    ensures options { IfOk result (HoldsOptions matches.now) }
+{
     let query = query_of(matches)?;
     let circuit = open_circuit(rt, matches)?;
     Ok(Command::Cnf { query, circuit })
@@ -198,7 +227,9 @@ fn open_cnf<'m, R: Files>(
 fn open_info<'m, R: Files>(
     rt: &R,
     matches: &'m ArgMatches<'_>,
-) -> Result<Command<'m, R::File>, Exit> {
+) -> Result<Command<'m, R::File>, Exit>
+    ensures options { IfOk result (HoldsOptions matches.now) }
+{
     let circuit = open_circuit(rt, matches)?;
     if has_flag(matches, "names") {
         Ok(Command::InfoNames { circuit })
@@ -210,7 +241,9 @@ fn open_info<'m, R: Files>(
 fn open_select<'m, R: Files>(
     rt: &R,
     matches: &'m ArgMatches<'_>,
-) -> Result<Command<'m, R::File>, Exit> {
+) -> Result<Command<'m, R::File>, Exit>
+    ensures options { IfOk result (HoldsOptions matches.now) }
+{
     let to = format_of(matches)?;
     let circuit = open_circuit(rt, matches)?;
     Ok(Command::Select {
@@ -227,7 +260,9 @@ fn open_select<'m, R: Files>(
 fn open_witness<'m, R: Files>(
     rt: &R,
     matches: &'m ArgMatches<'_>,
-) -> Result<Command<'m, R::File>, Exit> {
+) -> Result<Command<'m, R::File>, Exit>
+    ensures options { IfOk result (HoldsOptions matches.now) }
+{
     if text_of(matches, "model").is_some() {
         return open_model_witness(rt, matches);
     }
@@ -243,7 +278,9 @@ fn open_witness<'m, R: Files>(
 fn open_model_witness<'m, R: Files>(
     rt: &R,
     matches: &'m ArgMatches<'_>,
-) -> Result<Command<'m, R::File>, Exit> {
+) -> Result<Command<'m, R::File>, Exit>
+    ensures options { IfOk result (HoldsOptions matches.now) }
+{
     let query = query_of(matches)?;
     let circuit = open_circuit(rt, matches)?;
     let model = open_named(rt, matches, "model", Part::Model)?;
@@ -257,7 +294,9 @@ fn open_model_witness<'m, R: Files>(
 fn open_refute<'m, R: Files>(
     rt: &R,
     matches: &'m ArgMatches<'_>,
-) -> Result<Command<'m, R::File>, Exit> {
+) -> Result<Command<'m, R::File>, Exit>
+    ensures options { IfOk result (HoldsOptions matches.now) }
+{
     let frames = frames_of(matches)?;
     let property = property_of(matches);
     let circuit = open_circuit(rt, matches)?;
@@ -283,7 +322,9 @@ fn open_refute<'m, R: Files>(
 fn open_reduce<'m, R: Files>(
     rt: &R,
     matches: &'m ArgMatches<'_>,
-) -> Result<Command<'m, R::File>, Exit> {
+) -> Result<Command<'m, R::File>, Exit>
+    ensures options { IfOk result (HoldsOptions matches.now) }
+{
     let circuit = open_circuit(rt, matches)?;
     let witness = open_named(rt, matches, "WITNESS", Part::Witness)?;
     Ok(Command::Reduce { circuit, witness })

@@ -1,5 +1,5 @@
 -- What the parsed arguments hold.
-use Rattle.std.specs.Prelude.{◌≡◌, ℕ, List, Option, None, Some, IfSome}
+use Rattle.std.specs.Prelude.{◌≡◌, ℕ, List, Bool, true, false, Option, None, Some, IfSome, codes}
 use Rattle.std.specs.Option.{unwrap_or}
 use Rattle.std.specs.Str.Parse.{digits_value, without_leading_plus}
 use Rattle.clap.specs.Matches.{found_of, one_text}
@@ -16,3 +16,10 @@ HoldsNumber matches name number =
 abbrev pub HoldsNumberOr : ArgMatches → List ℕ → ℕ → ℕ → Type 0
 HoldsNumberOr matches name other number =
     (held : Option ℕ) × HoldsNumber matches name held × (number ≡ unwrap_or held other)
+
+-- a flag is set where the matches hold that it was given, and is not where they hold that it was not
+abbrev pub HoldsFlag : ArgMatches → List ℕ → Bool → Type 0
+HoldsFlag matches name flag =
+    (one_text (found_of matches) name ≡ Some (codes "true") → flag ≡ true)
+    × (one_text (found_of matches) name ≡ Some (codes "false") → flag ≡ false)
+    × (one_text (found_of matches) name ≡ None → flag ≡ false)

@@ -1,7 +1,7 @@
 //! The command line: the parser of its words, and what it found.
-ghost use Rattle.std.specs.Prelude.{◌≡◌, None, Some, codes, false, option_map, true};
-ghost use Rattle.clap.specs.Matches.{first_value, found_of, one_text};
-ghost use Rattle.aig_cli.specs.Held.{HoldsNumber, HoldsNumberOr};
+ghost use Rattle.std.specs.Prelude.{◌≡◌, option_map};
+ghost use Rattle.clap.specs.Matches.{first_value, found_of};
+ghost use Rattle.aig_cli.specs.Held.{HoldsFlag, HoldsNumber, HoldsNumberOr};
 
 use crate::arguments::{EXPLAIN, built};
 use crate::help;
@@ -96,9 +96,7 @@ pub fn number_or(matches: &ArgMatches<'_>, name: &str, default: u32) -> u32
 
 /// Returns whether a flag was given.
 pub fn has_flag(matches: &ArgMatches<'_>, name: &str) -> bool
-    ensures absent { one_text (found_of matches.now) name.now ≡ None → result ≡ false }
-    ensures given { one_text (found_of matches.now) name.now ≡ Some (codes "true") → result ≡ true }
-    ensures not_given { one_text (found_of matches.now) name.now ≡ Some (codes "false") → result ≡ false }
+    ensures held { HoldsFlag matches.now name.now result }
 {
     matches.get_flag(name)
 }
