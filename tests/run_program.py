@@ -19,6 +19,8 @@ from program.kept import kept
 from program.needs import needs
 from program.owners import owners
 from program.pages import pages
+from program.proofs import proofs
+from program.properties import properties
 from program.reduce import reduce
 from program.refute import refute
 from program.replays import replays
@@ -33,8 +35,8 @@ from program.words import words
 
 PARTS = {"bench": bench, "kept": kept, "owners": owners, "descriptors": descriptors, "words": words, "sim": sim,
          "wave": wave, "check": check, "replays": replays, "toaig": toaig, "unroll": unroll, "cnf": cnf,
-         "info": info, "select": select, "witness": witness, "refute": refute, "reduce": reduce,
-         "help": helps, "pages": pages, "completions": completions, "diagnostics": diagnostics, "explain": explain,
+         "info": info, "select": select, "witness": witness, "refute": refute, "proofs": proofs,
+         "properties": properties, "reduce": reduce, "help": helps, "pages": pages, "completions": completions, "diagnostics": diagnostics, "explain": explain,
          "explain_option": explain_option, "needs": needs, "talks": talks}
 
 if __name__ == "__main__":

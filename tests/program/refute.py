@@ -22,6 +22,9 @@ PROOFS = (
     ("a comment without an end before steps", "2 0\nc"),
     ("a deletion of a clause that is not there", "d 2 3 0\n2 0\n"),
     ("a deletion of what was added", "2 3 0\nd 3 2 0\n2 0\n"),
+    ("a deletion of what was added, twice", "2 3 0\nd 2 3 0\nd 3 2 0\n2 0\n"),
+    ("a deletion of the empty clause", "d 0\n2 0\n"),
+    ("a deletion over lines", "2 3 0\nd\n2 3\n0\n2 0\n"),
     ("a literal twice", "2 2 0\n"),
     ("a tautology", "2 -2 0\n2 0\n"),
     ("what is behind the empty clause is not read", "2 0\nx\n"),
@@ -60,12 +63,24 @@ REFUSALS = (
     ("a variable over the greatest, negated", "-11 0\n", "text at 0"),
     ("a variable over all numbers", "2 3 0\n99999999999999999999999 0\n", "text at 6"),
     ("a variable over the greatest in a deletion", "d 11 0\n", "text at 2"),
+    ("a number that is 2 in 32 bits", "4294967298 0\n", "text at 0"),
+    ("a number whose double is 4 in 32 bits", "2147483650 0\n", "text at 0"),
+    ("a number that is 2 in 64 bits", "18446744073709551618 0\n", "text at 0"),
+    ("a number whose double is 4 in 64 bits", "9223372036854775810 0\n", "text at 0"),
+    ("a number that is 2 in 128 bits", "340282366920938463463374607431768211458 0\n", "text at 0"),
+    ("a number that is 3 in 64 bits, negated", "2 3 0\n-18446744073709551619 0\n", "text at 6"),
+    ("a number that is 0 in 64 bits", "2 18446744073709551616\n", "text at 2"),
+    ("a number that is 2 in 64 bits, in a deletion", "d 18446744073709551618 0\n2 0\n", "text at 2"),
     ("a word before the clause", "a 2 0\n", "text at 1"),
+    ("d and no blank, which is binary", "d1 2 0\n", "text at 1"),
+    ("d and a newline, which is binary", "d\n2 3 0\n2 0\n", "text at 2"),
     ("binary: a step without its clause", b"a", "text at 1"),
     ("binary: a step without its end", b"a\x04", "text at 2"),
     ("binary: a number without its end", b"a\x84", "text at 2"),
     ("binary: a number with a group too many", b"a\x84\x00\x00", "text at 1"),
     ("binary: a number of six groups", b"a\x80\x80\x80\x80\x80\x01\x00", "text at 1"),
+    ("binary: a number that is 4 in 32 bits", b"a\x84\x80\x80\x80\x10\x00", "text at 1"),
+    ("binary: a number that is 4 in 64 bits", b"a\x84\x80\x80\x80\x80\x80\x80\x80\x80\x02\x00", "text at 1"),
     ("binary: the variable 0", b"a\x01\x00", "text at 1"),
     ("binary: a variable over the greatest", b"a\x04\x16\x00", "text at 2"),
     ("binary: a variable over the greatest in a deletion", b"d\x16\x00", "text at 1"),
@@ -143,7 +158,7 @@ def broken(rows):
         changed += [proof[:at] + bytes([byte]) + proof[at + 1:] for at in range(len(proof)) for byte in b"\x00 0-adc9\x7f\xff"]
         for each in changed:
             write("proof", each)
-            ended = rows.program.run("refute", "--frames", "1", "never", "proof")
+            ended = rows.run("refute", "--frames", "1", "never", "proof")
             rows.tally.check(f"refute: {each}", ended in allowed + refusals, ended)
-            ended = rows.program.run("refute", "--frames", "1", "reached", "proof")
+            ended = rows.run("refute", "--frames", "1", "reached", "proof")
             rows.tally.check(f"refute: {each}, of a state that is reached", ended in refusals, ended)

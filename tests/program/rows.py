@@ -2,8 +2,14 @@
 
 import os
 import re
+import subprocess
 
 from library.runs import Ended, contents, input_or_output, refused, write
+
+
+# How long a row may take, and how a run ends that takes longer.
+SECONDS = 120
+UNENDED = Ended(None, b"", f"it does not end within {SECONDS} seconds\n".encode())
 
 
 def data(text):
@@ -16,15 +22,22 @@ class Rows:
     def __init__(self, name, program, tally):
         self.name, self.program, self.tally = name, program, tally
 
+    def run(self, *words, **settings):
+        """A run that takes no longer than a row may."""
+        try:
+            return self.program.run(*words, timeout=SECONDS, **settings)
+        except subprocess.TimeoutExpired:
+            return UNENDED
+
     def ends(self, name, words, wanted, **files):
         """A row: the run of these arguments, with these files."""
         for file, content in files.items():
             write(file, content)
         words = words.split(" ") if isinstance(words, str) else words
-        ended = self.program.run(*words)
+        ended = self.run(*words)
         self.tally.compare(f"{self.name}: {name}", ended, wanted)
         if ended.err:
-            again = self.program.run(*words, env={**os.environ, "AIG_EXPLAIN": "1"})
+            again = self.run(*words, env={**os.environ, "AIG_EXPLAIN": "1"})
             self.tally.check(f"{self.name}: {name}, explained", explains(again, ended), again)
 
     def gives(self, name, words, out, status=0, **files):
