@@ -1,16 +1,21 @@
 -- What the parsed arguments hold.
-use Rattle.std.specs.Prelude.{◌≡◌, ℕ, List, Bool, true, false, Option, None, Some, IfSome, codes}
+use Rattle.std.specs.Prelude.{◌≡◌, ℕ, ◌<◌, ◌^◌, List, Bool, true, false, Option, None, Some, codes}
 use Rattle.std.specs.Option.{unwrap_or}
-use Rattle.std.specs.Str.Parse.{digits_value, without_leading_plus}
+use Rattle.std.specs.Str.Parse.{IsNumeral, digits_value, without_leading_plus}
 use Rattle.clap.specs.Matches.{found_of, one_text}
 use Rattle.clap.specs.declared.parser.matches.ArgMatches.{ArgMatches}
 
--- a number is the one that the text of an argument spells, in decimal digits; without the argument there is none
+-- a number of 32 bits is the one that a text spells in decimal digits; there is none only where it spells no such number
+abbrev pub IsNumberOf : List ℕ → Option ℕ → Type 0
+IsNumberOf text (Some n) = n ≡ digits_value 10 (without_leading_plus text)
+IsNumberOf text None =
+    IsNumeral 10 (without_leading_plus text) × (digits_value 10 (without_leading_plus text) < 2 ^ 32) → ⊥
+
+-- a number is that of the text of an argument; without the argument there is none
 abbrev pub HoldsNumber : ArgMatches → List ℕ → Option ℕ → Type 0
 HoldsNumber matches name number =
     (one_text (found_of matches) name ≡ None → number ≡ None)
-    × ((text : List ℕ) → one_text (found_of matches) name ≡ Some text
-    → IfSome number (λ n. n ≡ digits_value 10 (without_leading_plus text)))
+    × ((text : List ℕ) → one_text (found_of matches) name ≡ Some text → IsNumberOf text number)
 
 -- a number is that one, or another where the argument is left out
 abbrev pub HoldsNumberOr : ArgMatches → List ℕ → ℕ → ℕ → Type 0
