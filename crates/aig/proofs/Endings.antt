@@ -4,8 +4,8 @@ use Rattle.std.specs.Prelude.{Bool, true, false, Option, None, Some, IfSome, OnO
 use Rattle.std.specs.Result.{IsErrAnd}
 use Rattle.aig_bytes.specs.Flow.{Flow}
 use Rattle.aig_parts.specs.declared.raw.Raw.{Raw}
-use Rattle.aig_sim.specs.declared.verdict.Verdict.{Verdict}
-use Rattle.aig_sim.specs.declared.verdict.Verdict.TheVariants.{Initial, Constraint, NotBad, Confirmed}
+use Rattle.aig_sim.specs.declared.witness.verdict.Verdict.{Verdict}
+use Rattle.aig_sim.specs.declared.witness.verdict.Verdict.TheVariants.{Initial, Constraint, NotBad, Confirmed}
 use Rattle.aig_run.specs.Command.{CommandEnds, OfFile}
 use Rattle.aig_run.specs.declared.run_fault.RunFault.{RunFault}
 use Rattle.aig_run.specs.declared.run_fault.RunFault.TheVariants as run_faults

@@ -1,7 +1,7 @@
 -- How each command of the program ends, where the bytes of its files are known.
 use Rattle.std.specs.Prelude.{ℕ, List, Bool, true, false, Option, Result, IfSome, OnOk, ⊤}
 use Rattle.aig_parts.specs.declared.raw.Raw.{Raw}
-use Rattle.aig_sim.specs.declared.verdict.Verdict.{Verdict}
+use Rattle.aig_sim.specs.declared.witness.verdict.Verdict.{Verdict}
 use Rattle.aig_run.specs.Command.{OfFile}
 use Rattle.aig_run.specs.declared.run_fault.RunFault.{RunFault}
 use Rattle.aig_commands.specs.GoesWell.{GoesWell}

@@ -1,8 +1,8 @@
 -- How the program takes a command's answer. Standard output is the system's: no clause says which bytes reach it.
 use Rattle.std.specs.Prelude.{◌≡◌, ◌⊎◌, ℕ, List, Bool, true, false, Result, Ok, Err}
 use Rattle.aig_parts.specs.declared.raw.Raw.{Raw}
-use Rattle.aig_sim.specs.declared.verdict.Verdict.{Verdict}
-use Rattle.aig_sim.specs.declared.verdict.Verdict.TheVariants.{Initial, Constraint, NotBad, Confirmed}
+use Rattle.aig_sim.specs.declared.witness.verdict.Verdict.{Verdict}
+use Rattle.aig_sim.specs.declared.witness.verdict.Verdict.TheVariants.{Initial, Constraint, NotBad, Confirmed}
 use Rattle.aig_run.specs.Command.{IsFileOf}
 use Rattle.aig_run.specs.declared.run_fault.RunFault.{RunFault}
 use Rattle.aig_run.specs.declared.run_fault.RunFault.TheVariants as run_faults

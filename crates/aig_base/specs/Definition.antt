@@ -3,8 +3,8 @@ use Rattle.std.specs.Prelude.{◌≡◌, ℕ, map, Some, Contains, slice_get}
 use Rattle.aig_parts.specs.declared.gate.Gate.{Gate}
 use Rattle.aig_parts.specs.declared.latch.Latch.{Latch}
 use Rattle.aig_parts.specs.declared.raw.Raw.{Raw}
-use Rattle.aig_base.specs.declared.definition.Definition.{Definition}
-use Rattle.aig_base.specs.declared.definition.Definition.TheVariants as definition
+use Rattle.aig_base.specs.declared.circuit.definition.Definition.{Definition}
+use Rattle.aig_base.specs.declared.circuit.definition.Definition.TheVariants as definition
 use Rattle.aig_parts.specs.Literal.{variable}
 use Rattle.aig_base.specs.Renumbered.{evens}
 use Rattle.aig_base.specs.Sections.{definitions}

@@ -5,8 +5,10 @@ ghost use Rattle.aig_base.specs.Grounded.{IsAcyclic};
 ghost use Rattle.aig_parts.specs.Literal.{variable};
 ghost use Rattle.aig_base.specs.Sections.{IsDefined, IsLatchLiteral, IsLeftSide};
 
+pub(crate) mod append;
+
 use crate::circuit::Circuit;
-use crate::definition::Definition;
+use crate::circuit::definition::Definition;
 use aig_parts::{Gate, Latch, Lit, Tern};
 
 // The reset of a latch that starts at a value.

@@ -15,15 +15,23 @@ ghost use Rattle.aig_base.specs.state.Ranged.{AreInRange, AreSectionsInRange, Ar
 ghost use Rattle.aig_base.specs.Sections.{definitions, uses, IsDefined};
 ghost use Rattle.aig_base.specs.Sound.{IsDefinition, IsSound};
 
-use crate::binary_ready::definitions_in_order;
+pub(crate) mod binary_ready;
+mod entries;
+pub(crate) mod grounded;
+mod least_faulty;
+mod ordered;
+pub(crate) mod tried_levels;
+pub(crate) mod walk;
+
+use crate::check::binary_ready::definitions_in_order;
+use crate::check::entries::Entries;
+use crate::check::grounded::grounded_levels;
+use crate::check::least_faulty::{least_bad_reset, least_undefined, least_unmarked};
+use crate::check::ordered::{is_ascending, test_ascending};
+use crate::check::tried_levels::found_levels;
 use crate::circuit::Circuit;
-use crate::definition::Definition;
-use crate::definitions::Definitions;
-use crate::entries::Entries;
-use crate::grounded::grounded_levels;
-use crate::least_faulty::{least_bad_reset, least_undefined, least_unmarked};
-use crate::ordered::{is_ascending, test_ascending};
-use crate::tried_levels::found_levels;
+use crate::circuit::definition::Definition;
+use crate::circuit::definitions::Definitions;
 use aig_bytes::Memory;
 use aig_parts::{Fault, Gate, Latch, List, Lit, Raw};
 use std::alloc::Global;

@@ -5,8 +5,14 @@ ghost use Rattle.aig_base.specs.Definition.{Defines, IsFree, IsInOrder};
 ghost use Rattle.aig_base.specs.Levels.{AreLevels};
 ghost use Rattle.aig_base.specs.Renumbered.{IsBinaryReady};
 
-use crate::definition::Definition;
-use crate::definitions::Definitions;
+pub(crate) mod definition;
+pub(crate) mod definitions;
+mod gate_of;
+pub(crate) mod gate_variables;
+pub(crate) mod laws;
+
+use crate::circuit::definition::Definition;
+use crate::circuit::definitions::Definitions;
 use aig_parts::{Gate, Latch, List, Lit, Raw, Symbols};
 use std::marker::Model;
 

@@ -5,11 +5,21 @@ ghost use Rattle.aig_base.specs.state.Descent.{level_above, AreFirstLevels};
 ghost use Rattle.aig_base.specs.Levels.{AreLevels};
 ghost use Rattle.aig_parts.specs.Literal.{variable};
 
+pub(crate) mod cycle;
+pub(crate) mod greatest;
+pub(crate) mod order;
+mod queue;
+mod renewal;
+mod rewire;
+mod transitive_fan_out;
+mod visits;
+pub(crate) mod worklist;
+
+use crate::check::grounded::grounded_levels;
 use crate::check::reads_smaller;
+use crate::check::tried_levels::found_levels;
 use crate::circuit::Circuit;
-use crate::grounded::grounded_levels;
-use crate::tried_levels::found_levels;
-use crate::worklist::Worklist;
+use crate::level::worklist::Worklist;
 use aig_bytes::Memory;
 use aig_parts::Gate;
 use std::alloc::Global;

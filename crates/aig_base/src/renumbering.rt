@@ -5,13 +5,17 @@ ghost use Rattle.aig_base.specs.Renumbered.{ordered_gates, renumbered, IsBinaryR
 ghost use Rattle.aig_base.specs.RenumberingTable.{renumbered_by, HasAllEntries, IsGateListed, IsRenumbering};
 ghost use Rattle.aig_base.specs.state.LeastFaulty.{gate_variable};
 
+pub(crate) mod laws;
+mod parts;
+pub(crate) mod table;
+
 use crate::circuit::Circuit;
-use crate::gate_variables::variables_of;
-use crate::level_order::sorted_gates;
-use crate::renumbering_parts::{
+use crate::circuit::gate_variables::variables_of;
+use crate::level::order::sorted_gates;
+use crate::renumbering::parts::{
     copied_comment, copied_symbols, new_justice, new_latches, new_literals, renewed_gates,
 };
-use crate::renumbering_table::renumbered_variables;
+use crate::renumbering::table::renumbered_variables;
 use aig_bytes::Memory;
 use aig_parts::{Gate, Raw};
 use std::alloc::Global;

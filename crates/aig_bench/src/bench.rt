@@ -10,14 +10,20 @@ ghost use Rattle.aig_bench.specs.Question.{AnswersValue};
 ghost use Rattle.aig_values.specs.InputRows.{HaveWidth};
 ghost use Rattle.aig_unroll.specs.Answers.{AnswersUnrolling};
 
-use crate::allowed::is_defined;
-use crate::bench_fault::BenchFault;
-use crate::driven_circuit::DrivenCircuit;
+mod edits;
+pub(crate) mod fault;
+pub(crate) mod sizes;
+mod trace;
+mod value;
+
+use crate::bench::fault::BenchFault;
+use crate::bench::sizes::check_sizes;
+use crate::bench::trace::write_frames;
+use crate::bench::value::literal_at;
 use crate::edit::EditFault;
+use crate::edit::allowed::is_defined;
 use crate::engine::Engine;
-use crate::sizes::check_sizes;
-use crate::trace::write_frames;
-use crate::value::literal_at;
+use crate::engine::driven_circuit::DrivenCircuit;
 use aig_base::{Circuit, Io, Lit, Tern, Write};
 use aig_unroll::{UnrollFault, unroll};
 use aig_values::{Grid, Stimulus};

@@ -1,4 +1,8 @@
 //! What an edit answers.
+
+pub(crate) mod allowed;
+pub(crate) mod laws;
+
 use aig_base::Memory as NoMemory;
 use thiserror::Error;
 

@@ -1,8 +1,18 @@
 //! A circuit and a stimulus on a grid of cells, with what it takes to keep the cells current.
-use crate::driven_circuit::DrivenCircuit;
-use crate::fanouts::Fanouts;
-use crate::pending::Pending;
-use crate::sweep_order::Order;
+
+pub(crate) mod driven_circuit;
+pub(crate) mod fanouts;
+mod new_engine;
+mod new_frame;
+pub(crate) mod new_gate;
+mod new_grid;
+mod replace_gate;
+mod sweep_order;
+
+use crate::engine::driven_circuit::DrivenCircuit;
+use crate::engine::fanouts::Fanouts;
+use crate::engine::sweep_order::Order;
+use crate::propagate::pending::Pending;
 use aig_values::Grid;
 use std::marker::Model;
 

@@ -8,6 +8,14 @@ ghost use Rattle.aig_bench.specs.state.Current.{IsCurrentBefore};
 ghost use Rattle.aig_bench.specs.state.Renewed.{IsStaleFrom, IsStaleFromBit, RenewsAll};
 ghost use Rattle.aig_bench.specs.state.Steps.{frame_work, PassesOver, PutsLatches, PutsSource};
 
+mod buckets;
+mod latch_list;
+pub(crate) mod latch_readers;
+mod level_set;
+pub(crate) mod pending;
+mod settle;
+mod waiting;
+
 use crate::edit::EditReport;
 use crate::engine::Engine;
 use aig_base::Latch;

@@ -1,7 +1,7 @@
 -- Why no bench is made.
 use Rattle.std.proofs.Common.{◌≡◌, ◌+◌, ◌*◌, ◌<◌, length, refl}
-use Rattle.aig_bench.specs.declared.bench_fault.BenchFault.{BenchFault}
-use Rattle.aig_bench.specs.declared.bench_fault.BenchFault.TheVariants as benches
+use Rattle.aig_bench.specs.declared.bench.fault.BenchFault.{BenchFault}
+use Rattle.aig_bench.specs.declared.bench.fault.BenchFault.TheVariants as benches
 use Rattle.aig_bench.specs.BenchState.{CircuitAndRows}
 use Rattle.aig_commands.specs.BenchFiles.{RefusesBench}
 

@@ -1,8 +1,8 @@
 -- What is reported of a circuit file.
 use Rattle.std.proofs.Common.{◌≡◌, ◌≢◌, ℕ, ◌==◌, cond, List, get_or, inl, inr, refl, sym, ap, ◌∙◌, subst, arith}
 use Rattle.aig_parts.specs.declared.raw.Raw.{Raw}
-use Rattle.aig_format.specs.declared.header.Format.{Format}
-use Rattle.aig_format.specs.declared.header.Format.TheVariants.{Ascii, Binary}
+use Rattle.aig_format.specs.declared.reader.header.Format.{Format}
+use Rattle.aig_format.specs.declared.reader.header.Format.TheVariants.{Ascii, Binary}
 use Rattle.aig_format.specs.Header.{header_line}
 use Rattle.aig_format.specs.Spelling.{ascii, binary}
 use Rattle.aig_format.specs.Spells.{Spells, SpellsAscii, SpellsBinary}

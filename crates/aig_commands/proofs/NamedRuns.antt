@@ -15,8 +15,8 @@ use Rattle.aig_laws.proofs.RowValues.{cut_wide, length-filled}
 use Rattle.aig_laws.specs.PartialModels.{inputs_in, named_rows, named_start}
 use Rattle.aig_laws.specs.UnrolledWitness.{cut, filled, rows_in, start_in}
 use Rattle.aig_sim.specs.Reached.{ReachesNone}
-use Rattle.aig_sim.specs.declared.reach_fault.ReachFault.{ReachFault}
-use Rattle.aig_sim.specs.declared.reach_fault.ReachFault.TheVariants as reaches
+use Rattle.aig_sim.specs.declared.witness.reach_fault.ReachFault.{ReachFault}
+use Rattle.aig_sim.specs.declared.witness.reach_fault.ReachFault.TheVariants as reaches
 use Rattle.aig_run.specs.declared.run_fault.RunFault.TheVariants as run_faults
 use Rattle.aig_unroll.specs.FrameLiteral.{input_count, is_uninitialised}
 use Rattle.aig_commands.specs.ModelWitness.{WritesNamed}

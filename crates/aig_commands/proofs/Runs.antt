@@ -9,8 +9,8 @@ use Rattle.aig_parts.specs.declared.ternary.Tern.{Tern}
 use Rattle.aig_bytes.specs.Bytes.{before, after, IsAtEnd, IsBeginning}
 use Rattle.aig_bytes.specs.Flow.{Flow}
 use Rattle.aig_base.specs.Value.{start_of}
-use Rattle.aig_sim.specs.declared.stimulus_fault.StimFault.{StimFault}
-use Rattle.aig_sim.specs.declared.stimulus_fault.StimFault.TheVariants as stimuli
+use Rattle.aig_sim.specs.declared.stimulus.fault.StimFault.{StimFault}
+use Rattle.aig_sim.specs.declared.stimulus.fault.StimFault.TheVariants as stimuli
 use Rattle.aig_sim.specs.Dump.{closing}
 use Rattle.aig_sim.specs.DumpHeader.{header}
 use Rattle.aig_sim.specs.Dumped as dumped

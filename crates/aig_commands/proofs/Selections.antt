@@ -3,7 +3,7 @@ use Rattle.std.proofs.Common.{ℕ, List, Result, Err}
 use Rattle.aig_parts.specs.declared.raw.Raw.{Raw}
 use Rattle.aig_base.specs.declared.select.PropertySection.{PropertySection}
 use Rattle.aig_base.specs.Selected.{selected, CanSelect}
-use Rattle.aig_format.specs.declared.header.Format.{Format}
+use Rattle.aig_format.specs.declared.reader.header.Format.{Format}
 use Rattle.aig_run.specs.declared.run_fault.RunFault.{RunFault}
 use Rattle.aig_run.specs.declared.run_fault.RunFault.TheVariants as run_faults
 use Rattle.aig_commands.specs.Toaig.{Converts}

@@ -12,8 +12,8 @@ use Rattle.aig_run.specs.declared.run_fault.RunFault.TheVariants as run_faults
 use Rattle.aig_sim.specs.Reached.{IsFirstReached, ReachesNone}
 use Rattle.aig_sim.specs.StimulusText.{SpellsRows}
 use Rattle.aig_sim.specs.WitnessText.{IsDecimal, witness_text}
-use Rattle.aig_sim.specs.declared.reach_fault.ReachFault.{ReachFault}
-use Rattle.aig_sim.specs.declared.reach_fault.ReachFault.TheVariants as reaches
+use Rattle.aig_sim.specs.declared.witness.reach_fault.ReachFault.{ReachFault}
+use Rattle.aig_sim.specs.declared.witness.reach_fault.ReachFault.TheVariants as reaches
 use Rattle.aig_commands.specs.Witness.{HasAsked, SpellsFirst, WritesWitness}
 
 -- a value for each latch

@@ -5,8 +5,8 @@ use Rattle.aig_parts.specs.declared.raw.Raw.{Raw}
 use Rattle.aig_parts.specs.Limits.{cell_limit, frame_limit}
 use Rattle.aig_format.specs.Spelling.{short_ascii}
 use Rattle.aig_sim.specs.StimulusText.{SpellsRows, row_line}
-use Rattle.aig_bench.specs.declared.bench_fault.BenchFault.{BenchFault}
-use Rattle.aig_bench.specs.declared.bench_fault.BenchFault.TheVariants as benches
+use Rattle.aig_bench.specs.declared.bench.fault.BenchFault.{BenchFault}
+use Rattle.aig_bench.specs.declared.bench.fault.BenchFault.TheVariants as benches
 use Rattle.aig_bench.specs.BenchState.{CircuitAndRows}
 use Rattle.aig_run.specs.declared.run_fault.RunFault.{RunFault}
 use Rattle.aig_run.specs.declared.run_fault.RunFault.TheVariants.{Circuit, Stimulus, Bench}

@@ -8,8 +8,8 @@ use Rattle.aig_parts.specs.declared.raw.Raw.{Raw}
 use Rattle.aig_parts.specs.Literal.{variable}
 use Rattle.aig_base.specs.Greatest.{IsGreatestFanOut, IsGreatestLevel}
 use Rattle.aig_base.specs.Renumbered.{IsBinaryReady}
-use Rattle.aig_format.specs.declared.header.Format.{Format}
-use Rattle.aig_format.specs.declared.header.Format.TheVariants.{Ascii, Binary}
+use Rattle.aig_format.specs.declared.reader.header.Format.{Format}
+use Rattle.aig_format.specs.declared.reader.header.Format.TheVariants.{Ascii, Binary}
 use Rattle.aig_format.specs.Spells.{SpellsAscii, SpellsBinary}
 use Rattle.aig_commands.specs.declared.info.Facts.{Facts}
 use Rattle.aig_run.specs.declared.run_fault.RunFault.{RunFault}

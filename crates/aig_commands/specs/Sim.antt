@@ -3,7 +3,7 @@ use Rattle.std.specs.Prelude.{◌≡◌, ℕ, ◌-◌, ◌^◌, min, IsTrue, Lis
 use Rattle.aig_parts.specs.declared.ternary.Tern.{Tern}
 use Rattle.aig_parts.specs.declared.raw.Raw.{Raw}
 use Rattle.aig_base.specs.Value.{start_of}
-use Rattle.aig_sim.specs.declared.stimulus_fault.StimFault.TheVariants as stimuli
+use Rattle.aig_sim.specs.declared.stimulus.fault.StimFault.TheVariants as stimuli
 use Rattle.aig_sim.specs.StimulusText.{SpellsRows, HasFaultyLine, HoldsRows}
 use Rattle.aig_values.specs.Trace.{IsTrace}
 use Rattle.aig_run.specs.declared.run_fault.RunFault.{RunFault}

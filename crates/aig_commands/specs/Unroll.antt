@@ -1,8 +1,8 @@
 -- What `unroll` writes: a circuit unrolled for some frames.
 use Rattle.std.specs.Prelude.{◌≡◌, ℕ, List, [], Result, Ok, Err}
 use Rattle.aig_parts.specs.declared.raw.Raw.{Raw}
-use Rattle.aig_format.specs.declared.header.Format.{Format}
-use Rattle.aig_format.specs.declared.header.Format.TheVariants.{Ascii, Binary}
+use Rattle.aig_format.specs.declared.reader.header.Format.{Format}
+use Rattle.aig_format.specs.declared.reader.header.Format.TheVariants.{Ascii, Binary}
 use Rattle.aig_format.specs.Spelling.{short_ascii, short_binary}
 use Rattle.aig_unroll.specs.Answers.{AnswersUnrolling}
 use Rattle.aig_unroll.specs.InputMap.{map_text}

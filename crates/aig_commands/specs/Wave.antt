@@ -5,7 +5,7 @@ use Rattle.aig_parts.specs.declared.raw.Raw.{Raw}
 use Rattle.aig_bytes.specs.Bytes.{after}
 use Rattle.aig_bytes.specs.Flow.{Flow}
 use Rattle.aig_base.specs.Value.{start_of}
-use Rattle.aig_sim.specs.declared.stimulus_fault.StimFault.TheVariants as stimuli
+use Rattle.aig_sim.specs.declared.stimulus.fault.StimFault.TheVariants as stimuli
 use Rattle.aig_sim.specs.Dump.{IsDump, AreFrames, closing}
 use Rattle.aig_sim.specs.DumpHeader.{header}
 use Rattle.aig_sim.specs.Replayed.{ReportsRun}

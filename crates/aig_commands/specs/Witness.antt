@@ -6,7 +6,7 @@ use Rattle.aig_base.specs.Value.{start_of}
 use Rattle.aig_sim.specs.Reached.{IsFirstReached, ReachesNone, witness_at}
 use Rattle.aig_sim.specs.StimulusText.{SpellsRows}
 use Rattle.aig_sim.specs.WitnessText.{SpellsWitness}
-use Rattle.aig_sim.specs.declared.reach_fault.ReachFault.TheVariants as reaches
+use Rattle.aig_sim.specs.declared.witness.reach_fault.ReachFault.TheVariants as reaches
 use Rattle.aig_run.specs.declared.run_fault.RunFault.{RunFault}
 use Rattle.aig_run.specs.declared.run_fault.RunFault.TheVariants as run_faults
 use Rattle.aig_run.specs.Command.{RefusesStimulus}

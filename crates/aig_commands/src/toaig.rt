@@ -1,6 +1,6 @@
 //! `toaig`: a circuit file in another format.
 ghost use Rattle.std.specs.Prelude.{◌≡◌, ◌≢◌, ℕ, ◌+◌, ◌≤◌, Err, IfErr};
-ghost use Rattle.aig_format.specs.declared.header.Format.TheVariants.{Binary};
+ghost use Rattle.aig_format.specs.declared.reader.header.Format.TheVariants.{Binary};
 ghost use Rattle.aig_bytes.specs.Flow.{flow};
 ghost use Rattle.aig_run.specs.Command.{OfFile, OfReader};
 ghost use Rattle.aig_run.specs.Command.{CommandEnds};

@@ -6,7 +6,7 @@ use Rattle.std.specs.List.{flat_map}
 use Rattle.aig_parts.specs.declared.raw.Raw.{Raw}
 use Rattle.aig_parts.specs.declared.gate.Gate.{Gate}
 use Rattle.aig_parts.specs.Formed as formed
-use Rattle.aig_format.specs.declared.header.Counts.{Counts}
+use Rattle.aig_format.specs.declared.reader.header.Counts.{Counts}
 use Rattle.aig_format.specs.Header.{counts_of}
 use Rattle.aig_format.specs.Spelling.{literal_line, latch_line, gate_line, lines, properties_of, names_text}
 use Rattle.aig_format.specs.Spells.{HasSmallNumbers, HasSpelling}

@@ -11,7 +11,7 @@ use Rattle.aig_parts.specs.declared.gate.Gate.{Gate}
 use Rattle.aig_parts.specs.Formed as formed
 use Rattle.aig_base.specs.Renumbered.{evens, IsBinaryReady}
 use Rattle.aig_base.specs.Sections.{definitions}
-use Rattle.aig_format.specs.declared.header.Counts.{Counts}
+use Rattle.aig_format.specs.declared.reader.header.Counts.{Counts}
 use Rattle.aig_format.specs.Header.{AreWithin, counts_of}
 use Rattle.aig_format.specs.Spelling.{implicit_latch_line, gate_deltas, lines, properties_of, names_text}
 use Rattle.aig_format.specs.Spells.{greatest, AreSmall, HasSmallNumbers, HasSpelling}

@@ -1,7 +1,7 @@
 -- How a call that reads follows calls that none failed.
 use Rattle.std.proofs.Common.{◌≡◌, ◌≤◌, ℕ, List, Result, Ok, Err, sym, ◌∙◌, arith, subst}
 use Rattle.aig_parts.specs.declared.fault.Fault.{Fault}
-use Rattle.aig_format.specs.declared.source.Source.{Ghosts}
+use Rattle.aig_format.specs.declared.reader.source.Source.{Ghosts}
 use Rattle.aig_format.specs.FileReading.{Raises, FaultRaises}
 use Rattle.aig_format.specs.state.ReaderAnswers.{Fails, Gives}
 use Rattle.aig_format.specs.state.Reading.{Read}

@@ -8,7 +8,7 @@ use Rattle.std.proofs.lemmas.Bool.{true≢false}
 use Rattle.std.proofs.lemmas.Option.{get_or_from_slice_get}
 use Rattle.std.proofs.lemmas.List.{append-nil, drop-append-le, drop_more, take-append-drop}
 use Rattle.std.proofs.lemmas.List.Elements.{All-head, All-tail}
-use Rattle.aig_format.specs.declared.header.Counts.{Counts}
+use Rattle.aig_format.specs.declared.reader.header.Counts.{Counts}
 use Rattle.aig_format.specs.Header.{line_end}
 use Rattle.aig_parts.specs.declared.symbols.Kind.{Kind}
 use Rattle.std.specs.Map.{keys_of}

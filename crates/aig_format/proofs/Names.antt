@@ -11,9 +11,9 @@ use Rattle.std.proofs.lemmas.List.Elements.{All-nil, All-cons, All-head, All-tai
 use Rattle.aig_parts.specs.declared.symbols.Kind.{Kind}
 use Rattle.aig_parts.specs.declared.symbols.Kind.TheVariants.{Input, Latch, Output, Bad, Constraint, Justice, Fairness}
 use Rattle.aig_parts.specs.Formed.{IsName}
-use Rattle.aig_format.specs.declared.header.Counts.{Counts}
-use Rattle.aig_format.specs.declared.symbol.Next.{Next}
-use Rattle.aig_format.specs.declared.symbol.Next.TheVariants.{End, Comment, Symbol}
+use Rattle.aig_format.specs.declared.reader.header.Counts.{Counts}
+use Rattle.aig_format.specs.declared.reader.symbol.Next.{Next}
+use Rattle.aig_format.specs.declared.reader.symbol.Next.TheVariants.{End, Comment, Symbol}
 use Rattle.aig_format.specs.Header.{space, line_end, field}
 use Rattle.aig_parts.specs.Letters.{letter}
 use Rattle.aig_format.specs.Spelling.{Entry, symbol_line}

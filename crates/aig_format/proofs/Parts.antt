@@ -7,9 +7,9 @@ use Rattle.aig_parts.specs.declared.symbols.Kind.{Kind}
 use Rattle.aig_parts.specs.declared.symbols.Kind.TheVariants.{Input, Latch, Output, Bad, Constraint, Justice, Fairness}
 use Rattle.aig_parts.specs.Formed as formed
 use Rattle.aig_parts.specs.Formed.{section_length, IsSymbolOf, AreNamedOnce, CountsFit, IsFormed}
-use Rattle.aig_format.specs.declared.header.Counts.{Counts}
-use Rattle.aig_format.specs.declared.section.Properties.{Properties}
-use Rattle.aig_format.specs.declared.symbol.Names.{Names}
+use Rattle.aig_format.specs.declared.reader.header.Counts.{Counts}
+use Rattle.aig_format.specs.declared.reader.section.Properties.{Properties}
+use Rattle.aig_format.specs.declared.reader.symbol.Names.{Names}
 use Rattle.aig_format.specs.Header.{AreWithin, counts_of}
 use Rattle.aig_format.specs.Spells.{greatest, HasSpelling}
 use Rattle.aig_format.specs.state.ReadingNames.{count_of}

@@ -11,8 +11,8 @@ use Rattle.std.proofs.lemmas.List.Folds.{flat_map-map}
 use Rattle.std.proofs.lemmas.List.Sums.{sum_by-cons}
 use Rattle.std.proofs.lemmas.List.Elements.{All-nil, All-cons, All-head, All-tail}
 use Rattle.aig_parts.specs.Formed as formed
-use Rattle.aig_format.specs.declared.header.Counts.{Counts}
-use Rattle.aig_format.specs.declared.section.Properties.{Properties}
+use Rattle.aig_format.specs.declared.reader.header.Counts.{Counts}
+use Rattle.aig_format.specs.declared.reader.section.Properties.{Properties}
 use Rattle.aig_format.specs.Header.{line_end}
 use Rattle.aig_format.specs.Spelling.{literal_line, size_line, property_lines}
 use Rattle.aig_format.specs.Spells.{greatest, AreSmall}

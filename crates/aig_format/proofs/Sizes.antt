@@ -7,7 +7,7 @@ use Rattle.std.proofs.lemmas.List.Sums.{sum-map, sum_by-append, sum_by-cons}
 use Rattle.std.proofs.lemmas.List.Elements.{All-push, All-weaker}
 use Rattle.aig_parts.specs.Formed.{IsName}
 use Rattle.aig_parts.specs.declared.symbols.Kind.{Kind}
-use Rattle.aig_format.specs.declared.header.Counts.{Counts}
+use Rattle.aig_format.specs.declared.reader.header.Counts.{Counts}
 use Rattle.aig_format.specs.Spelling.{Entry}
 use Rattle.aig_format.specs.state.ReadingNames.{count_of}
 use Rattle.aig_format.specs.state.Fits.{IsCountedSymbol, AreSymbols}

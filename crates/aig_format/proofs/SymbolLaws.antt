@@ -13,10 +13,10 @@ use Rattle.std.proofs.lemmas.List.{append-nil, map-append}
 use Rattle.std.proofs.lemmas.List.Concat.{flat_map-cons}
 use Rattle.std.proofs.lemmas.List.Elements.{All-nil, All-cons, All-head, All-tail, Contains-get_or}
 use Rattle.aig_parts.specs.declared.symbols.Kind.{Kind}
-use Rattle.aig_format.specs.declared.header.Counts.{Counts}
-use Rattle.aig_format.specs.declared.symbol.Next.{Next}
-use Rattle.aig_format.specs.declared.symbol.Next.TheVariants.{End, Comment, Symbol}
-use Rattle.aig_format.specs.declared.symbol.Names.{Names}
+use Rattle.aig_format.specs.declared.reader.header.Counts.{Counts}
+use Rattle.aig_format.specs.declared.reader.symbol.Next.{Next}
+use Rattle.aig_format.specs.declared.reader.symbol.Next.TheVariants.{End, Comment, Symbol}
+use Rattle.aig_format.specs.declared.reader.symbol.Names.{Names}
 use Rattle.aig_format.specs.Header.{space, line_end, field}
 use Rattle.aig_parts.specs.Letters.{letter}
 use Rattle.aig_format.specs.Spelling.{Entry, symbol_line, comment_text, names_text}

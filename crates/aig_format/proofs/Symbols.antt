@@ -5,9 +5,9 @@ use Rattle.std.proofs.Common.{arith, length-append}
 use Rattle.std.specs.Fmt.{decimal}
 use Rattle.aig_parts.specs.declared.fault.Fault.{Fault}
 use Rattle.aig_parts.specs.declared.symbols.Kind.{Kind}
-use Rattle.aig_format.specs.declared.header.Counts.{Counts}
-use Rattle.aig_format.specs.declared.symbol.Next.{Next}
-use Rattle.aig_format.specs.declared.symbol.Next.TheVariants.{End, Comment, Symbol}
+use Rattle.aig_format.specs.declared.reader.header.Counts.{Counts}
+use Rattle.aig_format.specs.declared.reader.symbol.Next.{Next}
+use Rattle.aig_format.specs.declared.reader.symbol.Next.TheVariants.{End, Comment, Symbol}
 use Rattle.aig_format.specs.Header.{space, line_end}
 use Rattle.aig_format.specs.Spelling.{Entry, symbol_line}
 use Rattle.aig_format.specs.state.Reading.{Read}

@@ -5,9 +5,9 @@ use Rattle.std.specs.Prelude.{if◌then◌else◌, nat_lt}
 use Rattle.std.specs.Fmt.{decimal}
 use Rattle.aig_parts.specs.declared.raw.Raw.{Raw}
 use Rattle.aig_parts.specs.Formed.{limit}
-use Rattle.aig_format.specs.declared.header.Format.{Format}
-use Rattle.aig_format.specs.declared.header.Format.TheVariants.{Ascii, Binary}
-use Rattle.aig_format.specs.declared.header.Counts.{Counts}
+use Rattle.aig_format.specs.declared.reader.header.Format.{Format}
+use Rattle.aig_format.specs.declared.reader.header.Format.TheVariants.{Ascii, Binary}
+use Rattle.aig_format.specs.declared.reader.header.Counts.{Counts}
 
 abbrev pub space : ℕ
 space = 32

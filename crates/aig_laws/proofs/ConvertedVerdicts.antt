@@ -17,8 +17,8 @@ use Rattle.aig_base.proofs.lists.Gets.{All-at}
 use Rattle.aig_base.proofs.renumbered.RenumberedReady.{latch_literal}
 use Rattle.aig_base.proofs.renumbered.RenumberedValueLemmas.{false_literal, true_literal}
 use Rattle.aig_base.proofs.values.AllowedStarts.{over_one}
-use Rattle.aig_sim.specs.declared.verdict.Verdict.{Verdict}
-use Rattle.aig_sim.specs.declared.verdict.Verdict.TheVariants as verdict
+use Rattle.aig_sim.specs.declared.witness.verdict.Verdict.{Verdict}
+use Rattle.aig_sim.specs.declared.witness.verdict.Verdict.TheVariants as verdict
 use Rattle.aig_sim.specs.Verdict.{StartsWrong, IsNotOne, VerdictApplies}
 use Rattle.aig_sim.specs.WitnessText.{Witness}
 use Rattle.aig_sim.proofs.VerdictLemmas.{bad_defined, constraint_defined}

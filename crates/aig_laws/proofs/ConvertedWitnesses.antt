@@ -4,8 +4,8 @@ use Rattle.std.proofs.lemmas.List.{length-map}
 use Rattle.aig_parts.specs.declared.raw.Raw.{Raw}
 use Rattle.aig_base.specs.Renumbered.{renumbered, renumbered_latch, renumbered_literal}
 use Rattle.aig_values.specs.InputRows.{HaveWidth}
-use Rattle.aig_sim.specs.declared.witness_fault.WitnessFault.{WitnessFault}
-use Rattle.aig_sim.specs.declared.witness_fault.WitnessFault.TheVariants as fault
+use Rattle.aig_sim.specs.declared.witness.fault.WitnessFault.{WitnessFault}
+use Rattle.aig_sim.specs.declared.witness.fault.WitnessFault.TheVariants as fault
 use Rattle.aig_sim.specs.WitnessText.{Witness, SpellsWitness, HasWitnessFault}
 use Rattle.aig_laws.specs.Conversion.{HaveSameWitnesses}
 

@@ -31,7 +31,7 @@ use Rattle.aig_laws.specs.Models.{tern_of, values_of}
 use Rattle.aig_laws.specs.PartialModels.{is_one, value_in, literal_in, has_one, SatisfiesInPart, IsFilling, inputs_in, NamesRun}
 use Rattle.aig_laws.specs.UnrolledWitness.{MakesBad, witness_in}
 use Rattle.aig_sim.specs.Verdict.{IsVerdict}
-use Rattle.aig_sim.specs.declared.verdict.Verdict.TheVariants as verdict
+use Rattle.aig_sim.specs.declared.witness.verdict.Verdict.TheVariants as verdict
 use Rattle.aig_unroll.specs.FrameLiteral.{input_count}
 use Rattle.aig_unroll.specs.Unrolled.{unrolled}
 use Rattle.aig_unroll.proofs.UnrolledRow.{evens_at}

@@ -8,8 +8,8 @@ use Rattle.aig_parts.specs.declared.ternary.Tern.TheVariants.{Zero, One}
 use Rattle.aig_base.specs.Renumbered.{renumbered, renumbered_literal, renumbered_variable}
 use Rattle.aig_base.specs.Value as value
 use Rattle.aig_base.specs.Value.{Value}
-use Rattle.aig_sim.specs.declared.verdict.Verdict.{Verdict}
-use Rattle.aig_sim.specs.declared.verdict.Verdict.TheVariants as verdict
+use Rattle.aig_sim.specs.declared.witness.verdict.Verdict.{Verdict}
+use Rattle.aig_sim.specs.declared.witness.verdict.Verdict.TheVariants as verdict
 use Rattle.aig_sim.specs.Verdict.{IsBefore, VerdictApplies, IsVerdict}
 use Rattle.aig_sim.specs.WitnessText.{Witness}
 use Rattle.aig_unroll.specs.FrameLiteral.{frame_literal}

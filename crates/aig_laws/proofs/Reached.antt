@@ -14,7 +14,7 @@ use Rattle.aig_base.proofs.lists.Positions.{Contains-from_slice_get, position_of
 use Rattle.aig_base.proofs.values.AllowedStarts.{allowed_or_not}
 use Rattle.aig_base.proofs.values.OneValue.{exists_value}
 use Rattle.aig_base.proofs.values.UniqueValue.{unique}
-use Rattle.aig_sim.specs.declared.verdict.Verdict.TheVariants as verdict
+use Rattle.aig_sim.specs.declared.witness.verdict.Verdict.TheVariants as verdict
 use Rattle.aig_sim.specs.Verdict.{StartsWrong, IsNotOne, IsVerdict}
 use Rattle.aig_sim.specs.WitnessText.{Witness}
 use Rattle.aig_sim.proofs.VerdictLemmas.{bad_defined, constraint_defined, reached}

@@ -12,8 +12,8 @@ use Rattle.aig_base.specs.Value as value
 use Rattle.aig_base.specs.Value.{Value}
 use Rattle.aig_base.proofs.lists.Gets.{All-at}
 use Rattle.aig_base.proofs.selections.SelectedCircuit.{all_there}
-use Rattle.aig_sim.specs.declared.verdict.Verdict.{Verdict}
-use Rattle.aig_sim.specs.declared.verdict.Verdict.TheVariants as verdict
+use Rattle.aig_sim.specs.declared.witness.verdict.Verdict.{Verdict}
+use Rattle.aig_sim.specs.declared.witness.verdict.Verdict.TheVariants as verdict
 use Rattle.aig_sim.specs.Verdict.{VerdictApplies}
 use Rattle.aig_sim.specs.WitnessText.{Witness}
 use Rattle.aig_laws.specs.Selection.{with_bad, of_property, HaveSameVerdictsOf}

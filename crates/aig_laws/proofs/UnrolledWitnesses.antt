@@ -12,10 +12,10 @@ use Rattle.aig_base.specs.Circuit.{IsCircuit}
 use Rattle.aig_base.specs.Order.{IsCanonicalOrder}
 use Rattle.aig_base.specs.Runs.{IsAllowed, ReachesBad}
 use Rattle.aig_base.specs.Value.{Value, Fits}
-use Rattle.aig_sim.specs.declared.verdict.Verdict.{Verdict}
-use Rattle.aig_sim.specs.declared.verdict.Verdict.TheVariants as verdict
-use Rattle.aig_sim.specs.declared.witness_fault.WitnessFault.{WitnessFault}
-use Rattle.aig_sim.specs.declared.witness_fault.WitnessFault.TheVariants as fault
+use Rattle.aig_sim.specs.declared.witness.verdict.Verdict.{Verdict}
+use Rattle.aig_sim.specs.declared.witness.verdict.Verdict.TheVariants as verdict
+use Rattle.aig_sim.specs.declared.witness.fault.WitnessFault.{WitnessFault}
+use Rattle.aig_sim.specs.declared.witness.fault.WitnessFault.TheVariants as fault
 use Rattle.aig_sim.specs.Verdict.{IsVerdict}
 use Rattle.aig_sim.specs.WitnessText.{Witness, IsDecimal, SpellsWitness, HasWitnessFault, witness_text}
 use Rattle.aig_sim.proofs.WitnessLemmas.{one_witness}

@@ -2,8 +2,8 @@
 use Rattle.std.specs.Prelude.{◌↔◌, ℕ, List}
 use Rattle.aig_parts.specs.declared.raw.Raw.{Raw}
 use Rattle.aig_parts.specs.declared.ternary.Tern.{Tern}
-use Rattle.aig_sim.specs.declared.verdict.Verdict.{Verdict}
-use Rattle.aig_sim.specs.declared.witness_fault.WitnessFault.{WitnessFault}
+use Rattle.aig_sim.specs.declared.witness.verdict.Verdict.{Verdict}
+use Rattle.aig_sim.specs.declared.witness.fault.WitnessFault.{WitnessFault}
 use Rattle.aig_sim.specs.Dump.{IsDump}
 use Rattle.aig_sim.specs.Verdict.{IsVerdict}
 use Rattle.aig_sim.specs.WitnessText.{Witness, SpellsWitness, IsAdmitted, HasWitnessFault}

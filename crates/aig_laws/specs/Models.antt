@@ -9,7 +9,7 @@ use Rattle.aig_cnf.specs.Query.{within}
 use Rattle.aig_sat.specs.checker.Clause.{Satisfies}
 use Rattle.aig_laws.specs.UnrolledWitness.{witness_in}
 use Rattle.aig_sim.specs.Verdict.{IsVerdict}
-use Rattle.aig_sim.specs.declared.verdict.Verdict.TheVariants as verdict
+use Rattle.aig_sim.specs.declared.witness.verdict.Verdict.TheVariants as verdict
 use Rattle.aig_unroll.specs.FrameLiteral.{input_count}
 
 abbrev pub tern_of : Bool → Tern

@@ -7,7 +7,7 @@ use Rattle.std.proofs.lemmas.List.{map-append, length-map, length-take-le, take_
 use Rattle.std.proofs.Math.Seq.{take-length}
 use Rattle.std.proofs.lemmas.List.Elements.{All-nil, All-head, All-contains, All-tail, All-push, All-weaker, Contains-get_or, Contains-append_left, Contains-push, Contains-push_cases}
 use Rattle.std.proofs.lemmas.List.Quantifiers.{all_pairs_push}
-use Rattle.aig_parts.specs.declared.symbol_places.Place.{Place}
+use Rattle.aig_parts.specs.declared.symbols.places.Place.{Place}
 use Rattle.indexmap.specs.IndexMap.{IndexMap, insert_entry}
 use Rattle.aig_parts.proofs.NamedLemmas.{no_page}
 use Rattle.aig_parts.proofs.SymbolKeys.{key_eq, insert_at_end}

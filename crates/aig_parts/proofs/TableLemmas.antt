@@ -14,7 +14,7 @@ use Rattle.std.proofs.lemmas.Map.Entries.{length-keys_of, place_from_lookup}
 use Rattle.std.proofs.lemmas.List.Sums.{fold_push}
 use Rattle.std.proofs.lemmas.Option.{slice_get_within, get_or_from_slice_get}
 use Rattle.aig_parts.proofs.SymbolKeys.{key_eq, key_same}
-use Rattle.aig_parts.specs.declared.symbol_places.Place.{Place}
+use Rattle.aig_parts.specs.declared.symbols.places.Place.{Place}
 use Rattle.aig_parts.specs.declared.symbols.Kind.TheVariants.{Input}
 use Rattle.aig_parts.specs.SymbolPlaces.{Key}
 use Rattle.std.specs.Hash.DefaultHasher as sip

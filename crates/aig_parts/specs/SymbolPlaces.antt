@@ -1,7 +1,7 @@
 -- Names that lie in one list of bytes.
 use Rattle.std.specs.Prelude.{ℕ, List, map, slice_range}
 use Rattle.aig_parts.specs.declared.symbols.Kind.{Kind}
-use Rattle.aig_parts.specs.declared.symbol_places.Place.{Place}
+use Rattle.aig_parts.specs.declared.symbols.places.Place.{Place}
 
 -- an entry: its section and its position there
 abbrev pub Key : Type 0

@@ -9,10 +9,17 @@ ghost use Rattle.aig_parts.specs.Letters.{letter};
 ghost use Rattle.aig_parts.specs.SymbolPlaces.{Key, symbols_in};
 ghost use Rattle.aig_parts.specs.state.NamedEntries.{IsPlaceIn};
 
+mod hash;
+pub(crate) mod list;
+mod named;
+mod places;
+mod ranks;
+mod table;
+
 use crate::list::Bytes;
-use crate::named::NamedEntries;
-use crate::symbol_places::{Place, name_at, put_name};
-use crate::symbol_table::{SymbolTable, TableIter};
+use crate::symbols::named::NamedEntries;
+use crate::symbols::places::{Place, name_at, put_name};
+use crate::symbols::table::{SymbolTable, TableIter};
 use std::alloc::{AllocError, Global};
 use std::marker::Model;
 

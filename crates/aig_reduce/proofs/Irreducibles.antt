@@ -7,7 +7,7 @@ use Rattle.aig_parts.specs.declared.ternary.Tern.{Tern}
 use Rattle.aig_parts.specs.declared.ternary.Tern.TheVariants.{X}
 use Rattle.aig_parts.specs.declared.raw.Raw.{Raw}
 use Rattle.aig_base.specs.Circuit.{IsCircuit}
-use Rattle.aig_sim.specs.declared.verdict.Verdict.TheVariants as verdict
+use Rattle.aig_sim.specs.declared.witness.verdict.Verdict.TheVariants as verdict
 use Rattle.aig_sim.specs.Verdict.{IsVerdict}
 use Rattle.aig_sim.specs.WitnessText.{Witness}
 use Rattle.aig_sim.proofs.Completions.{confirmed}

@@ -12,7 +12,7 @@ use Rattle.aig_base.specs.Value.{Value}
 use Rattle.aig_base.proofs.values.AllowedStarts.{allowed_still}
 use Rattle.aig_base.proofs.values.OneValue.{have_one_value}
 use Rattle.aig_base.proofs.values.UniqueValue.{unique}
-use Rattle.aig_sim.specs.declared.verdict.Verdict.TheVariants as verdict
+use Rattle.aig_sim.specs.declared.witness.verdict.Verdict.TheVariants as verdict
 use Rattle.aig_sim.specs.Verdict.{StartsWrong, IsNotOne, IsVerdict}
 use Rattle.aig_sim.specs.WitnessText.{Witness}
 use Rattle.aig_sim.proofs.VerdictLemmas.{bad_defined, constraint_defined, reached}

@@ -14,7 +14,7 @@ use Rattle.aig_base.specs.Sound.{IsSound}
 use Rattle.aig_base.specs.Value.{Value, start_of}
 use Rattle.aig_base.proofs.values.AllowedStarts.{allows_any, forbids_x}
 use Rattle.aig_base.proofs.values.Refined.{AllZip-slice_get}
-use Rattle.aig_sim.specs.declared.verdict.Verdict.TheVariants as verdict
+use Rattle.aig_sim.specs.declared.witness.verdict.Verdict.TheVariants as verdict
 use Rattle.aig_sim.specs.Verdict.{StartsWrong, IsVerdict}
 use Rattle.aig_sim.specs.WitnessText.{Witness}
 use Rattle.aig_values.specs.InputRows.{row_at, with_cell}

@@ -2,10 +2,10 @@
 use Rattle.std.specs.Prelude.{◌≢◌, ℕ, ◌+◌, ◌*◌, ◌<◌, ◌≤◌, List, length}
 use Rattle.aig_parts.specs.Limits.{cell_limit}
 use Rattle.aig_parts.specs.declared.raw.Raw.{Raw}
-use Rattle.aig_sim.specs.declared.verdict.Verdict.TheVariants as verdict
+use Rattle.aig_sim.specs.declared.witness.verdict.Verdict.TheVariants as verdict
 use Rattle.aig_sim.specs.Verdict.{IsVerdict}
 use Rattle.aig_sim.specs.WitnessText.{Witness, SpellsWitness, IsAdmitted, HasWitnessFault}
-use Rattle.aig_bench.specs.declared.bench_fault.BenchFault.TheVariants as bench_faults
+use Rattle.aig_bench.specs.declared.bench.fault.BenchFault.TheVariants as bench_faults
 use Rattle.aig_reduce.specs.declared.fault.ReduceFault.{ReduceFault}
 use Rattle.aig_reduce.specs.declared.fault.ReduceFault.TheVariants as faults
 use Rattle.aig_reduce.specs.declared.reduction.Reduction.{Reduction}

@@ -37,7 +37,7 @@ impl From<BenchFault> for ReduceFault {
 
 impl From<Memory> for ReduceFault {
     ghost use Rattle.std.specs.Prelude.{◌≡◌};
-    ghost use Rattle.aig_bench.specs.declared.bench_fault.BenchFault.TheVariants as bench_faults;
+    ghost use Rattle.aig_bench.specs.declared.bench.fault.BenchFault.TheVariants as bench_faults;
     ghost use Rattle.aig_reduce.specs.declared.fault.ReduceFault.TheVariants as faults;
 
     ghost from_gives = { λ _ part. part ≡ faults.Bench bench_faults.Memory };

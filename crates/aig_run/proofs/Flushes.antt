@@ -5,7 +5,7 @@ use Rattle.std.specs.Prelude.{Option}
 use Rattle.aig_bytes.specs.Bytes.{IsBeginning}
 use Rattle.aig_bytes.specs.Flow.{Flow, flow}
 use Rattle.aig_parts.specs.declared.fault.Fault.{Fault}
-use Rattle.aig_sim.specs.declared.stimulus_fault.StimFault.{StimFault}
+use Rattle.aig_sim.specs.declared.stimulus.fault.StimFault.{StimFault}
 use Rattle.aig_run.specs.declared.run_fault.RunFault.{RunFault}
 use Rattle.aig_run.specs.declared.run_fault.RunFault.TheVariants as run_faults
 use Rattle.aig_run.specs.Command.{Got, BreaksOff, CommandEnds, Text, WritesAll, WritesPart, EndsReading}

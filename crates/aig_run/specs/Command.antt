@@ -11,8 +11,8 @@ use Rattle.aig_format.specs.FileReading.{IsReading}
 use Rattle.aig_parts.specs.declared.ternary.Tern.{Tern}
 use Rattle.aig_parts.specs.Limits.{frame_limit}
 use Rattle.aig_sim.specs.StimulusText.{HasFaultyLine}
-use Rattle.aig_sim.specs.declared.stimulus_fault.StimFault.{StimFault}
-use Rattle.aig_sim.specs.declared.stimulus_fault.StimFault.TheVariants as stimuli
+use Rattle.aig_sim.specs.declared.stimulus.fault.StimFault.{StimFault}
+use Rattle.aig_sim.specs.declared.stimulus.fault.StimFault.TheVariants as stimuli
 use Rattle.aig_run.specs.declared.run_fault.RunFault.{RunFault}
 use Rattle.aig_run.specs.declared.run_fault.RunFault.TheVariants as run_faults
 

@@ -1,10 +1,10 @@
 -- The exit status of a refused run (our own choice).
 use Rattle.std.specs.Prelude.{ℕ}
 use Rattle.aig_parts.specs.declared.fault.Fault.TheVariants as circuits
-use Rattle.aig_sim.specs.declared.reach_fault.ReachFault.TheVariants as reaches
-use Rattle.aig_sim.specs.declared.stimulus_fault.StimFault.TheVariants as stimuli
-use Rattle.aig_sim.specs.declared.witness_fault.WitnessFault.TheVariants as witnesses
-use Rattle.aig_bench.specs.declared.bench_fault.BenchFault.TheVariants as benches
+use Rattle.aig_sim.specs.declared.witness.reach_fault.ReachFault.TheVariants as reaches
+use Rattle.aig_sim.specs.declared.stimulus.fault.StimFault.TheVariants as stimuli
+use Rattle.aig_sim.specs.declared.witness.fault.WitnessFault.TheVariants as witnesses
+use Rattle.aig_bench.specs.declared.bench.fault.BenchFault.TheVariants as benches
 use Rattle.aig_cnf.specs.declared.fault.CnfFault.TheVariants as formulas
 use Rattle.aig_unroll.specs.declared.fault.UnrollFault.TheVariants as unrollings
 use Rattle.aig_base.specs.declared.select.SelectFault.TheVariants as selections

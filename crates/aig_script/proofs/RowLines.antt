@@ -4,12 +4,12 @@ use Rattle.std.proofs.lemmas.List.{length-map}
 use Rattle.std.proofs.lemmas.List.Elements.{All-head, All-tail, All-map}
 use Rattle.aig_parts.specs.declared.ternary.Tern.{Tern}
 use Rattle.aig_parts.specs.declared.ternary.Tern.TheVariants.{Zero, One, X}
-use Rattle.aig_sim.specs.declared.stimulus_fault.StimFault.{StimFault}
-use Rattle.aig_sim.specs.declared.stimulus_fault.StimFault.TheVariants as stimuli
+use Rattle.aig_sim.specs.declared.stimulus.fault.StimFault.{StimFault}
+use Rattle.aig_sim.specs.declared.stimulus.fault.StimFault.TheVariants as stimuli
 use Rattle.aig_values.specs.Characters.{character}
 use Rattle.aig_sim.specs.StimulusText.{IsCharacter, HasFault}
-use Rattle.aig_sim.specs.declared.row_parser.Shape.{Shape}
-use Rattle.aig_sim.specs.declared.row_parser.Shape.TheVariants.{Row}
+use Rattle.aig_sim.specs.declared.stimulus.row_parser.Shape.{Shape}
+use Rattle.aig_sim.specs.declared.stimulus.row_parser.Shape.TheVariants.{Row}
 use Rattle.aig_sim.specs.RowParser.{IsOfLine, IsKept, KeepsLine}
 use Rattle.aig_sim.proofs.LineLemmas.{IsCharacter-of_value}
 use Rattle.aig_bench.specs.declared.edit.EditFault.{EditFault}

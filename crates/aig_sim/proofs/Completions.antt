@@ -15,7 +15,7 @@ use Rattle.aig_base.proofs.lists.Positions.{position_of}
 use Rattle.aig_base.proofs.values.AllowedStarts.{allowed_or_not, allowed_still}
 use Rattle.aig_base.proofs.values.OneValue.{have_one_value}
 use Rattle.aig_base.proofs.values.Refined.{AllZip-slice_get, kept}
-use Rattle.aig_sim.specs.declared.verdict.Verdict.TheVariants as verdict
+use Rattle.aig_sim.specs.declared.witness.verdict.Verdict.TheVariants as verdict
 use Rattle.aig_values.specs.InputRows.{HaveWidth}
 use Rattle.aig_sim.specs.Verdict.{StartsWrong, IsNotOne, IsVerdict, IsConfirmed}
 use Rattle.aig_sim.specs.WitnessText.{Witness}

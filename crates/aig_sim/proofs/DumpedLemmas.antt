@@ -7,8 +7,8 @@ use Rattle.aig_parts.specs.declared.ternary.Tern.{Tern}
 use Rattle.aig_parts.specs.declared.raw.Raw.{Raw}
 use Rattle.aig_bytes.specs.Bytes.{after, IsBeginning}
 use Rattle.aig_bytes.proofs.WriteLemmas.{after-append, after-nil}
-use Rattle.aig_sim.specs.declared.stimulus_fault.StimFault.{StimFault}
-use Rattle.aig_sim.specs.declared.stimulus_fault.StimFault.TheVariants as fault
+use Rattle.aig_sim.specs.declared.stimulus.fault.StimFault.{StimFault}
+use Rattle.aig_sim.specs.declared.stimulus.fault.StimFault.TheVariants as fault
 use Rattle.aig_sim.specs.Dump.{closing}
 use Rattle.aig_sim.specs.DumpHeader.{header}
 use Rattle.aig_sim.specs.Dumped.{Dumps}

@@ -12,10 +12,10 @@ use Rattle.std.proofs.lemmas.List.Concat.{flat_map-append}
 use Rattle.std.proofs.lemmas.List.Elements.{All-nil, All-push, All-map, All-append}
 use Rattle.aig_parts.specs.declared.ternary.Tern.{Tern}
 use Rattle.aig_parts.specs.declared.ternary.Tern.TheVariants.{Zero, One, X}
-use Rattle.aig_sim.specs.declared.stimulus_fault.StimFault.{StimFault}
-use Rattle.aig_sim.specs.declared.stimulus_fault.StimFault.TheVariants as fault
-use Rattle.aig_sim.specs.declared.row_parser.Shape.{Shape}
-use Rattle.aig_sim.specs.declared.row_parser.Shape.TheVariants.{Row, Long, Wrong}
+use Rattle.aig_sim.specs.declared.stimulus.fault.StimFault.{StimFault}
+use Rattle.aig_sim.specs.declared.stimulus.fault.StimFault.TheVariants as fault
+use Rattle.aig_sim.specs.declared.stimulus.row_parser.Shape.{Shape}
+use Rattle.aig_sim.specs.declared.stimulus.row_parser.Shape.TheVariants.{Row, Long, Wrong}
 use Rattle.aig_values.specs.Characters.{character}
 use Rattle.aig_sim.specs.StimulusText.{row_line, line_number, IsCharacter, EndsLine, HasFault, HasFaultyLine, SpellsRows}
 use Rattle.aig_sim.specs.RowParser.{KeepsLine, HasRead}

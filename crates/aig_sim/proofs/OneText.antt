@@ -5,8 +5,8 @@ use Rattle.std.proofs.lemmas.List.{append-nil, length-map}
 use Rattle.std.proofs.lemmas.List.Elements.{All-head, All-tail, All-map}
 use Rattle.aig_parts.specs.declared.ternary.Tern.{Tern}
 use Rattle.aig_parts.specs.declared.ternary.Tern.TheVariants.{Zero, One, X}
-use Rattle.aig_sim.specs.declared.stimulus_fault.StimFault.{StimFault}
-use Rattle.aig_sim.specs.declared.stimulus_fault.StimFault.TheVariants as fault
+use Rattle.aig_sim.specs.declared.stimulus.fault.StimFault.{StimFault}
+use Rattle.aig_sim.specs.declared.stimulus.fault.StimFault.TheVariants as fault
 use Rattle.aig_sim.specs.state.Checking.{BeginsWithRow}
 use Rattle.aig_values.specs.Characters.{character}
 use Rattle.aig_values.specs.InputRows.{HaveWidth}

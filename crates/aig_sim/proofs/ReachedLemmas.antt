@@ -13,7 +13,7 @@ use Rattle.aig_values.specs.Cells.{literal_value}
 use Rattle.aig_values.specs.state.Frame.{HoldsAll, AreStates}
 use Rattle.aig_values.proofs.Evaluation.{literal_has_value}
 use Rattle.aig_values.proofs.TraceLemmas.{value_stays, first_states}
-use Rattle.aig_sim.specs.declared.verdict.Verdict.TheVariants as verdict
+use Rattle.aig_sim.specs.declared.witness.verdict.Verdict.TheVariants as verdict
 use Rattle.aig_sim.specs.Reached.{IsAskedFor, Reaches, ReachesNone, IsFirstReached, witness_at}
 use Rattle.aig_sim.specs.Verdict.{StartsWrong, IsNotOne}
 use Rattle.aig_sim.specs.state.Checking.{ReadsNotOne}

@@ -9,10 +9,10 @@ use Rattle.aig_parts.specs.declared.raw.Raw.{Raw}
 use Rattle.aig_bytes.specs.Bytes.{after, Writes}
 use Rattle.aig_bytes.proofs.WriteLemmas.{after-append, after-nil, writes_then, writes_err, writes_same, writes_stop}
 use Rattle.aig_base.specs.Circuit.{IsCircuit}
-use Rattle.aig_sim.specs.declared.replay_fault.ReplayFault.{ReplayFault}
-use Rattle.aig_sim.specs.declared.replay_fault.ReplayFault.TheVariants as fault
-use Rattle.aig_sim.specs.declared.witness_fault.WitnessFault.{WitnessFault}
-use Rattle.aig_sim.specs.declared.witness_text.WitnessParts.{WitnessParts}
+use Rattle.aig_sim.specs.declared.witness.replay_fault.ReplayFault.{ReplayFault}
+use Rattle.aig_sim.specs.declared.witness.replay_fault.ReplayFault.TheVariants as fault
+use Rattle.aig_sim.specs.declared.witness.fault.WitnessFault.{WitnessFault}
+use Rattle.aig_sim.specs.declared.witness.text.WitnessParts.{WitnessParts}
 use Rattle.aig_sim.specs.Dump.{IsDump, closing}
 use Rattle.aig_sim.specs.DumpHeader.{header}
 use Rattle.aig_bytes.specs.Flow.{flow}

@@ -12,10 +12,10 @@ use Rattle.aig_parts.specs.declared.latch.Latch.{Latch}
 use Rattle.aig_base.specs.Value.{reset_value, start_of}
 use Rattle.aig_bytes.proofs.WriteLemmas.{after-append, after-nil}
 use Rattle.aig_sim.specs.declared.simulation.Simulation.{Simulation}
-use Rattle.aig_sim.specs.declared.row_parser.Shape.{Shape}
-use Rattle.aig_sim.specs.declared.row_parser.Shape.TheVariants.{Row}
-use Rattle.aig_sim.specs.declared.stimulus_fault.StimFault.{StimFault}
-use Rattle.aig_sim.specs.declared.stimulus_fault.StimFault.TheVariants as fault
+use Rattle.aig_sim.specs.declared.stimulus.row_parser.Shape.{Shape}
+use Rattle.aig_sim.specs.declared.stimulus.row_parser.Shape.TheVariants.{Row}
+use Rattle.aig_sim.specs.declared.stimulus.fault.StimFault.{StimFault}
+use Rattle.aig_sim.specs.declared.stimulus.fault.StimFault.TheVariants as fault
 use Rattle.aig_values.specs.state.Frame.{HoldsAll, AreStates}
 use Rattle.aig_sim.specs.RowParser.{KeepsLine, HasRead, IsOfLine}
 use Rattle.aig_sim.specs.state.Machine.{Machine, Steps}

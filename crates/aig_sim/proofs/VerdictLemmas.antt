@@ -17,9 +17,9 @@ use Rattle.aig_base.proofs.circuits.Circuits.{use_defined, use_in_range}
 use Rattle.aig_base.proofs.lists.Positions.{Contains-from_slice_get}
 use Rattle.aig_base.proofs.values.UniqueValue.{unique}
 use Rattle.aig_values.specs.Cells.{literal_value}
-use Rattle.aig_sim.specs.declared.verdict.Verdict.{Verdict}
-use Rattle.aig_sim.specs.declared.verdict.Verdict.TheVariants as verdict
-use Rattle.aig_sim.specs.declared.witness_text.WitnessParts.{WitnessParts}
+use Rattle.aig_sim.specs.declared.witness.verdict.Verdict.{Verdict}
+use Rattle.aig_sim.specs.declared.witness.verdict.Verdict.TheVariants as verdict
+use Rattle.aig_sim.specs.declared.witness.text.WitnessParts.{WitnessParts}
 use Rattle.aig_sim.specs.state.Checking.{ArePartsOf, BeginsWithRow, ReadsNotOne, HasRun, HoldConstraints, IsFirstFailure}
 use Rattle.aig_values.specs.state.Frame.{HoldsAll, AreStates}
 use Rattle.aig_sim.specs.state.Machine.{Steps}

@@ -5,8 +5,8 @@ use Rattle.aig_parts.specs.declared.ternary.Tern.{Tern}
 use Rattle.aig_parts.specs.declared.raw.Raw.{Raw}
 use Rattle.aig_bytes.specs.Bytes.{after, IsBeginning}
 use Rattle.aig_bytes.specs.Flow.{Flow}
-use Rattle.aig_sim.specs.declared.replay_fault.ReplayFault.{ReplayFault}
-use Rattle.aig_sim.specs.declared.replay_fault.ReplayFault.TheVariants as fault
+use Rattle.aig_sim.specs.declared.witness.replay_fault.ReplayFault.{ReplayFault}
+use Rattle.aig_sim.specs.declared.witness.replay_fault.ReplayFault.TheVariants as fault
 use Rattle.aig_sim.specs.WitnessText.{Witness, SpellsWitness, IsAdmitted, HasWitnessFault}
 
 -- The witness's text spells a witness that is admitted, and `reported` is the text of its run: from its own start,

@@ -3,8 +3,8 @@
 use Rattle.std.specs.Prelude.{◌≡◌, ◌≢◌, ◌⊎◌, ℕ, ◌+◌, ◌-◌, ◌^◌, min, List, [], ◌∷◌, ◌++◌, length, map, All}
 use Rattle.std.specs.List.{flat_map}
 use Rattle.aig_parts.specs.declared.ternary.Tern.{Tern}
-use Rattle.aig_sim.specs.declared.stimulus_fault.StimFault.{StimFault}
-use Rattle.aig_sim.specs.declared.stimulus_fault.StimFault.TheVariants as fault
+use Rattle.aig_sim.specs.declared.stimulus.fault.StimFault.{StimFault}
+use Rattle.aig_sim.specs.declared.stimulus.fault.StimFault.TheVariants as fault
 use Rattle.aig_parts.specs.Limits.{frame_limit}
 use Rattle.aig_values.specs.Characters.{character}
 use Rattle.aig_values.specs.InputRows.{HaveWidth}

@@ -8,8 +8,8 @@ use Rattle.aig_parts.specs.declared.raw.Raw.{Raw}
 use Rattle.aig_base.specs.Completion.{IsCompletion}
 use Rattle.aig_base.specs.Runs.{Allows, ReachesProperty}
 use Rattle.aig_base.specs.Value.{Value}
-use Rattle.aig_sim.specs.declared.verdict.Verdict.{Verdict}
-use Rattle.aig_sim.specs.declared.verdict.Verdict.TheVariants as verdict
+use Rattle.aig_sim.specs.declared.witness.verdict.Verdict.{Verdict}
+use Rattle.aig_sim.specs.declared.witness.verdict.Verdict.TheVariants as verdict
 use Rattle.aig_sim.specs.WitnessText.{Witness}
 
 -- latch p starts at a value that its reset does not allow

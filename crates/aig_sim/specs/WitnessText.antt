@@ -3,8 +3,8 @@
 use Rattle.std.specs.Prelude.{◌≡◌, ◌≢◌, ℕ, ◌+◌, ◌*◌, ◌<◌, ◌≤◌, List, [], ◌∷◌, ◌++◌, length, flat_map}
 use Rattle.aig_parts.specs.declared.ternary.Tern.{Tern}
 use Rattle.aig_parts.specs.declared.raw.Raw.{Raw}
-use Rattle.aig_sim.specs.declared.witness_fault.WitnessFault.{WitnessFault}
-use Rattle.aig_sim.specs.declared.witness_fault.WitnessFault.TheVariants as fault
+use Rattle.aig_sim.specs.declared.witness.fault.WitnessFault.{WitnessFault}
+use Rattle.aig_sim.specs.declared.witness.fault.WitnessFault.TheVariants as fault
 use Rattle.aig_parts.specs.Limits.{frame_limit}
 use Rattle.aig_values.specs.InputRows.{HaveWidth}
 use Rattle.aig_sim.specs.StimulusText.{row_line}

@@ -2,15 +2,19 @@
 ghost use Rattle.std.specs.Prelude.{◌≡◌, ◌≢◌, ℕ, List, [], ◌∷◌, ◌++◌, ◌<◌, ◌≤◌, length, take, All, Some, slice_get};
 ghost use Rattle.std.specs.Prelude.{IfOk, IfErr, OnOk, OnErr};
 ghost use Rattle.aig_base.specs.Value.{start_of};
-ghost use Rattle.aig_sim.specs.declared.row_parser.Shape.TheVariants as shapes;
+ghost use Rattle.aig_sim.specs.declared.stimulus.row_parser.Shape.TheVariants as shapes;
 ghost use Rattle.aig_sim.specs.RowParser.{KeepsLine};
 ghost use Rattle.aig_sim.specs.state.Running.{HasRowRoom, SimulationStarts, SimulationGoesOn, SimulationStops, Streamed};
 ghost use Rattle.aig_sim.specs.Simulated.{Simulates};
 
-use crate::machine::{Machine, first_states};
-use crate::recorder::{Recorder, TraceRecorder};
-use crate::row_parser::RowParser;
-use crate::stimulus_fault::StimFault;
+mod frame_cells;
+pub(crate) mod machine;
+pub(crate) mod recorder;
+
+use crate::simulation::machine::{Machine, first_states};
+use crate::simulation::recorder::{Recorder, TraceRecorder};
+use crate::stimulus::fault::StimFault;
+use crate::stimulus::row_parser::RowParser;
 use aig_base::{Circuit, Memory, Read, Write};
 use std::alloc::Global;
 

@@ -2,7 +2,7 @@
 //! the law.
 ghost use Rattle.std.specs.Prelude.{◌≡◌, ◌↔◌, ℕ, ◌<◌, ◌≤◌, ◌^◌, List, ◌++◌, length, slice_get, Some, All, Contains};
 ghost use Rattle.aig_parts.specs.declared.ternary.Tern.{Tern};
-ghost use Rattle.aig_sim.specs.declared.stimulus_fault.StimFault.{StimFault};
+ghost use Rattle.aig_sim.specs.declared.stimulus.fault.StimFault.{StimFault};
 ghost use Rattle.aig_parts.specs.declared.raw.Raw.{Raw};
 ghost use Rattle.aig_parts.specs.Limits.{frame_limit};
 ghost use Rattle.aig_base.specs.Sound.{IsSound};

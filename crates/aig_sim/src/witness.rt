@@ -10,11 +10,21 @@ ghost use Rattle.aig_values.specs.Characters.{character};
 ghost use Rattle.aig_sim.specs.Verdict.{StartsWrong, IsVerdict, IsConfirmed};
 ghost use Rattle.aig_sim.specs.WitnessText.{Witness, SpellsWitness, IsAdmitted, HasWitnessFault};
 
-use crate::machine::Machine;
-use crate::row_parser::value_by;
-use crate::verdict::Verdict;
-use crate::witness_fault::WitnessFault;
-use crate::witness_text::{WitnessParts, read_parts};
+pub(crate) mod fault;
+pub(crate) mod reach_fault;
+pub(crate) mod reached;
+pub(crate) mod reader;
+pub(crate) mod replay;
+pub(crate) mod replay_fault;
+mod text;
+pub(crate) mod verdict;
+pub(crate) mod writer;
+
+use crate::simulation::machine::Machine;
+use crate::stimulus::row_parser::value_by;
+use crate::witness::fault::WitnessFault;
+use crate::witness::text::{WitnessParts, read_parts};
+use crate::witness::verdict::Verdict;
 use aig_base::{Circuit, Latch, Memory, Tern};
 use aig_values::row::literal_in;
 use aig_values::{FRAMES, first_value};

@@ -4,7 +4,7 @@ use Rattle.std.specs.List.{range_with_len}
 use Rattle.aig_parts.specs.declared.gate.Gate.{Gate}
 use Rattle.aig_parts.specs.declared.raw.Raw.{Raw}
 use Rattle.aig_base.specs.Renumbered.{ordered_gates}
-use Rattle.aig_unroll.specs.declared.sections.Sections.{Sections}
+use Rattle.aig_unroll.specs.declared.unrolling.sections.Sections.{Sections}
 use Rattle.aig_unroll.specs.FrameLiteral.{frame_literal, has_guards, chain_count, guard_count}
 use Rattle.aig_unroll.specs.state.FrameTable.{AddsNothing, AreSections}
 use Rattle.aig_unroll.specs.Unrolled.{frames, frame_literals, frame_bad, frame_gate, frame_gates, chain_gate, guard_gate, guard_literal, kept_constraints}

@@ -18,8 +18,8 @@ use Rattle.aig_base.proofs.lists.Positions.{stands_at}
 use Rattle.aig_base.proofs.circuits.Places.{input, latch, gate, IsDefinition-of_place}
 use Rattle.aig_base.proofs.renumbered.Renumberings.{place_in}
 use Rattle.aig_base.proofs.circuits.Roles.{only_place, role_input, role_latch, role_gate_at, role_constant, place_within}
-use Rattle.aig_unroll.specs.declared.plan.Plan.{Plan}
-use Rattle.aig_unroll.specs.declared.frame_literals.Frame.{Frame}
+use Rattle.aig_unroll.specs.declared.unrolling.plan.Plan.{Plan}
+use Rattle.aig_unroll.specs.declared.unrolling.frame_literals.Frame.{Frame}
 use Rattle.aig_unroll.specs.FrameLiteral.{frame_literal, frame_gate_variable, first_literal, next_literal, role_literal}
 use Rattle.aig_unroll.specs.state.FrameTable.{IsPlan, IsFrame, literal_at, number_literal}
 

@@ -19,9 +19,9 @@ use Rattle.aig_base.proofs.lists.Counting.{length-order, sections_fit}
 use Rattle.aig_base.proofs.lists.Gets.{All-at, All-by_get}
 use Rattle.aig_base.proofs.renumbered.RenumberedParts.{map_same, all_listed, variable_bound}
 use Rattle.aig_base.proofs.renumbered.RenumberedReady.{ordered_gate}
-use Rattle.aig_unroll.specs.declared.frame_literals.Frame.{Frame}
-use Rattle.aig_unroll.specs.declared.plan.Plan.{Plan}
-use Rattle.aig_unroll.specs.declared.sections.Sections.{Sections}
+use Rattle.aig_unroll.specs.declared.unrolling.frame_literals.Frame.{Frame}
+use Rattle.aig_unroll.specs.declared.unrolling.plan.Plan.{Plan}
+use Rattle.aig_unroll.specs.declared.unrolling.sections.Sections.{Sections}
 use Rattle.aig_unroll.specs.FrameLiteral.{frame_literal, frame_gate_variable, first_literal, has_guards, chain_count, guard_count}
 use Rattle.aig_unroll.specs.state.FrameTable as table
 use Rattle.aig_unroll.specs.state.FrameTable.{IsPlan, IsFrame, IsWithin, IsNextFrame, AddsFrame, AreSections, IsGateNumbered, literal_at, numbered_gate, plan_gates, bad_at, first_at}

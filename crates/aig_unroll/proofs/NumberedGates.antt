@@ -10,8 +10,8 @@ use Rattle.aig_base.specs.RenumberingTable.{IsInTable, IsGateListed, HasAllEntri
 use Rattle.aig_base.proofs.lists.Gets.{All-at, All-by_get}
 use Rattle.aig_base.proofs.lists.Positions.{unmap_option}
 use Rattle.aig_base.proofs.renumbered.Renumberings.{gate_stands}
-use Rattle.aig_unroll.specs.declared.frame_literals.Frame.{Frame}
-use Rattle.aig_unroll.specs.declared.plan.Plan.{Plan}
+use Rattle.aig_unroll.specs.declared.unrolling.frame_literals.Frame.{Frame}
+use Rattle.aig_unroll.specs.declared.unrolling.plan.Plan.{Plan}
 use Rattle.aig_unroll.specs.state.FrameTable.{numbered_at, literal_at, number_literal, numbered_gate, IsNumbered, IsGateNumbered}
 
 -- the sign of a literal turns one or leaves it

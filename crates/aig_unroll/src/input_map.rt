@@ -8,7 +8,7 @@ ghost use Rattle.aig_unroll.specs.InputMap.{origin_line, origin_lines, origins, 
 ghost use Rattle.aig_unroll.specs.Unrolled as parts;
 ghost use Rattle.aig_unroll.specs.state.MapLines.{position_after, start_line};
 
-use crate::plan::is_uninitialised;
+use crate::unrolling::plan::is_uninitialised;
 use aig_base::{Circuit, Io, Kind, Latch, Write, write_all};
 use itoa::Buffer;
 

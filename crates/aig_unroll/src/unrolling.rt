@@ -8,10 +8,19 @@ ghost use Rattle.aig_unroll.specs.Answers.{AnswersUnrolling, IsUnrollable, IsUnr
 ghost use Rattle.aig_unroll.specs.Unrollable.{FitsLimits};
 ghost use Rattle.aig_unroll.specs.Unrolled.{unrolled};
 
+mod frame_literals;
+mod guards;
+pub(crate) mod laws;
+pub(crate) mod limits;
+mod numbers;
+mod parts;
+pub(crate) mod plan;
+mod sections;
+
 use crate::fault::UnrollFault;
-use crate::limits::{fits_limits, has_liveness};
-use crate::plan::Plan;
-use crate::sections::{Sections, unrolled_sections};
+use crate::unrolling::limits::{fits_limits, has_liveness};
+use crate::unrolling::plan::Plan;
+use crate::unrolling::sections::{Sections, unrolled_sections};
 use aig_base::{Circuit, Levels, List, Lit, Memory, Raw, Symbols, canonical_order};
 use std::alloc::Global;
 

@@ -11,6 +11,8 @@ ghost use Rattle.aig_values.specs.Cells.{gate_value, fresh_row, with_new_cell, w
 ghost use Rattle.aig_values.specs.InputRows.{with_cell, row_at};
 ghost use Rattle.aig_values.specs.TraceText.{literal_character};
 
+pub(crate) mod row_grid;
+
 use crate::code::Code;
 use aig_bytes::Memory;
 use aig_parts::{Gate, Lit, Tern};

@@ -6,6 +6,11 @@ ghost use Rattle.aig_values.specs.Cells.{literal_value};
 ghost use Rattle.aig_values.specs.Contiguous.{AreContiguous};
 ghost use Rattle.aig_values.specs.TraceText.{literal_character};
 
+pub(crate) mod byte_row;
+pub(crate) mod cell_row;
+mod literal_codes;
+pub(crate) mod plane_row;
+
 use crate::grid::Grid;
 use aig_parts::{Lit, Tern};
 

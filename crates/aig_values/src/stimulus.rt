@@ -3,6 +3,8 @@ ghost use Rattle.std.specs.Prelude.{◌≡◌, ◌-◌, ◌+◌, ◌<◌, ◌≤
 ghost use Rattle.std.specs.Prelude.{slice_get};
 ghost use Rattle.aig_values.specs.InputRows.{with_cell, row_at, HaveWidth};
 
+pub(crate) mod reset;
+
 use aig_bytes::Memory;
 use aig_parts::{List, Tern};
 use std::alloc::{AllocError, Global};

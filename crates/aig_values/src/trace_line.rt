@@ -7,9 +7,11 @@ ghost use Rattle.aig_bytes.specs.Gathered.{Gathers};
 ghost use Rattle.aig_values.specs.TraceText.{literal_character, line_text, trace_text};
 ghost use Rattle.aig_values.specs.state.Fields.{literals_of};
 
+mod short_line;
+
 use crate::grid::Grid;
 use crate::row::{GridRow, Row};
-use crate::short_line::{has_short_lines, spell_at, write_short_line};
+use crate::trace_line::short_line::{has_short_lines, spell_at, write_short_line};
 use aig_base::{Circuit, Io, Latch, Lit, Write};
 use aig_bytes::ByteBlock;
 

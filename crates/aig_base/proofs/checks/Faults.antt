@@ -5,7 +5,7 @@ use Rattle.std.proofs.Common.{All, Contains}
 use Rattle.std.specs.List.{Any, flat_map}
 use Rattle.std.proofs.lemmas.List.Elements.{All-append, All-nil, All-cons, All-map, All-contains}
 use Rattle.std.proofs.lemmas.Option.{slice_get-get_or, slice_get-map, same_Some}
-use Rattle.aig_base.specs.declared.definition.Definition.{Definition}
+use Rattle.aig_base.specs.declared.circuit.definition.Definition.{Definition}
 use Rattle.aig_parts.specs.declared.fault.Fault.{Fault}
 use Rattle.aig_parts.specs.declared.fault.Fault.TheVariants as fault
 use Rattle.aig_parts.specs.declared.gate.Gate.{Gate}

@@ -4,7 +4,7 @@ use Rattle.std.proofs.Common.{All, ◌∙◌, ap, arith}
 use Rattle.std.proofs.lemmas.List.Elements.{All-contains}
 use Rattle.std.proofs.lemmas.Option.{slice_get-get_or, get_or_from_slice_get}
 use Rattle.aig_parts.specs.declared.raw.Raw.{Raw}
-use Rattle.aig_base.specs.declared.tried_levels.Node.{Node}
+use Rattle.aig_base.specs.declared.check.tried_levels.Node.{Node}
 use Rattle.aig_base.specs.Grounded as by
 use Rattle.aig_base.specs.Grounded.{IsSource, Level}
 use Rattle.aig_base.specs.Levels.{AreLevels}

@@ -6,7 +6,7 @@ use Rattle.std.proofs.lemmas.List.{length-set, length_push, map-append, map_more
 use Rattle.std.proofs.lemmas.List.Elements.{Contains-push, Contains-push_cases, Contains-append_left}
 use Rattle.std.proofs.lemmas.Option.{slice_get_within, same_Some}
 use Rattle.aig_parts.specs.declared.raw.Raw.{Raw}
-use Rattle.aig_base.specs.declared.definition.Definition.{Definition}
+use Rattle.aig_base.specs.declared.circuit.definition.Definition.{Definition}
 use Rattle.aig_base.specs.Definition.{Defines}
 use Rattle.aig_base.specs.state.Entries.{IsEntryOf, IsLeastTwice, AreEntries}
 use Rattle.aig_base.specs.FirstFault.{IsLeast}

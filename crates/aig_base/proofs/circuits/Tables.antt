@@ -4,7 +4,7 @@ use Rattle.std.proofs.Common.{arith}
 use Rattle.std.proofs.lemmas.List.{length-map, get_or-map}
 use Rattle.std.proofs.lemmas.Option.{slice_get-get_or}
 use Rattle.aig_parts.specs.declared.raw.Raw.{Raw}
-use Rattle.aig_base.specs.declared.definition.Definition.{Definition}
+use Rattle.aig_base.specs.declared.circuit.definition.Definition.{Definition}
 use Rattle.aig_parts.specs.Literal.{variable}
 use Rattle.aig_base.specs.Sections.{definitions, uses}
 use Rattle.aig_base.specs.Sound.{IsSound, IsInRange}

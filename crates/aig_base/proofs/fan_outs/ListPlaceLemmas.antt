@@ -6,7 +6,7 @@ use Rattle.std.proofs.lemmas.Bool.{cases_eq, cases_lt}
 use Rattle.std.proofs.lemmas.List.{length_push}
 use Rattle.std.proofs.lemmas.Option.{slice_get_within, slice_get-get_or, none-some, same_Some}
 use Rattle.smallvec.specs.SmallVec.{SmallVec}
-use Rattle.aig_base.specs.declared.list_places.Places.{Places}
+use Rattle.aig_base.specs.declared.readers.list_places.Places.{Places}
 use Rattle.aig_parts.specs.Formed.{limit}
 use Rattle.aig_base.specs.state.FanOuts.{AreFanOuts, AreTidy}
 use Rattle.aig_base.specs.state.ListPlaces.{short, StandsAt, capacity_at, HasPlace, HasListPlaces, AreKept, Extends}

@@ -7,7 +7,7 @@ use Rattle.std.proofs.lemmas.List.{length_push}
 use Rattle.std.proofs.lemmas.List.FromFn.{length-range_with_len, get_or-range_with_len}
 use Rattle.smallvec.specs.SmallVec.{SmallVec}
 use Rattle.aig_parts.specs.Formed.{limit}
-use Rattle.aig_base.specs.declared.list_places.Places.{Places}
+use Rattle.aig_base.specs.declared.readers.list_places.Places.{Places}
 use Rattle.aig_base.specs.Sound.{StandsTwice}
 use Rattle.aig_base.specs.state.FanOuts.{AreFanOuts, AreTidy, fitting_lists}
 use Rattle.aig_base.specs.state.ListPlaces.{AreKept, StandsNew, WritesPlaces, short}

@@ -4,8 +4,8 @@ use Rattle.std.proofs.Common.{Option, Some, None, slice_get, All, Contains, refl
 use Rattle.std.proofs.lemmas.List.{append_assoc, length_push, map-append}
 use Rattle.std.proofs.lemmas.List.Elements.{All-push, All-weaker, Contains-append_left, Contains-push_cases}
 use Rattle.std.proofs.lemmas.Option.{slice_get_within}
-use Rattle.aig_base.specs.declared.definition.Definition.{Definition}
-use Rattle.aig_base.specs.declared.definition.Definition.TheVariants as definition
+use Rattle.aig_base.specs.declared.circuit.definition.Definition.{Definition}
+use Rattle.aig_base.specs.declared.circuit.definition.Definition.TheVariants as definition
 use Rattle.aig_parts.specs.declared.gate.Gate.{Gate}
 use Rattle.aig_parts.specs.declared.latch.Latch.{Latch}
 use Rattle.aig_parts.specs.declared.raw.Raw.{Raw}

@@ -1,10 +1,10 @@
 -- Another literal at an output keeps a circuit a circuit.
 use Rattle.std.proofs.Common.{◌≡◌, ℕ, ◌<◌, List, get_or, length-set, Option, Some, None, refl, sym, subst}
 use Rattle.std.proofs.lemmas.List.Elements.{All-set}
-use Rattle.aig_base.specs.declared.definition.Definition.{Definition}
-use Rattle.aig_base.specs.declared.definition.Definition.TheVariants as definition
-use Rattle.aig_base.specs.declared.definitions.Definitions.{Definitions}
-use Rattle.aig_base.specs.declared.definitions.Definitions.TheVariants as kept
+use Rattle.aig_base.specs.declared.circuit.definition.Definition.{Definition}
+use Rattle.aig_base.specs.declared.circuit.definition.Definition.TheVariants as definition
+use Rattle.aig_base.specs.declared.circuit.definitions.Definitions.{Definitions}
+use Rattle.aig_base.specs.declared.circuit.definitions.Definitions.TheVariants as kept
 use Rattle.aig_parts.specs.declared.raw.Raw.{Raw}
 use Rattle.aig_parts.specs.declared.symbols.Kind.{Kind}
 use Rattle.aig_parts.specs.declared.symbols.Kind.TheVariants as kind

@@ -9,7 +9,7 @@ use Rattle.std.proofs.lemmas.List.{append-nil}
 use Rattle.std.proofs.lemmas.List.Elements.{All-contains, Contains-append_left, Contains-append_right, Contains-get_or}
 use Rattle.std.proofs.lemmas.List.Elements.{filter_map-append}
 use Rattle.std.proofs.lemmas.Option.{slice_get-map, slice_get-get_or, slice_get_within, get_or_from_slice_get}
-use Rattle.aig_base.specs.declared.definition.Definition.TheVariants as definition
+use Rattle.aig_base.specs.declared.circuit.definition.Definition.TheVariants as definition
 use Rattle.aig_parts.specs.declared.gate.Gate.{Gate}
 use Rattle.aig_parts.specs.declared.latch.Latch.{Latch}
 use Rattle.aig_parts.specs.declared.raw.Raw.{Raw}

@@ -5,7 +5,7 @@ use Rattle.std.proofs.Common.{length-set}
 use Rattle.std.proofs.lemmas.Bool.{cases_eq}
 use Rattle.std.proofs.lemmas.List.Sums.{sum_by-cons}
 use Rattle.std.proofs.lemmas.Option.{none-some, same_Some}
-use Rattle.aig_base.specs.declared.visits.Visits.{Visits}
+use Rattle.aig_base.specs.declared.level.visits.Visits.{Visits}
 use Rattle.aig_base.specs.state.Queue.{Queued, IsQueued, copies}
 use Rattle.aig_base.specs.state.Rewires.{SetsLevel, mark}
 use Rattle.aig_base.specs.state.Visits.{IsVisited, VisitsAmong}

@@ -6,8 +6,8 @@ use Rattle.std.proofs.lemmas.List.Elements.{Contains-append_left, Contains-appen
 use Rattle.std.proofs.lemmas.List.Sorted.{Contains-permutation, length_permutation, IsPermutation-sym, sum_by_pushed}
 use Rattle.std.proofs.lemmas.List.Sorted.{sum_by_popped}
 use Rattle.std.proofs.lemmas.List.Sums.{count_by-le-length}
-use Rattle.aig_base.specs.declared.visits.Visits.{Visits}
-use Rattle.aig_base.specs.declared.worklist.Worklist.{Worklist}
+use Rattle.aig_base.specs.declared.level.visits.Visits.{Visits}
+use Rattle.aig_base.specs.declared.level.worklist.Worklist.{Worklist}
 use Rattle.aig_base.specs.state.Queue.{Queued, copies, entry}
 use Rattle.aig_base.specs.state.Rewires.{Queues, mark}
 use Rattle.aig_base.specs.state.Visits.{IsVisited, VisitsAmong}

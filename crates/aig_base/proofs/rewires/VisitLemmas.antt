@@ -7,7 +7,7 @@ use Rattle.std.proofs.lemmas.List.{length_push, take-append-drop}
 use Rattle.std.proofs.lemmas.List.Elements.{Contains-append_left, Contains-append_right}
 use Rattle.std.proofs.lemmas.List.Sums.{sum_by-set, count_by-le-length}
 use Rattle.std.proofs.lemmas.Option.{none-some}
-use Rattle.aig_base.specs.declared.visits.Visits.{Visits}
+use Rattle.aig_base.specs.declared.level.visits.Visits.{Visits}
 use Rattle.aig_base.specs.state.Visits.{AreNoVisits, AreVisits, IsVisited, VisitsAmong}
 use Rattle.aig_base.proofs.lists.Gets.{All-by_get, slice_get_left, slice_get_last, slice_get_push}
 use Rattle.aig_base.proofs.checks.Walks.{met_within, stays_met, was_met}

@@ -4,10 +4,10 @@ use Rattle.std.specs.List.{range_with_len}
 use Rattle.std.proofs.lemmas.List.FromFn.{length-range_with_len, get_or-range_with_len}
 use Rattle.std.proofs.lemmas.List.{length-map, get_or_default}
 use Rattle.std.proofs.lemmas.List.Elements.{All-nil, All-cons, All-append, All-map, All-get_or, All-head, All-tail}
-use Rattle.aig_base.specs.declared.definition.Definition.{Definition}
-use Rattle.aig_base.specs.declared.definition.Definition.TheVariants as definition
-use Rattle.aig_base.specs.declared.definitions.Definitions.{Definitions}
-use Rattle.aig_base.specs.declared.definitions.Definitions.TheVariants as kept
+use Rattle.aig_base.specs.declared.circuit.definition.Definition.{Definition}
+use Rattle.aig_base.specs.declared.circuit.definition.Definition.TheVariants as definition
+use Rattle.aig_base.specs.declared.circuit.definitions.Definitions.{Definitions}
+use Rattle.aig_base.specs.declared.circuit.definitions.Definitions.TheVariants as kept
 use Rattle.aig_base.specs.declared.select.PropertySection.{PropertySection}
 use Rattle.aig_base.specs.declared.select.PropertySection.TheVariants as sections
 use Rattle.aig_parts.specs.declared.raw.Raw.{Raw}

@@ -1,9 +1,9 @@
 -- What a circuit keeps of its definitions: that they are in order, or a table.
 use Rattle.std.specs.Prelude.{◌≡◌, ℕ, ◌+◌, ◌<◌, List, length, Option, Some, None, slice_get}
 use Rattle.std.specs.Vec.{vec_capacity}
-use Rattle.aig_base.specs.declared.definition.Definition.{Definition}
-use Rattle.aig_base.specs.declared.definitions.Definitions.{Definitions}
-use Rattle.aig_base.specs.declared.definitions.Definitions.TheVariants as kept
+use Rattle.aig_base.specs.declared.circuit.definition.Definition.{Definition}
+use Rattle.aig_base.specs.declared.circuit.definitions.Definitions.{Definitions}
+use Rattle.aig_base.specs.declared.circuit.definitions.Definitions.TheVariants as kept
 use Rattle.aig_parts.specs.declared.raw.Raw.{Raw}
 use Rattle.aig_base.specs.Definition.{Defines, IsFree, IsInOrder}
 

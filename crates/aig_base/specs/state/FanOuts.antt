@@ -2,7 +2,7 @@
 use Rattle.std.specs.Prelude.{◌≡◌, ◌⊎◌, ℕ, ◌+◌, ◌<◌, ◌≤◌, List, length, cond, min, nat_eq}
 use Rattle.smallvec.specs.SmallVec.{SmallVec}
 use Rattle.aig_parts.specs.Formed.{limit}
-use Rattle.aig_base.specs.declared.list_places.Places.{Places}
+use Rattle.aig_base.specs.declared.readers.list_places.Places.{Places}
 use Rattle.aig_base.specs.state.ListPlaces.{AreKept}
 use Rattle.aig_base.specs.state.ReaderSlots.{tally}
 

@@ -1,7 +1,7 @@
 -- Where gates stand in the lists of the variables that they read.
 use Rattle.std.specs.Prelude.{◌≡◌, ◌≢◌, ◌⊎◌, ℕ, ◌<◌, ◌≤◌, List, [], length, Some, slice_get, slice_index_or}
 use Rattle.smallvec.specs.SmallVec.{SmallVec}
-use Rattle.aig_base.specs.declared.list_places.Places.{Places}
+use Rattle.aig_base.specs.declared.readers.list_places.Places.{Places}
 use Rattle.aig_base.specs.state.ReaderSlots.{items_at}
 
 -- places from here on are kept

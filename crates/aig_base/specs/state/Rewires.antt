@@ -4,7 +4,7 @@ use Rattle.std.specs.Prelude.{◌≡◌, ◌≢◌, ◌⊎◌, ℕ, ◌+◌, ◌
 use Rattle.std.specs.Prelude.{slice_get, slice_set, slice_index, slice_index_or, if◌then◌else◌}
 use Rattle.aig_parts.specs.declared.gate.Gate.{Gate}
 use Rattle.aig_parts.specs.declared.raw.Raw.{Raw}
-use Rattle.aig_base.specs.declared.visits.Visits.{Visits}
+use Rattle.aig_base.specs.declared.level.visits.Visits.{Visits}
 use Rattle.aig_base.specs.Changes.{with_gate}
 use Rattle.aig_base.specs.Grounded.{IsSource, Level}
 use Rattle.aig_parts.specs.Literal.{variable}

@@ -2,7 +2,7 @@
 use Rattle.std.specs.Prelude.{◌≡◌, ℕ, ◌+◌, ◌<◌, List, length, All, Some, slice_get, slice_index}
 use Rattle.aig_parts.specs.declared.gate.Gate.{Gate}
 use Rattle.aig_parts.specs.declared.raw.Raw.{Raw}
-use Rattle.aig_base.specs.declared.tried_levels.Node.{Node}
+use Rattle.aig_base.specs.declared.check.tried_levels.Node.{Node}
 use Rattle.aig_base.specs.state.Descent.{level_above}
 use Rattle.aig_parts.specs.Literal.{variable}
 

@@ -1,7 +1,7 @@
 -- The variables that were visited, each with a mark and a place in a list.
 use Rattle.std.specs.Prelude.{◌≡◌, ◌⊎◌, ℕ, ◌+◌, ◌<◌, ◌≤◌, List, [], not, length, count_by, Contains, Some, slice_get}
 use Rattle.std.specs.Vec.{vec_capacity}
-use Rattle.aig_base.specs.declared.visits.Visits.{Visits}
+use Rattle.aig_base.specs.declared.level.visits.Visits.{Visits}
 use Rattle.aig_base.specs.state.Descent.{IsMet}
 
 -- the variable was visited

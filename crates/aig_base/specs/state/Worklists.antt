@@ -1,6 +1,6 @@
 -- A worklist: the variables that were visited, and those of them that are still queued.
 use Rattle.std.specs.Prelude.{◌≡◌, ℕ, ◌+◌, ◌≤◌, not, length, count_by}
-use Rattle.aig_base.specs.declared.worklist.Worklist.{Worklist}
+use Rattle.aig_base.specs.declared.level.worklist.Worklist.{Worklist}
 use Rattle.aig_base.specs.state.Queue.{IsEmptyQueue}
 use Rattle.aig_base.specs.state.Visits.{AreNoVisits, AreVisits, FitsOneVisit}
 

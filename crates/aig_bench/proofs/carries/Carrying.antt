@@ -16,9 +16,9 @@ use Rattle.aig_base.proofs.circuits.Circuits.{gate_definition, gate_in_range}
 use Rattle.aig_base.proofs.circuits.Gates.{gate_of}
 use Rattle.aig_base.proofs.levels.OneLevel.{level_of_gate}
 use Rattle.aig_values.specs.InputRows.{row_at}
-use Rattle.aig_bench.specs.declared.buckets.Buckets.{Buckets}
-use Rattle.aig_bench.specs.declared.driven_circuit.DrivenCircuit.{DrivenCircuit}
-use Rattle.aig_bench.specs.declared.fanouts.Fanouts.{Fanouts}
+use Rattle.aig_bench.specs.declared.propagate.buckets.Buckets.{Buckets}
+use Rattle.aig_bench.specs.declared.engine.driven_circuit.DrivenCircuit.{DrivenCircuit}
+use Rattle.aig_bench.specs.declared.engine.fanouts.Fanouts.{Fanouts}
 use Rattle.aig_bench.specs.state.Buckets.{AreBuckets, CanBeQueued, Links}
 use Rattle.aig_bench.specs.state.Renewed.{Renewed}
 use Rattle.aig_bench.specs.BenchState.{CircuitAndRows, HasValue}

@@ -8,8 +8,8 @@ use Rattle.aig_parts.specs.declared.raw.Raw.{Raw}
 use Rattle.aig_base.specs.Changes.{restarted, with_gate, with_reset}
 use Rattle.aig_parts.specs.declared.ternary.Tern.{Tern}
 use Rattle.aig_parts.specs.Literal.{variable}
-use Rattle.aig_bench.specs.declared.latch_list.LatchList.{LatchList}
-use Rattle.aig_bench.specs.declared.latch_readers.LatchReaders.{LatchReaders}
+use Rattle.aig_bench.specs.declared.propagate.latch_list.LatchList.{LatchList}
+use Rattle.aig_bench.specs.declared.propagate.latch_readers.LatchReaders.{LatchReaders}
 use Rattle.aig_parts.specs.state.Bits.{HasBit}
 use Rattle.aig_bench.specs.state.Latches.{TakesNextFrom, HaveBits, IsLast, AreLatchReaders, Lists}
 use Rattle.aig_bench.proofs.cells.CellLemmas.{get_set_same, get_set_other}

@@ -5,7 +5,7 @@ use Rattle.std.proofs.lemmas.Bool.Decides.{eqb_tells}
 use Rattle.std.proofs.lemmas.List.{length-replicate}
 use Rattle.std.proofs.lemmas.Option.{slice_get_within}
 use Rattle.aig_base.specs.state.Marks.{IsMarked}
-use Rattle.aig_bench.specs.declared.latch_list.LatchList.{LatchList}
+use Rattle.aig_bench.specs.declared.propagate.latch_list.LatchList.{LatchList}
 use Rattle.aig_bench.specs.state.Buckets.{AreChained}
 use Rattle.aig_bench.specs.state.Latches.{IsLatchList, IsInLatchList}
 use Rattle.aig_bench.specs.state.Sweep.{queued_count}

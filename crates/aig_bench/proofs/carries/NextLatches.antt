@@ -10,7 +10,7 @@ use Rattle.aig_parts.specs.Literal.{variable}
 use Rattle.aig_base.specs.state.Marks.{IsMarked}
 use Rattle.aig_base.specs.Sound.{IsSound}
 use Rattle.aig_values.specs.Cells.{literal_value}
-use Rattle.aig_bench.specs.declared.latch_list.LatchList.{LatchList}
+use Rattle.aig_bench.specs.declared.propagate.latch_list.LatchList.{LatchList}
 use Rattle.aig_bench.specs.state.Current.{HoldsInPair, IsCurrentRow}
 use Rattle.aig_bench.specs.state.Latches.{TakesNextFrom, QueuesNextLatches, Lists}
 use Rattle.aig_bench.specs.BenchState.{CircuitAndRows}

@@ -3,9 +3,9 @@ use Rattle.std.proofs.Common.{◌≡◌, inr, ℕ, zero, suc, ◌+◌, ◌-◌, 
 use Rattle.aig_parts.specs.declared.ternary.Tern.{Tern}
 use Rattle.aig_parts.specs.Literal.{variable}
 use Rattle.aig_values.specs.InputRows.{row_at}
-use Rattle.aig_bench.specs.declared.buckets.Buckets.{Buckets}
-use Rattle.aig_bench.specs.declared.driven_circuit.DrivenCircuit.{DrivenCircuit}
-use Rattle.aig_bench.specs.declared.fanouts.Fanouts.{Fanouts}
+use Rattle.aig_bench.specs.declared.propagate.buckets.Buckets.{Buckets}
+use Rattle.aig_bench.specs.declared.engine.driven_circuit.DrivenCircuit.{DrivenCircuit}
+use Rattle.aig_bench.specs.declared.engine.fanouts.Fanouts.{Fanouts}
 use Rattle.aig_bench.specs.state.Buckets.{IsQueued}
 use Rattle.aig_bench.specs.state.Current.{HoldsInPair, HoldsLatchesInPair}
 use Rattle.aig_bench.specs.state.Entry.{HasOtherSources}

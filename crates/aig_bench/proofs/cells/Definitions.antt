@@ -2,8 +2,8 @@
 use Rattle.std.proofs.Common.{◌≢◌, inl, inr, ℕ, suc, map, Option, Some, None, is_some, IsTrue, IfSome, IfNone, ◌↔◌, Contains, refl, subst, arith}
 use Rattle.std.proofs.lemmas.Bool.{false≢true}
 use Rattle.aig_parts.specs.declared.raw.Raw.{Raw}
-use Rattle.aig_base.specs.declared.definition.Definition.{Definition}
-use Rattle.aig_base.specs.declared.definition.Definition.TheVariants as definition
+use Rattle.aig_base.specs.declared.circuit.definition.Definition.{Definition}
+use Rattle.aig_base.specs.declared.circuit.definition.Definition.TheVariants as definition
 use Rattle.aig_base.specs.Definition.{Defines, IsFree}
 use Rattle.aig_parts.specs.Literal.{variable}
 use Rattle.aig_base.specs.Sections.{definitions, IsDefined}

@@ -24,14 +24,14 @@ use Rattle.aig_base.proofs.circuits.Places as places
 use Rattle.aig_base.proofs.lists.Positions.{Contains-cons}
 use Rattle.aig_base.proofs.values.UniqueValue.{unique}
 use Rattle.aig_values.specs.InputRows.{InputRows, row_at, with_cell, HaveWidth}
-use Rattle.aig_bench.specs.declared.buckets.Buckets.{Buckets}
-use Rattle.aig_bench.specs.declared.driven_circuit.DrivenCircuit.{DrivenCircuit}
-use Rattle.aig_bench.specs.declared.fanouts.Fanouts.{Fanouts}
+use Rattle.aig_bench.specs.declared.propagate.buckets.Buckets.{Buckets}
+use Rattle.aig_bench.specs.declared.engine.driven_circuit.DrivenCircuit.{DrivenCircuit}
+use Rattle.aig_bench.specs.declared.engine.fanouts.Fanouts.{Fanouts}
 use Rattle.aig_bench.specs.state.Buckets.{AreBuckets, IsBucketChain, HasChain, IsQueued}
 use Rattle.aig_values.specs.Cells.{literal_value}
 use Rattle.aig_bench.specs.state.Current.{IsLaidOut, HoldsInPair, HoldsLatchesInPair, IsCurrentRow, IsCurrentBefore, AreCurrent, IsBench}
 use Rattle.aig_bench.specs.Edit.{Edit, edited, set_bit, rewire, set_reset, add_frame, drop_frame}
-use Rattle.aig_bench.specs.declared.pending.Pending.{Pending}
+use Rattle.aig_bench.specs.declared.propagate.pending.Pending.{Pending}
 use Rattle.aig_bench.specs.state.Latches.{AreLatchReaders, IsLatchAt}
 use Rattle.aig_bench.specs.state.Pending.{HasLists, IsNextRow}
 use Rattle.aig_bench.specs.state.Entry.{LatchesRest, HasOtherSources}

@@ -13,7 +13,7 @@ use Rattle.aig_base.proofs.rewires.Rewiring.{with_gate-circuit}
 use Rattle.aig_base.proofs.lists.Gets.{get_from_Contains}
 use Rattle.aig_base.proofs.checks.Marking.{slice_get_unmap}
 use Rattle.aig_base.proofs.circuits.Circuits.{gate_is}
-use Rattle.aig_bench.specs.declared.driven_circuit.DrivenCircuit.{DrivenCircuit}
+use Rattle.aig_bench.specs.declared.engine.driven_circuit.DrivenCircuit.{DrivenCircuit}
 use Rattle.aig_bench.specs.state.Current.{AreGateFlags, IsLaidOut}
 use Rattle.aig_bench.specs.BenchState.{CircuitAndRows}
 use Rattle.aig_bench.specs.state.DrivenCircuit.{IsDriven, pair_of}

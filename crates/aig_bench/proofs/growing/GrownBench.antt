@@ -13,11 +13,11 @@ use Rattle.aig_base.proofs.growth.Appended.{more_circuit, new_at}
 use Rattle.aig_values.specs.Cells.{gate_value, with_new_cell}
 use Rattle.aig_values.specs.InputRows.{row_at}
 use Rattle.aig_parts.specs.Limits.{cell_limit}
-use Rattle.aig_bench.specs.declared.buckets.Buckets.{Buckets}
-use Rattle.aig_bench.specs.declared.latch_readers.LatchReaders.{LatchReaders}
-use Rattle.aig_bench.specs.declared.driven_circuit.DrivenCircuit.{DrivenCircuit}
-use Rattle.aig_bench.specs.declared.fanouts.Fanouts.{Fanouts}
-use Rattle.aig_bench.specs.declared.pending.Pending.{Pending}
+use Rattle.aig_bench.specs.declared.propagate.buckets.Buckets.{Buckets}
+use Rattle.aig_bench.specs.declared.propagate.latch_readers.LatchReaders.{LatchReaders}
+use Rattle.aig_bench.specs.declared.engine.driven_circuit.DrivenCircuit.{DrivenCircuit}
+use Rattle.aig_bench.specs.declared.engine.fanouts.Fanouts.{Fanouts}
+use Rattle.aig_bench.specs.declared.propagate.pending.Pending.{Pending}
 use Rattle.aig_bench.specs.state.Buckets.{AreBuckets, IsQueued}
 use Rattle.aig_bench.specs.state.Current.{AreCurrent, AreRows, IsCurrentRow, IsLaidOut}
 use Rattle.aig_bench.specs.Edit.{append_gate}

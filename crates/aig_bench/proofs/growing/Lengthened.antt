@@ -9,8 +9,8 @@ use Rattle.aig_base.specs.Changes.{with_appended_gate}
 use Rattle.aig_parts.specs.Literal.{variable}
 use Rattle.aig_base.specs.Sound.{IsSound}
 use Rattle.aig_base.proofs.circuits.Circuits.{next_in_range}
-use Rattle.aig_bench.specs.declared.buckets.Buckets.{Buckets}
-use Rattle.aig_bench.specs.declared.latch_readers.LatchReaders.{LatchReaders}
+use Rattle.aig_bench.specs.declared.propagate.buckets.Buckets.{Buckets}
+use Rattle.aig_bench.specs.declared.propagate.latch_readers.LatchReaders.{LatchReaders}
 use Rattle.aig_bench.specs.state.Buckets.{AreBuckets, IsBucketChain, IsQueued}
 use Rattle.aig_bench.specs.state.Latches.{AreLatchReaders, TakesNextFrom, IsLast}
 use Rattle.aig_parts.specs.Formed.{limit}

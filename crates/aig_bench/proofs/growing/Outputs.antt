@@ -10,9 +10,9 @@ use Rattle.aig_parts.specs.Literal.{variable}
 use Rattle.aig_base.specs.Readers.{AreReaders}
 use Rattle.aig_base.specs.Sections.{IsDefined}
 use Rattle.aig_base.proofs.growth.Outputs.{with_output-circuit}
-use Rattle.aig_bench.specs.declared.driven_circuit.DrivenCircuit.{DrivenCircuit}
-use Rattle.aig_bench.specs.declared.fanouts.Fanouts.{Fanouts}
-use Rattle.aig_bench.specs.declared.pending.Pending.{Pending}
+use Rattle.aig_bench.specs.declared.engine.driven_circuit.DrivenCircuit.{DrivenCircuit}
+use Rattle.aig_bench.specs.declared.engine.fanouts.Fanouts.{Fanouts}
+use Rattle.aig_bench.specs.declared.propagate.pending.Pending.{Pending}
 use Rattle.aig_bench.specs.state.Current.{IsLaidOut, AreCurrent}
 use Rattle.aig_bench.specs.Edit.{set_output}
 use Rattle.aig_bench.specs.state.Pending.{IsSettledBench}

@@ -19,9 +19,9 @@ use Rattle.aig_base.proofs.circuits.Defined.{defined_cases}
 use Rattle.aig_base.proofs.lists.Gets.{slice_get_last, slice_get_left, slice_get_push}
 use Rattle.aig_values.specs.GateOrder.{AreGatesOf, IsGateOrder, IsSourceOrEarlier}
 use Rattle.aig_values.proofs.GateOrders.{gate_order}
-use Rattle.aig_bench.specs.declared.sweep_order.Order.{Order}
-use Rattle.aig_bench.specs.declared.sweep_order.Way.{Way}
-use Rattle.aig_bench.specs.declared.sweep_order.Way.TheVariants.{Standing, Listed, Stale}
+use Rattle.aig_bench.specs.declared.engine.sweep_order.Order.{Order}
+use Rattle.aig_bench.specs.declared.engine.sweep_order.Way.{Way}
+use Rattle.aig_bench.specs.declared.engine.sweep_order.Way.TheVariants.{Standing, Listed, Stale}
 use Rattle.aig_bench.specs.state.SweepOrder.{AreTaken, IsFullOrder, Orders}
 use Rattle.aig_bench.proofs.growing.Grown.{gate_was}
 

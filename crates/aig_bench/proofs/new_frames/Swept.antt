@@ -22,7 +22,7 @@ use Rattle.aig_values.specs.InputRows.{row_at, with_cell}
 use Rattle.aig_values.proofs.Evaluation.{HoldsFirst, all_hold, gate_value_is, items_more, put_value, renews_none}
 use Rattle.aig_values.proofs.SweepLemmas.{length-swept}
 use Rattle.aig_bench.specs.state.Current.{AreGateFlags, HoldsInputsInPair, HoldsLatchesInPair, IsCurrentRow, IsLaidOut}
-use Rattle.aig_bench.specs.declared.driven_circuit.DrivenCircuit.{DrivenCircuit}
+use Rattle.aig_bench.specs.declared.engine.driven_circuit.DrivenCircuit.{DrivenCircuit}
 use Rattle.aig_bench.specs.state.SweepOrder.{IsFullOrder}
 use Rattle.aig_bench.specs.state.DrivenCircuit.{IsDriven, pair_of}
 use Rattle.aig_bench.proofs.cells.CellLemmas.{get_set_other, row_written}

@@ -10,15 +10,15 @@ use Rattle.aig_base.proofs.circuits.Circuits.{gate_definition, gate_in_range, ga
 use Rattle.aig_base.proofs.circuits.Gates.{level_in_range}
 use Rattle.aig_base.proofs.levels.OneLevel.{level_of_gate}
 use Rattle.aig_values.specs.InputRows.{row_at, with_cell}
-use Rattle.aig_bench.specs.declared.buckets.Buckets.{Buckets}
-use Rattle.aig_bench.specs.declared.driven_circuit.DrivenCircuit.{DrivenCircuit}
-use Rattle.aig_bench.specs.declared.fanouts.Fanouts.{Fanouts}
+use Rattle.aig_bench.specs.declared.propagate.buckets.Buckets.{Buckets}
+use Rattle.aig_bench.specs.declared.engine.driven_circuit.DrivenCircuit.{DrivenCircuit}
+use Rattle.aig_bench.specs.declared.engine.fanouts.Fanouts.{Fanouts}
 use Rattle.aig_bench.specs.state.Buckets.{AreBuckets, IsQueued, CanBeQueued, Links}
 use Rattle.aig_bench.specs.state.Current.{IsLaidOut}
 use Rattle.aig_bench.specs.BenchState.{HasValue}
 use Rattle.aig_bench.specs.state.DrivenCircuit.{IsDriven, pair_of}
 use Rattle.aig_bench.proofs.carries.Carrying.{puts}
-use Rattle.aig_bench.specs.declared.latch_list.LatchList.{LatchList}
+use Rattle.aig_bench.specs.declared.propagate.latch_list.LatchList.{LatchList}
 use Rattle.aig_bench.specs.state.Latches.{TakesNextFrom, QueuesNextLatches, Lists}
 use Rattle.aig_bench.proofs.cells.CellLemmas.{row_written, row_other}
 use Rattle.aig_bench.proofs.carries.NextLatches.{next_latches_same, next_latches_written, set_again}

@@ -11,9 +11,9 @@ use Rattle.aig_base.proofs.circuits.Circuits.{gate_defined}
 use Rattle.aig_base.proofs.circuits.Gates.{gate_of}
 use Rattle.aig_base.proofs.levels.OneLevel.{level_of}
 use Rattle.aig_base.proofs.values.UniqueValue.{unique}
-use Rattle.aig_bench.specs.declared.buckets.Buckets.{Buckets}
-use Rattle.aig_bench.specs.declared.driven_circuit.DrivenCircuit.{DrivenCircuit}
-use Rattle.aig_bench.specs.declared.fanouts.Fanouts.{Fanouts}
+use Rattle.aig_bench.specs.declared.propagate.buckets.Buckets.{Buckets}
+use Rattle.aig_bench.specs.declared.engine.driven_circuit.DrivenCircuit.{DrivenCircuit}
+use Rattle.aig_bench.specs.declared.engine.fanouts.Fanouts.{Fanouts}
 use Rattle.aig_bench.specs.state.Current.{HoldsInPair, IsCurrentRow}
 use Rattle.aig_bench.specs.BenchState.{CircuitAndRows}
 use Rattle.aig_bench.specs.state.Passing.{Differs, IsTouched, IsConsistent}

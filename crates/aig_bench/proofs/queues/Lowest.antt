@@ -2,7 +2,7 @@
 use Rattle.std.proofs.Common.{◌≡◌, ℕ, ◌<◌, ◌≤◌, inl, inr, zero, suc, List, length, get_or, replicate, refl, sym, arith}
 use Rattle.std.proofs.lemmas.Bool.{cases_eq}
 use Rattle.std.proofs.lemmas.Grind.{get_or_default_zero}
-use Rattle.aig_bench.specs.declared.buckets.Buckets.{Buckets}
+use Rattle.aig_bench.specs.declared.propagate.buckets.Buckets.{Buckets}
 use Rattle.aig_bench.specs.state.Buckets.{AreBuckets, AreLevelsEmpty, IsOccupied}
 use Rattle.aig_parts.specs.state.Bits.{HasBit}
 use Rattle.aig_bench.specs.state.LevelSet.{HasNone}

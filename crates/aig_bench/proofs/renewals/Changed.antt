@@ -17,7 +17,7 @@ use Rattle.aig_base.specs.Value.{start_of}
 use Rattle.aig_base.proofs.rewires.Rewiring.{with_reset-circuit}
 use Rattle.aig_values.specs.InputRows.{InputRows, row_at, HaveWidth}
 use Rattle.aig_parts.specs.Limits.{cell_limit, frame_limit}
-use Rattle.aig_bench.specs.declared.driven_circuit.DrivenCircuit.{DrivenCircuit}
+use Rattle.aig_bench.specs.declared.engine.driven_circuit.DrivenCircuit.{DrivenCircuit}
 use Rattle.aig_bench.specs.BenchState.{CircuitAndRows}
 use Rattle.aig_bench.specs.state.Current.{AreGateFlags, AreRows, IsLaidOut, HoldsInPair, AreCurrent, IsBench}
 use Rattle.aig_values.specs.Cells.{fresh_row}

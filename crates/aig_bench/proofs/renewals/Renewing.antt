@@ -6,10 +6,10 @@ use Rattle.aig_base.specs.state.Marks.{IsMarked}
 use Rattle.aig_base.specs.Sound.{IsSound}
 use Rattle.aig_values.specs.InputRows.{row_at}
 use Rattle.aig_bench.specs.declared.edit.EditReport.{EditReport}
-use Rattle.aig_bench.specs.declared.sweep_order.Order.{Order}
-use Rattle.aig_bench.specs.declared.driven_circuit.DrivenCircuit.{DrivenCircuit}
-use Rattle.aig_bench.specs.declared.fanouts.Fanouts.{Fanouts}
-use Rattle.aig_bench.specs.declared.pending.Pending.{Pending}
+use Rattle.aig_bench.specs.declared.engine.sweep_order.Order.{Order}
+use Rattle.aig_bench.specs.declared.engine.driven_circuit.DrivenCircuit.{DrivenCircuit}
+use Rattle.aig_bench.specs.declared.engine.fanouts.Fanouts.{Fanouts}
+use Rattle.aig_bench.specs.declared.propagate.pending.Pending.{Pending}
 use Rattle.aig_bench.specs.BenchState.{CircuitAndRows}
 use Rattle.aig_bench.specs.state.Current.{HoldsInPair, HoldsLatchesInPair, IsCurrentBefore, IsCurrentRow}
 use Rattle.aig_bench.specs.state.Engine.{EngineState, IsClear}

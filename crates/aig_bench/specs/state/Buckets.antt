@@ -4,7 +4,7 @@ use Rattle.std.specs.Vec.{vec_capacity}
 use Rattle.aig_base.specs.state.Marks.{IsMarked}
 use Rattle.aig_parts.specs.Formed.{limit}
 use Rattle.aig_parts.specs.state.Bits.{HasBit}
-use Rattle.aig_bench.specs.declared.buckets.Buckets.{Buckets}
+use Rattle.aig_bench.specs.declared.propagate.buckets.Buckets.{Buckets}
 
 -- from at on, by the list that has the next number of each: these numbers, each once, and then 0
 abbrev pub IsBucketChain : List ℕ → ℕ → List ℕ → Type 0

@@ -7,7 +7,7 @@ use Rattle.aig_base.specs.Sections.{IsGate}
 use Rattle.aig_base.specs.Value.{start_of}
 use Rattle.aig_values.specs.state.Frame as frame
 use Rattle.aig_values.specs.InputRows.{row_at}
-use Rattle.aig_bench.specs.declared.driven_circuit.DrivenCircuit.{DrivenCircuit}
+use Rattle.aig_bench.specs.declared.engine.driven_circuit.DrivenCircuit.{DrivenCircuit}
 use Rattle.aig_bench.specs.BenchState.{CircuitAndRows}
 use Rattle.aig_bench.specs.state.DrivenCircuit.{IsDriven, pair_of}
 

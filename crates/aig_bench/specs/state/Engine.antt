@@ -3,7 +3,7 @@ use Rattle.std.specs.Prelude.{◌≡◌, ◌≢◌, ℕ, ◌+◌, Bool, List, le
 use Rattle.aig_parts.specs.declared.ternary.Tern.{Tern}
 use Rattle.aig_base.specs.state.Marks.{IsMarked}
 use Rattle.aig_values.specs.InputRows.{row_at}
-use Rattle.aig_bench.specs.declared.sweep_order.Way.{Way}
+use Rattle.aig_bench.specs.declared.engine.sweep_order.Way.{Way}
 use Rattle.aig_bench.specs.BenchState.{CircuitAndRows}
 use Rattle.aig_bench.specs.state.Current.{AreCurrent}
 use Rattle.aig_bench.specs.state.Latches.{QueuesNextLatches}

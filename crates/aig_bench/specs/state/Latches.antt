@@ -6,8 +6,8 @@ use Rattle.aig_parts.specs.declared.ternary.Tern.{Tern}
 use Rattle.aig_parts.specs.Literal.{variable}
 use Rattle.aig_base.specs.state.Marks.{IsMarked}
 use Rattle.aig_parts.specs.state.Bits.{HasBit}
-use Rattle.aig_bench.specs.declared.latch_list.LatchList.{LatchList}
-use Rattle.aig_bench.specs.declared.latch_readers.LatchReaders.{LatchReaders}
+use Rattle.aig_bench.specs.declared.propagate.latch_list.LatchList.{LatchList}
+use Rattle.aig_bench.specs.declared.propagate.latch_readers.LatchReaders.{LatchReaders}
 use Rattle.aig_bench.specs.state.Buckets.{AreChained}
 
 -- the latch of this number takes its next value from the variable

@@ -7,10 +7,10 @@ use Rattle.aig_base.specs.Levels.{AreLevels}
 use Rattle.aig_parts.specs.Literal.{variable}
 use Rattle.aig_base.specs.Readers.{AreReaders}
 use Rattle.aig_values.specs.Cells.{literal_value}
-use Rattle.aig_bench.specs.declared.sweep_order.Order.{Order}
-use Rattle.aig_bench.specs.declared.driven_circuit.DrivenCircuit.{DrivenCircuit}
-use Rattle.aig_bench.specs.declared.fanouts.Fanouts.{Fanouts}
-use Rattle.aig_bench.specs.declared.pending.Pending.{Pending}
+use Rattle.aig_bench.specs.declared.engine.sweep_order.Order.{Order}
+use Rattle.aig_bench.specs.declared.engine.driven_circuit.DrivenCircuit.{DrivenCircuit}
+use Rattle.aig_bench.specs.declared.engine.fanouts.Fanouts.{Fanouts}
+use Rattle.aig_bench.specs.declared.propagate.pending.Pending.{Pending}
 use Rattle.aig_bench.specs.state.DrivenCircuit.{pair_of}
 use Rattle.aig_bench.specs.state.Engine.{EngineState, IsIdle}
 use Rattle.aig_bench.specs.state.Latches.{AreLatchReaders, IsLatchList}

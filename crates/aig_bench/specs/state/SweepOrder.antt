@@ -4,9 +4,9 @@ use Rattle.std.specs.Vec.{vec_capacity}
 use Rattle.aig_parts.specs.declared.gate.Gate.{Gate}
 use Rattle.aig_parts.specs.declared.raw.Raw.{Raw}
 use Rattle.aig_values.specs.GateOrder.{IsGateOrder}
-use Rattle.aig_bench.specs.declared.sweep_order.Order.{Order}
-use Rattle.aig_bench.specs.declared.sweep_order.Way.{Way}
-use Rattle.aig_bench.specs.declared.sweep_order.Way.TheVariants.{Standing, Listed, Stale}
+use Rattle.aig_bench.specs.declared.engine.sweep_order.Order.{Order}
+use Rattle.aig_bench.specs.declared.engine.sweep_order.Way.{Way}
+use Rattle.aig_bench.specs.declared.engine.sweep_order.Way.TheVariants.{Standing, Listed, Stale}
 
 -- all gates of the circuit, each once and after those that it reads
 pub record IsFullOrder (raw : Raw) (gates : List Gate) : Type 0 where

@@ -4,8 +4,8 @@ use Rattle.std.specs.Map.{keys_of}
 use Rattle.aig_parts.specs.declared.gate.Gate.{Gate}
 use Rattle.aig_parts.specs.Formed as formed
 use Rattle.aig_parts.specs.Formed.{IsName}
-use Rattle.aig_format.specs.declared.header.Counts.{Counts}
-use Rattle.aig_format.specs.declared.section.Properties.{Properties}
+use Rattle.aig_format.specs.declared.reader.header.Counts.{Counts}
+use Rattle.aig_format.specs.declared.reader.section.Properties.{Properties}
 use Rattle.aig_format.specs.Spelling.{Entry}
 use Rattle.aig_format.specs.state.ReadingNames.{count_of}
 

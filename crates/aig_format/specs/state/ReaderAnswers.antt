@@ -2,8 +2,8 @@
 use Rattle.std.specs.Prelude.{◌≡◌, ℕ, List, Result, Ok, Err}
 use Rattle.aig_parts.specs.declared.fault.Fault.{Fault}
 use Rattle.aig_parts.specs.declared.fault.Fault.TheVariants as faults
-use Rattle.aig_format.specs.declared.token_fault.TokenFault.{TokenFault}
-use Rattle.aig_format.specs.declared.token_fault.TokenFault.TheVariants as tokens
+use Rattle.aig_format.specs.declared.reader.token_fault.TokenFault.{TokenFault}
+use Rattle.aig_format.specs.declared.reader.token_fault.TokenFault.TheVariants as tokens
 use Rattle.aig_format.specs.state.Reading.{Refusal, text, limit, Read}
 use Rattle.aig_format.specs.state.ReadingFile.{FileRefusal, token, counts}
 

@@ -2,9 +2,9 @@
 use Rattle.std.specs.Prelude.{ℕ, ◌+◌, List, Result, Ok, Err, if◌then◌else◌}
 use Rattle.aig_parts.specs.declared.raw.Raw.{Raw}
 use Rattle.aig_base.specs.Renumbered.{evens}
-use Rattle.aig_format.specs.declared.header.Format.{Format}
-use Rattle.aig_format.specs.declared.header.Format.TheVariants.{Ascii, Binary}
-use Rattle.aig_format.specs.declared.header.Counts.{Counts}
+use Rattle.aig_format.specs.declared.reader.header.Format.{Format}
+use Rattle.aig_format.specs.declared.reader.header.Format.TheVariants.{Ascii, Binary}
+use Rattle.aig_format.specs.declared.reader.header.Counts.{Counts}
 use Rattle.aig_format.specs.Header.{are_wrong}
 use Rattle.aig_format.specs.state.Reading.{Refusal, Read, ◌>>=◌}
 use Rattle.aig_format.specs.state.ReadingSections.{literals_at, latch_at, gate_at, implicit_latch_at, implicit_gate_at}

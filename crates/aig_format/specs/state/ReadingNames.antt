@@ -5,10 +5,10 @@ use Rattle.std.specs.List.{list_any}
 use Rattle.std.specs.Map.{keys_of}
 use Rattle.aig_parts.specs.declared.symbols.Kind.{Kind}
 use Rattle.aig_parts.specs.declared.symbols.Kind.TheVariants.{Input, Latch, Output, Bad, Constraint, Justice, Fairness}
-use Rattle.aig_format.specs.declared.header.Counts.{Counts}
-use Rattle.aig_format.specs.declared.symbol.Next.{Next}
-use Rattle.aig_format.specs.declared.symbol.Next.TheVariants.{End, Comment, Symbol}
-use Rattle.aig_format.specs.declared.symbol.Names.{Names}
+use Rattle.aig_format.specs.declared.reader.header.Counts.{Counts}
+use Rattle.aig_format.specs.declared.reader.symbol.Next.{Next}
+use Rattle.aig_format.specs.declared.reader.symbol.Next.TheVariants.{End, Comment, Symbol}
+use Rattle.aig_format.specs.declared.reader.symbol.Names.{Names}
 use Rattle.aig_format.specs.Header.{space, line_end}
 use Rattle.aig_parts.specs.Letters.{letter}
 use Rattle.aig_format.specs.Spelling.{Entry}

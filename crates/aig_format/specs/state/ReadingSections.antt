@@ -4,10 +4,10 @@ use Rattle.std.specs.Prelude.{get_or, if◌then◌else◌}
 use Rattle.aig_parts.specs.declared.gate.Gate.{Gate}
 use Rattle.aig_parts.specs.declared.latch.Latch.{Latch}
 use Rattle.aig_parts.specs.Formed as formed
-use Rattle.aig_format.specs.declared.header.Format.{Format}
-use Rattle.aig_format.specs.declared.header.Format.TheVariants.{Ascii, Binary}
-use Rattle.aig_format.specs.declared.header.Counts.{Counts}
-use Rattle.aig_format.specs.declared.section.Properties.{Properties}
+use Rattle.aig_format.specs.declared.reader.header.Format.{Format}
+use Rattle.aig_format.specs.declared.reader.header.Format.TheVariants.{Ascii, Binary}
+use Rattle.aig_format.specs.declared.reader.header.Counts.{Counts}
+use Rattle.aig_format.specs.declared.reader.section.Properties.{Properties}
 use Rattle.aig_format.specs.Header.{space, line_end}
 use Rattle.aig_format.specs.Spells.{greatest}
 use Rattle.aig_format.specs.state.Reading.{limit, Read, ◌>>=◌, is_next_at, byte_at, number_at, field_at, more_at}

@@ -1,8 +1,8 @@
 -- What calls that read do to their source.
 use Rattle.std.specs.Prelude.{◌≡◌, ◌≤◌, ◌+◌, ◌++◌, ℕ, List, Result, length, drop}
 use Rattle.aig_parts.specs.declared.fault.Fault.{Fault}
-use Rattle.aig_format.specs.declared.source.Source.{Ghosts}
-use Rattle.aig_format.specs.declared.token_fault.TokenFault.{TokenFault}
+use Rattle.aig_format.specs.declared.reader.source.Source.{Ghosts}
+use Rattle.aig_format.specs.declared.reader.token_fault.TokenFault.{TokenFault}
 use Rattle.aig_format.specs.FileReading.{Raises}
 use Rattle.aig_format.specs.state.ReaderAnswers.{of_token, Gives}
 use Rattle.aig_format.specs.state.Reading.{Read}

@@ -3,7 +3,7 @@ use Rattle.std.specs.Prelude.{◌≢◌, ◌↔◌, ℕ, ◌+◌, ◌*◌, ◌/�
 use Rattle.std.specs.Map.{keys_of}
 use Rattle.aig_parts.specs.declared.symbols.Kind.{Kind}
 use Rattle.aig_parts.specs.declared.symbols.Kind.TheVariants.{Input, Latch, Output, Bad, Constraint, Justice, Fairness}
-use Rattle.aig_parts.specs.declared.symbol_places.Place.{Place}
+use Rattle.aig_parts.specs.declared.symbols.places.Place.{Place}
 use Rattle.aig_parts.specs.SymbolPlaces.{Key}
 use Rattle.aig_parts.specs.state.Bits.{HasBit}
 

@@ -5,7 +5,7 @@ use Rattle.std.specs.Hash as fed
 use Rattle.std.specs.Hash.DefaultHasher as sip
 use Rattle.std.specs.Hash.FoldHasher as folding
 use Rattle.std.specs.declared.hash.DefaultHasher.{DefaultHasher}
-use Rattle.aig_parts.specs.declared.symbol_hash.SymbolHash.{SymbolHash}
+use Rattle.aig_parts.specs.declared.symbols.hash.SymbolHash.{SymbolHash}
 use Rattle.aig_parts.specs.SymbolPlaces.{Key}
 use Rattle.aig_parts.specs.state.SymbolTable.{key_number}
 

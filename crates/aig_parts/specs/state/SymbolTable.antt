@@ -1,8 +1,8 @@
 -- Entries that have a name: those of a file in a list, and those that are inserted later in a table by hash.
 use Rattle.std.specs.Prelude.{◌≢◌, ℕ, ◌+◌, ◌*◌, ◌<◌, List, ◌++◌, AllPairs, Option, Some, None}
 use Rattle.std.specs.Map.{keys_of}
-use Rattle.aig_parts.specs.declared.symbol_hash.SymbolHash.{SymbolHash}
-use Rattle.aig_parts.specs.declared.symbol_places.Place.{Place}
+use Rattle.aig_parts.specs.declared.symbols.hash.SymbolHash.{SymbolHash}
+use Rattle.aig_parts.specs.declared.symbols.places.Place.{Place}
 use Rattle.aig_parts.specs.SymbolPlaces.{Key}
 use Rattle.aig_parts.specs.state.NamedEntries.{section_number}
 use Rattle.aig_parts.specs.state.SymbolRanks.{Ranks, AreEntered}

@@ -4,10 +4,10 @@ use Rattle.aig_parts.specs.declared.ternary.Tern.{Tern}
 use Rattle.aig_parts.specs.declared.raw.Raw.{Raw}
 use Rattle.aig_bytes.specs.Bytes.{after, before, IsBeginning}
 use Rattle.aig_base.specs.Value.{start_of}
-use Rattle.aig_sim.specs.declared.row_parser.Shape.TheVariants.{Row}
+use Rattle.aig_sim.specs.declared.stimulus.row_parser.Shape.TheVariants.{Row}
 use Rattle.aig_sim.specs.declared.simulation.Simulation.{Simulation}
-use Rattle.aig_sim.specs.declared.stimulus_fault.StimFault.{StimFault}
-use Rattle.aig_sim.specs.declared.stimulus_fault.StimFault.TheVariants as fault
+use Rattle.aig_sim.specs.declared.stimulus.fault.StimFault.{StimFault}
+use Rattle.aig_sim.specs.declared.stimulus.fault.StimFault.TheVariants as fault
 use Rattle.aig_values.specs.state.Frame.{AreStates}
 use Rattle.aig_sim.specs.RowParser.{HasRead}
 use Rattle.aig_sim.specs.Simulated.{Streams, BeginsWithRows, SimulationEnds}

@@ -8,9 +8,9 @@ use Rattle.aig_parts.specs.Formed.{limit}
 use Rattle.aig_parts.specs.Literal.{variable, with_sign}
 use Rattle.aig_base.specs.Renumbered.{ready_gate}
 use Rattle.aig_base.specs.RenumberingTable.{IsRenumbering, literal_by}
-use Rattle.aig_unroll.specs.declared.plan.Plan.{Plan}
-use Rattle.aig_unroll.specs.declared.frame_literals.Frame.{Frame}
-use Rattle.aig_unroll.specs.declared.sections.Sections.{Sections}
+use Rattle.aig_unroll.specs.declared.unrolling.plan.Plan.{Plan}
+use Rattle.aig_unroll.specs.declared.unrolling.frame_literals.Frame.{Frame}
+use Rattle.aig_unroll.specs.declared.unrolling.sections.Sections.{Sections}
 use Rattle.aig_unroll.specs.FrameLiteral.{frame_literal, frame_size, input_count, has_guards, chain_count, guard_count, is_uninitialised, uninitialised}
 use Rattle.aig_unroll.specs.Unrolled.{frames, frame_literals, frame_bad, frame_gates, kept_constraints}
 

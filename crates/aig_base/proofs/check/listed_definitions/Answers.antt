@@ -1,5 +1,5 @@
 use Rattle.std.proofs.Common.{ℕ, List, Option, Some, None, map, sym, ◌∙◌, subst, true≢false}
-use Rattle.aig_base.specs.declared.definition.Definition.{Definition}
+use Rattle.aig_base.specs.declared.circuit.definition.Definition.{Definition}
 use Rattle.aig_base.specs.state.Entries.{IsLeastTwice, AreEntries}
 use Rattle.aig_base.specs.state.LeastFaulty.{IsLeastAmong, IsKnownLiteral}
 use Rattle.aig_parts.specs.Literal.{variable}

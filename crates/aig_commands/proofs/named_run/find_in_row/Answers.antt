@@ -2,7 +2,7 @@ use Rattle.std.proofs.Common.{◌≡◌, ℕ, List, Err, Some, ap, ap₂, ◌*�
 use Rattle.aig_parts.specs.declared.latch.Latch.{Latch}
 use Rattle.aig_parts.specs.declared.ternary.Tern.{Tern}
 use Rattle.aig_laws.specs.UnrolledWitness.{cut, filled, rows_in, start_in}
-use Rattle.aig_sim.specs.declared.reach_fault.ReachFault.TheVariants as reaches
+use Rattle.aig_sim.specs.declared.witness.reach_fault.ReachFault.TheVariants as reaches
 use Rattle.aig_sim.specs.Reached.{ReachesNone}
 use Rattle.aig_laws.proofs.RowValues.{length-filled}
 use Rattle.aig_commands.proofs.NamedRuns.{reports_same}

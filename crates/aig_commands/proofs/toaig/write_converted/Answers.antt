@@ -1,5 +1,5 @@
 use Rattle.std.proofs.Common.{refl}
-use Rattle.aig_format.specs.declared.header.Format.TheVariants.{Ascii}
+use Rattle.aig_format.specs.declared.reader.header.Format.TheVariants.{Ascii}
 use Rattle.aig_format.specs.Spelling.{short_ascii}
 use Rattle.aig_commands.specs.Toaig.{Converts}
 use Rattle.aig_commands.proofs.toaig.write_converted.Goals as goal

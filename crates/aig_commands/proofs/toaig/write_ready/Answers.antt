@@ -1,7 +1,7 @@
 use Rattle.std.proofs.Common.{[], refl, sym, ap, ◌∙◌, inl, inr}
 use Rattle.aig_run.specs.Command.{CommandEnds}
 use Rattle.std.proofs.lemmas.Bool.{false≢true}
-use Rattle.aig_format.specs.declared.header.Format.TheVariants.{Binary}
+use Rattle.aig_format.specs.declared.reader.header.Format.TheVariants.{Binary}
 use Rattle.aig_format.specs.Spelling.{short_binary}
 use Rattle.aig_commands.specs.Toaig.{Converts}
 use Rattle.aig_commands.proofs.toaig.write_ready.Goals as goal

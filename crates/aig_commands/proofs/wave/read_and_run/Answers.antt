@@ -6,7 +6,7 @@ use Rattle.aig_commands.proofs.Runs.{dumps_no_fault}
 use Rattle.aig_commands.proofs.wave.read_and_run.Goals as goal
 use Rattle.aig_run.proofs.Files.{reading_of_reader, reading_refused}
 use Rattle.aig_run.specs.declared.run_fault.RunFault.TheVariants as run_faults
-use Rattle.aig_sim.specs.declared.stimulus_fault.StimFault.TheVariants as stimuli
+use Rattle.aig_sim.specs.declared.stimulus.fault.StimFault.TheVariants as stimuli
 
 pub returns-in-Ok-clause-ends : goal.returns-in-Ok-clause-ends
 returns-in-Ok-clause-ends g c =

@@ -1,6 +1,6 @@
 use Rattle.std.proofs.Common.{[], Err, length, refl, sym, ◌∙◌, ap, subst}
 use Rattle.aig_sim.specs.Reached.{ReachesNone}
-use Rattle.aig_sim.specs.declared.reach_fault.ReachFault.{ReachFault}
+use Rattle.aig_sim.specs.declared.witness.reach_fault.ReachFault.{ReachFault}
 use Rattle.aig_run.specs.declared.run_fault.RunFault.{RunFault}
 use Rattle.aig_run.specs.declared.run_fault.RunFault.TheVariants as run_faults
 use Rattle.aig_commands.specs.Witness.{WritesWitness}

@@ -2,8 +2,8 @@ use Rattle.std.proofs.Common.{length, sym, ◌∙◌, subst}
 use Rattle.std.proofs.lemmas.Bool.{false≢true}
 use Rattle.aig_sim.specs.Verdict.{IsVerdict}
 use Rattle.aig_sim.specs.WitnessText.{Witness}
-use Rattle.aig_sim.specs.declared.verdict.Verdict.{Verdict}
-use Rattle.aig_sim.specs.declared.verdict.Verdict.TheVariants.{Confirmed}
+use Rattle.aig_sim.specs.declared.witness.verdict.Verdict.{Verdict}
+use Rattle.aig_sim.specs.declared.witness.verdict.Verdict.TheVariants.{Confirmed}
 use Rattle.aig_reduce.proofs.Runs.{ok_is_no_error, reduction_begins, within_limit}
 use Rattle.aig_reduce.proofs.reduction.reduce_witness.Goals as goal
 

@@ -1,4 +1,4 @@
-use Rattle.aig_sim.specs.declared.stimulus_fault.StimFault.TheVariants.{Memory}
+use Rattle.aig_sim.specs.declared.stimulus.fault.StimFault.TheVariants.{Memory}
 use Rattle.aig_sim.specs.Simulated.{Simulates}
 use Rattle.aig_sim.proofs.LineLemmas.{forwarded}
 use Rattle.aig_sim.proofs.SimulationLemmas.{simulates_nothing}

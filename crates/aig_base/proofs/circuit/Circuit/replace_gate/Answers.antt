@@ -1,6 +1,6 @@
 use Rattle.std.proofs.Common.{List, Some, None, sym, ap, subst, ◌∙◌}
 use Rattle.std.proofs.lemmas.Option.{same_Some, none-some}
-use Rattle.aig_base.specs.declared.definition.Definition.TheVariants as definition
+use Rattle.aig_base.specs.declared.circuit.definition.Definition.TheVariants as definition
 use Rattle.aig_parts.specs.declared.gate.Gate.{Gate}
 use Rattle.aig_parts.specs.declared.raw.Raw.{Raw}
 use Rattle.aig_base.specs.Changes.{with_gate}

@@ -1,6 +1,6 @@
 use Rattle.std.proofs.Common.{arith, ◌∙◌, refl, ap, sym, subst, [], ◌∷◌}
 use Rattle.aig_base.specs.Changes.{with_gate}
-use Rattle.aig_bench.specs.declared.driven_circuit.DrivenCircuit.{DrivenCircuit}
+use Rattle.aig_bench.specs.declared.engine.driven_circuit.DrivenCircuit.{DrivenCircuit}
 use Rattle.aig_bench.specs.Edit.{Edits, rewire}
 use Rattle.aig_bench.specs.BenchState.{CircuitAndRows}
 use Rattle.aig_bench.specs.state.DrivenCircuit.{pair_of}

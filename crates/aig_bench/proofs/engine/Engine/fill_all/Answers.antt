@@ -1,6 +1,6 @@
 use Rattle.std.proofs.Common.{◌≡◌, ◌+◌, refl, arith, length, ap, sym, subst}
 use Rattle.aig_values.specs.InputRows.{row_at}
-use Rattle.aig_bench.specs.declared.sweep_order.Way.{Way}
+use Rattle.aig_bench.specs.declared.engine.sweep_order.Way.{Way}
 use Rattle.aig_bench.specs.BenchState.{CircuitAndRows}
 use Rattle.aig_bench.specs.state.Current.{IsCurrentBefore, IsCurrentRow}
 use Rattle.aig_bench.specs.state.Engine.{EngineState}

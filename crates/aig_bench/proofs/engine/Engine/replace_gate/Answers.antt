@@ -5,7 +5,7 @@ use Rattle.aig_base.specs.Sections.{IsDefined}
 use Rattle.aig_base.proofs.circuits.Gates.{defined_in_range}
 use Rattle.aig_parts.specs.Literal.{variable}
 use Rattle.aig_parts.specs.declared.raw.Raw.{Raw}
-use Rattle.aig_bench.specs.declared.driven_circuit.DrivenCircuit.{DrivenCircuit}
+use Rattle.aig_bench.specs.declared.engine.driven_circuit.DrivenCircuit.{DrivenCircuit}
 use Rattle.aig_bench.specs.Fanout.{HasFourReaders}
 use Rattle.aig_bench.specs.state.Engine.{EngineState}
 use Rattle.aig_bench.proofs.carries.LatchChains.{readers_rewired}

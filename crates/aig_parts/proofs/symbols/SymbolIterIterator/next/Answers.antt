@@ -1,7 +1,7 @@
 use Rattle.std.proofs.Common.{List, subst}
 use Rattle.std.specs.Prelude.{All}
 use Rattle.std.proofs.lemmas.List.Elements.{All-head, All-tail}
-use Rattle.aig_parts.specs.declared.symbol_places.Place.{Place}
+use Rattle.aig_parts.specs.declared.symbols.places.Place.{Place}
 use Rattle.aig_parts.specs.SymbolPlaces.{Key}
 use Rattle.aig_parts.specs.state.NamedEntries.{IsPlaceIn}
 use Rattle.aig_parts.proofs.symbols.SymbolIterIterator.next.Goals as goal

@@ -1,7 +1,7 @@
 use Rattle.std.proofs.Common.{◌∙◌, sym, subst, ℕ, List, ◌∷◌, ◌++◌, [], Contains, true≢false, ap}
 use Rattle.std.specs.Prelude.{All}
 use Rattle.std.specs.Map.{keys_of}
-use Rattle.aig_parts.specs.declared.symbol_places.Place.{Place}
+use Rattle.aig_parts.specs.declared.symbols.places.Place.{Place}
 use Rattle.aig_parts.specs.SymbolPlaces.{Key, symbols_in}
 use Rattle.aig_parts.specs.state.NamedEntries.{IsPlaceIn}
 use Rattle.aig_parts.proofs.NamedLemmas.{on_error}

@@ -1,6 +1,6 @@
 use Rattle.std.proofs.Common.{ℕ, List, ◌∷◌, refl}
-use Rattle.aig_sim.specs.declared.stimulus_fault.StimFault.{StimFault}
-use Rattle.aig_sim.specs.declared.stimulus_fault.StimFault.TheVariants.{Io}
+use Rattle.aig_sim.specs.declared.stimulus.fault.StimFault.{StimFault}
+use Rattle.aig_sim.specs.declared.stimulus.fault.StimFault.TheVariants.{Io}
 use Rattle.aig_sim.specs.state.Running.{SimulationStops}
 use Rattle.aig_sim.proofs.LineLemmas.{fault_same}
 use Rattle.aig_sim.proofs.SimulationLemmas.{line_stops, row_goes_on, row_stops}

@@ -1,6 +1,6 @@
 use Rattle.std.proofs.Common.{◌≡◌, ◌<◌, ℕ, length, take, refl, subst, arith}
 use Rattle.aig_bytes.specs.Bytes.{before}
-use Rattle.aig_sim.specs.declared.stimulus_fault.StimFault.TheVariants.{Io}
+use Rattle.aig_sim.specs.declared.stimulus.fault.StimFault.TheVariants.{Io}
 use Rattle.aig_sim.specs.state.Running.{Streamed}
 use Rattle.aig_sim.proofs.LineLemmas.{forwarded}
 use Rattle.aig_sim.proofs.SimulationLemmas.{running_none, read_nothing, read_more, so_far_flushed, simulates_flush_failed, simulates_read_failed, simulates_stopped, simulates_end, stopped_for_no_memory}

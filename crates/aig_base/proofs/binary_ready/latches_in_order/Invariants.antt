@@ -1,6 +1,0 @@
-use Rattle.std.proofs.Common.{◌≡◌, take, map}
-use Rattle.aig_base.specs.Renumbered.{evens_from}
-use Rattle.aig_base.proofs.binary_ready.latches_in_order.Given as goal
-
-abbrev pub invariant-loop-place : goal.invariant-loop-place
-invariant-loop-place l = take l.place (map (λ x. x.lit) l.latches) ≡ evens_from l.first l.place

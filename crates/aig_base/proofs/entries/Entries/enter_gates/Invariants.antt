@@ -1,9 +1,0 @@
-use Rattle.std.proofs.Common.{◌++◌, map, take}
-use Rattle.aig_base.specs.state.Entries.{AreEntries}
-use Rattle.aig_base.specs.state.LeastFaulty.{gate_variable, latch_variable}
-use Rattle.aig_parts.specs.Literal.{variable}
-use Rattle.aig_base.proofs.entries.Entries.enter_gates.Given as goal
-
-abbrev pub invariant-loop-position : goal.invariant-loop-position
-invariant-loop-position l = AreEntries l.raw (map variable l.raw.inputs ++ map latch_variable l.raw.latches
-    ++ map gate_variable (take l.position l.raw.gates)) l.self.table.items l.self.again

@@ -1,8 +1,0 @@
-use Rattle.std.proofs.Common.{map, take}
-use Rattle.aig_base.specs.state.Entries.{AreEntries}
-use Rattle.aig_parts.specs.Literal.{variable}
-use Rattle.aig_base.proofs.entries.Entries.enter_inputs.Given as goal
-
-abbrev pub invariant-loop-position : goal.invariant-loop-position
-invariant-loop-position l = AreEntries l.raw (map variable (take l.position l.raw.inputs)) l.self.table.items
-    l.self.again

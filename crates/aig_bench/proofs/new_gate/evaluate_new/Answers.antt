@@ -1,4 +1,0 @@
-use Rattle.aig_bench.proofs.new_gate.evaluate_new.Goals as goal
-
-pub evaluate-requires-clause-gate : goal.evaluate-requires-clause-gate
-evaluate-requires-clause-gate g c = rw c.loop-frame.invariant.flags c.requires

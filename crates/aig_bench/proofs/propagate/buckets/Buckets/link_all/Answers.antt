@@ -1,0 +1,31 @@
+use Rattle.std.proofs.Common.{get_or, sym, subst, arith}
+use Rattle.std.proofs.lemmas.Option.{slice_get-get_or}
+use Rattle.aig_bench.specs.state.Buckets.{CanBeQueued}
+use Rattle.aig_bench.proofs.queues.Linked.{contains_at, links_none, links_more, links_all}
+use Rattle.aig_bench.proofs.propagate.buckets.Buckets.link_all.Goals as goal
+
+pub loop-variable-init : goal.loop-variable-init
+loop-variable-init c = record { buckets = c.requires.buckets; links = links_none c.args.variables.now c.args.self.now }
+
+pub link-requires-clause-fits : goal.link-requires-clause-fits
+link-requires-clause-fits c =
+    let x = get_or c.args.variables.now c.loop-variable.variable-index 0 in
+    subst (λ n. CanBeQueued c.args.levels.now n x) (sym c.loop-variable.invariant.links.heads)
+    (c.requires.fit x (contains_at c.args.variables.now c.loop-variable.variable-index x
+    (slice_get-get_or c.args.variables.now c.loop-variable.variable-index 0 c.loop-variable-test.true)))
+
+pub loop-variable-preserved : goal.loop-variable-preserved
+loop-variable-preserved c = record {
+  buckets = c.link.ensures.buckets;
+  links = links_more c.args.variables.now c.loop-variable.variable-index _ c.args.self.now c.loop-variable.self c.link.new.self
+      (slice_get-get_or c.args.variables.now c.loop-variable.variable-index 0 c.loop-variable-test.true)
+      c.loop-variable.invariant.links c.link.ensures.links;
+}
+
+pub returns : goal.returns
+returns c = record {
+  buckets = c.loop-variable.invariant.buckets;
+  links = links_all c.args.variables.now c.loop-variable.variable-index c.args.self.now c.loop-variable.self
+      (omega (arith, c.loop-variable-test.false, c.loop-variable.auto.variable-index-end))
+      c.loop-variable.invariant.links;
+}

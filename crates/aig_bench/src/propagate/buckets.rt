@@ -1,0 +1,162 @@
+//! Gates that wait for their evaluation, by level: the queue of events.
+ghost use Rattle.std.specs.Prelude.{◌≡◌, ℕ, ◌+◌, ◌<◌, ◌≤◌, List, length, IfOk, OnOk, IfSome, Some, slice_get};
+ghost use Rattle.std.specs.Prelude.{slice_index, slice_index_or, slice_set, Contains, ◌≢◌, ◌*◌};
+ghost use Rattle.aig_parts.specs.Formed.{limit};
+ghost use Rattle.aig_bench.specs.state.Buckets.{AreBuckets, IsQueued, CanBeQueued, FitsOneVariable};
+ghost use Rattle.aig_bench.specs.state.Buckets.{IsLowest, IsOccupied, Links, TakesVariable};
+
+use crate::propagate::level_set::LevelSet;
+use crate::propagate::waiting::Waiting;
+use aig_base::{Levels, Memory};
+use std::alloc::Global;
+
+/// Variables of gates that wait, a chain for each level. It takes memory when it is made and when the circuit grows,
+/// and else none.
+#[derive(Drop, Debug)]
+pub struct Buckets {
+    // The first variable of each level's chain; 0 stands for none.
+    head: Vec<u32>,
+    // Which variables wait, and for each the next one of its chain.
+    marks: Waiting,
+    // The levels of which a variable waits.
+    occupied: LevelSet,
+}
+
+impl Buckets {
+    /// Buckets in which nothing waits, for variables and levels up to `max_var`.
+    pub fn new(alloc: Global, max_var: u32) -> Result<Buckets, Memory>
+        requires { max_var ≤ limit }
+        ensures heads { IfOk result (λ b. length b.head.items ≡ max_var + 1) }
+        ensures buckets { IfOk result (λ b. (levels : List ℕ) → length levels ≡ max_var + 1 → AreBuckets levels b) }
+        ensures empty { IfOk result (λ b. (v : ℕ) → IsQueued b v → ⊥) }
+    {
+        let size = max_var as usize + 1;
+        let head = vec![in alloc; 0; size]?;
+        let marks = Waiting::new(alloc, size)?;
+        let occupied = LevelSet::new(alloc, size)?;
+        Ok(Buckets {
+            head,
+            marks,
+            occupied,
+        })
+    }
+
+    /// Makes room for one more variable, and for one more level; nothing else changes.
+    pub fn make_room(&mut self) -> Result<(), Memory>
+        requires few { length self.old.head.items ≤ limit }
+        requires buckets { (levels : List ℕ) × AreBuckets levels self.old }
+        ensures heads { length self.new.head.items ≡ length self.old.head.items }
+        ensures marks { self.new.marks.items ≡ self.old.marks.items }
+        ensures buckets { (levels : List ℕ) → AreBuckets levels self.old → AreBuckets levels self.new }
+        ensures room { OnOk result (FitsOneVariable self.new) }
+    {
+        self.head.reserve(1)?;
+        self.marks.make_room()?;
+        self.occupied.make_room(self.head.len())
+    }
+
+    /// One more variable, and one more level, where nothing waits and there is room.
+    pub fn add_variable(&mut self)
+        requires room { FitsOneVariable self.old }
+        requires empty { (v : ℕ) → IsQueued self.old v → ⊥ }
+        ensures heads { length self.new.head.items ≡ length self.old.head.items + 1 }
+        ensures buckets { (levels more : List ℕ) → AreBuckets levels self.old → length more ≡ length levels + 1
+            → AreBuckets more self.new }
+        ensures empty { (v : ℕ) → IsQueued self.new v → ⊥ }
+    {
+        self.head.push_reserved(0);
+        self.marks.push();
+    }
+
+    // Puts a variable before the others of a level's chain, and answers which was the first; 0 stands for none.
+    fn push_first(&mut self, level: usize, first: u32) -> u32
+        requires level { level < length self.old.head.items }
+        requires first { first ≢ 0 }
+        requires room { length self.old.head.items ≤ 64 * length self.old.occupied }
+        requires occupied { IsOccupied self.old.head.items self.old.occupied }
+        ensures before { result ≡ slice_index_or self.old.head.items level result }
+        ensures head { self.new.head.items ≡ slice_set self.old.head.items level first }
+        ensures marks { self.new.marks ≡ self.old.marks }
+        ensures room { length self.new.head.items ≤ 64 * length self.new.occupied }
+        ensures occupied { IsOccupied self.new.head.items self.new.occupied }
+    {
+        let before = self.head[level];
+        self.head[level] = first;
+        if before == 0 {
+            self.occupied.insert(level);
+        }
+        before
+    }
+
+    // Takes the first variable out of a level's chain, where this one is the second; 0 stands for none.
+    fn drop_first(&mut self, level: usize, second: u32)
+        requires level { level < length self.old.head.items }
+        requires some { slice_index self.old.head.items level ≢ 0 }
+        requires room { length self.old.head.items ≤ 64 * length self.old.occupied }
+        requires occupied { IsOccupied self.old.head.items self.old.occupied }
+        ensures head { self.new.head.items ≡ slice_set self.old.head.items level second }
+        ensures marks { self.new.marks ≡ self.old.marks }
+        ensures room { length self.new.head.items ≤ 64 * length self.new.occupied }
+        ensures occupied { IsOccupied self.new.head.items self.new.occupied }
+    {
+        self.head[level] = second;
+        if second == 0 {
+            self.occupied.remove(level);
+        }
+    }
+
+    /// The lowest level from this one on of which a variable waits, if there is one.
+    pub fn lowest(&self, from: usize) -> Option<usize>
+        ensures inside { IfSome result (λ l. l < length self.now.head.items) }
+        ensures least { (levels : List ℕ) → AreBuckets levels self.now → IsLowest levels self.now from result }
+    {
+        let level = self.occupied.first_from(from)?;
+        if level < self.head.len() {
+            Some(level)
+        } else {
+            None
+        }
+    }
+
+    /// Lets a variable wait, unless it waits already.
+    pub fn link(&mut self, levels: &Levels, variable: u32)
+        requires buckets { AreBuckets levels.now self.old }
+        requires fits { CanBeQueued levels.now (length self.old.head.items) variable }
+        ensures buckets { AreBuckets levels.now self.new }
+        ensures links { Links (λ u. u ≡ variable) self.old self.new }
+    {
+        if self.marks.waits(variable) {
+            return;
+        }
+        let level = levels.level(variable) as usize;
+        let second = self.push_first(level, variable);
+        self.marks.enter(variable, second);
+    }
+
+    /// Lets these variables wait.
+    pub fn link_all(&mut self, levels: &Levels, variables: &[u32])
+        requires buckets { AreBuckets levels.now self.old }
+        requires fit { (v : ℕ) → Contains variables.now v → CanBeQueued levels.now (length self.old.head.items) v }
+        ensures buckets { AreBuckets levels.now self.new }
+        ensures links { Links (Contains variables.now) self.old self.new }
+    {
+        for variable in variables {
+            self.link(levels, *variable);
+        }
+    }
+
+    /// Takes a variable of a level that waits, if there is one.
+    pub fn take(&mut self, level: u32) -> Option<u32>
+        requires level { level < length self.old.head.items }
+        requires buckets { (levels : List ℕ) × AreBuckets levels self.old }
+        ensures { (levels : List ℕ) → AreBuckets levels self.old → TakesVariable levels level self.old self.new result }
+    {
+        let first = self.head[level as usize];
+        if first == 0 {
+            return None;
+        }
+        let second = self.marks.leave(first);
+        self.drop_first(level as usize, second);
+        Some(first)
+    }
+}

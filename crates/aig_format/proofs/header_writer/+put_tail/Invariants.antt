@@ -1,5 +1,0 @@
-use Rattle.std.proofs.Common.{length}
-use Rattle.aig_format.proofs.header_writer.+put_tail.Given as goal
-
-abbrev pub decreases-put_tail : goal.decreases-put_tail
-decreases-put_tail g l = length l.counts.now

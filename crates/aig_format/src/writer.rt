@@ -1,0 +1,8 @@
+//! Writing both formats.
+
+pub(crate) mod ascii;
+pub(crate) mod binary;
+mod block;
+mod delta;
+mod header;
+mod section;

@@ -1,6 +1,0 @@
-use Rattle.std.proofs.Common.{take}
-use Rattle.aig_parts.specs.state.SymbolRanks.{AreEntered}
-use Rattle.aig_parts.proofs.symbol_ranks.SymbolRanks.enter.Given as goal
-
-abbrev pub invariant-loop-place : goal.invariant-loop-place
-invariant-loop-place l = AreEntered l.self (take l.place l.entries)

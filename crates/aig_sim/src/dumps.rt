@@ -1,0 +1,6 @@
+//! Value change dumps of simulations.
+
+pub(crate) mod dumping;
+pub(crate) mod header;
+pub(crate) mod recorder;
+mod text;

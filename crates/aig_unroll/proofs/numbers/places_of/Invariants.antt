@@ -1,5 +1,0 @@
-use Rattle.aig_unroll.proofs.NumberLemmas.{ArePlacesTo}
-use Rattle.aig_unroll.proofs.numbers.places_of.Given as goal
-
-abbrev pub invariant-loop-place : goal.invariant-loop-place
-invariant-loop-place l = ArePlacesTo l.circuit l.order l.places.items l.place

@@ -1,5 +1,0 @@
-use Rattle.aig_values.proofs.LiteralLemmas.{ArePacked}
-use Rattle.aig_values.proofs.literal_codes.pack.Given as goal
-
-abbrev pub invariant-loop-place : goal.invariant-loop-place
-invariant-loop-place l = ArePacked l.words l.codes l.place
