@@ -6,6 +6,7 @@ import itertools
 
 from at_random.cases import Wrong, each
 from at_random.replays import circuit_to_check, started
+from library.dimacs import read_formula
 from library.reference import literal, values
 from library.runs import Ended, refused, write
 
@@ -18,16 +19,17 @@ class Formula:
 
     def __init__(self, text):
         rows = [line.split(" ") for line in text.splitlines()]
-        head = [row for row in rows if row[:2] == ["p", "cnf"]]
         self.inputs = {(int(row[3]), int(row[4])): int(row[2]) for row in rows if row[:2] == ["c", "i"]}
         self.starts = {int(row[3]): int(row[2]) for row in rows if row[:2] == ["c", "l"]}
         self.goals = [int(row[2]) for row in rows if row[:2] == ["c", "b"]]
-        self.clauses = [[int(word) for word in row[:-1]] for row in rows if row[0] not in "cp"]
-        greatest = max(abs(l) for clause in self.clauses for l in clause)
-        if len(head) != 1 or int(head[0][3]) != len(self.clauses) or greatest > int(head[0][2]):
-            raise Wrong(f"the counts {head} are not those of the clauses")
-        if any(row[-1] != "0" for row in rows if row[0] not in "cp"):
-            raise Wrong("a clause without its 0")
+        found = read_formula(text)
+        if isinstance(found, str):
+            raise Wrong(found)
+        _, count, self.clauses = found
+        if count != len(self.clauses):
+            raise Wrong(f"{count} clauses are not those that there are")
+        if any(row[-1] != "0" or "0" in row[:-1] for row in rows if row[0] not in "cp"):
+            raise Wrong("a line that is not a clause")
 
 
 def propagated(clauses, true):

@@ -1,5 +1,10 @@
 pub mod AddedLemmas
+pub mod AnyCircuit
 pub mod AnyState
+pub mod DimacsExamples
+pub mod DimacsLaw
+pub mod DimacsLines
+pub mod DimacsReading
 pub mod FormulaText
 pub mod GoalLemmas
 pub mod SignLemmas

@@ -7,8 +7,10 @@ mod checked;
 mod dimacs;
 mod fault;
 mod formula;
+mod laws;
 mod query;
 
 pub use fault::CnfFault;
 pub use formula::Formula;
+pub use laws::law_of_dimacs;
 pub use query::{Goal, Query};

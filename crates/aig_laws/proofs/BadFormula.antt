@@ -2,10 +2,10 @@
 use Rattle.std.proofs.Common.{◌≡◌, ◌≢◌, ◌⊎◌, inl, inr, ℕ, zero, suc, ◌+◌, ◌-◌, ◌*◌, ◌%◌, ◌<◌, ◌≤◌, Bool, true, false, not, ◌&&◌, ◌||◌}
 use Rattle.std.proofs.Common.{List, [], ◌∷◌, ◌++◌, length, flat_map, Some, slice_get, slice_index, get_or, All}
 use Rattle.std.proofs.Common.{refl, sym, ◌∙◌, ap, ap₂, subst, arith}
-use Rattle.std.specs.List.{list_all}
+use Rattle.std.specs.List.{list_all, range_with_len}
 use Rattle.std.proofs.lemmas.List.{ext_get_or}
 use Rattle.std.proofs.lemmas.List.FromFn.{length-map-range_with_len, get_or-map-range_with_len}
-use Rattle.std.proofs.lemmas.List.Elements.{All-nil, All-cons, All-weaker}
+use Rattle.std.proofs.lemmas.List.Elements.{All-nil, All-cons, All-map, All-weaker}
 use Rattle.std.proofs.lemmas.Option.{slice_get-get_or, slice_get_within, get_or_from_slice_get}
 use Rattle.aig_parts.specs.Literal.{variable}
 use Rattle.aig_parts.specs.declared.gate.Gate.{Gate}
@@ -136,8 +136,17 @@ formula_met raw order k p a h =
 module _ (raw : Raw) (circuit : IsCircuit raw) (order : List ℕ) (canonical : IsCanonicalOrder raw order) (k : ℕ) where
   -- ---- from a model to a witness
 
-  wide_values : (a : ℕ → Bool) → length (values_of raw k a) ≡ input_count raw k
+  pub wide_values : (a : ℕ → Bool) → length (values_of raw k a) ≡ input_count raw k
   wide_values a = length-map-range_with_len (λ v. tern_of (a v)) 1 (input_count raw k)
+
+  pub values_known : (a : ℕ → Bool) → AreKnown (values_of raw k a)
+  values_known a =
+      All-map (λ (w : Tern). w ≢ X) (λ v. tern_of (a v)) (range_with_len 1 (input_count raw k))
+      (λ i d lt. tern_known (a (get_or (range_with_len 1 (input_count raw k)) i d)))
+    where
+      tern_known : (b : Bool) → tern_of b ≢ X
+      tern_known true e = cc
+      tern_known false e = cc
 
   -- the inputs have the values that the assignment says
   pub inputs_are : (a : ℕ → Bool) (i l : ℕ) (w : Tern) → slice_get (evens (input_count raw k)) i ≡ Some l
@@ -153,7 +162,7 @@ module _ (raw : Raw) (circuit : IsCircuit raw) (order : List ℕ) (canonical : I
       ∙ get_or-map-range_with_len (λ v. tern_of (a v)) 1 (input_count raw k) i (1 + i) X lt refl in
       value_is ∙ ap (λ v. tern_of (a v)) (sym half) ∙ ap tern_of (sym (true_even a l even))
 
-  reaches : (p : ℕ) (a : ℕ → Bool) → p < length raw.bad → Satisfies a (formula_of raw order (within k p)).clauses
+  pub reaches : (p : ℕ) (a : ℕ → Bool) → p < length raw.bad → Satisfies a (formula_of raw order (within k p)).clauses
       → (t : ℕ) × (t < k) × MakesBad raw order k (values_of raw k a) t p
   reaches p a property h =
       let (first, goal, gates) = formula_met raw order k p a h in

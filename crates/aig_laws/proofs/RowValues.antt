@@ -1,16 +1,19 @@
 -- Values that are cut into rows, and those that fill in a start.
-use Rattle.std.proofs.Common.{◌≡◌, inl, inr, ℕ, zero, suc, ◌+◌, ◌*◌, ◌≤◌, Bool, true, false, if◌then◌else◌, List}
+use Rattle.std.proofs.Common.{◌≡◌, ◌≢◌, inl, inr, ℕ, zero, suc, ◌+◌, ◌*◌, ◌≤◌, Bool, true, false, if◌then◌else◌, List}
 use Rattle.std.proofs.Common.{[], ◌∷◌, ◌++◌, length, take, drop, flat_map, All, Some, slice_get, get_or, refl, sym, ◌∙◌}
 use Rattle.std.proofs.Common.{ap, ap₂, subst, arith, zero-mul, append_assoc, length-drop}
 use Rattle.std.proofs.lemmas.Bool.Decides.{nat_tests}
 use Rattle.std.proofs.lemmas.List.{take-append-drop, drop-drop, length-take-le, take_at, drop_at}
-use Rattle.std.proofs.lemmas.List.Elements.{All-nil, All-cons, All-head, All-tail}
+use Rattle.std.proofs.lemmas.List.Concat.{flat_map-cons}
+use Rattle.std.proofs.lemmas.List.Elements.{All-nil, All-cons, All-head, All-tail, All-append, All-take, All-drop}
 use Rattle.std.proofs.lemmas.List.Sums.{sum_by-cons}
 use Rattle.aig_parts.specs.declared.latch.Latch.{Latch}
 use Rattle.aig_parts.specs.declared.ternary.Tern.{Tern}
-use Rattle.aig_parts.specs.declared.ternary.Tern.TheVariants.{X}
+use Rattle.aig_parts.specs.declared.ternary.Tern.TheVariants.{Zero, One, X}
 use Rattle.aig_base.specs.Runs.{Allows}
+use Rattle.aig_base.specs.Sound.{IsReset}
 use Rattle.aig_base.specs.Value.{reset_value}
+use Rattle.aig_laws.specs.Models.{AreKnown}
 use Rattle.aig_laws.specs.UnrolledWitness.{cut, filled}
 use Rattle.aig_unroll.specs.FrameLiteral.{is_uninitialised, uninitialised}
 use Rattle.aig_unroll.specs.UnrolledValues.{free_values}
@@ -194,3 +197,68 @@ filled_allowed (y ∷ ys) values p x w at here =
         inr (sym is ∙ ap (λ (z : Latch). reset_value z.reset) same)
     go false e taken kept (suc p) at here =
         kept p x w at (ap (λ (us : List Tern). slice_get us (suc p)) (sym (filled_no y ys values e)) ∙ here)
+
+-- ---- values without x
+
+abbrev Known : Tern → Type 0
+Known w = w ≢ X
+
+pub cut_known : (width k : ℕ) (values : List Tern) → AreKnown values → All AreKnown (cut width k values)
+unfolding cut
+cut_known width zero values all = All-nil AreKnown
+cut_known width (suc k) values all =
+    All-cons AreKnown (take width values) (cut width k (drop width values)) (All-take Known width values all)
+    (cut_known width k (drop width values) (All-drop Known width values all))
+
+-- a latch that is not uninitialised starts at a value that is no x
+reset_known : (x : Latch) → is_uninitialised x ≡ false → IsReset x → reset_value x.reset ≢ X
+reset_known x e (inl is) = subst (λ n. reset_value n ≢ X) (sym is) zero_known
+  where
+    zero_known : Zero ≢ X
+    zero_known h = cc
+reset_known x e (inr (inl is)) = subst (λ n. reset_value n ≢ X) (sym is) one_known
+  where
+    one_known : One ≢ X
+    one_known h = cc
+reset_known x e (inr (inr own)) = absurd (no_own e own)
+  where
+    no_own : is_uninitialised x ≡ false → x.reset ≡ x.lit → ⊥
+    no_own e same = grind (arith, nat_tests)
+
+pub filled_known : (xs : List Latch) (values : List Tern) → All IsReset xs → length values ≡ uninitialised xs
+    → AreKnown values → AreKnown (filled xs values)
+unfolding filled
+filled_known [] values resets is all = All-nil Known
+filled_known (x ∷ xs) values resets is all =
+    go (is_uninitialised x) refl values is all (λ vs. filled_known xs vs (All-tail IsReset x xs resets))
+  where
+    go : (b : Bool) → is_uninitialised x ≡ b → (values : List Tern) → length values ≡ uninitialised (x ∷ xs)
+        → AreKnown values
+        → ((vs : List Tern) → length vs ≡ uninitialised xs → AreKnown vs → AreKnown (filled xs vs))
+        → AreKnown (filled (x ∷ xs) values)
+    go true e [] is all later = absurd (omega (arith, uninitialised_yes x xs e, is))
+    go true e (v ∷ vs) is all later =
+        subst AreKnown (sym (filled_yes x xs (v ∷ vs) e))
+        (All-cons Known v (filled xs vs) (All-head Known v vs all)
+        (later vs (omega (arith, uninitialised_yes x xs e, is)) (All-tail Known v vs all)))
+    go false e values is all later =
+        subst AreKnown (sym (filled_no x xs values e))
+        (All-cons Known (reset_value x.reset) (filled xs values)
+        (reset_known x e (All-head IsReset x xs resets)) (later values (is ∙ uninitialised_no x xs e) all))
+
+pub flat_known : (rows : List (List Tern)) → All AreKnown rows → AreKnown (flat rows)
+flat_known [] all = All-nil Known
+flat_known (row ∷ rows) all =
+    subst AreKnown (sym (flat_map-cons (λ (r : List Tern). r) row rows))
+    (All-append Known row (flat rows) (All-head AreKnown row rows all) (flat_known rows (All-tail AreKnown row rows all)))
+
+free_more : (b : Bool) (w : Tern) (ws : List Tern) → w ≢ X → AreKnown ws → AreKnown (if b then w ∷ ws else ws)
+free_more true w ws p all = All-cons Known w ws p all
+free_more false w ws p all = all
+
+pub free_known : (xs : List Latch) (start : List Tern) → AreKnown start → AreKnown (free_values xs start)
+free_known [] start all = All-nil Known
+free_known (x ∷ xs) [] all = All-nil Known
+free_known (x ∷ xs) (w ∷ start) all =
+    free_more (is_uninitialised x) w (free_values xs start) (All-head Known w start all)
+    (free_known xs start (All-tail Known w start all))

@@ -2,7 +2,7 @@
 use Rattle.std.proofs.Common.{◌≡◌, ◌≢◌, ◌↔◌, ℕ, ◌+◌, ◌-◌, ◌<◌, ◌≤◌, List, [], ◌∷◌, ◌++◌, length, take, replicate, All}
 use Rattle.std.proofs.Common.{Some, slice_get, get_or, refl, sym, ◌∙◌, ap, subst, arith, length-append}
 use Rattle.std.proofs.lemmas.List.{length-take-le, take_at, length-replicate, get_or-replicate, get_or-take}
-use Rattle.std.proofs.lemmas.List.Elements.{All-append}
+use Rattle.std.proofs.lemmas.List.Elements.{All-append, All-replicate}
 use Rattle.std.proofs.lemmas.Option.{slice_get-get_or}
 use Rattle.aig_parts.specs.declared.raw.Raw.{Raw}
 use Rattle.aig_parts.specs.Limits.{frame_limit}
@@ -23,10 +23,12 @@ use Rattle.aig_unroll.specs.FrameLiteral.{input_count}
 use Rattle.aig_unroll.specs.Unrolled.{unrolled}
 use Rattle.aig_unroll.specs.UnrolledValues.{unrolled_row}
 use Rattle.aig_unroll.proofs.GuardedValues.{all_bad}
+use Rattle.aig_laws.specs.Models.{AreKnown}
+use Rattle.aig_laws.specs.Satisfiable.{IsKnownRun}
 use Rattle.aig_laws.specs.UnrolledWitness.{rows_in, start_in, witness_in, MakesBad, ReachesInRow, ConfirmsRow}
 use Rattle.aig_laws.specs.UnrolledWitness.{ChecksRow, IsCheckedConfirmed, IsRun, IsConfirmedWithin, IsInRow}
 use Rattle.aig_laws.proofs.Reached.{confirms_reached, allowed_where_none}
-use Rattle.aig_laws.proofs.UnrolledRows.{run_in, row_in, row_wide, row_of_run}
+use Rattle.aig_laws.proofs.UnrolledRows.{run_in, row_in, row_known, row_wide, row_of_run}
 
 module _ (raw : Raw) (circuit : IsCircuit raw) (order : List ℕ) (canonical : IsCanonicalOrder raw order) where
   -- the row of a run makes a bad literal 1 exactly where the run reaches it
@@ -43,7 +45,7 @@ module _ (raw : Raw) (circuit : IsCircuit raw) (order : List ℕ) (canonical : I
       )
 
   -- the same of a row by its run
-  made_bad_in : (k : ℕ) (row start : List Tern) (rows : List (List Tern)) → length rows ≡ k
+  pub made_bad_in : (k : ℕ) (row start : List Tern) (rows : List (List Tern)) → length rows ≡ k
       → unrolled_row raw start rows ≡ row → Fits raw start rows → IsAllowed raw start
       → (t p b : ℕ) → t < k → slice_get raw.bad p ≡ Some b
       → MakesBad raw order k row t p ↔ ReachesBad raw start rows t b
@@ -70,28 +72,28 @@ module _ (raw : Raw) (circuit : IsCircuit raw) (order : List ℕ) (canonical : I
 
   -- ---- a confirmed witness, filled up to k frames
 
-  module _ (k : ℕ) (w : Witness) (h : IsConfirmedWithin raw k w) where
-    unknown : List Tern
-    unknown = replicate (length raw.inputs) X
+  module _ (k : ℕ) (w : Witness) (h : IsConfirmedWithin raw k w) (filler : Tern) where
+    filler_row : List Tern
+    filler_row = replicate (length raw.inputs) filler
 
     more : List (List Tern)
-    more = replicate (k - length w.rows) unknown
+    more = replicate (k - length w.rows) filler_row
 
     filled_up : List (List Tern)
     filled_up = w.rows ++ more
 
     wide_more : All (λ row. length row ≡ length raw.inputs) more
-    unfolding more unknown
+    unfolding more filler_row
     wide_more n d below =
-        ap length (get_or-replicate (k - length w.rows) n (replicate (length raw.inputs) X) d
-        (omega (arith, below, length-replicate (k - length w.rows) (replicate (length raw.inputs) X))))
-        ∙ length-replicate (length raw.inputs) X
+        ap length (get_or-replicate (k - length w.rows) n (replicate (length raw.inputs) filler) d
+        (omega (arith, below, length-replicate (k - length w.rows) (replicate (length raw.inputs) filler))))
+        ∙ length-replicate (length raw.inputs) filler
 
     run : IsRun raw k w.start filled_up
     unfolding filled_up more
     run = record {
       frames = length-append w.rows more
-          ∙ ap (λ n. length w.rows + n) (length-replicate (k - length w.rows) unknown) ∙ omega (arith, h.frames);
+          ∙ ap (λ n. length w.rows + n) (length-replicate (k - length w.rows) filler_row) ∙ omega (arith, h.frames);
       fits = record {
         latches = h.fits.latches;
         inputs = All-append (λ (row : List Tern). length row ≡ length raw.inputs) w.rows more h.fits.inputs wide_more;
@@ -125,9 +127,9 @@ module _ (raw : Raw) (circuit : IsCircuit raw) (order : List ℕ) (canonical : I
         }) (row_of_run raw k w.start filled_up run).start_is
         ∙ ap (λ (rs : List (List Tern)). record { property = w.property; start = w.start; rows = rs }) same_rows
 
-    pub in_row : IsInRow raw order k w
+    pub in_filled_row : IsInRow raw order k w
     unfolding row
-    in_row =
+    in_filled_row =
         let width : length row ≡ input_count raw k = row_wide raw k w.start filled_up run in
         let verdict_is : IsVerdict raw (witness_in raw k (length w.rows - 1) w.property row) verdict.Confirmed =
         subst (λ (v : Witness). IsVerdict raw v verdict.Confirmed) (sym same_witness) h.confirmed in (
@@ -137,6 +139,21 @@ module _ (raw : Raw) (circuit : IsCircuit raw) (order : List ℕ) (canonical : I
           (confirms_row k row width (length w.rows - 1) w.property (omega (arith, some_frame, h.frames)) h.property).1
               verdict_is,
         )
+
+    -- the row has no x where neither the witness nor the filler has
+    pub filled_row_known : filler ≢ X → IsKnownRun w.start w.rows → AreKnown in_filled_row.0
+    unfolding in_filled_row row filled_up more filler_row
+    filled_row_known known run_known =
+        row_known raw w.start (w.rows ++ replicate (k - length w.rows) (replicate (length raw.inputs) filler)) (record {
+          start_known = run_known.start_known;
+          rows_known = All-append AreKnown w.rows (replicate (k - length w.rows) (replicate (length raw.inputs) filler))
+              run_known.rows_known
+              (All-replicate AreKnown (k - length w.rows) (replicate (length raw.inputs) filler)
+              (All-replicate (λ (v : Tern). v ≢ X) (length raw.inputs) filler known));
+        })
+
+  pub in_row : (k : ℕ) (w : Witness) → IsConfirmedWithin raw k w → IsInRow raw order k w
+  in_row k w h = in_filled_row k w h X
 
 -- a text of the witness that is in a row
 spells_in_row : (raw : Raw) (k t p : ℕ) (row : List Tern) (digits : List ℕ) → length row ≡ input_count raw k → t < k

@@ -1,5 +1,6 @@
 pub mod Conversion
 pub mod Models
 pub mod PartialModels
+pub mod Satisfiable
 pub mod Selection
 pub mod UnrolledWitness

@@ -1,10 +1,8 @@
 -- No run of any length reaches a bad state, where no assignment satisfies its formula and that of the step.
-use Rattle.std.proofs.Common.{◌≡◌, ◌≢◌, ◌⊎◌, inl, inr, ℕ, zero, suc, ◌+◌, ◌-◌, ◌*◌, ◌<◌, ◌≤◌, Bool, true, false}
-use Rattle.std.proofs.Common.{List, [], ◌∷◌, length, map, take, drop, flat_map, Contains, Some, slice_get, slice_index, get_or}
-use Rattle.std.proofs.Common.{refl, sym, ◌∙◌, ap, subst, arith, length-drop}
+use Rattle.std.proofs.Common.{◌≡◌, ◌≢◌, ◌⊎◌, inl, inr, ℕ, zero, suc, ◌+◌, ◌-◌, ◌<◌, ◌≤◌, List, [], ◌∷◌, length, map, take, drop}
+use Rattle.std.proofs.Common.{Contains, Some, slice_get, get_or, refl, sym, ◌∙◌, ap, subst, arith, length-drop}
 use Rattle.std.specs.List.{AllZip}
 use Rattle.std.proofs.lemmas.List.{length-take-le, length-map}
-use Rattle.std.proofs.lemmas.List.Elements.{All-append}
 use Rattle.std.proofs.lemmas.Option.{slice_get-map, slice_get-get_or, slice_get_within, get_or_from_slice_get}
 use Rattle.aig_parts.specs.declared.latch.Latch.{Latch}
 use Rattle.aig_parts.specs.declared.raw.Raw.{Raw}
@@ -12,7 +10,6 @@ use Rattle.aig_parts.specs.declared.ternary.Tern.{Tern}
 use Rattle.aig_parts.specs.declared.ternary.Tern.TheVariants.{One, X}
 use Rattle.aig_base.specs.Circuit.{IsCircuit}
 use Rattle.aig_base.specs.Completion.{Completes, IsCompletion}
-use Rattle.aig_base.specs.Order.{IsCanonicalOrder}
 use Rattle.aig_base.specs.Runs.{IsAllowed, ReachesBad}
 use Rattle.aig_base.specs.Sound.{IsReset}
 use Rattle.aig_base.specs.Value.{Value, Fits, reset_value}
@@ -23,43 +20,24 @@ use Rattle.aig_base.proofs.values.OneValue.{exists_value}
 use Rattle.aig_base.proofs.values.Refined.{kept}
 use Rattle.aig_base.proofs.values.UniqueValue.{unique}
 use Rattle.aig_sim.proofs.VerdictLemmas.{bad_defined, constraint_defined}
-use Rattle.aig_cnf.specs.Formula.{Cnf, IsFormulaOf, first_reached, formula_of, gate_clauses, goals}
-use Rattle.aig_sat.specs.checker.Clause.{is_true, Satisfies}
-use Rattle.aig_cnf.specs.Query.{from_any_state, step, uninitialised_latch, within}
-use Rattle.aig_laws.specs.Models.{AreKnown, tern_of}
-use Rattle.aig_laws.specs.UnrolledWitness.{IsRun, MakesBad, start_in}
-use Rattle.aig_laws.proofs.BadFormula.{bad_at, bad_in_range, formula_met, in_model, inputs_are, low_of, valued}
-use Rattle.aig_laws.proofs.Tseitin.{assigned, both_and, gates_met}
-use Rattle.aig_laws.proofs.UnrolledRows.{row_of_run, row_wide}
-use Rattle.aig_laws.proofs.UnrolledWitnesses.{reaches_in_row}
+use Rattle.aig_cnf.specs.Formula.{Cnf, IsFormulaOf}
+use Rattle.aig_cnf.specs.Query.{step, within}
+use Rattle.aig_laws.specs.Satisfiable.{BreaksStep, HasBrokenStep}
+use Rattle.aig_laws.proofs.SettledRows.{row_completes, settled, settled_completes}
+use Rattle.aig_laws.proofs.StepFormula.{step_broken}
 use Rattle.aig_sat.specs.checker.Consequence.{IsUnsatisfiable}
-use Rattle.aig_unroll.specs.FrameLiteral.{input_count}
-use Rattle.aig_unroll.specs.Unrolled.{unrolled}
-use Rattle.aig_unroll.specs.UnrolledValues.{free_values, unrolled_row}
 use Rattle.aig_refute.specs.Unreachable.{IsUnreachable, IsUnreachableWithin}
-use Rattle.aig_refute.proofs.AnyState.{from_any_circuit}
-use Rattle.aig_refute.proofs.FirstReached.{reached_at, satisfies_both}
-use Rattle.aig_refute.proofs.LaterFrames.{cut_row, flat_known, free_known, known_value, later, latch_from, state_at}
-use Rattle.aig_refute.proofs.UnreachableLemmas.{settled, settled_completes, row_completes, unreachable_within}
+use Rattle.aig_refute.proofs.LaterFrames.{all_known, cut_row, known_value, later, rows_known, state_at}
+use Rattle.aig_refute.proofs.UnreachableLemmas.{unreachable_within}
 
 -- ---- the last frames of a run without unknown values
 
-module _ (raw : Raw) (circuit : IsCircuit raw) (order : List ℕ) (canonical : IsCanonicalOrder (from_any_state raw) order)
-    (k p b : ℕ) (at : slice_get raw.bad p ≡ Some b)
+module _ (raw : Raw) (circuit : IsCircuit raw) (k p b : ℕ) (at : slice_get raw.bad p ≡ Some b)
     (start : List Tern) (rows : List (List Tern)) (fits : Fits raw start rows)
     (known_start : (q : ℕ) (w : Tern) → slice_get start q ≡ Some w → w ≢ X)
     (known_rows : (t : ℕ) (row : List Tern) (q : ℕ) (w : Tern) → slice_get rows t ≡ Some row → slice_get row q ≡ Some w → w ≢ X)
     (d : ℕ) (lt : d + k < length rows) (reaches : ReachesBad raw start rows (d + k) b)
     (none : (s : ℕ) → s < k → ReachesBad raw start rows (d + s) b → ⊥) where
-  abbrev free : Raw
-  free = from_any_state raw
-
-  any : IsCircuit free
-  any = from_any_circuit raw circuit
-
-  property : p < length raw.bad
-  property = slice_get_within raw.bad p b at
-
   -- ---- the run of the frames from d on
 
   found : (ws : List Tern) × (length ws ≡ length raw.latches)
@@ -81,7 +59,7 @@ module _ (raw : Raw) (circuit : IsCircuit raw) (order : List ℕ) (canonical : I
   unfolding last
   long = length-take-le (k + 1) (drop d rows) (omega (arith, length-drop d rows, lt))
 
-  back : {s l : ℕ} {w : Tern} → Value free state last s l w → Value raw start rows (d + s) l w
+  back : {s l : ℕ} {w : Tern} → Value raw state last s l w → Value raw start rows (d + s) l w
   unfolding state
   back v = later raw start rows d found.0 last found.2 last_is v
 
@@ -96,22 +74,16 @@ module _ (raw : Raw) (circuit : IsCircuit raw) (order : List ℕ) (canonical : I
   known_last : (t : ℕ) (row : List Tern) (q : ℕ) (w : Tern) → slice_get last t ≡ Some row → slice_get row q ≡ Some w → w ≢ X
   known_last t row q w here cell = known_rows (d + t) row q w (last_is t row here) cell
 
-  run : IsRun free (k + 1) state last
+  last_fits : Fits raw state last
   unfolding state
-  run = record {
-    frames = long;
-    fits = record {
-      latches = found.1 ∙ sym (length-map raw.latches uninitialised_latch);
-      inputs = λ n e below.
-          let r = get_or last n e in
-          let here : slice_get last n ≡ Some r = slice_get-get_or last n e below in
-          let there : slice_get rows (d + n) ≡ Some r = last_is n r here in
-          ap length (sym (get_or_from_slice_get rows (d + n) r e there))
-          ∙ fits.inputs (d + n) e (slice_get_within rows (d + n) r there);
-    };
-    allowed = λ q x w here cell.
-        let (y, there, same) = latch_from raw.latches q x here in
-        inl (ap (λ (z : Latch). z.reset) same ∙ sym (ap (λ (z : Latch). z.lit) same));
+  last_fits = record {
+    latches = found.1;
+    inputs = λ n e below.
+        let r = get_or last n e in
+        let here : slice_get last n ≡ Some r = slice_get-get_or last n e below in
+        let there : slice_get rows (d + n) ≡ Some r = last_is n r here in
+        ap length (sym (get_or_from_slice_get rows (d + n) r e there))
+        ∙ fits.inputs (d + n) e (slice_get_within rows (d + n) r there);
   }
 
   -- ---- what it reaches
@@ -126,7 +98,7 @@ module _ (raw : Raw) (circuit : IsCircuit raw) (order : List ℕ) (canonical : I
       cases (inl h) = inl h
       cases (inr h) = inr (u - d, omega (arith, h))
 
-  reaches_back : (s : ℕ) → s ≤ k → ReachesBad free state last s b → ReachesBad raw start rows (d + s) b
+  reaches_back : (s : ℕ) → s ≤ k → ReachesBad raw state last s b → ReachesBad raw start rows (d + s) b
   reaches_back s le (bad, all) = (back bad, λ u c below has. constraint u c below has (before_or u))
     where
       constraint : (u c : ℕ) → u ≤ d + s → Contains raw.constraints c → (u < d) ⊎ ((e : ℕ) × (u ≡ d + e))
@@ -136,108 +108,33 @@ module _ (raw : Raw) (circuit : IsCircuit raw) (order : List ℕ) (canonical : I
           subst (λ (n : ℕ). Value raw start rows n c One) (sym is) (back (all e c (omega (arith, is, below)) has))
 
   is_one_here : (s l : ℕ) → s ≤ k → ((u : Tern) → Value raw start rows (d + s) l u → u ≡ One)
-      → ((w : Tern) × Value free state last s l w) → Value free state last s l One
-  is_one_here s l le one (w, v) = subst (λ (u : Tern). Value free state last s l u) (one w (back v)) v
+      → ((w : Tern) × Value raw state last s l w) → Value raw state last s l One
+  is_one_here s l le one (w, v) = subst (λ (u : Tern). Value raw state last s l u) (one w (back v)) v
 
-  reaches_here : ReachesBad free state last k b
+  reaches_here : ReachesBad raw state last k b
   reaches_here = (
     is_one_here k b (omega arith) (λ u v. unique raw start rows circuit.sound v reaches.0)
-        (exists_value free state last any.sound any.acyclic run.fits k (omega (arith, long)) b (bad_defined free any.sound p b at)),
+        (exists_value raw state last circuit.sound circuit.acyclic last_fits k (omega (arith, long)) b (bad_defined raw circuit.sound p b at)),
     λ s c le has.
         let (q, here) = position_of raw.constraints c has in
         is_one_here s c le (λ u v. unique raw start rows circuit.sound v (reaches.1 (d + s) c (omega (arith, le)) has))
-        (exists_value free state last any.sound any.acyclic run.fits s (omega (arith, long, le)) c
-        (constraint_defined free any.sound q c here)),
+        (exists_value raw state last circuit.sound circuit.acyclic last_fits s (omega (arith, long, le)) c
+        (constraint_defined raw circuit.sound q c here)),
   )
 
-  -- ---- its row
+  breaks : BreaksStep raw k p state last
+  breaks = record {
+    fits = last_fits;
+    known = record { start_known = all_known state known_state; rows_known = rows_known last known_last };
+    frames = long;
+    bad = b;
+    bad_is = at;
+    reached = reaches_here;
+    none_before = λ t below r. none t below (reaches_back t (omega (arith, below)) r);
+  }
 
-  row : List Tern
-  row = unrolled_row free state last
-
-  wide : length row ≡ input_count free (k + 1)
-  unfolding row
-  wide = row_wide free (k + 1) state last run
-
-  known_row : AreKnown row
-  unfolding row
-  known_row =
-      All-append (λ (w : Tern). w ≢ X) (flat_map (λ (r : List Tern). r) last) (free_values free.latches state)
-      (flat_known last known_last) (free_known free.latches state known_state)
-
-  in_row : (t : ℕ) → t < k + 1 → (MakesBad free order (k + 1) row t p → ReachesBad free state last t b)
-      × (ReachesBad free state last t b → MakesBad free order (k + 1) row t p)
-  unfolding row
-  in_row t below =
-      let holds = row_of_run free (k + 1) state last run in
-      let both = reaches_in_row free any order canonical (k + 1) row wide t p b below at in (
-        λ m. subst (λ (s : List Tern). ReachesBad free s last t b) holds.start_is
-            (subst (λ (rs : List (List Tern)). ReachesBad free (start_in free (k + 1) row) rs t b) holds.rows_are (both.0 m)),
-        λ r. both.1 (subst (λ (rs : List (List Tern)). ReachesBad free (start_in free (k + 1) row) rs t b) (sym holds.rows_are)
-            (subst (λ (s : List Tern). ReachesBad free s last t b) (sym holds.start_is) r)),
-      )
-
-  -- ---- an assignment that satisfies the step
-
-  literal_at : ℕ → ℕ
-  literal_at t = slice_index (unrolled free order (k + 1)).bad (t * length raw.bad + p)
-
-  abbrev Assigns : (ℕ → Bool) → Type 0
-  Assigns a = (l : ℕ) (w : Tern) → Value (unrolled free order (k + 1)) [] (row ∷ []) 0 l w → w ≡ tern_of (is_true a l)
-
-  makes : (t : ℕ) → t < k + 1 → Value (unrolled free order (k + 1)) [] (row ∷ []) 0 (literal_at t) One
-      → MakesBad free order (k + 1) row t p
-  unfolding literal_at
-  makes t below v = (literal_at t, bad_at free any order canonical (k + 1) t p below property, v)
-
-  value_there : (t : ℕ) → t < k → (w : Tern) × Value (unrolled free order (k + 1)) [] (row ∷ []) 0 (literal_at t) w
-  unfolding literal_at
-  value_there t below = valued free any order canonical (k + 1) row wide (literal_at t)
-      (bad_in_range free any order canonical (k + 1) t p (omega (arith, below)) property)
-
-  not_one : (t : ℕ) → t < k → Value (unrolled free order (k + 1)) [] (row ∷ []) 0 (literal_at t) One → ⊥
-  not_one t below v =
-      none t below (reaches_back t (omega (arith, below)) ((in_row t (omega (arith, below))).0 (makes t (omega (arith, below)) v)))
-
-  silent_by : (t : ℕ) → t < k → (w : Tern) → Value (unrolled free order (k + 1)) [] (row ∷ []) 0 (literal_at t) w
-      → (x : Bool) → w ≡ tern_of x → x ≡ false
-  silent_by t below w v false e = refl
-  silent_by t below w v true e =
-      absurd (not_one t below (subst (λ (u : Tern). Value (unrolled free order (k + 1)) [] (row ∷ []) 0 (literal_at t) u) e v))
-
-  silent : (a : ℕ → Bool) → Assigns a → (t : ℕ) → t < k → is_true a (literal_at t) ≡ false
-  silent a is t below =
-      let (w, v) = value_there t below in silent_by t below w v (is_true a (literal_at t)) (is (literal_at t) w v)
-
-  true_of_one : (x : Bool) → One ≡ tern_of x → x ≡ true
-  true_of_one true e = refl
-  true_of_one false e = cc
-
-  loud : (a : ℕ → Bool) → Assigns a → is_true a (literal_at k) ≡ true
-  unfolding literal_at
-  loud a is =
-      let (g, stands, v) = (in_row k (omega arith)).1 reaches_here in
-      let same : g ≡ literal_at k =
-      (let e : Some g ≡ Some (literal_at k) = sym stands ∙ bad_at free any order canonical (k + 1) k p (omega arith) property in cc) in
-      true_of_one (is_true a (literal_at k))
-      (is (literal_at k) One (subst (λ (l : ℕ). Value (unrolled free order (k + 1)) [] (row ∷ []) 0 l One) same v))
-
-  pub step_satisfied : (values : ℕ → Bool) × Satisfies values (formula_of raw order (step k p)).clauses
-  unfolding literal_at
-  step_satisfied =
-      let (a, sat, row_is) = in_model free any order canonical (k + 1) row wide known_row k p (omega arith) property
-      ((in_row k (omega arith)).1 reaches_here) in
-      let (first, goal, gates) = formula_met free order (k + 1) p a sat in
-      let is : Assigns a =
-      (λ l w v. assigned (unrolled free order (k + 1)) row refl a (low_of a first)
-      (λ i m u here cell. inputs_are free any order canonical (k + 1) a i m u here
-      (subst (λ (r : List Tern). slice_get r i ≡ Some u) (sym row_is) cell))
-      (gates_met a (unrolled free order (k + 1)).gates gates) v) in (
-        a,
-        both_and first (satisfies_both a (first_reached (goals (unrolled free order (k + 1)) (length raw.bad) (k + 1) p))
-            (flat_map gate_clauses (unrolled free order (k + 1)).gates)
-            (reached_at a literal_at k (silent a is) (loud a is)) gates),
-      )
+  pub has_broken_step : HasBrokenStep raw k p
+  has_broken_step = (state, last, breaks)
 
 -- ---- any run
 
@@ -306,8 +203,7 @@ module _ (raw : Raw) (circuit : IsCircuit raw) (start : List Tern) (rows : List 
 
 -- ---- induction on the frame
 
-module _ (raw : Raw) (circuit : IsCircuit raw) (order : List ℕ) (canonical : IsCanonicalOrder (from_any_state raw) order) (k p : ℕ)
-    (base : IsUnreachableWithin raw k p) (refuted : IsUnsatisfiable (formula_of raw order (step k p)).clauses) where
+module _ (raw : Raw) (circuit : IsCircuit raw) (k p : ℕ) (base : IsUnreachableWithin raw k p) (unbroken : HasBrokenStep raw k p → ⊥) where
   early_or : (t : ℕ) → (t < k) ⊎ ((d : ℕ) × (t ≡ d + k))
   early_or t = cases (below_or t k)
     where
@@ -331,13 +227,12 @@ module _ (raw : Raw) (circuit : IsCircuit raw) (order : List ℕ) (canonical : I
           let start' = map settled start in
           let rows' = map (map settled) rows in
           let long : length rows' ≡ length rows = length-map rows (map settled) in
-          let (values, satisfies) = step_satisfied raw circuit order canonical k p b at start' rows'
+          unbroken (has_broken_step raw circuit k p b at start' rows'
           (settled_fits raw circuit start rows fits) (known_settled start) (known_settled_rows rows) d
           (omega (arith, long, long_enough, is))
           (subst (λ (m : ℕ). ReachesBad raw start' rows' m b) is (settled_reaches raw circuit start rows fits t b reaches))
           (λ s below r. before start' rows' (d + s) b (omega (arith, below, lt, is)) (settled_fits raw circuit start rows fits)
-          (settled_allowed raw circuit start rows fits allowed) (omega (arith, below, long, long_enough, is)) at r) in
-          refuted values satisfies
+          (settled_allowed raw circuit start rows fits allowed) (omega (arith, below, long, long_enough, is)) at r))
 
   each_frame : (n : ℕ) → Below n
   each_frame zero = λ start rows t b lt fits allowed long_enough at reaches. absurd (omega (arith, lt))
@@ -349,6 +244,11 @@ module _ (raw : Raw) (circuit : IsCircuit raw) (order : List ℕ) (canonical : I
 
 pub by_induction : (raw : Raw) (base later : Cnf) → IsCircuit raw → (k p : ℕ) → IsFormulaOf raw (within k p) base
     → IsFormulaOf raw (step k p) later → IsUnsatisfiable base.clauses → IsUnsatisfiable later.clauses → IsUnreachable raw p
-by_induction raw base later circuit k p base_is (order, canonical, is) base_refuted later_refuted =
-    unreachable raw circuit order canonical k p (unreachable_within raw base circuit k p base_is base_refuted)
-    (subst (λ (f : Cnf). IsUnsatisfiable f.clauses) is later_refuted)
+by_induction raw base later circuit k p base_is later_is base_refuted later_refuted =
+    unreachable raw circuit k p (unreachable_within raw base circuit k p base_is base_refuted)
+    (λ broken.
+    let (values, satisfies) = (step_broken raw later k p circuit later_is (property broken)).1 broken in
+    later_refuted values satisfies)
+  where
+    property : HasBrokenStep raw k p → p < length raw.bad
+    property (begin, rows, h) = slice_get_within raw.bad p h.bad h.bad_is

@@ -1,8 +1,7 @@
--- The frames of a run from some frame on, as a run of the circuit that starts in any state.
-use Rattle.std.proofs.Common.{◌≡◌, ◌≢◌, ℕ, zero, suc, ◌+◌, List, [], ◌∷◌, length, map, take, drop, flat_map}
-use Rattle.std.proofs.Common.{Bool, true, false, Some, slice_get, if◌then◌else◌, refl, sym, ap, subst, arith}
-use Rattle.std.proofs.lemmas.List.Elements.{All-nil, All-cons, All-append}
-use Rattle.std.proofs.lemmas.List.Concat.{flat_map-cons}
+-- The frames of a run from some frame on, as a run from the state at that frame.
+use Rattle.std.proofs.Common.{◌≡◌, ◌≢◌, ℕ, zero, suc, ◌+◌, List, [], ◌∷◌, length, take, drop, All}
+use Rattle.std.proofs.Common.{Some, slice_get, refl, ap, subst, arith}
+use Rattle.std.proofs.lemmas.List.Elements.{All-nil, All-cons}
 use Rattle.aig_parts.specs.declared.latch.Latch.{Latch}
 use Rattle.aig_parts.specs.declared.raw.Raw.{Raw}
 use Rattle.aig_parts.specs.declared.ternary.Tern.{Tern}
@@ -10,18 +9,9 @@ use Rattle.aig_parts.specs.declared.ternary.Tern.TheVariants.{Zero, One, X}
 use Rattle.aig_parts.specs.Ternary.{kleene_and, kleene_not}
 use Rattle.aig_base.specs.Value as value
 use Rattle.aig_base.specs.Value.{Value}
-use Rattle.aig_cnf.specs.Query.{from_any_state, uninitialised_latch}
 use Rattle.aig_laws.specs.Models.{AreKnown}
-use Rattle.aig_unroll.specs.FrameLiteral.{is_uninitialised}
-use Rattle.aig_unroll.specs.UnrolledValues.{free_values}
 
 -- ---- places in lists
-
-pub latch_from : (xs : List Latch) (p : ℕ) (y : Latch) → slice_get (map uninitialised_latch xs) p ≡ Some y
-    → (x : Latch) × (slice_get xs p ≡ Some x) × (y ≡ uninitialised_latch x)
-latch_from [] p y at = cc
-latch_from (x ∷ xs) zero y at = (x, refl, let e : Some (uninitialised_latch x) ≡ Some y = at in let f : y ≡ uninitialised_latch x = cc in f)
-latch_from (x ∷ xs) (suc p) y at = latch_from xs p y at
 
 taken : {A : Type 0} (n s : ℕ) (xs : List A) (x : A) → slice_get (take n xs) s ≡ Some x → slice_get xs s ≡ Some x
 taken zero s xs x at = cc
@@ -47,23 +37,15 @@ module _ (raw : Raw) (start : List Tern) (rows : List (List Tern)) (d : ℕ) (st
     → Value raw start rows d x.lit w)
     (rows_are : (s : ℕ) (row : List Tern) → slice_get later_rows s ≡ Some row → slice_get rows (d + s) ≡ Some row) where
   -- a value at frame s of the later run is one at frame d + s
-  pub later : {s l : ℕ} {w : Tern} → Value (from_any_state raw) state later_rows s l w → Value raw start rows (d + s) l w
+  pub later : {s l : ℕ} {w : Tern} → Value raw state later_rows s l w → Value raw start rows (d + s) l w
   later (value.constant_false s) = value.constant_false (d + s)
   later (value.constant_true s) = value.constant_true (d + s)
   later (value.input s p l w row at is cell) = value.input (d + s) p l w row at (rows_are s row is) cell
-  later (value.latch_first p y w at is) =
-      let (x, here, same) = latch_from raw.latches p y at in
-      let e : d ≡ d + 0 = omega arith in
-      subst (λ (n : ℕ). Value raw start rows n y.lit w) e
-      (subst (λ (z : Latch). Value raw start rows d z.lit w) (sym same) (state_is p x w here is))
-  later (value.latch_next s p y w at v) =
-      let (x, here, same) = latch_from raw.latches p y at in
-      let next : Value raw start rows (d + s) x.next w =
-      subst (λ (z : Latch). Value raw start rows (d + s) z.next w) same (later v) in
+  later (value.latch_first p x w at is) =
+      let e : d ≡ d + 0 = omega arith in subst (λ (n : ℕ). Value raw start rows n x.lit w) e (state_is p x w at is)
+  later (value.latch_next s p x w at v) =
       let e : suc (d + s) ≡ d + suc s = omega arith in
-      subst (λ (n : ℕ). Value raw start rows n y.lit w) e
-      (subst (λ (z : Latch). Value raw start rows (suc (d + s)) z.lit w) (sym same)
-      (value.latch_next (d + s) p x w here next))
+      subst (λ (n : ℕ). Value raw start rows n x.lit w) e (value.latch_next (d + s) p x w at (later v))
   later (value.gate s q g a b at va vb) = value.gate (d + s) q g a b at (later va) (later vb)
   later (value.negated s l w over neg v) = value.negated (d + s) l w over neg (later v)
 
@@ -113,29 +95,17 @@ module _ (raw : Raw) (start : List Tern) (rows : List (List Tern)) (known_start 
   known_value (value.gate t q g a b at va vb) = known_and a b (known_value va) (known_value vb)
   known_value (value.negated t l w over neg v) = known_not w (known_value v)
 
--- ---- the row of a run without unknown values has none
+-- ---- lists without unknown values
 
 pub all_known : (ws : List Tern) → ((p : ℕ) (w : Tern) → slice_get ws p ≡ Some w → w ≢ X) → AreKnown ws
 all_known [] each = All-nil (λ (w : Tern). w ≢ X)
 all_known (w ∷ ws) each =
     All-cons (λ (v : Tern). v ≢ X) w ws (each zero w refl) (all_known ws (λ p v at. each (suc p) v at))
 
-pub flat_known : (rows : List (List Tern))
+pub rows_known : (rows : List (List Tern))
     → ((t : ℕ) (row : List Tern) (p : ℕ) (w : Tern) → slice_get rows t ≡ Some row → slice_get row p ≡ Some w → w ≢ X)
-    → AreKnown (flat_map (λ (r : List Tern). r) rows)
-flat_known [] each = All-nil (λ (w : Tern). w ≢ X)
-flat_known (row ∷ rows) each =
-    subst AreKnown (sym (flat_map-cons (λ (r : List Tern). r) row rows))
-    (All-append (λ (w : Tern). w ≢ X) row (flat_map (λ (r : List Tern). r) rows)
-    (all_known row (λ p w at. each zero row p w refl at)) (flat_known rows (λ t r p w at. each (suc t) r p w at)))
-
-free_more : (b : Bool) (w : Tern) (ws : List Tern) → w ≢ X → AreKnown ws → AreKnown (if b then w ∷ ws else ws)
-free_more true w ws p all = All-cons (λ (v : Tern). v ≢ X) w ws p all
-free_more false w ws p all = all
-
-pub free_known : (xs : List Latch) (start : List Tern) → ((p : ℕ) (w : Tern) → slice_get start p ≡ Some w → w ≢ X)
-    → AreKnown (free_values xs start)
-free_known [] start each = All-nil (λ (w : Tern). w ≢ X)
-free_known (x ∷ xs) [] each = All-nil (λ (w : Tern). w ≢ X)
-free_known (x ∷ xs) (w ∷ start) each =
-    free_more (is_uninitialised x) w (free_values xs start) (each zero w refl) (free_known xs start (λ p v at. each (suc p) v at))
+    → All AreKnown rows
+rows_known [] each = All-nil AreKnown
+rows_known (row ∷ rows) each =
+    All-cons AreKnown row rows (all_known row (λ p w at. each zero row p w refl at))
+    (rows_known rows (λ t r p w at. each (suc t) r p w at))

@@ -1,5 +1,5 @@
 -- A circuit that starts in any state is a circuit.
-use Rattle.std.proofs.Common.{◌≡◌, inr, ℕ, ◌<◌, List, [], ◌∷◌, ◌++◌, map, flat_map, get_or, All, Contains}
+use Rattle.std.proofs.Common.{◌≡◌, inr, ℕ, ◌<◌, List, [], ◌∷◌, ◌++◌, map, flat_map, get_or, All, Contains, Some, slice_get}
 use Rattle.std.proofs.Common.{option_map, refl, sym, ◌∙◌, ap, ap₂, subst}
 use Rattle.std.proofs.lemmas.List.{length-map}
 use Rattle.std.proofs.lemmas.List.Elements.{All-map}
@@ -16,7 +16,9 @@ use Rattle.aig_base.specs.Grounded as grounded
 use Rattle.aig_base.specs.Grounded.{Grounded, IsSource}
 use Rattle.aig_base.specs.Sections.{IsDefined, definitions, uses}
 use Rattle.aig_base.specs.Sound.{IsDefinition, IsInRange, IsReset, IsSound, StandsTwice}
-use Rattle.aig_cnf.specs.Query.{from_any_state, uninitialised_latch}
+use Rattle.aig_cnf.specs.Query.{from_any_state, subject, uninitialised_latch}
+use Rattle.aig_cnf.specs.declared.query.Goal.{Goal}
+use Rattle.aig_cnf.specs.declared.query.Goal.TheVariants as asked
 
 same_literals : (xs : List Latch) → map (λ (x : Latch). x.lit) (map uninitialised_latch xs) ≡ map (λ (x : Latch). x.lit) xs
 same_literals [] = refl
@@ -76,12 +78,14 @@ module _ (raw : Raw) where
     resets = All-map IsReset uninitialised_latch raw.latches (λ k d h. inr (inr refl));
   }
 
+  pub any_latch : (p : ℕ) (x : Latch) → slice_get raw.latches p ≡ Some x
+      → slice_get (map uninitialised_latch raw.latches) p ≡ Some (uninitialised_latch x)
+  any_latch p x at = slice_get-map uninitialised_latch raw.latches p ∙ ap (option_map uninitialised_latch) at
+
   source : (v : ℕ) → IsSource raw v → IsSource (from_any_state raw) v
   source v grounded.constant = grounded.constant
   source v (grounded.input p l at) = grounded.input p l at
-  source v (grounded.latch p x at) =
-      grounded.latch p (uninitialised_latch x)
-      (slice_get-map uninitialised_latch raw.latches p ∙ ap (option_map uninitialised_latch) at)
+  source v (grounded.latch p x at) = grounded.latch p (uninitialised_latch x) (any_latch p x at)
 
   stays_grounded : (v : ℕ) → Grounded raw v → Grounded (from_any_state raw) v
   stays_grounded v (grounded.source _ s) = grounded.source v (source v s)
@@ -93,3 +97,8 @@ module _ (raw : Raw) where
     sound = sound c.sound;
     acyclic = λ v is. stays_grounded v (c.acyclic v is);
   }
+
+-- so the circuit of a query is one
+pub subject_circuit : (goal : Goal) (raw : Raw) → IsCircuit raw → IsCircuit (subject goal raw)
+subject_circuit asked.Within raw c = c
+subject_circuit asked.Step raw c = from_any_circuit raw c

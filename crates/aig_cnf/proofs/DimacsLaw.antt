@@ -1,0 +1,218 @@
+-- The text of a formula with its comment lines, for a reader of DIMACS.
+use Rattle.std.proofs.Common.{◌≡◌, ◌≢◌, inl, inr, ℕ, zero, suc, ◌+◌, ◌*◌, ◌^◌, ◌<◌, Bool, true, false, ◌&&◌, List, [], ◌∷◌, ◌++◌, length, slice_index, All, Some, refl, sym, ap, ◌∙◌, subst, arith, append_assoc}
+use Rattle.std.specs.Prelude.{if◌then◌else◌, ◌==◌, codes}
+use Rattle.std.specs.Fmt.{decimal}
+use Rattle.std.specs.List.{flat_map}
+use Rattle.std.proofs.lemmas.List.Elements.{All-nil, All-cons, All-head, All-tail, All-append, All-weaker}
+use Rattle.aig_parts.specs.Formed.{IsSymbolOf}
+use Rattle.aig_parts.specs.Literal.{negation, variable}
+use Rattle.aig_parts.specs.SymbolPlaces.{Key}
+use Rattle.aig_parts.specs.declared.gate.Gate.{Gate}
+use Rattle.aig_parts.specs.declared.raw.Raw.{Raw}
+use Rattle.aig_parts.specs.declared.symbols.Kind.{Kind}
+use Rattle.aig_base.specs.Circuit.{IsCircuit}
+use Rattle.aig_base.specs.Order.{IsCanonicalOrder}
+use Rattle.aig_base.specs.Sections.{definitions, uses}
+use Rattle.aig_base.specs.Sound.{IsInRange}
+use Rattle.aig_base.proofs.circuits.EachUse.{each_use}
+use Rattle.aig_base.proofs.lists.Joined.{All-right}
+use Rattle.aig_cnf.specs.Answers.{HasFormula}
+use Rattle.aig_cnf.specs.CnfText.{cnf_text, goal_line, goal_lines}
+use Rattle.aig_cnf.specs.Dimacs.{formula_text, literal_text, sign_text}
+use Rattle.aig_cnf.specs.DimacsRead.{read_formula}
+use Rattle.aig_cnf.specs.Formula.{Cnf, IsFormulaOf, first_reached, formula_of, gate_clauses, goal_clauses}
+use Rattle.aig_cnf.specs.Query.{depth, subject}
+use Rattle.aig_cnf.specs.declared.query.Goal.{Goal}
+use Rattle.aig_cnf.specs.declared.query.Goal.TheVariants as asked
+use Rattle.aig_cnf.specs.declared.query.Query.{Query}
+use Rattle.aig_unroll.specs.InputMap.{Origin, input, start, is_input, is_latch, map_field, origin_line, origin_lines, origins, symbol_name_at}
+use Rattle.aig_unroll.specs.Unrolled.{frames, unrolled}
+use Rattle.aig_unroll.proofs.UnrolledCircuit.{unrolled_circuit}
+use Rattle.aig_unroll.proofs.UnrolledReady.{All-frames, IsReadyGate, gates_ready}
+use Rattle.aig_cnf.proofs.AnyCircuit.{subject_circuit}
+use Rattle.aig_cnf.proofs.DimacsLines.{HasNoEnd, decimal_no_end, no_end_by_test, IsLine, line_end, line_more, line_byte, HasLines, lines_none, lines_then, comment_line}
+use Rattle.aig_cnf.proofs.DimacsReading.{AreBelow, reads_after}
+use Rattle.aig_cnf.proofs.FormulaText.{length-formula, length-goal_clauses}
+use Rattle.aig_cnf.proofs.GoalLemmas.{length-goals}
+use Rattle.aig_cnf.proofs.SignLemmas.{signs}
+
+-- ---- comment lines
+
+field_no_end : (n : ℕ) → HasNoEnd (map_field n)
+field_no_end n = All-append (λ b. b ≢ 10) (decimal n) (codes " ") (decimal_no_end n) (no_end_by_test (codes " ") refl)
+
+abbrev HaveNoEnd : List (Key × List ℕ) → Type 0
+HaveNoEnd symbols = All (λ s. HasNoEnd s.1) symbols
+
+name_no_end : (test : Kind → Bool) (symbols : List (Key × List ℕ)) (p : ℕ) → HaveNoEnd symbols
+    → HasNoEnd (symbol_name_at test symbols p)
+unfolding symbol_name_at
+name_no_end test [] p h = All-nil (λ b. b ≢ 10)
+name_no_end test (s ∷ symbols) p h =
+    elim (test s.0.0 && s.0.1 == p) as (λ b. HasNoEnd (if b then s.1 else symbol_name_at test symbols p)) [
+      | true ↦ All-head (λ s. HasNoEnd s.1) s symbols h
+      | false ↦ name_no_end test symbols p (All-tail (λ s. HasNoEnd s.1) s symbols h)
+    ]
+
+module _ (raw : Raw) (named : HaveNoEnd raw.symbols) where
+  name_line : (test : Kind → Bool) (p : ℕ) → IsLine (map_field p ++ (symbol_name_at test raw.symbols p ++ codes "\n"))
+  name_line test p =
+      line_more (map_field p) (symbol_name_at test raw.symbols p ++ codes "\n") (field_no_end p)
+      (line_more (symbol_name_at test raw.symbols p) (codes "\n") (name_no_end test raw.symbols p named) line_end)
+
+  origin_is_line : (n : ℕ) (o : Origin) → IsLine (origin_line raw n o)
+  origin_is_line n (input t p) =
+      line_more (codes "i ") _ (no_end_by_test (codes "i ") refl)
+      (line_more (map_field n) _ (field_no_end n) (line_more (map_field t) _ (field_no_end t) (name_line is_input p)))
+  origin_is_line n (start p) =
+      line_more (codes "l ") _ (no_end_by_test (codes "l ") refl)
+      (line_more (map_field n) _ (field_no_end n) (name_line is_latch p))
+
+  origins_skipped : (n : ℕ) (os : List Origin) → HasLines (origin_lines (codes "c ") raw n os) []
+  unfolding origin_lines
+  origins_skipped n [] = lines_none
+  origins_skipped n (o ∷ os) =
+      lines_then (codes "c " ++ origin_line raw n o) (origin_lines (codes "c ") raw (n + 1) os) [] []
+      (comment_line (32 ∷ origin_line raw n o) (line_byte 32 (origin_line raw n o) (λ e. omega (arith, e)) (origin_is_line n o)))
+      (origins_skipped (n + 1) os)
+
+sign_no_end : (l : ℕ) → HasNoEnd (sign_text l)
+sign_no_end l = elim (signs l) [
+  | inl even ↦ rw even (All-nil (λ b. b ≢ 10))
+  | inr odd ↦ rw odd (no_end_by_test (codes "-") refl)
+]
+
+literal_no_end : (l : ℕ) → HasNoEnd (literal_text l)
+unfolding literal_text
+literal_no_end l = All-append (λ b. b ≢ 10) (sign_text l) (map_field (variable l + 1)) (sign_no_end l) (field_no_end (variable l + 1))
+
+goal_skipped : (l t : ℕ) → HasLines (goal_line l t) []
+goal_skipped l t =
+    comment_line (codes " b " ++ (literal_text l ++ (decimal t ++ codes "\n")))
+    (line_more (codes " b ") (literal_text l ++ (decimal t ++ codes "\n")) (no_end_by_test (codes " b ") refl)
+    (line_more (literal_text l) (decimal t ++ codes "\n") (literal_no_end l)
+    (line_more (decimal t) (codes "\n") (decimal_no_end t) line_end)))
+
+frames_skipped : (f : ℕ → List ℕ) → ((t : ℕ) → HasLines (f t) []) → (k : ℕ) → HasLines (frames f k) []
+frames_skipped f h zero = lines_none
+frames_skipped f h (suc k) = lines_then (frames f k) (f k) [] [] (frames_skipped f h k) (h k)
+
+goals_skipped : (ls : List ℕ) → HasLines (goal_lines ls) []
+goals_skipped ls = frames_skipped (λ t. goal_line (slice_index ls t) t) (λ t. goal_skipped (slice_index ls t) t) (length ls)
+
+-- ---- the variables of the clauses
+
+negation_below : (l v : ℕ) → variable l < v → variable (negation l) < v
+negation_below l v lt = elim (signs l) [ inl even ↦ rw even (omega (arith, even, lt)) | inr odd ↦ rw odd (omega (arith, odd, lt)) ]
+
+index_below : (v : ℕ) (ls : List ℕ) (i : ℕ) → 0 < v → AreBelow v ls → variable (slice_index ls i) < v
+index_below v [] i some h = some
+index_below v (l ∷ ls) zero some h = All-head (λ l. variable l < v) l ls h
+index_below v (l ∷ ls) (suc i) some h = index_below v ls i some (All-tail (λ l. variable l < v) l ls h)
+
+one_below : (v l : ℕ) → variable l < v → AreBelow v (l ∷ [])
+one_below v l lt = All-cons (λ l. variable l < v) l [] lt (All-nil (λ l. variable l < v))
+
+two_below : (v l m : ℕ) → variable l < v → variable m < v → AreBelow v (l ∷ m ∷ [])
+two_below v l m lt mt = All-cons (λ l. variable l < v) l (m ∷ []) lt (one_below v m mt)
+
+gate_below : (v : ℕ) (g : Gate) → variable g.lhs < v → variable g.rhs0 < v → variable g.rhs1 < v
+    → All (AreBelow v) (gate_clauses g)
+gate_below v g l a b =
+    let not_l = negation_below g.lhs v l in
+    let not_a = negation_below g.rhs0 v a in
+    let not_b = negation_below g.rhs1 v b in
+    let second : List ℕ = negation g.lhs ∷ g.rhs1 ∷ [] in
+    let third : List ℕ = g.lhs ∷ negation g.rhs0 ∷ negation g.rhs1 ∷ [] in
+    All-cons (AreBelow v) (negation g.lhs ∷ g.rhs0 ∷ []) (second ∷ third ∷ []) (two_below v (negation g.lhs) g.rhs0 not_l a)
+    (All-cons (AreBelow v) second (third ∷ []) (two_below v (negation g.lhs) g.rhs1 not_l b)
+    (All-cons (AreBelow v) third []
+    (All-cons (λ l. variable l < v) g.lhs (negation g.rhs0 ∷ negation g.rhs1 ∷ []) l
+    (two_below v (negation g.rhs0) (negation g.rhs1) not_a not_b)) (All-nil (AreBelow v))))
+
+gates_below : (m : ℕ) (gates : List Gate) → All (IsReadyGate m) gates → All (AreBelow (m + 1)) (flat_map gate_clauses gates)
+gates_below m [] h = All-nil (AreBelow (m + 1))
+gates_below m (g ∷ gates) h =
+    let is = All-head (IsReadyGate m) g gates h in
+    All-append (AreBelow (m + 1)) (gate_clauses g) (flat_map gate_clauses gates)
+    (gate_below (m + 1) g (omega (arith, is.within)) (omega (arith, is.within, is.first))
+    (omega (arith, is.within, is.first, is.second)))
+    (gates_below m gates (All-tail (IsReadyGate m) g gates h))
+
+first_below : (v : ℕ) (ls : List ℕ) → AreBelow v ls → All (AreBelow v) (first_reached ls)
+first_below v [] h = All-nil (AreBelow v)
+first_below v (l ∷ []) h = All-cons (AreBelow v) (l ∷ []) [] h (All-nil (AreBelow v))
+first_below v (l ∷ m ∷ ls) h =
+    All-cons (AreBelow v) (negation l ∷ []) (first_reached (m ∷ ls))
+    (one_below v (negation l) (negation_below l v (All-head (λ l. variable l < v) l (m ∷ ls) h)))
+    (first_below v (m ∷ ls) (All-tail (λ l. variable l < v) l (m ∷ ls) h))
+
+goal_below : (v : ℕ) (goal : Goal) (ls : List ℕ) → AreBelow v ls → All (AreBelow v) (goal_clauses goal ls)
+goal_below v asked.Within ls h = All-cons (AreBelow v) ls [] h (All-nil (AreBelow v))
+goal_below v asked.Step ls h = first_below v ls h
+
+-- ---- the whole
+
+module _ (raw : Raw) (query : Query) (circuit : IsCircuit raw) (has : HasFormula raw query) (order : List ℕ)
+    (canonical : IsCanonicalOrder (subject query.goal raw) order) where
+  abbrev S : Raw
+  S = subject query.goal raw
+
+  abbrev k : ℕ
+  k = depth query
+
+  abbrev C : Raw
+  C = unrolled S order k
+
+  abbrev F : Cnf
+  F = formula_of raw order query
+
+  unrolled_is : IsCircuit C
+  unrolled_is = unrolled_circuit S (subject_circuit query.goal raw circuit) order canonical k has.limits
+
+  bad_below : AreBelow (C.max_var + 1) C.bad
+  bad_below = All-weaker (IsInRange C) (λ l. variable l < C.max_var + 1) (λ l h. omega arith) C.bad
+      (each_use (IsInRange C) C (All-right (IsInRange C) (definitions C) (uses C) unrolled_is.sound.in_range)).bad
+
+  goals_below : AreBelow (C.max_var + 1) F.goals
+  goals_below = All-frames (λ l. variable l < C.max_var + 1)
+      (λ t. slice_index C.bad (t * length raw.bad + query.property) ∷ []) k
+      (λ t lt. one_below (C.max_var + 1) (slice_index C.bad (t * length raw.bad + query.property))
+      (index_below (C.max_var + 1) C.bad (t * length raw.bad + query.property) (omega arith) bad_below))
+
+  clauses_below : All (AreBelow (C.max_var + 1)) F.clauses
+  clauses_below =
+      All-cons (AreBelow (C.max_var + 1)) (1 ∷ []) (goal_clauses query.goal F.goals ++ flat_map gate_clauses C.gates)
+      (one_below (C.max_var + 1) 1 (omega arith))
+      (All-append (AreBelow (C.max_var + 1)) (goal_clauses query.goal F.goals) (flat_map gate_clauses C.gates)
+      (goal_below (C.max_var + 1) query.goal F.goals goals_below)
+      (gates_below C.max_var C.gates (gates_ready S (subject_circuit query.goal raw circuit) order canonical k)))
+
+  few_clauses : length F.clauses < 2 ^ 64
+  few_clauses =
+      let all = length-formula query.goal F.goals C.gates in
+      let most = length-goal_clauses query.goal F.goals in
+      let each = length-goals C (length raw.bad) k query.property in
+      omega (arith, all, most, each, has.limits.frames, unrolled_is.formed.counts.gates)
+
+  reads_text : read_formula (cnf_text S F)
+      ≡ Some (F.variables, length F.clauses, F.clauses)
+  reads_text =
+      let inputs : List ℕ = origin_lines (codes "c ") S 2 (origins S (length F.goals)) in
+      ap read_formula (sym (append_assoc inputs (goal_lines F.goals) (formula_text F.variables F.clauses)))
+      ∙ reads_after F.variables (omega (arith, unrolled_is.formed.counts.max_var)) (inputs ++ goal_lines F.goals) F.clauses
+      (lines_then inputs (goal_lines F.goals) [] [] (origins_skipped S no_end 2 (origins S (length F.goals)))
+      (goals_skipped F.goals)) few_clauses clauses_below
+    where
+      no_end : HaveNoEnd S.symbols
+      no_end = All-weaker (IsSymbolOf S) (λ s. HasNoEnd s.1) (λ s h. h.1.1) S.symbols
+          (subject_circuit query.goal raw circuit).formed.symbols
+
+pub reads_formula : (raw : Raw) (query : Query) (formula : Cnf) → IsCircuit raw → HasFormula raw query
+    → IsFormulaOf raw query formula
+    → read_formula (cnf_text (subject query.goal raw) formula)
+    ≡ Some (formula.variables, length formula.clauses, formula.clauses)
+reads_formula raw query formula circuit has (order, canonical, is) =
+    subst (λ (f : Cnf). read_formula (cnf_text (subject query.goal raw) f)
+    ≡ Some (f.variables, length f.clauses, f.clauses)) (sym is)
+    (reads_text raw query circuit has order canonical)

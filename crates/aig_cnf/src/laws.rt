@@ -1,0 +1,20 @@
+//! What holds of the texts of all formulas. The law is a function that does nothing: its contract is the law.
+ghost use Rattle.std.specs.Prelude.{◌≡◌, length, Some};
+ghost use Rattle.aig_parts.specs.declared.raw.Raw.{Raw};
+ghost use Rattle.aig_base.specs.Circuit.{IsCircuit};
+ghost use Rattle.aig_cnf.specs.Answers.{HasFormula};
+ghost use Rattle.aig_cnf.specs.CnfText.{cnf_text};
+ghost use Rattle.aig_cnf.specs.DimacsRead.{read_formula};
+ghost use Rattle.aig_cnf.specs.Formula.{Cnf, IsFormulaOf};
+ghost use Rattle.aig_cnf.specs.Query.{subject};
+ghost use Rattle.aig_cnf.specs.declared.query.Query.{Query};
+
+/// A reader of DIMACS finds in the text of a formula, as `Formula::write` writes it, exactly its number of variables, its
+/// number of clauses and its clauses: variable v of DIMACS is variable v - 1 here. The reader goes line by line and word
+/// by word, and knows nothing of the writer.
+pub fn law_of_dimacs()
+    ensures found { (raw : Raw) (query : Query) (formula : Cnf) →
+        IsCircuit raw → HasFormula raw query → IsFormulaOf raw query formula →
+        read_formula (cnf_text (subject query.goal raw) formula)
+        ≡ Some (formula.variables, length formula.clauses, formula.clauses) }
+{}
