@@ -6,5 +6,5 @@ mod model;
 mod proof;
 
 pub use checker::Refutation;
-pub use model::{Assignment, ModelFault, Phase, read_model};
+pub use model::{Assignment, ModelFault, Phase, law_of_model_text, read_model};
 pub use proof::{ProofFault, ProofReader, StepKind};

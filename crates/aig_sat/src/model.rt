@@ -2,9 +2,11 @@
 
 mod assignment;
 mod fault;
+mod law;
 mod number;
 mod reader;
 
 pub use assignment::Assignment;
 pub use fault::ModelFault;
+pub use law::law_of_model_text;
 pub use reader::{Phase, read_model};

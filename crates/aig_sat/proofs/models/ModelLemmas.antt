@@ -2,7 +2,7 @@
 use Rattle.std.specs.Prelude.{Result, Ok, Err, IfErr}
 use Rattle.std.specs.Result.{IsErrAnd}
 use Rattle.std.proofs.Common.{◌≡◌, ◌≢◌, ◌⊎◌, inl, inr, ℕ, zero, suc, ◌+◌, ◌-◌, ◌<◌, ◌≤◌, List, [], ◌∷◌, ◌++◌, length, take, drop, get_or, All, Some, slice_get, refl, sym, ap, ◌∙◌, subst, arith, append_assoc}
-use Rattle.std.proofs.lemmas.List.{take_more, take-append-le, drop-append-le, length-drop, length_push, take-append-drop, take_all}
+use Rattle.std.proofs.lemmas.List.{get_or-append-add, get_or-take, get_or_append_left, length-take-le, take_more, take-append-le, drop-append-le, length-drop, length_push, take-append-drop, take_all}
 use Rattle.std.proofs.lemmas.Option.{get_or_from_slice_get, slice_get-get_or}
 use Rattle.std.proofs.Math.Seq.{take-add}
 use Rattle.aig_parts.specs.Literal.{variable}
@@ -220,6 +220,24 @@ line_begins text at (inr (some, is)) bound = inr (take (at - 1) text, whole)
         ∙ (let e : at ≡ (at - 1) + 1 = omega (arith, some) in ap (λ (n : ℕ). take n text) e)
         ∙ take_more text (at - 1) 0 (omega (arith, some, bound))
         ∙ ap (λ (x : ℕ). take (at - 1) text ++ x ∷ []) (get_or_from_slice_get text (at - 1) 10 0 is)
+
+-- and nowhere else
+pub line_begun : (text : List ℕ) (at : ℕ) → 0 < at → at ≤ length text → BeginsLine (take at (text ++ 10 ∷ []))
+    → get_or text (at - 1) 0 ≡ 10
+line_begun text at some bound begins = elim begins [
+  | inl none ↦ absurd (omega (arith, some, long, ap length none))
+  | inr (front, is) ↦
+      let size : length front + 1 ≡ at = omega (arith, sym (length_push front 10), ap length is, long) in
+      let place : at - 1 ≡ length front + 0 = omega (arith, size) in
+      sym (get_or_append_left text (10 ∷ []) 0 (at - 1) (omega (arith, some, bound)))
+      ∙ sym (get_or-take at (text ++ 10 ∷ []) (at - 1) 0 (omega (arith, some)))
+      ∙ ap (λ (xs : List ℕ). get_or xs (at - 1) 0) is
+      ∙ ap (λ (n : ℕ). get_or (front ++ 10 ∷ []) n 0) place
+      ∙ get_or-append-add front (10 ∷ []) 0 0
+]
+  where
+    long : length (take at (text ++ 10 ∷ [])) ≡ at
+    long = ap length (take-append-le at text (10 ∷ []) bound) ∙ length-take-le at text bound
 
 -- the byte at a place, where the LF counts that ends the last line
 pub byte_there : (text : List ℕ) (at : ℕ) → at ≤ length text

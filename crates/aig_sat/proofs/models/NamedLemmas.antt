@@ -1,8 +1,12 @@
 -- Literals that are named one after the other.
-use Rattle.std.proofs.Common.{◌≡◌, ◌≢◌, ◌⊎◌, inl, inr, ℕ, ◌+◌, ◌*◌, ◌/◌, ◌%◌, ◌<◌, List, [], ◌∷◌, ◌++◌, length, replicate, set, get_or, Contains, refl, sym, ap, ◌∙◌, subst, arith}
-use Rattle.std.proofs.lemmas.Bool.{cases_eq}
-use Rattle.std.proofs.lemmas.List.{get_or-replicate, get_or-set_same, get_or-set_other, length-replicate, length-set}
+use Rattle.std.proofs.Common.{◌≡◌, ◌≢◌, ◌⊎◌, inl, inr, ℕ, ◌+◌, ◌-◌, ◌*◌, ◌/◌, ◌%◌, ◌<◌, nat_eq, if◌then◌else◌, Bool, false, not, List, [], ◌∷◌, ◌++◌, length, replicate, set, get_or, Contains, refl, sym, ap, ◌∙◌, subst, arith}
+use denote.Enum.Bare.{sameb}
+use Rattle.std.proofs.lemmas.Bool.{cases_eq, false≢true}
+use Rattle.std.proofs.lemmas.Bool.Decides.{eqb_tells}
+use Rattle.std.proofs.lemmas.List.{ext_get_or, get_or-replicate, get_or-set_same, get_or-set_other, length-replicate, length-set}
 use Rattle.std.proofs.lemmas.List.Elements.{Contains-append_left, Contains-push, Contains-push_cases}
+use Rattle.aig_parts.specs.Literal.{negation}
+use Rattle.aig_parts.specs.contracts.ternary.Tern.{the_type}
 use Rattle.aig_parts.specs.declared.ternary.Tern.{Tern}
 use Rattle.aig_parts.specs.declared.ternary.Tern.TheVariants.{Zero, One, X}
 use Rattle.aig_sat.specs.model.Named.{NamesValue, AreNamed}
@@ -98,7 +102,77 @@ module _ (literals : List ℕ) (l : ℕ) (values : List Tern) (h : AreNamed lite
 pub even : (l : ℕ) → (l % 2 ≡ 1 → ⊥) → l % 2 ≡ 0
 even l h = omega arith
 
+-- the other literal of a variable, by the sign
+signed : (l : ℕ) (t : Bool) → nat_eq (l % 2) 0 ≡ t → negation l ≡ (if t then l + 1 else l - 1)
+signed l t e = ap (λ (t : Bool). if t then l + 1 else l - 1) e
+
+-- no variable is named with both signs
+pub both_signs : (literals : List ℕ) (n : ℕ) (values : List Tern) (l : ℕ) → AreNamed literals n values → l / 2 < n
+    → Contains literals l → Contains literals (negation l) → ⊥
+both_signs literals n values l h lt has has' = elim (eqb_tells (l % 2) 0) [
+  | inl is ↦
+      never _ (h.each (l / 2) lt) (subst (Contains literals) (omega (arith, is.1)) has)
+      (subst (Contains literals) (signed l _ is.0 ∙ omega (arith, is.1)) has')
+  | inr is ↦
+      never _ (h.each (l / 2) lt)
+      (subst (Contains literals) (signed l _ is.0 ∙ omega (arith, is.1)) has')
+      (subst (Contains literals) (omega (arith, is.1)) has)
+]
+  where
+    never : (w : Tern) → NamesValue literals (l / 2) w → Contains literals (2 * (l / 2)) → Contains literals (2 * (l / 2) + 1) → ⊥
+    never Zero h a b = h.1 a
+    never One h a b = h.1 b
+    never X h a b = h.0 a
+
+-- literals name one value for each variable
+one_value : (literals : List ℕ) (v : ℕ) (w u : Tern) → NamesValue literals v w → NamesValue literals v u → w ≡ u
+one_value literals v Zero Zero h k = refl
+one_value literals v Zero One h k = absurd (h.1 k.0)
+one_value literals v Zero X h k = absurd (k.1 h.0)
+one_value literals v One Zero h k = absurd (h.1 k.0)
+one_value literals v One One h k = refl
+one_value literals v One X h k = absurd (k.0 h.0)
+one_value literals v X Zero h k = absurd (h.1 k.0)
+one_value literals v X One h k = absurd (h.0 k.0)
+one_value literals v X X h k = refl
+
+pub one_naming : (literals : List ℕ) (n : ℕ) (values values' : List Tern) → AreNamed literals n values
+    → AreNamed literals n values' → values ≡ values'
+one_naming literals n values values' h k =
+    ext_get_or X values values' (h.count ∙ sym k.count) (λ v lt.
+    let below : v < n = omega (arith, lt, h.count) in
+    one_value literals v (get_or values v X) (get_or values' v X) (h.each v below) (k.each v below))
+
+-- a variable that is 1, or 0
+pub one_has : (literals : List ℕ) (n : ℕ) (values : List Tern) (l : ℕ) → AreNamed literals n values → l / 2 < n
+    → get_or values (l / 2) X ≡ One → l % 2 ≡ 1 → Contains literals (negation l)
+one_has literals n values l h lt value odd = elim (eqb_tells (l % 2) 0) [
+  | inl is ↦ absurd (omega (arith, is.1, odd))
+  | inr is ↦
+      subst (Contains literals) (omega (arith, odd) ∙ sym (signed l _ is.0))
+      (subst (NamesValue literals (l / 2)) value (h.each (l / 2) lt)).0
+]
+
+pub zero_has : (literals : List ℕ) (n : ℕ) (values : List Tern) (l : ℕ) → AreNamed literals n values → l / 2 < n
+    → get_or values (l / 2) X ≡ Zero → l % 2 ≡ 0 → Contains literals (negation l)
+zero_has literals n values l h lt value is_even = elim (eqb_tells (l % 2) 0) [
+  | inl is ↦
+      subst (Contains literals) (omega (arith, is_even) ∙ sym (signed l _ is.0))
+      (subst (NamesValue literals (l / 2)) value (h.each (l / 2) lt)).0
+  | inr is ↦ absurd (is.1 is_even)
+]
+
 -- ---- what is not the other value
+
+pub is_one : (w : Tern) → not (sameb the_type w One) ≡ false → w ≡ One
+is_one Zero e = absurd (false≢true (sym e))
+is_one One e = refl
+is_one X e = absurd (false≢true (sym e))
+
+pub is_zero : (w : Tern) → not (sameb the_type w Zero) ≡ false → w ≡ Zero
+is_zero Zero e = refl
+is_zero One e = absurd (false≢true (sym e))
+is_zero X e = absurd (false≢true (sym e))
 
 pub x_or_one : (w : Tern) → w ≢ Zero → (w ≡ X) ⊎ (w ≡ One)
 x_or_one Zero ne = absurd (ne refl)

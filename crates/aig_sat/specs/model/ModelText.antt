@@ -2,6 +2,8 @@
 -- choice.
 use Rattle.std.specs.Prelude.{◌≡◌, ◌≢◌, ◌⊎◌, ℕ, ◌+◌, ◌%◌, ◌<◌, nat_eq, if◌then◌else◌, List, [], ◌∷◌, ◌++◌, All, codes, decimal}
 use Rattle.aig_parts.specs.Literal.{variable}
+use Rattle.aig_parts.specs.declared.ternary.Tern.{Tern}
+use Rattle.aig_sat.specs.model.Named.{AreNamed}
 use Rattle.aig_sat.specs.declared.model.reader.Phase.{Phase}
 use Rattle.aig_sat.specs.declared.model.reader.Phase.TheVariants.{Before, Within, After}
 
@@ -51,6 +53,10 @@ pub data Names (variables : ℕ) : List ℕ → Phase → List ℕ → Type 0 wh
 -- the text is a model that names these literals; the LF of its last line may be missing
 abbrev pub SpellsModel : ℕ → List ℕ → List ℕ → Type 0
 SpellsModel variables text literals = Names variables (text ++ 10 ∷ []) After literals
+
+-- the text is a model that gives so many variables these values
+abbrev pub IsModelOf : ℕ → List ℕ → List Tern → Type 0
+IsModelOf variables text values = (literals : List ℕ) × SpellsModel variables text literals × AreNamed literals variables values
 
 -- the line stands in the text where the one stands that says that there is a model
 pub record HasStatus (IsLine : List ℕ → Type 0) (variables : ℕ) (text : List ℕ) : Type 0 where

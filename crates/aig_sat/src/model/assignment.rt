@@ -1,6 +1,6 @@
 //! Values of variables.
-ghost use Rattle.std.specs.Prelude.{◌≡◌, ◌<◌, ℕ, List, [], ◌∷◌, ◌++◌, length, IfOk, IsTrue};
-ghost use Rattle.aig_parts.specs.Literal.{variable};
+ghost use Rattle.std.specs.Prelude.{◌≡◌, ◌<◌, ℕ, List, [], ◌∷◌, ◌++◌, length, Contains, IfOk, IsTrue, false};
+ghost use Rattle.aig_parts.specs.Literal.{negation, variable};
 ghost use Rattle.aig_sat.specs.model.Named.{AreNamed};
 
 use aig_bytes::Memory;
@@ -44,6 +44,8 @@ impl Assignment {
         requires { variable literal < length self.old }
         ensures named { IsTrue result → (literals : List ℕ) → AreNamed literals (length self.old) self.old →
             AreNamed (literals ++ literal ∷ []) (length self.old) self.new }
+        ensures refused { result ≡ false → (literals : List ℕ) → AreNamed literals (length self.old) self.old →
+            Contains literals (negation literal) }
         ensures length { length self.new ≡ length self.old }
     {
         let place = literal.var() as usize;

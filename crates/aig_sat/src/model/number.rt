@@ -1,5 +1,5 @@
 //! The numbers of a model.
-ghost use Rattle.std.specs.Prelude.{◌≡◌, ◌+◌, ◌<◌, ◌≤◌, ◌++◌, IfSome};
+ghost use Rattle.std.specs.Prelude.{◌≡◌, ◌+◌, ◌<◌, ◌≤◌, ℕ, ◌++◌, IfSome, None};
 ghost use Rattle.std.specs.Fmt.{decimal};
 ghost use Rattle.aig_parts.specs.Literal.{variable};
 ghost use Rattle.aig_sat.specs.model.ModelText.{number_text};
@@ -11,6 +11,7 @@ fn longer_number(first: u32, digits: &[u8], most: u32) -> Option<u32>
     requires some { 0 < first }
     requires most { first ≤ most }
     ensures spelled { IfSome result (λ n. decimal first ++ digits.now ≡ decimal n) }
+    ensures none { result ≡ None → (n : ℕ) → n ≤ most → decimal first ++ digits.now ≡ decimal n → ⊥ }
     ensures some { IfSome result (λ n. 0 < n) }
     ensures most { IfSome result (λ n. n ≤ most) }
 {
@@ -31,6 +32,7 @@ fn longer_number(first: u32, digits: &[u8], most: u32) -> Option<u32>
 // The number that the bytes are: decimal digits, the first of which is not 0. It is at most `most`.
 fn positive_number(bytes: &[u8], most: u32) -> Option<u32>
     ensures spelled { IfSome result (λ n. bytes.now ≡ decimal n) }
+    ensures none { result ≡ None → (n : ℕ) → 0 < n → n ≤ most → bytes.now ≡ decimal n → ⊥ }
     ensures some { IfSome result (λ n. 0 < n) }
     ensures most { IfSome result (λ n. n ≤ most) }
 {
@@ -49,6 +51,7 @@ fn positive_number(bytes: &[u8], most: u32) -> Option<u32>
 pub fn parse_literal(word: &[u8], variables: u32) -> Option<Lit>
     requires { variables ≤ 2147483648 }
     ensures spelled { IfSome result (λ l. word.now ≡ number_text l) }
+    ensures none { result ≡ None → (l : ℕ) → variable l < variables → word.now ≡ number_text l → ⊥ }
     ensures variable { IfSome result (λ l. variable l < variables) }
 {
     match word {

@@ -1,9 +1,11 @@
 //! Reading models.
 ghost use Rattle.std.specs.Prelude.{◌≡◌, ◌≢◌, ◌↔◌, ◌+◌, ◌-◌, ◌<◌, ◌≤◌, ℕ, List, [], ◌∷◌, ◌++◌, length, take, drop, All};
-ghost use Rattle.std.specs.Prelude.{Some, Err, IfErr, IfOk, IfSome, IsTrue, OnOk, slice_get};
-ghost use Rattle.aig_sat.specs.model.ModelText.{BeginsLine, HasStatus, IsSpace, IsUnknown, IsUnsatisfiable, SpellsModel};
+ghost use Rattle.std.specs.Prelude.{Contains, None, Some, Err, IfErr, IfOk, IfSome, IsTrue, OnOk, false, slice_get};
+ghost use Rattle.aig_parts.specs.Literal.{negation, variable};
+ghost use Rattle.aig_parts.specs.declared.ternary.Tern.{Tern};
+ghost use Rattle.aig_sat.specs.model.ModelText.{BeginsLine, HasStatus, IsModelOf, IsSatisfiable, IsSpace, IsUnknown, IsUnsatisfiable, number_text};
 ghost use Rattle.aig_sat.specs.model.Named.{AreNamed};
-ghost use Rattle.aig_sat.specs.model.state.Reading.{GoesOn, GoesOnLine, HasRead, ReadUpTo, Says};
+ghost use Rattle.aig_sat.specs.model.state.Reading.{BeginsLineAt, GoesOn, GoesOnLine, HasRead, IsAnswerByte, ReadUpTo, Says};
 
 use crate::model::assignment::Assignment;
 use crate::model::fault::ModelFault;
@@ -54,7 +56,7 @@ fn byte_at(text: &[u8], at: usize) -> u8
 // Whether a line begins at a place.
 fn begins_line(text: &[u8], at: usize) -> bool
     requires { at ≤ length text.now }
-    ensures { IsTrue result → BeginsLine (take at (text.now ++ 10 ∷ [])) }
+    ensures { IsTrue result ↔ BeginsLine (take at (text.now ++ 10 ∷ [])) }
 {
     at == 0 || text[at - 1] == b'\n'
 }
@@ -80,6 +82,7 @@ fn word_end(text: &[u8], at: usize) -> usize
     ensures after { at ≤ result }
     ensures bound { result ≤ length text.now }
     ensures ended { (b : ℕ) → slice_get (text.now ++ 10 ∷ []) result ≡ Some b → IsSpace b }
+    ensures no_space { All (λ b. IsSpace b → ⊥) (take (result - at) (drop at text.now)) }
 {
     let mut end = at;
     while end < text.len() && !is_space(text[end]) {
@@ -90,7 +93,8 @@ fn word_end(text: &[u8], at: usize) -> usize
 
 // What a solver's line says.
 fn answer_of(line: &[u8]) -> Option<Answer>
-    ensures { IfSome result (Says line.now) }
+    ensures says { IfSome result (Says line.now) }
+    ensures none { result ≡ None → IsSatisfiable line.now → ⊥ }
 {
     if line == b"s SATISFIABLE".as_slice()
         || line == b"SATISFIABLE".as_slice()
@@ -111,20 +115,29 @@ fn answer_of(line: &[u8]) -> Option<Answer>
 }
 
 // Whether a line that begins so may be a solver's answer.
-fn may_answer(first: u8) -> bool {
-    matches!(first, b's' | b'S' | b'U' | b'I')
+fn may_answer(first: u8) -> bool
+    ensures { IsTrue result ↔ IsAnswerByte first }
+{
+    first == b's' || first == b'S' || first == b'U' || first == b'I'
 }
 
-// Whether a word is the one that may begin a line of literals.
-fn is_mark(word: &[u8]) -> bool
-    ensures { IsTrue result → word.now ≡ 118 ∷ [] }
+// Whether a line begins, and is a comment.
+fn is_comment(begins_line: bool, first: u8) -> bool
+    ensures { IsTrue result ↔ IsTrue begins_line × (first ≡ 99) }
 {
-    word == b"v".as_slice()
+    begins_line && first == b'c'
+}
+
+// Whether a line begins, and the word is the one that may stand there before literals.
+fn is_mark(begins_line: bool, word: &[u8]) -> bool
+    ensures { IsTrue result ↔ IsTrue begins_line × (word.now ≡ 118 ∷ []) }
+{
+    begins_line && word == b"v".as_slice()
 }
 
 // Whether a word ends the literals.
 fn is_end(word: &[u8]) -> bool
-    ensures { IsTrue result → word.now ≡ 48 ∷ [] }
+    ensures { IsTrue result ↔ word.now ≡ 48 ∷ [] }
 {
     word == b"0".as_slice()
 }
@@ -148,6 +161,7 @@ impl Reader {
         ensures goes_on { OnOk result (GoesOnLine self.old self.new line.now 10) }
         ensures unsatisfiable { result ≡ Err ModelFault.Unsatisfiable → IsUnsatisfiable line.now }
         ensures unknown { result ≡ Err ModelFault.Unknown → IsUnknown line.now }
+        ensures refused { (a : ℕ) → result ≡ Err (ModelFault.Text a) → IsSatisfiable line.now → ⊥ }
         ensures count { length self.new.values ≡ length self.old.values }
     {
         match answer_of(line) {
@@ -167,6 +181,8 @@ impl Reader {
         requires count { length self.old.values ≡ variables }
         requires phase { self.old.phase ≢ Phase.After }
         ensures goes_on { IsTrue result → (b : ℕ) → IsSpace b → GoesOn self.old self.new word.now b }
+        ensures refused { result ≡ false → (l : ℕ) → variable l < variables → word.now ≡ number_text l →
+            (literals : List ℕ) → AreNamed literals variables self.old.values → Contains literals (negation l) }
         ensures count { length self.new.values ≡ length self.old.values }
     {
         self.phase = Phase::Within;
@@ -183,12 +199,17 @@ impl Reader {
         ensures goes_on { IsTrue result → (b : ℕ) → IsSpace b → (text literals : List ℕ) →
             (IsTrue begins_line → BeginsLine text) → HasRead self.old text literals →
             (more : List ℕ) × HasRead self.new (text ++ (word.now ++ b ∷ [])) more }
+        ensures no_mark { result ≡ false → self.old.phase ≢ Phase.After → IsTrue begins_line → word.now ≢ 118 ∷ [] }
+        ensures no_end { result ≡ false → self.old.phase ≢ Phase.After → word.now ≢ 48 ∷ [] }
+        ensures no_literal { result ≡ false → self.old.phase ≢ Phase.After → (l : ℕ) → variable l < variables →
+            word.now ≡ number_text l → (literals : List ℕ) → AreNamed literals variables self.old.values →
+            Contains literals (negation l) }
         ensures count { length self.new.values ≡ length self.old.values }
     {
         if self.phase == Phase::After {
             return false;
         }
-        if begins_line && is_mark(word) {
+        if is_mark(begins_line, word) {
             return true;
         }
         if is_end(word) {
@@ -198,9 +219,18 @@ impl Reader {
         self.take_literal(word, variables)
     }
 
+    // Whether a line begins by which a solver may answer.
+    fn may_answer(&self, begins_line: bool, first: u8) -> bool
+        ensures { IsTrue result ↔ IsTrue begins_line × ((self.now.phase ≡ Phase.Before) × IsAnswerByte first) }
+    {
+        begins_line && self.phase == Phase::Before && may_answer(first)
+    }
+
     // Reads the line at a place by which a solver answers, and gives the place after it.
     fn take_line(&mut self, text: &[u8], at: usize) -> Result<usize, ModelFault>
+        requires variables { length self.old.values ≤ 2147483648 }
         requires at { at ≤ length text.now }
+        requires first { (x : ℕ) → slice_get (text.now ++ 10 ∷ []) at ≡ Some x → IsAnswerByte x }
         requires begins { BeginsLine (take at (text.now ++ 10 ∷ [])) }
         requires before { self.old.phase ≡ Phase.Before }
         ensures goes_on { IfOk result (λ next. ReadUpTo self.old text.now at → ReadUpTo self.new text.now next) }
@@ -210,6 +240,8 @@ impl Reader {
             HasStatus IsUnsatisfiable (length self.old.values) text.now }
         ensures unknown { result ≡ Err ModelFault.Unknown → ReadUpTo self.old text.now at →
             HasStatus IsUnknown (length self.old.values) text.now }
+        ensures refused { (a : ℕ) → result ≡ Err (ModelFault.Text a) → ReadUpTo self.old text.now at →
+            (values : List Tern) → IsModelOf (length self.old.values) text.now values → ⊥ }
     {
         let end = line_end(text, at);
         self.take_answer(&text[at..end], at as u64)?;
@@ -221,10 +253,12 @@ impl Reader {
         requires variables { variables ≤ 2147483648 }
         requires count { length self.old.values ≡ variables }
         requires at { at ≤ length text.now }
-        requires begins { IsTrue begins → BeginsLine (take at (text.now ++ 10 ∷ [])) }
+        requires begins { IsTrue begins ↔ BeginsLine (take at (text.now ++ 10 ∷ [])) }
         ensures goes_on { IfSome result (λ next. ReadUpTo self.old text.now at → ReadUpTo self.new text.now next) }
         ensures after { IfSome result (λ next. at < next) }
         ensures count { length self.new.values ≡ length self.old.values }
+        ensures refused { result ≡ None → ReadUpTo self.old text.now at → (values : List Tern) →
+            IsModelOf variables text.now values → BeginsLineAt self.old text.now at }
     {
         let end = word_end(text, at);
         if end == at {
@@ -249,13 +283,15 @@ impl Reader {
             HasStatus IsUnsatisfiable (length self.old.values) text.now }
         ensures unknown { result ≡ Err ModelFault.Unknown → ReadUpTo self.old text.now at →
             HasStatus IsUnknown (length self.old.values) text.now }
+        ensures refused { (a : ℕ) → result ≡ Err (ModelFault.Text a) → ReadUpTo self.old text.now at →
+            (values : List Tern) → IsModelOf variables text.now values → ⊥ }
     {
         let first = byte_at(text, at);
         let begins = begins_line(text, at);
-        if begins && first == b'c' {
+        if is_comment(begins, first) {
             return Ok(line_end(text, at + 1) + 1);
         }
-        if begins && self.phase == Phase::Before && may_answer(first) {
+        if self.may_answer(begins, first) {
             return self.take_line(text, at);
         }
         match self.take_piece(text, at, variables, begins) {
@@ -270,8 +306,9 @@ impl Reader {
 /// A line that says that there is a model may stand before the literals. It takes a byte a variable.
 pub fn read_model(alloc: Global, text: &[u8], variables: u32) -> Result<Assignment, ModelFault>
     requires { variables ≤ 2147483648 }
-    ensures named { IfOk result (λ values. (literals : List ℕ) × SpellsModel variables text.now literals
-        × AreNamed literals variables values) }
+    ensures named { IfOk result (IsModelOf variables text.now) }
+    ensures refused { (at : ℕ) → result ≡ Err (ModelFault.Text at) → (values : List Tern) →
+        IsModelOf variables text.now values → ⊥ }
     ensures unsatisfiable { result ≡ Err ModelFault.Unsatisfiable → HasStatus IsUnsatisfiable variables text.now }
     ensures unknown { result ≡ Err ModelFault.Unknown → HasStatus IsUnknown variables text.now }
 {

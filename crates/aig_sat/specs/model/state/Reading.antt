@@ -1,7 +1,8 @@
 -- How far a model was read.
-use Rattle.std.specs.Prelude.{ℕ, ◌+◌, ◌≤◌, List, [], ◌∷◌, ◌++◌, length, take}
+use Rattle.std.specs.Prelude.{◌≡◌, ◌⊎◌, ℕ, ◌+◌, ◌≤◌, List, [], ◌∷◌, ◌++◌, length, take, Some, slice_get}
 use Rattle.aig_sat.specs.model.ModelText.{BeginsLine, IsSatisfiable, IsUnknown, IsUnsatisfiable, Names}
 use Rattle.aig_sat.specs.model.Named.{AreNamed}
+use Rattle.aig_sat.specs.declared.model.reader.Phase.TheVariants.{Before}
 use Rattle.aig_sat.specs.declared.model.reader.Answer.{Answer}
 use Rattle.aig_sat.specs.declared.model.reader.Answer.TheVariants.{Satisfiable, Unsatisfiable, Unknown}
 use Rattle.aig_sat.specs.declared.model.reader.Reader.{Reader}
@@ -32,3 +33,14 @@ GoesOnLine old new piece b =
 -- the text was read up to a place, where the LF counts that ends its last line
 abbrev pub ReadUpTo : Reader → List ℕ → ℕ → Type 0
 ReadUpTo reader text at = (at ≤ length text + 1) × ((literals : List ℕ) × HasRead reader (take at (text ++ 10 ∷ [])) literals)
+
+-- a byte by which such a line begins
+abbrev pub IsAnswerByte : ℕ → Type 0
+IsAnswerByte x = (x ≡ 115) ⊎ ((x ≡ 83) ⊎ ((x ≡ 85) ⊎ (x ≡ 73)))
+
+-- at the place begins a comment, or before all literals a line by which a solver answers
+pub record BeginsLineAt (reader : Reader) (text : List ℕ) (at : ℕ) : Type 0 where
+  pub begins : BeginsLine (take at (text ++ 10 ∷ []))
+  pub first : ℕ
+  pub there : slice_get (text ++ 10 ∷ []) at ≡ Some first
+  pub is : (first ≡ 99) ⊎ ((reader.phase ≡ Before) × IsAnswerByte first)

@@ -14,8 +14,8 @@ returns-then-is_mark-clause-goes_on c is_one b space text literals begins h =
     false≢true (sym c.if-eq.false ∙ c.eq.ensures ∙ ap (λ (p : Phase). sameb the_type p After) e) in (
       literals,
       subst (λ (xs : List ℕ). HasRead c.args.self.now (text ++ (xs ++ b ∷ [])) literals)
-          (sym (c.is_mark.ensures c.if-is_mark.true))
-          (mark_read c.args.self.now b space text literals h (begins c.if-begins_line.true) within),
+          (sym (c.is_mark.ensures.0 c.if-is_mark.true).1)
+          (mark_read c.args.self.now b space text literals h (begins (c.is_mark.ensures.0 c.if-is_mark.true).0) within),
     )
 
 pub returns-then-is_end-clause-goes_on : goal.returns-then-is_end-clause-goes_on
@@ -25,7 +25,7 @@ returns-then-is_end-clause-goes_on c is_one b space text literals begins h =
       literals,
       subst (λ (xs : List ℕ). HasRead (record { values = c.args.self.now.values; phase = After })
           (text ++ (xs ++ b ∷ [])) literals)
-          (sym (c.is_end.ensures c.if-is_end.true))
+          (sym (c.is_end.ensures.0 c.if-is_end.true))
           (end_read c.args.self.now b space text literals h _ within refl refl),
     )
 
