@@ -273,13 +273,13 @@ impl Circuit {
 
     /// The circuit of parts that a binary file can hold, or their first fault, as `check` reports it. The caller knows
     /// that they are formed, and that their definitions are in order, each gate after all that it reads. So the gates
-    /// are not looked at, and it takes no memory.
+    /// are not looked at, and it takes no memory: `Memory` is never its fault.
     pub fn check_ready(raw: Raw) -> Result<Circuit, Fault>
         requires formed { IsFormed raw }
         requires ready { IsBinaryReady raw }
         ensures parts { IfOk result (λ circuit. circuit ≡ raw) }
         ensures circuit { IfOk result IsCircuit }
-        ensures fault { IfErr result (λ fault. fault ≢ Fault.Memory → IsFirstFault raw fault) }
+        ensures fault { IfErr result (IsFirstFault raw) }
     {
         test_ascending(&raw)?;
         Ok(Circuit {

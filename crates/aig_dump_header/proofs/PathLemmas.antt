@@ -1,13 +1,13 @@
 -- Paths of names, and the lines of scopes.
 use Rattle.std.proofs.Common.{◌≡◌, ◌≢◌, ℕ, zero, suc, ◌+◌, ◌-◌, ◌<◌, ◌≤◌, true, false, List, [], ◌∷◌, ◌++◌, length, get_or, take, drop, map, All, inl, inr, refl, sym, ap, ◌∙◌, arith, take-append-drop, length-take, length-drop, append_assoc, get_or-take, get_or-drop, add-one}
-use Rattle.std.specs.Prelude.{◌==◌, codes}
+use Rattle.std.specs.Prelude.{Bool, ◌==◌, ◌||◌, codes}
 use Rattle.std.specs.Str.{bytes_eq}
-use Rattle.std.specs.List.{list_any, flat_map}
+use Rattle.std.specs.List.{flat_map}
 use Rattle.std.proofs.lemmas.Bool.{ne_eqb, cases_lt}
 use Rattle.std.proofs.lemmas.List.{drop_more, drop_all, drop-drop, get_or-map, length-map, map-append, get_or_default, take-map, drop-map, take_all}
 use Rattle.std.proofs.lemmas.List.Splits.{slice_split_at, slice_split_none, length-slice_split}
 use Rattle.aig_dump_header.specs.Names.{cut_at}
-use Rattle.aig_dump_header.specs.Paths.{path_of, scopes_of, leaf_of}
+use Rattle.aig_dump_header.specs.Paths.{has_empty, path_of, scopes_of, leaf_of}
 use Rattle.aig_dump_header.specs.Header.{closings, shared, scope_line, moves}
 
 no_dot : (piece : List ℕ) → ((k : ℕ) → k < length piece → get_or piece k 0 ≢ 46) → All (λ b. (b == 46) ≡ false) piece
@@ -37,12 +37,40 @@ piece_last name start none =
     (no_dot (drop start name) (λ k l e. none (start + k) (omega arith) (omega (arith, length-drop start name))
     (sym (get_or-drop start name k 0) ∙ e)))
 
+-- a piece that has bytes leaves the question to the others
+filled : (piece : List ℕ) (more : List (List ℕ)) → 0 < length piece → has_empty (piece ∷ more) ≡ has_empty more
+filled piece more lt = ap (λ (b : Bool). b || has_empty more) (ne_eqb (length piece) 0 (λ e. omega (arith, e, lt)))
+
+or_none : (b : Bool) → (b || false) ≡ b
+or_none true = refl
+or_none false = refl
+
+-- a dot right after the start of a piece, later, and none any more
+pub empty_piece : (name : List ℕ) (place : ℕ) → place < length name → get_or name place 0 ≡ 46
+    → has_empty (cut_at 46 (drop place name)) ≡ true
+empty_piece name place lt dot =
+    let none : place - place ≡ 0 = omega arith in
+    ap has_empty (piece_cut name place place (omega arith) lt (λ k le l. absurd (omega (arith, le, l))) dot
+    ∙ ap (λ (n : ℕ). take n (drop place name) ∷ cut_at 46 (drop (place + 1) name)) none)
+
+pub filled_piece : (name : List ℕ) (start place : ℕ) → start < place → place < length name
+    → ((k : ℕ) → start ≤ k → k < place → get_or name k 0 ≢ 46) → get_or name place 0 ≡ 46
+    → has_empty (cut_at 46 (drop start name)) ≡ has_empty (cut_at 46 (drop (place + 1) name))
+filled_piece name start place lt inside none dot =
+    ap has_empty (piece_cut name start place (omega arith) inside none dot)
+    ∙ filled (take (place - start) (drop start name)) (cut_at 46 (drop (place + 1) name))
+    (omega (arith, length-take (place - start) (drop start name), length-drop start name))
+
+pub rest_piece : (name : List ℕ) (start : ℕ) → ((k : ℕ) → start ≤ k → k < length name → get_or name k 0 ≢ 46)
+    → has_empty (cut_at 46 (drop start name)) ≡ (length (drop start name) == 0)
+rest_piece name start none = ap has_empty (piece_last name start none) ∙ or_none (length (drop start name) == 0)
+
 -- a name with an empty piece
-pub whole_path : (name : List ℕ) → list_any (λ piece. length piece == 0) (cut_at 46 name) ≡ true → path_of name ≡ name ∷ []
+pub whole_path : (name : List ℕ) → has_empty (cut_at 46 name) ≡ true → path_of name ≡ name ∷ []
 unfolding path_of
 whole_path name e = rw e refl
 
-pub cut_path : (name : List ℕ) → list_any (λ piece. length piece == 0) (cut_at 46 name) ≡ false → path_of name ≡ cut_at 46 name
+pub cut_path : (name : List ℕ) → has_empty (cut_at 46 name) ≡ false → path_of name ≡ cut_at 46 name
 unfolding path_of
 cut_path name e = rw e refl
 

@@ -1,10 +1,9 @@
 //! Scopes of names.
-ghost use Rattle.std.specs.Prelude.{◌≡◌, ◌++◌, ◌==◌, ◌≤◌, length, map, flat_map, IfOk, OnOk};
-ghost use Rattle.std.specs.List.{list_any};
+ghost use Rattle.std.specs.Prelude.{◌≡◌, ◌++◌, ◌≤◌, length, map, flat_map, IfOk, OnOk};
 ghost use Rattle.std.specs.Str.{bytes_eq};
 ghost use Rattle.aig_dump_header.specs.Header.{closings, shared, scope_line, moves};
 ghost use Rattle.aig_dump_header.specs.Names.{cut_at};
-ghost use Rattle.aig_dump_header.specs.Paths.{scopes_of, leaf_of};
+ghost use Rattle.aig_dump_header.specs.Paths.{has_empty, scopes_of, leaf_of};
 
 use aig_bytes::Memory;
 use std::alloc::Global;
@@ -32,16 +31,21 @@ fn pieces_of(alloc: Global, name: &[u8]) -> Result<Vec<&[u8]>, Memory>
     Ok(pieces)
 }
 
-// Whether one of these pieces is empty.
-fn has_empty(pieces: &[&[u8]]) -> bool
-    ensures { result ≡ list_any (λ piece. length piece == 0) (map (λ piece. piece.now) pieces.now) }
+// Whether one of these pieces of a name is empty. The list of its pieces, which takes memory for each dot, is not made
+// for that.
+fn has_empty_piece(name: &[u8]) -> bool
+    ensures { result ≡ has_empty (cut_at 46 name.now) }
 {
-    for piece in pieces {
-        if piece.is_empty() {
-            return true;
+    let mut start = 0;
+    for (place, byte) in name.iter().enumerate() {
+        if *byte == b'.' {
+            if place == start {
+                return true;
+            }
+            start = place + 1;
         }
     }
-    false
+    name[start..].is_empty()
 }
 
 impl<'a> Path<'a> {
@@ -50,11 +54,13 @@ impl<'a> Path<'a> {
         ensures scopes { IfOk result (λ path. map (λ scope. scope.now) path.scopes.items ≡ scopes_of name.now) }
         ensures leaf { IfOk result (λ path. path.leaf.now ≡ leaf_of name.now) }
     {
-        let mut scopes = pieces_of(alloc, name)?;
-        if has_empty(&scopes) {
-            scopes.clear();
-            return Ok(Path { scopes, leaf: name });
+        if has_empty_piece(name) {
+            return Ok(Path {
+                scopes: Vec::new(alloc),
+                leaf: name,
+            });
         }
+        let mut scopes = pieces_of(alloc, name)?;
         let leaf = scopes.pop().unwrap_or(name);
         Ok(Path { scopes, leaf })
     }

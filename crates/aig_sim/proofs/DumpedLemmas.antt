@@ -59,7 +59,7 @@ dumps_no_header raw left reads writes writes' written written' (done, begins, wr
   ended = inr (
     record {
       rows_are = record { widths = All-nil (λ (row : List Tern). length row ≡ length raw.inputs); rest = []; text_is = refl };
-      beginning = (begins.0, append-nil (header raw) ∙ begins.1);
+      beginning = inl (begins.0, append-nil (header raw) ∙ begins.1);
       header_first = λ lt. refl;
     },
     (refl, omega (arith, count)),
@@ -124,11 +124,9 @@ module _ (raw : Raw) (left left' : Option (List ℕ)) (reads reads' first second
       | inr e ↦ inr (
         record {
           rows_are = e.0;
-          beginning = (
-            e.1.0 ++ closing (length h.rows),
-            ap (λ (t : List ℕ). header raw ++ (t ++ closing (length h.rows))) e.1.1
-                ∙ ap (λ (t : List ℕ). header raw ++ t) (append_assoc h.done e.1.0 (closing (length h.rows)))
-                ∙ sym (append_assoc (header raw) h.done (e.1.0 ++ closing (length h.rows))),
+          beginning = inl (
+            e.1.0,
+            ap (λ (t : List ℕ). header raw ++ t) e.1.1 ∙ sym (append_assoc (header raw) h.done e.1.0),
           );
           header_first = λ lt. absurd (past_header (header raw) h.done lt);
         },
@@ -182,11 +180,15 @@ module _ (raw : Raw) (left left' : Option (List ℕ)) (reads reads' first second
         record {
           rows_are =
               record { widths = h.ended.0.widths; rest = []; text_is = h.ended.0.text_is ∙ sym (append-nil _) };
-          beginning = (
-            begins.0,
-            (λ i. header raw ++ (sym h.ended.2 i ++ (sym end_is ∙ begins.1) i))
-                ∙ ap (λ (t : List ℕ). header raw ++ t) (sym (append_assoc h.done done begins.0))
-                ∙ sym (append_assoc (header raw) (h.done ++ done) begins.0),
+          beginning = inr (
+            h.ended.0,
+            h.ended.1,
+            (
+              begins.0,
+              (λ i. header raw ++ (sym h.ended.2 i ++ (sym end_is ∙ begins.1) i))
+                  ∙ ap (λ (t : List ℕ). header raw ++ t) (sym (append_assoc h.done done begins.0))
+                  ∙ sym (append_assoc (header raw) (h.done ++ done) begins.0),
+            ),
           );
           header_first = λ lt. absurd (past_header (header raw) (h.done ++ done) lt);
         },

@@ -11,16 +11,19 @@ use Rattle.aig_sim.specs.DumpHeader.{header}
 use Rattle.aig_sim.specs.Simulated.{Streams, NoneFailed, OneReadFailed, OneWriteFailed, BeginsWithRows, ReadsFault}
 use Rattle.aig_sim.specs.StimulusText.{SpellsRows, HoldsRows}
 
--- A write failed after these rows: a prefix of their dump was written; before the header's end nothing was read.
-pub record DumpBreaksOff (width : ℕ) (text : List ℕ) (rows : List (List Tern)) (header frames done : List ℕ) : Type 0 where
+-- A write failed after these rows: a prefix of header and frames was written; or a prefix of the whole dump, where the
+-- text was read to its end. Before the header's end nothing was read.
+pub record DumpBreaksOff (width : ℕ) (left : Option (List ℕ)) (text : List ℕ) (rows : List (List Tern))
+    (header frames done : List ℕ) : Type 0 where
   pub rows_are : BeginsWithRows width text rows
-  pub beginning : IsBeginning done (header ++ (frames ++ closing (length rows)))
+  pub beginning : IsBeginning done (header ++ frames) ⊎ (SpellsRows width text rows × IsAtEnd left
+      × IsBeginning done (header ++ (frames ++ closing (length rows))))
   pub header_first : length done < length header → text ≡ []
 
 -- How a dump ends that has read this text: its rows have the frames, and `done` was written.
 -- All went well: the text spells the rows, header, frames and end were written, and the answer is the number of rows,
 -- where the greatest number of 64 bits stands for any greater. A fault: the frames of the good rows, without the end. A
--- failing read: those of all rows that were read whole. A failing write: a beginning. No memory: nothing was read or
+-- failing read: those of all rows that were read whole. A failing write: a prefix. No memory: nothing was read or
 -- written.
 abbrev pub EndsDump : ℕ → Streams → Streams → List ℕ → List (List Tern) → List ℕ → List ℕ → List ℕ → Result ℕ StimFault → Type 0
 EndsDump width old new text rows header frames done (Ok n) =
@@ -28,7 +31,7 @@ EndsDump width old new text rows header frames done (Ok n) =
     × (n ≡ min (length rows) (2 ^ 64 - 1)) × NoneFailed old new
 EndsDump width old new text rows header frames done (Err fault.Io) =
     (HoldsRows width text rows × (done ≡ header ++ frames) × OneReadFailed old new)
-    ⊎ (DumpBreaksOff width text rows header frames done × OneWriteFailed old new)
+    ⊎ (DumpBreaksOff width new.left text rows header frames done × OneWriteFailed old new)
 EndsDump width old new text rows header frames done (Err fault.Memory) =
     (text ≡ []) × (rows ≡ []) × (done ≡ []) × NoneFailed old new
 EndsDump width old new text rows header frames done (Err fault) =

@@ -1,5 +1,5 @@
 //! The test of parts whose definitions are in order, each gate after all that it reads, as in every binary file.
-ghost use Rattle.std.specs.Prelude.{◌≡◌, ◌≢◌, ◌↔◌, ◌+◌, ◌*◌, ◌^◌, ◌<◌, ◌≤◌, length, map, All, IsTrue, IfErr, OnOk};
+ghost use Rattle.std.specs.Prelude.{◌≡◌, ◌↔◌, ◌+◌, ◌*◌, ◌^◌, ◌<◌, ◌≤◌, length, map, All, IsTrue, IfErr, OnOk};
 ghost use Rattle.aig_base.specs.Circuit.{IsCircuit};
 ghost use Rattle.aig_base.specs.Definition.{IsInOrder};
 ghost use Rattle.aig_base.specs.FirstFault.{IsFirstFault};
@@ -76,7 +76,7 @@ pub(crate) fn test_ascending(raw: &Raw) -> Result<(), Fault>
     requires order { IsInOrder raw.now }
     requires smaller { All ReadsSmaller raw.now.gates }
     ensures circuit { OnOk result (IsCircuit raw.now) }
-    ensures fault { IfErr result (λ fault. fault ≢ Fault.Memory → IsFirstFault raw.now fault) }
+    ensures fault { IfErr result (IsFirstFault raw.now) }
 {
     if !sections_are_in_range(raw) {
         return Err(Fault::Range);

@@ -8,7 +8,7 @@ use Rattle.aig_base.proofs.circuits.InOrder.{defined_once, range_from_sections}
 use Rattle.aig_base.proofs.check.ordered.test_ascending.Goals as goal
 
 pub returns-then-not-sections_are_in_range-clause-fault : goal.returns-then-not-sections_are_in_range-clause-fault
-returns-then-not-sections_are_in_range-clause-fault c = λ other.
+returns-then-not-sections_are_in_range-clause-fault c =
     first_range c.args.raw.now (λ h. true≢false (sym (c.sections_are_in_range.ensures.1 (record {
       inputs = h.inputs;
       latches = h.latches;
@@ -20,7 +20,7 @@ returns-then-not-sections_are_in_range-clause-fault c = λ other.
     })) ∙ c.if-not-sections_are_in_range.true))
 
 pub returns-in-Some-clause-fault : goal.returns-in-Some-clause-fault
-returns-in-Some-clause-fault c = λ other.
+returns-in-Some-clause-fault c =
     let raw = c.args.raw.now in
     let range = range_from_sections raw c.requires.order c.requires.smaller
     (c.sections_are_in_range.ensures.0 c.if-not-sections_are_in_range.false) in

@@ -1,31 +1,26 @@
 use Rattle.std.proofs.Common.{◌-◌, ◌<◌, ℕ, List, Some, map, take, length, get_or, sym, ap, ◌∙◌, arith}
-use Rattle.std.specs.Prelude.{◌==◌}
-use Rattle.std.specs.List.{list_any}
 use Rattle.std.specs.Option.{unwrap_or}
 use Rattle.aig_dump_header.proofs.PathLemmas.{whole_path, cut_path, no_scopes, own_leaf, all_but_last, last_piece, some_piece}
 use Rattle.aig_dump_header.proofs.paths.Path.of.Goals as goal
 
-pub returns-then-has_empty : goal.returns-then-has_empty
-returns-then-has_empty c =
+pub returns-then-has_empty_piece : goal.returns-then-has_empty_piece
+returns-then-has_empty_piece c =
     let name = c.args.name.now in
-    let any : List (List ℕ) → _ = list_any (λ piece. length piece == 0) in
-    let whole = whole_path name (sym (ap any (ap (map (λ b. b.now)) c.deref.ensures.value ∙ c.in_ok-scopes.ensures)) ∙ sym c.has_empty.ensures ∙ c.if-has_empty.true) in
-    record { scopes = ap (map (λ b. b.now)) c.clear.ensures.items ∙ no_scopes name whole; leaf = own_leaf name whole }
+    let whole = whole_path name (sym c.has_empty_piece.ensures ∙ c.if-has_empty_piece.true) in
+    record { scopes = ap (map (λ b. b.now)) c.new.ensures.items ∙ no_scopes name whole; leaf = own_leaf name whole }
 
 pub returns-clause-scopes : goal.returns-clause-scopes
 returns-clause-scopes c =
     let name = c.args.name.now in
     let items = c.in_ok-scopes.scopes.items in
-    let any : List (List ℕ) → _ = list_any (λ piece. length piece == 0) in
-    let cut = cut_path name (sym (ap any (ap (map (λ b. b.now)) c.deref.ensures.value ∙ c.in_ok-scopes.ensures)) ∙ sym c.has_empty.ensures ∙ c.if-has_empty.false) in
+    let cut = cut_path name (sym c.has_empty_piece.ensures ∙ c.if-has_empty_piece.false) in
     ap (map (λ b. b.now)) (c.pop.ensures.rest ∙ ap (λ (n : ℕ). take (n - 1) items) c.in_ok-scopes.scopes.ok.0) ∙ all_but_last (λ b. b.now) name c.in_ok-scopes.scopes.items (c.in_ok-scopes.ensures ∙ sym cut)
 
 pub returns-clause-leaf : goal.returns-clause-leaf
 returns-clause-leaf c =
     let name = c.args.name.now in
     let items = c.in_ok-scopes.scopes.items in
-    let any : List (List ℕ) → _ = list_any (λ piece. length piece == 0) in
-    let cut = cut_path name (sym (ap any (ap (map (λ b. b.now)) c.deref.ensures.value ∙ c.in_ok-scopes.ensures)) ∙ sym c.has_empty.ensures ∙ c.if-has_empty.false) in
+    let cut = cut_path name (sym c.has_empty_piece.ensures ∙ c.if-has_empty_piece.false) in
     let some : 0 < length items = some_piece (λ b. b.now) name items c.in_ok-scopes.ensures in
     ap (λ b. b.now) (c.unwrap_or-leaf.ensures ∙ ap (λ o. unwrap_or o c.args.name) (c.pop.ensures.value c.args.name (omega (arith, some, c.in_ok-scopes.scopes.ok.0))
     ∙ ap (λ (n : ℕ). Some (get_or items (n - 1) c.args.name)) c.in_ok-scopes.scopes.ok.0))
