@@ -5,6 +5,7 @@ through pipes. Output, error text and exit status have to be those that stand he
 examples, and from library/reference.py, a plain simulator and workbench."""
 
 from library import runs
+from program.ample import ample
 from program.bench import bench
 from program.check import check
 from program.cnf import cnf
@@ -16,6 +17,7 @@ from program.explain_option import explain_option
 from program.helps import helps
 from program.info import info
 from program.kept import kept
+from program.large_proofs import large_proofs
 from program.needs import needs
 from program.owners import owners
 from program.pages import pages
@@ -36,7 +38,8 @@ from program.words import words
 PARTS = {"bench": bench, "kept": kept, "owners": owners, "descriptors": descriptors, "words": words, "sim": sim,
          "wave": wave, "check": check, "replays": replays, "toaig": toaig, "unroll": unroll, "cnf": cnf,
          "info": info, "select": select, "witness": witness, "refute": refute, "proofs": proofs,
-         "properties": properties, "reduce": reduce, "help": helps, "pages": pages, "completions": completions, "diagnostics": diagnostics, "explain": explain,
+         "large_proofs": large_proofs, "properties": properties, "ample": ample, "reduce": reduce, "help": helps,
+         "pages": pages, "completions": completions, "diagnostics": diagnostics, "explain": explain,
          "explain_option": explain_option, "needs": needs, "talks": talks}
 
 if __name__ == "__main__":

@@ -10,7 +10,7 @@ import subprocess
 
 from faults.refusing import Refusing
 from library.circuits import write_all
-from library.runs import Ended, LeftOut, contents, input_or_output, write
+from library.runs import Ended, contents, input_or_output, write
 
 DESIGN, ROWS = b"aag 3 2 0 1 1\n2\n4\n6\n6 2 4\n", b"11\n"
 NEW_DESIGN, NEW_ROWS = b"aag 3 2 0 1 1\n2\n4\n6\n6 3 4\n", b"11\n0x\n"
@@ -77,9 +77,6 @@ HALF_DONE = ((OVER, "rename", 2), (FRESH, "rename", 2), (FRESH, "statx", 11))
 def kept(program, tally, _):
     write_all()
     beneath = Refusing(program, "refuse_call")
-    OVER.prepare()
-    if beneath.run(*OVER.words, CALL="rename", REFUSE=1).status == 0:
-        raise LeftOut("no library can stand before rename here")
     for name in ("design", "rows"):
         os.symlink(name, f"{name}_link")
     for case, call, most, early in CALLS:

@@ -2,8 +2,16 @@
 
 import os
 import subprocess
+import tempfile
 
 from library.runs import TESTS, LeftOut, contents, write
+
+# The libraries, and the calls that each stands before.
+CALLS = {
+    "refuse_allocation": ("malloc", ),
+    "refuse_call": ("open", "read", "write", "file", "fsync", "fchmod", "fchown", "statx", "realpath", "rename", "unlink",
+                    "close"),
+}
 
 
 class Refusing:
@@ -12,13 +20,20 @@ class Refusing:
     def __init__(self, program, name):
         self.program = program
         self.library = os.path.abspath(f"{name}.so")
-        build = ["cc", "-shared", "-fPIC", "-O1", "-o", self.library, f"{TESTS}/faults/{name}.c", "-ldl"]
-        try:
-            is_built = subprocess.run(build, capture_output=True, check=False).returncode == 0
-        except FileNotFoundError:
-            is_built = False
-        if not is_built:
+        if not compiles("-shared", "-fPIC", "-O1", "-o", self.library, f"{TESTS}/faults/{name}.c", "-ldl"):
             raise LeftOut("no C compiler for the runs whose calls fail")
+        self.ask(name)
+
+    def ask(self, name):
+        """Asks a program of its own whether the library stands before each of its calls: the program that is tested may
+        hide that a call failed."""
+        with tempfile.TemporaryDirectory() as room:
+            is_built = compiles("-O0", "-o", f"{room}/one", f"{TESTS}/faults/calls_one.c")
+            for call in CALLS[name]:
+                environment = self.environment(CALL=call, REFUSE=1, AFTER=1)
+                if not is_built or subprocess.run([f"{room}/one"], cwd=room, env=environment, check=False,
+                                                  stdout=subprocess.DEVNULL).returncode != 0:
+                    raise LeftOut(f"no library can stand before {call} here")
 
     def environment(self, **settings):
         """The environment of a run where the library has these settings."""
@@ -34,3 +49,11 @@ class Refusing:
         write("calls", "0")
         ended = self.run(*words, COUNTED=os.path.abspath("calls"), **settings)
         return ended, int(contents("calls"))
+
+
+def compiles(*words):
+    """Whether there is a C compiler that compiles this."""
+    try:
+        return subprocess.run(["cc", *words], capture_output=True, check=False).returncode == 0
+    except FileNotFoundError:
+        return False

@@ -24,8 +24,8 @@ def long_run(program, tally, _):
         last = 2 * (2 * INPUTS + gate)
     write("script", "".join(script) + f"v 0 {last}\ns 0 0 0\nv 0 {last + 1}\n")
     wanted = "ok\n" * (EDITS + 1) + "1\n0\n" + "ok\n" * (2 * GATES) + "1\nok\n1\n"
-    ended = program.run("bench", "circuit", "rows", "script", preexec_fn=limited)
-    if ended.status < 0:
+    ended = program.run("bench", "circuit", "rows", "script", preexec_fn=limited, timeout=10 * SECONDS)
+    if ended.status is None or ended.status < 0:
         tally.check("the long run", False, f"it does not end within {SECONDS} seconds")
     else:
         why = f"status {ended.status}, {ended.err[:80]!r}"

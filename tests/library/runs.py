@@ -2,10 +2,13 @@
 
 import argparse
 import collections
+import contextlib
 import os
+import signal
 import subprocess
 import sys
 import tempfile
+import threading
 
 TESTS = os.path.dirname(os.path.dirname(os.path.abspath(__file__)))
 REPOSITORY = os.path.dirname(TESTS)
@@ -14,7 +17,15 @@ EXPECTED = TESTS + "/expected"
 DESIGNS = TESTS + "/designs"
 PROVED_PROGRAM = REPOSITORY + "/crates/aig/out/aig"
 
-# How a run ended: its exit status, and the bytes on standard output and standard error.
+# How long a run may take, if nothing else is said. The run of a part that is over it is stopped, and fails its check.
+SECONDS = int(os.environ.get("AIG_TEST_SECONDS", "120"))
+# How many runs of a part may be over it before the part is stopped.
+MOST_UNENDED = 3
+# How long a part may take, whatever it waits for.
+PART_SECONDS = 15 * SECONDS
+
+# How a run ended: its exit status, and the bytes on standard output and standard error. A run that was stopped has no
+# status.
 Ended = collections.namedtuple("Ended", "status out err")
 
 
@@ -32,20 +43,36 @@ class LeftOut(Exception):
     """Why a part cannot run here."""
 
 
+class Unended(Exception):
+    """Too many runs of a part did not end."""
+
+
 class Program:
     """The built program."""
 
     def __init__(self, path, is_named):
         self.path = os.path.abspath(path)
         self.is_named = is_named
+        self.unended = 0
 
     def run(self, *words, **settings):
-        """Runs it, by default without an input."""
+        """Runs it, by default without an input. A run that is over its time is stopped."""
         if "input" not in settings:
             settings.setdefault("stdin", subprocess.DEVNULL)
         settings.setdefault("stdout", subprocess.PIPE)
-        done = subprocess.run([self.path, *words], stderr=subprocess.PIPE, check=False, **settings)
+        settings.setdefault("timeout", SECONDS)
+        try:
+            done = subprocess.run([self.path, *words], stderr=subprocess.PIPE, check=False, **settings)
+        except subprocess.TimeoutExpired:
+            return self.stopped(words, settings["timeout"])
         return Ended(done.returncode, done.stdout, done.stderr)
+
+    def stopped(self, words, seconds):
+        """How a run ends that is over its time. After some of them, the part does not go on."""
+        self.unended += 1
+        if self.unended >= MOST_UNENDED:
+            raise Unended(f"{self.unended} runs did not end, the last one {[*words]}")
+        return Ended(None, b"", f"it does not end within {seconds} seconds\n".encode())
 
 
 class Tally:
@@ -90,6 +117,38 @@ def contents_of(folder, endings):
     return [contents(f"{folder}/{name}") for name in sorted(os.listdir(folder)) if name.endswith(endings)]
 
 
+@contextlib.contextmanager
+def limited(name):
+    """Ends the script, with a failure, if a part does not end."""
+    def stop():
+        print(f"FAILED: {name}: it does not end within {PART_SECONDS} seconds\n{name}: 0 passed, 1 failed", flush=True)
+        # A program that was started and goes on would go on for ever.
+        for child in [*started_by(os.getpid())]:
+            with contextlib.suppress(ProcessLookupError):
+                os.kill(child, signal.SIGKILL)
+        os._exit(1)
+
+    timer = threading.Timer(PART_SECONDS, stop)
+    timer.daemon = True
+    timer.start()
+    try:
+        yield
+    finally:
+        timer.cancel()
+
+
+def started_by(process):
+    """The processes that this one started and that go on, and those that they started."""
+    for name in filter(str.isdigit, os.listdir("/proc")):
+        try:
+            parent = int(contents(f"/proc/{name}/stat").rpartition(b")")[2].split()[1])
+        except OSError:
+            continue  # it has ended
+        if parent == process:
+            yield from started_by(int(name))
+            yield int(name)
+
+
 def main(description, parts, outside=(), options=lambda parser: None):
     """The command line of a script of tests. Its parts are functions of the program, a tally and the options; each runs
     in an empty folder of its own. Those named in `outside` run only where they are asked for."""
@@ -103,14 +162,17 @@ def main(description, parts, outside=(), options=lambda parser: None):
         sys.exit(f"there is no program {program.path}")
     failed = 0
     for name in chosen.part or [name for name in parts if name not in outside]:
-        tally = Tally()
-        with tempfile.TemporaryDirectory() as room:
+        tally, told = Tally(), ""
+        program.unended = 0
+        with tempfile.TemporaryDirectory() as room, limited(name):
             os.chdir(room)
             try:
                 told = parts[name](program, tally, chosen) or ""
             except LeftOut as reason:
                 print(f"{name}: left out: {reason}", flush=True)
                 continue
+            except Unended as reason:
+                tally.check(f"{name}: stopped", False, reason)
             finally:
                 os.chdir("/")
         print(f"{name}: {told}{tally.passed} passed, {tally.failed} failed", flush=True)

@@ -105,12 +105,14 @@ def without_devices(program, tally):
     os.mkdir("room")
     os.chdir("room")
     try:
-        libraries = subprocess.run(["ldd", program.path], capture_output=True, text=True, check=False).stdout
-        for file in re.findall(r"/\S+", libraries):
-            os.makedirs(f".{os.path.dirname(file)}", exist_ok=True)
-            shutil.copy(file, f".{file}")
-        shutil.copy(program.path, "aig")
-        is_run = b"aig" in subprocess.run([*root, "/aig", "--version"], capture_output=True, check=False).stderr
+        # Another program shows whether the root can be changed.
+        for name, path in (("aig", program.path), ("true", shutil.which("true"))):
+            libraries = subprocess.run(["ldd", path], capture_output=True, text=True, check=False).stdout
+            for file in re.findall(r"/\S+", libraries):
+                os.makedirs(f".{os.path.dirname(file)}", exist_ok=True)
+                shutil.copy(file, f".{file}")
+            shutil.copy(path, name)
+        is_run = subprocess.run([*root, "/true"], capture_output=True, check=False).returncode == 0
     except FileNotFoundError:
         is_run = False
     if not is_run:

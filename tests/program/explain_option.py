@@ -11,6 +11,7 @@ from faults.refusing import Refusing
 from library.circuits import TEXTS, write_all
 from library.roff import sections
 from library.runs import EXAMPLES, REPOSITORY, Ended, LeftOut, contents, write
+from program.refute import NEVER_KEPT
 from program.rows import explains
 
 SECONDS = 20
@@ -56,6 +57,7 @@ def explain_option(program, tally, _):
     shown(program, tally)
     silent(program, tally)
     reasons(program, tally)
+    which_file(program, tally)
     not_again(program, tally)
     names(program, tally)
     words(program, tally)
@@ -128,6 +130,8 @@ def silent(program, tally):
 
 def reasons(program, tally):
     """The system's reason, for each file of each command."""
+    write("never", NEVER_KEPT)
+    write("right", "2 0\n")
     write("rows", "11\n")
     write("script", "t\n")
     for name, reason in UNREADABLE:
@@ -136,10 +140,40 @@ def reasons(program, tally):
                             (["wave", "two_gates", name], "stimulus"), (["bench", name, "rows", "script"], "circuit"),
                             (["bench", "two_gates", name, "script"], "stimulus"),
                             (["bench", "two_gates", "rows", name], "script"),
-                            (["unroll", "--frames", "2", "--to", "aag", name], "circuit")):
+                            (["unroll", "--frames", "2", "--to", "aag", name], "circuit"),
+                            (["cnf", "--frames", "2", name], "circuit"), (["select", "--to", "aag", name], "circuit"),
+                            (["wave", "--witness", "two_gates", name], "witness"),
+                            (["reduce", "bad_input", name], "witness"), (["witness", "bad_input", name], "stimulus"),
+                            (["witness", "--model", name, "--frames", "1", "bad_input"], "model"),
+                            (["refute", "--frames", "1", "bad_input", name], "proof"),
+                            (["refute", "--frames", "1", "--step", name, "never", "right"], "step proof")):
             said = program.run("--explain", *words).err.decode().split("\n")
             is_right = said[:2] == [f"aig: {part}: input or output", f"  file: {name}"] and reason in said[2]
             tally.check(f"explain: {words}", is_right, said)
+
+
+def which_file(program, tally):
+    """The file whose text is refused, where a command has several."""
+    for name, text in (("wrong", "0\n"), ("row", "1\n"), ("none", "")):
+        write(name, text)
+    for words, message, file in (
+            (["sim", "two_gates", "row"], "stimulus: length of line 1", "row"),
+            (["wave", "two_gates", "row"], "stimulus: length of line 1", "row"),
+            (["bench", "two_gates", "row", "none"], "stimulus: length of line 1", "row"),
+            (["bench", "cycle", "row", "none"], "circuit: cycle 2", "cycle"),
+            (["wave", "--witness", "bad_input", "row"], "witness: text", "row"),
+            (["check", "bad_input", "row"], "witness: text", "row"),
+            (["check", "cycle", "row"], "circuit: cycle 2", "cycle"),
+            (["reduce", "bad_input", "row"], "witness: text", "row"),
+            (["witness", "bad_input", "wrong"], "witness: no run", "bad_input"),
+            (["witness", "two_gates", "row"], "stimulus: length of line 1", "row"),
+            (["witness", "--model", "row", "--frames", "1", "bad_input"], "model: text at 2", "row"),
+            (["refute", "--frames", "1", "never", "wrong"], "proof: step 1", "wrong"),
+            (["refute", "--frames", "1", "--step", "right", "never", "wrong"], "proof: step 1", "wrong"),
+            (["refute", "--frames", "1", "--step", "wrong", "never", "right"], "step proof: step 1", "wrong"),
+            (["refute", "--frames", "1", "--step", "none", "never", "right"], "step proof: no refutation", "none")):
+        said = program.run("--explain", *words).err.decode().split("\n")
+        tally.compare(f"explain: {words}: the file", said[:2], [f"aig: {message}", f"  file: {file}"])
 
 
 def not_again(program, tally):

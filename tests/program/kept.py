@@ -4,6 +4,7 @@ them, and that they are as they were where a run fails."""
 import contextlib
 import os
 import resource
+import select
 import shutil
 import signal
 import struct
@@ -11,7 +12,7 @@ import subprocess
 import threading
 
 from library.circuits import write_all
-from library.runs import Ended, contents, input_or_output, refused, write
+from library.runs import SECONDS, Ended, contents, input_or_output, refused, write
 
 CIRCUIT = b"aag 4 2 0 1 2\n2\n4\n8\n8 6 2\n6 2 4\no0 out\ni1 right\nc\nmade by hand"
 ROWS = b"11\n01\n"
@@ -217,7 +218,7 @@ def modes(keeping):
         with subprocess.Popen(words, stdin=subprocess.PIPE, stdout=subprocess.PIPE, umask=0) as run:
             run.stdin.write(b"v 0 8\n")
             run.stdin.flush()
-            run.stdout.readline()
+            reply(run)
             got = [mode_of(f"{file}.new") for file in BOTH[1::2]]
             keeping.tally.compare("kept: the modes of new files during the script", got, ["0o600"] * 2)
             run.stdin.close()
@@ -253,7 +254,7 @@ def devices(keeping):
 
 # Two disks with a file of the same number each. One of them is standard output, and the other one is replaced.
 DISKS = """
-mkdir one two && mount -t tmpfs disk one && mount -t tmpfs disk two || exit 77
+mkdir -p one two && mount -t tmpfs disk one && mount -t tmpfs disk two || exit 77
 echo old > one/file && echo old > two/file || exit 77
 test $(stat -c %i one/file) = $(stat -c %i two/file) || exit 77
 "$0" bench --circuit-out one/file design rows script > two/file && cat one/file
@@ -264,12 +265,13 @@ def disks(keeping):
     for file, content in (("design", CIRCUIT), ("rows", ROWS), ("script", SCRIPT)):
         write(file, content)
     user = [] if os.geteuid() == 0 else ["--map-root-user"]
+    # Another program, which writes no file, shows whether they can be mounted.
     try:
-        ended = subprocess.run(["unshare", "--mount", *user, "sh", "-c", DISKS, keeping.program.path],
-                               capture_output=True, check=False)
+        other, ended = (subprocess.run(["unshare", "--mount", *user, "sh", "-c", DISKS, path], capture_output=True,
+                                       check=False) for path in ("true", keeping.program.path))
     except FileNotFoundError:
-        ended = None
-    if ended is None or ended.returncode not in (0, 3):
+        other = None
+    if other is None or other.returncode != 0:
         print("kept: two disks with a file of the same number are left out: they cannot be mounted here")
         return
     keeping.tally.compare("kept: a file with the number of standard output's file on another disk",
@@ -299,10 +301,19 @@ def before_the_script(keeping):
     with subprocess.Popen(words, stdin=subprocess.PIPE, stdout=subprocess.PIPE) as run:
         run.stdin.write(b"v 0 8\n")
         run.stdin.flush()
-        keeping.tally.compare("kept: a reply before a pipe is read", run.stdout.readline(), b"1\n")
+        first = reply(run)
+        keeping.tally.compare("kept: a reply before a pipe is read", first, b"1\n")
         run.stdin.close()
-        keeping.tally.compare("kept: a pipe after the script", contents("pipe"), CIRCUIT)
+        if first:
+            keeping.tally.compare("kept: a pipe after the script", contents("pipe"), CIRCUIT)
     os.remove("pipe")
+
+
+def reply(run):
+    """The first line of a run, which is stopped if it writes none."""
+    if not select.select([run.stdout], [], [], SECONDS)[0]:
+        run.kill()
+    return run.stdout.readline()
 
 
 def failures(keeping):

@@ -9,14 +9,32 @@ import subprocess
 import termios
 import time
 
-from library.runs import Ended, refused, write
-from program.refute import NEVER, PROOFS, REFUSALS
-from program.rows import SECONDS, UNENDED, Rows, data
+from library.runs import SECONDS, Ended, refused, write
+from program.refute import NEVER, NEVER_KEPT, PROOFS, REFUSALS
+from program.rows import Rows, data
 
 BLOCK = 32768
 COPIES = 20
 VARIABLES = 200
 REFUTED = Ended(0, b"unreachable within 1\n", b"")
+
+# Runs whose proof comes in pieces.
+OF_NEVER, OF_LARGE = (["refute", "--frames", "1", circuit, "/dev/stdin"] for circuit in ("never", "large"))
+# Proofs that begin with a deletion: of the circuit that is never bad, and of the step of the one with a latch.
+DELETING = (
+    ("text that deletes first", b"d 2 3 0\n2 0\n", b"d 2 3 0\n4 0\n"),
+    ("text that deletes first, after a tab", b"d\t2 3 0\n2 0\n", b"d\t2 3 0\n4 0\n"),
+    ("binary that deletes first", b"d\x04\x06\0a\x04\0", b"d\x04\x06\0a\x08\0"),
+    ("binary that deletes first and looks like text", b"d\x09\0a\x04\0", b"d\x09\0a\x08\0"),
+)
+# Proofs that end with a deletion, or within one.
+UNFINISHED = (
+    ("text that deletes and ends", b"2 3 0\nd 2 3 0\n", "no refutation"),
+    ("text that ends within a deletion", b"d 2 3", "text at 5"),
+    ("text that ends after d", b"2 3 0\nd", "text at 7"),
+    ("binary that deletes and ends", b"a\x04\x06\0d\x04\x06\0", "no refutation"),
+    ("binary that ends within a deletion", b"a\x04\x06\0d\x04", "text at 6"),
+)
 
 
 class Conjunctions:
@@ -142,7 +160,7 @@ def long_proofs(rows, made, fillers, rng):
                 ("cut off within a step", cut, f"text at {len(cut)}")):
             wanted = REFUTED if fault is None else refused(f"proof: {fault}")
             rows.ends(f"a long one, {name}, {what}", "refute --frames 1 large proof", wanted, proof=proof)
-            ended = in_pieces(rows.program, "large", proof, 4099)
+            ended = in_pieces(rows.program, OF_LARGE, proof, 4099)
             rows.tally.compare(f"proofs: a long one, {name}, {what}, in pieces", ended, wanted)
 
 
@@ -182,7 +200,7 @@ def first_bytes(rows):
         proof = b"d" + b"\t" * (length - 2) + b"\0" + b"a\x04\0"
         rows.ends(f"the first zero byte is number {length}", "refute --frames 1 never proof", wanted, proof=proof)
         rows.tally.compare(f"proofs: the first zero byte is number {length}, in pieces",
-                           in_pieces(rows.program, "never", proof, 1000), wanted)
+                           in_pieces(rows.program, OF_NEVER, proof, 1000), wanted)
     # In the binary form `1` and a blank are literals of variables 24 and 16, and the clause is cut off.
     rows.refuses("d and no blank, with 200 variables", "refute --frames 1 large proof", "proof: text at 7",
                  proof="d1 2 0\n")
@@ -193,29 +211,58 @@ def first_bytes(rows):
     rows.tally.check("proofs: d and no blank, in a text", ended in allowed, ended)
 
 
-def in_pieces(program, circuit, proof, size):
-    """A run that gets at most so many bytes of its proof at a read: more come where the pipe is empty."""
-    source, sink = os.pipe()
-    words = [program.path, "refute", "--frames", "1", circuit, "/dev/stdin"]
+def named_pipes(program, tally):
+    """Proofs that begin with a deletion, from a file that is a pipe: the form shows only after some reads."""
+    write("kept_too", NEVER_KEPT)
+    write("proof", "2 0\n")
+    for name, proof, step in DELETING:
+        of_never = ["refute", "--frames", "1", "never", "fifo"]
+        for size in (1, 2, 3):
+            tally.compare(f"proofs: {name}, {size} bytes at a time from a named pipe",
+                          in_pieces(program, of_never, proof, size), REFUTED)
+            of_step = ["refute", "--frames", "1", "--step", "fifo", "kept_too", "proof"]
+            tally.compare(f"proofs: {name}, {size} bytes at a time from a named pipe, of a step",
+                          in_pieces(program, of_step, step, size), Ended(0, b"unreachable\n", b""))
+    for name, proof, fault in UNFINISHED:
+        tally.compare(f"proofs: {name}, a byte at a time from a named pipe",
+                      in_pieces(program, ["refute", "--frames", "1", "never", "fifo"], proof, 1),
+                      refused(f"proof: {fault}"))
+
+
+def in_pieces(program, words, proof, size):
+    """A run that gets at most so many bytes of its proof at a read: more come where the pipe is empty. The pipe is its
+    standard input, or a file of the name `fifo` where that is one of its arguments."""
+    is_named = "fifo" in words
+    source, sink = opened_fifo() if is_named else os.pipe()
     latest = time.monotonic() + SECONDS
-    with subprocess.Popen(words, stdin=source, stdout=subprocess.PIPE, stderr=subprocess.PIPE) as child:
-        os.close(source)
-        try:
-            for at in range(0, len(proof), size):
-                while child.poll() is None and has_bytes(sink) and time.monotonic() < latest:
-                    time.sleep(0.0001)
-                if time.monotonic() >= latest:
-                    break
-                os.write(sink, proof[at:at + size])
-        except BrokenPipeError:
-            pass
+    with subprocess.Popen([program.path, *words], stdin=subprocess.DEVNULL if is_named else source,
+                          stdout=subprocess.PIPE, stderr=subprocess.PIPE) as child:
+        def goes_on():
+            return child.poll() is None and time.monotonic() < latest
+
+        for at in range(0, len(proof), size):
+            while goes_on() and has_bytes(sink):
+                time.sleep(0.0001)
+            if not goes_on():
+                break
+            os.write(sink, proof[at:at + size])
         os.close(sink)
         try:
             out, err = child.communicate(timeout=max(latest - time.monotonic(), 1))
         except subprocess.TimeoutExpired:
             child.kill()
-            return UNENDED
+            return program.stopped(words, SECONDS)
+        finally:
+            os.close(source)
     return Ended(child.returncode, out, err)
+
+
+def opened_fifo():
+    """Both ends of a new pipe that has a name."""
+    if os.path.exists("fifo"):
+        os.remove("fifo")
+    os.mkfifo("fifo")
+    return os.open("fifo", os.O_RDONLY | os.O_NONBLOCK), os.open("fifo", os.O_WRONLY)
 
 
 def has_bytes(pipe):
@@ -239,7 +286,8 @@ def proofs(program, tally, _):
     deletions(rows, made, needed_clause, fillers, rng)
     first_bytes(rows)
     for name, proof in PROOFS:
-        tally.compare(f"proofs: {name}, a byte at a time", in_pieces(program, "never", data(proof), 1), REFUTED)
+        tally.compare(f"proofs: {name}, a byte at a time", in_pieces(program, OF_NEVER, data(proof), 1), REFUTED)
     for name, proof, fault in REFUSALS:
-        tally.compare(f"proofs: {name}, a byte at a time", in_pieces(program, "never", data(proof), 1),
+        tally.compare(f"proofs: {name}, a byte at a time", in_pieces(program, OF_NEVER, data(proof), 1),
                       refused(f"proof: {fault}"))
+    named_pipes(program, tally)

@@ -2,14 +2,8 @@
 
 import os
 import re
-import subprocess
 
 from library.runs import Ended, contents, input_or_output, refused, write
-
-
-# How long a row may take, and how a run ends that takes longer.
-SECONDS = 120
-UNENDED = Ended(None, b"", f"it does not end within {SECONDS} seconds\n".encode())
 
 
 def data(text):
@@ -23,11 +17,7 @@ class Rows:
         self.name, self.program, self.tally = name, program, tally
 
     def run(self, *words, **settings):
-        """A run that takes no longer than a row may."""
-        try:
-            return self.program.run(*words, timeout=SECONDS, **settings)
-        except subprocess.TimeoutExpired:
-            return UNENDED
+        return self.program.run(*words, **settings)
 
     def ends(self, name, words, wanted, **files):
         """A row: the run of these arguments, with these files."""
