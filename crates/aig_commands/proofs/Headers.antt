@@ -57,9 +57,11 @@ module _ {Y X : Type 0} (reader : Flow Y) (out : Flow X) (raw : Raw) where
   header_first (Ok n) s = let (spells, end, is, number, none) = s.ended in with_header s.done _ s.wrote is
   header_first (Err stimuli.Io) s = elim s.ended [
     | inl (holds, is, one) ↦ with_header s.done s.frames s.wrote is
-    | inr (breaks, one) ↦
-        stopped s.text s.done (s.frames ++ closing (length s.rows)) breaks.beginning.0 s.read s.wrote breaks.beginning.1
-        breaks.header_first
+    | inr (breaks, one) ↦ elim breaks.beginning [
+      | inl part ↦ stopped s.text s.done s.frames part.0 s.read s.wrote part.1 breaks.header_first
+      | inr (spells, end, all) ↦
+          stopped s.text s.done (s.frames ++ closing (length s.rows)) all.0 s.read s.wrote all.1 breaks.header_first
+    ]
   ]
   header_first (Err stimuli.Limit) s = absurd s.ended.0
   header_first (Err stimuli.Memory) s = let (text, rows, is, none) = s.ended in unread s.text s.read text

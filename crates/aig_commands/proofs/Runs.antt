@@ -29,6 +29,16 @@ abbrev pub stimulus_of : Result ℕ StimFault → Result ℕ RunFault
 stimulus_of (Ok n) = Ok n
 stimulus_of (Err fault) = Err (run_faults.Stimulus fault)
 
+-- the rows that a text begins with are those of the text that has only their lines
+only_rows : (width : ℕ) (text : List ℕ) (rows : List (List Tern)) → BeginsWithRows width text rows
+    → HoldsRows width (flat_map row_line rows) rows
+only_rows width text rows begins = record {
+  widths = begins.widths;
+  rest = [];
+  no_end = λ k d lt. let no : ⊥ = omega (arith, lt) in absurd no;
+  text_is = sym (append-nil (flat_map row_line rows));
+}
+
 module _ {Y X : Type 0} (reader : Flow Y) (out : Flow X) where
   abbrev pub streams : Y → X → Streams
   streams y x = record { left = reader.bytes y; reads = reader.failures y; writes = out.failures x }
@@ -78,7 +88,7 @@ module _ {Y X : Type 0} (reader : Flow Y) (out : Flow X) where
           text = record { bytes = s.text; is_whole = true };
           bytes = s.trace;
           gave = gave_whole reader s.text s.read end none.0;
-          means = record { rows = s.rows; rows_are = (spells, number); trace_is = s.trace_is };
+          means = record { rows = s.rows; rows_are = (spells, refl, number); trace_is = s.trace_is };
           whole = refl;
           got = got_so s.done s.trace s.wrote is none.1;
         })
@@ -103,12 +113,7 @@ module _ {Y X : Type 0} (reader : Flow Y) (out : Flow X) where
         bytes = s.trace;
         means = record {
           rows = s.rows;
-          rows_are = record {
-            widths = begins.widths;
-            rest = [];
-            no_end = λ k d lt. let no : ⊥ = omega (arith, lt) in absurd no;
-            text_is = sym (append-nil (flat_map row_line s.rows));
-          };
+          rows_are = only_rows (length raw.inputs) s.text s.rows begins;
           trace_is = s.trace_is;
         };
         breaks_off = breaks_so s.done s.trace beginning s.wrote one.1;
@@ -150,7 +155,7 @@ module _ {Y X : Type 0} (reader : Flow Y) (out : Flow X) where
           means = record {
             rows = s.rows;
             frames = s.frames;
-            rows_are = (spells, number);
+            rows_are = (spells, refl, number);
             frames_are = s.frames_are;
             written_is = refl;
           };
@@ -166,25 +171,46 @@ module _ {Y X : Type 0} (reader : Flow Y) (out : Flow X) where
         whole = tt;
         got = got_so s.done (header raw ++ s.frames) s.wrote is one.1;
       })
-      | inr (breaks, one) ↦ EndsReading.breaks_off (record {
-        text = record { bytes = s.text; is_whole = false };
-        failed = 0;
-        few = omega arith;
-        gave = gave_part reader s.text 0 s.read (omega (arith, one.0));
-        part = record { bytes = flat_map row_line s.rows; is_whole = false };
-        beginning = (breaks.rows_are.rest, breaks.rows_are.text_is);
-        whole = λ is. let no : ⊥ = cc is in absurd no;
-        answer = Ok _;
-        bytes = header raw ++ (s.frames ++ closing (length s.rows));
-        means = record {
-          rows = s.rows;
-          frames = s.frames;
-          rows_are = (record { widths = breaks.rows_are.widths; text_is = refl }, refl);
-          frames_are = s.frames_are;
-          written_is = refl;
-        };
-        breaks_off = breaks_so s.done (header raw ++ (s.frames ++ closing (length s.rows))) breaks.beginning s.wrote one.1;
-      })
+      | inr (breaks, one) ↦ elim breaks.beginning [
+        | inl part ↦ EndsReading.breaks_off (record {
+          text = record { bytes = s.text; is_whole = false };
+          failed = 0;
+          few = omega arith;
+          gave = gave_part reader s.text 0 s.read (omega (arith, one.0));
+          part = record { bytes = flat_map row_line s.rows; is_whole = false };
+          beginning = (breaks.rows_are.rest, breaks.rows_are.text_is);
+          whole = λ is. let no : ⊥ = cc is in absurd no;
+          answer = Err (run_faults.Stimulus stimuli.Io);
+          bytes = header raw ++ s.frames;
+          means = record {
+            rows = s.rows;
+            frames = s.frames;
+            rows_are = only_rows (length raw.inputs) s.text s.rows breaks.rows_are;
+            frames_are = s.frames_are;
+            written_is = refl;
+          };
+          breaks_off = breaks_so s.done (header raw ++ s.frames) part s.wrote one.1;
+        })
+        | inr (spells, end, all) ↦ EndsReading.breaks_off (record {
+          text = record { bytes = s.text; is_whole = true };
+          failed = 0;
+          few = omega arith;
+          gave = gave_whole reader s.text s.read end (omega (arith, one.0));
+          part = record { bytes = s.text; is_whole = true };
+          beginning = ([], sym (append-nil s.text));
+          whole = λ is. refl;
+          answer = Ok _;
+          bytes = header raw ++ (s.frames ++ closing (length s.rows));
+          means = record {
+            rows = s.rows;
+            frames = s.frames;
+            rows_are = (spells, refl, refl);
+            frames_are = s.frames_are;
+            written_is = refl;
+          };
+          breaks_off = breaks_so s.done (header raw ++ (s.frames ++ closing (length s.rows))) all s.wrote one.1;
+        })
+      ]
     ]
     dumps_ends (Err stimuli.Unfinished) s =
         let (fault, is, none) = s.ended in

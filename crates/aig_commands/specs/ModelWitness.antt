@@ -6,8 +6,7 @@ use Rattle.aig_cnf.specs.Answers.{HasFormula, RefusesFormula}
 use Rattle.aig_cnf.specs.Query.{depth, subject}
 use Rattle.aig_cnf.specs.declared.fault.CnfFault.{CnfFault}
 use Rattle.aig_cnf.specs.declared.query.Query.{Query}
-use Rattle.aig_sat.specs.model.ModelText.{HasStatus, IsUnknown, IsUnsatisfiable, SpellsModel}
-use Rattle.aig_sat.specs.model.Named.{AreNamed}
+use Rattle.aig_sat.specs.model.ModelText.{HasStatus, IsModelOf, IsUnknown, IsUnsatisfiable}
 use Rattle.aig_sat.specs.declared.model.fault.ModelFault.{ModelFault}
 use Rattle.aig_sat.specs.declared.model.fault.ModelFault.TheVariants as models
 use Rattle.aig_laws.specs.PartialModels.{named_rows, named_start}
@@ -22,15 +21,10 @@ use Rattle.aig_commands.specs.Witness.{SpellsFirst}
 abbrev pub variable_count : Raw → ℕ → ℕ
 variable_count raw k = input_count raw k + k * frame_size raw + 1
 
--- the text is a model that gives so many variables these values
-abbrev pub IsModelOf : ℕ → List ℕ → List Tern → Type 0
-IsModelOf variables model values =
-    (literals : List ℕ) × SpellsModel variables model literals × AreNamed literals variables values
-
--- why a model is refused: a solver says that there is none, or that it does not know; else the text is none, or memory
--- ran out
+-- why a model is refused: the text is none, whatever the values; a solver says that there is none, or that it does not
+-- know; or memory ran out
 abbrev pub RefusesModel : ℕ → List ℕ → ModelFault → Type 0
-RefusesModel variables model (models.Text at) = Unit {0}
+RefusesModel variables model (models.Text at) = (values : List Tern) → IsModelOf variables model values → ⊥
 RefusesModel variables model models.Unsatisfiable = HasStatus IsUnsatisfiable variables model
 RefusesModel variables model models.Unknown = HasStatus IsUnknown variables model
 RefusesModel variables model models.Memory = Unit {0}

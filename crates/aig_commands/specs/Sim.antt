@@ -10,12 +10,12 @@ use Rattle.aig_run.specs.declared.run_fault.RunFault.{RunFault}
 use Rattle.aig_run.specs.declared.run_fault.RunFault.TheVariants.{Stimulus}
 use Rattle.aig_run.specs.Command.{Text}
 
--- The rows that a run has read of a stimulus, by its answer. With how many they are: all (the greatest number of 64
--- bits stands for any greater). With a faulty line: those before it; a limit on frames is none of a run that
--- streams. Where a read failed: all that were read whole. Where no memory was found, nothing was read.
+-- The rows that a run has read of a stimulus, by its answer. With how many they are: all of the whole text (the
+-- greatest number of 64 bits stands for any greater). With a faulty line: those before it; a limit on frames is none of
+-- a run that streams. Where a read failed: all that were read whole. Where no memory was found, nothing was read.
 abbrev pub AreRowsOf : ℕ → Text → List (List Tern) → Result ℕ RunFault → Type 0
 AreRowsOf width text rows (Ok count) =
-    SpellsRows width text.bytes rows × (count ≡ min (length rows) (2 ^ 64 - 1))
+    SpellsRows width text.bytes rows × IsTrue text.is_whole × (count ≡ min (length rows) (2 ^ 64 - 1))
 AreRowsOf width text rows (Err (Stimulus stimuli.Unfinished)) =
     HasFaultyLine width text.bytes rows stimuli.Unfinished × IsTrue text.is_whole
 AreRowsOf width text rows (Err (Stimulus stimuli.Io)) = HoldsRows width text.bytes rows

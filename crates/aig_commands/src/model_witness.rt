@@ -7,7 +7,8 @@ ghost use Rattle.aig_cnf.specs.Query.{depth, subject};
 ghost use Rattle.aig_run.specs.Command.{CommandEnds, OfFile};
 ghost use Rattle.aig_unroll.specs.FrameLiteral.{input_count};
 ghost use Rattle.aig_unroll.specs.Unrollable.{FitsLimits};
-ghost use Rattle.aig_commands.specs.ModelWitness.{IsModelOf, RefusesModel, WritesModel, WritesNamed, variable_count};
+ghost use Rattle.aig_commands.specs.ModelWitness.{RefusesModel, WritesModel, WritesNamed, variable_count};
+ghost use Rattle.aig_sat.specs.model.ModelText.{IsModelOf};
 
 use crate::named_run::find_named;
 use aig_base::{Circuit, Tern, Write};

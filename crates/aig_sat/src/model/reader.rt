@@ -115,7 +115,7 @@ fn answer_of(line: &[u8]) -> Option<Answer>
 }
 
 // Whether a line that begins so may be a solver's answer.
-fn may_answer(first: u8) -> bool
+fn is_answer_byte(first: u8) -> bool
     ensures { IsTrue result ↔ IsAnswerByte first }
 {
     first == b's' || first == b'S' || first == b'U' || first == b'I'
@@ -223,7 +223,7 @@ impl Reader {
     fn may_answer(&self, begins_line: bool, first: u8) -> bool
         ensures { IsTrue result ↔ IsTrue begins_line × ((self.now.phase ≡ Phase.Before) × IsAnswerByte first) }
     {
-        begins_line && self.phase == Phase::Before && may_answer(first)
+        begins_line && self.phase == Phase::Before && is_answer_byte(first)
     }
 
     // Reads the line at a place by which a solver answers, and gives the place after it.
@@ -303,7 +303,8 @@ impl Reader {
 
 /// The values that the text of a model gives to so many variables, which its literals count from 1. Blanks, tabs and
 /// line ends separate the literals, up to a `0`; lines that begin with `c` are skipped, and a `v` may begin any other.
-/// A line that says that there is a model may stand before the literals. It takes a byte a variable.
+/// A line that says that there is a model may stand before the literals. It takes a byte a variable. It refuses a text as
+/// `Text` only if it is no model, and as `Unsatisfiable` or `Unknown` only if a solver's line says so.
 pub fn read_model(alloc: Global, text: &[u8], variables: u32) -> Result<Assignment, ModelFault>
     requires { variables ≤ 2147483648 }
     ensures named { IfOk result (IsModelOf variables text.now) }
