@@ -43,8 +43,8 @@ def read(path):
     """The edit of a file: its name, its prose, and the pairs by which it changes a source."""
     lines = path.read_text().splitlines()
     file = next(line for line in lines if line.startswith("file: "))
-    pieces = [line for line in lines[lines.index(file) + 1:]]
-    pairs = [(old.removeprefix("old: "), new.removeprefix("new:").removeprefix(" ")) for old, new in zip(pieces[::2], pieces[1::2])]
+    olds, news = (lines[lines.index(file) + first::2] for first in (1, 2))
+    pairs = [(old.removeprefix("old: "), new.removeprefix("new:").removeprefix(" ")) for old, new in zip(olds, news)]
     return Wrong(path.stem, " ".join(lines[:lines.index(file)]), file.removeprefix("file: "), pairs)
 
 

@@ -14,12 +14,13 @@ static int fails(const char *call)
     char byte = 0;
     char name[4096];
     struct statx status;
-    int file = strcmp(call, "open") == 0 ? -1 : open("called", O_RDWR | O_CREAT, 0600);
+    void *volatile memory = malloc(1);
+    int file = open("called", O_RDWR | O_CREAT, 0600);
 
     if (strcmp(call, "malloc") == 0)
-        return *(void *volatile *)&(void *){malloc(1)} == NULL;
+        return memory == NULL;
     if (strcmp(call, "open") == 0)
-        return open("called", O_RDWR | O_CREAT, 0600) < 0;
+        return file < 0;
     if (strcmp(call, "read") == 0)
         return read(file, &byte, 1) < 0;
     if (strcmp(call, "write") == 0)
