@@ -1,6 +1,6 @@
 //! A proof of a formula's refutation, checked step by step.
 ghost use Rattle.std.specs.Prelude.{◌≡◌, ◌+◌, OnOk};
-ghost use Rattle.aig_sat.specs.checker.Consequence.{Follows, IsUnsatisfiable};
+ghost use Rattle.aig_sat.specs.checker.Consequence.{IsUnsatisfiable, KeepsSatisfiable};
 ghost use Rattle.aig_sat.specs.proof.Reads.{reads_failed};
 
 use aig_base::{Lit, Memory, Read};
@@ -8,14 +8,25 @@ use aig_cnf::Formula;
 use aig_sat::{ProofFault, ProofReader, Refutation, StepKind};
 use std::alloc::Global;
 
-// Does a step: the clause that it adds has to follow.
+// Adds a clause that follows by unit propagation, or is a resolution asymmetric tautology on its first literal, and
+// answers whether it is one of these.
+fn add_clause(refutation: &mut Refutation, clause: &[Lit]) -> Result<bool, Memory>
+    ensures { KeepsSatisfiable refutation.old refutation.new }
+{
+    if refutation.add_step(clause)? {
+        return Ok(true);
+    }
+    refutation.add_on_first(clause)
+}
+
+// Does a step: the clause that it adds has to be right.
 fn take_step(
     refutation: &mut Refutation,
     kind: StepKind,
     clause: &[Lit],
     number: u64,
 ) -> Result<(), ProofFault>
-    ensures follows { Follows refutation.old refutation.new }
+    ensures keeps { KeepsSatisfiable refutation.old refutation.new }
     ensures count { reads_failed result ≡ 0 }
 {
     match kind {
@@ -23,7 +34,7 @@ fn take_step(
             refutation.delete(clause);
             Ok(())
         }
-        StepKind::Add => match refutation.add_step(clause) {
+        StepKind::Add => match add_clause(refutation, clause) {
             Ok(true) => Ok(()),
             Ok(false) => Err(ProofFault::Step { number }),
             Err(Memory) => Err(ProofFault::Memory),
@@ -53,9 +64,10 @@ fn check_steps<R: Read>(
 }
 
 /// Checks a solver's proof that no assignment satisfies a formula. Each clause that a step adds has to follow by unit
-/// propagation from the clauses so far, without those that were deleted. The check ends as soon as the empty clause
+/// propagation from the clauses so far, without those that were deleted, or to be a resolution asymmetric tautology on
+/// its first literal (`Refutation::add_on_first`). The check ends as soon as the empty clause
 /// follows, and reads no step after it; a formula that propagation alone refutes needs no steps. It rejects bytes that
-/// spell no step, the first step whose clause was not found to follow, and a proof that ends before the empty clause
+/// spell no step, the first step whose clause was found to be neither, and a proof that ends before the empty clause
 /// follows. What a refuted formula says of runs is `law_of_refutation` and `law_of_induction`.
 pub fn check<R: Read>(alloc: Global, formula: &Formula, proof: &mut R) -> Result<(), ProofFault>
     ensures refuted { OnOk result (IsUnsatisfiable formula.now.clauses) }

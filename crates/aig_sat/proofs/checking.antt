@@ -1,8 +1,11 @@
 pub mod WordLemmas
+pub mod SearchLemmas
 pub mod PutLemmas
 pub mod PropagationLemmas
 pub mod TruthLemmas
 pub mod StandingLemmas
 pub mod ForgetLemmas
 pub mod HoldingLemmas
+pub mod FirstLemmas
+pub mod StartLemmas
 pub mod RefutationLemmas

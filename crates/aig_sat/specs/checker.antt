@@ -2,6 +2,7 @@ pub mod Agreement
 pub mod Clause
 pub mod Consequence
 pub mod Distinct
+pub mod First
 pub mod Holding
 pub mod Knowledge
 pub mod Standing

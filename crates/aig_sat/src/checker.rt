@@ -3,6 +3,7 @@
 mod checker;
 mod clauses;
 mod finder;
+mod first;
 mod known;
 mod marks;
 mod propagator;

@@ -1,15 +1,16 @@
 -- Marks that are taken back.
-use Rattle.std.proofs.Common.{◌≡◌, ◌⊎◌, inl, inr, ℕ, ◌+◌, ◌<◌, ◌≤◌, Bool, true, false, List, length, get_or, set}
+use Rattle.std.proofs.Common.{◌≡◌, ◌⊎◌, inl, inr, ℕ, zero, suc, ◌+◌, ◌-◌, ◌<◌, ◌≤◌, Bool, true, false, cond, List, [], ◌∷◌, ◌++◌}
+use Rattle.std.proofs.Common.{length, get_or, set, refl}
 use Rattle.std.proofs.Common.{sym, ap, ◌∙◌, arith}
 use Rattle.std.proofs.lemmas.Bool.{false≢true}
-use Rattle.std.proofs.lemmas.List.{get_or-set_same, get_or-set_other, get_or_past}
+use Rattle.std.proofs.lemmas.List.{get_or-set_same, get_or-set_other, get_or_past, get_or_append_left, get_or-append_right}
 use Rattle.std.specs.Prelude.{nat_eq}
 use Rattle.std.proofs.lemmas.Bool.Decides.{nat_tests}
 use Rattle.std.proofs.lemmas.Grind.{get_or_default_zero}
 use Rattle.std.proofs.lemmas.List.Folds.{Any-from_list_any}
 use Rattle.aig_sat.specs.checker.Distinct.{Has}
 use Rattle.aig_sat.specs.checker.Knowledge.{IsIn, IsKnown}
-use Rattle.aig_sat.proofs.checking.WordLemmas.{same_or_other}
+use Rattle.aig_sat.proofs.checking.WordLemmas.{below_or_above, same_or_other}
 
 -- what is known was known, and is none of the first n of the list
 pub record AreForgotten (old new : List Bool) (list : List ℕ) (n : ℕ) : Type 0 where
@@ -47,6 +48,24 @@ forgotten_more old truths new list n before step = record {
           (sym (get_or-set_same truths (get_or list n 0) false false s.0)
           ∙ ap (λ i. get_or (set truths (get_or list n 0) false) i false) (sym e) ∙ ap (λ xs. get_or xs m false) (sym s.1) ∙ h)
     ]
+
+-- nothing is known of a variable that is added
+pub known_more : (truths : List Bool) (l : ℕ) → IsKnown (truths ++ false ∷ false ∷ []) l → IsKnown truths l
+known_more truths l h = elim (below_or_above l (length truths)) [
+  | inl lt ↦ sym (get_or_append_left truths (false ∷ false ∷ []) false l lt) ∙ h
+  | inr ge ↦ absurd (false≢true (sym (none (l - length truths))
+      ∙ sym (get_or-append_right truths (false ∷ false ∷ []) (length truths) l false refl ge) ∙ h))
+]
+  where
+    none : (k : ℕ) → get_or (false ∷ false ∷ []) k false ≡ false
+    none zero = refl
+    none (suc zero) = refl
+    none (suc (suc k)) = refl
+
+pub added_known : (b : Bool) (truths new : List Bool) → new ≡ cond b (truths ++ false ∷ false ∷ []) truths → (l : ℕ)
+    → IsKnown new l → IsKnown truths l
+added_known true truths new e l h = known_more truths l (ap (λ xs. get_or xs l false) (sym e) ∙ h)
+added_known false truths new e l h = ap (λ xs. get_or xs l false) (sym e) ∙ h
 
 -- one list, two ways to say that it has a literal
 pub in_from_has : (list : List ℕ) (l : ℕ) → Has list l → IsIn list l

@@ -10,12 +10,12 @@ use Rattle.aig_bytes.specs.declared.fault.Memory.{Memory}
 use Rattle.aig_parts.specs.Literal.{negation}
 use Rattle.aig_sat.specs.declared.checker.known.Known.{Known}
 use Rattle.aig_sat.specs.declared.checker.propagator.Propagator.{Propagator}
-use Rattle.aig_sat.specs.checker.Agreement.{Agrees, Assumes, Contradicts, Implies, KeepsAgreement, Propagates}
+use Rattle.aig_sat.specs.checker.Agreement.{Agrees, Assumes, Contradicts, Implies, Narrows, Propagates}
 use Rattle.aig_sat.specs.checker.Clause.{is_true, meets}
 use Rattle.aig_sat.specs.checker.Knowledge.{AreFalseBeside, IsFound, IsIn, IsKnown, MakesTrue, Takes}
-use Rattle.aig_sat.specs.checker.Words.{IsClauseAt, KeepsMet, MeetsAll}
+use Rattle.aig_sat.specs.checker.Words.{IsClauseAt, Shrinks}
 use Rattle.aig_sat.proofs.checking.TruthLemmas.{negation_false, negation_true}
-use Rattle.aig_sat.proofs.checking.WordLemmas.{same_or_other}
+use Rattle.aig_sat.proofs.checking.WordLemmas.{met_then, same_or_other, shrinks_none, shrinks_then}
 
 -- what is known after a literal was taken
 pub taken_known : (literal : ℕ) (old new : Known) → Takes literal old new → (l : ℕ) → IsKnown new.truths.items l
@@ -61,14 +61,14 @@ taken_found literal old new (inr t) before found l h = elim (taken_known literal
 
 -- propagation step by step
 pub no_step : (p : Propagator) → Propagates p p
-no_step p = record { met = λ v h. h; known = λ v a. a.known; found = λ b h. h }
+no_step p = record { same = shrinks_none _; known = λ v a. a.known; found = λ b h. h }
 
 pub agrees_then : (old mid : Propagator) → Propagates old mid → (values : ℕ → Bool) → Agrees values old → Agrees values mid
-agrees_then old mid first values a = record { met = first.met values a.met; known = first.known values a }
+agrees_then old mid first values a = record { met = met_then _ _ first.same values a.met; known = first.known values a }
 
 pub steps : (old mid new : Propagator) → Propagates old mid → Propagates mid new → Propagates old new
 steps old mid new first second = record {
-  met = λ v h. second.met v (first.met v h);
+  same = shrinks_then _ _ _ first.same second.same;
   known = λ v a. second.known v (agrees_then old mid first v a);
   found = λ b h. second.found b (first.found b h);
 }
@@ -81,16 +81,16 @@ pub by_taking : (literal : ℕ) (old new : Propagator) → new.clauses.words.ite
     → Takes literal old.known new.known → ((values : ℕ → Bool) → Agrees values old → is_true values literal ≡ true)
     → Propagates old new
 by_taking literal old new e t implied = record {
-  met = λ v h. subst (MeetsAll v) (sym e) h;
+  same = subst (Shrinks old.clauses.words.items) (sym e) (shrinks_none _);
   known = λ v a. taken_true v literal old.known new.known t a.known (implied v a);
   found = taken_found literal old.known new.known t;
 }
 
 -- only the clauses change
-pub by_words : (old new : Propagator) → KeepsMet old.clauses.words.items new.clauses.words.items → new.known ≡ old.known
+pub by_words : (old new : Propagator) → Shrinks old.clauses.words.items new.clauses.words.items → new.known ≡ old.known
     → Propagates old new
 by_words old new keeps e = record {
-  met = keeps;
+  same = keeps;
   known = λ v a. subst (λ (k : Known). MakesTrue v k.truths.items) (sym e) a.known;
   found = λ b h. subst (λ (k : Known). IsFound b k) (sym e) h;
 }
@@ -102,7 +102,7 @@ pub unit_true : (p : Propagator) (place : ℕ) (literals : List ℕ) (other : �
 unit_true p place literals other at all values a =
     let (k, inside, holds) = a.met place at.stands in
     let within : k < length literals = omega (arith, at.size) in
-    let is : get_or literals k 0 ≡ get_or p.clauses.words.items (place + (3 + k)) 0 = at.items k within in
+    let is : get_or literals k 0 ≡ get_or p.clauses.words.items (place + (4 + k)) 0 = at.items k within in
     elim (all k within) [
       | inl e ↦ ap (is_true values) (sym e ∙ is) ∙ holds
       | inr untrue ↦ absurd (negation_false values (get_or literals k 0) (a.known _ untrue) (ap (is_true values) is ∙ holds))
@@ -124,18 +124,21 @@ literal_false values clause k inside untrue = go (is_true values (get_or clause 
     go true e = absurd (false≢true (sym untrue ∙ list_any_at (is_true values) clause k 0 inside e))
 
 pub assume_none : (clause : List ℕ) (p : Propagator) → Assumes clause p p
-assume_none clause p = record { met = λ v h. h; known = λ v a _. a.known; found = λ b h. h }
+assume_none clause p = record { same = shrinks_none _; known = λ v a _. a.known; found = λ b h. h }
 
 pub assumed_agrees : (clause : List ℕ) (old mid : Propagator) → Assumes clause old mid → (values : ℕ → Bool)
     → Agrees values old → meets values clause ≡ false → Agrees values mid
-assumed_agrees clause old mid first values a untrue = record { met = first.met values a.met; known = first.known values a untrue }
+assumed_agrees clause old mid first values a untrue = record {
+  met = met_then _ _ first.same values a.met;
+  known = first.known values a untrue;
+}
 
 -- one more literal is assumed to be false
 pub assume_more : (clause : List ℕ) (k literal : ℕ) (old mid new : Propagator) → k < length clause
     → literal ≡ get_or clause k 0 → Assumes clause old mid → new.clauses.words.items ≡ mid.clauses.words.items
     → Takes (negation literal) mid.known new.known → Assumes clause old new
 assume_more clause k literal old mid new inside is first e t = record {
-  met = λ v h. subst (MeetsAll v) (sym e) (first.met v h);
+  same = subst (Shrinks old.clauses.words.items) (sym e) first.same;
   known = λ v a untrue.
       taken_true v (negation literal) mid.known new.known t (first.known v a untrue)
       (negation_true v literal (ap (is_true v) is ∙ literal_false v clause k inside untrue));
@@ -145,7 +148,7 @@ assume_more clause k literal old mid new inside is first e t = record {
 pub assume_then : (clause : List ℕ) (old mid new : Propagator) → Assumes clause old mid → Propagates mid new
     → Assumes clause old new
 assume_then clause old mid new first second = record {
-  met = λ v h. second.met v (first.met v h);
+  same = shrinks_then _ _ _ first.same second.same;
   known = λ v a untrue. second.known v (assumed_agrees clause old mid first v a untrue);
   found = λ b h. second.found b (first.found b h);
 }
@@ -191,8 +194,24 @@ pulled_clause (Err e) clause old mid first h = h
 pub undone : (clause : List ℕ) (old mid new : Propagator) → Assumes clause old mid
     → new.clauses.words.items ≡ mid.clauses.words.items
     → ((before : List Bool) → IsFound before mid.known → (l : ℕ) → IsKnown new.known.truths.items l → IsKnown before l)
-    → KeepsAgreement old new
-undone clause old mid new first e back v a = record {
-  met = subst (MeetsAll v) (sym e) (first.met v a.met);
-  known = λ l h. a.known l (back old.known.truths.items (first.found old.known.truths.items (λ m known. inl known)) l h);
+    → Narrows old new
+undone clause old mid new first e back = record {
+  same = subst (Shrinks old.clauses.words.items) (sym e) first.same;
+  fewer = λ l h. back old.known.truths.items (first.found old.known.truths.items (λ m known. inl known)) l h;
+}
+
+-- an assignment that agreed agrees where less stands and is known
+pub agrees_narrowed : (old new : Propagator) → Narrows old new → (values : ℕ → Bool) → Agrees values old → Agrees values new
+agrees_narrowed old new n values a = record {
+  met = met_then _ _ n.same values a.met;
+  known = λ l h. a.known l (n.fewer l h);
+}
+
+pub narrows_none : (p : Propagator) → Narrows p p
+narrows_none p = record { same = shrinks_none _; fewer = λ l h. h }
+
+pub narrows_then : (old mid new : Propagator) → Narrows old mid → Narrows mid new → Narrows old new
+narrows_then old mid new first second = record {
+  same = shrinks_then _ _ _ first.same second.same;
+  fewer = λ l h. first.fewer l (second.fewer l h);
 }

@@ -6,8 +6,8 @@ use Rattle.std.proofs.lemmas.List.{get_or-append_right, get_or_past}
 use Rattle.std.proofs.lemmas.List.Folds.{Any-from_list_any}
 use Rattle.std.proofs.lemmas.Grind.{get_or_default_zero}
 use Rattle.aig_sat.specs.checker.Clause.{is_true, meets}
-use Rattle.aig_sat.specs.checker.Words.{AreLiterals, IsLaidOut, IsLast, IsPut, KeepsMet, MeetsAll, StandsAt}
-use Rattle.aig_sat.proofs.checking.WordLemmas.{same_or_other, below_or_above}
+use Rattle.aig_sat.specs.checker.Words.{AreLiterals, IsLaidOut, IsLast, IsPut, KeepsMet, MeetsAll, Shrinks, StandsAt}
+use Rattle.aig_sat.proofs.checking.WordLemmas.{met_then, same_or_other, below_or_above}
 
 -- a literal that meets a clause
 pub literal_that_meets : (values : ℕ → Bool) (literals : List ℕ) → meets values literals ≡ true
@@ -45,19 +45,26 @@ append_laid_out words tail laid small p now =
           )
     ]
 
-pub append_keeps : (words tail : List ℕ) → IsLaidOut words → AreLiterals tail → KeepsMet words (words ++ tail)
-append_keeps words tail laid small values met p now = elim (below_or_above p (length words)) [
-  | inr above ↦ absurd (omega (arith, small_after words tail small p above, now))
-  | inl below ↦
-      let same : get_or (words ++ tail) p 0 ≡ get_or words p 0 = get_or_append_left words tail 0 p below in
+pub append_shrinks : (words tail : List ℕ) → IsLaidOut words → AreLiterals tail → Shrinks words (words ++ tail)
+append_shrinks words tail laid small = record {
+  heads = λ p now. get_or_append_left words tail 0 p (inside p now);
+  rest = λ p q now from to.
+      let same : get_or (words ++ tail) p 0 ≡ get_or words p 0 = get_or_append_left words tail 0 p (inside p now) in
       let old : StandsAt words p = omega (arith, same, now) in
-      let (k, k_in, holds) = met p old in
-      let inside : p + (3 + k) < length words = omega (arith, (laid p old).0, k_in) in
-      (k, omega (arith, same, k_in), ap (is_true values) (get_or_append_left words tail 0 (p + (3 + k)) inside) ∙ holds)
-]
+      get_or_append_left words tail 0 q (omega (arith, same, to, (laid p old).0));
+}
+  where
+    inside : (p : ℕ) → StandsAt (words ++ tail) p → p < length words
+    inside p now = elim (below_or_above p (length words)) [
+      | inl below ↦ below
+      | inr above ↦ absurd (omega (arith, small_after words tail small p above, now))
+    ]
 
-pub three_small : (a b : ℕ) → a < 0x8000_0000 → b < 0x8000_0000 → AreLiterals (0 ∷ a ∷ b ∷ [])
-three_small a b ha hb k within = grind arith
+pub append_keeps : (words tail : List ℕ) → IsLaidOut words → AreLiterals tail → KeepsMet words (words ++ tail)
+append_keeps words tail laid small = met_then words (words ++ tail) (append_shrinks words tail laid small)
+
+pub four_small : (a b : ℕ) → a < 0x8000_0000 → b < 0x8000_0000 → AreLiterals (0 ∷ a ∷ b ∷ 0 ∷ [])
+four_small a b ha hb k within = grind arith
 
 pub both_small : (xs ys : List ℕ) → AreLiterals xs → AreLiterals ys → AreLiterals (xs ++ ys)
 both_small xs ys hx hy k within = elim (below_or_above k (length xs)) [
@@ -66,22 +73,22 @@ both_small xs ys hx hy k within = elim (below_or_above k (length xs)) [
 ]
 
 pub put_words : (old literals : List ℕ) (a b : ℕ) → a < 0x8000_0000 → b < 0x8000_0000 → AreLiterals literals
-    → IsPut old literals ((old ++ (0 ∷ a ∷ b ∷ [])) ++ literals)
+    → IsPut old literals ((old ++ (0 ∷ a ∷ b ∷ 0 ∷ [])) ++ literals)
 put_words old literals a b ha hb small =
-    let head : List ℕ = 0 ∷ a ∷ b ∷ [] in
-    let inner : length (old ++ head) ≡ length old + 3 = length-append old head in
+    let head : List ℕ = 0 ∷ a ∷ b ∷ 0 ∷ [] in
+    let inner : length (old ++ head) ≡ length old + 4 = length-append old head in
     let outer : length ((old ++ head) ++ literals) ≡ length (old ++ head) + length literals = length-append (old ++ head) literals in
     record {
       len = omega (arith, inner, outer);
       before = λ q below.
           get_or_append_left (old ++ head) literals 0 q (omega (arith, inner, below)) ∙ get_or_append_left old head 0 q below;
       small = λ q above. elim (below_or_above q (length (old ++ head))) [
-        | inl lt ↦ omega (arith, get_or_append_left (old ++ head) literals 0 q lt, small_after old head (three_small a b ha hb) q above)
+        | inl lt ↦ omega (arith, get_or_append_left (old ++ head) literals 0 q lt, small_after old head (four_small a b ha hb) q above)
         | inr ge ↦ small_after (old ++ head) literals small q ge
       ];
       items = λ k within.
-          after (old ++ head) literals (length old + (3 + k)) (omega (arith, inner))
-          ∙ ap (λ i. get_or literals i 0) (let e : length old + (3 + k) - length (old ++ head) ≡ k = omega (arith, inner) in e);
+          after (old ++ head) literals (length old + (4 + k)) (omega (arith, inner))
+          ∙ ap (λ i. get_or literals i 0) (let e : length old + (4 + k) - length (old ++ head) ≡ k = omega (arith, inner) in e);
     }
 
 -- what was put is the last clause
@@ -121,7 +128,7 @@ stand_laid_out words n size laid is p now =
     ]
 
 pub stand_keeps : (words literals : List ℕ) (n : ℕ) → IsLast words n (length literals)
-    → ((k : ℕ) → k < length literals → get_or words (n + (3 + k)) 0 ≡ get_or literals k 0)
+    → ((k : ℕ) → k < length literals → get_or words (n + (4 + k)) 0 ≡ get_or literals k 0)
     → (values : ℕ → Bool) → meets values literals ≡ true → MeetsAll values words
     → MeetsAll values (set words n (0x8000_0000 + length literals))
 stand_keeps words literals n is items values meets_it met p now =
@@ -131,9 +138,9 @@ stand_keeps words literals n is items values meets_it met p now =
       | inl e ↦
           let here : get_or (set words n x) p 0 ≡ x = ap (λ i. get_or (set words n x) i 0) e ∙ get_or-set_same words n x 0 inside in
           let (k, k_in, k_true) = literal_that_meets values literals meets_it in
-          let at_k : get_or (set words n x) (p + (3 + k)) 0 ≡ get_or literals k 0 =
-          get_or-set_other words n (p + (3 + k)) x 0 (omega (arith, e))
-          ∙ ap (λ i. get_or words (i + (3 + k)) 0) e ∙ items k k_in in
+          let at_k : get_or (set words n x) (p + (4 + k)) 0 ≡ get_or literals k 0 =
+          get_or-set_other words n (p + (4 + k)) x 0 (omega (arith, e))
+          ∙ ap (λ i. get_or words (i + (4 + k)) 0) e ∙ items k k_in in
           (k, omega (arith, here, k_in), ap (is_true values) at_k ∙ k_true)
       | inr ne ↦
           let same : get_or (set words n x) p 0 ≡ get_or words p 0 = get_or-set_other words n p x 0 ne in
@@ -141,6 +148,6 @@ stand_keeps words literals n is items values meets_it met p now =
           let (k, k_in, k_true) = met p stands in (
             k,
             omega (arith, same, k_in),
-            ap (is_true values) (get_or-set_other words n (p + (3 + k)) x 0 (omega (arith, is.ends p stands, k_in))) ∙ k_true,
+            ap (is_true values) (get_or-set_other words n (p + (4 + k)) x 0 (omega (arith, is.ends p stands, k_in))) ∙ k_true,
           )
     ]

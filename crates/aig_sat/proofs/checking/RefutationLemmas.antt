@@ -1,13 +1,13 @@
 -- What the checker keeps, as formulas.
-use Rattle.std.proofs.Common.{◌≡◌, ℕ, Bool, true, List, [], ◌∷◌, refl, sym, subst, ◌∙◌}
+use Rattle.std.proofs.Common.{◌≡◌, ℕ, Bool, true, false, List, [], ◌∷◌, refl, sym, subst, ◌∙◌}
 use Rattle.std.specs.List.{list_all}
 use Rattle.std.specs.Prelude.{IsTrue, IfOk, Result, Ok, Err}
 use Rattle.std.proofs.lemmas.Bool.{false≢true}
 use Rattle.aig_bytes.specs.declared.fault.Memory.{Memory}
 use Rattle.aig_sat.specs.declared.checker.checker.Checker.{Checker}
-use Rattle.aig_sat.specs.checker.Consequence.{Follows, IsUnsatisfiable}
+use Rattle.aig_sat.specs.checker.Consequence.{Follows, IsUnsatisfiable, KeepsSatisfiable}
 use Rattle.aig_sat.specs.checker.Clause.{meets, Satisfies}
-use Rattle.aig_sat.specs.checker.Holding.{Holds, KeepsHolding, KeepsMeeting}
+use Rattle.aig_sat.specs.checker.Holding.{Holds, KeepsHolding, KeepsMeeting, KeepsSomeHolding}
 use Rattle.aig_sat.specs.checker.Standing.{standing}
 use Rattle.aig_sat.proofs.checking.StandingLemmas.{both_and, holds_state, split_and, state_holds}
 
@@ -38,6 +38,9 @@ pub follows_step : (clause : List ℕ) (old : Checker) → ((v : ℕ → Bool) �
     → Follows (formula old) (clause ∷ [])
 follows_step clause old implied v h = both_and (meets v clause) true (implied v (satisfied_holds v old h)) refl
 
+pub keeps_holding : (old new : Checker) → KeepsSomeHolding old new → KeepsSatisfiable (formula old) (formula new)
+keeps_holding old new keeps v h = let (w, holds) = keeps v (satisfied_holds v old h) in (w, holds_satisfied w new holds)
+
 pub unsatisfiable : (c : Checker) → c.refuted ≡ true → IsUnsatisfiable (formula c)
 unsatisfiable c yes_refuted v h = false≢true (sym (satisfied_holds v c h).open_still ∙ yes_refuted)
 
@@ -46,3 +49,9 @@ pub step_pulled : (r : Result Bool Memory) (clause : List ℕ) (old : Checker) (
     → IfOk r (λ taken. IsTrue taken → Follows clauses (clause ∷ []))
 step_pulled (Ok b) clause old clauses e h = λ t. subst (λ (x : List (List ℕ)). Follows x (clause ∷ [])) e (follows_step clause old (h t))
 step_pulled (Err f) clause old clauses e h = h
+
+pub refused_pulled : (r : Result Bool Memory) (old new : Checker) (clauses : List (List ℕ)) → formula old ≡ clauses
+    → IfOk r (λ taken. taken ≡ false → KeepsHolding old new) → IfOk r (λ taken. taken ≡ false → Follows clauses (formula new))
+refused_pulled (Ok b) old new clauses e h =
+    λ no. subst (λ (x : List (List ℕ)). Follows x (formula new)) e (follows_holding old new (h no))
+refused_pulled (Err f) old new clauses e h = h

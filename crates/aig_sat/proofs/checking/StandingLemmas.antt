@@ -22,7 +22,7 @@ split_and false b h = absurd (false≢true h)
 pub both_and : (a b : Bool) → a ≡ true → b ≡ true → (a && b) ≡ true
 both_and a b ea eb = cc
 
-split_or : (a b : Bool) → (a || b) ≡ true → (a ≡ true) ⊎ (b ≡ true)
+pub split_or : (a b : Bool) → (a || b) ≡ true → (a ≡ true) ⊎ (b ≡ true)
 split_or true b h = inl refl
 split_or false b h = inr h
 

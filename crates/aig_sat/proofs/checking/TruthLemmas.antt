@@ -4,13 +4,13 @@ use Rattle.std.proofs.lemmas.Bool.{false≢true}
 use Rattle.aig_parts.specs.Literal.{variable, negation, IsNegated}
 use Rattle.aig_sat.specs.checker.Clause.{is_true}
 
-signs : (l : ℕ) → (l % 2 ≡ 0) ⊎ (l % 2 ≡ 1)
+pub signs : (l : ℕ) → (l % 2 ≡ 0) ⊎ (l % 2 ≡ 1)
 signs l = grind arith
 
-true_even : (a : ℕ → Bool) (l : ℕ) → l % 2 ≡ 0 → is_true a l ≡ a (variable l)
+pub true_even : (a : ℕ → Bool) (l : ℕ) → l % 2 ≡ 0 → is_true a l ≡ a (variable l)
 true_even a l e = rw e refl
 
-true_odd : (a : ℕ → Bool) (l : ℕ) → IsNegated l → is_true a l ≡ not (a (variable l))
+pub true_odd : (a : ℕ → Bool) (l : ℕ) → IsNegated l → is_true a l ≡ not (a (variable l))
 true_odd a l e = rw e refl
 
 -- an odd literal is the negation of the one below it

@@ -1,9 +1,9 @@
 -- Words of clauses that are written or added.
 use Rattle.std.proofs.Common.{◌≡◌, ◌≢◌, ◌⊎◌, inl, inr, ℕ, ◌+◌, ◌<◌, ◌≤◌, List, length, get_or}
-use Rattle.std.proofs.Common.{set, ap, ◌∙◌, arith}
+use Rattle.std.proofs.Common.{set, refl, ap, ◌∙◌, arith}
 use Rattle.std.proofs.lemmas.List.{length-set, get_or-set_same, get_or-set_other}
 use Rattle.aig_sat.specs.checker.Clause.{is_true}
-use Rattle.aig_sat.specs.checker.Words.{IsLaidOut, KeepsMet, StandsAt, size_at}
+use Rattle.aig_sat.specs.checker.Words.{IsLaidOut, KeepsMet, Shrinks, StandsAt, size_at}
 
 pub same_or_other : (a b : ℕ) → (a ≡ b) ⊎ (a ≢ b)
 same_or_other a b = grind arith
@@ -11,22 +11,32 @@ same_or_other a b = grind arith
 pub below_or_above : (a b : ℕ) → (a < b) ⊎ (b ≤ a)
 below_or_above a b = grind arith
 
--- where a clause stands in the second words, it stands in the first ones, with the same literals
-pub record Shrinks (old new : List ℕ) : Type 0 where
-  pub heads : (p : ℕ) → StandsAt new p → get_or new p 0 ≡ get_or old p 0
-  pub rest : (p q : ℕ) → StandsAt new p → p + 3 ≤ q → q < p + (3 + size_at new p) → get_or new q 0 ≡ get_or old q 0
-
--- so what met the first ones meets the second ones
+-- what met the first ones meets the second ones
 pub met_then : (old new : List ℕ) → Shrinks old new → KeepsMet old new
 met_then old new s values met p stands =
     let e : get_or new p 0 ≡ get_or old p 0 = s.heads p stands in
     let (k, k_in, k_true) = met p (omega (arith, e)) in
     let inside : k < size_at new p = omega (arith, e) in
-    let same : get_or new (p + (3 + k)) 0 ≡ get_or old (p + (3 + k)) 0 = s.rest p (p + (3 + k)) stands (omega arith) (omega arith) in
+    let same : get_or new (p + (4 + k)) 0 ≡ get_or old (p + (4 + k)) 0 = s.rest p (p + (4 + k)) stands (omega arith) (omega arith) in
     (k, inside, ap (is_true values) same ∙ k_true)
 
+-- words one after the other
+pub shrinks_none : (words : List ℕ) → Shrinks words words
+shrinks_none words = record { heads = λ p s. refl; rest = λ p q s from to. refl }
+
+pub shrinks_then : (old mid new : List ℕ) → Shrinks old mid → Shrinks mid new → Shrinks old new
+shrinks_then old mid new first second = record {
+  heads = λ p s. second.heads p s ∙ first.heads p (stood p s);
+  rest = λ p q s from to.
+      let e : get_or new p 0 ≡ get_or mid p 0 = second.heads p s in
+      second.rest p q s from to ∙ first.rest p q (stood p s) from (omega (arith, e, to));
+}
+  where
+    stood : (p : ℕ) → StandsAt new p → StandsAt mid p
+    stood p s = let e : get_or new p 0 ≡ get_or mid p 0 = second.heads p s in omega (arith, e, s)
+
 -- a word of a clause that is neither its first nor one of its literals
-write_shrinks : (words : List ℕ) (p q x : ℕ) → IsLaidOut words → StandsAt words p → p < q → q < p + 3 → x < 0x8000_0000
+pub write_shrinks : (words : List ℕ) (p q x : ℕ) → IsLaidOut words → StandsAt words p → p < q → q < p + 4 → x < 0x8000_0000
     → Shrinks words (set words q x)
 write_shrinks words p q x laid stands above below small =
     let inside : q < length words = omega (arith, (laid p stands).0) in
@@ -54,7 +64,7 @@ write_shrinks words p q x laid stands above below small =
       ];
     }
 
-write_laid_out : (words : List ℕ) (p q x : ℕ) → IsLaidOut words → StandsAt words p → p < q → q < p + 3 → x < 0x8000_0000
+write_laid_out : (words : List ℕ) (p q x : ℕ) → IsLaidOut words → StandsAt words p → p < q → q < p + 4 → x < 0x8000_0000
     → IsLaidOut (set words q x)
 write_laid_out words p q x laid stands above below small p' now =
     let len : length (set words q x) ≡ length words = length-set words q x in
@@ -70,15 +80,15 @@ write_laid_out words p q x laid stands above below small p' now =
       ],
     )
 
-pub write_keeps : (words : List ℕ) (p q x : ℕ) → IsLaidOut words → StandsAt words p → p < q → q < p + 3 → x < 0x8000_0000
-    → IsLaidOut (set words q x) × KeepsMet words (set words q x)
+pub write_keeps : (words : List ℕ) (p q x : ℕ) → IsLaidOut words → StandsAt words p → p < q → q < p + 4 → x < 0x8000_0000
+    → IsLaidOut (set words q x) × Shrinks words (set words q x)
 write_keeps words p q x laid stands above below small = (
   write_laid_out words p q x laid stands above below small,
-  met_then words (set words q x) (write_shrinks words p q x laid stands above below small),
+  write_shrinks words p q x laid stands above below small,
 )
 
 -- a clause that is deleted
-remove_shrinks : (words : List ℕ) (p : ℕ) → IsLaidOut words → StandsAt words p → Shrinks words (set words p 0)
+pub remove_shrinks : (words : List ℕ) (p : ℕ) → IsLaidOut words → StandsAt words p → Shrinks words (set words p 0)
 remove_shrinks words p laid stands =
     let inside : p < length words = omega (arith, (laid p stands).0) in
     let at_p : get_or (set words p 0) p 0 ≡ 0 = get_or-set_same words p 0 0 inside in

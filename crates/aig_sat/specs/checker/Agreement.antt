@@ -2,8 +2,8 @@
 use Rattle.std.specs.Prelude.{◌≡◌, ℕ, Bool, true, false, List}
 use Rattle.aig_sat.specs.declared.checker.propagator.Propagator.{Propagator}
 use Rattle.aig_sat.specs.checker.Clause.{meets}
-use Rattle.aig_sat.specs.checker.Knowledge.{IsFound, MakesTrue}
-use Rattle.aig_sat.specs.checker.Words.{KeepsMet, MeetsAll}
+use Rattle.aig_sat.specs.checker.Knowledge.{IsFound, IsKnown, MakesTrue}
+use Rattle.aig_sat.specs.checker.Words.{MeetsAll, Shrinks}
 
 -- the assignment meets each clause that stands and makes each known literal true
 pub record Agrees (values : ℕ → Bool) (p : Propagator) : Type 0 where
@@ -16,13 +16,13 @@ Contradicts p = (values : ℕ → Bool) → Agrees values p → ⊥
 
 -- What is known from now on follows from what stood and was known, and is in the trail where it was not known.
 pub record Propagates (old new : Propagator) : Type 0 where
-  pub met : KeepsMet old.clauses.words.items new.clauses.words.items
+  pub same : Shrinks old.clauses.words.items new.clauses.words.items
   pub known : (values : ℕ → Bool) → Agrees values old → MakesTrue values new.known.truths.items
   pub found : (before : List Bool) → IsFound before old.known → IsFound before new.known
 
 -- The same, where the literals of a clause are taken to be false.
 pub record Assumes (clause : List ℕ) (old new : Propagator) : Type 0 where
-  pub met : KeepsMet old.clauses.words.items new.clauses.words.items
+  pub same : Shrinks old.clauses.words.items new.clauses.words.items
   pub known : (values : ℕ → Bool) → Agrees values old → meets values clause ≡ false → MakesTrue values new.known.truths.items
   pub found : (before : List Bool) → IsFound before old.known → IsFound before new.known
 
@@ -30,6 +30,7 @@ pub record Assumes (clause : List ℕ) (old new : Propagator) : Type 0 where
 abbrev pub Implies : Propagator → List ℕ → Type 0
 Implies p clause = (values : ℕ → Bool) → Agrees values p → meets values clause ≡ true
 
--- each assignment that agreed, and makes the literal true, agrees
-abbrev pub KeepsAgreement : (old new : Propagator) → Type 0
-KeepsAgreement old new = (values : ℕ → Bool) → Agrees values old → Agrees values new
+-- no clause stands, and nothing is known, that did not and was not before
+pub record Narrows (old new : Propagator) : Type 0 where
+  pub same : Shrinks old.clauses.words.items new.clauses.words.items
+  pub fewer : (l : ℕ) → IsKnown new.known.truths.items l → IsKnown old.known.truths.items l

@@ -9,3 +9,7 @@ Follows old new = (values : ℕ → Bool) → Satisfies values old → Satisfies
 -- no assignment satisfies the formula
 abbrev pub IsUnsatisfiable : List (List ℕ) → Type 0
 IsUnsatisfiable clauses = (values : ℕ → Bool) → Satisfies values clauses → ⊥
+
+-- where an assignment satisfies the first formula, some assignment satisfies the second
+abbrev pub KeepsSatisfiable : List (List ℕ) → List (List ℕ) → Type 0
+KeepsSatisfiable old new = (values : ℕ → Bool) → Satisfies values old → (others : ℕ → Bool) × Satisfies others new

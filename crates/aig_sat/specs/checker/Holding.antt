@@ -12,6 +12,10 @@ pub record Holds (values : ℕ → Bool) (c : Checker) : Type 0 where
 abbrev pub KeepsHolding : Checker → Checker → Type 0
 KeepsHolding old new = (values : ℕ → Bool) → Holds values old → Holds values new
 
+-- of an assignment that holds, this or another one holds
+abbrev pub KeepsSomeHolding : Checker → Checker → Type 0
+KeepsSomeHolding old new = (values : ℕ → Bool) → Holds values old → (others : ℕ → Bool) × Holds others new
+
 -- each assignment that holds, and meets the clause, holds
 abbrev pub KeepsMeeting : List ℕ → Checker → Checker → Type 0
 KeepsMeeting clause old new = (values : ℕ → Bool) → Holds values old → meets values clause ≡ true → Holds values new

@@ -17,6 +17,8 @@ pub(crate) struct Checker {
     pub(crate) propagator: Propagator,
     pub(crate) finder: Finder,
     pub(crate) marks: Marks,
+    // The clause that was last tried in place of one that is added on its first literal, for its memory.
+    pub(crate) resolvent: Vec<Lit>,
     pub(crate) refuted: bool,
 }
 
@@ -29,8 +31,27 @@ impl Checker {
             propagator: Propagator::new(alloc, variables)?,
             finder: Finder::new(alloc)?,
             marks: Marks::new(alloc, 2 * variables as usize)?,
+            resolvent: Vec::new(alloc),
             refuted: false,
         })
+    }
+
+    // Adds a variable that no clause has.
+    fn add_variable(&mut self) -> Result<(), Memory>
+        ensures { KeepsHolding self.old self.new }
+    {
+        self.marks.add_variable()?;
+        self.propagator.add_variable()
+    }
+
+    /// Adds variables until there are so many.
+    pub(crate) fn add_variables(&mut self, variables: usize) -> Result<(), Memory>
+        ensures { KeepsHolding self.old self.new }
+    {
+        for _ in self.propagator.known.len() / 2..variables {
+            self.add_variable()?;
+        }
+        Ok(())
     }
 
     // Stores the clause of the marks, with its watched literals.
@@ -84,10 +105,10 @@ impl Checker {
         match self
             .propagator
             .known
-            .free_beside(&self.marks.literals, first)
+            .free_beside(&self.marks.literals, first, 0)
         {
             None => self.store_unit(first),
-            Some(second) => self.store_watched(first, second),
+            Some(second) => self.store_watched(first, second.literal),
         }
     }
 

@@ -1,8 +1,9 @@
 //! The clauses that stand, in one list of words.
-ghost use Rattle.std.specs.Prelude.{◌≡◌, ℕ, ◌+◌, ◌<◌, length, slice_set};
-ghost use Rattle.std.specs.Prelude.{Bool, true, IsTrue, IfSome, IfOk, OnOk, slice_index};
+ghost use Rattle.std.specs.Prelude.{◌≡◌, ℕ, ◌+◌, ◌<◌, ◌≤◌, length, slice_set};
+ghost use Rattle.aig_parts.specs.Literal.{variable};
+ghost use Rattle.std.specs.Prelude.{Bool, true, IsTrue, IfNone, IfSome, IfOk, OnOk, slice_index};
 ghost use Rattle.aig_sat.specs.checker.Clause.{meets};
-ghost use Rattle.aig_sat.specs.checker.Words.{AreLiterals, IsClauseAt, IsLaidOut, IsLast, IsPut, KeepsMet, MeetsAll};
+ghost use Rattle.aig_sat.specs.checker.Words.{AreLiterals, AreNamed, Begins, IsClauseAt, IsLaidOut, IsLast, IsPut, KeepsMet, MeetsAll, Shrinks, StandsAt, literal_at};
 
 use aig_bytes::Memory;
 use std::alloc::Global;
@@ -11,16 +12,21 @@ use std::alloc::Global;
 /// below it.
 pub(crate) const HEAD: u32 = 0x8000_0000;
 
-/// How many words a clause has before its literals: the head, the next clause of its chain, and its watched literals,
-/// as their exclusive or.
-const BEFORE: usize = 3;
+/// How many words a clause has before its literals: the head, the next clause of its chain, its watched literals as
+/// their exclusive or, and where among its literals the last search for a free one ended.
+const BEFORE: usize = 4;
 
 /// The clauses that stand, by the place of their first word. A clause that is deleted loses its head, and its words are
 /// never used again.
 #[derive(Drop)]
 pub(crate) struct Clauses {
     pub(crate) words: Vec<u32>,
+    // For each variable a place before which no clause has it.
+    pub(crate) starts: Vec<u32>,
+    // Each variable that a clause has is below this.
+    pub(crate) named: u32,
     ghost laid_out: { IsLaidOut words.items },
+    ghost begins: { Begins starts.items named words.items },
 }
 
 // Whether these can be literals of a clause.
@@ -35,15 +41,60 @@ fn are_literals(literals: &[u32]) -> bool
     true
 }
 
+// A number that is above the variables of these literals, and not below another one.
+fn above(literals: &[u32], named: u32) -> u32
+    ensures more { named ≤ result }
+    ensures all { AreNamed literals.now result }
+{
+    let mut above = named;
+    for literal in literals {
+        above = above.max(*literal / 2 + 1);
+    }
+    above
+}
+
 impl Clauses {
-    /// No clauses.
-    pub(crate) fn new(alloc: Global) -> Result<Clauses, Memory>
+    /// No clauses over so many variables.
+    pub(crate) fn new(alloc: Global, variables: usize) -> Result<Clauses, Memory>
         ensures { IfOk result (λ clauses. (values : ℕ → Bool) → MeetsAll values clauses.words.items) }
     {
         // No clause is at place 0, so that a chain can end with it.
         Ok(Clauses {
             words: vec![in alloc; 0; 1]?,
+            starts: vec![in alloc; 0; variables]?,
+            named: 0,
         })
+    }
+
+    // Where the next variable begins: at the place of the next clause, if no clause has it yet.
+    fn next_start(&self) -> u32
+        ensures within { result ≤ length self.now.words.items }
+        ensures early { length self.now.starts.items < self.now.named → result ≡ 0 }
+    {
+        if self.starts.len() < self.named as usize || self.words.len() >= HEAD as usize {
+            return 0;
+        }
+        self.words.len() as u32
+    }
+
+    /// Adds a variable.
+    pub(crate) fn add_variable(&mut self) -> Result<(), Memory>
+        ensures { self.new.words.items ≡ self.old.words.items }
+    {
+        let start = self.next_start();
+        self.starts.push(start)?;
+        Ok(())
+    }
+
+    /// A place before which no clause has the variable of a literal.
+    pub(crate) fn start(&self, literal: u32) -> usize
+        ensures start { result ≡ slice_index self.now.starts.items (variable literal) }
+        ensures begins { Begins self.now.starts.items self.now.named self.now.words.items }
+    {
+        match self.starts.get(literal as usize / 2) {
+            Some(start) => *start as usize,
+            None => 0,
+        }
     }
 
     // The word at a place.
@@ -57,16 +108,24 @@ impl Clauses {
         }
     }
 
+    /// How many words there are: each clause that stands is at a place below.
+    pub(crate) fn len(&self) -> usize
+        ensures { result ≡ length self.now.words.items }
+    {
+        self.words.len()
+    }
+
     /// The literals of the clause at a place, if one stands there.
     #[inline]
-    pub(crate) fn literals(&self, place: u32) -> Option<&[u32]>
-        ensures { IfSome result (λ literals. IsClauseAt self.now.words.items place literals.now) }
+    pub(crate) fn literals(&self, place: usize) -> Option<&[u32]>
+        ensures some { IfSome result (λ literals. IsClauseAt self.now.words.items place literals.now) }
+        ensures none { IfNone result (StandsAt self.now.words.items place → ⊥) }
     {
-        let head = self.word(place as usize);
+        let head = self.word(place);
         if head < HEAD {
             return None;
         }
-        let start = place as usize + BEFORE;
+        let start = place + BEFORE;
         Some(&self.words[start..start + (head - HEAD) as usize])
     }
 
@@ -81,12 +140,18 @@ impl Clauses {
         self.word(place as usize + 2)
     }
 
+    /// Where the last search among the literals of a clause ended.
+    #[inline]
+    pub(crate) fn searched(&self, place: u32) -> usize {
+        self.word(place as usize + 3) as usize
+    }
+
     // Writes a word of a clause that is neither its head nor one of its literals.
     #[inline]
     fn set_word(&mut self, place: u32, offset: usize, value: u32)
         requires first { 0 < offset }
-        requires last { offset < 3 }
-        ensures { KeepsMet self.old.words.items self.new.words.items }
+        requires last { offset < 4 }
+        ensures { Shrinks self.old.words.items self.new.words.items }
     {
         if self.word(place as usize) >= HEAD {
             self.words[place as usize + offset] = value % HEAD;
@@ -100,21 +165,24 @@ impl Clauses {
         self.set_word(place, 1, next);
     }
 
-    /// Keeps which literals of a clause are watched.
+    /// Keeps which literals of a clause are watched, and where the search among its literals ended.
     #[inline]
-    pub(crate) fn set_watched(&mut self, place: u32, watched: u32)
-        ensures { KeepsMet self.old.words.items self.new.words.items }
+    pub(crate) fn set_watched(&mut self, place: u32, watched: u32, searched: usize)
+        ensures { Shrinks self.old.words.items self.new.words.items }
     {
         self.set_word(place, 2, watched);
+        self.set_word(place, 3, (searched % HEAD as usize) as u32);
     }
 
     // Adds the words of a clause, which does not stand yet.
     fn put(&mut self, next: u32, watched: u32, literals: &[u32]) -> Result<(), Memory>
         requires { AreLiterals literals.now }
         ensures met { KeepsMet self.old.words.items self.new.words.items }
+        ensures starts { self.new.starts.items ≡ self.old.starts.items }
+        ensures named { self.new.named ≡ self.old.named }
         ensures ok { OnOk result (IsPut self.old.words.items literals.now self.new.words.items) }
     {
-        let before = [0, next % HEAD, watched % HEAD];
+        let before = [0, next % HEAD, watched % HEAD, 0];
         self.words.extend_from_slice(&before)?;
         self.words.extend_from_slice(literals)?;
         Ok(())
@@ -122,7 +190,7 @@ impl Clauses {
 
     // Whether there is room for a clause of these literals.
     fn has_room(&self, literals: &[u32]) -> bool
-        ensures room { IsTrue result → length self.now.words.items + (3 + length literals.now) < 0x8000_0000 }
+        ensures room { IsTrue result → length self.now.words.items + (4 + length literals.now) < 0x8000_0000 }
         ensures literals { IsTrue result → AreLiterals literals.now }
     {
         self.words.len() < 0x4000_0000 && literals.len() < 0x3000_0000 && are_literals(literals)
@@ -132,6 +200,8 @@ impl Clauses {
     fn stand(&mut self, place: usize, size: u32)
         requires size { size < 0x8000_0000 }
         requires last { IsLast self.old.words.items place size }
+        requires begun { (x : ℕ) → slice_index self.old.starts.items x ≤ place }
+        requires named { (k : ℕ) → k < size → variable (literal_at self.old.words.items place k) < self.old.named }
         ensures { self.new.words.items ≡ slice_set self.old.words.items place (0x8000_0000 + size) }
     {
         self.words[place] = HEAD + size;
@@ -146,6 +216,7 @@ impl Clauses {
             return Err(Memory);
         }
         let place = self.words.len();
+        self.named = above(literals, self.named);
         self.put(next, watched, literals)?;
         self.stand(place, literals.len() as u32);
         Ok(place as u32)

@@ -8,6 +8,10 @@ use aig_bytes::Memory;
 use std::alloc::Global;
 use std::mem;
 
+/// How many clauses of a chain a deletion looks at. A proof can choose clauses whose hashes agree, and no chain of a
+/// solver's proof is nearly as long.
+const LONGEST_WALK: usize = 1024;
+
 /// Chains of the clauses that stand, by a hash of their literals.
 #[derive(Drop)]
 pub(crate) struct Finder {
@@ -56,7 +60,7 @@ impl Finder {
     fn link(&mut self, clauses: &mut Clauses, place: u32)
         ensures { KeepsMet clauses.old.words.items clauses.new.words.items }
     {
-        if let Some(literals) = clauses.literals(place) {
+        if let Some(literals) = clauses.literals(place as usize) {
             let chain = self.chain_of(literals);
             clauses.set_next(place, self.chains[chain]);
             self.chains[chain] = place;
@@ -111,15 +115,15 @@ impl Finder {
         Ok(())
     }
 
-    /// Deletes a clause that has the literals of the marks, if one is there.
+    /// Deletes a clause that has the literals of the marks, if one is among the first 1,024 of its chain.
     pub(crate) fn delete(&mut self, clauses: &mut Clauses, marks: &Marks)
         ensures { KeepsMet clauses.old.words.items clauses.new.words.items }
     {
         let chain = self.chain_of(&marks.literals);
         let mut before = 0;
         let mut place = self.chains[chain];
-        for _ in 0..self.clauses {
-            let Some(literals) = clauses.literals(place) else {
+        for _ in 0..LONGEST_WALK {
+            let Some(literals) = clauses.literals(place as usize) else {
                 return;
             };
             let next = clauses.next(place);

@@ -1,5 +1,5 @@
 //! The literals that are known to be true.
-ghost use Rattle.std.specs.Prelude.{◌≡◌, ℕ, List, Bool, false, IfNone, IfOk, slice_index_or};
+ghost use Rattle.std.specs.Prelude.{◌≡◌, ℕ, ◌<◌, List, Bool, false, IfNone, IfSome, IfOk, length, slice_index_or};
 ghost use Rattle.aig_parts.specs.Literal.{negation};
 ghost use Rattle.aig_sat.specs.checker.Knowledge.{AreFalse, AreFalseBeside, IsFound, IsIn, IsKnown, Takes};
 
@@ -13,6 +13,13 @@ use std::alloc::Global;
 pub(crate) struct Known {
     pub(crate) truths: Vec<bool>,
     pub(crate) trail: Vec<u32>,
+}
+
+/// A literal of a clause that is not known to be false, and its place among the clause's literals.
+#[derive(Clone, Copy)]
+pub(crate) struct Free {
+    pub(crate) literal: u32,
+    pub(crate) place: usize,
 }
 
 /// The literal with the other sign.
@@ -44,6 +51,14 @@ impl Known {
             truths: vec![in alloc; false; literals]?,
             trail: Vec::new(alloc),
         })
+    }
+
+    /// Adds a variable of which nothing is known.
+    pub(crate) fn add_variable(&mut self) -> Result<(), Memory>
+        ensures { (l : ℕ) → IsKnown self.new.truths.items l → IsKnown self.old.truths.items l }
+    {
+        self.truths.extend_from_slice(&[false, false])?;
+        Ok(())
     }
 
     /// How many literals there are.
@@ -83,17 +98,39 @@ impl Known {
         None
     }
 
-    /// The first of the literals, but for this one, that is not known to be false.
+    // The first of the literals, except this one, that is not known to be false, and its place among them.
     #[inline]
-    pub(crate) fn free_beside(&self, literals: &[u32], other: u32) -> Option<u32>
-        ensures { IfNone result (AreFalseBeside self.now.truths.items literals.now other) }
+    fn search(&self, literals: &[u32], other: u32) -> Option<Free>
+        ensures none { IfNone result (AreFalseBeside self.now.truths.items literals.now other) }
+        ensures inside { IfSome result (λ free. free.place < length literals.now) }
     {
-        for literal in literals {
+        for (place, literal) in literals.iter().enumerate() {
             if *literal != other && !self.is_false(*literal) {
-                return Some(*literal);
+                return Some(Free {
+                    literal: *literal,
+                    place,
+                });
             }
         }
         None
+    }
+
+    /// A literal, except this one, that is not known to be false. The search begins at a place of the literals and goes
+    /// on from their first one. Where each search begins at the place that the last one found, the searches of a
+    /// propagation together look at each literal of a clause at most three times.
+    #[inline]
+    pub(crate) fn free_beside(&self, literals: &[u32], other: u32, from: usize) -> Option<Free>
+        ensures { IfNone result (AreFalseBeside self.now.truths.items literals.now other) }
+    {
+        let from = from.min(literals.len());
+        let (before, after) = literals.split_at(from);
+        if let Some(free) = self.search(after, other) {
+            return Some(Free {
+                literal: free.literal,
+                place: from + free.place,
+            });
+        }
+        self.search(before, other)
     }
 
     /// The literal at a place of the trail.

@@ -25,6 +25,12 @@ impl Marks {
         })
     }
 
+    /// Adds a variable whose literals have no mark.
+    pub(crate) fn add_variable(&mut self) -> Result<(), Memory> {
+        self.marked.extend_from_slice(&[false, false])?;
+        Ok(())
+    }
+
     /// Whether the literal has a mark.
     fn has(&self, literal: u32) -> bool
         ensures { result ≡ slice_index_or self.now.marked.items literal false }

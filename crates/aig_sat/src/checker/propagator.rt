@@ -1,6 +1,6 @@
 //! Unit propagation.
 ghost use Rattle.std.specs.Prelude.{◌≡◌, ℕ, Bool, true, IsTrue, IfOk};
-ghost use Rattle.aig_sat.specs.checker.Agreement.{Agrees, Assumes, Contradicts, Implies, KeepsAgreement, Propagates};
+ghost use Rattle.aig_sat.specs.checker.Agreement.{Agrees, Assumes, Contradicts, Implies, Narrows, Propagates};
 ghost use Rattle.aig_sat.specs.checker.Clause.{is_true};
 ghost use Rattle.aig_sat.specs.checker.Visits.{OnConflict};
 
@@ -17,6 +17,8 @@ pub(crate) struct Propagator {
     pub(crate) clauses: Clauses,
     pub(crate) known: Known,
     pub(crate) watches: Watches,
+    // How many watches and literals propagation may still look at.
+    pub(crate) looks: u64,
 }
 
 // What becomes of a watch of a literal that is false.
@@ -36,10 +38,20 @@ impl Propagator {
     {
         let literals = 2 * variables as usize;
         Ok(Propagator {
-            clauses: Clauses::new(alloc)?,
+            clauses: Clauses::new(alloc, variables as usize)?,
             known: Known::new(alloc, literals)?,
             watches: Watches::new(alloc, literals)?,
+            looks: u64::MAX,
         })
+    }
+
+    /// Adds a variable that no clause has.
+    pub(crate) fn add_variable(&mut self) -> Result<(), Memory>
+        ensures { Narrows self.old self.new }
+    {
+        self.watches.add_variable()?;
+        self.clauses.add_variable()?;
+        self.known.add_variable()
     }
 
     /// Lets a clause watch two of its literals.
@@ -72,20 +84,22 @@ impl Propagator {
         if self.known.is_true(watch.blocker) {
             return Ok(Visit::Stays(watch.blocker));
         }
-        let Some(literals) = self.clauses.literals(watch.clause) else {
+        let Some(literals) = self.clauses.literals(watch.clause as usize) else {
             return Ok(Visit::Leaves);
         };
         let other = self.clauses.watched(watch.clause) ^ lie;
         if self.known.is_true(other) {
             return Ok(Visit::Stays(other));
         }
-        if let Some(literal) = self.known.free_beside(literals, other) {
+        let from = self.clauses.searched(watch.clause);
+        if let Some(free) = self.known.free_beside(literals, other, from) {
             let moved = Watch {
                 clause: watch.clause,
                 blocker: other,
             };
-            self.watches.add(literal, moved)?;
-            self.clauses.set_watched(watch.clause, other ^ literal);
+            self.watches.add(free.literal, moved)?;
+            self.clauses
+                .set_watched(watch.clause, other ^ free.literal, free.place);
             return Ok(Visit::Leaves);
         }
         if self.known.is_false(other) {
@@ -133,19 +147,29 @@ impl Propagator {
         ensures conflict { IfOk result (λ conflict. IsTrue conflict → Contradicts self.old) }
     {
         let mut list = self.watches.lend(lie);
+        self.looks = self.looks.saturating_sub(list.len() as u64);
         let conflict = self.visit_list(&mut list, lie);
         self.watches.give_back(lie, list);
         conflict
     }
 
-    // Takes the literals that follow from those of the trail; answers whether there is a conflict.
+    // The literal at a place of the trail, while looks are left.
+    fn next_found(&self, place: usize) -> Option<u32> {
+        if self.looks == 0 {
+            return None;
+        }
+        self.known.found(place)
+    }
+
+    // Takes the literals that follow from those of the trail; answers whether there is a conflict. It ends without one
+    // where no looks are left.
     fn propagate(&mut self) -> Result<bool, Memory>
         ensures propagates { Propagates self.old self.new }
         ensures conflict { IfOk result (λ conflict. IsTrue conflict → Contradicts self.old) }
     {
         // A literal comes into the trail once.
         for place in 0..self.known.len() {
-            let Some(literal) = self.known.found(place) else {
+            let Some(literal) = self.next_found(place) else {
                 return Ok(false);
             };
             if self.visit_all(negated(literal))? {
@@ -182,12 +206,25 @@ impl Propagator {
 
     /// Whether a clause follows by unit propagation.
     pub(crate) fn follows(&mut self, clause: &[Lit]) -> Result<bool, Memory>
-        ensures agrees { KeepsAgreement self.old self.new }
+        ensures narrows { Narrows self.old self.new }
         ensures implied { IfOk result (λ follows. IsTrue follows → Implies self.old clause.now) }
     {
         let follows = self.try_clause(clause);
         self.known.undo();
         follows
+    }
+
+    /// Whether a clause follows by unit propagation, as the looks that are left show.
+    pub(crate) fn follows_soon(&mut self, clause: &[Lit]) -> Result<bool, Memory>
+        ensures narrows { Narrows self.old self.new }
+        ensures implied { IfOk result (λ follows. IsTrue follows → Implies self.old clause.now) }
+    {
+        let looks = clause.len() as u64;
+        if looks > self.looks {
+            return Ok(false);
+        }
+        self.looks = self.looks.saturating_sub(looks);
+        self.follows(clause)
     }
 
     /// Takes a literal to be true for good; answers whether there is a conflict.

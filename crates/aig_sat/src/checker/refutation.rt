@@ -1,6 +1,6 @@
 //! Checking a refutation, clause by clause.
-ghost use Rattle.std.specs.Prelude.{IsTrue, IfOk, [], ◌∷◌};
-ghost use Rattle.aig_sat.specs.checker.Consequence.{Follows, IsUnsatisfiable};
+ghost use Rattle.std.specs.Prelude.{◌≡◌, IsTrue, IfOk, false, [], ◌∷◌};
+ghost use Rattle.aig_sat.specs.checker.Consequence.{Follows, IsUnsatisfiable, KeepsSatisfiable};
 
 use crate::checker::checker::Checker;
 use aig_bytes::Memory;
@@ -38,6 +38,13 @@ impl Refutation {
         })
     }
 
+    /// Adds variables until there are so many. It takes memory for each of them.
+    pub fn add_variables(&mut self, variables: u32) -> Result<(), Memory>
+        ensures { Follows self.old self.new }
+    {
+        self.checker.add_variables(variables as usize)
+    }
+
     /// Adds a clause to the formula. If no memory was found, the clause may be missing.
     pub fn add_clause(&mut self, clause: &[Lit]) -> Result<(), Memory>
         ensures { Follows (clause.now ∷ self.old) self.new }
@@ -54,8 +61,21 @@ impl Refutation {
         self.checker.add_step(clause)
     }
 
+    /// Adds a clause, if it is a resolution asymmetric tautology on its first literal, and answers whether it is. Such a
+    /// clause need not follow, but the formula stays satisfiable if it was. Neither that literal nor its negation may
+    /// have been found to be true. Each clause that stands and has the negation has to give, without the negation and
+    /// with this clause's literals, a clause that follows by unit propagation. All of them together may take as many
+    /// looks at watches and literals as the clauses have words, and 65,536 more.
+    pub fn add_on_first(&mut self, clause: &[Lit]) -> Result<bool, Memory>
+        ensures keeps { KeepsSatisfiable self.old self.new }
+        ensures stands { Follows (clause.now ∷ self.old) self.new }
+        ensures refused { IfOk result (λ taken. taken ≡ false → Follows self.old self.new) }
+    {
+        self.checker.add_on_first(clause)
+    }
+
     /// Deletes a clause of these literals, in any order, if one stands. Of equal ones it deletes one. What was found to
-    /// be true stays so.
+    /// be true stays so. It looks at 1,024 clauses at most: one that is not found among them stays.
     pub fn delete(&mut self, clause: &[Lit])
         ensures { Follows self.old self.new }
     {

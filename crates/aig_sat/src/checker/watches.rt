@@ -28,6 +28,13 @@ impl Watches {
         Ok(Watches { lists, alloc })
     }
 
+    /// Adds a variable whose literals have empty lists.
+    pub(crate) fn add_variable(&mut self) -> Result<(), Memory> {
+        self.lists.push(Vec::new(self.alloc))?;
+        self.lists.push(Vec::new(self.alloc))?;
+        Ok(())
+    }
+
     /// Adds a watch to the list of a literal.
     #[inline]
     pub(crate) fn add(&mut self, literal: u32, watch: Watch) -> Result<(), Memory> {

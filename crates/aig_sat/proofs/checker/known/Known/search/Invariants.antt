@@ -1,9 +1,9 @@
 use Rattle.std.proofs.Common.{◌≡◌, ◌⊎◌, ℕ, ◌<◌, get_or}
 use Rattle.aig_parts.specs.Literal.{negation}
 use Rattle.aig_sat.specs.checker.Knowledge.{IsKnown}
-use Rattle.aig_sat.proofs.checker.known.Known.free_beside.Given as goal
+use Rattle.aig_sat.proofs.checker.known.Known.search.Given as goal
 
-abbrev pub invariant-loop-literal : goal.invariant-loop-literal
-invariant-loop-literal l =
-    (k : ℕ) → k < l.literal-index
+abbrev pub invariant-loop-place : goal.invariant-loop-place
+invariant-loop-place l =
+    (k : ℕ) → k < l.place
     → (get_or l.literals k 0 ≡ l.other) ⊎ IsKnown l.self.truths.items (negation (get_or l.literals k 0))

@@ -1,0 +1,5 @@
+use Rattle.aig_sat.specs.checker.Holding.{KeepsHolding}
+use Rattle.aig_sat.proofs.checker.checker.Checker.add_variables.Given as goal
+
+abbrev pub invariant-loop : goal.invariant-loop
+invariant-loop l = KeepsHolding l.initial.self l.self

@@ -1,0 +1,164 @@
+//! Clauses that are added on their first literal: resolution asymmetric tautologies. Such a clause need not follow. But
+//! where an assignment meets all clauses that stand, and not this one, it still meets them once the first literal is
+//! made true: each clause that has the negation of that literal has another one that is true.
+ghost use Rattle.std.specs.Prelude.{◌≡◌, ◌≢◌, ◌⊎◌, ℕ, Bool, true, false, IsTrue, IfOk, OnOk};
+ghost use Rattle.aig_parts.specs.Literal.{negation};
+ghost use Rattle.aig_sat.specs.checker.Agreement.{Narrows};
+ghost use Rattle.aig_sat.specs.checker.Clause.{is_true, meets};
+ghost use Rattle.aig_sat.specs.checker.First.{IsSettled, IsWithout, MayStand, MeetsOther};
+ghost use Rattle.aig_sat.specs.checker.Holding.{KeepsHolding, KeepsMeeting, KeepsSomeHolding};
+ghost use Rattle.aig_sat.specs.checker.Knowledge.{IsKnown};
+
+use crate::checker::checker::Checker;
+use crate::checker::known::negated;
+use aig_bytes::Memory;
+use aig_parts::Lit;
+
+/// A step on a first literal may look at as many watches and literals as there are words of clauses, and at this many
+/// more. Without a limit a step of a few bytes could take as long as the square of the formula.
+const MORE_LOOKS: u64 = 65536;
+
+// Whether the literal is one of these.
+fn has(literals: &[u32], lie: u32) -> bool
+    ensures { result ≡ false → IsWithout literals.now lie }
+{
+    for literal in literals {
+        if *literal == lie {
+            return true;
+        }
+    }
+    false
+}
+
+// Adds a literal, unless it is this one.
+fn push_other(resolvent: &mut Vec<Lit>, literal: u32, lie: u32) -> Result<(), Memory>
+    ensures { OnOk result ((values : ℕ → Bool) → meets values resolvent.new.items ≡ true
+        → (meets values resolvent.old.items ≡ true) ⊎ ((literal ≢ lie) × (is_true values literal ≡ true))) }
+{
+    if literal != lie {
+        resolvent.push(Lit::new(literal))?;
+    }
+    Ok(())
+}
+
+// Takes all literals but this one.
+fn others(literals: &[u32], lie: u32, resolvent: &mut Vec<Lit>) -> Result<(), Memory>
+    ensures { OnOk result ((values : ℕ → Bool) → meets values resolvent.new.items ≡ true
+        → MeetsOther values literals.now lie) }
+{
+    resolvent.clear();
+    for literal in literals {
+        push_other(resolvent, *literal, lie)?;
+    }
+    Ok(())
+}
+
+// Takes all literals but this one, and then those of a clause.
+fn resolve(
+    literals: &[u32],
+    lie: u32,
+    clause: &[Lit],
+    resolvent: &mut Vec<Lit>,
+) -> Result<(), Memory>
+    ensures { OnOk result ((values : ℕ → Bool) → meets values resolvent.new.items ≡ true
+        → meets values clause.now ≡ false → MeetsOther values literals.now lie) }
+{
+    others(literals, lie, resolvent)?;
+    resolvent.extend_from_slice(clause)?;
+    Ok(())
+}
+
+impl Checker {
+    // Whether the clause at a place, if it has the negation of the first literal, has another literal that is true
+    // where the clause that is added is not met.
+    fn settles(&mut self, clause: &[Lit], lie: u32, place: usize) -> Result<bool, Memory>
+        ensures same { self.new.refuted ≡ self.old.refuted }
+        ensures narrows { Narrows self.old.propagator self.new.propagator }
+        ensures settled { IfOk result (λ settled. IsTrue settled
+            → IsSettled self.old.propagator self.new.propagator clause.now lie place) }
+    {
+        let Some(literals) = self.propagator.clauses.literals(place) else {
+            return Ok(true);
+        };
+        if !has(literals, lie) {
+            return Ok(true);
+        }
+        resolve(literals, lie, clause, &mut self.resolvent)?;
+        self.propagator.follows_soon(&self.resolvent)
+    }
+
+    // Whether each clause that has the negation of the first literal has another literal that is true where the clause
+    // that is added is not met.
+    fn settles_all(&mut self, clause: &[Lit], lie: u32) -> Result<bool, Memory>
+        ensures same { self.new.refuted ≡ self.old.refuted }
+        ensures narrows { Narrows self.old.propagator self.new.propagator }
+        ensures settled { IfOk result (λ settled. IsTrue settled
+            → (p : ℕ) → IsSettled self.old.propagator self.new.propagator clause.now lie p) }
+    {
+        let start = self.propagator.clauses.start(lie);
+        for place in start..self.propagator.clauses.len() {
+            if !self.settles(clause, lie, place)? {
+                return Ok(false);
+            }
+        }
+        Ok(true)
+    }
+
+    // Whether a clause may stand on this literal of it.
+    fn may_stand_on(&mut self, clause: &[Lit], literal: u32) -> Result<bool, Memory>
+        ensures same { self.new.refuted ≡ self.old.refuted }
+        ensures narrows { Narrows self.old.propagator self.new.propagator }
+        ensures true_unknown { IfOk result (λ may. IsTrue may → IsKnown self.old.propagator.known.truths.items literal → ⊥) }
+        ensures false_unknown { IfOk result (λ may. IsTrue may
+            → IsKnown self.old.propagator.known.truths.items (negation literal) → ⊥) }
+        ensures settled { IfOk result (λ may. IsTrue may
+            → (p : ℕ) → IsSettled self.old.propagator self.new.propagator clause.now (negation literal) p) }
+    {
+        if self.propagator.known.is_true(literal) || self.propagator.known.is_false(literal) {
+            return Ok(false);
+        }
+        self.settles_all(clause, negated(literal))
+    }
+
+    // Whether a clause may stand on its first literal.
+    fn may_stand_on_first(&mut self, clause: &[Lit]) -> Result<bool, Memory>
+        ensures same { self.new.refuted ≡ self.old.refuted }
+        ensures narrows { Narrows self.old.propagator self.new.propagator }
+        ensures may { IfOk result (λ may. IsTrue may
+            → MayStand self.old.propagator self.new.propagator clause.now) }
+    {
+        match clause.first() {
+            Some(literal) => self.may_stand_on(clause, literal.value()),
+            None => Ok(false),
+        }
+    }
+
+    // Whether a clause may stand on its first literal, as a limited number of looks shows.
+    fn may_stand(&mut self, clause: &[Lit]) -> Result<bool, Memory>
+        ensures same { self.new.refuted ≡ self.old.refuted }
+        ensures narrows { Narrows self.old.propagator self.new.propagator }
+        ensures may { IfOk result (λ may. IsTrue may
+            → MayStand self.old.propagator self.new.propagator clause.now) }
+    {
+        self.propagator.looks = MORE_LOOKS + self.propagator.clauses.len() as u64;
+        let may = self.may_stand_on_first(clause);
+        self.propagator.looks = u64::MAX;
+        may
+    }
+
+    /// Adds a clause that is a resolution asymmetric tautology on its first literal, and answers whether it is.
+    pub(crate) fn add_on_first(&mut self, clause: &[Lit]) -> Result<bool, Memory>
+        ensures keeps { KeepsSomeHolding self.old self.new }
+        ensures stands { KeepsMeeting clause.now self.old self.new }
+        ensures refused { IfOk result (λ taken. taken ≡ false → KeepsHolding self.old self.new) }
+    {
+        if self.refuted {
+            return Ok(true);
+        }
+        if self.may_stand(clause)? {
+            self.add_clause(clause)?;
+            return Ok(true);
+        }
+        Ok(false)
+    }
+}
