@@ -1,2 +1,3 @@
 pub mod checking
 pub mod models
+pub mod reading

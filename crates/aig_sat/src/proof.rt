@@ -6,9 +6,11 @@ mod bytes;
 mod fault;
 mod literal;
 mod reader;
+mod spelling;
 mod step;
 mod text;
 
 pub use fault::ProofFault;
 pub use reader::ProofReader;
+pub use spelling::Spelling;
 pub use step::StepKind;

@@ -1,12 +1,63 @@
--- What a reader of steps is seen as.
-use Rattle.std.specs.Prelude.{ℕ, ◌+◌, ◌*◌, ◌<◌, List, All}
+-- What a reader of steps is seen as, and what reading a step does.
+use Rattle.std.specs.Prelude.{◌≡◌, ℕ, ◌<◌, Bool, if◌then◌else◌, List, [], ◌∷◌, ◌++◌, All, Option, Some, None}
+use Rattle.std.specs.Option.{is_none}
+use Rattle.aig_bytes.specs.Bytes.{before, IsAtEnd}
 use Rattle.aig_parts.specs.Literal.{variable}
+use Rattle.aig_sat.specs.declared.proof.spelling.Spelling.{Spelling}
+use Rattle.aig_sat.specs.declared.proof.spelling.Spelling.TheVariants.{Text, Binary}
+use Rattle.aig_sat.specs.declared.proof.step.StepKind.{StepKind}
+use Rattle.aig_sat.specs.proof.ProofText.{Gap, SpellsStep}
+use Rattle.aig_sat.specs.proof.ProofBytes.{SpellsBinaryStep}
 
--- how many variables the formula has, and the clause of the last step that was read
+-- The bytes that were read and not taken. Once a read has given the end, they include an LF for the end, until it is
+-- taken. The byte that was taken last is an LF before the first.
+pub record Block : Type 0 where
+  pub waiting : List ℕ
+  pub ended : Bool
+  pub previous : ℕ
+
+-- how many variables the formula has, the clause of the last step that was read, how the proof is spelled where that
+-- is known, and the bytes
 pub record StepReader : Type 0 where
   pub variables : ℕ
   pub clause : List ℕ
+  pub spelling : Option Spelling
+  pub block : Block
 
 -- each literal is one of the formula
 abbrev pub AreLiterals : ℕ → List ℕ → Type 0
 AreLiterals variables clause = All (λ l. variable l < variables) clause
+
+-- the bytes to come of a text, with the LF at its end, where the reader knows those that it has left
+abbrev pub text_to_come : Block → Option (List ℕ) → Option (List ℕ)
+text_to_come block None = None
+text_to_come block (Some left) = Some (if block.ended then block.waiting else block.waiting ++ (left ++ 10 ∷ []))
+
+-- the bytes to come of the binary form
+abbrev pub bytes_to_come : Block → Option (List ℕ) → Option (List ℕ)
+bytes_to_come block None = None
+bytes_to_come block (Some left) = Some (if block.ended then [] else block.waiting ++ left)
+
+-- The next bytes spell this step, the first one where it was not known how the proof is spelled. The reader had these bytes left before, and these after it.
+abbrev pub ReadsStep : StepReader → StepReader → Option (List ℕ) → Option (List ℕ) → StepKind → Option Spelling → Type 0
+ReadsStep old new left left' kind (Some Text) = (text : List ℕ)
+    × SpellsStep (is_none old.spelling) old.block.previous text kind new.clause
+    × (text_to_come old.block left ≡ before text (text_to_come new.block left'))
+ReadsStep old new left left' kind (Some Binary) = (bytes : List ℕ)
+    × SpellsBinaryStep bytes kind new.clause
+    × (bytes_to_come old.block left ≡ before bytes (bytes_to_come new.block left'))
+ReadsStep old new left left' kind None = ⊥
+
+-- no step follows: what is left of a text only separates, and nothing is left of the binary form
+abbrev pub ReadsEnd : StepReader → StepReader → Option (List ℕ) → Option (List ℕ) → Option Spelling → Type 0
+ReadsEnd old new left left' (Some Text) = (text : List ℕ)
+    × Gap old.block.previous text
+    × (text_to_come old.block left ≡ before text (text_to_come new.block left'))
+    × IsAtEnd (text_to_come new.block left')
+ReadsEnd old new left left' (Some Binary) = IsAtEnd (bytes_to_come old.block left)
+ReadsEnd old new left left' None = ⊥
+
+-- what a call that reads a step did, by its answer
+abbrev pub Reads : StepReader → StepReader → Option (List ℕ) → Option (List ℕ) → Option StepKind → Type 0
+Reads old new left left' (Some kind) = ReadsStep old new left left' kind new.spelling
+Reads old new left left' None = ReadsEnd old new left left' new.spelling

@@ -1,8 +1,12 @@
 //! The binary form of a proof: `a` or `d`, a number for each literal, and 0. A number is twice the variable, which
 //! counts from 1, and one more where the literal is negated; it stands in groups of seven bits, the lowest first.
-ghost use Rattle.std.specs.Prelude.{◌≡◌, ◌+◌, ◌*◌, ◌-◌, ◌^◌, ◌<◌, ◌≤◌, IfOk, IfSome};
+ghost use Rattle.std.specs.Prelude.{◌≡◌, ◌⊎◌, ◌+◌, ◌^◌, ◌<◌, ◌≤◌, ℕ, List, [], ◌∷◌, IfOk, IfSome, IsTrue, None};
+ghost use Rattle.aig_bytes.specs.Bytes.{IsAtEnd};
 ghost use Rattle.aig_parts.specs.Literal.{variable};
+ghost use Rattle.aig_sat.specs.proof.ProofBytes.{Groups, first_byte};
 ghost use Rattle.aig_sat.specs.proof.Reads.{reads_failed};
+ghost use Rattle.aig_sat.specs.proof.Steps.{bytes_to_come};
+ghost use Rattle.aig_sat.specs.proof.state.Taking.{LeadsLiterals, TakesBytes, to_take};
 
 use crate::proof::bytes::ProofBytes;
 use crate::proof::fault::ProofFault;
@@ -11,12 +15,18 @@ use crate::proof::step::StepKind;
 use aig_bytes::Read;
 use aig_parts::Lit;
 
+/// 128 to the power of five.
+const FIVE_GROUPS: u64 = 34_359_738_368;
+
 /// What the next step does, or `None` where there is none.
 pub(crate) fn binary_kind<R: Read>(
     bytes: &mut ProofBytes,
     reader: &mut R,
 ) -> Result<Option<StepKind>, ProofFault>
-    ensures { R.failures reader.new ≡ R.failures reader.old + reads_failed result }
+    ensures count { R.failures reader.new ≡ R.failures reader.old + reads_failed result }
+    ensures kind { IfOk result (λ kind. IfSome kind (λ k.
+        TakesBytes bytes.old bytes.new (R.left reader.old) (R.left reader.new) (first_byte k ∷ []))) }
+    ensures none { IfOk result (λ kind. kind ≡ None → IsAtEnd (bytes_to_come bytes.old (R.left reader.old))) }
 {
     let at = bytes.at();
     match bytes.next(reader)? {
@@ -27,27 +37,45 @@ pub(crate) fn binary_kind<R: Read>(
     }
 }
 
+/// The lower seven bits of a byte.
+fn low_bits(byte: u8) -> u8
+    ensures below { result < 128 }
+    ensures last { byte < 128 → result ≡ byte }
+    ensures more { 128 ≤ byte → 128 + result ≡ byte }
+{
+    byte % 128
+}
+
+/// Whether a last byte may stand at the place of this power of 128: a number of several groups does not end with 0.
+fn may_end(byte: u8, power: u64) -> bool
+    ensures { IsTrue result → (0 < byte) ⊎ (power ≡ 1) }
+{
+    byte > 0 || power == 1
+}
+
 /// The next number, in its shortest spelling. What is over five groups is refused, as what is over the limit.
 fn binary_number<R: Read>(bytes: &mut ProofBytes, reader: &mut R) -> Result<u64, ProofFault>
     ensures count { R.failures reader.new ≡ R.failures reader.old + reads_failed result }
-    ensures lowers { IfOk result (λ _. 32768 * R.reads_left reader.new + (bytes.new.end - bytes.new.start)
-        < 32768 * R.reads_left reader.old + (bytes.old.end - bytes.old.start)) }
+    ensures number { IfOk result (λ n. (taken : List ℕ) × Groups n taken
+        × TakesBytes bytes.old bytes.new (R.left reader.old) (R.left reader.new) taken) }
+    ensures lowers { IfOk result (λ _.
+        to_take (R.reads_left reader.new) bytes.new < to_take (R.reads_left reader.old) bytes.old) }
 {
     let at = bytes.at();
     let mut number = 0u64;
     let mut power = 1u64;
-    for _ in 0..5 {
+    while power < FIVE_GROUPS {
         let Some(byte) = bytes.next(reader)? else {
             return Err(ProofFault::Text { at: bytes.at() });
         };
-        number = number.saturating_add(power.saturating_mul((byte % 128) as u64));
+        number += power * low_bits(byte) as u64;
         if byte < 128 {
-            if byte == 0 && power > 1 {
+            if !may_end(byte, power) {
                 return Err(ProofFault::Text { at });
             }
             return Ok(number);
         }
-        power = power.saturating_mul(128);
+        power *= 128;
     }
     Err(ProofFault::Text { at })
 }
@@ -60,9 +88,11 @@ pub(crate) fn binary_literal<R: Read>(
 ) -> Result<Option<Lit>, ProofFault>
     requires { variables < 2 ^ 31 }
     ensures count { R.failures reader.new ≡ R.failures reader.old + reads_failed result }
-    ensures literal { IfOk result (λ next. IfSome next (λ l. variable l < variables)) }
-    ensures lowers { IfOk result (λ _. 32768 * R.reads_left reader.new + (bytes.new.end - bytes.new.start)
-        < 32768 * R.reads_left reader.old + (bytes.old.end - bytes.old.start)) }
+    ensures variable { IfOk result (λ next. IfSome next (λ l. variable l < variables)) }
+    ensures literal { IfOk result (λ next. (taken : List ℕ) × LeadsLiterals taken next
+        × TakesBytes bytes.old bytes.new (R.left reader.old) (R.left reader.new) taken) }
+    ensures lowers { IfOk result (λ _.
+        to_take (R.reads_left reader.new) bytes.new < to_take (R.reads_left reader.old) bytes.old) }
 {
     let at = bytes.at();
     let number = binary_number(bytes, reader)?;

@@ -1,34 +1,50 @@
 //! The bytes of a proof.
-ghost use Rattle.std.specs.Prelude.{◌≡◌, ◌+◌, ◌*◌, ◌-◌, ◌<◌, ◌≤◌, IfOk, IfSome};
+ghost use Rattle.std.specs.Prelude.{◌≡◌, ◌↔◌, ◌+◌, ◌<◌, ◌≤◌, [], ◌∷◌, length, true, false};
+ghost use Rattle.std.specs.Prelude.{None, IfOk, IfSome, IsTrue, OnOk, slice_get};
+ghost use Rattle.aig_bytes.specs.Bytes.{IsAtEnd};
 ghost use Rattle.aig_sat.specs.proof.Reads.{reads_failed};
+ghost use Rattle.aig_sat.specs.proof.state.Taking.{TakesText, TakesBytes, listed, to_take};
 
 use crate::proof::fault::ProofFault;
 use aig_bytes::{Failed, Read};
+use std::marker::Model;
 
 /// How many bytes are read at once.
 const ROOM: usize = 32_768;
 
-/// Bytes that were read and not taken, in a plain array. In the contracts, the bytes in it and 32,768 for each read
-/// that may still give bytes are a number that each taken byte lowers.
+/// Bytes that were read and not taken, in a plain array. An LF that is put behind the last byte ends a text's last line,
+/// also where the file has none.
 #[derive(Drop)]
 pub(crate) struct ProofBytes {
     buffer: [u8; ROOM],
     // The bytes from `start` to `end` were read and not taken.
     start: usize,
     end: usize,
-    // The place of the buffer's first byte.
+    // The place of the buffer's first byte, or of the end.
     begin: u64,
-    // A read gave the end.
+    // A read gave the end, and the buffer has only the LF for it.
     ended: bool,
     // The byte that was taken last, an LF before the first.
     previous: u8,
-    ghost ordered: { start ≤ end },
-    ghost within: { end ≤ 32768 },
+}
+
+impl Model for ProofBytes {
+    ghost use Rattle.std.specs.Prelude.{◌≤◌};
+    ghost use Rattle.aig_sat.specs.proof.Steps.{Block};
+    ghost use Rattle.aig_sat.specs.proof.state.Taking.{held};
+
+    ghost Value = { Block };
+
+    ghost view = { λ b. record { waiting = held b.start b.end b.buffer; ended = b.ended; previous = b.previous } };
+
+    ghost invariant = { λ b. (b.start ≤ b.end) × (b.end ≤ 32768) };
 }
 
 impl ProofBytes {
     /// Nothing is read yet.
-    pub(crate) fn new() -> ProofBytes {
+    pub(crate) fn new() -> ProofBytes
+        ensures { result ≡ record { waiting = []; ended = false; previous = 10 } }
+    {
         ProofBytes {
             buffer: [0; ROOM],
             start: 0,
@@ -41,22 +57,34 @@ impl ProofBytes {
 
     /// How many bytes were taken; `u64`'s greatest value where there were more.
     pub(crate) fn at(&self) -> u64 {
-        self.begin.saturating_add(self.start as u64)
+        if self.ended {
+            self.begin
+        } else {
+            self.begin.saturating_add(self.start as u64)
+        }
     }
 
     /// Whether the next byte begins a line.
-    pub(crate) fn is_at_line(&self) -> bool {
+    pub(crate) fn is_at_line(&self) -> bool
+        ensures { IsTrue result ↔ (self.now.previous ≡ 10) }
+    {
         self.previous == b'\n'
     }
 
     /// The bytes that were read and not taken.
-    pub(crate) fn front(&self) -> &[u8] {
+    pub(crate) fn front(&self) -> &[u8]
+        ensures { result.now ≡ self.now.waiting }
+    {
         &self.buffer[self.start..self.end]
     }
 
     /// Reads once, behind the bytes that were read, and answers how many bytes it got.
     fn load<R: Read>(&mut self, reader: &mut R) -> Result<usize, ProofFault>
-        ensures { R.failures reader.new ≡ R.failures reader.old + reads_failed result }
+        requires { self.old.ended ≡ false }
+        ensures count { R.failures reader.new ≡ R.failures reader.old + reads_failed result }
+        ensures text { TakesText self.old self.new (R.left reader.old) (R.left reader.new) [] }
+        ensures bytes { TakesBytes self.old self.new (R.left reader.old) (R.left reader.new) [] }
+        ensures ended { self.new.ended ≡ false }
     {
         match reader.read(&mut self.buffer[self.end..]) {
             Err(Failed) => Err(ProofFault::Io),
@@ -69,8 +97,13 @@ impl ProofBytes {
 
     /// Reads until the array is full or a read gives no byte.
     pub(crate) fn fill<R: Read>(&mut self, reader: &mut R) -> Result<(), ProofFault>
-        ensures { R.failures reader.new ≡ R.failures reader.old + reads_failed result }
+        ensures count { R.failures reader.new ≡ R.failures reader.old + reads_failed result }
+        ensures text { TakesText self.old self.new (R.left reader.old) (R.left reader.new) [] }
+        ensures bytes { TakesBytes self.old self.new (R.left reader.old) (R.left reader.new) [] }
     {
+        if self.ended {
+            return Ok(());
+        }
         for _ in 0..ROOM {
             if self.end == ROOM || self.load(reader)? == 0 {
                 break;
@@ -79,69 +112,147 @@ impl ProofBytes {
         Ok(())
     }
 
-    /// Reads on where no byte waits.
-    #[inline(never)]
-    fn read_on<R: Read>(&mut self, reader: &mut R) -> Result<(), ProofFault>
-        requires { self.old.start ≡ self.old.end }
+    /// Puts the LF for the end.
+    fn put_end(&mut self)
+        requires { self.old.waiting ≡ [] }
+        ensures waiting { self.new.waiting ≡ 10 ∷ [] }
+        ensures ended { self.new.ended ≡ true }
+        ensures previous { self.new.previous ≡ self.old.previous }
+    {
+        self.begin = self.begin.saturating_add(self.end as u64);
+        self.buffer[0] = b'\n';
+        self.start = 0;
+        self.end = 1;
+        self.ended = true;
+    }
+
+    /// Forgets the bytes that were taken, and reads once.
+    fn reload<R: Read>(&mut self, reader: &mut R) -> Result<usize, ProofFault>
+        requires none { self.old.waiting ≡ [] }
+        requires ended { self.old.ended ≡ false }
         ensures count { R.failures reader.new ≡ R.failures reader.old + reads_failed result }
-        ensures never_more { 32768 * R.reads_left reader.new + (self.new.end - self.new.start)
-            ≤ 32768 * R.reads_left reader.old }
+        ensures text { TakesText self.old self.new (R.left reader.old) (R.left reader.new) [] }
+        ensures bytes { TakesBytes self.old self.new (R.left reader.old) (R.left reader.new) [] }
+        ensures ended { self.new.ended ≡ false }
+        ensures got { IfOk result (λ n. length self.new.waiting ≡ n) }
+        ensures at_end { IfOk result (λ n. n ≡ 0 → IsAtEnd (R.left reader.new)) }
+        ensures never_more { to_take (R.reads_left reader.new) self.new ≤ to_take (R.reads_left reader.old) self.old }
+    {
+        self.begin = self.begin.saturating_add(self.end as u64);
+        self.start = 0;
+        self.end = 0;
+        let count = reader.read(&mut self.buffer)?;
+        self.end = count;
+        Ok(count)
+    }
+
+    /// Reads on where no byte waits.
+    fn read_on<R: Read>(&mut self, reader: &mut R) -> Result<(), ProofFault>
+        requires { self.old.waiting ≡ [] }
+        ensures count { R.failures reader.new ≡ R.failures reader.old + reads_failed result }
+        ensures text { TakesText self.old self.new (R.left reader.old) (R.left reader.new) [] }
+        ensures bytes { TakesBytes self.old self.new (R.left reader.old) (R.left reader.new) [] }
+        ensures none { OnOk result (self.new.waiting ≡ [] → self.new.ended ≡ true) }
+        ensures never_more { to_take (R.reads_left reader.new) self.new ≤ to_take (R.reads_left reader.old) self.old }
     {
         if self.ended {
             return Ok(());
         }
-        match reader.read(&mut self.buffer) {
-            Err(Failed) => Err(ProofFault::Io),
-            Ok(count) => {
-                self.begin = self.begin.saturating_add(self.end as u64);
-                self.start = 0;
-                self.end = count;
-                self.ended = count == 0;
-                Ok(())
-            }
+        if self.reload(reader)? == 0 {
+            self.put_end();
         }
+        Ok(())
+    }
+
+    /// The first byte that was read and not taken.
+    fn first(&self) -> Option<u8>
+        ensures { slice_get self.now.waiting 0 ≡ result }
+    {
+        if self.start < self.end {
+            Some(self.buffer[self.start])
+        } else {
+            None
+        }
+    }
+
+    /// The next byte, which stays, where none waits.
+    #[inline(never)]
+    fn peek_on<R: Read>(&mut self, reader: &mut R) -> Result<Option<u8>, ProofFault>
+        requires { self.old.waiting ≡ [] }
+        ensures count { R.failures reader.new ≡ R.failures reader.old + reads_failed result }
+        ensures text { TakesText self.old self.new (R.left reader.old) (R.left reader.new) [] }
+        ensures bytes { TakesBytes self.old self.new (R.left reader.old) (R.left reader.new) [] }
+        ensures next { IfOk result (λ byte. slice_get self.new.waiting 0 ≡ byte) }
+        ensures none { IfOk result (λ byte. byte ≡ None → self.new.ended ≡ true) }
+        ensures never_more { to_take (R.reads_left reader.new) self.new ≤ to_take (R.reads_left reader.old) self.old }
+    {
+        self.read_on(reader)?;
+        Ok(self.first())
     }
 
     /// The next byte, which stays.
     #[inline]
     pub(crate) fn peek<R: Read>(&mut self, reader: &mut R) -> Result<Option<u8>, ProofFault>
         ensures count { R.failures reader.new ≡ R.failures reader.old + reads_failed result }
-        ensures some { IfOk result (λ byte. IfSome byte (λ _. self.new.start < self.new.end)) }
-        ensures never_more { 32768 * R.reads_left reader.new + (self.new.end - self.new.start)
-            ≤ 32768 * R.reads_left reader.old + (self.old.end - self.old.start) }
+        ensures text { TakesText self.old self.new (R.left reader.old) (R.left reader.new) [] }
+        ensures bytes { TakesBytes self.old self.new (R.left reader.old) (R.left reader.new) [] }
+        ensures next { IfOk result (λ byte. slice_get self.new.waiting 0 ≡ byte) }
+        ensures none { IfOk result (λ byte. byte ≡ None → self.new.ended ≡ true) }
+        ensures never_more { to_take (R.reads_left reader.new) self.new ≤ to_take (R.reads_left reader.old) self.old }
     {
         if self.start == self.end {
-            self.read_on(reader)?;
+            return self.peek_on(reader);
         }
-        if self.start < self.end {
-            Ok(Some(self.buffer[self.start]))
-        } else {
-            Ok(None)
-        }
+        Ok(Some(self.buffer[self.start]))
     }
 
     /// Takes the next byte, which a `peek` has shown.
     #[inline]
     pub(crate) fn skip(&mut self)
-        requires { self.old.start < self.old.end }
-        ensures { self.new.end - self.new.start + 1 ≡ self.old.end - self.old.start }
+        requires { 0 < length self.old.waiting }
+        ensures taken { self.old.waiting ≡ self.new.previous ∷ self.new.waiting }
+        ensures shorter { length self.new.waiting + 1 ≡ length self.old.waiting }
+        ensures ended { self.new.ended ≡ self.old.ended }
     {
         self.previous = self.buffer[self.start];
         self.start += 1;
     }
 
-    /// The next byte, which is taken.
+    /// The next byte of a text, which is taken.
     #[inline]
-    pub(crate) fn next<R: Read>(&mut self, reader: &mut R) -> Result<Option<u8>, ProofFault>
+    pub(crate) fn next_char<R: Read>(&mut self, reader: &mut R) -> Result<Option<u8>, ProofFault>
         ensures count { R.failures reader.new ≡ R.failures reader.old + reads_failed result }
+        ensures text { IfOk result (λ byte.
+            TakesText self.old self.new (R.left reader.old) (R.left reader.new) (listed byte)) }
         ensures lowers { IfOk result (λ byte. IfSome byte (λ _.
-            32768 * R.reads_left reader.new + (self.new.end - self.new.start)
-            < 32768 * R.reads_left reader.old + (self.old.end - self.old.start))) }
-        ensures never_more { 32768 * R.reads_left reader.new + (self.new.end - self.new.start)
-            ≤ 32768 * R.reads_left reader.old + (self.old.end - self.old.start) }
+            to_take (R.reads_left reader.new) self.new < to_take (R.reads_left reader.old) self.old)) }
+        ensures never_more { to_take (R.reads_left reader.new) self.new ≤ to_take (R.reads_left reader.old) self.old }
     {
         match self.peek(reader)? {
             Some(byte) => {
+                self.skip();
+                Ok(Some(byte))
+            }
+            None => Ok(None),
+        }
+    }
+
+    /// The next byte of the binary form, which is taken.
+    #[inline]
+    pub(crate) fn next<R: Read>(&mut self, reader: &mut R) -> Result<Option<u8>, ProofFault>
+        ensures count { R.failures reader.new ≡ R.failures reader.old + reads_failed result }
+        ensures bytes { IfOk result (λ byte.
+            TakesBytes self.old self.new (R.left reader.old) (R.left reader.new) (listed byte)) }
+        ensures none { IfOk result (λ byte. byte ≡ None → self.new.ended ≡ true) }
+        ensures lowers { IfOk result (λ byte. IfSome byte (λ _.
+            to_take (R.reads_left reader.new) self.new < to_take (R.reads_left reader.old) self.old)) }
+        ensures never_more { to_take (R.reads_left reader.new) self.new ≤ to_take (R.reads_left reader.old) self.old }
+    {
+        match self.peek(reader)? {
+            Some(byte) => {
+                if self.ended {
+                    return Ok(None);
+                }
                 self.skip();
                 Ok(Some(byte))
             }

@@ -1,12 +1,14 @@
 //! The steps of a proof, as text and in the binary form.
-ghost use Rattle.std.specs.Prelude.{◌≡◌, ◌+◌, ◌*◌, ◌-◌, ◌^◌, ◌<◌, ◌≤◌, [], IfOk, IfSome, OnOk};
+ghost use Rattle.std.specs.Prelude.{◌≡◌, ◌+◌, ◌^◌, ◌<◌, [], IfOk, IfSome, OnOk, Some, None, false};
 ghost use Rattle.aig_parts.specs.Literal.{variable};
 ghost use Rattle.aig_sat.specs.proof.Reads.{reads_failed};
-ghost use Rattle.aig_sat.specs.proof.Steps.{AreLiterals};
+ghost use Rattle.aig_sat.specs.proof.Steps.{AreLiterals, Reads};
+ghost use Rattle.aig_sat.specs.proof.state.Taking.{Begins, Ends, GoesOn, Keeps, LeadsBy, to_take};
 
 use crate::proof::binary::{binary_kind, binary_literal};
 use crate::proof::bytes::ProofBytes;
 use crate::proof::fault::ProofFault;
+use crate::proof::spelling::{Spelling, spelling_of};
 use crate::proof::step::StepKind;
 use crate::proof::text::{text_kind, text_literal};
 use aig_bytes::Read;
@@ -14,33 +16,10 @@ use aig_parts::Lit;
 use std::alloc::Global;
 use std::marker::Model;
 
-/// How the steps of a proof are spelled.
-#[derive(Clone, Copy, PartialEq, Eq, Debug)]
-enum Spelling {
-    Text,
-    Binary,
-}
-
-/// How the proof that begins with these bytes is spelled. A text does not begin with `a`; where it begins with `d` a
-/// blank follows, and it has no zero byte, with which each step of the binary form ends.
-fn spelling_of(bytes: &[u8]) -> Spelling {
-    match bytes {
-        [b'a', ..] => Spelling::Binary,
-        [b'd', b' ' | b'\t', ..] => {
-            if bytes.contains(&0) {
-                Spelling::Binary
-            } else {
-                Spelling::Text
-            }
-        }
-        [b'd', _, ..] => Spelling::Binary,
-        _ => Spelling::Text,
-    }
-}
-
 /// Looks at the first bytes of a proof, and takes none.
 fn look<R: Read>(bytes: &mut ProofBytes, reader: &mut R) -> Result<Spelling, ProofFault>
-    ensures { R.failures reader.new ≡ R.failures reader.old + reads_failed result }
+    ensures count { R.failures reader.new ≡ R.failures reader.old + reads_failed result }
+    ensures keeps { Keeps bytes.old bytes.new (R.left reader.old) (R.left reader.new) }
 {
     if let Some(b'd') = bytes.peek(reader)? {
         bytes.fill(reader)?;
@@ -54,15 +33,18 @@ fn next_literal<R: Read>(
     bytes: &mut ProofBytes,
     reader: &mut R,
     variables: u32,
+    is_first: bool,
 ) -> Result<Option<Lit>, ProofFault>
     requires { variables < 2 ^ 31 }
     ensures count { R.failures reader.new ≡ R.failures reader.old + reads_failed result }
-    ensures literal { IfOk result (λ next. IfSome next (λ l. variable l < variables)) }
-    ensures lowers { IfOk result (λ _. 32768 * R.reads_left reader.new + (bytes.new.end - bytes.new.start)
-        < 32768 * R.reads_left reader.old + (bytes.old.end - bytes.old.start)) }
+    ensures variable { IfOk result (λ next. IfSome next (λ l. variable l < variables)) }
+    ensures literal { IfOk result (λ next.
+        LeadsBy spelling is_first bytes.old bytes.new (R.left reader.old) (R.left reader.new) next) }
+    ensures lowers { IfOk result (λ _.
+        to_take (R.reads_left reader.new) bytes.new < to_take (R.reads_left reader.old) bytes.old) }
 {
     match spelling {
-        Spelling::Text => text_literal(bytes, reader, variables),
+        Spelling::Text => text_literal(bytes, reader, variables, is_first),
         Spelling::Binary => binary_literal(bytes, reader, variables),
     }
 }
@@ -73,14 +55,17 @@ fn read_clause<R: Read>(
     bytes: &mut ProofBytes,
     reader: &mut R,
     variables: u32,
+    is_first: bool,
     clause: &mut Vec<Lit>,
 ) -> Result<(), ProofFault>
     requires { variables < 2 ^ 31 }
     ensures count { R.failures reader.new ≡ R.failures reader.old + reads_failed result }
     ensures literals { AreLiterals variables clause.new.items }
+    ensures spelled { OnOk result (Ends spelling is_first bytes.old bytes.new (R.left reader.old) (R.left reader.new)
+        clause.new.items) }
 {
     clause.clear();
-    while let Some(literal) = next_literal(spelling, bytes, reader, variables)? {
+    while let Some(literal) = next_literal(spelling, bytes, reader, variables, is_first)? {
         if clause.push(literal).is_err() {
             return Err(ProofFault::Memory);
         }
@@ -94,7 +79,9 @@ fn next_kind<R: Read>(
     bytes: &mut ProofBytes,
     reader: &mut R,
 ) -> Result<Option<StepKind>, ProofFault>
-    ensures { R.failures reader.new ≡ R.failures reader.old + reads_failed result }
+    ensures count { R.failures reader.new ≡ R.failures reader.old + reads_failed result }
+    ensures kind { IfOk result (λ kind.
+        Begins spelling bytes.old bytes.new (R.left reader.old) (R.left reader.new) kind) }
 {
     match spelling {
         Spelling::Text => text_kind(bytes, reader),
@@ -118,7 +105,12 @@ impl Model for ProofReader {
 
     ghost Value = { StepReader };
 
-    ghost view = { λ r. record { variables = r.variables; clause = r.clause.items } };
+    ghost view = { λ r. record {
+      variables = r.variables;
+      clause = r.clause.items;
+      spelling = r.spelling;
+      block = r.bytes;
+    } };
 
     ghost invariant = { λ r. AreLiterals r.variables r.clause.items × (r.variables < 2 ^ 31) };
 }
@@ -127,7 +119,12 @@ impl ProofReader {
     /// For a proof about a formula with so many variables. Nothing is read yet.
     pub fn new(alloc: Global, variables: u32) -> ProofReader
         requires { variables < 2 ^ 31 }
-        ensures { result ≡ record { variables = variables; clause = [] } }
+        ensures { result ≡ record {
+          variables = variables;
+          clause = [];
+          spelling = None;
+          block = record { waiting = []; ended = false; previous = 10 };
+        } }
     {
         ProofReader {
             bytes: ProofBytes::new(),
@@ -146,19 +143,36 @@ impl ProofReader {
         &self.clause
     }
 
-    /// Reads the next step, and answers what it does with its clause; `None` at the end. The first call tells a text
-    /// from the binary form by the first bytes. It refuses bytes that spell no step, and literals of other variables
-    /// than the formula's. Memory is taken only for literals that were read.
-    pub fn next<R: Read>(&mut self, reader: &mut R) -> Result<Option<StepKind>, ProofFault>
+    /// How the proof is spelled: the first call tells a text from the binary form by the first bytes.
+    fn spell<R: Read>(&mut self, reader: &mut R) -> Result<Spelling, ProofFault>
+        ensures count { R.failures reader.new ≡ R.failures reader.old + reads_failed result }
+        ensures keeps { Keeps self.old.block self.new.block (R.left reader.old) (R.left reader.new) }
+        ensures spelling { IfOk result (λ spelling. self.new.spelling ≡ Some spelling) }
         ensures variables { self.new.variables ≡ self.old.variables }
         ensures literals { AreLiterals self.new.variables self.new.clause }
-        ensures count { R.failures reader.new ≡ R.failures reader.old + reads_failed result }
     {
-        let spelling = match self.spelling {
-            Some(spelling) => spelling,
-            None => look(&mut self.bytes, reader)?,
-        };
+        if let Some(spelling) = self.spelling {
+            return Ok(spelling);
+        }
+        let spelling = look(&mut self.bytes, reader)?;
         self.spelling = Some(spelling);
+        Ok(spelling)
+    }
+
+    /// Reads a step that is spelled so.
+    fn step<R: Read>(
+        &mut self,
+        reader: &mut R,
+        spelling: Spelling,
+        is_first: bool,
+    ) -> Result<Option<StepKind>, ProofFault>
+        ensures variables { self.new.variables ≡ self.old.variables }
+        ensures spelling { self.new.spelling ≡ self.old.spelling }
+        ensures literals { AreLiterals self.new.variables self.new.clause }
+        ensures count { R.failures reader.new ≡ R.failures reader.old + reads_failed result }
+        ensures step { IfOk result (λ kind. GoesOn spelling is_first self.old.block self.new.block
+            (R.left reader.old) (R.left reader.new) self.new.clause kind) }
+    {
         let Some(kind) = next_kind(spelling, &mut self.bytes, reader)? else {
             return Ok(None);
         };
@@ -167,8 +181,23 @@ impl ProofReader {
             &mut self.bytes,
             reader,
             self.variables,
+            is_first,
             &mut self.clause,
         )?;
         Ok(Some(kind))
+    }
+
+    /// Reads the next step, and answers what it does with its clause; `None` at the end. The first call tells a text
+    /// from the binary form by the first bytes. It refuses bytes that spell no step, and literals of other variables
+    /// than the formula's. Memory is taken only for literals that were read.
+    pub fn next<R: Read>(&mut self, reader: &mut R) -> Result<Option<StepKind>, ProofFault>
+        ensures variables { self.new.variables ≡ self.old.variables }
+        ensures literals { AreLiterals self.new.variables self.new.clause }
+        ensures count { R.failures reader.new ≡ R.failures reader.old + reads_failed result }
+        ensures step { IfOk result (λ kind. Reads self.old self.new (R.left reader.old) (R.left reader.new) kind) }
+    {
+        let is_first = self.spelling.is_none();
+        let spelling = self.spell(reader)?;
+        self.step(reader, spelling, is_first)
     }
 }

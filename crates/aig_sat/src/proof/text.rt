@@ -1,8 +1,16 @@
 //! A proof as text: a `d` before a clause that is deleted, signed variables, which count from 1, and 0. Blanks and line
-//! ends separate; a line that begins with `c` is a comment.
-ghost use Rattle.std.specs.Prelude.{◌≡◌, ◌+◌, ◌*◌, ◌-◌, ◌^◌, ◌<◌, ◌≤◌, IfOk, IfSome};
+//! ends separate; a line that begins with `c` is a comment. The first step ends its line.
+ghost use Rattle.std.specs.Prelude.{◌≡◌, ◌≢◌, ◌↔◌, ◌+◌, ◌*◌, ◌-◌, ◌^◌, ◌<◌, ◌≤◌, ℕ, List, [], ◌∷◌, ◌++◌, All};
+ghost use Rattle.std.specs.Prelude.{IfOk, IfSome, IsTrue, OnOk, None, Bool, false};
+ghost use Rattle.std.specs.Fmt.{decimal};
+ghost use Rattle.aig_bytes.specs.Bytes.{IsAtEnd};
+ghost use Rattle.aig_bytes.specs.Term.{minus};
 ghost use Rattle.aig_parts.specs.Literal.{variable};
+ghost use Rattle.aig_sat.specs.model.ModelText.{IsSpace};
+ghost use Rattle.aig_sat.specs.proof.ProofText.{EndsStep, Gap, IsBlank};
 ghost use Rattle.aig_sat.specs.proof.Reads.{reads_failed};
+ghost use Rattle.aig_sat.specs.proof.Steps.{text_to_come};
+ghost use Rattle.aig_sat.specs.proof.state.Taking.{LeadsClause, LeadsGap, LeadsStep, LeadsWord, TakesText, digits_of, to_take};
 
 use crate::proof::bytes::ProofBytes;
 use crate::proof::fault::ProofFault;
@@ -11,86 +19,158 @@ use crate::proof::step::StepKind;
 use aig_bytes::Read;
 use aig_parts::Lit;
 
+/// The greatest number of a variable.
+const MOST: u64 = 2_147_483_647;
+
 /// Whether the byte separates.
-fn is_blank(byte: u8) -> bool {
-    matches!(byte, b' ' | b'\t' | b'\n')
+fn is_space(byte: u8) -> bool
+    ensures { IsTrue result ↔ IsSpace byte }
+{
+    byte == b' ' || byte == b'\t' || byte == b'\n'
 }
 
 /// Takes the rest of a line and the LF that ends it.
 fn skip_line<R: Read>(bytes: &mut ProofBytes, reader: &mut R) -> Result<(), ProofFault>
     ensures count { R.failures reader.new ≡ R.failures reader.old + reads_failed result }
-    ensures never_more { 32768 * R.reads_left reader.new + (bytes.new.end - bytes.new.start)
-        ≤ 32768 * R.reads_left reader.old + (bytes.old.end - bytes.old.start) }
+    ensures line { OnOk result ((line : List ℕ) × All (λ b. b ≢ 10) line
+        × TakesText bytes.old bytes.new (R.left reader.old) (R.left reader.new) (line ++ 10 ∷ [])) }
+    ensures never_more { to_take (R.reads_left reader.new) bytes.new ≤ to_take (R.reads_left reader.old) bytes.old }
 {
-    while let Some(byte) = bytes.next(reader)? {
+    while let Some(byte) = bytes.next_char(reader)? {
         if byte == b'\n' {
-            break;
+            return Ok(());
         }
     }
-    Ok(())
+    Err(ProofFault::Text { at: bytes.at() })
 }
 
-/// Takes what separates, and comments.
-fn skip_blanks<R: Read>(bytes: &mut ProofBytes, reader: &mut R) -> Result<(), ProofFault>
+/// Takes a space or a comment, and answers whether there was one.
+fn skip_space<R: Read>(bytes: &mut ProofBytes, reader: &mut R) -> Result<bool, ProofFault>
     ensures count { R.failures reader.new ≡ R.failures reader.old + reads_failed result }
-    ensures never_more { 32768 * R.reads_left reader.new + (bytes.new.end - bytes.new.start)
-        ≤ 32768 * R.reads_left reader.old + (bytes.old.end - bytes.old.start) }
-{
-    while let Some(byte) = bytes.peek(reader)? {
-        if is_blank(byte) {
-            bytes.skip();
-        } else if byte == b'c' && bytes.is_at_line() {
-            bytes.skip();
-            skip_line(bytes, reader)?;
-        } else {
-            break;
-        }
-    }
-    Ok(())
-}
-
-/// Refuses a byte that does not separate.
-fn end_word<R: Read>(bytes: &mut ProofBytes, reader: &mut R) -> Result<(), ProofFault>
-    ensures count { R.failures reader.new ≡ R.failures reader.old + reads_failed result }
-    ensures never_more { 32768 * R.reads_left reader.new + (bytes.new.end - bytes.new.start)
-        ≤ 32768 * R.reads_left reader.old + (bytes.old.end - bytes.old.start) }
+    ensures gap { IfOk result (λ _. (taken : List ℕ) × LeadsGap bytes.old.previous bytes.new.previous taken
+        × TakesText bytes.old bytes.new (R.left reader.old) (R.left reader.new) taken) }
+    ensures lowers { IfOk result (λ some. IsTrue some →
+        to_take (R.reads_left reader.new) bytes.new < to_take (R.reads_left reader.old) bytes.old) }
+    ensures never_more { to_take (R.reads_left reader.new) bytes.new ≤ to_take (R.reads_left reader.old) bytes.old }
 {
     match bytes.peek(reader)? {
-        None => Ok(()),
+        None => Ok(false),
         Some(byte) => {
-            if is_blank(byte) {
-                Ok(())
-            } else {
-                Err(ProofFault::Text { at: bytes.at() })
+            if is_space(byte) {
+                bytes.skip();
+                return Ok(true);
             }
+            if byte == b'c' && bytes.is_at_line() {
+                bytes.skip();
+                skip_line(bytes, reader)?;
+                return Ok(true);
+            }
+            Ok(false)
         }
     }
 }
 
-/// What the next step does, or `None` where there is none.
-pub(crate) fn text_kind<R: Read>(
+/// Takes what separates.
+fn skip_gap<R: Read>(bytes: &mut ProofBytes, reader: &mut R) -> Result<(), ProofFault>
+    ensures count { R.failures reader.new ≡ R.failures reader.old + reads_failed result }
+    ensures gap { OnOk result ((taken : List ℕ) × LeadsGap bytes.old.previous bytes.new.previous taken
+        × TakesText bytes.old bytes.new (R.left reader.old) (R.left reader.new) taken) }
+    ensures never_more { to_take (R.reads_left reader.new) bytes.new ≤ to_take (R.reads_left reader.old) bytes.old }
+{
+    while skip_space(bytes, reader)? {}
+    Ok(())
+}
+
+/// Takes the space that ends the word that begins at a place.
+fn end_word<R: Read>(bytes: &mut ProofBytes, reader: &mut R, at: u64) -> Result<(), ProofFault>
+    ensures count { R.failures reader.new ≡ R.failures reader.old + reads_failed result }
+    ensures space { OnOk result (IsSpace bytes.new.previous) }
+    ensures taken { OnOk result
+        (TakesText bytes.old bytes.new (R.left reader.old) (R.left reader.new) (bytes.new.previous ∷ [])) }
+    ensures never_more { to_take (R.reads_left reader.new) bytes.new ≤ to_take (R.reads_left reader.old) bytes.old }
+{
+    match bytes.peek(reader)? {
+        Some(byte) if is_space(byte) => {
+            bytes.skip();
+            Ok(())
+        }
+        _ => Err(ProofFault::Text { at }),
+    }
+}
+
+/// Takes a blank or a tab, and answers whether there was one.
+fn skip_blank<R: Read>(bytes: &mut ProofBytes, reader: &mut R) -> Result<bool, ProofFault>
+    ensures count { R.failures reader.new ≡ R.failures reader.old + reads_failed result }
+    ensures blank { IfOk result (λ some. IsTrue some → IsBlank bytes.new.previous) }
+    ensures taken { IfOk result (λ some. IsTrue some →
+        TakesText bytes.old bytes.new (R.left reader.old) (R.left reader.new) (bytes.new.previous ∷ [])) }
+    ensures none { IfOk result (λ some. some ≡ false →
+        TakesText bytes.old bytes.new (R.left reader.old) (R.left reader.new) []) }
+    ensures lowers { IfOk result (λ some. IsTrue some →
+        to_take (R.reads_left reader.new) bytes.new < to_take (R.reads_left reader.old) bytes.old) }
+    ensures never_more { to_take (R.reads_left reader.new) bytes.new ≤ to_take (R.reads_left reader.old) bytes.old }
+{
+    match bytes.peek(reader)? {
+        Some(b' ' | b'\t') => {
+            bytes.skip();
+            Ok(true)
+        }
+        _ => Ok(false),
+    }
+}
+
+/// Takes an LF, and refuses any other byte.
+fn take_lf<R: Read>(bytes: &mut ProofBytes, reader: &mut R) -> Result<(), ProofFault>
+    ensures count { R.failures reader.new ≡ R.failures reader.old + reads_failed result }
+    ensures taken { OnOk result (TakesText bytes.old bytes.new (R.left reader.old) (R.left reader.new) (10 ∷ [])) }
+    ensures never_more { to_take (R.reads_left reader.new) bytes.new ≤ to_take (R.reads_left reader.old) bytes.old }
+{
+    match bytes.peek(reader)? {
+        Some(b'\n') => {
+            bytes.skip();
+            Ok(())
+        }
+        _ => Err(ProofFault::Text { at: bytes.at() }),
+    }
+}
+
+/// Takes the blanks that are left of a line, and the LF.
+fn end_line<R: Read>(bytes: &mut ProofBytes, reader: &mut R) -> Result<(), ProofFault>
+    ensures count { R.failures reader.new ≡ R.failures reader.old + reads_failed result }
+    ensures line { OnOk result ((blanks : List ℕ) × All IsBlank blanks
+        × TakesText bytes.old bytes.new (R.left reader.old) (R.left reader.new) (blanks ++ 10 ∷ [])) }
+    ensures never_more { to_take (R.reads_left reader.new) bytes.new ≤ to_take (R.reads_left reader.old) bytes.old }
+{
+    while skip_blank(bytes, reader)? {}
+    take_lf(bytes, reader)
+}
+
+/// Takes what follows the 0 of a step, a word that begins at a place: the rest of the line for the first step, a space
+/// for any other.
+fn end_step<R: Read>(
     bytes: &mut ProofBytes,
     reader: &mut R,
-) -> Result<Option<StepKind>, ProofFault>
-    ensures { R.failures reader.new ≡ R.failures reader.old + reads_failed result }
+    is_first: bool,
+    at: u64,
+) -> Result<(), ProofFault>
+    ensures count { R.failures reader.new ≡ R.failures reader.old + reads_failed result }
+    ensures ends { OnOk result ((ends : List ℕ) × EndsStep is_first ends
+        × TakesText bytes.old bytes.new (R.left reader.old) (R.left reader.new) ends) }
+    ensures never_more { to_take (R.reads_left reader.new) bytes.new ≤ to_take (R.reads_left reader.old) bytes.old }
 {
-    skip_blanks(bytes, reader)?;
-    match bytes.peek(reader)? {
-        None => Ok(None),
-        Some(b'd') => {
-            bytes.skip();
-            end_word(bytes, reader)?;
-            Ok(Some(StepKind::Delete))
-        }
-        Some(_) => Ok(Some(StepKind::Add)),
+    end_word(bytes, reader, at)?;
+    if !is_first || bytes.is_at_line() {
+        return Ok(());
     }
+    end_line(bytes, reader)
 }
 
 /// Takes a minus, and answers whether there was one.
 fn take_minus<R: Read>(bytes: &mut ProofBytes, reader: &mut R) -> Result<bool, ProofFault>
     ensures count { R.failures reader.new ≡ R.failures reader.old + reads_failed result }
-    ensures never_more { 32768 * R.reads_left reader.new + (bytes.new.end - bytes.new.start)
-        ≤ 32768 * R.reads_left reader.old + (bytes.old.end - bytes.old.start) }
+    ensures taken { IfOk result (λ negated.
+        TakesText bytes.old bytes.new (R.left reader.old) (R.left reader.new) (minus negated)) }
+    ensures never_more { to_take (R.reads_left reader.new) bytes.new ≤ to_take (R.reads_left reader.old) bytes.old }
 {
     match bytes.peek(reader)? {
         Some(b'-') => {
@@ -104,11 +184,12 @@ fn take_minus<R: Read>(bytes: &mut ProofBytes, reader: &mut R) -> Result<bool, P
 /// Takes a digit, where there is one.
 fn take_digit<R: Read>(bytes: &mut ProofBytes, reader: &mut R) -> Result<Option<u8>, ProofFault>
     ensures count { R.failures reader.new ≡ R.failures reader.old + reads_failed result }
+    ensures taken { IfOk result (λ digit.
+        TakesText bytes.old bytes.new (R.left reader.old) (R.left reader.new) (digits_of digit)) }
+    ensures digit { IfOk result (λ digit. IfSome digit (λ d. d ≤ 9)) }
     ensures lowers { IfOk result (λ digit. IfSome digit (λ _.
-        32768 * R.reads_left reader.new + (bytes.new.end - bytes.new.start)
-        < 32768 * R.reads_left reader.old + (bytes.old.end - bytes.old.start))) }
-    ensures never_more { 32768 * R.reads_left reader.new + (bytes.new.end - bytes.new.start)
-        ≤ 32768 * R.reads_left reader.old + (bytes.old.end - bytes.old.start) }
+        to_take (R.reads_left reader.new) bytes.new < to_take (R.reads_left reader.old) bytes.old)) }
+    ensures never_more { to_take (R.reads_left reader.new) bytes.new ≤ to_take (R.reads_left reader.old) bytes.old }
 {
     match bytes.peek(reader)? {
         Some(byte @ b'0'..=b'9') => {
@@ -119,35 +200,115 @@ fn take_digit<R: Read>(bytes: &mut ProofBytes, reader: &mut R) -> Result<Option<
     }
 }
 
-/// Takes the digits that follow, and answers the number that they make of this one; `u64`'s greatest value for a
-/// greater one.
+/// The number with one digit more; one that is over the limit stays as it is.
+fn with_digit(number: u64, digit: u8) -> u64
+    requires digit { digit ≤ 9 }
+    requires bound { number < 2 ^ 40 }
+    ensures number { result ≤ 2147483647 → (number ≤ 2147483647) × (result ≡ number * 10 + digit) }
+    ensures bound { result < 2 ^ 40 }
+    ensures some { 0 < number → 0 < result }
+{
+    if number > MOST {
+        number
+    } else {
+        number * 10 + digit as u64
+    }
+}
+
+/// Takes the digits that follow, and answers the number that they make of this one, or a number over the limit where
+/// they make one.
 fn take_digits<R: Read>(
     bytes: &mut ProofBytes,
     reader: &mut R,
     first: u8,
 ) -> Result<u64, ProofFault>
+    requires some { 0 < first }
+    requires digit { first ≤ 9 }
     ensures count { R.failures reader.new ≡ R.failures reader.old + reads_failed result }
-    ensures never_more { 32768 * R.reads_left reader.new + (bytes.new.end - bytes.new.start)
-        ≤ 32768 * R.reads_left reader.old + (bytes.old.end - bytes.old.start) }
+    ensures number { IfOk result (λ n. (digits : List ℕ) × (n ≤ 2147483647 → decimal first ++ digits ≡ decimal n)
+        × TakesText bytes.old bytes.new (R.left reader.old) (R.left reader.new) digits) }
+    ensures some { IfOk result (λ n. 0 < n) }
+    ensures never_more { to_take (R.reads_left reader.new) bytes.new ≤ to_take (R.reads_left reader.old) bytes.old }
 {
     let mut number = first as u64;
     while let Some(digit) = take_digit(bytes, reader)? {
-        number = number.saturating_mul(10).saturating_add(digit as u64);
+        number = with_digit(number, digit);
     }
     Ok(number)
 }
 
-/// The next number, without leading zeros.
-fn text_number<R: Read>(bytes: &mut ProofBytes, reader: &mut R) -> Result<u64, ProofFault>
+/// The number of the word that begins at a place, without leading zeros.
+fn text_number<R: Read>(bytes: &mut ProofBytes, reader: &mut R, at: u64) -> Result<u64, ProofFault>
     ensures count { R.failures reader.new ≡ R.failures reader.old + reads_failed result }
-    ensures lowers { IfOk result (λ _. 32768 * R.reads_left reader.new + (bytes.new.end - bytes.new.start)
-        < 32768 * R.reads_left reader.old + (bytes.old.end - bytes.old.start)) }
+    ensures number { IfOk result (λ n. (digits : List ℕ) × (n ≤ 2147483647 → digits ≡ decimal n)
+        × TakesText bytes.old bytes.new (R.left reader.old) (R.left reader.new) digits) }
+    ensures lowers { IfOk result (λ _.
+        to_take (R.reads_left reader.new) bytes.new < to_take (R.reads_left reader.old) bytes.old) }
 {
-    match take_digit(bytes, reader)? {
-        None => Err(ProofFault::Text { at: bytes.at() }),
+    let Some(first) = take_digit(bytes, reader)? else {
+        return Err(ProofFault::Text { at });
+    };
+    if first == 0 {
         // A digit after it is refused, as each byte that does not separate.
-        Some(0) => Ok(0),
-        Some(first) => take_digits(bytes, reader, first),
+        return Ok(0);
+    }
+    take_digits(bytes, reader, first)
+}
+
+/// What the next step does, or `None` where there is none.
+pub(crate) fn text_kind<R: Read>(
+    bytes: &mut ProofBytes,
+    reader: &mut R,
+) -> Result<Option<StepKind>, ProofFault>
+    ensures count { R.failures reader.new ≡ R.failures reader.old + reads_failed result }
+    ensures kind { IfOk result (λ kind. IfSome kind (λ k. (taken : List ℕ)
+        × ((is_first : Bool) → LeadsStep is_first bytes.old.previous bytes.new.previous taken k)
+        × TakesText bytes.old bytes.new (R.left reader.old) (R.left reader.new) taken)) }
+    ensures none { IfOk result (λ kind. kind ≡ None → (taken : List ℕ) × Gap bytes.old.previous taken
+        × TakesText bytes.old bytes.new (R.left reader.old) (R.left reader.new) taken
+        × IsAtEnd (text_to_come bytes.new (R.left reader.new))) }
+{
+    skip_gap(bytes, reader)?;
+    let at = bytes.at();
+    match bytes.peek(reader)? {
+        None => Ok(None),
+        Some(byte) => {
+            if byte == b'd' {
+                bytes.skip();
+                end_word(bytes, reader, at)?;
+                return Ok(Some(StepKind::Delete));
+            }
+            Ok(Some(StepKind::Add))
+        }
+    }
+}
+
+/// The literal of a word, or `None` for 0.
+fn text_word<R: Read>(
+    bytes: &mut ProofBytes,
+    reader: &mut R,
+    variables: u32,
+    is_first: bool,
+) -> Result<Option<Lit>, ProofFault>
+    requires { variables < 2 ^ 31 }
+    ensures count { R.failures reader.new ≡ R.failures reader.old + reads_failed result }
+    ensures variable { IfOk result (λ next. IfSome next (λ l. variable l < variables)) }
+    ensures word { IfOk result (λ next. (taken : List ℕ) × LeadsWord is_first bytes.new.previous taken next
+        × TakesText bytes.old bytes.new (R.left reader.old) (R.left reader.new) taken) }
+    ensures lowers { IfOk result (λ _.
+        to_take (R.reads_left reader.new) bytes.new < to_take (R.reads_left reader.old) bytes.old) }
+{
+    let at = bytes.at();
+    let negated = take_minus(bytes, reader)?;
+    let number = text_number(bytes, reader, at)?;
+    if number == 0 && !negated {
+        end_step(bytes, reader, is_first, at)?;
+        return Ok(None);
+    }
+    end_word(bytes, reader, at)?;
+    match literal_of(number, negated, variables) {
+        Some(literal) => Ok(Some(literal)),
+        None => Err(ProofFault::Text { at }),
     }
 }
 
@@ -156,23 +317,17 @@ pub(crate) fn text_literal<R: Read>(
     bytes: &mut ProofBytes,
     reader: &mut R,
     variables: u32,
+    is_first: bool,
 ) -> Result<Option<Lit>, ProofFault>
     requires { variables < 2 ^ 31 }
     ensures count { R.failures reader.new ≡ R.failures reader.old + reads_failed result }
-    ensures literal { IfOk result (λ next. IfSome next (λ l. variable l < variables)) }
-    ensures lowers { IfOk result (λ _. 32768 * R.reads_left reader.new + (bytes.new.end - bytes.new.start)
-        < 32768 * R.reads_left reader.old + (bytes.old.end - bytes.old.start)) }
+    ensures variable { IfOk result (λ next. IfSome next (λ l. variable l < variables)) }
+    ensures literal { IfOk result (λ next. (taken : List ℕ)
+        × LeadsClause is_first bytes.old.previous bytes.new.previous taken next
+        × TakesText bytes.old bytes.new (R.left reader.old) (R.left reader.new) taken) }
+    ensures lowers { IfOk result (λ _.
+        to_take (R.reads_left reader.new) bytes.new < to_take (R.reads_left reader.old) bytes.old) }
 {
-    skip_blanks(bytes, reader)?;
-    let at = bytes.at();
-    let negated = take_minus(bytes, reader)?;
-    let number = text_number(bytes, reader)?;
-    end_word(bytes, reader)?;
-    if number == 0 && !negated {
-        return Ok(None);
-    }
-    match literal_of(number, negated, variables) {
-        Some(literal) => Ok(Some(literal)),
-        None => Err(ProofFault::Text { at }),
-    }
+    skip_gap(bytes, reader)?;
+    text_word(bytes, reader, variables, is_first)
 }

@@ -1,0 +1,26 @@
+use Rattle.std.proofs.Common.{◌++◌, ◌∷◌, [], arith}
+use Rattle.std.proofs.lemmas.List.Elements.{All-push}
+use Rattle.aig_sat.specs.proof.ProofText.{IsBlank}
+use Rattle.aig_sat.proofs.reading.TakingLemmas.{on_ok, text_then}
+use Rattle.aig_sat.proofs.proof.text.end_line.Goals as goal
+
+pub loop-preserved : goal.loop-preserved
+loop-preserved g c =
+    let i = c.loop.invariant in
+    let (blanks, all, took) = i.blanks in
+    let b = c.skip_blank.new.bytes.previous in
+    record {
+      count = omega (arith, i.count, c.in_ok-skip_blank.ensures.count);
+      never_more = omega (arith, i.never_more, c.in_ok-skip_blank.ensures.never_more);
+      blanks = (
+        blanks ++ b ∷ [],
+        All-push IsBlank blanks b all (c.in_ok-skip_blank.ensures.blank c.if-branch.true),
+        text_then took (c.in_ok-skip_blank.ensures.taken c.if-branch.true),
+      );
+    }
+
+pub returns-clause-line : goal.returns-clause-line
+returns-clause-line g c =
+    let (blanks, all, took) = c.loop.invariant.blanks in
+    on_ok c.take_lf.result
+    (λ last. (blanks, all, text_then took (text_then (c.in_ok-skip_blank.ensures.none c.if-branch.false) last))) c.take_lf.ensures.taken
