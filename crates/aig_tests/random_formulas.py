@@ -71,7 +71,8 @@ def rows(counts, options):
     for variables in counts:
         clauses = contradiction(variables, 1000 * variables)
         _, proof = solved(variables, clauses, *options)
-        text = " ".join(f"{' '.join(map(str, clause))} 0" for clause in clauses)
+        # The first step of a text ends its line.
+        text = " ".join(f"{' '.join(map(str, clause))} 0" for clause in clauses).replace(" 0 ", " 0\n", 1)
         yield (f"    (\n        {variables},\n        {byte_string(text.encode())},\n        {len(clauses) - 1},\n"
                f"        {byte_string(proof)},\n    ),\n")
 

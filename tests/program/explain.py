@@ -347,7 +347,8 @@ def others(rows):
         rows.row(f"a model with the fault {fault}", ["witness", "--frames", "1", "--model", write("model", model), "bad_input"],
                  f"model: {fault}",
                  [why, "it has to be of the formula of aig cnf for the same K, P, CIRCUIT and --step"])
-    for fault, proof, why in (("step 1", "0\n", "the clause that this step adds does not follow by unit propagation"),
+    for fault, proof, why in (("step 1", "0\n", "the clause that this step adds does not follow by unit propagation, nor is it a resolution"
+                                                " asymmetric tautology"),
                               ("no refutation", "", "the proof ends before it refutes the formula"),
                               ("text at 0", "x\n", "a step is not that of a proof (DRAT) about this formula, or it is cut off")):
         rows.row(f"a proof with the fault {fault}", ["refute", "--frames", "1", "bad_input", write("proof", proof)],

@@ -204,11 +204,26 @@ def first_bytes(rows):
     # In the binary form `1` and a blank are literals of variables 24 and 16, and the clause is cut off.
     rows.refuses("d and no blank, with 200 variables", "refute --frames 1 large proof", "proof: text at 7",
                  proof="d1 2 0\n")
-    # Whether the place is that of the word or of the byte that is wrong in it, BEHAVIOUR.md does not say.
-    write("proof", "2 3 0\nd1 2 0\n2 0\n")
-    ended = rows.run("refute", "--frames", "1", "never", "proof")
-    allowed = [refused(f"proof: text at {at}") for at in (6, 7)]
-    rows.tally.check("proofs: d and no blank, in a text", ended in allowed, ended)
+
+
+def block_edges(rows):
+    """Steps whose bytes are in two blocks, cut at each byte: right, and with a word that is wrong."""
+    begin = b"2 3 0\nc"
+    for steps, wrong in ((b"d 3 2 0\n-3 2 0 3\t-3 0\n2 0\n", None), (b"2 3 0\n-3x 0\n", 6), (b"d 2 3 0\nd2 3 0\n", 8),
+                         (b"3 99999999999 0\n", 2), (b"-3", 2)):
+        for at in range(len(steps)):
+            proof = begin + b"x" * (BLOCK - at - len(begin) - 1) + b"\n" + steps
+            wanted = REFUTED if wrong is None else refused(f"proof: text at {BLOCK - at + wrong}")
+            rows.ends(f"an edge of a block before byte {at} of {steps!r}", "refute --frames 1 never proof", wanted, proof=proof)
+    begin = b"a\x04\x06\0"
+    for steps, wrong in ((b"d\x06\x04\0a\x07\x04\0a\x04\0", None), (b"a\x04\x84\0\0", 2), (b"d\x04\x06\0b", 4),
+                         (b"a\x84\x80\x80\x80\x10\0", 1), (b"a\x04", 2)):
+        for at in range(len(steps)):
+            # steps of three and of four bytes before it
+            short = -(BLOCK - at) % 4
+            proof = b"d\x06\0" * short + begin * ((BLOCK - at - 3 * short) // 4) + steps
+            wanted = REFUTED if wrong is None else refused(f"proof: text at {BLOCK - at + wrong}")
+            rows.ends(f"an edge of a block before byte {at} of {steps!r}", "refute --frames 1 never proof", wanted, proof=proof)
 
 
 def named_pipes(program, tally):
@@ -285,6 +300,7 @@ def proofs(program, tally, _):
     long_proofs(rows, made, fillers, rng)
     deletions(rows, made, needed_clause, fillers, rng)
     first_bytes(rows)
+    block_edges(rows)
     for name, proof in PROOFS:
         tally.compare(f"proofs: {name}, a byte at a time", in_pieces(program, OF_NEVER, data(proof), 1), REFUTED)
     for name, proof, fault in REFUSALS:

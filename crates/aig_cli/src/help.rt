@@ -174,15 +174,15 @@ See also: man aig, man 5 aig-formats";
 
 pub const REFUTE: &str =
     "The proof is one about the formula that cnf prints for the same K and P. Each
-clause that it adds must follow from those that stand by unit propagation.
-If the proof refutes the formula, the answer is unreachable within K: no run has
-a frame before frame K at which property P is 1 and all constraints were 1 so
-far, whatever values are unknown.
+clause that it adds must follow from those that stand by unit propagation, or be
+a resolution asymmetric tautology on its first literal. If the proof refutes the
+formula, the answer is unreachable within K: no run has a frame before frame K
+at which property P is 1 and all constraints were 1 so far, whatever values are
+unknown.
 
-A step that needs more than unit propagation is rejected (resolution asymmetric
-tautologies), as is a literal of another variable than those of the formula.
-Deletions are optional. An empty file serves if unit propagation alone refutes
-the formula. The solver need not be trusted.
+A literal of another variable than those of the formula is rejected. Deletions
+are optional. An empty file serves if unit propagation alone refutes the
+formula. The solver need not be trusted.
 
 With --step, FILE is a proof about the formula of cnf --step. If both proofs are
 right, the answer is unreachable: no run of any length reaches the property.

@@ -23,7 +23,7 @@ pub fn explain_proof<R: Files + AllocGlobal + Eprint>(
         ProofFault::Step { .. } => explain_text(
             rt,
             name,
-            "the clause that this step adds does not follow by unit propagation",
+            "the clause that this step adds does not follow by unit propagation, nor is it a resolution asymmetric tautology",
         ),
         ProofFault::NoRefutation => explain_text(
             rt,

@@ -38,7 +38,8 @@ abbrev pub bytes_to_come : Block → Option (List ℕ) → Option (List ℕ)
 bytes_to_come block None = None
 bytes_to_come block (Some left) = Some (if block.ended then [] else block.waiting ++ left)
 
--- The next bytes spell this step, the first one where it was not known how the proof is spelled. The reader had these bytes left before, and these after it.
+-- The next bytes spell this step, which is the first one where it was not known yet how the proof is spelled. The
+-- reader had these bytes left before it, and these after it.
 abbrev pub ReadsStep : StepReader → StepReader → Option (List ℕ) → Option (List ℕ) → StepKind → Option Spelling → Type 0
 ReadsStep old new left left' kind (Some Text) = (text : List ℕ)
     × SpellsStep (is_none old.spelling) old.block.previous text kind new.clause
@@ -57,7 +58,7 @@ ReadsEnd old new left left' (Some Text) = (text : List ℕ)
 ReadsEnd old new left left' (Some Binary) = IsAtEnd (bytes_to_come old.block left)
 ReadsEnd old new left left' None = ⊥
 
--- what a call that reads a step did, by its answer
+-- what a call read, by its answer
 abbrev pub Reads : StepReader → StepReader → Option (List ℕ) → Option (List ℕ) → Option StepKind → Type 0
 Reads old new left left' (Some kind) = ReadsStep old new left left' kind new.spelling
 Reads old new left left' None = ReadsEnd old new left left' new.spelling

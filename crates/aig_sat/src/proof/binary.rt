@@ -46,14 +46,14 @@ fn low_bits(byte: u8) -> u8
     byte % 128
 }
 
-/// Whether a last byte may stand at the place of this power of 128: a number of several groups does not end with 0.
+/// Whether a number may end with this byte, at the place of this power of 128: not with 0, unless it is its only byte.
 fn may_end(byte: u8, power: u64) -> bool
     ensures { IsTrue result → (0 < byte) ⊎ (power ≡ 1) }
 {
     byte > 0 || power == 1
 }
 
-/// The next number, in its shortest spelling. What is over five groups is refused, as what is over the limit.
+/// The next number, in its shortest spelling. A number of more than five groups is over the limit, and rejected.
 fn binary_number<R: Read>(bytes: &mut ProofBytes, reader: &mut R) -> Result<u64, ProofFault>
     ensures count { R.failures reader.new ≡ R.failures reader.old + reads_failed result }
     ensures number { IfOk result (λ n. (taken : List ℕ) × Groups n taken

@@ -12,8 +12,8 @@ use std::marker::Model;
 /// How many bytes are read at once.
 const ROOM: usize = 32_768;
 
-/// Bytes that were read and not taken, in a plain array. An LF that is put behind the last byte ends a text's last line,
-/// also where the file has none.
+/// Bytes that were read and not taken, in a plain array. After the last byte of the file comes an LF, so a text's last
+/// line always has one. The binary form ends where it is next (`next`).
 #[derive(Drop)]
 pub(crate) struct ProofBytes {
     buffer: [u8; ROOM],
@@ -22,7 +22,7 @@ pub(crate) struct ProofBytes {
     end: usize,
     // The place of the buffer's first byte, or of the end.
     begin: u64,
-    // A read gave the end, and the buffer has only the LF for it.
+    // A read gave the end, and the buffer has nothing but the LF for it.
     ended: bool,
     // The byte that was taken last, an LF before the first.
     previous: u8,
@@ -55,7 +55,7 @@ impl ProofBytes {
         }
     }
 
-    /// How many bytes were taken; `u64`'s greatest value where there were more.
+    /// How many bytes of the file were taken; `u64`'s greatest value where there were more.
     pub(crate) fn at(&self) -> u64 {
         if self.ended {
             self.begin
@@ -78,7 +78,7 @@ impl ProofBytes {
         &self.buffer[self.start..self.end]
     }
 
-    /// Reads once, behind the bytes that were read, and answers how many bytes it got.
+    /// Reads once, after the bytes that were read, and returns how many bytes it got.
     fn load<R: Read>(&mut self, reader: &mut R) -> Result<usize, ProofFault>
         requires { self.old.ended ≡ false }
         ensures count { R.failures reader.new ≡ R.failures reader.old + reads_failed result }
@@ -112,7 +112,7 @@ impl ProofBytes {
         Ok(())
     }
 
-    /// Puts the LF for the end.
+    /// Puts the LF for the end into the array.
     fn put_end(&mut self)
         requires { self.old.waiting ≡ [] }
         ensures waiting { self.new.waiting ≡ 10 ∷ [] }
@@ -126,7 +126,7 @@ impl ProofBytes {
         self.ended = true;
     }
 
-    /// Forgets the bytes that were taken, and reads once.
+    /// Reads once into the whole array, and returns how many bytes it got.
     fn reload<R: Read>(&mut self, reader: &mut R) -> Result<usize, ProofFault>
         requires none { self.old.waiting ≡ [] }
         requires ended { self.old.ended ≡ false }
@@ -146,7 +146,7 @@ impl ProofBytes {
         Ok(count)
     }
 
-    /// Reads on where no byte waits.
+    /// Reads where no byte is left in the array.
     fn read_on<R: Read>(&mut self, reader: &mut R) -> Result<(), ProofFault>
         requires { self.old.waiting ≡ [] }
         ensures count { R.failures reader.new ≡ R.failures reader.old + reads_failed result }
@@ -175,7 +175,7 @@ impl ProofBytes {
         }
     }
 
-    /// The next byte, which stays, where none waits.
+    /// The next byte, which stays, where none is left in the array.
     #[inline(never)]
     fn peek_on<R: Read>(&mut self, reader: &mut R) -> Result<Option<u8>, ProofFault>
         requires { self.old.waiting ≡ [] }

@@ -143,11 +143,12 @@ impl ProofReader {
         &self.clause
     }
 
-    /// How the proof is spelled: the first call tells a text from the binary form by the first bytes.
+    /// How the proof is spelled. The first call looks at the first bytes.
     fn spell<R: Read>(&mut self, reader: &mut R) -> Result<Spelling, ProofFault>
         ensures count { R.failures reader.new ≡ R.failures reader.old + reads_failed result }
         ensures keeps { Keeps self.old.block self.new.block (R.left reader.old) (R.left reader.new) }
         ensures spelling { IfOk result (λ spelling. self.new.spelling ≡ Some spelling) }
+        ensures stays { (s : Spelling) → self.old.spelling ≡ Some s → self.new.spelling ≡ Some s }
         ensures variables { self.new.variables ≡ self.old.variables }
         ensures literals { AreLiterals self.new.variables self.new.clause }
     {
@@ -187,13 +188,15 @@ impl ProofReader {
         Ok(Some(kind))
     }
 
-    /// Reads the next step, and answers what it does with its clause; `None` at the end. The first call tells a text
-    /// from the binary form by the first bytes. It refuses bytes that spell no step, and literals of other variables
-    /// than the formula's. Memory is taken only for literals that were read.
+    /// Reads the next step, and returns what it does with its clause; `None` at the end. The first call tells a text
+    /// from the binary form by the first bytes. It rejects bytes that spell no step, a first step of a text that does
+    /// not end its line, and literals of other variables than the formula's. Memory is taken only for literals that
+    /// were read.
     pub fn next<R: Read>(&mut self, reader: &mut R) -> Result<Option<StepKind>, ProofFault>
         ensures variables { self.new.variables ≡ self.old.variables }
         ensures literals { AreLiterals self.new.variables self.new.clause }
         ensures count { R.failures reader.new ≡ R.failures reader.old + reads_failed result }
+        ensures spelling { (s : Spelling) → self.old.spelling ≡ Some s → self.new.spelling ≡ Some s }
         ensures step { IfOk result (λ kind. Reads self.old self.new (R.left reader.old) (R.left reader.new) kind) }
     {
         let is_first = self.spelling.is_none();

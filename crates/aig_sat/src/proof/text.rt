@@ -44,7 +44,7 @@ fn skip_line<R: Read>(bytes: &mut ProofBytes, reader: &mut R) -> Result<(), Proo
     Err(ProofFault::Text { at: bytes.at() })
 }
 
-/// Takes a space or a comment, and answers whether there was one.
+/// Takes a space or a comment, and returns whether there was one.
 fn skip_space<R: Read>(bytes: &mut ProofBytes, reader: &mut R) -> Result<bool, ProofFault>
     ensures count { R.failures reader.new ≡ R.failures reader.old + reads_failed result }
     ensures gap { IfOk result (λ _. (taken : List ℕ) × LeadsGap bytes.old.previous bytes.new.previous taken
@@ -98,7 +98,7 @@ fn end_word<R: Read>(bytes: &mut ProofBytes, reader: &mut R, at: u64) -> Result<
     }
 }
 
-/// Takes a blank or a tab, and answers whether there was one.
+/// Takes a blank or a tab, and returns whether there was one.
 fn skip_blank<R: Read>(bytes: &mut ProofBytes, reader: &mut R) -> Result<bool, ProofFault>
     ensures count { R.failures reader.new ≡ R.failures reader.old + reads_failed result }
     ensures blank { IfOk result (λ some. IsTrue some → IsBlank bytes.new.previous) }
@@ -119,7 +119,7 @@ fn skip_blank<R: Read>(bytes: &mut ProofBytes, reader: &mut R) -> Result<bool, P
     }
 }
 
-/// Takes an LF, and refuses any other byte.
+/// Takes an LF, and rejects any other byte.
 fn take_lf<R: Read>(bytes: &mut ProofBytes, reader: &mut R) -> Result<(), ProofFault>
     ensures count { R.failures reader.new ≡ R.failures reader.old + reads_failed result }
     ensures taken { OnOk result (TakesText bytes.old bytes.new (R.left reader.old) (R.left reader.new) (10 ∷ [])) }
@@ -165,7 +165,7 @@ fn end_step<R: Read>(
     end_line(bytes, reader)
 }
 
-/// Takes a minus, and answers whether there was one.
+/// Takes a minus, and returns whether there was one.
 fn take_minus<R: Read>(bytes: &mut ProofBytes, reader: &mut R) -> Result<bool, ProofFault>
     ensures count { R.failures reader.new ≡ R.failures reader.old + reads_failed result }
     ensures taken { IfOk result (λ negated.
@@ -215,8 +215,8 @@ fn with_digit(number: u64, digit: u8) -> u64
     }
 }
 
-/// Takes the digits that follow, and answers the number that they make of this one, or a number over the limit where
-/// they make one.
+/// Takes the digits that follow, and returns the number that they make of this one. A number over the limit may be
+/// returned as another one over it.
 fn take_digits<R: Read>(
     bytes: &mut ProofBytes,
     reader: &mut R,
@@ -249,7 +249,7 @@ fn text_number<R: Read>(bytes: &mut ProofBytes, reader: &mut R, at: u64) -> Resu
         return Err(ProofFault::Text { at });
     };
     if first == 0 {
-        // A digit after it is refused, as each byte that does not separate.
+        // A digit after it is rejected, as any byte that is no space.
         return Ok(0);
     }
     take_digits(bytes, reader, first)
