@@ -1,9 +1,10 @@
 """Files that keep what a script leaves, or what the inputs of an unrolled circuit are. A call for them fails, each one
 in turn: they are as they were and the new ones are gone, except that the circuit's has its name where the second file
 does not get its own. Runs are killed before each of their calls: each file has its old text or the whole new one, and a
-new one that is left makes the next run fail. Runs are stopped before each of their calls: whoever may open a new file
-there never sees a text that others may not read."""
+new one that is left makes the next run fail. A run that is killed while it waits for its script leaves none. Runs are
+stopped before each of their calls: whoever may open a new file there never sees a text that others may not read."""
 
+import contextlib
 import os
 import signal
 import subprocess
@@ -63,15 +64,15 @@ MAPPED = Case("a map", ("unroll", "--frames", "1", "--to", "aag", "--map", "rows
 # The calls of a run, how many there are, and how many of them come before its work; a write moves one byte.
 CALLS = (
     (OVER, "file", len(NEW_DESIGN) + len(NEW_ROWS), 0), (OVER, "fsync", 2, 0), (OVER, "fchmod", 2, 0),
-    (OVER, "rename", 2, 0), (OVER, "statx", 14, 12), (LINKED, "realpath", 2, 2), (LINKED, "statx", 14, 12),
+    (OVER, "rename", 2, 0), (OVER, "statx", 16, 12), (LINKED, "realpath", 2, 2), (LINKED, "statx", 16, 12),
     (FRESH, "file", len(NEW_DESIGN) + len(NEW_ROWS), 0), (FRESH, "fsync", 2, 0), (FRESH, "fchmod", 2, 0),
-    (FRESH, "rename", 2, 0), (FRESH, "statx", 11, 7), (MAPPED, "file", len(MAP), 0), (MAPPED, "fsync", 1, 0),
+    (FRESH, "rename", 2, 0), (FRESH, "statx", 14, 7), (MAPPED, "file", len(MAP), 0), (MAPPED, "fsync", 1, 0),
     (MAPPED, "fchmod", 1, 0), (MAPPED, "rename", 1, 0),
 )
 
 
 # The calls that fail once the circuit's file has its name: the second rename, and the look whether its name is free.
-HALF_DONE = ((OVER, "rename", 2), (FRESH, "rename", 2), (FRESH, "statx", 11))
+HALF_DONE = ((OVER, "rename", 2), (FRESH, "rename", 2), (FRESH, "statx", 14))
 
 
 def kept(program, tally, _):
@@ -89,6 +90,8 @@ def kept(program, tally, _):
     for case in (OVER, FRESH, MAPPED):
         kills(beneath, tally, case)
     for case in (OVER, FRESH):
+        asleep(beneath, tally, case)
+        meanwhile(beneath, tally, case)
         stops(beneath, tally, case)
 
 
@@ -108,26 +111,29 @@ def fails(beneath, tally, case, call, most, early):
 
 def opens(beneath, tally):
     """Descriptors are held by a folder where there is no device. Then come the files that are read, those that are
-    written, and the new ones: twice where their permissions are found out first."""
-    for case in (OVER, FRESH):
-        parts = [None] * 3 + ["circuit", "stimulus", "script"] + ["output"] * 4
+    written, and the new ones: twice where their permissions are found out first. After the script the new ones come
+    again."""
+    for case, late in ((OVER, 2), (FRESH, 4)):
+        parts = [None] * 3 + ["circuit", "stimulus", "script"] + ["output"] * (4 + late)
         case.prepare()
         tally.compare(f"kept: {case.name}, open, how many", beneath.counted(*case.words, CALL="open"),
                       (case.done, len(parts)))
         for number, part in enumerate(parts, 1):
             case.prepare()
             ended = beneath.run(*case.words, CALL="open", REFUSE=number)
+            failed = case.failed if number > len(parts) - late else input_or_output(part)
             tally.compare(f"kept: {case.name}, open {number} fails", (ended, case.left()),
-                          (input_or_output(part), (case.old, [])) if part else (case.done, (case.new, [])))
+                          (failed, (case.old, [])) if part else (case.done, (case.new, [])))
 
 
 def looks(beneath, tally):
-    """A circuit that cannot be looked at is one that cannot be read; then come looks at the map."""
-    parts = ["circuit"] + ["output"] * 7
+    """A circuit that cannot be looked at is one that cannot be read; then come looks at the map, the last two when the
+    circuit is written."""
+    parts = ["circuit"] + ["output"] * 8
     for number, part in enumerate(parts, 1):
         MAPPED.prepare()
         ended = beneath.run(*MAPPED.words, CALL="statx", REFUSE=number)
-        out = UNROLLED if number == len(parts) else b""
+        out = UNROLLED if number > len(parts) - 2 else b""
         tally.compare(f"kept: a map, statx {number} fails", (ended, MAPPED.left()),
                       (input_or_output(part, out), (MAPPED.old, [])))
 
@@ -144,16 +150,18 @@ def closes(beneath, tally):
 
 
 def removals(beneath, tally):
-    """A new file that cannot be removed stays, and the run says what it would have said."""
-    for number, left in ((1, ["new_design.new"]), (2, ["new_rows.new"])):
-        FRESH.prepare()
-        ended = beneath.run(*FRESH.words, CALL="unlink", REFUSE=number)
-        tally.compare(f"kept: new files, unlink {number} fails", (ended, FRESH.left()), (NOT_BEGUN, (FRESH.old, left)))
-    OVER.prepare()
-    write("design", "aag 1 0 0 0 1\n2 2 2\n")
-    ended = beneath.run(*OVER.words, CALL="unlink", REFUSE=1)
-    tally.compare("kept: a refused circuit, unlink fails", (ended, new_files()),
-                  (Ended(1, b"", b"aig: circuit: cycle 1\n"), ["design.new"]))
+    """A new file that cannot be removed stays, and the run fails: the file could not be created again. Each file is
+    removed before the script, and a file that is new has an empty one before it each time."""
+    for case, most, early in ((OVER, 2, 2), (FRESH, 6, 4)):
+        case.prepare()
+        tally.compare(f"kept: {case.name}, unlink, how many", beneath.counted(*case.words, CALL="unlink"),
+                      (case.done, most))
+        for number in range(1, most + 1):
+            case.prepare()
+            ended = beneath.run(*case.words, CALL="unlink", REFUSE=number)
+            tally.compare(f"kept: {case.name}, unlink {number} fails", (ended, case.left()),
+                          (NOT_BEGUN if number <= early else case.failed,
+                           (case.old, [f"{case.names[(number - 1) % 2]}.new"])))
 
 
 def owners(beneath, tally):
@@ -163,8 +171,10 @@ def owners(beneath, tally):
         return
     old = f"{USER}:{GROUP} 664"
     lost = f"{USER}:{os.getegid()} 604"
-    for number, ended, owned in ((0, OVER.done, [old, old]), (1, NOT_BEGUN, [old, old]), (2, OVER.done, [lost, old]),
-                                 (3, NOT_BEGUN, [old, old]), (4, OVER.done, [old, lost])):
+    for number, ended, owned in ((0, OVER.done, [old, old]), (1, NOT_BEGUN, [old, old]), (2, OVER.done, [old, old]),
+                                 (3, NOT_BEGUN, [old, old]), (4, OVER.done, [old, old]), (5, OVER.failed, [old, old]),
+                                 (6, OVER.done, [lost, old]), (7, OVER.failed, [old, old]),
+                                 (8, OVER.done, [old, lost])):
         give()
         got = beneath.run(*OVER.words, CALL="fchown", REFUSE=number)
         tally.compare(f"kept: others' files, fchown {number} fails", (got, [shown(name) for name in OVER.names]),
@@ -223,6 +233,39 @@ def kills(beneath, tally, case):
             tally.compare(f"{name}, the next run", (beneath.run(*case.words), case.left()), (NOT_BEGUN, (files, new)))
     if len(case.names) == 2:
         tally.check(f"kept: {case.name}, killed between two renames", ((True, False), (True, )) in seen, seen)
+
+
+@contextlib.contextmanager
+def waiting(beneath, case):
+    """A run that has replied to the first line of its script, and waits for more."""
+    case.prepare()
+    words = [beneath.program.path, *case.words[:-1], "/dev/stdin"]
+    with subprocess.Popen(words, stdin=subprocess.PIPE, stdout=subprocess.PIPE, stderr=subprocess.PIPE) as run:
+        run.stdin.write(b"w 6 3 4\n")
+        run.stdin.flush()
+        yield run, run.stdout.readline()
+
+
+def asleep(beneath, tally, case):
+    """A run that is killed while it waits for its script leaves nothing that stops the next run."""
+    with waiting(beneath, case) as (run, reply):
+        run.kill()
+        run.wait()
+    tally.compare(f"kept: {case.name}, killed while it waits", (reply, case.left()), (b"ok\n", (case.old, [])))
+    tally.compare(f"kept: {case.name}, the run after one that was killed", (beneath.run(*case.words), case.left()),
+                  (case.done, (case.new, [])))
+
+
+def meanwhile(beneath, tally, case):
+    """Files that another program makes while the script runs stay, and the run fails."""
+    for name in [f"{name}.new" for name in case.names] + ([case.names[0]] if case is FRESH else []):
+        with waiting(beneath, case) as (run, reply):
+            write(name, b"mine")
+            out, err = run.communicate(b"+ 0x\n")
+        ended = Ended(run.returncode, reply + out, err)
+        tally.compare(f"kept: {case.name}, {name} is made meanwhile", (ended, contents(name)), (case.failed, b"mine"))
+        os.remove(name)
+        tally.compare(f"kept: {case.name}, {name} is made meanwhile, the files", case.left(), (case.old, []))
 
 
 def stops(beneath, tally, case):

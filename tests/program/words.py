@@ -66,6 +66,24 @@ def words(program, tally, _):
     for asked in (["--frames", "-1"], ["--frames=-1"]):
         ended = program.run("unroll", *asked, "--to", "aag", "two_gates")
         tally.check(f"words: {asked}", ended.status == 2 and ended.err.startswith(NEGATIVE), ended)
+    for number in ("03", "+3", "00", "-0", "+0", "0000000000000000000001"):
+        for words, option in ODD:
+            words = [word.replace("N", number) for word in words]
+            tally.compare(f"words: {' '.join(words)}", program.run(*words), Ended(2, b"", odd(number, option)))
+
+
+# Runs with an option that has the number N, and how messages show the option.
+ODD = [(words.split(" "), option) for words, option in (
+    ("unroll --frames N --to aag two_gates", "--frames <K>"), ("cnf --frames N two_gates", "--frames <K>"),
+    ("cnf --frames 1 --property N two_gates", "--property <P>"), ("cnf --frames=1 --property=N two_gates", "--property <P>"),
+    ("refute --frames N two_gates proof", "--frames <K>"), ("witness --property N two_gates two_gates", "--property <P>"),
+    ("witness --model model --frames N two_gates", "--frames <K>"),
+    ("select --to aag --property 0 --property N two_gates", "--property <P>"))]
+
+
+def odd(number, option):
+    text = f"error: invalid value '{number}' for '{option}': a number has no sign and no leading zero"
+    return f"{text}\n\nFor more information, try '--help'.\n".encode()
 
 
 # A message about a number of frames that is refused says its range.

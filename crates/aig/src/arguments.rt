@@ -1,7 +1,7 @@
 //! The arguments of the command line.
 
 use aig_base::Memory;
-use aig_cli::matches_of;
+use aig_cli::{matches_of, odd_number, subcommand_of};
 use aig_explain::escaped;
 use aig_files::Exit;
 use aig_run::RunFault;
@@ -34,6 +34,15 @@ pub fn parsed<'a, R: AllocGlobal + Eprint>(
         Ok(matches) => Ok(matches),
         Err(error) => Err(refused(rt, words, &error)),
     }
+}
+
+/// Rejects a number with a sign or a leading zero, which the parser accepts. It says so in the words of clap's messages.
+pub fn with_odd_number(rt: &impl Eprint, matches: &ArgMatches<'_>) -> Option<Exit> {
+    let (_, matches) = subcommand_of(matches)?;
+    let number = odd_number(matches)?;
+    // There is no place left to report that standard error fails.
+    let _ = eprintln!(rt; "error: {number}\n\nFor more information, try '--help'.");
+    Some(Exit::Reported)
 }
 
 /// Prints clap's text. It names arguments, which may have bytes that a terminal obeys. It is then the text for the

@@ -64,11 +64,7 @@ where
     let circuit = read_whole(rt.alloc(), circuit, Part::Circuit)?;
     let file = circuit.as_slice();
     let mut map = begin_map(rt, map, opened)?;
-    let done = write_unrolled_and_map(rt, frames, to, file, &mut map);
-    if done.is_err() {
-        map.remove(rt);
-    }
-    done
+    write_unrolled_and_map(rt, frames, to, file, &mut map)
 }
 
 fn write_unrolled_and_map<R: Files + AllocGlobal + Print>(

@@ -11,7 +11,8 @@ use std::fs::{Files, Metadata, OpenFile};
 use std::io;
 use std::os::fd::AsFd;
 
-/// The files of `--circuit-out` and `--stimulus-out`, from before the script is read until they have their texts.
+/// The files of `--circuit-out` and `--stimulus-out`. Only while their texts are written are the new files on the disk,
+/// so a run that is killed before leaves nothing.
 #[derive(Drop)]
 pub struct BenchFiles<'a, F: Drop> {
     circuit: OutputFile<'a, F>,
@@ -19,7 +20,7 @@ pub struct BenchFiles<'a, F: Drop> {
 }
 
 impl<'a, F: io::Write + OpenFile + AsFd + Drop> BenchFiles<'a, F> {
-    /// Creates the new files. If one of them cannot be created, there is none.
+    /// Fails if one of the files cannot be written. Nothing is on the disk afterwards.
     pub fn begin<R: Files<File = F> + AllocGlobal>(
         rt: &R,
         names: Kept<'a>,
@@ -27,13 +28,15 @@ impl<'a, F: io::Write + OpenFile + AsFd + Drop> BenchFiles<'a, F> {
         let circuit = find(rt, names.circuit)?;
         let stimulus = find(rt, names.stimulus)?;
         let mut files = BenchFiles { circuit, stimulus };
-        match files.create(rt) {
-            Ok(()) => Ok(files),
-            Err(exit) => {
-                files.remove(rt);
-                Err(exit)
-            }
-        }
+        files.try_out(rt)?;
+        Ok(files)
+    }
+
+    /// Creates both new files, because one may be in the other's way, and removes them.
+    fn try_out<R: Files<File = F>>(&mut self, rt: &R) -> Result<(), Exit> {
+        let created = self.create(rt);
+        let removed = self.remove(rt);
+        created.and(removed)
     }
 
     fn create<R: Files<File = F>>(&mut self, rt: &R) -> Result<(), Exit> {
@@ -46,12 +49,27 @@ impl<'a, F: io::Write + OpenFile + AsFd + Drop> BenchFiles<'a, F> {
         self.circuit.check_name(rt)
     }
 
-    /// Writes the circuit and the rows of a bench. All texts are on disk before the first file gets its name.
+    /// Writes the circuit and the rows of a bench. If that fails, the new files are removed.
     pub fn write<R: Files<File = F>>(
         &mut self,
         rt: &R,
         bench: &Bench<PlaneGrid>,
     ) -> Result<(), Exit> {
+        let written = self.write_new(rt, bench);
+        if written.is_err() {
+            // The program reports the fault that led here, and can do no more.
+            let _ = self.remove(rt);
+        }
+        written
+    }
+
+    /// Creates the new files and writes them. All texts are on disk before the first file gets its name.
+    fn write_new<R: Files<File = F>>(
+        &mut self,
+        rt: &R,
+        bench: &Bench<PlaneGrid>,
+    ) -> Result<(), Exit> {
+        self.create(rt)?;
         write_part(rt, Part::Circuit(bench), &mut self.circuit)?;
         write_part(rt, Part::Stimulus(bench), &mut self.stimulus)?;
         self.circuit.take_name(rt)?;
@@ -59,13 +77,15 @@ impl<'a, F: io::Write + OpenFile + AsFd + Drop> BenchFiles<'a, F> {
     }
 
     /// Removes the new files that have not taken their names.
-    pub fn remove<R: Files>(&mut self, rt: &R) {
-        self.circuit.remove(rt);
-        self.stimulus.remove(rt);
+    fn remove<R: Files>(&mut self, rt: &R) -> Result<(), Exit> {
+        let circuit = self.circuit.remove(rt);
+        let stimulus = self.stimulus.remove(rt);
+        circuit.and(stimulus)
     }
 }
 
-/// Creates the new file for the map of a circuit, which must not replace the circuit's own file.
+/// Fails if the map of a circuit cannot be written, or would replace the circuit's own file. Nothing is on the disk
+/// afterwards.
 pub fn begin_map<'a, R: Files + AllocGlobal>(
     rt: &R,
     name: &'a str,
@@ -75,16 +95,11 @@ where
     R::File: AsFd,
 {
     let mut map = find(rt, Some(name))?;
-    match create_map(rt, &mut map, circuit) {
-        Ok(()) => Ok(map),
-        Err(exit) => {
-            map.remove(rt);
-            Err(exit)
-        }
-    }
+    try_map(rt, &mut map, circuit)?;
+    Ok(map)
 }
 
-fn create_map<R: Files>(
+fn try_map<R: Files>(
     rt: &R,
     map: &mut OutputFile<'_, R::File>,
     circuit: &Metadata,
@@ -95,10 +110,10 @@ where
     if map.replaces(circuit) {
         return Err(OUTPUT);
     }
-    map.create(rt)
+    map.try_out(rt)
 }
 
-/// Writes what each input of the unrolled circuit is.
+/// Writes what each input of the unrolled circuit is. If that fails, the new file is removed.
 pub fn write_map<R: Files>(
     rt: &R,
     circuit: &Circuit,
@@ -108,6 +123,24 @@ pub fn write_map<R: Files>(
 where
     R::File: AsFd,
 {
+    let written = write_new_map(rt, circuit, frames, map);
+    if written.is_err() {
+        // The program reports the fault that led here, and can do no more.
+        let _ = map.remove(rt);
+    }
+    written
+}
+
+fn write_new_map<R: Files>(
+    rt: &R,
+    circuit: &Circuit,
+    frames: u32,
+    map: &mut OutputFile<'_, R::File>,
+) -> Result<(), Exit>
+where
+    R::File: AsFd,
+{
+    map.create(rt)?;
     write_part(rt, Part::Inputs(circuit, frames), map)?;
     map.take_name(rt)
 }

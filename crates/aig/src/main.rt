@@ -14,8 +14,10 @@ mod witnesses;
 use aig_cli::has_flag;
 use aig_explain::{explain, is_asked_for};
 use aig_files::{Exit, reserve};
-use arguments::parsed;
+use arguments::{parsed, with_odd_number};
 use chosen::{files_of, open_chosen};
+use clap::ArgMatches;
+use command::Command;
 use std::env::Env;
 use std::fs::Files;
 use std::os::fd::AsFd;
@@ -46,7 +48,7 @@ where
     R::File: AsFd,
 {
     let matches = reported(rt, parsed(rt, words))?;
-    let done = match open_chosen(rt, &matches) {
+    let done = match command_for(rt, &matches) {
         Ok(command) => reported(rt, command.run(rt)),
         Err(exit) => Err(exit.report(rt)),
     };
@@ -56,6 +58,17 @@ where
         }
     }
     done
+}
+
+/// Returns the command that the arguments choose, unless one of its numbers is not written as numbers are.
+fn command_for<'m, R: Files + Eprint>(
+    rt: &R,
+    matches: &'m ArgMatches<'_>,
+) -> Result<Command<'m, R::File>, Exit> {
+    match with_odd_number(rt, matches) {
+        Some(exit) => Err(exit),
+        None => open_chosen(rt, matches),
+    }
 }
 
 /// Prints why there is no result, if there is none.

@@ -47,17 +47,13 @@ where
     let circuit = read_whole(rt.alloc(), circuit, Part::Circuit)?;
     let stimulus = read_whole(rt.alloc(), stimulus, Part::Stimulus)?;
     let mut files = BenchFiles::begin(rt, kept)?;
-    let done = write_replies(
+    write_replies(
         rt,
         circuit.as_slice(),
         stimulus.as_slice(),
         script,
         &mut files,
-    );
-    if done.is_err() {
-        files.remove(rt);
-    }
-    done
+    )
 }
 
 fn write_replies<R: Files + AllocGlobal + Print, F: Read + Drop>(

@@ -1,6 +1,7 @@
 -- What the parsed arguments hold.
-use Rattle.std.specs.Prelude.{◌≡◌, ℕ, ◌<◌, ◌^◌, List, Bool, true, false, Option, None, Some, codes}
+use Rattle.std.specs.Prelude.{◌≡◌, ℕ, ◌<◌, ◌^◌, ◌&&◌, ◌||◌, nat_le, List, slice_index, Bool, true, false, Option, None, Some, codes}
 use Rattle.std.specs.Option.{unwrap_or}
+use Rattle.std.specs.Str.{bytes_eq}
 use Rattle.std.specs.Str.Parse.{IsNumeral, digits_value, without_leading_plus}
 use Rattle.clap.specs.Matches.{found_of, one_text}
 use Rattle.clap.specs.declared.parser.matches.ArgMatches.{ArgMatches}
@@ -28,3 +29,7 @@ HoldsFlag matches name flag =
     (one_text (found_of matches) name ≡ Some (codes "true") → flag ≡ true)
     × (one_text (found_of matches) name ≡ Some (codes "false") → flag ≡ false)
     × (one_text (found_of matches) name ≡ None → flag ≡ false)
+
+-- a number without a sign and without a leading zero: it is 0, or begins with a digit from 1 to 9
+abbrev pub is_plain_number : List ℕ → Bool
+is_plain_number text = bytes_eq text (codes "0") || nat_le 49 (slice_index text 0) && nat_le (slice_index text 0) 57

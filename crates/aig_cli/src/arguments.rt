@@ -219,6 +219,9 @@ pub const NAMES: Argument = Argument {
     need: Need::Never,
 };
 
+/// The options with a number: the name by which the value is found, and how messages show the option.
+pub const NUMBERS: [(&str, &str); 2] = [("K", "--frames <K>"), ("P", "--property <P>")];
+
 /// The option of every command. It may be before the command or after it.
 pub static EXPLAIN: Argument = Argument {
     name: "explain",

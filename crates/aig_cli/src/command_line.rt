@@ -1,13 +1,14 @@
 //! The command line: the parser of its words, and what it found.
-ghost use Rattle.std.specs.Prelude.{◌≡◌, option_map};
+ghost use Rattle.std.specs.Prelude.{◌≡◌, false, option_map, slice_index, IfSome};
 ghost use Rattle.clap.specs.Matches.{first_value, found_of};
-ghost use Rattle.aig_cli.specs.Held.{HoldsFlag, HoldsNumber, HoldsNumberOr};
+ghost use Rattle.aig_cli.specs.Held.{HoldsFlag, HoldsNumber, HoldsNumberOr, is_plain_number};
 
-use crate::arguments::{EXPLAIN, built};
+use crate::arguments::{EXPLAIN, NUMBERS, built};
 use crate::help;
 use crate::subcommands::{Subcommand, built_subcommand, first, second, third};
 use clap::{Arg, ArgMatches, Command};
 use std::alloc::{AllocError, Global};
+use std::fmt;
 
 /// The program's version. A program does not know how it was built: `rt ci` proves what it builds, and
 /// `tests/build_unproved.sh` replaces this text in a program that was not proved.
@@ -99,4 +100,53 @@ pub fn has_flag(matches: &ArgMatches<'_>, name: &str) -> bool
     ensures held { HoldsFlag matches.now name.now result }
 {
     matches.get_flag(name)
+}
+
+/// A number that has a sign, or a zero before another digit. The parser takes it, but no file and no script may have it.
+#[derive(Clone, Copy)]
+pub struct OddNumber<'a> {
+    /// The option and the name of its value, as help shows them.
+    pub option: &'static str,
+    /// The number as it was given.
+    pub text: &'a str,
+}
+
+impl fmt::Display for OddNumber<'_> {
+    fn fmt<W: fmt::Write>(&self, f: &mut fmt::Formatter<W>) -> fmt::Result {
+        write!(
+            f,
+            "invalid value '{}' for '{}': a number has no sign and no leading zero",
+            self.text, self.option
+        )
+    }
+}
+
+/// Returns the first number of a command that has a sign or a leading zero.
+pub fn odd_number<'a>(matches: &ArgMatches<'a>) -> Option<OddNumber<'a>>
+    ensures odd { IfSome result (λ number. is_plain_number number.text.now ≡ false) }
+{
+    for (name, option) in NUMBERS {
+        for text in texts_of(matches, name).unwrap_or(&[]) {
+            if !is_plain_number(text) {
+                return Some(OddNumber { option, text });
+            }
+        }
+    }
+    None
+}
+
+/// Returns the first byte of a text, 0 if it has none.
+fn first_byte(text: &str) -> u8
+    ensures { result ≡ slice_index text.now 0 }
+{
+    let bytes = text.as_bytes();
+    if bytes.is_empty() { 0 } else { bytes[0] }
+}
+
+/// Whether a number has neither a sign nor a leading zero.
+fn is_plain_number(text: &str) -> bool
+    ensures plain { result ≡ is_plain_number text.now }
+{
+    let first = first_byte(text);
+    text == "0" || (b'1' <= first && first <= b'9')
 }

@@ -7,5 +7,6 @@ mod help;
 mod subcommands;
 
 pub use command_line::{
-    has_flag, matches_of, number_of, number_or, subcommand_of, text_of, texts_of,
+    OddNumber, has_flag, matches_of, number_of, number_or, odd_number, subcommand_of, text_of,
+    texts_of,
 };

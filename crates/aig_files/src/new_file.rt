@@ -109,12 +109,16 @@ impl<F: Drop> NewFile<F> {
         }
     }
 
-    /// Removes the file, unless it has taken its name.
-    pub fn remove<R: Files>(&mut self, rt: &R) {
-        if self.open.is_some() {
-            // The program reports the fault that led here, and can do no more.
-            let _ = fs::remove_file(rt, self.new_name.as_str());
-            self.open = None;
+    /// Removes the file, unless it is not created or has taken its name.
+    pub fn remove<R: Files>(&mut self, rt: &R) -> Result<(), Exit> {
+        if self.open.is_none() {
+            return Ok(());
+        }
+        let removed = fs::remove_file(rt, self.new_name.as_str());
+        self.open = None;
+        match removed {
+            Ok(()) => Ok(()),
+            Err(_) => Err(OUTPUT),
         }
     }
 }

@@ -66,9 +66,10 @@ impl<F: Drop> OutputFile<'_, F> {
     }
 
     /// Removes a new file that has not taken its name.
-    pub fn remove<R: Files>(&mut self, rt: &R) {
-        if let OutputFile::File(new) = self {
-            new.remove(rt);
+    pub fn remove<R: Files>(&mut self, rt: &R) -> Result<(), Exit> {
+        match self {
+            OutputFile::File(new) => new.remove(rt),
+            _ => Ok(()),
         }
     }
 }
@@ -80,6 +81,13 @@ impl<F: OpenFile + AsFd + Drop> OutputFile<'_, F> {
             OutputFile::File(new) => new.create(rt),
             _ => Ok(()),
         }
+    }
+
+    /// Finds out whether the new file for a file can be created, and leaves none.
+    pub fn try_out<R: Files<File = F>>(&mut self, rt: &R) -> Result<(), Exit> {
+        let created = self.create(rt);
+        let removed = self.remove(rt);
+        created.and(removed)
     }
 }
 

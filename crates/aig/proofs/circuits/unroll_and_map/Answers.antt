@@ -8,7 +8,7 @@ pub returns : goal.returns
 returns g c =
     record {
       done =
-          ok_whole c.write_unrolled_and_map-done.result (g.F.Read.remaining c.args.circuit) c.as_slice-file.result.now
+          ok_whole c.write_unrolled_and_map.result (g.F.Read.remaining c.args.circuit) c.as_slice-file.result.now
           (slice_whole (g.F.Read.remaining c.args.circuit) _ _ c.as_slice-file.ensures.value c.in_ok-circuit.ensures.whole)
-          (λ xs. GoesWell (OfFile xs (UnrollsKept c.args.frames c.args.to))) c.write_unrolled_and_map-done.ensures;
+          (λ xs. GoesWell (OfFile xs (UnrollsKept c.args.frames c.args.to))) c.write_unrolled_and_map.ensures;
     }
