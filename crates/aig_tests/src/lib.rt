@@ -11,6 +11,8 @@ mod circuits;
 #[cfg(test)]
 mod fakes;
 #[cfg(test)]
+mod first_literals;
+#[cfg(test)]
 mod formulas;
 #[cfg(test)]
 mod grids;

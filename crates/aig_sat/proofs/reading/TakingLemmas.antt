@@ -23,7 +23,7 @@ use Rattle.aig_sat.specs.declared.proof.step.StepKind.TheVariants.{Add, Delete}
 use Rattle.aig_sat.specs.model.ModelText.{IsSpace, number_text}
 use Rattle.aig_sat.specs.proof.ProofBytes.{Groups, SpellsLiterals, first_byte}
 use Rattle.aig_sat.specs.proof.ProofText.{EndsStep, Gap, IsBlank, SpellsClause, SpellsStep}
-use Rattle.aig_sat.specs.proof.Steps.{Block, text_to_come, bytes_to_come}
+use Rattle.aig_sat.specs.proof.Steps.{BeginsSo, Block, text_to_come, bytes_to_come}
 use Rattle.aig_sat.specs.proof.state.Taking.{Begins, Ends, GoesOn, LeadsAll, LeadsBy, LeadsClause, LeadsGap, LeadsLiterals, LeadsStep, LeadsWord, TakesBytes, TakesText, held, last_byte, sign}
 use Rattle.aig_sat.proofs.models.DigitLemmas.{digit_joins}
 
@@ -384,3 +384,24 @@ step_taken Binary f a b c l m n kind clause took (ys, second, took') = (
 pub none_of : (o : Option ℕ) → ((x : ℕ) → o ≡ Some x → ⊥) → o ≡ None
 none_of None other = refl
 none_of (Some x) other = absurd (other x refl)
+
+-- ---- the first byte
+
+pub first_is : (a b : Block) (l m : Option (List ℕ)) (x : ℕ) (P : Option (List ℕ) → Type 0) → TakesBytes a b l m []
+    → slice_get b.waiting 0 ≡ Some x → P None → P (Some []) → ((rest : List ℕ) → P (Some (x ∷ rest))) → P (bytes_to_come a l)
+first_is a b l m x P look is unknown empty one =
+    subst P (sym (look ∙ before_none (bytes_to_come b m))) (read m b.ended)
+  where
+    first : (w left : List ℕ) → slice_get w 0 ≡ Some x → P (Some (w ++ left))
+    first [] left e = let never : ⊥ = cc in absurd never
+    first (y ∷ w) left e = let k : x ≡ y = cc in subst (λ (n : ℕ). P (Some (n ∷ (w ++ left)))) k (one (w ++ left))
+
+    read : (m : Option (List ℕ)) (e : Bool) → P (bytes_to_come (record b { ended = e }) m)
+    read None e = unknown
+    read (Some left) true = empty
+    read (Some left) false = first b.waiting left is
+
+-- a `d` begins either
+pub deletion_so : (spelling : Spelling) (b : ℕ) (rest : List ℕ) → b ≡ 100 → BeginsSo spelling (Some (b ∷ rest))
+deletion_so Text b rest is = λ other. let never : ⊥ = omega (arith, is, other) in absurd never
+deletion_so Binary b rest is = inr is

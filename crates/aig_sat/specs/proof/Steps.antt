@@ -1,5 +1,5 @@
 -- What a reader of steps is seen as, and what reading a step does.
-use Rattle.std.specs.Prelude.{◌≡◌, ℕ, ◌<◌, Bool, if◌then◌else◌, List, [], ◌∷◌, ◌++◌, All, Option, Some, None}
+use Rattle.std.specs.Prelude.{◌≡◌, ◌≢◌, ◌⊎◌, ℕ, ◌<◌, Bool, if◌then◌else◌, List, [], ◌∷◌, ◌++◌, All, Option, Some, None}
 use Rattle.std.specs.Option.{is_none}
 use Rattle.aig_bytes.specs.Bytes.{before, IsAtEnd}
 use Rattle.aig_parts.specs.Literal.{variable}
@@ -37,6 +37,14 @@ text_to_come block (Some left) = Some (if block.ended then block.waiting else bl
 abbrev pub bytes_to_come : Block → Option (List ℕ) → Option (List ℕ)
 bytes_to_come block None = None
 bytes_to_come block (Some left) = Some (if block.ended then [] else block.waiting ++ left)
+
+-- The bytes of a proof that is spelled so: a text does not begin with an `a`, and the binary form begins with an `a` or
+-- a `d`.
+abbrev pub BeginsSo : Spelling → Option (List ℕ) → Type 0
+BeginsSo spelling None = Unit {0}
+BeginsSo spelling (Some []) = Unit {0}
+BeginsSo Text (Some (b ∷ rest)) = b ≢ 97
+BeginsSo Binary (Some (b ∷ rest)) = (b ≡ 97) ⊎ (b ≡ 100)
 
 -- The next bytes spell this step, which is the first one where it was not known yet how the proof is spelled. The
 -- reader had these bytes left before it, and these after it.

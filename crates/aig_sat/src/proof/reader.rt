@@ -2,7 +2,7 @@
 ghost use Rattle.std.specs.Prelude.{◌≡◌, ◌+◌, ◌^◌, ◌<◌, [], IfOk, IfSome, OnOk, Some, None, false};
 ghost use Rattle.aig_parts.specs.Literal.{variable};
 ghost use Rattle.aig_sat.specs.proof.Reads.{reads_failed};
-ghost use Rattle.aig_sat.specs.proof.Steps.{AreLiterals, Reads};
+ghost use Rattle.aig_sat.specs.proof.Steps.{AreLiterals, BeginsSo, Reads, bytes_to_come};
 ghost use Rattle.aig_sat.specs.proof.state.Taking.{Begins, Ends, GoesOn, Keeps, LeadsBy, to_take};
 
 use crate::proof::binary::{binary_kind, binary_literal};
@@ -20,10 +20,18 @@ use std::marker::Model;
 fn look<R: Read>(bytes: &mut ProofBytes, reader: &mut R) -> Result<Spelling, ProofFault>
     ensures count { R.failures reader.new ≡ R.failures reader.old + reads_failed result }
     ensures keeps { Keeps bytes.old bytes.new (R.left reader.old) (R.left reader.new) }
+    ensures letter { IfOk result (λ spelling. BeginsSo spelling (bytes_to_come bytes.old (R.left reader.old))) }
 {
-    if let Some(b'd') = bytes.peek(reader)? {
-        bytes.fill(reader)?;
+    let Some(first) = bytes.peek(reader)? else {
+        return Ok(Spelling::Text);
+    };
+    if first == b'a' {
+        return Ok(Spelling::Binary);
     }
+    if first != b'd' {
+        return Ok(Spelling::Text);
+    }
+    bytes.fill(reader)?;
     Ok(spelling_of(bytes.front()))
 }
 
@@ -148,6 +156,8 @@ impl ProofReader {
         ensures count { R.failures reader.new ≡ R.failures reader.old + reads_failed result }
         ensures keeps { Keeps self.old.block self.new.block (R.left reader.old) (R.left reader.new) }
         ensures spelling { IfOk result (λ spelling. self.new.spelling ≡ Some spelling) }
+        ensures letter { IfOk result (λ spelling. self.old.spelling ≡ None →
+            BeginsSo spelling (bytes_to_come self.old.block (R.left reader.old))) }
         ensures stays { (s : Spelling) → self.old.spelling ≡ Some s → self.new.spelling ≡ Some s }
         ensures variables { self.new.variables ≡ self.old.variables }
         ensures literals { AreLiterals self.new.variables self.new.clause }
@@ -197,6 +207,8 @@ impl ProofReader {
         ensures literals { AreLiterals self.new.variables self.new.clause }
         ensures count { R.failures reader.new ≡ R.failures reader.old + reads_failed result }
         ensures spelling { (s : Spelling) → self.old.spelling ≡ Some s → self.new.spelling ≡ Some s }
+        ensures letter { (s : Spelling) → OnOk result (self.old.spelling ≡ None → self.new.spelling ≡ Some s →
+            BeginsSo s (bytes_to_come self.old.block (R.left reader.old))) }
         ensures step { IfOk result (λ kind. Reads self.old self.new (R.left reader.old) (R.left reader.new) kind) }
     {
         let is_first = self.spelling.is_none();
