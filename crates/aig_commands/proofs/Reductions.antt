@@ -46,8 +46,8 @@ reduces raw text circuit (reductions.Reduced new) position (given, is, (confirme
       confirmed = confirmed;
       new = new;
       spelled = spells_confirmed raw new holds.confirmed position;
-      reduced = reduced;
       holds = holds;
+      reduced = reduced;
     }
 reduces raw text circuit (reductions.Refused (Initial p)) position (given, is, (ne, verdict)) =
     record { given = given; given_is = is; verdict_is = verdict; written_is = refl }

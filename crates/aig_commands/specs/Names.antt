@@ -27,8 +27,8 @@ entry_lines shown symbols kind p (x ∷ xs) =
     entry_line symbols kind p (shown x) ++ entry_lines shown symbols kind (p + 1) xs
 
 -- the lines of all sections; a justice property has no literal of its own
-unfoldable pub names_text : Raw → List ℕ
-names_text raw =
+unfoldable pub entries_text : Raw → List ℕ
+entries_text raw =
     entry_lines decimal raw.symbols kinds.Input 0 raw.inputs
     ++ (entry_lines (λ x. decimal x.lit) raw.symbols kinds.Latch 0 raw.latches
     ++ (entry_lines decimal raw.symbols kinds.Output 0 raw.outputs
@@ -39,5 +39,5 @@ names_text raw =
 
 -- what `info --names` writes for a circuit; it needs no memory
 abbrev pub ListsNames : Raw → Result (Unit {0}) RunFault → List ℕ → Type 0
-ListsNames raw (Ok done) text = text ≡ names_text raw
+ListsNames raw (Ok done) text = text ≡ entries_text raw
 ListsNames raw (Err _) text = ⊥

@@ -17,16 +17,16 @@ use Rattle.aig_reduce.specs.Irreducible.{HoldsReduced}
 use Rattle.aig_reduce.specs.Reduction.{IsReduced}
 use Rattle.aig_commands.specs.Check.{verdict_text}
 
--- The given witness is confirmed, and its reduced one is written. That one is confirmed, each of its values is the given
--- one or x, and no more of them can be x.
+-- The given witness is confirmed, and a reduced one is written. That one is confirmed, each of its values is the given
+-- one or x, and no more of them can be x. Of all such witnesses it is the one that is found value by value.
 pub record WritesReduced (raw : Raw) (text written : List ℕ) : Type 0 where
   pub given : Witness
   pub given_is : IsGiven raw text given
   pub confirmed : IsVerdict raw given verdicts.Confirmed
   pub new : Witness
   pub spelled : SpellsWitness raw written new
-  pub reduced : IsReduced raw given new
   pub holds : HoldsReduced raw given new
+  pub reduced : IsReduced raw given new
 
 -- the given witness has this verdict, whose line is written
 pub record WritesVerdict (raw : Raw) (text : List ℕ) (verdict : Verdict) (written : List ℕ) : Type 0 where

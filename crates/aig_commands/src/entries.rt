@@ -6,7 +6,7 @@ ghost use Rattle.aig_parts.specs.Formed.{limit};
 ghost use Rattle.aig_parts.specs.declared.symbols.Kind.TheVariants as kinds;
 ghost use Rattle.aig_parts.specs.Letters.{letter};
 ghost use Rattle.aig_unroll.specs.InputMap.{map_field, symbol_name_at};
-ghost use Rattle.aig_commands.specs.Names.{entry_line, entry_lines, is_same, names_text};
+ghost use Rattle.aig_commands.specs.Names.{entry_line, entry_lines, is_same, entries_text};
 
 use aig_base::{Circuit, Io, Kind, Latch, List, Lit, Write, write_all, write_number};
 
@@ -119,7 +119,7 @@ fn write_justice<W: Write>(
 
 /// Writes a line for each entry, section by section.
 pub(crate) fn write_entries<W: Write>(circuit: &Circuit, out: &mut W) -> Result<(), Io>
-    ensures { Writes W.written W.failures out.old out.new (names_text circuit.now) result }
+    ensures { Writes W.written W.failures out.old out.new (entries_text circuit.now) result }
 {
     circuit.facts();
     write_literals(out, circuit, Kind::Input, circuit.inputs())?;

@@ -10,7 +10,7 @@ ghost use Rattle.aig_run.specs.Command.{CommandEnds};
 ghost use Rattle.aig_commands.specs.Info.{AreFacts, ListsFacts, IsInFormat, comment_size, fact_line, format_name};
 ghost use Rattle.aig_commands.specs.Info.{info_text, fact_number_line, number_lines, yes_or_no};
 ghost use Rattle.aig_commands.specs.Info.{is_constant, starts_at_one};
-ghost use Rattle.aig_commands.specs.Names.{ListsNames, names_text};
+ghost use Rattle.aig_commands.specs.Names.{ListsNames, entries_text};
 ghost use Rattle.aig_run.specs.Command.{IsFileOf, OfFile, OfReader};
 
 use crate::entries::write_entries;

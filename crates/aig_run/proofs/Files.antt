@@ -10,7 +10,7 @@ use Rattle.aig_bytes.specs.Flow.{Flow, flow}
 use Rattle.aig_format.specs.FileReading.{IsReading, Raises, FaultRaises}
 use Rattle.aig_run.specs.declared.run_fault.RunFault.{RunFault}
 use Rattle.aig_run.specs.declared.run_fault.RunFault.TheVariants as run_faults
-use Rattle.aig_run.specs.Command.{IsFileOf, RefusesCircuit, OfFile, OfReader, reads_failed}
+use Rattle.aig_run.specs.Command.{IsFileOf, RefusesCircuit, OfCircuit, OfFile, OfReader, circuit_reads_failed}
 use Rattle.aig_run.specs.Command.{CommandEnds, Text, EndsReading}
 use Rattle.aig_run.proofs.Written.{got_none, reading_none, keeps_same, ends_map, reading_changed}
 
@@ -24,11 +24,15 @@ module _ {T : Type 0} (Means : Raw → Result T RunFault → List ℕ → Type 0
   of_file file f (Err (run_faults.Circuit fault)) bytes m = absurd (none fault bytes m)
   of_file file f answer bytes m = (raw, f, m)
 
+  of_circuit : IsCircuit raw → (answer : Result T RunFault) (bytes : List ℕ) → Means raw answer bytes
+      → OfCircuit Means answer bytes
+  of_circuit is_circuit (Err (run_faults.Circuit fault)) bytes m = absurd (none fault bytes m)
+  of_circuit is_circuit answer bytes m = (raw, is_circuit, m)
+
   -- no read of the circuit failed
-  no_read : (answer : Result T RunFault) (bytes : List ℕ) → Means raw answer bytes
-      → (reads_failed answer ≡ 0) × (answer ≢ Err (run_faults.Circuit circuits.Io))
+  no_read : (answer : Result T RunFault) (bytes : List ℕ) → Means raw answer bytes → circuit_reads_failed answer ≡ 0
   no_read (Err (run_faults.Circuit fault)) bytes m = absurd (none fault bytes m)
-  no_read answer bytes m = (refl, λ e. let no : ⊥ = cc in no)
+  no_read answer bytes m = refl
 
   pub ends_of_file : {X : Type 0} (out : Flow X) (fault : RunFault) (file : List ℕ) → IsFileOf file raw → (r : Result T RunFault)
       → CommandEnds out fault (Means raw) r → CommandEnds out fault (OfFile file Means) r
@@ -44,7 +48,7 @@ Answers circuit r = (bytes : List ℕ) → circuit.bytes circuit.old ≡ Some by
 
 -- how many reads failed, by the fault of the circuit
 circuit_reads : (T : Type 0) (fault : Fault) (old new : ℕ) → FaultRaises fault old new
-    → new ≡ old + reads_failed {T = T} (Err (run_faults.Circuit fault))
+    → new ≡ old + circuit_reads_failed {T = T} (Err (run_faults.Circuit fault))
 circuit_reads T circuits.Io old new e = omega (arith, e)
 circuit_reads T fault old new e = omega (arith, e)
 
@@ -54,13 +58,12 @@ module _ {Y T : Type 0} (circuit : Flow Y) (Means : Raw → Result T RunFault �
       → circuit.failures circuit.new ≡ circuit.failures circuit.old → (answer : Result T RunFault) (bytes : List ℕ)
       → Means raw answer bytes → OfReader circuit Means answer bytes
   of_reader raw none answers is_circuit count answer bytes m =
-      let n = no_read Means raw none answer bytes m in
       record {
         of_file = λ file e ne.
             let reading = answers file e (λ is. let no : ⊥ = cc in no) in
             of_file Means raw none file (record { spelled = reading.found; circuit = is_circuit }) answer bytes m;
-        unwritten = λ is. absurd (n.1 is);
-        count = omega (arith, count, n.0);
+        of_circuit = of_circuit Means raw none is_circuit answer bytes m;
+        count = omega (arith, count, no_read Means raw none answer bytes m);
       }
 
   -- the circuit is refused, or a read failed
@@ -70,7 +73,7 @@ module _ {Y T : Type 0} (circuit : Flow Y) (Means : Raw → Result T RunFault �
   refused_reader fault answers count = record {
     of_file = λ file e ne. let io : fault ≢ circuits.Io = (λ is. ne (ap (λ f. Err (run_faults.Circuit f)) is)) in
         ((answers file e (λ is. io (let h : fault ≡ circuits.Io = cc in h)), io), refl);
-    unwritten = λ is. refl;
+    of_circuit = refl;
     count = circuit_reads T fault (circuit.failures circuit.old) (circuit.failures circuit.new) count;
   }
 

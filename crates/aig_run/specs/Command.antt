@@ -36,19 +36,25 @@ abbrev pub OfFile : {T : Type 0} → List ℕ → (Raw → Result T RunFault →
 OfFile file Means (Err (run_faults.Circuit fault)) bytes = RefusesCircuit file fault × (bytes ≡ [])
 OfFile file Means answer bytes = (raw : Raw) × IsFileOf file raw × Means raw answer bytes
 
--- how many reads of the circuit failed, by the answer
-abbrev pub reads_failed : {T : Type 0} → Result T RunFault → ℕ
-reads_failed (Ok done) = 0
-reads_failed (Err (run_faults.Circuit circuits.Io)) = 1
-reads_failed (Err fault) = 0
+-- The same where nobody says what the file is: none where it is refused, else what `Means` says of some circuit.
+abbrev pub OfCircuit : {T : Type 0} → (Raw → Result T RunFault → List ℕ → Type 0) → Result T RunFault → List ℕ → Type 0
+OfCircuit Means (Err (run_faults.Circuit fault)) bytes = bytes ≡ []
+OfCircuit Means answer bytes = (raw : Raw) × IsCircuit raw × Means raw answer bytes
 
--- The same of the circuit file that a reader holds; a read may fail, one, and nothing is written then.
+-- how many reads of the circuit failed, by the answer
+abbrev pub circuit_reads_failed : {T : Type 0} → Result T RunFault → ℕ
+circuit_reads_failed (Ok done) = 0
+circuit_reads_failed (Err (run_faults.Circuit circuits.Io)) = 1
+circuit_reads_failed (Err fault) = 0
+
+-- Which bytes it writes for the circuit file that a reader holds, with which answer. The reader may not state what it
+-- holds. A read may fail, one, and nothing is written then.
 pub record OfReader {Y T : Type 0} (circuit : Flow Y) (Means : Raw → Result T RunFault → List ℕ → Type 0)
     (answer : Result T RunFault) (bytes : List ℕ) : Type 0 where
   pub of_file : (file : List ℕ) → circuit.bytes circuit.old ≡ Some file → answer ≢ Err (run_faults.Circuit circuits.Io)
       → OfFile file Means answer bytes
-  pub unwritten : answer ≡ Err (run_faults.Circuit circuits.Io) → bytes ≡ []
-  pub count : circuit.failures circuit.new ≡ circuit.failures circuit.old + reads_failed answer
+  pub of_circuit : OfCircuit Means answer bytes
+  pub count : circuit.failures circuit.new ≡ circuit.failures circuit.old + circuit_reads_failed answer
 
 -- the writer got these bytes, and no call failed
 pub record Got {X : Type 0} (out : Flow X) (bytes : List ℕ) : Type 0 where

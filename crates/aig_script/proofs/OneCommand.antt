@@ -33,17 +33,17 @@ pub first_differs : (a b : ℕ) (xs ys : List ℕ) → (a ≡ b → ⊥) → a �
 first_differs a b xs ys ne e = ne (let h : a ≡ b = cc in h)
 
 -- the first byte
-abbrev pub letter : Command → ℕ
-letter (edit (rewire g a b)) = 119
-letter (edit (set_reset l w)) = 114
-letter (edit (set_bit t p w)) = 115
-letter (edit (add_frame row)) = 43
-letter (edit drop_frame) = 45
-letter (edit (append_gate a b)) = 103
-letter (edit (set_output p l)) = 111
-letter (value t l) = 118
-letter trace = 116
-letter unroll = 117
+abbrev pub command_letter : Command → ℕ
+command_letter (edit (rewire g a b)) = 119
+command_letter (edit (set_reset l w)) = 114
+command_letter (edit (set_bit t p w)) = 115
+command_letter (edit (add_frame row)) = 43
+command_letter (edit drop_frame) = 45
+command_letter (edit (append_gate a b)) = 103
+command_letter (edit (set_output p l)) = 111
+command_letter (value t l) = 118
+command_letter trace = 116
+command_letter unroll = 117
 
 one_edit : (x : Edit) (d : Command) → HasNumbers x → IsCommand d → edit_text x ≡ command_text d → edit x ≡ d
 one_edit (rewire g a b) (edit (rewire h c d)) p q e =
@@ -51,33 +51,33 @@ one_edit (rewire g a b) (edit (rewire h c d)) p q e =
     let t = one_field a c _ _ p.1 q.1 s.1 in
     let u = one_number b d p.2 q.2 t.1 in
     cc
-one_edit (rewire g a b) d p q e = absurd (first_differs 119 (letter d) _ _ (λ h. omega arith) e)
+one_edit (rewire g a b) d p q e = absurd (first_differs 119 (command_letter d) _ _ (λ h. omega arith) e)
 one_edit (set_reset l w) (edit (set_reset m v)) p q e =
     let s = one_field l m _ _ p q (tails_of_two 114 32 _ _ e) in
     let t = one_value w v s.1 in
     cc
-one_edit (set_reset l w) d p q e = absurd (first_differs 114 (letter d) _ _ (λ h. omega arith) e)
+one_edit (set_reset l w) d p q e = absurd (first_differs 114 (command_letter d) _ _ (λ h. omega arith) e)
 one_edit (set_bit t i w) (edit (set_bit u j v)) p q e =
     let r = one_field t u _ _ p.0 q.0 (tails_of_two 115 32 _ _ e) in
     let s = one_field i j _ _ p.1 q.1 r.1 in
     let k = one_value w v s.1 in
     cc
-one_edit (set_bit t i w) d p q e = absurd (first_differs 115 (letter d) _ _ (λ h. omega arith) e)
+one_edit (set_bit t i w) d p q e = absurd (first_differs 115 (command_letter d) _ _ (λ h. omega arith) e)
 one_edit (add_frame row) (edit (add_frame other)) p q e =
     ap (λ (r : List Tern). edit (add_frame r)) (same_row row other (tails_of_two 43 32 _ _ e))
-one_edit (add_frame row) d p q e = absurd (first_differs 43 (letter d) _ _ (λ h. omega arith) e)
+one_edit (add_frame row) d p q e = absurd (first_differs 43 (command_letter d) _ _ (λ h. omega arith) e)
 one_edit drop_frame (edit drop_frame) p q e = refl
-one_edit drop_frame d p q e = absurd (first_differs 45 (letter d) _ _ (λ h. omega arith) e)
+one_edit drop_frame d p q e = absurd (first_differs 45 (command_letter d) _ _ (λ h. omega arith) e)
 one_edit (append_gate a b) (edit (append_gate c d)) p q e =
     let s = one_field a c _ _ p.0 q.0 (tails_of_two 103 32 _ _ e) in
     let t = one_number b d p.1 q.1 s.1 in
     cc
-one_edit (append_gate a b) d p q e = absurd (first_differs 103 (letter d) _ _ (λ h. omega arith) e)
+one_edit (append_gate a b) d p q e = absurd (first_differs 103 (command_letter d) _ _ (λ h. omega arith) e)
 one_edit (set_output i l) (edit (set_output j m)) p q e =
     let s = one_field i j _ _ p.0 q.0 (tails_of_two 111 32 _ _ e) in
     let t = one_number l m p.1 q.1 s.1 in
     cc
-one_edit (set_output i l) d p q e = absurd (first_differs 111 (letter d) _ _ (λ h. omega arith) e)
+one_edit (set_output i l) d p q e = absurd (first_differs 111 (command_letter d) _ _ (λ h. omega arith) e)
 
 pub one_command : (c d : Command) → IsCommand c → IsCommand d → command_text c ≡ command_text d → c ≡ d
 one_command (edit x) d p q e = one_edit x d p q e
@@ -86,10 +86,10 @@ one_command (value t l) (value u m) p q e =
     let k = one_number l m p.1 q.1 s.1 in
     cc
 one_command (value t l) (edit x) p q e = sym (one_edit x (value t l) q p (sym e))
-one_command (value t l) d p q e = absurd (first_differs 118 (letter d) _ _ (λ h. omega arith) e)
+one_command (value t l) d p q e = absurd (first_differs 118 (command_letter d) _ _ (λ h. omega arith) e)
 one_command trace trace p q e = refl
 one_command trace (edit x) p q e = sym (one_edit x trace q p (sym e))
-one_command trace d p q e = absurd (first_differs 116 (letter d) _ _ (λ h. omega arith) e)
+one_command trace d p q e = absurd (first_differs 116 (command_letter d) _ _ (λ h. omega arith) e)
 one_command unroll unroll p q e = refl
 one_command unroll (edit x) p q e = sym (one_edit x unroll q p (sym e))
-one_command unroll d p q e = absurd (first_differs 117 (letter d) _ _ (λ h. omega arith) e)
+one_command unroll d p q e = absurd (first_differs 117 (command_letter d) _ _ (λ h. omega arith) e)

@@ -4,29 +4,29 @@ use Rattle.std.specs.Fmt.{decimal}
 use Rattle.aig_bytes.proofs.WriteLemmas.{writes_then, writes_stop, writes_same}
 use Rattle.aig_parts.specs.declared.latch.Latch.{Latch}
 use Rattle.aig_parts.specs.declared.symbols.Kind.TheVariants as kinds
-use Rattle.aig_commands.specs.Names.{entry_lines, names_text}
+use Rattle.aig_commands.specs.Names.{entry_lines, entries_text}
 use Rattle.aig_commands.proofs.entries.write_entries.Goals as goal
 
 pub returns-in_err-write_literals : goal.returns-in_err-write_literals
-unfolding names_text
+unfolding entries_text
 returns-in_err-write_literals g c =
     writes_stop _ (writes_same c.in_err-write_literals.ensures (ap (entry_lines decimal c.args.circuit.now.symbols kinds.Input 0) c.inputs.ensures)) c.from_residual.ensures.0
 
 pub returns-in_err-write_latches : goal.returns-in_err-write_latches
-unfolding names_text
+unfolding entries_text
 returns-in_err-write_latches g c =
     writes_then (writes_same c.in_ok-write_literals.ensures (ap (entry_lines decimal c.args.circuit.now.symbols kinds.Input 0) c.inputs.ensures))
     (writes_stop _ (writes_same c.in_err-write_latches.ensures (ap (entry_lines (λ (x : Latch). decimal x.lit) c.args.circuit.now.symbols kinds.Latch 0) c.latches.ensures)) c.from_residual-in_err-write_latches.ensures.0)
 
 pub returns-in_err-write_literals-2 : goal.returns-in_err-write_literals-2
-unfolding names_text
+unfolding entries_text
 returns-in_err-write_literals-2 g c =
     writes_then (writes_same c.in_ok-write_literals.ensures (ap (entry_lines decimal c.args.circuit.now.symbols kinds.Input 0) c.inputs.ensures))
     (writes_then (writes_same c.in_ok-write_latches.ensures (ap (entry_lines (λ (x : Latch). decimal x.lit) c.args.circuit.now.symbols kinds.Latch 0) c.latches.ensures))
     (writes_stop _ (writes_same c.in_err-write_literals-2.ensures (ap (entry_lines decimal c.args.circuit.now.symbols kinds.Output 0) c.outputs.ensures)) c.from_residual-in_err-write_literals-2.ensures.0))
 
 pub returns-in_err-write_literals-3 : goal.returns-in_err-write_literals-3
-unfolding names_text
+unfolding entries_text
 returns-in_err-write_literals-3 g c =
     writes_then (writes_same c.in_ok-write_literals.ensures (ap (entry_lines decimal c.args.circuit.now.symbols kinds.Input 0) c.inputs.ensures))
     (writes_then (writes_same c.in_ok-write_latches.ensures (ap (entry_lines (λ (x : Latch). decimal x.lit) c.args.circuit.now.symbols kinds.Latch 0) c.latches.ensures))
@@ -34,7 +34,7 @@ returns-in_err-write_literals-3 g c =
     (writes_stop _ (writes_same c.in_err-write_literals-3.ensures (ap (entry_lines decimal c.args.circuit.now.symbols kinds.Bad 0) c.bad.ensures)) c.from_residual-in_err-write_literals-3.ensures.0)))
 
 pub returns-in_err-write_literals-4 : goal.returns-in_err-write_literals-4
-unfolding names_text
+unfolding entries_text
 returns-in_err-write_literals-4 g c =
     writes_then (writes_same c.in_ok-write_literals.ensures (ap (entry_lines decimal c.args.circuit.now.symbols kinds.Input 0) c.inputs.ensures))
     (writes_then (writes_same c.in_ok-write_latches.ensures (ap (entry_lines (λ (x : Latch). decimal x.lit) c.args.circuit.now.symbols kinds.Latch 0) c.latches.ensures))
@@ -43,7 +43,7 @@ returns-in_err-write_literals-4 g c =
     (writes_stop _ (writes_same c.in_err-write_literals-4.ensures (ap (entry_lines decimal c.args.circuit.now.symbols kinds.Constraint 0) c.constraints.ensures)) c.from_residual-in_err-write_literals-4.ensures.0))))
 
 pub returns-in_err-write_justice : goal.returns-in_err-write_justice
-unfolding names_text
+unfolding entries_text
 returns-in_err-write_justice g c =
     writes_then (writes_same c.in_ok-write_literals.ensures (ap (entry_lines decimal c.args.circuit.now.symbols kinds.Input 0) c.inputs.ensures))
     (writes_then (writes_same c.in_ok-write_latches.ensures (ap (entry_lines (λ (x : Latch). decimal x.lit) c.args.circuit.now.symbols kinds.Latch 0) c.latches.ensures))
@@ -53,7 +53,7 @@ returns-in_err-write_justice g c =
     (writes_stop _ (writes_same c.in_err-write_justice.ensures (ap (entry_lines (λ (ls : List ℕ). codes "-") c.args.circuit.now.symbols kinds.Justice 0) c.justice.ensures)) c.from_residual-in_err-write_justice.ensures.0)))))
 
 pub returns : goal.returns
-unfolding names_text
+unfolding entries_text
 returns g c =
     writes_then (writes_same c.in_ok-write_literals.ensures (ap (entry_lines decimal c.args.circuit.now.symbols kinds.Input 0) c.inputs.ensures))
     (writes_then (writes_same c.in_ok-write_latches.ensures (ap (entry_lines (λ (x : Latch). decimal x.lit) c.args.circuit.now.symbols kinds.Latch 0) c.latches.ensures))
