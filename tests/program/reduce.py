@@ -41,6 +41,10 @@ REDUCTIONS = (
 )
 
 
+# How many values that are not needed are between two that are.
+GAPS = (0, 1, 2, 3, 4, 5, 7, 8, 9, 15, 16, 17, 31, 32, 33, 127, 128, 129)
+
+
 def lines(text):
     return text.replace("/", "\n")
 
@@ -69,9 +73,31 @@ def reduce(program, tally, _):
     for witness, text in REFUSALS:
         texts = {"circuit": lines(TOGGLED), "witness": lines(witness)}
         rows.refuses(f"{TOGGLED} {witness}", "reduce circuit witness", f"witness: {text}", **texts)
+    gaps(rows)
     refusals(rows)
     example = f"{EXAMPLES}/wraps.aag"
     rows.gives("an example", ["reduce", example, f"{EXAMPLES}/wraps.wit"], contents(f"{EXAMPLES}/wraps.wit"))
+
+
+def gaps(rows):
+    """Witnesses in which every value after a gap is needed: of the inputs over several frames, and of the starts."""
+    for gap in GAPS:
+        size = gap + 1
+        inputs = "".join(f"{2 * number}\n" for number in range(1, size + 1))
+        write("inputs", f"aag {size} {size} 0 0 0 1 1\n{inputs}1\n{2 * size}\n")
+        given, wanted = "1" * size + "\n", "x" * gap + "1\n"
+        rows.gives(f"a gap of {gap} inputs", "reduce inputs witness", f"1\nb0\n\n{wanted * 5}.\n",
+                   witness=f"1\nb0\n\n{given * 5}.\n")
+        # every second latch starts at 0; the last two are needed
+        free = [number for number in range(1, 2 * size + 2) if number % 2]
+        latches = "".join(f"{2 * number} {2 * number} {2 * number if number in free else 0}\n"
+                          for number in range(1, 2 * size + 2))
+        total = 2 * size + 1
+        write("starts", f"aag {total} 0 {total} 0 0 1 1\n{latches}{2 * total}\n{2 * free[-2]}\n")
+        given = "".join("1" if number in free else "0" for number in range(1, total + 1))
+        wanted = "x0" * gap + "101"
+        rows.gives(f"a gap of {gap} starts", "reduce starts witness", f"1\nb0\n{wanted}\n\n\n.\n",
+                   witness=f"1\nb0\n{given}\n\n\n.\n")
 
 
 def frames(count):

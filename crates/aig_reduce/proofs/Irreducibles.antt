@@ -1,5 +1,5 @@
 -- What is known of a reduced witness.
-use Rattle.std.proofs.Common.{◌≡◌, inl, inr, ℕ, zero, suc, ◌<◌, ◌≤◌, List, [], ◌∷◌, ◌++◌, length, map, take, drop, get_or, Some, slice_get, refl, sym, ap, ◌∙◌, subst, arith}
+use Rattle.std.proofs.Common.{◌≡◌, inl, inr, ℕ, zero, suc, ◌<◌, ◌≤◌, List, [], ◌∷◌, ◌++◌, length, map, take, drop, get_or, Some, slice_get, slice_set, refl, sym, ap, ◌∙◌, subst, arith}
 use Rattle.std.specs.List.{AllZip}
 use Rattle.std.proofs.lemmas.Option.{same_Some, slice_get-get_or}
 use Rattle.std.proofs.lemmas.List.{append-nil, length-map}
@@ -12,10 +12,11 @@ use Rattle.aig_sim.specs.Verdict.{IsVerdict}
 use Rattle.aig_sim.specs.WitnessText.{Witness}
 use Rattle.aig_sim.proofs.Completions.{confirmed}
 use Rattle.aig_sim.proofs.WitnessLemmas.{no_rows}
-use Rattle.aig_values.specs.InputRows.{HaveWidth, row_at}
+use Rattle.aig_values.specs.InputRows.{HaveWidth, row_at, with_cell}
 use Rattle.aig_reduce.specs.Irreducible.{IsConfirmedWitness, IsSameOrX, HoldsReduced}
 use Rattle.aig_reduce.specs.Reduction.{values_of, witness_of, with_x_between, IsKept, IsReduced}
-use Rattle.aig_reduce.proofs.RunLemmas.{IsRunOf, zip_length, confirmed_reaches, reaches_confirmed, reaches_still}
+use Rattle.aig_reduce.specs.state.Reducing.{IsRunOf}
+use Rattle.aig_reduce.proofs.RunLemmas.{zip_length, confirmed_reaches, reaches_confirmed, reaches_still}
 
 -- ---- lists of values
 
@@ -155,10 +156,10 @@ drop_whole (x ∷ xs) = drop_whole xs
 row_of : (rows : List (List Tern)) (t : ℕ) → t < length rows → slice_get rows t ≡ Some (row_at rows t)
 row_of rows t lt = slice_get-get_or rows t [] lt
 
-lengths : (new given : List (List Tern)) → map length new ≡ map length given → length new ≡ length given
+pub lengths : (new given : List (List Tern)) → map length new ≡ map length given → length new ≡ length given
 lengths new given e = sym (length-map new length) ∙ ap length e ∙ length-map given length
 
-row_lengths : (new given : List (List Tern)) (t : ℕ) → map length new ≡ map length given
+pub row_lengths : (new given : List (List Tern)) (t : ℕ) → map length new ≡ map length given
     → length (row_at new t) ≡ length (row_at given t)
 row_lengths [] [] t e = refl
 row_lengths [] (z ∷ given) t e = let no : ⊥ = cc in absurd no
@@ -288,6 +289,38 @@ run_shaped raw property (x ∷ v) (y ∷ w) e h =
       some = λ none. h.some (no_rows w (sym (lengths v w more) ∙ ap length none));
       property = h.property;
     }
+
+-- values with fewer x are confirmed too
+pub fewer_x : (raw : Raw) (property : ℕ) (v w : List (List Tern)) → IsCircuit raw → IsRunOf raw (witness_of property w)
+    → CoverRows v w → IsVerdict raw (witness_of property v) verdict.Confirmed
+    → IsVerdict raw (witness_of property w) verdict.Confirmed
+fewer_x raw property [] [] circuit run covers c = c
+fewer_x raw property [] (y ∷ w) circuit run covers c = absurd covers
+fewer_x raw property (x ∷ v) [] circuit run covers c = absurd covers
+fewer_x raw property (x ∷ v) (y ∷ w) circuit run covers c =
+    reaches_confirmed raw circuit (witness_of property (y ∷ w)) run
+    (reaches_still raw circuit.sound (witness_of property (x ∷ v)) (witness_of property (y ∷ w)) refl covers.0 covers.1
+    (confirmed_reaches raw circuit (witness_of property (x ∷ v))
+    (run_shaped raw property (x ∷ v) (y ∷ w) (sym (cover_shape (x ∷ v) (y ∷ w) covers)) run) c))
+
+same_row : (xs : List Tern) → CoverRow xs xs
+same_row [] = tt
+same_row (x ∷ xs) = (inr refl, same_row xs)
+
+same_rows : (rows : List (List Tern)) → CoverRows rows rows
+same_rows [] = tt
+same_rows (row ∷ rows) = (same_row row, same_rows rows)
+
+x_covers : (xs : List Tern) (p : ℕ) → CoverRow (slice_set xs p X) xs
+x_covers [] p = tt
+x_covers (x ∷ xs) zero = (inl refl, same_row xs)
+x_covers (x ∷ xs) (suc p) = (inr refl, x_covers xs p)
+
+-- the values with x at a place have more x
+pub cell_covers : (rows : List (List Tern)) (t p : ℕ) → CoverRows (with_cell rows t p X) rows
+cell_covers [] t p = tt
+cell_covers (row ∷ rows) zero p = (x_covers row p, same_rows rows)
+cell_covers (row ∷ rows) (suc t) p = (same_row row, cell_covers rows t p)
 
 module _ (raw : Raw) (circuit : IsCircuit raw) (given : Witness) (g : IsConfirmedWitness raw given) where
   abbrev C : List (List Tern) → Type 0

@@ -1,3 +1,4 @@
+pub mod Clearings
 pub mod CoveredValues
 pub mod Edits
 pub mod Irreducibles

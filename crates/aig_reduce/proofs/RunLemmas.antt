@@ -16,8 +16,8 @@ use Rattle.aig_sim.specs.declared.witness.verdict.Verdict.TheVariants as verdict
 use Rattle.aig_sim.specs.Verdict.{StartsWrong, IsNotOne, IsVerdict}
 use Rattle.aig_sim.specs.WitnessText.{Witness}
 use Rattle.aig_sim.proofs.VerdictLemmas.{bad_defined, constraint_defined, reached}
-use Rattle.aig_values.specs.InputRows.{HaveWidth}
 use Rattle.aig_reduce.specs.Irreducible.{IsSameOrX}
+use Rattle.aig_reduce.specs.state.Reducing.{IsRunOf}
 use Rattle.aig_reduce.proofs.CoveredValues.{one_stays}
 
 -- a run from an allowed start under which all constraints are 1, and at the last frame the property
@@ -26,13 +26,6 @@ pub record Reaches (raw : Raw) (w : Witness) : Type 0 where
   pub constrained : (t p l : ℕ) → t < length w.rows → slice_get raw.constraints p ≡ Some l
       → Value raw w.start w.rows t l One
   pub bad : (l : ℕ) → slice_get raw.bad w.property ≡ Some l → Value raw w.start w.rows (length w.rows - 1) l One
-
--- a witness of the circuit, of one frame or more
-pub record IsRunOf (raw : Raw) (w : Witness) : Type 0 where
-  pub latches : length w.start ≡ length raw.latches
-  pub widths : HaveWidth (length raw.inputs) w.rows
-  pub some : w.rows ≢ []
-  pub property : w.property < length raw.bad
 
 one_or_not : (v : Tern) → (v ≡ One) ⊎ (v ≢ One)
 one_or_not Zero = inr (λ e. let no : ⊥ = cc in no)

@@ -11,7 +11,7 @@ use Rattle.aig_base.specs.Changes.{with_reset}
 use Rattle.aig_base.specs.Circuit.{IsCircuit}
 use Rattle.aig_base.specs.Runs.{Allows}
 use Rattle.aig_base.specs.Sound.{IsSound}
-use Rattle.aig_base.specs.Value.{Value, start_of}
+use Rattle.aig_base.specs.Value.{Value}
 use Rattle.aig_base.proofs.values.AllowedStarts.{allows_any, forbids_x}
 use Rattle.aig_base.proofs.values.Refined.{AllZip-slice_get}
 use Rattle.aig_sim.specs.declared.witness.verdict.Verdict.TheVariants as verdict
@@ -28,16 +28,11 @@ use Rattle.aig_reduce.specs.Irreducible.{IsConfirmedWitness}
 use Rattle.aig_reduce.specs.Reduction.{values_of, witness_of, with_x_between, IsKept, IsReduced}
 use Rattle.aig_reduce.specs.state.Looks.{ReachesFrom}
 use Rattle.aig_reduce.specs.state.Places.{AreTried}
-use Rattle.aig_reduce.specs.state.Reducing.{IsSameLatch, HasOtherResets, RunsWitness, Confirms, Reducing, TriesPlace}
+use Rattle.aig_reduce.specs.state.Reducing.{IsSameLatch, HasOtherResets, Runs, IsRunOf, RunsWitness, Confirms, Reducing, TriesPlace}
 use Rattle.aig_reduce.proofs.Irreducibles.{run_of, run_shaped}
 use Rattle.aig_reduce.proofs.Places.{lengths_written, tried_none, tried_more, tried_list, tried_all}
 use Rattle.aig_reduce.proofs.Resets.{other_resets_back, other_reset_more, value_with, start_restarted}
-use Rattle.aig_reduce.proofs.RunLemmas.{IsRunOf, Reaches, confirmed_reaches, reaches_confirmed}
-
--- a pair that runs a circuit from a start
-pub record Runs (raw : Raw) (pair : CircuitAndRows) (start : List Tern) : Type 0 where
-  pub resets : HasOtherResets raw pair.circuit
-  pub start_is : start_of pair.circuit ≡ start
+use Rattle.aig_reduce.proofs.RunLemmas.{Reaches, confirmed_reaches, reaches_confirmed}
 
 module _ (raw : Raw) (pair : CircuitAndRows) (start : List Tern) (h : Runs raw pair start) where
   -- the values of the pair are those of the run
@@ -79,12 +74,12 @@ module _ (raw : Raw) (pair : CircuitAndRows) (start : List Tern) (h : Runs raw p
 
 -- ---- what is taken back
 
-set_back : {A : Type 0} (xs : List A) (i : ℕ) (x a : A) → slice_get xs i ≡ Some a → slice_set (slice_set xs i x) i a ≡ xs
+pub set_back : {A : Type 0} (xs : List A) (i : ℕ) (x a : A) → slice_get xs i ≡ Some a → slice_set (slice_set xs i x) i a ≡ xs
 set_back [] i x a at = let no : ⊥ = cc in absurd no
 set_back (y ∷ xs) zero x a at = ap (λ (z : _). z ∷ xs) (sym (same_Some y a at))
 set_back (y ∷ xs) (suc i) x a at = ap (λ (zs : List _). y ∷ zs) (set_back xs i x a at)
 
-cell_back : (rows : List (List Tern)) (t p : ℕ) (x a : Tern) → slice_get (row_at rows t) p ≡ Some a
+pub cell_back : (rows : List (List Tern)) (t p : ℕ) (x a : Tern) → slice_get (row_at rows t) p ≡ Some a
     → with_cell (with_cell rows t p x) t p a ≡ rows
 cell_back [] zero p x a at = let no : ⊥ = cc in absurd no
 cell_back [] (suc t) p x a at = let no : ⊥ = cc in absurd no
@@ -351,15 +346,15 @@ module _ (raw : Raw) (given : Witness) where
         (subst (λ (rows : List (List Tern)). Confirms raw given.property (given.start ∷ rows)) e h.confirmed.verdict));
   }
 
-  pub reducing_ends : (now : CircuitAndRows) (property : ℕ) (start : List Tern)
-      → Reducing raw given now property start (suc (length now.rows)) 0
+  pub reducing_ends : (now : CircuitAndRows) (property : ℕ) (start : List Tern) (t p : ℕ) → length now.rows < t
+      → Reducing raw given now property start t p
       → IsReduced raw given (record { property = property; start = start; rows = now.rows })
-  reducing_ends now property start h = record {
+  reducing_ends now property start t p all h = record {
     property = h.property_is;
     shape = h.tried.shape;
     values = subst (λ (n : ℕ). (t p : ℕ) (a b : Tern) → slice_get (row_at (values_of given) t) p ≡ Some a
         → slice_get (row_at (start ∷ now.rows) t) p ≡ Some b
         → IsKept (IsVerdict raw (witness_of n (with_x_between (start ∷ now.rows) (values_of given) t p)) verdict.Confirmed) a b)
         h.property_is
-        (tried_all (Confirms raw property) (values_of given) (start ∷ now.rows) (suc (length now.rows)) 0 (omega arith) h.tried);
+        (tried_all (Confirms raw property) (values_of given) (start ∷ now.rows) t p (omega (arith, all)) h.tried);
   }

@@ -3,6 +3,8 @@
 
 mod fault;
 mod looks;
+mod pace;
+mod place;
 mod reducer;
 mod reduction;
 mod reduction_laws;

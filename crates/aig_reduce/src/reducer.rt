@@ -1,5 +1,5 @@
 //! Trying x at the values of a witness, one after the other.
-ghost use Rattle.std.specs.Prelude.{◌≡◌, ℕ, suc, ◌<◌, List, ◌∷◌, Some, length, slice_get};
+ghost use Rattle.std.specs.Prelude.{◌≡◌, ℕ, suc, ◌<◌, ◌≤◌, ◌↔◌, List, [], ◌∷◌, Some, length, slice_get, vec_len, vec_capacity, IsTrue};
 ghost use Rattle.aig_parts.specs.declared.latch.Latch.{Latch};
 ghost use Rattle.aig_parts.specs.declared.raw.Raw.{Raw};
 ghost use Rattle.aig_base.specs.Circuit.{IsCircuit};
@@ -7,10 +7,14 @@ ghost use Rattle.aig_base.specs.Sections.{IsLatchLiteral};
 ghost use Rattle.aig_bench.specs.Edit.{edited, set_bit, set_reset};
 ghost use Rattle.aig_sim.specs.WitnessText.{Witness};
 ghost use Rattle.aig_reduce.specs.Reduction.{IsReduced};
-ghost use Rattle.aig_reduce.specs.state.Reducing.{Reducing, RunsWitness, TriesPlace};
+ghost use Rattle.aig_values.specs.InputRows.{row_at};
+ghost use Rattle.aig_reduce.specs.state.Places.{IsBefore, IsPlace, IsUpTo, Undoes};
+ghost use Rattle.aig_reduce.specs.state.Reducing.{Clearing, PutsValue, Reducing, Runs, RunsWitness, TriesPlace};
 
 use crate::looks::reaches_from;
-use crate::starts::is_uninitialised;
+use crate::pace::Pace;
+use crate::place::{Cleared, Place, frame_of, is_before};
+use crate::starts::{is_fixed, is_uninitialised};
 use aig_base::{Latch, Lit, Tern};
 use aig_bench::Bench;
 use aig_sim::Grid;
@@ -21,6 +25,10 @@ pub struct Reducer<G: Grid> {
     pub bench: Bench<G>,
     pub property: u32,
     pub start: Vec<Tern>,
+}
+
+fn is_unknown(value: Tern) -> bool {
+    matches!(value, Tern::X)
 }
 
 impl<G: Grid> Reducer<G> {
@@ -99,50 +107,331 @@ impl<G: Grid> Reducer<G> {
         }
     }
 
-    // Tries the starts of all latches. They are those of the circuit, with their own resets.
-    fn try_starts(&mut self, latches: &[Latch])
-        requires { (raw : Raw) × (given : Witness) × (latches.now ≡ raw.latches)
-            × Reducing raw given self.old.bench.pair self.old.property self.old.start.items 0 0 }
-        ensures { (raw : Raw) (given : Witness) → latches.now ≡ raw.latches →
-            Reducing raw given self.old.bench.pair self.old.property self.old.start.items 0 0 →
-            Reducing raw given self.new.bench.pair self.new.property self.new.start.items 1 0 }
+    // Lets a latch start at a value.
+    fn put_start(&mut self, position: usize, latch: Lit, value: Tern)
+        requires position { position < length self.old.start.items }
+        requires runs { (raw : Raw) × (x : Latch) × Runs raw self.old.bench.pair self.old.start.items
+            × (slice_get raw.latches position ≡ Some x) × (x.lit ≡ latch) }
+        ensures property { self.new.property ≡ self.old.property }
+        ensures puts { (raw : Raw) (x : Latch) → Runs raw self.old.bench.pair self.old.start.items
+            → slice_get raw.latches position ≡ Some x → x.lit ≡ latch
+            → PutsValue raw self.old.bench.pair self.old.start.items 0 position value self.new.bench.pair self.new.start.items }
     {
-        for (position, latch) in latches.iter().enumerate() {
-            self.try_latch(position, latch);
+        self.put_reset(latch, value);
+        self.start[position] = value;
+    }
+
+    // Puts a value to a place. The latches are those of the circuit, with their own resets.
+    fn put(&mut self, latches: &[Latch], place: Place, value: Tern)
+        requires place { IsPlace (self.old.start.items ∷ self.old.bench.pair.rows) place.list place.position }
+        requires runs { (raw : Raw) × (latches.now ≡ raw.latches) × Runs raw self.old.bench.pair self.old.start.items }
+        ensures property { self.new.property ≡ self.old.property }
+        ensures puts { (raw : Raw) → latches.now ≡ raw.latches → Runs raw self.old.bench.pair self.old.start.items
+            → PutsValue raw self.old.bench.pair self.old.start.items place.list place.position value self.new.bench.pair
+            self.new.start.items }
+    {
+        if place.list == 0 {
+            self.put_start(place.position, latches[place.position].lit, value);
+        } else {
+            // Their contracts say that the rows have that width, and how many there are.
+            self.bench.width();
+            self.bench.frames();
+            self.put_input((place.list - 1) as u32, place.position as u32, value);
         }
     }
 
-    // Tries all inputs of a frame.
-    fn try_frame(&mut self, frame: u32)
-        requires frame { frame < length self.old.bench.pair.rows }
-        requires reducing { (raw : Raw) × (given : Witness)
-            × Reducing raw given self.old.bench.pair self.old.property self.old.start.items (suc frame) 0 }
-        ensures { (raw : Raw) (given : Witness) →
-            Reducing raw given self.old.bench.pair self.old.property self.old.start.items (suc frame) 0 →
-            Reducing raw given self.new.bench.pair self.new.property self.new.start.items (suc (suc frame)) 0 }
+    // The value at a place.
+    fn get(&self, place: Place) -> Tern
+        requires { IsPlace (self.now.start.items ∷ self.now.bench.pair.rows) place.list place.position }
+        ensures { slice_get (row_at (self.now.start.items ∷ self.now.bench.pair.rows) place.list) place.position ≡ Some result }
     {
-        for position in 0..self.bench.width() {
-            self.try_input(frame, position);
+        if place.list == 0 {
+            return self.start[place.position];
+        }
+        // Its contract says that the rows have that width.
+        self.bench.width();
+        self.bench
+            .stimulus()
+            .get((place.list - 1) as u32, place.position as u32)
+    }
+
+    // Whether there is a value at a place.
+    fn has(&self, place: Place) -> bool
+        ensures { IsTrue result ↔ IsPlace (self.now.start.items ∷ self.now.bench.pair.rows) place.list place.position }
+    {
+        if place.list == 0 {
+            return place.position < self.start.len();
+        }
+        let width = self.bench.width() as usize;
+        place.list <= self.bench.frames() as usize && place.position < width
+    }
+
+    // Puts x to a place, and keeps what was there.
+    fn clear_value(&mut self, latches: &[Latch], cleared: &mut Vec<Cleared>, place: Place)
+        requires room { vec_len cleared.old < vec_capacity cleared.old }
+        requires place { IsPlace (self.old.start.items ∷ self.old.bench.pair.rows) place.list place.position }
+        requires runs { (raw : Raw) × (latches.now ≡ raw.latches) × Runs raw self.old.bench.pair self.old.start.items }
+        ensures property { self.new.property ≡ self.old.property }
+        ensures puts { (raw : Raw) → latches.now ≡ raw.latches → Runs raw self.old.bench.pair self.old.start.items
+            → PutsValue raw self.old.bench.pair self.old.start.items place.list place.position Tern.X self.new.bench.pair
+            self.new.start.items }
+        ensures undoes { (raw : Raw) (was : List (List Tern)) → latches.now ≡ raw.latches
+            → Runs raw self.old.bench.pair self.old.start.items → Undoes cleared.old.items (self.old.start.items ∷ self.old.bench.pair.rows) was
+            → Undoes cleared.new.items (self.new.start.items ∷ self.new.bench.pair.rows) was }
+    {
+        let value = self.get(place);
+        cleared.push_reserved(Cleared { place, value });
+        self.put(latches, place, Tern::X);
+    }
+
+    // Clears a value, unless it is the start of a latch with a reset of 0 or 1, and returns the next place of its list.
+    fn clear_at(&mut self, latches: &[Latch], cleared: &mut Vec<Cleared>, place: Place) -> Place
+        requires place { IsPlace (self.old.start.items ∷ self.old.bench.pair.rows) place.list place.position }
+        requires clearing { (raw : Raw) × (given : Witness) × (first : ℕ) × (latches.now ≡ raw.latches)
+            × Clearing raw given self.old.bench.pair self.old.property self.old.start.items first place.list place.position }
+        ensures clearing { (raw : Raw) (given : Witness) (first : ℕ) → latches.now ≡ raw.latches
+            → Clearing raw given self.old.bench.pair self.old.property self.old.start.items first place.list place.position
+            → Clearing raw given self.new.bench.pair self.new.property self.new.start.items first result.list result.position }
+        ensures undoes { (raw : Raw) (given : Witness) (first : ℕ) (was : List (List Tern)) → latches.now ≡ raw.latches
+            → Clearing raw given self.old.bench.pair self.old.property self.old.start.items first place.list place.position
+            → Undoes cleared.old.items (self.old.start.items ∷ self.old.bench.pair.rows) was → Undoes cleared.new.items (self.new.start.items ∷ self.new.bench.pair.rows) was }
+        ensures on { IsUpTo place.list place.position result.list result.position }
+    {
+        let next = Place {
+            list: place.list,
+            position: place.position + 1,
+        };
+        if is_fixed(latches, place) {
+            return next;
+        }
+        if cleared.len() >= cleared.capacity() {
+            return place;
+        }
+        self.clear_value(latches, cleared, place);
+        next
+    }
+
+    // Clears the value at a place, and returns the next one. At the end of a list that is the begin of the next list.
+    fn clear_next(&mut self, latches: &[Latch], cleared: &mut Vec<Cleared>, place: Place) -> Place
+        requires clearing { (raw : Raw) × (given : Witness) × (first : ℕ) × (latches.now ≡ raw.latches)
+            × Clearing raw given self.old.bench.pair self.old.property self.old.start.items first place.list place.position }
+        ensures clearing { (raw : Raw) (given : Witness) (first : ℕ) → latches.now ≡ raw.latches
+            → Clearing raw given self.old.bench.pair self.old.property self.old.start.items first place.list place.position
+            → Clearing raw given self.new.bench.pair self.new.property self.new.start.items first result.list result.position }
+        ensures undoes { (raw : Raw) (given : Witness) (first : ℕ) (was : List (List Tern)) → latches.now ≡ raw.latches
+            → Clearing raw given self.old.bench.pair self.old.property self.old.start.items first place.list place.position
+            → Undoes cleared.old.items (self.old.start.items ∷ self.old.bench.pair.rows) was → Undoes cleared.new.items (self.new.start.items ∷ self.new.bench.pair.rows) was }
+        ensures on { IsUpTo place.list place.position result.list result.position }
+    {
+        if self.has(place) {
+            return self.clear_at(latches, cleared, place);
+        }
+        if place.list >= self.bench.frames() as usize {
+            return place;
+        }
+        Place {
+            list: place.list + 1,
+            position: 0,
         }
     }
 
-    // Tries the inputs of all frames.
-    fn try_inputs(&mut self)
-        requires { (raw : Raw) × (given : Witness)
-            × Reducing raw given self.old.bench.pair self.old.property self.old.start.items 1 0 }
-        ensures { (raw : Raw) (given : Witness) →
-            Reducing raw given self.old.bench.pair self.old.property self.old.start.items 1 0 →
-            Reducing raw given self.new.bench.pair self.new.property self.new.start.items
-            (suc (length self.new.bench.pair.rows)) 0 }
+    // Clears the values from a place on, in so many steps, and returns the place after them.
+    fn clear(
+        &mut self,
+        latches: &[Latch],
+        cleared: &mut Vec<Cleared>,
+        from: Place,
+        size: usize,
+    ) -> Place
+        requires clearing { (raw : Raw) × (given : Witness) × (first : ℕ) × (latches.now ≡ raw.latches)
+            × Clearing raw given self.old.bench.pair self.old.property self.old.start.items first from.list from.position }
+        ensures clearing { (raw : Raw) (given : Witness) (first : ℕ) → latches.now ≡ raw.latches
+            → Clearing raw given self.old.bench.pair self.old.property self.old.start.items first from.list from.position
+            → Clearing raw given self.new.bench.pair self.new.property self.new.start.items first result.list result.position }
+        ensures undoes { (raw : Raw) (given : Witness) (first : ℕ) (was : List (List Tern)) → latches.now ≡ raw.latches
+            → Clearing raw given self.old.bench.pair self.old.property self.old.start.items first from.list from.position
+            → Undoes cleared.old.items (self.old.start.items ∷ self.old.bench.pair.rows) was → Undoes cleared.new.items (self.new.start.items ∷ self.new.bench.pair.rows) was }
+        ensures on { IsUpTo from.list from.position result.list result.position }
     {
-        for frame in 0..self.bench.frames() {
-            self.try_frame(frame);
+        let mut place = from;
+        for step in 0..size {
+            place = self.clear_next(latches, cleared, place);
         }
+        place
+    }
+
+    // Puts back all that was cleared, the last value first.
+    fn take_back(&mut self, latches: &[Latch], cleared: &mut Vec<Cleared>)
+        requires { (raw : Raw) × (was : List (List Tern)) × (latches.now ≡ raw.latches)
+            × Runs raw self.old.bench.pair self.old.start.items × Undoes cleared.old.items (self.old.start.items ∷ self.old.bench.pair.rows) was }
+        ensures property { self.new.property ≡ self.old.property }
+        ensures empty { cleared.new.items ≡ [] }
+        ensures runs { (raw : Raw) (was : List (List Tern)) → latches.now ≡ raw.latches
+            → Runs raw self.old.bench.pair self.old.start.items → Undoes cleared.old.items (self.old.start.items ∷ self.old.bench.pair.rows) was
+            → Runs raw self.new.bench.pair self.new.start.items × ((self.new.start.items ∷ self.new.bench.pair.rows) ≡ was) }
+    {
+        while let Some(last) = cleared.pop() {
+            self.put(latches, last.place, last.value);
+        }
+    }
+
+    // Tries x at the values from a place on, all at once in so many steps, and takes that back where the run is not
+    // confirmed any more. Returns the place up to which values have been tried.
+    fn try_range(
+        &mut self,
+        latches: &[Latch],
+        cleared: &mut Vec<Cleared>,
+        from: Place,
+        size: usize,
+    ) -> Place
+        requires empty { cleared.old.items ≡ [] }
+        requires list { from.list ≤ length self.old.bench.pair.rows }
+        requires reducing { (raw : Raw) × (given : Witness) × (latches.now ≡ raw.latches)
+            × Reducing raw given self.old.bench.pair self.old.property self.old.start.items from.list from.position }
+        ensures empty { cleared.new.items ≡ [] }
+        ensures reducing { (raw : Raw) (given : Witness) → latches.now ≡ raw.latches
+            → Reducing raw given self.old.bench.pair self.old.property self.old.start.items from.list from.position
+            → Reducing raw given self.new.bench.pair self.new.property self.new.start.items result.list result.position }
+        ensures on { IsUpTo from.list from.position result.list result.position }
+    {
+        // It says how many frames there are.
+        self.bench.frames();
+        let behind = self.clear(latches, cleared, from, size);
+        if reaches_from(&self.bench, self.property, frame_of(from)) {
+            cleared.clear();
+            return behind;
+        }
+        self.take_back(latches, cleared);
+        from
+    }
+
+    // Tries fewer and fewer values from a place on, but more than one, until all can go.
+    fn try_ranges(
+        &mut self,
+        latches: &[Latch],
+        cleared: &mut Vec<Cleared>,
+        pace: &mut Pace,
+        from: Place,
+    ) -> Place
+        requires empty { cleared.old.items ≡ [] }
+        requires list { from.list ≤ length self.old.bench.pair.rows }
+        requires reducing { (raw : Raw) × (given : Witness) × (latches.now ≡ raw.latches)
+            × Reducing raw given self.old.bench.pair self.old.property self.old.start.items from.list from.position }
+        ensures empty { cleared.new.items ≡ [] }
+        ensures reducing { (raw : Raw) (given : Witness) → latches.now ≡ raw.latches
+            → Reducing raw given self.old.bench.pair self.old.property self.old.start.items from.list from.position
+            → Reducing raw given self.new.bench.pair self.new.property self.new.start.items result.list result.position }
+        ensures on { IsUpTo from.list from.position result.list result.position }
+    {
+        'sizes: while pace.size > 1 {
+            let place = self.try_range(latches, cleared, from, pace.size);
+            if is_before(from, place) {
+                pace.pass();
+                return place;
+            }
+            pace.fail();
+        }
+        from
+    }
+
+    // Notes in the pace whether x stayed at a place.
+    fn note(&self, pace: &mut Pace, place: Place) {
+        if self.has(place) && is_unknown(self.get(place)) {
+            pace.pass();
+        } else {
+            pace.meet_needed();
+        }
+    }
+
+    // Tries x at one place.
+    fn try_value(&mut self, latches: &[Latch], place: Place)
+        requires place { IsPlace (self.old.start.items ∷ self.old.bench.pair.rows) place.list place.position }
+        requires reducing { (raw : Raw) × (given : Witness) × (latches.now ≡ raw.latches)
+            × Reducing raw given self.old.bench.pair self.old.property self.old.start.items place.list place.position }
+        ensures { (raw : Raw) (given : Witness) → latches.now ≡ raw.latches
+            → Reducing raw given self.old.bench.pair self.old.property self.old.start.items place.list place.position
+            → Reducing raw given self.new.bench.pair self.new.property self.new.start.items place.list (suc place.position) }
+    {
+        if place.list == 0 {
+            self.try_latch(place.position, &latches[place.position]);
+        } else {
+            // Their contracts say that the rows have that width, and how many there are.
+            self.bench.width();
+            self.bench.frames();
+            self.try_input((place.list - 1) as u32, place.position as u32);
+        }
+    }
+
+    // Tries the values from a place on, all at once where they can all go, and else that at the place alone. Returns the
+    // place up to which values have been tried.
+    fn try_place(
+        &mut self,
+        latches: &[Latch],
+        cleared: &mut Vec<Cleared>,
+        pace: &mut Pace,
+        place: Place,
+    ) -> Place
+        requires empty { cleared.old.items ≡ [] }
+        requires place { IsPlace (self.old.start.items ∷ self.old.bench.pair.rows) place.list place.position }
+        requires reducing { (raw : Raw) × (given : Witness) × (latches.now ≡ raw.latches)
+            × Reducing raw given self.old.bench.pair self.old.property self.old.start.items place.list place.position }
+        ensures empty { cleared.new.items ≡ [] }
+        ensures reducing { (raw : Raw) (given : Witness) → latches.now ≡ raw.latches
+            → Reducing raw given self.old.bench.pair self.old.property self.old.start.items place.list place.position
+            → Reducing raw given self.new.bench.pair self.new.property self.new.start.items result.list result.position }
+        ensures on { IsBefore place.list place.position result.list result.position }
+    {
+        let reached = self.try_ranges(latches, cleared, pace, place);
+        if is_before(place, reached) {
+            return reached;
+        }
+        self.try_value(latches, place);
+        self.note(pace, place);
+        Place {
+            list: place.list,
+            position: place.position + 1,
+        }
+    }
+
+    // Tries the values from a place on, or goes on to the next list where there is none.
+    fn step(
+        &mut self,
+        latches: &[Latch],
+        cleared: &mut Vec<Cleared>,
+        pace: &mut Pace,
+        place: Place,
+    ) -> Place
+        requires empty { cleared.old.items ≡ [] }
+        requires list { place.list ≤ length self.old.bench.pair.rows }
+        requires reducing { (raw : Raw) × (given : Witness) × (latches.now ≡ raw.latches)
+            × Reducing raw given self.old.bench.pair self.old.property self.old.start.items place.list place.position }
+        ensures empty { cleared.new.items ≡ [] }
+        ensures reducing { (raw : Raw) (given : Witness) → latches.now ≡ raw.latches
+            → Reducing raw given self.old.bench.pair self.old.property self.old.start.items place.list place.position
+            → Reducing raw given self.new.bench.pair self.new.property self.new.start.items result.list result.position }
+        ensures on { IsBefore place.list place.position result.list result.position }
+    {
+        // It says how many frames there are.
+        self.bench.frames();
+        if !self.has(place) {
+            return Place {
+                list: place.list + 1,
+                position: 0,
+            };
+        }
+        if is_fixed(latches, place) {
+            return Place {
+                list: place.list,
+                position: place.position + 1,
+            };
+        }
+        self.try_place(latches, cleared, pace, place)
     }
 
     /// Tries all starts and then all inputs. The latches are those of the circuit, with their own resets.
-    pub fn try_all(&mut self, latches: &[Latch])
-        requires { (raw : Raw) × (given : Witness) × (latches.now ≡ raw.latches)
+    pub fn try_all(&mut self, latches: &[Latch], cleared: &mut Vec<Cleared>)
+        requires empty { cleared.old.items ≡ [] }
+        requires reducing { (raw : Raw) × (given : Witness) × (latches.now ≡ raw.latches)
             × Reducing raw given self.old.bench.pair self.old.property self.old.start.items 0 0 }
         ensures { (raw : Raw) (given : Witness) → latches.now ≡ raw.latches →
             Reducing raw given self.old.bench.pair self.old.property self.old.start.items 0 0 →
@@ -152,7 +441,14 @@ impl<G: Grid> Reducer<G> {
               rows = self.new.bench.pair.rows;
             }) }
     {
-        self.try_starts(latches);
-        self.try_inputs();
+        let frames = self.bench.frames() as usize;
+        let mut pace = Pace::new();
+        let mut place = Place {
+            list: 0,
+            position: 0,
+        };
+        'places: while place.list <= frames {
+            place = self.step(latches, cleared, &mut pace, place);
+        }
     }
 }

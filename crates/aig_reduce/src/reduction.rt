@@ -1,5 +1,5 @@
 //! Reducing a witness.
-ghost use Rattle.std.specs.Prelude.{◌≡◌, ◌↔◌, length, IfOk, IfErr, IsTrue};
+ghost use Rattle.std.specs.Prelude.{◌≡◌, ◌↔◌, [], length, IfOk, IfErr, IsTrue};
 ghost use Rattle.std.specs.Fmt.{decimal};
 ghost use Rattle.aig_bytes.specs.Bytes.{Writes};
 ghost use Rattle.aig_base.specs.Circuit.{IsCircuit};
@@ -8,6 +8,8 @@ ghost use Rattle.aig_sim.specs.WitnessText.{IsAdmitted, IsDecimal, SpellsWitness
 ghost use Rattle.aig_reduce.specs.Answers.{AnswersReduction, RefusesReduction};
 
 use crate::fault::ReduceFault;
+use crate::pace::ROOM;
+use crate::place::Cleared;
 use crate::reducer::Reducer;
 use crate::starts::start_at;
 use aig_base::{Circuit, Io, Latch, Memory, Write};
@@ -84,6 +86,13 @@ fn copy_latches(alloc: Global, circuit: &Circuit) -> Result<Vec<Latch>, Memory>
     Ok(Vec::from_slice(alloc, circuit.latches())?)
 }
 
+// Room for the values that are tried at once.
+fn make_room(alloc: Global) -> Result<Vec<Cleared>, Memory>
+    ensures { IfOk result (λ cleared. cleared.items ≡ []) }
+{
+    Ok(Vec::with_capacity(alloc, ROOM)?)
+}
+
 impl Given {
     // Reads a witness and checks it.
     fn read(alloc: Global, circuit: &Circuit, text: &[u8]) -> Result<Given, ReduceFault>
@@ -154,11 +163,12 @@ pub fn reduce_witness(
     if !is_confirmed(verdict) {
         return Ok(Reduction::Refused(verdict));
     }
+    let mut cleared = make_room(alloc)?;
     let mut reducer = Reducer {
         bench,
         property,
         start,
     };
-    reducer.try_all(&latches);
+    reducer.try_all(&latches, &mut cleared);
     Ok(Reduction::Reduced(ReducedWitness { reducer }))
 }

@@ -1,12 +1,43 @@
-use Rattle.aig_reduce.proofs.Tries.{reducing_ends}
+use Rattle.std.proofs.Common.{arith}
+use Rattle.aig_reduce.proofs.Tries.{reducing_ends, reducing_frames}
 use Rattle.aig_reduce.proofs.reducer.Reducer.try_all.Goals as goal
 
-pub try_inputs-requires : goal.try_inputs-requires
-try_inputs-requires g c =
-    let (raw, given, e, h) = c.requires in (raw, given, c.try_starts.ensures raw given e h)
+pub places-init : goal.places-init
+places-init g c = record { empty = c.requires.empty; reducing = λ raw given e h. h }
+
+pub step-place-requires-clause-list : goal.step-place-requires-clause-list
+step-place-requires-clause-list g c =
+    let (raw, given, e, h) = c.requires.reducing in
+    let old = c.args.self.now in
+    let now = c.places.self in
+    omega (
+      arith,
+      c.frames-frames.ensures,
+      c.places-test.true,
+      reducing_frames raw given old.bench.pair old.property old.start.items _ _ h,
+      reducing_frames raw given now.bench.pair now.property now.start.items _ _ (c.places.invariant.reducing raw given e h),
+    )
+
+pub step-place-requires-clause-reducing : goal.step-place-requires-clause-reducing
+step-place-requires-clause-reducing g c =
+    let (raw, given, e, h) = c.requires.reducing in (raw, given, e, c.places.invariant.reducing raw given e h)
+
+pub places-preserved : goal.places-preserved
+places-preserved g c = record {
+  empty = c.step-place.ensures.empty;
+  reducing = λ raw given e h. c.step-place.ensures.reducing raw given e (c.places.invariant.reducing raw given e h);
+}
 
 pub returns : goal.returns
 returns g c = λ raw given e h.
-    let new = c.try_inputs.new.self in
-    reducing_ends raw given new.bench.pair new.property new.start.items
-    (c.try_inputs.ensures raw given (c.try_starts.ensures raw given e h))
+    let old = c.args.self.now in
+    let now = c.places.self in
+    let r = c.places.invariant.reducing raw given e h in
+    reducing_ends raw given now.bench.pair now.property now.start.items c.places.place.list c.places.place.position
+    (omega (
+      arith,
+      c.frames-frames.ensures,
+      c.places-test.false,
+      reducing_frames raw given old.bench.pair old.property old.start.items _ _ h,
+      reducing_frames raw given now.bench.pair now.property now.start.items _ _ r,
+    )) r

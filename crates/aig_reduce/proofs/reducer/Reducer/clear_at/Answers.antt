@@ -1,0 +1,33 @@
+use Rattle.std.proofs.Common.{suc, ◌+◌, ◌<◌, List, length, slice_get, refl, sym, ap, ◌∙◌, arith}
+use Rattle.std.proofs.lemmas.Bool.{false≢true}
+use Rattle.aig_parts.specs.declared.latch.Latch.{Latch}
+use Rattle.aig_reduce.proofs.Clearings.{clearing_at, clearing_fixed, clearing_named, clearing_x, item_there, runs_length, start_within}
+use Rattle.aig_reduce.proofs.reducer.Reducer.clear_at.Goals as goal
+
+pub returns-then-is_fixed-clause-clearing : goal.returns-then-is_fixed-clause-clearing
+returns-then-is_fixed-clause-clearing g c = λ raw given first e h.
+    let old = c.args.self.now in
+    let p = c.args.place.position in
+    let (none, fixed) = c.is_fixed.ensures.fixed c.if-is_fixed.true in
+    let lt : p < length old.start.items = start_within old.start.items old.bench.pair.rows c.args.place.list p none c.requires.place in
+    let (x, at) = item_there raw.latches p (omega (arith, lt, runs_length raw old.bench.pair old.start.items h.runs)) in
+    clearing_at raw given old.bench.pair old.property old.start.items first c.args.place.list (p + 1) 0 (suc p) (sym none)
+    (omega arith)
+    (clearing_fixed raw given old.property old.bench.pair old.start.items first p x lt at
+    (fixed x (ap (λ (ls : List Latch). slice_get ls p) e ∙ at))
+    (clearing_at raw given old.bench.pair old.property old.start.items first 0 p c.args.place.list p none refl h))
+
+pub returns-clause-clearing : goal.returns-clause-clearing
+returns-clause-clearing g c = λ raw given first e h.
+    let old = c.args.self.now in
+    let new = c.clear_value.new.self in
+    let t = c.args.place.list in
+    let p = c.args.place.position in
+    clearing_named raw given new.bench.pair new.property old.property new.start.items first t (p + 1)
+    c.clear_value.ensures.property
+    (clearing_at raw given new.bench.pair old.property new.start.items first t (p + 1) t (suc p) refl (omega arith)
+    (clearing_x raw given old.property old.bench.pair old.start.items first t p c.requires.place
+    (λ none.
+    let (x, at, over) = c.is_fixed.ensures.free (λ yes. false≢true (sym c.if-is_fixed.false ∙ yes)) none in
+    (x, ap (λ (ls : List Latch). slice_get ls p) (sym e) ∙ at, over))
+    h new.bench.pair new.start.items (c.clear_value.ensures.puts raw e h.runs)))

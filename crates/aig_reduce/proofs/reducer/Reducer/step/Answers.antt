@@ -1,0 +1,36 @@
+use Rattle.std.proofs.Common.{inl, inr, suc, ◌+◌, ◌<◌, List, ◌∷◌, length, slice_get, refl, sym, ap, ◌∙◌, arith}
+use Rattle.std.proofs.lemmas.Bool.{false≢true}
+use Rattle.aig_parts.specs.declared.latch.Latch.{Latch}
+use Rattle.aig_reduce.proofs.Clearings.{item_there, no_place, reducing_at, start_within}
+use Rattle.aig_reduce.proofs.Tries.{reducing_list, reducing_skips}
+use Rattle.aig_reduce.proofs.reducer.Reducer.step.Goals as goal
+
+pub returns-then-not-has-clause-reducing : goal.returns-then-not-has-clause-reducing
+returns-then-not-has-clause-reducing g c = λ raw given e h.
+    let old = c.args.self.now in
+    let t = c.args.place.list in
+    let p = c.args.place.position in
+    reducing_at raw given old.bench.pair old.property old.start.items (t + 1) 0 (suc t) 0 (omega arith) refl
+    (reducing_list raw given old.bench.pair old.property old.start.items t p
+    (no_place (old.start.items ∷ old.bench.pair.rows) t p (omega (arith, c.requires.list))
+    (λ there. false≢true (sym c.if-not-has.true ∙ c.has.ensures.1 there))) h)
+
+pub returns-then-not-has-clause-on : goal.returns-then-not-has-clause-on
+returns-then-not-has-clause-on g c = inl (omega arith)
+
+pub returns-then-is_fixed-clause-reducing : goal.returns-then-is_fixed-clause-reducing
+returns-then-is_fixed-clause-reducing g c = λ raw given e h.
+    let old = c.args.self.now in
+    let t = c.args.place.list in
+    let p = c.args.place.position in
+    let place = c.has.ensures.0 c.if-not-has.false in
+    let (none, fixed) = c.is_fixed.ensures.fixed c.if-is_fixed.true in
+    let lt : p < length old.start.items = start_within old.start.items old.bench.pair.rows t p none place in
+    let (x, at) = item_there raw.latches p (omega (arith, lt, h.runs.confirmed.latches)) in
+    reducing_at raw given old.bench.pair old.property old.start.items t (p + 1) 0 (suc p) (sym none) (omega arith)
+    (reducing_skips raw given old.bench.pair old.property old.start.items p x lt at
+    (fixed x (ap (λ (ls : List Latch). slice_get ls p) e ∙ at))
+    (reducing_at raw given old.bench.pair old.property old.start.items 0 p t p none refl h))
+
+pub returns-then-is_fixed-clause-on : goal.returns-then-is_fixed-clause-on
+returns-then-is_fixed-clause-on g c = inr (refl, omega arith)
