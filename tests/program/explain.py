@@ -1,6 +1,6 @@
-"""What --explain says of a circuit, a stimulus, a witness, an unrolling, a formula and a bench: a row for each cause, with the
-lines after the first line and the line with the file's name. Files that are broken at random put no control byte on
-standard error."""
+"""What --explain says of a circuit, a stimulus, a witness, a proof, a model, an unrolling, a formula and a bench: a row
+for each cause, with the lines after the first line and the line with the file's name. Files that are broken at random
+put no control byte on standard error."""
 
 import gzip
 import random
@@ -272,6 +272,101 @@ WITNESSES = (
      "a witness has no comments: sed '/^c/d' FILE > NEW"),
 )
 
+# For one frame its formula has variables 1 to 10, the last of which is the bad state. No input of it is bad, and no
+# clause that these proofs add follows by propagation.
+NEVER = "aag 9 2 0 0 7 1\n2\n4\n18\n6 5 3\n8 4 3\n10 5 2\n12 4 2\n14 9 7\n16 13 11\n18 16 14\n"
+NO_STEP = "this is no step of a proof (DRAT) about the formula, or the file is cut off"
+NO_UNIT = ("the clause that this step adds does not follow by unit propagation, nor is it a resolution asymmetric"
+           " tautology")
+TOO_SHORT = "the proof ends before it refutes the formula"
+SAME = "it has to be about the formula of aig cnf for the same K, P and CIRCUIT"
+DRAT = "aig reads DRAT: have the solver write DRAT"
+SOLVED = "a proof is a file of its own, as in: cadical FORMULA PROOF"
+
+# A proof; the fault; the lines that explain it.
+PROOFS = (
+    ("a letter", "2 3 0\nd 2 x 0\n", "text at 10", NO_STEP,
+     "line 2, column 5: found `x`", "step 2, in line 2, deletes the clause `2 x`", SAME),
+    ("a proof that is cut off", "2 3", "text at 3", NO_STEP,
+     "line 1, column 4: the file ends here", "step 1, in line 1, adds the clause `2 3`", SAME),
+    ("a binary proof that is cut off", b"a\x04\x07", "text at 3", NO_STEP,
+     "byte 3: the file ends here", "step 1, at byte 0, adds the clause `2 -3`", SAME),
+    ("a byte that is no kind of step", b"a\x04\x06\x00x", "text at 4", NO_STEP,
+     "byte 4: found `x`", SAME),
+    ("a clause that does not follow", "c one\n2 3 0\nc two\n-10 5 0\n", "step 2", NO_UNIT,
+     "step 2, in line 4, adds the clause `-10 5`", SAME),
+    ("a step over lines", "2 3 0\n\n-10\n5\n0\n", "step 2", NO_UNIT,
+     "step 2, in line 3, adds the clause `-10 5`", SAME),
+    ("a binary clause that does not follow", b"d\x04\x00a\x15\x0a\x00", "step 2", NO_UNIT,
+     "step 2, at byte 3, adds the clause `-10 5`", SAME),
+    ("a long clause", "-10 " + "5 " * 40 + "0\n", "step 1", NO_UNIT,
+     "step 1, in line 1, adds the clause `-10 " + "5 " * 28 + "..`", SAME),
+    ("an end before the refutation", "2 3 0\nd 2 3 0\n", "no refutation", TOO_SHORT, "its number of steps: 2", SAME),
+    ("an empty file", "", "no refutation", TOO_SHORT, "its number of steps: 0", "the file is empty", WRITE_AGAIN),
+    ("gzip", b"\x1f\x8b\x08", "text at 0", NO_STEP, "line 1, column 1: found `\\x1f\\x8b\\x08`",
+     "the file is compressed with gzip",
+     "zcat FILE > NEW, and name the new file"),
+    ("a formula", "c i 2 0 0\np cnf 10 20\n", "text at 10", NO_STEP, "line 2, column 1: found `p`",
+     "the file is a CNF formula",
+     "run a solver on it, and name the file that the solver writes"),
+    ("a model", "s SATISFIABLE\nv 1 0\n", "text at 0", NO_STEP, "line 1, column 1: found `s`",
+     "the file is what a solver prints: its answer, or a model", SOLVED),
+    ("values alone", "v 1 0\n", "text at 0", NO_STEP, "line 1, column 1: found `v`",
+     "the file is what a solver prints: its answer, or a model", SOLVED),
+    ("FRAT", "o 1 2 0\n", "text at 0", NO_STEP, "line 1, column 1: found `o`",
+     "the file is a proof in FRAT",
+     DRAT + " (cadical without --frat)"),
+    ("LRAT", "9 d 1 2 0\n", "text at 2", NO_STEP, "line 1, column 3: found `d`",
+     "step 1, in line 1, adds the clause `9`", "the file is a proof in LRAT: its steps have numbers and hints",
+     "aig reads DRAT, one step on the first line: have the solver write DRAT (cadical without --lrat)"),
+    ("VeriPB", "pseudo-Boolean proof version 2.0\n", "text at 0", NO_STEP, "line 1, column 1: found `pseudo-Boolean`",
+     "the file is a proof of VeriPB", DRAT),
+    ("CR LF", "\r\n2 0\r\n", "text at 0", NO_STEP, "line 1, column 1: found `\\x0d`",
+     CR_LF, "only LF ends a line: tr -d '\\r' < FILE > NEW"),
+)
+
+# Proofs of which other tests say where they are refused; the last lines of the explanation.
+KINDS_OF_PROOFS = (
+    ("a circuit", COUNTER, "the file is a circuit", "the circuit comes first: aig refute --frames K CIRCUIT PROOF"),
+    ("FRAT without original clauses", "a 9 1 2 0\n", "the file is a proof in FRAT", DRAT + " (cadical without --frat)"),
+    ("LRAT with hints", "21 -10 5 0 3 4 0\n", "the file is a proof in LRAT: its steps have numbers and hints",
+     "aig reads DRAT, one step on the first line: have the solver write DRAT (cadical without --lrat)"),
+    ("a variable that the formula does not have", "-10 11 0\n",
+     "the formula has 10 variables, and this step names variable 11", SAME),
+    ("a variable of the binary form that the formula does not have", b"a\x15\x80\x02\x00",
+     "the formula has 10 variables, and this step names variable 128", SAME),
+)
+
+SAME_MODEL = "it has to be of the formula of aig cnf for the same K, P, CIRCUIT and --step"
+
+# A model of the formula of examples/bad_input for one frame; the fault; the lines that explain it.
+MODELS = (
+    ("a letter", "v -1\nv x 0\n", "text at 7", "line 2, column 3: found `x`",
+     "wanted: a literal of the formula, or the 0 that ends the literals", SAME_MODEL),
+    ("a variable that the formula does not have", "-1 -99 0\n", "text at 3", "line 1, column 4: found `-99`",
+     "its variable is not one of the formula, or its negation is named before", SAME_MODEL),
+    ("both values", "s SATISFIABLE\nv -1 1 0\n", "text at 19", "line 2, column 6: found `1`",
+     "its variable is not one of the formula, or its negation is named before", SAME_MODEL),
+    ("no 0", "v -1", "text at 4", "line 1, column 5: the file ends here", "wanted: the 0 that ends the literals",
+     SAME_MODEL),
+    ("a word after the 0", "-1 0 -1\n", "text at 5", "line 1, column 6: found `-1`",
+     "wanted: nothing after the 0 but comments, which are lines that begin with c", SAME_MODEL),
+    ("an empty file", "", "text at 0", "line 1, column 1: the file ends here", "wanted: the 0 that ends the literals",
+     "the file is empty", WRITE_AGAIN),
+    ("a formula", "c one\np cnf 2 3\n", "text at 6", "line 2, column 1: found `p`",
+     "wanted: a literal of the formula, or the 0 that ends the literals", "the file is a CNF formula",
+     "run a solver on it, and name the file that the solver writes"),
+    ("a circuit", COUNTER, "text at 0", "line 1, column 1: found `aag`",
+     "wanted: a literal of the formula, or the 0 that ends the literals", "the file is a circuit",
+     "--model names what the solver printed, and CIRCUIT the circuit"),
+    ("CR LF", "-1\r\n0\r\n", "text at 0", "line 1, column 1: found `-1\\x0d`",
+     "wanted: a literal of the formula, or the 0 that ends the literals", CR_LF,
+     "only LF ends a line: tr -d '\\r' < FILE > NEW"),
+    ("no model", "UNSAT", "unsatisfiable",
+     "the solver says that no run reaches the bad state within K frames; aig refute checks its proof", SAME_MODEL),
+    ("no answer", "s UNKNOWN", "unknown", "the solver gave up before it found an answer", SAME_MODEL),
+)
+
 
 def explain(program, tally, _):
     write_all()
@@ -285,9 +380,38 @@ def explain(program, tally, _):
         rows.row(f"a witness, {name}", ["check", "wraps", write("f", witness)], "witness: text", lines)
     explanations = [tuple(lines) for _, _, *lines in WITNESSES]
     tally.compare("explain: witnesses with one explanation", len(set(explanations)), len(explanations))
+    solvers(rows)
+    variables(rows)
     others(rows)
     unknown(rows)
     hostile(program, tally)
+
+
+def solvers(rows):
+    """Rows of proofs and models."""
+    write("never", NEVER)
+    for name, proof, text, *lines in PROOFS:
+        rows.row(f"a proof, {name}", ["refute", "--frames", "1", "never", write("f", proof)], f"proof: {text}", lines)
+    for name, proof, *lines in KINDS_OF_PROOFS:
+        rows.ends(f"a proof, {name}", ["refute", "--frames", "1", "never", write("f", proof)], lines)
+    for name, model, text, *lines in MODELS:
+        rows.row(f"a model, {name}", ["witness", "--frames", "1", "--model", write("f", model), "bad_input"],
+                 f"model: {text}", lines)
+
+
+def variables(rows):
+    """An explanation says how many variables the formula has that `cnf` writes, also of the induction step."""
+    one = "aag 3 2 1 0 0 1 1\n2\n4\n6 2 6\n6\n4\n"
+    for circuit, proofs in ((NEVER, ("f",)), (one, ("f",)), (NEVER, ("--step", "f", "done"))):
+        write("circuit", circuit)
+        write("done", "2 0\n")
+        step, proof = (["--step"], proofs[:2]) if len(proofs) > 1 else ([], [])
+        text = rows.program.run("cnf", *step, "--frames", "1", "circuit").out.decode()
+        count = int(re.search(r"^p cnf (\d+) ", text, re.MULTILINE)[1])
+        write("f", f"-{count} {count + 1} 0\n")
+        same = SAME.replace("aig cnf", "aig cnf --step") if step else SAME
+        rows.ends(f"{count} variables", ["refute", "--frames", "1", *proof, "circuit", proofs[-1]],
+                  [f"the formula has {count} variables, and this step names variable {count + 1}", same])
 
 
 def others(rows):
@@ -341,19 +465,6 @@ def others(rows):
     rows.row("a run that reaches nothing", ["witness", "wraps", write("f", "1\n0\n1\n")], "witness: no run",
              ["no frame of the stimulus reaches the property, or a constraint was not 1 before",
               "aig sim CIRCUIT STIM prints the run"])
-    for fault, model, why in (("text at 0", "x", "what stands there is no literal of the formula, its negation is named before, or the 0 at the end is missing"),
-                              ("unsatisfiable", "UNSAT", "the solver says that no run reaches the bad state within K frames; aig refute checks its proof"),
-                              ("unknown", "s UNKNOWN", "the solver gave up before it found an answer")):
-        rows.row(f"a model with the fault {fault}", ["witness", "--frames", "1", "--model", write("model", model), "bad_input"],
-                 f"model: {fault}",
-                 [why, "it has to be of the formula of aig cnf for the same K, P, CIRCUIT and --step"])
-    for fault, proof, why in (("step 1", "0\n", "the clause that this step adds does not follow by unit propagation, nor is it a resolution"
-                                                " asymmetric tautology"),
-                              ("no refutation", "", "the proof ends before it refutes the formula"),
-                              ("text at 0", "x\n", "a step is not that of a proof (DRAT) about this formula, or it is cut off")):
-        rows.row(f"a proof with the fault {fault}", ["refute", "--frames", "1", "bad_input", write("proof", proof)],
-                 f"proof: {fault}",
-                 [why, "it has to be about the formula of aig cnf for the same K, P and CIRCUIT"])
     write("wide", "aag 4194303 1 0 0 0 1\n2\n2\n")
     rows.row("cells of a bench for a witness", ["reduce", "wide", write("f", "1\nb0\n\n" + "1\n" * 17 + ".\n")],
              "bench: limit", ["M = 4194303 and 17 rows: (M + 1) * rows = 71303168",
@@ -399,6 +510,13 @@ class Explained:
         self.tally.compare(f"explain: {name}: the lines", said, [f"  {line}" for line in lines] + [""])
 
 
+    def ends(self, name, words, lines):
+        """The run is refused, and the explanation ends with these lines."""
+        run = self.program.run("--explain", *words)
+        said = run.err.decode("ascii").split("\n")[-len(lines) - 1:]
+        self.tally.compare(f"explain: {name}", said, [f"  {line}" for line in lines] + [""])
+
+
 def hostile(program, tally):
     """Files that are broken at random: all that is said is lines of printable bytes, and each refusal is explained."""
     rng = random.Random(40)
@@ -409,7 +527,11 @@ def hostile(program, tally):
         write("f", broken.changed(rng, circuit, broken.circuit(rng)))
         write("g", broken.changed(rng, binary, circuit))
         write("h", broken.changed(rng, rng.choice((broken.stimulus(rng, 2), broken.witness(rng, 1, 2))), circuit))
-        for words in (["info", "f"], ["info", "g"], ["sim", "two_gates", "h"], ["check", "wraps", "h"]):
+        of_solver = [text if isinstance(text, bytes) else text.encode() for _, text, *_ in PROOFS + MODELS]
+        write("p", broken.changed(rng, rng.choice(of_solver), rng.choice(of_solver)))
+        for words in (["info", "f"], ["info", "g"], ["sim", "two_gates", "h"], ["check", "wraps", "h"],
+                      ["refute", "--frames", "1", "never", "p"],
+                      ["witness", "--frames", "1", "--model", "p", "bad_input"]):
             run = program.run("--explain", *words)
             name = f"explain: case {case}, {' '.join(words)}"
             tally.check(f"{name}: printable lines", re.fullmatch(rb"([\x20-\x7e]*\n)*", run.err), run.err)

@@ -2,10 +2,12 @@
 //! shows.
 
 mod failed_run;
+mod known_file;
 mod look;
 mod model_look;
 mod output_look;
 mod proof_look;
+mod proof_walk;
 mod select_look;
 
 pub use failed_run::{explain, is_asked_for};

@@ -24,8 +24,8 @@ struct Unrolled {
 }
 
 impl Unrolled {
-    // The counts of a circuit of these parts in so many frames.
-    fn of(parts: &Parts<'_>, frames: u32) -> Unrolled {
+    // The counts of a circuit of these parts in so many frames, of which so many latches start with any value.
+    fn of(parts: &Parts<'_>, frames: u32, free_latches: u64) -> Unrolled {
         let Header {
             inputs,
             outputs,
@@ -43,7 +43,7 @@ impl Unrolled {
         };
         Unrolled {
             max_var: in_frames(inputs)
-                .saturating_add(parts.count(Sought::Uninitialised))
+                .saturating_add(free_latches)
                 .saturating_add(in_frames(gates))
                 .saturating_add(guards),
             outputs: in_frames(outputs),
@@ -78,12 +78,28 @@ pub(crate) fn push_limit(
     let Some(parts) = Parts::of(circuit) else {
         return Ok(());
     };
-    let unrolled = Unrolled::of(&parts, frames);
+    let unrolled = Unrolled::of(&parts, frames, parts.count(Sought::Uninitialised));
     push_count(lines, "M =", unrolled.max_var)?;
     push_count(lines, "outputs:", unrolled.outputs)?;
     push_count(lines, "bad state properties:", unrolled.bad)?;
     push_count(lines, "constraints:", unrolled.constraints)?;
     lines.add("wanted: M and each count of at most 4,194,303; unroll for fewer frames")
+}
+
+/// How many variables the formula of a bad state within so many frames has.
+pub(crate) fn variables_within(circuit: &[u8], frames: u32) -> Option<u64> {
+    let parts = Parts::of(circuit)?;
+    let free_latches = parts.count(Sought::Uninitialised);
+    let unrolled = Unrolled::of(&parts, frames, free_latches);
+    Some(unrolled.max_var.saturating_add(1))
+}
+
+/// How many variables the formula of the induction step of so many frames has.
+pub(crate) fn variables_of_step(circuit: &[u8], frames: u32) -> Option<u64> {
+    let parts = Parts::of(circuit)?;
+    let free_latches = u64::from(parts.header.latches);
+    let unrolled = Unrolled::of(&parts, frames.saturating_add(1), free_latches);
+    Some(unrolled.max_var.saturating_add(1))
 }
 
 fn push_liveness(lines: &mut Explanation, circuit: &[u8]) -> Result<(), Memory> {

@@ -8,7 +8,7 @@ use aig_bytes::Memory;
 use std::alloc::Global;
 
 /// How many bytes of a name are shown.
-const SHOWN: usize = 60;
+pub const SHOWN: usize = 60;
 
 /// A circuit's file whose tokens are right.
 #[derive(Clone, Copy, Drop)]

@@ -4,10 +4,12 @@ use crate::bench::{explain_bench, explain_reduction};
 use crate::circuit::explain_circuit;
 use crate::cnf::explain_cnf;
 use crate::explanation::Explanation;
-use crate::notes::look::{MORE_MEMORY, Obstacle, explain_reading, note, note_name, read_again};
+use crate::notes::look::{
+    MORE_MEMORY, Obstacle, explain_reading, note, note_lines, note_name, read_again,
+};
 use crate::notes::model_look::explain_model;
 use crate::notes::output_look::{explain_output, explain_standard_output};
-use crate::notes::proof_look::explain_proof;
+use crate::notes::proof_look::{ProofOf, explain_proof};
 use crate::notes::select_look::explain_select;
 use crate::stimulus::explain_stimulus;
 use crate::unrolling::explain_unroll;
@@ -77,8 +79,8 @@ fn explain_fault<R: Files + AllocGlobal + Print + Eprint>(
         RunFault::Cnf(fault) => of_cnf(rt, files, fault),
         RunFault::Select(fault) => explain_select(rt, files.circuit, fault),
         RunFault::Reach(fault) => of_reach(rt, files, fault),
-        RunFault::Proof(fault) => explain_proof(rt, files.run, fault),
-        RunFault::StepProof(fault) => explain_proof(rt, files.step, fault),
+        RunFault::Proof(fault) => explain_proof(rt, files, ProofOf::Runs, fault),
+        RunFault::StepProof(fault) => explain_proof(rt, files, ProofOf::Step, fault),
         RunFault::Model(fault) => explain_model(rt, files.run, fault),
         RunFault::Output => of_output(rt, files),
         RunFault::Memory => note(rt, MORE_MEMORY),
@@ -96,7 +98,7 @@ fn of_circuit<R: Files + AllocGlobal + Eprint>(rt: &R, files: &RunFiles<'_>, fau
 fn of_circuit_text<R: Files + AllocGlobal + Eprint>(rt: &R, name: &str, fault: Fault) {
     note_name(rt, name);
     match read_again(rt, name) {
-        Ok(file) => print(rt, explain_circuit(rt.alloc(), file.as_slice(), fault)),
+        Ok(file) => note_lines(rt, explain_circuit(rt.alloc(), file.as_slice(), fault)),
         Err(obstacle) => obstacle.explain(rt),
     }
 }
@@ -135,7 +137,7 @@ fn of_two_files<R: Files + AllocGlobal + Eprint>(rt: &R, files: &RunFiles<'_>, f
     note_name(rt, name);
     let circuit = read_again(rt, files.circuit);
     match read_again(rt, name) {
-        Ok(file) => print(
+        Ok(file) => note_lines(
             rt,
             explanation_of(
                 rt.alloc(),
@@ -215,7 +217,7 @@ fn of_unroll_text<R: Files + AllocGlobal + Eprint>(
 ) {
     note_name(rt, files.circuit);
     match read_again(rt, files.circuit) {
-        Ok(file) => print(
+        Ok(file) => note_lines(
             rt,
             explain_unroll(rt.alloc(), file.as_slice(), files.frames, fault),
         ),
@@ -233,7 +235,7 @@ fn of_cnf<R: Files + AllocGlobal + Eprint>(rt: &R, files: &RunFiles<'_>, fault: 
 fn of_cnf_text<R: Files + AllocGlobal + Eprint>(rt: &R, files: &RunFiles<'_>, fault: CnfFault) {
     note_name(rt, files.circuit);
     match read_again(rt, files.circuit) {
-        Ok(file) => print(
+        Ok(file) => note_lines(
             rt,
             explain_cnf(
                 rt.alloc(),
@@ -286,15 +288,5 @@ fn of_output<R: Files + AllocGlobal + Print + Eprint>(rt: &R, files: &RunFiles<'
     explain_output(rt, files.map, Some(files.circuit));
     if files.kept.is_empty() {
         explain_standard_output(rt);
-    }
-}
-
-fn print(rt: &impl Eprint, explanation: Result<Explanation, Memory>) {
-    match explanation {
-        Ok(lines) => {
-            // There is no place left to report that standard error fails.
-            let _ = eprint!(rt; "{}", lines.as_str());
-        }
-        Err(Memory) => note(rt, MORE_MEMORY),
     }
 }

@@ -1,6 +1,9 @@
 //! A second look at a file that a run could not read, or rejected.
 
-use crate::explanation::escaped;
+use crate::explanation::{Explanation, escaped};
+use crate::notes::known_file::{KnownFile, known_file};
+use crate::notes::proof_walk::{Goal, Spelling, Walk, spelling_of};
+use aig_bytes::Memory;
 use std::alloc::Global;
 use std::fs::{self, Files, Metadata};
 use std::io::{self, ErrorKind, Read};
@@ -22,11 +25,18 @@ pub enum Obstacle {
     Special,
     /// It has more than `MOST` bytes.
     Large,
+    Memory,
 }
 
 impl From<io::Error> for Obstacle {
     fn from(error: io::Error) -> Obstacle {
         Obstacle::System(error)
+    }
+}
+
+impl From<Memory> for Obstacle {
+    fn from(_memory: Memory) -> Obstacle {
+        Obstacle::Memory
     }
 }
 
@@ -41,6 +51,7 @@ impl Obstacle {
                 "it is a pipe or a device, which aig does not open again: save its bytes in a file to learn more",
             ),
             Obstacle::Large => note(rt, "it has more than 1 GiB, which aig does not read again"),
+            Obstacle::Memory => note(rt, MORE_MEMORY),
         }
     }
 }
@@ -63,6 +74,55 @@ pub fn read_again<R: Files + AllocGlobal>(rt: &R, name: &str) -> Result<Vec<u8>,
     }
     let file = fs::open(rt, name)?;
     read_most(rt.alloc(), file)
+}
+
+/// How many bytes a walk reads at once.
+const BLOCK: usize = 32_768;
+
+/// The most blocks that a walk reads: 1 GiB, where each is full.
+const BLOCKS: u32 = 32_768;
+
+/// What a walk through a file shows.
+#[derive(Drop)]
+pub struct Seen {
+    pub walk: Walk,
+    /// What the file is, if it is of a known other kind.
+    pub known: Option<KnownFile>,
+}
+
+/// Walks through a regular file from its first byte to a goal, by blocks. Without a spelling, its first bytes tell it.
+pub fn walk_again<R: Files + AllocGlobal>(
+    rt: &R,
+    name: &str,
+    goal: Goal,
+    spelling: Option<Spelling>,
+) -> Result<Seen, Obstacle> {
+    let _metadata = regular(rt, name)?;
+    let mut file = fs::open(rt, name)?;
+    let mut block = [0u8; BLOCK];
+    let count = file.read(&mut block)?;
+    let first = block.get(..count).unwrap_or(&[]);
+    let spelling = spelling.unwrap_or(spelling_of(first));
+    let mut walk = Walk::new(rt.alloc(), goal, spelling);
+    walk.pass(first)?;
+    walk_on(&mut file, &mut walk)?;
+    let known = known_file(first, &walk.word);
+    Ok(Seen { walk, known })
+}
+
+fn walk_on<F: Read>(file: &mut F, walk: &mut Walk) -> Result<(), Obstacle> {
+    let mut block = [0u8; BLOCK];
+    for _ in 1..BLOCKS {
+        if walk.is_over {
+            return Ok(());
+        }
+        let count = file.read(&mut block)?;
+        if count == 0 {
+            return Ok(walk.end()?);
+        }
+        walk.pass(block.get(..count).unwrap_or(&[]))?;
+    }
+    Err(Obstacle::Large)
 }
 
 /// Asks for a file without opening it. It has to be a regular one.
@@ -129,6 +189,17 @@ pub fn note_name<R: AllocGlobal + Eprint>(rt: &R, name: &str) {
 /// Prints a line of an explanation.
 pub fn note(rt: &impl Eprint, line: &str) {
     let _ = eprintln!(rt; "  {line}");
+}
+
+/// Prints the lines of an explanation.
+pub fn note_lines(rt: &impl Eprint, explanation: Result<Explanation, Memory>) {
+    match explanation {
+        Ok(lines) => {
+            // There is no place left to report that standard error fails.
+            let _ = eprint!(rt; "{}", lines.as_str());
+        }
+        Err(Memory) => note(rt, MORE_MEMORY),
+    }
 }
 
 fn note_error(rt: &impl Eprint, error: io::Error) {

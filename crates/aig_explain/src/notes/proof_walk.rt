@@ -1,0 +1,288 @@
+//! A walk through the bytes of a proof or a model, up to a step or to a byte. It keeps one step, and the first bytes of
+//! its clause.
+
+use crate::circuit::parts::SHOWN;
+use aig_bytes::Memory;
+use std::alloc::Global;
+
+/// Where a walk ends.
+#[derive(Clone, Copy)]
+pub enum Goal {
+    /// After the step of this number, which counts from 1.
+    Step(u64),
+    /// After the word that this byte is part of; bytes count from 0.
+    Byte(u64),
+    /// At the end of the file.
+    End,
+}
+
+/// How a proof is spelled.
+#[derive(Clone, Copy, PartialEq, Eq)]
+pub enum Spelling {
+    Text,
+    Binary,
+}
+
+/// A place in a file: its byte, counted from 0, and its line and column, both counted from 1.
+#[derive(Clone, Copy)]
+pub struct Spot {
+    pub byte: u64,
+    pub line: u64,
+    pub column: u64,
+}
+
+/// A step of a proof, as far as it was read.
+#[derive(Drop)]
+pub struct Step {
+    /// 0 before the first step.
+    pub number: u64,
+    pub spot: Spot,
+    pub is_deletion: bool,
+    /// The first bytes of its literals as text, one more than a line shows at most.
+    pub clause: Vec<u8>,
+    /// The greatest variable that it names.
+    pub greatest: u64,
+    is_open: bool,
+}
+
+/// A walk through a proof.
+#[derive(Drop)]
+pub struct Walk {
+    alloc: Global,
+    goal: Goal,
+    pub spelling: Spelling,
+    /// The place of the next byte.
+    pub spot: Spot,
+    is_comment: bool,
+    /// The first bytes of the last word, or of the last number of the binary form.
+    pub word: Vec<u8>,
+    pub word_spot: Spot,
+    number: u64,
+    power: u64,
+    pub step: Step,
+    /// Whether the goal is reached.
+    pub is_over: bool,
+}
+
+const FIRST: Spot = Spot {
+    byte: 0,
+    line: 1,
+    column: 1,
+};
+
+/// How the proof that begins with these bytes is spelled, as `aig_sat` tells it.
+pub fn spelling_of(bytes: &[u8]) -> Spelling {
+    match bytes {
+        [b'a', ..] => Spelling::Binary,
+        [b'd', b' ' | b'\t', ..] if !bytes.contains(&0) => Spelling::Text,
+        [b'd', _, ..] => Spelling::Binary,
+        _ => Spelling::Text,
+    }
+}
+
+/// Whether the byte separates words.
+pub fn is_blank(byte: u8) -> bool {
+    matches!(byte, b' ' | b'\t' | b'\n')
+}
+
+/// The number that a word spells after its sign; 0 if it spells none.
+pub fn number_of(word: &[u8]) -> u64 {
+    let digits = word.strip_prefix(b"-").unwrap_or(word);
+    let mut number = 0u64;
+    for byte in digits {
+        if !byte.is_ascii_digit() {
+            return 0;
+        }
+        let digit = u64::from(byte.saturating_sub(b'0'));
+        number = number.saturating_mul(10).saturating_add(digit);
+    }
+    number
+}
+
+// Adds bytes up to one more than a line shows.
+fn push_some(text: &mut Vec<u8>, more: &[u8]) -> Result<(), Memory> {
+    for byte in more {
+        if text.len() <= SHOWN {
+            text.push(*byte)?;
+        }
+    }
+    Ok(())
+}
+
+impl Spot {
+    fn pass(&mut self, byte: u8) {
+        self.byte = self.byte.saturating_add(1);
+        if byte == b'\n' {
+            self.line = self.line.saturating_add(1);
+            self.column = 1;
+        } else {
+            self.column = self.column.saturating_add(1);
+        }
+    }
+}
+
+impl Step {
+    fn none(alloc: Global) -> Step {
+        Step {
+            number: 0,
+            spot: FIRST,
+            is_deletion: false,
+            clause: Vec::new(alloc),
+            greatest: 0,
+            is_open: false,
+        }
+    }
+
+    fn begin(&mut self, spot: Spot, is_deletion: bool) {
+        self.number = self.number.saturating_add(1);
+        self.spot = spot;
+        self.is_deletion = is_deletion;
+        self.clause.clear();
+        self.greatest = 0;
+        self.is_open = true;
+    }
+
+    fn add(&mut self, literal: &[u8], variable: u64) -> Result<(), Memory> {
+        if !self.clause.is_empty() {
+            push_some(&mut self.clause, b" ")?;
+        }
+        self.greatest = self.greatest.max(variable);
+        push_some(&mut self.clause, literal)
+    }
+}
+
+impl Walk {
+    /// From the first byte of a file.
+    pub fn new(alloc: Global, goal: Goal, spelling: Spelling) -> Walk {
+        Walk {
+            alloc,
+            goal,
+            spelling,
+            spot: FIRST,
+            is_comment: false,
+            word: Vec::new(alloc),
+            word_spot: FIRST,
+            number: 0,
+            power: 1,
+            step: Step::none(alloc),
+            is_over: false,
+        }
+    }
+
+    /// Passes these bytes, which come next, unless the goal is reached before them.
+    pub fn pass(&mut self, bytes: &[u8]) -> Result<(), Memory> {
+        for byte in bytes {
+            if self.is_over {
+                break;
+            }
+            match self.spelling {
+                Spelling::Text => self.pass_text(*byte)?,
+                Spelling::Binary => self.pass_binary(*byte)?,
+            }
+            self.spot.pass(*byte);
+        }
+        Ok(())
+    }
+
+    /// The end of the file, which ends a word of a text.
+    pub fn end(&mut self) -> Result<(), Memory> {
+        if self.is_over || self.spelling == Spelling::Binary {
+            return Ok(());
+        }
+        self.end_word()
+    }
+
+    /// Whether the word at the goal is the first one of its step.
+    pub fn is_first_word(&self) -> bool {
+        self.is_over && self.step.spot.byte == self.word_spot.byte
+    }
+
+    fn pass_text(&mut self, byte: u8) -> Result<(), Memory> {
+        if self.is_comment {
+            self.is_comment = byte != b'\n';
+            return Ok(());
+        }
+        if is_blank(byte) {
+            return self.end_word();
+        }
+        if byte == b'c' && self.spot.column == 1 {
+            self.is_comment = true;
+            return Ok(());
+        }
+        self.grow_word(byte)
+    }
+
+    fn grow_word(&mut self, byte: u8) -> Result<(), Memory> {
+        if self.word.is_empty() {
+            self.word_spot = self.spot;
+        }
+        push_some(&mut self.word, &[byte])
+    }
+
+    fn end_word(&mut self) -> Result<(), Memory> {
+        if self.word.is_empty() {
+            return Ok(());
+        }
+        let is_deletion = self.word.as_slice() == b"d".as_slice();
+        if !self.step.is_open {
+            self.step.begin(self.word_spot, is_deletion);
+        }
+        if self.word.as_slice() == b"0".as_slice() {
+            self.end_step();
+        } else if !is_deletion {
+            let variable = number_of(&self.word);
+            self.step.add(&self.word, variable)?;
+        }
+        self.leave_word(self.spot.byte);
+        Ok(())
+    }
+
+    fn pass_binary(&mut self, byte: u8) -> Result<(), Memory> {
+        self.grow_word(byte)?;
+        let next = self.spot.byte.saturating_add(1);
+        if !self.step.is_open {
+            self.step.begin(self.spot, byte == b'd');
+            self.leave_word(next);
+            return Ok(());
+        }
+        let group = u64::from(byte % 128);
+        self.number = self.number.saturating_add(self.power.saturating_mul(group));
+        self.power = self.power.saturating_mul(128);
+        if byte < 128 {
+            self.end_number()?;
+            self.leave_word(next);
+        }
+        Ok(())
+    }
+
+    fn end_number(&mut self) -> Result<(), Memory> {
+        let variable = self.number / 2;
+        let sign = if self.number % 2 == 1 { "-" } else { "" };
+        if self.number == 0 {
+            self.end_step();
+        } else {
+            let literal = format!(in self.alloc; "{sign}{variable}")?;
+            self.step.add(literal.as_bytes(), variable)?;
+        }
+        self.number = 0;
+        self.power = 1;
+        Ok(())
+    }
+
+    fn end_step(&mut self) {
+        self.step.is_open = false;
+        if let Goal::Step(number) = self.goal {
+            self.is_over = self.step.number >= number;
+        }
+    }
+
+    // A word ends before this byte. It is kept if it is the goal.
+    fn leave_word(&mut self, end: u64) {
+        if let Goal::Byte(byte) = self.goal {
+            self.is_over = byte < end;
+        }
+        if !self.is_over {
+            self.word.clear();
+        }
+    }
+}
