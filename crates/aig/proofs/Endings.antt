@@ -1,19 +1,19 @@
 -- How a command's function ends, from how the command does.
-use Rattle.std.proofs.Common.{◌≡◌, ◌⊎◌, inl, inr, ℕ, List, Result, Ok, Err, refl, sym, ◌∙◌, ap, subst}
-use Rattle.std.specs.Prelude.{Bool, true, false, Option, None, Some, IfSome, OnOk}
+use Rattle.std.proofs.Common.{◌≡◌, ◌⊎◌, inl, inr, ℕ, List, [], Result, Ok, Err, refl, sym, ◌∙◌, ap, subst}
+use Rattle.std.specs.Prelude.{Bool, true, false, Option, None, Some, IfErr, IfSome, OnOk}
 use Rattle.std.specs.Result.{IsErrAnd}
 use Rattle.aig_bytes.specs.Flow.{Flow}
 use Rattle.aig_parts.specs.declared.raw.Raw.{Raw}
 use Rattle.aig_sim.specs.declared.witness.verdict.Verdict.{Verdict}
 use Rattle.aig_sim.specs.declared.witness.verdict.Verdict.TheVariants.{Initial, Constraint, NotBad, Confirmed}
-use Rattle.aig_run.specs.Command.{CommandEnds, OfFile}
+use Rattle.aig_run.specs.Command.{CommandEnds, EndsReading, OfCircuit, OfFile, OfReader, Text}
 use Rattle.aig_run.specs.declared.run_fault.RunFault.{RunFault}
 use Rattle.aig_run.specs.declared.run_fault.RunFault.TheVariants as run_faults
 use Rattle.aig_commands.specs.GoesWell.{GoesWell}
 use Rattle.aig_files.specs.declared.exit.Exit.{Exit}
 use Rattle.aig_files.specs.declared.exit.Exit.TheVariants as exits
 use Rattle.aig_files.specs.declared.part.Part.{Part}
-use Rattle.aig.specs.Ends.{Answers, AreConfirmed, ChecksWitness, Ends, end_of, end_of_verdict, unread, writes}
+use Rattle.aig.specs.Ends.{Answers, AreConfirmed, ChecksWitness, Ends, ForSomeText, IsUnwritten, as_meant, end_of, end_of_verdict, unread, writes}
 
 -- what holds of the bytes that were read holds of those that the file had left
 pub of_whole : (left : Option (List ℕ)) (bytes : List ℕ) → IfSome left (λ xs. bytes ≡ xs) → (Q : List ℕ → Type 0) → Q bytes
@@ -40,6 +40,27 @@ ends_unread (Ok done) exit part why is = absurd is
 ends_unread (Err e) exit part (inl why) is = unread e refl (inl (part, is ∙ why))
 ends_unread (Err e) exit part (inr why) is = unread e refl (inr (is ∙ why))
 
+-- positions that are not read are reported so
+pub ends_unselected : {T : Type 0} {end : Result T RunFault → Result (Unit {0}) Exit} {Means : Result T RunFault → List ℕ → Type 0}
+    (r : Result (Unit {0}) Exit) (exit : Exit) → (exit ≡ exits.NoCommand) ⊎ (exit ≡ exits.Run run_faults.Memory)
+    → IsErrAnd r (λ e. e ≡ exit) → (r ≡ Err exits.NoCommand) ⊎ Ends end Means r
+ends_unselected (Ok done) exit why is = absurd is
+ends_unselected (Err e) exit (inl why) is = inl (ap Err (is ∙ why))
+ends_unselected (Err e) exit (inr why) is = inr (unread e refl (inr (is ∙ why)))
+
+-- a file of an option that is not written is reported so, whatever the answer was
+pub ends_unwritten : {T : Type 0} {Means : Result T RunFault → List ℕ → Type 0} (r : Result (Unit {0}) Exit) (exit : Exit)
+    → IsUnwritten exit → IsErrAnd r (λ e. e ≡ exit) → Ends end_of Means r
+ends_unwritten (Ok done) exit why is = absurd is
+ends_unwritten (Err e) exit (inl why) is = as_meant (Err run_faults.Output) Answers.fails (ap Err (is ∙ why))
+ends_unwritten (Err e) exit (inr why) is = unread e refl (inr (is ∙ why))
+
+-- a good answer whose files are written or not
+pub ends_written : {T : Type 0} (Means : Result T RunFault → List ℕ → Type 0) (value : T) (r : Result (Unit {0}) Exit)
+    → Answers Means (Ok value) → IfErr r IsUnwritten → Ends end_of Means r
+ends_written Means value (Ok tt) answered fails = as_meant (Ok value) answered refl
+ends_written Means value (Err e) answered fails = ends_unwritten (Err e) e fails refl
+
 -- then nothing is asked of a good end
 pub no_end : (P : Type 0) (r : Result (Unit {0}) Exit) (exit : Exit) → IsErrAnd r (λ e. e ≡ exit) → OnOk r P
 no_end P (Ok done) exit is = absurd is
@@ -50,6 +71,40 @@ pub answers : {X T : Type 0} (out : Flow X) (Means : Result T RunFault → List 
     → CommandEnds out run_faults.Output Means answer → Answers Means answer
 answers out Means answer (CommandEnds.writes_all bytes means got) = writes bytes means
 answers out Means answer (CommandEnds.breaks_off other bytes means breaks) = Answers.fails
+
+-- and with another meaning
+pub answers_changed : {T : Type 0} (Said Means : Result T RunFault → List ℕ → Type 0)
+    → ((answer : Result T RunFault) (bytes : List ℕ) → Said answer bytes → Means answer bytes) → (answer : Result T RunFault)
+    → Answers Said answer → Answers Means answer
+answers_changed Said Means means answer (writes bytes said) = writes bytes (means answer bytes said)
+answers_changed Said Means means answer Answers.fails = Answers.fails
+
+-- on a circuit that a reader holds it answers what it means for some circuit
+pub circuit_answers : {X Y T : Type 0} (out : Flow X) (circuit : Flow Y) (Means : Raw → Result T RunFault → List ℕ → Type 0)
+    (answer : Result T RunFault) → CommandEnds out run_faults.Output (OfReader circuit Means) answer → Answers (OfCircuit Means) answer
+circuit_answers out circuit Means answer ends =
+    answers_changed (OfReader circuit Means) (OfCircuit Means) (λ answer bytes said. said.of_circuit) answer
+    (answers out (OfReader circuit Means) answer ends)
+
+-- where it reads a text meanwhile, what it means for some text
+pub text_answers : {X Y T : Type 0} (reader : Flow Y) (out : Flow X) (fault : RunFault)
+    (Said Means : Text → Result T RunFault → List ℕ → Type 0)
+    → ((text : Text) (answer : Result T RunFault) (bytes : List ℕ) → Said text answer bytes → Means text answer bytes)
+    → (answer : Result T RunFault) → EndsReading reader out fault Said answer → Answers (ForSomeText fault Means) answer
+text_answers reader out fault Said Means means answer (EndsReading.writes_all other all) =
+    writes all.bytes (inr (all.text, means all.text answer all.bytes all.means))
+text_answers reader out fault Said Means means answer (EndsReading.stops_reading all) =
+    writes all.bytes (inr (all.text, means all.text answer all.bytes all.means))
+text_answers reader out fault Said Means means answer (EndsReading.breaks_off part) = writes [] (inl refl)
+
+-- where it does both, what it means for some text and some circuit
+pub stream_answers : {X Y Z T : Type 0} (circuit : Flow Z) (reader : Flow Y) (out : Flow X) (fault : RunFault)
+    (Means : Text → Raw → Result T RunFault → List ℕ → Type 0) (answer : Result T RunFault)
+    → EndsReading reader out fault (λ text. OfReader circuit (Means text)) answer
+    → Answers (ForSomeText fault (λ text. OfCircuit (Means text))) answer
+stream_answers circuit reader out fault Means answer ends =
+    text_answers reader out fault (λ text. OfReader circuit (Means text)) (λ text. OfCircuit (Means text))
+    (λ text answer bytes said. said.of_circuit) answer ends
 
 -- a good answer is one that it means
 pub goes_well : {T : Type 0} (Means : Result T RunFault → List ℕ → Type 0) (value : T) → Answers Means (Ok value) → GoesWell Means

@@ -1,32 +1,40 @@
 -- How each command of the program ends, where the bytes of its files are known.
-use Rattle.std.specs.Prelude.{ℕ, List, Bool, true, false, Option, Result, IfSome, OnOk, ⊤}
-use Rattle.aig_parts.specs.declared.raw.Raw.{Raw}
-use Rattle.aig_sim.specs.declared.witness.verdict.Verdict.{Verdict}
-use Rattle.aig_run.specs.Command.{OfFile}
-use Rattle.aig_run.specs.declared.run_fault.RunFault.{RunFault}
+use Rattle.std.specs.Prelude.{ℕ, List, Option, Result, IfSome, OnOk}
+use Rattle.aig_sim.specs.declared.stimulus.fault.StimFault.TheVariants as stimuli
+use Rattle.aig_run.specs.Command.{OfCircuit, OfFile}
+use Rattle.aig_run.specs.declared.run_fault.RunFault.TheVariants as run_faults
+use Rattle.aig_run.specs.declared.script_fault.ScriptFault.TheVariants as scripts
+use Rattle.aig_commands.specs.Bench.{LeavesBench}
 use Rattle.aig_commands.specs.GoesWell.{GoesWell}
 use Rattle.aig_commands.specs.Cnf.{WritesFormula}
 use Rattle.aig_commands.specs.Info.{ListsFacts}
 use Rattle.aig_commands.specs.ModelWitness.{WritesModel}
+use Rattle.aig_commands.specs.Names.{ListsNames}
 use Rattle.aig_commands.specs.Reduce.{Reduces}
 use Rattle.aig_commands.specs.Refute.{Refutes, RefutesStep}
+use Rattle.aig_commands.specs.Sim.{WritesSimulation}
+use Rattle.aig_commands.specs.Toaig.{Converts}
 use Rattle.aig_commands.specs.Unroll.{UnrollsKept}
-use Rattle.aig_commands.specs.Wave.{DumpsRun}
+use Rattle.aig_commands.specs.Wave.{DumpsRun, WritesWave}
 use Rattle.aig_commands.specs.Witness.{WritesWitness}
 use Rattle.aig_files.specs.declared.exit.Exit.{Exit}
-use Rattle.aig.specs.Ends.{ChecksWitness, Ends, end_of, end_of_verdict}
+use Rattle.aig.specs.Ends.{ChecksWitness, Ends, EndsSelecting, ForSomeText, end_of, end_of_verdict}
 use Rattle.aig.specs.declared.command.Command.{Command}
 use Rattle.aig.specs.declared.command.Command.TheVariants as commands
 
 -- A command ends as its contract means for the bytes of its files, where the type of an open file says which it has
--- left. Nothing is said where it reads a circuit, a stimulus or a script piece by piece.
+-- left. Where it reads a circuit, a stimulus or a script piece by piece, it ends so for some circuit or some text.
 abbrev pub EndsAsMeant : {F : Type 0} → (F → Option (List ℕ)) → Command F → Result (Unit {0}) Exit → Type 0
-EndsAsMeant left (commands.Toaig to circuit) result = ⊤
-EndsAsMeant left (commands.Sim circuit stimulus) result = ⊤
-EndsAsMeant left (commands.Wave circuit stimulus) result = ⊤
+EndsAsMeant left (commands.Toaig to circuit) result = Ends end_of (OfCircuit (Converts to)) result
+EndsAsMeant left (commands.Sim circuit stimulus) result =
+    Ends end_of (ForSomeText (run_faults.Stimulus stimuli.Io) (λ text. OfCircuit (WritesSimulation text))) result
+EndsAsMeant left (commands.Wave circuit stimulus) result =
+    Ends end_of (ForSomeText (run_faults.Stimulus stimuli.Io) (λ text. OfCircuit (WritesWave text))) result
 EndsAsMeant left (commands.WaveWitness circuit witness) result =
     IfSome (left circuit) (λ file. IfSome (left witness) (λ text. Ends end_of (OfFile file (DumpsRun text)) result))
-EndsAsMeant left (commands.Bench circuit stimulus script kept) result = ⊤
+EndsAsMeant left (commands.Bench circuit stimulus script kept) result =
+    IfSome (left circuit) (λ file. IfSome (left stimulus) (λ rows.
+    Ends end_of (ForSomeText (run_faults.Script scripts.Io) (LeavesBench file rows)) result))
 EndsAsMeant left (commands.Unroll frames to circuit) result =
     IfSome (left circuit) (λ file. Ends end_of (OfFile file (UnrollsKept frames to)) result)
 EndsAsMeant left (commands.UnrollAndMap frames to circuit opened map) result =
@@ -38,8 +46,8 @@ EndsAsMeant left (commands.Cnf query circuit) result =
     IfSome (left circuit) (λ file. Ends end_of (OfFile file (WritesFormula query)) result)
 EndsAsMeant left (commands.Info circuit) result =
     IfSome (left circuit) (λ file. Ends end_of (OfFile file (ListsFacts file)) result)
-EndsAsMeant left (commands.InfoNames circuit) result = ⊤
-EndsAsMeant left (commands.Select selection to circuit) result = ⊤
+EndsAsMeant left (commands.InfoNames circuit) result = Ends end_of (OfCircuit ListsNames) result
+EndsAsMeant left (commands.Select selection to circuit) result = EndsSelecting selection.from selection.into to result
 EndsAsMeant left (commands.Witness property circuit stimulus) result =
     IfSome (left circuit) (λ file. IfSome (left stimulus) (λ text.
     Ends end_of (OfFile file (WritesWitness property text)) result))

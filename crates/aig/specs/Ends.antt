@@ -3,18 +3,27 @@ use Rattle.std.specs.Prelude.{◌≡◌, ◌⊎◌, ℕ, List, Bool, true, false
 use Rattle.aig_parts.specs.declared.raw.Raw.{Raw}
 use Rattle.aig_sim.specs.declared.witness.verdict.Verdict.{Verdict}
 use Rattle.aig_sim.specs.declared.witness.verdict.Verdict.TheVariants.{Initial, Constraint, NotBad, Confirmed}
-use Rattle.aig_run.specs.Command.{IsFileOf}
+use Rattle.aig_base.specs.declared.select.PropertySection.{PropertySection}
+use Rattle.aig_format.specs.declared.reader.header.Format.{Format}
+use Rattle.aig_run.specs.Command.{IsFileOf, OfCircuit, Text}
 use Rattle.aig_run.specs.declared.run_fault.RunFault.{RunFault}
 use Rattle.aig_run.specs.declared.run_fault.RunFault.TheVariants as run_faults
 use Rattle.aig_files.specs.declared.exit.Exit.{Exit}
 use Rattle.aig_files.specs.declared.exit.Exit.TheVariants as exits
 use Rattle.aig_files.specs.declared.part.Part.{Part}
 use Rattle.aig_commands.specs.Check.{Checks, ChecksAndTraces, ShowsVerdict}
+use Rattle.aig_commands.specs.Select.{Selects}
 
 -- A command answers this for what its contract means, with bytes that reach standard output; or a write failed.
 pub data Answers {T : Type 0} (Means : Result T RunFault → List ℕ → Type 0) : Result T RunFault → Type 0 where
   writes : {answer : Result T RunFault} (bytes : List ℕ) → Means answer bytes → Answers Means answer
   fails : Answers Means (Err run_faults.Output)
+
+-- What a command answers that reads a text meanwhile: what it means for some text; or this fault, as a read of the text
+-- or a write failed.
+abbrev pub ForSomeText : {T : Type 0} → RunFault → (Text → Result T RunFault → List ℕ → Type 0) → Result T RunFault → List ℕ
+    → Type 0
+ForSomeText fault Means answer bytes = (answer ≡ Err fault) ⊎ ((text : Text) × Means text answer bytes)
 
 -- how the program ends for an answer
 abbrev pub end_of : {T : Type 0} → Result T RunFault → Result (Unit {0}) Exit
@@ -33,6 +42,10 @@ end_of_verdict (Err fault) = Err (exits.Run fault)
 abbrev pub IsUnread : Exit → Type 0
 IsUnread exit = ((part : Part) × (exit ≡ exits.Unread part)) ⊎ (exit ≡ exits.Run run_faults.Memory)
 
+-- a file that an option names was not written, or memory for it was missing
+abbrev pub IsUnwritten : Exit → Type 0
+IsUnwritten exit = (exit ≡ exits.Run run_faults.Output) ⊎ (exit ≡ exits.Run run_faults.Memory)
+
 -- A command ends as its contract means, or a file was not read.
 pub data Ends {T : Type 0} (end : Result T RunFault → Result (Unit {0}) Exit) (Means : Result T RunFault → List ℕ → Type 0)
     (result : Result (Unit {0}) Exit) : Type 0 where
@@ -42,6 +55,12 @@ pub data Ends {T : Type 0} (end : Result T RunFault → Result (Unit {0}) Exit) 
 -- the files are a circuit and a witness of it whose verdict is `confirmed`
 abbrev pub AreConfirmed : List ℕ → List ℕ → Type 0
 AreConfirmed file text = (raw : Raw) × IsFileOf file raw × ShowsVerdict raw text Confirmed
+
+-- `select` ends as it means for some positions, or one of them is no number
+abbrev pub EndsSelecting : PropertySection → PropertySection → Format → Result (Unit {0}) Exit → Type 0
+EndsSelecting from into to result =
+    (result ≡ Err exits.NoCommand)
+    ⊎ Ends end_of (λ answer bytes. (positions : List ℕ) × OfCircuit (Selects from into positions to) answer bytes) result
 
 -- what `check` means, with `--trace` or without
 abbrev pub ChecksWitness : Bool → List ℕ → Raw → Result Verdict RunFault → List ℕ → Type 0

@@ -1,11 +1,13 @@
 //! The commands on a circuit alone: conversion, unrolling, formulas, and facts about it.
-ghost use Rattle.std.specs.Prelude.{IfSome, OnOk};
-ghost use Rattle.aig_run.specs.Command.{OfFile};
+ghost use Rattle.std.specs.Prelude.{◌≡◌, ◌⊎◌, IfErr, IfSome, OnOk};
+ghost use Rattle.aig_run.specs.Command.{OfCircuit, OfFile};
 ghost use Rattle.aig_commands.specs.Cnf.{WritesFormula};
 ghost use Rattle.aig_commands.specs.GoesWell.{GoesWell};
 ghost use Rattle.aig_commands.specs.Info.{ListsFacts};
+ghost use Rattle.aig_commands.specs.Names.{ListsNames};
+ghost use Rattle.aig_commands.specs.Toaig.{Converts};
 ghost use Rattle.aig_commands.specs.Unroll.{UnrollsKept};
-ghost use Rattle.aig.specs.Ends.{Answers, Ends, end_of};
+ghost use Rattle.aig.specs.Ends.{Answers, Ends, EndsSelecting, end_of};
 
 use crate::command::Selection;
 use crate::ended::ended;
@@ -26,7 +28,9 @@ pub fn toaig<R: AllocGlobal + Print, F: Read + Drop>(
     rt: &R,
     to: Format,
     circuit: F,
-) -> Result<(), Exit> {
+) -> Result<(), Exit>
+    ensures ends { Ends end_of (OfCircuit (Converts to)) result }
+{
     let mut circuit = Std::new(circuit);
     let mut out = output(rt);
     ended(toaig::toaig(rt.alloc(), &mut circuit, to, &mut out))
@@ -122,7 +126,9 @@ pub fn info<R: AllocGlobal + Print, F: Read + Drop>(rt: &R, circuit: F) -> Resul
 }
 
 /// Writes the entries of a circuit with their names.
-pub fn info_names<R: AllocGlobal + Print, F: Read + Drop>(rt: &R, circuit: F) -> Result<(), Exit> {
+pub fn info_names<R: AllocGlobal + Print, F: Read + Drop>(rt: &R, circuit: F) -> Result<(), Exit>
+    ensures ends { Ends end_of (OfCircuit ListsNames) result }
+{
     let mut circuit = Std::new(circuit);
     let mut out = output(rt);
     ended(info::info_names(rt.alloc(), &mut circuit, &mut out))
@@ -134,7 +140,9 @@ pub fn select<R: AllocGlobal + Print, F: Read + Drop>(
     selection: Selection<'_>,
     to: Format,
     circuit: F,
-) -> Result<(), Exit> {
+) -> Result<(), Exit>
+    ensures ends { EndsSelecting selection.entry.from selection.entry.into to result }
+{
     let mut circuit = Std::new(circuit);
     let positions = positions_of(rt.alloc(), selection.properties)?;
     let mut out = output(rt);
@@ -150,7 +158,9 @@ pub fn select<R: AllocGlobal + Print, F: Read + Drop>(
 }
 
 /// Returns the numbers of texts. The parser has accepted each of them as a number.
-fn positions_of(alloc: Global, texts: &[&str]) -> Result<Vec<u32>, Exit> {
+fn positions_of(alloc: Global, texts: &[&str]) -> Result<Vec<u32>, Exit>
+    ensures fails { IfErr result (λ exit. (exit ≡ Exit.NoCommand) ⊎ (exit ≡ Exit.Run RunFault.Memory)) }
+{
     let mut positions = Vec::new(alloc);
     for text in texts {
         let Ok(position) = text.parse::<u32>() else {

@@ -1,8 +1,8 @@
 //! How the program ends for a command's answer.
-ghost use Rattle.std.specs.Prelude.{◌≡◌};
-ghost use Rattle.aig.specs.Ends.{end_of, end_of_verdict};
+ghost use Rattle.std.specs.Prelude.{◌≡◌, IfErr};
+ghost use Rattle.aig.specs.Ends.{IsUnwritten, end_of, end_of_verdict};
 
-use aig_files::Exit;
+use aig_files::{Exit, OUTPUT};
 use aig_run::RunFault;
 use aig_sim::Verdict;
 
@@ -26,5 +26,16 @@ pub fn confirmed(answer: Result<Verdict, RunFault>) -> Result<(), Exit>
             Err(Exit::NotConfirmed)
         }
         Err(fault) => Err(Exit::Run(fault)),
+    }
+}
+
+/// For a file of an option that was not written it ends as for a failed write, or for missing memory.
+pub fn written<T: Drop>(done: Result<T, Exit>) -> Result<T, Exit>
+    ensures fails { IfErr result IsUnwritten }
+{
+    match done {
+        Ok(value) => Ok(value),
+        Err(Exit::Run(RunFault::Memory)) => Err(Exit::Run(RunFault::Memory)),
+        Err(_) => Err(OUTPUT),
     }
 }

@@ -1,10 +1,19 @@
 //! The commands on a circuit and a stimulus: traces, dumps and scripts.
 
-use crate::ended::ended;
+ghost use Rattle.std.specs.Prelude.{IfSome};
+ghost use Rattle.aig_run.specs.Command.{OfCircuit};
+ghost use Rattle.aig_commands.specs.Bench.{LeavesBench};
+ghost use Rattle.aig_commands.specs.Sim.{WritesSimulation};
+ghost use Rattle.aig_commands.specs.Wave.{WritesWave};
+ghost use Rattle.aig.specs.Ends.{Ends, ForSomeText, end_of};
+
+use crate::ended::{ended, written};
 use crate::kept::BenchFiles;
 use aig_base::Std;
 use aig_commands::{bench, sim, wave};
 use aig_files::{Exit, Kept, Part, output, read_whole};
+use aig_run::{RunFault, ScriptFault};
+use aig_sim::StimFault;
 use std::fs::Files;
 use std::io::Read;
 use std::os::fd::AsFd;
@@ -14,7 +23,10 @@ pub fn sim<R: AllocGlobal + Print, F: Read + Drop>(
     rt: &R,
     circuit: F,
     stimulus: F,
-) -> Result<(), Exit> {
+) -> Result<(), Exit>
+    ensures ends { Ends end_of
+        (ForSomeText (RunFault.Stimulus StimFault.Io) (λ text. OfCircuit (WritesSimulation text))) result }
+{
     let mut circuit = Std::new(circuit);
     let mut stimulus = Std::new(stimulus);
     let mut out = output(rt);
@@ -26,7 +38,10 @@ pub fn wave<R: AllocGlobal + Print, F: Read + Drop>(
     rt: &R,
     circuit: F,
     stimulus: F,
-) -> Result<(), Exit> {
+) -> Result<(), Exit>
+    ensures ends { Ends end_of
+        (ForSomeText (RunFault.Stimulus StimFault.Io) (λ text. OfCircuit (WritesWave text))) result }
+{
     let mut circuit = Std::new(circuit);
     let mut stimulus = Std::new(stimulus);
     let mut out = output(rt);
@@ -43,17 +58,15 @@ pub fn bench<R: Files + AllocGlobal + Print, F: Read + Drop>(
 ) -> Result<(), Exit>
 where
     R::File: AsFd,
+    ensures ends { IfSome (F.remaining circuit) (λ file. IfSome (F.remaining stimulus) (λ rows.
+        Ends end_of (ForSomeText (RunFault.Script ScriptFault.Io) (LeavesBench file rows)) result)) }
 {
     let circuit = read_whole(rt.alloc(), circuit, Part::Circuit)?;
     let stimulus = read_whole(rt.alloc(), stimulus, Part::Stimulus)?;
-    let mut files = BenchFiles::begin(rt, kept)?;
-    write_replies(
-        rt,
-        circuit.as_slice(),
-        stimulus.as_slice(),
-        script,
-        &mut files,
-    )
+    let file = circuit.as_slice();
+    let rows = stimulus.as_slice();
+    let mut files = written(BenchFiles::begin(rt, kept))?;
+    write_replies(rt, file, rows, script, &mut files)
 }
 
 fn write_replies<R: Files + AllocGlobal + Print, F: Read + Drop>(
@@ -65,9 +78,12 @@ fn write_replies<R: Files + AllocGlobal + Print, F: Read + Drop>(
 ) -> Result<(), Exit>
 where
     R::File: AsFd,
+    ensures { Ends end_of (ForSomeText (RunFault.Script ScriptFault.Io) (LeavesBench circuit.now stimulus.now)) result }
 {
     let mut script = Std::new(script);
     let mut out = output(rt);
-    let bench = bench::bench(rt.alloc(), circuit, stimulus, &mut script, &mut out)?;
-    files.write(rt, &bench)
+    match bench::bench(rt.alloc(), circuit, stimulus, &mut script, &mut out) {
+        Ok(bench) => written(files.write(rt, &bench)),
+        Err(fault) => Err(Exit::Run(fault)),
+    }
 }

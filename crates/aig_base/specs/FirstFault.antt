@@ -31,21 +31,21 @@ FaultApplies raw (fault.Reset v) = IsLeast (HasBadReset raw) v
 FaultApplies raw (fault.Cycle v) = IsLeast (IsUngrounded raw) v
 FaultApplies raw other = ⊥
 
--- the numbers of the faults, in the order in which they are tried
-abbrev pub number_of : Fault → ℕ
-number_of (fault.Text at) = 1
-number_of fault.Limit = 2
-number_of fault.Counts = 3
-number_of fault.Range = 4
-number_of fault.Definition = 5
-number_of (fault.Redefined v) = 6
-number_of (fault.Undefined v) = 7
-number_of (fault.Reset v) = 8
-number_of (fault.Cycle v) = 9
-number_of fault.Memory = 10
-number_of fault.Io = 11
+-- the order in which the faults are tried
+abbrev pub fault_order : Fault → ℕ
+fault_order (fault.Text at) = 1
+fault_order fault.Limit = 2
+fault_order fault.Counts = 3
+fault_order fault.Range = 4
+fault_order fault.Definition = 5
+fault_order (fault.Redefined v) = 6
+fault_order (fault.Undefined v) = 7
+fault_order (fault.Reset v) = 8
+fault_order (fault.Cycle v) = 9
+fault_order fault.Memory = 10
+fault_order fault.Io = 11
 
 -- the fault is the first that applies
 pub record IsFirstFault (raw : Raw) (f : Fault) : Type 0 where
   pub applies : FaultApplies raw f
-  pub first : (g : Fault) → number_of g < number_of f → FaultApplies raw g → ⊥
+  pub first : (g : Fault) → fault_order g < fault_order f → FaultApplies raw g → ⊥

@@ -15,20 +15,14 @@ pub data Role : Type 0 where
   latch : (p : ℕ) → Role
   gate : (q : ℕ) → Role
 
-abbrev pub latch_role : Option ℕ → Role
-latch_role None = constant
-latch_role (Some p) = latch p
-
-abbrev pub gate_role : Option ℕ → Role → Role
-gate_role (Some q) other = gate q
-gate_role None other = other
-
-abbrev pub input_role : Option ℕ → Role → Role
-input_role (Some p) other = input p
-input_role None other = other
+-- by the places among the inputs, in the order and among the latches: the first of them that there is
+abbrev pub first_role : Option ℕ → Option ℕ → Option ℕ → Role
+first_role (Some p) gate_place latch_place = input p
+first_role None (Some q) latch_place = gate q
+first_role None None (Some p) = latch p
+first_role None None None = constant
 
 abbrev pub role : Raw → List ℕ → ℕ → Role
 role raw order v =
-    input_role (place_of (λ u. u == v) (map variable raw.inputs))
-    (gate_role (place_of (λ u. u == v) order)
-    (latch_role (place_of (λ u. u == v) (map (λ x. variable x.lit) raw.latches))))
+    first_role (place_of (λ u. u == v) (map variable raw.inputs)) (place_of (λ u. u == v) order)
+    (place_of (λ u. u == v) (map (λ x. variable x.lit) raw.latches))

@@ -54,19 +54,20 @@ Forbids p (set_output i l) fault.Undefined = IsDefined p.circuit (variable l) �
 Forbids p (set_output i l) fault.NoOutput = length p.circuit.outputs ≤ i
 Forbids p _ _ = ⊥
 
-abbrev pub number_of : EditFault → ℕ
-number_of fault.NotAGate = 1
-number_of fault.NotALatch = 2
-number_of fault.Range = 3
-number_of fault.Undefined = 4
-number_of fault.Cycle = 5
-number_of fault.NoFrame = 6
-number_of fault.NoInput = 7
-number_of fault.Length = 8
-number_of fault.Empty = 9
-number_of fault.Limit = 10
-number_of fault.Memory = 11
-number_of fault.NoOutput = 13
+-- the number of the fault in a script; the least of those that apply is reported
+abbrev pub edit_fault_number : EditFault → ℕ
+edit_fault_number fault.NotAGate = 1
+edit_fault_number fault.NotALatch = 2
+edit_fault_number fault.Range = 3
+edit_fault_number fault.Undefined = 4
+edit_fault_number fault.Cycle = 5
+edit_fault_number fault.NoFrame = 6
+edit_fault_number fault.NoInput = 7
+edit_fault_number fault.Length = 8
+edit_fault_number fault.Empty = 9
+edit_fault_number fault.Limit = 10
+edit_fault_number fault.Memory = 11
+edit_fault_number fault.NoOutput = 13
 
 -- no fault applies
 abbrev pub NoneApplies : (EditFault → Type 0) → Type 0
@@ -74,7 +75,7 @@ NoneApplies P = (f : EditFault) → P f → ⊥
 
 -- the fault is the one of least number that applies
 abbrev pub IsLeastFault : (EditFault → Type 0) → EditFault → Type 0
-IsLeastFault P f = P f × ((g : EditFault) → number_of g < number_of f → P g → ⊥)
+IsLeastFault P f = P f × ((g : EditFault) → edit_fault_number g < edit_fault_number f → P g → ⊥)
 
 -- the edits that may take memory
 abbrev pub TakesMemory : Edit → Type 0
@@ -86,10 +87,9 @@ TakesMemory drop_frame = ⊥
 TakesMemory (append_gate r0 r1) = Unit {0}
 TakesMemory (set_output i l) = ⊥
 
--- such an edit found no memory; whether gates would close a cycle is looked for after that, and no other fault applies
+-- such an edit found no memory; nothing else forbids it but a cycle perhaps, which is looked for after that
 abbrev pub LacksMemory : CircuitAndRows → Edit → EditFault → Type 0
-LacksMemory p e f =
-    (f ≡ fault.Memory) × TakesMemory e × ((g : EditFault) → g ≢ fault.Cycle → Forbids p e g → ⊥)
+LacksMemory p e f = (f ≡ fault.Memory) × TakesMemory e × ((g : EditFault) → Forbids p e g → g ≡ fault.Cycle)
 
 -- the edit takes the pair to the other with this answer; a refused one leaves it
 abbrev pub Edits : {A : Type 0} → CircuitAndRows → Edit → Result A EditFault → CircuitAndRows → Type 0

@@ -5,7 +5,7 @@ use Rattle.aig_parts.specs.declared.raw.Raw.{Raw}
 use Rattle.aig_parts.specs.declared.fault.Fault.{Fault}
 use Rattle.aig_parts.specs.declared.fault.Fault.TheVariants as faults
 use Rattle.aig_parts.specs.Formed.{IsFormed}
-use Rattle.aig_base.specs.FirstFault.{number_of, IsFirstFault}
+use Rattle.aig_base.specs.FirstFault.{fault_order, IsFirstFault}
 use Rattle.aig_format.specs.Spells.{Spells, HasWrongCounts}
 use Rattle.aig_format.specs.state.Reading.{text, limit}
 use Rattle.aig_format.specs.state.ReadingFile.{FileRefusal, token, counts, file_at}
@@ -103,7 +103,7 @@ ok_of_parts bytes raw (Ok circuit) h first = tt
 ok_of_parts bytes raw (Err e) h first = λ of_parts. (
   raw,
   file_takes bytes raw h,
-  first (λ memory. (let n = ap number_of memory in absurd (omega (arith, n, of_parts.1)))),
+  first (λ memory. (let n = ap fault_order memory in absurd (omega (arith, n, of_parts.1)))),
 )
 
 pub ok_wrong : (bytes : List ℕ) (raw : Raw) (r : Result Raw Fault) → file_at bytes ≡ Ok raw → HasWrongCounts bytes
@@ -116,7 +116,7 @@ no_counts : (raw : Raw) (r : Result Raw Fault) → IfErr r (λ fault. fault ≢ 
 no_counts raw (Ok circuit) first is = cc
 no_counts raw (Err e) first is =
     let e_is : e ≡ faults.Counts = cc in
-    let other : faults.Counts ≢ faults.Memory = λ same. omega (arith, ap number_of same) in
+    let other : faults.Counts ≢ faults.Memory = λ same. omega (arith, ap fault_order same) in
     let fault = subst (λ (f : Fault). f ≢ faults.Memory → IsFirstFault raw f) e_is first in (fault other).applies
 
 pub ok_reading : (bytes : List ℕ) (raw : Raw) (r : Result Raw Fault) → file_at bytes ≡ Ok raw

@@ -3,12 +3,12 @@ use Rattle.std.specs.Prelude.{◌≡◌, ◌≢◌, ℕ, ◌+◌, ◌<◌, List,
 use Rattle.aig_parts.specs.declared.fault.Fault.{Fault}
 use Rattle.aig_parts.specs.declared.fault.Fault.TheVariants as faults
 use Rattle.aig_parts.specs.declared.raw.Raw.{Raw}
-use Rattle.aig_base.specs.FirstFault.{number_of, IsFirstFault}
+use Rattle.aig_base.specs.FirstFault.{fault_order, IsFirstFault}
 use Rattle.aig_format.specs.Spells.{Spells, HasWrongCounts}
 
 -- the fault is one that the parts have
 abbrev pub IsOfParts : Fault → Type 0
-IsOfParts fault = (3 < number_of fault) × (number_of fault < 10)
+IsOfParts fault = (3 < fault_order fault) × (fault_order fault < 10)
 
 -- the parts themselves or their first fault, or memory ran out
 abbrev pub AnswersParts : Result Raw Fault → Raw → Type 0

@@ -9,7 +9,7 @@ use Rattle.aig_base.specs.Runs.{ReachesBad}
 use Rattle.aig_base.specs.Value as value
 use Rattle.aig_base.specs.Value.{Fits}
 use Rattle.aig_base.proofs.lists.Positions.{position_of}
-use Rattle.aig_unroll.specs.FrameLiteral.{frame_literal}
+use Rattle.aig_unroll.specs.FrameLiteral.{frame_literal, latch_literal}
 use Rattle.aig_laws.specs.Models.{AreKnown}
 use Rattle.aig_laws.specs.Satisfiable.{BreaksStep}
 use Rattle.aig_laws.specs.UnrolledWitness.{cut, filled, rows_in, start_in, witness_in, MakesBad}
@@ -40,7 +40,7 @@ start_of_10x = refl
 
 -- the row `101` makes the bad literal of frame 0 1, and that is a witness of one frame
 bad_of_101 : MakesBad example (3 ∷ []) 2 (One ∷ Zero ∷ One ∷ []) 0 0
-unfolding frame_literal
+unfolding frame_literal latch_literal
 bad_of_101 = (6, refl, value.Value.input 0 2 6 One (One ∷ Zero ∷ One ∷ []) refl refl refl)
 
 witness_of_101 : witness_in example 2 0 0 (One ∷ Zero ∷ One ∷ [])

@@ -19,7 +19,7 @@ use Rattle.aig_unroll.specs.Unrolled.{unrolled}
 use Rattle.aig_bench.specs.declared.edit.EditFault.{EditFault}
 use Rattle.aig_bench.specs.declared.edit.EditFault.TheVariants as faults
 use Rattle.aig_bench.specs.BenchState.{CircuitAndRows, HasTrace}
-use Rattle.aig_bench.specs.Edit.{Edit, Edits, Forbids, IsLeastFault, number_of, edited}
+use Rattle.aig_bench.specs.Edit.{Edit, Edits, Forbids, IsLeastFault, edit_fault_number, edited}
 use Rattle.aig_bench.specs.Question.{ForbidsValue, AnswersValue}
 use Rattle.aig_script.specs.Command.{Command, edit, value, trace, unroll, command_text, IsCommand}
 use Rattle.aig_script.specs.Lines.{Line, whole, unfinished}
@@ -36,7 +36,7 @@ fault_of n =
     ∷ faults.NoFrame ∷ faults.NoInput ∷ faults.Length ∷ faults.Empty ∷ faults.Limit ∷ faults.Memory ∷ faults.Memory
     ∷ faults.NoOutput ∷ []) n faults.Memory
 
-fault_back : (f : EditFault) → fault_of (number_of f) ≡ f
+fault_back : (f : EditFault) → fault_of (edit_fault_number f) ≡ f
 fault_back faults.NotAGate = refl
 fault_back faults.NotALatch = refl
 fault_back faults.Range = refl
@@ -50,14 +50,14 @@ fault_back faults.Limit = refl
 fault_back faults.Memory = refl
 fault_back faults.NoOutput = refl
 
-same_fault : (f g : EditFault) → number_of f ≡ number_of g → f ≡ g
+same_fault : (f g : EditFault) → edit_fault_number f ≡ edit_fault_number g → f ≡ g
 same_fault f g e = sym (fault_back f) ∙ ap fault_of e ∙ fault_back g
 
 one_least : (P : EditFault → Type 0) (f g : EditFault) → IsLeastFault P f → IsLeastFault P g → f ≡ g
 one_least P f g h k =
-    elim (cases_lt (number_of f) (number_of g)) [
+    elim (cases_lt (edit_fault_number f) (edit_fault_number g)) [
       | inl lt ↦ absurd (k.1 f lt h.0)
-      | inr le ↦ elim (cases_lt (number_of g) (number_of f)) [
+      | inr le ↦ elim (cases_lt (edit_fault_number g) (edit_fault_number f)) [
         | inl lt ↦ absurd (h.1 g lt k.0)
         | inr ge ↦ same_fault f g (omega arith)
       ]

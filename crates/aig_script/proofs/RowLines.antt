@@ -68,7 +68,7 @@ wrong_length : (p : CircuitAndRows) (row : List Tern) → length row ≢ length 
     → edits.IsLeastFault (edits.Forbids p (edits.add_frame row)) faults.Length
 wrong_length p row ne = (ne, least)
   where
-    least : (g : EditFault) → edits.number_of g < 8 → edits.Forbids p (edits.add_frame row) g → ⊥
+    least : (g : EditFault) → edits.edit_fault_number g < 8 → edits.Forbids p (edits.add_frame row) g → ⊥
     least faults.NotAGate lt h = h
     least faults.NotALatch lt h = h
     least faults.Range lt h = h

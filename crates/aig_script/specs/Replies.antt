@@ -12,7 +12,7 @@ use Rattle.aig_unroll.specs.Answers.{AnswersUnrolling}
 use Rattle.aig_bench.specs.declared.edit.EditFault.{EditFault}
 use Rattle.aig_bench.specs.declared.edit.EditFault.TheVariants as faults
 use Rattle.aig_bench.specs.BenchState.{CircuitAndRows, HasTrace}
-use Rattle.aig_bench.specs.Edit.{Edit, rewire, Edits, number_of}
+use Rattle.aig_bench.specs.Edit.{Edit, rewire, Edits, edit_fault_number}
 use Rattle.aig_bench.specs.Fanout.{HasFourReaders}
 use Rattle.aig_bench.specs.Question.{AnswersValue}
 use Rattle.aig_script.specs.Command.{Command, edit, value, trace, unroll, command_text, IsCommand, IsNoCommand}
@@ -23,7 +23,7 @@ abbrev pub numbered_refusal : ℕ → List ℕ
 numbered_refusal n = codes "no " ++ (decimal n ++ codes "\n")
 
 abbrev pub refusal : EditFault → List ℕ
-refusal f = numbered_refusal (number_of f)
+refusal f = numbered_refusal (edit_fault_number f)
 
 abbrev pub edit_reply : {A : Type 0} → Result A EditFault → List ℕ
 edit_reply (Ok _) = codes "ok\n"
@@ -36,7 +36,7 @@ value_reply (Err f) = refusal f
 -- the unrolled circuit as a text file, and a line `.`
 abbrev pub unroll_reply : Result Raw UnrollFault → List ℕ
 unroll_reply (Ok circuit) = short_ascii circuit ++ codes ".\n"
-unroll_reply (Err f) = numbered_refusal (unrolling.number_of f)
+unroll_reply (Err f) = numbered_refusal (unrolling.unroll_fault_number f)
 
 -- The pairs for which an edit may find no memory. For a rewire, four gates or more already read the variable of a new
 -- right side.

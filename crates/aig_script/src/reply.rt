@@ -2,7 +2,7 @@
 ghost use Rattle.std.specs.Prelude.{◌≡◌, ℕ, List, ◌∷◌, length, Result, Ok};
 ghost use Rattle.aig_parts.specs.declared.raw.Raw.{Raw};
 ghost use Rattle.aig_bytes.specs.Bytes.{Writes};
-ghost use Rattle.aig_bench.specs.Edit.{number_of};
+ghost use Rattle.aig_bench.specs.Edit.{edit_fault_number};
 ghost use Rattle.aig_sim.specs.RowParser.{KeepsLine};
 ghost use Rattle.aig_unroll.specs.declared.fault.UnrollFault.{UnrollFault};
 ghost use Rattle.aig_unroll.specs.Answers as unrolling;
@@ -25,7 +25,7 @@ use std::alloc::Global;
 
 /// The number of a fault, as `no N` names it.
 fn number_of_fault(fault: EditFault) -> u32
-    ensures { result ≡ number_of fault }
+    ensures { result ≡ edit_fault_number fault }
 {
     match fault {
         EditFault::NotAGate => 1,
@@ -45,7 +45,7 @@ fn number_of_fault(fault: EditFault) -> u32
 
 /// The number of a fault of the unroller, as `no N` names it.
 fn number_of_unroll_fault(fault: UnrollFault) -> u32
-    ensures { result ≡ unrolling.number_of fault }
+    ensures { result ≡ unrolling.unroll_fault_number fault }
 {
     match fault {
         UnrollFault::NoFrames => 9,

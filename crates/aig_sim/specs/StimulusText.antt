@@ -27,9 +27,9 @@ line_number before = min (before + 1) (2 ^ 64 - 1)
 abbrev pub EndsLine : List ℕ → Type 0
 EndsLine rest = (more : List ℕ) × (rest ≡ 10 ∷ more)
 
--- a line with this fault, after so many good ones: no LF ends it; else a byte other than `0 1 x`; else a wrong length;
--- else it is the 65,537th
-abbrev pub HasFault : ℕ → ℕ → List ℕ → List ℕ → StimFault → Type 0
+-- the line has this fault, with `before` good ones before it and the bytes `rest` after it: no LF ends it; else a byte
+-- other than `0 1 x`; else a wrong length; else it is the 65,537th
+abbrev pub HasFault : (width before : ℕ) (line rest : List ℕ) → StimFault → Type 0
 HasFault width before line rest fault.Unfinished = (rest ≡ []) × (line ≢ [])
 HasFault width before line rest (fault.Char n) = (n ≡ line_number before) × EndsLine rest × (All IsCharacter line → ⊥)
 HasFault width before line rest (fault.Length n) =

@@ -35,18 +35,18 @@ VerdictApplies raw w (verdict.Constraint t p) = (t < length w.rows) × IsNotOne 
 VerdictApplies raw w verdict.NotBad = IsNotOne raw w (length w.rows - 1) raw.bad w.property
 VerdictApplies raw w verdict.Confirmed = Unit {0}
 
--- the numbers of the kinds of verdicts, in the order in which they are tried
-abbrev pub number_of : Verdict → ℕ
-number_of (verdict.Initial p) = 0
-number_of (verdict.Constraint t p) = 1
-number_of verdict.NotBad = 2
-number_of verdict.Confirmed = 3
+-- the order in which the kinds of verdicts are tried
+abbrev pub verdict_order : Verdict → ℕ
+verdict_order (verdict.Initial p) = 0
+verdict_order (verdict.Constraint t p) = 1
+verdict_order verdict.NotBad = 2
+verdict_order verdict.Confirmed = 3
 
 -- the order of the verdicts: latch by latch; frame by frame, and in a frame constraint by constraint; the property
 abbrev pub IsBefore : Verdict → Verdict → Type 0
 IsBefore (verdict.Initial p) (verdict.Initial q) = p < q
 IsBefore (verdict.Constraint t p) (verdict.Constraint u q) = (t < u) ⊎ ((t ≡ u) × (p < q))
-IsBefore u v = number_of u < number_of v
+IsBefore u v = verdict_order u < verdict_order v
 
 -- the verdict is the first that applies
 pub record IsVerdict (raw : Raw) (w : Witness) (v : Verdict) : Type 0 where

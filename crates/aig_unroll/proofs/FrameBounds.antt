@@ -15,8 +15,8 @@ use Rattle.aig_base.specs.Sound.{IsSound, IsReset}
 use Rattle.aig_base.proofs.lists.Counting.{length-order}
 use Rattle.aig_base.proofs.lists.Gets.{All-at}
 use Rattle.aig_base.proofs.renumbered.RenumberedParts.{variable_bound}
-use Rattle.aig_unroll.specs.FrameLiteral.{frame_literal, frame_size, input_count, first_literal, next_literal, role_literal, is_uninitialised}
-use Rattle.aig_unroll.proofs.FrameLiterals.{latch_literal, by_role, input_within}
+use Rattle.aig_unroll.specs.FrameLiteral.{frame_literal, frame_size, input_count, first_literal, latch_literal, next_literal, role_literal, is_uninitialised}
+use Rattle.aig_unroll.proofs.FrameLiterals.{by_role, input_within}
 
 -- a literal of a variable up to w keeps to it when it is negated
 pub sign_bound : (l m w : ℕ) → m ≤ 2 * w + 1 → with_sign l m ≤ 2 * w + 1
@@ -90,7 +90,7 @@ module _ (raw : Raw) (sound : IsSound raw) (order : List ℕ) (canonical : IsCan
   pub literal_bound : (t l i : ℕ) → t < k → i ≤ length raw.gates
       → renumbered_variable raw order (variable l) ≤ length raw.inputs + length raw.latches + i
       → frame_literal raw order k t l ≤ 2 * (input_count raw k + t * frame_size raw + i) + 1
-  unfolding latch_literal
+  unfolding frame_literal latch_literal
   literal_bound zero l i lt le below =
       of_latches 0 l i lt le (λ p. let b = first_bound p (slice_get raw.latches p) refl in omega arith) below
   literal_bound (suc t) l i lt le below =

@@ -11,7 +11,7 @@ use Rattle.aig_base.specs.Order.{IsCanonicalOrder}
 use Rattle.aig_base.specs.Renumbered.{renumbered_variable, role_variable}
 use Rattle.aig_base.specs.RenumberingTable.{IsInTable}
 use Rattle.aig_base.specs.Role as roles
-use Rattle.aig_base.specs.Role.{Role, role, place_of, input_role, gate_role, latch_role}
+use Rattle.aig_base.specs.Role.{Role, role, place_of, first_role}
 use Rattle.aig_base.specs.Sections.{IsGate}
 use Rattle.aig_base.specs.Sound.{IsSound}
 use Rattle.aig_base.proofs.lists.Positions.{stands_at}
@@ -20,21 +20,15 @@ use Rattle.aig_base.proofs.renumbered.Renumberings.{place_in}
 use Rattle.aig_base.proofs.circuits.Roles.{only_place, role_input, role_latch, role_gate_at, role_constant, place_within}
 use Rattle.aig_unroll.specs.declared.unrolling.plan.Plan.{Plan}
 use Rattle.aig_unroll.specs.declared.unrolling.frame_literals.Frame.{Frame}
-use Rattle.aig_unroll.specs.FrameLiteral.{frame_literal, frame_gate_variable, first_literal, next_literal, role_literal}
+use Rattle.aig_unroll.specs.FrameLiteral.{frame_literal, frame_gate_variable, first_literal, latch_literal, next_literal, role_literal}
 use Rattle.aig_unroll.specs.state.FrameTable.{IsPlan, IsFrame, literal_at, number_literal}
-
--- the literals of the latches at a frame
-unfoldable pub latch_literal : Raw → List ℕ → ℕ → ℕ → ℕ → ℕ
-latch_literal raw order k zero p = first_literal raw k p (slice_get raw.latches p)
-latch_literal raw order k (suc t) p = next_literal (frame_literal raw order k t) (slice_get raw.latches p)
 
 -- a frame literal by what its variable is
 pub by_role : (raw : Raw) (order : List ℕ) (k t l : ℕ)
     → frame_literal raw order k t l
     ≡ with_sign l (role_literal raw k t (latch_literal raw order k t) (role raw order (variable l)))
-unfolding frame_literal latch_literal
-by_role raw order k zero l = refl
-by_role raw order k (suc t) l = refl
+unfolding frame_literal
+by_role raw order k t l = refl
 
 -- the literal of an odd one
 pub odd_literal : (raw : Raw) (order : List ℕ) (k t l : ℕ) → 1 < l → IsNegated l
@@ -50,7 +44,7 @@ input_within raw order v p h =
     let k = place_within (λ u. u == v) (map variable raw.inputs) p (go _ _ _ h) in
     omega (arith, length-map raw.inputs variable)
   where
-    go : (a b d : Option ℕ) → input_role a (gate_role b (latch_role d)) ≡ roles.input p → a ≡ Some p
+    go : (a b d : Option ℕ) → first_role a b d ≡ roles.input p → a ≡ Some p
     go (Some q) b d h = cc
     go None (Some q) d h = cc
     go None None (Some q) h = cc
@@ -62,7 +56,7 @@ latch_within raw order v p h =
     let k = place_within (λ u. u == v) (map (λ (x : Latch). variable x.lit) raw.latches) p (go _ _ _ h) in
     omega (arith, length-map raw.latches (λ x. variable x.lit))
   where
-    go : (a b d : Option ℕ) → input_role a (gate_role b (latch_role d)) ≡ roles.latch p → d ≡ Some p
+    go : (a b d : Option ℕ) → first_role a b d ≡ roles.latch p → d ≡ Some p
     go (Some q) b d h = cc
     go None (Some q) d h = cc
     go None None (Some q) h = cc
@@ -94,7 +88,7 @@ module _ (raw : Raw) (sound : IsSound raw) (order : List ℕ) (canonical : IsCan
 
   pub of_next : (k t p : ℕ) (x : Latch) → slice_get raw.latches p ≡ Some x
       → frame_literal raw order k (suc t) x.lit ≡ frame_literal raw order k t x.next
-  unfolding latch_literal
+  unfolding frame_literal latch_literal
   of_next k t p x at = of_latch k (suc t) p x at ∙ ap (next_literal (frame_literal raw order k t)) at
 
   -- the gate at a place of the order

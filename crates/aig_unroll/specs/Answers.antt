@@ -7,11 +7,11 @@ use Rattle.aig_unroll.specs.declared.fault.UnrollFault.TheVariants as faults
 use Rattle.aig_unroll.specs.Unrollable.{HasLiveness, FitsLimits}
 use Rattle.aig_unroll.specs.Unrolled.{unrolled}
 
-abbrev pub number_of : UnrollFault → ℕ
-number_of faults.NoFrames = 9
-number_of faults.Liveness = 12
-number_of faults.Limit = 10
-number_of faults.Memory = 11
+abbrev pub unroll_fault_number : UnrollFault → ℕ
+unroll_fault_number faults.NoFrames = 9
+unroll_fault_number faults.Liveness = 12
+unroll_fault_number faults.Limit = 10
+unroll_fault_number faults.Memory = 11
 
 -- nothing but memory that runs out can refuse it
 pub record IsUnrollable (raw : Raw) (k : ℕ) : Type 0 where

@@ -57,11 +57,16 @@ role_literal raw k t latch_literal (roles.input p) = 2 * (t * length raw.inputs 
 role_literal raw k t latch_literal (roles.latch p) = latch_literal p
 role_literal raw k t latch_literal (roles.gate q) = 2 * frame_gate_variable raw k t q
 
--- the literal that stands for l at frame t; negations are kept, on constants too
+-- the literal of l at frame t by what its variable is; negations are kept, on constants too
+abbrev pub literal_by : Raw → List ℕ → ℕ → ℕ → (ℕ → ℕ) → ℕ → ℕ
+literal_by raw order k t latch_literal l = with_sign l (role_literal raw k t latch_literal (role raw order (variable l)))
+
+-- the literal of the latch at a position at frame t
+unfoldable pub latch_literal : Raw → List ℕ → ℕ → ℕ → ℕ → ℕ
+latch_literal raw order k zero p = first_literal raw k p (slice_get raw.latches p)
+latch_literal raw order k (suc t) p =
+    next_literal (literal_by raw order k t (latch_literal raw order k t)) (slice_get raw.latches p)
+
+-- the literal that stands for l at frame t
 unfoldable pub frame_literal : Raw → List ℕ → ℕ → ℕ → ℕ → ℕ
-frame_literal raw order k zero l =
-    with_sign l (role_literal raw k 0 (λ p. first_literal raw k p (slice_get raw.latches p))
-    (role raw order (variable l)))
-frame_literal raw order k (suc t) l =
-    with_sign l (role_literal raw k (suc t)
-    (λ p. next_literal (frame_literal raw order k t) (slice_get raw.latches p)) (role raw order (variable l)))
+frame_literal raw order k t = literal_by raw order k t (latch_literal raw order k t)

@@ -14,7 +14,7 @@ use Rattle.aig_parts.specs.declared.raw.Raw.{Raw}
 use Rattle.aig_base.specs.Circuit.{IsCircuit}
 use Rattle.aig_base.specs.state.Definitions.{IsDefinitionEntry, IsDefinitionTable}
 use Rattle.aig_base.specs.state.Entries.{IsEntryOf, AreEntries}
-use Rattle.aig_base.specs.FirstFault.{IsLeast, HasBadReset, IsUngrounded, FaultApplies, number_of, IsFirstFault}
+use Rattle.aig_base.specs.FirstFault.{IsLeast, HasBadReset, IsUngrounded, FaultApplies, fault_order, IsFirstFault}
 use Rattle.aig_parts.specs.Formed.{IsFormed}
 use Rattle.aig_base.specs.Grounded.{Grounded, IsAcyclic}
 use Rattle.aig_base.specs.state.LeastFaulty.{IsLeastAmong, IsKnownLiteral, IsGroundedGate, gate_variable, latch_variable}
@@ -177,7 +177,7 @@ module _ (raw : Raw) where
       → All IsDefinition (definitions raw))
       → (6 < n → (v : ℕ) → IsRedefined raw v → ⊥) → (7 < n → All (λ l. IsDefined raw (variable l)) (uses raw)) → (8 < n
       → All IsReset raw.latches)
-      → (g : Fault) → number_of g < n → FaultApplies raw g → ⊥
+      → (g : Fault) → fault_order g < n → FaultApplies raw g → ⊥
   none_before n m a b c d e fault.Range l (k, x, lt, is, p) = let h : get_or (definitions raw
       ++ uses raw) k x ≤ 2 * raw.max_var + 1 = a l k x lt in absurd (omega arith)
   none_before n m a b c d e fault.Definition l (k, x, lt, is, p) = p (subst IsDefinition is (b l k x lt))

@@ -18,7 +18,7 @@ use Rattle.aig_base.specs.Renumbered.{gate_of, ordered_gates, renumbered, renumb
 use Rattle.aig_base.specs.Renumbered.{renumbered_literal, renumbered_variable, role_variable}
 use Rattle.aig_base.specs.RenumberingTable.{IsRenumbering, IsInTable, IsLatchListed, IsGateListed, HasAllEntries, literal_by}
 use Rattle.aig_base.specs.RenumberingTable.{latch_by, gate_by, renumbered_by}
-use Rattle.aig_base.specs.Role.{place_of, input_role, gate_role, latch_role}
+use Rattle.aig_base.specs.Role.{place_of, first_role}
 use Rattle.aig_base.specs.Sections.{definitions, uses}
 use Rattle.aig_base.specs.Sound.{IsSound, IsInRange, IsReset}
 use Rattle.aig_base.proofs.lists.Counting.{length-order, sections_fit}
@@ -50,8 +50,7 @@ variable_bound raw order v =
   where
     go : (a b d : Option ℕ) → ((i : ℕ) → a ≡ Some i → i < length raw.inputs) → ((i : ℕ) → b ≡ Some i → i < length order)
         → ((i : ℕ) → d ≡ Some i → i < length raw.latches)
-        → role_variable raw (input_role a (gate_role b (latch_role d))) ≤ length raw.inputs + length
-        raw.latches + length order
+        → role_variable raw (first_role a b d) ≤ length raw.inputs + length raw.latches + length order
     go (Some i) b d p q r = let k = p i refl in omega arith
     go None (Some i) d p q r = let k = q i refl in omega arith
     go None None (Some i) p q r = let k = r i refl in omega arith

@@ -9,7 +9,7 @@ use Rattle.aig_base.specs.Sound.{IsInRange}
 use Rattle.aig_bench.specs.declared.edit.EditFault.{EditFault}
 use Rattle.aig_bench.specs.declared.edit.EditFault.TheVariants as fault
 use Rattle.aig_bench.specs.BenchState.{CircuitAndRows}
-use Rattle.aig_bench.specs.Edit.{Edit, Edits, rewire, set_reset, number_of, Forbids, NoneApplies, IsLeastFault, LacksMemory}
+use Rattle.aig_bench.specs.Edit.{Edit, Edits, rewire, set_reset, edit_fault_number, Forbids, NoneApplies, IsLeastFault, LacksMemory}
 use Rattle.aig_bench.specs.Question.{ForbidsValue}
 
 module _ (p : CircuitAndRows) (t l : ℕ) where
@@ -17,7 +17,7 @@ module _ (p : CircuitAndRows) (t l : ℕ) where
       → IsLeastFault (ForbidsValue p t l) fault.NoFrame
   value_no_frame range defined none = (none, below)
     where
-      below : (g : EditFault) → number_of g < 6 → ForbidsValue p t l g → ⊥
+      below : (g : EditFault) → edit_fault_number g < 6 → ForbidsValue p t l g → ⊥
       below fault.Range lt f = f range
       below fault.Undefined lt f = f defined
       below fault.NoFrame lt f = absurd (omega arith)
@@ -38,7 +38,7 @@ module _ (p : CircuitAndRows) (lhs r0 r1 : ℕ) where
             → IsLeastFault (Forbids p (rewire lhs r0 r1)) fault.Cycle
         rewires_cycle none = (none, below)
           where
-            below : (g : EditFault) → number_of g < 5 → Forbids p (rewire lhs r0 r1) g → ⊥
+            below : (g : EditFault) → edit_fault_number g < 5 → Forbids p (rewire lhs r0 r1) g → ⊥
             below fault.NotAGate lt f = f gate
             below fault.Range lt f = f range
             below fault.Undefined lt f = f defined
@@ -55,12 +55,12 @@ module _ (p : CircuitAndRows) (lhs r0 r1 : ℕ) where
         pub rewire_lacks : LacksMemory p (rewire lhs r0 r1) fault.Memory
         rewire_lacks = (refl, tt, others)
           where
-            others : (g : EditFault) → g ≢ fault.Cycle → Forbids p (rewire lhs r0 r1) g → ⊥
-            others fault.NotAGate ne f = f gate
-            others fault.Range ne f = f range
-            others fault.Undefined ne f = f defined
-            others fault.Cycle ne f = ne refl
-            others _ ne f = f
+            others : (g : EditFault) → Forbids p (rewire lhs r0 r1) g → g ≡ fault.Cycle
+            others fault.NotAGate f = absurd (f gate)
+            others fault.Range f = absurd (f range)
+            others fault.Undefined f = absurd (f defined)
+            others fault.Cycle f = refl
+            others _ f = absurd f
 
         -- what a rewire answers that is not done, after its first faults
         pub rewire_refused : (f : EditFault) → (f ≡ fault.Cycle) ⊎ (f ≡ fault.Memory)

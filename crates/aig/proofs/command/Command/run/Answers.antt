@@ -1,0 +1,33 @@
+use Rattle.std.proofs.Common.{sym, subst}
+use Rattle.aig.specs.Commands.{EndsAsMeant}
+use Rattle.aig.proofs.command.Command.run.Goals as goal
+
+pub returns-in-Toaig : goal.returns-in-Toaig
+returns-in-Toaig g c =
+    record {
+      ends = subst (λ x. EndsAsMeant g.F.Read.remaining x c.toaig.result) (sym c.in-Toaig.is) c.toaig.ensures.ends;
+    }
+
+pub returns-in-Sim : goal.returns-in-Sim
+returns-in-Sim g c =
+    record {
+      ends = subst (λ x. EndsAsMeant g.F.Read.remaining x c.sim.result) (sym c.in-Sim.is) c.sim.ensures.ends;
+    }
+
+pub returns-in-Wave : goal.returns-in-Wave
+returns-in-Wave g c =
+    record {
+      ends = subst (λ x. EndsAsMeant g.F.Read.remaining x c.wave.result) (sym c.in-Wave.is) c.wave.ensures.ends;
+    }
+
+pub returns-in-InfoNames : goal.returns-in-InfoNames
+returns-in-InfoNames g c =
+    record {
+      ends = subst (λ x. EndsAsMeant g.F.Read.remaining x c.info_names.result) (sym c.in-InfoNames.is) c.info_names.ensures.ends;
+    }
+
+pub returns-in-Select : goal.returns-in-Select
+returns-in-Select g c =
+    record {
+      ends = subst (λ x. EndsAsMeant g.F.Read.remaining x c.select.result) (sym c.in-Select.is) c.select.ensures.ends;
+    }

@@ -1,0 +1,21 @@
+use Rattle.std.proofs.Common.{Ok, Err, refl}
+use Rattle.aig_run.specs.declared.run_fault.RunFault.TheVariants as run_faults
+use Rattle.aig_run.specs.declared.script_fault.ScriptFault.TheVariants as scripts
+use Rattle.aig_commands.specs.Bench.{LeavesBench}
+use Rattle.aig.specs.Ends.{ForSomeText, as_meant}
+use Rattle.aig.proofs.Endings.{ends_written, text_answers}
+use Rattle.aig.proofs.simulations.write_replies.Goals as goal
+
+pub returns-in-Ok : goal.returns-in-Ok
+returns-in-Ok g c =
+    let Leaves = LeavesBench c.args.circuit.now c.args.stimulus.now in
+    let io = run_faults.Script scripts.Io in
+    ends_written (ForSomeText io Leaves) c.in-Ok.bench c.written.result
+    (text_answers _ _ io Leaves Leaves (λ text answer bytes said. said) (Ok c.in-Ok.bench) c.in-Ok.ensures.ends) c.written.ensures.fails
+
+pub returns : goal.returns
+returns g c =
+    let Leaves = LeavesBench c.args.circuit.now c.args.stimulus.now in
+    let io = run_faults.Script scripts.Io in
+    as_meant (Err c.in-Err.fault)
+    (text_answers _ _ io Leaves Leaves (λ text answer bytes said. said) (Err c.in-Err.fault) c.in-Err.ensures.ends) refl
