@@ -19,7 +19,9 @@ def case(program, rng):
     """Compares a reduction, and answers the verdict without numbers, or `refused`."""
     text, parts = circuit_to_check(rng)
     start, bad = start_of(rng, parts), rng.randrange(len(parts.bad) + (rng.randrange(8) == 0))
-    rows = [random_values(rng, len(parts.inputs)) for _ in range(rng.randrange(1, 6))]
+    # now and then so many frames that values go many at once
+    count = rng.randrange(1, 6) if rng.randrange(4) else rng.randrange(6, 40)
+    rows = [random_values(rng, len(parts.inputs)) for _ in range(count)]
     write("circuit", text)
     if bad == len(parts.bad):
         write("witness", witness_text(bad, start, rows))

@@ -1,5 +1,6 @@
-//! Trying x at the values of a witness, one after the other.
-ghost use Rattle.std.specs.Prelude.{◌≡◌, ℕ, suc, ◌<◌, ◌≤◌, ◌↔◌, List, [], ◌∷◌, Some, length, slice_get, vec_len, vec_capacity, IsTrue};
+//! Trying x at the values of a witness, many at once where they can go.
+ghost use Rattle.std.specs.Prelude.{◌≡◌, ℕ, suc, ◌<◌, ◌≤◌, ◌↔◌, List, [], ◌∷◌, Some, length, slice_get, IsTrue};
+ghost use Rattle.std.specs.Prelude.{vec_len, vec_capacity};
 ghost use Rattle.aig_parts.specs.declared.latch.Latch.{Latch};
 ghost use Rattle.aig_parts.specs.declared.raw.Raw.{Raw};
 ghost use Rattle.aig_base.specs.Circuit.{IsCircuit};
@@ -77,7 +78,8 @@ impl<G: Grid> Reducer<G> {
     // Tries x at the start of an uninitialised latch.
     fn try_start(&mut self, position: usize, latch: Lit)
         requires position { position < length self.old.start.items }
-        requires runs { (raw : Raw) × (x : Latch) × RunsWitness raw self.old.bench.pair self.old.property self.old.start.items
+        requires runs { (raw : Raw) × (x : Latch)
+            × RunsWitness raw self.old.bench.pair self.old.property self.old.start.items
             × (slice_get raw.latches position ≡ Some x) × (x.lit ≡ latch) × (1 < x.reset) }
         ensures { (raw : Raw) (x : Latch) →
             RunsWitness raw self.old.bench.pair self.old.property self.old.start.items →
@@ -115,7 +117,8 @@ impl<G: Grid> Reducer<G> {
         ensures property { self.new.property ≡ self.old.property }
         ensures puts { (raw : Raw) (x : Latch) → Runs raw self.old.bench.pair self.old.start.items
             → slice_get raw.latches position ≡ Some x → x.lit ≡ latch
-            → PutsValue raw self.old.bench.pair self.old.start.items 0 position value self.new.bench.pair self.new.start.items }
+            → PutsValue raw self.old.bench.pair self.old.start.items 0 position value self.new.bench.pair
+            self.new.start.items }
     {
         self.put_reset(latch, value);
         self.start[position] = value;
@@ -143,7 +146,8 @@ impl<G: Grid> Reducer<G> {
     // The value at a place.
     fn get(&self, place: Place) -> Tern
         requires { IsPlace (self.now.start.items ∷ self.now.bench.pair.rows) place.list place.position }
-        ensures { slice_get (row_at (self.now.start.items ∷ self.now.bench.pair.rows) place.list) place.position ≡ Some result }
+        ensures { slice_get (row_at (self.now.start.items ∷ self.now.bench.pair.rows) place.list) place.position ≡
+            Some result }
     {
         if place.list == 0 {
             return self.start[place.position];
@@ -173,10 +177,12 @@ impl<G: Grid> Reducer<G> {
         requires runs { (raw : Raw) × (latches.now ≡ raw.latches) × Runs raw self.old.bench.pair self.old.start.items }
         ensures property { self.new.property ≡ self.old.property }
         ensures puts { (raw : Raw) → latches.now ≡ raw.latches → Runs raw self.old.bench.pair self.old.start.items
-            → PutsValue raw self.old.bench.pair self.old.start.items place.list place.position Tern.X self.new.bench.pair
+            → PutsValue raw self.old.bench.pair self.old.start.items place.list place.position Tern.X
+            self.new.bench.pair
             self.new.start.items }
         ensures undoes { (raw : Raw) (was : List (List Tern)) → latches.now ≡ raw.latches
-            → Runs raw self.old.bench.pair self.old.start.items → Undoes cleared.old.items (self.old.start.items ∷ self.old.bench.pair.rows) was
+            → Runs raw self.old.bench.pair self.old.start.items
+            → Undoes cleared.old.items (self.old.start.items ∷ self.old.bench.pair.rows) was
             → Undoes cleared.new.items (self.new.start.items ∷ self.new.bench.pair.rows) was }
     {
         let value = self.get(place);
@@ -184,17 +190,23 @@ impl<G: Grid> Reducer<G> {
         self.put(latches, place, Tern::X);
     }
 
-    // Clears a value, unless it is the start of a latch with a reset of 0 or 1, and returns the next place of its list.
+    // Clears a value, unless it is the start of a latch with a reset of 0 or 1, and returns the next place of its list. It
+    // returns the place itself where there is no room for one more.
     fn clear_at(&mut self, latches: &[Latch], cleared: &mut Vec<Cleared>, place: Place) -> Place
         requires place { IsPlace (self.old.start.items ∷ self.old.bench.pair.rows) place.list place.position }
         requires clearing { (raw : Raw) × (given : Witness) × (first : ℕ) × (latches.now ≡ raw.latches)
-            × Clearing raw given self.old.bench.pair self.old.property self.old.start.items first place.list place.position }
+            × Clearing raw given self.old.bench.pair self.old.property self.old.start.items first place.list
+            place.position }
         ensures clearing { (raw : Raw) (given : Witness) (first : ℕ) → latches.now ≡ raw.latches
-            → Clearing raw given self.old.bench.pair self.old.property self.old.start.items first place.list place.position
-            → Clearing raw given self.new.bench.pair self.new.property self.new.start.items first result.list result.position }
+            → Clearing raw given self.old.bench.pair self.old.property self.old.start.items first place.list
+            place.position
+            → Clearing raw given self.new.bench.pair self.new.property self.new.start.items first result.list
+            result.position }
         ensures undoes { (raw : Raw) (given : Witness) (first : ℕ) (was : List (List Tern)) → latches.now ≡ raw.latches
-            → Clearing raw given self.old.bench.pair self.old.property self.old.start.items first place.list place.position
-            → Undoes cleared.old.items (self.old.start.items ∷ self.old.bench.pair.rows) was → Undoes cleared.new.items (self.new.start.items ∷ self.new.bench.pair.rows) was }
+            → Clearing raw given self.old.bench.pair self.old.property self.old.start.items first place.list
+            place.position
+            → Undoes cleared.old.items (self.old.start.items ∷ self.old.bench.pair.rows) was
+            → Undoes cleared.new.items (self.new.start.items ∷ self.new.bench.pair.rows) was }
         ensures on { IsUpTo place.list place.position result.list result.position }
     {
         let next = Place {
@@ -211,16 +223,21 @@ impl<G: Grid> Reducer<G> {
         next
     }
 
-    // Clears the value at a place, and returns the next one. At the end of a list that is the begin of the next list.
+    // Clears the value at a place, and returns the next place. At the end of a list that is the first of the next list.
     fn clear_next(&mut self, latches: &[Latch], cleared: &mut Vec<Cleared>, place: Place) -> Place
         requires clearing { (raw : Raw) × (given : Witness) × (first : ℕ) × (latches.now ≡ raw.latches)
-            × Clearing raw given self.old.bench.pair self.old.property self.old.start.items first place.list place.position }
+            × Clearing raw given self.old.bench.pair self.old.property self.old.start.items first place.list
+            place.position }
         ensures clearing { (raw : Raw) (given : Witness) (first : ℕ) → latches.now ≡ raw.latches
-            → Clearing raw given self.old.bench.pair self.old.property self.old.start.items first place.list place.position
-            → Clearing raw given self.new.bench.pair self.new.property self.new.start.items first result.list result.position }
+            → Clearing raw given self.old.bench.pair self.old.property self.old.start.items first place.list
+            place.position
+            → Clearing raw given self.new.bench.pair self.new.property self.new.start.items first result.list
+            result.position }
         ensures undoes { (raw : Raw) (given : Witness) (first : ℕ) (was : List (List Tern)) → latches.now ≡ raw.latches
-            → Clearing raw given self.old.bench.pair self.old.property self.old.start.items first place.list place.position
-            → Undoes cleared.old.items (self.old.start.items ∷ self.old.bench.pair.rows) was → Undoes cleared.new.items (self.new.start.items ∷ self.new.bench.pair.rows) was }
+            → Clearing raw given self.old.bench.pair self.old.property self.old.start.items first place.list
+            place.position
+            → Undoes cleared.old.items (self.old.start.items ∷ self.old.bench.pair.rows) was
+            → Undoes cleared.new.items (self.new.start.items ∷ self.new.bench.pair.rows) was }
         ensures on { IsUpTo place.list place.position result.list result.position }
     {
         if self.has(place) {
@@ -244,13 +261,18 @@ impl<G: Grid> Reducer<G> {
         size: usize,
     ) -> Place
         requires clearing { (raw : Raw) × (given : Witness) × (first : ℕ) × (latches.now ≡ raw.latches)
-            × Clearing raw given self.old.bench.pair self.old.property self.old.start.items first from.list from.position }
+            × Clearing raw given self.old.bench.pair self.old.property self.old.start.items first from.list
+            from.position }
         ensures clearing { (raw : Raw) (given : Witness) (first : ℕ) → latches.now ≡ raw.latches
-            → Clearing raw given self.old.bench.pair self.old.property self.old.start.items first from.list from.position
-            → Clearing raw given self.new.bench.pair self.new.property self.new.start.items first result.list result.position }
+            → Clearing raw given self.old.bench.pair self.old.property self.old.start.items first from.list
+            from.position
+            → Clearing raw given self.new.bench.pair self.new.property self.new.start.items first result.list
+            result.position }
         ensures undoes { (raw : Raw) (given : Witness) (first : ℕ) (was : List (List Tern)) → latches.now ≡ raw.latches
-            → Clearing raw given self.old.bench.pair self.old.property self.old.start.items first from.list from.position
-            → Undoes cleared.old.items (self.old.start.items ∷ self.old.bench.pair.rows) was → Undoes cleared.new.items (self.new.start.items ∷ self.new.bench.pair.rows) was }
+            → Clearing raw given self.old.bench.pair self.old.property self.old.start.items first from.list
+            from.position
+            → Undoes cleared.old.items (self.old.start.items ∷ self.old.bench.pair.rows) was
+            → Undoes cleared.new.items (self.new.start.items ∷ self.new.bench.pair.rows) was }
         ensures on { IsUpTo from.list from.position result.list result.position }
     {
         let mut place = from;
@@ -263,12 +285,15 @@ impl<G: Grid> Reducer<G> {
     // Puts back all that was cleared, the last value first.
     fn take_back(&mut self, latches: &[Latch], cleared: &mut Vec<Cleared>)
         requires { (raw : Raw) × (was : List (List Tern)) × (latches.now ≡ raw.latches)
-            × Runs raw self.old.bench.pair self.old.start.items × Undoes cleared.old.items (self.old.start.items ∷ self.old.bench.pair.rows) was }
+            × Runs raw self.old.bench.pair self.old.start.items
+            × Undoes cleared.old.items (self.old.start.items ∷ self.old.bench.pair.rows) was }
         ensures property { self.new.property ≡ self.old.property }
         ensures empty { cleared.new.items ≡ [] }
         ensures runs { (raw : Raw) (was : List (List Tern)) → latches.now ≡ raw.latches
-            → Runs raw self.old.bench.pair self.old.start.items → Undoes cleared.old.items (self.old.start.items ∷ self.old.bench.pair.rows) was
-            → Runs raw self.new.bench.pair self.new.start.items × ((self.new.start.items ∷ self.new.bench.pair.rows) ≡ was) }
+            → Runs raw self.old.bench.pair self.old.start.items
+            → Undoes cleared.old.items (self.old.start.items ∷ self.old.bench.pair.rows) was
+            → Runs raw self.new.bench.pair self.new.start.items
+            × ((self.new.start.items ∷ self.new.bench.pair.rows) ≡ was) }
     {
         while let Some(last) = cleared.pop() {
             self.put(latches, last.place, last.value);
@@ -291,15 +316,16 @@ impl<G: Grid> Reducer<G> {
         ensures empty { cleared.new.items ≡ [] }
         ensures reducing { (raw : Raw) (given : Witness) → latches.now ≡ raw.latches
             → Reducing raw given self.old.bench.pair self.old.property self.old.start.items from.list from.position
-            → Reducing raw given self.new.bench.pair self.new.property self.new.start.items result.list result.position }
+            → Reducing raw given self.new.bench.pair self.new.property self.new.start.items result.list
+            result.position }
         ensures on { IsUpTo from.list from.position result.list result.position }
     {
-        // It says how many frames there are.
+        // Its contract says how many frames there are.
         self.bench.frames();
-        let behind = self.clear(latches, cleared, from, size);
+        let reached = self.clear(latches, cleared, from, size);
         if reaches_from(&self.bench, self.property, frame_of(from)) {
             cleared.clear();
-            return behind;
+            return reached;
         }
         self.take_back(latches, cleared);
         from
@@ -320,7 +346,8 @@ impl<G: Grid> Reducer<G> {
         ensures empty { cleared.new.items ≡ [] }
         ensures reducing { (raw : Raw) (given : Witness) → latches.now ≡ raw.latches
             → Reducing raw given self.old.bench.pair self.old.property self.old.start.items from.list from.position
-            → Reducing raw given self.new.bench.pair self.new.property self.new.start.items result.list result.position }
+            → Reducing raw given self.new.bench.pair self.new.property self.new.start.items result.list
+            result.position }
         ensures on { IsUpTo from.list from.position result.list result.position }
     {
         'sizes: while pace.size > 1 {
@@ -350,7 +377,8 @@ impl<G: Grid> Reducer<G> {
             × Reducing raw given self.old.bench.pair self.old.property self.old.start.items place.list place.position }
         ensures { (raw : Raw) (given : Witness) → latches.now ≡ raw.latches
             → Reducing raw given self.old.bench.pair self.old.property self.old.start.items place.list place.position
-            → Reducing raw given self.new.bench.pair self.new.property self.new.start.items place.list (suc place.position) }
+            → Reducing raw given self.new.bench.pair self.new.property self.new.start.items place.list (suc
+            place.position) }
     {
         if place.list == 0 {
             self.try_latch(place.position, &latches[place.position]);
@@ -362,8 +390,8 @@ impl<G: Grid> Reducer<G> {
         }
     }
 
-    // Tries the values from a place on, all at once where they can all go, and else that at the place alone. Returns the
-    // place up to which values have been tried.
+    // Tries the values from a place on: many at once where they can all go, else the one at the place. Returns the place
+    // up to which values have been tried.
     fn try_place(
         &mut self,
         latches: &[Latch],
@@ -378,7 +406,8 @@ impl<G: Grid> Reducer<G> {
         ensures empty { cleared.new.items ≡ [] }
         ensures reducing { (raw : Raw) (given : Witness) → latches.now ≡ raw.latches
             → Reducing raw given self.old.bench.pair self.old.property self.old.start.items place.list place.position
-            → Reducing raw given self.new.bench.pair self.new.property self.new.start.items result.list result.position }
+            → Reducing raw given self.new.bench.pair self.new.property self.new.start.items result.list
+            result.position }
         ensures on { IsBefore place.list place.position result.list result.position }
     {
         let reached = self.try_ranges(latches, cleared, pace, place);
@@ -408,10 +437,11 @@ impl<G: Grid> Reducer<G> {
         ensures empty { cleared.new.items ≡ [] }
         ensures reducing { (raw : Raw) (given : Witness) → latches.now ≡ raw.latches
             → Reducing raw given self.old.bench.pair self.old.property self.old.start.items place.list place.position
-            → Reducing raw given self.new.bench.pair self.new.property self.new.start.items result.list result.position }
+            → Reducing raw given self.new.bench.pair self.new.property self.new.start.items result.list
+            result.position }
         ensures on { IsBefore place.list place.position result.list result.position }
     {
-        // It says how many frames there are.
+        // Its contract says how many frames there are.
         self.bench.frames();
         if !self.has(place) {
             return Place {

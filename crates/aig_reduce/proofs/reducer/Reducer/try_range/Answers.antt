@@ -4,8 +4,8 @@ use Rattle.aig_reduce.proofs.RunLemmas.{last_within}
 use Rattle.aig_reduce.proofs.Clearings.{clearing_begins, clearing_confirmed, reducing_named, taken_back, undoes_nothing}
 use Rattle.aig_reduce.proofs.reducer.Reducer.try_range.Goals as goal
 
-pub clear-behind-requires : goal.clear-behind-requires
-clear-behind-requires g c =
+pub clear-reached-requires : goal.clear-reached-requires
+clear-reached-requires g c =
     let (raw, given, e, h) = c.requires.reducing in
     let old = c.args.self.now in
     record {
@@ -22,8 +22,8 @@ pub reaches_from-requires-clause-rows : goal.reaches_from-requires-clause-rows
 reaches_from-requires-clause-rows g c =
     let (raw, given, e, h) = c.requires.reducing in
     let old = c.args.self.now in
-    let new = c.clear-behind.new.self in
-    let k = c.clear-behind.ensures.clearing raw given (c.args.from.list - 1) e
+    let new = c.clear-reached.new.self in
+    let k = c.clear-reached.ensures.clearing raw given (c.args.from.list - 1) e
     (clearing_begins raw given old.property old.bench.pair old.start.items c.args.from.list c.args.from.position h) in
     omega (arith, last_within new.bench.pair.rows k.run.some)
 
@@ -31,16 +31,16 @@ pub reaches_from-requires-clause-property : goal.reaches_from-requires-clause-pr
 reaches_from-requires-clause-property g c =
     let (raw, given, e, h) = c.requires.reducing in
     let old = c.args.self.now in
-    let k = c.clear-behind.ensures.clearing raw given (c.args.from.list - 1) e
+    let k = c.clear-reached.ensures.clearing raw given (c.args.from.list - 1) e
     (clearing_begins raw given old.property old.bench.pair old.start.items c.args.from.list c.args.from.position h) in
     omega (arith, k.run.property, ap length k.runs.resets.bad)
 
 pub returns-then-reaches_from-clause-reducing : goal.returns-then-reaches_from-clause-reducing
 returns-then-reaches_from-clause-reducing g c = λ raw given e h.
     let old = c.args.self.now in
-    let new = c.clear-behind.new.self in
+    let new = c.clear-reached.new.self in
     let first = c.args.from.list - 1 in
-    let k = c.clear-behind.ensures.clearing raw given first e
+    let k = c.clear-reached.ensures.clearing raw given first e
     (clearing_begins raw given old.property old.bench.pair old.start.items c.args.from.list c.args.from.position h) in
     clearing_confirmed raw given new.property new.bench.pair new.start.items first _ _ k
     (subst (λ (n : ℕ). ReachesFrom new.bench.pair new.property n) c.frame_of.ensures
@@ -53,12 +53,12 @@ take_back-requires g c =
     let first = c.args.from.list - 1 in
     let begins = clearing_begins raw given old.property old.bench.pair old.start.items c.args.from.list c.args.from.position h in
     let was = old.start.items ∷ old.bench.pair.rows in
-    let k = c.clear-behind.ensures.clearing raw given first e begins in (
+    let k = c.clear-reached.ensures.clearing raw given first e begins in (
       raw,
       was,
       e,
       k.runs,
-      c.clear-behind.ensures.undoes raw given first was e begins
+      c.clear-reached.ensures.undoes raw given first was e begins
           (undoes_nothing c.args.cleared.now.items was c.requires.empty),
     )
 
@@ -70,9 +70,9 @@ returns-clause-reducing g c = λ raw given e h.
     let p = c.args.from.position in
     let begins = clearing_begins raw given old.property old.bench.pair old.start.items t p h in
     let was = old.start.items ∷ old.bench.pair.rows in
-    let k = c.clear-behind.ensures.clearing raw given (t - 1) e begins in
+    let k = c.clear-reached.ensures.clearing raw given (t - 1) e begins in
     let (runs, same) = c.take_back.ensures.runs raw was e k.runs
-    (c.clear-behind.ensures.undoes raw given (t - 1) was e begins (undoes_nothing c.args.cleared.now.items was c.requires.empty)) in
+    (c.clear-reached.ensures.undoes raw given (t - 1) was e begins (undoes_nothing c.args.cleared.now.items was c.requires.empty)) in
     reducing_named raw given new.bench.pair new.property old.property new.start.items t p
     (c.take_back.ensures.property ∙ k.property_is ∙ sym h.property_is)
     (taken_back raw given old.property old.bench.pair old.start.items t p h new.bench.pair new.start.items runs same)
