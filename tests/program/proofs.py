@@ -144,8 +144,7 @@ def long_proofs(rows, made, fillers, rng):
     begin, rest = steps[:late], steps[late:]
     assert 2 * late > len(steps) > 5000
     for name, spelled in SPELLINGS:
-        length, letter = len(spelled(begin)), name == "binary"
-        assert length > BLOCK
+        assert len(spelled(begin)) > BLOCK
         cut = spelled([*begin, first])[:-2]
         for what, proof, fault in (
                 ("right", spelled(steps), None),
@@ -155,8 +154,7 @@ def long_proofs(rows, made, fillers, rng):
                 ("with a step that does not follow", spelled([*begin, (False, [32]), *rest]), f"step {late + 1}"),
                 ("without a step that is needed", spelled(begin + rest[1:]), f"step {needs}"),
                 ("with such a step deleted", spelled([*begin, first, deleted(first), *rest[1:]]), f"step {needs + 2}"),
-                ("with a variable over the last", spelled([*begin, (False, [VARIABLES + 1]), *rest]),
-                 f"text at {length + letter}"),
+                ("with a variable of its own", spelled([*begin, (False, [VARIABLES + 1]), *rest]), None),
                 ("cut off within a step", cut, f"text at {len(cut)}")):
             wanted = REFUTED if fault is None else refused(f"proof: {fault}")
             rows.ends(f"a long one, {name}, {what}", "refute --frames 1 large proof", wanted, proof=proof)

@@ -180,7 +180,7 @@ formula, the answer is unreachable within K: no run has a frame before frame K
 at which property P is 1 and all constraints were 1 so far, whatever values are
 unknown.
 
-A literal of another variable than those of the formula is rejected. Deletions
+A number over the formula's variables names one of the proof's own. Deletions
 are optional. An empty file serves if unit propagation alone refutes the
 formula. The solver need not be trusted.
 

@@ -58,6 +58,7 @@ fn check_steps<R: Read>(
         let Some(kind) = steps.next(proof)? else {
             return Err(ProofFault::NoRefutation);
         };
+        refutation.add_variables(steps.variables())?;
         take_step(refutation, kind, steps.clause(), number)?;
     }
     Err(ProofFault::NoRefutation)

@@ -1,1 +1,2 @@
+pub mod RenamingLemmas
 pub mod TakingLemmas

@@ -5,6 +5,7 @@ mod binary;
 mod bytes;
 mod fault;
 mod literal;
+mod names;
 mod reader;
 mod spelling;
 mod step;

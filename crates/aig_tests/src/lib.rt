@@ -21,6 +21,8 @@ mod levels;
 #[cfg(test)]
 mod literals;
 #[cfg(test)]
+mod own_variables;
+#[cfg(test)]
 mod parts;
 #[cfg(test)]
 mod reader;

@@ -23,7 +23,7 @@ use Rattle.aig_sat.specs.declared.proof.step.StepKind.TheVariants.{Add, Delete}
 use Rattle.aig_sat.specs.model.ModelText.{IsSpace, number_text}
 use Rattle.aig_sat.specs.proof.ProofBytes.{Groups, SpellsLiterals, first_byte}
 use Rattle.aig_sat.specs.proof.ProofText.{EndsStep, Gap, IsBlank, SpellsClause, SpellsStep}
-use Rattle.aig_sat.specs.proof.Steps.{BeginsSo, Block, text_to_come, bytes_to_come}
+use Rattle.aig_sat.specs.proof.Steps.{AreRenamed, BeginsSo, Block, text_to_come, bytes_to_come}
 use Rattle.aig_sat.specs.proof.state.Taking.{Begins, Ends, GoesOn, LeadsAll, LeadsBy, LeadsClause, LeadsGap, LeadsLiterals, LeadsStep, LeadsWord, TakesBytes, TakesText, held, last_byte, sign}
 use Rattle.aig_sat.proofs.models.DigitLemmas.{digit_joins}
 
@@ -370,14 +370,16 @@ leads_end Binary f a b c l m n literals (xs, first, took) (ys, second, took') = 
   bytes_then a b c l m n xs ys took took',
 )
 
-pub step_taken : (spelling : Spelling) (f : Bool) (a b c : Block) (l m n : Option (List ℕ)) (kind : StepKind) (clause : List ℕ)
-    → Begins spelling a b l m (Some kind) → Ends spelling f b c m n clause
-    → GoesOn spelling f a c l n clause (Some kind)
-step_taken Text f a b c l m n kind clause (xs, first, took) (ys, second, took') =
-    (xs ++ ys, first f ys clause second, (text_then took took').come)
-step_taken Binary f a b c l m n kind clause took (ys, second, took') = (
+pub step_taken : (spelling : Spelling) (f : Bool) (a b c : Block) (l m n : Option (List ℕ)) (kind : StepKind) (formula : ℕ)
+    (spelled clause : List ℕ) → Begins spelling a b l m (Some kind) → Ends spelling f b c m n spelled
+    → AreRenamed formula spelled clause → GoesOn spelling f formula a c l n clause (Some kind)
+step_taken Text f a b c l m n kind formula spelled clause (xs, first, took) (ys, second, took') meant =
+    (xs ++ ys, spelled, first f ys spelled second, meant, (text_then took took').come)
+step_taken Binary f a b c l m n kind formula spelled clause took (ys, second, took') meant = (
   first_byte kind ∷ ys,
+  spelled,
   record { rest = ys; bytes_are = refl; spelled = second },
+  meant,
   bytes_then a b c l m n (first_byte kind ∷ []) ys took took',
 )
 

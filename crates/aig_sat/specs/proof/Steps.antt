@@ -1,5 +1,5 @@
 -- What a reader of steps is seen as, and what reading a step does.
-use Rattle.std.specs.Prelude.{◌≡◌, ◌≢◌, ◌⊎◌, ℕ, ◌<◌, Bool, if◌then◌else◌, List, [], ◌∷◌, ◌++◌, All, Option, Some, None}
+use Rattle.std.specs.Prelude.{◌≡◌, ◌≢◌, ◌⊎◌, ℕ, ◌<◌, ◌≤◌, ◌%◌, Bool, if◌then◌else◌, List, [], ◌∷◌, ◌++◌, All, Option, Some, None}
 use Rattle.std.specs.Option.{is_none}
 use Rattle.aig_bytes.specs.Bytes.{before, IsAtEnd}
 use Rattle.aig_parts.specs.Literal.{variable}
@@ -16,17 +16,32 @@ pub record Block : Type 0 where
   pub ended : Bool
   pub previous : ℕ
 
--- how many variables the formula has, the clause of the last step that was read, how the proof is spelled where that
--- is known, and the bytes
+-- how many variables the formula has, how many there are with those of the proof's own, the clause of the last step
+-- that was read, how the proof is spelled where that is known, and the bytes
 pub record StepReader : Type 0 where
+  pub formula : ℕ
   pub variables : ℕ
   pub clause : List ℕ
   pub spelling : Option Spelling
   pub block : Block
 
--- each literal is one of the formula
+-- each literal is one of so many variables
 abbrev pub AreLiterals : ℕ → List ℕ → Type 0
 AreLiterals variables clause = All (λ l. variable l < variables) clause
+
+-- A literal of the formula is meant as it is spelled. One of another variable means a variable that is not the
+-- formula's, with the same sign.
+pub record IsRenamed (formula spelled meant : ℕ) : Type 0 where
+  pub same : variable spelled < formula → meant ≡ spelled
+  pub own : formula ≤ variable spelled → formula ≤ variable meant
+  pub sign : meant % 2 ≡ spelled % 2
+
+-- the same of each literal of a clause
+abbrev pub AreRenamed : ℕ → List ℕ → List ℕ → Type 0
+AreRenamed formula [] [] = Unit {0}
+AreRenamed formula [] (l ∷ meant) = ⊥
+AreRenamed formula (s ∷ spelled) [] = ⊥
+AreRenamed formula (s ∷ spelled) (l ∷ meant) = IsRenamed formula s l × AreRenamed formula spelled meant
 
 -- the bytes to come of a text, with the LF at its end, where the reader knows those that it has left
 abbrev pub text_to_come : Block → Option (List ℕ) → Option (List ℕ)
@@ -46,14 +61,17 @@ BeginsSo spelling (Some []) = Unit {0}
 BeginsSo Text (Some (b ∷ rest)) = b ≢ 97
 BeginsSo Binary (Some (b ∷ rest)) = (b ≡ 97) ⊎ (b ≡ 100)
 
--- The next bytes spell this step, which is the first one where it was not known yet how the proof is spelled. The
--- reader had these bytes left before it, and these after it.
+-- The next bytes spell this step, which is the first one where it was not known yet how the proof is spelled. Its
+-- clause has the literals that they spell, in order, but for the names of the proof's own variables. The reader had
+-- these bytes left before it, and these after it.
 abbrev pub ReadsStep : StepReader → StepReader → Option (List ℕ) → Option (List ℕ) → StepKind → Option Spelling → Type 0
-ReadsStep old new left left' kind (Some Text) = (text : List ℕ)
-    × SpellsStep (is_none old.spelling) old.block.previous text kind new.clause
+ReadsStep old new left left' kind (Some Text) = (text : List ℕ) × (spelled : List ℕ)
+    × SpellsStep (is_none old.spelling) old.block.previous text kind spelled
+    × AreRenamed old.formula spelled new.clause
     × (text_to_come old.block left ≡ before text (text_to_come new.block left'))
-ReadsStep old new left left' kind (Some Binary) = (bytes : List ℕ)
-    × SpellsBinaryStep bytes kind new.clause
+ReadsStep old new left left' kind (Some Binary) = (bytes : List ℕ) × (spelled : List ℕ)
+    × SpellsBinaryStep bytes kind spelled
+    × AreRenamed old.formula spelled new.clause
     × (bytes_to_come old.block left ≡ before bytes (bytes_to_come new.block left'))
 ReadsStep old new left left' kind None = ⊥
 

@@ -1,20 +1,24 @@
 //! The steps of a proof, as text and in the binary form.
-ghost use Rattle.std.specs.Prelude.{◌≡◌, ◌+◌, ◌^◌, ◌<◌, [], IfOk, IfSome, OnOk, Some, None, false};
+ghost use Rattle.std.specs.Prelude.{◌≡◌, ◌+◌, ◌^◌, ◌<◌, ◌≤◌, [], IfOk, IfSome, OnOk, Some, None, false};
 ghost use Rattle.aig_parts.specs.Literal.{variable};
 ghost use Rattle.aig_sat.specs.proof.Reads.{reads_failed};
-ghost use Rattle.aig_sat.specs.proof.Steps.{AreLiterals, BeginsSo, Reads, bytes_to_come};
+ghost use Rattle.aig_sat.specs.proof.Steps.{AreLiterals, AreRenamed, BeginsSo, Reads, bytes_to_come};
 ghost use Rattle.aig_sat.specs.proof.state.Taking.{Begins, Ends, GoesOn, Keeps, LeadsBy, to_take};
 
 use crate::proof::binary::{binary_kind, binary_literal};
 use crate::proof::bytes::ProofBytes;
 use crate::proof::fault::ProofFault;
+use crate::proof::names::Names;
 use crate::proof::spelling::{Spelling, spelling_of};
 use crate::proof::step::StepKind;
 use crate::proof::text::{text_kind, text_literal};
-use aig_bytes::Read;
+use aig_bytes::{Memory, Read};
 use aig_parts::Lit;
 use std::alloc::Global;
 use std::marker::Model;
+
+/// The greatest number of a variable.
+const MOST: u32 = 2_147_483_647;
 
 /// Looks at the first bytes of a proof, and takes none.
 fn look<R: Read>(bytes: &mut ProofBytes, reader: &mut R) -> Result<Spelling, ProofFault>
@@ -97,30 +101,47 @@ fn next_kind<R: Read>(
     }
 }
 
+/// Takes a clause as it was read, with the variables that the names in it have.
+fn rename(names: &mut Names, spelled: &[Lit], clause: &mut Vec<Lit>) -> Result<(), Memory>
+    ensures formula { names.new.formula ≡ names.old.formula }
+    ensures never_fewer { names.old.own ≤ names.new.own }
+    ensures literals { AreLiterals (names.new.formula + names.new.own) clause.new.items }
+    ensures renamed { OnOk result (AreRenamed names.old.formula spelled.now clause.new.items) }
+{
+    clause.clear();
+    for literal in spelled {
+        clause.push(names.literal(*literal)?)?;
+    }
+    Ok(())
+}
+
 /// Reads the steps of a proof one by one. It keeps the clause of the last one, and a block of bytes that were read.
 #[derive(Drop)]
 pub struct ProofReader {
     bytes: ProofBytes,
     // `None` until the first step is asked for.
     spelling: Option<Spelling>,
-    variables: u32,
+    names: Names,
+    // The last clause as it was spelled.
+    spelled: Vec<Lit>,
     clause: Vec<Lit>,
 }
 
 impl Model for ProofReader {
-    ghost use Rattle.std.specs.Prelude.{◌<◌, ◌^◌};
+    ghost use Rattle.std.specs.Prelude.{◌+◌};
     ghost use Rattle.aig_sat.specs.proof.Steps.{StepReader, AreLiterals};
 
     ghost Value = { StepReader };
 
     ghost view = { λ r. record {
-      variables = r.variables;
+      formula = r.names.formula;
+      variables = r.names.formula + r.names.own;
       clause = r.clause.items;
       spelling = r.spelling;
       block = r.bytes;
     } };
 
-    ghost invariant = { λ r. AreLiterals r.variables r.clause.items × (r.variables < 2 ^ 31) };
+    ghost invariant = { λ r. AreLiterals (r.names.formula + r.names.own) r.clause.items };
 }
 
 impl ProofReader {
@@ -128,6 +149,7 @@ impl ProofReader {
     pub fn new(alloc: Global, variables: u32) -> ProofReader
         requires { variables < 2 ^ 31 }
         ensures { result ≡ record {
+          formula = variables;
           variables = variables;
           clause = [];
           spelling = None;
@@ -137,7 +159,8 @@ impl ProofReader {
         ProofReader {
             bytes: ProofBytes::new(),
             spelling: None,
-            variables,
+            names: Names::new(alloc, variables),
+            spelled: Vec::new(alloc),
             clause: Vec::new(alloc),
         }
     }
@@ -147,8 +170,17 @@ impl ProofReader {
         ensures clause { result.now ≡ self.now.clause }
         ensures literals { AreLiterals self.now.variables self.now.clause }
     {
-        let _variables = self.variables;
+        let _variables = self.names.variables();
         &self.clause
+    }
+
+    /// How many variables there are: those of the formula, and those of the proof's own that were named so far. The
+    /// formula's come first, and the others follow in the order in which they were first named.
+    pub fn variables(&self) -> u32
+        ensures variables { result ≡ self.now.variables }
+        ensures bounded { result < 2 ^ 31 }
+    {
+        self.names.variables()
     }
 
     /// How the proof is spelled. The first call looks at the first bytes.
@@ -159,6 +191,7 @@ impl ProofReader {
         ensures letter { IfOk result (λ spelling. self.old.spelling ≡ None →
             BeginsSo spelling (bytes_to_come self.old.block (R.left reader.old))) }
         ensures stays { (s : Spelling) → self.old.spelling ≡ Some s → self.new.spelling ≡ Some s }
+        ensures formula { self.new.formula ≡ self.old.formula }
         ensures variables { self.new.variables ≡ self.old.variables }
         ensures literals { AreLiterals self.new.variables self.new.clause }
     {
@@ -177,11 +210,12 @@ impl ProofReader {
         spelling: Spelling,
         is_first: bool,
     ) -> Result<Option<StepKind>, ProofFault>
-        ensures variables { self.new.variables ≡ self.old.variables }
+        ensures formula { self.new.formula ≡ self.old.formula }
+        ensures variables { self.old.variables ≤ self.new.variables }
         ensures spelling { self.new.spelling ≡ self.old.spelling }
         ensures literals { AreLiterals self.new.variables self.new.clause }
         ensures count { R.failures reader.new ≡ R.failures reader.old + reads_failed result }
-        ensures step { IfOk result (λ kind. GoesOn spelling is_first self.old.block self.new.block
+        ensures step { IfOk result (λ kind. GoesOn spelling is_first self.old.formula self.old.block self.new.block
             (R.left reader.old) (R.left reader.new) self.new.clause kind) }
     {
         let Some(kind) = next_kind(spelling, &mut self.bytes, reader)? else {
@@ -191,19 +225,21 @@ impl ProofReader {
             spelling,
             &mut self.bytes,
             reader,
-            self.variables,
+            MOST,
             is_first,
-            &mut self.clause,
+            &mut self.spelled,
         )?;
+        rename(&mut self.names, &self.spelled, &mut self.clause)?;
         Ok(Some(kind))
     }
 
     /// Reads the next step, and returns what it does with its clause; `None` at the end. The first call tells a text
-    /// from the binary form by the first bytes. It rejects bytes that spell no step, a first step of a text that does
-    /// not end its line, and literals of other variables than the formula's. Memory is taken only for literals that
-    /// were read.
+    /// from the binary form by the first bytes. It rejects bytes that spell no step, and a first step of a text that
+    /// does not end its line. A number over the formula's last names a variable of the proof's own, which is made where
+    /// it is first read. Memory is taken only for literals that were read, whatever their numbers are.
     pub fn next<R: Read>(&mut self, reader: &mut R) -> Result<Option<StepKind>, ProofFault>
-        ensures variables { self.new.variables ≡ self.old.variables }
+        ensures formula { self.new.formula ≡ self.old.formula }
+        ensures variables { self.old.variables ≤ self.new.variables }
         ensures literals { AreLiterals self.new.variables self.new.clause }
         ensures count { R.failures reader.new ≡ R.failures reader.old + reads_failed result }
         ensures spelling { (s : Spelling) → self.old.spelling ≡ Some s → self.new.spelling ≡ Some s }

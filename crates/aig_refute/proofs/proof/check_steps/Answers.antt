@@ -8,7 +8,7 @@ pub loop-number-preserved : goal.loop-number-preserved
 loop-number-preserved g c = record {
   keeps = λ values s.
       let (others, met) = c.loop-number.invariant.keeps values s in
-      c.in_ok-take_step.ensures.keeps others met;
+      c.in_ok-take_step.ensures.keeps others (c.add_variables.ensures others met);
   count = omega (arith, c.in_ok-kind.ensures.count);
 }
 

@@ -8,7 +8,7 @@ use Rattle.aig_sat.specs.declared.proof.step.StepKind.{StepKind}
 use Rattle.aig_sat.specs.model.ModelText.{IsSpace, number_text}
 use Rattle.aig_sat.specs.proof.ProofText.{EndsStep, Gap, SpellsClause, SpellsStep}
 use Rattle.aig_sat.specs.proof.ProofBytes.{SpellsBinaryStep, SpellsLiterals, first_byte}
-use Rattle.aig_sat.specs.proof.Steps.{Block, text_to_come, bytes_to_come}
+use Rattle.aig_sat.specs.proof.Steps.{AreRenamed, Block, text_to_come, bytes_to_come}
 
 -- the bytes from start to end
 abbrev pub held : ℕ → ℕ → List ℕ → List ℕ
@@ -115,10 +115,11 @@ Begins Binary old new left left' (Some kind) = TakesBytes old new left left' (fi
 Begins Binary old new left left' None = IsAtEnd (bytes_to_come old left)
 
 -- a step was taken, or there is none
-abbrev pub GoesOn : Spelling → Bool → Block → Block → Option (List ℕ) → Option (List ℕ) → List ℕ → Option StepKind → Type 0
-GoesOn Text is_first old new left left' clause (Some kind) = (taken : List ℕ)
-    × SpellsStep is_first old.previous taken kind clause × (text_to_come old left ≡ before taken (text_to_come new left'))
-GoesOn Text is_first old new left left' clause None = Begins Text old new left left' None
-GoesOn Binary is_first old new left left' clause (Some kind) = (taken : List ℕ)
-    × SpellsBinaryStep taken kind clause × TakesBytes old new left left' taken
-GoesOn Binary is_first old new left left' clause None = IsAtEnd (bytes_to_come old left)
+abbrev pub GoesOn : Spelling → Bool → ℕ → Block → Block → Option (List ℕ) → Option (List ℕ) → List ℕ → Option StepKind → Type 0
+GoesOn Text is_first formula old new left left' clause (Some kind) = (taken : List ℕ) × (spelled : List ℕ)
+    × SpellsStep is_first old.previous taken kind spelled × AreRenamed formula spelled clause
+    × (text_to_come old left ≡ before taken (text_to_come new left'))
+GoesOn Text is_first formula old new left left' clause None = Begins Text old new left left' None
+GoesOn Binary is_first formula old new left left' clause (Some kind) = (taken : List ℕ) × (spelled : List ℕ)
+    × SpellsBinaryStep taken kind spelled × AreRenamed formula spelled clause × TakesBytes old new left left' taken
+GoesOn Binary is_first formula old new left left' clause None = IsAtEnd (bytes_to_come old left)

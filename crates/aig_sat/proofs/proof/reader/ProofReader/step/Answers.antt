@@ -1,4 +1,5 @@
-use Rattle.std.proofs.Common.{Some, subst}
+use Rattle.std.proofs.Common.{ℕ, List, Some, subst}
+use Rattle.aig_sat.specs.proof.Steps.{AreRenamed}
 use Rattle.aig_sat.specs.proof.state.Taking.{Begins}
 use Rattle.aig_sat.proofs.reading.TakingLemmas.{step_taken}
 use Rattle.aig_sat.proofs.proof.reader.ProofReader.step.Goals as goal
@@ -15,5 +16,8 @@ returns-clause-step g c =
     let m = left c.next_kind.new.reader in
     let n = left c.read_clause.new.reader in
     let begins : Begins s a b l m (Some c.in-Some.kind) = subst (Begins s a b l m) c.in-Some.is c.in_ok-kind.ensures.kind in
-    rw (← c.self.view_is) (step_taken s f a b new l m n c.in-Some.kind c.read_clause.new.clause.items begins
-    c.in_ok-read_clause.ensures.spelled)
+    let formula = c.self.inside.names.formula in
+    let meant : AreRenamed formula c.read_clause.new.clause.items c.rename.new.clause.items =
+    subst (λ (xs : List ℕ). AreRenamed formula xs c.rename.new.clause.items) c.deref.ensures.value c.in_ok-rename.ensures.renamed in
+    rw (← c.self.view_is) (step_taken s f a b new l m n c.in-Some.kind formula
+    c.read_clause.new.clause.items c.rename.new.clause.items begins c.in_ok-read_clause.ensures.spelled meant)

@@ -1,0 +1,168 @@
+//! The variables that a proof names.
+ghost use Rattle.std.specs.Prelude.{◌≡◌, ◌+◌, ◌^◌, ◌<◌, ◌≤◌, IfOk, IsTrue, length};
+ghost use Rattle.aig_parts.specs.Literal.{variable};
+ghost use Rattle.aig_sat.specs.proof.Steps.{IsRenamed};
+
+use aig_bytes::Memory;
+use aig_parts::Lit;
+use std::alloc::Global;
+
+/// The slots of a node: one for each hexadecimal digit.
+const WIDTH: usize = 16;
+
+/// The greatest number of variables.
+const MOST: u32 = 2_147_483_647;
+
+/// The variables of the formula, and those of the proof's own, which are behind them in the order in which they were
+/// first named. A look takes eight steps whatever a proof names, and a new name at most 512 bytes.
+#[derive(Drop)]
+pub(crate) struct Names {
+    // How many variables the formula has.
+    pub(crate) formula: u32,
+    // How many variables of its own the proof has named.
+    pub(crate) own: u32,
+    // A tree of the names by their eight hexadecimal digits, the highest first. A slot has the place of the node for
+    // the next digit, or at the last digit a count: the name was the first, the second and so on. 0 stands for nothing.
+    slots: Vec<u32>,
+    ghost bounded: { formula + own < 2 ^ 31 },
+}
+
+/// The highest of eight hexadecimal digits.
+fn first_digit(number: u32) -> usize
+    ensures { result < 16 }
+{
+    (number / 0x1000_0000) as usize
+}
+
+impl Names {
+    /// The formula has so many variables, and the proof none of its own.
+    pub(crate) fn new(alloc: Global, formula: u32) -> Names
+        requires { formula < 2 ^ 31 }
+        ensures formula { result.formula ≡ formula }
+        ensures own { result.own ≡ 0 }
+    {
+        Names {
+            formula,
+            own: 0,
+            slots: Vec::new(alloc),
+        }
+    }
+
+    /// How many variables there are.
+    pub(crate) fn variables(&self) -> u32
+        ensures { result ≡ self.now.formula + self.now.own }
+    {
+        self.formula + self.own
+    }
+
+    // Whether a node is at this place, which is not the first node.
+    fn has_node(&self, place: usize) -> bool
+        ensures { IsTrue result → place + 16 ≤ length self.now.slots.items }
+    {
+        place > 0 && place <= self.slots.len().saturating_sub(WIDTH)
+    }
+
+    // Adds a node, and returns its place.
+    fn add_node(&mut self) -> Result<u32, Memory>
+        ensures formula { self.new.formula ≡ self.old.formula }
+        ensures own { self.new.own ≡ self.old.own }
+        ensures more { length self.old.slots.items ≤ length self.new.slots.items }
+        ensures node { IfOk result (λ place. place + 16 ≤ length self.new.slots.items) }
+    {
+        let Ok(place) = u32::try_from(self.slots.len()) else {
+            return Err(Memory);
+        };
+        self.slots.extend_from_slice(&[0; WIDTH])?;
+        Ok(place)
+    }
+
+    // The place of the first node.
+    fn root(&mut self) -> Result<usize, Memory>
+        ensures formula { self.new.formula ≡ self.old.formula }
+        ensures own { self.new.own ≡ self.old.own }
+        ensures node { IfOk result (λ place. place + 16 ≤ length self.new.slots.items) }
+    {
+        if self.slots.len() >= WIDTH {
+            return Ok(0);
+        }
+        Ok(self.add_node()? as usize)
+    }
+
+    // The place of the node that a slot leads to.
+    fn node_below(&mut self, slot: usize) -> Result<usize, Memory>
+        requires { slot < length self.old.slots.items }
+        ensures formula { self.new.formula ≡ self.old.formula }
+        ensures own { self.new.own ≡ self.old.own }
+        ensures node { IfOk result (λ place. place + 16 ≤ length self.new.slots.items) }
+    {
+        let place = self.slots[slot] as usize;
+        if self.has_node(place) {
+            return Ok(place);
+        }
+        let added = self.add_node()?;
+        self.slots[slot] = added;
+        Ok(added as usize)
+    }
+
+    // The slot of a name's last digit.
+    fn slot_of(&mut self, name: u32) -> Result<usize, Memory>
+        ensures formula { self.new.formula ≡ self.old.formula }
+        ensures own { self.new.own ≡ self.old.own }
+        ensures slot { IfOk result (λ slot. slot < length self.new.slots.items) }
+    {
+        let mut node = self.root()?;
+        let mut digits = name;
+        for _ in 0..7 {
+            node = self.node_below(node + first_digit(digits))?;
+            digits = digits.wrapping_mul(16);
+        }
+        Ok(node + first_digit(digits))
+    }
+
+    // Makes the next variable for the name of a slot. There always is one, since no more numbers are over the formula's.
+    fn add_variable(&mut self, slot: usize) -> Result<u32, Memory>
+        requires { slot < length self.old.slots.items }
+        ensures formula { self.new.formula ≡ self.old.formula }
+        ensures never_fewer { self.old.own ≤ self.new.own }
+        ensures own { IfOk result (λ v. self.old.formula ≤ v) }
+        ensures below { IfOk result (λ v. v < self.new.formula + self.new.own) }
+    {
+        let variable = self.variables();
+        if variable >= MOST {
+            return Err(Memory);
+        }
+        self.own += 1;
+        self.slots[slot] = self.own;
+        Ok(variable)
+    }
+
+    // The variable of the proof's own that has this name.
+    fn own_variable(&mut self, name: u32) -> Result<u32, Memory>
+        ensures formula { self.new.formula ≡ self.old.formula }
+        ensures never_fewer { self.old.own ≤ self.new.own }
+        ensures own { IfOk result (λ v. self.old.formula ≤ v) }
+        ensures below { IfOk result (λ v. v < self.new.formula + self.new.own) }
+    {
+        let slot = self.slot_of(name)?;
+        let count = self.slots[slot];
+        if count > 0 && count <= self.own {
+            return Ok(self.formula + (count - 1));
+        }
+        self.add_variable(slot)
+    }
+
+    /// The literal that a proof spells so. A variable that is not the formula's gets the next free number where it is
+    /// first named.
+    pub(crate) fn literal(&mut self, spelled: Lit) -> Result<Lit, Memory>
+        ensures formula { self.new.formula ≡ self.old.formula }
+        ensures never_fewer { self.old.own ≤ self.new.own }
+        ensures renamed { IfOk result (λ l. IsRenamed self.old.formula spelled l) }
+        ensures below { IfOk result (λ l. variable l < self.new.formula + self.new.own) }
+    {
+        if spelled.var() < self.formula {
+            return Ok(spelled);
+        }
+        let even = 2 * self.own_variable(spelled.var())?;
+        Ok(Lit::new(if spelled.is_neg() { even + 1 } else { even }))
+    }
+}
