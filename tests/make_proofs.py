@@ -15,7 +15,7 @@ import subprocess
 
 from library import reference
 from library.big_proofs import FOLDER, clauses_of, steps_of
-from library.plain_checker import Checker, outcome
+from library.plain_checker import Checker, outcome, outcome_from
 
 # Name, inputs, and how many neighbours of the first order change places in the second, and by which random numbers.
 CIRCUITS = (("parity", 28, 14, 0), ("long", 20, 20, 0))
@@ -113,25 +113,10 @@ def needed_clause(clauses, steps, most):
     checker = state_after(clauses, steps[:done])
     for at, clause in enumerate(clauses):
         if checker.at[frozenset(clause)] and checker.true.isdisjoint(clause):
-            number = outcome_from(checker, done, [(True, clause), *steps[done:]])
+            number = outcome_from(copy.deepcopy(checker), [(True, clause), *steps[done:]], done + 1)
             if number:
                 return at, done, number
     raise ValueError("no clause is needed")
-
-
-def outcome_from(checker, done, steps):
-    """The outcome of further steps."""
-    checker = copy.deepcopy(checker)
-    for number, (is_deleted, clause) in enumerate(steps, done + 1):
-        if checker.refuted:
-            return None
-        if is_deleted:
-            checker.delete(clause)
-        elif not checker.follows(clause):
-            return number
-        else:
-            checker.add(clause)
-    return None if checker.refuted else 0
 
 
 def main():

@@ -73,11 +73,11 @@ class Checker:
         return is_following
 
 
-def outcome(clauses, steps):
-    """None where the steps refute the clauses, else the number of the first step that does not follow, or 0 where none
-    is wrong and they do not suffice. A step is whether its clause is deleted, and the clause."""
-    checker = Checker(clauses)
-    for number, (is_deleted, clause) in enumerate(steps, 1):
+def outcome_from(checker, steps, first=1):
+    """None where the steps, whose numbers go on from the first, refute the clauses of a checker, else the number of the
+    first step that does not follow, or 0 where none is wrong and they do not suffice. A step is whether its clause is
+    deleted, and the clause."""
+    for number, (is_deleted, clause) in enumerate(steps, first):
         if checker.refuted:
             return None
         if is_deleted:
@@ -87,3 +87,8 @@ def outcome(clauses, steps):
         else:
             checker.add(clause)
     return None if checker.refuted else 0
+
+
+def outcome(clauses, steps):
+    """The outcome of all steps of a proof about the clauses."""
+    return outcome_from(Checker(clauses), steps)
