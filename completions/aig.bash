@@ -4,18 +4,18 @@
 _aig() {
     local commands="toaig sim wave bench unroll check cnf info select witness refute reduce help"
     local -A options=(
-        [toaig]="--to --explain --help"
-        [sim]="--explain --help"
-        [wave]="--witness --explain --help"
-        [bench]="--circuit-out --stimulus-out --explain --help"
-        [unroll]="--frames --to --map --explain --help"
-        [check]="--trace --explain --help"
-        [cnf]="--frames --property --step --explain --help"
-        [info]="--names --explain --help"
-        [select]="--to --from --as --property --explain --help"
-        [witness]="--model --frames --step --property --explain --help"
-        [refute]="--frames --property --step --explain --help"
-        [reduce]="--explain --help"
+        [toaig]="--to --explain --progress --help"
+        [sim]="--explain --progress --help"
+        [wave]="--witness --explain --progress --help"
+        [bench]="--circuit-out --stimulus-out --explain --progress --help"
+        [unroll]="--frames --to --map --explain --progress --help"
+        [check]="--trace --explain --progress --help"
+        [cnf]="--frames --property --step --explain --progress --help"
+        [info]="--names --explain --progress --help"
+        [select]="--to --from --as --property --explain --progress --help"
+        [witness]="--model --frames --step --property --explain --progress --help"
+        [refute]="--frames --property --step --explain --progress --help"
+        [reduce]="--explain --progress --help"
     )
     # What the value of an option is: one of these words, a file, or a number.
     local -A values=(
@@ -41,8 +41,10 @@ _aig() {
     local first=1 words=("") joins="" i
     COMPREPLY=()
 
-    # The command, which --explain may precede.
-    ((COMP_CWORD > 1)) && [[ ${COMP_WORDS[1]} == --explain ]] && first=2
+    # The command, which --explain and --progress may precede.
+    while ((COMP_CWORD > first)) && [[ ${COMP_WORDS[first]} == --@(explain|progress) ]]; do
+        ((first++))
+    done
     local command=${COMP_WORDS[first]}
 
     # The words after the command. Bash splits `--to=aag` at `=`, if `=` is in COMP_WORDBREAKS.
@@ -78,7 +80,7 @@ _aig() {
     fi
     local value=${values["$command $option"]-}
     if ((COMP_CWORD == first)); then
-        _aig_reply "" -W "$commands --explain --help --version" -- "$command"
+        _aig_reply "" -W "$commands --explain --progress --help --version" -- "$command"
     elif [[ $command == help ]]; then
         _aig_reply "" -W "$commands" -- "$word"
     elif [[ $value == file ]]; then

@@ -21,6 +21,7 @@ from program.large_proofs import large_proofs
 from program.needs import needs
 from program.owners import owners
 from program.pages import pages
+from program.progress import progress
 from program.proofs import proofs
 from program.properties import properties
 from program.reduce import reduce
@@ -29,6 +30,7 @@ from program.replays import replays
 from program.select import select
 from program.sim import sim
 from program.talks import talks
+from program.terminals import terminals
 from program.toaig import toaig
 from program.unroll import unroll
 from program.wave import wave
@@ -40,7 +42,7 @@ PARTS = {"bench": bench, "kept": kept, "owners": owners, "descriptors": descript
          "info": info, "select": select, "witness": witness, "refute": refute, "proofs": proofs,
          "large_proofs": large_proofs, "properties": properties, "ample": ample, "reduce": reduce, "help": helps,
          "pages": pages, "completions": completions, "diagnostics": diagnostics, "explain": explain,
-         "explain_option": explain_option, "needs": needs, "talks": talks}
+         "explain_option": explain_option, "needs": needs, "talks": talks, "progress": progress, "terminals": terminals}
 
 if __name__ == "__main__":
     runs.main(__doc__, PARTS)

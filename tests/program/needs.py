@@ -52,6 +52,12 @@ def needs(program, tally, _):
                   ["bench", "two_gates", "two_gates.stim", "/dev/zero"]):
         write("two_gates.stim", "11\n")
         tally.compare(f"needs: {words} does not end", endless(program, words), ("no end", True))
+    for line in ("c", "d 2 4 0"):
+        with subprocess.Popen(["yes", line], stdout=subprocess.PIPE) as lines:
+            words = ["refute", "--frames", "1", "bad_input", "/dev/stdin"]
+            tally.compare(f"needs: a proof of {line!r} does not end", endless(program, words, lines.stdout),
+                          ("no end", True))
+            lines.kill()
     try:
         interrupted(program, tally, Refusing(program, "refuse_call"))
     except LeftOut as reason:
@@ -76,9 +82,9 @@ def names(program, tally):
                       program.run("info", "two_gates"))
 
 
-def endless(program, words):
+def endless(program, words, source=subprocess.DEVNULL):
     """Whether a run goes on for a while, and whether it takes little memory then."""
-    with subprocess.Popen([program.path, *words], stdin=subprocess.DEVNULL, stdout=subprocess.DEVNULL,
+    with subprocess.Popen([program.path, *words], stdin=source, stdout=subprocess.DEVNULL,
                           stderr=subprocess.DEVNULL) as run:
         try:
             return run.wait(timeout=1.5), False

@@ -2,9 +2,9 @@
 
 use aig_base::Memory;
 use aig_cli::{matches_of, odd_number, subcommand_of};
-use aig_explain::escaped;
 use aig_files::Exit;
 use aig_run::RunFault;
+use aig_terminal::escaped;
 use clap::ArgMatches;
 use clap::error::ErrorKind;
 use std::alloc::Global;

@@ -9,60 +9,65 @@ use aig_cli::{has_flag, number_of, number_or, subcommand_of, text_of, texts_of};
 use aig_cnf::{Goal, Query};
 use aig_files::{Exit, Kept, Part, RunFiles, open};
 use aig_format::Format;
+use aig_terminal::{Terminal, Tracked};
 use clap::ArgMatches;
-use std::fs::{Files, OpenFile};
+use std::fs::Files;
+use std::time::Clock;
 
 /// Returns the command that the arguments choose, with its options, and opens its files in the order of the arguments.
-pub fn open_chosen<'m, R: Files>(
-    rt: &R,
+pub fn open_chosen<'m, 't, R: Files + Clock + Eprint>(
+    terminal: &'t Terminal<'t, R>,
     matches: &'m ArgMatches<'_>,
-) -> Result<Command<'m, R::File>, Exit> {
+) -> Result<Command<'m, Tracked<'t, R, R::File>>, Exit> {
     match subcommand_of(matches) {
-        Some((name, matches)) => open_command(rt, name, matches),
+        Some((name, matches)) => open_command(terminal, name, matches),
         None => Err(Exit::NoCommand),
     }
 }
 
 /// Opens the files of a command. Its options are those that its own matches hold.
-fn open_command<'m, R: Files>(
-    rt: &R,
+fn open_command<'m, 't, R: Files + Clock + Eprint>(
+    terminal: &'t Terminal<'t, R>,
     name: &str,
     matches: &'m ArgMatches<'_>,
-) -> Result<Command<'m, R::File>, Exit>
+) -> Result<Command<'m, Tracked<'t, R, R::File>>, Exit>
     ensures options { IfOk result (HoldsOptions matches.now) }
 {
     match name {
-        "toaig" => open_toaig(rt, matches),
-        "sim" => open_sim(rt, matches),
-        "wave" => open_wave(rt, matches),
-        "bench" => open_bench(rt, matches),
-        "unroll" => open_unroll(rt, matches),
-        "check" => open_check(rt, matches),
-        "cnf" => open_cnf(rt, matches),
-        "info" => open_info(rt, matches),
-        "select" => open_select(rt, matches),
-        "witness" => open_witness(rt, matches),
-        "refute" => open_refute(rt, matches),
-        "reduce" => open_reduce(rt, matches),
+        "toaig" => open_toaig(terminal, matches),
+        "sim" => open_sim(terminal, matches),
+        "wave" => open_wave(terminal, matches),
+        "bench" => open_bench(terminal, matches),
+        "unroll" => open_unroll(terminal, matches),
+        "check" => open_check(terminal, matches),
+        "cnf" => open_cnf(terminal, matches),
+        "info" => open_info(terminal, matches),
+        "select" => open_select(terminal, matches),
+        "witness" => open_witness(terminal, matches),
+        "refute" => open_refute(terminal, matches),
+        "reduce" => open_reduce(terminal, matches),
         _ => Err(Exit::NoCommand),
     }
 }
 
 /// Opens the file that an argument names.
-fn open_named<R: Files>(
-    rt: &R,
+fn open_named<'t, R: Files + Clock + Eprint>(
+    terminal: &'t Terminal<'t, R>,
     matches: &ArgMatches<'_>,
     name: &str,
     part: Part,
-) -> Result<R::File, Exit> {
+) -> Result<Tracked<'t, R, R::File>, Exit> {
     match text_of(matches, name) {
-        Some(file) => open(rt, file, part),
+        Some(file) => open(terminal, file, part),
         None => Err(Exit::NoCommand),
     }
 }
 
-fn open_circuit<R: Files>(rt: &R, matches: &ArgMatches<'_>) -> Result<R::File, Exit> {
-    open_named(rt, matches, "CIRCUIT", Part::Circuit)
+fn open_circuit<'t, R: Files + Clock + Eprint>(
+    terminal: &'t Terminal<'t, R>,
+    matches: &ArgMatches<'_>,
+) -> Result<Tracked<'t, R, R::File>, Exit> {
+    open_named(terminal, matches, "CIRCUIT", Part::Circuit)
 }
 
 /// Returns the format to write.
@@ -121,50 +126,53 @@ fn section_of(matches: &ArgMatches<'_>, name: &str) -> PropertySection {
     }
 }
 
-fn open_toaig<'m, R: Files>(
-    rt: &R,
+fn open_toaig<'m, 't, R: Files + Clock + Eprint>(
+    terminal: &'t Terminal<'t, R>,
     matches: &'m ArgMatches<'_>,
-) -> Result<Command<'m, R::File>, Exit>
+) -> Result<Command<'m, Tracked<'t, R, R::File>>, Exit>
     ensures options { IfOk result (HoldsOptions matches.now) }
 {
     let to = format_of(matches)?;
-    let circuit = open_circuit(rt, matches)?;
+    let circuit = open_circuit(terminal, matches)?;
     Ok(Command::Toaig { to, circuit })
 }
 
-fn open_sim<'m, R: Files>(rt: &R, matches: &'m ArgMatches<'_>) -> Result<Command<'m, R::File>, Exit>
+fn open_sim<'m, 't, R: Files + Clock + Eprint>(
+    terminal: &'t Terminal<'t, R>,
+    matches: &'m ArgMatches<'_>,
+) -> Result<Command<'m, Tracked<'t, R, R::File>>, Exit>
     ensures options { IfOk result (HoldsOptions matches.now) }
 {
-    let circuit = open_circuit(rt, matches)?;
-    let stimulus = open_named(rt, matches, "STIM", Part::Stimulus)?;
+    let circuit = open_circuit(terminal, matches)?;
+    let stimulus = open_named(terminal, matches, "STIM", Part::Stimulus)?;
     Ok(Command::Sim { circuit, stimulus })
 }
 
-fn open_wave<'m, R: Files>(
-    rt: &R,
+fn open_wave<'m, 't, R: Files + Clock + Eprint>(
+    terminal: &'t Terminal<'t, R>,
     matches: &'m ArgMatches<'_>,
-) -> Result<Command<'m, R::File>, Exit>
+) -> Result<Command<'m, Tracked<'t, R, R::File>>, Exit>
     ensures options { IfOk result (HoldsOptions matches.now) }
 {
-    let circuit = open_circuit(rt, matches)?;
+    let circuit = open_circuit(terminal, matches)?;
     if has_flag(matches, "witness") {
-        let witness = open_named(rt, matches, "STIM", Part::Witness)?;
+        let witness = open_named(terminal, matches, "STIM", Part::Witness)?;
         Ok(Command::WaveWitness { circuit, witness })
     } else {
-        let stimulus = open_named(rt, matches, "STIM", Part::Stimulus)?;
+        let stimulus = open_named(terminal, matches, "STIM", Part::Stimulus)?;
         Ok(Command::Wave { circuit, stimulus })
     }
 }
 
-fn open_bench<'m, R: Files>(
-    rt: &R,
+fn open_bench<'m, 't, R: Files + Clock + Eprint>(
+    terminal: &'t Terminal<'t, R>,
     matches: &'m ArgMatches<'_>,
-) -> Result<Command<'m, R::File>, Exit>
+) -> Result<Command<'m, Tracked<'t, R, R::File>>, Exit>
     ensures options { IfOk result (HoldsOptions matches.now) }
 {
-    let circuit = open_circuit(rt, matches)?;
-    let stimulus = open_named(rt, matches, "STIM", Part::Stimulus)?;
-    let script = open_named(rt, matches, "SCRIPT", Part::Script)?;
+    let circuit = open_circuit(terminal, matches)?;
+    let stimulus = open_named(terminal, matches, "STIM", Part::Stimulus)?;
+    let script = open_named(terminal, matches, "SCRIPT", Part::Script)?;
     Ok(Command::Bench {
         circuit,
         stimulus,
@@ -173,15 +181,15 @@ fn open_bench<'m, R: Files>(
     })
 }
 
-fn open_unroll<'m, R: Files>(
-    rt: &R,
+fn open_unroll<'m, 't, R: Files + Clock + Eprint>(
+    terminal: &'t Terminal<'t, R>,
     matches: &'m ArgMatches<'_>,
-) -> Result<Command<'m, R::File>, Exit>
+) -> Result<Command<'m, Tracked<'t, R, R::File>>, Exit>
     ensures options { IfOk result (HoldsOptions matches.now) }
 {
     let frames = frames_of(matches)?;
     let to = format_of(matches)?;
-    let circuit = open_circuit(rt, matches)?;
+    let circuit = open_circuit(terminal, matches)?;
     let Some(map) = text_of(matches, "map") else {
         return Ok(Command::Unroll {
             frames,
@@ -201,14 +209,14 @@ fn open_unroll<'m, R: Files>(
     })
 }
 
-fn open_check<'m, R: Files>(
-    rt: &R,
+fn open_check<'m, 't, R: Files + Clock + Eprint>(
+    terminal: &'t Terminal<'t, R>,
     matches: &'m ArgMatches<'_>,
-) -> Result<Command<'m, R::File>, Exit>
+) -> Result<Command<'m, Tracked<'t, R, R::File>>, Exit>
     ensures options { IfOk result (HoldsOptions matches.now) }
 {
-    let circuit = open_circuit(rt, matches)?;
-    let witness = open_named(rt, matches, "WITNESS", Part::Witness)?;
+    let circuit = open_circuit(terminal, matches)?;
+    let witness = open_named(terminal, matches, "WITNESS", Part::Witness)?;
     Ok(Command::Check {
         with_trace: has_flag(matches, "trace"),
         circuit,
@@ -216,21 +224,24 @@ fn open_check<'m, R: Files>(
     })
 }
 
-fn open_cnf<'m, R: Files>(rt: &R, matches: &'m ArgMatches<'_>) -> Result<Command<'m, R::File>, Exit>
+fn open_cnf<'m, 't, R: Files + Clock + Eprint>(
+    terminal: &'t Terminal<'t, R>,
+    matches: &'m ArgMatches<'_>,
+) -> Result<Command<'m, Tracked<'t, R, R::File>>, Exit>
     ensures options { IfOk result (HoldsOptions matches.now) }
 {
     let query = query_of(matches)?;
-    let circuit = open_circuit(rt, matches)?;
+    let circuit = open_circuit(terminal, matches)?;
     Ok(Command::Cnf { query, circuit })
 }
 
-fn open_info<'m, R: Files>(
-    rt: &R,
+fn open_info<'m, 't, R: Files + Clock + Eprint>(
+    terminal: &'t Terminal<'t, R>,
     matches: &'m ArgMatches<'_>,
-) -> Result<Command<'m, R::File>, Exit>
+) -> Result<Command<'m, Tracked<'t, R, R::File>>, Exit>
     ensures options { IfOk result (HoldsOptions matches.now) }
 {
-    let circuit = open_circuit(rt, matches)?;
+    let circuit = open_circuit(terminal, matches)?;
     if has_flag(matches, "names") {
         Ok(Command::InfoNames { circuit })
     } else {
@@ -238,14 +249,14 @@ fn open_info<'m, R: Files>(
     }
 }
 
-fn open_select<'m, R: Files>(
-    rt: &R,
+fn open_select<'m, 't, R: Files + Clock + Eprint>(
+    terminal: &'t Terminal<'t, R>,
     matches: &'m ArgMatches<'_>,
-) -> Result<Command<'m, R::File>, Exit>
+) -> Result<Command<'m, Tracked<'t, R, R::File>>, Exit>
     ensures options { IfOk result (HoldsOptions matches.now) }
 {
     let to = format_of(matches)?;
-    let circuit = open_circuit(rt, matches)?;
+    let circuit = open_circuit(terminal, matches)?;
     Ok(Command::Select {
         selection: Selection {
             from: section_of(matches, "from"),
@@ -257,17 +268,17 @@ fn open_select<'m, R: Files>(
     })
 }
 
-fn open_witness<'m, R: Files>(
-    rt: &R,
+fn open_witness<'m, 't, R: Files + Clock + Eprint>(
+    terminal: &'t Terminal<'t, R>,
     matches: &'m ArgMatches<'_>,
-) -> Result<Command<'m, R::File>, Exit>
+) -> Result<Command<'m, Tracked<'t, R, R::File>>, Exit>
     ensures options { IfOk result (HoldsOptions matches.now) }
 {
     if text_of(matches, "model").is_some() {
-        return open_model_witness(rt, matches);
+        return open_model_witness(terminal, matches);
     }
-    let circuit = open_circuit(rt, matches)?;
-    let stimulus = open_named(rt, matches, "STIM", Part::Stimulus)?;
+    let circuit = open_circuit(terminal, matches)?;
+    let stimulus = open_named(terminal, matches, "STIM", Part::Stimulus)?;
     Ok(Command::Witness {
         property: number_of(matches, "P"),
         circuit,
@@ -275,15 +286,15 @@ fn open_witness<'m, R: Files>(
     })
 }
 
-fn open_model_witness<'m, R: Files>(
-    rt: &R,
+fn open_model_witness<'m, 't, R: Files + Clock + Eprint>(
+    terminal: &'t Terminal<'t, R>,
     matches: &'m ArgMatches<'_>,
-) -> Result<Command<'m, R::File>, Exit>
+) -> Result<Command<'m, Tracked<'t, R, R::File>>, Exit>
     ensures options { IfOk result (HoldsOptions matches.now) }
 {
     let query = query_of(matches)?;
-    let circuit = open_circuit(rt, matches)?;
-    let model = open_named(rt, matches, "model", Part::Model)?;
+    let circuit = open_circuit(terminal, matches)?;
+    let model = open_named(terminal, matches, "model", Part::Model)?;
     Ok(Command::ModelWitness {
         query,
         circuit,
@@ -291,16 +302,16 @@ fn open_model_witness<'m, R: Files>(
     })
 }
 
-fn open_refute<'m, R: Files>(
-    rt: &R,
+fn open_refute<'m, 't, R: Files + Clock + Eprint>(
+    terminal: &'t Terminal<'t, R>,
     matches: &'m ArgMatches<'_>,
-) -> Result<Command<'m, R::File>, Exit>
+) -> Result<Command<'m, Tracked<'t, R, R::File>>, Exit>
     ensures options { IfOk result (HoldsOptions matches.now) }
 {
     let frames = frames_of(matches)?;
     let property = property_of(matches);
-    let circuit = open_circuit(rt, matches)?;
-    let proof = open_named(rt, matches, "PROOF", Part::Proof)?;
+    let circuit = open_circuit(terminal, matches)?;
+    let proof = open_named(terminal, matches, "PROOF", Part::Proof)?;
     let Some(step) = text_of(matches, "step") else {
         return Ok(Command::Refute {
             frames,
@@ -309,7 +320,7 @@ fn open_refute<'m, R: Files>(
             proof,
         });
     };
-    let step = open(rt, step, Part::StepProof)?;
+    let step = open(terminal, step, Part::StepProof)?;
     Ok(Command::RefuteStep {
         frames,
         property,
@@ -319,14 +330,14 @@ fn open_refute<'m, R: Files>(
     })
 }
 
-fn open_reduce<'m, R: Files>(
-    rt: &R,
+fn open_reduce<'m, 't, R: Files + Clock + Eprint>(
+    terminal: &'t Terminal<'t, R>,
     matches: &'m ArgMatches<'_>,
-) -> Result<Command<'m, R::File>, Exit>
+) -> Result<Command<'m, Tracked<'t, R, R::File>>, Exit>
     ensures options { IfOk result (HoldsOptions matches.now) }
 {
-    let circuit = open_circuit(rt, matches)?;
-    let witness = open_named(rt, matches, "WITNESS", Part::Witness)?;
+    let circuit = open_circuit(terminal, matches)?;
+    let witness = open_named(terminal, matches, "WITNESS", Part::Witness)?;
     Ok(Command::Reduce { circuit, witness })
 }
 

@@ -18,10 +18,12 @@ use aig_commands::{cnf, info, select, toaig, unroll};
 use aig_files::{Exit, OutputFile, Part, output, read_whole};
 use aig_format::Format;
 use aig_run::RunFault;
+use aig_terminal::Terminal;
 use std::alloc::Global;
 use std::fs::{Files, Metadata};
 use std::io::Read;
 use std::os::fd::AsFd;
+use std::time::Clock;
 
 /// Writes a circuit in a format.
 pub fn toaig<R: AllocGlobal + Print, F: Read + Drop>(
@@ -52,8 +54,8 @@ pub fn unroll<R: AllocGlobal + Print, F: Read + Drop>(
 }
 
 /// Writes it, and to the file `map` what its inputs are. `opened` is the circuit's file, which the map must not replace.
-pub fn unroll_and_map<R: Files + AllocGlobal + Print, F: Read + Drop>(
-    rt: &R,
+pub fn unroll_and_map<R: Files + AllocGlobal + Print + Eprint + Clock, F: Read + Drop>(
+    terminal: &Terminal<'_, R>,
     frames: u32,
     to: Format,
     circuit: F,
@@ -65,14 +67,14 @@ where
     ensures done { OnOk result
         (IfSome (F.remaining circuit) (λ text. GoesWell (OfFile text (UnrollsKept frames to)))) }
 {
-    let circuit = read_whole(rt.alloc(), circuit, Part::Circuit)?;
+    let circuit = read_whole(terminal.alloc(), circuit, Part::Circuit)?;
     let file = circuit.as_slice();
-    let mut map = begin_map(rt, map, opened)?;
-    write_unrolled_and_map(rt, frames, to, file, &mut map)
+    let mut map = begin_map(terminal.runtime(), map, opened)?;
+    write_unrolled_and_map(terminal, frames, to, file, &mut map)
 }
 
-fn write_unrolled_and_map<R: Files + AllocGlobal + Print>(
-    rt: &R,
+fn write_unrolled_and_map<R: Files + AllocGlobal + Print + Eprint + Clock>(
+    terminal: &Terminal<'_, R>,
     frames: u32,
     to: Format,
     circuit: &[u8],
@@ -82,8 +84,8 @@ where
     R::File: AsFd,
     ensures { OnOk result (GoesWell (OfFile circuit.now (UnrollsKept frames to))) }
 {
-    let circuit = write_unrolled(rt, frames, to, circuit)?;
-    write_map(rt, &circuit, frames, map)
+    let circuit = write_unrolled(terminal, frames, to, circuit)?;
+    write_map(terminal.runtime(), &circuit, frames, map)
 }
 
 /// Writes the unrolled circuit, and returns the circuit that was read.

@@ -9,9 +9,11 @@ use aig_base::PropertySection;
 use aig_cnf::Query;
 use aig_files::{Exit, Kept};
 use aig_format::Format;
+use aig_terminal::Terminal;
 use std::fs::{Files, Metadata};
 use std::io::Read;
 use std::os::fd::AsFd;
+use std::time::Clock;
 
 /// Which properties of a circuit to keep, and where.
 #[derive(Clone, Copy)]
@@ -128,71 +130,74 @@ pub enum Command<'a, F> {
 
 impl<F: Read + Drop> Command<'_, F> {
     /// Runs the command, and writes its results to standard output.
-    pub fn run<R: Files + AllocGlobal + Print>(self, rt: &R) -> Result<(), Exit>
+    pub fn run<R: Files + AllocGlobal + Print + Eprint + Clock>(
+        self,
+        terminal: &Terminal<'_, R>,
+    ) -> Result<(), Exit>
     where
         R::File: AsFd,
         ensures ends { EndsAsMeant F.remaining self.entry result }
     {
         match self {
-            Command::Toaig { to, circuit } => toaig(rt, to, circuit),
-            Command::Sim { circuit, stimulus } => sim(rt, circuit, stimulus),
-            Command::Wave { circuit, stimulus } => wave(rt, circuit, stimulus),
-            Command::WaveWitness { circuit, witness } => wave_witness(rt, circuit, witness),
+            Command::Toaig { to, circuit } => toaig(terminal, to, circuit),
+            Command::Sim { circuit, stimulus } => sim(terminal, circuit, stimulus),
+            Command::Wave { circuit, stimulus } => wave(terminal, circuit, stimulus),
+            Command::WaveWitness { circuit, witness } => wave_witness(terminal, circuit, witness),
             Command::Bench {
                 circuit,
                 stimulus,
                 script,
                 kept,
-            } => bench(rt, circuit, stimulus, script, kept),
+            } => bench(terminal, circuit, stimulus, script, kept),
             Command::Unroll {
                 frames,
                 to,
                 circuit,
-            } => unroll(rt, frames, to, circuit),
+            } => unroll(terminal, frames, to, circuit),
             Command::UnrollAndMap {
                 frames,
                 to,
                 circuit,
                 file,
                 map,
-            } => unroll_and_map(rt, frames, to, circuit, &file, map),
+            } => unroll_and_map(terminal, frames, to, circuit, &file, map),
             Command::Check {
                 with_trace,
                 circuit,
                 witness,
-            } => check(rt, with_trace, circuit, witness),
-            Command::Cnf { query, circuit } => cnf(rt, query, circuit),
-            Command::Info { circuit } => info(rt, circuit),
-            Command::InfoNames { circuit } => info_names(rt, circuit),
+            } => check(terminal, with_trace, circuit, witness),
+            Command::Cnf { query, circuit } => cnf(terminal, query, circuit),
+            Command::Info { circuit } => info(terminal, circuit),
+            Command::InfoNames { circuit } => info_names(terminal, circuit),
             Command::Select {
                 selection,
                 to,
                 circuit,
-            } => select(rt, selection, to, circuit),
+            } => select(terminal, selection, to, circuit),
             Command::Witness {
                 property,
                 circuit,
                 stimulus,
-            } => witness(rt, property, circuit, stimulus),
+            } => witness(terminal, property, circuit, stimulus),
             Command::ModelWitness {
                 query,
                 circuit,
                 model,
-            } => model_witness(rt, query, circuit, model),
+            } => model_witness(terminal, query, circuit, model),
             Command::Refute {
                 frames,
                 property,
                 circuit,
                 proof,
-            } => refute(rt, frames, property, circuit, proof),
+            } => refute(terminal, frames, property, circuit, proof),
             Command::RefuteStep {
                 frames,
                 property,
                 circuit,
                 proof,
                 step,
-            } => refute_step(rt, frames, property, circuit, proof, step),
-            Command::Reduce { circuit, witness } => reduce(rt, circuit, witness),
+            } => refute_step(terminal, frames, property, circuit, proof, step),
+            Command::Reduce { circuit, witness } => reduce(terminal, circuit, witness),
         }
     }
 }

@@ -7,6 +7,7 @@ use aig_commands::{keep_circuit, keep_stimulus};
 use aig_files::{Exit, Kept, NewFile, OUTPUT, OutputFile, find, open_pipe};
 use aig_run::RunFault;
 use aig_sim::PlaneGrid;
+use aig_terminal::Shown;
 use std::fs::{Files, Metadata, OpenFile};
 use std::io;
 use std::os::fd::AsFd;
@@ -164,7 +165,8 @@ where
 {
     match output {
         OutputFile::NotGiven => Ok(()),
-        OutputFile::Device(device) => write_text(part, device),
+        // It may be a terminal.
+        OutputFile::Device(device) => write_text(part, &mut Shown::new(device)),
         OutputFile::Pipe(name) => write_pipe(rt, part, name),
         OutputFile::File(new) => write_file(part, new),
     }

@@ -14,44 +14,52 @@ mod witnesses;
 use aig_cli::has_flag;
 use aig_explain::{explain, is_asked_for};
 use aig_files::{Exit, reserve};
+use aig_terminal::{Terminal, Terminals, Tracked};
 use arguments::{parsed, with_odd_number};
 use chosen::{files_of, open_chosen};
 use clap::ArgMatches;
 use command::Command;
 use std::env::Env;
 use std::fs::Files;
+use std::io::IsTerminal;
 use std::os::fd::AsFd;
 use std::process::ExitCode;
+use std::time::Clock;
 
 fn main(rt: HostRuntime) -> ExitCode {
-    match run(&rt) {
+    let terminals = Terminals {
+        output: rt.stdout().is_terminal(),
+        error: rt.stderr().is_terminal(),
+    };
+    match run(&rt, terminals) {
         Ok(()) => ExitCode::from(0),
         Err(exit) => ExitCode::from(exit.status()),
     }
 }
 
 /// Runs what the arguments ask for. If that fails, the reason is printed already.
-fn run<R: Env + Files + AllocGlobal + Print + Eprint>(rt: &R) -> Result<(), Exit>
+fn run<R: Env + Files + AllocGlobal + Print + Eprint + Clock>(
+    rt: &R,
+    terminals: Terminals,
+) -> Result<(), Exit>
 where
     R::File: AsFd,
 {
     let _reserved = reported(rt, reserve(rt))?;
     let words = reported(rt, arguments::all(rt))?;
-    run_words(rt, words.as_slice())
+    run_words(rt, terminals, words.as_slice())
 }
 
-fn run_words<R: Env + Files + AllocGlobal + Print + Eprint>(
+fn run_words<R: Env + Files + AllocGlobal + Print + Eprint + Clock>(
     rt: &R,
+    terminals: Terminals,
     words: &[String],
 ) -> Result<(), Exit>
 where
     R::File: AsFd,
 {
     let matches = reported(rt, parsed(rt, words))?;
-    let done = match command_for(rt, &matches) {
-        Ok(command) => reported(rt, command.run(rt)),
-        Err(exit) => Err(exit.report(rt)),
-    };
+    let done = reported(rt, run_command(rt, terminals, &matches));
     if let (Err(exit), Some(files)) = (done, files_of(&matches)) {
         if has_flag(&matches, "explain") || is_asked_for(rt) {
             explain(rt, &files, exit);
@@ -60,14 +68,39 @@ where
     done
 }
 
-/// Returns the command that the arguments choose, unless one of its numbers is not written as numbers are.
-fn command_for<'m, R: Files + Eprint>(
+/// Runs the command that the arguments choose. The line that says how far it is is gone afterwards.
+fn run_command<R: Files + AllocGlobal + Print + Eprint + Clock>(
     rt: &R,
+    terminals: Terminals,
+    matches: &ArgMatches<'_>,
+) -> Result<(), Exit>
+where
+    R::File: AsFd,
+{
+    let terminal = Terminal::begin(rt, terminals, has_flag(matches, "progress"));
+    let done = run_on(&terminal, matches);
+    terminal.end();
+    done
+}
+
+fn run_on<R: Files + AllocGlobal + Print + Eprint + Clock>(
+    terminal: &Terminal<'_, R>,
+    matches: &ArgMatches<'_>,
+) -> Result<(), Exit>
+where
+    R::File: AsFd,
+{
+    command_for(terminal, matches)?.run(terminal)
+}
+
+/// Returns the command that the arguments choose, unless one of its numbers is not written as numbers are.
+fn command_for<'m, 't, R: Files + Eprint + Clock>(
+    terminal: &'t Terminal<'t, R>,
     matches: &'m ArgMatches<'_>,
-) -> Result<Command<'m, R::File>, Exit> {
-    match with_odd_number(rt, matches) {
+) -> Result<Command<'m, Tracked<'t, R, R::File>>, Exit> {
+    match with_odd_number(terminal.runtime(), matches) {
         Some(exit) => Err(exit),
-        None => open_chosen(rt, matches),
+        None => open_chosen(terminal, matches),
     }
 }
 

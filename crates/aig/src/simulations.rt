@@ -14,9 +14,11 @@ use aig_commands::{bench, sim, wave};
 use aig_files::{Exit, Kept, Part, output, read_whole};
 use aig_run::{RunFault, ScriptFault};
 use aig_sim::StimFault;
+use aig_terminal::Terminal;
 use std::fs::Files;
 use std::io::Read;
 use std::os::fd::AsFd;
+use std::time::Clock;
 
 /// Writes the trace of a stimulus.
 pub fn sim<R: AllocGlobal + Print, F: Read + Drop>(
@@ -49,8 +51,8 @@ pub fn wave<R: AllocGlobal + Print, F: Read + Drop>(
 }
 
 /// Writes the replies to a script, and the files of `--circuit-out` and `--stimulus-out`.
-pub fn bench<R: Files + AllocGlobal + Print, F: Read + Drop>(
-    rt: &R,
+pub fn bench<R: Files + AllocGlobal + Print + Eprint + Clock, F: Read + Drop>(
+    terminal: &Terminal<'_, R>,
     circuit: F,
     stimulus: F,
     script: F,
@@ -61,16 +63,16 @@ where
     ensures ends { IfSome (F.remaining circuit) (λ file. IfSome (F.remaining stimulus) (λ rows.
         Ends end_of (ForSomeText (RunFault.Script ScriptFault.Io) (LeavesBench file rows)) result)) }
 {
-    let circuit = read_whole(rt.alloc(), circuit, Part::Circuit)?;
-    let stimulus = read_whole(rt.alloc(), stimulus, Part::Stimulus)?;
+    let circuit = read_whole(terminal.alloc(), circuit, Part::Circuit)?;
+    let stimulus = read_whole(terminal.alloc(), stimulus, Part::Stimulus)?;
     let file = circuit.as_slice();
     let rows = stimulus.as_slice();
-    let mut files = written(BenchFiles::begin(rt, kept))?;
-    write_replies(rt, file, rows, script, &mut files)
+    let mut files = written(BenchFiles::begin(terminal.runtime(), kept))?;
+    write_replies(terminal, file, rows, script, &mut files)
 }
 
-fn write_replies<R: Files + AllocGlobal + Print, F: Read + Drop>(
-    rt: &R,
+fn write_replies<R: Files + AllocGlobal + Print + Eprint + Clock, F: Read + Drop>(
+    terminal: &Terminal<'_, R>,
     circuit: &[u8],
     stimulus: &[u8],
     script: F,
@@ -81,9 +83,9 @@ where
     ensures { Ends end_of (ForSomeText (RunFault.Script ScriptFault.Io) (LeavesBench circuit.now stimulus.now)) result }
 {
     let mut script = Std::new(script);
-    let mut out = output(rt);
-    match bench::bench(rt.alloc(), circuit, stimulus, &mut script, &mut out) {
-        Ok(bench) => written(files.write(rt, &bench)),
+    let mut out = output(terminal);
+    match bench::bench(terminal.alloc(), circuit, stimulus, &mut script, &mut out) {
+        Ok(bench) => written(files.write(terminal.runtime(), &bench)),
         Err(fault) => Err(Exit::Run(fault)),
     }
 }

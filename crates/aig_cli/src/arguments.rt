@@ -222,10 +222,18 @@ pub const NAMES: Argument = Argument {
 /// The options with a number: the name by which the value is found, and how messages show the option.
 pub const NUMBERS: [(&str, &str); 2] = [("K", "--frames <K>"), ("P", "--property <P>")];
 
-/// The option of every command. It may be before the command or after it.
+/// An option of every command, which may be before the command or after it: to explain a failure.
 pub static EXPLAIN: Argument = Argument {
     name: "explain",
     help: "If the run fails, explain why, and what to do",
+    kind: Kind::Flag,
+    need: Need::Never,
+};
+
+/// Another one: to show how far the run is.
+pub static PROGRESS: Argument = Argument {
+    name: "progress",
+    help: "Show how far the run is, on standard error",
     kind: Kind::Flag,
     need: Need::Never,
 };

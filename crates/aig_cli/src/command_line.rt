@@ -3,7 +3,7 @@ ghost use Rattle.std.specs.Prelude.{◌≡◌, false, option_map, slice_index, I
 ghost use Rattle.clap.specs.Matches.{first_value, found_of};
 ghost use Rattle.aig_cli.specs.Held.{HoldsFlag, HoldsNumber, HoldsNumberOr, is_plain_number};
 
-use crate::arguments::{EXPLAIN, NUMBERS, built};
+use crate::arguments::{Argument, EXPLAIN, NUMBERS, PROGRESS, built};
 use crate::help;
 use crate::subcommands::{Subcommand, built_subcommand, first, second, third};
 use clap::{Arg, ArgMatches, Command};
@@ -14,22 +14,32 @@ use std::fmt;
 /// `tests/build_unproved.sh` replaces this text in a program that was not proved.
 static VERSION: &str = "0.1.0 (proved where rt ci built it)";
 
-/// The place in a help of an option that every command has: after its own options.
+/// The place in a help of the options that every command has: after its own options.
 const LAST: usize = 90;
 
 // Global: it may be before the command or after it.
-fn explain_flag<'a>(alloc: Global) -> Result<Arg<'a>, AllocError> {
-    let flag = built(alloc, &EXPLAIN)?;
+fn general_flag<'a>(alloc: Global, row: &'static Argument) -> Result<Arg<'a>, AllocError> {
+    let flag = built(alloc, row)?;
     Ok(flag.global(true).display_order(LAST))
 }
 
+// Alone here, where a failure drops the program's command.
+fn with_general_flag<'a>(
+    program: Command<'a>,
+    alloc: Global,
+    row: &'static Argument,
+) -> Result<Command<'a>, AllocError> {
+    program.arg(general_flag(alloc, row)?)
+}
+
 fn program<'a>(alloc: Global) -> Result<Command<'a>, AllocError> {
-    Command::new(alloc, "aig")
+    let program = Command::new(alloc, "aig")
         .version(VERSION)
         .about("Convert, simulate, unroll and check circuits in the AIGER formats")
         .after_help(help::ALL)
-        .subcommand_required(true)
-        .arg(explain_flag(alloc)?)
+        .subcommand_required(true);
+    let program = with_general_flag(program, alloc, &EXPLAIN)?;
+    with_general_flag(program, alloc, &PROGRESS)
 }
 
 // Alone here, where a failure drops the program's command.

@@ -1,10 +1,11 @@
 //! Lines that explain a refusal.
-ghost use Rattle.std.specs.Prelude.{◌≡◌, ◌≢◌, ℕ, List, ◌++◌, ◌∷◌, ◌↔◌, ◌<◌, ◌/◌, ◌%◌, [], IsTrue, IfOk, OnOk, OnErr};
+ghost use Rattle.std.specs.Prelude.{◌≡◌, ◌≢◌, ℕ, List, ◌++◌, ◌↔◌, [], IsTrue, IfOk, OnOk, OnErr};
 ghost use Rattle.std.specs.String.{string_bytes};
-ghost use Rattle.aig_explain.specs.Shown.{is_printable, ArePrintable, hexadecimal, escaped_byte, escaped};
+ghost use Rattle.aig_terminal.specs.Shown.{ArePrintable, escaped};
 ghost use Rattle.aig_explain.specs.Shown.{shown_line, IsShown};
 
 use aig_bytes::Memory;
+use aig_terminal::escaped;
 use std::alloc::Global;
 use std::fmt::Display;
 use std::marker::Model;
@@ -27,68 +28,6 @@ impl Model for Explanation {
     ghost view = { λ a. string_bytes a.text };
 
     ghost invariant = { λ a. IsShown (string_bytes a.text) };
-}
-
-// Whether a terminal shows a byte as it is.
-fn is_printable(byte: u8) -> bool
-    ensures { result ≡ is_printable byte }
-{
-    byte >= 32 && byte <= 126
-}
-
-// The hexadecimal digit of a number below 16.
-fn hexadecimal(digit: u8) -> u8
-    requires { digit < 16 }
-    ensures value { result ≡ hexadecimal digit }
-    ensures printable { IsTrue (is_printable result) }
-{
-    if digit < 10 { 48 + digit } else { 87 + digit }
-}
-
-// Adds a byte as it is.
-fn push_printable(text: &mut String, byte: u8) -> Result<(), Memory>
-    requires { IsTrue (is_printable byte) }
-    ensures bytes { OnOk result (string_bytes text.new ≡ string_bytes text.old ++ byte ∷ []) }
-    ensures printable { ArePrintable (string_bytes text.old) → OnOk result (ArePrintable (string_bytes text.new)) }
-{
-    text.push(char::from(byte))?;
-    Ok(())
-}
-
-// Adds a byte as a backslash, `x` and two digits.
-fn push_escape(text: &mut String, byte: u8) -> Result<(), Memory>
-    ensures bytes { OnOk result (string_bytes text.new
-        ≡ string_bytes text.old ++ 92 ∷ 120 ∷ hexadecimal (byte / 16) ∷ hexadecimal (byte % 16) ∷ []) }
-    ensures printable { ArePrintable (string_bytes text.old) → OnOk result (ArePrintable (string_bytes text.new)) }
-{
-    push_printable(text, b'\\')?;
-    push_printable(text, b'x')?;
-    push_printable(text, hexadecimal(byte / 16))?;
-    push_printable(text, hexadecimal(byte % 16))
-}
-
-// Adds a byte, escaped.
-fn push_byte(text: &mut String, byte: u8) -> Result<(), Memory>
-    ensures bytes { OnOk result (string_bytes text.new ≡ string_bytes text.old ++ escaped_byte byte) }
-    ensures printable { ArePrintable (string_bytes text.old) → OnOk result (ArePrintable (string_bytes text.new)) }
-{
-    if is_printable(byte) {
-        push_printable(text, byte)
-    } else {
-        push_escape(text, byte)
-    }
-}
-
-/// The text with each byte outside 32 to 126 as `\xHH`, two lowercase hexadecimal digits; a backslash stays as it is.
-pub fn escaped(alloc: Global, text: &[u8]) -> Result<String, Memory>
-    ensures bytes { IfOk result (λ shown. string_bytes shown ≡ escaped text.now) }
-    ensures printable { IfOk result (λ shown. ArePrintable (string_bytes shown)) }
-{
-    let mut shown = String::new(alloc);
-    for byte in text {
-        push_byte(&mut shown, *byte)?;
-    }
-    Ok(shown)
 }
 
 // The line that shows a text.

@@ -15,7 +15,7 @@ mod witness_text;
 pub use bench::{explain_bench, explain_reduction};
 pub use circuit::explain_circuit;
 pub use cnf::explain_cnf;
-pub use explanation::{Explanation, escaped};
+pub use explanation::Explanation;
 pub use notes::{explain, is_asked_for};
 pub use stimulus::explain_stimulus;
 pub use unrolling::explain_unroll;

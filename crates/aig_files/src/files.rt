@@ -5,14 +5,20 @@ use crate::exit::Exit;
 use crate::part::Part;
 use aig_base::{Buffered, Std};
 use aig_run::RunFault;
+use aig_terminal::{Terminal, Tracked};
 use std::alloc::Global;
 use std::fs::{self, Files};
 use std::io::{self, ErrorKind, Printer, Read};
+use std::time::Clock;
 
-/// Opens a file.
-pub fn open<R: Files>(rt: &R, name: &str, part: Part) -> Result<R::File, Exit> {
-    match fs::open(rt, name) {
-        Ok(file) => Ok(file),
+/// Opens a file of a run, which the line of the run shows while it is read.
+pub fn open<'t, R: Files + Clock + Eprint>(
+    terminal: &'t Terminal<'t, R>,
+    name: &str,
+    part: Part,
+) -> Result<Tracked<'t, R, R::File>, Exit> {
+    match fs::open(terminal.runtime(), name) {
+        Ok(file) => Ok(Tracked::new(file, terminal, part.name())),
         Err(_) => Err(Exit::Unread(part)),
     }
 }

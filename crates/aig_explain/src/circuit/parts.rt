@@ -3,8 +3,8 @@ use crate::circuit::body::{Body, Entry};
 use crate::circuit::header::Header;
 use crate::circuit::place::Place;
 use crate::circuit::section::Section;
-use crate::explanation::escaped;
 use aig_bytes::Memory;
+use aig_terminal::escaped;
 use std::alloc::Global;
 
 /// How many bytes of a name are shown.

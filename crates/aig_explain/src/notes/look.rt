@@ -1,9 +1,10 @@
 //! A second look at a file that a run could not read, or rejected.
 
-use crate::explanation::{Explanation, escaped};
+use crate::explanation::Explanation;
 use crate::notes::known_file::{KnownFile, known_file};
 use crate::notes::proof_walk::{Goal, Spelling, Walk, spelling_of};
 use aig_bytes::Memory;
+use aig_terminal::escaped;
 use std::alloc::Global;
 use std::fs::{self, Files, Metadata};
 use std::io::{self, ErrorKind, Read};

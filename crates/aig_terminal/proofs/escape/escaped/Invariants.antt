@@ -1,7 +1,7 @@
 use Rattle.std.proofs.Common.{◌≡◌, take}
 use Rattle.std.specs.String.{string_bytes}
-use Rattle.aig_explain.specs.Shown.{ArePrintable, escaped}
-use Rattle.aig_explain.proofs.explanation.escaped.Given as goal
+use Rattle.aig_terminal.specs.Shown.{ArePrintable, escaped}
+use Rattle.aig_terminal.proofs.escape.escaped.Given as goal
 
 abbrev pub invariant-loop-byte : goal.invariant-loop-byte
 invariant-loop-byte l =
