@@ -7,7 +7,7 @@
 #   make bench      measures the program that the gate proved, else build/aig, beside a C++ program: ten minutes
 #   make install    installs the program that the gate proved, else build/aig with a warning
 #   make dist       packs a release of a commit whose gate has passed, into build/dist
-#   make clean      removes build/aig and build/dist
+#   make clean      removes build/aig, build/aig_proof_tests and build/dist
 #
 # `make install` takes PREFIX and DESTDIR. Like `make bench` it takes PROGRAM, for another program than the one that it
 # would choose.
@@ -30,7 +30,11 @@ build/aig: $(SOURCES)
 demo: build/aig
 	@tests/tour.py build/aig
 
-test: build/aig
+build/aig_proof_tests: $(SOURCES)
+	@mkdir -p build
+	@tests/build_unproved.sh "$(CURDIR)" aig_proof_tests build/aig_proof_tests
+
+test: build/aig build/aig_proof_tests
 	@echo "Running all tests on build/aig: about five minutes."
 	@tests/all.py --crates build/aig
 
@@ -56,7 +60,7 @@ dist:
 	@release/pack.py
 
 clean:
-	rm -rf build/aig build/dist
+	rm -rf build/aig build/aig_proof_tests build/dist
 
 .PHONY: aig demo test prove bench install dist clean
 .DELETE_ON_ERROR:

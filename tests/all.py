@@ -17,6 +17,8 @@ from library.runs import REPOSITORY, TESTS
 
 LARGE = "run_large.py"
 SCRIPTS = ("run_program.py", "run_faults.py", "run_random.py", "run_dist.py", "tour.py")
+# this runs aig_proof_tests
+STEPS = "run_steps.py"
 # these read the sources alone
 READERS = ("definitions.py", "contracts.py", "edges.py")
 CRATES = ("aig_tests", "aig_command_tests", "aig_bench_tests")
@@ -41,10 +43,13 @@ def ended(name, words, folder):
 def main():
     parser = argparse.ArgumentParser(description=__doc__, formatter_class=argparse.RawDescriptionHelpFormatter)
     parser.add_argument("--crates", action="store_true", help="also the tests of the crates, without a proof")
-    parser.add_argument("program", nargs="?", help="the program that is tested (else the one that the gate built)")
+    parser.add_argument("program", nargs="?", help="the program that is tested, with aig_proof_tests beside it (else "
+                                                   "those that the gate built)")
     chosen = parser.parse_args()
     program = [os.path.abspath(chosen.program)] if chosen.program else []
     lanes = [[(name, [f"{TESTS}/{name}", *program], REPOSITORY) for name in names] for names in ([LARGE], SCRIPTS)]
+    steps = [f"{os.path.dirname(program[0])}/aig_proof_tests"] if program else []
+    lanes[1] += [(STEPS, [f"{TESTS}/{STEPS}", *steps], REPOSITORY)]
     lanes[1] += [(name, [f"{TESTS}/{name}"], REPOSITORY) for name in READERS]
     if chosen.crates:
         lanes.append([(name, ["rt", "try", "--test"], f"{REPOSITORY}/crates/{name}") for name in CRATES])

@@ -7,6 +7,7 @@ import itertools
 from at_random.cases import Wrong, each
 from at_random.replays import circuit_to_check, started
 from library.dimacs import read_formula
+from library.families import propagated
 from library.reference import literal, values
 from library.runs import Ended, refused, write
 
@@ -30,24 +31,6 @@ class Formula:
             raise Wrong(f"{count} clauses are not those that there are")
         if any(row[-1] != "0" or "0" in row[:-1] for row in rows if row[0] not in "cp"):
             raise Wrong("a line that is not a clause")
-
-
-def propagated(clauses, true):
-    """The literals that are true by unit propagation, and whether a clause is false then."""
-    true = set(true)
-    found = True
-    while found:
-        found = False
-        for clause in clauses:
-            if any(l in true for l in clause):
-                continue
-            free = [l for l in clause if -l not in true]
-            if not free:
-                return true, True
-            if len(free) == 1:
-                true.add(free[0])
-                found = True
-    return true, False
 
 
 def names_of(text, parts, frames):

@@ -1,4 +1,5 @@
-"""A plain checker of proofs by unit propagation, which shares nothing with the toolkit."""
+"""A plain checker of proofs, which shares nothing with the toolkit: by unit propagation, and by resolution asymmetric
+tautologies on the first literal."""
 
 import collections
 
@@ -71,6 +72,16 @@ class Checker:
         del self.trail[before:]
         self.next, self.refuted = before, False
         return is_following
+
+    def is_right_on_first(self, clause):
+        """Whether the clause is a resolution asymmetric tautology on its first literal: neither that nor its negation was
+        found to be true, and each clause that has the negation gives, without it and with this clause, one that
+        follows."""
+        if not clause or clause[0] in self.true or -clause[0] in self.true:
+            return False
+        negation = -clause[0]
+        return all(self.follows([*clause, *(other - {negation})])
+                   for other in self.clauses.values() if negation in other)
 
 
 def outcome_from(checker, steps, first=1):

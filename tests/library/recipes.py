@@ -1,4 +1,4 @@
-"""The scripts of docs/FORMATS.md that make witnesses, as they stand there."""
+"""The scripts of docs/FORMATS.md that make witnesses and proofs, as they stand there."""
 
 import os
 import re
@@ -38,3 +38,13 @@ def solve_witness(program, number):
     """Makes `design.wit` of `design.aig`, a run to this property that a SAT solver finds; what the script says."""
     text = script("aig cnf --frames 20 design.aig")
     return shell(program, text.replace("design.aig >", f"--property {number} design.aig >"))
+
+
+def drat_of_frat(program):
+    """Makes `design.drat` of `design.frat`; what the script says."""
+    return shell(program, re.search(r"(?ms)^awk.*?design\.drat$", proving())[0])
+
+
+def proving():
+    """The script by which cryptominisat proves `design.cnf`, the formula of `design.aig` for 20 frames."""
+    return script("cryptominisat5 ")

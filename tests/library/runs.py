@@ -149,7 +149,7 @@ def started_by(process):
             yield int(name)
 
 
-def main(description, parts, outside=(), options=lambda parser: None):
+def main(description, parts, outside=(), options=lambda parser: None, proved=PROVED_PROGRAM):
     """The command line of a script of tests. Its parts are functions of the program, a tally and the options; each runs
     in an empty folder of its own. Those named in `outside` run only where they are asked for."""
     parser = argparse.ArgumentParser(description=description, formatter_class=argparse.RawDescriptionHelpFormatter)
@@ -157,7 +157,7 @@ def main(description, parts, outside=(), options=lambda parser: None):
     parser.add_argument("program", nargs="?", help="the program that is tested (else the one that the gate built)")
     options(parser)
     chosen = parser.parse_args()
-    program = Program(chosen.program or PROVED_PROGRAM, chosen.program is not None)
+    program = Program(chosen.program or proved, chosen.program is not None)
     if not os.access(program.path, os.X_OK):
         sys.exit(f"there is no program {program.path}")
     failed = 0

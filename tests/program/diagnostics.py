@@ -64,7 +64,7 @@ CASES = (
     ("P is not the position", ["cnf", "--frames", "2", COUNTER], "AIGER 1.0"),
     ("is asked for 0 frames", ["cnf", "--frames", "0", WRAPS], "K is 0"),
     ("over a limit of `unroll`", ["cnf", "--frames", "65537", WRAPS], "K is 65537"),
-    ("is no proof, is one about", ["refute", "--frames", "1", "bad_input", "rows"], "no step of a proof"),
+    ("is no proof in DRAT", ["refute", "--frames", "1", "bad_input", "rows"], "no step of a proof"),
     ("does not follow by unit propagation", ["refute", "--frames", "1", "bad_input", "zero.drat"], "does not follow"),
     ("ends before it refutes", ["refute", "--frames", "1", "bad_input", "nothing"], "the proof ends before it refutes"),
     ("more than 65,536 rows", ["bench", "two_gates", "many.stim", "script"], "at most 65,536 rows"),

@@ -1,7 +1,9 @@
 """Rows of `aig refute`: proofs by hand as text and in the binary form, those that are refused, and broken ones."""
 
 from library.circuits import TEXTS, write_all
-from library.runs import Ended, refused, write
+from library.plain_steps import steps_of
+from library.recipes import drat_of_frat
+from library.runs import Ended, contents, refused, write
 from program.rows import Rows
 
 # Bad is (a | b) & (a | !b) & (!a | b) & (!a | !b), which is never 1. In the formula for one frame a is variable 2, b is
@@ -145,6 +147,18 @@ def refute(program, tally, _):
     rows.refuses("a state that is reached", "refute --frames 3 --property 1 constants proof", "proof: no refutation", proof="")
     steps(rows)
     broken(rows)
+    frat(rows)
+
+
+def frat(rows):
+    """The script of FORMATS.md makes DRAT of FRAT, which has an unfinished proof here and its end."""
+    wanted = [(False, [2, 3]), (True, [3, 2]), (False, [2]), (False, [])]
+    for name, hints in (("without hints", ""), ("with hints", " l 3 1 0")):
+        write("design.frat", f"o 1 -1 0\no 2 10 0\na 21 2 3 0{hints}\nd 21 3 2 0\na 22 2 0{hints}\na 23 0{hints}\n"
+                             "f 1 -1 0\nf 23 0\n")
+        said = drat_of_frat(rows.program)
+        rows.tally.compare(f"refute: FRAT {name}", (said, [*steps_of(contents("design.drat"))]), ("", wanted))
+        rows.gives(f"FRAT {name}", "refute --frames 1 never design.drat", "unreachable within 1\n")
 
 
 def steps(rows):

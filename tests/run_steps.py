@@ -1,0 +1,14 @@
+#!/usr/bin/env python3
+"""Runs the program aig_proof_tests, which checks proofs about formulas that no circuit has and marks each of their steps."""
+
+from library import runs
+from steps.at_random import at_random, options
+from steps.extended import added_variables, more_pigeons, pigeon_holes, tables
+from steps.solved import solved
+
+PROVED = runs.REPOSITORY + "/crates/aig_proof_tests/out/aig_proof_tests"
+PARTS = {"at_random": at_random, "pigeons": pigeon_holes, "added_variables": added_variables, "tables": tables,
+         "more_pigeons": more_pigeons, "solved": solved}
+
+if __name__ == "__main__":
+    runs.main(__doc__, PARTS, outside=("more_pigeons", "solved"), options=options, proved=PROVED)

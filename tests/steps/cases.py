@@ -1,0 +1,50 @@
+"""Cases of the program aig_proof_tests, which prints a line for each: a mark for each step of a proof, and how it ends."""
+
+from library.plain_checker import Checker
+from library.plain_steps import NoStep, steps_of
+from library.runs import shortened
+from program.proofs import text_of
+
+DELETED, FOLLOWS, ON_FIRST, WRONG = "d+*-"
+REFUTED, OPEN = "refuted", "no refutation"
+
+
+def case(variables, clauses, proof):
+    """The bytes of a formula and a proof."""
+    formula = text_of((False, clause) for clause in clauses)
+    return b"%d %d %d\n%s%s" % (variables, len(formula), len(proof), formula, proof)
+
+
+def lines_of(program, cases):
+    """The lines that the program prints for these cases; where it fails, a line that says how."""
+    ended = program.run(input=b"".join(cases))
+    lines = ended.out.decode().splitlines()
+    if (ended.status, ended.err, len(lines)) != (0, b"", len(cases)):
+        return [f"{len(lines)} lines of {len(cases)} cases, {shortened(ended)}"] * len(cases)
+    return lines
+
+
+def done(checker, step):
+    """Does a step of a plain checker, and returns its mark."""
+    is_deleted, clause = step
+    if is_deleted:
+        checker.delete(clause)
+        return DELETED
+    mark = FOLLOWS if checker.follows(clause) else ON_FIRST if checker.is_right_on_first(clause) else WRONG
+    if mark != WRONG:
+        checker.add(clause)
+    return mark
+
+
+def line_of(clauses, proof):
+    """The line of a case by the plain reader and the plain checker."""
+    checker, marks, end, steps = Checker(clauses), "", OPEN, steps_of(proof)
+    while not checker.refuted:
+        try:
+            step = next(steps, None)
+        except NoStep as fault:
+            return f"{marks} text at {fault.place}"
+        if step is None:
+            return f"{marks} {OPEN}"
+        marks += done(checker, step)
+    return f"{marks} {REFUTED}"
