@@ -3,6 +3,7 @@ use Rattle.std.proofs.Common.{◌≡◌, ◌≢◌, inl, inr, ℕ, zero, suc, �
 use Rattle.std.specs.Prelude.{if◌then◌else◌, ◌==◌, codes}
 use Rattle.std.specs.Fmt.{decimal}
 use Rattle.std.specs.List.{flat_map}
+use Rattle.std.proofs.lemmas.List.Concat.{flat_map-cons}
 use Rattle.std.proofs.lemmas.List.Elements.{All-nil, All-cons, All-head, All-tail, All-append, All-weaker}
 use Rattle.aig_parts.specs.Formed.{IsSymbolOf}
 use Rattle.aig_parts.specs.Literal.{negation, variable}
@@ -12,29 +13,27 @@ use Rattle.aig_parts.specs.declared.raw.Raw.{Raw}
 use Rattle.aig_parts.specs.declared.symbols.Kind.{Kind}
 use Rattle.aig_base.specs.Circuit.{IsCircuit}
 use Rattle.aig_base.specs.Order.{IsCanonicalOrder}
-use Rattle.aig_base.specs.Sections.{definitions, uses}
-use Rattle.aig_base.specs.Sound.{IsInRange}
-use Rattle.aig_base.proofs.circuits.EachUse.{each_use}
-use Rattle.aig_base.proofs.lists.Joined.{All-right}
 use Rattle.aig_cnf.specs.Answers.{HasFormula}
 use Rattle.aig_cnf.specs.CnfText.{cnf_text, goal_line, goal_lines}
 use Rattle.aig_cnf.specs.Dimacs.{formula_text, literal_text, sign_text}
 use Rattle.aig_cnf.specs.DimacsRead.{read_formula}
-use Rattle.aig_cnf.specs.Formula.{Cnf, IsFormulaOf, first_reached, formula_of, gate_clauses, goal_clauses}
-use Rattle.aig_cnf.specs.Query.{depth, subject}
+use Rattle.aig_cnf.specs.Formula.{Cnf, IsFormulaOf, all_but_last, first_reached, formula_of, gate_clauses, gates_for, goal_clauses, implies, start_literals}
+use Rattle.aig_cnf.specs.Query.{depth, from_any_state, subject}
 use Rattle.aig_cnf.specs.declared.query.Goal.{Goal}
 use Rattle.aig_cnf.specs.declared.query.Goal.TheVariants as asked
 use Rattle.aig_cnf.specs.declared.query.Query.{Query}
 use Rattle.aig_unroll.specs.InputMap.{Origin, input, start, is_input, is_latch, map_field, origin_line, origin_lines, origins, symbol_name_at}
 use Rattle.aig_unroll.specs.Unrolled.{frames, unrolled}
 use Rattle.aig_unroll.proofs.UnrolledCircuit.{unrolled_circuit}
-use Rattle.aig_unroll.proofs.UnrolledReady.{All-frames, IsReadyGate, gates_ready}
+use Rattle.aig_unroll.proofs.UnrolledReady.{IsReadyGate, gates_ready}
 use Rattle.aig_cnf.proofs.AnyCircuit.{subject_circuit}
+use Rattle.aig_cnf.proofs.ConeLemmas.{All-gates_for, length-gates_for}
 use Rattle.aig_cnf.proofs.DimacsLines.{HasNoEnd, decimal_no_end, no_end_by_test, IsLine, line_end, line_more, line_byte, HasLines, lines_none, lines_then, comment_line}
 use Rattle.aig_cnf.proofs.DimacsReading.{AreBelow, reads_after}
 use Rattle.aig_cnf.proofs.FormulaText.{length-formula, length-goal_clauses}
-use Rattle.aig_cnf.proofs.GoalLemmas.{length-goals}
+use Rattle.aig_cnf.proofs.GoalLemmas.{goals_below, length-goals}
 use Rattle.aig_cnf.proofs.SignLemmas.{signs}
+use Rattle.aig_cnf.proofs.StartLemmas.{all_uninitialised, few_starts, resets_below}
 
 -- ---- comment lines
 
@@ -105,11 +104,6 @@ goals_skipped ls = frames_skipped (λ t. goal_line (slice_index ls t) t) (λ t. 
 negation_below : (l v : ℕ) → variable l < v → variable (negation l) < v
 negation_below l v lt = elim (signs l) [ inl even ↦ rw even (omega (arith, even, lt)) | inr odd ↦ rw odd (omega (arith, odd, lt)) ]
 
-index_below : (v : ℕ) (ls : List ℕ) (i : ℕ) → 0 < v → AreBelow v ls → variable (slice_index ls i) < v
-index_below v [] i some h = some
-index_below v (l ∷ ls) zero some h = All-head (λ l. variable l < v) l ls h
-index_below v (l ∷ ls) (suc i) some h = index_below v ls i some (All-tail (λ l. variable l < v) l ls h)
-
 one_below : (v l : ℕ) → variable l < v → AreBelow v (l ∷ [])
 one_below v l lt = All-cons (λ l. variable l < v) l [] lt (All-nil (λ l. variable l < v))
 
@@ -147,9 +141,46 @@ first_below v (l ∷ m ∷ ls) h =
     (one_below v (negation l) (negation_below l v (All-head (λ l. variable l < v) l (m ∷ ls) h)))
     (first_below v (m ∷ ls) (All-tail (λ l. variable l < v) l (m ∷ ls) h))
 
-goal_below : (v : ℕ) (goal : Goal) (ls : List ℕ) → AreBelow v ls → All (AreBelow v) (goal_clauses goal ls)
-goal_below v asked.Within ls h = All-cons (AreBelow v) ls [] h (All-nil (AreBelow v))
-goal_below v asked.Step ls h = first_below v ls h
+implies_below : (v l : ℕ) (ms : List ℕ) → variable l < v → AreBelow v ms → All (AreBelow v) (implies ms l)
+implies_below v l [] lt h = All-nil (AreBelow v)
+implies_below v l (m ∷ ms) lt h =
+    All-cons (AreBelow v) (negation l ∷ m ∷ []) (implies ms l)
+    (two_below v (negation l) m (negation_below l v lt) (All-head (λ l. variable l < v) m ms h))
+    (implies_below v l ms lt (All-tail (λ l. variable l < v) m ms h))
+
+starts_below : (v : ℕ) (ms ls : List ℕ) → AreBelow v ms → AreBelow v ls
+    → All (AreBelow v) (flat_map (implies ms) (all_but_last ls))
+unfolding all_but_last
+starts_below v ms [] s h = All-nil (AreBelow v)
+starts_below v ms (l ∷ []) s h = All-nil (AreBelow v)
+starts_below v ms (l ∷ m ∷ ls) s h =
+    subst (All (AreBelow v)) (sym (flat_map-cons (implies ms) l (all_but_last (m ∷ ls))))
+    (All-append (AreBelow v) (implies ms l) (flat_map (implies ms) (all_but_last (m ∷ ls)))
+    (implies_below v l ms (All-head (λ l. variable l < v) l (m ∷ ls) h) s)
+    (starts_below v ms (m ∷ ls) s (All-tail (λ l. variable l < v) l (m ∷ ls) h)))
+
+goal_below : (v : ℕ) (goal : Goal) (ms ls : List ℕ) → AreBelow v ms → AreBelow v ls
+    → All (AreBelow v) (goal_clauses goal ms ls)
+goal_below v asked.Within ms ls s h = All-cons (AreBelow v) ls [] h (All-nil (AreBelow v))
+goal_below v asked.Step ms ls s h = first_below v ls h
+goal_below v asked.Induction ms ls s h =
+    All-cons (AreBelow v) ls (flat_map (implies ms) (all_but_last ls)) h (starts_below v ms ls s h)
+
+-- the variables of the latches are those of inputs of the unrolled circuit
+start_below : (query : Query) (raw : Raw) (order : List ℕ)
+    → AreBelow ((unrolled (subject query.goal raw) order (depth query)).max_var + 1) (start_literals query raw)
+start_below query raw order = at query.goal query.frames query.property
+  where
+    at : (goal : Goal) (frames property : ℕ)
+        → let asks : Query = record { goal = goal; frames = frames; property = property } in
+        AreBelow ((unrolled (subject goal raw) order (depth asks)).max_var + 1) (start_literals asks raw)
+    at asked.Within frames property = All-nil (λ l. variable l < (unrolled raw order frames).max_var + 1)
+    at asked.Step frames property =
+        All-nil (λ l. variable l < (unrolled (from_any_state raw) order (frames + 1)).max_var + 1)
+    at asked.Induction frames property =
+        let all = all_uninitialised raw.latches in
+        resets_below ((unrolled (from_any_state raw) order (frames + 1)).max_var + 1)
+        ((frames + 1) * length raw.inputs + 1) raw.latches (omega (arith, all))
 
 -- ---- the whole
 
@@ -170,30 +201,32 @@ module _ (raw : Raw) (query : Query) (circuit : IsCircuit raw) (has : HasFormula
   unrolled_is : IsCircuit C
   unrolled_is = unrolled_circuit S (subject_circuit query.goal raw circuit) order canonical k has.limits
 
-  bad_below : AreBelow (C.max_var + 1) C.bad
-  bad_below = All-weaker (IsInRange C) (λ l. variable l < C.max_var + 1) (λ l h. omega arith) C.bad
-      (each_use (IsInRange C) C (All-right (IsInRange C) (definitions C) (uses C) unrolled_is.sound.in_range)).bad
+  goals_are_below : AreBelow (C.max_var + 1) F.goals
+  goals_are_below = goals_below C unrolled_is (length raw.bad) k query.property
 
-  goals_below : AreBelow (C.max_var + 1) F.goals
-  goals_below = All-frames (λ l. variable l < C.max_var + 1)
-      (λ t. slice_index C.bad (t * length raw.bad + query.property) ∷ []) k
-      (λ t lt. one_below (C.max_var + 1) (slice_index C.bad (t * length raw.bad + query.property))
-      (index_below (C.max_var + 1) C.bad (t * length raw.bad + query.property) (omega arith) bad_below))
+  abbrev starts : List ℕ
+  starts = start_literals query raw
+
+  abbrev kept : List Gate
+  kept = gates_for query.goal F.goals C.gates
 
   clauses_below : All (AreBelow (C.max_var + 1)) F.clauses
   clauses_below =
-      All-cons (AreBelow (C.max_var + 1)) (1 ∷ []) (goal_clauses query.goal F.goals ++ flat_map gate_clauses C.gates)
+      All-cons (AreBelow (C.max_var + 1)) (1 ∷ []) (goal_clauses query.goal starts F.goals ++ flat_map gate_clauses kept)
       (one_below (C.max_var + 1) 1 (omega arith))
-      (All-append (AreBelow (C.max_var + 1)) (goal_clauses query.goal F.goals) (flat_map gate_clauses C.gates)
-      (goal_below (C.max_var + 1) query.goal F.goals goals_below)
-      (gates_below C.max_var C.gates (gates_ready S (subject_circuit query.goal raw circuit) order canonical k)))
+      (All-append (AreBelow (C.max_var + 1)) (goal_clauses query.goal starts F.goals) (flat_map gate_clauses kept)
+      (goal_below (C.max_var + 1) query.goal starts F.goals (start_below query raw order) goals_are_below)
+      (gates_below C.max_var kept (All-gates_for (IsReadyGate C.max_var) query.goal F.goals C.gates
+      (gates_ready S (subject_circuit query.goal raw circuit) order canonical k))))
 
   few_clauses : length F.clauses < 2 ^ 64
   few_clauses =
-      let all = length-formula query.goal F.goals C.gates in
-      let most = length-goal_clauses query.goal F.goals in
+      let all = length-formula query.goal starts F.goals C.gates in
       let each = length-goals C (length raw.bad) k query.property in
-      omega (arith, all, most, each, has.limits.frames, unrolled_is.formed.counts.gates)
+      let most = length-goal_clauses query.goal starts F.goals
+      (few_starts query raw (subject_circuit query.goal raw circuit)) (omega (arith, each, has.limits.frames)) in
+      let part = length-gates_for query.goal F.goals C.gates in
+      omega (arith, all, most, part, unrolled_is.formed.counts.gates)
 
   reads_text : read_formula (cnf_text S F)
       ≡ Some (F.variables, length F.clauses, F.clauses)

@@ -1,14 +1,17 @@
 -- The text of a formula, part by part.
-use Rattle.std.proofs.Common.{◌≡◌, ◌⊎◌, inl, inr, ℕ, zero, suc, ◌+◌, ◌*◌, ◌<◌, ◌≤◌, List, [], ◌∷◌, ◌++◌, length, refl, sym, ◌∙◌, ap, ap₂, arith}
+use Rattle.std.proofs.Common.{◌≡◌, ◌⊎◌, inl, inr, ℕ, zero, suc, ◌+◌, ◌-◌, ◌*◌, ◌<◌, ◌≤◌, List, [], ◌∷◌, ◌++◌, length, refl, sym, ◌∙◌, ap, ap₂, arith}
 use Rattle.std.proofs.Common.{append_assoc, length-append, add-one}
+use Rattle.std.proofs.lemmas.Nat.{mul-le}
 use Rattle.std.specs.List.{flat_map}
 use Rattle.std.proofs.lemmas.List.Concat.{flat_map-append, flat_map-cons}
-use Rattle.std.proofs.lemmas.List.{append-nil}
+use Rattle.std.proofs.lemmas.List.{append-nil, length-map}
+use Rattle.aig_parts.specs.Formed.{limit}
+use Rattle.aig_parts.specs.Limits.{frame_limit}
 use Rattle.aig_parts.specs.declared.gate.Gate.{Gate}
 use Rattle.aig_parts.specs.Literal.{negation}
 use Rattle.aig_unroll.specs.Unrolled.{frames}
 use Rattle.aig_cnf.specs.Dimacs.{clause_text, formula_text, gate_text, problem_line}
-use Rattle.aig_cnf.specs.Formula.{clauses, first_reached, gate_clauses, goal_clauses}
+use Rattle.aig_cnf.specs.Formula.{all_but_last, clauses, first_reached, gate_clauses, gates_for, goal_clauses, implies}
 use Rattle.aig_cnf.specs.declared.query.Goal.{Goal}
 use Rattle.aig_cnf.specs.declared.query.Goal.TheVariants as asked
 
@@ -88,25 +91,90 @@ length-first_reached [] = refl
 length-first_reached (l ∷ []) = refl
 length-first_reached (l ∷ m ∷ ls) = ap suc (length-first_reached (m ∷ ls))
 
+-- ---- the goal of an induction
+
+pub all_but_last-append : (xs : List ℕ) (x : ℕ) → all_but_last (xs ++ x ∷ []) ≡ xs
+unfolding all_but_last
+all_but_last-append [] x = refl
+all_but_last-append (y ∷ []) x = refl
+all_but_last-append (y ∷ z ∷ ys) x = ap (λ ls. y ∷ ls) (all_but_last-append (z ∷ ys) x)
+
+pub starts_of_none : (ms ls : List ℕ) → ls ≡ [] → [] ≡ flat_map (implies ms) (all_but_last ls)
+unfolding all_but_last
+starts_of_none ms ls e = sym (ap (λ (xs : List ℕ). flat_map (implies ms) (all_but_last xs)) e)
+
+length-all_but_last : (ls : List ℕ) → length (all_but_last ls) ≡ length ls - 1
+unfolding all_but_last
+length-all_but_last [] = refl
+length-all_but_last (l ∷ []) = refl
+length-all_but_last (l ∷ m ∷ ls) = let e = length-all_but_last (m ∷ ls) in omega (arith, e)
+
+-- the clause that the second literal is true if the first one is
+abbrev pub implied : ℕ → ℕ → List (List ℕ)
+implied l m = (negation l ∷ m ∷ []) ∷ []
+
+pub implied_each : (l : ℕ) (ms : List ℕ) → flat_map (implied l) ms ≡ implies ms l
+implied_each l [] = refl
+implied_each l (m ∷ ms) = flat_map-cons (implied l) m ms ∙ ap (λ cs. (negation l ∷ m ∷ []) ∷ cs) (implied_each l ms)
+
+unfoldable pub implied_text : ℕ → ℕ → List ℕ
+implied_text l m = flat_map clause_text (implied l m)
+
+pub all_implied_text : (l : ℕ) (ms : List ℕ) → flat_map (implied_text l) ms ≡ flat_map clause_text (implies ms l)
+unfolding implied_text
+all_implied_text l ms = joined_text (implied l) ms ∙ ap (flat_map clause_text) (implied_each l ms)
+
+unfoldable pub implies_text : List ℕ → ℕ → List ℕ
+implies_text ms l = flat_map clause_text (implies ms l)
+
+pub starts_text : (ms ls : List ℕ) → flat_map (implies_text ms) ls ≡ flat_map clause_text (flat_map (implies ms) ls)
+unfolding implies_text
+starts_text ms ls = joined_text (implies ms) ls
+
+length-implies : (ms ls : List ℕ) → length (flat_map (implies ms) ls) ≡ length ls * length ms
+length-implies ms [] = omega arith
+length-implies ms (l ∷ ls) =
+    let e = ap length (flat_map-cons (implies ms) l ls) ∙ length-append (implies ms l) (flat_map (implies ms) ls) in
+    let f : length (implies ms l) ≡ length ms = length-map ms (λ m. negation l ∷ m ∷ []) in
+    let g : suc (length ls) * length ms ≡ length ms + length ls * length ms = omega arith in
+    omega (arith, e, f, g, length-implies ms ls)
+
+pub length-induction : (ms ls : List ℕ)
+    → length (flat_map (implies ms) (all_but_last ls)) ≡ (length ls - 1) * length ms
+length-induction ms ls =
+    length-implies ms (all_but_last ls) ∙ ap (λ n. n * length ms) (length-all_but_last ls)
+
 -- ---- the whole
 
--- a goal has at most one clause a frame, or one
-pub length-goal_clauses : (goal : Goal) (ls : List ℕ) → length (goal_clauses goal ls) ≤ 1 + length ls
-length-goal_clauses asked.Within ls = omega arith
-length-goal_clauses asked.Step ls = let e = length-first_reached ls in omega (arith, e)
+-- how many clauses a goal has at most: 1 + 65,536 * 4,194,303
+pub length-goal_clauses : (goal : Goal) (ms ls : List ℕ) → length ms ≤ limit → length ls ≤ frame_limit
+    → length (goal_clauses goal ms ls) ≤ 274877841409
+length-goal_clauses asked.Within ms ls some few = omega arith
+length-goal_clauses asked.Step ms ls some few = let e = length-first_reached ls in omega (arith, e, few)
+length-goal_clauses asked.Induction ms ls some few =
+    let e = length-induction ms ls in
+    let most : (length ls - 1) * length ms ≤ 65536 * 4194303 =
+    mul-le (length ls - 1) (length ms) 65536 4194303 (omega (arith, few)) some in
+    omega (arith, e, most)
 
-pub length-formula : (goal : Goal) (ls : List ℕ) (gates : List Gate)
-    → length (clauses goal ls gates) ≡ 1 + length (goal_clauses goal ls) + 3 * length gates
-length-formula goal ls gates =
-    omega (arith, length-append (goal_clauses goal ls) (flat_map gate_clauses gates), length-clauses gates)
+pub length-formula : (goal : Goal) (ms ls : List ℕ) (gates : List Gate)
+    → length (clauses goal ms ls gates) ≡ 1 + length (goal_clauses goal ms ls) + 3 * length (gates_for goal ls gates)
+length-formula goal ms ls gates =
+    omega (
+      arith,
+      length-append (goal_clauses goal ms ls) (flat_map gate_clauses (gates_for goal ls gates)),
+      length-clauses (gates_for goal ls gates),
+    )
 
-pub clauses_text : (goal : Goal) (ls : List ℕ) (gates : List Gate) (all : List (List ℕ)) → clauses goal ls gates ≡ all
-    → clause_text (1 ∷ []) ++ (flat_map clause_text (goal_clauses goal ls) ++ flat_map gate_text gates) ≡ flat_map clause_text all
-clauses_text goal ls gates all e =
-    ap (λ (xs : List ℕ). clause_text (1 ∷ []) ++ (flat_map clause_text (goal_clauses goal ls) ++ xs)) (gates_text gates)
+pub clauses_text : (goal : Goal) (ms ls : List ℕ) (gates kept : List Gate) (all : List (List ℕ))
+    → kept ≡ gates_for goal ls gates → clauses goal ms ls gates ≡ all
+    → clause_text (1 ∷ []) ++ (flat_map clause_text (goal_clauses goal ms ls) ++ flat_map gate_text kept) ≡ flat_map clause_text all
+clauses_text goal ms ls gates kept all is e =
+    ap (λ (xs : List ℕ). clause_text (1 ∷ []) ++ (flat_map clause_text (goal_clauses goal ms ls) ++ xs))
+    (gates_text kept ∙ ap (λ (gs : List Gate). flat_map clause_text (flat_map gate_clauses gs)) is)
     ∙ ap (λ (xs : List ℕ). clause_text (1 ∷ []) ++ xs)
-    (sym (flat_map-append clause_text (goal_clauses goal ls) (flat_map gate_clauses gates)))
-    ∙ sym (flat_map-cons clause_text (1 ∷ []) (goal_clauses goal ls ++ flat_map gate_clauses gates))
+    (sym (flat_map-append clause_text (goal_clauses goal ms ls) (flat_map gate_clauses (gates_for goal ls gates))))
+    ∙ sym (flat_map-cons clause_text (1 ∷ []) (goal_clauses goal ms ls ++ flat_map gate_clauses (gates_for goal ls gates)))
     ∙ ap (flat_map clause_text) e
 
 pub formula_parts : (v n w : ℕ) (all : List (List ℕ)) → v ≡ w → n ≡ length all

@@ -1,6 +1,7 @@
 pub mod AddedLemmas
 pub mod AnyCircuit
 pub mod AnyState
+pub mod ConeLemmas
 pub mod DimacsExamples
 pub mod DimacsLaw
 pub mod DimacsLines
@@ -8,4 +9,5 @@ pub mod DimacsReading
 pub mod FormulaText
 pub mod GoalLemmas
 pub mod SignLemmas
+pub mod StartLemmas
 pub mod TermLemmas

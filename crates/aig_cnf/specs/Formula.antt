@@ -1,10 +1,13 @@
 -- The formula of a query, over the circuit that is unrolled for it, in conjunctive normal form (Tseitin's encoding; the
 -- clauses and their order are our own choice).
-use Rattle.std.specs.Prelude.{◌≡◌, ℕ, ◌+◌, ◌*◌, List, [], ◌∷◌, ◌++◌, length, flat_map, slice_index}
-use Rattle.aig_parts.specs.Literal.{negation}
+use Rattle.std.specs.Prelude.{◌≡◌, ℕ, ◌+◌, ◌*◌, ◌-◌, ◌==◌, Bool, ◌||◌, if◌then◌else◌, List, [], ◌∷◌, ◌++◌, length, map, flat_map, slice_index}
+use Rattle.std.specs.List.{list_any}
+use Rattle.aig_parts.specs.Literal.{negation, variable}
 use Rattle.aig_parts.specs.declared.gate.Gate.{Gate}
+use Rattle.aig_parts.specs.declared.latch.Latch.{Latch}
 use Rattle.aig_parts.specs.declared.raw.Raw.{Raw}
 use Rattle.aig_base.specs.Order.{IsCanonicalOrder}
+use Rattle.aig_unroll.specs.FrameLiteral.{is_uninitialised}
 use Rattle.aig_unroll.specs.Unrolled.{frames, unrolled}
 use Rattle.aig_cnf.specs.declared.query.Goal.{Goal}
 use Rattle.aig_cnf.specs.declared.query.Goal.TheVariants as asked
@@ -27,14 +30,70 @@ first_reached [] = []
 first_reached (l ∷ []) = (l ∷ []) ∷ []
 first_reached (l ∷ m ∷ ls) = (negation l ∷ []) ∷ first_reached (m ∷ ls)
 
--- of the bad literals of all frames: one is true; or the last, and none before it
-abbrev pub goal_clauses : Goal → List ℕ → List (List ℕ)
-goal_clauses asked.Within goals = goals ∷ []
-goal_clauses asked.Step goals = first_reached goals
+-- ---- where a run starts
+
+-- the literal of variable v that a latch has its reset, if that is 0 or 1
+abbrev pub reset_literal : ℕ → Latch → List ℕ
+reset_literal v x = if is_uninitialised x then [] else (2 * v + (1 - x.reset)) ∷ []
+
+-- that of each latch, from variable v on
+unfoldable pub reset_literals : ℕ → List Latch → List ℕ
+reset_literals v [] = []
+reset_literals v (x ∷ xs) = reset_literal v x ++ reset_literals (v + 1) xs
+
+-- What an induction over frames says of the start: the latches have their resets at the first frame. The circuit is
+-- unrolled from any state, so the latches' variables come behind the inputs of all frames.
+abbrev pub start_literals : Query → Raw → List ℕ
+start_literals query raw = literals_of query.goal
+  where
+    literals_of : Goal → List ℕ
+    literals_of asked.Within = []
+    literals_of asked.Step = []
+    literals_of asked.Induction = reset_literals (depth query * length raw.inputs + 1) raw.latches
+
+-- if this literal is true, so is each of those
+abbrev pub implies : List ℕ → ℕ → List (List ℕ)
+implies literals l = map (λ m. negation l ∷ m ∷ []) literals
+
+-- all but the last
+unfoldable pub all_but_last : List ℕ → List ℕ
+all_but_last [] = []
+all_but_last (l ∷ []) = []
+all_but_last (l ∷ m ∷ ls) = l ∷ all_but_last (m ∷ ls)
+
+-- ---- gates that a formula needs
+
+-- one of the literals, or a side of one of the gates, has the variable
+abbrev pub reads : List ℕ → List Gate → ℕ → Bool
+reads literals gates v =
+    list_any (λ l. variable l == v) literals || list_any (λ g. variable g.rhs0 == v || variable g.rhs1 == v) gates
+
+-- the cone of the literals, where each gate stands behind those that it reads: a gate is in it if one of the literals
+-- reads it, or a gate of the cone behind it does
+unfoldable pub cone : List ℕ → List Gate → List Gate
+cone literals [] = []
+cone literals (g ∷ gates) =
+    if reads literals (cone literals gates) (variable g.lhs) then g ∷ cone literals gates else cone literals gates
+
+-- all gates; for an induction those of the cone
+abbrev pub gates_for : Goal → List ℕ → List Gate → List Gate
+gates_for asked.Within goals gates = gates
+gates_for asked.Step goals gates = gates
+gates_for asked.Induction goals gates = cone goals gates
+
+-- ---- the formula
+
+-- Of the bad literals of all frames: one is true; or the last, and none before it; or one is true, and the start obeys
+-- the resets if it is one before the last.
+abbrev pub goal_clauses : Goal → List ℕ → List ℕ → List (List ℕ)
+goal_clauses asked.Within start goals = goals ∷ []
+goal_clauses asked.Step start goals = first_reached goals
+goal_clauses asked.Induction start goals = goals ∷ flat_map (implies start) (all_but_last goals)
 
 -- literal 1 is true, the goal is reached, and each gate is an AND
-abbrev pub clauses : Goal → List ℕ → List Gate → List (List ℕ)
-clauses goal goals gates = (1 ∷ []) ∷ goal_clauses goal goals ++ flat_map gate_clauses gates
+abbrev pub clauses : Goal → List ℕ → List ℕ → List Gate → List (List ℕ)
+clauses goal start goals gates =
+    (1 ∷ []) ∷ goal_clauses goal start goals ++ flat_map gate_clauses (gates_for goal goals gates)
 
 -- A formula: how many variables it has, the bad literal of each frame, and the clauses.
 pub record Cnf : Type 0 where
@@ -42,15 +101,16 @@ pub record Cnf : Type 0 where
   pub goals : List ℕ
   pub clauses : List (List ℕ)
 
--- of a query, over the unrolled circuit: one variable is constant, and the others are those of the circuit
-abbrev pub formula_over : Raw → ℕ → Query → Cnf
-formula_over new n query =
-    let reached = goals new n (depth query) query.property in
-    record { variables = new.max_var + 1; goals = reached; clauses = clauses query.goal reached new.gates }
-
--- the formula of a query about a circuit
+-- the formula of a query about a circuit: one variable is constant, and the others are those of the unrolled circuit
 abbrev pub formula_of : Raw → List ℕ → Query → Cnf
-formula_of raw order query = formula_over (unrolled (subject query.goal raw) order (depth query)) (length raw.bad) query
+formula_of raw order query =
+    let new = unrolled (subject query.goal raw) order (depth query) in
+    let reached = goals new (length raw.bad) (depth query) query.property in
+    record {
+      variables = new.max_var + 1;
+      goals = reached;
+      clauses = clauses query.goal (start_literals query raw) reached new.gates;
+    }
 
 -- it is that, with the gates of a frame in the canonical order
 abbrev pub IsFormulaOf : Raw → Query → Cnf → Type 0

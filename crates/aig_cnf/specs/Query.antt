@@ -14,10 +14,16 @@ within k p = record { goal = goals.Within; frames = k; property = p }
 abbrev pub step : ℕ → ℕ → Query
 step k p = record { goal = goals.Step; frames = k; property = p }
 
+-- a run from a start that the resets allow reaches it within k frames, or one from any state reaches it at frame k, and at
+-- none before: either disproves an induction over k frames
+abbrev pub induction : ℕ → ℕ → Query
+induction k p = record { goal = goals.Induction; frames = k; property = p }
+
 -- how many frames the circuit is unrolled for
 abbrev pub depth_of : Goal → ℕ → ℕ
 depth_of goals.Within k = k
 depth_of goals.Step k = k + 1
+depth_of goals.Induction k = k + 1
 
 abbrev pub depth : Query → ℕ
 depth query = depth_of query.goal query.frames
@@ -34,3 +40,4 @@ from_any_state raw = record raw { latches = map uninitialised_latch raw.latches 
 abbrev pub subject : Goal → Raw → Raw
 subject goals.Within raw = raw
 subject goals.Step raw = from_any_state raw
+subject goals.Induction raw = from_any_state raw

@@ -1,4 +1,6 @@
 -- What proofs alone need. No contract of an exported function reaches it.
 pub mod Added
+pub mod Cones
+pub mod Kept
 pub mod Made
 pub mod Terms

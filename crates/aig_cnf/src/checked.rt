@@ -2,11 +2,11 @@
 //! that satisfies the formula satisfies what the checker has then, too.
 ghost use Rattle.std.specs.Prelude.{◌≡◌, [], ◌∷◌, IfOk};
 ghost use Rattle.std.specs.List.{flat_map};
-ghost use Rattle.aig_cnf.specs.Formula.{first_reached, gate_clauses, goal_clauses};
+ghost use Rattle.aig_cnf.specs.Formula.{all_but_last, first_reached, gate_clauses, goal_clauses, implies};
 ghost use Rattle.aig_cnf.specs.state.Added.{Adds};
 ghost use Rattle.aig_sat.specs.checker.Consequence.{Follows};
 
-use crate::formula::Formula;
+use crate::formula::{Formula, gates_of};
 use crate::query::Goal;
 use aig_base::{Gate, Lit, Memory};
 use aig_sat::Refutation;
@@ -51,13 +51,50 @@ fn add_first_reached(refutation: &mut Refutation, goals: &[Lit]) -> Result<(), M
     add(refutation, &[*last])
 }
 
+// Adds that each of some literals is true if another one is.
+fn add_implied(refutation: &mut Refutation, literal: Lit, implied: &[Lit]) -> Result<(), Memory>
+    ensures { Adds (implies implied.now literal) refutation.old refutation.new }
+{
+    for other in implied {
+        add(refutation, &[literal.not(), *other])?;
+    }
+    Ok(())
+}
+
+// Adds that the start obeys the resets if a bad literal before the last one is true.
+fn add_starts(refutation: &mut Refutation, starts: &[Lit], goals: &[Lit]) -> Result<(), Memory>
+    ensures { Adds (flat_map (implies starts.now) (all_but_last goals.now)) refutation.old refutation.new }
+{
+    let Some((_, earlier)) = goals.split_last() else {
+        return Ok(());
+    };
+    for bad in earlier {
+        add_implied(refutation, *bad, starts)?;
+    }
+    Ok(())
+}
+
+// Adds that a bad literal is true, and that the start obeys the resets if it is one before the last.
+fn add_induction(refutation: &mut Refutation, starts: &[Lit], goals: &[Lit]) -> Result<(), Memory>
+    ensures { Adds (goals.now ∷ flat_map (implies starts.now) (all_but_last goals.now)) refutation.old refutation.new }
+{
+    add(refutation, goals)?;
+    add_starts(refutation, starts, goals)
+}
+
 // Adds the clauses of a goal.
-fn add_goal(refutation: &mut Refutation, goal: Goal, goals: &[Lit]) -> Result<(), Memory>
-    ensures { Adds (goal_clauses goal goals.now) refutation.old refutation.new }
+fn add_goal(
+    refutation: &mut Refutation,
+    goal: Goal,
+    starts: &[Lit],
+    goals: &[Lit],
+) -> Result<(), Memory>
+    ensures { Adds (goal_clauses goal starts.now goals.now) refutation.old refutation.new }
 {
     match goal {
         Goal::Within => add(refutation, goals),
         Goal::Step => add_first_reached(refutation, goals),
+        Goal::Induction => add_induction(refutation, starts, goals),
     }
 }
 
@@ -66,9 +103,9 @@ impl Formula {
     fn add_all(&self, refutation: &mut Refutation) -> Result<(), Memory>
         ensures { Adds self.now.clauses refutation.old refutation.new }
     {
-        let gates = self.unrolled.gates();
+        let gates = gates_of(&self.unrolled, &self.cone);
         add(refutation, &[Lit::new(1)])?;
-        add_goal(refutation, self.goal, &self.goals)?;
+        add_goal(refutation, self.goal, &self.starts, &self.goals)?;
         add_gates(refutation, gates)
     }
 

@@ -1,5 +1,6 @@
 //! Writing formulas (DIMACS).
 ghost use Rattle.std.specs.Prelude.{◌≡◌, ◌+◌, ◌*◌, ◌^◌, ◌<◌, ◌≤◌, [], ◌∷◌, ◌++◌, All, decimal, length};
+ghost use Rattle.aig_parts.specs.Formed.{limit};
 ghost use Rattle.aig_parts.specs.Limits.{frame_limit};
 ghost use Rattle.std.specs.List.{flat_map};
 ghost use Rattle.aig_bytes.specs.Bytes.{Writes};
@@ -7,13 +8,14 @@ ghost use Rattle.aig_bytes.specs.Gathered.{Gathers};
 ghost use Rattle.aig_bytes.specs.Term.{term_text};
 ghost use Rattle.aig_cnf.specs.CnfText.{cnf_text, goal_line, goal_lines};
 ghost use Rattle.aig_cnf.specs.Dimacs.{clause_text, formula_text, gate_text, literal_text, problem_line, sign_text};
-ghost use Rattle.aig_cnf.specs.Formula.{first_reached, goal_clauses};
+ghost use Rattle.aig_cnf.specs.Formula.{all_but_last, first_reached, goal_clauses, implies};
 ghost use Rattle.aig_cnf.specs.state.Terms.{literal_term};
 
-use crate::formula::Formula;
+use crate::formula::{Formula, gates_of};
 use crate::query::Goal;
 use aig_base::{Block, Circuit, Gate, Io, Lit, Term, Write, write_all};
 use aig_unroll::write_input_lines;
+use itoa::Buffer;
 
 // Puts a minus where the literal is negated.
 fn put_sign<W: Write>(out: &mut W, block: &mut Block, literal: Lit) -> Result<(), Io>
@@ -110,19 +112,28 @@ fn put_gates<W: Write>(out: &mut W, block: &mut Block, gates: &[Gate]) -> Result
     Ok(())
 }
 
+// Puts a number of any size.
+fn put_number<W: Write>(out: &mut W, block: &mut Block, number: u64) -> Result<(), Io>
+    ensures { Gathers W.written W.failures out.old out.new block.old block.new (decimal number) result }
+{
+    let mut digits = Buffer::new();
+    block.put_all(out, digits.format(number).as_bytes())
+}
+
 // Puts the line that says how many variables and clauses there are.
 fn put_problem<W: Write>(
     out: &mut W,
     block: &mut Block,
     variables: u32,
-    clauses: u32,
+    clauses: u64,
 ) -> Result<(), Io>
     ensures { Gathers W.written W.failures out.old out.new block.old block.new
         (problem_line variables clauses) result }
 {
     block.put_all(out, b"p cnf ")?;
     block.put_field(out, variables, b' ')?;
-    block.put_field(out, clauses, b'\n')
+    put_number(out, block, clauses)?;
+    block.put(out, b'\n')
 }
 
 // Puts the comment line of the bad literal of a frame.
@@ -164,35 +175,94 @@ fn put_first_reached<W: Write>(out: &mut W, block: &mut Block, goals: &[Lit]) ->
     put_clause(out, block, &[*last])
 }
 
-// Puts the clauses of a goal.
-fn put_goal<W: Write>(out: &mut W, block: &mut Block, goal: Goal, goals: &[Lit]) -> Result<(), Io>
+// Puts the clauses that each of some literals is true if another one is.
+fn put_implied<W: Write>(
+    out: &mut W,
+    block: &mut Block,
+    literal: Lit,
+    implied: &[Lit],
+) -> Result<(), Io>
     ensures { Gathers W.written W.failures out.old out.new block.old block.new
-        (flat_map clause_text (goal_clauses goal goals.now)) result }
+        (flat_map clause_text (implies implied.now literal)) result }
+{
+    for other in implied {
+        put_clause(out, block, &[literal.not(), *other])?;
+    }
+    Ok(())
+}
+
+// Puts the clauses that the start obeys the resets if a bad literal before the last one is true.
+fn put_starts<W: Write>(
+    out: &mut W,
+    block: &mut Block,
+    starts: &[Lit],
+    goals: &[Lit],
+) -> Result<(), Io>
+    ensures { Gathers W.written W.failures out.old out.new block.old block.new
+        (flat_map clause_text (flat_map (implies starts.now) (all_but_last goals.now))) result }
+{
+    let Some((_, earlier)) = goals.split_last() else {
+        return Ok(());
+    };
+    for bad in earlier {
+        put_implied(out, block, *bad, starts)?;
+    }
+    Ok(())
+}
+
+// Puts the clauses that a bad literal is true, and that the start obeys the resets if it is one before the last.
+fn put_induction<W: Write>(
+    out: &mut W,
+    block: &mut Block,
+    starts: &[Lit],
+    goals: &[Lit],
+) -> Result<(), Io>
+    ensures { Gathers W.written W.failures out.old out.new block.old block.new
+        (flat_map clause_text (goals.now ∷ flat_map (implies starts.now) (all_but_last goals.now))) result }
+{
+    put_clause(out, block, goals)?;
+    put_starts(out, block, starts, goals)
+}
+
+// Puts the clauses of a goal.
+fn put_goal<W: Write>(
+    out: &mut W,
+    block: &mut Block,
+    goal: Goal,
+    starts: &[Lit],
+    goals: &[Lit],
+) -> Result<(), Io>
+    ensures { Gathers W.written W.failures out.old out.new block.old block.new
+        (flat_map clause_text (goal_clauses goal starts.now goals.now)) result }
 {
     match goal {
         Goal::Within => put_clause(out, block, goals),
         Goal::Step => put_first_reached(out, block, goals),
+        Goal::Induction => put_induction(out, block, starts, goals),
     }
 }
 
 // How many clauses a goal has.
-fn goal_count(goal: Goal, goals: &[Lit]) -> u32
-    requires { length goals.now ≤ frame_limit }
-    ensures { result ≡ length (goal_clauses goal goals.now) }
+fn goal_count(goal: Goal, starts: &[Lit], goals: &[Lit]) -> u64
+    requires starts { length starts.now ≤ limit }
+    requires goals { length goals.now ≤ frame_limit }
+    ensures { result ≡ length (goal_clauses goal starts.now goals.now) }
 {
     match goal {
         Goal::Within => 1,
-        Goal::Step => goals.len() as u32,
+        Goal::Step => goals.len() as u64,
+        Goal::Induction => 1 + starts.len() as u64 * goals.len().saturating_sub(1) as u64,
     }
 }
 
 impl Formula {
     // How many clauses there are: three for a gate, one for the constant, and those of the goal.
-    fn clause_count(&self) -> u32
+    fn clause_count(&self) -> u64
         ensures { result ≡ length self.now.clauses }
     {
+        let gates = gates_of(&self.unrolled, &self.cone);
         self.unrolled.facts();
-        1 + goal_count(self.goal, &self.goals) + 3 * self.unrolled.gates().len() as u32
+        1 + goal_count(self.goal, &self.starts, &self.goals) + 3 * gates.len() as u64
     }
 
     // Puts the clauses.
@@ -200,10 +270,11 @@ impl Formula {
         ensures { Gathers W.written W.failures out.old out.new block.old block.new
             (flat_map clause_text self.now.clauses) result }
     {
+        let gates = gates_of(&self.unrolled, &self.cone);
         self.unrolled.facts();
         put_clause(out, block, &[Lit::new(1)])?;
-        put_goal(out, block, self.goal, &self.goals)?;
-        put_gates(out, block, self.unrolled.gates())
+        put_goal(out, block, self.goal, &self.starts, &self.goals)?;
+        put_gates(out, block, gates)
     }
 
     // Writes the comment lines of the bad literals, and the clauses.

@@ -1,15 +1,20 @@
 //! Formulas: what a solver is asked, over the circuit that is unrolled for it.
-ghost use Rattle.std.specs.Prelude.{◌≡◌, ◌+◌, ◌*◌, ◌^◌, ◌<◌, ◌≤◌, IfErr, IfOk, OnOk, length, slice_index};
+ghost use Rattle.std.specs.Prelude.{◌≡◌, ◌+◌, ◌*◌, ◌^◌, ◌<◌, ◌≤◌, All, IfErr, IfOk, OnOk, length, slice_index};
 ghost use Rattle.aig_parts.specs.Limits.{frame_limit};
+ghost use Rattle.aig_parts.specs.Literal.{variable};
+ghost use Rattle.aig_unroll.specs.Unrollable.{FitsLimits};
 ghost use Rattle.aig_cnf.specs.Answers.{HasFormula, RefusesFormula};
-ghost use Rattle.aig_cnf.specs.Formula.{IsFormulaOf, goals};
+ghost use Rattle.aig_cnf.specs.Formula.{IsFormulaOf, gates_for, goals};
 ghost use Rattle.aig_cnf.specs.Query.{depth, subject};
+ghost use Rattle.aig_cnf.specs.state.Kept.{kept_gates, kept_latches};
 ghost use Rattle.aig_cnf.specs.state.Made.{IsAnswered};
 
 use crate::any_state::start_in_any_state;
+use crate::cone::cone_of;
 use crate::fault::CnfFault;
 use crate::query::{Goal, Query};
-use aig_base::{Circuit, Levels, Lit, Memory};
+use crate::resets::reset_literals;
+use aig_base::{Circuit, Gate, Latch, Levels, Lit, Memory};
 use aig_unroll::{fits_limits, unrolled_circuit};
 use std::alloc::Global;
 use std::marker::Model;
@@ -18,29 +23,45 @@ use std::marker::Model;
 const FRAMES: u32 = 65_536;
 
 /// The formula of a query about a circuit. Contracts see its variables, the bad literals of its frames and its clauses.
-#[derive(Drop)]
 pub struct Formula {
     pub(crate) goal: Goal,
+    /// The literals that are true where the latches have their resets, for an induction.
+    pub(crate) starts: Vec<Lit>,
     /// The bad literal of each frame.
     pub(crate) goals: Vec<Lit>,
     /// The circuit that the query is about, unrolled.
     pub(crate) unrolled: Circuit,
+    /// The gates that the formula is about, if not all of that circuit.
+    pub(crate) cone: Option<Vec<Gate>>,
+}
+
+// By hand: a value then ends in one call, which is one step of a proof (docs/PROOFS.md, Habits).
+impl Drop for Formula {
+    fn drop(self) {
+        let Formula {
+            goal: _,
+            starts: _,
+            goals: _,
+            unrolled: _,
+            cone: _,
+        } = self;
+    }
 }
 
 impl Model for Formula {
-    ghost use Rattle.std.specs.Prelude.{◌+◌, ◌<◌, ◌≤◌, length};
-    ghost use Rattle.aig_parts.specs.Limits.{frame_limit};
+    ghost use Rattle.std.specs.Prelude.{◌+◌};
     ghost use Rattle.aig_cnf.specs.Formula.{Cnf, clauses};
+    ghost use Rattle.aig_cnf.specs.state.Kept.{Keeps};
 
     ghost Value = { Cnf };
 
     ghost view = { λ f. record {
       variables = f.unrolled.max_var + 1;
       goals = f.goals.items;
-      clauses = clauses f.goal f.goals.items f.unrolled.gates;
+      clauses = clauses f.goal f.starts.items f.goals.items f.unrolled.gates;
     } };
 
-    ghost invariant = { λ f. (0 < length f.goals.items) × (length f.goals.items ≤ frame_limit) };
+    ghost invariant = { λ f. Keeps f.goal f.starts.items f.goals.items f.unrolled.gates f.cone };
 }
 
 // For how many frames a circuit is unrolled.
@@ -50,7 +71,7 @@ fn depth_of(query: Query) -> u32
 {
     match query.goal {
         Goal::Within => query.frames,
-        Goal::Step => query.frames + 1,
+        Goal::Step | Goal::Induction => query.frames + 1,
     }
 }
 
@@ -60,8 +81,27 @@ fn set_start(circuit: &mut Circuit, goal: Goal)
 {
     match goal {
         Goal::Within => {}
-        Goal::Step => start_in_any_state(circuit),
+        Goal::Step | Goal::Induction => start_in_any_state(circuit),
     }
+}
+
+// The latches whose resets the formula is about: those of an induction.
+fn latches_for(alloc: Global, circuit: &Circuit, goal: Goal) -> Result<Vec<Latch>, Memory>
+    ensures { IfOk result (λ found. found.items ≡ kept_latches goal circuit.now) }
+{
+    match goal {
+        Goal::Within | Goal::Step => Ok(Vec::new(alloc)),
+        Goal::Induction => Ok(Vec::from_slice(alloc, circuit.latches())?),
+    }
+}
+
+// The variable of the first latch, where a circuit that starts in any state is unrolled.
+fn first_latch(circuit: &Circuit, depth: u32) -> u32
+    requires { FitsLimits circuit.now depth }
+    ensures { result ≡ depth * length circuit.now.inputs + 1 }
+{
+    circuit.facts();
+    depth * circuit.inputs().len() as u32 + 1
 }
 
 // The first fault that applies, and else the number of frames to unroll a circuit for that starts where the goal does.
@@ -111,27 +151,61 @@ fn goals_of(
     Ok(found)
 }
 
+// The gates that the formula is about, if not all: for an induction those that its bad literals depend on.
+fn cone_for(
+    alloc: Global,
+    circuit: &Circuit,
+    goal: Goal,
+    goals: &[Lit],
+) -> Result<Option<Vec<Gate>>, Memory>
+    requires { All (λ l. variable l ≤ circuit.now.max_var) goals.now }
+    ensures { IfOk result (λ cone. kept_gates cone circuit.now.gates ≡ gates_for goal goals.now circuit.now.gates) }
+{
+    match goal {
+        Goal::Within | Goal::Step => Ok(None),
+        Goal::Induction => Ok(Some(cone_of(alloc, circuit, goals)?)),
+    }
+}
+
+// The gates of a cone, or all of a circuit.
+pub(crate) fn gates_of<'a>(circuit: &'a Circuit, cone: &'a Option<Vec<Gate>>) -> &'a [Gate]
+    ensures { result.now ≡ kept_gates cone.now circuit.now.gates }
+{
+    match cone {
+        None => circuit.gates(),
+        Some(gates) => gates.as_slice(),
+    }
+}
+
 impl Formula {
     /// Makes the formula of a query about a circuit, and lets the circuit start where the goal of the query does, also
     /// where it refuses. It ignores justice and fairness. It refuses 0 frames, then a property that is not there, then
-    /// what is over a limit of `unroll`, and takes no memory before that.
+    /// what is over a limit of `unroll`. Before that it takes no memory, but for the latches of an induction.
     pub fn of(alloc: Global, circuit: &mut Circuit, query: Query) -> Result<Formula, CnfFault>
         ensures formula { IfOk result (IsFormulaOf circuit.old query) }
         ensures accepted { OnOk result (HasFormula circuit.old query) }
         ensures refused { IfErr result (RefusesFormula circuit.old query) }
         ensures circuit { circuit.new ≡ subject query.goal circuit.old }
     {
+        let latches = latches_for(alloc, circuit, query.goal);
         set_start(circuit, query.goal);
         let depth = check_query(circuit, query)?;
         circuit.facts();
+        let latches = latches?;
+        let first = first_latch(circuit, depth);
+        let starts = reset_literals(alloc, &latches, first)?;
         let bads = circuit.bad().len() as u32;
         let levels = Levels::of(alloc, circuit)?;
         let unrolled = unrolled_circuit(alloc, circuit, &levels, depth)?;
         let goals = goals_of(alloc, &unrolled, bads, depth, query.property)?;
+        unrolled.facts();
+        let cone = cone_for(alloc, &unrolled, query.goal, &goals)?;
         Ok(Formula {
             goal: query.goal,
+            starts,
             goals,
             unrolled,
+            cone,
         })
     }
 

@@ -4,11 +4,13 @@
 
 mod any_state;
 mod checked;
+mod cone;
 mod dimacs;
 mod fault;
 mod formula;
 mod laws;
 mod query;
+mod resets;
 
 pub use fault::CnfFault;
 pub use formula::Formula;

@@ -4,8 +4,10 @@ pub mod ConvertedDumps
 pub mod ConvertedTraces
 pub mod ConvertedVerdicts
 pub mod ConvertedWitnesses
+pub mod DisprovedInduction
 pub mod Examples
 pub mod FirstReached
+pub mod NamedInduction
 pub mod PartialModels
 pub mod Premises
 pub mod Reached

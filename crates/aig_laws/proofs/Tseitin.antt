@@ -138,12 +138,12 @@ meets_one a (x ∷ ls) (suc i) l at t = go (is_true a x) (meets_one a ls i l at 
 
 -- ---- values
 
-tern_and : (x y : Bool) → tern_of (x && y) ≡ kleene_and (tern_of x) (tern_of y)
+pub tern_and : (x y : Bool) → tern_of (x && y) ≡ kleene_and (tern_of x) (tern_of y)
 tern_and true true = refl
 tern_and true false = refl
 tern_and false y = refl
 
-tern_not : (x : Bool) → tern_of (not x) ≡ kleene_not (tern_of x)
+pub tern_not : (x : Bool) → tern_of (not x) ≡ kleene_not (tern_of x)
 tern_not true = refl
 tern_not false = refl
 
@@ -151,7 +151,7 @@ pub none_of : {A : Type 0} (xs : List A) (p : ℕ) (x : A) → xs ≡ [] → sli
 none_of {A = A} xs p x e at = let f : slice_get {X = A} [] p ≡ Some x = subst (λ (ys : List A). slice_get ys p ≡ Some x) e at in cc
 
 module _ (raw : Raw) (row : List Tern) (no_latches : raw.latches ≡ []) where
-  only_row : (t : ℕ) (r : List Tern) → slice_get (row ∷ []) t ≡ Some r → row ≡ r
+  pub only_row : (t : ℕ) (r : List Tern) → slice_get (row ∷ []) t ≡ Some r → row ≡ r
   only_row zero r e = cc
   only_row (suc t) r e = cc
 

@@ -26,7 +26,7 @@ use Rattle.aig_laws.proofs.UnrolledWitnesses.{filled_row_known, in_filled_row, i
 
 -- ---- the witness that a run reaches the property
 
-confirmed_at : (raw : Raw) → IsCircuit raw → (k : ℕ) (start : List Tern) (rows : List (List Tern)) (t p : ℕ)
+pub confirmed_at : (raw : Raw) → IsCircuit raw → (k : ℕ) (start : List Tern) (rows : List (List Tern)) (t p : ℕ)
     → t < k → ReachesProperty raw start rows t p → IsConfirmedWithin raw k (witness_at start rows t p)
 confirmed_at raw circuit k start rows t p below (fits, allowed, lt, (b, at, reaches)) =
     let short : length (take (t + 1) rows) ≡ t + 1 = length-take-le (t + 1) rows (omega arith) in

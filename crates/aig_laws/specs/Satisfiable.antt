@@ -1,6 +1,6 @@
--- What the two formulas ask of a circuit (AIGER 1.9, bad state properties and invariant constraints): some assignment
+-- What the formulas ask of a circuit (AIGER 1.9, bad state properties and invariant constraints): some assignment
 -- satisfies the formula exactly where there is such a run. Unknown values are our own choice.
-use Rattle.std.specs.Prelude.{◌≡◌, ℕ, ◌+◌, ◌-◌, ◌<◌, Bool, List, length, Some, slice_get, All}
+use Rattle.std.specs.Prelude.{◌≡◌, ◌⊎◌, ℕ, ◌+◌, ◌-◌, ◌<◌, Bool, List, length, Some, slice_get, All}
 use Rattle.aig_parts.specs.declared.raw.Raw.{Raw}
 use Rattle.aig_parts.specs.declared.ternary.Tern.{Tern}
 use Rattle.aig_base.specs.Runs.{ReachesBad, ReachesProperty}
@@ -50,6 +50,13 @@ pub record BreaksStep (raw : Raw) (k p : ℕ) (start : List Tern) (rows : List (
 -- there is one: the step of an induction over k frames fails
 abbrev pub HasBrokenStep : Raw → ℕ → ℕ → Type 0
 HasBrokenStep raw k p = (start : List Tern) × (rows : List (List Tern)) × BreaksStep raw k p start rows
+
+-- A run of k + 1 frames, without unknown values, that disproves an induction over k frames: from a start that the resets
+-- allow it reaches property p at one of the first k frames, or it breaks the step.
+pub record DisprovesInduction (raw : Raw) (k p : ℕ) (start : List Tern) (rows : List (List Tern)) : Type 0 where
+  pub known : IsKnownRun start rows
+  pub frames : length rows ≡ k + 1
+  pub fails : ((t : ℕ) × (t < k) × ReachesProperty raw start rows t p) ⊎ BreaksStep raw k p start rows
 
 -- the start and the rows that an assignment gives the inputs of the circuit unrolled for k + 1 frames from any state
 abbrev pub step_row : Raw → ℕ → (ℕ → Bool) → List Tern

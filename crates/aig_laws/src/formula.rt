@@ -1,17 +1,17 @@
 //! From an assignment that satisfies a formula to a run, and back. Each law is a function that does nothing: its
 //! contract is the law. The formulas are our own choice.
-ghost use Rattle.std.specs.Prelude.{◌≡◌, ◌↔◌, ℕ, ◌<◌, Bool, List, length};
+ghost use Rattle.std.specs.Prelude.{◌≡◌, ◌↔◌, ◌⊎◌, ℕ, ◌<◌, Bool, List, length};
 ghost use Rattle.aig_parts.specs.declared.raw.Raw.{Raw};
 ghost use Rattle.aig_parts.specs.declared.ternary.Tern.{Tern};
 ghost use Rattle.aig_base.specs.Circuit.{IsCircuit};
 ghost use Rattle.aig_base.specs.Order.{IsCanonicalOrder};
 ghost use Rattle.aig_cnf.specs.Formula.{Cnf, IsFormulaOf, formula_of};
-ghost use Rattle.aig_cnf.specs.Query.{from_any_state, step, within};
+ghost use Rattle.aig_cnf.specs.Query.{from_any_state, induction, step, within};
 ghost use Rattle.aig_sat.specs.checker.Clause.{Satisfies};
 ghost use Rattle.aig_sim.specs.WitnessText.{Witness};
 ghost use Rattle.aig_laws.specs.Models.{AreKnown, IsInModel, NamesWitness};
 ghost use Rattle.aig_laws.specs.Satisfiable.{HasKnownWitness, IsKnownWitness, IsNamedWitness, IsReachedWithin};
-ghost use Rattle.aig_laws.specs.Satisfiable.{BreaksStep, HasBrokenStep, IsNamedStep, IsSatisfiable, step_rows, step_start};
+ghost use Rattle.aig_laws.specs.Satisfiable.{BreaksStep, DisprovesInduction, HasBrokenStep, IsNamedStep, IsSatisfiable, step_rows, step_start};
 ghost use Rattle.aig_laws.specs.UnrolledWitness.{MakesBad};
 ghost use Rattle.aig_unroll.specs.FrameLiteral.{input_count};
 
@@ -51,4 +51,17 @@ pub fn law_of_step()
     ensures each { (raw : Raw) (order : List ℕ) (k p : ℕ) (start : List Tern) (rows : List (List Tern)) →
         IsCircuit raw → IsCanonicalOrder (from_any_state raw) order → BreaksStep raw k p start rows →
         IsNamedStep raw order k p start rows }
+{}
+
+/// Some assignment satisfies the formula of an induction over k frames exactly where a run from a start that the resets
+/// allow reaches the bad state within them, or a run breaks the step. Each assignment that satisfies it names such a run,
+/// its start and its rows.
+pub fn law_of_induction_formula()
+    ensures reached { (raw : Raw) (formula : Cnf) (k p : ℕ) →
+        IsCircuit raw → IsFormulaOf raw (induction k p) formula → p < length raw.bad →
+        IsSatisfiable formula.clauses ↔ (IsReachedWithin raw k p ⊎ HasBrokenStep raw k p) }
+    ensures model { (raw : Raw) (order : List ℕ) (k p : ℕ) (values : ℕ → Bool) →
+        IsCircuit raw → IsCanonicalOrder (from_any_state raw) order → p < length raw.bad →
+        Satisfies values (formula_of raw order (induction k p)).clauses →
+        DisprovesInduction raw k p (step_start raw k values) (step_rows raw k values) }
 {}

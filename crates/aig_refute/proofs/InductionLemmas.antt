@@ -238,7 +238,7 @@ module _ (raw : Raw) (circuit : IsCircuit raw) (k p : ℕ) (base : IsUnreachable
   each_frame zero = λ start rows t b lt fits allowed long_enough at reaches. absurd (omega (arith, lt))
   each_frame (suc n) = one_more n (each_frame n)
 
-  unreachable : IsUnreachable raw p
+  pub unreachable : IsUnreachable raw p
   unreachable start rows t (fits, allowed, long_enough, (b, at, reaches)) =
       each_frame (suc t) start rows t b (omega arith) fits allowed long_enough at reaches
 

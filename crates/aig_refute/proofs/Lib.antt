@@ -1,3 +1,5 @@
+pub mod ExtensionLemmas
 pub mod InductionLemmas
 pub mod LaterFrames
+pub mod OneFormula
 pub mod UnreachableLemmas

@@ -13,6 +13,15 @@ returns-in_err-put_field g c =
     let h = c.from_residual-in_err-put_field.ensures.0 in
     gathers_then c.in_ok-put_all.ensures (gathers_stop _ h (gathers_failed c.in_err-put_field.ensures h))
 
+pub returns-in_err-put_number : goal.returns-in_err-put_number
+unfolding problem_line
+returns-in_err-put_number g c =
+    let h = c.from_residual-in_err-put_number.ensures.0 in
+    gathers_then c.in_ok-put_all.ensures (gathers_then c.in_ok-put_field.ensures
+    (gathers_stop _ h (gathers_failed c.in_err-put_number.ensures h)))
+
 pub returns : goal.returns
 unfolding problem_line
-returns g c = gathers_then c.in_ok-put_all.ensures (gathers_then c.in_ok-put_field.ensures c.put_field-2.ensures)
+returns g c =
+    gathers_then c.in_ok-put_all.ensures
+    (gathers_then c.in_ok-put_field.ensures (gathers_then c.in_ok-put_number.ensures c.put.ensures))

@@ -1,0 +1,4 @@
+pub mod Answers
+pub mod Extension
+pub mod Shared
+pub mod Strengthened

@@ -1,0 +1,38 @@
+//! Why a model is not strengthened.
+ghost use Rattle.std.specs.Prelude.{◌≡◌};
+
+use aig_base::{Fault, Kind, Memory};
+use thiserror::Error;
+
+/// Why a model is not strengthened by a certificate. The faults stand in the order in which they are tried.
+#[derive(Clone, Copy, PartialEq, Eq, Debug, Error)]
+pub enum StrengthenFault {
+    /// The certificate's comment begins with `MAPPING`, and no symbol says what an entry stands for.
+    #[error("comment")]
+    Comment,
+    /// The symbol of this input or latch begins with `= `, and names no literal of the model.
+    #[error("symbol")]
+    Symbol { kind: Kind, position: u32 },
+    /// The model has no bad state property at this position.
+    #[error("property")]
+    Property,
+    /// The strengthened circuit is over a limit of circuits.
+    #[error("limit")]
+    Limit,
+    /// The strengthened circuit has this fault. It never comes: both files are circuits.
+    #[error("{0}")]
+    Circuit(Fault),
+    /// No memory was found.
+    #[error("memory")]
+    Memory,
+}
+
+impl From<Memory> for StrengthenFault {
+    ghost use Rattle.aig_certificate.specs.declared.fault.StrengthenFault.TheVariants as faults;
+
+    ghost from_gives = { λ _ fault. fault ≡ faults.Memory };
+
+    fn from(_error: Memory) -> StrengthenFault {
+        StrengthenFault::Memory
+    }
+}
