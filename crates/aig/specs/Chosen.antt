@@ -11,6 +11,7 @@ use Rattle.aig.specs.declared.command.Command.TheVariants as commands
 abbrev pub is_step : Goal → Bool
 is_step goals.Within = false
 is_step goals.Step = true
+is_step goals.Induction = false
 
 -- the number of frames, and the property: 0 where it is left out
 abbrev pub HoldsClaim : ArgMatches → ℕ → ℕ → Type 0

@@ -1,0 +1,9 @@
+pub mod Assembled
+pub mod ChainGates
+pub mod Entered
+pub mod Extensions
+pub mod Marked
+pub mod Naming
+pub mod OwnEntries
+pub mod Refusals
+pub mod Results

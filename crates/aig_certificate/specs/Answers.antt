@@ -24,7 +24,7 @@ pub record IsReadable (model certificate : Raw) : Type 0 where
 pub record CanStrengthen (model : Raw) (p : ℕ) (certificate : Raw) : Type 0 where
   pub readable : IsReadable model certificate
   pub property : p < length model.bad
-  pub limits : (x : Raw) → IsStrengthened model p certificate x → IsFormed x
+  pub limits : (x : Raw) × IsStrengthened model p certificate x × IsFormed x
 
 -- the fault is the first that applies; no memory was found only where none of the others applies
 abbrev pub RefusesStrengthening : Raw → ℕ → Raw → StrengthenFault → Type 0

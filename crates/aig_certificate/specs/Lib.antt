@@ -2,3 +2,4 @@ pub mod Answers
 pub mod Extension
 pub mod Shared
 pub mod Strengthened
+pub mod state

@@ -2,12 +2,13 @@
 -- its properties is ever 1 and each of its constraints always is. The strengthened circuit is the model with the
 -- certificate's own inputs and latches, with all its gates, and with one bad state property: the model's is 1, or a
 -- claim is broken.
-use Rattle.std.specs.Prelude.{◌≡◌, ℕ, ◌+◌, ◌*◌, ◌-◌, ◌==◌, nat_lt, Bool, ◌&&◌, if◌then◌else◌, List, [], ◌∷◌, ◌++◌, length, map, take, Option, Some, None, slice_get, slice_index, tail}
-use Rattle.std.specs.List.{flat_map, range_with_len}
+use Rattle.std.specs.Prelude.{◌≡◌, ℕ, ◌+◌, ◌*◌, ◌-◌, ◌==◌, nat_lt, if◌then◌else◌, List, [], ◌∷◌, ◌++◌, length, map, take, count_by, is_none, Option, Some, None, option_map, slice_get}
+use Rattle.std.specs.List.{filter_map, range_with_len}
 use Rattle.aig_parts.specs.declared.gate.Gate.{Gate}
 use Rattle.aig_parts.specs.declared.latch.Latch.{Latch}
 use Rattle.aig_parts.specs.declared.raw.Raw.{Raw}
-use Rattle.aig_parts.specs.declared.symbols.Kind.TheVariants.{Input, Latch as Latches, Output, Bad, Constraint, Justice, Fairness}
+use Rattle.aig_parts.specs.declared.symbols.Kind.{Kind}
+use Rattle.aig_parts.specs.declared.symbols.Kind.TheVariants.{Input, Latch as Latches, Output, Bad, Constraint}
 use Rattle.aig_parts.specs.Literal.{negation}
 use Rattle.aig_parts.specs.SymbolPlaces.{Key}
 use Rattle.aig_base.specs.Renumbered.{ready_gate, relabelled_latch}
@@ -44,16 +45,16 @@ pub record IsTranslation (model certificate : Raw) (meanings : Meanings) (litera
   pub new : map literal (own_literals meanings certificate)
       ≡ literals_after model.max_var (length (own_literals meanings certificate))
 
--- ---- the parts: what is to be 0 at each frame
+-- ---- the parts of the bad state property: what is to be 0 at each frame
 
 -- the certificate's properties: its bad literals, or its outputs where it has none
 abbrev pub properties : Raw → List ℕ
 properties certificate = if nat_lt 0 (length certificate.bad) then certificate.bad else certificate.outputs
 
--- bad literal b of the model, the properties, and the negations of the certificate's constraints
-abbrev pub parts : ℕ → Raw → (ℕ → ℕ) → List ℕ
-parts b certificate literal =
-    b ∷ map literal (properties certificate) ++ map (λ c. negation (literal c)) certificate.constraints
+-- literals that are 1 where a claim is broken: the properties, and the negations of the certificate's constraints
+abbrev pub claims : Raw → (ℕ → ℕ) → List ℕ
+claims certificate literal =
+    map literal (properties certificate) ++ map (λ c. negation (literal c)) certificate.constraints
 
 -- gates from variable v on, each the AND of a negated part and of the gate before it; the first has `l` in its place
 unfoldable pub chain : ℕ → ℕ → List ℕ → List Gate
@@ -67,61 +68,64 @@ chain_end v l (part ∷ parts) = chain_end (v + 1) (2 * v) parts
 
 -- ---- symbols
 
--- the position of the next own entry behind the first so many, where the model has n entries
+-- the position of an own entry, where the model has n entries: behind those, as many as there are own ones before it
 abbrev pub own_position : ℕ → List (Option ℕ) → ℕ → ℕ
-own_position n ms p = n + length (own (take p ms) (take p ms))
+own_position n ms p = n + count_by is_none (take p ms)
 
--- an own entry's name at its new position; a shared entry's name goes
-abbrev pub own_symbol : ℕ → List (Option ℕ) → Key × List ℕ → List (Key × List ℕ)
-own_symbol n ms s = own_entry (slice_get ms s.0.1)
+-- an own entry at its new position; a shared entry is gone
+abbrev pub own_entry : Kind → ℕ → List (Option ℕ) → ℕ → Option Key
+own_entry kind n ms p = entry (slice_get ms p)
   where
-    own_entry : Option (Option ℕ) → List (Key × List ℕ)
-    own_entry (Some None) = ((s.0.0, own_position n ms s.0.1), s.1) ∷ []
-    own_entry m = []
+    entry : Option (Option ℕ) → Option Key
+    entry (Some None) = Some (kind, own_position n ms p)
+    entry m = None
 
--- what is left of a symbol of the model, of which property p is asked: parts are outputs
-abbrev pub model_symbol : ℕ → Key × List ℕ → List (Key × List ℕ)
-model_symbol p ((Input, q), name) = ((Input, q), name) ∷ []
-model_symbol p ((Latches, q), name) = ((Latches, q), name) ∷ []
-model_symbol p ((Constraint, q), name) = ((Constraint, q), name) ∷ []
-model_symbol p ((Bad, q), name) = if q == p then ((Output, 0), name) ∷ [] else []
-model_symbol p ((_, q), name) = []
+-- the entry that an entry of the model is, of which property p is asked: inputs, latches and constraints stay, and the
+-- property is the first output
+abbrev pub model_entry : ℕ → Kind → ℕ → Option Key
+model_entry p Input q = Some (Input, q)
+model_entry p Latches q = Some (Latches, q)
+model_entry p Constraint q = Some (Constraint, q)
+model_entry p Bad q = if q == p then Some (Output, 0) else None
+model_entry p kind q = None
 
--- what is left of a symbol of the certificate
-abbrev pub certificate_symbol : Raw → Raw → Meanings → Key × List ℕ → List (Key × List ℕ)
-certificate_symbol model certificate meanings ((Input, q), name) =
-    own_symbol (length model.inputs) meanings.inputs ((Input, q), name)
-certificate_symbol model certificate meanings ((Latches, q), name) =
-    own_symbol (length model.latches) meanings.latches ((Latches, q), name)
-certificate_symbol model certificate meanings ((Bad, q), name) = ((Output, 1 + q), name) ∷ []
-certificate_symbol model certificate meanings ((Output, q), name) =
-    if nat_lt 0 (length certificate.bad) then [] else ((Output, 1 + q), name) ∷ []
-certificate_symbol model certificate meanings ((Constraint, q), name) =
-    ((Output, 1 + length (properties certificate) + q), name) ∷ []
-certificate_symbol model certificate meanings ((_, q), name) = []
+-- the entry that an entry of the certificate is: own inputs and latches, and outputs for its properties and constraints
+abbrev pub certificate_entry : Raw → Raw → Meanings → Kind → ℕ → Option Key
+certificate_entry model certificate meanings Input q = own_entry Input (length model.inputs) meanings.inputs q
+certificate_entry model certificate meanings Latches q = own_entry Latches (length model.latches) meanings.latches q
+certificate_entry model certificate meanings Bad q = Some (Output, 1 + q)
+certificate_entry model certificate meanings Output q =
+    if nat_lt 0 (length certificate.bad) then None else Some (Output, 1 + q)
+certificate_entry model certificate meanings Constraint q = Some (Output, 1 + length (properties certificate) + q)
+certificate_entry model certificate meanings kind q = None
+
+-- the names at the new entries, in the same order; an entry that is gone has none
+abbrev pub renamed : (Kind → ℕ → Option Key) → List (Key × List ℕ) → List (Key × List ℕ)
+renamed entry symbols = filter_map (λ s. option_map (λ e. (e, s.1)) (entry s.0.0 s.0.1)) symbols
 
 -- ---- the circuit
 
 abbrev pub translated_gate : (ℕ → ℕ) → Gate → Gate
 translated_gate literal g = record { lhs = literal g.lhs; rhs0 = literal g.rhs0; rhs1 = literal g.rhs1 }
 
--- bad literal b is at position p of the model; its parts are the outputs
+-- bad literal b is at position p of the model; the outputs are the parts of the new bad state property
 abbrev pub strengthened : Raw → ℕ → ℕ → Raw → Meanings → (ℕ → ℕ) → Raw
 strengthened model p b certificate meanings literal =
     let own_variables = length (own_literals meanings certificate) in
-    let found = parts b certificate literal in
+    let broken = claims certificate literal in
     let first = model.max_var + own_variables + 1 in
     record {
-      max_var = model.max_var + own_variables + length found - 1;
+      max_var = model.max_var + own_variables + length broken;
       inputs = model.inputs ++ map literal (own meanings.inputs certificate.inputs);
       latches = model.latches ++ map (relabelled_latch literal) (own meanings.latches certificate.latches);
-      outputs = found;
-      bad = negation (chain_end first (negation b) (tail found)) ∷ [];
+      outputs = b ∷ broken;
+      bad = negation (chain_end first (negation b) broken) ∷ [];
       constraints = model.constraints;
       justice = [];
       fairness = [];
-      gates = model.gates ++ map (translated_gate literal) certificate.gates ++ chain first (negation b) (tail found);
-      symbols = flat_map (model_symbol p) model.symbols ++ flat_map (certificate_symbol model certificate meanings) certificate.symbols;
+      gates = model.gates ++ map (translated_gate literal) certificate.gates ++ chain first (negation b) broken;
+      symbols = renamed (model_entry p) model.symbols
+          ++ renamed (certificate_entry model certificate meanings) certificate.symbols;
       comment = None;
     }
 

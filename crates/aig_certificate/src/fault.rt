@@ -2,6 +2,7 @@
 ghost use Rattle.std.specs.Prelude.{◌≡◌};
 
 use aig_base::{Fault, Kind, Memory};
+use std::alloc::{AllocError, AllocFailed};
 use thiserror::Error;
 
 /// Why a model is not strengthened by a certificate. The faults stand in the order in which they are tried.
@@ -33,6 +34,26 @@ impl From<Memory> for StrengthenFault {
     ghost from_gives = { λ _ fault. fault ≡ faults.Memory };
 
     fn from(_error: Memory) -> StrengthenFault {
+        StrengthenFault::Memory
+    }
+}
+
+impl From<AllocError> for StrengthenFault {
+    ghost use Rattle.aig_certificate.specs.declared.fault.StrengthenFault.TheVariants as faults;
+
+    ghost from_gives = { λ _ fault. fault ≡ faults.Memory };
+
+    fn from(_error: AllocError) -> StrengthenFault {
+        StrengthenFault::Memory
+    }
+}
+
+impl<T: Drop> From<AllocFailed<T>> for StrengthenFault {
+    ghost use Rattle.aig_certificate.specs.declared.fault.StrengthenFault.TheVariants as faults;
+
+    ghost from_gives = { λ _ fault. fault ≡ faults.Memory };
+
+    fn from(_error: AllocFailed<T>) -> StrengthenFault {
         StrengthenFault::Memory
     }
 }

@@ -2,7 +2,12 @@
 #![tactic(auto)]
 
 mod fault;
+mod mark;
+mod parts;
+mod shared;
 mod strengthen;
+mod symbols;
+mod translation;
 
 pub use fault::StrengthenFault;
 pub use strengthen::strengthened;

@@ -39,6 +39,7 @@ ChecksStep k p raw (Err _) = ⊥
 abbrev pub answer_line : Goal → ℕ → List ℕ
 answer_line goals.Within k = codes "unreachable within " ++ (decimal k ++ codes "\n")
 answer_line goals.Step k = codes "unreachable\n"
+answer_line goals.Induction k = codes "unreachable\n"
 
 -- it is written where all went well, and else nothing
 abbrev pub answer_text : List ℕ → Result (Unit {0}) RunFault → List ℕ

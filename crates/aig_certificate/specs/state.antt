@@ -1,0 +1,5 @@
+-- What proofs alone need: the functions' tables and lists. No contract of an exported function reaches them.
+pub mod Marks
+pub mod Names
+pub mod Sources
+pub mod Table
