@@ -7,7 +7,7 @@ use Rattle.aig_cnf.specs.Query.{step, within}
 use Rattle.aig_cnf.specs.declared.query.Goal.{Goal}
 use Rattle.aig_cnf.specs.declared.query.Goal.TheVariants as goals
 use Rattle.aig_sat.specs.declared.proof.fault.ProofFault.{ProofFault}
-use Rattle.aig_sat.specs.proof.Reads.{reads_failed}
+use Rattle.aig_refute.specs.Checked.{check_reads_failed}
 use Rattle.aig_refute.specs.Unreachable.{IsUnreachable, IsUnreachableWithin}
 use Rattle.aig_run.specs.declared.run_fault.RunFault.{RunFault}
 use Rattle.aig_run.specs.declared.run_fault.RunFault.TheVariants as run_faults
@@ -64,11 +64,11 @@ IsFileNeverReached file p = (raw : Raw) × IsFileOf file raw × IsUnreachable ra
 -- how many reads of the proof failed, by the answer
 abbrev pub proof_reads_failed : Result (Unit {0}) RunFault → ℕ
 proof_reads_failed (Ok done) = 0
-proof_reads_failed (Err (run_faults.Proof fault)) = reads_failed {T = Unit {0}} (Err fault)
+proof_reads_failed (Err (run_faults.Proof fault)) = check_reads_failed (Err fault)
 proof_reads_failed (Err _) = 0
 
 -- how many reads of the step's proof failed
 abbrev pub step_reads_failed : Result (Unit {0}) RunFault → ℕ
 step_reads_failed (Ok done) = 0
-step_reads_failed (Err (run_faults.StepProof fault)) = reads_failed {T = Unit {0}} (Err fault)
+step_reads_failed (Err (run_faults.StepProof fault)) = check_reads_failed (Err fault)
 step_reads_failed (Err _) = 0

@@ -3,3 +3,4 @@ pub mod InductionLemmas
 pub mod LaterFrames
 pub mod OneFormula
 pub mod UnreachableLemmas
+pub mod WholeProofs

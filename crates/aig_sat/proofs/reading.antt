@@ -1,2 +1,4 @@
+pub mod BytesRefusals
 pub mod RenamingLemmas
 pub mod TakingLemmas
+pub mod TextRefusals

@@ -7,4 +7,4 @@ mod proof;
 
 pub use checker::Refutation;
 pub use model::{Assignment, ModelFault, Phase, law_of_model_text, read_model};
-pub use proof::{ProofFault, ProofReader, Spelling, StepKind};
+pub use proof::{ProofFault, ProofReader, ReadFault, Spelling, StepKind};

@@ -11,7 +11,7 @@ mod spelling;
 mod step;
 mod text;
 
-pub use fault::ProofFault;
+pub use fault::{ProofFault, ReadFault};
 pub use reader::ProofReader;
 pub use spelling::Spelling;
 pub use step::StepKind;

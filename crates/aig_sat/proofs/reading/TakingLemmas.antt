@@ -13,6 +13,7 @@ use Rattle.std.proofs.Math.Seq.{drop-cons}
 use Rattle.std.proofs.lemmas.Fmt.{decimal_digit}
 use Rattle.std.specs.Fmt.{decimal}
 use Rattle.std.specs.Prelude.{Result, Ok, Err, IfOk, OnOk}
+use Rattle.std.specs.Option.{IsSomeAnd}
 use Rattle.aig_bytes.specs.Bytes.{before, IsAtEnd}
 use Rattle.aig_bytes.specs.Term.{minus}
 use Rattle.aig_parts.specs.Literal.{variable}
@@ -22,9 +23,9 @@ use Rattle.aig_sat.specs.declared.proof.step.StepKind.{StepKind}
 use Rattle.aig_sat.specs.declared.proof.step.StepKind.TheVariants.{Add, Delete}
 use Rattle.aig_sat.specs.model.ModelText.{IsSpace, number_text}
 use Rattle.aig_sat.specs.proof.ProofBytes.{Groups, SpellsLiterals, first_byte}
-use Rattle.aig_sat.specs.proof.ProofText.{EndsStep, Gap, IsBlank, SpellsClause, SpellsStep}
-use Rattle.aig_sat.specs.proof.Steps.{AreRenamed, BeginsSo, Block, text_to_come, bytes_to_come}
-use Rattle.aig_sat.specs.proof.state.Taking.{Begins, Ends, GoesOn, LeadsAll, LeadsBy, LeadsClause, LeadsGap, LeadsLiterals, LeadsStep, LeadsWord, TakesBytes, TakesText, held, last_byte, sign}
+use Rattle.aig_sat.specs.proof.ProofText.{EndsStep, Gap, IsBlank, SpellsClause, SpellsStep, last_byte}
+use Rattle.aig_sat.specs.proof.Steps.{AreRenamed, BeginsSo, Block, TakesText, text_to_come, bytes_to_come}
+use Rattle.aig_sat.specs.proof.state.Taking.{Begins, Ends, GoesOn, LeadsAll, LeadsBy, LeadsClause, LeadsGap, LeadsLiterals, LeadsStep, LeadsWord, TakesBytes, held, sign}
 use Rattle.aig_sat.proofs.models.DigitLemmas.{digit_joins}
 
 pub before_none : (left : Option (List ℕ)) → before [] left ≡ left
@@ -374,7 +375,7 @@ pub step_taken : (spelling : Spelling) (f : Bool) (a b c : Block) (l m n : Optio
     (spelled clause : List ℕ) → Begins spelling a b l m (Some kind) → Ends spelling f b c m n spelled
     → AreRenamed formula spelled clause → GoesOn spelling f formula a c l n clause (Some kind)
 step_taken Text f a b c l m n kind formula spelled clause (xs, first, took) (ys, second, took') meant =
-    (xs ++ ys, spelled, first f ys spelled second, meant, (text_then took took').come)
+    (xs ++ ys, spelled, first f ys spelled second, meant, text_then took took')
 step_taken Binary f a b c l m n kind formula spelled clause took (ys, second, took') meant = (
   first_byte kind ∷ ys,
   spelled,
@@ -407,3 +408,24 @@ first_is a b l m x P look is unknown empty one =
 pub deletion_so : (spelling : Spelling) (b : ℕ) (rest : List ℕ) → b ≡ 100 → BeginsSo spelling (Some (b ∷ rest))
 deletion_so Text b rest is = λ other. let never : ⊥ = omega (arith, is, other) in absurd never
 deletion_so Binary b rest is = inr is
+
+-- ---- bytes to come, where they are known
+
+pub after : (P Q : List ℕ → Type 0) (o n : Option (List ℕ)) (xs : List ℕ) → o ≡ before xs n
+    → ((bytes : List ℕ) → P (xs ++ bytes) → Q bytes) → IsSomeAnd o P → IsSomeAnd n Q
+after P Q None n xs e on h = absurd h
+after P Q (Some all) None xs e on h = let never : ⊥ = cc in absurd never
+after P Q (Some all) (Some bytes) xs e on h =
+    let is : all ≡ xs ++ bytes = cc in on bytes (subst P is h)
+
+pub none_after : (P : List ℕ → Type 0) (o n : Option (List ℕ)) (xs : List ℕ) → o ≡ before xs n
+    → ((bytes : List ℕ) → P (xs ++ bytes) → ⊥) → IsSomeAnd o P → ⊥
+none_after P None n xs e on h = h
+none_after P (Some all) None xs e on h = let never : ⊥ = cc in never
+none_after P (Some all) (Some bytes) xs e on h =
+    let is : all ≡ xs ++ bytes = cc in on bytes (subst P is h)
+
+pub mapped : (P Q : List ℕ → Type 0) (o : Option (List ℕ)) → ((bytes : List ℕ) → P bytes → Q bytes) → IsSomeAnd o P
+    → IsSomeAnd o Q
+mapped P Q None on h = h
+mapped P Q (Some bytes) on h = on bytes h

@@ -12,6 +12,11 @@ pub data Gap : ℕ → List ℕ → Type 0 where
   space : {previous : ℕ} {rest : List ℕ} (b : ℕ) → IsSpace b → Gap b rest → Gap previous (b ∷ rest)
   comment : {rest : List ℕ} (line : List ℕ) → All (λ b. b ≢ 10) line → Gap 10 rest → Gap 10 (99 ∷ (line ++ 10 ∷ rest))
 
+-- the last byte of these, or the one before them where there is none
+abbrev pub last_byte : ℕ → List ℕ → ℕ
+last_byte previous [] = previous
+last_byte previous (b ∷ rest) = last_byte b rest
+
 -- a blank or a tab
 abbrev pub IsBlank : ℕ → Type 0
 IsBlank b = (b ≡ 32) ⊎ (b ≡ 9)

@@ -1,12 +1,12 @@
 -- What a reader of steps is seen as, and what reading a step does.
-use Rattle.std.specs.Prelude.{◌≡◌, ◌≢◌, ◌⊎◌, ℕ, ◌<◌, ◌≤◌, ◌%◌, Bool, if◌then◌else◌, List, [], ◌∷◌, ◌++◌, All, Option, Some, None}
+use Rattle.std.specs.Prelude.{◌≡◌, ◌≢◌, ◌⊎◌, ℕ, ◌<◌, ◌≤◌, ◌%◌, Bool, if◌then◌else◌, List, [], ◌∷◌, ◌++◌, All, Option, Some, None, IfSome}
 use Rattle.std.specs.Option.{is_none}
 use Rattle.aig_bytes.specs.Bytes.{before, IsAtEnd}
 use Rattle.aig_parts.specs.Literal.{variable}
 use Rattle.aig_sat.specs.declared.proof.spelling.Spelling.{Spelling}
 use Rattle.aig_sat.specs.declared.proof.spelling.Spelling.TheVariants.{Text, Binary}
 use Rattle.aig_sat.specs.declared.proof.step.StepKind.{StepKind}
-use Rattle.aig_sat.specs.proof.ProofText.{Gap, SpellsStep}
+use Rattle.aig_sat.specs.proof.ProofText.{Gap, SpellsStep, last_byte}
 use Rattle.aig_sat.specs.proof.ProofBytes.{SpellsBinaryStep}
 
 -- The bytes that were read and not taken. Once a read has given the end, they include an LF for the end, until it is
@@ -53,6 +53,11 @@ abbrev pub bytes_to_come : Block → Option (List ℕ) → Option (List ℕ)
 bytes_to_come block None = None
 bytes_to_come block (Some left) = Some (if block.ended then [] else block.waiting ++ left)
 
+-- these bytes of a text were taken
+pub record TakesText (old new : Block) (left left' : Option (List ℕ)) (taken : List ℕ) : Type 0 where
+  pub come : text_to_come old left ≡ before taken (text_to_come new left')
+  pub previous : new.previous ≡ last_byte old.previous taken
+
 -- The bytes of a proof that is spelled so: a text does not begin with an `a`, and the binary form begins with an `a` or
 -- a `d`.
 abbrev pub BeginsSo : Spelling → Option (List ℕ) → Type 0
@@ -68,7 +73,7 @@ abbrev pub ReadsStep : StepReader → StepReader → Option (List ℕ) → Optio
 ReadsStep old new left left' kind (Some Text) = (text : List ℕ) × (spelled : List ℕ)
     × SpellsStep (is_none old.spelling) old.block.previous text kind spelled
     × AreRenamed old.formula spelled new.clause
-    × (text_to_come old.block left ≡ before text (text_to_come new.block left'))
+    × TakesText old.block new.block left left' text
 ReadsStep old new left left' kind (Some Binary) = (bytes : List ℕ) × (spelled : List ℕ)
     × SpellsBinaryStep bytes kind spelled
     × AreRenamed old.formula spelled new.clause
@@ -88,3 +93,25 @@ ReadsEnd old new left left' None = ⊥
 abbrev pub Reads : StepReader → StepReader → Option (List ℕ) → Option (List ℕ) → Option StepKind → Type 0
 Reads old new left left' (Some kind) = ReadsStep old new left left' kind new.spelling
 Reads old new left left' None = ReadsEnd old new left left' new.spelling
+
+-- the bytes to come of a text begin with a step, or only separate up to their end
+abbrev pub StepToCome : Bool → ℕ → List ℕ → Type 0
+StepToCome is_first previous bytes =
+    ((text : List ℕ) × (rest : List ℕ) × (kind : StepKind) × (clause : List ℕ)
+    × SpellsStep is_first previous text kind clause × (bytes ≡ text ++ rest))
+    ⊎ Gap previous bytes
+
+-- those of the binary form begin with a step, or are none
+abbrev pub BinaryStepToCome : List ℕ → Type 0
+BinaryStepToCome bytes =
+    ((next : List ℕ) × (rest : List ℕ) × (kind : StepKind) × (clause : List ℕ)
+    × SpellsBinaryStep next kind clause × (bytes ≡ next ++ rest))
+    ⊎ (bytes ≡ [])
+
+-- Neither a step nor the end of the proof is next, which would be the first step where it was not known yet how the
+-- proof is spelled.
+abbrev pub NoStep : StepReader → Option (List ℕ) → Option Spelling → Type 0
+NoStep reader left (Some Text) =
+    IfSome (text_to_come reader.block left) (λ bytes. StepToCome (is_none reader.spelling) reader.block.previous bytes → ⊥)
+NoStep reader left (Some Binary) = IfSome (bytes_to_come reader.block left) (λ bytes. BinaryStepToCome bytes → ⊥)
+NoStep reader left None = ⊥

@@ -1,15 +1,16 @@
 //! The binary form of a proof: `a` or `d`, a number for each literal, and 0. A number is twice the variable, which
 //! counts from 1, and one more where the literal is negated; it stands in groups of seven bits, the lowest first.
-ghost use Rattle.std.specs.Prelude.{◌≡◌, ◌⊎◌, ◌+◌, ◌^◌, ◌<◌, ◌≤◌, ℕ, List, [], ◌∷◌, IfOk, IfSome, IsTrue, None};
+ghost use Rattle.std.specs.Prelude.{◌≡◌, ◌≢◌, ◌⊎◌, ◌+◌, ◌<◌, ◌≤◌, ℕ, List, [], ◌∷◌, Err, IfOk, IfSome, IsTrue, None, false};
+ghost use Rattle.std.specs.Option.{IsSomeAnd};
 ghost use Rattle.aig_bytes.specs.Bytes.{IsAtEnd};
 ghost use Rattle.aig_parts.specs.Literal.{variable};
 ghost use Rattle.aig_sat.specs.proof.ProofBytes.{Groups, first_byte};
 ghost use Rattle.aig_sat.specs.proof.Reads.{reads_failed};
-ghost use Rattle.aig_sat.specs.proof.Steps.{bytes_to_come};
-ghost use Rattle.aig_sat.specs.proof.state.Taking.{LeadsLiterals, TakesBytes, to_take};
+ghost use Rattle.aig_sat.specs.proof.Steps.{BinaryStepToCome, bytes_to_come};
+ghost use Rattle.aig_sat.specs.proof.state.Taking.{LeadsLiterals, LiteralsToCome, NumberToCome, TakesBytes, to_take};
 
 use crate::proof::bytes::ProofBytes;
-use crate::proof::fault::ProofFault;
+use crate::proof::fault::ReadFault;
 use crate::proof::literal::literal_of;
 use crate::proof::step::StepKind;
 use aig_bytes::Read;
@@ -22,18 +23,23 @@ const FIVE_GROUPS: u64 = 34_359_738_368;
 pub(crate) fn binary_kind<R: Read>(
     bytes: &mut ProofBytes,
     reader: &mut R,
-) -> Result<Option<StepKind>, ProofFault>
+) -> Result<Option<StepKind>, ReadFault>
     ensures count { R.failures reader.new ≡ R.failures reader.old + reads_failed result }
     ensures kind { IfOk result (λ kind. IfSome kind (λ k.
         TakesBytes bytes.old bytes.new (R.left reader.old) (R.left reader.new) (first_byte k ∷ []))) }
     ensures none { IfOk result (λ kind. kind ≡ None → IsAtEnd (bytes_to_come bytes.old (R.left reader.old))) }
+    ensures goes_on { IfOk result (λ kind. IfSome kind (λ k.
+        IsSomeAnd (bytes_to_come bytes.old (R.left reader.old)) BinaryStepToCome →
+        IsSomeAnd (bytes_to_come bytes.new (R.left reader.new)) LiteralsToCome)) }
+    ensures refused { (at : ℕ) → result ≡ Err (ReadFault.Text at) →
+        IsSomeAnd (bytes_to_come bytes.old (R.left reader.old)) BinaryStepToCome → ⊥ }
 {
     let at = bytes.at();
     match bytes.next(reader)? {
         None => Ok(None),
         Some(b'a') => Ok(Some(StepKind::Add)),
         Some(b'd') => Ok(Some(StepKind::Delete)),
-        Some(_) => Err(ProofFault::Text { at }),
+        Some(_) => Err(ReadFault::Text { at }),
     }
 }
 
@@ -48,59 +54,66 @@ fn low_bits(byte: u8) -> u8
 
 /// Whether a number may end with this byte, at the place of this power of 128: not with 0, unless it is its only byte.
 fn may_end(byte: u8, power: u64) -> bool
-    ensures { IsTrue result → (0 < byte) ⊎ (power ≡ 1) }
+    ensures some { IsTrue result → (0 < byte) ⊎ (power ≡ 1) }
+    ensures zero { result ≡ false → byte ≡ 0 }
+    ensures later { result ≡ false → power ≢ 1 }
 {
     byte > 0 || power == 1
 }
 
 /// The next number, in its shortest spelling. A number of more than five groups is over the limit, and rejected.
-fn binary_number<R: Read>(bytes: &mut ProofBytes, reader: &mut R) -> Result<u64, ProofFault>
+fn binary_number<R: Read>(bytes: &mut ProofBytes, reader: &mut R) -> Result<u64, ReadFault>
     ensures count { R.failures reader.new ≡ R.failures reader.old + reads_failed result }
     ensures number { IfOk result (λ n. (taken : List ℕ) × Groups n taken
         × TakesBytes bytes.old bytes.new (R.left reader.old) (R.left reader.new) taken) }
     ensures lowers { IfOk result (λ _.
         to_take (R.reads_left reader.new) bytes.new < to_take (R.reads_left reader.old) bytes.old) }
+    ensures refused { (at : ℕ) → result ≡ Err (ReadFault.Text at) →
+        IsSomeAnd (bytes_to_come bytes.old (R.left reader.old)) NumberToCome → ⊥ }
 {
     let at = bytes.at();
     let mut number = 0u64;
     let mut power = 1u64;
     while power < FIVE_GROUPS {
         let Some(byte) = bytes.next(reader)? else {
-            return Err(ProofFault::Text { at: bytes.at() });
+            return Err(ReadFault::Text { at: bytes.at() });
         };
         number += power * low_bits(byte) as u64;
         if byte < 128 {
             if !may_end(byte, power) {
-                return Err(ProofFault::Text { at });
+                return Err(ReadFault::Text { at });
             }
             return Ok(number);
         }
         power *= 128;
     }
-    Err(ProofFault::Text { at })
+    Err(ReadFault::Text { at })
 }
 
 /// The next literal of a clause, or `None` at its end.
 pub(crate) fn binary_literal<R: Read>(
     bytes: &mut ProofBytes,
     reader: &mut R,
-    variables: u32,
-) -> Result<Option<Lit>, ProofFault>
-    requires { variables < 2 ^ 31 }
+) -> Result<Option<Lit>, ReadFault>
     ensures count { R.failures reader.new ≡ R.failures reader.old + reads_failed result }
-    ensures variable { IfOk result (λ next. IfSome next (λ l. variable l < variables)) }
+    ensures variable { IfOk result (λ next. IfSome next (λ l. variable l < 2147483647)) }
     ensures literal { IfOk result (λ next. (taken : List ℕ) × LeadsLiterals taken next
         × TakesBytes bytes.old bytes.new (R.left reader.old) (R.left reader.new) taken) }
     ensures lowers { IfOk result (λ _.
         to_take (R.reads_left reader.new) bytes.new < to_take (R.reads_left reader.old) bytes.old) }
+    ensures goes_on { IfOk result (λ next. IfSome next (λ _.
+        IsSomeAnd (bytes_to_come bytes.old (R.left reader.old)) LiteralsToCome →
+        IsSomeAnd (bytes_to_come bytes.new (R.left reader.new)) LiteralsToCome)) }
+    ensures refused { (at : ℕ) → result ≡ Err (ReadFault.Text at) →
+        IsSomeAnd (bytes_to_come bytes.old (R.left reader.old)) LiteralsToCome → ⊥ }
 {
     let at = bytes.at();
     let number = binary_number(bytes, reader)?;
     if number == 0 {
         return Ok(None);
     }
-    match literal_of(number / 2, number % 2 == 1, variables) {
+    match literal_of(number / 2, number % 2 == 1) {
         Some(literal) => Ok(Some(literal)),
-        None => Err(ProofFault::Text { at }),
+        None => Err(ReadFault::Text { at }),
     }
 }

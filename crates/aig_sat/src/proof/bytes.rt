@@ -1,11 +1,10 @@
 //! The bytes of a proof.
 ghost use Rattle.std.specs.Prelude.{◌≡◌, ◌↔◌, ◌+◌, ◌<◌, ◌≤◌, [], ◌∷◌, length, true, false};
 ghost use Rattle.std.specs.Prelude.{None, IfOk, IfSome, IsTrue, OnOk, slice_get};
-ghost use Rattle.aig_bytes.specs.Bytes.{IsAtEnd};
-ghost use Rattle.aig_sat.specs.proof.Reads.{reads_failed};
-ghost use Rattle.aig_sat.specs.proof.state.Taking.{TakesText, TakesBytes, listed, to_take};
+ghost use Rattle.aig_bytes.specs.Bytes.{IsAtEnd, failed};
+ghost use Rattle.aig_sat.specs.proof.Steps.{TakesText, text_to_come};
+ghost use Rattle.aig_sat.specs.proof.state.Taking.{TakesBytes, listed, to_take};
 
-use crate::proof::fault::ProofFault;
 use aig_bytes::{Failed, Read};
 use std::marker::Model;
 
@@ -79,15 +78,15 @@ impl ProofBytes {
     }
 
     /// Reads once, after the bytes that were read, and returns how many bytes it got.
-    fn load<R: Read>(&mut self, reader: &mut R) -> Result<usize, ProofFault>
+    fn load<R: Read>(&mut self, reader: &mut R) -> Result<usize, Failed>
         requires { self.old.ended ≡ false }
-        ensures count { R.failures reader.new ≡ R.failures reader.old + reads_failed result }
+        ensures count { R.failures reader.new ≡ R.failures reader.old + failed result }
         ensures text { TakesText self.old self.new (R.left reader.old) (R.left reader.new) [] }
         ensures bytes { TakesBytes self.old self.new (R.left reader.old) (R.left reader.new) [] }
         ensures ended { self.new.ended ≡ false }
     {
         match reader.read(&mut self.buffer[self.end..]) {
-            Err(Failed) => Err(ProofFault::Io),
+            Err(Failed) => Err(Failed),
             Ok(count) => {
                 self.end += count;
                 Ok(count)
@@ -96,8 +95,8 @@ impl ProofBytes {
     }
 
     /// Reads until the array is full or a read gives no byte.
-    pub(crate) fn fill<R: Read>(&mut self, reader: &mut R) -> Result<(), ProofFault>
-        ensures count { R.failures reader.new ≡ R.failures reader.old + reads_failed result }
+    pub(crate) fn fill<R: Read>(&mut self, reader: &mut R) -> Result<(), Failed>
+        ensures count { R.failures reader.new ≡ R.failures reader.old + failed result }
         ensures text { TakesText self.old self.new (R.left reader.old) (R.left reader.new) [] }
         ensures bytes { TakesBytes self.old self.new (R.left reader.old) (R.left reader.new) [] }
     {
@@ -127,10 +126,10 @@ impl ProofBytes {
     }
 
     /// Reads once into the whole array, and returns how many bytes it got.
-    fn reload<R: Read>(&mut self, reader: &mut R) -> Result<usize, ProofFault>
+    fn reload<R: Read>(&mut self, reader: &mut R) -> Result<usize, Failed>
         requires none { self.old.waiting ≡ [] }
         requires ended { self.old.ended ≡ false }
-        ensures count { R.failures reader.new ≡ R.failures reader.old + reads_failed result }
+        ensures count { R.failures reader.new ≡ R.failures reader.old + failed result }
         ensures text { TakesText self.old self.new (R.left reader.old) (R.left reader.new) [] }
         ensures bytes { TakesBytes self.old self.new (R.left reader.old) (R.left reader.new) [] }
         ensures ended { self.new.ended ≡ false }
@@ -147,9 +146,9 @@ impl ProofBytes {
     }
 
     /// Reads where no byte is left in the array.
-    fn read_on<R: Read>(&mut self, reader: &mut R) -> Result<(), ProofFault>
+    fn read_on<R: Read>(&mut self, reader: &mut R) -> Result<(), Failed>
         requires { self.old.waiting ≡ [] }
-        ensures count { R.failures reader.new ≡ R.failures reader.old + reads_failed result }
+        ensures count { R.failures reader.new ≡ R.failures reader.old + failed result }
         ensures text { TakesText self.old self.new (R.left reader.old) (R.left reader.new) [] }
         ensures bytes { TakesBytes self.old self.new (R.left reader.old) (R.left reader.new) [] }
         ensures none { OnOk result (self.new.waiting ≡ [] → self.new.ended ≡ true) }
@@ -177,9 +176,9 @@ impl ProofBytes {
 
     /// The next byte, which stays, where none is left in the array.
     #[inline(never)]
-    fn peek_on<R: Read>(&mut self, reader: &mut R) -> Result<Option<u8>, ProofFault>
+    fn peek_on<R: Read>(&mut self, reader: &mut R) -> Result<Option<u8>, Failed>
         requires { self.old.waiting ≡ [] }
-        ensures count { R.failures reader.new ≡ R.failures reader.old + reads_failed result }
+        ensures count { R.failures reader.new ≡ R.failures reader.old + failed result }
         ensures text { TakesText self.old self.new (R.left reader.old) (R.left reader.new) [] }
         ensures bytes { TakesBytes self.old self.new (R.left reader.old) (R.left reader.new) [] }
         ensures next { IfOk result (λ byte. slice_get self.new.waiting 0 ≡ byte) }
@@ -192,11 +191,13 @@ impl ProofBytes {
 
     /// The next byte, which stays.
     #[inline]
-    pub(crate) fn peek<R: Read>(&mut self, reader: &mut R) -> Result<Option<u8>, ProofFault>
-        ensures count { R.failures reader.new ≡ R.failures reader.old + reads_failed result }
+    pub(crate) fn peek<R: Read>(&mut self, reader: &mut R) -> Result<Option<u8>, Failed>
+        ensures count { R.failures reader.new ≡ R.failures reader.old + failed result }
         ensures text { TakesText self.old self.new (R.left reader.old) (R.left reader.new) [] }
         ensures bytes { TakesBytes self.old self.new (R.left reader.old) (R.left reader.new) [] }
         ensures next { IfOk result (λ byte. slice_get self.new.waiting 0 ≡ byte) }
+        ensures shown { IfOk result (λ byte. IfSome (text_to_come self.old (R.left reader.old))
+            (λ bytes. slice_get bytes 0 ≡ byte)) }
         ensures none { IfOk result (λ byte. byte ≡ None → self.new.ended ≡ true) }
         ensures never_more { to_take (R.reads_left reader.new) self.new ≤ to_take (R.reads_left reader.old) self.old }
     {
@@ -220,10 +221,11 @@ impl ProofBytes {
 
     /// The next byte of a text, which is taken.
     #[inline]
-    pub(crate) fn next_char<R: Read>(&mut self, reader: &mut R) -> Result<Option<u8>, ProofFault>
-        ensures count { R.failures reader.new ≡ R.failures reader.old + reads_failed result }
+    pub(crate) fn next_char<R: Read>(&mut self, reader: &mut R) -> Result<Option<u8>, Failed>
+        ensures count { R.failures reader.new ≡ R.failures reader.old + failed result }
         ensures text { IfOk result (λ byte.
             TakesText self.old self.new (R.left reader.old) (R.left reader.new) (listed byte)) }
+        ensures none { IfOk result (λ byte. byte ≡ None → IsAtEnd (text_to_come self.old (R.left reader.old))) }
         ensures lowers { IfOk result (λ byte. IfSome byte (λ _.
             to_take (R.reads_left reader.new) self.new < to_take (R.reads_left reader.old) self.old)) }
         ensures never_more { to_take (R.reads_left reader.new) self.new ≤ to_take (R.reads_left reader.old) self.old }
@@ -239,8 +241,8 @@ impl ProofBytes {
 
     /// The next byte of the binary form, which is taken.
     #[inline]
-    pub(crate) fn next<R: Read>(&mut self, reader: &mut R) -> Result<Option<u8>, ProofFault>
-        ensures count { R.failures reader.new ≡ R.failures reader.old + reads_failed result }
+    pub(crate) fn next<R: Read>(&mut self, reader: &mut R) -> Result<Option<u8>, Failed>
+        ensures count { R.failures reader.new ≡ R.failures reader.old + failed result }
         ensures bytes { IfOk result (λ byte.
             TakesBytes self.old self.new (R.left reader.old) (R.left reader.new) (listed byte)) }
         ensures none { IfOk result (λ byte. byte ≡ None → self.new.ended ≡ true) }

@@ -6,8 +6,51 @@ use aig_parts::Lit;
 use std::alloc::AllocFailed;
 use thiserror::Error;
 
-/// Why a proof is refused. The reader of steps gives only the first and the last two; the others are those of whoever
-/// checks the steps.
+/// Why the next step of a proof is not read.
+#[derive(Clone, Copy, PartialEq, Eq, Debug, Error)]
+pub enum ReadFault {
+    /// The format does not want it here; `at` counts bytes from 0.
+    #[error("text at {at}")]
+    Text { at: u64 },
+    /// No memory was found.
+    #[error("memory")]
+    Memory,
+    /// A read failed.
+    #[error("input or output")]
+    Io,
+}
+
+impl From<Failed> for ReadFault {
+    ghost use Rattle.aig_sat.specs.declared.proof.fault.ReadFault.TheVariants as faults;
+
+    ghost from_gives = { λ _ fault. fault ≡ faults.Io };
+
+    fn from(_failed: Failed) -> ReadFault {
+        ReadFault::Io
+    }
+}
+
+impl From<Memory> for ReadFault {
+    ghost use Rattle.aig_sat.specs.declared.proof.fault.ReadFault.TheVariants as faults;
+
+    ghost from_gives = { λ _ fault. fault ≡ faults.Memory };
+
+    fn from(_memory: Memory) -> ReadFault {
+        ReadFault::Memory
+    }
+}
+
+impl From<AllocFailed<Lit>> for ReadFault {
+    ghost use Rattle.aig_sat.specs.declared.proof.fault.ReadFault.TheVariants as faults;
+
+    ghost from_gives = { λ _ fault. fault ≡ faults.Memory };
+
+    fn from(_failed: AllocFailed<Lit>) -> ReadFault {
+        ReadFault::Memory
+    }
+}
+
+/// Why a proof is refused: a step is not read, or whoever checks the steps refuses one.
 #[derive(Clone, Copy, PartialEq, Eq, Debug, Error)]
 pub enum ProofFault {
     /// The format does not want it here; `at` counts bytes from 0.
@@ -27,13 +70,17 @@ pub enum ProofFault {
     Io,
 }
 
-impl From<Failed> for ProofFault {
-    ghost use Rattle.aig_sat.specs.declared.proof.fault.ProofFault.TheVariants as faults;
+impl From<ReadFault> for ProofFault {
+    ghost use Rattle.aig_sat.specs.proof.Reads.{proof_fault_of};
 
-    ghost from_gives = { λ _ fault. fault ≡ faults.Io };
+    ghost from_gives = { λ read fault. fault ≡ proof_fault_of read };
 
-    fn from(_failed: Failed) -> ProofFault {
-        ProofFault::Io
+    fn from(read: ReadFault) -> ProofFault {
+        match read {
+            ReadFault::Text { at } => ProofFault::Text { at },
+            ReadFault::Memory => ProofFault::Memory,
+            ReadFault::Io => ProofFault::Io,
+        }
     }
 }
 
@@ -43,16 +90,6 @@ impl From<Memory> for ProofFault {
     ghost from_gives = { λ _ fault. fault ≡ faults.Memory };
 
     fn from(_memory: Memory) -> ProofFault {
-        ProofFault::Memory
-    }
-}
-
-impl From<AllocFailed<Lit>> for ProofFault {
-    ghost use Rattle.aig_sat.specs.declared.proof.fault.ProofFault.TheVariants as faults;
-
-    ghost from_gives = { λ _ fault. fault ≡ faults.Memory };
-
-    fn from(_failed: AllocFailed<Lit>) -> ProofFault {
         ProofFault::Memory
     }
 }

@@ -1,17 +1,20 @@
 //! The literals of a proof.
-ghost use Rattle.std.specs.Prelude.{◌≡◌, ◌+◌, ◌*◌, ◌<◌, ◌^◌, IfSome};
+ghost use Rattle.std.specs.Prelude.{◌≡◌, ◌⊎◌, ◌+◌, ◌*◌, ◌<◌, IfSome, None};
 ghost use Rattle.aig_parts.specs.Literal.{variable};
 ghost use Rattle.aig_sat.specs.proof.state.Taking.{sign};
 
 use aig_parts::Lit;
 
-/// The literal of a variable that counts from 1, where there are so many.
-pub(crate) fn literal_of(number: u64, negated: bool, variables: u32) -> Option<Lit>
-    requires { variables < 2 ^ 31 }
+/// The greatest number of a variable.
+pub(crate) const MOST: u64 = 2_147_483_647;
+
+/// The literal of a variable that counts from 1, where its number is not over the greatest.
+pub(crate) fn literal_of(number: u64, negated: bool) -> Option<Lit>
     ensures number { IfSome result (λ l. l + 2 ≡ 2 * number + sign negated) }
-    ensures variable { IfSome result (λ l. variable l < variables) }
+    ensures variable { IfSome result (λ l. variable l < 2147483647) }
+    ensures none { result ≡ None → (number ≡ 0) ⊎ (2147483647 < number) }
 {
-    if number == 0 || number > variables as u64 {
+    if number == 0 || number > MOST {
         return None;
     }
     let even = 2 * (number as u32 - 1);

@@ -1,28 +1,26 @@
 //! The steps of a proof, as text and in the binary form.
-ghost use Rattle.std.specs.Prelude.{◌≡◌, ◌+◌, ◌^◌, ◌<◌, ◌≤◌, [], IfOk, IfSome, OnOk, Some, None, false};
+ghost use Rattle.std.specs.Prelude.{◌≡◌, ◌+◌, ◌^◌, ◌<◌, ◌≤◌, ℕ, [], Bool, Err, IfOk, IfSome, OnOk, Some, None, false};
+ghost use Rattle.aig_bytes.specs.Bytes.{failed};
 ghost use Rattle.aig_parts.specs.Literal.{variable};
 ghost use Rattle.aig_sat.specs.proof.Reads.{reads_failed};
-ghost use Rattle.aig_sat.specs.proof.Steps.{AreLiterals, AreRenamed, BeginsSo, Reads, bytes_to_come};
-ghost use Rattle.aig_sat.specs.proof.state.Taking.{Begins, Ends, GoesOn, Keeps, LeadsBy, to_take};
+ghost use Rattle.aig_sat.specs.proof.Steps.{AreLiterals, AreRenamed, BeginsSo, NoStep, Reads, bytes_to_come};
+ghost use Rattle.aig_sat.specs.proof.state.Taking.{Begins, Ends, GoesOn, HasClause, HasStep, Keeps, LeadsBy, to_take};
 
 use crate::proof::binary::{binary_kind, binary_literal};
 use crate::proof::bytes::ProofBytes;
-use crate::proof::fault::ProofFault;
+use crate::proof::fault::ReadFault;
 use crate::proof::names::Names;
 use crate::proof::spelling::{Spelling, spelling_of};
 use crate::proof::step::StepKind;
 use crate::proof::text::{text_kind, text_literal};
-use aig_bytes::{Memory, Read};
+use aig_bytes::{Failed, Memory, Read};
 use aig_parts::Lit;
 use std::alloc::Global;
 use std::marker::Model;
 
-/// The greatest number of a variable.
-const MOST: u32 = 2_147_483_647;
-
 /// Looks at the first bytes of a proof, and takes none.
-fn look<R: Read>(bytes: &mut ProofBytes, reader: &mut R) -> Result<Spelling, ProofFault>
-    ensures count { R.failures reader.new ≡ R.failures reader.old + reads_failed result }
+fn look<R: Read>(bytes: &mut ProofBytes, reader: &mut R) -> Result<Spelling, Failed>
+    ensures count { R.failures reader.new ≡ R.failures reader.old + failed result }
     ensures keeps { Keeps bytes.old bytes.new (R.left reader.old) (R.left reader.new) }
     ensures letter { IfOk result (λ spelling. BeginsSo spelling (bytes_to_come bytes.old (R.left reader.old))) }
 {
@@ -44,20 +42,23 @@ fn next_literal<R: Read>(
     spelling: Spelling,
     bytes: &mut ProofBytes,
     reader: &mut R,
-    variables: u32,
     is_first: bool,
-) -> Result<Option<Lit>, ProofFault>
-    requires { variables < 2 ^ 31 }
+) -> Result<Option<Lit>, ReadFault>
     ensures count { R.failures reader.new ≡ R.failures reader.old + reads_failed result }
-    ensures variable { IfOk result (λ next. IfSome next (λ l. variable l < variables)) }
+    ensures variable { IfOk result (λ next. IfSome next (λ l. variable l < 2147483647)) }
     ensures literal { IfOk result (λ next.
         LeadsBy spelling is_first bytes.old bytes.new (R.left reader.old) (R.left reader.new) next) }
     ensures lowers { IfOk result (λ _.
         to_take (R.reads_left reader.new) bytes.new < to_take (R.reads_left reader.old) bytes.old) }
+    ensures goes_on { IfOk result (λ next. IfSome next (λ _.
+        HasClause spelling is_first bytes.old (R.left reader.old) →
+        HasClause spelling is_first bytes.new (R.left reader.new))) }
+    ensures refused { (at : ℕ) → result ≡ Err (ReadFault.Text at) →
+        HasClause spelling is_first bytes.old (R.left reader.old) → ⊥ }
 {
     match spelling {
-        Spelling::Text => text_literal(bytes, reader, variables, is_first),
-        Spelling::Binary => binary_literal(bytes, reader, variables),
+        Spelling::Text => text_literal(bytes, reader, is_first),
+        Spelling::Binary => binary_literal(bytes, reader),
     }
 }
 
@@ -66,20 +67,20 @@ fn read_clause<R: Read>(
     spelling: Spelling,
     bytes: &mut ProofBytes,
     reader: &mut R,
-    variables: u32,
     is_first: bool,
     clause: &mut Vec<Lit>,
-) -> Result<(), ProofFault>
-    requires { variables < 2 ^ 31 }
+) -> Result<(), ReadFault>
     ensures count { R.failures reader.new ≡ R.failures reader.old + reads_failed result }
-    ensures literals { AreLiterals variables clause.new.items }
+    ensures literals { AreLiterals 2147483647 clause.new.items }
     ensures spelled { OnOk result (Ends spelling is_first bytes.old bytes.new (R.left reader.old) (R.left reader.new)
         clause.new.items) }
+    ensures refused { (at : ℕ) → result ≡ Err (ReadFault.Text at) →
+        HasClause spelling is_first bytes.old (R.left reader.old) → ⊥ }
 {
     clause.clear();
-    while let Some(literal) = next_literal(spelling, bytes, reader, variables, is_first)? {
+    while let Some(literal) = next_literal(spelling, bytes, reader, is_first)? {
         if clause.push(literal).is_err() {
-            return Err(ProofFault::Memory);
+            return Err(ReadFault::Memory);
         }
     }
     Ok(())
@@ -90,10 +91,15 @@ fn next_kind<R: Read>(
     spelling: Spelling,
     bytes: &mut ProofBytes,
     reader: &mut R,
-) -> Result<Option<StepKind>, ProofFault>
+) -> Result<Option<StepKind>, ReadFault>
     ensures count { R.failures reader.new ≡ R.failures reader.old + reads_failed result }
     ensures kind { IfOk result (λ kind.
         Begins spelling bytes.old bytes.new (R.left reader.old) (R.left reader.new) kind) }
+    ensures goes_on { IfOk result (λ kind. IfSome kind (λ _. (is_first : Bool) →
+        HasStep spelling is_first bytes.old (R.left reader.old) →
+        HasClause spelling is_first bytes.new (R.left reader.new))) }
+    ensures refused { (at : ℕ) → result ≡ Err (ReadFault.Text at) → (is_first : Bool) →
+        HasStep spelling is_first bytes.old (R.left reader.old) → ⊥ }
 {
     match spelling {
         Spelling::Text => text_kind(bytes, reader),
@@ -184,8 +190,8 @@ impl ProofReader {
     }
 
     /// How the proof is spelled. The first call looks at the first bytes.
-    fn spell<R: Read>(&mut self, reader: &mut R) -> Result<Spelling, ProofFault>
-        ensures count { R.failures reader.new ≡ R.failures reader.old + reads_failed result }
+    fn spell<R: Read>(&mut self, reader: &mut R) -> Result<Spelling, Failed>
+        ensures count { R.failures reader.new ≡ R.failures reader.old + failed result }
         ensures keeps { Keeps self.old.block self.new.block (R.left reader.old) (R.left reader.new) }
         ensures spelling { IfOk result (λ spelling. self.new.spelling ≡ Some spelling) }
         ensures letter { IfOk result (λ spelling. self.old.spelling ≡ None →
@@ -209,7 +215,7 @@ impl ProofReader {
         reader: &mut R,
         spelling: Spelling,
         is_first: bool,
-    ) -> Result<Option<StepKind>, ProofFault>
+    ) -> Result<Option<StepKind>, ReadFault>
         ensures formula { self.new.formula ≡ self.old.formula }
         ensures variables { self.old.variables ≤ self.new.variables }
         ensures spelling { self.new.spelling ≡ self.old.spelling }
@@ -217,6 +223,8 @@ impl ProofReader {
         ensures count { R.failures reader.new ≡ R.failures reader.old + reads_failed result }
         ensures step { IfOk result (λ kind. GoesOn spelling is_first self.old.formula self.old.block self.new.block
             (R.left reader.old) (R.left reader.new) self.new.clause kind) }
+        ensures refused { (at : ℕ) → result ≡ Err (ReadFault.Text at) →
+            HasStep spelling is_first self.old.block (R.left reader.old) → ⊥ }
     {
         let Some(kind) = next_kind(spelling, &mut self.bytes, reader)? else {
             return Ok(None);
@@ -225,7 +233,6 @@ impl ProofReader {
             spelling,
             &mut self.bytes,
             reader,
-            MOST,
             is_first,
             &mut self.spelled,
         )?;
@@ -237,7 +244,7 @@ impl ProofReader {
     /// from the binary form by the first bytes. It rejects bytes that spell no step, and a first step of a text that
     /// does not end its line. A number over the formula's last names a variable of the proof's own, which is made where
     /// it is first read. Memory is taken only for literals that were read, whatever their numbers are.
-    pub fn next<R: Read>(&mut self, reader: &mut R) -> Result<Option<StepKind>, ProofFault>
+    pub fn next<R: Read>(&mut self, reader: &mut R) -> Result<Option<StepKind>, ReadFault>
         ensures formula { self.new.formula ≡ self.old.formula }
         ensures variables { self.old.variables ≤ self.new.variables }
         ensures literals { AreLiterals self.new.variables self.new.clause }
@@ -246,6 +253,8 @@ impl ProofReader {
         ensures letter { (s : Spelling) → OnOk result (self.old.spelling ≡ None → self.new.spelling ≡ Some s →
             BeginsSo s (bytes_to_come self.old.block (R.left reader.old))) }
         ensures step { IfOk result (λ kind. Reads self.old self.new (R.left reader.old) (R.left reader.new) kind) }
+        ensures refused { (at : ℕ) → result ≡ Err (ReadFault.Text at) →
+            NoStep self.old (R.left reader.old) self.new.spelling }
     {
         let is_first = self.spelling.is_none();
         let spelling = self.spell(reader)?;

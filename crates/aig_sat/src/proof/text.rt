@@ -1,26 +1,26 @@
 //! A proof as text: a `d` before a clause that is deleted, signed variables, which count from 1, and 0. Blanks and line
 //! ends separate; a line that begins with `c` is a comment. The first step ends its line.
-ghost use Rattle.std.specs.Prelude.{◌≡◌, ◌≢◌, ◌↔◌, ◌+◌, ◌*◌, ◌-◌, ◌^◌, ◌<◌, ◌≤◌, ℕ, List, [], ◌∷◌, ◌++◌, All};
-ghost use Rattle.std.specs.Prelude.{IfOk, IfSome, IsTrue, OnOk, None, Bool, false};
+ghost use Rattle.std.specs.Prelude.{◌≡◌, ◌≢◌, ◌⊎◌, ◌↔◌, ◌+◌, ◌*◌, ◌-◌, ◌^◌, ◌<◌, ◌≤◌, ℕ, List, [], ◌∷◌, ◌++◌, All};
+ghost use Rattle.std.specs.Prelude.{Err, IfOk, IfSome, IsTrue, OnOk, None, Bool, false};
 ghost use Rattle.std.specs.Fmt.{decimal};
-ghost use Rattle.aig_bytes.specs.Bytes.{IsAtEnd};
+ghost use Rattle.std.specs.Option.{IsSomeAnd};
+ghost use Rattle.aig_bytes.specs.Bytes.{IsAtEnd, failed};
 ghost use Rattle.aig_bytes.specs.Term.{minus};
 ghost use Rattle.aig_parts.specs.Literal.{variable};
 ghost use Rattle.aig_sat.specs.model.ModelText.{IsSpace};
 ghost use Rattle.aig_sat.specs.proof.ProofText.{EndsStep, Gap, IsBlank};
 ghost use Rattle.aig_sat.specs.proof.Reads.{reads_failed};
-ghost use Rattle.aig_sat.specs.proof.Steps.{text_to_come};
-ghost use Rattle.aig_sat.specs.proof.state.Taking.{LeadsClause, LeadsGap, LeadsStep, LeadsWord, TakesText, digits_of, to_take};
+ghost use Rattle.aig_sat.specs.proof.Steps.{StepToCome, TakesText, text_to_come};
+ghost use Rattle.aig_sat.specs.proof.state.Taking.{BeginsGap, BeginsNot, ClauseToCome, EndsToCome, EndsUnfinished};
+ghost use Rattle.aig_sat.specs.proof.state.Taking.{IsDigit, IsNumber, IsUnfinished, LineToCome, WordToCome};
+ghost use Rattle.aig_sat.specs.proof.state.Taking.{LeadsClause, LeadsGap, LeadsStep, LeadsWord, digits_of, to_take};
 
 use crate::proof::bytes::ProofBytes;
-use crate::proof::fault::ProofFault;
-use crate::proof::literal::literal_of;
+use crate::proof::fault::ReadFault;
+use crate::proof::literal::{MOST, literal_of};
 use crate::proof::step::StepKind;
-use aig_bytes::Read;
+use aig_bytes::{Failed, Read};
 use aig_parts::Lit;
-
-/// The greatest number of a variable.
-const MOST: u64 = 2_147_483_647;
 
 /// Whether the byte separates.
 fn is_space(byte: u8) -> bool
@@ -30,28 +30,34 @@ fn is_space(byte: u8) -> bool
 }
 
 /// Takes the rest of a line and the LF that ends it.
-fn skip_line<R: Read>(bytes: &mut ProofBytes, reader: &mut R) -> Result<(), ProofFault>
+fn skip_line<R: Read>(bytes: &mut ProofBytes, reader: &mut R) -> Result<(), ReadFault>
     ensures count { R.failures reader.new ≡ R.failures reader.old + reads_failed result }
     ensures line { OnOk result ((line : List ℕ) × All (λ b. b ≢ 10) line
         × TakesText bytes.old bytes.new (R.left reader.old) (R.left reader.new) (line ++ 10 ∷ [])) }
     ensures never_more { to_take (R.reads_left reader.new) bytes.new ≤ to_take (R.reads_left reader.old) bytes.old }
+    ensures refused { (at : ℕ) → result ≡ Err (ReadFault.Text at) →
+        IfSome (text_to_come bytes.old (R.left reader.old)) (All (λ b. b ≢ 10)) }
 {
     while let Some(byte) = bytes.next_char(reader)? {
         if byte == b'\n' {
             return Ok(());
         }
     }
-    Err(ProofFault::Text { at: bytes.at() })
+    Err(ReadFault::Text { at: bytes.at() })
 }
 
 /// Takes a space or a comment, and returns whether there was one.
-fn skip_space<R: Read>(bytes: &mut ProofBytes, reader: &mut R) -> Result<bool, ProofFault>
+fn skip_space<R: Read>(bytes: &mut ProofBytes, reader: &mut R) -> Result<bool, ReadFault>
     ensures count { R.failures reader.new ≡ R.failures reader.old + reads_failed result }
     ensures gap { IfOk result (λ _. (taken : List ℕ) × LeadsGap bytes.old.previous bytes.new.previous taken
         × TakesText bytes.old bytes.new (R.left reader.old) (R.left reader.new) taken) }
     ensures lowers { IfOk result (λ some. IsTrue some →
         to_take (R.reads_left reader.new) bytes.new < to_take (R.reads_left reader.old) bytes.old) }
     ensures never_more { to_take (R.reads_left reader.new) bytes.new ≤ to_take (R.reads_left reader.old) bytes.old }
+    ensures none { IfOk result (λ some. some ≡ false →
+        IfSome (text_to_come bytes.new (R.left reader.new)) (BeginsNot (BeginsGap bytes.new.previous))) }
+    ensures refused { (at : ℕ) → result ≡ Err (ReadFault.Text at) →
+        IfSome (text_to_come bytes.old (R.left reader.old)) (IsUnfinished bytes.old.previous) }
 {
     match bytes.peek(reader)? {
         None => Ok(false),
@@ -71,41 +77,49 @@ fn skip_space<R: Read>(bytes: &mut ProofBytes, reader: &mut R) -> Result<bool, P
 }
 
 /// Takes what separates.
-fn skip_gap<R: Read>(bytes: &mut ProofBytes, reader: &mut R) -> Result<(), ProofFault>
+fn skip_gap<R: Read>(bytes: &mut ProofBytes, reader: &mut R) -> Result<(), ReadFault>
     ensures count { R.failures reader.new ≡ R.failures reader.old + reads_failed result }
     ensures gap { OnOk result ((taken : List ℕ) × LeadsGap bytes.old.previous bytes.new.previous taken
         × TakesText bytes.old bytes.new (R.left reader.old) (R.left reader.new) taken) }
     ensures never_more { to_take (R.reads_left reader.new) bytes.new ≤ to_take (R.reads_left reader.old) bytes.old }
+    ensures whole { OnOk result
+        (IfSome (text_to_come bytes.new (R.left reader.new)) (BeginsNot (BeginsGap bytes.new.previous))) }
+    ensures refused { (at : ℕ) → result ≡ Err (ReadFault.Text at) →
+        IfSome (text_to_come bytes.old (R.left reader.old)) (EndsUnfinished bytes.old.previous) }
 {
     while skip_space(bytes, reader)? {}
     Ok(())
 }
 
 /// Takes the space that ends the word that begins at a place.
-fn end_word<R: Read>(bytes: &mut ProofBytes, reader: &mut R, at: u64) -> Result<(), ProofFault>
+fn end_word<R: Read>(bytes: &mut ProofBytes, reader: &mut R, at: u64) -> Result<(), ReadFault>
     ensures count { R.failures reader.new ≡ R.failures reader.old + reads_failed result }
     ensures space { OnOk result (IsSpace bytes.new.previous) }
     ensures taken { OnOk result
         (TakesText bytes.old bytes.new (R.left reader.old) (R.left reader.new) (bytes.new.previous ∷ [])) }
     ensures never_more { to_take (R.reads_left reader.new) bytes.new ≤ to_take (R.reads_left reader.old) bytes.old }
+    ensures refused { (at : ℕ) → result ≡ Err (ReadFault.Text at) →
+        IfSome (text_to_come bytes.old (R.left reader.old)) (BeginsNot IsSpace) }
 {
     match bytes.peek(reader)? {
         Some(byte) if is_space(byte) => {
             bytes.skip();
             Ok(())
         }
-        _ => Err(ProofFault::Text { at }),
+        _ => Err(ReadFault::Text { at }),
     }
 }
 
 /// Takes a blank or a tab, and returns whether there was one.
-fn skip_blank<R: Read>(bytes: &mut ProofBytes, reader: &mut R) -> Result<bool, ProofFault>
-    ensures count { R.failures reader.new ≡ R.failures reader.old + reads_failed result }
+fn skip_blank<R: Read>(bytes: &mut ProofBytes, reader: &mut R) -> Result<bool, Failed>
+    ensures count { R.failures reader.new ≡ R.failures reader.old + failed result }
     ensures blank { IfOk result (λ some. IsTrue some → IsBlank bytes.new.previous) }
     ensures taken { IfOk result (λ some. IsTrue some →
         TakesText bytes.old bytes.new (R.left reader.old) (R.left reader.new) (bytes.new.previous ∷ [])) }
     ensures none { IfOk result (λ some. some ≡ false →
         TakesText bytes.old bytes.new (R.left reader.old) (R.left reader.new) []) }
+    ensures other { IfOk result (λ some. some ≡ false →
+        IfSome (text_to_come bytes.new (R.left reader.new)) (BeginsNot IsBlank)) }
     ensures lowers { IfOk result (λ some. IsTrue some →
         to_take (R.reads_left reader.new) bytes.new < to_take (R.reads_left reader.old) bytes.old) }
     ensures never_more { to_take (R.reads_left reader.new) bytes.new ≤ to_take (R.reads_left reader.old) bytes.old }
@@ -120,26 +134,30 @@ fn skip_blank<R: Read>(bytes: &mut ProofBytes, reader: &mut R) -> Result<bool, P
 }
 
 /// Takes an LF, and rejects any other byte.
-fn take_lf<R: Read>(bytes: &mut ProofBytes, reader: &mut R) -> Result<(), ProofFault>
+fn take_lf<R: Read>(bytes: &mut ProofBytes, reader: &mut R) -> Result<(), ReadFault>
     ensures count { R.failures reader.new ≡ R.failures reader.old + reads_failed result }
     ensures taken { OnOk result (TakesText bytes.old bytes.new (R.left reader.old) (R.left reader.new) (10 ∷ [])) }
     ensures never_more { to_take (R.reads_left reader.new) bytes.new ≤ to_take (R.reads_left reader.old) bytes.old }
+    ensures refused { (at : ℕ) → result ≡ Err (ReadFault.Text at) →
+        IfSome (text_to_come bytes.old (R.left reader.old)) (BeginsNot (λ b. b ≡ 10)) }
 {
     match bytes.peek(reader)? {
         Some(b'\n') => {
             bytes.skip();
             Ok(())
         }
-        _ => Err(ProofFault::Text { at: bytes.at() }),
+        _ => Err(ReadFault::Text { at: bytes.at() }),
     }
 }
 
 /// Takes the blanks that are left of a line, and the LF.
-fn end_line<R: Read>(bytes: &mut ProofBytes, reader: &mut R) -> Result<(), ProofFault>
+fn end_line<R: Read>(bytes: &mut ProofBytes, reader: &mut R) -> Result<(), ReadFault>
     ensures count { R.failures reader.new ≡ R.failures reader.old + reads_failed result }
     ensures line { OnOk result ((blanks : List ℕ) × All IsBlank blanks
         × TakesText bytes.old bytes.new (R.left reader.old) (R.left reader.new) (blanks ++ 10 ∷ [])) }
     ensures never_more { to_take (R.reads_left reader.new) bytes.new ≤ to_take (R.reads_left reader.old) bytes.old }
+    ensures refused { (at : ℕ) → result ≡ Err (ReadFault.Text at) →
+        IsSomeAnd (text_to_come bytes.old (R.left reader.old)) LineToCome → ⊥ }
 {
     while skip_blank(bytes, reader)? {}
     take_lf(bytes, reader)
@@ -152,11 +170,13 @@ fn end_step<R: Read>(
     reader: &mut R,
     is_first: bool,
     at: u64,
-) -> Result<(), ProofFault>
+) -> Result<(), ReadFault>
     ensures count { R.failures reader.new ≡ R.failures reader.old + reads_failed result }
     ensures ends { OnOk result ((ends : List ℕ) × EndsStep is_first ends
         × TakesText bytes.old bytes.new (R.left reader.old) (R.left reader.new) ends) }
     ensures never_more { to_take (R.reads_left reader.new) bytes.new ≤ to_take (R.reads_left reader.old) bytes.old }
+    ensures refused { (at : ℕ) → result ≡ Err (ReadFault.Text at) →
+        IsSomeAnd (text_to_come bytes.old (R.left reader.old)) (EndsToCome is_first) → ⊥ }
 {
     end_word(bytes, reader, at)?;
     if !is_first || bytes.is_at_line() {
@@ -166,10 +186,12 @@ fn end_step<R: Read>(
 }
 
 /// Takes a minus, and returns whether there was one.
-fn take_minus<R: Read>(bytes: &mut ProofBytes, reader: &mut R) -> Result<bool, ProofFault>
-    ensures count { R.failures reader.new ≡ R.failures reader.old + reads_failed result }
+fn take_minus<R: Read>(bytes: &mut ProofBytes, reader: &mut R) -> Result<bool, Failed>
+    ensures count { R.failures reader.new ≡ R.failures reader.old + failed result }
     ensures taken { IfOk result (λ negated.
         TakesText bytes.old bytes.new (R.left reader.old) (R.left reader.new) (minus negated)) }
+    ensures none { IfOk result (λ negated. negated ≡ false →
+        IfSome (text_to_come bytes.new (R.left reader.new)) (BeginsNot (λ b. b ≡ 45))) }
     ensures never_more { to_take (R.reads_left reader.new) bytes.new ≤ to_take (R.reads_left reader.old) bytes.old }
 {
     match bytes.peek(reader)? {
@@ -182,11 +204,13 @@ fn take_minus<R: Read>(bytes: &mut ProofBytes, reader: &mut R) -> Result<bool, P
 }
 
 /// Takes a digit, where there is one.
-fn take_digit<R: Read>(bytes: &mut ProofBytes, reader: &mut R) -> Result<Option<u8>, ProofFault>
-    ensures count { R.failures reader.new ≡ R.failures reader.old + reads_failed result }
+fn take_digit<R: Read>(bytes: &mut ProofBytes, reader: &mut R) -> Result<Option<u8>, Failed>
+    ensures count { R.failures reader.new ≡ R.failures reader.old + failed result }
     ensures taken { IfOk result (λ digit.
         TakesText bytes.old bytes.new (R.left reader.old) (R.left reader.new) (digits_of digit)) }
     ensures digit { IfOk result (λ digit. IfSome digit (λ d. d ≤ 9)) }
+    ensures none { IfOk result (λ digit. digit ≡ None →
+        IfSome (text_to_come bytes.new (R.left reader.new)) (BeginsNot IsDigit)) }
     ensures lowers { IfOk result (λ digit. IfSome digit (λ _.
         to_take (R.reads_left reader.new) bytes.new < to_take (R.reads_left reader.old) bytes.old)) }
     ensures never_more { to_take (R.reads_left reader.new) bytes.new ≤ to_take (R.reads_left reader.old) bytes.old }
@@ -205,6 +229,7 @@ fn with_digit(number: u64, digit: u8) -> u64
     requires digit { digit ≤ 9 }
     requires bound { number < 2 ^ 40 }
     ensures number { result ≤ 2147483647 → (number ≤ 2147483647) × (result ≡ number * 10 + digit) }
+    ensures over { (2147483647 < number) ⊎ (result ≡ number * 10 + digit) }
     ensures bound { result < 2 ^ 40 }
     ensures some { 0 < number → 0 < result }
 {
@@ -217,17 +242,14 @@ fn with_digit(number: u64, digit: u8) -> u64
 
 /// Takes the digits that follow, and returns the number that they make of this one. A number over the limit may be
 /// returned as another one over it.
-fn take_digits<R: Read>(
-    bytes: &mut ProofBytes,
-    reader: &mut R,
-    first: u8,
-) -> Result<u64, ProofFault>
+fn take_digits<R: Read>(bytes: &mut ProofBytes, reader: &mut R, first: u8) -> Result<u64, Failed>
     requires some { 0 < first }
     requires digit { first ≤ 9 }
-    ensures count { R.failures reader.new ≡ R.failures reader.old + reads_failed result }
-    ensures number { IfOk result (λ n. (digits : List ℕ) × (n ≤ 2147483647 → decimal first ++ digits ≡ decimal n)
+    ensures count { R.failures reader.new ≡ R.failures reader.old + failed result }
+    ensures number { IfOk result (λ n. (digits : List ℕ) × IsNumber n (decimal first ++ digits)
         × TakesText bytes.old bytes.new (R.left reader.old) (R.left reader.new) digits) }
     ensures some { IfOk result (λ n. 0 < n) }
+    ensures ends { IfOk result (λ _. IfSome (text_to_come bytes.new (R.left reader.new)) (BeginsNot IsDigit)) }
     ensures never_more { to_take (R.reads_left reader.new) bytes.new ≤ to_take (R.reads_left reader.old) bytes.old }
 {
     let mut number = first as u64;
@@ -238,28 +260,32 @@ fn take_digits<R: Read>(
 }
 
 /// The number of the word that begins at a place, without leading zeros.
-fn text_number<R: Read>(bytes: &mut ProofBytes, reader: &mut R, at: u64) -> Result<u64, ProofFault>
+fn text_number<R: Read>(bytes: &mut ProofBytes, reader: &mut R, at: u64) -> Result<u64, ReadFault>
     ensures count { R.failures reader.new ≡ R.failures reader.old + reads_failed result }
-    ensures number { IfOk result (λ n. (digits : List ℕ) × (n ≤ 2147483647 → digits ≡ decimal n)
+    ensures number { IfOk result (λ n. (digits : List ℕ) × IsNumber n digits
         × TakesText bytes.old bytes.new (R.left reader.old) (R.left reader.new) digits) }
+    ensures ends { IfOk result (λ n. 0 < n →
+        IfSome (text_to_come bytes.new (R.left reader.new)) (BeginsNot IsDigit)) }
+    ensures refused { (at : ℕ) → result ≡ Err (ReadFault.Text at) →
+        IfSome (text_to_come bytes.old (R.left reader.old)) (BeginsNot IsDigit) }
     ensures lowers { IfOk result (λ _.
         to_take (R.reads_left reader.new) bytes.new < to_take (R.reads_left reader.old) bytes.old) }
 {
     let Some(first) = take_digit(bytes, reader)? else {
-        return Err(ProofFault::Text { at });
+        return Err(ReadFault::Text { at });
     };
     if first == 0 {
         // A digit after it is rejected, as any byte that is no space.
         return Ok(0);
     }
-    take_digits(bytes, reader, first)
+    Ok(take_digits(bytes, reader, first)?)
 }
 
 /// What the next step does, or `None` where there is none.
 pub(crate) fn text_kind<R: Read>(
     bytes: &mut ProofBytes,
     reader: &mut R,
-) -> Result<Option<StepKind>, ProofFault>
+) -> Result<Option<StepKind>, ReadFault>
     ensures count { R.failures reader.new ≡ R.failures reader.old + reads_failed result }
     ensures kind { IfOk result (λ kind. IfSome kind (λ k. (taken : List ℕ)
         × ((is_first : Bool) → LeadsStep is_first bytes.old.previous bytes.new.previous taken k)
@@ -267,6 +293,11 @@ pub(crate) fn text_kind<R: Read>(
     ensures none { IfOk result (λ kind. kind ≡ None → (taken : List ℕ) × Gap bytes.old.previous taken
         × TakesText bytes.old bytes.new (R.left reader.old) (R.left reader.new) taken
         × IsAtEnd (text_to_come bytes.new (R.left reader.new))) }
+    ensures goes_on { IfOk result (λ kind. IfSome kind (λ _. (is_first : Bool) →
+        IsSomeAnd (text_to_come bytes.old (R.left reader.old)) (StepToCome is_first bytes.old.previous) →
+        IsSomeAnd (text_to_come bytes.new (R.left reader.new)) (ClauseToCome is_first bytes.new.previous))) }
+    ensures refused { (at : ℕ) → result ≡ Err (ReadFault.Text at) → (is_first : Bool) →
+        IsSomeAnd (text_to_come bytes.old (R.left reader.old)) (StepToCome is_first bytes.old.previous) → ⊥ }
 {
     skip_gap(bytes, reader)?;
     let at = bytes.at();
@@ -283,32 +314,39 @@ pub(crate) fn text_kind<R: Read>(
     }
 }
 
+/// Whether a word is the 0 of a step.
+fn is_end(number: u64, negated: bool) -> bool
+    ensures { IsTrue result ↔ (number ≡ 0) × (negated ≡ false) }
+{
+    number == 0 && !negated
+}
+
 /// The literal of a word, or `None` for 0.
 fn text_word<R: Read>(
     bytes: &mut ProofBytes,
     reader: &mut R,
-    variables: u32,
     is_first: bool,
-) -> Result<Option<Lit>, ProofFault>
-    requires { variables < 2 ^ 31 }
+) -> Result<Option<Lit>, ReadFault>
     ensures count { R.failures reader.new ≡ R.failures reader.old + reads_failed result }
-    ensures variable { IfOk result (λ next. IfSome next (λ l. variable l < variables)) }
+    ensures variable { IfOk result (λ next. IfSome next (λ l. variable l < 2147483647)) }
     ensures word { IfOk result (λ next. (taken : List ℕ) × LeadsWord is_first bytes.new.previous taken next
         × TakesText bytes.old bytes.new (R.left reader.old) (R.left reader.new) taken) }
+    ensures refused { (at : ℕ) → result ≡ Err (ReadFault.Text at) →
+        IsSomeAnd (text_to_come bytes.old (R.left reader.old)) (WordToCome is_first) → ⊥ }
     ensures lowers { IfOk result (λ _.
         to_take (R.reads_left reader.new) bytes.new < to_take (R.reads_left reader.old) bytes.old) }
 {
     let at = bytes.at();
     let negated = take_minus(bytes, reader)?;
     let number = text_number(bytes, reader, at)?;
-    if number == 0 && !negated {
+    if is_end(number, negated) {
         end_step(bytes, reader, is_first, at)?;
         return Ok(None);
     }
     end_word(bytes, reader, at)?;
-    match literal_of(number, negated, variables) {
+    match literal_of(number, negated) {
         Some(literal) => Ok(Some(literal)),
-        None => Err(ProofFault::Text { at }),
+        None => Err(ReadFault::Text { at }),
     }
 }
 
@@ -316,18 +354,21 @@ fn text_word<R: Read>(
 pub(crate) fn text_literal<R: Read>(
     bytes: &mut ProofBytes,
     reader: &mut R,
-    variables: u32,
     is_first: bool,
-) -> Result<Option<Lit>, ProofFault>
-    requires { variables < 2 ^ 31 }
+) -> Result<Option<Lit>, ReadFault>
     ensures count { R.failures reader.new ≡ R.failures reader.old + reads_failed result }
-    ensures variable { IfOk result (λ next. IfSome next (λ l. variable l < variables)) }
+    ensures variable { IfOk result (λ next. IfSome next (λ l. variable l < 2147483647)) }
     ensures literal { IfOk result (λ next. (taken : List ℕ)
         × LeadsClause is_first bytes.old.previous bytes.new.previous taken next
         × TakesText bytes.old bytes.new (R.left reader.old) (R.left reader.new) taken) }
+    ensures goes_on { IfOk result (λ next. IfSome next (λ _.
+        IsSomeAnd (text_to_come bytes.old (R.left reader.old)) (ClauseToCome is_first bytes.old.previous) →
+        IsSomeAnd (text_to_come bytes.new (R.left reader.new)) (ClauseToCome is_first bytes.new.previous))) }
+    ensures refused { (at : ℕ) → result ≡ Err (ReadFault.Text at) →
+        IsSomeAnd (text_to_come bytes.old (R.left reader.old)) (ClauseToCome is_first bytes.old.previous) → ⊥ }
     ensures lowers { IfOk result (λ _.
         to_take (R.reads_left reader.new) bytes.new < to_take (R.reads_left reader.old) bytes.old) }
 {
     skip_gap(bytes, reader)?;
-    text_word(bytes, reader, variables, is_first)
+    text_word(bytes, reader, is_first)
 }

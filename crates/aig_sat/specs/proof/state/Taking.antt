@@ -1,14 +1,15 @@
 -- What a call takes of the bytes of a proof.
-use Rattle.std.specs.Prelude.{◌≡◌, ℕ, ◌+◌, ◌*◌, ◌-◌, ◌<◌, Bool, true, false, List, [], ◌∷◌, ◌++◌, length, take, drop, Option, Some, None}
+use Rattle.std.specs.Prelude.{◌≡◌, ◌≢◌, ◌⊎◌, ℕ, ◌+◌, ◌*◌, ◌-◌, ◌<◌, ◌≤◌, All, decimal, Bool, true, false, List, [], ◌∷◌, ◌++◌, length, take, drop, Option, Some, None}
+use Rattle.std.specs.Option.{IsSomeAnd}
 use Rattle.aig_bytes.specs.Bytes.{before, IsAtEnd}
 use Rattle.aig_parts.specs.Literal.{variable}
 use Rattle.aig_sat.specs.declared.proof.spelling.Spelling.{Spelling}
 use Rattle.aig_sat.specs.declared.proof.spelling.Spelling.TheVariants.{Text, Binary}
 use Rattle.aig_sat.specs.declared.proof.step.StepKind.{StepKind}
 use Rattle.aig_sat.specs.model.ModelText.{IsSpace, number_text}
-use Rattle.aig_sat.specs.proof.ProofText.{EndsStep, Gap, SpellsClause, SpellsStep}
-use Rattle.aig_sat.specs.proof.ProofBytes.{SpellsBinaryStep, SpellsLiterals, first_byte}
-use Rattle.aig_sat.specs.proof.Steps.{AreRenamed, Block, text_to_come, bytes_to_come}
+use Rattle.aig_sat.specs.proof.ProofText.{EndsStep, Gap, IsBlank, SpellsClause, SpellsStep, last_byte}
+use Rattle.aig_sat.specs.proof.ProofBytes.{Groups, SpellsBinaryStep, SpellsLiterals, first_byte}
+use Rattle.aig_sat.specs.proof.Steps.{AreRenamed, BinaryStepToCome, Block, StepToCome, TakesText, text_to_come, bytes_to_come}
 
 -- the bytes from start to end
 abbrev pub held : ℕ → ℕ → List ℕ → List ℕ
@@ -22,16 +23,6 @@ end_to_come false = 1
 -- each byte that is taken lowers this number; it counts 32,768 bytes for each read that may still give some
 abbrev pub to_take : ℕ → Block → ℕ
 to_take reads_left block = 32768 * reads_left + length block.waiting + end_to_come block.ended
-
--- the last byte
-abbrev pub last_byte : ℕ → List ℕ → ℕ
-last_byte previous [] = previous
-last_byte previous (b ∷ rest) = last_byte b rest
-
--- these bytes of a text were taken
-pub record TakesText (old new : Block) (left left' : Option (List ℕ)) (taken : List ℕ) : Type 0 where
-  pub come : text_to_come old left ≡ before taken (text_to_come new left')
-  pub previous : new.previous ≡ last_byte old.previous taken
 
 -- these bytes of the binary form were taken
 abbrev pub TakesBytes : Block → Block → Option (List ℕ) → Option (List ℕ) → List ℕ → Type 0
@@ -118,8 +109,89 @@ Begins Binary old new left left' None = IsAtEnd (bytes_to_come old left)
 abbrev pub GoesOn : Spelling → Bool → ℕ → Block → Block → Option (List ℕ) → Option (List ℕ) → List ℕ → Option StepKind → Type 0
 GoesOn Text is_first formula old new left left' clause (Some kind) = (taken : List ℕ) × (spelled : List ℕ)
     × SpellsStep is_first old.previous taken kind spelled × AreRenamed formula spelled clause
-    × (text_to_come old left ≡ before taken (text_to_come new left'))
+    × TakesText old new left left' taken
 GoesOn Text is_first formula old new left left' clause None = Begins Text old new left left' None
 GoesOn Binary is_first formula old new left left' clause (Some kind) = (taken : List ℕ) × (spelled : List ℕ)
     × SpellsBinaryStep taken kind spelled × AreRenamed formula spelled clause × TakesBytes old new left left' taken
 GoesOn Binary is_first formula old new left left' clause None = IsAtEnd (bytes_to_come old left)
+
+-- ---- what may be to come of a text
+
+-- these bytes do not begin with such a byte
+abbrev pub BeginsNot : (ℕ → Type 0) → List ℕ → Type 0
+BeginsNot P bytes = (b : ℕ) (rest : List ℕ) → bytes ≡ b ∷ rest → P b → ⊥
+
+-- a digit
+abbrev pub IsDigit : ℕ → Type 0
+IsDigit b = (48 ≤ b) × (b ≤ 57)
+
+-- such a byte goes on to separate, where it comes after this one
+abbrev pub BeginsGap : ℕ → ℕ → Type 0
+BeginsGap previous b = IsSpace b ⊎ ((previous ≡ 10) × (b ≡ 99))
+
+-- a comment that does not end
+abbrev pub IsUnfinished : ℕ → List ℕ → Type 0
+IsUnfinished previous bytes = (line : List ℕ) × (previous ≡ 10) × All (λ b. b ≢ 10) line × (bytes ≡ 99 ∷ line)
+
+-- the same after what separates
+abbrev pub EndsUnfinished : ℕ → List ℕ → Type 0
+EndsUnfinished previous bytes =
+    (gap : List ℕ) × (rest : List ℕ) × Gap previous gap × IsUnfinished (last_byte previous gap) rest × (bytes ≡ gap ++ rest)
+
+-- the rest of a line that is blank
+abbrev pub LineToCome : List ℕ → Type 0
+LineToCome bytes = (blanks : List ℕ) × (rest : List ℕ) × All IsBlank blanks × (bytes ≡ blanks ++ 10 ∷ rest)
+
+-- what follows the 0 of a step
+abbrev pub EndsToCome : Bool → List ℕ → Type 0
+EndsToCome is_first bytes = (ends : List ℕ) × (rest : List ℕ) × EndsStep is_first ends × (bytes ≡ ends ++ rest)
+
+-- the literals of a clause, up to its end
+abbrev pub ClauseToCome : Bool → ℕ → List ℕ → Type 0
+ClauseToCome is_first previous bytes =
+    (text : List ℕ) × (rest : List ℕ) × (clause : List ℕ) × SpellsClause is_first previous text clause
+    × (bytes ≡ text ++ rest)
+
+-- the word of a literal and the rest of its clause, or the 0 and what follows it
+pub data WordToCome (is_first : Bool) : List ℕ → Type 0 where
+  end : {bytes : List ℕ} → EndsToCome is_first bytes → WordToCome is_first (48 ∷ bytes)
+  literal : {rest : List ℕ} (l b : ℕ) → variable l < 2147483647 → IsSpace b → ClauseToCome is_first b rest
+      → WordToCome is_first (number_text l ++ b ∷ rest)
+
+-- these bytes spell the number, or where it is over the limit, one over it
+pub record IsNumber (n : ℕ) (digits : List ℕ) : Type 0 where
+  pub all : All IsDigit digits
+  pub within : n ≤ 2147483647 → digits ≡ decimal n
+  pub over : 2147483647 < n → (m : ℕ) → m ≤ 2147483647 → digits ≡ decimal m → ⊥
+
+-- ---- what may be to come of the binary form
+
+-- the literals of a clause, up to its end
+abbrev pub LiteralsToCome : List ℕ → Type 0
+LiteralsToCome bytes =
+    (taken : List ℕ) × (rest : List ℕ) × (clause : List ℕ) × SpellsLiterals taken clause × (bytes ≡ taken ++ rest)
+
+-- a number of five groups at most
+abbrev pub NumberToCome : List ℕ → Type 0
+NumberToCome bytes =
+    (n : ℕ) × (number : List ℕ) × (rest : List ℕ) × (n < 34359738368) × Groups n number × (bytes ≡ number ++ rest)
+
+-- the groups of such a number after those that make the number so far, at the place of this power of 128
+pub record PartToCome (number power : ℕ) (bytes : List ℕ) : Type 0 where
+  pub high : ℕ
+  pub part : List ℕ
+  pub rest : List ℕ
+  pub groups : Groups high part
+  pub some : (0 < high) ⊎ (power ≡ 1)
+  pub small : number + power * high < 34359738368
+  pub is : bytes ≡ part ++ rest
+
+-- ---- of either
+
+abbrev pub HasStep : Spelling → Bool → Block → Option (List ℕ) → Type 0
+HasStep Text is_first block left = IsSomeAnd (text_to_come block left) (StepToCome is_first block.previous)
+HasStep Binary is_first block left = IsSomeAnd (bytes_to_come block left) BinaryStepToCome
+
+abbrev pub HasClause : Spelling → Bool → Block → Option (List ℕ) → Type 0
+HasClause Text is_first block left = IsSomeAnd (text_to_come block left) (ClauseToCome is_first block.previous)
+HasClause Binary is_first block left = IsSomeAnd (bytes_to_come block left) LiteralsToCome

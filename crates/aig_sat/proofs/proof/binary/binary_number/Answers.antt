@@ -1,3 +1,5 @@
+use Rattle.aig_sat.specs.proof.Steps.{bytes_to_come}
+use Rattle.aig_sat.proofs.reading.BytesRefusals.{number_goes_on, number_refused}
 use Rattle.std.proofs.Common.{◌≡◌, ◌⊎◌, ◌+◌, ◌*◌, ◌<◌, ◌≤◌, ◌++◌, ◌∷◌, [], ℕ, List, Option, sym, subst, arith}
 use Rattle.std.proofs.Math.Nat.{mul-le-mul_left}
 use Rattle.aig_sat.specs.proof.ProofBytes.{Groups}
@@ -18,7 +20,7 @@ returns-then-byte-lt128-clause-number g c =
       subst (λ (x : ℕ). Groups (c.loop-power.number + c.loop-power.power * x) (taken ++ b ∷ []))
           (sym (c.low_bits.ensures.last c.if-byte-lt128.true))
           (group_last c.loop-power.number c.loop-power.power b taken c.if-byte-lt128.true
-          (c.may_end.ensures c.if-not-may_end.false) on),
+          (c.may_end.ensures.some c.if-not-may_end.false) on),
       bytes_then c.args.bytes.now c.loop-power.bytes c.next.new.self (left c.args.reader.now) (left c.loop-power.reader)
           (left c.next.new.reader) taken (b ∷ []) took one,
     )
@@ -49,4 +51,14 @@ loop-power-preserved g c =
         bytes_then c.args.bytes.now c.loop-power.bytes c.next.new.self (left c.args.reader.now) (left c.loop-power.reader)
             (left c.next.new.reader) taken (b ∷ []) took one,
       );
+      ahead = λ h. number_goes_on (bytes_to_come c.loop-power.bytes (left c.loop-power.reader)) (bytes_to_come c.next.new.self (left c.next.new.reader))
+          c.loop-power.number p low b one whole c.low_bits.ensures.below (i.ahead h);
     }
+
+pub returns-then-not-may_end-clause-refused : goal.returns-then-not-may_end-clause-refused
+returns-then-not-may_end-clause-refused g c at is h =
+    let one = subst (λ (o : Option ℕ). TakesBytes c.loop-power.bytes c.next.new.self (g.R.Read.left c.loop-power.reader)
+    (g.R.Read.left c.next.new.reader) (listed o)) c.in-Some.is c.in_ok-byte.ensures.bytes in
+    number_refused (bytes_to_come c.loop-power.bytes (g.R.Read.left c.loop-power.reader)) (bytes_to_come c.next.new.self (g.R.Read.left c.next.new.reader)) c.loop-power.number c.loop-power.power
+    c.in-Some.byte one (c.may_end.ensures.zero c.if-not-may_end.true) (c.may_end.ensures.later c.if-not-may_end.true)
+    (c.loop-power.invariant.ahead h)

@@ -1,6 +1,8 @@
 use Rattle.std.proofs.Common.{◌≡◌, ◌⊎◌, ◌+◌, ◌*◌, ◌-◌, ◌<◌, ◌≤◌, ◌++◌, ℕ, List}
+use Rattle.std.specs.Option.{IsSomeAnd}
 use Rattle.aig_sat.specs.proof.ProofBytes.{Groups}
-use Rattle.aig_sat.specs.proof.state.Taking.{TakesBytes, to_take}
+use Rattle.aig_sat.specs.proof.Steps.{bytes_to_come}
+use Rattle.aig_sat.specs.proof.state.Taking.{NumberToCome, PartToCome, TakesBytes, to_take}
 use Rattle.aig_sat.proofs.proof.binary.binary_number.Given as goal
 
 abbrev pub invariant-loop-power : goal.invariant-loop-power
@@ -13,6 +15,8 @@ invariant-loop-power g l = record {
   groups : (taken : List ℕ)
       × ((n : ℕ) (rest : List ℕ) → (0 < n) ⊎ (l.power ≡ 1) → Groups n rest → Groups (l.number + l.power * n) (taken ++ rest))
       × TakesBytes l.fn.bytes l.bytes (g.R.Read.left l.fn.reader) (g.R.Read.left l.reader) taken;
+  ahead : IsSomeAnd (bytes_to_come l.fn.bytes (g.R.Read.left l.fn.reader)) NumberToCome
+      → IsSomeAnd (bytes_to_come l.bytes (g.R.Read.left l.reader)) (PartToCome l.number l.power);
 }
 
 abbrev pub decreases-loop-power : goal.decreases-loop-power

@@ -3,7 +3,7 @@ use Rattle.std.specs.Prelude.{IfSome}
 use Rattle.std.proofs.lemmas.List.Elements.{All-push}
 use Rattle.aig_parts.specs.Literal.{variable}
 use Rattle.aig_sat.specs.proof.Steps.{AreLiterals}
-use Rattle.aig_sat.specs.proof.state.Taking.{LeadsAll, LeadsBy}
+use Rattle.aig_sat.specs.proof.state.Taking.{HasClause, LeadsAll, LeadsBy}
 use Rattle.aig_sat.proofs.reading.TakingLemmas.{leads_end, leads_more, none_of}
 use Rattle.aig_sat.proofs.proof.reader.read_clause.Goals as goal
 
@@ -22,15 +22,17 @@ loop-literal-preserved g c =
     let lits = c.loop-literal.clause.items in
     let x = c.in-Some.literal in
     let items : c.push.new.self.items ≡ lits ++ x ∷ [] = search rules in
-    let below : variable x < c.args.variables = subst (λ (o : Option ℕ). IfSome o (λ y. variable y < c.args.variables)) c.in-Some.is
+    let below : variable x < 2147483647 = subst (λ (o : Option ℕ). IfSome o (λ y. variable y < 2147483647)) c.in-Some.is
     c.in_ok-literal.ensures.variable in
     let by : LeadsBy s f b new (left m) (left n) (Some x) = subst (LeadsBy s f b new (left m) (left n)) c.in-Some.is
     c.in_ok-literal.ensures.literal in
     record {
       count = omega (arith, i.count, c.in_ok-literal.ensures.count);
       never_more = omega (arith, i.never_more, c.in_ok-literal.ensures.lowers);
-      literals = subst (AreLiterals c.args.variables) (sym items)
-          (All-push (λ (y : ℕ). variable y < c.args.variables) lits x i.literals below);
+      literals = subst (AreLiterals 2147483647) (sym items)
+          (All-push (λ (y : ℕ). variable y < 2147483647) lits x i.literals below);
+      goes_on = λ h. subst (λ (o : Option ℕ). IfSome o (λ y. HasClause s f b (left m) → HasClause s f new (left n))) c.in-Some.is
+          c.in_ok-literal.ensures.goes_on (i.goes_on h);
       spelled = subst (LeadsAll s f a new (left l) (left n)) (sym items) (leads_more s f a b new (left l) (left m) (left n) lits x i.spelled by);
     }
 

@@ -1,7 +1,10 @@
-use Rattle.std.proofs.Common.{◌++◌, ◌∷◌, [], arith}
+use Rattle.aig_bytes.specs.Bytes.{before}
+use Rattle.aig_sat.specs.proof.Steps.{text_to_come}
+use Rattle.aig_sat.proofs.reading.TextRefusals.{line_refused}
+use Rattle.std.proofs.Common.{◌++◌, ◌∷◌, [], arith, ap, ◌∙◌}
 use Rattle.std.proofs.lemmas.List.Elements.{All-push}
 use Rattle.aig_sat.specs.proof.ProofText.{IsBlank}
-use Rattle.aig_sat.proofs.reading.TakingLemmas.{on_ok, text_then}
+use Rattle.aig_sat.proofs.reading.TakingLemmas.{on_ok, text_then, before_none}
 use Rattle.aig_sat.proofs.proof.text.end_line.Goals as goal
 
 pub loop-preserved : goal.loop-preserved
@@ -24,3 +27,11 @@ returns-clause-line g c =
     let (blanks, all, took) = c.loop.invariant.blanks in
     on_ok c.take_lf.result
     (λ last. (blanks, all, text_then took (text_then (c.in_ok-skip_blank.ensures.none c.if-branch.false) last))) c.take_lf.ensures.taken
+
+pub returns-clause-refused : goal.returns-clause-refused
+returns-clause-refused g c at is =
+    let (blanks, all, took) = c.loop.invariant.blanks in
+    let same = c.in_ok-skip_blank.ensures.none c.if-branch.false in
+    line_refused (text_to_come c.args.bytes.now (g.R.Read.left c.args.reader.now)) (text_to_come c.skip_blank.new.bytes (g.R.Read.left c.skip_blank.new.reader)) blanks
+    (took.come ∙ ap (before blanks) (same.come ∙ before_none (text_to_come c.skip_blank.new.bytes (g.R.Read.left c.skip_blank.new.reader)))) all
+    (c.in_ok-skip_blank.ensures.other c.if-branch.false) (c.take_lf.ensures.refused at is)

@@ -1,5 +1,6 @@
 use Rattle.std.proofs.Common.{◌≡◌, ◌≤◌, ℕ, List}
-use Rattle.aig_sat.specs.proof.state.Taking.{LeadsGap, TakesText, to_take}
+use Rattle.aig_sat.specs.proof.Steps.{TakesText}
+use Rattle.aig_sat.specs.proof.state.Taking.{LeadsGap, to_take}
 use Rattle.aig_sat.proofs.proof.text.skip_gap.Given as goal
 
 abbrev pub invariant-loop : goal.invariant-loop

@@ -1,5 +1,6 @@
 use Rattle.std.proofs.Common.{◌≡◌, ◌≢◌, ◌≤◌, ℕ, List, All}
-use Rattle.aig_sat.specs.proof.state.Taking.{TakesText, to_take}
+use Rattle.aig_sat.specs.proof.Steps.{TakesText}
+use Rattle.aig_sat.specs.proof.state.Taking.{to_take}
 use Rattle.aig_sat.proofs.proof.text.skip_line.Given as goal
 
 abbrev pub invariant-loop-byte : goal.invariant-loop-byte

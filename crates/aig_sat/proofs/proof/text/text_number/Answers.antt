@@ -1,14 +1,15 @@
-use Rattle.std.proofs.Common.{◌≤◌, ◌∙◌, ◌+◌, ◌++◌, ◌∷◌, [], ℕ, List, Option, sym, ap, subst, arith}
+use Rattle.std.proofs.Common.{◌≤◌, ◌∙◌, ◌+◌, ◌++◌, ◌∷◌, [], ℕ, List, Option, ap, subst, arith}
 use Rattle.std.specs.Prelude.{IfSome}
 use Rattle.std.proofs.lemmas.Fmt.{decimal_digit}
-use Rattle.aig_sat.specs.proof.state.Taking.{digits_of}
-use Rattle.aig_sat.proofs.reading.TakingLemmas.{if_ok, text_as, text_then}
+use Rattle.aig_sat.specs.proof.state.Taking.{IsNumber, digits_of}
+use Rattle.aig_sat.proofs.reading.TakingLemmas.{text_as, text_then}
+use Rattle.aig_sat.proofs.reading.TextRefusals.{first_number}
 use Rattle.aig_sat.proofs.proof.text.text_number.Goals as goal
 
 pub returns-then-first-eq0-clause-number : goal.returns-then-first-eq0-clause-number
 returns-then-first-eq0-clause-number g c = (
   48 ∷ [],
-  (λ small. sym (decimal_digit 0 (omega arith))),
+  first_number 0 (omega arith),
   text_as (ap digits_of c.in-Some.is ∙ ap (λ (d : ℕ). (48 + d) ∷ []) c.if-first-eq0.true) c.in_ok-first.ensures.taken,
 )
 
@@ -17,10 +18,8 @@ returns-clause-number g c =
     let d = c.in-Some.first in
     let digit : d ≤ 9 = subst (λ (o : Option ℕ). IfSome o (λ x. x ≤ 9)) c.in-Some.is c.in_ok-first.ensures.digit in
     let took = text_as (ap digits_of c.in-Some.is) c.in_ok-first.ensures.taken in
-    if_ok c.take_digits.result
-    (λ n h. (
-      (48 + d) ∷ h.0,
-      (λ small. sym (ap (λ (t : List ℕ). t ++ h.0) (decimal_digit d (omega (arith, digit)))) ∙ h.1 small),
-      text_then took h.2,
-    ))
-    c.take_digits.ensures.number
+    let (digits, is, took') = c.in_ok-take_digits.ensures.number in (
+      (48 + d) ∷ digits,
+      subst (λ (t : List ℕ). IsNumber c.in_ok-take_digits.field-0 (t ++ digits)) (decimal_digit d (omega (arith, digit))) is,
+      text_then took took',
+    )

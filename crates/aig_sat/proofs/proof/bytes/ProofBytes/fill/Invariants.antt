@@ -1,6 +1,7 @@
 use Rattle.std.proofs.Common.{◌≡◌, []}
 use Rattle.std.specs.Prelude.{false}
-use Rattle.aig_sat.specs.proof.state.Taking.{TakesBytes, TakesText}
+use Rattle.aig_sat.specs.proof.Steps.{TakesText}
+use Rattle.aig_sat.specs.proof.state.Taking.{TakesBytes}
 use Rattle.aig_sat.proofs.proof.bytes.ProofBytes.fill.Given as goal
 
 abbrev pub invariant-loop : goal.invariant-loop
