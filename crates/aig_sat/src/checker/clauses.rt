@@ -29,6 +29,16 @@ pub(crate) struct Clauses {
     ghost begins: { Begins starts.items named words.items },
 }
 
+/// A clause that stands.
+#[derive(Clone, Copy)]
+pub(crate) struct Clause<'a> {
+    pub(crate) literals: &'a [u32],
+    /// The watched literals, as their exclusive or.
+    pub(crate) watched: u32,
+    /// Where among the literals the last search for a free one ended.
+    pub(crate) searched: usize,
+}
+
 // Whether these can be literals of a clause.
 fn are_literals(literals: &[u32]) -> bool
     ensures { IsTrue result → AreLiterals literals.now }
@@ -115,10 +125,10 @@ impl Clauses {
         self.words.len()
     }
 
-    /// The literals of the clause at a place, if one stands there.
+    /// The clause at a place, if one stands there.
     #[inline]
-    pub(crate) fn literals(&self, place: usize) -> Option<&[u32]>
-        ensures some { IfSome result (λ literals. IsClauseAt self.now.words.items place literals.now) }
+    pub(crate) fn clause(&self, place: usize) -> Option<Clause<'_>>
+        ensures some { IfSome result (λ clause. IsClauseAt self.now.words.items place clause.literals.now) }
         ensures none { IfNone result (StandsAt self.now.words.items place → ⊥) }
     {
         let head = self.word(place);
@@ -126,24 +136,28 @@ impl Clauses {
             return None;
         }
         let start = place + BEFORE;
-        Some(&self.words[start..start + (head - HEAD) as usize])
+        Some(Clause {
+            literals: &self.words[start..start + (head - HEAD) as usize],
+            watched: self.words[place + 2],
+            searched: self.words[place + 3] as usize,
+        })
+    }
+
+    /// The literals of the clause at a place, if one stands there.
+    #[inline]
+    pub(crate) fn literals(&self, place: usize) -> Option<&[u32]>
+        ensures some { IfSome result (λ literals. IsClauseAt self.now.words.items place literals.now) }
+        ensures none { IfNone result (StandsAt self.now.words.items place → ⊥) }
+    {
+        match self.clause(place) {
+            Some(clause) => Some(clause.literals),
+            None => None,
+        }
     }
 
     /// The next clause of a clause's chain.
     pub(crate) fn next(&self, place: u32) -> u32 {
         self.word(place as usize + 1)
-    }
-
-    /// The watched literals of a clause, as their exclusive or.
-    #[inline]
-    pub(crate) fn watched(&self, place: u32) -> u32 {
-        self.word(place as usize + 2)
-    }
-
-    /// Where the last search among the literals of a clause ended.
-    #[inline]
-    pub(crate) fn searched(&self, place: u32) -> usize {
-        self.word(place as usize + 3) as usize
     }
 
     // Writes a word of a clause that is neither its head nor one of its literals.

@@ -12,11 +12,14 @@ use std::mem;
 /// solver's proof is nearly as long.
 const LONGEST_WALK: usize = 1024;
 
-/// Chains of the clauses that stand, by a hash of their literals.
+/// Chains of the clauses that stand, by a hash of their literals. Clauses are put into chains from the first deletion on:
+/// their number is known then, and a formula whose proof deletes nothing needs no chains.
 #[derive(Drop)]
 pub(crate) struct Finder {
     // The place of the first clause of each chain, 0 where there is none.
     chains: Vec<u32>,
+    // Whether the clauses are in chains.
+    is_linked: bool,
     // How many clauses there are.
     clauses: usize,
     alloc: Global,
@@ -44,6 +47,7 @@ impl Finder {
     pub(crate) fn new(alloc: Global) -> Result<Finder, Memory> {
         Ok(Finder {
             chains: vec![in alloc; 0; 1024]?,
+            is_linked: false,
             clauses: 0,
             alloc,
         })
@@ -68,7 +72,7 @@ impl Finder {
     }
 
     // Puts the clauses of an earlier chain into those of now.
-    fn link_all(&mut self, clauses: &mut Clauses, first: u32)
+    fn link_chain(&mut self, clauses: &mut Clauses, first: u32)
         ensures { KeepsMet clauses.old.words.items clauses.new.words.items }
     {
         let mut place = first;
@@ -90,7 +94,7 @@ impl Finder {
         let more = vec![in self.alloc; 0; 2 * self.chains.len()]?;
         let chains = mem::replace(&mut self.chains, more);
         for first in &chains {
-            self.link_all(clauses, *first);
+            self.link_chain(clauses, *first);
         }
         Ok(())
     }
@@ -99,24 +103,52 @@ impl Finder {
     fn make_room(&mut self, clauses: &mut Clauses) -> Result<(), Memory>
         ensures { KeepsMet clauses.old.words.items clauses.new.words.items }
     {
-        if self.clauses >= self.chains.len() && self.chains.len() < HEAD as usize {
+        if self.clauses > self.chains.len() && self.chains.len() < HEAD as usize {
             return self.grow(clauses);
         }
         Ok(())
+    }
+
+    // Makes more chains than there are clauses. Without memory for them it leaves the chains as they are.
+    fn make_chains(&mut self) {
+        let more = self.clauses.saturating_add(self.clauses / 2);
+        if more > self.chains.len() && more < HEAD as usize {
+            if let Ok(chains) = vec![in self.alloc; 0; more] {
+                self.chains = chains;
+            }
+        }
+    }
+
+    // Puts all clauses that stand into chains, unless they are there.
+    fn link_all(&mut self, clauses: &mut Clauses)
+        ensures { KeepsMet clauses.old.words.items clauses.new.words.items }
+    {
+        if self.is_linked {
+            return;
+        }
+        self.is_linked = true;
+        self.make_chains();
+        let end = clauses.len().min(HEAD as usize);
+        for place in 0..end {
+            self.link(clauses, place as u32);
+        }
     }
 
     /// Adds a clause that stands, and that is not there.
     pub(crate) fn add(&mut self, clauses: &mut Clauses, place: u32) -> Result<(), Memory>
         ensures { KeepsMet clauses.old.words.items clauses.new.words.items }
     {
+        self.clauses = self.clauses.saturating_add(1);
+        if !self.is_linked {
+            return Ok(());
+        }
         self.make_room(clauses)?;
         self.link(clauses, place);
-        self.clauses = self.clauses.saturating_add(1);
         Ok(())
     }
 
-    /// Deletes a clause that has the literals of the marks, if one is among the first 1,024 of its chain.
-    pub(crate) fn delete(&mut self, clauses: &mut Clauses, marks: &Marks)
+    // Deletes a clause that has the literals of the marks, if one is among the first 1,024 of its chain.
+    fn unlink(&mut self, clauses: &mut Clauses, marks: &Marks)
         ensures { KeepsMet clauses.old.words.items clauses.new.words.items }
     {
         let chain = self.chain_of(&marks.literals);
@@ -140,5 +172,13 @@ impl Finder {
             before = place;
             place = next;
         }
+    }
+
+    /// Deletes a clause that has the literals of the marks, if one is among the first 1,024 of its chain.
+    pub(crate) fn delete(&mut self, clauses: &mut Clauses, marks: &Marks)
+        ensures { KeepsMet clauses.old.words.items clauses.new.words.items }
+    {
+        self.link_all(clauses);
+        self.unlink(clauses, marks);
     }
 }

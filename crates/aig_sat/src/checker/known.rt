@@ -4,7 +4,6 @@ ghost use Rattle.aig_parts.specs.Literal.{negation};
 ghost use Rattle.aig_sat.specs.checker.Knowledge.{AreFalse, AreFalseBeside, IsFound, IsIn, IsKnown, Takes};
 
 use aig_bytes::Memory;
-use aig_parts::Lit;
 use std::alloc::Global;
 
 /// The literals that are known to be true, and the trail: those of them that were found since the last call that
@@ -27,7 +26,7 @@ pub(crate) struct Free {
 pub(crate) fn negated(literal: u32) -> u32
     ensures { result ≡ negation literal }
 {
-    Lit::new(literal).not().value()
+    literal ^ 1
 }
 
 /// Forgets the literals of a list.

@@ -23,8 +23,8 @@ pub(crate) struct Propagator {
 
 // What becomes of a watch of a literal that is false.
 enum Visit {
-    // It stays, with this blocker.
-    Stays(u32),
+    // It stays, perhaps with another blocker.
+    Stays(Watch),
     // The clause watches another literal, or it was deleted.
     Leaves,
     // All literals of the clause are false.
@@ -82,21 +82,23 @@ impl Propagator {
         ensures conflict { IfOk result (OnConflict (Contradicts self.old)) }
     {
         if self.known.is_true(watch.blocker) {
-            return Ok(Visit::Stays(watch.blocker));
+            return Ok(Visit::Stays(watch));
         }
-        let Some(literals) = self.clauses.literals(watch.clause as usize) else {
+        let Some(clause) = self.clauses.clause(watch.clause as usize) else {
             return Ok(Visit::Leaves);
         };
-        let other = self.clauses.watched(watch.clause) ^ lie;
+        let other = clause.watched ^ lie;
+        let moved = Watch {
+            clause: watch.clause,
+            blocker: other,
+        };
         if self.known.is_true(other) {
-            return Ok(Visit::Stays(other));
+            return Ok(Visit::Stays(moved));
         }
-        let from = self.clauses.searched(watch.clause);
-        if let Some(free) = self.known.free_beside(literals, other, from) {
-            let moved = Watch {
-                clause: watch.clause,
-                blocker: other,
-            };
+        if let Some(free) = self
+            .known
+            .free_beside(clause.literals, other, clause.searched)
+        {
             self.watches.add(free.literal, moved)?;
             self.clauses
                 .set_watched(watch.clause, other ^ free.literal, free.place);
@@ -106,7 +108,7 @@ impl Propagator {
             return Ok(Visit::Conflict);
         }
         self.known.take(other)?;
-        Ok(Visit::Stays(other))
+        Ok(Visit::Stays(moved))
     }
 
     // Looks at the clauses of a list, which watch a literal that has become false; answers whether all literals of one
@@ -119,11 +121,8 @@ impl Propagator {
         for place in 0..list.len() {
             let watch = list[place];
             match self.visit(watch, lie) {
-                Ok(Visit::Stays(blocker)) => {
-                    list[kept] = Watch {
-                        clause: watch.clause,
-                        blocker,
-                    };
+                Ok(Visit::Stays(stays)) => {
+                    list[kept] = stays;
                     kept += 1;
                 }
                 Ok(Visit::Leaves) => {}

@@ -1,6 +1,6 @@
 use Rattle.std.proofs.Common.{◌<◌, length}
 use Rattle.aig_sat.specs.checker.Words.{KeepsMet}
-use Rattle.aig_sat.proofs.checker.finder.Finder.delete.Given as goal
+use Rattle.aig_sat.proofs.checker.finder.Finder.unlink.Given as goal
 
 abbrev pub invariant-loop : goal.invariant-loop
 invariant-loop l = record {
