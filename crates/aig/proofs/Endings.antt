@@ -12,7 +12,7 @@ use Rattle.aig_run.specs.declared.run_fault.RunFault.TheVariants as run_faults
 use Rattle.aig_commands.specs.GoesWell.{GoesWell}
 use Rattle.aig_files.specs.declared.exit.Exit.{Exit}
 use Rattle.aig_files.specs.declared.exit.Exit.TheVariants as exits
-use Rattle.aig_files.specs.declared.part.Part.{Part}
+use Rattle.aig_terminal.specs.declared.part.Part.{Part}
 use Rattle.aig.specs.Ends.{Answers, AreConfirmed, ChecksWitness, Ends, ForSomeText, IsUnwritten, as_meant, end_of, end_of_verdict, unread, writes}
 
 -- what holds of the bytes that were read holds of those that the file had left

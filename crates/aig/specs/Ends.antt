@@ -10,7 +10,7 @@ use Rattle.aig_run.specs.declared.run_fault.RunFault.{RunFault}
 use Rattle.aig_run.specs.declared.run_fault.RunFault.TheVariants as run_faults
 use Rattle.aig_files.specs.declared.exit.Exit.{Exit}
 use Rattle.aig_files.specs.declared.exit.Exit.TheVariants as exits
-use Rattle.aig_files.specs.declared.part.Part.{Part}
+use Rattle.aig_terminal.specs.declared.part.Part.{Part}
 use Rattle.aig_commands.specs.Check.{Checks, ChecksAndTraces, ShowsVerdict}
 use Rattle.aig_commands.specs.Select.{Selects}
 

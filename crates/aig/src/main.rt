@@ -83,21 +83,24 @@ where
     done
 }
 
-fn run_on<R: Files + AllocGlobal + Print + Eprint + Clock>(
-    terminal: &Terminal<'_, R>,
-    matches: &ArgMatches<'_>,
+fn run_on<'t, R: Files + AllocGlobal + Print + Eprint + Clock>(
+    terminal: &'t Terminal<'t, R>,
+    matches: &'t ArgMatches<'_>,
 ) -> Result<(), Exit>
 where
     R::File: AsFd,
 {
-    command_for(terminal, matches)?.run(terminal)
+    match command_for(terminal, matches) {
+        Ok(command) => command.run(terminal),
+        Err(exit) => Err(exit),
+    }
 }
 
 /// Returns the command that the arguments choose, unless one of its numbers is not written as numbers are.
-fn command_for<'m, 't, R: Files + Eprint + Clock>(
+fn command_for<'t, R: Files + Eprint + Clock>(
     terminal: &'t Terminal<'t, R>,
-    matches: &'m ArgMatches<'_>,
-) -> Result<Command<'m, Tracked<'t, R, R::File>>, Exit> {
+    matches: &'t ArgMatches<'_>,
+) -> Result<Command<'t, Tracked<'t, R, R::File>>, Exit> {
     match with_odd_number(terminal.runtime(), matches) {
         Some(exit) => Err(exit),
         None => open_chosen(terminal, matches),

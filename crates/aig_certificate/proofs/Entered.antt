@@ -1,5 +1,5 @@
 -- The table of literals.
-use Rattle.std.proofs.Common.{◌≡◌, ◌≢◌, ◌⊎◌, inl, inr, ℕ, zero, suc, Bool, true, false, nat_lt, if◌then◌else◌, ◌+◌, ◌-◌, ◌*◌, ◌/◌, ◌%◌, ◌<◌, ◌≤◌, List, [], ◌∷◌, ◌++◌, length, map, drop, get_or, set, replicate, Option, Some, None, slice_get, slice_index, option_map, All}
+use Rattle.std.proofs.Common.{◌≡◌, ◌≢◌, ◌⊎◌, inl, inr, ℕ, zero, suc, Bool, true, false, nat_lt, if◌then◌else◌, ◌+◌, ◌-◌, ◌%◌, ◌<◌, ◌≤◌, List, [], ◌∷◌, ◌++◌, length, map, drop, get_or, set, replicate, Option, Some, None, slice_get, option_map, All}
 use Rattle.std.proofs.Common.{refl, sym, ap, ap₂, subst, ◌∙◌, append_assoc, arith}
 use Rattle.std.proofs.lemmas.Bool.{cases_lt}
 use Rattle.std.proofs.lemmas.List.{append-nil, drop_more, drop_all, get_or-set_same, get_or-set_other, length-append, length-map, length-replicate}
@@ -8,7 +8,7 @@ use Rattle.std.proofs.lemmas.Option.{slice_get-map, slice_get-get_or, slice_get_
 use Rattle.aig_parts.specs.declared.gate.Gate.{Gate}
 use Rattle.aig_parts.specs.declared.latch.Latch.{Latch}
 use Rattle.aig_parts.specs.declared.raw.Raw.{Raw}
-use Rattle.aig_parts.specs.Literal.{negation, variable, IsEven}
+use Rattle.aig_parts.specs.Literal.{negation, variable}
 use Rattle.aig_base.specs.Renumbered.{evens_from}
 use Rattle.aig_base.specs.RenumberingTable.{IsGateListed, IsInTable, IsLatchListed}
 use Rattle.aig_base.specs.Sections.{definitions, uses}
@@ -224,10 +224,10 @@ has_literals raw sound table size =
       constraints = All-weaker (λ l. variable l ≤ raw.max_var) (IsInTable table) (λ l h. omega (arith, size, h)) raw.constraints
           u.constraints;
       gates = All-by_get (IsGateListed table) raw.gates (λ k g at. (
-            omega (arith, size, gate_in_range raw sound k g at),
-            omega (arith, size, rhs0_in_range raw sound k g at),
-            omega (arith, size, rhs1_in_range raw sound k g at),
-          ));
+        omega (arith, size, gate_in_range raw sound k g at),
+        omega (arith, size, rhs0_in_range raw sound k g at),
+        omega (arith, size, rhs1_in_range raw sound k g at),
+      ));
     }
   where
     lit : (k : ℕ) (x : Latch) → slice_get raw.latches k ≡ Some x → variable x.lit < length table

@@ -1,6 +1,7 @@
 pub mod Assembled
 pub mod ChainGates
 pub mod Entered
+mod Examples
 pub mod Extensions
 pub mod Marked
 pub mod Naming

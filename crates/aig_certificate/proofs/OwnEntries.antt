@@ -1,7 +1,6 @@
 -- The entries of a certificate that stand for nothing.
-use Rattle.std.proofs.Common.{◌≡◌, ℕ, zero, suc, ◌+◌, ◌*◌, ◌<◌, ◌≤◌, true, false, List, [], ◌∷◌, ◌++◌, length, map, take, get_or, replicate, Option, Some, None, is_none, is_some, count_by, All}
-use Rattle.std.proofs.Common.{refl, sym, ap, ap₂, subst, ◌∙◌, arith, append_assoc}
-use Rattle.std.specs.List.{range_with_len}
+use Rattle.std.proofs.Common.{◌≡◌, ℕ, zero, suc, ◌+◌, ◌<◌, ◌≤◌, true, false, List, [], ◌∷◌, ◌++◌, length, map, take, get_or, replicate, Option, Some, None, is_none, is_some, All}
+use Rattle.std.proofs.Common.{refl, sym, ap, ap₂, ◌∙◌, arith}
 use Rattle.std.proofs.lemmas.List.{append-nil, take_more, length-take-le}
 use Rattle.std.proofs.lemmas.List.Elements.{All-nil, All-cons, All-head, All-tail}
 use Rattle.std.proofs.lemmas.Bool.{false≢true}
@@ -9,7 +8,7 @@ use Rattle.std.proofs.lemmas.List.Sums.{count_by_more_yes, count_by_more_no}
 use Rattle.std.proofs.lemmas.Option.{get_or_from_slice_get}
 use Rattle.aig_base.proofs.lists.Positions.{stands_at}
 use Rattle.aig_certificate.specs.Strengthened.{own, own_position}
-use Rattle.aig_certificate.specs.state.Table.{next_after, value_of, values_from}
+use Rattle.aig_certificate.specs.state.Table.{next_after}
 
 module _ {A : Type 0} where
   pub own-append : (ms ns : List (Option ℕ)) (xs ys : List A) → length ms ≡ length xs

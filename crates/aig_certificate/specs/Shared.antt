@@ -1,7 +1,7 @@
 -- What the inputs and latches of a certificate stand for in a model (our own choice; `= LIT` is the form of the witness
 -- circuits of the Hardware Model Checking Competition). Those that stand for a literal of the model are shared, and the
 -- others are the certificate's own.
-use Rattle.std.specs.Prelude.{◌≡◌, ◌≢◌, ◌⊎◌, ℕ, ◌<◌, List, [], ◌∷◌, ◌++◌, length, codes, decimal, Contains, Option, Some, None, slice_get}
+use Rattle.std.specs.Prelude.{◌≡◌, ◌≢◌, ◌⊎◌, ℕ, ◌<◌, List, ◌++◌, length, codes, decimal, Contains, Option, Some, None, slice_get}
 use Rattle.aig_parts.specs.declared.latch.Latch.{Latch}
 use Rattle.aig_parts.specs.declared.raw.Raw.{Raw}
 use Rattle.aig_parts.specs.declared.symbols.Kind.{Kind}

@@ -79,11 +79,7 @@ pub(crate) struct Sources<'a> {
 }
 
 // The entries that stand for nothing.
-fn own<T: Copy>(
-    alloc: Global,
-    meanings: &[Option<Lit>],
-    entries: &[T],
-) -> Result<List<T>, Memory>
+fn own<T: Copy>(alloc: Global, meanings: &[Option<Lit>], entries: &[T]) -> Result<List<T>, Memory>
     requires { length meanings.now ≡ length entries.now }
     ensures { IfOk result (λ list. list ≡ spec.own meanings.now entries.now) }
 {
@@ -144,11 +140,7 @@ fn push_latches(
 }
 
 // Adds what gates are.
-fn push_gates(
-    to: &mut List<Gate>,
-    translation: &Translation,
-    gates: &[Gate],
-) -> Result<(), Memory>
+fn push_gates(to: &mut List<Gate>, translation: &Translation, gates: &[Gate]) -> Result<(), Memory>
     requires { All (IsGateListed translation.now.table) gates.now }
     ensures { OnOk result (to.new
         ≡ to.old ++ map (translated_gate (literal_by translation.now.table)) gates.now) }
@@ -175,7 +167,11 @@ impl<'a> Sources<'a> {
             ++ map (literal_by self.now.translation.table) (spec.own self.now.shared.inputs self.now.certificate.now.inputs)) }
     {
         self.certificate.facts();
-        let own = own(alloc, self.shared.inputs.as_slice(), self.certificate.inputs())?;
+        let own = own(
+            alloc,
+            self.shared.inputs.as_slice(),
+            self.certificate.inputs(),
+        )?;
         let mut inputs = list_of(alloc, self.model.inputs())?;
         push_literals(&mut inputs, &self.translation, own.as_slice())?;
         Ok(inputs)
@@ -186,10 +182,14 @@ impl<'a> Sources<'a> {
         requires { AreSources self.now }
         ensures { IfOk result (λ latches. latches ≡ self.now.model.now.latches
             ++ map (relabelled_latch (literal_by self.now.translation.table))
-                (spec.own self.now.shared.latches self.now.certificate.now.latches)) }
+            (spec.own self.now.shared.latches self.now.certificate.now.latches)) }
     {
         self.certificate.facts();
-        let own = own(alloc, self.shared.latches.as_slice(), self.certificate.latches())?;
+        let own = own(
+            alloc,
+            self.shared.latches.as_slice(),
+            self.certificate.latches(),
+        )?;
         let mut latches = list_of(alloc, self.model.latches())?;
         push_latches(&mut latches, &self.translation, own.as_slice())?;
         Ok(latches)
@@ -216,7 +216,11 @@ impl<'a> Sources<'a> {
         self.certificate.facts();
         let mut claims = List::new(alloc);
         push_literals(&mut claims, &self.translation, properties(self.certificate))?;
-        push_negations(&mut claims, &self.translation, self.certificate.constraints())?;
+        push_negations(
+            &mut claims,
+            &self.translation,
+            self.certificate.constraints(),
+        )?;
         Ok(claims)
     }
 
@@ -226,7 +230,7 @@ impl<'a> Sources<'a> {
             ++ map (literal_by self.now.translation.table) (spec.own self.now.shared.inputs self.now.certificate.now.inputs) }
         requires latches { latches.now ≡ self.now.model.now.latches
             ++ map (relabelled_latch (literal_by self.now.translation.table))
-                (spec.own self.now.shared.latches self.now.certificate.now.latches) }
+            (spec.own self.now.shared.latches self.now.certificate.now.latches) }
         ensures own { result ≡ length (own_literals (meanings_of self.now.shared) self.now.certificate.now) }
         ensures few { result ≤ 3 * limit }
     {
@@ -276,8 +280,13 @@ impl<'a> Sources<'a> {
         let mut gates = self.gates(alloc)?;
         let added = self.push_property(alloc, &mut gates, bad, last)?;
         let constraints = list_of(alloc, self.model.constraints())?;
-        let symbols =
-            strengthened_symbols(alloc, self.model, property, self.certificate, &self.shared)?;
+        let symbols = strengthened_symbols(
+            alloc,
+            self.model,
+            property,
+            self.certificate,
+            &self.shared,
+        )?;
         let Property {
             outputs,
             bad,

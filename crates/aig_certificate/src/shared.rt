@@ -26,7 +26,10 @@ fn literal_at(circuit: &Circuit, kind: Kind, position: u32) -> Option<Lit>
 {
     match kind {
         Kind::Input => circuit.inputs().get(position as usize).copied(),
-        Kind::Latch => circuit.latches().get(position as usize).map(|latch| latch.lit),
+        Kind::Latch => circuit
+            .latches()
+            .get(position as usize)
+            .map(|latch| latch.lit),
         _ => None,
     }
 }

@@ -155,7 +155,12 @@ impl<'a> Names<'a> {
                 own_entry(kind, self.shared.inputs.as_slice(), &self.inputs, position)
             }
             Kind::Latch => {
-                own_entry(kind, self.shared.latches.as_slice(), &self.latches, position)
+                own_entry(
+                    kind,
+                    self.shared.latches.as_slice(),
+                    &self.latches,
+                    position,
+                )
             }
             Kind::Bad => Some((Kind::Output, 1 + position)),
             Kind::Output => {

@@ -2,10 +2,9 @@
 ghost use Rattle.std.specs.Prelude.{◌≡◌, ◌⊎◌, IfErr, IfOk, IfSome};
 
 use crate::exit::Exit;
-use crate::part::Part;
 use aig_base::{Buffered, Std};
 use aig_run::RunFault;
-use aig_terminal::{Terminal, Tracked};
+use aig_terminal::{Part, Terminal, Tracked};
 use std::alloc::Global;
 use std::fs::{self, Files};
 use std::io::{self, ErrorKind, Printer, Read};
@@ -18,7 +17,7 @@ pub fn open<'t, R: Files + Clock + Eprint>(
     part: Part,
 ) -> Result<Tracked<'t, R, R::File>, Exit> {
     match fs::open(terminal.runtime(), name) {
-        Ok(file) => Ok(Tracked::new(file, terminal, part.name())),
+        Ok(file) => Ok(Tracked::new(file, terminal, part)),
         Err(_) => Err(Exit::Unread(part)),
     }
 }

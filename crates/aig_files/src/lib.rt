@@ -6,15 +6,14 @@ mod files;
 mod kept;
 mod new_file;
 mod output_file;
-mod part;
 mod reserved;
 mod run_files;
 
+pub use aig_terminal::Part;
 pub use exit::Exit;
 pub use files::{open, output, read_whole};
 pub use kept::Kept;
 pub use new_file::{NewFile, OUTPUT, are_one, is_free, name_beside};
 pub use output_file::{OutputFile, find, open_pipe};
-pub use part::Part;
 pub use reserved::{Reserved, reserve};
 pub use run_files::RunFiles;

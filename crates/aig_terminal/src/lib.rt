@@ -3,12 +3,14 @@
 #![tactic(auto)]
 
 mod escape;
+mod part;
 mod progress;
 mod shown;
 mod terminal;
 mod tracked;
 
 pub use escape::escaped;
+pub use part::Part;
 pub use shown::Shown;
 pub use terminal::{Terminal, Terminals};
 pub use tracked::Tracked;

@@ -1,5 +1,6 @@
 //! The line on standard error that says how far a run is.
 
+use crate::part::Part;
 use std::cell::Cell;
 use std::fmt;
 use std::time::{Clock, Instant};
@@ -24,7 +25,8 @@ pub(crate) struct Progress<'a, R> {
 /// How much of a file is read.
 #[derive(Clone, Copy)]
 pub(crate) struct Input {
-    name: &'static str,
+    // Not its name: the borrow checker takes no call with a tracked file that has a `'static` beside its own lifetime.
+    part: Part,
     bytes: u64,
     source: Source,
 }
@@ -42,9 +44,9 @@ pub(crate) enum Source {
 
 impl Input {
     /// A file of which nothing is read, by the name that the line has for it.
-    pub(crate) fn new(name: &'static str, source: Source) -> Input {
+    pub(crate) fn new(part: Part, source: Source) -> Input {
         Input {
-            name,
+            part,
             bytes: 0,
             source,
         }
@@ -59,8 +61,19 @@ impl Input {
 impl fmt::Display for Input {
     fn fmt<W: fmt::Write>(&self, f: &mut fmt::Formatter<W>) -> fmt::Result {
         match self.source {
-            Source::File(size) => write!(f, "{} {} of {} bytes", self.name, self.bytes, size),
-            Source::Stream | Source::Device => write!(f, "{} {} bytes", self.name, self.bytes),
+            Source::File(size) => write!(
+                f,
+                "{} {} of {} bytes",
+                self.part.name(),
+                self.bytes,
+                size
+            ),
+            Source::Stream | Source::Device => write!(
+                f,
+                "{} {} bytes",
+                self.part.name(),
+                self.bytes
+            ),
         }
     }
 }

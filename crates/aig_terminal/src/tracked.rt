@@ -1,6 +1,7 @@
 //! A file that is read, as the line of a run shows it.
 ghost use Rattle.std.specs.Prelude.{◌≡◌};
 
+use crate::part::Part;
 use crate::progress::{Input, Progress, Source};
 use crate::terminal::Terminal;
 use std::fs::{Metadata, OpenFile};
@@ -35,7 +36,7 @@ impl<R, F: Drop> Drop for Tracked<'_, R, F> {
 
 impl<'a, R: Clock + Eprint, F: OpenFile> Tracked<'a, R, F> {
     /// Of an open file, by the name that the line has for it.
-    pub fn new(file: F, terminal: &'a Terminal<'a, R>, name: &'static str) -> Tracked<'a, R, F>
+    pub fn new(file: F, terminal: &'a Terminal<'a, R>, part: Part) -> Tracked<'a, R, F>
         ensures { result ≡ file }
     {
         let progress = terminal.progress();
@@ -47,7 +48,7 @@ impl<'a, R: Clock + Eprint, F: OpenFile> Tracked<'a, R, F> {
         Tracked {
             file,
             progress,
-            input: Input::new(name, source),
+            input: Input::new(part, source),
         }
     }
 

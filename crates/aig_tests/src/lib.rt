@@ -7,6 +7,8 @@ mod binary_proofs;
 #[cfg(test)]
 mod bytes;
 #[cfg(test)]
+mod certificates;
+#[cfg(test)]
 mod circuits;
 #[cfg(test)]
 mod fakes;

@@ -1,6 +1,6 @@
 use Rattle.aig_commands.specs.Refute.{IsFileUnreachable, Refutes}
 use Rattle.aig_run.specs.Command.{OfFile}
-use Rattle.aig_files.specs.declared.part.Part.TheVariants as parts
+use Rattle.aig_terminal.specs.declared.part.Part.TheVariants as parts
 use Rattle.aig.specs.Ends.{Ends, as_meant, end_of}
 use Rattle.aig.proofs.Endings.{answers, no_end, of_any, of_whole, ok_of, ok_whole, slice_whole, ends_unread}
 use Rattle.aig.proofs.solvers.refute.Goals as goal

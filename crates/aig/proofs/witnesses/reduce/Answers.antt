@@ -1,7 +1,7 @@
 use Rattle.std.specs.Prelude.{IfSome}
 use Rattle.aig_commands.specs.Reduce.{Reduces}
 use Rattle.aig_run.specs.Command.{OfFile}
-use Rattle.aig_files.specs.declared.part.Part.TheVariants as parts
+use Rattle.aig_terminal.specs.declared.part.Part.TheVariants as parts
 use Rattle.aig.specs.Ends.{Ends, as_meant, end_of_verdict}
 use Rattle.aig.proofs.Endings.{answers, of_any, of_whole, slice_whole, ends_unread}
 use Rattle.aig.proofs.witnesses.reduce.Goals as goal

@@ -1,4 +1,4 @@
-use Rattle.std.proofs.Common.{◌≡◌, ℕ, List, subst, sym, Contains}
+use Rattle.std.proofs.Common.{ℕ, List, subst, Contains}
 use Rattle.aig_parts.specs.SymbolPlaces.{Key}
 use Rattle.aig_certificate.proofs.Marked.{marked_name, right_literal}
 use Rattle.aig_certificate.proofs.mark.named_literal.Goals as goal

@@ -1,4 +1,4 @@
-use Rattle.std.proofs.Common.{ℕ, ◌∙◌, ap, refl, arith, get_or}
+use Rattle.std.proofs.Common.{ℕ, ◌∙◌, ap, refl, arith}
 use Rattle.std.proofs.lemmas.List.{drop_all, get_or_default}
 use Rattle.aig_base.specs.Renumbered.{ready_gate}
 use Rattle.aig_certificate.proofs.ChainGates.{link_start, link_more, link_all}

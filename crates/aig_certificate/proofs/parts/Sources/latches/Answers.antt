@@ -1,4 +1,4 @@
-use Rattle.std.proofs.Common.{ℕ, List, All, sym, subst, ◌∙◌}
+use Rattle.std.proofs.Common.{List, All, sym, subst, ◌∙◌}
 use Rattle.aig_parts.specs.declared.latch.Latch.{Latch}
 use Rattle.aig_base.specs.RenumberingTable.{IsLatchListed}
 use Rattle.aig_certificate.proofs.Entered.{has_literals}

@@ -1,5 +1,4 @@
-use Rattle.std.proofs.Common.{◌≡◌, ◌≤◌, ◌*◌, ℕ, ◌+◌, List, [], ◌∷◌, ◌++◌, length, ap, ◌∙◌, arith}
-use Rattle.aig_parts.specs.Formed.{limit}
+use Rattle.std.proofs.Common.{◌≡◌, ℕ, ◌+◌, List, [], ◌∷◌, ◌++◌, length, ap, ◌∙◌, arith}
 use Rattle.aig_parts.specs.Literal.{negation}
 use Rattle.aig_certificate.specs.Strengthened.{chain, chain_end, claims}
 use Rattle.aig_certificate.specs.state.Marks.{meanings_of}

@@ -1,6 +1,5 @@
 use Rattle.std.proofs.Common.{◌∙◌, sym, subst}
 use Rattle.std.proofs.lemmas.Bool.{false≢true}
-use Rattle.aig_parts.specs.SymbolPlaces.{Key}
 use Rattle.aig_certificate.specs.Shared.{IsMeaning}
 use Rattle.aig_certificate.proofs.Marked.{named_meaning, placed_meaning}
 use Rattle.aig_certificate.proofs.Results.{ok_such}

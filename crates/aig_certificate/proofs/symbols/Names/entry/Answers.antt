@@ -1,7 +1,6 @@
 use Rattle.std.proofs.Common.{◌≡◌, ℕ, ◌<◌, List, Option, length, refl, sym, ap, ap₂, subst, ◌∙◌, arith}
 use Rattle.std.proofs.lemmas.List.FromFn.{length-map-range_with_len}
 use Rattle.aig_parts.specs.declared.symbols.Kind.{Kind}
-use Rattle.aig_parts.specs.declared.symbols.Kind.TheVariants.{Input, Latch as Latches}
 use Rattle.aig_parts.specs.Formed.{section_length}
 use Rattle.aig_certificate.specs.Strengthened.{certificate_entry, own_entry, own_position}
 use Rattle.aig_certificate.specs.state.Marks.{meanings_of}
