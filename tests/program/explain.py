@@ -275,24 +275,26 @@ WITNESSES = (
 # For one frame its formula has variables 1 to 10, the last of which is the bad state. No input of it is bad, and no
 # clause that these proofs add follows by propagation.
 NEVER = "aag 9 2 0 0 7 1\n2\n4\n18\n6 5 3\n8 4 3\n10 5 2\n12 4 2\n14 9 7\n16 13 11\n18 16 14\n"
-NO_STEP = "this is no step of a proof (DRAT) about the formula, or the file is cut off"
+NO_STEP = "this is no step of a proof in DRAT, or the file is cut off"
 NO_UNIT = ("the clause that this step adds does not follow by unit propagation, nor is it a resolution asymmetric"
            " tautology")
 TOO_SHORT = "the proof ends before it refutes the formula"
+TO_ITS_END = "have the solver write DRAT, to its end"
 SAME = "it has to be about the formula of aig cnf for the same K, P and CIRCUIT"
 DRAT = "aig reads DRAT: have the solver write DRAT"
+OF_FRAT = "aig reads DRAT (cadical without --frat); to make DRAT of it see \"Proof\" in man aig-formats"
 SOLVED = "a proof is a file of its own, as in: cadical FORMULA PROOF"
 
 # A proof; the fault; the lines that explain it.
 PROOFS = (
     ("a letter", "2 3 0\nd 2 x 0\n", "text at 10", NO_STEP,
-     "line 2, column 5: found `x`", "step 2, in line 2, deletes the clause `2 x`", SAME),
+     "line 2, column 5: found `x`", "step 2, in line 2, deletes the clause `2 x`", TO_ITS_END),
     ("a proof that is cut off", "2 3", "text at 3", NO_STEP,
-     "line 1, column 4: the file ends here", "step 1, in line 1, adds the clause `2 3`", SAME),
+     "line 1, column 4: the file ends here", "step 1, in line 1, adds the clause `2 3`", TO_ITS_END),
     ("a binary proof that is cut off", b"a\x04\x07", "text at 3", NO_STEP,
-     "byte 3: the file ends here", "step 1, at byte 0, adds the clause `2 -3`", SAME),
+     "byte 3: the file ends here", "step 1, at byte 0, adds the clause `2 -3`", TO_ITS_END),
     ("a byte that is no kind of step", b"a\x04\x06\x00x", "text at 4", NO_STEP,
-     "byte 4: found `x`", SAME),
+     "byte 4: found `x`", TO_ITS_END),
     ("a clause that does not follow", "c one\n2 3 0\nc two\n-10 5 0\n", "step 2", NO_UNIT,
      "step 2, in line 4, adds the clause `-10 5`", SAME),
     ("a step over lines", "2 3 0\n\n-10\n5\n0\n", "step 2", NO_UNIT,
@@ -315,7 +317,7 @@ PROOFS = (
      "the file is what a solver prints: its answer, or a model", SOLVED),
     ("FRAT", "o 1 2 0\n", "text at 0", NO_STEP, "line 1, column 1: found `o`",
      "the file is a proof in FRAT",
-     DRAT + " (cadical without --frat)"),
+     OF_FRAT),
     ("LRAT", "9 d 1 2 0\n", "text at 2", NO_STEP, "line 1, column 3: found `d`",
      "step 1, in line 1, adds the clause `9`", "the file is a proof in LRAT: its steps have numbers and hints",
      "aig reads DRAT, one step on the first line: have the solver write DRAT (cadical without --lrat)"),
@@ -328,7 +330,18 @@ PROOFS = (
 # Proofs of which other tests say where they are refused; the last lines of the explanation.
 KINDS_OF_PROOFS = (
     ("a circuit", COUNTER, "the file is a circuit", "the circuit comes first: aig refute --frames K CIRCUIT PROOF"),
-    ("FRAT without original clauses", "a 9 1 2 0\n", "the file is a proof in FRAT", DRAT + " (cadical without --frat)"),
+    ("FRAT without original clauses", "a 9 1 2 0\n", "the file is a proof in FRAT", OF_FRAT),
+    ("FRAT in binary", b"o\x02\x04\x06\x00a\x2a\x04\x00f\x2a\x04\x00", "the file is a proof in FRAT",
+     OF_FRAT),
+    ("FRAT in binary without original clauses", b"a\x2a\x04\x06\x00l\x02\x04\x00a\x2c\x04\x00l\x2a\x00",
+     "the file is a proof in FRAT", OF_FRAT),
+    ("LRAT in binary", b"a\x2a\x15\x0a\x00\x06\x08\x00d\x02\x00a\x2c\x04\x00\x2a\x00",
+     "the file is a proof in LRAT: its steps have numbers and hints",
+     "aig reads DRAT, one step on the first line: have the solver write DRAT (cadical without --lrat)"),
+    ("a binary proof with a byte too many", b"a\x04\x06\x00\x06\x00a\x04\x00", "byte 4: found `\\x06`", TO_ITS_END),
+    ("a binary proof with a zero too many", b"a\x04\x06\x00\x00a\x04\x00", "byte 4: found `\\x00`", TO_ITS_END),
+    ("a variable of its own, and a letter", "2 3 0\n11 x 0\n", "step 2, in line 2, adds the clause `11 x`", TO_ITS_END),
+    ("an unfinished proof with a variable of its own", "11 2 0\n", "its number of steps: 1", SAME),
     ("LRAT with hints", "21 -10 5 0 3 4 0\n", "the file is a proof in LRAT: its steps have numbers and hints",
      "aig reads DRAT, one step on the first line: have the solver write DRAT (cadical without --lrat)"),
     ("a variable that the formula does not have", "-10 11 0\n",
@@ -344,7 +357,13 @@ MODELS = (
     ("a letter", "v -1\nv x 0\n", "text at 7", "line 2, column 3: found `x`",
      "wanted: a literal of the formula, or the 0 that ends the literals", SAME_MODEL),
     ("a variable that the formula does not have", "-1 -99 0\n", "text at 3", "line 1, column 4: found `-99`",
-     "its variable is not one of the formula, or its negation is named before", SAME_MODEL),
+     "its variable is not one of the formula, or its negation is named before",
+     "the formula has 2 variables, and that of --step 3", SAME_MODEL),
+    ("a variable that the formula of the step has", "v 3 0\n", "text at 2", "line 1, column 3: found `3`",
+     "its variable is not one of the formula, or its negation is named before",
+     "the formula has 2 variables, and that of --step 3", SAME_MODEL),
+    ("a word after the 0 with such a variable", "-1 0 99\n", "text at 5", "line 1, column 6: found `99`",
+     "wanted: nothing after the 0 but comments, which are lines that begin with c", SAME_MODEL),
     ("both values", "s SATISFIABLE\nv -1 1 0\n", "text at 19", "line 2, column 6: found `1`",
      "its variable is not one of the formula, or its negation is named before", SAME_MODEL),
     ("no 0", "v -1", "text at 4", "line 1, column 5: the file ends here", "wanted: the 0 that ends the literals",

@@ -81,7 +81,7 @@ fn explain_fault<R: Files + AllocGlobal + Print + Eprint>(
         RunFault::Reach(fault) => of_reach(rt, files, fault),
         RunFault::Proof(fault) => explain_proof(rt, files, ProofOf::Runs, fault),
         RunFault::StepProof(fault) => explain_proof(rt, files, ProofOf::Step, fault),
-        RunFault::Model(fault) => explain_model(rt, files.run, fault),
+        RunFault::Model(fault) => explain_model(rt, files, fault),
         RunFault::Output => of_output(rt, files),
         RunFault::Memory => note(rt, MORE_MEMORY),
     }

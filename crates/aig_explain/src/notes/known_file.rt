@@ -70,6 +70,67 @@ fn of_step(line: &[u8]) -> Option<KnownFile> {
     None
 }
 
+// The first number of the binary form.
+fn first_number(numbers: &[u8]) -> u64 {
+    let mut number = 0u64;
+    let mut power = 1u64;
+    for byte in numbers {
+        number = number.saturating_add(power.saturating_mul(u64::from(byte % 128)));
+        power = power.saturating_mul(128);
+        if *byte < 128 {
+            break;
+        }
+    }
+    number
+}
+
+// Whether each list of numbers, which a zero byte ends, begins with one of these letters.
+fn begin_with(lists: &[u8], letters: &[u8]) -> bool {
+    lists.split(|byte| *byte == 0).all(|list| list
+        .first()
+        .is_some_and(|letter| letters.contains(letter)))
+}
+
+// Whether these lists are steps of LRAT: after each addition there is one more list, its hints, and its first number is
+// greater than that of the addition before. One addition alone could be a broken step of DRAT.
+fn are_of_lrat(lists: &[u8]) -> bool {
+    let mut additions: u64 = 0;
+    let mut last = 0;
+    let mut is_hints = false;
+    for list in lists.split(|byte| *byte == 0) {
+        if is_hints {
+            is_hints = false;
+            continue;
+        }
+        match list {
+            [b'a', numbers @ ..] if first_number(numbers) > last => {
+                last = first_number(numbers);
+                additions = additions.saturating_add(1);
+                is_hints = true;
+            }
+            [b'd', ..] => {}
+            _ => return false,
+        }
+    }
+    additions > 1
+}
+
+// What a proof in a binary form is, by its steps that are whole in a block. Steps of FRAT have more letters than those of
+// DRAT, and each of LRAT has hints where DRAT has a letter.
+fn of_binary(block: &[u8]) -> Option<KnownFile> {
+    let end = block.iter().rposition(|byte| *byte == 0)?;
+    let lists = block.get(..end)?;
+    if begin_with(lists, b"ad") {
+        None
+    } else if begin_with(lists, b"oadlfr") {
+        Some(KnownFile::Frat)
+    } else if are_of_lrat(lists) {
+        Some(KnownFile::Lrat)
+    } else {
+        None
+    }
+}
+
 // The first line that is no comment.
 fn first_line(block: &[u8]) -> &[u8] {
     for line in block.split(|byte| *byte == b'\n') {
@@ -108,7 +169,7 @@ pub fn known_file(block: &[u8], word: &[u8]) -> Option<KnownFile> {
         return Some(KnownFile::Circuit);
     }
     if block.contains(&0) {
-        return None;
+        return of_binary(block);
     }
     let known = of_line(first_line(block));
     if known.is_some() {
@@ -127,7 +188,7 @@ impl KnownFile {
             ),
             KnownFile::Frat => (
                 "the file is a proof in FRAT",
-                "aig reads DRAT: have the solver write DRAT (cadical without --frat)",
+                "aig reads DRAT (cadical without --frat); to make DRAT of it see \"Proof\" in man aig-formats",
             ),
             KnownFile::Lrat => (
                 "the file is a proof in LRAT: its steps have numbers and hints",

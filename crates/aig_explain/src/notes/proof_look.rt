@@ -59,7 +59,9 @@ fn explain_steps<R: Files + AllocGlobal + Eprint>(
     let known = match walk_again(rt, name, goal_of(fault), None) {
         Ok(seen) => {
             note_lines(rt, lines_of(rt.alloc(), &seen, fault));
-            explain_variables(rt, files, about, &seen);
+            if let ProofFault::Step { .. } = fault {
+                explain_variables(rt, files, about, &seen);
+            }
             seen.known
         }
         Err(obstacle) => {
@@ -67,7 +69,7 @@ fn explain_steps<R: Files + AllocGlobal + Eprint>(
             None
         }
     };
-    note_cause(rt, about, known);
+    note_cause(rt, about, fault, known);
 }
 
 fn why(fault: ProofFault) -> &'static str {
@@ -75,7 +77,7 @@ fn why(fault: ProofFault) -> &'static str {
         ProofFault::Step { .. } =>
             "the clause that this step adds does not follow by unit propagation, nor is it a resolution asymmetric tautology",
         ProofFault::NoRefutation => "the proof ends before it refutes the formula",
-        _ => "this is no step of a proof (DRAT) about the formula, or the file is cut off",
+        _ => "this is no step of a proof in DRAT, or the file is cut off",
     }
 }
 
@@ -148,7 +150,8 @@ fn push_step(lines: &mut Explanation, walk: &Walk) -> Result<(), Memory> {
     }
 }
 
-// The step may name a variable that the formula does not have.
+// The step that is refused may name a variable that the formula does not have. A proof may have such variables, but one
+// about another formula has them too.
 fn explain_variables<R: Files + AllocGlobal + Eprint>(
     rt: &R,
     files: &RunFiles<'_>,
@@ -166,6 +169,7 @@ fn explain_variables<R: Files + AllocGlobal + Eprint>(
     }
 }
 
+// How many variables the formula has.
 fn variables_of<R: Files + AllocGlobal>(
     rt: &R,
     files: &RunFiles<'_>,
@@ -188,14 +192,15 @@ fn over(alloc: Global, variables: u64, greatest: u64) -> Result<Explanation, Mem
     Ok(lines)
 }
 
-fn note_cause(rt: &impl Eprint, about: ProofOf, known: Option<KnownFile>) {
-    match known {
-        Some(known) => {
+fn note_cause(rt: &impl Eprint, about: ProofOf, fault: ProofFault, known: Option<KnownFile>) {
+    match (known, fault) {
+        (Some(known), _) => {
             let (what, remedy) = known.in_place_of_proof();
             note(rt, what);
             note(rt, remedy);
         }
-        None => note(rt, formula_of(about)),
+        (None, ProofFault::Text { .. }) => note(rt, "have the solver write DRAT, to its end"),
+        (None, _) => note(rt, formula_of(about)),
     }
 }
 
