@@ -1,20 +1,22 @@
 #!/usr/bin/env python3
 """Runs the built program on files of more than its blocks, on long scripts, and on files that were chosen to be slow.
-Two parts run only where they are asked for. `deep` has circuits as deep and as wide as the limits allow (minutes, 1 GB
-of memory, 500 MB of files). `claims` measures the memory for small files that claim millions of entries."""
+Three parts run only where they are asked for. `deep` has circuits as deep and as wide as the limits allow (minutes, 1 GB
+of memory, 500 MB of files). `claims` measures the memory for small files that claim millions of entries. `proofs` has
+proofs that are slow to check, beside the C++ program of `benchmarks/tuned`."""
 
 from large.block_edges import block_edges
 from large.claims import claims
 from large.crowded_names import NAMES, crowded_names
 from large.deep import deep
 from large.files import large_files
+from large.hostile_proofs import hostile_proofs
 from large.hubs import hubs
 from large.limits import limits
 from large.long_run import long_run
 from library import runs
 
 PARTS = {"block_edges": block_edges, "files": large_files, "long_run": long_run, "names": crowded_names, "hubs": hubs,
-         "limits": limits, "deep": deep, "claims": claims}
+         "limits": limits, "deep": deep, "claims": claims, "proofs": hostile_proofs}
 
 
 def options(parser):
@@ -23,4 +25,4 @@ def options(parser):
 
 
 if __name__ == "__main__":
-    runs.main(__doc__, PARTS, outside=("deep", "claims"), options=options)
+    runs.main(__doc__, PARTS, outside=("deep", "claims", "proofs"), options=options)

@@ -25,10 +25,11 @@ public:
         return true;
     }
 
-    // Deletes a clause, if it stands. The literals that it gave stay true.
+    // Deletes a clause, if it is among the first of its chain. The literals that it gave stay true.
     void remove(const std::vector<uint32_t>& literals) {
         const std::vector<uint32_t>& clause = set_of(literals);
-        for (uint32_t* link = &chain_of(clause.data(), clause.size()); *link; link = &words[*link + 1]) {
+        uint32_t* link = &chain_of(clause.data(), clause.size());
+        for (uint32_t walked = 0; *link && walked < longest_walk; ++walked, link = &words[*link + 1]) {
             uint32_t place = *link, size = words[place];
             if (size != clause.size() || !are_marked(&words[place + before], size)) continue;
             *link = words[place + 1];
@@ -45,8 +46,11 @@ private:
     struct Watch {
         uint32_t clause, blocker;
     };
-    // The words of a clause before its literals: their number and the next clause of its chain.
-    static constexpr uint32_t before = 2, deleted = 0xffffffff;
+    // The words of a clause before its literals: their number, the next clause of its chain, and where the last search
+    // among them ended.
+    static constexpr uint32_t before = 3, deleted = 0xffffffff;
+    // A proof can choose clauses of one chain.
+    static constexpr uint32_t longest_walk = 1024;
 
     std::vector<uint32_t> words{0};  // of all clauses; the first two literals of a clause are watched
     std::vector<uint32_t> chains = std::vector<uint32_t>(1024, 0);  // by a hash of the literals
@@ -117,6 +121,7 @@ private:
         uint32_t& chain = chain_of(clause.data(), clause.size());
         words.push_back(uint32_t(clause.size()));
         words.push_back(chain);
+        words.push_back(2);
         words.insert(words.end(), clause.begin(), clause.end());
         chain = place;
         ++count;
@@ -174,6 +179,18 @@ private:
         return false;
     }
 
+    // The place of a literal after the first two that is not false, or `size`. It goes on where the last search ended.
+    uint32_t search(uint32_t* literals, uint32_t size) const {
+        uint32_t& searched = literals[-1];
+        uint32_t at = searched;
+        while (at < size && is_false(literals[at])) ++at;
+        if (at == size) {
+            for (at = 2; at < searched && is_false(literals[at]);) ++at;
+            if (at == searched) return size;
+        }
+        return searched = at;
+    }
+
     // Looks at the clauses that watch a literal that became false.
     bool visit(uint32_t lie) {
         std::vector<Watch>& list = watches[lie];
@@ -189,12 +206,12 @@ private:
             if (size == deleted) continue;
             uint32_t* literals = &words[watch.clause + before];
             if (literals[0] == lie) std::swap(literals[0], literals[1]);
-            uint32_t other = literals[0], at = 2;
+            uint32_t other = literals[0];
             if (is_true(other)) {
                 *to++ = {watch.clause, other};
                 continue;
             }
-            while (at < size && is_false(literals[at])) ++at;
+            uint32_t at = search(literals, size);
             if (at < size) {
                 std::swap(literals[1], literals[at]);
                 watches[literals[1]].push_back({watch.clause, other});

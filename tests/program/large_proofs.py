@@ -1,6 +1,7 @@
 """Proofs that cadical wrote (tests/proofs), as text and in the binary form: over 50 KB about 195 variables, and with over
 5,000 clauses and nearly as many deletions. Each is taken, and refused where a step or a clause that it needs is taken
-away, or the property is another. How those end is known by library/plain_checker.py."""
+away, or the property is another. How those end is known by library/plain_checker.py. They end so too after many other
+clauses, which the first deletion then finds in the formula."""
 
 import os
 import re
@@ -12,6 +13,8 @@ from program.rows import Rows
 
 # The circuits, and how many bytes as text, clauses and deletions their proofs have at least.
 PROOFS = (("parity", 50_000, 1_500, 500), ("long", 200_000, 5_000, 4_000))
+# Steps that change nothing: more clauses than the 1,024 chains that the checker has before the first deletion.
+OTHERS = [(False, [a, -a, b]) for a in range(1, 35) for b in range(1, 35) if a != b]
 CHANGE = re.compile(r"(without|with) (?:clause (\d+) deleted after )?step (\d+)")
 
 
@@ -40,6 +43,9 @@ def large_proofs(program, tally, _):
                     fault = f"step {number}" if int(number) else "no refutation"
                     rows.ends(f"{title}, {spelling}", f"refute --frames 1 {circuit} proof", refused(f"proof: {fault}"),
                               proof=spelled(changed))
+                    fault = f"step {int(number) + len(OTHERS)}" if int(number) else "no refutation"
+                    rows.ends(f"{title}, {spelling}, after other clauses", f"refute --frames 1 {circuit} proof",
+                              refused(f"proof: {fault}"), proof=spelled(OTHERS + changed))
 
 
 def is_large(tally, name, steps, size, clauses, deletions):
