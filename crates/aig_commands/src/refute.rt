@@ -129,7 +129,8 @@ fn write_line<W: Write>(goal: Goal, frames: u32, out: &mut W) -> Result<(), Io>
             write_number(out, frames)?;
             write_all(out, b"\n")
         }
-        Goal::Step | Goal::Induction => write_all(out, b"unreachable\n"),
+        Goal::Step => write_all(out, b"unreachable\n"),
+        Goal::Induction => write_all(out, b"unreachable\n"),
     }
 }
 

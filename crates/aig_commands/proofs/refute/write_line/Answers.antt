@@ -17,3 +17,6 @@ returns-in_ok-write_number-in-Within g c =
 
 pub returns-in-Step : goal.returns-in-Step
 returns-in-Step g c = rw c.in-Step.is c.write_all-in-Step.ensures
+
+pub returns-in-Induction : goal.returns-in-Induction
+returns-in-Induction g c = rw c.in-Induction.is c.write_all-in-Induction.ensures
