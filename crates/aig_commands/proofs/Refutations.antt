@@ -1,5 +1,5 @@
 -- What `refute` answers, from what the check of a proof says.
-use Rattle.std.proofs.Common.{◌≡◌, ◌≢◌, ◌⊎◌, inl, inr, ℕ, List, Result, Ok, Err, OnOk, IfErr, refl, sym, subst}
+use Rattle.std.proofs.Common.{◌≡◌, ◌≢◌, ◌⊎◌, inl, inr, ℕ, List, Result, Ok, Err, OnOk, IfErr, refl, sym, ◌∙◌, subst}
 use Rattle.aig_parts.specs.declared.fault.Fault.{Fault}
 use Rattle.aig_parts.specs.declared.raw.Raw.{Raw}
 use Rattle.aig_bytes.specs.Flow.{Flow}
@@ -51,6 +51,15 @@ pub answer_is : {X : Type 0} (out : Flow X) (line : List ℕ) (checked result : 
     → CommandEnds out run_faults.Output (Answers line checked) result → result ≢ Err run_faults.Output → result ≡ checked
 answer_is out line checked result (CommandEnds.writes_all bytes (same, is) got) other = same
 answer_is out line checked result (CommandEnds.breaks_off answer bytes means breaks) other = absurd (other refl)
+
+-- and another fault than that of the output is the check's
+pub fault_is : {X : Type 0} (out : Flow X) (line : List ℕ) (checked result : Result (Unit {0}) RunFault) (fault : RunFault)
+    → CommandEnds out run_faults.Output (Answers line checked) result → fault ≢ run_faults.Output → result ≡ Err fault
+    → checked ≡ Err fault
+fault_is out line checked result fault ends other is = sym (answer_is out line checked result ends other_answer) ∙ is
+  where
+    other_answer : result ≢ Err run_faults.Output
+    other_answer e = let k : Err fault ≡ Err run_faults.Output = sym is ∙ e in let same : fault ≡ run_faults.Output = cc in other same
 
 -- a good answer is that of a circuit of which the check says so
 pub checked_file : {X : Type 0} (out : Flow X) (line file : List ℕ) (Checks : Raw → Result (Unit {0}) RunFault → Type 0)

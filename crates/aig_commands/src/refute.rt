@@ -1,9 +1,10 @@
 //! `refute`: that no run reaches a bad state within some frames, by a solver's proof; with `--step` and a proof of the
 //! induction step, that no run of any length does.
-ghost use Rattle.std.specs.Prelude.{◌≡◌, ◌≢◌, ◌+◌, Err, IfErr, OnOk};
+ghost use Rattle.std.specs.Prelude.{◌≡◌, ◌≢◌, ◌+◌, Err, IfErr, IfSome, OnOk};
 ghost use Rattle.aig_bytes.specs.Bytes.{Writes};
 ghost use Rattle.aig_bytes.specs.Flow.{flow};
 ghost use Rattle.aig_sat.specs.checker.Consequence.{IsUnsatisfiable};
+ghost use Rattle.aig_sat.specs.proof.Proofs.{IsProof};
 ghost use Rattle.aig_run.specs.Command.{CommandEnds, OfFile};
 ghost use Rattle.aig_commands.specs.Refute.{ChecksStep, ChecksWithin, IsFileNeverReached, IsFileUnreachable};
 ghost use Rattle.aig_commands.specs.Refute.{Refutes, RefutesStep, answer_line, proof_reads_failed, step_reads_failed};
@@ -13,6 +14,7 @@ use aig_base::{Circuit, Io, Read, Write, write_all, write_number};
 use aig_cnf::{Formula, Goal, Query};
 use aig_refute::check;
 use aig_run::{RunFault, flushed, read_circuit};
+use aig_sat::ProofFault;
 use std::alloc::Global;
 
 /// Checks a proof that no run reaches a property within so many frames.
@@ -25,6 +27,7 @@ fn check_within<R: Read>(
 ) -> Result<(), RunFault>
     ensures checks { ChecksWithin frames property circuit.old result }
     ensures reads { R.failures proof.new ≡ R.failures proof.old + proof_reads_failed result }
+    ensures whole { result ≡ Err (RunFault.Proof ProofFault.NoRefutation) → IfSome (R.left proof.old) IsProof }
 {
     circuit.facts();
     let query = Query {
@@ -43,6 +46,7 @@ fn check_later<R: Read>(alloc: Global, later: &Formula, step: &mut R) -> Result<
     ensures fault { IfErr result IsOfStepProof }
     ensures reads { proof_reads_failed result ≡ 0 }
     ensures step { R.failures step.new ≡ R.failures step.old + step_reads_failed result }
+    ensures whole_step { result ≡ Err (RunFault.StepProof ProofFault.NoRefutation) → IfSome (R.left step.old) IsProof }
 {
     match check(alloc, later, step) {
         Ok(()) => Ok(()),
@@ -62,6 +66,8 @@ fn check_step<R: Read>(
     ensures checks { ChecksStep frames property circuit.old result }
     ensures reads { R.failures proof.new ≡ R.failures proof.old + proof_reads_failed result }
     ensures step { R.failures step.new ≡ R.failures step.old + step_reads_failed result }
+    ensures whole { result ≡ Err (RunFault.Proof ProofFault.NoRefutation) → IfSome (R.left proof.old) IsProof }
+    ensures whole_step { result ≡ Err (RunFault.StepProof ProofFault.NoRefutation) → IfSome (R.left step.old) IsProof }
 {
     circuit.facts();
     let base = Formula::of(
@@ -97,6 +103,7 @@ fn read_and_check<R: Read>(
 ) -> Result<(), RunFault>
     ensures checks { IsChecked file.now (ChecksWithin frames property) result }
     ensures reads { R.failures proof.new ≡ R.failures proof.old + proof_reads_failed result }
+    ensures whole { result ≡ Err (RunFault.Proof ProofFault.NoRefutation) → IfSome (R.left proof.old) IsProof }
 {
     let mut circuit = read_circuit(alloc, file)?;
     check_within(alloc, &mut circuit, frames, property, proof)
@@ -114,6 +121,8 @@ fn read_and_check_step<R: Read>(
     ensures checks { IsChecked file.now (ChecksStep frames property) result }
     ensures reads { R.failures proof.new ≡ R.failures proof.old + proof_reads_failed result }
     ensures step { R.failures step.new ≡ R.failures step.old + step_reads_failed result }
+    ensures whole { result ≡ Err (RunFault.Proof ProofFault.NoRefutation) → IfSome (R.left proof.old) IsProof }
+    ensures whole_step { result ≡ Err (RunFault.StepProof ProofFault.NoRefutation) → IfSome (R.left step.old) IsProof }
 {
     let mut circuit = read_circuit(alloc, file)?;
     check_step(alloc, &mut circuit, frames, property, proof, step)
@@ -194,6 +203,7 @@ pub fn refute<R: Read, W: Write>(
         (OfFile file.now (Refutes frames property)) result }
     ensures reads { result ≢ Err RunFault.Output →
         R.failures proof.new ≡ R.failures proof.old + proof_reads_failed result }
+    ensures whole { result ≡ Err (RunFault.Proof ProofFault.NoRefutation) → IfSome (R.left proof.old) IsProof }
     ensures flushed { W.failures out.new ≡ W.failures out.old → W.is_flushed out.new }
 {
     let checked = read_and_check(alloc, file, frames, property, proof);
@@ -221,6 +231,8 @@ pub fn refute_step<R: Read, W: Write>(
         R.failures proof.new ≡ R.failures proof.old + proof_reads_failed result }
     ensures step { result ≢ Err RunFault.Output →
         R.failures step.new ≡ R.failures step.old + step_reads_failed result }
+    ensures whole { result ≡ Err (RunFault.Proof ProofFault.NoRefutation) → IfSome (R.left proof.old) IsProof }
+    ensures whole_step { result ≡ Err (RunFault.StepProof ProofFault.NoRefutation) → IfSome (R.left step.old) IsProof }
     ensures flushed { W.failures out.new ≡ W.failures out.old → W.is_flushed out.new }
 {
     let checked = read_and_check_step(alloc, file, frames, property, proof, step);

@@ -1,8 +1,10 @@
 use Rattle.std.proofs.Common.{◌+◌, ap, ◌∙◌, sym}
 use Rattle.aig_bytes.specs.Flow.{flow}
 use Rattle.aig_cnf.specs.declared.query.Goal.TheVariants as goals
+use Rattle.aig_sat.specs.declared.proof.fault.ProofFault.TheVariants as faults
+use Rattle.aig_run.specs.declared.run_fault.RunFault.TheVariants as run_faults
 use Rattle.aig_commands.specs.Refute.{ChecksWithin, answer_line, proof_reads_failed}
-use Rattle.aig_commands.proofs.Refutations.{answer_is, answered_ends, checked_file, then_ok}
+use Rattle.aig_commands.proofs.Refutations.{answer_is, answered_ends, checked_file, fault_is, then_ok}
 use Rattle.aig_commands.proofs.refute.refute.Goals as goal
 
 pub returns-clause-unreachable : goal.returns-clause-unreachable
@@ -23,3 +25,10 @@ returns-clause-reads g c = λ other.
     c.read_and_check-checked.ensures.reads ∙ ap (λ r. g.R.Read.failures c.args.proof.now + proof_reads_failed r)
     (sym (answer_is (flow g.W.Write.written g.W.Write.failures c.args.out.now c.write_answer.new.out) (answer_line goals.Within c.args.frames)
     c.read_and_check-checked.result c.write_answer.result c.write_answer.ensures.ends other))
+
+pub returns-clause-whole : goal.returns-clause-whole
+returns-clause-whole g c = λ is.
+    c.read_and_check-checked.ensures.whole
+    (fault_is (flow g.W.Write.written g.W.Write.failures c.args.out.now c.write_answer.new.out) (answer_line goals.Within c.args.frames)
+    c.read_and_check-checked.result c.write_answer.result (run_faults.Proof faults.NoRefutation) c.write_answer.ensures.ends
+    (λ e. let never : ⊥ = cc in never) is)

@@ -1,8 +1,10 @@
 use Rattle.std.proofs.Common.{◌+◌, ap, ◌∙◌, sym}
 use Rattle.aig_bytes.specs.Flow.{flow}
 use Rattle.aig_cnf.specs.declared.query.Goal.TheVariants as goals
+use Rattle.aig_sat.specs.declared.proof.fault.ProofFault.TheVariants as faults
+use Rattle.aig_run.specs.declared.run_fault.RunFault.TheVariants as run_faults
 use Rattle.aig_commands.specs.Refute.{ChecksStep, answer_line, proof_reads_failed, step_reads_failed}
-use Rattle.aig_commands.proofs.Refutations.{answer_is, answered_ends, checked_file, then_ok}
+use Rattle.aig_commands.proofs.Refutations.{answer_is, answered_ends, checked_file, fault_is, then_ok}
 use Rattle.aig_commands.proofs.refute.refute_step.Goals as goal
 
 pub returns-clause-unreachable : goal.returns-clause-unreachable
@@ -29,3 +31,17 @@ returns-clause-step g c = λ other.
     c.read_and_check_step-checked.ensures.step ∙ ap (λ r. g.R.Read.failures c.args.step.now + step_reads_failed r)
     (sym (answer_is (flow g.W.Write.written g.W.Write.failures c.args.out.now c.write_answer.new.out) (answer_line goals.Step c.args.frames)
     c.read_and_check_step-checked.result c.write_answer.result c.write_answer.ensures.ends other))
+
+pub returns-clause-whole : goal.returns-clause-whole
+returns-clause-whole g c = λ is.
+    c.read_and_check_step-checked.ensures.whole
+    (fault_is (flow g.W.Write.written g.W.Write.failures c.args.out.now c.write_answer.new.out) (answer_line goals.Step c.args.frames)
+    c.read_and_check_step-checked.result c.write_answer.result (run_faults.Proof faults.NoRefutation) c.write_answer.ensures.ends
+    (λ e. let never : ⊥ = cc in never) is)
+
+pub returns-clause-whole_step : goal.returns-clause-whole_step
+returns-clause-whole_step g c = λ is.
+    c.read_and_check_step-checked.ensures.whole_step
+    (fault_is (flow g.W.Write.written g.W.Write.failures c.args.out.now c.write_answer.new.out) (answer_line goals.Step c.args.frames)
+    c.read_and_check_step-checked.result c.write_answer.result (run_faults.StepProof faults.NoRefutation) c.write_answer.ensures.ends
+    (λ e. let never : ⊥ = cc in never) is)
