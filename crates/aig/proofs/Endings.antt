@@ -32,6 +32,18 @@ pub of_any : (left : Option (List ℕ)) (Q : List ℕ → Type 0) → ((xs : Lis
 of_any None Q q = tt
 of_any (Some xs) Q q = q xs
 
+-- the same of two files
+pub of_both : (left other : Option (List ℕ)) (bytes claims : List ℕ) → IfSome left (λ xs. bytes ≡ xs)
+    → IfSome other (λ ys. claims ≡ ys) → (Q : List ℕ → List ℕ → Type 0) → Q bytes claims
+    → IfSome left (λ xs. IfSome other (λ ys. Q xs ys))
+of_both left other bytes claims whole whole_other Q q =
+    of_whole left bytes whole (λ xs. IfSome other (λ ys. Q xs ys)) (of_whole other claims whole_other (Q bytes) q)
+
+pub of_any_two : (left other : Option (List ℕ)) (Q : List ℕ → List ℕ → Type 0) → ((xs ys : List ℕ) → Q xs ys)
+    → IfSome left (λ xs. IfSome other (λ ys. Q xs ys))
+of_any_two left other Q q =
+    of_any left (λ xs. IfSome other (λ ys. Q xs ys)) (λ xs. of_any other (Q xs) (q xs))
+
 -- a file that was not read is reported so
 pub ends_unread : {T : Type 0} {end : Result T RunFault → Result (Unit {0}) Exit} {Means : Result T RunFault → List ℕ → Type 0}
     (r : Result (Unit {0}) Exit) (exit : Exit) (part : Part)

@@ -13,10 +13,13 @@ is_step goals.Within = false
 is_step goals.Step = true
 is_step goals.Induction = false
 
--- the number of frames, and the property: 0 where it is left out
+-- the property: 0 where it is left out
+abbrev pub HoldsProperty : ArgMatches → ℕ → Type 0
+HoldsProperty matches property = HoldsNumberOr matches (codes "P") 0 property
+
+-- the number of frames, and the property
 abbrev pub HoldsClaim : ArgMatches → ℕ → ℕ → Type 0
-HoldsClaim matches frames property =
-    HoldsNumber matches (codes "K") (Some frames) × HoldsNumberOr matches (codes "P") 0 property
+HoldsClaim matches frames property = HoldsNumber matches (codes "K") (Some frames) × HoldsProperty matches property
 
 -- and the goal
 abbrev pub HoldsQuery : ArgMatches → Query → Type 0
@@ -33,4 +36,8 @@ HoldsOptions matches (commands.Witness property circuit stimulus) = HoldsNumber 
 HoldsOptions matches (commands.ModelWitness query circuit model) = HoldsQuery matches query
 HoldsOptions matches (commands.Refute frames property circuit proof) = HoldsClaim matches frames property
 HoldsOptions matches (commands.RefuteStep frames property circuit proof step) = HoldsClaim matches frames property
+HoldsOptions matches (commands.Strengthen property to circuit certificate) = HoldsProperty matches property
+HoldsOptions matches (commands.CnfCertified property circuit certificate) = HoldsProperty matches property
+HoldsOptions matches (commands.CertifiedModelWitness property circuit certificate model) = HoldsProperty matches property
+HoldsOptions matches (commands.RefuteCertified property circuit certificate proof) = HoldsProperty matches property
 HoldsOptions matches _ = ⊤

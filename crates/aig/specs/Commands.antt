@@ -1,17 +1,20 @@
 -- How each command of the program ends, where the bytes of its files are known.
 use Rattle.std.specs.Prelude.{ℕ, List, Option, Result, IfSome, OnOk}
+use Rattle.aig_cnf.specs.Query.{induction}
 use Rattle.aig_sim.specs.declared.stimulus.fault.StimFault.TheVariants as stimuli
 use Rattle.aig_run.specs.Command.{OfCircuit, OfFile}
 use Rattle.aig_run.specs.declared.run_fault.RunFault.TheVariants as run_faults
 use Rattle.aig_run.specs.declared.script_fault.ScriptFault.TheVariants as scripts
 use Rattle.aig_commands.specs.Bench.{LeavesBench}
 use Rattle.aig_commands.specs.GoesWell.{GoesWell}
+use Rattle.aig_commands.specs.Certified.{OfCertified}
 use Rattle.aig_commands.specs.Cnf.{WritesFormula}
+use Rattle.aig_commands.specs.declared.certified.Purpose.TheVariants as purposes
 use Rattle.aig_commands.specs.Info.{ListsFacts}
 use Rattle.aig_commands.specs.ModelWitness.{WritesModel}
 use Rattle.aig_commands.specs.Names.{ListsNames}
 use Rattle.aig_commands.specs.Reduce.{Reduces}
-use Rattle.aig_commands.specs.Refute.{Refutes, RefutesStep}
+use Rattle.aig_commands.specs.Refute.{Refutes, RefutesInduction, RefutesStep}
 use Rattle.aig_commands.specs.Sim.{WritesSimulation}
 use Rattle.aig_commands.specs.Toaig.{Converts}
 use Rattle.aig_commands.specs.Unroll.{UnrollsKept}
@@ -57,5 +60,17 @@ EndsAsMeant left (commands.Refute frames property circuit proof) result =
     IfSome (left circuit) (λ file. Ends end_of (OfFile file (Refutes frames property)) result)
 EndsAsMeant left (commands.RefuteStep frames property circuit proof step) result =
     IfSome (left circuit) (λ file. Ends end_of (OfFile file (RefutesStep frames property)) result)
+EndsAsMeant left (commands.Strengthen property to circuit certificate) result =
+    IfSome (left circuit) (λ file. IfSome (left certificate) (λ claims.
+    Ends end_of (OfCertified purposes.Circuit file property claims (Converts to)) result))
+EndsAsMeant left (commands.CnfCertified property circuit certificate) result =
+    IfSome (left circuit) (λ file. IfSome (left certificate) (λ claims.
+    Ends end_of (OfCertified purposes.Formula file property claims (WritesFormula (induction 1 0))) result))
+EndsAsMeant left (commands.CertifiedModelWitness property circuit certificate model) result =
+    IfSome (left circuit) (λ file. IfSome (left certificate) (λ claims. IfSome (left model) (λ text.
+    Ends end_of (OfCertified purposes.Formula file property claims (WritesModel (induction 1 0) text)) result)))
+EndsAsMeant left (commands.RefuteCertified property circuit certificate proof) result =
+    IfSome (left circuit) (λ file. IfSome (left certificate) (λ claims.
+    Ends end_of (OfCertified purposes.Formula file property claims RefutesInduction) result))
 EndsAsMeant left (commands.Reduce circuit witness) result =
     IfSome (left circuit) (λ file. IfSome (left witness) (λ text. Ends end_of_verdict (OfFile file (Reduces text)) result))

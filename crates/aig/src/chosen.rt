@@ -46,6 +46,7 @@ fn open_command<'m, 't, R: Files + Clock + Eprint>(
         "witness" => open_witness(terminal, matches),
         "refute" => open_refute(terminal, matches),
         "reduce" => open_reduce(terminal, matches),
+        "strengthen" => open_strengthen(terminal, matches),
         _ => Err(Exit::NoCommand),
     }
 }
@@ -68,6 +69,13 @@ fn open_circuit<'t, R: Files + Clock + Eprint>(
     matches: &ArgMatches<'_>,
 ) -> Result<Tracked<'t, R, R::File>, Exit> {
     open_named(terminal, matches, "CIRCUIT", Part::Circuit)
+}
+
+fn open_certificate<'t, R: Files + Clock + Eprint>(
+    terminal: &'t Terminal<'t, R>,
+    matches: &ArgMatches<'_>,
+) -> Result<Tracked<'t, R, R::File>, Exit> {
+    open_named(terminal, matches, "certificate", Part::Certificate)
 }
 
 /// Returns the format to write.
@@ -230,9 +238,28 @@ fn open_cnf<'m, 't, R: Files + Clock + Eprint>(
 ) -> Result<Command<'m, Tracked<'t, R, R::File>>, Exit>
     ensures options { IfOk result (HoldsOptions matches.now) }
 {
+    if text_of(matches, "certificate").is_some() {
+        return open_cnf_certified(terminal, matches);
+    }
     let query = query_of(matches)?;
     let circuit = open_circuit(terminal, matches)?;
     Ok(Command::Cnf { query, circuit })
+}
+
+fn open_cnf_certified<'m, 't, R: Files + Clock + Eprint>(
+    terminal: &'t Terminal<'t, R>,
+    matches: &'m ArgMatches<'_>,
+) -> Result<Command<'m, Tracked<'t, R, R::File>>, Exit>
+    ensures options { IfOk result (HoldsOptions matches.now) }
+{
+    let property = property_of(matches);
+    let circuit = open_circuit(terminal, matches)?;
+    let certificate = open_certificate(terminal, matches)?;
+    Ok(Command::CnfCertified {
+        property,
+        circuit,
+        certificate,
+    })
 }
 
 fn open_info<'m, 't, R: Files + Clock + Eprint>(
@@ -292,6 +319,9 @@ fn open_model_witness<'m, 't, R: Files + Clock + Eprint>(
 ) -> Result<Command<'m, Tracked<'t, R, R::File>>, Exit>
     ensures options { IfOk result (HoldsOptions matches.now) }
 {
+    if text_of(matches, "certificate").is_some() {
+        return open_certified_model_witness(terminal, matches);
+    }
     let query = query_of(matches)?;
     let circuit = open_circuit(terminal, matches)?;
     let model = open_named(terminal, matches, "model", Part::Model)?;
@@ -302,12 +332,33 @@ fn open_model_witness<'m, 't, R: Files + Clock + Eprint>(
     })
 }
 
+fn open_certified_model_witness<'m, 't, R: Files + Clock + Eprint>(
+    terminal: &'t Terminal<'t, R>,
+    matches: &'m ArgMatches<'_>,
+) -> Result<Command<'m, Tracked<'t, R, R::File>>, Exit>
+    ensures options { IfOk result (HoldsOptions matches.now) }
+{
+    let property = property_of(matches);
+    let circuit = open_circuit(terminal, matches)?;
+    let certificate = open_certificate(terminal, matches)?;
+    let model = open_named(terminal, matches, "model", Part::Model)?;
+    Ok(Command::CertifiedModelWitness {
+        property,
+        circuit,
+        certificate,
+        model,
+    })
+}
+
 fn open_refute<'m, 't, R: Files + Clock + Eprint>(
     terminal: &'t Terminal<'t, R>,
     matches: &'m ArgMatches<'_>,
 ) -> Result<Command<'m, Tracked<'t, R, R::File>>, Exit>
     ensures options { IfOk result (HoldsOptions matches.now) }
 {
+    if text_of(matches, "certificate").is_some() {
+        return open_refute_certified(terminal, matches);
+    }
     let frames = frames_of(matches)?;
     let property = property_of(matches);
     let circuit = open_circuit(terminal, matches)?;
@@ -327,6 +378,42 @@ fn open_refute<'m, 't, R: Files + Clock + Eprint>(
         circuit,
         proof,
         step,
+    })
+}
+
+fn open_refute_certified<'m, 't, R: Files + Clock + Eprint>(
+    terminal: &'t Terminal<'t, R>,
+    matches: &'m ArgMatches<'_>,
+) -> Result<Command<'m, Tracked<'t, R, R::File>>, Exit>
+    ensures options { IfOk result (HoldsOptions matches.now) }
+{
+    let property = property_of(matches);
+    let circuit = open_circuit(terminal, matches)?;
+    let proof = open_named(terminal, matches, "PROOF", Part::Proof)?;
+    let certificate = open_certificate(terminal, matches)?;
+    Ok(Command::RefuteCertified {
+        property,
+        circuit,
+        certificate,
+        proof,
+    })
+}
+
+fn open_strengthen<'m, 't, R: Files + Clock + Eprint>(
+    terminal: &'t Terminal<'t, R>,
+    matches: &'m ArgMatches<'_>,
+) -> Result<Command<'m, Tracked<'t, R, R::File>>, Exit>
+    ensures options { IfOk result (HoldsOptions matches.now) }
+{
+    let property = property_of(matches);
+    let to = format_of(matches)?;
+    let circuit = open_circuit(terminal, matches)?;
+    let certificate = open_certificate(terminal, matches)?;
+    Ok(Command::Strengthen {
+        property,
+        to,
+        circuit,
+        certificate,
     })
 }
 
@@ -372,6 +459,7 @@ pub fn files_of<'a>(matches: &ArgMatches<'a>) -> Option<RunFiles<'a>> {
         } else {
             None
         },
+        certificate: text_of(matches, "certificate"),
         kept: kept_of(matches),
         map: text_of(matches, "map"),
         frames: number_or(matches, "K", 0),

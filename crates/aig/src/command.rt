@@ -3,6 +3,7 @@ ghost use Rattle.aig.specs.Commands.{EndsAsMeant};
 
 use crate::circuits::{cnf, info, info_names, select, toaig, unroll, unroll_and_map};
 use crate::simulations::{bench, sim, wave};
+use crate::certificates::{certified_model_witness, cnf_certified, refute_certified, strengthen};
 use crate::solvers::{model_witness, refute, refute_step};
 use crate::witnesses::{check, reduce, wave_witness, witness};
 use aig_base::PropertySection;
@@ -126,6 +127,33 @@ pub enum Command<'a, F> {
         circuit: F,
         witness: F,
     },
+    /// `strengthen`: a circuit that is strengthened by a certificate.
+    Strengthen {
+        property: u32,
+        to: Format,
+        circuit: F,
+        certificate: F,
+    },
+    /// `cnf --certificate`: the formula of an induction over such a circuit.
+    CnfCertified {
+        property: u32,
+        circuit: F,
+        certificate: F,
+    },
+    /// `witness --certificate --model`: the run of such a circuit that a solver's model names.
+    CertifiedModelWitness {
+        property: u32,
+        circuit: F,
+        certificate: F,
+        model: F,
+    },
+    /// `refute --certificate`: the check of a proof about the formula.
+    RefuteCertified {
+        property: u32,
+        circuit: F,
+        certificate: F,
+        proof: F,
+    },
 }
 
 impl<F: Read + Drop> Command<'_, F> {
@@ -198,6 +226,29 @@ impl<F: Read + Drop> Command<'_, F> {
                 step,
             } => refute_step(terminal, frames, property, circuit, proof, step),
             Command::Reduce { circuit, witness } => reduce(terminal, circuit, witness),
+            Command::Strengthen {
+                property,
+                to,
+                circuit,
+                certificate,
+            } => strengthen(terminal, property, to, circuit, certificate),
+            Command::CnfCertified {
+                property,
+                circuit,
+                certificate,
+            } => cnf_certified(terminal, property, circuit, certificate),
+            Command::CertifiedModelWitness {
+                property,
+                circuit,
+                certificate,
+                model,
+            } => certified_model_witness(terminal, property, circuit, certificate, model),
+            Command::RefuteCertified {
+                property,
+                circuit,
+                certificate,
+                proof,
+            } => refute_certified(terminal, property, circuit, certificate, proof),
         }
     }
 }

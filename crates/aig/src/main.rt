@@ -2,6 +2,7 @@
 #![tactic(auto)]
 
 mod arguments;
+mod certificates;
 mod chosen;
 mod circuits;
 mod command;

@@ -5,26 +5,27 @@ use aig_base::{Fault, Kind, Memory};
 use std::alloc::{AllocError, AllocFailed};
 use thiserror::Error;
 
-/// Why a model is not strengthened by a certificate. The faults stand in the order in which they are tried.
+/// Why a model is not strengthened by a certificate. The faults stand in the order in which they are tried. Each text
+/// begins with the part of the run that it is about.
 #[derive(Clone, Copy, PartialEq, Eq, Debug, Error)]
 pub enum StrengthenFault {
     /// The certificate's comment begins with `MAPPING`, and no symbol says what an entry stands for.
-    #[error("comment")]
+    #[error("certificate: comment")]
     Comment,
     /// The symbol of this input or latch begins with `= `, and names no literal of the model.
-    #[error("symbol")]
+    #[error("certificate: symbol {}{position}", char::from(.kind.letter()))]
     Symbol { kind: Kind, position: u32 },
     /// The model has no bad state property at this position.
-    #[error("property")]
+    #[error("strengthen: property")]
     Property,
     /// The strengthened circuit is over a limit of circuits.
-    #[error("limit")]
+    #[error("strengthen: limit")]
     Limit,
     /// The strengthened circuit has this fault. It never comes: both files are circuits.
-    #[error("{0}")]
+    #[error("certificate: {0}")]
     Circuit(Fault),
     /// No memory was found.
-    #[error("memory")]
+    #[error("strengthen: memory")]
     Memory,
 }
 

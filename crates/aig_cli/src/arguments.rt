@@ -33,11 +33,18 @@ enum Kind {
 enum Need {
     Always,
     Never,
-    /// Exactly if this option is.
+    /// Exactly if this option is, or one of the options with this name for all.
     With(&'static str),
     /// Unless this option is, and with none of these.
     Without(&'static str, &'static [&'static str]),
+    /// One of the options with this name for all, and with none of these.
+    OneOf(&'static str, &'static [&'static str]),
+    /// One of the options with this name for all, exactly if that option is, and with none of these.
+    OneOfWith(&'static str, &'static str, &'static [&'static str]),
 }
+
+/// The name for the options that say which formula: a number of frames, or a certificate.
+pub const FORMULA: &str = "formula";
 
 const FORMATS: &[&str] = &["aag", "aig"];
 
@@ -83,7 +90,7 @@ pub const ROWS: Argument = Argument {
     name: "STIM",
     help: "File of the stimulus: one line per frame,\none 0, 1 or x (unknown) per input",
     kind: Kind::Text,
-    need: Need::Without("model", &["model", "K", "step"]),
+    need: Need::Without("model", &["model", "K", "step", "certificate"]),
 };
 
 pub const RUN: Argument = Argument {
@@ -135,6 +142,35 @@ pub const FRAMES: Argument = Argument {
     need: Need::Always,
 };
 
+/// The number of frames of `cnf` and `refute`: a certificate may be given in its place.
+pub const FRAMES_OR_CERTIFICATE: Argument = Argument {
+    name: "K",
+    help: "Number of frames, from 1 to 65536",
+    kind: Kind::Number("frames"),
+    need: Need::OneOf(FORMULA, &[]),
+};
+
+pub const CERTIFICATE: Argument = Argument {
+    name: "certificate",
+    help: "File of a certificate of the property, in the place\nof --frames: a circuit in the format aag or aig",
+    kind: Kind::Named("CERTIFICATE"),
+    need: Need::OneOf(FORMULA, &["step"]),
+};
+
+pub const MODEL_CERTIFICATE: Argument = Argument {
+    name: "certificate",
+    help: "MODEL is of the formula of cnf --certificate\nwith this file",
+    kind: Kind::Named("CERTIFICATE"),
+    need: Need::OneOfWith(FORMULA, "model", &["step"]),
+};
+
+pub const STRENGTHENING: Argument = Argument {
+    name: "certificate",
+    help: "File of a certificate of the property: a circuit\nin the format aag or aig",
+    kind: Kind::Named("CERTIFICATE"),
+    need: Need::Always,
+};
+
 pub const PROPERTY: Argument = Argument {
     name: "P",
     help: "Position of the bad state property (0 if it is omitted)",
@@ -160,7 +196,7 @@ pub const MODEL: Argument = Argument {
     name: "model",
     help: "File of a SAT solver's model of the formula of\ncnf, in the place of STIM",
     kind: Kind::Named("MODEL"),
-    need: Need::With("K"),
+    need: Need::With(FORMULA),
 };
 
 pub const MODEL_STEP: Argument = Argument {
@@ -174,7 +210,7 @@ pub const MODEL_FRAMES: Argument = Argument {
     name: "K",
     help: "Number of frames of the formula",
     kind: Kind::Number("frames"),
-    need: Need::With("model"),
+    need: Need::OneOfWith(FORMULA, "model", &[]),
 };
 
 pub const MAP: Argument = Argument {
@@ -268,6 +304,11 @@ fn of_need<'a>(argument: Arg<'a>, need: &'static Need) -> Result<Arg<'a>, AllocE
         Need::With(name) => argument.requires_arg(name),
         Need::Without(option, options) => argument
             .required_unless_present(option)?
+            .conflicts_with_all(options),
+        Need::OneOf(group, options) => argument.group(group)?.conflicts_with_all(options),
+        Need::OneOfWith(group, option, options) => argument
+            .group(group)?
+            .requires_arg(option)?
             .conflicts_with_all(options),
     }
 }

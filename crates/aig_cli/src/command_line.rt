@@ -5,7 +5,7 @@ ghost use Rattle.aig_cli.specs.Held.{HoldsFlag, HoldsNumber, HoldsNumberOr, is_p
 
 use crate::arguments::{Argument, EXPLAIN, NUMBERS, PROGRESS, built};
 use crate::help;
-use crate::subcommands::{Subcommand, built_subcommand, first, second, third};
+use crate::subcommands::{Subcommand, built_subcommand, first, fourth, second, third};
 use clap::{Arg, ArgMatches, Command};
 use std::alloc::{AllocError, Global};
 use std::fmt;
@@ -66,7 +66,8 @@ fn with_subcommands<'a>(
 fn command_line<'a>(alloc: Global) -> Result<Command<'a>, AllocError> {
     let program = with_subcommands(program(alloc)?, alloc, first())?;
     let program = with_subcommands(program, alloc, second())?;
-    with_subcommands(program, alloc, third())
+    let program = with_subcommands(program, alloc, third())?;
+    with_subcommands(program, alloc, fourth())
 }
 
 /// Parses the arguments; the first is the program's name.

@@ -120,6 +120,11 @@ from any state in which property P is 1 at frame K, at no frame before it, and
 all constraints are 1. If neither formula can be satisfied, no run of any length
 reaches the property.
 
+With --certificate, the formula says that the certificate is wrong: at a start
+that the resets allow, or after a step from a state without one, the property is
+1 or a claim of the certificate is broken (see aig strengthen). If it cannot be
+satisfied, no run of any length reaches the property.
+
 Example: aig cnf --frames 20 examples/wraps.aag > wraps.cnf
 Example: aig cnf --step --frames 20 examples/wraps.aag > step.cnf
 See also: man aig, man 5 aig-formats";
@@ -188,6 +193,10 @@ With --step, FILE is a proof about the formula of cnf --step. If both proofs are
 right, the answer is unreachable: no run of any length reaches the property.
 Many properties hold and have no such proof, whatever K is.
 
+With --certificate, PROOF is about the formula of cnf --certificate, and the
+answer is unreachable: no run of any length reaches the property. Nothing of the
+certificate is believed.
+
 Example: aig refute --frames 3 examples/wraps.aag examples/wraps.drat
 See also: man aig, man 5 aig-formats";
 
@@ -232,6 +241,32 @@ MODEL is what the solver printed: s and v lines, or the literals alone. With
 --step, the model is one of the formula of aig cnf --step. Then the run starts
 in any state, and shows why the induction step fails: see wave --witness.
 
+With --certificate, the model is one of the formula of aig cnf --certificate,
+and shows why the certificate is wrong. The witness is one of the circuit that
+aig strengthen writes: of one frame if a start breaks a claim, of two if a step
+does. aig check --trace of it shows which claim is broken.
+
 Example: aig witness examples/wraps.aag examples/wraps.stim > wraps.wit
 Example: aig witness --model examples/wraps.model --frames 4 examples/wraps.aag
+See also: man aig, man 5 aig-formats";
+
+pub const STRENGTHEN: &str =
+    "A certificate is a circuit that says why property P of CIRCUIT is never 1. It
+claims that none of its bad state properties (of its outputs, if it has none) is
+ever 1, and that each of its constraints always is. Model checkers write such
+files as witness circuits.
+
+Each of its inputs and latches is a literal of CIRCUIT, or its own. If the symbol
+of one begins with '= ', all that are shared say so: '= LIT' is the literal LIT
+of CIRCUIT. If none does, its first inputs and latches are those of CIRCUIT at
+the same positions. Resets and next states of shared latches are not read.
+
+The circuit that is written has the inputs, latches, gates and constraints of
+CIRCUIT, and the own ones of the certificate. Its outputs are the parts: property
+P, each property of the certificate, and the negation of each constraint of the
+certificate. Its bad state property is 1 if some part is. If no run reaches it,
+no run of CIRCUIT reaches property P.
+
+Example: aig strengthen --to aag --certificate examples/ring.cert.aag \\
+           examples/ring.aag
 See also: man aig, man 5 aig-formats";

@@ -2,7 +2,7 @@
 
 use crate::arguments::{self, Argument, built};
 use crate::help;
-use clap::Command;
+use clap::{ArgGroup, Command};
 use std::alloc::{AllocError, Global};
 
 /// A command of the program.
@@ -11,33 +11,39 @@ pub struct Subcommand {
     about: &'static str,
     /// What follows the options in its help.
     help: &'static str,
+    /// The name of options of which one has to be given.
+    choice: Option<&'static str>,
     arguments: &'static [Argument],
 }
 
-// The commands in the order of the help, in three tables: a check takes a table as one term, and stops at a larger one.
+// The commands in the order of the help, in four tables: a check takes a table as one term, and stops at a larger one.
 static FIRST: [Subcommand; 4] = [
     Subcommand {
         name: "toaig",
         about: "Convert a circuit between the text and the binary format",
         help: help::TOAIG,
+        choice: None,
         arguments: &[arguments::FORMAT, arguments::CIRCUIT],
     },
     Subcommand {
         name: "sim",
         about: "Simulate a circuit and print one line per frame",
         help: help::SIM,
+        choice: None,
         arguments: &[arguments::CIRCUIT, arguments::STIMULUS],
     },
     Subcommand {
         name: "wave",
         about: "Simulate a circuit and print a value change dump for waveform viewers",
         help: help::WAVE,
+        choice: None,
         arguments: &[arguments::IS_WITNESS, arguments::CIRCUIT, arguments::RUN],
     },
     Subcommand {
         name: "bench",
         about: "Run a script of edits and queries on a simulation",
         help: help::BENCH,
+        choice: None,
         arguments: &[
             arguments::CIRCUIT_OUT,
             arguments::STIMULUS_OUT,
@@ -53,6 +59,7 @@ static SECOND: [Subcommand; 4] = [
         name: "unroll",
         about: "Unroll a circuit for K frames into a circuit without latches",
         help: help::UNROLL,
+        choice: None,
         arguments: &[
             arguments::FRAMES,
             arguments::FORMAT,
@@ -64,16 +71,19 @@ static SECOND: [Subcommand; 4] = [
         name: "check",
         about: "Check that a witness reaches a bad state, and print the verdict",
         help: help::CHECK,
+        choice: None,
         arguments: &[arguments::TRACE, arguments::CIRCUIT, arguments::WITNESS],
     },
     Subcommand {
         name: "cnf",
         about: "Print a formula for SAT solvers: a bad state within K frames",
         help: help::CNF,
+        choice: Some(arguments::FORMULA),
         arguments: &[
-            arguments::FRAMES,
+            arguments::FRAMES_OR_CERTIFICATE,
             arguments::PROPERTY,
             arguments::STEP,
+            arguments::CERTIFICATE,
             arguments::CIRCUIT,
         ],
     },
@@ -81,6 +91,7 @@ static SECOND: [Subcommand; 4] = [
         name: "info",
         about: "Print facts about a circuit, one per line",
         help: help::INFO,
+        choice: None,
         arguments: &[arguments::NAMES, arguments::CIRCUIT],
     },
 ];
@@ -90,6 +101,7 @@ static THIRD: [Subcommand; 4] = [
         name: "select",
         about: "Write a circuit with some of its properties, as bad states or outputs",
         help: help::SELECT,
+        choice: None,
         arguments: &[
             arguments::FORMAT,
             arguments::FROM,
@@ -102,10 +114,12 @@ static THIRD: [Subcommand; 4] = [
         name: "witness",
         about: "Write the witness that a run reaches a bad state",
         help: help::WITNESS,
+        choice: None,
         arguments: &[
             arguments::MODEL,
             arguments::MODEL_FRAMES,
             arguments::MODEL_STEP,
+            arguments::MODEL_CERTIFICATE,
             arguments::REACHED,
             arguments::CIRCUIT,
             arguments::ROWS,
@@ -115,10 +129,12 @@ static THIRD: [Subcommand; 4] = [
         name: "refute",
         about: "Check a SAT solver's proof that no run reaches a bad state",
         help: help::REFUTE,
+        choice: Some(arguments::FORMULA),
         arguments: &[
-            arguments::FRAMES,
+            arguments::FRAMES_OR_CERTIFICATE,
             arguments::PROPERTY,
             arguments::STEP_PROOF,
+            arguments::CERTIFICATE,
             arguments::CIRCUIT,
             arguments::PROOF,
         ],
@@ -127,9 +143,23 @@ static THIRD: [Subcommand; 4] = [
         name: "reduce",
         about: "Write a witness with x in place of each value that it does not need",
         help: help::REDUCE,
+        choice: None,
         arguments: &[arguments::CIRCUIT, arguments::WITNESS],
     },
 ];
+
+static FOURTH: [Subcommand; 1] = [Subcommand {
+    name: "strengthen",
+    about: "Write a circuit that is strengthened by a certificate",
+    help: help::STRENGTHEN,
+    choice: None,
+    arguments: &[
+        arguments::FORMAT,
+        arguments::STRENGTHENING,
+        arguments::PROPERTY,
+        arguments::CIRCUIT,
+    ],
+}];
 
 /// The commands that the help lists first.
 pub fn first() -> &'static [Subcommand] {
@@ -141,9 +171,14 @@ pub fn second() -> &'static [Subcommand] {
     SECOND.as_slice()
 }
 
-/// The last of them.
+/// Those after these.
 pub fn third() -> &'static [Subcommand] {
     THIRD.as_slice()
+}
+
+/// The last of them.
+pub fn fourth() -> &'static [Subcommand] {
+    FOURTH.as_slice()
 }
 
 fn with_argument<'a>(
@@ -154,6 +189,14 @@ fn with_argument<'a>(
     command.arg(built(alloc, row)?)
 }
 
+fn with_choice<'a>(
+    command: Command<'a>,
+    alloc: Global,
+    name: &'static str,
+) -> Result<Command<'a>, AllocError> {
+    command.group(ArgGroup::new(alloc, name).required(true))
+}
+
 /// The command as the parser takes it.
 pub fn built_subcommand<'a>(
     alloc: Global,
@@ -162,6 +205,9 @@ pub fn built_subcommand<'a>(
     let mut command = Command::new(alloc, row.name)
         .about(row.about)
         .after_help(row.help);
+    if let Some(name) = row.choice {
+        command = with_choice(command, alloc, name)?;
+    }
     for argument in row.arguments {
         command = with_argument(command, alloc, argument)?;
     }

@@ -1,5 +1,6 @@
 pub mod BenchEnds
 pub mod Benches
+pub mod Certificates
 pub mod EntryLines
 pub mod GoodRuns
 pub mod Headers

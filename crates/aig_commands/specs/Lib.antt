@@ -1,5 +1,6 @@
 pub mod Bench
 pub mod BenchFiles
+pub mod Certified
 pub mod Check
 pub mod Cnf
 pub mod GoesWell

@@ -3,7 +3,8 @@
 use Rattle.std.specs.Prelude.{◌≡◌, ◌⊎◌, ℕ, List, [], ◌++◌, codes, decimal, Result, Ok, Err}
 use Rattle.aig_parts.specs.declared.raw.Raw.{Raw}
 use Rattle.aig_cnf.specs.Answers.{HasFormula, RefusesFormula}
-use Rattle.aig_cnf.specs.Query.{step, within}
+use Rattle.aig_cnf.specs.Query.{induction, step, within}
+use Rattle.aig_cnf.specs.declared.query.Query.{Query}
 use Rattle.aig_cnf.specs.declared.query.Goal.{Goal}
 use Rattle.aig_cnf.specs.declared.query.Goal.TheVariants as goals
 use Rattle.aig_sat.specs.declared.proof.fault.ProofFault.{ProofFault}
@@ -13,13 +14,21 @@ use Rattle.aig_run.specs.declared.run_fault.RunFault.{RunFault}
 use Rattle.aig_run.specs.declared.run_fault.RunFault.TheVariants as run_faults
 use Rattle.aig_run.specs.Command.{IsFileOf}
 
--- What the check of a proof says of a circuit: no run reaches bad p within k frames; or there is no formula, or the
--- proof is refused.
+-- What the check of a proof about the formula of a query shows of a circuit, where it is one; or there is no formula, or
+-- the proof is refused.
+abbrev pub ChecksProof : Query → (Raw → Type 0) → Raw → Result (Unit {0}) RunFault → Type 0
+ChecksProof query Shows raw (Ok done) = HasFormula raw query × Shows raw
+ChecksProof query Shows raw (Err (run_faults.Cnf fault)) = RefusesFormula raw query fault
+ChecksProof query Shows raw (Err (run_faults.Proof fault)) = HasFormula raw query
+ChecksProof query Shows raw (Err _) = ⊥
+
+-- that no run reaches bad p within k frames
 abbrev pub ChecksWithin : ℕ → ℕ → Raw → Result (Unit {0}) RunFault → Type 0
-ChecksWithin k p raw (Ok done) = HasFormula raw (within k p) × IsUnreachableWithin raw k p
-ChecksWithin k p raw (Err (run_faults.Cnf fault)) = RefusesFormula raw (within k p) fault
-ChecksWithin k p raw (Err (run_faults.Proof fault)) = HasFormula raw (within k p)
-ChecksWithin k p raw (Err _) = ⊥
+ChecksWithin k p = ChecksProof (within k p) (λ raw. IsUnreachableWithin raw k p)
+
+-- that no run of any length reaches the one bad state property, by an induction over one frame
+abbrev pub ChecksInduction : Raw → Result (Unit {0}) RunFault → Type 0
+ChecksInduction = ChecksProof (induction 1 0) (λ raw. IsUnreachable raw 0)
 
 -- both formulas are there
 abbrev pub HasFormulas : ℕ → ℕ → Raw → Type 0
@@ -46,12 +55,15 @@ abbrev pub answer_text : List ℕ → Result (Unit {0}) RunFault → List ℕ
 answer_text line (Ok done) = line
 answer_text line (Err fault) = []
 
--- what `refute` writes for a circuit, and with a proof of the step
+-- what `refute` writes for a circuit, with a proof of the step, and for a strengthened circuit
 abbrev pub Refutes : ℕ → ℕ → Raw → Result (Unit {0}) RunFault → List ℕ → Type 0
 Refutes k p raw answer text = ChecksWithin k p raw answer × (text ≡ answer_text (answer_line goals.Within k) answer)
 
 abbrev pub RefutesStep : ℕ → ℕ → Raw → Result (Unit {0}) RunFault → List ℕ → Type 0
 RefutesStep k p raw answer text = ChecksStep k p raw answer × (text ≡ answer_text (answer_line goals.Step k) answer)
+
+abbrev pub RefutesInduction : Raw → Result (Unit {0}) RunFault → List ℕ → Type 0
+RefutesInduction raw answer text = ChecksInduction raw answer × (text ≡ answer_text (answer_line goals.Induction 1) answer)
 
 -- the file is one of a circuit in which no run reaches bad p within k frames
 abbrev pub IsFileUnreachable : List ℕ → ℕ → ℕ → Type 0

@@ -1,3 +1,4 @@
 -- What proofs alone need. No contract of an exported function reaches it.
 pub mod Answered
+pub mod Extended
 pub mod Parts

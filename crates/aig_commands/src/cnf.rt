@@ -1,11 +1,16 @@
-//! `cnf`: the formula that a bad state is reached within some frames, or with `--step` that of an induction step.
+//! `cnf`: the formula that a bad state is reached within some frames, with `--step` that of an induction step, with
+//! `--certificate` that of an induction over a circuit that is strengthened by a certificate.
 ghost use Rattle.std.specs.Prelude.{◌≡◌, IfErr};
 ghost use Rattle.aig_bytes.specs.Bytes.{Writes};
 ghost use Rattle.aig_bytes.specs.Flow.{flow};
 ghost use Rattle.aig_cnf.specs.CnfText.{cnf_text};
+ghost use Rattle.aig_cnf.specs.Query.{induction};
 ghost use Rattle.aig_run.specs.Command.{CommandEnds, OfFile};
+ghost use Rattle.aig_commands.specs.Certified.{OfCertified};
 ghost use Rattle.aig_commands.specs.Cnf.{WritesFormula};
+ghost use Rattle.aig_commands.specs.declared.certified.Purpose.TheVariants as purposes;
 
+use crate::certified::{Certified, ONE_FORMULA, Purpose};
 use aig_base::{Circuit, Io, Write};
 use aig_cnf::{Formula, Query};
 use aig_run::{RunFault, flushed, read_circuit};
@@ -62,5 +67,37 @@ pub fn cnf<W: Write>(alloc: Global, file: &[u8], query: Query, out: &mut W) -> R
     ensures flushed { W.failures out.new ≡ W.failures out.old → W.is_flushed out.new }
 {
     let done = read_and_write(alloc, file, query, out);
+    flushed(done, out, RunFault::Output)
+}
+
+/// Strengthens a circuit and writes the formula, without a flush at the end.
+fn strengthen_and_write<W: Write>(
+    alloc: Global,
+    certified: Certified<'_>,
+    out: &mut W,
+) -> Result<(), RunFault>
+    ensures { CommandEnds (flow W.written W.failures out.old out.new) RunFault.Output
+        (OfCertified purposes.Formula certified.entry.circuit.now certified.entry.property certified.entry.certificate.now
+            (WritesFormula (induction 1 0))) result }
+{
+    let mut circuit = certified.strengthened(alloc, Purpose::Formula)?;
+    make_and_write(alloc, &mut circuit, ONE_FORMULA, out)
+}
+
+/// The command `cnf --certificate`: reads a circuit and a certificate, and writes the formula of the induction over one
+/// frame for the strengthened circuit (`aig_certificate::strengthened`). Where no assignment satisfies it, no run of any
+/// length of the circuit reaches the property (`law_of_one_formula` and `law_of_extension` of `aig_refute`). If a file is
+/// rejected, or there is no such formula, nothing is written. It flushes the writer before it returns.
+pub fn cnf_certified<W: Write>(
+    alloc: Global,
+    certified: Certified<'_>,
+    out: &mut W,
+) -> Result<(), RunFault>
+    ensures ends { CommandEnds (flow W.written W.failures out.old out.new) RunFault.Output
+        (OfCertified purposes.Formula certified.entry.circuit.now certified.entry.property certified.entry.certificate.now
+            (WritesFormula (induction 1 0))) result }
+    ensures flushed { W.failures out.new ≡ W.failures out.old → W.is_flushed out.new }
+{
+    let done = strengthen_and_write(alloc, certified, out);
     flushed(done, out, RunFault::Output)
 }

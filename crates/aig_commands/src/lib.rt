@@ -2,6 +2,7 @@
 #![tactic(auto)]
 
 pub mod bench;
+pub mod certified;
 pub mod check;
 pub mod cnf;
 mod entries;
@@ -12,6 +13,7 @@ pub mod reduce;
 pub mod refute;
 pub mod select;
 pub mod sim;
+pub mod strengthen;
 pub mod toaig;
 pub mod unroll;
 pub mod wave;

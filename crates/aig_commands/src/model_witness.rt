@@ -1,15 +1,18 @@
 //! `witness --model`: the witness of the run that a solver's model names; with `--step` the run by which an induction step
-//! fails.
+//! fails, with `--certificate` the one by which a certificate does.
 ghost use Rattle.std.specs.Prelude.{◌≡◌, ◌<◌, ◌≤◌, IfOk, IfErr, OnOk, length};
 ghost use Rattle.aig_bytes.specs.Flow.{flow};
 ghost use Rattle.aig_cnf.specs.Answers.{HasFormula, RefusesFormula};
-ghost use Rattle.aig_cnf.specs.Query.{depth, subject};
+ghost use Rattle.aig_cnf.specs.Query.{depth, induction, subject};
 ghost use Rattle.aig_run.specs.Command.{CommandEnds, OfFile};
 ghost use Rattle.aig_unroll.specs.FrameLiteral.{input_count};
 ghost use Rattle.aig_unroll.specs.Unrollable.{FitsLimits};
+ghost use Rattle.aig_commands.specs.Certified.{OfCertified};
+ghost use Rattle.aig_commands.specs.declared.certified.Purpose.TheVariants as purposes;
 ghost use Rattle.aig_commands.specs.ModelWitness.{RefusesModel, WritesModel, WritesNamed, variable_count};
 ghost use Rattle.aig_sat.specs.model.ModelText.{IsModelOf};
 
+use crate::certified::{Certified, ONE_FORMULA, Purpose};
 use crate::named_run::find_named;
 use aig_base::{Circuit, Tern, Write};
 use aig_cnf::{CnfFault, Formula, Query};
@@ -126,5 +129,40 @@ pub fn model_witness<W: Write>(
     ensures flushed { W.failures out.new ≡ W.failures out.old → W.is_flushed out.new }
 {
     let done = read_and_write(alloc, file, query, model, out);
+    flushed(done, out, RunFault::Output)
+}
+
+/// The same for a strengthened circuit, without a flush at the end.
+fn strengthen_and_write<W: Write>(
+    alloc: Global,
+    certified: Certified<'_>,
+    model: &[u8],
+    out: &mut W,
+) -> Result<(), RunFault>
+    ensures { CommandEnds (flow W.written W.failures out.old out.new) RunFault.Output
+        (OfCertified purposes.Formula certified.entry.circuit.now certified.entry.property certified.entry.certificate.now
+            (WritesModel (induction 1 0) model.now)) result }
+{
+    let mut circuit = certified.strengthened(alloc, Purpose::Formula)?;
+    read_model_and_write(alloc, &mut circuit, ONE_FORMULA, model, out)
+}
+
+/// The command `witness --certificate --model`: reads a circuit, a certificate and a SAT solver's model of the formula of
+/// `cnf --certificate`. The model names a run of the strengthened circuit, of one row where the start fails and of two
+/// where the step does, and it writes the witness of the first frame at which a claim is broken. `check` on the
+/// strengthened circuit confirms it where the resets allow its start. Nothing is written if a file is rejected, there is
+/// no such formula, or no frame breaks a claim. It flushes the writer before it returns.
+pub fn certified_model_witness<W: Write>(
+    alloc: Global,
+    certified: Certified<'_>,
+    model: &[u8],
+    out: &mut W,
+) -> Result<(), RunFault>
+    ensures ends { CommandEnds (flow W.written W.failures out.old out.new) RunFault.Output
+        (OfCertified purposes.Formula certified.entry.circuit.now certified.entry.property certified.entry.certificate.now
+            (WritesModel (induction 1 0) model.now)) result }
+    ensures flushed { W.failures out.new ≡ W.failures out.old → W.is_flushed out.new }
+{
+    let done = strengthen_and_write(alloc, certified, model, out);
     flushed(done, out, RunFault::Output)
 }

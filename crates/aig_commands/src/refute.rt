@@ -1,15 +1,18 @@
 //! `refute`: that no run reaches a bad state within some frames, by a solver's proof; with `--step` and a proof of the
-//! induction step, that no run of any length does.
+//! induction step, or with `--certificate`, that no run of any length does.
 ghost use Rattle.std.specs.Prelude.{◌≡◌, ◌≢◌, ◌+◌, Err, IfErr, IfSome, OnOk};
 ghost use Rattle.aig_bytes.specs.Bytes.{Writes};
 ghost use Rattle.aig_bytes.specs.Flow.{flow};
 ghost use Rattle.aig_sat.specs.checker.Consequence.{IsUnsatisfiable};
 ghost use Rattle.aig_sat.specs.proof.Proofs.{IsProof};
 ghost use Rattle.aig_run.specs.Command.{CommandEnds, OfFile};
-ghost use Rattle.aig_commands.specs.Refute.{ChecksStep, ChecksWithin, IsFileNeverReached, IsFileUnreachable};
-ghost use Rattle.aig_commands.specs.Refute.{Refutes, RefutesStep, answer_line, proof_reads_failed, step_reads_failed};
-ghost use Rattle.aig_commands.specs.state.Answered.{Answers, IsChecked, IsOfStepProof};
+ghost use Rattle.aig_commands.specs.Certified.{OfCertified};
+ghost use Rattle.aig_commands.specs.declared.certified.Purpose.TheVariants as purposes;
+ghost use Rattle.aig_commands.specs.Refute.{ChecksProof, ChecksStep, ChecksWithin, IsFileNeverReached, IsFileUnreachable};
+ghost use Rattle.aig_commands.specs.Refute.{Refutes, RefutesInduction, RefutesStep, answer_line, proof_reads_failed, step_reads_failed};
+ghost use Rattle.aig_commands.specs.state.Answered.{Answers, IsCertifiedChecked, IsChecked, IsOfStepProof, IsRefuted};
 
+use crate::certified::{Certified, ONE_FORMULA, Purpose};
 use aig_base::{Circuit, Io, Read, Write, write_all, write_number};
 use aig_cnf::{Formula, Goal, Query};
 use aig_refute::check;
@@ -17,24 +20,17 @@ use aig_run::{RunFault, flushed, read_circuit};
 use aig_sat::ProofFault;
 use std::alloc::Global;
 
-/// Checks a proof that no run reaches a property within so many frames.
-fn check_within<R: Read>(
+/// Checks a proof that no assignment satisfies the formula of a query about a circuit.
+fn check_query<R: Read>(
     alloc: Global,
     circuit: &mut Circuit,
-    frames: u32,
-    property: u32,
+    query: Query,
     proof: &mut R,
 ) -> Result<(), RunFault>
-    ensures checks { ChecksWithin frames property circuit.old result }
+    ensures checks { ChecksProof query (IsRefuted query) circuit.old result }
     ensures reads { R.failures proof.new ≡ R.failures proof.old + proof_reads_failed result }
     ensures whole { result ≡ Err (RunFault.Proof ProofFault.NoRefutation) → IfSome (R.left proof.old) IsProof }
 {
-    circuit.facts();
-    let query = Query {
-        goal: Goal::Within,
-        frames,
-        property,
-    };
     let formula = Formula::of(alloc, circuit, query)?;
     check(alloc, &formula, proof)?;
     Ok(())
@@ -106,7 +102,12 @@ fn read_and_check<R: Read>(
     ensures whole { result ≡ Err (RunFault.Proof ProofFault.NoRefutation) → IfSome (R.left proof.old) IsProof }
 {
     let mut circuit = read_circuit(alloc, file)?;
-    check_within(alloc, &mut circuit, frames, property, proof)
+    let query = Query {
+        goal: Goal::Within,
+        frames,
+        property,
+    };
+    check_query(alloc, &mut circuit, query, proof)
 }
 
 /// Reads a circuit, and checks two proofs about it.
@@ -126,6 +127,22 @@ fn read_and_check_step<R: Read>(
 {
     let mut circuit = read_circuit(alloc, file)?;
     check_step(alloc, &mut circuit, frames, property, proof, step)
+}
+
+/// Strengthens a circuit by a certificate, and checks a proof about the result.
+fn strengthen_and_check<R: Read>(
+    alloc: Global,
+    certified: Certified<'_>,
+    proof: &mut R,
+) -> Result<(), RunFault>
+    ensures checks { IsCertifiedChecked certified.entry.circuit.now certified.entry.property certified.entry.certificate.now result }
+    ensures unreachable { OnOk result (IsFileNeverReached certified.entry.circuit.now certified.entry.property) }
+    ensures reads { R.failures proof.new ≡ R.failures proof.old + proof_reads_failed result }
+    ensures whole { result ≡ Err (RunFault.Proof ProofFault.NoRefutation) → IfSome (R.left proof.old) IsProof }
+{
+    let mut circuit = certified.strengthened(alloc, Purpose::Formula)?;
+    circuit.facts();
+    check_query(alloc, &mut circuit, ONE_FORMULA, proof)
 }
 
 /// Writes the line that answers.
@@ -237,4 +254,28 @@ pub fn refute_step<R: Read, W: Write>(
 {
     let checked = read_and_check_step(alloc, file, frames, property, proof, step);
     write_answer(checked, Goal::Step, frames, out)
+}
+
+/// The command `refute --certificate`: reads a circuit and a certificate, and checks a solver's proof that no assignment
+/// satisfies the formula of `cnf --certificate`. If it is one, no run of any length from a start that the resets allow
+/// reaches the property of the circuit, whatever values are unknown, and one line says so. Nothing is believed of the
+/// certificate or of the proof. The proof is never held whole, and is not read if a file is rejected, if there is no such
+/// formula, or if propagation alone refutes it. It flushes the writer before it returns.
+pub fn refute_certified<R: Read, W: Write>(
+    alloc: Global,
+    certified: Certified<'_>,
+    proof: &mut R,
+    out: &mut W,
+) -> Result<(), RunFault>
+    ensures unreachable { OnOk result (IsFileNeverReached certified.entry.circuit.now certified.entry.property) }
+    ensures ends { CommandEnds (flow W.written W.failures out.old out.new) RunFault.Output
+        (OfCertified purposes.Formula certified.entry.circuit.now certified.entry.property certified.entry.certificate.now RefutesInduction)
+        result }
+    ensures reads { result ≢ Err RunFault.Output →
+        R.failures proof.new ≡ R.failures proof.old + proof_reads_failed result }
+    ensures whole { result ≡ Err (RunFault.Proof ProofFault.NoRefutation) → IfSome (R.left proof.old) IsProof }
+    ensures flushed { W.failures out.new ≡ W.failures out.old → W.is_flushed out.new }
+{
+    let checked = strengthen_and_check(alloc, certified, proof);
+    write_answer(checked, Goal::Induction, 1, out)
 }

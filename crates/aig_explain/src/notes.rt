@@ -1,6 +1,7 @@
 //! The notes that `--explain` prints after the message of a run that failed: its files, and what a second look at them
 //! shows.
 
+mod certificate_look;
 mod failed_run;
 mod known_file;
 mod look;

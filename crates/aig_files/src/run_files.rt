@@ -13,6 +13,8 @@ pub struct RunFiles<'a> {
     pub script: Option<&'a str>,
     /// The proof of an induction step.
     pub step: Option<&'a str>,
+    /// The certificate of the property.
+    pub certificate: Option<&'a str>,
     /// Where a bench is kept.
     pub kept: Kept<'a>,
     /// Where the map of the inputs goes.

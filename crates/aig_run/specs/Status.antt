@@ -10,9 +10,10 @@ use Rattle.aig_unroll.specs.declared.fault.UnrollFault.TheVariants as unrollings
 use Rattle.aig_base.specs.declared.select.SelectFault.TheVariants as selections
 use Rattle.aig_sat.specs.declared.model.fault.ModelFault.TheVariants as models
 use Rattle.aig_sat.specs.declared.proof.fault.ProofFault.TheVariants as proofs
+use Rattle.aig_certificate.specs.declared.fault.StrengthenFault.TheVariants as strengthenings
 use Rattle.aig_run.specs.declared.run_fault.RunFault.{RunFault}
 use Rattle.aig_run.specs.declared.run_fault.RunFault.TheVariants.{Circuit, Stimulus, Witness, Bench, Script, Output, Memory}
-use Rattle.aig_run.specs.declared.run_fault.RunFault.TheVariants.{Unroll, Cnf, Select, Reach, Proof, StepProof, Model}
+use Rattle.aig_run.specs.declared.run_fault.RunFault.TheVariants.{Unroll, Cnf, Select, Reach, Proof, StepProof, Model, Certificate, Strengthen}
 
 -- 3 where memory ran out, or a read or a write failed; 1 for any other refusal
 abbrev pub status_of : RunFault → ℕ
@@ -34,4 +35,7 @@ status_of (Proof proofs.Io) = 3
 status_of (StepProof proofs.Memory) = 3
 status_of (StepProof proofs.Io) = 3
 status_of (Model models.Memory) = 3
+status_of (Certificate circuits.Memory) = 3
+status_of (Certificate circuits.Io) = 3
+status_of (Strengthen strengthenings.Memory) = 3
 status_of _ = 1

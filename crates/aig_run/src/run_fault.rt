@@ -5,6 +5,7 @@ ghost use Rattle.aig_run.specs.Status.{status_of};
 use crate::script_fault::ScriptFault;
 use aig_base::{Fault, Memory, SelectFault};
 use aig_bench::BenchFault;
+use aig_certificate::StrengthenFault;
 use aig_cnf::CnfFault;
 use aig_sat::{ModelFault, ProofFault};
 use aig_sim::{ReachFault, StimFault, WitnessFault};
@@ -45,6 +46,12 @@ pub enum RunFault {
     StepProof(ProofFault),
     #[error("model: {0}")]
     Model(ModelFault),
+    /// The file of a certificate.
+    #[error("certificate: {0}")]
+    Certificate(Fault),
+    /// What a certificate says of a model.
+    #[error("{0}")]
+    Strengthen(StrengthenFault),
 }
 
 impl RunFault {
@@ -65,6 +72,8 @@ impl RunFault {
             RunFault::Proof(ProofFault::Memory | ProofFault::Io) => 3,
             RunFault::StepProof(ProofFault::Memory | ProofFault::Io) => 3,
             RunFault::Model(ModelFault::Memory) => 3,
+            RunFault::Certificate(Fault::Memory | Fault::Io) => 3,
+            RunFault::Strengthen(StrengthenFault::Memory) => 3,
             RunFault::Circuit(_)
             | RunFault::Stimulus(_)
             | RunFault::Witness(_)
@@ -75,7 +84,9 @@ impl RunFault {
             | RunFault::Reach(_)
             | RunFault::Proof(_)
             | RunFault::StepProof(_)
-            | RunFault::Model(_) => 1,
+            | RunFault::Model(_)
+            | RunFault::Certificate(_)
+            | RunFault::Strengthen(_) => 1,
         }
     }
 }

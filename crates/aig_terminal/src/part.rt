@@ -11,6 +11,8 @@ pub enum Part {
     Proof,
     /// The proof of an induction step.
     StepProof,
+    /// A certificate of a bad state property.
+    Certificate,
 }
 
 impl Part {
@@ -24,6 +26,7 @@ impl Part {
             Part::Model => "model",
             Part::Proof => "proof",
             Part::StepProof => "step proof",
+            Part::Certificate => "certificate",
         }
     }
 }

@@ -4,6 +4,7 @@ use crate::bench::{explain_bench, explain_reduction};
 use crate::circuit::explain_circuit;
 use crate::cnf::explain_cnf;
 use crate::explanation::Explanation;
+use crate::notes::certificate_look::{explain_no_formula, explain_strengthening};
 use crate::notes::look::{
     MORE_MEMORY, Obstacle, explain_reading, note, note_lines, note_name, read_again,
 };
@@ -61,6 +62,7 @@ fn of_unread<R: Files + AllocGlobal + Print + Eprint>(rt: &R, files: &RunFiles<'
         Part::Script => of_stream(rt, files.script),
         Part::Witness | Part::Model | Part::Proof => of_file(rt, files.run),
         Part::StepProof => of_file(rt, files.step),
+        Part::Certificate => of_file(rt, files.certificate),
     }
 }
 
@@ -79,9 +81,11 @@ fn explain_fault<R: Files + AllocGlobal + Print + Eprint>(
         RunFault::Cnf(fault) => of_cnf(rt, files, fault),
         RunFault::Select(fault) => explain_select(rt, files.circuit, fault),
         RunFault::Reach(fault) => of_reach(rt, files, fault),
-        RunFault::Proof(fault) => explain_proof(rt, files, ProofOf::Runs, fault),
+        RunFault::Proof(fault) => explain_proof(rt, files, proof_of(files), fault),
         RunFault::StepProof(fault) => explain_proof(rt, files, ProofOf::Step, fault),
         RunFault::Model(fault) => explain_model(rt, files, fault),
+        RunFault::Certificate(fault) => of_certificate(rt, files, fault),
+        RunFault::Strengthen(fault) => explain_strengthening(rt, files, fault),
         RunFault::Output => of_output(rt, files),
         RunFault::Memory => note(rt, MORE_MEMORY),
     }
@@ -92,6 +96,23 @@ fn of_circuit<R: Files + AllocGlobal + Eprint>(rt: &R, files: &RunFiles<'_>, fau
         Fault::Memory => note(rt, MORE_MEMORY),
         Fault::Io => of_file(rt, Some(files.circuit)),
         _ => of_circuit_text(rt, files.circuit, fault),
+    }
+}
+
+fn of_certificate<R: Files + AllocGlobal + Eprint>(rt: &R, files: &RunFiles<'_>, fault: Fault) {
+    match (fault, files.certificate) {
+        (Fault::Memory, _) => note(rt, MORE_MEMORY),
+        (Fault::Io, name) => of_file(rt, name),
+        (_, Some(name)) => of_circuit_text(rt, name, fault),
+        (_, None) => {}
+    }
+}
+
+/// What the proof of a command is about.
+fn proof_of(files: &RunFiles<'_>) -> ProofOf {
+    match files.certificate {
+        Some(_) => ProofOf::Certificate,
+        None => ProofOf::Runs,
     }
 }
 
@@ -228,6 +249,7 @@ fn of_unroll_text<R: Files + AllocGlobal + Eprint>(
 fn of_cnf<R: Files + AllocGlobal + Eprint>(rt: &R, files: &RunFiles<'_>, fault: CnfFault) {
     match fault {
         CnfFault::Memory => note(rt, MORE_MEMORY),
+        _ if files.certificate.is_some() => explain_no_formula(rt, files, fault),
         _ => of_cnf_text(rt, files, fault),
     }
 }
@@ -257,6 +279,16 @@ fn of_reach<R: AllocGlobal + Eprint>(rt: &R, files: &RunFiles<'_>, fault: ReachF
             note(
                 rt,
                 "positions count from 0: aig info CIRCUIT prints the number of properties",
+            );
+        }
+        ReachFault::NoRun if files.certificate.is_some() => {
+            note(
+                rt,
+                "no frame of the run that the model names breaks a claim",
+            );
+            note(
+                rt,
+                "it has to be of the formula of aig cnf --certificate for the same P, CERTIFICATE and CIRCUIT",
             );
         }
         // A model has a number of frames.

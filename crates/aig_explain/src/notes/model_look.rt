@@ -25,28 +25,37 @@ pub fn explain_model<R: Files + AllocGlobal + Eprint>(
                 explain_text(rt, files, name, at);
             }
         }
-        ModelFault::Unsatisfiable => explain_answer(
-            rt,
-            files.run,
-            "the solver says that no run reaches the bad state within K frames; aig refute checks its proof",
-        ),
-        ModelFault::Unknown => explain_answer(
-            rt,
-            files.run,
-            "the solver gave up before it found an answer",
-        ),
+        ModelFault::Unsatisfiable => explain_answer(rt, files, unsatisfiable(files)),
+        ModelFault::Unknown => {
+            explain_answer(rt, files, "the solver gave up before it found an answer");
+        }
     }
 }
 
-const FORMULA: &str =
-    "it has to be of the formula of aig cnf for the same K, P, CIRCUIT and --step";
+/// What it says that a solver found no model.
+fn unsatisfiable(files: &RunFiles<'_>) -> &'static str {
+    match files.certificate {
+        Some(_) => "the solver says that the certificate is right; aig refute checks its proof",
+        None =>
+            "the solver says that no run reaches the bad state within K frames; aig refute checks its proof",
+    }
+}
 
-fn explain_answer<R: AllocGlobal + Eprint>(rt: &R, name: Option<&str>, why: &str) {
-    if let Some(name) = name {
+/// The formula that the model has to be of.
+fn formula_of(files: &RunFiles<'_>) -> &'static str {
+    match files.certificate {
+        Some(_) =>
+            "it has to be of the formula of aig cnf --certificate for the same P, CERTIFICATE and CIRCUIT",
+        None => "it has to be of the formula of aig cnf for the same K, P, CIRCUIT and --step",
+    }
+}
+
+fn explain_answer<R: AllocGlobal + Eprint>(rt: &R, files: &RunFiles<'_>, why: &str) {
+    if let Some(name) = files.run {
         note_name(rt, name);
     }
     note(rt, why);
-    note(rt, FORMULA);
+    note(rt, formula_of(files));
 }
 
 fn explain_text<R: Files + AllocGlobal + Eprint>(
@@ -73,13 +82,14 @@ fn explain_text<R: Files + AllocGlobal + Eprint>(
             note(rt, what);
             note(rt, remedy);
         }
-        None => note(rt, FORMULA),
+        None => note(rt, formula_of(files)),
     }
 }
 
 // The word that is refused may be of a variable that the formula does not have.
 fn explain_variable<R: Files + AllocGlobal + Eprint>(rt: &R, files: &RunFiles<'_>, walk: &Walk) {
-    if !is_literal(walk) {
+    // The variables of a certificate's formula are counted with the certificate's own.
+    if !is_literal(walk) || files.certificate.is_some() {
         return;
     }
     let Ok(circuit) = read_again(rt, files.circuit) else {

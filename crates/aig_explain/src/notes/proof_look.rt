@@ -21,6 +21,8 @@ pub enum ProofOf {
     Runs,
     /// The induction step.
     Step,
+    /// The induction over a circuit that a certificate strengthens.
+    Certificate,
 }
 
 /// Explains on standard error why a proof is refused.
@@ -31,7 +33,7 @@ pub fn explain_proof<R: Files + AllocGlobal + Eprint>(
     fault: ProofFault,
 ) {
     let name = match about {
-        ProofOf::Runs => files.run,
+        ProofOf::Runs | ProofOf::Certificate => files.run,
         ProofOf::Step => files.step,
     };
     match fault {
@@ -181,6 +183,8 @@ fn variables_of<R: Files + AllocGlobal>(
     match about {
         ProofOf::Runs => variables_within(circuit.as_slice(), files.frames),
         ProofOf::Step => variables_of_step(circuit.as_slice(), files.frames),
+        // They are counted with the certificate's.
+        ProofOf::Certificate => None,
     }
 }
 
@@ -200,7 +204,15 @@ fn note_cause(rt: &impl Eprint, about: ProofOf, fault: ProofFault, known: Option
             note(rt, remedy);
         }
         (None, ProofFault::Text { .. }) => note(rt, "have the solver write DRAT, to its end"),
-        (None, _) => note(rt, formula_of(about)),
+        (None, _) => {
+            note(rt, formula_of(about));
+            if let ProofOf::Certificate = about {
+                note(
+                    rt,
+                    "or the certificate is wrong: give a solver's model to aig witness --certificate --model to see which claim fails",
+                );
+            }
+        }
     }
 }
 
@@ -209,5 +221,7 @@ fn formula_of(about: ProofOf) -> &'static str {
         ProofOf::Runs => "it has to be about the formula of aig cnf for the same K, P and CIRCUIT",
         ProofOf::Step =>
             "it has to be about the formula of aig cnf --step for the same K, P and CIRCUIT",
+        ProofOf::Certificate =>
+            "it has to be about the formula of aig cnf --certificate for the same P, CERTIFICATE and CIRCUIT",
     }
 }
