@@ -16,6 +16,11 @@ edits LOAD COPIES HALF ROUNDS FRAMES COUNT     a script for these copies; LOAD: 
 ascon SHAPE ROUNDS                             rounds of the cipher Ascon; SHAPE: side_by_side or in_a_row
 rewires LOAD SHAPE ROUNDS COUNT                a script for these rounds; LOAD: same_level, below or anywhere
 
+ring SIZE INPUTS LATCHES GATES                 a ring of latches of which one is 1, beside a random circuit; the bad state
+                                               is that the first two are 1
+claims KIND SIZE INPUTS LATCHES GATES          a certificate for it: no two latches of the ring are 1; KIND: small, or
+                                               copy, with all of the circuit
+
 Shapes of random circuits: in `random` a right side is mostly among the 4,096 variables before the gate, every eighth
 anywhere; in `chain` each gate reads the one before it; in `comb` every second gate reads the gate before it and the one
 before that; in `wide` gates read inputs and latches alone; `reversed` and `shuffled` are `random` with lines and
@@ -136,6 +141,60 @@ def values(below, frames, variables, lines):
 
 def zeros(_, inputs, frames):
     yield from ("0" * inputs + "\n" for _ in range(frames))
+
+
+# ---- certificates
+
+class Ring:
+    """A ring of latches beside a random circuit. The ring's latches come first; names are those of two vectors."""
+
+    def __init__(self, below, size, inputs, latches, count):
+        self.size, self.inputs, self.latches = size, inputs, size + latches
+        self.sources = inputs + self.latches
+        self.sides = list(sides_of("random", below, self.sources, count))
+        self.greatest = self.sources + count
+        self.others = [near_side(below, self.greatest) for _ in range(latches)]
+        self.names = [f"i{at} data[{at}]\n" for at in range(inputs)]
+        self.names += [f"l{at} state[{at}]\n" for at in range(self.latches)]
+
+    def latch(self, at):
+        """The literal of a latch."""
+        return 2 * (self.inputs + at + 1)
+
+    def sections(self, claims):
+        """The circuit with gates for each two latches of the ring in these pairs, as its bad states."""
+        gates = len(self.sides) + len(claims)
+        yield f"aag {self.sources + gates} {self.inputs} {self.latches} 0 {gates} {len(claims)}\n"
+        yield from (f"{2 * at}\n" for at in range(1, self.inputs + 1))
+        yield from (f"{self.latch(at)} {self.latch((at - 1) % self.size)} {int(at == 0)}\n" for at in range(self.size))
+        yield from (f"{self.latch(self.size + at)} {literal}\n" for at, literal in enumerate(self.others))
+        yield from (f"{2 * (self.greatest + at)}\n" for at in range(1, len(claims) + 1))
+        yield from (f"{2 * (self.sources + at)} {first} {second}\n" for at, (first, second) in enumerate(self.sides, 1))
+        yield from (f"{2 * (self.greatest + at)} {self.latch(second)} {self.latch(first)}\n"
+                    for at, (first, second) in enumerate(claims, 1))
+        yield from self.names
+
+    def pairs(self):
+        return [(first, second) for second in range(self.size) for first in range(second)]
+
+    def small(self):
+        """Claims alone: its inputs are the ring's latches, by name."""
+        pairs = self.pairs()
+        yield f"aag {self.size + len(pairs)} {self.size} 0 0 {len(pairs)} {len(pairs)}\n"
+        yield from (f"{2 * at}\n" for at in range(1, self.size + 1))
+        yield from (f"{2 * (self.size + at)}\n" for at in range(1, len(pairs) + 1))
+        yield from (f"{2 * (self.size + at)} {2 * second + 2} {2 * first + 2}\n"
+                    for at, (first, second) in enumerate(pairs, 1))
+        yield from (f"i{at} = {self.latch(at)}\n" for at in range(self.size))
+
+
+def ring(below, size, inputs, latches, count):
+    yield from Ring(below, size, inputs, latches, count).sections([(0, 1)])
+
+
+def claims(below, kind, size, inputs, latches, count):
+    made = Ring(below, size, inputs, latches, count)
+    yield from made.small() if kind == "small" else made.sections(made.pairs())
 
 
 # ---- ciphers
@@ -302,7 +361,7 @@ def rewires(below, load, shape, rounds, count):
 
 
 KINDS = {kind.__name__: kind for kind in (circuit, names, comment, stimulus, changing, values, cipher, zeros, edits,
-                                          ascon, rewires)}
+                                          ascon, rewires, ring, claims)}
 
 
 def made(kind, *words, seed=SEED):

@@ -7,6 +7,7 @@ Tables:
   edits      aig / C++, of edits of every kind on copies of a cipher
   benches    aig / C++, making a bench of a million gates
   refute     aig / C++, checking proofs that cadical wrote, beside cadical's own time
+  certified  aig / C++, formulas of certificates, beside `info` of the circuit, and memory beside `cnf --step`
   sizes      aig / C++, how conversions, frames and benches grow from 100,000 to 4,000,000 gates
   memory     the greatest resident sizes of both
   growth     circuit check, levels and order by the number of gates
@@ -27,6 +28,7 @@ import argparse
 import filecmp
 import os
 import random
+import re
 import shutil
 import subprocess
 import sys
@@ -190,6 +192,8 @@ def tuned_words(words):
     """The arguments of the C++ program for what these ask of `aig`."""
     if words[0] == "toaig":
         return ["to" + words[2], words[3]]
+    if words[:2] == ["cnf", "--certificate"]:
+        return ["induction", 0, *words[2:]]
     if words[0] == "cnf":
         return ["cnf", words[2], 0, words[3]]
     if words[0] == "refute":
@@ -601,6 +605,31 @@ def refute(programs, chosen):
                 milliseconds(tuned), milliseconds(ours), f"{ours / tuned:.2f}", f"{ours / solver:.2f}", *shown)
 
 
+# ---- certificates
+
+# A ring of latches, and a random circuit beside it: inputs, latches and gates.
+RING = (12, 1000, 7000)
+
+
+def certified(programs, chosen):
+    """Formulas of a certificate that is small, and of one that is a copy of the circuit."""
+    head("Formulas of certificates (processor time; greatest resident size).", "circuit", "certificate", "clauses", "C++",
+         "aig", "aig / C++", "aig info", "aig - info", "memory: C++", "memory: aig", "cnf --step")
+    for gates in (100_000, MILLION):
+        circuit = binary(programs, load("ring", *RING, gates))
+        for kind in ("small", "copy"):
+            words = ["cnf", "--certificate", load("claims", kind, *RING, gates), circuit]
+            both = [[programs.get("tuned"), *tuned_words(words)], [programs.get("aig"), *words]]
+            same(*both)
+            with open("one", "rb") as file:
+                clauses = next(int(line.split()[3]) for line in file if line.startswith(b"p cnf"))
+            tuned, ours, info = least(chosen.times, *both, [programs.get("aig"), "info", circuit])
+            step = [programs.get("aig"), "cnf", "--step", "--frames", "1", circuit]
+            sizes = [f"{resident(list(map(str, each))) / 1e6:.0f} MB" for each in (*both, step)]
+            row(f"{gates:,} gates", kind, f"{clauses:,}", milliseconds(tuned), milliseconds(ours), f"{ours / tuned:.2f}",
+                milliseconds(info), milliseconds(ours - info), *sizes)
+
+
 # ---- the toolkit alone
 
 def growth(programs, chosen):
@@ -709,6 +738,15 @@ class Pair:
             words = ["refute", "--frames", "3", "--property", "0", circuit, "proof"]
             self.compare(note, words, tuned_words(words))
 
+    def certificates(self, rng, note):
+        """Circuits and certificates, most of them broken."""
+        whole, other = broken.circuit(rng), broken.circuit(rng)
+        marked = re.sub(rb"(?m)^([il]\d+) .*", lambda at: at[1] + b" = %d" % rng.randrange(40), other)
+        write("model", broken.changed(rng, whole, other) if rng.randrange(3) == 0 else whole)
+        write("certificate", broken.changed(rng, rng.choice((whole, other, marked)), whole))
+        words = ["cnf", "--certificate", "certificate", "model"]
+        self.compare(note, words, ["induction", "0", "certificate", "model"])
+
     def case(self, sources, designs, rng, note):
         """A circuit, a stimulus and a script, most of them broken. The C++ program unrolls nothing."""
         whole = rng.choice((rng.choice(sources), broken.circuit(rng), broken.circuit(rng)))
@@ -741,6 +779,7 @@ def compare(programs, chosen):
         rng, note = random.Random(f"{chosen.seed} {number}"), f"seed {chosen.seed}, case {number}"
         pair.case(sources, designs, rng, note)
         pair.proofs(rng, note)
+        pair.certificates(rng, note)
     print(f"{pair.compared} runs compared, {pair.accepted} accepted, {pair.different} different")
     if pair.different:
         sys.exit(1)
@@ -748,8 +787,8 @@ def compare(programs, chosen):
 
 # ---- command line
 
-TABLES = {made.__name__: made for made in (goals, ratios, edits, benches, refute, sizes, memory, growth, rewires, grids,
-                                           compare)}
+TABLES = {made.__name__: made for made in (goals, ratios, edits, benches, refute, certified, sizes, memory, growth,
+                                           rewires, grids, compare)}
 
 
 def machine(programs, chosen):

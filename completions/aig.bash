@@ -2,7 +2,7 @@
 # completions/make.py writes aig.bash: its tables from the program's help, all else from aig.bash.in.
 
 _aig() {
-    local commands="toaig sim wave bench unroll check cnf info select witness refute reduce help"
+    local commands="toaig sim wave bench unroll check cnf info select witness refute reduce strengthen help"
     local -A options=(
         [toaig]="--to --explain --progress --help"
         [sim]="--explain --progress --help"
@@ -10,12 +10,13 @@ _aig() {
         [bench]="--circuit-out --stimulus-out --explain --progress --help"
         [unroll]="--frames --to --map --explain --progress --help"
         [check]="--trace --explain --progress --help"
-        [cnf]="--frames --property --step --explain --progress --help"
+        [cnf]="--frames --property --step --certificate --explain --progress --help"
         [info]="--names --explain --progress --help"
         [select]="--to --from --as --property --explain --progress --help"
-        [witness]="--model --frames --step --property --explain --progress --help"
-        [refute]="--frames --property --step --explain --progress --help"
+        [witness]="--model --frames --step --certificate --property --explain --progress --help"
+        [refute]="--frames --property --step --certificate --explain --progress --help"
         [reduce]="--explain --progress --help"
+        [strengthen]="--to --certificate --property --explain --progress --help"
     )
     # What the value of an option is: one of these words, a file, or a number.
     local -A values=(
@@ -27,16 +28,22 @@ _aig() {
         ["unroll --map"]="file"
         ["cnf --frames"]="number"
         ["cnf --property"]="number"
+        ["cnf --certificate"]="a circuit in the format aag aig"
         ["select --to"]="aag aig"
         ["select --from"]="bad outputs"
         ["select --as"]="bad outputs"
         ["select --property"]="number"
         ["witness --model"]="file"
         ["witness --frames"]="number"
+        ["witness --certificate"]="file"
         ["witness --property"]="number"
         ["refute --frames"]="number"
         ["refute --property"]="number"
         ["refute --step"]="file"
+        ["refute --certificate"]="a circuit in the format aag aig"
+        ["strengthen --to"]="aag aig"
+        ["strengthen --certificate"]="a circuit in the format aag aig"
+        ["strengthen --property"]="number"
     )
     local first=1 words=("") joins="" i
     COMPREPLY=()

@@ -7,6 +7,7 @@ examples, and from library/reference.py, a plain simulator and workbench."""
 from library import runs
 from program.ample import ample
 from program.bench import bench
+from program.certificates import certificates
 from program.check import check
 from program.cnf import cnf
 from program.completions import completions
@@ -40,7 +41,7 @@ from program.words import words
 PARTS = {"bench": bench, "kept": kept, "owners": owners, "descriptors": descriptors, "words": words, "sim": sim,
          "wave": wave, "check": check, "replays": replays, "toaig": toaig, "unroll": unroll, "cnf": cnf,
          "info": info, "select": select, "witness": witness, "refute": refute, "proofs": proofs,
-         "large_proofs": large_proofs, "properties": properties, "ample": ample, "reduce": reduce, "help": helps,
+         "large_proofs": large_proofs, "certificates": certificates, "properties": properties, "ample": ample, "reduce": reduce, "help": helps,
          "pages": pages, "completions": completions, "diagnostics": diagnostics, "explain": explain,
          "explain_option": explain_option, "needs": needs, "talks": talks, "progress": progress, "terminals": terminals}
 

@@ -11,127 +11,50 @@
 #include <utility>
 #include <vector>
 
-class Formula {
-public:
-    Formula(const Circuit& circuit, uint32_t frames, uint32_t property, Output& out)
-        : circuit(circuit), frames(frames), property(property), out(out) {
-        if (frames == 0) throw Refusal{"cnf: no frames"};
-        if (property >= circuit.bad.size()) throw Refusal{"cnf: property"};
-        guarded = circuit.constraints.size() > 0;
-        for (const Latch& latch : circuit.latches) starts += latch.reset == latch.lit;
-        size = circuit.gates.size() + (guarded ? circuit.constraints.size() + circuit.bad.size() : 0);
-        uint64_t sections[] = {inputs() + frames * size, frames * uint64_t(circuit.outputs.size()),
-                               frames * uint64_t(circuit.bad.size())};
-        for (uint64_t section : sections)
-            if (frames > 65536 || section > 4194303) throw Refusal{"cnf: limit"};
-    }
+// The names of a circuit's inputs and latches.
+struct Names {
+    std::vector<std::string_view> of_inputs, of_latches;
 
-    void write() {
-        Array<Gate> gates = Levels(circuit).ordered_gates();
-        origins();
-        std::vector<uint32_t> goals = goals_of(gates);
-        for (uint32_t frame = 0; frame < frames; ++frame) {
-            out.put("c b ", 4);
-            put_literal(goals[frame]);
-            put_number_line(frame);
-        }
-        out.put("p cnf ", 6);
-        put_number_field(variables());
-        put_number_line(uint32_t(3 * frames * size + 2));
-        clause({1});
-        for (uint32_t goal : goals) put_literal(goal);
-        out.put("0\n", 2);
-        each_frame(gates, [&](uint32_t lhs, uint32_t a, uint32_t b) { put_gate(lhs, a, b); }, [](uint32_t) {});
-    }
-
-    uint32_t variables() const { return uint32_t(inputs() + frames * size + 1); }
-
-    // Calls with each clause. Variable 0 is false.
-    template <class EachClause>
-    void each_clause(EachClause each) const {
-        Array<Gate> gates = Levels(circuit).ordered_gates();
-        std::vector<uint32_t> literals;
-        auto call = [&](std::initializer_list<uint32_t> clause) {
-            literals.assign(clause);
-            each(literals);
-        };
-        call({1});
-        each(goals_of(gates));
-        auto each_gate = [&](uint32_t lhs, uint32_t a, uint32_t b) {
-            call({lhs ^ 1, a});
-            call({lhs ^ 1, b});
-            call({lhs, a ^ 1, b ^ 1});
-        };
-        each_frame(gates, each_gate, [](uint32_t) {});
-    }
-
-private:
-    const Circuit& circuit;
-    uint32_t frames, property;
-    Output& out;
-    bool guarded;
-    uint64_t starts = 0, size;
-
-    uint64_t inputs() const { return uint64_t(frames) * circuit.inputs.size() + starts; }
-
-    // Calls with each gate of each frame, and with the goal of each frame.
-    template <class EachGate, class EachGoal>
-    void each_frame(const Array<Gate>& gates, EachGate each_gate, EachGoal each_goal) const {
-        std::vector<uint32_t> now(circuit.max_var + 1, 0), states;
-        uint32_t start = uint32_t(frames * circuit.inputs.size()), next = uint32_t(inputs()), chain = 1;
-        for (const Latch& latch : circuit.latches) states.push_back(latch.reset == latch.lit ? 2 * ++start : latch.reset);
-        auto at = [&](uint32_t literal) { return now[literal >> 1] ^ (literal & 1); };
-        auto add = [&](uint32_t a, uint32_t b) {
-            each_gate(2 * ++next, std::max(a, b), std::min(a, b));
-            return 2 * next;
-        };
-        for (uint32_t frame = 0; frame < frames; ++frame) {
-            for (uint32_t place = 0; place < circuit.inputs.size(); ++place)
-                now[circuit.inputs[place] >> 1] = 2 * uint32_t(frame * circuit.inputs.size() + place + 1);
-            for (uint32_t place = 0; place < states.size(); ++place) now[circuit.latches[place].lit >> 1] = states[place];
-            for (const Gate& gate : gates) now[gate.lhs >> 1] = add(at(gate.rhs0), at(gate.rhs1));
-            if (guarded) {
-                for (uint32_t constraint : circuit.constraints) chain = add(at(constraint), chain);
-                for (uint32_t place = 0; place < circuit.bad.size(); ++place) {
-                    uint32_t guard = add(at(circuit.bad[place]), chain);
-                    if (place == property) each_goal(guard);
-                }
-            } else {
-                each_goal(at(circuit.bad[property]));
-            }
-            for (uint32_t place = 0; place < states.size(); ++place) states[place] = at(circuit.latches[place].next);
-        }
-    }
-
-    std::vector<uint32_t> goals_of(const Array<Gate>& gates) const {
-        std::vector<uint32_t> goals;
-        each_frame(gates, [](uint32_t, uint32_t, uint32_t) {}, [&](uint32_t goal) { goals.push_back(goal); });
-        return goals;
-    }
-
-    // The lines that say what the inputs of the unrolled circuit are.
-    void origins() {
-        std::vector<std::string_view> of_inputs(circuit.inputs.size()), of_latches(circuit.latches.size());
+    explicit Names(const Circuit& circuit) : of_inputs(circuit.inputs.size()), of_latches(circuit.latches.size()) {
         const char* name = circuit.names.begin();
         for (const Symbol& symbol : circuit.symbols) {
             if (symbol.kind == 'i') of_inputs[symbol.position] = {name, symbol.length};
             if (symbol.kind == 'l') of_latches[symbol.position] = {name, symbol.length};
             name += symbol.length;
         }
-        uint32_t variable = 2;
-        for (uint32_t frame = 0; frame < frames; ++frame)
-            for (uint32_t place = 0; place < of_inputs.size(); ++place) {
-                out.put("c i ", 4);
-                put_number_field(variable++);
-                put_number_field(frame);
-                put_named(place, of_inputs[place]);
-            }
-        for (uint32_t place = 0; place < of_latches.size(); ++place)
-            if (circuit.latches[place].reset == circuit.latches[place].lit) {
-                out.put("c l ", 4);
-                put_number_field(variable++);
-                put_named(place, of_latches[place]);
-            }
+    }
+};
+
+// Writes the lines of a formula.
+class Dimacs {
+protected:
+    explicit Dimacs(Output& out) : out(out) {}
+
+    Output& out;
+
+    void put_input(uint32_t variable, uint32_t frame, uint32_t place, std::string_view name) {
+        out.put("c i ", 4);
+        put_number_field(variable);
+        put_number_field(frame);
+        put_named(place, name);
+    }
+
+    void put_latch(uint32_t variable, uint32_t place, std::string_view name) {
+        out.put("c l ", 4);
+        put_number_field(variable);
+        put_named(place, name);
+    }
+
+    void put_goal(uint32_t literal, uint32_t frame) {
+        out.put("c b ", 4);
+        put_literal(literal);
+        put_number_line(frame);
+    }
+
+    void put_head(uint32_t variables, uint32_t clauses) {
+        out.put("p cnf ", 6);
+        put_number_field(variables);
+        put_number_line(clauses);
     }
 
     void put_named(uint32_t place, std::string_view name) {
@@ -180,5 +103,109 @@ private:
         to = put_clause(to, {lhs ^ 1, a});
         to = put_clause(to, {lhs ^ 1, b});
         out.advance(put_clause(to, {lhs, a ^ 1, b ^ 1}));
+    }
+};
+
+class Formula : Dimacs {
+public:
+    Formula(const Circuit& circuit, uint32_t frames, uint32_t property, Output& out)
+        : Dimacs(out), circuit(circuit), frames(frames), property(property) {
+        if (frames == 0) throw Refusal{"cnf: no frames"};
+        if (property >= circuit.bad.size()) throw Refusal{"cnf: property"};
+        guarded = circuit.constraints.size() > 0;
+        for (const Latch& latch : circuit.latches) starts += latch.reset == latch.lit;
+        size = circuit.gates.size() + (guarded ? circuit.constraints.size() + circuit.bad.size() : 0);
+        uint64_t sections[] = {inputs() + frames * size, frames * uint64_t(circuit.outputs.size()),
+                               frames * uint64_t(circuit.bad.size())};
+        for (uint64_t section : sections)
+            if (frames > 65536 || section > 4194303) throw Refusal{"cnf: limit"};
+    }
+
+    void write() {
+        Array<Gate> gates = Levels(circuit).ordered_gates();
+        origins();
+        std::vector<uint32_t> goals = goals_of(gates);
+        for (uint32_t frame = 0; frame < frames; ++frame) put_goal(goals[frame], frame);
+        put_head(variables(), uint32_t(3 * frames * size + 2));
+        clause({1});
+        for (uint32_t goal : goals) put_literal(goal);
+        out.put("0\n", 2);
+        each_frame(gates, [&](uint32_t lhs, uint32_t a, uint32_t b) { put_gate(lhs, a, b); }, [](uint32_t) {});
+    }
+
+    uint32_t variables() const { return uint32_t(inputs() + frames * size + 1); }
+
+    // Calls with each clause. Variable 0 is false.
+    template <class EachClause>
+    void each_clause(EachClause each) const {
+        Array<Gate> gates = Levels(circuit).ordered_gates();
+        std::vector<uint32_t> literals;
+        auto call = [&](std::initializer_list<uint32_t> clause) {
+            literals.assign(clause);
+            each(literals);
+        };
+        call({1});
+        each(goals_of(gates));
+        auto each_gate = [&](uint32_t lhs, uint32_t a, uint32_t b) {
+            call({lhs ^ 1, a});
+            call({lhs ^ 1, b});
+            call({lhs, a ^ 1, b ^ 1});
+        };
+        each_frame(gates, each_gate, [](uint32_t) {});
+    }
+
+private:
+    const Circuit& circuit;
+    uint32_t frames, property;
+    bool guarded;
+    uint64_t starts = 0, size;
+
+    uint64_t inputs() const { return uint64_t(frames) * circuit.inputs.size() + starts; }
+
+    // Calls with each gate of each frame, and with the goal of each frame.
+    template <class EachGate, class EachGoal>
+    void each_frame(const Array<Gate>& gates, EachGate each_gate, EachGoal each_goal) const {
+        std::vector<uint32_t> now(circuit.max_var + 1, 0), states;
+        uint32_t start = uint32_t(frames * circuit.inputs.size()), next = uint32_t(inputs()), chain = 1;
+        for (const Latch& latch : circuit.latches) states.push_back(latch.reset == latch.lit ? 2 * ++start : latch.reset);
+        auto at = [&](uint32_t literal) { return now[literal >> 1] ^ (literal & 1); };
+        auto add = [&](uint32_t a, uint32_t b) {
+            each_gate(2 * ++next, std::max(a, b), std::min(a, b));
+            return 2 * next;
+        };
+        for (uint32_t frame = 0; frame < frames; ++frame) {
+            for (uint32_t place = 0; place < circuit.inputs.size(); ++place)
+                now[circuit.inputs[place] >> 1] = 2 * uint32_t(frame * circuit.inputs.size() + place + 1);
+            for (uint32_t place = 0; place < states.size(); ++place) now[circuit.latches[place].lit >> 1] = states[place];
+            for (const Gate& gate : gates) now[gate.lhs >> 1] = add(at(gate.rhs0), at(gate.rhs1));
+            if (guarded) {
+                for (uint32_t constraint : circuit.constraints) chain = add(at(constraint), chain);
+                for (uint32_t place = 0; place < circuit.bad.size(); ++place) {
+                    uint32_t guard = add(at(circuit.bad[place]), chain);
+                    if (place == property) each_goal(guard);
+                }
+            } else {
+                each_goal(at(circuit.bad[property]));
+            }
+            for (uint32_t place = 0; place < states.size(); ++place) states[place] = at(circuit.latches[place].next);
+        }
+    }
+
+    std::vector<uint32_t> goals_of(const Array<Gate>& gates) const {
+        std::vector<uint32_t> goals;
+        each_frame(gates, [](uint32_t, uint32_t, uint32_t) {}, [&](uint32_t goal) { goals.push_back(goal); });
+        return goals;
+    }
+
+    // The lines that say what the inputs of the unrolled circuit are.
+    void origins() {
+        Names names(circuit);
+        uint32_t variable = 2;
+        for (uint32_t frame = 0; frame < frames; ++frame)
+            for (uint32_t place = 0; place < names.of_inputs.size(); ++place)
+                put_input(variable++, frame, place, names.of_inputs[place]);
+        for (uint32_t place = 0; place < names.of_latches.size(); ++place)
+            if (circuit.latches[place].reset == circuit.latches[place].lit)
+                put_latch(variable++, place, names.of_latches[place]);
     }
 };

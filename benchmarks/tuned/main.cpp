@@ -1,6 +1,7 @@
 // A tuned AIGER converter, simulator, workbench and checker of proofs, which `aig` is measured against: the same checks, the
 // same bytes.
 
+#include "certificate.hpp"
 #include "checker.hpp"
 #include "formula.hpp"
 #include "proof.hpp"
@@ -13,10 +14,12 @@
 #include <cstdio>
 #include <cstdlib>
 #include <cstring>
+#include <string_view>
 
 static const char usage[] =
     "usage: tuned toaag CIRCUIT | toaig CIRCUIT | sim CIRCUIT STIM | bench CIRCUIT STIM SCRIPT\n"
     "       tuned cnf FRAMES PROPERTY CIRCUIT | refute FRAMES PROPERTY CIRCUIT PROOF\n"
+    "       tuned induction PROPERTY CERTIFICATE CIRCUIT\n"
     "       tuned touched CIRCUIT STIM SCRIPT       tells on standard error too how many gates the edits evaluate\n";
 
 static Circuit read_circuit(Source& source) {
@@ -40,6 +43,28 @@ static void formula(char** words, Output& out) {
     Circuit circuit = read_circuit(source);
     check_cycles(circuit);
     Formula(circuit, number_of(words[0]), number_of(words[1]), out).write();
+}
+
+// A fault of the certificate is told by its part.
+static Circuit read_certificate(Source& source) {
+    try {
+        Circuit certificate = read_circuit(source);
+        check_cycles(certificate);
+        return certificate;
+    } catch (Refusal& refusal) {
+        constexpr std::string_view part = "circuit";
+        if (refusal.text.compare(0, part.size(), part) == 0) refusal.text.replace(0, part.size(), "certificate");
+        throw;
+    }
+}
+
+static void induction(char** words, Output& out) {
+    Source model_source(words[2], "circuit"), source(words[1], "certificate");
+    Circuit model = read_circuit(model_source);
+    check_cycles(model);
+    Circuit certificate = read_certificate(source);
+    Strengthened made(std::move(model), number_of(words[0]), certificate);
+    Induction(made.circuit, out).write();
 }
 
 static void refute_by(Proof& proof, Refutation& refutation) {
@@ -88,6 +113,8 @@ static void run(int count, char** words, Output& out) {
         convert(word, words[2], out);
     else if (count == 5 && strcmp(word, "cnf") == 0)
         formula(words + 2, out);
+    else if (count == 5 && strcmp(word, "induction") == 0)
+        induction(words + 2, out);
     else if (count == 6 && strcmp(word, "refute") == 0)
         refute(words + 2, out);
     else if (count == 4 && strcmp(word, "sim") == 0)

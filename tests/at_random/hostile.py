@@ -18,7 +18,8 @@ from library import broken
 from library.runs import DESIGNS, EXAMPLES, contents, contents_of, write
 
 LINE = re.compile(
-    rb"aig: (circuit: (text at \d+|limit|counts|range|definition|(redefined|undefined|reset|cycle) \d+)"
+    rb"aig: ((circuit|certificate): (text at \d+|limit|counts|range|definition|(redefined|undefined|reset|cycle) \d+)"
+    rb"|certificate: (comment|symbol [il]\d+)|strengthen: (property|limit)"
     rb"|stimulus: ((character in|length of) line \d+|unfinished|limit)"
     rb"|bench: limit|unroll: (no frames|liveness|limit)|cnf: (no frames|property|limit)|select: property"
     rb"|proof: (text at \d+|step \d+|no refutation)"
@@ -127,6 +128,26 @@ class Runs:
         if (reduced, contents("err")) != (status, told) or (status == 1 and got != verdict):
             raise Wrong("a witness is judged otherwise where it is reduced")
 
+    def strengthens(self, work):
+        """A circuit that is strengthened is written in both formats. With no certificate it has the formula that the circuit
+        has with the certificate."""
+        status, text = self.run(work, "strengthen", "--to", "aag", "--certificate", "certificate", "circuit")
+        told = contents("err")
+        other, _ = self.run(work, "strengthen", "--to", "aig", "--certificate", "certificate", "circuit")
+        if (other, contents("err")) != (status, told):
+            raise Wrong("one format is strengthened and the other is not")
+        formula = self.run(work, "cnf", "--certificate", "certificate", "circuit")
+        if status:
+            if (formula[0], contents("err")) != (1, told.replace(b"strengthen: ", b"cnf: ")):
+                raise Wrong("a formula of what is not strengthened")
+            return
+        write("strengthened", text)
+        if self.run(work, "toaig", "--to", "aag", "strengthened") != (0, text):
+            raise Wrong("a strengthened circuit is not written back as it stands")
+        write("no_claim", "aag 0 0 0 0 0\n")
+        if self.run(work, "cnf", "--certificate", "no_claim", "strengthened") != formula:
+            raise Wrong("a strengthened circuit has another formula")
+
     def asks(self, work, name, rows):
         """The workbench prints the trace that the simulator writes."""
         write("script", "t\n")
@@ -172,6 +193,10 @@ def case(runs, sources, designs, rng):
     runs.run(work, "witness", "circuit", "rows")
     write("witness", broken.changed(rng, broken.witness(rng, width, states), rows))
     runs.replays(work)
+    claims = re.sub(rb"(?m)^([il]\d+) .*", lambda at: at[1] + b" = %d" % rng.randrange(2 * inputs + 4), broken.circuit(rng))
+    certificate = broken.changed(rng, rng.choice((whole, claims, broken.circuit(rng))), other)
+    write("certificate", certificate)
+    runs.strengthens(work + len(certificate) + 5 * (most + broken.counts_of(certificate)[0]))
 
 
 def late(*_):

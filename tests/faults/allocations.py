@@ -9,7 +9,7 @@ from faults.refusing import Refusing
 from library.circuits import TEXTS, write_all
 from library.runs import EXAMPLES, Ended, write
 
-MEMORY = re.compile(rb"aig: ((circuit|stimulus|witness|unroll|cnf|bench|script|select|proof|step proof|model): )?memory\n")
+MEMORY = re.compile(rb"aig: ((circuit|stimulus|witness|unroll|cnf|bench|script|select|proof|step proof|model|certificate|strengthen): )?memory\n")
 TWO_GATES = [f"{EXAMPLES}/two_gates.{ending}" for ending in ("aag", "stim", "script")]
 
 # Runs of which each allocation is refused in turn.
@@ -39,11 +39,23 @@ RUNS = (
     ("reduce", ["reduce", f"{EXAMPLES}/wraps.aag", f"{EXAMPLES}/wraps.wit"]),
     ("cnf of a step", ["cnf", "--step", "--frames", "3", "guarded_latch"]),
     ("select", ["select", "--to", "aag", "--property", "0", "--property", "0", "sections"]),
+    ("strengthen", ["strengthen", "--to", "aag", "--certificate", "claims", "--property", "1", "named"]),
+    ("strengthen that renumbers", ["strengthen", "--to", "aig", "--certificate", "claims", "named"]),
+    ("strengthen by position", ["strengthen", "--to", "aag", "--certificate", "sections", "sections"]),
+    ("cnf with a certificate", ["cnf", "--certificate", "claims", "named"]),
+    ("refute with a certificate", ["refute", "--certificate", "no_claim", "never", "never_proof"]),
+    ("witness of a model with a certificate", ["witness", "--certificate", "claims", "--model", "start", "named"]),
     ("select that renumbers", ["select", "--to", "aig", "--from", "outputs", f"{EXAMPLES}/two_gates.aag"]),
 )
 
 # No run reaches the bad state; propagation alone shows it of no frame.
 NEVER = "aag 9 2 0 0 7 1\n2\n4\n18\n6 5 3\n8 4 3\n10 5 2\n12 4 2\n14 9 7\n16 13 11\n18 16 14\n"
+
+# A circuit with names, two properties and gates out of order, and a certificate with an input and a latch of its own, a
+# name for each kind of entry, and a constraint that is broken at each start.
+NAMED = ("aag 7 2 2 1 2 2 1\n2\n4\n6 10 1\n8 4 8\n9\n10\n9\n3\n10 12 6\n12 4 2\n"
+         "i0 req\nl1 state\nb1 oops\no0 seen\nc0 quiet\nc\nby hand\n")
+CLAIMS = "aag 5 2 2 1 1 0 1\n2\n4\n6 10 1\n8 3 0\n5\n7\n10 4 2\ni0 = 13\ni1 free\nl0 started\nl1 = 8\no0 claim\nc0 held\n"
 
 # Four gates read an input without memory, so that the fifth takes some: where that is refused, the edits after it see
 # the gate as it was, with the levels and the fan-outs of the circuit as it was.
@@ -89,7 +101,9 @@ WITHOUT_MEMORY = (
 def allocations(program, tally, _):
     beneath = Refusing(program, "refuse_allocation")
     write_all()
-    for name, text in (("never", NEVER), ("proof", "2 3 0\n2 0\n"), ("step", "4 0\n"), ("model", "-2 3 4 5 0\n")):
+    for name, text in (("never", NEVER), ("proof", "2 3 0\n2 0\n"), ("step", "4 0\n"), ("model", "-2 3 4 5 0\n"),
+                       ("named", NAMED), ("claims", CLAIMS), ("start", "-2 8 -9 10 0\n"), ("no_claim", "aag 0 0 0 0 0\n"),
+                       ("never_proof", "-12 2 0\n-12 0\n4 0\n")):
         write(name, text)
     for name, words in RUNS:
         each(beneath, tally, name, words)

@@ -16,6 +16,14 @@ FACTS = (b"format aag\nvariables 3\ninputs 2\nlatches 0\noutputs 1\ngates 1\nbad
          b"justice 0\nfairness 0\nuninitialised 0\nresets 0\nlevels 1\nfanout 1\nsymbols 0\ncomment 0\nready no\n")
 UNROLLED = b"aag 8 4 0 2 4\n2\n4\n6\n8\n12\n16\n10 4 2\n12 10 2\n14 8 6\n16 14 6\n"
 
+# A latch that keeps 0, as the property; a certificate that claims it, and one that claims the contrary.
+KEPT = b"aag 1 0 1 0 0 1\n2 2\n2\n"
+CLAIM, WRONG_CLAIM = b"aag 1 1 0 0 0 1\n2\n2\ni0 = 2\n", b"aag 1 1 0 0 0 1\n2\n2\ni0 = 3\n"
+NO_SUCH = b"aag 1 1 0 0 0\n2\ni0 = 4\n"
+STRENGTHENED = b"aag 2 0 1 2 1 1\n2 2\n2\n2\n5\n4 3 3\n"
+INDUCTION = (b"c l 2 0 \nc b -3 0\nc b -4 1\np cnf 4 9\n-1 0\n-3 -4 0\n3 -2 0\n"
+             b"-3 -2 0\n-3 -2 0\n3 2 2 0\n-4 -2 0\n-4 -2 0\n4 2 2 0\n")
+
 HEADER = b"""$version aig $end
 $timescale 1 ns $end
 $scope module inputs $end
@@ -40,7 +48,7 @@ $enddefinitions $end
 """
 
 # A run: its arguments, and its files in the order in which they are read, each with the part that the message names if
-# a read of it fails. Then come the part of a failed write, the status and the fault of the run where no call fails, and
+# a read of it fails; those that no argument names come after them. Then come the part of a failed write, the status and the fault of the run where no call fails, and
 # its results in pieces. There is one for each line of the last file where that is streamed, and one for its end, else
 # one. Last comes what is written before a line is read.
 RUNS = (
@@ -89,6 +97,23 @@ RUNS = (
      [WITNESS_HEADER + b'#0\n$dumpvars\nx!\nx"\n$end\n#1\n1!\n1"\n#2\n']),
     ("wave --witness", [("circuit", BAD_INPUT), ("witness", b"1\nb1\n\nx\n.\n")], "output",
      1, b"aig: witness: property\n", [b""]),
+    ("strengthen --to aag --certificate certificate", [("circuit", KEPT), ("certificate", CLAIM)], "output", 0, b"",
+     [STRENGTHENED]),
+    ("strengthen --to aig --certificate certificate", [("circuit", KEPT), ("certificate", NO_SUCH)], "output",
+     1, b"aig: certificate: symbol i0\n", [b""]),
+    ("strengthen --to aag --property 1 --certificate certificate", [("circuit", KEPT), ("certificate", CLAIM)], "output",
+     1, b"aig: strengthen: property\n", [b""]),
+    ("cnf --certificate certificate", [("circuit", KEPT), ("certificate", CLAIM)], "output", 0, b"", [INDUCTION]),
+    ("cnf --certificate certificate", [("circuit", KEPT), ("certificate", CYCLE)], "output",
+     1, b"aig: certificate: cycle 2\n", [b""]),
+    ("refute --certificate certificate", [("circuit", KEPT), ("certificate", CLAIM), ("proof", b"2 0")], "output",
+     0, b"", [b"unreachable\n"]),
+    ("refute --certificate certificate", [("circuit", KEPT), ("certificate", WRONG_CLAIM), ("proof", b"2 0\n")], "output",
+     1, b"aig: proof: step 1\n", [b""]),
+    ("witness --certificate certificate --model model",
+     [("circuit", KEPT), ("certificate", WRONG_CLAIM), ("model", b"-2 0\n")], "output", 0, b"", [b"1\nb0\n0\n\n.\n"]),
+    ("witness --certificate certificate --model model",
+     [("circuit", KEPT), ("certificate", CLAIM), ("model", b"-2 0\n")], "output", 1, b"aig: witness: no run\n", [b""]),
 )
 
 
@@ -113,7 +138,8 @@ def answered(files, pieces, header, number):
 
 def each(beneath, tally, command, files, write_part, status, fault, pieces, header=b""):
     """The run with short reads and writes; then with each of its reads failing, and with each of its writes."""
-    words = command.split(" ") + [part for part, _ in files]
+    words = command.split(" ")
+    words += [part for part, _ in files if part not in words]
     for part, content in files:
         write(part, content)
     results = header + b"".join(pieces)

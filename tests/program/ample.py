@@ -22,23 +22,27 @@ RUNS = {
     "witness": ("CIRCUIT ROWS", b"1\nb0\n"),
     "refute": ("--frames 3 CIRCUIT PROOF", b"unreachable within 3\n"),
     "reduce": ("CIRCUIT WITNESS", b"1\nb0\n"),
+    "strengthen": ("--to aag --certificate CERTIFICATE CIRCUIT", b"aag "),
 }
 # Further runs of these commands.
 MORE = (
     ("toaig", "--to aag CIRCUIT", b"aag "), ("wave", "--witness CIRCUIT WITNESS", b"$enddefinitions"),
     ("check", "--trace CIRCUIT WITNESS", b"confirmed\n"), ("cnf", "--step --frames 3 CIRCUIT", b"p cnf "),
-    ("info", "--names CIRCUIT", b"b 0 "),
+    ("info", "--names CIRCUIT", b"b 0 "), ("strengthen", "--to aig --certificate CERTIFICATE CIRCUIT", b"aig "),
+    ("cnf", "--certificate CERTIFICATE CIRCUIT", b"p cnf "),
+    ("refute", "--certificate NEVER NEVER PROOF", b"unreachable\n"),
+    ("witness", "--certificate CERTIFICATE --model MODEL CIRCUIT", b"1\nb0\n"),
 )
 
 
-def large():
-    """A circuit that is bad from frame 3 on, as its last latch is 1 there. A chain of gates makes it large, which nothing
-    reads but an output."""
+def large(bad=None):
+    """A circuit that is bad from frame 3 on, as its last latch is 1 there, or where this literal is 1. A chain of gates makes
+    it large, which nothing reads but an output."""
     inputs, latches = ([2 * at for at in range(first, end)] for first, end in ((1, WIDTH + 1), (WIDTH + 1, WIDTH + 4)))
     first = WIDTH + 4
     gates = [f"{2 * (first + at)} {2 * (first + at - 1)} {inputs[at % WIDTH] ^ (at & 1)}" for at in range(1, GATES)]
     lines = [f"aag {first + GATES - 1} {WIDTH} 3 1 {GATES} 1", *map(str, inputs), f"{latches[0]} 1",
-             f"{latches[1]} {latches[0]}", f"{latches[2]} {latches[1]}", str(2 * (first + GATES - 1)), str(latches[2]),
+             f"{latches[1]} {latches[0]}", f"{latches[2]} {latches[1]}", str(2 * (first + GATES - 1)), str(latches[2] if bad is None else bad),
              f"{2 * first} {latches[2]} {inputs[0]}", *gates]
     return "".join(f"{line}\n" for line in lines)
 
@@ -54,9 +58,16 @@ def ample(program, tally, _):
     write("witness", f"1\nb0\n000\n{row * 4}.\n")
     write("script", f"s 0 0 0\n+ {row}-\nt\ng 2 4\nu\n")
     write("proof", "")
-    files = {"CIRCUIT": "large", "ROWS": "rows", "WITNESS": "witness", "SCRIPT": "script", "PROOF": "proof"}
-    small = {"CIRCUIT": f"{EXAMPLES}/wraps.aag", "ROWS": f"{EXAMPLES}/wraps.stim", "WITNESS": f"{EXAMPLES}/wraps.wit",
-             "SCRIPT": write("edits", "t\nu\ng 2 4\ns 0 0 1\n"), "PROOF": f"{EXAMPLES}/wraps.drat"}
+    # A copy as the certificate, and a model in which the last latch is 1: all inputs of two frames come before the latches.
+    write("model", f"{2 * WIDTH + 4} 0\n")
+    write("never", large(bad=0))
+    files = {"CIRCUIT": "large", "ROWS": "rows", "WITNESS": "witness", "SCRIPT": "script", "PROOF": "proof",
+             "CERTIFICATE": "large", "MODEL": "model", "NEVER": "never"}
+    wraps = f"{EXAMPLES}/wraps"
+    small = {"CIRCUIT": f"{wraps}.aag", "ROWS": f"{wraps}.stim", "WITNESS": f"{wraps}.wit",
+             "SCRIPT": write("edits", "t\nu\ng 2 4\ns 0 0 1\n"), "PROOF": f"{wraps}.drat",
+             "CERTIFICATE": f"{wraps}.aag", "MODEL": write("values", "2 4 5 0\n"),
+             "NEVER": write("constant", "aag 0 0 0 0 0 1\n0\n")}
     for command, words, said in [*((name, *run) for name, run in RUNS.items()), *MORE]:
         for names in (small, files):
             asked = [command, *(names.get(word, word) for word in words.split(" "))]

@@ -13,6 +13,8 @@ from library.runs import EXAMPLES, REPOSITORY, contents, write
 HEAD = "| message | likely cause | what to do |\n"
 COUNTER = "examples/counter.aag"
 WRAPS = "examples/wraps.aag"
+RING = "examples/ring.aag"
+STRENGTHEN = ["strengthen", "--to", "aag", "--certificate"]
 BENCH = ["bench", "--circuit-out", "out", "two_gates", "rows", "script"]
 
 # A word of the cause in a row of the table, the words of a command that meets it, and what --explain says of it.
@@ -67,6 +69,11 @@ CASES = (
     ("is no proof in DRAT", ["refute", "--frames", "1", "bad_input", "rows"], "no step of a proof"),
     ("does not follow by unit propagation", ["refute", "--frames", "1", "bad_input", "zero.drat"], "does not follow"),
     ("ends before it refutes", ["refute", "--frames", "1", "bad_input", "nothing"], "the proof ends before it refutes"),
+    ("begins with `MAPPING`", [*STRENGTHEN, "mapping", RING], "a form that aig does not read"),
+    ("begins with `= `", [*STRENGTHEN, "unnamed", RING], "the symbol of i0 is `= 12`"),
+    ("has no bad state property P", [*STRENGTHEN, "examples/ring.cert.aag", "--property", "7", RING], "P is 7"),
+    ("circuit and the certificate together", [*STRENGTHEN, RING, "wide"], "at most 4,194,303"),
+    ("certificate is wrong", ["refute", "--certificate", "wrong", RING, "remark.drat"], "aig witness --certificate --model"),
     ("more than 65,536 rows", ["bench", "two_gates", "many.stim", "script"], "at most 65,536 rows"),
     ("too large for so many rows", ["bench", "many", "empty.stim", "script"], "at most 67,108,864"),
     ("too large for so many rows", ["reduce", "wide", "rows.wit"], "at most 67,108,864"),
@@ -107,11 +114,11 @@ def diagnostics(program, tally, _):
 
 
 def is_met(tally, rows, met, word, said):
-    """The row whose cause has this word says what the program said; A, N and V stand for numbers."""
+    """The row whose cause has this word says what the program said; A, N, P and V stand for numbers."""
     found = [row for row in rows if word in row[1]]
     tally.compare(f"diagnostics: rows on {word!r}", len(found), 1)
     for message, cause, _ in found:
-        form = re.sub(r"(?<= )[ANV]$", lambda _: "[0-9]+", message.strip("`"))
+        form = re.sub(r"(?<=[ i])[ANPV]$", lambda _: "[0-9]+", message.strip("`"))
         tally.check(f"diagnostics: {cause}", re.fullmatch(f"{form}\n".encode(), said), said)
         met.add(cause)
 
@@ -133,6 +140,8 @@ def write_files():
             "other.wit": witness.replace("b0", "b7"), "several.wit": witness * 2, "sat.wit": "sat\n" + witness,
             "unsat.wit": "0\nb0\n.\n", "row.wit": "0101\n", "values.wit": "i0=1 i1=0\n",
             "many.wit": "1\nb0\n\n" + "1\n" * 65537 + ".\n", "rows.wit": "1\nb0\n\n" + "1\n" * 17 + ".\n",
+            "mapping": "aag 0 0 0 0 0\nc\nMAPPING 0\n", "unnamed": "aag 1 1 0 0 0\n2\ni0 = 12\n",
+            "wrong": "aag 0 0 0 0 0 1\n1\n", "remark.drat": "c no step\n",
             "wide": "aag 4194303 1 0 0 0 1\n2\n2\n", "rows": "01\n", "script": "v 0 8\n", "out.new": "",
             "many.stim": "01\n" * 65537, "empty.stim": "\n" * 17, "crlf.script": "v 0 8\r\nt\r\n"}.items():
         write(name, data)

@@ -146,7 +146,14 @@ def reasons(program, tally):
                             (["reduce", "bad_input", name], "witness"), (["witness", "bad_input", name], "stimulus"),
                             (["witness", "--model", name, "--frames", "1", "bad_input"], "model"),
                             (["refute", "--frames", "1", "bad_input", name], "proof"),
-                            (["refute", "--frames", "1", "--step", name, "never", "right"], "step proof")):
+                            (["refute", "--frames", "1", "--step", name, "never", "right"], "step proof"),
+                            (["strengthen", "--to", "aag", "--certificate", name, "two_gates"], "certificate"),
+                            (["cnf", "--certificate", "two_gates", name], "circuit"),
+                            (["cnf", "--certificate", name, "bad_input"], "certificate"),
+                            (["refute", "--certificate", name, "never", "right"], "certificate"),
+                            (["refute", "--certificate", "bad_input", "bad_input", name], "proof"),
+                            (["witness", "--certificate", name, "--model", "right", "bad_input"], "certificate"),
+                            (["witness", "--certificate", "bad_input", "--model", name, "bad_input"], "model")):
             said = program.run("--explain", *words).err.decode().split("\n")
             is_right = said[:2] == [f"aig: {part}: input or output", f"  file: {name}"] and reason in said[2]
             tally.check(f"explain: {words}", is_right, said)
@@ -154,7 +161,8 @@ def reasons(program, tally):
 
 def which_file(program, tally):
     """The file whose text is refused, where a command has several."""
-    for name, text in (("wrong", "0\n"), ("row", "1\n"), ("none", "")):
+    for name, text in (("wrong", "0\n"), ("row", "1\n"), ("none", ""), ("zero", "-2 0\n"),
+                       ("unbound", "aag 1 1 0 0 0\n2\ni0 = 4\n")):
         write(name, text)
     for words, message, file in (
             (["sim", "two_gates", "row"], "stimulus: length of line 1", "row"),
@@ -171,7 +179,16 @@ def which_file(program, tally):
             (["refute", "--frames", "1", "never", "wrong"], "proof: step 1", "wrong"),
             (["refute", "--frames", "1", "--step", "right", "never", "wrong"], "proof: step 1", "wrong"),
             (["refute", "--frames", "1", "--step", "wrong", "never", "right"], "step proof: step 1", "wrong"),
-            (["refute", "--frames", "1", "--step", "none", "never", "right"], "step proof: no refutation", "none")):
+            (["refute", "--frames", "1", "--step", "none", "never", "right"], "step proof: no refutation", "none"),
+            (["strengthen", "--to", "aag", "--certificate", "cycle", "bad_input"], "certificate: cycle 2", "cycle"),
+            (["strengthen", "--to", "aag", "--certificate", "unbound", "bad_input"], "certificate: symbol i0", "unbound"),
+            (["strengthen", "--to", "aag", "--certificate", "one_gate", "two_gates"], "strengthen: property", "two_gates"),
+            (["cnf", "--certificate", "cycle", "bad_input"], "certificate: cycle 2", "cycle"),
+            (["cnf", "--certificate", "bad_input", "cycle"], "circuit: cycle 2", "cycle"),
+            (["refute", "--certificate", "bad_input", "bad_input", "wrong"], "proof: step 1", "wrong"),
+            (["refute", "--certificate", "row", "bad_input", "wrong"], "certificate: text at 0", "row"),
+            (["witness", "--certificate", "bad_input", "--model", "row", "bad_input"], "model: text at 2", "row"),
+            (["witness", "--certificate", "bad_input", "--model", "zero", "bad_input"], "witness: no run", "bad_input")):
         said = program.run("--explain", *words).err.decode().split("\n")
         tally.compare(f"explain: {words}: the file", said[:2], [f"aig: {message}", f"  file: {file}"])
 
@@ -243,6 +260,8 @@ def outputs(program, tally):
         ("output", ["unroll", "--frames", "1", "--to", "aag", "two_gates"], None),
         ("output", ["cnf", "--frames", "1", "bad_input"], None),
         ("output", ["select", "--to", "aag", "bad_input"], None),
+        ("output", ["strengthen", "--to", "aag", "--certificate", "two_gates", "bad_input"], None),
+        ("output", ["cnf", "--certificate", "two_gates", "bad_input"], None),
         ("stimulus", ["sim", "two_gates", "rows"], "rows"),
         ("stimulus", ["wave", "two_gates", "rows"], "rows"),
         ("script", ["bench", "two_gates", "rows", "script"], "script"),
@@ -322,6 +341,10 @@ def allocations(tally, refusing):
     for words in (["info", "cycle"], ["info", "missing"], ["info", "\x1bname"], ["sim", "two_gates", "two_gates"],
                   ["check", "bad_input", "witness"], ["unroll", "--frames", "1", "--to", "aag", "live"],
                   ["cnf", "--frames", "0", "bad_input"], ["select", "--to", "aag", "--property", "1", "bad_input"],
+                  ["strengthen", "--to", "aag", "--certificate", "cycle", "bad_input"],
+                  ["cnf", "--certificate", "unbound", "bad_input"],
+                  ["cnf", "--certificate", "bad_input", "--property", "1", "bad_input"],
+                  ["refute", "--certificate", "bad_input", "bad_input", "wrong"],
                   ["bench", "two_gates", "rows", "script", "--circuit-out", "out"]):
         ended, count = refusing.counted("--explain", *words)
         message = said.fullmatch(ended.err)[1]

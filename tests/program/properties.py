@@ -13,6 +13,9 @@ ASKED = ((2, 3), (12, 13))
 LATCHES = "2 2\n4 1\n6 4\n8 0 1\n"
 NEVER, LATER, FIRST, ALWAYS = 2, 6, 8, 1
 
+# A certificate that claims nothing: the property is to be inductive.
+NO_CLAIM = "aag 0 0 0 0 0\n"
+
 # What is asked for, the literal of the property, that of all others, and the answer. Propagation alone finds each
 # refutation, so empty proofs serve. Where a row is refused, a program that looks at another property, in one of the two
 # proofs or in both, prints `unreachable` of a state that a run reaches.
@@ -23,6 +26,10 @@ REFUTED = (
     ("--frames 2 --step step", NEVER, LATER, "unreachable"),
     ("--frames 2 --step step", FIRST, NEVER, "proof: no refutation"),
     ("--frames 2 --step step", LATER, NEVER, "step proof: no refutation"),
+    ("--certificate claims", NEVER, ALWAYS, "unreachable"),
+    ("--certificate claims", NEVER, LATER, "unreachable"),
+    ("--certificate claims", FIRST, NEVER, "proof: no refutation"),
+    ("--certificate claims", LATER, NEVER, "proof: no refutation"),
 )
 
 # Eleven of 13 properties, in an order of their own.
@@ -33,6 +40,7 @@ def refutations(rows, asked, count):
     """Circuits of latches whose proofs are empty, and one whose properties have each a proof of its own."""
     write("proof", "")
     write("step", "")
+    write("claims", NO_CLAIM)
     for words, literal, others, answer in REFUTED:
         bad = [others] * count
         bad[asked] = literal
@@ -92,6 +100,12 @@ def of_inputs(rows, asked, count):
         for frames in (1, 2):
             rows["cnf"].gives(f"{name}, {frames} frames {step}", f"cnf {step}--frames {frames} {option} circuit",
                               formula(asked, count, frames, step != ""))
+    write("claims", NO_CLAIM)
+    certified_formula = formula(asked, count, 2, False)
+    rows["cnf"].gives(f"{name}, with a certificate", f"cnf --certificate claims {option} circuit", certified_formula)
+    strengthened = f"{inputs}{2 * asked + 2}\n{2 * asked + 2}\n"
+    rows["strengthen"].gives(name, f"strengthen --to aag --certificate claims {option} circuit",
+                             f"aag {count} {count} 0 1 0 1\n{strengthened}")
     only, others = row_of(count, {asked}), row_of(count, set(range(count)) - {asked})
     each = [row_of(count, {at}) for at in range(count)]
     others_first = witness_of(asked, [others, only])
@@ -108,6 +122,12 @@ def of_inputs(rows, asked, count):
         for lines, wanted in (([others, only], others_first), ([others, others], None)):
             write("model", model_of(lines))
             written(rows, f"{name}, a model of {lines[-1]}", f"witness --model model {words} circuit", wanted)
+    # The run is one of the strengthened circuit, which has one property.
+    for lines, wanted in (([others, only], witness_of(0, [others, only])), ([others, others], None)):
+        words = f"witness --model model --certificate claims {option} circuit"
+        rows["witness"].ends(f"{name}, a model of {lines[-1]}, with a certificate", words,
+                             refused("witness: no run") if wanted is None else Ended(0, wanted.encode(), b""),
+                             model=model_of(lines))
     rows["check"].gives(f"{name}, which is not reached", "check circuit found", "not bad\n", 1,
                         found=witness_of(asked, [only, others]))
     needed = [row_of(count, (), "x"), row_of(count, {asked}, "x")]
@@ -143,7 +163,7 @@ def selections(rows, kept, count):
 
 def properties(program, tally, _):
     rows = {name: Rows(f"properties, {name}", program, tally)
-            for name in ("refute", "cnf", "witness", "check", "reduce", "select")}
+            for name in ("refute", "cnf", "strengthen", "witness", "check", "reduce", "select")}
     write_all()
     for asked, count in ASKED:
         refutations(rows, asked, count)
