@@ -230,8 +230,21 @@ WITNESSES = (
      "these may be values by name of ABC's write_cex: see \"Witness\" in man aig-formats"),
     ("a circuit", WRAPS,
      "line 1 is `aag 9 1 2 0 6 1`", "wanted: the line `1`", "the file is a circuit, and CIRCUIT comes before WITNESS"),
+    ("a comment with a hash", b"# DONE\n" + WITNESS,
+     "line 1 is `# DONE`", "wanted: the line `1`", "a witness has no comments: sed '/^#/d' FILE > NEW"),
+    ("a bound", b"u0\n" + WITNESS,
+     "line 1 is `u0`", "wanted: the line `1`", "a line with u says how far a model checker looked: sed '/^u/d' FILE > NEW"),
+    ("a blank at the end", WITNESS.replace(b"b0", b"b0 "),
+     "line 2 is `b0 `", "wanted: `b` and the position of a bad state property, as in `b0`",
+     "no line ends with a blank: sed 's/[[:blank:]]*$//' FILE > NEW"),
     ("a long line", "\x1b" + "y" * 70 + "\n",
      "line 1 is `\\x1b" + "y" * 59 + "..`", "wanted: the line `1`"),
+    ("a bound in the place of a property", "1\nu12\n",
+     "line 2 is `u12`", "wanted: `b` and the position of a bad state property, as in `b0`",
+     "a line with u says how far a model checker looked: sed '/^u/d' FILE > NEW"),
+    ("a large x", "1\nb0\n0X\n1\n.\n",
+     "line 3, column 2: found 'X'", "wanted: the values of the latches, 2 of 0, 1 and x",
+     "x is a small letter: tr X x < FILE > NEW"),
     ("justice", "1\nj0\n",
      "line 2 is `j0`", "wanted: `b` and the position of a bad state property, as in `b0`",
      "check has no justice properties (j)"),
@@ -517,14 +530,15 @@ def others(rows):
     rows.row("a witness of an output", ["check", "toggle", write("f", "1\nb0\n0\n\n.\n")], "witness: property",
              ["line 2 names the bad state property b0, counted from b0",
               "the circuit has bad state properties: 0, outputs: 2",
-              "a circuit of AIGER 1.0 has only outputs: see \"Witness\" in man aig-formats"])
+              "a circuit of AIGER 1.0 has only outputs, which may stand for bad states:",
+              "aig select --from outputs --to aag CIRCUIT > NEW makes properties of them"])
     rows.row("a witness with too many frames", ["check", "wraps", write("f", b"1\nb0\n00\n" + b"1\n" * 65537 + b".\n")],
              "witness: limit", ["the witness has 65537 frames", "wanted: at most 65,536 frames"])
     rows.row("no frames", ["unroll", "--frames", "0", "--to", "aag", "two_gates"], "unroll: no frames",
              ["K is 0", "wanted: at least one frame"])
     rows.row("liveness", ["unroll", "--frames", "1", "--to", "aag", "live"], "unroll: liveness",
              ["the circuit has justice properties: 1, fairness constraints: 1",
-              "wanted: none of them; remove these sections"])
+              "wanted: none of them: aig select --to aag CIRCUIT > NEW leaves them out"])
     rows.row("too many frames", ["unroll", "--frames", "65537", "--to", "aag", "two_gates"], "unroll: limit",
              ["K is 65537", "wanted: at most 65,536 frames"])
     rows.row("M of the unrolled circuit", ["unroll", "--frames", "65536", "--to", "aag", "inputs"], "unroll: limit",
@@ -542,9 +556,12 @@ def others(rows):
              ["P is 7, counted from 0", "the circuit has bad state properties: 1, outputs: 0"])
     rows.row("a formula of an output", ["cnf", "--frames", "1", "toggle"], "cnf: property",
              ["P is 0, counted from 0", "the circuit has bad state properties: 0, outputs: 2",
-              "a circuit of AIGER 1.0 has only outputs: see \"Witness\" in man aig-formats"])
+              "a circuit of AIGER 1.0 has only outputs, which may stand for bad states:",
+              "aig select --from outputs --to aag CIRCUIT > NEW makes properties of them"])
     rows.row("too many frames of a formula", ["cnf", "--frames", "65537", "wraps"], "cnf: limit",
              ["K is 65537", "wanted: at most 65,536 frames"])
+    rows.row("too many frames of a step", ["cnf", "--step", "--frames", "65536", "wraps"], "cnf: limit",
+             ["K + 1 is 65537", "wanted: at most 65,536 frames"])
     rows.row("a property to select that is not there", ["select", "--to", "aag", "--property", "7", "wraps"],
              "select: property", ["the section has no property at a position that --property names",
                                   "positions count from 0: aig info --names CIRCUIT prints them",
@@ -555,6 +572,10 @@ def others(rows):
     rows.row("a run that reaches nothing", ["witness", "wraps", write("f", "1\n0\n1\n")], "witness: no run",
              ["no frame of the stimulus reaches the property, or a constraint was not 1 before",
               "aig sim CIRCUIT STIM prints the run"])
+    rows.row("a run whose start is open", ["witness", write("g", "aag 1 0 1 0 0 1\n2 2 2\n2\n"), write("f", "\n")], "witness: no run",
+             ["no frame of the stimulus reaches the property, or a constraint was not 1 before",
+              "aig sim CIRCUIT STIM prints the run", "uninitialised latches, which start at x in this run: 1",
+              "aig witness --model takes a run with their values from a solver's model of aig cnf"])
     write("wide", "aag 4194303 1 0 0 0 1\n2\n2\n")
     rows.row("cells of a bench for a witness", ["reduce", "wide", write("f", "1\nb0\n\n" + "1\n" * 17 + ".\n")],
              "bench: limit", ["M = 4194303 and 17 rows: (M + 1) * rows = 71303168",

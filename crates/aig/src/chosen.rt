@@ -464,6 +464,8 @@ pub fn files_of<'a>(matches: &ArgMatches<'a>) -> Option<RunFiles<'a>> {
         map: text_of(matches, "map"),
         frames: number_or(matches, "K", 0),
         property: property_of(matches),
+        // In other commands it is a file, or is not there.
+        steps: (name == "cnf" || name == "witness") && has_flag(matches, "step"),
         reduces: name == "reduce",
     })
 }

@@ -65,14 +65,15 @@ fn push_count(lines: &mut Explanation, name: &str, count: u64) -> Result<(), Mem
     lines.add(format_args!("the unrolled circuit would have {name} {count}"))
 }
 
-/// Adds lines for what is over its limit in a circuit unrolled for so many frames.
+/// Adds lines for what is over its limit in a circuit unrolled for so many frames, a number with this name.
 pub(crate) fn push_limit(
     lines: &mut Explanation,
     circuit: &[u8],
+    name: &str,
     frames: u32,
 ) -> Result<(), Memory> {
     if frames > FRAMES {
-        lines.add(format_args!("K is {frames}"))?;
+        lines.add(format_args!("{name} is {frames}"))?;
         return lines.add("wanted: at most 65,536 frames");
     }
     let Some(parts) = Parts::of(circuit) else {
@@ -114,7 +115,7 @@ fn push_liveness(lines: &mut Explanation, circuit: &[u8]) -> Result<(), Memory> 
     lines.add(format_args!(
         "the circuit has justice properties: {justice}, fairness constraints: {fairness}"
     ))?;
-    lines.add("wanted: none of them; remove these sections")
+    lines.add("wanted: none of them: aig select --to aag CIRCUIT > NEW leaves them out")
 }
 
 /// Adds lines for a number of frames that is 0.
@@ -134,7 +135,7 @@ fn push_fault(
         UnrollFault::Memory => Ok(()),
         UnrollFault::NoFrames => push_no_frames(lines, frames),
         UnrollFault::Liveness => push_liveness(lines, circuit),
-        UnrollFault::Limit => push_limit(lines, circuit, frames),
+        UnrollFault::Limit => push_limit(lines, circuit, "K", frames),
     }
 }
 

@@ -43,7 +43,8 @@ pub(crate) fn push_bad_count(
     };
     lines.add(format_args!("the circuit has bad state properties: {bad}, outputs: {outputs}"))?;
     if bad == 0 && outputs > 0 {
-        lines.add("a circuit of AIGER 1.0 has only outputs: see \"Witness\" in man aig-formats")?;
+        lines.add("a circuit of AIGER 1.0 has only outputs, which may stand for bad states:")?;
+        lines.add("aig select --from outputs --to aag CIRCUIT > NEW makes properties of them")?;
     }
     Ok(())
 }

@@ -38,7 +38,10 @@ pub struct WrongLine<'a> {
 #[derive(Clone, Copy)]
 enum Cause {
     Cr,
+    Blank,
     Comment,
+    Hash,
+    Bound,
     Verdict,
     NoRun,
     OfAbc,
@@ -48,6 +51,7 @@ enum Cause {
     Several,
     SeveralWitnesses,
     LeadingZero,
+    LargeX,
     NoNewline,
     NoEnd,
     OtherCircuit,
@@ -148,9 +152,17 @@ fn is_long_row(line: &[u8]) -> bool {
     line.len() > 1 && first_other(line).is_none()
 }
 
+// Whether it is a line of aigbmc that says how far it looked.
+fn is_bound(line: &[u8]) -> bool {
+    line.strip_prefix(b"u").is_some_and(is_position)
+}
+
 fn cause_of_status(line: &[u8]) -> Option<Cause> {
     if line.starts_with(b"aag ") || line.starts_with(b"aig ") {
         return Some(Cause::Circuit);
+    }
+    if is_bound(line) {
+        return Some(Cause::Bound);
     }
     if is_verdict(line) {
         return Some(Cause::Verdict);
@@ -170,6 +182,9 @@ fn cause_of_status(line: &[u8]) -> Option<Cause> {
 fn cause_of_property(line: &[u8]) -> Option<Cause> {
     if line.starts_with(b"j") {
         return Some(Cause::Justice);
+    }
+    if is_bound(line) {
+        return Some(Cause::Bound);
     }
     let position = line.strip_prefix(b"b")?;
     if position.contains(&b'b') || position.contains(&b'j') {
@@ -194,16 +209,20 @@ impl<'a> WrongLine<'a> {
         if self.line.is_empty() && !self.is_ended {
             return Some(Cause::NoEnd);
         }
-        if first_other(self.line).is_none() {
-            return Some(Cause::OtherCircuit);
+        match first_other(self.line) {
+            None => Some(Cause::OtherCircuit),
+            Some(place) if self.line.get(place) == Some(&b'X') => Some(Cause::LargeX),
+            Some(_) => None,
         }
-        None
     }
 
     // The cause, if it is a known one.
     fn cause(&self) -> Option<Cause> {
         if self.line.ends_with(b"\r") {
             return Some(Cause::Cr);
+        }
+        if self.line.ends_with(b" ") || self.line.ends_with(b"\t") {
+            return Some(Cause::Blank);
         }
         if self.lacks_newline() {
             return Some(if is_end(self.line) {
@@ -214,6 +233,9 @@ impl<'a> WrongLine<'a> {
         }
         if self.line.starts_with(b"c") {
             return Some(Cause::Comment);
+        }
+        if self.line.starts_with(b"#") {
+            return Some(Cause::Hash);
         }
         match self.wanted {
             Wanted::Status => cause_of_status(self.line),
@@ -319,6 +341,11 @@ impl Cause {
     fn remedy(self) -> &'static str {
         match self {
             Cause::Cr => "lines end with CR LF, and only LF ends a line: tr -d '\\r' < FILE > NEW",
+            Cause::Blank => "no line ends with a blank: sed 's/[[:blank:]]*$//' FILE > NEW",
+            Cause::Hash => "a witness has no comments: sed '/^#/d' FILE > NEW",
+            Cause::Bound =>
+                "a line with u says how far a model checker looked: sed '/^u/d' FILE > NEW",
+            Cause::LargeX => "x is a small letter: tr X x < FILE > NEW",
             Cause::Comment => "a witness has no comments: sed '/^c/d' FILE > NEW",
             Cause::Verdict =>
                 "this is a solver's verdict; the witness begins with the line `1` after it",

@@ -23,6 +23,8 @@ pub struct RunFiles<'a> {
     pub frames: u32,
     /// The position of the bad state property.
     pub property: u32,
+    /// Whether the formula is that of an induction step.
+    pub steps: bool,
     /// Whether the run is a witness on a bench.
     pub reduces: bool,
 }

@@ -2,6 +2,7 @@
 
 use crate::bench::{explain_bench, explain_reduction};
 use crate::circuit::explain_circuit;
+use crate::circuit::parts::{Parts, Sought};
 use crate::cnf::explain_cnf;
 use crate::explanation::Explanation;
 use crate::notes::certificate_look::{explain_no_formula, explain_strengthening};
@@ -17,7 +18,7 @@ use crate::unrolling::explain_unroll;
 use crate::witness::explain_witness;
 use aig_base::{Fault, Memory};
 use aig_bench::BenchFault;
-use aig_cnf::CnfFault;
+use aig_cnf::{CnfFault, Goal, Query};
 use aig_files::{Exit, Part, RunFiles};
 use aig_run::{RunFault, ScriptFault};
 use aig_sim::{ReachFault, StimFault, WitnessFault};
@@ -259,19 +260,27 @@ fn of_cnf_text<R: Files + AllocGlobal + Eprint>(rt: &R, files: &RunFiles<'_>, fa
     match read_again(rt, files.circuit) {
         Ok(file) => note_lines(
             rt,
-            explain_cnf(
-                rt.alloc(),
-                file.as_slice(),
-                files.frames,
-                files.property,
-                fault,
-            ),
+            explain_cnf(rt.alloc(), file.as_slice(), query_of(files), fault),
         ),
         Err(obstacle) => obstacle.explain(rt),
     }
 }
 
-fn of_reach<R: AllocGlobal + Eprint>(rt: &R, files: &RunFiles<'_>, fault: ReachFault) {
+/// What the formula is of.
+fn query_of(files: &RunFiles<'_>) -> Query {
+    let goal = if files.steps {
+        Goal::Step
+    } else {
+        Goal::Within
+    };
+    Query {
+        goal,
+        frames: files.frames,
+        property: files.property,
+    }
+}
+
+fn of_reach<R: Files + AllocGlobal + Eprint>(rt: &R, files: &RunFiles<'_>, fault: ReachFault) {
     note_name(rt, files.circuit);
     match fault {
         ReachFault::Property => {
@@ -308,9 +317,31 @@ fn of_reach<R: AllocGlobal + Eprint>(rt: &R, files: &RunFiles<'_>, fault: ReachF
                 "no frame of the stimulus reaches the property, or a constraint was not 1 before",
             );
             note(rt, "aig sim CIRCUIT STIM prints the run");
+            note_free_latches(rt, files.circuit);
         }
         ReachFault::Memory => note(rt, MORE_MEMORY),
     }
+}
+
+/// A run over a stimulus starts its uninitialised latches at x, which may hide that it reaches the property.
+fn note_free_latches<R: Files + AllocGlobal + Eprint>(rt: &R, circuit: &str) {
+    let Ok(file) = read_again(rt, circuit) else {
+        return;
+    };
+    let Some(parts) = Parts::of(file.as_slice()) else {
+        return;
+    };
+    let count = parts.count(Sought::Uninitialised);
+    if count > 0 {
+        note_lines(rt, free_latches(rt.alloc(), count));
+    }
+}
+
+fn free_latches(alloc: Global, count: u64) -> Result<Explanation, Memory> {
+    let mut lines = Explanation::new(alloc);
+    lines.add(format_args!("uninitialised latches, which start at x in this run: {count}"))?;
+    lines.add("aig witness --model takes a run with their values from a solver's model of aig cnf")?;
+    Ok(lines)
 }
 
 /// A file of an option, or standard output, could not be written to. In bench, standard output is the script's part.

@@ -155,6 +155,9 @@ pub fn explain_reading<R: Files + AllocGlobal + Eprint>(rt: &R, name: Option<&st
 
 fn explain_reading_of<R: Files + AllocGlobal + Eprint>(rt: &R, name: &str) -> bool {
     note_name(rt, name);
+    if name == "-" {
+        note(rt, "- is a file of this name: standard input is /dev/stdin");
+    }
     match first_byte(rt, name) {
         Ok(()) => {
             note(rt, "it can be opened and read now");
