@@ -28,7 +28,7 @@ _aig() {
         ["unroll --map"]="file"
         ["cnf --frames"]="number"
         ["cnf --property"]="number"
-        ["cnf --certificate"]="a circuit in the format aag aig"
+        ["cnf --certificate"]="file"
         ["select --to"]="aag aig"
         ["select --from"]="bad outputs"
         ["select --as"]="bad outputs"
@@ -40,9 +40,9 @@ _aig() {
         ["refute --frames"]="number"
         ["refute --property"]="number"
         ["refute --step"]="file"
-        ["refute --certificate"]="a circuit in the format aag aig"
+        ["refute --certificate"]="file"
         ["strengthen --to"]="aag aig"
-        ["strengthen --certificate"]="a circuit in the format aag aig"
+        ["strengthen --certificate"]="file"
         ["strengthen --property"]="number"
     )
     local first=1 words=("") joins="" i

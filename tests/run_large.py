@@ -13,10 +13,11 @@ from large.hostile_proofs import hostile_proofs
 from large.hubs import hubs
 from large.limits import limits
 from large.long_run import long_run
+from large.reductions import reductions
 from library import runs
 
 PARTS = {"block_edges": block_edges, "files": large_files, "long_run": long_run, "names": crowded_names, "hubs": hubs,
-         "limits": limits, "deep": deep, "claims": claims, "proofs": hostile_proofs}
+         "limits": limits, "reductions": reductions, "deep": deep, "claims": claims, "proofs": hostile_proofs}
 
 
 def options(parser):

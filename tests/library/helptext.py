@@ -38,8 +38,8 @@ def long_options(help_text):
 
 
 def examples(help_text):
-    """The commands that the help shows as examples."""
-    return re.findall(r"(?m)^Example: (.*)$", help_text.after)
+    """The commands that the help shows as examples. One goes on after a line that ends with a backslash."""
+    return re.findall(r"(?m)^Example: ((?:.*\\\n)*.*)$", help_text.after)
 
 
 def listed(text, above):

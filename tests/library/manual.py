@@ -68,7 +68,7 @@ def terms(block):
 
 def said(one):
     """The help's text after the options, without the examples and references: the page has sections for these."""
-    text = re.sub(r"(?m)^(Example|See also): .*\n?", "", one.after + "\n")
+    text = re.sub(r"(?m)^(Example|See also): (?:.*\\\n)*.*\n?", "", one.after + "\n")
     return text.strip("\n")
 
 

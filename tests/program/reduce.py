@@ -17,6 +17,18 @@ STARTS = "aag 5 0 3 0 2 1/2 2 2/4 4 0/6 6 1/11/8 4 2/10 9 7/"
 GUARDED = "aag 4 3 0 0 1 1 1/2/4/6/2/9/8 7 5/"
 # A latch that keeps 1 once the input is 1, with the second input as an alternative at the last frame.
 HELD = "aag 5 2 1 0 2 1/2/4/6 9/11/8 7 3/10 7 5/"
+# The property is that an input of two is 1.
+EITHER_SIDE = "aag 3 2 0 0 1 1/2/4/7/6 3 5/"
+# The property is the first input, by a gate that reads it twice.
+TWICE = "aag 3 2 0 0 1 1/2/4/7/6 3 3/"
+# The property is that the first input was 1 two frames ago, and the second one frame ago.
+DELAYED = "aag 6 2 3 0 1 1/2/4/6 2/8 6/10 4/12/12 8 10/"
+# The property is what the first of two uninitialised latches starts at.
+KEPT = "aag 4 1 2 0 1 1/2/4 4 4/6 6 6/8/8 4 4/"
+# The property is that three inputs are 1; each gate reads the one after it.
+BACKWARD_GATES = "aag 7 4 0 0 3 1/2/4/6/8/10/10 12 2/12 14 4/14 8 1/"
+# The property is the first input, by gates that read constants.
+CONSTANT_SIDES = "aag 5 2 0 0 3 1/2/4/10/6 1 2/8 0 4/10 9 6/"
 
 # A name of the row, a circuit, a confirmed witness, and the reduced one; / stands for LF.
 REDUCTIONS = (
@@ -37,6 +49,14 @@ REDUCTIONS = (
     ("a constraint that can do without a value", GUARDED, "1/b0//011/111/./", "1/b0//xx1/1x1/./"),
     ("a constraint at each frame", GUARDED, "1/b0//010/110/./", "1/b0//x1x/11x/./"),
     ("a latch that is held", HELD, "1/b0/0/10/00/00/./", "1/b0/0/1x/xx/xx/./"),
+    ("both sides of a gate", EITHER_SIDE, "1/b0//11/11/./", "1/b0//xx/x1/./"),
+    ("a side that is 0 beside one that is not", EITHER_SIDE, "1/b0//11/01/./", "1/b0//xx/x1/./"),
+    ("a side that is 0 beside x", EITHER_SIDE, "1/b0//11/x1/./", "1/b0//xx/x1/./"),
+    ("one side twice", TWICE, "1/b0//11/./", "1/b0//1x/./"),
+    ("needed by a latch", DELAYED, "1/b0/000/10/01/00/./", "1/b0/000/1x/x1/xx/./"),
+    ("needed by an uninitialised latch", KEPT, "1/b0/11/1/./", "1/b0/1x/x/./"),
+    ("gates in no order", BACKWARD_GATES, "1/b0//1101/./", "1/b0//11x1/./"),
+    ("constants that gates read", CONSTANT_SIDES, "1/b0//11/./", "1/b0//1x/./"),
     ("one of two ways", HELD, "1/b0/0/10/00/01/./", "1/b0/0/xx/xx/x1/./"),
 )
 
@@ -80,24 +100,37 @@ def reduce(program, tally, _):
 
 
 def gaps(rows):
-    """Witnesses in which every value after a gap is needed: of the inputs over several frames, and of the starts."""
+    """Witnesses in which every value after a gap is needed: of the inputs over several frames, and of the starts. Then
+    the same behind gates that read a literal twice: no look back over the run shows that what they read is needed."""
     for gap in GAPS:
-        size = gap + 1
-        inputs = "".join(f"{2 * number}\n" for number in range(1, size + 1))
-        write("inputs", f"aag {size} {size} 0 0 0 1 1\n{inputs}1\n{2 * size}\n")
-        given, wanted = "1" * size + "\n", "x" * gap + "1\n"
-        rows.gives(f"a gap of {gap} inputs", "reduce inputs witness", f"1\nb0\n\n{wanted * 5}.\n",
-                   witness=f"1\nb0\n\n{given * 5}.\n")
-        # every second latch starts at 0; the last two are needed
-        free = [number for number in range(1, 2 * size + 2) if number % 2]
-        latches = "".join(f"{2 * number} {2 * number} {2 * number if number in free else 0}\n"
-                          for number in range(1, 2 * size + 2))
-        total = 2 * size + 1
-        write("starts", f"aag {total} 0 {total} 0 0 1 1\n{latches}{2 * total}\n{2 * free[-2]}\n")
-        given = "".join("1" if number in free else "0" for number in range(1, total + 1))
-        wanted = "x0" * gap + "101"
-        rows.gives(f"a gap of {gap} starts", "reduce starts witness", f"1\nb0\n{wanted}\n\n\n.\n",
-                   witness=f"1\nb0\n{given}\n\n\n.\n")
+        for twice in (False, True):
+            how = f"a gap of {gap}{', by gates' if twice else ''}:"
+            size = gap + 1
+            inputs = "".join(f"{2 * number}\n" for number in range(1, size + 1))
+            top, (needed,), gates = read_twice(size, (2 * size,)) if twice else (size, (2 * size,), ())
+            write("inputs", f"aag {top} {size} 0 0 {len(gates)} 1 1\n{inputs}1\n{needed}\n{''.join(gates)}")
+            given, wanted = "1" * size + "\n", "x" * gap + "1\n"
+            rows.gives(f"{how} inputs", "reduce inputs witness", f"1\nb0\n\n{wanted * 5}.\n",
+                       witness=f"1\nb0\n\n{given * 5}.\n")
+            # every second latch starts at 0; the last two are needed
+            total = 2 * size + 1
+            free = [number for number in range(1, total + 1) if number % 2]
+            latches = "".join(f"{2 * number} {2 * number} {2 * number if number in free else 0}\n"
+                              for number in range(1, total + 1))
+            last = (2 * total, 2 * free[-2])
+            top, (bad, constraint), gates = read_twice(total, last) if twice else (total, last, ())
+            write("starts", f"aag {top} 0 {total} 0 {len(gates)} 1 1\n{latches}{bad}\n{constraint}\n{''.join(gates)}")
+            given = "".join("1" if number in free else "0" for number in range(1, total + 1))
+            wanted = "x0" * gap + "101"
+            rows.gives(f"{how} starts", "reduce starts witness", f"1\nb0\n{wanted}\n\n\n.\n",
+                       witness=f"1\nb0\n{given}\n\n\n.\n")
+
+
+def read_twice(top, literals):
+    """Gates after the variable `top`, each with twice the negation of a literal: the last variable, the literals that
+    have the same values, and the gates' lines."""
+    gates = [f"{2 * (top + place)} {literal + 1} {literal + 1}\n" for place, literal in enumerate(literals, start=1)]
+    return top + len(literals), [2 * (top + place) + 1 for place, _ in enumerate(literals, start=1)], gates
 
 
 def frames(count):

@@ -53,7 +53,7 @@ def words(program, tally, _):
     for word in ("--help", "-h", "help"):
         tells(rows, [word], contents(f"{EXPECTED}/help/aig.txt"))
     for command in ("toaig", "sim", "wave", "bench", "unroll", "check", "cnf", "info", "select", "witness", "refute",
-                    "reduce"):
+                    "reduce", "strengthen"):
         for asked in ([command, "--help"], [command, "-h"], ["help", command]):
             tells(rows, asked, contents(f"{EXPECTED}/help/{command}.txt"))
     tells(rows, ["help", "help"], contents(f"{EXPECTED}/help/help.txt"))

@@ -1,6 +1,7 @@
 """Certificates by the scripts of `examples/`, and by hand. For each property of the designs `examples/certify.sh` says what
-ABC says: `unreachable` where `pdr` proves it. `examples/prove.sh` goes from induction to a certificate. Each command that
-docs/FLOW.md shows about proofs prints what is shown there, and the certificates of `examples/` are right."""
+ABC says: `unreachable` where `pdr` proves it, and the circuit and the formula of that certificate are those of
+library/certificate.py. `examples/prove.sh` goes from induction to a certificate. Each command that docs/FLOW.md shows about
+proofs prints what is shown there, and the certificates of `examples/` are right."""
 
 import itertools
 import os
@@ -8,6 +9,8 @@ import shutil
 import subprocess
 import sys
 
+from library.certificate import formula, strengthened
+from library.plain_reader import in_order, spelled
 from library.runs import DESIGNS, EXAMPLES, Ended, write
 from library.tour import room, steps, typed
 from tools.external import LOGIC, Tools, parts_of
@@ -60,9 +63,21 @@ def designs(program, tally, tools, scripts):
             if not is_proved:
                 wanted = Ended(REACHED, b"ABC found a run to property %d\n" % place, b"")
             tally.compare(asked, scripts.run("certify.sh", "bad.aig", str(place)), wanted)
+            if is_proved:
+                same_bytes(program, tally, asked, "bad.aig", "certificate.aag", place)
     least = sum(PROVED_DESIGNS.values())
     tally.check("certificates: properties of both kinds", counts["proved"] > least and counts["reached"] > 0, counts)
     return counts
+
+
+def same_bytes(program, tally, asked, model, certificate, place=0):
+    """The strengthened circuit and the formula are those of library/certificate.py to the byte."""
+    circuit = strengthened(parts_of(model), place, parts_of(certificate))
+    words = ["--certificate", certificate, "--property", str(place), model]
+    for to, parts in (("aag", circuit), ("aig", in_order(circuit))):
+        tally.compare(f"{asked}: strengthen to {to}", program.run("strengthen", "--to", to, *words),
+                      Ended(0, spelled(parts, to), b""))
+    tally.compare(f"{asked}: cnf", program.run("cnf", *words), Ended(0, formula(circuit), b""))
 
 
 def proved_designs(tally, tools):
@@ -131,6 +146,7 @@ def shipped(program, tally):
     for name, least in SHIPPED:
         circuit, file = f"{EXAMPLES}/{name}.aag", f"{EXAMPLES}/{name}.cert.aag"
         tally.compare(f"certificates: {name}", refuted(program, circuit, file), Ended(0, b"unreachable\n", b""))
+        same_bytes(program, tally, f"certificates: {name}", circuit, file)
         fewer = program.run("select", "--to", "aag", "--property", "0", file)
         write("fewer.aag", fewer.out)
         ended = refuted(program, circuit, "fewer.aag")

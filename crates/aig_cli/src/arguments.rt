@@ -152,28 +152,28 @@ pub const FRAMES_OR_CERTIFICATE: Argument = Argument {
 
 pub const CERTIFICATE: Argument = Argument {
     name: "certificate",
-    help: "File of a certificate of the property, in the place\nof --frames: a circuit in the format aag or aig",
-    kind: Kind::Named("CERTIFICATE"),
+    help: "File of a certificate of the property, in the\nplace of --frames",
+    kind: Kind::Named("AIG"),
     need: Need::OneOf(FORMULA, &["step"]),
 };
 
 pub const MODEL_CERTIFICATE: Argument = Argument {
     name: "certificate",
-    help: "MODEL is of the formula of cnf --certificate\nwith this file",
-    kind: Kind::Named("CERTIFICATE"),
+    help: "File of the certificate, if MODEL is of the\nformula of cnf --certificate",
+    kind: Kind::Named("AIG"),
     need: Need::OneOfWith(FORMULA, "model", &["step"]),
 };
 
 pub const STRENGTHENING: Argument = Argument {
     name: "certificate",
-    help: "File of a certificate of the property: a circuit\nin the format aag or aig",
-    kind: Kind::Named("CERTIFICATE"),
+    help: "File of a certificate of the property, in the\nformat aag or aig",
+    kind: Kind::Named("AIG"),
     need: Need::Always,
 };
 
 pub const PROPERTY: Argument = Argument {
     name: "P",
-    help: "Position of the bad state property (0 if it is omitted)",
+    help: "Position of the bad state property\n(0 if it is omitted)",
     kind: Kind::Number("property"),
     need: Need::Never,
 };

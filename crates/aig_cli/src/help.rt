@@ -252,21 +252,22 @@ See also: man aig, man 5 aig-formats";
 
 pub const STRENGTHEN: &str =
     "A certificate is a circuit that says why property P of CIRCUIT is never 1. It
-claims that none of its bad state properties (of its outputs, if it has none) is
-ever 1, and that each of its constraints always is. Model checkers write such
-files as witness circuits.
+claims that none of its bad state properties is ever 1, and that each of its
+constraints always is. If it has no bad state properties, its outputs take their
+place. Model checkers write such files as witness circuits.
 
-Each of its inputs and latches is a literal of CIRCUIT, or its own. If the symbol
-of one begins with '= ', all that are shared say so: '= LIT' is the literal LIT
-of CIRCUIT. If none does, its first inputs and latches are those of CIRCUIT at
-the same positions. Resets and next states of shared latches are not read.
+Each of its inputs and latches is a literal of CIRCUIT, or its own. If the
+symbol of one begins with '= ', all that are shared have a symbol '= LIT', for
+the literal LIT of CIRCUIT. Otherwise its first inputs and latches are those of
+CIRCUIT at the same positions. Resets and next states of shared latches are not
+read.
 
 The circuit that is written has the inputs, latches, gates and constraints of
-CIRCUIT, and the own ones of the certificate. Its outputs are the parts: property
-P, each property of the certificate, and the negation of each constraint of the
-certificate. Its bad state property is 1 if some part is. If no run reaches it,
-no run of CIRCUIT reaches property P.
+CIRCUIT, and further ones of the certificate. Its outputs are property P, each
+property of the certificate, and the negation of each constraint of the
+certificate. Its bad state property is 1 if one of these is. If no run reaches
+it, no run of CIRCUIT reaches property P.
 
 Example: aig strengthen --to aag --certificate examples/ring.cert.aag \\
-           examples/ring.aag
+             examples/ring.aag
 See also: man aig, man 5 aig-formats";

@@ -34,7 +34,7 @@ static FIRST: [Subcommand; 4] = [
     },
     Subcommand {
         name: "wave",
-        about: "Simulate a circuit and print a value change dump for waveform viewers",
+        about: "Simulate a circuit and print a dump for waveform viewers",
         help: help::WAVE,
         choice: None,
         arguments: &[arguments::IS_WITNESS, arguments::CIRCUIT, arguments::RUN],
@@ -99,7 +99,7 @@ static SECOND: [Subcommand; 4] = [
 static THIRD: [Subcommand; 4] = [
     Subcommand {
         name: "select",
-        about: "Write a circuit with some of its properties, as bad states or outputs",
+        about: "Write a circuit with some of its properties",
         help: help::SELECT,
         choice: None,
         arguments: &[
@@ -141,7 +141,7 @@ static THIRD: [Subcommand; 4] = [
     },
     Subcommand {
         name: "reduce",
-        about: "Write a witness with x in place of each value that it does not need",
+        about: "Write a witness with x at each value that it does not need",
         help: help::REDUCE,
         choice: None,
         arguments: &[arguments::CIRCUIT, arguments::WITNESS],

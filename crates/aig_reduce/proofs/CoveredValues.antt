@@ -29,7 +29,8 @@ not_covers X a' p = inl refl
 
 module _ (raw : Raw) (start start' : List Tern) (rows rows' : List (List Tern))
     (starts : AllZip IsSameOrX start start') (inputs : AllZip (AllZip IsSameOrX) rows rows') where
-  covered : {t l : ℕ} {w : Tern} → Value raw start rows t l w → (w' : Tern) × Value raw start' rows' t l w' × IsSameOrX w w'
+  -- the value in the other run
+  pub covered : {t l : ℕ} {w : Tern} → Value raw start rows t l w → (w' : Tern) × Value raw start' rows' t l w' × IsSameOrX w w'
   covered (value.constant_false t) = (Zero, value.constant_false t, inr refl)
   covered (value.constant_true t) = (One, value.constant_true t, inr refl)
   covered (value.input t p l w row at is cell) =

@@ -40,7 +40,7 @@ row_then (x ∷ xs) [] zs p q = absurd p
 row_then (x ∷ xs) (y ∷ ys) [] p q = absurd q
 row_then (x ∷ xs) (y ∷ ys) (z ∷ zs) p q = (same_or_x_then x y z p.0 q.0, row_then xs ys zs p.1 q.1)
 
-rows_then : (xs ys zs : List (List Tern)) → CoverRows xs ys → CoverRows ys zs → CoverRows xs zs
+pub rows_then : (xs ys zs : List (List Tern)) → CoverRows xs ys → CoverRows ys zs → CoverRows xs zs
 rows_then [] [] [] p q = tt
 rows_then [] [] (z ∷ zs) p q = absurd q
 rows_then [] (y ∷ ys) zs p q = absurd p
@@ -67,7 +67,7 @@ covers_tried (x ∷ v) (y ∷ new) (z ∷ given) zero p a b at = (covers_row x y
 covers_tried (x ∷ v) (y ∷ new) (z ∷ given) (suc t) p a b at = (a.0, covers_tried v new given t p a.1 b.1 at)
 
 -- such lists have the same lengths
-cover_shape : (v w : List (List Tern)) → CoverRows v w → map length w ≡ map length v
+pub cover_shape : (v w : List (List Tern)) → CoverRows v w → map length w ≡ map length v
 cover_shape [] [] h = refl
 cover_shape [] (y ∷ w) h = absurd h
 cover_shape (x ∷ v) [] h = absurd h
@@ -83,7 +83,7 @@ row_covers (y ∷ new) [] e h = absurd (omega (arith, e))
 row_covers (y ∷ new) (z ∷ given) e h =
     (h 0 z y refl refl, row_covers new given (omega (arith, e)) (λ p a b at is. h (suc p) a b at is))
 
-rows_cover : (new given : List (List Tern)) → map length new ≡ map length given
+pub rows_cover : (new given : List (List Tern)) → map length new ≡ map length given
     → ((t p : ℕ) (a b : Tern) → slice_get (row_at given t) p ≡ Some a → slice_get (row_at new t) p ≡ Some b → IsSameOrX b a)
     → CoverRows new given
 rows_cover [] [] e h = tt

@@ -2,6 +2,8 @@ pub mod Clearings
 pub mod CoveredValues
 pub mod Edits
 pub mod Irreducibles
+pub mod NeededLemmas
+pub mod NeededTries
 pub mod Places
 pub mod Resets
 pub mod RunLemmas

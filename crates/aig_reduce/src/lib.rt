@@ -3,6 +3,7 @@
 
 mod fault;
 mod looks;
+mod needed;
 mod pace;
 mod place;
 mod reducer;

@@ -32,6 +32,27 @@ fn is_one<G: Grid>(bench: &Bench<G>, frame: u32, literal: Lit) -> bool
     }
 }
 
+fn is_known_zero(value: Tern) -> bool
+    ensures { IsTrue result ↔ (value ≡ Tern.Zero) }
+{
+    matches!(value, Tern::Zero)
+}
+
+/// Whether a literal is 0 at a frame.
+pub fn is_zero<G: Grid>(bench: &Bench<G>, frame: u32, literal: Lit) -> bool
+    requires frame { frame < length bench.now.pair.rows }
+    requires range { IsInRange bench.now.pair.circuit literal }
+    requires defined { IsDefined bench.now.pair.circuit (variable literal) }
+    ensures { IsTrue result ↔ HasValue bench.now.pair frame literal Tern.Zero }
+{
+    // Its contract says that it is a circuit.
+    bench.width();
+    match bench.value(frame, literal) {
+        Ok(value) => is_known_zero(value),
+        Err(_) => false,
+    }
+}
+
 // Whether all constraints are 1 at a frame.
 fn are_one<G: Grid>(bench: &Bench<G>, frame: u32) -> bool
     requires { frame < length bench.now.pair.rows }

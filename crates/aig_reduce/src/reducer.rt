@@ -9,10 +9,12 @@ ghost use Rattle.aig_bench.specs.Edit.{edited, set_bit, set_reset};
 ghost use Rattle.aig_sim.specs.WitnessText.{Witness};
 ghost use Rattle.aig_reduce.specs.Reduction.{IsReduced};
 ghost use Rattle.aig_values.specs.InputRows.{row_at};
+ghost use Rattle.aig_reduce.specs.state.Needed.{Knows};
 ghost use Rattle.aig_reduce.specs.state.Places.{IsBefore, IsPlace, IsUpTo, Undoes};
 ghost use Rattle.aig_reduce.specs.state.Reducing.{Clearing, PutsValue, Reducing, Runs, RunsWitness, TriesPlace};
 
 use crate::looks::reaches_from;
+use crate::needed::{Known, is_unknown};
 use crate::pace::Pace;
 use crate::place::{Cleared, Place, frame_of, is_before};
 use crate::starts::{is_fixed, is_uninitialised};
@@ -26,10 +28,6 @@ pub struct Reducer<G: Grid> {
     pub bench: Bench<G>,
     pub property: u32,
     pub start: Vec<Tern>,
-}
-
-fn is_unknown(value: Tern) -> bool {
-    matches!(value, Tern::X)
 }
 
 impl<G: Grid> Reducer<G> {
@@ -190,19 +188,19 @@ impl<G: Grid> Reducer<G> {
         self.put(latches, place, Tern::X);
     }
 
-    // Clears a value, unless it is the start of a latch with a reset of 0 or 1, and returns the next place of its list. It
-    // returns the place itself where there is no room for one more.
-    fn clear_at(&mut self, latches: &[Latch], cleared: &mut Vec<Cleared>, place: Place) -> Place
+    // Clears a value, unless it is needed or the start of a latch with a reset of 0 or 1, and returns the next place of
+    // its list. It returns the place itself where there is no room for one more.
+    fn clear_at(&mut self, known: &Known, cleared: &mut Vec<Cleared>, place: Place) -> Place
         requires place { IsPlace (self.old.start.items ∷ self.old.bench.pair.rows) place.list place.position }
-        requires clearing { (raw : Raw) × (given : Witness) × (first : ℕ) × (latches.now ≡ raw.latches)
+        requires clearing { (raw : Raw) × (given : Witness) × (first : ℕ) × (Knows raw given known.now)
             × Clearing raw given self.old.bench.pair self.old.property self.old.start.items first place.list
             place.position }
-        ensures clearing { (raw : Raw) (given : Witness) (first : ℕ) → latches.now ≡ raw.latches
+        ensures clearing { (raw : Raw) (given : Witness) (first : ℕ) → Knows raw given known.now
             → Clearing raw given self.old.bench.pair self.old.property self.old.start.items first place.list
             place.position
             → Clearing raw given self.new.bench.pair self.new.property self.new.start.items first result.list
             result.position }
-        ensures undoes { (raw : Raw) (given : Witness) (first : ℕ) (was : List (List Tern)) → latches.now ≡ raw.latches
+        ensures undoes { (raw : Raw) (given : Witness) (first : ℕ) (was : List (List Tern)) → Knows raw given known.now
             → Clearing raw given self.old.bench.pair self.old.property self.old.start.items first place.list
             place.position
             → Undoes cleared.old.items (self.old.start.items ∷ self.old.bench.pair.rows) was
@@ -213,27 +211,30 @@ impl<G: Grid> Reducer<G> {
             list: place.list,
             position: place.position + 1,
         };
-        if is_fixed(latches, place) {
+        if is_fixed(&known.latches, place) {
+            return next;
+        }
+        if known.needed.has(place) {
             return next;
         }
         if cleared.len() >= cleared.capacity() {
             return place;
         }
-        self.clear_value(latches, cleared, place);
+        self.clear_value(&known.latches, cleared, place);
         next
     }
 
     // Clears the value at a place, and returns the next place. At the end of a list that is the first of the next list.
-    fn clear_next(&mut self, latches: &[Latch], cleared: &mut Vec<Cleared>, place: Place) -> Place
-        requires clearing { (raw : Raw) × (given : Witness) × (first : ℕ) × (latches.now ≡ raw.latches)
+    fn clear_next(&mut self, known: &Known, cleared: &mut Vec<Cleared>, place: Place) -> Place
+        requires clearing { (raw : Raw) × (given : Witness) × (first : ℕ) × (Knows raw given known.now)
             × Clearing raw given self.old.bench.pair self.old.property self.old.start.items first place.list
             place.position }
-        ensures clearing { (raw : Raw) (given : Witness) (first : ℕ) → latches.now ≡ raw.latches
+        ensures clearing { (raw : Raw) (given : Witness) (first : ℕ) → Knows raw given known.now
             → Clearing raw given self.old.bench.pair self.old.property self.old.start.items first place.list
             place.position
             → Clearing raw given self.new.bench.pair self.new.property self.new.start.items first result.list
             result.position }
-        ensures undoes { (raw : Raw) (given : Witness) (first : ℕ) (was : List (List Tern)) → latches.now ≡ raw.latches
+        ensures undoes { (raw : Raw) (given : Witness) (first : ℕ) (was : List (List Tern)) → Knows raw given known.now
             → Clearing raw given self.old.bench.pair self.old.property self.old.start.items first place.list
             place.position
             → Undoes cleared.old.items (self.old.start.items ∷ self.old.bench.pair.rows) was
@@ -241,7 +242,7 @@ impl<G: Grid> Reducer<G> {
         ensures on { IsUpTo place.list place.position result.list result.position }
     {
         if self.has(place) {
-            return self.clear_at(latches, cleared, place);
+            return self.clear_at(known, cleared, place);
         }
         if place.list >= self.bench.frames() as usize {
             return place;
@@ -255,20 +256,20 @@ impl<G: Grid> Reducer<G> {
     // Clears the values from a place on, in so many steps, and returns the place after them.
     fn clear(
         &mut self,
-        latches: &[Latch],
+        known: &Known,
         cleared: &mut Vec<Cleared>,
         from: Place,
         size: usize,
     ) -> Place
-        requires clearing { (raw : Raw) × (given : Witness) × (first : ℕ) × (latches.now ≡ raw.latches)
+        requires clearing { (raw : Raw) × (given : Witness) × (first : ℕ) × (Knows raw given known.now)
             × Clearing raw given self.old.bench.pair self.old.property self.old.start.items first from.list
             from.position }
-        ensures clearing { (raw : Raw) (given : Witness) (first : ℕ) → latches.now ≡ raw.latches
+        ensures clearing { (raw : Raw) (given : Witness) (first : ℕ) → Knows raw given known.now
             → Clearing raw given self.old.bench.pair self.old.property self.old.start.items first from.list
             from.position
             → Clearing raw given self.new.bench.pair self.new.property self.new.start.items first result.list
             result.position }
-        ensures undoes { (raw : Raw) (given : Witness) (first : ℕ) (was : List (List Tern)) → latches.now ≡ raw.latches
+        ensures undoes { (raw : Raw) (given : Witness) (first : ℕ) (was : List (List Tern)) → Knows raw given known.now
             → Clearing raw given self.old.bench.pair self.old.property self.old.start.items first from.list
             from.position
             → Undoes cleared.old.items (self.old.start.items ∷ self.old.bench.pair.rows) was
@@ -277,7 +278,7 @@ impl<G: Grid> Reducer<G> {
     {
         let mut place = from;
         for step in 0..size {
-            place = self.clear_next(latches, cleared, place);
+            place = self.clear_next(known, cleared, place);
         }
         place
     }
@@ -304,17 +305,17 @@ impl<G: Grid> Reducer<G> {
     // confirmed any more. Returns the place up to which values have been tried.
     fn try_range(
         &mut self,
-        latches: &[Latch],
+        known: &Known,
         cleared: &mut Vec<Cleared>,
         from: Place,
         size: usize,
     ) -> Place
         requires empty { cleared.old.items ≡ [] }
         requires list { from.list ≤ length self.old.bench.pair.rows }
-        requires reducing { (raw : Raw) × (given : Witness) × (latches.now ≡ raw.latches)
+        requires reducing { (raw : Raw) × (given : Witness) × (Knows raw given known.now)
             × Reducing raw given self.old.bench.pair self.old.property self.old.start.items from.list from.position }
         ensures empty { cleared.new.items ≡ [] }
-        ensures reducing { (raw : Raw) (given : Witness) → latches.now ≡ raw.latches
+        ensures reducing { (raw : Raw) (given : Witness) → Knows raw given known.now
             → Reducing raw given self.old.bench.pair self.old.property self.old.start.items from.list from.position
             → Reducing raw given self.new.bench.pair self.new.property self.new.start.items result.list
             result.position }
@@ -322,36 +323,36 @@ impl<G: Grid> Reducer<G> {
     {
         // Its contract says how many frames there are.
         self.bench.frames();
-        let reached = self.clear(latches, cleared, from, size);
+        let reached = self.clear(known, cleared, from, size);
         if reaches_from(&self.bench, self.property, frame_of(from)) {
             cleared.clear();
             return reached;
         }
-        self.take_back(latches, cleared);
+        self.take_back(&known.latches, cleared);
         from
     }
 
     // Tries fewer and fewer values from a place on, but more than one, until all can go.
     fn try_ranges(
         &mut self,
-        latches: &[Latch],
+        known: &Known,
         cleared: &mut Vec<Cleared>,
         pace: &mut Pace,
         from: Place,
     ) -> Place
         requires empty { cleared.old.items ≡ [] }
         requires list { from.list ≤ length self.old.bench.pair.rows }
-        requires reducing { (raw : Raw) × (given : Witness) × (latches.now ≡ raw.latches)
+        requires reducing { (raw : Raw) × (given : Witness) × (Knows raw given known.now)
             × Reducing raw given self.old.bench.pair self.old.property self.old.start.items from.list from.position }
         ensures empty { cleared.new.items ≡ [] }
-        ensures reducing { (raw : Raw) (given : Witness) → latches.now ≡ raw.latches
+        ensures reducing { (raw : Raw) (given : Witness) → Knows raw given known.now
             → Reducing raw given self.old.bench.pair self.old.property self.old.start.items from.list from.position
             → Reducing raw given self.new.bench.pair self.new.property self.new.start.items result.list
             result.position }
         ensures on { IsUpTo from.list from.position result.list result.position }
     {
         'sizes: while pace.size > 1 {
-            let place = self.try_range(latches, cleared, from, pace.size);
+            let place = self.try_range(known, cleared, from, pace.size);
             if is_before(from, place) {
                 pace.pass();
                 return place;
@@ -394,27 +395,27 @@ impl<G: Grid> Reducer<G> {
     // up to which values have been tried.
     fn try_place(
         &mut self,
-        latches: &[Latch],
+        known: &Known,
         cleared: &mut Vec<Cleared>,
         pace: &mut Pace,
         place: Place,
     ) -> Place
         requires empty { cleared.old.items ≡ [] }
         requires place { IsPlace (self.old.start.items ∷ self.old.bench.pair.rows) place.list place.position }
-        requires reducing { (raw : Raw) × (given : Witness) × (latches.now ≡ raw.latches)
+        requires reducing { (raw : Raw) × (given : Witness) × (Knows raw given known.now)
             × Reducing raw given self.old.bench.pair self.old.property self.old.start.items place.list place.position }
         ensures empty { cleared.new.items ≡ [] }
-        ensures reducing { (raw : Raw) (given : Witness) → latches.now ≡ raw.latches
+        ensures reducing { (raw : Raw) (given : Witness) → Knows raw given known.now
             → Reducing raw given self.old.bench.pair self.old.property self.old.start.items place.list place.position
             → Reducing raw given self.new.bench.pair self.new.property self.new.start.items result.list
             result.position }
         ensures on { IsBefore place.list place.position result.list result.position }
     {
-        let reached = self.try_ranges(latches, cleared, pace, place);
+        let reached = self.try_ranges(known, cleared, pace, place);
         if is_before(place, reached) {
             return reached;
         }
-        self.try_value(latches, place);
+        self.try_value(&known.latches, place);
         self.note(pace, place);
         Place {
             list: place.list,
@@ -425,17 +426,17 @@ impl<G: Grid> Reducer<G> {
     // Tries the values from a place on, or goes on to the next list where there is none.
     fn step(
         &mut self,
-        latches: &[Latch],
+        known: &Known,
         cleared: &mut Vec<Cleared>,
         pace: &mut Pace,
         place: Place,
     ) -> Place
         requires empty { cleared.old.items ≡ [] }
         requires list { place.list ≤ length self.old.bench.pair.rows }
-        requires reducing { (raw : Raw) × (given : Witness) × (latches.now ≡ raw.latches)
+        requires reducing { (raw : Raw) × (given : Witness) × (Knows raw given known.now)
             × Reducing raw given self.old.bench.pair self.old.property self.old.start.items place.list place.position }
         ensures empty { cleared.new.items ≡ [] }
-        ensures reducing { (raw : Raw) (given : Witness) → latches.now ≡ raw.latches
+        ensures reducing { (raw : Raw) (given : Witness) → Knows raw given known.now
             → Reducing raw given self.old.bench.pair self.old.property self.old.start.items place.list place.position
             → Reducing raw given self.new.bench.pair self.new.property self.new.start.items result.list
             result.position }
@@ -449,21 +450,25 @@ impl<G: Grid> Reducer<G> {
                 position: 0,
             };
         }
-        if is_fixed(latches, place) {
-            return Place {
-                list: place.list,
-                position: place.position + 1,
-            };
+        let next = Place {
+            list: place.list,
+            position: place.position + 1,
+        };
+        if is_fixed(&known.latches, place) {
+            return next;
         }
-        self.try_place(latches, cleared, pace, place)
+        if known.needed.has(place) {
+            return next;
+        }
+        self.try_place(known, cleared, pace, place)
     }
 
-    /// Tries all starts and then all inputs. The latches are those of the circuit, with their own resets.
-    pub fn try_all(&mut self, latches: &[Latch], cleared: &mut Vec<Cleared>)
+    /// Tries all starts and then all inputs.
+    pub fn try_all(&mut self, known: &Known, cleared: &mut Vec<Cleared>)
         requires empty { cleared.old.items ≡ [] }
-        requires reducing { (raw : Raw) × (given : Witness) × (latches.now ≡ raw.latches)
+        requires reducing { (raw : Raw) × (given : Witness) × (Knows raw given known.now)
             × Reducing raw given self.old.bench.pair self.old.property self.old.start.items 0 0 }
-        ensures { (raw : Raw) (given : Witness) → latches.now ≡ raw.latches →
+        ensures { (raw : Raw) (given : Witness) → Knows raw given known.now →
             Reducing raw given self.old.bench.pair self.old.property self.old.start.items 0 0 →
             IsReduced raw given (record {
               property = self.new.property;
@@ -478,7 +483,7 @@ impl<G: Grid> Reducer<G> {
             position: 0,
         };
         'places: while place.list <= frames {
-            place = self.step(latches, cleared, &mut pace, place);
+            place = self.step(known, cleared, &mut pace, place);
         }
     }
 }

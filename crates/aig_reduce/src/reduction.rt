@@ -8,6 +8,7 @@ ghost use Rattle.aig_sim.specs.WitnessText.{IsAdmitted, IsDecimal, SpellsWitness
 ghost use Rattle.aig_reduce.specs.Answers.{AnswersReduction, RefusesReduction};
 
 use crate::fault::ReduceFault;
+use crate::needed::{Known, Needed};
 use crate::pace::ROOM;
 use crate::place::Cleared;
 use crate::reducer::Reducer;
@@ -137,7 +138,8 @@ impl Given {
 /// witness.
 ///
 /// Refused are, in this order, what `check_witness` refuses and more than 67,108,864 cells, `M + 1` a frame. All memory
-/// is taken before the first value is tried. Values that can all go are tried together, up to 65,536 at once. Between two
+/// is taken before the first value is tried. One look back over the run, in the time of its cells, finds values that are
+/// needed, and these are not tried. Values that can all go are tried together, up to 65,536 at once. Between two other
 /// values that are needed there are about as many looks as the logarithm of their distance. A look costs the constraints
 /// from the frame of the first of its values on, up to one that is not 1. Each value that is put costs the cells that it
 /// changes.
@@ -165,12 +167,14 @@ pub fn reduce_witness(
     if !is_confirmed(verdict) {
         return Ok(Reduction::Refused(verdict));
     }
+    let needed = Needed::of(alloc, &bench, property)?;
+    let known = Known { latches, needed };
     let mut cleared = make_room(alloc)?;
     let mut reducer = Reducer {
         bench,
         property,
         start,
     };
-    reducer.try_all(&latches, &mut cleared);
+    reducer.try_all(&known, &mut cleared);
     Ok(Reduction::Reduced(ReducedWitness { reducer }))
 }

@@ -1,9 +1,12 @@
-use Rattle.std.proofs.Common.{length, sym, ◌∙◌, subst}
+use Rattle.std.proofs.Common.{length, sym, ap, ◌∙◌, subst}
 use Rattle.std.proofs.lemmas.Bool.{false≢true}
 use Rattle.aig_sim.specs.Verdict.{IsVerdict}
 use Rattle.aig_sim.specs.WitnessText.{Witness}
 use Rattle.aig_sim.specs.declared.witness.verdict.Verdict.{Verdict}
 use Rattle.aig_sim.specs.declared.witness.verdict.Verdict.TheVariants.{Confirmed}
+use Rattle.aig_bench.specs.BenchState.{CircuitAndRows}
+use Rattle.aig_reduce.specs.state.Reducing.{Reducing}
+use Rattle.aig_reduce.proofs.NeededTries.{knows_begun}
 use Rattle.aig_reduce.proofs.Runs.{ok_is_no_error, reduction_begins, within_limit}
 use Rattle.aig_reduce.proofs.reduction.reduce_witness.Goals as goal
 
@@ -26,14 +29,17 @@ pub try_all-requires-clause-reducing : goal.try_all-requires-clause-reducing
 try_all-requires-clause-reducing c =
     let w = c.in_ok-verdict.field-0.witness in
     let given : Witness = record { property = w.property; start = w.start.items; rows = w.rows.rows } in
-    let read = c.in_ok-verdict.ensures in (
+    let read = c.in_ok-verdict.ensures in
+    let pair = c.in_ok-bench.bench.pair in
+    let begins : Reducing c.args.circuit given pair given.property given.start 0 0 =
+    reduction_begins c.args.circuit c.start_at.new.circuit c.args.text.now given pair read.circuit read.spelled read.admitted
+    (subst (λ (v : Verdict). IsVerdict c.args.circuit given v) (c.is_confirmed.ensures.0 c.if-not-is_confirmed.false)
+    read.verdict) c.start_at.ensures.resets (c.start_at.ensures.start ∙ c.deref.ensures.value) c.in_ok-bench.ensures.made in (
       c.args.circuit,
       given,
-      c.deref-2.ensures.value ∙ read.latches,
-      reduction_begins c.args.circuit c.start_at.new.circuit c.args.text.now given c.in_ok-bench.bench.pair read.circuit
-          read.spelled read.admitted
-          (subst (λ (v : Verdict). IsVerdict c.args.circuit given v) (c.is_confirmed.ensures.0 c.if-not-is_confirmed.false)
-          read.verdict) c.start_at.ensures.resets (c.start_at.ensures.start ∙ c.deref.ensures.value) c.in_ok-bench.ensures.made,
+      knows_begun c.args.circuit given pair begins (ap (λ (p : CircuitAndRows). p.rows) c.in_ok-bench.ensures.made) _
+          read.latches c.in_ok-needed.ensures.starts c.in_ok-needed.ensures.inputs,
+      begins,
     )
 
 pub returns-clause-reduced : goal.returns-clause-reduced
@@ -41,8 +47,12 @@ returns-clause-reduced c =
     let w = c.in_ok-verdict.field-0.witness in
     let given : Witness = record { property = w.property; start = w.start.items; rows = w.rows.rows } in
     let read = c.in_ok-verdict.ensures in
+    let pair = c.in_ok-bench.bench.pair in
     let confirmed : IsVerdict c.args.circuit given Confirmed =
-    subst (λ (v : Verdict). IsVerdict c.args.circuit given v) (c.is_confirmed.ensures.0 c.if-not-is_confirmed.false) read.verdict in (
+    subst (λ (v : Verdict). IsVerdict c.args.circuit given v) (c.is_confirmed.ensures.0 c.if-not-is_confirmed.false) read.verdict in
+    let begins : Reducing c.args.circuit given pair given.property given.start 0 0 =
+    reduction_begins c.args.circuit c.start_at.new.circuit c.args.text.now given pair read.circuit read.spelled read.admitted
+    confirmed c.start_at.ensures.resets (c.start_at.ensures.start ∙ c.deref.ensures.value) c.in_ok-bench.ensures.made in (
       given,
       record {
         text_is = read.spelled;
@@ -52,9 +62,8 @@ returns-clause-reduced c =
       },
       (
         confirmed,
-        c.try_all.ensures c.args.circuit given (c.deref-2.ensures.value ∙ read.latches)
-            (reduction_begins c.args.circuit c.start_at.new.circuit c.args.text.now given c.in_ok-bench.bench.pair read.circuit
-            read.spelled read.admitted confirmed c.start_at.ensures.resets (c.start_at.ensures.start ∙ c.deref.ensures.value)
-            c.in_ok-bench.ensures.made),
+        c.try_all.ensures c.args.circuit given
+            (knows_begun c.args.circuit given pair begins (ap (λ (p : CircuitAndRows). p.rows) c.in_ok-bench.ensures.made) _
+            read.latches c.in_ok-needed.ensures.starts c.in_ok-needed.ensures.inputs) begins,
       ),
     )

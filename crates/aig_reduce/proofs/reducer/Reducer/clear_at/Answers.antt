@@ -1,7 +1,8 @@
-use Rattle.std.proofs.Common.{suc, ◌+◌, ◌<◌, List, length, slice_get, refl, sym, ap, ◌∙◌, arith}
+use Rattle.std.proofs.Common.{suc, ◌+◌, ◌<◌, List, ◌∷◌, length, slice_get, refl, sym, ap, ◌∙◌, arith}
 use Rattle.std.proofs.lemmas.Bool.{false≢true}
 use Rattle.aig_parts.specs.declared.latch.Latch.{Latch}
 use Rattle.aig_reduce.proofs.Clearings.{clearing_at, clearing_fixed, clearing_named, clearing_x, item_there, runs_length, start_within}
+use Rattle.aig_reduce.proofs.NeededTries.{clearing_needed}
 use Rattle.aig_reduce.proofs.reducer.Reducer.clear_at.Goals as goal
 
 pub returns-then-is_fixed-clause-clearing : goal.returns-then-is_fixed-clause-clearing
@@ -14,7 +15,7 @@ returns-then-is_fixed-clause-clearing g c = λ raw given first e h.
     clearing_at raw given old.bench.pair old.property old.start.items first c.args.place.list (p + 1) 0 (suc p) (sym none)
     (omega arith)
     (clearing_fixed raw given old.property old.bench.pair old.start.items first p x lt at
-    (fixed x (ap (λ (ls : List Latch). slice_get ls p) e ∙ at))
+    (fixed x (ap (λ (ls : List Latch). slice_get ls p) (c.deref.ensures.value ∙ e.latches) ∙ at))
     (clearing_at raw given old.bench.pair old.property old.start.items first 0 p c.args.place.list p none refl h))
 
 pub returns-clause-clearing : goal.returns-clause-clearing
@@ -29,5 +30,16 @@ returns-clause-clearing g c = λ raw given first e h.
     (clearing_x raw given old.property old.bench.pair old.start.items first t p c.requires.place
     (λ none.
     let (x, at, over) = c.is_fixed.ensures.free (λ yes. false≢true (sym c.if-is_fixed.false ∙ yes)) none in
-    (x, ap (λ (ls : List Latch). slice_get ls p) (sym e) ∙ at, over))
-    h new.bench.pair new.start.items (c.clear_value.ensures.puts raw e h.runs)))
+    (x, ap (λ (ls : List Latch). slice_get ls p) (sym (c.deref.ensures.value ∙ e.latches)) ∙ at, over))
+    h new.bench.pair new.start.items (c.clear_value.ensures.puts raw (c.deref-2.ensures.value ∙ e.latches) h.runs)))
+
+pub returns-then-has-clause-clearing : goal.returns-then-has-clause-clearing
+returns-then-has-clause-clearing g c = λ raw given first e h.
+    let old = c.args.self.now in
+    let t = c.args.place.list in
+    let p = c.args.place.position in
+    let needed = c.args.known.now.needed in
+    let (w, n, at) = c.has.ensures c.if-has.true in
+    clearing_at raw given old.bench.pair old.property old.start.items first t (p + 1) t (suc p) refl (omega arith)
+    (clearing_needed raw given (needed.start.items ∷ needed.rows.rows) e.needed old.property h.property_is t p w at n
+    old.bench.pair old.start.items first c.requires.place h)

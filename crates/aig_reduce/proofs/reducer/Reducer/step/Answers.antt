@@ -2,6 +2,7 @@ use Rattle.std.proofs.Common.{inl, inr, suc, ◌+◌, ◌<◌, List, ◌∷◌, 
 use Rattle.std.proofs.lemmas.Bool.{false≢true}
 use Rattle.aig_parts.specs.declared.latch.Latch.{Latch}
 use Rattle.aig_reduce.proofs.Clearings.{item_there, no_place, reducing_at, start_within}
+use Rattle.aig_reduce.proofs.NeededTries.{reducing_needed}
 use Rattle.aig_reduce.proofs.Tries.{reducing_list, reducing_skips}
 use Rattle.aig_reduce.proofs.reducer.Reducer.step.Goals as goal
 
@@ -29,8 +30,22 @@ returns-then-is_fixed-clause-reducing g c = λ raw given e h.
     let (x, at) = item_there raw.latches p (omega (arith, lt, h.runs.confirmed.latches)) in
     reducing_at raw given old.bench.pair old.property old.start.items t (p + 1) 0 (suc p) (sym none) (omega arith)
     (reducing_skips raw given old.bench.pair old.property old.start.items p x lt at
-    (fixed x (ap (λ (ls : List Latch). slice_get ls p) e ∙ at))
+    (fixed x (ap (λ (ls : List Latch). slice_get ls p) (c.deref.ensures.value ∙ e.latches) ∙ at))
     (reducing_at raw given old.bench.pair old.property old.start.items 0 p t p none refl h))
 
 pub returns-then-is_fixed-clause-on : goal.returns-then-is_fixed-clause-on
 returns-then-is_fixed-clause-on g c = inr (refl, omega arith)
+
+pub returns-then-has-clause-reducing : goal.returns-then-has-clause-reducing
+returns-then-has-clause-reducing g c = λ raw given e h.
+    let old = c.args.self.now in
+    let t = c.args.place.list in
+    let p = c.args.place.position in
+    let needed = c.args.known.now.needed in
+    let (w, n, at) = c.has-2.ensures c.if-has.true in
+    reducing_at raw given old.bench.pair old.property old.start.items t (p + 1) t (suc p) refl (omega arith)
+    (reducing_needed raw given (needed.start.items ∷ needed.rows.rows) e.needed old.property h.property_is t p w at n
+    old.bench.pair old.start.items (c.has.ensures.0 c.if-not-has.false) h)
+
+pub returns-then-has-clause-on : goal.returns-then-has-clause-on
+returns-then-has-clause-on g c = inr (refl, omega arith)

@@ -22,7 +22,7 @@ try_value-requires-clause-reducing g c =
     (λ before. false≢true (sym c.if-is_before.false ∙ c.is_before.ensures.1 before)) in (
       raw,
       given,
-      e,
+      c.deref.ensures.value ∙ e.latches,
       reducing_at raw given new.bench.pair new.property new.start.items place.list place.position reached.list reached.position
           t_is p_is (c.try_ranges-reached.ensures.reducing raw given e h),
     )
@@ -40,7 +40,7 @@ returns-clause-reducing g c = λ raw given e h.
     (λ before. false≢true (sym c.if-is_before.false ∙ c.is_before.ensures.1 before)) in
     reducing_at raw given new.bench.pair new.property new.start.items place.list (place.position + 1) place.list
     (suc place.position) refl (omega arith)
-    (c.try_value.ensures raw given e
+    (c.try_value.ensures raw given (c.deref.ensures.value ∙ e.latches)
     (reducing_at raw given now.bench.pair now.property now.start.items place.list place.position reached.list reached.position
     t_is p_is (c.try_ranges-reached.ensures.reducing raw given e h)))
 

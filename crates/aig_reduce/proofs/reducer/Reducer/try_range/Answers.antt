@@ -56,7 +56,7 @@ take_back-requires g c =
     let k = c.clear-reached.ensures.clearing raw given first e begins in (
       raw,
       was,
-      e,
+      c.deref.ensures.value ∙ e.latches,
       k.runs,
       c.clear-reached.ensures.undoes raw given first was e begins
           (undoes_nothing c.args.cleared.now.items was c.requires.empty),
@@ -71,7 +71,7 @@ returns-clause-reducing g c = λ raw given e h.
     let begins = clearing_begins raw given old.property old.bench.pair old.start.items t p h in
     let was = old.start.items ∷ old.bench.pair.rows in
     let k = c.clear-reached.ensures.clearing raw given (t - 1) e begins in
-    let (runs, same) = c.take_back.ensures.runs raw was e k.runs
+    let (runs, same) = c.take_back.ensures.runs raw was (c.deref.ensures.value ∙ e.latches) k.runs
     (c.clear-reached.ensures.undoes raw given (t - 1) was e begins (undoes_nothing c.args.cleared.now.items was c.requires.empty)) in
     reducing_named raw given new.bench.pair new.property old.property new.start.items t p
     (c.take_back.ensures.property ∙ k.property_is ∙ sym h.property_is)

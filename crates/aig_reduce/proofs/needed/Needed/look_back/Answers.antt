@@ -1,0 +1,52 @@
+use Rattle.std.proofs.Common.{◌≡◌, ℕ, suc, ◌-◌, Bool, Global, Vec, length, refl, sym, ap, ◌∙◌, subst, arith}
+use Rattle.aig_parts.specs.declared.ternary.Tern.{Tern}
+use Rattle.aig_reduce.specs.state.Needed.{AreNeeded, AreNeededStarts}
+use Rattle.aig_reduce.proofs.needed.Needed.look_back.Goals as goal
+
+pub frames-init : goal.frames-init
+frames-init g c = record {
+  frame = omega (arith, c.frames-frame.ensures);
+  here = refl;
+  ahead = c.requires.ahead ∙ sym c.requires.here;
+  marked = λ v m. absurd (c.requires.none v m);
+  start = refl;
+  width = refl;
+  rows = refl;
+  inputs = λ h. h;
+}
+
+pub frames-preserved : goal.frames-preserved
+frames-preserved g c =
+    let p = c.args.bench.now.pair in
+    let property = c.args.property in
+    let t = c.frames.frame - 1 in
+    let inv = c.frames.invariant in
+    let next : c.frames.frame ≡ suc t = omega (arith, c.frames-test.true) in
+    let ahead : AreNeeded p property (suc t) c.deref.result.now =
+    subst (λ (n : ℕ). AreNeeded p property n c.deref.result.now) next
+    (subst (AreNeeded p property c.frames.frame)
+    (sym (c.deref.ensures.value ∙ ap (λ (v : Vec Bool Global). v.items) c.swap.ensures.y_after)) inv.marked) in
+    let here : AreNeeded p property t c.mark_frame.new.marks.items = c.mark_frame.ensures.needed ahead in
+    record {
+      frame = omega (arith, inv.frame);
+      here = c.mark_frame.ensures.size ∙ ap (λ (v : Vec Bool Global). length v.items) c.swap.ensures.x_after ∙ inv.ahead;
+      ahead = ap (λ (v : Vec Bool Global). length v.items) c.swap.ensures.y_after ∙ inv.here;
+      marked = here;
+      start = inv.start;
+      width = c.keep_inputs.ensures.width ∙ inv.width;
+      rows = c.keep_inputs.ensures.rows ∙ inv.rows;
+      inputs = λ all.
+          c.keep_inputs.ensures.needed property (subst (AreNeeded p property t) (sym c.deref-in-frames.ensures.value) here)
+          (inv.inputs all);
+    }
+
+pub returns-clause-starts : goal.returns-clause-starts
+returns-clause-starts g c = λ all.
+    let p = c.args.bench.now.pair in
+    let property = c.args.property in
+    let none : c.frames.frame ≡ 0 = omega (arith, c.frames-test.false) in
+    let first : AreNeeded p property 0 c.deref-2.result.now =
+    subst (AreNeeded p property 0) (sym c.deref-2.ensures.value)
+    (subst (λ (n : ℕ). AreNeeded p property n c.frames.marks.here.items) none c.frames.invariant.marked) in
+    c.keep_starts.ensures property first
+    (subst (λ (s : Vec Tern Global). AreNeededStarts p property s.items) (sym c.frames.invariant.start) all)

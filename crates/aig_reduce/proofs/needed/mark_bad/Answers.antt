@@ -1,0 +1,28 @@
+use Rattle.std.proofs.Common.{◌≡◌, suc, ◌≤◌, length, Some, slice_get, ap, ◌∙◌, arith}
+use Rattle.aig_parts.specs.Literal.{variable}
+use Rattle.aig_parts.specs.declared.raw.Raw.{Raw}
+use Rattle.aig_sim.proofs.VerdictLemmas.{bad_in_range}
+use Rattle.aig_values.proofs.Evaluation.{item_at}
+use Rattle.aig_reduce.proofs.NeededLemmas.{bad_needed, none_added, one_added}
+use Rattle.aig_reduce.proofs.needed.mark_bad.Goals as goal
+
+pub mark-requires : goal.mark-requires
+mark-requires g c =
+    let raw = c.args.bench.now.pair.circuit in
+    let same = c.bad.ensures ∙ ap (λ (r : Raw). r.bad) c.circuit.ensures in
+    let l = c.index-bad-property.result in
+    let at : slice_get raw.bad c.args.property ≡ Some l =
+    item_at _ _ c.args.property l same (omega (arith, c.requires.property, ap length same)) c.index-bad-property.is in
+    let within : variable l ≤ raw.max_var = bad_in_range raw c.width.ensures.circuit.sound c.args.property l at in
+    omega (arith, within, c.requires.size)
+
+pub returns : goal.returns
+returns g c =
+    let p = c.args.bench.now.pair in
+    let same = c.bad.ensures ∙ ap (λ (r : Raw). r.bad) c.circuit.ensures in
+    let l = c.index-bad-property.result in
+    let at : slice_get p.circuit.bad c.args.property ≡ Some l =
+    item_at _ _ c.args.property l same (omega (arith, c.requires.property, ap length same)) c.index-bad-property.is in
+    one_added p c.args.property c.args.frame (variable l) c.args.marks.now.items c.mark.new.marks.items c.mark.ensures
+    (λ _. bad_needed p c.width.ensures.circuit c.width.ensures.rows c.args.property c.args.frame l
+    (omega (arith, c.requires.frame, c.frames.ensures, c.if-frame-frames.false)) at)

@@ -1,0 +1,67 @@
+-- Values that a run needs, whichever others become x.
+use Rattle.std.specs.Prelude.{◌≡◌, ◌≢◌, ℕ, ◌-◌, ◌*◌, ◌<◌, List, Bool, ◌∷◌, length, Some, slice_get}
+use Rattle.std.specs.List.{AllZip}
+use Rattle.aig_parts.specs.declared.gate.Gate.{Gate}
+use Rattle.aig_parts.specs.declared.ternary.Tern.{Tern}
+use Rattle.aig_parts.specs.declared.ternary.Tern.TheVariants.{One, X}
+use Rattle.aig_parts.specs.declared.raw.Raw.{Raw}
+use Rattle.aig_base.specs.Value.{Value, start_of}
+use Rattle.aig_base.specs.state.Marks.{IsMarked}
+use Rattle.aig_sim.specs.WitnessText.{Witness}
+use Rattle.aig_values.specs.InputRows.{row_at}
+use Rattle.aig_bench.specs.BenchState.{CircuitAndRows}
+use Rattle.aig_reduce.specs.declared.needed.Known.{Known}
+use Rattle.aig_reduce.specs.Irreducible.{IsSameOrX}
+use Rattle.aig_reduce.specs.Reduction.{values_of}
+use Rattle.aig_reduce.specs.state.Reducing.{Confirms}
+
+-- each of these gates is one of the circuit
+abbrev pub AreItsGates : Raw → List Gate → Type 0
+AreItsGates raw gates = (i : ℕ) (g : Gate) → slice_get gates i ≡ Some g → (q : ℕ) × (slice_get raw.gates q ≡ Some g)
+
+-- a run with the values of the pair or x in which all constraints are 1, and at the last frame the property
+pub record StillReaches (p : CircuitAndRows) (property : ℕ) (start : List Tern) (rows : List (List Tern)) : Type 0 where
+  pub starts : AllZip IsSameOrX start (start_of p.circuit)
+  pub inputs : AllZip (AllZip IsSameOrX) rows p.rows
+  pub constrained : (t i l : ℕ) → t < length p.rows → slice_get p.circuit.constraints i ≡ Some l
+      → Value p.circuit start rows t l One
+  pub bad : (l : ℕ) → slice_get p.circuit.bad property ≡ Some l → Value p.circuit start rows (length p.rows - 1) l One
+
+-- in no such run is the variable x at the frame
+abbrev pub IsNeeded : CircuitAndRows → ℕ → ℕ → ℕ → Type 0
+IsNeeded p property t v =
+    (start : List Tern) (rows : List (List Tern)) → StillReaches p property start rows
+    → Value p.circuit start rows t (2 * v) X → ⊥
+
+abbrev pub AreNeeded : CircuitAndRows → ℕ → ℕ → List Bool → Type 0
+AreNeeded p property t marks = (v : ℕ) → IsMarked marks v → IsNeeded p property t v
+
+-- marks were added, only of what is needed at the frame
+pub record AddsNeeded (p : CircuitAndRows) (property t : ℕ) (old new : List Bool) : Type 0 where
+  pub size : length new ≡ length old
+  pub needed : AreNeeded p property t old → AreNeeded p property t new
+
+-- in no such run is a value of these rows x that is not x in them
+abbrev pub AreNeededInputs : CircuitAndRows → ℕ → List (List Tern) → Type 0
+AreNeededInputs p property needed =
+    (t i : ℕ) (w : Tern) → slice_get (row_at needed t) i ≡ Some w → w ≢ X
+    → (start : List Tern) (rows : List (List Tern)) → StillReaches p property start rows
+    → slice_get (row_at rows t) i ≡ Some X → ⊥
+
+abbrev pub AreNeededStarts : CircuitAndRows → ℕ → List Tern → Type 0
+AreNeededStarts p property needed =
+    (i : ℕ) (w : Tern) → slice_get needed i ≡ Some w → w ≢ X
+    → (start : List Tern) (rows : List (List Tern)) → StillReaches p property start rows
+    → slice_get start i ≡ Some X → ⊥
+
+-- no confirmed witness that has the values of the given one or x has x at a place where these values are not x
+abbrev pub AreNeededIn : Raw → Witness → List (List Tern) → Type 0
+AreNeededIn raw given needed =
+    (t i : ℕ) (w : Tern) → slice_get (row_at needed t) i ≡ Some w → w ≢ X
+    → (values : List (List Tern)) → AllZip (AllZip IsSameOrX) values (values_of given)
+    → Confirms raw given.property values → slice_get (row_at values t) i ≡ Some X → ⊥
+
+-- what is known of the given witness: the latches of its circuit, and values that it needs
+pub record Knows (raw : Raw) (given : Witness) (known : Known) : Type 0 where
+  pub latches : known.latches.items ≡ raw.latches
+  pub needed : AreNeededIn raw given (known.needed.start.items ∷ known.needed.rows.rows)
