@@ -1,9 +1,9 @@
 # Names the assertions of a design, one per line, in the order of the bad state properties that Yosys writes.
 # usage: awk -f assertions.awk DUMP NAMES
 #
-# DUMP and NAMES are what Yosys writes by `dump t:$assert` and `select -write NAMES t:$assert`. An assertion with a label has
-# the label, and any other one its file and the line on which it ends. (The names that Yosys makes of such assertions have
-# the line of the text before them.) The names of the instances that it is in come first.
+# DUMP and NAMES are what Yosys writes by `dump t:$assert` and `select -write NAMES t:$assert`. An assertion with a
+# label has the label, and any other one its file and the line on which it ends. (The names that Yosys makes of such
+# assertions have the line of the text before them.) The names of the instances that it is in come first.
 
 FNR == NR && $1 == "attribute" && $2 == "\\src" {
     place = $0

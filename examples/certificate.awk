@@ -1,9 +1,9 @@
 # Makes a certificate of an invariant that ABC's `pdr` found.
 # usage: awk -f certificate.awk ONE.aag INV.pla > CERTIFICATE.aag
 #
-# ONE.aag is the circuit that fold.awk read, and INV.pla is what ABC wrote of the folded one, with `undc` before `pdr`. Each
-# line of INV.pla is a cube of states that no run reaches, with one column per latch. Each cube becomes a bad state
-# property of the certificate. What a column is:
+# ONE.aag is the circuit that fold.awk read, and INV.pla is what ABC wrote of the folded one, with `undc` before
+# `pdr`. Each line of INV.pla is a cube of states that no run reaches, with one column per latch. Each cube becomes a
+# bad state property of the certificate. What a column is:
 # - lq is latch q of the circuit. ABC turns a latch that starts at 1, so its column is the other way round. An
 #   uninitialised latch is 0 for ABC at the first frame, and has its value from the second frame on: its column is the AND
 #   of the latch and of `started`, a latch of the certificate's own that is 0 at the first frame only.

@@ -1,11 +1,12 @@
 #!/bin/sh
-# Proves that no run of a circuit reaches a bad state: ABC searches for an invariant, and `aig` checks it as a certificate.
+# Proves that no run of a circuit reaches a bad state: ABC searches for an invariant, and `aig` checks it as a
+# certificate.
 # usage: examples/certify.sh CIRCUIT [PROPERTY]
 #
 # PROPERTY is the position of the bad state property, 0 if it is left out. The results go into the current folder:
-# certificate.aag (the certificate), certificate.cnf (the formula) and certificate.drat (the proof). ABC's `pdr` may take 60
-# seconds; LIMIT sets another number. The script needs `aig`, `awk`, `berkeley-abc` and the SAT solver `cadical`; AIG, ABC
-# and SOLVER name other programs. docs/FLOW.md explains each step.
+# certificate.aag (the certificate), certificate.cnf (the formula) and certificate.drat (the proof). ABC's `pdr` may
+# take 60 seconds; LIMIT sets another number. The script needs `aig`, `awk`, `berkeley-abc` and the SAT solver
+# `cadical`; AIG, ABC and SOLVER name other programs. docs/FLOW.md explains each step.
 #
 # The status is 0 if the property is proved, 4 if ABC finds neither a run nor an invariant, and 5 if it finds a run.
 set -eu
@@ -35,7 +36,8 @@ if ! grep -q '^Property proved' "$work/log"; then
     exit 4
 fi
 
-# The invariant becomes a certificate. `aig` writes the formula that the certificate is wrong, and the solver refutes it.
+# The invariant becomes a certificate. `aig` writes the formula that the certificate is wrong, and the solver refutes
+# it.
 awk -f "$here/certificate.awk" "$work/one.aag" "$work/inv.pla" > certificate.aag
 "$aig" cnf --certificate certificate.aag --property "$property" "$circuit" > certificate.cnf
 status=0

@@ -1,9 +1,11 @@
-# Makes one output of a circuit's bad state property and its constraints, for model checkers that look for outputs alone.
+# Makes one output of a circuit's bad state property and its constraints, for model checkers that look for outputs
+# alone.
 # usage: awk -f examples/fold.awk ONE.aag > FOLDED.aag
 #
 # ONE.aag is what `aig select --to aag --property P` writes: a circuit with one bad state property and no outputs. The
-# output is 1 where the property is, and all constraints were 1 up to that frame. A new latch, `failed`, remembers that a
-# constraint was 0. Latch q gets the name lq: a name of the circuit may have blanks, which ABC takes for several names.
+# output is 1 where the property is, and all constraints were 1 up to that frame. A new latch, `failed`, remembers
+# that a constraint was 0. Latch q gets the name lq: a name of the circuit may have blanks, which ABC takes for
+# several names.
 
 NR == 1 { M = $2; I = $3; L = $4; A = $6; C = $8 + 0; next }
 NR <= 1 + I { input[NR - 2] = $0; next }

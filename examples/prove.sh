@@ -1,14 +1,15 @@
 #!/bin/sh
-# Proves that no run of a circuit reaches a bad state, by k-induction or else by an invariant, and has `aig` check the proof.
+# Proves that no run of a circuit reaches a bad state, by k-induction or else by an invariant, and has `aig` check the
+# proof.
 # usage: examples/prove.sh CIRCUIT [PROPERTY [MOST]]
 #
-# PROPERTY is the position of the bad state property, 0 if it is left out. Induction is tried with 1, 2, .. MOST frames (20
-# if it is left out). Many properties hold and have no such proof, whatever the number of frames is. If there is none, the
-# script `certify.sh` beside this one has ABC search for an invariant.
+# PROPERTY is the position of the bad state property, 0 if it is left out. Induction is tried with 1, 2, .. MOST
+# frames (20 if it is left out). Many properties hold and have no such proof, whatever the number of frames is. If
+# there is none, the script `certify.sh` beside this one has ABC search for an invariant.
 #
-# The formulas and proofs go into the current folder: base.cnf, base.drat, step.cnf and step.drat, and those of certify.sh.
-# Standard error says what was tried. The script needs `aig` and the SAT solver `cadical`, and for an invariant
-# `berkeley-abc` and `awk`; AIG, SOLVER and ABC name other programs.
+# The formulas and proofs go into the current folder: base.cnf, base.drat, step.cnf and step.drat, and those of
+# certify.sh. Standard error says what was tried. The script needs `aig` and the SAT solver `cadical`, and for an
+# invariant `berkeley-abc` and `awk`; AIG, SOLVER and ABC name other programs.
 #
 # The status is 0 if the property is proved, 4 if neither way proves it, and 5 if a run reaches it.
 set -eu

@@ -2,18 +2,19 @@
 # Finds a checked verdict on a bad state property of a circuit: a shortest run to it, or a proof that there is none.
 # usage: examples/verdict.sh CIRCUIT [PROPERTY]
 #
-# PROPERTY is the position of the bad state property, 0 if it is left out. The script prints one line: the verdict, what it
-# was found by, and the files that show it, with tabs between. These files go into the current folder, and begin with the
-# name of the circuit and the position. Verdicts:
+# PROPERTY is the position of the bad state property, 0 if it is left out. The script prints one line: the verdict,
+# what it was found by, and the files that show it, with tabs between. These files go into the current folder, and
+# begin with the name of the circuit and the position. Verdicts:
 #   confirmed             a run reaches the property, and no shorter one does: a witness, with x in place of values that the
 #                         failure does not need
 #   unreachable           no run of any length reaches it: proofs of an induction, or a certificate and a proof
 #   unreachable within K  no run of K frames reaches it, and nothing more is known
-#   vacuous               no run reaches it, for none keeps the constraints for MOST frames
+#   vacuous               no run reaches it, for none keeps the constraints for MOST frames: a proof
 #
 # Runs and inductions of 1, 2, .. MOST frames are tried (20), and then an invariant of ABC, by certify.sh beside this
-# script. Each question to the solver or to ABC may take LIMIT seconds (60). The script needs `aig`, `awk` and `cadical`, and
-# for invariants `berkeley-abc`; AIG, SOLVER and ABC name other programs, by a name on the PATH or by a full path.
+# script. Each question to the solver or to ABC may take LIMIT seconds (60). The script needs `aig`, `awk` and
+# `cadical`, and for invariants `berkeley-abc`; AIG, SOLVER and ABC name other programs, by a name on the PATH or by a
+# full path.
 #
 # The status is 0 for `unreachable`, 4 for `unreachable within` and `vacuous`, and 5 for `confirmed`.
 set -eu
@@ -31,22 +32,11 @@ trap 'rm -rf "$work"' EXIT
 trap 'exit 130' HUP INT TERM
 cp "$circuit" "$work/circuit"
 
-# Solves a formula and writes a model or a proof; the status is 10 if it is satisfiable, 20 if it is not, else unknown.
+# Solves a formula and writes a model or a proof; the status is 10 if it is satisfiable, 20 if it is not, else
+# unknown.
 solve() {
     status=0
     "$solver" -q -t "$limit" "$work/$1.cnf" "$work/$1.drat" > "$work/$1.model" || status=$?
-}
-
-# Whether some run keeps all constraints for MOST frames. The formula is that of a property that is always 1, at the last
-# frame.
-is_alive() {
-    "$aig" select --to aag --property "$property" "$circuit" |
-        awk 'NR == 1 { bad = 2 + $3 + $4 } NR == bad { $0 = 1 } { print }' > "$work/alive.aag"
-    "$aig" cnf --frames "$most" "$work/alive.aag" |
-        awk '$1 == "c" && $2 == "b" { last = $3 } $1 == "p" { goal = NR + 2 } NR == goal { $0 = last " 0" } { print }' \
-            > "$work/alive.cnf"
-    solve alive
-    [ "$status" != 20 ]
 }
 
 # Prints a verdict and ends.
@@ -59,9 +49,17 @@ answer() {
     esac
 }
 
-# Prints that no run reaches the property, if some run keeps the constraints.
+# Prints that no run reaches the property, unless no run keeps the constraints for MOST frames.
 answer_unreachable() {
-    is_alive || answer vacuous "no run of $most" "$3"
+    if "$aig" cnf --alive --frames "$most" "$circuit" > "$work/alive.cnf"; then
+        solve alive
+        if [ "$status" = 20 ]; then
+            rm -f "$name".*.drat "$name.cert.aag"
+            cp "$work/alive.drat" "$name.alive.drat"
+            said=$("$aig" refute --alive --frames "$most" "$circuit" "$name.alive.drat")
+            answer vacuous "$said" "$name.alive.drat"
+        fi
+    fi
     answer "$1" "$2" "$3"
 }
 
@@ -69,7 +67,8 @@ frames=1
 known=0
 while [ "$frames" -le "$most" ]; do
     echo "$name: $frames of $most frames" >&2
-    "$aig" cnf --frames "$frames" --property "$property" "$circuit" > "$work/base.cnf"
+    # The formula of so many frames may be over a limit.
+    "$aig" cnf --frames "$frames" --property "$property" "$circuit" > "$work/base.cnf" || break
     solve base
     if [ "$status" = 10 ]; then
         if [ "$known" != 0 ]; then
@@ -83,7 +82,7 @@ while [ "$frames" -le "$most" ]; do
     [ "$status" = 20 ] || break
     known=$frames
     cp "$work/base.drat" "$name.base.drat"
-    "$aig" cnf --step --frames "$frames" --property "$property" "$circuit" > "$work/step.cnf"
+    "$aig" cnf --step --frames "$frames" --property "$property" "$circuit" > "$work/step.cnf" || break
     solve step
     if [ "$status" = 20 ]; then
         cp "$work/step.drat" "$name.step.drat"

@@ -2,11 +2,11 @@
 # Prints a table of checked verdicts on all assertions of a Verilog design.
 # usage: examples/verdicts.sh TOP FILE.v ..
 #
-# TOP is the top module. The columns are the position of the bad state property, the assertion (its label, or its file and
-# the line where it ends), the verdict, what it was found by, and the files that show it. verdict.sh beside this script finds each verdict, and
-# says what the verdicts are, and which variables of the environment set bounds and name programs. The circuit goes into
-# TOP.aig in the current folder. JOBS properties are worked on at once, one per processor if it is left out. The script
-# needs `yosys` too.
+# TOP is the top module. The columns are the position of the bad state property, the assertion (its label, or its file
+# and the line where it ends), the verdict, what it was found by, and the files that show it. verdict.sh beside this
+# script finds each verdict, and says what the verdicts are, and which variables of the environment set bounds and
+# name programs. The circuit goes into TOP.aig in the current folder. JOBS properties are worked on at once, one per
+# processor if it is left out. The script needs `yosys` too.
 #
 # A frame is one clock cycle. If registers have several clocks, or both edges of one, a frame is the time between any
 # changes of clocks (`clk2fflogic`), and a line says so.
@@ -21,8 +21,9 @@ work=$(mktemp -d)
 trap 'rm -rf "$work"' EXIT
 trap 'exit 130' HUP INT TERM
 
-# Verilog to AIGER, with a pass for the clocks: each `assert` becomes a bad state property, each `assume` a constraint.
-# `$work/names` has the cell of each property in their order, `$work/cells` these cells, and `$work/registers` all registers.
+# Verilog to AIGER, with a pass for the clocks: each `assert` becomes a bad state property, each `assume` a
+# constraint. `$work/names` has the cell of each property in their order, `$work/cells` these cells, and
+# `$work/registers` all registers.
 make_circuit() {
     yosys -q -p "read_verilog -sv -formal $files; prep -flatten -top $top; $1; chformal -cover -remove; memory_map; opt -full
         techmap; opt -fast; dffunmap; tee -q -o $work/registers dump t:\$_DFF_?_; setundef -anyseq; aigmap; opt_clean

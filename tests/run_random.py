@@ -1,10 +1,11 @@
 #!/usr/bin/env python3
 """Runs the built program on files made at random: broken ones through every subcommand; scripts, whose replies have to
-be those of a plain workbench; dumps, in which a plain reader has to find the trace; runs of witnesses; formulas;
-selections of properties; witnesses of runs; reduced witnesses; and certificates, beside a search of all states. The gate runs a few hundred cases of each; --count
-and --seed choose others."""
+be those of a plain workbench; dumps, in which a plain reader has to find the trace; runs of witnesses; formulas, also of
+whether a run keeps the constraints; selections of properties; witnesses of runs; reduced witnesses; and certificates,
+beside a search of all states. The gate runs a few hundred cases of each; --count and --seed choose others."""
 
 from at_random import cases
+from at_random.alive import alive
 from at_random.certificates import certificates
 from at_random.formulas import formulas
 from at_random.hostile import hostile
@@ -17,7 +18,8 @@ from at_random.witnesses import witnesses
 from library import runs
 
 PARTS = {"hostile": hostile, "scripts": scripts, "waves": waves, "replays": replays, "formulas": formulas,
-         "selections": selections, "witnesses": witnesses, "reductions": reductions, "certificates": certificates}
+         "alive": alive, "selections": selections, "witnesses": witnesses, "reductions": reductions,
+         "certificates": certificates}
 
 if __name__ == "__main__":
     runs.main(__doc__, PARTS, options=cases.options)

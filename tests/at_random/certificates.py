@@ -8,6 +8,8 @@ from at_random.waves import renamed
 from library.all_states import broken_by, model_of, reaches, run_of
 from library.broken import circuit
 from library.certificate import clauses_of, formula, proof_of, strengthened
+from library.dimacs import read_formula
+from library.families import searched
 from library.plain_reader import Fault, Parts, Reader, in_order, spelled
 from library.runs import Ended, refused, write
 
@@ -223,6 +225,8 @@ def verdict_of(program, rng):
     if got != Ended(0, formula(x), b""):
         raise Wrong(f"another formula: {got}")
     broken = broken_by(x)
+    write("x", program.run("strengthen", "--to", "aag", *words).out)
+    agrees(program, broken is None)
     if broken is None:
         if is_reached:
             raise Wrong("start and step keep the property, and a run reaches it")
@@ -239,6 +243,18 @@ def verdict_of(program, rng):
     return "wrong at the start" if len(broken) == 1 else "wrong in a step"
 
 
+def agrees(program, is_right):
+    """The induction over one frame of the strengthened circuit, of two formulas, goes as that of one formula."""
+    found = []
+    for name, words in (("base", []), ("step", ["--step"])):
+        _, _, clauses = read_formula(program.run("cnf", *words, "--frames", "1", "x").out.decode())
+        found.append(searched(clauses) is not None)
+        write(name, proof_of(clauses) if found[-1] else "")
+    got = program.run("refute", "--frames", "1", "--step", "step", "x", "base")
+    if all(found) != is_right or (got == UNREACHABLE) != is_right:
+        raise Wrong(f"base and step are refuted: {found}; {got}")
+
+
 def fails(program, words, x, broken):
     """A solver's model of these rows is the run over them, and its trace shows that a part fails in the last one alone."""
     write("found", model_of(x, broken))
@@ -246,7 +262,6 @@ def fails(program, words, x, broken):
     if got != Ended(0, run_of(x, broken), b""):
         raise Wrong(f"another run: {got}, wanted {run_of(x, broken)}")
     write("run", got.out)
-    write("x", program.run("strengthen", "--to", "aag", *words).out)
     *lines, verdict = program.run("check", "--trace", "x", "run").out.decode().splitlines()
     parts = [line.split(" ")[2] for line in lines]
     if ["1" in values for values in parts] != [False, True][-len(broken):]:

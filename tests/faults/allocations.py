@@ -38,6 +38,8 @@ RUNS = (
     ("refute with a step", ["refute", "--frames", "1", "--step", "step", "never", "proof"]),
     ("reduce", ["reduce", f"{EXAMPLES}/wraps.aag", f"{EXAMPLES}/wraps.wit"]),
     ("cnf of a step", ["cnf", "--step", "--frames", "3", "guarded_latch"]),
+    ("cnf of a run", ["cnf", "--alive", "--frames", "3", "guarded_latch"]),
+    ("refute of a run", ["refute", "--alive", "--frames", "1", "never_kept", "proof"]),
     ("select", ["select", "--to", "aag", "--property", "0", "--property", "0", "sections"]),
     ("strengthen", ["strengthen", "--to", "aag", "--certificate", "claims", "--property", "1", "named"]),
     ("strengthen that renumbers", ["strengthen", "--to", "aig", "--certificate", "claims", "named"]),
@@ -101,9 +103,10 @@ WITHOUT_MEMORY = (
 def allocations(program, tally, _):
     beneath = Refusing(program, "refuse_allocation")
     write_all()
-    for name, text in (("never", NEVER), ("proof", "2 3 0\n2 0\n"), ("step", "4 0\n"), ("model", "-2 3 4 5 0\n"),
-                       ("named", NAMED), ("claims", CLAIMS), ("start", "-2 8 -9 10 0\n"), ("no_claim", "aag 0 0 0 0 0\n"),
-                       ("never_proof", "-12 2 0\n-12 0\n4 0\n")):
+    never_kept = NEVER.replace("7 1\n", "7 0 1\n")
+    for name, text in (("never", NEVER), ("never_kept", never_kept), ("proof", "2 3 0\n2 0\n"), ("step", "4 0\n"),
+                       ("model", "-2 3 4 5 0\n"), ("named", NAMED), ("claims", CLAIMS), ("start", "-2 8 -9 10 0\n"),
+                       ("no_claim", "aag 0 0 0 0 0\n"), ("never_proof", "-12 2 0\n-12 0\n4 0\n")):
         write(name, text)
     for name, words in RUNS:
         each(beneath, tally, name, words)

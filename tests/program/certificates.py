@@ -5,6 +5,7 @@ cut or changed at a byte, beside an explicit search of all states."""
 from library.all_states import broken_by, model_of, reaches, run_of
 from library.certificate import clauses_of, formula, proof_of, strengthened
 from library.circuits import TEXTS, write_all
+from library.dump_reader import Dump
 from library.plain_reader import Fault, Reader, in_order, spelled, test_parts
 from library.runs import EXAMPLES, Ended, contents, refused, write
 from program.rows import Rows, data
@@ -171,6 +172,9 @@ def ring(rows):
     x = spelled(circuit_of(RING, ONE_CLAIM), "aag")
     rows.gives("the claim that it breaks", "check --trace x run", "011  00 101\n101  01 110\ninitial 0\n", 1, x=x,
                run=ONE_CLAIM_RUN)
+    shown = Dump(rows.run("wave", "--witness", "x", "run").out)
+    rows.tally.compare("certificates: the dump of the run", (shown.of("latches"), shown.of("outputs")),
+                       (["011", "101"], ["00", "01"]))
 
 
 def circuit_of(model, certificate, asked=0):

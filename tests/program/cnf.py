@@ -47,7 +47,26 @@ STEPS = (
      "-6 3 0\n-6 -1 0\n6 -3 1 0\n-7 6 0\n-7 2 0\n7 -6 -2 0\n-8 6 0\n-8 5 0\n8 -6 -5 0\n-9 8 0\n-9 4 0\n9 -8 -4 0\n"),
 )
 
+# The formulas that a run keeps all constraints.
+ALIVE = (
+    ("constraints and a bad state", "--alive --frames 2 guarded", TEXTS["guarded"],
+     "c i 2 0 0 \nc i 3 0 1 \nc i 4 1 0 \nc i 5 1 1 \nc b 7 0\nc b 9 1\np cnf 9 14\n-1 0\n9 0\n"
+     "-6 3 0\n-6 -1 0\n6 -3 1 0\n-7 6 0\n-7 -1 0\n7 -6 1 0\n-8 6 0\n-8 5 0\n8 -6 -5 0\n-9 8 0\n-9 -1 0\n9 -8 1 0\n"),
+    ("constraints without a bad state", "--frames 1 --alive contradicts", "aag 1 1 0 0 0 0 2\n2\n2\n3\ni0 in\nc1 no\n",
+     "c i 2 0 0 in\nc b 5 0\np cnf 5 11\n-1 0\n5 0\n"
+     "-3 2 0\n-3 -1 0\n3 -2 1 0\n-4 3 0\n-4 -2 0\n4 -3 2 0\n-5 4 0\n-5 -1 0\n5 -4 1 0\n"),
+    ("no constraint", "--alive --frames 3 toggles", TOGGLES,
+     "c b -1 0\nc b -1 1\nc b -1 2\np cnf 1 2\n-1 0\n-1 0\n"),
+    ("properties, which are ignored, and names", "--alive --frames 1 sections", TEXTS["sections"],
+     "c i 2 0 0 in\nc l 3 0 state\nc b 6 0\np cnf 6 11\n-1 0\n6 0\n"
+     "-4 3 0\n-4 2 0\n4 -3 -2 0\n-5 3 0\n-5 -1 0\n5 -3 1 0\n-6 5 0\n-6 -1 0\n6 -5 1 0\n"),
+)
+
 REFUSALS = (
+    ("no frames of a run", "--alive --frames 0 guarded", "cnf: no frames"),
+    ("a run of more frames than there may be", "--alive --frames 65537 guarded", "cnf: limit"),
+    ("a run of the greatest number of frames", "--alive --frames 4294967295 guarded", "cnf: limit"),
+    ("a run of a refused circuit", "--alive --frames 0 cycle", "circuit: cycle 2"),
     ("a step of no frames", "--step --frames 0 --property 7 guarded", "cnf: no frames"),
     ("a step without the property", "--step --frames 65536 --property 1 guarded", "cnf: property"),
     ("a step of as many frames as there may be", "--step --frames 65536 bad_input", "cnf: limit"),
@@ -76,6 +95,9 @@ def cnf(program, tally, _):
         write(words.split(" ")[-1], circuit)
         rows.gives(name, f"cnf {words}", text)
     for name, words, circuit, text in STEPS:
+        write(words.split(" ")[-1], circuit)
+        rows.gives(name, f"cnf {words}", text)
+    for name, words, circuit, text in ALIVE:
         write(words.split(" ")[-1], circuit)
         rows.gives(name, f"cnf {words}", text)
     for name, words, fault in REFUSALS:

@@ -28,18 +28,23 @@ SLOW = (
     ("proof", "refute --frames 1 never FED", b"", b"c more\n", b""),
     ("step proof", "refute --frames 1 --step FED kept proof", b"", b"d 7 8 9 0\n", b"4 0\n"),
     ("witness", "reduce wraps FED", b"1\nb0\n00\n1\n", b"1\n", b".\n"),
+    ("certificate", "strengthen --to aag --certificate FED wraps", TEXTS["two_gates"].encode() + b"c\n", b"more\n", b""),
+    ("certificate", "refute --certificate FED small proof", TEXTS["empty"].encode() + b"c\n", b"more\n", b""),
+    ("proof", "refute --certificate empty small FED", b"", b"c more\n", b""),
     ("model", "witness --model FED --frames 4 wraps", b"", b"c more\n", contents(f"{EXAMPLES}/wraps.model")),
 )
 
 # Runs that end at once.
 QUICK = ("toaig --to aag two_gates", "sim two_gates rows", "wave two_gates rows", "check wraps witness",
          "bench two_gates rows script", "refute --frames 1 wraps proof", "reduce wraps witness", "info missing",
+         "strengthen --to aag --certificate two_gates wraps", "cnf --certificate two_gates wraps",
          "info --progress two_gates", "--progress info two_gates", "--progress sim --explain two_gates rows --progress")
 
 
 def progress(program, tally, _):
     write_all()
     for name, content in {"wraps": WRAPS, "never": NEVER, "kept": NEVER_KEPT, "rows": "11\n01\n", "script": "v 0 8\n", "proof": "2 0\n",
+                          "small": TEXTS["bad_input"],
                           "witness": contents(f"{EXAMPLES}/wraps.wit")}.items():
         write(name, content)
     quick(program, tally)

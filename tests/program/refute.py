@@ -146,6 +146,7 @@ def refute(program, tally, _):
                "unreachable within 3\n", constants="aag 0 0 0 0 0 2\n0\n1\n", proof="x")
     rows.refuses("a state that is reached", "refute --frames 3 --property 1 constants proof", "proof: no refutation", proof="")
     steps(rows)
+    alive(rows)
     broken(rows)
     frat(rows)
 
@@ -179,6 +180,34 @@ def steps(rows):
     rows.refuses("a step over its limit", "refute --frames 65536 --step step bad_input proof", "cnf: limit", step="x")
     rows.refuses("a step of no frames", "refute --frames 0 --step step bad_input proof", "cnf: no frames")
     rows.fails("no proof of the step", "refute --frames 1 --step nowhere kept proof", "step proof")
+
+
+# The conjunction that is never 1 as a constraint, with a bad state that is always 1, and without one.
+NEVER_KEPT_TO = NEVER.replace("7 1\n2\n4\n18\n", "7 1 1\n2\n4\n1\n18\n")
+NO_STATE = NEVER.replace("7 1\n2\n4\n18\n", "7 0 1\n2\n4\n18\n")
+# A latch that starts at 1, is 0 after that, and has to be 1: a run has one frame.
+SHORT = "aag 1 0 1 0 0 0 1\n2 0 1\n2\n"
+
+
+def alive(rows):
+    """Proofs that no run keeps the constraints."""
+    for name, circuit in (("a bad state", NEVER_KEPT_TO), ("no bad state", NO_STATE)):
+        for said, proof in (("text", "2 0\n"), ("binary", b"a\x04\x00")):
+            rows.gives(f"constraints that contradict, {name}: {said}", "refute --alive --frames 1 kept_to proof",
+                       "no run of 1 frames\n", kept_to=circuit, proof=proof)
+        rows.refuses(f"constraints that contradict, {name}: no proof", "refute --frames 1 --alive kept_to proof",
+                     "proof: no refutation", proof="")
+        rows.refuses(f"constraints that contradict, {name}: what does not follow", "refute --frames 1 --alive kept_to proof",
+                     "proof: step 1", proof="0\n")
+    rows.gives("a run that ends", "refute --alive --frames 2 short proof", "no run of 2 frames\n", short=SHORT, proof="x")
+    rows.refuses("a run before its end", "refute --alive --frames 1 short proof", "proof: no refutation", proof="")
+    rows.refuses("no constraint", "refute --alive --frames 3 constants proof", "proof: no refutation")
+    rows.refuses("no frames of a run", "refute --alive --frames 0 short proof", "cnf: no frames")
+    rows.refuses("a run of more frames than there may be", "refute --alive --frames 65537 short proof", "cnf: limit")
+    rows.refuses("a run of a refused circuit", "refute --alive --frames 1 cycle proof", "circuit: cycle 2")
+    for words in ("--property 0", "--step proof", "--certificate proof"):
+        got = rows.run("refute", "--alive", "--frames", "1", *words.split(" "), "short", "proof")
+        rows.tally.check(f"refute: --alive with {words}", got.status == 2 and not got.out, got)
 
 
 def broken(rows):

@@ -5,6 +5,7 @@ use Rattle.aig_sim.specs.declared.stimulus.fault.StimFault.TheVariants as stimul
 use Rattle.aig_run.specs.Command.{OfCircuit, OfFile}
 use Rattle.aig_run.specs.declared.run_fault.RunFault.TheVariants as run_faults
 use Rattle.aig_run.specs.declared.script_fault.ScriptFault.TheVariants as scripts
+use Rattle.aig_commands.specs.Alive.{RefutesAlive, WritesAlive}
 use Rattle.aig_commands.specs.Bench.{LeavesBench}
 use Rattle.aig_commands.specs.GoesWell.{GoesWell}
 use Rattle.aig_commands.specs.Certified.{OfCertified}
@@ -47,6 +48,8 @@ EndsAsMeant left (commands.Check with_trace circuit witness) result =
     Ends end_of_verdict (OfFile file (ChecksWitness with_trace text)) result))
 EndsAsMeant left (commands.Cnf query circuit) result =
     IfSome (left circuit) (λ file. Ends end_of (OfFile file (WritesFormula query)) result)
+EndsAsMeant left (commands.CnfAlive frames circuit) result =
+    IfSome (left circuit) (λ file. Ends end_of (OfFile file (WritesAlive frames)) result)
 EndsAsMeant left (commands.Info circuit) result =
     IfSome (left circuit) (λ file. Ends end_of (OfFile file (ListsFacts file)) result)
 EndsAsMeant left (commands.InfoNames circuit) result = Ends end_of (OfCircuit ListsNames) result
@@ -58,6 +61,8 @@ EndsAsMeant left (commands.ModelWitness query circuit model) result =
     IfSome (left circuit) (λ file. IfSome (left model) (λ text. Ends end_of (OfFile file (WritesModel query text)) result))
 EndsAsMeant left (commands.Refute frames property circuit proof) result =
     IfSome (left circuit) (λ file. Ends end_of (OfFile file (Refutes frames property)) result)
+EndsAsMeant left (commands.RefuteAlive frames circuit proof) result =
+    IfSome (left circuit) (λ file. Ends end_of (OfFile file (RefutesAlive frames)) result)
 EndsAsMeant left (commands.RefuteStep frames property circuit proof step) result =
     IfSome (left circuit) (λ file. Ends end_of (OfFile file (RefutesStep frames property)) result)
 EndsAsMeant left (commands.Strengthen property to circuit certificate) result =

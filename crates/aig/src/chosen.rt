@@ -1,7 +1,7 @@
 //! The command that the arguments choose. The parser has accepted them, so what a command needs is there.
 ghost use Rattle.std.specs.Prelude.{IfOk, Some, codes};
-ghost use Rattle.aig_cli.specs.Held.{HoldsFlag, HoldsNumber, HoldsNumberOr};
-ghost use Rattle.aig.specs.Chosen.{HoldsOptions, HoldsQuery, is_step};
+ghost use Rattle.aig_cli.specs.Held.{HoldsNumber, HoldsNumberOr};
+ghost use Rattle.aig.specs.Chosen.{HoldsGoal, HoldsOptions, HoldsQuery};
 
 use crate::command::{Command, Selection};
 use aig_base::PropertySection;
@@ -106,7 +106,7 @@ fn property_of(matches: &ArgMatches<'_>) -> u32
 
 /// Returns the goal: with the flag `--step` that of an induction step.
 fn goal_of(matches: &ArgMatches<'_>) -> Goal
-    ensures held { HoldsFlag matches.now (codes "step") (is_step result) }
+    ensures held { HoldsGoal matches.now result }
 {
     if has_flag(matches, "step") {
         Goal::Step
@@ -241,9 +241,23 @@ fn open_cnf<'m, 't, R: Files + Clock + Eprint>(
     if text_of(matches, "certificate").is_some() {
         return open_cnf_certified(terminal, matches);
     }
+    if has_flag(matches, "alive") {
+        return open_cnf_alive(terminal, matches);
+    }
     let query = query_of(matches)?;
     let circuit = open_circuit(terminal, matches)?;
     Ok(Command::Cnf { query, circuit })
+}
+
+fn open_cnf_alive<'m, 't, R: Files + Clock + Eprint>(
+    terminal: &'t Terminal<'t, R>,
+    matches: &'m ArgMatches<'_>,
+) -> Result<Command<'m, Tracked<'t, R, R::File>>, Exit>
+    ensures options { IfOk result (HoldsOptions matches.now) }
+{
+    let frames = frames_of(matches)?;
+    let circuit = open_circuit(terminal, matches)?;
+    Ok(Command::CnfAlive { frames, circuit })
 }
 
 fn open_cnf_certified<'m, 't, R: Files + Clock + Eprint>(
@@ -359,6 +373,9 @@ fn open_refute<'m, 't, R: Files + Clock + Eprint>(
     if text_of(matches, "certificate").is_some() {
         return open_refute_certified(terminal, matches);
     }
+    if has_flag(matches, "alive") {
+        return open_refute_alive(terminal, matches);
+    }
     let frames = frames_of(matches)?;
     let property = property_of(matches);
     let circuit = open_circuit(terminal, matches)?;
@@ -378,6 +395,22 @@ fn open_refute<'m, 't, R: Files + Clock + Eprint>(
         circuit,
         proof,
         step,
+    })
+}
+
+fn open_refute_alive<'m, 't, R: Files + Clock + Eprint>(
+    terminal: &'t Terminal<'t, R>,
+    matches: &'m ArgMatches<'_>,
+) -> Result<Command<'m, Tracked<'t, R, R::File>>, Exit>
+    ensures options { IfOk result (HoldsOptions matches.now) }
+{
+    let frames = frames_of(matches)?;
+    let circuit = open_circuit(terminal, matches)?;
+    let proof = open_named(terminal, matches, "PROOF", Part::Proof)?;
+    Ok(Command::RefuteAlive {
+        frames,
+        circuit,
+        proof,
     })
 }
 
@@ -466,6 +499,7 @@ pub fn files_of<'a>(matches: &ArgMatches<'a>) -> Option<RunFiles<'a>> {
         property: property_of(matches),
         // In other commands it is a file, or is not there.
         steps: (name == "cnf" || name == "witness") && has_flag(matches, "step"),
+        alive: matches!(name, "cnf" | "refute") && has_flag(matches, "alive"),
         reduces: name == "reduce",
     })
 }

@@ -1,6 +1,7 @@
 //! The commands on a circuit alone: conversion, unrolling, formulas, and facts about it.
 ghost use Rattle.std.specs.Prelude.{◌≡◌, ◌⊎◌, IfErr, IfSome, OnOk};
 ghost use Rattle.aig_run.specs.Command.{OfCircuit, OfFile};
+ghost use Rattle.aig_commands.specs.Alive.{WritesAlive};
 ghost use Rattle.aig_commands.specs.Cnf.{WritesFormula};
 ghost use Rattle.aig_commands.specs.GoesWell.{GoesWell};
 ghost use Rattle.aig_commands.specs.Info.{ListsFacts};
@@ -14,7 +15,7 @@ use crate::ended::ended;
 use crate::kept::{begin_map, write_map};
 use aig_base::{Circuit, Std};
 use aig_cnf::Query;
-use aig_commands::{cnf, info, select, toaig, unroll};
+use aig_commands::{alive, cnf, info, select, toaig, unroll};
 use aig_files::{Exit, OutputFile, Part, output, read_whole};
 use aig_format::Format;
 use aig_run::RunFault;
@@ -114,6 +115,21 @@ pub fn cnf<R: AllocGlobal + Print, F: Read + Drop>(
     let file = circuit.as_slice();
     let mut out = output(rt);
     ended(cnf::cnf(rt.alloc(), file, query, &mut out))
+}
+
+/// Writes the formula that a run keeps all constraints at `frames` frames.
+pub fn cnf_alive<R: AllocGlobal + Print, F: Read + Drop>(
+    rt: &R,
+    frames: u32,
+    circuit: F,
+) -> Result<(), Exit>
+    ensures ends { IfSome (F.remaining circuit) (λ file.
+        Ends end_of (OfFile file (WritesAlive frames)) result) }
+{
+    let circuit = read_whole(rt.alloc(), circuit, Part::Circuit)?;
+    let file = circuit.as_slice();
+    let mut out = output(rt);
+    ended(alive::cnf_alive(rt.alloc(), file, frames, &mut out))
 }
 
 /// Writes facts about a circuit.

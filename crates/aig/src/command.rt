@@ -1,10 +1,10 @@
 //! A command with its options and its open files, and what it runs.
 ghost use Rattle.aig.specs.Commands.{EndsAsMeant};
 
-use crate::circuits::{cnf, info, info_names, select, toaig, unroll, unroll_and_map};
+use crate::circuits::{cnf, cnf_alive, info, info_names, select, toaig, unroll, unroll_and_map};
 use crate::simulations::{bench, sim, wave};
 use crate::certificates::{certified_model_witness, cnf_certified, refute_certified, strengthen};
-use crate::solvers::{model_witness, refute, refute_step};
+use crate::solvers::{model_witness, refute, refute_alive, refute_step};
 use crate::witnesses::{check, reduce, wave_witness, witness};
 use aig_base::PropertySection;
 use aig_cnf::Query;
@@ -81,6 +81,11 @@ pub enum Command<'a, F> {
         query: Query,
         circuit: F,
     },
+    /// `cnf --alive`: the formula that a run keeps all constraints.
+    CnfAlive {
+        frames: u32,
+        circuit: F,
+    },
     /// `info`: facts about a circuit.
     Info {
         circuit: F,
@@ -111,6 +116,12 @@ pub enum Command<'a, F> {
     Refute {
         frames: u32,
         property: u32,
+        circuit: F,
+        proof: F,
+    },
+    /// `refute --alive`: the check of a proof that no run keeps all constraints.
+    RefuteAlive {
+        frames: u32,
         circuit: F,
         proof: F,
     },
@@ -195,6 +206,7 @@ impl<F: Read + Drop> Command<'_, F> {
                 witness,
             } => check(terminal, with_trace, circuit, witness),
             Command::Cnf { query, circuit } => cnf(terminal, query, circuit),
+            Command::CnfAlive { frames, circuit } => cnf_alive(terminal, frames, circuit),
             Command::Info { circuit } => info(terminal, circuit),
             Command::InfoNames { circuit } => info_names(terminal, circuit),
             Command::Select {
@@ -218,6 +230,11 @@ impl<F: Read + Drop> Command<'_, F> {
                 circuit,
                 proof,
             } => refute(terminal, frames, property, circuit, proof),
+            Command::RefuteAlive {
+                frames,
+                circuit,
+                proof,
+            } => refute_alive(terminal, frames, circuit, proof),
             Command::RefuteStep {
                 frames,
                 property,

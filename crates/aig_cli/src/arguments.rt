@@ -33,6 +33,8 @@ enum Kind {
 enum Need {
     Always,
     Never,
+    /// Never, and with none of these.
+    But(&'static [&'static str]),
     /// Exactly if this option is, or one of the options with this name for all.
     With(&'static str),
     /// Unless this option is, and with none of these.
@@ -133,6 +135,13 @@ pub const STEP: Argument = Argument {
     help: "Print the formula of the induction step instead",
     kind: Kind::Flag,
     need: Need::Never,
+};
+
+pub const ALIVE: Argument = Argument {
+    name: "alive",
+    help: "Ask instead whether a run keeps all constraints\nfor K frames",
+    kind: Kind::Flag,
+    need: Need::But(&["P", "step", "certificate"]),
 };
 
 pub const FRAMES: Argument = Argument {
@@ -301,6 +310,7 @@ fn of_need<'a>(argument: Arg<'a>, need: &'static Need) -> Result<Arg<'a>, AllocE
     match need {
         Need::Always => Ok(argument.required(true)),
         Need::Never => Ok(argument),
+        Need::But(options) => argument.conflicts_with_all(options),
         Need::With(name) => argument.requires_arg(name),
         Need::Without(option, options) => argument
             .required_unless_present(option)?

@@ -125,6 +125,11 @@ that the resets allow, or after a step from a state without one, the property is
 1 or a claim of the certificate is broken (see aig strengthen). If it cannot be
 satisfied, no run of any length reaches the property.
 
+With --alive, the formula is that some run keeps all constraints at the frames 0
+to K - 1, whatever the properties say. If it cannot be satisfied, a bad state is
+unreachable from frame K - 1 on only because no run gets there. Literal L of a
+line b then says that the constraints are kept up to frame T.
+
 Example: aig cnf --frames 20 examples/wraps.aag > wraps.cnf
 Example: aig cnf --step --frames 20 examples/wraps.aag > step.cnf
 See also: man aig, man 5 aig-formats";
@@ -196,6 +201,10 @@ Many properties hold and have no such proof, whatever K is.
 With --certificate, PROOF is about the formula of cnf --certificate, and the
 answer is unreachable: no run of any length reaches the property. Nothing of the
 certificate is believed.
+
+With --alive, PROOF is about the formula of cnf --alive, and the answer is no run
+of K frames: no run from a start that the resets allow keeps all constraints at
+its first K frames. The answer unreachable says little of such a circuit.
 
 Example: aig refute --frames 3 examples/wraps.aag examples/wraps.drat
 See also: man aig, man 5 aig-formats";

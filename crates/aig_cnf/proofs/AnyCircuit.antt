@@ -101,5 +101,6 @@ module _ (raw : Raw) where
 -- so the circuit of a query is one
 pub subject_circuit : (goal : Goal) (raw : Raw) → IsCircuit raw → IsCircuit (subject goal raw)
 subject_circuit asked.Within raw c = c
+subject_circuit asked.Last raw c = c
 subject_circuit asked.Step raw c = from_any_circuit raw c
 subject_circuit asked.Induction raw c = from_any_circuit raw c

@@ -38,6 +38,7 @@ module _ (P : Gate → Type 0) (literals : List ℕ) where
 pub All-gates_for : (P : Gate → Type 0) (goal : Goal) (literals : List ℕ) (gates : List Gate) → All P gates
     → All P (gates_for goal literals gates)
 All-gates_for P asked.Within literals gates h = h
+All-gates_for P asked.Last literals gates h = h
 All-gates_for P asked.Step literals gates h = h
 All-gates_for P asked.Induction literals gates h = All-cone P literals gates h
 
@@ -55,6 +56,7 @@ length-cone literals (g ∷ gates) =
 pub length-gates_for : (goal : Goal) (literals : List ℕ) (gates : List Gate)
     → length (gates_for goal literals gates) ≤ length gates
 length-gates_for asked.Within literals gates = omega arith
+length-gates_for asked.Last literals gates = omega arith
 length-gates_for asked.Step literals gates = omega arith
 length-gates_for asked.Induction literals gates = length-cone literals gates
 

@@ -1,10 +1,10 @@
 -- The text of a formula with its comment lines, for a reader of DIMACS.
-use Rattle.std.proofs.Common.{◌≡◌, ◌≢◌, inl, inr, ℕ, zero, suc, ◌+◌, ◌*◌, ◌^◌, ◌<◌, Bool, true, false, ◌&&◌, List, [], ◌∷◌, ◌++◌, length, slice_index, All, Some, refl, sym, ap, ◌∙◌, subst, arith, append_assoc}
+use Rattle.std.proofs.Common.{◌≡◌, ◌≢◌, inl, inr, ℕ, zero, suc, ◌+◌, ◌-◌, ◌*◌, ◌^◌, ◌<◌, Bool, true, false, ◌&&◌, List, [], ◌∷◌, ◌++◌, length, slice_index, All, Some, refl, sym, ap, ◌∙◌, subst, arith, append_assoc}
 use Rattle.std.specs.Prelude.{if◌then◌else◌, ◌==◌, codes}
 use Rattle.std.specs.Fmt.{decimal}
 use Rattle.std.specs.List.{flat_map}
 use Rattle.std.proofs.lemmas.List.Concat.{flat_map-cons}
-use Rattle.std.proofs.lemmas.List.Elements.{All-nil, All-cons, All-head, All-tail, All-append, All-weaker}
+use Rattle.std.proofs.lemmas.List.Elements.{All-nil, All-cons, All-head, All-tail, All-append, All-drop, All-weaker}
 use Rattle.aig_parts.specs.Formed.{IsSymbolOf}
 use Rattle.aig_parts.specs.Literal.{negation, variable}
 use Rattle.aig_parts.specs.SymbolPlaces.{Key}
@@ -13,12 +13,13 @@ use Rattle.aig_parts.specs.declared.raw.Raw.{Raw}
 use Rattle.aig_parts.specs.declared.symbols.Kind.{Kind}
 use Rattle.aig_base.specs.Circuit.{IsCircuit}
 use Rattle.aig_base.specs.Order.{IsCanonicalOrder}
+use Rattle.aig_cnf.specs.Alive.{HasAliveFormula, IsAliveFormulaOf, always_bad}
 use Rattle.aig_cnf.specs.Answers.{HasFormula}
 use Rattle.aig_cnf.specs.CnfText.{cnf_text, goal_line, goal_lines}
 use Rattle.aig_cnf.specs.Dimacs.{formula_text, literal_text, sign_text}
 use Rattle.aig_cnf.specs.DimacsRead.{read_formula}
-use Rattle.aig_cnf.specs.Formula.{Cnf, IsFormulaOf, all_but_last, first_reached, formula_of, gate_clauses, gates_for, goal_clauses, implies, start_literals}
-use Rattle.aig_cnf.specs.Query.{depth, from_any_state, subject}
+use Rattle.aig_cnf.specs.Formula.{Cnf, IsFormulaOf, all_but_last, first_reached, formula_of, gate_clauses, gates_for, goal_clauses, implies, last_alone, start_literals}
+use Rattle.aig_cnf.specs.Query.{depth, from_any_state, last, subject}
 use Rattle.aig_cnf.specs.declared.query.Goal.{Goal}
 use Rattle.aig_cnf.specs.declared.query.Goal.TheVariants as asked
 use Rattle.aig_cnf.specs.declared.query.Query.{Query}
@@ -26,6 +27,7 @@ use Rattle.aig_unroll.specs.InputMap.{Origin, input, start, is_input, is_latch, 
 use Rattle.aig_unroll.specs.Unrolled.{frames, unrolled}
 use Rattle.aig_unroll.proofs.UnrolledCircuit.{unrolled_circuit}
 use Rattle.aig_unroll.proofs.UnrolledReady.{IsReadyGate, gates_ready}
+use Rattle.aig_cnf.proofs.AlwaysBad.{always_circuit}
 use Rattle.aig_cnf.proofs.AnyCircuit.{subject_circuit}
 use Rattle.aig_cnf.proofs.ConeLemmas.{All-gates_for, length-gates_for}
 use Rattle.aig_cnf.proofs.DimacsLines.{HasNoEnd, decimal_no_end, no_end_by_test, IsLine, line_end, line_more, line_byte, HasLines, lines_none, lines_then, comment_line}
@@ -162,6 +164,8 @@ starts_below v ms (l ∷ m ∷ ls) s h =
 goal_below : (v : ℕ) (goal : Goal) (ms ls : List ℕ) → AreBelow v ms → AreBelow v ls
     → All (AreBelow v) (goal_clauses goal ms ls)
 goal_below v asked.Within ms ls s h = All-cons (AreBelow v) ls [] h (All-nil (AreBelow v))
+goal_below v asked.Last ms ls s h =
+    All-cons (AreBelow v) (last_alone ls) [] (All-drop (λ l. variable l < v) (length ls - 1) ls h) (All-nil (AreBelow v))
 goal_below v asked.Step ms ls s h = first_below v ls h
 goal_below v asked.Induction ms ls s h =
     All-cons (AreBelow v) ls (flat_map (implies ms) (all_but_last ls)) h (starts_below v ms ls s h)
@@ -175,6 +179,7 @@ start_below query raw order = at query.goal query.frames query.property
         → let asks : Query = record { goal = goal; frames = frames; property = property } in
         AreBelow ((unrolled (subject goal raw) order (depth asks)).max_var + 1) (start_literals asks raw)
     at asked.Within frames property = All-nil (λ l. variable l < (unrolled raw order frames).max_var + 1)
+    at asked.Last frames property = All-nil (λ l. variable l < (unrolled raw order frames).max_var + 1)
     at asked.Step frames property =
         All-nil (λ l. variable l < (unrolled (from_any_state raw) order (frames + 1)).max_var + 1)
     at asked.Induction frames property =
@@ -228,18 +233,18 @@ module _ (raw : Raw) (query : Query) (circuit : IsCircuit raw) (has : HasFormula
       let part = length-gates_for query.goal F.goals C.gates in
       omega (arith, all, most, part, unrolled_is.formed.counts.gates)
 
-  reads_text : read_formula (cnf_text S F)
-      ≡ Some (F.variables, length F.clauses, F.clauses)
-  reads_text =
-      let inputs : List ℕ = origin_lines (codes "c ") S 2 (origins S (length F.goals)) in
+  -- whatever circuit its comment lines are about
+  reads_text : (about : Raw) → HaveNoEnd about.symbols
+      → read_formula (cnf_text about F) ≡ Some (F.variables, length F.clauses, F.clauses)
+  reads_text about no_end =
+      let inputs : List ℕ = origin_lines (codes "c ") about 2 (origins about (length F.goals)) in
       ap read_formula (sym (append_assoc inputs (goal_lines F.goals) (formula_text F.variables F.clauses)))
       ∙ reads_after F.variables (omega (arith, unrolled_is.formed.counts.max_var)) (inputs ++ goal_lines F.goals) F.clauses
-      (lines_then inputs (goal_lines F.goals) [] [] (origins_skipped S no_end 2 (origins S (length F.goals)))
+      (lines_then inputs (goal_lines F.goals) [] [] (origins_skipped about no_end 2 (origins about (length F.goals)))
       (goals_skipped F.goals)) few_clauses clauses_below
-    where
-      no_end : HaveNoEnd S.symbols
-      no_end = All-weaker (IsSymbolOf S) (λ s. HasNoEnd s.1) (λ s h. h.1.1) S.symbols
-          (subject_circuit query.goal raw circuit).formed.symbols
+
+no_ends : (raw : Raw) → IsCircuit raw → HaveNoEnd raw.symbols
+no_ends raw circuit = All-weaker (IsSymbolOf raw) (λ s. HasNoEnd s.1) (λ s h. h.1.1) raw.symbols circuit.formed.symbols
 
 pub reads_formula : (raw : Raw) (query : Query) (formula : Cnf) → IsCircuit raw → HasFormula raw query
     → IsFormulaOf raw query formula
@@ -248,4 +253,11 @@ pub reads_formula : (raw : Raw) (query : Query) (formula : Cnf) → IsCircuit ra
 reads_formula raw query formula circuit has (order, canonical, is) =
     subst (λ (f : Cnf). read_formula (cnf_text (subject query.goal raw) f)
     ≡ Some (f.variables, length f.clauses, f.clauses)) (sym is)
-    (reads_text raw query circuit has order canonical)
+    (reads_text raw query circuit has order canonical (subject query.goal raw)
+    (no_ends (subject query.goal raw) (subject_circuit query.goal raw circuit)))
+
+pub reads_alive : (raw : Raw) (k : ℕ) (formula : Cnf) → IsCircuit raw → HasAliveFormula raw k → IsAliveFormulaOf raw k formula
+    → read_formula (cnf_text raw formula) ≡ Some (formula.variables, length formula.clauses, formula.clauses)
+reads_alive raw k formula circuit has (order, canonical, is) =
+    subst (λ (f : Cnf). read_formula (cnf_text raw f) ≡ Some (f.variables, length f.clauses, f.clauses)) (sym is)
+    (reads_text (always_bad raw) (last k 0) (always_circuit raw circuit) has order canonical raw (no_ends raw circuit))

@@ -150,6 +150,7 @@ length-induction ms ls =
 pub length-goal_clauses : (goal : Goal) (ms ls : List ℕ) → length ms ≤ limit → length ls ≤ frame_limit
     → length (goal_clauses goal ms ls) ≤ 274877841409
 length-goal_clauses asked.Within ms ls some few = omega arith
+length-goal_clauses asked.Last ms ls some few = omega arith
 length-goal_clauses asked.Step ms ls some few = let e = length-first_reached ls in omega (arith, e, few)
 length-goal_clauses asked.Induction ms ls some few =
     let e = length-induction ms ls in

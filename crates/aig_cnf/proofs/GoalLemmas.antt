@@ -49,12 +49,14 @@ length-goals new n k p = length-frames (λ t. slice_index new.bad (t * n + p) �
 -- the bad literals are the same wherever the circuit starts
 pub subject_bad : (goal : Goal) (raw : Raw) → (subject goal raw).bad ≡ raw.bad
 subject_bad asked.Within raw = refl
+subject_bad asked.Last raw = refl
 subject_bad asked.Step raw = refl
 subject_bad asked.Induction raw = refl
 
 -- and so are the inputs
 subject_inputs : (goal : Goal) (raw : Raw) → (subject goal raw).inputs ≡ raw.inputs
 subject_inputs asked.Within raw = refl
+subject_inputs asked.Last raw = refl
 subject_inputs asked.Step raw = refl
 subject_inputs asked.Induction raw = refl
 
@@ -145,5 +147,6 @@ keeps raw mid new query k n p first latches starts found part same circuit h g s
   where
     depth_positive : (goal : Goal) (k : ℕ) → 0 < k → 0 < depth_of goal k
     depth_positive asked.Within k some = some
+    depth_positive asked.Last k some = some
     depth_positive asked.Step k some = omega arith
     depth_positive asked.Induction k some = omega arith

@@ -1,4 +1,5 @@
 pub mod AddedLemmas
+pub mod AlwaysBad
 pub mod AnyCircuit
 pub mod AnyState
 pub mod ConeLemmas

@@ -94,6 +94,7 @@ starts_at : (goal : Goal) (frames property k : ℕ) (raw : Raw) → k ≡ depth_
     ≡ start_literals (record { goal = goal; frames = frames; property = property }) raw
 unfolding reset_literals
 starts_at asked.Within frames property k raw e = refl
+starts_at asked.Last frames property k raw e = refl
 starts_at asked.Step frames property k raw e = refl
 starts_at asked.Induction frames property k raw e = ap (λ n. reset_literals (n * length raw.inputs + 1) raw.latches) e
 
@@ -103,6 +104,7 @@ starts_are query k raw e = starts_at query.goal query.frames query.property k ra
 
 pub few_latches : (goal : Goal) (raw : Raw) → IsCircuit (subject goal raw) → length (kept_latches goal raw) ≤ limit
 few_latches asked.Within raw circuit = omega arith
+few_latches asked.Last raw circuit = omega arith
 few_latches asked.Step raw circuit = omega arith
 few_latches asked.Induction raw circuit =
     omega (arith, circuit.formed.counts.latches, length-map raw.latches uninitialised_latch)

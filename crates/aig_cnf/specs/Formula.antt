@@ -1,6 +1,6 @@
 -- The formula of a query, over the circuit that is unrolled for it, in conjunctive normal form (Tseitin's encoding; the
 -- clauses and their order are our own choice).
-use Rattle.std.specs.Prelude.{◌≡◌, ℕ, ◌+◌, ◌*◌, ◌-◌, ◌==◌, Bool, ◌||◌, if◌then◌else◌, List, [], ◌∷◌, ◌++◌, length, map, flat_map, slice_index}
+use Rattle.std.specs.Prelude.{◌≡◌, ℕ, ◌+◌, ◌*◌, ◌-◌, ◌==◌, Bool, ◌||◌, if◌then◌else◌, List, [], ◌∷◌, ◌++◌, length, drop, map, flat_map, slice_index}
 use Rattle.std.specs.List.{list_any}
 use Rattle.aig_parts.specs.Literal.{negation, variable}
 use Rattle.aig_parts.specs.declared.gate.Gate.{Gate}
@@ -23,6 +23,10 @@ gate_clauses g =
 -- bad literal p of each of k frames, where a circuit of n bad literals is unrolled for them
 abbrev pub goals : Raw → ℕ → ℕ → ℕ → List ℕ
 goals new n k p = frames (λ t. slice_index new.bad (t * n + p) ∷ []) k
+
+-- the last of these literals, in a list
+abbrev pub last_alone : List ℕ → List ℕ
+last_alone literals = drop (length literals - 1) literals
 
 -- the last of these literals is true, and those before it are false
 abbrev pub first_reached : List ℕ → List (List ℕ)
@@ -48,6 +52,7 @@ start_literals query raw = literals_of query.goal
   where
     literals_of : Goal → List ℕ
     literals_of asked.Within = []
+    literals_of asked.Last = []
     literals_of asked.Step = []
     literals_of asked.Induction = reset_literals (depth query * length raw.inputs + 1) raw.latches
 
@@ -78,15 +83,17 @@ cone literals (g ∷ gates) =
 -- all gates; for an induction those of the cone
 abbrev pub gates_for : Goal → List ℕ → List Gate → List Gate
 gates_for asked.Within goals gates = gates
+gates_for asked.Last goals gates = gates
 gates_for asked.Step goals gates = gates
 gates_for asked.Induction goals gates = cone goals gates
 
 -- ---- the formula
 
--- Of the bad literals of all frames: one is true; or the last, and none before it; or one is true, and the start obeys
--- the resets if it is one before the last.
+-- Of the bad literals of all frames: one is true; or the last; or the last, and none before it; or one is true, and the
+-- start obeys the resets if it is one before the last.
 abbrev pub goal_clauses : Goal → List ℕ → List ℕ → List (List ℕ)
 goal_clauses asked.Within start goals = goals ∷ []
+goal_clauses asked.Last start goals = last_alone goals ∷ []
 goal_clauses asked.Step start goals = first_reached goals
 goal_clauses asked.Induction start goals = goals ∷ flat_map (implies start) (all_but_last goals)
 

@@ -1,3 +1,4 @@
+pub mod Alive
 pub mod Answers
 pub mod CnfText
 pub mod Dimacs

@@ -10,6 +10,10 @@ use Rattle.aig_cnf.specs.declared.query.Query.{Query}
 abbrev pub within : ℕ → ℕ → Query
 within k p = record { goal = goals.Within; frames = k; property = p }
 
+-- a run from a start that the resets allow reaches it at the last of k frames
+abbrev pub last : ℕ → ℕ → Query
+last k p = record { goal = goals.Last; frames = k; property = p }
+
 -- a run from any state reaches it at frame k, and at none before: the step of an induction over frames
 abbrev pub step : ℕ → ℕ → Query
 step k p = record { goal = goals.Step; frames = k; property = p }
@@ -22,6 +26,7 @@ induction k p = record { goal = goals.Induction; frames = k; property = p }
 -- how many frames the circuit is unrolled for
 abbrev pub depth_of : Goal → ℕ → ℕ
 depth_of goals.Within k = k
+depth_of goals.Last k = k
 depth_of goals.Step k = k + 1
 depth_of goals.Induction k = k + 1
 
@@ -39,5 +44,6 @@ from_any_state raw = record raw { latches = map uninitialised_latch raw.latches 
 -- the circuit that is unrolled
 abbrev pub subject : Goal → Raw → Raw
 subject goals.Within raw = raw
+subject goals.Last raw = raw
 subject goals.Step raw = from_any_state raw
 subject goals.Induction raw = from_any_state raw

@@ -6,7 +6,7 @@ ghost use Rattle.aig_cnf.specs.Formula.{all_but_last, first_reached, gate_clause
 ghost use Rattle.aig_cnf.specs.state.Added.{Adds};
 ghost use Rattle.aig_sat.specs.checker.Consequence.{Follows};
 
-use crate::formula::{Formula, gates_of};
+use crate::formula::{Formula, gates_of, last_of};
 use crate::query::Goal;
 use aig_base::{Gate, Lit, Memory};
 use aig_sat::Refutation;
@@ -93,6 +93,7 @@ fn add_goal(
 {
     match goal {
         Goal::Within => add(refutation, goals),
+        Goal::Last => add(refutation, last_of(goals)),
         Goal::Step => add_first_reached(refutation, goals),
         Goal::Induction => add_induction(refutation, starts, goals),
     }

@@ -11,7 +11,7 @@ ghost use Rattle.aig_cnf.specs.Dimacs.{clause_text, formula_text, gate_text, lit
 ghost use Rattle.aig_cnf.specs.Formula.{all_but_last, first_reached, goal_clauses, implies};
 ghost use Rattle.aig_cnf.specs.state.Terms.{literal_term};
 
-use crate::formula::{Formula, gates_of};
+use crate::formula::{Formula, gates_of, last_of};
 use crate::query::Goal;
 use aig_base::{Block, Circuit, Gate, Io, Lit, Term, Write, write_all};
 use aig_unroll::write_input_lines;
@@ -237,6 +237,7 @@ fn put_goal<W: Write>(
 {
     match goal {
         Goal::Within => put_clause(out, block, goals),
+        Goal::Last => put_clause(out, block, last_of(goals)),
         Goal::Step => put_first_reached(out, block, goals),
         Goal::Induction => put_induction(out, block, starts, goals),
     }
@@ -249,7 +250,7 @@ fn goal_count(goal: Goal, starts: &[Lit], goals: &[Lit]) -> u64
     ensures { result ≡ length (goal_clauses goal starts.now goals.now) }
 {
     match goal {
-        Goal::Within => 1,
+        Goal::Within | Goal::Last => 1,
         Goal::Step => goals.len() as u64,
         Goal::Induction => 1 + starts.len() as u64 * goals.len().saturating_sub(1) as u64,
     }

@@ -4,7 +4,7 @@ ghost use Rattle.aig_parts.specs.Limits.{frame_limit};
 ghost use Rattle.aig_parts.specs.Literal.{variable};
 ghost use Rattle.aig_unroll.specs.Unrollable.{FitsLimits};
 ghost use Rattle.aig_cnf.specs.Answers.{HasFormula, RefusesFormula};
-ghost use Rattle.aig_cnf.specs.Formula.{IsFormulaOf, gates_for, goals};
+ghost use Rattle.aig_cnf.specs.Formula.{IsFormulaOf, gates_for, goals, last_alone};
 ghost use Rattle.aig_cnf.specs.Query.{depth, subject};
 ghost use Rattle.aig_cnf.specs.state.Kept.{kept_gates, kept_latches};
 ghost use Rattle.aig_cnf.specs.state.Made.{IsAnswered};
@@ -70,7 +70,7 @@ fn depth_of(query: Query) -> u32
     ensures { result ≡ depth query }
 {
     match query.goal {
-        Goal::Within => query.frames,
+        Goal::Within | Goal::Last => query.frames,
         Goal::Step | Goal::Induction => query.frames + 1,
     }
 }
@@ -80,7 +80,7 @@ fn set_start(circuit: &mut Circuit, goal: Goal)
     ensures { circuit.new ≡ subject goal circuit.old }
 {
     match goal {
-        Goal::Within => {}
+        Goal::Within | Goal::Last => {}
         Goal::Step | Goal::Induction => start_in_any_state(circuit),
     }
 }
@@ -90,7 +90,7 @@ fn latches_for(alloc: Global, circuit: &Circuit, goal: Goal) -> Result<Vec<Latch
     ensures { IfOk result (λ found. found.items ≡ kept_latches goal circuit.now) }
 {
     match goal {
-        Goal::Within | Goal::Step => Ok(Vec::new(alloc)),
+        Goal::Within | Goal::Last | Goal::Step => Ok(Vec::new(alloc)),
         Goal::Induction => Ok(Vec::from_slice(alloc, circuit.latches())?),
     }
 }
@@ -162,7 +162,7 @@ fn cone_for(
     ensures { IfOk result (λ cone. kept_gates cone circuit.now.gates ≡ gates_for goal goals.now circuit.now.gates) }
 {
     match goal {
-        Goal::Within | Goal::Step => Ok(None),
+        Goal::Within | Goal::Last | Goal::Step => Ok(None),
         Goal::Induction => Ok(Some(cone_of(alloc, circuit, goals)?)),
     }
 }
@@ -175,6 +175,13 @@ pub(crate) fn gates_of<'a>(circuit: &'a Circuit, cone: &'a Option<Vec<Gate>>) ->
         None => circuit.gates(),
         Some(gates) => gates.as_slice(),
     }
+}
+
+// The last of the bad literals.
+pub(crate) fn last_of(goals: &[Lit]) -> &[Lit]
+    ensures { result.now ≡ last_alone goals.now }
+{
+    &goals[goals.len().saturating_sub(1)..]
 }
 
 impl Formula {

@@ -2,6 +2,7 @@
 //! What their models say is a law of `aig_laws`, and what their refutations say one of `aig_refute`.
 #![tactic(auto)]
 
+mod alive;
 mod any_state;
 mod checked;
 mod cone;

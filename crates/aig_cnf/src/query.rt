@@ -5,6 +5,8 @@
 pub enum Goal {
     /// A run from a start that the resets allow reaches the property within the frames.
     Within,
+    /// A run from a start that the resets allow reaches the property at the last of these frames.
+    Last,
     /// A run from any state reaches the property at the frame after these, and at none of them: the step of an
     /// induction over frames.
     Step,

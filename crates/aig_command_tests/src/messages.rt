@@ -1,6 +1,7 @@
 //! Texts of messages.
-use aig_base::{Fault, Io, Memory, SelectFault, WouldCycle};
+use aig_base::{Fault, Io, Kind, Memory, SelectFault, WouldCycle};
 use aig_bench::BenchFault;
+use aig_certificate::StrengthenFault;
 use aig_cnf::CnfFault;
 use aig_run::{RunFault, ScriptFault};
 use aig_sat::{ModelFault, ProofFault};
@@ -9,7 +10,7 @@ use aig_unroll::UnrollFault;
 use std::alloc::Global;
 use std::fmt::Display;
 
-static MESSAGES: [(RunFault, &str); 44] = [
+static MESSAGES: [(RunFault, &str); 53] = [
     (RunFault::Circuit(Fault::Cycle(2)), "circuit: cycle 2"),
     (RunFault::Circuit(Fault::Memory), "circuit: memory"),
     (
@@ -87,6 +88,42 @@ static MESSAGES: [(RunFault, &str); 44] = [
     ),
     (RunFault::Model(ModelFault::Unknown), "model: unknown"),
     (RunFault::Model(ModelFault::Memory), "model: memory"),
+    (
+        RunFault::Certificate(Fault::Cycle(2)),
+        "certificate: cycle 2",
+    ),
+    (RunFault::Certificate(Fault::Memory), "certificate: memory"),
+    (
+        RunFault::Certificate(Fault::Io),
+        "certificate: input or output",
+    ),
+    (
+        RunFault::Strengthen(StrengthenFault::Comment),
+        "certificate: comment",
+    ),
+    (
+        RunFault::Strengthen(StrengthenFault::Symbol {
+            kind: Kind::Latch,
+            position: 12,
+        }),
+        "certificate: symbol l12",
+    ),
+    (
+        RunFault::Strengthen(StrengthenFault::Property),
+        "strengthen: property",
+    ),
+    (
+        RunFault::Strengthen(StrengthenFault::Limit),
+        "strengthen: limit",
+    ),
+    (
+        RunFault::Strengthen(StrengthenFault::Circuit(Fault::Range)),
+        "certificate: range",
+    ),
+    (
+        RunFault::Strengthen(StrengthenFault::Memory),
+        "strengthen: memory",
+    ),
 ];
 
 // Whether this is the text of a value.
@@ -103,6 +140,25 @@ fn parts_and_texts(rt: HostRuntime) {
     for (fault, text) in &MESSAGES {
         assert!(rt; says(rt.alloc(), fault, text), "{text}");
     }
+}
+
+static STATUSES: [(RunFault, u8); 6] = [
+    (RunFault::Certificate(Fault::Counts), 1),
+    (RunFault::Certificate(Fault::Memory), 3),
+    (RunFault::Certificate(Fault::Io), 3),
+    (RunFault::Strengthen(StrengthenFault::Comment), 1),
+    (RunFault::Strengthen(StrengthenFault::Property), 1),
+    (RunFault::Strengthen(StrengthenFault::Memory), 3),
+];
+
+// The statuses of faults of certificates.
+#[test]
+fn statuses(rt: HostRuntime) {
+    let mut right = true;
+    for (fault, status) in &STATUSES {
+        right &= fault.status() == *status;
+    }
+    assert!(rt; right);
 }
 
 static FAULTS: [(Fault, &str); 11] = [

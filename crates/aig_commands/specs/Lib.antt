@@ -1,3 +1,4 @@
+pub mod Alive
 pub mod Bench
 pub mod BenchFiles
 pub mod Certified

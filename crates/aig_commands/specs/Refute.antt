@@ -47,6 +47,7 @@ ChecksStep k p raw (Err _) = ⊥
 -- the line that answers
 abbrev pub answer_line : Goal → ℕ → List ℕ
 answer_line goals.Within k = codes "unreachable within " ++ (decimal k ++ codes "\n")
+answer_line goals.Last k = codes "no run of " ++ (decimal k ++ codes " frames\n")
 answer_line goals.Step k = codes "unreachable\n"
 answer_line goals.Induction k = codes "unreachable\n"
 

@@ -17,7 +17,11 @@ use aig_run::{RunFault, flushed, read_circuit};
 use std::alloc::Global;
 
 /// Writes a formula, and what its variables are.
-fn write_text<W: Write>(formula: &Formula, circuit: &Circuit, out: &mut W) -> Result<(), RunFault>
+pub(crate) fn write_text<W: Write>(
+    formula: &Formula,
+    circuit: &Circuit,
+    out: &mut W,
+) -> Result<(), RunFault>
     ensures written { Writes W.written W.failures out.old out.new (cnf_text circuit.now formula.now) result }
     ensures output { IfErr result (λ fault. fault ≡ RunFault.Output) }
 {

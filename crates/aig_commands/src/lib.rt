@@ -1,6 +1,7 @@
 //! The commands, from bytes to bytes: a module each, with the call that has its name.
 #![tactic(auto)]
 
+pub mod alive;
 pub mod bench;
 pub mod certified;
 pub mod check;

@@ -155,6 +155,11 @@ fn write_line<W: Write>(goal: Goal, frames: u32, out: &mut W) -> Result<(), Io>
             write_number(out, frames)?;
             write_all(out, b"\n")
         }
+        Goal::Last => {
+            write_all(out, b"no run of ")?;
+            write_number(out, frames)?;
+            write_all(out, b" frames\n")
+        }
         Goal::Step => write_all(out, b"unreachable\n"),
         Goal::Induction => write_all(out, b"unreachable\n"),
     }
@@ -188,7 +193,7 @@ fn write_checked<W: Write>(
 }
 
 /// Writes the answer if a check went well, and flushes the writer.
-fn write_answer<W: Write>(
+pub(crate) fn write_answer<W: Write>(
     checked: Result<(), RunFault>,
     goal: Goal,
     frames: u32,

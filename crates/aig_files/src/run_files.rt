@@ -25,6 +25,8 @@ pub struct RunFiles<'a> {
     pub property: u32,
     /// Whether the formula is that of an induction step.
     pub steps: bool,
+    /// Whether the command asks only whether a run keeps all constraints.
+    pub alive: bool,
     /// Whether the run is a witness on a bench.
     pub reduces: bool,
 }

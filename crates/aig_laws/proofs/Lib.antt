@@ -1,3 +1,4 @@
+pub mod AliveFormula
 pub mod AnyState
 pub mod BadFormula
 pub mod ConvertedDumps
@@ -7,6 +8,7 @@ pub mod ConvertedWitnesses
 pub mod DisprovedInduction
 pub mod Examples
 pub mod FirstReached
+pub mod LastFormula
 pub mod NamedInduction
 pub mod PartialModels
 pub mod Premises

@@ -1,10 +1,11 @@
 -- What the formulas ask of a circuit (AIGER 1.9, bad state properties and invariant constraints): some assignment
 -- satisfies the formula exactly where there is such a run. Unknown values are our own choice.
-use Rattle.std.specs.Prelude.{◌≡◌, ◌⊎◌, ℕ, ◌+◌, ◌-◌, ◌<◌, Bool, List, length, Some, slice_get, All}
+use Rattle.std.specs.Prelude.{◌≡◌, ◌⊎◌, ℕ, ◌+◌, ◌-◌, ◌<◌, ◌≤◌, Bool, List, length, Contains, Some, slice_get, All}
 use Rattle.aig_parts.specs.declared.raw.Raw.{Raw}
 use Rattle.aig_parts.specs.declared.ternary.Tern.{Tern}
-use Rattle.aig_base.specs.Runs.{ReachesBad, ReachesProperty}
-use Rattle.aig_base.specs.Value.{Fits}
+use Rattle.aig_parts.specs.declared.ternary.Tern.TheVariants.{One}
+use Rattle.aig_base.specs.Runs.{IsAllowed, ReachesBad, ReachesProperty}
+use Rattle.aig_base.specs.Value.{Fits, Value}
 use Rattle.aig_sat.specs.checker.Clause.{Satisfies}
 use Rattle.aig_cnf.specs.Formula.{formula_of}
 use Rattle.aig_cnf.specs.Query.{from_any_state, step, within}
@@ -20,6 +21,20 @@ IsSatisfiable clauses = (values : ℕ → Bool) × Satisfies values clauses
 abbrev pub IsReachedWithin : Raw → ℕ → ℕ → Type 0
 IsReachedWithin raw k p =
     (start : List Tern) × (rows : List (List Tern)) × (t : ℕ) × (t < k) × ReachesProperty raw start rows t p
+
+-- some such run reaches property p at frame t
+abbrev pub IsReachedAt : Raw → ℕ → ℕ → Type 0
+IsReachedAt raw t p = (start : List Tern) × (rows : List (List Tern)) × ReachesProperty raw start rows t p
+
+-- the run fits the circuit, starts as the resets allow, and every constraint is 1 at each of its first k frames
+abbrev pub KeepsConstraints : Raw → ℕ → List Tern → List (List Tern) → Type 0
+KeepsConstraints raw k start rows =
+    Fits raw start rows × IsAllowed raw start × (k ≤ length rows)
+    × ((t c : ℕ) → t < k → Contains raw.constraints c → Value raw start rows t c One)
+
+-- there is one, unknown values included
+abbrev pub HasRun : Raw → ℕ → Type 0
+HasRun raw k = (start : List Tern) × (rows : List (List Tern)) × KeepsConstraints raw k start rows
 
 -- no value of a run is unknown
 pub record IsKnownRun (start : List Tern) (rows : List (List Tern)) : Type 0 where

@@ -1,16 +1,17 @@
 //! From an assignment that satisfies a formula to a run, and back. Each law is a function that does nothing: its
 //! contract is the law. The formulas are our own choice.
-ghost use Rattle.std.specs.Prelude.{◌≡◌, ◌↔◌, ◌⊎◌, ℕ, ◌<◌, Bool, List, length};
+ghost use Rattle.std.specs.Prelude.{◌≡◌, ◌↔◌, ◌⊎◌, ℕ, ◌-◌, ◌<◌, Bool, List, length};
 ghost use Rattle.aig_parts.specs.declared.raw.Raw.{Raw};
 ghost use Rattle.aig_parts.specs.declared.ternary.Tern.{Tern};
 ghost use Rattle.aig_base.specs.Circuit.{IsCircuit};
 ghost use Rattle.aig_base.specs.Order.{IsCanonicalOrder};
+ghost use Rattle.aig_cnf.specs.Alive.{IsAliveFormulaOf};
 ghost use Rattle.aig_cnf.specs.Formula.{Cnf, IsFormulaOf, formula_of};
-ghost use Rattle.aig_cnf.specs.Query.{from_any_state, induction, step, within};
+ghost use Rattle.aig_cnf.specs.Query.{from_any_state, induction, last, step, within};
 ghost use Rattle.aig_sat.specs.checker.Clause.{Satisfies};
 ghost use Rattle.aig_sim.specs.WitnessText.{Witness};
 ghost use Rattle.aig_laws.specs.Models.{AreKnown, IsInModel, NamesWitness};
-ghost use Rattle.aig_laws.specs.Satisfiable.{HasKnownWitness, IsKnownWitness, IsNamedWitness, IsReachedWithin};
+ghost use Rattle.aig_laws.specs.Satisfiable.{HasKnownWitness, HasRun, IsKnownWitness, IsNamedWitness, IsReachedAt, IsReachedWithin};
 ghost use Rattle.aig_laws.specs.Satisfiable.{BreaksStep, DisprovesInduction, HasBrokenStep, IsNamedStep, IsSatisfiable, step_rows, step_start};
 ghost use Rattle.aig_laws.specs.UnrolledWitness.{MakesBad};
 ghost use Rattle.aig_unroll.specs.FrameLiteral.{input_count};
@@ -35,6 +36,18 @@ pub fn law_of_formula()
     ensures complete { (raw : Raw) (order : List ℕ) (k t p : ℕ) (row : List Tern) →
         IsCircuit raw → IsCanonicalOrder raw order → t < k → p < length raw.bad → length row ≡ input_count raw k →
         AreKnown row → MakesBad raw order k row t p → IsInModel raw order k p row }
+{}
+
+/// Some assignment satisfies the formula of a bad state at the last of k frames exactly where a run from a start that the
+/// resets allow reaches it there. So some assignment satisfies the formula of `Formula::alive` exactly where such a run
+/// keeps all constraints at k frames.
+pub fn law_of_last()
+    ensures reached { (raw : Raw) (formula : Cnf) (k p : ℕ) →
+        IsCircuit raw → IsFormulaOf raw (last k p) formula → 0 < k → p < length raw.bad →
+        IsSatisfiable formula.clauses ↔ IsReachedAt raw (k - 1) p }
+    ensures alive { (raw : Raw) (formula : Cnf) (k : ℕ) →
+        IsCircuit raw → IsAliveFormulaOf raw k formula → 0 < k →
+        IsSatisfiable formula.clauses ↔ HasRun raw k }
 {}
 
 /// Some assignment satisfies the formula of the step of k frames exactly where a run of k + 1 frames from any state,

@@ -1,13 +1,14 @@
 //! What a formula that no assignment satisfies says of runs. A law is a function that does nothing: its contract is the
 //! law.
-ghost use Rattle.std.specs.Prelude.{◌≡◌, ℕ, Some, slice_get};
+ghost use Rattle.std.specs.Prelude.{◌≡◌, ℕ, ◌<◌, Some, slice_get};
 ghost use Rattle.aig_parts.specs.declared.raw.Raw.{Raw};
 ghost use Rattle.aig_base.specs.Circuit.{IsCircuit};
+ghost use Rattle.aig_cnf.specs.Alive.{IsAliveFormulaOf};
 ghost use Rattle.aig_cnf.specs.Formula.{Cnf, IsFormulaOf};
 ghost use Rattle.aig_certificate.specs.Extension.{IsExtension};
 ghost use Rattle.aig_cnf.specs.Query.{induction, step, within};
 ghost use Rattle.aig_sat.specs.checker.Consequence.{IsUnsatisfiable};
-ghost use Rattle.aig_refute.specs.Unreachable.{IsUnreachable, IsUnreachableWithin};
+ghost use Rattle.aig_refute.specs.Unreachable.{HasNoRun, IsUnreachable, IsUnreachableWithin};
 
 /// Where no assignment satisfies the formula that a bad state property is reached within k frames, no run from a start
 /// that the resets allow reaches it within them.
@@ -38,4 +39,11 @@ pub fn law_of_one_formula()
 pub fn law_of_extension()
     ensures { (raw x : Raw) (p b : ℕ) → IsCircuit x → slice_get raw.bad p ≡ Some b → IsExtension raw x b →
         IsUnreachable x 0 → IsUnreachable raw p }
+{}
+
+/// Where no assignment satisfies the formula of `Formula::alive` over k frames, no run from a start that the resets allow
+/// keeps all constraints at its first k frames, whatever values are unknown.
+pub fn law_of_alive()
+    ensures { (raw : Raw) (formula : Cnf) (k : ℕ) → IsCircuit raw → 0 < k → IsAliveFormulaOf raw k formula →
+        IsUnsatisfiable formula.clauses → HasNoRun raw k }
 {}

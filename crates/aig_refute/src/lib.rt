@@ -5,5 +5,7 @@
 mod laws;
 mod proof;
 
-pub use laws::{law_of_extension, law_of_induction, law_of_one_formula, law_of_refutation};
+pub use laws::{
+    law_of_alive, law_of_extension, law_of_induction, law_of_one_formula, law_of_refutation,
+};
 pub use proof::check;

@@ -21,13 +21,22 @@ const RING: &[u8] =
 // A circuit's file, a goal over so many frames, the formula's text, and whether propagation refutes it.
 type Asked = (&'static [u8], Goal, u32, &'static [u8], bool);
 
-const FORMULAS: [Asked; 8] = [
+const FORMULAS: [Asked; 9] = [
     // Variable 1 is false, the bad literal is true, and three clauses say that it is the AND of the inputs.
     (
         ONE_BAD,
         Goal::Within,
         1,
         b"c i 2 0 0 \nc i 3 0 1 a b\nc b 4 0\np cnf 4 5\n-1 0\n4 0\n-4 3 0\n-4 2 0\n4 -3 -2 0\n",
+        false,
+    ),
+    // The bad literal is true at frame 1.
+    (
+        ONE_BAD,
+        Goal::Last,
+        2,
+        b"c i 2 0 0 \nc i 3 0 1 a b\nc i 4 1 0 \nc i 5 1 1 a b\nc b 6 0\nc b 7 1\np cnf 7 8\n\
+            -1 0\n7 0\n-6 3 0\n-6 2 0\n6 -3 -2 0\n-7 5 0\n-7 4 0\n7 -5 -4 0\n",
         false,
     ),
     // The bad literal is false at frame 0 and true at frame 1.

@@ -18,6 +18,7 @@ kept_gates (Some cone) gates = cone.items
 -- the latches whose resets a formula is about
 abbrev pub kept_latches : Goal → Raw → List Latch
 kept_latches asked.Within raw = []
+kept_latches asked.Last raw = []
 kept_latches asked.Step raw = []
 kept_latches asked.Induction raw = raw.latches
 

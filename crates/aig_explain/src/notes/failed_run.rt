@@ -113,6 +113,7 @@ fn of_certificate<R: Files + AllocGlobal + Eprint>(rt: &R, files: &RunFiles<'_>,
 fn proof_of(files: &RunFiles<'_>) -> ProofOf {
     match files.certificate {
         Some(_) => ProofOf::Certificate,
+        None if files.alive => ProofOf::Alive,
         None => ProofOf::Runs,
     }
 }

@@ -19,6 +19,8 @@ use std::fs::Files;
 pub enum ProofOf {
     /// The runs of K frames.
     Runs,
+    /// Whether a run keeps all constraints.
+    Alive,
     /// The induction step.
     Step,
     /// The induction over a circuit that a certificate strengthens.
@@ -33,7 +35,7 @@ pub fn explain_proof<R: Files + AllocGlobal + Eprint>(
     fault: ProofFault,
 ) {
     let name = match about {
-        ProofOf::Runs | ProofOf::Certificate => files.run,
+        ProofOf::Runs | ProofOf::Alive | ProofOf::Certificate => files.run,
         ProofOf::Step => files.step,
     };
     match fault {
@@ -183,8 +185,8 @@ fn variables_of<R: Files + AllocGlobal>(
     match about {
         ProofOf::Runs => variables_within(circuit.as_slice(), files.frames),
         ProofOf::Step => variables_of_step(circuit.as_slice(), files.frames),
-        // They are counted with the certificate's.
-        ProofOf::Certificate => None,
+        // They are those of another circuit.
+        ProofOf::Alive | ProofOf::Certificate => None,
     }
 }
 
@@ -219,6 +221,8 @@ fn note_cause(rt: &impl Eprint, about: ProofOf, fault: ProofFault, known: Option
 fn formula_of(about: ProofOf) -> &'static str {
     match about {
         ProofOf::Runs => "it has to be about the formula of aig cnf for the same K, P and CIRCUIT",
+        ProofOf::Alive =>
+            "it has to be about the formula of aig cnf --alive for the same K and CIRCUIT",
         ProofOf::Step =>
             "it has to be about the formula of aig cnf --step for the same K, P and CIRCUIT",
         ProofOf::Certificate =>

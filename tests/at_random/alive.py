@@ -1,0 +1,82 @@
+"""Whether some run of a small random circuit keeps all constraints (`aig cnf --alive`, `aig refute --alive`), beside a
+search of all runs: the formula is satisfied exactly where the run does, and a proof of all cases is accepted exactly
+where no run does."""
+
+import itertools
+
+from at_random.cases import Wrong, each
+from at_random.formulas import MOST, Formula, names_of, run_of
+from at_random.replays import started
+from library.broken import circuit
+from library.families import propagated
+from library.reference import Parts, literal, values
+from library.runs import Ended, write
+
+
+def small_circuit(rng, frames):
+    """The text and the parts of a circuit, with or without bad states, that mostly has a constraint."""
+    while True:
+        text = circuit(rng).decode()
+        parts = Parts(text)
+        free = sum(reset == lit for lit, _, reset in parts.latches)
+        if frames * len(parts.inputs) + free <= MOST and (parts.constraints or rng.randrange(16) == 0):
+            return text, parts
+
+
+def kept_frames(text, parts, start, rows):
+    """For each frame whether all constraints are 1 up to it."""
+    held, kept = True, []
+    for known in values(started(text, start), rows):
+        held = held and all(literal(known, l) == "1" for l in parts.constraints)
+        kept.append(held)
+    return kept
+
+
+def proof_of(variables):
+    """A proof of all cases: no values of these variables satisfy the formula, then none of all but the last, and so on."""
+    clauses = []
+    for count in range(len(variables), -1, -1):
+        for signs in itertools.product((1, -1), repeat=count):
+            clauses.append([sign * variable for sign, variable in zip(signs, variables)])
+    return "".join(" ".join(map(str, [*clause, 0])) + "\n" for clause in clauses)
+
+
+def case(program, rng):
+    """Compares a formula with all runs, and answers whether one keeps the constraints."""
+    frames = rng.randrange(1, 5)
+    text, parts = small_circuit(rng, frames)
+    write("circuit", text)
+    ended = program.run("cnf", "--alive", "--frames", str(frames), "circuit")
+    said = ended.out.decode()
+    if (ended.status, ended.err) != (0, b"") or not said.startswith(names_of(text, parts, frames) + "c b "):
+        raise Wrong(f"other lines: {ended}")
+    formula = Formula(said)
+    if len(formula.goals) != frames or formula.clauses[:2] != [[-1], formula.goals[-1:]]:
+        raise Wrong(f"other goals: {said}")
+    variables = [*formula.inputs.values(), *formula.starts.values()]
+    gates = [formula.clauses[0], *formula.clauses[2:]]
+    alive = False
+    for signs in itertools.product((1, -1), repeat=len(variables)):
+        true = [sign * variable for sign, variable in zip(signs, variables)]
+        start, rows = run_of(formula, parts, frames, set(true))
+        wanted = kept_frames(text, parts, start, rows)
+        known, is_false = propagated(gates, true)
+        if is_false or [l in known for l in formula.goals] != wanted:
+            raise Wrong(f"{[l in known for l in formula.goals]} at {true}, wanted {wanted}")
+        if propagated(formula.clauses, true)[1] == wanted[-1]:
+            raise Wrong(f"satisfied or not at {true}, wanted {wanted[-1]}")
+        alive = alive or wanted[-1]
+    write("proof", proof_of(variables))
+    got = program.run("refute", "--alive", "--frames", str(frames), "circuit", "proof")
+    if alive and (got.status != 1 or not got.err.startswith(b"aig: proof: ") or got.out):
+        raise Wrong(f"{got}, where a run keeps the constraints")
+    if not alive and got != Ended(0, f"no run of {frames} frames\n".encode(), b""):
+        raise Wrong(f"{got}, where no run keeps the constraints")
+    return "a run" if alive else "no run"
+
+
+def alive(program, tally, chosen):
+    answers = []
+    each("alive", tally, chosen, lambda rng: answers.append(case(program, rng)))
+    counted = ", ".join(f"{answers.count(word)} {word}" for word in sorted(set(answers)))
+    return f"cases of seed {chosen.seed}, {counted}: "
