@@ -6,11 +6,12 @@
 #   make prove      the gate: proves every function, runs the tests, tries the planted bugs
 #   make bench      measures the program that the gate proved, else build/aig, beside a C++ program: ten minutes
 #   make install    installs the program that the gate proved, else build/aig with a warning
+#   make wheel      writes the wheel of the Python package with that program into build
 #   make dist       packs a release of a commit whose gate has passed, into build/dist
 #   make clean      removes build/aig, build/aig_proof_tests and build/dist
 #
-# `make install` takes PREFIX and DESTDIR. Like `make bench` it takes PROGRAM, for another program than the one that it
-# would choose.
+# `make install` takes PREFIX and DESTDIR. Like `make bench` and `make wheel` it takes PROGRAM, for another program than
+# the one that it would choose.
 
 PREFIX ?= /usr/local
 PROGRAM ?= $(shell release/gate.py program)
@@ -54,7 +55,12 @@ install: $(PROGRAM)
 	install -D -m 644 completions/_aig "$(ROOT)/share/zsh/site-functions/_aig"
 	install -D -m 644 -t "$(DOCUMENTS)" *.md LICENSE-*
 	cp -R docs examples "$(DOCUMENTS)"
+	install -D -m 644 python/README.md "$(DOCUMENTS)/python/README.md"
 	chmod -R u=rwX,go=rX "$(DOCUMENTS)"
+
+wheel: $(PROGRAM)
+	@[ "$(PROGRAM)" != build/aig ] || echo "make wheel: warning: nothing of this program is proved" >&2
+	@python/make_wheel.py build "$(PROGRAM)"
 
 dist:
 	@release/pack.py
@@ -62,5 +68,5 @@ dist:
 clean:
 	rm -rf build/aig build/aig_proof_tests build/dist
 
-.PHONY: aig demo test prove bench install dist clean
+.PHONY: aig demo test prove bench install wheel dist clean
 .DELETE_ON_ERROR:

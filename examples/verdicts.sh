@@ -5,8 +5,9 @@
 # TOP is the top module. The columns are the position of the bad state property, the assertion (its label, or its file
 # and the line where it ends), the verdict, what it was found by, and the files that show it. verdict.sh beside this
 # script finds each verdict, and says what the verdicts are, and which variables of the environment set bounds and
-# name programs. The circuit goes into TOP.aig in the current folder. JOBS properties are worked on at once, one per
-# processor if it is left out. The script needs `yosys` too.
+# name programs. The circuit goes into TOP.aig in the current folder, and its properties have the names of the
+# assertions, which `--property` takes. JOBS properties are worked on at once, one per processor if it is left out. The
+# script needs `yosys` too.
 #
 # A frame is one clock cycle. If registers have several clocks, or both edges of one, a frame is the time between any
 # changes of clocks (`clk2fflogic`), and a line says so.
@@ -50,6 +51,10 @@ if [ "$count" != "$(wc -l < "$work/assertions")" ]; then
     cat "$work/assertions" >&2
     exit 1
 fi
+
+# The properties get these names, which `--property` takes.
+"$aig" select --to aig --names "$work/assertions" "$top.aig" > "$work/named.aig"
+mv "$work/named.aig" "$top.aig"
 
 # Each property is a process of its own. Statuses are 0, 4 and 5, unless a tool failed.
 mkdir "$work/done"

@@ -1,6 +1,6 @@
 #!/usr/bin/env python3
-"""Packs a release into build/dist: an archive, a Debian package, and their sums in SHA256SUMS. Both have what
-`make install` installs.
+"""Packs a release into build/dist: an archive and a Debian package, which have what `make install` installs, the wheel
+of the Python package with the program, and their sums in SHA256SUMS.
 
 It refuses unless the tree is clean and the gate has passed this commit. The program is the one that the gate proved.
 The same commit and program give the same files, byte for byte."""
@@ -14,6 +14,9 @@ import sys
 import tempfile
 
 import gate
+
+sys.path.insert(0, gate.ROOT + "/python")
+import make_wheel  # noqa: E402
 
 CONTROL = """\
 Package: aig
@@ -108,6 +111,7 @@ def pack(program, provenance, seconds, folder):
     names = [make_archive(program, provenance, seconds, folder)]
     if shutil.which("dpkg-deb"):
         names.append(make_package(program, provenance, seconds, folder))
+    names.append(make_wheel.make(folder, program))
     with open(f"{folder}/SHA256SUMS", "w", encoding="utf-8") as file:
         file.writelines(f"{gate.sum_of(f'{folder}/{name}')}  {name}\n" for name in names)
     return [*names, "SHA256SUMS"]

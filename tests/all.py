@@ -19,8 +19,10 @@ LARGE = "run_large.py"
 SCRIPTS = ("run_program.py", "run_faults.py", "run_random.py", "run_dist.py", "tour.py")
 # this runs aig_proof_tests
 STEPS = "run_steps.py"
+# this runs the package of Python
+PACKAGE = "python/tests/run_package.py"
 # these read the sources alone
-READERS = ("definitions.py", "contracts.py", "edges.py")
+READERS = ("definitions.py", "contracts.py", "edges.py", "calling.py")
 CRATES = ("aig_tests", "aig_command_tests", "aig_bench_tests")
 COUNTS = re.compile(r"(\d+) passed[,;] (\d+) failed")
 SHOWN = re.compile(r"(?m)^.*(?: passed[,;] |left out|to believe|as the sources).*\n")
@@ -50,6 +52,7 @@ def main():
     lanes = [[(name, [f"{TESTS}/{name}", *program], REPOSITORY) for name in names] for names in ([LARGE], SCRIPTS)]
     steps = [f"{os.path.dirname(program[0])}/aig_proof_tests"] if program else []
     lanes[1] += [(STEPS, [f"{TESTS}/{STEPS}", *steps], REPOSITORY)]
+    lanes[1] += [(PACKAGE, [f"{REPOSITORY}/{PACKAGE}", *program], REPOSITORY)]
     lanes[1] += [(name, [f"{TESTS}/{name}"], REPOSITORY) for name in READERS]
     if chosen.crates:
         lanes.append([(name, ["rt", "try", "--test"], f"{REPOSITORY}/crates/{name}") for name in CRATES])

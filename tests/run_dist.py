@@ -1,12 +1,14 @@
 #!/usr/bin/env python3
 """Installs the program into empty folders: by `make install`, from the archive of a release, and from its Debian
-package. The tour of README.md has to run from there, and all pages, completions and documents have to be there.
+package. The tour of README.md has to run from there, and all pages, completions and documents have to be there. The
+package of Python is installed by pip, from its wheel and from its folder, and its tests run there.
 
 These releases are of no gate, and their PROVENANCE says so. `make dist` itself needs a gate, so a test calls the
 function that decides what it refuses."""
 
 import glob
 import gzip
+import importlib.util
 import os
 import re
 import shutil
@@ -18,7 +20,9 @@ from library.runs import REPOSITORY, LeftOut, contents
 from library.tour import take
 
 sys.path.insert(0, REPOSITORY + "/release")
+sys.path.insert(0, REPOSITORY + "/python")
 import gate  # noqa: E402
+import make_wheel  # noqa: E402
 import pack  # noqa: E402
 
 DOCUMENTS = ("LICENSE-APACHE", "LICENSE-MIT", "docs/BEHAVIOUR.md", "docs/FORMATS.md", "docs/PROVED.md", "docs/wave.png")
@@ -71,7 +75,7 @@ def install(program, tally, _):
 
 
 def archive(program, tally, _):
-    need("make", "bash", "tar", "gzip")
+    need("make", "bash", "tar", "gzip", "objdump")
     name = release(program, "one")[0]
     top = name.removesuffix(".tar.gz")
     tally.compare("archive: its name", top, f"aig-{pack.version_of(program.path)}-x86_64-linux")
@@ -99,6 +103,40 @@ def package(program, tally, _):
     tally.compare("package: PROVENANCE", contents("root/usr/share/doc/aig/PROVENANCE").decode(), PROVENANCE)
 
 
+def in_environment(program, name, given, tally):
+    """Installs the Python package into an environment of its own, without a network, and runs its tests there."""
+    subprocess.run([sys.executable, "-m", "venv", name], check=True)
+    settings = {**os.environ, "AIG_PROGRAM": program.path}
+    pip = subprocess.run([f"{name}/bin/pip", "install", "-q", "--no-index", "--disable-pip-version-check", given],
+                         env=settings, capture_output=True, text=True, check=False)
+    tally.compare(f"{name}: pip", (pip.returncode, pip.stderr), (0, ""))
+    tally.check(f"{name}: the program", contents(f"{name}/bin/aig") == contents(program.path))
+    words = [f"{name}/bin/python", f"{REPOSITORY}/python/tests/run_package.py", "--installed"]
+    settings = {setting: text for setting, text in os.environ.items() if setting != "AIG_PROGRAM"}
+    for part in ("names", "verdicts", "bench"):
+        words += ["--part", part]
+    ran = subprocess.run([*words, program.path], env=settings, capture_output=True, text=True, check=False)
+    tally.check(f"{name}: its tests", ran.returncode == 0 and ran.stdout.count(" 0 failed") == 3, ran)
+
+
+def wheel(program, tally, _):
+    need("objdump")
+    for module in ("venv", "ensurepip"):
+        if importlib.util.find_spec(module) is None:
+            raise LeftOut(f"Python has no {module}")
+    for folder in ("one", "two", "pure"):
+        os.mkdir(folder)
+    name = make_wheel.make("one", program.path)
+    tally.compare("wheel: a second one is the same", contents(f"one/{name}"),
+                  contents(f"two/{make_wheel.make('two', program.path)}"))
+    tally.compare("wheel: without a program", make_wheel.make("pure"), f"aig-{make_wheel.VERSION}-py3-none-any.whl")
+    tally.compare("wheel: its version", make_wheel.VERSION, pack.version_of(program.path))
+    in_environment(program, "of_wheel", os.path.abspath(f"one/{name}"), tally)
+    # pip writes beside the sources that it installs
+    shutil.copytree(f"{REPOSITORY}/python", "python", ignore=shutil.ignore_patterns("__pycache__"))
+    in_environment(program, "of_folder", os.path.abspath("python"), tally)
+
+
 def refusals(_, tally, __):
     """What `make dist` refuses to pack, and when `make install` takes the proved program."""
     proved = RECORD["program"]
@@ -123,7 +161,7 @@ def refusals(_, tally, __):
         tally.check(f"the unproved program: {name}", not is_proved)
 
 
-PARTS = {"install": install, "archive": archive, "package": package, "refusals": refusals}
+PARTS = {"install": install, "archive": archive, "package": package, "wheel": wheel, "refusals": refusals}
 
 if __name__ == "__main__":
     runs.main(__doc__, PARTS)

@@ -19,6 +19,7 @@ from program.helps import helps
 from program.info import info
 from program.kept import kept
 from program.large_proofs import large_proofs
+from program.names import names
 from program.needs import needs
 from program.owners import owners
 from program.pages import pages
@@ -41,7 +42,8 @@ from program.words import words
 PARTS = {"bench": bench, "kept": kept, "owners": owners, "descriptors": descriptors, "words": words, "sim": sim,
          "wave": wave, "check": check, "replays": replays, "toaig": toaig, "unroll": unroll, "cnf": cnf,
          "info": info, "select": select, "witness": witness, "refute": refute, "proofs": proofs,
-         "large_proofs": large_proofs, "certificates": certificates, "properties": properties, "ample": ample, "reduce": reduce, "help": helps,
+         "large_proofs": large_proofs, "certificates": certificates, "properties": properties,
+         "names": names, "ample": ample, "reduce": reduce, "help": helps,
          "pages": pages, "completions": completions, "diagnostics": diagnostics, "explain": explain,
          "explain_option": explain_option, "needs": needs, "talks": talks, "progress": progress, "terminals": terminals}
 

@@ -1,7 +1,6 @@
 """Long witnesses whose values are needed, or some of them, for `aig reduce`. If each needed value cost all later frames,
 or each look all constraints of all later frames, they would take minutes."""
 
-import random
 import resource
 
 from library.runs import Ended, write
@@ -25,7 +24,7 @@ def witnesses():
     yield "a watchdog of 9,000 frames", watchdog(16, 9000, 8)
     yield "65,536 frames, each with a constraint", (constrained(1), ["11"] * 65536, ["1x"] * 65536)
     yield "4,000 frames, each with 1,000 constraints", (constrained(1000), ["11"] * 4000, ["1x"] * 4000)
-    yield "needed values here and there", sparse(10_000, 300)
+    yield "10,000 values, of which each 33rd is needed", sparse(10_000, 33)
 
 
 def watchdog(bits, frames, noise):
@@ -66,21 +65,29 @@ def constrained(count):
     return f"aag 2 2 0 0 0 1 {count}\n2\n4\n2\n" + "2\n" * count
 
 
-def sparse(frames, count):
-    """A latch that keeps 1 while the second input is 1 wherever the first one is. A gate reads a literal twice, so no look
-    back over the run shows which values are needed."""
-    chance = random.Random(frames)
-    needed = set(chance.sample(range(frames - 1), count))
-    circuit = "aag 6 2 1 0 3 1\n2\n4\n6 12 1\n6\n8 2 5\n10 9 9\n12 10 6\n"
-    rows = ["11" if frame in needed else "00" for frame in range(frames)]
-    wanted = ["x1" if frame in needed else "0x" for frame in range(frames - 1)] + ["xx"]
-    return circuit, rows, wanted
+def sparse(frames, period):
+    """A ring of latches, whose last one is 1 at one of so many frames. There the input has to be 1, by a constraint that
+    is a gate with one literal on both sides. No look back over the run shows that it needs one of them."""
+    ring = [4 + 2 * place for place in range(period)]
+    gates = Gates(ring[-1] + 2)
+    missing = gates.both(ring[-1], 3)
+    twice = gates.both(missing, missing)
+    lines = [f"{latch} {ring[place - 1]} {int(place == 0)}\n" for place, latch in enumerate(ring)]
+    head = f"aag {gates.top // 2} 1 {period} 0 {len(gates.lines)} 1 1\n2\n"
+    circuit = head + "".join(lines) + f"1\n{twice ^ 1}\n" + "".join(gates.lines)
+    wanted = ["1" if frame % period == period - 1 else "x" for frame in range(frames)]
+    return circuit, ["1"] * frames, wanted
 
 
 def text(rows, circuit):
-    latches = int(circuit.split(" ", 4)[3])
-    start = {0: "", 1: "1"}.get(latches, "0" * latches)
-    return f"1\nb0\n{start}\n" + "".join(f"{row}\n" for row in rows) + ".\n"
+    return f"1\nb0\n{start(circuit)}\n" + "".join(f"{row}\n" for row in rows) + ".\n"
+
+
+def start(circuit):
+    """What the latches start at by their resets; without one it is 0."""
+    head, *lines = circuit.splitlines()
+    inputs, latches = (int(size) for size in head.split()[2:4])
+    return "".join((line.split() + ["0"])[2] for line in lines[inputs:inputs + latches])
 
 
 def limited():

@@ -32,10 +32,11 @@ UNSEEN = ("invariant", "inverse_ok", "also_owns")
 
 
 def crates():
-    """Returns the names of the libraries in the order of crates.txt: neither the crates of tests nor the program."""
+    """Returns the names of the libraries in the order of crates.txt: neither the crates of tests nor the programs."""
     lines = [line for line in (ROOT / "crates.txt").read_text(encoding="utf-8").split("\n") if line and line[0] != "#"]
     names = [line.partition(":")[0] for line in lines]
-    return [name for name in names if name != "aig" and not name.endswith("_tests")]
+    return [name for name in names
+            if (ROOT / "crates" / name / "src" / "lib.rt").exists() and not name.endswith("_tests")]
 
 
 def braces(text, at):

@@ -122,7 +122,7 @@ WORDS = (
     "cnf --certificate claims model proof", "refute --certificate claims model", "refute model proof",
     "refute --certificate claims --frames 2 model proof", "refute --certificate claims --step proof model proof",
     "refute --certificate claims --frames 2 --step proof model proof", "refute --step proof model proof",
-    "refute --certificate claims --property 4294967296 model proof", "witness --certificate claims model",
+    "witness --certificate claims model",
     "witness --certificate claims model proof", "witness --certificate claims --model found model proof",
     "witness --certificate claims --model found --frames 1 model", "witness --certificate claims --frames 1 model",
     "witness --certificate claims --model found --step model", "witness --certificate claims --property 0 model",

@@ -57,6 +57,10 @@ CASES = (
     ("does not have this bad state property", ["check", WRAPS, "other.wit"], "b7"),
     ("more than 65,536 frames", ["check", "bad_input", "many.wit"], "at most 65,536 frames"),
     ("No frame of the stimulus reaches", ["witness", WRAPS, "nothing"], "aig sim CIRCUIT STIM"),
+    ("No property of the section", ["select", "--to", "aag", "--property", "other", "two_gates"], "that --property gives"),
+    ("these two positions", ["select", "--to", "aag", "--property", "p", "twice_named"], "at these two positions"),
+    ("does not have one line per property", ["select", "--to", "aag", "--names", "zero.drat", "two_gates"],
+     "one line for each property"),
     ("does not have this property", ["select", "--to", "aag", "--property", "0", "two_gates"], "aig info --names CIRCUIT"),
     ("K is 0", ["unroll", "--frames", "0", "--to", "aag", "two_gates"], "K is 0"),
     ("has justice properties", ["unroll", "--frames", "2", "--to", "aag", "live"], "justice properties: 1"),
@@ -118,7 +122,7 @@ def is_met(tally, rows, met, word, said):
     found = [row for row in rows if word in row[1]]
     tally.compare(f"diagnostics: rows on {word!r}", len(found), 1)
     for message, cause, _ in found:
-        form = re.sub(r"(?<=[ i])[ANPV]$", lambda _: "[0-9]+", message.strip("`"))
+        form = re.sub(r"(?<=[ i])[ANPV]\b", lambda _: "[0-9]+", message.strip("`"))
         tally.check(f"diagnostics: {cause}", re.fullmatch(f"{form}\n".encode(), said), said)
         met.add(cause)
 
@@ -129,7 +133,7 @@ def write_files():
     counter = contents(COUNTER)
     witness = contents("examples/wraps.wit").decode()
     for name, data in {
-            "nothing": "", "zero.drat": "0\n", "bom": b"\xef\xbb\xbf" + counter, "counter.aag.gz": gzip.compress(counter),
+            "twice_named": "aag 1 1 0 0 0 2\n2\n2\n3\nb0 p\nb1 p\n", "nothing": "", "zero.drat": "0\n", "bom": b"\xef\xbb\xbf" + counter, "counter.aag.gz": gzip.compress(counter),
             "verilog": "module m(input a, output b); endmodule\n", "blif": ".model m\n.inputs a\n.end\n",
             "aig2": "aig2 0 0 0 0 0\n", "unended": "aag 0 0 0 0 0\nc", "records": "aag 0 0 0 0 0\ncn\0\0",
             "range": "aag 1 1 0 1 0\n2\n4\n", "odd": "aag 1 1 0 0 0\n3\n", "twice": "aag 2 2 0 0 0\n2\n2\n",

@@ -566,6 +566,11 @@ def others(rows):
              "select: property", ["the section has no property at a position that --property names",
                                   "positions count from 0: aig info --names CIRCUIT prints them",
                                   "a circuit of AIGER 1.0 has outputs alone: --from outputs"])
+    for text, notes in (("one\ntwo\n", []), ("one", ["the last line has no LF at its end"]), ("", [])):
+        rows.row(f"names of another length: {text!r}",
+                 ["select", "--to", "aag", "--names", write("names", text), "wraps"], "names: lines",
+                 [f"lines with an LF at their end: {text.count(chr(10))}", *notes,
+                  "wanted: one line for each property that is written; an empty line gives it no name"])
     rows.row("a property that no run can reach", ["witness", "--property", "7", "wraps", write("s", "1\n")],
              "witness: property", ["the circuit has no bad state property at this position",
                                    "positions count from 0: aig info CIRCUIT prints the number of properties"])

@@ -29,6 +29,30 @@ SELECTIONS = (
      + GATES + "i1 go\nb0 both\nc0 held\nl0 state\nc\nby hand\n"),
 )
 
+# The same with names: a name of the row, options, the file of names, and what is written of the design.
+NAMED = (
+    ("each property", "", "first\nsecond\nthird\n", "aag 5 2 1 0 2 3 1\n2\n4\n6 10 1\n8\n9\n0\n5\n" + GATES
+     + "i1 go\nc0 held\nl0 state\nb0 first\nb1 second\nb2 third\nc\nby hand\n"),
+    ("an empty line is no name", "", "\nsecond\n\n", "aag 5 2 1 0 2 3 1\n2\n4\n6 10 1\n8\n9\n0\n5\n" + GATES
+     + "i1 go\nc0 held\nl0 state\nb1 second\nc\nby hand\n"),
+    ("in the order that is written", "--property 2 --property 0", "third\nfirst\n",
+     "aag 5 2 1 0 2 2 1\n2\n4\n6 10 1\n0\n8\n5\n" + GATES
+     + "i1 go\nc0 held\nl0 state\nb0 third\nb1 first\nc\nby hand\n"),
+    ("as outputs", "--as outputs --property 1", " b1  x = 7 \n", "aag 5 2 1 1 2 0 1\n2\n4\n6 10 1\n9\n5\n" + GATES
+     + "i1 go\nc0 held\nl0 state\no0  b1  x = 7 \nc\nby hand\n"),
+    ("one name twice", "--from outputs", "same\nsame\n", "aag 5 2 1 0 2 2 1\n2\n4\n6 10 1\n8\n1\n5\n" + GATES
+     + "i1 go\nc0 held\nl0 state\nb0 same\nb1 same\nc\nby hand\n"),
+)
+
+# Files of names that are not one line per property.
+UNNAMED = (
+    ("a line is missing", "", "first\nsecond\n"),
+    ("a line too many", "", "first\nsecond\nthird\n\n"),
+    ("no LF at the end", "", "first\nsecond\nthird"),
+    ("bytes after the last line", "--property 0", "first\nsecond"),
+    ("no lines", "--property 0", ""),
+)
+
 # Other circuits.
 CIRCUITS = (
     ("no property to choose from", "", "aag 2 1 0 1 1\n2\n4\n4 2 2\no0 a\n", "aag 2 1 0 0 1\n2\n4 2 2\n"),
@@ -56,7 +80,7 @@ REFUSALS = (
     ("an output where there is none", "--from outputs --property 0", TEXTS["bad_input"]),
 )
 
-WORDS = ("--from inputs", "--as Bad", "--property", "--property -1", "--property 4294967296", "--property b0",
+WORDS = ("--from inputs", "--as Bad", "--property", "--property -1",
          "--from bad --from bad")
 
 
@@ -69,6 +93,18 @@ def select(program, tally, _):
         rows.gives(name, arguments("aag", options), text, source=circuit)
     for name, options, circuit, binary in BINARY:
         rows.gives(name, arguments("aig", options), binary, source=circuit)
+    for name, options, names, text in NAMED:
+        rows.gives(f"names: {name}", arguments("aag", f"{options} --names names"), text, source=DESIGN,
+                   names=names)
+    for name, options, names in UNNAMED:
+        rows.refuses(f"names: {name}", arguments("aag", f"{options} --names names"), "names: lines", source=data(DESIGN),
+                     names=names)
+    rows.gives("names: of no property", arguments("aig", "--names names"), "aig 1 1 0 0 0\n", source="aag 1 1 0 0 0\n2\n",
+               names=b"")
+    rows.refuses("names: a property that is not there", arguments("aag", "--property 3 --names names"), "select: property",
+                 source=data(DESIGN), names=b"")
+    rows.refuses("names: no circuit", arguments("aag", "--names names"), "circuit: text at 0", source="", names=b"")
+    rows.fails("names: no file", f"select --to aag --names nowhere {EXAMPLES}/wraps.aag", "names")
     for name, options, circuit in REFUSALS:
         for to in ("aag", "aig"):
             rows.refuses(f"{name}, to {to}", arguments(to, options), "select: property", source=data(circuit))

@@ -27,14 +27,11 @@ REFUSALS = (
     ("a number of frames over its limit", ["unroll", "--frames", "4294967296", "--to", "aag", "two_gates"]),
     ("a number of frames with a letter", ["unroll", "--frames", "2k", "--to", "aag", "two_gates"]),
     ("no number of frames for a formula", ["cnf", "two_gates"]),
-    ("a position with a letter", ["cnf", "--frames", "2", "--property", "b0", "two_gates"]),
     ("a position that is given twice", ["cnf", "--frames", "2", "--property", "0", "--property", "0", "two_gates"]),
     ("no format to unroll to", ["unroll", "--frames", "2", "two_gates"]),
     ("no format to select to", ["select", "two_gates"]),
     ("an unknown section", ["select", "--from", "justice", "--to", "aag", "two_gates"]),
-    ("a property with a letter", ["select", "--to", "aag", "--property", "0", "--property", "b1", "two_gates"]),
     ("no stimulus to run", ["witness", "two_gates"]),
-    ("a property of a witness with a letter", ["witness", "--property", "b1", "two_gates", "two_gates"]),
     ("a model and a stimulus", ["witness", "--model", "model", "--frames", "2", "two_gates", "two_gates"]),
     ("a model without a number of frames", ["witness", "--model", "model", "two_gates"]),
     ("a step without a model", ["witness", "--step", "two_gates", "two_gates"]),
@@ -43,7 +40,6 @@ REFUSALS = (
     ("no proof to refute with", ["refute", "--frames", "2", "two_gates"]),
     ("no number of frames to refute", ["refute", "two_gates", "proof"]),
     ("no witness to reduce", ["reduce", "two_gates"]),
-    ("a property over its limit", ["select", "--to", "aag", "--property", "4294967296", "two_gates"]),
 )
 
 
@@ -73,12 +69,9 @@ def words(program, tally, _):
 
 
 # Runs with an option that has the number N, and how messages show the option.
-ODD = [(words.split(" "), option) for words, option in (
-    ("unroll --frames N --to aag two_gates", "--frames <K>"), ("cnf --frames N two_gates", "--frames <K>"),
-    ("cnf --frames 1 --property N two_gates", "--property <P>"), ("cnf --frames=1 --property=N two_gates", "--property <P>"),
-    ("refute --frames N two_gates proof", "--frames <K>"), ("witness --property N two_gates two_gates", "--property <P>"),
-    ("witness --model model --frames N two_gates", "--frames <K>"),
-    ("select --to aag --property 0 --property N two_gates", "--property <P>"))]
+ODD = [(words.split(" "), "--frames <K>") for words in (
+    "unroll --frames N --to aag two_gates", "cnf --frames N two_gates", "cnf --property 1 --frames=N two_gates",
+    "refute --frames N two_gates proof", "witness --model model --frames N two_gates")]
 
 
 def odd(number, option):

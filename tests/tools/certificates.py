@@ -173,5 +173,6 @@ def shown(program, tally):
     """The commands of docs/FLOW.md, in their order; those before made `queue.aig`."""
     room(program, EXAMPLES, "flow")
     typed("flow", "examples/flow.sh examples/queue.v queue")
-    for command, wanted in steps("docs/FLOW.md", "## If no run reaches it"):
-        tally.compare(f"certificates: {command}", typed("flow", command), wanted)
+    for heading in ("## Without files between the tools", "## If no run reaches it"):
+        for command, wanted in steps("docs/FLOW.md", heading):
+            tally.compare(f"certificates: {command}", typed("flow", command), wanted)

@@ -52,14 +52,6 @@ ends_unread (Ok done) exit part why is = absurd is
 ends_unread (Err e) exit part (inl why) is = unread e refl (inl (part, is ∙ why))
 ends_unread (Err e) exit part (inr why) is = unread e refl (inr (is ∙ why))
 
--- positions that are not read are reported so
-pub ends_unselected : {T : Type 0} {end : Result T RunFault → Result (Unit {0}) Exit} {Means : Result T RunFault → List ℕ → Type 0}
-    (r : Result (Unit {0}) Exit) (exit : Exit) → (exit ≡ exits.NoCommand) ⊎ (exit ≡ exits.Run run_faults.Memory)
-    → IsErrAnd r (λ e. e ≡ exit) → (r ≡ Err exits.NoCommand) ⊎ Ends end Means r
-ends_unselected (Ok done) exit why is = absurd is
-ends_unselected (Err e) exit (inl why) is = inl (ap Err (is ∙ why))
-ends_unselected (Err e) exit (inr why) is = inr (unread e refl (inr (is ∙ why)))
-
 -- a file of an option that is not written is reported so, whatever the answer was
 pub ends_unwritten : {T : Type 0} {Means : Result T RunFault → List ℕ → Type 0} (r : Result (Unit {0}) Exit) (exit : Exit)
     → IsUnwritten exit → IsErrAnd r (λ e. e ≡ exit) → Ends end_of Means r

@@ -1,7 +1,14 @@
 -- Which options a command has, by what the matches of the parser hold for it.
-use Rattle.std.specs.Prelude.{ℕ, List, true, false, Some, codes, ⊤}
+use Rattle.std.specs.Prelude.{◌≡◌, ◌⊎◌, ℕ, List, true, false, Option, None, Some, codes, ⊤}
+use Rattle.std.specs.Option.{unwrap_or}
+use Rattle.clap.specs.Matches.{first_value, found_of}
 use Rattle.clap.specs.declared.parser.matches.ArgMatches.{ArgMatches}
-use Rattle.aig_cli.specs.Held.{HoldsFlag, HoldsNumber, HoldsNumberOr}
+use Rattle.aig_base.specs.declared.select.PropertySection.TheVariants.{Bad}
+use Rattle.aig_names.specs.Property.{IsNumbered}
+use Rattle.aig_run.specs.Position.{IsPositionIn}
+use Rattle.aig_files.specs.Source.{source_remaining}
+use Rattle.aig_files.specs.declared.source.Source.{Source}
+use Rattle.aig_cli.specs.Held.{HoldsFlag, HoldsNumber}
 use Rattle.aig_cnf.specs.declared.query.Goal.{Goal}
 use Rattle.aig_cnf.specs.declared.query.Goal.TheVariants as goals
 use Rattle.aig_cnf.specs.declared.query.Query.{Query}
@@ -14,33 +21,51 @@ HoldsGoal matches goals.Within = HoldsFlag matches (codes "step") false
 HoldsGoal matches goals.Step = HoldsFlag matches (codes "step") true
 HoldsGoal matches _ = ⊥
 
--- the property: 0 where it is left out
-abbrev pub HoldsProperty : ArgMatches → ℕ → Type 0
-HoldsProperty matches property = HoldsNumberOr matches (codes "P") 0 property
+-- a text names the bad state property at this position: by its number, or else by its name in the circuit that is read,
+-- whose bytes are all there
+abbrev pub NamesProperty : {F : Type 0} → List ℕ → Source F → ℕ → Type 0
+NamesProperty text circuit property =
+    IsNumbered Bad text property
+    ⊎ ((file : List ℕ) × (source_remaining (λ file. None) circuit ≡ Some file) × IsPositionIn file Bad text property)
+
+-- the text of the property: `0` where it is left out
+abbrev pub property_text : ArgMatches → List ℕ
+property_text matches = unwrap_or (first_value (found_of matches) (codes "P")) (codes "0")
+
+-- the property of a circuit
+abbrev pub HoldsProperty : {F : Type 0} → ArgMatches → Source F → ℕ → Type 0
+HoldsProperty matches circuit property = NamesProperty (property_text matches) circuit property
+
+-- the property, if one is named
+abbrev pub HoldsReached : {F : Type 0} → ArgMatches → Source F → Option ℕ → Type 0
+HoldsReached matches circuit None = first_value (found_of matches) (codes "P") ≡ None
+HoldsReached matches circuit (Some property) =
+    (text : List ℕ) × (first_value (found_of matches) (codes "P") ≡ Some text) × NamesProperty text circuit property
 
 -- the number of frames, and the property
-abbrev pub HoldsClaim : ArgMatches → ℕ → ℕ → Type 0
-HoldsClaim matches frames property = HoldsNumber matches (codes "K") (Some frames) × HoldsProperty matches property
+abbrev pub HoldsClaim : {F : Type 0} → ArgMatches → Source F → ℕ → ℕ → Type 0
+HoldsClaim matches circuit frames property =
+    HoldsNumber matches (codes "K") (Some frames) × HoldsProperty matches circuit property
 
 -- and the goal
-abbrev pub HoldsQuery : ArgMatches → Query → Type 0
-HoldsQuery matches query =
-    HoldsGoal matches query.goal × HoldsClaim matches query.frames query.property
+abbrev pub HoldsQuery : {F : Type 0} → ArgMatches → Source F → Query → Type 0
+HoldsQuery matches circuit query =
+    HoldsGoal matches query.goal × HoldsClaim matches circuit query.frames query.property
 
 -- the numbers and the flags of a command are those that the matches hold
-abbrev pub HoldsOptions : {F : Type 0} → ArgMatches → Command F → Type 0
+abbrev pub HoldsOptions : {F : Type 0} → ArgMatches → Command (Source F) → Type 0
 HoldsOptions matches (commands.Unroll frames to circuit) = HoldsNumber matches (codes "K") (Some frames)
 HoldsOptions matches (commands.UnrollAndMap frames to circuit opened map) = HoldsNumber matches (codes "K") (Some frames)
 HoldsOptions matches (commands.Check with_trace circuit witness) = HoldsFlag matches (codes "trace") with_trace
-HoldsOptions matches (commands.Cnf query circuit) = HoldsQuery matches query
+HoldsOptions matches (commands.Cnf query circuit) = HoldsQuery matches circuit query
 HoldsOptions matches (commands.CnfAlive frames circuit) = HoldsNumber matches (codes "K") (Some frames)
-HoldsOptions matches (commands.Witness property circuit stimulus) = HoldsNumber matches (codes "P") property
-HoldsOptions matches (commands.ModelWitness query circuit model) = HoldsQuery matches query
-HoldsOptions matches (commands.Refute frames property circuit proof) = HoldsClaim matches frames property
+HoldsOptions matches (commands.Witness property circuit stimulus) = HoldsReached matches circuit property
+HoldsOptions matches (commands.ModelWitness query circuit model) = HoldsQuery matches circuit query
+HoldsOptions matches (commands.Refute frames property circuit proof) = HoldsClaim matches circuit frames property
 HoldsOptions matches (commands.RefuteAlive frames circuit proof) = HoldsNumber matches (codes "K") (Some frames)
-HoldsOptions matches (commands.RefuteStep frames property circuit proof step) = HoldsClaim matches frames property
-HoldsOptions matches (commands.Strengthen property to circuit certificate) = HoldsProperty matches property
-HoldsOptions matches (commands.CnfCertified property circuit certificate) = HoldsProperty matches property
-HoldsOptions matches (commands.CertifiedModelWitness property circuit certificate model) = HoldsProperty matches property
-HoldsOptions matches (commands.RefuteCertified property circuit certificate proof) = HoldsProperty matches property
+HoldsOptions matches (commands.RefuteStep frames property circuit proof step) = HoldsClaim matches circuit frames property
+HoldsOptions matches (commands.Strengthen property to circuit certificate) = HoldsProperty matches circuit property
+HoldsOptions matches (commands.CnfCertified property circuit certificate) = HoldsProperty matches circuit property
+HoldsOptions matches (commands.CertifiedModelWitness property circuit certificate model) = HoldsProperty matches circuit property
+HoldsOptions matches (commands.RefuteCertified property circuit certificate proof) = HoldsProperty matches circuit property
 HoldsOptions matches _ = ⊤

@@ -16,13 +16,14 @@ use Rattle.aig_commands.specs.ModelWitness.{WritesModel}
 use Rattle.aig_commands.specs.Names.{ListsNames}
 use Rattle.aig_commands.specs.Reduce.{Reduces}
 use Rattle.aig_commands.specs.Refute.{Refutes, RefutesInduction, RefutesStep}
+use Rattle.aig_commands.specs.Select.{Selects}
 use Rattle.aig_commands.specs.Sim.{WritesSimulation}
 use Rattle.aig_commands.specs.Toaig.{Converts}
 use Rattle.aig_commands.specs.Unroll.{UnrollsKept}
 use Rattle.aig_commands.specs.Wave.{DumpsRun, WritesWave}
 use Rattle.aig_commands.specs.Witness.{WritesWitness}
 use Rattle.aig_files.specs.declared.exit.Exit.{Exit}
-use Rattle.aig.specs.Ends.{ChecksWitness, Ends, EndsSelecting, ForSomeText, end_of, end_of_verdict}
+use Rattle.aig.specs.Ends.{ChecksWitness, Ends, EndsSelectingNamed, ForSomeText, end_of, end_of_verdict}
 use Rattle.aig.specs.declared.command.Command.{Command}
 use Rattle.aig.specs.declared.command.Command.TheVariants as commands
 
@@ -53,7 +54,10 @@ EndsAsMeant left (commands.CnfAlive frames circuit) result =
 EndsAsMeant left (commands.Info circuit) result =
     IfSome (left circuit) (λ file. Ends end_of (OfFile file (ListsFacts file)) result)
 EndsAsMeant left (commands.InfoNames circuit) result = Ends end_of (OfCircuit ListsNames) result
-EndsAsMeant left (commands.Select selection to circuit) result = EndsSelecting selection.from selection.into to result
+EndsAsMeant left (commands.Select selection to circuit) result =
+    Ends end_of (OfCircuit (Selects selection.from selection.into selection.positions.items to)) result
+EndsAsMeant left (commands.SelectNamed selection to circuit names) result =
+    IfSome (left names) (λ text. EndsSelectingNamed selection.from selection.into selection.positions.items text to result)
 EndsAsMeant left (commands.Witness property circuit stimulus) result =
     IfSome (left circuit) (λ file. IfSome (left stimulus) (λ text.
     Ends end_of (OfFile file (WritesWitness property text)) result))

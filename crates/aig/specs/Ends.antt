@@ -12,7 +12,8 @@ use Rattle.aig_files.specs.declared.exit.Exit.{Exit}
 use Rattle.aig_files.specs.declared.exit.Exit.TheVariants as exits
 use Rattle.aig_terminal.specs.declared.part.Part.{Part}
 use Rattle.aig_commands.specs.Check.{Checks, ChecksAndTraces, ShowsVerdict}
-use Rattle.aig_commands.specs.Select.{Selects}
+use Rattle.aig_commands.specs.Select.{SelectsNamed}
+use Rattle.aig_commands.specs.declared.select.NamedSelection.{NamedSelection}
 
 -- A command answers this for what its contract means, with bytes that reach standard output; or a write failed.
 pub data Answers {T : Type 0} (Means : Result T RunFault → List ℕ → Type 0) : Result T RunFault → Type 0 where
@@ -56,11 +57,11 @@ pub data Ends {T : Type 0} (end : Result T RunFault → Result (Unit {0}) Exit) 
 abbrev pub AreConfirmed : List ℕ → List ℕ → Type 0
 AreConfirmed file text = (raw : Raw) × IsFileOf file raw × ShowsVerdict raw text Confirmed
 
--- `select` ends as it means for some positions, or one of them is no number
-abbrev pub EndsSelecting : PropertySection → PropertySection → Format → Result (Unit {0}) Exit → Type 0
-EndsSelecting from into to result =
-    (result ≡ Err exits.NoCommand)
-    ⊎ Ends end_of (λ answer bytes. (positions : List ℕ) × OfCircuit (Selects from into positions to) answer bytes) result
+-- `select --names` ends as it means for these positions and the text of names
+abbrev pub EndsSelectingNamed : PropertySection → PropertySection → List ℕ → List ℕ → Format → Result (Unit {0}) Exit → Type 0
+EndsSelectingNamed from into positions text to result =
+    Ends end_of (λ answer bytes. (s : NamedSelection) × (s.from ≡ from) × (s.into ≡ into) × (s.positions.now ≡ positions)
+    × (s.names.now ≡ text) × OfCircuit (SelectsNamed s to) answer bytes) result
 
 -- what `check` means, with `--trace` or without
 abbrev pub ChecksWitness : Bool → List ℕ → Raw → Result Verdict RunFault → List ℕ → Type 0

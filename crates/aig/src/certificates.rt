@@ -74,7 +74,7 @@ pub fn certified_model_witness<R: AllocGlobal + Print, F: Read + Drop>(
 ) -> Result<(), Exit>
     ensures ends { IfSome (F.remaining circuit) (λ file. IfSome (F.remaining certificate) (λ claims.
         IfSome (F.remaining model) (λ text.
-            Ends end_of (OfCertified purposes.Formula file property claims (WritesModel (induction 1 0) text)) result))) }
+        Ends end_of (OfCertified purposes.Formula file property claims (WritesModel (induction 1 0) text)) result))) }
 {
     let circuit = read_whole(rt.alloc(), circuit, Part::Circuit)?;
     let certificate = read_whole(rt.alloc(), certificate, Part::Certificate)?;
@@ -88,12 +88,7 @@ pub fn certified_model_witness<R: AllocGlobal + Print, F: Read + Drop>(
         certificate: claims,
     };
     let mut out = output(rt);
-    ended(model_witness::certified_model_witness(
-        rt.alloc(),
-        certified,
-        text,
-        &mut out,
-    ))
+    ended(model_witness::certified_model_witness(rt.alloc(), certified, text, &mut out))
 }
 
 /// Checks a proof that a certificate is right, and writes the answer.
@@ -120,10 +115,5 @@ pub fn refute_certified<R: AllocGlobal + Print, F: Read + Drop>(
     };
     let mut proof = Std::new(proof);
     let mut out = output(rt);
-    ended(refute::refute_certified(
-        rt.alloc(),
-        certified,
-        &mut proof,
-        &mut out,
-    ))
+    ended(refute::refute_certified(rt.alloc(), certified, &mut proof, &mut out))
 }

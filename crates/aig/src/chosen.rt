@@ -1,24 +1,28 @@
 //! The command that the arguments choose. The parser has accepted them, so what a command needs is there.
-ghost use Rattle.std.specs.Prelude.{IfOk, Some, codes};
-ghost use Rattle.aig_cli.specs.Held.{HoldsNumber, HoldsNumberOr};
-ghost use Rattle.aig.specs.Chosen.{HoldsGoal, HoldsOptions, HoldsQuery};
+ghost use Rattle.std.specs.Prelude.{◌≡◌, IfOk, Some, codes};
+ghost use Rattle.aig_cli.specs.Held.{HoldsNumber};
+ghost use Rattle.aig.specs.Chosen.{HoldsGoal, HoldsOptions, HoldsProperty, HoldsQuery, HoldsReached, NamesProperty, property_text};
 
 use crate::command::{Command, Selection};
 use aig_base::PropertySection;
 use aig_cli::{has_flag, number_of, number_or, subcommand_of, text_of, texts_of};
 use aig_cnf::{Goal, Query};
-use aig_files::{Exit, Kept, Part, RunFiles, open};
+use aig_files::{Exit, Kept, Part, RunFiles, Source, open, read_whole};
 use aig_format::Format;
+use aig_names::{number_of as number_in, position_of};
+use aig_run::{RunFault, position_in, read_circuit};
 use aig_terminal::{Terminal, Tracked};
 use clap::ArgMatches;
+use std::alloc::Global;
 use std::fs::Files;
+use std::io::Cursor;
 use std::time::Clock;
 
 /// Returns the command that the arguments choose, with its options, and opens its files in the order of the arguments.
-pub fn open_chosen<'m, 't, R: Files + Clock + Eprint>(
+pub fn open_chosen<'m, 't, R: Files + AllocGlobal + Clock + Eprint>(
     terminal: &'t Terminal<'t, R>,
     matches: &'m ArgMatches<'_>,
-) -> Result<Command<'m, Tracked<'t, R, R::File>>, Exit> {
+) -> Result<Command<'m, Source<Tracked<'t, R, R::File>>>, Exit> {
     match subcommand_of(matches) {
         Some((name, matches)) => open_command(terminal, name, matches),
         None => Err(Exit::NoCommand),
@@ -26,11 +30,11 @@ pub fn open_chosen<'m, 't, R: Files + Clock + Eprint>(
 }
 
 /// Opens the files of a command. Its options are those that its own matches hold.
-fn open_command<'m, 't, R: Files + Clock + Eprint>(
+fn open_command<'m, 't, R: Files + AllocGlobal + Clock + Eprint>(
     terminal: &'t Terminal<'t, R>,
     name: &str,
     matches: &'m ArgMatches<'_>,
-) -> Result<Command<'m, Tracked<'t, R, R::File>>, Exit>
+) -> Result<Command<'m, Source<Tracked<'t, R, R::File>>>, Exit>
     ensures options { IfOk result (HoldsOptions matches.now) }
 {
     match name {
@@ -52,7 +56,7 @@ fn open_command<'m, 't, R: Files + Clock + Eprint>(
 }
 
 /// Opens the file that an argument names.
-fn open_named<'t, R: Files + Clock + Eprint>(
+fn open_file<'t, R: Files + AllocGlobal + Clock + Eprint>(
     terminal: &'t Terminal<'t, R>,
     matches: &ArgMatches<'_>,
     name: &str,
@@ -64,17 +68,27 @@ fn open_named<'t, R: Files + Clock + Eprint>(
     }
 }
 
-fn open_circuit<'t, R: Files + Clock + Eprint>(
+/// The same, as what a command reads.
+fn open_named<'t, R: Files + AllocGlobal + Clock + Eprint>(
     terminal: &'t Terminal<'t, R>,
     matches: &ArgMatches<'_>,
-) -> Result<Tracked<'t, R, R::File>, Exit> {
+    name: &str,
+    part: Part,
+) -> Result<Source<Tracked<'t, R, R::File>>, Exit> {
+    Ok(Source::File(open_file(terminal, matches, name, part)?))
+}
+
+fn open_circuit<'t, R: Files + AllocGlobal + Clock + Eprint>(
+    terminal: &'t Terminal<'t, R>,
+    matches: &ArgMatches<'_>,
+) -> Result<Source<Tracked<'t, R, R::File>>, Exit> {
     open_named(terminal, matches, "CIRCUIT", Part::Circuit)
 }
 
-fn open_certificate<'t, R: Files + Clock + Eprint>(
+fn open_certificate<'t, R: Files + AllocGlobal + Clock + Eprint>(
     terminal: &'t Terminal<'t, R>,
     matches: &ArgMatches<'_>,
-) -> Result<Tracked<'t, R, R::File>, Exit> {
+) -> Result<Source<Tracked<'t, R, R::File>>, Exit> {
     open_named(terminal, matches, "certificate", Part::Certificate)
 }
 
@@ -97,11 +111,45 @@ fn frames_of(matches: &ArgMatches<'_>) -> Result<u32, Exit>
     }
 }
 
-/// Returns the position of the property, 0 if it is left out.
-fn property_of(matches: &ArgMatches<'_>) -> u32
-    ensures held { HoldsNumberOr matches.now (codes "P") 0 result }
+/// Returns the text of the property, `0` if it is left out.
+fn property_text<'a>(matches: &ArgMatches<'a>) -> &'a str
+    ensures held { result.now ≡ property_text matches.now }
 {
-    number_or(matches, "P", 0)
+    text_of(matches, "P").unwrap_or("0")
+}
+
+/// Opens the circuit, and finds the bad state property that a text names. The circuit is read for that only if the text
+/// is a name: the command then has its bytes.
+fn open_circuit_for<'t, R: Files + AllocGlobal + Clock + Eprint>(
+    terminal: &'t Terminal<'t, R>,
+    matches: &ArgMatches<'_>,
+    property: &str,
+) -> Result<(Source<Tracked<'t, R, R::File>>, u32), Exit>
+    ensures named { IfOk result (λ r. NamesProperty property.now r.0 r.1) }
+{
+    let file = open_file(terminal, matches, "CIRCUIT", Part::Circuit)?;
+    let text = property.as_bytes();
+    if let Some(position) = number_in(PropertySection::Bad, text) {
+        return Ok((Source::File(file), position));
+    }
+    let bytes = read_whole(terminal.alloc(), file, Part::Circuit)?;
+    let position = position_in(
+        terminal.alloc(),
+        bytes.as_slice(),
+        PropertySection::Bad,
+        text,
+    )?;
+    Ok((Source::Bytes(Cursor::new(bytes)), position))
+}
+
+/// Opens the circuit, and finds its property.
+fn open_circuit_and_property<'t, R: Files + AllocGlobal + Clock + Eprint>(
+    terminal: &'t Terminal<'t, R>,
+    matches: &ArgMatches<'_>,
+) -> Result<(Source<Tracked<'t, R, R::File>>, u32), Exit>
+    ensures named { IfOk result (λ r. HoldsProperty matches.now r.0 r.1) }
+{
+    open_circuit_for(terminal, matches, property_text(matches))
 }
 
 /// Returns the goal: with the flag `--step` that of an induction step.
@@ -115,15 +163,22 @@ fn goal_of(matches: &ArgMatches<'_>) -> Goal
     }
 }
 
-/// Returns the question about a bad state property.
-fn query_of(matches: &ArgMatches<'_>) -> Result<Query, Exit>
-    ensures held { IfOk result (HoldsQuery matches.now) }
+/// Opens the circuit, and returns the question about its property.
+fn open_circuit_and_query<'t, R: Files + AllocGlobal + Clock + Eprint>(
+    terminal: &'t Terminal<'t, R>,
+    matches: &ArgMatches<'_>,
+) -> Result<(Source<Tracked<'t, R, R::File>>, Query), Exit>
+    ensures held { IfOk result (λ r. HoldsQuery matches.now r.0 r.1) }
 {
-    Ok(Query {
-        goal: goal_of(matches),
-        frames: frames_of(matches)?,
-        property: property_of(matches),
-    })
+    let goal = goal_of(matches);
+    let frames = frames_of(matches)?;
+    let (circuit, property) = open_circuit_and_property(terminal, matches)?;
+    let query = Query {
+        goal,
+        frames,
+        property,
+    };
+    Ok((circuit, query))
 }
 
 /// Returns the section that an option names; bad state properties if it is left out.
@@ -134,10 +189,10 @@ fn section_of(matches: &ArgMatches<'_>, name: &str) -> PropertySection {
     }
 }
 
-fn open_toaig<'m, 't, R: Files + Clock + Eprint>(
+fn open_toaig<'m, 't, R: Files + AllocGlobal + Clock + Eprint>(
     terminal: &'t Terminal<'t, R>,
     matches: &'m ArgMatches<'_>,
-) -> Result<Command<'m, Tracked<'t, R, R::File>>, Exit>
+) -> Result<Command<'m, Source<Tracked<'t, R, R::File>>>, Exit>
     ensures options { IfOk result (HoldsOptions matches.now) }
 {
     let to = format_of(matches)?;
@@ -145,10 +200,10 @@ fn open_toaig<'m, 't, R: Files + Clock + Eprint>(
     Ok(Command::Toaig { to, circuit })
 }
 
-fn open_sim<'m, 't, R: Files + Clock + Eprint>(
+fn open_sim<'m, 't, R: Files + AllocGlobal + Clock + Eprint>(
     terminal: &'t Terminal<'t, R>,
     matches: &'m ArgMatches<'_>,
-) -> Result<Command<'m, Tracked<'t, R, R::File>>, Exit>
+) -> Result<Command<'m, Source<Tracked<'t, R, R::File>>>, Exit>
     ensures options { IfOk result (HoldsOptions matches.now) }
 {
     let circuit = open_circuit(terminal, matches)?;
@@ -156,10 +211,10 @@ fn open_sim<'m, 't, R: Files + Clock + Eprint>(
     Ok(Command::Sim { circuit, stimulus })
 }
 
-fn open_wave<'m, 't, R: Files + Clock + Eprint>(
+fn open_wave<'m, 't, R: Files + AllocGlobal + Clock + Eprint>(
     terminal: &'t Terminal<'t, R>,
     matches: &'m ArgMatches<'_>,
-) -> Result<Command<'m, Tracked<'t, R, R::File>>, Exit>
+) -> Result<Command<'m, Source<Tracked<'t, R, R::File>>>, Exit>
     ensures options { IfOk result (HoldsOptions matches.now) }
 {
     let circuit = open_circuit(terminal, matches)?;
@@ -172,10 +227,10 @@ fn open_wave<'m, 't, R: Files + Clock + Eprint>(
     }
 }
 
-fn open_bench<'m, 't, R: Files + Clock + Eprint>(
+fn open_bench<'m, 't, R: Files + AllocGlobal + Clock + Eprint>(
     terminal: &'t Terminal<'t, R>,
     matches: &'m ArgMatches<'_>,
-) -> Result<Command<'m, Tracked<'t, R, R::File>>, Exit>
+) -> Result<Command<'m, Source<Tracked<'t, R, R::File>>>, Exit>
     ensures options { IfOk result (HoldsOptions matches.now) }
 {
     let circuit = open_circuit(terminal, matches)?;
@@ -189,20 +244,20 @@ fn open_bench<'m, 't, R: Files + Clock + Eprint>(
     })
 }
 
-fn open_unroll<'m, 't, R: Files + Clock + Eprint>(
+fn open_unroll<'m, 't, R: Files + AllocGlobal + Clock + Eprint>(
     terminal: &'t Terminal<'t, R>,
     matches: &'m ArgMatches<'_>,
-) -> Result<Command<'m, Tracked<'t, R, R::File>>, Exit>
+) -> Result<Command<'m, Source<Tracked<'t, R, R::File>>>, Exit>
     ensures options { IfOk result (HoldsOptions matches.now) }
 {
     let frames = frames_of(matches)?;
     let to = format_of(matches)?;
-    let circuit = open_circuit(terminal, matches)?;
+    let circuit = open_file(terminal, matches, "CIRCUIT", Part::Circuit)?;
     let Some(map) = text_of(matches, "map") else {
         return Ok(Command::Unroll {
             frames,
             to,
-            circuit,
+            circuit: Source::File(circuit),
         });
     };
     let Ok(file) = circuit.metadata() else {
@@ -211,16 +266,16 @@ fn open_unroll<'m, 't, R: Files + Clock + Eprint>(
     Ok(Command::UnrollAndMap {
         frames,
         to,
-        circuit,
+        circuit: Source::File(circuit),
         file,
         map,
     })
 }
 
-fn open_check<'m, 't, R: Files + Clock + Eprint>(
+fn open_check<'m, 't, R: Files + AllocGlobal + Clock + Eprint>(
     terminal: &'t Terminal<'t, R>,
     matches: &'m ArgMatches<'_>,
-) -> Result<Command<'m, Tracked<'t, R, R::File>>, Exit>
+) -> Result<Command<'m, Source<Tracked<'t, R, R::File>>>, Exit>
     ensures options { IfOk result (HoldsOptions matches.now) }
 {
     let circuit = open_circuit(terminal, matches)?;
@@ -232,10 +287,10 @@ fn open_check<'m, 't, R: Files + Clock + Eprint>(
     })
 }
 
-fn open_cnf<'m, 't, R: Files + Clock + Eprint>(
+fn open_cnf<'m, 't, R: Files + AllocGlobal + Clock + Eprint>(
     terminal: &'t Terminal<'t, R>,
     matches: &'m ArgMatches<'_>,
-) -> Result<Command<'m, Tracked<'t, R, R::File>>, Exit>
+) -> Result<Command<'m, Source<Tracked<'t, R, R::File>>>, Exit>
     ensures options { IfOk result (HoldsOptions matches.now) }
 {
     if text_of(matches, "certificate").is_some() {
@@ -244,15 +299,14 @@ fn open_cnf<'m, 't, R: Files + Clock + Eprint>(
     if has_flag(matches, "alive") {
         return open_cnf_alive(terminal, matches);
     }
-    let query = query_of(matches)?;
-    let circuit = open_circuit(terminal, matches)?;
+    let (circuit, query) = open_circuit_and_query(terminal, matches)?;
     Ok(Command::Cnf { query, circuit })
 }
 
-fn open_cnf_alive<'m, 't, R: Files + Clock + Eprint>(
+fn open_cnf_alive<'m, 't, R: Files + AllocGlobal + Clock + Eprint>(
     terminal: &'t Terminal<'t, R>,
     matches: &'m ArgMatches<'_>,
-) -> Result<Command<'m, Tracked<'t, R, R::File>>, Exit>
+) -> Result<Command<'m, Source<Tracked<'t, R, R::File>>>, Exit>
     ensures options { IfOk result (HoldsOptions matches.now) }
 {
     let frames = frames_of(matches)?;
@@ -260,14 +314,13 @@ fn open_cnf_alive<'m, 't, R: Files + Clock + Eprint>(
     Ok(Command::CnfAlive { frames, circuit })
 }
 
-fn open_cnf_certified<'m, 't, R: Files + Clock + Eprint>(
+fn open_cnf_certified<'m, 't, R: Files + AllocGlobal + Clock + Eprint>(
     terminal: &'t Terminal<'t, R>,
     matches: &'m ArgMatches<'_>,
-) -> Result<Command<'m, Tracked<'t, R, R::File>>, Exit>
+) -> Result<Command<'m, Source<Tracked<'t, R, R::File>>>, Exit>
     ensures options { IfOk result (HoldsOptions matches.now) }
 {
-    let property = property_of(matches);
-    let circuit = open_circuit(terminal, matches)?;
+    let (circuit, property) = open_circuit_and_property(terminal, matches)?;
     let certificate = open_certificate(terminal, matches)?;
     Ok(Command::CnfCertified {
         property,
@@ -276,10 +329,10 @@ fn open_cnf_certified<'m, 't, R: Files + Clock + Eprint>(
     })
 }
 
-fn open_info<'m, 't, R: Files + Clock + Eprint>(
+fn open_info<'m, 't, R: Files + AllocGlobal + Clock + Eprint>(
     terminal: &'t Terminal<'t, R>,
     matches: &'m ArgMatches<'_>,
-) -> Result<Command<'m, Tracked<'t, R, R::File>>, Exit>
+) -> Result<Command<'m, Source<Tracked<'t, R, R::File>>>, Exit>
     ensures options { IfOk result (HoldsOptions matches.now) }
 {
     let circuit = open_circuit(terminal, matches)?;
@@ -290,54 +343,131 @@ fn open_info<'m, 't, R: Files + Clock + Eprint>(
     }
 }
 
-fn open_select<'m, 't, R: Files + Clock + Eprint>(
+/// Returns the positions that texts name by their numbers, or nothing if one of them is no number.
+fn numbers_in(
+    alloc: Global,
+    section: PropertySection,
+    texts: &[&str],
+) -> Result<Option<Vec<u32>>, RunFault> {
+    let mut positions = Vec::new(alloc);
+    for text in texts {
+        let Some(position) = number_in(section, text.as_bytes()) else {
+            return Ok(None);
+        };
+        if positions.push(position).is_err() {
+            return Err(RunFault::Memory);
+        }
+    }
+    Ok(Some(positions))
+}
+
+/// Returns the positions of the properties of a circuit's file that texts name.
+fn positions_in(
+    alloc: Global,
+    file: &[u8],
+    section: PropertySection,
+    texts: &[&str],
+) -> Result<Vec<u32>, RunFault> {
+    let circuit = read_circuit(alloc, file)?;
+    let mut positions = Vec::new(alloc);
+    for text in texts {
+        let position = position_of(&circuit, section, text.as_bytes())?;
+        if positions.push(position).is_err() {
+            return Err(RunFault::Memory);
+        }
+    }
+    Ok(positions)
+}
+
+/// Opens the circuit, and finds the properties of a section that are named. The circuit is read for that only if one of
+/// the texts is a name: the command then has its bytes.
+fn open_circuit_and_properties<'t, R: Files + AllocGlobal + Clock + Eprint>(
+    terminal: &'t Terminal<'t, R>,
+    matches: &ArgMatches<'_>,
+    section: PropertySection,
+) -> Result<(Source<Tracked<'t, R, R::File>>, Vec<u32>), Exit> {
+    let file = open_file(terminal, matches, "CIRCUIT", Part::Circuit)?;
+    let texts = texts_of(matches, "P").unwrap_or(&[]);
+    if let Some(positions) = numbers_in(terminal.alloc(), section, texts)? {
+        return Ok((Source::File(file), positions));
+    }
+    let bytes = read_whole(terminal.alloc(), file, Part::Circuit)?;
+    let positions = positions_in(terminal.alloc(), bytes.as_slice(), section, texts)?;
+    Ok((Source::Bytes(Cursor::new(bytes)), positions))
+}
+
+fn open_select<'m, 't, R: Files + AllocGlobal + Clock + Eprint>(
     terminal: &'t Terminal<'t, R>,
     matches: &'m ArgMatches<'_>,
-) -> Result<Command<'m, Tracked<'t, R, R::File>>, Exit>
+) -> Result<Command<'m, Source<Tracked<'t, R, R::File>>>, Exit>
     ensures options { IfOk result (HoldsOptions matches.now) }
 {
+    let from = section_of(matches, "from");
     let to = format_of(matches)?;
-    let circuit = open_circuit(terminal, matches)?;
-    Ok(Command::Select {
-        selection: Selection {
-            from: section_of(matches, "from"),
-            into: section_of(matches, "as"),
-            properties: texts_of(matches, "P").unwrap_or(&[]),
-        },
+    let (circuit, positions) = open_circuit_and_properties(terminal, matches, from)?;
+    let selection = Selection {
+        from,
+        into: section_of(matches, "as"),
+        positions,
+    };
+    let Some(names) = text_of(matches, "names") else {
+        return Ok(Command::Select {
+            selection,
+            to,
+            circuit,
+        });
+    };
+    let names = Source::File(open(terminal, names, Part::Names)?);
+    Ok(Command::SelectNamed {
+        selection,
         to,
         circuit,
+        names,
     })
 }
 
-fn open_witness<'m, 't, R: Files + Clock + Eprint>(
+/// Opens the circuit, and finds its property if one is named.
+fn open_circuit_and_reached<'t, R: Files + AllocGlobal + Clock + Eprint>(
+    terminal: &'t Terminal<'t, R>,
+    matches: &ArgMatches<'_>,
+) -> Result<(Source<Tracked<'t, R, R::File>>, Option<u32>), Exit>
+    ensures named { IfOk result (λ r. HoldsReached matches.now r.0 r.1) }
+{
+    let Some(text) = text_of(matches, "P") else {
+        return Ok((open_circuit(terminal, matches)?, None));
+    };
+    let (circuit, property) = open_circuit_for(terminal, matches, text)?;
+    Ok((circuit, Some(property)))
+}
+
+fn open_witness<'m, 't, R: Files + AllocGlobal + Clock + Eprint>(
     terminal: &'t Terminal<'t, R>,
     matches: &'m ArgMatches<'_>,
-) -> Result<Command<'m, Tracked<'t, R, R::File>>, Exit>
+) -> Result<Command<'m, Source<Tracked<'t, R, R::File>>>, Exit>
     ensures options { IfOk result (HoldsOptions matches.now) }
 {
     if text_of(matches, "model").is_some() {
         return open_model_witness(terminal, matches);
     }
-    let circuit = open_circuit(terminal, matches)?;
+    let (circuit, property) = open_circuit_and_reached(terminal, matches)?;
     let stimulus = open_named(terminal, matches, "STIM", Part::Stimulus)?;
     Ok(Command::Witness {
-        property: number_of(matches, "P"),
+        property,
         circuit,
         stimulus,
     })
 }
 
-fn open_model_witness<'m, 't, R: Files + Clock + Eprint>(
+fn open_model_witness<'m, 't, R: Files + AllocGlobal + Clock + Eprint>(
     terminal: &'t Terminal<'t, R>,
     matches: &'m ArgMatches<'_>,
-) -> Result<Command<'m, Tracked<'t, R, R::File>>, Exit>
+) -> Result<Command<'m, Source<Tracked<'t, R, R::File>>>, Exit>
     ensures options { IfOk result (HoldsOptions matches.now) }
 {
     if text_of(matches, "certificate").is_some() {
         return open_certified_model_witness(terminal, matches);
     }
-    let query = query_of(matches)?;
-    let circuit = open_circuit(terminal, matches)?;
+    let (circuit, query) = open_circuit_and_query(terminal, matches)?;
     let model = open_named(terminal, matches, "model", Part::Model)?;
     Ok(Command::ModelWitness {
         query,
@@ -346,14 +476,13 @@ fn open_model_witness<'m, 't, R: Files + Clock + Eprint>(
     })
 }
 
-fn open_certified_model_witness<'m, 't, R: Files + Clock + Eprint>(
+fn open_certified_model_witness<'m, 't, R: Files + AllocGlobal + Clock + Eprint>(
     terminal: &'t Terminal<'t, R>,
     matches: &'m ArgMatches<'_>,
-) -> Result<Command<'m, Tracked<'t, R, R::File>>, Exit>
+) -> Result<Command<'m, Source<Tracked<'t, R, R::File>>>, Exit>
     ensures options { IfOk result (HoldsOptions matches.now) }
 {
-    let property = property_of(matches);
-    let circuit = open_circuit(terminal, matches)?;
+    let (circuit, property) = open_circuit_and_property(terminal, matches)?;
     let certificate = open_certificate(terminal, matches)?;
     let model = open_named(terminal, matches, "model", Part::Model)?;
     Ok(Command::CertifiedModelWitness {
@@ -364,10 +493,10 @@ fn open_certified_model_witness<'m, 't, R: Files + Clock + Eprint>(
     })
 }
 
-fn open_refute<'m, 't, R: Files + Clock + Eprint>(
+fn open_refute<'m, 't, R: Files + AllocGlobal + Clock + Eprint>(
     terminal: &'t Terminal<'t, R>,
     matches: &'m ArgMatches<'_>,
-) -> Result<Command<'m, Tracked<'t, R, R::File>>, Exit>
+) -> Result<Command<'m, Source<Tracked<'t, R, R::File>>>, Exit>
     ensures options { IfOk result (HoldsOptions matches.now) }
 {
     if text_of(matches, "certificate").is_some() {
@@ -377,8 +506,7 @@ fn open_refute<'m, 't, R: Files + Clock + Eprint>(
         return open_refute_alive(terminal, matches);
     }
     let frames = frames_of(matches)?;
-    let property = property_of(matches);
-    let circuit = open_circuit(terminal, matches)?;
+    let (circuit, property) = open_circuit_and_property(terminal, matches)?;
     let proof = open_named(terminal, matches, "PROOF", Part::Proof)?;
     let Some(step) = text_of(matches, "step") else {
         return Ok(Command::Refute {
@@ -388,7 +516,7 @@ fn open_refute<'m, 't, R: Files + Clock + Eprint>(
             proof,
         });
     };
-    let step = open(terminal, step, Part::StepProof)?;
+    let step = Source::File(open(terminal, step, Part::StepProof)?);
     Ok(Command::RefuteStep {
         frames,
         property,
@@ -398,10 +526,10 @@ fn open_refute<'m, 't, R: Files + Clock + Eprint>(
     })
 }
 
-fn open_refute_alive<'m, 't, R: Files + Clock + Eprint>(
+fn open_refute_alive<'m, 't, R: Files + AllocGlobal + Clock + Eprint>(
     terminal: &'t Terminal<'t, R>,
     matches: &'m ArgMatches<'_>,
-) -> Result<Command<'m, Tracked<'t, R, R::File>>, Exit>
+) -> Result<Command<'m, Source<Tracked<'t, R, R::File>>>, Exit>
     ensures options { IfOk result (HoldsOptions matches.now) }
 {
     let frames = frames_of(matches)?;
@@ -414,14 +542,13 @@ fn open_refute_alive<'m, 't, R: Files + Clock + Eprint>(
     })
 }
 
-fn open_refute_certified<'m, 't, R: Files + Clock + Eprint>(
+fn open_refute_certified<'m, 't, R: Files + AllocGlobal + Clock + Eprint>(
     terminal: &'t Terminal<'t, R>,
     matches: &'m ArgMatches<'_>,
-) -> Result<Command<'m, Tracked<'t, R, R::File>>, Exit>
+) -> Result<Command<'m, Source<Tracked<'t, R, R::File>>>, Exit>
     ensures options { IfOk result (HoldsOptions matches.now) }
 {
-    let property = property_of(matches);
-    let circuit = open_circuit(terminal, matches)?;
+    let (circuit, property) = open_circuit_and_property(terminal, matches)?;
     let proof = open_named(terminal, matches, "PROOF", Part::Proof)?;
     let certificate = open_certificate(terminal, matches)?;
     Ok(Command::RefuteCertified {
@@ -432,15 +559,14 @@ fn open_refute_certified<'m, 't, R: Files + Clock + Eprint>(
     })
 }
 
-fn open_strengthen<'m, 't, R: Files + Clock + Eprint>(
+fn open_strengthen<'m, 't, R: Files + AllocGlobal + Clock + Eprint>(
     terminal: &'t Terminal<'t, R>,
     matches: &'m ArgMatches<'_>,
-) -> Result<Command<'m, Tracked<'t, R, R::File>>, Exit>
+) -> Result<Command<'m, Source<Tracked<'t, R, R::File>>>, Exit>
     ensures options { IfOk result (HoldsOptions matches.now) }
 {
-    let property = property_of(matches);
     let to = format_of(matches)?;
-    let circuit = open_circuit(terminal, matches)?;
+    let (circuit, property) = open_circuit_and_property(terminal, matches)?;
     let certificate = open_certificate(terminal, matches)?;
     Ok(Command::Strengthen {
         property,
@@ -450,10 +576,10 @@ fn open_strengthen<'m, 't, R: Files + Clock + Eprint>(
     })
 }
 
-fn open_reduce<'m, 't, R: Files + Clock + Eprint>(
+fn open_reduce<'m, 't, R: Files + AllocGlobal + Clock + Eprint>(
     terminal: &'t Terminal<'t, R>,
     matches: &'m ArgMatches<'_>,
-) -> Result<Command<'m, Tracked<'t, R, R::File>>, Exit>
+) -> Result<Command<'m, Source<Tracked<'t, R, R::File>>>, Exit>
     ensures options { IfOk result (HoldsOptions matches.now) }
 {
     let circuit = open_circuit(terminal, matches)?;
@@ -486,9 +612,14 @@ pub fn files_of<'a>(matches: &ArgMatches<'a>) -> Option<RunFiles<'a>> {
         circuit: text_of(matches, "CIRCUIT")?,
         run: run_of(matches),
         script: text_of(matches, "SCRIPT"),
-        // Another command may have a flag of this name.
+        // Another command may have a flag of one of these two names.
         step: if name == "refute" {
             text_of(matches, "step")
+        } else {
+            None
+        },
+        names: if name == "select" {
+            text_of(matches, "names")
         } else {
             None
         },
@@ -496,7 +627,8 @@ pub fn files_of<'a>(matches: &ArgMatches<'a>) -> Option<RunFiles<'a>> {
         kept: kept_of(matches),
         map: text_of(matches, "map"),
         frames: number_or(matches, "K", 0),
-        property: property_of(matches),
+        // It is shown only where it is a number: the property that a name names is there.
+        property: number_in(PropertySection::Bad, property_text(matches).as_bytes()).unwrap_or(0),
         // In other commands it is a file, or is not there.
         steps: (name == "cnf" || name == "witness") && has_flag(matches, "step"),
         alive: matches!(name, "cnf" | "refute") && has_flag(matches, "alive"),

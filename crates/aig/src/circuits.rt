@@ -1,26 +1,27 @@
 //! The commands on a circuit alone: conversion, unrolling, formulas, and facts about it.
-ghost use Rattle.std.specs.Prelude.{◌≡◌, ◌⊎◌, IfErr, IfSome, OnOk};
+ghost use Rattle.std.specs.Prelude.{IfSome, OnOk};
 ghost use Rattle.aig_run.specs.Command.{OfCircuit, OfFile};
 ghost use Rattle.aig_commands.specs.Alive.{WritesAlive};
 ghost use Rattle.aig_commands.specs.Cnf.{WritesFormula};
 ghost use Rattle.aig_commands.specs.GoesWell.{GoesWell};
 ghost use Rattle.aig_commands.specs.Info.{ListsFacts};
 ghost use Rattle.aig_commands.specs.Names.{ListsNames};
+ghost use Rattle.aig_commands.specs.Select.{Selects};
 ghost use Rattle.aig_commands.specs.Toaig.{Converts};
 ghost use Rattle.aig_commands.specs.Unroll.{UnrollsKept};
-ghost use Rattle.aig.specs.Ends.{Answers, Ends, EndsSelecting, end_of};
+ghost use Rattle.aig.specs.Ends.{Answers, Ends, EndsSelectingNamed, end_of};
 
 use crate::command::Selection;
 use crate::ended::ended;
 use crate::kept::{begin_map, write_map};
 use aig_base::{Circuit, Std};
 use aig_cnf::Query;
+use aig_commands::select::NamedSelection;
 use aig_commands::{alive, cnf, info, select, toaig, unroll};
 use aig_files::{Exit, OutputFile, Part, output, read_whole};
 use aig_format::Format;
 use aig_run::RunFault;
 use aig_terminal::Terminal;
-use std::alloc::Global;
 use std::fs::{Files, Metadata};
 use std::io::Read;
 use std::os::fd::AsFd;
@@ -155,38 +156,46 @@ pub fn info_names<R: AllocGlobal + Print, F: Read + Drop>(rt: &R, circuit: F) ->
 /// Writes a circuit with some of its properties.
 pub fn select<R: AllocGlobal + Print, F: Read + Drop>(
     rt: &R,
-    selection: Selection<'_>,
+    selection: Selection,
     to: Format,
     circuit: F,
 ) -> Result<(), Exit>
-    ensures ends { EndsSelecting selection.entry.from selection.entry.into to result }
+    ensures ends { Ends end_of (OfCircuit (Selects selection.from selection.into selection.positions.items to)) result }
 {
     let mut circuit = Std::new(circuit);
-    let positions = positions_of(rt.alloc(), selection.properties)?;
     let mut out = output(rt);
     ended(select::select(
         rt.alloc(),
         &mut circuit,
         selection.from,
         selection.into,
-        positions.as_slice(),
+        selection.positions.as_slice(),
         to,
         &mut out,
     ))
 }
 
-/// Returns the numbers of texts. The parser has accepted each of them as a number.
-fn positions_of(alloc: Global, texts: &[&str]) -> Result<Vec<u32>, Exit>
-    ensures fails { IfErr result (λ exit. (exit ≡ Exit.NoCommand) ⊎ (exit ≡ Exit.Run RunFault.Memory)) }
+/// Writes a circuit with some of its properties, under the names of a text.
+pub fn select_named<R: AllocGlobal + Print, F: Read + Drop>(
+    rt: &R,
+    selection: Selection,
+    to: Format,
+    circuit: F,
+    names: F,
+) -> Result<(), Exit>
+    ensures ends { IfSome (F.remaining names) (λ text.
+        EndsSelectingNamed selection.from selection.into selection.positions.items text to result) }
 {
-    let mut positions = Vec::new(alloc);
-    for text in texts {
-        let Ok(position) = text.parse::<u32>() else {
-            return Err(Exit::NoCommand);
-        };
-        if positions.push(position).is_err() {
-            return Err(Exit::Run(RunFault::Memory));
-        }
-    }
-    Ok(positions)
+    let mut circuit = Std::new(circuit);
+    let names = read_whole(rt.alloc(), names, Part::Names)?;
+    let positions = selection.positions.as_slice();
+    let text = names.as_slice();
+    let selection = NamedSelection {
+        from: selection.from,
+        into: selection.into,
+        positions,
+        names: text,
+    };
+    let mut out = output(rt);
+    ended(select::select_named(rt.alloc(), &mut circuit, selection, to, &mut out))
 }

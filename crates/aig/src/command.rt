@@ -1,9 +1,11 @@
 //! A command with its options and its open files, and what it runs.
 ghost use Rattle.aig.specs.Commands.{EndsAsMeant};
 
-use crate::circuits::{cnf, cnf_alive, info, info_names, select, toaig, unroll, unroll_and_map};
-use crate::simulations::{bench, sim, wave};
 use crate::certificates::{certified_model_witness, cnf_certified, refute_certified, strengthen};
+use crate::circuits::{
+    cnf, cnf_alive, info, info_names, select, select_named, toaig, unroll, unroll_and_map,
+};
+use crate::simulations::{bench, sim, wave};
 use crate::solvers::{model_witness, refute, refute_alive, refute_step};
 use crate::witnesses::{check, reduce, wave_witness, witness};
 use aig_base::PropertySection;
@@ -17,14 +19,14 @@ use std::os::fd::AsFd;
 use std::time::Clock;
 
 /// Which properties of a circuit to keep, and where.
-#[derive(Clone, Copy)]
-pub struct Selection<'a> {
+#[derive(Drop)]
+pub struct Selection {
     /// The section that has them.
     pub from: PropertySection,
     /// The section that they go to.
     pub into: PropertySection,
-    /// Their positions, as the arguments have them.
-    pub properties: &'a [&'a str],
+    /// Their positions, counted from 0; all of the section if there is none.
+    pub positions: Vec<u32>,
 }
 
 /// A command with its options and its open files.
@@ -96,9 +98,16 @@ pub enum Command<'a, F> {
     },
     /// `select`: a circuit with some of its properties.
     Select {
-        selection: Selection<'a>,
+        selection: Selection,
         to: Format,
         circuit: F,
+    },
+    /// `select --names`: the same, with the names of a text.
+    SelectNamed {
+        selection: Selection,
+        to: Format,
+        circuit: F,
+        names: F,
     },
     /// `witness`: the witness of a run over a stimulus.
     Witness {
@@ -214,6 +223,12 @@ impl<F: Read + Drop> Command<'_, F> {
                 to,
                 circuit,
             } => select(terminal, selection, to, circuit),
+            Command::SelectNamed {
+                selection,
+                to,
+                circuit,
+                names,
+            } => select_named(terminal, selection, to, circuit, names),
             Command::Witness {
                 property,
                 circuit,

@@ -14,7 +14,7 @@ mod witnesses;
 
 use aig_cli::has_flag;
 use aig_explain::{explain, is_asked_for};
-use aig_files::{Exit, reserve};
+use aig_files::{Exit, Source, reserve};
 use aig_terminal::{Terminal, Terminals, Tracked};
 use arguments::{parsed, with_odd_number};
 use chosen::{files_of, open_chosen};
@@ -98,10 +98,10 @@ where
 }
 
 /// Returns the command that the arguments choose, unless one of its numbers is not written as numbers are.
-fn command_for<'t, R: Files + Eprint + Clock>(
+fn command_for<'t, R: Files + AllocGlobal + Eprint + Clock>(
     terminal: &'t Terminal<'t, R>,
     matches: &'t ArgMatches<'_>,
-) -> Result<Command<'t, Tracked<'t, R, R::File>>, Exit> {
+) -> Result<Command<'t, Source<Tracked<'t, R, R::File>>>, Exit> {
     match with_odd_number(terminal.runtime(), matches) {
         Some(exit) => Err(exit),
         None => open_chosen(terminal, matches),

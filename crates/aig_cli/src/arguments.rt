@@ -23,8 +23,10 @@ enum Kind {
     Named(&'static str),
     /// An option of this word, with a number.
     Number(&'static str),
+    /// An option of this word, with text that help shows by its name.
+    Worded(&'static str),
     /// The same, any number of times.
-    Numbers(&'static str),
+    WordedEach(&'static str),
     /// An option of this word, with one of these words, which help shows by a name.
     OneOf(&'static str, &'static str, &'static [&'static str]),
 }
@@ -182,22 +184,22 @@ pub const STRENGTHENING: Argument = Argument {
 
 pub const PROPERTY: Argument = Argument {
     name: "P",
-    help: "Position of the bad state property\n(0 if it is omitted)",
-    kind: Kind::Number("property"),
+    help: "Bad state property, by its position, counted from 0\n(3 or b3), or by its name (0 if it is omitted)",
+    kind: Kind::Worded("property"),
     need: Need::Never,
 };
 
 pub const REACHED: Argument = Argument {
     name: "P",
-    help: "Position of the bad state property, counted from 0\n(default: the first that is reached; 0 with --model)",
-    kind: Kind::Number("property"),
+    help: "Bad state property, by its position, counted from 0\n(3 or b3), or by its name (default: the first that\nis reached; 0 with --model)",
+    kind: Kind::Worded("property"),
     need: Need::Never,
 };
 
 pub const PROPERTIES: Argument = Argument {
     name: "P",
-    help: "Position of a property to keep, counted from 0;\nonce for each property (default: all)",
-    kind: Kind::Numbers("property"),
+    help: "Property to keep, by its position, counted from 0\n(3 or b3), or by its name; once for each property\n(default: all)",
+    kind: Kind::WordedEach("property"),
     need: Need::Never,
 };
 
@@ -264,8 +266,15 @@ pub const NAMES: Argument = Argument {
     need: Need::Never,
 };
 
+pub const NAMES_FILE: Argument = Argument {
+    name: "names",
+    help: "Name the properties that are written, by the\nlines of FILE: one name per line, in their order",
+    kind: Kind::Named("FILE"),
+    need: Need::Never,
+};
+
 /// The options with a number: the name by which the value is found, and how messages show the option.
-pub const NUMBERS: [(&str, &str); 2] = [("K", "--frames <K>"), ("P", "--property <P>")];
+pub const NUMBERS: [(&str, &str); 1] = [("K", "--frames <K>")];
 
 /// An option of every command, which may be before the command or after it: to explain a failure.
 pub static EXPLAIN: Argument = Argument {
@@ -297,7 +306,8 @@ fn of_kind<'a>(argument: Arg<'a>, kind: &'static Kind, name: &'static str) -> Ar
         Kind::Flag => argument.long(name).action(ArgAction::SetTrue),
         Kind::Named(value) => argument.long(name).value_name(value),
         Kind::Number(word) => number(argument, word),
-        Kind::Numbers(word) => number(argument, word).action(ArgAction::Append),
+        Kind::Worded(word) => argument.long(word),
+        Kind::WordedEach(word) => argument.long(word).action(ArgAction::Append),
         Kind::OneOf(word, value, words) => argument
             .long(word)
             .value_name(value)

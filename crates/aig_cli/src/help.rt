@@ -174,6 +174,9 @@ Inputs, latches, constraints and gates stay, and so do the comment and the names
 of what is kept. A property that is named twice is written twice. With --to aig,
 select renumbers as toaig does.
 
+With --names, the properties get the names in FILE instead: one line for each
+property that is written. An empty line gives a property no name.
+
 Model checkers for AIGER 1.0 check outputs, newer ones check bad state
 properties: --from outputs makes properties of outputs, and --as outputs makes
 outputs of properties.
@@ -202,9 +205,9 @@ With --certificate, PROOF is about the formula of cnf --certificate, and the
 answer is unreachable: no run of any length reaches the property. Nothing of the
 certificate is believed.
 
-With --alive, PROOF is about the formula of cnf --alive, and the answer is no run
-of K frames: no run from a start that the resets allow keeps all constraints at
-its first K frames. The answer unreachable says little of such a circuit.
+With --alive, PROOF is about the formula of cnf --alive, and the answer is no
+run of K frames: no run from a start that the resets allow keeps all constraints
+at its first K frames. The answer unreachable says little of such a circuit.
 
 Example: aig refute --frames 3 examples/wraps.aag examples/wraps.drat
 See also: man aig, man 5 aig-formats";

@@ -108,6 +108,7 @@ static THIRD: [Subcommand; 4] = [
             arguments::FROM,
             arguments::AS,
             arguments::PROPERTIES,
+            arguments::NAMES_FILE,
             arguments::CIRCUIT,
         ],
     },

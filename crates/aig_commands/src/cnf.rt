@@ -82,7 +82,7 @@ fn strengthen_and_write<W: Write>(
 ) -> Result<(), RunFault>
     ensures { CommandEnds (flow W.written W.failures out.old out.new) RunFault.Output
         (OfCertified purposes.Formula certified.entry.circuit.now certified.entry.property certified.entry.certificate.now
-            (WritesFormula (induction 1 0))) result }
+        (WritesFormula (induction 1 0))) result }
 {
     let mut circuit = certified.strengthened(alloc, Purpose::Formula)?;
     make_and_write(alloc, &mut circuit, ONE_FORMULA, out)
@@ -99,7 +99,7 @@ pub fn cnf_certified<W: Write>(
 ) -> Result<(), RunFault>
     ensures ends { CommandEnds (flow W.written W.failures out.old out.new) RunFault.Output
         (OfCertified purposes.Formula certified.entry.circuit.now certified.entry.property certified.entry.certificate.now
-            (WritesFormula (induction 1 0))) result }
+        (WritesFormula (induction 1 0))) result }
     ensures flushed { W.failures out.new ≡ W.failures out.old → W.is_flushed out.new }
 {
     let done = strengthen_and_write(alloc, certified, out);

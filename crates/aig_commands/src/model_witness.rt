@@ -141,7 +141,7 @@ fn strengthen_and_write<W: Write>(
 ) -> Result<(), RunFault>
     ensures { CommandEnds (flow W.written W.failures out.old out.new) RunFault.Output
         (OfCertified purposes.Formula certified.entry.circuit.now certified.entry.property certified.entry.certificate.now
-            (WritesModel (induction 1 0) model.now)) result }
+        (WritesModel (induction 1 0) model.now)) result }
 {
     let mut circuit = certified.strengthened(alloc, Purpose::Formula)?;
     read_model_and_write(alloc, &mut circuit, ONE_FORMULA, model, out)
@@ -160,7 +160,7 @@ pub fn certified_model_witness<W: Write>(
 ) -> Result<(), RunFault>
     ensures ends { CommandEnds (flow W.written W.failures out.old out.new) RunFault.Output
         (OfCertified purposes.Formula certified.entry.circuit.now certified.entry.property certified.entry.certificate.now
-            (WritesModel (induction 1 0) model.now)) result }
+        (WritesModel (induction 1 0) model.now)) result }
     ensures flushed { W.failures out.new ≡ W.failures out.old → W.is_flushed out.new }
 {
     let done = strengthen_and_write(alloc, certified, model, out);

@@ -1,12 +1,14 @@
 //! `select`: a circuit with some of its properties.
-ghost use Rattle.std.specs.Prelude.{◌≡◌};
+ghost use Rattle.std.specs.Prelude.{◌≡◌, IfErr, IfOk};
 ghost use Rattle.aig_bytes.specs.Flow.{flow};
 ghost use Rattle.aig_run.specs.Command.{CommandEnds, OfReader};
-ghost use Rattle.aig_commands.specs.Select.{Selects};
+ghost use Rattle.aig_commands.specs.Select.{Selects, SelectsNamed};
+ghost use Rattle.aig_commands.specs.state.NamedSelections.{IsSelectedAndNamed, RefusesNamedSelection};
 
 use crate::toaig::write_converted;
 use aig_base::{Circuit, PropertySection, Read, Write};
 use aig_format::{Format, read_from};
+use aig_names::named;
 use aig_run::{RunFault, flushed};
 use std::alloc::Global;
 
@@ -65,5 +67,79 @@ pub fn select<R: Read, W: Write>(
     ensures flushed { W.failures out.new ≡ W.failures out.old → W.is_flushed out.new }
 {
     let done = read_and_select(alloc, circuit, from, into, named, to, out);
+    flushed(done, out, RunFault::Output)
+}
+
+/// Which properties of a circuit to keep, where, and the text of their names.
+#[derive(Clone, Copy)]
+pub struct NamedSelection<'a> {
+    /// The section that has them.
+    pub from: PropertySection,
+    /// The section that they go to.
+    pub into: PropertySection,
+    /// Their positions, counted from 0; all of the section if there is none.
+    pub positions: &'a [u32],
+    /// One name per line.
+    pub names: &'a [u8],
+}
+
+impl NamedSelection<'_> {
+    /// The circuit with these properties, under these names.
+    fn of(&self, alloc: Global, circuit: &mut Circuit) -> Result<Circuit, RunFault>
+        ensures selected { IfOk result (IsSelectedAndNamed self.now circuit.old) }
+        ensures refused { IfErr result (RefusesNamedSelection self.now circuit.old) }
+    {
+        circuit.select(alloc, self.from, self.into, self.positions)?;
+        Ok(named(alloc, circuit, self.into, self.names)?)
+    }
+
+    /// Writes it in a format.
+    fn write<W: Write>(
+        &self,
+        alloc: Global,
+        circuit: &mut Circuit,
+        to: Format,
+        out: &mut W,
+    ) -> Result<(), RunFault>
+        ensures { CommandEnds (flow W.written W.failures out.old out.new) RunFault.Output
+            (SelectsNamed self.now to circuit.old) result }
+    {
+        let named = self.of(alloc, circuit)?;
+        write_converted(alloc, &named, to, out)
+    }
+
+    /// Reads a circuit and writes it so, without a flush at the end.
+    fn read_and_write<R: Read, W: Write>(
+        &self,
+        alloc: Global,
+        circuit: &mut R,
+        to: Format,
+        out: &mut W,
+    ) -> Result<(), RunFault>
+        ensures { CommandEnds (flow W.written W.failures out.old out.new) RunFault.Output
+            (OfReader (flow R.left R.failures circuit.old circuit.new) (SelectsNamed self.now to)) result }
+    {
+        match read_from(alloc, circuit) {
+            Ok(mut circuit) => self.write(alloc, &mut circuit, to, out),
+            Err(fault) => Err(RunFault::Circuit(fault)),
+        }
+    }
+}
+
+/// The command `select --names`: as `select`, and the properties that are kept have the names of a text, one per line,
+/// in the order in which they are written. An empty line gives a property no name. Where the text is not one line per
+/// property, nothing is written. It takes memory for a copy of the circuit.
+pub fn select_named<R: Read, W: Write>(
+    alloc: Global,
+    circuit: &mut R,
+    selection: NamedSelection<'_>,
+    to: Format,
+    out: &mut W,
+) -> Result<(), RunFault>
+    ensures ends { CommandEnds (flow W.written W.failures out.old out.new) RunFault.Output
+        (OfReader (flow R.left R.failures circuit.old circuit.new) (SelectsNamed selection.entry to)) result }
+    ensures flushed { W.failures out.new ≡ W.failures out.old → W.is_flushed out.new }
+{
+    let done = selection.read_and_write(alloc, circuit, to, out);
     flushed(done, out, RunFault::Output)
 }

@@ -6,6 +6,7 @@ mod failed_run;
 mod known_file;
 mod look;
 mod model_look;
+mod names_look;
 mod output_look;
 mod proof_look;
 mod proof_walk;

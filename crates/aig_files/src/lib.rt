@@ -8,6 +8,7 @@ mod new_file;
 mod output_file;
 mod reserved;
 mod run_files;
+mod source;
 
 pub use aig_terminal::Part;
 pub use exit::Exit;
@@ -17,3 +18,4 @@ pub use new_file::{NewFile, OUTPUT, are_one, is_free, name_beside};
 pub use output_file::{OutputFile, find, open_pipe};
 pub use reserved::{Reserved, reserve};
 pub use run_files::RunFiles;
+pub use source::Source;

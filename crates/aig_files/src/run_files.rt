@@ -15,6 +15,8 @@ pub struct RunFiles<'a> {
     pub step: Option<&'a str>,
     /// The certificate of the property.
     pub certificate: Option<&'a str>,
+    /// The names of properties.
+    pub names: Option<&'a str>,
     /// Where a bench is kept.
     pub kept: Kept<'a>,
     /// Where the map of the inputs goes.

@@ -4,8 +4,8 @@ use Rattle.std.specs.List.{AllZip}
 use Rattle.std.proofs.lemmas.Bool.{cases_eq, false≢true}
 use Rattle.std.proofs.lemmas.List.{get_or-replicate, length-map, length-replicate, length-set}
 use Rattle.std.proofs.lemmas.Option.{get_or_from_slice_get, slice_get-get_or, slice_get_within}
-use Rattle.aig_parts.specs.Literal.{variable, IsNegated}
-use Rattle.aig_parts.specs.Ternary.{kleene_and, kleene_not}
+use Rattle.aig_parts.specs.Literal.{variable}
+use Rattle.aig_parts.specs.Ternary.{kleene_and}
 use Rattle.aig_parts.specs.declared.gate.Gate.{Gate}
 use Rattle.aig_parts.specs.declared.latch.Latch.{Latch}
 use Rattle.aig_parts.specs.declared.ternary.Tern.{Tern}
@@ -182,10 +182,10 @@ module _ (p : CircuitAndRows) (circuit : IsCircuit p.circuit) (widths : HaveWidt
       (value.latch_first i x X at is))
 
   -- one more needed value is kept
-  pub input_kept : (needed : List (List Tern)) (t i l : ℕ) (w : Tern) → t < length needed
+  input_written : (needed : List (List Tern)) (t i l : ℕ) (w : Tern) → t < length needed
       → slice_get p.circuit.inputs i ≡ Some l → IsNeeded p property t (variable l) → AreNeededInputs p property needed
       → AreNeededInputs p property (with_cell needed t i w)
-  input_kept needed t i l w lt at h all u j b is n start rows k x = elim (cases_eq u t) [
+  input_written needed t i l w lt at h all u j b is n start rows k x = elim (cases_eq u t) [
     | inl e ↦
         let x' : slice_get (row_at rows t) j ≡ Some X = subst (λ (v : ℕ). slice_get (row_at rows v) j ≡ Some X) e x in
         elim (cases_eq j i) [
@@ -201,6 +201,12 @@ module _ (p : CircuitAndRows) (circuit : IsCircuit p.circuit) (widths : HaveWidt
     | inr other ↦
         all u j b (sym (ap (λ (row : List Tern). slice_get row j) (row_other needed t i w u other)) ∙ is) n start rows k x
   ]
+
+  pub input_kept : (needed new : List (List Tern)) (t i l : ℕ) (w : Tern) → new ≡ with_cell needed t i w → t < length needed
+      → slice_get p.circuit.inputs i ≡ Some l → IsNeeded p property t (variable l) → AreNeededInputs p property needed
+      → AreNeededInputs p property new
+  input_kept needed new t i l w e lt at h all =
+      subst (AreNeededInputs p property) (sym e) (input_written needed t i l w lt at h all)
 
   pub start_kept : (needed : List Tern) (i : ℕ) (x : Latch) (w : Tern) → slice_get p.circuit.latches i ≡ Some x
       → IsNeeded p property 0 (variable x.lit) → AreNeededStarts p property needed

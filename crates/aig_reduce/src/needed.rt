@@ -1,6 +1,6 @@
 //! Values that a run needs, found by one look backward over its frames.
-ghost use Rattle.std.specs.Prelude.{◌≡◌, ◌≢◌, ℕ, suc, ◌+◌, ◌*◌, ◌<◌, ◌≤◌, ◌∷◌, List, length, true, All, Some, slice_get};
-ghost use Rattle.std.specs.Prelude.{◌↔◌, Option, replicate, slice_set, unwrap_or, IfOk, IsTrue};
+ghost use Rattle.std.specs.Prelude.{◌≡◌, ◌≢◌, ◌↔◌, ℕ, suc, ◌+◌, ◌<◌, ◌≤◌, ◌∷◌, length, replicate, true, Some, slice_get};
+ghost use Rattle.std.specs.Prelude.{slice_set, unwrap_or, IfOk, IsTrue};
 ghost use Rattle.aig_parts.specs.Limits.{frame_limit};
 ghost use Rattle.aig_parts.specs.declared.ternary.Tern.{Tern};
 ghost use Rattle.aig_parts.specs.Literal.{variable};

@@ -1,4 +1,5 @@
 pub mod Command
 pub mod Faults
 pub mod Flushed
+pub mod Position
 pub mod Status

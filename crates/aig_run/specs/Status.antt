@@ -11,9 +11,10 @@ use Rattle.aig_base.specs.declared.select.SelectFault.TheVariants as selections
 use Rattle.aig_sat.specs.declared.model.fault.ModelFault.TheVariants as models
 use Rattle.aig_sat.specs.declared.proof.fault.ProofFault.TheVariants as proofs
 use Rattle.aig_certificate.specs.declared.fault.StrengthenFault.TheVariants as strengthenings
+use Rattle.aig_names.specs.declared.fault.NamesFault.TheVariants as names
 use Rattle.aig_run.specs.declared.run_fault.RunFault.{RunFault}
 use Rattle.aig_run.specs.declared.run_fault.RunFault.TheVariants.{Circuit, Stimulus, Witness, Bench, Script, Output, Memory}
-use Rattle.aig_run.specs.declared.run_fault.RunFault.TheVariants.{Unroll, Cnf, Select, Reach, Proof, StepProof, Model, Certificate, Strengthen}
+use Rattle.aig_run.specs.declared.run_fault.RunFault.TheVariants.{Unroll, Cnf, Select, Reach, Proof, StepProof, Model, Certificate, Strengthen, Names}
 
 -- 3 where memory ran out, or a read or a write failed; 1 for any other refusal
 abbrev pub status_of : RunFault → ℕ
@@ -38,4 +39,5 @@ status_of (Model models.Memory) = 3
 status_of (Certificate circuits.Memory) = 3
 status_of (Certificate circuits.Io) = 3
 status_of (Strengthen strengthenings.Memory) = 3
+status_of (Names names.Memory) = 3
 status_of _ = 1

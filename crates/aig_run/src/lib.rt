@@ -4,12 +4,14 @@
 
 mod circuit_file;
 mod output;
+mod property;
 mod run_fault;
 mod script_fault;
 mod stimulus_file;
 
 pub use circuit_file::read_circuit;
 pub use output::{as_output, flushed};
+pub use property::position_in;
 pub use run_fault::RunFault;
 pub use script_fault::ScriptFault;
 pub use stimulus_file::read_rows;

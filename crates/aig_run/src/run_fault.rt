@@ -7,6 +7,7 @@ use aig_base::{Fault, Memory, SelectFault};
 use aig_bench::BenchFault;
 use aig_certificate::StrengthenFault;
 use aig_cnf::CnfFault;
+use aig_names::{NamesFault, PropertyFault};
 use aig_sat::{ModelFault, ProofFault};
 use aig_sim::{ReachFault, StimFault, WitnessFault};
 use aig_unroll::UnrollFault;
@@ -52,6 +53,11 @@ pub enum RunFault {
     /// What a certificate says of a model.
     #[error("{0}")]
     Strengthen(StrengthenFault),
+    #[error("names: {0}")]
+    Names(NamesFault),
+    /// The property that a text names.
+    #[error("property: {0}")]
+    Property(PropertyFault),
 }
 
 impl RunFault {
@@ -74,6 +80,7 @@ impl RunFault {
             RunFault::Model(ModelFault::Memory) => 3,
             RunFault::Certificate(Fault::Memory | Fault::Io) => 3,
             RunFault::Strengthen(StrengthenFault::Memory) => 3,
+            RunFault::Names(NamesFault::Memory) => 3,
             RunFault::Circuit(_)
             | RunFault::Stimulus(_)
             | RunFault::Witness(_)
@@ -86,7 +93,9 @@ impl RunFault {
             | RunFault::StepProof(_)
             | RunFault::Model(_)
             | RunFault::Certificate(_)
-            | RunFault::Strengthen(_) => 1,
+            | RunFault::Strengthen(_)
+            | RunFault::Names(_)
+            | RunFault::Property(_) => 1,
         }
     }
 }
@@ -220,5 +229,27 @@ impl From<ModelFault> for RunFault {
 
     fn from(fault: ModelFault) -> RunFault {
         RunFault::Model(fault)
+    }
+}
+
+impl From<NamesFault> for RunFault {
+    ghost use Rattle.std.specs.Prelude.{◌≡◌};
+    ghost use Rattle.aig_run.specs.declared.run_fault.RunFault.TheVariants as run_faults;
+
+    ghost from_gives = { λ fault part. part ≡ run_faults.Names fault };
+
+    fn from(fault: NamesFault) -> RunFault {
+        RunFault::Names(fault)
+    }
+}
+
+impl From<PropertyFault> for RunFault {
+    ghost use Rattle.std.specs.Prelude.{◌≡◌};
+    ghost use Rattle.aig_run.specs.declared.run_fault.RunFault.TheVariants as run_faults;
+
+    ghost from_gives = { λ fault part. part ≡ run_faults.Property fault };
+
+    fn from(fault: PropertyFault) -> RunFault {
+        RunFault::Property(fault)
     }
 }

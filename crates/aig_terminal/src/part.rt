@@ -13,6 +13,8 @@ pub enum Part {
     StepProof,
     /// A certificate of a bad state property.
     Certificate,
+    /// The names of properties.
+    Names,
 }
 
 impl Part {
@@ -27,6 +29,7 @@ impl Part {
             Part::Proof => "proof",
             Part::StepProof => "step proof",
             Part::Certificate => "certificate",
+            Part::Names => "names",
         }
     }
 }

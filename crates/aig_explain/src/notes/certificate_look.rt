@@ -14,7 +14,8 @@ use std::alloc::Global;
 use std::fs::Files;
 
 /// What is wanted of the entries that a certificate shares.
-const WANTED: &str = "wanted: `= LIT`, where LIT is a literal of CIRCUIT: aig info --names CIRCUIT prints its inputs and latches";
+const WANTED: &str =
+    "wanted: `= LIT`, where LIT is a literal of CIRCUIT: aig info --names CIRCUIT prints its inputs and latches";
 
 /// Explains on standard error why the certificate does not strengthen the circuit.
 pub fn explain_strengthening<R: Files + AllocGlobal + Eprint>(
@@ -26,7 +27,10 @@ pub fn explain_strengthening<R: Files + AllocGlobal + Eprint>(
         StrengthenFault::Memory => note(rt, MORE_MEMORY),
         StrengthenFault::Comment => {
             note_certificate(rt, files);
-            note(rt, "its comment begins with MAPPING, a form that aig does not read");
+            note(
+                rt,
+                "its comment begins with MAPPING, a form that aig does not read",
+            );
             note(rt, "give each input and latch that is shared a symbol");
             note(rt, WANTED);
         }
@@ -35,7 +39,10 @@ pub fn explain_strengthening<R: Files + AllocGlobal + Eprint>(
         StrengthenFault::Limit => explain_limit(rt, files),
         StrengthenFault::Circuit(_) => {
             note_certificate(rt, files);
-            note(rt, "the strengthened circuit is rejected, which cannot be: please report it");
+            note(
+                rt,
+                "the strengthened circuit is rejected, which cannot be: please report it",
+            );
         }
     }
 }
@@ -62,13 +69,19 @@ fn note_certificate<R: AllocGlobal + Eprint>(rt: &R, files: &RunFiles<'_>) {
 fn explain_limit<R: AllocGlobal + Eprint>(rt: &R, files: &RunFiles<'_>) {
     note_name(rt, files.circuit);
     note_certificate(rt, files);
-    note(rt, "a circuit has at most 4,194,303 variables and entries of a kind: the strengthened circuit, and for a formula the one of its two frames, would have more");
+    note(
+        rt,
+        "a circuit has at most 4,194,303 variables and entries of a kind: the strengthened circuit, and for a formula the one of its two frames, would have more",
+    );
 }
 
 fn explain_property<R: Files + AllocGlobal + Eprint>(rt: &R, files: &RunFiles<'_>) {
     note_name(rt, files.circuit);
     match read_again(rt, files.circuit) {
-        Ok(file) => note_lines(rt, property_lines(rt.alloc(), files.property, file.as_slice())),
+        Ok(file) => note_lines(
+            rt,
+            property_lines(rt.alloc(), files.property, file.as_slice()),
+        ),
         Err(obstacle) => obstacle.explain(rt),
     }
 }
@@ -91,7 +104,10 @@ fn explain_symbol<R: Files + AllocGlobal + Eprint>(
     };
     note_name(rt, name);
     match read_again(rt, name) {
-        Ok(file) => note_lines(rt, symbol_lines(rt.alloc(), file.as_slice(), kind, position)),
+        Ok(file) => note_lines(
+            rt,
+            symbol_lines(rt.alloc(), file.as_slice(), kind, position),
+        ),
         Err(obstacle) => obstacle.explain(rt),
     }
     note(rt, WANTED);

@@ -10,6 +10,7 @@ use crate::notes::look::{
     MORE_MEMORY, Obstacle, explain_reading, note, note_lines, note_name, read_again,
 };
 use crate::notes::model_look::explain_model;
+use crate::notes::names_look::{explain_names, explain_property};
 use crate::notes::output_look::{explain_output, explain_standard_output};
 use crate::notes::proof_look::{ProofOf, explain_proof};
 use crate::notes::select_look::explain_select;
@@ -64,6 +65,7 @@ fn of_unread<R: Files + AllocGlobal + Print + Eprint>(rt: &R, files: &RunFiles<'
         Part::Witness | Part::Model | Part::Proof => of_file(rt, files.run),
         Part::StepProof => of_file(rt, files.step),
         Part::Certificate => of_file(rt, files.certificate),
+        Part::Names => of_file(rt, files.names),
     }
 }
 
@@ -87,6 +89,8 @@ fn explain_fault<R: Files + AllocGlobal + Print + Eprint>(
         RunFault::Model(fault) => explain_model(rt, files, fault),
         RunFault::Certificate(fault) => of_certificate(rt, files, fault),
         RunFault::Strengthen(fault) => explain_strengthening(rt, files, fault),
+        RunFault::Names(fault) => explain_names(rt, files, fault),
+        RunFault::Property(fault) => explain_property(rt, files.circuit, fault),
         RunFault::Output => of_output(rt, files),
         RunFault::Memory => note(rt, MORE_MEMORY),
     }
@@ -341,7 +345,9 @@ fn note_free_latches<R: Files + AllocGlobal + Eprint>(rt: &R, circuit: &str) {
 fn free_latches(alloc: Global, count: u64) -> Result<Explanation, Memory> {
     let mut lines = Explanation::new(alloc);
     lines.add(format_args!("uninitialised latches, which start at x in this run: {count}"))?;
-    lines.add("aig witness --model takes a run with their values from a solver's model of aig cnf")?;
+    lines.add(
+        "aig witness --model takes a run with their values from a solver's model of aig cnf",
+    )?;
     Ok(lines)
 }
 

@@ -11,6 +11,9 @@ returns-clause-checks g c =
     let k = c.args.frames in
     let p = c.args.property in
     let is_file = c.in_ok-circuit.ensures.circuit in
-    inr (raw, is_file,
-    checks_map (within k p) (IsRefuted (within k p)) (λ r. IsUnreachableWithin r k p) raw (within_shows raw is_file.circuit k p)
-    c.check_query.result c.check_query.ensures.checks)
+    inr (
+      raw,
+      is_file,
+      checks_map (within k p) (IsRefuted (within k p)) (λ r. IsUnreachableWithin r k p) raw (within_shows raw is_file.circuit k p)
+          c.check_query.result c.check_query.ensures.checks,
+    )

@@ -8,9 +8,12 @@ use Rattle.aig_commands.specs.state.Answered.{IsRefuted}
 pub returns-clause-checks : goal.returns-clause-checks
 returns-clause-checks g c =
     let x = c.in_ok-circuit.circuit in
-    inr (x, c.in_ok-circuit.ensures.certified,
-    checks_map (induction 1 0) (IsRefuted (induction 1 0)) (λ raw. IsUnreachable raw 0) x (induction_shows x c.facts.ensures)
-    c.check_query.result c.check_query.ensures.checks)
+    inr (
+      x,
+      c.in_ok-circuit.ensures.certified,
+      checks_map (induction 1 0) (IsRefuted (induction 1 0)) (λ raw. IsUnreachable raw 0) x (induction_shows x c.facts.ensures)
+          c.check_query.result c.check_query.ensures.checks,
+    )
 
 pub returns-clause-unreachable : goal.returns-clause-unreachable
 returns-clause-unreachable g c =

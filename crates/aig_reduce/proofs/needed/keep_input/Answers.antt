@@ -1,11 +1,9 @@
-use Rattle.std.proofs.Common.{◌≡◌, ◌≤◌, Some, slice_get, length, ap, ◌∙◌, subst, sym, arith}
+use Rattle.std.proofs.Common.{◌≡◌, Some, slice_get, length, ap, ◌∙◌, arith}
 use Rattle.aig_parts.specs.Literal.{variable}
 use Rattle.aig_parts.specs.declared.raw.Raw.{Raw}
 use Rattle.aig_base.proofs.circuits.Circuits.{input_in_range}
 use Rattle.aig_values.proofs.Evaluation.{item_at}
 use Rattle.aig_values.specs.InputRows.{InputRows}
-use Rattle.aig_reduce.specs.state.Needed.{AreNeededInputs}
-use Rattle.aig_bench.proofs.cells.CellLemmas.{frames_written}
 use Rattle.aig_reduce.proofs.NeededLemmas.{input_kept, is_marked}
 use Rattle.aig_reduce.proofs.needed.keep_input.Goals as goal
 
@@ -18,8 +16,7 @@ returns-clause-needed g c = λ property marks all.
     let at : slice_get p.circuit.inputs i ≡ Some l =
     item_at _ _ i l same (omega (arith, c.requires.position, ap length same)) c.index-inputs-position.is in
     let fits = input_in_range p.circuit c.width.ensures.circuit.sound i l at in
-    subst (λ (r : InputRows). AreNeededInputs p property r.rows) (sym c.set.ensures)
-    (input_kept p c.width.ensures.circuit c.width.ensures.rows property c.args.rows.now.rows c.args.frame i l c.get.result
-    (omega (arith, c.requires.frame, c.requires.rows)) at
+    input_kept p c.width.ensures.circuit c.width.ensures.rows property c.args.rows.now.rows c.set.new.self.rows c.args.frame i l
+    c.get.result (ap (λ (r : InputRows). r.rows) c.set.ensures) (omega (arith, c.requires.frame, c.requires.rows)) at
     (marks (variable l) (is_marked c.args.marks.now (variable l) c.var.result c.var.ensures
-    (omega (arith, fits, c.requires.marks)) c.if-not-marks-var.false)) all)
+    (omega (arith, fits, c.requires.marks)) c.if-not-marks-var.false)) all

@@ -1,4 +1,4 @@
-use Rattle.std.proofs.Common.{◌≡◌, ◌≤◌, Some, slice_get, length, ap, ◌∙◌, arith}
+use Rattle.std.proofs.Common.{◌≡◌, Some, slice_get, length, ap, ◌∙◌, arith}
 use Rattle.aig_parts.specs.Literal.{variable}
 use Rattle.aig_parts.specs.declared.raw.Raw.{Raw}
 use Rattle.aig_base.proofs.circuits.Circuits.{latch_in_range}

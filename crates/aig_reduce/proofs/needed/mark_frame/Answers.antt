@@ -1,4 +1,3 @@
-use Rattle.std.proofs.Common.{◌∙◌, arith}
 use Rattle.aig_reduce.proofs.needed.mark_frame.Goals as goal
 
 pub returns-clause-needed : goal.returns-clause-needed

@@ -1,5 +1,4 @@
 use Rattle.std.proofs.Common.{refl, arith, ◌∙◌}
-use Rattle.aig_values.proofs.Evaluation.{item_at}
 use Rattle.aig_reduce.proofs.NeededLemmas.{added_then, none_added}
 use Rattle.aig_reduce.proofs.needed.mark_gates.Goals as goal
 

@@ -1,7 +1,7 @@
-use Rattle.std.proofs.Common.{◌≡◌, ◌≤◌, sym, ap, ◌∙◌, arith}
+use Rattle.std.proofs.Common.{arith}
 use Rattle.aig_parts.specs.Literal.{variable}
 use Rattle.aig_base.proofs.circuits.Circuits.{latch_in_range, next_in_range}
-use Rattle.aig_reduce.proofs.NeededLemmas.{is_marked, next_needed, none_added, one_added}
+use Rattle.aig_reduce.proofs.NeededLemmas.{is_marked, next_needed, one_added}
 use Rattle.aig_reduce.proofs.needed.mark_next.Goals as goal
 
 pub bounds-ahead-var : goal.bounds-ahead-var

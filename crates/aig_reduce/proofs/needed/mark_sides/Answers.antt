@@ -1,4 +1,4 @@
-use Rattle.std.proofs.Common.{◌≡◌, ◌≤◌, ◌∙◌, arith}
+use Rattle.std.proofs.Common.{◌∙◌, arith}
 use Rattle.aig_parts.specs.Literal.{variable}
 use Rattle.aig_base.proofs.circuits.Circuits.{gate_in_range, rhs0_defined, rhs0_in_range, rhs1_defined, rhs1_in_range}
 use Rattle.aig_reduce.proofs.NeededLemmas.{is_marked_item, rhs0_needed, rhs1_needed}

@@ -1,4 +1,4 @@
-use Rattle.std.proofs.Common.{◌≡◌, ℕ, ◌≤◌, length}
+use Rattle.std.proofs.Common.{◌≡◌, ◌≤◌, length}
 use Rattle.aig_reduce.specs.state.Needed.{AreNeeded, AreNeededInputs}
 use Rattle.aig_reduce.proofs.needed.Needed.look_back.Given as goal
 

@@ -1,0 +1,20 @@
+use Rattle.aig_bytes.specs.Flow.{flow}
+use Rattle.aig_run.proofs.Files.{ends_of_reader, reader_refused}
+use Rattle.aig_run.specs.declared.run_fault.RunFault.TheVariants as run_faults
+use Rattle.aig_commands.specs.Select.{SelectsNamed}
+use Rattle.aig_commands.proofs.select.NamedSelection.read_and_write.Goals as goal
+
+pub returns-in-Ok : goal.returns-in-Ok
+returns-in-Ok g c =
+    let h = c.in-Ok.ensures in
+    ends_of_reader (flow g.R.Read.left g.R.Read.failures c.args.circuit.now c.read_from.new.reader)
+    (flow g.W.Write.written g.W.Write.failures c.args.out.now c.write.new.out) run_faults.Output
+    (SelectsNamed c.args.self.now c.args.to) c.in-Ok.circuit (λ fault bytes (can, (x, is_named, never)). never)
+    h.answers h.circuit h.io c.write.result c.write.ensures
+
+pub returns-in-Err : goal.returns-in-Err
+returns-in-Err g c =
+    let h = c.in-Err.ensures in
+    reader_refused (flow g.R.Read.left g.R.Read.failures c.args.circuit.now c.read_from.new.reader)
+    g.W.Write.written g.W.Write.failures c.args.out.now run_faults.Output
+    (SelectsNamed c.args.self.now c.args.to) c.in-Err.fault h.answers h.io

@@ -1,0 +1,4 @@
+pub mod Lines
+pub mod NamedEntries
+pub mod NamedParts
+pub mod Lookups

@@ -1,0 +1,25 @@
+"""aig: a verified AIGER toolkit, from Python.
+
+    >>> import aig
+    >>> circuit = aig.read("counter.aag")
+    >>> circuit.simulate(["10", "10"])["count[0]"]
+    '01'
+
+The program `aig` computes every result; its documents say what is proved of it. This package passes bytes to the program
+and back. It is tested, not proved.
+"""
+
+from .bench import Bench
+from .certified import Certified
+from .circuit import Circuit, read
+from .entries import Entry
+from .errors import AigError, EditError, OutOfMemory, Unreadable
+from .formula import Formula
+from .runs import Trace, Verdict, Witness
+from .solver import Solved, certify, prove, solve
+from .values import X
+
+__all__ = [
+    "AigError", "Bench", "Certified", "Circuit", "EditError", "Entry", "Formula", "OutOfMemory", "Solved", "Trace",
+    "Unreadable", "Verdict", "Witness", "X", "certify", "prove", "read", "solve",
+]

@@ -1,0 +1,69 @@
+"""Runs the program `aig`, which computes every result of this package."""
+
+from __future__ import annotations
+
+import os
+import shutil
+import subprocess
+import sysconfig
+import tempfile
+from contextlib import ExitStack, contextmanager
+from pathlib import Path
+from typing import Iterator, List, Mapping, Sequence, Tuple
+
+from .errors import error_of
+
+
+def program() -> str:
+    """The path of the program: `$AIG_PROGRAM`, else the one that pip installed with this package, else the first `aig` on
+    the path."""
+    named = os.environ.get("AIG_PROGRAM")
+    if named:
+        return named
+    installed = Path(sysconfig.get_path("scripts"), "aig")
+    found = str(installed) if installed.exists() else shutil.which("aig")
+    if not found:
+        raise FileNotFoundError("there is no program aig: set AIG_PROGRAM, or put aig on the path")
+    return found
+
+
+@contextmanager
+def held(*texts: bytes) -> Iterator[Tuple[List[str], List[int]]]:
+    """Paths at which the program finds these texts, and the descriptors that it has to inherit.
+
+    The texts are in memory files, or in a temporary folder if the system has no memory files.
+    """
+    with ExitStack() as stack:
+        if not hasattr(os, "memfd_create"):
+            folder = Path(stack.enter_context(tempfile.TemporaryDirectory(prefix="aig-")))
+            paths = [folder / str(position) for position in range(len(texts))]
+            for path, text in zip(paths, texts):
+                path.write_bytes(text)
+            yield [str(path) for path in paths], []
+            return
+        descriptors = []
+        for text in texts:
+            descriptor = os.memfd_create("aig")
+            stack.callback(os.close, descriptor)
+            with os.fdopen(os.dup(descriptor), "wb") as file:
+                file.write(text)
+            descriptors.append(descriptor)
+        yield [f"/proc/self/fd/{descriptor}" for descriptor in descriptors], descriptors
+
+
+def run(
+    command: str,
+    *options: str,
+    files: Sequence[bytes],
+    named: Mapping[str, bytes] = {},
+    good: Sequence[int] = (0,),
+) -> bytes:
+    """What the program prints for these files, and for those that an option names. It raises the error of any other run:
+    one with a message, or with a status that is not `good`."""
+    with held(*named.values(), *files) as (paths, descriptors):
+        by_option = [word for option, path in zip(named, paths) for word in (option, path)]
+        words = [program(), command, "--explain", *options, *by_option, *paths[len(named):]]
+        done = subprocess.run(words, stdin=subprocess.DEVNULL, capture_output=True, pass_fds=descriptors, check=False)
+    if done.returncode not in good or done.stderr:
+        raise error_of(done.returncode, done.stderr.decode("utf-8", "replace"))
+    return done.stdout

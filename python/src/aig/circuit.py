@@ -1,0 +1,188 @@
+"""Circuits, and what can be asked about them."""
+
+from __future__ import annotations
+
+import os
+from pathlib import Path
+from typing import Dict, Iterable, List, Optional, Tuple, Union
+
+from ._program import run
+from .bench import Bench
+from .certified import Certified
+from .entries import SECTIONS, Entries, Entry, Signal
+from .formula import Formula
+from .rows import Row, stimulus
+from .runs import Trace, Verdict, Witness
+
+
+class Circuit:
+    """A circuit that the program accepted: `Circuit(bytes)`, or `aig.read(path)`. It never changes; a `Bench` edits one.
+
+    A signal is a name (its symbol, or `i0`, `l2`, `o1`, `b0` by section and position), `!` and a name for its negation,
+    or a literal.
+    """
+
+    def __init__(self, file: Union[bytes, str]):
+        self.file = file.encode() if isinstance(file, str) else bytes(file)
+        listed = run("info", "--names", files=[self.file])
+        self._entries = Entries(listed.decode("utf-8", "surrogateescape").split("\n")[:-1])
+        self._facts: Optional[Dict[str, Union[int, str]]] = None
+
+    def __repr__(self) -> str:
+        counts = ((len(self._entries.section(letter)), name) for letter, name in SECTIONS.items())
+        return f"<Circuit of {', '.join(f'{count} {name}' for count, name in counts if count) or 'nothing'}>"
+
+    # -- what it has
+
+    @property
+    def entries(self) -> List[Entry]:
+        """All entries, in the order of the file."""
+        return self._entries.all
+
+    @property
+    def inputs(self) -> List[str]:
+        return self._labels("i")
+
+    @property
+    def latches(self) -> List[str]:
+        return self._labels("l")
+
+    @property
+    def outputs(self) -> List[str]:
+        return self._labels("o")
+
+    @property
+    def properties(self) -> List[str]:
+        """The bad state properties."""
+        return self._labels("b")
+
+    def _labels(self, letter: str) -> List[str]:
+        return [entry.label for entry in self._entries.section(letter)]
+
+    @property
+    def gates(self) -> List[Tuple[int, int, int]]:
+        """The gates: the literal of each, and its two right sides."""
+        return _gates_of(self.to("aag"))
+
+    def info(self) -> Dict[str, Union[int, str]]:
+        """The facts that `aig info` prints: variables, gates, levels, fanout, .."""
+        if self._facts is None:
+            pairs = (line.split(" ", 1) for line in run("info", files=[self.file]).decode().splitlines())
+            self._facts = {name: int(value) if value.isdigit() else value for name, value in pairs}
+        return dict(self._facts)
+
+    def find(self, name: Signal, sections: str = "ilobcf") -> Entry:
+        """The entry of this name, or at this place, among these sections."""
+        return self._entries.find(name, sections)
+
+    def literal(self, signal: Signal) -> int:
+        """The literal of a signal."""
+        if isinstance(signal, int):
+            return signal
+        try:
+            found = self.find(signal).literal
+        except KeyError:
+            if not signal.startswith("!"):
+                raise
+            return self.literal(signal[1:]) ^ 1
+        assert found is not None  # only justice properties have no literal
+        return found
+
+    # -- other files
+
+    def to(self, format: str) -> bytes:
+        """The file in the format `aag` or `aig`."""
+        return run("toaig", "--to", format, files=[self.file])
+
+    def save(self, path: Union[str, os.PathLike]) -> None:
+        """Writes the file: as text if the path ends with `.aag`, else in the binary format."""
+        Path(path).write_bytes(self.to("aag" if str(path).endswith(".aag") else "aig"))
+
+    def select(self, properties: Iterable[Signal] = (), source: str = "bad", target: str = "bad") -> Circuit:
+        """The circuit with only these of its properties. `source` and `target` are `bad` or `outputs`."""
+        letter = {"bad": "b", "outputs": "o"}[source]
+        options = [f"--property={self.find(which, letter).position}" for which in properties]
+        return Circuit(run("select", "--to", "aig", "--from", source, "--as", target, *options, files=[self.file]))
+
+    def unroll(self, frames: int) -> Circuit:
+        """The circuit unrolled for so many frames, without latches."""
+        return Circuit(run("unroll", f"--frames={frames}", "--to", "aig", files=[self.file]))
+
+    # -- runs
+
+    def simulate(self, rows: Iterable[Row]) -> Trace:
+        """The run over these rows, from the resets."""
+        return Trace(self._entries, run("sim", files=[self.file, self.rows(rows)]))
+
+    def wave(self, rows: Iterable[Row]) -> bytes:
+        """The run over these rows as a value change dump, for a waveform viewer."""
+        return run("wave", files=[self.file, self.rows(rows)])
+
+    def rows(self, rows: Iterable[Row]) -> bytes:
+        """The stimulus of these rows."""
+        return stimulus(self._entries, rows)
+
+    def bench(self, rows: Iterable[Row] = ()) -> Bench:
+        """A bench with this circuit and these rows, to edit and to ask."""
+        return Bench(self, rows)
+
+    # -- verdicts
+
+    def check(self, witness: Union[Witness, bytes, str]) -> Verdict:
+        """The verdict on a witness."""
+        text = witness.text if isinstance(witness, Witness) else witness
+        text = text.encode() if isinstance(text, str) else text
+        return Verdict(run("check", files=[self.file, text], good=(0, 1)).decode().strip())
+
+    def witness(self, rows: Iterable[Row], property: Optional[Signal] = None) -> Witness:
+        """The witness that the run over these rows reaches a property; the first that it reaches, if none is named."""
+        options = [] if property is None else [f"--property={self.position(property)}"]
+        return Witness(self, run("witness", *options, files=[self.file, self.rows(rows)]))
+
+    def cnf(self, frames: int, property: Signal = 0, step: bool = False) -> Formula:
+        """The formula, for a SAT solver, that a property is reached within so many frames; with `step`, that of the
+        induction step."""
+        options = [f"--frames={frames}", f"--property={self.position(property)}"] + ["--step"] * step
+        return Formula(self, options)
+
+    def refute(self, frames: int, proof: bytes, property: Signal = 0, step: Optional[bytes] = None) -> str:
+        """Checks a solver's proof about the formula of `cnf`, and returns `unreachable within K`. With a proof of the
+        induction step too, it returns `unreachable`."""
+        options = [f"--frames={frames}", f"--property={self.position(property)}"]
+        named = {} if step is None else {"--step": step}
+        return run("refute", *options, files=[self.file, proof], named=named).decode().strip()
+
+    def cnf_alive(self, frames: int) -> Formula:
+        """The formula that some run keeps all constraints for so many frames. Its models have no witness."""
+        return Formula(self, [f"--frames={frames}", "--alive"])
+
+    def refute_alive(self, frames: int, proof: bytes) -> str:
+        """Checks a solver's proof about the formula of `cnf_alive`, and returns `no run of K frames`: the constraints
+        contradict."""
+        return run("refute", f"--frames={frames}", "--alive", files=[self.file, proof]).decode().strip()
+
+    def certified(self, certificate: Union[Circuit, bytes, str], property: Signal = 0) -> Certified:
+        """This circuit with a certificate, which claims that no run reaches the property."""
+        text = certificate.file if isinstance(certificate, Circuit) else certificate
+        return Certified(self, text.encode() if isinstance(text, str) else text, property)
+
+    def position(self, property: Signal) -> int:
+        """The position of a bad state property."""
+        return self.find(property, "b").position
+
+
+def read(path: Union[str, os.PathLike]) -> Circuit:
+    """The circuit of a file, in either format."""
+    return Circuit(Path(path).read_bytes())
+
+
+def _gates_of(text: bytes) -> List[Tuple[int, int, int]]:
+    """The gates of a file in the format aag."""
+    lines = text.split(b"\n")
+    counts = [*map(int, lines[0].split()[2:]), 0, 0, 0, 0]
+    inputs, latches, outputs, gates, bad, constraints, justice, fairness = counts[:8]
+    sizes = 1 + inputs + latches + outputs + bad + constraints
+    literals = sum(map(int, lines[sizes : sizes + justice]))
+    begin = sizes + justice + literals + fairness
+    found = (tuple(map(int, line.split())) for line in lines[begin : begin + gates])
+    return [(gate, left, right) for gate, left, right in found]

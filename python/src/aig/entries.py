@@ -1,0 +1,71 @@
+"""The entries of a circuit, and how signals are named."""
+
+from __future__ import annotations
+
+from typing import Dict, Iterable, List, NamedTuple, Optional, Union
+
+Signal = Union[str, int]
+SECTIONS = {
+    "i": "inputs", "l": "latches", "o": "outputs", "b": "bad", "c": "constraints", "j": "justice", "f": "fairness",
+}
+
+
+class Entry(NamedTuple):
+    """An input, a latch, an output or a property of a circuit.
+
+    letter    i, l, o, b, c, j or f, for the section
+    position  its position in the section, counted from 0
+    literal   its literal; None for a justice property, which has several
+    name      its symbol; empty if it has none
+    """
+
+    letter: str
+    position: int
+    literal: Optional[int]
+    name: str
+
+    @property
+    def place(self) -> str:
+        """The section and the position, as in `i0`."""
+        return f"{self.letter}{self.position}"
+
+    @property
+    def label(self) -> str:
+        """The symbol, or the place if there is none."""
+        return self.name or self.place
+
+
+class Entries:
+    """All entries of a circuit, by name and by place."""
+
+    def __init__(self, lines: Iterable[str]):
+        self.all = [_entry(line) for line in lines]
+        self._by_place = {entry.place: entry for entry in self.all}
+        self._by_name: Dict[str, List[Entry]] = {}
+        for entry in self.all:
+            if entry.name:
+                self._by_name.setdefault(entry.name, []).append(entry)
+
+    def section(self, letter: str) -> List[Entry]:
+        return [entry for entry in self.all if entry.letter == letter]
+
+    def find(self, name: Signal, sections: str) -> Entry:
+        """The entry of this name among these sections, or the one at this place or position."""
+        if isinstance(name, int):
+            return self._at(f"{sections[0]}{name}", f"there is no {SECTIONS[sections[0]]} {name}")
+        found = [entry for entry in self._by_name.get(name, []) if entry.letter in sections]
+        if len({entry.literal for entry in found}) > 1:
+            raise KeyError(f"{name!r} names {' and '.join(entry.place for entry in found)}: use one of these")
+        if found:
+            return found[0]
+        return self._at(name if name[:1] in sections else "", f"there is no signal {name!r}")
+
+    def _at(self, place: str, why: str) -> Entry:
+        if place not in self._by_place:
+            raise KeyError(why)
+        return self._by_place[place]
+
+
+def _entry(line: str) -> Entry:
+    letter, position, literal, name = line.split(" ", 3)
+    return Entry(letter, int(position), None if literal == "-" else int(literal), name)

@@ -1,0 +1,116 @@
+"""Runs of a circuit: traces, witnesses and their verdicts."""
+
+from __future__ import annotations
+
+import re
+from dataclasses import dataclass
+from typing import TYPE_CHECKING, List, Tuple, Union, overload
+
+from ._program import run
+from .entries import Entries
+from .values import Value, number_of, numpy, value_of
+
+if TYPE_CHECKING:
+    from .circuit import Circuit
+
+
+class Trace:
+    """The values of a run: `trace["count[0]"]` is a text with a letter per frame, `trace["count[0]", 3]` one value.
+
+    states, inputs, outputs  a text per frame, with a letter per latch, input or output
+    """
+
+    def __init__(self, entries: Entries, text: bytes):
+        self.text = text.decode()
+        self._entries = entries
+        columns = [line.split(" ") for line in self.text.split("\n")[:-1]]
+        self.states: List[str] = [line[0] for line in columns]
+        self.inputs: List[str] = [line[1] for line in columns]
+        self.outputs: List[str] = [line[2] for line in columns]
+
+    def __len__(self) -> int:
+        return len(self.states)
+
+    def __repr__(self) -> str:
+        return f"<Trace of {len(self)} frames>"
+
+    @overload
+    def __getitem__(self, key: str) -> str: ...
+
+    @overload
+    def __getitem__(self, key: Tuple[str, int]) -> Value: ...
+
+    def __getitem__(self, key):
+        if isinstance(key, tuple):
+            name, frame = key
+            return value_of(self[name][frame])
+        entry = self._entries.find(key, "ilo")
+        rows = {"i": self.inputs, "l": self.states, "o": self.outputs}[entry.letter]
+        return "".join(row[entry.position] for row in rows)
+
+    def vector(self, name: str) -> List[Value]:
+        """The numbers, one per frame, of the signals `NAME[0]`, `NAME[1]`, .. of one section; X where a bit is x.
+        `NAME[0]` is the least significant bit."""
+        for letter in "ilo":
+            pattern = re.compile(re.escape(name) + r"\[(0|[1-9][0-9]*)\]")
+            matched = ((pattern.fullmatch(entry.name), entry) for entry in self._entries.section(letter))
+            bits = {int(match[1]): entry.place for match, entry in matched if match}
+            if bits and sorted(bits) == list(range(len(bits))):
+                columns = [self[bits[number]] for number in reversed(range(len(bits)))]
+                return [number_of("".join(letters)) for letters in zip(*columns)]
+        raise KeyError(f"there is no vector {name!r}")
+
+    def array(self, section: str = "outputs"):
+        """The values of `states`, `inputs` or `outputs` as an array of numpy, a row per frame, with -1 for x."""
+        if numpy is None:
+            raise ImportError("numpy is not installed")
+        rows = getattr(self, section)
+        codes = numpy.frombuffer("".join(rows).encode(), dtype=numpy.uint8).reshape(len(rows), -1)
+        return numpy.where(codes == ord("x"), -1, codes.astype(numpy.int8) - ord("0")).astype(numpy.int8)
+
+
+@dataclass(frozen=True)
+class Verdict:
+    """The verdict on a witness. It is true if the witness is confirmed.
+
+    line  what `aig check` prints
+    """
+
+    line: str
+
+    @property
+    def confirmed(self) -> bool:
+        return self.line == "confirmed"
+
+    def __bool__(self) -> bool:
+        return self.confirmed
+
+
+class Witness:
+    """A run to a bad state.
+
+    property    the property that it reaches, by name or as `b0`
+    start       a letter per latch
+    rows        a text per frame, with a letter per input
+    text        the witness as the program writes it
+    """
+
+    def __init__(self, circuit: Circuit, text: bytes):
+        self.circuit, self.text = circuit, bytes(text)
+        lines = self.text.decode().split("\n")
+        self.property = circuit.properties[int(lines[1][1:])]
+        self.start, self.rows = lines[2], lines[3:-2]
+
+    def __repr__(self) -> str:
+        return f"<Witness of {self.property} at frame {len(self.rows) - 1}>"
+
+    def _repr_pretty_(self, printer, cycle) -> None:
+        printer.text(f"{self!r}\n{self.text.decode()}")
+
+    def reduced(self) -> Witness:
+        """The same witness with x for each value that the failure does not need."""
+        return Witness(self.circuit, run("reduce", files=[self.circuit.file, self.text]))
+
+    def wave(self) -> bytes:
+        """Its run as a value change dump, for a waveform viewer."""
+        return run("wave", "--witness", files=[self.circuit.file, self.text])
