@@ -30,7 +30,6 @@ use crate::check::least_faulty::{least_bad_reset, least_undefined, least_unmarke
 use crate::check::ordered::{is_ascending, test_ascending};
 use crate::check::tried_levels::found_levels;
 use crate::circuit::Circuit;
-use crate::circuit::definition::Definition;
 use crate::circuit::definitions::Definitions;
 use aig_bytes::Memory;
 use aig_parts::{Fault, Gate, Latch, List, Lit, Raw};
@@ -149,11 +148,11 @@ fn are_in_order(raw: &Raw) -> bool
 
 // The least variable that something reads and nothing defines, where nothing is defined twice. If as many variables are
 // defined as there are, each is, and nothing is looked up.
-fn least_missing(table: &[Option<Definition>], raw: &Raw) -> Option<u32>
+fn least_missing(table: &[u32], raw: &Raw) -> Option<u32>
     requires counts { CountsFit raw.now }
     requires range { AreInRange raw.now }
     requires definitions { AreDefinitions raw.now }
-    requires entries { AreEntries raw.now (map variable (definitions raw.now)) table.now None }
+    requires entries { AreEntries raw.now.max_var (map variable (definitions raw.now)) table.now None }
     ensures { IsLeastAmong (IsKnownLiteral table.now) variable (uses raw.now) result }
 {
     if raw.inputs.len() + raw.latches.len() + raw.gates.len() == raw.max_var as usize {
@@ -163,7 +162,7 @@ fn least_missing(table: &[Option<Definition>], raw: &Raw) -> Option<u32>
 }
 
 // The table of definitions of parts in range, or the first fault of what they define and use.
-fn listed_definitions(alloc: Global, raw: &Raw) -> Result<Vec<Option<Definition>>, Fault>
+fn listed_definitions(alloc: Global, raw: &Raw) -> Result<Vec<u32>, Fault>
     requires counts { CountsFit raw.now }
     requires range { AreInRange raw.now }
     ensures table { IfOk result (λ table. IsDefinitionTable raw.now table.items) }

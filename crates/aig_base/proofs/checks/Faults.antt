@@ -5,15 +5,14 @@ use Rattle.std.proofs.Common.{All, Contains}
 use Rattle.std.specs.List.{Any, flat_map}
 use Rattle.std.proofs.lemmas.List.Elements.{All-append, All-nil, All-cons, All-map, All-contains}
 use Rattle.std.proofs.lemmas.Option.{slice_get-get_or, slice_get-map, same_Some}
-use Rattle.aig_base.specs.declared.circuit.definition.Definition.{Definition}
 use Rattle.aig_parts.specs.declared.fault.Fault.{Fault}
 use Rattle.aig_parts.specs.declared.fault.Fault.TheVariants as fault
 use Rattle.aig_parts.specs.declared.gate.Gate.{Gate}
 use Rattle.aig_parts.specs.declared.latch.Latch.{Latch}
 use Rattle.aig_parts.specs.declared.raw.Raw.{Raw}
 use Rattle.aig_base.specs.Circuit.{IsCircuit}
-use Rattle.aig_base.specs.state.Definitions.{IsDefinitionEntry, IsDefinitionTable}
-use Rattle.aig_base.specs.state.Entries.{IsEntryOf, AreEntries}
+use Rattle.aig_base.specs.state.Definitions.{IsDefinitionTable}
+use Rattle.aig_base.specs.state.Entries.{AreEntries}
 use Rattle.aig_base.specs.FirstFault.{IsLeast, HasBadReset, IsUngrounded, FaultApplies, fault_order, IsFirstFault}
 use Rattle.aig_parts.specs.Formed.{IsFormed}
 use Rattle.aig_base.specs.Grounded.{Grounded, IsAcyclic}
@@ -23,7 +22,7 @@ use Rattle.aig_base.specs.state.Ranged.{AreInRange, AreDefinedOnce, AreDefinitio
 use Rattle.aig_base.specs.Sections.{definitions, uses, IsDefined}
 use Rattle.aig_base.specs.Sound.{IsInRange, IsDefinition, IsRedefined, IsUndefined, IsReset, IsSound}
 use Rattle.aig_base.proofs.lists.Counting.{all_defined}
-use Rattle.aig_base.proofs.circuits.Entering.{same_or_not}
+use Rattle.aig_base.proofs.circuits.Entering.{contained, same_or_not}
 use Rattle.aig_base.proofs.lists.Gets.{Contains-from_get, get_from_Contains, All-at}
 use Rattle.aig_base.proofs.lists.Joined.{All-left, All-right, All-unmap}
 use Rattle.aig_base.proofs.checks.Marking.{slice_get_unmap}
@@ -194,14 +193,14 @@ module _ (raw : Raw) where
   none_before n m a b c d e fault.Io l h = h
 
   -- what the table knows is defined, and the other way round
-  module _ (table : List (Option Definition)) (again : Option ℕ) (h : AreEntries raw (map variable
+  module _ (table : List ℕ) (again : Option ℕ) (h : AreEntries raw.max_var (map variable
       (definitions raw)) table again) where
     defined_from_known : (l : ℕ) → IsKnownLiteral table l → IsDefined raw (variable l)
     defined_from_known l (inl e) = Contains-from_get (0 ∷ map variable (definitions raw)) 0 (variable l) (ap Some
         (sym e))
-    defined_from_known l (inr (d, at)) =
-        let (k, is) = get_from_Contains (map variable (definitions raw)) (variable l) (h.entries (variable l)
-        (Some d) at).1 in
+    defined_from_known l (inr (n, at, some)) =
+        let (k, is) = get_from_Contains (map variable (definitions raw)) (variable l)
+        (contained (map variable (definitions raw)) (variable l) n some (h.numbers (variable l) n at)) in
         Contains-from_get (0 ∷ map variable (definitions raw)) (suc k) (variable l) is
 
     pub known_from_defined : (l : ℕ) → IsInRange raw l → IsDefined raw (variable l) → IsKnownLiteral table l
@@ -212,15 +211,15 @@ module _ (raw : Raw) where
         within : variable l < length table
         within = omega (arith, h.size)
 
-        of_entry : (entry : Option Definition) → slice_get table (variable l) ≡ Some entry
-            → Contains (map variable (definitions raw)) (variable l) → IsKnownLiteral table l
-        of_entry None at c = absurd (h.entries (variable l) None at c)
-        of_entry (Some d) at c = inr (d, at)
+        of_entry : (n : ℕ) → slice_get table (variable l) ≡ Some n → Contains (map variable (definitions raw)) (variable l)
+            → IsKnownLiteral table l
+        of_entry zero at c = absurd (h.numbers (variable l) 0 at c)
+        of_entry (suc k) at c = inr (suc k, at, λ e. omega arith)
 
         of : (k : ℕ) → slice_get (0 ∷ map variable (definitions raw)) k ≡ Some (variable l) → IsKnownLiteral table l
         of zero e = inl (same_Some (variable l) 0 (sym e))
         of (suc k) e =
-            of_entry (get_or table (variable l) None) (slice_get-get_or table (variable l) None within)
+            of_entry (get_or table (variable l) 0) (slice_get-get_or table (variable l) 0 within)
             (Contains-from_get (map variable (definitions raw)) k (variable l) e)
 
     pub uses_defined : IsLeastAmong (IsKnownLiteral table) variable (uses raw) None → All (λ l. IsDefined raw (variable l))
@@ -244,12 +243,7 @@ module _ (raw : Raw) where
     )
 
     pub table_from_entries : IsDefinitionTable raw table
-    table_from_entries = record { size = h.size; entries = λ v entry at. of_entry v entry (h.entries v entry at) }
-      where
-        of_entry : (v : ℕ) (entry : Option Definition) → IsEntryOf raw (map variable (definitions raw)) v entry
-            → IsDefinitionEntry raw v entry
-        of_entry v None e = e
-        of_entry v (Some d) e = e.0
+    table_from_entries = record { size = h.size; numbers = h.numbers }
 
   pub least_is_reset : (v : ℕ) → IsLeastAmong IsReset latch_variable raw.latches (Some v) → IsLeast (HasBadReset raw) v
   least_is_reset v (bad, less) = (
@@ -302,7 +296,7 @@ module _ (raw : Raw) where
   }
 
   -- the tests of the table, once each variable is defined once
-  module _ (table : List (Option Definition)) (r : AreInRange raw) (d : AreDefinitions raw) (h : AreEntries raw
+  module _ (table : List ℕ) (r : AreInRange raw) (d : AreDefinitions raw) (h : AreEntries raw.max_var
       (map variable (definitions raw)) table None) where
     pub first_undefined : (v : ℕ) → IsLeastAmong (IsKnownLiteral table) variable (uses raw) (Some v)
         → IsFirstFault raw (fault.Undefined v)

@@ -1,14 +1,14 @@
 -- One more definition in the table.
-use Rattle.std.proofs.Common.{◌≡◌, ℕ, ◌+◌, ◌<◌, ◌⊎◌, inl, inr, min, List, [], ◌∷◌, ◌++◌, length, set, map, take}
+use Rattle.std.proofs.Common.{◌≡◌, ◌≢◌, ℕ, zero, suc, ◌+◌, ◌<◌, ◌⊎◌, inl, inr, min, List, [], ◌∷◌, ◌++◌, length, set, map, take}
 use Rattle.std.proofs.Common.{get_or, append_assoc, Option, Some, None, refl, sym, ap, subst, ◌∙◌, arith, slice_get}
 use Rattle.std.proofs.Common.{Contains}
-use Rattle.std.proofs.lemmas.List.{length-set, length_push, map-append, map_more}
-use Rattle.std.proofs.lemmas.List.Elements.{Contains-push, Contains-push_cases, Contains-append_left}
+use Rattle.std.proofs.lemmas.List.{length-append, length-map, length-set, length-take-le, map-append, map_more}
+use Rattle.std.proofs.lemmas.List.{length_push}
+use Rattle.std.proofs.lemmas.List.Elements.{Contains-push_cases}
 use Rattle.std.proofs.lemmas.Option.{slice_get_within, same_Some}
 use Rattle.aig_parts.specs.declared.raw.Raw.{Raw}
-use Rattle.aig_base.specs.declared.circuit.definition.Definition.{Definition}
-use Rattle.aig_base.specs.Definition.{Defines}
-use Rattle.aig_base.specs.state.Entries.{IsEntryOf, IsLeastTwice, AreEntries}
+use Rattle.aig_base.specs.state.Definitions.{IsNumberOf}
+use Rattle.aig_base.specs.state.Entries.{IsLeastTwice, AreEntries}
 use Rattle.aig_base.specs.FirstFault.{IsLeast}
 use Rattle.aig_base.specs.state.LeastFaulty.{lesser, latch_variable, gate_variable}
 use Rattle.aig_parts.specs.Literal.{variable}
@@ -96,56 +96,64 @@ module _ (xs : List ℕ) (y : ℕ) where
         )
   ]
 
-module _ (raw : Raw) (done : List ℕ) (table : List (Option Definition)) (again : Option ℕ) (v : ℕ)
-    (d : Definition) where
-  new_entry : (u : ℕ) (entry : Option Definition) → (v ≡ u → ⊥) → IsEntryOf raw done u entry → IsEntryOf raw (done
-      ++ v ∷ []) u entry
-  new_entry u None ne h = λ has. elim (Contains-push_cases done v u has) [ inl a ↦ h a | inr e ↦ ne e ]
-  new_entry u (Some e) ne h = (h.0, Contains-append_left done (v ∷ []) u h.1)
+-- the number of what is defined last
+pub number_last : (done : List ℕ) (v n : ℕ) → n ≡ 1 + length done → IsNumberOf (done ++ v ∷ []) v n
+number_last done v n is =
+    let e : n ≡ suc (length done) = omega arith in
+    subst (IsNumberOf (done ++ v ∷ []) v) (sym e) (slice_get_last done v)
 
-  made_entry : (entry : Option Definition) → Some d ≡ entry → Defines raw v d → IsEntryOf raw (done ++ v ∷ []) v entry
-  made_entry entry e h = subst (λ o. IsEntryOf raw (done ++ v ∷ []) v o) e (h, Contains-push done v)
+-- one more definition leaves the numbers of all other variables
+pub number_stays : (done : List ℕ) (v u n : ℕ) → v ≢ u → IsNumberOf done u n → IsNumberOf (done ++ v ∷ []) u n
+number_stays done v u zero ne h = λ has. elim (Contains-push_cases done v u has) [ inl a ↦ h a | inr e ↦ ne e ]
+number_stays done v u (suc k) ne h = slice_get_left done (v ∷ []) k u h
 
+-- and those of variables that have one
+number_kept : (done : List ℕ) (v u n : ℕ) → n ≢ 0 → IsNumberOf done u n → IsNumberOf (done ++ v ∷ []) u n
+number_kept done v u zero some h = absurd (some refl)
+number_kept done v u (suc k) some h = slice_get_left done (v ∷ []) k u h
+
+pub contained : (done : List ℕ) (v n : ℕ) → n ≢ 0 → IsNumberOf done v n → Contains done v
+contained done v zero some h = absurd (some refl)
+contained done v (suc k) some h = Contains-from_get done k v h
+
+module _ (max_var : ℕ) (done table : List ℕ) (again : Option ℕ) (v : ℕ) (h : AreEntries max_var done table again) where
   -- a variable that had no definition
-  pub enter_new : AreEntries raw done table again → slice_get table v ≡ Some None → Defines raw v d
-      → AreEntries raw (done ++ v ∷ []) (set table v (Some d)) again
-  enter_new h at defines =
-      let within : v < length table = slice_get_within table v None at in
+  pub enter_new : (n : ℕ) → slice_get table v ≡ Some 0 → n ≡ 1 + length done
+      → AreEntries max_var (done ++ v ∷ []) (set table v n) again
+  enter_new n at is =
+      let within : v < length table = slice_get_within table v 0 at in
       record {
-        size = length-set table v (Some d) ∙ h.size;
-        entries = λ u entry is. elim (same_or_not u v) [
+        size = length-set table v n ∙ h.size;
+        numbers = λ u m here. elim (same_or_not u v) [
           | inl e ↦
-              let here : slice_get (set table v (Some d)) v ≡ Some entry = subst (λ w. slice_get (set table v
-              (Some d)) w ≡ Some entry) e is in
-              subst (λ w. IsEntryOf raw (done ++ v ∷ []) w entry) (sym e)
-              (made_entry entry (same_Some (Some d) entry (sym (slice_get-set_same table v (Some d) within)
-              ∙ here)) defines)
-          | inr ne ↦ new_entry u entry (λ e. ne (sym e)) (h.entries u entry (sym (slice_get-set_other table v u
-              (Some d) ne) ∙ is))
+              let there : slice_get (set table v n) v ≡ Some m =
+              subst (λ w. slice_get (set table v n) w ≡ Some m) e here in
+              let same : n ≡ m = same_Some n m (sym (slice_get-set_same table v n within) ∙ there) in
+              subst (λ w. IsNumberOf (done ++ v ∷ []) w m) (sym e) (number_last done v m (sym same ∙ is))
+          | inr ne ↦ number_stays done v u m (λ e. ne (sym e))
+              (h.numbers u m (sym (slice_get-set_other table v u n ne) ∙ here))
         ];
-        twice = twice_new done v again (h.entries v None at) h.twice;
+        twice = twice_new done v again (h.numbers v 0 at) h.twice;
       }
 
-  kept_entry : (e : Definition) → slice_get table v ≡ Some (Some e) → (u : ℕ) (entry : Option Definition)
-      → slice_get table u ≡ Some entry
-      → IsEntryOf raw done u entry → IsEntryOf raw (done ++ v ∷ []) u entry
-  kept_entry e at u None is h = new_entry u None (λ f. absurd (let g : slice_get table v
-      ≡ slice_get table u = ap (slice_get table) f in cc)) h
-  kept_entry e at u (Some x) is h = (h.0, Contains-append_left done (v ∷ []) u h.1)
-
   -- a variable that has a definition
-  pub enter_again : (e : Definition) → AreEntries raw done table again → slice_get table v ≡ Some (Some e)
-      → AreEntries raw (done ++ v ∷ []) table (lesser again (Some v))
-  enter_again e h at = record {
+  pub enter_again : (n : ℕ) → slice_get table v ≡ Some n → n ≢ 0
+      → AreEntries max_var (done ++ v ∷ []) table (lesser again (Some v))
+  enter_again n at some = record {
     size = h.size;
-    entries = λ u entry is. kept_entry e at u entry is (h.entries u entry is);
-    twice = twice_more done v again (h.entries v (Some e) at).1 h.twice;
+    numbers = λ u m here. elim (same_or_not u v) [
+      | inl e ↦
+          let same : n ≡ m = same_Some n m (sym at ∙ subst (λ w. slice_get table w ≡ Some m) e here) in
+          number_kept done v u m (λ z. some (same ∙ z)) (h.numbers u m here)
+      | inr ne ↦ number_stays done v u m (λ e. ne (sym e)) (h.numbers u m here)
+    ];
+    twice = twice_more done v again (contained done v n some (h.numbers v n at)) h.twice;
   }
 
 -- the entries of the same variables, said in another way
-pub entries_same : (raw : Raw) (xs ys : List ℕ) (table : List (Option Definition)) (again : Option ℕ) → xs ≡ ys
-    → AreEntries raw xs table again → AreEntries raw ys table again
-entries_same raw xs ys table again e h = subst (λ zs. AreEntries raw zs table again) e h
+pub entries_same : (max_var : ℕ) (xs ys table : List ℕ) (again : Option ℕ) → xs ≡ ys → AreEntries max_var xs table again
+    → AreEntries max_var ys table again
+entries_same max_var xs ys table again e h = subst (λ zs. AreEntries max_var zs table again) e h
 
 map_after : {X : Type 0} (f : X → ℕ) (xs : List X) → map variable (map f xs) ≡ map (λ x. variable (f x)) xs
 map_after f [] = refl
@@ -177,3 +185,11 @@ pub one_more : {X : Type 0} (done : List ℕ) (f : X → ℕ) (xs : List X) (p v
     → done ++ map f (take p xs) ++ v ∷ [] ≡ done ++ map f (take (p + 1) xs)
 one_more done f xs p v x l is e = append_assoc done (map f (take p xs)) (v ∷ []) ∙ ap (λ ys. done
     ++ ys) (one_more_first f xs p v x l is e)
+
+-- how many variables are entered before one of a section, first or after others
+pub entered_first : {X : Type 0} (f : X → ℕ) (xs : List X) (p : ℕ) → p < length xs → length (map f (take p xs)) ≡ p
+entered_first f xs p l = length-map (take p xs) f ∙ length-take-le p xs (omega arith)
+
+pub entered : {X : Type 0} (done : List ℕ) (f : X → ℕ) (xs : List X) (p : ℕ) → p < length xs
+    → length (done ++ map f (take p xs)) ≡ length done + p
+entered done f xs p l = length-append done (map f (take p xs)) ∙ ap (λ n. length done + n) (entered_first f xs p l)

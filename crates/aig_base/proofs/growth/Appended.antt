@@ -1,11 +1,9 @@
 -- One more gate keeps a circuit a circuit.
 use Rattle.std.proofs.Common.{◌≡◌, ◌⊎◌, inl, inr, ℕ, ◌+◌, ◌*◌, ◌<◌, ◌≤◌, List, [], ◌∷◌, ◌++◌, length, map, get_or}
-use Rattle.std.proofs.Common.{Option, Some, None, slice_get, All, Contains, refl, sym, ap, subst, ◌∙◌, arith}
+use Rattle.std.proofs.Common.{Some, slice_get, All, Contains, refl, sym, ap, subst, ◌∙◌, arith}
 use Rattle.std.proofs.lemmas.List.{append_assoc, length_push, map-append}
-use Rattle.std.proofs.lemmas.List.Elements.{All-push, All-weaker, Contains-append_left, Contains-push_cases}
+use Rattle.std.proofs.lemmas.List.Elements.{All-push, All-weaker, Contains-append_left}
 use Rattle.std.proofs.lemmas.Option.{slice_get_within}
-use Rattle.aig_base.specs.declared.circuit.definition.Definition.{Definition}
-use Rattle.aig_base.specs.declared.circuit.definition.Definition.TheVariants as definition
 use Rattle.aig_parts.specs.declared.gate.Gate.{Gate}
 use Rattle.aig_parts.specs.declared.latch.Latch.{Latch}
 use Rattle.aig_parts.specs.declared.raw.Raw.{Raw}
@@ -14,7 +12,7 @@ use Rattle.aig_parts.specs.declared.symbols.Kind.TheVariants as kind
 use Rattle.aig_base.specs.Changes.{next_gate, with_appended_gate}
 use Rattle.aig_base.specs.Circuit.{IsCircuit}
 use Rattle.aig_base.specs.Definition.{IsInOrder}
-use Rattle.aig_base.specs.state.Definitions.{IsDefinitionEntry, IsDefinitionTable}
+use Rattle.aig_base.specs.state.Definitions.{IsNumberOf, IsDefinitionTable}
 use Rattle.aig_parts.specs.Formed.{IsFormed, limit, section_length}
 use Rattle.aig_base.specs.Grounded as grounded
 use Rattle.aig_base.specs.Grounded.{IsSource, Grounded, IsAcyclic}
@@ -23,6 +21,8 @@ use Rattle.aig_base.specs.Sections.{definitions, uses, IsDefined}
 use Rattle.aig_base.specs.Sound.{IsInRange, IsDefinition, IsSound, StandsTwice}
 use Rattle.aig_base.proofs.lists.Counting.{sections_fit}
 use Rattle.aig_base.proofs.circuits.Defined.{Grounded-of_defined}
+use Rattle.aig_base.proofs.circuits.Entering.{number_last, number_stays}
+use Rattle.aig_base.proofs.circuits.Tables.{length-definitions}
 use Rattle.aig_base.proofs.lists.Evens.{evens_more}
 use Rattle.aig_base.proofs.checks.Faults.{in_range_joined, in_range_parted, uses_joined, uses_parted}
 use Rattle.aig_base.proofs.circuits.Gates.{gate_of, IsGate-of_gate}
@@ -202,29 +202,26 @@ module _ (raw : Raw) (r0 r1 : ℕ) where
             c.acyclic d0 d1;
       }
 
-  pub more_table : (table : List (Option Definition)) → IsDefinitionTable raw table
-      → IsDefinitionTable (with_appended_gate raw r0 r1) (table ++ Some (definition.Gate (length raw.gates)) ∷ [])
-  more_table table t = record {
-    size = omega (arith, length_push table (Some (definition.Gate (length raw.gates))), t.size);
-    entries = λ v entry at. elim (slice_get_push table (Some (definition.Gate (length raw.gates))) entry v at) [
-      | inl here ↦ old v entry (let lt = slice_get_within table v entry here in omega (arith, t.size))
-          (t.entries v entry here)
-      | inr e ↦ subst (IsDefinitionEntry (with_appended_gate raw r0 r1) v) e.1
-          (next_gate raw r0 r1, new_at, (let is = new_variable in let size = t.size in let at = e.0 in omega arith))
-    ];
+  pub more_table : (table : List ℕ) (n : ℕ) → n ≡ 1 + length raw.inputs + length raw.latches + length raw.gates
+      → IsDefinitionTable raw table → IsDefinitionTable (with_appended_gate raw r0 r1) (table ++ n ∷ [])
+  more_table table n is t = record {
+    size = omega (arith, length_push table n, t.size);
+    numbers = λ v m at.
+        subst (λ vs. IsNumberOf vs v m) (sym more_variables) (elim (slice_get_push table n m v at) [
+          | inl here ↦ number_stays was new v m
+              (λ e. omega (arith, e, slice_get_within table v m here, t.size, new_variable)) (t.numbers v m here)
+          | inr e ↦
+              let here : v ≡ new = omega (arith, e.0, t.size, new_variable) in
+              let last : m ≡ 1 + length was = omega (arith, e.1, is, length-definitions raw) in
+              subst (λ u. IsNumberOf (was ++ new ∷ []) u m) (sym here) (number_last was new m last)
+        ]);
   }
     where
-      old : (v : ℕ) (entry : Option Definition) → v ≤ raw.max_var → IsDefinitionEntry raw v entry
-          → IsDefinitionEntry (with_appended_gate raw r0 r1) v entry
-      old v None le free = λ has.
-          elim (Contains-push_cases (map variable (definitions raw)) (variable (2 * (raw.max_var + 1))) v
-          (subst (λ vs. Contains vs v) more_variables has)) [
-            | inl was ↦ free was
-            | inr e ↦ absurd (let is = new_variable in omega arith)
-          ]
-      old v (Some (definition.Input p)) le h = h
-      old v (Some (definition.Latch p)) le h = h
-      old v (Some (definition.Gate q)) le (g, at, e) = (g, old_at q g at, e)
+      was : List ℕ
+      was = map variable (definitions raw)
+
+      new : ℕ
+      new = variable (2 * (raw.max_var + 1))
 
   -- definitions in order stay so
   pub more_in_order : IsInOrder raw → IsInOrder (with_appended_gate raw r0 r1)

@@ -1,8 +1,6 @@
 -- Another literal at an output keeps a circuit a circuit.
-use Rattle.std.proofs.Common.{◌≡◌, ℕ, ◌<◌, List, get_or, length-set, Option, Some, None, refl, sym, subst}
+use Rattle.std.proofs.Common.{◌≡◌, ℕ, ◌<◌, get_or, length-set, refl, sym, subst}
 use Rattle.std.proofs.lemmas.List.Elements.{All-set}
-use Rattle.aig_base.specs.declared.circuit.definition.Definition.{Definition}
-use Rattle.aig_base.specs.declared.circuit.definition.Definition.TheVariants as definition
 use Rattle.aig_base.specs.declared.circuit.definitions.Definitions.{Definitions}
 use Rattle.aig_base.specs.declared.circuit.definitions.Definitions.TheVariants as kept
 use Rattle.aig_parts.specs.declared.raw.Raw.{Raw}
@@ -10,7 +8,6 @@ use Rattle.aig_parts.specs.declared.symbols.Kind.{Kind}
 use Rattle.aig_parts.specs.declared.symbols.Kind.TheVariants as kind
 use Rattle.aig_base.specs.Changes.{with_output}
 use Rattle.aig_base.specs.Circuit.{IsCircuit}
-use Rattle.aig_base.specs.state.Definitions.{IsDefinitionEntry, IsDefinitionTable}
 use Rattle.aig_base.specs.state.Definitions.{AreDefinitionsOf}
 use Rattle.aig_parts.specs.Formed.{IsFormed, section_length}
 use Rattle.aig_base.specs.Grounded as grounded
@@ -90,16 +87,6 @@ module _ (raw : Raw) (position lit : ℕ) where
             (c.acyclic v is);
       }
 
-  pub with_output-table : (table : List (Option Definition)) → IsDefinitionTable raw table → IsDefinitionTable
-      (with_output raw position lit) table
-  with_output-table table t = record { size = t.size; entries = λ v entry at. of v entry (t.entries v entry at) }
-    where
-      of : (v : ℕ) (entry : Option Definition) → IsDefinitionEntry raw v entry → IsDefinitionEntry (with_output raw position lit) v entry
-      of v None free = free
-      of v (Some (definition.Input p)) h = h
-      of v (Some (definition.Latch p)) h = h
-      of v (Some (definition.Gate q)) h = h
-
   pub with_output-describes : (d : Definitions) → AreDefinitionsOf raw d → AreDefinitionsOf (with_output raw position lit) d
   with_output-describes kept.InOrder h = h
-  with_output-describes (kept.Listed table) h = with_output-table table.items h
+  with_output-describes (kept.Listed table) h = record { size = h.size; numbers = h.numbers }

@@ -1,6 +1,6 @@
 -- The two changes write one entry, and keep a circuit a circuit.
 use Rattle.std.proofs.Common.{◌≡◌, ℕ, zero, suc, ◌+◌, ◌*◌, ◌/◌, ◌<◌, ◌≤◌, ◌⊎◌, Bool, true, false, cond, nat_eq, List}
-use Rattle.std.proofs.Common.{[], ◌∷◌, ◌++◌, map, get_or, set, Option, Some, None, option_map, refl, sym, ap, subst}
+use Rattle.std.proofs.Common.{[], ◌∷◌, ◌++◌, map, get_or, set, Some, option_map, refl, sym, ap, subst}
 use Rattle.std.proofs.Common.{◌∙◌, arith, rules, slice_get, All, Contains}
 use Rattle.std.proofs.lemmas.List.{length-map}
 use Rattle.std.proofs.lemmas.List.Elements.{All-map}
@@ -21,8 +21,7 @@ use Rattle.aig_parts.specs.declared.ternary.Tern.TheVariants.{Zero, One, X}
 use Rattle.aig_base.specs.Changes.{rewired, with_gate, reset_literal, restarted, with_reset}
 use Rattle.aig_base.specs.Circuit.{IsCircuit}
 use Rattle.aig_base.specs.Definition.{Defines}
-use Rattle.aig_base.specs.state.Definitions.{IsDefinitionEntry, IsDefinitionTable}
-use Rattle.aig_base.specs.state.Definitions.{AreDefinitionsOf}
+use Rattle.aig_base.specs.state.Definitions.{AreDefinitionsOf, IsNumberOf}
 use Rattle.aig_parts.specs.Formed.{IsFormed, section_length}
 use Rattle.aig_base.specs.Grounded as grounded
 use Rattle.aig_base.specs.Grounded.{IsSource, Grounded, IsAcyclic}
@@ -182,24 +181,12 @@ module _ (lhs r0 r1 : ℕ) where
       acyclic = a;
     }
 
-    pub with_gate-table : (table : List (Option Definition)) → IsDefinitionTable raw table → IsDefinitionTable
-        (with_gate raw lhs r0 r1) table
-    with_gate-table table t = record { size = t.size; entries = λ v entry at. of v entry (t.entries v entry at) }
-      where
-        of : (v : ℕ) (entry : Option Definition) → IsDefinitionEntry raw v entry → IsDefinitionEntry (with_gate raw lhs r0 r1) v entry
-        of v None free = λ has. free (subst (λ ls. Contains (map variable ls) v) (sym same_definitions) has)
-        of v (Some (definition.Input p)) h = h
-        of v (Some (definition.Latch p)) h = h
-        of v (Some (definition.Gate q)) (g, at, e) = (
-          rewired lhs r0 r1 g,
-          slice_get-map (rewired lhs r0 r1) raw.gates q ∙ ap (option_map
-              (rewired lhs r0 r1)) at,
-          e,
-        )
-
     pub with_gate-describes : (d : Definitions) → AreDefinitionsOf raw d → AreDefinitionsOf (with_gate raw lhs r0 r1) d
     with_gate-describes kept.InOrder h = sym same_definitions ∙ h
-    with_gate-describes (kept.Listed table) h = with_gate-table table.items h
+    with_gate-describes (kept.Listed table) h = record {
+      size = h.size;
+      numbers = λ v n at. subst (λ ls. IsNumberOf (map variable ls) v n) same_definitions (h.numbers v n at);
+    }
 
     -- the write that the table leads to makes the change
     pub gate_changed : IsSound raw → IsLeftSide raw lhs → (v q : ℕ) (d : Definition) (gates : List Gate) → v
@@ -343,19 +330,12 @@ module _ (lit : ℕ) (w : Tern) where
           reset_grounded v (c.acyclic v is);
     }
 
-    pub with_reset-table : (table : List (Option Definition)) → IsDefinitionTable raw table → IsDefinitionTable (with_reset raw lit w) table
-    with_reset-table table t = record { size = t.size; entries = λ v entry at. of v entry (t.entries v entry at) }
-      where
-        of : (v : ℕ) (entry : Option Definition) → IsDefinitionEntry raw v entry → IsDefinitionEntry (with_reset raw lit w) v entry
-        of v None free = λ has. free (subst (λ ls. Contains (map variable ls) v) (sym reset_definitions) has)
-        of v (Some (definition.Input p)) h = h
-        of v (Some (definition.Gate q)) h = h
-        of v (Some (definition.Latch p)) (x, at, e) =
-            (restarted lit w x, slice_get-map (restarted lit w) raw.latches p ∙ ap (option_map (restarted lit w)) at, e)
-
     pub with_reset-describes : (d : Definitions) → AreDefinitionsOf raw d → AreDefinitionsOf (with_reset raw lit w) d
     with_reset-describes kept.InOrder h = sym reset_definitions ∙ h
-    with_reset-describes (kept.Listed table) h = with_reset-table table.items h
+    with_reset-describes (kept.Listed table) h = record {
+      size = h.size;
+      numbers = λ v n at. subst (λ ls. IsNumberOf (map variable ls) v n) reset_definitions (h.numbers v n at);
+    }
 
     -- the write that the table leads to makes the change
     pub reset_changed : IsSound raw → IsLatchLiteral raw lit → (v p : ℕ) (d : Definition) (x : Latch)

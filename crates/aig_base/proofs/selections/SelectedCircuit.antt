@@ -1,11 +1,9 @@
 -- Other properties keep a circuit a circuit.
-use Rattle.std.proofs.Common.{◌≡◌, ℕ, ◌<◌, ◌≤◌, List, [], ◌∷◌, length, get_or, map, flat_map, Option, Some, None, refl, arith, All}
+use Rattle.std.proofs.Common.{◌≡◌, ℕ, ◌<◌, ◌≤◌, List, [], ◌∷◌, length, get_or, map, flat_map, refl, arith, All}
 use Rattle.std.specs.List.{range_with_len}
 use Rattle.std.proofs.lemmas.List.FromFn.{length-range_with_len, get_or-range_with_len}
 use Rattle.std.proofs.lemmas.List.{length-map, get_or_default}
 use Rattle.std.proofs.lemmas.List.Elements.{All-nil, All-cons, All-append, All-map, All-get_or, All-head, All-tail}
-use Rattle.aig_base.specs.declared.circuit.definition.Definition.{Definition}
-use Rattle.aig_base.specs.declared.circuit.definition.Definition.TheVariants as definition
 use Rattle.aig_base.specs.declared.circuit.definitions.Definitions.{Definitions}
 use Rattle.aig_base.specs.declared.circuit.definitions.Definitions.TheVariants as kept
 use Rattle.aig_base.specs.declared.select.PropertySection.{PropertySection}
@@ -17,7 +15,7 @@ use Rattle.aig_parts.specs.SymbolPlaces.{Key}
 use Rattle.aig_parts.specs.Formed.{IsFormed, IsSymbolOf, AreNamedOnce, limit, section_length}
 use Rattle.aig_parts.specs.Literal.{variable}
 use Rattle.aig_base.specs.Circuit.{IsCircuit}
-use Rattle.aig_base.specs.state.Definitions.{IsDefinitionEntry, IsDefinitionTable, AreDefinitionsOf}
+use Rattle.aig_base.specs.state.Definitions.{AreDefinitionsOf}
 use Rattle.aig_base.specs.Grounded as grounded
 use Rattle.aig_base.specs.Grounded.{IsSource, Grounded, Level}
 use Rattle.aig_base.specs.Levels.{AreLevels}
@@ -123,18 +121,9 @@ module _ (raw : Raw) (outputs bad : List ℕ) (symbols : List (Key × List ℕ))
   pub with_properties-levels : (levels : List ℕ) → AreLevels raw levels → AreLevels new levels
   with_properties-levels levels h = record { size = h.size; each = λ v n l. h.each v n (was_level v n l) }
 
-  with_properties-table : (table : List (Option Definition)) → IsDefinitionTable raw table → IsDefinitionTable new table
-  with_properties-table table t = record { size = t.size; entries = λ v entry at. of v entry (t.entries v entry at) }
-    where
-      of : (v : ℕ) (entry : Option Definition) → IsDefinitionEntry raw v entry → IsDefinitionEntry new v entry
-      of v None free = free
-      of v (Some (definition.Input p)) h = h
-      of v (Some (definition.Latch p)) h = h
-      of v (Some (definition.Gate q)) h = h
-
   pub with_properties-describes : (d : Definitions) → AreDefinitionsOf raw d → AreDefinitionsOf new d
   with_properties-describes kept.InOrder h = h
-  with_properties-describes (kept.Listed table) h = with_properties-table table.items h
+  with_properties-describes (kept.Listed table) h = record { size = h.size; numbers = h.numbers }
 
 -- ---- properties at some positions
 

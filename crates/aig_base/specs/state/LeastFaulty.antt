@@ -1,8 +1,7 @@
 -- The least key among those items of a list that are not as they should be.
-use Rattle.std.specs.Prelude.{◌≡◌, ◌⊎◌, ℕ, ◌<◌, min, List, Bool, true, Option, Some, None, All, slice_get}
+use Rattle.std.specs.Prelude.{◌≡◌, ◌≢◌, ◌⊎◌, ℕ, ◌<◌, min, List, Bool, true, Option, Some, None, All, slice_get}
 use Rattle.aig_parts.specs.declared.gate.Gate.{Gate}
 use Rattle.aig_parts.specs.declared.latch.Latch.{Latch}
-use Rattle.aig_base.specs.declared.circuit.definition.Definition.{Definition}
 use Rattle.aig_parts.specs.declared.raw.Raw.{Raw}
 use Rattle.aig_base.specs.Grounded.{Grounded}
 use Rattle.aig_parts.specs.Literal.{variable}
@@ -22,9 +21,9 @@ lesser None b = b
 lesser (Some v) None = Some v
 lesser (Some v) (Some w) = Some (min v w)
 
--- the literal's variable is 0, or the table says what defines it
-abbrev pub IsKnownLiteral : List (Option Definition) → ℕ → Type 0
-IsKnownLiteral table l = (variable l ≡ 0) ⊎ ((d : Definition) × (slice_get table (variable l) ≡ Some (Some d)))
+-- the literal's variable is 0, or the table has the number of what defines it
+abbrev pub IsKnownLiteral : List ℕ → ℕ → Type 0
+IsKnownLiteral table l = (variable l ≡ 0) ⊎ ((n : ℕ) × (slice_get table (variable l) ≡ Some n) × (n ≢ 0))
 
 -- the gate's variable is marked
 abbrev pub IsMarkedGate : List Bool → Gate → Type 0

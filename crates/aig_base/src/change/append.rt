@@ -9,6 +9,7 @@ ghost use Rattle.aig_base.specs.state.Worklists.{FitsOneVariable, IsIdle};
 
 use crate::change::forget;
 use crate::circuit::Circuit;
+use crate::circuit::definitions::next_gate_number;
 use crate::level::worklist::Worklist;
 use crate::level::{Levels, level_over};
 use crate::readers::Readers;
@@ -35,10 +36,10 @@ impl Circuit {
         ensures err { OnErr result (self.new ≡ self.old) }
     {
         let gate = self.next_gate(r0, r1);
-        let position = self.raw.gates.len() as u32;
+        let number = next_gate_number(&self.raw);
         self.definitions.make_room()?;
         self.raw.gates.push(gate)?;
-        self.definitions.append_gate(position);
+        self.definitions.append_gate(number);
         self.raw.max_var += 1;
         forget(&mut self.levels);
         Ok(())

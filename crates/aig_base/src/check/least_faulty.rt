@@ -8,7 +8,6 @@ ghost use Rattle.aig_base.specs.state.Ranged.{AreInRange};
 ghost use Rattle.aig_base.specs.Sections.{uses};
 ghost use Rattle.aig_base.specs.Sound.{IsReset};
 
-use crate::circuit::definition::Definition;
 use aig_parts::{Gate, Latch, List, Lit, Raw};
 
 /// The lesser number, where there is one.
@@ -23,7 +22,7 @@ pub(crate) fn lesser(a: Option<u32>, b: Option<u32>) -> Option<u32>
 }
 
 // The variable of a literal, if it is not 0 and not in the table.
-fn unknown(table: &[Option<Definition>], literal: Lit) -> Option<u32>
+fn unknown(table: &[u32], literal: Lit) -> Option<u32>
     requires { variable literal < length table.now }
     ensures { IsLeastAmong (IsKnownLiteral table.now) variable (literal ∷ []) result }
 {
@@ -31,13 +30,14 @@ fn unknown(table: &[Option<Definition>], literal: Lit) -> Option<u32>
     if variable == 0 {
         return None;
     }
-    match table[variable as usize] {
-        Some(_) => None,
-        None => Some(variable),
+    if table[variable as usize] == 0 {
+        Some(variable)
+    } else {
+        None
     }
 }
 
-fn least_unknown(table: &[Option<Definition>], literals: &[Lit]) -> Option<u32>
+fn least_unknown(table: &[u32], literals: &[Lit]) -> Option<u32>
     requires { All (λ l. variable l < length table.now) literals.now }
     ensures { IsLeastAmong (IsKnownLiteral table.now) variable literals.now result }
 {
@@ -48,7 +48,7 @@ fn least_unknown(table: &[Option<Definition>], literals: &[Lit]) -> Option<u32>
     least
 }
 
-fn least_unknown_next(table: &[Option<Definition>], latches: &[Latch]) -> Option<u32>
+fn least_unknown_next(table: &[u32], latches: &[Latch]) -> Option<u32>
     requires { All (λ x. variable x.next < length table.now) latches.now }
     ensures { IsLeastAmong (IsKnownLiteral table.now) variable (map (λ x. x.next) latches.now) result }
 {
@@ -59,7 +59,7 @@ fn least_unknown_next(table: &[Option<Definition>], latches: &[Latch]) -> Option
     least
 }
 
-fn least_unknown_in_lists(table: &[Option<Definition>], lists: &[List<Lit>]) -> Option<u32>
+fn least_unknown_in_lists(table: &[u32], lists: &[List<Lit>]) -> Option<u32>
     requires { All (λ p. All (λ l. variable l < length table.now) p) lists.now }
     ensures { IsLeastAmong (IsKnownLiteral table.now) variable (flat_map (λ p. p) lists.now) result }
 {
@@ -70,7 +70,7 @@ fn least_unknown_in_lists(table: &[Option<Definition>], lists: &[List<Lit>]) -> 
     least
 }
 
-fn least_unknown_side(table: &[Option<Definition>], gates: &[Gate]) -> Option<u32>
+fn least_unknown_side(table: &[u32], gates: &[Gate]) -> Option<u32>
     requires { All (λ g. (variable g.rhs0 < length table.now) × (variable g.rhs1 < length table.now)) gates.now }
     ensures { IsLeastAmong (IsKnownLiteral table.now) variable (flat_map (λ g. g.rhs0 ∷ g.rhs1 ∷ []) gates.now) result }
 {
@@ -83,7 +83,7 @@ fn least_unknown_side(table: &[Option<Definition>], gates: &[Gate]) -> Option<u3
 }
 
 /// The least variable that something reads, that is not 0 and not in the table.
-pub(crate) fn least_undefined(table: &[Option<Definition>], raw: &Raw) -> Option<u32>
+pub(crate) fn least_undefined(table: &[u32], raw: &Raw) -> Option<u32>
     requires range { AreInRange raw.now }
     requires size { length table.now ≡ raw.now.max_var + 1 }
     ensures { IsLeastAmong (IsKnownLiteral table.now) variable (uses raw.now) result }

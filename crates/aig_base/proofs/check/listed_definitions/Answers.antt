@@ -1,5 +1,4 @@
 use Rattle.std.proofs.Common.{ℕ, List, Option, Some, None, map, sym, ◌∙◌, subst, true≢false}
-use Rattle.aig_base.specs.declared.circuit.definition.Definition.{Definition}
 use Rattle.aig_base.specs.state.Entries.{IsLeastTwice, AreEntries}
 use Rattle.aig_base.specs.state.LeastFaulty.{IsLeastAmong, IsKnownLiteral}
 use Rattle.aig_parts.specs.Literal.{variable}
@@ -25,10 +24,10 @@ returns-in-Some-least_missing-clause-fault c = λ other.
     let table = c.in_ok-table.field-0.table.items in
     let range = c.requires.range in
     let defs = c.are_definitions.ensures.0 c.if-not-are_definitions.false in
-    let entries = subst (λ (o : Option ℕ). AreEntries raw (map variable
+    let entries = subst (λ (o : Option ℕ). AreEntries raw.max_var (map variable
     (definitions raw)) table o) c.in_default.is c.in_ok-table.ensures in
     first_undefined raw table range defs entries c.in-Some-least_missing.variable
-    (subst (λ (t : List (Option Definition)). IsLeastAmong (IsKnownLiteral t) variable (uses raw)
+    (subst (λ (t : List ℕ). IsLeastAmong (IsKnownLiteral t) variable (uses raw)
     (Some c.in-Some-least_missing.variable)) c.deref.ensures.value
     c.in-Some-least_missing.ensures)
 
@@ -36,11 +35,11 @@ pub returns-clause-once : goal.returns-clause-once
 returns-clause-once c =
     let raw = c.args.raw.now in
     let table = c.in_ok-table.field-0.table.items in
-    let entries = subst (λ (o : Option ℕ). AreEntries raw (map variable
+    let entries = subst (λ (o : Option ℕ). AreEntries raw.max_var (map variable
     (definitions raw)) table o) c.in_default.is c.in_ok-table.ensures in
     let defs = c.are_definitions.ensures.0 c.if-not-are_definitions.false in
     once_from_table raw table c.requires.range defs entries
-    (subst (λ (t : List (Option Definition)). IsLeastAmong (IsKnownLiteral t) variable (uses raw) None) c.deref.ensures.value
+    (subst (λ (t : List ℕ). IsLeastAmong (IsKnownLiteral t) variable (uses raw) None) c.deref.ensures.value
     c.in_default-least_missing.ensures)
 
 pub returns-clause-table : goal.returns-clause-table
@@ -51,5 +50,5 @@ pub least_missing-requires-clause-entries : goal.least_missing-requires-clause-e
 least_missing-requires-clause-entries c =
     let raw = c.args.raw.now in
     rw c.deref.ensures.value
-    (subst (λ (o : Option ℕ). AreEntries raw (map variable (definitions raw)) c.in_ok-table.field-0.table.items o)
+    (subst (λ (o : Option ℕ). AreEntries raw.max_var (map variable (definitions raw)) c.in_ok-table.field-0.table.items o)
     c.in_default.is c.in_ok-table.ensures)

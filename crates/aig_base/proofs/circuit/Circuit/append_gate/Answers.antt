@@ -32,7 +32,7 @@ invariant_of-self-2 c =
     ∙ ap (λ (g : Gate). raw.gates ++ g ∷ []) (c.next_gate-gate.ensures ∙ ap (λ (r : Raw). next_gate r r0 r1) back) in
     rw gates (
       more_circuit raw r0 r1 c.self.invariant.0 allowed.room allowed.defined0 allowed.defined1,
-      c.append_gate.ensures raw r0 r1 (sym c.len-position.ensures)
+      c.append_gate.ensures raw r0 r1 c.next_gate_number-number.ensures
           (c.make_room.ensures.describes raw c.self.invariant.1),
       rw c.forget.ensures tt,
     )

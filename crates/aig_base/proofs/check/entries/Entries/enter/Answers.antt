@@ -1,19 +1,19 @@
-use Rattle.std.proofs.Common.{Some, refl, ap, ◌∙◌}
+use Rattle.std.proofs.Common.{◌≡◌, ◌≢◌, Some, refl, ap, ◌∙◌, arith}
 use Rattle.std.proofs.lemmas.Option.{slice_get_read}
 use Rattle.aig_base.proofs.circuits.Entering.{enter_new, enter_again}
 use Rattle.aig_base.proofs.check.entries.Entries.enter.Goals as goal
 
-pub returns-in-Some : goal.returns-in-Some
-returns-in-Some c = λ raw done h defines.
+pub returns-then-index-eq0 : goal.returns-then-index-eq0
+returns-then-index-eq0 c = λ max_var done h is.
     let table = c.args.self.now.table.items in
-    let at = slice_get_read table _ c.args.variable c.index.result.now refl c.requires c.index.ensures
-    ∙ ap Some c.in-Some.is in
-    rw c.lesser-self.ensures (enter_again raw done table c.args.self.now.again c.args.variable c.args.definition
-    c.in-Some.field-0 h at)
+    let none : c.index.result.now ≡ 0 = omega arith in
+    let at = slice_get_read table _ c.args.variable c.index.result.now refl c.requires c.index.ensures in
+    enter_new max_var done table c.args.self.now.again c.args.variable h c.args.number (at ∙ ap Some none) is
 
-pub returns-in-None : goal.returns-in-None
-returns-in-None c = λ raw done h defines.
+pub returns-else-index-eq0 : goal.returns-else-index-eq0
+returns-else-index-eq0 c = λ max_var done h is.
     let table = c.args.self.now.table.items in
-    let at = slice_get_read table _ c.args.variable c.index.result.now refl c.requires c.index.ensures
-    ∙ ap Some c.in-None.is in
-    enter_new raw done table c.args.self.now.again c.args.variable c.args.definition h at defines
+    let some : c.index.result.now ≢ 0 = λ e. omega arith in
+    let at = slice_get_read table _ c.args.variable c.index.result.now refl c.requires c.index.ensures in
+    rw c.lesser-self.ensures
+    (enter_again max_var done table c.args.self.now.again c.args.variable h c.index.result.now at some)

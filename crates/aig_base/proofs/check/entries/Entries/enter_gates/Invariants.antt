@@ -5,5 +5,5 @@ use Rattle.aig_parts.specs.Literal.{variable}
 use Rattle.aig_base.proofs.check.entries.Entries.enter_gates.Given as goal
 
 abbrev pub invariant-loop-position : goal.invariant-loop-position
-invariant-loop-position l = AreEntries l.raw (map variable l.raw.inputs ++ map latch_variable l.raw.latches
+invariant-loop-position l = AreEntries l.raw.max_var (map variable l.raw.inputs ++ map latch_variable l.raw.latches
     ++ map gate_variable (take l.position l.raw.gates)) l.self.table.items l.self.again

@@ -4,5 +4,5 @@ use Rattle.aig_parts.specs.Literal.{variable}
 use Rattle.aig_base.proofs.check.entries.Entries.enter_inputs.Given as goal
 
 abbrev pub invariant-loop-position : goal.invariant-loop-position
-invariant-loop-position l = AreEntries l.raw (map variable (take l.position l.raw.inputs)) l.self.table.items
+invariant-loop-position l = AreEntries l.raw.max_var (map variable (take l.position l.raw.inputs)) l.self.table.items
     l.self.again

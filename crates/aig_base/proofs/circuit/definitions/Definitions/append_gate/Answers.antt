@@ -1,19 +1,15 @@
-use Rattle.std.proofs.Common.{List, Option, sym, ap, subst, ◌∙◌, ◌++◌, ◌∷◌, [], Some, ℕ}
-use Rattle.aig_base.specs.declared.circuit.definition.Definition.{Definition}
-use Rattle.aig_base.specs.declared.circuit.definition.Definition.TheVariants as definition
+use Rattle.std.proofs.Common.{ℕ, List, sym, subst}
 use Rattle.aig_base.specs.Changes.{with_appended_gate}
 use Rattle.aig_base.specs.state.Definitions.{IsDefinitionTable}
 use Rattle.aig_base.proofs.growth.Appended.{more_in_order, more_table}
 use Rattle.aig_base.proofs.circuit.definitions.Definitions.append_gate.Goals as goal
 
 pub returns-in-Listed : goal.returns-in-Listed
-returns-in-Listed c raw r0 r1 size describes =
-    let table = c.in-Listed.table.items in
+returns-in-Listed c raw r0 r1 is describes =
     let h = rw c.in-Listed.is at describes in
-    subst (λ (es : List (Option Definition)). IsDefinitionTable (with_appended_gate raw r0 r1) es)
-    (ap (λ (n : ℕ). table ++ Some (definition.Gate n) ∷ []) size ∙ sym c.push_reserved.ensures.items)
-    (more_table raw r0 r1 table h)
+    subst (λ (ns : List ℕ). IsDefinitionTable (with_appended_gate raw r0 r1) ns) (sym c.push_reserved.ensures.items)
+    (more_table raw r0 r1 c.in-Listed.table.items c.args.number is h)
 
 pub returns-in-InOrder : goal.returns-in-InOrder
-returns-in-InOrder c raw r0 r1 size describes =
+returns-in-InOrder c raw r0 r1 is describes =
     rw c.in-InOrder.is (more_in_order raw r0 r1 (rw c.in-InOrder.is at describes))
