@@ -12,7 +12,7 @@ BAD_INPUT, CYCLE = TEXTS["bad_input"].encode(), TEXTS["cycle"].encode()
 SECTIONS = TEXTS["sections"].encode()
 # No run reaches the bad state; propagation alone does not show it.
 NEVER = b"aag 9 2 0 0 7 1\n2\n4\n18\n6 5 3\n8 4 3\n10 5 2\n12 4 2\n14 9 7\n16 13 11\n18 16 14\n"
-FACTS = (b"format aag\nvariables 3\ninputs 2\nlatches 0\noutputs 1\ngates 1\nbad 0\nconstant 0\nconstraints 0\n"
+FACTS = (b"format aag\nvariables 3\ninputs 2\nlatches 0\noutputs 1\ngates 1\nbad 0\nconstant 0\nconstraints 0\nimpossible 0\n"
          b"justice 0\nfairness 0\nuninitialised 0\nresets 0\nlevels 1\nfanout 1\nsymbols 0\ncomment 0\nready no\n")
 UNROLLED = b"aag 8 4 0 2 4\n2\n4\n6\n8\n12\n16\n10 4 2\n12 10 2\n14 8 6\n16 14 6\n"
 
@@ -21,7 +21,7 @@ KEPT = b"aag 1 0 1 0 0 1\n2 2\n2\n"
 CLAIM, WRONG_CLAIM = b"aag 1 1 0 0 0 1\n2\n2\ni0 = 2\n", b"aag 1 1 0 0 0 1\n2\n2\ni0 = 3\n"
 NO_SUCH = b"aag 1 1 0 0 0\n2\ni0 = 4\n"
 STRENGTHENED = b"aag 2 0 1 2 1 1\n2 2\n2\n2\n5\n4 3 3\n"
-INDUCTION = (b"c l 2 0 \nc b -3 0\nc b -4 1\np cnf 4 9\n-1 0\n-3 -4 0\n3 -2 0\n"
+INDUCTION = (b"c aig cnf --certificate --property 0 \nc l 2 0 \nc b -3 0\nc b -4 1\np cnf 4 9\n-1 0\n-3 -4 0\n3 -2 0\n"
              b"-3 -2 0\n-3 -2 0\n3 2 2 0\n-4 -2 0\n-4 -2 0\n4 2 2 0\n")
 
 HEADER = b"""$version aig $end
@@ -75,7 +75,7 @@ RUNS = (
     ("unroll --frames 2 --to aig", [("circuit", TWO_GATES)], "output",
      0, b"", [b"aig 8 4 0 2 4\n12\n16\n\x06\x02\x02\x08\x06\x02\x02\x08"]),
     ("cnf --frames 2", [("circuit", BAD_INPUT)], "output", 0, b"",
-     [b"c i 2 0 0 \nc i 3 1 0 \nc b 2 0\nc b 3 1\np cnf 3 2\n-1 0\n2 3 0\n"]),
+     [b"c aig cnf --frames 2 --property 0 \nc i 2 0 0 \nc i 3 1 0 \nc b 2 0\nc b 3 1\np cnf 3 2\n-1 0\n2 3 0\n"]),
     ("cnf --frames 2 --property 1", [("circuit", BAD_INPUT)], "output", 1, b"aig: cnf: property\n", [b""]),
     ("refute --frames 1", [("circuit", NEVER), ("proof", b"2 0")], "output", 0, b"", [b"unreachable within 1\n"]),
     ("refute --frames 1", [("circuit", BAD_INPUT), ("proof", b"0\n")], "output", 1, b"aig: proof: step 1\n", [b""]),

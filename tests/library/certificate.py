@@ -176,12 +176,14 @@ def clauses_of(circuit):
     return made.size + len(made.gates) + 1, (start, after), clauses
 
 
-def formula(circuit):
-    """The text of the formula: an assignment satisfies it where a start or a step breaks the property."""
+def formula(circuit, position=0):
+    """The text of the formula of a circuit that was strengthened for the property at a position: an assignment satisfies it
+    where a start or a step breaks the property."""
     variables, goals, clauses = clauses_of(circuit)
     names = {(letter, place): name for letter, place, name in circuit.names}
     width = len(circuit.inputs)
-    lines = [b"c i %d %d %d " % (frame * width + place + 2, frame, place) + names.get((b"i", place), b"")
+    lines = [b"c aig cnf --certificate --property %d " % position + names.get((b"o", 0), b"")]
+    lines += [b"c i %d %d %d " % (frame * width + place + 2, frame, place) + names.get((b"i", place), b"")
              for frame in range(2) for place in range(width)]
     lines += [b"c l %d %d " % (2 * width + place + 2, place) + names.get((b"l", place), b"")
               for place in range(len(circuit.latches))]

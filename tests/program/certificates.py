@@ -16,7 +16,8 @@ RING = "aag 4 0 3 0 1 1\n2 6 1\n4 2\n6 4\n8\n8 4 2\n"
 NO_TWO = "aag 5 3 0 0 2 2\n2\n4\n6\n8\n10\n8 6 2\n10 6 4\ni0 = 2\ni1 = 4\ni2 = 6\n"
 RING_STRENGTHENED = "aag 8 0 3 3 5 1\n2 6 1\n4 2\n6 4\n8\n10\n12\n17\n8 4 2\n10 6 2\n12 6 4\n14 11 9\n16 14 13\n"
 RING_BINARY = b"aig 8 0 3 3 5 1\n6 1\n2\n4\n8\n10\n12\n17\n\4\2\4\4\6\2\3\2\2\1"
-RING_FORMULA = ("c l 2 0 \nc l 3 1 \nc l 4 2 \nc b -9 0\nc b -14 1\np cnf 14 35\n-1 0\n-9 -14 0\n9 2 0\n9 -3 0\n9 -4 0\n"
+RING_FORMULA = ("c aig cnf --certificate --property 0 \n"
+                "c l 2 0 \nc l 3 1 \nc l 4 2 \nc b -9 0\nc b -14 1\np cnf 14 35\n-1 0\n-9 -14 0\n9 2 0\n9 -3 0\n9 -4 0\n"
                 "-5 3 0\n-5 2 0\n5 -3 -2 0\n-6 4 0\n-6 2 0\n6 -4 -2 0\n-7 4 0\n-7 3 0\n7 -4 -3 0\n"
                 "-8 -6 0\n-8 -5 0\n8 6 5 0\n-9 8 0\n-9 -7 0\n9 -8 7 0\n"
                 "-10 4 0\n-10 2 0\n10 -4 -2 0\n-11 4 0\n-11 3 0\n11 -4 -3 0\n-12 3 0\n-12 2 0\n12 -3 -2 0\n"
@@ -195,7 +196,7 @@ def circuits(rows):
                            spelled(circuit_of(NAMED_MODEL, certificate, asked), "aag"), data(text))
         made = in_order(Reader(data(text)).parts())
         rows.gives(f"{name}, in binary", f"strengthen --to aig {words}", spelled(made, "aig"))
-        rows.gives(f"{name}, its formula", f"cnf {words}", formula(Reader(data(text)).parts()))
+        rows.gives(f"{name}, its formula", f"cnf {words}", formula(Reader(data(text)).parts(), asked))
     for name, model, claims in (("a binary model", binary(RING), NO_TWO), ("a binary certificate", RING, binary(NO_TWO)),
                                 ("two binary files", binary(RING), binary(NO_TWO))):
         rows.gives(name, "strengthen --to aag --certificate claims model", RING_STRENGTHENED, model=model, claims=claims)
@@ -232,7 +233,7 @@ def sizes(rows):
             words = f"--certificate claims --property {asked} model"
             rows.gives(name, f"strengthen --to aag {words}", spelled(x, "aag"), model=model, claims=claims)
             rows.gives(f"{name}, to binary", f"strengthen --to aig {words}", spelled(in_order(x), "aig"))
-            rows.gives(f"{name}, its formula", f"cnf {words}", formula(x))
+            rows.gives(f"{name}, its formula", f"cnf {words}", formula(x, asked))
 
 
 def model_of_parts(ones, way):

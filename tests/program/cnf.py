@@ -14,21 +14,29 @@ WIDE = "aag 64 64 0 0 0 1\n" + "".join(f"{2 * at}\n" for at in range(1, 65)) + "
 # What is asked for, the circuit, and what is written.
 FORMULAS = (
     ("a bad literal that is a negated input", "--frames 1 negated", "aag 1 1 0 0 0 1\n2\n3\n",
+     "c aig cnf --frames 1 --property 0 \n"
      "c i 2 0 0 \nc b -2 0\np cnf 2 2\n-1 0\n-2 0\n"),
     ("no inputs, and constants as bad literals", "--frames 3 toggles", TOGGLES,
+     "c aig cnf --frames 3 --property 0 \n"
      "c b 1 0\nc b -1 1\nc b 1 2\np cnf 1 2\n-1 0\n1 -1 1 0\n"),
     ("no latches, and no gates", "--frames 2 --property 1 two", "aag 1 1 0 0 0 2\n2\n2\n3\n",
+     "c aig cnf --frames 2 --property 1 \n"
      "c i 2 0 0 \nc i 3 1 0 \nc b -2 0\nc b -3 1\np cnf 3 2\n-1 0\n-2 -3 0\n"),
-    ("the constant 0", "--frames 1 constants", "aag 0 0 0 0 0 2\n0\n1\n", "c b 1 0\np cnf 1 2\n-1 0\n1 0\n"),
+    ("the constant 0", "--frames 1 constants", "aag 0 0 0 0 0 2\n0\n1\n", "c aig cnf --frames 1 --property 0 \n"
+     "c b 1 0\np cnf 1 2\n-1 0\n1 0\n"),
     ("the constant 1", "--property 1 --frames 1 constants", "aag 0 0 0 0 0 2\n0\n1\n",
+     "c aig cnf --frames 1 --property 1 \n"
      "c b -1 0\np cnf 1 2\n-1 0\n-1 0\n"),
     ("uninitialised latches, and names", "--frames 2 --property 0 starts", STARTS,
+     "c aig cnf --frames 2 --property 0 in\n"
      "c i 2 0 0 in\nc i 3 0 1 \nc i 4 1 0 in\nc i 5 1 1 \nc l 6 1 \nc l 7 3 free one\nc b 7 0\nc b 1 1\n"
      "p cnf 7 2\n-1 0\n7 1 0\n"),
     ("a constraint", "--frames 2 guarded", TEXTS["guarded"],
+     "c aig cnf --frames 2 --property 0 \n"
      "c i 2 0 0 \nc i 3 0 1 \nc i 4 1 0 \nc i 5 1 1 \nc b 7 0\nc b 9 1\np cnf 9 14\n-1 0\n7 9 0\n"
      "-6 3 0\n-6 -1 0\n6 -3 1 0\n-7 6 0\n-7 2 0\n7 -6 -2 0\n-8 6 0\n-8 5 0\n8 -6 -5 0\n-9 8 0\n-9 4 0\n9 -8 -4 0\n"),
     ("justice and fairness, which are ignored", "--frames 1 sections", TEXTS["sections"],
+     "c aig cnf --frames 1 --property 0 \n"
      "c i 2 0 0 in\nc l 3 0 state\nc b 6 0\np cnf 6 11\n-1 0\n6 0\n"
      "-4 3 0\n-4 2 0\n4 -3 -2 0\n-5 3 0\n-5 -1 0\n5 -3 1 0\n-6 5 0\n-6 4 0\n6 -5 -4 0\n"),
 )
@@ -36,13 +44,17 @@ FORMULAS = (
 # The formulas of induction steps.
 STEPS = (
     ("a step of a latch that negates itself", "--step --frames 1 toggles", TOGGLES,
+     "c aig cnf --step --frames 1 --property 0 \n"
      "c l 2 0 \nc b 2 0\nc b -2 1\np cnf 2 3\n-1 0\n-2 0\n-2 0\n"),
     ("a step of two frames", "--frames 2 --step toggles", TOGGLES,
+     "c aig cnf --step --frames 2 --property 0 \n"
      "c l 2 0 \nc b 2 0\nc b -2 1\nc b 2 2\np cnf 2 4\n-1 0\n-2 0\n2 0\n2 0\n"),
     ("a step of inputs, latches and names", "--step --frames 1 starts", STARTS,
+     "c aig cnf --step --frames 1 --property 0 in\n"
      "c i 2 0 0 in\nc i 3 0 1 \nc i 4 1 0 in\nc i 5 1 1 \nc l 6 0 not free\nc l 7 1 \nc l 8 2 \nc l 9 3 free one\n"
      "c b 9 0\nc b 8 1\np cnf 9 3\n-1 0\n-9 0\n8 0\n"),
     ("a step with a constraint", "--step --frames 1 guarded", TEXTS["guarded"],
+     "c aig cnf --step --frames 1 --property 0 \n"
      "c i 2 0 0 \nc i 3 0 1 \nc i 4 1 0 \nc i 5 1 1 \nc b 7 0\nc b 9 1\np cnf 9 15\n-1 0\n-7 0\n9 0\n"
      "-6 3 0\n-6 -1 0\n6 -3 1 0\n-7 6 0\n-7 2 0\n7 -6 -2 0\n-8 6 0\n-8 5 0\n8 -6 -5 0\n-9 8 0\n-9 4 0\n9 -8 -4 0\n"),
 )
@@ -50,14 +62,18 @@ STEPS = (
 # The formulas that a run keeps all constraints.
 ALIVE = (
     ("constraints and a bad state", "--alive --frames 2 guarded", TEXTS["guarded"],
+     "c aig cnf --alive --frames 2 \n"
      "c i 2 0 0 \nc i 3 0 1 \nc i 4 1 0 \nc i 5 1 1 \nc b 7 0\nc b 9 1\np cnf 9 14\n-1 0\n9 0\n"
      "-6 3 0\n-6 -1 0\n6 -3 1 0\n-7 6 0\n-7 -1 0\n7 -6 1 0\n-8 6 0\n-8 5 0\n8 -6 -5 0\n-9 8 0\n-9 -1 0\n9 -8 1 0\n"),
     ("constraints without a bad state", "--frames 1 --alive contradicts", "aag 1 1 0 0 0 0 2\n2\n2\n3\ni0 in\nc1 no\n",
+     "c aig cnf --alive --frames 1 \n"
      "c i 2 0 0 in\nc b 5 0\np cnf 5 11\n-1 0\n5 0\n"
      "-3 2 0\n-3 -1 0\n3 -2 1 0\n-4 3 0\n-4 -2 0\n4 -3 2 0\n-5 4 0\n-5 -1 0\n5 -4 1 0\n"),
     ("no constraint", "--alive --frames 3 toggles", TOGGLES,
+     "c aig cnf --alive --frames 3 \n"
      "c b -1 0\nc b -1 1\nc b -1 2\np cnf 1 2\n-1 0\n-1 0\n"),
     ("properties, which are ignored, and names", "--alive --frames 1 sections", TEXTS["sections"],
+     "c aig cnf --alive --frames 1 \n"
      "c i 2 0 0 in\nc l 3 0 state\nc b 6 0\np cnf 6 11\n-1 0\n6 0\n"
      "-4 3 0\n-4 2 0\n4 -3 -2 0\n-5 3 0\n-5 -1 0\n5 -3 1 0\n-6 5 0\n-6 -1 0\n6 -5 1 0\n"),
 )
@@ -116,6 +132,7 @@ def binary(rows):
 def many_frames(rows):
     """The greatest number of frames, in many blocks."""
     frames = range(65536)
-    text = "".join(f"c i {at + 2} {at} 0 \n" for at in frames) + "".join(f"c b {at + 2} {at}\n" for at in frames)
+    text = "c aig cnf --frames 65536 --property 0 \n"
+    text += "".join(f"c i {at + 2} {at} 0 \n" for at in frames) + "".join(f"c b {at + 2} {at}\n" for at in frames)
     text += "p cnf 65537 2\n-1 0\n" + "".join(f"{at + 2} " for at in frames) + "0\n"
     rows.gives("the greatest number of frames", "cnf --frames 65536 bad_input", text)

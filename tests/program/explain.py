@@ -653,6 +653,8 @@ def hostile(program, tally):
             run = program.run("--explain", *words)
             name = f"explain: case {case}, {' '.join(words)}"
             tally.check(f"{name}: printable lines", re.fullmatch(rb"([\x20-\x7e]*\n)*", run.err), run.err)
-            if run.err:
+            if words[0] in ("check", "refute") and run.out:
+                tally.check(f"{name}: a verdict", re.fullmatch(rb"(  property: b[0-9]+( .*)?\n)?", run.err), run.err)
+            elif run.err:
                 tally.check(f"{name}: explained", re.fullmatch(rb"aig: .*\n  file: .*\n(  .+\n)+", run.err), run.err)
                 tally.check(f"{name}: the fault is found again", b"nothing wrong" not in run.err, run.err)

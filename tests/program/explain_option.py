@@ -56,6 +56,7 @@ def explain_option(program, tally, _):
     places(program, tally)
     shown(program, tally)
     silent(program, tally)
+    verdicts(program, tally)
     reasons(program, tally)
     which_file(program, tally)
     not_again(program, tally)
@@ -113,19 +114,60 @@ def shown(program, tally):
     said = []
     for line in lines:
         if line.startswith("$ aig "):
-            said += [line, *program.run(*line.split(" ")[2:]).err.decode().splitlines()]
+            run = program.run(*line.split(" ")[2:])
+            said += [line, *(run.out + run.err).decode().splitlines()]
     tally.compare("explain: the example of BEHAVIOUR.md", said, lines)
 
 
 def silent(program, tally):
-    """What is no failure has no explanation: results, verdicts and replies."""
+    """What is no failure and no verdict has no explanation: results and replies."""
     write("rows", "11\n")
     write("script", "w 6 8 2\nq\nv 9 9\n")
-    write("short", "1\nb0\n\n0\n.\n")
-    for words, status in ((["info", "two_gates"], 0), (["bench", "two_gates", "rows", "script"], 0),
-                          (["check", "bad_input", "short"], 1)):
+    for words in (["info", "two_gates"], ["bench", "two_gates", "rows", "script"]):
         ended = program.run("--explain", *words)
-        tally.compare(f"explain: {words}", ended, Ended(status, program.run(*words).out, b""))
+        tally.compare(f"explain: {words}", ended, Ended(0, program.run(*words).out, b""))
+
+
+# Bad state properties, of which one has a name of a terminal's control bytes, one a name of more than 60 bytes, and one
+# none. The last three are never reached.
+LONG = "n" * 70
+JUDGED = ("aag 2 2 0 0 0 12\n2\n4\n2\n4\n2\n2\n2\n2\n2\n2\n2\n0\n0\n0\n"
+          f"b0 first one\nb1 red \x1b[31m\nb9 {LONG}\nb10 tenth\nb11 last\n")
+
+# What is run, the status, what is printed, and the property that is named.
+VERDICTS = (
+    ("check judged witness0", 0, "confirmed", "b0 first one"),
+    ("check judged witness1", 1, "not bad", "b1 red \\x1b[31m"),
+    ("check judged witness2", 0, "confirmed", "b2"),
+    ("check judged witness10", 1, "not bad", "b10 tenth"),
+    ("check --trace judged witness9", 1, None, f"b9 {LONG[:60]}.."),
+    ("refute --frames 3 --property 10 judged empty", 0, "unreachable within 3", "b10 tenth"),
+    ("refute --frames 3 --property b11 judged empty", 0, "unreachable within 3", "b11 last"),
+    ("refute --frames 3 --property tenth judged empty", 0, "unreachable within 3", "b10 tenth"),
+    ("refute --certificate claims --property 11 judged empty", 0, "unreachable", "b11 last"),
+    ("refute --step empty --frames 1 --property 11 judged empty", 0, "unreachable", "b11 last"),
+)
+
+
+def verdicts(program, tally):
+    """A verdict is about a property, which is named: that of the witness, or of the option."""
+    write("judged", JUDGED)
+    write("empty", "")
+    write("claims", "aag 0 0 0 0 0\n")
+    for at in (0, 1, 2, 9, 10):
+        write(f"witness{at}", f"1\nb{at}\n\n10\n.\n")
+    for words, status, verdict, name in VERDICTS:
+        plain = program.run(*words.split(" "))
+        tally.compare(f"explain: {words}: nothing by itself", (plain.status, plain.err), (status, b""))
+        if verdict:
+            tally.compare(f"explain: {words}: the verdict", plain.out, f"{verdict}\n".encode())
+        wanted = Ended(status, plain.out, f"  property: {name}\n".encode())
+        tally.compare(f"explain: {words}", program.run("--explain", *words.split(" ")), wanted)
+        tally.compare(f"explain: {words}, by the environment", asked_by(program, "1", *words.split(" ")), wanted)
+    # A file that is a pipe is not read again.
+    words = ["refute", "--frames", "3", "--property", "10", "/dev/stdin", "empty"]
+    tally.compare("explain: a circuit from a pipe", program.run("--explain", *words, input=JUDGED.encode()),
+                  Ended(0, b"unreachable within 3\n", b""))
 
 
 def reasons(program, tally):

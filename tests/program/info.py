@@ -5,35 +5,37 @@ from library.plain_reader import Reader
 from library.runs import EXAMPLES, contents
 from program.rows import Rows, data
 
-NAMES = ("format variables inputs latches outputs gates bad constant constraints justice fairness uninitialised resets "
-         "levels fanout symbols comment ready").split(" ")
+NAMES = ("format variables inputs latches outputs gates bad constant constraints impossible justice fairness "
+         "uninitialised resets levels fanout symbols comment ready").split(" ")
 
 # Circuits, and their facts in the order of the names.
 FACTS = (
-    ("the empty circuit", "aag 0 0 0 0 0\n", "aag 0 0 0 0 0 0 0 0 0 0 0 0 0 0 0 0 yes"),
-    ("the empty binary circuit", "aig 0 0 0 0 0\n", "aig 0 0 0 0 0 0 0 0 0 0 0 0 0 0 0 0 yes"),
-    ("one gate, with its right sides swapped", TEXTS["one_gate"], "aag 3 2 0 1 1 0 0 0 0 0 0 0 1 1 0 0 no"),
-    ("one gate in binary", "aig 3 2 0 1 1\n6\n\x02\x02", "aig 3 2 0 1 1 0 0 0 0 0 0 0 1 1 0 0 yes"),
-    ("a gate whose sides are of one variable", "aag 2 1 0 1 1\n2\n4\n4 2 3\n", "aag 2 1 0 1 1 0 0 0 0 0 0 0 1 1 0 0 no"),
-    ("a gate of constants", "aag 1 0 0 1 1\n2\n2 1 0\n", "aag 1 0 0 1 1 0 0 0 0 0 0 0 1 1 0 0 yes"),
-    ("variables without a definition", TEXTS["unused"], "aag 7 1 0 1 2 0 0 0 0 0 0 0 2 2 0 0 no"),
+    ("the empty circuit", "aag 0 0 0 0 0\n", "aag 0 0 0 0 0 0 0 0 0 0 0 0 0 0 0 0 0 yes"),
+    ("the empty binary circuit", "aig 0 0 0 0 0\n", "aig 0 0 0 0 0 0 0 0 0 0 0 0 0 0 0 0 0 yes"),
+    ("one gate, with its right sides swapped", TEXTS["one_gate"], "aag 3 2 0 1 1 0 0 0 0 0 0 0 0 1 1 0 0 no"),
+    ("one gate in binary", "aig 3 2 0 1 1\n6\n\x02\x02", "aig 3 2 0 1 1 0 0 0 0 0 0 0 0 1 1 0 0 yes"),
+    ("a gate whose sides are of one variable", "aag 2 1 0 1 1\n2\n4\n4 2 3\n", "aag 2 1 0 1 1 0 0 0 0 0 0 0 0 1 1 0 0 no"),
+    ("a gate of constants", "aag 1 0 0 1 1\n2\n2 1 0\n", "aag 1 0 0 1 1 0 0 0 0 0 0 0 0 1 1 0 0 yes"),
+    ("variables without a definition", TEXTS["unused"], "aag 7 1 0 1 2 0 0 0 0 0 0 0 0 2 2 0 0 no"),
     ("the deepest gate in the middle", "aag 5 2 0 1 3\n2\n4\n10\n6 4 2\n10 6 2\n8 4 2\n",
-     "aag 5 2 0 1 3 0 0 0 0 0 0 0 2 3 0 0 no"),
-    ("an uninitialised latch", TEXTS["feedback"], "aag 3 1 1 1 1 0 0 0 0 0 1 0 1 1 0 0 yes"),
-    ("latches with each reset", "aag 3 0 3 0 0\n2 2\n4 2 1\n6 2 6\n", "aag 3 0 3 0 0 0 0 0 0 0 1 1 0 0 0 0 yes"),
-    ("all sections", TEXTS["sections"], "aag 3 1 1 1 1 1 0 1 1 1 1 0 1 1 2 3 yes"),
+     "aag 5 2 0 1 3 0 0 0 0 0 0 0 0 2 3 0 0 no"),
+    ("an uninitialised latch", TEXTS["feedback"], "aag 3 1 1 1 1 0 0 0 0 0 0 1 0 1 1 0 0 yes"),
+    ("latches with each reset", "aag 3 0 3 0 0\n2 2\n4 2 1\n6 2 6\n", "aag 3 0 3 0 0 0 0 0 0 0 0 1 1 0 0 0 0 yes"),
+    ("all sections", TEXTS["sections"], "aag 3 1 1 1 1 1 0 1 0 1 1 1 0 1 1 2 3 yes"),
     ("bad state properties that are constants", "aag 1 1 0 0 0 4\n2\n0\n3\n1\n0\n",
-     "aag 1 1 0 0 0 4 3 0 0 0 0 0 0 0 0 0 yes"),
+     "aag 1 1 0 0 0 4 3 0 0 0 0 0 0 0 0 0 0 yes"),
     ("constants that are no bad state properties", "aag 1 1 0 1 0 1 1\n2\n0\n2\n1\n",
-     "aag 1 1 0 1 0 1 0 1 0 0 0 0 0 0 0 0 yes"),
+     "aag 1 1 0 1 0 1 0 1 0 0 0 0 0 0 0 0 0 yes"),
+    ("constraints that no run keeps", "aag 1 1 0 0 0 1 5\n2\n0\n0\n1\n2\n3\n0\n",
+     "aag 1 1 0 0 0 1 1 5 2 0 0 0 0 0 0 0 0 yes"),
     ("justice properties, not their literals", "aag 1 1 0 0 0 0 0 2 0\n2\n1\n2\n2\n2\n3\n",
-     "aag 1 1 0 0 0 0 0 0 2 0 0 0 0 0 0 0 yes"),
-    ("an empty comment", "aag 1 1 0 0 0\n2\nc\n", "aag 1 1 0 0 0 0 0 0 0 0 0 0 0 0 0 0 yes"),
+     "aag 1 1 0 0 0 0 0 0 0 2 0 0 0 0 0 0 0 yes"),
+    ("an empty comment", "aag 1 1 0 0 0\n2\nc\n", "aag 1 1 0 0 0 0 0 0 0 0 0 0 0 0 0 0 0 yes"),
     ("a comment of more lines, and of bytes over 126", b"aag 0 0 0 0 0\nc\na\nb\xff",
-     "aag 0 0 0 0 0 0 0 0 0 0 0 0 0 0 0 4 yes"),
-    ("the greatest variable", TEXTS["many"], "aag 4194303 0 0 0 0 0 0 0 0 0 0 0 0 0 0 0 no"),
+     "aag 0 0 0 0 0 0 0 0 0 0 0 0 0 0 0 0 4 yes"),
+    ("the greatest variable", TEXTS["many"], "aag 4194303 0 0 0 0 0 0 0 0 0 0 0 0 0 0 0 0 no"),
     ("the greatest fan-out is the constant's", "aag 4 2 0 0 2\n2\n4\n6 2 1\n8 4 0\n",
-     "aag 4 2 0 0 2 0 0 0 0 0 0 0 1 2 0 0 yes"),
+     "aag 4 2 0 0 2 0 0 0 0 0 0 0 0 1 2 0 0 yes"),
 )
 
 # Circuits, and the lines of `info --names`: the letter, position and literal of each entry, and its name.
@@ -98,7 +100,8 @@ def told(file):
                 and all(gate[0] > gate[1] >= gate[2] for gate in parts.gates))
     counts = [len(part) for part in (parts.inputs, parts.latches, parts.outputs, parts.gates, parts.bad)]
     constant = sum(literal in (0, 1) for literal in parts.bad)
-    others = [len(part) for part in (parts.constraints, parts.justice, parts.fairness)]
+    others = [len(parts.constraints), sum(literal == 0 for literal in parts.constraints), len(parts.justice),
+              len(parts.fairness)]
     uninitialised = sum(row[2] == row[0] for row in parts.latches)
     resets = sum(row[2] == 1 for row in parts.latches)
     facts = [contents(file)[:3].decode(), parts.most, *counts, constant, *others, uninitialised, resets,

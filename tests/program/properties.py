@@ -63,11 +63,13 @@ def refutations(rows, asked, count):
                             step=at_step[other])
 
 
-def formula(asked, count, frames, is_step):
-    """The formula of a circuit whose properties are its inputs, in their order."""
+def formula(asked, count, frames, is_step, options=None):
+    """The formula of a circuit whose properties are its inputs, in their order, and which was asked for by these options."""
+    options = options or f"{'--step ' if is_step else ''}--frames {frames}"
+    lines = [f"c aig cnf {options} --property {asked} "]
     frames += is_step
     bad = [2 + frame * count + asked for frame in range(frames)]
-    lines = [f"c i {2 + frame * count + at} {frame} {at} " for frame in range(frames) for at in range(count)]
+    lines += [f"c i {2 + frame * count + at} {frame} {at} " for frame in range(frames) for at in range(count)]
     lines += [f"c b {literal} {frame}" for frame, literal in enumerate(bad)]
     goals = [[-literal] for literal in bad[:-1]] + [bad[-1:]] if is_step else [bad]
     lines += [f"p cnf {1 + frames * count} {1 + len(goals)}", "-1 0"]
@@ -101,7 +103,7 @@ def of_inputs(rows, asked, count):
             rows["cnf"].gives(f"{name}, {frames} frames {step}", f"cnf {step}--frames {frames} {option} circuit",
                               formula(asked, count, frames, step != ""))
     write("claims", NO_CLAIM)
-    certified_formula = formula(asked, count, 2, False)
+    certified_formula = formula(asked, count, 2, False, "--certificate")
     rows["cnf"].gives(f"{name}, with a certificate", f"cnf --certificate claims {option} circuit", certified_formula)
     strengthened = f"{inputs}{2 * asked + 2}\n{2 * asked + 2}\n"
     rows["strengthen"].gives(name, f"strengthen --to aag --certificate claims {option} circuit",

@@ -9,7 +9,7 @@ use Rattle.aig_commands.specs.Alive.{RefutesAlive, WritesAlive}
 use Rattle.aig_commands.specs.Bench.{LeavesBench}
 use Rattle.aig_commands.specs.GoesWell.{GoesWell}
 use Rattle.aig_commands.specs.Certified.{OfCertified}
-use Rattle.aig_commands.specs.Cnf.{WritesFormula}
+use Rattle.aig_commands.specs.Cnf.{WritesCertified, WritesFormula}
 use Rattle.aig_commands.specs.declared.certified.Purpose.TheVariants as purposes
 use Rattle.aig_commands.specs.Info.{ListsFacts}
 use Rattle.aig_commands.specs.ModelWitness.{WritesModel}
@@ -74,7 +74,7 @@ EndsAsMeant left (commands.Strengthen property to circuit certificate) result =
     Ends end_of (OfCertified purposes.Circuit file property claims (Converts to)) result))
 EndsAsMeant left (commands.CnfCertified property circuit certificate) result =
     IfSome (left circuit) (λ file. IfSome (left certificate) (λ claims.
-    Ends end_of (OfCertified purposes.Formula file property claims (WritesFormula (induction 1 0))) result))
+    Ends end_of (OfCertified purposes.Formula file property claims (WritesCertified property)) result))
 EndsAsMeant left (commands.CertifiedModelWitness property circuit certificate model) result =
     IfSome (left circuit) (λ file. IfSome (left certificate) (λ claims. IfSome (left model) (λ text.
     Ends end_of (OfCertified purposes.Formula file property claims (WritesModel (induction 1 0) text)) result)))

@@ -2,7 +2,7 @@
 ghost use Rattle.std.specs.Prelude.{IfSome, OnOk};
 ghost use Rattle.aig_cnf.specs.Query.{induction};
 ghost use Rattle.aig_commands.specs.Certified.{OfCertified};
-ghost use Rattle.aig_commands.specs.Cnf.{WritesFormula};
+ghost use Rattle.aig_commands.specs.Cnf.{WritesCertified};
 ghost use Rattle.aig_commands.specs.ModelWitness.{WritesModel};
 ghost use Rattle.aig_commands.specs.Refute.{IsFileNeverReached, RefutesInduction};
 ghost use Rattle.aig_commands.specs.Toaig.{Converts};
@@ -49,7 +49,7 @@ pub fn cnf_certified<R: AllocGlobal + Print, F: Read + Drop>(
     certificate: F,
 ) -> Result<(), Exit>
     ensures ends { IfSome (F.remaining circuit) (λ file. IfSome (F.remaining certificate) (λ claims.
-        Ends end_of (OfCertified purposes.Formula file property claims (WritesFormula (induction 1 0))) result)) }
+        Ends end_of (OfCertified purposes.Formula file property claims (WritesCertified property)) result)) }
 {
     let circuit = read_whole(rt.alloc(), circuit, Part::Circuit)?;
     let certificate = read_whole(rt.alloc(), certificate, Part::Certificate)?;

@@ -7,7 +7,7 @@ use crate::command::{Command, Selection};
 use aig_base::PropertySection;
 use aig_cli::{has_flag, number_of, number_or, subcommand_of, text_of, texts_of};
 use aig_cnf::{Goal, Query};
-use aig_files::{Exit, Kept, Part, RunFiles, Source, open, read_whole};
+use aig_files::{Exit, Judged, Kept, Part, RunFiles, Source, open, read_whole};
 use aig_format::Format;
 use aig_names::{number_of as number_in, position_of};
 use aig_run::{RunFault, position_in, read_circuit};
@@ -605,6 +605,15 @@ fn run_of<'a>(matches: &ArgMatches<'a>) -> Option<&'a str> {
     None
 }
 
+/// Returns which property the verdict of a command is about, if it prints one.
+fn judged_of<'a>(name: &str, matches: &ArgMatches<'a>) -> Option<Judged<'a>> {
+    match name {
+        "check" => Some(Judged::OfWitness),
+        "refute" if !has_flag(matches, "alive") => Some(Judged::Named(property_text(matches))),
+        _ => None,
+    }
+}
+
 /// Returns the names of the files that the arguments choose, for `--explain`. An argument has one name in all commands.
 pub fn files_of<'a>(matches: &ArgMatches<'a>) -> Option<RunFiles<'a>> {
     let (name, matches) = subcommand_of(matches)?;
@@ -629,6 +638,7 @@ pub fn files_of<'a>(matches: &ArgMatches<'a>) -> Option<RunFiles<'a>> {
         frames: number_or(matches, "K", 0),
         // It is shown only where it is a number: the property that a name names is there.
         property: number_in(PropertySection::Bad, property_text(matches).as_bytes()).unwrap_or(0),
+        judged: judged_of(name, matches),
         // In other commands it is a file, or is not there.
         steps: (name == "cnf" || name == "witness") && has_flag(matches, "step"),
         alive: matches!(name, "cnf" | "refute") && has_flag(matches, "alive"),

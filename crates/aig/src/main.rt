@@ -61,9 +61,9 @@ where
 {
     let matches = reported(rt, parsed(rt, words))?;
     let done = reported(rt, run_command(rt, terminals, &matches));
-    if let (Err(exit), Some(files)) = (done, files_of(&matches)) {
+    if let Some(files) = files_of(&matches) {
         if has_flag(&matches, "explain") || is_asked_for(rt) {
-            explain(rt, &files, exit);
+            explain(rt, &files, done);
         }
     }
     done

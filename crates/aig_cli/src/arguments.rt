@@ -279,7 +279,7 @@ pub const NUMBERS: [(&str, &str); 1] = [("K", "--frames <K>")];
 /// An option of every command, which may be before the command or after it: to explain a failure.
 pub static EXPLAIN: Argument = Argument {
     name: "explain",
-    help: "If the run fails, explain why, and what to do",
+    help: "Explain a failure and what to do; name the property of a verdict",
     kind: Kind::Flag,
     need: Need::Never,
 };

@@ -11,6 +11,7 @@ use Rattle.aig_cnf.specs.Dimacs.{clause_text, formula_text, literal_text, proble
 use Rattle.aig_cnf.specs.DimacsRead.{clauses_of, counts_of, found_in, literal_of, number, read_formula, signed}
 use Rattle.aig_cnf.specs.Formula.{formula_of}
 use Rattle.aig_cnf.specs.Query.{within}
+use Rattle.aig_cnf.specs.declared.heading.Heading.TheVariants.{Runs}
 
 -- a clause may go over lines, and several may be in one; blanks, tabs and comments may be anywhere
 usual : read_formula (codes "c two clauses\np cnf  3 2 \n1 -3 0\t2\nc 7\n3 -1 0\n")
@@ -60,9 +61,9 @@ bad_input name = record {
 }
 
 abbrev text_of : List ℕ → List ℕ
-text_of name = cnf_text (bad_input name) (formula_of (bad_input name) [] (within 1 0))
+text_of name = cnf_text (bad_input name) (Runs (within 1 0)) (formula_of (bad_input name) [] (within 1 0))
 
-named : text_of (codes "in") ≡ codes "c i 2 0 0 in\nc b 2 0\np cnf 2 2\n-1 0\n2 0\n"
+named : text_of (codes "in") ≡ codes "c aig cnf --frames 1 --property 0 \nc i 2 0 0 in\nc b 2 0\np cnf 2 2\n-1 0\n2 0\n"
 unfolding digits frame_literal origin_lines start_origins symbol_name_at clause_text formula_text literal_text problem_line
 named = refl
 

@@ -11,6 +11,7 @@ use Rattle.aig_parts.specs.SymbolPlaces.{Key}
 use Rattle.aig_parts.specs.declared.gate.Gate.{Gate}
 use Rattle.aig_parts.specs.declared.raw.Raw.{Raw}
 use Rattle.aig_parts.specs.declared.symbols.Kind.{Kind}
+use Rattle.aig_parts.specs.declared.symbols.Kind.TheVariants as kinds
 use Rattle.aig_base.specs.Circuit.{IsCircuit}
 use Rattle.aig_base.specs.Order.{IsCanonicalOrder}
 use Rattle.aig_cnf.specs.Alive.{HasAliveFormula, IsAliveFormulaOf, always_bad}
@@ -19,11 +20,14 @@ use Rattle.aig_cnf.specs.CnfText.{cnf_text, goal_line, goal_lines}
 use Rattle.aig_cnf.specs.Dimacs.{formula_text, literal_text, sign_text}
 use Rattle.aig_cnf.specs.DimacsRead.{read_formula}
 use Rattle.aig_cnf.specs.Formula.{Cnf, IsFormulaOf, all_but_last, first_reached, formula_of, gate_clauses, gates_for, goal_clauses, implies, last_alone, start_literals}
+use Rattle.aig_cnf.specs.Heading.{asked_options, goal_option, heading}
 use Rattle.aig_cnf.specs.Query.{depth, from_any_state, last, subject}
+use Rattle.aig_cnf.specs.declared.heading.Heading.{Heading}
+use Rattle.aig_cnf.specs.declared.heading.Heading.TheVariants as headings
 use Rattle.aig_cnf.specs.declared.query.Goal.{Goal}
 use Rattle.aig_cnf.specs.declared.query.Goal.TheVariants as asked
 use Rattle.aig_cnf.specs.declared.query.Query.{Query}
-use Rattle.aig_unroll.specs.InputMap.{Origin, input, start, is_input, is_latch, map_field, origin_line, origin_lines, origins, symbol_name_at}
+use Rattle.aig_unroll.specs.InputMap.{Origin, input, start, is_input, is_latch, is_same, map_field, origin_line, origin_lines, origins, symbol_name_at}
 use Rattle.aig_unroll.specs.Unrolled.{frames, unrolled}
 use Rattle.aig_unroll.proofs.UnrolledCircuit.{unrolled_circuit}
 use Rattle.aig_unroll.proofs.UnrolledReady.{IsReadyGate, gates_ready}
@@ -76,6 +80,40 @@ module _ (raw : Raw) (named : HaveNoEnd raw.symbols) where
       lines_then (codes "c " ++ origin_line raw n o) (origin_lines (codes "c ") raw (n + 1) os) [] []
       (comment_line (32 ∷ origin_line raw n o) (line_byte 32 (origin_line raw n o) (λ e. omega (arith, e)) (origin_is_line n o)))
       (origins_skipped (n + 1) os)
+
+  option_no_end : (words : List ℕ) (n : ℕ) → HasNoEnd words → HasNoEnd (words ++ map_field n)
+  option_no_end words n h = All-append (λ b. b ≢ 10) words (map_field n) h (field_no_end n)
+
+  goal_no_end : (goal : Goal) → HasNoEnd (goal_option goal)
+  goal_no_end asked.Within = All-nil (λ b. b ≢ 10)
+  goal_no_end asked.Last = no_end_by_test (codes "--last ") refl
+  goal_no_end asked.Step = no_end_by_test (codes "--step ") refl
+  goal_no_end asked.Induction = no_end_by_test (codes "--induction ") refl
+
+  options_no_end : (asked : Heading) → HasNoEnd (asked_options asked raw)
+  options_no_end (headings.Runs query) =
+      let frames_words : List ℕ = codes "--frames " ++ map_field query.frames in
+      let property_words : List ℕ = codes "--property " ++ map_field query.property in
+      let name : List ℕ = symbol_name_at (is_same kinds.Bad) raw.symbols query.property in
+      All-append (λ b. b ≢ 10) (goal_option query.goal) (frames_words ++ (property_words ++ name)) (goal_no_end query.goal)
+      (All-append (λ b. b ≢ 10) frames_words (property_words ++ name)
+      (option_no_end (codes "--frames ") query.frames (no_end_by_test (codes "--frames ") refl))
+      (All-append (λ b. b ≢ 10) property_words name
+      (option_no_end (codes "--property ") query.property (no_end_by_test (codes "--property ") refl))
+      (name_no_end (is_same kinds.Bad) raw.symbols query.property named)))
+  options_no_end (headings.Alive k) =
+      option_no_end (codes "--alive --frames ") k (no_end_by_test (codes "--alive --frames ") refl)
+  options_no_end (headings.Certified p) =
+      All-append (λ b. b ≢ 10) (codes "--certificate --property " ++ map_field p)
+      (symbol_name_at (is_same kinds.Output) raw.symbols 0)
+      (option_no_end (codes "--certificate --property ") p (no_end_by_test (codes "--certificate --property ") refl))
+      (name_no_end (is_same kinds.Output) raw.symbols 0 named)
+
+  heading_skipped : (asked : Heading) → HasLines (heading asked raw) []
+  heading_skipped asked =
+      comment_line (codes " aig cnf " ++ (asked_options asked raw ++ codes "\n"))
+      (line_more (codes " aig cnf ") (asked_options asked raw ++ codes "\n") (no_end_by_test (codes " aig cnf ") refl)
+      (line_more (asked_options asked raw) (codes "\n") (options_no_end asked) line_end))
 
 sign_no_end : (l : ℕ) → HasNoEnd (sign_text l)
 sign_no_end l = elim (signs l) [
@@ -234,30 +272,36 @@ module _ (raw : Raw) (query : Query) (circuit : IsCircuit raw) (has : HasFormula
       omega (arith, all, most, part, unrolled_is.formed.counts.gates)
 
   -- whatever circuit its comment lines are about
-  reads_text : (about : Raw) → HaveNoEnd about.symbols
-      → read_formula (cnf_text about F) ≡ Some (F.variables, length F.clauses, F.clauses)
-  reads_text about no_end =
+  reads_text : (about : Raw) (head : Heading) → HaveNoEnd about.symbols
+      → read_formula (cnf_text about head F) ≡ Some (F.variables, length F.clauses, F.clauses)
+  reads_text about head no_end =
+      let first : List ℕ = heading head about in
       let inputs : List ℕ = origin_lines (codes "c ") about 2 (origins about (length F.goals)) in
-      ap read_formula (sym (append_assoc inputs (goal_lines F.goals) (formula_text F.variables F.clauses)))
-      ∙ reads_after F.variables (omega (arith, unrolled_is.formed.counts.max_var)) (inputs ++ goal_lines F.goals) F.clauses
+      let text : List ℕ = formula_text F.variables F.clauses in
+      ap (λ (t : List ℕ). read_formula (first ++ t)) (sym (append_assoc inputs (goal_lines F.goals) text))
+      ∙ (ap read_formula (sym (append_assoc first (inputs ++ goal_lines F.goals) text))
+      ∙ reads_after F.variables (omega (arith, unrolled_is.formed.counts.max_var)) (first ++ (inputs ++ goal_lines F.goals))
+      F.clauses
+      (lines_then first (inputs ++ goal_lines F.goals) [] [] (heading_skipped about no_end head)
       (lines_then inputs (goal_lines F.goals) [] [] (origins_skipped about no_end 2 (origins about (length F.goals)))
-      (goals_skipped F.goals)) few_clauses clauses_below
+      (goals_skipped F.goals))) few_clauses clauses_below)
 
 no_ends : (raw : Raw) → IsCircuit raw → HaveNoEnd raw.symbols
 no_ends raw circuit = All-weaker (IsSymbolOf raw) (λ s. HasNoEnd s.1) (λ s h. h.1.1) raw.symbols circuit.formed.symbols
 
-pub reads_formula : (raw : Raw) (query : Query) (formula : Cnf) → IsCircuit raw → HasFormula raw query
+pub reads_formula : (raw : Raw) (query : Query) (head : Heading) (formula : Cnf) → IsCircuit raw → HasFormula raw query
     → IsFormulaOf raw query formula
-    → read_formula (cnf_text (subject query.goal raw) formula)
+    → read_formula (cnf_text (subject query.goal raw) head formula)
     ≡ Some (formula.variables, length formula.clauses, formula.clauses)
-reads_formula raw query formula circuit has (order, canonical, is) =
-    subst (λ (f : Cnf). read_formula (cnf_text (subject query.goal raw) f)
+reads_formula raw query head formula circuit has (order, canonical, is) =
+    subst (λ (f : Cnf). read_formula (cnf_text (subject query.goal raw) head f)
     ≡ Some (f.variables, length f.clauses, f.clauses)) (sym is)
-    (reads_text raw query circuit has order canonical (subject query.goal raw)
+    (reads_text raw query circuit has order canonical (subject query.goal raw) head
     (no_ends (subject query.goal raw) (subject_circuit query.goal raw circuit)))
 
-pub reads_alive : (raw : Raw) (k : ℕ) (formula : Cnf) → IsCircuit raw → HasAliveFormula raw k → IsAliveFormulaOf raw k formula
-    → read_formula (cnf_text raw formula) ≡ Some (formula.variables, length formula.clauses, formula.clauses)
-reads_alive raw k formula circuit has (order, canonical, is) =
-    subst (λ (f : Cnf). read_formula (cnf_text raw f) ≡ Some (f.variables, length f.clauses, f.clauses)) (sym is)
-    (reads_text (always_bad raw) (last k 0) (always_circuit raw circuit) has order canonical raw (no_ends raw circuit))
+pub reads_alive : (raw : Raw) (k : ℕ) (head : Heading) (formula : Cnf) → IsCircuit raw → HasAliveFormula raw k
+    → IsAliveFormulaOf raw k formula
+    → read_formula (cnf_text raw head formula) ≡ Some (formula.variables, length formula.clauses, formula.clauses)
+reads_alive raw k head formula circuit has (order, canonical, is) =
+    subst (λ (f : Cnf). read_formula (cnf_text raw head f) ≡ Some (f.variables, length f.clauses, f.clauses)) (sym is)
+    (reads_text (always_bad raw) (last k 0) (always_circuit raw circuit) has order canonical raw head (no_ends raw circuit))

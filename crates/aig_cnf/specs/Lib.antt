@@ -4,5 +4,6 @@ pub mod CnfText
 pub mod Dimacs
 pub mod DimacsRead
 pub mod Formula
+pub mod Heading
 pub mod Query
 pub mod state

@@ -12,6 +12,7 @@ ghost use Rattle.aig_cnf.specs.Formula.{all_but_last, first_reached, goal_clause
 ghost use Rattle.aig_cnf.specs.state.Terms.{literal_term};
 
 use crate::formula::{Formula, gates_of, last_of};
+use crate::heading::Heading;
 use crate::query::Goal;
 use aig_base::{Block, Circuit, Gate, Io, Lit, Term, Write, write_all};
 use aig_unroll::write_input_lines;
@@ -290,13 +291,14 @@ impl Formula {
         write_all(out, block.as_slice())
     }
 
-    /// Writes the formula in DIMACS, with comment lines that say what its variables are, for the circuit that it was
-    /// made of. The literal of a literal `l` of the unrolled circuit is `l / 2 + 1`, negative where `l` is odd;
+    /// Writes the formula in DIMACS, with comment lines that say what was asked for and what its variables are, for the
+    /// circuit that it was made of. The literal of a literal `l` of the unrolled circuit is `l / 2 + 1`, negative where `l` is odd;
     /// variable 1 is false. `law_of_dimacs` says what a reader finds in the text. It takes no memory, and writes the
     /// comment lines in small pieces: pass a writer that buffers them.
-    pub fn write<W: Write>(&self, circuit: &Circuit, out: &mut W) -> Result<(), Io>
-        ensures { Writes W.written W.failures out.old out.new (cnf_text circuit.now self.now) result }
+    pub fn write<W: Write>(&self, circuit: &Circuit, asked: Heading, out: &mut W) -> Result<(), Io>
+        ensures { Writes W.written W.failures out.old out.new (cnf_text circuit.now asked self.now) result }
     {
+        asked.write(circuit, out)?;
         // The constant is variable 1, so the variable of the first input is 2.
         write_input_lines(b"c ", circuit, 2, self.depth(), out)?;
         self.write_goals_and_clauses(out)

@@ -9,11 +9,13 @@ mod cone;
 mod dimacs;
 mod fault;
 mod formula;
+mod heading;
 mod laws;
 mod query;
 mod resets;
 
 pub use fault::CnfFault;
 pub use formula::Formula;
+pub use heading::Heading;
 pub use laws::law_of_dimacs;
 pub use query::{Goal, Query};

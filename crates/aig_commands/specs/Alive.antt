@@ -4,6 +4,7 @@ use Rattle.aig_parts.specs.declared.raw.Raw.{Raw}
 use Rattle.aig_cnf.specs.Alive.{HasAliveFormula, IsAliveFormulaOf, RefusesAlive}
 use Rattle.aig_cnf.specs.CnfText.{cnf_text}
 use Rattle.aig_cnf.specs.Formula.{Cnf}
+use Rattle.aig_cnf.specs.declared.heading.Heading.TheVariants.{Alive}
 use Rattle.aig_cnf.specs.declared.query.Goal.TheVariants as goals
 use Rattle.aig_refute.specs.Unreachable.{HasNoRun}
 use Rattle.aig_run.specs.Command.{IsFileOf}
@@ -13,7 +14,7 @@ use Rattle.aig_commands.specs.Refute.{answer_line, answer_text}
 
 -- the bytes are the text of the formula that a run keeps all constraints at k frames, with the circuit's own names
 abbrev pub IsAliveText : Raw → ℕ → List ℕ → Type 0
-IsAliveText raw k text = (formula : Cnf) × IsAliveFormulaOf raw k formula × (text ≡ cnf_text raw formula)
+IsAliveText raw k text = (formula : Cnf) × IsAliveFormulaOf raw k formula × (text ≡ cnf_text raw (Alive k) formula)
 
 -- what `cnf --alive` writes for a circuit: the formula, or nothing where there is none
 abbrev pub WritesAlive : ℕ → Raw → Result (Unit {0}) RunFault → List ℕ → Type 0

@@ -4,18 +4,28 @@ use Rattle.aig_parts.specs.declared.raw.Raw.{Raw}
 use Rattle.aig_cnf.specs.Answers.{HasFormula, RefusesFormula}
 use Rattle.aig_cnf.specs.CnfText.{cnf_text}
 use Rattle.aig_cnf.specs.Formula.{Cnf, IsFormulaOf}
-use Rattle.aig_cnf.specs.Query.{subject}
+use Rattle.aig_cnf.specs.Query.{induction, subject}
+use Rattle.aig_cnf.specs.declared.heading.Heading.{Heading}
+use Rattle.aig_cnf.specs.declared.heading.Heading.TheVariants.{Certified, Runs}
 use Rattle.aig_cnf.specs.declared.query.Query.{Query}
 use Rattle.aig_run.specs.declared.run_fault.RunFault.{RunFault}
 use Rattle.aig_run.specs.declared.run_fault.RunFault.TheVariants as run_faults
 
 -- the bytes are the text of the formula, with comment lines about the circuit that is unrolled for it
-abbrev pub IsFormulaText : Raw → Query → List ℕ → Type 0
-IsFormulaText raw query text =
-    (formula : Cnf) × IsFormulaOf raw query formula × (text ≡ cnf_text (subject query.goal raw) formula)
+abbrev pub IsFormulaText : Heading → Raw → Query → List ℕ → Type 0
+IsFormulaText asked raw query text =
+    (formula : Cnf) × IsFormulaOf raw query formula × (text ≡ cnf_text (subject query.goal raw) asked formula)
 
--- what `cnf` writes for a circuit: the formula, or nothing where there is none
+-- what is written where this was asked for: the formula, or nothing where there is none
+abbrev pub WritesAsked : Heading → Query → Raw → Result (Unit {0}) RunFault → List ℕ → Type 0
+WritesAsked asked query raw (Ok done) text = HasFormula raw query × IsFormulaText asked raw query text
+WritesAsked asked query raw (Err (run_faults.Cnf fault)) text = RefusesFormula raw query fault × (text ≡ [])
+WritesAsked asked query raw (Err _) text = ⊥
+
+-- what `cnf` writes for a circuit
 abbrev pub WritesFormula : Query → Raw → Result (Unit {0}) RunFault → List ℕ → Type 0
-WritesFormula query raw (Ok done) text = HasFormula raw query × IsFormulaText raw query text
-WritesFormula query raw (Err (run_faults.Cnf fault)) text = RefusesFormula raw query fault × (text ≡ [])
-WritesFormula query raw (Err _) text = ⊥
+WritesFormula query = WritesAsked (Runs query) query
+
+-- what `cnf --certificate` writes for a circuit that was strengthened by a certificate for property p
+abbrev pub WritesCertified : ℕ → Raw → Result (Unit {0}) RunFault → List ℕ → Type 0
+WritesCertified p = WritesAsked (Certified p) (induction 1 0)

@@ -37,6 +37,10 @@ starts_at_one x = x.reset == 1
 abbrev pub is_constant : ℕ → Bool
 is_constant l = variable l == 0
 
+-- the literal is 0: a constraint that no run keeps
+abbrev pub is_impossible : ℕ → Bool
+is_impossible l = l == 0
+
 -- how many bytes a comment has; 0 where there is none
 abbrev pub comment_size : Option (List ℕ) → ℕ
 comment_size None = 0
@@ -61,6 +65,7 @@ numbers raw facts =
     (codes "variables", raw.max_var) ∷ (codes "inputs", length raw.inputs) ∷ (codes "latches", length raw.latches)
     ∷ (codes "outputs", length raw.outputs) ∷ (codes "gates", length raw.gates) ∷ (codes "bad", length raw.bad)
     ∷ (codes "constant", count_by is_constant raw.bad) ∷ (codes "constraints", length raw.constraints)
+    ∷ (codes "impossible", count_by is_impossible raw.constraints)
     ∷ (codes "justice", length raw.justice) ∷ (codes "fairness", length raw.fairness)
     ∷ (codes "uninitialised", count_by is_uninitialised raw.latches)
     ∷ (codes "resets", count_by starts_at_one raw.latches) ∷ (codes "levels", facts.levels) ∷ (codes "fanout", facts.fan_out) ∷ (codes "symbols", length raw.symbols)

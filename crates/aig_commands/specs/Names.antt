@@ -1,17 +1,13 @@
 -- What `info --names` writes: a line for each entry of a circuit, with its name. How a line is written is our own choice.
-use Rattle.std.specs.Prelude.{◌≡◌, ℕ, ◌+◌, Bool, ◌==◌, List, [], ◌∷◌, ◌++◌, Result, Ok, Err, codes}
+use Rattle.std.specs.Prelude.{◌≡◌, ℕ, ◌+◌, List, [], ◌∷◌, ◌++◌, Result, Ok, Err, codes}
 use Rattle.std.specs.Fmt.{decimal}
 use Rattle.aig_parts.specs.declared.raw.Raw.{Raw}
 use Rattle.aig_parts.specs.declared.symbols.Kind.{Kind}
 use Rattle.aig_parts.specs.declared.symbols.Kind.TheVariants as kinds
 use Rattle.aig_parts.specs.Letters.{letter}
 use Rattle.aig_format.specs.Spelling.{Entry}
-use Rattle.aig_unroll.specs.InputMap.{map_field, symbol_name_at}
+use Rattle.aig_unroll.specs.InputMap.{is_same, map_field, symbol_name_at}
 use Rattle.aig_run.specs.declared.run_fault.RunFault.{RunFault}
-
--- the sections are the same
-abbrev pub is_same : Kind → Kind → Bool
-is_same kind other = letter other == letter kind
 
 -- the line of the entry at position p of a section: its letter, its position, its literal as it is shown, and its name,
 -- empty where it has none

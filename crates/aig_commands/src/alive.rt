@@ -10,7 +10,7 @@ ghost use Rattle.aig_commands.specs.state.Answered.{IsChecked};
 use crate::cnf::write_text;
 use crate::refute::write_answer;
 use aig_base::{Circuit, Read, Write};
-use aig_cnf::{Formula, Goal};
+use aig_cnf::{Formula, Goal, Heading};
 use aig_refute::check;
 use aig_run::{RunFault, flushed, read_circuit};
 use aig_sat::ProofFault;
@@ -27,7 +27,7 @@ fn make_and_write<W: Write>(
         (WritesAlive frames circuit.now) result }
 {
     let formula = Formula::alive(alloc, circuit, frames)?;
-    write_text(&formula, circuit, out)
+    write_text(&formula, circuit, Heading::Alive(frames), out)
 }
 
 /// Reads a circuit and writes the formula, without a flush at the end.

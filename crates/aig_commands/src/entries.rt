@@ -5,10 +5,11 @@ ghost use Rattle.aig_bytes.specs.Bytes.{Writes};
 ghost use Rattle.aig_parts.specs.Formed.{limit};
 ghost use Rattle.aig_parts.specs.declared.symbols.Kind.TheVariants as kinds;
 ghost use Rattle.aig_parts.specs.Letters.{letter};
-ghost use Rattle.aig_unroll.specs.InputMap.{map_field, symbol_name_at};
-ghost use Rattle.aig_commands.specs.Names.{entry_line, entry_lines, is_same, entries_text};
+ghost use Rattle.aig_unroll.specs.InputMap.{is_same, map_field, symbol_name_at};
+ghost use Rattle.aig_commands.specs.Names.{entry_line, entry_lines, entries_text};
 
 use aig_base::{Circuit, Io, Kind, Latch, List, Lit, Write, write_all, write_number};
+use aig_unroll::write_symbol;
 
 // Writes the letter of a section, a space, the position and another space.
 fn write_place<W: Write>(out: &mut W, kind: Kind, position: u32) -> Result<(), Io>
@@ -19,25 +20,13 @@ fn write_place<W: Write>(out: &mut W, kind: Kind, position: u32) -> Result<(), I
     write_all(out, b" ")
 }
 
-// Writes the name of an entry, if it has one.
-fn write_name<W: Write>(out: &mut W, circuit: &Circuit, kind: Kind, position: u32) -> Result<(), Io>
-    ensures { Writes W.written W.failures out.old out.new
-        (symbol_name_at (is_same kind) circuit.now.symbols position) result }
-{
-    circuit.facts();
-    match circuit.symbols().get(kind, position) {
-        Some(name) => write_all(out, name),
-        None => Ok(()),
-    }
-}
-
 // Writes what ends the line of an entry: a space and its name.
 fn write_end<W: Write>(out: &mut W, circuit: &Circuit, kind: Kind, position: u32) -> Result<(), Io>
     ensures { Writes W.written W.failures out.old out.new
         (codes " " ++ (symbol_name_at (is_same kind) circuit.now.symbols position ++ codes "\n")) result }
 {
     write_all(out, b" ")?;
-    write_name(out, circuit, kind, position)?;
+    write_symbol(out, circuit, kind, position)?;
     write_all(out, b"\n")
 }
 

@@ -9,7 +9,7 @@ ghost use Rattle.aig_bytes.specs.Flow.{flow};
 ghost use Rattle.aig_run.specs.Command.{CommandEnds};
 ghost use Rattle.aig_commands.specs.Info.{AreFacts, ListsFacts, IsInFormat, comment_size, fact_line, format_name};
 ghost use Rattle.aig_commands.specs.Info.{info_text, fact_number_line, number_lines, yes_or_no};
-ghost use Rattle.aig_commands.specs.Info.{is_constant, starts_at_one};
+ghost use Rattle.aig_commands.specs.Info.{is_constant, is_impossible, starts_at_one};
 ghost use Rattle.aig_commands.specs.Names.{ListsNames, entries_text};
 ghost use Rattle.aig_run.specs.Command.{IsFileOf, OfFile, OfReader};
 
@@ -112,6 +112,16 @@ fn constants(literals: &[Lit]) -> usize
     literals.iter().filter(|literal| literal.var() == 0).count()
 }
 
+/// How many of the literals are the constant 0.
+fn impossible(literals: &[Lit]) -> usize
+    ensures { result ≡ count_by is_impossible literals.now }
+{
+    literals
+        .iter()
+        .filter(|literal| literal.value() == 0)
+        .count()
+}
+
 /// How many bytes the comment has.
 fn comment_size(circuit: &Circuit) -> usize
     ensures { result ≡ comment_size circuit.now.comment }
@@ -158,6 +168,7 @@ fn write_counts<W: Write>(circuit: &Circuit, facts: &Facts, out: &mut W) -> Resu
             ("bad", circuit.bad().len()),
             ("constant", constants(circuit.bad())),
             ("constraints", circuit.constraints().len()),
+            ("impossible", impossible(circuit.constraints())),
             ("justice", circuit.justice().len()),
             ("fairness", circuit.fairness().len()),
             ("uninitialised", uninitialised(circuit)),
@@ -207,8 +218,8 @@ fn read_and_list<W: Write>(alloc: Global, file: &[u8], out: &mut W) -> Result<()
 }
 
 /// The command `info`: reads a circuit and writes what it is, a line for each fact, `name value`. The facts are its
-/// format and the counts of its parts, the bad state properties that are constants, the latches that start at no known
-/// value and those that start at 1, its greatest level and fan-out, its names and the bytes of its comment. The last
+/// format and the counts of its parts, the bad state properties that are constants, the constraints that no run keeps,
+/// the latches that start at no known value and those that start at 1, its greatest level and fan-out, its names and the bytes of its comment. The last
 /// one is whether the binary format can hold it as it stands. For every circuit file that is accepted, the text is that
 /// of its circuit. Where the file is refused, or no memory was found for levels or fan-outs, nothing is written. It
 /// flushes the writer before it answers.

@@ -1,5 +1,5 @@
-//! The notes that `--explain` prints after the message of a run that failed: its files, and what a second look at them
-//! shows.
+//! The notes that `--explain` prints after a verdict, or after the message of a run that failed: its files, and what a
+//! second look at them shows.
 
 mod certificate_look;
 mod failed_run;
@@ -11,5 +11,6 @@ mod output_look;
 mod proof_look;
 mod proof_walk;
 mod select_look;
+mod verdict_look;
 
 pub use failed_run::{explain, is_asked_for};

@@ -17,5 +17,5 @@ pub use kept::Kept;
 pub use new_file::{NewFile, OUTPUT, are_one, is_free, name_beside};
 pub use output_file::{OutputFile, find, open_pipe};
 pub use reserved::{Reserved, reserve};
-pub use run_files::RunFiles;
+pub use run_files::{Judged, RunFiles};
 pub use source::Source;

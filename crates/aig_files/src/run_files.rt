@@ -2,6 +2,15 @@
 
 use crate::kept::Kept;
 
+/// Which property a verdict is about.
+#[derive(Clone, Copy)]
+pub enum Judged<'a> {
+    /// The one that this text names, as `--property` does.
+    Named(&'a str),
+    /// The one of the witness.
+    OfWitness,
+}
+
 /// The files that a command has, its number of frames (0 if it has none) and its property.
 #[derive(Clone, Copy)]
 pub struct RunFiles<'a> {
@@ -25,6 +34,8 @@ pub struct RunFiles<'a> {
     pub frames: u32,
     /// The position of the bad state property.
     pub property: u32,
+    /// The property of the verdict, if the command prints one.
+    pub judged: Option<Judged<'a>>,
     /// Whether the formula is that of an induction step.
     pub steps: bool,
     /// Whether the command asks only whether a run keeps all constraints.

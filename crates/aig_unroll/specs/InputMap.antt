@@ -6,6 +6,7 @@ use Rattle.aig_parts.specs.declared.latch.Latch.{Latch}
 use Rattle.aig_parts.specs.declared.raw.Raw.{Raw}
 use Rattle.aig_parts.specs.declared.symbols.Kind.{Kind}
 use Rattle.aig_parts.specs.declared.symbols.Kind.TheVariants as kinds
+use Rattle.aig_parts.specs.Letters.{letter}
 use Rattle.aig_parts.specs.SymbolPlaces.{Key}
 use Rattle.aig_unroll.specs.FrameLiteral.{frame_literal, is_uninitialised}
 use Rattle.aig_unroll.specs.Unrolled.{frames}
@@ -42,6 +43,10 @@ is_input _ = false
 abbrev pub is_latch : Kind → Bool
 is_latch kinds.Latch = true
 is_latch _ = false
+
+-- the sections are the same
+abbrev pub is_same : Kind → Kind → Bool
+is_same kind other = letter other == letter kind
 
 -- the symbol at position p of the section that the test chooses, empty where there is none
 unfoldable pub symbol_name_at : (Kind → Bool) → List (Key × List ℕ) → ℕ → List ℕ

@@ -1,4 +1,5 @@
-//! What `--explain` prints after the reason why a run failed: its files, and what a second look at them shows.
+//! What `--explain` prints after a verdict, or after the reason why a run failed: its files, and what a second look at
+//! them shows.
 
 use crate::bench::{explain_bench, explain_reduction};
 use crate::circuit::explain_circuit;
@@ -14,6 +15,7 @@ use crate::notes::names_look::{explain_names, explain_property};
 use crate::notes::output_look::{explain_output, explain_standard_output};
 use crate::notes::proof_look::{ProofOf, explain_proof};
 use crate::notes::select_look::explain_select;
+use crate::notes::verdict_look::explain_verdict;
 use crate::stimulus::explain_stimulus;
 use crate::unrolling::explain_unroll;
 use crate::witness::explain_witness;
@@ -47,12 +49,18 @@ fn is_no(value: &str) -> bool {
     NO.iter().any(|no| value.eq_ignore_ascii_case(no))
 }
 
-/// Explains on standard error why a command with these files ended, after its reason is printed.
-pub fn explain<R: Files + AllocGlobal + Print + Eprint>(rt: &R, files: &RunFiles<'_>, exit: Exit) {
-    match exit {
-        Exit::Run(fault) => explain_fault(rt, files, fault),
-        Exit::Unread(part) => of_unread(rt, files, part),
-        Exit::Reported | Exit::NoCommand | Exit::NotText | Exit::NotConfirmed => {}
+/// Explains on standard error how a command with these files ended, after its verdict or the reason of its failure is
+/// printed.
+pub fn explain<R: Files + AllocGlobal + Print + Eprint>(
+    rt: &R,
+    files: &RunFiles<'_>,
+    ended: Result<(), Exit>,
+) {
+    match ended {
+        Err(Exit::Run(fault)) => explain_fault(rt, files, fault),
+        Err(Exit::Unread(part)) => of_unread(rt, files, part),
+        Err(Exit::Reported | Exit::NoCommand | Exit::NotText) => {}
+        Ok(()) | Err(Exit::NotConfirmed) => explain_verdict(rt, files),
     }
 }
 

@@ -1,5 +1,6 @@
 use Rattle.std.proofs.Common.{[], refl}
 use Rattle.aig_cnf.specs.CnfText.{cnf_text}
+use Rattle.aig_cnf.specs.declared.heading.Heading.TheVariants.{Alive}
 use Rattle.aig_commands.specs.Alive.{WritesAlive}
 use Rattle.aig_bytes.specs.Flow.{flow}
 use Rattle.aig_run.proofs.Files.{answered}
@@ -13,7 +14,7 @@ returns g c =
     let formula' = c.in_ok-formula.formula in
     let e = c.in_ok-formula.ensures in
     output_ends g.W.Write.written g.W.Write.failures c.args.out.now c.write_text.new.out
-    (WritesAlive c.args.frames c.args.circuit.now) (cnf_text c.args.circuit.now formula') c.write_text.result
+    (WritesAlive c.args.frames c.args.circuit.now) (cnf_text c.args.circuit.now (Alive c.args.frames) formula') c.write_text.result
     c.write_text.ensures.written c.write_text.ensures.output
     (e.accepted, (formula', e.formula, refl))
 

@@ -1,7 +1,7 @@
 use Rattle.std.proofs.Common.{[], ap, refl}
 use Rattle.aig_parts.specs.declared.raw.Raw.{Raw}
 use Rattle.aig_cnf.specs.CnfText.{cnf_text}
-use Rattle.aig_commands.specs.Cnf.{WritesFormula}
+use Rattle.aig_commands.specs.Cnf.{WritesAsked}
 use Rattle.aig_bytes.specs.Flow.{flow}
 use Rattle.aig_run.proofs.Files.{answered}
 use Rattle.aig_run.proofs.Written.{got_none, output_ends}
@@ -14,14 +14,14 @@ returns g c =
     let formula' = c.in_ok-formula.formula in
     let e = c.in_ok-formula.ensures in
     output_ends g.W.Write.written g.W.Write.failures c.args.out.now c.write_text.new.out
-    (WritesFormula c.args.query c.args.circuit.now) (cnf_text c.of.new.circuit formula') c.write_text.result
+    (WritesAsked c.args.asked c.args.query c.args.circuit.now) (cnf_text c.of.new.circuit c.args.asked formula') c.write_text.result
     c.write_text.ensures.written c.write_text.ensures.output
-    (e.accepted, (formula', e.formula, ap (λ (raw : Raw). cnf_text raw formula') e.circuit))
+    (e.accepted, (formula', e.formula, ap (λ (raw : Raw). cnf_text raw c.args.asked formula') e.circuit))
 
 pub returns-in_err-formula : goal.returns-in_err-formula
 returns-in_err-formula g c =
     answered c.from_residual.result (run_faults.Cnf c.in_err-formula.field-0.0)
     (CommandEnds (flow g.W.Write.written g.W.Write.failures c.args.out.now c.args.out.now) run_faults.Output
-    (WritesFormula c.args.query c.args.circuit.now))
+    (WritesAsked c.args.asked c.args.query c.args.circuit.now))
     c.from_residual.ensures.1
     (CommandEnds.writes_all [] (c.in_err-formula.ensures.refused, refl) (got_none g.W.Write.written g.W.Write.failures c.args.out.now))

@@ -2,8 +2,8 @@ use Rattle.std.proofs.Common.{ℕ, List, ◌∷◌, ◌++◌, append_assoc, refl
 use Rattle.std.specs.Prelude.{codes}
 use Rattle.aig_bytes.proofs.WriteLemmas.{writes_then, writes_stop, writes_same}
 use Rattle.aig_parts.specs.Letters.{letter}
-use Rattle.aig_unroll.specs.InputMap.{map_field, symbol_name_at}
-use Rattle.aig_commands.specs.Names.{entry_line, is_same}
+use Rattle.aig_unroll.specs.InputMap.{is_same, map_field, symbol_name_at}
+use Rattle.aig_commands.specs.Names.{entry_line}
 use Rattle.aig_commands.proofs.entries.write_property.Goals as goal
 
 pub returns-in_err-write_place : goal.returns-in_err-write_place
