@@ -19,11 +19,14 @@ most=${3:-20}
 here=$(dirname "$0")
 aig=${AIG:-aig}
 solver=${SOLVER:-cadical}
+work=$(mktemp -d)
+trap 'rm -rf "$work"' EXIT
+trap 'exit 130' HUP INT TERM
 
 # Solves a formula and writes a proof; the status is 10 if it is satisfiable, and 20 if it is not.
 solve() {
     status=0
-    "$solver" -q "$1.cnf" "$1.drat" > "$1.answer" || status=$?
+    "$solver" -q "$1.cnf" "$1.drat" > "$work/answer" || status=$?
 }
 
 frames=1

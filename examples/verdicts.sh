@@ -7,7 +7,7 @@
 # script finds each verdict, and says what the verdicts are, and which variables of the environment set bounds and
 # name programs. The circuit goes into TOP.aig in the current folder, and its properties have the names of the
 # assertions, which `--property` takes. JOBS properties are worked on at once, one per processor if it is left out. The
-# script needs `yosys` too.
+# script needs `aig`, `awk`, `yosys` and `cadical`, and for invariants `berkeley-abc`.
 #
 # A frame is one clock cycle. If registers have several clocks, or both edges of one, a frame is the time between any
 # changes of clocks (`clk2fflogic`), and a line says so.

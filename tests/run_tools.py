@@ -1,9 +1,9 @@
 #!/usr/bin/env python3
 """Runs the built program beside Yosys and ABC, on files that these write and on runs that they find, its dumps beside
-those of Icarus Verilog and in GTKWave, `examples/flow.sh`, proofs of cadical and of cryptominisat, certificates of what ABC
-proves, and models of the SAT solvers that are installed. It is no part of the gate: the tools are Debian's packages
-`yosys`, `berkeley-abc`, `cadical`, `picosat`, `minisat`, `cryptominisat`, `iverilog`, `gtkwave`, `xvfb` and `xauth`, and a
-run takes some minutes."""
+those of Icarus Verilog and in GTKWave, the commands of docs/FLOW.md, proofs of cadical and of cryptominisat, certificates of
+what ABC proves, traces of Yosys, and models of the SAT solvers that are installed. It is no part of the gate: the tools are
+Debian's packages `yosys`, `berkeley-abc`, `cadical`, `picosat`, `minisat`, `cryptominisat`, `iverilog`, `gtkwave`, `xvfb`,
+`xauth`, `python3-click` and `z3`, and a run takes some minutes."""
 
 from library import runs
 from tools.certificates import certificates
@@ -13,6 +13,7 @@ from tools.maps import maps
 from tools.own_variables import own_variables
 from tools.proofs import proofs
 from tools.solvers import solvers
+from tools.traces import traces
 from tools.unrolled import unrolled
 from tools.verdicts import verdicts
 from tools.waves import waves
@@ -20,7 +21,7 @@ from tools.witnesses import witnesses
 
 PARTS = {"conversions": conversions, "unrolled": unrolled, "maps": maps, "witnesses": witnesses, "waves": waves,
          "flow": flow, "proofs": proofs, "solvers": solvers, "own_variables": own_variables,
-         "certificates": certificates, "verdicts": verdicts}
+         "certificates": certificates, "verdicts": verdicts, "traces": traces}
 
 if __name__ == "__main__":
     runs.main(__doc__, PARTS)

@@ -1,4 +1,4 @@
-"""Commands that a document shows, and what it shows below each: the tour of README.md, and sections of docs/FLOW.md."""
+"""Commands that a document shows, and what it shows below each: those of README.md and of docs/FLOW.md."""
 
 import os
 import re
@@ -8,18 +8,16 @@ import subprocess
 from library.runs import REPOSITORY, contents
 
 
-def steps(document="README.md", heading="## A tour"):
-    """Yields the commands of a section, each with the output that the document shows. A command goes on after a line that
-    ends with a backslash."""
-    level = heading.split(" ")[0]
+def steps(document="README.md"):
+    """Yields the commands of a document, each with the output that it shows. A command goes on after a line that ends with
+    a backslash."""
     text = contents(f"{REPOSITORY}/{document}").decode()
-    section = re.search(rf"(?ms)^{re.escape(heading)}\n(.*?)(?=^#{{1,{len(level)}}} |\Z)", text)[1]
-    for command, output in re.findall(r"(?m)^    \$ ((?:.*\\\n)*.*)\n((?:    (?!\$ ).*\n)*)", section):
+    for command, output in re.findall(r"(?m)^    \$ ((?:.*\\\n)*.*)\n((?:    (?!\$ ).*\n)*)", text):
         yield command, re.sub(r"(?m)^    ", "", output)
 
 
 def take(program, examples, tally, prints=False):
-    """Runs the tour in a new folder `tour`, with these examples and with the program on the path."""
+    """Runs the commands of README.md in a new folder `tour`, with these examples and with the program on the path."""
     room(program, examples, "tour")
     for command, shown in steps():
         said = typed("tour", command)

@@ -1,7 +1,6 @@
 """Certificates by the scripts of `examples/`, and by hand. For each property of the designs `examples/certify.sh` says what
 ABC says: `unreachable` where `pdr` proves it, and the circuit and the formula of that certificate are those of
-library/certificate.py. `examples/prove.sh` goes from induction to a certificate. Each command that docs/FLOW.md shows about
-proofs prints what is shown there, and the certificates of `examples/` are right."""
+library/certificate.py. `examples/prove.sh` goes from induction to a certificate. The certificates of `examples/` are right."""
 
 import itertools
 import os
@@ -12,7 +11,6 @@ import sys
 from library.certificate import formula, strengthened
 from library.plain_reader import in_order, spelled
 from library.runs import DESIGNS, EXAMPLES, Ended, write
-from library.tour import room, steps, typed
 from tools.external import LOGIC, Tools, parts_of
 from tools.proofs import UNSATISFIABLE, Property, circuits
 
@@ -34,7 +32,6 @@ def certificates(program, tally, _):
     counts = designs(program, tally, tools, scripts)
     provers(tally, tools, scripts)
     shipped(program, tally)
-    shown(program, tally)
     return f"{counts['proved']} properties that pdr proves have certificates, {counts['reached']} have none: "
 
 
@@ -167,12 +164,3 @@ def refuted(program, circuit, file):
     """What `refute` says of a certificate, of the proof that cadical writes."""
     solved(program, "cnf", "--certificate", file, circuit)
     return program.run("refute", "--certificate", file, circuit, "asked.drat")
-
-
-def shown(program, tally):
-    """The commands of docs/FLOW.md, in their order; those before made `queue.aig`."""
-    room(program, EXAMPLES, "flow")
-    typed("flow", "examples/flow.sh examples/queue.v queue")
-    for heading in ("## Without files between the tools", "## If no run reaches it"):
-        for command, wanted in steps("docs/FLOW.md", heading):
-            tally.compare(f"certificates: {command}", typed("flow", command), wanted)

@@ -7,7 +7,6 @@ import re
 import subprocess
 
 from library.runs import DESIGNS, EXAMPLES, EXPECTED, Ended, contents
-from library.tour import room, steps, typed
 from tools.external import Tools
 
 # The designs, and how many properties are worked on at once.
@@ -24,7 +23,6 @@ def verdicts(program, tally, _):
         of_design(program, tally, settings, file, jobs)
     names_of_order(tally)
     bounds(tally, settings)
-    shown(program, tally)
 
 
 def table(settings, file, **more):
@@ -66,10 +64,3 @@ def bounds(tally, settings):
                   "b0  never_13  unreachable within 2  no induction  decimal.0.base.drat\n"
                   "b1  same      unreachable within 2  no induction  decimal.1.base.drat\nstatus 4\n")
     tally.compare("verdicts: no assertion", table(settings, f"{DESIGNS}/adder.v"), "status 1\n")
-
-
-def shown(program, tally):
-    """The table that docs/FLOW.md shows."""
-    room(program, EXAMPLES, "flow")
-    for command, wanted in steps("docs/FLOW.md", "## All assertions at once"):
-        tally.compare(f"verdicts: {command}", typed("flow", command), wanted)
