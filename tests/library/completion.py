@@ -2,7 +2,7 @@
 
 import re
 
-from library.helptext import commands, long_options, section
+from library.helptext import commands, long_options
 from library.runs import REPOSITORY, contents
 
 
@@ -10,7 +10,7 @@ def shells(ask):
     """The texts of the completions by their names."""
     overview, each = commands(ask)
     return {"aig.bash": filled("aig.bash", bash_tables(overview, each)),
-            "_aig": filled("_aig", zsh_tables(overview, each, section(ask("--help"), "Commands")))}
+            "_aig": filled("_aig", zsh_tables(overview, each))}
 
 
 def filled(name, tables):
@@ -43,7 +43,8 @@ def bash_tables(overview, each):
             "options": indented(lines, 8), "values": indented(values, 8)}
 
 
-def zsh_tables(overview, each, about):
+def zsh_tables(overview, each):
+    about = {**{name: one.about for name, one in each.items()}, "help": "Print the help of the program or of a command"}
     cases = []
     for name, one in each.items():
         specs = [zsh_option(*it) for it in one.options.items()] + [zsh_file(it) for it in one.arguments]

@@ -10,6 +10,9 @@ Help = collections.namedtuple("Help", "about usage arguments options after")
 # lines of its text are indented more.
 ENTRY = r"(?m)^(?: {2}| {6}(?=--))(?=\S)"
 
+# The groups of the commands in the help of the whole program.
+GROUPS = ("Files", "Runs", "Verdicts")
+
 
 def section(text, head):
     """The entries below a heading, by name."""
@@ -25,10 +28,15 @@ def parsed(text):
     return Help(about, usage, arguments, section(rest, "Options"), after.strip("\n"))
 
 
+def grouped(overview):
+    """What the help of the whole program says of each command, by name, in each group."""
+    return {group: section(overview, group) for group in GROUPS}
+
+
 def commands(ask):
     """The help of the whole program, and that of each command by name; `ask` runs the program with these arguments."""
     overview = ask("--help")
-    names = [name for name in section(overview, "Commands") if name != "help"]
+    names = [name for group in grouped(overview).values() for name in group]
     return parsed(overview), {name: parsed(ask(name, "--help")) for name in names}
 
 

@@ -4,12 +4,20 @@ import os
 import re
 import subprocess
 
-from library.helptext import commands, examples
+from library.helptext import commands, examples, grouped
 from library.roff import Markdown, code_block, filled, lines, literal, prose, sections
 from library.runs import REPOSITORY, contents
 
 DATE = "2026-11-25"
 SEE_ALSO = ("abc", "gtkwave", "yosys")
+FILES = {
+    "share/doc/aig/examples":
+        "Circuits with stimuli, scripts of bench, witnesses, certificates and proofs; and verdicts.sh, flow.sh and other "
+        "scripts that go from Verilog to checked verdicts. README.md says what each file is. The folder is below "
+        "/usr/local, /usr, or another folder that the program was installed into.",
+    "share/doc/aig/docs": "The documentation. FLOW.md explains the scripts.",
+    "FILE.new": "What bench and unroll write before they rename it to FILE.",
+}
 
 
 def asker(program):
@@ -42,12 +50,18 @@ def formats_page(version):
     text = document("FORMATS.md").split("\n", 1)[1]
     intro, rest = re.split(r"(?m)^(?=## )", text, maxsplit=1)
     markdown = Markdown({"BEHAVIOUR.md": "\\fBaig\\fP(1)"})
-    return (head("aig-formats", 5, version, "File Formats", "files that aig reads and writes")
-            + ".SH DESCRIPTION\n" + markdown.page(intro) + markdown.page(rest) + ".SH SEE ALSO\n\\fBaig\\fP(1)\n")
+    return finished(head("aig-formats", 5, version, "File Formats", "files that aig reads and writes")
+                    + ".SH DESCRIPTION\n" + markdown.page(intro) + markdown.page(rest)
+                    + ".SH SEE ALSO\n\\fBaig\\fP(1)\n")
+
+
+def finished(text):
+    """A page without the paragraphs that begin right below a head, of which mandoc warns."""
+    return re.sub(r"(?m)^(\.S[HS] .*\n)\.PP\n", r"\1", text)
 
 
 def entries(items):
-    return "".join(f".TP\n.B {lines(literal(name))}{lines(prose(said))}" for name, said in items.items())
+    return "".join(f".TP\n.B {lines(literal(name))}{filled(prose(said))}" for name, said in items.items())
 
 
 def flowing(text):
@@ -75,15 +89,21 @@ def said(one):
 def aig_page(ask, version):
     """aig(1): the help of each command, and sections of BEHAVIOUR.md."""
     overview, each = commands(ask)
-    text = head("aig", 1, version, "User Commands", "verified toolkit for circuits in the AIGER formats")
+    general = set(overview.options)
+    text = head("aig", 1, version, "User Commands", "verified AIGER toolkit that checks both verdicts of model checkers")
     text += ".SH SYNOPSIS\n.nf\n" + "".join(lines(literal(one.usage)) for one in each.values()) + ".fi\n"
-    text += f".SH DESCRIPTION\n{lines(prose(overview.about + '.'))}.SH COMMANDS\n"
-    for name, one in each.items():
-        text += f".SS aig {name}\n{lines(prose(one.about + '.'))}" + entries(one.arguments) + entries(one.options)
-        text += flowing(said(one))
-    text += ".SH OPTIONS\n" + entries(overview.options)
+    text += f".SH DESCRIPTION\n{filled(prose(overview.about + '.'))}"
+    for group, names in grouped(ask("--help")).items():
+        text += f".SH COMMANDS: {group.upper()}\n"
+        for name in names:
+            one = each[name]
+            own = {option: it for option, it in one.options.items() if option not in general}
+            text += f".SS aig {name}\n{lines(prose(one.about + '.'))}" + entries(one.arguments) + entries(own)
+            text += flowing(said(one))
+    text += ".SH OPTIONS\nEach command takes these, except for --version.\n" + entries(overview.options)
     for name, list_of_terms in re.findall(r"(?m)^(.*):\n((?:  .*\n?)+)", said(overview)):
         text += f".SH {name.upper()}\n{flowing(list_of_terms)}"
+    text += ".SH FILES\n" + entries(FILES)
     markdown = Markdown({"FORMATS.md": "\\fBaig\\-formats\\fP(5)"})
     behaviour = sections(document("BEHAVIOUR.md"))
     for name in ("Pipes, full devices and closed outputs", "Progress and terminals", "Explanations", "Diagnostics",
@@ -92,5 +112,5 @@ def aig_page(ask, version):
     text += ".SH EXAMPLES\nThese commands use files of the folder\n.BR examples ,\nwhich comes with the program.\n"
     for one in each.values():
         text += f".PP\n{lines(prose(one.about + ':'))}" + "".join(code_block(it) for it in examples(one))
-    return text + ".SH SEE ALSO\n\\fBaig\\-formats\\fP(5), " + ", ".join(
-        f"\\fB{name}\\fP(1)" for name in SEE_ALSO) + "\n"
+    return finished(text + ".SH SEE ALSO\n\\fBaig\\-formats\\fP(5), " + ", ".join(
+        f"\\fB{name}\\fP(1)" for name in SEE_ALSO) + "\n")

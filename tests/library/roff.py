@@ -4,7 +4,7 @@ import re
 
 # Characters that a page shows as something else, or does not let a reader copy.
 ESCAPES = {"\\": "\\e", "-": "\\-", "'": "\\(aq", "`": "\\(ga", "^": "\\(ha", "~": "\\(ti"}
-WIDTH = 100
+WIDTH = 78
 
 
 def literal(text):

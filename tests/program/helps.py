@@ -3,7 +3,7 @@
 import os
 import subprocess
 
-from library.helptext import commands, examples, listed
+from library.helptext import commands, examples, grouped, listed
 from library.manual import asker
 from library.runs import EXAMPLES, REPOSITORY, contents, write
 
@@ -23,7 +23,10 @@ def helps(program, tally, _):
         tally.check(f"help: {name}: files that an installed copy does not have", "docs/" not in text, text)
     overview, verdicts, bench = texts["aig"], texts["check"], texts["bench"]
     wanted = dict.fromkeys(words.split(" ")[1] for words in table(behaviour, "| command | does |"))
-    tally.compare("help: subcommands", sorted(listed(overview, "Commands:")), sorted([*wanted, "help"]))
+    abouts = {name: about for group in grouped(overview).values() for name, about in group.items()}
+    tally.compare("help: subcommands", sorted(abouts), sorted(wanted))
+    tally.compare("help: what each command does", abouts, {name: one.about for name, one in commands(ask)[1].items()})
+    general_options(ask, tally)
     tally.compare("help: exit statuses", listed(overview, "Exit status:"), table(behaviour, "| status | means |"))
     tally.compare("help: verdicts", listed(verdicts, "count from 0:"), table(behaviour, "| line | means |"))
     lines = listed(bench, "values are 0, 1 or x:")
@@ -43,6 +46,15 @@ def helps(program, tally, _):
 def asked(ask):
     """The arguments that ask for each help, by its name."""
     return {"aig": ["--help"], "help": ["help", "help"], **{name: [name, "--help"] for name in commands(ask)[1]}}
+
+
+def general_options(ask, tally):
+    """Each command has the options that the help of the program shows, but for the version."""
+    overview, each = commands(ask)
+    general = {name: said for name, said in overview.options.items() if name.startswith("--")}
+    for name, one in each.items():
+        tally.compare(f"help: {name}: general options", {option: one.options.get(option) for option in general}, general)
+        tally.check(f"help: {name}: -h, --help", "-h, --help" in one.options, [*one.options])
 
 
 def run_examples(ask, program, tally):

@@ -1,12 +1,14 @@
-"""The manual pages and the completions: they are what man/make.py and completions/make.py write of the program's help.
-A terminal of 80 columns shows the manual pages whole."""
+"""The manual pages and the completions: they are what man/make.py and completions/make.py write of the program's help. A
+terminal of 80 columns shows the manual pages whole, and mandoc has nothing to say of them where it is installed. The
+page on the examples names each of them."""
 
+import os
 import shutil
 import subprocess
 
 from library.completion import shells
 from library.manual import asker, pages as manual_pages
-from library.runs import REPOSITORY, contents
+from library.runs import EXAMPLES, REPOSITORY, contents
 
 
 def pages(program, tally, _):
@@ -20,9 +22,15 @@ def pages(program, tally, _):
             is_shown(tally, name, file)
         else:
             left_out = "their looks left out, groff is not here: "
+        if shutil.which("mandoc"):
+            said = subprocess.run(["mandoc", "-T", "lint", file], capture_output=True, text=True, check=False)
+            tally.compare(f"pages: man/{name}: what mandoc says", said.stdout, "")
     for name, text in shells(ask).items():
         file = f"{REPOSITORY}/completions/{name}"
         tally.compare(f"pages: completions/{name} (completions/make.py writes it)", contents(file).decode(), text)
+    examples = contents(f"{EXAMPLES}/README.md").decode()
+    missing = [name for name in os.listdir(EXAMPLES) if name != "README.md" and name.split(".")[0] not in examples]
+    tally.compare("pages: examples/README.md: files that it does not name", missing, [])
     return left_out
 
 

@@ -5,7 +5,7 @@ ghost use Rattle.aig_cli.specs.Held.{HoldsFlag, HoldsNumber, HoldsNumberOr, is_p
 
 use crate::arguments::{Argument, EXPLAIN, NUMBERS, PROGRESS, built};
 use crate::help;
-use crate::subcommands::{Subcommand, built_subcommand, first, fourth, second, third};
+use crate::subcommands::{Subcommand, built_subcommand, files, refutations, runs, witnesses};
 use clap::{Arg, ArgMatches, Command};
 use std::alloc::{AllocError, Global};
 use std::fmt;
@@ -35,8 +35,7 @@ fn with_general_flag<'a>(
 fn program<'a>(alloc: Global) -> Result<Command<'a>, AllocError> {
     let program = Command::new(alloc, "aig")
         .version(VERSION)
-        .about("Convert, simulate, unroll and check circuits in the AIGER formats")
-        .after_help(help::ALL)
+        .override_help(help::ALL)
         .subcommand_required(true);
     let program = with_general_flag(program, alloc, &EXPLAIN)?;
     with_general_flag(program, alloc, &PROGRESS)
@@ -64,10 +63,10 @@ fn with_subcommands<'a>(
 }
 
 fn command_line<'a>(alloc: Global) -> Result<Command<'a>, AllocError> {
-    let program = with_subcommands(program(alloc)?, alloc, first())?;
-    let program = with_subcommands(program, alloc, second())?;
-    let program = with_subcommands(program, alloc, third())?;
-    with_subcommands(program, alloc, fourth())
+    let program = with_subcommands(program(alloc)?, alloc, files())?;
+    let program = with_subcommands(program, alloc, runs())?;
+    let program = with_subcommands(program, alloc, witnesses())?;
+    with_subcommands(program, alloc, refutations())
 }
 
 /// Parses the arguments; the first is the program's name.

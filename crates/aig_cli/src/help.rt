@@ -1,4 +1,50 @@
-//! The texts that follow the options in the help of each command, and in that of the program.
+//! The help of the program, and the texts that follow the options in the help of each command.
+
+/// The help of the program, whole, as the parser has no groups of commands. Each command's own help begins with the text that
+/// it has here, which `tests/run_program.py` checks.
+pub const ALL: &str = "Convert, simulate and edit AIGER circuits, and check both verdicts on them: a
+run to a bad state, and a SAT solver's proof that there is none
+
+Usage: aig [OPTIONS] <COMMAND>
+
+Files:
+  toaig       Convert a circuit between the text and the binary format
+  info        Print facts about a circuit, one per line
+  select      Write a circuit with some of its properties
+  unroll      Unroll a circuit for K frames into a circuit without latches
+
+Runs:
+  sim         Simulate a circuit and print one line per frame
+  wave        Simulate a circuit and print a dump for waveform viewers
+  bench       Run a script of edits and queries on a simulation
+
+Verdicts:
+  check       Check that a witness reaches a bad state, and print the verdict
+  witness     Write the witness that a run reaches a bad state
+  reduce      Write a witness with x at each value that it does not need
+  cnf         Print a formula for SAT solvers: a bad state within K frames
+  refute      Check a SAT solver's proof that no run reaches a bad state
+  strengthen  Write a circuit that is strengthened by a certificate
+
+Options:
+      --explain   If the run fails, explain why, and what to do
+      --progress  Show how far the run is, on standard error
+  -h, --help      Print this help, or that of the command before it
+  -V, --version   Print version
+
+Environment:
+  AIG_EXPLAIN  if it is 1, every command has the option --explain
+
+Exit status:
+  0  done
+  1  the input was rejected, or the verdict is not confirmed
+  2  wrong arguments, or a request for help or for the version
+  3  out of memory, or an input or output error
+
+Example: aig sim examples/counter.aag examples/counter.stim
+Example: aig check examples/wraps.aag examples/wraps.wit
+Example: aig refute --frames 3 examples/wraps.aag examples/wraps.drat
+See also: man aig, man 5 aig-formats";
 
 pub const TOAIG: &str =
     "The aig format numbers its variables in a fixed order. If the circuit does not
@@ -224,18 +270,6 @@ else. The exit status is then 1. (M + 1) times the number of frames is at most
 67,108,864, as for bench.
 
 Example: aig reduce examples/wraps.aag examples/wraps.wit
-See also: man aig, man 5 aig-formats";
-
-pub const ALL: &str = "Environment:
-  AIG_EXPLAIN  if it is 1, every command has the option --explain
-
-Exit status:
-  0  done
-  1  the input was rejected, or the verdict is not confirmed
-  2  wrong arguments, or a request for help or for the version
-  3  out of memory, or an input or output error
-
-Example: aig sim examples/counter.aag examples/counter.stim
 See also: man aig, man 5 aig-formats";
 
 pub const WITNESS: &str =

@@ -16,8 +16,9 @@ pub struct Subcommand {
     arguments: &'static [Argument],
 }
 
-// The commands in the order of the help, in four tables: a check takes a table as one term, and stops at a larger one.
-static FIRST: [Subcommand; 4] = [
+// The commands in the order of the help. A check takes a table as one term, and stops at a larger one, so those on verdicts
+// are in two.
+static FILES: [Subcommand; 4] = [
     Subcommand {
         name: "toaig",
         about: "Convert a circuit between the text and the binary format",
@@ -25,6 +26,42 @@ static FIRST: [Subcommand; 4] = [
         choice: None,
         arguments: &[arguments::FORMAT, arguments::CIRCUIT],
     },
+    Subcommand {
+        name: "info",
+        about: "Print facts about a circuit, one per line",
+        help: help::INFO,
+        choice: None,
+        arguments: &[arguments::NAMES, arguments::CIRCUIT],
+    },
+    Subcommand {
+        name: "select",
+        about: "Write a circuit with some of its properties",
+        help: help::SELECT,
+        choice: None,
+        arguments: &[
+            arguments::FORMAT,
+            arguments::FROM,
+            arguments::AS,
+            arguments::PROPERTIES,
+            arguments::NAMES_FILE,
+            arguments::CIRCUIT,
+        ],
+    },
+    Subcommand {
+        name: "unroll",
+        about: "Unroll a circuit for K frames into a circuit without latches",
+        help: help::UNROLL,
+        choice: None,
+        arguments: &[
+            arguments::FRAMES,
+            arguments::FORMAT,
+            arguments::MAP,
+            arguments::CIRCUIT,
+        ],
+    },
+];
+
+static RUNS: [Subcommand; 3] = [
     Subcommand {
         name: "sim",
         about: "Simulate a circuit and print one line per frame",
@@ -54,63 +91,13 @@ static FIRST: [Subcommand; 4] = [
     },
 ];
 
-static SECOND: [Subcommand; 4] = [
-    Subcommand {
-        name: "unroll",
-        about: "Unroll a circuit for K frames into a circuit without latches",
-        help: help::UNROLL,
-        choice: None,
-        arguments: &[
-            arguments::FRAMES,
-            arguments::FORMAT,
-            arguments::MAP,
-            arguments::CIRCUIT,
-        ],
-    },
+static WITNESSES: [Subcommand; 3] = [
     Subcommand {
         name: "check",
         about: "Check that a witness reaches a bad state, and print the verdict",
         help: help::CHECK,
         choice: None,
         arguments: &[arguments::TRACE, arguments::CIRCUIT, arguments::WITNESS],
-    },
-    Subcommand {
-        name: "cnf",
-        about: "Print a formula for SAT solvers: a bad state within K frames",
-        help: help::CNF,
-        choice: Some(arguments::FORMULA),
-        arguments: &[
-            arguments::FRAMES_OR_CERTIFICATE,
-            arguments::PROPERTY,
-            arguments::STEP,
-            arguments::CERTIFICATE,
-            arguments::ALIVE,
-            arguments::CIRCUIT,
-        ],
-    },
-    Subcommand {
-        name: "info",
-        about: "Print facts about a circuit, one per line",
-        help: help::INFO,
-        choice: None,
-        arguments: &[arguments::NAMES, arguments::CIRCUIT],
-    },
-];
-
-static THIRD: [Subcommand; 4] = [
-    Subcommand {
-        name: "select",
-        about: "Write a circuit with some of its properties",
-        help: help::SELECT,
-        choice: None,
-        arguments: &[
-            arguments::FORMAT,
-            arguments::FROM,
-            arguments::AS,
-            arguments::PROPERTIES,
-            arguments::NAMES_FILE,
-            arguments::CIRCUIT,
-        ],
     },
     Subcommand {
         name: "witness",
@@ -125,6 +112,30 @@ static THIRD: [Subcommand; 4] = [
             arguments::REACHED,
             arguments::CIRCUIT,
             arguments::ROWS,
+        ],
+    },
+    Subcommand {
+        name: "reduce",
+        about: "Write a witness with x at each value that it does not need",
+        help: help::REDUCE,
+        choice: None,
+        arguments: &[arguments::CIRCUIT, arguments::WITNESS],
+    },
+];
+
+static REFUTATIONS: [Subcommand; 3] = [
+    Subcommand {
+        name: "cnf",
+        about: "Print a formula for SAT solvers: a bad state within K frames",
+        help: help::CNF,
+        choice: Some(arguments::FORMULA),
+        arguments: &[
+            arguments::FRAMES_OR_CERTIFICATE,
+            arguments::PROPERTY,
+            arguments::STEP,
+            arguments::CERTIFICATE,
+            arguments::ALIVE,
+            arguments::CIRCUIT,
         ],
     },
     Subcommand {
@@ -143,45 +154,37 @@ static THIRD: [Subcommand; 4] = [
         ],
     },
     Subcommand {
-        name: "reduce",
-        about: "Write a witness with x at each value that it does not need",
-        help: help::REDUCE,
+        name: "strengthen",
+        about: "Write a circuit that is strengthened by a certificate",
+        help: help::STRENGTHEN,
         choice: None,
-        arguments: &[arguments::CIRCUIT, arguments::WITNESS],
+        arguments: &[
+            arguments::FORMAT,
+            arguments::STRENGTHENING,
+            arguments::PROPERTY,
+            arguments::CIRCUIT,
+        ],
     },
 ];
 
-static FOURTH: [Subcommand; 1] = [Subcommand {
-    name: "strengthen",
-    about: "Write a circuit that is strengthened by a certificate",
-    help: help::STRENGTHEN,
-    choice: None,
-    arguments: &[
-        arguments::FORMAT,
-        arguments::STRENGTHENING,
-        arguments::PROPERTY,
-        arguments::CIRCUIT,
-    ],
-}];
-
-/// The commands that the help lists first.
-pub fn first() -> &'static [Subcommand] {
-    FIRST.as_slice()
+/// The commands on files of circuits.
+pub fn files() -> &'static [Subcommand] {
+    FILES.as_slice()
 }
 
-/// Those after them.
-pub fn second() -> &'static [Subcommand] {
-    SECOND.as_slice()
+/// Those on runs.
+pub fn runs() -> &'static [Subcommand] {
+    RUNS.as_slice()
 }
 
-/// Those after these.
-pub fn third() -> &'static [Subcommand] {
-    THIRD.as_slice()
+/// Those on the verdict that a run reaches a bad state.
+pub fn witnesses() -> &'static [Subcommand] {
+    WITNESSES.as_slice()
 }
 
-/// The last of them.
-pub fn fourth() -> &'static [Subcommand] {
-    FOURTH.as_slice()
+/// Those on the verdict that none does.
+pub fn refutations() -> &'static [Subcommand] {
+    REFUTATIONS.as_slice()
 }
 
 fn with_argument<'a>(
