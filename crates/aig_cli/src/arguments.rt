@@ -279,7 +279,7 @@ pub const NUMBERS: [(&str, &str); 1] = [("K", "--frames <K>")];
 /// An option of every command, which may be before the command or after it: to explain a failure.
 pub static EXPLAIN: Argument = Argument {
     name: "explain",
-    help: "Explain a failure and what to do; name the property of a verdict",
+    help: "Explain a failure, and name a verdict's property",
     kind: Kind::Flag,
     need: Need::Never,
 };

@@ -27,7 +27,7 @@ Verdicts:
   strengthen  Write a circuit that is strengthened by a certificate
 
 Options:
-      --explain   If the run fails, explain why, and what to do
+      --explain   Explain a failure, and name a verdict's property
       --progress  Show how far the run is, on standard error
   -h, --help      Print this help, or that of the command before it
   -V, --version   Print version
