@@ -19,7 +19,11 @@ each why:
 Only the first shows by itself that the body is wrong.
 
 It tries those of the gate (crates/NAME/planted) and with --more all others too (crates/NAME/planted/more), over what
-`rt ci` or `rt check` left of the libraries below a crate; where there is nothing, they are built first."""
+`rt ci` or `rt check` left of the libraries below a crate; where there is nothing, they are built first.
+
+With --list it tries nothing. It prints each bug with its clause and its sentence, the functions that it changes, and
+what it stands for beside them: an exported call that these functions serve (`guards`), a kind of mistake, a relation
+or a law."""
 
 import argparse
 import collections
@@ -42,6 +46,9 @@ ROOT = pathlib.Path(__file__).resolve().parent.parent
 # Why a goal is open, what shows most of the body first.
 KINDS = ("false", "no proof", "limit", "answer", "name")
 FALSE, UNPROVED, LIMIT, ANSWER, NAME = KINDS
+
+# The words of a planted bug that say what it stands for, beside the functions that it changes.
+STANDS_FOR = ("guards", "mistake", "relation", "law")
 
 # What the prover says of an answer that names something which is not there.
 NAMES = r"has no field|is not in scope|has no `|was not admitted"
@@ -311,15 +318,40 @@ def told(crate, known, edits):
         return [kind for texts, taken in checks for kind in tried(crate, room, known, texts, taken)]
 
 
-def edits_of(crate, rooms, only):
+def edits_of(folder, rooms, only):
     """Returns a crate's functions, its planted bugs, and those that cannot be applied."""
-    files = [str(it.relative_to(crate.folder)) for it in (crate.folder / "src").rglob("*.rt")]
-    homes = types(crate.folder, files)
-    known = {file: list(functions(crate.folder, file, homes)) for file in files}
-    paths = [it for room in rooms for it in sorted((crate.folder / room).glob("*.edit"))]
-    edits = [read(crate.folder, it, known) for it in paths if not only or any(word in it.name for word in only)]
+    files = [str(it.relative_to(folder)) for it in (folder / "src").rglob("*.rt")]
+    homes = types(folder, files)
+    known = {file: list(functions(folder, file, homes)) for file in files}
+    paths = [it for room in rooms for it in sorted((folder / room).glob("*.edit"))]
+    edits = [read(folder, it, known) for it in paths if not only or any(word in it.name for word in only)]
     every = [it for file in files for it in known[file]]
     return every, [it for it in edits if it.changes], [it for it in edits if not it.changes]
+
+
+def about(path):
+    """Returns the sentence of a planted bug, and what it stands for."""
+    lines = path.read_text().split("\n")
+    heads = re.compile(rf"({'|'.join(STANDS_FOR)}|clause|file): ")
+    first = next(number for number, line in enumerate(lines) if heads.match(line))
+    return " ".join(lines[:first]), [line for line in lines if line.startswith(tuple(f"{it}: " for it in STANDS_FOR))]
+
+
+def print_list(crates, rooms, only):
+    """Prints the planted bugs of these crates, or of all, and how many there are in each folder."""
+    counts = collections.Counter()
+    for folder in sorted(it.parent for it in (ROOT / "crates").glob("*/planted")):
+        if crates and folder.name not in crates:
+            continue
+        _, edits, wrong = edits_of(folder, rooms, only)
+        for edit in [*edits, *wrong]:
+            sentence, stands_for = about(folder / edit.name)
+            changed = [f"in: {it.name}" for it in edit.functions] if edit.changes else ["it cannot be applied"]
+            print(f"{folder.name}/{edit.name}: {edit.clause or 'no clause'}\n    {sentence}")
+            print("".join(f"    {line}\n" for line in [*changed, *stands_for]), end="")
+            counts[os.path.dirname(edit.name)] += 1
+    print(", ".join(f"{counts[room]} in {room}" for room in rooms))
+    return 0
 
 
 def copies(crate):
@@ -352,17 +384,20 @@ def main():
     parser.add_argument("--jobs", type=int, default=few, help=f"how many processors it takes (else {few})")
     parser.add_argument("--only", action="append", help="the planted bugs whose names hold this; may be given again")
     parser.add_argument("--more", action="store_true", help="those of planted/more/ too")
+    parser.add_argument("--list", action="store_true", help="prints the planted bugs, and tries none")
     parser.add_argument("--behind", type=pathlib.Path, metavar="FILE",
                         help="the output of an `rt ci` that runs: a crate waits for the libraries below it")
     parser.add_argument("crates", nargs="*", help="the crates whose planted bugs are tried (else all)")
     words = parser.parse_args()
     os.chdir(ROOT)
     rooms = ("planted", "planted/more") if words.more else ("planted",)
+    if words.list:
+        return print_list(words.crates, rooms, words.only)
     work, failed = [], 0
     for crate in toolchain(words.jobs):
         if words.crates and crate.name not in words.crates:
             continue
-        known, edits, wrong = edits_of(crate, rooms, words.only)
+        known, edits, wrong = edits_of(crate.folder, rooms, words.only)
         for edit in wrong:
             print(f"{crate.name}/{edit.name}: FAILED: it cannot be applied")
             failed += 1

@@ -69,12 +69,16 @@ def look(program, tally, way, root, functions="zsh/site-functions"):
 
 
 def install(program, tally, _):
+    """A copy that `make install` made has the program, pages, completions and documents; each link of its README leads to
+    a file; the tour runs from there."""
     need("make", "bash")
     pack.install(program.path, os.path.abspath("root"), "/usr/local", PROVENANCE)
     look(program, tally, "install", "root/usr/local")
 
 
 def archive(program, tally, _):
+    """The same of a copy from the archive. Two releases of one program are the same bytes; CHANGELOG has the program's
+    version."""
     need("make", "bash", "tar", "gzip", "objdump")
     name = release(program, "one")[0]
     top = name.removesuffix(".tar.gz")
@@ -91,6 +95,7 @@ def archive(program, tally, _):
 
 
 def package(program, tally, _):
+    """The same of a copy from the Debian package."""
     need("make", "bash", "objdump", "dpkg-deb")
     name = release(program, "made")[1]
     version, libc = pack.version_of(program.path), pack.libc_of(program.path)
@@ -120,6 +125,9 @@ def in_environment(program, name, given, tally):
 
 
 def wheel(program, tally, _):
+    """The wheel of the Python package is the same bytes each time and has the program's version. `pip install --no-index`
+    takes it, and the folder python/, into fresh environments; parts of run_package.py pass there on the program that
+    pip installed."""
     need("objdump")
     for module in ("venv", "ensurepip"):
         if importlib.util.find_spec(module) is None:
@@ -138,7 +146,8 @@ def wheel(program, tally, _):
 
 
 def refusals(_, tally, __):
-    """What `make dist` refuses to pack, and when `make install` takes the proved program."""
+    """`make dist` refuses a tree that is not clean, a commit without its gate, and another program; `make install` takes
+    the proved program only if the gate passed these sources."""
     proved = RECORD["program"]
     tally.compare("a release", gate.refusal(RECORD, STATE, proved), None)
     for why, record, state, program in (

@@ -1,5 +1,13 @@
 #!/usr/bin/env python3
-"""Runs the package `aig` of Python on the built program. With --installed it is the package that pip installed."""
+"""Runs the package `aig` of Python on the built program. With --installed it is the package that pip installed.
+
+The parts: the session of python/README.md line by line (`readme`, with cadical); each call of the package, with names
+that are odd or ambiguous, each kind of row, gates after all sections, models as each solver gives them, right and wrong
+proofs and certificates, edits and replies of a bench, 50,000 lines at once and a row that is longer than a pipe
+(`names`, `rows`, `arrays` with numpy, `files`, `verdicts`, `certificates`, `bench`); `aig.prove` and `aig.certify` with
+cadical: a bug, a bound, an induction, a right and a wrong certificate, and solvers that fail (`solvers`); a bench whose
+program is killed, no program, no memory, four threads, and a system without memory files (`failures`, `threads`,
+`folders`)."""
 
 import contextlib
 import doctest

@@ -3,6 +3,7 @@
 import argparse
 import collections
 import contextlib
+import inspect
 import os
 import signal
 import subprocess
@@ -149,10 +150,19 @@ def started_by(process):
             yield int(name)
 
 
+def shown(parts, outside):
+    """What the help says of each part: the comment of its function, else that of the file where it is alone."""
+    texts = [(name, part.__doc__ or sys.modules[part.__module__].__doc__) for name, part in parts.items()
+             if part.__doc__ or part.__module__ != "__main__"]
+    return "\n\n".join(f"{name}{' (only where it is asked for)' * (name in outside)}\n{inspect.cleandoc(text)}"
+                       for name, text in texts)
+
+
 def main(description, parts, outside=(), options=lambda parser: None, proved=PROVED_PROGRAM):
     """The command line of a script of tests. Its parts are functions of the program, a tally and the options; each runs
     in an empty folder of its own. Those named in `outside` run only where they are asked for."""
-    parser = argparse.ArgumentParser(description=description, formatter_class=argparse.RawDescriptionHelpFormatter)
+    parser = argparse.ArgumentParser(description=description, epilog=shown(parts, outside),
+                                     formatter_class=argparse.RawDescriptionHelpFormatter)
     parser.add_argument("--part", action="append", choices=list(parts), help="runs this part alone; may be given again")
     parser.add_argument("program", nargs="?", help="the program that is tested (else the one that the gate built)")
     options(parser)

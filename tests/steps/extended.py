@@ -66,6 +66,7 @@ def pigeon_holes(program, tally, _):
 
 
 def more_pigeons(program, tally, _):
+    """Cook's refutation of pigeons in 30 holes, of 234,203 steps."""
     cooked(program, tally, *MORE_PIGEONS)
 
 
@@ -78,7 +79,8 @@ def families():
 
 
 def added_variables(program, tally, _):
-    """Bounded variable addition, and then a search."""
+    """Refutations after bounded variable addition and then a search, each step as library/plain_checker.py marks it; those
+    of a formula without a clause, where a search finds an assignment, are refused."""
     rng, refused = random.Random(1), 0
     for name, variables, clauses in families():
         for style in STYLES:
@@ -105,7 +107,8 @@ def chain(length, *more):
 
 
 def tables(program, tally, _):
-    """As many clauses and variables as a table has room for, one fewer and one more."""
+    """As many clauses as the table of deletions has room for, one fewer and one more; 16,000 variables of a proof's own,
+    in a row and far apart, up to 2,147,483,647."""
     for length in (1023, 1024, 1025, 2047, 2048, 2049, 4096, 4097):
         whole, end = [-1, length], [1, length + 1]
         clauses = chain(length, end, [-length, length + 1])
