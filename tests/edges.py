@@ -1,14 +1,14 @@
 #!/usr/bin/env python3
-"""Compares crates.txt with the sources, and the tables of crates in docs/ARCHITECTURE.md with crates.txt.
+"""Compares crates.txt with the sources, and the table of crates in docs/ARCHITECTURE.md with crates.txt.
 
 - A crate lists the libraries that a file of its src/, specs/ or proofs/ names, and no others. Comments do not count.
 - The libraries of a crate are above it in crates.txt. A line with `#` begins a floor, and says what the crates of the
   floor do not know. What it names in parentheses is tested: no crate of the floor stands on such a library, not by its
   libraries either, and no file of its src/ names such a module of std.
-- ARCHITECTURE.md has a table for each floor, and a row for each crate. Its last column has the libraries of the
-  repository on which the crate stands, without those on which these stand.
+- ARCHITECTURE.md has a table with a row for each floor and, below it, one for each crate. Its last column has the
+  libraries of the repository on which the crate stands, without those on which these stand.
 
---write writes the tables anew: floors, crates and last columns from crates.txt. It keeps what the page says a crate
+--write writes the table anew: floors, crates and the last column from crates.txt. It keeps what the page says a crate
 holds. The script reads text and proves nothing."""
 
 import argparse
@@ -22,7 +22,7 @@ from library.specs import ROOT
 LIST = ROOT / "crates.txt"
 PAGE = ROOT / "docs" / "ARCHITECTURE.md"
 TABLE = "| crate | holds | stands on |"
-NEXT = "Beside the crates:"
+END = "."
 
 # The title of a floor, what it does not know, and its crates, each with the libraries that crates.txt gives it.
 Floor = collections.namedtuple("Floor", "title unknown crates")
@@ -103,37 +103,35 @@ def wrong_floor(floor, libraries):
                 yield f"crates.txt: {name} knows {word}, which its floor does not"
 
 
-def tables(all_floors, libraries, held):
-    """Returns the lines of the tables, where it is known what each crate holds."""
-    lines = []
+def table(all_floors, libraries, held):
+    """Returns the lines of the table, where it is known what each crate holds."""
+    lines = [TABLE, "|---|---|---|"]
     for floor in all_floors:
-        unknown = f" {floor.unknown[:1].upper()}{floor.unknown[1:]}" if floor.unknown else ""
-        lines += [f"**{floor.title}.**{unknown}", "", TABLE, "|---|---|---|"]
+        lines.append(f"| **{floor.title}** | {floor.unknown.rstrip(END)} | |".replace("|  |", "| |"))
         for name in floor.crates:
-            libraries_shown = ", ".join(f"`{it}`" for it in direct(name, libraries))
-            lines.append(f"| `{name}` | {held.get(name, '')} | {libraries_shown} |".replace("|  |", "| |"))
-        lines.append("")
+            below_it = ", ".join(direct(name, libraries))
+            lines.append(f"| `{name}` | {held.get(name, '')} | {below_it} |".replace("|  |", "| |"))
     return lines
 
 
 def page_parts():
-    """Returns the lines of the page before its tables, in them, and after them."""
+    """Returns the lines of the page before its table, in it, and after it."""
     lines = PAGE.read_text(encoding="utf-8").split("\n")
-    first, end = lines.index(TABLE), lines.index(NEXT)
-    begin = next((at for at in range(first, 0, -1) if lines[at].startswith("**")), first)
+    begin = lines.index(TABLE)
+    end = next(at for at in range(begin, len(lines)) if not lines[at].startswith("|"))
     return lines[:begin], lines[begin:end], lines[end:]
 
 
 def main():
     reader = argparse.ArgumentParser(description=__doc__, formatter_class=argparse.RawDescriptionHelpFormatter)
-    reader.add_argument("--write", action="store_true", help="write the tables of docs/ARCHITECTURE.md")
+    reader.add_argument("--write", action="store_true", help="write the table of docs/ARCHITECTURE.md")
     chosen = reader.parse_args()
     all_floors = floors()
     libraries = {name: of for floor in all_floors for name, of in floor.crates.items()}
     before, old, after = page_parts()
     rows = [re.match(r"\| `(\w+)` \| (.*?) \|", line) for line in old]
     held = {row[1]: row[2] for row in rows if row}
-    new = tables(all_floors, libraries, held)
+    new = table(all_floors, libraries, held)
     if chosen.write:
         PAGE.write_text("\n".join([*before, *new, *after]), encoding="utf-8")
         old = new
@@ -144,7 +142,7 @@ def main():
     for line in difflib.unified_diff(old, new, "docs/ARCHITECTURE.md", "crates.txt", lineterm="", n=0):
         print(line)
     if old != new:
-        print("docs/ARCHITECTURE.md (-) differs from crates.txt (+): tests/edges.py --write writes the tables anew")
+        print("docs/ARCHITECTURE.md (-) differs from crates.txt (+): tests/edges.py --write writes the table anew")
     if wrong or old != new:
         return 1
     count = sum(len(direct(name, libraries)) for name in libraries)
