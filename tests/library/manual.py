@@ -107,7 +107,7 @@ def aig_page(ask, version):
     markdown = Markdown({"FORMATS.md": "\\fBaig\\-formats\\fP(5)"})
     behaviour = sections(document("BEHAVIOUR.md"))
     for name in ("Pipes, full devices and closed outputs", "Progress and terminals", "Explanations", "Diagnostics",
-                 "Rejected circuits", "What a run needs", "Limits"):
+                 "What a run needs", "Limits"):
         text += f".SH {name.upper()}\n" + markdown.page(behaviour[name])
     text += ".SH EXAMPLES\nThese commands use files of the folder\n.BR examples ,\nwhich comes with the program.\n"
     for one in each.values():
