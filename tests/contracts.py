@@ -1,9 +1,11 @@
 #!/usr/bin/env python3
 """Compares docs/CONTRACTS.md, the page of all public contracts, with the sources, and fails where they differ.
 
---write writes the page. The page differs where a clause, a signature or the first sentence of a comment was changed,
-and where a call has other lines to believe. README's numbers of lines to believe are compared too. It reads text and
-proves nothing. The texts of definitions are not on the page."""
+The page differs where a clause, a signature or the first sentence of a comment was changed, and where a call has other
+lines to believe. README.md and docs/PROVED.md are compared too: the last column of each table that ends with the column
+`lines to believe` has the lines of the call, or of its clause, in the column `call, clause`; and each clause that
+docs/PROVED.md shows stands in the sources. --write writes the page and these columns. It reads text and proves nothing.
+The texts of definitions are not on the page."""
 
 import argparse
 import difflib
@@ -16,6 +18,8 @@ from library.specs import ROOT
 
 PAGE = ROOT / "docs" / "CONTRACTS.md"
 README = ROOT / "README.md"
+PROVED = ROOT / "docs" / "PROVED.md"
+BELIEVED, CALL = "lines to believe", "call, clause"
 WIDTH = 120
 MOST_SHOWN = 60
 
@@ -114,11 +118,42 @@ def wrong_numbers(promises):
     said = re.findall(r"(\d[\d,]*)[^(\d]*\([^)]*--of ([\w:]+)(?: --clause (\w+))?", README.read_text(encoding="utf-8"))
     for number, name, clause in said:
         clause = clause or None
-        lines = [promises.specs.lines(promises.believed(it, clause)) for it in promises.having(name, clause)]
+        lines = lines_of(promises, name, clause)
         if [int(number.replace(",", ""))] != lines:
             yield f"README.md says {number} lines to believe for {name}, {clause or 'all clauses'}: {lines}"
     if not said:
         yield "README.md says of no call how many lines one has to believe"
+
+
+def lines_of(promises, name, clause):
+    """Returns the lines to believe for each export of a name, or for one clause of it."""
+    return [promises.specs.lines(promises.believed(it, clause)) for it in promises.having(name, clause)]
+
+
+def counted(promises, path):
+    """Returns the lines of a page, with the lines to believe of its tables as they are by the sources."""
+    found, column = [], None
+    for line in path.read_text(encoding="utf-8").split("\n"):
+        cells = [it.strip() for it in line.split("|")[1:-1]] if line.startswith("|") else []
+        if cells and cells[-1] == BELIEVED:
+            column = cells.index(CALL)
+        elif not cells:
+            column = None
+        elif column is not None and not line.startswith("|---"):
+            name, *clause = re.findall(r"`([\w:]+)`", cells[column])
+            counts = lines_of(promises, name, clause[0] if clause else None)
+            line = f"{line.rstrip(' |').rpartition('|')[0]}| {', '.join(map(str, counts)) or 'no such clause'} |"
+        found.append(line)
+    return found
+
+
+def wrong_quotes(promises):
+    """Yields the clauses that docs/PROVED.md shows and that no call has."""
+    text = re.sub(r"(?m)^    (?=ensures)", "", PROVED.read_text(encoding="utf-8"))
+    said = {" ".join(f"{head} {text}".split()) for it in promises.exports for head, text in it.clauses}
+    for shown in re.findall(r"(?m)^ensures \w+ \{(?:.*\n {8})*.*\}$", text):
+        if " ".join(shown.split()) not in said:
+            yield f"docs/PROVED.md shows a clause that no call has: {' '.join(shown.split())}"
 
 
 def main():
@@ -131,9 +166,14 @@ def main():
     count = f"{len(promises.exports)} entries with {sum(len(it.clauses) for it in promises.exports)} clauses"
     if chosen.write:
         PAGE.write_text("\n".join(new) + "\n", encoding="utf-8")
+        for path in (README, PROVED):
+            path.write_text("\n".join(counted(promises, path)), encoding="utf-8")
         print(f"{count}: written to docs/CONTRACTS.md")
         return 0
-    wrong = [*wrong_numbers(promises)]
+    wrong = [*wrong_numbers(promises), *wrong_quotes(promises)]
+    for path in (README, PROVED):
+        old = path.read_text(encoding="utf-8").split("\n")
+        wrong += difflib.unified_diff(old, counted(promises, path), path.name, "the sources", lineterm="", n=0)
     for line in wrong:
         print(line)
     found = [*differences(read_page(), new)]
