@@ -20,7 +20,7 @@ DOCUMENTS = $(ROOT)/share/doc/aig
 SOURCES := $(shell find crates -name out -prune -o -name '*.rt' -print) crates.txt tests/build_unproved.sh
 
 aig: build/aig
-	@echo "build/aig is ready. Nothing of it is proved; 'make prove' proves it, in about an hour."
+	@echo "build/aig is ready. Nothing of it is proved; 'make prove' proves it."
 
 build/aig: $(SOURCES)
 	@for tool in rt cc python3; do command -v $$tool > /dev/null || { echo "make: there is no $$tool" >&2; exit 1; }; done

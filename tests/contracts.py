@@ -121,7 +121,7 @@ def wrong_numbers(promises):
         lines = lines_of(promises, name, clause)
         if [int(number.replace(",", ""))] != lines:
             yield f"README.md says {number} lines to believe for {name}, {clause or 'all clauses'}: {lines}"
-    if not said:
+    if not said and BELIEVED not in README.read_text(encoding="utf-8"):
         yield "README.md says of no call how many lines one has to believe"
 
 
