@@ -24,7 +24,7 @@ def code(number):
 
 def pieces(word):
     """The pieces of a word of a symbol: its scopes, and its last piece."""
-    parts = re.sub(rb"[^!-~]", b"_", word).split(b".")
+    parts = re.sub(rb"[^!-9;-~]", b"_", word).split(b".")
     parts = [b"_" + part[1:] if part[:1] == b"$" else part for part in parts]
     return [b".".join(parts)] if b"" in parts else parts
 

@@ -75,6 +75,9 @@ DUMPS = (
 HEADERS = (
     ("bytes that are no visible ASCII", (b"\tx\r", b"\x00\x1f\x7f\x80\xff", "\u00e9t\u00e9".encode(), b"!\"#~", b"#0"),
      ("! _x_", '" _____', "# __t__", '$ !"#~', "% #0")),
+    ("colons", (b"queue.v:37", b":", b"a:b:c", b"$assert$q.v:3$4", b"a[3:0]", b"a[1:0]:", b"::.:x"),
+     ("+ queue", "! v_37", "-", '" _', "# a_b_c", "+ _assert$q", "$ v_3$4", "-", "% a[3_0]", "& a[1_0]_", "+ __", "' _x",
+      "-")),
     ("a $ at the front of a piece", (b"$end", b"$$", b"a$", b"$u.$q", b"$u", b"$scope $end"),
      ("! _end", '" _$', "# a$", "+ _u", "$ _q", "-", "% _u", "& _scope", "& _end")),
     ("words", (b"a b", b" c  d ", b"e", b" ", b"  f   g  h", b"", b"i"),

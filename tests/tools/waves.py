@@ -20,6 +20,8 @@ from tools.external import LOGIC, Tools
 CASES = 40
 # The counter of examples/, frame by frame, until an unknown input makes it unknown.
 COUNTED = [0, 0, 1, 2, 3, 4, 0]
+# Names of properties as `verdicts.sh` and Yosys give them, at which GTKWave must not stop.
+COLONS = b"aag 2 2 0 0 0 2\n2\n4\n2\n4\nb0 queue.v:37\nb1 $assert$queue.v:36$46\n"
 # Designs of Yosys, each with some of the signals that GTKWave has to show for it.
 SHOWN = {f"{DESIGNS}/hier.v": ("latches.u1.q[3:0]", "latches.u2.st[1:0]", "latches.y[3:0]", "outputs.x[3:0]"),
          f"{EXAMPLES}/queue.v": ("inputs.din[7:0]", "latches.mem[7][7:0]", "latches.full_r")}
@@ -72,6 +74,9 @@ def vectors(program, tally):
     for scope in ("latches", "outputs"):
         counted = [int(value, 2) for value in seen.get(f"{scope}.count[3:0]", [])[:len(COUNTED)] if "x" not in value]
         tally.compare(f"waves: the counter as GTKWave shows it, {scope}", counted, COUNTED)
+    seen = shows(program, tally, "colons", COLONS, b"01\n10\n11\n")
+    for signal in ("bad.queue.v_37", "bad._assert$queue.v_36$46"):
+        tally.check(f"waves: {signal} in GTKWave", signal in seen, sorted(seen))
     tools = Tools()
     for file, wanted in SHOWN.items():
         name = re.search(r"(\w+)\.v$", file)[1]

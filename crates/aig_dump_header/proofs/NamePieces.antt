@@ -54,7 +54,7 @@ digit_letter Fairness = (omega arith, omega arith)
 -- ---- shown bytes
 -- the test by which a byte becomes `_`
 abbrev is_hidden : ℕ → ℕ → Bool
-is_hidden before b = nat_lt b 33 || (nat_lt 126 b || (before == 46 && b == 36))
+is_hidden before b = nat_lt b 33 || (nat_lt 126 b || (b == 58 || (before == 46 && b == 36)))
 
 abbrev AsShown : ℕ → ℕ → ℕ → Type 0
 AsShown before b s = (s ≡ 95) ⊎ ((s ≡ b) × (33 ≤ b) × (b ≤ 126) × (before ≡ 46 → b ≢ 36))
@@ -62,9 +62,10 @@ AsShown before b s = (s ≡ 95) ⊎ ((s ≡ b) × (33 ≤ b) × (b ≤ 126) × (
 shown_cases : (before b : ℕ) (t : Bool) → is_hidden before b ≡ t → AsShown before b (if t then 95 else b)
 shown_cases before b true e = inl refl
 shown_cases before b false e =
-    let low = or_parts (nat_lt b 33) (nat_lt 126 b || (before == 46 && b == 36)) e in
-    let high = or_parts (nat_lt 126 b) (before == 46 && b == 36) low.1 in
-    inr (refl, ge (cases_lt b 33) low.0, le (cases_lt 126 b) high.0, λ p q. no high.1 p q)
+    let low = or_parts (nat_lt b 33) (nat_lt 126 b || (b == 58 || (before == 46 && b == 36))) e in
+    let high = or_parts (nat_lt 126 b) (b == 58 || (before == 46 && b == 36)) low.1 in
+    let colon = or_parts (b == 58) (before == 46 && b == 36) high.1 in
+    inr (refl, ge (cases_lt b 33) low.0, le (cases_lt 126 b) high.0, λ p q. no colon.1 p q)
   where
     ge : (b < 33) ⊎ (33 ≤ b) → nat_lt b 33 ≡ false → 33 ≤ b
     ge (inl lt) f = absurd (false≢true (sym f ∙ lt-ltb b 33 lt))

@@ -29,9 +29,10 @@ cut_at cut text = slice_split (λ b. b == cut) text
 unfoldable pub words : List ℕ → List (List ℕ)
 words symbol = filter (λ word. nat_lt 0 (length word)) (cut_at 32 symbol)
 
--- white space, control bytes and all that is no ASCII become `_`, and so does a `$` after a dot: no name is a keyword
+-- white space, control bytes and all that is no ASCII become `_`, and so do a `:`, which viewers take for a range of bits,
+-- and a `$` after a dot: no name is a keyword
 abbrev pub shown_byte : ℕ → ℕ → ℕ
-shown_byte before b = if nat_lt b 33 || (nat_lt 126 b || (before == 46 && b == 36)) then 95 else b
+shown_byte before b = if nat_lt b 33 || (nat_lt 126 b || (b == 58 || (before == 46 && b == 36))) then 95 else b
 
 -- the bytes after this one as a name has them
 unfoldable pub shown_after : ℕ → List ℕ → List ℕ

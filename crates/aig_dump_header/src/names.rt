@@ -132,7 +132,7 @@ pub fn first_name(names: Names<'_>) -> Option<FirstName<'_>>
 fn shown_as(before: u8, byte: u8) -> u8
     ensures { result ≡ shown_byte before byte }
 {
-    if byte < 33 || byte > 126 || (before == b'.' && byte == b'$') {
+    if byte < 33 || byte > 126 || byte == b':' || (before == b'.' && byte == b'$') {
         b'_'
     } else {
         byte
