@@ -1,9 +1,11 @@
 -- Rows of cells by literal.
 use Rattle.std.proofs.Common.{◌≡◌, inl, inr, ℕ, zero, suc, ◌+◌, ◌-◌, ◌*◌, ◌/◌, ◌%◌, ◌^◌, ◌<◌, ◌≤◌, List, [], ◌∷◌, ◌++◌, length, map, All, fold, take, drop, get_or, set, refl, sym, ap, ap₂, ◌∙◌, subst, arith}
 use Rattle.std.proofs.Math.Nat.{div-one}
-use Rattle.std.proofs.lemmas.Bool.{cases_eq}
+use Rattle.std.proofs.lemmas.Nat.{and_mask}
+use Rattle.std.specs.Prelude.{nat_eq, if◌then◌else◌}
+use Rattle.std.proofs.lemmas.Bool.{cases_lt, cases_eq}
 use Rattle.std.proofs.lemmas.Grind.{get_or_default_zero}
-use Rattle.std.proofs.lemmas.List.{append_assoc, append-nil, length-set, take_more, take_more_set, take_all, get_or-take, get_or-drop, get_or_default, get_or-set_same, get_or-set_other, get_or-map, ext_get_or}
+use Rattle.std.proofs.lemmas.List.{append_assoc, append-nil, take_more, take_more_set, take_all, get_or-take, get_or-drop, get_or_default, get_or-set_same, get_or-set_other, get_or-map, ext_get_or}
 use Rattle.std.specs.List.{range_with_len}
 use Rattle.std.proofs.lemmas.List.FromFn.{length-map-range_with_len, get_or-map-range_with_len}
 use Rattle.aig_parts.specs.declared.gate.Gate.{Gate}
@@ -16,7 +18,7 @@ use Rattle.aig_values.specs.Codes.{bits_of, code_value, IsCode}
 use Rattle.aig_values.specs.state.LiteralCodes.{by_literal}
 use Rattle.aig_values.specs.state.Words.{bits_at, spelled, value_in, values_of, IsWhole}
 use Rattle.aig_values.proofs.SweepLemmas.{row_more}
-use Rattle.aig_values.proofs.WordBits.{bits_small, cell_before, cells_after, first_of_two, is_code, second_of_two, value_back}
+use Rattle.aig_values.proofs.WordBits.{bits_small, byte_cells, cell_before, cells_after, is_code, value_back}
 use Rattle.aig_values.proofs.WordLemmas.{length-spelled, spelled_at}
 
 pub length-by_literal : (row : List Tern) → length (by_literal row) ≡ 2 * length row
@@ -90,132 +92,83 @@ codes_more words i lt =
     ∙ ap by_literal (spelled-append (take i words) (word ∷ []) ∙ ap (λ (row : List Tern). spelled (take i words) ++ row) (spelled-one word))
     ∙ by_literal-append (spelled (take i words)) (values_of word)
 
-pub length_word_codes : (word : ℕ) → length (by_literal (values_of word)) ≡ 64
+pub length_word_codes : (word : ℕ) → length (by_literal (values_of word)) ≡ 8
 length_word_codes word =
-    length-by_literal (values_of word) ∙ ap (λ (k : ℕ). 2 * k) (length-map-range_with_len (value_in word) 0 32)
+    length-by_literal (values_of word) ∙ ap (λ (k : ℕ). 2 * k) (length-map-range_with_len (value_in word) 0 4)
+
+-- literals with the same sign, of cells with the same value
+same_literal : (row row' : List Tern) (l m : ℕ) → l % 2 ≡ m % 2 → get_or row (l / 2) X ≡ get_or row' (m / 2) X
+    → get_or (by_literal row) l X ≡ get_or (by_literal row') m X
+same_literal row row' l m sign cell =
+    literal_code row l ∙ ap₂ (λ (r : ℕ) (x : Tern). if nat_eq r 0 then x else kleene_not x) sign cell
+    ∙ sym (literal_code row' m)
+
+-- a cell of a word
+value_at : (word place : ℕ) → place < 4 → get_or (values_of word) place X ≡ value_in word place
+value_at word place lt = get_or-map-range_with_len (value_in word) 0 4 place place X lt (omega arith)
+
+-- the code of a cell of a word
+pub cell_code : (word place i : ℕ) → place < 4 → i ≡ 2 * place → get_or (by_literal (values_of word)) i X ≡ value_in word place
+cell_code word place i lt is = even_code (values_of word) place i is ∙ value_at word place lt
+
+-- the code of a literal, by the word of its variable
+pub literal_of_word : (words : List ℕ) (l word : ℕ) (x : Tern) → l < 8 * length words → word ≡ get_or words (l / 8) word
+    → x ≡ get_or (by_literal (values_of word)) (l % 8) X → x ≡ literal_value (spelled words) l
+literal_of_word words l word x lt is x_is =
+    let at : l / 2 / 4 ≡ l / 8 = omega arith in
+    let place : l / 2 % 4 ≡ l % 8 / 2 = omega arith in
+    let cell : get_or (spelled words) (l / 2) X ≡ get_or (values_of word) (l % 8 / 2) X =
+    spelled_at words (l / 2) word (omega arith) ∙ ap (λ (i : ℕ). value_in (get_or words i word) (l / 2 % 4)) at
+    ∙ ap (λ (w : ℕ). value_in w (l / 2 % 4)) (sym is) ∙ ap (value_in word) place
+    ∙ sym (value_at word (l % 8 / 2) (omega arith)) in
+    x_is ∙ sym (same_literal (spelled words) (values_of word) l (l % 8) (omega arith) cell) ∙ literal_code (spelled words) l
 
 -- a list that is filled up to what it is to be
-one_more : (xs ys : List Tern) (n m : ℕ) (y : Tern) → n < length xs → length xs ≡ length ys → m ≡ n + 1
+pub one_more : (xs ys : List Tern) (n m : ℕ) (y : Tern) → n < length xs → length xs ≡ length ys → m ≡ n + 1
     → take n xs ≡ take n ys → y ≡ get_or ys n X → take m (set xs n y) ≡ take m ys
 one_more xs ys n m y lt size next e is =
     rw next (take_more_set xs n y lt ∙ ap (λ (zs : List Tern). zs ++ y ∷ []) e ∙ ap (λ (z : Tern). take n ys ++ z ∷ []) is
     ∙ sym (take_more ys n X (omega arith)))
 
-four_more : (xs ys : List Tern) (n : ℕ) (a b c d : Tern) → n + 3 < length xs → length xs ≡ length ys → take n xs ≡ take n ys
-    → a ≡ get_or ys n X → b ≡ get_or ys (n + 1) X → c ≡ get_or ys (n + 2) X → d ≡ get_or ys (n + 3) X
-    → take (n + 4) (set (set (set (set xs n a) (n + 1) b) (n + 2) c) (n + 3) d) ≡ take (n + 4) ys
-four_more xs ys n a b c d lt size e a_is b_is c_is d_is =
-    let xs1 : List Tern = set xs n a in
-    let xs2 : List Tern = set xs1 (n + 1) b in
-    let xs3 : List Tern = set xs2 (n + 2) c in
-    let n1 : length xs1 ≡ length xs = length-set xs n a in
-    let n2 : length xs2 ≡ length xs1 = length-set xs1 (n + 1) b in
-    let n3 : length xs3 ≡ length xs2 = length-set xs2 (n + 2) c in
-    let e1 : take (n + 1) xs1 ≡ take (n + 1) ys = one_more xs ys n (n + 1) a (omega arith) size refl e a_is in
-    let e2 : take (n + 2) xs2 ≡ take (n + 2) ys =
-    one_more xs1 ys (n + 1) (n + 2) b (omega arith) (omega arith) (omega arith) e1 b_is in
-    let e3 : take (n + 3) xs3 ≡ take (n + 3) ys =
-    one_more xs2 ys (n + 2) (n + 3) c (omega arith) (omega arith) (omega arith) e2 c_is in
-    one_more xs3 ys (n + 3) (n + 4) d (omega arith) (omega arith) (omega arith) e3 d_is
-
--- the cells of all pairs of bits, and a table of their codes
+-- the cells of all words, and a table of their codes
 abbrev cell_of : ℕ → Tern
-cell_of v = code_value (v / 2 / 4 ^ (v % 2) % 4)
+cell_of v = code_value (v / 4 / 2 ^ (2 * (v % 4)) % 4)
 
-unfoldable pub codes_of_pairs : List ℕ
-codes_of_pairs = map bits_of (by_literal (map cell_of (range_with_len 0 32)))
+unfoldable pub codes_of_words : List ℕ
+codes_of_words = map bits_of (by_literal (map cell_of (range_with_len 0 1024)))
 
-module _ (table : List ℕ) (is : table ≡ codes_of_pairs) where
+module _ (table : List ℕ) (is : table ≡ codes_of_words) where
   abbrev cells : List Tern
-  cells = map cell_of (range_with_len 0 32)
+  cells = map cell_of (range_with_len 0 1024)
 
-  table_at : (i : ℕ) → i < 64 → get_or table i 0 ≡ bits_of (get_or (by_literal cells) i X)
-  unfolding codes_of_pairs
+  table_at : (i : ℕ) → i < 2048 → get_or table i 0 ≡ bits_of (get_or (by_literal cells) i X)
+  unfolding codes_of_words
   table_at i lt =
-      let n : length (by_literal cells) ≡ 64 = length-by_literal cells in
+      let n : length (by_literal cells) ≡ 2048 =
+      length-by_literal cells ∙ ap (λ (k : ℕ). 2 * k) (length-map-range_with_len cell_of 0 1024) in
       ap (λ (xs : List ℕ). get_or xs i 0) is ∙ get_or-map bits_of (by_literal cells) i X 0 (omega arith)
 
-  pub table_code : (i : ℕ) → i < 64 → IsCode (get_or table i 0)
+  pub table_code : (i : ℕ) → i < 2048 → IsCode (get_or table i 0)
   table_code i lt = subst IsCode (sym (table_at i lt)) (is_code (get_or (by_literal cells) i X))
 
-  module _ (bits : ℕ) (lt : bits < 16) where
-    first_cell : get_or cells (2 * bits) X ≡ code_value (bits % 4)
-    first_cell =
-        let half : 2 * bits / 2 ≡ bits = omega arith in
-        let even : 2 * bits % 2 ≡ 0 = omega arith in
-        get_or-map-range_with_len cell_of 0 32 (2 * bits) (2 * bits) X (omega arith) (omega arith)
-        ∙ ap code_value
-        (ap (λ (n : ℕ). n / 4 ^ (2 * bits % 2) % 4) half ∙ ap (λ (k : ℕ). bits / 4 ^ k % 4) even
-        ∙ ap (λ (n : ℕ). n % 4) (div-one bits))
+  module _ (word place : ℕ) (small : word < 256) (lt : place < 8) where
+    cell_is : get_or cells ((8 * word + place) / 2) X ≡ get_or (values_of word) (place / 2) X
+    unfolding bits_at
+    cell_is =
+        let v : ℕ = (8 * word + place) / 2 in
+        let word_is : v / 4 ≡ word = omega arith in
+        let place_is : v % 4 ≡ place / 2 = omega arith in
+        get_or-map-range_with_len cell_of 0 1024 v v X (omega arith) (omega arith)
+        ∙ ap₂ (λ (w p : ℕ). code_value (w / 2 ^ (2 * p) % 4)) word_is place_is
+        ∙ ap code_value (sym (and_mask (word / 2 ^ (2 * (place / 2))) 2))
+        ∙ sym (value_at word (place / 2) (omega arith))
 
-    second_cell : get_or cells (2 * bits + 1) X ≡ code_value (bits / 4)
-    second_cell =
-        let half : (2 * bits + 1) / 2 ≡ bits = omega arith in
-        let odd : (2 * bits + 1) % 2 ≡ 1 = omega arith in
-        let small : bits / 4 % 4 ≡ bits / 4 = omega arith in
-        get_or-map-range_with_len cell_of 0 32 (2 * bits + 1) (2 * bits + 1) X (omega arith) (omega arith)
-        ∙ ap code_value
-        (ap (λ (n : ℕ). n / 4 ^ ((2 * bits + 1) % 2) % 4) half ∙ ap (λ (k : ℕ). bits / 4 ^ k % 4) odd ∙ small)
-
-    pub four_in_table : (a b c d : Tern) → a ≡ code_value (get_or table (4 * bits) 0) → b ≡ code_value (get_or table (4 * bits + 1) 0)
-        → c ≡ code_value (get_or table (4 * bits + 2) 0) → d ≡ code_value (get_or table (4 * bits + 3) 0)
-        → a ∷ b ∷ c ∷ d ∷ [] ≡ by_literal (code_value (bits % 4) ∷ code_value (bits / 4) ∷ [])
-    unfolding by_literal
-    four_in_table a b c d a_is b_is c_is d_is =
-        let read : (i : ℕ) → i < 64 → code_value (get_or table i 0) ≡ get_or (by_literal cells) i X =
-        λ i below. ap code_value (table_at i below) ∙ value_back (get_or (by_literal cells) i X) in
-        let a' = a_is ∙ read (4 * bits) (omega arith) ∙ even_code cells (2 * bits) (4 * bits) (omega arith) ∙ first_cell in
-        let b' = b_is ∙ read (4 * bits + 1) (omega arith) ∙ odd_code cells (2 * bits) (4 * bits + 1) (omega arith)
-        ∙ ap kleene_not first_cell in
-        let c' = c_is ∙ read (4 * bits + 2) (omega arith) ∙ even_code cells (2 * bits + 1) (4 * bits + 2) (omega arith)
-        ∙ second_cell in
-        let d' = d_is ∙ read (4 * bits + 3) (omega arith) ∙ odd_code cells (2 * bits + 1) (4 * bits + 3) (omega arith)
-        ∙ ap kleene_not second_cell in
-        rw (a', b', c', d') refl
-
--- the codes of two cells of a word more
-module _ (word pair rest : ℕ) (is : rest ≡ word / 2 ^ (4 * pair)) (lt : pair < 16) where
-  value_at : (place : ℕ) → place < 32 → get_or (values_of word) place X ≡ value_in word place
-  value_at place below = get_or-map-range_with_len (value_in word) 0 32 place place X below (omega arith)
-
-  first_value : code_value (rest % 16 % 4) ≡ get_or (values_of word) (2 * pair) X
-  first_value = ap code_value (first_of_two word pair rest is) ∙ sym (value_at (2 * pair) (omega arith))
-
-  second_value : code_value (rest % 16 / 4) ≡ get_or (values_of word) (2 * pair + 1) X
-  second_value = ap code_value (second_of_two word pair rest is) ∙ sym (value_at (2 * pair + 1) (omega arith))
-
-  pub next_codes : (codes four : List Tern) (a b c d : Tern) → length codes ≡ 64
-      → take (4 * pair) codes ≡ take (4 * pair) (by_literal (values_of word))
-      → four ≡ by_literal (code_value (rest % 16 % 4) ∷ code_value (rest % 16 / 4) ∷ [])
-      → take (4 * (pair + 1))
-      (set (set (set (set codes (4 * pair) (get_or four 0 a)) (4 * pair + 1) (get_or four 1 b)) (4 * pair + 2)
-      (get_or four 2 c)) (4 * pair + 3) (get_or four 3 d))
-      ≡ take (4 * (pair + 1)) (by_literal (values_of word))
-  unfolding by_literal
-  next_codes codes four a b c d size e is_four =
-      let row : List Tern = values_of word in
-      let ys : List Tern = by_literal row in
-      let n : length ys ≡ 64 = length_word_codes word in
-      let v0 : get_or four 0 a ≡ get_or ys (4 * pair) X =
-      ap (λ (xs : List Tern). get_or xs 0 a) is_four ∙ first_value ∙ sym (even_code row (2 * pair) (4 * pair) (omega arith)) in
-      let v1 : get_or four 1 b ≡ get_or ys (4 * pair + 1) X =
-      ap (λ (xs : List Tern). get_or xs 1 b) is_four ∙ ap kleene_not first_value
-      ∙ sym (odd_code row (2 * pair) (4 * pair + 1) (omega arith)) in
-      let v2 : get_or four 2 c ≡ get_or ys (4 * pair + 2) X =
-      ap (λ (xs : List Tern). get_or xs 2 c) is_four ∙ second_value
-      ∙ sym (even_code row (2 * pair + 1) (4 * pair + 2) (omega arith)) in
-      let v3 : get_or four 3 d ≡ get_or ys (4 * pair + 3) X =
-      ap (λ (xs : List Tern). get_or xs 3 d) is_four ∙ ap kleene_not second_value
-      ∙ sym (odd_code row (2 * pair + 1) (4 * pair + 3) (omega arith)) in
-      let more : 4 * (pair + 1) ≡ 4 * pair + 4 = omega arith in
-      rw more (four_more codes ys (4 * pair) _ _ _ _ (omega arith) (size ∙ sym n) e v0 v1 v2 v3)
-
--- all codes of a word
-pub all_codes : (codes : List Tern) (word pair : ℕ) → length codes ≡ 64 → 16 ≤ pair
-    → take (4 * pair) codes ≡ take (4 * pair) (by_literal (values_of word)) → codes ≡ by_literal (values_of word)
-all_codes codes word pair size le e =
-    let n : length (by_literal (values_of word)) ≡ 64 = length_word_codes word in
-    sym (take_all (4 * pair) codes (omega arith)) ∙ e ∙ take_all (4 * pair) (by_literal (values_of word)) (omega arith)
+    pub code_in_table : (x : Tern) → x ≡ code_value (get_or table (8 * word + place) 0)
+        → x ≡ get_or (by_literal (values_of word)) place X
+    code_in_table x x_is =
+        x_is ∙ ap code_value (table_at (8 * word + place) (omega arith))
+        ∙ value_back (get_or (by_literal cells) (8 * word + place) X)
+        ∙ same_literal cells (values_of word) (8 * word + place) place (omega arith) cell_is
 
 -- the code that is read of a literal
 pub code_read : (codes row : List Tern) (l : ℕ) (x : Tern) → codes ≡ by_literal row → l < length codes → x ≡ get_or codes l x
@@ -236,55 +189,96 @@ codes_after row codes gates i g v x y z lt is e lt0 lt1 y_is z_is v_is x_is =
     ∙ set_codes now v (2 * v) (2 * v + 1) x refl refl
     ∙ ap by_literal (ap₂ (set now) v_is value ∙ row_more row gates i g lt is)
 
--- the bits of one cell more, as a word is put together from its last cell on
-pub packed_cell : (codes : List Tern) (word place : ℕ) (x : Tern) → place < 32 → length codes ≡ 64
-    → x ≡ get_or codes (62 - 2 * place) x
-    → ((q : ℕ) → q < place → bits_at word q ≡ bits_of (get_or codes (64 - 2 * place + 2 * q) X))
-    → (q : ℕ) → q < place + 1 → bits_at (4 * word + bits_of x) q ≡ bits_of (get_or codes (64 - 2 * (place + 1) + 2 * q) X)
-packed_cell codes word place x lt size is cells zero last =
-    let i : 62 - 2 * place ≡ 64 - 2 * (place + 1) + 2 * 0 = omega arith in
-    cell_before word (bits_of x) (bits_small x)
-    ∙ ap bits_of (is ∙ get_or_default codes (62 - 2 * place) x X (omega arith) ∙ ap (λ (j : ℕ). get_or codes j X) i)
-packed_cell codes word place x lt size is cells (suc q) last =
-    let i : 64 - 2 * place + 2 * q ≡ 64 - 2 * (place + 1) + 2 * suc q = omega arith in
-    cells_after word (bits_of x) (bits_small x) q ∙ cells q (omega arith) ∙ ap (λ (j : ℕ). bits_of (get_or codes j X)) i
+-- all codes of a word
+pub all_codes : (codes : List Tern) (word place : ℕ) → length codes ≡ 8 → 8 ≤ place
+    → take place codes ≡ take place (by_literal (values_of word)) → codes ≡ by_literal (values_of word)
+all_codes codes word place size le e =
+    let n : length (by_literal (values_of word)) ≡ 8 = length_word_codes word in
+    sym (take_all place codes (omega arith)) ∙ e ∙ take_all place (by_literal (values_of word)) (omega arith)
+
+-- the bits of one cell more, as words are put together from their last cell on
+pub packed_cell : (codes : List Tern) (bits place cells : ℕ) (x : Tern) → place < cells → 2 * cells ≤ length codes
+    → x ≡ get_or codes (2 * (cells - 1 - place)) x
+    → ((q : ℕ) → q < place → bits_at bits q ≡ bits_of (get_or codes (2 * (cells - place + q)) X))
+    → (q : ℕ) → q < place + 1 → bits_at (4 * bits + bits_of x) q ≡ bits_of (get_or codes (2 * (cells - (place + 1) + q)) X)
+packed_cell codes bits place cells x lt size is before zero last =
+    let i : 2 * (cells - 1 - place) ≡ 2 * (cells - (place + 1) + 0) = omega arith in
+    cell_before bits (bits_of x) (bits_small x)
+    ∙ ap bits_of (is ∙ get_or_default codes (2 * (cells - 1 - place)) x X (omega arith) ∙ ap (λ (j : ℕ). get_or codes j X) i)
+packed_cell codes bits place cells x lt size is before (suc q) last =
+    let i : 2 * (cells - place + q) ≡ 2 * (cells - (place + 1) + suc q) = omega arith in
+    cells_after bits (bits_of x) (bits_small x) q ∙ before q (omega arith) ∙ ap (λ (j : ℕ). bits_of (get_or codes j X)) i
 
 -- the cells of the words that were packed so far are those of the codes
 pub record ArePacked (words : List ℕ) (codes : List Tern) (n : ℕ) : Type 0 where
   pub whole : (k : ℕ) → k < n → IsWhole (get_or words k 0)
-  pub cells : (k place : ℕ) → k < n → place < 32 → value_in (get_or words k 0) place ≡ get_or codes (64 * k + 2 * place) X
+  pub cells : (k place : ℕ) → k < n → place < 4 → value_in (get_or words k 0) place ≡ get_or codes (8 * k + 2 * place) X
 
-pub packed_more : (words : List ℕ) (codes part : List Tern) (n word : ℕ) → ArePacked words codes n → n < length words
-    → IsWhole word → ((place : ℕ) → place < 32 → value_in word place ≡ get_or part (2 * place) X)
-    → part ≡ take (64 * n + 64 - 64 * n) (drop (64 * n) codes) → ArePacked (set words n word) codes (n + 1)
-packed_more words codes part n word h lt whole cells is =
-    let here : get_or (set words n word) n 0 ≡ word = get_or-set_same words n word 0 lt in
-    let same : 64 * n + 64 - 64 * n ≡ 64 = omega arith in
-    record {
-      whole = λ k below. elim (cases_eq k n) [
-        | inl e ↦ subst (λ (w : ℕ). IsWhole w) (sym (ap (λ (j : ℕ). get_or (set words n word) j 0) e ∙ here)) whole
-        | inr ne ↦ subst (λ (w : ℕ). IsWhole w) (sym (get_or-set_other words n k word 0 ne)) (h.whole k (omega arith))
-      ];
-      cells = λ k place below small. elim (cases_eq k n) [
-        | inl e ↦
-            ap (λ (j : ℕ). value_in (get_or (set words n word) j 0) place) e ∙ ap (λ (w : ℕ). value_in w place) here
-            ∙ cells place small ∙ ap (λ (xs : List Tern). get_or xs (2 * place) X) is
-            ∙ get_or-take (64 * n + 64 - 64 * n) (drop (64 * n) codes) (2 * place) X (omega arith)
-            ∙ get_or-drop (64 * n) codes (2 * place) X
-            ∙ ap (λ (j : ℕ). get_or codes (64 * j + 2 * place) X) (sym e)
-        | inr ne ↦ ap (λ (w : ℕ). value_in w place) (get_or-set_other words n k word 0 ne) ∙ h.cells k place (omega arith) small
-      ];
-    }
+-- some words more, which have the bits of the codes after those
+module _ (words new : List ℕ) (codes part : List Tern) (n count bits : ℕ) (h : ArePacked words codes n)
+    (there : (k : ℕ) → k < count → get_or new (n + k) 0 ≡ bits / 2 ^ (8 * k) % 256)
+    (before : (k : ℕ) → k < n → get_or new k 0 ≡ get_or words k 0)
+    (is : part ≡ take (8 * n + 8 * count - 8 * n) (drop (8 * n) codes)) (size : length part ≡ 8 * count)
+    (are : (q : ℕ) → q < length part / 2 → bits_at bits q ≡ bits_of (get_or part (2 * q) X)) where
+  bits_are : (k place : ℕ) → k < count → place < 4 → bits_at (get_or new (n + k) 0) place ≡ bits_of (get_or part (2 * (4 * k + place)) X)
+  bits_are k place lt small =
+      ap (λ (w : ℕ). bits_at w place) (there k lt) ∙ byte_cells bits k place small ∙ are (4 * k + place) (omega arith)
+
+  code_is : (k place : ℕ) → k < count → place < 4
+      → get_or part (2 * (4 * k + place)) X ≡ get_or codes (8 * (n + k) + 2 * place) X
+  code_is k place lt small =
+      let i : 8 * n + 2 * (4 * k + place) ≡ 8 * (n + k) + 2 * place = omega arith in
+      ap (λ (xs : List Tern). get_or xs (2 * (4 * k + place)) X) is
+      ∙ get_or-take (8 * n + 8 * count - 8 * n) (drop (8 * n) codes) (2 * (4 * k + place)) X (omega arith)
+      ∙ get_or-drop (8 * n) codes (2 * (4 * k + place)) X ∙ ap (λ (j : ℕ). get_or codes j X) i
+
+  whole_there : (k : ℕ) → k < count → IsWhole (get_or new (n + k) 0)
+  whole_there k lt place small = subst IsCode (sym (bits_are k place lt small)) (is_code (get_or part (2 * (4 * k + place)) X))
+
+  cell_there : (k place : ℕ) → k < count → place < 4
+      → value_in (get_or new (n + k) 0) place ≡ get_or codes (8 * (n + k) + 2 * place) X
+  cell_there k place lt small =
+      ap code_value (bits_are k place lt small) ∙ value_back (get_or part (2 * (4 * k + place)) X) ∙ code_is k place lt small
+
+  pub packed_more : ArePacked new codes (n + count)
+  packed_more = record {
+    whole = λ k below. elim (cases_lt k n) [
+      | inl lt ↦ subst (λ (w : ℕ). IsWhole w) (sym (before k lt)) (h.whole k lt)
+      | inr le ↦
+          let back : n + (k - n) ≡ k = omega arith in
+          subst (λ (i : ℕ). IsWhole (get_or new i 0)) back (whole_there (k - n) (omega arith))
+    ];
+    cells = λ k place below small. elim (cases_lt k n) [
+      | inl lt ↦ ap (λ (w : ℕ). value_in w place) (before k lt) ∙ h.cells k place lt small
+      | inr le ↦
+          let back : n + (k - n) ≡ k = omega arith in
+          subst (λ (i : ℕ). value_in (get_or new i 0) place ≡ get_or codes (8 * i + 2 * place) X) back
+          (cell_there (k - n) place (omega arith) small)
+    ];
+  }
+
+-- one word more
+pub packed_word : (words : List ℕ) (codes part : List Tern) (n bits word : ℕ) → ArePacked words codes n → n < length words
+    → word ≡ bits % 256 → part ≡ take (8 * n + 8 * 1 - 8 * n) (drop (8 * n) codes) → length part ≡ 8 * 1
+    → ((q : ℕ) → q < length part / 2 → bits_at bits q ≡ bits_of (get_or part (2 * q) X)) → ArePacked (set words n word) codes (n + 1)
+packed_word words codes part n bits word h lt word_is is size are =
+    packed_more words (set words n word) codes part n 1 bits h
+    (λ k below.
+    let here : n + k ≡ n = omega arith in
+    let none : 8 * k ≡ 0 = omega arith in
+    ap (λ (i : ℕ). get_or (set words n word) i 0) here ∙ get_or-set_same words n word 0 lt ∙ word_is
+    ∙ ap (λ (m : ℕ). m % 256) (sym (div-one bits) ∙ ap (λ (j : ℕ). bits / 2 ^ j) (sym none)))
+    (λ k below. get_or-set_other words n k word 0 (λ e. omega arith)) is size are
 
 module _ (words : List ℕ) (codes : List Tern) (n : ℕ) (h : ArePacked words codes n) (all : length words ≤ n) where
   pub packed_whole : All IsWhole words
   packed_whole k d lt = subst (λ (w : ℕ). IsWhole w) (sym (get_or_default_zero words k d lt)) (h.whole k (omega arith))
 
-  pub packed_row : (row : List Tern) → length codes ≡ 64 * length words → codes ≡ by_literal row → spelled words ≡ row
+  pub packed_row : (row : List Tern) → length codes ≡ 8 * length words → codes ≡ by_literal row → spelled words ≡ row
   packed_row row size e =
-      let wide : length row ≡ 32 * length words = omega (arith, length-by_literal row, ap length e) in
+      let wide : length row ≡ 4 * length words = omega (arith, length-by_literal row, ap length e) in
       ext_get_or X (spelled words) row (length-spelled words ∙ sym wide) (λ v lt.
-      let within : v < 32 * length words = omega (arith, length-spelled words) in
-      let place : 64 * (v / 32) + 2 * (v % 32) ≡ 2 * v = omega arith in
-      spelled_at words v 0 within ∙ h.cells (v / 32) (v % 32) (omega arith) (omega arith)
+      let within : v < 4 * length words = omega (arith, length-spelled words) in
+      let place : 8 * (v / 4) + 2 * (v % 4) ≡ 2 * v = omega arith in
+      spelled_at words v 0 within ∙ h.cells (v / 4) (v % 4) (omega arith) (omega arith)
       ∙ ap (λ (i : ℕ). get_or codes i X) place ∙ ap (λ (cs : List Tern). get_or cs (2 * v) X) e ∙ even_code row v (2 * v) refl)

@@ -1,5 +1,5 @@
 -- Rows with room for more than n cells, seen as rows of n.
-use Rattle.std.proofs.Common.{◌≡◌, inl, inr, ℕ, suc, zero, ◌+◌, ◌-◌, ◌*◌, ◌/◌, ◌<◌, ◌≤◌, Bool, true, List, [], ◌∷◌, ◌++◌, Some, slice_get, length, map, replicate, take, drop, nat_lt, All, get_or, set, refl, sym, ap, ◌∙◌, subst, arith, get_or-set_other, length-append}
+use Rattle.std.proofs.Common.{◌≡◌, inl, inr, ℕ, suc, zero, ◌+◌, ◌-◌, ◌<◌, ◌≤◌, Bool, true, List, [], ◌∷◌, ◌++◌, Some, slice_get, length, map, replicate, take, drop, nat_lt, All, get_or, set, refl, sym, ap, ◌∙◌, subst, arith, get_or-set_other, length-append}
 use Rattle.std.proofs.Math.Seq.{take-set-lt}
 use Rattle.std.proofs.lemmas.Bool.{cases_eq}
 use Rattle.std.proofs.lemmas.Bool.Decides.{nat_tests}
@@ -137,10 +137,6 @@ first_padded n room flags rows k are =
       each = λ t d lt.
           subst (IsPadded n room) (sym (get_or-take k rows t d (omega arith))) (are.each t d (omega arith));
     }
-
--- words of 32 cells
-pub words_suffice : (n : ℕ) → n ≤ 32 * ((n + 31) / 32)
-words_suffice n = omega arith
 
 -- one more row of m cells
 module _ (n room m : ℕ) (flags : List Bool) (rows : List (List Tern)) (are : ArePadded n room flags rows) (le : room ≤ m) where

@@ -1,9 +1,9 @@
 -- The two bits at a place of a word.
-use Rattle.std.proofs.Common.{◌≡◌, ◌≢◌, inl, inr, ℕ, zero, suc, ◌+◌, ◌-◌, ◌*◌, ◌/◌, ◌%◌, ◌^◌, ◌<◌, ◌≤◌, min, max, bit_and, bit_or, w64, refl, sym, ap, ◌∙◌, subst, arith}
+use Rattle.std.proofs.Common.{◌≡◌, ◌≢◌, inl, inr, ℕ, zero, suc, ◌+◌, ◌-◌, ◌*◌, ◌/◌, ◌%◌, ◌^◌, ◌<◌, ◌≤◌, bit_xor, refl, sym, ap, ◌∙◌, subst, arith}
 use Rattle.std.proofs.Math.Nat.{div-one, div-div-eq-div-mul, pow-le-pow_right}
 use Rattle.std.proofs.lemmas.Bool.{cases_lt, cases_eq}
-use Rattle.std.proofs.lemmas.Nat.{and_mask, shr-shr, pow_pos, pow-add, shl_whole}
-use Rattle.std.proofs.lemmas.Nat.Bits.{bit_at_and, bit_at_or, bit_at_not, bit_at_cat_low, bit_at_cat_high, bit_at_above, bit_at-zero}
+use Rattle.std.proofs.lemmas.Nat.{and_mask, shr-shr, pow_pos, pow-add, shl_whole, xor_lt}
+use Rattle.std.proofs.lemmas.Nat.Bits.{bit_at_xor, bit_at_cat_low, bit_at_cat_high, bit_at_above, bit_at-zero, bit_at-lt}
 use Rattle.std.specs.Int.{bit_at}
 use Rattle.aig_parts.specs.declared.ternary.Tern.{Tern}
 use Rattle.aig_parts.specs.declared.ternary.Tern.TheVariants.{Zero, One, X}
@@ -18,16 +18,16 @@ same_bits : (a b place : ℕ) → bit_at a (2 * place) ≡ bit_at b (2 * place) 
     → bits_at a place ≡ bits_at b place
 same_bits a b place low high = omega (arith, two_bits a place, two_bits b place)
 
--- bits that were moved up to a place, among 64
+-- bits that were moved up to a place, in a byte
 abbrev moved : ℕ → ℕ → ℕ
-moved bits place = bits * 2 ^ (2 * place) % 18446744073709551616
+moved bits place = bits * 2 ^ (2 * place) % 256
 
-module _ (bits place : ℕ) (small : bits < 4) (within : place < 32) where
-  fits : moved bits place < 18446744073709551616
+module _ (bits place : ℕ) (small : bits < 4) (within : place < 4) where
+  fits : moved bits place < 256
   fits = omega arith
 
   moved_is : moved bits place ≡ bits * 2 ^ (2 * place) + 0
-  moved_is = let whole = shl_whole bits 2 (2 * place) 64 small (omega arith) in omega (arith, whole)
+  moved_is = let whole = shl_whole bits 2 (2 * place) 8 small (omega arith) in omega (arith, whole)
 
   below : (i : ℕ) → i < 2 * place → bit_at (moved bits place) i ≡ 0
   below i lt = ap (λ n. bit_at n i) moved_is ∙ bit_at_cat_low bits (2 * place) 0 i lt ∙ bit_at-zero i
@@ -47,47 +47,66 @@ module _ (bits place : ℕ) (small : bits < 4) (within : place < 32) where
     | inr le ↦ above i (omega arith)
   ]
 
--- the word with bits at a place, as the code computes it
-abbrev pub written : ℕ → ℕ → ℕ → ℕ
-written word place bits = bit_or (bit_and word (18446744073709551615 - moved 3 place)) (moved bits place)
+-- the word with bits changed at a place, as the code computes it
+abbrev changed : ℕ → ℕ → ℕ → ℕ → ℕ
+changed word place old bits = bit_xor word (moved (bit_xor old bits) place)
 
-module _ (word place bits : ℕ) (small : bits < 4) (within : place < 32) where
-  written_bit : (i : ℕ) → i < 64
-      → bit_at (written word place bits) i ≡ max (min (bit_at word i) (1 - bit_at (moved 3 place) i)) (bit_at (moved bits place) i)
-  written_bit i lt =
-      bit_at_or (bit_and word (18446744073709551615 - moved 3 place)) (moved bits place) i
-      ∙ ap (λ b. max b (bit_at (moved bits place) i))
-      (bit_at_and word (18446744073709551615 - moved 3 place) i
-      ∙ ap (min (bit_at word i)) (bit_at_not w64 (moved 3 place) i (fits 3 place (omega arith) within) lt))
+module _ (word place old bits : ℕ) (old_is : old ≡ bits_at word place) (small : bits < 4) (within : place < 4) where
+  old_small : old < 4
+  unfolding bits_at
+  old_small = omega (arith, old_is, and_mask (word / 2 ^ (2 * place)) 2)
 
-  new_bit : (i k : ℕ) → i ≡ 2 * place + k → k < 2 → bit_at 3 k ≡ 1 → bit_at (written word place bits) i ≡ bit_at bits k
-  new_bit i k e lt one =
-      omega (arith, written_bit i (omega arith), from 3 place (omega arith) within i k e, from bits place small within i k e)
+  change_small : bit_xor old bits < 4
+  change_small = xor_lt 2 old bits old_small small
 
-  old_bit : (i : ℕ) → i < 64 → i ≢ 2 * place → i ≢ 2 * place + 1 → bit_at (written word place bits) i ≡ bit_at word i
-  old_bit i lt ne ne' =
-      omega (arith, written_bit i lt, apart 3 place (omega arith) within i ne ne', apart bits place small within i ne ne')
+  changed_bit : (i : ℕ) → bit_at (changed word place old bits) i
+      ≡ (bit_at word i + bit_at (moved (bit_xor old bits) place) i) % 2
+  changed_bit i = bit_at_xor word (moved (bit_xor old bits) place) i
 
-  pub written_there : bits_at (written word place bits) place ≡ bits
-  written_there =
+  old_bit : (i k : ℕ) → i ≡ 2 * place + k → k < 2 → bit_at old k ≡ bit_at word i
+  old_bit i zero e lt =
+      let j : i ≡ 2 * place = omega arith in
+      omega (arith, old_is, two_bits word place, bit_at-lt word (2 * place), bit_at-lt word (2 * place + 1), ap (bit_at word) j)
+  old_bit i (suc zero) e lt =
+      let j : i ≡ 2 * place + 1 = omega arith in
+      omega (arith, old_is, two_bits word place, bit_at-lt word (2 * place), bit_at-lt word (2 * place + 1), ap (bit_at word) j)
+  old_bit i (suc (suc k)) e lt = absurd (omega arith)
+
+  new_bit : (i k : ℕ) → i ≡ 2 * place + k → k < 2 → bit_at (changed word place old bits) i ≡ bit_at bits k
+  new_bit i k e lt =
       omega (
         arith,
-        two_bits (written word place bits) place,
-        new_bit (2 * place) 0 (omega arith) (omega arith) refl,
-        new_bit (2 * place + 1) 1 refl (omega arith) refl,
+        changed_bit i,
+        from (bit_xor old bits) place change_small within i k e,
+        bit_at_xor old bits k,
+        old_bit i k e lt,
+        bit_at-lt word i,
+        bit_at-lt bits k,
       )
 
-  pub written_elsewhere : (other : ℕ) → other < 32 → other ≢ place → bits_at (written word place bits) other ≡ bits_at word other
-  written_elsewhere other lt ne =
-      same_bits (written word place bits) word other
-      (old_bit (2 * other) (omega arith) (λ e. ne (omega arith)) (λ e. ne (omega arith)))
-      (old_bit (2 * other + 1) (omega arith) (λ e. ne (omega arith)) (λ e. ne (omega arith)))
+  kept_bit : (i : ℕ) → i ≢ 2 * place → i ≢ 2 * place + 1 → bit_at (changed word place old bits) i ≡ bit_at word i
+  kept_bit i ne ne' =
+      omega (arith, changed_bit i, apart (bit_xor old bits) place change_small within i ne ne', bit_at-lt word i)
 
-  pub written_whole : IsCode bits → IsWhole word → IsWhole (written word place bits)
-  written_whole code whole other lt = elim (cases_eq other place) [
-    | inl e ↦ subst (λ (p : ℕ). IsCode (bits_at (written word place bits) p)) (sym e)
-        (subst IsCode (sym written_there) code)
-    | inr ne ↦ subst IsCode (sym (written_elsewhere other lt ne)) (whole other lt)
+  pub changed_there : bits_at (changed word place old bits) place ≡ bits
+  changed_there =
+      omega (
+        arith,
+        two_bits (changed word place old bits) place,
+        new_bit (2 * place) 0 (omega arith) (omega arith),
+        new_bit (2 * place + 1) 1 refl (omega arith),
+      )
+
+  pub changed_elsewhere : (other : ℕ) → other ≢ place → bits_at (changed word place old bits) other ≡ bits_at word other
+  changed_elsewhere other ne =
+      same_bits (changed word place old bits) word other (kept_bit (2 * other) (λ e. ne (omega arith)) (λ e. ne (omega arith)))
+      (kept_bit (2 * other + 1) (λ e. ne (omega arith)) (λ e. ne (omega arith)))
+
+  pub changed_whole : IsCode bits → IsWhole word → IsWhole (changed word place old bits)
+  changed_whole code whole other lt = elim (cases_eq other place) [
+    | inl e ↦ subst (λ (p : ℕ). IsCode (bits_at (changed word place old bits) p)) (sym e)
+        (subst IsCode (sym changed_there) code)
+    | inr ne ↦ subst IsCode (sym (changed_elsewhere other ne)) (whole other lt)
   ]
 
 -- the bits of a value
@@ -104,7 +123,19 @@ value_back X = refl
 pub is_code : (x : Tern) → IsCode (bits_of x)
 is_code x = ap bits_of (value_back x)
 
--- a word of 01, 32 times, is a third of all ones
+-- values that do not differ
+pub same_value : (x y : Tern) → (x ≢ y → ⊥) → x ≡ y
+same_value Zero Zero same = refl
+same_value Zero One same = absurd (same (λ e. omega (arith, ap bits_of e)))
+same_value Zero X same = absurd (same (λ e. omega (arith, ap bits_of e)))
+same_value One Zero same = absurd (same (λ e. omega (arith, ap bits_of e)))
+same_value One One same = refl
+same_value One X same = absurd (same (λ e. omega (arith, ap bits_of e)))
+same_value X Zero same = absurd (same (λ e. omega (arith, ap bits_of e)))
+same_value X One same = absurd (same (λ e. omega (arith, ap bits_of e)))
+same_value X X same = refl
+
+-- a word of 01 at each place is a third of all ones
 four_times : (k : ℕ) → 2 ^ (2 * suc k) ≡ 4 * 2 ^ (2 * k)
 four_times k = let e : 2 * suc k ≡ 2 + 2 * k = omega arith in ap (λ (i : ℕ). 2 ^ i) e ∙ pow-add 2 2 (2 * k)
 
@@ -116,34 +147,32 @@ third n (suc place) (suc k) lt e =
     ap (λ (d : ℕ). n / d % 4) (four_times place) ∙ ap (λ (m : ℕ). m % 4) (sym (div-div-eq-div-mul n 4 (2 ^ (2 * place))))
     ∙ third (n / 4) place k (omega arith) less
 
-pub unknown_bits : (place : ℕ) → place < 32 → bits_at 6148914691236517205 place ≡ 1
+pub unknown_bits : (place : ℕ) → place < 4 → bits_at 85 place ≡ 1
 unfolding bits_at
 unknown_bits place lt =
-    and_mask (6148914691236517205 / 2 ^ (2 * place)) 2 ∙ third 6148914691236517205 place 32 lt refl
+    and_mask (85 / 2 ^ (2 * place)) 2 ∙ third 85 place 4 lt refl
 
--- two cells side by side, when so many pairs before them were taken off
-module _ (word pair rest : ℕ) (is : rest ≡ word / 2 ^ (4 * pair)) where
-  pub first_of_two : rest % 16 % 4 ≡ bits_at word (2 * pair)
-  unfolding bits_at
-  first_of_two =
-      let twice : 2 * (2 * pair) ≡ 4 * pair = omega arith in
-      omega (arith, and_mask (word / 2 ^ (2 * (2 * pair))) 2, ap (λ (k : ℕ). word / 2 ^ k) twice)
+low_cells : (n place : ℕ) → place < 4 → n % 256 / 2 ^ (2 * place) % 4 ≡ n / 2 ^ (2 * place) % 4
+low_cells n zero lt = omega (arith, div-one (n % 256), div-one n)
+low_cells n (suc zero) lt = omega arith
+low_cells n (suc (suc zero)) lt = omega arith
+low_cells n (suc (suc (suc zero))) lt = omega arith
+low_cells n (suc (suc (suc (suc k)))) lt = absurd (omega arith)
 
-  pub second_of_two : rest % 16 / 4 ≡ bits_at word (2 * pair + 1)
-  unfolding bits_at
-  second_of_two =
-      let twice : 2 * (2 * pair + 1) ≡ 4 * pair + 2 = omega arith in
-      omega (
-        arith,
-        and_mask (word / 2 ^ (2 * (2 * pair + 1))) 2,
-        ap (λ (k : ℕ). word / 2 ^ k) twice,
-        shr-shr word (4 * pair) 2,
-      )
+-- the cells of a byte of a word are those of the word from its own place on
+pub byte_cells : (bits k place : ℕ) → place < 4 → bits_at (bits / 2 ^ (8 * k) % 256) place ≡ bits_at bits (4 * k + place)
+unfolding bits_at
+byte_cells bits k place lt =
+    let rest : ℕ = bits / 2 ^ (8 * k) in
+    let more : 2 * (4 * k + place) ≡ 8 * k + 2 * place = omega arith in
+    and_mask (rest % 256 / 2 ^ (2 * place)) 2 ∙ low_cells rest place lt
+    ∙ ap (λ (n : ℕ). n % 4) (shr-shr bits (8 * k) (2 * place) ∙ ap (λ (j : ℕ). bits / 2 ^ j) (sym more))
+    ∙ sym (and_mask (bits / 2 ^ (2 * (4 * k + place))) 2)
 
-  pub rest_of_pairs : rest / 16 ≡ word / 2 ^ (4 * (pair + 1))
-  rest_of_pairs =
-      let more : 4 * (pair + 1) ≡ 4 * pair + 4 = omega arith in
-      omega (arith, ap (λ (k : ℕ). word / 2 ^ k) more, shr-shr word (4 * pair) 4)
+pub rest_of_bytes : (bits k rest : ℕ) → rest ≡ bits / 2 ^ (8 * k) → rest / 256 ≡ bits / 2 ^ (8 * (k + 1))
+rest_of_bytes bits k rest is =
+    let more : 8 * (k + 1) ≡ 8 * k + 8 = omega arith in
+    omega (arith, ap (λ (j : ℕ). bits / 2 ^ j) more, shr-shr bits (8 * k) 8)
 
 -- a word with one cell more before the others
 module _ (word bits : ℕ) (small : bits < 4) where

@@ -1,68 +1,110 @@
 -- Characters of cells, word by word.
-use Rattle.std.proofs.Common.{◌≡◌, inl, inr, ℕ, ◌+◌, ◌-◌, ◌*◌, ◌/◌, ◌%◌, ◌^◌, ◌<◌, ◌≤◌, List, ◌++◌, length, take, drop, get_or, set, bit_and, sym, ap, ◌∙◌, below_more, get_or-set_other, get_or-set_same, arith}
+use Rattle.std.proofs.Common.{◌≡◌, inl, inr, ℕ, zero, suc, ◌+◌, ◌-◌, ◌*◌, ◌/◌, ◌%◌, ◌^◌, ◌<◌, ◌≤◌, List, length, map, get_or, set, refl, sym, ap, ap₂, ◌∙◌, below_more, get_or-set_other, get_or-set_same, arith}
+use Rattle.std.specs.List.{range_with_len}
 use Rattle.std.proofs.lemmas.Bool.{cases_lt}
-use Rattle.std.proofs.lemmas.List.{get_or-append_right, get_or-take, get_or_append_left, length-append, length-drop, length-take-le}
-use Rattle.std.proofs.lemmas.Nat.{shr-shr}
-use borrow.Rule.Slice.PartMut.{put_mid, post_of}
+use Rattle.std.proofs.lemmas.List.{length-set}
+use Rattle.std.proofs.lemmas.List.FromFn.{get_or-map-range_with_len}
+use Rattle.std.proofs.lemmas.Nat.{and_mask}
 use Rattle.aig_parts.specs.declared.ternary.Tern.TheVariants.{X}
 use Rattle.aig_values.specs.Characters.{character}
+use Rattle.aig_values.specs.Codes.{code_value}
 use Rattle.aig_values.specs.state.Words.{bits_at, spelled, value_in}
-use Rattle.aig_values.proofs.WordLemmas.{spelled_at}
+use Rattle.aig_values.proofs.WordLemmas.{filled_more, spelled_at}
 
--- what is left of a word, when so many cells were taken off
-module _ (word k rest : ℕ) (is : rest ≡ word / 2 ^ (2 * k)) where
-  pub first_bits : bit_and rest 3 ≡ bits_at word k
+-- a table of the characters of two cells side by side, by their four bits
+abbrev character_of : ℕ → ℕ → ℕ
+character_of pair place = character (code_value (pair / 2 ^ (2 * place) % 4))
+
+unfoldable pub characters_of_pairs : List ℕ
+characters_of_pairs = map (λ (v : ℕ). character_of (v / 2) (v % 2)) (range_with_len 0 32)
+
+first_half : (word place : ℕ) → place < 2 → word % 16 / 2 ^ (2 * place) % 4 ≡ word / 2 ^ (2 * place) % 4
+first_half word zero lt = omega arith
+first_half word (suc zero) lt = omega arith
+first_half word (suc (suc k)) lt = absurd (omega arith)
+
+second_half : (word place : ℕ) → place < 2 → word / 16 / 2 ^ (2 * place) % 4 ≡ word / 2 ^ (2 * (2 + place)) % 4
+second_half word zero lt = omega arith
+second_half word (suc zero) lt = omega arith
+second_half word (suc (suc k)) lt = absurd (omega arith)
+
+module _ (table : List ℕ) (is : table ≡ characters_of_pairs) where
+  in_table : (pair place : ℕ) → pair < 16 → place < 2 → get_or table (2 * pair + place) 0 ≡ character_of pair place
+  unfolding characters_of_pairs
+  in_table pair place small lt =
+      let v : ℕ = 2 * pair + place in
+      let half : v / 2 ≡ pair = omega arith in
+      let rest : v % 2 ≡ place = omega arith in
+      ap (λ (xs : List ℕ). get_or xs v 0) is
+      ∙ get_or-map-range_with_len (λ (n : ℕ). character_of (n / 2) (n % 2)) 0 32 v v 0 (omega arith) (omega arith)
+      ∙ ap₂ character_of half rest
+
+  pub first_character : (word place i : ℕ) → place < 2 → i ≡ 2 * (word % 16) + place
+      → get_or table i 0 ≡ character (value_in word place)
   unfolding bits_at
-  first_bits = ap (λ (n : ℕ). bit_and n 3) is
+  first_character word place i lt at =
+      ap (λ (j : ℕ). get_or table j 0) at ∙ in_table (word % 16) place (omega arith) lt
+      ∙ ap (λ (n : ℕ). character (code_value n))
+      (first_half word place lt ∙ sym (and_mask (word / 2 ^ (2 * place)) 2))
 
-  pub rest_of_cells : (m : ℕ) → m ≡ k + 1 → rest / 4 ≡ word / 2 ^ (2 * m)
-  rest_of_cells m next =
-      let more : 2 * m ≡ 2 * k + 2 = omega arith in
-      omega (arith, ap (λ (j : ℕ). word / 2 ^ j) more, shr-shr word (2 * k) 2)
+  pub second_character : (word place i : ℕ) → word < 256 → place < 2 → i ≡ 2 * (word / 16) + place
+      → get_or table i 0 ≡ character (value_in word (2 + place))
+  unfolding bits_at
+  second_character word place i small lt at =
+      ap (λ (j : ℕ). get_or table j 0) at ∙ in_table (word / 16) place (omega arith) lt
+      ∙ ap (λ (n : ℕ). character (code_value n))
+      (second_half word place lt ∙ sym (and_mask (word / 2 ^ (2 * (2 + place))) 2))
 
--- the character of one cell more
-pub text_more : (word first place : ℕ) (text : List ℕ) (ch : ℕ) → place < length text
-    → ((k : ℕ) → k < place → get_or text k 0 ≡ character (value_in word (first + k)))
-    → ch ≡ character (value_in word (first + place))
-    → (k : ℕ) → k < place + 1 → get_or (set text place ch) k 0 ≡ character (value_in word (first + k))
-text_more word first place text ch lt before is =
-    below_more (λ k. get_or (set text place ch) k 0 ≡ character (value_in word (first + k))) place
-    (λ k below. get_or-set_other text place k ch 0 (λ e. omega arith) ∙ before k below)
-    (get_or-set_same text place ch 0 lt ∙ is)
+-- four characters from a place on
+module _ (text : List ℕ) (at a b c d : ℕ) (room : at + 4 ≤ length text) where
+  pub four_there : (f : ℕ → ℕ) → a ≡ f 0 → b ≡ f 1 → c ≡ f 2 → d ≡ f 3 → (k : ℕ) → k < 4
+      → get_or (set (set (set (set text at a) (at + 1) b) (at + 2) c) (at + 3) d) (at + k) 0 ≡ f k
+  four_there f a_is b_is c_is d_is =
+      let n1 = length-set text at a in
+      let n2 = length-set (set text at a) (at + 1) b in
+      let n3 = length-set (set (set text at a) (at + 1) b) (at + 2) c in
+      filled_more f (set (set (set text at a) (at + 1) b) (at + 2) c) at 3 (at + 3) d refl (omega (arith, n1, n2, n3)) d_is
+      (filled_more f (set (set text at a) (at + 1) b) at 2 (at + 2) c refl (omega (arith, n1, n2)) c_is
+      (filled_more f (set text at a) at 1 (at + 1) b refl (omega (arith, n1)) b_is
+      (filled_more f text at 0 at a (omega arith) (omega arith) a_is (λ k lt. absurd (omega arith)))))
 
-pub put_size : (at j : ℕ) (text new : List ℕ) → at + j ≤ length text → length new ≡ j
-    → length (put_mid at j text new) ≡ length text
-put_size at j text new inside size =
-    let front : length (take at text) ≡ at = length-take-le at text (omega arith) in
-    omega (
-      arith,
-      length-append (take at text) (new ++ post_of at j text),
-      length-append new (post_of at j text),
-      length-drop j (drop at text),
-      length-drop at text,
-    )
+  pub four_before : (k : ℕ) → k < at
+      → get_or (set (set (set (set text at a) (at + 1) b) (at + 2) c) (at + 3) d) k 0 ≡ get_or text k 0
+  four_before k lt =
+      get_or-set_other (set (set (set text at a) (at + 1) b) (at + 2) c) (at + 3) k d 0 (λ e. omega arith)
+      ∙ get_or-set_other (set (set text at a) (at + 1) b) (at + 2) k c 0 (λ e. omega arith)
+      ∙ get_or-set_other (set text at a) (at + 1) k b 0 (λ e. omega arith)
+      ∙ get_or-set_other text at k a 0 (λ e. omega arith)
 
--- the characters of one word more
-pub cells_more : (words : List ℕ) (first at n j index place word : ℕ) (text new : List ℕ) → at + n ≤ length text
-    → length new ≡ n → 32 * index + place ≡ first + at → place + n ≤ 32 → index < length words
-    → word ≡ get_or words index word
-    → ((k : ℕ) → k < at → get_or text k 0 ≡ character (get_or (spelled words) (first + k) X))
-    → ((k : ℕ) → k < n → get_or new k 0 ≡ character (value_in word (place + k)))
-    → (k : ℕ) → k < at + n → get_or (put_mid at j text new) k 0 ≡ character (get_or (spelled words) (first + k) X)
-cells_more words first at n j index place word text new inside size where_is fits within is before here k lt =
-    let front : length (take at text) ≡ at = length-take-le at text (omega arith) in
-    elim (cases_lt k at) [
-      | inl below ↦
-          get_or_append_left (take at text) (new ++ post_of at j text) 0 k (omega arith)
-          ∙ get_or-take at text k 0 below ∙ before k below
-      | inr ge ↦
-          let i : ℕ = k - at in
-          let word_of : (first + k) / 32 ≡ index = omega arith in
-          let place_of : (first + k) % 32 ≡ place + i = omega arith in
-          get_or-append_right (take at text) (new ++ post_of at j text) at k 0 front ge
-          ∙ get_or_append_left new (post_of at j text) 0 i (omega arith) ∙ here i (omega arith)
-          ∙ sym (ap character (spelled_at words (first + k) word (omega arith)
-          ∙ ap (λ (m : ℕ). value_in (get_or words m word) ((first + k) % 32)) word_of
-          ∙ ap (λ (m : ℕ). value_in (get_or words index word) m) place_of
-          ∙ ap (λ (w : ℕ). value_in w (place + i)) (sym is)))
-    ]
+-- a cell by its word and its place there
+pub cell_there : (words : List ℕ) (v index place : ℕ) → 4 * index + place ≡ v → place < 4 → index < length words
+    → value_in (get_or words index 0) place ≡ get_or (spelled words) v X
+cell_there words v index place is small lt =
+    let word_of : v / 4 ≡ index = omega arith in
+    let place_of : v % 4 ≡ place = omega arith in
+    sym (spelled_at words v 0 (omega arith)
+    ∙ ap₂ (λ (i p : ℕ). value_in (get_or words i 0) p) word_of place_of)
+
+-- the text of the cells from a variable on, as far as it is written
+module _ (words : List ℕ) (first at index place : ℕ) (text : List ℕ)
+    (before : (k : ℕ) → k < at → get_or text k 0 ≡ character (get_or (spelled words) (first + k) X))
+    (is : 4 * index + place ≡ first + at) (small : place < 4) (within : index < length words) where
+  pub cell_more : (ch : ℕ) → at < length text → ch ≡ character (value_in (get_or words index 0) place) → (k : ℕ) → k < at + 1
+      → get_or (set text at ch) k 0 ≡ character (get_or (spelled words) (first + k) X)
+  cell_more ch lt ch_is =
+      below_more (λ k. get_or (set text at ch) k 0 ≡ character (get_or (spelled words) (first + k) X)) at
+      (λ k below. get_or-set_other text at k ch 0 (λ e. omega arith) ∙ before k below)
+      (get_or-set_same text at ch 0 lt ∙ ch_is ∙ ap character (cell_there words (first + at) index place is small within))
+
+  pub word_more : (new : List ℕ) → place ≡ 0
+      → ((k : ℕ) → k < 4 → get_or new (at + k) 0 ≡ character (value_in (get_or words index 0) k))
+      → ((k : ℕ) → k < at → get_or new k 0 ≡ get_or text k 0) → (k : ℕ) → k < at + 4
+      → get_or new k 0 ≡ character (get_or (spelled words) (first + k) X)
+  word_more new whole there same k lt = elim (cases_lt k at) [
+    | inl below ↦ same k below ∙ before k below
+    | inr above ↦
+        let j : ℕ = k - at in
+        let back : at + j ≡ k = omega arith in
+        ap (λ (i : ℕ). get_or new i 0) (sym back) ∙ there j (omega arith)
+        ∙ ap character (cell_there words (first + k) index j (omega arith) (omega arith) within)
+  ]

@@ -1,4 +1,4 @@
--- Cells of two bits, side by side, 32 cells a word.
+-- Cells of two bits, side by side, four cells a word of one byte.
 use Rattle.std.specs.Prelude.{ℕ, ◌*◌, ◌/◌, ◌^◌, ◌<◌, List, [], ◌∷◌, ◌++◌, map}
 use Rattle.std.specs.Int.Bits.{bit_and}
 use Rattle.std.specs.List.{range_with_len}
@@ -15,7 +15,7 @@ value_in word place = code_value (bits_at word place)
 
 -- the values of a word's cells
 abbrev pub values_of : ℕ → List Tern
-values_of word = map (value_in word) (range_with_len 0 32)
+values_of word = map (value_in word) (range_with_len 0 4)
 
 -- the values that words spell, word by word
 unfoldable pub spelled : List ℕ → List Tern
@@ -24,4 +24,4 @@ spelled (word ∷ words) = values_of word ++ spelled words
 
 -- the bits of each cell are those of a value
 abbrev pub IsWhole : ℕ → Type 0
-IsWhole word = (place : ℕ) → place < 32 → IsCode (bits_at word place)
+IsWhole word = (place : ℕ) → place < 4 → IsCode (bits_at word place)

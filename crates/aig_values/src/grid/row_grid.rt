@@ -4,7 +4,7 @@ ghost use Rattle.std.specs.Prelude.{slice_set, slice_index_or};
 ghost use Rattle.aig_parts.specs.Formed.{limit};
 ghost use Rattle.aig_parts.specs.declared.ternary.Tern.TheVariants.{X};
 ghost use Rattle.aig_parts.specs.Literal.{variable};
-ghost use Rattle.aig_values.specs.Cells.{fresh_row, literal_value, gate_value, with_gate_value, HasVariablesBelow};
+ghost use Rattle.aig_values.specs.Cells.{fresh_row, gate_value, with_gate_value, HasVariablesBelow};
 ghost use Rattle.aig_values.specs.state.Padded.{AreLengthened};
 ghost use Rattle.aig_values.specs.TraceText.{literal_character};
 
@@ -73,14 +73,6 @@ impl<R: CellRow> Model for RowGrid<R> {
     ghost invariant = { λ g. ArePadded g.variables g.room g.gates.flags (map R.cells g.rows.items) };
 }
 
-// The code of a literal, by that of its variable.
-fn literal_in<R: CellRow>(row: &R, literal: Lit) -> Code
-    requires { variable literal < length (R.cells row.now) }
-    ensures { result ≡ literal_value (R.cells row.now) literal }
-{
-    row.get(literal.var() as usize).with_sign(literal.is_neg())
-}
-
 // The character of the value of a literal.
 fn character_in<R: CellRow>(row: &R, literal: Lit) -> u8
     requires { variable literal < length (R.cells row.now) }
@@ -99,11 +91,13 @@ fn evaluate_in<R: CellRow>(row: &mut R, gate: Gate) -> bool
     ensures changed { IsTrue result
         ↔ (gate_value (R.cells row.old) gate ≢ slice_index_or (R.cells row.old) (variable gate.lhs) X) }
 {
-    let code = literal_in(row, gate.rhs0).and(literal_in(row, gate.rhs1));
+    let code = row.literal(gate.rhs0).and(row.literal(gate.rhs1));
     let place = gate.lhs.var() as usize;
-    let before = row.get(place);
-    row.set(place, code);
-    code.differs(before)
+    let changed = code.differs(row.get(place));
+    if changed {
+        row.set(place, code);
+    }
+    changed
 }
 
 // Evaluates gates one after the other, in the order of the slice.
@@ -112,7 +106,7 @@ fn sweep_in<R: CellRow>(row: &mut R, gates: &[Gate])
     ensures { R.cells row.new ≡ fold with_gate_value (R.cells row.old) gates.now }
 {
     for gate in gates {
-        let value = literal_in(row, gate.rhs0).and(literal_in(row, gate.rhs1));
+        let value = row.literal(gate.rhs0).and(row.literal(gate.rhs1));
         row.set(gate.lhs.var() as usize, value);
     }
 }

@@ -4,7 +4,7 @@ ghost use Rattle.std.specs.Prelude.{slice_get, slice_set};
 ghost use Rattle.aig_parts.specs.Formed.{limit};
 ghost use Rattle.aig_parts.specs.declared.ternary.Tern.{Tern};
 ghost use Rattle.aig_parts.specs.Literal.{variable};
-ghost use Rattle.aig_values.specs.Cells.{fresh_row, with_gate_value, HasVariablesBelow};
+ghost use Rattle.aig_values.specs.Cells.{fresh_row, literal_value, with_gate_value, HasVariablesBelow};
 ghost use Rattle.aig_values.specs.TraceText.{literal_character};
 ghost use Rattle.aig_values.specs.state.Padded.{IsLengthened};
 
@@ -43,6 +43,14 @@ pub trait CellRow: Sized + Drop {
     fn get(&self, variable: usize) -> Code
         requires { variable < length (cells self.now) }
         ensures { slice_get (cells self.now) variable ≡ Some result };
+
+    /// The code of a literal.
+    fn literal(&self, literal: Lit) -> Code
+        requires { variable literal < length (cells self.now) }
+        ensures { result ≡ literal_value (cells self.now) literal }
+    {
+        self.get(literal.var() as usize).with_sign(literal.is_neg())
+    }
 
     /// Writes the code of a variable.
     fn set(&mut self, variable: usize, code: Code)

@@ -1,4 +1,4 @@
-//! Rows of two bits a cell, thirty-two cells a word.
+//! Rows of two bits a cell, four cells a byte. A word is such a byte.
 ghost use Rattle.std.specs.Prelude.{◌≡◌, ◌≢◌, ℕ, ◌+◌, ◌*◌, ◌<◌, ◌≤◌, IfOk, IsTrue, All, length, map, vec_len};
 ghost use Rattle.std.specs.Prelude.{slice_index, slice_index_or};
 ghost use Rattle.aig_parts.specs.declared.ternary.Tern.TheVariants.{X};
@@ -12,49 +12,53 @@ ghost use Rattle.aig_values.specs.state.Words.{spelled, value_in, IsWhole};
 use crate::code::Code;
 use crate::row::cell_row::CellRow;
 use crate::row::first_of_contiguous;
-use crate::row::literal_codes::{CELLS, CODES, sweep_words};
+use crate::row::literal_codes::{CELLS, CODES, code_in, sweep_words};
 use aig_parts::{Gate, Lit, Tern};
 use std::alloc::{AllocError, Global};
 use std::marker::Model;
 
 /// How many gates a word a sweep has at least, where unpacking the row is faster.
-const WORD_GATES: usize = 8;
+const WORD_GATES: usize = 1;
 
-// A word whose cells are all x: 01, 32 times.
-fn unknown() -> u64
+/// The characters of two cells side by side, by their four bits.
+const CHARACTERS: [u8; 32] = [
+    b'0', b'0', b'x', b'0', b'1', b'0', b'1', b'0', b'0', b'x', b'x', b'x', b'1', b'x', b'1', b'x',
+    b'0', b'1', b'x', b'1', b'1', b'1', b'1', b'1', b'0', b'1', b'x', b'1', b'1', b'1', b'1', b'1',
+];
+
+// A word whose cells are all x: 01, four times.
+fn unknown() -> u8
     ensures whole { IsWhole result }
-    ensures x { (place : ℕ) → place < 32 → value_in result place ≡ X }
+    ensures x { (place : ℕ) → place < 4 → value_in result place ≡ X }
 {
-    0x5555_5555_5555_5555
+    0x55
 }
 
 // The code of the cell at a place.
-fn code_at(word: u64, place: usize) -> Code
-    requires place { place < 32 }
-    requires whole { IsWhole word }
+fn code_at(word: u8, place: usize) -> Code
+    requires { place < 4 }
     ensures { result ≡ value_in word place }
 {
-    Code::of_bits(((word >> (2 * place)) & 3) as u8)
+    code_in(word, 2 * place)
 }
 
-// Writes the characters of the cells of a word from a place on.
-fn spell_word(text: &mut [u8], word: u64, first: usize)
-    requires first { first < 32 }
-    requires room { first + length text.old ≤ 32 }
-    requires whole { IsWhole word }
-    ensures { (k : ℕ) → k < length text.old → slice_index text.new k ≡ character (value_in word (first + k)) }
+// Writes the characters of a word's cells, two at a time, from a place on.
+fn spell_word(text: &mut [u8], at: usize, word: u8)
+    requires { at + 4 ≤ length text.old }
+    ensures there { (k : ℕ) → k < 4 → slice_index text.new (at + k) ≡ character (value_in word k) }
+    ensures before { (k : ℕ) → k < at → slice_index text.new k ≡ slice_index text.old k }
 {
-    let mut rest = word >> (2 * first);
-    for place in 0..text.len() {
-        text[place] = Code::of_bits((rest & 3) as u8).character(false);
-        rest >>= 2;
-    }
+    let first = 2 * (word % 16) as usize;
+    let second = 2 * (word / 16) as usize;
+    text[at] = CHARACTERS[first];
+    text[at + 1] = CHARACTERS[first + 1];
+    text[at + 2] = CHARACTERS[second];
+    text[at + 3] = CHARACTERS[second + 1];
 }
 
-// Writes the characters of the cells from a variable on, word by word.
-fn spell_cells(text: &mut [u8], words: &[u64], first: usize)
-    requires room { first + length text.old ≤ 32 * length words.now }
-    requires whole { All IsWhole words.now }
+// Writes the characters of the cells from a variable on, word by word where a word is whole in the text.
+fn spell_cells(text: &mut [u8], words: &[u8], first: usize)
+    requires { first + length text.old ≤ 4 * length words.now }
     ensures { (k : ℕ) → k < length text.old →
         slice_index text.new k ≡ character (slice_index_or (spelled words.now) (first + k) X) }
 {
@@ -62,18 +66,22 @@ fn spell_cells(text: &mut [u8], words: &[u64], first: usize)
     let mut place = first % CELLS;
     let mut at = 0;
     while at < text.len() {
-        let count = (CELLS - place).min(text.len() - at);
-        spell_word(&mut text[at..at + count], words[index], place);
-        at += count;
-        index += 1;
-        place = 0;
+        if place == 0 && text.len() - at >= CELLS {
+            spell_word(text, at, words[index]);
+            at += CELLS;
+            index += 1;
+        } else {
+            text[at] = code_at(words[index], place).character(false);
+            at += 1;
+            index += (place + 1) / CELLS;
+            place = (place + 1) % CELLS;
+        }
     }
 }
 
 // The character of the value of a literal.
-fn character_at(words: &[u64], literal: Lit) -> u8
-    requires cell { variable literal < 32 * length words.now }
-    requires whole { All IsWhole words.now }
+fn character_at(words: &[u8], literal: Lit) -> u8
+    requires { variable literal < 4 * length words.now }
     ensures { result ≡ literal_character (spelled words.now) literal }
 {
     let variable = literal.var() as usize;
@@ -81,9 +89,8 @@ fn character_at(words: &[u64], literal: Lit) -> u8
 }
 
 // Writes the characters of literals, one by one.
-fn spell_each(text: &mut [u8], words: &[u64], literals: &[Lit])
-    requires cells { All (λ l. variable l < 32 * length words.now) literals.now }
-    requires whole { All IsWhole words.now }
+fn spell_each(text: &mut [u8], words: &[u8], literals: &[Lit])
+    requires cells { All (λ l. variable l < 4 * length words.now) literals.now }
     requires room { length text.old ≡ length literals.now }
     ensures { text.new ≡ map (literal_character (spelled words.now)) literals.now }
 {
@@ -92,22 +99,23 @@ fn spell_each(text: &mut [u8], words: &[u64], literals: &[Lit])
     }
 }
 
-// The word with this code at a place.
-fn with_code(word: u64, place: usize, code: Code) -> u64
-    requires place { place < 32 }
+// The word with another code at a place.
+fn with_code(word: u8, place: usize, before: Code, code: Code) -> u8
+    requires place { place < 4 }
     requires whole { IsWhole word }
+    requires before { before ≡ value_in word place }
     ensures whole { IsWhole result }
     ensures there { value_in result place ≡ code }
-    ensures elsewhere { (other : ℕ) → other < 32 → other ≢ place → value_in result other ≡ value_in word other }
+    ensures elsewhere { (other : ℕ) → other < 4 → other ≢ place → value_in result other ≡ value_in word other }
 {
-    (word & !(3 << (2 * place))) | ((code.bits() as u64) << (2 * place))
+    word ^ ((before.bits() ^ code.bits()) << (2 * place))
 }
 
 /// A row of cells, as many as its words have room for. The two bits of a cell stand side by side, so that a look at a
 /// cell is one at a word. Contracts see the values.
 #[derive(Drop)]
 pub struct PlaneRow {
-    words: Vec<u64>,
+    words: Vec<u8>,
 }
 
 impl Model for PlaneRow {
@@ -125,7 +133,7 @@ impl Model for PlaneRow {
 
 // Makes codes for so many words, where there are fewer. Answers whether there are enough.
 fn make_codes(codes: &mut Vec<Code>, words: usize) -> bool
-    ensures { IsTrue result → 64 * words ≤ vec_len codes.new }
+    ensures { IsTrue result → 8 * words ≤ vec_len codes.new }
 {
     match words.checked_mul(CODES) {
         Some(size) => codes.len() >= size || codes.resize(size, Code::of(Tern::X)).is_ok(),
@@ -136,21 +144,21 @@ fn make_codes(codes: &mut Vec<Code>, words: usize) -> bool
 // How many words have room for this many cells.
 fn word_count(size: usize) -> usize
     requires { size ≤ limit + 1 }
-    ensures least { size ≤ 32 * result }
-    ensures most { 32 * result < size + 32 }
+    ensures least { size ≤ 4 * result }
+    ensures most { 4 * result < size + 4 }
 {
     (size + (CELLS - 1)) / CELLS
 }
 
 // A row with room for this many cells at least, in this memory: 0 at variable 0, x everywhere else.
-fn fresh(mut words: Vec<u64>, size: usize) -> Result<PlaneRow, AllocError>
+fn fresh(mut words: Vec<u8>, size: usize) -> Result<PlaneRow, AllocError>
     requires positive { 0 < size }
     requires limit { size ≤ limit + 1 }
     ensures { IfOk result (λ row. (room : ℕ) × (size ≤ room) × (row ≡ fresh_row room)) }
 {
     words.clear();
     words.resize(word_count(size), unknown())?;
-    words[0] = with_code(words[0], 0, Code::of(Tern::Zero));
+    words[0] = with_code(words[0], 0, Code::of(Tern::X), Code::of(Tern::Zero));
     Ok(PlaneRow { words })
 }
 
@@ -176,9 +184,15 @@ impl CellRow for PlaneRow {
         code_at(self.words[variable / CELLS], variable % CELLS)
     }
 
+    fn literal(&self, literal: Lit) -> Code {
+        let value = literal.value() as usize;
+        code_in(self.words[value / CODES], value % CODES)
+    }
+
     fn set(&mut self, variable: usize, code: Code) {
         let word = &mut self.words[variable / CELLS];
-        *word = with_code(*word, variable % CELLS, code);
+        let place = variable % CELLS;
+        *word = with_code(*word, place, code_at(*word, place), code);
     }
 
     fn spell(&self, text: &mut [u8], literals: &[Lit]) {

@@ -14,9 +14,9 @@ pub loop-place-preserved : goal.loop-place-preserved
 loop-place-preserved c =
     let words = c.args.words.now in
     let i = c.loop-place.place in
-    let size : length c.unpack_word.new.codes ≡ 64 =
+    let size : length c.unpack_word.new.codes ≡ 8 =
     ap length c.unpack_word.ensures ∙ length_word_codes (get_or words i 0) in
-    take-put_mid (64 * i) _ c.loop-place.codes c.unpack_word.new.codes (64 * (i + 1)) (omega (arith, size))
+    take-put_mid (8 * i) _ c.loop-place.codes c.unpack_word.new.codes (8 * (i + 1)) (omega (arith, size))
     (omega (arith, c.loop-place.auto.codes, c.requires, c.loop-place-test.true))
     ∙ ap₂ ◌++◌ c.loop-place.invariant c.unpack_word.ensures
     ∙ sym (codes_more words i c.loop-place-test.true)
@@ -25,5 +25,5 @@ pub returns : goal.returns
 returns c =
     let words = c.args.words.now in
     let i = c.loop-place.place in
-    sym (take_all (64 * i) c.loop-place.codes (omega (arith, c.loop-place.auto.codes, c.requires, c.loop-place-test.false)))
+    sym (take_all (8 * i) c.loop-place.codes (omega (arith, c.loop-place.auto.codes, c.requires, c.loop-place-test.false)))
     ∙ c.loop-place.invariant ∙ ap (λ ws. by_literal (spelled ws)) (take_all i words (omega (arith, c.loop-place-test.false)))

@@ -9,5 +9,5 @@ returns c =
     let words = c.args.words.now in
     let v = c.var-variable.result in
     let cell : get_or (spelled words) v X ≡ c.code_at.result =
-    spelled_at words v 0 (omega (arith, c.var-variable.ensures, c.requires.cell)) ∙ sym c.code_at.ensures in
+    spelled_at words v 0 (omega (arith, c.var-variable.ensures, c.requires)) ∙ sym c.code_at.ensures in
     rw (← c.var-variable.ensures) (search rules)

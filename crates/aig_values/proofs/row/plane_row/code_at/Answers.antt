@@ -1,10 +1,6 @@
-use Rattle.aig_values.specs.state.Words.{bits_at}
+use Rattle.std.proofs.Common.{◌*◌, refl, ◌∙◌}
+use Rattle.aig_values.proofs.LiteralLemmas.{cell_code}
 use Rattle.aig_values.proofs.row.plane_row.code_at.Goals as goal
 
-pub of_bits-requires : goal.of_bits-requires
-unfolding bits_at
-of_bits-requires c = c.requires.whole c.args.place c.requires.place
-
 pub returns : goal.returns
-unfolding bits_at
-returns c = c.of_bits.ensures
+returns c = c.code_in.ensures ∙ cell_code c.args.word c.args.place (2 * c.args.place) c.requires refl

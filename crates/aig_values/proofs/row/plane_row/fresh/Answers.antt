@@ -14,10 +14,10 @@ returns c =
     c.clear.ensures.items none c.in_ok-resize.ensures.items in
     let first : c.index.result.now ≡ c.unknown.result =
     (rw words at c.index.ensures) ∙ get_or-replicate k 0 c.unknown.result c.index.result.now pos in (
-      32 * k,
+      4 * k,
       c.word_count.ensures.least,
       ap (λ (words : List ℕ). spelled (set words 0 c.with_code.result)) words
-          ∙ spelled_fresh k c.with_code.result c.unknown.result pos (c.with_code.ensures.there ∙ c.of.ensures)
+          ∙ spelled_fresh k c.with_code.result c.unknown.result pos (c.with_code.ensures.there ∙ c.of-2.ensures)
           c.unknown.ensures.x
           (λ other lt ne. c.with_code.ensures.elsewhere other lt ne ∙ ap (λ (w : ℕ). value_in w other) first),
     )

@@ -1,16 +1,11 @@
 use Rattle.std.proofs.Common.{Some, ap, sym, ◌∙◌, arith}
-use Rattle.aig_values.proofs.WordLemmas.{word_within, whole_at, get_cell}
+use Rattle.aig_values.proofs.WordLemmas.{word_within, get_cell}
 use Rattle.aig_values.proofs.row.plane_row.PlaneRowCellRow.get.Goals as goal
 
 pub index-requires : goal.index-requires
 index-requires c =
     let h = word_within c.self.inside.words.items c.args.self.now c.self.view_is c.args.variable c.requires in
     omega arith
-
-pub code_at-requires-clause-whole : goal.code_at-requires-clause-whole
-code_at-requires-clause-whole c =
-    whole_at c.self.inside.words.items c.args.self.now c.self.view_is c.args.variable c.requires c.index.result.now
-    c.self.invariant c.index.ensures
 
 pub returns : goal.returns
 returns c =

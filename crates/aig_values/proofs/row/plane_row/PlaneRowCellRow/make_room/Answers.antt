@@ -7,9 +7,9 @@ use Rattle.aig_values.proofs.row.plane_row.PlaneRowCellRow.make_room.Goals as go
 
 pub returns-in_ok-push-clause-cells : goal.returns-in_ok-push-clause-cells
 returns-in_ok-push-clause-cells c = (
-  32,
+  4,
   ap spelled c.in_ok-push.ensures.items ∙ spelled_more c.self.inside.words.items c.unknown.result c.unknown.ensures.x
-      ∙ ap (λ (row : List Tern). row ++ replicate 32 X) c.self.view_is,
+      ∙ ap (λ (row : List Tern). row ++ replicate 4 X) c.self.view_is,
 )
 
 pub returns-in_ok-push-clause-ok : goal.returns-in_ok-push-clause-ok

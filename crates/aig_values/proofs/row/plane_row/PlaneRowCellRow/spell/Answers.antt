@@ -6,8 +6,8 @@ use Rattle.aig_values.proofs.ContiguousLemmas.{contiguous_fit, contiguous_shown}
 use Rattle.aig_values.proofs.WordLemmas.{length-spelled}
 use Rattle.aig_values.proofs.row.plane_row.PlaneRowCellRow.spell.Goals as goal
 
-pub spell_cells-requires-clause-room : goal.spell_cells-requires-clause-room
-spell_cells-requires-clause-room c =
+pub spell_cells-requires : goal.spell_cells-requires
+spell_cells-requires c =
     let are = c.in-Some.ensures.contiguous in
     let row = c.args.self.now in
     let fit = contiguous_fit c.in-Some.first (length row) c.args.literals.now are c.in-Some.ensures.some c.requires.cells in
