@@ -1,0 +1,4 @@
+pub mod Laws
+pub mod Together
+pub mod Walkers
+pub mod Walks
