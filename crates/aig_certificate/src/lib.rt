@@ -10,4 +10,5 @@ mod symbols;
 mod translation;
 
 pub use fault::StrengthenFault;
+pub use mark::literal_of;
 pub use strengthen::strengthened;

@@ -49,8 +49,8 @@ fn is_defined(model: &Circuit, literal: Lit) -> bool
     }
 }
 
-/// The literal of the model whose number this is.
-fn literal_of(model: &Circuit, word: &[u8]) -> Option<Lit>
+/// The literal of variable 0, an input, a latch or a gate of the model whose number these digits are.
+pub fn literal_of(model: &Circuit, word: &[u8]) -> Option<Lit>
     ensures spelled { IfSome result (λ l. word.now ≡ decimal l) }
     ensures defined { IfSome result (λ l. IsDefined model.now (variable l)) }
     ensures none { IfNone result ((l : ℕ) → IsDefined model.now (variable l) → word.now ≢ decimal l) }

@@ -1,3 +1,4 @@
+pub mod Bits
 pub mod Codes
 pub mod Columns
 pub mod DeclaredNames

@@ -38,7 +38,7 @@ bracket_left x tail h =
         get_or-take (length text - 1) text (length x) 0 lt ∙ get_or-append_seam x 91 (b ∷ tail) 0 in
         absurd (omega (arith, is, range.1))
 
-no_end : (x tail : List ℕ) → is_index_end (x ++ 91 ∷ tail) ≡ false
+pub no_end : (x tail : List ℕ) → is_index_end (x ++ 91 ∷ tail) ≡ false
 no_end x tail = false_from_ne_true _ (bracket_left x tail)
 
 -- without a bracket there is no next name
@@ -70,10 +70,10 @@ unfolding next_name
 next_not [] tail none h = rw h (ap (put_before 91) (next_none tail none))
 next_not (b ∷ x) tail none h = next_after b x tail ∙ ap (put_before b) (next_not x tail none h)
 
-all_left : (name : List ℕ) (place : ℕ) → take (length name - place) (drop place name) ≡ drop place name
+pub all_left : (name : List ℕ) (place : ℕ) → take (length name - place) (drop place name) ≡ drop place name
 all_left name place = take_all (length name - place) (drop place name) (omega (arith, length-drop place name))
 
-parted : (name : List ℕ) (k : ℕ) → k < length name → get_or name k 0 ≡ 91 → name ≡ take k name ++ 91 ∷ drop (k + 1) name
+pub parted : (name : List ℕ) (k : ℕ) → k < length name → get_or name k 0 ≡ 91 → name ≡ take k name ++ 91 ∷ drop (k + 1) name
 parted name k lt e =
     sym (take-append-drop k name) ∙ ap (λ (t : List ℕ). take k name ++ t) (drop_more name k 0 lt)
     ∙ ap (λ (b : ℕ). take k name ++ b ∷ drop (k + 1) name) e

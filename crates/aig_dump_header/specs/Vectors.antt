@@ -1,6 +1,6 @@
 -- Bits of vectors: viewers join neighbouring lines X[n], X[n+1], .. and take the first as the most significant bit. So
 -- a run of such names is declared from its last to its first. Where the standard is silent, this is our own choice.
-use Rattle.std.specs.Prelude.{ℕ, ◌+◌, ◌-◌, ◌==◌, ◌&&◌, ◌||◌, not, Bool, false, nat_lt, nat_le, if◌then◌else◌, List, [], ◌∷◌, ◌++◌, length, take, slice_index_or, decimal}
+use Rattle.std.specs.Prelude.{ℕ, ◌+◌, ◌-◌, ◌==◌, ◌&&◌, ◌||◌, not, Bool, false, nat_lt, nat_le, if◌then◌else◌, List, [], ◌∷◌, ◌++◌, length, take, slice_index_or, decimal, Option, None, Some, option_map}
 use Rattle.std.specs.Str.{all_ascii_digits, bytes_eq}
 use Rattle.std.specs.Str.Parse.{digits_value}
 
@@ -26,6 +26,14 @@ next_name (b ∷ text) =
     if b == 91 && is_index_end text
     then 91 ∷ (decimal (digits_value 10 (take (length text - 1) text) + 1) ++ 93 ∷ [])
     else put_before b (next_name text)
+
+-- X and n of a name X[n]
+unfoldable pub bit_of : List ℕ → Option (List ℕ × ℕ)
+bit_of [] = None
+bit_of (b ∷ text) =
+    if b == 91 && is_index_end text
+    then Some ([], digits_value 10 (take (length text - 1) text))
+    else option_map (λ bit. (b ∷ bit.0, bit.1)) (bit_of text)
 
 -- whether a signal's name goes on with a run of bits, which has its last signal first
 abbrev pub goes_on : List (ℕ × List ℕ) → ℕ × List ℕ → Bool

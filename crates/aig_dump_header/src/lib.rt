@@ -10,3 +10,5 @@ mod vectors;
 
 pub use header::{SignalCounts, dump_header};
 pub use header_laws::law_of_dump_header;
+pub use names::{FirstWord, first_word, push_position, symbol_at};
+pub use vectors::{Bit, bit_of, show_next};

@@ -27,11 +27,11 @@ pub enum Names<'a> {
     Position(Kind, u32),
 }
 
-/// A word, and the text after it.
+/// A word of a symbol, and the text after it.
 #[derive(Clone, Copy, Drop)]
-struct FirstWord<'a> {
-    word: &'a [u8],
-    rest: &'a [u8],
+pub struct FirstWord<'a> {
+    pub word: &'a [u8],
+    pub rest: &'a [u8],
 }
 
 /// A name, and the names after it.
@@ -69,8 +69,8 @@ fn count_word(text: &[u8]) -> usize
     text.len()
 }
 
-// The first word of a text.
-fn first_word(text: &[u8]) -> Option<FirstWord<'_>>
+/// The first word of a symbol, or of the text after one of its words. A symbol of blanks has none.
+pub fn first_word(text: &[u8]) -> Option<FirstWord<'_>>
     ensures { MatchOption result (words text.now ≡ []) (λ first. (words text.now ≡ first.word.now ∷ words first.rest.now)
         × (length first.rest.now < length text.now)) }
 {
@@ -85,8 +85,8 @@ fn first_word(text: &[u8]) -> Option<FirstWord<'_>>
     })
 }
 
-// The symbol of the entry at a position of a section; no bytes where it has none.
-fn symbol_at(symbols: &Symbols, kind: Kind, position: u32) -> &[u8]
+/// The symbol of the entry at a position of a section; no bytes where it has none.
+pub fn symbol_at(symbols: &Symbols, kind: Kind, position: u32) -> &[u8]
     requires once { AllPairs (λ x y. x ≢ y) (keys_of symbols.now) }
     ensures { result.now ≡ symbol_of symbols.now kind position }
 {
@@ -151,8 +151,8 @@ fn push_word(text: &mut Vec<u8>, word: &[u8]) -> Result<(), Memory>
     Ok(())
 }
 
-// Adds the letter of a section and a position.
-fn push_position(text: &mut Vec<u8>, kind: Kind, position: u32) -> Result<(), Memory>
+/// Adds the letter of a section and a position.
+pub fn push_position(text: &mut Vec<u8>, kind: Kind, position: u32) -> Result<(), Memory>
     ensures { OnOk result (text.new.items ≡ text.old.items ++ letter kind ∷ decimal position) }
 {
     let mut buffer = Buffer::new();

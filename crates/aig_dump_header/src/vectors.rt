@@ -1,7 +1,8 @@
 //! Runs of names that are the bits of a vector.
-ghost use Rattle.std.specs.Prelude.{◌≡◌, ◌≢◌, ◌++◌, ◌-◌, ◌<◌, ◌≤◌, ◌^◌, false, [], length, take, drop, map, reverse, All, IsTrue, IfSome, IfNone, OnOk, slice_index_or};
+ghost use Rattle.std.specs.Prelude.{◌≡◌, ◌≢◌, ◌++◌, ◌-◌, ◌<◌, ◌≤◌, ◌^◌, false, [], length, take, drop, map, reverse, All, IsTrue, IfSome, IfNone, OnOk, slice_index_or, option_map};
 ghost use Rattle.std.specs.Str.{all_ascii_digits};
 ghost use Rattle.std.specs.Str.Parse.{digits_value};
+ghost use Rattle.aig_dump_header.specs.Vectors as spec;
 ghost use Rattle.aig_dump_header.specs.Vectors.{is_index, is_index_end, next_name, turned};
 ghost use Rattle.aig_dump_header.specs.state.Naming.{named};
 
@@ -74,8 +75,28 @@ fn index_of(text: &[u8]) -> Option<&[u8]>
     }
 }
 
-// Puts the name of the bit after X[n] in place of what the buffer holds, where a name is X[n]; else nothing.
-fn show_next(next: &mut Vec<u8>, name: &[u8]) -> Result<(), Memory>
+/// A bit of a vector: X and n of a name X[n].
+#[derive(Clone, Copy, Drop)]
+pub struct Bit<'a> {
+    pub vector: &'a [u8],
+    pub index: u64,
+}
+
+/// The bit of a vector that a name is: n is decimal, without leading zeros, and has 19 digits at most.
+pub fn bit_of(name: &[u8]) -> Option<Bit<'_>>
+    ensures bit { option_map (λ bit. (bit.vector.now, bit.index)) result ≡ spec.bit_of name.now }
+    ensures small { IfSome result (λ bit. bit.index < 10 ^ 19) }
+{
+    let place = after_bracket(name)?;
+    let digits = index_of(&name[place..])?;
+    Some(Bit {
+        vector: &name[..place - 1],
+        index: number_of(digits),
+    })
+}
+
+/// Puts the name of the bit after X[n] in place of what the buffer holds, where a name is X[n]; else nothing.
+pub fn show_next(next: &mut Vec<u8>, name: &[u8]) -> Result<(), Memory>
     ensures { OnOk result (next.new.items ≡ next_name name.now) }
 {
     next.clear();

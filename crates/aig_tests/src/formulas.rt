@@ -127,7 +127,12 @@ fn is_written(
     asked: Heading,
     text: &[u8],
 ) -> bool {
-    writes(alloc, 600, text, |out| formula.write(circuit, asked, out).is_ok())
+    writes(
+        alloc,
+        600,
+        text,
+        |out| formula.write(circuit, asked, out).is_ok(),
+    )
 }
 
 fn is_refuted(alloc: Global, formula: &Formula) -> bool {
@@ -148,7 +153,8 @@ fn has_formula(
     let Ok(formula) = Formula::of(alloc, circuit, query) else {
         return false;
     };
-    is_written(alloc, circuit, &formula, Heading::Runs(query), text) && is_refuted(alloc, &formula) == refuted
+    is_written(alloc, circuit, &formula, Heading::Runs(query), text)
+        && is_refuted(alloc, &formula) == refuted
 }
 
 fn is_as_said(alloc: Global, asked: Asked) -> bool {
@@ -240,10 +246,12 @@ fn has_heading(alloc: Global, circuit: &mut Circuit, asked: Heading, text: &[u8]
 #[test]
 fn headings_of_formulas(rt: HostRuntime) {
     for (asked, text) in &HEADINGS {
-        assert!(rt; of_file(
-            rt.alloc(),
-            NAMED_BAD,
-            |alloc, circuit| has_heading(alloc, circuit, *asked, text),
-        ));
+        assert!(rt;
+            of_file(
+                rt.alloc(),
+                NAMED_BAD,
+                |alloc, circuit| has_heading(alloc, circuit, *asked, text),
+            )
+        );
     }
 }

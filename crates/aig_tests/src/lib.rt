@@ -33,6 +33,8 @@ mod refutations;
 #[cfg(test)]
 mod rewires;
 #[cfg(test)]
+mod signals;
+#[cfg(test)]
 mod stimulus;
 #[cfg(test)]
 mod symbols;

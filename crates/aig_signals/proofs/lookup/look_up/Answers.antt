@@ -1,0 +1,21 @@
+use Rattle.std.proofs.Common.{List, ℕ, map, inl, ap, ◌∙◌}
+use Rattle.aig_parts.specs.Literal.{negation}
+use Rattle.aig_signals.proofs.Meaning.{means_negated, unknown_after}
+use Rattle.aig_signals.proofs.lookup.look_up.Goals as goal
+
+pub returns-in-Some-clause-means : goal.returns-in-Some-clause-means
+returns-in-Some-clause-means c = inl (rw c.in-Some.is at c.in_ok-found.ensures.plain)
+
+pub returns-in_default-after_not-clause-unknown : goal.returns-in_default-after_not-clause-unknown
+returns-in_default-after_not-clause-unknown c =
+    (rw c.in_default.is at c.in_ok-found.ensures.none, λ rest is. absurd (c.in_default-after_not.ensures.none rest is))
+
+pub returns-in_ok-negated-in-Some-bits-clause-means : goal.returns-in_ok-negated-in-Some-bits-clause-means
+returns-in_ok-negated-in-Some-bits-clause-means c =
+    means_negated c.args.circuit.now c.args.name.now _ _ _ (rw c.in_default.is at c.in_ok-found.ensures.none)
+    c.in-Some-after_not.ensures.some (rw c.in-Some-bits.is at c.in_ok-bits.ensures.plain) (c.in_ok-negated-in-Some-bits.ensures ∙ ap (λ (ls : List ℕ). map negation ls) c.as_slice.ensures)
+
+pub returns-in-None-clause-unknown : goal.returns-in-None-clause-unknown
+returns-in-None-clause-unknown c =
+    unknown_after c.args.circuit.now c.args.name.now _ (rw c.in_default.is at c.in_ok-found.ensures.none)
+    c.in-Some-after_not.ensures.some (rw c.in-None.is at c.in_ok-bits.ensures.none)

@@ -1,0 +1,5 @@
+pub mod Lookup
+pub mod Names
+pub mod Signals
+pub mod Value
+pub mod state

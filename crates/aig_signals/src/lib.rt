@@ -1,0 +1,16 @@
+//! Signals of a circuit: what people call them, which of them a name means, and their values as text. It knows no run.
+#![tactic(auto)]
+
+mod lookup;
+mod names;
+mod run;
+mod section;
+mod signal;
+mod value;
+
+pub use lookup::look_up;
+pub use names::{push_first_name, push_readable};
+pub use run::{Run, runs_of};
+pub use section::{count_of, literal_at};
+pub use signal::{Signal, signals_of};
+pub use value::push_value;

@@ -1,0 +1,261 @@
+//! What a name means.
+ghost use Rattle.std.specs.Prelude.{◌≡◌, ◌∷◌, ◌<◌, ◌≤◌, ◌-◌, ℕ, List, length, map, option_copied, option_map, IfOk, IfSome, IfNone};
+ghost use Rattle.std.specs.List.{range_with_len};
+ghost use Rattle.aig_parts.specs.Literal.{negation};
+ghost use Rattle.aig_signals.specs.Lookup as spec;
+ghost use Rattle.aig_signals.specs.Lookup.{least, entry_literal, in_sections, signal_literals, signal_named, literals_called, IsPlain, IsNoName, Means, Unknown};
+ghost use Rattle.aig_signals.specs.Names.{literals_of};
+ghost use Rattle.aig_signals.specs.Signals as signals_spec;
+
+use crate::names::{has_further_name, push_first_name};
+use crate::section::{SECTIONS, count_of, literal_at};
+use crate::signal::Signal;
+use aig_base::{Circuit, Kind, List, Lit, Memory};
+use aig_certificate::literal_of;
+use aig_dump_header::push_position;
+use std::alloc::Global;
+
+/// What gives an entry a name.
+#[derive(Clone, Copy, PartialEq, Eq, Debug, Drop)]
+enum Rule {
+    /// The first word of its symbol; without one, its letter and position.
+    FirstName,
+    /// A word after the first.
+    FurtherWord,
+    /// Its letter and position.
+    Position,
+}
+
+/// Whether a rule gives an entry a name.
+fn has_name(
+    buffer: &mut Vec<u8>,
+    circuit: &Circuit,
+    name: &[u8],
+    rule: Rule,
+    kind: Kind,
+    position: u32,
+) -> Result<bool, Memory>
+    ensures { IfOk result (λ has. has ≡ spec.has_name circuit.now name.now rule kind position) }
+{
+    buffer.clear();
+    match rule {
+        Rule::FirstName => push_first_name(buffer, circuit, kind, position)?,
+        Rule::FurtherWord => return has_further_name(buffer, circuit, kind, position, name),
+        Rule::Position => push_position(buffer, kind, position)?,
+    }
+    Ok(buffer.as_slice() == name)
+}
+
+/// The earliest position of a section to which a rule gives a name.
+fn position_in(
+    buffer: &mut Vec<u8>,
+    circuit: &Circuit,
+    name: &[u8],
+    rule: Rule,
+    kind: Kind,
+) -> Result<Option<u32>, Memory>
+    ensures named { IfOk result (λ found.
+        found ≡ least (spec.has_name circuit.now name.now rule kind) (length (literals_of circuit.now kind))) }
+    ensures within { IfOk result (λ found. IfSome found (λ p. p < length (literals_of circuit.now kind))) }
+{
+    for position in 0..count_of(circuit, kind) {
+        let has = has_name(buffer, circuit, name, rule, kind, position)?;
+        if has {
+            return Ok(Some(position));
+        }
+    }
+    Ok(None)
+}
+
+/// The literal of the earliest entry of these sections to which a rule gives a name.
+fn literal_in(
+    alloc: Global,
+    circuit: &Circuit,
+    name: &[u8],
+    rule: Rule,
+    kinds: &[Kind],
+) -> Result<Option<Lit>, Memory>
+    ensures { IfOk result (λ found.
+        found ≡ option_map (entry_literal circuit.now) (in_sections circuit.now name.now rule kinds.now)) }
+{
+    let mut buffer = Vec::new(alloc);
+    for kind in kinds {
+        let found = position_in(&mut buffer, circuit, name, rule, *kind)?;
+        if let Some(position) = found {
+            return Ok(Some(literal_at(circuit, *kind, position)));
+        }
+    }
+    Ok(None)
+}
+
+/// The literal of the earliest entry to which a rule gives a name.
+fn literal_by(
+    alloc: Global,
+    circuit: &Circuit,
+    name: &[u8],
+    rule: Rule,
+) -> Result<Option<Lit>, Memory>
+    ensures { IfOk result (λ found.
+        found ≡ option_map (entry_literal circuit.now) (spec.entry_by circuit.now name.now rule)) }
+{
+    literal_in(alloc, circuit, name, rule, &SECTIONS)
+}
+
+/// The literals of neighbours of a section, from the first up to the end.
+fn literals_between(
+    alloc: Global,
+    circuit: &Circuit,
+    kind: Kind,
+    first: u32,
+    end: u32,
+) -> Result<List<Lit>, Memory>
+    requires ordered { first ≤ end }
+    requires within { end ≤ length (literals_of circuit.now kind) }
+    ensures { IfOk result (λ literals. literals ≡ map (spec.literal_of circuit.now kind) (range_with_len first (end - first))) }
+{
+    let mut literals = List::new(alloc);
+    for position in first..end {
+        literals.push(literal_at(circuit, kind, position))?;
+    }
+    Ok(literals)
+}
+
+/// The earliest signal of a name.
+fn signal_of<'a>(signals: &'a [Signal], name: &[u8]) -> Option<&'a Signal>
+    ensures { option_copied result ≡ spec.named_in signals.now name.now }
+{
+    for signal in signals {
+        if signal.name.as_slice() == name {
+            return Some(signal);
+        }
+    }
+    None
+}
+
+/// A list of one literal, where there is one.
+fn list_of(alloc: Global, literal: Option<Lit>) -> Result<Option<List<Lit>>, Memory>
+    ensures { IfOk result (λ list. list ≡ option_map spec.alone literal) }
+{
+    match literal {
+        Some(literal) => {
+            let mut list = List::new(alloc);
+            list.push(literal)?;
+            Ok(Some(list))
+        }
+        None => Ok(None),
+    }
+}
+
+/// The literals of the earliest signal of a name.
+fn signal_literals(
+    alloc: Global,
+    circuit: &Circuit,
+    signals: &[Signal],
+    name: &[u8],
+) -> Result<Option<List<Lit>>, Memory>
+    requires { signals.now ≡ signals_spec.signals_of circuit.now }
+    ensures { IfOk result (λ found. found ≡ option_map (signal_literals circuit.now) (signal_named circuit.now name.now)) }
+{
+    match signal_of(signals, name) {
+        Some(signal) => Ok(Some(literals_between(
+            alloc,
+            circuit,
+            signal.kind,
+            signal.first,
+            signal.end,
+        )?)),
+        None => Ok(None),
+    }
+}
+
+/// The literals that a name is that of, without numbers and `!`.
+fn literals_called(
+    alloc: Global,
+    circuit: &Circuit,
+    signals: &[Signal],
+    name: &[u8],
+) -> Result<Option<List<Lit>>, Memory>
+    requires { signals.now ≡ signals_spec.signals_of circuit.now }
+    ensures { IfOk result (λ found. found ≡ literals_called circuit.now name.now) }
+{
+    let first = literal_by(alloc, circuit, name, Rule::FirstName)?;
+    if let Some(literal) = first {
+        return list_of(alloc, Some(literal));
+    }
+    let called = signal_literals(alloc, circuit, signals, name)?;
+    if let Some(literals) = called {
+        return Ok(Some(literals));
+    }
+    let further = literal_by(alloc, circuit, name, Rule::FurtherWord)?;
+    if let Some(literal) = further {
+        return list_of(alloc, Some(literal));
+    }
+    let last = literal_by(alloc, circuit, name, Rule::Position)?;
+    list_of(alloc, last)
+}
+
+/// The literals that a name means without `!`.
+fn plain(
+    alloc: Global,
+    circuit: &Circuit,
+    signals: &[Signal],
+    name: &[u8],
+) -> Result<Option<List<Lit>>, Memory>
+    requires { signals.now ≡ signals_spec.signals_of circuit.now }
+    ensures plain { IfOk result (λ found. IfSome found (IsPlain circuit.now name.now)) }
+    ensures none { IfOk result (λ found. IfNone found (IsNoName circuit.now name.now)) }
+{
+    let called = literals_called(alloc, circuit, signals, name)?;
+    match called {
+        Some(literals) => Ok(Some(literals)),
+        None => list_of(alloc, literal_of(circuit, name)),
+    }
+}
+
+/// Each of these literals negated.
+fn negated(alloc: Global, literals: &[Lit]) -> Result<List<Lit>, Memory>
+    ensures { IfOk result (λ list. list ≡ map negation literals.now) }
+{
+    let mut list = List::new(alloc);
+    for literal in literals {
+        list.push(literal.not())?;
+    }
+    Ok(list)
+}
+
+/// What comes after a `!` in a name that begins with one.
+fn after_not(name: &[u8]) -> Option<&[u8]>
+    ensures some { IfSome result (λ rest. name.now ≡ 33 ∷ rest.now) }
+    ensures none { IfNone result ((rest : List ℕ) → name.now ≡ 33 ∷ rest → ⊥) }
+{
+    match name.first() {
+        Some(first) if *first == b'!' => Some(&name[1..]),
+        _ => None,
+    }
+}
+
+/// The literals that a name means, from bit 0 up; none where it means none. The signals are those of the circuit. Linear
+/// in the circuit and its names.
+pub fn look_up(
+    alloc: Global,
+    circuit: &Circuit,
+    signals: &[Signal],
+    name: &[u8],
+) -> Result<Option<List<Lit>>, Memory>
+    requires { signals.now ≡ signals_spec.signals_of circuit.now }
+    ensures means { IfOk result (λ found. IfSome found (Means circuit.now name.now)) }
+    ensures unknown { IfOk result (λ found. IfNone found (Unknown circuit.now name.now)) }
+{
+    let found = plain(alloc, circuit, signals, name)?;
+    if let Some(literals) = found {
+        return Ok(Some(literals));
+    }
+    let Some(rest) = after_not(name) else {
+        return Ok(None);
+    };
+    let bits = plain(alloc, circuit, signals, rest)?;
+    match bits {
+        Some(literals) => Ok(Some(negated(alloc, literals.as_slice())?)),
+        None => Ok(None),
+    }
+}
