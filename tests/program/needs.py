@@ -101,11 +101,11 @@ def endless(program, words, source=subprocess.DEVNULL):
 
 def interrupted(program, tally, refusing):
     """A call that a signal interrupts: whether it is tried again."""
-    info = ["info", "two_gates"]
+    whole = ["unroll", "--frames", "2", "--to", "aag", "two_gates"]
     for call in ("open", "read"):
-        ended = refusing.run(*info, CALL=call, REFUSE=1, INTERRUPT=1)
-        tally.compare(f"needs: an interrupted {call} of info", ended, program.run(*info))
-    tally.compare("needs: an interrupted write of info", refusing.run(*info, CALL="write", REFUSE=1, INTERRUPT=1),
+        ended = refusing.run(*whole, CALL=call, REFUSE=1, INTERRUPT=1)
+        tally.compare(f"needs: an interrupted {call} of a file that is read whole", ended, program.run(*whole))
+    tally.compare("needs: an interrupted write", refusing.run(*whole, CALL="write", REFUSE=1, INTERRUPT=1),
                   input_or_output("output"))
     tally.compare("needs: an interrupted read of a stream",
                   refusing.run("toaig", "--to", "aag", "two_gates", CALL="read", REFUSE=1, INTERRUPT=1),

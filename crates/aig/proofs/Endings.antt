@@ -1,8 +1,9 @@
 -- How a command's function ends, from how the command does.
-use Rattle.std.proofs.Common.{◌≡◌, ◌⊎◌, inl, inr, ℕ, List, [], Result, Ok, Err, refl, sym, ◌∙◌, ap, subst}
+use Rattle.std.proofs.Common.{◌≡◌, ◌≢◌, ◌⊎◌, inl, inr, ℕ, List, [], Result, Ok, Err, refl, sym, ◌∙◌, ap, subst}
 use Rattle.std.specs.Prelude.{Bool, true, false, Option, None, Some, IfErr, IfSome, OnOk}
 use Rattle.std.specs.Result.{IsErrAnd}
 use Rattle.aig_bytes.specs.Flow.{Flow}
+use Rattle.aig_parts.specs.declared.fault.Fault.TheVariants as circuits
 use Rattle.aig_parts.specs.declared.raw.Raw.{Raw}
 use Rattle.aig_sim.specs.declared.witness.verdict.Verdict.{Verdict}
 use Rattle.aig_sim.specs.declared.witness.verdict.Verdict.TheVariants.{Initial, Constraint, NotBad, Confirmed}
@@ -12,7 +13,9 @@ use Rattle.aig_run.specs.declared.run_fault.RunFault.TheVariants as run_faults
 use Rattle.aig_commands.specs.GoesWell.{GoesWell}
 use Rattle.aig_files.specs.declared.exit.Exit.{Exit}
 use Rattle.aig_files.specs.declared.exit.Exit.TheVariants as exits
+use Rattle.aig_files.specs.Known.{still_known}
 use Rattle.aig_terminal.specs.declared.part.Part.{Part}
+use Rattle.aig_terminal.specs.declared.part.Part.TheVariants as parts
 use Rattle.aig.specs.Ends.{Answers, AreConfirmed, ChecksWitness, Ends, ForSomeText, IsUnwritten, as_meant, end_of, end_of_verdict, unread, writes}
 
 -- what holds of the bytes that were read holds of those that the file had left
@@ -89,6 +92,36 @@ pub circuit_answers : {X Y T : Type 0} (out : Flow X) (circuit : Flow Y) (Means 
 circuit_answers out circuit Means answer ends =
     answers_changed (OfReader circuit Means) (OfCircuit Means) (λ answer bytes said. said.of_circuit) answer
     (answers out (OfReader circuit Means) answer ends)
+
+-- on a circuit that a reader holds whose bytes are known it answers what it means for these, unless a read failed
+file_answers : {Y T : Type 0} (circuit : Flow Y) (Means : Raw → Result T RunFault → List ℕ → Type 0) (file : List ℕ)
+    → circuit.bytes circuit.old ≡ Some file → (answer : Result T RunFault) → answer ≢ Err (run_faults.Circuit circuits.Io)
+    → Answers (OfReader circuit Means) answer → Answers (OfFile file Means) answer
+file_answers circuit Means file is answer whole (writes bytes said) = writes bytes (said.of_file file is whole)
+file_answers circuit Means file is answer whole Answers.fails = Answers.fails
+
+-- so it ends as it means for these bytes, or the file was not read
+pub streamed_ends : {X Y : Type 0} (out : Flow X) (circuit : Flow Y)
+    (Means : Raw → Result (Unit {0}) RunFault → List ℕ → Type 0) (file : List ℕ) → circuit.bytes circuit.old ≡ Some file
+    → (answer : Result (Unit {0}) RunFault) (r : Result (Unit {0}) Exit)
+    → CommandEnds out run_faults.Output (OfReader circuit Means) answer
+    → (answer ≡ Err (run_faults.Circuit circuits.Io) → r ≡ Err (exits.Unread parts.Circuit))
+    → (answer ≢ Err (run_faults.Circuit circuits.Io) → r ≡ end_of answer) → Ends end_of (OfFile file Means) r
+streamed_ends out circuit Means file is (Err (run_faults.Circuit circuits.Io)) r ends failed others =
+    unread (exits.Unread parts.Circuit) (failed refl) (inl (parts.Circuit, refl))
+streamed_ends out circuit Means file is answer r ends failed others =
+    as_meant answer (file_answers circuit Means file is answer (λ e. cc) (answers out (OfReader circuit Means) answer ends))
+    (others (λ e. cc))
+
+-- a reader that knew its bytes at first knows them now
+pub known_at_first : (first now : Option (List ℕ)) (file : List ℕ) → first ≡ Some file → now ≡ Some file
+    → still_known first now ≡ Some file
+known_at_first first now file e is = subst (λ (o : Option (List ℕ)). still_known o now ≡ Some file) (sym e) is
+
+-- what holds of the bytes that the file had left, where it is known which
+pub of_left : (left : Option (List ℕ)) (Q : List ℕ → Type 0) → ((xs : List ℕ) → left ≡ Some xs → Q xs) → IfSome left Q
+of_left None Q q = tt
+of_left (Some xs) Q q = q xs refl
 
 -- where it reads a text meanwhile, what it means for some text
 pub text_answers : {X Y T : Type 0} (reader : Flow Y) (out : Flow X) (fault : RunFault)

@@ -1,5 +1,5 @@
 -- How each command of the program ends, where the bytes of its files are known.
-use Rattle.std.specs.Prelude.{ℕ, List, Option, Result, IfSome, OnOk}
+use Rattle.std.specs.Prelude.{ℕ, List, Option, Some, Result, IfSome, OnOk}
 use Rattle.aig_cnf.specs.Query.{induction}
 use Rattle.aig_sim.specs.declared.stimulus.fault.StimFault.TheVariants as stimuli
 use Rattle.aig_run.specs.Command.{OfCircuit, OfFile}
@@ -52,7 +52,7 @@ EndsAsMeant left (commands.Cnf query circuit) result =
 EndsAsMeant left (commands.CnfAlive frames circuit) result =
     IfSome (left circuit) (λ file. Ends end_of (OfFile file (WritesAlive frames)) result)
 EndsAsMeant left (commands.Info circuit) result =
-    IfSome (left circuit) (λ file. Ends end_of (OfFile file (ListsFacts file)) result)
+    IfSome (left circuit) (λ file. Ends end_of (OfFile file (ListsFacts (Some file))) result)
 EndsAsMeant left (commands.InfoNames circuit) result = Ends end_of (OfCircuit ListsNames) result
 EndsAsMeant left (commands.Select selection to circuit) result =
     Ends end_of (OfCircuit (Selects selection.from selection.into selection.positions.items to)) result

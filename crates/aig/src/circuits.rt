@@ -1,5 +1,5 @@
 //! The commands on a circuit alone: conversion, unrolling, formulas, and facts about it.
-ghost use Rattle.std.specs.Prelude.{IfSome, OnOk};
+ghost use Rattle.std.specs.Prelude.{Some, IfSome, OnOk};
 ghost use Rattle.aig_run.specs.Command.{OfCircuit, OfFile};
 ghost use Rattle.aig_commands.specs.Alive.{WritesAlive};
 ghost use Rattle.aig_commands.specs.Cnf.{WritesFormula};
@@ -12,13 +12,13 @@ ghost use Rattle.aig_commands.specs.Unroll.{UnrollsKept};
 ghost use Rattle.aig.specs.Ends.{Answers, Ends, EndsSelectingNamed, end_of};
 
 use crate::command::Selection;
-use crate::ended::ended;
+use crate::ended::{ended, streamed};
 use crate::kept::{begin_map, write_map};
 use aig_base::{Circuit, Std};
 use aig_cnf::Query;
 use aig_commands::select::NamedSelection;
 use aig_commands::{alive, cnf, info, select, toaig, unroll};
-use aig_files::{Exit, OutputFile, Part, output, read_whole};
+use aig_files::{Exit, Known, OutputFile, Part, output, read_whole};
 use aig_format::Format;
 use aig_run::RunFault;
 use aig_terminal::Terminal;
@@ -136,12 +136,11 @@ pub fn cnf_alive<R: AllocGlobal + Print, F: Read + Drop>(
 /// Writes facts about a circuit.
 pub fn info<R: AllocGlobal + Print, F: Read + Drop>(rt: &R, circuit: F) -> Result<(), Exit>
     ensures ends { IfSome (F.remaining circuit) (λ file.
-        Ends end_of (OfFile file (ListsFacts file)) result) }
+        Ends end_of (OfFile file (ListsFacts (Some file))) result) }
 {
-    let circuit = read_whole(rt.alloc(), circuit, Part::Circuit)?;
-    let file = circuit.as_slice();
+    let mut circuit = Known::new(circuit);
     let mut out = output(rt);
-    ended(info::info(rt.alloc(), file, &mut out))
+    streamed(info::info(rt.alloc(), &mut circuit, &mut out))
 }
 
 /// Writes the entries of a circuit with their names.

@@ -1,8 +1,9 @@
 //! How the program ends for a command's answer.
-ghost use Rattle.std.specs.Prelude.{◌≡◌, IfErr};
+ghost use Rattle.std.specs.Prelude.{◌≡◌, ◌≢◌, Err, IfErr};
 ghost use Rattle.aig.specs.Ends.{IsUnwritten, end_of, end_of_verdict};
 
-use aig_files::{Exit, OUTPUT};
+use aig_base::Fault;
+use aig_files::{Exit, OUTPUT, Part};
 use aig_run::RunFault;
 use aig_sim::Verdict;
 
@@ -13,6 +14,18 @@ pub fn ended<T: Drop>(answer: Result<T, RunFault>) -> Result<(), Exit>
     match answer {
         Ok(_) => Ok(()),
         Err(fault) => Err(Exit::Run(fault)),
+    }
+}
+
+/// Where a read of a circuit that is streamed failed, it ends as for a file that is read whole.
+pub fn streamed(answer: Result<(), RunFault>) -> Result<(), Exit>
+    ensures unread { answer ≡ Err (RunFault.Circuit Fault.Io) → result ≡ Err (Exit.Unread Part.Circuit) }
+    ensures others { answer ≢ Err (RunFault.Circuit Fault.Io) → result ≡ end_of answer }
+{
+    match answer {
+        Err(RunFault::Circuit(Fault::Io)) => Err(Exit::Unread(Part::Circuit)),
+        Err(fault) => Err(Exit::Run(fault)),
+        Ok(()) => Ok(()),
     }
 }
 

@@ -62,7 +62,9 @@ where
     let matches = reported(rt, parsed(rt, words))?;
     let done = reported(rt, run_command(rt, terminals, &matches));
     if let Some(files) = files_of(&matches) {
-        if has_flag(&matches, "explain") || is_asked_for(rt) {
+        // A run that ends well has nothing to explain but a verdict's property.
+        let has_more = done.is_err() || files.judged.is_some();
+        if has_more && (has_flag(&matches, "explain") || is_asked_for(rt)) {
             explain(rt, &files, done);
         }
     }

@@ -1,29 +1,16 @@
 -- What is reported of a circuit file.
-use Rattle.std.proofs.Common.{◌≡◌, ◌≢◌, ℕ, ◌==◌, cond, List, get_or, inl, inr, refl, sym, ap, ◌∙◌, subst, arith}
+use Rattle.std.proofs.Common.{◌≡◌, ◌≢◌, ℕ, List, Result, Err, refl, ap}
+use Rattle.std.specs.Prelude.{Option, None, Some, IfSome}
+use Rattle.aig_parts.specs.declared.fault.Fault.{Fault}
+use Rattle.aig_parts.specs.declared.fault.Fault.TheVariants as circuits
 use Rattle.aig_parts.specs.declared.raw.Raw.{Raw}
-use Rattle.aig_format.specs.declared.reader.header.Format.{Format}
-use Rattle.aig_format.specs.declared.reader.header.Format.TheVariants.{Ascii, Binary}
-use Rattle.aig_format.specs.Header.{header_line}
-use Rattle.aig_format.specs.Spelling.{ascii, binary}
-use Rattle.aig_format.specs.Spells.{Spells, SpellsAscii, SpellsBinary}
-use Rattle.aig_commands.specs.Info.{IsInFormat}
 
--- the second byte names the format
-second_of_ascii : (bytes : List ℕ) (raw : Raw) → SpellsAscii bytes raw → get_or bytes 1 0 ≡ 97
-unfolding ascii header_line
-second_of_ascii bytes raw s = ap (λ (xs : List ℕ). get_or xs 1 0) s.spelled
+-- what holds of the bytes that a reader holds, where it says which
+pub by_known : (left : Option (List ℕ)) {P : List ℕ → Type 0} → ((bytes : List ℕ) → left ≡ Some bytes → P bytes) → IfSome left P
+by_known None h = tt
+by_known (Some bytes) h = h bytes refl
 
-second_of_binary : (bytes : List ℕ) (raw : Raw) → SpellsBinary bytes raw → get_or bytes 1 0 ≡ 105
-unfolding binary header_line
-second_of_binary bytes raw s = ap (λ (xs : List ℕ). get_or xs 1 0) s.spelled
-
-pub format_reported : (bytes : List ℕ) (raw : Raw) (second : ℕ) (format : Format) → second ≡ get_or bytes 1 0
-    → format ≡ cond (second == 105) Binary Ascii → Spells bytes raw → IsInFormat format bytes raw
-format_reported bytes raw second format at by (inl s) =
-    let is : second ≡ 97 = at ∙ second_of_ascii bytes raw s in
-    let same : format ≡ Ascii = by ∙ ap (λ (b : ℕ). cond (b == 105) Binary Ascii) is in
-    subst (λ (f : Format). IsInFormat f bytes raw) (sym same) s
-format_reported bytes raw second format at by (inr s) =
-    let is : second ≡ 105 = at ∙ second_of_binary bytes raw s in
-    let same : format ≡ Binary = by ∙ ap (λ (b : ℕ). cond (b == 105) Binary Ascii) is in
-    subst (λ (f : Format). IsInFormat f bytes raw) (sym same) s
+-- a fault that is not of a read is not, whatever was to be read
+pub no_read : {X : Type 0} (fault : Fault) → ◌≢◌ {A = Result Raw Fault} (Err fault) (Err circuits.Io)
+    → ◌≢◌ {A = Result X Fault} (Err fault) (Err circuits.Io)
+no_read fault other is = other (let e : fault ≡ circuits.Io = cc in ap (λ (f : Fault). Err f) e)

@@ -1,6 +1,6 @@
 -- What `info` writes: a line for each fact about a circuit file, its name and its value. Which they are is our own choice.
 use Rattle.std.specs.Prelude.{◌≡◌, ◌↔◌, ℕ, Bool, true, false, IsTrue, List, [], ◌∷◌, ◌++◌, length, codes, count_by, ◌==◌}
-use Rattle.std.specs.Prelude.{Option, None, Some, Result, Ok, Err}
+use Rattle.std.specs.Prelude.{Option, None, Some, Result, Ok, Err, IfSome}
 use Rattle.std.specs.List.{flat_map}
 use Rattle.std.specs.Fmt.{decimal}
 use Rattle.aig_parts.specs.declared.latch.Latch.{Latch}
@@ -10,7 +10,7 @@ use Rattle.aig_base.specs.Greatest.{IsGreatestFanOut, IsGreatestLevel}
 use Rattle.aig_base.specs.Renumbered.{IsBinaryReady}
 use Rattle.aig_format.specs.declared.reader.header.Format.{Format}
 use Rattle.aig_format.specs.declared.reader.header.Format.TheVariants.{Ascii, Binary}
-use Rattle.aig_format.specs.Spells.{SpellsAscii, SpellsBinary}
+use Rattle.aig_format.specs.Formats.{IsInFormat}
 use Rattle.aig_commands.specs.declared.info.Facts.{Facts}
 use Rattle.aig_run.specs.declared.run_fault.RunFault.{RunFault}
 use Rattle.aig_run.specs.declared.run_fault.RunFault.TheVariants as run_faults
@@ -23,11 +23,6 @@ format_name Binary = codes "aig"
 abbrev pub yes_or_no : Bool → List ℕ
 yes_or_no true = codes "yes"
 yes_or_no false = codes "no"
-
--- the bytes are a file of the parts in this format
-abbrev pub IsInFormat : Format → List ℕ → Raw → Type 0
-IsInFormat Ascii bytes raw = SpellsAscii bytes raw
-IsInFormat Binary bytes raw = SpellsBinary bytes raw
 
 -- the latch starts at 1 (AIGER 1.9, resets)
 abbrev pub starts_at_one : Latch → Bool
@@ -46,9 +41,9 @@ abbrev pub comment_size : Option (List ℕ) → ℕ
 comment_size None = 0
 comment_size (Some bytes) = length bytes
 
--- the facts that no part has by itself
-pub record AreFacts (bytes : List ℕ) (raw : Raw) (facts : Facts) : Type 0 where
-  pub format : IsInFormat facts.format bytes raw
+-- the facts that no part has by itself, of a file whose bytes may be known
+pub record AreFacts (file : Option (List ℕ)) (raw : Raw) (facts : Facts) : Type 0 where
+  pub format : IfSome file (λ bytes. IsInFormat facts.format bytes raw)
   pub levels : IsGreatestLevel raw facts.levels
   pub fan_out : IsGreatestFanOut raw facts.fan_out
   pub ready : IsTrue facts.is_ready ↔ IsBinaryReady raw
@@ -79,8 +74,9 @@ info_text raw facts =
     fact_line (codes "format") (format_name facts.format)
     ++ (number_lines raw facts ++ fact_line (codes "ready") (yes_or_no facts.is_ready))
 
--- what `info` writes for the file of a circuit; nothing where no memory was found for levels or fan-outs
-abbrev pub ListsFacts : List ℕ → Raw → Result (Unit {0}) RunFault → List ℕ → Type 0
+-- what `info` writes for the file of a circuit, whose bytes may be known; nothing where no memory was found for levels or
+-- fan-outs
+abbrev pub ListsFacts : Option (List ℕ) → Raw → Result (Unit {0}) RunFault → List ℕ → Type 0
 ListsFacts file raw (Ok done) text = (facts : Facts) × AreFacts file raw facts × (text ≡ info_text raw facts)
 ListsFacts file raw (Err run_faults.Memory) text = text ≡ []
 ListsFacts file raw (Err _) text = ⊥

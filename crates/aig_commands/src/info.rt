@@ -1,25 +1,24 @@
 //! `info`: facts about a circuit file, and the names of its entries.
-ghost use Rattle.std.specs.Prelude.{◌≡◌, ℕ, ◌==◌, count_by, slice_index, if◌then◌else◌, IfOk};
+ghost use Rattle.std.specs.Prelude.{◌≡◌, ℕ, ◌==◌, List, Option, count_by, IfOk, IfSome};
 ghost use Rattle.std.specs.List.{flat_map};
 ghost use Rattle.aig_bytes.specs.Bytes.{Writes};
-ghost use Rattle.aig_parts.specs.declared.raw.Raw.{Raw};
 ghost use Rattle.aig_base.specs.Greatest.{IsGreatestLevel};
-ghost use Rattle.aig_format.specs.Spells.{Spells};
+ghost use Rattle.aig_format.specs.Formats.{IsInFormat};
 ghost use Rattle.aig_bytes.specs.Flow.{flow};
 ghost use Rattle.aig_run.specs.Command.{CommandEnds};
-ghost use Rattle.aig_commands.specs.Info.{AreFacts, ListsFacts, IsInFormat, comment_size, fact_line, format_name};
+ghost use Rattle.aig_commands.specs.Info.{AreFacts, ListsFacts, comment_size, fact_line, format_name};
 ghost use Rattle.aig_commands.specs.Info.{info_text, fact_number_line, number_lines, yes_or_no};
 ghost use Rattle.aig_commands.specs.Info.{is_constant, is_impossible, starts_at_one};
 ghost use Rattle.aig_commands.specs.Names.{ListsNames, entries_text};
-ghost use Rattle.aig_run.specs.Command.{IsFileOf, OfFile, OfReader};
+ghost use Rattle.aig_run.specs.Command.{OfReader};
 
 use crate::entries::write_entries;
 use aig_base::{
     Circuit, Io, Latch, Levels, Lit, Memory, Read, Write, greatest_fan_out, is_binary_ready,
     write_all,
 };
-use aig_format::{Format, read_from};
-use aig_run::{RunFault, flushed, read_circuit};
+use aig_format::{Format, read_from, read_with_format};
+use aig_run::{RunFault, flushed};
 use aig_unroll::uninitialised;
 use itoa::Buffer;
 use std::alloc::Global;
@@ -31,31 +30,6 @@ pub struct Facts {
     pub levels: u32,
     pub fan_out: u32,
     pub is_ready: bool,
-}
-
-/// The second byte of a file; 0 where there is none.
-fn second_byte(file: &[u8]) -> u8
-    ensures { result ≡ slice_index file.now 1 }
-{
-    if file.len() > 1 { file[1] } else { 0 }
-}
-
-/// The format of the circuit files that have this second byte.
-fn format_by(second: u8) -> Format
-    ensures { result ≡ (if second == 105 then Format.Binary else Format.Ascii) }
-{
-    if second == b'i' {
-        Format::Binary
-    } else {
-        Format::Ascii
-    }
-}
-
-/// The format of a circuit file.
-fn format_of(file: &[u8]) -> Format
-    ensures { (raw : Raw) → Spells file.now raw → IsInFormat result file.now raw }
-{
-    format_by(second_byte(file))
 }
 
 /// The name of a format, as the first word of a file has it.
@@ -82,13 +56,13 @@ fn greatest_level(alloc: Global, circuit: &Circuit) -> Result<u32, Memory>
     Ok(levels.greatest(circuit))
 }
 
-/// The facts of a file and its circuit. Memory is taken for the levels, and then for the fan-outs.
-fn facts_of(alloc: Global, file: &[u8], circuit: &Circuit) -> Result<Facts, Memory>
-    requires { IsFileOf file.now circuit.now }
-    ensures { IfOk result (AreFacts file.now circuit.now) }
+/// The facts of a circuit in a file of this format. Memory is taken for the levels, and then for the fan-outs.
+fn facts_of(alloc: Global, format: Format, circuit: &Circuit) -> Result<Facts, Memory>
+    ensures { (file : Option (List ℕ)) → IfSome file (λ bytes. IsInFormat format bytes circuit.now)
+        → IfOk result (AreFacts file circuit.now) }
 {
     Ok(Facts {
-        format: format_of(file),
+        format,
         levels: greatest_level(alloc, circuit)?,
         fan_out: greatest_fan_out(alloc, circuit)?,
         is_ready: is_binary_ready(circuit),
@@ -191,17 +165,17 @@ fn write_info<W: Write>(circuit: &Circuit, facts: &Facts, out: &mut W) -> Result
     write_fact("ready", yes_or_no(facts.is_ready), out)
 }
 
-/// Finds the facts of a circuit and writes all lines.
+/// Finds the facts of a circuit in a file of this format, and writes all lines.
 fn list_facts<W: Write>(
     alloc: Global,
-    file: &[u8],
+    format: Format,
     circuit: &Circuit,
     out: &mut W,
 ) -> Result<(), RunFault>
-    requires { IsFileOf file.now circuit.now }
-    ensures { CommandEnds (flow W.written W.failures out.old out.new) RunFault.Output (ListsFacts file.now circuit.now) result }
+    ensures { (file : Option (List ℕ)) → IfSome file (λ bytes. IsInFormat format bytes circuit.now)
+        → CommandEnds (flow W.written W.failures out.old out.new) RunFault.Output (ListsFacts file circuit.now) result }
 {
-    let facts = facts_of(alloc, file, circuit)?;
+    let facts = facts_of(alloc, format, circuit)?;
     match write_info(circuit, &facts, out) {
         Ok(()) => Ok(()),
         Err(Io) => Err(RunFault::Output),
@@ -209,26 +183,32 @@ fn list_facts<W: Write>(
 }
 
 /// Reads a circuit and writes what it is, without a flush at the end.
-fn read_and_list<W: Write>(alloc: Global, file: &[u8], out: &mut W) -> Result<(), RunFault>
+fn read_and_list<R: Read, W: Write>(
+    alloc: Global,
+    circuit: &mut R,
+    out: &mut W,
+) -> Result<(), RunFault>
     ensures { CommandEnds (flow W.written W.failures out.old out.new) RunFault.Output
-        (OfFile file.now (ListsFacts file.now)) result }
+        (OfReader (flow R.left R.failures circuit.old circuit.new) (ListsFacts (R.left circuit.old))) result }
 {
-    let circuit = read_circuit(alloc, file)?;
-    list_facts(alloc, file, &circuit, out)
+    match read_with_format(alloc, circuit) {
+        Ok((format, circuit)) => list_facts(alloc, format, &circuit, out),
+        Err(fault) => Err(RunFault::Circuit(fault)),
+    }
 }
 
 /// The command `info`: reads a circuit and writes what it is, a line for each fact, `name value`. The facts are its
 /// format and the counts of its parts, the bad state properties that are constants, the constraints that no run keeps,
 /// the latches that start at no known value and those that start at 1, its greatest level and fan-out, its names and the bytes of its comment. The last
 /// one is whether the binary format can hold it as it stands. For every circuit file that is accepted, the text is that
-/// of its circuit. Where the file is refused, or no memory was found for levels or fan-outs, nothing is written. It
-/// flushes the writer before it answers.
-pub fn info<W: Write>(alloc: Global, file: &[u8], out: &mut W) -> Result<(), RunFault>
+/// of its circuit. The file is never held whole. Where it is refused, or no memory was found for levels or fan-outs,
+/// nothing is written. It flushes the writer before it answers.
+pub fn info<R: Read, W: Write>(alloc: Global, circuit: &mut R, out: &mut W) -> Result<(), RunFault>
     ensures ends { CommandEnds (flow W.written W.failures out.old out.new) RunFault.Output
-        (OfFile file.now (ListsFacts file.now)) result }
+        (OfReader (flow R.left R.failures circuit.old circuit.new) (ListsFacts (R.left circuit.old))) result }
     ensures flushed { W.failures out.new ≡ W.failures out.old → W.is_flushed out.new }
 {
-    let done = read_and_list(alloc, file, out);
+    let done = read_and_list(alloc, circuit, out);
     flushed(done, out, RunFault::Output)
 }
 

@@ -1,2 +1,3 @@
 pub mod ExitStatus
+pub mod Known
 pub mod Source

@@ -4,6 +4,7 @@
 mod exit;
 mod files;
 mod kept;
+mod known;
 mod new_file;
 mod output_file;
 mod reserved;
@@ -14,6 +15,7 @@ pub use aig_terminal::Part;
 pub use exit::Exit;
 pub use files::{open, output, read_whole};
 pub use kept::Kept;
+pub use known::Known;
 pub use new_file::{NewFile, OUTPUT, are_one, is_free, name_beside};
 pub use output_file::{OutputFile, find, open_pipe};
 pub use reserved::{Reserved, reserve};

@@ -1,10 +1,9 @@
 -- What the reader answers.
-use Rattle.std.proofs.Common.{◌≡◌, ◌≢◌, inl, inr, ℕ, List, Result, Ok, Err, refl, sym, ap, subst, ◌∙◌, arith}
+use Rattle.std.proofs.Common.{◌≡◌, ◌≢◌, ℕ, List, Result, Ok, Err, refl, sym, ap, subst, ◌∙◌, arith}
 use Rattle.std.specs.Prelude.{IfOk, IfErr}
 use Rattle.aig_parts.specs.declared.raw.Raw.{Raw}
 use Rattle.aig_parts.specs.declared.fault.Fault.{Fault}
 use Rattle.aig_parts.specs.declared.fault.Fault.TheVariants as faults
-use Rattle.aig_parts.specs.Formed.{IsFormed}
 use Rattle.aig_base.specs.FirstFault.{fault_order, IsFirstFault}
 use Rattle.aig_format.specs.Spells.{Spells, HasWrongCounts}
 use Rattle.aig_format.specs.state.Reading.{text, limit}
@@ -69,6 +68,11 @@ err_of_parts bytes fault h of_parts = absurd h
 
 fault_is : (e f : Fault) → failed_by e ≡ failed_by f → e ≡ f
 fault_is e f h = cc
+
+-- of an answer with more in it too
+pub failed_other : {X : Type 0} (e : Fault) → ◌≢◌ {A = Result X Fault} (Err e) (Err faults.Io)
+    → (failed_by e ≢ failed_by faults.Io)
+failed_other e other is = other (ap (λ (f : Fault). Err f) (fault_is e faults.Io is))
 
 pub err_reading : (bytes : List ℕ) (e : Fault) → FileFails e (file_at bytes) → (failed_by e ≢ failed_by faults.Io)
     → IsReading bytes (Err e)

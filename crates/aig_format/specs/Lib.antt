@@ -3,4 +3,5 @@ pub mod Header
 pub mod Spelling
 pub mod Spells
 pub mod FileReading
+pub mod Formats
 pub mod state

@@ -4,11 +4,14 @@ ghost use Rattle.aig_base.specs.Circuit.{IsCircuit};
 ghost use Rattle.aig_base.specs.FirstFault.{IsFirstFault};
 ghost use Rattle.aig_base.specs.Renumbered.{IsBinaryReady};
 ghost use Rattle.aig_parts.specs.Formed.{IsFormed};
+ghost use Rattle.aig_parts.specs.declared.raw.Raw.{Raw};
 ghost use Rattle.aig_format.specs.declared.reader.header.Format.TheVariants.{Binary};
 ghost use Rattle.aig_format.specs.Header.{AreWithin, are_wrong};
 ghost use Rattle.aig_format.specs.state.ReaderAnswers.{AnswersRead};
 ghost use Rattle.aig_format.specs.state.Reads.{ReadsAs};
 ghost use Rattle.aig_format.specs.FileReading.{IsReading, Raises};
+ghost use Rattle.aig_format.specs.Formats.{IsInFormat, without_format};
+ghost use Rattle.aig_format.specs.Spells.{Spells};
 ghost use Rattle.aig_format.specs.state.ReadingFile.{body_at, file_at};
 
 mod ascii;
@@ -52,6 +55,8 @@ fn body<S: Source>(alloc: Global, s: &mut S, format: Format, counts: &Counts) ->
 #[tactic(auto, unfolding(crate::specs::state::ReadingFile::file_at))]
 fn file<S: Source>(alloc: Global, s: &mut S) -> Result<(Format, Raw), Fault>
     ensures bytes { S.reports s.old → AnswersRead (λ x. x.1) result (file_at (S.left s.old)) }
+    ensures format { S.reports s.old → IfOk result
+        (λ x. (raw : Raw) → Spells (S.left s.old) raw → IsInFormat x.0 (S.left s.old) raw) }
     ensures formed { IfOk result (λ x. IsFormed x.1) }
     ensures ready { IfOk result (λ x. x.0 ≡ Binary → IsBinaryReady x.1) }
     ensures reader { S.reader s.new ≡ S.reader s.old }
@@ -80,6 +85,19 @@ fn checked(alloc: Global, format: Format, raw: Raw) -> Result<Circuit, Fault>
     }
 }
 
+/// The circuit that the bytes left spell, all of them, and their format.
+fn circuit_with_format<S: Source>(alloc: Global, s: &mut S) -> Result<(Format, Circuit), Fault>
+    ensures answers { S.reports s.old → result ≢ Err Fault.Io → IsReading (S.left s.old) (without_format result) }
+    ensures format { S.reports s.old → IfOk result (λ x. IsInFormat x.0 (S.left s.old) x.1) }
+    ensures circuit { IfOk result (λ x. IsCircuit x.1) }
+    ensures reader { S.reader s.new ≡ S.reader s.old }
+    ensures failures { Raises result (S.failures s.old) (S.failures s.new) }
+{
+    let (format, raw) = file(alloc, s)?;
+    let circuit = checked(alloc, format, raw)?;
+    Ok((format, circuit))
+}
+
 /// The circuit that the bytes left spell, all of them.
 fn circuit<S: Source>(alloc: Global, s: &mut S) -> Result<Circuit, Fault>
     ensures answers { S.reports s.old → result ≢ Err Fault.Io → IsReading (S.left s.old) result }
@@ -87,8 +105,8 @@ fn circuit<S: Source>(alloc: Global, s: &mut S) -> Result<Circuit, Fault>
     ensures reader { S.reader s.new ≡ S.reader s.old }
     ensures failures { Raises result (S.failures s.old) (S.failures s.new) }
 {
-    let (format, raw) = file(alloc, s)?;
-    checked(alloc, format, raw)
+    let (_, circuit) = circuit_with_format(alloc, s)?;
+    Ok(circuit)
 }
 
 /// The circuit of a file, ASCII or binary as its first word says (AIGER 1.0; AIGER 1.9 for resets and properties).
@@ -119,4 +137,18 @@ pub fn read_from<R: Read>(alloc: Global, reader: &mut R) -> Result<Circuit, Faul
 {
     let mut source = Stream::new(reader);
     circuit(alloc, &mut source)
+}
+
+/// What `read_from` answers, and the format of the file.
+pub fn read_with_format<R: Read>(alloc: Global, reader: &mut R) -> Result<(Format, Circuit), Fault>
+    ensures answers { (bytes : List ℕ) → R.left reader.old ≡ Some bytes → result ≢ Err Fault.Io
+        → IsReading bytes (without_format result) }
+    ensures format { (bytes : List ℕ) → R.left reader.old ≡ Some bytes
+        → IfOk result (λ x. IsInFormat x.0 bytes x.1) }
+    ensures circuit { IfOk result (λ x. IsCircuit x.1) }
+    // It answers `Io` where a read failed, and then only.
+    ensures io { Raises result (R.failures reader.old) (R.failures reader.new) }
+{
+    let mut stream = Stream::new(reader);
+    circuit_with_format(alloc, &mut stream)
 }

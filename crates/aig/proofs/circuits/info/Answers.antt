@@ -1,26 +1,21 @@
+use Rattle.std.proofs.Common.{◌∙◌, ℕ, List, Option, Some, ap, subst}
 use Rattle.aig_commands.specs.Info.{ListsFacts}
+use Rattle.aig_files.specs.Known.{still_known}
 use Rattle.aig_run.specs.Command.{OfFile}
-use Rattle.aig_terminal.specs.declared.part.Part.TheVariants as parts
-use Rattle.aig.specs.Ends.{Ends, as_meant, end_of}
-use Rattle.aig.proofs.Endings.{answers, of_any, of_whole, slice_whole, ends_unread}
+use Rattle.aig.specs.Ends.{Ends, end_of}
+use Rattle.aig.proofs.Endings.{known_at_first, of_left, streamed_ends}
 use Rattle.aig.proofs.circuits.info.Goals as goal
 
 pub returns : goal.returns
 returns g c =
-    let file = c.as_slice-file.result.now in
+    let left = g.F.Read.remaining in
+    let k = c.new-circuit.result in
+    let first = still_known (left k.first) (left k.inner) in
     record {
-      ends =
-          of_whole (g.F.Read.remaining c.args.circuit) file
-          (slice_whole (g.F.Read.remaining c.args.circuit) _ _ c.as_slice-file.ensures.value c.in_ok-circuit.ensures.whole)
-          (λ xs. Ends end_of (OfFile xs (ListsFacts xs)) c.ended.result)
-          (as_meant c.info.result (answers _ (OfFile file (ListsFacts file)) c.info.result c.info.ensures.ends) c.ended.ensures);
-    }
-
-pub returns-in_err-circuit : goal.returns-in_err-circuit
-returns-in_err-circuit g c =
-    record {
-      ends =
-          of_any (g.F.Read.remaining c.args.circuit) (λ xs. Ends end_of (OfFile xs (ListsFacts xs)) c.from_residual.result)
-          (λ xs. (ends_unread c.from_residual.result c.in_err-circuit.field-0.0 parts.Circuit c.in_err-circuit.ensures.fails
-          c.from_residual.ensures.1));
+      ends = of_left (left c.args.circuit) (λ file. Ends end_of (OfFile file (ListsFacts (Some file))) c.streamed.result) (λ file is.
+          let known = known_at_first (left k.first) (left k.inner) file (ap left c.new-circuit.ensures.first ∙ is)
+          (ap left c.new-circuit.ensures.inner ∙ is) in
+          subst (λ (o : Option (List ℕ)). Ends end_of (OfFile file (ListsFacts o)) c.streamed.result) known
+          (streamed_ends _ _ (ListsFacts first) file known c.info.result c.streamed.result c.info.ensures.ends
+          c.streamed.ensures.unread c.streamed.ensures.others));
     }

@@ -8,19 +8,19 @@ use Rattle.aig_run.proofs.Written.{got_all, got_none, got_part}
 use Rattle.aig_run.specs.Command.{CommandEnds}
 
 pub returns-in-Ok : goal.returns-in-Ok
-returns-in-Ok g c =
+returns-in-Ok g c = λ file format.
     let facts = c.in_ok-facts.facts in
-    CommandEnds.writes_all (info_text c.args.circuit.now facts) (facts, c.in_ok-facts.ensures, refl)
+    CommandEnds.writes_all (info_text c.args.circuit.now facts) (facts, c.in_ok-facts.ensures file format, refl)
     (got_all g.W.Write.written g.W.Write.failures c.args.out.now c.write_info.new.out (info_text c.args.circuit.now facts) tt c.in-Ok.ensures)
 
 pub returns-in-Err : goal.returns-in-Err
-returns-in-Err g c =
+returns-in-Err g c = λ file format.
     let facts = c.in_ok-facts.facts in
-    CommandEnds.breaks_off (Ok tt) (info_text c.args.circuit.now facts) (facts, c.in_ok-facts.ensures, refl)
+    CommandEnds.breaks_off (Ok tt) (info_text c.args.circuit.now facts) (facts, c.in_ok-facts.ensures file format, refl)
     (got_part g.W.Write.written g.W.Write.failures c.args.out.now c.write_info.new.out (info_text c.args.circuit.now facts) _ c.in-Err.ensures)
 
 pub returns-in_err-facts : goal.returns-in_err-facts
-returns-in_err-facts g c =
+returns-in_err-facts g c = λ file format.
     answered c.from_residual.result run_faults.Memory
-    (CommandEnds (flow g.W.Write.written g.W.Write.failures c.args.out.now c.args.out.now) run_faults.Output (ListsFacts c.args.file.now c.args.circuit.now))
+    (CommandEnds (flow g.W.Write.written g.W.Write.failures c.args.out.now c.args.out.now) run_faults.Output (ListsFacts file c.args.circuit.now))
     c.from_residual.ensures.1 (CommandEnds.writes_all [] refl (got_none g.W.Write.written g.W.Write.failures c.args.out.now))
