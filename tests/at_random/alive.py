@@ -48,7 +48,8 @@ def case(program, rng):
     write("circuit", text)
     ended = program.run("cnf", "--alive", "--frames", str(frames), "circuit")
     said = ended.out.decode()
-    if (ended.status, ended.err) != (0, b"") or not said.startswith(names_of(text, parts, frames) + "c b "):
+    lines = f"c aig cnf --alive --frames {frames} \n" + names_of(text, parts, frames)
+    if (ended.status, ended.err) != (0, b"") or not said.startswith(lines + "c b "):
         raise Wrong(f"other lines: {ended}")
     formula = Formula(said)
     if len(formula.goals) != frames or formula.clauses[:2] != [[-1], formula.goals[-1:]]:

@@ -57,7 +57,7 @@ def bytes_of(program, rng):
     words = ["--certificate", "claims", "--property", str(asked), "model"]
     for word, command, written in (("strengthen", ["strengthen", "--to", "aag"], lambda x: spelled(x, "aag")),
                                    ("strengthen", ["strengthen", "--to", "aig"], lambda x: spelled(in_order(x), "aig")),
-                                   ("cnf", ["cnf"], formula)):
+                                   ("cnf", ["cnf"], lambda x: formula(x, asked))):
         got = program.run(*command, *words)
         try:
             wanted = Ended(0, written(strengthened(model, asked, claims, word)), b"")

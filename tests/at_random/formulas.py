@@ -33,9 +33,18 @@ class Formula:
             raise Wrong("a line that is not a clause")
 
 
+def symbols_of(text, letters):
+    return dict(line.split(" ", 1) for line in text.split("\nc\n")[0].splitlines() if line[0] in letters)
+
+
+def heading_of(text, frames, bad):
+    """The comment line that says what was asked for."""
+    return f"c aig cnf --frames {frames} --property {bad} {symbols_of(text, 'b').get(f'b{bad}', '')}\n"
+
+
 def names_of(text, parts, frames):
     """The comment lines that name inputs and starts."""
-    symbols = dict(line.split(" ", 1) for line in text.split("\nc\n")[0].splitlines() if line[0] in "il")
+    symbols = symbols_of(text, "il")
     free = [p for p, (lit, _, reset) in enumerate(parts.latches) if reset == lit]
     width = len(parts.inputs)
     lines = [f"c i {t * width + p + 2} {t} {p} {symbols.get(f'i{p}', '')}\n" for t in range(frames) for p in range(width)]
@@ -102,7 +111,8 @@ def case(program, rng):
             raise Wrong(f"{ended} at a property that is not there")
         return "refused"
     said = ended.out.decode()
-    if (ended.status, ended.err) != (0, b"") or not said.startswith(names_of(text, parts, frames) + "c b "):
+    lines = heading_of(text, frames, bad) + names_of(text, parts, frames)
+    if (ended.status, ended.err) != (0, b"") or not said.startswith(lines + "c b "):
         raise Wrong(f"other lines: {ended}")
     formula = Formula(said)
     if len(formula.goals) != frames or formula.clauses[:2] != [[-1], formula.goals]:

@@ -59,11 +59,11 @@ def run(
     good: Sequence[int] = (0,),
 ) -> bytes:
     """What the program prints for these files, and for those that an option names. It raises the error of any other run:
-    one with a message, or with a status that is not `good`."""
+    one with a message, or with a status that is not `good`. That a verdict's property is named is no message."""
     with held(*named.values(), *files) as (paths, descriptors):
         by_option = [word for option, path in zip(named, paths) for word in (option, path)]
         words = [program(), command, "--explain", *options, *by_option, *paths[len(named):]]
         done = subprocess.run(words, stdin=subprocess.DEVNULL, capture_output=True, pass_fds=descriptors, check=False)
-    if done.returncode not in good or done.stderr:
+    if done.returncode not in good or done.stderr.startswith(b"aig: "):
         raise error_of(done.returncode, done.stderr.decode("utf-8", "replace"))
     return done.stdout
