@@ -155,7 +155,8 @@ one of the frames 0 to K - 1, and all constraints are 1 at the frames up to it.
 If there is no such run, no assignment satisfies it. cnf ignores justice
 properties and fairness constraints.
 
-Comment lines say what the variables are. Positions and frames count from 0:
+The first line is a comment with this command. More comment lines say what the
+variables are. Positions and frames count from 0:
   c i V T P NAME  variable V is input P at frame T
   c l V P NAME    variable V is the initial value of latch P (uninitialised)
   c b L T         literal L says that frame T is such a frame
@@ -187,7 +188,9 @@ pub const INFO: &str = "A line has a name, one space and a value. The names, in 
                  number of entries of each kind
   constant       number of bad state properties that are the literal 0 (never
                  true) or 1 (always true)
-  constraints, justice, fairness
+  constraints    number of constraints
+  impossible     number of constraints that are the literal 0: no run keeps one
+  justice, fairness
                  number of entries of each kind
   uninitialised  number of latches that start at any value
   resets         number of latches that start at 1
