@@ -711,9 +711,9 @@ class Pair:
 
     @staticmethod
     def answer(program, words):
-        """A run's status, and what it writes and says."""
+        """A run's status, and what it writes and says. The C++ program does not write the first line of a formula."""
         ran = subprocess.run([program, *words], stdin=subprocess.DEVNULL, capture_output=True, check=False)
-        return ran.returncode, ran.stdout, ran.stderr
+        return ran.returncode, re.sub(rb"\Ac aig cnf .*\n", b"", ran.stdout), ran.stderr
 
     def compare(self, note, words, other_words=None):
         one, other = self.answer(self.aig, words), self.answer(self.tuned, other_words or words)

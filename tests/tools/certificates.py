@@ -74,7 +74,7 @@ def same_bytes(program, tally, asked, model, certificate, place=0):
     for to, parts in (("aag", circuit), ("aig", in_order(circuit))):
         tally.compare(f"{asked}: strengthen to {to}", program.run("strengthen", "--to", to, *words),
                       Ended(0, spelled(parts, to), b""))
-    tally.compare(f"{asked}: cnf", program.run("cnf", *words), Ended(0, formula(circuit), b""))
+    tally.compare(f"{asked}: cnf", program.run("cnf", *words), Ended(0, formula(circuit, place), b""))
 
 
 def proved_designs(tally, tools):
