@@ -14,10 +14,10 @@
 # the one that it would choose.
 
 PREFIX ?= /usr/local
-PROGRAM ?= $(shell release/gate.py program)
+PROGRAM ?= $(shell tools/gate.py program)
 ROOT = $(DESTDIR)$(PREFIX)
 DOCUMENTS = $(ROOT)/share/doc/aig
-SOURCES := $(shell find crates -name out -prune -o -name '*.rt' -print) crates.txt tests/build_unproved.sh
+SOURCES := $(shell find crates -name out -prune -o -name '*.rt' -print) crates.txt tools/build_unproved.sh
 
 aig: build/aig
 	@echo "build/aig is ready. Nothing of it is proved; 'make prove' proves it."
@@ -26,14 +26,14 @@ build/aig: $(SOURCES)
 	@for tool in rt cc python3; do command -v $$tool > /dev/null || { echo "make: there is no $$tool" >&2; exit 1; }; done
 	@echo "Building build/aig without its proofs: about three minutes."
 	@mkdir -p build
-	@tests/build_unproved.sh "$(CURDIR)" aig build/aig
+	@tools/build_unproved.sh "$(CURDIR)" aig build/aig
 
 demo: build/aig
 	@tests/tour.py build/aig
 
 build/aig_proof_tests: $(SOURCES)
 	@mkdir -p build
-	@tests/build_unproved.sh "$(CURDIR)" aig_proof_tests build/aig_proof_tests
+	@tools/build_unproved.sh "$(CURDIR)" aig_proof_tests build/aig_proof_tests
 
 test: build/aig build/aig_proof_tests
 	@echo "Running all tests on build/aig: about five minutes."
@@ -63,7 +63,7 @@ wheel: $(PROGRAM)
 	@python/make_wheel.py build "$(PROGRAM)"
 
 dist:
-	@release/pack.py
+	@tools/pack.py
 
 clean:
 	rm -rf build/aig build/aig_proof_tests build/dist

@@ -1,5 +1,5 @@
 # Completion of `aig` for bash: put it where bash-completion looks, or `source` it. It works without bash-completion.
-# completions/make.py writes aig.bash: its tables from the program's help, all else from aig.bash.in.
+# tools/make_completions.py writes aig.bash: its tables from the program's help, all else from aig.bash.in.
 
 _aig() {
     local commands="toaig info select unroll sim wave bench check witness reduce cnf refute strengthen help"

@@ -1,5 +1,5 @@
 #!/usr/bin/env python3
-"""Runs every script of tests/ on a program, and counts all checks in the last line.
+"""Runs every test script on a program, and counts all checks in the last line.
 
 The script with the large files takes most of the time, so it runs beside all others. With --crates the tests of the
 crates run beside both. It runs them by `rt try --test`, which proves nothing; in the gate `rt ci` proves and runs them.
@@ -21,8 +21,8 @@ SCRIPTS = ("run_program.py", "run_faults.py", "run_random.py", "run_dist.py", "t
 STEPS = "run_steps.py"
 # this runs the package of Python
 PACKAGE = "python/tests/run_package.py"
-# these read the sources alone
-READERS = ("definitions.py", "contracts.py", "edges.py", "calling.py")
+# these read the sources and pages alone
+READERS = ("tools/definitions.py", "tools/contracts.py", "tools/edges.py", "tests/calling.py")
 CRATES = ("aig_tests", "aig_command_tests", "aig_bench_tests")
 COUNTS = re.compile(r"(\d+) passed[,;] (\d+) failed")
 SHOWN = re.compile(r"(?m)^.*(?: passed[,;] |left out|to believe|as the sources).*\n")
@@ -53,7 +53,7 @@ def main():
     steps = [f"{os.path.dirname(program[0])}/aig_proof_tests"] if program else []
     lanes[1] += [(STEPS, [f"{TESTS}/{STEPS}", *steps], REPOSITORY)]
     lanes[1] += [(PACKAGE, [f"{REPOSITORY}/{PACKAGE}", *program], REPOSITORY)]
-    lanes[1] += [(name, [f"{TESTS}/{name}"], REPOSITORY) for name in READERS]
+    lanes[1] += [(name, [f"{REPOSITORY}/{name}"], REPOSITORY) for name in READERS]
     if chosen.crates:
         lanes.append([(name, ["rt", "try", "--test"], f"{REPOSITORY}/crates/{name}") for name in CRATES])
     with concurrent.futures.ThreadPoolExecutor() as pool:

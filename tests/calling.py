@@ -7,13 +7,14 @@
 
 The script reads text and proves nothing."""
 
+import pathlib
 import re
 import sys
 
-from library.specs import ROOT
+from library.runs import REPOSITORY
 
-PAGE = ROOT / "docs" / "CALLING.md"
-CRATE = ROOT / "crates" / "aig_callers"
+PAGE = pathlib.Path(REPOSITORY, "docs", "CALLING.md")
+CRATE = pathlib.Path(REPOSITORY, "crates", "aig_callers")
 
 
 def wrong_programs():

@@ -19,7 +19,7 @@ from library import runs
 from library.runs import REPOSITORY, LeftOut, contents
 from library.tour import take
 
-sys.path.insert(0, REPOSITORY + "/release")
+sys.path.insert(0, REPOSITORY + "/tools")
 sys.path.insert(0, REPOSITORY + "/python")
 import gate  # noqa: E402
 import make_wheel  # noqa: E402

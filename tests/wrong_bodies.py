@@ -20,7 +20,8 @@ import subprocess
 import sys
 import tempfile
 
-import planted
+sys.path.insert(0, os.path.dirname(os.path.dirname(os.path.abspath(__file__))) + "/tools")
+import planted  # noqa: E402
 
 ROOT = planted.ROOT
 EDITS, SEEN = ROOT / "tests/wrong_bodies", ROOT / "tests/wrong_bodies.txt"
@@ -139,7 +140,7 @@ def built(program, edits):
         shutil.copy(ROOT / "HANDLES", room)
         shutil.copytree(ROOT / "crates", room / "crates", ignore=shutil.ignore_patterns("out", "target"))
         taken = patched(room, edits)
-        subprocess.run([ROOT / "tests/build_unproved.sh", room, "aig", program, room / "choice.c"], check=True)
+        subprocess.run([ROOT / "tools/build_unproved.sh", room, "aig", program, room / "choice.c"], check=True)
     return taken
 
 

@@ -8,11 +8,17 @@ LIMIT = 4194303
 # ---- files
 
 def circuit(rng):
-    """A small circuit in text with all sections, and the numbers of its inputs and latches."""
+    """A small circuit in text with all sections. Of every third one all definitions are in ascending order, and its gates
+    may read greater variables."""
     inputs, latches, gates = rng.randrange(5), rng.randrange(4), rng.randrange(12)
     most = inputs + latches + gates + rng.choice((0, 0, 1, 7))
     variables = rng.sample(range(1, most + 1), inputs + latches + gates)
+    ascending = rng.randrange(3) == 0
+    if ascending:
+        variables.sort()
     sources, lefts = variables[: inputs + latches], variables[inputs + latches:]
+    # a gate reads those before it here
+    rng.shuffle(lefts)
     defined = [0, *variables]
 
     def one(among):
@@ -30,9 +36,12 @@ def circuit(rng):
     ands = []
     for at, left in enumerate(lefts):
         known = [0, *sources, *lefts[:at]]
-        ands.append(f"{2 * left} {one(known)} {one(known)}")
-    rng.shuffle(ands)
-    lines += ands
+        ands.append((left, f"{2 * left} {one(known)} {one(known)}"))
+    if ascending:
+        ands.sort()
+    else:
+        rng.shuffle(ands)
+    lines += [line for _, line in ands]
     names = [f"i{at} in {at}" for at in range(inputs)] + [f"l{at} state" for at in range(latches)]
     lines += rng.sample(names, rng.randrange(len(names) + 1))
     header = f"aag {most} {inputs} {latches} {counts[0]} {gates} " + " ".join(map(str, counts[1:]))

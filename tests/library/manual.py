@@ -41,7 +41,7 @@ def document(name):
 def head(name, section, version, kind, about):
     """The head of a page. Its lines are neither stretched nor hyphenated, so that words can be found and copied, and a
     sentence ends with one space wherever the source breaks its lines."""
-    return (f'.\\" man/make.py writes this page.\n.TH {name.upper()} {section} {DATE} "aig {version}" "{kind}"\n'
+    return (f'.\\" tools/make_manual.py writes this page.\n.TH {name.upper()} {section} {DATE} "aig {version}" "{kind}"\n'
             f".nh\n.ad l\n.ss 12 0\n.SH NAME\n{name.lower().replace('-', chr(92) + '-')} \\- {about}\n")
 
 

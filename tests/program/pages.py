@@ -1,4 +1,4 @@
-"""The manual pages and the completions: they are what man/make.py and completions/make.py write of the program's help. A
+"""The manual pages and the completions: they are what tools/make_manual.py and tools/make_completions.py write of the program's help. A
 terminal of 80 columns shows the manual pages whole, and mandoc has nothing to say of them where it is installed. The
 page on the examples names each of them."""
 
@@ -16,7 +16,7 @@ def pages(program, tally, _):
     left_out = ""
     for name, text in manual_pages(ask).items():
         file = f"{REPOSITORY}/man/{name}"
-        tally.compare(f"pages: man/{name} (man/make.py writes it)", contents(file).decode(), text)
+        tally.compare(f"pages: man/{name} (tools/make_manual.py writes it)", contents(file).decode(), text)
         tally.check(f"pages: man/{name}: files that an installed copy does not have", "docs/" not in text)
         if shutil.which("groff"):
             is_shown(tally, name, file)
@@ -27,7 +27,7 @@ def pages(program, tally, _):
             tally.compare(f"pages: man/{name}: what mandoc says", said.stdout, "")
     for name, text in shells(ask).items():
         file = f"{REPOSITORY}/completions/{name}"
-        tally.compare(f"pages: completions/{name} (completions/make.py writes it)", contents(file).decode(), text)
+        tally.compare(f"pages: completions/{name} (tools/make_completions.py writes it)", contents(file).decode(), text)
     examples = contents(f"{EXAMPLES}/README.md").decode()
     missing = [name for name in os.listdir(EXAMPLES) if name != "README.md" and name.split(".")[0] not in examples]
     tally.compare("pages: examples/README.md: files that it does not name", missing, [])

@@ -1,4 +1,4 @@
-//! Random formulas and a solver's proofs of them in the binary form. `random_formulas.py` writes this file.
+//! Random formulas and a solver's proofs of them in the binary form. `tools/make_formulas.py` writes this file.
 use crate::refutations::Refuted;
 
 pub static BINARY_PROOFS: [Refuted; 10] = [

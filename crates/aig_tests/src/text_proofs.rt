@@ -1,4 +1,4 @@
-//! Random formulas and a solver's proofs of them in the text form. `random_formulas.py` writes this file.
+//! Random formulas and a solver's proofs of them in the text form. `tools/make_formulas.py` writes this file.
 use crate::refutations::Refuted;
 
 pub static TEXT_PROOFS: [Refuted; 10] = [

@@ -8,7 +8,7 @@ false."""
 import collections
 import re
 
-from library.specs import ROOT, imports
+from sources.specs import ROOT, imports
 
 # A function, method or law with its clauses, or a type, a trait or an implementation with what contracts see of it.
 # Each clause is a pair: its head, as `ensures kept`, and its text in braces. `bound` are the names of the parameters,

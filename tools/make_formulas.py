@@ -1,6 +1,6 @@
 #!/usr/bin/env python3
-"""Writes src/text_proofs.rt and src/binary_proofs.rt: random formulas of 20 to 60 variables, three literals a clause,
-that no assignment satisfies, each with the proof that cadical writes of it. It says too of how many first clauses cadical
+"""Writes text_proofs.rt and binary_proofs.rt of crates/aig_tests/src: random formulas of 20 to 60 variables, three
+literals a clause, that no assignment satisfies, each with the proof that cadical writes of it. It says too of how many first clauses cadical
 finds a satisfying assignment: all but the last.
 
 cadical is Debian's package `cadical`; another version of it may write other proofs."""
@@ -11,12 +11,12 @@ import re
 import subprocess
 import tempfile
 
-SOURCES = os.path.dirname(os.path.abspath(__file__)) + "/src"
+SOURCES = os.path.dirname(os.path.dirname(os.path.abspath(__file__))) + "/crates/aig_tests/src"
 UNSATISFIABLE = 20  # cadical's status
 CLAUSES_A_VARIABLE = 5
 # The files: the form of the proofs, the numbers of variables, and cadical's option.
 FILES = (("text", range(20, 57, 4), ["--no-binary"]), ("binary", [*range(22, 57, 4), 60], []))
-HEAD = """//! Random formulas and a solver's proofs of them in the {form} form. `random_formulas.py` writes this file.
+HEAD = """//! Random formulas and a solver's proofs of them in the {form} form. `tools/make_formulas.py` writes this file.
 use crate::refutations::Refuted;
 
 pub static {name}: [Refuted; {count}] = ["""

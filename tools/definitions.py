@@ -10,7 +10,7 @@ With `--clause CLAUSE` it prints those of one clause. A clause without a name is
 `--given NAME` or `--given NAME.CLAUSE` it leaves out what that call or clause rests on too: what is printed is new to
 who has read that. As in
 
-    tests/definitions.py --of refute --clause unreachable --given check.confirmed
+    tools/definitions.py --of refute --clause unreachable --given check.confirmed
 
 What public modules show counts as exported too: crates above use it.
 
@@ -21,8 +21,8 @@ import argparse
 import collections
 import sys
 
-from library.exports import Crate, crates
-from library.specs import ROOT, Specs, words
+from sources.exports import Crate, crates
+from sources.specs import ROOT, Specs, words
 
 
 def clauses(export):

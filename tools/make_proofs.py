@@ -5,17 +5,19 @@ an output: cadical deletes the clauses of that gate, so the proof names the last
 
 `parity` has about 200 variables and a proof of about 50 KB, as text and in the binary form. `long` has a proof with over
 5,000 clauses, and about as many deletions, in the binary form. `outcomes` says how runs on changed proofs and circuits
-have to end, by library/plain_checker.py; a number is that of the first step that does not follow, and 0 says that no
+have to end, by tests/library/plain_checker.py; a number is that of the first step that does not follow, and 0 says that no
 step is wrong and that they do not suffice."""
 
 import copy
 import os
 import random
 import subprocess
+import sys
 
-from library import reference
-from library.big_proofs import FOLDER, clauses_of, steps_of
-from library.plain_checker import Checker, outcome, outcome_from
+sys.path.insert(0, os.path.dirname(os.path.dirname(os.path.abspath(__file__))) + "/tests")
+from library import reference  # noqa: E402
+from library.big_proofs import FOLDER, clauses_of, steps_of  # noqa: E402
+from library.plain_checker import Checker, outcome, outcome_from  # noqa: E402
 
 # Name, inputs, and how many neighbours of the first order change places in the second, and by which random numbers.
 CIRCUITS = (("parity", 28, 14, 0), ("long", 20, 20, 0))

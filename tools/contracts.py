@@ -14,7 +14,7 @@ import sys
 import textwrap
 
 from definitions import Promises
-from library.specs import ROOT
+from sources.specs import ROOT
 
 PAGE = ROOT / "docs" / "CONTRACTS.md"
 README = ROOT / "README.md"
@@ -26,7 +26,7 @@ MOST_SHOWN = 60
 HEAD = """# The contracts
 
 This page has all public contracts: what each exported function, method and law asks of its caller (`requires`) and
-promises (`ensures`), clause by clause as in the sources. `tests/contracts.py --write` makes the page from the sources,
+promises (`ensures`), clause by clause as in the sources. `tools/contracts.py --write` makes the page from the sources,
 and the gate compares the two. So the diff of this page shows what a change does to the public clauses.
 [PROVED.md](PROVED.md) says the same in prose, and [DEFINITIONS.md](DEFINITIONS.md) explains the definitions.
 
@@ -37,7 +37,7 @@ and the gate compares the two. So the diff of this page shows what a change does
 - The entry of a trait has the functions that its clauses speak of, and the entry of an implementation (`X as Read`)
   says what they are there. A method without an entry in an implementation has the clauses of the trait.
 - *Cites* lists the definitions of `specs/` that a contract names. After it comes how many lines one has to believe for
-  the call: all lines of the definitions that these reach. `tests/definitions.py --of NAME` lists them. Their texts are
+  the call: all lines of the definitions that these reach. `tools/definitions.py --of NAME` lists them. Their texts are
   in `specs/`, and not on this page.
 - A call without a clause is proved to be safe and to return, like all others.
 """
@@ -182,7 +182,7 @@ def main():
     if len(found) > MOST_SHOWN:
         print(f"and {len(found) - MOST_SHOWN} lines more")
     if found:
-        print("docs/CONTRACTS.md (-) differs from the sources (+): tests/contracts.py --write writes it anew")
+        print("docs/CONTRACTS.md (-) differs from the sources (+): tools/contracts.py --write writes it anew")
     if not found and not wrong:
         print(f"{count}: docs/CONTRACTS.md is as the sources are")
     return 1 if found or wrong else 0

@@ -39,7 +39,7 @@ import sys
 import tempfile
 import time
 
-from library.exports import signature
+from sources.exports import signature
 
 ROOT = pathlib.Path(__file__).resolve().parent.parent
 

@@ -17,7 +17,7 @@ import difflib
 import re
 import sys
 
-from library.specs import ROOT
+from sources.specs import ROOT
 
 LIST = ROOT / "crates.txt"
 PAGE = ROOT / "docs" / "ARCHITECTURE.md"
@@ -142,7 +142,7 @@ def main():
     for line in difflib.unified_diff(old, new, "docs/ARCHITECTURE.md", "crates.txt", lineterm="", n=0):
         print(line)
     if old != new:
-        print("docs/ARCHITECTURE.md (-) differs from crates.txt (+): tests/edges.py --write writes the table anew")
+        print("docs/ARCHITECTURE.md (-) differs from crates.txt (+): tools/edges.py --write writes the table anew")
     if wrong or old != new:
         return 1
     count = sum(len(direct(name, libraries)) for name in libraries)
