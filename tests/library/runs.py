@@ -1,7 +1,8 @@
 """The program that is tested, its runs, and the counts of what passed."""
 
+from __future__ import annotations
+
 import argparse
-import collections
 import contextlib
 import inspect
 import os
@@ -10,6 +11,7 @@ import subprocess
 import sys
 import tempfile
 import threading
+from typing import Callable, Collection, Iterator, List, Mapping, NamedTuple, NoReturn, Optional, Tuple, Union
 
 TESTS = os.path.dirname(os.path.dirname(os.path.abspath(__file__)))
 REPOSITORY = os.path.dirname(TESTS)
@@ -25,17 +27,21 @@ MOST_UNENDED = 3
 # How long a part may take, whatever it waits for.
 PART_SECONDS = 15 * SECONDS
 
-# How a run ended: its exit status, and the bytes on standard output and standard error. A run that was stopped has no
-# status.
-Ended = collections.namedtuple("Ended", "status out err")
+class Ended(NamedTuple):
+    """How a run ended: its exit status, and the bytes on standard output and standard error. A run that was stopped has no
+    status."""
+
+    status: Optional[int]
+    out: bytes
+    err: bytes
 
 
-def refused(text, out=b"", status=1):
+def refused(text: str, out: bytes = b"", status: int = 1) -> Ended:
     """How a run ends that says why on standard error."""
     return Ended(status, out, f"aig: {text}\n".encode())
 
 
-def input_or_output(part, out=b""):
+def input_or_output(part: str, out: bytes = b"") -> Ended:
     """How a run ends where a file of this part cannot be opened, read or written."""
     return refused(f"{part}: input or output", out, 3)
 
@@ -51,12 +57,12 @@ class Unended(Exception):
 class Program:
     """The built program."""
 
-    def __init__(self, path, is_named):
+    def __init__(self, path: str, is_named: bool):
         self.path = os.path.abspath(path)
         self.is_named = is_named
         self.unended = 0
 
-    def run(self, *words, **settings):
+    def run(self, *words: str, **settings) -> Ended:
         """Runs it, by default without an input. A run that is over its time is stopped."""
         if "input" not in settings:
             settings.setdefault("stdin", subprocess.DEVNULL)
@@ -68,7 +74,7 @@ class Program:
             return self.stopped(words, settings["timeout"])
         return Ended(done.returncode, done.stdout, done.stderr)
 
-    def stopped(self, words, seconds):
+    def stopped(self, words: Tuple[str, ...], seconds: float) -> Ended:
         """How a run ends that is over its time. After some of them, the part does not go on."""
         self.unended += 1
         if self.unended >= MOST_UNENDED:
@@ -84,7 +90,7 @@ class Tally:
     def __init__(self):
         self.passed = self.failed = 0
 
-    def check(self, name, is_right, why=""):
+    def check(self, name: str, is_right: object, why: object = "") -> None:
         if is_right:
             self.passed += 1
             return
@@ -92,36 +98,40 @@ class Tally:
         if self.failed <= self.MOST_TOLD:
             print(f"FAILED: {name}: {why}", flush=True)
 
-    def compare(self, name, got, wanted):
+    def compare(self, name: str, got: object, wanted: object) -> None:
         self.check(name, got == wanted, f"{shortened(got)}, wanted {shortened(wanted)}")
 
 
-def shortened(value):
+# A part of a script: it checks the program, and may say something that stands before its counts.
+Part = Callable[[Program, Tally, argparse.Namespace], Optional[str]]
+
+
+def shortened(value: object) -> str:
     text = f"{tuple(value)}" if isinstance(value, Ended) else f"{value!r}"
     return text if len(text) <= 300 else f"{text[:200]} .. {text[-100:]}"
 
 
-def write(name, data):
+def write(name: str, data: Union[bytes, str]) -> str:
     """Writes a file, bytes or ASCII text."""
     with open(name, "wb") as file:
         file.write(data.encode("ascii") if isinstance(data, str) else data)
     return name
 
 
-def contents(name):
+def contents(name: str) -> bytes:
     with open(name, "rb") as file:
         return file.read()
 
 
-def contents_of(folder, endings):
+def contents_of(folder: str, endings: Union[str, Tuple[str, ...]]) -> List[bytes]:
     """The contents of the files of a folder with these endings, by name."""
     return [contents(f"{folder}/{name}") for name in sorted(os.listdir(folder)) if name.endswith(endings)]
 
 
 @contextlib.contextmanager
-def limited(name):
+def limited(name: str) -> Iterator[None]:
     """Ends the script, with a failure, if a part does not end."""
-    def stop():
+    def stop() -> NoReturn:
         print(f"FAILED: {name}: it does not end within {PART_SECONDS} seconds\n{name}: 0 passed, 1 failed", flush=True)
         # A program that was started and goes on would go on for ever.
         for child in [*started_by(os.getpid())]:
@@ -138,7 +148,7 @@ def limited(name):
         timer.cancel()
 
 
-def started_by(process):
+def started_by(process: int) -> Iterator[int]:
     """The processes that this one started and that go on, and those that they started."""
     for name in filter(str.isdigit, os.listdir("/proc")):
         try:
@@ -150,7 +160,7 @@ def started_by(process):
             yield int(name)
 
 
-def shown(parts, outside):
+def shown(parts: Mapping[str, Part], outside: Collection[str]) -> str:
     """What the help says of each part: the comment of its function, else that of the file where it is alone."""
     texts = [(name, part.__doc__ or sys.modules[part.__module__].__doc__) for name, part in parts.items()
              if part.__doc__ or part.__module__ != "__main__"]
@@ -158,7 +168,13 @@ def shown(parts, outside):
                        for name, text in texts)
 
 
-def main(description, parts, outside=(), options=lambda parser: None, proved=PROVED_PROGRAM):
+def main(
+    description: str,
+    parts: Mapping[str, Part],
+    outside: Collection[str] = (),
+    options: Callable[[argparse.ArgumentParser], None] = lambda parser: None,
+    proved: str = PROVED_PROGRAM,
+) -> NoReturn:
     """The command line of a script of tests. Its parts are functions of the program, a tally and the options; each runs
     in an empty folder of its own. Those named in `outside` run only where they are asked for."""
     parser = argparse.ArgumentParser(description=description, epilog=shown(parts, outside),

@@ -5,18 +5,43 @@ export a name again in the same way. With a type come its public methods, and th
 where they have clauses or say what contracts see. What a public module shows beside these is marked: its `listed` is
 false."""
 
-import collections
+from __future__ import annotations
+
 import re
+from typing import Iterator, List, NamedTuple, Optional, Set, Tuple
 
-from sources.specs import ROOT, imports
+from sources.specs import ROOT, Known, imports
 
-# A function, method or law with its clauses, or a type, a trait or an implementation with what contracts see of it.
-# Each clause is a pair: its head, as `ensures kept`, and its text in braces. `bound` are the names of the parameters,
-# `types` are all names in the signature, and `known` says what the imports of the file mean.
-Export = collections.namedtuple("Export", "crate module name listed doc block head clauses bound types known")
+# A clause: its head, as `ensures kept`, and its text in braces.
+Clause = Tuple[str, str]
 
-# An `impl` or a `trait`, up to its brace.
-Block = collections.namedtuple("Block", "head kind owner trait")
+
+class Block(NamedTuple):
+    """An `impl` or a `trait`, up to its brace."""
+
+    head: str
+    kind: str
+    owner: Optional[str]
+    trait: Optional[str]
+
+
+class Export(NamedTuple):
+    """A function, method or law with its clauses, or a type, a trait or an implementation with what contracts see of it.
+    `bound` are the names of the parameters, `types` are all names in the signature, and `known` says what the imports of
+    the file mean."""
+
+    crate: str
+    module: str
+    name: str
+    listed: bool
+    doc: str
+    block: Optional[Block]
+    head: str
+    clauses: List[Clause]
+    bound: Set[str]
+    types: Set[str]
+    known: Known
+
 
 BLOCK = re.compile(r"(?:unsafe )?(impl|pub trait)\b(?:<.*?>)?\s+(.*)$")
 FUNCTION = re.compile(r"(\s*)(pub )?(?:const |unsafe )*fn (\w+)")
@@ -31,7 +56,7 @@ CLAUSE = re.compile(r"\s*\b((?:requires|ensures)\b[^{;]*?)\s*\{")
 UNSEEN = ("invariant", "inverse_ok", "also_owns")
 
 
-def crates():
+def crates() -> List[str]:
     """Returns the names of the libraries in the order of crates.txt: neither the crates of tests nor the programs."""
     lines = [line for line in (ROOT / "crates.txt").read_text(encoding="utf-8").split("\n") if line and line[0] != "#"]
     names = [line.partition(":")[0] for line in lines]
@@ -39,7 +64,7 @@ def crates():
             if (ROOT / "crates" / name / "src" / "lib.rt").exists() and not name.endswith("_tests")]
 
 
-def braces(text, at):
+def braces(text: str, at: int) -> str:
     """Returns the text from a brace to the one that closes it."""
     depth = 0
     for end in range(at, len(text)):
@@ -49,18 +74,18 @@ def braces(text, at):
     return text[at:]
 
 
-def stripped(text):
+def stripped(text: str) -> str:
     """Returns a text without the blanks at the edges of its lines."""
     return "\n".join(line.strip() for line in text.split("\n") if line.strip())
 
 
-def sentence(lines):
+def sentence(lines: List[str]) -> str:
     """Returns the first sentence of a comment."""
     text = " ".join(lines)
     return re.split(r"(?<=[.?!])\s+(?=[^a-z])", text, maxsplit=1)[0]
 
 
-def doc_above(lines, number):
+def doc_above(lines: List[str], number: int) -> str:
     """Returns the first sentence of the comment above a line."""
     found = []
     for line in reversed(lines[:number]):
@@ -73,7 +98,7 @@ def doc_above(lines, number):
     return sentence(found[: found.index("")] if "" in found else found)
 
 
-def signature(text, start):
+def signature(text: str, start: int) -> Tuple[str, List[Clause]]:
     """Returns the head of the function that begins at a place, and its clauses."""
     depth, at = 0, start
     stop = re.compile(r"\s*(?:[{;]|\b(?:requires|ensures)\b)")
@@ -91,13 +116,13 @@ def signature(text, start):
         at = found.end() - 1 + len(clause)
 
 
-def seen(text, start):
+def seen(text: str, start: int) -> List[Clause]:
     """Returns what the block that begins at a place says that contracts see."""
     body = text[start : text.index("\n}", start)]
     return [(at[1], stripped(braces(body, at.end() - 1))) for at in GHOST.finditer(body) if at[2] not in UNSEEN]
 
 
-def block_at(text, start):
+def block_at(text: str, start: int) -> Optional[Block]:
     """Returns the block that begins at a place, or nothing."""
     head = " ".join(text[start : text.find("{", start)].split())
     found = BLOCK.match(head)
@@ -112,7 +137,7 @@ def block_at(text, start):
 class Crate:
     """What the sources of a crate say: the text of each module, by a path as `checker::refutation`."""
 
-    def __init__(self, name):
+    def __init__(self, name: str):
         self.name = name
         folder = ROOT / "crates" / name / "src"
         paths = {"::".join(it.relative_to(folder).with_suffix("").parts): it for it in sorted(folder.rglob("*.rt"))}
@@ -127,14 +152,14 @@ class Crate:
                     self.homes |= {(module, target) for module, it in self.texts.items() if target in NAMED.findall(it)}
         self.names = {it for _, it in self.homes}
 
-    def public_below(self, module):
+    def public_below(self, module: str) -> Iterator[str]:
         """Yields the modules that a module declares as public, and those that these do."""
         for name in re.findall(r"(?m)^pub mod (\w+);", self.texts[module]):
             inner = name if module == "lib" else f"{module}::{name}"
             yield inner
             yield from self.public_below(inner)
 
-    def named_by(self, module):
+    def named_by(self, module: str) -> Iterator[Tuple[str, str]]:
         """Yields what a module exports again, each with the module where it is defined."""
         text = self.texts[module]
         used = USED.findall(text)
@@ -152,19 +177,19 @@ class Crate:
                     raise ValueError(f"{self.name}: the module {home} does not show {name}")
                 yield below.get(name, home), name
 
-    def shown(self, module, text):
+    def shown(self, module: str, text: str) -> Set[str]:
         """Returns the names that mean something exported in a module: its own, and those of other modules that it does
         not define anew."""
         held = set(HELD.findall(text))
         here = {name for place, name in self.homes if place == module or name not in held}
         return here | set(NAMED.findall(text) if module in self.public_modules else ())
 
-    def exports(self):
+    def exports(self) -> Iterator[Export]:
         """Yields what the crate exports, in the order of its files."""
         for module, text in self.texts.items():
             yield from self.of_module(module, text)
 
-    def of_module(self, module, raw):
+    def of_module(self, module: str, raw: str) -> Iterator[Export]:
         # a comment becomes blanks, which keeps the places
         text = re.sub(r"(?m)//.*$", lambda at: " " * len(at[0]), raw)
         lines, known, block = raw.split("\n"), imports(text), None

@@ -5,25 +5,42 @@ a line `use` imports it. The field of a record cites nothing: a value of a recor
 whose type names the record. So two records that have a field of one name are distinguished. A name that is bound, as in
 `(rows : List ℕ)`, is taken for a definition of that name, if the module knows one."""
 
+from __future__ import annotations
+
 import collections
 import pathlib
 import re
+from typing import Dict, Iterable, Iterator, List, NamedTuple, Optional, Set, Tuple
 
 ROOT = pathlib.Path(__file__).resolve().parent.parent.parent
 NAME = r"[^\s(){}\[\],;.:`'\"|]+'*"
 IMPORT = re.compile(r"(?m)^\s*(?:ghost )?(?:pub )?use Rattle\.(\w+)\.specs\.([\w.]+?)(?:\.\{([^}]*)\}|\s+as\s+(\w+))?;?\s*$")
 ITEM = re.compile(rf"^(?:(?:abbrev|unfoldable|opaque|pub)\s+)*(?:(data|record)\s+)?({NAME})")
 
-# The words are those that may cite, and `known` says what the imports of its file mean. Constructors cite their type.
-Definition = collections.namedtuple("Definition", "path name lines words constructors fields known")
+# A definition by its crate, its module and its name; an alias of a module has no name.
+Key = Tuple[str, str, str]
+Known = Dict[str, Tuple[str, str, Optional[str]]]
 
 
-def words(text):
+class Definition(NamedTuple):
+    """The words are those that may cite, and `known` says what the imports of its file mean. Constructors cite their
+    type."""
+
+    path: pathlib.Path
+    name: str
+    lines: int
+    words: Set[str]
+    constructors: Set[str]
+    fields: Set[str]
+    known: Known
+
+
+def words(text: str) -> Set[str]:
     """Returns the words of a text, each with what follows its dots."""
     return set(re.findall(r"[^\s(){}\[\],;:`\"|]+", text))
 
 
-def imports(text):
+def imports(text: str) -> Known:
     """Returns which definition (crate, module, name) each word stands for, by a file's imports."""
     found = {}
     for crate, module, names, alias in IMPORT.findall(text):
@@ -35,15 +52,15 @@ def imports(text):
     return found
 
 
-def without_comments(text):
+def without_comments(text: str) -> str:
     """Returns a text without its comments, each list of imports in one line."""
     text = re.sub(r"(?m)(^|\s)--(\s.*)?$", "", text)
     return re.sub(r"(?m)^(use [^{\n]*)\{([^}]*)\}", lambda at: at[1] + "{" + " ".join(at[2].split()) + "}", text)
 
 
-def items(text):
+def items(text: str) -> Dict[str, Tuple[Optional[str], List[str]]]:
     """Returns the kind (`data`, `record` or nothing) and the lines of each definition of a file, by its name."""
-    found = collections.OrderedDict()
+    found = {}
     name, inside = None, False
     for line in text.split("\n"):
         # what stands in a module with parameters is indented by two blanks
@@ -63,7 +80,7 @@ def items(text):
     return found
 
 
-def definitions(path):
+def definitions(path: pathlib.Path) -> Iterator[Definition]:
     """Yields the definitions of a file."""
     text = without_comments(path.read_text(encoding="utf-8"))
     known = imports(text)
@@ -96,7 +113,7 @@ class Specs:
                 for word in {it.name} | it.constructors:
                     self.homes[home][word].append((*home, it.name))
 
-    def cited(self, said, known, here=None):
+    def cited(self, said: Iterable[str], known: Known, here: Optional[Tuple[str, str]] = None) -> Set[Key]:
         """Returns the definitions that words cite, by the imports of their file and by their own module."""
         found = set()
         for word in said:
@@ -109,7 +126,7 @@ class Specs:
                 found.update(home.get(name or rest.partition(".")[0], ()))
         return found
 
-    def reached(self, first):
+    def reached(self, first: Iterable[Key]) -> Set[Key]:
         """Returns all definitions that some definitions reach, with these."""
         waiting, found = list(first), set()
         while waiting:
@@ -120,6 +137,6 @@ class Specs:
                 waiting += self.cited(it.words, it.known, key[:2])
         return found
 
-    def lines(self, keys):
+    def lines(self, keys: Iterable[Key]) -> int:
         """Returns how many lines some definitions have."""
         return sum(self.table[key].lines for key in keys)
