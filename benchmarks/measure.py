@@ -13,6 +13,8 @@ Tables:
   growth     circuit check, levels and order by the number of gates
   rewires    what a rewire costs by how far it reaches
   grids      both grids of cells side by side
+  plot       how the cost of an edit grows with the circuit, beside simulating anew after each edit by `aig sim`, ABC and
+             Icarus Verilog, where these are there; --svg FILE draws it
 and, which is no table,
   compare    both programs on broken files (--count N, --seed S) and on --circuits FILE..: the same bytes, messages and
              statuses
@@ -35,6 +37,7 @@ import sys
 import tempfile
 
 import loads
+import plot as drawing
 
 BENCHMARKS = os.path.dirname(os.path.abspath(__file__))
 REPOSITORY = os.path.dirname(BENCHMARKS)
@@ -62,9 +65,9 @@ class Programs:
         return self.found[name]
 
     def tuned(self):
-        """The C++ program."""
+        """The C++ program. It is linked as `aig` is, without libraries that are found when it starts."""
         source, program = BENCHMARKS + "/tuned/main.cpp", os.path.abspath("tuned")
-        subprocess.run(["c++", "-O2", "-std=c++17", "-o", program, source], check=True)
+        subprocess.run(["c++", "-O2", "-static", "-std=c++17", "-o", program, source], check=True)
         return program
 
     def aig(self):
@@ -102,7 +105,7 @@ class Programs:
 def unproved(name, repository):
     program = os.path.abspath(name)
     if not os.path.exists(program):
-        subprocess.run([REPOSITORY + "/tests/build_unproved.sh", repository, name, program], check=True)
+        subprocess.run([REPOSITORY + "/tools/build_unproved.sh", repository, name, program], check=True)
     return program
 
 
@@ -430,6 +433,62 @@ def edits(programs, chosen):
             each = [f"{time / cells * 1e9:.1f} ns" if cells else "" for time in (tuned, ours)]
             row(name, kind, f"{measured.gates:,}", f"{measured.count:,}", f"{cells:,.0f}", microseconds(tuned),
                 microseconds(ours), *each, f"{ours / tuned:.2f}", f"{EDITS[name]:.2f}")
+
+
+# The circuits of the plot: copies of a cipher, bits of half its state, rounds.
+PLOTTED = {"sparse": ((10, 16, 6), (104, 16, 6), (1041, 16, 6), (3900, 16, 6)),
+           "dense": ((1, 64, 16), (1, 64, 156), (1, 64, 1562), (1, 64, 6250))}
+# Icarus Verilog takes minutes to read more gates.
+MOST_OF_ICARUS = 10_000
+
+
+def verilog(circuit):
+    """The circuit in Verilog, by Yosys, with a test bench that gives it zeros for all frames."""
+    name = circuit + ".v"
+    if not os.path.exists(name):
+        Run(["yosys", "-q", "-p", f"read_aiger -clk_name clk -module_name top {circuit}; write_verilog -noattr {name}.part"])
+        with open(name + ".part", encoding="ascii") as file:
+            text = file.read()
+        inputs = [each for each in re.findall(r"(?m)^ *input ([^;]+);", text) if each.strip() != "clk"]
+        ports = ", ".join([".clk(clk)", *(f".{each.rsplit(' ', 1)[-1]}(1'b0)" for each in inputs)])
+        bench = (f"module bench; reg clk = 0; top it({ports});\n"
+                 f"initial begin repeat ({EDITED_FRAMES}) begin #1 clk = 1; #1 clk = 0; end $finish; end endmodule\n")
+        write(name, text + bench)
+    return name
+
+
+def anew(programs, circuit, rows, gates):
+    """Yields the ways to simulate a circuit anew: their names, and their words."""
+    yield "aig sim", [programs.get("aig"), "sim", circuit, rows]
+    if shutil.which("berkeley-abc"):
+        script = f"&read {binary(programs, circuit)}; &sim -F {EDITED_FRAMES} -W 1"
+        yield "ABC, &sim", ["berkeley-abc", "-q", script]
+    if gates <= MOST_OF_ICARUS and all(map(shutil.which, ("yosys", "iverilog"))):
+        compiled = circuit + ".vvp"
+        Run(["iverilog", "-g2012", "-o", compiled, "-s", "bench", verilog(circuit)])
+        yield "Icarus Verilog, vvp", ["vvp", "-n", compiled]
+
+
+def plot(programs, chosen):
+    """An edit of one input bit, by the workbench, and a whole simulation anew."""
+    head(f"An edit of one bit of {EDITED_FRAMES} frames, and simulating all frames anew (processor time).", "circuit",
+         "gates", "how", "time")
+    series = {}
+
+    def note(name, kind, gates, seconds):
+        series.setdefault(f"{name} ({kind})", []).append((gates, seconds))
+        row(kind, f"{gates:,}", name, microseconds(seconds))
+
+    for kind, ciphers in PLOTTED.items():
+        for cipher in ciphers:
+            measured = Edits(programs, cipher, "bits")
+            for name, seconds in zip(("an edit, C++", "an edit, aig bench"), measured.times(chosen.times)):
+                note(name, kind, measured.gates, seconds)
+            if kind == "sparse":
+                for name, words in anew(programs, *measured.words, measured.gates):
+                    note(f"anew, {name}", "any", measured.gates, *least(min(chosen.times, 3), words))
+    if chosen.svg:
+        write(chosen.svg, drawing.drawn(series, "gates", "time of an edit of one input bit"))
 
 
 def bench_times(programs, times):
@@ -788,7 +847,7 @@ def compare(programs, chosen):
 # ---- command line
 
 TABLES = {made.__name__: made for made in (goals, ratios, edits, benches, refute, certified, sizes, memory, growth,
-                                           rewires, grids, compare)}
+                                           rewires, grids, plot, compare)}
 
 
 def machine(programs, chosen):
@@ -810,6 +869,7 @@ def main():
     parser.add_argument("--times", type=int, default=5)
     parser.add_argument("--jobs", default="", help="of ratios and edits, the jobs whose names hold this")
     parser.add_argument("--shapes", default="", help="of ratios and edits, the shapes whose names hold this")
+    parser.add_argument("--svg", type=os.path.abspath, help="of plot, the picture that it draws")
     parser.add_argument("--list", action="store_true", help="names the jobs of ratios alone")
     parser.add_argument("--count", type=int, default=300, help="of compare, how many cases")
     parser.add_argument("--seed", type=int, default=1, help="of compare")

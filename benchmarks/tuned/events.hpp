@@ -86,7 +86,7 @@ public:
         occupied[slot.level / 64] |= uint64_t(1) << slot.level % 64;
     }
 
-    void put(uint8_t* cells, uint32_t variable, uint8_t code) {
+    void put(Code* cells, uint32_t variable, Code code) {
         if (cells[variable] == code) return;
         cells[variable] = code;
         // The end is found once: what `link` writes could move it, as far as the compiler knows.
@@ -96,7 +96,7 @@ public:
     }
 
     // Evaluates what waits, from the lowest level up.
-    void settle(uint8_t* cells) {
+    void settle(Code* cells) {
         for (size_t word = 0; word < occupied.size();) {
             if (occupied[word] == 0) {
                 ++word;
@@ -111,7 +111,7 @@ public:
                 uint32_t next = slot.next;
                 slot.next = alone;
                 ++evaluated;
-                put(cells, variable, value(cells, slot.rhs0) & value(cells, slot.rhs1));
+                put(cells, variable, both(cells, slot.rhs0, slot.rhs1));
                 variable = next;
             }
         }

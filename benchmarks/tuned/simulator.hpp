@@ -8,27 +8,30 @@
 
 #include <vector>
 
-// The codes of values: AND is the AND of the codes.
-enum Code : uint8_t { zero = 0, unknown = 1, one = 3 };
+// The codes of values: AND is the AND of the codes. A type of its own: what is written through a pointer to bytes could be
+// anything, as far as the compiler knows, and a pointer to codes points to codes alone.
+enum Code : uint8_t { zero = 0, unknown = 1, one = 3, no_code = 0x80 };
 
 // The code of a literal by its sign and its variable's code.
-inline constexpr uint8_t signed_code[8] = {zero, unknown, 2, one, one, unknown, 2, zero};
+inline constexpr Code signed_code[8] = {zero, unknown, no_code, one, one, unknown, no_code, zero};
 // The character of a literal by the same.
 inline constexpr char signed_character[] = "0x?11x?0";
 
-inline uint8_t value(const uint8_t* cells, uint32_t literal) {
-    return signed_code[(literal & 1) << 2 | cells[literal >> 1]];
+inline Code value(const Code* cells, uint32_t literal) { return signed_code[(literal & 1) << 2 | cells[literal >> 1]]; }
+
+inline Code both(const Code* cells, uint32_t rhs0, uint32_t rhs1) {
+    return Code(value(cells, rhs0) & value(cells, rhs1));
 }
 
-inline char character(const uint8_t* cells, uint32_t literal) {
+inline char character(const Code* cells, uint32_t literal) {
     return signed_character[(literal & 1) << 2 | cells[literal >> 1]];
 }
 
 // The code of a character; of any other byte one with the high bit.
 struct Codes {
-    uint8_t of[256];
+    Code of[256];
     constexpr Codes() : of() {
-        for (uint8_t& code : of) code = 0x80;
+        for (Code& code : of) code = no_code;
         of[uint8_t('0')] = zero;
         of[uint8_t('1')] = one;
         of[uint8_t('x')] = unknown;
@@ -36,7 +39,7 @@ struct Codes {
 };
 inline constexpr Codes codes;
 
-inline uint8_t reset_code(const Latch& latch) { return latch.reset == 0 ? zero : latch.reset == 1 ? one : unknown; }
+inline Code reset_code(const Latch& latch) { return latch.reset == 0 ? zero : latch.reset == 1 ? one : unknown; }
 
 // The circuit's gates in an order in which each is behind those that it reads.
 inline Array<Gate> gates_in_order(Circuit& circuit) {
@@ -44,15 +47,15 @@ inline Array<Gate> gates_in_order(Circuit& circuit) {
     return Levels(circuit).ordered_gates();
 }
 
-inline void evaluate(uint8_t* cells, const Array<Gate>& gates) {
-    for (const Gate& gate : gates) cells[gate.lhs >> 1] = value(cells, gate.rhs0) & value(cells, gate.rhs1);
+inline void evaluate(Code* cells, const Array<Gate>& gates) {
+    for (const Gate& gate : gates) cells[gate.lhs >> 1] = both(cells, gate.rhs0, gate.rhs1);
 }
 
 // Takes a stimulus line's values into the cells of the inputs; whether all bytes are values.
-inline bool take_row(const Circuit& circuit, const char* line, uint8_t* cells) {
+inline bool take_row(const Circuit& circuit, const char* line, Code* cells) {
     uint8_t seen = 0;
     for (uint32_t input : circuit.inputs) {
-        uint8_t code = codes.of[uint8_t(*line++)];
+        Code code = codes.of[uint8_t(*line++)];
         seen |= code;
         cells[input >> 1] = code;
     }
@@ -86,7 +89,7 @@ public:
 private:
     Circuit circuit;
     Array<Gate> gates;
-    std::vector<uint8_t> cells, states;
+    std::vector<Code> cells, states;
     Array<char> state_text;
     Output& out;
     uint64_t lines = 0;
@@ -96,7 +99,7 @@ private:
         ++lines;
         if (length != circuit.inputs.size() || !take_row(circuit, line, cells.data()))
             refuse_line(line, length, lines);
-        const uint8_t* state = states.data();
+        const Code* state = states.data();
         for (const Latch& latch : circuit.latches) cells[latch.lit >> 1] = *state++;
         evaluate(cells.data(), gates);
         out.put(state_text);

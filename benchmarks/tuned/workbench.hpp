@@ -58,7 +58,7 @@ private:
     Array<Gate> gates;
     bool is_stale = false;
     std::vector<uint32_t> roles;
-    std::vector<std::vector<uint8_t>> cells;
+    std::vector<std::vector<Code>> cells;
     Output& out;
 
     static bool are_values(const char* at, const char* ending) {
@@ -67,7 +67,7 @@ private:
         return seen < 0x80;
     }
 
-    uint8_t state(size_t frame, const Latch& latch) const {
+    Code state(size_t frame, const Latch& latch) const {
         return frame == 0 ? reset_code(latch) : value(cells[frame - 1].data(), latch.next);
     }
 
@@ -77,7 +77,7 @@ private:
         is_stale = false;
         size_t frame = cells.size();
         cells.emplace_back(roles.size(), unknown);
-        uint8_t* row = cells.back().data();
+        Code* row = cells.back().data();
         row[0] = zero;
         take_row(circuit, line, row);
         for (const Latch& latch : circuit.latches) row[latch.lit >> 1] = state(frame, latch);
@@ -117,7 +117,7 @@ private:
         return *at++ == ending;
     }
 
-    static bool take_code(const char*& at, uint8_t& code) {
+    static bool take_code(const char*& at, Code& code) {
         code = codes.of[uint8_t(*at++)];
         return code < 0x80 && *at++ == '\n';
     }
@@ -134,12 +134,12 @@ private:
     // Answers a line; the byte at its end is LF.
     void answer(const char* line, const char* ending) {
         uint32_t a, b, c;
-        uint8_t code;
+        Code code;
         const char* at = line + 2;
         char letter = ending - line == 1 || (ending != line && line[1] == ' ') ? *line : '\n';
         bool is_alone = ending - line == 1;
         if (letter == 't' && is_alone) {
-            for (const std::vector<uint8_t>& row : cells) put_trace(row.data());
+            for (const std::vector<Code>& row : cells) put_trace(row.data());
             out.put(".\n", 2);
         } else if (letter == '-' && is_alone) {
             reply(drop_frame());
@@ -190,7 +190,7 @@ private:
         out.advance(to + 2);
     }
 
-    Fault set_bit(uint32_t frame, uint32_t position, uint8_t code) {
+    Fault set_bit(uint32_t frame, uint32_t position, Code code) {
         if (frame >= cells.size()) return 6;
         if (position >= circuit.inputs.size()) return 7;
         events.put(cells[frame].data(), circuit.inputs[position] >> 1, code);
@@ -207,7 +207,7 @@ private:
         return 0;
     }
 
-    Fault set_reset(uint32_t literal, uint8_t code) {
+    Fault set_reset(uint32_t literal, Code code) {
         if (!has_role(literal, first_latch, ~0u)) return 2;
         Latch& latch = circuit.latches[roles[literal >> 1] - first_latch];
         latch.reset = code == zero ? 0 : code == one ? 1 : literal;
@@ -223,7 +223,7 @@ private:
         events.append(rhs0, rhs1);
         if (!is_stale) gates.push({2 * circuit.max_var, rhs0, rhs1});
         roles.push_back(is_gate);
-        for (std::vector<uint8_t>& row : cells) row.push_back(value(row.data(), rhs0) & value(row.data(), rhs1));
+        for (std::vector<Code>& row : cells) row.push_back(both(row.data(), rhs0, rhs1));
         return 0;
     }
 
@@ -250,7 +250,7 @@ private:
     }
 
     template <class Entries, class LiteralOf>
-    void put_field(const uint8_t* cells, const Entries& entries, char ending, LiteralOf literal_of) {
+    void put_field(const Code* cells, const Entries& entries, char ending, LiteralOf literal_of) {
         for (size_t place = 0; place < entries.size();) {
             size_t behind = std::min(entries.size(), place + 4096);
             char* to = out.room(4096);
@@ -260,7 +260,7 @@ private:
         out.put(ending);
     }
 
-    void put_trace(const uint8_t* cells) {
+    void put_trace(const Code* cells) {
         auto itself = [](uint32_t literal) { return literal; };
         put_field(cells, circuit.latches, ' ', [](const Latch& latch) { return latch.lit; });
         put_field(cells, circuit.inputs, ' ', itself);
