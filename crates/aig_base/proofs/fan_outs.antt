@@ -1,3 +1,4 @@
+pub mod GateListLemmas
 pub mod ListPlaceLemmas
 pub mod ListedReaders
 pub mod ReaderLists

@@ -4,6 +4,7 @@ pub mod Definitions
 pub mod Descent
 pub mod Entries
 pub mod FanOuts
+pub mod GateLists
 pub mod KeyChains
 pub mod LeastFaulty
 pub mod ListPlaces

@@ -1,19 +1,20 @@
 -- The places of gates in long lists: what taking out, adding and making room do to them.
-use Rattle.std.proofs.Common.{◌≡◌, ◌≢◌, ◌⊎◌, inl, inr, ℕ, zero, suc, ◌+◌, ◌-◌, ◌*◌, ◌<◌, ◌≤◌, max, List, [], ◌∷◌, ◌++◌}
+use Rattle.std.proofs.Common.{◌≡◌, ◌≢◌, ◌⊎◌, inl, inr, ℕ, zero, suc, ◌+◌, ◌-◌, ◌*◌, ◌<◌, ◌≤◌, List, [], ◌∷◌, ◌++◌}
 use Rattle.std.proofs.Common.{length, get_or, set, take, nat_eq, count_by, slice_get, Some, refl, sym, ◌∙◌}
-use Rattle.std.proofs.Common.{ap, subst, arith, swap_remove, length-set}
+use Rattle.std.proofs.Common.{ap, subst, arith, swap_remove, length-set, length-take}
 use Rattle.std.proofs.lemmas.Bool.{cases_eq, cases_lt}
-use Rattle.std.proofs.lemmas.List.{length_push}
+use Rattle.std.proofs.lemmas.List.{length_push, set-get_or}
 use Rattle.std.proofs.lemmas.Option.{slice_get_within, slice_get-get_or, none-some, same_Some}
-use Rattle.smallvec.specs.SmallVec.{SmallVec}
 use Rattle.aig_base.specs.declared.readers.list_places.Places.{Places}
 use Rattle.aig_parts.specs.Formed.{limit}
+use Rattle.aig_base.specs.Readers.{GateList}
 use Rattle.aig_base.specs.state.FanOuts.{AreFanOuts, AreTidy}
-use Rattle.aig_base.specs.state.ListPlaces.{short, StandsAt, capacity_at, HasPlace, HasListPlaces, AreKept, Extends}
-use Rattle.aig_base.specs.state.ListPlaces.{RenewsPlace, WritesPlaces, Stays, Shifts, StaysOrShifts, StandsNew}
-use Rattle.aig_base.specs.state.ReaderSlots.{items_at, tally, FitsOneReader, KeepsLists, Loses}
-use Rattle.aig_base.proofs.lists.Gets.{slice_get-set_same, slice_get-set_other}
-use Rattle.aig_base.proofs.fan_outs.ReaderLists.{Contains-of_count, count-of_get, count-cons, empty, here_is, kept_items, list_here}
+use Rattle.aig_base.specs.state.GateLists.{GetsRoom}
+use Rattle.aig_base.specs.state.ListPlaces.{short, StandsAt, HasPlace, HasListPlaces, AreKept, Extends}
+use Rattle.aig_base.specs.state.ListPlaces.{RenewsPlace, WritesPlaces, Stays, Shifts, StaysOrShifts, StandsNew, TakesFrom}
+use Rattle.aig_base.specs.state.ReaderSlots.{capacity_at, items_at, no_list, with_items_at, tally, FitsOneReader, KeepsLists, Loses}
+use Rattle.aig_base.proofs.lists.Gets.{slice_get-set_same, slice_get-set_other, slice_get_push}
+use Rattle.aig_base.proofs.fan_outs.ReaderLists.{Contains-of_count, count-of_get, count-cons, gets_keeps, here_is, kept_items, loses_none}
 use Rattle.aig_base.proofs.fan_outs.ReaderLists.{one_same, other_is}
 
 get_taken : (xs : List ℕ) (n i x : ℕ) → slice_get (take n xs) i ≡ Some x → slice_get xs i ≡ Some x
@@ -37,6 +38,11 @@ removed_here xs i d x lt h =
     let last = get_or xs (length xs - 1) d in
     let there : slice_get (set xs i last) i ≡ Some x = get_taken (set xs i last) (length xs - 1) i x h in
     slice_get-get_or xs (length xs - 1) d (omega arith) ∙ sym (slice_get-set_same xs i last lt) ∙ there
+
+pub length_removed : (xs : List ℕ) (i d : ℕ) → i < length xs → length (swap_remove xs i d) + 1 ≡ length xs
+length_removed xs i d lt =
+    let last = get_or xs (length xs - 1) d in
+    omega (arith, length-take (length xs - 1) (set xs i last), length-set xs i last)
 
 -- what is counted once stands at one place
 pub same_place : (w i j : ℕ) (xs : List ℕ) → count_by (nat_eq w) xs ≤ 1 → slice_get xs i ≡ Some w
@@ -107,29 +113,29 @@ renewed_two w from to j before after r h = elim (cases_eq h.kept.first from) [
   }
 ]
 
-stands_counted : (slots : List (SmallVec ℕ)) (v i w : ℕ) → StandsAt slots v i w → 1 ≤ tally slots v w
+stands_counted : (slots : List GateList) (v i w : ℕ) → StandsAt slots v i w → 1 ≤ tally slots v w
 stands_counted slots v i w at = count-of_get w i (items_at slots v) at
 
 -- after an entry was taken out of one list
-module _ (slots : List (SmallVec ℕ)) (v : ℕ) (new : SmallVec ℕ) (within : v < length slots)
+module _ (slots : List GateList) (v : ℕ) (new : GateList) (within : v < length slots)
     (before after : List Places) (kept : AreKept slots before) (tidy : AreTidy slots) (u : ℕ)
     (loses : Loses u (items_at slots v) new.items) (same : new.capacity ≡ capacity_at slots v)
     (follows : StaysOrShifts (items_at slots v) new.items before after) where
-  abbrev now : List (SmallVec ℕ)
+  abbrev now : List GateList
   now = set slots v new
 
   items_here : items_at now v ≡ new.items
-  items_here = ap (λ (s : SmallVec ℕ). s.items) (here_is slots v new within)
+  items_here = ap (λ (s : GateList). s.items) (here_is slots v new within)
 
   items_other : (y : ℕ) → y ≢ v → items_at now y ≡ items_at slots y
-  items_other y ne = ap (λ (s : SmallVec ℕ). s.items) (other_is slots v new within y ne)
+  items_other y ne = ap (λ (s : GateList). s.items) (other_is slots v new within y ne)
 
   capacity_same : (y : ℕ) → capacity_at now y ≡ capacity_at slots y
   capacity_same y = elim (cases_eq y v) [
     | inl e ↦
-        ap (λ z. capacity_at now z) e ∙ ap (λ (s : SmallVec ℕ). s.capacity) (here_is slots v new within) ∙ same
+        ap (λ z. capacity_at now z) e ∙ ap (λ (s : GateList). s.capacity) (here_is slots v new within) ∙ same
         ∙ ap (λ z. capacity_at slots z) (sym e)
-    | inr ne ↦ ap (λ (s : SmallVec ℕ). s.capacity) (other_is slots v new within y ne)
+    | inr ne ↦ ap (λ (s : GateList). s.capacity) (other_is slots v new within y ne)
   ]
 
   fewer : (y w : ℕ) → tally now y w ≤ tally slots y w
@@ -253,39 +259,70 @@ module _ (slots : List (SmallVec ℕ)) (v : ℕ) (new : SmallVec ℕ) (within : 
   pub kept_taken : AreKept now after
   kept_taken = elim follows [ inl s ↦ kept_stays s | inr m ↦ kept_shifts m.0 m.1 m.2 m.3 ]
 
-pub taken_out : (slots : List (SmallVec ℕ)) (v : ℕ) (new d : SmallVec ℕ) (before after : List Places) (u : ℕ)
-    → v < length slots → d ≡ get_or slots v d → AreFanOuts slots before → Loses u d.items new.items
-    → new.capacity ≡ d.capacity → StaysOrShifts d.items new.items before after → AreFanOuts (set slots v new) after
-taken_out slots v new d before after u within read are loses same follows =
-    let is : d ≡ get_or slots v empty = list_here slots v new within d read in
-    let l = subst (λ (s : SmallVec ℕ). Loses u s.items new.items) is loses in
-    let c = subst (λ (s : SmallVec ℕ). new.capacity ≡ s.capacity) is same in
-    let f = subst (λ (s : SmallVec ℕ). StaysOrShifts s.items new.items before after) is follows in
-    record {
-      tidy = tidy_taken slots v new within before after are.kept are.tidy u l c f;
-      kept = kept_taken slots v new within before after are.kept are.tidy u l c f;
-    }
+pub taken_out : (slots new : List GateList) (v u : ℕ) (before after : List Places) → v < length slots
+    → AreFanOuts slots before → TakesFrom v u slots new before after → AreFanOuts new after
+taken_out slots new v u before after within are t =
+    let list : GateList = record { items = t.left; capacity = capacity_at slots v } in
+    subst (λ ls. AreFanOuts ls after) (sym t.list) (record {
+      tidy = tidy_taken slots v list within before after are.kept are.tidy u t.loses refl t.follows;
+      kept = kept_taken slots v list within before after are.kept are.tidy u t.loses refl t.follows;
+    })
 
--- of each entry after the first ones of a list the place is kept
-pub kept_here : (slots : List (SmallVec ℕ)) (places : List Places) (v : ℕ) (d : SmallVec ℕ) → v < length slots
-    → d ≡ get_or slots v d → AreKept slots places → (i w : ℕ) → short ≤ i → slice_get d.items i ≡ Some w
-    → HasPlace places w i
-kept_here slots places v d within read kept i w le at =
-    kept.one v i w le
-    (subst (λ (s : SmallVec ℕ). slice_get s.items i ≡ Some w) (list_here slots v d within d read) at)
+-- where it stood in no list
+pub takes_none : (slots : List GateList) (v u : ℕ) (places : List Places)
+    → count_by (nat_eq u) (items_at slots v) ≡ 0 → TakesFrom v u slots slots places places
+takes_none slots v u places never = record {
+  left = items_at slots v;
+  list = sym (set-get_or slots v no_list);
+  loses = loses_none u (items_at slots v) never;
+  follows = inl (record { list = λ i w le h. h; places = refl });
+}
 
 pub follows_size : (old new : List ℕ) (before after : List Places) → StaysOrShifts old new before after
     → length after ≡ length before
 follows_size old new before after f = elim f [ inl s ↦ ap length s.places | inr m ↦ m.3.renews.size ]
 
+-- after a gate came to the end of a list
+pub stands_new : (slots : List GateList) (v u : ℕ) → v < length slots
+    → StandsNew v v u (record { first = length (items_at slots v); second = length (items_at slots v) }) slots
+    (with_items_at slots v (items_at slots v ++ u ∷ []))
+stands_new slots v u within = record {
+  capacities = λ y. elim (cases_eq y v) [
+    | inl e ↦ ap (λ z. capacity_at new z) e ∙ ap (λ (s : GateList). s.capacity) (here_is slots v list within)
+        ∙ ap (λ z. capacity_at slots z) (sym e)
+    | inr ne ↦ ap (λ (s : GateList). s.capacity) (other_is slots v list within y ne)
+  ];
+  first = refl;
+  second = refl;
+  others = λ y ne also. ap (λ (s : GateList). s.items) (other_is slots v list within y ne);
+  entries = λ y i w h. elim (cases_eq y v) [
+    | inl e ↦ elim (slice_get_push (items_at slots v) u w i (here i w (subst (λ z. StandsAt new z i w) e h))) [
+      | inl old ↦ inl (subst (λ z. StandsAt slots z i w) (sym e) old)
+      | inr last ↦ inr (sym last.1, inl (e, last.0))
+    ]
+    | inr ne ↦ inl (subst (λ (xs : List ℕ). slice_get xs i ≡ Some w)
+        (ap (λ (s : GateList). s.items) (other_is slots v list within y ne)) h)
+  ];
+}
+  where
+    list : GateList
+    list = record { items = items_at slots v ++ u ∷ []; capacity = capacity_at slots v }
+
+    new : List GateList
+    new = with_items_at slots v (items_at slots v ++ u ∷ [])
+
+    here : (i w : ℕ) → StandsAt new v i w → slice_get (items_at slots v ++ u ∷ []) i ≡ Some w
+    here i w h = subst (λ (xs : List ℕ). slice_get xs i ≡ Some w)
+        (ap (λ (s : GateList). s.items) (here_is slots v list within)) h
+
 -- a gate that comes to the end of a list in which places are kept has a place
-pub place_covered : (slots : List (SmallVec ℕ)) (places : List Places) (v i u : ℕ) → AreKept slots places
+pub place_covered : (slots : List GateList) (places : List Places) (v i u : ℕ) → AreKept slots places
     → FitsOneReader slots v → i ≡ length (items_at slots v) → u < length slots → short ≤ i → u < length places
 place_covered slots places v i u kept fits is within long =
     let all = kept.covered v (omega arith) in omega arith
 
 -- after a gate that stood nowhere came to the ends of two lists
-pub kept_added : (v x u : ℕ) (p : Places) (old new : List (SmallVec ℕ)) (before after : List Places)
+pub kept_added : (v x u : ℕ) (p : Places) (old new : List GateList) (before after : List Places)
     → StandsNew v x u p old new → WritesPlaces u p before after → ((y : ℕ) → tally old y u ≡ 0) → length new ≡ length old
     → AreKept old before → AreKept new after
 kept_added v x u p old new before after s wr absent size kept = record {
@@ -332,7 +369,7 @@ kept_added v x u p old new before after s wr absent size kept = record {
     ]
 
 -- where no list changes and nothing is lost of the table
-pub kept_extended : (old new : List (SmallVec ℕ)) (before after : List Places) → KeepsLists old new → Extends before after
+pub kept_extended : (old new : List GateList) (before after : List Places) → KeepsLists old new → Extends before after
     → ((v : ℕ) → short < capacity_at new v → length new ≤ length after) → AreKept old before → AreKept new after
 kept_extended old new before after k e covered kept = record {
   one = λ v i w le h. (let p = kept.one v i w le (was v i w h) in
@@ -345,7 +382,7 @@ kept_extended old new before after k e covered kept = record {
     was : (v i w : ℕ) → StandsAt new v i w → StandsAt old v i w
     was v i w h = subst (λ (xs : List ℕ). slice_get xs i ≡ Some w) (kept_items old new k v) h
 
-pub kept_more : (slots : List (SmallVec ℕ)) (before after : List Places) → Extends before after → AreKept slots before
+pub kept_more : (slots : List GateList) (before after : List Places) → Extends before after → AreKept slots before
     → AreKept slots after
 kept_more slots before after e kept = record {
   one = λ v i w le h. (let p = kept.one v i w le h in
@@ -356,45 +393,45 @@ kept_more slots before after e kept = record {
 }
 
 -- where a list got room, and there are places if it may be long
-pub kept_roomy : (slots : List (SmallVec ℕ)) (v : ℕ) (new d : SmallVec ℕ) (before after : List Places)
-    → v < length slots → d ≡ get_or slots v d → KeepsLists slots (set slots v new) → Extends before after
-    → new.capacity ≤ max d.capacity (2 * length d.items) → (short < 2 * length d.items → length slots ≤ length after)
-    → AreKept slots before → AreKept (set slots v new) after
-kept_roomy slots v new d before after within read k e doubled covers kept =
-    kept_extended slots (set slots v new) before after k e covered kept
+pub kept_roomy : (slots new : List GateList) (v : ℕ) (before after : List Places) → v < length slots
+    → GetsRoom v slots new → Extends before after → (short < 2 * length (items_at slots v) → length slots ≤ length after)
+    → AreKept slots before → AreKept new after
+kept_roomy slots new v before after within g e covers kept =
+    kept_extended slots new before after (gets_keeps slots new v within g) e
+    (subst (λ ls. (y : ℕ) → short < capacity_at ls y → length ls ≤ length after) (sym g.list) covered) kept
   where
-    is : d ≡ get_or slots v empty
-    is = list_here slots v new within d read
+    list : GateList
+    list = record { items = items_at slots v; capacity = g.capacity }
 
-    covered : (y : ℕ) → short < capacity_at (set slots v new) y → length (set slots v new) ≤ length after
+    covered : (y : ℕ) → short < capacity_at (set slots v list) y → length (set slots v list) ≤ length after
     covered y lt =
-        let size = length-set slots v new in
+        let size = length-set slots v list in
         let more = e.size in
         elim (cases_eq y v) [
           | inl f ↦
-              (let cap : capacity_at (set slots v new) y ≡ new.capacity =
-              ap (λ z. capacity_at (set slots v new) z) f
-              ∙ ap (λ (s : SmallVec ℕ). s.capacity) (here_is slots v new within) in
-              let was : d.capacity ≡ capacity_at slots v = ap (λ (s : SmallVec ℕ). s.capacity) is in
+              (let cap : capacity_at (set slots v list) y ≡ g.capacity =
+              ap (λ z. capacity_at (set slots v list) z) f
+              ∙ ap (λ (s : GateList). s.capacity) (here_is slots v list within) in
+              let doubled = g.doubled in
               elim (cases_lt short (capacity_at slots v)) [
                 | inl long ↦ (let c = kept.covered v long in omega arith)
                 | inr le ↦ (let c = covers (omega arith) in omega arith)
               ])
           | inr ne ↦
-              (let same = ap (λ (s : SmallVec ℕ). s.capacity) (other_is slots v new within y ne) in
+              (let same = ap (λ (s : GateList). s.capacity) (other_is slots v list within y ne) in
               let c = kept.covered y (omega arith) in
               omega arith)
         ]
 
 -- one more empty list
-pub items_pushed : (slots : List (SmallVec ℕ)) (s : SmallVec ℕ) → s.items ≡ [] → (y : ℕ)
+pub items_pushed : (slots : List GateList) (s : GateList) → s.items ≡ [] → (y : ℕ)
     → items_at (slots ++ s ∷ []) y ≡ items_at slots y
 items_pushed [] s e zero = e
 items_pushed [] s e (suc y) = refl
 items_pushed (t ∷ ts) s e zero = refl
 items_pushed (t ∷ ts) s e (suc y) = items_pushed ts s e y
 
-capacity_pushed : (slots : List (SmallVec ℕ)) (s : SmallVec ℕ) (n y : ℕ) → s.capacity ≤ n
+capacity_pushed : (slots : List GateList) (s : GateList) (n y : ℕ) → s.capacity ≤ n
     → n < capacity_at (slots ++ s ∷ []) y → n < capacity_at slots y
 capacity_pushed [] s n zero le h = absurd (omega arith)
 capacity_pushed [] s n (suc y) le h = h
@@ -402,7 +439,7 @@ capacity_pushed (t ∷ ts) s n zero le h = h
 capacity_pushed (t ∷ ts) s n (suc y) le h = capacity_pushed ts s n y le h
 
 -- an empty list with little room, where the table is long enough
-pub kept_pushed : (slots : List (SmallVec ℕ)) (s : SmallVec ℕ) (places : List Places) → s.items ≡ []
+pub kept_pushed : (slots : List GateList) (s : GateList) (places : List Places) → s.items ≡ []
     → s.capacity ≤ short → ((v : ℕ) → short < capacity_at slots v → length slots + 1 ≤ length places)
     → AreKept slots places → AreKept (slots ++ s ∷ []) places
 kept_pushed slots s places empty_yet small covers kept = record {
@@ -416,12 +453,12 @@ kept_pushed slots s places empty_yet small covers kept = record {
     was v i w h = subst (λ (xs : List ℕ). slice_get xs i ≡ Some w) (items_pushed slots s empty_yet v) h
 
 -- a list with room is there
-pub capacity_within : (slots : List (SmallVec ℕ)) (n v : ℕ) → n < capacity_at slots v → v < length slots
+pub capacity_within : (slots : List GateList) (n v : ℕ) → n < capacity_at slots v → v < length slots
 capacity_within [] n v h = absurd (omega arith)
 capacity_within (s ∷ ss) n zero h = omega arith
 capacity_within (s ∷ ss) n (suc v) h = let lt = capacity_within ss n v h in omega arith
 
-pub tidy_same : (old new : List (SmallVec ℕ)) → ((y : ℕ) → items_at new y ≡ items_at old y)
+pub tidy_same : (old new : List GateList) → ((y : ℕ) → items_at new y ≡ items_at old y)
     → length old ≤ length new → length new ≤ limit + 1 → AreTidy old → AreTidy new
 tidy_same old new same longer small t = record {
   once = λ v w. subst (λ n. n ≤ 1) (sym (tally_same v w)) (t.once v w);
@@ -435,14 +472,7 @@ tidy_same old new same longer small t = record {
     tally_same v w = ap (λ xs. count_by (nat_eq w) xs) (same v)
 
 -- no list is long, and none has an entry
-pub short_pushed : (slots : List (SmallVec ℕ)) (s : SmallVec ℕ) → s.capacity ≤ short
-    → ((y : ℕ) → capacity_at slots y ≤ short) → (y : ℕ) → capacity_at (slots ++ s ∷ []) y ≤ short
-short_pushed slots s le h y = elim (cases_lt short (capacity_at (slots ++ s ∷ []) y)) [
-  | inl lt ↦ (let c = capacity_pushed slots s short y le lt in let few = h y in absurd (omega arith))
-  | inr few ↦ few
-]
-
-pub kept_none : (slots : List (SmallVec ℕ)) (places : List Places) → ((v w : ℕ) → tally slots v w ≡ 0)
+pub kept_none : (slots : List GateList) (places : List Places) → ((v w : ℕ) → tally slots v w ≡ 0)
     → ((y : ℕ) → capacity_at slots y ≤ short) → AreKept slots places
 kept_none slots places none_yet few = record {
   one = λ v i w le h. absurd (let n = stands_counted slots v i w h in let z = none_yet v w in omega arith);

@@ -4,12 +4,11 @@ use Rattle.std.proofs.Common.{length, map, get_or, set, true, cond, nat_eq, nat_
 use Rattle.std.proofs.Common.{Ok, Err, OnErr, OnOk, refl, sym, ◌∙◌, ap, subst, arith, swap_remove, get_or-set_other}
 use Rattle.std.proofs.Common.{get_or-set_same, length-set}
 use Rattle.std.proofs.lemmas.Bool.{cases_eq, eq-eqb, ne_eqb}
-use Rattle.std.proofs.lemmas.List.{length-map, get_or_default}
+use Rattle.std.proofs.lemmas.List.{length-map}
 use Rattle.std.proofs.lemmas.Bool.Decides.{nat_tests}
 use Rattle.std.proofs.lemmas.List.Sums.{sum_by-swap_remove, sum_by-cons}
 use Rattle.std.proofs.lemmas.Option.{slice_get_read, get_or_from_slice_get, slice_get_within, slice_get-get_or}
 use Rattle.std.proofs.lemmas.Option.{same_Some, none-some}
-use Rattle.smallvec.specs.SmallVec.{SmallVec, HasRoomFor}
 use Rattle.aig_parts.specs.declared.gate.Gate.{Gate}
 use Rattle.aig_parts.specs.declared.raw.Raw.{Raw}
 use Rattle.aig_base.specs.Changes.{rewired, with_gate}
@@ -20,8 +19,11 @@ use Rattle.aig_base.proofs.circuits.Gates.{same_gate}
 use Rattle.aig_base.proofs.circuits.Places.{gate}
 use Rattle.aig_base.proofs.circuits.Roles.{one_place}
 use Rattle.aig_base.proofs.checks.Walks.{gate_new, gate_old, kept, rewired_other, rewired_same}
-use Rattle.aig_base.specs.Readers.{AreReaders, HasReaderRoom, KeepsReaders, ReaderLists, ReadsVariable, reader_lists, list_of}
-use Rattle.aig_base.specs.state.ReaderSlots.{items_at, tally, FitsOneReader, Loses, TakesOut}
+use Rattle.aig_base.specs.Readers.{AreReaders, GateList, HasReaderRoom, KeepsReaders, ReaderLists, ReadsVariable, reader_lists, list_of}
+use Rattle.aig_base.specs.declared.readers.list_places.Places.{Places}
+use Rattle.aig_base.specs.state.GateLists.{GetsRoom}
+use Rattle.aig_base.specs.state.ListPlaces.{TakesFrom}
+use Rattle.aig_base.specs.state.ReaderSlots.{capacity_at, items_at, no_list, with_items_at, tally, FitsOneReader, HasRoom, Loses, TakesOut}
 use Rattle.aig_base.specs.state.ReaderSlots.{AddsReader, AddsBoth, MovesReader, KeepsLists, AreTallied, ReadsBefore}
 
 abbrev one : ℕ → ℕ → ℕ
@@ -79,25 +81,22 @@ loses_at u i x xs at long = record {
         ap (λ y. count_by (nat_eq w) (swap_remove xs i x) + one w y) (sym (get_or_from_slice_get xs i u x at))
         ∙ sum_by-swap_remove (one w) xs i x (slice_get_within xs i u at)
 
-abbrev pub empty : SmallVec ℕ
-empty = record { items = []; capacity = 0 }
-
-abbrev count_in : ℕ → SmallVec ℕ → ℕ
+abbrev count_in : ℕ → GateList → ℕ
 count_in w s = count_by (nat_eq w) s.items
 
-map-at : (slots : List (SmallVec ℕ)) (v : ℕ) (s : SmallVec ℕ) → v < length slots → s.items
-    ≡ (get_or slots v empty).items
+map-at : (slots : List GateList) (v : ℕ) (s : GateList) → v < length slots → s.items
+    ≡ (get_or slots v no_list).items
     → map (λ t. t.items) (set slots v s) ≡ map (λ t. t.items) slots
 map-at [] v s lt e = absurd (omega arith)
 map-at (t ∷ ts) zero s lt e = ap (λ (x : List ℕ). x ∷ map (λ t. t.items) ts) e
 map-at (t ∷ ts) (suc v) s lt e = ap (λ (xs : List (List ℕ)). t.items ∷ xs) (map-at ts v s (omega arith) e)
 
-module _ (slots : List (SmallVec ℕ)) (v : ℕ) (new : SmallVec ℕ) (within : v < length slots) where
-  pub here_is : get_or (set slots v new) v empty ≡ new
-  here_is = get_or-set_same slots v new empty within
+module _ (slots : List GateList) (v : ℕ) (new : GateList) (within : v < length slots) where
+  pub here_is : get_or (set slots v new) v no_list ≡ new
+  here_is = get_or-set_same slots v new no_list within
 
-  pub other_is : (x : ℕ) → x ≢ v → get_or (set slots v new) x empty ≡ get_or slots x empty
-  other_is x ne = get_or-set_other slots v x new empty ne
+  pub other_is : (x : ℕ) → x ≢ v → get_or (set slots v new) x no_list ≡ get_or slots x no_list
+  other_is x ne = get_or-set_other slots v x new no_list ne
 
   tally_here : (w : ℕ) → tally (set slots v new) v w ≡ count_in w new
   tally_here w = ap (count_in w) here_is
@@ -106,22 +105,22 @@ module _ (slots : List (SmallVec ℕ)) (v : ℕ) (new : SmallVec ℕ) (within : 
   tally_other x w ne = ap (count_in w) (other_is x ne)
 
   fits_other : (x : ℕ) → x ≢ v → FitsOneReader slots x → FitsOneReader (set slots v new) x
-  fits_other x ne h = subst (λ (s : SmallVec ℕ). HasRoomFor s 1) (sym (other_is x ne)) h
+  fits_other x ne h = subst (λ (s : GateList). HasRoom s) (sym (other_is x ne)) h
 
-  fits_here : (old : SmallVec ℕ) → get_or slots v empty ≡ old → length new.items ≤ length old.items
+  fits_here : (old : GateList) → get_or slots v no_list ≡ old → length new.items ≤ length old.items
       → old.capacity ≤ new.capacity
       → (x : ℕ) → FitsOneReader slots x → FitsOneReader (set slots v new) x
   fits_here old is shorter more x h = elim (cases_eq x v) [
     | inl e ↦
-        (let f : get_or slots x empty ≡ old = ap (λ y. get_or slots y empty) e ∙ is in
-        let g : get_or (set slots v new) x empty ≡ new = ap (λ y. get_or (set slots v new) y empty) e ∙ here_is in
-        let k : HasRoomFor old 1 = subst (λ (s : SmallVec ℕ). HasRoomFor s 1) f h in
-        let room : HasRoomFor new 1 = omega arith in
-        subst (λ (s : SmallVec ℕ). HasRoomFor s 1) (sym g) room)
+        (let f : get_or slots x no_list ≡ old = ap (λ y. get_or slots y no_list) e ∙ is in
+        let g : get_or (set slots v new) x no_list ≡ new = ap (λ y. get_or (set slots v new) y no_list) e ∙ here_is in
+        let k : HasRoom old = subst (λ (s : GateList). HasRoom s) f h in
+        let room : HasRoom new = omega arith in
+        subst (λ (s : GateList). HasRoom s) (sym g) room)
     | inr ne ↦ fits_other x ne h
   ]
 
-  taken : (u : ℕ) (old : SmallVec ℕ) → get_or slots v empty ≡ old → tally slots v u ≤ 1
+  taken : (u : ℕ) (old : GateList) → get_or slots v no_list ≡ old → tally slots v u ≤ 1
       → Loses u old.items new.items → new.capacity ≡ old.capacity → TakesOut v u slots (set slots v new)
   taken u old is once loses same = record {
     size = length-set slots v new;
@@ -136,41 +135,62 @@ module _ (slots : List (SmallVec ℕ)) (v : ℕ) (new : SmallVec ℕ) (within : 
     room = fits_here old is loses.shorter (omega arith);
   }
 
-  pub list_here : (d : SmallVec ℕ) → d ≡ get_or slots v d → d ≡ get_or slots v empty
-  list_here d read = read ∙ sym (get_or_default slots v empty d within)
-
-  pub takes_out : (u : ℕ) (d : SmallVec ℕ) → d ≡ get_or slots v d → tally slots v u ≤ 1
-      → Loses u d.items new.items → new.capacity ≡ d.capacity → TakesOut v u slots (set slots v new)
-  takes_out u d read once loses same = taken u d (sym (list_here d read)) once loses same
-
-  keeps_old : (old : SmallVec ℕ) → get_or slots v empty ≡ old → new.items ≡ old.items → old.capacity ≤ new.capacity
+  keeps_old : (old : GateList) → get_or slots v no_list ≡ old → new.items ≡ old.items → old.capacity ≤ new.capacity
       → KeepsLists slots (set slots v new)
   keeps_old old is items more = record {
-    lists = map-at slots v new within (items ∙ ap (λ (s : SmallVec ℕ). s.items) (sym is));
+    lists = map-at slots v new within (items ∙ ap (λ (s : GateList). s.items) (sym is));
     room = fits_here old is (let e = ap length items in omega arith) more;
   }
 
-  pub keeps : (d : SmallVec ℕ) → d ≡ get_or slots v d → new.items ≡ d.items → d.capacity ≤ new.capacity
-      → KeepsLists slots (set slots v new)
-  keeps d read items more = keeps_old d (sym (list_here d read)) items more
+-- a list that was replaced
+pub items_with : (slots : List GateList) (v : ℕ) (items : List ℕ) → v < length slots
+    → items_at (with_items_at slots v items) v ≡ items
+items_with slots v items within =
+    ap (λ (s : GateList). s.items) (here_is slots v (record { items = items; capacity = capacity_at slots v }) within)
 
-pub list_is : (slots : List (SmallVec ℕ)) (v : ℕ) → list_of (reader_lists slots) v ≡ items_at slots v
+pub fits_set : (slots new : List GateList) (v : ℕ) (list : GateList) → v < length slots → new ≡ set slots v list
+    → HasRoom list → FitsOneReader new v
+fits_set slots new v list within is room =
+    subst (λ ls. FitsOneReader ls v) (sym is)
+    (subst (λ (s : GateList). HasRoom s) (sym (here_is slots v list within)) room)
+
+-- after an entry was taken out of a list
+pub takes_out : (old new : List GateList) (v u : ℕ) (before after : List Places) → v < length old → tally old v u ≤ 1
+    → TakesFrom v u old new before after → TakesOut v u old new
+takes_out old new v u before after within once t =
+    subst (λ ls. TakesOut v u old ls) (sym t.list)
+    (taken old v (record { items = t.left; capacity = capacity_at old v }) within u (get_or old v no_list) refl once
+    t.loses refl)
+
+-- after a list got room
+pub gets_keeps : (old new : List GateList) (v : ℕ) → v < length old → GetsRoom v old new → KeepsLists old new
+gets_keeps old new v within g =
+    subst (λ ls. KeepsLists old ls) (sym g.list)
+    (keeps_old old v (record { items = items_at old v; capacity = g.capacity }) within (get_or old v no_list) refl refl
+    g.more)
+
+pub list_is : (slots : List GateList) (v : ℕ) → list_of (reader_lists slots) v ≡ items_at slots v
 list_is [] v = refl
 list_is (s ∷ ss) zero = refl
 list_is (s ∷ ss) (suc v) = list_is ss v
 
 -- no list changes
-pub kept_items : (old new : List (SmallVec ℕ)) → KeepsLists old new → (v : ℕ) → items_at new v ≡ items_at old v
+pub kept_items : (old new : List GateList) → KeepsLists old new → (v : ℕ) → items_at new v ≡ items_at old v
 kept_items old new k v =
     sym (list_is new v) ∙ ap (λ (xs : List (List ℕ)). get_or xs v []) k.lists ∙ list_is old v
 
-pub kept_size : (old new : List (SmallVec ℕ)) → KeepsLists old new → length new ≡ length old
+pub kept_size : (old new : List GateList) → KeepsLists old new → length new ≡ length old
 kept_size old new k = sym (length-map new (λ s. s.items)) ∙ ap length k.lists ∙ length-map old (λ s. s.items)
 
-pub fits_within : (slots : List (SmallVec ℕ)) (v : ℕ) → FitsOneReader slots v → v < length slots
+pub fits_within : (slots : List GateList) (v : ℕ) → FitsOneReader slots v → v < length slots
 fits_within [] v h = absurd (omega arith)
 fits_within (s ∷ ss) zero h = omega arith
 fits_within (s ∷ ss) (suc v) h = let lt = fits_within ss v h in omega arith
+
+pub items_within : (slots : List GateList) (v i : ℕ) → i < length (items_at slots v) → v < length slots
+items_within [] v i h = absurd (omega arith)
+items_within (s ∷ ss) zero i h = omega arith
+items_within (s ∷ ss) (suc v) i h = let lt = items_within ss v i h in omega arith
 
 lt_test : (a b : ℕ) → a + 1 ≤ b → nat_lt a b ≡ true
 lt_test a b h = grind (arith, nat_tests)
@@ -178,23 +198,23 @@ lt_test a b h = grind (arith, nat_tests)
 lt_tested : (a b : ℕ) → nat_lt a b ≡ true → a + 1 ≤ b
 lt_tested a b h = grind (arith, nat_tests)
 
-pub room_of_fits : (slots : List (SmallVec ℕ)) (v : ℕ) → FitsOneReader slots v → HasReaderRoom (reader_lists slots) v
+pub room_of_fits : (slots : List GateList) (v : ℕ) → FitsOneReader slots v → HasReaderRoom (reader_lists slots) v
 room_of_fits [] v h = absurd (omega arith)
 room_of_fits (s ∷ ss) zero h = ap Some (lt_test (length s.items) s.capacity h)
 room_of_fits (s ∷ ss) (suc v) h = room_of_fits ss v h
 
-pub fits_of_room : (slots : List (SmallVec ℕ)) (v : ℕ) → HasReaderRoom (reader_lists slots) v → FitsOneReader slots v
+pub fits_of_room : (slots : List GateList) (v : ℕ) → HasReaderRoom (reader_lists slots) v → FitsOneReader slots v
 fits_of_room [] v h = absurd (none-some true h)
 fits_of_room (s ∷ ss) zero h = lt_tested (length s.items) s.capacity (same_Some _ true h)
 fits_of_room (s ∷ ss) (suc v) h = fits_of_room ss v h
 
-tally_within : (slots : List (SmallVec ℕ)) (v w : ℕ) → 1 ≤ tally slots v w → v < length slots
+tally_within : (slots : List GateList) (v w : ℕ) → 1 ≤ tally slots v w → v < length slots
 tally_within [] v w h = absurd (omega arith)
 tally_within (s ∷ ss) zero w h = omega arith
 tally_within (s ∷ ss) (suc v) w h = let lt = tally_within ss v w h in omega arith
 
 -- the lists with a count of what stands in them
-pub tallied : (raw : Raw) (slots : List (SmallVec ℕ)) → AreReaders raw (reader_lists slots)
+pub tallied : (raw : Raw) (slots : List GateList) → AreReaders raw (reader_lists slots)
     → AreTallied (raw.max_var + 1) (ReadsVariable raw) slots
 tallied raw slots r = record {
   size = size;
@@ -211,7 +231,7 @@ tallied raw slots r = record {
     size : length slots ≡ raw.max_var + 1
     size = sym (length-map slots (λ s. s.items)) ∙ r.size
 
-pub readers_of : (raw : Raw) (slots : List (SmallVec ℕ)) → AreTallied (raw.max_var + 1) (ReadsVariable raw) slots
+pub readers_of : (raw : Raw) (slots : List GateList) → AreTallied (raw.max_var + 1) (ReadsVariable raw) slots
     → AreReaders raw (reader_lists slots)
 readers_of raw slots t = record {
   size = length-map slots (λ s. s.items) ∙ t.size;
@@ -224,7 +244,7 @@ readers_of raw slots t = record {
 }
 
 -- one more in two lists, where the first call took place and the second only if the lists are two
-pub adds_two : (v x u : ℕ) (old mid new : List (SmallVec ℕ)) → x ≢ v → AddsReader v u old mid → AddsReader x u mid new
+pub adds_two : (v x u : ℕ) (old mid new : List GateList) → x ≢ v → AddsReader v u old mid → AddsReader x u mid new
     → AddsBoth v x u old new
 adds_two v x u old mid new ne a b = record {
   size = b.size ∙ a.size;
@@ -236,7 +256,7 @@ adds_two v x u old mid new ne a b = record {
   others = λ y w apart. b.others y w (inr apart) ∙ a.others y w (inr apart);
 }
 
-pub adds_once : (v x u : ℕ) (old new : List (SmallVec ℕ)) → x ≡ v → AddsReader v u old new → AddsBoth v x u old new
+pub adds_once : (v x u : ℕ) (old new : List GateList) → x ≡ v → AddsReader v u old new → AddsBoth v x u old new
 adds_once v x u old new e a = record {
   size = a.size;
   here = λ y h. elim h [
@@ -249,7 +269,7 @@ adds_once v x u old new e a = record {
 
 -- a gate stands in the lists of its sides alone
 pub unread : (raw : Raw) → IsSound raw → (q : ℕ) (g : Gate) → slice_get raw.gates q ≡ Some g
-    → (old : List (SmallVec ℕ)) → AreTallied (raw.max_var + 1) (ReadsVariable raw) old
+    → (old : List GateList) → AreTallied (raw.max_var + 1) (ReadsVariable raw) old
     → (v : ℕ) → v ≢ variable g.rhs0 → v ≢ variable g.rhs1 → tally old v (variable g.lhs) ≡ 0
 unread raw sound q g at old t v n0 n1 = elim (cases_eq (tally old v (variable g.lhs)) 0) [
   | inl e ↦ e
@@ -263,7 +283,7 @@ unread raw sound q g at old t v n0 n1 = elim (cases_eq (tally old v (variable g.
 ]
 
 -- a gate that was taken out of the two lists where it stood stands nowhere
-pub gone_after : (slots mid new : List (SmallVec ℕ)) (a b u : ℕ) → TakesOut a u slots mid → TakesOut b u mid new
+pub gone_after : (slots mid new : List GateList) (a b u : ℕ) → TakesOut a u slots mid → TakesOut b u mid new
     → ((v : ℕ) → v ≢ a → v ≢ b → tally slots v u ≡ 0) → (v : ℕ) → tally new v u ≡ 0
 gone_after slots mid new a b u out0 out1 elsewhere v = elim (cases_eq v b) [
   | inl f ↦ ap (λ x. tally new x u) f ∙ out1.here
@@ -277,7 +297,7 @@ gone_after slots mid new a b u out0 out1 elsewhere v = elim (cases_eq v b) [
 
 -- after a gate was moved the lists are those of the circuit with its new sides
 module _ (raw : Raw) (sound : IsSound raw) (lhs r0 r1 : ℕ) (is_gate : IsLeftSide raw lhs) (q : ℕ) (g : Gate)
-    (at : slice_get raw.gates q ≡ Some g) (is : g.lhs ≡ lhs) (old new : List (SmallVec ℕ))
+    (at : slice_get raw.gates q ≡ Some g) (is : g.lhs ≡ lhs) (old new : List GateList)
     (t : AreTallied (raw.max_var + 1) (ReadsVariable raw) old)
     (m : MovesReader (variable g.rhs0) (variable g.rhs1) (variable r0) (variable r1) (variable g.lhs) old new) where
   abbrev u : ℕ
@@ -387,20 +407,8 @@ gate_position raw sound q i h g here at e =
     (g, at, refl) e in
     cc
 
-tally_push : (slots : List (SmallVec ℕ)) (s : SmallVec ℕ) → s.items ≡ [] → ((v w : ℕ) → tally slots v w ≡ 0)
-    → (v w : ℕ) → tally (slots ++ s ∷ []) v w ≡ 0
-tally_push [] s e h zero w = ap (λ xs. count_by (nat_eq w) xs) e
-tally_push [] s e h (suc v) w = refl
-tally_push (t ∷ ts) s e h zero w = h 0 w
-tally_push (t ∷ ts) s e h (suc v) w = tally_push ts s e (λ x y. h (suc x) y) v w
-
--- one more empty list
-pub tally_pushed : (slots new : List (SmallVec ℕ)) (s : SmallVec ℕ) → new ≡ slots ++ s ∷ [] → s.items ≡ []
-    → ((v w : ℕ) → tally slots v w ≡ 0) → (v w : ℕ) → tally new v w ≡ 0
-tally_pushed slots new s is e h v w = ap (λ xs. tally xs v w) is ∙ tally_push slots s e h v w
-
 -- before the first gate
-pub tallied_none : (raw : Raw) (slots : List (SmallVec ℕ)) → length slots ≡ raw.max_var + 1
+pub tallied_none : (raw : Raw) (slots : List GateList) → length slots ≡ raw.max_var + 1
     → ((v w : ℕ) → tally slots v w ≡ 0) → AreTallied (raw.max_var + 1) (ReadsBefore raw 0) slots
 tallied_none raw slots size none_yet = record {
   size = size;
@@ -409,7 +417,7 @@ tallied_none raw slots size none_yet = record {
   all = λ v w lt p. (let (q, g, below, at, left, side) = p in absurd (omega arith));
 }
 
-pub tallied_all : (raw : Raw) (n : ℕ) (slots : List (SmallVec ℕ)) → length raw.gates ≤ n
+pub tallied_all : (raw : Raw) (n : ℕ) (slots : List GateList) → length raw.gates ≤ n
     → AreTallied (raw.max_var + 1) (ReadsBefore raw n) slots → AreTallied (raw.max_var + 1) (ReadsVariable raw) slots
 tallied_all raw n slots past t = record {
   size = t.size;
@@ -422,7 +430,7 @@ tallied_all raw n slots past t = record {
 
 -- before a gate was listed it stands nowhere
 pub unlisted : (raw : Raw) → IsSound raw → (i : ℕ) (g : Gate) → slice_get raw.gates i ≡ Some g
-    → (old : List (SmallVec ℕ)) → AreTallied (raw.max_var + 1) (ReadsBefore raw i) old
+    → (old : List GateList) → AreTallied (raw.max_var + 1) (ReadsBefore raw i) old
     → (v : ℕ) → tally old v (variable g.lhs) ≡ 0
 unlisted raw sound i g at old t v = elim (cases_eq (tally old v (variable g.lhs)) 0) [
   | inl e ↦ e
@@ -434,7 +442,7 @@ unlisted raw sound i g at old t v = elim (cases_eq (tally old v (variable g.lhs)
 
 -- one gate more
 module _ (raw : Raw) (sound : IsSound raw) (i : ℕ) (g : Gate) (at : slice_get raw.gates i ≡ Some g)
-    (old mid new : List (SmallVec ℕ)) (t : AreTallied (raw.max_var + 1) (ReadsBefore raw i) old) (k : KeepsLists old mid)
+    (old mid new : List GateList) (t : AreTallied (raw.max_var + 1) (ReadsBefore raw i) old) (k : KeepsLists old mid)
     (b : AddsBoth (variable g.rhs0) (variable g.rhs1) (variable g.lhs) mid new) where
   same_tally : (v w : ℕ) → tally mid v w ≡ tally old v w
   same_tally v w = ap (λ xs. count_by (nat_eq w) xs) (kept_items old mid k v)
@@ -516,7 +524,7 @@ gate_at raw gates i g same lt at = subst (λ gs. slice_get gs i ≡ Some g) same
     (length gates) i g refl lt at)
 
 -- what keeps the lists of slots keeps those that contracts see
-pub keeps_readers : (old new : List (SmallVec ℕ)) (r : ReaderLists) → reader_lists old ≡ r → KeepsLists old new
+pub keeps_readers : (old new : List GateList) (r : ReaderLists) → reader_lists old ≡ r → KeepsLists old new
     → KeepsReaders r (reader_lists new)
 keeps_readers old new r is k = record {
   lists = k.lists ∙ ap (λ (x : ReaderLists). x.lists) is;
@@ -532,27 +540,27 @@ readers_kept raw old new h e = record {
   once = λ v w. subst (λ (ls : List (List ℕ)). count_by (nat_eq w) (get_or ls v []) ≤ 1) (sym e) (h.once v w);
 }
 
-pub fits_now : (slots : List (SmallVec ℕ)) (r : ReaderLists) → reader_lists slots ≡ r → (v : ℕ) → HasReaderRoom r v
+pub fits_now : (slots : List GateList) (r : ReaderLists) → reader_lists slots ≡ r → (v : ℕ) → HasReaderRoom r v
     → FitsOneReader slots v
 fits_now slots r is v h = fits_of_room slots v (subst (λ x. HasReaderRoom x v) (sym is) h)
 
-pub slots_long : (slots : List (SmallVec ℕ)) (r : ReaderLists) → reader_lists slots ≡ r
+pub slots_long : (slots : List GateList) (r : ReaderLists) → reader_lists slots ≡ r
     → length slots ≡ length r.lists
 slots_long slots r is = sym (length-map slots (λ s. s.items)) ∙ ap (λ (x : ReaderLists). length x.lists) is
 
-pub slots_size : (raw : Raw) (slots : List (SmallVec ℕ)) (r : ReaderLists) → reader_lists slots ≡ r → AreReaders raw r
+pub slots_size : (raw : Raw) (slots : List GateList) (r : ReaderLists) → reader_lists slots ≡ r → AreReaders raw r
     → length slots ≡ raw.max_var + 1
 slots_size raw slots r is readers = slots_long slots r is ∙ readers.size
 
 -- an empty list after the last
-pub push_same : (slots : List (SmallVec ℕ)) (s : SmallVec ℕ) → s.items ≡ [] → (v w : ℕ) → tally (slots ++ s ∷ []) v w
+pub push_same : (slots : List GateList) (s : GateList) → s.items ≡ [] → (v w : ℕ) → tally (slots ++ s ∷ []) v w
     ≡ tally slots v w
 push_same [] s e zero w = ap (λ xs. count_by (nat_eq w) xs) e
 push_same [] s e (suc v) w = refl
 push_same (t ∷ ts) s e zero w = refl
 push_same (t ∷ ts) s e (suc v) w = push_same ts s e v w
 
-pub fits_pushed : (slots : List (SmallVec ℕ)) (s : SmallVec ℕ) (v : ℕ) → FitsOneReader slots v → FitsOneReader (slots ++ s ∷ []) v
+pub fits_pushed : (slots : List GateList) (s : GateList) (v : ℕ) → FitsOneReader slots v → FitsOneReader (slots ++ s ∷ []) v
 fits_pushed [] s v h = absurd (omega arith)
 fits_pushed (t ∷ ts) s zero h = h
 fits_pushed (t ∷ ts) s (suc v) h = fits_pushed ts s v h

@@ -1,21 +1,21 @@
 -- Lists that are tidy, and the places of their gates.
 use Rattle.std.proofs.Common.{◌≡◌, ◌≢◌, ◌⊎◌, inl, inr, ℕ, ◌+◌, ◌<◌, ◌≤◌, min, List, [], ◌∷◌, ◌++◌, length, Contains}
-use Rattle.std.proofs.Common.{get_or, sym, ◌∙◌, refl, subst, arith}
+use Rattle.std.proofs.Common.{replicate, zero, suc, nat_eq, count_by, ap, sym, ◌∙◌, refl, subst, arith}
 use Rattle.std.specs.List.{range_with_len}
 use Rattle.std.proofs.lemmas.Bool.{cases_eq, eq-eqb, ne_eqb}
-use Rattle.std.proofs.lemmas.List.{length_push}
+use Rattle.std.proofs.lemmas.List.{length-replicate, length_push}
 use Rattle.std.proofs.lemmas.List.FromFn.{length-range_with_len, get_or-range_with_len}
-use Rattle.smallvec.specs.SmallVec.{SmallVec}
 use Rattle.aig_parts.specs.Formed.{limit}
 use Rattle.aig_base.specs.declared.readers.list_places.Places.{Places}
 use Rattle.aig_base.specs.Sound.{StandsTwice}
+use Rattle.aig_base.specs.Readers.{GateList}
 use Rattle.aig_base.specs.state.FanOuts.{AreFanOuts, AreTidy, fitting_lists}
 use Rattle.aig_base.specs.state.ListPlaces.{AreKept, StandsNew, WritesPlaces, short}
-use Rattle.aig_base.specs.state.ReaderSlots.{AddsBoth, KeepsLists, items_at, tally}
+use Rattle.aig_base.specs.state.ReaderSlots.{AddsBoth, KeepsLists, capacity_at, items_at, tally}
 use Rattle.aig_base.proofs.lists.Counting.{length_le}
-use Rattle.aig_base.proofs.fan_outs.ListPlaceLemmas.{capacity_within, items_pushed, kept_added, kept_pushed}
+use Rattle.aig_base.proofs.fan_outs.ListPlaceLemmas.{capacity_within, items_pushed, kept_added, kept_none, kept_pushed}
 use Rattle.aig_base.proofs.fan_outs.ListPlaceLemmas.{same_place, tidy_same}
-use Rattle.aig_base.proofs.fan_outs.ReaderLists.{count-of_Contains, kept_items, kept_size, list_here}
+use Rattle.aig_base.proofs.fan_outs.ReaderLists.{count-of_Contains, kept_items, kept_size}
 
 two_sides : (a b v x y : ℕ) → (a ≡ v) ⊎ (b ≡ v) → (a ≡ x) ⊎ (b ≡ x) → (a ≡ y) ⊎ (b ≡ y)
     → (v ≡ x) ⊎ (v ≡ y) ⊎ (x ≡ y)
@@ -31,7 +31,7 @@ two_sides a b v x y h k l = elim h [
 ]
 
 -- no list has more entries than there are variables
-pub narrow_tidy : (slots : List (SmallVec ℕ)) → AreTidy slots → (v : ℕ) → length (items_at slots v) < 4294967296
+pub narrow_tidy : (slots : List GateList) → AreTidy slots → (v : ℕ) → length (items_at slots v) < 4294967296
 narrow_tidy slots t v =
     let n = length slots in
     let le = length_le (items_at slots v) (range_with_len 0 n) never inside in
@@ -51,13 +51,7 @@ narrow_tidy slots t v =
           get_or-range_with_len 0 (length slots) w w lt ∙ omega arith,
         )
 
-pub narrow_here : (slots : List (SmallVec ℕ)) (v : ℕ) (d : SmallVec ℕ) → v < length slots → d ≡ get_or slots v d
-    → AreTidy slots → length d.items < 4294967296
-narrow_here slots v d within read t =
-    subst (λ (s : SmallVec ℕ). length s.items < 4294967296) (sym (list_here slots v d within d read))
-    (narrow_tidy slots t v)
-
-pub tidy_none : (slots : List (SmallVec ℕ)) → ((v w : ℕ) → tally slots v w ≡ 0) → length slots ≤ limit + 1
+pub tidy_none : (slots : List GateList) → ((v w : ℕ) → tally slots v w ≡ 0) → length slots ≤ limit + 1
     → AreTidy slots
 tidy_none slots none_yet small = record {
   once = λ v w. (let z = none_yet v w in omega arith);
@@ -66,8 +60,31 @@ tidy_none slots none_yet small = record {
   size = small;
 }
 
+-- so many empty lists
+module _ (n : ℕ) where
+  abbrev none : List GateList
+  none = replicate n (record { items = []; capacity = 4 })
+
+  none_at : (m v : ℕ) → (items_at (replicate m (record { items = []; capacity = 4 })) v ≡ [])
+      × (capacity_at (replicate m (record { items = []; capacity = 4 })) v ≤ 4)
+  none_at zero v = (refl, omega arith)
+  none_at (suc m) zero = (refl, omega arith)
+  none_at (suc m) (suc v) = none_at m v
+
+  pub none_long : length none ≡ n
+  none_long = length-replicate n (record { items = []; capacity = 4 })
+
+  pub none_tally : (v w : ℕ) → tally none v w ≡ 0
+  none_tally v w = ap (count_by (nat_eq w)) (none_at n v).0
+
+  pub none_fan_outs : (places : List Places) → n ≤ limit + 1 → AreFanOuts none places
+  none_fan_outs places small = record {
+    tidy = tidy_none none none_tally (omega (arith, none_long));
+    kept = kept_none none places none_tally (λ v. (let few = (none_at n v).1 in omega arith));
+  }
+
 -- a gate over all variables is in no list
-pub absent_over : (slots : List (SmallVec ℕ)) → AreTidy slots → (u : ℕ) → length slots ≤ u → (v : ℕ)
+pub absent_over : (slots : List GateList) → AreTidy slots → (u : ℕ) → length slots ≤ u → (v : ℕ)
     → tally slots v u ≡ 0
 absent_over slots t u over v = elim (cases_eq (tally slots v u) 0) [
   | inl e ↦ e
@@ -75,7 +92,7 @@ absent_over slots t u over v = elim (cases_eq (tally slots v u) 0) [
 ]
 
 -- after a gate that was in no list came to two of them
-module _ (a b u : ℕ) (old new : List (SmallVec ℕ)) (adds : AddsBoth a b u old new) (gate : u < length old)
+module _ (a b u : ℕ) (old new : List GateList) (adds : AddsBoth a b u old new) (gate : u < length old)
     (absent : (v : ℕ) → tally old v u ≡ 0) (tidy : AreTidy old) where
   where_new : (v : ℕ) → 1 ≤ tally new v u → (a ≡ v) ⊎ (b ≡ v)
   where_new v h = elim (cases_eq v a) [
@@ -119,7 +136,7 @@ module _ (a b u : ℕ) (old new : List (SmallVec ℕ)) (adds : AddsBoth a b u ol
     size = (let size = adds.size in let few = tidy.size in omega arith);
   }
 
-pub added : (a b u : ℕ) (p : Places) (old new : List (SmallVec ℕ)) (before after : List Places)
+pub added : (a b u : ℕ) (p : Places) (old new : List GateList) (before after : List Places)
     → AddsBoth a b u old new → StandsNew a b u p old new → WritesPlaces u p before after → u < length old
     → ((v : ℕ) → tally old v u ≡ 0) → AreFanOuts old before → AreFanOuts new after
 added a b u p old new before after adds stands writes gate absent are = record {
@@ -150,7 +167,7 @@ fits_one_more capacity places n lt covers = elim (cases_eq places 0) [
   | inr ne ↦ (let is = fitting_some capacity places ne in let c = covers (omega arith) in omega arith)
 ]
 
-pub pushed : (slots : List (SmallVec ℕ)) (s : SmallVec ℕ) (places : List Places) (capacity : ℕ) → s.items ≡ []
+pub pushed : (slots : List GateList) (s : GateList) (places : List Places) (capacity : ℕ) → s.items ≡ []
     → s.capacity ≤ short → length slots < fitting_lists capacity (length places) → length slots ≤ limit
     → AreFanOuts slots places → AreFanOuts (slots ++ s ∷ []) places
 pushed slots s places capacity empty_yet small fits few are = record {
@@ -165,7 +182,7 @@ pushed slots s places capacity empty_yet small fits few are = record {
 }
 
 -- where no list changes and nothing is lost of the table
-pub roomy : (old new : List (SmallVec ℕ)) (places : List Places) → KeepsLists old new → AreTidy old → AreKept new places
+pub roomy : (old new : List GateList) (places : List Places) → KeepsLists old new → AreTidy old → AreKept new places
     → AreFanOuts new places
 roomy old new places k tidy kept = record {
   tidy = (let size = kept_size old new k in let few = tidy.size in

@@ -3,12 +3,11 @@ use Rattle.std.proofs.Common.{◌≡◌, inl, inr, ℕ, ◌+◌, ◌≤◌, List
 use Rattle.std.proofs.Common.{refl, sym, ap, subst, ◌∙◌, arith}
 use Rattle.std.proofs.lemmas.List.{length_push}
 use Rattle.std.proofs.lemmas.Option.{slice_get_within}
-use Rattle.smallvec.specs.SmallVec.{SmallVec}
 use Rattle.aig_parts.specs.declared.raw.Raw.{Raw}
 use Rattle.aig_base.specs.Changes.{next_gate, with_appended_gate}
 use Rattle.aig_base.specs.Circuit.{IsCircuit}
 use Rattle.aig_parts.specs.Literal.{variable}
-use Rattle.aig_base.specs.Readers.{AreReaders, ReadsVariable, reader_lists}
+use Rattle.aig_base.specs.Readers.{AreReaders, GateList, ReadsVariable, reader_lists}
 use Rattle.aig_base.specs.state.ReaderSlots.{Appends, AreTallied, ReadsBefore}
 use Rattle.aig_base.specs.Sections.{IsDefined}
 use Rattle.aig_base.proofs.growth.Appended.{gate_cases, more_sound, new_at, old_at}
@@ -29,7 +28,7 @@ module _ (raw : Raw) (r0 r1 : ℕ) (c : IsCircuit raw) (d0 : IsDefined raw (vari
     | inr e ↦ absurd (omega arith)
   ]
 
-  tallied_pushed : (slots : List (SmallVec ℕ)) (s : SmallVec ℕ) → s.items ≡ [] → AreTallied (raw.max_var + 1)
+  tallied_pushed : (slots : List GateList) (s : GateList) → s.items ≡ [] → AreTallied (raw.max_var + 1)
       (ReadsVariable raw) slots
       → AreTallied (raw.max_var + 1 + 1) (ReadsBefore (with_appended_gate raw r0 r1) (length raw.gates)) (slots
       ++ s ∷ [])
@@ -41,7 +40,7 @@ module _ (raw : Raw) (r0 r1 : ℕ) (c : IsCircuit raw) (d0 : IsDefined raw (vari
         subst (λ n. 1 ≤ n) (sym (push_same slots s e v w)) (t.all v w (omega arith) reads);
   }
 
-  pub more_readers : (slots new : List (SmallVec ℕ)) → AreReaders raw (reader_lists slots)
+  pub more_readers : (slots new : List GateList) → AreReaders raw (reader_lists slots)
       → Appends (variable r0) (variable r1) (variable (next_gate raw r0 r1).lhs) slots new
       → AreReaders (with_appended_gate raw r0 r1) (reader_lists new)
   more_readers slots new r a =

@@ -1,20 +1,16 @@
 -- Where gates stand in the lists of the variables that they read.
-use Rattle.std.specs.Prelude.{◌≡◌, ◌≢◌, ◌⊎◌, ℕ, ◌<◌, ◌≤◌, List, [], length, Some, slice_get, slice_index_or}
-use Rattle.smallvec.specs.SmallVec.{SmallVec}
+use Rattle.std.specs.Prelude.{◌≡◌, ◌≢◌, ◌⊎◌, ℕ, ◌<◌, ◌≤◌, List, length, Some, slice_get}
 use Rattle.aig_base.specs.declared.readers.list_places.Places.{Places}
-use Rattle.aig_base.specs.state.ReaderSlots.{items_at}
+use Rattle.aig_base.specs.Readers.{GateList}
+use Rattle.aig_base.specs.state.ReaderSlots.{capacity_at, items_at, with_items_at, Loses}
 
 -- places from here on are kept
 abbrev pub short : ℕ
 short = 64
 
 -- w stands in the list of v at place i
-abbrev pub StandsAt : List (SmallVec ℕ) → ℕ → ℕ → ℕ → Type 0
+abbrev pub StandsAt : List GateList → ℕ → ℕ → ℕ → Type 0
 StandsAt slots v i w = slice_get (items_at slots v) i ≡ Some w
-
--- how many fit into the list of v
-abbrev pub capacity_at : List (SmallVec ℕ) → ℕ → ℕ
-capacity_at slots v = (slice_index_or slots v (record { items = []; capacity = 0 })).capacity
 
 -- i is kept as a place of w
 pub record HasPlace (places : List Places) (w i : ℕ) : Type 0 where
@@ -30,7 +26,7 @@ pub record HasListPlaces (places : List Places) (w i j : ℕ) : Type 0 where
 
 -- of each entry after the first ones the place is kept, at its gate; and there is a place for each variable, where a
 -- list has room after the first ones
-pub record AreKept (slots : List (SmallVec ℕ)) (places : List Places) : Type 0 where
+pub record AreKept (slots : List GateList) (places : List Places) : Type 0 where
   pub one : (v i w : ℕ) → short ≤ i → StandsAt slots v i w → HasPlace places w i
   pub two : (v x i j w : ℕ) → v ≢ x → short ≤ i → short ≤ j → StandsAt slots v i w → StandsAt slots x j w
       → HasListPlaces places w i j
@@ -74,10 +70,17 @@ StaysOrShifts old new before after =
     Stays old new before after ⊎ ((w from to : ℕ) × Shifts w from to old new before after)
 
 -- u came to the places of p at the ends of the lists of v and x
-pub record StandsNew (v x u : ℕ) (p : Places) (old new : List (SmallVec ℕ)) : Type 0 where
+pub record StandsNew (v x u : ℕ) (p : Places) (old new : List GateList) : Type 0 where
   pub capacities : (y : ℕ) → capacity_at new y ≡ capacity_at old y
   pub first : p.first ≡ length (items_at old v)
   pub second : p.second ≡ length (items_at old x)
   pub others : (y : ℕ) → y ≢ v → y ≢ x → items_at new y ≡ items_at old y
   pub entries : (y i w : ℕ) → StandsAt new y i w
       → StandsAt old y i w ⊎ ((w ≡ u) × (((y ≡ v) × (i ≡ p.first)) ⊎ ((y ≡ x) × (i ≡ p.second))))
+
+-- u was taken out of the list of v, and the places of its entries are kept
+pub record TakesFrom (v u : ℕ) (old new : List GateList) (before after : List Places) : Type 0 where
+  pub left : List ℕ
+  pub list : new ≡ with_items_at old v left
+  pub loses : Loses u (items_at old v) left
+  pub follows : StaysOrShifts (items_at old v) left before after

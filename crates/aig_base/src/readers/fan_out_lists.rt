@@ -1,80 +1,79 @@
 //! The lists of the gates that read a variable, with the places of gates in long lists.
-ghost use Rattle.std.specs.Prelude.{◌≡◌, ◌≢◌, ◌⊎◌, ℕ, ◌+◌, ◌*◌, ◌^◌, ◌<◌, ◌≤◌, max, length, Some, IfOk, OnOk, OnErr};
+ghost use Rattle.std.specs.Prelude.{◌≡◌, ◌≢◌, ◌⊎◌, ℕ, ◌+◌, ◌^◌, ◌<◌, ◌≤◌, length, Some, IfOk, OnOk, OnErr};
 ghost use Rattle.std.specs.Prelude.{slice_get};
-ghost use Rattle.smallvec.specs.SmallVec.{HasRoomFor};
-ghost use Rattle.aig_base.specs.state.ListPlaces.{StaysOrShifts, HasPlace, StandsNew, short};
+ghost use Rattle.aig_base.specs.state.ListPlaces.{HasPlace, StandsNew, TakesFrom, short};
 ghost use Rattle.aig_parts.specs.Formed.{limit};
 ghost use Rattle.aig_parts.specs.Literal.{variable};
-ghost use Rattle.aig_base.specs.state.ReaderSlots.{AddsReader, AddsBoth, Appends, Enters, FitsOneReader, KeepsLists, Loses};
+ghost use Rattle.aig_base.specs.state.ReaderSlots.{AddsReader, AddsBoth, Appends, Enters, FitsOneReader, KeepsLists};
 ghost use Rattle.aig_base.specs.state.ReaderSlots.{MovesReader, TakesOut, items_at, tally};
 
+use crate::readers::gate_lists::GateLists;
 use crate::readers::list_places::{
     Places, cover_for_list, cover_more, place_of, renew_moved, write_places,
 };
 use aig_bytes::Memory;
 use aig_parts::Gate;
-use smallvec::SmallVec;
 use std::alloc::Global;
 use std::marker::Model;
 
 /// For each variable the gates that read it, and where a gate is in a long list.
 #[derive(Drop)]
 pub(crate) struct FanOuts {
-    lists: Vec<SmallVec<u32, 4>>,
+    lists: GateLists,
     // By the gate's variable; none is there while no list is long.
     places: Vec<Places>,
 }
 
 impl Model for FanOuts {
     ghost use Rattle.std.specs.Prelude.{length};
-    ghost use Rattle.std.specs.Vec.{vec_capacity};
     ghost use Rattle.aig_base.specs.state.FanOuts.{FanOutLists, fitting_lists, AreFanOuts};
 
     ghost Value = { FanOutLists };
 
     ghost view = { λ a. record {
-      slots = a.lists.items;
-      fitting = fitting_lists (vec_capacity a.lists) (length a.places.items);
+      slots = a.lists.slots;
+      fitting = fitting_lists a.lists.fitting (length a.places.items);
     } };
 
-    ghost invariant = { λ a. AreFanOuts a.lists.items a.places.items };
+    ghost invariant = { λ a. AreFanOuts a.lists.slots a.places.items };
 }
 
-// Takes a gate out of a list, if it is there, in constant time; the last gate moves to its place.
-fn take_out_of(list: &mut SmallVec<u32, 4>, places: &mut [Places], gate: u32)
-    requires kept { (i w : ℕ) → short ≤ i → slice_get list.old.items i ≡ Some w → HasPlace places.old w i }
-    requires narrow { length list.old.items < 2 ^ 32 }
-    ensures items { Loses gate list.old.items list.new.items }
-    ensures capacity { list.new.capacity ≡ list.old.capacity }
-    ensures follows { StaysOrShifts list.old.items list.new.items places.old places.new }
+// Takes a gate out of the list of a variable, if it is there, in constant time; the last gate moves to its place.
+fn take_out_of(lists: &mut GateLists, places: &mut [Places], variable: u32, gate: u32)
+    requires within { variable < length lists.old.slots }
+    requires kept { (i w : ℕ) → short ≤ i → slice_get (items_at lists.old.slots variable) i ≡ Some w → HasPlace places.old w i }
+    requires narrow { length (items_at lists.old.slots variable) < 2 ^ 32 }
+    ensures takes { TakesFrom variable gate lists.old.slots lists.new.slots places.old places.new }
+    ensures fitting { lists.new.fitting ≡ lists.old.fitting }
 {
-    if let Some(place) = place_of(list.as_slice(), places, gate) {
-        let _ = list.swap_remove(place);
-        renew_moved(list.as_slice(), places, place);
+    if let Some(place) = place_of(lists.list(variable), places, gate) {
+        lists.swap_remove(variable, place);
+        renew_moved(lists.list(variable), places, place);
     }
 }
 
 // Adds a gate to the list of a variable that has room, and returns its place there.
-fn add(lists: &mut [SmallVec<u32, 4>], variable: u32, gate: u32) -> u32
-    requires within { variable < length lists.old }
-    requires room { FitsOneReader lists.old variable }
-    requires narrow { length (items_at lists.old variable) < 2 ^ 32 }
-    ensures adds { AddsReader variable gate lists.old lists.new }
-    ensures stands { StandsNew variable variable gate (record { first = result; second = result }) lists.old lists.new }
+fn add(lists: &mut GateLists, variable: u32, gate: u32) -> u32
+    requires room { FitsOneReader lists.old.slots variable }
+    requires narrow { length (items_at lists.old.slots variable) < 2 ^ 32 }
+    ensures adds { AddsReader variable gate lists.old.slots lists.new.slots }
+    ensures stands { StandsNew variable variable gate (record { first = result; second = result })
+        lists.old.slots lists.new.slots }
+    ensures fitting { lists.new.fitting ≡ lists.old.fitting }
 {
-    let list = &mut lists[variable as usize];
-    let place = list.len() as u32;
-    list.push_reserved(gate);
+    let place = lists.list(variable).len() as u32;
+    lists.push(variable, gate);
     place
 }
 
 // Adds a gate to the lists of both variables, which have room, once where the two are one, and returns its places.
-fn add_to_lists(lists: &mut [SmallVec<u32, 4>], first: u32, second: u32, gate: u32) -> Places
-    requires room0 { FitsOneReader lists.old first }
-    requires room1 { FitsOneReader lists.old second }
-    requires narrow { (v : ℕ) → length (items_at lists.old v) < 2 ^ 32 }
-    ensures adds { AddsBoth first second gate lists.old lists.new }
-    ensures stands { StandsNew first second gate result lists.old lists.new }
+fn add_to_lists(lists: &mut GateLists, first: u32, second: u32, gate: u32) -> Places
+    requires room0 { FitsOneReader lists.old.slots first }
+    requires room1 { FitsOneReader lists.old.slots second }
+    requires narrow { (v : ℕ) → length (items_at lists.old.slots v) < 2 ^ 32 }
+    ensures adds { AddsBoth first second gate lists.old.slots lists.new.slots }
+    ensures stands { StandsNew first second gate result lists.old.slots lists.new.slots }
+    ensures fitting { lists.new.fitting ≡ lists.old.fitting }
 {
     let place = add(lists, first, gate);
     if second == first {
@@ -89,22 +88,6 @@ fn add_to_lists(lists: &mut [SmallVec<u32, 4>], first: u32, second: u32, gate: u
     }
 }
 
-// Makes room for one more in a list, which doubles where it is full.
-fn make_room_in(list: &mut SmallVec<u32, 4>) -> Result<(), Memory>
-    ensures items { list.new.items ≡ list.old.items }
-    ensures ok { OnOk result (HasRoomFor list.new 1) }
-    ensures capacity { list.old.capacity ≤ list.new.capacity }
-    ensures doubled { list.new.capacity ≤ max list.old.capacity (2 * length list.old.items) }
-    ensures refused { OnErr result (4 ≤ length list.old.items) }
-{
-    let len = list.len();
-    if len < list.capacity() {
-        return Ok(());
-    }
-    list.reserve_exact(len)?;
-    Ok(())
-}
-
 impl FanOuts {
     /// An empty list for each of so many variables.
     pub(crate) fn new(alloc: Global, variables: usize) -> Result<FanOuts, Memory>
@@ -112,12 +95,8 @@ impl FanOuts {
         ensures size { IfOk result (λ fan_outs. length fan_outs.slots ≡ variables) }
         ensures empty { IfOk result (λ fan_outs. (v w : ℕ) → tally fan_outs.slots v w ≡ 0) }
     {
-        let mut lists = Vec::with_capacity(alloc, variables)?;
-        for _ in 0..variables {
-            lists.push(SmallVec::new(alloc))?;
-        }
         Ok(FanOuts {
-            lists,
+            lists: GateLists::new(alloc, variables)?,
             places: Vec::new(alloc),
         })
     }
@@ -127,7 +106,7 @@ impl FanOuts {
         requires { variable < length self.now.slots }
         ensures { result.now ≡ items_at self.now.slots variable }
     {
-        self.lists[variable as usize].as_slice()
+        self.lists.list(variable)
     }
 
     // Takes a gate out of the list of a variable, if it is there.
@@ -135,7 +114,7 @@ impl FanOuts {
         requires { variable < length self.old.slots }
         ensures { TakesOut variable gate self.old.slots self.new.slots }
     {
-        take_out_of(&mut self.lists[variable as usize], &mut self.places, gate);
+        take_out_of(&mut self.lists, &mut self.places, variable, gate);
     }
 
     // Adds a gate that is in no list to the lists of both variables, which have room; once where the two are one.
@@ -175,9 +154,9 @@ impl FanOuts {
         ensures ok { OnOk result (FitsOneReader self.new.slots variable) }
         ensures refused { OnErr result (4 ≤ length (items_at self.old.slots variable)) }
     {
-        let len = self.lists[variable as usize].len();
+        let len = self.lists.list(variable).len();
         cover_for_list(&mut self.places, len, self.lists.len())?;
-        make_room_in(&mut self.lists[variable as usize])
+        self.lists.make_room(variable)
     }
 
     /// Makes room for one more in the lists of both variables.
@@ -203,7 +182,7 @@ impl FanOuts {
         ensures room { OnOk result (FitsOneReader self.new.slots first × FitsOneReader self.new.slots second) }
     {
         self.make_room_at_both(first, second)?;
-        self.lists.reserve(1)?;
+        self.lists.make_room_for_list()?;
         cover_more(&mut self.places, self.lists.len() + 1)
     }
 
@@ -217,8 +196,7 @@ impl FanOuts {
         ensures { Appends (variable gate.now.rhs0) (variable gate.now.rhs1) (variable gate.now.lhs)
             self.old.slots self.new.slots }
     {
-        let alloc = *self.lists.allocator();
-        self.lists.push_reserved(SmallVec::new(alloc));
+        self.lists.push_list();
         self.add_to_both(gate.rhs0.var(), gate.rhs1.var(), gate.lhs.var());
     }
 

@@ -1,0 +1,12 @@
+use Rattle.std.proofs.Common.{[], arith}
+use Rattle.aig_base.specs.state.GateLists.{slot_list}
+use Rattle.aig_base.proofs.fan_outs.GateListLemmas.{map_replicate, none_slots}
+use Rattle.aig_base.proofs.readers.gate_lists.GateLists.new.Goals as goal
+
+pub invariant_of-result : goal.invariant_of-result
+invariant_of-result c = rw (c.new-far.ensures.items, c.in_ok-slots.ensures.items_if_clones_equal (λ y e. e))
+    (none_slots c.args.variables _ (omega arith))
+
+pub returns : goal.returns
+returns c = rw (c.new-far.ensures.items, c.in_ok-slots.ensures.items_if_clones_equal (λ y e. e))
+    (map_replicate (slot_list []) c.args.variables _)

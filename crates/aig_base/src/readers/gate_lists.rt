@@ -1,0 +1,246 @@
+//! For each variable a list of gates. Four gates are in place; a list that needs room for more has memory of its own.
+ghost use Rattle.std.specs.Prelude.{◌≡◌, ◌+◌, ◌*◌, ◌<◌, ◌≤◌, [], ◌∷◌, ◌++◌, max, length, map, replicate, swap_remove};
+ghost use Rattle.std.specs.Prelude.{IfOk, IsTrue, ◌↔◌, OnOk, OnErr};
+ghost use Rattle.std.specs.Vec.{vec_capacity};
+ghost use Rattle.aig_base.specs.state.GateLists.{GetsRoom, far_list, near_list, position};
+ghost use Rattle.aig_base.specs.state.ReaderSlots.{FitsOneReader, items_at, with_items_at};
+
+use aig_bytes::Memory;
+use std::alloc::Global;
+use std::marker::Model;
+
+/// How many gates a list has in place.
+const NEAR: usize = 4;
+
+/// In place of a count: the list has memory of its own.
+const FAR: u32 = 5;
+
+/// The list of a variable, or where it is.
+#[derive(Clone, Copy, Debug)]
+pub(crate) struct Slot {
+    // How many gates the list has, or `FAR`.
+    count: u32,
+    // The gates; of a far list, first its position among the far lists.
+    gates: [u32; NEAR],
+}
+
+impl Slot {
+    // Whether the list has memory of its own.
+    fn is_far(&self) -> bool
+        ensures far { IsTrue result ↔ (self.now.count ≡ 5) }
+        ensures places { length self.now.gates ≡ 4 }
+    {
+        self.count == FAR
+    }
+
+    // Where a far list is among the far lists.
+    fn position(&self) -> usize
+        ensures { result ≡ position self.now }
+    {
+        self.gates[0] as usize
+    }
+
+    // The gates that are in place.
+    fn near(&self) -> &[u32]
+        requires { self.now.count ≤ 4 }
+        ensures { result.now ≡ (near_list self.now).items }
+    {
+        &self.gates[..self.count as usize]
+    }
+
+    // Adds a gate after those in place.
+    fn push(&mut self, gate: u32)
+        requires { self.old.count < 4 }
+        ensures items { (near_list self.new).items ≡ (near_list self.old).items ++ gate ∷ [] }
+        ensures count { self.new.count ≡ self.old.count + 1 }
+    {
+        self.gates[self.count as usize] = gate;
+        self.count += 1;
+    }
+
+    // Takes out the gate at a place; the last one moves there.
+    fn swap_remove(&mut self, place: usize)
+        requires few { self.old.count ≤ 4 }
+        requires within { place < self.old.count }
+        ensures items { (near_list self.new).items ≡ swap_remove (near_list self.old).items place 0 }
+        ensures count { self.new.count + 1 ≡ self.old.count }
+    {
+        self.count -= 1;
+        self.gates[place] = self.gates[self.count as usize];
+    }
+}
+
+/// For each variable a list of gates.
+#[derive(Drop)]
+pub(crate) struct GateLists {
+    slots: Vec<Slot>,
+    far: Vec<Vec<u32>>,
+}
+
+impl Model for GateLists {
+    ghost use Rattle.std.specs.Prelude.{map};
+    ghost use Rattle.std.specs.Vec.{vec_capacity};
+    ghost use Rattle.aig_base.specs.state.GateLists.{AreSlots, RoomyLists, far_list, slot_list};
+
+    ghost Value = { RoomyLists };
+
+    ghost view = { λ a. record {
+      slots = map (slot_list (map far_list a.far.items)) a.slots.items;
+      fitting = vec_capacity a.slots;
+    } };
+
+    ghost invariant = { λ a. AreSlots (map far_list a.far.items) a.slots.items };
+}
+
+// Makes room for one more in a list, which doubles if it is full.
+fn double_full(list: &mut Vec<u32>) -> Result<(), Memory>
+    requires { 4 ≤ vec_capacity list.old }
+    ensures items { list.new.items ≡ list.old.items }
+    ensures ok { OnOk result (length list.new.items < vec_capacity list.new) }
+    ensures capacity { vec_capacity list.old ≤ vec_capacity list.new }
+    ensures doubled { vec_capacity list.new ≤ max (vec_capacity list.old) (2 * length list.old.items) }
+    ensures refused { OnErr result (4 ≤ length list.old.items) }
+{
+    let len = list.len();
+    if len < list.capacity() {
+        return Ok(());
+    }
+    list.reserve_exact(len)?;
+    Ok(())
+}
+
+// A list of these gates, with room for as many again.
+fn far_copy(alloc: Global, gates: &[u32]) -> Result<Vec<u32>, Memory>
+    requires { length gates.now ≡ 4 }
+    ensures items { IfOk result (λ list. list.items ≡ gates.now) }
+    ensures capacity { IfOk result (λ list. vec_capacity list ≡ 8) }
+{
+    let mut list = Vec::with_capacity(alloc, 2 * NEAR)?;
+    for gate in gates {
+        list.push_reserved(*gate);
+    }
+    Ok(list)
+}
+
+// Keeps these gates as one more far list, and returns its slot.
+fn keep_far(alloc: Global, gates: &[u32], far: &mut Vec<Vec<u32>>) -> Result<Slot, Memory>
+    requires { length gates.now ≡ 4 }
+    ensures slot { IfOk result (λ slot. (slot.count ≡ 5) × (position slot ≡ length far.old.items)) }
+    ensures far { OnOk result (map far_list far.new.items
+        ≡ map far_list far.old.items ++ (record { items = gates.now; capacity = 8 }) ∷ []) }
+    ensures kept { OnErr result (far.new.items ≡ far.old.items) }
+{
+    let Ok(position) = u32::try_from(far.len()) else {
+        return Err(Memory);
+    };
+    far.push(far_copy(alloc, gates)?)?;
+    Ok(Slot {
+        count: FAR,
+        gates: [position, 0, 0, 0],
+    })
+}
+
+impl GateLists {
+    /// An empty list for each of so many variables.
+    pub(crate) fn new(alloc: Global, variables: usize) -> Result<GateLists, Memory>
+        ensures { IfOk result (λ lists. lists.slots ≡ replicate variables (record { items = []; capacity = 4 })) }
+    {
+        let none = Slot {
+            count: 0,
+            gates: [0; NEAR],
+        };
+        let slots = vec![in alloc; none; variables]?;
+        let far = Vec::new(alloc);
+        Ok(GateLists { slots, far })
+    }
+
+    /// How many lists there are.
+    pub(crate) fn len(&self) -> usize
+        ensures { result ≡ length self.now.slots }
+    {
+        self.slots.len()
+    }
+
+    /// The gates of a variable.
+    pub(crate) fn list(&self, variable: u32) -> &[u32]
+        requires { variable < length self.now.slots }
+        ensures { result.now ≡ items_at self.now.slots variable }
+    {
+        let slot = &self.slots[variable as usize];
+        if slot.is_far() {
+            return self.far[slot.position()].as_slice();
+        }
+        slot.near()
+    }
+
+    /// Adds a gate to the list of a variable, which has room.
+    pub(crate) fn push(&mut self, variable: u32, gate: u32)
+        requires { FitsOneReader self.old.slots variable }
+        ensures slots { self.new.slots
+            ≡ with_items_at self.old.slots variable (items_at self.old.slots variable ++ gate ∷ []) }
+        ensures fitting { self.new.fitting ≡ self.old.fitting }
+    {
+        let slot = &self.slots[variable as usize];
+        if slot.is_far() {
+            self.far[slot.position()].push_reserved(gate);
+        } else {
+            self.slots[variable as usize].push(gate);
+        }
+    }
+
+    /// Takes the gate at a place out of the list of a variable; the last one moves to its place.
+    pub(crate) fn swap_remove(&mut self, variable: u32, place: usize)
+        requires { place < length (items_at self.old.slots variable) }
+        ensures slots { self.new.slots
+            ≡ with_items_at self.old.slots variable (swap_remove (items_at self.old.slots variable) place 0) }
+        ensures fitting { self.new.fitting ≡ self.old.fitting }
+    {
+        let slot = &self.slots[variable as usize];
+        if slot.is_far() {
+            let _ = self.far[slot.position()].swap_remove(place);
+        } else {
+            self.slots[variable as usize].swap_remove(place);
+        }
+    }
+
+    /// Makes room for one more gate in the list of a variable.
+    pub(crate) fn make_room(&mut self, variable: u32) -> Result<(), Memory>
+        requires { variable < length self.old.slots }
+        ensures gets { GetsRoom variable self.old.slots self.new.slots }
+        ensures ok { OnOk result (FitsOneReader self.new.slots variable) }
+        ensures refused { OnErr result (4 ≤ length (items_at self.old.slots variable)) }
+        ensures fitting { self.new.fitting ≡ self.old.fitting }
+    {
+        let slot = self.slots[variable as usize];
+        if slot.is_far() {
+            return double_full(&mut self.far[slot.position()]);
+        }
+        if slot.count < NEAR as u32 {
+            return Ok(());
+        }
+        let alloc = *self.slots.allocator();
+        self.slots[variable as usize] = keep_far(alloc, &slot.gates, &mut self.far)?;
+        Ok(())
+    }
+
+    /// Makes room for one more list.
+    pub(crate) fn make_room_for_list(&mut self) -> Result<(), Memory>
+        ensures slots { self.new.slots ≡ self.old.slots }
+        ensures fitting { OnOk result (length self.new.slots < self.new.fitting) }
+    {
+        self.slots.reserve(1)?;
+        Ok(())
+    }
+
+    /// Adds an empty list; there is room.
+    pub(crate) fn push_list(&mut self)
+        requires { length self.old.slots < self.old.fitting }
+        ensures slots { self.new.slots ≡ self.old.slots ++ (record { items = []; capacity = 4 }) ∷ [] }
+        ensures fitting { self.new.fitting ≡ self.old.fitting }
+    {
+        self.slots.push_reserved(Slot {
+            count: 0,
+            gates: [0; NEAR],
+        });
+    }
+}
