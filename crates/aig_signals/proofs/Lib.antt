@@ -1,3 +1,4 @@
+pub mod BitLemmas
 pub mod Lookups
 pub mod Meaning
 pub mod NameLemmas

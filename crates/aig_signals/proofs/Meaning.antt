@@ -6,6 +6,7 @@ use Rattle.aig_parts.specs.Literal.{variable, negation}
 use Rattle.aig_base.specs.Sections.{IsDefined}
 use Rattle.aig_signals.specs.declared.lookup.Rule.{Rule}
 use Rattle.aig_signals.specs.declared.lookup.Rule.TheVariants as rule
+use Rattle.aig_signals.specs.Bits.{bits_named}
 use Rattle.aig_signals.specs.Lookup.{or_else, alone, entry_literal, entry_by, literals_by, signal_literals, signal_named, literals_called, IsPlain, MeansPlainly, IsNoName, Means, Unknown}
 
 module _ (raw : Raw) (name : List ℕ) where
@@ -17,23 +18,34 @@ module _ (raw : Raw) (name : List ℕ) where
   abbrev pub by_signal : Option (List ℕ)
   by_signal = option_map (signal_literals raw) (signal_named raw name)
 
+  -- the rules after further words
+  abbrev last : Option (List ℕ)
+  last = or_else (bits_named raw name) (literals_by raw name rule.Position)
+
   pub first_called : (l : ℕ) → Some l ≡ by_rule rule.FirstName → Some (alone l) ≡ literals_called raw name
   unfolding literals_called
-  first_called l h = λ i. or_else (option_map alone (h i)) (or_else by_signal (or_else (literals_by raw name rule.FurtherWord) (literals_by raw name rule.Position)))
+  first_called l h = λ i. or_else (option_map alone (h i)) (or_else by_signal (or_else (literals_by raw name rule.FurtherWord) last))
 
   pub signal_called : (ls : List ℕ) → None ≡ by_rule rule.FirstName → Some ls ≡ by_signal → Some ls ≡ literals_called raw name
   unfolding literals_called
-  signal_called ls h s = λ i. or_else (option_map alone (h i)) (or_else (s i) (or_else (literals_by raw name rule.FurtherWord) (literals_by raw name rule.Position)))
+  signal_called ls h s = λ i. or_else (option_map alone (h i)) (or_else (s i) (or_else (literals_by raw name rule.FurtherWord) last))
 
   pub further_called : (l : ℕ) → None ≡ by_rule rule.FirstName → None ≡ by_signal → Some l ≡ by_rule rule.FurtherWord
       → Some (alone l) ≡ literals_called raw name
   unfolding literals_called
-  further_called l h s f = λ i. or_else (option_map alone (h i)) (or_else (s i) (or_else (option_map alone (f i)) (literals_by raw name rule.Position)))
+  further_called l h s f = λ i. or_else (option_map alone (h i)) (or_else (s i) (or_else (option_map alone (f i)) last))
+
+  pub bits_called : (ls : List ℕ) → None ≡ by_rule rule.FirstName → None ≡ by_signal → None ≡ by_rule rule.FurtherWord
+      → Some ls ≡ bits_named raw name → Some ls ≡ literals_called raw name
+  unfolding literals_called
+  bits_called ls h s f b =
+      λ i. or_else (option_map alone (h i)) (or_else (s i) (or_else (option_map alone (f i)) (or_else (b i) (literals_by raw name rule.Position))))
 
   pub last_called : (o : Option ℕ) → None ≡ by_rule rule.FirstName → None ≡ by_signal → None ≡ by_rule rule.FurtherWord
-      → o ≡ by_rule rule.Position → option_map alone o ≡ literals_called raw name
+      → None ≡ bits_named raw name → o ≡ by_rule rule.Position → option_map alone o ≡ literals_called raw name
   unfolding literals_called
-  last_called o h s f p = λ i. or_else (option_map alone (h i)) (or_else (s i) (or_else (option_map alone (f i)) (option_map alone (p i))))
+  last_called o h s f b p =
+      λ i. or_else (option_map alone (h i)) (or_else (s i) (or_else (option_map alone (f i)) (or_else (b i) (option_map alone (p i)))))
 
   pub plain_called : (ls : List ℕ) → Some ls ≡ literals_called raw name → IsPlain raw name ls
   plain_called ls h = subst (λ (o : Option (List ℕ)). MeansPlainly raw name o ls) h refl

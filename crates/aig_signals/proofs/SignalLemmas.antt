@@ -3,11 +3,15 @@ use Rattle.std.proofs.Common.{◌≡◌, ℕ, ◌+◌, ◌<◌, ◌≤◌, Bool,
 use Rattle.std.specs.Prelude.{◌==◌}
 use Rattle.std.specs.List.{flat_map}
 use Rattle.std.proofs.lemmas.List.{map-append, take_more, drop_more, drop_all}
+use Rattle.std.proofs.lemmas.List.Sums.{fold-append}
 use Rattle.aig_parts.specs.declared.raw.Raw.{Raw}
 use Rattle.aig_parts.specs.declared.symbols.Kind.{Kind}
 use Rattle.aig_signals.specs.declared.run.Run.{Run}
 use Rattle.aig_signals.specs.Names.{first_name}
 use Rattle.aig_signals.specs.Signals.{first_bit, is_called, bit_in, size_of, vector_name, name_by, count_called, signal_of, runs_of, section_signals}
+use Rattle.std.specs.Hash.DefaultHasher as sip
+use Rattle.aig_signals.specs.declared.hash.NameHash.{NameHash}
+use Rattle.aig_signals.specs.state.NameHash.{hash_by}
 use Rattle.aig_signals.specs.state.Seen.{seen, noted, is_once}
 use Rattle.aig_signals.proofs.SeenLemmas.{once_is, seen_step}
 
@@ -30,6 +34,16 @@ run_seen raw kind runs i d x shown buffer empty old new lt a b e more h =
     let text : shown ≡ first = a ∙ b ∙ ap (λ (xs : List ℕ). xs ++ first) e in
     seen_step (λ (run : Run). is_called x (bit_in raw kind run)) runs i d (is_called x (first_bit shown (size_of (get_or runs i d)))) old new lt
     (ap (λ (xs : List ℕ). is_called x (first_bit xs (size_of (get_or runs i d)))) text) more h
+
+-- one name more is taken in
+pub hash_more : (f : Run → List ℕ) (runs : List Run) (i : ℕ) (d : Run) (old new : NameHash) (name : List ℕ) → i < length runs
+    → name ≡ f (get_or runs i d) → new ≡ record { mixed = sip.write old.mixed name } → old ≡ hash_by (map f (take i runs))
+    → new ≡ hash_by (map f (take (i + 1) runs))
+hash_more f runs i d old new name lt is mixed h =
+    mixed ∙ (λ j. record { mixed = sip.write (h j).mixed (is j) })
+    ∙ sym (ap (λ (rs : List Run). hash_by (map f rs)) (take_more runs i d lt)
+    ∙ ap hash_by (map-append f (take i runs) (get_or runs i d ∷ []))
+    ∙ (λ j. record { mixed = fold-append sip.write sip.initial (map f (take i runs)) (f (get_or runs i d) ∷ []) j }))
 
 -- a run with its name is its signal
 pub run_named : (raw : Raw) (kind : Kind) (runs : List Run) (run : Run) (known : List ℕ → Option Bool) (name : List ℕ)

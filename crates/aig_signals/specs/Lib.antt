@@ -1,3 +1,4 @@
+pub mod Bits
 pub mod Lookup
 pub mod Names
 pub mod Signals

@@ -1,5 +1,5 @@
 -- What a name means: literals, from bit 0 up (our own choice). Of two entries the earlier one is meant.
-use Rattle.std.specs.Prelude.{◌≡◌, ◌⊎◌, ℕ, zero, suc, ◌-◌, Bool, if◌then◌else◌, List, [], ◌∷◌, length, map, Option, None, Some, option_map, decimal, slice_index_or}
+use Rattle.std.specs.Prelude.{◌≡◌, ◌⊎◌, ℕ, zero, suc, ◌-◌, Bool, if◌then◌else◌, List, [], ◌∷◌, length, map, Option, None, Some, option_map, decimal}
 use Rattle.std.specs.List.{list_any, find, range_with_len}
 use Rattle.std.specs.Str.{bytes_eq}
 use Rattle.aig_parts.specs.declared.raw.Raw.{Raw}
@@ -10,7 +10,8 @@ use Rattle.aig_base.specs.Sections.{IsDefined}
 use Rattle.aig_signals.specs.declared.lookup.Rule.{Rule}
 use Rattle.aig_signals.specs.declared.lookup.Rule.TheVariants as rule
 use Rattle.aig_signals.specs.declared.signal.Signal.{Signal}
-use Rattle.aig_signals.specs.Names.{first_name, further_names, position_name, literals_of, sections}
+use Rattle.aig_signals.specs.Bits.{bits_named}
+use Rattle.aig_signals.specs.Names.{first_name, further_names, position_name, literal_of, literals_of, sections}
 use Rattle.aig_signals.specs.Signals.{signals_of}
 
 -- the first of two where there is one, else the second
@@ -44,9 +45,6 @@ abbrev pub entry_by : Raw → List ℕ → Rule → Option Key
 entry_by raw name rule = in_sections raw name rule sections
 
 -- an entry's literal
-abbrev pub literal_of : Raw → Kind → ℕ → ℕ
-literal_of raw kind p = slice_index_or (literals_of raw kind) p 0
-
 abbrev pub entry_literal : Raw → Key → ℕ
 entry_literal raw e = literal_of raw e.0 e.1
 
@@ -70,11 +68,12 @@ named_in signals name = find (λ signal. bytes_eq signal.name name) signals
 abbrev pub signal_named : Raw → List ℕ → Option Signal
 signal_named raw name = named_in (signals_of raw) name
 
--- what a name is that of: first names come first, then vectors, further words, and letters with positions
+-- what a name is that of: first names come first, then vectors, further words, words X[n] to X[m], and letters with
+-- positions
 unfoldable pub literals_called : Raw → List ℕ → Option (List ℕ)
 literals_called raw name =
     or_else (literals_by raw name rule.FirstName) (or_else (option_map (signal_literals raw) (signal_named raw name))
-    (or_else (literals_by raw name rule.FurtherWord) (literals_by raw name rule.Position)))
+    (or_else (literals_by raw name rule.FurtherWord) (or_else (bits_named raw name) (literals_by raw name rule.Position))))
 
 -- the name is the number of a literal of variable 0, an input, a latch or a gate
 abbrev pub IsNumber : Raw → List ℕ → ℕ → Type 0

@@ -1,5 +1,5 @@
 -- Names of a circuit's entries as people read and type them (our own choice).
-use Rattle.std.specs.Prelude.{ℕ, ◌||◌, nat_lt, if◌then◌else◌, List, [], ◌∷◌, map, decimal}
+use Rattle.std.specs.Prelude.{ℕ, ◌||◌, nat_lt, if◌then◌else◌, List, [], ◌∷◌, map, decimal, slice_index_or}
 use Rattle.aig_parts.specs.declared.raw.Raw.{Raw}
 use Rattle.aig_parts.specs.declared.symbols.Kind.{Kind}
 use Rattle.aig_parts.specs.declared.symbols.Kind.TheVariants.{Input, Latch, Output, Bad, Constraint, Justice, Fairness}
@@ -53,3 +53,7 @@ literals_of raw Bad = raw.bad
 literals_of raw Constraint = raw.constraints
 literals_of raw Justice = []
 literals_of raw Fairness = []
+
+-- an entry's literal
+abbrev pub literal_of : Raw → Kind → ℕ → ℕ
+literal_of raw kind p = slice_index_or (literals_of raw kind) p 0

@@ -1,1 +1,2 @@
+pub mod NameHash
 pub mod Seen

@@ -1,6 +1,8 @@
 //! Signals of a circuit: what people call them, which of them a name means, and their values as text. It knows no run.
 #![tactic(auto)]
 
+mod bits;
+mod hash;
 mod lookup;
 mod names;
 mod run;

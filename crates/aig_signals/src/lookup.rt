@@ -4,9 +4,10 @@ ghost use Rattle.std.specs.List.{range_with_len};
 ghost use Rattle.aig_parts.specs.Literal.{negation};
 ghost use Rattle.aig_signals.specs.Lookup as spec;
 ghost use Rattle.aig_signals.specs.Lookup.{least, entry_literal, in_sections, signal_literals, signal_named, literals_called, IsPlain, IsNoName, Means, Unknown};
-ghost use Rattle.aig_signals.specs.Names.{literals_of};
+ghost use Rattle.aig_signals.specs.Names.{literal_of, literals_of};
 ghost use Rattle.aig_signals.specs.Signals as signals_spec;
 
+use crate::bits::literals_of_words;
 use crate::names::{has_further_name, push_first_name};
 use crate::section::{SECTIONS, count_of, literal_at};
 use crate::signal::Signal;
@@ -111,7 +112,7 @@ fn literals_between(
 ) -> Result<List<Lit>, Memory>
     requires ordered { first ≤ end }
     requires within { end ≤ length (literals_of circuit.now kind) }
-    ensures { IfOk result (λ literals. literals ≡ map (spec.literal_of circuit.now kind) (range_with_len first (end - first))) }
+    ensures { IfOk result (λ literals. literals ≡ map (literal_of circuit.now kind) (range_with_len first (end - first))) }
 {
     let mut literals = List::new(alloc);
     for position in first..end {
@@ -189,6 +190,10 @@ fn literals_called(
     let further = literal_by(alloc, circuit, name, Rule::FurtherWord)?;
     if let Some(literal) = further {
         return list_of(alloc, Some(literal));
+    }
+    let bits = literals_of_words(alloc, circuit, name)?;
+    if let Some(literals) = bits {
+        return Ok(Some(literals));
     }
     let last = literal_by(alloc, circuit, name, Rule::Position)?;
     list_of(alloc, last)

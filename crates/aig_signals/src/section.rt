@@ -1,7 +1,6 @@
 //! Sections whose entries are signals.
 ghost use Rattle.std.specs.Prelude.{◌≡◌, ◌<◌, ◌≤◌, length};
-ghost use Rattle.aig_signals.specs.Names.{literals_of};
-ghost use Rattle.aig_signals.specs.Lookup.{literal_of};
+ghost use Rattle.aig_signals.specs.Names.{literal_of, literals_of};
 
 use aig_base::{Circuit, Kind, Lit};
 

@@ -2,12 +2,14 @@
 ghost use Rattle.std.specs.Prelude.{◌≡◌, ◌++◌, ◌==◌, ◌-◌, ◌<◌, ◌≤◌, ◌^◌, ℕ, List, Bool, length, map, All, IfOk, IfSome, OnOk, option_map};
 ghost use Rattle.std.specs.List.{flat_map};
 ghost use Rattle.std.specs.Str.{bytes_eq};
-ghost use Rattle.indexmap.specs.IndexMap.{get_by};
+ghost use Rattle.indexmap.specs.IndexMap.{get_by, hasher_of};
 ghost use Rattle.aig_signals.specs.Signals as spec;
 ghost use Rattle.aig_signals.specs.Signals.{name_by, is_called, vector_name, section_signals, signal_of, count_called, bit_in, size_of};
 ghost use Rattle.aig_signals.specs.Names.{first_name};
+ghost use Rattle.aig_signals.specs.state.NameHash.{hash_by};
 ghost use Rattle.aig_signals.specs.state.Seen.{seen, noted, is_once};
 
+use crate::hash::NameHash;
 use crate::names::push_first_name;
 use crate::run::{Run, runs_of};
 use crate::section::SECTIONS;
@@ -27,9 +29,14 @@ pub struct Signal {
 }
 
 /// Notes a vector by its name: each name is kept with whether it is that of only one.
-fn note(alloc: Global, known: &mut IndexMap<Vec<u8>, bool>, name: &[u8]) -> Result<(), Memory>
-    ensures { OnOk result ((x : List ℕ) → get_by (λ key. bytes_eq x key.items) known.new
+fn note(
+    alloc: Global,
+    known: &mut IndexMap<Vec<u8>, bool, NameHash>,
+    name: &[u8],
+) -> Result<(), Memory>
+    ensures noted { OnOk result ((x : List ℕ) → get_by (λ key. bytes_eq x key.items) known.new
         ≡ noted (bytes_eq x name.now) (get_by (λ key. bytes_eq x key.items) known.old)) }
+    ensures hash { hasher_of known.new ≡ hasher_of known.old }
 {
     let is_new = !known.contains_key(name);
     known.insert(Vec::from_slice(alloc, name)?, is_new)?;
@@ -48,17 +55,33 @@ fn first_bit(name: &[u8], size: u32) -> Option<Bit<'_>>
 /// Notes a run of so many entries, the first of which has this name, where it is a vector.
 fn see(
     alloc: Global,
-    known: &mut IndexMap<Vec<u8>, bool>,
+    known: &mut IndexMap<Vec<u8>, bool, NameHash>,
     name: &[u8],
     size: u32,
 ) -> Result<(), Memory>
-    ensures { OnOk result ((x : List ℕ) → get_by (λ key. bytes_eq x key.items) known.new
+    ensures noted { OnOk result ((x : List ℕ) → get_by (λ key. bytes_eq x key.items) known.new
         ≡ noted (is_called x (spec.first_bit name.now size)) (get_by (λ key. bytes_eq x key.items) known.old)) }
+    ensures hash { hasher_of known.new ≡ hasher_of known.old }
 {
     match first_bit(name, size) {
         Some(bit) => note(alloc, known, bit.vector),
         None => Ok(()),
     }
+}
+
+/// Hashers that have taken in the first names of all these runs.
+fn hash_of(alloc: Global, circuit: &Circuit, kind: Kind, runs: &[Run]) -> Result<NameHash, Memory>
+    ensures { IfOk result (λ hash.
+        hash ≡ hash_by (map (λ run. first_name circuit.now kind run.first) runs.now)) }
+{
+    let mut hash = NameHash::new();
+    let mut name = Vec::new(alloc);
+    for run in runs {
+        name.clear();
+        push_first_name(&mut name, circuit, kind, run.first)?;
+        hash.mix(name.as_slice());
+    }
+    Ok(hash)
 }
 
 /// The names of the vectors among runs, each with whether it is that of only one.
@@ -67,12 +90,15 @@ fn names_seen(
     circuit: &Circuit,
     kind: Kind,
     runs: &[Run],
-) -> Result<IndexMap<Vec<u8>, bool>, Memory>
+) -> Result<IndexMap<Vec<u8>, bool, NameHash>, Memory>
     requires { All (λ run. run.first ≤ run.end) runs.now }
-    ensures { IfOk result (λ map. (x : List ℕ) → get_by (λ key. bytes_eq x key.items) map
+    ensures seen { IfOk result (λ map. (x : List ℕ) → get_by (λ key. bytes_eq x key.items) map
         ≡ seen (count_called circuit.now kind x runs.now)) }
+    ensures hash { IfOk result (λ known. hasher_of known
+        ≡ hash_by (map (λ run. first_name circuit.now kind run.first) runs.now)) }
 {
-    let mut map = IndexMap::new(alloc);
+    let hash = hash_of(alloc, circuit, kind, runs)?;
+    let mut map = IndexMap::with_hasher(alloc, hash);
     let mut name = Vec::new(alloc);
     for run in runs {
         name.clear();
@@ -108,7 +134,7 @@ fn vector_name(
 }
 
 /// Whether a name is that of only one vector.
-fn is_only(known: &IndexMap<Vec<u8>, bool>, name: &[u8]) -> bool
+fn is_only(known: &IndexMap<Vec<u8>, bool, NameHash>, name: &[u8]) -> bool
     ensures { result ≡ is_once (get_by (λ key. bytes_eq name.now key.items) known.now) }
 {
     matches!(known.get(name), Some(true))
@@ -117,7 +143,7 @@ fn is_only(known: &IndexMap<Vec<u8>, bool>, name: &[u8]) -> bool
 /// The name of a run, where the names of all vectors of its section have been seen.
 fn name_of(
     alloc: Global,
-    known: &IndexMap<Vec<u8>, bool>,
+    known: &IndexMap<Vec<u8>, bool, NameHash>,
     circuit: &Circuit,
     kind: Kind,
     run: Run,
@@ -141,7 +167,7 @@ fn name_of(
 fn push_runs(
     alloc: Global,
     signals: &mut Vec<Signal>,
-    known: &IndexMap<Vec<u8>, bool>,
+    known: &IndexMap<Vec<u8>, bool, NameHash>,
     circuit: &Circuit,
     kind: Kind,
     runs: &[Run],

@@ -4,15 +4,16 @@ use aig_base::{Circuit, Kind, Lit, Tern};
 use aig_signals::{look_up, push_first_name, push_readable, push_value, signals_of};
 use std::alloc::Global;
 
-// A vector from 0, one that does not start at 0, two runs of one name, and names with blanks and control bytes.
+// A vector from 0, one that does not start at 0, two runs of one name, words of a vector at several entries, and names
+// with blanks and control bytes.
 const NAMED: &[u8] =
     b"aag 13 2 10 1 1 1\n2\n4\n6 8\n8 6\n10 2\n12 4\n14 14\n16 16\n18 18\n20 20\n22 22\n24 24\n\
     26\n27\n26 6 4\n\
-    i0 clk a  b\ni1 q[0]x\nl0 q[0] top.q\nl1 q[1]\nl2 q[2]\nl3 r\nl4 m[3]\nl5 m[4]\nl6 t[0]\nl7 t[1]\nl8 t[0]\nl9 t[1]\n\
+    i0 clk a  b v[1]\ni1 q[0]x v[0]\nl0 q[0] top.q\nl1 q[1]\nl2 q[2]\nl3 r g[0] g[2]\nl4 m[3] v[0]\nl5 m[4]\nl6 t[0]\nl7 t[1]\nl8 t[0]\nl9 t[1]\n\
     b0 red\x1bcolour\n";
 
 // A name, and the literals that it means, from bit 0 up; none where it means none.
-const MEANINGS: [(&[u8], Option<&[u32]>); 24] = [
+const MEANINGS: [(&[u8], Option<&[u32]>); 28] = [
     (b"clk", Some(&[2])),
     (b"a", Some(&[2])),
     (b"b", Some(&[2])),
@@ -23,8 +24,12 @@ const MEANINGS: [(&[u8], Option<&[u32]>); 24] = [
     (b"r", Some(&[12])),
     (b"!r", Some(&[13])),
     (b"m[4:3]", Some(&[14, 16])),
-    (b"m", None),
+    (b"m", Some(&[14, 16])),
     (b"t[1:0]", Some(&[18, 20])),
+    (b"t", Some(&[18, 20])),
+    (b"v", Some(&[4, 2])),
+    (b"!v", Some(&[5, 3])),
+    (b"g", None),
     (b"l3", Some(&[12])),
     (b"i1", Some(&[4])),
     (b"o0", Some(&[26])),
@@ -58,7 +63,8 @@ fn means(alloc: Global, circuit: &Circuit, name: &[u8], wanted: Option<&[u32]>) 
     }
 }
 
-// What names mean, by the order of first names, vectors, further words, letters with positions, and numbers.
+// What names mean, by the order of first names, vectors, further words, words of vectors, letters with positions, and
+// numbers.
 #[test]
 fn meanings_of_names(rt: HostRuntime) {
     for (name, wanted) in &MEANINGS {

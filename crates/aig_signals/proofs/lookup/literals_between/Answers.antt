@@ -1,5 +1,5 @@
 use Rattle.std.proofs.Common.{arith, ◌∙◌}
-use Rattle.aig_signals.specs.Lookup.{literal_of}
+use Rattle.aig_signals.specs.Names.{literal_of}
 use Rattle.aig_signals.proofs.Lookups.{literals_more, literals_none}
 use Rattle.aig_signals.proofs.lookup.literals_between.Goals as goal
 

@@ -1,6 +1,6 @@
 use Rattle.std.proofs.Common.{◌≡◌, ◌-◌, ◌≤◌, map}
 use Rattle.std.specs.List.{range_with_len}
-use Rattle.aig_signals.specs.Lookup.{literal_of}
+use Rattle.aig_signals.specs.Names.{literal_of}
 use Rattle.aig_signals.proofs.lookup.literals_between.Given as goal
 
 abbrev pub invariant-loop-position : goal.invariant-loop-position

@@ -20,7 +20,7 @@ push_runs-requires-clause-some c =
 
 pub push_runs-requires-clause-known : goal.push_runs-requires-clause-known
 push_runs-requires-clause-known c x =
-    c.in_ok-known.ensures x
+    c.in_ok-known.ensures.seen x
     ∙ ap (λ (rs : List Run). seen (count_called c.args.circuit.now c.args.kind x rs)) (c.as_slice.ensures.value ∙ sym c.as_slice-2.ensures.value)
 
 pub returns : goal.returns
