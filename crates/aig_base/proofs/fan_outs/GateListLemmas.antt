@@ -1,9 +1,9 @@
 -- Lists of gates in place and in memory of their own: what a write to one of them does.
-use Rattle.std.proofs.Common.{◌≡◌, ◌≢◌, inl, inr, ℕ, zero, suc, ◌+◌, ◌-◌, ◌*◌, ◌<◌, ◌≤◌, max, List, [], ◌∷◌, ◌++◌}
+use Rattle.std.proofs.Common.{◌≡◌, ◌≢◌, inl, inr, ℕ, zero, suc, ◌-◌, ◌*◌, ◌<◌, ◌≤◌, max, List, [], ◌∷◌, ◌++◌}
 use Rattle.std.proofs.Common.{length, map, get_or, set, take, replicate, slice_get, Some, refl, sym, ◌∙◌, ap, subst}
 use Rattle.std.proofs.Common.{arith, swap_remove, length-set, length-take}
 use Rattle.std.proofs.lemmas.Bool.{cases_eq, eq-eqb, ne_eqb}
-use Rattle.std.proofs.lemmas.List.{get_or_default, get_or_push, get_or-take, map-set, set-get_or, take-take, take_all}
+use Rattle.std.proofs.lemmas.List.{get_or_default, get_or_push, map-set, set-get_or, take_all}
 use Rattle.std.proofs.lemmas.List.{get_or-set_same, get_or-set_other, get_or_append_left, get_or-map, length_push, length-map}
 use Rattle.std.proofs.lemmas.Option.{slice_get_read, slice_get_within, slice_get-get_or, none-some, same_Some}
 use Rattle.std.specs.Global.{Vec}
