@@ -16,7 +16,7 @@ import time
 from library.runs import REPOSITORY, TESTS
 
 LARGE = "run_large.py"
-SCRIPTS = ("run_program.py", "run_faults.py", "run_random.py", "run_dist.py", "tour.py")
+SCRIPTS = ("run_program.py", "run_faults.py", "run_random.py", "run_library.py", "run_dist.py", "tour.py")
 # this runs aig_proof_tests
 STEPS = "run_steps.py"
 # this runs the package of Python

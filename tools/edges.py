@@ -38,7 +38,8 @@ def floors():
             found.append(Floor(title.rstrip("."), unknown, {}))
         else:
             name, _, libraries = line.partition(":")
-            found[-1].crates[name] = libraries.split()
+            # of `NAME staticlib` the name is the first word
+            found[-1].crates[name.split()[0]] = libraries.split()
     return found
 
 

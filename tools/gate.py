@@ -14,6 +14,9 @@ ROOT = os.path.dirname(os.path.dirname(os.path.abspath(__file__)))
 RECORD = ROOT + "/build/gate"
 PROVED = "crates/aig/out/aig"
 UNPROVED = "build/aig"
+# the folders of the library for C
+PROVED_LIBRARY = "crates/aig_c/out/lib"
+UNPROVED_LIBRARY = "build/lib"
 
 
 def asked(*words):

@@ -145,7 +145,7 @@ def functions(crate, file, homes):
             module = module_of(file) if inner else homes.get((file, of), homes.get(of, module_of(file)))
         elif line == "}":
             module = owner = ""
-        at = re.match(r"(\s*)(?:pub(?:\(crate\))? )?fn (\w+)", line)
+        at = re.match(r"(\s*)(?:pub(?:\(crate\))? )?(?:extern \"C\" )?fn (\w+)", line)
         if at:
             body = opening(lines, number, at[1])
             if not lines[body].endswith(";"):

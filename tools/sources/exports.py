@@ -44,11 +44,11 @@ class Export(NamedTuple):
 
 
 BLOCK = re.compile(r"(?:unsafe )?(impl|pub trait)\b(?:<.*?>)?\s+(.*)$")
-FUNCTION = re.compile(r"(\s*)(pub )?(?:const |unsafe )*fn (\w+)")
+FUNCTION = re.compile(r"(\s*)(pub )?(?:const |unsafe |extern \"C\" )*fn (\w+)")
 GHOST = re.compile(r"\n {4}((?:pub )?ghost (\w+)\s*[=:])\s*\{")
 PLAIN = re.compile(r"pub (?:const|type) (\w+)")
-NAMED = re.compile(r"(?m)^pub (?:struct|enum|trait|const|type|fn) (\w+)")
-HELD = re.compile(r"(?m)^(?:pub(?:\(\w+\))? )?(?:struct|enum|trait|const|type|fn) (\w+)")
+NAMED = re.compile(r"(?m)^pub (?:struct|enum|trait|const|type|(?:extern \"C\" )?fn) (\w+)")
+HELD = re.compile(r"(?m)^(?:pub(?:\(\w+\))? )?(?:struct|enum|trait|const|type|(?:extern \"C\" )?fn) (\w+)")
 USED = re.compile(r"pub use (?:crate::)?((?:\w+::)*\w+)::(?:\{([\w\s,]*)\}|(\w+));")
 CLAUSE = re.compile(r"\s*\b((?:requires|ensures)\b[^{;]*?)\s*\{")
 
@@ -59,7 +59,7 @@ UNSEEN = ("invariant", "inverse_ok", "also_owns")
 def crates() -> List[str]:
     """Returns the names of the libraries in the order of crates.txt: neither the crates of tests nor the programs."""
     lines = [line for line in (ROOT / "crates.txt").read_text(encoding="utf-8").split("\n") if line and line[0] != "#"]
-    names = [line.partition(":")[0] for line in lines]
+    names = [line.partition(":")[0].split()[0] for line in lines]
     return [name for name in names
             if (ROOT / "crates" / name / "src" / "lib.rt").exists() and not name.endswith("_tests")]
 

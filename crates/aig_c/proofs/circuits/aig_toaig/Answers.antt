@@ -1,0 +1,22 @@
+use Rattle.std.proofs.Common.{refl, ap, ◌∙◌, subst}
+use Rattle.std.specs.Prelude.{Ok, Some, take}
+use Rattle.aig_run.specs.Command.{OfFile}
+use Rattle.aig_commands.specs.Toaig.{Converts}
+use Rattle.aig_c.specs.Answers.{Refuses}
+use Rattle.aig_c.proofs.Endings.{done, refused}
+use Rattle.aig_c.proofs.circuits.aig_toaig.Goals as goal
+
+pub returns-in-Ok-convert-clause-done : goal.returns-in-Ok-convert-clause-done
+returns-in-Ok-convert-clause-done c = λ zero_is.
+    subst (λ f. OfFile c.args.circuit.now (Converts f)
+    (Ok tt) (take c.answer.new.written c.answer.new.room)) c.format.ensures
+    (done (OfFile c.args.circuit.now (Converts c.format.result)) c.convert.new.out.bytes
+    (take c.answer.new.written c.answer.new.room)
+    (ap (λ w. Some w.bytes) c.in-Ok.ensures) refl
+    (c.answer.ensures.done zero_is ∙ c.bytes.ensures) c.in-Ok-convert.ensures.ends)
+
+pub returns-clause-refused : goal.returns-clause-refused
+returns-clause-refused c = λ one_is.
+    subst (λ f. Refuses (OfFile c.args.circuit.now (Converts f))) c.format.ensures
+    (refused (OfFile c.args.circuit.now (Converts c.format.result)) c.in-Err.fault
+    (c.refuse.ensures.refused one_is) c.in-Err.ensures.ends)

@@ -1,0 +1,23 @@
+use Rattle.std.proofs.Common.{refl, ap, ◌∙◌, subst}
+use Rattle.std.specs.Prelude.{Ok, Some, take}
+use Rattle.aig_run.specs.Command.{OfFile}
+use Rattle.aig_commands.specs.Unroll.{Unrolls}
+use Rattle.aig_c.specs.Answers.{Refuses}
+use Rattle.aig_c.proofs.Endings.{done, refused}
+use Rattle.aig_c.proofs.circuits.aig_unroll.Goals as goal
+
+pub returns-in-Ok-unroll_bytes-clause-done : goal.returns-in-Ok-unroll_bytes-clause-done
+returns-in-Ok-unroll_bytes-clause-done c = λ zero_is.
+    subst (λ asked. OfFile c.args.circuit.now (Unrolls c.args.frames asked)
+    (Ok tt) (take c.answer.new.written c.answer.new.room))
+    c.format.ensures
+    (done (OfFile c.args.circuit.now (Unrolls c.args.frames c.format.result))
+    c.unroll_bytes.new.out.bytes (take c.answer.new.written c.answer.new.room)
+    (ap (λ w. Some w.bytes) c.in-Ok.ensures) refl (c.answer.ensures.done zero_is ∙ c.bytes.ensures)
+    c.in-Ok-unroll_bytes.ensures.ends)
+
+pub returns-clause-refused : goal.returns-clause-refused
+returns-clause-refused c = λ one_is.
+    subst (λ asked. Refuses (OfFile c.args.circuit.now (Unrolls c.args.frames asked))) c.format.ensures
+    (refused (OfFile c.args.circuit.now (Unrolls c.args.frames c.format.result))
+    c.in-Err.fault (c.refuse.ensures.refused one_is) c.in-Err.ensures.ends)

@@ -1,0 +1,23 @@
+use Rattle.std.proofs.Common.{refl, ap, ◌∙◌, subst}
+use Rattle.std.specs.Prelude.{Ok, Some, take}
+use Rattle.aig_run.specs.Command.{OfFile}
+use Rattle.aig_commands.specs.Cnf.{WritesFormula}
+use Rattle.aig_c.specs.Answers.{Refuses}
+use Rattle.aig_c.proofs.Endings.{done, refused}
+use Rattle.aig_c.proofs.formulas.aig_cnf.Goals as goal
+
+pub returns-in-Ok-cnf-clause-done : goal.returns-in-Ok-cnf-clause-done
+returns-in-Ok-cnf-clause-done c = λ zero_is.
+    subst (λ asked. OfFile c.args.circuit.now (WritesFormula asked)
+    (Ok tt) (take c.answer.new.written c.answer.new.room))
+    c.query.ensures
+    (done (OfFile c.args.circuit.now (WritesFormula c.query.result))
+    c.cnf.new.out.bytes (take c.answer.new.written c.answer.new.room)
+    (ap (λ w. Some w.bytes) c.in-Ok.ensures) refl (c.answer.ensures.done zero_is ∙ c.bytes.ensures)
+    c.in-Ok-cnf.ensures.ends)
+
+pub returns-clause-refused : goal.returns-clause-refused
+returns-clause-refused c = λ one_is.
+    subst (λ asked. Refuses (OfFile c.args.circuit.now (WritesFormula asked))) c.query.ensures
+    (refused (OfFile c.args.circuit.now (WritesFormula c.query.result))
+    c.in-Err.fault (c.refuse.ensures.refused one_is) c.in-Err.ensures.ends)

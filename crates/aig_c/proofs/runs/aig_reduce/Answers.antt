@@ -1,0 +1,24 @@
+use Rattle.std.proofs.Common.{refl, ap, ◌∙◌}
+use Rattle.std.specs.Prelude.{Some, take}
+use Rattle.aig_run.specs.Command.{OfFile}
+use Rattle.aig_commands.specs.Reduce.{Reduces}
+use Rattle.aig_c.proofs.Endings.{done, refused}
+use Rattle.aig_c.proofs.runs.aig_reduce.Goals.{then-status-eq-DONE, else-status-eq-DONE}
+use Rattle.aig_c.proofs.runs.aig_reduce.Goals as goal
+
+pub returns-in-Ok-reduce-clause-done : goal.returns-in-Ok-reduce-clause-done
+returns-in-Ok-reduce-clause-done c = λ zero_is. (
+  c.in-Ok-reduce.verdict,
+  elim c.if-status-eq-DONE.branch [
+    | then-status-eq-DONE w ↦ w.confirmed-is ∙ w.is_confirmed.ensures
+    | else-status-eq-DONE w ↦ absurd (w.if-status-eq-DONE.false zero_is)
+  ],
+  done (OfFile c.args.circuit.now (Reduces c.args.witness.now)) c.reduce.new.out.bytes
+      (take c.answer-status.new.written c.answer-status.new.room) (ap (λ w. Some w.bytes) c.in-Ok.ensures) refl
+      (c.answer-status.ensures.done zero_is ∙ c.bytes.ensures) c.in-Ok-reduce.ensures.ends,
+)
+
+pub returns-clause-refused : goal.returns-clause-refused
+returns-clause-refused c = λ one_is.
+    refused (OfFile c.args.circuit.now (Reduces c.args.witness.now))
+    c.in-Err.fault (c.refuse.ensures.refused one_is) c.in-Err.ensures.ends

@@ -1,0 +1,28 @@
+-- What the arguments of a call for C ask for, and what its status says.
+use Rattle.std.specs.Prelude.{◌≡◌, ℕ, List, Bool, true, false, Result, Err}
+use Rattle.aig_cnf.specs.Query.{step, within}
+use Rattle.aig_cnf.specs.declared.query.Query.{Query}
+use Rattle.aig_format.specs.declared.reader.header.Format.{Format}
+use Rattle.aig_format.specs.declared.reader.header.Format.TheVariants.{Ascii, Binary}
+use Rattle.aig_run.specs.Status.{status_of}
+use Rattle.aig_run.specs.declared.run_fault.RunFault.{RunFault}
+use Rattle.aig_sim.specs.declared.witness.verdict.Verdict.{Verdict}
+use Rattle.aig_sim.specs.declared.witness.verdict.Verdict.TheVariants.{Confirmed}
+
+-- the format that is asked for
+abbrev pub format_of : Bool → Format
+format_of true = Binary
+format_of false = Ascii
+
+-- the query about k frames and property p: the step of an induction, or whether a run reaches p within k frames
+abbrev pub query_of : Bool → ℕ → ℕ → Query
+query_of true k p = step k p
+query_of false k p = within k p
+
+abbrev pub is_confirmed : Verdict → Bool
+is_confirmed Confirmed = true
+is_confirmed _ = false
+
+-- a command with the meaning `Means` rejects an input, and not because memory ran out
+abbrev pub Refuses : {T : Type 0} → (Result T RunFault → List ℕ → Type 0) → Type 0
+Refuses Means = (fault : RunFault) × (status_of fault ≡ 1) × ((bytes : List ℕ) × Means (Err fault) bytes)

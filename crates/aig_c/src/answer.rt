@@ -1,0 +1,108 @@
+//! What a call returns: its status, and a text in the caller's room.
+ghost use Rattle.std.specs.Prelude.{◌≡◌, ◌≢◌, ◌<◌, ◌≤◌, length, take};
+ghost use Rattle.aig_run.specs.Status.{status_of};
+ghost use Rattle.aig_c.specs.Answers.{format_of, is_confirmed, query_of};
+
+use aig_cnf::{Goal, Query};
+use aig_format::Format;
+use aig_run::{RunFault, ScriptFault};
+use aig_sim::Verdict;
+use std::alloc::Global;
+
+/// The command went well.
+pub(crate) const DONE: u8 = 0;
+/// An input is rejected.
+const REFUSED: u8 = 1;
+/// The text is longer than the room.
+const NO_ROOM: u8 = 2;
+/// Memory ran out.
+pub(crate) const NO_MEMORY: u8 = 3;
+
+/// Copies bytes to the front of a room that is large enough.
+fn copy(bytes: &[u8], room: &mut [u8]) -> usize
+    requires { length bytes.now ≤ length room.old }
+    ensures front { take result room.new ≡ bytes.now }
+    ensures count { result ≡ length bytes.now }
+{
+    let count = bytes.len();
+    room[..count].copy_from_slice(bytes);
+    count
+}
+
+/// Writes a text to the front of a room, and its length to `written`, if the room is large enough.
+pub(crate) fn answer(bytes: &[u8], room: &mut [u8], written: &mut usize) -> u8
+    ensures done { result ≡ 0 → take written.new room.new ≡ bytes.now }
+    ensures inside { result ≤ 1 → written.new ≤ length room.old }
+    ensures kept { 1 < result → (room.new ≡ room.old) × (written.new ≡ written.old) }
+    ensures statuses { (result ≢ 1) × (result ≤ 3) }
+{
+    if bytes.len() > room.len() {
+        return NO_ROOM;
+    }
+    *written = copy(bytes, room);
+    DONE
+}
+
+/// Writes the message of a fault to the front of a room, and returns its length: 0 if there is no room or no memory for it.
+fn write_message(alloc: Global, fault: RunFault, room: &mut [u8]) -> usize
+    ensures { result ≤ length room.old }
+{
+    let Ok(message) = format!(in alloc; "{fault}") else {
+        return 0;
+    };
+    let text = message.as_bytes();
+    if text.len() > room.len() {
+        return 0;
+    }
+    copy(text, room)
+}
+
+/// The status of a command that ended with a fault. If an input is rejected, the message goes to the front of the room.
+pub(crate) fn refuse(alloc: Global, fault: RunFault, room: &mut [u8], written: &mut usize) -> u8
+    ensures refused { result ≡ 1 → status_of fault ≡ 1 }
+    ensures inside { result ≤ 1 → written.new ≤ length room.old }
+    ensures kept { 1 < result → (room.new ≡ room.old) × (written.new ≡ written.old) }
+    ensures statuses { (result ≢ 0) × (result ≤ 3) }
+{
+    match fault {
+        RunFault::Output | RunFault::Script(ScriptFault::Io) => return NO_ROOM,
+        _ => {}
+    }
+    if fault.status() != 1 {
+        return NO_MEMORY;
+    }
+    *written = write_message(alloc, fault, room);
+    REFUSED
+}
+
+/// The format that a call asks for.
+pub(crate) fn format(binary: bool) -> Format
+    ensures { result ≡ format_of binary }
+{
+    if binary {
+        Format::Binary
+    } else {
+        Format::Ascii
+    }
+}
+
+/// The query that a call asks about.
+pub(crate) fn query(step: bool, frames: u32, property: u32) -> Query
+    ensures { result ≡ query_of step frames property }
+{
+    let goal = if step { Goal::Step } else { Goal::Within };
+    Query {
+        goal,
+        frames,
+        property,
+    }
+}
+
+pub(crate) fn is_confirmed(verdict: Verdict) -> bool
+    ensures { result ≡ is_confirmed verdict }
+{
+    match verdict {
+        Verdict::Confirmed => true,
+        Verdict::Initial(_) | Verdict::Constraint(_, _) | Verdict::NotBad => false,
+    }
+}

@@ -1,0 +1,148 @@
+//! Circuits: conversion, facts and names, unrolled and strengthened circuits.
+ghost use Rattle.std.specs.Prelude.{◌≡◌, ◌<◌, ◌≤◌, Ok, Some, length, take};
+ghost use Rattle.aig_run.specs.Command.{OfFile};
+ghost use Rattle.aig_commands.specs.Certified.{OfCertified};
+ghost use Rattle.aig_commands.specs.Info.{ListsFacts};
+ghost use Rattle.aig_commands.specs.Names.{ListsNames};
+ghost use Rattle.aig_commands.specs.Toaig.{Converts};
+ghost use Rattle.aig_commands.specs.Unroll.{Unrolls};
+ghost use Rattle.aig_commands.specs.declared.certified.Purpose.TheVariants as purposes;
+ghost use Rattle.aig_c.specs.Answers.{format_of, Refuses};
+
+use crate::answer::{NO_MEMORY, answer, format, refuse};
+use aig_base::{MemReader, MemWriter};
+use aig_commands::certified::Certified;
+use aig_commands::info::{info, info_names};
+use aig_commands::strengthen::strengthen;
+use aig_commands::{convert, unroll_bytes};
+use std::alloc::Global;
+
+/// Converts a circuit file to text, or to the binary format.
+#[unsafe(no_mangle)]
+pub extern "C" fn aig_toaig(
+    alloc: Global,
+    circuit: &[u8],
+    binary: bool,
+    room: &mut [u8],
+    written: &mut usize,
+) -> u8
+    ensures done { result ≡ 0 → OfFile circuit.now (Converts (format_of binary)) (Ok tt) (take written.new room.new) }
+    ensures refused { result ≡ 1 → Refuses (OfFile circuit.now (Converts (format_of binary))) }
+    ensures inside { result ≤ 1 → written.new ≤ length room.old }
+    ensures kept { 1 < result → (room.new ≡ room.old) × (written.new ≡ written.old) }
+    ensures statuses { result ≤ 3 }
+{
+    let Ok(mut out) = MemWriter::new(alloc, room.len()) else {
+        return NO_MEMORY;
+    };
+    match convert(alloc, circuit, format(binary), &mut out) {
+        Ok(()) => answer(out.bytes(), room, written),
+        Err(fault) => refuse(alloc, fault, room, written),
+    }
+}
+
+/// Writes facts about a circuit file, one per line.
+#[unsafe(no_mangle)]
+pub extern "C" fn aig_info(
+    alloc: Global,
+    circuit: &[u8],
+    room: &mut [u8],
+    written: &mut usize,
+) -> u8
+    ensures done { result ≡ 0 → OfFile circuit.now (ListsFacts (Some circuit.now)) (Ok tt) (take written.new room.new) }
+    ensures refused { result ≡ 1 → Refuses (OfFile circuit.now (ListsFacts (Some circuit.now))) }
+    ensures inside { result ≤ 1 → written.new ≤ length room.old }
+    ensures kept { 1 < result → (room.new ≡ room.old) × (written.new ≡ written.old) }
+    ensures statuses { result ≤ 3 }
+{
+    let Ok(mut out) = MemWriter::new(alloc, room.len()) else {
+        return NO_MEMORY;
+    };
+    let mut reader = MemReader::new(circuit);
+    match info(alloc, &mut reader, &mut out) {
+        Ok(()) => answer(out.bytes(), room, written),
+        Err(fault) => refuse(alloc, fault, room, written),
+    }
+}
+
+/// Writes one line per entry of a circuit, with its literal and its name.
+#[unsafe(no_mangle)]
+pub extern "C" fn aig_names(
+    alloc: Global,
+    circuit: &[u8],
+    room: &mut [u8],
+    written: &mut usize,
+) -> u8
+    ensures done { result ≡ 0 → OfFile circuit.now ListsNames (Ok tt) (take written.new room.new) }
+    ensures refused { result ≡ 1 → Refuses (OfFile circuit.now ListsNames) }
+    ensures inside { result ≤ 1 → written.new ≤ length room.old }
+    ensures kept { 1 < result → (room.new ≡ room.old) × (written.new ≡ written.old) }
+    ensures statuses { result ≤ 3 }
+{
+    let Ok(mut out) = MemWriter::new(alloc, room.len()) else {
+        return NO_MEMORY;
+    };
+    let mut reader = MemReader::new(circuit);
+    match info_names(alloc, &mut reader, &mut out) {
+        Ok(()) => answer(out.bytes(), room, written),
+        Err(fault) => refuse(alloc, fault, room, written),
+    }
+}
+
+/// Unrolls a circuit for some frames, as text or in the binary format.
+#[unsafe(no_mangle)]
+pub extern "C" fn aig_unroll(
+    alloc: Global,
+    circuit: &[u8],
+    frames: u32,
+    binary: bool,
+    room: &mut [u8],
+    written: &mut usize,
+) -> u8
+    ensures done { result ≡ 0 → OfFile circuit.now (Unrolls frames (format_of binary)) (Ok tt) (take written.new room.new) }
+    ensures refused { result ≡ 1 → Refuses (OfFile circuit.now (Unrolls frames (format_of binary))) }
+    ensures inside { result ≤ 1 → written.new ≤ length room.old }
+    ensures kept { 1 < result → (room.new ≡ room.old) × (written.new ≡ written.old) }
+    ensures statuses { result ≤ 3 }
+{
+    let Ok(mut out) = MemWriter::new(alloc, room.len()) else {
+        return NO_MEMORY;
+    };
+    match unroll_bytes(alloc, circuit, frames, format(binary), &mut out) {
+        Ok(()) => answer(out.bytes(), room, written),
+        Err(fault) => refuse(alloc, fault, room, written),
+    }
+}
+
+/// Strengthens a circuit by a certificate for a bad state property, as text or in the binary format.
+#[unsafe(no_mangle)]
+pub extern "C" fn aig_strengthen(
+    alloc: Global,
+    circuit: &[u8],
+    certificate: &[u8],
+    property: u32,
+    binary: bool,
+    room: &mut [u8],
+    written: &mut usize,
+) -> u8
+    ensures done { result ≡ 0 → OfCertified purposes.Circuit circuit.now property certificate.now
+        (Converts (format_of binary)) (Ok tt) (take written.new room.new) }
+    ensures refused { result ≡ 1 → Refuses (OfCertified purposes.Circuit circuit.now property certificate.now
+        (Converts (format_of binary))) }
+    ensures inside { result ≤ 1 → written.new ≤ length room.old }
+    ensures kept { 1 < result → (room.new ≡ room.old) × (written.new ≡ written.old) }
+    ensures statuses { result ≤ 3 }
+{
+    let Ok(mut out) = MemWriter::new(alloc, room.len()) else {
+        return NO_MEMORY;
+    };
+    let certified = Certified {
+        circuit,
+        property,
+        certificate,
+    };
+    match strengthen(alloc, certified, format(binary), &mut out) {
+        Ok(()) => answer(out.bytes(), room, written),
+        Err(fault) => refuse(alloc, fault, room, written),
+    }
+}

@@ -1,0 +1,169 @@
+//! Formulas for SAT solvers, and the witnesses that their models name.
+ghost use Rattle.std.specs.Prelude.{◌≡◌, ◌<◌, ◌≤◌, Ok, length, take};
+ghost use Rattle.aig_cnf.specs.Query.{induction};
+ghost use Rattle.aig_run.specs.Command.{OfFile};
+ghost use Rattle.aig_commands.specs.Alive.{WritesAlive};
+ghost use Rattle.aig_commands.specs.Certified.{OfCertified};
+ghost use Rattle.aig_commands.specs.Cnf.{WritesCertified, WritesFormula};
+ghost use Rattle.aig_commands.specs.ModelWitness.{WritesModel};
+ghost use Rattle.aig_commands.specs.declared.certified.Purpose.TheVariants as purposes;
+ghost use Rattle.aig_c.specs.Answers.{query_of, Refuses};
+
+use crate::answer::{NO_MEMORY, answer, query, refuse};
+use aig_base::MemWriter;
+use aig_commands::alive::cnf_alive;
+use aig_commands::certified::Certified;
+use aig_commands::cnf::{cnf, cnf_certified};
+use aig_commands::model_witness::{certified_model_witness, model_witness};
+use std::alloc::Global;
+
+/// Writes the formula that a run reaches a property within some frames, or with `step` that of an induction step.
+#[unsafe(no_mangle)]
+pub extern "C" fn aig_cnf(
+    alloc: Global,
+    circuit: &[u8],
+    frames: u32,
+    property: u32,
+    step: bool,
+    room: &mut [u8],
+    written: &mut usize,
+) -> u8
+    ensures done { result ≡ 0 →
+        OfFile circuit.now (WritesFormula (query_of step frames property)) (Ok tt) (take written.new room.new) }
+    ensures refused { result ≡ 1 → Refuses (OfFile circuit.now (WritesFormula (query_of step frames property))) }
+    ensures inside { result ≤ 1 → written.new ≤ length room.old }
+    ensures kept { 1 < result → (room.new ≡ room.old) × (written.new ≡ written.old) }
+    ensures statuses { result ≤ 3 }
+{
+    let Ok(mut out) = MemWriter::new(alloc, room.len()) else {
+        return NO_MEMORY;
+    };
+    match cnf(alloc, circuit, query(step, frames, property), &mut out) {
+        Ok(()) => answer(out.bytes(), room, written),
+        Err(fault) => refuse(alloc, fault, room, written),
+    }
+}
+
+/// Writes the formula that a run keeps all constraints for some frames.
+#[unsafe(no_mangle)]
+pub extern "C" fn aig_cnf_alive(
+    alloc: Global,
+    circuit: &[u8],
+    frames: u32,
+    room: &mut [u8],
+    written: &mut usize,
+) -> u8
+    ensures done { result ≡ 0 → OfFile circuit.now (WritesAlive frames) (Ok tt) (take written.new room.new) }
+    ensures refused { result ≡ 1 → Refuses (OfFile circuit.now (WritesAlive frames)) }
+    ensures inside { result ≤ 1 → written.new ≤ length room.old }
+    ensures kept { 1 < result → (room.new ≡ room.old) × (written.new ≡ written.old) }
+    ensures statuses { result ≤ 3 }
+{
+    let Ok(mut out) = MemWriter::new(alloc, room.len()) else {
+        return NO_MEMORY;
+    };
+    match cnf_alive(alloc, circuit, frames, &mut out) {
+        Ok(()) => answer(out.bytes(), room, written),
+        Err(fault) => refuse(alloc, fault, room, written),
+    }
+}
+
+/// Writes the formula of the induction for a circuit that is strengthened by a certificate.
+#[unsafe(no_mangle)]
+pub extern "C" fn aig_cnf_certified(
+    alloc: Global,
+    circuit: &[u8],
+    certificate: &[u8],
+    property: u32,
+    room: &mut [u8],
+    written: &mut usize,
+) -> u8
+    ensures done { result ≡ 0 → OfCertified purposes.Formula circuit.now property certificate.now
+        (WritesCertified property) (Ok tt) (take written.new room.new) }
+    ensures refused { result ≡ 1 → Refuses (OfCertified purposes.Formula circuit.now property certificate.now
+        (WritesCertified property)) }
+    ensures inside { result ≤ 1 → written.new ≤ length room.old }
+    ensures kept { 1 < result → (room.new ≡ room.old) × (written.new ≡ written.old) }
+    ensures statuses { result ≤ 3 }
+{
+    let Ok(mut out) = MemWriter::new(alloc, room.len()) else {
+        return NO_MEMORY;
+    };
+    let certified = Certified {
+        circuit,
+        property,
+        certificate,
+    };
+    match cnf_certified(alloc, certified, &mut out) {
+        Ok(()) => answer(out.bytes(), room, written),
+        Err(fault) => refuse(alloc, fault, room, written),
+    }
+}
+
+/// Writes the witness of the run that a model of the formula of `aig_cnf` names.
+#[unsafe(no_mangle)]
+pub extern "C" fn aig_model_witness(
+    alloc: Global,
+    circuit: &[u8],
+    model: &[u8],
+    frames: u32,
+    property: u32,
+    step: bool,
+    room: &mut [u8],
+    written: &mut usize,
+) -> u8
+    ensures done { result ≡ 0 →
+        OfFile circuit.now (WritesModel (query_of step frames property) model.now) (Ok tt) (take written.new room.new) }
+    ensures refused { result ≡ 1 →
+        Refuses (OfFile circuit.now (WritesModel (query_of step frames property) model.now)) }
+    ensures inside { result ≤ 1 → written.new ≤ length room.old }
+    ensures kept { 1 < result → (room.new ≡ room.old) × (written.new ≡ written.old) }
+    ensures statuses { result ≤ 3 }
+{
+    let Ok(mut out) = MemWriter::new(alloc, room.len()) else {
+        return NO_MEMORY;
+    };
+    match model_witness(
+        alloc,
+        circuit,
+        query(step, frames, property),
+        model,
+        &mut out,
+    ) {
+        Ok(()) => answer(out.bytes(), room, written),
+        Err(fault) => refuse(alloc, fault, room, written),
+    }
+}
+
+/// Writes the witness of the run by which a certificate fails, that a model of the formula of `aig_cnf_certified` names.
+#[unsafe(no_mangle)]
+pub extern "C" fn aig_model_witness_certified(
+    alloc: Global,
+    circuit: &[u8],
+    certificate: &[u8],
+    model: &[u8],
+    property: u32,
+    room: &mut [u8],
+    written: &mut usize,
+) -> u8
+    ensures done { result ≡ 0 → OfCertified purposes.Formula circuit.now property certificate.now
+        (WritesModel (induction 1 0) model.now) (Ok tt) (take written.new room.new) }
+    ensures refused { result ≡ 1 → Refuses (OfCertified purposes.Formula circuit.now property certificate.now
+        (WritesModel (induction 1 0) model.now)) }
+    ensures inside { result ≤ 1 → written.new ≤ length room.old }
+    ensures kept { 1 < result → (room.new ≡ room.old) × (written.new ≡ written.old) }
+    ensures statuses { result ≤ 3 }
+{
+    let Ok(mut out) = MemWriter::new(alloc, room.len()) else {
+        return NO_MEMORY;
+    };
+    let certified = Certified {
+        circuit,
+        property,
+        certificate,
+    };
+    match certified_model_witness(alloc, certified, model, &mut out) {
+        Ok(()) => answer(out.bytes(), room, written),
+        Err(fault) => refuse(alloc, fault, room, written),
+    }
+}

@@ -1,0 +1,169 @@
+//! Runs: verdicts on witnesses, witnesses, waves and scripts.
+ghost use Rattle.std.specs.Prelude.{◌≡◌, ◌≢◌, ◌<◌, ◌≤◌, Ok, Some, length, take};
+ghost use Rattle.aig_run.specs.Command.{OfFile, Text};
+ghost use Rattle.aig_sim.specs.declared.witness.verdict.Verdict.{Verdict};
+ghost use Rattle.aig_commands.specs.Bench.{RunsScript};
+ghost use Rattle.aig_commands.specs.Check.{Checks};
+ghost use Rattle.aig_commands.specs.Reduce.{Reduces};
+ghost use Rattle.aig_commands.specs.Wave.{DumpsRun};
+ghost use Rattle.aig_commands.specs.Witness.{WritesWitness};
+ghost use Rattle.aig_c.specs.Answers.{is_confirmed, Refuses};
+
+use crate::answer::{DONE, NO_MEMORY, answer, is_confirmed, refuse};
+use aig_base::{MemReader, MemWriter};
+use aig_commands::reduce::reduce;
+use aig_commands::wave::wave_witness;
+use aig_commands::witness::witness;
+use aig_commands::{check_bytes, run_bench};
+use aig_sim::PlaneGrid;
+use std::alloc::Global;
+
+/// Checks a witness: writes the verdict's line, and says whether the witness is confirmed.
+#[unsafe(no_mangle)]
+pub extern "C" fn aig_check(
+    alloc: Global,
+    circuit: &[u8],
+    witness: &[u8],
+    room: &mut [u8],
+    written: &mut usize,
+    confirmed: &mut bool,
+) -> u8
+    ensures done { result ≡ 0 → (verdict : Verdict) × (confirmed.new ≡ is_confirmed verdict)
+        × OfFile circuit.now (Checks witness.now) (Ok verdict) (take written.new room.new) }
+    ensures refused { result ≡ 1 → Refuses (OfFile circuit.now (Checks witness.now)) }
+    ensures inside { result ≤ 1 → written.new ≤ length room.old }
+    ensures kept { 1 < result → (room.new ≡ room.old) × (written.new ≡ written.old) }
+    ensures no_verdict { result ≢ 0 → confirmed.new ≡ confirmed.old }
+    ensures statuses { result ≤ 3 }
+{
+    let Ok(mut out) = MemWriter::new(alloc, room.len()) else {
+        return NO_MEMORY;
+    };
+    match check_bytes(alloc, circuit, witness, &mut out) {
+        Ok(verdict) => {
+            let status = answer(out.bytes(), room, written);
+            if status == DONE {
+                *confirmed = is_confirmed(verdict);
+            }
+            status
+        }
+        Err(fault) => refuse(alloc, fault, room, written),
+    }
+}
+
+/// Writes the witness of the first frame at which a run over the rows of a stimulus reaches a property.
+#[unsafe(no_mangle)]
+pub extern "C" fn aig_witness(
+    alloc: Global,
+    circuit: &[u8],
+    rows: &[u8],
+    property: u32,
+    room: &mut [u8],
+    written: &mut usize,
+) -> u8
+    ensures done { result ≡ 0 →
+        OfFile circuit.now (WritesWitness (Some property) rows.now) (Ok tt) (take written.new room.new) }
+    ensures refused { result ≡ 1 → Refuses (OfFile circuit.now (WritesWitness (Some property) rows.now)) }
+    ensures inside { result ≤ 1 → written.new ≤ length room.old }
+    ensures kept { 1 < result → (room.new ≡ room.old) × (written.new ≡ written.old) }
+    ensures statuses { result ≤ 3 }
+{
+    let Ok(mut out) = MemWriter::new(alloc, room.len()) else {
+        return NO_MEMORY;
+    };
+    match witness(alloc, circuit, rows, Some(property), &mut out) {
+        Ok(()) => answer(out.bytes(), room, written),
+        Err(fault) => refuse(alloc, fault, room, written),
+    }
+}
+
+/// Writes a confirmed witness with x in place of each value that its failure does not need, or the line of another
+/// verdict, and says which of both.
+#[unsafe(no_mangle)]
+pub extern "C" fn aig_reduce(
+    alloc: Global,
+    circuit: &[u8],
+    witness: &[u8],
+    room: &mut [u8],
+    written: &mut usize,
+    confirmed: &mut bool,
+) -> u8
+    ensures done { result ≡ 0 → (verdict : Verdict) × (confirmed.new ≡ is_confirmed verdict)
+        × OfFile circuit.now (Reduces witness.now) (Ok verdict) (take written.new room.new) }
+    ensures refused { result ≡ 1 → Refuses (OfFile circuit.now (Reduces witness.now)) }
+    ensures inside { result ≤ 1 → written.new ≤ length room.old }
+    ensures kept { 1 < result → (room.new ≡ room.old) × (written.new ≡ written.old) }
+    ensures no_verdict { result ≢ 0 → confirmed.new ≡ confirmed.old }
+    ensures statuses { result ≤ 3 }
+{
+    let Ok(mut out) = MemWriter::new(alloc, room.len()) else {
+        return NO_MEMORY;
+    };
+    match reduce(alloc, circuit, witness, &mut out) {
+        Ok(verdict) => {
+            let status = answer(out.bytes(), room, written);
+            if status == DONE {
+                *confirmed = is_confirmed(verdict);
+            }
+            status
+        }
+        Err(fault) => refuse(alloc, fault, room, written),
+    }
+}
+
+/// Writes the value change dump of the run of a witness.
+#[unsafe(no_mangle)]
+pub extern "C" fn aig_wave_witness(
+    alloc: Global,
+    circuit: &[u8],
+    witness: &[u8],
+    room: &mut [u8],
+    written: &mut usize,
+) -> u8
+    ensures done { result ≡ 0 → OfFile circuit.now (DumpsRun witness.now) (Ok tt) (take written.new room.new) }
+    ensures refused { result ≡ 1 → Refuses (OfFile circuit.now (DumpsRun witness.now)) }
+    ensures inside { result ≤ 1 → written.new ≤ length room.old }
+    ensures kept { 1 < result → (room.new ≡ room.old) × (written.new ≡ written.old) }
+    ensures statuses { result ≤ 3 }
+{
+    let Ok(mut out) = MemWriter::new(alloc, room.len()) else {
+        return NO_MEMORY;
+    };
+    match wave_witness(alloc, circuit, witness, &mut out) {
+        Ok(()) => answer(out.bytes(), room, written),
+        Err(fault) => refuse(alloc, fault, room, written),
+    }
+}
+
+/// Runs a whole script on a bench of a circuit and the rows of a stimulus, and writes the replies.
+#[unsafe(no_mangle)]
+pub extern "C" fn aig_bench(
+    alloc: Global,
+    circuit: &[u8],
+    rows: &[u8],
+    script: &[u8],
+    room: &mut [u8],
+    written: &mut usize,
+) -> u8
+    ensures done { result ≡ 0 → (text : Text) × (text.bytes ≡ script.now)
+        × RunsScript circuit.now rows.now text (Ok tt) (take written.new room.new) }
+    ensures refused { result ≡ 1 → (text : Text) × Refuses (RunsScript circuit.now rows.now text) }
+    ensures inside { result ≤ 1 → written.new ≤ length room.old }
+    ensures kept { 1 < result → (room.new ≡ room.old) × (written.new ≡ written.old) }
+    ensures statuses { result ≤ 3 }
+{
+    let Ok(mut out) = MemWriter::new(alloc, room.len()) else {
+        return NO_MEMORY;
+    };
+    let mut reader = MemReader::new(script);
+    match run_bench::<PlaneGrid, MemReader<'_>, MemWriter>(
+        alloc,
+        circuit,
+        rows,
+        &mut reader,
+        &mut out,
+    ) {
+        Ok(()) => answer(out.bytes(), room, written),
+        Err(fault) => refuse(alloc, fault, room, written),
+    }
+}

@@ -1,0 +1,243 @@
+#!/usr/bin/env python3
+"""Tests the library for C: its header, its calls from C and C++, with sanitizers and without memory, and that each call
+gives what the command of its name prints.
+
+usage: run_library.py [--part NAME] [PROGRAM]
+
+The library is libaig.a and libaig.so in the folder `lib` beside the PROGRAM, else the one that the gate made. A part
+that needs a compiler or a tool that is missing is left out."""
+
+import ctypes
+import os
+import re
+import shutil
+import subprocess
+import sys
+
+from library import runs
+from library.runs import EXAMPLES, REPOSITORY, TESTS, LeftOut, contents
+
+sys.path.insert(0, REPOSITORY + "/tools")
+import gate  # noqa: E402
+from sources.exports import Crate  # noqa: E402
+
+HEADER = f"{REPOSITORY}/include/aig.h"
+DONE, REFUSED, NO_ROOM = 0, 1, 2
+WARNINGS = ("-Wall", "-Wextra", "-Werror", "-pedantic")
+# the types in C of a parameter of an export
+TYPES = {"Global": [], "&[u8]": ["const uint8_t *", "size_t"], "u32": ["uint32_t"], "bool": ["bool"],
+         "&mut [u8]": ["uint8_t *", "size_t"], "&mut usize": ["size_t *"], "&mut bool": ["bool *"]}
+
+
+def folder_of(program):
+    """The folder of the library, if it is there."""
+    folder = f"{os.path.dirname(program.path)}/lib" if program.is_named else f"{REPOSITORY}/{gate.PROVED_LIBRARY}"
+    if not os.path.exists(f"{folder}/libaig.a"):
+        raise LeftOut(f"there is no library in {folder}: `make lib` builds it")
+    return folder
+
+
+def need(*commands):
+    for name in commands:
+        if not shutil.which(name):
+            raise LeftOut(f"there is no {name}")
+
+
+def ran(*words):
+    return subprocess.run(words, stdin=subprocess.DEVNULL, stdout=subprocess.PIPE, stderr=subprocess.STDOUT, text=True,
+                          errors="replace", timeout=runs.SECONDS, check=False)
+
+
+def works(*flags):
+    """Whether the compiler links a program with these flags that runs."""
+    runs.write("empty.c", "int main(void) { return 0; }\n")
+    return ran("cc", *flags, "empty.c", "-o", "empty").returncode == 0 and ran("./empty").returncode == 0
+
+
+def exports():
+    """The types in C of the arguments of each export of the crate, by its name."""
+    found = {}
+    for export in Crate("aig_c").exports():
+        kinds = re.findall(r"\w+: ([^,()]+)", export.head.partition("(")[2])
+        found[export.name] = [it for kind in kinds for it in TYPES[kind.strip()]]
+    return found
+
+
+def declared():
+    """The types of the arguments of each function in the header, by its name."""
+    text = re.sub(r"/\*.*?\*/", "", contents(HEADER).decode(), flags=re.S)
+    return {name: [re.sub(r"\w+$", "", it.strip()).strip() for it in arguments.split(",")]
+            for name, arguments in re.findall(r"uint8_t (\w+)\(([^)]*)\);", text)}
+
+
+def header(program, tally, _):
+    """The header declares what the crate exports, with the types of its arguments. The library shows nothing else."""
+    names = sorted(exports())
+    tally.compare("the names in the header", sorted(declared()), names)
+    for name in names:
+        tally.compare(f"the arguments of {name}", declared().get(name), exports()[name])
+    folder = folder_of(program)
+    need("nm")
+    for name, words in (("libaig.so", ("-D", "--defined-only")), ("libaig.a", ("-g", "--defined-only"))):
+        lines = ran("nm", *words, f"{folder}/{name}").stdout.split("\n")
+        shown = {line.split()[2] for line in lines if len(line.split()) == 3}
+        tally.compare(f"what {name} shows", sorted(shown), names)
+
+
+def calls(program, tally, _):
+    """Calls with results that are known, in one thread and in two, under each sanitizer that is there."""
+    folder = folder_of(program)
+    need("cc")
+    for flags, times in (("-O2", 200), ("-g -fsanitize=address,undefined", 20), ("-g -fsanitize=thread", 20)):
+        if not works(*flags.split()):
+            print(f"calls: left out: cc has no {flags}", flush=True)
+            continue
+        built = ran("cc", *flags.split(), "-std=c99", *WARNINGS, f"-I{REPOSITORY}/include", f"{TESTS}/calls/calls.c",
+                    f"{folder}/libaig.a", "-lpthread", "-o", "calls")
+        tally.compare(f"cc {flags}", (built.returncode, built.stdout), (0, ""))
+        done = ran("./calls", EXAMPLES, str(times))
+        tally.compare(f"calls {flags}", (done.returncode, done.stdout), (0, "as wanted\n"))
+        if flags == "-O2" and shutil.which("valgrind"):
+            done = ran("valgrind", "-q", "--leak-check=full", "--error-exitcode=9", "./calls", EXAMPLES, "1")
+            tally.compare("calls by valgrind", (done.returncode, done.stdout), (0, "as wanted\n"))
+
+
+def memory(program, tally, _):
+    """Each allocation of each call is refused in turn."""
+    folder = folder_of(program)
+    need("cc")
+    flags = ["-g", "-fsanitize=address"] if works("-g", "-fsanitize=address") else ["-g"]
+    built = ran("cc", *flags, "-std=c99", *WARNINGS, f"-I{REPOSITORY}/include", f"{TESTS}/calls/memory.c",
+                f"{folder}/libaig.a", "-Wl,--wrap=malloc,--wrap=realloc", "-o", "memory")
+    tally.compare("cc memory.c", (built.returncode, built.stdout), (0, ""))
+    done = ran("./memory", EXAMPLES)
+    told = re.fullmatch(r"(\d+) done, (\d+) without memory\n", done.stdout)
+    tally.check("each allocation", done.returncode == 0 and told and int(told[2]) > 0, done.stdout)
+    return f"{done.stdout.strip()}; "
+
+
+def examples(program, tally, _):
+    """The programs of examples/ in C and C++, with the static and with the shared library."""
+    folder = folder_of(program)
+    for compiler, source, standard in (("cc", "verdict.c", "c99"), ("c++", "verdict.cpp", "c++11")):
+        if not shutil.which(compiler):
+            print(f"examples: left out: there is no {compiler}", flush=True)
+            continue
+        for name, words in (("libaig.a", ()), ("libaig.so", (f"-Wl,-rpath,{os.getcwd()}",))):
+            shutil.copy(f"{folder}/{name}", "libaig.so.0" if words else name)
+            built = ran(compiler, f"-std={standard}", *WARNINGS, f"-I{REPOSITORY}/include", f"{EXAMPLES}/{source}",
+                        f"{folder}/{name}", *words, "-o", "verdict")
+            tally.compare(f"{source} with {name}", (built.returncode, built.stdout), (0, ""))
+            runs.write("not.wit", "1\nb0\n00\n1\n.\n")
+            for witness, wanted in ((f"{EXAMPLES}/wraps.wit", (0, "confirmed\n")), ("not.wit", (1, "not bad\n")),
+                                    (f"{EXAMPLES}/wraps.aag", (1, "witness: text\n")),
+                                    ("no", (2, "no cannot be read\n"))):
+                done = ran("./verdict", f"{EXAMPLES}/wraps.aag", witness)
+                tally.compare(f"{source} of {witness}", (done.returncode, done.stdout), wanted)
+
+
+def called(library, name, arguments, room):
+    """Makes a call with these arguments, bytes or numbers, and returns its status and the text in the room."""
+    words = []
+    for it in arguments:
+        words += [it, ctypes.c_size_t(len(it))] if isinstance(it, bytes) else [it]
+    text, length = ctypes.create_string_buffer(max(room, 1)), ctypes.c_size_t(77)
+    words += [text, ctypes.c_size_t(room), ctypes.byref(length)]
+    confirmed = ctypes.c_bool(False)
+    if name in ("aig_check", "aig_reduce"):
+        words.append(ctypes.byref(confirmed))
+    status = getattr(library, name)(*words) & 255
+    return status, text.raw[: length.value] if status in (DONE, REFUSED) else length.value
+
+
+def as_program(program, tally, _):
+    """Each call gives what the command prints, or its message, and takes a room as large as the text."""
+    library = ctypes.CDLL(f"{folder_of(program)}/libaig.so")
+    names = ("wraps.aag", "wraps.wit", "wraps.stim", "wraps.drat", "wraps.model", "ring.aag", "ring.cert.aag",
+             "ring.drat", "counter.aag", "counter.aig", "counter.stim", "counter.script", "fifo.aag", "cyclic.aag",
+             "delay.aag", "delay.cert.aag")
+    file = {name: contents(f"{EXAMPLES}/{name}") for name in names}
+    asked = {"s.model": b"s SATISFIABLE\nv 1 2 0\n", "not.wit": b"1\nb0\n00\n1\n.\n", "empty": b"",
+             "always": b"aag 1 0 1 0 0 1\n2 2 1\n2\n", "dead": b"aag 0 0 0 0 0 1 1\n0\n0\n"}
+    file.update(asked)
+    for name, text in file.items():
+        runs.write(name, text)
+    for words, name, arguments in CALLS:
+        wanted = program.run(*words.split())
+        given = [file[it] if isinstance(it, str) else it for it in arguments]
+        call = f"{name} {words}"
+        status, text = called(library, name, given, 1 << 20)
+        if not wanted.err:
+            tally.compare(call, (status, text), (DONE, wanted.out))
+            tally.compare(f"{call}: a room as large", called(library, name, given, len(text)), (DONE, text))
+            if text:
+                tally.compare(f"{call}: a smaller room", called(library, name, given, len(text) - 1), (NO_ROOM, 77))
+        else:
+            tally.compare(call, (status, b"aig: " + text + b"\n"), (REFUSED, wanted.err))
+            tally.compare(f"{call}: no room for the message", called(library, name, given, 1), (REFUSED, b""))
+    tally.compare("each export", {name for _, name, _ in CALLS}, set(exports()))
+
+
+# the words of a command, the call of its name, and its arguments: files by their names
+CALLS = [
+    ("toaig --to aag counter.aig", "aig_toaig", ["counter.aig", False]),
+    ("toaig --to aig fifo.aag", "aig_toaig", ["fifo.aag", True]),
+    ("toaig --to aig cyclic.aag", "aig_toaig", ["cyclic.aag", True]),
+    ("info counter.aig", "aig_info", ["counter.aig"]),
+    ("info wraps.wit", "aig_info", ["wraps.wit"]),
+    ("info --names fifo.aag", "aig_names", ["fifo.aag"]),
+    ("info --names cyclic.aag", "aig_names", ["cyclic.aag"]),
+    ("unroll --frames 3 --to aag counter.aag", "aig_unroll", ["counter.aag", 3, False]),
+    ("unroll --frames 2 --to aig counter.aag", "aig_unroll", ["counter.aag", 2, True]),
+    ("unroll --frames 70000 --to aig counter.aag", "aig_unroll", ["counter.aag", 70000, True]),
+    ("strengthen --to aag --certificate ring.cert.aag ring.aag", "aig_strengthen",
+     ["ring.aag", "ring.cert.aag", 0, False]),
+    ("strengthen --to aig --certificate delay.cert.aag delay.aag", "aig_strengthen",
+     ["delay.aag", "delay.cert.aag", 0, True]),
+    ("strengthen --to aig --certificate cyclic.aag ring.aag", "aig_strengthen", ["ring.aag", "cyclic.aag", 0, True]),
+    ("check wraps.aag wraps.wit", "aig_check", ["wraps.aag", "wraps.wit"]),
+    ("check wraps.aag not.wit", "aig_check", ["wraps.aag", "not.wit"]),
+    ("check wraps.aag wraps.stim", "aig_check", ["wraps.aag", "wraps.stim"]),
+    ("witness --property 0 wraps.aag wraps.stim", "aig_witness", ["wraps.aag", "wraps.stim", 0]),
+    ("witness --property 1 wraps.aag wraps.stim", "aig_witness", ["wraps.aag", "wraps.stim", 1]),
+    ("reduce wraps.aag wraps.wit", "aig_reduce", ["wraps.aag", "wraps.wit"]),
+    ("reduce wraps.aag not.wit", "aig_reduce", ["wraps.aag", "not.wit"]),
+    ("reduce wraps.aag empty", "aig_reduce", ["wraps.aag", "empty"]),
+    ("wave --witness wraps.aag wraps.wit", "aig_wave_witness", ["wraps.aag", "wraps.wit"]),
+    ("wave --witness wraps.aag empty", "aig_wave_witness", ["wraps.aag", "empty"]),
+    ("bench counter.aag counter.stim counter.script", "aig_bench", ["counter.aag", "counter.stim", "counter.script"]),
+    ("bench counter.aag wraps.stim counter.script", "aig_bench", ["counter.aag", "wraps.stim", "counter.script"]),
+    ("cnf --frames 4 wraps.aag", "aig_cnf", ["wraps.aag", 4, 0, False]),
+    ("cnf --frames 4 --step wraps.aag", "aig_cnf", ["wraps.aag", 4, 0, True]),
+    ("cnf --frames 4 --property 1 wraps.aag", "aig_cnf", ["wraps.aag", 4, 1, False]),
+    ("cnf --alive --frames 4 wraps.aag", "aig_cnf_alive", ["wraps.aag", 4]),
+    ("cnf --alive --frames 0 wraps.aag", "aig_cnf_alive", ["wraps.aag", 0]),
+    ("cnf --certificate ring.cert.aag ring.aag", "aig_cnf_certified", ["ring.aag", "ring.cert.aag", 0]),
+    ("cnf --certificate cyclic.aag ring.aag", "aig_cnf_certified", ["ring.aag", "cyclic.aag", 0]),
+    ("witness --model wraps.model --frames 4 wraps.aag", "aig_model_witness",
+     ["wraps.aag", "wraps.model", 4, 0, False]),
+    ("witness --model s.model --step --frames 1 always", "aig_model_witness", ["always", "s.model", 1, 0, True]),
+    ("witness --model empty --frames 4 wraps.aag", "aig_model_witness", ["wraps.aag", "empty", 4, 0, False]),
+    ("witness --certificate always --model s.model always", "aig_model_witness_certified",
+     ["always", "always", "s.model", 0]),
+    ("witness --certificate always --model wraps.stim always", "aig_model_witness_certified",
+     ["always", "always", "wraps.stim", 0]),
+    ("refute --frames 3 wraps.aag wraps.drat", "aig_refute", ["wraps.aag", "wraps.drat", 3, 0]),
+    ("refute --frames 4 wraps.aag wraps.drat", "aig_refute", ["wraps.aag", "wraps.drat", 4, 0]),
+    ("refute --alive --frames 2 dead empty", "aig_refute_alive", ["dead", "empty", 2]),
+    ("refute --alive --frames 2 wraps.aag empty", "aig_refute_alive", ["wraps.aag", "empty", 2]),
+    ("refute --frames 1 --step empty dead empty", "aig_refute_step", ["dead", "empty", "empty", 1, 0]),
+    ("refute --frames 3 --step empty wraps.aag wraps.drat", "aig_refute_step",
+     ["wraps.aag", "wraps.drat", "empty", 3, 0]),
+    ("refute --frames 3 --step wraps.drat wraps.aag empty", "aig_refute_step",
+     ["wraps.aag", "empty", "wraps.drat", 3, 0]),
+    ("refute --certificate ring.cert.aag ring.aag ring.drat", "aig_refute_certified",
+     ["ring.aag", "ring.cert.aag", "ring.drat", 0]),
+    ("refute --certificate ring.cert.aag ring.aag empty", "aig_refute_certified",
+     ["ring.aag", "ring.cert.aag", "empty", 0]),
+]
+
+PARTS = {"header": header, "calls": calls, "memory": memory, "examples": examples, "as_program": as_program}
+
+if __name__ == "__main__":
+    runs.main(__doc__, PARTS)
