@@ -2,6 +2,7 @@ pub mod BitLemmas
 pub mod Lookups
 pub mod Meaning
 pub mod NameLemmas
+pub mod NamingLemmas
 pub mod RunLemmas
 pub mod SeenLemmas
 pub mod SignalLemmas

@@ -1,2 +1,3 @@
 pub mod NameHash
+pub mod Naming
 pub mod Seen

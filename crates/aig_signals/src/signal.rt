@@ -201,6 +201,19 @@ fn push_section(
     push_runs(alloc, signals, &known, circuit, kind, runs.as_slice())
 }
 
+/// The signals of a section.
+pub(crate) fn section_signals(
+    alloc: Global,
+    circuit: &Circuit,
+    kind: Kind,
+) -> Result<Vec<Signal>, Memory>
+    ensures { IfOk result (λ signals. signals.items ≡ section_signals circuit.now kind) }
+{
+    let mut signals = Vec::new(alloc);
+    push_section(alloc, &mut signals, circuit, kind)?;
+    Ok(signals)
+}
+
 /// Adds the signals of these sections.
 fn push_sections(
     alloc: Global,

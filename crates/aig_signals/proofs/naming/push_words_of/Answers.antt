@@ -1,0 +1,44 @@
+use Rattle.std.proofs.Common.{List, ℕ, [], ◌∷◌, ◌++◌, get_or, refl, sym, ap, ◌∙◌, arith, append_assoc}
+use Rattle.std.proofs.lemmas.List.Elements.{Contains-get_or}
+use Rattle.aig_signals.specs.Naming.{signal_word}
+use Rattle.aig_signals.proofs.NamingLemmas.{number_within, signal_within, words_start, words_skipped, words_written, words_done}
+use Rattle.aig_signals.proofs.naming.push_words_of.Goals as goal
+
+pub loop-place-init : goal.loop-place-init
+loop-place-init c = words_start c.args.signals.now c.args.values.now c.args.named.now c.args.text.now.items
+
+pub signal_at-requires : goal.signal_at-requires
+signal_at-requires c =
+    number_within c.args.signals.now c.args.values.now c.args.named.now c.requires.neighbours c.requires.named
+    (get_or c.args.named.now c.loop-place.place 0) (Contains-get_or c.args.named.now c.loop-place.place 0 c.loop-place-test.true)
+
+pub push_signal_word-requires-clause-order : goal.push_signal_word-requires-clause-order
+push_signal_word-requires-clause-order c =
+    (signal_within c.args.signals.now c.args.values.now _ c.signal_at.result.now c.requires.neighbours c.signal_at.ensures).0
+
+pub push_signal_word-requires-clause-end : goal.push_signal_word-requires-clause-end
+push_signal_word-requires-clause-end c =
+    (signal_within c.args.signals.now c.args.values.now _ c.signal_at.result.now c.requires.neighbours c.signal_at.ensures).1
+
+pub loop-place-preserved-then-is_repeated : goal.loop-place-preserved-then-is_repeated
+loop-place-preserved-then-is_repeated c =
+    words_skipped c.args.signals.now c.args.values.now c.args.named.now c.requires.neighbours c.requires.named c.requires.sorted
+    c.args.text.now.items c.loop-place.place c.loop-place.text.items c.loop-place.invariant
+    (sym c.is_repeated.ensures ∙ c.if-is_repeated.true)
+
+pub loop-place-preserved : goal.loop-place-preserved
+loop-place-preserved c =
+    let s = c.signal_at.result.now in
+    let word = signal_word c.args.values.now s in
+    words_written c.args.signals.now c.args.values.now c.args.named.now c.requires.neighbours c.requires.named c.requires.sorted
+    c.args.text.now.items c.loop-place.place c.loop-place.text.items c.loop-place.invariant s
+    (get_or c.args.named.now c.loop-place.place 0) _ c.loop-place-test.true refl (sym c.is_repeated.ensures ∙ c.if-is_repeated.false)
+    c.signal_at.ensures
+    (c.in_ok-push_signal_word.ensures ∙ ap (λ (xs : List ℕ). xs ++ word) c.in_ok-push.ensures.items
+    ∙ append_assoc c.loop-place.text.items (32 ∷ []) word)
+
+pub returns : goal.returns
+returns c =
+    words_done c.args.signals.now c.args.values.now c.args.named.now c.requires.neighbours c.requires.named c.requires.sorted
+    c.args.text.now.items c.loop-place.place c.loop-place.text.items c.loop-place.invariant
+    (omega (arith, c.loop-place-test.false, c.loop-place.auto.place-end))
