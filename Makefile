@@ -5,19 +5,22 @@
 #   make test       runs all tests with it; nothing is proved
 #   make prove      the gate: proves every function, runs the tests, tries the planted bugs
 #   make bench      measures the program that the gate proved, else build/aig, beside a C++ program: ten minutes
-#   make install    installs the program that the gate proved, else build/aig with a warning
+#   make lib        builds the library for C without its proofs, as build/lib/libaig.a and libaig.so
+#   make install    installs the program and the library that the gate proved, else those of build with a warning
 #   make wheel      writes the wheel of the Python package with that program into build
 #   make dist       packs a release of a commit whose gate has passed, into build/dist
-#   make clean      removes build/aig, build/aig_proof_tests and build/dist
+#   make clean      removes build/aig, build/aig_proof_tests, build/lib and build/dist
 #
 # `make install` takes PREFIX and DESTDIR. Like `make bench` and `make wheel` it takes PROGRAM, for another program than
-# the one that it would choose.
+# the one that it would choose; and LIBRARY, for another folder of libaig.a and libaig.so, or for none: `LIBRARY=`.
 
 PREFIX ?= /usr/local
 PROGRAM ?= $(shell tools/gate.py program)
+LIBRARY ?= $(shell tools/gate.py library)
 ROOT = $(DESTDIR)$(PREFIX)
 DOCUMENTS = $(ROOT)/share/doc/aig
 SOURCES := $(shell find crates -name out -prune -o -name '*.rt' -print) crates.txt tools/build_unproved.sh
+LIBRARY_SOURCES := tools/unproved_library.py tools/c_library.py
 
 aig: build/aig
 	@echo "build/aig is ready. Nothing of it is proved; 'make prove' proves it."
@@ -35,7 +38,15 @@ build/aig_proof_tests: $(SOURCES)
 	@mkdir -p build
 	@tools/build_unproved.sh "$(CURDIR)" aig_proof_tests build/aig_proof_tests
 
-test: build/aig build/aig_proof_tests
+lib: build/lib/libaig.a
+	@echo "build/lib has libaig.a and libaig.so. Nothing of them is proved; 'make prove' makes proved ones."
+
+build/lib/libaig.a: $(SOURCES) $(LIBRARY_SOURCES)
+	@echo "Building build/lib without its proofs: about three minutes."
+	@mkdir -p build/lib
+	@tools/unproved_library.py build/lib
+
+test: build/aig build/aig_proof_tests build/lib/libaig.a
 	@echo "Running all tests on build/aig: about five minutes."
 	@tests/all.py --crates build/aig
 
@@ -45,7 +56,7 @@ prove:
 bench: $(PROGRAM)
 	@benchmarks/measure.py --aig "$(PROGRAM)" --times 3 goals refute memory
 
-install: $(PROGRAM)
+install: $(PROGRAM) $(addsuffix /libaig.a,$(LIBRARY))
 	@[ "$(PROGRAM)" != build/aig ] || echo "make install: warning: nothing of this program is proved" >&2
 	install -D "$(PROGRAM)" "$(ROOT)/bin/aig"
 	for page in man/*.[15]; do \
@@ -53,6 +64,13 @@ install: $(PROGRAM)
 	done
 	install -D -m 644 completions/aig.bash "$(ROOT)/share/bash-completion/completions/aig"
 	install -D -m 644 completions/_aig "$(ROOT)/share/zsh/site-functions/_aig"
+	if [ "$(LIBRARY)" ]; then \
+	    install -D -m 644 include/aig.h "$(ROOT)/include/aig.h" && \
+	    install -D -m 644 "$(LIBRARY)/libaig.a" "$(ROOT)/lib/libaig.a" && \
+	    install -D -m 644 "$(LIBRARY)/libaig.so" "$(ROOT)/lib/libaig.so.0" && \
+	    ln -sf libaig.so.0 "$(ROOT)/lib/libaig.so" && \
+	    install -D -m 644 tools/aig.pc "$(ROOT)/lib/pkgconfig/aig.pc"; \
+	fi
 	install -D -m 644 -t "$(DOCUMENTS)" *.md LICENSE-*
 	cp -R docs examples "$(DOCUMENTS)"
 	install -D -m 644 python/README.md "$(DOCUMENTS)/python/README.md"
@@ -66,7 +84,7 @@ dist:
 	@tools/pack.py
 
 clean:
-	rm -rf build/aig build/aig_proof_tests build/dist
+	rm -rf build/aig build/aig_proof_tests build/lib build/dist
 
-.PHONY: aig demo test prove bench install wheel dist clean
+.PHONY: aig demo lib test prove bench install wheel dist clean
 .DELETE_ON_ERROR:

@@ -29,7 +29,8 @@ DOCUMENTS = ("LICENSE-APACHE", "LICENSE-MIT", "docs/BEHAVIOUR.md", "docs/FORMATS
 PROVENANCE = "This is a test. No gate has passed.\n"
 SECONDS = 1_764_000_000
 STATE = {"commit": "a" * 40, "clean": "yes", "sources": "b" * 64}
-RECORD = {**STATE, "program": "c" * 64}
+SUMS = {"program": "c" * 64, "archive": "e" * 64, "shared": "f" * 64}
+RECORD = {**STATE, **SUMS}
 
 
 def need(*commands):
@@ -38,9 +39,36 @@ def need(*commands):
             raise LeftOut(f"there is no {name}")
 
 
+def made(program):
+    """The program, and the library beside it, if there is one."""
+    library = f"{os.path.dirname(program.path)}/lib" if program.is_named else f"{REPOSITORY}/{gate.PROVED_LIBRARY}"
+    return pack.Made(program.path, library if os.path.exists(f"{library}/libaig.a") else None)
+
+
 def release(program, folder):
     os.mkdir(folder)
-    return pack.pack(program.path, PROVENANCE, SECONDS, folder)
+    return pack.pack(made(program), PROVENANCE, SECONDS, folder)
+
+
+def look_for_library(library, tally, way, root):
+    """Checks the installed library for C: a program is built with it, as pkg-config says, and runs."""
+    if library is None or not shutil.which("cc"):
+        print(f"{way}: left out: there is no library, or no cc", flush=True)
+        return
+    for name, path in (("libaig.a", "lib/libaig.a"), ("libaig.so", "lib/libaig.so"), ("libaig.so", "lib/libaig.so.0")):
+        tally.check(f"{way}: {path}", contents(f"{root}/{path}") == contents(f"{library}/{name}"), path)
+    tally.check(f"{way}: aig.h", contents(f"{root}/include/aig.h") == contents(f"{REPOSITORY}/include/aig.h"))
+    asked = [f"-I{root}/include", f"-L{root}/lib", "-laig"]
+    if shutil.which("pkg-config"):
+        version, asked = (subprocess.run(["pkg-config", *words, f"{root}/lib/pkgconfig/aig.pc"], capture_output=True,
+                                         text=True, check=False).stdout.split()
+                          for words in (("--modversion",), ("--cflags", "--libs")))
+        tally.compare(f"{way}: the version of aig.pc", version, [make_wheel.VERSION])
+    subprocess.run(["cc", f"{REPOSITORY}/examples/verdict.c", *asked, "-o", f"{way}_verdict"], check=True)
+    files = [f"{REPOSITORY}/examples/wraps.{kind}" for kind in ("aag", "wit")]
+    done = subprocess.run([f"./{way}_verdict", *files], env={**os.environ, "LD_LIBRARY_PATH": f"{root}/lib"},
+                          capture_output=True, text=True, check=False)
+    tally.compare(f"{way}: a program in C", (done.returncode, done.stdout), (0, "confirmed\n"))
 
 
 def look(program, tally, way, root, functions="zsh/site-functions"):
@@ -66,13 +94,14 @@ def look(program, tally, way, root, functions="zsh/site-functions"):
     modes = {oct(os.stat(it).st_mode & 0o7777) for it in (root, f"{root}/bin/aig", documents)}
     tally.compare(f"{way}: who may read it", modes, {"0o755"})
     take(runs.Program(f"{root}/bin/aig", True), f"{documents}/examples", tally)
+    look_for_library(made(program).library, tally, way, os.path.abspath(root))
 
 
 def install(program, tally, _):
     """A copy that `make install` made has the program, pages, completions and documents; each link of its README leads to
     a file; the tour runs from there."""
     need("make", "bash")
-    pack.install(program.path, os.path.abspath("root"), "/usr/local", PROVENANCE)
+    pack.install(made(program), os.path.abspath("root"), "/usr/local", PROVENANCE)
     look(program, tally, "install", "root/usr/local")
 
 
@@ -88,8 +117,8 @@ def archive(program, tally, _):
     tally.compare("archive: PROVENANCE", contents(f"{top}/share/doc/aig/PROVENANCE").decode(), PROVENANCE)
     sums = subprocess.run(["sha256sum", "-c", "SHA256SUMS"], cwd="one", capture_output=True, text=True, check=False)
     tally.check("archive: SHA256SUMS", sums.returncode == 0 and f"{name}: OK" in sums.stdout, sums)
-    for made in release(program, "two"):
-        tally.check("archive: a second one is the same", contents(f"one/{made}") == contents(f"two/{made}"), made)
+    for file in release(program, "two"):
+        tally.check("archive: a second one is the same", contents(f"one/{file}") == contents(f"two/{file}"), file)
     versions = re.findall(r"(?m)^## (.*) \(\d{4}-\d\d-\d\d\)$", contents(f"{REPOSITORY}/CHANGELOG.md").decode())
     tally.compare("archive: the version of CHANGELOG", versions[:1], [pack.version_of(program.path)])
 
@@ -146,26 +175,29 @@ def wheel(program, tally, _):
 
 
 def refusals(_, tally, __):
-    """`make dist` refuses a tree that is not clean, a commit without its gate, and another program; `make install` takes
-    the proved program only if the gate passed these sources."""
-    proved = RECORD["program"]
-    tally.compare("a release", gate.refusal(RECORD, STATE, proved), None)
-    for why, record, state, program in (
-        ("not clean", RECORD, {**STATE, "clean": "no"}, proved),
-        ("no gate has passed here", None, STATE, proved),
-        ("passed commit aaaaaaaaaaaa, and this is dddddddddddd", RECORD, {**STATE, "commit": "d" * 40}, proved),
-        ("files that were not committed", {**RECORD, "clean": "no"}, STATE, proved),
-        ("is not the program that the gate proved", RECORD, STATE, "e" * 64),
-        ("is not the program that the gate proved", RECORD, STATE, None),
+    """`make dist` refuses a tree that is not clean, a commit without its gate, and another program or library; `make
+    install` takes what the gate proved only if the gate passed these sources."""
+    tally.compare("a release", gate.refusal(RECORD, STATE, SUMS), None)
+    for why, record, state, sums in (
+        ("not clean", RECORD, {**STATE, "clean": "no"}, SUMS),
+        ("no gate has passed here", None, STATE, SUMS),
+        ("passed commit aaaaaaaaaaaa, and this is dddddddddddd", RECORD, {**STATE, "commit": "d" * 40}, SUMS),
+        ("files that were not committed", {**RECORD, "clean": "no"}, STATE, SUMS),
+        ("aig is not the one that the gate proved", RECORD, STATE, {**SUMS, "program": "d" * 64}),
+        ("aig is not the one that the gate proved", RECORD, STATE, {**SUMS, "program": None}),
+        ("libaig.a is not the one that the gate proved", RECORD, STATE, {**SUMS, "archive": "d" * 64}),
+        ("libaig.so is not the one that the gate proved", {**STATE, "program": SUMS["program"], "archive": SUMS["archive"]},
+         STATE, {**SUMS, "shared": None}),
     ):
-        reason = gate.refusal(record, state, program)
+        reason = gate.refusal(record, state, sums)
         tally.check(f"no release: {why}", reason is not None and why in reason, reason)
-    tally.check("the proved program", gate.is_proved(RECORD, STATE["sources"], proved))
+    tally.check("the proved program", gate.is_proved(RECORD, STATE["sources"], SUMS))
     for name, is_proved in (
-        ("no gate", gate.is_proved(None, STATE["sources"], proved)),
-        ("other sources", gate.is_proved(RECORD, "f" * 64, proved)),
-        ("another program", gate.is_proved(RECORD, STATE["sources"], "f" * 64)),
-        ("no program", gate.is_proved({**RECORD, "program": "None"}, STATE["sources"], None)),
+        ("no gate", gate.is_proved(None, STATE["sources"], SUMS)),
+        ("other sources", gate.is_proved(RECORD, "f" * 64, SUMS)),
+        ("another program", gate.is_proved(RECORD, STATE["sources"], {**SUMS, "program": "f" * 64})),
+        ("no program", gate.is_proved({**RECORD, "program": "None"}, STATE["sources"], {**SUMS, "program": None})),
+        ("another library", gate.is_proved(RECORD, STATE["sources"], {**SUMS, "shared": "a" * 64})),
     ):
         tally.check(f"the unproved program: {name}", not is_proved)
 

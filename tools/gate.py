@@ -3,7 +3,8 @@
 
   begin               removes the record, and prints the state of the repository
   end BEGAN FILE..    writes the record: the state in the file BEGAN, and the last line of each FILE
-  program             prints the program to install: the proved one, if the gate passed these sources, else build/aig"""
+  program             prints the program to install: the proved one, if the gate passed these sources, else build/aig
+  library             prints the folder of the library for C to install, by the same rule, else build/lib"""
 
 import hashlib
 import os
@@ -17,6 +18,8 @@ UNPROVED = "build/aig"
 # the folders of the library for C
 PROVED_LIBRARY = "crates/aig_c/out/lib"
 UNPROVED_LIBRARY = "build/lib"
+# what the gate makes, by the names of the record
+MADE = {"program": PROVED, "archive": PROVED_LIBRARY + "/libaig.a", "shared": PROVED_LIBRARY + "/libaig.so"}
 
 
 def asked(*words):
@@ -35,6 +38,11 @@ def sum_of(name):
             return hashlib.sha256(file.read()).hexdigest()
     except FileNotFoundError:
         return None
+
+
+def made():
+    """Returns the SHA-256 of all that the gate makes, by the names of the record."""
+    return {name: sum_of(f"{ROOT}/{path}") for name, path in MADE.items()}
 
 
 def sources():
@@ -81,7 +89,7 @@ def end(began, logs):
         print("the sources changed while the gate ran, so build/gate is not written", file=sys.stderr)
         return
     record = {**now, "clean": "yes" if before == now and now["clean"] == "yes" else "no"}
-    record["program"] = sum_of(f"{ROOT}/{PROVED}")
+    record.update((name, total) for name, total in made().items() if total)
     record["toolchain"] = asked("rt", "version")
     record.update((os.path.basename(name), last_line(name)) for name in logs)
     os.makedirs(os.path.dirname(RECORD), exist_ok=True)
@@ -89,13 +97,18 @@ def end(began, logs):
         file.write(text_of(record))
 
 
-def is_proved(record, now, program):
-    """Whether a gate passed these sources and made the program with this sum."""
-    return record is not None and program is not None and (record["sources"], record["program"]) == (now, program)
+def others(record, sums):
+    """Returns the names of what the gate of a record did not make, or made with another sum."""
+    return [name for name in MADE if sums[name] is None or record.get(name) != sums[name]]
 
 
-def refusal(record, now, program):
-    """Returns why there is no release in this state with a program of this sum, or nothing where there is one."""
+def is_proved(record, now, sums):
+    """Whether a gate passed these sources and made the program and the library with these sums."""
+    return record is not None and record["sources"] == now and not others(record, sums)
+
+
+def refusal(record, now, sums):
+    """Returns why there is no release in this state of what has these sums, or nothing where there is one."""
     if now["clean"] != "yes":
         return "the tree is not clean: `git status` lists what is not committed"
     if record is None:
@@ -105,8 +118,8 @@ def refusal(record, now, program):
         return f"the last gate passed commit {passed}, and this is {this}: run `make prove`"
     if record["clean"] != "yes":
         return "the last gate passed files that were not committed: run `make prove`"
-    if record["program"] != program:
-        return f"{PROVED} is not the program that the gate proved: run `make prove`"
+    for name in others(record, sums):
+        return f"{MADE[name]} is not the one that the gate proved: run `make prove`"
     return None
 
 
@@ -117,8 +130,9 @@ def main(words):
         print(text_of(state()), end="")
     elif words[:1] == ["end"] and len(words) > 1:
         end(words[1], words[2:])
-    elif words == ["program"]:
-        print(PROVED if is_proved(read(RECORD), sources(), sum_of(f"{ROOT}/{PROVED}")) else UNPROVED)
+    elif words in (["program"], ["library"]):
+        proved, unproved = {"program": (PROVED, UNPROVED), "library": (PROVED_LIBRARY, UNPROVED_LIBRARY)}[words[0]]
+        print(proved if is_proved(read(RECORD), sources(), made()) else unproved)
     else:
         sys.exit(__doc__)
 

@@ -2,9 +2,10 @@
 """Packs a release into build/dist: an archive and a Debian package, which have what `make install` installs, the wheel
 of the Python package with the program, and their sums in SHA256SUMS.
 
-It refuses unless the tree is clean and the gate has passed this commit. The program is the one that the gate proved.
-The same commit and program give the same files, byte for byte."""
+It refuses unless the tree is clean and the gate has passed this commit. Program and library are those that the gate
+proved. The same commit, program and library give the same files, byte for byte."""
 
+import collections
 import gzip
 import os
 import re
@@ -30,13 +31,18 @@ Depends: libc6 (>= {libc})
 Description: verified AIGER toolkit
  Converts, simulates, edits, unrolls and checks and-inverter graphs in the
  AIGER formats, and writes their runs as waves. It is for people who run
- hardware model checkers and have to trust a verdict.
+ hardware model checkers and have to trust a verdict. The package has the
+ program and a library for C.
 """
 
 COPYRIGHT = """\
 aig is licensed under either of the Apache License, Version 2.0, or the MIT license, at your option. Both texts are in
 this folder: LICENSE-APACHE and LICENSE-MIT.
 """
+
+
+# A program, and the folder of a library for C, or nothing.
+Made = collections.namedtuple("Made", "program library")
 
 
 def version_of(program):
@@ -51,9 +57,11 @@ def libc_of(program):
     return ".".join(map(str, max(tuple(map(int, it.split("."))) for it in re.findall(r"GLIBC_([0-9.]+)", symbols))))
 
 
-def install(program, root, prefix, provenance):
-    """Installs a program below `root`, as `make install` does, and beside its documents what it was made from."""
-    words = ["make", "-sC", gate.ROOT, "install", f"DESTDIR={root}", f"PREFIX={prefix}", f"PROGRAM={program}"]
+def install(made, root, prefix, provenance):
+    """Installs a program and the library of a folder below `root`, as `make install` does, and beside the documents
+    what they were made from. The library is left out if there is no folder."""
+    words = ["make", "-sC", gate.ROOT, "install", f"DESTDIR={root}", f"PREFIX={prefix}", f"PROGRAM={made.program}",
+             f"LIBRARY={made.library or ''}"]
     settings = {name: text for name, text in os.environ.items() if not name.startswith("MAKE")}
     made = subprocess.run(words, env=settings, stdin=subprocess.DEVNULL, capture_output=True, text=True, check=False)
     if made.returncode:
@@ -68,11 +76,11 @@ def files_below(root):
     return sorted(found)
 
 
-def make_archive(program, provenance, seconds, folder):
+def make_archive(made, provenance, seconds, folder):
     """Writes the archive, whose files all have this time, in seconds since 1970."""
-    name = f"aig-{version_of(program)}-x86_64-linux"
+    name = f"aig-{version_of(made.program)}-x86_64-linux"
     with tempfile.TemporaryDirectory() as root:
-        install(program, root, f"/{name}", provenance)
+        install(made, root, f"/{name}", provenance)
         words = ["tar", "--sort=name", "--owner=0", "--group=0", "--numeric-owner", f"--mtime=@{seconds}",
                  "--format=ustar", "-C", root, "-c", name]
         packed = subprocess.run(words, capture_output=True, check=True).stdout
@@ -81,12 +89,12 @@ def make_archive(program, provenance, seconds, folder):
     return f"{name}.tar.gz"
 
 
-def make_package(program, provenance, seconds, folder):
+def make_package(made, provenance, seconds, folder):
     """Writes the Debian package: the same files, where Debian has them."""
-    version = version_of(program)
+    version = version_of(made.program)
     name = f"aig_{version}_amd64.deb"
     with tempfile.TemporaryDirectory() as root:
-        install(program, root, "/usr", provenance)
+        install(made, root, "/usr", provenance)
         share = f"{root}/usr/share"
         for page in files_below(f"{share}/man"):
             with open(f"{share}/man/{page}", "rb") as plain, open(f"{share}/man/{page}.gz", "wb") as packed:
@@ -98,35 +106,35 @@ def make_package(program, provenance, seconds, folder):
         size = sum(os.path.getsize(f"{root}/{it}") for it in files_below(root)) // 1024
         os.mkdir(f"{root}/DEBIAN")
         with open(f"{root}/DEBIAN/control", "w", encoding="utf-8") as file:
-            file.write(CONTROL.format(version=version, size=size, libc=libc_of(program)))
+            file.write(CONTROL.format(version=version, size=size, libc=libc_of(made.program)))
         os.chmod(root, 0o755)
         subprocess.run(["dpkg-deb", "--root-owner-group", "--build", root, f"{folder}/{name}"], capture_output=True,
                        env={**os.environ, "SOURCE_DATE_EPOCH": str(seconds)}, check=True)
     return name
 
 
-def pack(program, provenance, seconds, folder):
-    """Writes the release of a program into an empty folder, and returns the names of its files."""
+def pack(made, provenance, seconds, folder):
+    """Writes the release of a program and a library into an empty folder, and returns the names of its files."""
     os.umask(0o022)
-    names = [make_archive(program, provenance, seconds, folder)]
+    names = [make_archive(made, provenance, seconds, folder)]
     if shutil.which("dpkg-deb"):
-        names.append(make_package(program, provenance, seconds, folder))
-    names.append(make_wheel.make(folder, program))
+        names.append(make_package(made, provenance, seconds, folder))
+    names.append(make_wheel.make(folder, made.program))
     with open(f"{folder}/SHA256SUMS", "w", encoding="utf-8") as file:
         file.writelines(f"{gate.sum_of(f'{folder}/{name}')}  {name}\n" for name in names)
     return [*names, "SHA256SUMS"]
 
 
 def provenance_of(record):
-    """Returns what PROVENANCE says of a program that the gate of this record proved."""
+    """Returns what PROVENANCE says of the program and the library that the gate of this record proved."""
     lines = "".join(f"{name:10}{text}\n" for name, text in record.items() if name != "clean")
-    return f"The gate (.ci/run) built and proved bin/aig at this commit, and passed its tests.\n\n{lines}"
+    return f"The gate (.ci/run) built and proved program and library at this commit, and passed its tests.\n\n{lines}"
 
 
 def main():
-    program = f"{gate.ROOT}/{gate.PROVED}"
+    made = Made(f"{gate.ROOT}/{gate.PROVED}", f"{gate.ROOT}/{gate.PROVED_LIBRARY}")
     record = gate.read(gate.RECORD)
-    why = gate.refusal(record, gate.state(), gate.sum_of(program))
+    why = gate.refusal(record, gate.state(), gate.made())
     if why:
         sys.exit(f"make dist: no release: {why}")
     if not shutil.which("dpkg-deb"):
@@ -135,7 +143,7 @@ def main():
     shutil.rmtree(folder, ignore_errors=True)
     os.makedirs(folder)
     seconds = int(gate.asked("git", "log", "-1", "--format=%ct"))
-    for name in pack(program, provenance_of(record), seconds, folder):
+    for name in pack(made, provenance_of(record), seconds, folder):
         print(f"build/dist/{name}")
 
 
