@@ -7,6 +7,7 @@ ghost use Rattle.aig_parts.specs.Literal.{variable};
 
 pub(crate) mod cycle;
 pub(crate) mod greatest;
+pub(crate) mod level_copy;
 pub(crate) mod order;
 mod queue;
 mod renewal;

@@ -25,6 +25,7 @@ pub use circuit::laws::{law_of_completion, law_of_faults, law_of_levels, law_of_
 pub use level::Levels;
 pub use level::cycle::would_cycle;
 pub use level::greatest::greatest_fan_out;
+pub use level::level_copy::LevelCopy;
 pub use level::order::{canonical_order, sorted_gates};
 pub use readers::Readers;
 pub use renumbering::laws::law_of_renumbering;

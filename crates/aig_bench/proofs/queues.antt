@@ -4,4 +4,5 @@ pub mod Linked
 pub mod Lowest
 pub mod Once
 pub mod Queued
+pub mod Slots
 pub mod WaitingMarks

@@ -88,7 +88,7 @@ impl<G: Grid> Engine<G> {
         ensures same { self.new ≡ record self.old { queued = self.new.queued } }
         ensures queued { (v : ℕ) → IsMarked self.new.queued v ↔ (IsMarked self.old.queued v ⊎ Contains gates.now v) }
     {
-        self.pending.buckets.link_all(&self.fanouts.levels, gates);
+        self.pending.buckets.link_all(gates);
     }
 
     /// Renews the frames from one on: evaluates these gates at each, and whatever is touched by them and by the latches

@@ -17,6 +17,7 @@ use Rattle.aig_base.specs.state.Descent.{level_above}
 use Rattle.aig_base.specs.Grounded as by
 use Rattle.aig_base.specs.Grounded.{IsAcyclic, Level}
 use Rattle.aig_base.specs.Levels.{AreLevels}
+use Rattle.aig_parts.specs.Formed.{limit}
 use Rattle.aig_parts.specs.Literal.{variable}
 use Rattle.aig_base.specs.state.Queue.{IsEmptyQueue, Queued, IsQueued, copies}
 use Rattle.aig_base.specs.Readers.{AreReaders, ReaderLists, list_of}
@@ -65,7 +66,7 @@ module _ (raw : Raw) (c : IsCircuit raw) (lhs r0 r1 : ℕ) (is_gate : IsLeftSide
   circuit_new : IsCircuit new
   circuit_new = with_gate-circuit lhs r0 r1 raw c d0 d1 acyclic_new
 
-  low : {v n : ℕ} → Level new v n → n < 2 ^ 32
+  low : {v n : ℕ} → Level new v n → n ≤ limit
   low l =
       let bound = level_bound new circuit_new.sound l in
       let most = c.formed.counts.max_var in
@@ -100,7 +101,7 @@ module _ (raw : Raw) (c : IsCircuit raw) (lhs r0 r1 : ℕ) (is_gate : IsLeftSide
   abbrev changed : Gate
   changed = record { lhs = lhs; rhs0 = r0; rhs1 = r1 }
 
-  pub changed_fits : level_above old changed < 2 ^ 32
+  pub changed_fits : level_above old changed ≤ limit
   changed_fits =
       low (changed_level raw c.sound lhs r0 r1 is_gate c.acyclic d0 d1 never0 never1 (get_or old (variable r0) 0)
       (get_or old (variable r1) 0) (side_at (variable r0) d0) (side_at (variable r1) d1))
@@ -309,7 +310,7 @@ module _ (raw : Raw) (c : IsCircuit raw) (lhs r0 r1 : ℕ) (is_gate : IsLeftSide
           let over = h.renewing.over (variable g.lhs) (w_level.0) t g_queued g_level lt in
           over_apart (variable g.lhs) (variable lhs) (w_level.0) t g_level lt over e
 
-      pub popped_fits : level_above row g < 2 ^ 32
+      pub popped_fits : level_above row g ≤ limit
       popped_fits =
           let e0 : get_or row (variable g.rhs0) 0 ≡ holds0.level =
           get_or_from_slice_get row (variable g.rhs0) holds0.level 0 holds0.cell in

@@ -1,5 +1,5 @@
 //! One more gate in a circuit, its levels and the fan-outs.
-ghost use Rattle.std.specs.Prelude.{◌≡◌, ◌+◌, ◌<◌, ◌∷◌, ◌++◌, [], length, OnErr, OnOk};
+ghost use Rattle.std.specs.Prelude.{◌≡◌, ℕ, ◌+◌, ◌<◌, ◌∷◌, ◌++◌, [], length, OnErr, OnOk};
 ghost use Rattle.std.specs.Vec.{vec_capacity};
 ghost use Rattle.aig_base.specs.Changes.{CanAppend, next_gate, with_appended_gate};
 ghost use Rattle.aig_parts.specs.Formed.{limit};
@@ -86,6 +86,7 @@ pub fn append_gate(
     requires readers { AreReaders circuit.old readers.old }
     ensures circuit { OnOk result (circuit.new ≡ with_appended_gate circuit.old r0 r1) }
     ensures levels { OnOk result (AreLevels (with_appended_gate circuit.old r0 r1) levels.new) }
+    ensures more { OnOk result ((level : ℕ) × (levels.new ≡ levels.old ++ level ∷ [])) }
     ensures readers { OnOk result (AreReaders (with_appended_gate circuit.old r0 r1) readers.new) }
     ensures same_circuit { OnErr result (circuit.new ≡ circuit.old) }
     ensures same_levels { OnErr result (levels.new ≡ levels.old) }

@@ -26,6 +26,7 @@ use Rattle.aig_bench.specs.state.Current.{HoldsInPair, IsCurrentRow, IsCurrentBe
 use Rattle.aig_bench.specs.state.Engine.{IsClear}
 use Rattle.aig_bench.specs.state.Entry.{Entering, Puts, Carries, HasOtherSources}
 use Rattle.aig_bench.specs.state.Sweep.{PassStarts, IsWork}
+use Rattle.aig_bench.specs.state.Waiting.{HaveSides}
 use Rattle.aig_bench.proofs.queues.Chained.{head_in, in_tail}
 use Rattle.aig_bench.proofs.carries.Entries.{entering_none, entering_more, entered}
 use Rattle.aig_bench.proofs.cells.Values.{constant_holds}
@@ -137,6 +138,7 @@ module _ (driven : DrivenCircuit) (fanouts : Fanouts) (flags : List Bool) (cells
     levels = work.levels;
     readers = work.readers;
     buckets = are;
+    sides = subst (HaveSides driven.circuit) (sym links.sides) work.sides;
     size = omega (arith, work.size, links.heads);
     heads = λ u n k h. let below = work.heads u n k h in omega (arith, links.heads);
     gates = λ u k. elim ((links.queued u).0 k) [ inl o ↦ work.gates u o | inr i ↦ are_gates u i ];

@@ -1,5 +1,5 @@
 -- From the cells of a bench before an edit to those after it.
-use Rattle.std.proofs.Common.{◌≡◌, ◌≢◌, ◌⊎◌, ◌↔◌, inl, inr, ℕ, zero, suc, ◌+◌, ◌-◌, ◌*◌, ◌<◌, ◌≤◌, Bool, true, false, nat_eq, get_or, List, [], ◌∷◌, ◌++◌, map, length, take, Some, slice_get, Contains, refl, sym, ap, ◌∙◌, subst, arith, length-append, length-take}
+use Rattle.std.proofs.Common.{◌≡◌, ◌≢◌, ◌⊎◌, ◌↔◌, inl, inr, ℕ, zero, suc, ◌+◌, ◌-◌, ◌*◌, ◌<◌, ◌≤◌, Bool, true, false, nat_eq, get_or, List, [], ◌∷◌, ◌++◌, map, length, take, Some, slice_get, slice_set, Contains, refl, sym, ap, ◌∙◌, subst, arith, length-append, length-take}
 use Rattle.std.proofs.lemmas.Bool.{cases_eq, eqb-true}
 use Rattle.std.proofs.lemmas.Bool.Decides.{eqb_tells}
 use Rattle.std.proofs.lemmas.List.{length-map}
@@ -27,7 +27,7 @@ use Rattle.aig_values.specs.InputRows.{InputRows, row_at, with_cell, HaveWidth}
 use Rattle.aig_bench.specs.declared.propagate.buckets.Buckets.{Buckets}
 use Rattle.aig_bench.specs.declared.engine.driven_circuit.DrivenCircuit.{DrivenCircuit}
 use Rattle.aig_bench.specs.declared.engine.fanouts.Fanouts.{Fanouts}
-use Rattle.aig_bench.specs.state.Buckets.{AreBuckets, IsBucketChain, HasChain, IsQueued}
+use Rattle.aig_bench.specs.state.Buckets.{AreBuckets, IsBucketChain, HasChain, IsQueued, without_levels}
 use Rattle.aig_values.specs.Cells.{literal_value}
 use Rattle.aig_bench.specs.state.Current.{IsLaidOut, HoldsInPair, HoldsLatchesInPair, IsCurrentRow, IsCurrentBefore, AreCurrent, IsBench}
 use Rattle.aig_bench.specs.Edit.{Edit, edited, set_bit, rewire, set_reset, add_frame, drop_frame}
@@ -40,6 +40,7 @@ use Rattle.aig_bench.specs.state.Passing.{Differs, IsConsistent}
 use Rattle.aig_bench.specs.state.DrivenCircuit.{IsDriven, pair_of}
 use Rattle.aig_bench.specs.state.Renewed.{IsBetween, IsTouchedCell, IsChangedCell, Renewed}
 use Rattle.aig_bench.specs.state.Sweep.{IsWork, IsWorking}
+use Rattle.aig_bench.specs.state.Waiting.{HaveSides, Sides}
 use Rattle.aig_bench.specs.Touched.{HasOther, IsForced, Touches, Changes, AreCells}
 use Rattle.aig_bench.proofs.cells.CellLemmas.{get_set_other, row_written, row_other, frames_written}
 use Rattle.aig_bench.proofs.renewals.Changed.{current_below, slice_get_take, slice_get_append}
@@ -49,7 +50,7 @@ use Rattle.aig_base.proofs.levels.LevelBound.{level_bound}
 use Rattle.aig_bench.proofs.queues.Once.{never_once}
 use Rattle.aig_bench.proofs.passes.Others.{differs_other, other_differs, consistent}
 use Rattle.aig_bench.proofs.renewals.RenewalLemmas.{cells_same, cells_none, frame_cells}
-use Rattle.aig_bench.proofs.edits.Rewired.{left_side_gate, defined_was, gate_was, gate_kept}
+use Rattle.aig_bench.proofs.edits.Rewired.{left_side_gate, defined_was, gate_was, gate_kept, sides_rewired}
 use Rattle.aig_bench.proofs.carries.NextLatches.{latch_next_holds}
 use Rattle.aig_bench.proofs.carries.LatchChains.{latch_unmapped}
 use Rattle.aig_bench.proofs.cells.Values.{input_value, latch_value, latch_starts, latch_follows}
@@ -68,36 +69,82 @@ empty_chain levels levels' head next marks l h empty = of h.chain h.leads h.each
     }
     of (x ∷ xs) leads each = absurd (empty x ((each x).0 (head_in x xs)).0)
 
-pub buckets_empty : (levels levels' : List ℕ) (b : Buckets) → AreBuckets levels b → length levels' ≡ length levels
-    → ((v : ℕ) → IsQueued b v → ⊥) → AreBuckets levels' b
-buckets_empty levels levels' b h size empty = record {
+-- the buckets with another copy of levels
+abbrev pub with_levels : Buckets → List ℕ → Buckets
+with_levels b levels = record b { marks = record b.marks { levels = levels } }
+
+-- the buckets with other right sides
+abbrev pub with_sides : Buckets → List Sides → Buckets
+with_sides b sides = record b { marks = record b.marks { sides = sides } }
+
+buckets_rewired : (levels levels' : List ℕ) (b : Buckets) (sides : List Sides) → AreBuckets levels b → length levels' ≡ length levels
+    → ((v : ℕ) → IsQueued b v → ⊥) → AreBuckets levels' (with_sides (with_levels b levels') sides)
+buckets_rewired levels levels' b sides h size empty = record {
   chained = record {
     marks_size = h.chained.marks_size ∙ sym size;
     next_size = h.chained.next_size ∙ sym size;
     chains = λ l lt. empty_chain levels levels' b.head.items b.marks.next b.marks.items l (h.chained.chains l lt) empty;
     placed = λ v m. absurd (empty v m);
   };
+  levels_are = refl;
   sizes = h.sizes;
   few = h.few;
   room = h.room;
   occupied = h.occupied;
 }
 
--- empty buckets serve another driven of the same size
+-- empty buckets serve another driven of the same size, with the same gates and levels
 pub work_for : (driven new : DrivenCircuit) (fanouts fanouts' : Fanouts) (flags flags' : List Bool) (cells cells' : List (List Tern)) (b : Buckets)
     → IsWork driven fanouts flags cells b → ((v : ℕ) → IsQueued b v → ⊥) → new.circuit.max_var ≡ driven.circuit.max_var → IsDriven new
     → IsLaidOut new flags' cells' → AreLevels new.circuit fanouts'.levels → AreReaders new.circuit fanouts'.readers
-    → IsWork new fanouts' flags' cells' b
-work_for driven new fanouts fanouts' flags flags' cells cells' b w empty size p laid_out levels readers = record {
+    → fanouts'.levels ≡ fanouts.levels → new.circuit.gates ≡ driven.circuit.gates → IsWork new fanouts' flags' cells' b
+work_for driven new fanouts fanouts' flags flags' cells cells' b w empty size p laid_out levels readers same gates = record {
   driven_is = p;
   laid_out = laid_out;
   levels = levels;
   readers = readers;
-  buckets = buckets_empty fanouts.levels fanouts'.levels b w.buckets (omega (arith, levels.size, w.levels.size)) empty;
+  buckets = subst (λ (ls : List ℕ). AreBuckets ls b) (sym same) w.buckets;
+  sides = record {
+    size = w.sides.size ∙ ap (λ n. n + 1) (sym size);
+    each = λ q g at. w.sides.each q g (ap (λ (gs : List Gate). slice_get gs q) (sym gates) ∙ at);
+  };
   size = omega (arith, w.size);
   heads = λ v n g l. let le = level_bound new.circuit p.circuit.sound l in omega (arith, w.size);
   gates = λ v k. absurd (empty v k);
 }
+
+-- a copy of the levels was renewed, and then the sides of a variable
+pub buckets_renewed : (b mid new : Buckets) (levels : List ℕ) (u v r0 r1 : ℕ) → mid.marks.levels ≡ levels
+    → without_levels mid ≡ without_levels b
+    → new ≡ with_sides mid (slice_set mid.marks.sides u (record { rhs0 = r0; rhs1 = r1 })) → u ≡ v
+    → new ≡ with_sides (with_levels b levels) (slice_set b.marks.sides v (record { rhs0 = r0; rhs1 = r1 }))
+buckets_renewed b mid new levels u v r0 r1 e rest is same =
+    let now : mid ≡ with_levels b levels =
+    ap (with_levels mid) e ∙ ap (λ (x : Buckets). with_levels x levels) rest in
+    is ∙ ap (λ (x : Buckets). with_sides x (slice_set x.marks.sides u (record { rhs0 = r0; rhs1 = r1 }))) now
+    ∙ ap (λ (z : ℕ). with_sides (with_levels b levels) (slice_set b.marks.sides z (record { rhs0 = r0; rhs1 = r1 }))) same
+
+-- empty buckets that got other levels, and the sides of a rewired gate
+pub work_rewired : (driven new : DrivenCircuit) (fanouts fanouts' : Fanouts) (flags flags' : List Bool) (cells cells' : List (List Tern)) (b b' : Buckets)
+    (lhs r0 r1 : ℕ) → IsWork driven fanouts flags cells b → ((v : ℕ) → IsQueued b v → ⊥) → IsLeftSide driven.circuit lhs
+    → new.circuit ≡ with_gate driven.circuit lhs r0 r1 → IsDriven new → IsLaidOut new flags' cells'
+    → AreLevels new.circuit fanouts'.levels → AreReaders new.circuit fanouts'.readers
+    → b' ≡ with_sides (with_levels b fanouts'.levels) (slice_set b.marks.sides (variable lhs) (record { rhs0 = r0; rhs1 = r1 }))
+    → IsWork new fanouts' flags' cells' b'
+work_rewired driven new fanouts fanouts' flags flags' cells cells' b b' lhs r0 r1 w empty left e p laid_out levels readers is =
+    let size : new.circuit.max_var ≡ driven.circuit.max_var = ap (λ (x : Raw). x.max_var) e in
+    let sides = sides_rewired driven.circuit b.marks.sides lhs r0 r1 w.driven_is.circuit.sound left w.sides in
+    subst (IsWork new fanouts' flags' cells') (sym is) (record {
+      driven_is = p;
+      laid_out = laid_out;
+      levels = levels;
+      readers = readers;
+      buckets = buckets_rewired fanouts.levels fanouts'.levels b _ w.buckets (omega (arith, levels.size, w.levels.size)) empty;
+      sides = subst (λ (x : Raw). HaveSides x (slice_set b.marks.sides (variable lhs) (record { rhs0 = r0; rhs1 = r1 }))) (sym e) sides;
+      size = omega (arith, w.size);
+      heads = λ v n g l. let le = level_bound new.circuit p.circuit.sound l in omega (arith, w.size);
+      gates = λ v k. absurd (empty v k);
+    })
 
 -- what an edit leaves of a pair: the same gates but for those that are evaluated in any case, and the same inputs
 pub record Follows (p p' : CircuitAndRows) (forced : List ℕ) : Type 0 where
@@ -694,13 +741,14 @@ driven_same driven new e f =
 
 pub work_kept : (driven new : DrivenCircuit) (fanouts fanouts' : Fanouts) (b : Buckets) (flags : List Bool) (cells : List (List Tern))
     → IsWorking driven fanouts b flags cells → new.circuit ≡ driven.circuit → new.stimulus ≡ driven.stimulus
-    → AreLevels new.circuit fanouts'.levels → AreReaders new.circuit fanouts'.readers → IsWorking new fanouts' b flags cells
-work_kept driven new fanouts fanouts' b flags cells h e f levels readers =
+    → AreLevels new.circuit fanouts'.levels → AreReaders new.circuit fanouts'.readers → fanouts'.levels ≡ fanouts.levels
+    → IsWorking new fanouts' b flags cells
+work_kept driven new fanouts fanouts' b flags cells h e f levels readers same =
     let bench = subst (λ (x : DrivenCircuit). IsBench x flags cells) (sym (driven_same driven new e f)) h.bench in
     record {
       bench = bench;
       work = work_for driven new fanouts fanouts' flags flags cells cells b h.work h.empty (ap (λ (c : Raw). c.max_var) e) bench.driven_is
-          bench.laid_out levels readers;
+          bench.laid_out levels readers same (ap (λ (c : Raw). c.gates) e);
       empty = h.empty;
     }
 

@@ -1,5 +1,8 @@
 -- A circuit with other right sides at one gate.
-use Rattle.std.proofs.Common.{◌≡◌, ℕ, ◌+◌, Bool, List, [], ◌∷◌, ◌++◌, length, map, Contains, refl, sym, ap, ◌∙◌, subst, arith}
+use Rattle.std.proofs.Common.{◌≡◌, ◌≢◌, ◌⊎◌, inl, inr, ℕ, ◌+◌, nat_eq, Bool, true, false, List, [], ◌∷◌, ◌++◌, length, map, Contains, Some, slice_get, slice_set, refl, sym, ap, ◌∙◌, subst, arith}
+use Rattle.std.proofs.lemmas.Bool.Decides.{eqb_tells}
+use Rattle.std.proofs.lemmas.List.{length-set}
+use Rattle.std.proofs.lemmas.Option.{slice_get_within}
 use Rattle.aig_parts.specs.declared.gate.Gate.{Gate}
 use Rattle.aig_parts.specs.declared.latch.Latch.{Latch}
 use Rattle.aig_parts.specs.declared.raw.Raw.{Raw}
@@ -12,11 +15,15 @@ use Rattle.aig_base.specs.Sections.{definitions, IsDefined, IsGate, IsLeftSide}
 use Rattle.aig_base.proofs.rewires.Rewiring.{with_gate-circuit}
 use Rattle.aig_base.proofs.lists.Gets.{get_from_Contains}
 use Rattle.aig_base.proofs.checks.Marking.{slice_get_unmap}
+use Rattle.aig_base.specs.Sound.{IsSound}
 use Rattle.aig_base.proofs.circuits.Circuits.{gate_is}
+use Rattle.aig_base.proofs.circuits.Gates.{same_gate}
 use Rattle.aig_bench.specs.declared.engine.driven_circuit.DrivenCircuit.{DrivenCircuit}
 use Rattle.aig_bench.specs.state.Current.{AreGateFlags, IsLaidOut}
 use Rattle.aig_bench.specs.BenchState.{CircuitAndRows}
 use Rattle.aig_bench.specs.state.DrivenCircuit.{IsDriven, pair_of}
+use Rattle.aig_bench.specs.state.Waiting.{HaveSides, Sides, sides_of}
+use Rattle.aig_bench.proofs.cells.CellLemmas.{get_set_same, get_set_other}
 
 pub left_side_gate : (raw : Raw) (l : ℕ) → IsLeftSide raw l → IsGate raw (variable l)
 left_side_gate raw l h =
@@ -72,3 +79,37 @@ laid_out_rewired driven new lhs r0 r1 flags cells h e =
         constants = λ t lt. h.rows_are.constants t (omega (arith, ap length r));
       };
     }
+
+-- other sides at the variable of a left side
+abbrev pub with_pair : List Sides → ℕ → ℕ → ℕ → List Sides
+with_pair sides lhs r0 r1 = slice_set sides (variable lhs) (record { rhs0 = r0; rhs1 = r1 })
+
+-- the sides of gates, where the rewired one got others
+pub sides_rewired : (raw : Raw) (sides : List Sides) (lhs r0 r1 : ℕ) → IsSound raw → IsLeftSide raw lhs → HaveSides raw sides
+    → HaveSides (with_gate raw lhs r0 r1) (with_pair sides lhs r0 r1)
+sides_rewired raw sides lhs r0 r1 sound left have = record {
+  size = length-set sides (variable lhs) (record { rhs0 = r0; rhs1 = r1 }) ∙ have.size;
+  each = λ q g at.
+      let (x, here, is) = slice_get_unmap (rewired lhs r0 r1) raw.gates q g at in
+      subst (λ (y : Gate). slice_get (with_pair sides lhs r0 r1) (variable y.lhs) ≡ Some (sides_of y)) is (of_gate q x here (eqb_tells x.lhs lhs));
+}
+  where
+    one_left : (x : Gate) (q : ℕ) → slice_get raw.gates q ≡ Some x → variable x.lhs ≡ variable lhs → x.lhs ≡ lhs
+    one_left x q here same =
+        let (k, there) = get_from_Contains (map (λ (g : Gate). g.lhs) raw.gates) lhs left in
+        let (y, found, e) = slice_get_unmap (λ (g : Gate). g.lhs) raw.gates k lhs there in
+        let one : x ≡ y = same_gate raw sound q k x y here found (same ∙ ap variable (sym e)) in
+        ap (λ (g : Gate). g.lhs) one ∙ e
+
+    of_gate : (q : ℕ) (x : Gate) → slice_get raw.gates q ≡ Some x
+        → ((nat_eq x.lhs lhs ≡ true) × (x.lhs ≡ lhs)) ⊎ ((nat_eq x.lhs lhs ≡ false) × (x.lhs ≢ lhs))
+        → slice_get (with_pair sides lhs r0 r1) (variable x.lhs) ≡ Some (sides_of (rewired lhs r0 r1 x))
+    of_gate q x here (inl e) =
+        let at : slice_get sides (variable lhs) ≡ Some (sides_of x) =
+        ap (λ (l : ℕ). slice_get sides (variable l)) (sym e.1) ∙ have.each q x here in
+        rw e.0 (ap (λ (l : ℕ). slice_get (with_pair sides lhs r0 r1) (variable l)) e.1
+        ∙ get_set_same sides (variable lhs) (record { rhs0 = r0; rhs1 = r1 })
+        (slice_get_within sides (variable lhs) (sides_of x) at))
+    of_gate q x here (inr ne) =
+        rw ne.0 (get_set_other sides (variable lhs) (variable x.lhs) (record { rhs0 = r0; rhs1 = r1 })
+        (λ same. ne.1 (one_left x q here same)) ∙ have.each q x here)

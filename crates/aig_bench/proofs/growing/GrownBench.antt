@@ -9,7 +9,8 @@ use Rattle.aig_base.specs.Changes.{CanAppend, next_gate, with_appended_gate}
 use Rattle.aig_base.specs.Levels.{AreLevels}
 use Rattle.aig_parts.specs.Literal.{variable, IsEven}
 use Rattle.aig_base.specs.Readers.{ReaderLists, AreReaders}
-use Rattle.aig_base.proofs.growth.Appended.{more_circuit, new_at}
+use Rattle.aig_base.proofs.growth.Appended.{gate_cases, more_circuit, new_at}
+use Rattle.aig_base.proofs.lists.Gets.{slice_get_last, slice_get_left}
 use Rattle.aig_values.specs.Cells.{gate_value, with_new_cell}
 use Rattle.aig_values.specs.InputRows.{row_at}
 use Rattle.aig_parts.specs.Limits.{cell_limit}
@@ -25,6 +26,7 @@ use Rattle.aig_bench.specs.state.Latches.{AreLatchReaders}
 use Rattle.aig_bench.specs.state.Pending.{IsSettledBench}
 use Rattle.aig_bench.specs.state.DrivenCircuit.{IsDriven, pair_of}
 use Rattle.aig_bench.specs.state.Sweep.{IsWork}
+use Rattle.aig_bench.specs.state.Waiting.{HaveSides, Sides, sides_of}
 use Rattle.aig_bench.specs.Touched.{HasOther, Touches, Changes, AreCells}
 use Rattle.aig_base.proofs.fan_outs.ReaderLists.{readers_kept}
 use Rattle.aig_bench.proofs.edits.Edited.{lists_for, work_kept, working}
@@ -45,6 +47,28 @@ last_is raw c r0 r1 g e at =
 
 pub even_new : (raw : Raw) (r0 r1 : ℕ) → IsEven (next_gate raw r0 r1).lhs
 even_new raw r0 r1 = omega arith
+
+-- the level that was added last
+pub last_level : (old new : List ℕ) (l level v : ℕ) → new ≡ old ++ l ∷ [] → v ≡ length old → slice_get new v ≡ Some level
+    → new ≡ old ++ level ∷ []
+last_level old new l level v e at is =
+    e ∙ ap (λ k. old ++ k ∷ []) (same_Some l level
+    (sym (slice_get_last old l) ∙ ap (slice_get (old ++ l ∷ [])) (sym at) ∙ ap (λ (xs : List ℕ). slice_get xs v) (sym e) ∙ is))
+
+-- the sides of gates, where one more gate has its own
+sides_grown : (raw : Raw) (r0 r1 : ℕ) (g : Gate) (sides : List Sides) → g ≡ next_gate raw r0 r1 → HaveSides raw sides
+    → HaveSides (with_appended_gate raw r0 r1) (sides ++ sides_of g ∷ [])
+sides_grown raw r0 r1 g sides is have = record {
+  size = length-append sides (sides_of g ∷ []) ∙ ap (λ n. n + 1) have.size;
+  each = λ q x at. elim (gate_cases raw r0 r1 q x at) [
+    | inl here ↦ slice_get_left sides (sides_of g ∷ []) (variable x.lhs) (sides_of x) (have.each q x here)
+    | inr new ↦
+        let one : g ≡ x = is ∙ new.1 in
+        let place : variable (next_gate raw r0 r1).lhs ≡ length sides = omega (arith, have.size) in
+        ap (λ (y : Gate). slice_get (sides ++ sides_of g ∷ []) (variable y.lhs)) (sym new.1)
+        ∙ ap (slice_get (sides ++ sides_of g ∷ [])) place ∙ slice_get_last sides (sides_of g) ∙ ap (λ (y : Gate). Some (sides_of y)) one
+  ];
+}
 
 row_mapped : (cells : List (List Tern)) (t : ℕ) → t < length cells
     → row_at (map with_new_cell cells) t ≡ with_new_cell (row_at cells t)
@@ -67,7 +91,7 @@ module _ (driven : DrivenCircuit) (fanouts : Fanouts) (pending : Pending) (flags
       (sym e)
       (record {
         working = work_kept driven driven fanouts _ pending.buckets flags cells r.working refl refl
-            (subst (AreLevels driven.circuit) (sym f) w.levels) are;
+            (subst (AreLevels driven.circuit) (sym f) w.levels) are f;
         lists = lists_for driven driven fanouts _ pending r.lists refl r.lists.readers;
         idle = r.idle;
       })
@@ -141,10 +165,11 @@ module _ (driven : DrivenCircuit) (fanouts : Fanouts) (pending : Pending) (flags
           → AreLatchReaders more latches
           → AreBuckets levels b → ((v : ℕ) → IsQueued b v → ⊥)
           → length b.head.items ≡ length pending.buckets.head.items + 1
+          → b.marks.sides ≡ pending.buckets.marks.sides ++ sides_of g ∷ []
           → flags' ≡ flags ++ true ∷ []
           → IsSettledBench (record driven { circuit = c }) (record { levels = levels; readers = readers; latches = latches })
           (record { buckets = b; here = pending.here; ahead = pending.ahead }) flags' new
-      ready_grown c levels readers latches b flags' same l rs ls bs empty heads fs =
+      ready_grown c levels readers latches b flags' same l rs ls bs empty heads sides fs =
           let w = r.working.work in
           let fanouts' : Fanouts = record { levels = levels; readers = readers; latches = latches } in
           let pending' : Pending = record { buckets = b; here = pending.here; ahead = pending.ahead } in
@@ -160,6 +185,8 @@ module _ (driven : DrivenCircuit) (fanouts : Fanouts) (pending : Pending) (flags
             levels = l;
             readers = rs;
             buckets = bs;
+            sides = subst (HaveSides more) (sym sides)
+                (sides_grown driven.circuit r0 r1 g pending.buckets.marks.sides is w.sides);
             size = heads ∙ ap (λ n. n + 1) w.size;
             heads = λ v n k level.
                 let le = level_bound more driven_grown.circuit.sound level in omega (arith, heads, w.size);

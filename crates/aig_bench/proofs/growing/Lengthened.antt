@@ -77,12 +77,13 @@ module _ (levels : List ℕ) (b : Buckets) (h : AreBuckets levels b) (empty : (v
       of l [] leads none = leads
       of l (x ∷ xs) leads none = absurd (none x (head_in x xs))
 
-  pub buckets_longer : (more : List ℕ) (new : Buckets) → length more ≡ length levels + 1
-      → length b.head.items < 64 * length b.occupied → length b.head.items ≤ limit
+  pub buckets_longer : (level : ℕ) (new : Buckets) → length b.head.items < 64 * length b.occupied → length b.head.items ≤ limit
       → new.head.items ≡ b.head.items ++ 0 ∷ []
       → new.marks.next ≡ b.marks.next ++ idle ∷ [] → new.marks.items ≡ b.marks.items ++ false ∷ []
-      → new.occupied ≡ b.occupied → AreBuckets more new
-  buckets_longer more new size room few eh en em eo =
+      → new.marks.levels ≡ b.marks.levels ++ level ∷ [] → new.occupied ≡ b.occupied
+      → AreBuckets (levels ++ level ∷ []) new
+  buckets_longer level new room few eh en em el eo =
+      let size = length-append levels (level ∷ []) in
       let zero_now : (l : ℕ) → get_or new.head.items l 0 ≡ 0 =
       λ l. ap (λ (xs : List ℕ). get_or xs l 0) eh ∙ get_or_pushed b.head.items l ∙ head_zero l in
       let none = unmarked_pushed b.marks.items new.marks.items em empty in
@@ -100,6 +101,7 @@ module _ (levels : List ℕ) (b : Buckets) (h : AreBuckets levels b) (empty : (v
           };
           placed = λ v m. absurd (none v m);
         };
+        levels_are = el ∙ ap (λ (ls : List ℕ). ls ++ level ∷ []) h.levels_are;
         sizes = omega (arith, h.sizes, ap length eh, ap length en, longer, length-append b.marks.next (idle ∷ []));
         few = omega (arith, ap length eh, longer);
         room = omega (arith, ap length eh, ap length eo);

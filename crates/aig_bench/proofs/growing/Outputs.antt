@@ -81,7 +81,7 @@ module _ (driven : DrivenCircuit) (i l : ℕ) where
       (record {
         working = working after fanouts pending.buckets flags cells
             (work_for driven after fanouts fanouts flags flags cells cells pending.buckets w r.working.empty refl p out levels
-            readers)
+            readers refl refl)
             r.working.empty (current _ cells r.working.bench.current);
         lists = lists_for driven after fanouts fanouts pending r.lists refl
             (readers_same driven.circuit (with_output driven.circuit i l) fanouts.latches r.lists.readers refl refl

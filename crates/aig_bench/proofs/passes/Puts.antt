@@ -1,5 +1,5 @@
 -- What the writing of a source does to grid and buckets.
-use Rattle.std.proofs.Common.{◌≡◌, ◌≢◌, ◌⊎◌, ◌↔◌, inl, inr, ℕ, ◌+◌, ◌*◌, ◌<◌, ◌≤◌, Bool, false, List, length, Option, Some, slice_get, slice_set, Contains, ap, ◌∙◌, subst, arith}
+use Rattle.std.proofs.Common.{◌≡◌, ◌≢◌, ◌⊎◌, ◌↔◌, inl, inr, ℕ, ◌+◌, ◌*◌, ◌<◌, ◌≤◌, Bool, false, List, length, Option, Some, slice_get, slice_set, Contains, ap, sym, ◌∙◌, subst, arith}
 use Rattle.aig_parts.specs.declared.ternary.Tern.{Tern}
 use Rattle.aig_parts.specs.Formed.{limit}
 use Rattle.aig_base.specs.Grounded as by
@@ -25,6 +25,7 @@ use Rattle.aig_bench.proofs.carries.NextLatches.{next_latches_same, next_latches
 use Rattle.aig_bench.specs.state.Entry.{Puts}
 use Rattle.aig_base.specs.Readers.{list_of, ReadsVariable, AreReaders}
 use Rattle.aig_bench.specs.state.Sweep.{IsWork}
+use Rattle.aig_bench.specs.state.Waiting.{HaveSides}
 use Rattle.aig_bench.proofs.cells.Flags.{source_flag}
 use Rattle.aig_bench.proofs.passes.SweepSteps.{laid_out_written, each_reader}
 use Rattle.aig_base.proofs.levels.LevelBound.{level_bound}
@@ -52,6 +53,7 @@ module _ (driven : DrivenCircuit) (fanouts : Fanouts) (flags : List Bool) (cells
     levels = work.levels;
     readers = work.readers;
     buckets = work.buckets;
+    sides = work.sides;
     size = work.size;
     heads = work.heads;
     gates = work.gates;
@@ -115,6 +117,7 @@ module _ (driven : DrivenCircuit) (fanouts : Fanouts) (flags : List Bool) (cells
     levels = work.levels;
     readers = work.readers;
     buckets = are;
+    sides = subst (HaveSides driven.circuit) (sym links.sides) work.sides;
     size = omega (arith, work.size, links.heads);
     heads = λ u n k h. let below = work.heads u n k h in omega (arith, links.heads);
     gates = λ u k. elim ((links.queued u).0 k) [ inl o ↦ work.gates u o | inr i ↦ gate_reads u i ];
@@ -136,15 +139,16 @@ not_the_value o a w is ne e = ne (cc)
 -- new buckets
 pub new_work : (driven : DrivenCircuit) (fanouts : Fanouts) (b : Buckets) → IsDriven driven → AreLevels driven.circuit fanouts.levels
     → AreReaders driven.circuit fanouts.readers → length b.head.items ≡ driven.circuit.max_var + 1
-    → ((levels : List ℕ) → length levels ≡ driven.circuit.max_var + 1 → AreBuckets levels b)
+    → AreBuckets fanouts.levels b → HaveSides driven.circuit b.marks.sides
     → ((v : ℕ) → IsQueued b v → ⊥) → (flags : List Bool) (cells : List (List Tern)) → IsLaidOut driven flags cells
     → IsWork driven fanouts flags cells b
-new_work driven fanouts b p levels readers size are empty flags cells laid_out = record {
+new_work driven fanouts b p levels readers size are sides empty flags cells laid_out = record {
   driven_is = p;
   laid_out = laid_out;
   levels = levels;
   readers = readers;
-  buckets = are fanouts.levels levels.size;
+  buckets = are;
+  sides = sides;
   size = omega arith;
   heads = λ v n g l. let le = level_bound driven.circuit p.circuit.sound l in omega arith;
   gates = λ v k. absurd (empty v k);

@@ -1,7 +1,8 @@
 -- What one evaluation does to grid and buckets.
-use Rattle.std.proofs.Common.{◌≡◌, ◌≢◌, ◌↔◌, inl, inr, ℕ, ◌+◌, ◌<◌, ◌≤◌, Bool, List, ◌∷◌, length, get_or, Some, slice_get, slice_set, Contains, refl, sym, ap, ◌∙◌, subst, arith}
+use Rattle.std.proofs.Common.{◌≡◌, ◌≢◌, ◌↔◌, inl, inr, ℕ, ◌+◌, ◌*◌, ◌<◌, ◌≤◌, Bool, List, ◌∷◌, length, get_or, Some, slice_get, slice_set, Contains, refl, sym, ap, ◌∙◌, subst, arith}
 use Rattle.std.proofs.lemmas.Bool.{cases_eq}
 use Rattle.std.proofs.lemmas.List.{length-set}
+use Rattle.std.proofs.lemmas.Option.{same_Some}
 use Rattle.aig_parts.specs.declared.ternary.Tern.{Tern}
 use Rattle.aig_parts.specs.declared.ternary.Tern.TheVariants.{X}
 use Rattle.aig_parts.specs.declared.gate.Gate.{Gate}
@@ -9,6 +10,7 @@ use Rattle.aig_base.specs.Grounded.{Level}
 use Rattle.aig_parts.specs.Literal.{variable}
 use Rattle.aig_base.specs.Sections.{IsGate}
 use Rattle.aig_base.proofs.circuits.Circuits.{gate_definition, gate_in_range, gate_is}
+use Rattle.aig_base.proofs.circuits.Gates.{gate_of}
 use Rattle.aig_base.proofs.levels.OneLevel.{level_of_gate}
 use Rattle.aig_values.specs.Cells.{gate_value, HasCells}
 use Rattle.aig_values.specs.InputRows.{row_at, with_cell}
@@ -24,6 +26,7 @@ use Rattle.aig_bench.specs.state.DrivenCircuit.{pair_of}
 use Rattle.aig_parts.specs.declared.raw.Raw.{Raw}
 use Rattle.aig_base.specs.Readers.{ReaderLists, list_of, ReadsVariable, AreReaders}
 use Rattle.aig_bench.specs.state.Sweep.{IsWork, Sweeps}
+use Rattle.aig_bench.specs.state.Waiting.{HaveSides, Sides, sides_of}
 use Rattle.aig_bench.proofs.cells.CellLemmas.{get_set_other, row_written, row_other, frames_written}
 use Rattle.aig_bench.proofs.cells.Flags.{gate_cells}
 use Rattle.aig_bench.proofs.passes.Sweeps.{lower, swept_changed, swept_same, cell_changed, cell_same}
@@ -63,6 +66,22 @@ laid_out_written driven t u w flags flags' old new h is lt positive e = record {
     there : (s : ℕ) → s ≢ t → row_at new s ≡ row_at old s
     there s ne = ap (λ (c : List (List Tern)). row_at c s) is ∙ row_other old t u w s ne
 
+-- what was taken is a gate of the circuit
+pub taken_gate : (driven : DrivenCircuit) (fanouts : Fanouts) (flags : List Bool) (cells : List (List Tern)) (b : Buckets) (g : Gate)
+    → IsWork driven fanouts flags cells b → IsQueued b (variable g.lhs) → g.lhs ≡ 2 * variable g.lhs
+    → slice_get b.marks.sides (variable g.lhs) ≡ Some (sides_of g)
+    → (q : ℕ) × (slice_get driven.circuit.gates q ≡ Some g)
+taken_gate driven fanouts flags cells b g work waits even sides =
+    let (x, q, at, e) = gate_of driven.circuit (variable g.lhs) (work.gates (variable g.lhs) waits) in
+    let d = gate_definition driven.circuit work.driven_is.circuit.sound q x at in
+    let both = same_Some (sides_of x) (sides_of g)
+    (sym (work.sides.each q x at) ∙ ap (slice_get b.marks.sides) e ∙ sides) in
+    let lhs : x.lhs ≡ g.lhs = omega arith in
+    let same : x ≡ g =
+    ap (λ (l : ℕ). let y : Gate = record { lhs = l; rhs0 = x.rhs0; rhs1 = x.rhs1 } in y) lhs
+    ∙ ap (λ (s : Sides). let y : Gate = record { lhs = g.lhs; rhs0 = s.rhs0; rhs1 = s.rhs1 } in y) both in
+    (q, at ∙ ap Some same)
+
 module _ (driven : DrivenCircuit) (fanouts : Fanouts) (flags : List Bool) (cells : List (List Tern)) (b b' : Buckets) (t l w q : ℕ) (g : Gate)
     (work : IsWork driven fanouts flags cells b) (lt : t < length driven.stimulus.rows)
     (takes : TakesVariable fanouts.levels l b b' (Some w)) (at : slice_get driven.circuit.gates q ≡ Some g) (e : variable g.lhs ≡ w) where
@@ -98,6 +117,7 @@ module _ (driven : DrivenCircuit) (fanouts : Fanouts) (flags : List Bool) (cells
     levels = work.levels;
     readers = work.readers;
     buckets = taken.buckets;
+    sides = subst (HaveSides driven.circuit) (sym taken.sides) work.sides;
     size = omega (arith, work.size, taken.heads);
     heads = λ u n k h. let below = work.heads u n k h in omega (arith, taken.heads);
     gates = λ u k. work.gates u ((taken.queued u).0 k).0;
@@ -148,6 +168,7 @@ module _ (driven : DrivenCircuit) (fanouts : Fanouts) (flags : List Bool) (cells
         levels = work.levels;
         readers = work.readers;
         buckets = are;
+        sides = subst (HaveSides driven.circuit) (sym links.sides) taken_work.sides;
         size = omega (arith, work.size, taken.heads, links.heads);
         heads = λ u n k h. let below = work.heads u n k h in omega (arith, taken.heads, links.heads);
         gates = λ u k. elim ((links.queued u).0 k) [
@@ -209,6 +230,7 @@ module _ (driven : DrivenCircuit) (fanouts : Fanouts) (flags : List Bool) (cells
       levels = h.levels;
       readers = h.readers;
       buckets = h.buckets;
+      sides = h.sides;
       size = h.size;
       heads = h.heads;
       gates = h.gates;

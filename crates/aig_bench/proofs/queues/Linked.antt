@@ -16,6 +16,7 @@ module _ (xs : List ℕ) where
   pub links_none : (b : Buckets) → Links (Among xs 0) b b
   links_none b = record {
     heads = refl;
+    sides = refl;
     queued = λ u. (λ m. inl m, λ k. elim k [ inl m ↦ m | inr a ↦ absurd (omega (arith, a.1)) ]);
   }
 
@@ -23,6 +24,7 @@ module _ (xs : List ℕ) where
       → Links (λ u. u ≡ x) old new → Links (Among xs (n + 1)) start new
   links_more n x start old new at h k = record {
     heads = k.heads ∙ h.heads;
+    sides = k.sides ∙ h.sides;
     queued = λ u. (
       λ m. elim ((k.queued u).0 m) [
         | inl o ↦ elim ((h.queued u).0 o) [
@@ -47,6 +49,7 @@ module _ (xs : List ℕ) where
       → Links (Contains xs) start new
   links_all n start new is h = record {
     heads = h.heads;
+    sides = h.sides;
     queued = λ u. (
       λ m. elim ((h.queued u).0 m) [ inl s ↦ inl s | inr a ↦ inr (contains_at xs a.0 u a.2) ],
       λ m. elim m [

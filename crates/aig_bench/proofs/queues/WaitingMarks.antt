@@ -1,9 +1,8 @@
 -- Which variables wait, by the next one of each.
-use Rattle.std.proofs.Common.{◌≡◌, ◌≢◌, ℕ, zero, suc, ◌<◌, List, [], ◌∷◌, ◌++◌, Bool, true, false, length}
-use Rattle.std.proofs.Common.{get_or, set, replicate, Some, slice_get, refl, sym, ap, ◌∙◌, subst, arith}
+use Rattle.std.proofs.Common.{◌≡◌, ◌≢◌, ℕ, ◌<◌, List, [], ◌∷◌, ◌++◌, Bool, true, false, length}
+use Rattle.std.proofs.Common.{get_or, set, refl, sym, ap, ◌∙◌, arith}
 use Rattle.std.proofs.lemmas.Bool.Decides.{nat_tests}
 use Rattle.std.proofs.lemmas.List.{length-map, get_or-map, map-set}
-use Rattle.aig_base.specs.state.Marks.{IsMarked}
 use Rattle.aig_bench.specs.state.Waiting.{idle, is_waiting, marks_of}
 
 pub length_marks : (next : List ℕ) → length (marks_of next) ≡ length next
@@ -11,15 +10,6 @@ length_marks next = length-map next is_waiting
 
 not_idle : (n : ℕ) → n ≢ idle → is_waiting n ≡ true
 not_idle n ne = grind (arith, nat_tests)
-
--- nothing waits at first
-none_of : (n v : ℕ) → slice_get (marks_of (replicate n idle)) v ≡ Some true → ⊥
-none_of zero v e = absurd (cc)
-none_of (suc n) zero e = absurd (cc)
-none_of (suc n) (suc v) e = none_of n v e
-
-pub none_waits : (n : ℕ) (next : List ℕ) → next ≡ replicate n idle → (v : ℕ) → IsMarked (marks_of next) v → ⊥
-none_waits n next is v m = none_of n v (subst (λ (xs : List ℕ). IsMarked (marks_of xs) v) is m)
 
 -- one more variable does not wait
 pub marks_pushed : (next : List ℕ) → marks_of (next ++ idle ∷ []) ≡ marks_of next ++ false ∷ []

@@ -2,7 +2,9 @@
 use Rattle.std.specs.Prelude.{◌≡◌, ◌≢◌, ◌⊎◌, ◌↔◌, ℕ, ◌+◌, ◌*◌, ◌<◌, ◌≤◌, Bool, IsTrue, List, [], ◌∷◌, length, slice_get, slice_index, Contains, Option, Some, None, IfSome, IfNone}
 use Rattle.std.specs.Vec.{vec_capacity}
 use Rattle.aig_base.specs.state.Marks.{IsMarked}
+use Rattle.aig_parts.specs.declared.gate.Gate.{Gate}
 use Rattle.aig_parts.specs.Formed.{limit}
+use Rattle.aig_parts.specs.Literal.{variable}
 use Rattle.aig_parts.specs.state.Bits.{HasBit}
 use Rattle.aig_bench.specs.declared.propagate.buckets.Buckets.{Buckets}
 
@@ -30,6 +32,7 @@ IsOccupied head occupied = (l : ℕ) → HasBit occupied l ↔ (slice_index head
 
 pub record AreBuckets (levels : List ℕ) (b : Buckets) : Type 0 where
   pub chained : AreChained levels b.head.items b.marks.next b.marks.items
+  pub levels_are : b.marks.levels ≡ levels
   pub sizes : length b.marks.next ≡ length b.head.items
   pub few : length b.head.items ≤ limit + 1
   pub room : length b.head.items ≤ 64 * length b.occupied
@@ -61,15 +64,26 @@ abbrev pub IsLowest : List ℕ → Buckets → ℕ → Option ℕ → Type 0
 IsLowest levels b from (Some l) = (from ≤ l) × AreLevelsEmpty levels b from l
 IsLowest levels b from None = AreLevelsEmpty levels b from (length b.head.items)
 
--- what waits afterwards waited before, or is one of these, and as many levels are there
+-- what waits afterwards waited before, or is one of these; as many levels are there, and gates have the same sides
 pub record Links (P : ℕ → Type 0) (old new : Buckets) : Type 0 where
   pub heads : length new.head.items ≡ length old.head.items
+  pub sides : new.marks.sides ≡ old.marks.sides
   pub queued : (u : ℕ) → IsQueued new u ↔ (IsQueued old u ⊎ P u)
+
+-- the variable of a gate that was taken
+abbrev pub taken_variable : Option Gate → Option ℕ
+taken_variable None = None
+taken_variable (Some g) = Some (variable g.lhs)
+
+-- all of them but the levels of variables
+abbrev pub without_levels : Buckets → Buckets
+without_levels b = record b { marks = record b.marks { levels = [] } }
 
 -- a variable of the level that waited waits no more, and the others wait as before; or none of the level waits
 pub record TakesVariable (levels : List ℕ) (level : ℕ) (old new : Buckets) (result : Option ℕ) : Type 0 where
   pub buckets : AreBuckets levels new
   pub heads : length new.head.items ≡ length old.head.items
+  pub sides : new.marks.sides ≡ old.marks.sides
   pub was_queued : IfSome result (λ v. IsQueued old v)
   pub of_level : IfSome result (λ v. slice_get levels v ≡ Some level)
   pub queued : IfSome result (λ v. (u : ℕ) → IsQueued new u ↔ (IsQueued old u × (u ≢ v)))

@@ -16,15 +16,17 @@ use Rattle.aig_bench.specs.state.Current.{IsLaidOut, IsCurrentRow, IsBench}
 use Rattle.aig_bench.specs.BenchState.{CircuitAndRows}
 use Rattle.aig_bench.specs.state.Passing.{Differs, IsTouched, Passing, IsConsistent}
 use Rattle.aig_bench.specs.state.DrivenCircuit.{IsDriven}
+use Rattle.aig_bench.specs.state.Waiting.{HaveSides}
 use Rattle.aig_bench.specs.Touched.{IsOnce}
 
--- what a sweep works on: a grid for the driven circuit, and buckets in which gates alone wait
+-- what a sweep works on: a grid for the driven circuit, and buckets in which gates alone wait, with their sides
 pub record IsWork (driven : DrivenCircuit) (fanouts : Fanouts) (flags : List Bool) (cells : List (List Tern)) (b : Buckets) : Type 0 where
   pub driven_is : IsDriven driven
   pub laid_out : IsLaidOut driven flags cells
   pub levels : AreLevels driven.circuit fanouts.levels
   pub readers : AreReaders driven.circuit fanouts.readers
   pub buckets : AreBuckets fanouts.levels b
+  pub sides : HaveSides driven.circuit b.marks.sides
   pub size : length b.head.items ≡ driven.circuit.max_var + 1
   pub heads : (v n : ℕ) → IsGate driven.circuit v → Level driven.circuit v n → n < length b.head.items
   pub gates : (v : ℕ) → IsQueued b v → IsGate driven.circuit v

@@ -136,10 +136,11 @@ impl<G: Grid> Bench<G> {
             r0,
             r1,
         )?;
-        engine.fanouts.latches.add_variable();
-        engine.pending.buckets.add_variable();
-        engine.grid.add_gate();
         let gate = last_gate(&engine.driven.circuit);
+        let level = engine.fanouts.levels.level(gate.lhs.var());
+        engine.fanouts.latches.add_variable();
+        engine.pending.buckets.add_variable(level, &gate);
+        engine.grid.add_gate();
         engine.order.push_gate(gate);
         Ok(evaluate_new(&mut engine.grid, &gate))
     }

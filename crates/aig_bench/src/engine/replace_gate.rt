@@ -35,16 +35,18 @@ impl<G: Grid> Engine<G> {
     {
         let circuit = &mut self.driven.circuit;
         let fanouts = &mut self.fanouts;
+        let buckets = &mut self.pending.buckets;
         fanouts.readers.make_room(r0, r1)?;
         match fanouts
             .levels
-            .rewire(circuit, &fanouts.readers, lhs, r0, r1)
+            .rewire(circuit, &fanouts.readers, lhs, r0, r1, buckets)
         {
             Ok(()) => {}
             Err(_) => return Err(EditFault::Cycle),
         }
         fanouts.readers.replace(circuit, lhs, r0, r1);
         circuit.replace_gate(lhs, r0, r1);
+        buckets.set_sides(lhs.var(), r0, r1);
         self.order.forget();
         Ok(())
     }

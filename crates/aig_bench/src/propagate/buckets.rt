@@ -1,17 +1,22 @@
 //! Gates that wait for their evaluation, by level: the queue of events.
 ghost use Rattle.std.specs.Prelude.{◌≡◌, ℕ, ◌+◌, ◌<◌, ◌≤◌, List, length, IfOk, OnOk, IfSome, Some, slice_get};
 ghost use Rattle.std.specs.Prelude.{slice_index, slice_index_or, slice_set, Contains, ◌≢◌, ◌*◌};
+ghost use Rattle.std.specs.Prelude.{[], ◌∷◌, ◌++◌};
 ghost use Rattle.aig_parts.specs.Formed.{limit};
+ghost use Rattle.aig_parts.specs.Literal.{variable};
+ghost use Rattle.aig_base.specs.Levels.{AreLevels};
+ghost use Rattle.aig_bench.specs.declared.propagate.buckets.Buckets as buckets;
 ghost use Rattle.aig_bench.specs.state.Buckets.{AreBuckets, IsQueued, CanBeQueued, FitsOneVariable};
-ghost use Rattle.aig_bench.specs.state.Buckets.{IsLowest, IsOccupied, Links, TakesVariable};
+ghost use Rattle.aig_bench.specs.state.Buckets.{IsLowest, IsOccupied, Links, TakesVariable, taken_variable};
+ghost use Rattle.aig_bench.specs.state.Waiting.{HaveSides, sides_of};
 
 use crate::propagate::level_set::LevelSet;
 use crate::propagate::waiting::Waiting;
-use aig_base::{Levels, Memory};
+use aig_base::{Circuit, Gate, LevelCopy, Levels, Lit, Memory};
 use std::alloc::Global;
 
-/// Variables of gates that wait, a chain for each level. It takes memory when it is made and when the circuit grows,
-/// and else none.
+/// Variables of gates that wait, a chain for each level, and a copy of the levels. It takes memory when it is made and
+/// when the circuit grows, and else none.
 #[derive(Drop, Debug)]
 pub struct Buckets {
     // The first variable of each level's chain; 0 stands for none.
@@ -23,16 +28,18 @@ pub struct Buckets {
 }
 
 impl Buckets {
-    /// Buckets in which nothing waits, for variables and levels up to `max_var`.
-    pub fn new(alloc: Global, max_var: u32) -> Result<Buckets, Memory>
-        requires { max_var ≤ limit }
-        ensures heads { IfOk result (λ b. length b.head.items ≡ max_var + 1) }
-        ensures buckets { IfOk result (λ b. (levels : List ℕ) → length levels ≡ max_var + 1 → AreBuckets levels b) }
+    /// Buckets for the gates of a circuit, in which nothing waits.
+    pub fn of(alloc: Global, circuit: &Circuit, levels: &Levels) -> Result<Buckets, Memory>
+        requires { AreLevels circuit.now levels.now }
+        ensures heads { IfOk result (λ b. length b.head.items ≡ circuit.now.max_var + 1) }
+        ensures buckets { IfOk result (AreBuckets levels.now) }
+        ensures sides { IfOk result (λ b. HaveSides circuit.now b.marks.sides) }
         ensures empty { IfOk result (λ b. (v : ℕ) → IsQueued b v → ⊥) }
     {
-        let size = max_var as usize + 1;
+        circuit.facts();
+        let size = circuit.max_var() as usize + 1;
         let head = vec![in alloc; 0; size]?;
-        let marks = Waiting::new(alloc, size)?;
+        let marks = Waiting::of(alloc, circuit, levels)?;
         let occupied = LevelSet::new(alloc, size)?;
         Ok(Buckets {
             head,
@@ -47,6 +54,7 @@ impl Buckets {
         requires buckets { (levels : List ℕ) × AreBuckets levels self.old }
         ensures heads { length self.new.head.items ≡ length self.old.head.items }
         ensures marks { self.new.marks.items ≡ self.old.marks.items }
+        ensures sides { self.new.marks.sides ≡ self.old.marks.sides }
         ensures buckets { (levels : List ℕ) → AreBuckets levels self.old → AreBuckets levels self.new }
         ensures room { OnOk result (FitsOneVariable self.new) }
     {
@@ -55,17 +63,29 @@ impl Buckets {
         self.occupied.make_room(self.head.len())
     }
 
-    /// One more variable, and one more level, where nothing waits and there is room.
-    pub fn add_variable(&mut self)
+    /// The variable of one more gate, which has this level, and one more level, where nothing waits and there is room.
+    pub fn add_variable(&mut self, level: u32, gate: &Gate)
         requires room { FitsOneVariable self.old }
         requires empty { (v : ℕ) → IsQueued self.old v → ⊥ }
         ensures heads { length self.new.head.items ≡ length self.old.head.items + 1 }
-        ensures buckets { (levels more : List ℕ) → AreBuckets levels self.old → length more ≡ length levels + 1
-            → AreBuckets more self.new }
+        ensures buckets { (levels : List ℕ) → AreBuckets levels self.old → AreBuckets (levels ++ level ∷ []) self.new }
+        ensures sides { self.new.marks.sides ≡ self.old.marks.sides ++ sides_of gate.now ∷ [] }
         ensures empty { (v : ℕ) → IsQueued self.new v → ⊥ }
     {
         self.head.push_reserved(0);
-        self.marks.push();
+        self.marks.push(level, gate.rhs0, gate.rhs1);
+    }
+
+    /// Replaces the right sides of a variable's gate.
+    pub fn set_sides(&mut self, variable: u32, rhs0: Lit, rhs1: Lit)
+        requires { variable < length self.old.marks.next }
+        ensures { self.new ≡ record self.old {
+          marks = record self.old.marks {
+            sides = slice_set self.old.marks.sides variable (record { rhs0 = rhs0; rhs1 = rhs1 });
+          };
+        } }
+    {
+        self.marks.set_sides(variable, rhs0, rhs1);
     }
 
     // Puts a variable before the others of a level's chain, and answers which was the first; 0 stands for none.
@@ -119,44 +139,66 @@ impl Buckets {
     }
 
     /// Lets a variable wait, unless it waits already.
-    pub fn link(&mut self, levels: &Levels, variable: u32)
-        requires buckets { AreBuckets levels.now self.old }
-        requires fits { CanBeQueued levels.now (length self.old.head.items) variable }
-        ensures buckets { AreBuckets levels.now self.new }
+    pub fn link(&mut self, variable: u32)
+        requires { (levels : List ℕ) × AreBuckets levels self.old
+            × CanBeQueued levels (length self.old.head.items) variable }
+        ensures buckets { (levels : List ℕ) → AreBuckets levels self.old → AreBuckets levels self.new }
         ensures links { Links (λ u. u ≡ variable) self.old self.new }
     {
         if self.marks.waits(variable) {
             return;
         }
-        let level = levels.level(variable) as usize;
+        let level = self.marks.level(variable) as usize;
         let second = self.push_first(level, variable);
         self.marks.enter(variable, second);
     }
 
     /// Lets these variables wait.
-    pub fn link_all(&mut self, levels: &Levels, variables: &[u32])
-        requires buckets { AreBuckets levels.now self.old }
-        requires fit { (v : ℕ) → Contains variables.now v → CanBeQueued levels.now (length self.old.head.items) v }
-        ensures buckets { AreBuckets levels.now self.new }
+    pub fn link_all(&mut self, variables: &[u32])
+        requires { (levels : List ℕ) × AreBuckets levels self.old
+            × ((v : ℕ) → Contains variables.now v → CanBeQueued levels (length self.old.head.items) v) }
+        ensures buckets { (levels : List ℕ) → AreBuckets levels self.old → AreBuckets levels self.new }
         ensures links { Links (Contains variables.now) self.old self.new }
     {
         for variable in variables {
-            self.link(levels, *variable);
+            self.link(*variable);
         }
     }
 
-    /// Takes a variable of a level that waits, if there is one.
-    pub fn take(&mut self, level: u32) -> Option<u32>
+    /// Takes a gate of a level that waits, if there is one.
+    pub fn take(&mut self, level: u32) -> Option<Gate>
         requires level { level < length self.old.head.items }
         requires buckets { (levels : List ℕ) × AreBuckets levels self.old }
-        ensures { (levels : List ℕ) → AreBuckets levels self.old → TakesVariable levels level self.old self.new result }
+        ensures takes { (levels : List ℕ) → AreBuckets levels self.old
+            → TakesVariable levels level self.old self.new (taken_variable result) }
+        ensures even { IfSome result (λ g. g.lhs ≡ 2 * variable g.lhs) }
+        ensures sides { IfSome result (λ g. slice_get self.old.marks.sides (variable g.lhs)
+            ≡ Some (sides_of g)) }
     {
         let first = self.head[level as usize];
         if first == 0 {
             return None;
         }
-        let second = self.marks.leave(first);
-        self.drop_first(level as usize, second);
-        Some(first)
+        let slot = self.marks.leave(first);
+        self.drop_first(level as usize, slot.next);
+        Some(Gate {
+            lhs: Lit::new(2 * first),
+            rhs0: slot.rhs0,
+            rhs1: slot.rhs1,
+        })
+    }
+}
+
+impl LevelCopy for Buckets {
+    ghost use Rattle.aig_bench.specs.state.Buckets.{without_levels};
+
+    ghost has = { λ b levels. (b.marks.levels ≡ levels) × (length b.marks.next ≡ length levels) };
+
+    ghost Rest = { buckets.Buckets };
+
+    ghost rest = { without_levels };
+
+    fn set_level(&mut self, variable: u32, level: u32) {
+        self.marks.set_level(variable, level);
     }
 }

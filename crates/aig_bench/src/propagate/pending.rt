@@ -37,7 +37,7 @@ impl Pending {
         ensures quiet { IfOk result (λ w. IsIdle w.buckets.marks.items w.here.marks.items w.ahead.marks.items) }
     {
         let latches = driven.circuit.latches().len();
-        let buckets = Buckets::new(alloc, driven.circuit.max_var())?;
+        let buckets = Buckets::of(alloc, &driven.circuit, &fanouts.levels)?;
         let here = LatchList::new(alloc, latches)?;
         let ahead = LatchList::new(alloc, latches)?;
         Ok(Pending {

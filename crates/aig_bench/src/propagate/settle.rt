@@ -39,12 +39,12 @@ impl<G: Grid> Engine<G> {
         ensures none { IfNone result ((u : ℕ) → IsMarked self.new.queued u → slice_get self.old.levels u ≢ Some level) }
         ensures settles { SettlesLevels frame level level self.old self.new (report_of result) }
     {
-        let variable = self.pending.buckets.take(level)?;
-        let gate = self.driven.circuit.gate_of(variable)?;
+        let gate = self.pending.buckets.take(level)?;
+        let variable = gate.lhs.var();
         let changed = self.grid.evaluate(frame, gate);
         if changed {
             let readers = self.fanouts.readers.list(variable);
-            self.pending.buckets.link_all(&self.fanouts.levels, readers);
+            self.pending.buckets.link_all(readers);
             self.fanouts
                 .latches
                 .list_all(variable, &mut self.pending.ahead);
@@ -105,7 +105,7 @@ impl<G: Grid> Engine<G> {
         self.grid.put_source(frame, variable, value);
         if before != value {
             let readers = self.fanouts.readers.list(variable);
-            self.pending.buckets.link_all(&self.fanouts.levels, readers);
+            self.pending.buckets.link_all(readers);
             self.fanouts
                 .latches
                 .list_all(variable, &mut self.pending.ahead);

@@ -1,65 +1,128 @@
-//! Which variables wait, and the chains in which they stand, in one list.
+//! Which variables wait, the chains in which they stand, and what an event looks at of a variable: in one place.
 ghost use Rattle.std.specs.Prelude.{◌≡◌, ◌≢◌, ℕ, ◌<◌, ◌++◌, ◌∷◌, [], false, true, length, IfOk, IsTrue, OnOk};
-ghost use Rattle.std.specs.Prelude.{slice_index, slice_index_or, slice_set};
+ghost use Rattle.std.specs.Prelude.{Some, slice_get, slice_index, slice_index_or, slice_set};
+ghost use Rattle.aig_parts.specs.declared.gate.Gate as gate;
+ghost use Rattle.aig_parts.specs.Literal as literal;
+ghost use Rattle.aig_base.specs.Levels.{AreLevels};
 ghost use Rattle.aig_base.specs.state.Marks.{IsMarked};
-ghost use Rattle.aig_bench.specs.state.Waiting.{idle};
+ghost use Rattle.aig_bench.specs.state.Waiting.{idle, HaveSides, Sides};
 
-use aig_base::Memory;
+use aig_base::{Circuit, Levels, Lit, Memory};
 use std::alloc::Global;
 use std::marker::Model;
 
 /// Stands for a variable that does not wait, in place of the next one of its chain.
 const IDLE: u32 = 0xffff_ffff;
 
-/// For each variable whether it waits, and the next one of its chain: one number for both, so an event looks at one
-/// place. Contracts see both lists.
+/// What an event looks at of a variable, 16 bytes.
+#[derive(Clone, Copy, Debug)]
+pub struct Slot {
+    /// The next variable of the chain, 0 after the last one, or `IDLE`.
+    pub next: u32,
+    pub level: u32,
+    /// The right sides of the variable's gate; 0 where it has none.
+    pub rhs0: Lit,
+    pub rhs1: Lit,
+}
+
+impl Slot {
+    // The slot of a variable that does not wait.
+    fn idle(level: u32, rhs0: Lit, rhs1: Lit) -> Slot
+        ensures next { result.next ≡ idle }
+        ensures level { result.level ≡ level }
+        ensures first { result.rhs0 ≡ rhs0 }
+        ensures second { result.rhs1 ≡ rhs1 }
+    {
+        Slot {
+            next: IDLE,
+            level,
+            rhs0,
+            rhs1,
+        }
+    }
+}
+
+// The slot of a variable of a circuit where none waits.
+fn slot_of(circuit: &Circuit, levels: &Levels, variable: u32) -> Slot
+    requires { variable < length levels.now }
+    ensures next { result.next ≡ idle }
+    ensures level { slice_get levels.now variable ≡ Some result.level }
+    ensures first { (q : ℕ) (g : gate.Gate) → slice_get circuit.now.gates q ≡ Some g → literal.variable g.lhs ≡ variable
+        → result.rhs0 ≡ g.rhs0 }
+    ensures second { (q : ℕ) (g : gate.Gate) → slice_get circuit.now.gates q ≡ Some g → literal.variable g.lhs ≡ variable
+        → result.rhs1 ≡ g.rhs1 }
+{
+    circuit.facts();
+    let level = levels.level(variable);
+    match circuit.gate_of(variable) {
+        Some(gate) => Slot::idle(level, gate.rhs0, gate.rhs1),
+        None => Slot::idle(level, Lit::new(0), Lit::new(0)),
+    }
+}
+
+/// For each variable whether it waits, the next one of its chain, its level and the right sides of its gate: one slot
+/// for all, so an event looks at one place. Contracts see a list of each.
 #[derive(Drop, Debug)]
 pub struct Waiting {
-    next: Vec<u32>,
+    slots: Vec<Slot>,
 }
 
 impl Model for Waiting {
-    ghost use Rattle.std.specs.Prelude.{nat_lt, vec_len};
+    ghost use Rattle.std.specs.Prelude.{map, nat_lt, vec_len};
     ghost use Rattle.std.specs.Vec.{vec_capacity};
     ghost use Rattle.aig_bench.specs.state.Waiting.{WaitingVariables, marks_of};
 
     ghost Value = { WaitingVariables };
 
     ghost view = { λ a. record {
-      items = marks_of a.next.items;
-      next = a.next.items;
-      room = nat_lt (vec_len a.next) (vec_capacity a.next);
+      items = marks_of (map (λ s. s.next) a.slots.items);
+      next = map (λ s. s.next) a.slots.items;
+      levels = map (λ s. s.level) a.slots.items;
+      sides = map (λ s. record { rhs0 = s.rhs0; rhs1 = s.rhs1 }) a.slots.items;
+      room = nat_lt (vec_len a.slots) (vec_capacity a.slots);
     } };
 }
 
 impl Waiting {
-    /// So many variables, none of which waits.
-    pub fn new(alloc: Global, size: usize) -> Result<Waiting, Memory>
-        ensures next { IfOk result (λ w. length w.next ≡ size) }
-        ensures marks { IfOk result (λ w. length w.items ≡ size) }
+    /// The variables of a circuit, none of which waits, with their levels.
+    pub fn of(alloc: Global, circuit: &Circuit, levels: &Levels) -> Result<Waiting, Memory>
+        requires { AreLevels circuit.now levels.now }
+        ensures next { IfOk result (λ w. length w.next ≡ length levels.now) }
+        ensures marks { IfOk result (λ w. length w.items ≡ length levels.now) }
         ensures none { IfOk result (λ w. (v : ℕ) → IsMarked w.items v → ⊥) }
+        ensures levels { IfOk result (λ w. w.levels ≡ levels.now) }
+        ensures sides { IfOk result (λ w. HaveSides circuit.now w.sides) }
     {
-        let next = vec![in alloc; IDLE; size]?;
-        Ok(Waiting { next })
+        circuit.facts();
+        let mut slots = Vec::with_capacity(alloc, circuit.max_var() as usize + 1)?;
+        for variable in 0..circuit.max_var() + 1 {
+            slots.push(slot_of(circuit, levels, variable))?;
+        }
+        Ok(Waiting { slots })
     }
 
     /// Makes room for one more variable; nothing else changes.
     pub fn make_room(&mut self) -> Result<(), Memory>
         ensures next { self.new.next ≡ self.old.next }
         ensures marks { self.new.items ≡ self.old.items }
+        ensures levels { self.new.levels ≡ self.old.levels }
+        ensures sides { self.new.sides ≡ self.old.sides }
         ensures room { OnOk result (IsTrue self.new.room) }
     {
-        self.next.reserve(1)?;
+        self.slots.reserve(1)?;
         Ok(())
     }
 
-    /// One more variable, which does not wait, where there is room.
-    pub fn push(&mut self)
+    /// One more variable, which does not wait, with its level and the right sides of its gate, where there is room.
+    pub fn push(&mut self, level: u32, rhs0: Lit, rhs1: Lit)
         requires { IsTrue self.old.room }
         ensures next { self.new.next ≡ self.old.next ++ idle ∷ [] }
         ensures marks { self.new.items ≡ self.old.items ++ false ∷ [] }
+        ensures levels { self.new.levels ≡ self.old.levels ++ level ∷ [] }
+        ensures sides { self.new.sides ≡ self.old.sides ++ (let s : Sides = record { rhs0 = rhs0; rhs1 = rhs1 } in s) ∷ [] }
     {
-        self.next.push_reserved(IDLE);
+        let slot = Slot::idle(level, rhs0, rhs1);
+        self.slots.push_reserved(slot);
     }
 
     /// Whether a variable waits.
@@ -67,7 +130,15 @@ impl Waiting {
         requires { variable < length self.now.next }
         ensures { result ≡ slice_index_or self.now.items variable result }
     {
-        self.next[variable as usize] != IDLE
+        self.slots[variable as usize].next != IDLE
+    }
+
+    /// The level of a variable.
+    pub fn level(&self, variable: u32) -> u32
+        requires { variable < length self.now.next }
+        ensures { slice_get self.now.levels variable ≡ Some result }
+    {
+        self.slots[variable as usize].level
     }
 
     /// Lets a variable wait, before this one in its chain; 0 stands for none.
@@ -76,19 +147,47 @@ impl Waiting {
         requires second { second ≢ idle }
         ensures next { self.new.next ≡ slice_set self.old.next variable second }
         ensures marks { self.new.items ≡ slice_set self.old.items variable true }
+        ensures levels { self.new.levels ≡ self.old.levels }
+        ensures sides { self.new.sides ≡ self.old.sides }
     {
-        self.next[variable as usize] = second;
+        let slot = &mut self.slots[variable as usize];
+        slot.next = second;
     }
 
-    /// Lets a variable wait no more, and answers the next one of its chain.
-    pub fn leave(&mut self, variable: u32) -> u32
+    /// Lets a variable wait no more, and returns what its slot was.
+    pub fn leave(&mut self, variable: u32) -> Slot
         requires { variable < length self.old.next }
-        ensures second { result ≡ slice_index self.old.next variable }
+        ensures second { result.next ≡ slice_index self.old.next variable }
+        ensures gate { slice_get self.old.sides variable ≡ Some (record { rhs0 = result.rhs0; rhs1 = result.rhs1 }) }
         ensures next { self.new.next ≡ slice_set self.old.next variable idle }
         ensures marks { self.new.items ≡ slice_set self.old.items variable false }
+        ensures levels { self.new.levels ≡ self.old.levels }
+        ensures sides { self.new.sides ≡ self.old.sides }
     {
-        let second = self.next[variable as usize];
-        self.next[variable as usize] = IDLE;
-        second
+        let slot = &mut self.slots[variable as usize];
+        let before = *slot;
+        slot.next = IDLE;
+        before
+    }
+
+    /// Replaces the level of a variable.
+    pub fn set_level(&mut self, variable: u32, level: u32)
+        requires { variable < length self.old.next }
+        ensures { self.new ≡ record self.old { levels = slice_set self.old.levels variable level } }
+    {
+        let slot = &mut self.slots[variable as usize];
+        slot.level = level;
+    }
+
+    /// Replaces the right sides of a variable's gate.
+    pub fn set_sides(&mut self, variable: u32, rhs0: Lit, rhs1: Lit)
+        requires { variable < length self.old.next }
+        ensures { self.new ≡ record self.old {
+          sides = slice_set self.old.sides variable (record { rhs0 = rhs0; rhs1 = rhs1 });
+        } }
+    {
+        let slot = &mut self.slots[variable as usize];
+        slot.rhs0 = rhs0;
+        slot.rhs1 = rhs1;
     }
 }

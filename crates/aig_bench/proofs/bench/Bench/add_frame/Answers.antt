@@ -52,7 +52,7 @@ invariant_of-engine-2 g c =
           (driven_added driven c.push.new.self c.args.row.now w.driven_is c.in-Ok.ensures.ok wide few limit)
           (laid_out_added driven c.push.new.self c.args.row.now _ _ _ _ w.laid_out c.in-Ok.ensures.ok c.in_ok-add_row.ensures.ok
           c.in_ok-add_row.ensures.gates)
-          w.levels w.readers;
+          w.levels w.readers refl refl;
       lists = lists_for driven _ fanouts fanouts pending k.lists refl k.lists.readers;
       orders = c.in_ok-renew.ensures.orders;
     }

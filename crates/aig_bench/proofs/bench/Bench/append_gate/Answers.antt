@@ -1,12 +1,14 @@
-use Rattle.std.proofs.Common.{◌+◌, length, sym, ap, ◌∙◌, subst, arith}
+use Rattle.std.proofs.Common.{ℕ, List, length, sym, ap, ◌∙◌, subst, arith}
 use Rattle.std.proofs.lemmas.List.{length-append, length-map}
 use Rattle.aig_parts.specs.Literal.{variable}
 use Rattle.aig_base.proofs.circuits.Gates.{defined_in_range}
 use Rattle.aig_bench.proofs.renewals.Engines.{held}
 use Rattle.aig_bench.proofs.growing.Grown.{new_flag}
-use Rattle.aig_bench.proofs.growing.GrownBench.{even_new, grown_changed, grown_touched, last_is, ready_grown, ready_still}
+use Rattle.aig_bench.proofs.growing.GrownBench.{even_new, grown_changed, grown_touched, last_is, last_level, ready_grown, ready_still}
 use Rattle.aig_bench.proofs.growing.Lengthened.{readers_longer}
+use Rattle.aig_parts.specs.declared.gate.Gate.{Gate}
 use Rattle.aig_parts.specs.declared.raw.Raw.{Raw}
+use Rattle.aig_bench.specs.state.Buckets.{AreBuckets}
 use Rattle.aig_bench.specs.state.SweepOrder.{Orders}
 use Rattle.aig_bench.proofs.bench.Bench.append_gate.Goals as goal
 
@@ -110,6 +112,10 @@ invariant_of-engine-2 g c =
     let more = c.evaluate_new.ensures in
     let is = last_is raw _ c.args.r0 c.args.r1 _ e c.last_gate-gate.ensures in
     let levels = c.in_ok-append_gate.ensures.levels in
+    let (l, longer) = c.in_ok-append_gate.ensures.more in
+    let place = ap (λ (x : Gate). variable x.lhs) is in
+    let last = last_level c.make_room.new.fanouts.levels c.append_gate.new.levels l c.level-level.result c.var.result longer
+    (omega (arith, place, c.var.ensures, r.working.work.levels.size)) c.level-level.ensures in
     let now = ready_grown driven c.make_room.new.fanouts c.make_room.new.pending _ _ r c.args.r0 c.args.r1 a.gate a.cells
     (g.G.Grid.cells c.add_gate.new.self) (g.G.Grid.cells c.evaluate_new.new.grid) c.last_gate-gate.result is
     c.add_gate.ensures.cells
@@ -117,9 +123,8 @@ invariant_of-engine-2 g c =
     (readers_longer raw c.args.r0 c.args.r1 r.working.bench.driven_is.circuit.sound _ c.add_variable.new.self
     r.lists.readers
     c.add_variable.ensures.last c.add_variable.ensures.before c.add_variable.ensures.read)
-    (c.add_variable-2.ensures.buckets _ _ r.working.work.buckets
-    (levels.size ∙ ap (λ n. n + 1) (sym r.working.work.levels.size)))
-    c.add_variable-2.ensures.empty c.add_variable-2.ensures.heads (more.flags ∙ c.add_gate.ensures.gates) in
+    (subst (λ (ls : List ℕ). AreBuckets ls c.add_variable-2.new.self) (sym last) (c.add_variable-2.ensures.buckets _ r.working.work.buckets))
+    c.add_variable-2.ensures.empty c.add_variable-2.ensures.heads c.add_variable-2.ensures.sides (more.flags ∙ c.add_gate.ensures.gates) in
     record {
       work = now.working.work;
       lists = now.lists;
@@ -139,6 +144,10 @@ invariant_of-self-2 g c =
     let more = c.evaluate_new.ensures in
     let is = last_is raw _ c.args.r0 c.args.r1 _ e c.last_gate-gate.ensures in
     let levels = c.in_ok-append_gate.ensures.levels in
+    let (l, longer) = c.in_ok-append_gate.ensures.more in
+    let place = ap (λ (x : Gate). variable x.lhs) is in
+    let last = last_level c.make_room.new.fanouts.levels c.append_gate.new.levels l c.level-level.result c.var.result longer
+    (omega (arith, place, c.var.ensures, r.working.work.levels.size)) c.level-level.ensures in
     let now = ready_grown driven c.make_room.new.fanouts c.make_room.new.pending _ _ r c.args.r0 c.args.r1 a.gate a.cells
     (g.G.Grid.cells c.add_gate.new.self) (g.G.Grid.cells c.evaluate_new.new.grid) c.last_gate-gate.result is
     c.add_gate.ensures.cells
@@ -146,9 +155,8 @@ invariant_of-self-2 g c =
     (readers_longer raw c.args.r0 c.args.r1 r.working.bench.driven_is.circuit.sound _ c.add_variable.new.self
     r.lists.readers
     c.add_variable.ensures.last c.add_variable.ensures.before c.add_variable.ensures.read)
-    (c.add_variable-2.ensures.buckets _ _ r.working.work.buckets
-    (levels.size ∙ ap (λ n. n + 1) (sym r.working.work.levels.size)))
-    c.add_variable-2.ensures.empty c.add_variable-2.ensures.heads (more.flags ∙ c.add_gate.ensures.gates) in
+    (subst (λ (ls : List ℕ). AreBuckets ls c.add_variable-2.new.self) (sym last) (c.add_variable-2.ensures.buckets _ r.working.work.buckets))
+    c.add_variable-2.ensures.empty c.add_variable-2.ensures.heads c.add_variable-2.ensures.sides (more.flags ∙ c.add_gate.ensures.gates) in
     record { current = now.working.bench.current; idle = now.idle }
 
 pub returns-clause-works : goal.returns-clause-works

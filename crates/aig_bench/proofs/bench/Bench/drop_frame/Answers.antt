@@ -13,7 +13,7 @@ invariant_of-engine g c =
     let b = bench_dropped driven c.pop.new.self _ _ _ _ h.bench c.pop.ensures c.drop_row.ensures.cells c.drop_row.ensures.gates in
     record {
       work = work_for driven _ c.engine.inside.fanouts c.engine.inside.fanouts _ _ _ _ c.engine.inside.pending.buckets h.work h.empty refl b.driven_is
-          b.laid_out h.work.levels h.work.readers;
+          b.laid_out h.work.levels h.work.readers refl refl;
       lists = lists_for driven _ c.engine.inside.fanouts c.engine.inside.fanouts c.engine.inside.pending k.lists refl k.lists.readers;
       orders = c.engine.invariant.orders;
     }

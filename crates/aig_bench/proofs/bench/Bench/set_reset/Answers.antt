@@ -33,7 +33,8 @@ invariant_of-engine g c =
           (driven_restarted driven _ c.args.latch c.args.value w.driven_is e)
           (laid_out_restarted driven _ c.args.latch c.args.value _ _ w.laid_out e)
           (levels_restarted driven.circuit _ c.args.latch c.args.value _ w.levels e)
-          (readers_restarted driven.circuit _ c.args.latch c.args.value _ w.readers e);
+          (readers_restarted driven.circuit _ c.args.latch c.args.value _ w.readers e)
+          refl (ap (λ (x : Raw). x.gates) e);
       lists = record {
         readers = readers_reset driven.circuit _ c.args.latch c.args.value c.engine.inside.fanouts.latches h.readers e;
         here = rw size (c.add.ensures.list (length driven.circuit.latches) h.here);

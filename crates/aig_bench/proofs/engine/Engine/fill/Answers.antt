@@ -25,6 +25,7 @@ invariant_of-self g c =
         levels = w.levels;
         readers = w.readers;
         buckets = w.buckets;
+        sides = w.sides;
         size = w.size;
         heads = w.heads;
         gates = w.gates;

@@ -27,12 +27,12 @@ list-readers-requires g c =
     let source = subst (λ (s : EngineState). IsSource s.pair.circuit c.args.variable) (sym c.self.view_is) c.requires.source in
     inside_readers _ _ _ _ _ _ _ w lt c.requires.positive source
 
-pub link_all-requires-clause-fit : goal.link_all-requires-clause-fit
-link_all-requires-clause-fit g c =
+pub link_all-requires : goal.link_all-requires
+link_all-requires g c =
     let w = c.self.invariant.work in
     let lt = subst (λ (s : EngineState). c.args.frame < length s.pair.rows) (sym c.self.view_is) c.requires.frame in
     let source = subst (λ (s : EngineState). IsSource s.pair.circuit c.args.variable) (sym c.self.view_is) c.requires.source in
-    source_readers_fit _ _ _ _ _ _ c.list-readers.result.now w c.list-readers.ensures (in_range _ _ _ _ _ _ _ w lt c.requires.positive source)
+    (c.self.inside.fanouts.levels, w.buckets, source_readers_fit _ _ _ _ _ _ c.list-readers.result.now w c.list-readers.ensures (in_range _ _ _ _ _ _ _ w lt c.requires.positive source))
 
 pub list_all-requires : goal.list_all-requires
 list_all-requires g c =
@@ -49,7 +49,7 @@ invariant_of-self g c =
     let put = put_work _ _ _ _ _ _ _ w lt c.requires.positive source _ _ c.args.value c.put_source.ensures.cells c.put_source.ensures.gates in
     record {
       work = source_linked _ _ _ _ _ _ c.list-readers.result.now put c.list-readers.ensures (in_range _ _ _ _ _ _ _ w lt c.requires.positive source)
-          c.link_all.new.self c.link_all.ensures.buckets c.link_all.ensures.links;
+          c.link_all.new.self (c.link_all.ensures.buckets _ w.buckets) c.link_all.ensures.links;
       lists = record {
         readers = c.self.invariant.lists.readers;
         here = c.self.invariant.lists.here;

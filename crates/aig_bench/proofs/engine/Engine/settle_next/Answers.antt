@@ -1,57 +1,62 @@
-use Rattle.std.proofs.Common.{◌<◌, length, refl, sym, subst, arith}
+use Rattle.std.proofs.Common.{ℕ, ◌<◌, length, Some, refl, sym, subst, arith}
 use Rattle.std.proofs.lemmas.Bool.{false≢true}
+use Rattle.aig_bench.specs.state.Buckets.{TakesVariable}
 use Rattle.aig_bench.specs.state.Engine.{EngineState}
 use Rattle.aig_bench.proofs.queues.Queued.{queued_count_less}
-use Rattle.aig_bench.proofs.passes.SweepSteps.{taken_cells, taken_work, queued_less, was_queued, queued_no_more, level_is, readers_fit, linked_work, linked_less, linked_no_more, written_work, sweeps_changed, sweeps_same, next_latches_changed, next_latches_unchanged, other_rows, taken_in_range}
+use Rattle.aig_bench.proofs.passes.SweepSteps.{taken_gate, taken_cells, taken_work, queued_less, was_queued, queued_no_more, level_is, readers_fit, linked_work, linked_less, linked_no_more, written_work, sweeps_changed, sweeps_same, next_latches_changed, next_latches_unchanged, other_rows, taken_in_range}
 use Rattle.aig_bench.proofs.engine.Engine.settle_next.Goals as goal
-
-pub returns-in_err-gate-clause-settles : goal.returns-in_err-gate-clause-settles
-returns-in_err-gate-clause-settles g c =
-    let w = c.self.invariant.work in
-    let takes = c.in_ok-variable.ensures c.self.inside.fanouts.levels w.buckets in
-    absurd (c.in_err-gate.ensures.none (w.gates _ takes.was_queued))
 
 pub evaluate-changed-requires-clause-gate : goal.evaluate-changed-requires-clause-gate
 evaluate-changed-requires-clause-gate g c =
     let w = c.self.invariant.work in
-    let takes = c.in_ok-variable.ensures c.self.inside.fanouts.levels w.buckets in
-    let (q, at, e) = c.in_ok-gate.ensures.found in
+    let took = c.in_ok-gate.ensures.takes c.self.inside.fanouts.levels w.buckets in
+    let (q, at) = taken_gate _ _ _ _ _ c.in_ok-gate.gate w took.was_queued c.in_ok-gate.ensures.even c.in_ok-gate.ensures.sides in
+    let e = sym c.var-variable.ensures in
+    let takes = subst (λ (z : ℕ). TakesVariable c.self.inside.fanouts.levels c.args.level c.self.inside.pending.buckets c.take.new.self (Some z)) e took in
     let lt = subst (λ (s : EngineState). c.args.frame < length s.pair.rows) (sym c.self.view_is) c.requires.frame in
     taken_cells _ _ _ _ _ _ _ _ _ q _ w lt takes at e
 
 pub list-readers-requires : goal.list-readers-requires
 list-readers-requires g c =
     let w = c.self.invariant.work in
-    let takes = c.in_ok-variable.ensures c.self.inside.fanouts.levels w.buckets in
-    let (q, at, e) = c.in_ok-gate.ensures.found in
+    let took = c.in_ok-gate.ensures.takes c.self.inside.fanouts.levels w.buckets in
+    let (q, at) = taken_gate _ _ _ _ _ c.in_ok-gate.gate w took.was_queued c.in_ok-gate.ensures.even c.in_ok-gate.ensures.sides in
+    let e = sym c.var-variable.ensures in
+    let takes = subst (λ (z : ℕ). TakesVariable c.self.inside.fanouts.levels c.args.level c.self.inside.pending.buckets c.take.new.self (Some z)) e took in
     let lt = subst (λ (s : EngineState). c.args.frame < length s.pair.rows) (sym c.self.view_is) c.requires.frame in
     omega (arith, taken_in_range _ _ _ _ _ _ _ _ _ q _ w lt takes at e, w.readers.size)
 
-pub link_all-requires-clause-fit : goal.link_all-requires-clause-fit
-link_all-requires-clause-fit g c =
+pub link_all-requires : goal.link_all-requires
+link_all-requires g c =
     let w = c.self.invariant.work in
-    let takes = c.in_ok-variable.ensures c.self.inside.fanouts.levels w.buckets in
-    let (q, at, e) = c.in_ok-gate.ensures.found in
+    let took = c.in_ok-gate.ensures.takes c.self.inside.fanouts.levels w.buckets in
+    let (q, at) = taken_gate _ _ _ _ _ c.in_ok-gate.gate w took.was_queued c.in_ok-gate.ensures.even c.in_ok-gate.ensures.sides in
+    let e = sym c.var-variable.ensures in
+    let takes = subst (λ (z : ℕ). TakesVariable c.self.inside.fanouts.levels c.args.level c.self.inside.pending.buckets c.take.new.self (Some z)) e took in
     let lt = subst (λ (s : EngineState). c.args.frame < length s.pair.rows) (sym c.self.view_is) c.requires.frame in
-    readers_fit _ _ _ _ _ _ _ _ _ q _ w lt takes at e c.list-readers.result.now c.list-readers.ensures
+    (c.self.inside.fanouts.levels, takes.buckets, readers_fit _ _ _ _ _ _ _ _ _ q _ w lt takes at e c.list-readers.result.now c.list-readers.ensures)
 
 pub list_all-requires : goal.list_all-requires
 list_all-requires g c =
     let w = c.self.invariant.work in
-    let takes = c.in_ok-variable.ensures c.self.inside.fanouts.levels w.buckets in
-    let (q, at, e) = c.in_ok-gate.ensures.found in
+    let took = c.in_ok-gate.ensures.takes c.self.inside.fanouts.levels w.buckets in
+    let (q, at) = taken_gate _ _ _ _ _ c.in_ok-gate.gate w took.was_queued c.in_ok-gate.ensures.even c.in_ok-gate.ensures.sides in
+    let e = sym c.var-variable.ensures in
+    let takes = subst (λ (z : ℕ). TakesVariable c.self.inside.fanouts.levels c.args.level c.self.inside.pending.buckets c.take.new.self (Some z)) e took in
     let lt = subst (λ (s : EngineState). c.args.frame < length s.pair.rows) (sym c.self.view_is) c.requires.frame in
     (c.self.inside.driven.circuit, c.self.invariant.lists.readers, taken_in_range _ _ _ _ _ _ _ _ _ q _ w lt takes at e, c.self.invariant.lists.ahead)
 
 pub invariant_of-self-then-changed : goal.invariant_of-self-then-changed
 invariant_of-self-then-changed g c =
     let w = c.self.invariant.work in
-    let takes = c.in_ok-variable.ensures c.self.inside.fanouts.levels w.buckets in
-    let (q, at, e) = c.in_ok-gate.ensures.found in
+    let took = c.in_ok-gate.ensures.takes c.self.inside.fanouts.levels w.buckets in
+    let (q, at) = taken_gate _ _ _ _ _ c.in_ok-gate.gate w took.was_queued c.in_ok-gate.ensures.even c.in_ok-gate.ensures.sides in
+    let e = sym c.var-variable.ensures in
+    let takes = subst (λ (z : ℕ). TakesVariable c.self.inside.fanouts.levels c.args.level c.self.inside.pending.buckets c.take.new.self (Some z)) e took in
     let lt = subst (λ (s : EngineState). c.args.frame < length s.pair.rows) (sym c.self.view_is) c.requires.frame in
     record {
       work = written_work _ _ _ _ _ _ _ _ _ q _ w lt takes at e _ c.if-changed.ensures.cells _ c.link_all.new.self c.if-changed.ensures.gates
-          (linked_work _ _ _ _ _ _ _ _ _ q _ w lt takes at e c.list-readers.result.now c.list-readers.ensures c.link_all.new.self c.link_all.ensures.buckets c.link_all.ensures.links);
+          (linked_work _ _ _ _ _ _ _ _ _ q _ w lt takes at e c.list-readers.result.now c.list-readers.ensures c.link_all.new.self (c.link_all.ensures.buckets _ takes.buckets) c.link_all.ensures.links);
       lists = record {
         readers = c.self.invariant.lists.readers;
         here = c.self.invariant.lists.here;
@@ -63,8 +68,10 @@ invariant_of-self-then-changed g c =
 pub invariant_of-self-else-changed : goal.invariant_of-self-else-changed
 invariant_of-self-else-changed g c =
     let w = c.self.invariant.work in
-    let takes = c.in_ok-variable.ensures c.self.inside.fanouts.levels w.buckets in
-    let (q, at, e) = c.in_ok-gate.ensures.found in
+    let took = c.in_ok-gate.ensures.takes c.self.inside.fanouts.levels w.buckets in
+    let (q, at) = taken_gate _ _ _ _ _ c.in_ok-gate.gate w took.was_queued c.in_ok-gate.ensures.even c.in_ok-gate.ensures.sides in
+    let e = sym c.var-variable.ensures in
+    let takes = subst (λ (z : ℕ). TakesVariable c.self.inside.fanouts.levels c.args.level c.self.inside.pending.buckets c.take.new.self (Some z)) e took in
     let lt = subst (λ (s : EngineState). c.args.frame < length s.pair.rows) (sym c.self.view_is) c.requires.frame in
     record {
       work = written_work _ _ _ _ _ _ _ _ _ q _ w lt takes at e _ c.if-changed.ensures.cells _ c.take.new.self c.if-changed.ensures.gates (taken_work _ _ _ _ _ _ _ _ _ q _ w lt takes at e);
@@ -79,18 +86,22 @@ invariant_of-self-else-changed g c =
 pub returns-then-changed-clause-fewer : goal.returns-then-changed-clause-fewer
 returns-then-changed-clause-fewer g c =
     let w = c.self.invariant.work in
-    let takes = c.in_ok-variable.ensures c.self.inside.fanouts.levels w.buckets in
-    let (q, at, e) = c.in_ok-gate.ensures.found in
+    let took = c.in_ok-gate.ensures.takes c.self.inside.fanouts.levels w.buckets in
+    let (q, at) = taken_gate _ _ _ _ _ c.in_ok-gate.gate w took.was_queued c.in_ok-gate.ensures.even c.in_ok-gate.ensures.sides in
+    let e = sym c.var-variable.ensures in
+    let takes = subst (λ (z : ℕ). TakesVariable c.self.inside.fanouts.levels c.args.level c.self.inside.pending.buckets c.take.new.self (Some z)) e took in
     let lt = subst (λ (s : EngineState). c.args.frame < length s.pair.rows) (sym c.self.view_is) c.requires.frame in
     rw (← c.self.view_is)
     (queued_count_less c.self.inside.fanouts.levels c.self.inside.pending.buckets.marks.items c.link_all.new.self.marks.items c.args.level _
-    w.buckets.chained.marks_size (linked_less _ _ _ _ _ _ _ _ _ q _ w lt takes at e c.list-readers.result.now c.list-readers.ensures c.link_all.new.self c.link_all.ensures.buckets c.link_all.ensures.links) (level_is _ _ _ _ _ _ _ _ _ q _ w lt takes at e) (was_queued _ _ _ _ _ _ _ _ _ q _ w lt takes at e) (linked_no_more _ _ _ _ _ _ _ _ _ q _ w lt takes at e c.list-readers.result.now c.list-readers.ensures c.link_all.new.self c.link_all.ensures.buckets c.link_all.ensures.links))
+    w.buckets.chained.marks_size (linked_less _ _ _ _ _ _ _ _ _ q _ w lt takes at e c.list-readers.result.now c.list-readers.ensures c.link_all.new.self (c.link_all.ensures.buckets _ takes.buckets) c.link_all.ensures.links) (level_is _ _ _ _ _ _ _ _ _ q _ w lt takes at e) (was_queued _ _ _ _ _ _ _ _ _ q _ w lt takes at e) (linked_no_more _ _ _ _ _ _ _ _ _ q _ w lt takes at e c.list-readers.result.now c.list-readers.ensures c.link_all.new.self (c.link_all.ensures.buckets _ takes.buckets) c.link_all.ensures.links))
 
 pub returns-else-changed-clause-fewer : goal.returns-else-changed-clause-fewer
 returns-else-changed-clause-fewer g c =
     let w = c.self.invariant.work in
-    let takes = c.in_ok-variable.ensures c.self.inside.fanouts.levels w.buckets in
-    let (q, at, e) = c.in_ok-gate.ensures.found in
+    let took = c.in_ok-gate.ensures.takes c.self.inside.fanouts.levels w.buckets in
+    let (q, at) = taken_gate _ _ _ _ _ c.in_ok-gate.gate w took.was_queued c.in_ok-gate.ensures.even c.in_ok-gate.ensures.sides in
+    let e = sym c.var-variable.ensures in
+    let takes = subst (λ (z : ℕ). TakesVariable c.self.inside.fanouts.levels c.args.level c.self.inside.pending.buckets c.take.new.self (Some z)) e took in
     let lt = subst (λ (s : EngineState). c.args.frame < length s.pair.rows) (sym c.self.view_is) c.requires.frame in
     rw (← c.self.view_is)
     (queued_count_less c.self.inside.fanouts.levels c.self.inside.pending.buckets.marks.items c.take.new.self.marks.items c.args.level _
@@ -99,8 +110,10 @@ returns-else-changed-clause-fewer g c =
 pub returns-then-changed-clause-settles : goal.returns-then-changed-clause-settles
 returns-then-changed-clause-settles g c =
     let w = c.self.invariant.work in
-    let takes = c.in_ok-variable.ensures c.self.inside.fanouts.levels w.buckets in
-    let (q, at, e) = c.in_ok-gate.ensures.found in
+    let took = c.in_ok-gate.ensures.takes c.self.inside.fanouts.levels w.buckets in
+    let (q, at) = taken_gate _ _ _ _ _ c.in_ok-gate.gate w took.was_queued c.in_ok-gate.ensures.even c.in_ok-gate.ensures.sides in
+    let e = sym c.var-variable.ensures in
+    let takes = subst (λ (z : ℕ). TakesVariable c.self.inside.fanouts.levels c.args.level c.self.inside.pending.buckets c.take.new.self (Some z)) e took in
     let lt = subst (λ (s : EngineState). c.args.frame < length s.pair.rows) (sym c.self.view_is) c.requires.frame in
     rw (← c.self.view_is, c.if-changed.true) (record {
       row = record {
@@ -120,8 +133,10 @@ returns-then-changed-clause-settles g c =
 pub returns-else-changed-clause-settles : goal.returns-else-changed-clause-settles
 returns-else-changed-clause-settles g c =
     let w = c.self.invariant.work in
-    let takes = c.in_ok-variable.ensures c.self.inside.fanouts.levels w.buckets in
-    let (q, at, e) = c.in_ok-gate.ensures.found in
+    let took = c.in_ok-gate.ensures.takes c.self.inside.fanouts.levels w.buckets in
+    let (q, at) = taken_gate _ _ _ _ _ c.in_ok-gate.gate w took.was_queued c.in_ok-gate.ensures.even c.in_ok-gate.ensures.sides in
+    let e = sym c.var-variable.ensures in
+    let takes = subst (λ (z : ℕ). TakesVariable c.self.inside.fanouts.levels c.args.level c.self.inside.pending.buckets c.take.new.self (Some z)) e took in
     let lt = subst (λ (s : EngineState). c.args.frame < length s.pair.rows) (sym c.self.view_is) c.requires.frame in
     rw (← c.self.view_is, c.if-changed.false) (record {
       row = record {

@@ -5,18 +5,22 @@ use Rattle.aig_bench.proofs.queues.Linked.{contains_at, links_none, links_more, 
 use Rattle.aig_bench.proofs.propagate.buckets.Buckets.link_all.Goals as goal
 
 pub loop-variable-init : goal.loop-variable-init
-loop-variable-init c = record { buckets = c.requires.buckets; links = links_none c.args.variables.now c.args.self.now }
+loop-variable-init c = record { buckets = λ levels h. h; links = links_none c.args.variables.now c.args.self.now }
 
-pub link-requires-clause-fits : goal.link-requires-clause-fits
-link-requires-clause-fits c =
-    let x = get_or c.args.variables.now c.loop-variable.variable-index 0 in
-    subst (λ n. CanBeQueued c.args.levels.now n x) (sym c.loop-variable.invariant.links.heads)
-    (c.requires.fit x (contains_at c.args.variables.now c.loop-variable.variable-index x
-    (slice_get-get_or c.args.variables.now c.loop-variable.variable-index 0 c.loop-variable-test.true)))
+pub link-requires : goal.link-requires
+link-requires c =
+    let (levels, h, fit) = c.requires in
+    let x = get_or c.args.variables.now c.loop-variable.variable-index 0 in (
+      levels,
+      c.loop-variable.invariant.buckets levels h,
+      subst (λ n. CanBeQueued levels n x) (sym c.loop-variable.invariant.links.heads)
+          (fit x (contains_at c.args.variables.now c.loop-variable.variable-index x
+          (slice_get-get_or c.args.variables.now c.loop-variable.variable-index 0 c.loop-variable-test.true))),
+    )
 
 pub loop-variable-preserved : goal.loop-variable-preserved
 loop-variable-preserved c = record {
-  buckets = c.link.ensures.buckets;
+  buckets = λ levels h. c.link.ensures.buckets levels (c.loop-variable.invariant.buckets levels h);
   links = links_more c.args.variables.now c.loop-variable.variable-index _ c.args.self.now c.loop-variable.self c.link.new.self
       (slice_get-get_or c.args.variables.now c.loop-variable.variable-index 0 c.loop-variable-test.true)
       c.loop-variable.invariant.links c.link.ensures.links;
