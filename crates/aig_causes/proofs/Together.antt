@@ -23,7 +23,7 @@ unfolding later AgreeOnInputs
 at_last raw m sources l h w known v n there agree inputs = h w known v n there agree
 
 -- a latch at the next frame has the value of its next state
-stepped : (raw : Raw) (circuit : IsCircuit raw) (m : Moment) (p : ℕ) (x : Latch) (w : Tern) → slice_get raw.latches p ≡ Some x
+pub stepped : (raw : Raw) (circuit : IsCircuit raw) (m : Moment) (p : ℕ) (x : Latch) (w : Tern) → slice_get raw.latches p ≡ Some x
     → Has raw (next m) x.lit w → Has raw m x.next w
 stepped raw circuit m p x w at v =
     let (y, here, below) = rests_at raw m.start m.rows circuit.sound (latch p) (x, at, refl) v in

@@ -1,5 +1,6 @@
 -- Which inputs and latches make a literal of a run what it is at a frame (our own choice).
 use Rattle.std.specs.Prelude.{◌≡◌, ◌≢◌, ℕ, ◌<◌, List, length, Contains, Some, slice_get}
+use Rattle.std.specs.List.Sorted.{IsStrictlyIncreasing}
 use Rattle.aig_parts.specs.declared.latch.Latch.{Latch}
 use Rattle.aig_parts.specs.declared.raw.Raw.{Raw}
 use Rattle.aig_parts.specs.declared.ternary.Tern.{Tern}
@@ -64,3 +65,8 @@ ExplainUnknown raw m sources l =
 pub record AreThere (raw : Raw) (sources : Sources) : Type 0 where
   pub inputs : (p : ℕ) → Contains sources.inputs p → p < length raw.inputs
   pub latches : (p : ℕ) → Contains sources.latches p → p < length raw.latches
+
+-- each of these inputs and latches once, the smallest position first
+pub record AreInOrder (sources : Sources) : Type 0 where
+  pub inputs : IsStrictlyIncreasing sources.inputs
+  pub latches : IsStrictlyIncreasing sources.latches

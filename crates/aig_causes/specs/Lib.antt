@@ -1,3 +1,4 @@
 pub mod Causes
+pub mod Explanation
 pub mod Lines
 pub mod state

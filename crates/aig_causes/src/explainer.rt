@@ -3,7 +3,7 @@ ghost use Rattle.std.specs.Prelude.{◌≡◌, ◌+◌, ◌<◌, ◌≤◌, leng
 ghost use Rattle.aig_parts.specs.Literal.{variable};
 ghost use Rattle.aig_base.specs.Sections.{IsDefined};
 ghost use Rattle.aig_base.specs.Sound.{IsInRange};
-ghost use Rattle.aig_causes.specs.Causes.{AreThere, Explain, ExplainUnknown, moment};
+ghost use Rattle.aig_causes.specs.Causes.{AreInOrder, AreThere, Explain, ExplainUnknown, moment};
 
 use crate::causes::Causes;
 use crate::walker::Walker;
@@ -41,7 +41,7 @@ impl Explainer {
         Ok(Explainer { walker })
     }
 
-    /// Inputs and latches that explain what these literals are at a frame, each list in order. Of a gate that is 1 both
+    /// Inputs and latches that explain what these literals are at a frame, in order. Of a gate that is 1 both
     /// sides count, of one that is 0 one side that is 0, and of one that is x each side that is x. Of two sides that are
     /// 0 it takes the lighter one, or one that is known already; the contract leaves that open (our own choice).
     ///
@@ -62,6 +62,7 @@ impl Explainer {
         ensures unknown { IfOk result (λ causes.
             All (ExplainUnknown bench.now.pair.circuit (moment bench.now.pair frame) causes) literals.now) }
         ensures there { IfOk result (AreThere bench.now.pair.circuit) }
+        ensures order { IfOk result AreInOrder }
         ensures size { self.new ≡ self.old }
     {
         // Its contract says that it is a circuit.

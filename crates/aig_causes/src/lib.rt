@@ -3,6 +3,11 @@
 
 mod causes;
 mod explainer;
+mod explanation;
+mod kept;
+mod latch_set;
+mod latches;
+mod line;
 mod line_laws;
 mod sides;
 mod visited;
@@ -11,4 +16,6 @@ mod weights;
 
 pub use causes::Causes;
 pub use explainer::Explainer;
-pub use line_laws::law_of_lines;
+pub use explanation::Explanation;
+pub use line::Line;
+pub use line_laws::{law_of_explanations, law_of_lines};

@@ -18,7 +18,6 @@ use aig_values::gate_order::reordered;
 use std::alloc::Global;
 
 /// What is kept from walk to walk, and the state of one.
-#[derive(Drop)]
 pub struct Walker {
     pub visited: Visited,
     /// The variables that are still to be visited, the next one last.
@@ -29,6 +28,20 @@ pub struct Walker {
     pub weighed: Option<u32>,
     /// The gates in an order in which they can be evaluated, where they are in none.
     pub order: Option<List<Gate>>,
+}
+
+// By hand: a value then ends in one call, which is one step of a proof (docs/PROOFS.md, Habits).
+impl Drop for Walker {
+    fn drop(self) {
+        let Walker {
+            visited: _,
+            todo: _,
+            found: _,
+            weights: _,
+            weighed: _,
+            order: _,
+        } = self;
+    }
 }
 
 // Whether a variable is an input or a latch.

@@ -1,6 +1,5 @@
-use Rattle.std.proofs.Common.{◌<◌, ◌≤◌, All, Contains, length, refl, sym, ◌∙◌, subst}
+use Rattle.std.proofs.Common.{◌≤◌, Contains, refl, sym, ◌∙◌, subst}
 use Rattle.std.proofs.lemmas.List.Elements.{All-contains}
-use Rattle.std.proofs.lemmas.List.Sorted.{All-permutation, Contains-permutation}
 use Rattle.aig_parts.specs.Literal.{variable}
 use Rattle.aig_base.specs.Sections.{IsDefined}
 use Rattle.aig_base.proofs.lists.Gets.{All-by_get, Contains-from_get}
@@ -30,10 +29,8 @@ returns-clause-known g c =
     All-by_get (λ l. Explain p.circuit m sorted l) literals (λ k l at.
     let inside = Contains-from_get literals k l at in
     explain_more p.circuit m found sorted
-    (λ q h. Contains-permutation c.replace-causes.result.inputs sorted.inputs q c.sort.ensures.inputs
-    (subst (λ (z : Sources). Contains z.inputs q) (sym value) h))
-    (λ q h. Contains-permutation c.replace-causes.result.latches sorted.latches q c.sort.ensures.latches
-    (subst (λ (z : Sources). Contains z.latches q) (sym value) h)) l
+    (λ q h. (c.sort.ensures.inputs q).1 (subst (λ (z : Sources). Contains z.inputs q) (sym value) h))
+    (λ q h. (c.sort.ensures.latches q).1 (subst (λ (z : Sources). Contains z.latches q) (sym value) h)) l
     (explains p.circuit c.width.ensures.circuit m (walk_of c.walk.new.self) c.in_ok-walk.ensures.walk c.in_ok-walk.ensures.done l
     (All-contains (λ j. IsDefined p.circuit (variable j)) literals l c.requires.defined inside)
     (c.in_ok-walk.ensures.reached l inside)))
@@ -49,10 +46,8 @@ returns-clause-unknown g c =
     All-by_get (λ l. ExplainUnknown p.circuit m sorted l) literals (λ k l at.
     let inside = Contains-from_get literals k l at in
     explain_unknown_more p.circuit m found sorted
-    (λ q h. Contains-permutation c.replace-causes.result.inputs sorted.inputs q c.sort.ensures.inputs
-    (subst (λ (z : Sources). Contains z.inputs q) (sym value) h))
-    (λ q h. Contains-permutation c.replace-causes.result.latches sorted.latches q c.sort.ensures.latches
-    (subst (λ (z : Sources). Contains z.latches q) (sym value) h)) l
+    (λ q h. (c.sort.ensures.inputs q).1 (subst (λ (z : Sources). Contains z.inputs q) (sym value) h))
+    (λ q h. (c.sort.ensures.latches q).1 (subst (λ (z : Sources). Contains z.latches q) (sym value) h)) l
     (explains_unknown p.circuit c.width.ensures.circuit m (walk_of c.walk.new.self) c.in_ok-walk.ensures.walk
     c.in_ok-walk.ensures.done l
     (All-contains (λ j. IsDefined p.circuit (variable j)) literals l c.requires.defined inside)
@@ -60,22 +55,11 @@ returns-clause-unknown g c =
 
 pub returns-clause-there : goal.returns-clause-there
 returns-clause-there g c =
-    let raw = c.args.bench.now.pair.circuit in
-    let given = c.replace-causes.result in
     let value = c.replace-causes.ensures.value in
     let walk = c.in_ok-walk.ensures.walk in
-    let inputs : All (λ q. q < length raw.inputs) given.inputs =
-    All-by_get (λ q. q < length raw.inputs) given.inputs (λ k q at.
-    walk.inputs q (subst (λ (z : Sources). Contains z.inputs q) value (Contains-from_get given.inputs k q at))) in
-    let latches : All (λ q. q < length raw.latches) given.latches =
-    All-by_get (λ q. q < length raw.latches) given.latches (λ k q at.
-    walk.latches q (subst (λ (z : Sources). Contains z.latches q) value (Contains-from_get given.latches k q at))) in
     record {
       inputs = λ q h.
-          All-contains (λ k. k < length raw.inputs) c.sort.new.self.inputs q
-          (All-permutation (λ k. k < length raw.inputs) given.inputs c.sort.new.self.inputs c.sort.ensures.inputs inputs) h;
+          walk.inputs q (subst (λ (z : Sources). Contains z.inputs q) value ((c.sort.ensures.inputs q).0 h));
       latches = λ q h.
-          All-contains (λ k. k < length raw.latches) c.sort.new.self.latches q
-          (All-permutation (λ k. k < length raw.latches) given.latches c.sort.new.self.latches c.sort.ensures.latches latches)
-          h;
+          walk.latches q (subst (λ (z : Sources). Contains z.latches q) value ((c.sort.ensures.latches q).0 h));
     }
