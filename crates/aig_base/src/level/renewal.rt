@@ -64,14 +64,7 @@ pub(crate) fn renew<C: LevelCopy>(
 {
     circuit.facts();
     let level = level_over(levels, changed);
-    set_level(
-        readers,
-        levels,
-        copy,
-        worklist,
-        changed.lhs.var(),
-        level,
-    );
+    set_level(readers, levels, copy, worklist, changed.lhs.var(), level);
     while let Some(variable) = worklist.queue.pop() {
         if let Some(gate) = circuit.gate_of(variable) {
             let level = level_over(levels, &gate);

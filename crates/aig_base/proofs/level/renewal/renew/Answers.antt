@@ -76,14 +76,14 @@ set_level-requires-clause-within g c =
 pub loop-variable-init : goal.loop-variable-init
 loop-variable-init g c = record {
   pass = passed_first c.args.circuit.now c.facts.ensures c.args.changed.now.lhs c.args.changed.now.rhs0
-    c.args.changed.now.rhs1
-    c.requires.changed.gate c.requires.changed.defined0 c.requires.changed.defined1 c.requires.changed.apart0
-    c.requires.changed.apart1 c.args.levels.now
-    c.requires.levels
-    c.args.readers.now c.requires.readers
-    c.set_level.new.levels c.args.worklist.now.visits c.set_level.new.worklist.visits c.args.worklist.now.queue
-    c.set_level.new.worklist.queue
-    c.requires.idle.visits c.requires.idle.queue (rw (c.var.ensures, c.level_over-level.ensures) at c.set_level.ensures.sets);
+      c.args.changed.now.rhs1
+      c.requires.changed.gate c.requires.changed.defined0 c.requires.changed.defined1 c.requires.changed.apart0
+      c.requires.changed.apart1 c.args.levels.now
+      c.requires.levels
+      c.args.readers.now c.requires.readers
+      c.set_level.new.levels c.args.worklist.now.visits c.set_level.new.worklist.visits c.args.worklist.now.queue
+      c.set_level.new.worklist.queue
+      c.requires.idle.visits c.requires.idle.queue (rw (c.var.ensures, c.level_over-level.ensures) at c.set_level.ensures.sets);
   copy = c.set_level.ensures.copy;
   rest = c.set_level.ensures.rest;
 }
@@ -236,19 +236,19 @@ loop-variable-smaller-in-Some-gate_of g c =
 pub loop-variable-preserved-in-Some-gate_of : goal.loop-variable-preserved-in-Some-gate_of
 loop-variable-preserved-in-Some-gate_of g c = record {
   pass = passed_more c.args.circuit.now c.facts.ensures c.args.changed.now.lhs c.args.changed.now.rhs0
-    c.args.changed.now.rhs1
-    c.requires.changed.gate c.requires.changed.defined0 c.requires.changed.defined1 c.requires.changed.apart0
-    c.requires.changed.apart1 c.args.levels.now
-    c.requires.levels
-    c.args.readers.now c.requires.readers
-    c.loop-variable.levels c.loop-variable.worklist.visits c.loop-variable.worklist.queue c.pop.new.self
-    c.loop-variable.invariant.pass c.in-Some.ensures.some.0 c.in-Some.variable c.in-Some.ensures.some.1
-    c.in-Some.ensures.some.2
-    c.in-Some.ensures.capacity
-    c.in-Some-gate_of.ensures.found.0 c.in-Some-gate_of.gate
-    c.in-Some-gate_of.ensures.found.1 c.in-Some-gate_of.ensures.found.2
-    c.set_level-in-Some-gate_of.new.levels c.set_level-in-Some-gate_of.new.worklist.visits c.set_level-in-Some-gate_of.new.worklist.queue
-    (rw c.level_over-level-in-Some-gate_of.ensures at c.set_level-in-Some-gate_of.ensures.sets);
+      c.args.changed.now.rhs1
+      c.requires.changed.gate c.requires.changed.defined0 c.requires.changed.defined1 c.requires.changed.apart0
+      c.requires.changed.apart1 c.args.levels.now
+      c.requires.levels
+      c.args.readers.now c.requires.readers
+      c.loop-variable.levels c.loop-variable.worklist.visits c.loop-variable.worklist.queue c.pop.new.self
+      c.loop-variable.invariant.pass c.in-Some.ensures.some.0 c.in-Some.variable c.in-Some.ensures.some.1
+      c.in-Some.ensures.some.2
+      c.in-Some.ensures.capacity
+      c.in-Some-gate_of.ensures.found.0 c.in-Some-gate_of.gate
+      c.in-Some-gate_of.ensures.found.1 c.in-Some-gate_of.ensures.found.2
+      c.set_level-in-Some-gate_of.new.levels c.set_level-in-Some-gate_of.new.worklist.visits c.set_level-in-Some-gate_of.new.worklist.queue
+      (rw c.level_over-level-in-Some-gate_of.ensures at c.set_level-in-Some-gate_of.ensures.sets);
   copy = c.set_level-in-Some-gate_of.ensures.copy;
   rest = c.set_level-in-Some-gate_of.ensures.rest ∙ c.loop-variable.invariant.rest;
 }
