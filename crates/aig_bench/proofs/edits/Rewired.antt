@@ -15,6 +15,7 @@ use Rattle.aig_base.specs.Sections.{definitions, IsDefined, IsGate, IsLeftSide}
 use Rattle.aig_base.proofs.rewires.Rewiring.{with_gate-circuit}
 use Rattle.aig_base.proofs.lists.Gets.{get_from_Contains}
 use Rattle.aig_base.proofs.checks.Marking.{slice_get_unmap}
+use Rattle.aig_base.proofs.checks.Walks.{gate_old, the_gate}
 use Rattle.aig_base.specs.Sound.{IsSound}
 use Rattle.aig_base.proofs.circuits.Circuits.{gate_is}
 use Rattle.aig_base.proofs.circuits.Gates.{same_gate}
@@ -90,14 +91,13 @@ pub sides_rewired : (raw : Raw) (sides : List Sides) (lhs r0 r1 : ℕ) → IsSou
 sides_rewired raw sides lhs r0 r1 sound left have = record {
   size = length-set sides (variable lhs) (record { rhs0 = r0; rhs1 = r1 }) ∙ have.size;
   each = λ q g at.
-      let (x, here, is) = slice_get_unmap (rewired lhs r0 r1) raw.gates q g at in
+      let (x, here, is) = gate_old raw sound lhs r0 r1 left q g at in
       subst (λ (y : Gate). slice_get (with_pair sides lhs r0 r1) (variable y.lhs) ≡ Some (sides_of y)) is (of_gate q x here (eqb_tells x.lhs lhs));
 }
   where
     one_left : (x : Gate) (q : ℕ) → slice_get raw.gates q ≡ Some x → variable x.lhs ≡ variable lhs → x.lhs ≡ lhs
     one_left x q here same =
-        let (k, there) = get_from_Contains (map (λ (g : Gate). g.lhs) raw.gates) lhs left in
-        let (y, found, e) = slice_get_unmap (λ (g : Gate). g.lhs) raw.gates k lhs there in
+        let (y, k, found, e) = the_gate raw sound lhs r0 r1 left in
         let one : x ≡ y = same_gate raw sound q k x y here found (same ∙ ap variable (sym e)) in
         ap (λ (g : Gate). g.lhs) one ∙ e
 
