@@ -6,11 +6,22 @@ use std::marker::Model;
 
 /// Latches of a frame, and what explains them at the frame before. Contracts see both, and whether the latches keep their
 /// values.
-#[derive(Drop, Debug)]
+#[derive(Debug)]
 pub struct Line {
     latches: Vec<u32>,
     causes: Causes,
     kept: bool,
+}
+
+// By hand: a value then ends in one call, which is one step of a proof (docs/PROOFS.md, Habits).
+impl Drop for Line {
+    fn drop(self) {
+        let Line {
+            latches: _,
+            causes: _,
+            kept: _,
+        } = self;
+    }
 }
 
 impl Model for Line {
