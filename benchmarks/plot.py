@@ -43,13 +43,16 @@ def curve(points, colour, dashes):
     return [f'<polyline points="{path}" fill="none" stroke="{colour}" stroke-width="2"{dashes}/>', *dots]
 
 
-def apart(places, least):
-    """The places of labels, from the top down, with so much room between two."""
+def apart(places, least, lowest):
+    """The places of labels with so much room between two, none of them below the lowest place."""
     found = {}
     below = -math.inf
     for name, place in sorted(places.items(), key=lambda each: each[1]):
         below = max(place, below + least)
         found[name] = below
+    for name in reversed(found):
+        found[name] = lowest = min(found[name], lowest)
+        lowest -= least
     return found
 
 
@@ -67,7 +70,7 @@ def drawn(series, across, up):
         x = counts.place(10.0 ** power)
         parts += [line(x, TOP, x, HEIGHT - BOTTOM, "#dddddd"), text(x, HEIGHT - BOTTOM + 18, COUNTS[power], "middle")]
     parts += [text((LEFT + WIDTH - RIGHT) / 2, HEIGHT - 10, across, "middle"), text(LEFT, TOP - 6, up)]
-    labels = apart({name: times.place(each[-1][1]) for name, each in series.items()}, 15)
+    labels = apart({name: times.place(each[-1][1]) for name, each in series.items()}, 15, HEIGHT - BOTTOM - 4)
     for at, (name, each) in enumerate(series.items()):
         colour = COLOURS[at % len(COLOURS)]
         dashes = ' stroke-dasharray="5 4"' if at >= 4 else ""
