@@ -16,7 +16,7 @@ use Rattle.aig_base.specs.Value.{Value, start_of, reset_value}
 use Rattle.aig_base.proofs.circuits.Circuits.{latch_definition}
 use Rattle.aig_base.proofs.circuits.Places as places
 use Rattle.aig_base.proofs.values.Refined.{AllZip-slice_get}
-use Rattle.aig_reduce.specs.state.Reducing.{IsSameLatch, HasOtherResets}
+use Rattle.aig_reduce.specs.Resets.{IsSameLatch, HasOtherResets}
 use Rattle.aig_reduce.proofs.RunLemmas.{zip_length}
 
 -- ---- values do not depend on resets

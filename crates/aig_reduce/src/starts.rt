@@ -3,7 +3,7 @@ ghost use Rattle.std.specs.Prelude.{◌≡◌, ◌<◌, ◌≤◌, ◌↔◌, le
 ghost use Rattle.aig_parts.specs.declared.latch.Latch.{Latch};
 ghost use Rattle.aig_base.specs.Circuit.{IsCircuit};
 ghost use Rattle.aig_base.specs.Value.{start_of};
-ghost use Rattle.aig_reduce.specs.state.Reducing.{HasOtherResets};
+ghost use Rattle.aig_reduce.specs.Resets.{HasOtherResets};
 
 use crate::place::Place;
 use aig_base::{Circuit, Latch, Tern};

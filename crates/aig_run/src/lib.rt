@@ -8,6 +8,7 @@ mod property;
 mod run_fault;
 mod script_fault;
 mod stimulus_file;
+mod why_fault;
 
 pub use circuit_file::read_circuit;
 pub use output::{as_output, flushed};
@@ -15,3 +16,4 @@ pub use property::position_in;
 pub use run_fault::RunFault;
 pub use script_fault::ScriptFault;
 pub use stimulus_file::read_rows;
+pub use why_fault::WhyFault;

@@ -3,6 +3,7 @@ ghost use Rattle.std.specs.Prelude.{◌≡◌};
 ghost use Rattle.aig_run.specs.Status.{status_of};
 
 use crate::script_fault::ScriptFault;
+use crate::why_fault::WhyFault;
 use aig_base::{Fault, Memory, SelectFault};
 use aig_bench::BenchFault;
 use aig_certificate::StrengthenFault;
@@ -58,6 +59,9 @@ pub enum RunFault {
     /// The property that a text names.
     #[error("property: {0}")]
     Property(PropertyFault),
+    /// The value that is to be explained.
+    #[error("why: {0}")]
+    Why(WhyFault),
 }
 
 impl RunFault {
@@ -95,7 +99,8 @@ impl RunFault {
             | RunFault::Certificate(_)
             | RunFault::Strengthen(_)
             | RunFault::Names(_)
-            | RunFault::Property(_) => 1,
+            | RunFault::Property(_)
+            | RunFault::Why(_) => 1,
         }
     }
 }

@@ -99,6 +99,7 @@ fn explain_fault<R: Files + AllocGlobal + Print + Eprint>(
         RunFault::Strengthen(fault) => explain_strengthening(rt, files, fault),
         RunFault::Names(fault) => explain_names(rt, files, fault),
         RunFault::Property(fault) => explain_property(rt, files.circuit, fault),
+        RunFault::Why(_) => {}
         RunFault::Output => of_output(rt, files),
         RunFault::Memory => note(rt, MORE_MEMORY),
     }

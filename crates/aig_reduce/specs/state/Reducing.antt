@@ -1,7 +1,5 @@
 -- A witness on a bench, whose values are tried one after the other.
 use Rattle.std.specs.Prelude.{◌≡◌, ◌≢◌, ℕ, ◌-◌, ◌<◌, ◌≤◌, List, [], ◌∷◌, length, Some, slice_get}
-use Rattle.std.specs.List.{AllZip}
-use Rattle.aig_parts.specs.declared.latch.Latch.{Latch}
 use Rattle.aig_parts.specs.declared.ternary.Tern.{Tern}
 use Rattle.aig_parts.specs.declared.ternary.Tern.TheVariants.{One}
 use Rattle.aig_parts.specs.declared.raw.Raw.{Raw}
@@ -14,20 +12,8 @@ use Rattle.aig_values.specs.InputRows.{HaveWidth, with_cell}
 use Rattle.aig_bench.specs.BenchState.{CircuitAndRows}
 use Rattle.aig_reduce.specs.Irreducible.{IsConfirmedWitness}
 use Rattle.aig_reduce.specs.Reduction.{values_of, witness_of}
+use Rattle.aig_reduce.specs.Resets.{HasOtherResets}
 use Rattle.aig_reduce.specs.state.Places.{AreTried, Tries}
-
--- a latch with the same literals but for its reset
-abbrev pub IsSameLatch : Latch → Latch → Type 0
-IsSameLatch x y = (y.lit ≡ x.lit) × (y.next ≡ x.next)
-
--- the second circuit differs by the resets of its latches, as far as values and verdicts go
-pub record HasOtherResets (raw other : Raw) : Type 0 where
-  pub inputs : other.inputs ≡ raw.inputs
-  pub latches : AllZip IsSameLatch raw.latches other.latches
-  pub bad : other.bad ≡ raw.bad
-  pub constraints : other.constraints ≡ raw.constraints
-  pub gates : other.gates ≡ raw.gates
-  pub size : other.max_var ≡ raw.max_var
 
 -- a pair that runs a circuit from a start
 pub record Runs (raw : Raw) (pair : CircuitAndRows) (start : List Tern) : Type 0 where

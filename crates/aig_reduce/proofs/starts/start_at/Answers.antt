@@ -5,7 +5,7 @@ use Rattle.aig_parts.specs.declared.ternary.Tern.TheVariants.{Zero}
 use Rattle.aig_base.specs.Changes.{with_reset}
 use Rattle.aig_base.specs.Value.{start_of}
 use Rattle.aig_values.proofs.Evaluation.{item_at}
-use Rattle.aig_reduce.specs.state.Reducing.{HasOtherResets}
+use Rattle.aig_reduce.specs.Resets.{HasOtherResets}
 use Rattle.aig_reduce.proofs.Resets.{latches_length, no_other_resets, other_reset_more, start_more}
 use Rattle.aig_reduce.proofs.starts.start_at.Goals as goal
 

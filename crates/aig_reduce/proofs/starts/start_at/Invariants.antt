@@ -1,6 +1,6 @@
 use Rattle.std.proofs.Common.{◌≡◌, ◌++◌, take, drop}
 use Rattle.aig_base.specs.Value.{start_of}
-use Rattle.aig_reduce.specs.state.Reducing.{HasOtherResets}
+use Rattle.aig_reduce.specs.Resets.{HasOtherResets}
 use Rattle.aig_reduce.proofs.starts.start_at.Given as goal
 
 abbrev pub invariant-loop-position : goal.invariant-loop-position
