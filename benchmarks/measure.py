@@ -770,9 +770,9 @@ class Pair:
 
     @staticmethod
     def answer(program, words):
-        """A run's status, and what it writes and says. The C++ program does not write the first line of a formula."""
+        """A run's status, and what it writes and says."""
         ran = subprocess.run([program, *words], stdin=subprocess.DEVNULL, capture_output=True, check=False)
-        return ran.returncode, re.sub(rb"\Ac aig cnf .*\n", b"", ran.stdout), ran.stderr
+        return ran.returncode, ran.stdout, ran.stderr
 
     def compare(self, note, words, other_words=None):
         one, other = self.answer(self.aig, words), self.answer(self.tuned, other_words or words)
@@ -807,11 +807,13 @@ class Pair:
         self.compare(note, words, ["induction", "0", "certificate", "model"])
 
     def case(self, sources, designs, rng, note):
-        """A circuit, a stimulus and a script, most of them broken. The C++ program unrolls nothing."""
+        """A circuit, a stimulus and a script, most of them broken. The C++ program's bench unrolls nothing."""
         whole = rng.choice((rng.choice(sources), broken.circuit(rng), broken.circuit(rng)))
         other = rng.choice((rng.choice(sources), broken.circuit(rng), rng.choice(designs)))
         data = broken.changed(rng, whole, other)
         write("circuit", data)
+        words = ["cnf", "--frames", "2", "circuit"]
+        self.compare(note, words, ["cnf", "2", "0", "circuit"])
         status, binary, _ = self.conversions(note, "circuit")
         if status == 0:
             write("binary", binary)

@@ -9,6 +9,7 @@ import argparse
 import concurrent.futures
 import os
 import re
+import shutil
 import subprocess
 import sys
 import time
@@ -21,11 +22,13 @@ SCRIPTS = ("run_program.py", "run_faults.py", "run_random.py", "run_library.py",
 STEPS = "run_steps.py"
 # this runs the package of Python
 PACKAGE = "python/tests/run_package.py"
+# this compares with the C++ program of the benchmarks on broken files
+COMPARED = ("benchmarks/measure.py", "compare", "--count", "40")
 # these read the sources and pages alone
 READERS = ("tools/definitions.py", "tools/contracts.py", "tools/edges.py", "tests/calling.py")
 CRATES = ("aig_tests", "aig_command_tests", "aig_bench_tests")
 COUNTS = re.compile(r"(\d+) passed[,;] (\d+) failed")
-SHOWN = re.compile(r"(?m)^.*(?: passed[,;] |left out|to believe|as the sources).*\n")
+SHOWN = re.compile(r"(?m)^.*(?: passed[,;] |left out|to believe|as the sources| compared, ).*\n")
 
 
 def ended(name, words, folder):
@@ -52,6 +55,11 @@ def main():
     lanes = [[(name, [f"{TESTS}/{name}", *program], REPOSITORY) for name in names] for names in ([LARGE], SCRIPTS)]
     steps = [f"{os.path.dirname(program[0])}/aig_proof_tests"] if program else []
     lanes[1] += [(STEPS, [f"{TESTS}/{STEPS}", *steps], REPOSITORY)]
+    if shutil.which("c++"):
+        named = [word for it in program for word in ("--aig", it)]
+        lanes[1] += [("compare", [f"{REPOSITORY}/{COMPARED[0]}", *COMPARED[1:], *named], REPOSITORY)]
+    else:
+        print("compare: left out: there is no c++", flush=True)
     lanes[1] += [(PACKAGE, [f"{REPOSITORY}/{PACKAGE}", *program], REPOSITORY)]
     lanes[1] += [(name, [f"{REPOSITORY}/{name}"], REPOSITORY) for name in READERS]
     if chosen.crates:

@@ -147,7 +147,9 @@ public:
         find_cone();
     }
 
-    void write() {
+    // The property is the model's, with its name there.
+    void write(uint32_t property, std::string_view name) {
+        put_heading("--certificate ", property, name);
         put_comments();
         uint32_t first = 2 * uint32_t(circuit.inputs.size()) + 1, resets = 0;
         for (const Latch& latch : circuit.latches) resets += latch.reset != latch.lit;

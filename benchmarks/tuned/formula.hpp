@@ -7,19 +7,22 @@
 #include "writer.hpp"
 
 #include <initializer_list>
+#include <string>
 #include <string_view>
 #include <utility>
 #include <vector>
 
-// The names of a circuit's inputs and latches.
+// The names of a circuit's inputs, latches and bad state properties.
 struct Names {
-    std::vector<std::string_view> of_inputs, of_latches;
+    std::vector<std::string_view> of_inputs, of_latches, of_bad;
 
-    explicit Names(const Circuit& circuit) : of_inputs(circuit.inputs.size()), of_latches(circuit.latches.size()) {
+    explicit Names(const Circuit& circuit)
+        : of_inputs(circuit.inputs.size()), of_latches(circuit.latches.size()), of_bad(circuit.bad.size()) {
         const char* name = circuit.names.begin();
         for (const Symbol& symbol : circuit.symbols) {
             if (symbol.kind == 'i') of_inputs[symbol.position] = {name, symbol.length};
             if (symbol.kind == 'l') of_latches[symbol.position] = {name, symbol.length};
+            if (symbol.kind == 'b') of_bad[symbol.position] = {name, symbol.length};
             name += symbol.length;
         }
     }
@@ -31,6 +34,16 @@ protected:
     explicit Dimacs(Output& out) : out(out) {}
 
     Output& out;
+
+    void put_text(std::string_view text) { out.put(text.data(), text.size()); }
+
+    // The line that says what was asked for.
+    void put_heading(std::string_view options, uint32_t property, std::string_view name) {
+        put_text("c aig cnf ");
+        put_text(options);
+        put_text("--property ");
+        put_named(property, name);
+    }
 
     void put_input(uint32_t variable, uint32_t frame, uint32_t place, std::string_view name) {
         out.put("c i ", 4);
@@ -59,7 +72,7 @@ protected:
 
     void put_named(uint32_t place, std::string_view name) {
         put_number_field(place);
-        out.put(name.data(), name.size());
+        put_text(name);
         out.put('\n');
     }
 
@@ -123,8 +136,9 @@ public:
 
     void write() {
         Array<Gate> gates = Levels(circuit).ordered_gates();
-        origins();
         std::vector<uint32_t> goals = goals_of(gates);
+        put_heading("--frames " + std::to_string(frames) + " ", property, Names(circuit).of_bad[property]);
+        origins();
         for (uint32_t frame = 0; frame < frames; ++frame) put_goal(goals[frame], frame);
         put_head(variables(), uint32_t(3 * frames * size + 2));
         clause({1});

@@ -63,8 +63,10 @@ static void induction(char** words, Output& out) {
     Circuit model = read_circuit(model_source);
     check_cycles(model);
     Circuit certificate = read_certificate(source);
-    Strengthened made(std::move(model), number_of(words[0]), certificate);
-    Induction(made.circuit, out).write();
+    uint32_t property = number_of(words[0]);
+    std::string name(property < model.bad.size() ? Names(model).of_bad[property] : "");
+    Strengthened made(std::move(model), property, certificate);
+    Induction(made.circuit, out).write(property, name);
 }
 
 static void refute_by(Proof& proof, Refutation& refutation) {
