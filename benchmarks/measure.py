@@ -3,6 +3,7 @@
 
 Tables:
   goals      one job of each kind beside the ratio that it is meant to have: the table of PERFORMANCE.md
+  counts     instructions and misses of these jobs, by cachegrind, whatever else the machine does (some 20 minutes)
   ratios     aig / C++, of conversions, simulations and questions (--jobs and --shapes pick, --list names them)
   edits      aig / C++, of edits of every kind on copies of a cipher
   benches    aig / C++, making a bench of a million gates
@@ -20,11 +21,11 @@ and, which is no table,
              statuses
 
 It measures the program that --aig names, else the proved crates/aig/out/aig; where that is not there, one is built
-without proofs. It needs c++, 1 GB for files and, for growth, grids and what is built without proofs, rt; for refute
-yosys and cadical, without which that table has no rows. What it builds
-and makes is put into the folder that --room names, for the next call, else into a temporary one. A time is the
-processor time of the whole process, the least of --times runs; where two programs are compared their runs take turns,
-so that a disturbance meets both."""
+without proofs. It needs c++, 1 GB for files and, for growth, grids and what is built without proofs, rt; for counts
+valgrind; for refute yosys and cadical, without which that table has no rows. What it builds and makes is put into the
+folder that --room names, for the next call, else into a temporary one. A time is the processor time of the whole
+process, the least of --times runs; where two programs are compared their runs take turns, so that a disturbance meets
+both."""
 
 import argparse
 import filecmp
@@ -131,6 +132,10 @@ def empty():
 
 # ---- times
 
+CACHEGRIND = ("valgrind", "--tool=cachegrind", "--cache-sim=yes", "--I1=32768,8,64", "--D1=32768,8,64",
+              "--LL=1048576,16,64")
+
+
 class Run:
     """What a run of a program took."""
 
@@ -150,6 +155,15 @@ def least(times, *runs):
     for _ in range(times):
         found = [min(old, Run(words).seconds) for old, words in zip(found, runs)]
     return found
+
+
+def counted(words):
+    """The instructions of a run and its misses of a cache of 1 MB, by cachegrind."""
+    with tempfile.NamedTemporaryFile("r", dir=".", encoding="ascii") as file:
+        Run([*CACHEGRIND, f"--cachegrind-out-file={file.name}", *words])
+        lines = dict(line.split(": ", 1) for line in file if line.startswith(("events: ", "summary: ")))
+    numbers = dict(zip(lines["events"].split(), map(int, lines["summary"].split())))
+    return numbers["Ir"], numbers["DLmr"] + numbers["DLmw"]
 
 
 def same(one, other):
@@ -212,20 +226,30 @@ class Job:
         self.name, self.shape, self.goal = name, shape, goal
         self.words, self.idle, self.units, self.unit, self.beside = words, idle, units, unit, beside
 
-    def measured(self, programs, times):
-        """The least time of the C++ program and of `aig`."""
+    def runs(self, programs):
+        """The runs of the C++ program and of `aig`, and then those whose work is taken off."""
         aig, runs = programs.get("aig"), []
         for words in [self.words()] + ([self.idle()] if self.idle else []):
             other = [aig, *self.beside()] if self.beside else [programs.get("tuned"), *tuned_words(words)]
             runs += [other, [aig, *words]]
+        return runs
+
+    def net(self, found):
+        """What was found of the work alone, of the C++ program and of `aig`."""
+        return [found[at] - (found[at + 2] if self.idle else 0) for at in range(2)]
+
+    def measured(self, programs, times):
+        """The least time of the C++ program and of `aig`."""
+        runs = self.runs(programs)
         if not self.beside:
             self.bytes = same(*runs[:2])
-        found = least(times, *runs)
-        return [found[at] - (found[at + 2] if self.idle else 0) for at in range(2)]
+        return self.net(least(times, *runs))
 
     def shown(self, seconds):
         if self.unit == "ms":
             return milliseconds(seconds)
+        if self.unit == "µs":
+            return microseconds(seconds / self.units)
         return f"{seconds / (self.bytes if self.unit == 'a byte' else self.units) * 1e9:.2f} ns {self.unit}"
 
 
@@ -240,7 +264,7 @@ def binary(programs, text):
 def conversions(programs):
     """Text and binary files of a million gates, names and comments."""
     goals = {("aag", "aag"): 1.05, ("aag", "aig"): 1.0, ("aig", "aag"): 1.0, ("aig", "aig"): 1.05}
-    words = {"aag": "text", "aig": "binary"}
+    words, shuffled = {"aag": "text", "aig": "binary"}, {"aag": 1.15, "aig": 1.1}
 
     def job(form, to, *load_words):
         text = load(*load_words)
@@ -248,13 +272,13 @@ def conversions(programs):
 
     for (form, to), goal in goals.items():
         for shape in ("random", "chain", "wide", "shuffled"):
-            yield Job(f"{words[form]} to {words[to]}", shape, 1.15 if shape == "shuffled" else goal,
+            yield Job(f"{words[form]} to {words[to]}", shape, shuffled[to] if shape == "shuffled" else goal,
                       lambda form=form, to=to, shape=shape: job(form, to, "circuit", shape, *SOURCES, MILLION))
-    for order, goal in (("in_order", 1.4), ("shuffled", 2.0)):
+    for order, goal in (("in_order", 1.35), ("shuffled", 1.6)):
         for to in ("aag", "aig"):
             yield Job(f"500,000 names, text to {words[to]}", order, goal,
                       lambda to=to, order=order: job("aag", to, "names", order, 500_000))
-    yield Job("20 MB of comment, text to text", "comment", 1.05, lambda: job("aag", "aag", "comment", 20_000_000))
+    yield Job("20 MB of comment, text to text", "comment", 1.1, lambda: job("aag", "aag", "comment", 20_000_000))
 
 
 def simulations(_):
@@ -264,11 +288,11 @@ def simulations(_):
 
     for gates, frames in ((100_000, 1000), (MILLION, 100)):
         for shape in ("random", "chain", "wide", "shuffled"):
-            yield Job(f"sim, frames alone, {gates:,} gates", shape, 0.8 if gates < MILLION else 0.95,
+            yield Job(f"sim, frames alone, {gates:,} gates", shape, 0.95,
                       lambda shape=shape, gates=gates, frames=frames: sim(shape, gates, frames),
                       lambda shape=shape, gates=gates: sim(shape, gates, 0), gates * frames, "a gate")
     for shape in ("random", "chain", "wide", "shuffled"):
-        yield Job("sim, loading 1,000,000 gates", shape, 1.15 if shape == "shuffled" else 1.05,
+        yield Job("sim, loading 1,000,000 gates", shape, 1.1 if shape == "shuffled" else 1.05,
                   lambda shape=shape: sim(shape, MILLION, 0))
 
     def lines(frames):
@@ -290,17 +314,17 @@ def questions(_):
     def bench(script):
         return ["bench", load("circuit", "random", 1000, 1000, 1000, 10_000), load("stimulus", 1000, 64), script]
 
-    yield Job("bench, `t`", "random", 1.15, lambda: bench(write("traces", "t\n" * 200)), lambda: bench(empty()), None,
+    yield Job("bench, `t`", "random", 1.0, lambda: bench(write("traces", "t\n" * 200)), lambda: bench(empty()), None,
               "a byte")
-    yield Job("bench, `v`", "random", 1.5, lambda: bench(load("values", 64, 12_000, MILLION)), lambda: bench(empty()),
+    yield Job("bench, `v`", "random", 1.2, lambda: bench(load("values", 64, 12_000, MILLION)), lambda: bench(empty()),
               MILLION, "a line")
-    yield Job("bench, lines that are no command", "random", 1.5, lambda: bench(write("wrong", "wrong\n" * MILLION)),
+    yield Job("bench, lines that are no command", "random", 1.3, lambda: bench(write("wrong", "wrong\n" * MILLION)),
               lambda: bench(empty()), MILLION, "a line")
 
     def tiny(script):
         return ["bench", load("circuit", "random", 1, 1, 1, 1), load("zeros", 1, 1), script]
 
-    yield Job("bench, `+` and `-` of a tiny circuit", "random", 1.5,
+    yield Job("bench, `+` and `-` of a tiny circuit", "random", 1.3,
               lambda: tiny(write("frames", "+ 1\n-\n" * 250_000)), lambda: tiny(empty()), 500_000, "a line")
 
 
@@ -326,7 +350,7 @@ def others(programs):
     """Work that the C++ program has not."""
     for shape in ("random", "shuffled"):
         circuit = load("circuit", shape, *SOURCES, MILLION)
-        yield Job("info, beside toaig --to aag", shape, 1.3, lambda circuit=circuit: ["info", circuit],
+        yield Job("info, beside toaig --to aag", shape, 1.05, lambda circuit=circuit: ["info", circuit],
                   beside=lambda circuit=circuit: ["toaig", "--to", "aag", circuit])
 
 
@@ -341,7 +365,7 @@ def measure_jobs(programs, jobs, times):
 
 
 def ratios(programs, chosen):
-    jobs = [job for job in all_jobs(programs) if chosen.jobs in job.name and chosen.shapes in job.shape]
+    jobs = [*picked(all_jobs(programs), chosen)]
     if chosen.list:
         print(*(f"{job.name} ({job.shape})" for job in jobs), sep="\n")
         return
@@ -349,22 +373,37 @@ def ratios(programs, chosen):
     measure_jobs(programs, jobs, chosen.times)
 
 
+def of_each_kind(programs):
+    """One job of each kind."""
+    yield from (job for job in all_jobs(programs) if job.shape not in ("chain", "wide"))
+    for kind, *cipher in CIPHERS:
+        if 10 * cipher[0] * cipher[1] * cipher[2] <= MILLION / 2:
+            yield from (Edits(programs, cipher, name).job(kind) for name in EDITS)
+    yield from making()
+
+
+def picked(jobs, chosen):
+    """Those of the jobs whose names and shapes hold what was chosen."""
+    return (job for job in jobs if chosen.jobs in job.name and chosen.shapes in job.shape)
+
+
 def goals(programs, chosen):
     """One job of each kind."""
     head("Beside the C++ program (processor time).", "job", "load", "C++", "aig", "aig / C++", "goal")
-    measure_jobs(programs, [job for job in all_jobs(programs) if job.shape not in ("chain", "wide")], chosen.times)
-    for kind, *cipher in CIPHERS:
-        if 10 * cipher[0] * cipher[1] * cipher[2] > MILLION / 2:
-            continue
-        for name in EDITS:
-            measured = Edits(programs, cipher, name)
-            tuned, ours = measured.times(chosen.times)
-            row(f"bench, {name}", f"{kind}, {measured.gates:,} gates", microseconds(tuned), microseconds(ours),
-                f"{ours / tuned:.2f}", f"{EDITS[name]:.2f}")
-    for name, frames, work, tuned, ours, goal in bench_times(programs, chosen.times):
-        row(f"making a bench, {work}", f"{name}, {frames} frames", milliseconds(tuned), milliseconds(ours),
-            f"{ours / tuned:.2f}", f"{goal:.2f}")
+    measure_jobs(programs, picked(of_each_kind(programs), chosen), chosen.times)
     changing_wave(programs, chosen.times)
+
+
+def counts(programs, chosen):
+    """Instructions and misses of the same jobs. Other work on the machine does not move them."""
+    head("Counted by cachegrind: millions of instructions, and of misses of a cache of 1 MB.", "job", "load",
+         "instructions: C++", "aig", "aig / C++", "misses: C++", "aig", "aig / C++")
+    for job in picked(of_each_kind(programs), chosen):
+        cells = []
+        for found in zip(*map(counted, job.runs(programs))):
+            tuned, ours = job.net(found)
+            cells += [f"{tuned / 1e6:,.2f}", f"{ours / 1e6:,.2f}", f"{ours / max(tuned, 1):.2f}"]
+        row(job.name, job.shape, *cells)
 
 
 def changing_wave(programs, times):
@@ -385,7 +424,7 @@ CIPHERS = (("sparse", 10, 16, 6), ("sparse", 104, 16, 6), ("sparse", 1041, 16, 6
 EDITED_FRAMES = 16
 TOUCHED = 20_000_000  # cells that a load is to touch, about
 # The loads, and the ratio that each is meant to have.
-EDITS = {"bits": 1.2, "late": 1.2, "rewires": 1.1, "resets": 1.2, "frames": 1.1}
+EDITS = {"bits": 1.05, "late": 1.05, "rewires": 1.0, "resets": 1.05, "frames": 1.05}
 
 
 def touched(programs, circuit, rows, script):
@@ -412,12 +451,15 @@ class Edits:
         """How many cells an edit touches."""
         return touched(self.programs, *self.words, self.script(self.count)) / self.count
 
+    def job(self, kind):
+        """The work of a script, without that of an empty one."""
+        return Job(f"bench, {self.name}", f"{kind}, {self.gates:,} gates", EDITS[self.name],
+                   lambda: ["bench", *self.words, self.script(self.count)], lambda: ["bench", *self.words, empty()],
+                   self.count, "µs")
+
     def times(self, times):
-        """The time of an edit: that of a script, less that of an empty one, of the C++ program and of `aig`."""
-        both = [[self.programs.get(name), "bench", *self.words] for name in ("tuned", "aig")]
-        same(*([*words, self.script(self.count)] for words in both))
-        found = least(times, *([*words, script] for script in (self.script(self.count), empty()) for words in both))
-        return [(found[at] - found[at + 2]) / self.count for at in range(2)]
+        """The time of an edit, of the C++ program and of `aig`."""
+        return [seconds / self.count for seconds in self.job("").measured(self.programs, times)]
 
 
 def edits(programs, chosen):
@@ -491,24 +533,25 @@ def plot(programs, chosen):
         write(chosen.svg, drawing.drawn(series, "gates", "time of an edit of one input bit"))
 
 
-def bench_times(programs, times):
-    """Yields the times of making benches: their circuits, and their frames."""
+def making():
+    """Making a bench: its circuit, and its frames."""
     for name, frames, circuit, inputs in (
         ("1,000,000 gates, random", 32, load("circuit", "random", *SOURCES, MILLION), 1000),
         ("998,400 gates, copies of a cipher", 64, load("cipher", 1040, 16, 6), 1040 * 16),
     ):
-        rows = [load("zeros", inputs, count) for count in (0, frames)]
-        runs = [[programs.get(who), "bench", circuit, file, empty()] for file in rows for who in ("tuned", "aig")]
-        found = least(times, *runs)
-        yield name, frames, "load", *found[:2], 1.2
-        yield name, frames, "frames", found[2] - found[0], found[3] - found[1], 1.05
+        def words(count, circuit=circuit, inputs=inputs):
+            return ["bench", circuit, load("zeros", inputs, count), empty()]
+
+        shape = f"{name}, {frames} frames"
+        yield Job("making a bench, load", shape, 1.05, lambda words=words: words(0))
+        yield Job("making a bench, frames", shape, 0.95, lambda words=words, frames=frames: words(frames),
+                  lambda words=words: words(0))
 
 
 def benches(programs, chosen):
     """Making a bench: its circuit, and its frames."""
-    head("Making a bench (processor time).", "circuit", "frames", "work", "C++", "aig", "aig / C++", "goal")
-    for name, frames, work, tuned, ours, goal in bench_times(programs, chosen.times):
-        row(name, frames, work, milliseconds(tuned), milliseconds(ours), f"{ours / tuned:.2f}", f"{goal:.2f}")
+    head("Making a bench (processor time).", "job", "load", "C++", "aig", "aig / C++", "goal")
+    measure_jobs(programs, making(), chosen.times)
 
 
 def sizes(programs, chosen):
@@ -848,7 +891,7 @@ def compare(programs, chosen):
 
 # ---- command line
 
-TABLES = {made.__name__: made for made in (goals, ratios, edits, benches, refute, certified, sizes, memory, growth,
+TABLES = {made.__name__: made for made in (goals, counts, ratios, edits, benches, refute, certified, sizes, memory, growth,
                                            rewires, grids, plot, compare)}
 
 
