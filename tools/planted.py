@@ -21,6 +21,10 @@ Only the first shows by itself that the body is wrong.
 It tries those of the gate (crates/NAME/planted) and with --more all others too (crates/NAME/planted/more), over what
 `rt ci` or `rt check` left of the libraries below a crate; where there is nothing, they are built first.
 
+A crate whose files, with those of all crates below it, are as they were when all its bugs were refused is not tried
+again: refused.txt beside this script has the sums of these files. With --all every crate is tried. With --record, too,
+and a crate whose bugs are all refused gets its sum in that file.
+
 With --list it tries nothing. It prints each bug with its clause and its sentence, the functions that it changes, and
 what it stands for beside them: an exported call that these functions serve (`guards`), a kind of mistake, a relation
 or a law."""
@@ -28,6 +32,7 @@ or a law."""
 import argparse
 import collections
 import concurrent.futures
+import hashlib
 import importlib.machinery
 import importlib.util
 import os
@@ -42,6 +47,10 @@ import time
 from sources.exports import signature
 
 ROOT = pathlib.Path(__file__).resolve().parent.parent
+
+# The sums of the crates whose planted bugs were all refused.
+REFUSED = ROOT / "tools" / "refused.txt"
+REFUSED_HEAD = "# The crates whose planted bugs were all refused, and the sum of their files then: see planted.py --record\n"
 
 # Why a goal is open, what shows most of the body first.
 KINDS = ("false", "no proof", "limit", "answer", "name")
@@ -354,6 +363,42 @@ def print_list(crates, rooms, only):
     return 0
 
 
+def sum_of(folder, parts):
+    """Returns the SHA-256 of the files of these parts of a crate's folder."""
+    total = hashlib.sha256()
+    for name in (it for part in parts for it in sorted((folder / part).rglob("*"))):
+        # bugs outside the gate do not count
+        if name.is_file() and name.parent != folder / "planted" / "more":
+            total.update(f"{name.relative_to(folder)} {hashlib.sha256(name.read_bytes()).hexdigest()}\n".encode())
+    return total.hexdigest()
+
+
+def sums(crates):
+    """Returns for each of these crates, lowest first, the SHA-256 of what its planted bugs are tried on: the bugs, the
+    parts of its folder that a check reads, and those of all crates below it."""
+    read_by_checks = {it.name: sum_of(it.folder, it.parts) for it in crates}
+
+    def total(crate):
+        below = [read_by_checks[name] for name in sorted(crate.below)]
+        each = [sum_of(crate.folder, ["planted"]), read_by_checks[crate.name], *below]
+        return hashlib.sha256(" ".join(each).encode()).hexdigest()
+
+    return {it.name: total(it) for it in crates}
+
+
+def recorded():
+    """Returns the sums in refused.txt, by crate."""
+    lines = REFUSED.read_text().splitlines() if REFUSED.exists() else []
+    return dict(line.split() for line in lines if not line.startswith("#"))
+
+
+def record(refused):
+    """Puts the sums of crates into refused.txt."""
+    kept = {name: total for name, total in recorded().items() if (ROOT / "crates" / name).is_dir()}
+    lines = [f"{name} {total}\n" for name, total in sorted({**kept, **refused}.items())]
+    REFUSED.write_text(REFUSED_HEAD + "".join(lines))
+
+
 def copies(crate):
     """Yields the edits in must-fail/, which `rt ci` tries, that are not those of planted/ with their names."""
     for path in sorted((crate.folder / "must-fail").glob("*.edit")):
@@ -384,6 +429,8 @@ def main():
     parser.add_argument("--jobs", type=int, default=few, help=f"how many processors it takes (else {few})")
     parser.add_argument("--only", action="append", help="the planted bugs whose names hold this; may be given again")
     parser.add_argument("--more", action="store_true", help="those of planted/more/ too")
+    parser.add_argument("--all", action="store_true", help="those of crates that are in refused.txt too")
+    parser.add_argument("--record", action="store_true", help="tries all, and puts what was refused into refused.txt")
     parser.add_argument("--list", action="store_true", help="prints the planted bugs, and tries none")
     parser.add_argument("--behind", type=pathlib.Path, metavar="FILE",
                         help="the output of an `rt ci` that runs: a crate waits for the libraries below it")
@@ -393,8 +440,10 @@ def main():
     rooms = ("planted", "planted/more") if words.more else ("planted",)
     if words.list:
         return print_list(words.crates, rooms, words.only)
-    work, failed = [], 0
-    for crate in toolchain(words.jobs):
+    work, failed, before = [], 0, 0
+    crates = toolchain(words.jobs)
+    now, old = sums(crates), {} if words.all or words.record or words.more or words.only else recorded()
+    for crate in crates:
         if words.crates and crate.name not in words.crates:
             continue
         known, edits, wrong = edits_of(crate.folder, rooms, words.only)
@@ -404,15 +453,21 @@ def main():
         for name in copies(crate):
             print(f"{crate.name}/must-fail/{name}: FAILED: it differs from that of planted/")
             failed += 1
+        if old.get(crate.name) == now[crate.name]:
+            print(f"{crate.name}: its {len(edits)} planted bugs were refused over these files before", flush=True)
+            before += len(edits)
+            continue
         if edits and not words.behind:
             crate.build()
         work += [(crate, known, edits)] if edits else []
     with concurrent.futures.ThreadPoolExecutor(words.jobs) as pool:
-        tries = [pool.submit(told, *it) for it in in_turn(work, words.behind)]
-    kinds = collections.Counter(kind for it in tries for kind in it.result())
+        tries = {it[0].name: pool.submit(told, *it) for it in in_turn(work, words.behind)}
+    if words.record and not words.only:
+        record({name: now[name] for name, it in tries.items() if all(it.result())})
+    kinds = collections.Counter(kind for it in tries.values() for kind in it.result())
     print("refused: " + ", ".join(f"{kinds[kind]} {kind}" for kind in KINDS[:-1]))
     passed, failed = sum(kinds[kind] for kind in KINDS), failed + kinds[None]
-    print(f"{passed} passed, {failed} failed")
+    print(f"{passed} passed, {failed} failed" + f"; {before} refused before over the same files" * (before > 0))
     return 1 if failed else 0
 
 
