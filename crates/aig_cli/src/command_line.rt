@@ -12,7 +12,7 @@ use std::fmt;
 
 /// The program's version. A program does not know how it was built: `rt ci` proves what it builds, and
 /// `tools/build_unproved.sh` replaces this text in a program that was not proved.
-static VERSION: &str = "0.1.0 (proved where rt ci built it)";
+static VERSION: &str = "0.2.0 (proved where rt ci built it)";
 
 /// The place in a help of the options that every command has: after its own options.
 const LAST: usize = 90;
