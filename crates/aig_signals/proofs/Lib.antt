@@ -1,4 +1,5 @@
 pub mod BitLemmas
+pub mod Defined
 pub mod Lookups
 pub mod Meaning
 pub mod NameLemmas

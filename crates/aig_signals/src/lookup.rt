@@ -1,7 +1,8 @@
 //! What a name means.
-ghost use Rattle.std.specs.Prelude.{◌≡◌, ◌∷◌, ◌<◌, ◌≤◌, ◌-◌, ℕ, List, length, map, option_copied, option_map, IfOk, IfSome, IfNone};
+ghost use Rattle.std.specs.Prelude.{◌≡◌, ◌∷◌, ◌<◌, ◌≤◌, ◌-◌, ℕ, All, List, length, map, option_copied, option_map, IfOk, IfSome, IfNone};
 ghost use Rattle.std.specs.List.{range_with_len};
-ghost use Rattle.aig_parts.specs.Literal.{negation};
+ghost use Rattle.aig_parts.specs.Literal.{negation, variable};
+ghost use Rattle.aig_base.specs.Sections.{IsDefined};
 ghost use Rattle.aig_signals.specs.Lookup as spec;
 ghost use Rattle.aig_signals.specs.Lookup.{least, entry_literal, in_sections, signal_literals, signal_named, literals_called, IsPlain, IsNoName, Means, Unknown};
 ghost use Rattle.aig_signals.specs.Names.{literal_of, literals_of};
@@ -250,7 +251,10 @@ pub fn look_up(
     requires { signals.now ≡ signals_spec.signals_of circuit.now }
     ensures means { IfOk result (λ found. IfSome found (Means circuit.now name.now)) }
     ensures unknown { IfOk result (λ found. IfNone found (Unknown circuit.now name.now)) }
+    ensures range { IfOk result (λ found. IfSome found (All (λ l. variable l ≤ circuit.now.max_var))) }
+    ensures defined { IfOk result (λ found. IfSome found (All (λ l. IsDefined circuit.now (variable l)))) }
 {
+    circuit.facts();
     let found = plain(alloc, circuit, signals, name)?;
     if let Some(literals) = found {
         return Ok(Some(literals));
