@@ -1,0 +1,120 @@
+-- What is answered for a run, from what its parts answer.
+use Rattle.std.proofs.Common.{◌≡◌, ◌≢◌, ℕ, ◌+◌, ◌-◌, ◌*◌, ◌<◌, ◌≤◌, List, [], ◌∷◌, ◌++◌, length, map, replicate, All, Contains, Option, None, Some, Err, refl, sym, ap, ◌∙◌, subst, arith}
+use Rattle.std.proofs.lemmas.List.{length-map}
+use Rattle.std.specs.List.{AllZip}
+use Rattle.std.specs.Prelude.{IfSome}
+use Rattle.aig_base.specs.Sections.{IsDefined, definitions}
+use Rattle.aig_base.specs.Value.{start_of}
+use Rattle.aig_bench.specs.BenchState.{CircuitAndRows}
+use Rattle.aig_bench.specs.declared.bench.fault.BenchFault.{BenchFault}
+use Rattle.aig_bench.specs.declared.bench.fault.BenchFault.TheVariants as benches
+use Rattle.aig_parts.specs.Limits.{cell_limit}
+use Rattle.aig_parts.specs.Literal.{variable}
+use Rattle.aig_parts.specs.declared.gate.Gate.{Gate}
+use Rattle.aig_parts.specs.declared.latch.Latch.{Latch}
+use Rattle.aig_parts.specs.declared.raw.Raw.{Raw}
+use Rattle.aig_parts.specs.declared.symbols.Kind.TheVariants as kinds
+use Rattle.aig_parts.specs.declared.ternary.Tern.{Tern}
+use Rattle.aig_reduce.proofs.Resets.{latches_length}
+use Rattle.aig_reduce.specs.Resets.{HasOtherResets, IsSameLatch}
+use Rattle.aig_run.proofs.Files.{MeansNoFault}
+use Rattle.aig_run.specs.declared.run_fault.RunFault.{RunFault}
+use Rattle.aig_run.specs.declared.run_fault.RunFault.TheVariants as run_faults
+use Rattle.aig_signals.specs.Names.{literals_of}
+use Rattle.aig_signals.specs.Signals.{section_signals}
+use Rattle.aig_signals.specs.declared.text.Naming.{Naming}
+use Rattle.aig_sim.specs.StimulusText.{SpellsRows}
+use Rattle.aig_sim.specs.WitnessText.{Witness, SpellsWitness, IsAdmitted}
+use Rattle.aig_why.specs.Why.{ExplainsRun, IsFrame, least_frame, RefusesRun, Run, run_of, WritesWhy, WritesWhyWitness}
+use Rattle.aig_why.specs.declared.command.Span.{Span}
+use Rattle.aig_why.specs.declared.question.Question.{Question}
+use Rattle.aig_why.specs.state.Naming.{IsNamingOf, NamesNothing}
+
+-- frames
+pub frame_below : (asked : Option ℕ) (count t : ℕ) → IsFrame asked count t → t < count
+frame_below None count t h = omega (arith, h)
+frame_below (Some given) count t h = h.1
+
+pub frame_least : (depth : Option ℕ) (t : ℕ) → least_frame depth t ≤ t
+frame_least None t = omega arith
+frame_least (Some depth) t = omega arith
+
+-- no bench is made
+pub bench_refused : (raw : Raw) (run : Run) (property : ℕ) (name : Option (List ℕ)) (span : Span) (fault : BenchFault)
+    → fault ≢ benches.Width → (fault ≡ benches.Limit → cell_limit < (raw.max_var + 1) * length run.rows)
+    → RefusesRun raw run property name span (run_faults.Bench fault)
+bench_refused raw run property name span benches.Width other over = absurd (other refl)
+bench_refused raw run property name span benches.Limit other over = over refl
+bench_refused raw run property name span benches.Memory other over = tt
+
+-- the run of a bench
+pub run_is : (pair : CircuitAndRows) (start : List Tern) (rows : List (List Tern)) → start_of pair.circuit ≡ start → pair.rows ≡ rows
+    → run_of pair ≡ record { start = start; rows = rows }
+run_is pair start rows s r = λ i. record { start = s i; rows = r i }
+
+-- a circuit with other resets defines the same variables
+literals_same : (xs ys : List Latch) → AllZip IsSameLatch xs ys → map (λ x. x.lit) ys ≡ map (λ x. x.lit) xs
+literals_same [] [] h = refl
+literals_same [] (y ∷ ys) h = absurd h
+literals_same (x ∷ xs) [] h = absurd h
+literals_same (x ∷ xs) (y ∷ ys) h = λ i. h.0.0 i ∷ literals_same xs ys h.1 i
+
+module _ (raw other : Raw) (r : HasOtherResets raw other) where
+  definitions_same : definitions other ≡ definitions raw
+  definitions_same =
+      λ i. r.inputs i ++ literals_same raw.latches other.latches r.latches i ++ map (λ (g : Gate). g.lhs) (r.gates i)
+
+  pub range_with : (literals : List ℕ) → All (λ l. variable l ≤ raw.max_var) literals → All (λ l. variable l ≤ other.max_var) literals
+  range_with literals h = subst (λ (n : ℕ). All (λ l. variable l ≤ n) literals) (sym r.size) h
+
+  pub defined_with : (literals : List ℕ) → All (λ l. IsDefined raw (variable l)) literals → All (λ l. IsDefined other (variable l)) literals
+  defined_with literals h =
+      subst (λ (ls : List ℕ). All (λ l. Contains (0 ∷ map variable ls) (variable l)) literals) (sym definitions_same) h
+
+  pub asked_with : (question : Option Question) → IfSome question (λ q. All (λ l. IsDefined raw (variable l)) q.literals)
+      → IfSome question (λ q. All (λ l. IsDefined other (variable l)) q.literals)
+  asked_with None h = tt
+  asked_with (Some q) h = defined_with q.literals h
+
+  -- a new naming of the circuit
+  pub nothing_with : (n : Naming) → n.inputs.values ≡ replicate (length (literals_of raw kinds.Input)) None
+      → n.latches.values ≡ replicate (length (literals_of raw kinds.Latch)) None → NamesNothing other n
+  nothing_with n inputs latches = record {
+    inputs = inputs ∙ ap (λ (ls : List ℕ). replicate {A = Option Tern} (length ls) None) (sym r.inputs);
+    latches = latches
+        ∙ ap (λ (k : ℕ). replicate {A = Option Tern} k None)
+        (length-map raw.latches (λ (x : Latch). x.lit) ∙ sym (latches_length raw other r));
+  }
+
+-- what is answered for the run over a stimulus
+module _ (raw : Raw) (stimulus name : List ℕ) (span : Span) (rows : List (List Tern)) (spelled : SpellsRows (length raw.inputs) stimulus rows) where
+  abbrev pub ByResets : Run
+  ByResets = record { start = start_of raw; rows = rows }
+
+  pub refuses_why : (fault : RunFault) → RefusesRun raw ByResets 0 (Some name) span fault → WritesWhy stimulus name span raw (Err fault) []
+  refuses_why (run_faults.Stimulus fault) h = absurd h
+  refuses_why fault h = (rows, spelled, (h, refl))
+
+-- for the run of a witness
+module _ (raw : Raw) (text : List ℕ) (name : Option (List ℕ)) (span : Span) (w : Witness) (spelled : SpellsWitness raw text w)
+    (admitted : IsAdmitted raw w) where
+  abbrev pub OfWitness : Run
+  OfWitness = record { start = w.start; rows = w.rows }
+
+  pub refuses_witness : (fault : RunFault) → RefusesRun raw OfWitness w.property name span fault
+      → WritesWhyWitness text name span raw (Err fault) []
+  refuses_witness (run_faults.Witness fault) h = absurd h
+  refuses_witness fault h = (w, spelled, admitted, (h, refl))
+
+-- no fault of the circuit's file is answered for a circuit
+pub why_no_circuit : (raw : Raw) (stimulus name : List ℕ) (span : Span) → MeansNoFault (WritesWhy stimulus name span) raw
+why_no_circuit raw stimulus name span fault bytes (rows, spelled, (h, none)) = h
+
+pub witness_no_circuit : (raw : Raw) (text : List ℕ) (name : Option (List ℕ)) (span : Span)
+    → MeansNoFault (WritesWhyWitness text name span) raw
+witness_no_circuit raw text name span fault bytes (w, spelled, admitted, (h, none)) = h
+
+-- what is answered for a run on a bench
+module _ (raw : Raw) (pair : CircuitAndRows) (n : Naming) (of : IsNamingOf raw pair n) where
+  pub cells_with : (pair.circuit.max_var + 1) * length pair.rows ≤ cell_limit → (raw.max_var + 1) * length pair.rows ≤ cell_limit
+  cells_with h = subst (λ (m : ℕ). (m + 1) * length pair.rows ≤ cell_limit) of.resets.size h

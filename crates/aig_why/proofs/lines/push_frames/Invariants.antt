@@ -1,0 +1,25 @@
+use Rattle.std.proofs.Common.{◌≡◌, ◌+◌, ◌≤◌, ℕ, List, [], length}
+use Rattle.aig_parts.specs.declared.raw.Raw.{Raw}
+use Rattle.aig_causes.specs.Causes.{moment}
+use Rattle.aig_causes.specs.Explanation.{HasCome, IsOf, LineState}
+use Rattle.aig_why.specs.Lines.{AreFrameTexts}
+use Rattle.aig_why.specs.state.Naming.{Adds, HasSameSignals, IsNamingOf, NamesNothing}
+use Rattle.aig_why.proofs.lines.push_frames.Given as goal
+
+abbrev pub invariant-loop-text : goal.invariant-loop-text
+invariant-loop-text g l = record {
+  bench : IsOf l.bench.pair l.explanation;
+  end : l.explanation.end ≡ 0;
+  last : l.last ≤ l.explanation.frame;
+  asked : l.explanation.asked ≡ l.initial.explanation.asked;
+  none : NamesNothing l.bench.pair.circuit l.naming;
+  same : HasSameSignals l.initial.naming l.naming;
+  come : (raw : Raw) → IsNamingOf raw l.bench.pair l.initial.naming → (literals : List ℕ)
+      → HasCome l.bench.pair literals l.initial.explanation [] []
+      → (frames : List (List LineState)) × HasCome l.bench.pair literals l.explanation frames []
+      × (l.explanation.frame + length frames ≡ l.initial.explanation.frame)
+      × Adds (AreFrameTexts raw (moment l.bench.pair l.explanation.frame) frames) l.initial.text.items l.text.items;
+}
+
+abbrev pub decreases-loop-text : goal.decreases-loop-text
+decreases-loop-text g l = l.explanation.frame

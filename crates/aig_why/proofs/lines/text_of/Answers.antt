@@ -1,0 +1,62 @@
+use Rattle.std.proofs.Common.{◌≤◌, ℕ, List, [], All, sym, ◌∙◌, subst}
+use Rattle.aig_parts.specs.Literal.{variable}
+use Rattle.aig_base.specs.Sections.{IsDefined}
+use Rattle.aig_causes.specs.Causes.{Sources, moment}
+use Rattle.aig_why.specs.Lines.{IsAskedText}
+use Rattle.aig_why.specs.Why.{IsExplanation, run_of}
+use Rattle.aig_why.specs.state.Naming.{Adds}
+use Rattle.aig_why.proofs.FrameLemmas.{naming_with}
+use Rattle.aig_why.proofs.WholeLemmas.{FirstLine, explanation, first_line}
+use Rattle.aig_why.proofs.lines.text_of.Goals as goal
+
+pub new-requires-clause-range : goal.new-requires-clause-range
+new-requires-clause-range g c =
+    subst (All (λ l. variable l ≤ c.args.run.now.bench.pair.circuit.max_var)) (sym c.as_slice-literals.ensures) c.requires.range
+
+pub new-requires-clause-defined : goal.new-requires-clause-defined
+new-requires-clause-defined g c =
+    subst (All (λ l. IsDefined c.args.run.now.bench.pair.circuit (variable l))) (sym c.as_slice-literals.ensures) c.requires.defined
+
+pub push_asked-requires-clause-range : goal.push_asked-requires-clause-range
+push_asked-requires-clause-range g c =
+    subst (All (λ l. variable l ≤ c.args.run.now.bench.pair.circuit.max_var)) (sym c.as_slice-literals.ensures) c.requires.range
+
+pub push_asked-requires-clause-defined : goal.push_asked-requires-clause-defined
+push_asked-requires-clause-defined g c =
+    subst (All (λ l. IsDefined c.args.run.now.bench.pair.circuit (variable l))) (sym c.as_slice-literals.ensures) c.requires.defined
+
+pub push_frames-requires-clause-of : goal.push_frames-requires-clause-of
+push_frames-requires-clause-of g c =
+    let (raw, of) = c.requires.of in
+    (raw, naming_with raw c.args.run.now.bench.pair c.args.naming.now c.push_asked.new.naming of c.in_ok-push_asked.ensures.signals)
+
+pub returns : goal.returns
+returns g c = λ raw of latches.
+    let p = c.args.run.now.bench.pair in
+    let t = c.args.frames.first in
+    let begun = c.in_ok-explanation.explanation in
+    let e = c.push_frames.new.explanation in
+    let name = c.as_slice-name.result.now in
+    let literals = c.as_slice-literals.result.now in
+    let first = c.push_asked.new.text.items in
+    let middle = c.push_frames.new.text.items in
+    let text = c.push_last.new.text.items in
+    let at_asked = naming_with raw p c.args.naming.now c.push_asked.new.naming of c.in_ok-push_asked.ensures.signals in
+    let at_last =
+    naming_with raw p c.push_asked.new.naming c.push_frames.new.naming at_asked c.in_ok-push_frames.ensures.signals in
+    let (frames, come, down, adds) = c.in_ok-push_frames.ensures.come raw at_asked literals c.in_ok-explanation.ensures.come in
+    let line : FirstLine raw (moment p t) name literals begun.asked first =
+    first_line raw p (moment p t) name literals begun.asked begun.latches_alone first of.resets c.in_ok-explanation.ensures.alone
+    (λ alone. c.in_ok-push_asked.ensures.alone alone ∙ c.new-text.ensures.items)
+    (λ other. subst (λ (f : ℕ). Adds (IsAskedText raw (moment p f) name literals begun.asked) [] first)
+    c.in_ok-explanation.ensures.frame
+    (subst (λ (old : List ℕ). Adds (IsAskedText raw (moment p begun.frame) name literals begun.asked) old first)
+    c.new-text.ensures.items (c.in_ok-push_asked.ensures.text raw of other))) in
+    let whole : IsExplanation raw (run_of p) name literals t c.args.frames.last text =
+    explanation raw p e name literals t c.args.frames.last frames first middle text of.resets come
+    (down ∙ c.in_ok-explanation.ensures.frame) c.in_ok-push_frames.ensures.last c.in_ok-push_frames.ensures.ends
+    (subst (λ (s : Sources). FirstLine raw (moment p t) name literals s first) (sym c.in_ok-push_frames.ensures.asked) line) adds
+    (c.in_ok-push_last.ensures raw at_last (latches ∙ sym c.deref.ensures.value) literals frames come) in
+    subst (λ (n : List ℕ). IsExplanation raw (run_of p) n c.args.question.now.literals t c.args.frames.last text)
+    c.as_slice-name.ensures
+    (subst (λ (ls : List ℕ). IsExplanation raw (run_of p) name ls t c.args.frames.last text) c.as_slice-literals.ensures whole)

@@ -1,0 +1,222 @@
+//! The command `why`.
+ghost use Rattle.std.specs.Prelude.{◌≡◌, ℕ, ◌+◌, ◌*◌, ◌≤◌, List, [], length, All, Option, option_copied, Ok, Err, IfErr, IfNone, IfOk, IfSome};
+ghost use Rattle.aig_bytes.specs.Bytes.{Writes};
+ghost use Rattle.aig_bytes.specs.Flow.{flow};
+ghost use Rattle.aig_parts.specs.Limits.{cell_limit};
+ghost use Rattle.aig_parts.specs.Literal.{variable};
+ghost use Rattle.aig_parts.specs.declared.raw.Raw.{Raw};
+ghost use Rattle.aig_base.specs.Sections.{IsDefined};
+ghost use Rattle.aig_run.specs.Command.{CommandEnds, OfFile};
+ghost use Rattle.aig_why.specs.Why.{ExplainsRun, IsFrame, least_frame, RefusesRun, run_of, WritesWhy, WritesWhyWitness};
+ghost use Rattle.aig_why.specs.state.Asked.{IsAskedAs};
+ghost use Rattle.aig_why.specs.state.Naming.{IsNamingOf, NamesNothing};
+
+use crate::lines::text_of;
+use crate::question::Question;
+use crate::run::{Frames, Run};
+use aig_base::{Circuit, Io, Tern, Write, write_all};
+use aig_run::{RunFault, WhyFault, flushed, read_circuit, read_rows};
+use aig_signals::Naming;
+use aig_sim::{PlaneGrid, Stimulus, Witness, first_states, read_witness};
+use std::alloc::Global;
+
+/// Which frames are explained: one of them, the last where none is named, and so many frames before it, all where no
+/// number is given.
+#[derive(Clone, Copy, PartialEq, Eq, Debug)]
+pub struct Span {
+    pub frame: Option<u32>,
+    pub depth: Option<u32>,
+}
+
+impl Span {
+    /// The frames of a run of so many frames; none where it has no such frame.
+    fn frames(self, count: u32) -> Option<Frames>
+        ensures some { IfSome result (λ f. IsFrame self.frame count f.first × (f.last ≡ least_frame self.depth f.first)) }
+        ensures none { IfNone result ((t : ℕ) → IsFrame self.frame count t → ⊥) }
+    {
+        let first = match self.frame {
+            Some(frame) if frame < count => frame,
+            Some(_) => return None,
+            None if count > 0 => count - 1,
+            None => return None,
+        };
+        let last = match self.depth {
+            Some(depth) => first.saturating_sub(depth),
+            None => 0,
+        };
+        Some(Frames { first, last })
+    }
+}
+
+/// The lines that explain what is asked for in a run.
+fn explain_run(
+    alloc: Global,
+    run: &Run<PlaneGrid>,
+    naming: &mut Naming,
+    question: Option<&Question>,
+    span: Span,
+) -> Result<Vec<u8>, RunFault>
+    requires cells { (run.now.bench.pair.circuit.max_var + 1) * length run.now.bench.pair.rows ≤ cell_limit }
+    requires range { IfSome (option_copied question) (λ q. All (λ l. variable l ≤ run.now.bench.pair.circuit.max_var) q.literals) }
+    requires defined { IfSome (option_copied question) (λ q. All (λ l. IsDefined run.now.bench.pair.circuit (variable l)) q.literals) }
+    requires size { length run.now.latches.items ≡ length run.now.bench.pair.circuit.latches }
+    requires none { NamesNothing run.now.bench.pair.circuit naming.old }
+    requires of { (raw : Raw) × IsNamingOf raw run.now.bench.pair naming.old }
+    ensures text { (raw : Raw) → IsNamingOf raw run.now.bench.pair naming.old → raw.latches ≡ run.now.latches.items →
+        (property : ℕ) (name : Option (List ℕ)) → IsAskedAs raw property name (option_copied question.entry) →
+        IfOk result (λ text. ExplainsRun raw (run_of run.now.bench.pair) property name span text.items) }
+    ensures fault { (raw : Raw) → IsNamingOf raw run.now.bench.pair naming.old →
+        (property : ℕ) (name : Option (List ℕ)) → IsAskedAs raw property name (option_copied question.entry) →
+        IfErr result (RefusesRun raw (run_of run.now.bench.pair) property name span) }
+{
+    let Some(question) = question else {
+        return Err(RunFault::Why(WhyFault::Name));
+    };
+    let Some(frames) = span.frames(run.bench.frames()) else {
+        return Err(RunFault::Why(WhyFault::Frame));
+    };
+    Ok(text_of(alloc, run, naming, question, frames)?)
+}
+
+/// The lines that explain what is asked for in the run of a circuit from a start over some rows.
+fn explain(
+    alloc: Global,
+    circuit: Circuit,
+    start: &[Tern],
+    rows: Stimulus,
+    question: Option<&Question>,
+    span: Span,
+) -> Result<Vec<u8>, RunFault>
+    requires start { length start.now ≡ length circuit.latches }
+    requires width { rows.width ≡ length circuit.inputs }
+    requires range { IfSome (option_copied question) (λ q. All (λ l. variable l ≤ circuit.max_var) q.literals) }
+    requires defined { IfSome (option_copied question) (λ q. All (λ l. IsDefined circuit (variable l)) q.literals) }
+    ensures text { (property : ℕ) (name : Option (List ℕ)) → IsAskedAs circuit property name (option_copied question.entry) →
+        IfOk result (λ text. ExplainsRun circuit (record { start = start.now; rows = rows.rows }) property name span text.items) }
+    ensures fault { (property : ℕ) (name : Option (List ℕ)) → IsAskedAs circuit property name (option_copied question.entry) →
+        IfErr result (RefusesRun circuit (record { start = start.now; rows = rows.rows }) property name span) }
+{
+    let mut naming = Naming::new(alloc, &circuit)?;
+    let run = Run::new(alloc, circuit, start, rows)?;
+    explain_run(alloc, &run, &mut naming, question, span)
+}
+
+/// The lines for the run of a circuit over a stimulus.
+fn explain_stimulus(
+    alloc: Global,
+    circuit: Circuit,
+    stimulus: &[u8],
+    name: &[u8],
+    span: Span,
+) -> Result<Vec<u8>, RunFault>
+    ensures text { IfOk result (λ text. WritesWhy stimulus.now name.now span circuit (Ok tt) text.items) }
+    ensures fault { IfErr result (λ fault. WritesWhy stimulus.now name.now span circuit (Err fault) []) }
+{
+    circuit.facts();
+    let rows = read_rows(alloc, &circuit, stimulus)?;
+    let start = first_states(alloc, &circuit)?;
+    let question = Question::new(alloc, &circuit, 0, Some(name))?;
+    explain(alloc, circuit, &start, rows, question.as_ref(), span)
+}
+
+/// The lines for the run of a witness of a circuit.
+fn explain_witness(
+    alloc: Global,
+    circuit: Circuit,
+    witness: &[u8],
+    name: Option<&[u8]>,
+    span: Span,
+) -> Result<Vec<u8>, RunFault>
+    ensures text { IfOk result (λ text. WritesWhyWitness witness.now (option_copied name.entry) span circuit (Ok tt) text.items) }
+    ensures fault { IfErr result (λ fault. WritesWhyWitness witness.now (option_copied name.entry) span circuit (Err fault) []) }
+{
+    let Witness {
+        property,
+        start,
+        rows,
+    } = read_witness(alloc, &circuit, witness)?;
+    let question = Question::new(alloc, &circuit, property, name)?;
+    explain(alloc, circuit, &start, rows, question.as_ref(), span)
+}
+
+/// Writes what was explained.
+fn write_text<W: Write>(text: &[u8], out: &mut W) -> Result<(), RunFault>
+    ensures written { Writes W.written W.failures out.old out.new text.now result }
+    ensures output { IfErr result (λ fault. fault ≡ RunFault.Output) }
+{
+    match write_all(out, text) {
+        Ok(()) => Ok(()),
+        Err(Io) => Err(RunFault::Output),
+    }
+}
+
+/// Reads a circuit, and writes the lines for its run over a stimulus, without a flush at the end.
+fn read_and_explain<W: Write>(
+    alloc: Global,
+    circuit: &[u8],
+    stimulus: &[u8],
+    name: &[u8],
+    span: Span,
+    out: &mut W,
+) -> Result<(), RunFault>
+    ensures { CommandEnds (flow W.written W.failures out.old out.new) RunFault.Output
+        (OfFile circuit.now (WritesWhy stimulus.now name.now span)) result }
+{
+    let circuit = read_circuit(alloc, circuit)?;
+    let text = explain_stimulus(alloc, circuit, stimulus, name, span)?;
+    write_text(&text, out)
+}
+
+/// Reads a circuit, and writes the lines for the run of its witness, without a flush at the end.
+fn read_and_explain_witness<W: Write>(
+    alloc: Global,
+    circuit: &[u8],
+    witness: &[u8],
+    name: Option<&[u8]>,
+    span: Span,
+    out: &mut W,
+) -> Result<(), RunFault>
+    ensures { CommandEnds (flow W.written W.failures out.old out.new) RunFault.Output
+        (OfFile circuit.now (WritesWhyWitness witness.now (option_copied name.entry) span)) result }
+{
+    let circuit = read_circuit(alloc, circuit)?;
+    let text = explain_witness(alloc, circuit, witness, name, span)?;
+    write_text(&text, out)
+}
+
+/// The command `why --of NAME`: writes why the literals that a name means are what they are at a frame of the run over a
+/// stimulus, from the start by the resets, in lines of which each is right by itself. It flushes the writer before it
+/// answers.
+pub fn why<W: Write>(
+    alloc: Global,
+    circuit: &[u8],
+    stimulus: &[u8],
+    name: &[u8],
+    span: Span,
+    out: &mut W,
+) -> Result<(), RunFault>
+    ensures ends { CommandEnds (flow W.written W.failures out.old out.new) RunFault.Output
+        (OfFile circuit.now (WritesWhy stimulus.now name.now span)) result }
+    ensures flushed { W.failures out.new ≡ W.failures out.old → W.is_flushed out.new }
+{
+    let done = read_and_explain(alloc, circuit, stimulus, name, span, out);
+    flushed(done, out, RunFault::Output)
+}
+
+/// The command `why --witness`: the same of the run of a witness, from its own start, whatever its verdict. Without a
+/// name it explains the witness's property.
+pub fn why_witness<W: Write>(
+    alloc: Global,
+    circuit: &[u8],
+    witness: &[u8],
+    name: Option<&[u8]>,
+    span: Span,
+    out: &mut W,
+) -> Result<(), RunFault>
+    ensures ends { CommandEnds (flow W.written W.failures out.old out.new) RunFault.Output
+        (OfFile circuit.now (WritesWhyWitness witness.now (option_copied name.entry) span)) result }
+    ensures flushed { W.failures out.new ≡ W.failures out.old → W.is_flushed out.new }
+{
+    let done = read_and_explain_witness(alloc, circuit, witness, name, span, out);
+    flushed(done, out, RunFault::Output)
+}

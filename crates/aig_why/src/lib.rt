@@ -1,0 +1,10 @@
+//! `why`: which inputs and latches make a signal what it is, in lines each of which is right by itself. It knows no file
+//! name, argument or standard stream.
+#![tactic(auto)]
+
+mod command;
+mod lines;
+mod question;
+mod run;
+
+pub use command::{Span, why, why_witness};

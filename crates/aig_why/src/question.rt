@@ -1,0 +1,73 @@
+//! What is asked for.
+ghost use Rattle.std.specs.Prelude.{◌≡◌, ◌<◌, ◌≤◌, All, length, option_copied, IfNone, IfOk, IfSome, None};
+ghost use Rattle.aig_parts.specs.Literal.{variable};
+ghost use Rattle.aig_base.specs.Sections.{IsDefined};
+ghost use Rattle.aig_signals.specs.Lookup.{Means, Unknown};
+ghost use Rattle.aig_why.specs.Why.{IsQuestion};
+ghost use Rattle.aig_why.specs.state.Asked.{IsAskedAs};
+
+use aig_base::{Bytes, Circuit, Kind, List, Lit, Memory};
+use aig_signals::{look_up, push_first_name, signals_of};
+use std::alloc::Global;
+
+/// Literals that are asked for, from bit 0 up, and what they are called.
+#[derive(Drop)]
+pub(crate) struct Question {
+    pub(crate) name: Bytes,
+    pub(crate) literals: List<Lit>,
+}
+
+impl Question {
+    /// The literals that a name means; none where it means none.
+    fn of_name(alloc: Global, circuit: &Circuit, name: &[u8]) -> Result<Option<Question>, Memory>
+        ensures name { IfOk result (λ found. IfSome found (λ q. q.name ≡ name.now)) }
+        ensures means { IfOk result (λ found. IfSome found (λ q. Means circuit.now name.now q.literals)) }
+        ensures unknown { IfOk result (λ found. IfNone found (Unknown circuit.now name.now)) }
+        ensures range { IfOk result (λ found. IfSome found (λ q. All (λ l. variable l ≤ circuit.now.max_var) q.literals)) }
+        ensures defined { IfOk result (λ found. IfSome found (λ q. All (λ l. IsDefined circuit.now (variable l)) q.literals)) }
+    {
+        let signals = signals_of(alloc, circuit)?;
+        let found = look_up(alloc, circuit, signals.as_slice(), name)?;
+        let Some(literals) = found else {
+            return Ok(None);
+        };
+        let name = List::from_vec(Vec::from_slice(alloc, name)?);
+        Ok(Some(Question { name, literals }))
+    }
+
+    /// A bad state property, by its first name.
+    fn of_property(alloc: Global, circuit: &Circuit, property: u32) -> Result<Question, Memory>
+        requires { property < length circuit.now.bad }
+        ensures question { IfOk result (λ q. IsQuestion circuit.now property None q.name q.literals) }
+        ensures range { IfOk result (λ q. All (λ l. variable l ≤ circuit.now.max_var) q.literals) }
+        ensures defined { IfOk result (λ q. All (λ l. IsDefined circuit.now (variable l)) q.literals) }
+    {
+        circuit.facts();
+        let mut name = Vec::new(alloc);
+        push_first_name(&mut name, circuit, Kind::Bad, property)?;
+        let mut literals = List::new(alloc);
+        literals.push(circuit.bad()[property as usize])?;
+        Ok(Question {
+            name: List::from_vec(name),
+            literals,
+        })
+    }
+
+    /// What a name means, none where it means none; without a name the property.
+    pub(crate) fn new(
+        alloc: Global,
+        circuit: &Circuit,
+        property: u32,
+        name: Option<&[u8]>,
+    ) -> Result<Option<Question>, Memory>
+        requires { option_copied name ≡ None → property < length circuit.now.bad }
+        ensures asked { IfOk result (IsAskedAs circuit.now property (option_copied name.entry)) }
+        ensures range { IfOk result (λ found. IfSome found (λ q. All (λ l. variable l ≤ circuit.now.max_var) q.literals)) }
+        ensures defined { IfOk result (λ found. IfSome found (λ q. All (λ l. IsDefined circuit.now (variable l)) q.literals)) }
+    {
+        match name {
+            Some(name) => Question::of_name(alloc, circuit, name),
+            None => Ok(Some(Question::of_property(alloc, circuit, property)?)),
+        }
+    }
+}
