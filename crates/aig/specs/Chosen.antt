@@ -1,5 +1,5 @@
 -- Which options a command has, by what the matches of the parser hold for it.
-use Rattle.std.specs.Prelude.{◌≡◌, ◌⊎◌, ℕ, List, true, false, Option, None, Some, codes, ⊤}
+use Rattle.std.specs.Prelude.{◌≡◌, ◌⊎◌, ℕ, List, true, false, Option, None, Some, codes, option_map, ⊤}
 use Rattle.std.specs.Option.{unwrap_or}
 use Rattle.clap.specs.Matches.{first_value, found_of}
 use Rattle.clap.specs.declared.parser.matches.ArgMatches.{ArgMatches}
@@ -12,6 +12,7 @@ use Rattle.aig_cli.specs.Held.{HoldsFlag, HoldsNumber}
 use Rattle.aig_cnf.specs.declared.query.Goal.{Goal}
 use Rattle.aig_cnf.specs.declared.query.Goal.TheVariants as goals
 use Rattle.aig_cnf.specs.declared.query.Query.{Query}
+use Rattle.aig_why.specs.declared.command.Span.{Span}
 use Rattle.aig.specs.declared.command.Command.{Command}
 use Rattle.aig.specs.declared.command.Command.TheVariants as commands
 
@@ -52,6 +53,10 @@ abbrev pub HoldsQuery : {F : Type 0} → ArgMatches → Source F → Query → T
 HoldsQuery matches circuit query =
     HoldsGoal matches query.goal × HoldsClaim matches circuit query.frames query.property
 
+-- the frame to explain, and how many frames to go back
+abbrev pub HoldsSpan : ArgMatches → Span → Type 0
+HoldsSpan matches span = HoldsNumber matches (codes "T") span.frame × HoldsNumber matches (codes "D") span.depth
+
 -- the numbers and the flags of a command are those that the matches hold
 abbrev pub HoldsOptions : {F : Type 0} → ArgMatches → Command (Source F) → Type 0
 HoldsOptions matches (commands.Unroll frames to circuit) = HoldsNumber matches (codes "K") (Some frames)
@@ -68,4 +73,8 @@ HoldsOptions matches (commands.Strengthen property to circuit certificate) = Hol
 HoldsOptions matches (commands.CnfCertified property circuit certificate) = HoldsProperty matches circuit property
 HoldsOptions matches (commands.CertifiedModelWitness property circuit certificate model) = HoldsProperty matches circuit property
 HoldsOptions matches (commands.RefuteCertified property circuit certificate proof) = HoldsProperty matches circuit property
+HoldsOptions matches (commands.Why name span circuit stimulus) =
+    (first_value (found_of matches) (codes "of") ≡ Some name.now) × HoldsSpan matches span
+HoldsOptions matches (commands.WhyWitness name span circuit witness) =
+    (option_map (λ text. text.now) name ≡ first_value (found_of matches) (codes "of")) × HoldsSpan matches span
 HoldsOptions matches _ = ⊤

@@ -1,5 +1,5 @@
 -- How each command of the program ends, where the bytes of its files are known.
-use Rattle.std.specs.Prelude.{ℕ, List, Option, Some, Result, IfSome, OnOk}
+use Rattle.std.specs.Prelude.{ℕ, List, Option, Some, Result, IfSome, OnOk, option_map}
 use Rattle.aig_cnf.specs.Query.{induction}
 use Rattle.aig_sim.specs.declared.stimulus.fault.StimFault.TheVariants as stimuli
 use Rattle.aig_run.specs.Command.{OfCircuit, OfFile}
@@ -22,6 +22,7 @@ use Rattle.aig_commands.specs.Toaig.{Converts}
 use Rattle.aig_commands.specs.Unroll.{UnrollsKept}
 use Rattle.aig_commands.specs.Wave.{DumpsRun, WritesWave}
 use Rattle.aig_commands.specs.Witness.{WritesWitness}
+use Rattle.aig_why.specs.Why.{WritesWhy, WritesWhyWitness}
 use Rattle.aig_files.specs.declared.exit.Exit.{Exit}
 use Rattle.aig.specs.Ends.{ChecksWitness, Ends, EndsSelectingNamed, ForSomeText, end_of, end_of_verdict}
 use Rattle.aig.specs.declared.command.Command.{Command}
@@ -81,5 +82,11 @@ EndsAsMeant left (commands.CertifiedModelWitness property circuit certificate mo
 EndsAsMeant left (commands.RefuteCertified property circuit certificate proof) result =
     IfSome (left circuit) (λ file. IfSome (left certificate) (λ claims.
     Ends end_of (OfCertified purposes.Formula file property claims RefutesInduction) result))
+EndsAsMeant left (commands.Why name span circuit stimulus) result =
+    IfSome (left circuit) (λ file. IfSome (left stimulus) (λ text.
+    Ends end_of (OfFile file (WritesWhy text name.now span)) result))
+EndsAsMeant left (commands.WhyWitness name span circuit witness) result =
+    IfSome (left circuit) (λ file. IfSome (left witness) (λ text.
+    Ends end_of (OfFile file (WritesWhyWitness text (option_map (λ name. name.now) name) span)) result))
 EndsAsMeant left (commands.Reduce circuit witness) result =
     IfSome (left circuit) (λ file. IfSome (left witness) (λ text. Ends end_of_verdict (OfFile file (Reduces text)) result))

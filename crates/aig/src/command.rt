@@ -7,12 +7,14 @@ use crate::circuits::{
 };
 use crate::simulations::{bench, sim, wave};
 use crate::solvers::{model_witness, refute, refute_alive, refute_step};
+use crate::why::{why, why_witness};
 use crate::witnesses::{check, reduce, wave_witness, witness};
 use aig_base::PropertySection;
 use aig_cnf::Query;
 use aig_files::{Exit, Kept};
 use aig_format::Format;
 use aig_terminal::Terminal;
+use aig_why::Span;
 use std::fs::{Files, Metadata};
 use std::io::Read;
 use std::os::fd::AsFd;
@@ -147,6 +149,20 @@ pub enum Command<'a, F> {
         circuit: F,
         witness: F,
     },
+    /// `why`: why literals have their values in the run over a stimulus.
+    Why {
+        name: &'a str,
+        span: Span,
+        circuit: F,
+        stimulus: F,
+    },
+    /// `why --witness`: the same in the run of a witness, by default of its property.
+    WhyWitness {
+        name: Option<&'a str>,
+        span: Span,
+        circuit: F,
+        witness: F,
+    },
     /// `strengthen`: a circuit that is strengthened by a certificate.
     Strengthen {
         property: u32,
@@ -258,6 +274,18 @@ impl<F: Read + Drop> Command<'_, F> {
                 step,
             } => refute_step(terminal, frames, property, circuit, proof, step),
             Command::Reduce { circuit, witness } => reduce(terminal, circuit, witness),
+            Command::Why {
+                name,
+                span,
+                circuit,
+                stimulus,
+            } => why(terminal, name, span, circuit, stimulus),
+            Command::WhyWitness {
+                name,
+                span,
+                circuit,
+                witness,
+            } => why_witness(terminal, name, span, circuit, witness),
             Command::Strengthen {
                 property,
                 to,

@@ -245,6 +245,35 @@ pub const STIMULUS_OUT: Argument = Argument {
     need: Need::Never,
 };
 
+/// What `why` explains. Only a witness has a property to explain by default.
+pub const OF: Argument = Argument {
+    name: "of",
+    help: "What to explain: a signal, a vector, an entry such as\no0, or a literal (default: the witness's property)",
+    kind: Kind::Named("NAME"),
+    need: Need::Without("witness", &[]),
+};
+
+pub const FRAME: Argument = Argument {
+    name: "T",
+    help: "Frame to explain, counted from 0 (default: the last)",
+    kind: Kind::Number("frame"),
+    need: Need::Never,
+};
+
+pub const DEPTH: Argument = Argument {
+    name: "D",
+    help: "How many frames to go back (default: to frame 0)",
+    kind: Kind::Number("depth"),
+    need: Need::Never,
+};
+
+pub const EXPLAINS_WITNESS: Argument = Argument {
+    name: "witness",
+    help: "Explain the run of a witness instead of a stimulus",
+    kind: Kind::Flag,
+    need: Need::Never,
+};
+
 pub const IS_WITNESS: Argument = Argument {
     name: "witness",
     help: "Dump the run of a witness instead of a stimulus",
@@ -274,7 +303,11 @@ pub const NAMES_FILE: Argument = Argument {
 };
 
 /// The options with a number: the name by which the value is found, and how messages show the option.
-pub const NUMBERS: [(&str, &str); 1] = [("K", "--frames <K>")];
+pub const NUMBERS: [(&str, &str); 3] = [
+    ("K", "--frames <K>"),
+    ("T", "--frame <T>"),
+    ("D", "--depth <D>"),
+];
 
 /// An option of every command, which may be before the command or after it: to explain a failure.
 pub static EXPLAIN: Argument = Argument {

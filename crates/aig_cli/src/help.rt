@@ -22,6 +22,7 @@ Verdicts:
   check       Check that a witness reaches a bad state, and print the verdict
   witness     Write the witness that a run reaches a bad state
   reduce      Write a witness with x at each value that it does not need
+  why         Explain a value of a run by inputs and latches, frame by frame
   cnf         Print a formula for SAT solvers: a bad state within K frames
   refute      Check a SAT solver's proof that no run reaches a bad state
   strengthen  Write a circuit that is strengthened by a certificate
@@ -273,6 +274,27 @@ else. The exit status is then 1. (M + 1) times the number of frames is at most
 67,108,864, as for bench.
 
 Example: aig reduce examples/wraps.aag examples/wraps.wit
+See also: man aig, man 5 aig-formats";
+
+pub const WHY: &str = "Each line says why signals have their values at a frame:
+  NAME=VALUE at T: CAUSES          what was asked for
+  NAME=VALUE at S, by S-1: CAUSES  latches that a line above names
+CAUSES are inputs and latches with their values at T, or at S-1. They suffice:
+wherever they have these values, NAME has VALUE, whatever all other values are.
+If VALUE is x (unknown), it is 0 or 1 once all CAUSES are, if the known values
+stay. The last lines name the latches at the frame where the explanation ends:
+not explained, by reset, or by start. All named values together suffice for what
+was asked for.
+
+Latches that only keep their values have no line. NAME is the first word of a
+symbol, a vector such as q for q[0] and q[1], another word of a symbol, an entry
+such as l3, or a literal; ! before it negates it. VALUE is as in Verilog, with ?
+for a bit that is not named.
+
+Use aig reduce first: a run with fewer values has a shorter explanation.
+
+Example: aig why --witness --depth 3 examples/queue.aig examples/queue.wit
+Example: aig why --of wrap examples/counter.aag examples/counter.stim
 See also: man aig, man 5 aig-formats";
 
 pub const WITNESS: &str =

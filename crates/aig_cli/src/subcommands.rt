@@ -91,7 +91,7 @@ static RUNS: [Subcommand; 3] = [
     },
 ];
 
-static WITNESSES: [Subcommand; 3] = [
+static WITNESSES: [Subcommand; 4] = [
     Subcommand {
         name: "check",
         about: "Check that a witness reaches a bad state, and print the verdict",
@@ -120,6 +120,20 @@ static WITNESSES: [Subcommand; 3] = [
         help: help::REDUCE,
         choice: None,
         arguments: &[arguments::CIRCUIT, arguments::WITNESS],
+    },
+    Subcommand {
+        name: "why",
+        about: "Explain a value of a run by inputs and latches, frame by frame",
+        help: help::WHY,
+        choice: None,
+        arguments: &[
+            arguments::OF,
+            arguments::FRAME,
+            arguments::DEPTH,
+            arguments::EXPLAINS_WITNESS,
+            arguments::CIRCUIT,
+            arguments::RUN,
+        ],
     },
 ];
 

@@ -69,7 +69,7 @@ pub fn explain_bench(
     explain_rows(alloc, circuit, TextLines::of(stimulus).ended(), fault)
 }
 
-/// Explains the same of the bench on which a witness is reduced. Neither file is rejected.
+/// Explains the same of the bench on which a witness is reduced or explained. Neither file is rejected.
 pub fn explain_reduction(
     alloc: Global,
     circuit: &[u8],

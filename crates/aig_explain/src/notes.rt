@@ -12,5 +12,6 @@ mod proof_look;
 mod proof_walk;
 mod select_look;
 mod verdict_look;
+mod why_look;
 
 pub use failed_run::{explain, is_asked_for};

@@ -41,5 +41,9 @@ pub struct RunFiles<'a> {
     /// Whether the command asks only whether a run keeps all constraints.
     pub alive: bool,
     /// Whether the run is a witness on a bench.
-    pub reduces: bool,
+    pub is_witness: bool,
+    /// The name of what `why` explains.
+    pub of: Option<&'a str>,
+    /// The frame that `why` explains.
+    pub frame: Option<u32>,
 }

@@ -16,6 +16,7 @@ use crate::notes::output_look::{explain_output, explain_standard_output};
 use crate::notes::proof_look::{ProofOf, explain_proof};
 use crate::notes::select_look::explain_select;
 use crate::notes::verdict_look::explain_verdict;
+use crate::notes::why_look::explain_why;
 use crate::stimulus::explain_stimulus;
 use crate::unrolling::explain_unroll;
 use crate::witness::explain_witness;
@@ -99,7 +100,7 @@ fn explain_fault<R: Files + AllocGlobal + Print + Eprint>(
         RunFault::Strengthen(fault) => explain_strengthening(rt, files, fault),
         RunFault::Names(fault) => explain_names(rt, files, fault),
         RunFault::Property(fault) => explain_property(rt, files.circuit, fault),
-        RunFault::Why(_) => {}
+        RunFault::Why(fault) => explain_why(rt, files, fault),
         RunFault::Output => of_output(rt, files),
         RunFault::Memory => note(rt, MORE_MEMORY),
     }
@@ -209,7 +210,9 @@ fn explanation_of(
     match fault {
         RunFault::Stimulus(fault) => explain_stimulus(alloc, circuit, file, fault),
         RunFault::Witness(fault) => explain_witness(alloc, circuit, file, fault),
-        RunFault::Bench(fault) if files.reduces => explain_reduction(alloc, circuit, file, fault),
+        RunFault::Bench(fault) if files.is_witness => explain_reduction(
+            alloc, circuit, file, fault,
+        ),
         RunFault::Bench(fault) => explain_bench(alloc, circuit, file, fault),
         _ => Ok(Explanation::new(alloc)),
     }

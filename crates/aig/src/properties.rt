@@ -1,0 +1,137 @@
+//! The circuit of a command, and the properties of it that texts name.
+ghost use Rattle.std.specs.Prelude.{IfOk};
+ghost use Rattle.aig.specs.Chosen.{HoldsProperty, HoldsQuery, HoldsReached, NamesProperty};
+
+use crate::named_files::{open_circuit, open_file};
+use crate::options::{frames_of, goal_of, property_text};
+use aig_base::PropertySection;
+use aig_cli::{text_of, texts_of};
+use aig_cnf::Query;
+use aig_files::{Exit, Part, Source, read_whole};
+use aig_names::{number_of as number_in, position_of};
+use aig_run::{RunFault, position_in, read_circuit};
+use aig_terminal::{Terminal, Tracked};
+use clap::ArgMatches;
+use std::alloc::Global;
+use std::fs::Files;
+use std::io::Cursor;
+use std::time::Clock;
+
+/// Opens the circuit, and finds the bad state property that a text names. The circuit is read for that only if the text
+/// is a name: the command then has its bytes.
+fn open_circuit_for<'t, R: Files + AllocGlobal + Clock + Eprint>(
+    terminal: &'t Terminal<'t, R>,
+    matches: &ArgMatches<'_>,
+    property: &str,
+) -> Result<(Source<Tracked<'t, R, R::File>>, u32), Exit>
+    ensures named { IfOk result (λ r. NamesProperty property.now r.0 r.1) }
+{
+    let file = open_file(terminal, matches, "CIRCUIT", Part::Circuit)?;
+    let text = property.as_bytes();
+    if let Some(position) = number_in(PropertySection::Bad, text) {
+        return Ok((Source::File(file), position));
+    }
+    let bytes = read_whole(terminal.alloc(), file, Part::Circuit)?;
+    let position = position_in(
+        terminal.alloc(),
+        bytes.as_slice(),
+        PropertySection::Bad,
+        text,
+    )?;
+    Ok((Source::Bytes(Cursor::new(bytes)), position))
+}
+
+/// Opens the circuit, and finds its property.
+pub fn open_circuit_and_property<'t, R: Files + AllocGlobal + Clock + Eprint>(
+    terminal: &'t Terminal<'t, R>,
+    matches: &ArgMatches<'_>,
+) -> Result<(Source<Tracked<'t, R, R::File>>, u32), Exit>
+    ensures named { IfOk result (λ r. HoldsProperty matches.now r.0 r.1) }
+{
+    open_circuit_for(terminal, matches, property_text(matches))
+}
+
+/// Opens the circuit, and returns the question about its property.
+pub fn open_circuit_and_query<'t, R: Files + AllocGlobal + Clock + Eprint>(
+    terminal: &'t Terminal<'t, R>,
+    matches: &ArgMatches<'_>,
+) -> Result<(Source<Tracked<'t, R, R::File>>, Query), Exit>
+    ensures held { IfOk result (λ r. HoldsQuery matches.now r.0 r.1) }
+{
+    let goal = goal_of(matches);
+    let frames = frames_of(matches)?;
+    let (circuit, property) = open_circuit_and_property(terminal, matches)?;
+    let query = Query {
+        goal,
+        frames,
+        property,
+    };
+    Ok((circuit, query))
+}
+
+/// Opens the circuit, and finds its property if one is named.
+pub fn open_circuit_and_reached<'t, R: Files + AllocGlobal + Clock + Eprint>(
+    terminal: &'t Terminal<'t, R>,
+    matches: &ArgMatches<'_>,
+) -> Result<(Source<Tracked<'t, R, R::File>>, Option<u32>), Exit>
+    ensures named { IfOk result (λ r. HoldsReached matches.now r.0 r.1) }
+{
+    let Some(text) = text_of(matches, "P") else {
+        return Ok((open_circuit(terminal, matches)?, None));
+    };
+    let (circuit, property) = open_circuit_for(terminal, matches, text)?;
+    Ok((circuit, Some(property)))
+}
+
+/// Returns the positions that texts name by their numbers, or nothing if one of them is no number.
+fn numbers_in(
+    alloc: Global,
+    section: PropertySection,
+    texts: &[&str],
+) -> Result<Option<Vec<u32>>, RunFault> {
+    let mut positions = Vec::new(alloc);
+    for text in texts {
+        let Some(position) = number_in(section, text.as_bytes()) else {
+            return Ok(None);
+        };
+        if positions.push(position).is_err() {
+            return Err(RunFault::Memory);
+        }
+    }
+    Ok(Some(positions))
+}
+
+/// Returns the positions of the properties of a circuit's file that texts name.
+fn positions_in(
+    alloc: Global,
+    file: &[u8],
+    section: PropertySection,
+    texts: &[&str],
+) -> Result<Vec<u32>, RunFault> {
+    let circuit = read_circuit(alloc, file)?;
+    let mut positions = Vec::new(alloc);
+    for text in texts {
+        let position = position_of(&circuit, section, text.as_bytes())?;
+        if positions.push(position).is_err() {
+            return Err(RunFault::Memory);
+        }
+    }
+    Ok(positions)
+}
+
+/// Opens the circuit, and finds the properties of a section that are named. The circuit is read for that only if one of
+/// the texts is a name: the command then has its bytes.
+pub fn open_circuit_and_properties<'t, R: Files + AllocGlobal + Clock + Eprint>(
+    terminal: &'t Terminal<'t, R>,
+    matches: &ArgMatches<'_>,
+    section: PropertySection,
+) -> Result<(Source<Tracked<'t, R, R::File>>, Vec<u32>), Exit> {
+    let file = open_file(terminal, matches, "CIRCUIT", Part::Circuit)?;
+    let texts = texts_of(matches, "P").unwrap_or(&[]);
+    if let Some(positions) = numbers_in(terminal.alloc(), section, texts)? {
+        return Ok((Source::File(file), positions));
+    }
+    let bytes = read_whole(terminal.alloc(), file, Part::Circuit)?;
+    let positions = positions_in(terminal.alloc(), bytes.as_slice(), section, texts)?;
+    Ok((Source::Bytes(Cursor::new(bytes)), positions))
+}
