@@ -36,6 +36,7 @@ from program.terminals import terminals
 from program.toaig import toaig
 from program.unroll import unroll
 from program.wave import wave
+from program.why import why
 from program.witness import witness
 from program.words import words
 
@@ -43,7 +44,7 @@ PARTS = {"bench": bench, "kept": kept, "owners": owners, "descriptors": descript
          "wave": wave, "check": check, "replays": replays, "toaig": toaig, "unroll": unroll, "cnf": cnf,
          "info": info, "select": select, "witness": witness, "refute": refute, "proofs": proofs,
          "large_proofs": large_proofs, "certificates": certificates, "properties": properties,
-         "names": names, "ample": ample, "reduce": reduce, "help": helps,
+         "names": names, "ample": ample, "reduce": reduce, "why": why, "help": helps,
          "pages": pages, "completions": completions, "diagnostics": diagnostics, "explain": explain,
          "explain_option": explain_option, "needs": needs, "talks": talks, "progress": progress, "terminals": terminals}
 

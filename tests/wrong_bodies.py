@@ -31,7 +31,7 @@ SECONDS = "10"
 # Those that are tried for a bug that is not in the list, the quick ones first.
 PARTS = (*(f"run_program.py {part}" for part in (
     "refute", "proofs", "large_proofs", "certificates", "ample", "bench", "sim", "wave", "check", "replays", "toaig", "unroll",
-    "cnf", "info", "select", "witness", "properties", "names", "reduce", "kept", "owners", "descriptors", "words", "help",
+    "cnf", "info", "select", "witness", "properties", "names", "reduce", "why", "kept", "owners", "descriptors", "words", "help",
     "diagnostics", "explain", "explain_option", "needs", "talks")),
     *(f"run_faults.py {part}" for part in ("kept", "writes", "calls", "allocations")),
     *(f"run_random.py {part}" for part in ("hostile", "scripts", "waves", "formulas", "witnesses", "certificates")),

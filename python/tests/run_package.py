@@ -159,6 +159,12 @@ def verdicts(_, tally, __):
     tally.compare("not bad", wraps.check("1\nb0\n00\n0\n.\n"), aig.Verdict("not bad"))
     tally.check("a wave", b"$enddefinitions" in witness.wave() and b"$enddefinitions" in wraps.wave(["1"]))
     tally.compare("reduced", wraps.witness(["1"] * 6).reduced().rows, ["1"] * 4)
+    reason = ["count=2'h1 at 1, by 0: enable=1 count=2'h0", "at 0, by reset: count=2'h0"]
+    tally.compare("why, over rows", wraps.why("count", ["1"] * 6, frame=1), reason)
+    tally.compare("why, of a witness", wraps.witness(["1"] * 6).why("count", frame=1), reason)
+    tally.compare("why, to a depth", wraps.why("count", ["1"] * 6, depth=0), ["at 5, not explained: count=2'h1"])
+    error = raised(wraps.why, "cuont", ["1"])
+    tally.check("why, of no name", (error.part, error.reason) == ("why", "name") and "enable" not in error.explanation)
     tally.compare("no run", raised(wraps.witness, ["0"]).reason, "no run")
     proof = Path(f"{EXAMPLES}/wraps.drat").read_bytes()
     tally.compare("unreachable within 3", wraps.refute(3, proof, "wraps"), "unreachable within 3")

@@ -23,7 +23,7 @@ LINE = re.compile(
     rb"|stimulus: ((character in|length of) line \d+|unfinished|limit)"
     rb"|bench: limit|unroll: (no frames|liveness|limit)|cnf: (no frames|property|limit)|select: property"
     rb"|proof: (text at \d+|step \d+|no refutation)"
-    rb"|witness: (text|property|limit|no run))\n"
+    rb"|why: (name|frame)|witness: (text|property|limit|no run))\n"
 )
 VERDICT = re.compile(rb"([01x]* [01x]* [01x]* [01x]*\n)*(confirmed|initial \d+|constraint \d+ \d+|not bad)\n")
 # A run that takes longer is ended: there is no bound as great.
@@ -118,6 +118,7 @@ class Runs:
         if told and (verdict or trace or dump):
             raise Wrong("a witness is refused, and something is written")
         self.reduces(work, status, verdict, told)
+        self.explains(work, told)
 
     def reduces(self, work, status, verdict, told):
         """A witness is reduced where its check confirms it, and else judged as its check does."""
@@ -127,6 +128,15 @@ class Runs:
             return
         if (reduced, contents("err")) != (status, told) or (status == 1 and got != verdict):
             raise Wrong("a witness is judged otherwise where it is reduced")
+
+    def explains(self, work, told):
+        """A witness is explained where its check judges it, unless the cells of its run are too many for a bench."""
+        explained, got = self.run(work * 20, "why", "--witness", "circuit", "witness")
+        said = contents("err")
+        if said != b"aig: bench: limit\n" and (explained, said) != (1 if told else 0, told):
+            raise Wrong("a witness is refused otherwise where it is explained")
+        if explained == 0 and not got:
+            raise Wrong("nothing is said of a witness")
 
     def strengthens(self, work):
         """A circuit that is strengthened is written in both formats. With no certificate it has the formula that the circuit

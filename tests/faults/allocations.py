@@ -37,6 +37,8 @@ RUNS = (
     ("refute by a proof that deletes", ["refute", "--frames", "3", f"{EXAMPLES}/wraps.aag", f"{EXAMPLES}/wraps.drat"]),
     ("refute with a step", ["refute", "--frames", "1", "--step", "step", "never", "proof"]),
     ("reduce", ["reduce", f"{EXAMPLES}/wraps.aag", f"{EXAMPLES}/wraps.wit"]),
+    ("why", ["why", "--of", "count", f"{EXAMPLES}/counter.aag", f"{EXAMPLES}/counter.stim"]),
+    ("why of a witness", ["why", "--witness", f"{EXAMPLES}/wraps.aag", f"{EXAMPLES}/wraps.wit"]),
     ("cnf of a step", ["cnf", "--step", "--frames", "3", "guarded_latch"]),
     ("cnf of a run", ["cnf", "--alive", "--frames", "3", "guarded_latch"]),
     ("refute of a run", ["refute", "--alive", "--frames", "1", "never_kept", "proof"]),

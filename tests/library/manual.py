@@ -75,7 +75,7 @@ def flowing(text):
 def terms(block):
     """A list of the help, `  TERM  TEXT`. Further lines of a text are indented more."""
     rows = [re.split(r" {2,}|\n +", row.strip(), maxsplit=1) for row in re.split(r"(?m)^ {2}(?=\S)", block)[1:]]
-    width = max(len(term) for term, *_ in rows if len(term) <= 16) + 2
+    width = max((len(term) for term, *_ in rows if len(term) <= 16), default=2) + 2
     page = "".join(f".TP {width}\n.B {lines(literal(term))}{filled(prose(' '.join(told)))}" for term, *told in rows)
     return f".RS 2\n.PD 0\n{page}.PD\n.RE\n"
 

@@ -22,11 +22,13 @@ RUNS = {
     "witness": ("CIRCUIT ROWS", b"1\nb0\n"),
     "refute": ("--frames 3 CIRCUIT PROOF", b"unreachable within 3\n"),
     "reduce": ("CIRCUIT WITNESS", b"1\nb0\n"),
+    "why": ("--witness CIRCUIT WITNESS", b"=1 at 3"),
     "strengthen": ("--to aag --certificate CERTIFICATE CIRCUIT", b"aag "),
 }
 # Further runs of these commands.
 MORE = (
     ("toaig", "--to aag CIRCUIT", b"aag "), ("wave", "--witness CIRCUIT WITNESS", b"$enddefinitions"),
+    ("why", "--of 1 CIRCUIT ROWS", b"1=1 at "),
     ("check", "--trace CIRCUIT WITNESS", b"confirmed\n"), ("cnf", "--step --frames 3 CIRCUIT", b"p cnf "),
     ("info", "--names CIRCUIT", b"b 0 "), ("strengthen", "--to aig --certificate CERTIFICATE CIRCUIT", b"aig "),
     ("cnf", "--certificate CERTIFICATE CIRCUIT", b"p cnf "),

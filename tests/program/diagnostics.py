@@ -81,6 +81,8 @@ CASES = (
     ("more than 65,536 rows", ["bench", "two_gates", "many.stim", "script"], "at most 65,536 rows"),
     ("too large for so many rows", ["bench", "many", "empty.stim", "script"], "at most 67,108,864"),
     ("too large for so many rows", ["reduce", "wide", "rows.wit"], "at most 67,108,864"),
+    ("or literal has this name", ["why", "--of", "cuont", COUNTER, f"{EXAMPLES}/counter.stim"], "do you mean `count`?"),
+    ("does not have this frame", ["why", "--of", "o0", "--frame", "8", COUNTER, f"{EXAMPLES}/counter.stim"], "the last frame is 7"),
     ("was killed", BENCH, "rename it or remove it"),
     ("is also the standard output", ["bench", "--circuit-out", "/dev/full", "two_gates", "rows", "script"],
      "may be full"),

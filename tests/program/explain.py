@@ -581,6 +581,16 @@ def others(rows):
              ["no frame of the stimulus reaches the property, or a constraint was not 1 before",
               "aig sim CIRCUIT STIM prints the run", "uninitialised latches, which start at x in this run: 1",
               "aig witness --model takes a run with their values from a solver's model of aig cnf"])
+    for text, notes in (("enabel", ["do you mean `enable`?"]), ("n", ["names of signals that contain it: 2"]), ("20", []),
+                        ("coun", ["do you mean `count`?", "names of signals that contain it: 1"])):
+        rows.row(f"no signal {text}", ["why", "--of", text, "wraps", write("s", "1\n")], "why: name",
+                 [f"no signal, vector, entry or literal has the name `{text}`", *notes, "the greatest literal is 19",
+                  "aig info --names CIRCUIT prints the names of all entries"])
+    rows.row("no frame of a stimulus", ["why", "--of", "b0", "--frame", "3", "wraps", write("s", "1\n")], "why: frame",
+             ["T is 3, counted from 0", "the last frame is 0"])
+    rows.row("no frame at all", ["why", "--of", "b0", "wraps", write("s", "")], "why: frame", ["the run has no frames"])
+    rows.row("no frame of a witness", ["why", "--witness", "--frame", "4", "wraps", write("f", "1\nb0\n00\n1\n.\n")], "why: frame",
+             ["T is 4, counted from 0", "the last frame is 0"])
     write("wide", "aag 4194303 1 0 0 0 1\n2\n2\n")
     rows.row("cells of a bench for a witness", ["reduce", "wide", write("f", "1\nb0\n\n" + "1\n" * 17 + ".\n")],
              "bench: limit", ["M = 4194303 and 17 rows: (M + 1) * rows = 71303168",

@@ -28,6 +28,7 @@ RUNS = (
     ["select", "--to", "aig", "--from", "outputs", "examples/counter.aag"],
     ["refute", "--frames", "3", "examples/wraps.aag", "examples/wraps.drat"],
     ["reduce", "examples/wraps.aag", "examples/wraps.wit"],
+    ["why", "--witness", "examples/wraps.aag", "examples/wraps.wit"],
     ["strengthen", "--to", "aig", "--certificate", "examples/fifo.aag", "examples/wraps.aag"],
     ["cnf", "--certificate", "examples/fifo.aag", "examples/wraps.aag"],
     ["refute", "--certificate", "examples/ring.cert.aag", "examples/ring.aag", "examples/ring.drat"],

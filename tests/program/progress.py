@@ -27,6 +27,8 @@ SLOW = (
     ("proof", "refute --frames 1 never FED", b"", b"d 7 8 9 0\n", b"2 0\n"),
     ("proof", "refute --frames 1 never FED", b"", b"c more\n", b""),
     ("step proof", "refute --frames 1 --step FED kept proof", b"", b"d 7 8 9 0\n", b"4 0\n"),
+    ("stimulus", "why --of b0 wraps FED", b"", b"1\n", b""),
+    ("witness", "why --witness wraps FED", b"1\nb0\n00\n1\n", b"1\n", b".\n"),
     ("witness", "reduce wraps FED", b"1\nb0\n00\n1\n", b"1\n", b".\n"),
     ("certificate", "strengthen --to aag --certificate FED wraps", TEXTS["two_gates"].encode() + b"c\n", b"more\n", b""),
     ("certificate", "refute --certificate FED small proof", TEXTS["empty"].encode() + b"c\n", b"more\n", b""),
@@ -36,7 +38,7 @@ SLOW = (
 
 # Runs that end at once.
 QUICK = ("toaig --to aag two_gates", "sim two_gates rows", "wave two_gates rows", "check wraps witness",
-         "bench two_gates rows script", "refute --frames 1 wraps proof", "reduce wraps witness", "info missing",
+         "bench two_gates rows script", "refute --frames 1 wraps proof", "reduce wraps witness", "why --of b0 wraps rows", "info missing",
          "strengthen --to aag --certificate two_gates wraps", "cnf --certificate two_gates wraps",
          "info --progress two_gates", "--progress info two_gates", "--progress sim --explain two_gates rows --progress")
 

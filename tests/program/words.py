@@ -40,6 +40,10 @@ REFUSALS = (
     ("no proof to refute with", ["refute", "--frames", "2", "two_gates"]),
     ("no number of frames to refute", ["refute", "two_gates", "proof"]),
     ("no witness to reduce", ["reduce", "two_gates"]),
+    ("nothing to explain of a stimulus", ["why", "two_gates", "rows"]),
+    ("no run to explain", ["why", "--of", "i0", "two_gates"]),
+    ("a frame with a sign", ["why", "--of", "i0", "--frame", "+1", "two_gates", "rows"]),
+    ("a depth with a leading zero", ["why", "--of", "i0", "--depth", "01", "two_gates", "rows"]),
 )
 
 
@@ -49,7 +53,7 @@ def words(program, tally, _):
     for word in ("--help", "-h", "help"):
         tells(rows, [word], contents(f"{EXPECTED}/help/aig.txt"))
     for command in ("toaig", "sim", "wave", "bench", "unroll", "check", "cnf", "info", "select", "witness", "refute",
-                    "reduce", "strengthen"):
+                    "reduce", "why", "strengthen"):
         for asked in ([command, "--help"], [command, "-h"], ["help", command]):
             tells(rows, asked, contents(f"{EXPECTED}/help/{command}.txt"))
     tells(rows, ["help", "help"], contents(f"{EXPECTED}/help/help.txt"))

@@ -12,7 +12,7 @@ from .certified import Certified
 from .entries import SECTIONS, Entries, Entry, Signal
 from .formula import Formula
 from .rows import Row, stimulus
-from .runs import Trace, Verdict, Witness
+from .runs import Trace, Verdict, Witness, explanation
 
 
 class Circuit:
@@ -117,6 +117,10 @@ class Circuit:
     def wave(self, rows: Iterable[Row]) -> bytes:
         """The run over these rows as a value change dump, for a waveform viewer."""
         return run("wave", files=[self.file, self.rows(rows)])
+
+    def why(self, of: str, rows: Iterable[Row], frame: Optional[int] = None, depth: Optional[int] = None) -> List[str]:
+        """Why a signal or a vector has its value in the run over these rows: lines, from a frame back (default: the last)."""
+        return explanation(self.file, self.rows(rows), of, frame, depth)
 
     def rows(self, rows: Iterable[Row]) -> bytes:
         """The stimulus of these rows."""

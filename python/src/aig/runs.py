@@ -86,6 +86,15 @@ class Verdict:
         return self.confirmed
 
 
+def explanation(
+    circuit: bytes, run_file: bytes, of: Optional[str], frame: Optional[int], depth: Optional[int], *options: str
+) -> List[str]:
+    """The lines of `aig why`."""
+    given = {"--of": of, "--frame": frame, "--depth": depth}
+    words = [f"{option}={value}" for option, value in given.items() if value is not None]
+    return run("why", *options, *words, files=[circuit, run_file]).decode().splitlines()
+
+
 class Witness:
     """A run to a bad state.
 
@@ -110,6 +119,11 @@ class Witness:
     def reduced(self) -> Witness:
         """The same witness with x for each value that the failure does not need."""
         return Witness(self.circuit, run("reduce", files=[self.circuit.file, self.text]))
+
+    def why(self, of: Optional[str] = None, frame: Optional[int] = None, depth: Optional[int] = None) -> List[str]:
+        """Why a signal or a vector (default: the property) has its value at a frame (default: the last): lines, from that
+        frame back."""
+        return explanation(self.circuit.file, self.text, of, frame, depth, "--witness")
 
     def wave(self) -> bytes:
         """Its run as a value change dump, for a waveform viewer."""
