@@ -2,7 +2,7 @@
 # tools/make_completions.py writes aig.bash: its tables from the program's help, all else from aig.bash.in.
 
 _aig() {
-    local commands="toaig info select unroll sim wave bench check witness reduce cnf refute strengthen help"
+    local commands="toaig info select unroll sim wave bench check witness reduce why cnf refute strengthen help"
     local -A options=(
         [toaig]="--to --explain --progress --help"
         [info]="--names --explain --progress --help"
@@ -14,6 +14,7 @@ _aig() {
         [check]="--trace --explain --progress --help"
         [witness]="--model --frames --step --certificate --property --explain --progress --help"
         [reduce]="--explain --progress --help"
+        [why]="--of --frame --depth --witness --explain --progress --help"
         [cnf]="--frames --property --step --certificate --alive --explain --progress --help"
         [refute]="--frames --property --step --certificate --alive --explain --progress --help"
         [strengthen]="--to --certificate --property --explain --progress --help"
@@ -35,6 +36,9 @@ _aig() {
         ["witness --frames"]="number"
         ["witness --certificate"]="file"
         ["witness --property"]="number"
+        ["why --of"]="a signal, a vector, an entry such as o0, a literal"
+        ["why --frame"]="number"
+        ["why --depth"]="number"
         ["cnf --frames"]="number"
         ["cnf --property"]="number"
         ["cnf --certificate"]="file"
