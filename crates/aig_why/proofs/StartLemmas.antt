@@ -25,15 +25,15 @@ use Rattle.aig_why.proofs.NamingLemmas.{latch_literal}
 use Rattle.aig_why.proofs.TextLemmas.{latch_literals}
 
 -- a latch has one reset and one value
-pub starts : (pair : CircuitAndRows) → IsSound pair.circuit → (resets : List Latch) (p : ℕ) (x : Latch) (l : ℕ) (w : Tern) (so : Bool)
+pub starts : (pair : CircuitAndRows) → IsSound pair.circuit → (resets : List Latch) (p : ℕ) (x : Latch) (l : ℕ) (w : Tern) (test : Bool)
     → slice_get resets p ≡ Some x → slice_get (map (λ y. y.lit) pair.circuit.latches) p ≡ Some l → HasValue pair 0 l w
-    → (IsTrue so ↔ IsResetValue x.reset w) → (IsTrue so ↔ StartsBy pair resets p)
-starts pair s resets p x l w so at here v is = (to, back)
+    → (IsTrue test ↔ IsResetValue x.reset w) → (IsTrue test ↔ StartsBy pair resets p)
+starts pair s resets p x l w test at here v is = (to, back)
   where
-    to : IsTrue so → StartsBy pair resets p
+    to : IsTrue test → StartsBy pair resets p
     to h = (x, l, w, at, here, v, is.0 h)
 
-    back : StartsBy pair resets p → IsTrue so
+    back : StartsBy pair resets p → IsTrue test
     back (y, k, u, at_y, at_k, k_has, is_reset) =
         let one : y ≡ x = same_element resets p y x at_y at in
         let same : k ≡ l = same_element (map (λ z. z.lit) pair.circuit.latches) p k l at_k here in

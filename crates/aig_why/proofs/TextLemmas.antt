@@ -170,12 +170,7 @@ one_line raw m x old new kept h =
       e,
     )
 
--- no latches, no line
-pub no_origin : (raw : Raw) (m : Moment) (o : Origin) (latches : List ℕ) (text : List ℕ) → latches ≡ []
-    → Adds (IsOriginText raw m o latches) text text
-no_origin raw m o latches text none =
-    subst (λ (ps : List ℕ). Adds (IsOriginText raw m o ps) text text) (sym none) ([], refl, sym (append-nil text))
-
+-- the line of latches that no line explains
 pub origin_text : (raw : Raw) (pair : CircuitAndRows) (m : Moment) (o : Origin) (latches : List ℕ) (before n : Naming)
     (old middle new : List ℕ) → latches ≢ [] → IsNamingOf raw pair before → HasSameSignals before n
     → NamesValues pair.circuit m (latches_alone latches) n → middle ≡ old ++ origin_head o
